@@ -1,0 +1,524 @@
+-- Each entry keeps a state well formed, so that reachability has its law in every state of a legal history.
+use Rattle.std.proofs.Common.{◌≡◌, ◌⊎◌, ℕ, zero, suc, ◌+◌, ◌<◌, Bool, true, false, cond, IsTrue, List, [], ◌∷◌, ◌++◌, map, reverse, length, flat_map, filter_map, option_to_list, replicate, get_or, set, slice_get, option_map, option_and_then, remove, take, drop, pos, is_some, Option, Some, None, refl, ap, subst, inl, inr, ⊎_elim, arith}
+use Rattle.heap_model.specs.declared.label.Label.{Label}
+use Rattle.heap_model.specs.declared.command.Command.{Command}
+use Rattle.heap_model.specs.declared.command.Command.TheVariants.{PutInt, Copy, Forget, Alloc, AllocMaj, Load, Store, Ephe as NewEphe, SetKey, UnsetKey, GetKey, CheckKey, SetData, UnsetData, GetData, CheckData, Finalise, FinaliseLast, Poll, Minor, Major, FullMajor}
+use Rattle.heap_model.specs.declared.graph.Value.{Value}
+use Rattle.heap_model.specs.declared.graph.Value.TheVariants.{Int, Block, Nothing}
+use Rattle.heap_model.specs.declared.graph.Node.{Node}
+use Rattle.heap_model.specs.declared.graph.Node.TheVariants.{Plain, Ephe}
+use Rattle.heap_model.specs.declared.entry.Entry.{Entry}
+use Rattle.heap_model.specs.declared.entry.Entry.TheVariants.{Command as CommandOf, End, Cut, Queue, Seal, Wipe, Last as LastOf, Collected, Done, Ran}
+use Rattle.heap_model.specs.declared.state.Mode.{Mode}
+use Rattle.heap_model.specs.declared.state.Mode.TheVariants.{Cut as CutMode, Sealed, Answer}
+use Rattle.heap_model.specs.declared.state.Finaliser.{Finaliser}
+use Rattle.heap_model.specs.declared.state.LastFinaliser.{LastFinaliser}
+use Rattle.heap_model.specs.declared.state.Pending.{Pending}
+use Rattle.heap_model.specs.declared.state.Pending.TheVariants.{Fin, Last}
+use Rattle.heap_model.specs.declared.state.DomainState.{DomainState}
+use Rattle.heap_model.specs.declared.state.State.{State}
+use Rattle.heap_model.specs.Graph.{Graph, same_label, labels, has_label, label_of, node_at, block_at, with_node}
+use Rattle.heap_model.specs.Domains.{domain_at, with_domain, with_register, register, label_in, with_block, no_domain, pending_label, queues, roots, reach, opening, opening_domain, shared_label, shared_node}
+use Rattle.heap_model.specs.Reach.{IsClosedGraph, IsLeastClosed, edges_of, key_holds}
+use Rattle.heap_model.specs.declared.state.Sizes.{Sizes}
+use Rattle.std.specs.List.{cons_option, list_all}
+use Rattle.std.specs.Option.{option_map_or}
+use Rattle.heap_model.specs.Commands.{Outcome, in_bounds, at_ephe, loaded, stored, key_set, key_stored, key_value, datum_set, datum_stored, finalised, finalised_last, tells, is_full_value, allocated, block_in, outcome, after_command}
+use Rattle.heap_model.specs.Entries.{without_places, at_places, queued_final, queued_last, wiped_keys, wiped, with_wiped, in_mode, with_last_queued, without_first, after_run, next}
+use Rattle.heap_model.specs.History.{state_after}
+use Rattle.heap_model.specs.WellFormed.{names_of, HaveNodes, IsDomainNamed, IsWellFormed}
+use Rattle.heap_model.proofs.GraphLemmas.{same_label-true, same_label_refl, labels-with_node}
+use Rattle.heap_model.proofs.ReachLemmas.{or_cases, or_left, or_right, has-append_cases, has-append_left, has-append_right, reach_law}
+
+-- lists of labels that have nodes
+module _ (g : Graph) where
+  pub have_none : HaveNodes g []
+  have_none l h = cc
+
+  pub have_append : (a b : List Label) → HaveNodes g a → HaveNodes g b → HaveNodes g (a ++ b)
+  have_append a b p q l h = ⊎_elim (λ x. p l x) (λ x. q l x) (has-append_cases a b l h)
+
+  pub have_left : (a b : List Label) → HaveNodes g (a ++ b) → HaveNodes g a
+  have_left a b p l h = p l (has-append_left a b l h)
+
+  pub have_right : (a b : List Label) → HaveNodes g (a ++ b) → HaveNodes g b
+  have_right a b p l h = p l (has-append_right a b l h)
+
+  pub have_cons : (k : Label) (a : List Label) → IsTrue (has_label (labels g) k) → HaveNodes g a → HaveNodes g (k ∷ a)
+  have_cons k a p q l h = ⊎_elim (λ x. subst (λ z. IsTrue (has_label (labels g) z)) (same_label-true k l x) p) (λ x. q l x) (or_cases (same_label k l) (has_label a l) h)
+
+  pub have_head : (k : Label) (a : List Label) → HaveNodes g (k ∷ a) → IsTrue (has_label (labels g) k)
+  have_head k a p = p k (or_left (same_label k k) (has_label a k) (same_label_refl k))
+
+  pub have_tail : (k : Label) (a : List Label) → HaveNodes g (k ∷ a) → HaveNodes g a
+  have_tail k a p l h = p l (or_right (same_label k l) (has_label a l) h)
+
+  pub have_cons_option : (o : Option Label) (a : List Label) → HaveNodes g (option_to_list o) → HaveNodes g a → HaveNodes g (cons_option o a)
+  have_cons_option None a p q = q
+  have_cons_option (Some k) a p q = have_cons k a (have_head k [] p) q
+
+  pub have_option : (o : Option Label) (a : List Label) → HaveNodes g (cons_option o a) → HaveNodes g (option_to_list o)
+  have_option None a p = have_none
+  have_option (Some k) a p = have_cons k [] (have_head k a p) have_none
+
+  pub have_rest : (o : Option Label) (a : List Label) → HaveNodes g (cons_option o a) → HaveNodes g a
+  have_rest None a p = p
+  have_rest (Some k) a p = have_tail k a p
+
+  module _ {A : Type 0} (f : A → Option Label) where
+    pub have_set : (xs : List A) (i : ℕ) (v : A) → HaveNodes g (filter_map f xs) → HaveNodes g (option_to_list (f v)) → HaveNodes g (filter_map f (set xs i v))
+    have_set [] i v p q = p
+    have_set (x ∷ xs) zero v p q = have_cons_option (f v) (filter_map f xs) q (have_rest (f x) (filter_map f xs) p)
+    have_set (x ∷ xs) (suc i) v p q =
+        have_cons_option (f x) (filter_map f (set xs i v)) (have_option (f x) (filter_map f xs) p) (have_set xs i v (have_rest (f x) (filter_map f xs) p) q)
+
+    pub have_at : (xs : List A) (i : ℕ) (d : A) → HaveNodes g (filter_map f xs) → HaveNodes g (option_to_list (f d)) → HaveNodes g (option_to_list (f (get_or xs i d)))
+    have_at [] i d p q = q
+    have_at (x ∷ xs) zero d p q = have_option (f x) (filter_map f xs) p
+    have_at (x ∷ xs) (suc i) d p q = have_at xs i d (have_rest (f x) (filter_map f xs) p) q
+
+    pub have_get : (xs : List A) (i : ℕ) (v : A) → HaveNodes g (filter_map f xs) → slice_get xs i ≡ Some v → HaveNodes g (option_to_list (f v))
+    have_get [] i v p e = cc
+    have_get (x ∷ xs) zero v p e = let same : x ≡ v = cc in subst (λ z. HaveNodes g (option_to_list (f z))) same (have_option (f x) (filter_map f xs) p)
+    have_get (x ∷ xs) (suc i) v p e = have_get xs i v (have_rest (f x) (filter_map f xs) p) e
+
+    pub have_replicate : (n : ℕ) (v : A) → f v ≡ None → HaveNodes g (filter_map f (replicate n v))
+    have_replicate zero v e = have_none
+    have_replicate (suc n) v e = rw e (have_replicate n v e)
+
+    pub have_filter_map_append : (xs ys : List A) → HaveNodes g (filter_map f xs) → HaveNodes g (filter_map f ys) → HaveNodes g (filter_map f (xs ++ ys))
+    have_filter_map_append [] ys p q = q
+    have_filter_map_append (x ∷ xs) ys p q =
+        have_cons_option (f x) (filter_map f (xs ++ ys)) (have_option (f x) (filter_map f xs) p) (have_filter_map_append xs ys (have_rest (f x) (filter_map f xs) p) q)
+
+-- a part of each domain, after one was replaced
+pub each_domain : (P : DomainState → Type 0) (xs : List DomainState) (d : ℕ) (x : DomainState) → P x → ((k : ℕ) → P (get_or xs k no_domain)) → (k : ℕ) → P (get_or (set xs d x) k no_domain)
+each_domain P [] d x p each k = each k
+each_domain P (y ∷ xs) zero x p each zero = p
+each_domain P (y ∷ xs) zero x p each (suc k) = each (suc k)
+each_domain P (y ∷ xs) (suc d) x p each zero = each zero
+each_domain P (y ∷ xs) (suc d) x p each (suc k) = each_domain P xs d x p (λ j. each (suc j)) k
+
+pub mapped_domain : (P : DomainState → Type 0) (f : DomainState → DomainState) (xs : List DomainState) → P no_domain → ((x : DomainState) → P x → P (f x))
+    → ((k : ℕ) → P (get_or xs k no_domain)) → (k : ℕ) → P (get_or (map f xs) k no_domain)
+mapped_domain P f [] none step each k = each k
+mapped_domain P f (x ∷ xs) none step each zero = step x (each zero)
+mapped_domain P f (x ∷ xs) none step each (suc k) = mapped_domain P f xs none step (λ j. each (suc j)) k
+
+-- the nodes after a change are the new one and the old ones
+with_cases_step : (b c : Bool) (e : Label × Node) (g h : Graph) (k : Label) (n m : Node) → same_label e.0 k ≡ c
+    → (node_at h k ≡ Some m → (m ≡ n) ⊎ (node_at g k ≡ Some m)) → node_at (cond b ((e.0, n) ∷ g) (e ∷ h)) k ≡ Some m
+    → (m ≡ n) ⊎ (cond c (Some e.1) (node_at g k) ≡ Some m)
+with_cases_step true true e g h k n m is rest has = inl (let new = rw is at has in cc)
+with_cases_step true false e g h k n m is rest has = inr (rw is at has)
+with_cases_step false true e g h k n m is rest has = inr (rw is at has)
+with_cases_step false false e g h k n m is rest has = rest (rw is at has)
+
+pub node_at-with_node_cases : (g : Graph) (l k : Label) (n m : Node) → node_at (with_node g l n) k ≡ Some m → (m ≡ n) ⊎ (node_at g k ≡ Some m)
+node_at-with_node_cases [] l k n m h = inr h
+node_at-with_node_cases (e ∷ g) l k n m h =
+    with_cases_step (same_label e.0 l) (same_label e.0 k) e g (with_node g l n) k n m refl (node_at-with_node_cases g l k n m) h
+
+pub node_at-append_cases : (g : Graph) (e : Label × Node) (k : Label) (m : Node) → node_at (g ++ e ∷ []) k ≡ Some m → (m ≡ e.1) ⊎ (node_at g k ≡ Some m)
+node_at-append_cases [] e k m h = go (same_label e.0 k) h
+  where
+    go : (b : Bool) → cond b (Some e.1) None ≡ Some m → (m ≡ e.1) ⊎ (None ≡ Some m)
+    go true h = inl cc
+    go false h = inr h
+node_at-append_cases (x ∷ g) e k m h = go (same_label x.0 k) (node_at-append_cases g e k m) h
+  where
+    go : (b : Bool) → (node_at (g ++ e ∷ []) k ≡ Some m → (m ≡ e.1) ⊎ (node_at g k ≡ Some m)) → cond b (Some x.1) (node_at (g ++ e ∷ []) k) ≡ Some m
+        → (m ≡ e.1) ⊎ (cond b (Some x.1) (node_at g k) ≡ Some m)
+    go true rest h = inr h
+    go false rest h = rest h
+
+pub labels-append : (g h : Graph) → labels (g ++ h) ≡ labels g ++ labels h
+labels-append [] h = refl
+labels-append (e ∷ g) h = ap (λ t. e.0 ∷ t) (labels-append g h)
+
+-- a graph with more labels
+move_domain : (g h : Graph) → HaveNodes h (labels g) → (x : DomainState) → IsDomainNamed g x → IsDomainNamed h x
+move_domain g h more x named = record {
+  registers = λ l a. more l (named.registers l a);
+  finals = λ l a. more l (named.finals l a);
+  lasts = λ l a. more l (named.lasts l a);
+  queue = λ l a. more l (named.queue l a);
+}
+
+-- the block in a register names only labels with nodes
+abbrev BlockNamed : Graph → Option (Label × Node) → Type 0
+BlockNamed g None = Unit {0}
+BlockNamed g (Some (l, n)) = HaveNodes g (names_of n)
+
+module _ (s : State) (wf : IsWellFormed s) where
+  wf_with_domain : (d : ℕ) (x : DomainState) → IsDomainNamed s.graph x → IsWellFormed (with_domain s d x)
+  wf_with_domain d x named = record { domains = each_domain (IsDomainNamed s.graph) s.domains d x named wf.domains; nodes = wf.nodes; cut = wf.cut }
+
+  wf_with_register : (d r : ℕ) (v : Value) → HaveNodes s.graph (option_to_list (label_of v)) → IsWellFormed (with_register s d r v)
+  wf_with_register d r v named =
+      let old = wf.domains d in
+      wf_with_domain d _ (record { registers = have_set s.graph label_of (domain_at s d).registers r v old.registers named; finals = old.finals; lasts = old.lasts; queue = old.queue })
+
+  named_register : (d r : ℕ) → HaveNodes s.graph (option_to_list (label_of (register s d r)))
+  named_register d r = have_at s.graph label_of (domain_at s d).registers r Nothing (wf.domains d).registers (have_none s.graph)
+
+  wf_with_block : (l : Label) (n : Node) → HaveNodes s.graph (names_of n) → IsWellFormed (with_block s l n)
+  wf_with_block l n named =
+      let same : labels (with_node s.graph l n) ≡ labels s.graph = labels-with_node s.graph l n in
+      let more : HaveNodes (with_node s.graph l n) (labels s.graph) = λ k h. rw same h in
+      record {
+        domains = λ d. move_domain s.graph (with_node s.graph l n) more _ (wf.domains d);
+        nodes = λ k m h. ⊎_elim
+            (λ new. λ j a. more j (named j (subst (λ z. IsTrue (has_label (names_of z) j)) new a)))
+            (λ old. λ j a. more j (wf.nodes k m old j a))
+            (node_at-with_node_cases s.graph l k n m h);
+        cut = λ j a. more j (wf.cut j a);
+      }
+
+  named_block : (d r : ℕ) → BlockNamed s.graph (block_in s d r)
+  named_block d r = at_label (label_in s d r)
+    where
+      at_node : (l : Label) (o : Option Node) → node_at s.graph l ≡ o → BlockNamed s.graph (option_map (λ n. (l, n)) o)
+      at_node l None e = tt
+      at_node l (Some n) e = wf.nodes l n e
+
+      at_label : (o : Option Label) → BlockNamed s.graph (option_and_then (block_at s.graph) o)
+      at_label None = tt
+      at_label (Some l) = at_node l (node_at s.graph l) refl
+
+  wf_in_bounds : {A : Type 0} (o : Option A) (f : A → Outcome) → ((a : A) → o ≡ Some a → IsWellFormed (f a).state) → IsWellFormed (in_bounds s o f).state
+  wf_in_bounds None f each = wf
+  wf_in_bounds (Some a) f each = each a refl
+
+  wf_at_ephe : (b : Option (Label × Node)) (f : Label → List (Option Label) → Value → Outcome) → BlockNamed s.graph b
+      → ((l : Label) (keys : List (Option Label)) (datum : Value) → HaveNodes s.graph (names_of (Ephe keys datum)) → IsWellFormed (f l keys datum).state)
+      → IsWellFormed (at_ephe s b f).state
+  wf_at_ephe None f named each = wf
+  wf_at_ephe (Some (l, Plain tag fields)) f named each = wf
+  wf_at_ephe (Some (l, Ephe keys datum)) f named each = each l keys datum named
+
+  wf_loaded : (d dst index : ℕ) (b : Option (Label × Node)) → BlockNamed s.graph b → IsWellFormed (loaded s d dst index b).state
+  wf_loaded d dst index None named = wf
+  wf_loaded d dst index (Some (l, Ephe keys datum)) named = wf
+  wf_loaded d dst index (Some (l, Plain tag fields)) named =
+      wf_in_bounds (slice_get fields index) _ (λ v e. wf_with_register d dst v (have_get s.graph label_of fields index v named e))
+
+  wf_stored : (index : ℕ) (b : Option (Label × Node)) (v : Value) → BlockNamed s.graph b → HaveNodes s.graph (option_to_list (label_of v)) → IsWellFormed (stored s index b v).state
+  wf_stored index None v named new = wf
+  wf_stored index (Some (l, Ephe keys datum)) v named new = wf
+  wf_stored index (Some (l, Plain tag fields)) Nothing named new = wf
+  wf_stored index (Some (l, Plain tag fields)) (Int z) named new =
+      wf_in_bounds (slice_get fields index) _ (λ w e. wf_with_block l _ (have_set s.graph label_of fields index (Int z) named new))
+  wf_stored index (Some (l, Plain tag fields)) (Block k) named new =
+      wf_in_bounds (slice_get fields index) _ (λ w e. wf_with_block l _ (have_set s.graph label_of fields index (Block k) named new))
+
+  wf_key_set : (index : ℕ) (key : Option Label) (l : Label) (keys : List (Option Label)) (datum : Value) → HaveNodes s.graph (option_to_list key)
+      → HaveNodes s.graph (names_of (Ephe keys datum)) → IsWellFormed (key_set s index key l keys datum).state
+  wf_key_set index key l keys datum new named =
+      let old = have_left s.graph (filter_map (λ k. k) keys) (option_to_list (label_of datum)) named in
+      let data_named = have_right s.graph (filter_map (λ k. k) keys) (option_to_list (label_of datum)) named in
+      wf_in_bounds (slice_get keys index) _ (λ w e. wf_with_block l _
+      (have_append s.graph (filter_map (λ k. k) (set keys index key)) (option_to_list (label_of datum)) (have_set s.graph (λ k. k) keys index key old new) data_named))
+
+  wf_datum_set : (v : Value) (l : Label) (keys : List (Option Label)) (datum : Value) → HaveNodes s.graph (option_to_list (label_of v))
+      → HaveNodes s.graph (names_of (Ephe keys datum)) → IsWellFormed (datum_set s v l keys datum).state
+  wf_datum_set v l keys datum new named = wf_with_block l _
+      (have_append s.graph (filter_map (λ k. k) keys) (option_to_list (label_of v)) (have_left s.graph (filter_map (λ k. k) keys) (option_to_list (label_of datum)) named) new)
+
+-- a new block
+wf_allocated : (s : State) → IsWellFormed s → (d dst : ℕ) (n : Node) → HaveNodes s.graph (names_of n) → IsWellFormed (allocated s d dst n).state
+wf_allocated s wf d dst n named =
+    let serial = (domain_at s d).serial + 1 in
+    let l : Label = record { domain = d; serial = serial } in
+    let grown : Graph = s.graph ++ (l, n) ∷ [] in
+    let old = wf.domains d in
+    let made : IsWellFormed (with_domain s d (record (domain_at s d) { serial = serial })) =
+    wf_with_domain s wf d _ (record { registers = old.registers; finals = old.finals; lasts = old.lasts; queue = old.queue }) in
+    let same : labels grown ≡ labels s.graph ++ l ∷ [] = labels-append s.graph ((l, n) ∷ []) in
+    let more : HaveNodes grown (labels s.graph) = λ k h. rw same (has-append_left (labels s.graph) (l ∷ []) k h) in
+    let has_new : IsTrue (has_label (labels grown) l) = rw same (has-append_right (labels s.graph) (l ∷ []) l (or_left (same_label l l) false (same_label_refl l))) in
+    let middle : State = record (with_domain s d (record (domain_at s d) { serial = serial })) { graph = grown; kept = s.kept + 1 } in
+    let wf_middle : IsWellFormed middle = record {
+      domains = λ k. move_domain s.graph grown more _ (made.domains k);
+      nodes = λ k m h. ⊎_elim
+          (λ new. λ j a. more j (named j (subst (λ z. IsTrue (has_label (names_of z) j)) new a)))
+          (λ was. λ j a. more j (wf.nodes k m was j a))
+          (node_at-append_cases s.graph (l, n) k m h);
+      cut = λ j a. more j (wf.cut j a);
+    } in
+    wf_with_register middle wf_middle d dst (Block l) (have_cons grown l [] has_new (have_none grown))
+
+module _ (s : State) (wf : IsWellFormed s) where
+  wf_key_stored : (index : ℕ) (key : Option Label) (b : Option (Label × Node)) → HaveNodes s.graph (option_to_list key) → BlockNamed s.graph b → IsWellFormed (key_stored s index key b).state
+  wf_key_stored index None b new named = wf
+  wf_key_stored index (Some k) b new named = wf_at_ephe s wf b _ named (λ l keys datum has. wf_key_set s wf index (Some k) l keys datum new has)
+
+  wf_datum_stored : (b : Option (Label × Node)) (v : Value) → BlockNamed s.graph b → HaveNodes s.graph (option_to_list (label_of v)) → IsWellFormed (datum_stored s b v).state
+  wf_datum_stored b Nothing named new = wf
+  wf_datum_stored b (Int z) named new = wf_at_ephe s wf b _ named (λ l keys datum has. wf_datum_set s wf (Int z) l keys datum new has)
+  wf_datum_stored b (Block k) named new = wf_at_ephe s wf b _ named (λ l keys datum has. wf_datum_set s wf (Block k) l keys datum new has)
+
+  wf_tells : (b : Bool) → IsWellFormed (tells s b).state
+  wf_tells true = wf
+  wf_tells false = wf
+
+  labels_pushed : {A : Type 0} (f : A → Label) (xs : List A) (x : A) → HaveNodes s.graph (map f xs) → IsTrue (has_label (labels s.graph) (f x)) → HaveNodes s.graph (map f (xs ++ x ∷ []))
+  labels_pushed f [] x p q = have_cons s.graph (f x) [] q (have_none s.graph)
+  labels_pushed f (y ∷ xs) x p q = have_cons s.graph (f y) (map f (xs ++ x ∷ [])) (have_head s.graph (f y) (map f xs) p) (labels_pushed f xs x (have_tail s.graph (f y) (map f xs) p) q)
+
+  wf_finalised : (d number dst : ℕ) (l : Option Label) → HaveNodes s.graph (option_to_list l) → IsWellFormed (finalised s d number dst l).state
+  wf_finalised d number dst None named = wf
+  wf_finalised d number dst (Some l) named =
+      let old = wf.domains d in
+      wf_with_domain s wf d _ (record {
+        registers = old.registers;
+        lasts = old.lasts;
+        queue = old.queue;
+        finals = labels_pushed (λ f. f.label) (domain_at s d).finals _ old.finals (have_head s.graph l [] named);
+      })
+
+  wf_finalised_last : (d number : ℕ) (l : Option Label) → HaveNodes s.graph (option_to_list l) → IsWellFormed (finalised_last s d number l).state
+  wf_finalised_last d number None named = wf
+  wf_finalised_last d number (Some l) named =
+      let old = wf.domains d in
+      wf_with_domain s wf d _ (record {
+        registers = old.registers;
+        finals = old.finals;
+        queue = old.queue;
+        lasts = labels_pushed (λ f. f.label) (domain_at s d).lasts _ old.lasts (have_head s.graph l [] named);
+      })
+
+  key_value_named : (keys : List (Option Label)) (index : ℕ) (k : Option Label) → HaveNodes s.graph (filter_map (λ x. x) keys) → slice_get keys index ≡ Some k
+      → HaveNodes s.graph (option_to_list (label_of (key_value k)))
+  key_value_named keys index None p e = have_none s.graph
+  key_value_named keys index (Some k) p e = have_get s.graph (λ x. x) keys index (Some k) p e
+
+  -- each command keeps a state well formed
+  pub wf_outcome : (d : ℕ) (c : Command) → IsWellFormed (outcome s d c).state
+  wf_outcome d (PutInt dst value) = wf_with_register s wf d dst (Int value) (have_none s.graph)
+  wf_outcome d (Copy dst src) = wf_with_register s wf d dst (register s d src) (named_register s wf d src)
+  wf_outcome d (Forget dst) = wf_with_register s wf d dst Nothing (have_none s.graph)
+  wf_outcome d (Alloc dst tag fields) = wf_allocated s wf d dst _ (have_replicate s.graph label_of fields (Int (pos 0)) refl)
+  wf_outcome d (AllocMaj dst tag fields) = wf_allocated s wf d dst _ (have_replicate s.graph label_of fields (Int (pos 0)) refl)
+  wf_outcome d (Load dst src index) = wf_loaded s wf d dst index (block_in s d src) (named_block s wf d src)
+  wf_outcome d (Store block index item) = wf_stored s wf index (block_in s d block) (register s d item) (named_block s wf d block) (named_register s wf d item)
+  wf_outcome d (NewEphe dst keys) =
+      wf_allocated s wf d dst _ (have_append s.graph (filter_map (λ k. k) (replicate keys None)) [] (have_replicate s.graph (λ k. k) keys None refl) (have_none s.graph))
+  wf_outcome d (SetKey ephe index item) = wf_key_stored index (label_in s d item) (block_in s d ephe) (named_register s wf d item) (named_block s wf d ephe)
+  wf_outcome d (UnsetKey ephe index) =
+      wf_at_ephe s wf (block_in s d ephe) _ (named_block s wf d ephe) (λ l keys datum named. wf_key_set s wf index None l keys datum (have_none s.graph) named)
+  wf_outcome d (GetKey dst ephe index) = wf_at_ephe s wf (block_in s d ephe) _ (named_block s wf d ephe) (λ l keys datum named.
+      wf_in_bounds s wf (slice_get keys index) _ (λ k e. wf_with_register s wf d dst (key_value k)
+      (key_value_named keys index k (have_left s.graph (filter_map (λ x. x) keys) (option_to_list (label_of datum)) named) e)))
+  wf_outcome d (CheckKey ephe index) = wf_at_ephe s wf (block_in s d ephe) _ (named_block s wf d ephe) (λ l keys datum named.
+      wf_in_bounds s wf (slice_get keys index) _ (λ k e. wf_tells (is_some k)))
+  wf_outcome d (SetData ephe item) = wf_datum_stored (block_in s d ephe) (register s d item) (named_block s wf d ephe) (named_register s wf d item)
+  wf_outcome d (UnsetData ephe) = wf_at_ephe s wf (block_in s d ephe) _ (named_block s wf d ephe) (λ l keys datum named. wf_datum_set s wf Nothing l keys datum (have_none s.graph) named)
+  wf_outcome d (GetData dst ephe) = wf_at_ephe s wf (block_in s d ephe) _ (named_block s wf d ephe) (λ l keys datum named.
+      wf_with_register s wf d dst datum (have_right s.graph (filter_map (λ x. x) keys) (option_to_list (label_of datum)) named))
+  wf_outcome d (CheckData ephe) = wf_at_ephe s wf (block_in s d ephe) _ (named_block s wf d ephe) (λ l keys datum named. wf_tells (is_full_value datum))
+  wf_outcome d (Finalise item number dst) = wf_finalised d number dst (label_in s d item) (named_register s wf d item)
+  wf_outcome d (FinaliseLast item number) = wf_finalised_last d number (label_in s d item) (named_register s wf d item)
+  wf_outcome d Poll = wf
+  wf_outcome d Minor = wf
+  wf_outcome d Major = wf
+  wf_outcome d FullMajor = wf
+
+-- the labels of registrations that leave a list, and of those that are left
+module _ (g : Graph) {A : Type 0} (f : A → Label) where
+  take_named : (i : ℕ) (xs : List A) → HaveNodes g (map f xs) → HaveNodes g (map f (take i xs))
+  take_named zero xs p = have_none g
+  take_named (suc i) [] p = have_none g
+  take_named (suc i) (x ∷ xs) p = have_cons g (f x) (map f (take i xs)) (have_head g (f x) (map f xs) p) (take_named i xs (have_tail g (f x) (map f xs) p))
+
+  drop_named : (i : ℕ) (xs : List A) → HaveNodes g (map f xs) → HaveNodes g (map f (drop i xs))
+  drop_named zero xs p = p
+  drop_named (suc i) [] p = p
+  drop_named (suc i) (x ∷ xs) p = drop_named i xs (have_tail g (f x) (map f xs) p)
+
+  join_named : (xs ys : List A) → HaveNodes g (map f xs) → HaveNodes g (map f ys) → HaveNodes g (map f (xs ++ ys))
+  join_named [] ys p q = q
+  join_named (x ∷ xs) ys p q = have_cons g (f x) (map f (xs ++ ys)) (have_head g (f x) (map f xs) p) (join_named xs ys (have_tail g (f x) (map f xs) p) q)
+
+  remove_named : (xs : List A) (i : ℕ) → HaveNodes g (map f xs) → HaveNodes g (map f (remove xs i))
+  remove_named xs i p = join_named (take i xs) (drop (suc i) xs) (take_named i xs p) (drop_named (suc i) xs p)
+
+  without_named : (places : List ℕ) (xs : List A) → HaveNodes g (map f xs) → HaveNodes g (map f (without_places places xs))
+  without_named [] xs p = p
+  without_named (i ∷ places) xs p = remove_named (without_places places xs) i (without_named places xs p)
+
+  get_named : (xs : List A) (i : ℕ) (x : A) → HaveNodes g (map f xs) → slice_get xs i ≡ Some x → IsTrue (has_label (labels g) (f x))
+  get_named [] i x p e = cc
+  get_named (y ∷ xs) zero x p e = let same : y ≡ x = cc in subst (λ z. IsTrue (has_label (labels g) (f z))) same (have_head g (f y) (map f xs) p)
+  get_named (y ∷ xs) (suc i) x p e = get_named xs i x (have_tail g (f y) (map f xs) p) e
+
+  places_named : (places : List ℕ) (xs : List A) → HaveNodes g (map f xs) → HaveNodes g (map f (at_places places xs))
+  places_named [] xs p = have_none g
+  places_named (i ∷ places) xs p = go (slice_get xs i) refl (places_named places xs p)
+    where
+      go : (o : Option A) → slice_get xs i ≡ o → HaveNodes g (map f (at_places places xs)) → HaveNodes g (map f (cons_option o (at_places places xs)))
+      go None e rest = rest
+      go (Some x) e rest = have_cons g (f x) (map f (at_places places xs)) (get_named xs i x p e) rest
+
+queued_finals_named : (g : Graph) (xs : List Finaliser) → HaveNodes g (map (λ f. f.label) xs) → HaveNodes g (filter_map pending_label (map queued_final xs))
+queued_finals_named g [] p = have_none g
+queued_finals_named g (x ∷ xs) p =
+    have_cons g x.label (filter_map pending_label (map queued_final xs)) (have_head g x.label (map (λ f. f.label) xs) p)
+    (queued_finals_named g xs (have_tail g x.label (map (λ f. f.label) xs) p))
+
+queued_lasts_named : (g : Graph) (xs : List LastFinaliser) → HaveNodes g (filter_map pending_label (map queued_last xs))
+queued_lasts_named g [] = have_none g
+queued_lasts_named g (x ∷ xs) = queued_lasts_named g xs
+
+wiped_keys_named : (g : Graph) (places : List ℕ) (keys : List (Option Label)) → HaveNodes g (filter_map (λ k. k) keys) → HaveNodes g (filter_map (λ k. k) (wiped_keys places keys))
+wiped_keys_named g [] keys p = p
+wiped_keys_named g (i ∷ places) keys p = have_set g (λ k. k) (wiped_keys places keys) i None (wiped_keys_named g places keys p) (have_none g)
+
+flat_named : {A : Type 0} (g : Graph) (f : A → List Label) (none : A) (xs : List A) → ((k : ℕ) → k < length xs → HaveNodes g (f (get_or xs k none))) → HaveNodes g (flat_map f xs)
+flat_named g f none [] each = have_none g
+flat_named g f none (x ∷ xs) each = have_append g (f x) (flat_map f xs) (each zero (omega arith)) (flat_named g f none xs (λ k h. each (suc k) (omega arith)))
+
+pub queues_named : (g : Graph) (xs : List DomainState) → ((k : ℕ) → HaveNodes g (filter_map pending_label (get_or xs k no_domain).queue)) → HaveNodes g (flat_map (filter_map pending_label) (map (λ x. x.queue) xs))
+queues_named g [] each = have_none g
+queues_named g (x ∷ xs) each = have_append g (filter_map pending_label x.queue) _ (each zero) (queues_named g xs (λ k. each (suc k)))
+
+no_domain_named : (g : Graph) → IsDomainNamed g no_domain
+no_domain_named g = record { registers = have_none g; finals = have_none g; lasts = have_none g; queue = have_none g }
+
+module _ (s : State) (wf : IsWellFormed s) where
+  wf_in_mode : (m : Mode) (f : DomainState → DomainState) → ((x : DomainState) → IsDomainNamed s.graph x → IsDomainNamed s.graph (f x)) → IsWellFormed (in_mode s m f)
+  wf_in_mode m f step = record {
+    domains = mapped_domain (IsDomainNamed s.graph) f s.domains (no_domain_named s.graph) step wf.domains;
+    nodes = wf.nodes;
+    cut = wf.cut;
+  }
+
+  same_names : (x y : DomainState) → x.registers ≡ y.registers → x.finals ≡ y.finals → x.lasts ≡ y.lasts → x.queue ≡ y.queue → IsDomainNamed s.graph x → IsDomainNamed s.graph y
+  same_names x y r f l q named = record {
+    registers = subst (λ z. HaveNodes s.graph (filter_map label_of z)) r named.registers;
+    finals = subst (λ (z : List Finaliser). HaveNodes s.graph (map (λ f. f.label) z)) f named.finals;
+    lasts = subst (λ (z : List LastFinaliser). HaveNodes s.graph (map (λ f. f.label) z)) l named.lasts;
+    queue = subst (λ z. HaveNodes s.graph (filter_map pending_label z)) q named.queue;
+  }
+
+  wf_after_command : (d : ℕ) → IsWellFormed (after_command s d)
+  wf_after_command d = wf_with_domain s wf d _ (same_names (domain_at s d) _ refl refl refl refl (wf.domains d))
+
+  wf_wiped : (l : Label) (keys : List ℕ) (o : Option Node) → node_at s.graph l ≡ o → IsWellFormed (with_wiped s l (wiped keys o))
+  wf_wiped l places None e = wf
+  wf_wiped l places (Some (Plain tag fields)) e = wf_with_block s wf l (Plain tag fields) (wf.nodes l (Plain tag fields) e)
+  wf_wiped l places (Some (Ephe keys datum)) e =
+      let named = have_left s.graph (filter_map (λ k. k) keys) (option_to_list (label_of datum)) (wf.nodes l (Ephe keys datum) e) in
+      wf_with_block s wf l _ (have_append s.graph (filter_map (λ k. k) (wiped_keys places keys)) [] (wiped_keys_named s.graph places keys named) (have_none s.graph))
+
+-- a domain whose first queued finaliser has left the queue
+module _ (s : State) (wf : IsWellFormed s) where
+  wf_popped : (d : ℕ) (p : Pending) (rest : List Pending) → HaveNodes s.graph (filter_map pending_label (p ∷ rest)) → IsWellFormed (with_domain s d (without_first (domain_at s d) rest))
+  wf_popped d p rest named =
+      let old = wf.domains d in
+      wf_with_domain s wf d _ (record { registers = old.registers; finals = old.finals; lasts = old.lasts; queue = have_rest s.graph (pending_label p) (filter_map pending_label rest) named })
+
+  wf_after_run : (d : ℕ) (queue : List Pending) → HaveNodes s.graph (filter_map pending_label queue) → IsWellFormed (after_run s d queue)
+  wf_after_run d [] named = wf
+  wf_after_run d (Fin number l r ∷ rest) named =
+      wf_with_register _ (wf_popped d (Fin number l r) rest named) d r (Block l) (have_option s.graph (Some l) (filter_map pending_label rest) named)
+  wf_after_run d (Last number ∷ rest) named = wf_popped d (Last number) rest named
+
+-- each entry keeps a state well formed
+pub wf_next : (s : State) (e : Entry) → IsWellFormed s → IsWellFormed (next s e)
+wf_next s (CommandOf d c true) wf = wf_after_command s wf d
+wf_next s (CommandOf d c false) wf = wf_after_command (outcome s d c).state (wf_outcome s wf d c) d
+wf_next s (End d) wf = wf_with_domain s wf d _ (record {
+  registers = have_replicate s.graph label_of (length (domain_at s d).registers) Nothing refl;
+  finals = have_none s.graph;
+  lasts = have_none s.graph;
+  queue = (wf.domains d).queue;
+})
+wf_next s Cut wf =
+    let moved = wf_in_mode s wf CutMode (λ x. record x { low = length x.finals }) (λ x named. same_names s wf x _ refl refl refl refl named) in
+    record { domains = moved.domains; nodes = moved.nodes; cut = queues_named s.graph s.domains (λ k. (wf.domains k).queue) }
+wf_next s (Queue d places) wf =
+    let old = wf.domains d in
+    wf_with_domain s wf d _ (record {
+      registers = old.registers;
+      lasts = old.lasts;
+      finals = without_named s.graph (λ f. f.label) places (domain_at s d).finals old.finals;
+      queue = have_filter_map_append s.graph pending_label (domain_at s d).queue _ old.queue
+          (queued_finals_named s.graph _ (places_named s.graph (λ f. f.label) (reverse places) (domain_at s d).finals old.finals));
+    })
+wf_next s Seal wf =
+    let moved = wf_in_mode s wf Sealed (λ x. record x { low = length x.lasts }) (λ x named. same_names s wf x _ refl refl refl refl named) in
+    record { domains = moved.domains; nodes = moved.nodes; cut = moved.cut }
+wf_next s (Wipe l keys) wf =
+    let emptied = wf_wiped s wf l keys (node_at s.graph l) refl in
+    record { domains = emptied.domains; nodes = emptied.nodes; cut = emptied.cut }
+wf_next s (LastOf d place) wf =
+    let old = wf.domains d in
+    let moved = wf_with_domain s wf d (with_last_queued (domain_at s d) place) (record {
+      registers = old.registers;
+      finals = old.finals;
+      lasts = remove_named s.graph (λ f. f.label) (domain_at s d).lasts place old.lasts;
+      queue = have_filter_map_append s.graph pending_label (domain_at s d).queue _ old.queue (queued_lasts_named s.graph (at_places (place ∷ []) (domain_at s d).lasts));
+    }) in
+    record { domains = moved.domains; nodes = moved.nodes; cut = moved.cut }
+wf_next s Collected wf =
+    let moved = wf_in_mode s wf Answer (λ x. record x { fresh = true }) (λ x named. same_names s wf x _ refl refl refl refl named) in
+    record { domains = moved.domains; nodes = moved.nodes; cut = moved.cut }
+wf_next s Done wf = record { domains = wf.domains; nodes = wf.nodes; cut = wf.cut }
+wf_next s (Ran d) wf = wf_after_run s wf d (domain_at s d).queue (wf.domains d).queue
+
+-- so does each history
+pub wf_after : (s : State) (h : List Entry) → IsWellFormed s → IsWellFormed (state_after s h)
+wf_after s [] wf = wf
+wf_after s (e ∷ h) wf = wf_after (next s e) h (wf_next s e wf)
+
+-- the opening state is well formed
+replicated_domain : (P : DomainState → Type 0) (n : ℕ) (x : DomainState) → P x → P no_domain → (k : ℕ) → P (get_or (replicate n x) k no_domain)
+replicated_domain P zero x p none k = none
+replicated_domain P (suc n) x p none zero = p
+replicated_domain P (suc n) x p none (suc k) = replicated_domain P n x p none k
+
+empty_queues_named : (g : Graph) (n : ℕ) → HaveNodes g (flat_map (filter_map pending_label) (replicate n []))
+empty_queues_named g zero = have_none g
+empty_queues_named g (suc n) = empty_queues_named g n
+
+pub wf_opening : (z : Sizes) → IsWellFormed (opening z)
+wf_opening z =
+    let g : Graph = (shared_label, shared_node) ∷ [] in
+    record {
+      domains = replicated_domain (IsDomainNamed g) z.domains opening_domain
+          (record { registers = have_cons g shared_label (filter_map label_of (replicate 15 Nothing)) refl (have_replicate g label_of 15 Nothing refl); finals = have_none g; lasts = have_none g; queue = have_none g })
+          (no_domain_named g);
+      nodes = λ l n h. only (same_label shared_label l) n h;
+      cut = empty_queues_named g z.domains;
+    }
+  where
+    only : (b : Bool) (n : Node) → cond b (Some shared_node) None ≡ Some n → HaveNodes ((shared_label, shared_node) ∷ []) (names_of n)
+    only true n h = let same : shared_node ≡ n = cc in
+        subst (λ m. HaveNodes ((shared_label, shared_node) ∷ []) (names_of m)) same (have_replicate ((shared_label, shared_node) ∷ []) label_of 16 (Int (pos 0)) refl)
+    only false n h = cc
+
+-- what a well formed state keeps alive has nodes
+kept_named : (g : Graph) (alive : Label → Bool) (o : Option Node) → ((n : Node) → o ≡ Some n → HaveNodes g (names_of n)) → HaveNodes g (option_map_or (edges_of alive) o [])
+kept_named g alive None each = have_none g
+kept_named g alive (Some (Plain tag fields)) each = each (Plain tag fields) refl
+kept_named g alive (Some (Ephe keys datum)) each =
+    kept (list_all (key_holds alive) keys) (have_right g (filter_map (λ k. k) keys) (option_to_list (label_of datum)) (each (Ephe keys datum) refl))
+  where
+    kept : (b : Bool) → HaveNodes g (option_to_list (label_of datum)) → HaveNodes g (cond b (option_to_list (label_of datum)) [])
+    kept true p = p
+    kept false p = have_none g
+
+pub closed_graph : (s : State) → IsWellFormed s → (qs : List (List Pending)) → HaveNodes s.graph (flat_map (filter_map pending_label) qs) → IsClosedGraph s.graph (roots s qs)
+closed_graph s wf qs named = record {
+  roots_have_nodes = have_append s.graph (flat_map (λ x. filter_map label_of x.registers) s.domains) (flat_map (filter_map pending_label) qs)
+      (flat_named s.graph (λ x. filter_map label_of x.registers) no_domain s.domains (λ k h. (wf.domains k).registers)) named;
+  edges_have_nodes = λ alive l. kept_named s.graph alive (node_at s.graph l) (λ n e. wf.nodes l n e);
+}
+
+-- after each history, `reach` is the least set that holds the roots and is closed
+pub reach_after : (z : Sizes) (h : List Entry) → let s = state_after (opening z) h in IsLeastClosed s.graph (roots s (queues s)) (reach s)
+reach_after z h =
+    let s : State = state_after (opening z) h in
+    let wf : IsWellFormed s = wf_after (opening z) h (wf_opening z) in
+    reach_law s.graph (roots s (queues s)) (closed_graph s wf (queues s) (queues_named s.graph s.domains (λ k. (wf.domains k).queue)))

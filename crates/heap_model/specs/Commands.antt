@@ -1,0 +1,214 @@
+-- What each command answers, and the state that it leaves.
+use Rattle.std.specs.Prelude.{◌≡◌, ℕ, ◌+◌, ◌*◌, ◌≤◌, Bool, true, false, is_some, List, [], ◌∷◌, ◌++◌, length, replicate, sum_by, slice_get, slice_set, option_and_then, pos, Option, Some, None}
+use Rattle.heap_model.specs.declared.label.Label.{Label}
+use Rattle.heap_model.specs.declared.command.Command.{Command}
+use Rattle.heap_model.specs.declared.command.Command.TheVariants.{PutInt, Copy, Forget, Alloc, AllocMaj, Load, Store, Ephe as NewEphe, SetKey, UnsetKey, GetKey, CheckKey, SetData, UnsetData, GetData, CheckData, Finalise, FinaliseLast, Poll, Minor, Major, FullMajor}
+use Rattle.heap_model.specs.declared.reply.Reply.{Reply}
+use Rattle.heap_model.specs.declared.reply.Reply.TheVariants.{Done, Int, Block, BadType, BadIndex, Empty, Yes, No, Full, Live}
+use Rattle.heap_model.specs.declared.graph.Value.{Value}
+use Rattle.heap_model.specs.declared.graph.Value.TheVariants.{Int as IntValue, Block as BlockValue, Nothing}
+use Rattle.heap_model.specs.declared.graph.Node.{Node}
+use Rattle.heap_model.specs.declared.graph.Node.TheVariants.{Plain, Ephe}
+use Rattle.heap_model.specs.declared.state.Mode.TheVariants.{Open, Answer}
+use Rattle.heap_model.specs.declared.state.Finaliser.{Finaliser}
+use Rattle.heap_model.specs.declared.state.LastFinaliser.{LastFinaliser}
+use Rattle.heap_model.specs.declared.state.State.{State}
+use Rattle.heap_model.specs.Graph.{block_at, words_at, IsPlaceOf}
+use Rattle.heap_model.specs.Domains.{domain_at, with_domain, register, with_register, label_in, with_block, reach, reserve}
+
+-- what a command answers, and the state that it leaves
+pub record Outcome : Type 0 where
+  pub reply : Reply
+  pub state : State
+
+-- a reply that leaves the state as it is
+abbrev pub answers : State → Reply → Outcome
+answers s r = record { reply = r; state = s }
+
+-- the reply `ok`, with a new state
+abbrev pub done_with : State → Outcome
+done_with s = record { reply = Done; state = s }
+
+-- the reply that shows a value
+abbrev pub shown : Value → Reply
+shown (IntValue z) = Int z
+shown (BlockValue l) = Block l
+shown Nothing = Empty
+
+-- the value goes into a register, and is shown
+abbrev pub read_into : State → ℕ → ℕ → Value → Outcome
+read_into s d dst v = record { reply = shown v; state = with_register s d dst v }
+
+-- yes or no
+abbrev pub tells : State → Bool → Outcome
+tells s true = answers s Yes
+tells s false = answers s No
+
+-- a value that may be missing: past the end of the fields or keys
+abbrev pub in_bounds : {A : Type 0} → State → Option A → (A → Outcome) → Outcome
+in_bounds s None f = answers s BadIndex
+in_bounds s (Some a) f = f a
+
+-- a new block with the domain's next label, which register dst then holds
+abbrev pub allocated : State → ℕ → ℕ → Node → Outcome
+allocated s d dst n =
+    let serial = (domain_at s d).serial + 1 in
+    let l : Label = record { domain = d; serial = serial } in
+    let made = with_domain s d (record (domain_at s d) { serial = serial }) in
+    record {
+      reply = Block l;
+      state = with_register (record made { graph = s.graph ++ (l, n) ∷ []; kept = s.kept + 1 }) d dst (BlockValue l);
+    }
+
+-- a plain block at the start: each field is 0
+abbrev pub new_plain : ℕ → ℕ → Node
+new_plain tag fields = Plain tag (replicate fields (IntValue (pos 0)))
+
+-- the block in a register: its label and its node
+abbrev pub block_in : State → ℕ → ℕ → Option (Label × Node)
+block_in s d r = option_and_then (block_at s.graph) (label_in s d r)
+
+-- where the block in a register stands in the graph
+pub record IsPlaceInRegister (s : State) (d r i : ℕ) : Type 0 where
+  pub label : Label
+  pub held : register s d r ≡ BlockValue label
+  pub place : IsPlaceOf s.graph label i
+
+-- `load`, by the block in the source register
+abbrev pub loaded : State → ℕ → ℕ → ℕ → Option (Label × Node) → Outcome
+loaded s d dst index (Some (l, Plain tag fields)) = in_bounds s (slice_get fields index) (read_into s d dst)
+loaded s d dst index (Some (l, Ephe keys datum)) = answers s BadType
+loaded s d dst index None = answers s BadType
+
+-- `store`, by the block in the register and the value to be stored
+abbrev pub stored : State → ℕ → Option (Label × Node) → Value → Outcome
+stored s index None v = answers s BadType
+stored s index (Some (l, Ephe keys datum)) v = answers s BadType
+stored s index (Some (l, Plain tag fields)) Nothing = answers s BadType
+stored s index (Some (l, Plain tag fields)) v =
+    in_bounds s (slice_get fields index) (λ _. done_with (with_block s l (Plain tag (slice_set fields index v))))
+
+-- what a command does with the ephemeron in a register: its label, its keys and its data
+abbrev pub at_ephe : State → Option (Label × Node) → (Label → List (Option Label) → Value → Outcome) → Outcome
+at_ephe s (Some (l, Ephe keys datum)) f = f l keys datum
+at_ephe s (Some (l, Plain tag fields)) f = answers s BadType
+at_ephe s None f = answers s BadType
+
+-- an ephemeron's key index is set
+abbrev pub key_set : State → ℕ → Option Label → Label → List (Option Label) → Value → Outcome
+key_set s index key l keys datum =
+    in_bounds s (slice_get keys index) (λ _. done_with (with_block s l (Ephe (slice_set keys index key) datum)))
+
+-- `set_key`, by the label to be set
+abbrev pub key_stored : State → ℕ → Option Label → Option (Label × Node) → Outcome
+key_stored s index None block = answers s BadType
+key_stored s index (Some k) block = at_ephe s block (key_set s index (Some k))
+
+-- an ephemeron's data is set
+abbrev pub datum_set : State → Value → Label → List (Option Label) → Value → Outcome
+datum_set s v l keys datum = done_with (with_block s l (Ephe keys v))
+
+-- `set_data`, by the value to be set
+abbrev pub datum_stored : State → Option (Label × Node) → Value → Outcome
+datum_stored s block Nothing = answers s BadType
+datum_stored s block v = at_ephe s block (datum_set s v)
+
+-- the value that a key is
+abbrev pub key_value : Option Label → Value
+key_value None = Nothing
+key_value (Some l) = BlockValue l
+
+-- whether a value is full
+abbrev pub is_full_value : Value → Bool
+is_full_value Nothing = false
+is_full_value _ = true
+
+-- a registration is added
+abbrev pub with_final : State → ℕ → Finaliser → State
+with_final s d f = with_domain s d (record (domain_at s d) { finals = (domain_at s d).finals ++ f ∷ [] })
+
+abbrev pub with_last : State → ℕ → LastFinaliser → State
+with_last s d f = with_domain s d (record (domain_at s d) { lasts = (domain_at s d).lasts ++ f ∷ [] })
+
+-- `finalise`, by the label to be registered
+abbrev pub finalised : State → ℕ → ℕ → ℕ → Option Label → Outcome
+finalised s d number dst None = answers s BadType
+finalised s d number dst (Some l) = done_with (with_final s d (record { number = number; label = l; register = dst }))
+
+-- `finalise_last`, by the label to be registered
+abbrev pub finalised_last : State → ℕ → ℕ → Option Label → Outcome
+finalised_last s d number None = answers s BadType
+finalised_last s d number (Some l) = done_with (with_last s d (record { number = number; label = l }))
+
+-- what `full_major` answers: the number of reachable blocks, and the sum of their words
+abbrev pub live_reply : State → Reply
+live_reply s = Live (length (reach s)) (sum_by (words_at s.graph) (reach s))
+
+-- what a command of domain d answers, and the state that it leaves
+abbrev pub outcome : State → ℕ → Command → Outcome
+outcome s d (PutInt dst value) = done_with (with_register s d dst (IntValue value))
+outcome s d (Copy dst src) = done_with (with_register s d dst (register s d src))
+outcome s d (Forget dst) = done_with (with_register s d dst Nothing)
+outcome s d (Alloc dst tag fields) = allocated s d dst (new_plain tag fields)
+outcome s d (AllocMaj dst tag fields) = allocated s d dst (new_plain tag fields)
+outcome s d (Load dst src index) = loaded s d dst index (block_in s d src)
+outcome s d (Store block index item) = stored s index (block_in s d block) (register s d item)
+outcome s d (NewEphe dst keys) = allocated s d dst (Ephe (replicate keys None) Nothing)
+outcome s d (SetKey ephe index item) = key_stored s index (label_in s d item) (block_in s d ephe)
+outcome s d (UnsetKey ephe index) = at_ephe s (block_in s d ephe) (key_set s index None)
+outcome s d (GetKey dst ephe index) =
+    at_ephe s (block_in s d ephe) (λ l keys datum. in_bounds s (slice_get keys index) (λ k. read_into s d dst (key_value k)))
+outcome s d (CheckKey ephe index) =
+    at_ephe s (block_in s d ephe) (λ l keys datum. in_bounds s (slice_get keys index) (λ k. tells s (is_some k)))
+outcome s d (SetData ephe item) = datum_stored s (block_in s d ephe) (register s d item)
+outcome s d (UnsetData ephe) = at_ephe s (block_in s d ephe) (datum_set s Nothing)
+outcome s d (GetData dst ephe) = at_ephe s (block_in s d ephe) (λ l keys datum. read_into s d dst datum)
+outcome s d (CheckData ephe) = at_ephe s (block_in s d ephe) (λ l keys datum. tells s (is_full_value datum))
+outcome s d (Finalise item number dst) = finalised s d number dst (label_in s d item)
+outcome s d (FinaliseLast item number) = finalised_last s d number (label_in s d item)
+outcome s d Poll = answers s Done
+outcome s d Minor = answers s Done
+outcome s d Major = answers s Done
+outcome s d FullMajor = answers s (live_reply s)
+
+-- whether a command allocates a block
+abbrev pub is_allocation : Command → Bool
+is_allocation (Alloc dst tag fields) = true
+is_allocation (AllocMaj dst tag fields) = true
+is_allocation (NewEphe dst keys) = true
+is_allocation _ = false
+
+-- when domain d may answer a command with `full`
+abbrev pub MayBeFull : State → ℕ → Command → Type 0
+MayBeFull s d c = is_allocation c ≡ true
+
+-- the stronger form: only after a complete collection, since the domain's last command, that left too little
+pub record MayBeFullAfterCollection (s : State) (d : ℕ) (c : Command) : Type 0 where
+  pub allocates : is_allocation c ≡ true
+  pub fresh : (domain_at s d).fresh ≡ true
+  pub kept_enough : s.sizes.pools ≤ s.kept + reserve s.sizes + s.sizes.classes * s.sizes.domains
+
+-- the reply `full` is given only where it may be
+abbrev pub FullOnlyWhereAllowed : State → ℕ → Command → Bool → Type 0
+FullOnlyWhereAllowed s d c true = MayBeFull s d c
+FullOnlyWhereAllowed s d c false = Unit {0}
+
+-- the mode and the queue in which a command may stand: `full_major` waits for the finalisers that its domain owes
+abbrev pub FitsMode : State → ℕ → Command → Type 0
+FitsMode s d FullMajor = (s.mode ≡ Answer) × ((domain_at s d).due ≡ 0)
+FitsMode s d _ = (s.mode ≡ Open) × ((domain_at s d).queue ≡ [])
+
+-- whether domain d may make the entry of a command
+pub record CommandAllowed (s : State) (d : ℕ) (c : Command) (full : Bool) : Type 0 where
+  pub running : (domain_at s d).ended ≡ false
+  pub fits : FitsMode s d c
+  pub full_fits : FullOnlyWhereAllowed s d c full
+
+-- what the entry of a command answers and leaves, before the domain's helpers change
+abbrev pub command_outcome : State → ℕ → Command → Bool → Outcome
+command_outcome s d c true = answers s Full
+command_outcome s d c false = outcome s d c
+
+-- domain d has made the entry of a command: its last complete collection isn't fresh any more, and it owes what its queue holds
+abbrev pub after_command : State → ℕ → State
+after_command s d = with_domain s d (record (domain_at s d) { fresh = false; due = length (domain_at s d).queue })

@@ -1,0 +1,9 @@
+pub mod Graph
+pub mod Reach
+pub mod Domains
+pub mod Commands
+pub mod Entries
+pub mod History
+pub mod Output
+pub mod WellFormed
+pub mod Marked

@@ -1,0 +1,12 @@
+-- What a collector may have marked: any closed set that holds the roots and the registrations that it leaves waiting.
+use Rattle.std.specs.Prelude.{Bool, List}
+use Rattle.heap_model.specs.declared.label.Label.{Label}
+use Rattle.heap_model.specs.declared.state.Pending.{Pending}
+use Rattle.heap_model.specs.declared.state.State.{State}
+use Rattle.heap_model.specs.Domains.{roots, waiting}
+use Rattle.heap_model.specs.Reach.{HoldsRoots, IsClosedUnder}
+
+pub record IsMarked (s : State) (qs : List (List Pending)) (marked : Label → Bool) : Type 0 where
+  pub roots : HoldsRoots (roots s qs) marked
+  pub waiting : HoldsRoots (waiting s) marked
+  pub closed : IsClosedUnder s.graph marked

@@ -1,0 +1,13 @@
+//! The object graph of the heap, the entries of its history, and a slow heap that follows them.
+#![tactic(auto)]
+
+pub mod command;
+pub mod entry;
+mod ephemerons;
+pub mod graph;
+pub mod label;
+mod reach;
+pub mod reply;
+pub mod sequence;
+pub mod slow_heap;
+pub mod state;
