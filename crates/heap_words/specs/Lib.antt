@@ -1,0 +1,6 @@
+pub mod ColourWords
+pub mod Heads
+pub mod Labels
+pub mod Marks
+pub mod Unpacked
+pub mod Values

@@ -1,0 +1,17 @@
+//! The words of the heap: values, block heads, colours and labels, each packed into 64 bits.
+//!
+//! A word is read back by the matching `unpack` call, which answers `None` where nothing packs to it.
+#![tactic(auto)]
+
+mod colours;
+mod head;
+mod label;
+mod value;
+
+pub use colours::{Colours, pack_colours, rotate, unpack_colours};
+pub use head::{Head, pack_head, unpack_head};
+pub use label::{pack_label, unpack_label};
+pub use value::{Value, pack_value, unpack_value};
+
+#[cfg(test)]
+mod tests;
