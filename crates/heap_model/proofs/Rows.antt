@@ -19,40 +19,40 @@ run c = CommandOf 0 c false
 abbrev block : ℕ → Label
 block n = record { domain = 0; serial = n }
 
--- alloc 1 0 2, int 2 7, store 1 0 2, load 3 1 0
-abbrev row_1 : List Entry
-row_1 = map run (Alloc 1 0 2 ∷ PutInt 2 (pos 7) ∷ Store 1 0 2 ∷ Load 3 1 0 ∷ []) ++ End 0 ∷ []
+-- a plain path: alloc 1 0 2, int 2 7, store 1 0 2, load 3 1 0
+abbrev plain_path : List Entry
+plain_path = map run (Alloc 1 0 2 ∷ PutInt 2 (pos 7) ∷ Store 1 0 2 ∷ Load 3 1 0 ∷ []) ++ End 0 ∷ []
 
-row_1_replies : replies sizes row_1 0 ≡ Block (block 1) ∷ Ok ∷ Ok ∷ Int (pos 7) ∷ []
-row_1_replies = refl
+plain_path_replies : replies sizes plain_path 0 ≡ Block (block 1) ∷ Ok ∷ Ok ∷ Int (pos 7) ∷ []
+plain_path_replies = refl
 
-row_1_legal : Legal sizes row_1
-row_1_legal = search rules
+plain_path_legal : Legal sizes plain_path
+plain_path_legal = search rules
 
--- int 1 5, load 2 1 0, load 2 0 16, load 2 0 15, store 0 0 9
-abbrev row_3 : List Entry
-row_3 = map run (PutInt 1 (pos 5) ∷ Load 2 1 0 ∷ Load 2 0 16 ∷ Load 2 0 15 ∷ Store 0 0 9 ∷ []) ++ End 0 ∷ []
+-- refusals: int 1 5, load 2 1 0, load 2 0 16, load 2 0 15, store 0 0 9
+abbrev type_and_bounds : List Entry
+type_and_bounds = map run (PutInt 1 (pos 5) ∷ Load 2 1 0 ∷ Load 2 0 16 ∷ Load 2 0 15 ∷ Store 0 0 9 ∷ []) ++ End 0 ∷ []
 
-row_3_replies : replies sizes row_3 0 ≡ Ok ∷ BadType ∷ BadIndex ∷ Int (pos 0) ∷ BadType ∷ []
-row_3_replies = refl
+type_and_bounds_replies : replies sizes type_and_bounds 0 ≡ Ok ∷ BadType ∷ BadIndex ∷ Int (pos 0) ∷ BadType ∷ []
+type_and_bounds_replies = refl
 
 -- the data of an ephemeron reaches its own key
-abbrev row_11 : List Entry
-row_11 =
+abbrev data_reaches_key : List Entry
+data_reaches_key =
     map run (Alloc 1 0 1 ∷ Alloc 2 0 1 ∷ Store 2 0 1 ∷ NewEphe 3 1 ∷ SetKey 3 0 1 ∷ SetData 3 2 ∷ Forget 1 ∷ Forget 2 ∷ [])
     ++ Cut ∷ Seal ∷ Wipe (block 3) (0 ∷ []) ∷ Collected ∷ run FullMajor ∷ Done ∷ run (CheckKey 3 0) ∷ run (CheckData 3) ∷ End 0 ∷ []
 
-row_11_replies : replies sizes row_11 0 ≡ Block (block 1) ∷ Block (block 2) ∷ Ok ∷ Block (block 3) ∷ Ok ∷ Ok ∷ Ok ∷ Ok ∷ Live 2 22 ∷ No ∷ No ∷ []
+data_reaches_key_replies : replies sizes data_reaches_key 0 ≡ Block (block 1) ∷ Block (block 2) ∷ Ok ∷ Block (block 3) ∷ Ok ∷ Ok ∷ Ok ∷ Ok ∷ Live 2 22 ∷ No ∷ No ∷ []
 unfolding reachable
-row_11_replies = refl
+data_reaches_key_replies = refl
 
-row_11_legal : Legal sizes row_11
+data_reaches_key_legal : Legal sizes data_reaches_key
 unfolding reachable
-row_11_legal = search rules
+data_reaches_key_legal = search rules
 
 -- the same with no wipe is not legal
-abbrev row_11_unwiped : List Entry
-row_11_unwiped =
+abbrev dead_key_left : List Entry
+dead_key_left =
     map run (Alloc 1 0 1 ∷ Alloc 2 0 1 ∷ Store 2 0 1 ∷ NewEphe 3 1 ∷ SetKey 3 0 1 ∷ SetData 3 2 ∷ Forget 1 ∷ Forget 2 ∷ [])
     ++ Cut ∷ Seal ∷ Collected ∷ []
 
@@ -61,75 +61,75 @@ abbrev full_major : List Entry → List Entry → List Entry
 full_major queued lasts = Cut ∷ queued ++ Seal ∷ lasts ++ Collected ∷ run FullMajor ∷ Done ∷ []
 
 -- alloc 1 0 1, finalise 1 5 2, finalise_last 1 6, drop 1, full_major, full_major, drop 2, full_major
-abbrev row_14 : List Entry
-row_14 =
+abbrev both_finalisers : List Entry
+both_finalisers =
     map run (Alloc 1 0 1 ∷ Finalise 1 5 2 ∷ FinaliseLast 1 6 ∷ Forget 1 ∷ [])
     ++ full_major (Queue 0 (0 ∷ []) ∷ []) [] ++ Ran 0 ∷ full_major [] [] ++ run (Forget 2) ∷ full_major [] (Last 0 0 ∷ []) ++ Ran 0 ∷ End 0 ∷ []
 
-row_14_replies : replies sizes row_14 0 ≡ Block (block 1) ∷ Ok ∷ Ok ∷ Ok ∷ Live 2 21 ∷ Fin 5 (block 1) ∷ Live 2 21 ∷ Ok ∷ Live 1 18 ∷ LastReply 6 ∷ []
+both_finalisers_replies : replies sizes both_finalisers 0 ≡ Block (block 1) ∷ Ok ∷ Ok ∷ Ok ∷ Live 2 21 ∷ Fin 5 (block 1) ∷ Live 2 21 ∷ Ok ∷ Live 1 18 ∷ LastReply 6 ∷ []
 unfolding reachable
-row_14_replies = refl
+both_finalisers_replies = refl
 
-row_14_legal : Legal sizes row_14
+both_finalisers_legal : Legal sizes both_finalisers
 unfolding reachable
-row_14_legal = search rules
+both_finalisers_legal = search rules
 
 -- alloc 1 0 1, finalise 1 1 2, finalise 1 2 2, finalise 1 3 2, drop 1, full_major
-abbrev row_15 : List Entry
-row_15 =
+abbrev registered_thrice : List Entry
+registered_thrice =
     map run (Alloc 1 0 1 ∷ Finalise 1 1 2 ∷ Finalise 1 2 2 ∷ Finalise 1 3 2 ∷ Forget 1 ∷ [])
     ++ full_major (Queue 0 (0 ∷ 1 ∷ 2 ∷ []) ∷ []) [] ++ Ran 0 ∷ Ran 0 ∷ Ran 0 ∷ End 0 ∷ []
 
-row_15_replies : replies sizes row_15 0 ≡ Block (block 1) ∷ Ok ∷ Ok ∷ Ok ∷ Ok ∷ Live 2 21 ∷ Fin 3 (block 1) ∷ Fin 2 (block 1) ∷ Fin 1 (block 1) ∷ []
+registered_thrice_replies : replies sizes registered_thrice 0 ≡ Block (block 1) ∷ Ok ∷ Ok ∷ Ok ∷ Ok ∷ Live 2 21 ∷ Fin 3 (block 1) ∷ Fin 2 (block 1) ∷ Fin 1 (block 1) ∷ []
 unfolding reachable
-row_15_replies = refl
+registered_thrice_replies = refl
 
-row_15_legal : Legal sizes row_15
+registered_thrice_legal : Legal sizes registered_thrice
 unfolding reachable
-row_15_legal = search rules
+registered_thrice_legal = search rules
 
 -- one of three registrations of one value doesn't go alone: the history is legal up to its last entry, Seal
-abbrev row_15_queued : List ℕ → List Entry
-row_15_queued places =
+abbrev thrice_queued : List ℕ → List Entry
+thrice_queued places =
     map run (Alloc 1 0 1 ∷ Finalise 1 1 2 ∷ Finalise 1 2 2 ∷ Finalise 1 3 2 ∷ Forget 1 ∷ []) ++ Cut ∷ Queue 0 places ∷ []
 
-row_15_alone_until : Legal sizes (row_15_queued (1 ∷ []))
+registered_thrice_alone_until : Legal sizes (thrice_queued (1 ∷ []))
 unfolding reachable
-row_15_alone_until = search rules
+registered_thrice_alone_until = search rules
 
-row_15_alone_illegal : Legal sizes (row_15_queued (1 ∷ []) ++ Seal ∷ []) → ⊥
+registered_thrice_alone_illegal : Legal sizes (thrice_queued (1 ∷ []) ++ Seal ∷ []) → ⊥
 unfolding reachable
-row_15_alone_illegal h = let apart : false ≡ true = h.1.1.1.1.1.1.1.0.apart in cc
+registered_thrice_alone_illegal h = let apart : false ≡ true = h.1.1.1.1.1.1.1.0.apart in cc
 
 -- nor does any other part of them
-row_15_first_illegal : Legal sizes (row_15_queued (0 ∷ []) ++ Seal ∷ []) → ⊥
+registered_thrice_first_illegal : Legal sizes (thrice_queued (0 ∷ []) ++ Seal ∷ []) → ⊥
 unfolding reachable
-row_15_first_illegal h = let apart : false ≡ true = h.1.1.1.1.1.1.1.0.apart in cc
+registered_thrice_first_illegal h = let apart : false ≡ true = h.1.1.1.1.1.1.1.0.apart in cc
 
-row_15_third_illegal : Legal sizes (row_15_queued (2 ∷ []) ++ Seal ∷ []) → ⊥
+registered_thrice_third_illegal : Legal sizes (thrice_queued (2 ∷ []) ++ Seal ∷ []) → ⊥
 unfolding reachable
-row_15_third_illegal h = let apart : false ≡ true = h.1.1.1.1.1.1.1.0.apart in cc
+registered_thrice_third_illegal h = let apart : false ≡ true = h.1.1.1.1.1.1.1.0.apart in cc
 
-row_15_last_two_illegal : Legal sizes (row_15_queued (1 ∷ 2 ∷ []) ++ Seal ∷ []) → ⊥
+registered_thrice_last_two_illegal : Legal sizes (thrice_queued (1 ∷ 2 ∷ []) ++ Seal ∷ []) → ⊥
 unfolding reachable
-row_15_last_two_illegal h = let apart : false ≡ true = h.1.1.1.1.1.1.1.0.apart in cc
+registered_thrice_last_two_illegal h = let apart : false ≡ true = h.1.1.1.1.1.1.1.0.apart in cc
 
 -- and a complete collection leaves none of them
-row_15_none_illegal : Legal sizes (map run (Alloc 1 0 1 ∷ Finalise 1 1 2 ∷ Finalise 1 2 2 ∷ Finalise 1 3 2 ∷ Forget 1 ∷ []) ++ Cut ∷ Seal ∷ Collected ∷ []) → ⊥
+registered_thrice_none_illegal : Legal sizes (map run (Alloc 1 0 1 ∷ Finalise 1 1 2 ∷ Finalise 1 2 2 ∷ Finalise 1 3 2 ∷ Forget 1 ∷ []) ++ Cut ∷ Seal ∷ Collected ∷ []) → ⊥
 unfolding reachable
-row_15_none_illegal h = let reached : false ≡ true = h.1.1.1.1.1.1.1.0.finals in cc
+registered_thrice_none_illegal h = let reached : false ≡ true = h.1.1.1.1.1.1.1.0.finals in cc
 
 -- `full_major` doesn't come between two of them
-abbrev row_15_between : List Entry
-row_15_between = row_15_queued (0 ∷ 1 ∷ 2 ∷ []) ++ Seal ∷ Done ∷ Ran 0 ∷ Ran 0 ∷ Cut ∷ Seal ∷ Collected ∷ []
+abbrev thrice_between : List Entry
+thrice_between = thrice_queued (0 ∷ 1 ∷ 2 ∷ []) ++ Seal ∷ Done ∷ Ran 0 ∷ Ran 0 ∷ Cut ∷ Seal ∷ Collected ∷ []
 
-row_15_between_until : Legal sizes row_15_between
+thrice_between_until : Legal sizes thrice_between
 unfolding reachable
-row_15_between_until = search rules
+thrice_between_until = search rules
 
-row_15_between_illegal : Legal sizes (row_15_between ++ run FullMajor ∷ []) → ⊥
+thrice_between_illegal : Legal sizes (thrice_between ++ run FullMajor ∷ []) → ⊥
 unfolding reachable
-row_15_between_illegal h = let none_due : ◌≡◌ {A = ℕ} 1 0 = h.1.1.1.1.1.1.1.1.1.1.1.1.1.1.0.fits.1 in omega arith
+thrice_between_illegal h = let none_due : ◌≡◌ {A = ℕ} 1 0 = h.1.1.1.1.1.1.1.1.1.1.1.1.1.1.0.fits.1 in omega arith
 
 -- a key doesn't go from one ephemeron alone
 abbrev two_ephemerons : List Entry
@@ -161,30 +161,30 @@ unfolding reachable
 two_lasts_illegal h = let apart : false ≡ true = h.1.1.1.1.1.1.1.0.apart in cc
 
 -- `finalise_last` of a value doesn't come before its `finalise`
-abbrev row_14_sealed : List Entry
-row_14_sealed = map run (Alloc 1 0 1 ∷ Finalise 1 5 2 ∷ FinaliseLast 1 6 ∷ Forget 1 ∷ []) ++ Cut ∷ Seal ∷ []
+abbrev both_sealed : List Entry
+both_sealed = map run (Alloc 1 0 1 ∷ Finalise 1 5 2 ∷ FinaliseLast 1 6 ∷ Forget 1 ∷ []) ++ Cut ∷ Seal ∷ []
 
-row_14_sealed_legal : Legal sizes row_14_sealed
+both_sealed_legal : Legal sizes both_sealed
 unfolding reachable
-row_14_sealed_legal = search rules
+both_sealed_legal = search rules
 
-row_14_last_first_illegal : Legal sizes (row_14_sealed ++ Last 0 0 ∷ []) → ⊥
+last_before_final_illegal : Legal sizes (both_sealed ++ Last 0 0 ∷ []) → ⊥
 unfolding reachable
-row_14_last_first_illegal h = let gone : false ≡ true = h.1.1.1.1.1.1.0.dead in cc
+last_before_final_illegal h = let gone : false ≡ true = h.1.1.1.1.1.1.0.dead in cc
 
 -- a second `full_major` doesn't come before the finaliser that the first one queued
-abbrev row_14_collected_again : List Entry
-row_14_collected_again =
+abbrev collected_again : List Entry
+collected_again =
     map run (Alloc 1 0 1 ∷ Finalise 1 5 2 ∷ FinaliseLast 1 6 ∷ Forget 1 ∷ [])
     ++ full_major (Queue 0 (0 ∷ []) ∷ []) [] ++ Cut ∷ Seal ∷ Collected ∷ []
 
-row_14_collected_again_legal : Legal sizes row_14_collected_again
+collected_again_legal : Legal sizes collected_again
 unfolding reachable
-row_14_collected_again_legal = search rules
+collected_again_legal = search rules
 
-row_14_twice_illegal : Legal sizes (row_14_collected_again ++ run FullMajor ∷ []) → ⊥
+collected_again_answer_illegal : Legal sizes (collected_again ++ run FullMajor ∷ []) → ⊥
 unfolding reachable
-row_14_twice_illegal h = let none_due : ◌≡◌ {A = ℕ} 1 0 = h.1.1.1.1.1.1.1.1.1.1.1.1.1.0.fits.1 in omega arith
+collected_again_answer_illegal h = let none_due : ◌≡◌ {A = ℕ} 1 0 = h.1.1.1.1.1.1.1.1.1.1.1.1.1.0.fits.1 in omega arith
 
 -- a key stays whose value a waiting registration still holds
 abbrev key_waits : List Entry
@@ -199,38 +199,65 @@ unfolding reachable
 key_waits_illegal h = let gone : false ≡ true = h.1.1.1.1.1.1.1.0.dead in cc
 
 -- alloc 1 0 1, ephe 2 1, set_key 2 0 1, finalise_last 1 4, drop 1, full_major, check_key 2 0
-abbrev row_last_key : List Entry
-row_last_key =
+abbrev last_and_key : List Entry
+last_and_key =
     map run (Alloc 1 0 1 ∷ NewEphe 2 1 ∷ SetKey 2 0 1 ∷ FinaliseLast 1 4 ∷ Forget 1 ∷ [])
     ++ full_major [] (Wipe (block 2) (0 ∷ []) ∷ Last 0 0 ∷ []) ++ Ran 0 ∷ run (CheckKey 2 0) ∷ End 0 ∷ []
 
-row_last_key_replies : replies sizes row_last_key 0 ≡ Block (block 1) ∷ Block (block 2) ∷ Ok ∷ Ok ∷ Ok ∷ Live 2 22 ∷ LastReply 4 ∷ No ∷ []
+last_and_key_replies : replies sizes last_and_key 0 ≡ Block (block 1) ∷ Block (block 2) ∷ Ok ∷ Ok ∷ Ok ∷ Live 2 22 ∷ LastReply 4 ∷ No ∷ []
 unfolding reachable
-row_last_key_replies = refl
+last_and_key_replies = refl
 
-row_last_key_legal : Legal sizes row_last_key
+last_and_key_legal : Legal sizes last_and_key
 unfolding reachable
-row_last_key_legal = search rules
+last_and_key_legal = search rules
 
-row_11_unwiped_illegal : Legal sizes row_11_unwiped → ⊥
+dead_key_left_illegal : Legal sizes dead_key_left → ⊥
 unfolding reachable
-row_11_unwiped_illegal h = let alive : false ≡ true = h.1.1.1.1.1.1.1.1.1.1.0.keys in cc
+dead_key_left_illegal h = let alive : false ≡ true = h.1.1.1.1.1.1.1.1.1.1.0.keys in cc
 
 -- a chain of ephemerons in the worst order
-abbrev row_12 : List Entry
-row_12 =
+abbrev chain_of_ephemerons : List Entry
+chain_of_ephemerons =
     map run (Alloc 1 0 1 ∷ Alloc 2 0 1 ∷ Alloc 3 0 1 ∷ Alloc 4 0 1 ∷ NewEphe 5 1 ∷ NewEphe 6 1 ∷ NewEphe 7 1
     ∷ SetKey 5 0 3 ∷ SetData 5 4 ∷ SetKey 6 0 2 ∷ SetData 6 3 ∷ SetKey 7 0 1 ∷ SetData 7 2 ∷ Forget 2 ∷ Forget 3 ∷ Forget 4 ∷ [])
     ++ full_major [] [] ++ map run (CheckData 5 ∷ Forget 1 ∷ [])
     ++ full_major [] (Wipe (block 5) (0 ∷ []) ∷ Wipe (block 6) (0 ∷ []) ∷ Wipe (block 7) (0 ∷ []) ∷ [])
     ++ map run (CheckKey 5 0 ∷ CheckData 5 ∷ []) ++ End 0 ∷ []
 
-row_12_replies : replies sizes row_12 0
+chain_of_ephemerons_replies : replies sizes chain_of_ephemerons 0
     ≡ Block (block 1) ∷ Block (block 2) ∷ Block (block 3) ∷ Block (block 4) ∷ Block (block 5) ∷ Block (block 6) ∷ Block (block 7)
     ∷ Ok ∷ Ok ∷ Ok ∷ Ok ∷ Ok ∷ Ok ∷ Ok ∷ Ok ∷ Ok ∷ Live 8 42 ∷ Yes ∷ Ok ∷ Live 4 30 ∷ No ∷ No ∷ []
 unfolding reachable
-row_12_replies = refl
+chain_of_ephemerons_replies = refl
 
-row_12_legal : Legal sizes row_12
+chain_of_ephemerons_legal : Legal sizes chain_of_ephemerons
 unfolding reachable
-row_12_legal = search rules
+chain_of_ephemerons_legal = search rules
+
+-- one of two keys dies: the ephemeron loses that key and its data, and keeps the other key
+abbrev one_key_dies : List Entry
+one_key_dies =
+    map run (Alloc 1 0 1 ∷ Alloc 2 0 1 ∷ PutInt 3 (pos 7) ∷ NewEphe 4 2 ∷ SetKey 4 0 1 ∷ SetKey 4 1 2 ∷ SetData 4 3 ∷ Forget 1 ∷ [])
+    ++ full_major [] (Wipe (block 3) (0 ∷ []) ∷ []) ++ map run (CheckKey 4 0 ∷ CheckKey 4 1 ∷ CheckData 4 ∷ []) ++ End 0 ∷ []
+
+one_key_dies_replies : replies sizes one_key_dies 0
+    ≡ Block (block 1) ∷ Block (block 2) ∷ Ok ∷ Block (block 3) ∷ Ok ∷ Ok ∷ Ok ∷ Ok ∷ Live 3 26 ∷ No ∷ Yes ∷ No ∷ []
+unfolding reachable
+one_key_dies_replies = refl
+
+one_key_dies_legal : Legal sizes one_key_dies
+unfolding reachable
+one_key_dies_legal = search rules
+
+-- the key that lives isn't emptied with it
+abbrev both_keys_wiped : List Entry
+both_keys_wiped =
+    map run (Alloc 1 0 1 ∷ Alloc 2 0 1 ∷ PutInt 3 (pos 7) ∷ NewEphe 4 2 ∷ SetKey 4 0 1 ∷ SetKey 4 1 2 ∷ SetData 4 3 ∷ Forget 1 ∷ []) ++ Cut ∷ Seal ∷ Wipe (block 3) (0 ∷ 1 ∷ []) ∷ []
+
+both_keys_wiped_illegal : Legal sizes both_keys_wiped → ⊥
+unfolding reachable
+both_keys_wiped_illegal h = let dead : false ≡ true = h.1.1.1.1.1.1.1.1.1.1.0.dead in cc
+
+type_and_bounds_legal : Legal sizes type_and_bounds
+type_and_bounds_legal = search rules

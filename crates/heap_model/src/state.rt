@@ -49,7 +49,7 @@ pub struct DomainState {
     pub finals: Sequence<Finaliser>,
     pub lasts: Sequence<LastFinaliser>,
     pub queue: Sequence<Pending>,
-    pub low: u32,
+    pub low: u64,
     pub fresh: bool,
     pub due: u64,
 }
