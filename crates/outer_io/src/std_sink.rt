@@ -1,0 +1,45 @@
+//! Any writer of std as a sink.
+ghost use Rattle.std.specs.Prelude.{◌≡◌};
+
+use crate::{Failed, Sink};
+use std::io::Write;
+
+/// A writer with a count of its errors; a write that takes nothing of a piece that isn't empty is one of them.
+/// Over memory it tells its bytes, over standard output nothing.
+#[derive(Drop)]
+pub struct StdSink<W> {
+    inner: W,
+    faults: u64,
+}
+
+impl<W: Write> StdSink<W> {
+    ghost use Rattle.outer_io.specs.Adapters.{writer_of, write_faults};
+
+    /// The writer, which hasn't failed yet.
+    pub fn make(inner: W) -> Self
+        ensures writer { writer_of result ≡ inner }
+        ensures faults { write_faults result ≡ 0 }
+    {
+        StdSink { inner, faults: 0 }
+    }
+}
+
+impl<W: Write> Sink for StdSink<W> {
+    ghost written = { λ s. W.contents s.inner };
+
+    ghost faults = { λ s. s.faults };
+
+    fn write(&mut self, piece: &[u8]) -> Result<usize, Failed> {
+        match self.inner.write(piece) {
+            Ok(0) if !piece.is_empty() => {
+                self.faults = self.faults.saturating_add(1);
+                Err(Failed)
+            }
+            Ok(count) => Ok(count),
+            Err(_) => {
+                self.faults = self.faults.saturating_add(1);
+                Err(Failed)
+            }
+        }
+    }
+}
