@@ -1,0 +1,4 @@
+pub mod NumberLemmas
+pub mod ReadLemmas
+pub mod RowLemmas
+pub mod WalkLemmas

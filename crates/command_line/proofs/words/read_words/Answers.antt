@@ -1,0 +1,9 @@
+use Rattle.std.proofs.Common.{rules, map}
+use Rattle.std.specs.Prelude.{string_bytes}
+use Rattle.command_line.proofs.ReadLemmas.{IsReadIn, sizes_found}
+use Rattle.command_line.proofs.words.read_words.Goals as goal
+
+pub returns-in-Ok : goal.returns-in-Ok
+returns-in-Ok c =
+    let g : IsReadIn c.in-Ok.matches c.given_in.result = record { domains = c.given_in.ensures.domains; minor = c.given_in.ensures.minor; pools = c.given_in.ensures.pools } in
+    rw c.sizes.ensures (sizes_found (map string_bytes c.args.words.now) _ c.given_in.result (rw c.behind_first.ensures at c.in-Ok.ensures) g (search rules))

@@ -1,0 +1,64 @@
+//! The options of `run`, and what they give.
+ghost use Rattle.std.specs.Prelude.{◌≡◌, Option};
+ghost use Rattle.command_line.specs.Options.{given_at, setting_named, with_number};
+
+// An option of `run`.
+#[derive(Clone, Copy, Debug, PartialEq, Eq)]
+pub enum Setting {
+    Domains,
+    Minor,
+    Pools,
+}
+
+// The numbers that the words gave so far.
+#[derive(Clone, Copy, Debug, PartialEq, Eq)]
+pub struct Given {
+    pub domains: Option<u32>,
+    pub minor: Option<u32>,
+    pub pools: Option<u32>,
+}
+
+// What was read of the words: the numbers, and the option whose number comes next.
+#[derive(Clone, Copy, Debug, PartialEq, Eq)]
+pub struct Read {
+    pub given: Given,
+    pub waiting: Option<Setting>,
+}
+
+// The option with this name.
+pub(crate) fn named_setting(name: &str) -> Option<Setting>
+    ensures { result ≡ setting_named name.now }
+{
+    match name {
+        "domains" => Some(Setting::Domains),
+        "minor" => Some(Setting::Minor),
+        "pools" => Some(Setting::Pools),
+        _ => None,
+    }
+}
+
+impl Given {
+    // The number that an option was given.
+    pub(crate) fn number(&self, setting: Setting) -> Option<u32>
+        ensures { result ≡ given_at self.now setting }
+    {
+        match setting {
+            Setting::Domains => self.domains,
+            Setting::Minor => self.minor,
+            Setting::Pools => self.pools,
+        }
+    }
+
+    // The same with one more number.
+    pub(crate) fn with(self, setting: Setting, number: u32) -> Given
+        ensures { result ≡ with_number self setting number }
+    {
+        let mut given = self;
+        match setting {
+            Setting::Domains => given.domains = Some(number),
+            Setting::Minor => given.minor = Some(number),
+            Setting::Pools => given.pools = Some(number),
+        }
+        given
+    }
+}
