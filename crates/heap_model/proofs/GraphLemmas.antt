@@ -1,5 +1,6 @@
 -- A scan of the graph finds the node of a label, and the place at which to write another.
 use Rattle.std.proofs.Common.{◌≡◌, ℕ, zero, suc, ◌<◌, Bool, true, false, cond, ◌&&◌, eqb, [], ◌∷◌, ◌++◌, length, get_or, Some, None, refl, ap, sym, ◌∙◌, arith, eq-eqb, eqb-true}
+use Rattle.std.proofs.lemmas.Option.{get_or_from_slice_get}
 use Rattle.heap_model.specs.declared.label.Label.{Label}
 use Rattle.heap_model.specs.declared.graph.Node.{Node}
 use Rattle.heap_model.specs.Graph.{Graph, same_label, labels, node_at, with_node, IsPlaceOf}
@@ -107,3 +108,9 @@ labels-with_node (e ∷ g) l n =
       | true ↦ refl
       | false ↦ ap (λ t. e.0 ∷ t) (labels-with_node g l n)
     ]
+
+-- the block at a label's place is the label's
+pub place_node : (g : Graph) (l : Label) (i : ℕ) (x : Label × Node) → IsPlaceOf g l i → x ≡ get_or g i x → node_at g l ≡ Some x.1
+place_node g l i x place here =
+    let same : ◌≡◌ {A = Label × Node} (l, place.node) x = sym (get_or_from_slice_get g i _ x place.stands) ∙ sym here in
+    place.found ∙ ap (λ (e : Label × Node). Some e.1) same

@@ -4,7 +4,7 @@ use Rattle.std.specs.List.{list_any, list_all}
 use Rattle.std.specs.Option.{option_map_or}
 use Rattle.heap_model.specs.declared.label.Label.{Label}
 use Rattle.heap_model.specs.declared.command.Command as declared_command
-use Rattle.heap_model.specs.declared.command.Command.TheVariants.{PutInt, Alloc, Load, Store}
+use Rattle.heap_model.specs.declared.command.Command.TheVariants.{Alloc, AllocMaj, Ephe as NewEphe}
 use Rattle.heap_model.specs.declared.entry.Entry.{Entry}
 use Rattle.heap_model.specs.declared.entry.Entry.TheVariants.{Command, End, Cut, Queue, Seal, Wipe, Last, Collected, Done, Ran}
 use Rattle.heap_model.specs.declared.reply.Reply.TheVariants.{Fin as FinReply, Last as LastReply}
@@ -44,9 +44,14 @@ is_dead s qs l = not (is_reachable_with s qs l)
 abbrev pub is_gone : State → List (List Pending) → Label → Bool
 is_gone s qs l = not (has_label (settled_reach s qs) l)
 
+-- the labels of a queue that stand beyond what it held before
+abbrev pub queued_after : List Pending → Option (List Pending) → List Label
+queued_after queue (Some before) = filter_map pending_label (drop (length before) queue)
+queued_after queue None = []
+
 -- the labels of these queues that stand beyond what each of them held before
 abbrev pub queued_beyond : List (List Pending) → List (List Pending) → List Label
-queued_beyond (queue ∷ qs) (before ∷ olds) = filter_map pending_label (drop (length before) queue) ++ queued_beyond qs olds
+queued_beyond (queue ∷ qs) (before ∷ olds) = queued_after queue (Some before) ++ queued_beyond qs olds
 queued_beyond (queue ∷ qs) [] = []
 queued_beyond [] olds = []
 
@@ -98,12 +103,15 @@ pub record SealAllowed (s : State) : Type 0 where
   pub mode : s.mode ≡ CutMode
   pub apart : IsTrue (list_all (is_gone s s.cut) (queued_beyond (queues s) s.cut))
 
+-- whether these places of an ephemeron hold full keys that pass a test
+abbrev pub has_keys : (Label → Bool) → List ℕ → Option Node → Bool
+has_keys test places (Some (Ephe keys datum)) = list_all (λ p. is_some_and (is_some_and test) (slice_get keys p)) places
+has_keys test places (Some (Plain tag fields)) = false
+has_keys test places None = false
+
 -- whether these places of an ephemeron hold full keys that are gone
 abbrev pub has_dead_keys : State → List ℕ → Option Node → Bool
-has_dead_keys s places (Some (Ephe keys datum)) =
-    list_all (λ p. is_some_and (is_some_and (is_gone s (queues s))) (slice_get keys p)) places
-has_dead_keys s places (Some (Plain tag fields)) = false
-has_dead_keys s places None = false
+has_dead_keys s places n = has_keys (is_gone s (queues s)) places n
 
 -- Wipe: full keys of an ephemeron that are gone
 pub record WipeAllowed (s : State) (l : Label) (places : List ℕ) : Type 0 where
@@ -117,11 +125,15 @@ pub record LastAllowed (s : State) (d place : ℕ) : Type 0 where
   pub below : place < (domain_at s d).low
   pub dead : IsTrue (is_some_and (λ f. is_gone s (queues s) f.label && is_let_go s f.label) (slice_get (domain_at s d).lasts place))
 
+-- whether each full key of an ephemeron passes a test
+abbrev pub keys_are_live : (Label → Bool) → Option Node → Bool
+keys_are_live alive (Some (Ephe keys datum)) = list_all (key_holds alive) keys
+keys_are_live alive (Some (Plain tag fields)) = true
+keys_are_live alive None = true
+
 -- whether each full key of an ephemeron is reachable
 abbrev pub has_live_keys : State → Option Node → Bool
-has_live_keys s (Some (Ephe keys datum)) = list_all (key_holds (has_label (reach s))) keys
-has_live_keys s (Some (Plain tag fields)) = true
-has_live_keys s None = true
+has_live_keys s n = keys_are_live (has_label (reach s)) n
 
 -- Collected: nothing that is permitted is left, and no registration waits that could have been queued
 pub record CollectedAllowed (s : State) : Type 0 where
@@ -179,6 +191,17 @@ Allowed s (Ran d) = RanAllowed s d
 -- the state in another mode, with each domain changed
 abbrev pub in_mode : State → Mode → (DomainState → DomainState) → State
 in_mode s m f = record s { mode = m; domains = map f s.domains }
+
+-- the domain all of whose registrations of `finalise`, or of `finalise_last`, may be queued
+abbrev pub with_finals_open : DomainState → DomainState
+with_finals_open x = record x { low = length x.finals }
+
+abbrev pub with_lasts_open : DomainState → DomainState
+with_lasts_open x = record x { low = length x.lasts }
+
+-- the domain that has made no entry since a complete collection
+abbrev pub freshened : DomainState → DomainState
+freshened x = record x { fresh = true }
 
 -- the state after a domain's end
 abbrev pub ended : DomainState → DomainState
@@ -246,12 +269,12 @@ command_reply s d c full = Replied (command_outcome s d c full).reply
 abbrev pub next : State → Entry → State
 next s (Command d c full) = command_next s d c full
 next s (End d) = with_domain s d (ended (domain_at s d))
-next s Cut = record (in_mode s CutMode (λ x. record x { low = length x.finals })) { cut = queues s }
+next s Cut = record (in_mode s CutMode with_finals_open) { cut = queues s }
 next s (Queue d places) = with_domain s d (with_queued (domain_at s d) places)
-next s Seal = record (in_mode s Sealed (λ x. record x { low = length x.lasts })) { taken = [] }
+next s Seal = record (in_mode s Sealed with_lasts_open) { taken = [] }
 next s (Wipe l keys) = with_taken (with_wiped s l (wiped keys (node_at s.graph l))) (keys_at keys (node_at s.graph l))
 next s (Last d place) = with_taken (with_domain s d (with_last_queued (domain_at s d) place)) (map (λ f. f.label) (at_places (place ∷ []) (domain_at s d).lasts))
-next s Collected = record (in_mode s Answer (λ x. record x { fresh = true })) { kept = length (reach s) }
+next s Collected = record (in_mode s Answer freshened) { kept = length (reach s) }
 next s Done = record s { mode = Open }
 next s (Ran d) = after_run s d (domain_at s d).queue
 
@@ -261,16 +284,18 @@ reply s (Command d c full) = command_reply s d c full
 reply s (Ran d) = run_reply (domain_at s d).queue
 reply s _ = Silent
 
--- the numbers of a command that a slow heap is given so far
-abbrev pub IsTriedCommand : State → ℕ → declared_command.Command → Type 0
-IsTriedCommand s d (PutInt dst value) = dst < 16
-IsTriedCommand s d (Alloc dst tag fields) = (dst < 16) × ((domain_at s d).serial < 2 ^ 32 - 1)
-IsTriedCommand s d (Load dst src index) = (dst < 16) × (src < 16)
-IsTriedCommand s d (Store block index item) = (block < 16) × (item < 16)
-IsTriedCommand s d _ = ⊥
+-- the domain's next serial fits 32 bits, where a command allocates
+abbrev pub HasNextSerial : State → ℕ → declared_command.Command → Type 0
+HasNextSerial s d (Alloc dst tag fields) = (domain_at s d).serial < 2 ^ 32 - 1
+HasNextSerial s d (AllocMaj dst tag fields) = (domain_at s d).serial < 2 ^ 32 - 1
+HasNextSerial s d (NewEphe dst keys) = (domain_at s d).serial < 2 ^ 32 - 1
+HasNextSerial s d _ = Unit {0}
 
--- the entries that a slow heap is given so far
-abbrev pub IsTried : State → Entry → Type 0
-IsTried s (Command d c full) = (d < s.sizes.domains) × IsTriedCommand s d c
-IsTried s (End d) = d < s.sizes.domains
-IsTried s _ = ⊥
+-- an entry that names a domain names one of the heap's, and an allocation finds a serial
+abbrev pub IsInRange : State → Entry → Type 0
+IsInRange s (Command d c full) = (d < s.sizes.domains) × HasNextSerial s d c
+IsInRange s (End d) = d < s.sizes.domains
+IsInRange s (Queue d places) = d < s.sizes.domains
+IsInRange s (Last d place) = d < s.sizes.domains
+IsInRange s (Ran d) = d < s.sizes.domains
+IsInRange s _ = Unit {0}

@@ -6,7 +6,7 @@ use Rattle.heap_model.specs.declared.graph.Node.TheVariants.{Plain, Ephe}
 use Rattle.heap_model.specs.declared.state.DomainState.{DomainState}
 use Rattle.heap_model.specs.declared.state.State.{State}
 use Rattle.heap_model.specs.Graph.{Graph, labels, has_label, label_of, node_at}
-use Rattle.heap_model.specs.Domains.{domain_at, pending_label}
+use Rattle.heap_model.specs.Domains.{domain_at, pending_label, IsShaped}
 
 -- the labels that a node names
 abbrev pub names_of : Node → List Label
@@ -32,3 +32,8 @@ pub record IsWellFormed (s : State) : Type 0 where
   pub domains : (d : ℕ) → IsDomainNamed s.graph (domain_at s d)
   pub nodes : (l : Label) (n : Node) → node_at s.graph l ≡ Some n → HaveNodes s.graph (names_of n)
   pub cut : HaveNodes s.graph (flat_map (filter_map pending_label) s.cut)
+
+-- what holds of a heap's state from its first entry on
+pub record IsSound (s : State) : Type 0 where
+  pub shaped : IsShaped s
+  pub well_formed : IsWellFormed s

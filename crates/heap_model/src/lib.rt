@@ -3,10 +3,8 @@
 
 pub mod command;
 pub mod entry;
-mod ephemerons;
 pub mod graph;
 pub mod label;
-mod reach;
 pub mod reply;
 pub mod sequence;
 pub mod slow_heap;

@@ -2,6 +2,7 @@
 ghost use Rattle.std.specs.Prelude.{◌≡◌};
 
 use crate::label::Label;
+use std::alloc::AllocError;
 
 /// What a command or a finaliser that runs answers.
 #[derive(Clone, Copy, Debug, PartialEq, Eq)]
@@ -32,4 +33,15 @@ pub enum Applied {
 pub enum ApplyFault {
     NotLegal,
     Memory,
+}
+
+impl From<AllocError> for ApplyFault {
+    ghost use Rattle.std.specs.Prelude.{◌≡◌};
+    ghost use Rattle.heap_model.specs.declared.reply.ApplyFault.TheVariants.{Memory};
+
+    ghost from_gives = { λ _ fault. fault ≡ Memory };
+
+    fn from(_error: AllocError) -> ApplyFault {
+        ApplyFault::Memory
+    }
 }
