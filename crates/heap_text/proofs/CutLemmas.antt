@@ -1,9 +1,8 @@
 -- A text by its first part and the rest.
-use Rattle.std.proofs.Common.{◌≡◌, ℕ, List, [], ◌∷◌, ◌++◌, Bool, true, false, cond, refl, ap, sym, ◌∙◌, None, Some}
+use Rattle.std.proofs.Common.{◌≡◌, ℕ, List, [], ◌∷◌, Bool, true, false, cond, refl, ap, sym, ◌∙◌, None, Some}
 use Rattle.std.specs.Prelude.{Option, option_map, ◌==◌}
 use Rattle.std.specs.List.{slice_split, onto_first}
-use Rattle.heap_text.specs.Cut.{cut, texts_behind}
-use Rattle.heap_text.specs.Faults.{texts}
+use Rattle.heap_text.specs.Cut.{cut}
 
 -- the parts of a text whose first part and rest these are
 abbrev pub split_by : ℕ → List ℕ → Option (List ℕ × List ℕ) → List (List ℕ)

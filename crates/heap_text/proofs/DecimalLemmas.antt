@@ -1,6 +1,6 @@
 -- A number's text is its decimal, and its decimal is read as the number.
-use Rattle.std.proofs.Common.{◌≡◌, ◌≢◌, ℕ, ◌+◌, ◌-◌, ◌*◌, ◌<◌, ◌≤◌, ◌^◌, zero, suc, ℤ, pos, negsuc, neg_ℤ, List, [], ◌∷◌, ◌++◌, map, length, get_or, Bool, true, false, cond, eqb, not, ◌&&◌, refl, ap, sym, ◌∙◌, subst, arith, rules, None, Some, decimal}
-use Rattle.std.specs.Prelude.{Option, option_map, option_and_then, nat_lt, unsigned_abs, ◌==◌}
+use Rattle.std.proofs.Common.{◌≡◌, ◌≢◌, ℕ, ◌<◌, ◌^◌, zero, suc, ℤ, pos, negsuc, List, [], ◌∷◌, length, get_or, Bool, true, false, cond, not, ◌&&◌, refl, ap, sym, ◌∙◌, arith, rules, None, Some, decimal}
+use Rattle.std.specs.Prelude.{Option, option_map, unsigned_abs, ◌==◌}
 use Rattle.std.specs.Fmt.{signed_decimal}
 use Rattle.std.specs.Char.{is_ascii_digit}
 use Rattle.std.specs.Str.{all_ascii_digits}
@@ -8,7 +8,7 @@ use Rattle.std.specs.List.{list_all}
 use Rattle.std.proofs.lemmas.Bool.Decides.{nat_tests}
 use Rattle.std.proofs.lemmas.Str.Parse.{IsNumeralModel, numerals_by_fold}
 use Rattle.std.proofs.lemmas.Fmt.{digits_decimal, digits_value-decimal, decimal-digits_value, first_decimal, decimal_digit, decimal_nonempty}
-use Rattle.heap_text.specs.Number.{is_natural, value_on, natural, negated, number, numbers}
+use Rattle.heap_text.specs.Number.{is_natural, value_on, natural, negated, number}
 
 own : IsNumeralModel (λ ds. all_ascii_digits ds ≡ true) (value_on 0)
 own = numerals_by_fold _ (search rules) value_on (search rules)

@@ -1,21 +1,21 @@
 -- No line of a script has a fault, so the first fault of a text that begins as a script stands behind it.
-use Rattle.std.proofs.Common.{◌≡◌, ◌≢◌, ℕ, ◌+◌, ◌<◌, ◌≤◌, ◌^◌, zero, suc, ℤ, pos, List, [], ◌∷◌, ◌++◌, map, length, length-append, Bool, true, false, cond, not, ◌&&◌, refl, ap, sym, ◌∙◌, subst, arith, append_assoc, sum_by, None, Some}
-use Rattle.std.specs.Prelude.{Option, option_map, flat_map, count_by, codes, ◌==◌, nat_le, nat_lt}
-use Rattle.std.specs.List.{list_all, slice_split}
+use Rattle.std.proofs.Common.{◌≡◌, ℕ, ◌+◌, ◌<◌, ◌≤◌, ◌^◌, suc, ℤ, pos, List, [], ◌∷◌, ◌++◌, map, length, length-append, Bool, true, false, cond, refl, ap, sym, ◌∙◌, subst, arith, append_assoc, sum_by, None, Some}
+use Rattle.std.specs.Prelude.{Option, option_map, count_by, codes, ◌==◌, nat_le, nat_lt}
+use Rattle.std.specs.List.{list_all}
 use Rattle.std.specs.Ordering.{int_eq}
 use Rattle.std.proofs.lemmas.Bool.Decides.{nat_tests}
-use Rattle.std.proofs.lemmas.List.{append-nil, length-map}
+use Rattle.std.proofs.lemmas.List.{append-nil}
 use Rattle.std.proofs.lemmas.List.Sums.{sum_by-append}
 use Rattle.heap_model.specs.declared.command.Command.{Command}
 use Rattle.heap_text.specs.declared.form.Word.{Word}
 use Rattle.heap_text.specs.declared.fault.ScriptFault.{ScriptFault}
 use Rattle.heap_text.specs.declared.fault.ScriptFault.TheVariants.{Range, Order, Syntax, TooMany}
 use Rattle.heap_text.specs.Forms.{form, parts as taken_apart, is_writable}
-use Rattle.heap_text.specs.Spelling.{command_text, heading_text, section_lines, lines_from, script_lines, spelling, IsWritten}
-use Rattle.heap_text.specs.Faults.{Shape, heading, command, shape, is_heading, is_command, headings, commands, first_outside, is_section, fault_of_shape, line_fault, fault_from, or_else}
+use Rattle.heap_text.specs.Spelling.{command_text, heading_text, section_lines, lines_from, script_lines, IsWritten}
+use Rattle.heap_text.specs.Faults.{heading, command, shape, is_heading, is_command, headings, commands, first_outside, fault_of_shape, line_fault, fault_from, or_else}
 use Rattle.heap_text.proofs.DecimalLemmas.{both}
 use Rattle.heap_text.proofs.ScriptLemmas.{total-cons}
-use Rattle.heap_text.proofs.ShapeLemmas.{Written, written, shape-command, shape-heading}
+use Rattle.heap_text.proofs.ShapeLemmas.{written, shape-command, shape-heading}
 
 -- how a further line counts
 abbrev bit : Bool → ℕ
@@ -66,8 +66,15 @@ passed_over domains before l [] some e = absurd (omega arith)
 passed_over domains before l (next ∷ more) some e = ap (λ o. or_else o (fault_from domains (before ++ l ∷ []) (next ∷ more))) e
 
 -- a line with a fault ends it
-pub stopped_at : (domains : ℕ) (before : List (List ℕ)) (l next : List ℕ) (more : List (List ℕ)) (f : ScriptFault) → line_fault domains before l ≡ Some f → fault_from domains before (l ∷ next ∷ more) ≡ Some f
-stopped_at domains before l next more f e = ap (λ o. or_else o (fault_from domains (before ++ l ∷ []) (next ∷ more))) e
+pub stopped_at : (domains : ℕ) (before : List (List ℕ)) (l : List ℕ) (parts : List (List ℕ)) (f : ScriptFault) → 0 < length parts → line_fault domains before l ≡ Some f → fault_from domains before (l ∷ parts) ≡ Some f
+stopped_at domains before l [] f some e = absurd (omega arith)
+stopped_at domains before l (next ∷ more) f some e = ap (λ o. or_else o (fault_from domains (before ++ l ∷ []) (next ∷ more))) e
+
+-- what stands behind the last line feed is a fault
+pub ended_wrong : (domains : ℕ) (before : List (List ℕ)) (rest : List ℕ) → false ≡ (length rest == 0) → fault_from domains before (rest ∷ []) ≡ Some (Syntax (length before + 1))
+ended_wrong domains before [] some = cc
+ended_wrong domains [] (b ∷ bs) some = refl
+ended_wrong domains (l ∷ before) (b ∷ bs) some = refl
 
 -- the next heading has no fault
 no_heading_fault : (domains line h c : ℕ) → h < domains → fault_of_shape domains line h c (heading (pos h)) ≡ None

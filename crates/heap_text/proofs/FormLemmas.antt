@@ -1,5 +1,5 @@
 -- The laws of the table, row by row: they hold whichever commands are built.
-use Rattle.std.proofs.Common.{◌≡◌, ◌≢◌, ℕ, ◌+◌, ◌<◌, ◌≤◌, ◌^◌, min, zero, suc, ℤ, pos, negsuc, List, [], ◌∷◌, ◌++◌, map, length, Bool, true, false, cond, not, ◌&&◌, refl, ap, sym, ◌∙◌, arith, lit≤, ◌⊎◌, inl, inr, None, Some}
+use Rattle.std.proofs.Common.{◌≡◌, ℕ, ◌+◌, ◌≤◌, ◌^◌, min, ℤ, pos, negsuc, List, [], ◌∷◌, length, Bool, true, false, cond, ◌&&◌, refl, ap, sym, ◌∙◌, arith, lit≤, ◌⊎◌, inl, inr, None, Some}
 use Rattle.std.specs.Prelude.{Option, is_some, find, nat_lt, unsigned_abs, slice_index_or, codes, bytes_eq, int_le}
 use Rattle.std.proofs.lemmas.Bool.Decides.{nat_tests}
 use Rattle.std.proofs.lemmas.Int.{ints}
@@ -10,7 +10,7 @@ use Rattle.heap_text.specs.declared.form.Operand.{Operand}
 use Rattle.heap_text.specs.declared.form.Operand.TheVariants.{Register, Tag, FieldCount, KeyCount, Index, FinaliserNumber, Integer}
 use Rattle.heap_text.specs.declared.form.Word.{Word}
 use Rattle.heap_text.specs.declared.form.Word.TheVariants as word
-use Rattle.heap_text.specs.Forms.{form, fits, least, greatest, byte, short, wide, word_of, built_words, is_built, made, parts, Parts, all_fit}
+use Rattle.heap_text.specs.Forms.{form, fits, byte, short, wide, word_of, built_words, is_built, made, parts, all_fit}
 use Rattle.heap_text.specs.Faults.{first_outside}
 use Rattle.heap_text.proofs.DecimalLemmas.{is_free, both}
 use Rattle.heap_text.proofs.TextLemmas.{are_small}

@@ -9,4 +9,5 @@ pub mod ShapeLemmas
 pub mod SectionLemmas
 pub mod FaultLemmas
 pub mod ReadLemmas
+pub mod OnlyLemmas
 pub mod LineLemmas

@@ -1,9 +1,8 @@
 -- What the numbers that were read of a line say of it.
-use Rattle.std.proofs.Common.{◌≡◌, ◌≢◌, ℕ, ◌+◌, ◌<◌, ◌≤◌, ◌^◌, zero, suc, min, ℤ, pos, negsuc, neg_ℤ, List, [], ◌∷◌, ◌++◌, map, length, get_or, Bool, true, false, cond, refl, ap, sym, ◌∙◌, subst, arith, None, Some}
+use Rattle.std.proofs.Common.{◌≡◌, ◌≢◌, ℕ, ◌<◌, ◌^◌, zero, suc, min, ℤ, pos, negsuc, neg_ℤ, List, [], ◌∷◌, ◌++◌, map, length, Bool, true, false, cond, refl, ap, sym, ◌∙◌, subst, arith, None, Some}
 use Rattle.std.specs.Prelude.{Option, option_map, ◌==◌, nat_le, nat_lt, slice_get, unsigned_abs, sum_by}
 use Rattle.std.specs.Ordering.{int_eq}
 use Rattle.std.proofs.lemmas.Bool.Decides.{nat_tests}
-use Rattle.std.proofs.lemmas.Int.{ints}
 use Rattle.std.proofs.lemmas.List.{length-map}
 use Rattle.heap_model.specs.declared.command.Command.{Command}
 use Rattle.heap_text.specs.declared.form.Operand.{Operand}
@@ -13,7 +12,7 @@ use Rattle.heap_text.specs.declared.fault.ScriptFault.TheVariants.{Range, Order}
 use Rattle.heap_text.specs.Number.{clipped, counted_numbers}
 use Rattle.heap_text.specs.Forms.{form, made}
 use Rattle.heap_text.specs.Script.{with_command}
-use Rattle.heap_text.specs.Faults.{Shape, heading, command, neither, heading_shape, command_shape, first_outside, is_section, fault_of_shape}
+use Rattle.heap_text.specs.Faults.{Shape, heading, command, heading_shape, command_shape, first_outside, is_section, fault_of_shape}
 use Rattle.heap_text.specs.Steps.{IsHeadingNumber, OpensSection, AddsCommand}
 use Rattle.heap_text.proofs.RangeLemmas.{first_outside-clipped, map-clipped_kept}
 

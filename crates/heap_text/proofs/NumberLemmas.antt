@@ -1,5 +1,5 @@
 -- The numbers behind a word, one after another.
-use Rattle.std.proofs.Common.{◌≡◌, ℕ, ◌+◌, ◌<◌, ◌≢◌, ℤ, List, [], ◌∷◌, ◌++◌, map, length, Bool, true, false, cond, eqb, refl, ap, sym, ◌∙◌, arith, append_assoc, None, Some}
+use Rattle.std.proofs.Common.{◌≡◌, ℕ, ◌<◌, ◌≢◌, ℤ, List, [], ◌∷◌, ◌++◌, map, length, Bool, true, false, cond, eqb, refl, ap, sym, ◌∙◌, arith, append_assoc, None, Some}
 use Rattle.std.specs.Prelude.{Option, is_some, option_map, option_and_then}
 use Rattle.std.proofs.lemmas.Bool.Decides.{nat_tests}
 use Rattle.std.proofs.lemmas.List.Splits.{length-slice_split}

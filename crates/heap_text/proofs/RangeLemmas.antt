@@ -1,16 +1,13 @@
 -- A clipped number is in a range where the number is.
-use Rattle.std.proofs.Common.{◌≡◌, ◌≢◌, ℕ, ◌+◌, ◌<◌, ◌^◌, ℤ, pos, negsuc, List, [], ◌∷◌, map, length, Bool, true, false, cond, refl, ap, sym, ◌∙◌, arith, None, Some}
+use Rattle.std.proofs.Common.{◌≡◌, ℕ, ◌+◌, ℤ, pos, negsuc, List, [], ◌∷◌, map, length, Bool, true, false, cond, refl, ap, ◌∙◌, arith, None, Some}
 use Rattle.std.specs.Prelude.{Option, ◌&&◌, int_le}
-use Rattle.std.specs.Ordering.{int_eq}
 use Rattle.std.proofs.lemmas.Bool.Decides.{nat_tests}
 use Rattle.std.proofs.lemmas.Int.{ints}
 use Rattle.heap_text.specs.declared.form.Operand.{Operand}
 use Rattle.heap_text.specs.declared.form.Operand.TheVariants.{Register, Tag, FieldCount, KeyCount, Index, FinaliserNumber, Integer}
-use Rattle.heap_text.specs.declared.fault.ScriptFault.{ScriptFault}
-use Rattle.heap_text.specs.declared.fault.ScriptFault.TheVariants.{Range, Order}
 use Rattle.heap_text.specs.Number.{clipped}
-use Rattle.heap_text.specs.Forms.{fits, least, greatest, all_fit}
-use Rattle.heap_text.specs.Faults.{first_outside, is_section, fault_of_shape, heading}
+use Rattle.heap_text.specs.Forms.{fits}
+use Rattle.heap_text.specs.Faults.{first_outside}
 
 abbrev is_between : ℤ → ℤ → ℤ → Bool
 is_between low high z = int_le low z && int_le z high

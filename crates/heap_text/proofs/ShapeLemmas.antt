@@ -1,6 +1,6 @@
 -- The text of a command and of a heading, and what a line with such a text says.
-use Rattle.std.proofs.Common.{◌≡◌, ◌≢◌, ℕ, ◌+◌, ◌<◌, ◌≤◌, ◌^◌, zero, suc, ℤ, pos, negsuc, List, [], ◌∷◌, ◌++◌, map, length, Bool, true, false, cond, not, ◌&&◌, refl, ap, sym, ◌∙◌, subst, arith, append_assoc, decimal, None, Some}
-use Rattle.std.specs.Prelude.{Option, nat_lt, unsigned_abs, codes, bytes_eq, ◌==◌}
+use Rattle.std.proofs.Common.{◌≡◌, ℕ, ◌<◌, ◌^◌, ℤ, pos, List, [], ◌∷◌, ◌++◌, map, length, Bool, true, false, cond, ◌&&◌, refl, ap, sym, ◌∙◌, arith, decimal, None, Some}
+use Rattle.std.specs.Prelude.{Option, codes, bytes_eq}
 use Rattle.std.specs.Fmt.{signed_decimal}
 use Rattle.std.proofs.lemmas.List.{append-nil}
 use Rattle.std.proofs.lemmas.Bool.Decides.{nat_tests}
@@ -10,10 +10,10 @@ use Rattle.heap_text.specs.declared.form.Word.{Word}
 use Rattle.heap_text.specs.Number.{counted_numbers}
 use Rattle.heap_text.specs.Forms.{form, word_of, is_built, is_writable, made, parts, all_fit}
 use Rattle.heap_text.specs.Spelling.{row_text, command_text, heading_text}
-use Rattle.heap_text.specs.Faults.{Shape, heading, command, neither, texts, shape, shape_of, heading_shape, row_shape, command_shape, first_outside}
+use Rattle.heap_text.specs.Faults.{heading, command, texts, shape, shape_of, heading_shape, row_shape, command_shape, first_outside}
 use Rattle.heap_text.proofs.DecimalLemmas.{is_free, both, signed_decimal_free}
 use Rattle.heap_text.proofs.TextLemmas.{are_small, spaced, texts-row, spaced_free, is_free-append, row_read, counted-map, counted_read, counted_length}
-use Rattle.heap_text.proofs.FormLemmas.{word_without_space, word_without_line_feed, word_no_heading, word_found, word_read, parts_counted, whole, whole-parts, numbers_kept, word_made, small_if_inside, inside_if_fit, fit_if_inside}
+use Rattle.heap_text.proofs.FormLemmas.{word_without_space, word_without_line_feed, word_no_heading, word_found, word_read, parts_counted, numbers_kept, word_made, small_if_inside, inside_if_fit, fit_if_inside}
 
 -- a row with its numbers says just that
 row_said : (w : Word) (zs : List ℤ) → is_built w ≡ true → length zs ≡ length (form w).operands → are_small zs ≡ true → shape (row_text w zs) ≡ command w zs
@@ -130,9 +130,9 @@ command_of_texts line (t ∷ ts) w zs same e inside =
     let c = made w zs in
     record {
       text = row_read line (form w).text zs (same ∙ ap (λ x. x ∷ ts) row.0 ∙ ap (λ x. (form w).text ∷ x) numbers.0)
-        ∙ ap (row_text w) (sym kept) ∙ ap (λ v. row_text v (parts c).numbers) (sym word);
+          ∙ ap (row_text w) (sym kept) ∙ ap (λ v. row_text v (parts c).numbers) (sym word);
       writable = ap (λ v. is_built v && all_fit (form v).operands (parts c).numbers) word ∙ ap (λ ns. is_built w && all_fit (form w).operands ns) kept
-        ∙ ap (λ b. b && all_fit (form w).operands zs) row.1 ∙ fit_if_inside 1 (form w).operands zs inside;
+          ∙ ap (λ b. b && all_fit (form w).operands zs) row.1 ∙ fit_if_inside 1 (form w).operands zs inside;
     }
 
 -- a line that says a command is its text

@@ -1,6 +1,6 @@
 -- A line's texts, and the text of a row with its numbers.
-use Rattle.std.proofs.Common.{◌≡◌, ◌≢◌, ℕ, ◌+◌, ◌<◌, ◌≤◌, ◌^◌, zero, suc, ℤ, pos, negsuc, List, [], ◌∷◌, ◌++◌, map, length, Bool, true, false, cond, not, ◌&&◌, refl, ap, sym, ◌∙◌, subst, arith, append_assoc, None, Some}
-use Rattle.std.specs.Prelude.{Option, option_map, option_and_then, flat_map, find, is_some, nat_lt, unsigned_abs, ◌==◌, codes, bytes_eq}
+use Rattle.std.proofs.Common.{◌≡◌, ℕ, ◌<◌, ◌^◌, ℤ, List, [], ◌∷◌, ◌++◌, map, length, Bool, true, false, cond, not, ◌&&◌, refl, ap, sym, ◌∙◌, arith, None, Some}
+use Rattle.std.specs.Prelude.{Option, option_map, option_and_then, flat_map, nat_lt, unsigned_abs, ◌==◌}
 use Rattle.std.specs.Fmt.{signed_decimal}
 use Rattle.std.specs.List.{list_all, slice_split, onto_first, join_with_byte}
 use Rattle.std.proofs.lemmas.Bool.Decides.{nat_tests}

@@ -1,5 +1,5 @@
 -- Numbers in decimal: `0`, or a digit from 1 to 9 and digits, or `-` and such a digit and digits. Any count of digits will do.
-use Rattle.std.specs.Prelude.{ℕ, ◌+◌, ◌-◌, ◌*◌, ◌^◌, min, ℤ, pos, neg_ℤ, negsuc, suc, Bool, true, false, not, ◌&&◌, List, [], ◌∷◌, length, map, Option, None, Some, option_map, option_and_then, ◌==◌, if◌then◌else◌}
+use Rattle.std.specs.Prelude.{ℕ, ◌+◌, ◌-◌, ◌*◌, ◌^◌, min, ℤ, pos, neg_ℤ, negsuc, suc, Bool, false, not, ◌&&◌, List, [], ◌∷◌, length, Option, None, Some, option_map, option_and_then, ◌==◌, if◌then◌else◌}
 use Rattle.std.specs.Char.{is_ascii_digit}
 use Rattle.std.specs.Str.{all_ascii_digits}
 

@@ -8,11 +8,12 @@ pub mod front;
 mod line;
 mod number;
 pub mod print;
-mod read;
+pub mod read;
 pub mod script;
 mod table;
 
 pub use fault::ScriptFault;
 pub use front::Line;
 pub use print::{print_heading, print_reply};
+pub use read::read_script;
 pub use script::Script;

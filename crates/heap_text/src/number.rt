@@ -18,7 +18,9 @@ fn digits_of(bytes: &[u8]) -> Option<u64>
         if !byte.is_ascii_digit() {
             return None;
         }
-        sum = sum.saturating_mul(10).saturating_add(u64::from(*byte - b'0'));
+        sum = sum
+            .saturating_mul(10)
+            .saturating_add(u64::from(*byte - b'0'));
     }
     Some(sum)
 }

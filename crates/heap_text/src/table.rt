@@ -59,7 +59,11 @@ pub(crate) fn operands_of(word: Word) -> &'static [Operand]
         Word::UnsetData => &[Operand::Register],
         Word::GetData => &[Operand::Register, Operand::Register],
         Word::CheckData => &[Operand::Register],
-        Word::Finalise => &[Operand::Register, Operand::FinaliserNumber, Operand::Register],
+        Word::Finalise => &[
+            Operand::Register,
+            Operand::FinaliserNumber,
+            Operand::Register,
+        ],
         Word::FinaliseLast => &[Operand::Register, Operand::FinaliserNumber],
         Word::Poll => &[],
         Word::Minor => &[],
@@ -83,24 +87,76 @@ pub(crate) fn make(word: Word, numbers: &[i64]) -> Command
     let b = number_at(numbers, 1);
     let c = number_at(numbers, 2);
     match word {
-        Word::Int => Command::PutInt { dst: byte(a), value: b },
-        Word::Move => Command::Copy { dst: byte(a), src: byte(b) },
+        Word::Int => Command::PutInt {
+            dst: byte(a),
+            value: b,
+        },
+        Word::Move => Command::Copy {
+            dst: byte(a),
+            src: byte(b),
+        },
         Word::Drop => Command::Forget { dst: byte(a) },
-        Word::Alloc => Command::Alloc { dst: byte(a), tag: byte(b), fields: short(c) },
-        Word::AllocMaj => Command::AllocMaj { dst: byte(a), tag: byte(b), fields: short(c) },
-        Word::Load => Command::Load { dst: byte(a), src: byte(b), index: short(c) },
-        Word::Store => Command::Store { block: byte(a), index: short(b), item: byte(c) },
-        Word::Ephe => Command::Ephe { dst: byte(a), keys: short(b) },
-        Word::SetKey => Command::SetKey { ephe: byte(a), index: short(b), item: byte(c) },
-        Word::UnsetKey => Command::UnsetKey { ephe: byte(a), index: short(b) },
-        Word::GetKey => Command::GetKey { dst: byte(a), ephe: byte(b), index: short(c) },
-        Word::CheckKey => Command::CheckKey { ephe: byte(a), index: short(b) },
-        Word::SetData => Command::SetData { ephe: byte(a), item: byte(b) },
+        Word::Alloc => Command::Alloc {
+            dst: byte(a),
+            tag: byte(b),
+            fields: short(c),
+        },
+        Word::AllocMaj => Command::AllocMaj {
+            dst: byte(a),
+            tag: byte(b),
+            fields: short(c),
+        },
+        Word::Load => Command::Load {
+            dst: byte(a),
+            src: byte(b),
+            index: short(c),
+        },
+        Word::Store => Command::Store {
+            block: byte(a),
+            index: short(b),
+            item: byte(c),
+        },
+        Word::Ephe => Command::Ephe {
+            dst: byte(a),
+            keys: short(b),
+        },
+        Word::SetKey => Command::SetKey {
+            ephe: byte(a),
+            index: short(b),
+            item: byte(c),
+        },
+        Word::UnsetKey => Command::UnsetKey {
+            ephe: byte(a),
+            index: short(b),
+        },
+        Word::GetKey => Command::GetKey {
+            dst: byte(a),
+            ephe: byte(b),
+            index: short(c),
+        },
+        Word::CheckKey => Command::CheckKey {
+            ephe: byte(a),
+            index: short(b),
+        },
+        Word::SetData => Command::SetData {
+            ephe: byte(a),
+            item: byte(b),
+        },
         Word::UnsetData => Command::UnsetData { ephe: byte(a) },
-        Word::GetData => Command::GetData { dst: byte(a), ephe: byte(b) },
+        Word::GetData => Command::GetData {
+            dst: byte(a),
+            ephe: byte(b),
+        },
         Word::CheckData => Command::CheckData { ephe: byte(a) },
-        Word::Finalise => Command::Finalise { item: byte(a), number: wide(b), dst: byte(c) },
-        Word::FinaliseLast => Command::FinaliseLast { item: byte(a), number: wide(b) },
+        Word::Finalise => Command::Finalise {
+            item: byte(a),
+            number: wide(b),
+            dst: byte(c),
+        },
+        Word::FinaliseLast => Command::FinaliseLast {
+            item: byte(a),
+            number: wide(b),
+        },
         Word::Poll => Command::Poll,
         Word::Minor => Command::Minor,
         Word::Major => Command::Major,

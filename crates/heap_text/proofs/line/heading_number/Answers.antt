@@ -1,6 +1,5 @@
-use Rattle.std.proofs.Common.{◌∙◌, ap, sym, subst, ℤ}
-use Rattle.std.specs.Prelude.{Option, slice_get}
-use Rattle.heap_text.specs.Steps.{IsHeadingNumber}
+use Rattle.std.proofs.Common.{◌∙◌, ap}
+use Rattle.std.specs.Prelude.{slice_get}
 use Rattle.heap_text.proofs.LineLemmas.{heading_read}
 use Rattle.heap_text.proofs.line.heading_number.Goals as goal
 

@@ -1,4 +1,4 @@
-use Rattle.std.proofs.Common.{◌≡◌, ◌≢◌, ◌<◌, ◌∙◌, ap, length, sum_by, arith, rules, None}
+use Rattle.std.proofs.Common.{◌∙◌, ap, rules}
 use Rattle.heap_text.specs.Forms.{made}
 use Rattle.heap_text.specs.Script.{with_command}
 use Rattle.heap_text.specs.Faults.{first_outside}

@@ -1,4 +1,4 @@
-use Rattle.std.proofs.Common.{◌≡◌, ◌<◌, ◌++◌, ◌∷◌, [], ◌-◌, ◌+◌, suc, length, map, ap, sym, ◌∙◌, arith, sum_by}
+use Rattle.std.proofs.Common.{◌++◌, ◌∷◌, [], ◌-◌, length, map, ap, sym, ◌∙◌, arith, sum_by}
 use Rattle.std.proofs.lemmas.List.{length-map}
 use Rattle.heap_text.specs.Script.{with_command}
 use Rattle.heap_text.proofs.ScriptLemmas.{set_same, set_last, total-with_command}
