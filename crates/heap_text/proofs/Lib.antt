@@ -10,4 +10,5 @@ pub mod SectionLemmas
 pub mod FaultLemmas
 pub mod ReadLemmas
 pub mod OnlyLemmas
+pub mod SpellsLemmas
 pub mod LineLemmas

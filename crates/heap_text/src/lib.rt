@@ -5,6 +5,7 @@ mod cut;
 pub mod fault;
 pub mod form;
 pub mod front;
+pub mod law;
 mod line;
 mod number;
 pub mod print;
@@ -14,6 +15,9 @@ mod table;
 
 pub use fault::ScriptFault;
 pub use front::Line;
-pub use print::{print_heading, print_reply};
+pub use print::{print_command, print_heading, print_reply};
 pub use read::read_script;
 pub use script::Script;
+
+#[cfg(test)]
+mod tests;

@@ -1,5 +1,5 @@
 // The table of command forms, for the reader and the printer.
-ghost use Rattle.std.specs.Prelude.{◌≡◌, pos, slice_index_or};
+ghost use Rattle.std.specs.Prelude.{◌≡◌, ◌≤◌, pos, length, slice_index_or};
 ghost use Rattle.heap_text.specs.Forms.{form, word_of, made, byte as byte_of, short as short_of, wide as wide_of, fits as fits_kind, least as least_of, greatest as greatest_of};
 
 use crate::form::{Operand, Word};
@@ -10,7 +10,8 @@ const BUILT: [Word; 4] = [Word::Int, Word::Alloc, Word::Load, Word::Store];
 
 // The word that a row's line begins with.
 pub(crate) fn text_of(word: Word) -> &'static [u8]
-    ensures { result.now ≡ (form word).text }
+    ensures text { result.now ≡ (form word).text }
+    ensures short { length result.now ≤ 13 }
 {
     match word {
         Word::Int => b"int",
