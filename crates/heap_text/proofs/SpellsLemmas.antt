@@ -1,18 +1,15 @@
 -- What is known of a script that was read: its sections, and the numbers of its commands.
-use Rattle.std.proofs.Common.{◌≡◌, ℕ, ◌+◌, ◌-◌, ◌<◌, ◌≤◌, zero, suc, ℤ, pos, List, [], ◌∷◌, ◌++◌, length, length-append, take, replicate, Bool, true, false, ◌&&◌, refl, ap, sym, ◌∙◌, arith, sum_by}
-use Rattle.std.specs.Prelude.{int_le}
+use Rattle.std.proofs.Common.{◌≡◌, ℕ, ◌-◌, ◌<◌, ◌≤◌, zero, suc, ℤ, pos, List, [], ◌∷◌, ◌++◌, length, length-append, take, replicate, true, ◌&&◌, refl, ap, sym, ◌∙◌, arith}
 use Rattle.std.specs.List.{list_all}
 use Rattle.std.proofs.lemmas.Bool.Decides.{nat_tests}
 use Rattle.std.proofs.lemmas.Int.{ints}
 use Rattle.std.proofs.lemmas.List.{take_at, length-replicate}
 use Rattle.heap_model.specs.declared.command.Command.{Command}
 use Rattle.heap_model.specs.declared.command.Command.TheVariants.{PutInt, Alloc, Load, Store}
-use Rattle.heap_text.specs.declared.form.Operand.{Operand}
-use Rattle.heap_text.specs.declared.form.Operand.TheVariants.{Register, Tag, FieldCount, Index}
+use Rattle.heap_text.specs.declared.form.Operand.TheVariants.{Register, Index}
 use Rattle.heap_text.specs.Forms.{form, fits, all_fit, is_built, parts, is_writable}
-use Rattle.heap_text.specs.Spelling.{spelling, with_empty, IsWritten, Spells}
+use Rattle.heap_text.specs.Spelling.{spelling, Spells}
 use Rattle.heap_text.proofs.DecimalLemmas.{both}
-use Rattle.heap_text.proofs.ScriptLemmas.{total-cons}
 
 -- a script has a section for each domain
 pub length-script : (domains : ℕ) (script : List (List Command)) (bytes : List ℕ) → Spells domains script bytes → length script ≡ domains

@@ -244,16 +244,20 @@ fn too_many_commands(rt: HostRuntime) -> Result<(), Fail> {
     Ok(())
 }
 
+fn line_feeds(alloc: Global, count: usize) -> Result<Vec<u8>, AllocError> {
+    vec![in alloc; b'\n'; count]
+}
+
 #[test]
 fn too_many_bytes(rt: HostRuntime) -> Result<(), Fail> {
-    let bytes = vec![in rt.alloc(); b'\n'; 16_777_217]?;
-    let read = read_script(rt.alloc(), 1, bytes.as_slice());
-    assert_eq!(rt;
-        read.err(),
-        Some(ScriptFault::TooLong { bytes: 16_777_217 })
-    );
-    let read = read_script(rt.alloc(), 1, &bytes[..16_777_216]);
-    assert_eq!(rt; read.err(), Some(ScriptFault::Syntax { line: 1 }));
+    for (count, fault) in [
+        (16_777_217, ScriptFault::TooLong { bytes: 16_777_217 }),
+        (16_777_216, ScriptFault::Syntax { line: 1 }),
+    ] {
+        let bytes = line_feeds(rt.alloc(), count)?;
+        let read = read_script(rt.alloc(), 1, bytes.as_slice());
+        assert_eq!(rt; read.err(), Some(fault), "at {count}");
+    }
     Ok(())
 }
 

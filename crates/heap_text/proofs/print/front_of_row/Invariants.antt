@@ -1,6 +1,4 @@
-use Rattle.std.proofs.Common.{◌≡◌, ◌≤◌, ◌+◌, ◌*◌, ◌++◌, ◌∷◌, pos, map, drop, length}
-use Rattle.std.specs.Prelude.{flat_map}
-use Rattle.std.specs.Fmt.{signed_decimal}
+use Rattle.std.proofs.Common.{◌≡◌, ◌≤◌, ◌+◌, ◌*◌, ◌++◌, pos, map, drop, length}
 use Rattle.heap_text.specs.Forms.{form}
 use Rattle.heap_text.proofs.TextLemmas.{spaced}
 use Rattle.heap_text.proofs.print.front_of_row.Given as goal
