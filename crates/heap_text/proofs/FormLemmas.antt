@@ -1,0 +1,208 @@
+-- The laws of the table, row by row: they hold whichever commands are built.
+use Rattle.std.proofs.Common.{◌≡◌, ℕ, ◌+◌, ◌≤◌, ◌^◌, min, ℤ, pos, negsuc, List, [], ◌∷◌, length, Bool, true, false, cond, ◌&&◌, refl, ap, sym, ◌∙◌, arith, lit≤, ◌⊎◌, inl, inr, None, Some}
+use Rattle.std.specs.Prelude.{Option, is_some, find, nat_lt, unsigned_abs, slice_index_or, codes, bytes_eq, int_le}
+use Rattle.std.proofs.lemmas.Bool.Decides.{nat_tests}
+use Rattle.std.proofs.lemmas.Int.{ints}
+use Rattle.std.proofs.lemmas.Slice.Eq.{bytes_eq-Decides}
+use Rattle.heap_model.specs.declared.command.Command.{Command}
+use Rattle.heap_model.specs.declared.command.Command.TheVariants.{PutInt, Copy, Forget, Alloc, AllocMaj, Load, Store, Ephe, SetKey, UnsetKey, GetKey, CheckKey, SetData, UnsetData, GetData, CheckData, Finalise, FinaliseLast, Poll, Minor, Major, FullMajor}
+use Rattle.heap_text.specs.declared.form.Operand.{Operand}
+use Rattle.heap_text.specs.declared.form.Operand.TheVariants.{Register, Tag, FieldCount, KeyCount, Index, FinaliserNumber, Integer}
+use Rattle.heap_text.specs.declared.form.Word.{Word}
+use Rattle.heap_text.specs.declared.form.Word.TheVariants as word
+use Rattle.heap_text.specs.Forms.{form, fits, byte, short, wide, word_of, built_words, is_built, made, parts, all_fit}
+use Rattle.heap_text.specs.Faults.{first_outside}
+use Rattle.heap_text.proofs.DecimalLemmas.{is_free, both}
+use Rattle.heap_text.proofs.TextLemmas.{are_small}
+
+-- neither a space nor a line feed stands in a word, and none is `domain`
+pub word_without_space : (w : Word) → is_free 32 (form w).text ≡ true
+word_without_space word.Int = refl
+word_without_space _ = refl
+
+pub word_without_line_feed : (w : Word) → is_free 10 (form w).text ≡ true
+word_without_line_feed word.Int = refl
+word_without_line_feed _ = refl
+
+pub word_no_heading : (w : Word) → bytes_eq (form w).text (codes "domain") ≡ false
+word_no_heading word.Int = refl
+word_no_heading _ = refl
+
+-- a word that is built is found
+found_if_built : (w : Word) → word_of (form w).text ≡ cond (is_built w) (Some w) None
+found_if_built word.Int = refl
+found_if_built _ = refl
+
+pub word_found : (w : Word) → is_built w ≡ true → word_of (form w).text ≡ Some w
+word_found w e = found_if_built w ∙ ap (λ b. cond b (Some w) None) e
+
+chosen_first : (b : Bool) (v w : Word) (o : Option Word) → cond b (Some v) o ≡ Some w → ((b ≡ true) × (v ≡ w)) ⊎ (o ≡ Some w)
+chosen_first true v w o e = inl (refl, cc)
+chosen_first false v w o e = inr e
+
+found_passes : (test : Word → Bool) (ws : List Word) (w : Word) → find test ws ≡ Some w → test w ≡ true
+found_passes test [] w e = cc
+found_passes test (v ∷ ws) w e =
+    elim (chosen_first (test v) v w (find test ws) e) [ inl p ↦ ap test (sym p.1) ∙ p.0 | inr q ↦ found_passes test ws w q ]
+
+-- the word that was found
+pub word_read : (text : List ℕ) (w : Word) → word_of text ≡ Some w → (text ≡ (form w).text) × (is_built w ≡ true)
+word_read text w e =
+    let same = sym ((bytes_eq-Decides (form w).text text).0 (found_passes (λ v. bytes_eq (form v).text text) built_words w e)) in
+    (same, ap is_some (ap word_of (sym same) ∙ e))
+
+-- a command has a number for each operand of its row
+pub parts_counted : (c : Command) → length (parts c).numbers ≡ length (form (parts c).word).operands
+parts_counted (PutInt dst value) = refl
+parts_counted _ = refl
+
+-- the magnitude of the number at a place
+abbrev pub nat_at : List ℤ → ℕ → ℕ
+nat_at zs i = unsigned_abs (slice_index_or zs i (pos 0))
+
+-- a command put together again
+abbrev pub whole : Word → List ℤ → Command
+whole word.Int zs = PutInt (nat_at zs 0) (slice_index_or zs 1 (pos 0))
+whole word.Move zs = Copy (nat_at zs 0) (nat_at zs 1)
+whole word.Drop zs = Forget (nat_at zs 0)
+whole word.Alloc zs = Alloc (nat_at zs 0) (nat_at zs 1) (nat_at zs 2)
+whole word.AllocMaj zs = AllocMaj (nat_at zs 0) (nat_at zs 1) (nat_at zs 2)
+whole word.Load zs = Load (nat_at zs 0) (nat_at zs 1) (nat_at zs 2)
+whole word.Store zs = Store (nat_at zs 0) (nat_at zs 1) (nat_at zs 2)
+whole word.Ephe zs = Ephe (nat_at zs 0) (nat_at zs 1)
+whole word.SetKey zs = SetKey (nat_at zs 0) (nat_at zs 1) (nat_at zs 2)
+whole word.UnsetKey zs = UnsetKey (nat_at zs 0) (nat_at zs 1)
+whole word.GetKey zs = GetKey (nat_at zs 0) (nat_at zs 1) (nat_at zs 2)
+whole word.CheckKey zs = CheckKey (nat_at zs 0) (nat_at zs 1)
+whole word.SetData zs = SetData (nat_at zs 0) (nat_at zs 1)
+whole word.UnsetData zs = UnsetData (nat_at zs 0)
+whole word.GetData zs = GetData (nat_at zs 0) (nat_at zs 1)
+whole word.CheckData zs = CheckData (nat_at zs 0)
+whole word.Finalise zs = Finalise (nat_at zs 0) (nat_at zs 1) (nat_at zs 2)
+whole word.FinaliseLast zs = FinaliseLast (nat_at zs 0) (nat_at zs 1)
+whole word.Poll zs = Poll
+whole word.Minor zs = Minor
+whole word.Major zs = Major
+whole word.FullMajor zs = FullMajor
+
+pub whole-parts : (c : Command) → whole (parts c).word (parts c).numbers ≡ c
+whole-parts (PutInt dst value) = refl
+whole-parts _ = refl
+
+-- a number as the field of its kind holds it
+abbrev pub held : Operand → ℤ → ℤ
+held Integer z = z
+held Register z = pos (byte z)
+held Tag z = pos (byte z)
+held FieldCount z = pos (short z)
+held KeyCount z = pos (short z)
+held Index z = pos (short z)
+held FinaliserNumber z = pos (wide z)
+
+held_between : (most high : ℕ) (low z : ℤ) → int_le (pos 0) low ≡ true → high ≤ most → (int_le low z && int_le z (pos high)) ≡ true → pos (min (unsigned_abs z) most) ≡ z
+held_between most high low (pos n) l h e = grind (arith, ints, nat_tests)
+held_between most high low (negsuc n) l h e = grind (arith, ints, nat_tests)
+
+pub held_same : (kind : Operand) (z : ℤ) → fits kind z ≡ true → held kind z ≡ z
+held_same Integer z e = refl
+held_same Register z e = held_between 255 15 (pos 0) z refl (omega arith) e
+held_same Tag z e = held_between 255 245 (pos 0) z refl (omega arith) e
+held_same FieldCount z e = held_between 65535 126 (pos 1) z refl (omega arith) e
+held_same KeyCount z e = held_between 65535 8 (pos 1) z refl (omega arith) e
+held_same Index z e = held_between 65535 1023 (pos 0) z refl (omega arith) e
+held_same FinaliserNumber z e = held_between 4294967295 65535 (pos 0) z refl (omega arith) e
+
+-- up to three numbers as their fields hold them
+abbrev pub all_held : List Operand → List ℤ → List ℤ
+all_held [] zs = []
+all_held (a ∷ []) zs = held a (slice_index_or zs 0 (pos 0)) ∷ []
+all_held (a ∷ b ∷ []) zs = held a (slice_index_or zs 0 (pos 0)) ∷ held b (slice_index_or zs 1 (pos 0)) ∷ []
+all_held (a ∷ b ∷ c ∷ more) zs = held a (slice_index_or zs 0 (pos 0)) ∷ held b (slice_index_or zs 1 (pos 0)) ∷ held c (slice_index_or zs 2 (pos 0)) ∷ []
+
+-- the numbers of a command that was made
+pub numbers_made : (w : Word) (zs : List ℤ) → (parts (made w zs)).numbers ≡ all_held (form w).operands zs
+numbers_made word.Int zs = refl
+numbers_made _ zs = refl
+
+pub word_made : (w : Word) (zs : List ℤ) → (parts (made w zs)).word ≡ w
+word_made word.Int zs = refl
+word_made _ zs = refl
+
+-- no row has more than three numbers
+pub few_operands : (w : Word) → length (form w).operands ≤ 3
+few_operands word.Int = lit≤ tt
+few_operands _ = lit≤ tt
+
+passed : (b : Bool) (o : Option ℕ) (which : ℕ) → cond b o (Some which) ≡ None → (b ≡ true) × (o ≡ None)
+passed true o which e = (refl, e)
+passed false o which e = cc
+
+-- numbers in their ranges stay as they are
+pub all_held_same : (kinds : List Operand) (zs : List ℤ) → length kinds ≤ 3 → length zs ≡ length kinds → first_outside 1 kinds zs ≡ None → all_held kinds zs ≡ zs
+all_held_same [] [] few n e = refl
+all_held_same [] (x ∷ zs) few n e = absurd (omega arith)
+all_held_same (a ∷ kinds) [] few n e = absurd (omega arith)
+all_held_same (a ∷ []) (x ∷ []) few n e =
+    let p = passed (fits a x) None 1 e in
+    let first = held_same a x p.0 in
+    cc
+all_held_same (a ∷ []) (x ∷ y ∷ zs) few n e = absurd (omega arith)
+all_held_same (a ∷ b ∷ kinds) (x ∷ []) few n e = absurd (omega arith)
+all_held_same (a ∷ b ∷ []) (x ∷ y ∷ []) few n e =
+    let p = passed (fits a x) (first_outside 2 (b ∷ []) (y ∷ [])) 1 e in
+    let q = passed (fits b y) None 2 p.1 in
+    let first = held_same a x p.0 in
+    let second = held_same b y q.0 in
+    cc
+all_held_same (a ∷ b ∷ []) (x ∷ y ∷ z ∷ zs) few n e = absurd (omega arith)
+all_held_same (a ∷ b ∷ c ∷ kinds) (x ∷ y ∷ []) few n e = absurd (omega arith)
+all_held_same (a ∷ b ∷ c ∷ []) (x ∷ y ∷ z ∷ []) few n e =
+    let p = passed (fits a x) (first_outside 2 (b ∷ c ∷ []) (y ∷ z ∷ [])) 1 e in
+    let q = passed (fits b y) (first_outside 3 (c ∷ []) (z ∷ [])) 2 p.1 in
+    let r = passed (fits c z) None 3 q.1 in
+    let first = held_same a x p.0 in
+    let second = held_same b y q.0 in
+    let third = held_same c z r.0 in
+    cc
+all_held_same (a ∷ b ∷ c ∷ []) (x ∷ y ∷ z ∷ v ∷ zs) few n e = absurd (omega arith)
+all_held_same (a ∷ b ∷ c ∷ d ∷ kinds) (x ∷ y ∷ z ∷ zs) few n e = absurd (omega arith)
+
+-- numbers in their ranges are those of the command that is made of them
+pub numbers_kept : (w : Word) (zs : List ℤ) → length zs ≡ length (form w).operands → first_outside 1 (form w).operands zs ≡ None → (parts (made w zs)).numbers ≡ zs
+numbers_kept w zs n e = numbers_made w zs ∙ all_held_same (form w).operands zs (few_operands w) n e
+
+-- numbers in their ranges fit 64 bits
+small_between : (low high z : ℤ) → int_le (negsuc 9223372036854775800) low ≡ true → int_le high (pos 9223372036854775800) ≡ true → (int_le low z && int_le z high) ≡ true → nat_lt (unsigned_abs z) (2 ^ 63) ≡ true
+small_between low high (pos n) l h e = grind (arith, ints, nat_tests)
+small_between low high (negsuc n) l h e = grind (arith, ints, nat_tests)
+
+small_if_fits : (kind : Operand) (z : ℤ) → fits kind z ≡ true → nat_lt (unsigned_abs z) (2 ^ 63) ≡ true
+small_if_fits Register z e = small_between (pos 0) (pos 15) z refl refl e
+small_if_fits Tag z e = small_between (pos 0) (pos 245) z refl refl e
+small_if_fits FieldCount z e = small_between (pos 1) (pos 126) z refl refl e
+small_if_fits KeyCount z e = small_between (pos 1) (pos 8) z refl refl e
+small_if_fits Index z e = small_between (pos 0) (pos 1023) z refl refl e
+small_if_fits FinaliserNumber z e = small_between (pos 0) (pos 65535) z refl refl e
+small_if_fits Integer z e = small_between (negsuc 4611686018427387903) (pos 4611686018427387903) z refl refl e
+
+pub small_if_inside : (which : ℕ) (kinds : List Operand) (zs : List ℤ) → length zs ≡ length kinds → first_outside which kinds zs ≡ None → are_small zs ≡ true
+small_if_inside which kinds [] n e = refl
+small_if_inside which [] (z ∷ zs) n e = absurd (omega arith)
+small_if_inside which (kind ∷ kinds) (z ∷ zs) n e =
+    let p = passed (fits kind z) (first_outside (which + 1) kinds zs) which e in
+    ap (λ b. b && are_small zs) (small_if_fits kind z p.0) ∙ small_if_inside (which + 1) kinds zs (omega arith) p.1
+
+-- the two ways to say that numbers are in their ranges
+pub inside_if_fit : (which : ℕ) (kinds : List Operand) (zs : List ℤ) → all_fit kinds zs ≡ true → first_outside which kinds zs ≡ None
+inside_if_fit which [] zs e = refl
+inside_if_fit which (kind ∷ kinds) [] e = refl
+inside_if_fit which (kind ∷ kinds) (z ∷ zs) e =
+    let p = both (fits kind z) (all_fit kinds zs) e in
+    ap (λ b. cond b (first_outside (which + 1) kinds zs) (Some which)) p.0 ∙ inside_if_fit (which + 1) kinds zs p.1
+
+pub fit_if_inside : (which : ℕ) (kinds : List Operand) (zs : List ℤ) → first_outside which kinds zs ≡ None → all_fit kinds zs ≡ true
+fit_if_inside which [] zs e = refl
+fit_if_inside which (kind ∷ kinds) [] e = refl
+fit_if_inside which (kind ∷ kinds) (z ∷ zs) e =
+    let p = passed (fits kind z) (first_outside (which + 1) kinds zs) which e in
+    ap (λ b. b && all_fit kinds zs) p.0 ∙ fit_if_inside (which + 1) kinds zs p.1

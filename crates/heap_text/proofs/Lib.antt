@@ -1,0 +1,14 @@
+pub mod CutLemmas
+pub mod ScriptLemmas
+pub mod NumberLemmas
+pub mod RangeLemmas
+pub mod DecimalLemmas
+pub mod TextLemmas
+pub mod FormLemmas
+pub mod ShapeLemmas
+pub mod SectionLemmas
+pub mod FaultLemmas
+pub mod ReadLemmas
+pub mod OnlyLemmas
+pub mod SpellsLemmas
+pub mod LineLemmas

@@ -1,0 +1,133 @@
+-- What the numbers that were read of a line say of it.
+use Rattle.std.proofs.Common.{◌≡◌, ◌≢◌, ℕ, ◌<◌, ◌^◌, zero, suc, min, ℤ, pos, negsuc, neg_ℤ, List, [], ◌∷◌, ◌++◌, map, length, Bool, true, false, cond, refl, ap, sym, ◌∙◌, subst, arith, None, Some}
+use Rattle.std.specs.Prelude.{Option, option_map, ◌==◌, nat_le, nat_lt, slice_get, unsigned_abs, sum_by}
+use Rattle.std.specs.Ordering.{int_eq}
+use Rattle.std.proofs.lemmas.Bool.Decides.{nat_tests}
+use Rattle.std.proofs.lemmas.List.{length-map}
+use Rattle.heap_model.specs.declared.command.Command.{Command}
+use Rattle.heap_text.specs.declared.form.Operand.{Operand}
+use Rattle.heap_text.specs.declared.form.Word.{Word}
+use Rattle.heap_text.specs.declared.fault.ScriptFault.{ScriptFault}
+use Rattle.heap_text.specs.declared.fault.ScriptFault.TheVariants.{Range, Order}
+use Rattle.heap_text.specs.Number.{clipped, counted_numbers}
+use Rattle.heap_text.specs.Forms.{form, made}
+use Rattle.heap_text.specs.Script.{with_command}
+use Rattle.heap_text.specs.Faults.{Shape, heading, command, heading_shape, command_shape, first_outside, is_section, fault_of_shape}
+use Rattle.heap_text.specs.Steps.{IsHeadingNumber, OpensSection, AddsCommand}
+use Rattle.heap_text.proofs.RangeLemmas.{first_outside-clipped, map-clipped_kept}
+
+-- the first of the numbers of a heading
+heading_first : (zs : List ℤ) → length zs ≡ 1 → IsHeadingNumber (heading_shape (Some zs)) (slice_get (map clipped zs) 0)
+heading_first [] n = absurd (omega arith)
+heading_first (z ∷ []) n = (z, refl, refl)
+heading_first (z ∷ y ∷ zs) n = absurd (omega arith)
+
+pub heading_read : (o : Option (List ℤ)) (ns : List ℤ) → Some ns ≡ option_map (map clipped) o → length ns ≡ 1 → IsHeadingNumber (heading_shape o) (slice_get ns 0)
+heading_read None ns e n = cc
+heading_read (Some zs) ns e n =
+    let same : map clipped zs ≡ ns = cc in
+    subst (λ (xs : List ℤ). IsHeadingNumber (heading_shape (Some zs)) (slice_get xs 0)) same (heading_first zs (omega (arith, length-map zs clipped, ap length same, n)))
+
+chosen : (a b : Bool) (x y z : Option ScriptFault) → a ≡ false → b ≡ false → cond a x (cond b y z) ≡ z
+chosen true b x y z e f = cc
+chosen false true x y z e f = cc
+chosen false false x y z e f = refl
+
+-- a command with no fault but its ranges
+ranges_alone : (domains line headings commands : ℕ) (w : Word) (zs : List ℤ) → headings ≢ 0 → commands < 200000 → fault_of_shape domains line headings commands (command w zs) ≡ option_map (Range line) (first_outside 1 (form w).operands zs)
+ranges_alone domains line headings commands w zs some room =
+    chosen (headings == 0) (nat_le 200000 commands) _ _ _ (grind (arith, nat_tests)) (grind (arith, nat_tests))
+
+-- the first number of a command that is out of range
+range_found : (domains line headings commands : ℕ) (w : Word) (o : Option (List ℤ)) (ns : List ℤ) (which : ℕ) → Some ns ≡ option_map (map clipped) o
+    → headings ≢ 0 → commands < 200000 → Some which ≡ first_outside 1 (form w).operands ns → fault_of_shape domains line headings commands (command_shape w o) ≡ Some (Range line which)
+range_found domains line headings commands w None ns which e some room outside = cc
+range_found domains line headings commands w (Some zs) ns which e some room outside =
+    let same : ns ≡ map clipped zs = cc in
+    let found = outside ∙ ap (first_outside 1 (form w).operands) same ∙ first_outside-clipped 1 (form w).operands zs in
+    ranges_alone domains line headings commands w zs some room ∙ ap (option_map (Range line)) (sym found)
+
+pub range_read : (domains line headings commands : ℕ) (w : Word) (ts : List (List ℕ)) (kinds : List Operand) (ns : List ℤ) (which : ℕ) → kinds ≡ (form w).operands
+    → Some ns ≡ option_map (map clipped) (counted_numbers (length kinds) ts) → headings ≢ 0 → commands < 200000 → Some which ≡ first_outside 1 kinds ns
+    → fault_of_shape domains line headings commands (command_shape w (counted_numbers (length (form w).operands) ts)) ≡ Some (Range line which)
+range_read domains line headings commands w ts kinds ns which k e some room outside =
+    range_found domains line headings commands w (counted_numbers (length (form w).operands) ts) ns which (e ∙ ap (λ x. option_map (map clipped) (counted_numbers (length x) ts)) k) some room
+    (outside ∙ ap (λ x. first_outside 1 x ns) k)
+
+-- a command that is added
+command_found : (w : Word) (o : Option (List ℤ)) (ns : List ℤ) (old new : List (List Command)) → Some ns ≡ option_map (map clipped) o → length ns ≡ length (form w).operands
+    → length old ≢ 0 → sum_by length old < 200000 → None ≡ first_outside 1 (form w).operands ns → new ≡ with_command old (made w ns) → AddsCommand (command_shape w o) old new
+command_found w None ns old new e n some room outside pushed = cc
+command_found w (Some zs) ns old new e n some room outside pushed =
+    let same : ns ≡ map clipped zs = cc in
+    let fits = sym (outside ∙ ap (first_outside 1 (form w).operands) same ∙ first_outside-clipped 1 (form w).operands zs) in
+    let counted : length zs ≡ length (form w).operands = omega (arith, length-map zs clipped, ap length same, n) in
+    let kept = same ∙ map-clipped_kept 1 (form w).operands zs counted fits in
+    record {
+      word = w;
+      numbers = zs;
+      is_command = refl;
+      in_ranges = fits;
+      begun = omega arith;
+      room = room;
+      sections = pushed ∙ ap (λ x. with_command old (made w x)) kept;
+    }
+
+pub command_read : (w : Word) (ts : List (List ℕ)) (kinds : List Operand) (ns : List ℤ) (old new : List (List Command)) → kinds ≡ (form w).operands → Some ns ≡ option_map (map clipped) (counted_numbers (length kinds) ts)
+    → length ns ≡ length kinds → length old ≢ 0 → sum_by length old < 200000 → None ≡ first_outside 1 kinds ns → new ≡ with_command old (made w ns)
+    → AddsCommand (command_shape w (counted_numbers (length (form w).operands) ts)) old new
+command_read w ts kinds ns old new k e n some room outside pushed =
+    command_found w (counted_numbers (length (form w).operands) ts) ns old new (e ∙ ap (λ x. option_map (map clipped) (counted_numbers (length x) ts)) k)
+    (n ∙ ap length k) some room (outside ∙ ap (λ x. first_outside 1 x ns) k) pushed
+
+-- a number that is negative is no section's
+negative : (domains k : ℕ) → 0 < k → is_section domains (neg_ℤ (pos k)) ≡ false
+negative domains zero h = absurd (omega arith)
+negative domains (suc k) h = refl
+
+section_clipped : (domains : ℕ) (z : ℤ) → domains < 2 ^ 32 → is_section domains (clipped z) ≡ is_section domains z
+section_clipped domains (pos n) h = grind (arith, nat_tests)
+section_clipped domains (negsuc n) h = negative domains (min (suc n) 9223372036854775807) (omega arith)
+
+heading_if : (b : Bool) (domains line headings commands : ℕ) (z : ℤ) → is_section domains z ≡ b
+    → fault_of_shape domains line headings commands (heading z) ≡ cond b (cond (int_eq z (pos headings)) None (Some (Order line))) (Some (Range line 1))
+heading_if b domains line headings commands z e = ap (λ a. cond a (cond (int_eq z (pos headings)) None (Some (Order line))) (Some (Range line 1))) e
+
+pub heading_outside : (domains line headings commands : ℕ) (shape : Shape) (n : ℤ) → IsHeadingNumber shape (Some n) → domains < 2 ^ 32 → false ≡ is_section domains n → fault_of_shape domains line headings commands shape ≡ Some (Range line 1)
+heading_outside domains line headings commands shape n is small outside =
+    ap (fault_of_shape domains line headings commands) is.1
+    ∙ heading_if false domains line headings commands is.0 (sym (section_clipped domains is.0 small) ∙ ap (is_section domains) (sym is.2) ∙ sym outside)
+
+-- the number of a section is its magnitude
+section_number : (domains : ℕ) (z n : ℤ) → domains < 2 ^ 32 → n ≡ clipped z → true ≡ is_section domains n → (z ≡ pos (unsigned_abs n)) × (unsigned_abs n < domains)
+section_number domains (pos m) n small e inside =
+    let within : true ≡ nat_lt (min m 9223372036854775807) domains = inside ∙ ap (is_section domains) e in
+    let below : min m 9223372036854775807 < domains = grind (arith, nat_tests) in
+    let same : m ≡ min m 9223372036854775807 = omega arith in
+    let value : unsigned_abs n ≡ min m 9223372036854775807 = ap unsigned_abs e in
+    (ap pos (same ∙ sym value), omega arith)
+section_number domains (negsuc m) n small e inside =
+    let outside = negative domains (min (suc m) 9223372036854775807) (omega arith) in
+    let within = inside ∙ ap (is_section domains) e in
+    cc
+
+not_equal : (m h : ℕ) → m ≢ h → int_eq (pos m) (pos h) ≡ false
+not_equal m h ne = grind (arith, nat_tests)
+
+pub heading_out_of_order : (domains line headings commands : ℕ) (shape : Shape) (n : ℤ) → IsHeadingNumber shape (Some n) → domains < 2 ^ 32 → true ≡ is_section domains n → unsigned_abs n ≢ headings
+    → fault_of_shape domains line headings commands shape ≡ Some (Order line)
+heading_out_of_order domains line headings commands shape n is small inside other =
+    let section = section_number domains is.0 n small is.2 inside in
+    ap (fault_of_shape domains line headings commands) is.1
+    ∙ heading_if true domains line headings commands is.0 (sym (section_clipped domains is.0 small) ∙ ap (is_section domains) (sym is.2) ∙ sym inside)
+    ∙ ap (λ z. cond (int_eq z (pos headings)) None (Some (Order line))) section.0
+    ∙ ap (λ b. cond b None (Some (Order line))) (not_equal (unsigned_abs n) headings other)
+
+pub heading_next : (domains : ℕ) (shape : Shape) (n : ℤ) (old new : List (List Command)) → IsHeadingNumber shape (Some n) → domains < 2 ^ 32 → true ≡ is_section domains n → unsigned_abs n ≡ length old → new ≡ old ++ [] ∷ []
+    → OpensSection domains shape old new
+heading_next domains shape n old new is small inside next opened =
+    let section = section_number domains is.0 n small is.2 inside in record {
+      is_next = is.1 ∙ ap heading (section.0 ∙ ap pos next);
+      in_range = omega (arith, section.1, next);
+      sections = opened;
+    }

@@ -1,0 +1,62 @@
+-- A clipped number is in a range where the number is.
+use Rattle.std.proofs.Common.{◌≡◌, ℕ, ◌+◌, ℤ, pos, negsuc, List, [], ◌∷◌, map, length, Bool, true, false, cond, refl, ap, ◌∙◌, arith, None, Some}
+use Rattle.std.specs.Prelude.{Option, ◌&&◌, int_le}
+use Rattle.std.proofs.lemmas.Bool.Decides.{nat_tests}
+use Rattle.std.proofs.lemmas.Int.{ints}
+use Rattle.heap_text.specs.declared.form.Operand.{Operand}
+use Rattle.heap_text.specs.declared.form.Operand.TheVariants.{Register, Tag, FieldCount, KeyCount, Index, FinaliserNumber, Integer}
+use Rattle.heap_text.specs.Number.{clipped}
+use Rattle.heap_text.specs.Forms.{fits}
+use Rattle.heap_text.specs.Faults.{first_outside}
+
+abbrev is_between : ℤ → ℤ → ℤ → Bool
+is_between low high z = int_le low z && int_le z high
+
+-- no range that clipping moves a number into or out of
+clipped_between : (low high z : ℤ) → int_le (negsuc 9223372036854775800) low ≡ true → int_le high (pos 9223372036854775800) ≡ true → is_between low high (clipped z) ≡ is_between low high z
+clipped_between low high (pos n) l h = grind (arith, ints, nat_tests)
+clipped_between low high (negsuc n) l h = grind (arith, ints, nat_tests)
+
+pub fits-clipped : (kind : Operand) (z : ℤ) → fits kind (clipped z) ≡ fits kind z
+fits-clipped Register z = clipped_between (pos 0) (pos 15) z refl refl
+fits-clipped Tag z = clipped_between (pos 0) (pos 245) z refl refl
+fits-clipped FieldCount z = clipped_between (pos 1) (pos 126) z refl refl
+fits-clipped KeyCount z = clipped_between (pos 1) (pos 8) z refl refl
+fits-clipped Index z = clipped_between (pos 0) (pos 1023) z refl refl
+fits-clipped FinaliserNumber z = clipped_between (pos 0) (pos 65535) z refl refl
+fits-clipped Integer z = clipped_between (negsuc 4611686018427387903) (pos 4611686018427387903) z refl refl
+
+pub first_outside-clipped : (which : ℕ) (kinds : List Operand) (zs : List ℤ) → first_outside which kinds (map clipped zs) ≡ first_outside which kinds zs
+first_outside-clipped which [] zs = refl
+first_outside-clipped which (kind ∷ kinds) [] = refl
+first_outside-clipped which (kind ∷ kinds) (z ∷ zs) =
+    ap (λ b. cond b (first_outside (which + 1) kinds (map clipped zs)) (Some which)) (fits-clipped kind z)
+    ∙ ap (λ o. cond (fits kind z) o (Some which)) (first_outside-clipped (which + 1) kinds zs)
+
+-- a number in such a range is not clipped
+between_kept : (low high z : ℤ) → int_le (negsuc 9223372036854775800) low ≡ true → int_le high (pos 9223372036854775800) ≡ true → is_between low high z ≡ true → clipped z ≡ z
+between_kept low high (pos n) l h e = grind (arith, ints, nat_tests)
+between_kept low high (negsuc n) l h e = grind (arith, ints, nat_tests)
+
+pub clipped_kept : (kind : Operand) (z : ℤ) → fits kind z ≡ true → clipped z ≡ z
+clipped_kept Register z e = between_kept (pos 0) (pos 15) z refl refl e
+clipped_kept Tag z e = between_kept (pos 0) (pos 245) z refl refl e
+clipped_kept FieldCount z e = between_kept (pos 1) (pos 126) z refl refl e
+clipped_kept KeyCount z e = between_kept (pos 1) (pos 8) z refl refl e
+clipped_kept Index z e = between_kept (pos 0) (pos 1023) z refl refl e
+clipped_kept FinaliserNumber z e = between_kept (pos 0) (pos 65535) z refl refl e
+clipped_kept Integer z e = between_kept (negsuc 4611686018427387903) (pos 4611686018427387903) z refl refl e
+
+-- a test that let the walk go on
+passed : (b : Bool) (o : Option ℕ) (which : ℕ) → cond b o (Some which) ≡ None → (b ≡ true) × (o ≡ None)
+passed true o which e = (refl, e)
+passed false o which e = cc
+
+pub map-clipped_kept : (which : ℕ) (kinds : List Operand) (zs : List ℤ) → length zs ≡ length kinds → first_outside which kinds zs ≡ None → map clipped zs ≡ zs
+map-clipped_kept which kinds [] n e = refl
+map-clipped_kept which [] (z ∷ zs) n e = absurd (omega arith)
+map-clipped_kept which (kind ∷ kinds) (z ∷ zs) n e =
+    let p = passed (fits kind z) (first_outside (which + 1) kinds zs) which e in
+    let head = clipped_kept kind z p.0 in
+    let rest = map-clipped_kept (which + 1) kinds zs (omega arith) p.1 in
+    cc

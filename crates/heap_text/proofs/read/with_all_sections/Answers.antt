@@ -1,0 +1,5 @@
+use Rattle.std.proofs.Common.{ap, ◌∙◌, ◌++◌, [], replicate, arith}
+use Rattle.heap_text.proofs.read.with_all_sections.Goals as goal
+
+pub returns-clause-ok : goal.returns-clause-ok
+returns-clause-ok c = c.loop.invariant.filled ∙ ap (λ n. c.args.script ++ replicate n []) (omega arith)

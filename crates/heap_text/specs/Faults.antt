@@ -1,0 +1,112 @@
+-- The faults of a script: what is wrong with a line, given the lines before it, and the first fault of all.
+use Rattle.std.specs.Prelude.{◌≡◌, ℕ, ◌+◌, ℤ, pos, negsuc, Bool, true, false, List, [], ◌∷◌, ◌++◌, length, count_by, codes, bytes_eq, Option, None, Some, option_map, ◌==◌, nat_lt, nat_le, if◌then◌else◌}
+use Rattle.std.specs.List.{slice_split}
+use Rattle.std.specs.Ordering.{int_eq}
+use Rattle.heap_text.specs.declared.form.Operand.{Operand}
+use Rattle.heap_text.specs.declared.form.Word.{Word}
+use Rattle.heap_text.specs.declared.fault.ScriptFault.{ScriptFault}
+use Rattle.heap_text.specs.declared.fault.ScriptFault.TheVariants.{Syntax, Order, Range, TooLong, TooMany, Memory}
+use Rattle.heap_text.specs.Number.{counted_numbers}
+use Rattle.heap_text.specs.Forms.{form, fits, word_of}
+
+-- what a line says, whatever stands before it
+pub data Shape : Type 0 where
+  heading : ℤ → Shape
+  command : Word → List ℤ → Shape
+  neither : Shape
+
+-- a command, if it has its count of numbers
+abbrev pub command_shape : Word → Option (List ℤ) → Shape
+command_shape w None = neither
+command_shape w (Some zs) = command w zs
+
+-- a heading, if it has one number
+abbrev pub heading_shape : Option (List ℤ) → Shape
+heading_shape (Some (z ∷ [])) = heading z
+heading_shape _ = neither
+
+-- the texts behind the word of a row
+abbrev pub row_shape : Option Word → List (List ℕ) → Shape
+row_shape None ts = neither
+row_shape (Some w) ts = command_shape w (counted_numbers (length (form w).operands) ts)
+
+-- the texts of a line
+abbrev pub shape_of : List (List ℕ) → Shape
+shape_of [] = neither
+shape_of (t ∷ ts) = if bytes_eq t (codes "domain") then heading_shape (counted_numbers 1 ts) else row_shape (word_of t) ts
+
+-- a line, cut at each space
+abbrev pub texts : List ℕ → List (List ℕ)
+texts line = slice_split (λ b. b == 32) line
+
+abbrev pub shape : List ℕ → Shape
+shape line = shape_of (texts line)
+
+abbrev pub is_heading : Shape → Bool
+is_heading (heading z) = true
+is_heading _ = false
+
+abbrev pub is_command : Shape → Bool
+is_command (command w zs) = true
+is_command _ = false
+
+-- how many of these lines are headings, and how many are commands
+abbrev pub headings : List (List ℕ) → ℕ
+headings lines = count_by (λ l. is_heading (shape l)) lines
+
+abbrev pub commands : List (List ℕ) → ℕ
+commands lines = count_by (λ l. is_command (shape l)) lines
+
+-- the place, counted from `which`, of the first number that is outside the range of its operand
+abbrev pub first_outside : ℕ → List Operand → List ℤ → Option ℕ
+first_outside which (kind ∷ kinds) (z ∷ zs) = if fits kind z then first_outside (which + 1) kinds zs else Some which
+first_outside which _ _ = None
+
+-- whether a number is that of a section in a run with so many domains
+abbrev pub is_section : ℕ → ℤ → Bool
+is_section domains (pos n) = nat_lt n domains
+is_section domains (negsuc n) = false
+
+-- what is wrong with a line below the first, by its number, the headings and the commands before it, and what it says
+abbrev pub fault_of_shape : ℕ → ℕ → ℕ → ℕ → Shape → Option ScriptFault
+fault_of_shape domains line before_headings before_commands neither = Some (Syntax line)
+fault_of_shape domains line before_headings before_commands (heading z) =
+    if is_section domains z then (if int_eq z (pos before_headings) then None else Some (Order line)) else Some (Range line 1)
+fault_of_shape domains line before_headings before_commands (command w zs) =
+    if before_headings == 0 then Some (Order line)
+    else if nat_le 200000 before_commands then Some (TooMany line)
+    else option_map (Range line) (first_outside 1 (form w).operands zs)
+
+-- what is wrong with a line, given the lines before it
+abbrev pub line_fault : ℕ → List (List ℕ) → List ℕ → Option ScriptFault
+line_fault domains [] line = if bytes_eq line (codes "heap 1") then None else Some (Syntax 1)
+line_fault domains (first ∷ before) line =
+    let lines = first ∷ before in
+    fault_of_shape domains (length lines + 1) (headings lines) (commands lines) (shape line)
+
+-- what is wrong with what stands behind the last line feed, given the lines: it is to be empty, and not the first
+abbrev pub end_fault : List (List ℕ) → List ℕ → Option ScriptFault
+end_fault (first ∷ before) [] = None
+end_fault lines rest = Some (Syntax (length lines + 1))
+
+-- the first of two faults
+abbrev pub or_else : Option ScriptFault → Option ScriptFault → Option ScriptFault
+or_else (Some f) later = Some f
+or_else None later = later
+
+-- the first fault of these lines and of what stands behind their last line feed, given the lines before them
+abbrev pub fault_from : ℕ → List (List ℕ) → List (List ℕ) → Option ScriptFault
+fault_from domains before [] = None
+fault_from domains before (rest ∷ []) = end_fault before rest
+fault_from domains before (line ∷ next ∷ more) = or_else (line_fault domains before line) (fault_from domains (before ++ line ∷ []) (next ∷ more))
+
+-- the first fault of a script
+abbrev pub first_fault : ℕ → List ℕ → Option ScriptFault
+first_fault domains bytes =
+    if nat_lt 16777216 (length bytes) then Some (TooLong (length bytes))
+    else fault_from domains [] (slice_split (λ b. b == 10) bytes)
+
+-- the fault is the first one, unless memory ran out
+abbrev pub IsFaultUnlessMemory : ScriptFault → Option ScriptFault → Type 0
+IsFaultUnlessMemory Memory first = Unit {0}
+IsFaultUnlessMemory fault first = first ≡ Some fault

@@ -1,0 +1,7 @@
+pub mod Number
+pub mod Forms
+pub mod Script
+pub mod Spelling
+pub mod Faults
+pub mod Cut
+pub mod Steps

@@ -1,0 +1,9 @@
+-- A script under construction.
+use Rattle.std.specs.Prelude.{List, [], ◌∷◌, ◌++◌}
+use Rattle.heap_model.specs.declared.command.Command.{Command}
+
+-- the sections with a command at the end of the last
+abbrev pub with_command : List (List Command) → Command → List (List Command)
+with_command [] c = []
+with_command (cs ∷ []) c = (cs ++ c ∷ []) ∷ []
+with_command (cs ∷ next ∷ sections) c = cs ∷ with_command (next ∷ sections) c

@@ -1,0 +1,62 @@
+-- The grammar by what a script prints as. A script has one spelling.
+use Rattle.std.specs.Prelude.{◌≡◌, ℕ, ◌+◌, ◌-◌, ◌≤◌, ℤ, true, List, [], ◌∷◌, ◌++◌, map, length, flat_map, sum_by, replicate, codes, decimal, Result, Err}
+use Rattle.std.specs.List.{list_all}
+use Rattle.std.specs.Fmt.{signed_decimal}
+use Rattle.heap_model.specs.declared.command.Command.{Command}
+use Rattle.heap_model.specs.Output.{line}
+use Rattle.heap_text.specs.declared.form.Word.{Word}
+use Rattle.heap_text.specs.declared.fault.ScriptFault.{ScriptFault}
+use Rattle.heap_text.specs.declared.fault.ScriptFault.TheVariants.{Memory}
+use Rattle.heap_text.specs.Forms.{form, parts, is_writable}
+
+-- a row with its numbers, as text: one space before each number
+abbrev pub row_text : Word → List ℤ → List ℕ
+row_text w zs = (form w).text ++ flat_map (λ z. 32 ∷ signed_decimal z) zs
+
+-- a command as text
+abbrev pub command_text : Command → List ℕ
+command_text c = row_text (parts c).word (parts c).numbers
+
+-- the heading of section n as text
+abbrev pub heading_text : ℕ → List ℕ
+heading_text n = codes "domain " ++ decimal n
+
+-- the lines of section n
+abbrev pub section_lines : ℕ → List Command → List (List ℕ)
+section_lines n cs = heading_text n ∷ map command_text cs
+
+-- the lines of sections, the first of which has the number n
+abbrev pub lines_from : ℕ → List (List Command) → List (List ℕ)
+lines_from n [] = []
+lines_from n (cs ∷ sections) = section_lines n cs ++ lines_from (n + 1) sections
+
+-- the lines of a script
+abbrev pub script_lines : List (List Command) → List (List ℕ)
+script_lines sections = codes "heap 1" ∷ lines_from 0 sections
+
+-- what a script with these sections prints as
+abbrev pub spelling : List (List Command) → List ℕ
+spelling sections = flat_map line (script_lines sections)
+
+-- what has a spelling: a section for each of the first domains, with commands of the grammar
+pub record IsWritten (domains : ℕ) (sections : List (List Command)) : Type 0 where
+  pub few_sections : length sections ≤ domains
+  pub few_commands : sum_by length sections ≤ 200000
+  pub writable : list_all (list_all is_writable) sections ≡ true
+
+-- a script as the run gets it: the sections that are written, and an empty one for each further domain
+abbrev pub with_empty : ℕ → List (List Command) → List (List Command)
+with_empty domains sections = sections ++ replicate (domains - length sections) []
+
+-- the bytes spell this script for a run with so many domains
+pub record Spells (domains : ℕ) (script : List (List Command)) (bytes : List ℕ) : Type 0 where
+  pub written : List (List Command)
+  pub is_written : IsWritten domains written
+  pub bytes_are : bytes ≡ spelling written
+  pub few_bytes : length bytes ≤ 16777216
+  pub script_is : script ≡ with_empty domains written
+
+-- the answer is this one, unless memory ran out
+abbrev pub IsUnlessMemory : {A : Type 0} → Result A ScriptFault → Result A ScriptFault → Type 0
+IsUnlessMemory (Err Memory) answer = Unit {0}
+IsUnlessMemory given answer = given ≡ answer

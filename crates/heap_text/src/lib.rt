@@ -1,0 +1,23 @@
+//! Scripts and reply lines as text: what a script is, its first fault, and how commands, replies and headings are printed.
+#![tactic(auto)]
+
+mod cut;
+pub mod fault;
+pub mod form;
+pub mod front;
+pub mod law;
+mod line;
+mod number;
+pub mod print;
+pub mod read;
+pub mod script;
+mod table;
+
+pub use fault::ScriptFault;
+pub use front::Line;
+pub use print::{print_command, print_heading, print_reply};
+pub use read::read_script;
+pub use script::Script;
+
+#[cfg(test)]
+mod tests;

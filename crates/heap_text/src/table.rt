@@ -1,0 +1,222 @@
+// The table of command forms, for the reader and the printer.
+ghost use Rattle.std.specs.Prelude.{◌≡◌, ◌≤◌, pos, length, slice_index_or};
+ghost use Rattle.heap_text.specs.Forms.{form, word_of, made, byte as byte_of, short as short_of, wide as wide_of, fits as fits_kind, least as least_of, greatest as greatest_of};
+
+use crate::form::{Operand, Word};
+use heap_model::command::Command;
+
+// The words of the grammar: the commands that are built.
+const BUILT: [Word; 4] = [Word::Int, Word::Alloc, Word::Load, Word::Store];
+
+// The word that a row's line begins with.
+pub(crate) fn text_of(word: Word) -> &'static [u8]
+    ensures text { result.now ≡ (form word).text }
+    ensures short { length result.now ≤ 13 }
+{
+    match word {
+        Word::Int => b"int",
+        Word::Move => b"move",
+        Word::Drop => b"drop",
+        Word::Alloc => b"alloc",
+        Word::AllocMaj => b"allocmaj",
+        Word::Load => b"load",
+        Word::Store => b"store",
+        Word::Ephe => b"ephe",
+        Word::SetKey => b"set_key",
+        Word::UnsetKey => b"unset_key",
+        Word::GetKey => b"get_key",
+        Word::CheckKey => b"check_key",
+        Word::SetData => b"set_data",
+        Word::UnsetData => b"unset_data",
+        Word::GetData => b"get_data",
+        Word::CheckData => b"check_data",
+        Word::Finalise => b"finalise",
+        Word::FinaliseLast => b"finalise_last",
+        Word::Poll => b"poll",
+        Word::Minor => b"minor",
+        Word::Major => b"major",
+        Word::FullMajor => b"full_major",
+    }
+}
+
+// The kinds of the numbers of a row's line.
+pub(crate) fn operands_of(word: Word) -> &'static [Operand]
+    ensures { result.now ≡ (form word).operands }
+{
+    match word {
+        Word::Int => &[Operand::Register, Operand::Integer],
+        Word::Move => &[Operand::Register, Operand::Register],
+        Word::Drop => &[Operand::Register],
+        Word::Alloc => &[Operand::Register, Operand::Tag, Operand::FieldCount],
+        Word::AllocMaj => &[Operand::Register, Operand::Tag, Operand::FieldCount],
+        Word::Load => &[Operand::Register, Operand::Register, Operand::Index],
+        Word::Store => &[Operand::Register, Operand::Index, Operand::Register],
+        Word::Ephe => &[Operand::Register, Operand::KeyCount],
+        Word::SetKey => &[Operand::Register, Operand::Index, Operand::Register],
+        Word::UnsetKey => &[Operand::Register, Operand::Index],
+        Word::GetKey => &[Operand::Register, Operand::Register, Operand::Index],
+        Word::CheckKey => &[Operand::Register, Operand::Index],
+        Word::SetData => &[Operand::Register, Operand::Register],
+        Word::UnsetData => &[Operand::Register],
+        Word::GetData => &[Operand::Register, Operand::Register],
+        Word::CheckData => &[Operand::Register],
+        Word::Finalise => &[
+            Operand::Register,
+            Operand::FinaliserNumber,
+            Operand::Register,
+        ],
+        Word::FinaliseLast => &[Operand::Register, Operand::FinaliserNumber],
+        Word::Poll => &[],
+        Word::Minor => &[],
+        Word::Major => &[],
+        Word::FullMajor => &[],
+    }
+}
+
+// The row that a text is the word of, if it is one that is built.
+pub(crate) fn find_word(text: &[u8]) -> Option<Word>
+    ensures { result ≡ word_of text.now }
+{
+    BUILT.iter().copied().find(|word| text_of(*word) == text)
+}
+
+// The command of a row and its numbers.
+pub(crate) fn make(word: Word, numbers: &[i64]) -> Command
+    ensures { result ≡ made word numbers.now }
+{
+    let a = number_at(numbers, 0);
+    let b = number_at(numbers, 1);
+    let c = number_at(numbers, 2);
+    match word {
+        Word::Int => Command::PutInt {
+            dst: byte(a),
+            value: b,
+        },
+        Word::Move => Command::Copy {
+            dst: byte(a),
+            src: byte(b),
+        },
+        Word::Drop => Command::Forget { dst: byte(a) },
+        Word::Alloc => Command::Alloc {
+            dst: byte(a),
+            tag: byte(b),
+            fields: short(c),
+        },
+        Word::AllocMaj => Command::AllocMaj {
+            dst: byte(a),
+            tag: byte(b),
+            fields: short(c),
+        },
+        Word::Load => Command::Load {
+            dst: byte(a),
+            src: byte(b),
+            index: short(c),
+        },
+        Word::Store => Command::Store {
+            block: byte(a),
+            index: short(b),
+            item: byte(c),
+        },
+        Word::Ephe => Command::Ephe {
+            dst: byte(a),
+            keys: short(b),
+        },
+        Word::SetKey => Command::SetKey {
+            ephe: byte(a),
+            index: short(b),
+            item: byte(c),
+        },
+        Word::UnsetKey => Command::UnsetKey {
+            ephe: byte(a),
+            index: short(b),
+        },
+        Word::GetKey => Command::GetKey {
+            dst: byte(a),
+            ephe: byte(b),
+            index: short(c),
+        },
+        Word::CheckKey => Command::CheckKey {
+            ephe: byte(a),
+            index: short(b),
+        },
+        Word::SetData => Command::SetData {
+            ephe: byte(a),
+            item: byte(b),
+        },
+        Word::UnsetData => Command::UnsetData { ephe: byte(a) },
+        Word::GetData => Command::GetData {
+            dst: byte(a),
+            ephe: byte(b),
+        },
+        Word::CheckData => Command::CheckData { ephe: byte(a) },
+        Word::Finalise => Command::Finalise {
+            item: byte(a),
+            number: wide(b),
+            dst: byte(c),
+        },
+        Word::FinaliseLast => Command::FinaliseLast {
+            item: byte(a),
+            number: wide(b),
+        },
+        Word::Poll => Command::Poll,
+        Word::Minor => Command::Minor,
+        Word::Major => Command::Major,
+        Word::FullMajor => Command::FullMajor,
+    }
+}
+
+fn number_at(numbers: &[i64], i: usize) -> i64
+    ensures { result ≡ slice_index_or numbers.now i (pos 0) }
+{
+    numbers.get(i).copied().unwrap_or(0)
+}
+
+// A number as a field of 8 bits holds it. One in its range stays as it is.
+fn byte(z: i64) -> u8
+    ensures { result ≡ byte_of z }
+{
+    z.unsigned_abs().min(255) as u8
+}
+
+fn short(z: i64) -> u16
+    ensures { result ≡ short_of z }
+{
+    z.unsigned_abs().min(65_535) as u16
+}
+
+fn wide(z: i64) -> u32
+    ensures { result ≡ wide_of z }
+{
+    z.unsigned_abs().min(4_294_967_295) as u32
+}
+
+fn least(kind: Operand) -> i64
+    ensures { result ≡ least_of kind }
+{
+    match kind {
+        Operand::FieldCount | Operand::KeyCount => 1,
+        Operand::Integer => -4_611_686_018_427_387_904,
+        _ => 0,
+    }
+}
+
+fn greatest(kind: Operand) -> i64
+    ensures { result ≡ greatest_of kind }
+{
+    match kind {
+        Operand::Register => 15,
+        Operand::Tag => 245,
+        Operand::FieldCount => 126,
+        Operand::KeyCount => 8,
+        Operand::Index => 1023,
+        Operand::FinaliserNumber => 65_535,
+        Operand::Integer => 4_611_686_018_427_387_903,
+    }
+}
+
+// Whether a number is in the range of its kind.
+pub(crate) fn fits(kind: Operand, number: i64) -> bool
+    ensures { result ≡ fits_kind kind number }
+{
+    least(kind) <= number && number <= greatest(kind)
+}
