@@ -7,3 +7,4 @@ pub mod History
 pub mod Output
 pub mod WellFormed
 pub mod Marked
+pub mod Fronts

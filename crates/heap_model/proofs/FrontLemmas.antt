@@ -1,0 +1,106 @@
+-- Fronts that grow, and what a domain's front tells of the whole history.
+use Rattle.std.proofs.Common.{◌≡◌, ℕ, Bool, true, false, not, ◌&&◌, IsTrue, List, [], ◌∷◌, ◌++◌, refl, ap, sym, ◌∙◌, subst, append_assoc, append-nil, length, get_or, Some}
+use Rattle.std.specs.List.{list_all}
+use Rattle.heap_model.specs.declared.entry.Entry.{Entry}
+use Rattle.heap_model.specs.declared.graph.Value.{Value}
+use Rattle.heap_model.specs.declared.graph.Value.TheVariants.{Nothing}
+use Rattle.heap_model.specs.declared.graph.Node.{Node}
+use Rattle.heap_model.specs.declared.graph.Node.TheVariants.{Plain, Ephe}
+use Rattle.heap_model.specs.declared.reply.Reply.{Reply}
+use Rattle.heap_model.specs.declared.reply.Applied.TheVariants.{Replied}
+use Rattle.heap_model.specs.declared.state.Sizes.{Sizes}
+use Rattle.heap_model.specs.declared.state.State.{State}
+use Rattle.heap_model.specs.Domains.{opening}
+use Rattle.heap_model.specs.Entries.{next, reply}
+use Rattle.heap_model.specs.History.{state_after, Legal, is_entry_of}
+use Rattle.heap_model.specs.Fronts.{NoneOf, IsFrontOf, Answers, Shape, PlainShape, EpheShape, shape_of, Grew, KeepsDomain, HoldsPlain}
+use Rattle.heap_model.proofs.HistoryLemmas.{state_after-append}
+use Rattle.heap_model.proofs.FrameLemmas.{keeps_next, grew_next, grew_same, grew_after}
+
+-- a test that fails
+fails : (b : Bool) → IsTrue (not b) → b ≡ false
+fails true e = cc
+fails false e = refl
+
+both : (a b : Bool) → IsTrue (a && b) → IsTrue a × IsTrue b
+both true true e = (refl, refl)
+both true false e = cc
+both false b e = cc
+
+none_cons : (d : ℕ) (e : Entry) (h : List Entry) → NoneOf d (e ∷ h) → (is_entry_of d e ≡ false) × NoneOf d h
+none_cons d e h none = let parts = both (not (is_entry_of d e)) (list_all (λ x. not (is_entry_of d x)) h) none in (fails (is_entry_of d e) parts.0, parts.1)
+
+none_push : (d : ℕ) (h : List Entry) (e : Entry) → NoneOf d h → is_entry_of d e ≡ false → NoneOf d (h ++ e ∷ [])
+none_push d [] e none other = rw other refl
+none_push d (x ∷ h) e none other = let parts = none_cons d x h none in rw parts.0 (none_push d h e parts.1 other)
+
+-- a domain that has seen the whole history
+pub front_whole : (d : ℕ) (h : List Entry) → IsFrontOf d h h
+front_whole d h = record { rest = []; appends = sym (append-nil h); others = refl }
+
+-- an entry of another domain leaves a front
+pub front_push : (d : ℕ) (h front : List Entry) (e : Entry) → is_entry_of d e ≡ false → IsFrontOf d h front → IsFrontOf d (h ++ e ∷ []) front
+front_push d h front e other f = record {
+  rest = f.rest ++ e ∷ [];
+  appends = ap (λ l. l ++ e ∷ []) f.appends ∙ append_assoc front f.rest (e ∷ []);
+  others = none_push d f.rest e f.others other;
+}
+
+-- an own entry behind the whole history is an answer
+pub answers_push : (z : Sizes) (d : ℕ) (h front : List Entry) (e : Entry) (r : Reply) → IsFrontOf d h front → Legal z (h ++ e ∷ []) → reply (state_after (opening z) h) e ≡ Replied r → Answers z d front (h ++ e ∷ []) e r
+answers_push z d h front e r f legal replies = record {
+  between = f.rest;
+  others = f.others;
+  appends = ap (λ l. l ++ e ∷ []) f.appends;
+  legal = legal;
+  replies = ap (λ l. reply (state_after (opening z) l) e) (sym f.appends) ∙ replies;
+}
+
+keeps_after : (s : State) (h : List Entry) (d : ℕ) → NoneOf d h → KeepsDomain s (state_after s h) d
+keeps_after s [] d none = record { registers = refl; serial = refl; ended = refl }
+keeps_after s (e ∷ h) d none =
+    let parts = none_cons d e h none in
+    let first = keeps_next s e d parts.0 in
+    let later = keeps_after (next s e) h d parts.1 in
+    record { registers = later.registers ∙ first.registers; serial = later.serial ∙ first.serial; ended = later.ended ∙ first.ended }
+
+-- what a front of domain d tells of that domain the history does too
+pub keeps_front : (s : State) (d : ℕ) (h front : List Entry) → IsFrontOf d h front → KeepsDomain (state_after s front) (state_after s h) d
+keeps_front s d h front f =
+    let same : state_after s h ≡ state_after (state_after s front) f.rest = ap (state_after s) f.appends ∙ state_after-append s front f.rest in
+    subst (λ (t : State). KeepsDomain (state_after s front) t d) (sym same) (keeps_after (state_after s front) f.rest d f.others)
+
+grew_list : (s : State) (h : List Entry) → Grew s.graph (state_after s h).graph
+grew_list s [] = grew_same s.graph s.graph refl
+grew_list s (e ∷ h) = grew_after s.graph (next s e).graph (state_after (next s e) h).graph (grew_next s e) (grew_list (next s e) h)
+
+-- each block that a front has the history has, with its shape
+pub grew_front : (s : State) (d : ℕ) (h front : List Entry) → IsFrontOf d h front → Grew (state_after s front).graph (state_after s h).graph
+grew_front s d h front f =
+    let same : state_after s h ≡ state_after (state_after s front) f.rest = ap (state_after s) f.appends ∙ state_after-append s front f.rest in
+    subst (λ (t : State). Grew (state_after s front).graph t.graph) (sym same) (grew_list (state_after s front) f.rest)
+
+size_of : Shape → ℕ
+size_of (PlainShape n tag) = n
+size_of (EpheShape n) = n
+
+-- a block with a plain block's shape is a plain block
+pub plain_of : (m : Node) (n tag : ℕ) → shape_of m ≡ PlainShape n tag → (fields : List Value) × (m ≡ Plain tag fields) × (length fields ≡ n)
+plain_of (Plain t fields) n tag e =
+    let tags : t ≡ tag = cc in
+    let sizes : length fields ≡ n = cc in
+    (fields, ap (λ x. Plain x fields) tags, sizes)
+plain_of (Ephe keys datum) n tag e = cc
+
+-- what a front of domain d says of a plain block in one of its registers holds in the history
+pub holds_later : (s : State) (d r n : ℕ) (h front : List Entry) → IsFrontOf d h front → HoldsPlain (state_after s front) d r n → HoldsPlain (state_after s h) d r n
+holds_later s d r n h front f holds =
+    let grew = grew_front s d h front f holds.label (Plain holds.tag holds.fields) holds.node in
+    let plain = plain_of grew.0 n holds.tag (grew.2 ∙ ap (λ x. PlainShape x holds.tag) holds.size) in record {
+      label = holds.label;
+      tag = holds.tag;
+      fields = plain.0;
+      held = ap (λ (xs : List Value). get_or xs r Nothing) (keeps_front s d h front f).registers ∙ holds.held;
+      node = grew.1 ∙ ap Some plain.1;
+      size = plain.2;
+    }

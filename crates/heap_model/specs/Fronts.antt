@@ -1,0 +1,69 @@
+-- Fronts: what a domain has seen of the history, and what stays true of the blocks that it knows while others go on.
+use Rattle.std.specs.Prelude.{◌≡◌, ℕ, List, [], ◌∷◌, ◌++◌, length, Some, IsTrue, not}
+use Rattle.std.specs.List.{list_all}
+use Rattle.heap_model.specs.declared.label.Label.{Label}
+use Rattle.heap_model.specs.declared.graph.Value.{Value}
+use Rattle.heap_model.specs.declared.graph.Value.TheVariants.{Block}
+use Rattle.heap_model.specs.declared.graph.Node.{Node}
+use Rattle.heap_model.specs.declared.graph.Node.TheVariants.{Plain, Ephe}
+use Rattle.heap_model.specs.declared.entry.Entry.{Entry}
+use Rattle.heap_model.specs.declared.reply.Reply.{Reply}
+use Rattle.heap_model.specs.declared.reply.Applied.TheVariants.{Replied}
+use Rattle.heap_model.specs.declared.state.Mode.TheVariants.{Open}
+use Rattle.heap_model.specs.declared.state.Sizes.{Sizes}
+use Rattle.heap_model.specs.declared.state.State.{State}
+use Rattle.heap_model.specs.Graph.{Graph, node_at}
+use Rattle.heap_model.specs.Domains.{domain_at, register, opening}
+use Rattle.heap_model.specs.Entries.{reply}
+use Rattle.heap_model.specs.History.{state_after, Legal, is_entry_of}
+
+-- none of these entries is one of domain d
+abbrev pub NoneOf : ℕ → List Entry → Type 0
+NoneOf d h = IsTrue (list_all (λ x. not (is_entry_of d x)) h)
+
+-- the front of domain d begins the history, which goes on without that domain
+pub record IsFrontOf (d : ℕ) (history front : List Entry) : Type 0 where
+  pub rest : List Entry
+  pub appends : history ≡ front ++ rest
+  pub others : NoneOf d rest
+
+-- A call of domain d with one entry: its front grows by entries of others and by this one, which comes last, and the reply is that of the state before it
+pub record Answers (z : Sizes) (d : ℕ) (old new : List Entry) (e : Entry) (r : Reply) : Type 0 where
+  pub between : List Entry
+  pub others : NoneOf d between
+  pub appends : new ≡ old ++ between ++ e ∷ []
+  pub legal : Legal z new
+  pub replies : reply (state_after (opening z) (old ++ between)) e ≡ Replied r
+
+-- what never changes of a block: of a plain one its number of fields and its tag, of an ephemeron its number of keys
+pub data Shape : Type 0 where
+  PlainShape : ℕ → ℕ → Shape
+  EpheShape : ℕ → Shape
+
+abbrev pub shape_of : Node → Shape
+shape_of (Plain tag fields) = PlainShape (length fields) tag
+shape_of (Ephe keys datum) = EpheShape (length keys)
+
+-- each block of the first graph is in the second, with its shape
+abbrev pub Grew : Graph → Graph → Type 0
+Grew g h = (l : Label) (n : Node) → node_at g l ≡ Some n → (m : Node) × (node_at h l ≡ Some m) × (shape_of m ≡ shape_of n)
+
+-- register r of domain d holds a plain block with so many fields
+pub record HoldsPlain (s : State) (d r count : ℕ) : Type 0 where
+  pub label : Label
+  pub tag : ℕ
+  pub fields : List Value
+  pub held : register s d r ≡ Block label
+  pub node : node_at s.graph label ≡ Some (Plain tag fields)
+  pub size : length fields ≡ count
+
+-- what only entries of domain d change of it
+pub record KeepsDomain (s t : State) (d : ℕ) : Type 0 where
+  pub registers : (domain_at t d).registers ≡ (domain_at s d).registers
+  pub serial : (domain_at t d).serial ≡ (domain_at s d).serial
+  pub ended : (domain_at t d).ended ≡ (domain_at s d).ended
+
+-- no collection has begun, and no finaliser waits in a queue
+pub record IsCalm (s : State) : Type 0 where
+  pub mode : s.mode ≡ Open
+  pub queues : (d : ℕ) → (domain_at s d).queue ≡ []

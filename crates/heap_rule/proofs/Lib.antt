@@ -1,0 +1,9 @@
+pub mod Fillings
+pub mod Update
+pub mod Lists
+pub mod Sizes
+pub mod Keeps
+pub mod Seats
+pub mod Starts
+pub mod Dealt
+pub mod Ends

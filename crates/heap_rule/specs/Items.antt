@@ -1,0 +1,14 @@
+-- The lists of a domain's token. So far there are the registers alone: every other list is empty.
+use Rattle.std.specs.Prelude.{List, [], map}
+use Rattle.heap_words.specs.declared.value.Value.{Value}
+use Rattle.heap_rule.specs.declared.change.Part.{Part}
+use Rattle.heap_rule.specs.declared.change.Part.TheVariants.{Register}
+use Rattle.heap_rule.specs.declared.change.Item.{Item}
+use Rattle.heap_rule.specs.declared.view.Own.{Own}
+
+abbrev pub item_of : Value → Item
+item_of v = record { value = v; number = 0; more = 0 }
+
+abbrev pub items_of : Part → Own → List Item
+items_of Register own = map item_of own.registers
+items_of _ own = []

@@ -1,0 +1,10 @@
+pub mod Limits
+pub mod Layout
+pub mod Places
+pub mod Changes
+pub mod Items
+pub mod Views
+pub mod Rule
+pub mod Token
+pub mod Opening
+pub mod Ending

@@ -1,0 +1,35 @@
+-- A heap at its start: the words of its table, and the tokens of its domains.
+use Rattle.std.specs.Prelude.{◌≡◌, ℕ, zero, suc, ◌+◌, ◌<◌, ◌≤◌, List, [], ◌∷◌, length, slice_index}
+use Rattle.atomic_table.specs.Seated.{TableId}
+use Rattle.heap_model.specs.Fronts.{PlainShape}
+use Rattle.heap_rule.specs.declared.config.Config.{Config}
+use Rattle.heap_rule.specs.Layout.{table_words, at_address}
+use Rattle.heap_rule.specs.Places.{HeadIs}
+use Rattle.heap_rule.specs.Rule.{Phases, Pools, NoCycle}
+use Rattle.heap_rule.specs.Token.{Token}
+use Rattle.heap_rule.specs.Views.{opening_view}
+
+-- the words at the start: the control words, and at the address 1 the shared block of 16 fields, each the integer 0
+pub record IsOpening (k : Config) (words : List ℕ) : Type 0 where
+  pub wide : length words ≡ table_words k
+  pub phases : Phases words
+  pub pools : Pools k words
+  pub cycle : NoCycle words
+  pub head : HeadIs (PlainShape 16 0) (at_address k words 1)
+  pub label : at_address k words 2 ≡ 0
+  pub fields : (i : ℕ) → i < 16 → at_address k words (3 + i) ≡ 1
+
+-- so many words from an index on are given by their place, and the others stay
+pub record Fills (old new : List ℕ) (from count : ℕ) (f : ℕ → ℕ) : Type 0 where
+  pub same_length : length new ≡ length old
+  pub filled : (i : ℕ) → i < count → slice_index new (from + i) ≡ f i
+  pub below : (j : ℕ) → j < from → slice_index new j ≡ slice_index old j
+  pub above : (j : ℕ) → from + count ≤ j → slice_index new j ≡ slice_index old j
+
+abbrev pub opening_token : TableId → Config → ℕ → Token
+opening_token table k d = record { table = table; config = k; view = opening_view d }
+
+-- those of n domains from d on
+abbrev pub opening_tokens : TableId → Config → ℕ → ℕ → List Token
+opening_tokens table k d zero = []
+opening_tokens table k d (suc n) = opening_token table k d ∷ opening_tokens table k (d + 1) n

@@ -1,0 +1,81 @@
+-- What lives at the addresses, and when words stand for it.
+use Rattle.std.specs.Prelude.{◌≡◌, ◌≢◌, ℕ, ◌+◌, ◌≤◌, ◌⊎◌, false, List, ◌∷◌, map, slice_get, Option, Some}
+use Rattle.heap_model.specs.declared.label.Label.{Label}
+use Rattle.heap_model.specs.declared.graph.Value.{Value}
+use Rattle.heap_model.specs.declared.graph.Value.TheVariants.{Int, Block, Nothing}
+use Rattle.heap_model.specs.declared.graph.Node.{Node}
+use Rattle.heap_model.specs.declared.graph.Node.TheVariants.{Plain, Ephe}
+use Rattle.heap_model.specs.Graph.{Graph, node_at}
+use Rattle.heap_model.specs.Commands.{key_value}
+use Rattle.heap_model.specs.Fronts.{Shape, PlainShape, EpheShape, shape_of}
+use Rattle.heap_words.specs.declared.value.Value as words
+use Rattle.heap_words.specs.declared.value.Value.TheVariants.{Int as IntWord, Ref, Nothing as NothingWord}
+use Rattle.heap_words.specs.declared.head.Head.{Head}
+use Rattle.heap_words.specs.declared.head.Head.TheVariants.{Plain as PlainHead, Ephe as EpheHead}
+use Rattle.heap_words.specs.Values.{IsPackable, value_word}
+use Rattle.heap_words.specs.Heads.{IsPackableHead, head_word}
+use Rattle.heap_words.specs.Labels.{IsPackableLabel, label_word}
+use Rattle.heap_rule.specs.declared.config.Config.{Config}
+use Rattle.heap_rule.specs.Layout.{heap_words, at_address}
+
+-- a block: its label, and its shape
+pub record Place : Type 0 where
+  pub label : Label
+  pub shape : Shape
+
+-- which block lives at an address
+abbrev pub Live : Type 0
+Live = ℕ → Option Place
+
+-- the words of a block: head, label and values
+abbrev pub extent : Shape → ℕ
+extent (PlainShape size tag) = size + 2
+extent (EpheShape keys) = keys + 3
+
+-- the values of a block, in the order of their words
+abbrev pub values_of : Node → List Value
+values_of (Plain tag fields) = fields
+values_of (Ephe keys datum) = datum ∷ map key_value keys
+
+-- the head of a block while no cycle is under way: it is unmarked, which is the colour 1
+abbrev pub head_of : Shape → Head
+head_of (PlainShape size tag) = PlainHead size tag 1 false
+head_of (EpheShape keys) = EpheHead keys 1 false
+
+abbrev pub HeadIs : Shape → ℕ → Type 0
+HeadIs shape word = word ≡ head_word (head_of shape)
+
+-- a value with addresses stands for a value of the graph
+abbrev pub Stands : Live → words.Value → Value → Type 0
+Stands live (IntWord z) (Int v) = (z ≡ v) × IsPackable (IntWord z)
+Stands live (Ref a) (Block l) = (p : Place) × (live a ≡ Some p) × (p.label ≡ l)
+Stands live NothingWord Nothing = Unit {0}
+Stands live _ _ = ⊥
+
+-- a word stands for a value of the graph
+pub record WordStands (live : Live) (word : ℕ) (v : Value) : Type 0 where
+  pub value : words.Value
+  pub packs : word ≡ value_word value
+  pub stands : Stands live value v
+
+-- the words at an address are the node of the block that lives there
+pub record Found (k : Config) (live : Live) (graph : Graph) (words : List ℕ) (a : ℕ) (p : Place) : Type 0 where
+  pub node : Node
+  pub there : node_at graph p.label ≡ Some node
+  pub shape : shape_of node ≡ p.shape
+  pub head : HeadIs p.shape (at_address k words a)
+  pub label : at_address k words (a + 1) ≡ label_word p.label.domain p.label.serial
+  pub values : (i : ℕ) (v : Value) → slice_get (values_of node) i ≡ Some v → WordStands live (at_address k words (a + 2 + i)) v
+
+-- the block at an address lies in the heap, and its head and its label can be packed
+pub record Fits (k : Config) (a : ℕ) (p : Place) : Type 0 where
+  pub low : 1 ≤ a
+  pub high : a + extent p.shape ≤ heap_words k + 1
+  pub head : IsPackableHead (head_of p.shape)
+  pub label : IsPackableLabel (p.label.domain, p.label.serial)
+
+-- how blocks lie: each fits, no two have one label, and no two share a word
+pub record Placed (k : Config) (live : Live) : Type 0 where
+  pub fits : (a : ℕ) (p : Place) → live a ≡ Some p → Fits k a p
+  pub once : (a b : ℕ) (p q : Place) → live a ≡ Some p → live b ≡ Some q → p.label ≡ q.label → a ≡ b
+  pub apart : (a b : ℕ) (p q : Place) → live a ≡ Some p → live b ≡ Some q → a ≢ b → (a + extent p.shape ≤ b) ⊎ (b + extent q.shape ≤ a)

@@ -1,0 +1,43 @@
+-- What contracts see of a heap and of a domain's token.
+use Rattle.std.specs.Prelude.{◌≡◌, ℕ, ◌+◌, ◌<◌, ◌≤◌, List, [], length}
+use Rattle.atomic_table.specs.Table.{Me}
+use Rattle.atomic_table.specs.Seated.{TableId}
+use Rattle.heap_words.specs.declared.value.Value.{Value}
+use Rattle.heap_words.specs.declared.value.Value.TheVariants.{Ref}
+use Rattle.heap_words.specs.Values.{IsPackable}
+use Rattle.heap_rule.specs.declared.config.Config.{Config}
+use Rattle.heap_rule.specs.declared.view.DomainView.{DomainView}
+use Rattle.heap_rule.specs.declared.view.View.{View}
+use Rattle.heap_rule.specs.Layout.{heap_words}
+use Rattle.heap_rule.specs.Changes.{value_at}
+use Rattle.heap_rule.specs.Views.{one}
+
+-- a heap: which table it is, and how large
+pub record SharedHeap : Type 0 where
+  pub table : TableId
+  pub config : Config
+
+-- a domain's token: the heap that it belongs to, and what it knows
+pub record Token : Type 0 where
+  pub table : TableId
+  pub config : Config
+  pub view : DomainView
+
+-- the token is one of the heap's
+abbrev pub IsIn : Token → SharedHeap → Type 0
+IsIn t h = (t.table ≡ h.table) × (t.config ≡ h.config)
+
+-- an address at which a block may begin: its head, its label and one value lie in the heap
+abbrev pub IsAddress : Config → ℕ → Type 0
+IsAddress k a = (1 ≤ a) × (a + 2 ≤ heap_words k)
+
+-- what is known of a domain's registers without a look at the table: there are 16, and each holds a value that has a word, an address among them lying in the heap
+pub record Holds (k : Config) (registers : List Value) : Type 0 where
+  pub wide : length registers ≡ 16
+  pub packable : (r : ℕ) → r < 16 → IsPackable (value_at registers r)
+  pub inside : (r a : ℕ) → r < 16 → value_at registers r ≡ Ref a → IsAddress k a
+
+-- the seat, at a heap of these numbers, stands for this domain alone
+pub record IsSeatOf (k : Config) (x : DomainView) (me : Me (Unit {0}) View) : Type 0 where
+  pub seat : me ≡ (one k me.0.history x, [])
+  pub registers : Holds k x.own.registers

@@ -1,0 +1,89 @@
+-- The views of seats: what each knows of the history and of the domains that it stands for.
+use Rattle.std.specs.Prelude.{◌≡◌, ◌≢◌, ℕ, zero, suc, ◌+◌, ◌<◌, List, [], ◌∷◌, ◌++◌, replicate}
+use mathlib.Core.Option.{some}
+use lib.ListN.{get_elem?}
+use Rattle.atomic_table.specs.Table.{Me, Step}
+use Rattle.heap_model.specs.declared.entry.Entry.{Entry}
+use Rattle.heap_model.specs.History.{IsPrefix}
+use Rattle.heap_model.specs.Fronts.{IsFrontOf}
+use Rattle.heap_words.specs.declared.value.Value.TheVariants.{Ref, Nothing}
+use Rattle.heap_rule.specs.declared.config.Config.{Config}
+use Rattle.heap_rule.specs.declared.view.DomainView.{DomainView}
+use Rattle.heap_rule.specs.declared.view.View.{View}
+
+abbrev pub EachView : (ℕ → View → Type 0) → List View → Type 0
+EachView P views = (id : ℕ) (v : View) → get_elem? views id ≡ some v → P id v
+
+abbrev pub AllDomains : (DomainView → Type 0) → List DomainView → Type 0
+AllDomains P [] = Unit {0}
+AllDomains P (x ∷ xs) = P x × AllDomains P xs
+
+abbrev pub EachDomain : (DomainView → Type 0) → List View → Type 0
+EachDomain P views = EachView (λ _ v. AllDomains P v.domains) views
+
+-- no domain stands there twice
+abbrev pub Distinct : List DomainView → Type 0
+Distinct [] = Unit {0}
+Distinct (x ∷ xs) = AllDomains (λ y. y.own.number ≢ x.own.number) xs × Distinct xs
+
+-- History, of one domain: it is one of the heap's, this seat alone stands for it, and its front begins the history
+pub record IsSeated (k : Config) (log : List Entry) (seat : ℕ → ℕ) (id : ℕ) (x : DomainView) : Type 0 where
+  pub inside : x.own.number < k.domains
+  pub here : seat x.own.number ≡ id
+  pub front : IsFrontOf x.own.number log x.seen.front
+
+-- History, of one seat
+pub record Knows (k : Config) (log : List Entry) (seat : ℕ → ℕ) (id : ℕ) (v : View) : Type 0 where
+  pub config : AllDomains (λ _. v.config ≡ k) v.domains
+  pub history : IsPrefix v.history log
+  pub domains : AllDomains (IsSeated k log seat id) v.domains
+  pub distinct : Distinct v.domains
+
+-- the view of a seat that stands for one domain
+abbrev pub one : Config → List Entry → DomainView → View
+one k h x = record { config = k; history = h; domains = x ∷ [] }
+
+-- a domain at the start: register 0 holds the shared block, which is at the address 1
+abbrev pub opening_view : ℕ → DomainView
+opening_view d = record {
+  own = record { number = d; registers = Ref 1 ∷ replicate 15 Nothing; used = 0; serial = 0; arrivals = 0 };
+  seen = record { front = []; made = [] };
+}
+
+-- n domains from d on
+abbrev pub opening_views : ℕ → ℕ → List DomainView
+opening_views d zero = []
+opening_views d (suc n) = opening_view d ∷ opening_views (d + 1) n
+
+unfoldable pub first_view : Config → View
+first_view k = record { config = k; history = []; domains = opening_views 0 k.domains }
+
+abbrev pub rest_of : List DomainView → List DomainView
+rest_of [] = []
+rest_of (x ∷ xs) = xs
+
+-- the domain of a seat that stands for one
+abbrev pub domain_in : List DomainView → DomainView
+domain_in [] = opening_view 0
+domain_in (x ∷ xs) = x
+
+-- what a step of a seat that stands for one domain tells
+abbrev pub Tells : (DomainView → ℕ → DomainView → Type 0) → Me (Unit {0}) View → ℕ → Me (Unit {0}) View → Type 0
+Tells tells m found m' = tells (domain_in m.0.domains) found (domain_in m'.0.domains) × (m' ≡ (record m.0 { domains = domain_in m'.0.domains ∷ [] }, m.1))
+
+abbrev pub Plays : (DomainView → ℕ → DomainView → Type 0) → Step (Unit {0}) → Me (Unit {0}) View → ℕ → Me (Unit {0}) View → Type 0
+Plays tells _ m found m' = Tells tells m found m'
+
+-- how a view is cut: the new seat stands for the first domain
+abbrev pub cut_left : View → View
+cut_left v = record v { domains = rest_of v.domains }
+
+abbrev pub cut_right : View → View
+cut_right v = record v { domains = domain_in v.domains ∷ [] }
+
+-- how two views are made one
+abbrev pub joined : View → View → View
+joined v w = record v { domains = v.domains ++ w.domains }
+
+abbrev pub spent : View
+spent = record { config = record { domains = 0; minor_words = 0; pools = 0; finals = 0; ephes = 0 }; history = []; domains = [] }

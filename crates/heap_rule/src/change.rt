@@ -1,0 +1,64 @@
+//! What a step changes in a domain's token.
+ghost use Rattle.std.specs.Prelude.{◌≡◌, length};
+ghost use Rattle.heap_words.specs.declared.value.Value.{Value};
+ghost use Rattle.heap_rule.specs.Changes.{FitChanges, changed};
+
+use heap_words::Value;
+
+/// A list of the token.
+#[derive(Clone, Copy, Debug, PartialEq, Eq)]
+pub enum Part {
+    Register,
+    Final,
+    Last,
+    Queue,
+    Young,
+    Remembered,
+    Prepared,
+    Pending,
+    Ephe,
+    Pool,
+    ToSweep,
+}
+
+/// One item of a list. A number that a list doesn't use is 0, and a value `Nothing`.
+#[derive(Clone, Copy, Debug, PartialEq, Eq)]
+pub struct Item {
+    pub value: Value,
+    pub number: u32,
+    pub more: u32,
+}
+
+/// One change of the token. The changes of a step are made in their order.
+#[derive(Clone, Copy, Debug, PartialEq, Eq)]
+pub enum Change {
+    /// The item at the place is this one.
+    Set { part: Part, place: u32, item: Item },
+    /// The register holds the value that the step read.
+    Read { register: u8 },
+    Append { part: Part, item: Item },
+    Remove { part: Part, place: u32 },
+    /// The list is empty. The registers hold nothing.
+    Clear { part: Part },
+}
+
+// Makes the changes of a step in the registers.
+pub(crate) fn make_changes(registers: &mut [Value; 16], read: Value, changes: &[Change])
+    requires { FitChanges changes.now }
+    ensures { registers.new ≡ changed read changes.now registers.old }
+{
+    for change in changes {
+        match *change {
+            Change::Set {
+                part: Part::Register,
+                place,
+                item,
+            } => registers[place as usize] = item.value,
+            Change::Read { register } => registers[register as usize] = read,
+            Change::Clear {
+                part: Part::Register,
+            } => *registers = [Value::Nothing; 16],
+            _ => {}
+        }
+    }
+}

@@ -1,0 +1,148 @@
+//! The token of a domain.
+ghost use Rattle.std.specs.Prelude.{◌≡◌, ◌≢◌, ◌+◌, ◌<◌, ℕ, [], length, slice_get, Some};
+ghost use Rattle.heap_words.specs.declared.value.Value.TheVariants.{Ref};
+ghost use Rattle.heap_words.specs.Values.{IsPackable};
+ghost use Rattle.heap_rule.specs.Changes.{value_at};
+ghost use Rattle.heap_rule.specs.Items.{items_of};
+ghost use Rattle.heap_rule.specs.Layout.{heap_words};
+ghost use Rattle.heap_rule.specs.Opening.{opening_token};
+ghost use Rattle.heap_rule.specs.Token.{IsAddress};
+ghost use Rattle.heap_rule.specs.Views.{one, opening_view};
+
+use crate::change::{Item, Part};
+use crate::config::Config;
+use crate::view::{Own, View};
+use atomic_table::Seat;
+use heap_words::Value;
+use std::marker::Model;
+
+/// One domain of a heap. It may move between threads.
+#[derive(Drop)]
+pub struct Domain {
+    pub(crate) seat: Seat<(), View>,
+    pub(crate) config: Config,
+    pub(crate) own: Own,
+}
+
+impl Model for Domain {
+    ghost use Rattle.heap_rule.specs.Token.{Token};
+
+    ghost Value = { Token };
+
+    ghost use Rattle.heap_rule.specs.Token.{IsSeatOf};
+    ghost use Rattle.heap_rule.specs.Views.{domain_in};
+
+    ghost view = { λ d. record { table = d.seat.table_id; config = d.config; view = record { own = d.own; seen = (domain_in d.seat.me.0.domains).seen } } };
+
+    ghost invariant = { λ d. IsSeatOf d.config (record { own = d.own; seen = (domain_in d.seat.me.0.domains).seen }) d.seat.me };
+}
+
+impl Domain {
+    // The token of a domain that has just been given its seat.
+    pub(crate) fn make(seat: Seat<(), View>, config: &Config, number: u32) -> Domain
+        requires seat { seat.me ≡ (one config.now [] (opening_view number), []) }
+        requires room { 2 < heap_words config.now }
+        ensures { result ≡ opening_token seat.table_id config.now number }
+    {
+        let mut registers = [Value::Nothing; 16];
+        registers[0] = Value::Ref(1);
+        Domain {
+            seat,
+            config: *config,
+            own: Own {
+                number,
+                registers,
+                used: 0,
+                serial: 0,
+                arrivals: 0,
+            },
+        }
+    }
+
+    /// The domain's number, counted from 0.
+    pub fn number(&self) -> u32
+        ensures { result ≡ self.now.view.own.number }
+    {
+        self.own.number
+    }
+
+    /// What register `r` holds.
+    pub fn register(&self, r: u8) -> Value
+        requires { r < 16 }
+        ensures value { result ≡ value_at self.now.view.own.registers r }
+        ensures packable { IsPackable result }
+        ensures inside { (a : ℕ) → result ≡ Ref a → IsAddress self.now.config a }
+    {
+        self.own.registers[r as usize]
+    }
+
+    /// The class words of the young blocks that the domain has made.
+    pub fn area_used(&self) -> u32
+        ensures { result ≡ self.now.view.own.used }
+    {
+        self.own.used
+    }
+
+    /// How many labels the domain has given out.
+    pub fn labels_made(&self) -> u32
+        ensures { result ≡ self.now.view.own.serial }
+    {
+        self.own.serial
+    }
+
+    /// How often the domain has arrived at the barrier.
+    pub fn arrivals(&self) -> u64
+        ensures { result ≡ self.now.view.own.arrivals }
+    {
+        self.own.arrivals
+    }
+
+    /// How many finalisers wait in the domain's queue.
+    pub fn queued(&self) -> usize
+        ensures { result ≡ length (items_of Part.Queue self.now.view.own) }
+    {
+        self.part_len(Part::Queue) as usize
+    }
+
+    /// How many more registrations fit.
+    pub fn finals_room(&self) -> usize
+        ensures { result + length (items_of Part.Final self.now.view.own) + length (items_of Part.Last self.now.view.own) ≡ self.now.config.finals }
+    {
+        self.config.finals as usize
+    }
+
+    /// How many more ephemerons fit.
+    pub fn ephes_room(&self) -> usize
+        ensures { result + length (items_of Part.Ephe self.now.view.own) ≡ self.now.config.ephes }
+    {
+        self.config.ephes as usize
+    }
+
+    /// The length of a list of the token. The list of young blocks isn't lent.
+    pub fn part_len(&self, part: Part) -> u32
+        requires { part ≢ Part.Young }
+        ensures { result ≡ length (items_of part self.now.view.own) }
+    {
+        let _seat = &self.seat;
+        match part {
+            Part::Register => self.own.registers.len() as u32,
+            _ => 0,
+        }
+    }
+
+    /// An item of a list of the token.
+    pub fn part_at(&self, part: Part, place: u32) -> Item
+        requires part { part ≢ Part.Young }
+        requires inside { place < length (items_of part self.now.view.own) }
+        ensures { Some result ≡ slice_get (items_of part self.now.view.own) place }
+    {
+        match part {
+            Part::Register => Item {
+                value: self.own.registers[place as usize],
+                number: 0,
+                more: 0,
+            },
+            _ => unreachable!(),
+        }
+    }
+}

@@ -1,0 +1,147 @@
+//! The heap, from its start to its end.
+ghost use Rattle.std.specs.Prelude.{◌≡◌, ◌↔◌, ◌<◌, ◌≤◌, ℕ, [], length, IfOk, Some, Err};
+ghost use Rattle.heap_model.specs.Domains.{IsWithinLimits};
+ghost use Rattle.heap_model.specs.History.{Legal};
+ghost use Rattle.heap_rule.specs.Limits.{sizes_in, first_outside};
+ghost use Rattle.heap_rule.specs.Layout.{heap_words};
+ghost use Rattle.heap_rule.specs.Opening.{opening_token, opening_tokens};
+ghost use Rattle.heap_rule.specs.Ending.{AllIn, AllBegin};
+ghost use Rattle.heap_rule.specs.Views.{first_view};
+
+use crate::config::{Config, StartFault};
+use crate::domain::Domain;
+use crate::layout::{WANT, opening_words};
+use crate::rule::{Cut, Glue, Law, Learn};
+use crate::view::View;
+use atomic_table::{Seat, Table};
+use std::alloc::{AllocError, Global};
+use std::marker::Model;
+
+/// The heap, which all domains share.
+#[derive(Drop)]
+pub struct Heap {
+    pub(crate) table: Table<(), View, Config, Law, Global>,
+    pub(crate) config: Config,
+}
+
+impl Model for Heap {
+    ghost use Rattle.std.specs.Prelude.{◌≡◌, ◌≤◌};
+    ghost use Rattle.heap_model.specs.Domains.{IsWithinLimits};
+    ghost use Rattle.heap_rule.specs.Limits.{sizes_in};
+    ghost use Rattle.heap_rule.specs.Layout.{table_words};
+    ghost use Rattle.heap_rule.specs.Token.{SharedHeap};
+
+    ghost Value = { SharedHeap };
+
+    ghost view = { λ h. record { table = h.table.shared.table_id; config = h.table.shared.key } };
+
+    ghost invariant = { λ h. (h.table.shared.table_id.words ≡ table_words h.table.shared.key) × (h.config ≡ h.table.shared.key) × IsWithinLimits (sizes_in h.table.shared.key) };
+}
+
+impl Heap {
+    /// How large the heap is.
+    pub fn config(&self) -> Config
+        ensures { result ≡ self.now.config }
+    {
+        self.config
+    }
+
+    /// A heap, and the tokens of its domains, numbered from 0. Each runs, register 0 holds the shared block and
+    /// the others nothing. All memory is taken here.
+    ///
+    /// `Config(k)` names the first field of `config` outside its limit.
+    pub fn start(alloc: Global, config: Config) -> Result<(Heap, Vec<Domain>), StartFault>
+        ensures outside { (k : ℕ) → (result ≡ Err (StartFault.Config k)) ↔ (first_outside config ≡ Some k) }
+        ensures config { IfOk result (λ r. r.0.config ≡ config) }
+        ensures tokens { IfOk result (λ r. r.1.items ≡ opening_tokens r.0.table config 0 config.domains) }
+    {
+        if let Some(field) = config.first_outside() {
+            return Err(StartFault::Config(field));
+        }
+        let words = opening_words(alloc, &config)?;
+        let (table, seat) = Table::of_words(alloc, words.as_slice(), &config)?;
+        let heap = Heap { table, config };
+        let domains = seated(alloc, &heap, seat, config.domains)?;
+        Ok((heap, domains))
+    }
+}
+
+// Cuts the first seat, so that each domain has one of its own.
+fn seated(
+    alloc: Global,
+    heap: &Heap,
+    seat: Seat<(), View>,
+    count: u32,
+) -> Result<Vec<Domain>, AllocError>
+    requires seat { (seat.table_id ≡ heap.now.table) × (seat.me ≡ (first_view heap.now.config, [])) }
+    requires count { (count ≡ heap.now.config.domains) × (0 < count) }
+    requires room { 2 < heap_words heap.now.config }
+    ensures { IfOk result (λ v. v.items ≡ opening_tokens heap.now.table heap.now.config 0 count) }
+{
+    let mut seat = seat;
+    let mut domains = Vec::new(alloc);
+    for i in 0..count - 1 {
+        let mine = heap.table.shared.split_seat::<Cut>(&mut seat);
+        domains.push(Domain::make(mine, &heap.config, i))?;
+    }
+    domains.push(Domain::make(seat, &heap.config, count - 1))?;
+    Ok(domains)
+}
+
+/// A heap that has ended. Contracts see its numbers and its one history.
+#[derive(Drop)]
+pub struct Ended {
+    seat: Seat<(), View>,
+}
+
+impl Model for Ended {
+    ghost use Rattle.heap_model.specs.History.{Legal};
+    ghost use Rattle.heap_rule.specs.Ending.{Past};
+    ghost use Rattle.heap_rule.specs.Limits.{sizes_in};
+
+    ghost Value = { Past };
+
+    ghost view = { λ e. record { sizes = sizes_in e.seat.me.0.config; history = e.seat.me.0.history } };
+
+    ghost invariant = { λ e. Legal (sizes_in e.seat.me.0.config) e.seat.me.0.history };
+}
+
+impl Ended {
+    /// The history is legal for the heap's numbers of domains, minor words and pools.
+    pub fn is_legal(&self)
+        ensures { Legal self.now.sizes self.now.history }
+    {
+        let _seat = &self.seat;
+    }
+}
+
+impl Heap {
+    /// Ends the heap. Its history begins with the front of each domain, and has no other entry of that domain.
+    pub fn stop(self, domains: Vec<Domain>) -> Ended
+        requires here { AllIn self domains.items }
+        requires some { 0 < length domains.items }
+        ensures sizes { result.sizes ≡ sizes_in self.config }
+        ensures legal { Legal result.sizes result.history }
+        ensures fronts { AllBegin result.history domains.items }
+    {
+        let mut domains = domains;
+        let Some(last) = domains.pop() else {
+            unreachable!()
+        };
+        let Domain {
+            mut seat,
+            config: _,
+            own: _,
+        } = last;
+        while let Some(next) = domains.pop() {
+            let Domain {
+                seat: other,
+                config: _,
+                own: _,
+            } = next;
+            self.table.shared.join_seat::<Glue>(&mut seat, other);
+        }
+        self.table.shared.load::<Learn>(&mut seat, WANT);
+        Ended { seat }
+    }
+}

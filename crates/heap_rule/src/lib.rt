@@ -1,0 +1,19 @@
+//! The shared heap: one table of words under one rule, which keeps a legal history that the words stand for.
+#![tactic(auto)]
+
+mod change;
+mod config;
+mod domain;
+mod heap;
+mod layout;
+mod rule;
+mod view;
+
+pub use change::{Change, Item, Part};
+pub use config::{Config, StartFault};
+pub use domain::Domain;
+pub use heap::{Ended, Heap};
+pub use view::{DomainView, Own, Seen, View};
+
+#[cfg(test)]
+mod tests;
