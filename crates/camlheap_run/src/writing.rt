@@ -1,5 +1,5 @@
 //! Hands the text of a run to a sink, line by line.
-ghost use Rattle.std.specs.Prelude.{◌≡◌, ◌≤◌, ◌++◌, length, OnErr};
+ghost use Rattle.std.specs.Prelude.{◌≤◌, ◌++◌, length, OnErr};
 ghost use Rattle.heap_model.specs.Output.{line, reply_text, printed};
 ghost use Rattle.heap_text.specs.Spelling.{heading_text};
 ghost use Rattle.outer_io.specs.Faults.{Rose};
