@@ -1,0 +1,5 @@
+pub mod RunningLemmas
+pub mod RunLemmas
+pub mod WritableLemmas
+pub mod WritingLemmas
+pub mod ReadingLemmas

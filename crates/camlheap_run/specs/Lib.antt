@@ -1,0 +1,7 @@
+pub mod Status
+pub mod Words
+pub mod Reading
+pub mod Writing
+pub mod Run
+pub mod Replies
+pub mod Outcome

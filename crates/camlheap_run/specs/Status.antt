@@ -1,0 +1,39 @@
+-- The numbers and the lines of the statuses.
+use Rattle.std.specs.Prelude.{ℕ, List, [], ◌++◌, codes, decimal}
+use Rattle.heap_text.specs.declared.fault.ScriptFault.{ScriptFault}
+use Rattle.heap_text.specs.declared.fault.ScriptFault.TheVariants.{Syntax, Order, Range, TooLong, TooMany, Memory as NoMemory}
+use Rattle.heap_model.specs.Output.{line}
+use Rattle.camlheap_run.specs.declared.status.Status.{Status}
+use Rattle.camlheap_run.specs.declared.status.Status.TheVariants.{Done, Usage, Script, ReadFault, WriteFault, Memory}
+
+-- the number with which the program ends
+abbrev pub number_of : Status → ℕ
+number_of Done = 0
+number_of Usage = 1
+number_of (Script NoMemory) = 5
+number_of (Script fault) = 2
+number_of ReadFault = 3
+number_of WriteFault = 4
+number_of Memory = 5
+
+-- what is said of a line of the script
+abbrev pub at_line : ℕ → List ℕ → List ℕ
+at_line l text = codes "script line " ++ decimal l ++ codes ": " ++ text
+
+-- what is said of a script's fault
+abbrev pub fault_text : ScriptFault → List ℕ
+fault_text (Syntax l) = at_line l (codes "syntax")
+fault_text (Order l) = at_line l (codes "section order")
+fault_text (Range l which) = at_line l (codes "number " ++ decimal which ++ codes " out of range")
+fault_text (TooLong bytes) = codes "script: more than 16777216 bytes"
+fault_text (TooMany l) = at_line l (codes "too many commands")
+fault_text NoMemory = codes "out of memory"
+
+-- the line of a status, with its line feed; a run that is done has none
+abbrev pub line_of : Status → List ℕ
+line_of Done = []
+line_of Usage = line (codes "usage: camlheap run [--domains N] [--minor W] [--pools P] | gen BASE N C | load BASE N C")
+line_of (Script fault) = line (fault_text fault)
+line_of ReadFault = line (codes "read fault")
+line_of WriteFault = line (codes "write fault")
+line_of Memory = line (codes "out of memory")

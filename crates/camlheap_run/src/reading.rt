@@ -1,0 +1,88 @@
+//! Reads the script of a source.
+ghost use Rattle.std.specs.Prelude.{◌≡◌, ◌≤◌, List, IfOk, IsErr, Err};
+ghost use Rattle.outer_io.specs.Faults.{Rose};
+ghost use Rattle.heap_model.specs.declared.command.Command.{Command};
+ghost use Rattle.heap_text.specs.declared.fault.ScriptFault.{ScriptFault};
+ghost use Rattle.camlheap_run.specs.Reading.{AreRead, ReadsScript, ReadsFault, IsNoScript, TellsScript, TellsFault};
+
+use heap_text::{Script, ScriptFault, read_script};
+use outer_io::Source;
+use std::alloc::Global;
+
+/// Why not all bytes of a source were read.
+#[derive(Clone, Copy, Debug, PartialEq, Eq)]
+pub(crate) enum ReadStop {
+    Fault,
+    Memory,
+}
+
+// The most bytes that are read: one more than a script may have, so that a longer one is seen.
+const MOST_READ: usize = 16_777_217;
+
+// Reads to the end of the source, or the most bytes that are read. Each read asks for at most 4096 bytes.
+pub(crate) fn read_bytes<S: Source>(alloc: Global, src: &mut S) -> Result<Vec<u8>, ReadStop>
+    ensures later { S.faults src.old ≤ S.faults src.new }
+    ensures fault { result ≡ Err ReadStop.Fault → Rose (S.faults src.old) (S.faults src.new) }
+    ensures bytes { IfOk result (λ v. AreRead (S.left src.old) (S.left src.new) v.items) }
+{
+    let mut bytes = Vec::new(alloc);
+    let mut buf = [0u8; 4096];
+    'reading: while bytes.len() < MOST_READ {
+        let wanted = (MOST_READ - bytes.len()).min(buf.len());
+        let Ok(count) = src.read(&mut buf[..wanted]) else {
+            return Err(ReadStop::Fault);
+        };
+        if count == 0 {
+            return Ok(bytes);
+        }
+        if bytes.extend_from_slice(&buf[..count]).is_err() {
+            return Err(ReadStop::Memory);
+        }
+    }
+    Ok(bytes)
+}
+
+/// Why a source gave no script.
+#[derive(Clone, Copy, Debug, PartialEq, Eq)]
+pub(crate) enum NoScript {
+    ReadFault,
+    Refused(ScriptFault),
+    Memory,
+}
+
+// Want of memory is no fault of the script.
+fn no_script(fault: ScriptFault) -> NoScript
+    ensures { IsNoScript fault result }
+{
+    match fault {
+        ScriptFault::Memory => NoScript::Memory,
+        _ => NoScript::Refused(fault),
+    }
+}
+
+// Reads the source, and the script that its bytes spell.
+pub(crate) fn script_of<S: Source>(
+    alloc: Global,
+    domains: u32,
+    src: &mut S,
+) -> Result<Script, NoScript>
+    requires { (1 ≤ domains) × (domains ≤ 8) }
+    ensures later { S.faults src.old ≤ S.faults src.new }
+    ensures fault { result ≡ Err NoScript.ReadFault → Rose (S.faults src.old) (S.faults src.new) }
+    ensures script { IfOk result (ReadsScript domains (S.left src.old) (S.left src.new)) }
+    ensures refused { (f : ScriptFault) → result ≡ Err (NoScript.Refused f) → ReadsFault domains (S.left src.old) (S.left src.new) f }
+
+    // What spells a script isn't refused, and what has a fault isn't read.
+    ensures only_faults { (s : List (List Command)) (f : ScriptFault) → TellsScript domains (S.left src.old) s → result ≡ Err (NoScript.Refused f) → ⊥ }
+    ensures only_scripts { (f : ScriptFault) → TellsFault domains (S.left src.old) f → IsErr result }
+{
+    let bytes = match read_bytes(alloc, src) {
+        Ok(bytes) => bytes,
+        Err(ReadStop::Fault) => return Err(NoScript::ReadFault),
+        Err(ReadStop::Memory) => return Err(NoScript::Memory),
+    };
+    match read_script(alloc, domains, &bytes) {
+        Ok(script) => Ok(script),
+        Err(fault) => Err(no_script(fault)),
+    }
+}

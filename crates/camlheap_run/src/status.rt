@@ -1,0 +1,108 @@
+//! How a run of the program ended, as a number and as a line.
+ghost use Rattle.std.specs.Prelude.{◌≡◌, ◌≤◌, ◌+◌, ◌++◌, take, length, decimal, codes};
+ghost use Rattle.camlheap_run.specs.Status.{number_of, line_of, fault_text};
+ghost use Rattle.heap_model.specs.Output.{line};
+
+use heap_text::ScriptFault;
+use itoa::Buffer;
+
+/// How a run of the program ended.
+#[derive(Clone, Copy, Debug, PartialEq, Eq)]
+pub enum Status {
+    /// The whole text was written.
+    Done,
+    /// The words of the command line aren't in the grammar. Nothing was read.
+    Usage,
+    /// The script has this fault first.
+    Script(ScriptFault),
+    /// A read failed.
+    ReadFault,
+    /// A write failed. What was written is the front of what was to be written.
+    WriteFault,
+    /// Memory ran out before the first byte was written.
+    Memory,
+}
+
+/// The number with which the program ends.
+pub fn status_number(status: &Status) -> u8
+    ensures { result ≡ number_of status.now }
+{
+    match status {
+        Status::Done => 0,
+        Status::Usage => 1,
+        Status::Script(ScriptFault::Memory) | Status::Memory => 5,
+        Status::Script(_) => 2,
+        Status::ReadFault => 3,
+        Status::WriteFault => 4,
+    }
+}
+
+const USAGE: &[u8] =
+    b"usage: camlheap run [--domains N] [--minor W] [--pools P] | gen BASE N C | load BASE N C\n";
+
+// Puts a text behind the first `at` bytes, and answers where it ends.
+fn put(out: &mut [u8; 128], at: usize, text: &[u8]) -> usize
+    requires { at + length text.now ≤ 128 }
+    ensures end { result ≡ at + length text.now }
+    ensures front { take result out.new ≡ take at out.old ++ text.now }
+{
+    let end = at + text.len();
+    out[at..end].copy_from_slice(text);
+    end
+}
+
+// Puts a number in decimal behind the first `at` bytes, and answers where it ends.
+fn put_number(out: &mut [u8; 128], at: usize, number: u32) -> usize
+    requires { at + 10 ≤ 128 }
+    ensures end { result ≤ at + 10 }
+    ensures front { take result out.new ≡ take at out.old ++ decimal number }
+{
+    let mut buffer = Buffer::new();
+    put(out, at, buffer.format(number).as_bytes())
+}
+
+// Puts what the fault line of a script says of a line: its number, and a text.
+fn put_line(out: &mut [u8; 128], number: u32, text: &[u8]) -> usize
+    requires { length text.now ≤ 32 }
+    ensures end { result ≤ 54 }
+    ensures front { take result out.new ≡ codes "script line " ++ decimal number ++ text.now }
+{
+    let at = put(out, 0, b"script line ");
+    let at = put_number(out, at, number);
+    put(out, at, text)
+}
+
+// Puts the fault line of a script.
+fn put_fault(out: &mut [u8; 128], fault: &ScriptFault) -> usize
+    ensures end { result ≤ 128 }
+    ensures front { take result out.new ≡ line (fault_text fault.now) }
+{
+    match fault {
+        ScriptFault::Syntax { line } => put_line(out, *line, b": syntax\n"),
+        ScriptFault::Order { line } => put_line(out, *line, b": section order\n"),
+        ScriptFault::Range { line, which } => {
+            let at = put_line(out, *line, b": number ");
+            let at = put_number(out, at, *which);
+            put(out, at, b" out of range\n")
+        }
+        ScriptFault::TooLong { .. } => put(out, 0, b"script: more than 16777216 bytes\n"),
+        ScriptFault::TooMany { line } => put_line(out, *line, b": too many commands\n"),
+        ScriptFault::Memory => put(out, 0, b"out of memory\n"),
+    }
+}
+
+/// Puts the line for standard error, with its line feed, at the front of the buffer, and answers its length.
+/// There is none, of length 0, for `Done`.
+pub fn fault_line(status: &Status, out: &mut [u8; 128]) -> usize
+    ensures fits { result ≤ 128 }
+    ensures line { take result out.new ≡ line_of status.now }
+{
+    match status {
+        Status::Done => 0,
+        Status::Usage => put(out, 0, USAGE),
+        Status::Script(fault) => put_fault(out, fault),
+        Status::ReadFault => put(out, 0, b"read fault\n"),
+        Status::WriteFault => put(out, 0, b"write fault\n"),
+        Status::Memory => put(out, 0, b"out of memory\n"),
+    }
+}

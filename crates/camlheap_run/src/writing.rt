@@ -1,0 +1,78 @@
+//! Hands the text of a run to a sink, line by line.
+ghost use Rattle.std.specs.Prelude.{◌≤◌, ◌++◌, length, OnErr};
+ghost use Rattle.heap_model.specs.Output.{line, reply_text, printed};
+ghost use Rattle.heap_text.specs.Spelling.{heading_text};
+ghost use Rattle.outer_io.specs.Faults.{Rose};
+ghost use Rattle.camlheap_run.specs.Writing.{Writes};
+
+use heap_model::reply::Reply;
+use heap_text::{print_heading, print_reply};
+use outer_io::{Failed, Sink};
+
+// Hands a text to the sink, and again what a write leaves of it.
+fn write_all<K: Sink>(out: &mut K, text: &[u8]) -> Result<(), Failed>
+    ensures later { K.faults out.old ≤ K.faults out.new }
+    ensures fault { OnErr result (Rose (K.faults out.old) (K.faults out.new)) }
+    ensures bytes { Writes (K.written out.old) (K.written out.new) result text.now }
+{
+    let mut at = 0;
+    'writing: while at < text.len() {
+        match out.write(&text[at..]) {
+            Ok(count) => at += count,
+            Err(failed) => return Err(failed),
+        }
+    }
+    Ok(())
+}
+
+// Writes the heading of a domain.
+fn write_heading<K: Sink>(out: &mut K, domain: u32) -> Result<(), Failed>
+    ensures later { K.faults out.old ≤ K.faults out.new }
+    ensures fault { OnErr result (Rose (K.faults out.old) (K.faults out.new)) }
+    ensures bytes { Writes (K.written out.old) (K.written out.new) result (line (heading_text domain)) }
+{
+    let mut text = [0u8; 64];
+    let length = print_heading(domain, &mut text);
+    write_all(out, &text[..length])
+}
+
+// Writes the line of a reply.
+fn write_reply<K: Sink>(out: &mut K, reply: &Reply) -> Result<(), Failed>
+    ensures later { K.faults out.old ≤ K.faults out.new }
+    ensures fault { OnErr result (Rose (K.faults out.old) (K.faults out.new)) }
+    ensures bytes { Writes (K.written out.old) (K.written out.new) result (line (reply_text reply.now)) }
+{
+    let mut text = [0u8; 64];
+    let length = print_reply(reply, &mut text);
+    write_all(out, &text[..length])
+}
+
+// Writes the lines of replies, in order.
+fn write_replies<K: Sink>(out: &mut K, replies: &[Reply]) -> Result<(), Failed>
+    ensures later { K.faults out.old ≤ K.faults out.new }
+    ensures fault { OnErr result (Rose (K.faults out.old) (K.faults out.new)) }
+    ensures bytes { Writes (K.written out.old) (K.written out.new) result (printed replies.now) }
+{
+    'replies: for reply in replies {
+        if let Err(failed) = write_reply(out, reply) {
+            return Err(failed);
+        }
+    }
+    Ok(())
+}
+
+// Writes the section of a domain: its heading, and the lines of its replies.
+pub(crate) fn write_section<K: Sink>(
+    out: &mut K,
+    domain: u32,
+    replies: &[Reply],
+) -> Result<(), Failed>
+    ensures later { K.faults out.old ≤ K.faults out.new }
+    ensures fault { OnErr result (Rose (K.faults out.old) (K.faults out.new)) }
+    ensures bytes { Writes (K.written out.old) (K.written out.new) result (line (heading_text domain) ++ printed replies.now) }
+{
+    if let Err(failed) = write_heading(out, domain) {
+        return Err(failed);
+    }
+    write_replies(out, replies)
+}

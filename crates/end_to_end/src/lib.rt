@@ -1,0 +1,9 @@
+//! Tests of the program from bytes to bytes, through its top call over memory.
+#![tactic(auto)]
+
+#[cfg(test)]
+mod faults;
+#[cfg(test)]
+mod outcome;
+#[cfg(test)]
+mod rows;

@@ -1,0 +1,95 @@
+//! Scripts with the replies that they have by hand.
+use crate::outcome::{PLAIN, PLAIN_PRINTS, outcome_of, sink, source};
+use std::test::Fail;
+
+#[test]
+fn scripts_of_one_domain(rt: HostRuntime) -> Result<(), Fail> {
+    for (script, prints) in [
+        (PLAIN, PLAIN_PRINTS),
+        ("heap 1\ndomain 0\n", "domain 0\n"),
+        (
+            "heap 1\ndomain 0\nint 1 5\nload 2 1 0\nload 2 0 16\nload 2 0 15\nstore 0 0 9\n",
+            "domain 0\nok\ntype\nbounds\nint 0\ntype\n",
+        ),
+        (
+            "heap 1\ndomain 0\nint 1 4611686018427387903\nint 1 -4611686018427387904\n",
+            "domain 0\nok\nok\n",
+        ),
+        ("heap 1\ndomain 0\nalloc 1 245 126\n", "domain 0\nblk 0:1\n"),
+    ] {
+        let alloc = rt.alloc();
+        let given = outcome_of(
+            &rt,
+            alloc,
+            "run --domains 1",
+            source(alloc, script, 4096, &[])?,
+            sink(alloc, 4096, &[])?,
+        )?;
+        assert_eq!(rt; given.number, 0, "{script}");
+        assert_eq!(rt; given.line.len(), 0, "{script}");
+        assert_eq!(rt; given.written.as_slice(), prints.as_bytes(), "{script}");
+    }
+    Ok(())
+}
+
+#[test]
+fn refused_scripts(rt: HostRuntime) -> Result<(), Fail> {
+    for (script, line) in [
+        (
+            "heap 1\ndomain 0\nint 1 4611686018427387903\nint 1 -4611686018427387904\nint 1 4611686018427387904\n",
+            "script line 5: number 2 out of range\n",
+        ),
+        (
+            "heap 1\ndomain 0\nalloc 1 0 127\n",
+            "script line 3: number 3 out of range\n",
+        ),
+        (
+            "heap 1\ndomain 0\nalloc 1 246 1\n",
+            "script line 3: number 2 out of range\n",
+        ),
+        ("heap 1\ndomain 0\nint 1 5", "script line 3: syntax\n"),
+        ("", "script line 1: syntax\n"),
+        ("heap 1\nint 1 5\n", "script line 2: section order\n"),
+    ] {
+        let alloc = rt.alloc();
+        let given = outcome_of(
+            &rt,
+            alloc,
+            "run --domains 1",
+            source(alloc, script, 4096, &[])?,
+            sink(alloc, 4096, &[])?,
+        )?;
+        assert_eq!(rt; given.number, 2, "{script}");
+        assert_eq!(rt; given.line.as_slice(), line.as_bytes(), "{script}");
+        assert_eq!(rt; given.written.len(), 0, "{script}");
+    }
+    Ok(())
+}
+
+#[test]
+fn other_words(rt: HostRuntime) -> Result<(), Fail> {
+    for words in [
+        "",
+        "run x",
+        "run --domains 9",
+        "run --domains 1 1",
+        "run --domains",
+        "--help",
+    ] {
+        let alloc = rt.alloc();
+        let given = outcome_of(
+            &rt,
+            alloc,
+            words,
+            source(alloc, PLAIN, 4096, &[])?,
+            sink(alloc, 4096, &[])?,
+        )?;
+        assert_eq!(rt; given.number, 1, "{words}");
+        assert_eq!(rt;
+            given.line.as_slice(),
+            b"usage: camlheap run [--domains N] [--minor W] [--pools P] | gen BASE N C | load BASE N C\n".as_slice()
+        );
+        assert_eq!(rt; given.written.len(), 0, "{words}");
+    }
+    Ok(())
+}
