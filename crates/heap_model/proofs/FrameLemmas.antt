@@ -1,5 +1,5 @@
 -- What an entry of one domain leaves of everything else, and what it leaves of its own domain: one law for each case.
-use Rattle.std.proofs.Common.{◌≡◌, ◌≢◌, ℕ, zero, suc, ◌+◌, Bool, true, false, eqb, eqb-true, eq-eqb, is_some, List, [], ◌∷◌, ◌++◌, map, length, get_or, set, slice_get, option_and_then, option_map, unwrap_or, Option, Some, None, refl, ap, sym, ◌∙◌, length-set, get_or-set_other}
+use Rattle.std.proofs.Common.{◌≡◌, ◌≢◌, ℕ, zero, suc, ◌+◌, ◌<◌, arith, Bool, true, false, eqb, eqb-true, eq-eqb, is_some, List, [], ◌∷◌, ◌++◌, map, length, get_or, set, slice_get, option_and_then, option_map, unwrap_or, Option, Some, None, refl, ap, sym, ◌∙◌, length-set, get_or-set_other}
 use Rattle.heap_model.specs.declared.label.Label.{Label}
 use Rattle.heap_model.specs.declared.command.Command.{Command}
 use Rattle.heap_model.specs.declared.command.Command.TheVariants.{PutInt, Copy, Forget, Alloc, AllocMaj, Load, Store, Ephe as NewEphe, SetKey, UnsetKey, GetKey, CheckKey, SetData, UnsetData, GetData, CheckData, Finalise, FinaliseLast, Poll, Minor, Major, FullMajor}
@@ -307,3 +307,9 @@ calm_command s d c full = calm_frame d s (next s (CommandOf d c full)) (frame_co
 
 pub calm_end : (s : State) (d : ℕ) → IsCalm s → IsCalm (next s (End d))
 calm_end s d calm = record { mode = calm.mode; queues = λ k. part_set (λ y. y.queue) s.domains d (ended (domain_at s d)) refl k ∙ calm.queues k }
+
+-- a domain that hasn't ended is one of the state's
+pub inside_running : (xs : List DomainState) (d : ℕ) → (get_or xs d no_domain).ended ≡ false → d < length xs
+inside_running [] d e = cc
+inside_running (x ∷ xs) zero e = omega arith
+inside_running (x ∷ xs) (suc d) e = let rest = inside_running xs d e in omega arith

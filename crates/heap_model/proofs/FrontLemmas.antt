@@ -6,8 +6,7 @@ use Rattle.heap_model.specs.declared.graph.Value.{Value}
 use Rattle.heap_model.specs.declared.graph.Value.TheVariants.{Nothing}
 use Rattle.heap_model.specs.declared.graph.Node.{Node}
 use Rattle.heap_model.specs.declared.graph.Node.TheVariants.{Plain, Ephe}
-use Rattle.heap_model.specs.declared.reply.Reply.{Reply}
-use Rattle.heap_model.specs.declared.reply.Applied.TheVariants.{Replied}
+use Rattle.heap_model.specs.declared.reply.Applied.{Applied}
 use Rattle.heap_model.specs.declared.state.Sizes.{Sizes}
 use Rattle.heap_model.specs.declared.state.State.{State}
 use Rattle.heap_model.specs.Domains.{opening}
@@ -47,7 +46,7 @@ front_push d h front e other f = record {
 }
 
 -- an own entry behind the whole history is an answer
-pub answers_push : (z : Sizes) (d : ℕ) (h front : List Entry) (e : Entry) (r : Reply) → IsFrontOf d h front → Legal z (h ++ e ∷ []) → reply (state_after (opening z) h) e ≡ Replied r → Answers z d front (h ++ e ∷ []) e r
+pub answers_push : (z : Sizes) (d : ℕ) (h front : List Entry) (e : Entry) (r : Applied) → IsFrontOf d h front → Legal z (h ++ e ∷ []) → reply (state_after (opening z) h) e ≡ r → Answers z d front (h ++ e ∷ []) e r
 answers_push z d h front e r f legal replies = record {
   between = f.rest;
   others = f.others;

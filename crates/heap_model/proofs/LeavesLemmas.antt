@@ -164,3 +164,14 @@ module _ (s : State) (d : ℕ) where
     where
       subst_length : (xs : List DomainState) (k : ℕ) (x : DomainState) → k < length xs → k < length (set xs k x)
       subst_length xs k x h = rw length-set h
+
+  -- a load or a store that looks into an ephemeron
+  pub leaves_load_kind : (dst src i : ℕ) (l : Label) (keys : List (Option Label)) (datum : Value) → register s d src ≡ Block l → node_at s.graph l ≡ Some (Ephe keys datum)
+      → Leaves s (CommandOf d (Load dst src i) false) d s.graph mine.registers mine.serial (Replied BadType)
+  leaves_load_kind dst src i l keys datum held node =
+      leaves_outcome (Load dst src i) _ _ _ (answers s BadType) (ap (loaded s d dst i) (block_is src l (Ephe keys datum) held node)) has_same
+
+  pub leaves_store_kind : (block i item : ℕ) (l : Label) (keys : List (Option Label)) (datum : Value) → register s d block ≡ Block l → node_at s.graph l ≡ Some (Ephe keys datum)
+      → Leaves s (CommandOf d (Store block i item) false) d s.graph mine.registers mine.serial (Replied BadType)
+  leaves_store_kind block i item l keys datum held node =
+      leaves_outcome (Store block i item) _ _ _ (answers s BadType) (ap (λ b. stored s i b (register s d item)) (block_is block l (Ephe keys datum) held node)) has_same

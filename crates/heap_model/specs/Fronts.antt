@@ -7,8 +7,7 @@ use Rattle.heap_model.specs.declared.graph.Value.TheVariants.{Block}
 use Rattle.heap_model.specs.declared.graph.Node.{Node}
 use Rattle.heap_model.specs.declared.graph.Node.TheVariants.{Plain, Ephe}
 use Rattle.heap_model.specs.declared.entry.Entry.{Entry}
-use Rattle.heap_model.specs.declared.reply.Reply.{Reply}
-use Rattle.heap_model.specs.declared.reply.Applied.TheVariants.{Replied}
+use Rattle.heap_model.specs.declared.reply.Applied.{Applied}
 use Rattle.heap_model.specs.declared.state.Mode.TheVariants.{Open}
 use Rattle.heap_model.specs.declared.state.Sizes.{Sizes}
 use Rattle.heap_model.specs.declared.state.State.{State}
@@ -27,13 +26,13 @@ pub record IsFrontOf (d : ℕ) (history front : List Entry) : Type 0 where
   pub appends : history ≡ front ++ rest
   pub others : NoneOf d rest
 
--- A call of domain d with one entry: its front grows by entries of others and by this one, which comes last, and the reply is that of the state before it
-pub record Answers (z : Sizes) (d : ℕ) (old new : List Entry) (e : Entry) (r : Reply) : Type 0 where
+-- A call of domain d with one entry: its front grows by entries of others and by this one, which comes last, and the answer is that of the state before it
+pub record Answers (z : Sizes) (d : ℕ) (old new : List Entry) (e : Entry) (answer : Applied) : Type 0 where
   pub between : List Entry
   pub others : NoneOf d between
   pub appends : new ≡ old ++ between ++ e ∷ []
   pub legal : Legal z new
-  pub replies : reply (state_after (opening z) (old ++ between)) e ≡ Replied r
+  pub replies : reply (state_after (opening z) (old ++ between)) e ≡ answer
 
 -- what never changes of a block: of a plain one its number of fields and its tag, of an ephemeron its number of keys
 pub data Shape : Type 0 where

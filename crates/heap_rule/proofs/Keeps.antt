@@ -1,5 +1,5 @@
 -- What all kinds of step share: what a domain knows at its seat, and that the rule holds again where the whole, the own domain and each other one meet it.
-use Rattle.std.proofs.Common.{◌≡◌, ◌≢◌, ℕ, ◌+◌, ◌<◌, ◌≤◌, false, List, [], ◌∷◌, ◌++◌, get_or, set, Some, sym, refl, ap, ◌∙◌, subst, arith, length-set, get_or-set_other, append_assoc}
+use Rattle.std.proofs.Common.{◌≡◌, ◌≢◌, ℕ, ◌+◌, ◌<◌, ◌≤◌, false, List, [], ◌∷◌, ◌++◌, length, get_or, set, Some, sym, refl, ap, ◌∙◌, subst, arith, length-set, get_or-set_other, append_assoc}
 use mathlib.Core.Option.{some}
 use lib.ListN.{get_elem?}
 use lib.Seq.{set-get_or}
@@ -13,18 +13,21 @@ use Rattle.heap_model.specs.declared.state.State as model
 use Rattle.heap_model.specs.Domains.{register, opening}
 use Rattle.heap_model.specs.Entries.{Allowed, next}
 use Rattle.heap_model.specs.History.{IsPrefix, Legal, is_entry_of}
-use Rattle.heap_model.specs.Fronts.{IsFrontOf, KeepsDomain}
+use Rattle.heap_model.specs.Fronts.{IsCalm, IsFrontOf, KeepsDomain}
 use Rattle.heap_model.proofs.HistoryLemmas.{legal_push, state_after-push}
+use Rattle.heap_model.proofs.FrameLemmas.{keeps_next}
 use Rattle.heap_model.proofs.FrontLemmas.{front_whole, front_push, keeps_front}
 use Rattle.heap_rule.specs.declared.config.Config.{Config}
 use Rattle.heap_rule.specs.declared.view.DomainView.{DomainView}
 use Rattle.heap_rule.specs.declared.view.View.{View}
 use Rattle.heap_rule.specs.Limits.{sizes_in}
 use Rattle.heap_rule.specs.Layout.{before_heap}
-use Rattle.heap_rule.specs.Places.{Place, Live, Stands}
+use Rattle.heap_rule.specs.Places.{Place, Live, Stands, Placed}
 use Rattle.heap_rule.specs.Changes.{value_at}
 use Rattle.heap_rule.specs.Views.{EachView, AllDomains, IsSeated, Knows, one}
-use Rattle.heap_rule.specs.Rule.{state_of, Stood, Good, Phases, Pools, NoCycle, Whole, Rule}
+use Rattle.heap_rule.specs.Rule.{state_of, AllFound, Stood, Area, Prepared, Good, Phases, Pools, NoCycle, Whole, Rule}
+use Rattle.heap_rule.specs.Standing.{with_front}
+use Rattle.heap_rule.proofs.Sizes.{some_pool}
 use Rattle.heap_rule.proofs.Lists.{views_set, domains_map, domains_with}
 
 abbrev pub Words : Type 0
@@ -168,6 +171,97 @@ module _ (k : Config) (s : Words) (r : Rule k s) (id : ℕ) (hist : List Entry) 
 
   pub legal_entry : (e : Entry) → Allowed now e → Legal (sizes_in k) (r.log ++ e ∷ [])
   legal_entry e allowed = legal_push (opening (sizes_in k)) r.log e r.whole.legal allowed
+
+  -- What a step owes at which an own entry stands, whatever it does to the words
+  pub record Appends (e : Entry) (y : DomainView) (words' : List ℕ) (live' : Live) : Type 0 where
+    pub alone : (d : ℕ) → d ≢ x.own.number → is_entry_of d e ≡ false
+    pub allowed : Allowed now e
+    pub calm : IsCalm (next now e)
+    pub number : y.own.number ≡ x.own.number
+    pub front : y.seen.front ≡ r.log ++ e ∷ []
+    pub arrivals : y.own.arrivals ≡ x.own.arrivals
+    pub wide : length words' ≡ length s.words
+    pub control : Control k s.words words'
+    pub found : AllFound k live' (next now e).graph words'
+    pub placed : Placed k live'
+    pub more : More r.live live'
+    pub stood : Stood live' (next now e) y
+    pub area : Area k live' y
+    pub prepared : Prepared k words' y
+    pub areas : (z : DomainView) → z.own.number ≢ x.own.number → Area k r.live z → Area k live' z
+    pub prepares : (z : DomainView) → z.own.number ≢ x.own.number → Area k r.live z → Prepared k s.words z → Prepared k words' z
+
+  has_pool : 1 ≤ k.pools
+  has_pool = some_pool k r.limits
+
+  pub appends : (e : Entry) (y : DomainView) (words' : List ℕ) (live' : Live) → Appends e y words' live' → Rule k record { words = words'; homes = s.homes; views = set s.views id (one k hist y) }
+  appends e y words' live' o =
+      let log' : List Entry = r.log ++ e ∷ [] in
+      let after : state_of k log' ≡ next now e = after_entry e in
+      remakes y log' words' live'
+          record {
+            wide = o.wide ∙ r.whole.wide;
+            legal = legal_entry e o.allowed;
+            calm = subst IsCalm (sym after) o.calm;
+            found = subst (λ (t : model.State). AllFound k live' t.graph words') (sym after) o.found;
+            placed = o.placed;
+            phases = phases_same k s.words words' o.control r.whole.phases;
+            pools = pools_same k s.words words' has_pool o.control r.whole.pools;
+            cycle = cycle_same k s.words words' o.control r.whole.cycle;
+          }
+          (knows_entry y e o.alone o.number o.front)
+          record { stood = subst (λ (t : model.State). Stood live' t y) (sym after) o.stood; area = o.area; prepared = o.prepared; idle = o.arrivals ∙ my_good.idle }
+          (λ z _ other g. record {
+            stood = subst (λ (t : model.State). Stood live' t z) (sym after) (stood_other r.live live' now (next now e) z (keeps_next now e z.own.number (o.alone z.own.number other)) o.more g.stood);
+            area = o.areas z other g.area;
+            prepared = o.prepares z other g.area g.prepared;
+            idle = g.idle;
+          })
+
+  -- What a step owes at which no entry stands and nothing comes to live or moves
+  pub record Writes (y : DomainView) (words' : List ℕ) : Type 0 where
+    pub number : y.own.number ≡ x.own.number
+    pub front : IsFrontOf x.own.number r.log y.seen.front
+    pub arrivals : y.own.arrivals ≡ x.own.arrivals
+    pub wide : length words' ≡ length s.words
+    pub control : Control k s.words words'
+    pub found : AllFound k r.live now.graph words'
+    pub stood : Stood r.live now y
+    pub area : Area k r.live y
+    pub prepared : Prepared k words' y
+    pub prepares : (z : DomainView) → z.own.number ≢ x.own.number → Area k r.live z → Prepared k s.words z → Prepared k words' z
+
+  pub writes : (y : DomainView) (words' : List ℕ) → Writes y words' → Rule k record { words = words'; homes = s.homes; views = set s.views id (one k hist y) }
+  writes y words' o =
+      remakes y r.log words' r.live
+          record {
+            wide = o.wide ∙ r.whole.wide;
+            legal = r.whole.legal;
+            calm = r.whole.calm;
+            found = o.found;
+            placed = r.whole.placed;
+            phases = phases_same k s.words words' o.control r.whole.phases;
+            pools = pools_same k s.words words' has_pool o.control r.whole.pools;
+            cycle = cycle_same k s.words words' o.control r.whole.cycle;
+          }
+          (knows_front y o.number o.front)
+          record { stood = o.stood; area = o.area; prepared = o.prepared; idle = o.arrivals ∙ my_good.idle }
+          (λ z _ other g. record { stood = g.stood; area = g.area; prepared = o.prepares z other g.area g.prepared; idle = g.idle })
+
+  -- a step that leaves all but the front, which is then some front of the history
+  pub looks : (front : List Entry) → IsFrontOf x.own.number r.log front → Rule k record { words = s.words; homes = s.homes; views = set s.views id (one k hist (with_front x front)) }
+  looks front is = writes (with_front x front) s.words record {
+    number = refl;
+    front = is;
+    arrivals = refl;
+    wide = refl;
+    control = control_same k s.words;
+    found = r.whole.found;
+    stood = record { wide = my_good.stood.wide; each = my_good.stood.each; serial = my_good.stood.serial };
+    area = record { room = my_good.area.room; free = my_good.area.free };
+    prepared = record { fits = my_good.prepared.fits; written = my_good.prepared.written };
+    prepares = λ z _ _ p. p;
+  }
 
 -- a load leaves the words as they were
 pub unmoved : (k : Config) (s : Words) (at : ℕ) (views : List View) → Rule k record { words = s.words; homes = s.homes; views = views }

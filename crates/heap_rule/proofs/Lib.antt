@@ -2,8 +2,14 @@ pub mod Fillings
 pub mod Update
 pub mod Lists
 pub mod Sizes
+pub mod Values
 pub mod Keeps
+pub mod Entering
+pub mod Ticking
+pub mod Blocks
+pub mod Loading
 pub mod Seats
 pub mod Starts
 pub mod Dealt
 pub mod Ends
+pub mod Closes

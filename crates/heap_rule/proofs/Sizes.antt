@@ -40,3 +40,6 @@ heap_large k limits = let p = limits.some_pools in let x : ℕ = k.domains * k.m
 -- where no field is outside its limit
 pub within : (k : Config) → first_outside k ≡ None → IsWithinLimits (sizes_in k)
 within k fits = search rules
+
+pub some_pool : (k : Config) → IsWithinLimits (sizes_in k) → 1 ≤ k.pools
+some_pool k limits = let h = limits.some_pools in omega arith

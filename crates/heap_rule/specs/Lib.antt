@@ -8,3 +8,8 @@ pub mod Rule
 pub mod Token
 pub mod Opening
 pub mod Ending
+pub mod Standing
+pub mod Ticks
+pub mod Loads
+pub mod Stores
+pub mod Inits

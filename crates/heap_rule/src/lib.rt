@@ -7,12 +7,14 @@ mod domain;
 mod heap;
 mod layout;
 mod rule;
+mod steps;
 mod view;
 
 pub use change::{Change, Item, Part};
 pub use config::{Config, StartFault};
 pub use domain::Domain;
 pub use heap::{Ended, Heap};
+pub use steps::{field_load, head_load, label_load, tick};
 pub use view::{DomainView, Own, Seen, View};
 
 #[cfg(test)]

@@ -1,0 +1,105 @@
+-- The block in a register: in the words, and in the graph.
+use Rattle.std.proofs.Common.{◌≡◌, ◌≢◌, ℕ, ◌+◌, ◌<◌, ◌≤◌, List, [], ◌∷◌, length, get_or, slice_get, Some, None, unwrap_or, sym, refl, ap, ◌∙◌, subst, arith}
+use mathlib.Core.Option.{some}
+use lib.ListN.{get_elem?}
+use Rattle.heap_model.specs.declared.label.Label.{Label}
+use Rattle.heap_model.specs.declared.entry.Entry.{Entry}
+use Rattle.heap_model.specs.declared.graph.Value as graph_value
+use Rattle.heap_model.specs.declared.graph.Value.TheVariants.{Block}
+use Rattle.heap_model.specs.declared.graph.Node.{Node}
+use Rattle.heap_model.specs.declared.graph.Node.TheVariants.{Plain, Ephe}
+use Rattle.heap_model.specs.declared.state.State as model
+use Rattle.heap_model.specs.Graph.{Graph, node_at}
+use Rattle.heap_model.specs.Domains.{register, opening}
+use Rattle.heap_model.specs.Fronts.{Shape, PlainShape, EpheShape, shape_of, HoldsPlain}
+use Rattle.heap_model.proofs.FrontLemmas.{plain_of, holds_later}
+use Rattle.heap_words.specs.declared.value.Value.{Value}
+use Rattle.heap_rule.specs.declared.config.Config.{Config}
+use Rattle.heap_rule.specs.declared.view.DomainView.{DomainView}
+use Rattle.heap_rule.specs.Limits.{sizes_in}
+use Rattle.heap_rule.specs.Layout.{heap_words, at_address}
+use Rattle.heap_rule.specs.Places.{Place, Live, extent, values_of, Stands, WordStands, Found}
+use Rattle.heap_rule.specs.Views.{one}
+use Rattle.heap_rule.specs.Rule.{state_of, Rule}
+use Rattle.heap_rule.specs.Standing.{IsAt}
+use Rattle.heap_rule.specs.Loads.{FieldMay}
+use Rattle.heap_rule.proofs.Lists.{got_there}
+use Rattle.heap_rule.proofs.Values.{stands_block}
+use Rattle.heap_rule.proofs.Keeps.{Words, mine, my_good}
+
+block_same : (a b : Label) → Block a ≡ Block b → a ≡ b
+block_same a b e = cc
+
+some_same : (a b : Node) → Some a ≡ Some b → a ≡ b
+some_same a b e = cc
+
+module _ (k : Config) (s : Words) (r : Rule k s) (id : ℕ) (hist : List Entry) (x : DomainView) (at : get_elem? s.views id ≡ some (one k hist x)) where
+  abbrev now : model.State
+  now = state_of k r.log
+
+  -- what lives at the address in a register is the register's block
+  pub record Lives (reg a : ℕ) : Type 0 where
+    pub place : Place
+    pub lives : r.live a ≡ Some place
+    pub held : register now x.own.number reg ≡ Block place.label
+
+  pub lives_at : (reg a : ℕ) → IsAt x reg a → Lives reg a
+  lives_at reg a is =
+      let v : graph_value.Value = register now x.own.number reg in
+      let b = stands_block r.live a v (subst (λ (y : Value). Stands r.live y v) is.holds ((my_good k s r id hist x at).stood.each reg is.few)) in
+      record { place = b.1; lives = b.3; held = b.2 ∙ ap Block (sym b.4) }
+
+  pub found_at : (reg a : ℕ) (b : Lives reg a) → Found k r.live now.graph s.words a b.place
+  found_at reg a b = r.whole.found a b.place b.lives
+
+  -- a plain block
+  pub plain_at : (reg a : ℕ) (b : Lives reg a) (n tag : ℕ) → b.place.shape ≡ PlainShape n tag → HoldsPlain now x.own.number reg n
+  plain_at reg a b n tag is =
+      let f = found_at reg a b in
+      let p = plain_of f.node n tag (f.shape ∙ is) in
+      record { label = b.place.label; tag = tag; fields = p.0; held = b.held; node = f.there ∙ ap Some p.1; size = p.2 }
+
+  pub plain_inside : (reg a : ℕ) (b : Lives reg a) (n tag : ℕ) → b.place.shape ≡ PlainShape n tag → a + n + 1 ≤ heap_words k
+  plain_inside reg a b n tag is =
+      let h = (r.whole.placed.fits a b.place b.lives).high in
+      let e : ℕ = extent b.place.shape in
+      let w : ℕ = heap_words k in
+      let same : e ≡ n + 2 = ap extent is in
+      let g : a + e ≤ w + 1 = h in omega arith
+
+  -- a field whose block and size the front knows
+  pub record Field (reg i : ℕ) : Type 0 where
+    pub address : ℕ
+    pub place : Place
+    pub lives : r.live address ≡ Some place
+    pub tag : ℕ
+    pub fields : List graph_value.Value
+    pub held : register now x.own.number reg ≡ Block place.label
+    pub node : node_at now.graph place.label ≡ Some (Plain tag fields)
+    pub value : graph_value.Value
+    pub there : slice_get fields i ≡ Some value
+    pub stands : WordStands r.live (at_address k s.words (address + 2 + i)) value
+
+  pub field_at : (word reg i : ℕ) (may : FieldMay k x word reg i) → (f : Field reg i) × (f.address ≡ may.address)
+  field_at word reg i may =
+      let b = lives_at reg may.address may.block in
+      let found = found_at reg may.address b in
+      let later : HoldsPlain now x.own.number reg may.size = holds_later (opening (sizes_in k)) x.own.number reg may.size r.log x.seen.front (mine k s r id hist x at).front may.known in
+      let label : later.label ≡ b.place.label = block_same later.label b.place.label (sym later.held ∙ b.held) in
+      let node : node_at now.graph b.place.label ≡ Some (Plain later.tag later.fields) = ap (node_at now.graph) (sym label) ∙ later.node in
+      let is : found.node ≡ Plain later.tag later.fields = some_same found.node (Plain later.tag later.fields) (sym found.there ∙ node) in
+      let v = got_there later.fields i (let n : ℕ = may.size in let e : length later.fields ≡ n = later.size in let h : i < n = may.inside in omega arith) in (
+        record {
+          address = may.address;
+          place = b.place;
+          lives = b.lives;
+          tag = later.tag;
+          fields = later.fields;
+          held = b.held;
+          node = node;
+          value = v.0;
+          there = v.1;
+          stands = found.values i v.0 (ap (λ (n : Node). slice_get (values_of n) i) is ∙ v.1);
+        },
+        refl,
+      )

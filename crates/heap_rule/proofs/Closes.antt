@@ -1,0 +1,112 @@
+-- The token after a step: its plain data is again that of its seat's view.
+use Rattle.std.proofs.Common.{◌≡◌, ℕ, List, [], ◌∷◌, sym, refl, ap, ◌∙◌, subst, lt_of_not-le}
+use Rattle.atomic_table.specs.Table.{Me}
+use Rattle.heap_rule.specs.declared.config.Config.{Config}
+use Rattle.heap_rule.specs.declared.view.Own.{Own}
+use Rattle.heap_rule.specs.declared.view.DomainView.{DomainView}
+use Rattle.heap_rule.specs.declared.view.View.{View}
+use Rattle.heap_model.specs.declared.entry.Entry.{Entry}
+use Rattle.heap_model.specs.declared.reply.Applied.{Applied}
+use Rattle.heap_words.specs.declared.value.Value.{Value}
+use Rattle.heap_rule.specs.declared.change.Change.{Change}
+use mathlib.Core.Logic.{dite}
+use native.Mathlib.Decide.{dec_le}
+use Rattle.heap_model.specs.declared.reply.Applied.TheVariants.{Replied}
+use Rattle.heap_model.specs.Commands.{shown}
+use Rattle.heap_model.specs.Fronts.{Shape, PlainShape, EpheShape}
+use Rattle.heap_words.specs.Values.{IsPackable, value_word}
+use Rattle.heap_rule.specs.Loads.{place_of, HeadCase, HeadTold, LabelTold, FieldRead}
+use Rattle.heap_rule.specs.Changes.{changed}
+use Rattle.heap_rule.specs.Standing.{Entered}
+use Rattle.heap_rule.specs.Views.{Tells, domain_in, one}
+use Rattle.heap_rule.specs.Token.{SharedHeap, Token, IsIn, IsSeatOf, Holds}
+
+-- What the opening of a heap and of a token says: `over` and `inside` are what their fields show, and `h` and `t` what the caller sees
+pub record Opened (over h : SharedHeap) (inside t : Token) (m : Me (Unit {0}) View) : Type 0 where
+  pub heap : over ≡ h
+  pub token : inside ≡ t
+  pub here : IsIn t h
+  pub seat : IsSeatOf inside.config inside.view m
+
+-- the token's view with other plain data, as its seat knows it
+abbrev pub view_after : Own → Me (Unit {0}) View → DomainView
+view_after own m = record { own = own; seen = (domain_in m.0.domains).seen }
+
+-- the plain data after an entry
+entered_plain : (k : Config) (e : Entry) (answer : Applied) (read : Value) (changes : List Change) (x y : DomainView) (registers : List Value) → Entered k e answer read changes x y → registers ≡ changed read changes x.own.registers
+    → (y.own ≡ record x.own { registers = registers }) × Holds k registers
+entered_plain k e answer read changes x y registers says written =
+    let own_is : y.own ≡ record x.own { registers = registers } = ap (λ (z : DomainView). z.own) says.view ∙ ap (λ (l : List Value). record x.own { registers = l }) (sym written) in (
+      own_is,
+      subst (Holds k) (ap (λ (z : Own). z.registers) own_is) says.holds,
+    )
+
+-- a head load leaves the plain data
+head_own : (k : Config) (a : ℕ) (e : Entry) (x y : DomainView) (shape : Shape) → HeadCase k a e shape x y → y.own ≡ x.own
+head_own k a e x y (EpheShape keys) told = ap (λ (z : DomainView). z.own) told.view
+head_own k a e x y (PlainShape size tag) told = dite (dec_le size (place_of e))
+    (λ past. ap (λ (z : DomainView). z.own) (told.past past).view)
+    (λ not_past. ap (λ (z : DomainView). z.own) (told.below (lt_of_not-le not_past)).looked.view)
+
+module _ (over h : SharedHeap) (inside t : Token) (m : Me (Unit {0}) View) (o : Opened over h inside t m) where
+  pub config_is : inside.config ≡ over.config
+  config_is = ap (λ (x : Token). x.config) o.token ∙ (o.here.1 ∙ sym (ap (λ (x : SharedHeap). x.config) o.heap))
+
+  pub view_is : inside.view ≡ t.view
+  view_is = ap (λ (x : Token). x.view) o.token
+
+  -- the seat's view, by the key of the table
+  pub at_view : m ≡ (one over.config m.0.history inside.view, [])
+  at_view = o.seat.seat ∙ ap (λ (k : Config). (one k m.0.history inside.view, [])) config_is
+
+  -- a telling closes where it says what becomes of the plain data
+  pub closes : (tells : Config → DomainView → ℕ → DomainView → Type 0) (m' : Me (Unit {0}) View) (found : ℕ) (own : Own) → Tells (tells over.config) m found m'
+      → ((y : DomainView) → tells over.config inside.view found y → (y.own ≡ own) × Holds over.config own.registers)
+      → IsSeatOf inside.config (view_after own m') m' × tells h.config t.view found (view_after own m')
+  closes tells m' found own told plain =
+      let y : DomainView = domain_in m'.0.domains in
+      let before : domain_in m.0.domains ≡ inside.view = ap (λ (n : Me (Unit {0}) View). domain_in n.0.domains) o.seat.seat in
+      let says : tells over.config inside.view found y = subst (λ (x : DomainView). tells over.config x found y) before told.0 in
+      let data_is = plain y says in
+      let is : y ≡ view_after own m' = λ i. record { own = data_is.0 i; seen = y.seen } in
+      let config_after : m'.0.config ≡ inside.config = ap (λ (n : Me (Unit {0}) View). n.0.config) told.1 ∙ ap (λ (n : Me (Unit {0}) View). n.0.config) o.seat.seat in
+      let domains_after : m'.0.domains ≡ view_after own m' ∷ [] = ap (λ (n : Me (Unit {0}) View). n.0.domains) told.1 ∙ ap (λ (x : DomainView). x ∷ []) is in
+      let empty : m'.1 ≡ [] = ap (λ (n : Me (Unit {0}) View). n.1) told.1 ∙ ap (λ (n : Me (Unit {0}) View). n.1) o.seat.seat in (
+        record {
+          seat = λ i. (record { config = config_after i; history = m'.0.history; domains = domains_after i }, empty i);
+          registers = subst (λ (k : Config). Holds k own.registers) (sym config_is) data_is.1;
+        },
+        subst (λ (x : Config × DomainView × DomainView). tells x.0 x.1 found x.2) (λ i. (ap (λ (x : SharedHeap). x.config) o.heap i, view_is i, is i)) says,
+      )
+
+  -- what the caller showed of the token is so of its fields
+  pub asked : (may : Config → DomainView → Type 0) → may h.config t.view → may over.config inside.view
+  asked may is = subst (λ (x : Config × DomainView). may x.0 x.1) (λ i. (sym (ap (λ (x : SharedHeap). x.config) o.heap) i, sym view_is i)) is
+
+  -- the telling of an entry closes where the changes were written
+  pub entered_closes : (e : Entry) (answer : Applied) (read : Value) (changes : List Change) (m' : Me (Unit {0}) View) (found : ℕ) (registers : List Value) → Tells (λ x _ y. Entered over.config e answer read changes x y) m found m'
+      → registers ≡ changed read changes inside.view.own.registers
+      → let own : Own = record inside.view.own { registers = registers } in IsSeatOf inside.config (view_after own m') m' × Entered h.config e answer read changes t.view (view_after own m')
+  entered_closes e answer read changes m' found registers told written = closes (λ k x _ y. Entered k e answer read changes x y) m' found (record inside.view.own { registers = registers }) told
+      (λ y says. entered_plain over.config e answer read changes inside.view y registers says written)
+
+  -- a telling closes where it leaves the plain data
+  pub kept_closes : (tells : Config → DomainView → ℕ → DomainView → Type 0) (m' : Me (Unit {0}) View) (found : ℕ) → Tells (tells over.config) m found m' → ((y : DomainView) → tells over.config inside.view found y → y.own ≡ inside.view.own)
+      → IsSeatOf inside.config (view_after inside.view.own m') m' × tells h.config t.view found (view_after inside.view.own m')
+  kept_closes tells m' found told same = closes tells m' found inside.view.own told (λ y says. (same y says, subst (λ (k : Config). Holds k inside.view.own.registers) config_is o.seat.registers))
+
+  pub head_closes : (a : ℕ) (e : Entry) (m' : Me (Unit {0}) View) (found : ℕ) → Tells (HeadTold over.config a e) m found m'
+      → IsSeatOf inside.config (view_after inside.view.own m') m' × HeadTold h.config a e t.view found (view_after inside.view.own m')
+  head_closes a e m' found told = kept_closes (λ k. HeadTold k a e) m' found told (λ y says. head_own over.config a e inside.view y says.shape says.told)
+
+  pub label_closes : (reg : ℕ) (m' : Me (Unit {0}) View) (found : ℕ) → Tells (LabelTold over.config reg) m found m'
+      → IsSeatOf inside.config (view_after inside.view.own m') m' × LabelTold h.config reg t.view found (view_after inside.view.own m')
+  label_closes reg m' found told = kept_closes (λ k. LabelTold k reg) m' found told (λ y says. ap (λ (z : DomainView). z.own) says.view)
+
+  -- a field load closes where the value of the word found was written
+  pub field_closes : (e : Entry) (changes : List Change) (m' : Me (Unit {0}) View) (found : ℕ) (read : Value) (registers : List Value) → Tells (FieldRead over.config e changes) m found m'
+      → ((v : Value) → IsPackable v → value_word v ≡ found → read ≡ v) → registers ≡ changed read changes inside.view.own.registers
+      → let own : Own = record inside.view.own { registers = registers } in IsSeatOf inside.config (view_after own m') m' × FieldRead h.config e changes t.view found (view_after own m')
+  field_closes e changes m' found read registers told reads written = closes (λ k. FieldRead k e changes) m' found (record inside.view.own { registers = registers }) told
+      (λ y says. entered_plain over.config e (Replied (shown says.held)) says.value changes inside.view y registers says.entered
+          (written ∙ ap (λ (v : Value). changed v changes inside.view.own.registers) (reads says.value says.packable (sym says.word))))

@@ -1,0 +1,101 @@
+-- An own entry that changes registers and no word of the heap.
+use Rattle.std.proofs.Common.{◌≡◌, ◌≢◌, ℕ, ◌<◌, ◌≤◌, false, List, [], ◌∷◌, ◌++◌, length, get_or, set, sym, refl, ap, ◌∙◌, subst, arith}
+use mathlib.Core.Option.{some}
+use lib.ListN.{get_elem?}
+use Rattle.heap_model.specs.declared.entry.Entry.{Entry}
+use Rattle.heap_model.specs.declared.reply.Applied.{Applied}
+use Rattle.heap_model.specs.declared.graph.Value as model_value
+use Rattle.heap_model.specs.declared.graph.Value.TheVariants.{Nothing}
+use Rattle.heap_model.specs.declared.state.State as model
+use Rattle.heap_model.specs.Graph.{Graph}
+use Rattle.heap_model.specs.Domains.{domain_at, opening, IsShaped}
+use Rattle.heap_model.specs.Entries.{Allowed, next}
+use Rattle.heap_model.specs.History.{is_entry_of}
+use Rattle.heap_model.specs.Fronts.{IsCalm}
+use Rattle.heap_model.proofs.ShapeAfterLemmas.{shaped-history}
+use Rattle.heap_model.proofs.FrameLemmas.{inside_running}
+use Rattle.heap_model.proofs.FrontLemmas.{answers_push}
+use Rattle.heap_model.proofs.LeavesLemmas.{Leaves}
+use Rattle.heap_words.specs.declared.value.Value.{Value}
+use Rattle.heap_rule.specs.declared.change.Change.{Change}
+use Rattle.heap_rule.specs.declared.config.Config.{Config}
+use Rattle.heap_rule.specs.declared.view.DomainView.{DomainView}
+use Rattle.heap_rule.specs.declared.view.View.{View}
+use Rattle.heap_rule.specs.Limits.{sizes_in}
+use Rattle.heap_rule.specs.Places.{Stands}
+use Rattle.heap_rule.specs.Changes.{value_at, changed}
+use Rattle.heap_rule.specs.Views.{one}
+use Rattle.heap_rule.specs.Rule.{state_of, AllFound, Stood, Rule}
+use Rattle.heap_rule.specs.Standing.{Acts, Entered, with_front, with_registers}
+use Rattle.heap_rule.proofs.Values.{AllStand, holds}
+use Rattle.heap_rule.proofs.Keeps.{Words, mine, my_good, own, control_same, Appends, appends, legal_entry, after_entry}
+
+module _ (k : Config) (s : Words) (r : Rule k s) (id : ℕ) (hist : List Entry) (x : DomainView) (at : get_elem? s.views id ≡ some (one k hist x)) (acts : Acts k x) where
+  abbrev now : model.State
+  now = state_of k r.log
+
+  shaped : IsShaped now
+  shaped = shaped-history (sizes_in k) r.log r.limits
+
+  -- a domain that acts runs on in the state after the whole history
+  pub running : (domain_at now x.own.number).ended ≡ false
+  running = (own k s r id hist x at).ended ∙ acts
+
+  -- and is one of that state's
+  pub inside_state : x.own.number < length now.domains
+  inside_state = inside_running now.domains x.own.number running
+
+  -- the registers of the token stand for those of the state
+  pub registers_stand : AllStand r.live x.own.registers (domain_at now x.own.number).registers
+  registers_stand = record {
+    wide = (my_good k s r id hist x at).stood.wide;
+    long = shaped.register_count x.own.number inside_state;
+    each = (my_good k s r id hist x at).stood.each;
+  }
+
+  -- What such an entry owes: the registers then stand for those that it leaves
+  pub record Enters (e : Entry) (registers : List Value) (answer : Applied) : Type 0 where
+    pub alone : (d : ℕ) → d ≢ x.own.number → is_entry_of d e ≡ false
+    pub allowed : Allowed now e
+    pub calm : IsCalm (next now e)
+    pub theirs : List model_value.Value
+    pub stand : AllStand r.live registers theirs
+    pub leaves : Leaves now e x.own.number now.graph theirs (domain_at now x.own.number).serial answer
+
+  pub stood_after : (e : Entry) (registers : List Value) (answer : Applied) (y : DomainView) → y.own.number ≡ x.own.number → y.own.registers ≡ registers → y.own.serial ≡ x.own.serial → Enters e registers answer → Stood r.live (next now e) y
+  stood_after e registers answer y number regs serial o = record {
+    wide = ap length regs ∙ o.stand.wide;
+    each = λ q few. subst (λ (z : List Value × ℕ). Stands r.live (value_at z.0 q) (get_or (domain_at (next now e) z.1).registers q Nothing)) (λ i. (sym regs i, sym number i))
+        (subst (λ (l : List model_value.Value). Stands r.live (value_at registers q) (get_or l q Nothing)) (sym o.leaves.registers_are) (o.stand.each q few));
+    serial = serial ∙ ((my_good k s r id hist x at).stood.serial ∙ (sym o.leaves.serial_is ∙ ap (λ (n : ℕ). (domain_at (next now e) n).serial) (sym number)));
+  }
+
+  abbrev pub entered_view : Entry → List Value → DomainView
+  entered_view e registers = with_front (with_registers x registers) (r.log ++ e ∷ [])
+
+  pub enters_rule : (e : Entry) (registers : List Value) (answer : Applied) → Enters e registers answer → Rule k record { words = s.words; homes = s.homes; views = set s.views id (one k hist (entered_view e registers)) }
+  enters_rule e registers answer o = let g = my_good k s r id hist x at in appends k s r id hist x at e (entered_view e registers) s.words r.live record {
+    alone = o.alone;
+    allowed = o.allowed;
+    calm = o.calm;
+    number = refl;
+    front = refl;
+    arrivals = refl;
+    wide = refl;
+    control = control_same k s.words;
+    found = subst (λ (graph : Graph). AllFound k r.live graph s.words) (sym o.leaves.graph_is) r.whole.found;
+    placed = r.whole.placed;
+    more = λ a p h. h;
+    stood = stood_after e registers answer (entered_view e registers) refl refl refl o;
+    area = record { room = g.area.room; free = g.area.free };
+    prepared = record { fits = g.prepared.fits; written = g.prepared.written };
+    areas = λ z _ h. h;
+    prepares = λ z _ _ h. h;
+  }
+
+  pub enters : (e : Entry) (answer : Applied) (read : Value) (changes : List Change) → Enters e (changed read changes x.own.registers) answer → Entered k e answer read changes x (entered_view e (changed read changes x.own.registers))
+  enters e answer read changes o = let y : DomainView = entered_view e (changed read changes x.own.registers) in record {
+    answers = answers_push (sizes_in k) x.own.number r.log x.seen.front e answer (mine k s r id hist x at).front (legal_entry k s r id hist x at e o.allowed) o.leaves.replies;
+    view = refl;
+    holds = holds k r.limits r.live r.whole.placed (next now e) y (stood_after e (changed read changes x.own.registers) answer y refl refl refl o);
+  }

@@ -1,0 +1,8 @@
+//! The step calls. Each makes one step on the table, and writes the token's changes where the value
+//! read permits them. docs/RULE.md says how to add one.
+mod loading;
+mod raw;
+mod ticking;
+
+pub use loading::{field_load, head_load, label_load};
+pub use ticking::tick;

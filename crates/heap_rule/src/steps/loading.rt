@@ -1,0 +1,72 @@
+//! Loads of the words of blocks by a running domain.
+ghost use Rattle.std.specs.Prelude.{◌≡◌, ℕ, []};
+ghost use Rattle.heap_model.specs.declared.entry.Entry.{Entry};
+ghost use Rattle.heap_words.specs.declared.value.Value as words;
+ghost use Rattle.heap_words.specs.Values.{IsPackable, value_word};
+ghost use Rattle.heap_rule.specs.Loads.{HeadMay, HeadTold, LabelMay, LabelTold, FieldLoadEntry, FieldRead};
+ghost use Rattle.heap_rule.specs.Standing.{IsInHeap};
+ghost use Rattle.heap_rule.specs.Token.{IsIn};
+
+use crate::change::{Change, make_changes};
+use crate::domain::Domain;
+use crate::heap::Heap;
+use crate::layout::index_of;
+use crate::steps::raw::load_as;
+use heap_words::{Value, unpack_value};
+use std::marker::Brand;
+
+// The value whose word this is.
+fn value_of(word: u64) -> Value
+    requires { (v : words.Value) × IsPackable v × (value_word v ≡ word) }
+    ensures { (v : words.Value) → IsPackable v → value_word v ≡ word → result ≡ v }
+{
+    let Some(value) = unpack_value(word) else {
+        unreachable!()
+    };
+    value
+}
+
+/// A load of the head of the block in the register that a `load` or a `store` looks into. The entry
+/// stands here where its reply is `bounds`, or `type` since the block is no plain one.
+pub fn head_load(heap: &Heap, dom: &mut Domain, at: u32, changes: &[Change]) -> u64
+    ghost entry: { Entry }
+    requires here { IsIn dom.old heap.now }
+    requires inside { IsInHeap heap.now.config at }
+    requires may { HeadMay heap.now.config dom.old.view at entry }
+    requires unchanged { changes.now ≡ [] }
+    ensures here { IsIn dom.new heap.now }
+    ensures told { HeadTold heap.now.config at entry dom.old.view result dom.new.view }
+{
+    let index = index_of(heap.config.pools, at);
+    load_as::<Brand>(&heap.table.shared, &mut dom.seat, index, at, changes)
+}
+
+/// A load of the label of the block in a register. No entry stands here, and the front stays.
+pub fn label_load(heap: &Heap, dom: &mut Domain, at: u32, changes: &[Change]) -> u64
+    ghost register: { ℕ }
+    requires here { IsIn dom.old heap.now }
+    requires inside { IsInHeap heap.now.config at }
+    requires may { LabelMay dom.old.view at register }
+    requires unchanged { changes.now ≡ [] }
+    ensures here { IsIn dom.new heap.now }
+    ensures told { LabelTold heap.now.config register dom.old.view result dom.new.view }
+{
+    let index = index_of(heap.config.pools, at);
+    load_as::<Brand>(&heap.table.shared, &mut dom.seat, index, at, changes)
+}
+
+/// A load of a field of the plain block in a register, whose size is known. The entry of the `load`
+/// stands here, and its register gets the value.
+pub fn field_load(heap: &Heap, dom: &mut Domain, at: u32, changes: &[Change]) -> u64
+    ghost entry: { Entry }
+    requires here { IsIn dom.old heap.now }
+    requires inside { IsInHeap heap.now.config at }
+    requires may { FieldLoadEntry heap.now.config dom.old.view at changes.now entry }
+    ensures here { IsIn dom.new heap.now }
+    ensures told { FieldRead heap.now.config entry changes.now dom.old.view result dom.new.view }
+{
+    let index = index_of(heap.config.pools, at);
+    let found = load_as::<Brand>(&heap.table.shared, &mut dom.seat, index, at, changes);
+    make_changes(&mut dom.own.registers, value_of(found), changes);
+    found
+}

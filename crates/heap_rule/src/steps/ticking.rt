@@ -1,0 +1,30 @@
+//! The tick: a load of the want word.
+ghost use Rattle.std.specs.Prelude.{◌≡◌};
+ghost use Rattle.heap_model.specs.declared.entry.Entry.{Entry};
+ghost use Rattle.heap_words.specs.declared.value.Value.TheVariants.{Nothing as NothingRead};
+ghost use Rattle.heap_rule.specs.Standing.{Entered};
+ghost use Rattle.heap_rule.specs.Ticks.{TickMay, tick_answer};
+ghost use Rattle.heap_rule.specs.Token.{IsIn};
+
+use crate::change::{Change, make_changes};
+use crate::domain::Domain;
+use crate::heap::Heap;
+use crate::steps::raw::load_as;
+use heap_words::Value;
+use std::marker::Brand;
+
+/// A load of the want word, at which an entry stands that the registers alone decide: a command on
+/// registers, `poll`, a load or a store that has no block to look into, an allocation's `full`, or
+/// the end of the trace. Answers which collections the domains ask for.
+pub fn tick(heap: &Heap, dom: &mut Domain, at: u32, changes: &[Change]) -> u64
+    ghost entry: { Entry }
+    requires here { IsIn dom.old heap.now }
+    requires want { at ≡ 0 }
+    requires may { TickMay heap.now.config dom.old.view changes.now entry }
+    ensures here { IsIn dom.new heap.now }
+    ensures entered { Entered heap.now.config entry (tick_answer entry) NothingRead changes.now dom.old.view dom.new.view }
+{
+    let found = load_as::<Brand>(&heap.table.shared, &mut dom.seat, at as usize, at, changes);
+    make_changes(&mut dom.own.registers, Value::Nothing, changes);
+    found
+}
