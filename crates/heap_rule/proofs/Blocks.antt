@@ -27,10 +27,10 @@ use Rattle.heap_rule.proofs.Lists.{got_there}
 use Rattle.heap_rule.proofs.Values.{stands_block}
 use Rattle.heap_rule.proofs.Keeps.{Words, mine, my_good}
 
-block_same : (a b : Label) → Block a ≡ Block b → a ≡ b
+pub block_same : (a b : Label) → Block a ≡ Block b → a ≡ b
 block_same a b e = cc
 
-some_same : (a b : Node) → Some a ≡ Some b → a ≡ b
+pub some_same : (a b : Node) → Some a ≡ Some b → a ≡ b
 some_same a b e = cc
 
 module _ (k : Config) (s : Words) (r : Rule k s) (id : ℕ) (hist : List Entry) (x : DomainView) (at : get_elem? s.views id ≡ some (one k hist x)) where

@@ -53,17 +53,22 @@ module _ (k : Config) (s : Words) (r : Rule k s) (id : ℕ) (hist : List Entry) 
     each = (my_good k s r id hist x at).stood.each;
   }
 
-  -- What such an entry owes: the registers then stand for those that it leaves
-  pub record Enters (e : Entry) (registers : List Value) (answer : Applied) : Type 0 where
+  -- What an own entry owes that leaves this graph: the registers then stand for those that it leaves
+  pub record EntersTo (graph : Graph) (e : Entry) (registers : List Value) (answer : Applied) : Type 0 where
     pub alone : (d : ℕ) → d ≢ x.own.number → is_entry_of d e ≡ false
     pub allowed : Allowed now e
     pub calm : IsCalm (next now e)
     pub theirs : List model_value.Value
     pub stand : AllStand r.live registers theirs
-    pub leaves : Leaves now e x.own.number now.graph theirs (domain_at now x.own.number).serial answer
+    pub leaves : Leaves now e x.own.number graph theirs (domain_at now x.own.number).serial answer
 
-  pub stood_after : (e : Entry) (registers : List Value) (answer : Applied) (y : DomainView) → y.own.number ≡ x.own.number → y.own.registers ≡ registers → y.own.serial ≡ x.own.serial → Enters e registers answer → Stood r.live (next now e) y
-  stood_after e registers answer y number regs serial o = record {
+  -- and one that leaves the graph as it is
+  abbrev pub Enters : Entry → List Value → Applied → Type 0
+  Enters e registers answer = EntersTo now.graph e registers answer
+
+  pub stood_after : (graph : Graph) (e : Entry) (registers : List Value) (answer : Applied) (y : DomainView) → y.own.number ≡ x.own.number → y.own.registers ≡ registers → y.own.serial ≡ x.own.serial → EntersTo graph e registers answer
+      → Stood r.live (next now e) y
+  stood_after graph e registers answer y number regs serial o = record {
     wide = ap length regs ∙ o.stand.wide;
     each = λ q few. subst (λ (z : List Value × ℕ). Stands r.live (value_at z.0 q) (get_or (domain_at (next now e) z.1).registers q Nothing)) (λ i. (sym regs i, sym number i))
         (subst (λ (l : List model_value.Value). Stands r.live (value_at registers q) (get_or l q Nothing)) (sym o.leaves.registers_are) (o.stand.each q few));
@@ -86,16 +91,16 @@ module _ (k : Config) (s : Words) (r : Rule k s) (id : ℕ) (hist : List Entry) 
     found = subst (λ (graph : Graph). AllFound k r.live graph s.words) (sym o.leaves.graph_is) r.whole.found;
     placed = r.whole.placed;
     more = λ a p h. h;
-    stood = stood_after e registers answer (entered_view e registers) refl refl refl o;
+    stood = stood_after now.graph e registers answer (entered_view e registers) refl refl refl o;
     area = record { room = g.area.room; free = g.area.free };
     prepared = record { fits = g.prepared.fits; written = g.prepared.written };
     areas = λ z _ h. h;
     prepares = λ z _ _ h. h;
   }
 
-  pub enters : (e : Entry) (answer : Applied) (read : Value) (changes : List Change) → Enters e (changed read changes x.own.registers) answer → Entered k e answer read changes x (entered_view e (changed read changes x.own.registers))
-  enters e answer read changes o = let y : DomainView = entered_view e (changed read changes x.own.registers) in record {
+  pub enters : (graph : Graph) (e : Entry) (answer : Applied) (read : Value) (changes : List Change) → EntersTo graph e (changed read changes x.own.registers) answer → Entered k e answer read changes x (entered_view e (changed read changes x.own.registers))
+  enters graph e answer read changes o = let y : DomainView = entered_view e (changed read changes x.own.registers) in record {
     answers = answers_push (sizes_in k) x.own.number r.log x.seen.front e answer (mine k s r id hist x at).front (legal_entry k s r id hist x at e o.allowed) o.leaves.replies;
     view = refl;
-    holds = holds k r.limits r.live r.whole.placed (next now e) y (stood_after e (changed read changes x.own.registers) answer y refl refl refl o);
+    holds = holds k r.limits r.live r.whole.placed (next now e) y (stood_after graph e (changed read changes x.own.registers) answer y refl refl refl o);
   }

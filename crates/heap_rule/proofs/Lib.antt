@@ -8,6 +8,8 @@ pub mod Entering
 pub mod Ticking
 pub mod Blocks
 pub mod Loading
+pub mod Beside
+pub mod Storing
 pub mod Seats
 pub mod Starts
 pub mod Dealt

@@ -26,6 +26,13 @@ module _ {A : Type 0} where
   got_end (x ∷ xs) a b zero e = inl e
   got_end (x ∷ xs) a b (suc j) e = ⊎_elim inl (λ t. inr (ap suc t.0, t.1)) (got_end xs a b j e)
 
+  pub got_set : (l : List A) (i j : ℕ) (a b : A) → slice_get (set l i a) j ≡ Some b → ((j ≡ i) × (a ≡ b)) ⊎ ((j ≢ i) × (slice_get l j ≡ Some b))
+  got_set [] i j a b e = cc
+  got_set (x ∷ xs) zero zero a b e = inl (refl, cc)
+  got_set (x ∷ xs) zero (suc j) a b e = inr ((λ h. omega arith), e)
+  got_set (x ∷ xs) (suc i) zero a b e = inr ((λ h. omega arith), e)
+  got_set (x ∷ xs) (suc i) (suc j) a b e = ⊎_elim (λ t. inl (ap suc t.0, t.1)) (λ t. let n = t.0 in inr ((λ h. n (omega arith)), t.1)) (got_set xs i j a b e)
+
   pub got_below : (l : List A) (i : ℕ) (a : A) → slice_get l i ≡ Some a → i < length l
   got_below [] i a e = cc
   got_below (x ∷ xs) zero a e = omega arith

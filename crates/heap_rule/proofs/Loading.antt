@@ -130,11 +130,11 @@ module _ (k : Config) (s : Words) (r : Rule k s) (id : ℕ) (hist : List Entry) 
 
   head_step : (a : ℕ) (e : Entry) → HeadEntry x a e → (shape : Shape) (b : Lives k s r id hist x at (subject e) a) → b.place.shape ≡ shape → HeadStep a e shape
   head_step a e may (EpheShape keys) b is =
-      let o = kind_entry a e may keys b is in refusal a e (EpheShape keys) (Replied BadType) o (enters k s r id hist x at acts e (Replied BadType) NothingWord [] o)
+      let o = kind_entry a e may keys b is in refusal a e (EpheShape keys) (Replied BadType) o (enters k s r id hist x at acts now.graph e (Replied BadType) NothingWord [] o)
   head_step a e may (PlainShape n tag) b is = dite (dec_le n (place_of e))
       (λ past. let o = past_entry a e may n tag b is past in refusal a e (PlainShape n tag) (Replied BadIndex) o record {
         below = λ below. absurd (let p : ℕ = place_of e in let h : p < n = below in let g : n ≤ p = past in omega arith);
-        past = λ _. enters k s r id hist x at acts e (Replied BadIndex) NothingWord [] o;
+        past = λ _. enters k s r id hist x at acts now.graph e (Replied BadIndex) NothingWord [] o;
       })
       (λ not_past. record {
         after = with_front x r.log;
@@ -233,7 +233,7 @@ field_loads k slots id word hist x a dst src i changes place may s r _ at _ =
         word = ap (λ (n : ℕ). get_or s.words n 0) here ∙ f.stands.packs;
         held = f.value;
         shows = shows r.live f.stands.value f.value f.stands.stands;
-        entered = enters k s r id hist x at may.acts e (Replied (shown f.value)) f.stands.value changes o;
+        entered = enters k s r id hist x at may.acts (state_of k r.log).graph e (Replied (shown f.value)) f.stands.value changes o;
       }, refl),
     )
 

@@ -160,7 +160,7 @@ ticks k slots id word hist x e changes may s r _ at _ =
       keeps,
       tt,
       unmoved k s word (set s.views id (one k hist (entered_view k s r id hist x at may.acts e regs))) (enters_rule k s r id hist x at may.acts e regs (tick_answer e) o),
-      (enters k s r id hist x at may.acts e (tick_answer e) NothingWord changes o, refl),
+      (enters k s r id hist x at may.acts (state_of k r.log).graph e (tick_answer e) NothingWord changes o, refl),
     )
 
 pub tick_allows : (k : Config) (slots id word : ℕ) (m : Me (Unit {0}) View) (x : DomainView) (e : Entry) (changes : List Change) → m ≡ (one k m.0.history x, []) → TickMay k x changes e

@@ -2,7 +2,9 @@
 //! read permits them. docs/RULE.md says how to add one.
 mod loading;
 mod raw;
+mod storing;
 mod ticking;
 
 pub use loading::{field_load, head_load, label_load};
+pub use storing::field_store;
 pub use ticking::tick;

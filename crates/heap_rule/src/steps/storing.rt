@@ -1,0 +1,31 @@
+//! Stores to the fields of blocks by a running domain.
+ghost use Rattle.heap_model.specs.declared.entry.Entry.{Entry};
+ghost use Rattle.heap_model.specs.declared.reply.Applied.TheVariants.{Replied};
+ghost use Rattle.heap_model.specs.declared.reply.Reply.TheVariants.{Done as DoneReply};
+ghost use Rattle.heap_words.specs.declared.value.Value.TheVariants.{Nothing as NothingRead};
+ghost use Rattle.heap_rule.specs.Standing.{Entered, IsInHeap};
+ghost use Rattle.heap_rule.specs.Stores.{FieldStoreEntry};
+ghost use Rattle.heap_rule.specs.Token.{IsIn};
+
+use crate::change::{Change, make_changes};
+use crate::domain::Domain;
+use crate::heap::Heap;
+use crate::layout::index_of;
+use crate::steps::raw::store_as;
+use heap_words::Value;
+use std::marker::Brand;
+
+/// A store to a field of the plain block in a register, whose size is known. The entry of the
+/// `store` stands here.
+pub fn field_store(heap: &Heap, dom: &mut Domain, at: u32, new: u64, changes: &[Change])
+    ghost entry: { Entry }
+    requires here { IsIn dom.old heap.now }
+    requires inside { IsInHeap heap.now.config at }
+    requires may { FieldStoreEntry heap.now.config dom.old.view at new changes.now entry }
+    ensures here { IsIn dom.new heap.now }
+    ensures entered { Entered heap.now.config entry (Replied DoneReply) NothingRead changes.now dom.old.view dom.new.view }
+{
+    let index = index_of(heap.config.pools, at);
+    store_as::<Brand>(&heap.table.shared, &mut dom.seat, index, new, at, changes);
+    make_changes(&mut dom.own.registers, Value::Nothing, changes);
+}
