@@ -10,6 +10,8 @@ pub mod Blocks
 pub mod Loading
 pub mod Beside
 pub mod Storing
+pub mod Born
+pub mod Making
 pub mod Seats
 pub mod Starts
 pub mod Dealt

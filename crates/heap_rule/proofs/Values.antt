@@ -25,7 +25,7 @@ use Rattle.heap_rule.specs.Ticks.{IsNoBlock}
 use Rattle.heap_rule.specs.Loads.{Shows}
 use Rattle.heap_rule.proofs.Sizes.{heap_small}
 
-extent_large : (shape : Shape) → IsPackableHead (head_of shape) → 3 ≤ extent shape
+pub extent_large : (shape : Shape) → IsPackableHead (head_of shape) → 3 ≤ extent shape
 extent_large (PlainShape size tag) p = let h : 1 ≤ size = p.0 in omega arith
 extent_large (EpheShape keys) p = omega arith
 
