@@ -1,5 +1,5 @@
 -- A word is written: what lies beside it stays.
-use Rattle.std.proofs.Common.{◌≡◌, ◌≢◌, ℕ, ◌+◌, ◌*◌, ◌<◌, ◌≤◌, ◌⊎◌, List, length, map, get_or, set, slice_get, Some, sym, refl, ap, ◌∙◌, ⊎_elim, arith, length-set, get_or-set_other, lt_of_not-le}
+use Rattle.std.proofs.Common.{◌≡◌, ◌≢◌, ℕ, ◌+◌, ◌<◌, ◌≤◌, List, length, get_or, set, Some, sym, refl, ap, ◌∙◌, ⊎_elim, arith, get_or-set_other, lt_of_not-le}
 use Rattle.std.proofs.lemmas.List.{length-map}
 use mathlib.Core.Logic.{dite}
 use native.Mathlib.Decide.{dec_le}
@@ -8,10 +8,10 @@ use Rattle.heap_model.specs.declared.graph.Node.{Node}
 use Rattle.heap_model.specs.declared.graph.Node.TheVariants.{Plain, Ephe}
 use Rattle.heap_model.specs.Graph.{Graph, node_at}
 use Rattle.heap_model.specs.Commands.{key_value}
-use Rattle.heap_model.specs.Fronts.{Shape, shape_of}
+use Rattle.heap_model.specs.Fronts.{shape_of}
 use Rattle.heap_rule.specs.declared.config.Config.{Config}
 use Rattle.heap_rule.specs.declared.view.DomainView.{DomainView}
-use Rattle.heap_rule.specs.Layout.{heap_words, before_heap, base_of, at_address}
+use Rattle.heap_rule.specs.Layout.{before_heap, base_of}
 use Rattle.heap_rule.specs.Places.{Place, Live, extent, values_of, WordStands, Found}
 use Rattle.heap_rule.specs.Rule.{Area, Prepared}
 use Rattle.heap_rule.proofs.Lists.{got_below}
@@ -79,5 +79,5 @@ area_word_far k d at z low high other j fits same =
     let minor : ℕ = k.minor_words in
     let l : mine ≤ at = low in let h : at < mine + minor = high in let e : base + used + 1 + j ≡ at = same in let f : used + j + 1 < minor = fits in
     dite (dec_le d n)
-        (λ le. let g : mine + minor ≤ base = area_below k d n (let a : d ≤ n = le in let b : n ≢ d = other in omega arith) in omega arith)
-        (λ gt. let g : base + minor ≤ mine = area_below k n d (lt_of_not-le gt) in omega arith)
+    (λ le. let g : mine + minor ≤ base = area_below k d n (let a : d ≤ n = le in let b : n ≢ d = other in omega arith) in omega arith)
+    (λ gt. let g : base + minor ≤ mine = area_below k n d (lt_of_not-le gt) in omega arith)

@@ -1,5 +1,5 @@
 -- The block in a register: in the words, and in the graph.
-use Rattle.std.proofs.Common.{◌≡◌, ◌≢◌, ℕ, ◌+◌, ◌<◌, ◌≤◌, List, [], ◌∷◌, length, get_or, slice_get, Some, None, unwrap_or, sym, refl, ap, ◌∙◌, subst, arith}
+use Rattle.std.proofs.Common.{◌≡◌, ℕ, ◌+◌, ◌<◌, ◌≤◌, List, length, slice_get, Some, sym, refl, ap, ◌∙◌, subst, arith}
 use mathlib.Core.Option.{some}
 use lib.ListN.{get_elem?}
 use Rattle.heap_model.specs.declared.label.Label.{Label}
@@ -7,18 +7,18 @@ use Rattle.heap_model.specs.declared.entry.Entry.{Entry}
 use Rattle.heap_model.specs.declared.graph.Value as graph_value
 use Rattle.heap_model.specs.declared.graph.Value.TheVariants.{Block}
 use Rattle.heap_model.specs.declared.graph.Node.{Node}
-use Rattle.heap_model.specs.declared.graph.Node.TheVariants.{Plain, Ephe}
+use Rattle.heap_model.specs.declared.graph.Node.TheVariants.{Plain}
 use Rattle.heap_model.specs.declared.state.State as model
-use Rattle.heap_model.specs.Graph.{Graph, node_at}
+use Rattle.heap_model.specs.Graph.{node_at}
 use Rattle.heap_model.specs.Domains.{register, opening}
-use Rattle.heap_model.specs.Fronts.{Shape, PlainShape, EpheShape, shape_of, HoldsPlain}
+use Rattle.heap_model.specs.Fronts.{PlainShape, HoldsPlain}
 use Rattle.heap_model.proofs.FrontLemmas.{plain_of, holds_later}
 use Rattle.heap_words.specs.declared.value.Value.{Value}
 use Rattle.heap_rule.specs.declared.config.Config.{Config}
 use Rattle.heap_rule.specs.declared.view.DomainView.{DomainView}
 use Rattle.heap_rule.specs.Limits.{sizes_in}
 use Rattle.heap_rule.specs.Layout.{heap_words, at_address}
-use Rattle.heap_rule.specs.Places.{Place, Live, extent, values_of, Stands, WordStands, Found}
+use Rattle.heap_rule.specs.Places.{Place, extent, values_of, Stands, WordStands, Found}
 use Rattle.heap_rule.specs.Views.{one}
 use Rattle.heap_rule.specs.Rule.{state_of, Rule}
 use Rattle.heap_rule.specs.Standing.{IsAt}

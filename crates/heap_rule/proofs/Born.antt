@@ -1,8 +1,7 @@
 -- A new block comes to live at an address.
-use Rattle.std.proofs.Common.{◌≡◌, ◌≢◌, ℕ, ◌+◌, ◌<◌, ◌≤◌, ◌⊎◌, Option, Some, None, unwrap_or, sym, ap, ◌∙◌, subst, inl, inr, ⊎_elim, arith}
+use Rattle.std.proofs.Common.{◌≡◌, ◌≢◌, ℕ, ◌+◌, ◌≤◌, ◌⊎◌, Option, Some, unwrap_or, sym, ap, ◌∙◌, subst, inl, inr, ⊎_elim, arith}
 use mathlib.Core.Logic.{dite}
 use native.Mathlib.Decide.{ℕ_discrete}
-use Rattle.heap_model.specs.declared.label.Label.{Label}
 use Rattle.heap_rule.specs.declared.config.Config.{Config}
 use Rattle.heap_rule.specs.Places.{Place, Live, extent, Fits, Placed}
 use Rattle.heap_rule.proofs.Update.{over, over_here, over_else}
@@ -36,21 +35,21 @@ module _ (k : Config) (live : Live) (A : ℕ) (p : Place) (some : 1 ≤ extent p
         (λ other. placed.fits b q (old b q other lives));
     once = λ b c q o lives lives' labels. dite (ℕ_discrete b A)
         (λ same. dite (ℕ_discrete c A)
-            (λ same'. same ∙ sym same')
-            (λ other'. absurd (fresh c o (old c o other' lives') (sym labels ∙ ap (λ (z : Place). z.label) (sym (is_new b q same lives))))))
+        (λ same'. same ∙ sym same')
+        (λ other'. absurd (fresh c o (old c o other' lives') (sym labels ∙ ap (λ (z : Place). z.label) (sym (is_new b q same lives))))))
         (λ other. dite (ℕ_discrete c A)
-            (λ same'. absurd (fresh b q (old b q other lives) (labels ∙ ap (λ (z : Place). z.label) (sym (is_new c o same' lives')))))
-            (λ other'. placed.once b c q o (old b q other lives) (old c o other' lives') labels));
+        (λ same'. absurd (fresh b q (old b q other lives) (labels ∙ ap (λ (z : Place). z.label) (sym (is_new c o same' lives')))))
+        (λ other'. placed.once b c q o (old b q other lives) (old c o other' lives') labels));
     apart = λ b c q o lives lives' differ. dite (ℕ_discrete b A)
         (λ same.
-          let n : ℕ = extent p.shape in let size : n ≡ extent q.shape = ap (λ (z : Place). extent z.shape) (is_new b q same lives) in
-          let m : ℕ = extent q.shape in let w : ℕ = extent o.shape in let z : n ≡ m = size in
-          ⊎_elim (λ (t : c + w ≤ A). inr (let g : c + w ≤ b = omega arith in g)) (λ (t : A + n ≤ c). inl (let g : b + m ≤ c = omega arith in g))
-              (away c o (old c o (λ same'. differ (same ∙ sym same')) lives')))
+        let n : ℕ = extent p.shape in let size : n ≡ extent q.shape = ap (λ (z : Place). extent z.shape) (is_new b q same lives) in
+        let m : ℕ = extent q.shape in let w : ℕ = extent o.shape in let z : n ≡ m = size in
+        ⊎_elim (λ (t : c + w ≤ A). inr (let g : c + w ≤ b = omega arith in g)) (λ (t : A + n ≤ c). inl (let g : b + m ≤ c = omega arith in g))
+        (away c o (old c o (λ same'. differ (same ∙ sym same')) lives')))
         (λ other. dite (ℕ_discrete c A)
-            (λ same'.
-              let n : ℕ = extent p.shape in let size : n ≡ extent o.shape = ap (λ (z : Place). extent z.shape) (is_new c o same' lives') in
-              let m : ℕ = extent o.shape in let w : ℕ = extent q.shape in let z : n ≡ m = size in
-              ⊎_elim (λ (t : b + w ≤ A). inl (let g : b + w ≤ c = omega arith in g)) (λ (t : A + n ≤ b). inr (let g : c + m ≤ b = omega arith in g)) (away b q (old b q other lives)))
-            (λ other'. placed.apart b c q o (old b q other lives) (old c o other' lives') differ));
+        (λ same'.
+        let n : ℕ = extent p.shape in let size : n ≡ extent o.shape = ap (λ (z : Place). extent z.shape) (is_new c o same' lives') in
+        let m : ℕ = extent o.shape in let w : ℕ = extent q.shape in let z : n ≡ m = size in
+        ⊎_elim (λ (t : b + w ≤ A). inl (let g : b + w ≤ c = omega arith in g)) (λ (t : A + n ≤ b). inr (let g : c + m ≤ b = omega arith in g)) (away b q (old b q other lives)))
+        (λ other'. placed.apart b c q o (old b q other lives) (old c o other' lives') differ));
   }

@@ -1,5 +1,5 @@
 -- The token after a step: its plain data is again that of its seat's view.
-use Rattle.std.proofs.Common.{◌≡◌, ℕ, List, [], ◌∷◌, sym, refl, ap, ◌∙◌, subst, lt_of_not-le}
+use Rattle.std.proofs.Common.{◌≡◌, ◌+◌, ◌<◌, ◌≤◌, ℕ, List, [], ◌∷◌, sym, refl, ap, ◌∙◌, subst, lt_of_not-le}
 use Rattle.atomic_table.specs.Table.{Me}
 use Rattle.heap_rule.specs.declared.config.Config.{Config}
 use Rattle.heap_rule.specs.declared.view.Own.{Own}
@@ -17,6 +17,8 @@ use Rattle.heap_model.specs.Fronts.{Shape, PlainShape, EpheShape}
 use Rattle.heap_words.specs.Values.{IsPackable, value_word}
 use Rattle.heap_rule.specs.Loads.{place_of, HeadCase, HeadTold, LabelTold, FieldRead}
 use Rattle.heap_rule.specs.Changes.{changed}
+use Rattle.heap_words.specs.declared.value.Value.TheVariants.{Nothing}
+use Rattle.heap_rule.specs.Inits.{class_words, fields_of, WordTold, AllocTold}
 use Rattle.heap_rule.specs.Standing.{Entered}
 use Rattle.heap_rule.specs.Views.{Tells, domain_in, one}
 use Rattle.heap_rule.specs.Token.{SharedHeap, Token, IsIn, IsSeatOf, Holds}
@@ -59,11 +61,16 @@ module _ (over h : SharedHeap) (inside t : Token) (m : Me (Unit {0}) View) (o : 
   pub at_view : m ≡ (one over.config m.0.history inside.view, [])
   at_view = o.seat.seat ∙ ap (λ (k : Config). (one k m.0.history inside.view, [])) config_is
 
+  -- the words used of the area, by the key of the table
+  used_before : inside.view.own.used ≤ over.config.minor_words
+  used_before = subst (λ (k : Config). inside.view.own.used ≤ k.minor_words) config_is o.seat.used
+
   -- a telling closes where it says what becomes of the plain data
   pub closes : (tells : Config → DomainView → ℕ → DomainView → Type 0) (m' : Me (Unit {0}) View) (found : ℕ) (own : Own) → Tells (tells over.config) m found m'
-      → ((y : DomainView) → tells over.config inside.view found y → (y.own ≡ own) × Holds over.config own.registers)
+      → own.number ≡ inside.view.own.number
+      → ((y : DomainView) → tells over.config inside.view found y → (y.own ≡ own) × (own.used ≤ over.config.minor_words) × Holds over.config own.registers)
       → IsSeatOf inside.config (view_after own m') m' × tells h.config t.view found (view_after own m')
-  closes tells m' found own told plain =
+  closes tells m' found own told number plain =
       let y : DomainView = domain_in m'.0.domains in
       let before : domain_in m.0.domains ≡ inside.view = ap (λ (n : Me (Unit {0}) View). domain_in n.0.domains) o.seat.seat in
       let says : tells over.config inside.view found y = subst (λ (x : DomainView). tells over.config x found y) before told.0 in
@@ -74,7 +81,10 @@ module _ (over h : SharedHeap) (inside t : Token) (m : Me (Unit {0}) View) (o : 
       let empty : m'.1 ≡ [] = ap (λ (n : Me (Unit {0}) View). n.1) told.1 ∙ ap (λ (n : Me (Unit {0}) View). n.1) o.seat.seat in (
         record {
           seat = λ i. (record { config = config_after i; history = m'.0.history; domains = domains_after i }, empty i);
-          registers = subst (λ (k : Config). Holds k own.registers) (sym config_is) data_is.1;
+          limits = o.seat.limits;
+          number = subst (λ (n : ℕ). n < inside.config.domains) (sym number) o.seat.number;
+          used = subst (λ (k : Config). own.used ≤ k.minor_words) (sym config_is) data_is.1;
+          registers = subst (λ (k : Config). Holds k own.registers) (sym config_is) data_is.2;
         },
         subst (λ (x : Config × DomainView × DomainView). tells x.0 x.1 found x.2) (λ i. (ap (λ (x : SharedHeap). x.config) o.heap i, view_is i, is i)) says,
       )
@@ -87,13 +97,13 @@ module _ (over h : SharedHeap) (inside t : Token) (m : Me (Unit {0}) View) (o : 
   pub entered_closes : (e : Entry) (answer : Applied) (read : Value) (changes : List Change) (m' : Me (Unit {0}) View) (found : ℕ) (registers : List Value) → Tells (λ x _ y. Entered over.config e answer read changes x y) m found m'
       → registers ≡ changed read changes inside.view.own.registers
       → let own : Own = record inside.view.own { registers = registers } in IsSeatOf inside.config (view_after own m') m' × Entered h.config e answer read changes t.view (view_after own m')
-  entered_closes e answer read changes m' found registers told written = closes (λ k x _ y. Entered k e answer read changes x y) m' found (record inside.view.own { registers = registers }) told
-      (λ y says. entered_plain over.config e answer read changes inside.view y registers says written)
+  entered_closes e answer read changes m' found registers told written = closes (λ k x _ y. Entered k e answer read changes x y) m' found (record inside.view.own { registers = registers }) told refl
+      (λ y says. let p = entered_plain over.config e answer read changes inside.view y registers says written in (p.0, used_before, p.1))
 
   -- a telling closes where it leaves the plain data
   pub kept_closes : (tells : Config → DomainView → ℕ → DomainView → Type 0) (m' : Me (Unit {0}) View) (found : ℕ) → Tells (tells over.config) m found m' → ((y : DomainView) → tells over.config inside.view found y → y.own ≡ inside.view.own)
       → IsSeatOf inside.config (view_after inside.view.own m') m' × tells h.config t.view found (view_after inside.view.own m')
-  kept_closes tells m' found told same = closes tells m' found inside.view.own told (λ y says. (same y says, subst (λ (k : Config). Holds k inside.view.own.registers) config_is o.seat.registers))
+  kept_closes tells m' found told same = closes tells m' found inside.view.own told refl (λ y says. (same y says, used_before, subst (λ (k : Config). Holds k inside.view.own.registers) config_is o.seat.registers))
 
   pub head_closes : (a : ℕ) (e : Entry) (m' : Me (Unit {0}) View) (found : ℕ) → Tells (HeadTold over.config a e) m found m'
       → IsSeatOf inside.config (view_after inside.view.own m') m' × HeadTold h.config a e t.view found (view_after inside.view.own m')
@@ -107,6 +117,23 @@ module _ (over h : SharedHeap) (inside t : Token) (m : Me (Unit {0}) View) (o : 
   pub field_closes : (e : Entry) (changes : List Change) (m' : Me (Unit {0}) View) (found : ℕ) (read : Value) (registers : List Value) → Tells (FieldRead over.config e changes) m found m'
       → ((v : Value) → IsPackable v → value_word v ≡ found → read ≡ v) → registers ≡ changed read changes inside.view.own.registers
       → let own : Own = record inside.view.own { registers = registers } in IsSeatOf inside.config (view_after own m') m' × FieldRead h.config e changes t.view found (view_after own m')
-  field_closes e changes m' found read registers told reads written = closes (λ k. FieldRead k e changes) m' found (record inside.view.own { registers = registers }) told
-      (λ y says. entered_plain over.config e (Replied (shown says.held)) says.value changes inside.view y registers says.entered
-          (written ∙ ap (λ (v : Value). changed v changes inside.view.own.registers) (reads says.value says.packable (sym says.word))))
+  field_closes e changes m' found read registers told reads written = closes (λ k. FieldRead k e changes) m' found (record inside.view.own { registers = registers }) told refl
+      (λ y says. let p = entered_plain over.config e (Replied (shown says.held)) says.value changes inside.view y registers says.entered
+      (written ∙ ap (λ (v : Value). changed v changes inside.view.own.registers) (reads says.value says.packable (sym says.word))) in (p.0, used_before, p.1))
+
+  pub word_closes : (new : ℕ) (m' : Me (Unit {0}) View) → Tells (λ x _ y. WordTold new x y) m new m'
+      → IsSeatOf inside.config (view_after inside.view.own m') m' × WordTold new t.view (view_after inside.view.own m')
+  word_closes new m' told = kept_closes (λ _ x _ y. WordTold new x y) m' new told (λ y says. ap (λ (z : DomainView). z.own) says.view)
+
+  -- an allocation closes where the changes were written, the class's words counted, and the label
+  pub alloc_closes : (e : Entry) (changes : List Change) (m' : Me (Unit {0}) View) (found : ℕ) (registers : List Value) (used serial : ℕ) → Tells (λ x _ y. AllocTold over.config e changes x y) m found m'
+      → registers ≡ changed Nothing changes inside.view.own.registers → used ≡ inside.view.own.used + class_words (fields_of e + 2) → serial ≡ inside.view.own.serial + 1 → used ≤ h.config.minor_words
+      → let own : Own = record inside.view.own { registers = registers; used = used; serial = serial } in IsSeatOf inside.config (view_after own m') m' × AllocTold h.config e changes t.view (view_after own m')
+  alloc_closes e changes m' found registers used serial told written used_is serial_is room =
+      let own : Own = record inside.view.own { registers = registers; used = used; serial = serial } in
+      closes (λ k x _ y. AllocTold k e changes x y) m' found own told refl (λ y says.
+      let own_is : y.own ≡ own = ap (λ (z : DomainView). z.own) says.view ∙ (λ i. record inside.view.own { registers = sym written i; used = sym used_is i; serial = sym serial_is i }) in (
+        own_is,
+        subst (λ (k : Config). used ≤ k.minor_words) (sym (ap (λ (x : SharedHeap). x.config) o.heap)) room,
+        subst (Holds over.config) (ap (λ (z : Own). z.registers) own_is) says.holds,
+      ))

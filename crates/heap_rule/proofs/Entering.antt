@@ -1,5 +1,5 @@
 -- An own entry that changes registers and no word of the heap.
-use Rattle.std.proofs.Common.{◌≡◌, ◌≢◌, ℕ, ◌<◌, ◌≤◌, false, List, [], ◌∷◌, ◌++◌, length, get_or, set, sym, refl, ap, ◌∙◌, subst, arith}
+use Rattle.std.proofs.Common.{◌≡◌, ◌≢◌, ℕ, ◌<◌, false, List, [], ◌∷◌, ◌++◌, length, get_or, set, sym, refl, ap, ◌∙◌, subst}
 use mathlib.Core.Option.{some}
 use lib.ListN.{get_elem?}
 use Rattle.heap_model.specs.declared.entry.Entry.{Entry}
@@ -8,7 +8,7 @@ use Rattle.heap_model.specs.declared.graph.Value as model_value
 use Rattle.heap_model.specs.declared.graph.Value.TheVariants.{Nothing}
 use Rattle.heap_model.specs.declared.state.State as model
 use Rattle.heap_model.specs.Graph.{Graph}
-use Rattle.heap_model.specs.Domains.{domain_at, opening, IsShaped}
+use Rattle.heap_model.specs.Domains.{domain_at, IsShaped}
 use Rattle.heap_model.specs.Entries.{Allowed, next}
 use Rattle.heap_model.specs.History.{is_entry_of}
 use Rattle.heap_model.specs.Fronts.{IsCalm}
@@ -20,7 +20,6 @@ use Rattle.heap_words.specs.declared.value.Value.{Value}
 use Rattle.heap_rule.specs.declared.change.Change.{Change}
 use Rattle.heap_rule.specs.declared.config.Config.{Config}
 use Rattle.heap_rule.specs.declared.view.DomainView.{DomainView}
-use Rattle.heap_rule.specs.declared.view.View.{View}
 use Rattle.heap_rule.specs.Limits.{sizes_in}
 use Rattle.heap_rule.specs.Places.{Stands}
 use Rattle.heap_rule.specs.Changes.{value_at, changed}
@@ -28,7 +27,7 @@ use Rattle.heap_rule.specs.Views.{one}
 use Rattle.heap_rule.specs.Rule.{state_of, AllFound, Stood, Rule}
 use Rattle.heap_rule.specs.Standing.{Acts, Entered, with_front, with_registers}
 use Rattle.heap_rule.proofs.Values.{AllStand, holds}
-use Rattle.heap_rule.proofs.Keeps.{Words, mine, my_good, own, control_same, Appends, appends, legal_entry, after_entry}
+use Rattle.heap_rule.proofs.Keeps.{Words, mine, my_good, own, control_same, appends, legal_entry}
 
 module _ (k : Config) (s : Words) (r : Rule k s) (id : ℕ) (hist : List Entry) (x : DomainView) (at : get_elem? s.views id ≡ some (one k hist x)) (acts : Acts k x) where
   abbrev now : model.State

@@ -199,24 +199,24 @@ module _ (k : Config) (s : Words) (r : Rule k s) (id : ℕ) (hist : List Entry) 
       let log' : List Entry = r.log ++ e ∷ [] in
       let after : state_of k log' ≡ next now e = after_entry e in
       remakes y log' words' live'
-          record {
-            wide = o.wide ∙ r.whole.wide;
-            legal = legal_entry e o.allowed;
-            calm = subst IsCalm (sym after) o.calm;
-            found = subst (λ (t : model.State). AllFound k live' t.graph words') (sym after) o.found;
-            placed = o.placed;
-            phases = phases_same k s.words words' o.control r.whole.phases;
-            pools = pools_same k s.words words' has_pool o.control r.whole.pools;
-            cycle = cycle_same k s.words words' o.control r.whole.cycle;
-          }
-          (knows_entry y e o.alone o.number o.front)
-          record { stood = subst (λ (t : model.State). Stood live' t y) (sym after) o.stood; area = o.area; prepared = o.prepared; idle = o.arrivals ∙ my_good.idle }
-          (λ z _ other g. record {
-            stood = subst (λ (t : model.State). Stood live' t z) (sym after) (stood_other r.live live' now (next now e) z (keeps_next now e z.own.number (o.alone z.own.number other)) o.more g.stood);
-            area = o.areas z other g.area;
-            prepared = o.prepares z other g.area g.prepared;
-            idle = g.idle;
-          })
+      record {
+        wide = o.wide ∙ r.whole.wide;
+        legal = legal_entry e o.allowed;
+        calm = subst IsCalm (sym after) o.calm;
+        found = subst (λ (t : model.State). AllFound k live' t.graph words') (sym after) o.found;
+        placed = o.placed;
+        phases = phases_same k s.words words' o.control r.whole.phases;
+        pools = pools_same k s.words words' has_pool o.control r.whole.pools;
+        cycle = cycle_same k s.words words' o.control r.whole.cycle;
+      }
+      (knows_entry y e o.alone o.number o.front)
+      record { stood = subst (λ (t : model.State). Stood live' t y) (sym after) o.stood; area = o.area; prepared = o.prepared; idle = o.arrivals ∙ my_good.idle }
+      (λ z _ other g. record {
+        stood = subst (λ (t : model.State). Stood live' t z) (sym after) (stood_other r.live live' now (next now e) z (keeps_next now e z.own.number (o.alone z.own.number other)) o.more g.stood);
+        area = o.areas z other g.area;
+        prepared = o.prepares z other g.area g.prepared;
+        idle = g.idle;
+      })
 
   -- What a step owes at which no entry stands and nothing comes to live or moves
   pub record Writes (y : DomainView) (words' : List ℕ) : Type 0 where
@@ -234,19 +234,19 @@ module _ (k : Config) (s : Words) (r : Rule k s) (id : ℕ) (hist : List Entry) 
   pub writes : (y : DomainView) (words' : List ℕ) → Writes y words' → Rule k record { words = words'; homes = s.homes; views = set s.views id (one k hist y) }
   writes y words' o =
       remakes y r.log words' r.live
-          record {
-            wide = o.wide ∙ r.whole.wide;
-            legal = r.whole.legal;
-            calm = r.whole.calm;
-            found = o.found;
-            placed = r.whole.placed;
-            phases = phases_same k s.words words' o.control r.whole.phases;
-            pools = pools_same k s.words words' has_pool o.control r.whole.pools;
-            cycle = cycle_same k s.words words' o.control r.whole.cycle;
-          }
-          (knows_front y o.number o.front)
-          record { stood = o.stood; area = o.area; prepared = o.prepared; idle = o.arrivals ∙ my_good.idle }
-          (λ z _ other g. record { stood = g.stood; area = g.area; prepared = o.prepares z other g.area g.prepared; idle = g.idle })
+      record {
+        wide = o.wide ∙ r.whole.wide;
+        legal = r.whole.legal;
+        calm = r.whole.calm;
+        found = o.found;
+        placed = r.whole.placed;
+        phases = phases_same k s.words words' o.control r.whole.phases;
+        pools = pools_same k s.words words' has_pool o.control r.whole.pools;
+        cycle = cycle_same k s.words words' o.control r.whole.cycle;
+      }
+      (knows_front y o.number o.front)
+      record { stood = o.stood; area = o.area; prepared = o.prepared; idle = o.arrivals ∙ my_good.idle }
+      (λ z _ other g. record { stood = g.stood; area = g.area; prepared = o.prepares z other g.area g.prepared; idle = g.idle })
 
   -- a step that leaves all but the front, which is then some front of the history
   pub looks : (front : List Entry) → IsFrontOf x.own.number r.log front → Rule k record { words = s.words; homes = s.homes; views = set s.views id (one k hist (with_front x front)) }

@@ -17,3 +17,4 @@ pub mod Starts
 pub mod Dealt
 pub mod Ends
 pub mod Closes
+pub mod ClassSizes

@@ -1,5 +1,5 @@
 -- Loads of heads, labels and fields keep the rule.
-use Rattle.std.proofs.Common.{◌≡◌, ◌≢◌, ℕ, ◌+◌, ◌<◌, ◌≤◌, false, ne_eqb, List, [], ◌∷◌, ◌++◌, length, get_or, set, slice_get, Some, Option, sym, refl, ap, ◌∙◌, subst, arith, lt_of_not-le}
+use Rattle.std.proofs.Common.{◌≡◌, ℕ, ◌+◌, ◌<◌, ◌≤◌, false, ne_eqb, List, [], get_or, set, Some, Option, sym, refl, ap, ◌∙◌, subst, arith}
 use mathlib.Core.Logic.{dite}
 use native.Mathlib.Decide.{dec_le}
 use mathlib.Core.Option.{some}
@@ -12,14 +12,13 @@ use Rattle.heap_model.specs.declared.entry.Entry.TheVariants.{Command}
 use Rattle.heap_model.specs.declared.reply.Applied.TheVariants.{Replied}
 use Rattle.heap_model.specs.declared.reply.Reply.TheVariants.{BadType, BadIndex}
 use Rattle.heap_model.specs.declared.graph.Value as graph_value
-use Rattle.heap_model.specs.declared.graph.Value.TheVariants.{Block, Nothing}
+use Rattle.heap_model.specs.declared.graph.Value.TheVariants.{Nothing}
 use Rattle.heap_model.specs.declared.graph.Node.{Node}
 use Rattle.heap_model.specs.declared.graph.Node.TheVariants.{Plain, Ephe}
 use Rattle.heap_model.specs.declared.state.State as model
-use Rattle.heap_model.specs.Graph.{node_at}
 use Rattle.heap_model.specs.Domains.{register, domain_at}
 use Rattle.heap_model.specs.Commands.{shown}
-use Rattle.heap_model.specs.Fronts.{Shape, PlainShape, EpheShape, shape_of, HoldsPlain, IsCalm}
+use Rattle.heap_model.specs.Fronts.{Shape, PlainShape, EpheShape, shape_of, IsCalm}
 use Rattle.heap_model.proofs.FrontLemmas.{front_whole}
 use Rattle.heap_model.proofs.FrameLemmas.{calm_command}
 use Rattle.heap_model.proofs.LeavesLemmas.{leaves_load, leaves_load_past, leaves_store_past, leaves_load_kind, leaves_store_kind}
@@ -29,15 +28,14 @@ use Rattle.heap_rule.specs.declared.change.Change.{Change}
 use Rattle.heap_rule.specs.declared.config.Config.{Config}
 use Rattle.heap_rule.specs.declared.view.DomainView.{DomainView}
 use Rattle.heap_rule.specs.declared.view.View.{View}
-use Rattle.heap_rule.specs.Layout.{before_heap, at_address}
-use Rattle.heap_rule.specs.Places.{Place, head_of, HeadIs, Stands}
+use Rattle.heap_rule.specs.Layout.{before_heap}
 use Rattle.heap_rule.specs.Changes.{value_at, changed, FitChanges}
 use Rattle.heap_rule.specs.Views.{one, Tells}
 use Rattle.heap_rule.specs.Rule.{state_of, Rule}
 use Rattle.heap_rule.specs.Standing.{Acts, IsAt, with_front}
-use Rattle.heap_rule.specs.Loads.{subject, place_of, HeadEntry, HeadMay, HeadTold, HeadCase, LabelMay, LabelTold, FieldMay, FieldLoadMay, FieldLoadEntry, FieldRead}
+use Rattle.heap_rule.specs.Loads.{subject, place_of, HeadEntry, HeadMay, HeadTold, HeadCase, LabelMay, LabelTold, FieldLoadMay, FieldLoadEntry, FieldRead}
 use Rattle.heap_rule.proofs.Values.{AllStand, stand_set, not_nothing, packable, shows}
-use Rattle.heap_rule.proofs.Keeps.{Words, mine, my_good, own, looks, unmoved}
+use Rattle.heap_rule.proofs.Keeps.{Words, mine, own, looks, unmoved}
 use Rattle.heap_rule.proofs.Entering.{running, inside_state, registers_stand, Enters, entered_view, enters_rule, enters}
 use Rattle.heap_rule.proofs.Blocks.{Lives, lives_at, found_at, plain_at, plain_inside, field_at}
 
@@ -159,12 +157,15 @@ heads k slots id word hist x a e place may s r _ at _ =
       keeps,
       tt,
       unmoved k s word (set s.views id (one k hist done.after)) done.rule,
-      (record {
-        shape = b.place.shape;
-        packable = (r.whole.placed.fits a b.place b.lives).head;
-        head = ap (λ (i : ℕ). get_or s.words i 0) place ∙ found.head;
-        told = done.told;
-      }, refl),
+      (
+        record {
+          shape = b.place.shape;
+          packable = (r.whole.placed.fits a b.place b.lives).head;
+          head = ap (λ (i : ℕ). get_or s.words i 0) place ∙ found.head;
+          told = done.told;
+        },
+        refl,
+      ),
     )
 
 pub head_load_allows : (k : Config) (slots id word : ℕ) (m : Me (Unit {0}) View) (x : DomainView) (a : ℕ) (e : Entry) → m ≡ (one k m.0.history x, []) → word ≡ before_heap k + a → HeadMay k x a e
@@ -181,13 +182,16 @@ labels k slots id word hist x a reg place may s r _ at _ =
       keeps,
       tt,
       unmoved k s word (set s.views id (one k hist x)) (looks k s r id hist x at x.seen.front (mine k s r id hist x at).front),
-      (record {
-        view = refl;
-        label = b.place.label;
-        packable = (r.whole.placed.fits may.address b.place b.lives).label;
-        word = ap (λ (i : ℕ). get_or s.words i 0) (place ∙ ap (λ (i : ℕ). before_heap k + i) may.label) ∙ found.label;
-        holds = ap (λ (l : List graph_value.Value). get_or l reg Nothing) (sym (own k s r id hist x at).registers) ∙ b.held;
-      }, refl),
+      (
+        record {
+          view = refl;
+          label = b.place.label;
+          packable = (r.whole.placed.fits may.address b.place b.lives).label;
+          word = ap (λ (i : ℕ). get_or s.words i 0) (place ∙ ap (λ (i : ℕ). before_heap k + i) may.label) ∙ found.label;
+          holds = ap (λ (l : List graph_value.Value). get_or l reg Nothing) (sym (own k s r id hist x at).registers) ∙ b.held;
+        },
+        refl,
+      ),
     )
 
 pub label_load_allows : (k : Config) (slots id word : ℕ) (m : Me (Unit {0}) View) (x : DomainView) (a reg : ℕ) → m ≡ (one k m.0.history x, []) → word ≡ before_heap k + a → LabelMay x a reg
@@ -227,14 +231,17 @@ field_loads k slots id word hist x a dst src i changes place may s r _ at _ =
       keeps,
       tt,
       unmoved k s word (set s.views id (one k hist y)) (enters_rule k s r id hist x at may.acts e regs (Replied (shown f.value)) o),
-      (record {
-        value = f.stands.value;
-        packable = packable k r.limits r.live r.whole.placed f.stands.value f.value f.stands.stands;
-        word = ap (λ (n : ℕ). get_or s.words n 0) here ∙ f.stands.packs;
-        held = f.value;
-        shows = shows r.live f.stands.value f.value f.stands.stands;
-        entered = enters k s r id hist x at may.acts (state_of k r.log).graph e (Replied (shown f.value)) f.stands.value changes o;
-      }, refl),
+      (
+        record {
+          value = f.stands.value;
+          packable = packable k r.limits r.live r.whole.placed f.stands.value f.value f.stands.stands;
+          word = ap (λ (n : ℕ). get_or s.words n 0) here ∙ f.stands.packs;
+          held = f.value;
+          shows = shows r.live f.stands.value f.value f.stands.stands;
+          entered = enters k s r id hist x at may.acts (state_of k r.log).graph e (Replied (shown f.value)) f.stands.value changes o;
+        },
+        refl,
+      ),
     )
 
 pub field_load_allows : (k : Config) (slots id word : ℕ) (m : Me (Unit {0}) View) (x : DomainView) (a : ℕ) (e : Entry) (changes : List Change) → m ≡ (one k m.0.history x, []) → word ≡ before_heap k + a → FieldLoadEntry k x a changes e

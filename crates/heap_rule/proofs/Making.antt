@@ -17,13 +17,12 @@ use Rattle.heap_model.specs.declared.reply.Reply.TheVariants.{Block as BlockRepl
 use Rattle.heap_model.specs.declared.graph.Value as graph_value
 use Rattle.heap_model.specs.declared.graph.Value.TheVariants.{Int, Block, Nothing}
 use Rattle.heap_model.specs.declared.graph.Node.{Node}
-use Rattle.heap_model.specs.declared.graph.Node.TheVariants.{Plain}
 use Rattle.heap_model.specs.declared.state.State as model
 use Rattle.heap_model.specs.Graph.{Graph, node_at}
 use Rattle.heap_model.specs.Domains.{domain_at}
 use Rattle.heap_model.specs.Commands.{new_plain}
 use Rattle.heap_model.specs.Entries.{next}
-use Rattle.heap_model.specs.Fronts.{PlainShape, shape_of}
+use Rattle.heap_model.specs.Fronts.{PlainShape}
 use Rattle.heap_model.proofs.GraphLemmas.{node_at-append_old, node_at-append_new}
 use Rattle.heap_model.proofs.NumberLemmas.{next_label_after}
 use Rattle.heap_model.proofs.FrameLemmas.{calm_command}
@@ -31,6 +30,7 @@ use Rattle.heap_model.proofs.FrontLemmas.{answers_push}
 use Rattle.heap_model.proofs.LeavesLemmas.{Leaves, leaves_alloc}
 use Rattle.heap_words.specs.declared.value.Value.{Value}
 use Rattle.heap_words.specs.declared.value.Value.TheVariants.{Int as IntWord, Ref, Nothing as NothingWord}
+use Rattle.heap_words.specs.Heads.{IsPackableHead}
 use Rattle.heap_words.specs.Labels.{label_word}
 use Rattle.heap_rule.specs.declared.change.Change.{Change}
 use Rattle.heap_rule.specs.declared.config.Config.{Config}
@@ -38,13 +38,13 @@ use Rattle.heap_rule.specs.declared.view.DomainView.{DomainView}
 use Rattle.heap_rule.specs.declared.view.View.{View}
 use Rattle.heap_rule.specs.Limits.{sizes_in}
 use Rattle.heap_rule.specs.Layout.{heap_words, before_heap, base_of, at_address, table_words}
-use Rattle.heap_rule.specs.Places.{Place, Live, extent, values_of, HeadIs, Stands, WordStands, Found, Fits, Placed}
+use Rattle.heap_rule.specs.Places.{Place, Live, extent, head_of, HeadIs, Stands, Found, Fits, Placed}
 use Rattle.heap_rule.specs.Changes.{value_at, changed, FitChanges}
 use Rattle.heap_rule.specs.Views.{one, Tells}
-use Rattle.heap_rule.specs.Rule.{state_of, AllFound, Stood, Area, Prepared, Good, Rule}
-use Rattle.heap_rule.specs.Inits.{class_words, least_size, next_address, next_label, WordMay, WordTold, AllocMay, AllocEntry, AllocTold}
+use Rattle.heap_rule.specs.Rule.{state_of, AllFound, Stood, Area, Good, Rule}
+use Rattle.heap_rule.specs.Inits.{class_words, fields_of, next_address, next_label, WordMay, WordTold, AllocMay, AllocEntry, AllocTold}
 use Rattle.heap_rule.proofs.Lists.{got_end, got_below}
-use Rattle.heap_rule.proofs.Sizes.{area_below, area_inside, some_pool}
+use Rattle.heap_rule.proofs.Sizes.{area_below, area_inside}
 use Rattle.heap_rule.proofs.Values.{AllStand, stand_set, holds}
 use Rattle.heap_rule.proofs.Keeps.{Words, More, stands_more, mine, my_good, control_set, appends, writes, legal_entry}
 use Rattle.heap_rule.proofs.Entering.{running, inside_state, registers_stand}
@@ -133,7 +133,7 @@ all_more : (live live' : Live) (own : List Value) (theirs : List graph_value.Val
 all_more live live' own theirs grows a = record { wide = a.wide; long = a.long; each = λ r few. stands_more live live' (value_at own r) (get_or theirs r Nothing) grows (a.each r few) }
 
 module _ (k : Config) (s : Words) (r : Rule k s) (id : ℕ) (hist : List Entry) (x : DomainView) (at : get_elem? s.views id ≡ some (one k hist x)) (a new : ℕ) (changes : List Change) (dst tag n : ℕ)
-  (may : AllocMay k x a new changes x.own.number dst tag n) where
+    (may : AllocMay k x a new changes x.own.number dst tag n) where
   abbrev d : ℕ
   d = x.own.number
 
@@ -231,10 +231,10 @@ module _ (k : Config) (s : Words) (r : Rule k s) (id : ℕ) (hist : List Entry) 
   found1 b q lives = dite (ℕ_discrete b A)
       (λ same. subst (λ (y : ℕ × Place). Found k live1 grown ws y.0 y.1) (λ i. (sym same i, is_new k r.live A born_place (omega arith) away r.whole.placed b q same lives i)) born_found)
       (λ other.
-        let before : r.live b ≡ Some q = old k r.live A born_place (omega arith) away r.whole.placed b q other lives in
-        let f = r.whole.found b q before in
-        found_beside k r.live live1 now.graph grown s.words A new b q grows f (node_at-append_old now.graph (L, new_plain tag n) q.label f.node f.there)
-        (free_far k r.live x A g.area (omega arith) (let h = high in let base : ℕ = base_of k d in omega arith) b q before))
+      let before : r.live b ≡ Some q = old k r.live A born_place (omega arith) away r.whole.placed b q other lives in
+      let f = r.whole.found b q before in
+      found_beside k r.live live1 now.graph grown s.words A new b q grows f (node_at-append_old now.graph (L, new_plain tag n) q.label f.node f.there)
+      (free_far k r.live x A g.area (omega arith) (let h = high in let base : ℕ = base_of k d in omega arith) b q before))
 
   abbrev regs : List Value
   regs = changed NothingWord changes x.own.registers
@@ -268,11 +268,11 @@ module _ (k : Config) (s : Words) (r : Rule k s) (id : ℕ) (hist : List Entry) 
     room = may.room;
     free = λ b q lives. dite (ℕ_discrete b A)
         (λ same. let size : n + 2 ≡ extent q.shape = ap (λ (z : Place). extent z.shape) (is_new k r.live A born_place (omega arith) away r.whole.placed b q same lives) in
-            let m : ℕ = extent q.shape in let c : ℕ = class_words (n + 2) in let f : n + 2 ≤ c = in_class in let base : ℕ = base_of k d in let z : n + 2 ≡ m = size in
-            inl (let o : b + m ≤ base + (x.own.used + c) = omega arith in o))
+        let m : ℕ = extent q.shape in let c : ℕ = class_words (n + 2) in let f : n + 2 ≤ c = in_class in let base : ℕ = base_of k d in let z : n + 2 ≡ m = size in
+        inl (let o : b + m ≤ base + (x.own.used + c) = omega arith in o))
         (λ other. let m : ℕ = extent q.shape in let c : ℕ = class_words (n + 2) in let base : ℕ = base_of k d in
-            ⊎_elim (λ (t : b + m ≤ base + x.own.used). inl (let o : b + m ≤ base + (x.own.used + c) = omega arith in o)) (λ (t : base + k.minor_words ≤ b). inr t)
-                (g.area.free b q (old k r.live A born_place (omega arith) away r.whole.placed b q other lives)));
+        ⊎_elim (λ (t : b + m ≤ base + x.own.used). inl (let o : b + m ≤ base + (x.own.used + c) = omega arith in o)) (λ (t : base + k.minor_words ≤ b). inr t)
+        (g.area.free b q (old k r.live A born_place (omega arith) away r.whole.placed b q other lives)));
   }
 
   areas1 : (z : DomainView) → z.own.number ≢ d → Area k r.live z → Area k live1 z
@@ -280,11 +280,11 @@ module _ (k : Config) (s : Words) (r : Rule k s) (id : ℕ) (hist : List Entry) 
     room = has.room;
     free = λ b q lives. dite (ℕ_discrete b A)
         (λ same. let size : n + 2 ≡ extent q.shape = ap (λ (y : Place). extent y.shape) (is_new k r.live A born_place (omega arith) away r.whole.placed b q same lives) in
-            let m : ℕ = extent q.shape in let h = high in let mine_base : ℕ = base_of k d in let base : ℕ = base_of k z.own.number in let i : ℕ = z.own.number in let minor : ℕ = k.minor_words in let o : n + 2 ≡ m = size in
-            let top : A + (n + 2) ≤ mine_base + minor = h in
-            dite (dec_le d i)
-                (λ le. inl (let f : mine_base + minor ≤ base = area_below k d i (let c : d ≤ i = le in let y : i ≢ d = differs in omega arith) in let y : b + m ≤ base + z.own.used = omega arith in y))
-                (λ gt. inr (let f : base + minor ≤ mine_base = area_below k i d (lt_of_not-le gt) in let y : base + minor ≤ b = omega arith in y)))
+        let m : ℕ = extent q.shape in let h = high in let mine_base : ℕ = base_of k d in let base : ℕ = base_of k z.own.number in let i : ℕ = z.own.number in let minor : ℕ = k.minor_words in let o : n + 2 ≡ m = size in
+        let top : A + (n + 2) ≤ mine_base + minor = h in
+        dite (dec_le d i)
+        (λ le. inl (let f : mine_base + minor ≤ base = area_below k d i (let c : d ≤ i = le in let y : i ≢ d = differs in omega arith) in let y : b + m ≤ base + z.own.used = omega arith in y))
+        (λ gt. inr (let f : base + minor ≤ mine_base = area_below k i d (lt_of_not-le gt) in let y : base + minor ≤ b = omega arith in y)))
         (λ other. has.free b q (old k r.live A born_place (omega arith) away r.whole.placed b q other lives));
   }
 
@@ -337,3 +337,17 @@ alloc_allows k slots id word m x a new _ changes same place may = absurd may
 pub alloc_fits : (k : Config) (x : DomainView) (a new : ℕ) (changes : List Change) (e : Entry) → AllocEntry k x a new changes e → FitChanges changes
 alloc_fits k x a new changes (Command j (Alloc dst tag n) false) may = may.fits
 alloc_fits k x a new changes _ may = absurd may
+
+-- what the store of a head asks of its numbers
+pub record AllocFacts (k : Config) (x : DomainView) (new : ℕ) (e : Entry) : Type 0 where
+  pub tag : ℕ
+  pub packable : IsPackableHead (head_of (PlainShape (fields_of e) tag))
+  pub head : HeadIs (PlainShape (fields_of e) tag) new
+  pub few : fields_of e ≤ 126
+  pub room : x.own.used + class_words (fields_of e + 2) ≤ k.minor_words
+  pub serial : x.own.serial + 1 < 2 ^ 32
+
+pub alloc_facts : (k : Config) (x : DomainView) (a new : ℕ) (changes : List Change) (e : Entry) → AllocEntry k x a new changes e → AllocFacts k x new e
+alloc_facts k x a new changes (Command j (Alloc dst tag n) false) may =
+    record { tag = tag; packable = (may.some_field, (let f = may.few_fields in omega arith), may.tag_fits, omega arith); head = may.head; few = may.few_fields; room = may.room; serial = may.serial }
+alloc_facts k x a new changes _ may = absurd may

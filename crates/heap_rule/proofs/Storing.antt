@@ -1,11 +1,8 @@
 -- Stores to fields keep the rule.
-use Rattle.std.proofs.Common.{◌≡◌, ◌≢◌, ℕ, ◌+◌, ◌<◌, ◌≤◌, ◌⊎◌, false, ne_eqb, List, [], ◌∷◌, ◌++◌, length, get_or, set, slice_get, Some, Option, unwrap_or, sym, refl, ap, ◌∙◌, subst, ⊎_elim, arith, length-set, get_or-set_same, get_or-set_other}
+use Rattle.std.proofs.Common.{◌≡◌, ◌≢◌, ℕ, ◌+◌, ◌<◌, ◌≤◌, false, ne_eqb, List, [], length, get_or, set, slice_get, Some, Option, unwrap_or, sym, refl, ap, ◌∙◌, subst, ⊎_elim, arith, length-set, get_or-set_same, get_or-set_other}
 use mathlib.Core.Logic.{dite}
 use native.Mathlib.Decide.{ℕ_discrete}
-use mathlib.Core.Option.{some}
-use lib.ListN.{get_elem?}
 use Rattle.atomic_table.specs.Table.{Me, keeps, Allows}
-use Rattle.heap_model.specs.declared.label.Label.{Label}
 use Rattle.heap_model.specs.declared.command.Command.TheVariants.{Store}
 use Rattle.heap_model.specs.declared.entry.Entry.{Entry}
 use Rattle.heap_model.specs.declared.entry.Entry.TheVariants.{Command}
@@ -17,7 +14,6 @@ use Rattle.heap_model.specs.declared.graph.Node.TheVariants.{Plain}
 use Rattle.heap_model.specs.declared.state.State as model
 use Rattle.heap_model.specs.Graph.{Graph, node_at, with_node}
 use Rattle.heap_model.specs.Domains.{register, domain_at}
-use Rattle.heap_model.specs.Entries.{next}
 use Rattle.heap_model.specs.Fronts.{PlainShape, shape_of}
 use Rattle.heap_model.proofs.GraphLemmas.{node_at-with_node_same, node_at-with_node_other}
 use Rattle.heap_model.proofs.FrameLemmas.{calm_command}
@@ -28,7 +24,7 @@ use Rattle.heap_rule.specs.declared.change.Change.{Change}
 use Rattle.heap_rule.specs.declared.config.Config.{Config}
 use Rattle.heap_rule.specs.declared.view.DomainView.{DomainView}
 use Rattle.heap_rule.specs.declared.view.View.{View}
-use Rattle.heap_rule.specs.Layout.{heap_words, table_words, before_heap, at_address}
+use Rattle.heap_rule.specs.Layout.{heap_words, table_words, before_heap}
 use Rattle.heap_rule.specs.Places.{Place, Live, extent, values_of, Stands, WordStands, Found, Placed}
 use Rattle.heap_rule.specs.Changes.{value_at, changed, FitChanges}
 use Rattle.heap_rule.specs.Views.{one, Tells}
@@ -37,15 +33,15 @@ use Rattle.heap_rule.specs.Standing.{Entered}
 use Rattle.heap_rule.specs.Stores.{FieldStoreMay, FieldStoreEntry}
 use Rattle.heap_rule.proofs.Lists.{got_set, got_below}
 use Rattle.heap_rule.proofs.Values.{AllStand, not_nothing}
-use Rattle.heap_rule.proofs.Keeps.{Words, my_good, control_set, appends}
+use Rattle.heap_rule.proofs.Keeps.{my_good, control_set, appends}
 use Rattle.heap_rule.proofs.Entering.{running, registers_stand, EntersTo, stood_after, entered_view, enters}
-use Rattle.heap_rule.proofs.Blocks.{Field, field_at, some_same}
-use Rattle.heap_rule.proofs.Beside.{extent_of, found_beside, prepared_beside, live_word_far}
+use Rattle.heap_rule.proofs.Blocks.{field_at, some_same}
+use Rattle.heap_rule.proofs.Beside.{found_beside, prepared_beside, live_word_far}
 
 -- one field of one block changes, in the words and in the graph
 module _ (k : Config) (live : Live) (graph : Graph) (words : List ℕ) (a i new : ℕ) (p : Place) (tag : ℕ) (fields : List graph_value.Value) (v old : graph_value.Value)
-  (placed : Placed k live) (wide : length words ≡ table_words k) (lives : live a ≡ Some p) (found : AllFound k live graph words) (node : node_at graph p.label ≡ Some (Plain tag fields))
-  (there : slice_get fields i ≡ Some old) (stands : WordStands live new v) where
+    (placed : Placed k live) (wide : length words ≡ table_words k) (lives : live a ≡ Some p) (found : AllFound k live graph words) (node : node_at graph p.label ≡ Some (Plain tag fields))
+    (there : slice_get fields i ≡ Some old) (stands : WordStands live new v) where
   abbrev spot : ℕ
   spot = before_heap k + (a + 2 + i)
 
@@ -82,12 +78,12 @@ module _ (k : Config) (live : Live) (graph : Graph) (words : List ℕ) (a i new 
           stands = subst (Stands live stands.value) t.1 stands.stands;
         })
         (λ (t : (j ≢ i) × (slice_get fields j ≡ Some w)).
-          let o = here.values j w (ap (λ (n : Node). slice_get (values_of n) j) node_is ∙ t.1) in
-          let differ : j ≢ i = t.0 in record {
-            value = o.value;
-            packs = get_or-set_other words spot (before_heap k + (a + 2 + j)) new 0 (λ e. differ (omega arith)) ∙ o.packs;
-            stands = o.stands;
-          })
+        let o = here.values j w (ap (λ (n : Node). slice_get (values_of n) j) node_is ∙ t.1) in
+        let differ : j ≢ i = t.0 in record {
+          value = o.value;
+          packs = get_or-set_other words spot (before_heap k + (a + 2 + j)) new 0 (λ e. differ (omega arith)) ∙ o.packs;
+          stands = o.stands;
+        })
         (got_set fields i j v w got);
   }
 
@@ -96,14 +92,14 @@ module _ (k : Config) (live : Live) (graph : Graph) (words : List ℕ) (a i new 
   stored_other b q lives_b other =
       let f = found b q lives_b in
       found_beside k live live graph (with_node graph p.label stored_node) words (a + 2 + i) new b q (λ c o h. h) f
-          (node_at-with_node_other graph p.label q.label stored_node (λ same. other (placed.once b a q p lives_b lives same)) ∙ f.there)
-          (λ z inside e. let m : ℕ = extent q.shape in let n : ℕ = extent p.shape in let s : n ≡ length fields + 2 = size in let h = below in let lower : z < m = inside in
-              ⊎_elim (λ (t : b + m ≤ a). omega arith) (λ (t : a + n ≤ b). omega arith) (placed.apart b a q p lives_b lives other))
+      (node_at-with_node_other graph p.label q.label stored_node (λ same. other (placed.once b a q p lives_b lives same)) ∙ f.there)
+      (λ z inside e. let m : ℕ = extent q.shape in let n : ℕ = extent p.shape in let s : n ≡ length fields + 2 = size in let h = below in let lower : z < m = inside in
+      ⊎_elim (λ (t : b + m ≤ a). omega arith) (λ (t : a + n ≤ b). omega arith) (placed.apart b a q p lives_b lives other))
 
   pub stored_found : AllFound k live (with_node graph p.label stored_node) (set words spot new)
   stored_found b q lives_b = dite (ℕ_discrete b a)
       (λ same. let place : p ≡ q = ap (λ (o : Option Place). unwrap_or o p) (sym lives ∙ (ap live (sym same) ∙ lives_b)) in
-          subst (λ (y : ℕ × Place). Found k live (with_node graph p.label stored_node) (set words spot new) y.0 y.1) (λ j. (sym same j, place j)) stored_here)
+      subst (λ (y : ℕ × Place). Found k live (with_node graph p.label stored_node) (set words spot new) y.0 y.1) (λ j. (sym same j, place j)) stored_here)
       (λ other. stored_other b q lives_b other)
 
   pub stored_inside : 2 + i < extent p.shape
@@ -130,7 +126,7 @@ field_stores k slots id word hist x a new block i item changes place may s r _ a
     let low : 1 ≤ f.address = (r.whole.placed.fits f.address f.place f.lives).low in
     let inside : 2 + i < extent f.place.shape = stored_inside k r.live now.graph s.words f.address i new f.place f.tag f.fields v f.value r.whole.placed r.whole.wide f.lives r.whole.found f.node f.there stands in
     let far : (z : DomainView) → Area k r.live z → Prepared k s.words z → Prepared k words z =
-        (λ z area prepared. prepared_beside k s.words (f.address + 2 + i) new z (λ j fits same. live_word_far k r.live f.address (2 + i) f.place z f.lives inside area j fits (same ∙ (let h : f.address + 2 + i ≡ f.address + (2 + i) = omega arith in h))) prepared) in
+    (λ z area prepared. prepared_beside k s.words (f.address + 2 + i) new z (λ j fits same. live_word_far k r.live f.address (2 + i) f.place z f.lives inside area j fits (same ∙ (let h : f.address + 2 + i ≡ f.address + (2 + i) = omega arith in h))) prepared) in
     let o : EntersTo k s r id hist x at may.acts graph e regs (Replied Done) = record {
       alone = λ m other. ne_eqb d m (λ q. other (sym q));
       allowed = record { running = running k s r id hist x at may.acts; fits = (r.whole.calm.mode, r.whole.calm.queues d); full_fits = tt };

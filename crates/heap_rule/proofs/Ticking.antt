@@ -1,5 +1,5 @@
 -- A tick keeps the rule.
-use Rattle.std.proofs.Common.{◌≡◌, ◌≢◌, ℕ, zero, suc, ◌<◌, ◌⊎◌, true, false, eqb, ne_eqb, List, [], ◌∷◌, ◌++◌, length, get_or, set, replicate, sym, refl, ap, ◌∙◌, subst, ⊎_elim, arith}
+use Rattle.std.proofs.Common.{◌≡◌, ℕ, zero, suc, ◌<◌, true, false, ne_eqb, List, [], length, get_or, set, replicate, sym, refl, subst, ⊎_elim}
 use mathlib.Core.Option.{some}
 use lib.ListN.{get_elem?}
 use Rattle.atomic_table.specs.Table.{Me, keeps, Allows}
@@ -7,35 +7,30 @@ use Rattle.heap_model.specs.declared.command.Command as model_command
 use Rattle.heap_model.specs.declared.command.Command.TheVariants.{PutInt, Copy, Forget, Alloc, AllocMaj, Load, Store, Ephe as NewEphe, Poll}
 use Rattle.heap_model.specs.declared.entry.Entry.{Entry}
 use Rattle.heap_model.specs.declared.entry.Entry.TheVariants.{Command, End}
-use Rattle.heap_model.specs.declared.reply.Applied.{Applied}
 use Rattle.heap_model.specs.declared.reply.Applied.TheVariants.{Replied}
 use Rattle.heap_model.specs.declared.graph.Value as model_value
-use Rattle.heap_model.specs.declared.graph.Value.TheVariants.{Int, Block, Nothing}
+use Rattle.heap_model.specs.declared.graph.Value.TheVariants.{Int, Nothing}
 use Rattle.heap_model.specs.declared.state.Mode.TheVariants.{Open}
 use Rattle.heap_model.specs.declared.state.State as model
-use Rattle.heap_model.specs.Domains.{domain_at, register, opening, IsWithinLimits}
+use Rattle.heap_model.specs.Domains.{domain_at, register}
 use Rattle.heap_model.specs.Commands.{FitsMode, is_allocation}
-use Rattle.heap_model.specs.Entries.{Allowed, next, reply}
-use Rattle.heap_model.specs.History.{is_entry_of}
 use Rattle.heap_model.specs.Fronts.{IsCalm}
-use Rattle.heap_model.proofs.FrontLemmas.{answers_push}
 use Rattle.heap_model.proofs.FrameLemmas.{calm_command, calm_end}
-use Rattle.heap_model.proofs.LeavesLemmas.{Leaves, leaves_put, leaves_copy, leaves_forget, leaves_poll, leaves_full, leaves_end, leaves_load_type, leaves_store_type, leaves_store_nothing}
+use Rattle.heap_model.proofs.LeavesLemmas.{leaves_put, leaves_copy, leaves_forget, leaves_poll, leaves_full, leaves_end, leaves_load_type, leaves_store_type, leaves_store_nothing}
 use Rattle.heap_words.specs.declared.value.Value.{Value}
-use Rattle.heap_words.specs.declared.value.Value.TheVariants.{Int as IntWord, Ref, Nothing as NothingWord}
+use Rattle.heap_words.specs.declared.value.Value.TheVariants.{Int as IntWord, Nothing as NothingWord}
 use Rattle.heap_rule.specs.declared.change.Change.{Change}
 use Rattle.heap_rule.specs.declared.config.Config.{Config}
 use Rattle.heap_rule.specs.declared.view.DomainView.{DomainView}
 use Rattle.heap_rule.specs.declared.view.View.{View}
-use Rattle.heap_rule.specs.Limits.{sizes_in}
-use Rattle.heap_rule.specs.Places.{Live, Stands}
+use Rattle.heap_rule.specs.Places.{Stands}
 use Rattle.heap_rule.specs.Changes.{value_at, changed}
 use Rattle.heap_rule.specs.Views.{one, Tells}
-use Rattle.heap_rule.specs.Rule.{state_of, Stood, Rule}
-use Rattle.heap_rule.specs.Standing.{Acts, Entered, with_front, with_registers}
+use Rattle.heap_rule.specs.Rule.{state_of, Rule}
+use Rattle.heap_rule.specs.Standing.{Acts, Entered}
 use Rattle.heap_rule.specs.Ticks.{IsNoBlock, TickCommand, TickEntry, TickMay, command_answer, tick_answer}
-use Rattle.heap_rule.proofs.Values.{AllStand, stand_set, no_label, stands_nothing, holds}
-use Rattle.heap_rule.proofs.Keeps.{Words, mine, my_good, own, control_same, appends, legal_entry, unmoved}
+use Rattle.heap_rule.proofs.Values.{AllStand, stand_set, no_label, stands_nothing}
+use Rattle.heap_rule.proofs.Keeps.{Words, unmoved}
 use Rattle.heap_rule.proofs.Entering.{running, inside_state, registers_stand, Enters, entered_view, enters_rule, enters}
 
 -- the mode and the queue fit an allocation

@@ -1,5 +1,5 @@
 -- What words and registers stand for.
-use Rattle.std.proofs.Common.{◌≡◌, ◌≢◌, ℕ, ◌+◌, ◌^◌, ◌<◌, ◌≤◌, List, length, get_or, set, Some, None, sym, refl, ap, ◌∙◌, subst, arith, length-set, get_or-set_same, get_or-set_other}
+use Rattle.std.proofs.Common.{◌≡◌, ◌≢◌, ℕ, ◌+◌, ◌^◌, ◌<◌, ◌≤◌, List, length, get_or, set, Some, None, sym, refl, ◌∙◌, subst, arith, length-set, get_or-set_same, get_or-set_other}
 use mathlib.Core.Logic.{dite}
 use native.Mathlib.Decide.{ℕ_discrete}
 use Rattle.heap_model.specs.declared.label.Label.{Label}
@@ -111,6 +111,6 @@ stand_set live own theirs r x v few stands a = record {
   long = length-set theirs r v ∙ a.long;
   each = λ q low. dite (ℕ_discrete q r)
       (λ here. subst (λ (n : ℕ). Stands live (value_at (set own r x) n) (get_or (set theirs r v) n Nothing)) (sym here)
-          (subst (λ (y : words.Value × Value). Stands live y.0 y.1) (λ i. (sym (get_or-set_same own r x NothingWord (let w = a.wide in omega arith)) i, sym (get_or-set_same theirs r v Nothing (let w = a.long in omega arith)) i)) stands))
+      (subst (λ (y : words.Value × Value). Stands live y.0 y.1) (λ i. (sym (get_or-set_same own r x NothingWord (let w = a.wide in omega arith)) i, sym (get_or-set_same theirs r v Nothing (let w = a.long in omega arith)) i)) stands))
       (λ other. subst (λ (y : words.Value × Value). Stands live y.0 y.1) (λ i. (sym (get_or-set_other own r q x NothingWord other) i, sym (get_or-set_other theirs r q v Nothing other) i)) (a.each q low));
 }

@@ -8,6 +8,8 @@ use Rattle.heap_model.specs.declared.entry.Entry.TheVariants.{Command}
 use Rattle.heap_model.specs.declared.reply.Reply.TheVariants.{Block}
 use Rattle.heap_model.specs.declared.reply.Applied.TheVariants.{Replied}
 use Rattle.heap_model.specs.Fronts.{PlainShape, Answers}
+use Rattle.heap_words.specs.declared.head.Head.{Head}
+use Rattle.heap_words.specs.declared.head.Head.TheVariants.{Plain as PlainHead}
 use Rattle.heap_words.specs.declared.value.Value.TheVariants.{Ref, Nothing}
 use Rattle.heap_words.specs.Labels.{label_word}
 use Rattle.heap_rule.specs.declared.change.Change.{Change}
@@ -27,6 +29,11 @@ least_size (size ∷ sizes) words = if nat_le words size then size else least_si
 
 abbrev pub class_words : ℕ → ℕ
 class_words words = least_size SIZES words
+
+-- the fields of a plain block's head
+abbrev pub plain_size : Head → ℕ
+plain_size (PlainHead size tag colour scanned) = size
+plain_size _ = 0
 
 -- where the domain's next block begins
 abbrev pub next_address : Config → DomainView → ℕ

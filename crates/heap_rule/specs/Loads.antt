@@ -1,5 +1,5 @@
 -- Loads of heads, labels and fields.
-use Rattle.std.specs.Prelude.{◌≡◌, ◌≢◌, ℕ, ◌+◌, ◌<◌, ◌≤◌, true, false, List, [], slice_set}
+use Rattle.std.specs.Prelude.{◌≡◌, ◌≢◌, ℕ, ◌+◌, ◌<◌, ◌≤◌, false, List, [], slice_set}
 use Rattle.heap_model.specs.declared.label.Label.{Label}
 use Rattle.heap_model.specs.declared.graph.Value as model
 use Rattle.heap_model.specs.declared.graph.Value.TheVariants.{Int as IntValue, Block, Nothing as NothingValue}

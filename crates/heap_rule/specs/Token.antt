@@ -8,6 +8,8 @@ use Rattle.heap_words.specs.Values.{IsPackable}
 use Rattle.heap_rule.specs.declared.config.Config.{Config}
 use Rattle.heap_rule.specs.declared.view.DomainView.{DomainView}
 use Rattle.heap_rule.specs.declared.view.View.{View}
+use Rattle.heap_model.specs.Domains.{IsWithinLimits}
+use Rattle.heap_rule.specs.Limits.{sizes_in}
 use Rattle.heap_rule.specs.Layout.{heap_words}
 use Rattle.heap_rule.specs.Changes.{value_at}
 use Rattle.heap_rule.specs.Views.{one}
@@ -40,4 +42,7 @@ pub record Holds (k : Config) (registers : List Value) : Type 0 where
 -- the seat, at a heap of these numbers, stands for this domain alone
 pub record IsSeatOf (k : Config) (x : DomainView) (me : Me (Unit {0}) View) : Type 0 where
   pub seat : me ≡ (one k me.0.history x, [])
+  pub limits : IsWithinLimits (sizes_in k)
+  pub number : x.own.number < k.domains
+  pub used : x.own.used ≤ k.minor_words
   pub registers : Holds k x.own.registers

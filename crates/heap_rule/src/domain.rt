@@ -1,10 +1,12 @@
 //! The token of a domain.
 ghost use Rattle.std.specs.Prelude.{◌≡◌, ◌≢◌, ◌+◌, ◌<◌, ℕ, [], length, slice_get, Some};
+ghost use Rattle.heap_model.specs.Domains.{IsWithinLimits};
 ghost use Rattle.heap_words.specs.declared.value.Value.TheVariants.{Ref};
 ghost use Rattle.heap_words.specs.Values.{IsPackable};
 ghost use Rattle.heap_rule.specs.Changes.{value_at};
 ghost use Rattle.heap_rule.specs.Items.{items_of};
-ghost use Rattle.heap_rule.specs.Layout.{heap_words};
+ghost use Rattle.heap_rule.specs.Inits.{next_address};
+ghost use Rattle.heap_rule.specs.Limits.{sizes_in};
 ghost use Rattle.heap_rule.specs.Opening.{opening_token};
 ghost use Rattle.heap_rule.specs.Token.{IsAddress};
 ghost use Rattle.heap_rule.specs.Views.{one, opening_view};
@@ -14,6 +16,7 @@ use crate::config::Config;
 use crate::view::{Own, View};
 use atomic_table::Seat;
 use heap_words::Value;
+use size_classes::POOL_WORDS;
 use std::marker::Model;
 
 /// One domain of a heap. It may move between threads.
@@ -41,7 +44,8 @@ impl Domain {
     // The token of a domain that has just been given its seat.
     pub(crate) fn make(seat: Seat<(), View>, config: &Config, number: u32) -> Domain
         requires seat { seat.me ≡ (one config.now [] (opening_view number), []) }
-        requires room { 2 < heap_words config.now }
+        requires limits { IsWithinLimits (sizes_in config.now) }
+        requires inside { number < config.now.domains }
         ensures { result ≡ opening_token seat.table_id config.now number }
     {
         let mut registers = [Value::Nothing; 16];
@@ -81,6 +85,14 @@ impl Domain {
         ensures { result ≡ self.now.view.own.used }
     {
         self.own.used
+    }
+
+    /// The address at which the domain's next young block begins.
+    pub fn next_address(&self) -> u32
+        ensures { result ≡ next_address self.now.config self.now.view }
+    {
+        let area = self.own.number * self.config.minor_words;
+        self.config.pools * POOL_WORDS + area + 1 + self.own.used
     }
 
     /// How many labels the domain has given out.

@@ -3,7 +3,6 @@ ghost use Rattle.std.specs.Prelude.{◌≡◌, ◌↔◌, ◌<◌, ◌≤◌, �
 ghost use Rattle.heap_model.specs.Domains.{IsWithinLimits};
 ghost use Rattle.heap_model.specs.History.{Legal};
 ghost use Rattle.heap_rule.specs.Limits.{sizes_in, first_outside};
-ghost use Rattle.heap_rule.specs.Layout.{heap_words};
 ghost use Rattle.heap_rule.specs.Opening.{opening_token, opening_tokens};
 ghost use Rattle.heap_rule.specs.Ending.{AllIn, AllBegin};
 ghost use Rattle.heap_rule.specs.Views.{first_view};
@@ -75,7 +74,6 @@ fn seated(
 ) -> Result<Vec<Domain>, AllocError>
     requires seat { (seat.table_id ≡ heap.now.table) × (seat.me ≡ (first_view heap.now.config, [])) }
     requires count { (count ≡ heap.now.config.domains) × (0 < count) }
-    requires room { 2 < heap_words heap.now.config }
     ensures { IfOk result (λ v. v.items ≡ opening_tokens heap.now.table heap.now.config 0 count) }
 {
     let mut seat = seat;

@@ -1,10 +1,5 @@
-use Rattle.std.proofs.Common.{◌≡◌, sym, refl, ap, subst, arith}
 use Rattle.heap_words.specs.declared.value.Value.TheVariants.{Nothing}
-use Rattle.heap_rule.specs.declared.config.Config.{Config}
-use Rattle.heap_rule.specs.declared.view.DomainView.{DomainView}
-use Rattle.heap_rule.specs.Standing.{Entered}
 use Rattle.heap_rule.specs.Ticks.{TickMay, tick_answer}
-use Rattle.heap_rule.specs.Token.{SharedHeap, Token}
 use Rattle.heap_rule.proofs.Closes.{Opened, at_view, asked, entered_closes}
 use Rattle.heap_rule.proofs.Ticking.{tick_allows}
 use Rattle.heap_rule.proofs.steps.ticking.tick.Goals as goal
