@@ -4,7 +4,7 @@ ghost use Rattle.heap_rule.specs.Limits.{first_outside};
 ghost use Rattle.heap_rule.specs.declared.config.StartFault.TheVariants.{Memory};
 
 use size_classes::{CLASS_COUNT, reserve};
-use std::alloc::AllocError;
+use std::alloc::{AllocError, AllocFailed};
 use thiserror::Error;
 
 /// How large a heap is.
@@ -37,6 +37,14 @@ impl From<AllocError> for StartFault {
     ghost from_gives = { λ _ fault. fault ≡ Memory };
 
     fn from(_error: AllocError) -> StartFault {
+        StartFault::Memory
+    }
+}
+
+impl<T: Drop> From<AllocFailed<T>> for StartFault {
+    ghost from_gives = { λ _ fault. fault ≡ Memory };
+
+    fn from(_error: AllocFailed<T>) -> StartFault {
         StartFault::Memory
     }
 }
