@@ -13,7 +13,7 @@ use Rattle.heap_model.specs.Domains.{opening}
 use Rattle.heap_model.specs.Entries.{next, reply}
 use Rattle.heap_model.specs.History.{state_after, Legal, is_entry_of}
 use Rattle.heap_model.specs.Fronts.{NoneOf, IsFrontOf, Answers, Shape, PlainShape, EpheShape, shape_of, Grew, KeepsDomain, HoldsPlain}
-use Rattle.heap_model.proofs.HistoryLemmas.{state_after-append}
+use Rattle.heap_model.proofs.HistoryLemmas.{state_after-append, state_after-push}
 use Rattle.heap_model.proofs.FrameLemmas.{keeps_next, grew_next, grew_same, grew_after}
 
 -- a test that fails
@@ -103,3 +103,26 @@ holds_later s d r n h front f holds =
       node = grew.1 ∙ ap Some plain.1;
       size = plain.2;
     }
+
+none_append : (d : ℕ) (h k : List Entry) → NoneOf d h → NoneOf d k → NoneOf d (h ++ k)
+none_append d [] k a b = b
+none_append d (e ∷ h) k a b = let parts = none_cons d e h a in rw parts.0 (none_append d h k parts.1 b)
+
+-- an answer from a front that had grown by entries of others alone is one from the older front
+pub answers_after : (z : Sizes) (d : ℕ) (old mid new : List Entry) (e : Entry) (r : Applied) → IsFrontOf d mid old → Answers z d mid new e r → Answers z d old new e r
+answers_after z d old mid new e r f a =
+    let same : mid ++ a.between ≡ old ++ (f.rest ++ a.between) = ap (λ l. l ++ a.between) f.appends ∙ append_assoc old f.rest a.between in record {
+      between = f.rest ++ a.between;
+      others = none_append d f.rest a.between f.others a.others;
+      appends = a.appends ∙ ap (λ l. l ++ e ∷ []) same;
+      legal = a.legal;
+      replies = ap (λ l. reply (state_after (opening z) l) e) (sym same) ∙ a.replies;
+    }
+
+-- a front tells of its domain what the longer front before an answered entry does
+pub keeps_between : (z : Sizes) (d : ℕ) (old new : List Entry) (e : Entry) (r : Applied) (a : Answers z d old new e r) → KeepsDomain (state_after (opening z) old) (state_after (opening z) (old ++ a.between)) d
+keeps_between z d old new e r a = keeps_front (opening z) d (old ++ a.between) old record { rest = a.between; appends = refl; others = a.others }
+
+-- the state after an answered entry
+pub after_answer : (z : Sizes) (d : ℕ) (old new : List Entry) (e : Entry) (r : Applied) (a : Answers z d old new e r) → state_after (opening z) new ≡ next (state_after (opening z) (old ++ a.between)) e
+after_answer z d old new e r a = ap (state_after (opening z)) a.appends ∙ state_after-push (opening z) (old ++ a.between) e

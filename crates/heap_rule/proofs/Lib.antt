@@ -18,3 +18,4 @@ pub mod Dealt
 pub mod Ends
 pub mod Closes
 pub mod ClassSizes
+pub mod Acting
