@@ -1,5 +1,5 @@
 -- Each entry keeps a state sound, so that a heap's state is sound from its first entry on.
-use Rattle.std.proofs.Common.{◌≡◌, length, refl, ap, sym, ◌∙◌, subst, OnOk, OnErr, Result, Ok, Err, ℕ, length-set}
+use Rattle.std.proofs.Common.{◌≡◌, length, refl, sym, ◌∙◌, subst, OnOk, OnErr, Result, Ok, Err, ℕ, length-set}
 use Rattle.heap_model.specs.declared.command.Command.{Command}
 use Rattle.heap_model.specs.declared.entry.Entry.{Entry}
 use Rattle.heap_model.specs.declared.reply.Applied.{Applied}

@@ -1,11 +1,10 @@
 -- A domain that acts goes on acting: for the layers above, which make several steps in one call.
-use Rattle.std.proofs.Common.{◌≡◌, ℕ, Bool, false, List, ◌++◌, sym, ap, ◌∙◌, subst}
+use Rattle.std.proofs.Common.{ℕ, Bool, List, ◌++◌, ap, ◌∙◌}
 use Rattle.heap_model.specs.declared.command.Command as model_command
 use Rattle.heap_model.specs.declared.entry.Entry.TheVariants.{Command}
 use Rattle.heap_model.specs.declared.reply.Applied.{Applied}
 use Rattle.heap_model.specs.declared.state.State as model
 use Rattle.heap_model.specs.Domains.{domain_at, opening}
-use Rattle.heap_model.specs.Entries.{next}
 use Rattle.heap_model.specs.History.{state_after}
 use Rattle.heap_model.proofs.FrameLemmas.{frame_command}
 use Rattle.heap_model.proofs.FrontLemmas.{keeps_front, keeps_between, after_answer}

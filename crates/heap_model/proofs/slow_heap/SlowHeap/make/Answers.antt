@@ -1,5 +1,4 @@
 use Rattle.heap_model.specs.Domains.{sizes_of}
-use Rattle.heap_model.specs.WellFormed.{IsSound}
 use Rattle.heap_model.proofs.SoundLemmas.{sound_opening}
 use Rattle.heap_model.proofs.slow_heap.SlowHeap.make.Goals as goal
 

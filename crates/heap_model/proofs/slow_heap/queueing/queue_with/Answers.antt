@@ -1,5 +1,4 @@
-use Rattle.std.proofs.Common.{◌≡◌, ◌∷◌, ◌++◌, [], ◌-◌, ◌≤◌, List, map, reverse, get_or, drop, ap, sym, ◌∙◌, arith}
-use Rattle.heap_model.specs.declared.state.Finaliser.{Finaliser}
+use Rattle.std.proofs.Common.{◌≡◌, ◌∷◌, ◌++◌, [], ◌-◌, map, reverse, get_or, drop, ap, sym, ◌∙◌, arith}
 use Rattle.heap_model.specs.Entries.{at_places, queued_final}
 use Rattle.heap_model.proofs.PlaceLemmas.{one_more, queued_one_more}
 use Rattle.heap_model.proofs.slow_heap.queueing.queue_with.Goals as goal

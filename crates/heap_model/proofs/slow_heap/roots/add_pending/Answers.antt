@@ -1,4 +1,4 @@
-use Rattle.std.proofs.Common.{◌≡◌, ◌<◌, ◌++◌, length, get_or, filter_map, option_to_list, take, append_assoc}
+use Rattle.std.proofs.Common.{◌<◌, length, get_or, filter_map, option_to_list, take, append_assoc}
 use Rattle.heap_model.specs.declared.state.Pending.{Pending}
 use Rattle.heap_model.specs.declared.state.Pending.TheVariants.{Fin}
 use Rattle.heap_model.specs.Domains.{pending_label}

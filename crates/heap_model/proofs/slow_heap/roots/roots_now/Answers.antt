@@ -1,4 +1,4 @@
-use Rattle.std.proofs.Common.{◌≡◌, List, ap, sym, ◌∙◌, ◌++◌, flat_map, filter_map}
+use Rattle.std.proofs.Common.{List, ap, sym, ◌∙◌, ◌++◌, flat_map, filter_map}
 use Rattle.heap_model.specs.declared.label.Label.{Label}
 use Rattle.heap_model.specs.declared.state.DomainState.{DomainState}
 use Rattle.heap_model.specs.Graph.{label_of}

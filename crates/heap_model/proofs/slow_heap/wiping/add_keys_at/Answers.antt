@@ -1,4 +1,4 @@
-use Rattle.std.proofs.Common.{◌≡◌, ◌<◌, ◌++◌, length, get_or, filter_map, option_to_list, slice_get, take, ap, sym, ◌∙◌, append_assoc}
+use Rattle.std.proofs.Common.{◌≡◌, ◌<◌, length, get_or, filter_map, option_to_list, slice_get, take, ◌∙◌, append_assoc}
 use Rattle.heap_model.specs.Entries.{at_places}
 use Rattle.heap_model.proofs.PlaceLemmas.{keys_one_more}
 use Rattle.heap_model.proofs.slow_heap.wiping.add_keys_at.Goals as goal

@@ -1,4 +1,4 @@
-use Rattle.std.proofs.Common.{◌≡◌, get_or, ap, sym, ◌∙◌}
+use Rattle.std.proofs.Common.{◌≡◌, get_or}
 use Rattle.heap_model.proofs.GraphLemmas.{place_node}
 use Rattle.heap_model.proofs.slow_heap.wiping.are_gone.Goals as goal
 
