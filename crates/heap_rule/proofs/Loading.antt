@@ -1,5 +1,5 @@
 -- Loads of heads, labels and fields keep the rule.
-use Rattle.std.proofs.Common.{◌≡◌, ℕ, ◌+◌, ◌<◌, ◌≤◌, false, ne_eqb, List, [], get_or, set, Some, Option, sym, refl, ap, ◌∙◌, subst, arith}
+use Rattle.std.proofs.Common.{◌≡◌, ℕ, ◌+◌, ◌<◌, ◌≤◌, false, ne_eqb, List, [], ◌∷◌, get_or, set, Some, Option, sym, refl, ap, ◌∙◌, subst, arith, length, ◌++◌, get_or-set_same}
 use mathlib.Core.Logic.{dite}
 use native.Mathlib.Decide.{dec_le}
 use mathlib.Core.Option.{some}
@@ -35,7 +35,7 @@ use Rattle.heap_rule.specs.Rule.{state_of, Rule}
 use Rattle.heap_rule.specs.Standing.{Acts, IsAt, with_front}
 use Rattle.heap_rule.specs.Loads.{subject, place_of, HeadEntry, HeadMay, HeadTold, HeadCase, LabelMay, LabelTold, FieldLoadMay, FieldLoadEntry, FieldRead}
 use Rattle.heap_rule.proofs.Values.{AllStand, stand_set, not_nothing, packable, shows}
-use Rattle.heap_rule.proofs.Keeps.{Words, mine, own, looks, unmoved}
+use Rattle.heap_rule.proofs.Keeps.{after_entry, Words, mine, own, looks, unmoved}
 use Rattle.heap_rule.proofs.Entering.{running, inside_state, registers_stand, Enters, entered_view, enters_rule, enters}
 use Rattle.heap_rule.proofs.Blocks.{Lives, lives_at, found_at, plain_at, plain_inside, field_at}
 
@@ -217,6 +217,19 @@ field_entry k s r id hist x at a dst src i changes may =
       leaves = leaves_load now d (inside_state k s r id hist x at may.acts) dst src i f.place.label f.tag f.fields f.value f.held f.node f.there;
     }
 
+-- the register that the load writes then holds the field
+register_after : (k : Config) (s : Words) (r : Rule k s) (id : ℕ) (hist : List Entry) (x : DomainView) (at : get_elem? s.views id ≡ some (one k hist x)) (a dst src i : ℕ) (changes : List Change)
+    (may : FieldLoadMay k x a changes x.own.number dst src i) → register (state_of k (r.log ++ Command x.own.number (Load dst src i) false ∷ [])) x.own.number dst ≡ (field_at k s r id hist x at a src i may.reads).0.value
+unfolding field_entry
+register_after k s r id hist x at a dst src i changes may =
+    let f = (field_at k s r id hist x at a src i may.reads).0 in
+    let e : Entry = Command x.own.number (Load dst src i) false in
+    let o = field_entry k s r id hist x at a dst src i changes may in
+    let theirs : List graph_value.Value = (domain_at (state_of k r.log) x.own.number).registers in
+    ap (λ (t : model.State). register t x.own.number dst) (after_entry k s r id hist x at e)
+    ∙ (ap (λ (l : List graph_value.Value). get_or l dst Nothing) o.leaves.registers_are
+    ∙ get_or-set_same theirs dst f.value Nothing (let w = (registers_stand k s r id hist x at may.acts).long in let l = may.goes in omega arith))
+
 field_loads : (k : Config) (slots id word : ℕ) (hist : List Entry) (x : DomainView) (a dst src i : ℕ) (changes : List Change) → word ≡ before_heap k + a → FieldLoadMay k x a changes x.own.number dst src i
     → let e : Entry = Command x.own.number (Load dst src i) false in Allows (Rule k) slots id (one k hist x, []) word (λ n. n) (Tells (FieldRead k e changes) (one k hist x, []))
 field_loads k slots id word hist x a dst src i changes place may s r _ at _ =
@@ -238,6 +251,7 @@ field_loads k slots id word hist x a dst src i changes place may s r _ at _ =
           word = ap (λ (n : ℕ). get_or s.words n 0) here ∙ f.stands.packs;
           held = f.value;
           shows = shows r.live f.stands.value f.value f.stands.stands;
+          register_is = register_after k s r id hist x at a dst src i changes may;
           entered = enters k s r id hist x at may.acts (state_of k r.log).graph e (Replied (shown f.value)) f.stands.value changes o;
         },
         refl,

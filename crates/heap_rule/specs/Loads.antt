@@ -36,6 +36,11 @@ place_of (Command d (Load dst src i) full) = i
 place_of (Command d (Store block i item) full) = i
 place_of _ = 0
 
+-- the register that a load writes
+abbrev pub target_of : Entry → ℕ
+target_of (Command d (Load dst src i) full) = dst
+target_of _ = 0
+
 -- an own load or store that looks into the block at the address. A store has something to store
 abbrev pub HeadEntry : DomainView → ℕ → Entry → Type 0
 HeadEntry x a (Command d (Load dst src i) false) = (d ≡ x.own.number) × IsAt x src a
@@ -117,4 +122,5 @@ pub record FieldRead (k : Config) (e : Entry) (changes : List Change) (x : Domai
   pub word : found ≡ value_word value
   pub held : model.Value
   pub shows : Shows value held
+  pub register_is : register (state_of k y.seen.front) x.own.number (target_of e) ≡ held
   pub entered : Entered k e (Replied (shown held)) value changes x y
