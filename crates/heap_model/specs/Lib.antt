@@ -8,3 +8,4 @@ pub mod Output
 pub mod WellFormed
 pub mod Marked
 pub mod Fronts
+pub mod Laws
