@@ -9,3 +9,4 @@ pub mod WellFormed
 pub mod Marked
 pub mod Fronts
 pub mod Laws
+pub mod Registrations

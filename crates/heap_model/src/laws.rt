@@ -1,6 +1,7 @@
 //! Laws of the entries. Each function's contract is one law, and it does nothing else.
 ghost use Rattle.heap_model.specs.Reach.{ReachLaw};
 ghost use Rattle.heap_model.specs.Laws.{LabelsStay, NodesStay, ReachIsLeast, FullMajorCountsReach, WipeKeepsReach, CollectedLeavesNothing};
+ghost use Rattle.heap_model.specs.Registrations.{RegistrationsRunOnce};
 
 /// No entry removes a label from the graph: blocks are never freed, and never move.
 pub fn labels_stay()
@@ -35,4 +36,10 @@ pub fn wipe_keeps_reach()
 /// After a `Collected` no key, no datum and no registration is left that the collector may take.
 pub fn collected_leaves_nothing()
     ensures { CollectedLeavesNothing }
+{}
+
+/// Each registration leaves its list at most once, and runs at most once: in no history are there more of a kind in the
+/// lists, in the queue and among those that have run than were made.
+pub fn registrations_run_once()
+    ensures { RegistrationsRunOnce }
 {}

@@ -7,7 +7,6 @@ use crate::command::Command;
 use crate::entry::{Entry, Places};
 use crate::label::Label;
 use crate::reply::{Applied, ApplyFault, Reply};
-use crate::sequence::Sequence;
 use examples::*;
 use std::alloc::{AllocError, Global};
 use std::process::Abort;
@@ -141,7 +140,7 @@ fn places(alloc: Global, words: &[&str], from: usize) -> Result<Places, AllocErr
     for i in from..words.len() {
         items.push(number(words, i))?;
     }
-    Ok(Sequence::make(items))
+    Ok(Places::make(items))
 }
 
 // The entry that a line names: a collector's, or else a command.
