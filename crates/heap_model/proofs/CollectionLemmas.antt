@@ -14,14 +14,14 @@ use Rattle.heap_model.proofs.GraphLemmas.{same_label-true}
 use Rattle.heap_model.proofs.ReachLemmas.{Within, or_cases, and_left, and_right, has-append_right, reachable_roots}
 
 -- a label of a list whose labels all pass a test
-all_has : (test : Label → Bool) (ls : List Label) → IsTrue (list_all test ls) → (l : Label) → IsTrue (has_label ls l) → IsTrue (test l)
+pub all_has : (test : Label → Bool) (ls : List Label) → IsTrue (list_all test ls) → (l : Label) → IsTrue (has_label ls l) → IsTrue (test l)
 all_has test [] all l h = cc
 all_has test (k ∷ ls) all l h = ⊎_elim
     (λ here. subst (λ z. IsTrue (test z)) (same_label-true k l here) (and_left (test k) (list_all test ls) all))
     (λ later. all_has test ls (and_right (test k) (list_all test ls) all) l later)
     (or_cases (same_label k l) (has_label ls l) h)
 
-all_at : {A : Type 0} (test : A → Bool) (xs : List A) → IsTrue (list_all test xs) → (i : ℕ) (x : A) → slice_get xs i ≡ Some x → IsTrue (test x)
+pub all_at : {A : Type 0} (test : A → Bool) (xs : List A) → IsTrue (list_all test xs) → (i : ℕ) (x : A) → slice_get xs i ≡ Some x → IsTrue (test x)
 all_at test [] all i x e = cc
 all_at test (y ∷ xs) all zero x e = let same : y ≡ x = cc in subst (λ z. IsTrue (test z)) same (and_left (test y) (list_all test xs) all)
 all_at test (y ∷ xs) all (suc i) x e = all_at test xs (and_right (test y) (list_all test xs) all) i x e

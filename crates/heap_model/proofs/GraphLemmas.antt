@@ -1,5 +1,5 @@
 -- A scan of the graph finds the node of a label, and the place at which to write another.
-use Rattle.std.proofs.Common.{◌≡◌, ℕ, zero, suc, ◌<◌, Bool, true, false, cond, ◌&&◌, eqb, [], ◌∷◌, ◌++◌, length, get_or, Some, None, refl, ap, sym, ◌∙◌, arith, eq-eqb, eqb-true}
+use Rattle.std.proofs.Common.{◌≡◌, ◌⊎◌, inl, inr, ℕ, zero, suc, ◌<◌, Bool, true, false, cond, ◌&&◌, eqb, [], ◌∷◌, ◌++◌, length, get_or, Some, None, refl, ap, sym, ◌∙◌, arith, eq-eqb, eqb-true}
 use Rattle.std.proofs.lemmas.Option.{get_or_from_slice_get}
 use Rattle.heap_model.specs.declared.label.Label.{Label}
 use Rattle.heap_model.specs.declared.graph.Node.{Node}
@@ -114,3 +114,30 @@ pub place_node : (g : Graph) (l : Label) (i : ℕ) (x : Label × Node) → IsPla
 place_node g l i x place here =
     let same : ◌≡◌ {A = Label × Node} (l, place.node) x = sym (get_or_from_slice_get g i _ x place.stands) ∙ sym here in
     place.found ∙ ap (λ (e : Label × Node). Some e.1) same
+
+-- the nodes after a change are the new one and the old ones
+with_cases_step : (b c : Bool) (e : Label × Node) (g h : Graph) (k : Label) (n m : Node) → same_label e.0 k ≡ c
+    → (node_at h k ≡ Some m → (m ≡ n) ⊎ (node_at g k ≡ Some m)) → node_at (cond b ((e.0, n) ∷ g) (e ∷ h)) k ≡ Some m
+    → (m ≡ n) ⊎ (cond c (Some e.1) (node_at g k) ≡ Some m)
+with_cases_step true true e g h k n m is rest has = inl (let new = rw is at has in cc)
+with_cases_step true false e g h k n m is rest has = inr (rw is at has)
+with_cases_step false true e g h k n m is rest has = inr (rw is at has)
+with_cases_step false false e g h k n m is rest has = rest (rw is at has)
+
+pub node_at-with_node_cases : (g : Graph) (l k : Label) (n m : Node) → node_at (with_node g l n) k ≡ Some m → (m ≡ n) ⊎ (node_at g k ≡ Some m)
+node_at-with_node_cases [] l k n m h = inr h
+node_at-with_node_cases (e ∷ g) l k n m h =
+    with_cases_step (same_label e.0 l) (same_label e.0 k) e g (with_node g l n) k n m refl (node_at-with_node_cases g l k n m) h
+
+pub node_at-append_cases : (g : Graph) (e : Label × Node) (k : Label) (m : Node) → node_at (g ++ e ∷ []) k ≡ Some m → (m ≡ e.1) ⊎ (node_at g k ≡ Some m)
+node_at-append_cases [] e k m h = go (same_label e.0 k) h
+  where
+    go : (b : Bool) → cond b (Some e.1) None ≡ Some m → (m ≡ e.1) ⊎ (None ≡ Some m)
+    go true h = inl cc
+    go false h = inr h
+node_at-append_cases (x ∷ g) e k m h = go (same_label x.0 k) (node_at-append_cases g e k m) h
+  where
+    go : (b : Bool) → (node_at (g ++ e ∷ []) k ≡ Some m → (m ≡ e.1) ⊎ (node_at g k ≡ Some m)) → cond b (Some x.1) (node_at (g ++ e ∷ []) k) ≡ Some m
+        → (m ≡ e.1) ⊎ (cond b (Some x.1) (node_at g k) ≡ Some m)
+    go true rest h = inr h
+    go false rest h = rest h

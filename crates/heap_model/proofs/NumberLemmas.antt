@@ -175,7 +175,7 @@ module _ (s : State) (numbered : IsNumbered s) (d : ℕ) (inside : d < length s.
   numbered_outcome FullMajor = numbered
 
 -- a number that is no domain's has ended
-inside_running : (xs : List DomainState) (d : ℕ) → (get_or xs d no_domain).ended ≡ false → d < length xs
+pub inside_running : (xs : List DomainState) (d : ℕ) → (get_or xs d no_domain).ended ≡ false → d < length xs
 inside_running [] d e = cc
 inside_running (x ∷ xs) zero e = omega arith
 inside_running (x ∷ xs) (suc d) e = omega (arith, inside_running xs d e)

@@ -1,5 +1,5 @@
 -- Each entry keeps a state well formed, so that reachability has its law in every state of a legal history.
-use Rattle.std.proofs.Common.{◌≡◌, ◌⊎◌, ℕ, zero, suc, ◌+◌, ◌<◌, Bool, true, false, cond, IsTrue, List, [], ◌∷◌, ◌++◌, map, reverse, length, flat_map, filter_map, option_to_list, replicate, get_or, set, slice_get, option_map, option_and_then, remove, take, drop, pos, is_some, Option, Some, None, refl, ap, subst, inl, inr, ⊎_elim, arith}
+use Rattle.std.proofs.Common.{◌≡◌, ◌⊎◌, ℕ, zero, suc, ◌+◌, Bool, true, false, cond, IsTrue, List, [], ◌∷◌, ◌++◌, map, reverse, length, flat_map, filter_map, option_to_list, replicate, get_or, set, slice_get, option_map, option_and_then, pos, is_some, Option, Some, None, refl, ap, subst, ⊎_elim}
 use Rattle.heap_model.specs.declared.label.Label.{Label}
 use Rattle.heap_model.specs.declared.command.Command.{Command}
 use Rattle.heap_model.specs.declared.command.Command.TheVariants.{PutInt, Copy, Forget, Alloc, AllocMaj, Load, Store, Ephe as NewEphe, SetKey, UnsetKey, GetKey, CheckKey, SetData, UnsetData, GetData, CheckData, Finalise, FinaliseLast, Poll, Minor, Major, FullMajor}
@@ -21,75 +21,15 @@ use Rattle.heap_model.specs.Graph.{Graph, same_label, labels, has_label, label_o
 use Rattle.heap_model.specs.Domains.{domain_at, with_domain, with_register, register, label_in, with_block, no_domain, pending_label, queues, roots, reach, opening, opening_domain, shared_label, shared_node}
 use Rattle.heap_model.specs.Reach.{IsClosedGraph, IsLeastClosed, edges_of, key_holds}
 use Rattle.heap_model.specs.declared.state.Sizes.{Sizes}
-use Rattle.std.specs.List.{cons_option, list_all}
+use Rattle.std.specs.List.{list_all}
 use Rattle.std.specs.Option.{option_map_or}
 use Rattle.heap_model.specs.Commands.{Outcome, in_bounds, at_ephe, loaded, stored, key_set, key_stored, key_value, datum_set, datum_stored, finalised, finalised_last, tells, is_full_value, allocated, block_in, outcome, after_command}
-use Rattle.heap_model.specs.Entries.{without_places, at_places, queued_final, queued_last, wiped_keys, wiped, with_wiped, in_mode, with_last_queued, without_first, after_run, next}
+use Rattle.heap_model.specs.Entries.{at_places, wiped_keys, wiped, with_wiped, in_mode, with_last_queued, without_first, after_run, next}
 use Rattle.heap_model.specs.History.{state_after}
 use Rattle.heap_model.specs.WellFormed.{names_of, HaveNodes, IsDomainNamed, IsWellFormed}
-use Rattle.heap_model.proofs.GraphLemmas.{same_label-true, same_label_refl, labels-with_node}
-use Rattle.heap_model.proofs.ReachLemmas.{or_cases, or_left, or_right, has-append_cases, has-append_left, has-append_right, reach_law}
-
--- lists of labels that have nodes
-module _ (g : Graph) where
-  pub have_none : HaveNodes g []
-  have_none l h = cc
-
-  pub have_append : (a b : List Label) → HaveNodes g a → HaveNodes g b → HaveNodes g (a ++ b)
-  have_append a b p q l h = ⊎_elim (λ x. p l x) (λ x. q l x) (has-append_cases a b l h)
-
-  pub have_left : (a b : List Label) → HaveNodes g (a ++ b) → HaveNodes g a
-  have_left a b p l h = p l (has-append_left a b l h)
-
-  pub have_right : (a b : List Label) → HaveNodes g (a ++ b) → HaveNodes g b
-  have_right a b p l h = p l (has-append_right a b l h)
-
-  pub have_cons : (k : Label) (a : List Label) → IsTrue (has_label (labels g) k) → HaveNodes g a → HaveNodes g (k ∷ a)
-  have_cons k a p q l h = ⊎_elim (λ x. subst (λ z. IsTrue (has_label (labels g) z)) (same_label-true k l x) p) (λ x. q l x) (or_cases (same_label k l) (has_label a l) h)
-
-  pub have_head : (k : Label) (a : List Label) → HaveNodes g (k ∷ a) → IsTrue (has_label (labels g) k)
-  have_head k a p = p k (or_left (same_label k k) (has_label a k) (same_label_refl k))
-
-  pub have_tail : (k : Label) (a : List Label) → HaveNodes g (k ∷ a) → HaveNodes g a
-  have_tail k a p l h = p l (or_right (same_label k l) (has_label a l) h)
-
-  pub have_cons_option : (o : Option Label) (a : List Label) → HaveNodes g (option_to_list o) → HaveNodes g a → HaveNodes g (cons_option o a)
-  have_cons_option None a p q = q
-  have_cons_option (Some k) a p q = have_cons k a (have_head k [] p) q
-
-  pub have_option : (o : Option Label) (a : List Label) → HaveNodes g (cons_option o a) → HaveNodes g (option_to_list o)
-  have_option None a p = have_none
-  have_option (Some k) a p = have_cons k [] (have_head k a p) have_none
-
-  pub have_rest : (o : Option Label) (a : List Label) → HaveNodes g (cons_option o a) → HaveNodes g a
-  have_rest None a p = p
-  have_rest (Some k) a p = have_tail k a p
-
-  module _ {A : Type 0} (f : A → Option Label) where
-    pub have_set : (xs : List A) (i : ℕ) (v : A) → HaveNodes g (filter_map f xs) → HaveNodes g (option_to_list (f v)) → HaveNodes g (filter_map f (set xs i v))
-    have_set [] i v p q = p
-    have_set (x ∷ xs) zero v p q = have_cons_option (f v) (filter_map f xs) q (have_rest (f x) (filter_map f xs) p)
-    have_set (x ∷ xs) (suc i) v p q =
-        have_cons_option (f x) (filter_map f (set xs i v)) (have_option (f x) (filter_map f xs) p) (have_set xs i v (have_rest (f x) (filter_map f xs) p) q)
-
-    pub have_at : (xs : List A) (i : ℕ) (d : A) → HaveNodes g (filter_map f xs) → HaveNodes g (option_to_list (f d)) → HaveNodes g (option_to_list (f (get_or xs i d)))
-    have_at [] i d p q = q
-    have_at (x ∷ xs) zero d p q = have_option (f x) (filter_map f xs) p
-    have_at (x ∷ xs) (suc i) d p q = have_at xs i d (have_rest (f x) (filter_map f xs) p) q
-
-    pub have_get : (xs : List A) (i : ℕ) (v : A) → HaveNodes g (filter_map f xs) → slice_get xs i ≡ Some v → HaveNodes g (option_to_list (f v))
-    have_get [] i v p e = cc
-    have_get (x ∷ xs) zero v p e = let same : x ≡ v = cc in subst (λ z. HaveNodes g (option_to_list (f z))) same (have_option (f x) (filter_map f xs) p)
-    have_get (x ∷ xs) (suc i) v p e = have_get xs i v (have_rest (f x) (filter_map f xs) p) e
-
-    pub have_replicate : (n : ℕ) (v : A) → f v ≡ None → HaveNodes g (filter_map f (replicate n v))
-    have_replicate zero v e = have_none
-    have_replicate (suc n) v e = rw e (have_replicate n v e)
-
-    pub have_filter_map_append : (xs ys : List A) → HaveNodes g (filter_map f xs) → HaveNodes g (filter_map f ys) → HaveNodes g (filter_map f (xs ++ ys))
-    have_filter_map_append [] ys p q = q
-    have_filter_map_append (x ∷ xs) ys p q =
-        have_cons_option (f x) (filter_map f (xs ++ ys)) (have_option (f x) (filter_map f xs) p) (have_filter_map_append xs ys (have_rest (f x) (filter_map f xs) p) q)
+use Rattle.heap_model.proofs.GraphLemmas.{node_at-with_node_cases, node_at-append_cases, same_label_refl, labels-with_node}
+use Rattle.heap_model.proofs.ReachLemmas.{or_left, has-append_left, has-append_right, reach_law}
+use Rattle.heap_model.proofs.NamedLemmas.{have_none, have_append, have_left, have_right, have_cons, have_head, have_tail, have_option, have_rest, have_set, have_at, have_get, have_replicate, have_filter_map_append, remove_named, without_named, places_named, queued_finals_named, queued_lasts_named, wiped_keys_named, flat_named}
 
 -- a part of each domain, after one was replaced
 pub each_domain : (P : DomainState → Type 0) (xs : List DomainState) (d : ℕ) (x : DomainState) → P x → ((k : ℕ) → P (get_or xs k no_domain)) → (k : ℕ) → P (get_or (set xs d x) k no_domain)
@@ -104,33 +44,6 @@ pub mapped_domain : (P : DomainState → Type 0) (f : DomainState → DomainStat
 mapped_domain P f [] none step each k = each k
 mapped_domain P f (x ∷ xs) none step each zero = step x (each zero)
 mapped_domain P f (x ∷ xs) none step each (suc k) = mapped_domain P f xs none step (λ j. each (suc j)) k
-
--- the nodes after a change are the new one and the old ones
-with_cases_step : (b c : Bool) (e : Label × Node) (g h : Graph) (k : Label) (n m : Node) → same_label e.0 k ≡ c
-    → (node_at h k ≡ Some m → (m ≡ n) ⊎ (node_at g k ≡ Some m)) → node_at (cond b ((e.0, n) ∷ g) (e ∷ h)) k ≡ Some m
-    → (m ≡ n) ⊎ (cond c (Some e.1) (node_at g k) ≡ Some m)
-with_cases_step true true e g h k n m is rest has = inl (let new = rw is at has in cc)
-with_cases_step true false e g h k n m is rest has = inr (rw is at has)
-with_cases_step false true e g h k n m is rest has = inr (rw is at has)
-with_cases_step false false e g h k n m is rest has = rest (rw is at has)
-
-pub node_at-with_node_cases : (g : Graph) (l k : Label) (n m : Node) → node_at (with_node g l n) k ≡ Some m → (m ≡ n) ⊎ (node_at g k ≡ Some m)
-node_at-with_node_cases [] l k n m h = inr h
-node_at-with_node_cases (e ∷ g) l k n m h =
-    with_cases_step (same_label e.0 l) (same_label e.0 k) e g (with_node g l n) k n m refl (node_at-with_node_cases g l k n m) h
-
-pub node_at-append_cases : (g : Graph) (e : Label × Node) (k : Label) (m : Node) → node_at (g ++ e ∷ []) k ≡ Some m → (m ≡ e.1) ⊎ (node_at g k ≡ Some m)
-node_at-append_cases [] e k m h = go (same_label e.0 k) h
-  where
-    go : (b : Bool) → cond b (Some e.1) None ≡ Some m → (m ≡ e.1) ⊎ (None ≡ Some m)
-    go true h = inl cc
-    go false h = inr h
-node_at-append_cases (x ∷ g) e k m h = go (same_label x.0 k) (node_at-append_cases g e k m) h
-  where
-    go : (b : Bool) → (node_at (g ++ e ∷ []) k ≡ Some m → (m ≡ e.1) ⊎ (node_at g k ≡ Some m)) → cond b (Some x.1) (node_at (g ++ e ∷ []) k) ≡ Some m
-        → (m ≡ e.1) ⊎ (cond b (Some x.1) (node_at g k) ≡ Some m)
-    go true rest h = inr h
-    go false rest h = rest h
 
 pub labels-append : (g h : Graph) → labels (g ++ h) ≡ labels g ++ labels h
 labels-append [] h = refl
@@ -323,60 +236,6 @@ module _ (s : State) (wf : IsWellFormed s) where
   wf_outcome d Minor = wf
   wf_outcome d Major = wf
   wf_outcome d FullMajor = wf
-
--- the labels of registrations that leave a list, and of those that are left
-module _ (g : Graph) {A : Type 0} (f : A → Label) where
-  take_named : (i : ℕ) (xs : List A) → HaveNodes g (map f xs) → HaveNodes g (map f (take i xs))
-  take_named zero xs p = have_none g
-  take_named (suc i) [] p = have_none g
-  take_named (suc i) (x ∷ xs) p = have_cons g (f x) (map f (take i xs)) (have_head g (f x) (map f xs) p) (take_named i xs (have_tail g (f x) (map f xs) p))
-
-  drop_named : (i : ℕ) (xs : List A) → HaveNodes g (map f xs) → HaveNodes g (map f (drop i xs))
-  drop_named zero xs p = p
-  drop_named (suc i) [] p = p
-  drop_named (suc i) (x ∷ xs) p = drop_named i xs (have_tail g (f x) (map f xs) p)
-
-  join_named : (xs ys : List A) → HaveNodes g (map f xs) → HaveNodes g (map f ys) → HaveNodes g (map f (xs ++ ys))
-  join_named [] ys p q = q
-  join_named (x ∷ xs) ys p q = have_cons g (f x) (map f (xs ++ ys)) (have_head g (f x) (map f xs) p) (join_named xs ys (have_tail g (f x) (map f xs) p) q)
-
-  remove_named : (xs : List A) (i : ℕ) → HaveNodes g (map f xs) → HaveNodes g (map f (remove xs i))
-  remove_named xs i p = join_named (take i xs) (drop (suc i) xs) (take_named i xs p) (drop_named (suc i) xs p)
-
-  without_named : (places : List ℕ) (xs : List A) → HaveNodes g (map f xs) → HaveNodes g (map f (without_places places xs))
-  without_named [] xs p = p
-  without_named (i ∷ places) xs p = remove_named (without_places places xs) i (without_named places xs p)
-
-  get_named : (xs : List A) (i : ℕ) (x : A) → HaveNodes g (map f xs) → slice_get xs i ≡ Some x → IsTrue (has_label (labels g) (f x))
-  get_named [] i x p e = cc
-  get_named (y ∷ xs) zero x p e = let same : y ≡ x = cc in subst (λ z. IsTrue (has_label (labels g) (f z))) same (have_head g (f y) (map f xs) p)
-  get_named (y ∷ xs) (suc i) x p e = get_named xs i x (have_tail g (f y) (map f xs) p) e
-
-  places_named : (places : List ℕ) (xs : List A) → HaveNodes g (map f xs) → HaveNodes g (map f (at_places places xs))
-  places_named [] xs p = have_none g
-  places_named (i ∷ places) xs p = go (slice_get xs i) refl (places_named places xs p)
-    where
-      go : (o : Option A) → slice_get xs i ≡ o → HaveNodes g (map f (at_places places xs)) → HaveNodes g (map f (cons_option o (at_places places xs)))
-      go None e rest = rest
-      go (Some x) e rest = have_cons g (f x) (map f (at_places places xs)) (get_named xs i x p e) rest
-
-queued_finals_named : (g : Graph) (xs : List Finaliser) → HaveNodes g (map (λ f. f.label) xs) → HaveNodes g (filter_map pending_label (map queued_final xs))
-queued_finals_named g [] p = have_none g
-queued_finals_named g (x ∷ xs) p =
-    have_cons g x.label (filter_map pending_label (map queued_final xs)) (have_head g x.label (map (λ f. f.label) xs) p)
-    (queued_finals_named g xs (have_tail g x.label (map (λ f. f.label) xs) p))
-
-queued_lasts_named : (g : Graph) (xs : List LastFinaliser) → HaveNodes g (filter_map pending_label (map queued_last xs))
-queued_lasts_named g [] = have_none g
-queued_lasts_named g (x ∷ xs) = queued_lasts_named g xs
-
-wiped_keys_named : (g : Graph) (places : List ℕ) (keys : List (Option Label)) → HaveNodes g (filter_map (λ k. k) keys) → HaveNodes g (filter_map (λ k. k) (wiped_keys places keys))
-wiped_keys_named g [] keys p = p
-wiped_keys_named g (i ∷ places) keys p = have_set g (λ k. k) (wiped_keys places keys) i None (wiped_keys_named g places keys p) (have_none g)
-
-flat_named : {A : Type 0} (g : Graph) (f : A → List Label) (none : A) (xs : List A) → ((k : ℕ) → k < length xs → HaveNodes g (f (get_or xs k none))) → HaveNodes g (flat_map f xs)
-flat_named g f none [] each = have_none g
-flat_named g f none (x ∷ xs) each = have_append g (f x) (flat_map f xs) (each zero (omega arith)) (flat_named g f none xs (λ k h. each (suc k) (omega arith)))
 
 pub queues_named : (g : Graph) (xs : List DomainState) → ((k : ℕ) → HaveNodes g (filter_map pending_label (get_or xs k no_domain).queue)) → HaveNodes g (flat_map (filter_map pending_label) (map (λ x. x.queue) xs))
 queues_named g [] each = have_none g

@@ -8,3 +8,5 @@ pub mod Output
 pub mod WellFormed
 pub mod Marked
 pub mod Fronts
+pub mod Laws
+pub mod Registrations

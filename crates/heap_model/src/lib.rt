@@ -5,6 +5,7 @@ pub mod command;
 pub mod entry;
 pub mod graph;
 pub mod label;
+pub mod laws;
 pub mod reply;
 pub mod sequence;
 pub mod slow_heap;

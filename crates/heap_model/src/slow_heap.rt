@@ -1,5 +1,5 @@
 //! The heap as plain data: a slow sequential object that follows the entries of a history.
-ghost use Rattle.std.specs.Prelude.{◌≡◌, IfOk, OnOk, OnErr};
+ghost use Rattle.std.specs.Prelude.{◌≡◌, ◌↔◌, IsTrue, IfOk, OnOk, OnErr};
 ghost use Rattle.heap_model.specs.Domains.{opening, sizes_of, IsWithinLimits};
 ghost use Rattle.heap_model.specs.Entries.{Allowed, next, reply, IsInRange};
 
@@ -63,6 +63,14 @@ impl SlowHeap {
         Ok(SlowHeap { alloc, state })
     }
 
+    /// Whether an entry may be given to `apply`: the domain that it names is one of the heap's, and the domain of an
+    /// allocation has a serial left.
+    pub fn is_in_range(&self, entry: &Entry) -> bool
+        ensures { IsTrue result ↔ IsInRange self.now entry.now }
+    {
+        entries::is_in_range(&self.state, entry)
+    }
+
     /// Follows an entry, where it is allowed: `Replied` with the reply of a command or of a finaliser that runs, and
     /// `Silent` at every other entry. Takes as much memory as the graph has labels, and more at each allocation.
     ///
@@ -81,51 +89,4 @@ impl SlowHeap {
 }
 
 #[cfg(test)]
-mod tests {
-    use super::*;
-    use crate::command::Command;
-    use crate::label::Label;
-    use crate::reply::Reply;
-    use std::test::Fail;
-
-    fn command(command: Command) -> Entry
-        ensures { result ≡ Entry.Command 0 command false }
-    {
-        Entry::Command {
-            domain: 0,
-            command,
-            full: false,
-        }
-    }
-
-    // alloc 1 0 2, int 2 7, store 1 0 2, load 3 1 0
-    #[test]
-    fn plain_path(rt: HostRuntime) -> Result<(), Fail> {
-        let mut heap = SlowHeap::make(rt.alloc(), 1, 512, 32768, 6)?;
-        let block = Label {
-            domain: 0,
-            serial: 1,
-        };
-        let made = heap.apply(&command(Command::Alloc {
-            dst: 1,
-            tag: 0,
-            fields: 2,
-        }))?;
-        assert_eq!(rt; made, Applied::Replied(Reply::Block(block)));
-        let put = heap.apply(&command(Command::PutInt { dst: 2, value: 7 }))?;
-        assert_eq!(rt; put, Applied::Replied(Reply::Done));
-        let stored = heap.apply(&command(Command::Store {
-            block: 1,
-            index: 0,
-            item: 2,
-        }))?;
-        assert_eq!(rt; stored, Applied::Replied(Reply::Done));
-        let loaded = heap.apply(&command(Command::Load {
-            dst: 3,
-            src: 1,
-            index: 0,
-        }))?;
-        assert_eq!(rt; loaded, Applied::Replied(Reply::Int(7)));
-        Ok(())
-    }
-}
+mod tests;

@@ -74,7 +74,7 @@ fn fits_mode(state: &State, d: usize, c: &Command) -> bool
 }
 
 // Whether a command allocates a block.
-fn is_allocation(c: &Command) -> bool
+pub(crate) fn is_allocation(c: &Command) -> bool
     ensures { result ≡ allocates c.now }
 {
     match c {

@@ -1,17 +1,46 @@
 //! All kinds of entries.
-ghost use Rattle.std.specs.Prelude.{◌≡◌, ◌<◌, IfOk, OnOk, OnErr, length};
+ghost use Rattle.std.specs.Prelude.{◌≡◌, ◌<◌, ◌↔◌, IsTrue, IfOk, OnOk, OnErr, length};
 ghost use Rattle.heap_model.specs.Domains.{IsShaped, domain_at, with_domain};
-ghost use Rattle.heap_model.specs.Entries.{Allowed, next, reply, IsInRange, EndAllowed, ended};
+ghost use Rattle.heap_model.specs.Entries.{Allowed, next, reply, IsInRange, HasNextSerial, EndAllowed, ended};
 
+use crate::command::Command;
 use crate::entry::Entry;
 use crate::graph::Value;
 use crate::reply::{Applied, ApplyFault};
 use crate::slow_heap::collections::{collected_entry, cut_entry, done_entry, seal_entry};
-use crate::slow_heap::commands::command_entry;
+use crate::slow_heap::commands::{command_entry, is_allocation};
 use crate::slow_heap::queueing::{last_entry, queue_entry, ran_entry};
 use crate::slow_heap::wiping::wipe_entry;
 use crate::state::{Mode, State};
 use std::alloc::Global;
+
+// Whether a domain that the entry names is one of the heap's, and an allocation finds a serial.
+pub(crate) fn is_in_range(state: &State, entry: &Entry) -> bool
+    requires { IsShaped state.now }
+    ensures { IsTrue result ↔ IsInRange state.now entry.now }
+{
+    match entry {
+        Entry::Command {
+            domain,
+            command,
+            ..
+        } => *domain < state.sizes.domains && has_next_serial(state, *domain as usize, command),
+        Entry::End { domain } => *domain < state.sizes.domains,
+        Entry::Queue { domain, .. } => *domain < state.sizes.domains,
+        Entry::Last { domain, .. } => *domain < state.sizes.domains,
+        Entry::Ran { domain } => *domain < state.sizes.domains,
+        Entry::Cut | Entry::Seal | Entry::Wipe { .. } | Entry::Collected | Entry::Done => true,
+    }
+}
+
+// Whether the domain's next serial fits 32 bits, where a command allocates.
+fn has_next_serial(state: &State, d: usize, c: &Command) -> bool
+    requires { d < length state.now.domains }
+    ensures { IsTrue result ↔ HasNextSerial state.now d c.now }
+{
+    let domains = &state.domains;
+    !is_allocation(c) || domains.items[d].serial < u32::MAX
+}
 
 // Follows an entry, where it is allowed.
 pub(crate) fn follow(alloc: Global, state: &mut State, entry: &Entry) -> Result<Applied, ApplyFault>

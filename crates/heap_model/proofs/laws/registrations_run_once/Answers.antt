@@ -1,0 +1,5 @@
+use Rattle.heap_model.proofs.RegistrationLemmas.{registrations_law}
+use Rattle.heap_model.proofs.laws.registrations_run_once.Goals as goal
+
+pub returns : goal.returns
+returns c = registrations_law
