@@ -1,6 +1,6 @@
 -- No line of a script has a fault, so the first fault of a text that begins as a script stands behind it.
-use Rattle.std.proofs.Common.{◌≡◌, ℕ, ◌+◌, ◌<◌, ◌≤◌, ◌^◌, suc, ℤ, pos, List, [], ◌∷◌, ◌++◌, map, length, length-append, Bool, true, false, cond, refl, ap, sym, ◌∙◌, subst, arith, append_assoc, sum_by, None, Some}
-use Rattle.std.specs.Prelude.{Option, option_map, count_by, codes, ◌==◌, nat_le, nat_lt}
+use Rattle.std.proofs.Common.{◌≡◌, ◌≢◌, ℕ, ◌+◌, ◌<◌, ◌≤◌, ◌^◌, suc, ℤ, pos, List, [], ◌∷◌, ◌++◌, map, length, length-append, Bool, true, false, cond, refl, ap, sym, ◌∙◌, subst, arith, append_assoc, sum_by, None, Some}
+use Rattle.std.specs.Prelude.{option_map, count_by, codes, ◌==◌, nat_lt}
 use Rattle.std.specs.List.{list_all}
 use Rattle.std.specs.Ordering.{int_eq}
 use Rattle.std.proofs.lemmas.Bool.Decides.{nat_tests}
@@ -9,12 +9,13 @@ use Rattle.std.proofs.lemmas.List.Sums.{sum_by-append}
 use Rattle.heap_model.specs.declared.command.Command.{Command}
 use Rattle.heap_text.specs.declared.form.Word.{Word}
 use Rattle.heap_text.specs.declared.fault.ScriptFault.{ScriptFault}
-use Rattle.heap_text.specs.declared.fault.ScriptFault.TheVariants.{Range, Order, Syntax, TooMany}
+use Rattle.heap_text.specs.declared.fault.ScriptFault.TheVariants.{Range, Order, Syntax}
 use Rattle.heap_text.specs.Forms.{form, parts as taken_apart, is_writable}
 use Rattle.heap_text.specs.Spelling.{command_text, heading_text, section_lines, lines_from, script_lines, IsWritten}
 use Rattle.heap_text.specs.Faults.{heading, command, shape, is_heading, is_command, headings, commands, first_outside, fault_of_shape, line_fault, fault_from, or_else}
 use Rattle.heap_text.proofs.DecimalLemmas.{both}
 use Rattle.heap_text.proofs.ScriptLemmas.{total-cons}
+use Rattle.heap_text.proofs.LineLemmas.{ranges_alone}
 use Rattle.heap_text.proofs.ShapeLemmas.{written, shape-command, shape-heading}
 
 -- how a further line counts
@@ -83,16 +84,11 @@ no_heading_fault domains line h c small =
     let next : int_eq (pos h) (pos h) ≡ true = grind (arith, nat_tests) in
     ap (λ b. cond b (cond (int_eq (pos h) (pos h)) None (Some (Order line))) (Some (Range line 1))) inside ∙ ap (λ b. cond b None (Some (Order line))) next
 
-chosen : (a b : Bool) (x y z : Option ScriptFault) → a ≡ false → b ≡ false → cond a x (cond b y z) ≡ z
-chosen true b x y z e f = cc
-chosen false true x y z e f = cc
-chosen false false x y z e f = refl
-
 -- a command of the grammar in its place has no fault
 no_command_fault : (domains line h c : ℕ) (w : Word) (zs : List ℤ) → 0 < h → c < 200000 → first_outside 1 (form w).operands zs ≡ None → fault_of_shape domains line h c (command w zs) ≡ None
 no_command_fault domains line h c w zs some room inside =
-    chosen (h == 0) (nat_le 200000 c) (Some (Order line)) (Some (TooMany line)) (option_map (Range line) (first_outside 1 (form w).operands zs)) (grind (arith, nat_tests)) (grind (arith, nat_tests))
-    ∙ ap (option_map (Range line)) inside
+    let begun : h ≢ 0 = omega arith in
+    ranges_alone domains line h c w zs begun room ∙ ap (option_map (Range line)) inside
 
 before_same : (before after : List (List ℕ)) (h c d : ℕ) → Before before h c → before ≡ after → c ≡ d → Before after h d
 before_same before after h c d b e n = record {

@@ -10,9 +10,10 @@ use Rattle.heap_text.specs.declared.form.Operand.{Operand}
 use Rattle.heap_text.specs.declared.form.Operand.TheVariants.{Register, Tag, FieldCount, KeyCount, Index, FinaliserNumber, Integer}
 use Rattle.heap_text.specs.declared.form.Word.{Word}
 use Rattle.heap_text.specs.declared.form.Word.TheVariants as word
-use Rattle.heap_text.specs.Forms.{form, fits, byte, short, wide, word_of, built_words, is_built, made, parts, all_fit}
+use Rattle.heap_text.specs.Forms.{form, fits, least, greatest, byte, short, wide, word_of, built_words, is_built, made, parts, all_fit}
 use Rattle.heap_text.specs.Faults.{first_outside}
 use Rattle.heap_text.proofs.DecimalLemmas.{is_free, both}
+use Rattle.heap_text.proofs.RangeLemmas.{least_wide, greatest_wide, passed}
 use Rattle.heap_text.proofs.TextLemmas.{are_small}
 
 -- neither a space nor a line feed stands in a word, and none is `domain`
@@ -133,10 +134,6 @@ pub few_operands : (w : Word) → length (form w).operands ≤ 3
 few_operands word.Int = lit≤ tt
 few_operands _ = lit≤ tt
 
-passed : (b : Bool) (o : Option ℕ) (which : ℕ) → cond b o (Some which) ≡ None → (b ≡ true) × (o ≡ None)
-passed true o which e = (refl, e)
-passed false o which e = cc
-
 -- numbers in their ranges stay as they are
 pub all_held_same : (kinds : List Operand) (zs : List ℤ) → length kinds ≤ 3 → length zs ≡ length kinds → first_outside 1 kinds zs ≡ None → all_held kinds zs ≡ zs
 all_held_same [] [] few n e = refl
@@ -177,13 +174,7 @@ small_between low high (pos n) l h e = grind (arith, ints, nat_tests)
 small_between low high (negsuc n) l h e = grind (arith, ints, nat_tests)
 
 small_if_fits : (kind : Operand) (z : ℤ) → fits kind z ≡ true → nat_lt (unsigned_abs z) (2 ^ 63) ≡ true
-small_if_fits Register z e = small_between (pos 0) (pos 15) z refl refl e
-small_if_fits Tag z e = small_between (pos 0) (pos 245) z refl refl e
-small_if_fits FieldCount z e = small_between (pos 1) (pos 126) z refl refl e
-small_if_fits KeyCount z e = small_between (pos 1) (pos 8) z refl refl e
-small_if_fits Index z e = small_between (pos 0) (pos 1023) z refl refl e
-small_if_fits FinaliserNumber z e = small_between (pos 0) (pos 65535) z refl refl e
-small_if_fits Integer z e = small_between (negsuc 4611686018427387903) (pos 4611686018427387903) z refl refl e
+small_if_fits kind z e = small_between (least kind) (greatest kind) z (least_wide kind) (greatest_wide kind) e
 
 pub small_if_inside : (which : ℕ) (kinds : List Operand) (zs : List ℤ) → length zs ≡ length kinds → first_outside which kinds zs ≡ None → are_small zs ≡ true
 small_if_inside which kinds [] n e = refl

@@ -1,19 +1,18 @@
 -- What the numbers that were read of a line say of it.
-use Rattle.std.proofs.Common.{◌≡◌, ◌≢◌, ℕ, ◌<◌, ◌^◌, zero, suc, min, ℤ, pos, negsuc, neg_ℤ, List, [], ◌∷◌, ◌++◌, map, length, Bool, true, false, cond, refl, ap, sym, ◌∙◌, subst, arith, None, Some}
-use Rattle.std.specs.Prelude.{Option, option_map, ◌==◌, nat_le, nat_lt, slice_get, unsigned_abs, sum_by}
-use Rattle.std.specs.Ordering.{int_eq}
+use Rattle.std.proofs.Common.{◌≡◌, ◌≢◌, ℕ, ◌<◌, ℤ, List, [], ◌∷◌, map, length, Bool, true, false, cond, refl, ap, sym, ◌∙◌, subst, arith, None, Some}
+use Rattle.std.specs.Prelude.{Option, option_map, ◌==◌, nat_le, slice_get, sum_by}
 use Rattle.std.proofs.lemmas.Bool.Decides.{nat_tests}
 use Rattle.std.proofs.lemmas.List.{length-map}
 use Rattle.heap_model.specs.declared.command.Command.{Command}
 use Rattle.heap_text.specs.declared.form.Operand.{Operand}
 use Rattle.heap_text.specs.declared.form.Word.{Word}
 use Rattle.heap_text.specs.declared.fault.ScriptFault.{ScriptFault}
-use Rattle.heap_text.specs.declared.fault.ScriptFault.TheVariants.{Range, Order}
+use Rattle.heap_text.specs.declared.fault.ScriptFault.TheVariants.{Range}
 use Rattle.heap_text.specs.Number.{clipped, counted_numbers}
 use Rattle.heap_text.specs.Forms.{form, made}
 use Rattle.heap_text.specs.Script.{with_command}
-use Rattle.heap_text.specs.Faults.{Shape, heading, command, heading_shape, command_shape, first_outside, is_section, fault_of_shape}
-use Rattle.heap_text.specs.Steps.{IsHeadingNumber, OpensSection, AddsCommand}
+use Rattle.heap_text.specs.Faults.{command, heading_shape, command_shape, first_outside, fault_of_shape}
+use Rattle.heap_text.specs.Steps.{IsHeadingNumber, AddsCommand}
 use Rattle.heap_text.proofs.RangeLemmas.{first_outside-clipped, map-clipped_kept}
 
 -- the first of the numbers of a heading
@@ -34,7 +33,7 @@ chosen false true x y z e f = cc
 chosen false false x y z e f = refl
 
 -- a command with no fault but its ranges
-ranges_alone : (domains line headings commands : ℕ) (w : Word) (zs : List ℤ) → headings ≢ 0 → commands < 200000 → fault_of_shape domains line headings commands (command w zs) ≡ option_map (Range line) (first_outside 1 (form w).operands zs)
+pub ranges_alone : (domains line headings commands : ℕ) (w : Word) (zs : List ℤ) → headings ≢ 0 → commands < 200000 → fault_of_shape domains line headings commands (command w zs) ≡ option_map (Range line) (first_outside 1 (form w).operands zs)
 ranges_alone domains line headings commands w zs some room =
     chosen (headings == 0) (nat_le 200000 commands) _ _ _ (grind (arith, nat_tests)) (grind (arith, nat_tests))
 
@@ -79,55 +78,3 @@ pub command_read : (w : Word) (ts : List (List ℕ)) (kinds : List Operand) (ns 
 command_read w ts kinds ns old new k e n some room outside pushed =
     command_found w (counted_numbers (length (form w).operands) ts) ns old new (e ∙ ap (λ x. option_map (map clipped) (counted_numbers (length x) ts)) k)
     (n ∙ ap length k) some room (outside ∙ ap (λ x. first_outside 1 x ns) k) pushed
-
--- a number that is negative is no section's
-negative : (domains k : ℕ) → 0 < k → is_section domains (neg_ℤ (pos k)) ≡ false
-negative domains zero h = absurd (omega arith)
-negative domains (suc k) h = refl
-
-section_clipped : (domains : ℕ) (z : ℤ) → domains < 2 ^ 32 → is_section domains (clipped z) ≡ is_section domains z
-section_clipped domains (pos n) h = grind (arith, nat_tests)
-section_clipped domains (negsuc n) h = negative domains (min (suc n) 9223372036854775807) (omega arith)
-
-heading_if : (b : Bool) (domains line headings commands : ℕ) (z : ℤ) → is_section domains z ≡ b
-    → fault_of_shape domains line headings commands (heading z) ≡ cond b (cond (int_eq z (pos headings)) None (Some (Order line))) (Some (Range line 1))
-heading_if b domains line headings commands z e = ap (λ a. cond a (cond (int_eq z (pos headings)) None (Some (Order line))) (Some (Range line 1))) e
-
-pub heading_outside : (domains line headings commands : ℕ) (shape : Shape) (n : ℤ) → IsHeadingNumber shape (Some n) → domains < 2 ^ 32 → false ≡ is_section domains n → fault_of_shape domains line headings commands shape ≡ Some (Range line 1)
-heading_outside domains line headings commands shape n is small outside =
-    ap (fault_of_shape domains line headings commands) is.1
-    ∙ heading_if false domains line headings commands is.0 (sym (section_clipped domains is.0 small) ∙ ap (is_section domains) (sym is.2) ∙ sym outside)
-
--- the number of a section is its magnitude
-section_number : (domains : ℕ) (z n : ℤ) → domains < 2 ^ 32 → n ≡ clipped z → true ≡ is_section domains n → (z ≡ pos (unsigned_abs n)) × (unsigned_abs n < domains)
-section_number domains (pos m) n small e inside =
-    let within : true ≡ nat_lt (min m 9223372036854775807) domains = inside ∙ ap (is_section domains) e in
-    let below : min m 9223372036854775807 < domains = grind (arith, nat_tests) in
-    let same : m ≡ min m 9223372036854775807 = omega arith in
-    let value : unsigned_abs n ≡ min m 9223372036854775807 = ap unsigned_abs e in
-    (ap pos (same ∙ sym value), omega arith)
-section_number domains (negsuc m) n small e inside =
-    let outside = negative domains (min (suc m) 9223372036854775807) (omega arith) in
-    let within = inside ∙ ap (is_section domains) e in
-    cc
-
-not_equal : (m h : ℕ) → m ≢ h → int_eq (pos m) (pos h) ≡ false
-not_equal m h ne = grind (arith, nat_tests)
-
-pub heading_out_of_order : (domains line headings commands : ℕ) (shape : Shape) (n : ℤ) → IsHeadingNumber shape (Some n) → domains < 2 ^ 32 → true ≡ is_section domains n → unsigned_abs n ≢ headings
-    → fault_of_shape domains line headings commands shape ≡ Some (Order line)
-heading_out_of_order domains line headings commands shape n is small inside other =
-    let section = section_number domains is.0 n small is.2 inside in
-    ap (fault_of_shape domains line headings commands) is.1
-    ∙ heading_if true domains line headings commands is.0 (sym (section_clipped domains is.0 small) ∙ ap (is_section domains) (sym is.2) ∙ sym inside)
-    ∙ ap (λ z. cond (int_eq z (pos headings)) None (Some (Order line))) section.0
-    ∙ ap (λ b. cond b None (Some (Order line))) (not_equal (unsigned_abs n) headings other)
-
-pub heading_next : (domains : ℕ) (shape : Shape) (n : ℤ) (old new : List (List Command)) → IsHeadingNumber shape (Some n) → domains < 2 ^ 32 → true ≡ is_section domains n → unsigned_abs n ≡ length old → new ≡ old ++ [] ∷ []
-    → OpensSection domains shape old new
-heading_next domains shape n old new is small inside next opened =
-    let section = section_number domains is.0 n small is.2 inside in record {
-      is_next = is.1 ∙ ap heading (section.0 ∙ ap pos next);
-      in_range = omega (arith, section.1, next);
-      sections = opened;
-    }

@@ -4,9 +4,9 @@ use Rattle.std.specs.Prelude.{Option, ◌&&◌, int_le}
 use Rattle.std.proofs.lemmas.Bool.Decides.{nat_tests}
 use Rattle.std.proofs.lemmas.Int.{ints}
 use Rattle.heap_text.specs.declared.form.Operand.{Operand}
-use Rattle.heap_text.specs.declared.form.Operand.TheVariants.{Register, Tag, FieldCount, KeyCount, Index, FinaliserNumber, Integer}
+use Rattle.heap_text.specs.declared.form.Operand.TheVariants.{Integer}
 use Rattle.heap_text.specs.Number.{clipped}
-use Rattle.heap_text.specs.Forms.{fits}
+use Rattle.heap_text.specs.Forms.{fits, least, greatest}
 use Rattle.heap_text.specs.Faults.{first_outside}
 
 abbrev is_between : ℤ → ℤ → ℤ → Bool
@@ -17,14 +17,17 @@ clipped_between : (low high z : ℤ) → int_le (negsuc 9223372036854775800) low
 clipped_between low high (pos n) l h = grind (arith, ints, nat_tests)
 clipped_between low high (negsuc n) l h = grind (arith, ints, nat_tests)
 
+-- all ranges lie well within 64 bits
+pub least_wide : (kind : Operand) → int_le (negsuc 9223372036854775800) (least kind) ≡ true
+least_wide Integer = refl
+least_wide _ = refl
+
+pub greatest_wide : (kind : Operand) → int_le (greatest kind) (pos 9223372036854775800) ≡ true
+greatest_wide Integer = refl
+greatest_wide _ = refl
+
 pub fits-clipped : (kind : Operand) (z : ℤ) → fits kind (clipped z) ≡ fits kind z
-fits-clipped Register z = clipped_between (pos 0) (pos 15) z refl refl
-fits-clipped Tag z = clipped_between (pos 0) (pos 245) z refl refl
-fits-clipped FieldCount z = clipped_between (pos 1) (pos 126) z refl refl
-fits-clipped KeyCount z = clipped_between (pos 1) (pos 8) z refl refl
-fits-clipped Index z = clipped_between (pos 0) (pos 1023) z refl refl
-fits-clipped FinaliserNumber z = clipped_between (pos 0) (pos 65535) z refl refl
-fits-clipped Integer z = clipped_between (negsuc 4611686018427387903) (pos 4611686018427387903) z refl refl
+fits-clipped kind z = clipped_between (least kind) (greatest kind) z (least_wide kind) (greatest_wide kind)
 
 pub first_outside-clipped : (which : ℕ) (kinds : List Operand) (zs : List ℤ) → first_outside which kinds (map clipped zs) ≡ first_outside which kinds zs
 first_outside-clipped which [] zs = refl
@@ -39,16 +42,10 @@ between_kept low high (pos n) l h e = grind (arith, ints, nat_tests)
 between_kept low high (negsuc n) l h e = grind (arith, ints, nat_tests)
 
 pub clipped_kept : (kind : Operand) (z : ℤ) → fits kind z ≡ true → clipped z ≡ z
-clipped_kept Register z e = between_kept (pos 0) (pos 15) z refl refl e
-clipped_kept Tag z e = between_kept (pos 0) (pos 245) z refl refl e
-clipped_kept FieldCount z e = between_kept (pos 1) (pos 126) z refl refl e
-clipped_kept KeyCount z e = between_kept (pos 1) (pos 8) z refl refl e
-clipped_kept Index z e = between_kept (pos 0) (pos 1023) z refl refl e
-clipped_kept FinaliserNumber z e = between_kept (pos 0) (pos 65535) z refl refl e
-clipped_kept Integer z e = between_kept (negsuc 4611686018427387903) (pos 4611686018427387903) z refl refl e
+clipped_kept kind z e = between_kept (least kind) (greatest kind) z (least_wide kind) (greatest_wide kind) e
 
 -- a test that let the walk go on
-passed : (b : Bool) (o : Option ℕ) (which : ℕ) → cond b o (Some which) ≡ None → (b ≡ true) × (o ≡ None)
+pub passed : (b : Bool) (o : Option ℕ) (which : ℕ) → cond b o (Some which) ≡ None → (b ≡ true) × (o ≡ None)
 passed true o which e = (refl, e)
 passed false o which e = cc
 

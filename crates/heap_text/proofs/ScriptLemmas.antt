@@ -1,5 +1,5 @@
 -- A command at the end of the last section.
-use Rattle.std.proofs.Common.{◌≡◌, ℕ, ◌+◌, ◌<◌, zero, suc, List, [], ◌∷◌, ◌++◌, map, length, get_or, set, refl, ap, sym, ◌∙◌, arith, sum_by, fold, length-append, replicate, append_assoc}
+use Rattle.std.proofs.Common.{◌≡◌, ℕ, ◌+◌, ◌<◌, zero, suc, List, [], ◌∷◌, ◌++◌, map, length, get_or, set, ap, arith, sum_by, fold, length-append}
 use Rattle.heap_model.specs.declared.command.Command.{Command}
 use Rattle.heap_text.specs.Script.{with_command}
 
@@ -30,11 +30,3 @@ total-with_command [] c h = absurd (omega arith)
 total-with_command (cs ∷ []) c h = omega (arith, length-append cs (c ∷ []))
 total-with_command (cs ∷ next ∷ sections) c h =
     omega (arith, total-cons cs (with_command (next ∷ sections) c), total-cons cs (next ∷ sections), total-with_command (next ∷ sections) c (omega arith))
-
--- one more empty section
-more_empty : (cs : List Command) (k : ℕ) → replicate k cs ++ cs ∷ [] ≡ replicate (suc k) cs
-more_empty cs zero = refl
-more_empty cs (suc k) = ap (λ ss. cs ∷ ss) (more_empty cs k)
-
-pub filled_more : (sections : List (List Command)) (n k : ℕ) → n ≡ suc k → (sections ++ replicate k []) ++ [] ∷ [] ≡ sections ++ replicate n []
-filled_more sections n k e = append_assoc sections (replicate k []) ([] ∷ []) ∙ ap (λ ss. sections ++ ss) (more_empty [] k) ∙ ap (λ m. sections ++ replicate m []) (sym e)

@@ -72,7 +72,7 @@ form word.Minor = row (codes "minor") [] (λ _ _ _. Minor)
 form word.Major = row (codes "major") [] (λ _ _ _. Major)
 form word.FullMajor = row (codes "full_major") [] (λ _ _ _. FullMajor)
 
--- the words of the grammar: the commands that are built
+-- the words of the grammar: the commands that are built. One more here and in the code's own list makes its row a command of the grammar
 abbrev pub built_words : List Word
 built_words = word.Int ∷ word.Alloc ∷ word.Load ∷ word.Store ∷ []
 

@@ -1,5 +1,5 @@
 // Reading one line of a section.
-ghost use Rattle.std.specs.Prelude.{◌≡◌, ◌≤◌, ◌<◌, length, sum_by, option_map, Some, IfErr, OnOk};
+ghost use Rattle.std.specs.Prelude.{◌≡◌, ℕ, ◌≤◌, ◌<◌, length, sum_by, option_map, Some, IfErr, OnOk};
 ghost use Rattle.heap_text.specs.Number.{counted_numbers};
 ghost use Rattle.heap_text.specs.Forms.{form};
 ghost use Rattle.heap_text.specs.Cut.{texts_behind};
@@ -79,7 +79,6 @@ fn take_heading(
 
 // Takes a command: what stands behind the word of its row.
 fn take_command(
-    domains: u32,
     line: u32,
     script: &mut Script,
     word: Word,
@@ -87,8 +86,8 @@ fn take_command(
 ) -> Result<(), ScriptFault>
     ensures ok { OnOk result (AddsCommand (command_shape word (counted_numbers (length (form word).operands)
         (texts_behind (option_map (λ r. r.now) rest.entry)))) script.old script.new) }
-    ensures fault { IfErr result (λ e. IsFaultUnlessMemory e (fault_of_shape domains line (length script.old)
-        (sum_by length script.old) (command_shape word (counted_numbers (length (form word).operands)
+    ensures fault { (domains : ℕ) → IfErr result (λ e. IsFaultUnlessMemory e (fault_of_shape domains line
+        (length script.old) (sum_by length script.old) (command_shape word (counted_numbers (length (form word).operands)
         (texts_behind (option_map (λ r. r.now) rest.entry)))))) }
 {
     let operands = operands_of(word);
@@ -127,7 +126,7 @@ pub(crate) fn take_line(
         take_heading(alloc, domains, line, script, rest)
     } else {
         match find_word(word) {
-            Some(word) => take_command(domains, line, script, word, rest),
+            Some(word) => take_command(line, script, word, rest),
             None => Err(ScriptFault::Syntax { line }),
         }
     }

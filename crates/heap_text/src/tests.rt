@@ -6,6 +6,22 @@ use heap_model::reply::Reply;
 use std::alloc::{AllocError, Global};
 use std::test::Fail;
 
+fn syntax(line: u32) -> ScriptFault {
+    ScriptFault::Syntax { line }
+}
+
+fn order(line: u32) -> ScriptFault {
+    ScriptFault::Order { line }
+}
+
+fn range(line: u32, which: u32) -> ScriptFault {
+    ScriptFault::Range { line, which }
+}
+
+fn too_many(line: u32) -> ScriptFault {
+    ScriptFault::TooMany { line }
+}
+
 // What the first sections of a script print as.
 fn printed(alloc: Global, script: &Script, written: usize) -> Result<Vec<u8>, AllocError> {
     let mut bytes = Vec::from_slice(alloc, b"heap 1\n")?;
@@ -86,133 +102,53 @@ fn commands_are_read(rt: HostRuntime) -> Result<(), Fail> {
 #[test]
 fn first_faults(rt: HostRuntime) -> Result<(), Fail> {
     let faults: [(u32, &[u8], ScriptFault); 31] = [
-        (1, b"", ScriptFault::Syntax { line: 1 }),
-        (1, b"heap 1", ScriptFault::Syntax { line: 1 }),
-        (1, b"heap 2\n", ScriptFault::Syntax { line: 1 }),
-        (1, b"heap 1 \n", ScriptFault::Syntax { line: 1 }),
-        (1, b"heap 1\n\n", ScriptFault::Syntax { line: 2 }),
-        (
-            1,
-            b"heap 1\ndomain 0\nint 1 5",
-            ScriptFault::Syntax { line: 3 },
-        ),
-        (
-            1,
-            b"heap 1\ndomain 0\nint 1 07\n",
-            ScriptFault::Syntax { line: 3 },
-        ),
-        (
-            1,
-            b"heap 1\ndomain 0\nint 1 -0\n",
-            ScriptFault::Syntax { line: 3 },
-        ),
-        (
-            1,
-            b"heap 1\ndomain 0\nint 1 +5\n",
-            ScriptFault::Syntax { line: 3 },
-        ),
-        (
-            1,
-            b"heap 1\ndomain 0\nint 1 -\n",
-            ScriptFault::Syntax { line: 3 },
-        ),
-        (
-            1,
-            b"heap 1\ndomain 0\nint 1\n",
-            ScriptFault::Syntax { line: 3 },
-        ),
-        (
-            1,
-            b"heap 1\ndomain 0\nint 1 5 6\n",
-            ScriptFault::Syntax { line: 3 },
-        ),
-        (
-            1,
-            b"heap 1\ndomain 0\nint  1 5\n",
-            ScriptFault::Syntax { line: 3 },
-        ),
-        (
-            1,
-            b"heap 1\ndomain 0\nint 1 5 \n",
-            ScriptFault::Syntax { line: 3 },
-        ),
-        (
-            1,
-            b"heap 1\ndomain 0\n int 1 5\n",
-            ScriptFault::Syntax { line: 3 },
-        ),
-        (
-            1,
-            b"heap 1\ndomain 0\nint 1\t5\n",
-            ScriptFault::Syntax { line: 3 },
-        ),
-        (
-            1,
-            b"heap 1\ndomain 0\nint 1 5\r\n",
-            ScriptFault::Syntax { line: 3 },
-        ),
-        (
-            1,
-            b"heap 1\ndomain 0\nallok 1 0 1\n",
-            ScriptFault::Syntax { line: 3 },
-        ),
-        (
-            1,
-            b"heap 1\ndomain 0\nint 99 99\nint\n",
-            ScriptFault::Range { line: 3, which: 1 },
-        ),
+        (1, b"", syntax(1)),
+        (1, b"heap 1", syntax(1)),
+        (1, b"heap 2\n", syntax(1)),
+        (1, b"heap 1 \n", syntax(1)),
+        (1, b"heap 1\n\n", syntax(2)),
+        (1, b"heap 1\ndomain 0\nint 1 5", syntax(3)),
+        (1, b"heap 1\ndomain 0\nint 1 07\n", syntax(3)),
+        (1, b"heap 1\ndomain 0\nint 1 -0\n", syntax(3)),
+        (1, b"heap 1\ndomain 0\nint 1 +5\n", syntax(3)),
+        (1, b"heap 1\ndomain 0\nint 1 -\n", syntax(3)),
+        (1, b"heap 1\ndomain 0\nint 1\n", syntax(3)),
+        (1, b"heap 1\ndomain 0\nint 1 5 6\n", syntax(3)),
+        (1, b"heap 1\ndomain 0\nint  1 5\n", syntax(3)),
+        (1, b"heap 1\ndomain 0\nint 1 5 \n", syntax(3)),
+        (1, b"heap 1\ndomain 0\n int 1 5\n", syntax(3)),
+        (1, b"heap 1\ndomain 0\nint 1\t5\n", syntax(3)),
+        (1, b"heap 1\ndomain 0\nint 1 5\r\n", syntax(3)),
+        (1, b"heap 1\ndomain 0\nallok 1 0 1\n", syntax(3)),
+        (1, b"heap 1\ndomain 0\nint 99 99\nint\n", range(3, 1)),
         (
             1,
             b"heap 1\ndomain 0\nint 1 4611686018427387904\n",
-            ScriptFault::Range { line: 3, which: 2 },
+            range(3, 2),
         ),
         (
             1,
             b"heap 1\ndomain 0\nint 1 -4611686018427387905\n",
-            ScriptFault::Range { line: 3, which: 2 },
+            range(3, 2),
         ),
         (
             1,
             b"heap 1\ndomain 0\nint 1 18446744073709551616\n",
-            ScriptFault::Range { line: 3, which: 2 },
+            range(3, 2),
         ),
-        (
-            1,
-            b"heap 1\ndomain 0\nalloc 1 0 127\n",
-            ScriptFault::Range { line: 3, which: 3 },
-        ),
-        (
-            1,
-            b"heap 1\ndomain 0\nalloc 1 246 1\n",
-            ScriptFault::Range { line: 3, which: 2 },
-        ),
-        (
-            1,
-            b"heap 1\ndomain 0\nload 1 16 2000\n",
-            ScriptFault::Range { line: 3, which: 2 },
-        ),
+        (1, b"heap 1\ndomain 0\nalloc 1 0 127\n", range(3, 3)),
+        (1, b"heap 1\ndomain 0\nalloc 1 246 1\n", range(3, 2)),
+        (1, b"heap 1\ndomain 0\nload 1 16 2000\n", range(3, 2)),
         (
             1,
             b"heap 1\ndomain 0\nint 16 99999999999999999999\n",
-            ScriptFault::Range { line: 3, which: 1 },
+            range(3, 1),
         ),
-        (2, b"heap 1\ndomain 1\n", ScriptFault::Order { line: 2 }),
-        (2, b"heap 1\nint 1 5\n", ScriptFault::Order { line: 2 }),
-        (
-            2,
-            b"heap 1\ndomain 2\n",
-            ScriptFault::Range { line: 2, which: 1 },
-        ),
-        (
-            1,
-            b"heap 1\ndomain 0\ndomain 0\n",
-            ScriptFault::Order { line: 3 },
-        ),
-        (
-            1,
-            b"heap 1\ndomain -1\n",
-            ScriptFault::Range { line: 2, which: 1 },
-        ),
+        (2, b"heap 1\ndomain 1\n", order(2)),
+        (2, b"heap 1\nint 1 5\n", order(2)),
+        (2, b"heap 1\ndomain 2\n", range(2, 1)),
+        (1, b"heap 1\ndomain 0\ndomain 0\n", order(3)),
+        (1, b"heap 1\ndomain -1\n", range(2, 1)),
     ];
     for (domains, bytes, fault) in faults {
         let read = read_script(rt.alloc(), domains, bytes);
@@ -224,13 +160,10 @@ fn first_faults(rt: HostRuntime) -> Result<(), Fail> {
 #[test]
 fn too_many_commands(rt: HostRuntime) -> Result<(), Fail> {
     let faults: [(&[u8], ScriptFault); 4] = [
-        (b"int 1 5\n", ScriptFault::TooMany { line: 200_003 }),
-        (
-            b"domain 1\nint 1 5\n",
-            ScriptFault::TooMany { line: 200_004 },
-        ),
-        (b"int 16 1\n", ScriptFault::TooMany { line: 200_003 }),
-        (b"int 16\n", ScriptFault::Syntax { line: 200_003 }),
+        (b"int 1 5\n", too_many(200_003)),
+        (b"domain 1\nint 1 5\n", too_many(200_004)),
+        (b"int 16 1\n", too_many(200_003)),
+        (b"int 16\n", syntax(200_003)),
     ];
     for (last, fault) in faults {
         let bytes = many_lines(rt.alloc(), 200_000, last)?;
@@ -252,7 +185,7 @@ fn line_feeds(alloc: Global, count: usize) -> Result<Vec<u8>, AllocError> {
 fn too_many_bytes(rt: HostRuntime) -> Result<(), Fail> {
     for (count, fault) in [
         (16_777_217, ScriptFault::TooLong { bytes: 16_777_217 }),
-        (16_777_216, ScriptFault::Syntax { line: 1 }),
+        (16_777_216, syntax(1)),
     ] {
         let bytes = line_feeds(rt.alloc(), count)?;
         let read = read_script(rt.alloc(), 1, bytes.as_slice());

@@ -6,8 +6,8 @@ use Rattle.heap_text.proofs.LineLemmas.{range_read, command_read}
 use Rattle.heap_text.proofs.line.take_command.Goals as goal
 
 pub returns-in-Some-first_outside-clause-fault : goal.returns-in-Some-first_outside-clause-fault
-returns-in-Some-first_outside-clause-fault c =
-    range_read _ _ _ _ c.args.word _ c.operands_of-operands.result.now c.in-Some.numbers.items _ c.operands_of-operands.ensures c.in-Some.ensures.value (search rules) (search rules)
+returns-in-Some-first_outside-clause-fault c = λ domains.
+    range_read domains _ _ _ c.args.word _ c.operands_of-operands.result.now c.in-Some.numbers.items _ c.operands_of-operands.ensures c.in-Some.ensures.value (search rules) (search rules)
     (c.in-Some-first_outside.ensures ∙ ap (first_outside 1 c.operands_of-operands.result.now) c.as_slice.ensures.value)
 
 pub returns-in-Ok-clause-ok : goal.returns-in-Ok-clause-ok
