@@ -1,5 +1,4 @@
 pub mod RunningLemmas
 pub mod RunLemmas
-pub mod WritableLemmas
 pub mod WritingLemmas
 pub mod ReadingLemmas

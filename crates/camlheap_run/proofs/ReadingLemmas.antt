@@ -1,16 +1,13 @@
 -- What the bytes that were read say of those that the source tells.
-use Rattle.std.proofs.Common.{◌≡◌, ◌≢◌, ℕ, ◌≤◌, List, ◌++◌, length, take, inl, inr, arith, refl, sym, ap, ◌∙◌, subst, append-nil, length-append, None, Some, Err, Ok}
+use Rattle.std.proofs.Common.{◌≡◌, ℕ, ◌≤◌, List, ◌++◌, length, take, inl, inr, sym, ap, ◌∙◌, append-nil, None, Some}
 use Rattle.std.specs.Prelude.{◌⊎◌}
 use Rattle.std.specs.declared.option.Option.{Option}
 use Rattle.std.proofs.Math.Seq.{take-append_seam}
 use Rattle.std.proofs.lemmas.List.{take_all}
 use Rattle.std.specs.Io.KnownBytes.{IsAtEnd}
-use Rattle.heap_model.specs.declared.command.Command.{Command}
 use Rattle.heap_text.specs.declared.fault.ScriptFault.{ScriptFault}
-use Rattle.heap_text.specs.declared.fault.ScriptFault.TheVariants.{Memory, Syntax, Order, Range, TooLong, TooMany}
-use Rattle.heap_text.specs.Spelling.{Spells, IsUnlessMemory}
-use Rattle.heap_text.specs.Faults.{first_fault, IsFaultUnlessMemory}
-use Rattle.camlheap_run.specs.Reading.{AreRead, most_read, TellsScript, TellsFault}
+use Rattle.heap_text.specs.Faults.{first_fault}
+use Rattle.camlheap_run.specs.Reading.{AreRead, most_read, TellsFault}
 
 -- the first bytes of the source are those that were read
 front_is_read : (all bytes rest : List ℕ) → all ≡ bytes ++ rest → length bytes ≤ most_read → IsAtEnd (Some rest) ⊎ (length bytes ≡ most_read) → take most_read all ≡ bytes

@@ -10,7 +10,7 @@ use Rattle.heap_model.specs.declared.reply.Applied.TheVariants.{Replied}
 use Rattle.heap_model.specs.declared.state.Sizes.{Sizes}
 use Rattle.heap_model.specs.declared.state.State.{State}
 use Rattle.heap_model.specs.Domains.{opening}
-use Rattle.heap_model.specs.Entries.{Allowed, next, reply, IsTriedCommand}
+use Rattle.heap_model.specs.Entries.{Allowed, next, reply}
 use Rattle.heap_model.specs.History.{state_after, LegalFrom, commands, replies, reply_list}
 use Rattle.heap_model.proofs.HistoryLemmas.{legal_push, state_after-push, commands-push, replies-push}
 use Rattle.camlheap_run.specs.Run.{is_end_of, is_answered_full}
@@ -29,14 +29,14 @@ same_number d = search rules
 
 -- one more command
 pub has_run_more : (z : Sizes) (d : ℕ) (cs : List declared_command.Command) (s t : State) (rs : List Reply) (c : declared_command.Command) (r : Reply)
-    → HasRun z d cs s rs → IsTriedCommand s d c → Allowed s (entry_of d c) → t ≡ next s (entry_of d c) → reply s (entry_of d c) ≡ Replied r
+    → HasRun z d cs s rs → Allowed s (entry_of d c) → t ≡ next s (entry_of d c) → reply s (entry_of d c) ≡ Replied r
     → HasRun z d (cs ++ c ∷ []) t (rs ++ r ∷ [])
-has_run_more z d cs s t rs c r run tried allowed next_is reply_is =
+has_run_more z d cs s t rs c r run allowed next_is reply_is =
     let e : Entry = entry_of d c in
     let h : List Entry = entries_of d cs in
     let before : State = state_after (opening z) h in
     let longer : entries_of d (cs ++ c ∷ []) ≡ h ++ e ∷ [] = entries_of-push d cs c in
-    let runs_on : IsRunning (next s e) d (length cs + 1) = running_after_command s d (length cs) c tried run.running in
+    let runs_on : IsRunning (next s e) d (length cs + 1) = running_after_command s d (length cs) c run.running in
     let legal : LegalFrom (opening z) (h ++ e ∷ []) = legal_push (opening z) h e run.legal (subst (λ (x : State). Allowed x e) run.state allowed) in
     let state : t ≡ state_after (opening z) (h ++ e ∷ []) = next_is ∙ ap (λ (x : State). next x e) run.state ∙ sym (state_after-push (opening z) h e) in
     let own : reply_list (reply before e) ≡ r ∷ [] = ap (λ (x : State). reply_list (reply x e)) (sym run.state) ∙ ap reply_list reply_is in

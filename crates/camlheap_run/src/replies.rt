@@ -1,8 +1,8 @@
 //! Runs the commands of one domain on a heap, and keeps the replies.
-ghost use Rattle.std.specs.Prelude.{◌≡◌, ◌≤◌, ◌^◌, ◌-◌, length, IfOk, OnOk, IsTrue};
+ghost use Rattle.std.specs.Prelude.{◌≡◌, ◌≢◌, ◌≤◌, ◌^◌, ◌-◌, length, IfOk, OnOk, IsTrue};
 ghost use Rattle.std.specs.List.{list_all};
 ghost use Rattle.camlheap_run.specs.Words.{default_sizes};
-ghost use Rattle.heap_model.specs.Entries.{Allowed, next, reply, IsTriedCommand};
+ghost use Rattle.heap_model.specs.Entries.{Allowed, next, reply};
 ghost use Rattle.heap_text.specs.Forms.{is_writable};
 ghost use Rattle.camlheap_run.specs.Replies.{entry_of, IsRunning, AreReplies};
 
@@ -19,10 +19,11 @@ const MINOR_WORDS: u32 = 32_768;
 
 const CLASSES: u32 = 6;
 
-// Makes the entry of a command of domain 0, which is running, and answers its reply.
+// Makes the entry of a command of domain 0, which is running, and answers its reply. `full_major` would wait for a
+// collection, which this heap is never told to begin.
 fn reply_to(heap: &mut SlowHeap, command: Command) -> Result<Reply, AllocError>
     requires running { IsRunning heap.old 0 (2 ^ 32 - 2) }
-    requires tried { IsTriedCommand heap.old 0 command }
+    requires other { command ≢ Command.FullMajor }
     ensures allowed { OnOk result (Allowed heap.old (entry_of 0 command)) }
     ensures state { OnOk result (heap.new ≡ next heap.old (entry_of 0 command)) }
     ensures reply { IfOk result (λ r. reply heap.old (entry_of 0 command) ≡ Applied.Replied r) }

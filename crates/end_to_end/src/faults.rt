@@ -20,14 +20,19 @@ fn each_read_fails_in_turn(rt: HostRuntime) -> Result<(), Fail> {
     Ok(())
 }
 
+// In pieces of 4, and each line by itself.
 #[test]
 fn each_write_fails_in_turn(rt: HostRuntime) -> Result<(), Fail> {
-    for (failing, written) in [
-        (1u32, ""),
-        (2, "doma"),
-        (3, "domain 0"),
-        (4, "domain 0\n"),
-        (5, "domain 0\nblk "),
+    for (piece, failing, written) in [
+        (4usize, 1u32, ""),
+        (4, 2, "doma"),
+        (4, 3, "domain 0"),
+        (4, 4, "domain 0\n"),
+        (4, 5, "domain 0\nblk "),
+        (4096, 1, ""),
+        (4096, 2, "domain 0\n"),
+        (4096, 3, "domain 0\nblk 0:1\n"),
+        (4096, 5, "domain 0\nblk 0:1\nok\nok\n"),
     ] {
         let alloc = rt.alloc();
         let given = outcome_of(
@@ -35,14 +40,14 @@ fn each_write_fails_in_turn(rt: HostRuntime) -> Result<(), Fail> {
             alloc,
             "run --domains 1",
             source(alloc, PLAIN, 4096, &[])?,
-            sink(alloc, 4, &[failing])?,
+            sink(alloc, piece.max(1), &[failing])?,
         )?;
-        assert_eq!(rt; given.number, 4, "write {failing}");
+        assert_eq!(rt; given.number, 4, "write {failing} in pieces of {piece}");
         assert_eq!(rt; given.line.as_slice(), b"write fault\n".as_slice());
         assert_eq!(rt;
             given.written.as_slice(),
             written.as_bytes(),
-            "write {failing}"
+            "write {failing} in pieces of {piece}"
         );
     }
     Ok(())

@@ -20,8 +20,8 @@ pub(crate) struct Outcome {
     pub written: Vec<u8>,
 }
 
-// The words of a command line without quotes.
-fn words_of(alloc: Global, line: &str) -> Result<Vec<String>, AllocError> {
+/// The words of a command line without quotes.
+pub(crate) fn words_of(alloc: Global, line: &str) -> Result<Vec<String>, AllocError> {
     let mut words = Vec::new(alloc);
     for word in line.split_whitespace() {
         words.push(String::from_str(alloc, word)?)?;

@@ -1,9 +1,7 @@
-use Rattle.std.proofs.Common.{◌<◌, length, refl, pos, arith, length-take}
+use Rattle.std.proofs.Common.{◌<◌, length, refl, pos, arith}
 use Rattle.std.proofs.lemmas.List.{take_more, take_all}
 use Rattle.heap_model.specs.declared.command.Command.TheVariants.{PutInt}
 use Rattle.camlheap_run.specs.Words.{default_sizes}
-use Rattle.heap_text.specs.Forms.{is_writable}
-use Rattle.camlheap_run.proofs.WritableLemmas.{list_all-here, tried_of_writable}
 use Rattle.camlheap_run.proofs.RunLemmas.{has_run_more, replies_of_run}
 use Rattle.camlheap_run.proofs.replies.replies_to.Goals as goal
 
@@ -12,10 +10,8 @@ commands-preserved c =
     let cs = c.args.commands.now in
     let i = c.commands.command-index in
     let here : i < length cs = omega arith in
-    let writable = list_all-here is_writable cs i (PutInt 0 (pos 0)) here c.requires.writable in
-    let tried = tried_of_writable c.commands.heap 0 _ writable (omega (arith, c.commands.invariant.running.serial, c.requires.few, length-take i cs)) in
     rw (take_more cs i (PutInt 0 (pos 0)) here, c.in_ok-push.ensures.items)
-    (has_run_more (default_sizes 1) 0 _ _ _ _ _ _ c.commands.invariant tried c.in_ok-reply.ensures.allowed c.in_ok-reply.ensures.state c.in_ok-reply.ensures.reply)
+    (has_run_more (default_sizes 1) 0 _ _ _ _ _ _ c.commands.invariant c.in_ok-reply.ensures.allowed c.in_ok-reply.ensures.state c.in_ok-reply.ensures.reply)
 
 pub returns : goal.returns
 returns c =

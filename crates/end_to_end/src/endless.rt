@@ -1,0 +1,52 @@
+//! A source without an end.
+ghost use Rattle.std.specs.Prelude.{None};
+
+use crate::outcome::words_of;
+use camlheap_run::{Status, camlheap};
+use heap_text::ScriptFault;
+use outer_io::{Failed, MemSink, NoGate, Source};
+use std::test::Fail;
+
+// Fills each buffer with spaces, and keeps how much it gave and the largest and the last buffer.
+#[derive(Drop)]
+struct Endless {
+    given: u64,
+    largest: usize,
+    last: usize,
+}
+
+impl Source for Endless {
+    ghost left = { λ _. None };
+
+    ghost faults = { λ _. 0 };
+
+    fn read(&mut self, buf: &mut [u8]) -> Result<usize, Failed> {
+        buf.fill(b' ');
+        self.given = self.given.saturating_add(buf.len() as u64);
+        self.largest = self.largest.max(buf.len());
+        self.last = buf.len();
+        Ok(buf.len())
+    }
+}
+
+#[test]
+fn reading_stops_one_byte_past_the_limit(rt: HostRuntime) -> Result<(), Fail> {
+    let alloc = rt.alloc();
+    let words = words_of(alloc, "run --domains 1")?;
+    let mut source = Endless {
+        given: 0,
+        largest: 0,
+        last: 0,
+    };
+    let mut sink = MemSink::make(alloc, 64, 64, Vec::new(alloc))?;
+    let status = camlheap(&rt, alloc, &words, &mut source, &mut sink, &NoGate);
+    assert_eq!(rt;
+        status,
+        Status::Script(ScriptFault::TooLong { bytes: 16_777_217 })
+    );
+    assert_eq!(rt; source.given, 16_777_217);
+    assert_eq!(rt; source.largest, 4096);
+    assert_eq!(rt; source.last, 1);
+    assert_eq!(rt; sink.bytes().len(), 0);
+    Ok(())
+}
