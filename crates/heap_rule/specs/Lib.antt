@@ -13,3 +13,4 @@ pub mod Ticks
 pub mod Loads
 pub mod Stores
 pub mod Inits
+pub mod Running

@@ -38,9 +38,10 @@ impl Model for Heap {
 }
 
 impl Heap {
-    /// How large the heap is.
+    /// How large the heap is. Its numbers are within their limits.
     pub fn config(&self) -> Config
-        ensures { result ≡ self.now.config }
+        ensures value { result ≡ self.now.config }
+        ensures limits { IsWithinLimits (sizes_in self.now.config) }
     {
         self.config
     }

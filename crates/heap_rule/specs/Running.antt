@@ -1,0 +1,26 @@
+-- What the calls of running domains have in common.
+use Rattle.std.specs.Prelude.{◌≡◌, ℕ, false, []}
+use Rattle.heap_model.specs.declared.command.Command.{Command}
+use Rattle.heap_model.specs.declared.entry.Entry.TheVariants.{Command as CommandOf}
+use Rattle.heap_model.specs.declared.reply.Reply.{Reply}
+use Rattle.heap_model.specs.declared.reply.Applied.TheVariants.{Replied}
+use Rattle.heap_model.specs.Fronts.{Answers}
+use Rattle.heap_rule.specs.Limits.{sizes_in}
+use Rattle.heap_rule.specs.Standing.{Acts}
+use Rattle.heap_rule.specs.Token.{Token, SharedHeap, IsIn}
+
+-- the token is one of the heap's, its trace hasn't ended, and no block is being made
+pub record Runs (h : SharedHeap) (t : Token) : Type 0 where
+  pub here : IsIn t h
+  pub acts : Acts t.config t.view
+  pub idle : t.view.seen.made ≡ []
+
+-- a call that makes the entry of a command: the domain runs on, its front has grown by entries of others and then by this one, and the reply is the definition's
+pub record Did (h : SharedHeap) (old new : Token) (c : Command) (r : Reply) : Type 0 where
+  pub runs : Runs h new
+  pub answers : Answers (sizes_in old.config) old.view.own.number old.view.seen.front new.view.seen.front (CommandOf old.view.own.number c false) (Replied r)
+  pub heap : (new.table ≡ old.table) × (new.config ≡ old.config)
+
+-- besides its registers the token is as before
+pub record ChangesRegisters (old new : Token) : Type 0 where
+  pub own : new.view.own ≡ record old.view.own { registers = new.view.own.registers }
