@@ -43,6 +43,6 @@ commands_after z d old new e a x =
 pub replies_after : (z : Sizes) (d : ℕ) (old new : List Entry) (e : Entry) (a : Applied) → is_entry_of d e ≡ true → Answers z d old new e a → replies z new d ≡ replies z old d ++ reply_list a
 replies_after z d old new e a own x =
     let others : replies z (old ++ x.between) d ≡ replies z old d =
-        replies_from-append (opening z) old x.between d ∙ ap (λ t. replies z old d ++ t) (replies_from-others (state_after (opening z) old) x.between d x.others) ∙ append-nil (replies z old d) in
+    replies_from-append (opening z) old x.between d ∙ ap (λ t. replies z old d ++ t) (replies_from-others (state_after (opening z) old) x.between d x.others) ∙ append-nil (replies z old d) in
     let last : cond (is_entry_of d e) (reply_list (reply (state_after (opening z) (old ++ x.between)) e)) [] ≡ reply_list a = rw own (ap reply_list x.replies) in
     ap (λ h. replies z h d) x.appends ∙ replies-push z (old ++ x.between) e d ∙ ap (λ t. replies z (old ++ x.between) d ++ t) last ∙ ap (λ t. t ++ reply_list a) others
