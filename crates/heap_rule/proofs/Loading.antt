@@ -1,5 +1,5 @@
 -- Loads of heads, labels and fields keep the rule.
-use Rattle.std.proofs.Common.{◌≡◌, ℕ, ◌+◌, ◌<◌, ◌≤◌, false, ne_eqb, List, [], ◌∷◌, get_or, set, Some, Option, sym, refl, ap, ◌∙◌, subst, arith, length, ◌++◌, get_or-set_same}
+use Rattle.std.proofs.Common.{◌≡◌, ℕ, ◌+◌, ◌<◌, ◌≤◌, false, ne_eqb, List, [], ◌∷◌, get_or, set, Some, Option, sym, refl, ap, ◌∙◌, subst, arith, ◌++◌, get_or-set_same}
 use mathlib.Core.Logic.{dite}
 use native.Mathlib.Decide.{dec_le}
 use mathlib.Core.Option.{some}

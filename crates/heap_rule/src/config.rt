@@ -53,7 +53,8 @@ impl<T: Drop> From<AllocFailed<T>> for StartFault {
 const MOST_ROOM: u32 = 200_000;
 
 impl Config {
-    // The pools that must be there: the reserve of promotion, one for each class and domain besides, and one more.
+    // The pools that must be there: the reserve of promotion, one for each class and domain
+    // besides, and one more.
     fn least_pools(&self) -> u32
         requires domains { (1 ≤ self.now.domains) × (self.now.domains ≤ 8) }
         requires minor { (4096 ≤ self.now.minor_words) × (self.now.minor_words ≤ 65536) }

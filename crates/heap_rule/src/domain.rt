@@ -118,7 +118,8 @@ impl Domain {
 
     /// How many more registrations fit.
     pub fn finals_room(&self) -> usize
-        ensures { result + length (items_of Part.Final self.now.view.own) + length (items_of Part.Last self.now.view.own) ≡ self.now.config.finals }
+        ensures { result + length (items_of Part.Final self.now.view.own)
+            + length (items_of Part.Last self.now.view.own) ≡ self.now.config.finals }
     {
         self.config.finals as usize
     }

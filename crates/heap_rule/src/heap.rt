@@ -46,8 +46,8 @@ impl Heap {
         self.config
     }
 
-    /// A heap, and the tokens of its domains, numbered from 0. Each runs, register 0 holds the shared block and
-    /// the others nothing. All memory is taken here.
+    /// A heap, and the tokens of its domains, numbered from 0. Each runs, register 0 holds the
+    /// shared block and the others nothing. All memory is taken here.
     ///
     /// `Config(k)` names the first field of `config` outside its limit.
     pub fn start(alloc: Global, config: Config) -> Result<(Heap, Vec<Domain>), StartFault>
@@ -115,7 +115,8 @@ impl Ended {
 }
 
 impl Heap {
-    /// Ends the heap. Its history begins with the front of each domain, and has no other entry of that domain.
+    /// Ends the heap. Its history begins with the front of each domain, and has no other entry of
+    /// that domain.
     pub fn stop(self, domains: Vec<Domain>) -> Ended
         requires here { AllIn self domains.items }
         requires some { 0 < length domains.items }

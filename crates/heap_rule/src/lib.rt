@@ -1,4 +1,5 @@
-//! The shared heap: one table of words under one rule, which keeps a legal history that the words stand for.
+//! The shared heap: one table of words under one rule, which keeps a legal history that the words
+//! stand for. docs/HEAP.md draws the words, and docs/RULE.md explains the rule.
 #![tactic(auto)]
 
 mod change;

@@ -1,6 +1,6 @@
 //! Two domains in two threads over one heap: an entry of each stands in one legal history.
 //!
-//! It shows how a call is made of step calls, and how tokens move between threads. docs/RULE.md walks through it.
+//! It shows how a call is made of step calls, and how tokens move between threads.
 #![tactic(auto)]
 
 ghost use Rattle.std.specs.Prelude.{◌≡◌, ◌<◌, false, IfOk, pos};
@@ -32,7 +32,8 @@ fn put_int_as(heap: &Heap, dom: &mut Domain, dst: u8, value: i64)
     requires range { IsPackable (Int value) }
     requires entry { entry ≡ Command dom.old.view.own.number (PutInt dst value) false }
     ensures here { IsIn dom.new heap.now }
-    ensures answers { Answers (sizes_in heap.now.config) dom.old.view.own.number dom.old.view.seen.front dom.new.view.seen.front entry (Replied DoneReply) }
+    ensures answers { Answers (sizes_in heap.now.config) dom.old.view.own.number
+        dom.old.view.seen.front dom.new.view.seen.front entry (Replied DoneReply) }
 {
     let item = Item {
         value: Value::Int(value),
@@ -100,7 +101,8 @@ pub fn put_in_threads<R: Threads + Sync>(
 /// A whole run of two domains in two threads.
 pub fn one_run<R: Threads + Sync>(rt: &R, alloc: Global) -> Result<Ended, StartFault>
     ensures legal { IfOk result (λ past. Legal past.sizes past.history) }
-    ensures both { IfOk result (λ past. Has (Command 0 (PutInt 1 (pos 7)) false) past.history × Has (Command 1 (PutInt 1 (pos 7)) false) past.history) }
+    ensures both { IfOk result (λ past. Has (Command 0 (PutInt 1 (pos 7)) false) past.history
+        × Has (Command 1 (PutInt 1 (pos 7)) false) past.history) }
 {
     let (heap, mut domains) = Heap::start(
         alloc,

@@ -20,7 +20,8 @@ pub(crate) fn load_as<T: Told>(
 ) -> u64
     requires table { seat.old.table_id ≡ table.now.table_id }
     requires inside { index < table.now.table_id.words }
-    requires rule { Allows (Rule table.now.key) table.now.table_id.slots seat.old.id seat.old.me index (λ n. n) (Tells T.tells seat.old.me) }
+    requires rule { Allows (Rule table.now.key) table.now.table_id.slots seat.old.id seat.old.me index
+        (λ n. n) (Tells T.tells seat.old.me) }
     ensures same { seat.new.table_id ≡ seat.old.table_id }
     ensures told { Tells T.tells seat.old.me result seat.new.me }
 {
@@ -38,7 +39,8 @@ pub(crate) fn store_as<T: Told>(
 )
     requires table { seat.old.table_id ≡ table.now.table_id }
     requires inside { index < table.now.table_id.words }
-    requires rule { Allows (Rule table.now.key) table.now.table_id.slots seat.old.id seat.old.me index (λ _. new) (λ _. Tells T.tells seat.old.me new) }
+    requires rule { Allows (Rule table.now.key) table.now.table_id.slots seat.old.id seat.old.me index
+        (λ _. new) (λ _. Tells T.tells seat.old.me new) }
     ensures same { seat.new.table_id ≡ seat.old.table_id }
     ensures told { Tells T.tells seat.old.me new seat.new.me }
 {

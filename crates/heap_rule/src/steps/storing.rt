@@ -23,7 +23,8 @@ pub fn field_store(heap: &Heap, dom: &mut Domain, at: u32, new: u64, changes: &[
     requires inside { IsInHeap heap.now.config at }
     requires may { FieldStoreEntry heap.now.config dom.old.view at new changes.now entry }
     ensures here { IsIn dom.new heap.now }
-    ensures entered { Entered heap.now.config entry (Replied DoneReply) NothingRead changes.now dom.old.view dom.new.view }
+    ensures entered { Entered heap.now.config entry (Replied DoneReply) NothingRead changes.now
+        dom.old.view dom.new.view }
 {
     let index = index_of(heap.config.pools, at);
     store_as::<Brand>(&heap.table.shared, &mut dom.seat, index, new, at, changes);

@@ -22,7 +22,8 @@ pub fn tick(heap: &Heap, dom: &mut Domain, at: u32, changes: &[Change]) -> u64
     requires want { at ≡ 0 }
     requires may { TickMay heap.now.config dom.old.view changes.now entry }
     ensures here { IsIn dom.new heap.now }
-    ensures entered { Entered heap.now.config entry (tick_answer entry) NothingRead changes.now dom.old.view dom.new.view }
+    ensures entered { Entered heap.now.config entry (tick_answer entry) NothingRead changes.now
+        dom.old.view dom.new.view }
 {
     let found = load_as::<Brand>(&heap.table.shared, &mut dom.seat, at as usize, at, changes);
     make_changes(&mut dom.own.registers, Value::Nothing, changes);
