@@ -19,3 +19,4 @@ pub mod Ends
 pub mod Closes
 pub mod ClassSizes
 pub mod Acting
+pub mod Calls

@@ -1,6 +1,7 @@
 -- What the calls of running domains have in common.
 use Rattle.std.specs.Prelude.{◌≡◌, ℕ, false, []}
 use Rattle.heap_model.specs.declared.command.Command.{Command}
+use Rattle.heap_model.specs.declared.entry.Entry.{Entry}
 use Rattle.heap_model.specs.declared.entry.Entry.TheVariants.{Command as CommandOf}
 use Rattle.heap_model.specs.declared.reply.Reply.{Reply}
 use Rattle.heap_model.specs.declared.reply.Applied.TheVariants.{Replied}
@@ -8,6 +9,10 @@ use Rattle.heap_model.specs.Fronts.{Answers}
 use Rattle.heap_rule.specs.Limits.{sizes_in}
 use Rattle.heap_rule.specs.Standing.{Acts}
 use Rattle.heap_rule.specs.Token.{Token, SharedHeap, IsIn}
+
+-- the entry of a command of the token's domain
+abbrev pub own_entry : Token → Command → Entry
+own_entry t c = CommandOf t.view.own.number c false
 
 -- the token is one of the heap's, its trace hasn't ended, and no block is being made
 pub record Runs (h : SharedHeap) (t : Token) : Type 0 where
@@ -18,7 +23,7 @@ pub record Runs (h : SharedHeap) (t : Token) : Type 0 where
 -- a call that makes the entry of a command: the domain runs on, its front has grown by entries of others and then by this one, and the reply is the definition's
 pub record Did (h : SharedHeap) (old new : Token) (c : Command) (r : Reply) : Type 0 where
   pub runs : Runs h new
-  pub answers : Answers (sizes_in old.config) old.view.own.number old.view.seen.front new.view.seen.front (CommandOf old.view.own.number c false) (Replied r)
+  pub answers : Answers (sizes_in old.config) old.view.own.number old.view.seen.front new.view.seen.front (own_entry old c) (Replied r)
   pub heap : (new.table ≡ old.table) × (new.config ≡ old.config)
 
 -- besides its registers the token is as before

@@ -1,5 +1,5 @@
 //! The token of a domain.
-ghost use Rattle.std.specs.Prelude.{◌≡◌, ◌≢◌, ◌+◌, ◌<◌, ℕ, [], length, slice_get, Some};
+ghost use Rattle.std.specs.Prelude.{◌≡◌, ◌≢◌, ◌+◌, ◌<◌, ◌≤◌, ℕ, [], length, slice_get, Some};
 ghost use Rattle.heap_model.specs.Domains.{IsWithinLimits};
 ghost use Rattle.heap_words.specs.declared.value.Value.TheVariants.{Ref};
 ghost use Rattle.heap_words.specs.Values.{IsPackable};
@@ -65,7 +65,8 @@ impl Domain {
 
     /// The domain's number, counted from 0.
     pub fn number(&self) -> u32
-        ensures { result ≡ self.now.view.own.number }
+        ensures value { result ≡ self.now.view.own.number }
+        ensures below { result < self.now.config.domains }
     {
         self.own.number
     }
@@ -82,7 +83,8 @@ impl Domain {
 
     /// The class words of the young blocks that the domain has made.
     pub fn area_used(&self) -> u32
-        ensures { result ≡ self.now.view.own.used }
+        ensures value { result ≡ self.now.view.own.used }
+        ensures room { result ≤ self.now.config.minor_words }
     {
         self.own.used
     }

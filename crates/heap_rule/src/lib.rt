@@ -15,7 +15,7 @@ pub use change::{Change, Item, Part};
 pub use config::{Config, StartFault};
 pub use domain::Domain;
 pub use heap::{Ended, Heap};
-pub use steps::{field_load, field_store, head_load, init_store, label_load, tick};
+pub use steps::{field_load, field_store, head_load, init_store, label_load, tick, words_of_class};
 pub use view::{DomainView, Own, Seen, View};
 
 #[cfg(test)]

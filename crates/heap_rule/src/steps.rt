@@ -7,6 +7,6 @@ mod storing;
 mod ticking;
 
 pub use loading::{field_load, head_load, label_load};
-pub use making::init_store;
+pub use making::{init_store, words_of_class};
 pub use storing::field_store;
 pub use ticking::tick;

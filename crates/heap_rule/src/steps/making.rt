@@ -17,8 +17,9 @@ use heap_words::{Head, Value, unpack_head};
 use size_classes::heap_classes;
 use std::marker::Brand;
 
-// The words of the least class that has room for so many.
-fn words_of_class(words: usize) -> u32
+/// The words that a block takes in a minor area: those of the least size class that has room for its
+/// own, which are at most 128.
+pub fn words_of_class(words: usize) -> u32
     requires { words ≤ 128 }
     ensures { result ≡ class_words words }
 {

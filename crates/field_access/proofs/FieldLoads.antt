@@ -1,0 +1,76 @@
+-- What a field load leaves: the register holds the field, and the call has the definition's reply.
+use Rattle.std.proofs.Common.{◌≡◌, ◌∙◌, ℕ, ◌<◌, false, [], ◌∷◌, length, set, length-set, sym, ap, subst, arith, get_or-set_same}
+use Rattle.heap_model.specs.declared.command.Command.TheVariants.{Load}
+use Rattle.heap_model.specs.declared.entry.Entry.{Entry}
+use Rattle.heap_model.specs.declared.entry.Entry.TheVariants.{Command}
+use Rattle.heap_model.specs.declared.graph.Value as model
+use Rattle.heap_model.specs.declared.reply.Reply.{Reply}
+use Rattle.heap_model.specs.declared.reply.Applied.TheVariants.{Replied}
+use Rattle.heap_model.specs.Commands.{shown}
+use Rattle.heap_model.specs.Domains.{domain_at, opening, register, IsWithinLimits}
+use Rattle.heap_model.specs.Fronts.{Answers}
+use Rattle.heap_model.proofs.FrontLemmas.{keeps_front}
+use Rattle.heap_words.specs.declared.value.Value.{Value}
+use Rattle.heap_words.specs.declared.value.Value.TheVariants.{Nothing}
+use Rattle.heap_rule.specs.declared.change.Change.TheVariants.{Read}
+use Rattle.heap_rule.specs.declared.config.Config.{Config}
+use Rattle.heap_rule.specs.declared.view.DomainView.{DomainView}
+use Rattle.heap_rule.specs.Changes.{value_at}
+use Rattle.heap_rule.specs.Limits.{sizes_in}
+use Rattle.heap_rule.specs.Rule.{state_of}
+use Rattle.heap_rule.specs.Loads.{FieldRead, Measured, Shows}
+use Rattle.heap_rule.specs.Token.{Token, SharedHeap, IsIn}
+use Rattle.heap_rule.specs.Running.{Runs, Did}
+use Rattle.heap_rule.specs.Running.{own_entry}
+use Rattle.heap_rule.proofs.Calls.{answered_did}
+use Rattle.field_access.proofs.Loading.{answers_after_look, loaded}
+
+module _ (h : SharedHeap) (old : Token) (y z : DomainView) (e : Entry) (dst src i size a found : ℕ) (limits : IsWithinLimits (sizes_in h.config)) (is : e ≡ own_entry old (Load dst src i)) (runs : Runs h old) (goes : dst < 16)
+    (m : Measured h.config a src size old.view y) (below : i < size) (read : FieldRead h.config e (Read dst ∷ []) y found z) where
+  -- the same domain, before the entry
+  own_is : y.own ≡ old.view.own
+  own_is = ap (λ (x : DomainView). x.own) m.looked.view
+
+  number_is : y.own.number ≡ old.view.own.number
+  number_is = ap (λ (x : DomainView). x.own.number) m.looked.view
+
+  runs_on : (domain_at (state_of h.config y.seen.front) old.view.own.number).ended ≡ false
+  runs_on =
+      let before : (domain_at (state_of h.config old.view.seen.front) old.view.own.number).ended ≡ false =
+      subst (λ (k : Config). (domain_at (state_of k old.view.seen.front) old.view.own.number).ended ≡ false) runs.here.1 runs.acts in
+      (keeps_front (opening (sizes_in h.config)) old.view.own.number y.seen.front old.view.seen.front m.looked.seen).ended ∙ before
+
+  answers_is : Answers (sizes_in h.config) old.view.own.number y.seen.front z.seen.front (Command old.view.own.number (Load dst src i) false) (Replied (shown read.held))
+  answers_is =
+      subst (λ (x : Entry). Answers (sizes_in h.config) old.view.own.number y.seen.front z.seen.front x (Replied (shown read.held))) is
+      (subst (λ (n : ℕ). Answers (sizes_in h.config) n y.seen.front z.seen.front e (Replied (shown read.held))) number_is read.entered.answers)
+
+  -- the model's register holds what the load read
+  pub held_after : register (state_of h.config z.seen.front) old.view.own.number dst ≡ read.held
+  held_after = loaded (sizes_in h.config) old.view.own.number y.seen.front z.seen.front dst src i size read.held limits runs_on goes m.knows below answers_is
+
+  after_number : z.own.number ≡ old.view.own.number
+  after_number = ap (λ (x : DomainView). x.own.number) read.entered.view ∙ number_is
+
+  -- and so does the token's
+  pub value_after : value_at z.own.registers dst ≡ read.value
+  value_after =
+      let wide : length (set y.own.registers dst read.value) ≡ 16 = ap (λ (x : DomainView). length x.own.registers) (sym read.entered.view) ∙ read.entered.holds.wide in
+      let inside : dst < length y.own.registers = omega (arith, goes, wide, length-set {A = Value}) in
+      ap (λ (x : DomainView). value_at x.own.registers dst) read.entered.view ∙ get_or-set_same y.own.registers dst read.value Nothing inside
+
+  pub register_loaded : Shows (value_at z.own.registers dst) (register (state_of h.config z.seen.front) z.own.number dst)
+  register_loaded =
+      subst (λ (v : Value). Shows v (register (state_of h.config z.seen.front) z.own.number dst)) (sym value_after)
+      (subst (λ (n : ℕ). Shows read.value (register (state_of h.config z.seen.front) n dst)) (sym after_number)
+      (subst (λ (v : model.Value). Shows read.value v) (sym held_after) read.shows))
+
+  -- the whole call is the load
+  pub load_did : (w : Token) (r : Reply) → IsIn w h → w.view ≡ z → r ≡ shown (register (state_of h.config z.seen.front) z.own.number dst) → Did h old w (Load dst src i) r
+  load_did w r here same reply =
+      let replies : r ≡ shown read.held = reply ∙ ap (λ (n : ℕ). shown (register (state_of h.config z.seen.front) n dst)) after_number ∙ ap shown held_after in
+      let whole = answers_after_look (sizes_in h.config) old.view.own.number old.view.seen.front y.seen.front z.seen.front _ _ m.looked.seen answers_is in
+      answered_did h old w (Load dst src i) r runs here (ap (λ (x : DomainView). x.own.number) same ∙ after_number)
+      (ap (λ (x : DomainView). x.seen.made) same ∙ ap (λ (x : DomainView). x.seen.made) read.entered.view ∙ ap (λ (x : DomainView). x.seen.made) m.looked.view ∙ runs.idle)
+      (subst (λ (x : DomainView). Answers (sizes_in h.config) old.view.own.number old.view.seen.front x.seen.front (own_entry old (Load dst src i)) (Replied r)) (sym same)
+      (subst (λ (q : Reply). Answers (sizes_in h.config) old.view.own.number old.view.seen.front z.seen.front (own_entry old (Load dst src i)) (Replied q)) (sym replies) whole))

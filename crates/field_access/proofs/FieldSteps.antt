@@ -1,0 +1,72 @@
+-- The steps on a field of a block whose size was read.
+use Rattle.std.proofs.Common.{◌≡◌, ◌≢◌, ◌∙◌, ℕ, ◌+◌, ◌<◌, false, [], ◌∷◌, refl, sym, ap, subst, arith}
+use Rattle.heap_model.specs.declared.command.Command.TheVariants.{Load, Store}
+use Rattle.heap_model.specs.declared.entry.Entry.{Entry}
+use Rattle.heap_model.specs.Domains.{domain_at, opening}
+use Rattle.heap_model.specs.Fronts.{HoldsPlain}
+use Rattle.heap_model.proofs.FrontLemmas.{keeps_front}
+use Rattle.heap_words.specs.declared.value.Value.TheVariants.{Ref, Nothing}
+use Rattle.heap_rule.specs.declared.change.Change.TheVariants.{Read}
+use Rattle.heap_rule.specs.declared.config.Config.{Config}
+use Rattle.heap_rule.specs.declared.view.DomainView.{DomainView}
+use Rattle.heap_rule.specs.Changes.{value_at}
+use Rattle.heap_rule.specs.declared.view.Own.{Own}
+use Rattle.heap_rule.specs.Stores.{FieldStoreEntry}
+use Rattle.heap_words.specs.Values.{value_word}
+use Rattle.heap_rule.specs.Limits.{sizes_in}
+use Rattle.heap_rule.specs.Rule.{state_of}
+use Rattle.heap_rule.specs.Loads.{FieldMay, FieldLoadEntry, Measured}
+use Rattle.heap_rule.specs.Standing.{Acts, IsInHeap}
+use Rattle.heap_rule.specs.Token.{Token, SharedHeap}
+use Rattle.heap_rule.specs.Running.{Runs}
+use Rattle.heap_rule.specs.Running.{own_entry}
+
+-- what is known of the block after the look: its field lies in the heap
+pub record Field (k : Config) (y : DomainView) (r i a : ℕ) : Type 0 where
+  pub may : FieldMay k y (a + 2 + i) r i
+  pub acts : Acts k y
+  pub inside : IsInHeap k (a + 2 + i)
+
+-- the register's block was looked at, and the place is one of its fields
+pub field_known : (h : SharedHeap) (old : Token) (y : DomainView) (r i size a : ℕ) → Runs h old → r < 16 → value_at old.view.own.registers r ≡ Ref a → Measured h.config a r size old.view y → i < size → Field h.config y r i a
+field_known h old y r i size a runs few held m below =
+    let own : y.own ≡ old.view.own = ap (λ (x : DomainView). x.own) m.looked.view in
+    let number : y.own.number ≡ old.view.own.number = ap (λ (x : DomainView). x.own.number) m.looked.view in
+    let kept = keeps_front (opening (sizes_in h.config)) old.view.own.number y.seen.front old.view.seen.front m.looked.seen in
+    let before : (domain_at (state_of h.config old.view.seen.front) old.view.own.number).ended ≡ false =
+    subst (λ (k : Config). (domain_at (state_of k old.view.seen.front) old.view.own.number).ended ≡ false) runs.here.1 runs.acts in
+    record {
+      may = record {
+        address = a;
+        size = size;
+        block = record { few = few; holds = ap (λ (x : DomainView). value_at x.own.registers r) m.looked.view ∙ held };
+        field = refl;
+        known = subst (λ (n : ℕ). HoldsPlain (state_of h.config y.seen.front) n r size) (sym number) m.knows;
+        inside = below;
+      };
+      acts = subst (λ (n : ℕ). (domain_at (state_of h.config y.seen.front) n).ended ≡ false) (sym number) (kept.ended ∙ before);
+      inside = (omega arith, omega (arith, m.inside));
+    }
+
+-- the step of a load may be made
+pub load_may : (h : SharedHeap) (old : Token) (y : DomainView) (e : Entry) (dst src i a : ℕ) → e ≡ own_entry old (Load dst src i) → y.own.number ≡ old.view.own.number → dst < 16 → Field h.config y src i a
+    → FieldLoadEntry h.config y (a + 2 + i) (Read dst ∷ []) e
+load_may h old y e dst src i a is number goes f =
+    subst (λ (x : Entry). FieldLoadEntry h.config y (a + 2 + i) (Read dst ∷ []) x) (sym is)
+    (record { own = sym number; acts = f.acts; reads = f.may; goes = goes; written = λ v. refl; fits = (goes, tt) })
+
+-- the step of a store may be made
+pub store_may : (h : SharedHeap) (old : Token) (y : DomainView) (e : Entry) (block i item a new : ℕ) → e ≡ own_entry old (Store block i item) → y.own ≡ old.view.own → item < 16 → value_at old.view.own.registers item ≢ Nothing
+    → new ≡ value_word (value_at old.view.own.registers item) → Field h.config y block i a → FieldStoreEntry h.config y (a + 2 + i) new [] e
+store_may h old y e block i item a new is own from full word f =
+    subst (λ (x : Entry). FieldStoreEntry h.config y (a + 2 + i) new [] x) (sym is)
+    (record {
+      own = sym (ap (λ (o : Own). o.number) own);
+      acts = f.acts;
+      target = f.may;
+      from = from;
+      full = λ empty. full (sym (ap (λ (o : Own). value_at o.registers item) own) ∙ empty);
+      word = word ∙ sym (ap (λ (o : Own). value_word (value_at o.registers item)) own);
+      same = refl;
+      fits = tt;
+    })

@@ -1,0 +1,29 @@
+-- A store to a field whose block was looked at before.
+use Rattle.std.proofs.Common.{◌≡◌, ◌∙◌, ℕ, List, ap, subst}
+use Rattle.heap_model.specs.declared.command.Command.{Command}
+use Rattle.heap_model.specs.declared.entry.Entry.{Entry}
+use Rattle.heap_model.specs.declared.reply.Reply.{Reply}
+use Rattle.heap_model.specs.declared.reply.Applied.TheVariants.{Replied}
+use Rattle.heap_model.specs.Fronts.{Answers}
+use Rattle.heap_words.specs.declared.value.Value.{Value}
+use Rattle.heap_rule.specs.declared.change.Change.{Change}
+use Rattle.heap_rule.specs.declared.view.DomainView.{DomainView}
+use Rattle.heap_rule.specs.Limits.{sizes_in}
+use Rattle.heap_rule.specs.Standing.{Entered, Looked}
+use Rattle.heap_rule.specs.Token.{Token, SharedHeap, IsIn}
+use Rattle.heap_rule.specs.Running.{Runs, Did}
+use Rattle.heap_rule.specs.Running.{own_entry}
+use Rattle.heap_rule.proofs.Calls.{answered_did}
+use Rattle.field_access.proofs.Loading.{answers_after_look}
+
+-- a call that looked, and then made its entry
+pub looked_did : (h : SharedHeap) (old new : Token) (y : DomainView) (c : Command) (e : Entry) (r : Reply) (read : Value) (changes : List Change) → e ≡ own_entry old c → Runs h old → IsIn new h
+    → Looked h.config old.view y → Entered h.config e (Replied r) read changes y new.view → Did h old new c r
+looked_did h old new y c e r read changes is runs here look entered =
+    let number : y.own.number ≡ old.view.own.number = ap (λ (x : DomainView). x.own.number) look.view in
+    let answers : Answers (sizes_in h.config) old.view.own.number y.seen.front new.view.seen.front (own_entry old c) (Replied r) =
+    subst (λ (x : Entry). Answers (sizes_in h.config) old.view.own.number y.seen.front new.view.seen.front x (Replied r)) is
+    (subst (λ (n : ℕ). Answers (sizes_in h.config) n y.seen.front new.view.seen.front e (Replied r)) number entered.answers) in
+    answered_did h old new c r runs here (ap (λ (x : DomainView). x.own.number) entered.view ∙ number)
+    (ap (λ (x : DomainView). x.seen.made) entered.view ∙ ap (λ (x : DomainView). x.seen.made) look.view ∙ runs.idle)
+    (answers_after_look (sizes_in h.config) old.view.own.number old.view.seen.front y.seen.front new.view.seen.front _ _ look.seen answers)

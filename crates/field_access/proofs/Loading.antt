@@ -1,0 +1,82 @@
+-- A load of a field whose block was looked at before.
+use Rattle.std.proofs.Common.{◌≡◌, ◌∙◌, ℕ, zero, suc, Bool, ◌<◌, true, false, List, [], ◌∷◌, ◌++◌, length, get_or, slice_get, Some, IsTrue, refl, sym, ap, append_assoc, arith, get_or-set_same}
+use Rattle.std.specs.List.{list_all}
+use Rattle.std.specs.Prelude.{not, ◌&&◌}
+use Rattle.heap_model.specs.declared.command.Command.TheVariants.{Load}
+use Rattle.heap_model.specs.declared.entry.Entry.{Entry}
+use Rattle.heap_model.specs.declared.entry.Entry.TheVariants.{Command}
+use Rattle.heap_model.specs.declared.graph.Value.{Value}
+use Rattle.heap_model.specs.declared.graph.Value.TheVariants.{Int, Block, Nothing}
+use Rattle.heap_model.specs.declared.reply.Reply.{Reply}
+use Rattle.heap_model.specs.declared.reply.Applied.{Applied}
+use Rattle.heap_model.specs.declared.reply.Applied.TheVariants.{Replied}
+use Rattle.heap_model.specs.declared.state.Sizes.{Sizes}
+use Rattle.heap_model.specs.declared.state.State.{State}
+use Rattle.heap_model.specs.Commands.{shown}
+use Rattle.heap_model.specs.Domains.{domain_at, register, opening, IsWithinLimits}
+use Rattle.heap_model.specs.Entries.{next, reply}
+use Rattle.heap_model.specs.History.{state_after, is_entry_of}
+use Rattle.heap_model.specs.Fronts.{NoneOf, Answers, IsFrontOf, HoldsPlain}
+use Rattle.heap_model.proofs.AnswerLemmas.{before_entry}
+use Rattle.heap_model.proofs.FrameLemmas.{inside_running}
+use Rattle.heap_model.proofs.FrontLemmas.{keeps_front, holds_later}
+use Rattle.heap_model.proofs.HistoryLemmas.{state_after-push}
+use Rattle.heap_model.proofs.LeavesLemmas.{leaves_load}
+use Rattle.heap_model.proofs.ShapeAfterLemmas.{shaped-history}
+
+none_append : (d : ℕ) (h k : List Entry) → NoneOf d h → NoneOf d k → NoneOf d (h ++ k)
+none_append d [] k first second = second
+none_append d (e ∷ h) k first second = both_true (not (is_entry_of d e)) (list_all (λ x. not (is_entry_of d x)) h) (list_all (λ x. not (is_entry_of d x)) (h ++ k)) first (λ rest. none_append d h k rest second)
+  where
+    both_true : (a b c : Bool) → IsTrue (a && b) → (IsTrue b → IsTrue c) → IsTrue (a && c)
+    both_true true b c e f = f e
+    both_true false b c e f = e
+
+-- a call that looked first, and then made its entry
+pub answers_after_look : (z : Sizes) (d : ℕ) (old mid new : List Entry) (e : Entry) (a : Applied) → IsFrontOf d mid old → Answers z d mid new e a → Answers z d old new e a
+answers_after_look z d old mid new e a f x =
+    let fronts : mid ++ x.between ≡ old ++ (f.rest ++ x.between) = ap (λ h. h ++ x.between) f.appends ∙ append_assoc old f.rest x.between in
+    record {
+      between = f.rest ++ x.between;
+      others = none_append d f.rest x.between f.others x.others;
+      appends = x.appends ∙ ap (λ h. h ++ e ∷ []) fronts;
+      legal = x.legal;
+      replies = ap (λ h. reply (state_after (opening z) h) e) (sym fronts) ∙ x.replies;
+    }
+
+-- the values that a reply shows
+shown_same : (v w : Value) → shown v ≡ shown w → v ≡ w
+shown_same (Int a) (Int b) e = cc
+shown_same (Int a) (Block b) e = cc
+shown_same (Int a) Nothing e = cc
+shown_same (Block a) (Int b) e = cc
+shown_same (Block a) (Block b) e = cc
+shown_same (Block a) Nothing e = cc
+shown_same Nothing (Int b) e = cc
+shown_same Nothing (Block b) e = cc
+shown_same Nothing Nothing e = refl
+
+field_there : (fields : List Value) (i : ℕ) → i < length fields → (v : Value) × (slice_get fields i ≡ Some v)
+field_there [] i inside = absurd (omega arith)
+field_there (x ∷ xs) zero inside = (x, refl)
+field_there (x ∷ xs) (suc i) inside = field_there xs i (omega arith)
+
+replied_same : (r s : Reply) → Replied r ≡ Replied s → r ≡ s
+replied_same r s e = cc
+
+-- after a load its register holds what the reply shows
+pub loaded : (z : Sizes) (d : ℕ) (mid new : List Entry) (dst src i size : ℕ) (held : Value) → IsWithinLimits z → (domain_at (state_after (opening z) mid) d).ended ≡ false → dst < 16
+    → HoldsPlain (state_after (opening z) mid) d src size → i < size → Answers z d mid new (Command d (Load dst src i) false) (Replied (shown held))
+    → register (state_after (opening z) new) d dst ≡ held
+loaded z d mid new dst src i size held limits acts goes holds inside x =
+    let s : State = state_after (opening z) (mid ++ x.between) in
+    let front = before_entry z d mid new _ _ x in
+    let there = holds_later (opening z) d src size (mid ++ x.between) mid front holds in
+    let running : (domain_at s d).ended ≡ false = (keeps_front (opening z) d (mid ++ x.between) mid front).ended ∙ acts in
+    let part : d < length s.domains = inside_running s.domains d running in
+    let wide : length (domain_at s d).registers ≡ 16 = (shaped-history z (mid ++ x.between) limits).register_count d part in
+    let field = field_there there.fields i (omega (arith, there.size)) in
+    let leaves = leaves_load s d part dst src i there.label there.tag there.fields field.0 there.held there.node field.1 in
+    let same : field.0 ≡ held = shown_same field.0 held (replied_same _ _ (sym leaves.replies ∙ x.replies)) in
+    let here : state_after (opening z) new ≡ next s (Command d (Load dst src i) false) = ap (state_after (opening z)) x.appends ∙ state_after-push (opening z) (mid ++ x.between) _ in
+    ap (λ (t : State). register t d dst) here ∙ ap (λ (xs : List Value). get_or xs dst Nothing) leaves.registers_are ∙ get_or-set_same (domain_at s d).registers dst field.0 Nothing (omega (arith, wide)) ∙ same

@@ -1,0 +1,10 @@
+use Rattle.field_access.proofs.fields.store_as.Given as goal
+
+abbrev pub ghost-tick : goal.ghost-tick
+ghost-tick g a = g.entry
+
+abbrev pub ghost-head_load : goal.ghost-head_load
+ghost-head_load g a = g.entry
+
+abbrev pub ghost-field_store : goal.ghost-field_store
+ghost-field_store g a = g.entry

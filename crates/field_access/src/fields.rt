@@ -1,0 +1,147 @@
+//! Loads and stores of the fields of plain blocks.
+ghost use Rattle.std.specs.Prelude.{◌≡◌, ◌<◌, ℕ, Option};
+ghost use Rattle.heap_model.specs.declared.command.Command.TheVariants.{Load, Store};
+ghost use Rattle.heap_model.specs.declared.entry.Entry.{Entry};
+ghost use Rattle.heap_model.specs.declared.graph.Value as model;
+ghost use Rattle.heap_model.specs.declared.label.Label as labels;
+ghost use Rattle.heap_model.specs.Commands.{shown};
+ghost use Rattle.heap_model.specs.Domains.{register as register_value};
+ghost use Rattle.heap_model.specs.Fronts.{Shape};
+ghost use Rattle.heap_words.specs.Heads.{IsPackableHead};
+ghost use Rattle.heap_words.specs.Labels.{IsPackableLabel, label_word};
+ghost use Rattle.heap_rule.specs.Changes.{value_at};
+ghost use Rattle.heap_rule.specs.Loads.{Shows};
+ghost use Rattle.heap_rule.specs.Places.{HeadIs, head_of};
+ghost use Rattle.heap_rule.specs.Rule.{state_of};
+ghost use Rattle.heap_rule.specs.Running.{Runs, Did, ChangesRegisters};
+ghost use Rattle.heap_rule.specs.Token.{IsIn};
+ghost use Rattle.heap_rule.specs.Running.{own_entry};
+ghost use Rattle.field_access.specs.Shapes.{size_of};
+
+use heap_model::label::Label;
+use heap_model::reply::Reply;
+use heap_rule::{Change, Domain, Heap, field_load, field_store, head_load, label_load, tick};
+use heap_words::{Head, Value, pack_value, unpack_head, unpack_label};
+
+// The number of fields of the plain block whose head this is, and nothing for an ephemeron.
+fn plain_size(head: u64) -> Option<u16>
+    requires { (s : Shape) × IsPackableHead (head_of s) × HeadIs s head }
+    ensures { (s : Shape) → IsPackableHead (head_of s) → HeadIs s head → result ≡ size_of s }
+{
+    match unpack_head(head) {
+        Some(Head::Plain { size, .. }) => Some(size),
+        Some(Head::Ephe { .. }) => None,
+        Some(Head::Free) | Some(Head::Forward(_)) | None => unreachable!(),
+    }
+}
+
+// The label whose word this is.
+fn label_in(word: u64) -> Label
+    requires { (l : labels.Label) × IsPackableLabel (l.domain, l.serial) × (label_word l.domain l.serial ≡ word) }
+    ensures { (l : labels.Label) → IsPackableLabel (l.domain, l.serial) → label_word l.domain l.serial ≡ word → result ≡ l }
+{
+    let Some((domain, serial)) = unpack_label(word) else {
+        unreachable!()
+    };
+    Label { domain, serial }
+}
+
+// The reply that shows what a register holds. The place of the register is told to the label load.
+fn shown_register(heap: &Heap, dom: &mut Domain, r: u8) -> Reply
+    ghost register: { ℕ }
+    requires register { register ≡ r }
+    requires here { IsIn dom.old heap.now }
+    requires few { r < 16 }
+    requires shows { Shows (value_at dom.old.view.own.registers r) (register_value (state_of heap.now.config dom.old.view.seen.front) dom.old.view.own.number r) }
+    ensures here { IsIn dom.new heap.now }
+    ensures same { dom.new.view ≡ dom.old.view }
+    ensures reply { result ≡ shown (register_value (state_of heap.now.config dom.old.view.seen.front) dom.old.view.own.number r) }
+{
+    let _limits = heap.config();
+    match dom.register(r) {
+        Value::Int(z) => Reply::Int(z),
+        Value::Nothing => Reply::Empty,
+        Value::Ref(address) => Reply::Block(label_in(label_load(heap, dom, address + 1, &[]))),
+    }
+}
+
+fn load_as(heap: &Heap, dom: &mut Domain, dst: u8, src: u8, index: u16) -> Reply
+    ghost entry: { Entry }
+    requires entry { entry ≡ own_entry dom.old (Load dst src index) }
+    requires runs { Runs heap.now dom.old }
+    requires dst { dst < 16 }
+    requires src { src < 16 }
+    ensures did { Did heap.now dom.old dom.new (Load dst src index) result }
+    ensures rest { ChangesRegisters dom.old dom.new }
+{
+    let _limits = heap.config();
+    let Value::Ref(address) = dom.register(src) else {
+        tick(heap, dom, 0, &[]);
+        return Reply::BadType;
+    };
+    let Some(size) = plain_size(head_load(heap, dom, address, &[])) else {
+        return Reply::BadType;
+    };
+    if index >= size {
+        return Reply::BadIndex;
+    }
+    let at = address + 2 + index as u32;
+    field_load(heap, dom, at, &[Change::Read { register: dst }]);
+    shown_register(heap, dom, dst)
+}
+
+/// Loads a field of the plain block in a register into another. The reply is `type` where register
+/// `src` holds no plain block, and else `bounds` where the block has no such field. Registers are
+/// below 16.
+pub fn load(heap: &Heap, dom: &mut Domain, dst: u8, src: u8, index: u16) -> Reply
+    requires runs { Runs heap.now dom.old }
+    requires dst { dst < 16 }
+    requires src { src < 16 }
+    ensures did { Did heap.now dom.old dom.new (Load dst src index) result }
+    ensures rest { ChangesRegisters dom.old dom.new }
+{
+    load_as(heap, dom, dst, src, index)
+}
+
+fn store_as(heap: &Heap, dom: &mut Domain, block: u8, index: u16, item: u8) -> Reply
+    ghost entry: { Entry }
+    requires entry { entry ≡ own_entry dom.old (Store block index item) }
+    requires runs { Runs heap.now dom.old }
+    requires block { block < 16 }
+    requires item { item < 16 }
+    ensures did { Did heap.now dom.old dom.new (Store block index item) result }
+    ensures rest { ChangesRegisters dom.old dom.new }
+{
+    let _limits = heap.config();
+    let Value::Ref(address) = dom.register(block) else {
+        tick(heap, dom, 0, &[]);
+        return Reply::BadType;
+    };
+    let value = dom.register(item);
+    if let Value::Nothing = value {
+        tick(heap, dom, 0, &[]);
+        return Reply::BadType;
+    }
+    let Some(size) = plain_size(head_load(heap, dom, address, &[])) else {
+        return Reply::BadType;
+    };
+    if index >= size {
+        return Reply::BadIndex;
+    }
+    let at = address + 2 + index as u32;
+    field_store(heap, dom, at, pack_value(value), &[]);
+    Reply::Done
+}
+
+/// Stores what a register holds into a field of the plain block in another. The reply is `type`
+/// where register `block` holds no plain block or register `item` holds nothing, and else `bounds`
+/// where the block has no such field. Registers are below 16.
+pub fn store(heap: &Heap, dom: &mut Domain, block: u8, index: u16, item: u8) -> Reply
+    requires runs { Runs heap.now dom.old }
+    requires block { block < 16 }
+    requires item { item < 16 }
+    ensures did { Did heap.now dom.old dom.new (Store block index item) result }
+    ensures rest { ChangesRegisters dom.old dom.new }
+{
+    store_as(heap, dom, block, index, item)
+}

@@ -1,0 +1,99 @@
+//! Commands on registers alone.
+ghost use Rattle.std.specs.Prelude.{◌≡◌, ◌<◌};
+ghost use Rattle.heap_model.specs.declared.entry.Entry.{Entry};
+ghost use Rattle.heap_model.specs.declared.command.Command.TheVariants.{PutInt, Copy, Forget};
+ghost use Rattle.heap_words.specs.declared.value.Value.TheVariants.{Int};
+ghost use Rattle.heap_words.specs.Values.{IsPackable};
+ghost use Rattle.heap_rule.specs.Items.{item_of};
+ghost use Rattle.heap_rule.specs.Running.{Runs, Did, ChangesRegisters};
+ghost use Rattle.heap_rule.specs.Running.{own_entry};
+
+use heap_model::reply::Reply;
+use heap_rule::{Change, Domain, Heap, Item, Part, tick};
+use heap_words::Value;
+
+// The change by which a register holds a value.
+fn holds(register: u8, value: Value) -> Change
+    ensures { result ≡ Change.Set Part.Register register (item_of value) }
+{
+    Change::Set {
+        part: Part::Register,
+        place: u32::from(register),
+        item: Item {
+            value,
+            number: 0,
+            more: 0,
+        },
+    }
+}
+
+fn put_int_as(heap: &Heap, dom: &mut Domain, dst: u8, value: i64) -> Reply
+    ghost entry: { Entry }
+    requires entry { entry ≡ own_entry dom.old (PutInt dst value) }
+    requires runs { Runs heap.now dom.old }
+    requires dst { dst < 16 }
+    requires value { IsPackable (Int value) }
+    ensures did { Did heap.now dom.old dom.new (PutInt dst value) result }
+    ensures rest { ChangesRegisters dom.old dom.new }
+{
+    tick(heap, dom, 0, &[holds(dst, Value::Int(value))]);
+    Reply::Done
+}
+
+/// Puts an integer of 63 bits into a register. Registers are below 16.
+pub fn put_int(heap: &Heap, dom: &mut Domain, dst: u8, value: i64) -> Reply
+    requires runs { Runs heap.now dom.old }
+    requires dst { dst < 16 }
+    requires value { IsPackable (Int value) }
+    ensures did { Did heap.now dom.old dom.new (PutInt dst value) result }
+    ensures rest { ChangesRegisters dom.old dom.new }
+{
+    put_int_as(heap, dom, dst, value)
+}
+
+fn copy_as(heap: &Heap, dom: &mut Domain, dst: u8, src: u8) -> Reply
+    ghost entry: { Entry }
+    requires entry { entry ≡ own_entry dom.old (Copy dst src) }
+    requires runs { Runs heap.now dom.old }
+    requires dst { dst < 16 }
+    requires src { src < 16 }
+    ensures did { Did heap.now dom.old dom.new (Copy dst src) result }
+    ensures rest { ChangesRegisters dom.old dom.new }
+{
+    let value = dom.register(src);
+    tick(heap, dom, 0, &[holds(dst, value)]);
+    Reply::Done
+}
+
+/// Copies what a register holds, also nothing, into another.
+pub fn copy(heap: &Heap, dom: &mut Domain, dst: u8, src: u8) -> Reply
+    requires runs { Runs heap.now dom.old }
+    requires dst { dst < 16 }
+    requires src { src < 16 }
+    ensures did { Did heap.now dom.old dom.new (Copy dst src) result }
+    ensures rest { ChangesRegisters dom.old dom.new }
+{
+    copy_as(heap, dom, dst, src)
+}
+
+fn forget_as(heap: &Heap, dom: &mut Domain, dst: u8) -> Reply
+    ghost entry: { Entry }
+    requires entry { entry ≡ own_entry dom.old (Forget dst) }
+    requires runs { Runs heap.now dom.old }
+    requires dst { dst < 16 }
+    ensures did { Did heap.now dom.old dom.new (Forget dst) result }
+    ensures rest { ChangesRegisters dom.old dom.new }
+{
+    tick(heap, dom, 0, &[holds(dst, Value::Nothing)]);
+    Reply::Done
+}
+
+/// Empties a register.
+pub fn forget(heap: &Heap, dom: &mut Domain, dst: u8) -> Reply
+    requires runs { Runs heap.now dom.old }
+    requires dst { dst < 16 }
+    ensures did { Did heap.now dom.old dom.new (Forget dst) result }
+    ensures rest { ChangesRegisters dom.old dom.new }
+{
+    forget_as(heap, dom, dst)
+}

@@ -1,0 +1,97 @@
+//! The allocation of a young block.
+ghost use Rattle.std.specs.Prelude.{◌≡◌, ◌+◌, ◌^◌, ◌<◌, ◌≤◌, Err, IfOk, IfErr, OnOk, OnErr};
+ghost use Rattle.heap_model.specs.declared.command.Command.TheVariants.{Alloc};
+ghost use Rattle.heap_model.specs.declared.entry.Entry.{Entry};
+ghost use Rattle.heap_model.specs.declared.reply.Reply.TheVariants.{Block};
+ghost use Rattle.heap_rule.specs.Inits.{class_words};
+ghost use Rattle.heap_rule.specs.Running.{Runs, Did, own_entry};
+ghost use Rattle.minor_area.specs.Area.{Grows};
+
+use crate::Need;
+use heap_model::label::Label;
+use heap_rule::{Change, Domain, Heap, Item, Part, init_store, words_of_class};
+use heap_words::{Head, Value, pack_head, pack_label, pack_value};
+
+// The colour of a block that is allocated while no collection is under way: unmarked.
+const UNMARKED: u8 = 1;
+
+// Writes a block for which there is room: its label, its fields, each the integer 0, and its head last.
+fn write_block(heap: &Heap, dom: &mut Domain, dst: u8, tag: u8, fields: u16) -> Label
+    ghost entry: { Entry }
+    requires entry { entry ≡ own_entry dom.old (Alloc dst tag fields) }
+    requires runs { Runs heap.now dom.old }
+    requires dst { dst < 16 }
+    requires tag { tag ≤ 245 }
+    requires fields { (1 ≤ fields) × (fields ≤ 126) }
+    requires serial { dom.old.view.own.serial + 1 < 2 ^ 32 }
+    requires room { dom.old.view.own.used + class_words (fields + 2) ≤ heap.now.config.minor_words }
+    ensures did { Did heap.now dom.old dom.new (Alloc dst tag fields) (Block result) }
+    ensures grows { Grows dom.old dom.new (class_words (fields + 2)) }
+{
+    let _limits = heap.config();
+    let label = Label {
+        domain: dom.number(),
+        serial: dom.labels_made() + 1,
+    };
+    let at = dom.next_address();
+    init_store(
+        heap,
+        dom,
+        at + 1,
+        pack_label(label.domain, label.serial),
+        &[],
+    );
+    for i in 0..u32::from(fields) {
+        init_store(heap, dom, at + 2 + i, pack_value(Value::Int(0)), &[]);
+    }
+    let head = Head::Plain {
+        size: fields,
+        tag,
+        colour: UNMARKED,
+        scanned: false,
+    };
+    let holds = Change::Set {
+        part: Part::Register,
+        place: u32::from(dst),
+        item: Item {
+            value: Value::Ref(at),
+            number: 0,
+            more: 0,
+        },
+    };
+    init_store(heap, dom, at, pack_head(head), &[holds]);
+    label
+}
+
+/// Allocates a plain block of `fields` fields, each the integer 0, in the domain's minor area, and
+/// puts it into register `dst`. Registers are below 16, tags at most 245, fields 1 to 126, and fewer
+/// than 4,294,967,295 labels were made.
+///
+/// `AreaFull` exactly where the words that are used and those of the block's size class are more
+/// than a minor area has. Then nothing changes, and no entry stands.
+pub fn alloc_young(
+    heap: &Heap,
+    dom: &mut Domain,
+    dst: u8,
+    tag: u8,
+    fields: u16,
+) -> Result<Label, Need>
+    requires runs { Runs heap.now dom.old }
+    requires dst { dst < 16 }
+    requires tag { tag ≤ 245 }
+    requires fields { (1 ≤ fields) × (fields ≤ 126) }
+    requires serial { dom.old.view.own.serial + 1 < 2 ^ 32 }
+    ensures did { IfOk result (λ l. Did heap.now dom.old dom.new (Alloc dst tag fields) (Block l)) }
+    ensures grows { OnOk result (Grows dom.old dom.new (class_words (fields + 2))) }
+    ensures fits { OnOk result (dom.old.view.own.used + class_words (fields + 2) ≤ heap.now.config.minor_words) }
+    ensures need { IfErr result (λ n. n ≡ Need.AreaFull dom.old.view.own.used) }
+    ensures full { OnErr result (heap.now.config.minor_words < dom.old.view.own.used + class_words (fields + 2)) }
+    ensures same { OnErr result (dom.new ≡ dom.old) }
+{
+    let used = dom.area_used();
+    let words = words_of_class(usize::from(fields) + 2);
+    if words > heap.config().minor_words - used {
+        return Err(Need::AreaFull { used });
+    }
+    Ok(write_block(heap, dom, dst, tag, fields))
+}
