@@ -4,3 +4,8 @@
 #![tactic(auto)]
 
 mod command;
+mod run;
+mod turns;
+
+pub use run::DomainRun;
+pub use turns::{Turned, turn};

@@ -1,0 +1,85 @@
+-- A turn keeps what is true of a run.
+use Rattle.std.proofs.Common.{◌≡◌, ◌∙◌, ℕ, zero, suc, ◌+◌, ◌<◌, ◌≤◌, Bool, true, false, List, [], ◌∷◌, ◌++◌, length, take, slice_get, Option, Some, None, refl, sym, ap, subst, arith, length-append, append-nil, eq-eqb, add-one}
+use Rattle.heap_model.specs.declared.command.Command as model
+use Rattle.heap_model.specs.declared.entry.Entry.{Entry}
+use Rattle.heap_model.specs.declared.entry.Entry.TheVariants.{Command as CommandOf, End}
+use Rattle.heap_model.specs.declared.reply.Reply.{Reply}
+use Rattle.heap_model.specs.declared.reply.Applied.TheVariants.{Replied, Silent}
+use Rattle.heap_model.specs.History.{commands, command_of, replies, is_entry_of}
+use Rattle.heap_model.proofs.AnswerLemmas.{commands_after, replies_after}
+use Rattle.heap_rule.specs.declared.config.Config.{Config}
+use Rattle.heap_rule.specs.Limits.{sizes_in}
+use Rattle.heap_rule.specs.Token.{Token, SharedHeap}
+use Rattle.domain_turns.specs.Tries.{Tried, is_refused}
+use Rattle.domain_turns.specs.Runs.{RunView, IsRun, HasEnded, is_end_of}
+use Rattle.std.specs.List.{list_any}
+use Rattle.std.specs.Prelude.{cond, IsTrue, ◌||◌}
+
+take_next : (cs : List model.Command) (n : ℕ) (c : model.Command) → slice_get cs n ≡ Some c → take (suc n) cs ≡ take n cs ++ c ∷ []
+take_next [] n c at = cc
+take_next (x ∷ xs) zero c at = let is : x ≡ c = cc in ap (λ (y : model.Command). y ∷ []) is
+take_next (x ∷ xs) (suc n) c at = ap (λ (ys : List model.Command). x ∷ ys) (take_next xs n c at)
+
+inside : (cs : List model.Command) (n : ℕ) (c : model.Command) → slice_get cs n ≡ Some c → n < length cs
+inside [] n c at = cc
+inside (x ∷ xs) zero c at = omega arith
+inside (x ∷ xs) (suc n) c at = let rest = inside xs n c at in omega arith
+
+own : (d : ℕ) (c : model.Command) (full : Bool) → command_of d (CommandOf d c full) ≡ c ∷ []
+own d c full = ap (λ (b : Bool). cond b (c ∷ []) []) (eq-eqb d d refl)
+
+pub tried_is_run : (h : SharedHeap) (r : RunView) (new : Token) (c : model.Command) (reply : Reply) → IsRun r → r.ended ≡ false → slice_get r.commands r.next ≡ Some c → Tried h r.token new c reply
+    → IsRun (record r { token = new; next = r.next + 1; replies = r.replies ++ reply ∷ [] })
+tried_is_run h r new c reply is running at t =
+    let d : ℕ = r.token.view.own.number in
+    let z = sizes_in r.token.config in
+    let e : Entry = CommandOf d c (is_refused r.token c) in
+    let made : commands new.view.seen.front d ≡ take r.next r.commands ++ c ∷ [] =
+    commands_after z d r.token.view.seen.front new.view.seen.front e (Replied reply) t.answers
+    ∙ ap (λ (cs : List model.Command). cs ++ command_of d e) is.made ∙ ap (λ (cs : List model.Command). take r.next r.commands ++ cs) (own d c (is_refused r.token c)) in
+    let answered : replies z new.view.seen.front d ≡ r.replies ++ reply ∷ [] =
+    replies_after z d r.token.view.seen.front new.view.seen.front e (Replied reply) (eq-eqb d d refl) t.answers ∙ ap (λ (rs : List Reply). rs ++ reply ∷ []) is.answered in
+    record {
+      made = ap (commands new.view.seen.front) t.number ∙ made ∙ sym (take_next r.commands r.next c at) ∙ ap (λ (n : ℕ). take n r.commands) (sym (add-one r.next));
+      answered = ap (λ (n : ℕ). replies (sizes_in new.config) new.view.seen.front n) t.number ∙ ap (λ (k : Config). replies (sizes_in k) new.view.seen.front d) t.heap.1 ∙ answered;
+      each = length-append r.replies (reply ∷ []) ∙ ap (λ (n : ℕ). n + 1) is.each;
+      within = let below = inside r.commands r.next c at in omega arith;
+      few = is.few;
+      fit = is.fit;
+      idle = t.runs.idle;
+      acts = λ running. t.runs.acts;
+      labels = omega (arith, is.labels, t.serial);
+      done = λ ended. cc;
+      over = λ ended. cc;
+    }
+
+any_last : (p : Entry → Bool) (xs : List Entry) (e : Entry) → p e ≡ true → IsTrue (list_any p (xs ++ e ∷ []))
+any_last p [] e is = rw is refl
+any_last p (x ∷ xs) e is = any_more (p x) (list_any p (xs ++ e ∷ [])) (any_last p xs e is)
+  where
+    any_more : (a b : Bool) → IsTrue b → IsTrue (a || b)
+    any_more true b h = refl
+    any_more false b h = h
+
+pub ended_is_run : (h : SharedHeap) (r : RunView) (new : Token) → IsRun r → length r.commands ≤ r.next → HasEnded h r.token new → IsRun (record r { token = new; ended = true })
+ended_is_run h r new is whole t =
+    let d : ℕ = r.token.view.own.number in
+    let z = sizes_in r.token.config in
+    let made : commands new.view.seen.front d ≡ commands r.token.view.seen.front d =
+    commands_after z d r.token.view.seen.front new.view.seen.front (End d) Silent t.answers ∙ append-nil (commands r.token.view.seen.front d) in
+    let answered : replies z new.view.seen.front d ≡ replies z r.token.view.seen.front d =
+    replies_after z d r.token.view.seen.front new.view.seen.front (End d) Silent (eq-eqb d d refl) t.answers ∙ append-nil (replies z r.token.view.seen.front d) in
+    record {
+      made = ap (commands new.view.seen.front) t.number ∙ made ∙ is.made;
+      answered = ap (λ (n : ℕ). replies (sizes_in new.config) new.view.seen.front n) t.number ∙ ap (λ (k : Config). replies (sizes_in k) new.view.seen.front d) t.heap.1 ∙ answered ∙ is.answered;
+      each = is.each;
+      within = is.within;
+      few = is.few;
+      fit = is.fit;
+      idle = t.idle;
+      acts = λ running. cc;
+      labels = omega (arith, is.labels, t.serial);
+      done = λ ended. omega (arith, is.within, whole);
+      over = λ ended. subst (λ (n : ℕ). IsTrue (list_any (is_end_of n) new.view.seen.front)) (sym t.number)
+          (subst (λ (front : List Entry). IsTrue (list_any (is_end_of d) front)) (sym t.answers.appends) (any_last (is_end_of d) (r.token.view.seen.front ++ t.answers.between) (End d) (eq-eqb d d refl)));
+    }

@@ -1,0 +1,100 @@
+//! One domain's trace, and how far it has come.
+ghost use Rattle.std.specs.Prelude.{◌≡◌, true, false, [], take, IfOk};
+ghost use Rattle.heap_model.specs.History.{commands as commands_of, replies as replies_of};
+ghost use Rattle.heap_rule.specs.Limits.{sizes_in};
+ghost use Rattle.domain_turns.specs.Runs.{CanBegin, IsRun};
+
+use heap_model::command::Command;
+use heap_model::reply::Reply;
+use heap_rule::Domain;
+use std::alloc::{AllocError, Global};
+use std::marker::Model;
+
+/// A domain with its trace: the commands, the place of the next one, and the replies so far.
+#[derive(Drop)]
+pub struct DomainRun {
+    pub(crate) domain: Domain,
+    pub(crate) commands: Vec<Command>,
+    pub(crate) next: usize,
+    pub(crate) replies: Vec<Reply>,
+    pub(crate) ended: bool,
+}
+
+impl Model for DomainRun {
+    ghost use Rattle.std.specs.Prelude.{◌≤◌, length, vec_capacity};
+    ghost use Rattle.domain_turns.specs.Runs.{IsRun, RunView};
+
+    ghost Value = { RunView };
+
+    ghost view = { λ r. record { token = r.domain; commands = r.commands.items; next = r.next; replies = r.replies.items; ended = r.ended } };
+
+    ghost invariant = { λ r. IsRun (record { token = r.domain; commands = r.commands.items; next = r.next; replies = r.replies.items; ended = r.ended }) × (length r.commands.items ≤ vec_capacity r.replies) };
+}
+
+impl DomainRun {
+    /// A run of a domain from its first command on. The domain runs and no entry of it stands in the
+    /// history so far; there are at most 200,000 commands, each of a kind that runs on the shared heap
+    /// and with its numbers in their ranges; at most 4,000,000,000 labels were made. The room for the
+    /// replies is reserved here. Fails for want of memory alone, and then the domain is given up.
+    pub fn make(alloc: Global, dom: Domain, commands: Vec<Command>) -> Result<DomainRun, AllocError>
+        requires { CanBegin dom commands.items }
+        ensures { IfOk result (λ r. r ≡ record { token = dom; commands = commands.items; next = 0; replies = []; ended = false }) }
+    {
+        let replies = Vec::with_capacity(alloc, commands.len())?;
+        Ok(DomainRun {
+            domain: dom,
+            commands,
+            next: 0,
+            replies,
+            ended: false,
+        })
+    }
+
+    /// The place of the command that is next. The domain's commands in its part of the history are
+    /// those before it, each once and in order.
+    pub fn next(&self) -> usize
+        ensures next { result ≡ self.now.next }
+        ensures made { commands_of self.now.token.view.seen.front self.now.token.view.own.number ≡ take self.now.next self.now.commands }
+    {
+        self.next
+    }
+
+    /// The replies, in order: those of the domain's entries in its part of the history.
+    pub fn replies(&self) -> &[Reply]
+        ensures replies { result.now ≡ self.now.replies }
+        ensures of_history { self.now.replies ≡ replies_of (sizes_in self.now.token.config) self.now.token.view.seen.front self.now.token.view.own.number }
+    {
+        &self.replies
+    }
+
+    /// Whether the trace has ended.
+    pub fn has_ended(&self) -> bool
+        ensures { result ≡ self.now.ended }
+    {
+        self.ended
+    }
+
+    /// Each run is faithful: the domain's commands in its part of the history are those before the next,
+    /// each once and in order, the replies are those of its entries there, and a trace that has ended has
+    /// made all its commands and then its end.
+    pub fn is_faithful(&self)
+        ensures { IsRun self.now }
+    {
+        let _run = &self.domain;
+    }
+
+    /// The token inside.
+    pub fn domain(&self) -> &Domain
+        ensures { result.now ≡ self.now.token }
+    {
+        &self.domain
+    }
+
+    /// The token of a run that has ended.
+    pub fn into_domain(self) -> Domain
+        requires { self.ended ≡ true }
+        ensures { result ≡ self.token }
+    {
+        self.domain
+    }
+}
