@@ -7,9 +7,10 @@ use Rattle.heap_model.specs.declared.graph.Value as model
 use Rattle.heap_model.specs.declared.reply.Reply.{Reply}
 use Rattle.heap_model.specs.declared.reply.Applied.TheVariants.{Replied}
 use Rattle.heap_model.specs.Commands.{shown}
-use Rattle.heap_model.specs.Domains.{domain_at, opening, register, IsWithinLimits}
+use Rattle.heap_model.specs.Domains.{domain_at, register, IsWithinLimits}
 use Rattle.heap_model.specs.Fronts.{Answers}
-use Rattle.heap_model.proofs.FrontLemmas.{keeps_front}
+use Rattle.heap_rule.specs.Standing.{Acts}
+use Rattle.heap_rule.proofs.Acting.{looked_acts}
 use Rattle.heap_words.specs.declared.value.Value.{Value}
 use Rattle.heap_words.specs.declared.value.Value.TheVariants.{Nothing}
 use Rattle.heap_rule.specs.declared.change.Change.TheVariants.{Read}
@@ -23,7 +24,8 @@ use Rattle.heap_rule.specs.Token.{Token, SharedHeap, IsIn}
 use Rattle.heap_rule.specs.Running.{Runs, Did}
 use Rattle.heap_rule.specs.Running.{own_entry}
 use Rattle.heap_rule.proofs.Calls.{answered_did}
-use Rattle.field_access.proofs.Loading.{answers_after_look, loaded}
+use Rattle.heap_model.proofs.FrontLemmas.{answers_after}
+use Rattle.field_access.proofs.Loading.{loaded}
 
 module _ (h : SharedHeap) (old : Token) (y z : DomainView) (e : Entry) (dst src i size a found : ℕ) (limits : IsWithinLimits (sizes_in h.config)) (is : e ≡ own_entry old (Load dst src i)) (runs : Runs h old) (goes : dst < 16)
     (m : Measured h.config a src size old.view y) (below : i < size) (read : FieldRead h.config e (Read dst ∷ []) y found z) where
@@ -36,9 +38,8 @@ module _ (h : SharedHeap) (old : Token) (y z : DomainView) (e : Entry) (dst src 
 
   runs_on : (domain_at (state_of h.config y.seen.front) old.view.own.number).ended ≡ false
   runs_on =
-      let before : (domain_at (state_of h.config old.view.seen.front) old.view.own.number).ended ≡ false =
-      subst (λ (k : Config). (domain_at (state_of k old.view.seen.front) old.view.own.number).ended ≡ false) runs.here.1 runs.acts in
-      (keeps_front (opening (sizes_in h.config)) old.view.own.number y.seen.front old.view.seen.front m.looked.seen).ended ∙ before
+      let before : Acts h.config old.view = subst (λ (k : Config). Acts k old.view) runs.here.1 runs.acts in
+      subst (λ (n : ℕ). (domain_at (state_of h.config y.seen.front) n).ended ≡ false) number_is (looked_acts h.config old.view y m.looked before)
 
   answers_is : Answers (sizes_in h.config) old.view.own.number y.seen.front z.seen.front (Command old.view.own.number (Load dst src i) false) (Replied (shown read.held))
   answers_is =
@@ -69,7 +70,7 @@ module _ (h : SharedHeap) (old : Token) (y z : DomainView) (e : Entry) (dst src 
   pub load_did : (w : Token) (r : Reply) → IsIn w h → w.view ≡ z → r ≡ shown (register (state_of h.config z.seen.front) z.own.number dst) → Did h old w (Load dst src i) r
   load_did w r here same reply =
       let replies : r ≡ shown read.held = reply ∙ ap (λ (n : ℕ). shown (register (state_of h.config z.seen.front) n dst)) after_number ∙ ap shown held_after in
-      let whole = answers_after_look (sizes_in h.config) old.view.own.number old.view.seen.front y.seen.front z.seen.front _ _ m.looked.seen answers_is in
+      let whole = answers_after (sizes_in h.config) old.view.own.number old.view.seen.front y.seen.front z.seen.front _ _ m.looked.seen answers_is in
       answered_did h old w (Load dst src i) r runs here (ap (λ (x : DomainView). x.own.number) same ∙ after_number)
       (ap (λ (x : DomainView). x.seen.made) same ∙ ap (λ (x : DomainView). x.seen.made) read.entered.view ∙ ap (λ (x : DomainView). x.seen.made) m.looked.view ∙ runs.idle)
       (subst (λ (x : DomainView). Answers (sizes_in h.config) old.view.own.number old.view.seen.front x.seen.front (own_entry old (Load dst src i)) (Replied r)) (sym same)

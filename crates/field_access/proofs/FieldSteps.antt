@@ -2,9 +2,9 @@
 use Rattle.std.proofs.Common.{◌≡◌, ◌≢◌, ◌∙◌, ℕ, ◌+◌, ◌<◌, false, [], ◌∷◌, refl, sym, ap, subst, arith}
 use Rattle.heap_model.specs.declared.command.Command.TheVariants.{Load, Store}
 use Rattle.heap_model.specs.declared.entry.Entry.{Entry}
-use Rattle.heap_model.specs.Domains.{domain_at, opening}
+use Rattle.heap_model.specs.Domains.{domain_at}
 use Rattle.heap_model.specs.Fronts.{HoldsPlain}
-use Rattle.heap_model.proofs.FrontLemmas.{keeps_front}
+use Rattle.heap_rule.proofs.Acting.{looked_acts}
 use Rattle.heap_words.specs.declared.value.Value.TheVariants.{Ref, Nothing}
 use Rattle.heap_rule.specs.declared.change.Change.TheVariants.{Read}
 use Rattle.heap_rule.specs.declared.config.Config.{Config}
@@ -13,7 +13,6 @@ use Rattle.heap_rule.specs.Changes.{value_at}
 use Rattle.heap_rule.specs.declared.view.Own.{Own}
 use Rattle.heap_rule.specs.Stores.{FieldStoreEntry}
 use Rattle.heap_words.specs.Values.{value_word}
-use Rattle.heap_rule.specs.Limits.{sizes_in}
 use Rattle.heap_rule.specs.Rule.{state_of}
 use Rattle.heap_rule.specs.Loads.{FieldMay, FieldLoadEntry, Measured}
 use Rattle.heap_rule.specs.Standing.{Acts, IsInHeap}
@@ -32,7 +31,6 @@ pub field_known : (h : SharedHeap) (old : Token) (y : DomainView) (r i size a : 
 field_known h old y r i size a runs few held m below =
     let own : y.own ≡ old.view.own = ap (λ (x : DomainView). x.own) m.looked.view in
     let number : y.own.number ≡ old.view.own.number = ap (λ (x : DomainView). x.own.number) m.looked.view in
-    let kept = keeps_front (opening (sizes_in h.config)) old.view.own.number y.seen.front old.view.seen.front m.looked.seen in
     let before : (domain_at (state_of h.config old.view.seen.front) old.view.own.number).ended ≡ false =
     subst (λ (k : Config). (domain_at (state_of k old.view.seen.front) old.view.own.number).ended ≡ false) runs.here.1 runs.acts in
     record {
@@ -44,7 +42,7 @@ field_known h old y r i size a runs few held m below =
         known = subst (λ (n : ℕ). HoldsPlain (state_of h.config y.seen.front) n r size) (sym number) m.knows;
         inside = below;
       };
-      acts = subst (λ (n : ℕ). (domain_at (state_of h.config y.seen.front) n).ended ≡ false) (sym number) (kept.ended ∙ before);
+      acts = looked_acts h.config old.view y m.looked before;
       inside = (omega arith, omega (arith, m.inside));
     }
 

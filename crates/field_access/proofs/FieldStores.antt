@@ -14,7 +14,7 @@ use Rattle.heap_rule.specs.Token.{Token, SharedHeap, IsIn}
 use Rattle.heap_rule.specs.Running.{Runs, Did}
 use Rattle.heap_rule.specs.Running.{own_entry}
 use Rattle.heap_rule.proofs.Calls.{answered_did}
-use Rattle.field_access.proofs.Loading.{answers_after_look}
+use Rattle.heap_model.proofs.FrontLemmas.{answers_after}
 
 -- a call that looked, and then made its entry
 pub looked_did : (h : SharedHeap) (old new : Token) (y : DomainView) (c : Command) (e : Entry) (r : Reply) (read : Value) (changes : List Change) → e ≡ own_entry old c → Runs h old → IsIn new h
@@ -26,4 +26,4 @@ looked_did h old new y c e r read changes is runs here look entered =
     (subst (λ (n : ℕ). Answers (sizes_in h.config) n y.seen.front new.view.seen.front e (Replied r)) number entered.answers) in
     answered_did h old new c r runs here (ap (λ (x : DomainView). x.own.number) entered.view ∙ number)
     (ap (λ (x : DomainView). x.seen.made) entered.view ∙ ap (λ (x : DomainView). x.seen.made) look.view ∙ runs.idle)
-    (answers_after_look (sizes_in h.config) old.view.own.number old.view.seen.front y.seen.front new.view.seen.front _ _ look.seen answers)
+    (answers_after (sizes_in h.config) old.view.own.number old.view.seen.front y.seen.front new.view.seen.front _ _ look.seen answers)

@@ -1,48 +1,25 @@
 -- A load of a field whose block was looked at before.
-use Rattle.std.proofs.Common.{◌≡◌, ◌∙◌, ℕ, zero, suc, Bool, ◌<◌, true, false, List, [], ◌∷◌, ◌++◌, length, get_or, slice_get, Some, IsTrue, refl, sym, ap, append_assoc, arith, get_or-set_same}
-use Rattle.std.specs.List.{list_all}
-use Rattle.std.specs.Prelude.{not, ◌&&◌}
+use Rattle.std.proofs.Common.{◌≡◌, ◌∙◌, ℕ, zero, suc, ◌<◌, false, List, [], ◌∷◌, ◌++◌, length, get_or, slice_get, Some, refl, sym, ap, arith, get_or-set_same}
 use Rattle.heap_model.specs.declared.command.Command.TheVariants.{Load}
 use Rattle.heap_model.specs.declared.entry.Entry.{Entry}
 use Rattle.heap_model.specs.declared.entry.Entry.TheVariants.{Command}
 use Rattle.heap_model.specs.declared.graph.Value.{Value}
 use Rattle.heap_model.specs.declared.graph.Value.TheVariants.{Int, Block, Nothing}
 use Rattle.heap_model.specs.declared.reply.Reply.{Reply}
-use Rattle.heap_model.specs.declared.reply.Applied.{Applied}
 use Rattle.heap_model.specs.declared.reply.Applied.TheVariants.{Replied}
 use Rattle.heap_model.specs.declared.state.Sizes.{Sizes}
 use Rattle.heap_model.specs.declared.state.State.{State}
 use Rattle.heap_model.specs.Commands.{shown}
 use Rattle.heap_model.specs.Domains.{domain_at, register, opening, IsWithinLimits}
-use Rattle.heap_model.specs.Entries.{next, reply}
-use Rattle.heap_model.specs.History.{state_after, is_entry_of}
-use Rattle.heap_model.specs.Fronts.{NoneOf, Answers, IsFrontOf, HoldsPlain}
+use Rattle.heap_model.specs.Entries.{next}
+use Rattle.heap_model.specs.History.{state_after}
+use Rattle.heap_model.specs.Fronts.{Answers, HoldsPlain}
 use Rattle.heap_model.proofs.AnswerLemmas.{before_entry}
 use Rattle.heap_model.proofs.FrameLemmas.{inside_running}
 use Rattle.heap_model.proofs.FrontLemmas.{keeps_front, holds_later}
 use Rattle.heap_model.proofs.HistoryLemmas.{state_after-push}
 use Rattle.heap_model.proofs.LeavesLemmas.{leaves_load}
 use Rattle.heap_model.proofs.ShapeAfterLemmas.{shaped-history}
-
-none_append : (d : ℕ) (h k : List Entry) → NoneOf d h → NoneOf d k → NoneOf d (h ++ k)
-none_append d [] k first second = second
-none_append d (e ∷ h) k first second = both_true (not (is_entry_of d e)) (list_all (λ x. not (is_entry_of d x)) h) (list_all (λ x. not (is_entry_of d x)) (h ++ k)) first (λ rest. none_append d h k rest second)
-  where
-    both_true : (a b c : Bool) → IsTrue (a && b) → (IsTrue b → IsTrue c) → IsTrue (a && c)
-    both_true true b c e f = f e
-    both_true false b c e f = e
-
--- a call that looked first, and then made its entry
-pub answers_after_look : (z : Sizes) (d : ℕ) (old mid new : List Entry) (e : Entry) (a : Applied) → IsFrontOf d mid old → Answers z d mid new e a → Answers z d old new e a
-answers_after_look z d old mid new e a f x =
-    let fronts : mid ++ x.between ≡ old ++ (f.rest ++ x.between) = ap (λ h. h ++ x.between) f.appends ∙ append_assoc old f.rest x.between in
-    record {
-      between = f.rest ++ x.between;
-      others = none_append d f.rest x.between f.others x.others;
-      appends = x.appends ∙ ap (λ h. h ++ e ∷ []) fronts;
-      legal = x.legal;
-      replies = ap (λ h. reply (state_after (opening z) h) e) (sym fronts) ∙ x.replies;
-    }
 
 -- the values that a reply shows
 shown_same : (v w : Value) → shown v ≡ shown w → v ≡ w
