@@ -1,4 +1,5 @@
 pub mod NumberLemmas
-pub mod ReadLemmas
 pub mod RowLemmas
 pub mod WalkLemmas
+pub mod TakesLemmas
+pub mod ReadLemmas

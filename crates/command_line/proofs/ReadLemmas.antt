@@ -5,7 +5,9 @@ use Rattle.clap.proofs.WalkLemmas.{first_value-rows}
 use Rattle.clap.specs.Walk.{Text, first_of}
 use Rattle.clap.specs.Matches.{found_of}
 use Rattle.clap.specs.Simple.{HasMatchesOf}
+use Rattle.clap.specs.Takes.{takes}
 use Rattle.clap.specs.declared.parser.matches.ArgMatches.{ArgMatches}
+use Rattle.command_line.proofs.TakesLemmas.{parse_takes}
 use Rattle.heap_model.specs.declared.state.Sizes.{Sizes}
 use Rattle.command_line.specs.declared.options.Setting.{Setting}
 use Rattle.command_line.specs.declared.options.Setting.TheVariants.{Domains, Minor, Pools}
@@ -54,3 +56,11 @@ some_is (Some x) h = (x, refl)
 -- the sizes of a parse of words that are taken are those that the words ask for
 pub sizes_found : (words : List Text) (m : ArgMatches) (g : Given) → HasMatchesOf run_app (drop 1 words) m → IsReadIn m g → IsSome (run_sizes words) → Some (sizes_given g) ≡ run_sizes words
 sizes_found words m g has is some = let z = some_is (run_sizes words) some in found_by words m g z.0 has is z.1 ∙ sym z.1
+
+-- the words behind `run` are taken by the parse
+pub fits_takes : (words : List Text) → IsSome (run_sizes words) → takes run_app (drop 1 words) ≡ true
+fits_takes [] fits = cc
+fits_takes (word ∷ words) fits =
+    let z = some_is (run_sizes (word ∷ words)) fits in
+    let h = some_of _ (run_given (word ∷ words)) z.0 z.1 in
+    parse_takes words h.0 (run (bytes_eq word (codes "run")) (given_by nothing_read words) h.0 h.1)

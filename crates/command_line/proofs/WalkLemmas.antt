@@ -89,7 +89,7 @@ shows-more g Pools v n rows all gone e Domains = shows-other _ Domains rows _ re
 shows-more g Pools v n rows all gone e Minor = shows-other _ Minor rows _ refl (all Minor)
 shows-more g Pools v n rows all gone e Pools = shows-own Pools v n rows gone e
 
-not_true : (b : Bool) → (b ≡ true → ⊥) → b ≡ false
+pub not_true : (b : Bool) → (b ≡ true → ⊥) → b ≡ false
 not_true true no_way = absurd (no_way refl)
 not_true false no_way = refl
 
@@ -104,7 +104,7 @@ walk_at pending rows skip waiting position = record {
 }
 
 -- a long option is not two hyphens alone
-not_hyphens : (word : Text) (p : Text × Option Text) → long_of word ≡ Some p → bytes_eq word (45 ∷ 45 ∷ []) ≡ false
+pub not_hyphens : (word : Text) (p : Text × Option Text) → long_of word ≡ Some p → bytes_eq word (45 ∷ 45 ∷ []) ≡ false
 not_hyphens word p e = not_true (bytes_eq word (45 ∷ 45 ∷ [])) (λ same. let is : word ≡ 45 ∷ 45 ∷ [] = (bytes_eq-Decides word _).0 same in let none : long_of word ≡ None = ap long_of is in cc)
 
 -- the name of an option that is named
@@ -133,7 +133,7 @@ step_named Minor word pending rows skip position e = rw (not_hyphens word _ e, e
 step_named Pools word pending rows skip position e = rw (not_hyphens word _ e, e) refl
 
 -- a number does not begin with a hyphen
-no_hyphen : (word : Text) → is_decimal word ≡ true → strip_byte 45 word ≡ None
+pub no_hyphen : (word : Text) → is_decimal word ≡ true → strip_byte 45 word ≡ None
 no_hyphen [] d = refl
 no_hyphen (x ∷ xs) d =
     let first : is_ascii_digit x ≡ true = grind (arith, common_steps) in
@@ -147,6 +147,10 @@ decimal-if false d n m e = cc
 pub decimal_of : (word : Text) (n : ℕ) → number_of word ≡ Some n → is_decimal word ≡ true
 decimal_of word n e = decimal-if (is_decimal word) _ n _ e
 
+-- what begins with no hyphen is not two hyphens
+pub one_word : (word : Text) → strip_byte 45 word ≡ None → bytes_eq word (45 ∷ 45 ∷ []) ≡ false
+one_word word plain = not_true _ (λ same. let is : word ≡ 45 ∷ 45 ∷ [] = (bytes_eq-Decides word _).0 same in let one = ap (strip_byte 45) (sym is) ∙ plain in cc)
+
 value-step : (s : Setting) (word : Text) (rows : List Row) (skip position : ℕ) → strip_byte 45 word ≡ None → bytes_eq word (45 ∷ 45 ∷ []) ≡ false
     → walked run_rules [] (walk_at (Some (name_of s, [])) rows skip (option (name_of s)) position) word ≡ walk_at (Some (name_of s, word ∷ [])) rows skip idle position
 unfolding walked
@@ -158,8 +162,7 @@ pub step_value : (s : Setting) (word : Text) (n : ℕ) (rows : List Row) (skip p
     → walked run_rules [] (walk_at (Some (name_of s, [])) rows skip (option (name_of s)) position) word ≡ walk_at (Some (name_of s, word ∷ [])) rows skip idle position
 step_value s word n rows skip position e =
     let plain = no_hyphen word (decimal_of word n e) in
-    let other : bytes_eq word (45 ∷ 45 ∷ []) ≡ false = not_true _ (λ same. let is : word ≡ 45 ∷ 45 ∷ [] = (bytes_eq-Decides word _).0 same in let one = ap (strip_byte 45) (sym is) ∙ plain in cc) in
-    value-step s word rows skip position plain other
+    value-step s word rows skip position plain (one_word word plain)
 
 -- the walk follows what was read: each number given is shown by the rows, once the pending option is used
 abbrev pub Follows : Given → Option Setting → Walk → Type 0
@@ -172,16 +175,16 @@ pub some_of : {A B : Type 0} (f : A → Option B) (o : Option A) (y : B) → opt
 some_of f None y e = cc
 some_of f (Some x) y e = (x, refl, e)
 
-some_map : {A B : Type 0} (f : A → B) (o : Option A) (y : B) → option_map f o ≡ Some y → (x : A) × (o ≡ Some x) × (f x ≡ y)
+pub some_map : {A B : Type 0} (f : A → B) (o : Option A) (y : B) → option_map f o ≡ Some y → (x : A) × (o ≡ Some x) × (f x ≡ y)
 some_map f None y e = cc
 some_map f (Some x) y e = let is : f x ≡ y = cc in (x, refl, is)
 
-if_new : {A : Type 0} (o : Option ℕ) (x : Option A) (y : A) → (if is_some o then None else x) ≡ Some y → (o ≡ None) × (x ≡ Some y)
+pub if_new : {A : Type 0} (o : Option ℕ) (x : Option A) (y : A) → (if is_some o then None else x) ≡ Some y → (o ≡ None) × (x ≡ Some y)
 if_new None x y e = (refl, e)
 if_new (Some n) x y e = cc
 
 -- the row of an option without a number isn't there
-gone : (g : Given) (s : Setting) (rows : List Row) → AllShow g rows → given_at g s ≡ None → has_row (name_of s) rows ≡ false
+pub gone : (g : Given) (s : Setting) (rows : List Row) → AllShow g rows → given_at g s ≡ None → has_row (name_of s) rows ≡ false
 gone g s rows all e = subst (λ o. Shows o s rows) e (all s)
 
 follows_name : (g : Given) (s : Setting) (v : Option Text) (next : Read) (w : Walk) (word : Text) → Follows g None w → long_of word ≡ Some (name_of s, v)
@@ -201,7 +204,7 @@ follows_name g s None next w word f long e =
     let is : record { given = g; waiting = Some s } ≡ next = cc in
     subst (λ (r : Read). Follows r.given r.waiting (walked run_rules [] w word)) is (_, _, _, walk, f.5, new.0)
 
-follows_word : (g : Given) (waiting : Option Setting) (next : Read) (w : Walk) (word : Text) → Follows g waiting w → with_word (record { given = g; waiting = waiting }) word ≡ Some next
+pub follows_word : (g : Given) (waiting : Option Setting) (next : Read) (w : Walk) (word : Text) → Follows g waiting w → with_word (record { given = g; waiting = waiting }) word ≡ Some next
     → Follows next.given next.waiting (walked run_rules [] w word)
 follows_word g (Some s) next w word f e =
     let n = some_map _ (number_of word) next e in
@@ -223,7 +226,7 @@ follows_words (word ∷ words) g waiting w end f e =
     let next = some_of _ (with_word (record { given = g; waiting = waiting }) word) end e in
     follows_words words next.0.given next.0.waiting (walked run_rules [] w word) end (follows_word g waiting next.0 w word f next.1) next.2
 
-none_shown : (s : Setting) → Shows (given_at (record { domains = None; minor = None; pools = None }) s) s []
+pub none_shown : (s : Setting) → Shows (given_at (record { domains = None; minor = None; pools = None }) s) s []
 none_shown Domains = refl
 none_shown Minor = refl
 none_shown Pools = refl

@@ -1,6 +1,7 @@
 //! The options of a run as `clap` reads them.
-ghost use Rattle.std.specs.Prelude.{◌≡◌, IfOk, map, codes, string_bytes};
-ghost use Rattle.clap.specs.Words.{app_of, HasMatchesOf};
+ghost use Rattle.std.specs.Prelude.{◌≡◌, true, IfOk, IfErr, map, codes, string_bytes};
+ghost use Rattle.clap.specs.Words.{app_of, takes, kind_of, HasMatchesOf};
+ghost use Rattle.clap.specs.declared.error.kind.ErrorKind.TheVariants.{OutOfMemory};
 ghost use Rattle.command_line.specs.RunCommand.{run_app, read_in};
 
 use crate::number::number;
@@ -23,12 +24,20 @@ fn run_command<'a>(alloc: Global) -> Result<Command<'a>, AllocError>
     Ok(three)
 }
 
-// The matches of the words behind `run`.
+// The matches of the words behind `run`. Words that the command takes fail for want of memory alone.
 pub(crate) fn matches_of<'a>(alloc: Global, words: &'a [String]) -> Result<ArgMatches<'a>, Error>
-    ensures { IfOk result (HasMatchesOf run_app (map string_bytes words.entry.now)) }
+    ensures matches { IfOk result (HasMatchesOf run_app (map string_bytes words.entry.now)) }
+    ensures memory { IfErr result (λ e. takes run_app (map string_bytes words.entry.now) ≡ true → kind_of e ≡ OutOfMemory) }
 {
     let command = run_command(alloc)?;
     command.try_get_matches_from(words)
+}
+
+// An error that is want of memory.
+pub(crate) fn want_of_memory(_error: Error) -> AllocError
+    requires { kind_of _error ≡ OutOfMemory }
+{
+    AllocError
 }
 
 // The number of an option.

@@ -7,7 +7,7 @@ ghost use Rattle.heap_model.specs.Domains.{IsWithinLimits};
 use crate::long::long_option;
 use crate::number::number;
 use crate::options::{Given, Read, Setting, named_setting};
-use crate::parse::{given_in, matches_of};
+use crate::parse::{given_in, matches_of, want_of_memory};
 use heap_model::state::Sizes;
 use std::alloc::{AllocError, Global};
 
@@ -149,7 +149,7 @@ pub fn read_words(alloc: Global, words: &[String]) -> Result<Option<Sizes>, Allo
     }
     match matches_of(alloc, behind_first(words)) {
         Ok(matches) => Ok(Some(sizes(given_in(&matches)))),
-        Err(_) => Err(AllocError),
+        Err(error) => Err(want_of_memory(error)),
     }
 }
 
