@@ -1,6 +1,6 @@
 -- What the numbers that were read of a line say of it.
 use Rattle.std.proofs.Common.{◌≡◌, ◌≢◌, ℕ, ◌<◌, ℤ, List, [], ◌∷◌, map, length, Bool, true, false, cond, refl, ap, sym, ◌∙◌, subst, arith, None, Some}
-use Rattle.std.specs.Prelude.{Option, option_map, ◌==◌, nat_le, slice_get, sum_by}
+use Rattle.std.specs.Prelude.{Option, option_map, ◌==◌, nat_le, slice_get, sum_by, bytes_eq, codes, if◌then◌else◌}
 use Rattle.std.proofs.lemmas.Bool.Decides.{nat_tests}
 use Rattle.std.proofs.lemmas.List.{length-map}
 use Rattle.heap_model.specs.declared.command.Command.{Command}
@@ -9,9 +9,9 @@ use Rattle.heap_text.specs.declared.form.Word.{Word}
 use Rattle.heap_text.specs.declared.fault.ScriptFault.{ScriptFault}
 use Rattle.heap_text.specs.declared.fault.ScriptFault.TheVariants.{Range}
 use Rattle.heap_text.specs.Number.{clipped, counted_numbers}
-use Rattle.heap_text.specs.Forms.{form, made}
+use Rattle.heap_text.specs.Forms.{form, made, word_of}
 use Rattle.heap_text.specs.Script.{with_command}
-use Rattle.heap_text.specs.Faults.{command, heading_shape, command_shape, first_outside, fault_of_shape}
+use Rattle.heap_text.specs.Faults.{Shape, command, heading_shape, command_shape, row_shape, shape_of, shape, texts, first_outside, fault_of_shape}
 use Rattle.heap_text.specs.Steps.{IsHeadingNumber, AddsCommand}
 use Rattle.heap_text.proofs.RangeLemmas.{first_outside-clipped, map-clipped_kept}
 
@@ -78,3 +78,13 @@ pub command_read : (w : Word) (ts : List (List ℕ)) (kinds : List Operand) (ns 
 command_read w ts kinds ns old new k e n some room outside pushed =
     command_found w (counted_numbers (length (form w).operands) ts) ns old new (e ∙ ap (λ x. option_map (map clipped) (counted_numbers (length x) ts)) k)
     (n ∙ ap length k) some room (outside ∙ ap (λ x. first_outside 1 x ns) k) pushed
+
+-- a line whose first text is the word of a row
+chosen_row : (b : Bool) (first row : Shape) → b ≡ false → (if b then first else row) ≡ row
+chosen_row true first row e = cc
+chosen_row false first row e = refl
+
+pub row_read : (line t : List ℕ) (ts : List (List ℕ)) (w : Word) → texts line ≡ t ∷ ts → bytes_eq t (codes "domain") ≡ false → word_of t ≡ Some w
+    → shape line ≡ command_shape w (counted_numbers (length (form w).operands) ts)
+row_read line t ts w e other found =
+    ap shape_of e ∙ chosen_row (bytes_eq t (codes "domain")) (heading_shape (counted_numbers 1 ts)) (row_shape (word_of t) ts) other ∙ ap (λ (o : Option Word). row_shape o ts) found

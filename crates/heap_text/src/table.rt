@@ -6,7 +6,15 @@ use crate::form::{Operand, Word};
 use heap_model::command::Command;
 
 // The words of the grammar: the commands that are built.
-const BUILT: [Word; 4] = [Word::Int, Word::Alloc, Word::Load, Word::Store];
+const BUILT: [Word; 7] = [
+    Word::Int,
+    Word::Move,
+    Word::Drop,
+    Word::Alloc,
+    Word::Load,
+    Word::Store,
+    Word::Poll,
+];
 
 // The word that a row's line begins with.
 pub(crate) fn text_of(word: Word) -> &'static [u8]

@@ -49,7 +49,7 @@ fn many_lines(alloc: Global, copies: usize, last: &[u8]) -> Result<Vec<u8>, Allo
 
 #[test]
 fn scripts_are_printed_back(rt: HostRuntime) -> Result<(), Fail> {
-    let scripts: [(u32, usize, &[u8]); 7] = [
+    let scripts: [(u32, usize, &[u8]); 8] = [
         (1, 0, b"heap 1\n"),
         (1, 1, b"heap 1\ndomain 0\n"),
         (2, 1, b"heap 1\ndomain 0\nint 0 0\n"),
@@ -64,6 +64,7 @@ fn scripts_are_printed_back(rt: HostRuntime) -> Result<(), Fail> {
             b"heap 1\ndomain 0\nint 1 4611686018427387903\nint 1 -4611686018427387904\n",
         ),
         (1, 1, b"heap 1\ndomain 0\nalloc 1 245 126\nload 2 0 1023\n"),
+        (1, 1, b"heap 1\ndomain 0\nmove 1 15\ndrop 0\npoll\n"),
         (
             8,
             3,
@@ -101,7 +102,7 @@ fn commands_are_read(rt: HostRuntime) -> Result<(), Fail> {
 
 #[test]
 fn first_faults(rt: HostRuntime) -> Result<(), Fail> {
-    let faults: [(u32, &[u8], ScriptFault); 31] = [
+    let faults: [(u32, &[u8], ScriptFault); 33] = [
         (1, b"", syntax(1)),
         (1, b"heap 1", syntax(1)),
         (1, b"heap 2\n", syntax(1)),
@@ -120,6 +121,8 @@ fn first_faults(rt: HostRuntime) -> Result<(), Fail> {
         (1, b"heap 1\ndomain 0\nint 1\t5\n", syntax(3)),
         (1, b"heap 1\ndomain 0\nint 1 5\r\n", syntax(3)),
         (1, b"heap 1\ndomain 0\nallok 1 0 1\n", syntax(3)),
+        (1, b"heap 1\ndomain 0\npoll 1\n", syntax(3)),
+        (1, b"heap 1\ndomain 0\nminor\n", syntax(3)),
         (1, b"heap 1\ndomain 0\nint 99 99\nint\n", range(3, 1)),
         (
             1,
