@@ -9,3 +9,6 @@ mod turns;
 
 pub use run::DomainRun;
 pub use turns::{Turned, turn};
+
+#[cfg(test)]
+mod tests;
