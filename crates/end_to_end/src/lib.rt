@@ -1,4 +1,5 @@
-//! Tests of the program from bytes to bytes, through its top call over memory.
+//! Tests of the program from bytes to bytes, through its top call over memory, and of traces that take
+//! turns on one shared heap.
 #![tactic(auto)]
 
 #[cfg(test)]
@@ -9,3 +10,5 @@ mod faults;
 mod outcome;
 #[cfg(test)]
 mod rows;
+#[cfg(test)]
+mod turns;
