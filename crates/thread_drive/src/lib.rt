@@ -7,3 +7,6 @@ mod taking;
 mod turning;
 
 pub use driving::drive;
+
+#[cfg(test)]
+mod tests;
