@@ -1,0 +1,59 @@
+-- A run is taken out of a list, the others are worked on, and it is put back.
+use Rattle.std.proofs.Common.{◌≡◌, ◌≢◌, ◌∙◌, ℕ, ◌+◌, ◌<◌, ◌≤◌, List, length, sym, ap, subst, ⊎_elim, arith}
+use Rattle.std.specs.Prelude.{slice_index_or}
+use Rattle.std.proofs.lemmas.Bool.{cases_eq, cases_lt}
+use Rattle.domain_turns.specs.Runs.{RunView}
+use Rattle.thread_drive.specs.Taking.{IsTakenOut, IsPutBack}
+
+abbrev pub at : List RunView → ℕ → RunView → RunView
+at xs k d = slice_index_or xs k d
+
+below_last : (place k last len : ℕ) → last ≡ k → k ≢ place → place < len → last + 1 ≡ len → place < last
+below_last place k last len is other inside whole = ⊎_elim (λ (below : place < last). below)
+    (λ (past : last ≤ place). absurd (other (let same : k ≡ place = omega (arith, is, inside, whole, past) in same))) (cases_lt place last)
+
+module _ (Q : RunView → RunView → Type 0) (xs ys zs ws : List RunView) (place : ℕ) (a b : RunView) (out : IsTakenOut xs ys place a) (back : IsPutBack zs ws place b)
+    (same : length zs ≡ length ys) (inside : place < length xs) (worked : (k : ℕ) (d : RunView) → k < length zs → Q (at ys k d) (at zs k d)) (own : Q a b) where
+  moved : (p q r s : RunView) → q ≡ p → s ≡ r → Q p r → Q q s
+  moved p q r s x y t = subst (λ (u : RunView). Q u s) (sym x) (subst (λ (v : RunView). Q p v) (sym y) t)
+
+  inner : (k : ℕ) (d : RunView) → k ≢ place → k < length zs → Q (at xs k d) (at ws k d)
+  inner k d other few = moved (at ys k d) (at xs k d) (at zs k d) (at ws k d)
+      (sym (out.others k d other (let f : k < length ys = omega (arith, few, same) in f))) (back.others k d other few) (worked k d few)
+
+  outer : (d : RunView) → place < length zs → Q (at xs (length zs) d) (at ws (length zs) d)
+  outer d few =
+      let more : place < length ys = omega (arith, few, same) in
+      moved (at ys place d) (at xs (length zs) d) (at zs place d) (at ws (length zs) d) (ap (λ (n : ℕ). at xs n d) same ∙ sym (out.last d more)) (back.last d few) (worked place d few)
+
+  -- what holds of each other run, and of this one, holds of each
+  pub all_kept : (k : ℕ) (d : RunView) → k < length xs → Q (at xs k d) (at ws k d)
+  all_kept k d few = ⊎_elim
+      (λ (is : k ≡ place). subst (λ (n : ℕ). Q (at xs n d) (at ws n d)) (sym is) (moved a (at xs place d) b (at ws place d) (out.taken d) (back.here d) own))
+      (λ (other : k ≢ place). ⊎_elim
+      (λ (below : k < length zs). inner k d other below)
+      (λ (past : length zs ≤ k).
+      let last : length zs ≡ k = omega (arith, out.len, same, few, past) in
+      let room : place < length zs = below_last place k (length zs) (length xs) last other inside (omega (arith, out.len, same)) in
+      subst (λ (n : ℕ). Q (at xs n d) (at ws n d)) last (outer d room))
+      (cases_lt k (length zs)))
+      (cases_eq k place)
+
+  pub whole : length ws ≡ length xs
+  whole = omega (arith, same, out.len, back.len)
+
+  pub all_back : (k : ℕ) (d : RunView) → k < length ws → Q (at xs k d) (at ws k d)
+  all_back k d few = all_kept k d (omega (arith, few, same, out.len, back.len))
+
+-- what holds of each run of a list holds of those that are left, and of the one that was taken out
+pub left_all : (P : RunView → Type 0) (xs ys : List RunView) (place : ℕ) (a : RunView) → IsTakenOut xs ys place a → ((k : ℕ) (d : RunView) → k < length xs → P (at xs k d))
+    → (k : ℕ) (d : RunView) → k < length ys → P (at ys k d)
+left_all P xs ys place a out each k d few = ⊎_elim
+    (λ (is : k ≡ place).
+    let room : place < length ys = subst (λ (n : ℕ). n < length ys) is few in
+    subst (λ (n : ℕ). P (at ys n d)) (sym is) (subst (λ (r : RunView). P r) (sym (out.last d room)) (each (length ys) d (omega (arith, out.len)))))
+    (λ (other : k ≢ place). subst (λ (r : RunView). P r) (sym (out.others k d other few)) (each k d (omega (arith, few, out.len))))
+    (cases_eq k place)
+
+pub taken_here : (P : RunView → Type 0) (xs ys : List RunView) (place : ℕ) (a : RunView) → IsTakenOut xs ys place a → place < length xs → ((k : ℕ) (d : RunView) → k < length xs → P (at xs k d)) → P a
+taken_here P xs ys place a out inside each = subst (λ (r : RunView). P r) (out.taken a) (each place a inside)

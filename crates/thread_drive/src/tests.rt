@@ -1,0 +1,98 @@
+use super::*;
+use domain_turns::DomainRun;
+use heap_model::command::Command;
+use heap_model::reply::Reply;
+use heap_rule::{Config, Heap};
+use outer_io::{Gate, NoGate};
+use std::sync::atomic::{AtomicU32, Ordering};
+use std::test::Fail;
+
+// How often a domain looks for the other one.
+const LOOKS: u32 = 200_000_000;
+
+const TWO: Config = Config {
+    domains: 2,
+    minor_words: 4096,
+    pools: 27,
+    finals: 0,
+    ephes: 0,
+};
+
+// Whether each of two domains has come to its first command, and how many have seen the other there.
+#[derive(Drop)]
+struct Meeting {
+    first: AtomicU32,
+    second: AtomicU32,
+    met: AtomicU32,
+}
+
+impl Meeting {
+    // Raises the one flag, and looks for the other.
+    fn meet(&self, mine: &AtomicU32, other: &AtomicU32) {
+        mine.store(1, Ordering::SeqCst);
+        for _ in 0..LOOKS {
+            if other.load(Ordering::SeqCst) == 1 {
+                self.met.fetch_add(1, Ordering::SeqCst);
+                return;
+            }
+        }
+    }
+}
+
+impl Gate for Meeting {
+    fn before(&self, domain: u32, index: u32) {
+        match (domain, index) {
+            (0, 0) => self.meet(&self.first, &self.second),
+            (1, 0) => self.meet(&self.second, &self.first),
+            _ => (),
+        }
+    }
+
+    fn after(&self, _domain: u32, _index: u32) {}
+}
+
+#[test]
+fn two_calls_meet(rt: HostRuntime) -> Result<(), Fail> {
+    let (heap, mut domains) = Heap::start(rt.alloc(), TWO)?;
+    let second = domains.pop().ok_or("no domain")?;
+    let first = domains.pop().ok_or("no domain")?;
+    let first = DomainRun::make(rt.alloc(), first, vec![in rt.alloc(); Command::Poll]?)?;
+    let second = DomainRun::make(rt.alloc(), second, vec![in rt.alloc(); Command::Poll]?)?;
+    let gate = Meeting {
+        first: AtomicU32::new(0),
+        second: AtomicU32::new(0),
+        met: AtomicU32::new(0),
+    };
+    let runs = vec![in rt.alloc(); first, second]?;
+    let runs = drive(&rt, &heap, runs, &gate);
+    assert_eq!(rt; runs.len(), 2);
+    assert_eq!(rt; gate.met.load(Ordering::SeqCst), 2);
+    Ok(())
+}
+
+#[test]
+fn runs_come_back_in_order_with_their_replies(rt: HostRuntime) -> Result<(), Fail> {
+    let (heap, mut domains) = Heap::start(rt.alloc(), TWO)?;
+    let second = domains.pop().ok_or("no domain")?;
+    let first = domains.pop().ok_or("no domain")?;
+    let put = vec![in rt.alloc(); Command::PutInt { dst: 1, value: 7 }, Command::Poll]?;
+    let load = vec![in rt.alloc();
+        Command::Load {
+            dst: 1,
+            src: 0,
+            index: 16
+        },
+    ]?;
+    let first = DomainRun::make(rt.alloc(), first, put)?;
+    let second = DomainRun::make(rt.alloc(), second, load)?;
+    let runs = vec![in rt.alloc(); first, second]?;
+    let runs = drive(&rt, &heap, runs, &NoGate);
+    let all = [[Reply::Done, Reply::Done].as_slice(), &[Reply::BadIndex]];
+    assert_eq!(rt; runs.len(), 2);
+    for (d, run) in runs.iter().enumerate() {
+        assert_eq!(rt; run.domain().number() as usize, d);
+        assert!(rt; run.has_ended());
+        assert_eq!(rt; run.replies(), all[d]);
+    }
+    Ok(())
+}
