@@ -1,4 +1,2 @@
-pub mod RunningLemmas
-pub mod RunLemmas
 pub mod WritingLemmas
 pub mod ReadingLemmas
