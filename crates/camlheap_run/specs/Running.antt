@@ -1,5 +1,5 @@
 -- The runs of a script's sections on one heap, from its start to its end.
-use Rattle.std.specs.Prelude.{◌≡◌, ℕ, ◌<◌, ◌≤◌, true, false, List, [], map, length, slice_index_or, vec_capacity}
+use Rattle.std.specs.Prelude.{◌≡◌, ◌<◌, ◌≤◌, true, false, List, [], map, length, slice_index_or, vec_capacity}
 use Rattle.std.specs.List.{AllByRecursion}
 use Rattle.heap_model.specs.declared.command.Command.{Command}
 use Rattle.heap_model.specs.declared.state.Sizes.{Sizes}
@@ -34,6 +34,7 @@ pub record HasSection (script : List (List Command)) (t : Token) : Type 0 where
 -- a heap of this size was started, with a run for each domain in order, and there is room for its domains when they come back
 pub record IsBegun (k : Config) (script : List (List Command)) (b : Begun) : Type 0 where
   pub config : b.heap.config ≡ k
+  pub some : 0 < k.domains
   pub runs : b.runs.items ≡ map (opened script) (opening_tokens b.heap.table k 0 k.domains)
   pub empty : b.room.items ≡ []
   pub room : k.domains ≤ vec_capacity b.room
@@ -41,10 +42,13 @@ pub record IsBegun (k : Config) (script : List (List Command)) (b : Begun) : Typ
 abbrev pub token_of : RunView → Token
 token_of r = r.token
 
--- the run is one of the heap's, and its trace has ended
-pub record IsOver (h : SharedHeap) (r : RunView) : Type 0 where
-  pub here : IsIn r.token h
-  pub ended : r.ended ≡ true
+-- the run is one of the heap's
+abbrev pub IsHere : SharedHeap → RunView → Type 0
+IsHere h r = IsIn r.token h
+
+-- its trace has ended
+abbrev pub IsOver : RunView → Type 0
+IsOver r = r.ended ≡ true
 
 -- the heap has ended with these runs: its legal history begins with the front of each, and each has kept its replies
 pub record IsPastOf (h : SharedHeap) (runs : List RunView) (past : Past) : Type 0 where

@@ -9,7 +9,7 @@ use Rattle.camlheap_run.proofs.end.domains_of.Given as goal
 abbrev pub invariant-runs : goal.invariant-runs
 invariant-runs l = record {
   domains : l.domains.items ++ map token_of (into_iter_items l.run-iterator) ≡ map token_of (into_iter_items l.initial.run-iterator);
-  over : AllByRecursion (IsOver l.heap) (into_iter_items l.run-iterator);
+  over : AllByRecursion IsOver (into_iter_items l.run-iterator);
   faithful : AllByRecursion IsRun (into_iter_items l.run-iterator) → AllByRecursion IsRun (into_iter_items l.initial.run-iterator);
   room : length l.domains.items + length (into_iter_items l.run-iterator) ≤ vec_capacity l.domains;
   len : into_iter_len l.run-iterator ≡ length (into_iter_items l.run-iterator);
