@@ -8,4 +8,6 @@ mod faults;
 #[cfg(test)]
 mod outcome;
 #[cfg(test)]
+mod race;
+#[cfg(test)]
 mod rows;
