@@ -1,4 +1,6 @@
-pub mod RunningLemmas
-pub mod RunLemmas
 pub mod WritingLemmas
 pub mod ReadingLemmas
+pub mod SectionLemmas
+pub mod BeginLemmas
+pub mod RunLemmas
+pub mod WordLemmas

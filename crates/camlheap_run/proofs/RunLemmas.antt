@@ -1,82 +1,211 @@
--- A domain's commands make a run, entry by entry.
-use Rattle.std.proofs.Common.{◌≡◌, ℕ, ◌+◌, true, not, cond, List, [], ◌∷◌, ◌++◌, map, length, refl, sym, ap, ◌∙◌, arith, IsTrue, append-nil, subst, length-append, rules}
-use Rattle.std.specs.List.{list_all, list_any}
-use Rattle.std.specs.Prelude.{◌==◌}
-use Rattle.heap_model.specs.declared.command.Command as declared_command
+-- Driven runs, and the history of the heap that they ran on.
+use Rattle.std.proofs.Common.{◌≡◌, ℕ, zero, suc, ◌+◌, ◌<◌, Bool, true, false, List, [], ◌∷◌, ◌++◌, length, map, take, get_or, refl, sym, ap, ◌∙◌, subst, arith, append-nil, Some}
+use Rattle.std.specs.Prelude.{Option, ◌||◌, IsTrue, flat_map, slice_get, slice_index_or}
+use Rattle.std.specs.List.{AllByRecursion, list_any, range_with_len}
+use Rattle.std.specs.Io.KnownBytes.{Appends}
+use Rattle.std.proofs.lemmas.List.{take_all}
+use Rattle.std.proofs.lemmas.Option.{slice_get-get_or, slice_get_within}
+use Rattle.heap_model.specs.declared.command.Command.{Command}
 use Rattle.heap_model.specs.declared.entry.Entry.{Entry}
-use Rattle.heap_model.specs.declared.entry.Entry.TheVariants.{End}
 use Rattle.heap_model.specs.declared.reply.Reply.{Reply}
-use Rattle.heap_model.specs.declared.reply.Applied.TheVariants.{Replied}
 use Rattle.heap_model.specs.declared.state.Sizes.{Sizes}
-use Rattle.heap_model.specs.declared.state.State.{State}
 use Rattle.heap_model.specs.Domains.{opening}
-use Rattle.heap_model.specs.Entries.{Allowed, next, reply}
-use Rattle.heap_model.specs.History.{state_after, LegalFrom, commands, replies, reply_list}
-use Rattle.heap_model.proofs.HistoryLemmas.{legal_push, state_after-push, commands-push, replies-push}
-use Rattle.camlheap_run.specs.Run.{is_end_of, is_answered_full}
-use Rattle.camlheap_run.specs.Replies.{entry_of, entries_of, IsRunning, HasRun, AreReplies}
-use Rattle.camlheap_run.proofs.RunningLemmas.{running_after_command}
+use Rattle.heap_model.specs.History.{Legal, commands, replies, replies_from, state_after}
+use Rattle.heap_model.specs.Output.{line, printed, output, section_text}
+use Rattle.heap_model.proofs.HistoryLemmas.{commands-append, commands-others, replies_from-append, replies_from-others}
+use Rattle.heap_text.specs.Spelling.{heading_text}
+use Rattle.heap_rule.specs.declared.config.Config.{Config}
+use Rattle.heap_rule.specs.Limits.{sizes_in}
+use Rattle.heap_rule.specs.Opening.{opening_token, opening_tokens}
+use Rattle.heap_rule.specs.Token.{Token, SharedHeap, IsIn}
+use Rattle.heap_rule.specs.Ending.{Past, AllIn, AllBegin, Begins}
+use Rattle.domain_turns.specs.Runs.{RunView, IsRun, is_end_of}
+use Rattle.thread_drive.specs.Driven.{Driven}
+use Rattle.camlheap_run.specs.declared.begin.Begun.{Begun}
+use Rattle.camlheap_run.specs.Run.{IsRunOf}
+use Rattle.camlheap_run.specs.Running.{IsBegun, IsHere, IsOver, IsPastOf, opened, token_of}
+use Rattle.camlheap_run.specs.Writing.{AppendsFront, run_text}
+use Rattle.camlheap_run.specs.Outcome.{HasRun, WritesRun, WritesFrontOfRun}
+use Rattle.camlheap_run.proofs.BeginLemmas.{length-opened, opened_at}
 
-map-append : {A B : Type 0} (f : A → B) (xs ys : List A) → map f (xs ++ ys) ≡ map f xs ++ map f ys
-map-append f [] ys = refl
-map-append f (x ∷ xs) ys = ap (λ t. f x ∷ t) (map-append f xs ys)
+pub all_in : (h : SharedHeap) (runs : List RunView) → AllByRecursion (IsHere h) runs → AllIn h (map token_of runs)
+all_in h [] here = tt
+all_in h (r ∷ runs) here = (here.0, all_in h runs here.1)
 
-entries_of-push : (d : ℕ) (cs : List declared_command.Command) (c : declared_command.Command) → entries_of d (cs ++ c ∷ []) ≡ entries_of d cs ++ entry_of d c ∷ []
-entries_of-push d cs c = map-append (entry_of d) cs (c ∷ [])
+-- what holds at each place holds of each
+all_from_each : {A : Type 0} (P : A → Type 0) (xs : List A) → ((i : ℕ) (x : A) → slice_get xs i ≡ Some x → P x) → AllByRecursion P xs
+all_from_each P [] each = tt
+all_from_each P (x ∷ xs) each = (each 0 x refl, all_from_each P xs (λ i y at. each (suc i) y at))
 
-same_number : (d : ℕ) → (d == d) ≡ true
-same_number d = search rules
+each_from_all : {A : Type 0} (P : A → Type 0) (xs : List A) (i : ℕ) (x : A) → AllByRecursion P xs → slice_get xs i ≡ Some x → P x
+each_from_all P [] i x all at = cc
+each_from_all P (y ∷ xs) zero x all at = let is : y ≡ x = cc in subst P is all.0
+each_from_all P (y ∷ xs) (suc i) x all at = each_from_all P xs i x all.1 at
 
--- one more command
-pub has_run_more : (z : Sizes) (d : ℕ) (cs : List declared_command.Command) (s t : State) (rs : List Reply) (c : declared_command.Command) (r : Reply)
-    → HasRun z d cs s rs → Allowed s (entry_of d c) → t ≡ next s (entry_of d c) → reply s (entry_of d c) ≡ Replied r
-    → HasRun z d (cs ++ c ∷ []) t (rs ++ r ∷ [])
-has_run_more z d cs s t rs c r run allowed next_is reply_is =
-    let e : Entry = entry_of d c in
-    let h : List Entry = entries_of d cs in
-    let before : State = state_after (opening z) h in
-    let longer : entries_of d (cs ++ c ∷ []) ≡ h ++ e ∷ [] = entries_of-push d cs c in
-    let runs_on : IsRunning (next s e) d (length cs + 1) = running_after_command s d (length cs) c run.running in
-    let legal : LegalFrom (opening z) (h ++ e ∷ []) = legal_push (opening z) h e run.legal (subst (λ (x : State). Allowed x e) run.state allowed) in
-    let state : t ≡ state_after (opening z) (h ++ e ∷ []) = next_is ∙ ap (λ (x : State). next x e) run.state ∙ sym (state_after-push (opening z) h e) in
-    let own : reply_list (reply before e) ≡ r ∷ [] = ap (λ (x : State). reply_list (reply x e)) (sym run.state) ∙ ap reply_list reply_is in
-    let last : cond (d == d) (reply_list (reply before e)) [] ≡ r ∷ [] = rw same_number own in
-    let answered : rs ++ r ∷ [] ≡ replies z (h ++ e ∷ []) d =
-    ap (λ (l : List Reply). l ++ r ∷ []) run.answered ∙ ap (λ (l : List Reply). replies z h d ++ l) (sym last) ∙ sym (replies-push z h e d) in
+begins_at : (history : List Entry) (runs : List RunView) (i : ℕ) (r : RunView) → AllBegin history (map token_of runs) → slice_get runs i ≡ Some r → Begins history r.token.view
+begins_at history [] i r all at = cc
+begins_at history (q ∷ runs) zero r all at = let is : q ≡ r = cc in subst (λ (x : RunView). Begins history x.token.view) is all.0
+begins_at history (q ∷ runs) (suc i) r all at = begins_at history runs i r all.1 at
+
+-- each run that came back is one that was driven
+abbrev pub EachDriven : SharedHeap → List RunView → List RunView → Type 0
+EachDriven h old new = (i : ℕ) (r : RunView) → slice_get old i ≡ Some r → (q : RunView) × (slice_get new i ≡ Some q) × Driven h r q
+
+driven_from : (h : SharedHeap) (old new : List RunView) → length new ≡ length old → EachDriven h old new → (i : ℕ) (q : RunView) → slice_get new i ≡ Some q → (r : RunView) × Driven h r q
+driven_from h old new long each i q at =
+    let within : i < length new = slice_get_within new i q at in
+    let was : slice_get old i ≡ Some (get_or old i q) = slice_get-get_or old i q (omega arith) in
+    let d = each i (get_or old i q) was in
+    let is : d.0 ≡ q = let both : ◌≡◌ {A = Option RunView} (Some d.0) (Some q) = sym d.1 ∙ at in cc in
+    (get_or old i q, subst (λ (x : RunView). Driven h (get_or old i q) x) is d.2)
+
+pub all_here : (h : SharedHeap) (old new : List RunView) → length new ≡ length old → EachDriven h old new → AllByRecursion (IsHere h) new
+all_here h old new long each = all_from_each (IsHere h) new (λ i q at. (driven_from h old new long each i q at).1.here)
+
+pub all_over : (h : SharedHeap) (old new : List RunView) → length new ≡ length old → EachDriven h old new → AllByRecursion IsOver new
+all_over h old new long each = all_from_each IsOver new (λ i q at. (driven_from h old new long each i q at).1.ended)
+
+-- runs that have begun are the heap's
+pub begun_here : (k : Config) (script : List (List Command)) (b : Begun) → IsBegun k script b → (i : ℕ) (r : RunView) → slice_get b.runs.items i ≡ Some r → IsIn r.token b.heap
+begun_here k script b begun i r at =
+    let runs : List RunView = map (opened script) (opening_tokens b.heap.table k 0 k.domains) in
+    let there : slice_get runs i ≡ Some r = ap (λ (l : List RunView). slice_get l i) (sym begun.runs) ∙ at in
+    let many : length runs ≡ k.domains = length-opened b.heap k script 0 k.domains in
+    let within : i < length runs = slice_get_within runs i r there in
+    let own : slice_get runs i ≡ Some (opened script (opening_token b.heap.table k (0 + i))) = opened_at b.heap k script 0 k.domains i (omega arith) in
+    let is : opened script (opening_token b.heap.table k (0 + i)) ≡ r =
+    let both : ◌≡◌ {A = Option RunView} (Some (opened script (opening_token b.heap.table k (0 + i)))) (Some r) = sym own ∙ there in cc in
+    subst (λ (x : RunView). IsIn x.token b.heap) is (refl, sym begun.config)
+
+pub length-begun : (k : Config) (script : List (List Command)) (b : Begun) → IsBegun k script b → length b.runs.items ≡ k.domains
+length-begun k script b begun = ap length begun.runs ∙ length-opened b.heap k script 0 k.domains
+
+-- what is known once a heap has ended: how it began, that its runs were driven, and that the history begins with their fronts
+pub record Ran (z : Sizes) (k : Config) (script : List (List Command)) (b : Begun) (new : List RunView) (past : Past) : Type 0 where
+  pub sizes : sizes_in k ≡ z
+  pub begun : IsBegun k script b
+  pub long : length new ≡ length b.runs.items
+  pub each : EachDriven b.heap b.runs.items new
+  pub ended : IsPastOf b.heap new past
+
+-- one domain's part of the history: that of its run
+record Told (z : Sizes) (script : List (List Command)) (history : List Entry) (d : ℕ) (q : RunView) : Type 0 where
+  number : q.token.view.own.number ≡ d
+  made : commands history d ≡ slice_index_or script d []
+  ends : IsTrue (list_any (is_end_of d) history)
+  answered : replies z history d ≡ q.replies
+
+any_more : (a b c : Bool) → IsTrue (a || b) → (IsTrue b → IsTrue c) → IsTrue (a || c)
+any_more true b c h f = refl
+any_more false b c h f = f h
+
+any_front : (p : Entry → Bool) (xs ys : List Entry) → IsTrue (list_any p xs) → IsTrue (list_any p (xs ++ ys))
+any_front p [] ys h = cc
+any_front p (x ∷ xs) ys h = any_more (p x) (list_any p xs) (list_any p (xs ++ ys)) h (any_front p xs ys)
+
+-- the history has the commands of the front, and its replies
+commands_of_front : (history : List Entry) (t : Token) → Begins history t.view → commands history t.view.own.number ≡ commands t.view.seen.front t.view.own.number
+commands_of_front history t begins =
+    let d : ℕ = t.view.own.number in
+    let front : List Entry = t.view.seen.front in
+    ap (λ (l : List Entry). commands l d) begins.appends ∙ commands-append front begins.rest d
+    ∙ ap (λ (cs : List Command). commands front d ++ cs) (commands-others begins.rest d begins.others) ∙ append-nil (commands front d)
+
+replies_of_front : (z : Sizes) (history : List Entry) (t : Token) → Begins history t.view → replies z history t.view.own.number ≡ replies z t.view.seen.front t.view.own.number
+replies_of_front z history t begins =
+    let d : ℕ = t.view.own.number in
+    let front : List Entry = t.view.seen.front in
+    ap (λ (l : List Entry). replies_from (opening z) l d) begins.appends ∙ replies_from-append (opening z) front begins.rest d
+    ∙ ap (λ (rs : List Reply). replies_from (opening z) front d ++ rs) (replies_from-others (state_after (opening z) front) begins.rest d begins.others) ∙ append-nil (replies_from (opening z) front d)
+
+ends_in : (history : List Entry) (t : Token) → Begins history t.view → IsTrue (list_any (is_end_of t.view.own.number) t.view.seen.front) → IsTrue (list_any (is_end_of t.view.own.number) history)
+ends_in history t begins over =
+    subst (λ (l : List Entry). IsTrue (list_any (is_end_of t.view.own.number) l)) (sym begins.appends) (any_front (is_end_of t.view.own.number) t.view.seen.front begins.rest over)
+
+told : (h : SharedHeap) (k : Config) (script : List (List Command)) (d : ℕ) (old q : RunView) (history : List Entry) → old ≡ opened script (opening_token h.table k d) → Driven h old q → IsRun q → Begins history q.token.view
+    → Told (sizes_in k) script history d q
+told h k script d old q history is driven run begins =
+    let number : q.token.view.own.number ≡ d = driven.number ∙ ap (λ (r : RunView). r.token.view.own.number) is in
+    let config : q.token.config ≡ k = driven.config ∙ ap (λ (r : RunView). r.token.config) is in
+    let whole : take q.next q.commands ≡ q.commands = ap (λ (m : ℕ). take m q.commands) (run.done driven.ended) ∙ take_all (length q.commands) q.commands (omega arith) in
     record {
-      running = rw (length-append cs (c ∷ []), next_is) runs_on;
-      legal = rw longer legal;
-      state = rw longer state;
-      answered = rw longer answered;
+      number = number;
+      made = ap (commands history) (sym number) ∙ commands_of_front history q.token begins ∙ run.made ∙ whole ∙ driven.commands ∙ ap (λ (r : RunView). r.commands) is;
+      ends = subst (λ (m : ℕ). IsTrue (list_any (is_end_of m) history)) number (ends_in history q.token begins (run.over driven.ended));
+      answered = ap (λ (m : ℕ). replies (sizes_in k) history m) (sym number) ∙ ap (λ (c : Config). replies (sizes_in c) history q.token.view.own.number) (sym config)
+          ∙ replies_of_front (sizes_in q.token.config) history q.token begins ∙ run.answered;
     }
 
--- what a run of one domain's commands is
-commands-entries_of : (cs : List declared_command.Command) → commands (entries_of 0 cs) 0 ≡ cs
-commands-entries_of [] = refl
-commands-entries_of (c ∷ cs) = ap (λ (t : List declared_command.Command). c ∷ t) (commands-entries_of cs)
+-- each domain has its run, which tells its part of the history
+each_told : (z : Sizes) (k : Config) (script : List (List Command)) (b : Begun) (new : List RunView) (past : Past) → Ran z k script b new past → (d : ℕ) → d < k.domains
+    → (q : RunView) × (slice_get new d ≡ Some q) × Told (sizes_in k) script past.history d q
+each_told z k script b new past ran d below =
+    let first : RunView = opened script (opening_token b.heap.table k (0 + d)) in
+    let was : slice_get b.runs.items d ≡ Some first = ap (λ (l : List RunView). slice_get l d) ran.begun.runs ∙ opened_at b.heap k script 0 k.domains d below in
+    let found = ran.each d first was in
+    let same : first ≡ opened script (opening_token b.heap.table k d) = let at : 0 + d ≡ d = omega arith in ap (λ (m : ℕ). opened script (opening_token b.heap.table k m)) at in
+    (found.0, found.1, told b.heap k script d first found.0 past.history same found.2 (each_from_all IsRun new d found.0 ran.ended.faithful found.1) (begins_at past.history new d found.0 ran.ended.fronts found.1))
 
-ends_at_last : (cs : List declared_command.Command) → IsTrue (list_any (is_end_of 0) (entries_of 0 cs ++ End 0 ∷ []))
-ends_at_last [] = refl
-ends_at_last (c ∷ cs) = ends_at_last cs
+sizes_are : (z : Sizes) (k : Config) (script : List (List Command)) (b : Begun) (new : List RunView) (past : Past) → Ran z k script b new past → past.sizes ≡ sizes_in k
+sizes_are z k script b new past ran = ran.ended.sizes ∙ ap sizes_in ran.begun.config
 
-none_is_full : (cs : List declared_command.Command) → IsTrue (list_all (λ e. not (is_answered_full e)) (entries_of 0 cs ++ End 0 ∷ []))
-none_is_full [] = refl
-none_is_full (c ∷ cs) = none_is_full cs
+is_run : (z : Sizes) (k : Config) (script : List (List Command)) (b : Begun) (new : List RunView) (past : Past) → Ran z k script b new past → IsRunOf (sizes_in k) script past.history
+is_run z k script b new past ran = record {
+  legal = subst (λ (y : Sizes). Legal y past.history) (sizes_are z k script b new past ran) ran.ended.legal;
+  each_command = λ d below. (each_told z k script b new past ran d below).2.made;
+  each_ends = λ d below. (each_told z k script b new past ran d below).2.ends;
+}
 
--- the commands, and the end
-pub replies_of_run : (z : Sizes) (cs : List declared_command.Command) (s : State) (rs : List Reply)
-    → z.domains ≡ 1 → HasRun z 0 cs s rs → Allowed s (End 0) → AreReplies z cs rs
-replies_of_run z cs s rs one run allowed =
-    let h : List Entry = entries_of 0 cs in
-    let whole : List Entry = h ++ End 0 ∷ [] in
-    let own : commands whole 0 ≡ cs = commands-push h (End 0) 0 ∙ append-nil (commands h 0) ∙ commands-entries_of cs in
-    record {
-      history = whole;
-      run = record {
-        legal = legal_push (opening z) h (End 0) run.legal (subst (λ (x : State). Allowed x (End 0)) run.state allowed);
-        each_command = λ d below. let first : d ≡ 0 = omega (arith, one, below) in rw first own;
-        each_ends = λ d below. let first : d ≡ 0 = omega (arith, one, below) in rw first (ends_at_last cs);
-        none_full = none_is_full cs;
-      };
-      answered = run.answered ∙ sym (append-nil (replies z h 0)) ∙ sym (replies-push z h (End 0) 0);
-    }
+-- the sections of a range of domains are the texts of their runs
+sections : (f : ℕ → List ℕ) (runs : List RunView) (a n : ℕ) → length runs ≡ n → ((i : ℕ) (q : RunView) → slice_get runs i ≡ Some q → f (a + i) ≡ run_text q) → flat_map f (range_with_len a n) ≡ flat_map run_text runs
+sections f [] a zero long each = refl
+sections f [] a (suc n) long each = absurd (omega arith)
+sections f (q ∷ runs) a zero long each = absurd (omega arith)
+sections f (q ∷ runs) a (suc n) long each =
+    let here : a ≡ a + 0 = omega arith in
+    let first : f a ≡ run_text q = ap f here ∙ each 0 q refl in
+    let shift : (i : ℕ) → (a + 1) + i ≡ a + suc i = λ i. omega arith in
+    let rest : flat_map f (range_with_len (a + 1) n) ≡ flat_map run_text runs = sections f runs (a + 1) n (omega arith) (λ i r at. ap f (shift i) ∙ each (suc i) r at) in
+    ap (λ (l : List ℕ). l ++ flat_map f (range_with_len (a + 1) n)) first ∙ ap (λ (l : List ℕ). run_text q ++ l) rest
+
+text_told : (z : Sizes) (script : List (List Command)) (history : List Entry) (d : ℕ) (q : RunView) → Told z script history d q → section_text z history d ≡ run_text q
+text_told z script history d q t =
+    ap (λ (rs : List Reply). line (heading_text d) ++ printed rs) t.answered ∙ ap (λ (m : ℕ). line (heading_text m) ++ printed q.replies) (sym t.number)
+
+-- what the history prints are the texts of the runs
+prints : (z : Sizes) (k : Config) (script : List (List Command)) (b : Begun) (new : List RunView) (past : Past) → Ran z k script b new past → output (sizes_in k) past.history ≡ flat_map run_text new
+prints z k script b new past ran =
+    let many : length new ≡ k.domains = ran.long ∙ length-begun k script b ran.begun in
+    sections (section_text (sizes_in k) past.history) new 0 k.domains many (λ i q at.
+    let below : i < length new = slice_get_within new i q at in
+    let t = each_told z k script b new past ran i (omega arith) in
+    let is : t.0 ≡ q = let both : ◌≡◌ {A = Option RunView} (Some t.0) (Some q) = sym t.1 ∙ at in cc in
+    let same : 0 + i ≡ i = omega arith in
+    ap (section_text (sizes_in k) past.history) same ∙ text_told (sizes_in k) script past.history i t.0 t.2 ∙ ap run_text is)
+
+has_run : (z : Sizes) (k : Config) (script : List (List Command)) (b : Begun) (new : List RunView) (past : Past) (ended : Option Past) → Ran z k script b new past → Some past ≡ ended → HasRun z script ended
+has_run z k script b new past ended ran is = record {
+  past = past;
+  is_past = sym is;
+  sizes = sizes_are z k script b new past ran ∙ ran.sizes;
+  run = subst (λ (y : Sizes). IsRunOf y script past.history) ran.sizes (is_run z k script b new past ran);
+}
+
+printed_is : (z : Sizes) (k : Config) (script : List (List Command)) (b : Begun) (new shown : List RunView) (past : Past) → Ran z k script b new past → shown ≡ new → flat_map run_text shown ≡ output z past.history
+printed_is z k script b new shown past ran is = ap (flat_map run_text) is ∙ sym (prints z k script b new past ran) ∙ ap (λ (y : Sizes). output y past.history) ran.sizes
+
+pub writes_run : (z : Sizes) (k : Config) (script : List (List Command)) (b : Begun) (new shown : List RunView) (past : Past) (ended : Option Past) (before after : Option (List ℕ))
+    → Ran z k script b new past → shown ≡ new → Some past ≡ ended → Appends before after (flat_map run_text shown) → WritesRun z script ended before after
+unfolding has_run
+writes_run z k script b new shown past ended before after ran is last bytes = record {
+  ran = has_run z k script b new past ended ran last;
+  written = subst (λ (t : List ℕ). Appends before after t) (printed_is z k script b new shown past ran is) bytes;
+}
+
+pub writes_front : (z : Sizes) (k : Config) (script : List (List Command)) (b : Begun) (new shown : List RunView) (past : Past) (ended : Option Past) (before after : Option (List ℕ))
+    → Ran z k script b new past → shown ≡ new → Some past ≡ ended → AppendsFront before after (flat_map run_text shown) → WritesFrontOfRun z script ended before after
+unfolding has_run
+writes_front z k script b new shown past ended before after ran is last bytes = record {
+  ran = has_run z k script b new past ended ran last;
+  written = subst (λ (t : List ℕ). AppendsFront before after t) (printed_is z k script b new shown past ran is) bytes;
+}

@@ -1,11 +1,10 @@
 -- What is written in two steps is written in one.
-use Rattle.std.proofs.Common.{◌≡◌, ℕ, ◌+◌, ◌<◌, List, [], ◌∷◌, ◌++◌, length, get_or, take, drop, refl, sym, ap, ◌∙◌, append_assoc, append-nil, take-append-drop, drop-cons, add-one, Result, Ok, Err}
-use Rattle.std.proofs.lemmas.List.{take_more}
+use Rattle.std.proofs.Common.{◌≡◌, ℕ, ◌+◌, ◌<◌, List, [], ◌∷◌, ◌++◌, length, get_or, take, drop, sym, ap, ◌∙◌, append_assoc, append-nil, take-append-drop, drop-cons, add-one, Result, Ok, Err}
+use Rattle.std.specs.Prelude.{flat_map}
+use Rattle.std.proofs.lemmas.List.Concat.{flat_map-append}
 use Rattle.std.specs.declared.option.Option.{Option}
 use Rattle.std.specs.Io.KnownBytes.{Appends, Keeps}
 use Rattle.std.proofs.KnownBytes.{Appends-trans, Appends-kept}
-use Rattle.heap_model.specs.declared.reply.Reply.{Reply}
-use Rattle.heap_model.specs.Output.{line, reply_text, printed}
 use Rattle.camlheap_run.specs.Writing.{AppendsFront, Writes}
 
 -- the first text was appended, and a front part of the second
@@ -40,15 +39,8 @@ front_at_fault a b c text at part kept = record {
   appended = Appends-kept a b c (take at text) part kept;
 }
 
--- the lines of replies, up to one and from there on
-printed-append : (rs qs : List Reply) → printed (rs ++ qs) ≡ printed rs ++ printed qs
-printed-append [] qs = refl
-printed-append (r ∷ rs) qs = ap (λ (l : List ℕ). line (reply_text r) ++ l) (printed-append rs qs) ∙ sym (append_assoc (line (reply_text r)) (printed rs) (printed qs))
-
-pub printed_at : (rs : List Reply) (i : ℕ) (r : Reply) → i < length rs → printed rs ≡ printed (take i rs) ++ (line (reply_text (get_or rs i r)) ++ printed (drop (i + 1) rs))
-printed_at rs i r below =
-    ap printed (sym (take-append-drop i rs)) ∙ printed-append (take i rs) (drop i rs)
-    ∙ ap (λ (qs : List Reply). printed (take i rs) ++ printed qs) (drop-cons rs i r below ∙ ap (λ (n : ℕ). get_or rs i r ∷ drop n rs) (sym (add-one i)))
-
-pub printed_more : (rs : List Reply) (i : ℕ) (r : Reply) → i < length rs → printed (take (i + 1) rs) ≡ printed (take i rs) ++ line (reply_text (get_or rs i r))
-printed_more rs i r below = ap printed (take_more rs i r below) ∙ printed-append (take i rs) (get_or rs i r ∷ []) ∙ ap (λ (l : List ℕ). printed (take i rs) ++ l) (append-nil (line (reply_text (get_or rs i r))))
+-- the texts of the parts of a list, up to one and from there on
+pub text_at : {A : Type 0} (f : A → List ℕ) (xs : List A) (i : ℕ) (x : A) → i < length xs → flat_map f xs ≡ flat_map f (take i xs) ++ (f (get_or xs i x) ++ flat_map f (drop (i + 1) xs))
+text_at {A} f xs i x below =
+    ap (flat_map f) (sym (take-append-drop i xs)) ∙ flat_map-append f (take i xs) (drop i xs)
+    ∙ ap (λ (ys : List A). flat_map f (take i xs) ++ flat_map f ys) (drop-cons xs i x below ∙ ap (λ (n : ℕ). get_or xs i x ∷ drop n xs) (sym (add-one i)))

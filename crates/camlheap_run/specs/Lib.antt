@@ -3,5 +3,5 @@ pub mod Words
 pub mod Reading
 pub mod Writing
 pub mod Run
-pub mod Replies
+pub mod Running
 pub mod Outcome

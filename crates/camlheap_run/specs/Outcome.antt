@@ -1,37 +1,44 @@
 -- What the top call has done by the end. Where the source tells its bytes they are those that were read, and where the sink tells its own they have grown by those that were written.
-use Rattle.std.specs.Prelude.{◌≡◌, ℕ, ◌⊎◌, List, Option}
+use Rattle.std.specs.Prelude.{◌≡◌, ℕ, ◌⊎◌, List, Option, Some}
 use Rattle.std.specs.Io.KnownBytes.{Appends}
 use Rattle.heap_model.specs.declared.command.Command.{Command}
 use Rattle.heap_model.specs.declared.state.Sizes.{Sizes}
+use Rattle.heap_model.specs.Output.{output}
+use Rattle.heap_rule.specs.Ending.{Past}
 use Rattle.camlheap_run.specs.declared.status.Status.{Status}
-use Rattle.camlheap_run.specs.declared.status.Status.TheVariants.{Done, WriteFault}
+use Rattle.camlheap_run.specs.declared.status.Status.TheVariants.{Done, WriteFault, Memory}
 use Rattle.camlheap_run.specs.Reading.{ReadsScript}
 use Rattle.camlheap_run.specs.Writing.{AppendsFront}
-use Rattle.camlheap_run.specs.Run.{IsPrintedBy}
+use Rattle.camlheap_run.specs.Run.{IsRunOf}
 
--- what a run of this script prints was written
-pub record WritesRun (z : Sizes) (script : List (List Command)) (before after : Option (List ℕ)) : Type 0 where
-  pub text : List ℕ
-  pub is_printed : IsPrintedBy z script text
-  pub written : Appends before after text
+-- the heap that has ended is one of these sizes, and its history is a run of this script
+pub record HasRun (z : Sizes) (script : List (List Command)) (ended : Option Past) : Type 0 where
+  pub past : Past
+  pub is_past : ended ≡ Some past
+  pub sizes : past.sizes ≡ z
+  pub run : IsRunOf z script past.history
 
--- a front part of what a run of this script prints was written
-pub record WritesFrontOfRun (z : Sizes) (script : List (List Command)) (before after : Option (List ℕ)) : Type 0 where
-  pub text : List ℕ
-  pub is_printed : IsPrintedBy z script text
-  pub written : AppendsFront before after text
+-- such a run, and what its history prints was written
+pub record WritesRun (z : Sizes) (script : List (List Command)) (ended : Option Past) (before after : Option (List ℕ)) : Type 0 where
+  pub ran : HasRun z script ended
+  pub written : Appends before after (output z ran.past.history)
 
--- Done: the source was read to its end, its bytes spell a script, and what a run of it prints was written
-pub record RunsToEnd (z : Sizes) (left_before left_after written_before written_after : Option (List ℕ)) : Type 0 where
+-- such a run, and a front part of what its history prints was written
+pub record WritesFrontOfRun (z : Sizes) (script : List (List Command)) (ended : Option Past) (before after : Option (List ℕ)) : Type 0 where
+  pub ran : HasRun z script ended
+  pub written : AppendsFront before after (output z ran.past.history)
+
+-- Done: the source was read to its end, its bytes spell a script, a heap made a run of it, and what its history prints was written
+pub record RunsToEnd (z : Sizes) (ended : Option Past) (left_before left_after written_before written_after : Option (List ℕ)) : Type 0 where
   pub script : List (List Command)
   pub reads : ReadsScript z.domains left_before left_after script
-  pub writes : WritesRun z script written_before written_after
+  pub writes : WritesRun z script ended written_before written_after
 
 -- WriteFault: the same, and a front part was written
-pub record StopsWriting (z : Sizes) (left_before left_after written_before written_after : Option (List ℕ)) : Type 0 where
+pub record StopsWriting (z : Sizes) (ended : Option Past) (left_before left_after written_before written_after : Option (List ℕ)) : Type 0 where
   pub script : List (List Command)
   pub reads : ReadsScript z.domains left_before left_after script
-  pub writes : WritesFrontOfRun z script written_before written_after
+  pub writes : WritesFrontOfRun z script ended written_before written_after
 
 -- one of two answers
 abbrev pub IsEither : {A : Type 0} → A → A → A → Type 0
@@ -39,6 +46,19 @@ IsEither answer a b = (answer ≡ a) ⊎ (answer ≡ b)
 
 -- a status after which nothing was written
 abbrev pub IsQuiet : Status → Type 0
-IsQuiet Done = ⊥
-IsQuiet WriteFault = ⊥
+IsQuiet (Done ended) = ⊥
+IsQuiet (WriteFault ended) = ⊥
 IsQuiet _ = Unit {0}
+
+-- the run was done, or memory ran out before its first byte
+abbrev pub IsDoneOrMemory : Status → Type 0
+IsDoneOrMemory (Done ended) = Unit {0}
+IsDoneOrMemory Memory = Unit {0}
+IsDoneOrMemory _ = ⊥
+
+-- what a run of a script answers: that, or that a write failed
+abbrev pub IsRunAnswer : Status → Type 0
+IsRunAnswer (Done ended) = Unit {0}
+IsRunAnswer (WriteFault ended) = Unit {0}
+IsRunAnswer Memory = Unit {0}
+IsRunAnswer _ = ⊥

@@ -8,12 +8,12 @@ use Rattle.camlheap_run.specs.declared.status.Status.TheVariants.{Done, Usage, S
 
 -- the number with which the program ends
 abbrev pub number_of : Status → ℕ
-number_of Done = 0
+number_of (Done ended) = 0
 number_of Usage = 1
 number_of (Script NoMemory) = 5
 number_of (Script fault) = 2
 number_of ReadFault = 3
-number_of WriteFault = 4
+number_of (WriteFault ended) = 4
 number_of Memory = 5
 
 -- what is said of a line of the script
@@ -31,9 +31,9 @@ fault_text NoMemory = codes "out of memory"
 
 -- the line of a status, with its line feed; a run that is done has none
 abbrev pub line_of : Status → List ℕ
-line_of Done = []
+line_of (Done ended) = []
 line_of Usage = line (codes "usage: camlheap run [--domains N] [--minor W] [--pools P] | gen BASE N C | load BASE N C")
 line_of (Script fault) = line (fault_text fault)
 line_of ReadFault = line (codes "read fault")
-line_of WriteFault = line (codes "write fault")
+line_of (WriteFault ended) = line (codes "write fault")
 line_of Memory = line (codes "out of memory")

@@ -1,32 +1,51 @@
 //! Runs a script, and writes what it prints.
-ghost use Rattle.std.specs.Prelude.{◌≡◌, ◌≤◌, ◌⊎◌};
-ghost use Rattle.camlheap_run.specs.Words.{default_sizes};
+ghost use Rattle.std.specs.Prelude.{◌≡◌, ◌≤◌, Option};
+ghost use Rattle.heap_rule.specs.Ending.{Past};
 ghost use Rattle.outer_io.specs.Faults.{Rose};
 ghost use Rattle.camlheap_run.specs.Reading.{IsSpelled};
-ghost use Rattle.camlheap_run.specs.Outcome.{WritesRun, WritesFrontOfRun};
+ghost use Rattle.camlheap_run.specs.Running.{AreRunSizes};
+ghost use Rattle.camlheap_run.specs.Outcome.{WritesRun, WritesFrontOfRun, IsRunAnswer};
 
 use crate::Status;
-use crate::replies::replies_to;
-use crate::writing::write_section;
+use crate::begin::{Begun, begin, config_of};
+use crate::end::end;
+use crate::writing::write_runs;
+use heap_model::state::Sizes;
 use heap_text::Script;
-use outer_io::{Failed, Sink};
+use outer_io::{Failed, Gate, Sink};
 use std::alloc::{AllocError, Global};
+use std::sync::Wait;
+use std::thread::Threads;
+use thread_drive::drive;
 
-// Runs the one section of a script, and then writes it. All memory is taken before the first byte is written.
-pub(crate) fn run<K: Sink>(alloc: Global, script: &Script, out: &mut K) -> Status
-    requires { IsSpelled 1 script.now }
+// Runs the sections of a script on one heap, each domain in a thread, and then writes them in order. All memory is
+// taken before the first command.
+pub(crate) fn run<R: Threads + Wait + Sync, K: Sink, G: Gate + Sync>(
+    rt: &R,
+    alloc: Global,
+    sizes: &Sizes,
+    script: &Script,
+    out: &mut K,
+    gate: &G,
+) -> Status
+    requires limits { AreRunSizes sizes.now }
+    requires script { IsSpelled sizes.now.domains script.now }
     ensures later { K.faults out.old ≤ K.faults out.new }
-    ensures done { result ≡ Status.Done → WritesRun (default_sizes 1) script.now (K.written out.old) (K.written out.new) }
-    ensures cut { result ≡ Status.WriteFault → WritesFrontOfRun (default_sizes 1) script.now (K.written out.old) (K.written out.new) }
-    ensures fault { result ≡ Status.WriteFault → Rose (K.faults out.old) (K.faults out.new) }
+    ensures done { (ended : Option Past) → result ≡ Status.Done ended → WritesRun sizes.now script.now ended (K.written out.old) (K.written out.new) }
+    ensures cut { (ended : Option Past) → result ≡ Status.WriteFault ended → WritesFrontOfRun sizes.now script.now ended (K.written out.old) (K.written out.new) }
+    ensures fault { (ended : Option Past) → result ≡ Status.WriteFault ended → Rose (K.faults out.old) (K.faults out.new) }
     ensures quiet { result ≡ Status.Memory → out.new ≡ out.old }
-    ensures answers { (result ≡ Status.Done) ⊎ (result ≡ Status.WriteFault) ⊎ (result ≡ Status.Memory) }
+    ensures answers { IsRunAnswer result }
 {
-    match replies_to(alloc, script.section(0)) {
-        Err(AllocError) => Status::Memory,
-        Ok(replies) => match write_section(out, 0, &replies) {
-            Ok(()) => Status::Done,
-            Err(Failed) => Status::WriteFault,
-        },
+    let Begun { heap, runs, room } = match begin(alloc, config_of(sizes), script) {
+        Ok(begun) => begun,
+        Err(AllocError) => return Status::Memory,
+    };
+    let runs = drive(rt, &heap, runs, gate);
+    let written = write_runs(out, &runs);
+    let ended = Some(end(heap, runs, room));
+    match written {
+        Ok(()) => Status::Done { ended },
+        Err(Failed) => Status::WriteFault { ended },
     }
 }

@@ -3,22 +3,23 @@ ghost use Rattle.std.specs.Prelude.{◌≡◌, ◌≤◌, ◌+◌, ◌++◌, tak
 ghost use Rattle.camlheap_run.specs.Status.{number_of, line_of, fault_text};
 ghost use Rattle.heap_model.specs.Output.{line};
 
+use heap_rule::Ended;
 use heap_text::ScriptFault;
 use itoa::Buffer;
 
 /// How a run of the program ended.
-#[derive(Clone, Copy, Debug, PartialEq, Eq)]
+#[derive(Drop)]
 pub enum Status {
-    /// The whole text was written.
-    Done,
+    /// The whole text was written. `ended` is the heap that has ended, whose history was run.
+    Done { ended: Option<Ended> },
     /// The words of the command line aren't in the grammar. Nothing was read.
     Usage,
     /// The script has this fault first.
     Script(ScriptFault),
     /// A read failed.
     ReadFault,
-    /// A write failed. What was written is the front of what was to be written.
-    WriteFault,
+    /// A write failed. What was written is the front of what was to be written. `ended` is as in `Done`.
+    WriteFault { ended: Option<Ended> },
     /// Memory ran out before the first byte was written.
     Memory,
 }
@@ -28,12 +29,12 @@ pub fn status_number(status: &Status) -> u8
     ensures { result ≡ number_of status.now }
 {
     match status {
-        Status::Done => 0,
+        Status::Done { .. } => 0,
         Status::Usage => 1,
         Status::Script(ScriptFault::Memory) | Status::Memory => 5,
         Status::Script(_) => 2,
         Status::ReadFault => 3,
-        Status::WriteFault => 4,
+        Status::WriteFault { .. } => 4,
     }
 }
 
@@ -98,11 +99,11 @@ pub fn fault_line(status: &Status, out: &mut [u8; 128]) -> usize
     ensures line { take result out.new ≡ line_of status.now }
 {
     match status {
-        Status::Done => 0,
+        Status::Done { .. } => 0,
         Status::Usage => put(out, 0, USAGE),
         Status::Script(fault) => put_fault(out, fault),
         Status::ReadFault => put(out, 0, b"read fault\n"),
-        Status::WriteFault => put(out, 0, b"write fault\n"),
+        Status::WriteFault { .. } => put(out, 0, b"write fault\n"),
         Status::Memory => put(out, 0, b"out of memory\n"),
     }
 }

@@ -1,25 +1,27 @@
 //! The top call: the words, reading, the script, running and writing, in this order.
-ghost use Rattle.std.specs.Prelude.{◌≡◌, ◌≢◌, ◌≤◌, List, map, string_bytes};
+ghost use Rattle.std.specs.Prelude.{◌≡◌, ◌≢◌, ◌≤◌, List, Option, map, string_bytes};
 ghost use Rattle.heap_model.specs.declared.command.Command.{Command};
+ghost use Rattle.heap_rule.specs.Ending.{Past};
 ghost use Rattle.heap_text.specs.declared.fault.ScriptFault.{ScriptFault};
 ghost use Rattle.outer_io.specs.Faults.{Rose};
 ghost use Rattle.camlheap_run.specs.Words.{AreRunWords, asked_sizes};
 ghost use Rattle.camlheap_run.specs.Reading.{ReadsFault, TellsScript, TellsFault};
-ghost use Rattle.camlheap_run.specs.Outcome.{RunsToEnd, StopsWriting, IsQuiet, IsEither};
+ghost use Rattle.camlheap_run.specs.Outcome.{RunsToEnd, StopsWriting, IsQuiet, IsEither, IsDoneOrMemory};
 
 use crate::Status;
 use crate::reading::{NoScript, script_of};
 use crate::run::run;
-use crate::words::are_run_words;
+use command_line::{read_words, words_fit};
 use outer_io::{Gate, Sink, Source};
 use std::alloc::Global;
 use std::sync::Wait;
 use std::thread::Threads;
 
-/// Reads a script from the source, runs it, and writes the replies to the sink: for each domain the line `domain d`
-/// and the lines of its replies.
+/// Reads a script from the source, runs its sections on one shared heap, each domain in a thread of its own, and writes
+/// the replies to the sink: for each domain the line `domain d` and the lines of its replies.
 ///
-/// `words` are the words of the command line behind the program's name. The refusals come in the order in which the
+/// `words` are the words of the command line behind the program's name: `run`, and the options of
+/// [`words_fit`](command_line::words_fit). The refusals come in the order in which the
 /// work is done: the words, reading, the script, running, writing. Want of memory may come at any time before the
 /// first byte is written.
 pub fn camlheap<R: Threads + Wait + Sync, S: Source, K: Sink, G: Gate + Sync>(
@@ -31,9 +33,9 @@ pub fn camlheap<R: Threads + Wait + Sync, S: Source, K: Sink, G: Gate + Sync>(
     gate: &G,
 ) -> Status
     // What was read and written, where the run ended well, and where a write failed.
-    ensures done { result ≡ Status.Done → RunsToEnd (asked_sizes (map string_bytes words.now))
+    ensures done { (ended : Option Past) → result ≡ Status.Done ended → RunsToEnd (asked_sizes (map string_bytes words.now)) ended
         (S.left src.old) (S.left src.new) (K.written out.old) (K.written out.new) }
-    ensures cut { result ≡ Status.WriteFault → StopsWriting (asked_sizes (map string_bytes words.now))
+    ensures cut { (ended : Option Past) → result ≡ Status.WriteFault ended → StopsWriting (asked_sizes (map string_bytes words.now)) ended
         (S.left src.old) (S.left src.new) (K.written out.old) (K.written out.new) }
     ensures quiet { IsQuiet result → out.new ≡ out.old }
 
@@ -45,23 +47,26 @@ pub fn camlheap<R: Threads + Wait + Sync, S: Source, K: Sink, G: Gate + Sync>(
     ensures reads { S.faults src.old ≤ S.faults src.new }
     ensures writes { K.faults out.old ≤ K.faults out.new }
     ensures read_fault { result ≡ Status.ReadFault → Rose (S.faults src.old) (S.faults src.new) }
-    ensures write_fault { result ≡ Status.WriteFault → Rose (K.faults out.old) (K.faults out.new) }
+    ensures write_fault { (ended : Option Past) → result ≡ Status.WriteFault ended → Rose (K.faults out.old) (K.faults out.new) }
 
     // Where the source tells its bytes, they decide, unless a read or a write fails or memory runs out.
     ensures complete { (s : List (List Command)) → AreRunWords (map string_bytes words.now)
         → TellsScript (asked_sizes (map string_bytes words.now)).domains (S.left src.old) s
         → ¬ (Rose (S.faults src.old) (S.faults src.new)) → ¬ (Rose (K.faults out.old) (K.faults out.new))
-        → IsEither result Status.Done Status.Memory }
+        → IsDoneOrMemory result }
     ensures refused { (f : ScriptFault) → AreRunWords (map string_bytes words.now)
         → TellsFault (asked_sizes (map string_bytes words.now)).domains (S.left src.old) f
         → ¬ (Rose (S.faults src.old) (S.faults src.new))
         → IsEither result (Status.Script f) Status.Memory }
 {
-    if !are_run_words(words) {
+    if !words_fit(words) {
         return Status::Usage;
     }
-    match script_of(alloc, 1, src) {
-        Ok(script) => run(alloc, &script, out),
+    let Ok(Some(sizes)) = read_words(alloc, words) else {
+        return Status::Memory;
+    };
+    match script_of(alloc, sizes.domains, src) {
+        Ok(script) => run(rt, alloc, &sizes, &script, out, gate),
         Err(reason) => match reason {
             NoScript::ReadFault => Status::ReadFault,
             NoScript::Refused(fault) => Status::Script(fault),

@@ -1,10 +1,11 @@
 //! Hands the text of a run to a sink, line by line.
-ghost use Rattle.std.specs.Prelude.{◌≤◌, ◌++◌, length, OnErr};
+ghost use Rattle.std.specs.Prelude.{◌≤◌, ◌++◌, length, flat_map, OnErr};
 ghost use Rattle.heap_model.specs.Output.{line, reply_text, printed};
 ghost use Rattle.heap_text.specs.Spelling.{heading_text};
 ghost use Rattle.outer_io.specs.Faults.{Rose};
-ghost use Rattle.camlheap_run.specs.Writing.{Writes};
+ghost use Rattle.camlheap_run.specs.Writing.{Writes, run_text};
 
+use domain_turns::DomainRun;
 use heap_model::reply::Reply;
 use heap_text::{print_heading, print_reply};
 use outer_io::{Failed, Sink};
@@ -62,11 +63,7 @@ fn write_replies<K: Sink>(out: &mut K, replies: &[Reply]) -> Result<(), Failed>
 }
 
 // Writes the section of a domain: its heading, and the lines of its replies.
-pub(crate) fn write_section<K: Sink>(
-    out: &mut K,
-    domain: u32,
-    replies: &[Reply],
-) -> Result<(), Failed>
+fn write_section<K: Sink>(out: &mut K, domain: u32, replies: &[Reply]) -> Result<(), Failed>
     ensures later { K.faults out.old ≤ K.faults out.new }
     ensures fault { OnErr result (Rose (K.faults out.old) (K.faults out.new)) }
     ensures bytes { Writes (K.written out.old) (K.written out.new) result (line (heading_text domain) ++ printed replies.now) }
@@ -75,4 +72,18 @@ pub(crate) fn write_section<K: Sink>(
         return Err(failed);
     }
     write_replies(out, replies)
+}
+
+// Writes the sections of runs, in order.
+pub(crate) fn write_runs<K: Sink>(out: &mut K, runs: &[DomainRun]) -> Result<(), Failed>
+    ensures later { K.faults out.old ≤ K.faults out.new }
+    ensures fault { OnErr result (Rose (K.faults out.old) (K.faults out.new)) }
+    ensures bytes { Writes (K.written out.old) (K.written out.new) result (flat_map run_text runs.now) }
+{
+    'runs: for run in runs {
+        if let Err(failed) = write_section(out, run.domain().number(), run.replies()) {
+            return Err(failed);
+        }
+    }
+    Ok(())
 }

@@ -9,6 +9,8 @@ mod faults;
 #[cfg(test)]
 mod outcome;
 #[cfg(test)]
+mod race;
+#[cfg(test)]
 mod rows;
 #[cfg(test)]
 mod turns;

@@ -3,25 +3,37 @@ use crate::outcome::{PLAIN, PLAIN_PRINTS, outcome_of, sink, source};
 use std::test::Fail;
 
 #[test]
-fn scripts_of_one_domain(rt: HostRuntime) -> Result<(), Fail> {
-    for (script, prints) in [
-        (PLAIN, PLAIN_PRINTS),
-        ("heap 1\ndomain 0\n", "domain 0\n"),
+fn scripts_of_few_replies(rt: HostRuntime) -> Result<(), Fail> {
+    for (words, script, prints) in [
+        ("run --domains 1", PLAIN, PLAIN_PRINTS),
+        ("run --domains 1", "heap 1\ndomain 0\n", "domain 0\n"),
+        ("run", "heap 1\ndomain 0\n", "domain 0\ndomain 1\n"),
         (
+            "run --domains 3",
+            "heap 1\ndomain 0\nint 1 4\nstore 0 5 1\nload 2 0 5\n",
+            "domain 0\nok\nok\nint 4\ndomain 1\ndomain 2\n",
+        ),
+        (
+            "run --domains=1 --pools=14 --minor=4096",
             "heap 1\ndomain 0\nint 1 5\nload 2 1 0\nload 2 0 16\nload 2 0 15\nstore 0 0 9\n",
             "domain 0\nok\ntype\nbounds\nint 0\ntype\n",
         ),
         (
+            "run --domains 1",
             "heap 1\ndomain 0\nint 1 4611686018427387903\nint 1 -4611686018427387904\n",
             "domain 0\nok\nok\n",
         ),
-        ("heap 1\ndomain 0\nalloc 1 245 126\n", "domain 0\nblk 0:1\n"),
+        (
+            "run --domains 1",
+            "heap 1\ndomain 0\nalloc 1 245 126\n",
+            "domain 0\nblk 0:1\n",
+        ),
     ] {
         let alloc = rt.alloc();
         let given = outcome_of(
             &rt,
             alloc,
-            "run --domains 1",
+            words,
             source(alloc, script, 4096, &[])?,
             sink(alloc, 4096, &[])?,
         )?;
@@ -74,6 +86,9 @@ fn other_words(rt: HostRuntime) -> Result<(), Fail> {
         "run --domains 9",
         "run --domains 1 1",
         "run --domains",
+        "run --domains 1 --minor 4096 --pools 13",
+        "run --minor 5000",
+        "run --pools 14 --pools 14",
         "--help",
     ] {
         let alloc = rt.alloc();

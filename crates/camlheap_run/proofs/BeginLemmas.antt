@@ -1,0 +1,66 @@
+-- The start of a heap: each domain may begin its section.
+use Rattle.std.proofs.Common.{◌≡◌, ℕ, zero, suc, ◌+◌, ◌<◌, ◌≤◌, Bool, true, false, List, [], length, map, replicate, refl, ap, ◌∙◌, arith, Some, None}
+use Rattle.std.specs.Prelude.{Option, cond, not, ◌&&◌, nat_le, slice_get, slice_index_or}
+use Rattle.std.proofs.lemmas.Bool.Decides.{nat_tests}
+use Rattle.std.specs.List.{AllByRecursion}
+use Rattle.heap_model.specs.declared.command.Command.{Command}
+use Rattle.heap_model.specs.Domains.{opening_domain, no_domain}
+use Rattle.heap_rule.specs.declared.config.Config.{Config}
+use Rattle.heap_rule.specs.Limits.{first_outside, fits_domains}
+use Rattle.heap_rule.specs.Opening.{opening_token, opening_tokens}
+use Rattle.heap_rule.specs.Token.{SharedHeap}
+use Rattle.domain_turns.specs.Runs.{CanBegin}
+use Rattle.camlheap_run.specs.Running.{HasSection, opened}
+use Rattle.camlheap_run.proofs.SectionLemmas.{IsFine}
+
+not_ended : (n d : ℕ) → d < n → (slice_index_or (replicate n opening_domain) d no_domain).ended ≡ false
+not_ended zero d h = absurd (omega arith)
+not_ended (suc n) zero h = refl
+not_ended (suc n) (suc d) h = not_ended n d (omega arith)
+
+can_begin : (h : SharedHeap) (k : Config) (d : ℕ) (cs : List Command) → d < k.domains → IsFine cs → CanBegin (opening_token h.table k d) cs
+can_begin h k d cs inside fine = record {
+  acts = not_ended k.domains d inside;
+  idle = refl;
+  no_commands = refl;
+  no_replies = refl;
+  few = fine.few;
+  fit = fine.fit;
+  labels = omega arith;
+}
+
+-- each of these domains has a section, and may begin it
+pub have_sections : (h : SharedHeap) (k : Config) (script : List (List Command)) (from n : ℕ) → from + n ≤ k.domains → length script ≡ k.domains → ((d : ℕ) → IsFine (slice_index_or script d []))
+    → AllByRecursion (HasSection script) (opening_tokens h.table k from n)
+have_sections h k script from zero few long fine = tt
+have_sections h k script from (suc n) few long fine = (
+  record { inside = omega arith; begins = can_begin h k from (slice_index_or script from []) (omega arith) (fine from) },
+  have_sections h k script (from + 1) n (omega arith) long fine,
+)
+
+pub length-opening_tokens : (h : SharedHeap) (k : Config) (from n : ℕ) → length (opening_tokens h.table k from n) ≡ n
+length-opening_tokens h k from zero = refl
+length-opening_tokens h k from (suc n) = ap suc (length-opening_tokens h k (from + 1) n)
+
+pub length-opened : (h : SharedHeap) (k : Config) (script : List (List Command)) (from n : ℕ) → length (map (opened script) (opening_tokens h.table k from n)) ≡ n
+length-opened h k script from zero = refl
+length-opened h k script from (suc n) = ap suc (length-opened h k script (from + 1) n)
+
+-- the run of each domain stands at its number
+pub opened_at : (h : SharedHeap) (k : Config) (script : List (List Command)) (from n i : ℕ) → i < n → slice_get (map (opened script) (opening_tokens h.table k from n)) i ≡ Some (opened script (opening_token h.table k (from + i)))
+opened_at h k script from zero i inside = absurd (omega arith)
+opened_at h k script from (suc n) zero inside = let same : from ≡ from + 0 = omega arith in ap (λ (d : ℕ). Some (opened script (opening_token h.table k d))) same
+opened_at h k script from (suc n) (suc i) inside =
+    let same : (from + 1) + i ≡ from + suc i = omega arith in
+    opened_at h k script (from + 1) n i (omega arith) ∙ ap (λ (d : ℕ). Some (opened script (opening_token h.table k d))) same
+
+-- there is a domain
+first_fits : (b : Bool) (o : Option ℕ) → cond (not b) (Some 1) o ≡ None → b ≡ true
+first_fits true o e = refl
+first_fits false o e = cc
+
+at_least_one : (n : ℕ) → (nat_le 1 n && nat_le n 8) ≡ true → 0 < n
+at_least_one n fits = grind (arith, nat_tests)
+
+pub some_domain : (k : Config) → first_outside k ≡ None → 0 < k.domains
+some_domain k within = at_least_one k.domains (first_fits (fits_domains k) _ within)

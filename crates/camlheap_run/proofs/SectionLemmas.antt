@@ -1,0 +1,115 @@
+-- A script that was read: its sections may be run on the shared heap.
+use Rattle.std.proofs.Common.{◌≡◌, ℕ, zero, suc, ◌-◌, ◌<◌, ◌≤◌, ◌^◌, ℤ, pos, neg_ℤ, ◌≤ℤ◌, ◌<ℤ◌, true, List, [], ◌∷◌, ◌++◌, length, replicate, refl, sym, ap, ◌∙◌, subst, arith, length-append}
+use Rattle.std.specs.Prelude.{◌&&◌, int_le, slice_index_or, sum_by}
+use Rattle.std.specs.List.{list_all}
+use Rattle.std.proofs.lemmas.List.{length-replicate}
+use Rattle.std.proofs.lemmas.Bool.Decides.{nat_tests}
+use Rattle.std.proofs.lemmas.Int.{ints}
+use Rattle.heap_model.specs.declared.command.Command.{Command}
+use Rattle.heap_model.specs.declared.command.Command.TheVariants.{PutInt, Copy, Forget, Alloc, AllocMaj, Load, Store, Ephe, SetKey, UnsetKey, GetKey, CheckKey, SetData, UnsetData, GetData, CheckData, Finalise, FinaliseLast, Poll, Minor, Major, FullMajor}
+use Rattle.heap_text.specs.declared.form.Operand.TheVariants.{Register, Tag, FieldCount, Index, Integer}
+use Rattle.heap_text.specs.Forms.{is_writable, fits}
+use Rattle.heap_text.proofs.DecimalLemmas.{both}
+use Rattle.heap_text.proofs.ScriptLemmas.{total-cons}
+use Rattle.domain_turns.specs.Tries.{FitsHeap}
+use Rattle.domain_turns.specs.Runs.{AllFit}
+use Rattle.camlheap_run.specs.Reading.{IsSpelled}
+
+-- a number in a range that begins at 0 or later
+in_range : (low high n : ℕ) → (int_le (pos low) (pos n) && int_le (pos n) (pos high)) ≡ true → (low ≤ n) × (n ≤ high)
+in_range low high n fits = (grind (arith, ints, nat_tests), grind (arith, ints, nat_tests))
+
+in_integers : (v : ℤ) → (int_le (neg_ℤ (pos 4611686018427387904)) v && int_le v (pos 4611686018427387903)) ≡ true → (neg_ℤ (pos (2 ^ 62)) ≤ℤ v) × (v <ℤ pos (2 ^ 62))
+in_integers v fits = (grind (arith, ints, nat_tests), grind (arith, ints, nat_tests))
+
+register_fits : (n : ℕ) → fits Register (pos n) ≡ true → n < 16
+register_fits n w = let r = in_range 0 15 n w in omega (arith, r.1)
+
+-- a command of the grammar is one that runs on the shared heap, with its numbers in their ranges
+writable_fits : (c : Command) → is_writable c ≡ true → FitsHeap c
+writable_fits (PutInt dst value) w =
+    let p = both (fits Register (pos dst)) (fits Integer value && true) w in
+    (register_fits dst p.0, in_integers value (both (fits Integer value) true p.1).0)
+writable_fits (Copy dst src) w =
+    let p = both (fits Register (pos dst)) (fits Register (pos src) && true) w in
+    (register_fits dst p.0, register_fits src (both (fits Register (pos src)) true p.1).0)
+writable_fits (Forget dst) w = register_fits dst (both (fits Register (pos dst)) true w).0
+writable_fits (Alloc dst tag fields) w =
+    let p = both (fits Register (pos dst)) (fits Tag (pos tag) && (fits FieldCount (pos fields) && true)) w in
+    let q = both (fits Tag (pos tag)) (fits FieldCount (pos fields) && true) p.1 in
+    let b = in_range 0 245 tag q.0 in
+    let f = in_range 1 126 fields (both (fits FieldCount (pos fields)) true q.1).0 in (register_fits dst p.0, b.1, f.0, f.1)
+writable_fits (Load dst src index) w =
+    let p = both (fits Register (pos dst)) (fits Register (pos src) && (fits Index (pos index) && true)) w in
+    (register_fits dst p.0, register_fits src (both (fits Register (pos src)) (fits Index (pos index) && true) p.1).0)
+writable_fits (Store block index item) w =
+    let p = both (fits Register (pos block)) (fits Index (pos index) && (fits Register (pos item) && true)) w in
+    let q = both (fits Index (pos index)) (fits Register (pos item) && true) p.1 in
+    (register_fits block p.0, register_fits item (both (fits Register (pos item)) true q.1).0)
+writable_fits Poll w = tt
+writable_fits (AllocMaj dst tag fields) w = cc
+writable_fits (Ephe dst keys) w = cc
+writable_fits (SetKey ephe index item) w = cc
+writable_fits (UnsetKey ephe index) w = cc
+writable_fits (GetKey dst ephe index) w = cc
+writable_fits (CheckKey ephe index) w = cc
+writable_fits (SetData ephe item) w = cc
+writable_fits (UnsetData ephe) w = cc
+writable_fits (GetData dst ephe) w = cc
+writable_fits (CheckData ephe) w = cc
+writable_fits (Finalise item number dst) w = cc
+writable_fits (FinaliseLast item number) w = cc
+writable_fits Minor w = cc
+writable_fits Major w = cc
+writable_fits FullMajor w = cc
+
+all_writable_fit : (cs : List Command) → list_all is_writable cs ≡ true → AllFit cs
+all_writable_fit [] w i c at = cc
+all_writable_fit (x ∷ xs) w zero c at = let is : x ≡ c = cc in subst FitsHeap is (writable_fits x (both (is_writable x) (list_all is_writable xs) w).0)
+all_writable_fit (x ∷ xs) w (suc i) c at = all_writable_fit xs (both (is_writable x) (list_all is_writable xs) w).1 i c at
+
+-- a section that may be run: not too long, and of such commands
+pub record IsFine (cs : List Command) : Type 0 where
+  pub few : length cs ≤ 200000
+  pub fit : AllFit cs
+
+none_fit : AllFit []
+none_fit i c at = cc
+
+written_fine : (sections : List (List Command)) (d : ℕ) → sum_by length sections ≤ 200000 → list_all (list_all is_writable) sections ≡ true → IsFine (slice_index_or sections d [])
+written_fine [] d few w = record { few = omega arith; fit = none_fit }
+written_fine (cs ∷ sections) zero few w = let total = total-cons cs sections in record {
+  few = omega arith;
+  fit = all_writable_fit cs (both (list_all is_writable cs) (list_all (list_all is_writable) sections) w).0;
+}
+written_fine (cs ∷ sections) (suc d) few w =
+    let total = total-cons cs sections in
+    written_fine sections d (omega arith) (both (list_all is_writable cs) (list_all (list_all is_writable) sections) w).1
+
+abbrev no_commands : List Command
+no_commands = []
+
+empty_at : (n d : ℕ) → slice_index_or (replicate n no_commands) d [] ≡ []
+empty_at zero d = refl
+empty_at (suc n) zero = refl
+empty_at (suc n) (suc d) = empty_at n d
+
+written_at : (sections : List (List Command)) (n d : ℕ) → slice_index_or (sections ++ replicate n []) d [] ≡ slice_index_or sections d []
+written_at [] n d = empty_at n d
+written_at (cs ∷ sections) n zero = refl
+written_at (cs ∷ sections) n (suc d) = written_at sections n d
+
+-- each section of a script may be run
+pub spelled_fine : (domains : ℕ) (script : List (List Command)) → IsSpelled domains script → (d : ℕ) → IsFine (slice_index_or script d [])
+spelled_fine domains script spelled d =
+    let s = spelled.1 in
+    let at : slice_index_or script d [] ≡ slice_index_or s.written d [] = ap (λ (l : List (List Command)). slice_index_or l d []) s.script_is ∙ written_at s.written (domains - length s.written) d in
+    subst IsFine (sym at) (written_fine s.written d s.is_written.few_commands s.is_written.writable)
+
+-- a script has a section for each domain
+pub spelled_length : (domains : ℕ) (script : List (List Command)) → IsSpelled domains script → length script ≡ domains
+spelled_length domains script spelled =
+    let s = spelled.1 in
+    let few = s.is_written.few_sections in
+    let more : length (replicate (domains - length s.written) no_commands) ≡ domains - length s.written = length-replicate (domains - length s.written) [] in
+    ap length s.script_is ∙ length-append s.written (replicate (domains - length s.written) []) ∙ (omega (arith, more, few))

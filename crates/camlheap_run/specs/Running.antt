@@ -1,0 +1,58 @@
+-- The runs of a script's sections on one heap, from its start to its end.
+use Rattle.std.specs.Prelude.{◌≡◌, ◌<◌, ◌≤◌, true, false, List, [], map, length, slice_index_or, vec_capacity}
+use Rattle.std.specs.List.{AllByRecursion}
+use Rattle.heap_model.specs.declared.command.Command.{Command}
+use Rattle.heap_model.specs.declared.state.Sizes.{Sizes}
+use Rattle.heap_model.specs.History.{Legal}
+use Rattle.command_line.specs.RunWords.{is_within_limits}
+use Rattle.heap_rule.specs.declared.config.Config.{Config}
+use Rattle.heap_rule.specs.Limits.{sizes_in}
+use Rattle.heap_rule.specs.Opening.{opening_tokens}
+use Rattle.heap_rule.specs.Token.{Token, SharedHeap, IsIn}
+use Rattle.heap_rule.specs.Ending.{Past, AllBegin}
+use Rattle.domain_turns.specs.Runs.{RunView, IsRun, CanBegin}
+use Rattle.camlheap_run.specs.declared.begin.Begun.{Begun}
+
+-- sizes that the words of a run may ask for
+pub record AreRunSizes (z : Sizes) : Type 0 where
+  pub limits : is_within_limits z ≡ true
+  pub classes : z.classes ≡ 6
+
+-- the commands of a domain: those of its section
+abbrev pub section_of : List (List Command) → Token → List Command
+section_of script t = slice_index_or script t.view.own.number []
+
+-- the run of a domain's section, before its first command
+abbrev pub opened : List (List Command) → Token → RunView
+opened script t = record { token = t; commands = section_of script t; next = 0; replies = []; ended = false }
+
+-- the domain has a section, and may begin it
+pub record HasSection (script : List (List Command)) (t : Token) : Type 0 where
+  pub inside : t.view.own.number < length script
+  pub begins : CanBegin t (section_of script t)
+
+-- a heap of this size was started, with a run for each domain in order, and there is room for its domains when they come back
+pub record IsBegun (k : Config) (script : List (List Command)) (b : Begun) : Type 0 where
+  pub config : b.heap.config ≡ k
+  pub some : 0 < k.domains
+  pub runs : b.runs.items ≡ map (opened script) (opening_tokens b.heap.table k 0 k.domains)
+  pub empty : b.room.items ≡ []
+  pub room : k.domains ≤ vec_capacity b.room
+
+abbrev pub token_of : RunView → Token
+token_of r = r.token
+
+-- the run is one of the heap's
+abbrev pub IsHere : SharedHeap → RunView → Type 0
+IsHere h r = IsIn r.token h
+
+-- its trace has ended
+abbrev pub IsOver : RunView → Type 0
+IsOver r = r.ended ≡ true
+
+-- the heap has ended with these runs: its legal history begins with the front of each, and each has kept its replies
+pub record IsPastOf (h : SharedHeap) (runs : List RunView) (past : Past) : Type 0 where
+  pub sizes : past.sizes ≡ sizes_in h.config
+  pub legal : Legal past.sizes past.history
+  pub fronts : AllBegin past.history (map token_of runs)
+  pub faithful : AllByRecursion IsRun runs

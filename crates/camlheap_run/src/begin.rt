@@ -1,0 +1,70 @@
+//! Starts a heap, with a run for each of its domains. All memory of a run is taken here.
+ghost use Rattle.std.specs.Prelude.{◌≡◌, None, map, IfOk};
+ghost use Rattle.std.specs.List.{AllByRecursion};
+ghost use Rattle.heap_rule.specs.Limits.{first_outside, sizes_in};
+ghost use Rattle.camlheap_run.specs.Reading.{IsSpelled};
+ghost use Rattle.camlheap_run.specs.Running.{AreRunSizes, HasSection, IsBegun, opened};
+
+use domain_turns::DomainRun;
+use heap_model::state::Sizes;
+use heap_rule::{Config, Domain, Heap, StartFault};
+use heap_text::Script;
+use std::alloc::{AllocError, Global};
+
+/// A heap with a run for each domain, none of which has made a command yet.
+#[derive(Drop)]
+pub(crate) struct Begun {
+    pub(crate) heap: Heap,
+    pub(crate) runs: Vec<DomainRun>,
+    // Room for the domains when they come back.
+    pub(crate) room: Vec<Domain>,
+}
+
+// How large the heap is. No command of the grammar needs room for finalisers or ephemerons yet.
+pub(crate) fn config_of(sizes: &Sizes) -> Config
+    requires { AreRunSizes sizes.now }
+    ensures sizes { sizes_in result ≡ sizes.now }
+    ensures limits { first_outside result ≡ None }
+{
+    Config {
+        domains: sizes.domains,
+        minor_words: sizes.minor_words,
+        pools: sizes.pools,
+        finals: 0,
+        ephes: 0,
+    }
+}
+
+// A run of each domain's section, in the order of the domains.
+fn runs_of(
+    alloc: Global,
+    domains: Vec<Domain>,
+    script: &Script,
+) -> Result<Vec<DomainRun>, AllocError>
+    requires { AllByRecursion (HasSection script.now) domains.items }
+    ensures { IfOk result (λ runs. runs.items ≡ map (opened script.now) domains.items) }
+{
+    let mut runs = Vec::new(alloc);
+    'domains: for domain in domains {
+        let section = script.section(domain.number() as usize);
+        let commands = Vec::from_slice(alloc, section)?;
+        runs.push(DomainRun::make(alloc, domain, commands)?)?;
+    }
+    Ok(runs)
+}
+
+// Starts the heap of a script.
+pub(crate) fn begin(alloc: Global, config: Config, script: &Script) -> Result<Begun, AllocError>
+    requires limits { first_outside config ≡ None }
+    requires script { IsSpelled config.domains script.now }
+    ensures { IfOk result (IsBegun config script.now) }
+{
+    let (heap, domains) = match Heap::start(alloc, config) {
+        Ok(started) => started,
+        Err(StartFault::Memory) => return Err(AllocError),
+        Err(StartFault::Config(_)) => unreachable!(),
+    };
+    let room = Vec::with_capacity(alloc, domains.len())?;
+    let runs = runs_of(alloc, domains, script)?;
+    Ok(Begun { heap, runs, room })
+}
