@@ -1,8 +1,7 @@
 -- What the try of a command leaves, by what was called.
-use Rattle.std.proofs.Common.{◌≡◌, ◌∙◌, ℕ, ◌+◌, ◌<◌, ◌≤◌, Bool, true, false, List, [], refl, sym, ap, subst, arith}
+use Rattle.std.proofs.Common.{◌≡◌, ◌∙◌, true, List, sym, ap, subst}
 use Rattle.heap_model.specs.declared.command.Command.{Command}
 use Rattle.heap_model.specs.declared.entry.Entry.{Entry}
-use Rattle.heap_model.specs.declared.entry.Entry.TheVariants.{Command as CommandOf}
 use Rattle.heap_model.specs.declared.reply.Reply.{Reply}
 use Rattle.heap_model.specs.declared.reply.Applied.{Applied}
 use Rattle.heap_model.specs.declared.reply.Applied.TheVariants.{Replied}
@@ -11,13 +10,12 @@ use Rattle.heap_words.specs.declared.value.Value.{Value}
 use Rattle.heap_rule.specs.declared.change.Change.{Change}
 use Rattle.heap_rule.specs.declared.config.Config.{Config}
 use Rattle.heap_rule.specs.declared.view.DomainView.{DomainView}
-use Rattle.heap_rule.specs.declared.view.Own.{Own}
 use Rattle.heap_rule.specs.Limits.{sizes_in}
 use Rattle.heap_rule.specs.Standing.{Entered}
-use Rattle.heap_rule.specs.Running.{Runs, Did, ChangesRegisters}
+use Rattle.heap_rule.specs.Running.{Runs}
 use Rattle.heap_rule.specs.Token.{Token, SharedHeap, IsIn}
 use Rattle.heap_rule.proofs.Calls.{answered_runs}
-use Rattle.domain_turns.specs.Tries.{Tried, RefusesFull, full_entry, is_refused}
+use Rattle.domain_turns.specs.Tries.{RefusesFull, full_entry}
 
 -- the entry of `full` stood at a tick
 pub refuses : (h : SharedHeap) (old new : Token) (c : Command) (e : Entry) (r : Reply) (a : Applied) (read : Value) (changes : List Change) → e ≡ full_entry old c → a ≡ Replied r → Runs h old → IsIn new h
@@ -31,32 +29,4 @@ refuses h old new c e r a read changes is answer runs here entered =
       runs = answered_runs h old new c true (Replied r) runs here (ap (λ (x : DomainView). x.own.number) entered.view) (ap (λ (x : DomainView). x.seen.made) entered.view ∙ runs.idle) answers;
       answers = answers;
       heap = (here.0 ∙ sym runs.here.0, here.1 ∙ sym runs.here.1);
-    }
-
--- a command that isn't refused was made
-pub did_tried : (h : SharedHeap) (old new : Token) (c : Command) (r : Reply) → is_refused old c ≡ false → Did h old new c r → new.view.own.number ≡ old.view.own.number → new.view.own.serial ≤ old.view.own.serial + 1 → Tried h old new c r
-did_tried h old new c r fits did number serial = record {
-  runs = did.runs;
-  answers = subst (λ (b : Bool). Answers (sizes_in old.config) old.view.own.number old.view.seen.front new.view.seen.front (CommandOf old.view.own.number c b) (Replied r)) (sym fits) did.answers;
-  heap = did.heap;
-  number = number;
-  serial = serial;
-}
-
--- a command on registers and fields
-pub changed_tried : (h : SharedHeap) (old new : Token) (c : Command) (r : Reply) → is_refused old c ≡ false → Did h old new c r → ChangesRegisters old new → Tried h old new c r
-changed_tried h old new c r fits did rest =
-    let serial : new.view.own.serial ≡ old.view.own.serial = ap (λ (o : Own). o.serial) rest.own in
-    did_tried h old new c r fits did (ap (λ (o : Own). o.number) rest.own) (omega arith)
-
--- an allocation that was refused
-pub refused_tried : (h : SharedHeap) (old new : Token) (c : Command) (r : Reply) → is_refused old c ≡ true → RefusesFull h old new c r → ChangesRegisters old new → Tried h old new c r
-refused_tried h old new c r refused made rest =
-    let serial : new.view.own.serial ≡ old.view.own.serial = ap (λ (o : Own). o.serial) rest.own in
-    record {
-      runs = made.runs;
-      answers = subst (λ (b : Bool). Answers (sizes_in old.config) old.view.own.number old.view.seen.front new.view.seen.front (CommandOf old.view.own.number c b) (Replied r)) (sym refused) made.answers;
-      heap = made.heap;
-      number = ap (λ (o : Own). o.number) rest.own;
-      serial = omega arith;
     }

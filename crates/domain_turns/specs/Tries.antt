@@ -1,5 +1,5 @@
 -- What the try of a command leaves.
-use Rattle.std.specs.Prelude.{◌≡◌, ℕ, ◌+◌, ◌<◌, ◌≤◌, Bool, true, false, nat_lt, []}
+use Rattle.std.specs.Prelude.{◌≡◌, ◌+◌, ◌<◌, ◌≤◌, Bool, true, false, nat_lt}
 use Rattle.heap_model.specs.declared.command.Command.{Command}
 use Rattle.heap_model.specs.declared.command.Command.TheVariants.{PutInt, Copy, Forget, Alloc, Load, Store, Poll}
 use Rattle.heap_model.specs.declared.entry.Entry.{Entry}
@@ -12,7 +12,7 @@ use Rattle.heap_words.specs.Values.{IsPackable}
 use Rattle.heap_rule.specs.Inits.{class_words}
 use Rattle.heap_rule.specs.Limits.{sizes_in}
 use Rattle.heap_rule.specs.Running.{Runs}
-use Rattle.heap_rule.specs.Token.{Token, SharedHeap, IsIn}
+use Rattle.heap_rule.specs.Token.{Token, SharedHeap}
 
 -- the commands that run on the shared heap so far, with their numbers in their ranges
 abbrev pub FitsHeap : Command → Type 0

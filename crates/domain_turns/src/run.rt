@@ -1,5 +1,5 @@
 //! One domain's trace, and how far it has come.
-ghost use Rattle.std.specs.Prelude.{◌≡◌, true, false, [], take, IfOk};
+ghost use Rattle.std.specs.Prelude.{◌≡◌, ◌↔◌, ◌<◌, true, false, [], length, take, IfOk};
 ghost use Rattle.heap_model.specs.History.{commands as commands_of, replies as replies_of};
 ghost use Rattle.heap_rule.specs.Limits.{sizes_in};
 ghost use Rattle.domain_turns.specs.Runs.{CanBegin, IsRun};
@@ -65,6 +65,13 @@ impl DomainRun {
         ensures of_history { self.now.replies ≡ replies_of (sizes_in self.now.token.config) self.now.token.view.seen.front self.now.token.view.own.number }
     {
         &self.replies
+    }
+
+    /// Whether a command is left to try.
+    pub fn has_next(&self) -> bool
+        ensures { (result ≡ true) ↔ (self.now.next < length self.now.commands) }
+    {
+        self.next < self.commands.len()
     }
 
     /// Whether the trace has ended.

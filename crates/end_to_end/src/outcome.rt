@@ -2,7 +2,7 @@
 ghost use Rattle.std.specs.Prelude.{◌≤◌};
 
 use camlheap_run::{Status, camlheap, fault_line, status_number};
-use outer_io::{MemSink, MemSource, NoGate};
+use outer_io::{Gate, MemSink, MemSource, NoGate};
 use std::alloc::{AllocError, Global};
 use std::sync::Wait;
 use std::thread::Threads;
@@ -34,11 +34,23 @@ pub(crate) fn outcome_of<R: Threads + Wait + Sync>(
     rt: &R,
     alloc: Global,
     words: &str,
+    source: MemSource,
+    sink: MemSink,
+) -> Result<Outcome, AllocError> {
+    outcome_with(rt, alloc, words, source, sink, &NoGate)
+}
+
+/// The same with a gate.
+pub(crate) fn outcome_with<R: Threads + Wait + Sync, G: Gate + Sync>(
+    rt: &R,
+    alloc: Global,
+    words: &str,
     mut source: MemSource,
     mut sink: MemSink,
+    gate: &G,
 ) -> Result<Outcome, AllocError> {
     let words = words_of(alloc, words)?;
-    let status: Status = camlheap(rt, alloc, &words, &mut source, &mut sink, &NoGate);
+    let status: Status = camlheap(rt, alloc, &words, &mut source, &mut sink, gate);
     let mut line = [0u8; 128];
     let length = fault_line(&status, &mut line);
     Ok(Outcome {

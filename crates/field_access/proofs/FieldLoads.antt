@@ -30,9 +30,6 @@ use Rattle.field_access.proofs.Loading.{loaded}
 module _ (h : SharedHeap) (old : Token) (y z : DomainView) (e : Entry) (dst src i size a found : ℕ) (limits : IsWithinLimits (sizes_in h.config)) (is : e ≡ own_entry old (Load dst src i)) (runs : Runs h old) (goes : dst < 16)
     (m : Measured h.config a src size old.view y) (below : i < size) (read : FieldRead h.config e (Read dst ∷ []) y found z) where
   -- the same domain, before the entry
-  own_is : y.own ≡ old.view.own
-  own_is = ap (λ (x : DomainView). x.own) m.looked.view
-
   number_is : y.own.number ≡ old.view.own.number
   number_is = ap (λ (x : DomainView). x.own.number) m.looked.view
 

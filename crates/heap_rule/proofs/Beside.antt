@@ -3,7 +3,6 @@ use Rattle.std.proofs.Common.{◌≡◌, ◌≢◌, ℕ, ◌+◌, ◌<◌, ◌�
 use Rattle.std.proofs.lemmas.List.{length-map}
 use mathlib.Core.Logic.{dite}
 use native.Mathlib.Decide.{dec_le}
-use Rattle.heap_model.specs.declared.graph.Value.{Value}
 use Rattle.heap_model.specs.declared.graph.Node.{Node}
 use Rattle.heap_model.specs.declared.graph.Node.TheVariants.{Plain, Ephe}
 use Rattle.heap_model.specs.Graph.{Graph, node_at}
@@ -12,7 +11,7 @@ use Rattle.heap_model.specs.Fronts.{shape_of}
 use Rattle.heap_rule.specs.declared.config.Config.{Config}
 use Rattle.heap_rule.specs.declared.view.DomainView.{DomainView}
 use Rattle.heap_rule.specs.Layout.{before_heap, base_of}
-use Rattle.heap_rule.specs.Places.{Place, Live, extent, values_of, WordStands, Found}
+use Rattle.heap_rule.specs.Places.{Place, Live, extent, values_of, Found}
 use Rattle.heap_rule.specs.Rule.{Area, Prepared}
 use Rattle.heap_rule.proofs.Lists.{got_below}
 use Rattle.heap_rule.proofs.Sizes.{area_below}
@@ -21,9 +20,6 @@ use Rattle.heap_rule.proofs.Keeps.{More, stands_more}
 pub extent_of : (n : Node) → extent (shape_of n) ≡ length (values_of n) + 2
 extent_of (Plain tag fields) = refl
 extent_of (Ephe keys datum) = let l = length-map keys key_value in omega arith
-
-pub word_more : (live live' : Live) (word : ℕ) (v : Value) → More live live' → WordStands live word v → WordStands live' word v
-word_more live live' word v more w = record { value = w.value; packs = w.packs; stands = stands_more live live' w.value v more w.stands }
 
 -- a block that the word is none of, in a graph that has its node
 pub found_beside : (k : Config) (live live' : Live) (graph graph' : Graph) (words : List ℕ) (at new b : ℕ) (q : Place) → More live live' → (f : Found k live graph words b q) → node_at graph' q.label ≡ Some f.node

@@ -1,7 +1,5 @@
 -- Words that are filled one by one.
-use Rattle.std.proofs.Common.{◌≡◌, ◌≢◌, ℕ, ◌+◌, ◌*◌, ◌-◌, ◌<◌, ◌≤◌, List, length, get_or, set, refl, ap, sym, ◌∙◌, subst, arith, length-set, get_or-set_same, get_or-set_other}
-use mathlib.Core.Logic.{dite}
-use native.Mathlib.Decide.{ℕ_discrete}
+use Rattle.std.proofs.Common.{◌≡◌, ◌≢◌, ℕ, ◌+◌, ◌*◌, ◌-◌, ◌<◌, ◌≤◌, List, length, get_or, set, ap, ◌∙◌, arith, length-set, get_or-set_same, get_or-set_other}
 use Rattle.heap_model.specs.Domains.{IsWithinLimits}
 use Rattle.heap_model.specs.Fronts.{PlainShape}
 use Rattle.heap_rule.specs.declared.config.Config.{Config}
@@ -10,21 +8,6 @@ use Rattle.heap_rule.specs.Layout.{heap_words, table_words}
 use Rattle.heap_rule.specs.Places.{HeadIs}
 use Rattle.heap_rule.specs.Opening.{Fills, IsOpening}
 use Rattle.heap_rule.proofs.Sizes.{heap_large}
-
--- no word is filled
-pub fills_none : (words : List ℕ) (from : ℕ) (f : ℕ → ℕ) → Fills words words from 0 f
-fills_none words from f = record { same_length = refl; filled = λ i h. absurd (omega arith); below = λ j h. refl; above = λ j h. refl }
-
--- one more word is filled
-pub fills_more : (old new : List ℕ) (from n : ℕ) (f : ℕ → ℕ) → from + n < length old → Fills old new from n f → Fills old (set new (from + n) (f n)) from (n + 1) f
-fills_more old new from n f inside s = record {
-  same_length = length-set new (from + n) (f n) ∙ s.same_length;
-  filled = λ i h. dite (ℕ_discrete i n)
-      (λ here. subst (λ (j : ℕ). get_or (set new (from + n) (f n)) (from + j) 0 ≡ f j) (sym here) (get_or-set_same new (from + n) (f n) 0 (let l = s.same_length in omega arith)))
-      (λ other. get_or-set_other new (from + n) (from + i) (f n) 0 (λ e. other (omega arith)) ∙ s.filled i (omega arith));
-  below = λ j h. get_or-set_other new (from + n) j (f n) 0 (λ e. omega arith) ∙ s.below j h;
-  above = λ j h. get_or-set_other new (from + n) j (f n) 0 (λ e. omega arith) ∙ s.above j (omega arith);
-}
 
 module _ (k : Config) (limits : IsWithinLimits (sizes_in k)) (w0 w3 w7 : List ℕ) (wide : length w0 ≡ table_words k) (zeros : (i : ℕ) → get_or w0 i 0 ≡ 0) (colour head label at : ℕ) (at_is : at ≡ 10 + 2 * k.pools + 1) where
   abbrev P : ℕ

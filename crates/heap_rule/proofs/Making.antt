@@ -113,9 +113,6 @@ word_allows k slots id word m x a new changes is place may =
 pub class_fits : (words : ℕ) → words ≤ 128 → words ≤ class_words words
 class_fits words few = grind (arith, nat_tests)
 
-pub class_small : (words : ℕ) → class_words words ≤ 128
-class_small words = grind (arith, nat_tests)
-
 abbrev zero_word : ℕ
 zero_word = 1
 
@@ -123,11 +120,6 @@ zero_values : (n i : ℕ) (v : graph_value.Value) → slice_get (replicate n (In
 zero_values zero i v e = cc
 zero_values (suc n) zero v e = (cc, refl)
 zero_values (suc n) (suc i) v e = zero_values n i v e
-
-last_word : (n l : ℕ) → (w : ℕ) × (slice_get (l ∷ replicate n zero_word) n ≡ Some w)
-last_word zero l = (l, refl)
-last_word (suc zero) l = (1, refl)
-last_word (suc (suc n)) l = last_word (suc n) 1
 
 all_more : (live live' : Live) (own : List Value) (theirs : List graph_value.Value) → More live live' → AllStand live own theirs → AllStand live' own theirs
 all_more live live' own theirs grows a = record { wide = a.wide; long = a.long; each = λ r few. stands_more live live' (value_at own r) (get_or theirs r Nothing) grows (a.each r few) }

@@ -175,8 +175,7 @@ fn drive_to<'s, E, R: Threads + Wait + Sync, G: Gate + Sync>(
 /// No memory is taken.
 ///
 /// The gate is called with a domain's number and the index of a command before the command's first
-/// turn, and once its reply is kept. Before the turn that ends a trace `before` is called too, with
-/// the number of the trace's commands.
+/// turn, and once its reply is kept.
 pub fn drive<R: Threads + Wait + Sync, G: Gate + Sync>(
     rt: &R,
     heap: &Heap,

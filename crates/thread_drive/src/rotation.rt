@@ -3,7 +3,7 @@ ghost use Rattle.std.specs.Prelude.{◌≡◌, true, vec_capacity};
 ghost use Rattle.thread_drive.specs.Driven.{AllHere, IsSameRuns, AllEnded};
 
 use crate::turning::turn_once;
-use domain_turns::DomainRun;
+use domain_turns::{DomainRun, Turned};
 use heap_rule::Heap;
 use outer_io::Gate;
 use std::sync::Wait;
@@ -17,8 +17,9 @@ fn turn_each<G: Gate>(heap: &Heap, gate: &G, runs: &mut [DomainRun]) -> bool
 {
     let mut all = true;
     for run in runs.iter_mut() {
-        if !turn_once(heap, gate, run) {
-            all = false;
+        match turn_once(heap, gate, run) {
+            Turned::Did => all = false,
+            Turned::Ended => (),
         }
     }
     all

@@ -10,6 +10,14 @@ use std::test::Fail;
 // How often a domain looks for the other one.
 const LOOKS: u32 = 200_000_000;
 
+const ONE: Config = Config {
+    domains: 1,
+    minor_words: 4096,
+    pools: 14,
+    finals: 0,
+    ephes: 0,
+};
+
 const TWO: Config = Config {
     domains: 2,
     minor_words: 4096,
@@ -94,5 +102,44 @@ fn runs_come_back_in_order_with_their_replies(rt: HostRuntime) -> Result<(), Fai
         assert!(rt; run.has_ended());
         assert_eq!(rt; run.replies(), all[d]);
     }
+    Ok(())
+}
+
+// The calls of a gate for one domain, as the digits of a number: 1 and 2 before and after the command 0, 3 and 4 for
+// the command 1, and so on.
+#[derive(Drop)]
+struct Heard {
+    calls: AtomicU32,
+}
+
+impl Heard {
+    fn hear(&self, call: u32) {
+        let heard = self.calls.load(Ordering::SeqCst);
+        self.calls.store(heard.wrapping_mul(10).wrapping_add(call), Ordering::SeqCst);
+    }
+}
+
+impl Gate for Heard {
+    fn before(&self, _domain: u32, index: u32) {
+        self.hear(index.wrapping_mul(2).wrapping_add(1));
+    }
+
+    fn after(&self, _domain: u32, index: u32) {
+        self.hear(index.wrapping_mul(2).wrapping_add(2));
+    }
+}
+
+#[test]
+fn a_gate_hears_of_each_command(rt: HostRuntime) -> Result<(), Fail> {
+    let (heap, mut domains) = Heap::start(rt.alloc(), ONE)?;
+    let domain = domains.pop().ok_or("no domain")?;
+    let commands = vec![in rt.alloc(); Command::Poll, Command::Forget { dst: 0 }, Command::Poll]?;
+    let run = DomainRun::make(rt.alloc(), domain, commands)?;
+    let gate = Heard {
+        calls: AtomicU32::new(0),
+    };
+    let runs = drive(&rt, &heap, vec![in rt.alloc(); run]?, &gate);
+    assert_eq!(rt; runs.len(), 1);
+    assert_eq!(rt; gate.calls.load(Ordering::SeqCst), 123_456);
     Ok(())
 }

@@ -3,7 +3,7 @@ ghost use Rattle.std.specs.Prelude.{◌≡◌, true};
 ghost use Rattle.heap_rule.specs.Token.{IsIn};
 ghost use Rattle.thread_drive.specs.Driven.{IsSameRun};
 
-use domain_turns::{DomainRun, turn};
+use domain_turns::{DomainRun, Turned, turn};
 use heap_rule::Heap;
 use outer_io::Gate;
 use std::sync::Wait;
@@ -16,24 +16,24 @@ fn next_index(run: &DomainRun) -> u32
     run.next() as u32
 }
 
-// One turn, with the gate around the command. It answers whether the trace had ended before.
-pub(crate) fn turn_once<G: Gate>(heap: &Heap, gate: &G, run: &mut DomainRun) -> bool
+// One turn, with the gate around the command, if one is left.
+pub(crate) fn turn_once<G: Gate>(heap: &Heap, gate: &G, run: &mut DomainRun) -> Turned
     requires { IsIn run.old.token heap.now }
     ensures here { IsIn run.new.token heap.now }
     ensures same { IsSameRun run.old run.new }
-    ensures ended { result ≡ true → run.new.ended ≡ true }
+    ensures ended { result ≡ Turned.Ended → run.new.ended ≡ true }
 {
-    if run.has_ended() {
-        return true;
+    if !run.has_next() {
+        return turn(heap, run);
     }
     let number = run.domain().number();
     let at = next_index(run);
     gate.before(number, at);
-    turn(heap, run);
+    let turned = turn(heap, run);
     if next_index(run) != at {
         gate.after(number, at);
     }
-    false
+    turned
 }
 
 // Turns a run until its trace has ended.
@@ -49,8 +49,9 @@ pub(crate) fn turn_to_end<R: Wait, G: Gate>(
     ensures ended { result.ended ≡ true }
 {
     'turns: for _ in rt.forever() {
-        if turn_once(heap, gate, &mut run) {
-            return run;
+        match turn_once(heap, gate, &mut run) {
+            Turned::Did => (),
+            Turned::Ended => return run,
         }
     }
     unreachable!()

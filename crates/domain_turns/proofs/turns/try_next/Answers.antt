@@ -1,4 +1,4 @@
-use Rattle.std.proofs.Common.{◌≡◌, false, ◌+◌, ◌≤◌, List, Some, sym, subst, arith, length, slice_get}
+use Rattle.std.proofs.Common.{◌≡◌, false, ◌+◌, ◌≤◌, List, Some, sym, subst, length, slice_get}
 use Rattle.std.specs.Prelude.{vec_capacity}
 use Rattle.heap_model.specs.declared.reply.Reply.{Reply}
 use Rattle.domain_turns.specs.Runs.{RunView, IsRun}
