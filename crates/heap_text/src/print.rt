@@ -128,6 +128,13 @@ fn front_of_int(dst: u8, value: i64) -> Front
     front
 }
 
+// A row by its word's name and its numbers.
+macro_rules! row {
+    ($word:ident $(, $number:expr)*) => {
+        front_of_row(Word::$word, &[$(u32::from($number)),*])
+    };
+}
+
 // A command by the row of its variant.
 fn front_of_command(command: &Command) -> Front
     ensures text { result ≡ command_text command.now }
@@ -135,62 +142,26 @@ fn front_of_command(command: &Command) -> Front
 {
     match *command {
         Command::PutInt { dst, value } => front_of_int(dst, value),
-        Command::Copy { dst, src } => front_of_row(Word::Move, &[u32::from(dst), u32::from(src)]),
-        Command::Forget { dst } => front_of_row(Word::Drop, &[u32::from(dst)]),
-        Command::Alloc { dst, tag, fields } => front_of_row(
-            Word::Alloc,
-            &[u32::from(dst), u32::from(tag), u32::from(fields)],
-        ),
-        Command::AllocMaj { dst, tag, fields } => front_of_row(
-            Word::AllocMaj,
-            &[u32::from(dst), u32::from(tag), u32::from(fields)],
-        ),
-        Command::Load { dst, src, index } => front_of_row(
-            Word::Load,
-            &[u32::from(dst), u32::from(src), u32::from(index)],
-        ),
-        Command::Store { block, index, item } => front_of_row(
-            Word::Store,
-            &[u32::from(block), u32::from(index), u32::from(item)],
-        ),
-        Command::Ephe { dst, keys } => front_of_row(Word::Ephe, &[u32::from(dst), u32::from(keys)]),
-        Command::SetKey { ephe, index, item } => front_of_row(
-            Word::SetKey,
-            &[u32::from(ephe), u32::from(index), u32::from(item)],
-        ),
-        Command::UnsetKey { ephe, index } => front_of_row(
-            Word::UnsetKey,
-            &[u32::from(ephe), u32::from(index)],
-        ),
-        Command::GetKey { dst, ephe, index } => front_of_row(
-            Word::GetKey,
-            &[u32::from(dst), u32::from(ephe), u32::from(index)],
-        ),
-        Command::CheckKey { ephe, index } => front_of_row(
-            Word::CheckKey,
-            &[u32::from(ephe), u32::from(index)],
-        ),
-        Command::SetData { ephe, item } => front_of_row(
-            Word::SetData,
-            &[u32::from(ephe), u32::from(item)],
-        ),
-        Command::UnsetData { ephe } => front_of_row(Word::UnsetData, &[u32::from(ephe)]),
-        Command::GetData { dst, ephe } => front_of_row(
-            Word::GetData,
-            &[u32::from(dst), u32::from(ephe)],
-        ),
-        Command::CheckData { ephe } => front_of_row(Word::CheckData, &[u32::from(ephe)]),
-        Command::Finalise { item, number, dst } => front_of_row(
-            Word::Finalise,
-            &[u32::from(item), number, u32::from(dst)],
-        ),
-        Command::FinaliseLast { item, number } => front_of_row(
-            Word::FinaliseLast,
-            &[u32::from(item), number],
-        ),
-        Command::Poll => front_of_row(Word::Poll, &[]),
-        Command::Minor => front_of_row(Word::Minor, &[]),
-        Command::Major => front_of_row(Word::Major, &[]),
-        Command::FullMajor => front_of_row(Word::FullMajor, &[]),
+        Command::Copy { dst, src } => row!(Move, dst, src),
+        Command::Forget { dst } => row!(Drop, dst),
+        Command::Alloc { dst, tag, fields } => row!(Alloc, dst, tag, fields),
+        Command::AllocMaj { dst, tag, fields } => row!(AllocMaj, dst, tag, fields),
+        Command::Load { dst, src, index } => row!(Load, dst, src, index),
+        Command::Store { block, index, item } => row!(Store, block, index, item),
+        Command::Ephe { dst, keys } => row!(Ephe, dst, keys),
+        Command::SetKey { ephe, index, item } => row!(SetKey, ephe, index, item),
+        Command::UnsetKey { ephe, index } => row!(UnsetKey, ephe, index),
+        Command::GetKey { dst, ephe, index } => row!(GetKey, dst, ephe, index),
+        Command::CheckKey { ephe, index } => row!(CheckKey, ephe, index),
+        Command::SetData { ephe, item } => row!(SetData, ephe, item),
+        Command::UnsetData { ephe } => row!(UnsetData, ephe),
+        Command::GetData { dst, ephe } => row!(GetData, dst, ephe),
+        Command::CheckData { ephe } => row!(CheckData, ephe),
+        Command::Finalise { item, number, dst } => row!(Finalise, item, number, dst),
+        Command::FinaliseLast { item, number } => row!(FinaliseLast, item, number),
+        Command::Poll => row!(Poll),
+        Command::Minor => row!(Minor),
+        Command::Major => row!(Major),
+        Command::FullMajor => row!(FullMajor),
     }
 }
