@@ -1,7 +1,8 @@
 #!/usr/bin/env bash
 # Times `camlheap run` on generated scripts: 10,000 and 100,000 commands in all, with 1, 2 and 4 domains.
 # Prints commands per second, and the ratios between sizes and between numbers of domains. It claims nothing.
-set -eu
+set -euo pipefail
+shopt -s inherit_errexit
 top=$(cd "$(dirname "${BASH_SOURCE[0]}")/.." && pwd)
 work=$(mktemp -d)
 trap 'rm -rf "$work"' EXIT

@@ -1,6 +1,6 @@
 #!/usr/bin/env bash
-# Runs each example 200 times and counts its outputs: first as it is, then where the system refuses all threads, then
-# where it refuses all but one or two. Ends with 1 where an output is none of those that stand beside the script.
+# Runs each example 200 times and counts its outputs: first as it is, then where the system refuses every thread, then
+# where it refuses all but one. Ends with 1 where an output is none of those that stand beside the script.
 set -u
 top=$(cd "$(dirname "${BASH_SOURCE[0]}")/.." && pwd) || exit 1
 work=$(mktemp -d) || exit 1
@@ -34,7 +34,7 @@ outcome() {
     echo wrong
 }
 
-for limit in "" 0 1 2; do
+for limit in "" 1 2; do
     for script in "$top"/examples/*.heap; do
         name=$(basename "$script" .heap)
         for _ in $(seq 200); do

@@ -1,5 +1,4 @@
-//! Tests of the program from bytes to bytes, through its top call over memory, and of traces that take
-//! turns on one shared heap.
+//! Tests of the program from bytes to bytes, through its top call over memory.
 #![tactic(auto)]
 
 #[cfg(test)]
@@ -12,5 +11,3 @@ mod outcome;
 mod race;
 #[cfg(test)]
 mod rows;
-#[cfg(test)]
-mod turns;

@@ -1,8 +1,11 @@
 //! Domains that race for a field of the shared block.
 use crate::outcome::{outcome_of, outcome_with, sink, source};
 use outer_io::Gate;
+use std::alloc::{AllocError, Global};
+use std::sync::Wait;
 use std::sync::atomic::{AtomicUsize, Ordering};
 use std::test::Fail;
+use std::thread::Threads;
 
 const WORDS: &str = "run --minor 4096 --pools 27";
 
@@ -29,19 +32,16 @@ fn a_race_prints_what_a_history_allows(rt: HostRuntime) -> Result<(), Fail> {
             sink(alloc, 4096, &[])?,
         )?;
         assert_eq!(rt; given.number, 0, "run {turn}");
-        let mut allowed = false;
-        for prints in [BOTH_10, EACH_ITS_OWN, BOTH_20] {
-            if given.written.as_slice() == prints.as_bytes() {
-                allowed = true;
-            }
-        }
+        let allowed = [BOTH_10, EACH_ITS_OWN, BOTH_20]
+            .iter()
+            .any(|prints| given.written.as_slice() == prints.as_bytes());
         assert!(rt; allowed, "run {turn}");
     }
     Ok(())
 }
 
 // How often a domain looks whether it is its turn.
-const LOOKS: u32 = 200_000_000;
+const LOOKS: u32 = 1_000_000_000;
 
 // Lets some commands, each told by its domain and its index, pass one after another in this order.
 #[derive(Drop)]
@@ -75,33 +75,46 @@ impl Gate for InOrder {
     }
 }
 
-const STORE: u32 = 1;
-
-const LOAD: u32 = 2;
+// What a run of two domains prints whose commands pass in this order.
+fn prints_in_order<R: Threads + Wait + Sync>(
+    rt: &R,
+    alloc: Global,
+    script: &str,
+    order: [(u32, u32); 4],
+) -> Result<Vec<u8>, AllocError> {
+    let gate = InOrder {
+        order,
+        passed: AtomicUsize::new(0),
+    };
+    let source = source(alloc, script, 4096, &[])?;
+    let sink = sink(alloc, 4096, &[])?;
+    let given = outcome_with(rt, alloc, WORDS, source, sink, &gate)?;
+    Ok(given.written)
+}
 
 #[test]
 fn each_output_of_the_race_comes_about(rt: HostRuntime) -> Result<(), Fail> {
+    let (store, load) = (1, 2);
     for (order, prints) in [
-        ([(0, STORE), (0, LOAD), (1, STORE), (1, LOAD)], EACH_ITS_OWN),
-        ([(1, STORE), (1, LOAD), (0, STORE), (0, LOAD)], EACH_ITS_OWN),
-        ([(0, STORE), (1, STORE), (1, LOAD), (0, LOAD)], BOTH_20),
-        ([(1, STORE), (0, STORE), (1, LOAD), (0, LOAD)], BOTH_10),
+        ([(0, store), (0, load), (1, store), (1, load)], EACH_ITS_OWN),
+        ([(1, store), (1, load), (0, store), (0, load)], EACH_ITS_OWN),
+        ([(0, store), (1, store), (1, load), (0, load)], BOTH_20),
+        ([(1, store), (0, store), (1, load), (0, load)], BOTH_10),
     ] {
-        let alloc = rt.alloc();
-        let gate = InOrder {
-            order,
-            passed: AtomicUsize::new(0),
-        };
-        let given = outcome_with(
-            &rt,
-            alloc,
-            WORDS,
-            source(alloc, RACE, 4096, &[])?,
-            sink(alloc, 4096, &[])?,
-            &gate,
-        )?;
-        assert_eq!(rt; given.number, 0);
-        assert_eq!(rt; given.written.as_slice(), prints.as_bytes());
+        let written = prints_in_order(&rt, rt.alloc(), RACE, order)?;
+        assert_eq!(rt; written.as_slice(), prints.as_bytes());
     }
+    Ok(())
+}
+
+// Domain 0 stores a young block into the shared block and forgets it, domain 1 loads it there and stores it into another
+// field, and domain 0 finds it again.
+#[test]
+fn a_block_goes_to_the_other_domain_and_back(rt: HostRuntime) -> Result<(), Fail> {
+    let script =
+        "heap 1\ndomain 0\nalloc 1 0 1\nstore 0 0 1\ndrop 1\nload 2 0 1\ndomain 1\npoll\nload 1 0 0\nstore 0 1 1\nmove 2 1\n";
+    let prints = "domain 0\nblk 0:1\nok\nok\nblk 0:1\ndomain 1\nok\nblk 0:1\nok\nok\n";
+    let written = prints_in_order(&rt, rt.alloc(), script, [(0, 1), (1, 1), (1, 2), (0, 3)])?;
+    assert_eq!(rt; written.as_slice(), prints.as_bytes());
     Ok(())
 }

@@ -44,6 +44,30 @@ fn scripts_of_few_replies(rt: HostRuntime) -> Result<(), Fail> {
     Ok(())
 }
 
+// A block of 126 fields takes 128 words, so 32 of them fit into a minor area of 4096.
+#[test]
+fn a_minor_area_fills(rt: HostRuntime) -> Result<(), Fail> {
+    let alloc = rt.alloc();
+    let mut script = String::from_str(alloc, "heap 1\ndomain 0\n")?;
+    let mut prints = String::from_str(alloc, "domain 0\n")?;
+    for serial in 1..=32u32 {
+        script.push_str("alloc 1 0 126\n")?;
+        prints.push_str(&format!(in alloc; "blk 0:{serial}\n")?)?;
+    }
+    script.push_str("alloc 1 0 126\nalloc 2 0 2\nload 2 1 125\n")?;
+    prints.push_str("full\nfull\nint 0\n")?;
+    let given = outcome_of(
+        &rt,
+        alloc,
+        "run --domains 1 --minor 4096 --pools 14",
+        source(alloc, script.as_str(), 4096, &[])?,
+        sink(alloc, 4096, &[])?,
+    )?;
+    assert_eq!(rt; given.number, 0);
+    assert_eq!(rt; given.written.as_slice(), prints.as_bytes());
+    Ok(())
+}
+
 #[test]
 fn refused_scripts(rt: HostRuntime) -> Result<(), Fail> {
     for (script, line) in [

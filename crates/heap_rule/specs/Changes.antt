@@ -12,10 +12,12 @@ use Rattle.heap_rule.specs.declared.change.Change.TheVariants.{Set, Read, Clear}
 abbrev pub value_at : List Value → ℕ → Value
 value_at registers r = slice_index_or registers r Nothing
 
+-- the registers after an item of a list is set
 abbrev pub set_item : Part → ℕ → Item → List Value → List Value
 set_item Register place item registers = slice_set registers place item.value
 set_item _ place item registers = registers
 
+-- the registers after a list is emptied
 abbrev pub cleared : Part → List Value → List Value
 cleared Register registers = replicate 16 Nothing
 cleared _ registers = registers
@@ -32,16 +34,19 @@ abbrev pub changed : Value → List Change → List Value → List Value
 changed read [] registers = registers
 changed read (c ∷ cs) registers = changed read cs (changed_one read c registers)
 
--- each register that a change names is there
-abbrev pub FitsPart : Part → ℕ → Type 0
-FitsPart Register place = place < 16
-FitsPart _ place = Unit {0}
+-- the list has this place. So far the registers are the only list
+abbrev pub HasPlace : Part → ℕ → Type 0
+HasPlace Register place = place < 16
+HasPlace _ place = ⊥
 
+-- what the change names is there
 abbrev pub FitChange : Change → Type 0
-FitChange (Set part place item) = FitsPart part place
+FitChange (Set part place item) = HasPlace part place
 FitChange (Read register) = register < 16
-FitChange _ = Unit {0}
+FitChange (Clear part) = HasPlace part 0
+FitChange _ = ⊥
 
+-- and so of each change of a step
 abbrev pub FitChanges : List Change → Type 0
 FitChanges [] = Unit {0}
 FitChanges (c ∷ cs) = FitChange c × FitChanges cs

@@ -27,9 +27,11 @@ pub record Learned (k : Config) (m m' : Me (Unit {0}) View) : Type 0 where
   pub legal : Legal (sizes_in k) m'.0.history
   pub fronts : AllDomains (Begins m'.0.history) m.0.domains
 
+-- what the last step of a heap tells
 abbrev pub learned : Step (Unit {0}) → Me (Unit {0}) View → ℕ → Me (Unit {0}) View → Type 0
 learned _ m found m' = Learned m.0.config m m'
 
+-- every token is one of the heap's
 abbrev pub AllIn : SharedHeap → List Token → Type 0
 AllIn h [] = Unit {0}
 AllIn h (t ∷ ts) = IsIn t h × AllIn h ts

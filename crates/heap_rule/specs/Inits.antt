@@ -27,6 +27,7 @@ abbrev pub least_size : List ℕ → ℕ → ℕ
 least_size [] words = 0
 least_size (size ∷ sizes) words = if nat_le words size then size else least_size sizes words
 
+-- the words that a block with so many words of its own takes
 abbrev pub class_words : ℕ → ℕ
 class_words words = least_size SIZES words
 
@@ -50,6 +51,7 @@ pub record WordMay (k : Config) (x : DomainView) (at : ℕ) (changes : List Chan
   pub same : LeavesRegisters changes x
   pub fits : FitChanges changes
 
+-- the word was written behind the others
 pub record WordTold (new : ℕ) (x y : DomainView) : Type 0 where
   pub view : y ≡ record x { seen = record x.seen { made = x.seen.made ++ new ∷ [] } }
 
@@ -69,6 +71,7 @@ pub record AllocMay (k : Config) (x : DomainView) (at new : ℕ) (changes : List
   pub written : changed Nothing changes x.own.registers ≡ slice_set x.own.registers dst (Ref at)
   pub fits : FitChanges changes
 
+-- the same of the entry that is told, an own allocation
 abbrev pub AllocEntry : Config → DomainView → ℕ → ℕ → List Change → Entry → Type 0
 AllocEntry k x at new changes (Command d (Alloc dst tag fields) false) = AllocMay k x at new changes d dst tag fields
 AllocEntry k x at new changes _ = ⊥
@@ -92,6 +95,7 @@ pub record InitMay (k : Config) (x : DomainView) (at new : ℕ) (changes : List 
   pub behind : at ≢ next_address k x → WordMay k x at changes
   pub head : at ≡ next_address k x → AllocEntry k x at new changes e
 
+-- and it tells one or the other
 pub record InitTold (k : Config) (at new : ℕ) (e : Entry) (changes : List Change) (x y : DomainView) : Type 0 where
   pub behind : at ≢ next_address k x → WordTold new x y
   pub head : at ≡ next_address k x → AllocTold k e changes x y

@@ -10,6 +10,7 @@ heap_words k = k.pools * 4096 + k.domains * k.minor_words
 abbrev pub before_heap : Config → ℕ
 before_heap k = 10 + 2 * k.pools
 
+-- how many words the table has, the one with index 0 among them
 abbrev pub table_words : Config → ℕ
 table_words k = 1 + before_heap k + heap_words k
 

@@ -47,6 +47,7 @@ HeadEntry x a (Command d (Load dst src i) false) = (d ≡ x.own.number) × IsAt 
 HeadEntry x a (Command d (Store block i item) false) = (d ≡ x.own.number) × IsAt x block a × (item < 16) × (value_at x.own.registers item ≢ Nothing)
 HeadEntry x a _ = ⊥
 
+-- what a head load asks
 pub record HeadMay (k : Config) (x : DomainView) (a : ℕ) (e : Entry) : Type 0 where
   pub acts : Acts k x
   pub entry : HeadEntry x a e
@@ -74,6 +75,7 @@ pub record HeadTold (k : Config) (a : ℕ) (e : Entry) (x : DomainView) (found :
   pub head : HeadIs shape found
   pub told : HeadCase k a e shape x y
 
+-- what a label load asks: the word behind the block's address
 pub record LabelMay (x : DomainView) (at r : ℕ) : Type 0 where
   pub address : ℕ
   pub block : IsAt x r address
@@ -96,6 +98,7 @@ pub record FieldMay (k : Config) (x : DomainView) (at r i : ℕ) : Type 0 where
   pub known : HoldsPlain (state_of k x.seen.front) x.own.number r size
   pub inside : i < size
 
+-- what a field load asks: its entry is an own load of this field, and the changes put what is read into its register
 pub record FieldLoadMay (k : Config) (x : DomainView) (at : ℕ) (changes : List Change) (d dst src i : ℕ) : Type 0 where
   pub own : d ≡ x.own.number
   pub acts : Acts k x
@@ -104,6 +107,7 @@ pub record FieldLoadMay (k : Config) (x : DomainView) (at : ℕ) (changes : List
   pub written : (v : Value) → changed v changes x.own.registers ≡ slice_set x.own.registers dst v
   pub fits : FitChanges changes
 
+-- the same of the entry that is told
 abbrev pub FieldLoadEntry : Config → DomainView → ℕ → List Change → Entry → Type 0
 FieldLoadEntry k x at changes (Command d (Load dst src i) false) = FieldLoadMay k x at changes d dst src i
 FieldLoadEntry k x at changes _ = ⊥

@@ -26,6 +26,7 @@ pub record Fills (old new : List ℕ) (from count : ℕ) (f : ℕ → ℕ) : Typ
   pub below : (j : ℕ) → j < from → slice_index new j ≡ slice_index old j
   pub above : (j : ℕ) → from + count ≤ j → slice_index new j ≡ slice_index old j
 
+-- the token of domain d at the start
 abbrev pub opening_token : TableId → Config → ℕ → Token
 opening_token table k d = record { table = table; config = k; view = opening_view d }
 

@@ -42,6 +42,7 @@ abbrev pub head_of : Shape → Head
 head_of (PlainShape size tag) = PlainHead size tag 1 false
 head_of (EpheShape keys) = EpheHead keys 1 false
 
+-- the word of such a head
 abbrev pub HeadIs : Shape → ℕ → Type 0
 HeadIs shape word = word ≡ head_word (head_of shape)
 

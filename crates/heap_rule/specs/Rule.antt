@@ -76,6 +76,7 @@ pub record Whole (k : Config) (log : List Entry) (live : Live) (words : List ℕ
   pub pools : Pools k words
   pub cycle : NoCycle words
 
+-- the rule: there are a history, places of blocks and a seat for each domain of which all these parts hold
 pub record Rule (k : Config) (s : State (Unit {0}) View) : Type 0 where
   pub log : List Entry
   pub live : Live

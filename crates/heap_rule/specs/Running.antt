@@ -26,6 +26,6 @@ pub record Did (h : SharedHeap) (old new : Token) (c : Command) (r : Reply) : Ty
   pub answers : Answers (sizes_in old.config) old.view.own.number old.view.seen.front new.view.seen.front (own_entry old c) (Replied r)
   pub heap : (new.table ≡ old.table) × (new.config ≡ old.config)
 
--- besides its registers the token is as before
+-- what the domain owns is as before, but for its registers
 pub record ChangesRegisters (old new : Token) : Type 0 where
   pub own : new.view.own ≡ record old.view.own { registers = new.view.own.registers }

@@ -23,6 +23,7 @@ pub record FieldStoreMay (k : Config) (x : DomainView) (at new : ℕ) (changes :
   pub same : LeavesRegisters changes x
   pub fits : FitChanges changes
 
+-- the same of the entry that is told, an own store
 abbrev pub FieldStoreEntry : Config → DomainView → ℕ → ℕ → List Change → Entry → Type 0
 FieldStoreEntry k x at new changes (Command d (Store block i item) false) = FieldStoreMay k x at new changes d block i item
 FieldStoreEntry k x at new changes _ = ⊥

@@ -45,6 +45,7 @@ TickEntry x changes (Command d c true) = (d ≡ x.own.number) × (is_allocation 
 TickEntry x changes (End d) = (d ≡ x.own.number) × Makes changes x (replicate 16 Nothing)
 TickEntry x changes _ = ⊥
 
+-- what a tick asks
 pub record TickMay (k : Config) (x : DomainView) (changes : List Change) (e : Entry) : Type 0 where
   pub acts : Acts k x
   pub entry : TickEntry x changes e

@@ -11,13 +11,16 @@ use Rattle.heap_rule.specs.declared.config.Config.{Config}
 use Rattle.heap_rule.specs.declared.view.DomainView.{DomainView}
 use Rattle.heap_rule.specs.declared.view.View.{View}
 
+-- the fact holds of each view, with its seat's number
 abbrev pub EachView : (ℕ → View → Type 0) → List View → Type 0
 EachView P views = (id : ℕ) (v : View) → get_elem? views id ≡ some v → P id v
 
+-- the fact holds of each of these domains
 abbrev pub AllDomains : (DomainView → Type 0) → List DomainView → Type 0
 AllDomains P [] = Unit {0}
 AllDomains P (x ∷ xs) = P x × AllDomains P xs
 
+-- the fact holds of each domain of each view
 abbrev pub EachDomain : (DomainView → Type 0) → List View → Type 0
 EachDomain P views = EachView (λ _ v. AllDomains P v.domains) views
 
@@ -55,9 +58,11 @@ abbrev pub opening_views : ℕ → ℕ → List DomainView
 opening_views d zero = []
 opening_views d (suc n) = opening_view d ∷ opening_views (d + 1) n
 
+-- the view of the first seat, which stands for all domains
 unfoldable pub first_view : Config → View
 first_view k = record { config = k; history = []; domains = opening_views 0 k.domains }
 
+-- the domains behind the first
 abbrev pub rest_of : List DomainView → List DomainView
 rest_of [] = []
 rest_of (x ∷ xs) = xs
@@ -71,6 +76,7 @@ domain_in (x ∷ xs) = x
 abbrev pub Tells : (DomainView → ℕ → DomainView → Type 0) → Me (Unit {0}) View → ℕ → Me (Unit {0}) View → Type 0
 Tells tells m found m' = tells (domain_in m.0.domains) found (domain_in m'.0.domains) × (m' ≡ (record m.0 { domains = domain_in m'.0.domains ∷ [] }, m.1))
 
+-- the same of a step as the table has them
 abbrev pub Plays : (DomainView → ℕ → DomainView → Type 0) → Step (Unit {0}) → Me (Unit {0}) View → ℕ → Me (Unit {0}) View → Type 0
 Plays tells _ m found m' = Tells tells m found m'
 
@@ -85,5 +91,6 @@ cut_right v = record v { domains = domain_in v.domains ∷ [] }
 abbrev pub joined : View → View → View
 joined v w = record v { domains = v.domains ++ w.domains }
 
+-- the view of a seat that was joined to another: it stands for no domain
 abbrev pub spent : View
 spent = record { config = record { domains = 0; minor_words = 0; pools = 0; finals = 0; ephes = 0 }; history = []; domains = [] }

@@ -5,19 +5,30 @@ ghost use Rattle.heap_rule.specs.Changes.{FitChanges, changed};
 
 use heap_words::Value;
 
-/// A list of the token.
+/// A list of the token. So far the registers are the only one that is there.
 #[derive(Clone, Copy, Debug, PartialEq, Eq)]
 pub enum Part {
+    /// The 16 registers.
     Register,
+    /// Registrations of `finalise`.
     Final,
+    /// Registrations of `finalise_last`.
     Last,
+    /// Finalisers that wait to be run.
     Queue,
+    /// Young blocks.
     Young,
+    /// Remembered fields.
     Remembered,
+    /// Blocks that are prepared for promotion.
     Prepared,
+    /// Copies whose fields are still to be promoted.
     Pending,
+    /// Ephemerons.
     Ephe,
+    /// Own pools.
     Pool,
+    /// Own pools that are still to be swept.
     ToSweep,
 }
 
@@ -34,9 +45,11 @@ pub struct Item {
 pub enum Change {
     /// The item at the place is this one.
     Set { part: Part, place: u32, item: Item },
-    /// The register holds the value that the step read.
+    /// The register holds the value that the step read, and nothing where the step read no value.
     Read { register: u8 },
+    /// The item stands at the end of the list. No list has this change yet.
     Append { part: Part, item: Item },
+    /// The item at the place is gone. No list has this change yet.
     Remove { part: Part, place: u32 },
     /// The list is empty. The registers hold nothing.
     Clear { part: Part },
@@ -58,7 +71,7 @@ pub(crate) fn make_changes(registers: &mut [Value; 16], read: Value, changes: &[
             Change::Clear {
                 part: Part::Register,
             } => *registers = [Value::Nothing; 16],
-            _ => {}
+            _ => unreachable!(),
         }
     }
 }

@@ -115,8 +115,9 @@ impl Ended {
 }
 
 impl Heap {
-    /// Ends the heap. Its history begins with the front of each domain, and has no other entry of
-    /// that domain.
+    /// Ends the heap. `domains` has at least one domain, and all are of this heap. The history begins
+    /// with the front of each domain that is handed in, and has no other entry of that domain. A domain
+    /// that isn't handed in may have further entries.
     pub fn stop(self, domains: Vec<Domain>) -> Ended
         requires here { AllIn self domains.items }
         requires some { 0 < length domains.items }

@@ -1,5 +1,5 @@
-//! The step calls. Each makes one step on the table, and writes the token's changes where the value
-//! read permits them. docs/RULE.md says how to add one.
+//! The step calls. Each makes one step on the table, and then the changes of the token that it was
+//! given. docs/RULE.md says how to add one.
 mod loading;
 mod making;
 mod raw;

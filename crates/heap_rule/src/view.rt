@@ -27,6 +27,7 @@ pub struct Seen {
     pub made: LinkedList<u64>,
 }
 
+/// A domain: what its token holds, and what contracts alone know of it.
 pub struct DomainView {
     pub own: Own,
     pub seen: Seen,

@@ -8,7 +8,7 @@ use std::sync::atomic::{AtomicU32, Ordering};
 use std::test::Fail;
 
 // How often a domain looks for the other one.
-const LOOKS: u32 = 200_000_000;
+const LOOKS: u32 = 1_000_000_000;
 
 const ONE: Config = Config {
     domains: 1,

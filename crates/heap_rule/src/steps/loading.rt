@@ -27,7 +27,9 @@ fn value_of(word: u64) -> Value
 }
 
 /// A load of the head of the block in the register that a `load` or a `store` looks into. The entry
-/// stands here where its reply is `bounds`, or `type` since the block is no plain one.
+/// stands here where its reply is `bounds`, or `type` since the block is no plain one. Else no entry
+/// stands here, and the block's size is known. `at` is the block's address, and there are no changes.
+/// Answers the head's word.
 pub fn head_load(heap: &Heap, dom: &mut Domain, at: u32, changes: &[Change]) -> u64
     ghost entry: { Entry }
     requires here { IsIn dom.old heap.now }
@@ -41,7 +43,8 @@ pub fn head_load(heap: &Heap, dom: &mut Domain, at: u32, changes: &[Change]) -> 
     load_as::<Brand>(&heap.table.shared, &mut dom.seat, index, at, changes)
 }
 
-/// A load of the label of the block in a register. No entry stands here, and the front stays.
+/// A load of the label of the block in a register. No entry stands here, and the front stays. `at` is
+/// the address behind the block's, and there are no changes. Answers the label's word.
 pub fn label_load(heap: &Heap, dom: &mut Domain, at: u32, changes: &[Change]) -> u64
     ghost register: { ℕ }
     requires here { IsIn dom.old heap.now }
@@ -56,7 +59,8 @@ pub fn label_load(heap: &Heap, dom: &mut Domain, at: u32, changes: &[Change]) ->
 }
 
 /// A load of a field of the plain block in a register, whose size is known. The entry of the `load`
-/// stands here, and its register gets the value.
+/// stands here. `at` is the field's address, and by the changes the register of the `load` gets the
+/// value. Answers the value's word.
 pub fn field_load(heap: &Heap, dom: &mut Domain, at: u32, changes: &[Change]) -> u64
     ghost entry: { Entry }
     requires here { IsIn dom.old heap.now }

@@ -81,7 +81,9 @@ fn store_head(heap: &Heap, dom: &mut Domain, at: u32, new: u64, changes: &[Chang
 
 /// A store of a word of the block that the domain is making in its own minor area: first the label,
 /// then the fields, each the integer 0, and at last the head, at which the block comes to live and
-/// the allocation's entry stands.
+/// the allocation's entry stands. `at` is the word's address: the next one behind those that are
+/// written, and for the head the one at which the block begins. The changes leave the registers as
+/// they are, and at the head they put the block's address into the register of the allocation.
 pub fn init_store(heap: &Heap, dom: &mut Domain, at: u32, new: u64, changes: &[Change])
     ghost entry: { Entry }
     requires here { IsIn dom.old heap.now }

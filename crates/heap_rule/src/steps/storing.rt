@@ -16,7 +16,8 @@ use heap_words::Value;
 use std::marker::Brand;
 
 /// A store to a field of the plain block in a register, whose size is known. The entry of the
-/// `store` stands here.
+/// `store` stands here. `at` is the field's address, `new` the word of what the register holds that
+/// the `store` names, and the changes leave the registers as they are.
 pub fn field_store(heap: &Heap, dom: &mut Domain, at: u32, new: u64, changes: &[Change])
     ghost entry: { Entry }
     requires here { IsIn dom.old heap.now }

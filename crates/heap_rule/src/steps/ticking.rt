@@ -15,7 +15,8 @@ use std::marker::Brand;
 
 /// A load of the want word, at which an entry stands that the registers alone decide: a command on
 /// registers, `poll`, a load or a store that has no block to look into, an allocation's `full`, or
-/// the end of the trace. Answers which collections the domains ask for.
+/// the end of the trace. `at` is the word's index, 0. Answers the word, of which no clause says
+/// anything yet, since no domain asks for a collection.
 pub fn tick(heap: &Heap, dom: &mut Domain, at: u32, changes: &[Change]) -> u64
     ghost entry: { Entry }
     requires here { IsIn dom.old heap.now }
