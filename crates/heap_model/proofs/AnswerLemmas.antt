@@ -1,17 +1,15 @@
 -- What a call of a running domain leaves: its own entry comes last in its front.
-use Rattle.std.proofs.Common.{◌≡◌, ◌∙◌, ℕ, Bool, true, false, List, [], ◌∷◌, ◌++◌, refl, sym, ap, append_assoc, append-nil}
-use Rattle.std.specs.Prelude.{cond, ◌==◌}
+use Rattle.std.proofs.Common.{◌≡◌, ◌∙◌, ℕ, Bool, true, false, List, [], ◌++◌, refl, ap, append-nil}
+use Rattle.std.specs.Prelude.{cond}
 use Rattle.heap_model.specs.declared.command.Command.{Command}
 use Rattle.heap_model.specs.declared.entry.Entry.{Entry}
-use Rattle.heap_model.specs.declared.entry.Entry.TheVariants.{Command as CommandOf, End}
-use Rattle.heap_model.specs.declared.reply.Reply.{Reply}
+use Rattle.heap_model.specs.declared.entry.Entry.TheVariants.{Command as CommandOf}
 use Rattle.heap_model.specs.declared.reply.Applied.{Applied}
-use Rattle.heap_model.specs.declared.reply.Applied.TheVariants.{Replied, Silent}
 use Rattle.heap_model.specs.declared.state.Sizes.{Sizes}
 use Rattle.heap_model.specs.declared.state.State.{State}
 use Rattle.heap_model.specs.Domains.{domain_at, opening}
 use Rattle.heap_model.specs.Entries.{next, reply}
-use Rattle.heap_model.specs.History.{state_after, commands, command_of, replies, replies_from, reply_list, is_entry_of}
+use Rattle.heap_model.specs.History.{state_after, commands, command_of, replies, reply_list, is_entry_of}
 use Rattle.heap_model.specs.Fronts.{Answers, IsFrontOf}
 use Rattle.heap_model.proofs.FrameLemmas.{frame_command}
 use Rattle.heap_model.proofs.FrontLemmas.{keeps_front}
@@ -20,10 +18,6 @@ use Rattle.heap_model.proofs.HistoryLemmas.{state_after-push, commands-append, c
 -- the front as it was, before the entries of others that the call brought
 pub before_entry : (z : Sizes) (d : ℕ) (old new : List Entry) (e : Entry) (a : Applied) (x : Answers z d old new e a) → IsFrontOf d (old ++ x.between) old
 before_entry z d old new e a x = record { rest = x.between; appends = refl; others = x.others }
-
--- the front after the call
-pub after_entry : (z : Sizes) (d : ℕ) (old new : List Entry) (e : Entry) (a : Applied) (x : Answers z d old new e a) → new ≡ (old ++ x.between) ++ e ∷ []
-after_entry z d old new e a x = x.appends
 
 -- a domain that makes the entry of a command goes on
 pub acts_after : (z : Sizes) (d : ℕ) (old new : List Entry) (c : Command) (full : Bool) (a : Applied) → Answers z d old new (CommandOf d c full) a → (domain_at (state_after (opening z) old) d).ended ≡ false

@@ -1,8 +1,7 @@
 -- After a collection that is complete nothing is left that its entries may take.
-use Rattle.std.proofs.Common.{◌≡◌, ℕ, zero, suc, Bool, true, false, not, ◌&&◌, IsTrue, List, [], ◌∷◌, ◌++◌, map, flat_map, filter_map, get_or, slice_get, Option, Some, None, refl, ap, ap₂, sym, ◌∙◌, subst}
+use Rattle.std.proofs.Common.{◌≡◌, ℕ, zero, suc, Bool, true, false, not, ◌&&◌, IsTrue, List, [], ◌∷◌, ◌++◌, map, flat_map, filter_map, get_or, slice_get, Option, Some, None, refl, ap, sym, ◌∙◌, subst}
 use Rattle.std.specs.List.{list_all}
 use Rattle.heap_model.specs.declared.label.Label.{Label}
-use Rattle.heap_model.specs.declared.entry.Entry.{Entry}
 use Rattle.heap_model.specs.declared.entry.Entry.TheVariants.{Collected}
 use Rattle.heap_model.specs.declared.graph.Node.{Node}
 use Rattle.heap_model.specs.declared.graph.Node.TheVariants.{Plain, Ephe}
@@ -10,7 +9,6 @@ use Rattle.heap_model.specs.declared.state.DomainState.{DomainState}
 use Rattle.heap_model.specs.declared.state.Finaliser.{Finaliser}
 use Rattle.heap_model.specs.declared.state.LastFinaliser.{LastFinaliser}
 use Rattle.heap_model.specs.declared.state.Pending.{Pending}
-use Rattle.heap_model.specs.declared.state.Sizes.{Sizes}
 use Rattle.heap_model.specs.declared.state.State.{State}
 use Rattle.heap_model.specs.Graph.{same_label, has_label, label_of, node_at}
 use Rattle.heap_model.specs.Domains.{domain_at, no_domain, queues, roots, reach, waiting, settled_roots, settled_reach, is_reachable_with, pending_label, opening}

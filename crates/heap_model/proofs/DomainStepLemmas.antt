@@ -1,5 +1,5 @@
 -- What a command does to the domains: but for `finalise` and `finalise_last` it leaves the registrations and the queues.
-use Rattle.std.proofs.Common.{◌≡◌, ℕ, Bool, true, false, is_some, replicate, List, [], ◌∷◌, get_or, set, slice_get, ◌+◌, Option, Some, None, refl}
+use Rattle.std.proofs.Common.{◌≡◌, ℕ, Bool, true, false, is_some, replicate, List, get_or, set, slice_get, ◌+◌, Option, Some, None, refl}
 use Rattle.heap_model.specs.declared.label.Label.{Label}
 use Rattle.heap_model.specs.declared.command.Command.{Command}
 use Rattle.heap_model.specs.declared.command.Command.TheVariants.{PutInt, Copy, Forget, Alloc, AllocMaj, Load, Store, Ephe as NewEphe, SetKey, UnsetKey, GetKey, CheckKey, SetData, UnsetData, GetData, CheckData, Finalise, FinaliseLast, Poll, Minor, Major, FullMajor}

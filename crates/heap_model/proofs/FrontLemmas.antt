@@ -12,8 +12,8 @@ use Rattle.heap_model.specs.declared.state.State.{State}
 use Rattle.heap_model.specs.Domains.{opening}
 use Rattle.heap_model.specs.Entries.{next, reply}
 use Rattle.heap_model.specs.History.{state_after, Legal, is_entry_of}
-use Rattle.heap_model.specs.Fronts.{NoneOf, IsFrontOf, Answers, Shape, PlainShape, EpheShape, shape_of, Grew, KeepsDomain, HoldsPlain}
-use Rattle.heap_model.proofs.HistoryLemmas.{state_after-append, state_after-push}
+use Rattle.heap_model.specs.Fronts.{NoneOf, IsFrontOf, Answers, PlainShape, shape_of, Grew, KeepsDomain, HoldsPlain}
+use Rattle.heap_model.proofs.HistoryLemmas.{state_after-append}
 use Rattle.heap_model.proofs.FrameLemmas.{keeps_next, grew_next, grew_same, grew_after}
 
 -- a test that fails
@@ -79,10 +79,6 @@ grew_front s d h front f =
     let same : state_after s h ≡ state_after (state_after s front) f.rest = ap (state_after s) f.appends ∙ state_after-append s front f.rest in
     subst (λ (t : State). Grew (state_after s front).graph t.graph) (sym same) (grew_list (state_after s front) f.rest)
 
-size_of : Shape → ℕ
-size_of (PlainShape n tag) = n
-size_of (EpheShape n) = n
-
 -- a block with a plain block's shape is a plain block
 pub plain_of : (m : Node) (n tag : ℕ) → shape_of m ≡ PlainShape n tag → (fields : List Value) × (m ≡ Plain tag fields) × (length fields ≡ n)
 plain_of (Plain t fields) n tag e =
@@ -118,11 +114,3 @@ answers_after z d old mid new e r f a =
       legal = a.legal;
       replies = ap (λ l. reply (state_after (opening z) l) e) (sym same) ∙ a.replies;
     }
-
--- a front tells of its domain what the longer front before an answered entry does
-pub keeps_between : (z : Sizes) (d : ℕ) (old new : List Entry) (e : Entry) (r : Applied) (a : Answers z d old new e r) → KeepsDomain (state_after (opening z) old) (state_after (opening z) (old ++ a.between)) d
-keeps_between z d old new e r a = keeps_front (opening z) d (old ++ a.between) old record { rest = a.between; appends = refl; others = a.others }
-
--- the state after an answered entry
-pub after_answer : (z : Sizes) (d : ℕ) (old new : List Entry) (e : Entry) (r : Applied) (a : Answers z d old new e r) → state_after (opening z) new ≡ next (state_after (opening z) (old ++ a.between)) e
-after_answer z d old new e r a = ap (state_after (opening z)) a.appends ∙ state_after-push (opening z) (old ++ a.between) e

@@ -20,16 +20,6 @@ pub legal_append : (s : State) (h k : List Entry) → LegalFrom s h → LegalFro
 legal_append s [] k first second = second
 legal_append s (e ∷ h) k first second = (first.0, legal_append (next s e) h k first.1 second)
 
--- a prefix of a legal list is legal
-pub legal_prefix : (s : State) (h k : List Entry) → LegalFrom s (h ++ k) → LegalFrom s h
-legal_prefix s [] k legal = tt
-legal_prefix s (e ∷ h) k legal = (legal.0, legal_prefix (next s e) h k legal.1)
-
--- the rest of a legal list is legal from the state after the prefix
-pub legal_rest : (s : State) (h k : List Entry) → LegalFrom s (h ++ k) → LegalFrom (state_after s h) k
-legal_rest s [] k legal = legal
-legal_rest s (e ∷ h) k legal = legal_rest (next s e) h k legal.1
-
 -- one more entry
 pub legal_push : (s : State) (h : List Entry) (e : Entry) → LegalFrom s h → Allowed (state_after s h) e → LegalFrom s (h ++ e ∷ [])
 legal_push s h e legal allowed = legal_append s h (e ∷ []) legal (allowed, tt)
@@ -84,10 +74,6 @@ commands-others [] d others = refl
 commands-others (e ∷ h) d others =
     let parts = both (not (is_entry_of d e)) (list_all (λ x. not (is_entry_of d x)) h) others in
     rw (command_of-other d e (is_not (is_entry_of d e) parts.0)) (commands-others h d parts.1)
-
--- so a domain's commands are as they were after entries of others, and grow by its own
-pub commands-push_other : (h : List Entry) (e : Entry) (d : ℕ) → is_entry_of d e ≡ false → commands (h ++ e ∷ []) d ≡ commands h d
-commands-push_other h e d other = commands-push h e d ∙ ap (λ t. commands h d ++ t) (command_of-other d e other) ∙ append-nil (commands h d)
 
 pub replies_from-others : (s : State) (h : List Entry) (d : ℕ) → IsTrue (list_all (λ x. not (is_entry_of d x)) h) → replies_from s h d ≡ []
 replies_from-others s [] d others = refl

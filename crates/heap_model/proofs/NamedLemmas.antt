@@ -1,5 +1,5 @@
 -- Lists of labels that have nodes.
-use Rattle.std.proofs.Common.{◌≡◌, ◌⊎◌, ℕ, zero, suc, ◌+◌, ◌<◌, IsTrue, List, [], ◌∷◌, ◌++◌, map, length, flat_map, filter_map, option_to_list, replicate, get_or, set, slice_get, remove, take, drop, Option, Some, None, refl, subst, ⊎_elim, arith}
+use Rattle.std.proofs.Common.{◌≡◌, ℕ, zero, suc, ◌<◌, IsTrue, List, [], ◌∷◌, ◌++◌, map, length, flat_map, filter_map, option_to_list, replicate, get_or, set, slice_get, remove, take, drop, Option, Some, None, refl, subst, ⊎_elim, arith}
 use Rattle.heap_model.specs.declared.label.Label.{Label}
 use Rattle.heap_model.specs.declared.state.Finaliser.{Finaliser}
 use Rattle.heap_model.specs.declared.state.LastFinaliser.{LastFinaliser}

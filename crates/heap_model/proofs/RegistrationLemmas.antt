@@ -1,8 +1,8 @@
 -- Each registration leaves its list at most once, and runs at most once.
-use Rattle.std.proofs.Common.{◌≡◌, ℕ, zero, suc, ◌+◌, ◌<◌, ◌≤◌, Bool, true, false, cond, IsTrue, List, [], ◌∷◌, ◌++◌, map, reverse, remove, take, drop, replicate, slice_get, option_map, option_to_list, get_or, set, length, count_by, Option, Some, None, refl, ap, sym, ◌∙◌, subst, arith, eqb}
+use Rattle.std.proofs.Common.{◌≡◌, ℕ, zero, suc, ◌+◌, ◌<◌, ◌≤◌, Bool, true, false, cond, IsTrue, List, [], ◌∷◌, ◌++◌, map, reverse, remove, take, replicate, slice_get, option_map, option_to_list, get_or, length, Option, Some, None, refl, ap, arith, eqb}
 use Rattle.heap_model.specs.declared.label.Label.{Label}
 use Rattle.heap_model.specs.declared.command.Command.{Command}
-use Rattle.heap_model.specs.declared.command.Command.TheVariants.{PutInt, Copy, Forget, Alloc, AllocMaj, Load, Store, Ephe as NewEphe, SetKey, UnsetKey, GetKey, CheckKey, SetData, UnsetData, GetData, CheckData, Finalise, FinaliseLast, Poll, Minor, Major, FullMajor}
+use Rattle.heap_model.specs.declared.command.Command.TheVariants.{Finalise, FinaliseLast}
 use Rattle.heap_model.specs.declared.entry.Entry.{Entry}
 use Rattle.heap_model.specs.declared.entry.Entry.TheVariants.{Command as CommandOf, End, Cut, Queue, Seal, Wipe, Last as LastOf, Collected, Done, Ran}
 use Rattle.heap_model.specs.declared.graph.Value.TheVariants.{Block}
@@ -13,13 +13,12 @@ use Rattle.heap_model.specs.declared.state.LastFinaliser.{LastFinaliser}
 use Rattle.heap_model.specs.declared.state.Pending.{Pending}
 use Rattle.heap_model.specs.declared.state.Pending.TheVariants.{Fin, Last}
 use Rattle.heap_model.specs.declared.state.DomainState.{DomainState}
-use Rattle.heap_model.specs.declared.state.Sizes.{Sizes}
 use Rattle.heap_model.specs.declared.state.State.{State}
 use Rattle.heap_model.specs.Graph.{node_at}
 use Rattle.heap_model.specs.Domains.{domain_at, with_domain, with_register, no_domain, label_in, opening, opening_domain}
 use Rattle.heap_model.specs.Commands.{outcome, finalised, finalised_last, after_command}
-use Rattle.heap_model.specs.Entries.{is_rising, Allowed, QueueAllowed, RanAllowed, queued_final, queued_last, at_places, without_places, with_queued, with_last_queued, with_finals_open, with_lasts_open, freshened, ended, wiped, with_wiped, without_first, after_run, next}
-use Rattle.heap_model.specs.History.{state_after, LegalFrom, Legal}
+use Rattle.heap_model.specs.Entries.{is_rising, Allowed, queued_final, queued_last, at_places, without_places, with_queued, with_last_queued, with_finals_open, with_lasts_open, freshened, ended, wiped, with_wiped, without_first, after_run, next}
+use Rattle.heap_model.specs.History.{state_after, LegalFrom}
 use Rattle.heap_model.specs.Registrations.{registered_by, registered, ran, all_registered, all_ran, left_over, RegistrationsRunOnce}
 use Rattle.heap_model.proofs.NumberLemmas.{inside_running}
 use Rattle.heap_model.proofs.TallyLemmas.{one_place, tally, tally-append, tally-map, tally-cond, tally-remove, tally-without, tally_count, counted, increasing, changed_at, changed_less, mapped_less}

@@ -1,5 +1,5 @@
 -- Each entry keeps a state well formed, so that reachability has its law in every state of a legal history.
-use Rattle.std.proofs.Common.{◌≡◌, ◌⊎◌, ℕ, zero, suc, ◌+◌, Bool, true, false, cond, IsTrue, List, [], ◌∷◌, ◌++◌, map, reverse, length, flat_map, filter_map, option_to_list, replicate, get_or, set, slice_get, option_map, option_and_then, pos, is_some, Option, Some, None, refl, ap, subst, ⊎_elim}
+use Rattle.std.proofs.Common.{◌≡◌, ℕ, zero, suc, ◌+◌, Bool, true, false, cond, IsTrue, List, [], ◌∷◌, ◌++◌, map, reverse, length, flat_map, filter_map, option_to_list, replicate, get_or, set, slice_get, option_map, option_and_then, pos, is_some, Option, Some, None, refl, ap, subst, ⊎_elim}
 use Rattle.heap_model.specs.declared.label.Label.{Label}
 use Rattle.heap_model.specs.declared.command.Command.{Command}
 use Rattle.heap_model.specs.declared.command.Command.TheVariants.{PutInt, Copy, Forget, Alloc, AllocMaj, Load, Store, Ephe as NewEphe, SetKey, UnsetKey, GetKey, CheckKey, SetData, UnsetData, GetData, CheckData, Finalise, FinaliseLast, Poll, Minor, Major, FullMajor}

@@ -1,6 +1,5 @@
--- Histories: legal lists of entries, what each domain reads of them, and how a domain's front grows.
-use Rattle.std.specs.Prelude.{◌≡◌, ℕ, Bool, false, cond, ◌==◌, List, [], ◌∷◌, ◌++◌, fold, flat_map, IsTrue, not}
-use Rattle.std.specs.List.{list_all}
+-- Histories: legal lists of entries, what each domain reads of them, and when one list is the front part of another.
+use Rattle.std.specs.Prelude.{◌≡◌, ℕ, Bool, false, cond, ◌==◌, List, [], ◌∷◌, ◌++◌, fold, flat_map}
 use Rattle.heap_model.specs.declared.command.Command.{Command}
 use Rattle.heap_model.specs.declared.entry.Entry.{Entry}
 use Rattle.heap_model.specs.declared.entry.Entry.TheVariants.{Command as CommandOf, End, Ran}
@@ -59,9 +58,3 @@ replies z h d = replies_from (opening z) h d
 pub record IsPrefix (old new : List Entry) : Type 0 where
   pub rest : List Entry
   pub appends : new ≡ old ++ rest
-
--- how a front grows at an entry of domain d: that entry comes last, and no other entry of d is new
-pub record Grows (old new : List Entry) (d : ℕ) (e : Entry) : Type 0 where
-  pub others : List Entry
-  pub appends : new ≡ old ++ others ++ e ∷ []
-  pub not_own : IsTrue (list_all (λ x. not (is_entry_of d x)) others)

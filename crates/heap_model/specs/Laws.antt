@@ -1,5 +1,5 @@
 -- Laws of the entries, in the words in which a reader would ask for them.
-use Rattle.std.specs.Prelude.{◌≡◌, ℕ, ◌<◌, Bool, false, ◌&&◌, IsTrue, List, [], ◌∷◌, length, sum_by, slice_get, Option, Some, None}
+use Rattle.std.specs.Prelude.{◌≡◌, ℕ, false, ◌&&◌, IsTrue, List, [], ◌∷◌, length, sum_by, slice_get, Option, Some, None}
 use Rattle.heap_model.specs.declared.label.Label.{Label}
 use Rattle.heap_model.specs.declared.command.Command as declared_command
 use Rattle.heap_model.specs.declared.command.Command.TheVariants.{Store, SetKey, UnsetKey, SetData, UnsetData, FullMajor}

@@ -6,6 +6,7 @@ use Rattle.heap_model.specs.declared.state.State.{State}
 use Rattle.heap_model.specs.Domains.{roots, waiting}
 use Rattle.heap_model.specs.Reach.{HoldsRoots, IsClosedUnder}
 
+-- a set that holds the labels of the registers, of these queues and of the waiting registrations, and all that its labels keep alive
 pub record IsMarked (s : State) (qs : List (List Pending)) (marked : Label → Bool) : Type 0 where
   pub roots : HoldsRoots (roots s qs) marked
   pub waiting : HoldsRoots (waiting s) marked

@@ -28,6 +28,7 @@ pub record IsDomainNamed (g : Graph) (x : DomainState) : Type 0 where
 abbrev pub IsNumbered : State → Type 0
 IsNumbered s = (l : Label) → IsTrue (has_label (labels s.graph) l) → l.serial ≤ (domain_at s l.domain).serial
 
+-- each label that a domain names, that a block names, or that a queue at the last cut keeps alive has a node
 pub record IsWellFormed (s : State) : Type 0 where
   pub domains : (d : ℕ) → IsDomainNamed s.graph (domain_at s d)
   pub nodes : (l : Label) (n : Node) → node_at s.graph l ≡ Some n → HaveNodes s.graph (names_of n)

@@ -42,7 +42,11 @@ impl Model for SlowHeap {
 }
 
 impl SlowHeap {
-    /// The heap before its first entry.
+    /// The heap before its first entry. An `Err` says that there is no memory for it.
+    ///
+    /// `domains` is 1 to 8, `classes` 6 or 9, and `minor_words`, the words of a domain's minor area, a multiple of
+    /// 4,096 from 4,096 to 65,536. `pools` is at most 2,048 and at least
+    /// `domains * (minor_words / 4096 + 2 * classes) + 1`.
     pub fn make(
         alloc: Global,
         domains: u32,

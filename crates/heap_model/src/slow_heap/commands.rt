@@ -1,7 +1,7 @@
 //! The entries of commands.
 ghost use Rattle.std.specs.Prelude.{◌≡◌, ◌<◌, length, IfOk, OnOk, OnErr, IsTrue, ◌↔◌};
 ghost use Rattle.heap_model.specs.Domains.{IsShaped, IsWithinLimits};
-ghost use Rattle.heap_model.specs.Commands.{FitsMode, is_allocation as allocates, MayBeFullAfterCollection, CommandAllowed, after_command as command_made, outcome};
+ghost use Rattle.heap_model.specs.Commands.{FitsMode, is_allocation as allocates, CommandAllowed, after_command as command_made, outcome};
 ghost use Rattle.heap_model.specs.Entries.{command_next, command_reply, HasNextSerial};
 
 use crate::command::Command;

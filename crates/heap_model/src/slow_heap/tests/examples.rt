@@ -97,8 +97,10 @@ pub(crate) const KEY_DIES_IN_A_CYCLE: &str = "
     seal; wipe 2 0; collected; full_major = live 2 22; done; check_key 2 0 = no
 ";
 
-// A heap whose pools are all owned answers `full` to an allocation alone, and has room after a complete collection.
-pub(crate) const FULL_AND_RECOVERY: &str = "
-    cut; seal; collected; done; !full poll; full allocmaj 3 0 126 = full; drop 1 = ok; drop 2 = ok;
-    allocmaj 3 0 126 = blk 0:193; cut; seal; collected; full_major = live 2 146; done
+// An allocation may be answered `full` at any time, and then makes no block. Another command never is.
+pub(crate) const FULL_AT_ANY_ALLOCATION: &str = "
+    full alloc 1 0 1 = full; full allocmaj 1 0 126 = full; full ephe 1 1 = full; !full poll;
+    !full int 1 5; !full load 1 0 0; alloc 1 0 1 = blk 0:1; full alloc 1 0 1 = full;
+    load 2 1 0 = int 0; cut; seal; collected; !full full_major; full_major = live 2 21; done;
+    full alloc 1 0 1 = full; alloc 1 0 1 = blk 0:2
 ";
