@@ -3,3 +3,4 @@ pub mod RowLemmas
 pub mod WalkLemmas
 pub mod TakesLemmas
 pub mod ReadLemmas
+pub mod SpelledLemmas

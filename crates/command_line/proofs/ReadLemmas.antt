@@ -16,7 +16,8 @@ use Rattle.command_line.specs.Numbers.{number_of}
 use Rattle.command_line.specs.Options.{given_at, given_by, nothing_read}
 use Rattle.command_line.specs.RunCommand.{run_app, read_in}
 use Rattle.command_line.specs.RunWords.{run_given, run_sizes, sizes_given, is_within_limits}
-use Rattle.command_line.proofs.WalkLemmas.{finds, name_of, some_of}
+use Rattle.command_line.specs.Spelled.{name_of}
+use Rattle.command_line.proofs.WalkLemmas.{finds, some_of}
 
 -- the numbers of a parse are those of its options
 pub record IsReadIn (m : ArgMatches) (g : Given) : Type 0 where

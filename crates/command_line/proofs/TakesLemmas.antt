@@ -13,7 +13,8 @@ use Rattle.command_line.specs.declared.options.Read.{Read}
 use Rattle.command_line.specs.Numbers.{number_of}
 use Rattle.command_line.specs.Options.{given_at, with_word, with_name, setting_named, given_by, nothing_read}
 use Rattle.command_line.specs.RunCommand.{run_app}
-use Rattle.command_line.proofs.WalkLemmas.{run_rules, name_of, walk_at, Follows, some_of, some_map, if_new, gone, named_is, none_shown, decimal_of, follows_word, step_joined, step_value, not_hyphens, no_hyphen, one_word}
+use Rattle.command_line.specs.Spelled.{name_of}
+use Rattle.command_line.proofs.WalkLemmas.{run_rules, walk_at, Follows, some_of, some_map, if_new, gone, named_is, none_shown, decimal_of, follows_word, step_joined, step_value, not_hyphens, no_hyphen, one_word}
 
 -- the pending option may be used
 abbrev Settles : Walk → Type 0

@@ -1,5 +1,5 @@
 -- A parse of words that are taken finds the numbers that they give.
-use Rattle.std.proofs.Common.{◌≡◌, ◌∙◌, ℕ, Bool, true, false, List, [], ◌∷◌, ◌++◌, Option, Some, None, codes, append-nil, refl, sym, ap, subst, arith}
+use Rattle.std.proofs.Common.{◌≡◌, ◌∙◌, ℕ, Bool, true, false, List, [], ◌∷◌, ◌++◌, Option, Some, None, append-nil, refl, sym, ap, subst, arith}
 use Rattle.std.specs.Char.{is_ascii_digit}
 use Rattle.std.proofs.lemmas.Bool.Decides.{Decides-eqb}
 use Rattle.std.proofs.lemmas.Grind.{common_steps}
@@ -18,18 +18,13 @@ use Rattle.command_line.specs.declared.options.Read.{Read}
 use Rattle.command_line.specs.Numbers.{is_decimal, number_of}
 use Rattle.command_line.specs.Options.{given_at, with_number, with_name, with_word, setting_named, given_by, nothing_read}
 use Rattle.command_line.specs.RunCommand.{run_app}
+use Rattle.command_line.specs.Spelled.{name_of}
 use Rattle.std.proofs.lemmas.Slice.Eq.{bytes_eq-Decides}
 use Rattle.command_line.proofs.RowLemmas.{at_row-missing, first_of-missing, first_of-added, first_of-other, has_row-other}
 
 -- the options as a parse has them
 abbrev pub run_rules : List Rule
 run_rules = (built run_app).top.rules
-
--- the name of an option
-abbrev pub name_of : Setting → Text
-name_of Domains = codes "domains"
-name_of Minor = codes "minor"
-name_of Pools = codes "pools"
 
 -- the option as a parse has it
 abbrev pub rule_for : Setting → Option Rule

@@ -2,3 +2,4 @@ pub mod Numbers
 pub mod Options
 pub mod RunCommand
 pub mod RunWords
+pub mod Spelled

@@ -1,7 +1,9 @@
 //! Which lists of words are taken.
-ghost use Rattle.std.specs.Prelude.{◌≡◌, ◌↔◌, IsTrue, IsSome, IfOk, drop, map, string_bytes, option_map};
+ghost use Rattle.std.specs.Prelude.{◌≡◌, ◌↔◌, IsTrue, IsSome, IfOk, Some, drop, map, string_bytes, option_map};
 ghost use Rattle.command_line.specs.Options.{given_by, nothing_read, with_name, with_text, with_word};
 ghost use Rattle.command_line.specs.RunWords.{is_within_limits, run_sizes, sizes_given};
+ghost use Rattle.command_line.specs.Spelled.{AsksFor};
+ghost use Rattle.heap_model.specs.declared.state.Sizes.{Sizes};
 ghost use Rattle.heap_model.specs.Domains.{IsWithinLimits};
 
 use crate::long::long_option;
@@ -107,14 +109,8 @@ fn are_within_limits(sizes: &Sizes) -> bool
     reserve + sizes.classes * domains + 1 <= sizes.pools && sizes.pools <= 2048
 }
 
-/// Whether the words after the program's name are those of a run: `run`, followed by any of
-/// `--domains N`, `--minor W` and `--pools P`, in any order, each at most once, each also as
-/// `--domains=N` and so on. The numbers are decimal, without sign and without leading zeros, and
-/// the sizes that they ask for are within the limits of a heap: 1 to 8 domains, minor areas of
-/// 4096 to 65,536 words in whole pools of 4096, and up to 2048 pools, among them those that are
-/// kept free for promotion and one more for each class of each domain, and one. What isn't given is
-/// 2 domains, 32,768 words and 512 pools. Takes no memory.
-pub fn words_fit(words: &[String]) -> bool
+// Whether these are the words of a run.
+fn are_taken(words: &[String]) -> bool
     ensures { IsTrue result ↔ IsSome (run_sizes (map string_bytes words.now)) }
 {
     let Some((first, rest)) = words.split_first() else {
@@ -127,6 +123,20 @@ pub fn words_fit(words: &[String]) -> bool
         Some(given) => are_within_limits(&sizes(given)),
         None => false,
     }
+}
+
+/// Whether the words after the program's name are those of a run: `run`, followed by any of
+/// `--domains N`, `--minor W` and `--pools P`, in any order, each at most once, each also as
+/// `--domains=N` and so on. The numbers are decimal, without sign and without leading zeros, and
+/// the sizes that they ask for are within the limits of a heap: 1 to 8 domains, minor areas of
+/// 4096 to 65,536 words in whole pools of 4096, and up to 2048 pools, among them those that are
+/// kept free for promotion and one more for each class of each domain, and one. What isn't given is
+/// 2 domains, 32,768 words and 512 pools. Takes no memory.
+pub fn words_fit(words: &[String]) -> bool
+    ensures taken { IsTrue result ↔ IsSome (run_sizes (map string_bytes words.now)) }
+    ensures spelled { (z : Sizes) → (run_sizes (map string_bytes words.now) ≡ Some z) ↔ AsksFor (map string_bytes words.now) z }
+{
+    are_taken(words)
 }
 
 // The words behind the first.

@@ -1,0 +1,280 @@
+-- Words ask for sizes exactly where they are spelled so.
+use Rattle.std.proofs.Common.{◌≡◌, ◌≢◌, ◌∙◌, ℕ, ◌+◌, ◌<◌, ◌^◌, zero, suc, Bool, true, false, List, [], ◌∷◌, ◌++◌, length, take, drop, Option, Some, None, codes, decimal, get_or, refl, sym, ap, subst, arith}
+use Rattle.std.specs.Prelude.{◌==◌, ◌&&◌, not, nat_lt, option_and_then, option_map, is_some, bytes_eq, flat_map, if◌then◌else◌}
+use Rattle.std.specs.Char.{is_ascii_digit}
+use Rattle.std.specs.List.{list_all, before_first, after_first, position_or_len}
+use Rattle.std.specs.Str.Parse.{digits_value}
+use Rattle.std.proofs.lemmas.Bool.Decides.{Decides-eqb, nat_tests}
+use Rattle.std.proofs.lemmas.Slice.Eq.{bytes_eq-Decides}
+use Rattle.std.proofs.lemmas.Fmt.{digits_decimal, digits_value-decimal, decimal-digits_value, first_decimal, decimal_digit, decimal_nonempty}
+use Rattle.clap.specs.Lexer.{long_of, long_of_rest, name_and_value, strip_byte, has_byte}
+use Rattle.heap_model.specs.declared.state.Sizes.{Sizes}
+use Rattle.command_line.specs.declared.options.Setting.{Setting}
+use Rattle.command_line.specs.declared.options.Setting.TheVariants.{Domains, Minor, Pools}
+use Rattle.command_line.specs.declared.options.Given.{Given}
+use Rattle.command_line.specs.declared.options.Read.{Read}
+use Rattle.command_line.specs.Numbers.{is_decimal, number_of}
+use Rattle.command_line.specs.Options.{given_at, with_number, with_text, with_name, with_option, with_word, setting_named, given_by, nothing_read}
+use Rattle.command_line.specs.RunWords.{run_given, run_sizes, sizes_given, is_within_limits, if_within_limits}
+use Rattle.command_line.specs.Spelled.{name_of, Choice, words_of, Gives, SpellsRun, AsksFor}
+use Rattle.command_line.proofs.NumberLemmas.{own, digits_of, some_digit}
+use Rattle.command_line.proofs.WalkLemmas.{named_is, some_of, some_map, if_new}
+
+-- a text that is read as a number is its decimal
+picked : (b : Bool) (x n : ℕ) → (if b then Some x else None) ≡ Some n → (b ≡ true) × (x ≡ n)
+picked true x n e = (refl, cc)
+picked false x n e = cc
+
+both : (a b : Bool) → (a && b) ≡ true → (a ≡ true) × (b ≡ true)
+both true b e = (refl, e)
+both false b e = cc
+
+no_lead : (a b c t : Bool) → (a && (not (b && c) && t)) ≡ true → b ≡ true → c ≡ false
+no_lead true true true t e long = cc
+no_lead true true false t e long = refl
+no_lead true false c t e long = cc
+no_lead false b c t e long = cc
+
+plain_lead : (a b t : Bool) → a ≡ true → t ≡ true → (a && (not (b && false) && t)) ≡ true
+plain_lead true true t p q = q
+plain_lead true false t p q = q
+plain_lead false b t p q = p
+
+lead_digit : (text : List ℕ) → is_decimal text ≡ true → get_or text 0 0 ≡ 48 → length text ≡ 1
+lead_digit [] d e = cc
+lead_digit (x ∷ []) d e = refl
+lead_digit (x ∷ y ∷ rest) d e =
+    let long : nat_lt 1 (length (x ∷ y ∷ rest)) ≡ true = grind (arith, nat_tests) in
+    let other : (x == 48) ≡ false = no_lead (nat_lt 0 (length (x ∷ y ∷ rest))) (nat_lt 1 (length (x ∷ y ∷ rest))) (x == 48) (list_all is_ascii_digit (x ∷ y ∷ rest)) d long in
+    let same : (x == 48) ≡ true = grind (arith, nat_tests) in
+    cc
+
+number_read : (text : List ℕ) (n : ℕ) → number_of text ≡ Some n → (text ≡ decimal n) × (n < 2 ^ 32)
+number_read text n e =
+    let p = picked _ (digits_value 10 text) n e in
+    let q = both (is_decimal text) (nat_lt (digits_value 10 text) (2 ^ 32)) p.0 in
+    let small : digits_value 10 text < 2 ^ 32 = grind (arith, nat_tests) in
+    (sym (decimal-digits_value own text (digits_of text q.0) (some_digit text q.0) (lead_digit text q.0) (omega arith)) ∙ ap decimal p.1, omega (arith, small, p.1))
+
+-- and a number is read from its decimal
+decimal_again : (text : List ℕ) → list_all is_ascii_digit text ≡ true → 0 < length text → (get_or text 0 0 ≡ 48 → length text ≡ 1) → is_decimal text ≡ true
+decimal_again [] digits some lead = absurd (omega arith)
+decimal_again (x ∷ []) digits some lead = digits
+decimal_again (x ∷ y ∷ rest) digits some lead =
+    let no : x ≢ 48 = λ e. absurd (omega (arith, lead e)) in
+    let other : (x == 48) ≡ false = grind (arith, nat_tests) in
+    let some_byte : nat_lt 0 (length (x ∷ y ∷ rest)) ≡ true = grind (arith, nat_tests) in
+    rw other (plain_lead _ _ _ some_byte digits)
+
+decimal_lead : (n : ℕ) → n < 2 ^ 64 → get_or (decimal n) 0 0 ≡ 48 → length (decimal n) ≡ 1
+decimal_lead zero h e = ap length (decimal_digit 0 (omega arith))
+decimal_lead (suc n) h e = absurd (omega (arith, first_decimal (suc n) (omega arith) h, e))
+
+number_again : (n : ℕ) → n < 2 ^ 32 → number_of (decimal n) ≡ Some n
+number_again n small =
+    let h : n < 2 ^ 64 = omega arith in
+    let d : is_decimal (decimal n) ≡ true = decimal_again (decimal n) (digits_decimal own n h) (decimal_nonempty n h) (decimal_lead n h) in
+    let v : digits_value 10 (decimal n) ≡ n = digits_value-decimal own n h in
+    let s : nat_lt n (2 ^ 32) ≡ true = grind (arith, nat_tests) in
+    rw (d, v, s) refl
+
+-- a name, and the text behind its `=` if there is one
+abbrev with_equals : List ℕ → Option (List ℕ) → List ℕ
+with_equals name None = name
+with_equals name (Some text) = name ++ 61 ∷ text
+
+with_equals-cons : (x : ℕ) (name : List ℕ) (v : Option (List ℕ)) → with_equals (x ∷ name) v ≡ x ∷ with_equals name v
+with_equals-cons x name None = refl
+with_equals-cons x name (Some text) = refl
+
+abbrev is_equals : ℕ → Bool
+is_equals y = y == 61
+
+one_more : (k : ℕ) → 1 + k ≡ suc k
+one_more k = omega arith
+
+two_more : (k : ℕ) → 1 + k + 1 ≡ suc (k + 1)
+two_more k = omega arith
+
+other_byte : (x : ℕ) (xs : List ℕ) → (x == 61) ≡ false → name_and_value (x ∷ xs) ≡ (x ∷ (name_and_value xs).0, (name_and_value xs).1)
+other_byte x xs e =
+    let k : ℕ = position_or_len is_equals xs in
+    let at : position_or_len is_equals (x ∷ xs) ≡ 1 + k = rw e refl in
+    let front : before_first is_equals (x ∷ xs) ≡ x ∷ before_first is_equals xs = ap (λ (j : ℕ). take j (x ∷ xs)) (at ∙ one_more k) in
+    let back : after_first is_equals (x ∷ xs) ≡ after_first is_equals xs = ap (λ (j : ℕ). drop j (x ∷ xs)) (ap (λ (j : ℕ). j + 1) at ∙ two_more k) in
+    let has : has_byte 61 (x ∷ xs) ≡ has_byte 61 xs = rw e refl in
+    ap (λ (ys : List ℕ). (ys, if has_byte 61 (x ∷ xs) then Some (after_first is_equals (x ∷ xs)) else None)) front
+    ∙ (ap (λ (b : Bool). (x ∷ before_first is_equals xs, if b then Some (after_first is_equals (x ∷ xs)) else None)) has
+    ∙ ap (λ (ys : List ℕ). (x ∷ before_first is_equals xs, if has_byte 61 xs then Some ys else None)) back)
+
+equals_byte : (x : ℕ) (xs : List ℕ) → (x == 61) ≡ true → name_and_value (x ∷ xs) ≡ ([], Some xs)
+equals_byte x xs e =
+    let at : position_or_len is_equals (x ∷ xs) ≡ 0 = rw e refl in
+    let front : before_first is_equals (x ∷ xs) ≡ [] = ap (λ (j : ℕ). take j (x ∷ xs)) at in
+    let back : after_first is_equals (x ∷ xs) ≡ xs = ap (λ (j : ℕ). drop (j + 1) (x ∷ xs)) at in
+    let has : has_byte 61 (x ∷ xs) ≡ true = rw e refl in
+    ap (λ (ys : List ℕ). (ys, if has_byte 61 (x ∷ xs) then Some (after_first is_equals (x ∷ xs)) else None)) front
+    ∙ (ap (λ (b : Bool). ([], if b then Some (after_first is_equals (x ∷ xs)) else None)) has ∙ ap (λ (ys : List ℕ). ([], Some ys)) back)
+
+parts_again : (xs : List ℕ) → with_equals (name_and_value xs).0 (name_and_value xs).1 ≡ xs
+parts_again [] = refl
+parts_again (x ∷ xs) = by (x == 61) refl (parts_again xs)
+  where
+    by : (b : Bool) → (x == 61) ≡ b → with_equals (name_and_value xs).0 (name_and_value xs).1 ≡ xs → with_equals (name_and_value (x ∷ xs)).0 (name_and_value (x ∷ xs)).1 ≡ x ∷ xs
+    by true e rest = ap (λ (p : List ℕ × Option (List ℕ)). with_equals p.0 p.1) (equals_byte x xs e) ∙ ap (λ (y : ℕ). y ∷ xs) (sym ((Decides-eqb x 61).0 e))
+    by false e rest = ap (λ (p : List ℕ × Option (List ℕ)). with_equals p.0 p.1) (other_byte x xs e) ∙ (with_equals-cons x (name_and_value xs).0 (name_and_value xs).1 ∙ ap (λ (ys : List ℕ). x ∷ ys) rest)
+
+-- a word that is a long option is two hyphens and its parts
+hyphen_again : (word rest : List ℕ) → strip_byte 45 word ≡ Some rest → word ≡ 45 ∷ rest
+hyphen_again [] rest e = cc
+hyphen_again (x ∷ xs) rest e =
+    let p = chosen (x == 45) xs rest e in
+    ap (λ (y : ℕ). y ∷ xs) ((Decides-eqb x 45).0 p.0) ∙ ap (λ (ys : List ℕ). 45 ∷ ys) p.1
+  where
+    chosen : (b : Bool) (ys zs : List ℕ) → (if b then Some ys else None) ≡ Some zs → (b ≡ true) × (ys ≡ zs)
+    chosen true ys zs h = (refl, cc)
+    chosen false ys zs h = cc
+
+rest_again : (rest : List ℕ) (p : List ℕ × Option (List ℕ)) → long_of_rest rest ≡ Some p → rest ≡ with_equals p.0 p.1
+rest_again [] p e = cc
+rest_again (x ∷ xs) p e =
+    let is : name_and_value (x ∷ xs) ≡ p = cc in
+    sym (parts_again (x ∷ xs)) ∙ ap (λ (q : List ℕ × Option (List ℕ)). with_equals q.0 q.1) is
+
+long_again : (word : List ℕ) (p : List ℕ × Option (List ℕ)) → long_of word ≡ Some p → word ≡ 45 ∷ 45 ∷ with_equals p.0 p.1
+long_again word p e =
+    let all = some_of long_of_rest _ p e in
+    let one = some_of (strip_byte 45) (strip_byte 45 word) all.0 all.1 in
+    hyphen_again word one.0 one.1 ∙ ap (λ (ys : List ℕ). 45 ∷ ys) (hyphen_again one.0 all.0 one.2 ∙ ap (λ (ys : List ℕ). 45 ∷ ys) (rest_again all.0 p all.2))
+
+-- what is read from words is spelled by them
+abbrev Read_from : Option Setting → Given → List (List ℕ) → Given → Type 0
+Read_from None before words after = (cs : List Choice) × (words ≡ flat_map words_of cs) × Gives before cs after
+Read_from (Some s) before words after = (n : ℕ) × (cs : List Choice) × (words ≡ decimal n ∷ flat_map words_of cs) × (n < 2 ^ 32) × Gives (with_number before s n) cs after
+
+joined_choice : (s : Setting) (before after : Given) (word text : List ℕ) (n : ℕ) (words : List (List ℕ)) → word ≡ 45 ∷ 45 ∷ with_equals (name_of s) (Some text) → number_of text ≡ Some n → given_at before s ≡ None
+    → Read_from None (with_number before s n) words after → Read_from None before (word ∷ words) after
+joined_choice s before after word text n words is read free rest =
+    let number = number_read text n read in (
+      record { setting = s; number = n; in_one = true } ∷ rest.0,
+      ap (λ (w : List ℕ). w ∷ words) (is ∙ ap (λ (t : List ℕ). 45 ∷ 45 ∷ name_of s ++ 61 ∷ t) number.0) ∙ ap (λ (ws : List (List ℕ)). (45 ∷ 45 ∷ name_of s ++ 61 ∷ decimal n) ∷ ws) rest.1,
+      (free, number.1, rest.2),
+    )
+
+parted_choice : (s : Setting) (before after : Given) (word : List ℕ) (words : List (List ℕ)) → word ≡ 45 ∷ 45 ∷ name_of s → given_at before s ≡ None
+    → Read_from (Some s) before words after → Read_from None before (word ∷ words) after
+parted_choice s before after word words is free rest = (
+  record { setting = s; number = rest.0; in_one = false } ∷ rest.1,
+  ap (λ (w : List ℕ). w ∷ words) is ∙ ap (λ (ws : List (List ℕ)). (45 ∷ 45 ∷ name_of s) ∷ ws) rest.2,
+  (free, rest.3, rest.4),
+)
+
+-- an option's name and its text are read, and so are the words behind it
+named_back : (word : List ℕ) (words : List (List ℕ)) (before after : Given) (s : Setting) (v : Option (List ℕ)) (next : Read) → word ≡ 45 ∷ 45 ∷ with_equals (name_of s) v
+    → with_name (record { given = before; waiting = None }) v s ≡ Some next → given_by next words ≡ Some after
+    → ((g : Given) (waiting : Option Setting) → given_by (record { given = g; waiting = waiting }) words ≡ Some after → Read_from waiting g words after) → Read_from None before (word ∷ words) after
+named_back word words before after s (Some text) next is e rest back =
+    let new = if_new (given_at before s) _ next e in
+    let n = some_map _ (number_of text) next new.1 in
+    joined_choice s before after word text n.0 words is n.1 new.0 (back (with_number before s n.0) None (subst (λ (r : Read). given_by r words ≡ Some after) (sym n.2) rest))
+named_back word words before after s None next is e rest back =
+    let new = if_new (given_at before s) _ next e in
+    let same : record { given = before; waiting = Some s } ≡ next = cc in
+    parted_choice s before after word words is new.0 (back before (Some s) (subst (λ (r : Read). given_by r words ≡ Some after) (sym same) rest))
+
+read_back : (words : List (List ℕ)) (before : Given) (waiting : Option Setting) (after : Given) → given_by (record { given = before; waiting = waiting }) words ≡ Some after → Read_from waiting before words after
+read_back [] before None after e = let is : before ≡ after = cc in ([], refl, is)
+read_back [] before (Some s) after e = cc
+read_back (word ∷ words) before (Some s) after e =
+    let next = some_of _ (with_word (record { given = before; waiting = Some s }) word) after e in
+    let n = some_map _ (number_of word) next.0 next.1 in
+    let number = number_read word n.0 n.1 in
+    let rest = read_back words (with_number before s n.0) None after (subst (λ (r : Read). given_by r words ≡ Some after) (sym n.2) next.2) in
+    (n.0, rest.0, ap (λ (w : List ℕ). w ∷ words) number.0 ∙ ap (λ (ws : List (List ℕ)). decimal n.0 ∷ ws) rest.1, number.1, rest.2)
+read_back (word ∷ words) before None after e =
+    let next = some_of _ (with_word (record { given = before; waiting = None }) word) after e in
+    let p = some_of _ (long_of word) next.0 next.1 in
+    let s = some_of _ (setting_named p.0.0) next.0 p.2 in
+    let name : long_of word ≡ Some (name_of s.0, p.0.1) = p.1 ∙ ap (λ (x : List ℕ). Some (x, p.0.1)) (named_is p.0.0 s.0 s.1) in
+    named_back word words before after s.0 p.0.1 next.0 (long_again word (name_of s.0, p.0.1) name) s.2 next.2 (λ g waiting h. read_back words g waiting after h)
+
+-- and what is spelled is read
+named_again : (s : Setting) → setting_named (name_of s) ≡ Some s
+named_again Domains = refl
+named_again Minor = refl
+named_again Pools = refl
+
+long_parted : (s : Setting) → long_of (45 ∷ 45 ∷ name_of s) ≡ Some (name_of s, None)
+long_parted Domains = refl
+long_parted Minor = refl
+long_parted Pools = refl
+
+long_joined : (s : Setting) (text : List ℕ) → long_of (45 ∷ 45 ∷ name_of s ++ 61 ∷ text) ≡ Some (name_of s, Some text)
+long_joined Domains text = refl
+long_joined Minor text = refl
+long_joined Pools text = refl
+
+word_joined : (s : Setting) (before : Given) (n : ℕ) → given_at before s ≡ None → n < 2 ^ 32
+    → with_word (record { given = before; waiting = None }) (45 ∷ 45 ∷ name_of s ++ 61 ∷ decimal n) ≡ Some (record { given = with_number before s n; waiting = None })
+word_joined s before n free small =
+    ap (option_and_then (with_option (record { given = before; waiting = None }))) (long_joined s (decimal n))
+    ∙ (ap (option_and_then (with_name (record { given = before; waiting = None }) (Some (decimal n)))) (named_again s)
+    ∙ (ap (λ (o : Option ℕ). if is_some o then None else with_text (record { given = before; waiting = None }) s (decimal n)) free
+    ∙ ap (option_map (λ (k : ℕ). record { given = with_number before s k; waiting = None })) (number_again n small)))
+
+word_parted : (s : Setting) (before : Given) → given_at before s ≡ None
+    → with_word (record { given = before; waiting = None }) (45 ∷ 45 ∷ name_of s) ≡ Some (record { given = before; waiting = Some s })
+word_parted s before free =
+    ap (option_and_then (with_option (record { given = before; waiting = None }))) (long_parted s)
+    ∙ (ap (option_and_then (with_name (record { given = before; waiting = None }) None)) (named_again s)
+    ∙ ap (λ (o : Option ℕ). if is_some o then None else Some (record { given = before; waiting = Some s })) free)
+
+number_taken : (s : Setting) (before : Given) (n : ℕ) → n < 2 ^ 32 → with_word (record { given = before; waiting = Some s }) (decimal n) ≡ Some (record { given = with_number before s n; waiting = None })
+number_taken s before n small = ap (option_map (λ (k : ℕ). record { given = with_number before s k; waiting = None })) (number_again n small)
+
+choice_again : (c : Choice) (before : Given) (after : Option Given) (rest : List (List ℕ)) (in_one : Bool) → given_at before c.setting ≡ None → c.number < 2 ^ 32
+    → given_by (record { given = with_number before c.setting c.number; waiting = None }) rest ≡ after
+    → given_by (record { given = before; waiting = None }) ((if in_one then (45 ∷ 45 ∷ name_of c.setting ++ 61 ∷ decimal c.number) ∷ [] else (45 ∷ 45 ∷ name_of c.setting) ∷ decimal c.number ∷ []) ++ rest) ≡ after
+choice_again c before after rest true free small e = ap (option_and_then (λ (r : Read). given_by r rest)) (word_joined c.setting before c.number free small) ∙ e
+choice_again c before after rest false free small e =
+    ap (option_and_then (λ (r : Read). given_by r (decimal c.number ∷ rest))) (word_parted c.setting before free)
+    ∙ (ap (option_and_then (λ (r : Read). given_by r rest)) (number_taken c.setting before c.number small) ∙ e)
+
+read_again : (cs : List Choice) (before after : Given) → Gives before cs after → given_by (record { given = before; waiting = None }) (flat_map words_of cs) ≡ Some after
+read_again [] before after g = ap Some g
+read_again (c ∷ cs) before after g = choice_again c before (Some after) (flat_map words_of cs) c.in_one g.0 g.1 (read_again cs _ after g.2)
+
+run_first : (b : Bool) (words : List (List ℕ)) (given : Given) → (if b then given_by nothing_read words else None) ≡ Some given → (b ≡ true) × (given_by nothing_read words ≡ Some given)
+run_first true words given e = (refl, e)
+run_first false words given e = cc
+
+given_spelled : (words : List (List ℕ)) (given : Given) → run_given words ≡ Some given → SpellsRun words given
+given_spelled [] given e = cc
+given_spelled (word ∷ words) given e =
+    let p = run_first (bytes_eq word (codes "run")) words given e in
+    let r = read_back words _ None given p.1 in
+    record {
+      choices = r.0;
+      words_are = ap (λ (w : List ℕ). w ∷ words) ((bytes_eq-Decides word (codes "run")).0 p.0) ∙ ap (λ (ws : List (List ℕ)). codes "run" ∷ ws) r.1;
+      gives = r.2;
+    }
+
+spelled_given : (words : List (List ℕ)) (given : Given) → SpellsRun words given → run_given words ≡ Some given
+spelled_given words given s = ap run_given s.words_are ∙ read_again s.choices _ given s.gives
+
+within : (b : Bool) (y z : Sizes) → (if b then Some y else None) ≡ Some z → (b ≡ true) × (y ≡ z)
+within true y z e = (refl, cc)
+within false y z e = cc
+
+-- what words ask for, as they are spelled
+pub asked : (words : List (List ℕ)) (z : Sizes) → run_sizes words ≡ Some z → AsksFor words z
+asked words z e =
+    let g = some_of (λ (g : Given). if_within_limits (sizes_given g)) (run_given words) z e in
+    let p = within (is_within_limits (sizes_given g.0)) (sizes_given g.0) z g.2 in
+    record { given = g.0; spells = given_spelled words g.0 g.1; sizes = sym p.1; limits = subst (λ (y : Sizes). is_within_limits y ≡ true) p.1 p.0 }
+
+pub answered : (words : List (List ℕ)) (z : Sizes) → AsksFor words z → run_sizes words ≡ Some z
+answered words z a =
+    let fits : is_within_limits (sizes_given a.given) ≡ true = subst (λ (y : Sizes). is_within_limits y ≡ true) a.sizes a.limits in
+    ap (option_and_then (λ (g : Given). if_within_limits (sizes_given g))) (spelled_given words a.given a.spells)
+    ∙ (ap (λ (b : Bool). if b then Some (sizes_given a.given) else None) fits ∙ ap Some (sym a.sizes))
