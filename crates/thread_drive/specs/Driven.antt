@@ -1,5 +1,6 @@
 -- What driving does to the runs of a heap.
 use Rattle.std.specs.Prelude.{◌≡◌, ◌<◌, ℕ, true, List, length, slice_index_or}
+use Rattle.heap_model.specs.History.{IsPrefix}
 use Rattle.domain_turns.specs.Runs.{RunView}
 use Rattle.heap_rule.specs.Token.{SharedHeap, IsIn}
 
@@ -9,11 +10,14 @@ pub record Driven (h : SharedHeap) (old new : RunView) : Type 0 where
   pub commands : new.commands ≡ old.commands
   pub number : new.token.view.own.number ≡ old.token.view.own.number
   pub config : new.token.config ≡ old.token.config
+  pub front : IsPrefix old.token.view.seen.front new.token.view.seen.front
   pub ended : new.ended ≡ true
 
--- the same domain's run of the same commands, maybe further on
-abbrev pub IsSameRun : RunView → RunView → Type 0
-IsSameRun old new = (new.commands ≡ old.commands) × (new.token.view.own.number ≡ old.token.view.own.number)
+-- the same domain's run of the same commands, maybe further on: what the domain saw of the history is a front part of what it sees now
+pub record IsSameRun (old new : RunView) : Type 0 where
+  pub commands : new.commands ≡ old.commands
+  pub number : new.token.view.own.number ≡ old.token.view.own.number
+  pub front : IsPrefix old.token.view.seen.front new.token.view.seen.front
 
 -- the same runs, in the same order
 abbrev pub IsSameRuns : List RunView → List RunView → Type 0

@@ -3,6 +3,7 @@ use Rattle.domain_turns.specs.Runs.{RunView}
 use Rattle.heap_rule.specs.Token.{IsIn}
 use Rattle.thread_drive.specs.Driven.{IsSameRun}
 use Rattle.thread_drive.proofs.PutBack.{all_back, all_kept, whole}
+use Rattle.thread_drive.proofs.SameRuns.{same_refl, same_trans}
 use Rattle.thread_drive.proofs.driving.+drive_to.Goals as goal
 
 pub returns-in-Ok-clause-here : goal.returns-in-Ok-clause-here
@@ -26,11 +27,11 @@ drive_to-requires-in-Err-clause-here g t c κs within = all_back (λ (a b : RunV
 
 pub returns-in-Err-clause-same : goal.returns-in-Err-clause-same
 returns-in-Err-clause-same g t c =
-    let kept = all_kept IsSameRun _ _ _ _ c.args.at c.take_here-run.result c.in-Err.run' c.take_here-run.ensures.taken c.put_back-in-Err.ensures.back refl (search rules) (λ k d few. (refl, refl)) c.in-Err.ensures.back.1 in
-    let len = whole IsSameRun _ _ _ _ c.args.at c.take_here-run.result c.in-Err.run' c.take_here-run.ensures.taken c.put_back-in-Err.ensures.back refl (search rules) (λ k d few. (refl, refl)) c.in-Err.ensures.back.1 in (
+    let kept = all_kept IsSameRun _ _ _ _ c.args.at c.take_here-run.result c.in-Err.run' c.take_here-run.ensures.taken c.put_back-in-Err.ensures.back refl (search rules) (λ k d few. same_refl _) c.in-Err.ensures.back.1 in
+    let len = whole IsSameRun _ _ _ _ c.args.at c.take_here-run.result c.in-Err.run' c.take_here-run.ensures.taken c.put_back-in-Err.ensures.back refl (search rules) (λ k d few. same_refl _) c.in-Err.ensures.back.1 in (
       c.drive_to-in-Err.ensures.same.0 ∙ len,
       λ k d few.
           let later = c.drive_to-in-Err.ensures.same.1 k d (subst (λ n. k < n) (sym len) few) in
           let before = kept k d few in
-          (later.0 ∙ before.0, later.1 ∙ before.1),
+          same_trans _ _ _ before later,
     )
