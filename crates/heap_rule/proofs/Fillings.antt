@@ -60,7 +60,7 @@ module _ (k : Config) (limits : IsWithinLimits (sizes_in k)) (w0 w3 w7 : List �
     pub opens : colour ≡ 36 → HeadIs (PlainShape 16 0) head → label ≡ 0 → IsOpening k w7
     opens c h l = record {
       wide = fields.same_length ∙ long6;
-      phases = record { arrivals = control 1 (omega arith) ∙ untouched 1 (λ e. omega arith) (λ e. omega arith); runs = control 2 (omega arith) ∙ untouched 2 (λ e. omega arith) (λ e. omega arith) };
+      phases = record { nothing_wanted = control 0 (omega arith) ∙ untouched 0 (λ e. omega arith) (λ e. omega arith); arrivals = control 1 (omega arith) ∙ untouched 1 (λ e. omega arith) (λ e. omega arith); runs = control 2 (omega arith) ∙ untouched 2 (λ e. omega arith) (λ e. omega arith) };
       pools = record {
         count = control 6 (omega arith) ∙ get_or-set_same (set w0 5 colour) 6 (P - 1) 0 (let r = room in let s = length-set w0 5 colour in omega arith);
         asked = control 7 (omega arith) ∙ untouched 7 (λ e. omega arith) (λ e. omega arith);

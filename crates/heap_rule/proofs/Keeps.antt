@@ -59,7 +59,7 @@ pub control_set : (k : Config) (words : List ℕ) (a new : ℕ) → 1 ≤ a → 
 control_set k words a new low i below = get_or-set_other words (before_heap k + a) i new 0 (λ e. omega arith)
 
 pub phases_same : (k : Config) (words words' : List ℕ) → Control k words words' → Phases words → Phases words'
-phases_same k words words' c s = record { arrivals = c 1 (omega arith) ∙ s.arrivals; runs = c 2 (omega arith) ∙ s.runs }
+phases_same k words words' c s = record { nothing_wanted = c 0 (omega arith) ∙ s.nothing_wanted; arrivals = c 1 (omega arith) ∙ s.arrivals; runs = c 2 (omega arith) ∙ s.runs }
 
 pub pools_same : (k : Config) (words words' : List ℕ) → 1 ≤ k.pools → Control k words words' → Pools k words → Pools k words'
 pools_same k words words' has c s = record {

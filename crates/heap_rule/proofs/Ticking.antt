@@ -1,5 +1,5 @@
 -- A tick keeps the rule.
-use Rattle.std.proofs.Common.{◌≡◌, ℕ, zero, suc, ◌<◌, true, false, ne_eqb, List, [], length, get_or, set, replicate, sym, refl, subst, ⊎_elim}
+use Rattle.std.proofs.Common.{◌≡◌, ◌∙◌, ℕ, zero, suc, ◌<◌, true, false, ne_eqb, List, [], length, get_or, set, replicate, sym, refl, ap, subst, ⊎_elim}
 use mathlib.Core.Option.{some}
 use lib.ListN.{get_elem?}
 use Rattle.atomic_table.specs.Table.{Me, keeps, Allows}
@@ -27,8 +27,8 @@ use Rattle.heap_rule.specs.Places.{Stands}
 use Rattle.heap_rule.specs.Changes.{value_at, changed}
 use Rattle.heap_rule.specs.Views.{one, Tells}
 use Rattle.heap_rule.specs.Rule.{state_of, Rule}
-use Rattle.heap_rule.specs.Standing.{Acts, Entered}
-use Rattle.heap_rule.specs.Ticks.{IsNoBlock, TickCommand, TickEntry, TickMay, command_answer, tick_answer}
+use Rattle.heap_rule.specs.Standing.{Acts}
+use Rattle.heap_rule.specs.Ticks.{IsNoBlock, TickCommand, TickEntry, TickMay, command_answer, tick_answer, TickTold}
 use Rattle.heap_rule.proofs.Values.{AllStand, stand_set, no_label, stands_nothing}
 use Rattle.heap_rule.proofs.Keeps.{Words, unmoved}
 use Rattle.heap_rule.proofs.Entering.{running, inside_state, registers_stand, Enters, entered_view, enters_rule, enters}
@@ -146,19 +146,19 @@ module _ (k : Config) (s : Words) (r : Rule k s) (id : ℕ) (hist : List Entry) 
     nothings n e = subst (λ (m : ℕ). AllStand r.live (replicate 16 NothingWord) (replicate m Nothing)) (sym e) record { wide = refl; long = refl; each = λ q few. nothing 16 q }
   entries _ may = absurd may
 
-ticks : (k : Config) (slots id word : ℕ) (hist : List Entry) (x : DomainView) (e : Entry) (changes : List Change) → TickMay k x changes e
-    → Allows (Rule k) slots id (one k hist x, []) word (λ n. n) (Tells (λ y _ z. Entered k e (tick_answer e) NothingWord changes y z) (one k hist x, []))
-ticks k slots id word hist x e changes may s r _ at _ =
+ticks : (k : Config) (slots id word : ℕ) (hist : List Entry) (x : DomainView) (e : Entry) (changes : List Change) → word ≡ 0 → TickMay k x changes e
+    → Allows (Rule k) slots id (one k hist x, []) word (λ n. n) (Tells (TickTold k e changes) (one k hist x, []))
+ticks k slots id word hist x e changes first may s r _ at _ =
     let o = entries k s r id hist x at may.acts changes e may.entry in
     let regs : List Value = changed NothingWord changes x.own.registers in (
       one k hist (entered_view k s r id hist x at may.acts e regs),
       keeps,
       tt,
       unmoved k s word (set s.views id (one k hist (entered_view k s r id hist x at may.acts e regs))) (enters_rule k s r id hist x at may.acts e regs (tick_answer e) o),
-      (enters k s r id hist x at may.acts (state_of k r.log).graph e (tick_answer e) NothingWord changes o, refl),
+      ((enters k s r id hist x at may.acts (state_of k r.log).graph e (tick_answer e) NothingWord changes o, ap (λ (i : ℕ). get_or s.words i 0) first ∙ r.whole.phases.nothing_wanted), refl),
     )
 
-pub tick_allows : (k : Config) (slots id word : ℕ) (m : Me (Unit {0}) View) (x : DomainView) (e : Entry) (changes : List Change) → m ≡ (one k m.0.history x, []) → TickMay k x changes e
-    → Allows (Rule k) slots id m word (λ n. n) (Tells (λ y _ z. Entered k e (tick_answer e) NothingWord changes y z) m)
-tick_allows k slots id word m x e changes is may =
-    subst (λ (n : Me (Unit {0}) View). Allows (Rule k) slots id n word (λ a. a) (Tells (λ y _ z. Entered k e (tick_answer e) NothingWord changes y z) n)) (sym is) (ticks k slots id word m.0.history x e changes may)
+pub tick_allows : (k : Config) (slots id word : ℕ) (m : Me (Unit {0}) View) (x : DomainView) (e : Entry) (changes : List Change) → m ≡ (one k m.0.history x, []) → word ≡ 0 → TickMay k x changes e
+    → Allows (Rule k) slots id m word (λ n. n) (Tells (TickTold k e changes) m)
+tick_allows k slots id word m x e changes is first may =
+    subst (λ (n : Me (Unit {0}) View). Allows (Rule k) slots id n word (λ a. a) (Tells (TickTold k e changes) n)) (sym is) (ticks k slots id word m.0.history x e changes first may)

@@ -29,6 +29,10 @@ listed_pool words i = slice_index words (11 + i)
 abbrev pub owner_of : Config → List ℕ → ℕ → ℕ
 owner_of k words i = slice_index words (11 + k.pools + i)
 
+-- the want word says which collections the domains ask for
+abbrev pub want : List ℕ → ℕ
+want words = slice_index words 0
+
 -- the barrier word says how often the domains have arrived, the plan word which phase is next
 abbrev pub barrier : List ℕ → ℕ
 barrier words = slice_index words 1

@@ -11,7 +11,7 @@ use Rattle.heap_rule.specs.declared.config.Config.{Config}
 use Rattle.heap_rule.specs.declared.view.DomainView.{DomainView}
 use Rattle.heap_rule.specs.declared.view.View.{View}
 use Rattle.heap_rule.specs.Limits.{sizes_in}
-use Rattle.heap_rule.specs.Layout.{table_words, base_of, at_address, listed_pool, owner_of, barrier, plan, armed, colours, listed, cursor}
+use Rattle.heap_rule.specs.Layout.{table_words, base_of, at_address, listed_pool, owner_of, want, barrier, plan, armed, colours, listed, cursor}
 use Rattle.heap_rule.specs.Places.{Place, Live, extent, Stands, Found, Placed}
 use Rattle.heap_rule.specs.Changes.{value_at}
 use Rattle.heap_rule.specs.Views.{EachView, EachDomain, Knows}
@@ -47,8 +47,9 @@ pub record Good (k : Config) (log : List Entry) (live : Live) (words : List ℕ)
   pub prepared : Prepared k words x
   pub idle : x.own.arrivals ≡ 0
 
--- Phases: no domain has arrived anywhere, so the phase is the first, in which all run
+-- Phases: no domain asks for a collection and none has arrived anywhere, so the phase is the first, in which all run
 pub record Phases (words : List ℕ) : Type 0 where
+  pub nothing_wanted : want words ≡ 0
   pub arrivals : barrier words ≡ 0
   pub runs : plan words ≡ 0
 

@@ -1,5 +1,5 @@
 -- Ticks: the entries that the registers alone decide.
-use Rattle.std.specs.Prelude.{◌≡◌, ◌<◌, ◌⊎◌, true, false, List, replicate, slice_set}
+use Rattle.std.specs.Prelude.{◌≡◌, ℕ, ◌<◌, ◌⊎◌, true, false, List, replicate, slice_set}
 use Rattle.heap_model.specs.declared.command.Command as model
 use Rattle.heap_model.specs.declared.command.Command.TheVariants.{PutInt, Copy, Forget, Load, Store, Poll}
 use Rattle.heap_model.specs.declared.entry.Entry.{Entry}
@@ -16,7 +16,7 @@ use Rattle.heap_rule.specs.declared.change.Change.{Change}
 use Rattle.heap_rule.specs.declared.config.Config.{Config}
 use Rattle.heap_rule.specs.declared.view.DomainView.{DomainView}
 use Rattle.heap_rule.specs.Changes.{value_at, changed, FitChanges}
-use Rattle.heap_rule.specs.Standing.{Acts, LeavesRegisters}
+use Rattle.heap_rule.specs.Standing.{Acts, LeavesRegisters, Entered}
 
 -- no address
 abbrev pub IsNoBlock : Value → Type 0
@@ -61,3 +61,7 @@ abbrev pub tick_answer : Entry → Applied
 tick_answer (Command d c false) = Replied (command_answer c)
 tick_answer (Command d c true) = Replied Full
 tick_answer _ = Silent
+
+-- a tick finds that no domain asks for a collection, and the entry stands there
+abbrev pub TickTold : Config → Entry → List Change → DomainView → ℕ → DomainView → Type 0
+TickTold k e changes x found y = Entered k e (tick_answer e) Nothing changes x y × (found ≡ 0)

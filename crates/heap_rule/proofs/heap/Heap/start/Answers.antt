@@ -1,5 +1,9 @@
-use Rattle.std.proofs.Common.{[], sym, subst, List, ℕ}
+use Rattle.std.proofs.Common.{◌≡◌, ◌∙◌, [], length, refl, sym, ap, subst, List, ℕ}
 use Rattle.atomic_table.specs.Table.{opening}
+use Rattle.heap_model.specs.Domains.{IsWithinLimits}
+use Rattle.heap_rule.specs.declared.config.Config.{Config}
+use Rattle.heap_rule.specs.Layout.{table_words}
+use Rattle.heap_rule.specs.Limits.{sizes_in}
 use Rattle.heap_rule.specs.Rule.{Rule}
 use Rattle.heap_rule.specs.Views.{first_view}
 use Rattle.heap_rule.proofs.Sizes.{within}
@@ -10,3 +14,10 @@ pub of_words-requires : goal.of_words-requires
 of_words-requires c =
     let limits = within c.args.config (sym c.in_default.ensures) in
     subst (λ (ws : List ℕ). Rule c.args.config (opening ws [] (first_view c.args.config))) (sym c.as_slice.ensures.value) (starts c.args.config limits c.in_ok-words.words.items c.in_ok-words.ensures)
+
+pub invariant_of-heap-2 : goal.invariant_of-heap-2
+invariant_of-heap-2 c =
+    let made = c.in_ok-table.ensures in
+    let limits = within c.args.config (sym c.in_default.ensures) in
+    let words = made.0 ∙ (ap (λ (ws : List ℕ). length ws) c.as_slice.ensures.value ∙ c.in_ok-words.ensures.wide) in
+    subst (λ (k : Config). (c.in_ok-table.table.shared.table_id.words ≡ table_words k) × (c.args.config ≡ k) × IsWithinLimits (sizes_in k)) (sym made.5) (words, refl, limits)
