@@ -4,3 +4,4 @@ pub mod SectionLemmas
 pub mod BeginLemmas
 pub mod RunLemmas
 pub mod WordLemmas
+pub mod StatusLemmas

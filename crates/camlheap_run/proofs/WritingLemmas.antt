@@ -3,6 +3,7 @@ use Rattle.std.proofs.Common.{◌≡◌, ℕ, ◌+◌, ◌<◌, List, [], ◌∷
 use Rattle.std.specs.Prelude.{flat_map}
 use Rattle.std.proofs.lemmas.List.Concat.{flat_map-append}
 use Rattle.std.specs.declared.option.Option.{Option}
+use Rattle.std.specs.Result.{IsErr}
 use Rattle.std.specs.Io.KnownBytes.{Appends, Keeps}
 use Rattle.std.proofs.KnownBytes.{Appends-trans, Appends-kept}
 use Rattle.camlheap_run.specs.Writing.{AppendsFront, Writes}
@@ -38,6 +39,11 @@ front_at_fault a b c text at part kept = record {
   splits = sym (take-append-drop at text);
   appended = Appends-kept a b c (take at text) part kept;
 }
+
+-- where a write failed, a front part was appended
+pub front_is_written : {T E : Type 0} → (a b : Option (List ℕ)) (result : Result T E) (text : List ℕ) → IsErr result → AppendsFront a b text → Writes a b result text
+front_is_written a b (Ok x) text failed part = cc
+front_is_written a b (Err e) text failed part = part
 
 -- the texts of the parts of a list, up to one and from there on
 pub text_at : {A : Type 0} (f : A → List ℕ) (xs : List A) (i : ℕ) (x : A) → i < length xs → flat_map f xs ≡ flat_map f (take i xs) ++ (f (get_or xs i x) ++ flat_map f (drop (i + 1) xs))

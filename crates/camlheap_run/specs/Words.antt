@@ -1,16 +1,16 @@
 -- The words of the command line, behind the program's name: their grammar, and what they ask for.
 use Rattle.std.specs.Prelude.{ℕ, List, IsSome, unwrap_or}
 use Rattle.heap_model.specs.declared.state.Sizes.{Sizes}
-use Rattle.heap_model.specs.Domains.{sizes_of}
-use Rattle.command_line.specs.RunWords.{run_sizes}
+use Rattle.command_line.specs.Options.{nothing_read}
+use Rattle.command_line.specs.RunWords.{run_sizes, sizes_given}
 
 -- the words of a run
 abbrev pub AreRunWords : List (List ℕ) → Type 0
 AreRunWords words = IsSome (run_sizes words)
 
--- the sizes of a heap where the words say nothing: 2 domains, 512 pools, 32,768 words in each minor area, and six size classes
+-- the sizes of a heap where the words say nothing
 abbrev pub default_sizes : Sizes
-default_sizes = sizes_of 2 512 32768 6
+default_sizes = sizes_given nothing_read.given
 
 -- the sizes of the heap that the words ask for
 abbrev pub asked_sizes : List (List ℕ) → Sizes

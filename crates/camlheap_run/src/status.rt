@@ -1,5 +1,5 @@
 //! How a run of the program ended, as a number and as a line.
-ghost use Rattle.std.specs.Prelude.{◌≡◌, ◌≤◌, ◌+◌, ◌++◌, take, length, decimal, codes};
+ghost use Rattle.std.specs.Prelude.{◌≡◌, ◌≤◌, ◌+◌, ◌++◌, take, drop, length, decimal, codes};
 ghost use Rattle.camlheap_run.specs.Status.{number_of, line_of, fault_text};
 ghost use Rattle.heap_model.specs.Output.{line};
 
@@ -14,9 +14,10 @@ pub enum Status {
     Done { ended: Option<Ended> },
     /// The words of the command line aren't in the grammar. Nothing was read.
     Usage,
-    /// The script has this fault first.
+    /// The script has this fault first. Nothing was written. [`camlheap`](crate::camlheap) never answers
+    /// `Script(ScriptFault::Memory)`: want of memory is `Memory`.
     Script(ScriptFault),
-    /// A read failed.
+    /// A read failed. Nothing was written.
     ReadFault,
     /// A write failed. What was written is the front of what was to be written. `ended` is as in `Done`.
     WriteFault { ended: Option<Ended> },
@@ -41,22 +42,25 @@ pub fn status_number(status: &Status) -> u8
 const USAGE: &[u8] =
     b"usage: camlheap run [--domains N] [--minor W] [--pools P] | gen BASE N C | load BASE N C\n";
 
-// Puts a text behind the first `at` bytes, and answers where it ends.
+// Puts a text behind the first `at` bytes, and answers where it ends. What lies behind it stays as it was.
 fn put(out: &mut [u8; 128], at: usize, text: &[u8]) -> usize
     requires { at + length text.now ≤ 128 }
     ensures end { result ≡ at + length text.now }
     ensures front { take result out.new ≡ take at out.old ++ text.now }
+    ensures rest { drop result out.new ≡ drop result out.old }
 {
     let end = at + text.len();
     out[at..end].copy_from_slice(text);
     end
 }
 
-// Puts a number in decimal behind the first `at` bytes, and answers where it ends.
+// Puts a number in decimal behind the first `at` bytes, and answers where it ends. What lies behind it stays as it was.
 fn put_number(out: &mut [u8; 128], at: usize, number: u32) -> usize
     requires { at + 10 ≤ 128 }
+    ensures start { at ≤ result }
     ensures end { result ≤ at + 10 }
     ensures front { take result out.new ≡ take at out.old ++ decimal number }
+    ensures rest { drop result out.new ≡ drop result out.old }
 {
     let mut buffer = Buffer::new();
     put(out, at, buffer.format(number).as_bytes())
@@ -67,6 +71,7 @@ fn put_line(out: &mut [u8; 128], number: u32, text: &[u8]) -> usize
     requires { length text.now ≤ 32 }
     ensures end { result ≤ 54 }
     ensures front { take result out.new ≡ codes "script line " ++ decimal number ++ text.now }
+    ensures rest { drop result out.new ≡ drop result out.old }
 {
     let at = put(out, 0, b"script line ");
     let at = put_number(out, at, number);
@@ -77,6 +82,7 @@ fn put_line(out: &mut [u8; 128], number: u32, text: &[u8]) -> usize
 fn put_fault(out: &mut [u8; 128], fault: &ScriptFault) -> usize
     ensures end { result ≤ 128 }
     ensures front { take result out.new ≡ line (fault_text fault.now) }
+    ensures rest { drop result out.new ≡ drop result out.old }
 {
     match fault {
         ScriptFault::Syntax { line } => put_line(out, *line, b": syntax\n"),
@@ -93,10 +99,11 @@ fn put_fault(out: &mut [u8; 128], fault: &ScriptFault) -> usize
 }
 
 /// Puts the line for standard error, with its line feed, at the front of the buffer, and answers its length.
-/// There is none, of length 0, for `Done`.
+/// There is none, of length 0, for `Done`. The rest of the buffer stays as it was.
 pub fn fault_line(status: &Status, out: &mut [u8; 128]) -> usize
     ensures fits { result ≤ 128 }
     ensures line { take result out.new ≡ line_of status.now }
+    ensures text { out.new ≡ line_of status.now ++ drop result out.old }
 {
     match status {
         Status::Done { .. } => 0,

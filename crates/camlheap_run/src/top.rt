@@ -11,9 +11,9 @@ ghost use Rattle.camlheap_run.specs.Outcome.{RunsToEnd, StopsWriting, IsQuiet, I
 use crate::Status;
 use crate::reading::{NoScript, script_of};
 use crate::run::run;
-use command_line::{read_words, words_fit};
+use command_line::read_words;
 use outer_io::{Gate, Sink, Source};
-use std::alloc::Global;
+use std::alloc::{AllocError, Global};
 use std::sync::Wait;
 use std::thread::Threads;
 
@@ -24,6 +24,9 @@ use std::thread::Threads;
 /// [`words_fit`](command_line::words_fit). The refusals come in the order in which the
 /// work is done: the words, reading, the script, running, writing. Want of memory may come at any time before the
 /// first byte is written.
+///
+/// It waits for its threads, and so may wait without end: nothing is said of when they run. The clauses also leave
+/// free which allocations are answered `full`.
 pub fn camlheap<R: Threads + Wait + Sync, S: Source, K: Sink, G: Gate + Sync>(
     rt: &R,
     alloc: Global,
@@ -59,18 +62,15 @@ pub fn camlheap<R: Threads + Wait + Sync, S: Source, K: Sink, G: Gate + Sync>(
         → ¬ (Rose (S.faults src.old) (S.faults src.new))
         → IsEither result (Status.Script f) Status.Memory }
 {
-    if !words_fit(words) {
-        return Status::Usage;
-    }
-    let Ok(Some(sizes)) = read_words(alloc, words) else {
-        return Status::Memory;
+    let sizes = match read_words(alloc, words) {
+        Ok(Some(sizes)) => sizes,
+        Ok(None) => return Status::Usage,
+        Err(AllocError) => return Status::Memory,
     };
     match script_of(alloc, sizes.domains, src) {
         Ok(script) => run(rt, alloc, &sizes, &script, out, gate),
-        Err(reason) => match reason {
-            NoScript::ReadFault => Status::ReadFault,
-            NoScript::Refused(fault) => Status::Script(fault),
-            NoScript::Memory => Status::Memory,
-        },
+        Err(NoScript::ReadFault) => Status::ReadFault,
+        Err(NoScript::Refused(fault)) => Status::Script(fault),
+        Err(NoScript::Memory) => Status::Memory,
     }
 }

@@ -7,7 +7,7 @@ ghost use Rattle.camlheap_run.specs.Writing.{Writes, run_text};
 
 use domain_turns::DomainRun;
 use heap_model::reply::Reply;
-use heap_text::{print_heading, print_reply};
+use heap_text::{Line, print_heading, print_reply};
 use outer_io::{Failed, Sink};
 
 // Hands a text to the sink, and again what a write leaves of it.
@@ -18,10 +18,8 @@ fn write_all<K: Sink>(out: &mut K, text: &[u8]) -> Result<(), Failed>
 {
     let mut at = 0;
     'writing: while at < text.len() {
-        match out.write(&text[at..]) {
-            Ok(count) => at += count,
-            Err(failed) => return Err(failed),
-        }
+        let count = out.write(&text[at..])?;
+        at += count;
     }
     Ok(())
 }
@@ -32,7 +30,7 @@ fn write_heading<K: Sink>(out: &mut K, domain: u32) -> Result<(), Failed>
     ensures fault { OnErr result (Rose (K.faults out.old) (K.faults out.new)) }
     ensures bytes { Writes (K.written out.old) (K.written out.new) result (line (heading_text domain)) }
 {
-    let mut text = [0u8; 64];
+    let mut text: Line = [0; 64];
     let length = print_heading(domain, &mut text);
     write_all(out, &text[..length])
 }
@@ -43,7 +41,7 @@ fn write_reply<K: Sink>(out: &mut K, reply: &Reply) -> Result<(), Failed>
     ensures fault { OnErr result (Rose (K.faults out.old) (K.faults out.new)) }
     ensures bytes { Writes (K.written out.old) (K.written out.new) result (line (reply_text reply.now)) }
 {
-    let mut text = [0u8; 64];
+    let mut text: Line = [0; 64];
     let length = print_reply(reply, &mut text);
     write_all(out, &text[..length])
 }
@@ -55,9 +53,7 @@ fn write_replies<K: Sink>(out: &mut K, replies: &[Reply]) -> Result<(), Failed>
     ensures bytes { Writes (K.written out.old) (K.written out.new) result (printed replies.now) }
 {
     'replies: for reply in replies {
-        if let Err(failed) = write_reply(out, reply) {
-            return Err(failed);
-        }
+        write_reply(out, reply)?;
     }
     Ok(())
 }
@@ -68,9 +64,7 @@ fn write_section<K: Sink>(out: &mut K, domain: u32, replies: &[Reply]) -> Result
     ensures fault { OnErr result (Rose (K.faults out.old) (K.faults out.new)) }
     ensures bytes { Writes (K.written out.old) (K.written out.new) result (line (heading_text domain) ++ printed replies.now) }
 {
-    if let Err(failed) = write_heading(out, domain) {
-        return Err(failed);
-    }
+    write_heading(out, domain)?;
     write_replies(out, replies)
 }
 
@@ -81,9 +75,7 @@ pub(crate) fn write_runs<K: Sink>(out: &mut K, runs: &[DomainRun]) -> Result<(),
     ensures bytes { Writes (K.written out.old) (K.written out.new) result (flat_map run_text runs.now) }
 {
     'runs: for run in runs {
-        if let Err(failed) = write_section(out, run.domain().number(), run.replies()) {
-            return Err(failed);
-        }
+        write_section(out, run.domain().number(), run.replies())?;
     }
     Ok(())
 }

@@ -1,5 +1,5 @@
 //! Which lists of words are taken.
-ghost use Rattle.std.specs.Prelude.{◌≡◌, ◌↔◌, IsTrue, IsSome, IfOk, Some, drop, map, string_bytes, option_map};
+ghost use Rattle.std.specs.Prelude.{◌≡◌, ◌↔◌, IsTrue, IsSome, IfOk, IfErr, Some, drop, map, string_bytes, option_map};
 ghost use Rattle.command_line.specs.Options.{given_by, nothing_read, with_name, with_text, with_word};
 ghost use Rattle.command_line.specs.RunWords.{is_within_limits, run_sizes, sizes_given};
 ghost use Rattle.command_line.specs.Spelled.{AsksFor};
@@ -11,6 +11,7 @@ use crate::number::number;
 use crate::options::{Given, Read, Setting, named_setting};
 use crate::parse::{given_in, matches_of, want_of_memory};
 use heap_model::state::Sizes;
+use size_classes::{CLASS_COUNT, POOL_WORDS, reserve};
 use std::alloc::{AllocError, Global};
 
 const DOMAINS: u32 = 2;
@@ -18,8 +19,6 @@ const DOMAINS: u32 = 2;
 const MINOR_WORDS: u32 = 32768;
 
 const POOLS: u32 = 512;
-
-const CLASSES: u32 = 6;
 
 // The number that an option was given is this text.
 fn read_text(read: Read, text: &str, setting: Setting) -> Option<Read>
@@ -88,7 +87,7 @@ fn sizes(given: Given) -> Sizes
         domains: given.domains.unwrap_or(DOMAINS),
         pools: given.pools.unwrap_or(POOLS),
         minor_words: given.minor.unwrap_or(MINOR_WORDS),
-        classes: CLASSES,
+        classes: CLASS_COUNT as u32,
     }
 }
 
@@ -102,11 +101,11 @@ fn are_within_limits(sizes: &Sizes) -> bool
         return false;
     }
     let minor_words = sizes.minor_words;
-    if minor_words < 4096 || minor_words > 65536 || minor_words % 4096 != 0 {
+    if minor_words < POOL_WORDS || minor_words > 65536 || minor_words % POOL_WORDS != 0 {
         return false;
     }
-    let reserve = domains * (minor_words / 4096 + sizes.classes);
-    reserve + sizes.classes * domains + 1 <= sizes.pools && sizes.pools <= 2048
+    let least_pools = reserve(domains, minor_words) + CLASS_COUNT as u32 * domains + 1;
+    least_pools <= sizes.pools && sizes.pools <= 2048
 }
 
 // Whether these are the words of a run.
@@ -150,9 +149,10 @@ fn behind_first(words: &[String]) -> &[String]
 }
 
 /// The sizes that the words of a run ask for, as [`words_fit`] has them, and `None` exactly where it
-/// refuses the words. Fails for want of memory alone.
+/// refuses the words. Fails for want of memory alone, and only where it takes the words.
 pub fn read_words(alloc: Global, words: &[String]) -> Result<Option<Sizes>, AllocError>
-    ensures { IfOk result (λ s. s ≡ run_sizes (map string_bytes words.now)) }
+    ensures sizes { IfOk result (λ s. s ≡ run_sizes (map string_bytes words.now)) }
+    ensures refused { IfErr result (λ _. IsSome (run_sizes (map string_bytes words.now))) }
 {
     if !words_fit(words) {
         return Ok(None);

@@ -1,11 +1,15 @@
 //! Any writer of std as a sink.
-ghost use Rattle.std.specs.Prelude.{◌≡◌};
+ghost use Rattle.std.specs.Prelude.{◌≡◌, ◌<◌, ◌≤◌, length, IfOk};
+ghost use Rattle.std.specs.Io.{WritesAtMost};
+ghost use Rattle.std.specs.Io.KnownBytes.{WriteAppends};
+ghost use Rattle.outer_io.specs.Faults.{HasCause, RisesAtErr};
 
 use crate::{Failed, Sink};
 use std::io::Write;
 
 /// A writer with a count of its errors; a write that takes nothing of a piece that isn't empty is one of them.
-/// Over memory it tells its bytes, over standard output nothing.
+/// Over memory it tells its bytes, over standard output nothing. What the writer inside does is trusted: no clause
+/// says when it fails, or which bytes it keeps where it tells none.
 #[derive(Drop)]
 pub struct StdSink<W> {
     inner: W,
@@ -29,7 +33,15 @@ impl<W: Write> Sink for StdSink<W> {
 
     ghost faults = { λ s. s.faults };
 
-    fn write(&mut self, piece: &[u8]) -> Result<usize, Failed> {
+    fn write(&mut self, piece: &[u8]) -> Result<usize, Failed>
+        ensures bound { WritesAtMost result piece.now }
+        ensures some { 0 < length piece.now → IfOk result (λ n. 1 ≤ n) }
+        ensures bytes { WriteAppends (W.contents self.old.inner) (W.contents self.new.inner) result piece.now }
+        ensures cause { HasCause self.old.faults self.new.faults result }
+
+        // Beyond the trait's: the count rises at a failure, and nowhere else.
+        ensures faults { RisesAtErr self.old.faults self.new.faults result }
+    {
         match self.inner.write(piece) {
             Ok(0) if !piece.is_empty() => {
                 self.faults = self.faults.saturating_add(1);

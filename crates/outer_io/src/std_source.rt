@@ -1,10 +1,14 @@
 //! Any reader of std as a source.
 ghost use Rattle.std.specs.Prelude.{◌≡◌};
+ghost use Rattle.std.specs.Io.{ReadsAtMost};
+ghost use Rattle.std.specs.Io.KnownBytes.{ReadConsumes};
+ghost use Rattle.outer_io.specs.Faults.{HasCause, RisesAtErr};
 
 use crate::{Failed, Source};
 use std::io::Read;
 
 /// A reader with a count of its errors. Over memory it tells its bytes, over standard input nothing.
+/// What the reader inside does is trusted: no clause says when it fails, or which bytes it gives where it tells none.
 #[derive(Drop)]
 pub struct StdSource<R> {
     inner: R,
@@ -28,7 +32,14 @@ impl<R: Read> Source for StdSource<R> {
 
     ghost faults = { λ s. s.faults };
 
-    fn read(&mut self, buf: &mut [u8]) -> Result<usize, Failed> {
+    fn read(&mut self, buf: &mut [u8]) -> Result<usize, Failed>
+        ensures bound { ReadsAtMost result buf.new }
+        ensures bytes { ReadConsumes (R.remaining self.old.inner) (R.remaining self.new.inner) result buf.new }
+        ensures cause { HasCause self.old.faults self.new.faults result }
+
+        // Beyond the trait's: the count rises at a failure, and nowhere else.
+        ensures faults { RisesAtErr self.old.faults self.new.faults result }
+    {
         match self.inner.read(buf) {
             Ok(count) => Ok(count),
             Err(_) => {

@@ -1,10 +1,10 @@
 use Rattle.std.proofs.Common.{arith}
 use Rattle.heap_model.specs.declared.reply.Reply.TheVariants.{Done}
 use Rattle.heap_model.specs.Output.{line, reply_text}
-use Rattle.camlheap_run.proofs.WritingLemmas.{front_of_second, text_at}
+use Rattle.camlheap_run.proofs.WritingLemmas.{front_is_written, front_of_second, text_at}
 use Rattle.camlheap_run.proofs.writing.write_replies.Goals as goal
 
-pub returns-in-Err-clause-bytes : goal.returns-in-Err-clause-bytes
-returns-in-Err-clause-bytes g c =
+pub returns-in_err-write_reply-clause-bytes : goal.returns-in_err-write_reply-clause-bytes
+returns-in_err-write_reply-clause-bytes g c =
     let cut = text_at (λ r. line (reply_text r)) c.args.replies.now c.replies.reply-index Done (omega arith) in
-    front_of_second _ _ _ _ _ _ _ cut c.replies.invariant.bytes c.in-Err.ensures.bytes
+    front_is_written _ _ _ _ c.from_residual.ensures.0 (front_of_second _ _ _ _ _ _ _ cut c.replies.invariant.bytes c.in_err-write_reply.ensures.bytes)

@@ -4,8 +4,8 @@ use Rattle.command_line.specs.RunWords.{run_sizes}
 use Rattle.command_line.proofs.ReadLemmas.{IsReadIn, sizes_found, fits_takes}
 use Rattle.command_line.proofs.words.read_words.Goals as goal
 
-pub returns-in-Ok : goal.returns-in-Ok
-returns-in-Ok c =
+pub returns-in-Ok-clause-sizes : goal.returns-in-Ok-clause-sizes
+returns-in-Ok-clause-sizes c =
     let g : IsReadIn c.in-Ok.matches c.given_in.result = record { domains = c.given_in.ensures.domains; minor = c.given_in.ensures.minor; pools = c.given_in.ensures.pools } in
     rw c.sizes.ensures (sizes_found (map string_bytes c.args.words.now) _ c.given_in.result (rw c.behind_first.ensures at c.in-Ok.ensures.matches) g (search rules))
 
