@@ -14,7 +14,7 @@ ghost use Rattle.heap_rule.specs.Loads.{Shows};
 ghost use Rattle.heap_rule.specs.Places.{HeadIs, head_of};
 ghost use Rattle.heap_rule.specs.Rule.{state_of};
 ghost use Rattle.heap_rule.specs.Running.{Runs, Did, ChangesRegisters};
-ghost use Rattle.heap_rule.specs.Token.{IsIn};
+ghost use Rattle.heap_rule.specs.Token.{Holds, IsIn};
 ghost use Rattle.heap_rule.specs.Running.{own_entry};
 ghost use Rattle.field_access.specs.Registers.{LoadsInto};
 ghost use Rattle.field_access.specs.Shapes.{size_of};
@@ -75,6 +75,7 @@ fn load_as(heap: &Heap, dom: &mut Domain, dst: u8, src: u8, index: u16) -> Reply
     ensures did { Did heap.now dom.old dom.new (Load dst src index) result }
     ensures rest { ChangesRegisters dom.old dom.new }
     ensures registers { LoadsInto heap.now.config dst result dom.old.view.own.registers dom.new.view.own.registers }
+    ensures holds { Holds heap.now.config dom.new.view.own.registers }
 {
     let _limits = heap.config();
     let Value::Ref(address) = dom.register(src) else {
@@ -104,6 +105,7 @@ pub fn load(heap: &Heap, dom: &mut Domain, dst: u8, src: u8, index: u16) -> Repl
     ensures did { Did heap.now dom.old dom.new (Load dst src index) result }
     ensures rest { ChangesRegisters dom.old dom.new }
     ensures registers { LoadsInto heap.now.config dst result dom.old.view.own.registers dom.new.view.own.registers }
+    ensures holds { Holds heap.now.config dom.new.view.own.registers }
 {
     load_as(heap, dom, dst, src, index)
 }
@@ -117,6 +119,7 @@ fn store_as(heap: &Heap, dom: &mut Domain, block: u8, index: u16, item: u8) -> R
     ensures did { Did heap.now dom.old dom.new (Store block index item) result }
     ensures rest { ChangesRegisters dom.old dom.new }
     ensures registers { dom.new.view.own.registers ≡ dom.old.view.own.registers }
+    ensures holds { Holds heap.now.config dom.new.view.own.registers }
 {
     let _limits = heap.config();
     let Value::Ref(address) = dom.register(block) else {
@@ -149,6 +152,7 @@ pub fn store(heap: &Heap, dom: &mut Domain, block: u8, index: u16, item: u8) -> 
     ensures did { Did heap.now dom.old dom.new (Store block index item) result }
     ensures rest { ChangesRegisters dom.old dom.new }
     ensures registers { dom.new.view.own.registers ≡ dom.old.view.own.registers }
+    ensures holds { Holds heap.now.config dom.new.view.own.registers }
 {
     store_as(heap, dom, block, index, item)
 }

@@ -8,6 +8,7 @@ ghost use Rattle.heap_rule.specs.Changes.{value_at};
 ghost use Rattle.heap_rule.specs.Items.{item_of};
 ghost use Rattle.heap_rule.specs.Running.{Runs, Did, ChangesRegisters};
 ghost use Rattle.heap_rule.specs.Running.{own_entry};
+ghost use Rattle.heap_rule.specs.Token.{Holds};
 
 use heap_model::reply::Reply;
 use heap_rule::{Change, Domain, Heap, Item, Part, tick};
@@ -37,6 +38,7 @@ fn put_int_as(heap: &Heap, dom: &mut Domain, dst: u8, value: i64) -> Reply
     ensures did { Did heap.now dom.old dom.new (PutInt dst value) result }
     ensures rest { ChangesRegisters dom.old dom.new }
     ensures registers { dom.new.view.own.registers ≡ slice_set dom.old.view.own.registers dst (Int value) }
+    ensures holds { Holds heap.now.config dom.new.view.own.registers }
 {
     tick(heap, dom, 0, &[holds(dst, Value::Int(value))]);
     Reply::Done
@@ -51,6 +53,7 @@ pub fn put_int(heap: &Heap, dom: &mut Domain, dst: u8, value: i64) -> Reply
     ensures did { Did heap.now dom.old dom.new (PutInt dst value) result }
     ensures rest { ChangesRegisters dom.old dom.new }
     ensures registers { dom.new.view.own.registers ≡ slice_set dom.old.view.own.registers dst (Int value) }
+    ensures holds { Holds heap.now.config dom.new.view.own.registers }
 {
     put_int_as(heap, dom, dst, value)
 }
@@ -64,6 +67,7 @@ fn copy_as(heap: &Heap, dom: &mut Domain, dst: u8, src: u8) -> Reply
     ensures did { Did heap.now dom.old dom.new (Copy dst src) result }
     ensures rest { ChangesRegisters dom.old dom.new }
     ensures registers { dom.new.view.own.registers ≡ slice_set dom.old.view.own.registers dst (value_at dom.old.view.own.registers src) }
+    ensures holds { Holds heap.now.config dom.new.view.own.registers }
 {
     let value = dom.register(src);
     tick(heap, dom, 0, &[holds(dst, value)]);
@@ -79,6 +83,7 @@ pub fn copy(heap: &Heap, dom: &mut Domain, dst: u8, src: u8) -> Reply
     ensures did { Did heap.now dom.old dom.new (Copy dst src) result }
     ensures rest { ChangesRegisters dom.old dom.new }
     ensures registers { dom.new.view.own.registers ≡ slice_set dom.old.view.own.registers dst (value_at dom.old.view.own.registers src) }
+    ensures holds { Holds heap.now.config dom.new.view.own.registers }
 {
     copy_as(heap, dom, dst, src)
 }
@@ -91,6 +96,7 @@ fn forget_as(heap: &Heap, dom: &mut Domain, dst: u8) -> Reply
     ensures did { Did heap.now dom.old dom.new (Forget dst) result }
     ensures rest { ChangesRegisters dom.old dom.new }
     ensures registers { dom.new.view.own.registers ≡ slice_set dom.old.view.own.registers dst Nothing }
+    ensures holds { Holds heap.now.config dom.new.view.own.registers }
 {
     tick(heap, dom, 0, &[holds(dst, Value::Nothing)]);
     Reply::Done
@@ -104,6 +110,7 @@ pub fn forget(heap: &Heap, dom: &mut Domain, dst: u8) -> Reply
     ensures did { Did heap.now dom.old dom.new (Forget dst) result }
     ensures rest { ChangesRegisters dom.old dom.new }
     ensures registers { dom.new.view.own.registers ≡ slice_set dom.old.view.own.registers dst Nothing }
+    ensures holds { Holds heap.now.config dom.new.view.own.registers }
 {
     forget_as(heap, dom, dst)
 }

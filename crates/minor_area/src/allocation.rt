@@ -6,6 +6,7 @@ ghost use Rattle.heap_model.specs.declared.reply.Reply.TheVariants.{Block};
 ghost use Rattle.heap_words.specs.declared.value.Value.TheVariants.{Ref};
 ghost use Rattle.heap_rule.specs.Inits.{class_words, next_address};
 ghost use Rattle.heap_rule.specs.Running.{Runs, Did, own_entry};
+ghost use Rattle.heap_rule.specs.Token.{Holds};
 ghost use Rattle.minor_area.specs.Area.{Grows};
 
 use crate::Need;
@@ -29,6 +30,7 @@ fn write_block(heap: &Heap, dom: &mut Domain, dst: u8, tag: u8, fields: u16) -> 
     ensures did { Did heap.now dom.old dom.new (Alloc dst tag fields) (Block result) }
     ensures grows { Grows dom.old dom.new (class_words (fields + 2)) }
     ensures registers { dom.new.view.own.registers ≡ slice_set dom.old.view.own.registers dst (Ref (next_address heap.now.config dom.old.view)) }
+    ensures holds { Holds heap.now.config dom.new.view.own.registers }
 {
     let _limits = heap.config();
     let label = Label {
@@ -86,6 +88,7 @@ pub fn alloc_young(
     ensures did { IfOk result (λ l. Did heap.now dom.old dom.new (Alloc dst tag fields) (Block l)) }
     ensures grows { OnOk result (Grows dom.old dom.new (class_words (fields + 2))) }
     ensures registers { OnOk result (dom.new.view.own.registers ≡ slice_set dom.old.view.own.registers dst (Ref (next_address heap.now.config dom.old.view))) }
+    ensures holds { OnOk result (Holds heap.now.config dom.new.view.own.registers) }
     ensures fits { OnOk result (dom.old.view.own.used + class_words (fields + 2) ≤ heap.now.config.minor_words) }
     ensures need { IfErr result (λ n. n ≡ Need.AreaFull dom.old.view.own.used) }
     ensures full { OnErr result (heap.now.config.minor_words < dom.old.view.own.used + class_words (fields + 2)) }
