@@ -61,6 +61,7 @@ pub record HasEnded (h : SharedHeap) (old new : Token) : Type 0 where
   pub heap : (new.table ≡ old.table) × (new.config ≡ old.config)
   pub idle : new.view.seen.made ≡ []
   pub number : new.view.own.number ≡ old.view.own.number
+  pub used : new.view.own.used ≡ old.view.own.used
   pub serial : new.view.own.serial ≡ old.view.own.serial
 
 -- a turn tried the command, and its reply was kept

@@ -1,5 +1,5 @@
 -- What the try of a command leaves.
-use Rattle.std.specs.Prelude.{◌≡◌, ◌+◌, ◌<◌, ◌≤◌, Bool, true, false, nat_lt}
+use Rattle.std.specs.Prelude.{◌≡◌, ℕ, ◌+◌, ◌<◌, ◌≤◌, Bool, true, false, nat_lt, if◌then◌else◌}
 use Rattle.heap_model.specs.declared.command.Command.{Command}
 use Rattle.heap_model.specs.declared.command.Command.TheVariants.{PutInt, Copy, Forget, Alloc, Load, Store, Poll}
 use Rattle.heap_model.specs.declared.entry.Entry.{Entry}
@@ -34,6 +34,11 @@ abbrev pub is_refused : Token → Command → Bool
 is_refused t (Alloc dst tag fields) = nat_lt t.config.minor_words (t.view.own.used + class_words (fields + 2))
 is_refused t _ = false
 
+-- how many words of the domain's minor area a command takes: those of the block of an allocation that isn't refused
+abbrev pub words_taken : Token → Command → ℕ
+words_taken t (Alloc dst tag fields) = if is_refused t (Alloc dst tag fields) then 0 else class_words (fields + 2)
+words_taken t _ = 0
+
 -- the entry of the command was made with the reply `full`
 pub record RefusesFull (h : SharedHeap) (old new : Token) (c : Command) (r : Reply) : Type 0 where
   pub runs : Runs h new
@@ -46,4 +51,5 @@ pub record Tried (h : SharedHeap) (old new : Token) (c : Command) (r : Reply) : 
   pub answers : Answers (sizes_in old.config) old.view.own.number old.view.seen.front new.view.seen.front (CommandOf old.view.own.number c (is_refused old c)) (Replied r)
   pub heap : (new.table ≡ old.table) × (new.config ≡ old.config)
   pub number : new.view.own.number ≡ old.view.own.number
+  pub used : new.view.own.used ≡ old.view.own.used + words_taken old c
   pub serial : new.view.own.serial ≤ old.view.own.serial + 1

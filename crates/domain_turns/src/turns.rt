@@ -68,8 +68,9 @@ fn end_trace(heap: &Heap, run: &mut DomainRun)
     run.ended = true;
 }
 
-/// Takes a domain one command further, or ends its trace where no command is left. An allocation is
-/// answered `full` exactly where the minor area has no room for its block.
+/// Takes a domain one command further, or ends its trace where no command is left. A run that has
+/// ended is left as it is. An allocation is answered `full` exactly where the minor area has no room
+/// for its block.
 pub fn turn(heap: &Heap, run: &mut DomainRun) -> Turned
     requires { IsIn run.old.token heap.now }
     ensures here { IsIn run.new.token heap.now }

@@ -1,9 +1,10 @@
 -- What a field load leaves: the register holds the field, and the call has the definition's reply.
-use Rattle.std.proofs.Common.{◌≡◌, ◌∙◌, ℕ, ◌<◌, false, [], ◌∷◌, length, set, length-set, sym, ap, subst, arith, get_or-set_same}
+use Rattle.std.proofs.Common.{◌≡◌, ◌∙◌, ℕ, ℤ, ◌<◌, false, List, [], ◌∷◌, length, set, refl, length-set, sym, ap, subst, arith, get_or-set_same}
 use Rattle.heap_model.specs.declared.command.Command.TheVariants.{Load}
 use Rattle.heap_model.specs.declared.entry.Entry.{Entry}
 use Rattle.heap_model.specs.declared.entry.Entry.TheVariants.{Command}
 use Rattle.heap_model.specs.declared.graph.Value as model
+use Rattle.heap_model.specs.declared.graph.Value.TheVariants.{Int as IntValue, Block, Nothing as NothingValue}
 use Rattle.heap_model.specs.declared.reply.Reply.{Reply}
 use Rattle.heap_model.specs.declared.reply.Applied.TheVariants.{Replied}
 use Rattle.heap_model.specs.Commands.{shown}
@@ -12,7 +13,7 @@ use Rattle.heap_model.specs.Fronts.{Answers}
 use Rattle.heap_rule.specs.Standing.{Acts}
 use Rattle.heap_rule.proofs.Acting.{looked_acts}
 use Rattle.heap_words.specs.declared.value.Value.{Value}
-use Rattle.heap_words.specs.declared.value.Value.TheVariants.{Nothing}
+use Rattle.heap_words.specs.declared.value.Value.TheVariants.{Int, Ref, Nothing}
 use Rattle.heap_rule.specs.declared.change.Change.TheVariants.{Read}
 use Rattle.heap_rule.specs.declared.config.Config.{Config}
 use Rattle.heap_rule.specs.declared.view.DomainView.{DomainView}
@@ -20,12 +21,20 @@ use Rattle.heap_rule.specs.Changes.{value_at}
 use Rattle.heap_rule.specs.Limits.{sizes_in}
 use Rattle.heap_rule.specs.Rule.{state_of}
 use Rattle.heap_rule.specs.Loads.{FieldRead, Measured, Shows}
-use Rattle.heap_rule.specs.Token.{Token, SharedHeap, IsIn}
+use Rattle.heap_rule.specs.Token.{Token, SharedHeap, IsIn, IsAddress}
 use Rattle.heap_rule.specs.Running.{Runs, Did}
 use Rattle.heap_rule.specs.Running.{own_entry}
 use Rattle.heap_rule.proofs.Calls.{answered_did}
 use Rattle.heap_model.proofs.FrontLemmas.{answers_after}
+use Rattle.field_access.specs.Registers.{LoadsInto}
 use Rattle.field_access.proofs.Loading.{loaded}
+
+-- the register holds what the reply shows
+shown_into : (k : Config) (dst : ℕ) (before after : List Value) (v : Value) (held : model.Value) → Shows v held → ((a : ℕ) → v ≡ Ref a → IsAddress k a) → after ≡ set before dst v → LoadsInto k dst (shown held) before after
+shown_into k dst before after (Int z) (IntValue n) shows there written = written ∙ ap (λ (i : ℤ). set before dst (Int i)) shows
+shown_into k dst before after (Ref a) (Block l) shows there written = (a, there a refl, written)
+shown_into k dst before after Nothing NothingValue shows there written = written
+shown_into k dst before after v held shows there written = absurd shows
 
 module _ (h : SharedHeap) (old : Token) (y z : DomainView) (e : Entry) (dst src i size a found : ℕ) (limits : IsWithinLimits (sizes_in h.config)) (is : e ≡ own_entry old (Load dst src i)) (runs : Runs h old) (goes : dst < 16)
     (m : Measured h.config a src size old.view y) (below : i < size) (read : FieldRead h.config e (Read dst ∷ []) y found z) where
@@ -72,3 +81,11 @@ module _ (h : SharedHeap) (old : Token) (y z : DomainView) (e : Entry) (dst src 
       (ap (λ (x : DomainView). x.seen.made) same ∙ ap (λ (x : DomainView). x.seen.made) read.entered.view ∙ ap (λ (x : DomainView). x.seen.made) m.looked.view ∙ runs.idle)
       (subst (λ (x : DomainView). Answers (sizes_in h.config) old.view.own.number old.view.seen.front x.seen.front (own_entry old (Load dst src i)) (Replied r)) (sym same)
       (subst (λ (q : Reply). Answers (sizes_in h.config) old.view.own.number old.view.seen.front z.seen.front (own_entry old (Load dst src i)) (Replied q)) (sym replies) whole))
+
+  pub loads_into : (w : Token) (r : Reply) → w.view ≡ z → r ≡ shown (register (state_of h.config z.seen.front) z.own.number dst) → LoadsInto h.config dst r old.view.own.registers w.view.own.registers
+  loads_into w r same reply =
+      let replies : r ≡ shown read.held = reply ∙ ap (λ (n : ℕ). shown (register (state_of h.config z.seen.front) n dst)) after_number ∙ ap shown held_after in
+      let written : w.view.own.registers ≡ set old.view.own.registers dst read.value =
+      ap (λ (x : DomainView). x.own.registers) same ∙ ap (λ (x : DomainView). x.own.registers) read.entered.view ∙ ap (λ (x : DomainView). set x.own.registers dst read.value) m.looked.view in
+      subst (λ (q : Reply). LoadsInto h.config dst q old.view.own.registers w.view.own.registers) (sym replies)
+      (shown_into h.config dst old.view.own.registers w.view.own.registers read.value read.held read.shows (λ a is_at. read.entered.holds.inside dst a goes (value_after ∙ is_at)) written)

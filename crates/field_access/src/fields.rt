@@ -14,8 +14,9 @@ ghost use Rattle.heap_rule.specs.Loads.{Shows};
 ghost use Rattle.heap_rule.specs.Places.{HeadIs, head_of};
 ghost use Rattle.heap_rule.specs.Rule.{state_of};
 ghost use Rattle.heap_rule.specs.Running.{Runs, Did, ChangesRegisters};
-ghost use Rattle.heap_rule.specs.Token.{IsIn};
+ghost use Rattle.heap_rule.specs.Token.{Holds, IsIn};
 ghost use Rattle.heap_rule.specs.Running.{own_entry};
+ghost use Rattle.field_access.specs.Registers.{LoadsInto};
 ghost use Rattle.field_access.specs.Shapes.{size_of};
 
 use heap_model::label::Label;
@@ -73,6 +74,8 @@ fn load_as(heap: &Heap, dom: &mut Domain, dst: u8, src: u8, index: u16) -> Reply
     requires src { src < 16 }
     ensures did { Did heap.now dom.old dom.new (Load dst src index) result }
     ensures rest { ChangesRegisters dom.old dom.new }
+    ensures registers { LoadsInto heap.now.config dst result dom.old.view.own.registers dom.new.view.own.registers }
+    ensures holds { Holds heap.now.config dom.new.view.own.registers }
 {
     let _limits = heap.config();
     let Value::Ref(address) = dom.register(src) else {
@@ -91,14 +94,18 @@ fn load_as(heap: &Heap, dom: &mut Domain, dst: u8, src: u8, index: u16) -> Reply
 }
 
 /// Loads a field of the plain block in a register into another. The reply is `type` where register
-/// `src` holds no plain block, and else `bounds` where the block has no such field. Registers are
-/// below 16.
+/// `src` holds no plain block, and else `bounds` where the block has no such field: then the
+/// registers stay as they are. Else register `dst` holds what the field does, and the reply shows
+/// it: an integer, the label of a block, or nothing. Registers are below 16, and the domain's trace
+/// hasn't ended.
 pub fn load(heap: &Heap, dom: &mut Domain, dst: u8, src: u8, index: u16) -> Reply
     requires runs { Runs heap.now dom.old }
     requires dst { dst < 16 }
     requires src { src < 16 }
     ensures did { Did heap.now dom.old dom.new (Load dst src index) result }
     ensures rest { ChangesRegisters dom.old dom.new }
+    ensures registers { LoadsInto heap.now.config dst result dom.old.view.own.registers dom.new.view.own.registers }
+    ensures holds { Holds heap.now.config dom.new.view.own.registers }
 {
     load_as(heap, dom, dst, src, index)
 }
@@ -111,6 +118,8 @@ fn store_as(heap: &Heap, dom: &mut Domain, block: u8, index: u16, item: u8) -> R
     requires item { item < 16 }
     ensures did { Did heap.now dom.old dom.new (Store block index item) result }
     ensures rest { ChangesRegisters dom.old dom.new }
+    ensures registers { dom.new.view.own.registers ≡ dom.old.view.own.registers }
+    ensures holds { Holds heap.now.config dom.new.view.own.registers }
 {
     let _limits = heap.config();
     let Value::Ref(address) = dom.register(block) else {
@@ -135,13 +144,15 @@ fn store_as(heap: &Heap, dom: &mut Domain, block: u8, index: u16, item: u8) -> R
 
 /// Stores what a register holds into a field of the plain block in another. The reply is `type`
 /// where register `block` holds no plain block or register `item` holds nothing, and else `bounds`
-/// where the block has no such field. Registers are below 16.
+/// where the block has no such field. Registers are below 16, and the domain's trace hasn't ended.
 pub fn store(heap: &Heap, dom: &mut Domain, block: u8, index: u16, item: u8) -> Reply
     requires runs { Runs heap.now dom.old }
     requires block { block < 16 }
     requires item { item < 16 }
     ensures did { Did heap.now dom.old dom.new (Store block index item) result }
     ensures rest { ChangesRegisters dom.old dom.new }
+    ensures registers { dom.new.view.own.registers ≡ dom.old.view.own.registers }
+    ensures holds { Holds heap.now.config dom.new.view.own.registers }
 {
     store_as(heap, dom, block, index, item)
 }

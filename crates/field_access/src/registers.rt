@@ -1,12 +1,14 @@
 //! Commands on registers alone.
-ghost use Rattle.std.specs.Prelude.{◌≡◌, ◌<◌};
+ghost use Rattle.std.specs.Prelude.{◌≡◌, ◌<◌, slice_set};
 ghost use Rattle.heap_model.specs.declared.entry.Entry.{Entry};
 ghost use Rattle.heap_model.specs.declared.command.Command.TheVariants.{PutInt, Copy, Forget};
-ghost use Rattle.heap_words.specs.declared.value.Value.TheVariants.{Int};
+ghost use Rattle.heap_words.specs.declared.value.Value.TheVariants.{Int, Nothing};
 ghost use Rattle.heap_words.specs.Values.{IsPackable};
+ghost use Rattle.heap_rule.specs.Changes.{value_at};
 ghost use Rattle.heap_rule.specs.Items.{item_of};
 ghost use Rattle.heap_rule.specs.Running.{Runs, Did, ChangesRegisters};
 ghost use Rattle.heap_rule.specs.Running.{own_entry};
+ghost use Rattle.heap_rule.specs.Token.{Holds};
 
 use heap_model::reply::Reply;
 use heap_rule::{Change, Domain, Heap, Item, Part, tick};
@@ -35,18 +37,23 @@ fn put_int_as(heap: &Heap, dom: &mut Domain, dst: u8, value: i64) -> Reply
     requires value { IsPackable (Int value) }
     ensures did { Did heap.now dom.old dom.new (PutInt dst value) result }
     ensures rest { ChangesRegisters dom.old dom.new }
+    ensures registers { dom.new.view.own.registers ≡ slice_set dom.old.view.own.registers dst (Int value) }
+    ensures holds { Holds heap.now.config dom.new.view.own.registers }
 {
     tick(heap, dom, 0, &[holds(dst, Value::Int(value))]);
     Reply::Done
 }
 
-/// Puts an integer of 63 bits into a register. Registers are below 16.
+/// Puts an integer of 63 bits into a register. The reply is always `Done`. Registers are below 16,
+/// and the domain's trace hasn't ended.
 pub fn put_int(heap: &Heap, dom: &mut Domain, dst: u8, value: i64) -> Reply
     requires runs { Runs heap.now dom.old }
     requires dst { dst < 16 }
     requires value { IsPackable (Int value) }
     ensures did { Did heap.now dom.old dom.new (PutInt dst value) result }
     ensures rest { ChangesRegisters dom.old dom.new }
+    ensures registers { dom.new.view.own.registers ≡ slice_set dom.old.view.own.registers dst (Int value) }
+    ensures holds { Holds heap.now.config dom.new.view.own.registers }
 {
     put_int_as(heap, dom, dst, value)
 }
@@ -59,19 +66,24 @@ fn copy_as(heap: &Heap, dom: &mut Domain, dst: u8, src: u8) -> Reply
     requires src { src < 16 }
     ensures did { Did heap.now dom.old dom.new (Copy dst src) result }
     ensures rest { ChangesRegisters dom.old dom.new }
+    ensures registers { dom.new.view.own.registers ≡ slice_set dom.old.view.own.registers dst (value_at dom.old.view.own.registers src) }
+    ensures holds { Holds heap.now.config dom.new.view.own.registers }
 {
     let value = dom.register(src);
     tick(heap, dom, 0, &[holds(dst, value)]);
     Reply::Done
 }
 
-/// Copies what a register holds, also nothing, into another.
+/// Copies what a register holds, also nothing, into another. The reply is always `Done`. Registers
+/// are below 16, and the domain's trace hasn't ended.
 pub fn copy(heap: &Heap, dom: &mut Domain, dst: u8, src: u8) -> Reply
     requires runs { Runs heap.now dom.old }
     requires dst { dst < 16 }
     requires src { src < 16 }
     ensures did { Did heap.now dom.old dom.new (Copy dst src) result }
     ensures rest { ChangesRegisters dom.old dom.new }
+    ensures registers { dom.new.view.own.registers ≡ slice_set dom.old.view.own.registers dst (value_at dom.old.view.own.registers src) }
+    ensures holds { Holds heap.now.config dom.new.view.own.registers }
 {
     copy_as(heap, dom, dst, src)
 }
@@ -83,17 +95,22 @@ fn forget_as(heap: &Heap, dom: &mut Domain, dst: u8) -> Reply
     requires dst { dst < 16 }
     ensures did { Did heap.now dom.old dom.new (Forget dst) result }
     ensures rest { ChangesRegisters dom.old dom.new }
+    ensures registers { dom.new.view.own.registers ≡ slice_set dom.old.view.own.registers dst Nothing }
+    ensures holds { Holds heap.now.config dom.new.view.own.registers }
 {
     tick(heap, dom, 0, &[holds(dst, Value::Nothing)]);
     Reply::Done
 }
 
-/// Empties a register.
+/// Empties a register. The reply is always `Done`. Registers are below 16, and the domain's trace
+/// hasn't ended.
 pub fn forget(heap: &Heap, dom: &mut Domain, dst: u8) -> Reply
     requires runs { Runs heap.now dom.old }
     requires dst { dst < 16 }
     ensures did { Did heap.now dom.old dom.new (Forget dst) result }
     ensures rest { ChangesRegisters dom.old dom.new }
+    ensures registers { dom.new.view.own.registers ≡ slice_set dom.old.view.own.registers dst Nothing }
+    ensures holds { Holds heap.now.config dom.new.view.own.registers }
 {
     forget_as(heap, dom, dst)
 }

@@ -1,10 +1,12 @@
 //! The allocation of a young block.
-ghost use Rattle.std.specs.Prelude.{◌≡◌, ◌+◌, ◌^◌, ◌<◌, ◌≤◌, Err, IfOk, IfErr, OnOk, OnErr};
+ghost use Rattle.std.specs.Prelude.{◌≡◌, ◌+◌, ◌^◌, ◌<◌, ◌≤◌, slice_set, Err, IfOk, IfErr, OnOk, OnErr};
 ghost use Rattle.heap_model.specs.declared.command.Command.TheVariants.{Alloc};
 ghost use Rattle.heap_model.specs.declared.entry.Entry.{Entry};
 ghost use Rattle.heap_model.specs.declared.reply.Reply.TheVariants.{Block};
-ghost use Rattle.heap_rule.specs.Inits.{class_words};
+ghost use Rattle.heap_words.specs.declared.value.Value.TheVariants.{Ref};
+ghost use Rattle.heap_rule.specs.Inits.{class_words, next_address};
 ghost use Rattle.heap_rule.specs.Running.{Runs, Did, own_entry};
+ghost use Rattle.heap_rule.specs.Token.{Holds};
 ghost use Rattle.minor_area.specs.Area.{Grows};
 
 use crate::Need;
@@ -27,6 +29,8 @@ fn write_block(heap: &Heap, dom: &mut Domain, dst: u8, tag: u8, fields: u16) -> 
     requires room { dom.old.view.own.used + class_words (fields + 2) ≤ heap.now.config.minor_words }
     ensures did { Did heap.now dom.old dom.new (Alloc dst tag fields) (Block result) }
     ensures grows { Grows dom.old dom.new (class_words (fields + 2)) }
+    ensures registers { dom.new.view.own.registers ≡ slice_set dom.old.view.own.registers dst (Ref (next_address heap.now.config dom.old.view)) }
+    ensures holds { Holds heap.now.config dom.new.view.own.registers }
 {
     let _limits = heap.config();
     let label = Label {
@@ -83,6 +87,8 @@ pub fn alloc_young(
     requires serial { dom.old.view.own.serial + 1 < 2 ^ 32 }
     ensures did { IfOk result (λ l. Did heap.now dom.old dom.new (Alloc dst tag fields) (Block l)) }
     ensures grows { OnOk result (Grows dom.old dom.new (class_words (fields + 2))) }
+    ensures registers { OnOk result (dom.new.view.own.registers ≡ slice_set dom.old.view.own.registers dst (Ref (next_address heap.now.config dom.old.view))) }
+    ensures holds { OnOk result (Holds heap.now.config dom.new.view.own.registers) }
     ensures fits { OnOk result (dom.old.view.own.used + class_words (fields + 2) ≤ heap.now.config.minor_words) }
     ensures need { IfErr result (λ n. n ≡ Need.AreaFull dom.old.view.own.used) }
     ensures full { OnErr result (heap.now.config.minor_words < dom.old.view.own.used + class_words (fields + 2)) }

@@ -5,7 +5,7 @@ use Rattle.field_access.proofs.Doing.{entered_did}
 use Rattle.heap_rule.specs.declared.view.DomainView.{DomainView}
 use Rattle.heap_rule.specs.Loads.{Measured, subject}
 use Rattle.field_access.proofs.FieldSteps.{field_known, load_may}
-use Rattle.field_access.proofs.FieldLoads.{load_did, register_loaded}
+use Rattle.field_access.proofs.FieldLoads.{load_did, loads_into, register_loaded}
 use Rattle.field_access.proofs.Looking.{ephemeron_found, past_found, measured}
 use Rattle.field_access.proofs.fields.load_as.Goals as goal
 
@@ -59,3 +59,14 @@ returns-clause-did g c =
     let looked = subst (λ (r : ℕ). Measured c.args.heap.now.config c.in-Ref.address r c.in-Some.size c.args.dom.now.view c.head_load.new.dom.view) of_src (measured _ _ g.entry _ _ _ _ _ told size c.in-Some.is below) in
     load_did c.args.heap.now c.args.dom.now c.head_load.new.dom.view c.field_load.new.dom.view g.entry c.args.dst c.args.src c.args.index c.in-Some.size c.in-Ref.address _ c.config-limits.ensures.limits c.requires.0 c.requires.1.0 c.requires.1.1.0 looked (omega arith) c.field_load.ensures.told
     c.shown_register.new.dom c.shown_register.result c.shown_register.ensures.here c.shown_register.ensures.same c.shown_register.ensures.reply
+
+pub returns-clause-registers : goal.returns-clause-registers
+returns-clause-registers g c =
+    let told = c.head_load.ensures.told in
+    let size = c.plain_size.ensures told.shape told.packable told.head in
+    let place : c.args.index ≡ place_of g.entry = ap place_of (sym c.requires.0) in
+    let below : place_of g.entry < c.in-Some.size = subst (λ (n : ℕ). n < c.in-Some.size) place (omega arith) in
+    let of_src : subject g.entry ≡ c.args.src = ap subject c.requires.0 in
+    let looked = subst (λ (r : ℕ). Measured c.args.heap.now.config c.in-Ref.address r c.in-Some.size c.args.dom.now.view c.head_load.new.dom.view) of_src (measured _ _ g.entry _ _ _ _ _ told size c.in-Some.is below) in
+    loads_into c.args.heap.now c.args.dom.now c.head_load.new.dom.view c.field_load.new.dom.view g.entry c.args.dst c.args.src c.args.index c.in-Some.size c.in-Ref.address _ c.config-limits.ensures.limits c.requires.0 c.requires.1.0 c.requires.1.1.0 looked (omega arith) c.field_load.ensures.told
+    c.shown_register.new.dom c.shown_register.result c.shown_register.ensures.same c.shown_register.ensures.reply

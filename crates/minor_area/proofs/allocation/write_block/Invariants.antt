@@ -1,4 +1,4 @@
-use Rattle.std.proofs.Common.{◌≡◌, ◌+◌, ◌∷◌, replicate}
+use Rattle.std.proofs.Common.{◌≡◌, ◌∷◌, replicate}
 use Rattle.heap_rule.specs.Token.{IsIn}
 use Rattle.heap_words.specs.Labels.{label_word}
 use Rattle.minor_area.proofs.allocation.write_block.Given as goal

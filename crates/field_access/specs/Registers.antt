@@ -1,0 +1,15 @@
+-- What a load leaves in the registers.
+use Rattle.std.specs.Prelude.{◌≡◌, ℕ, List, slice_set}
+use Rattle.heap_model.specs.declared.reply.Reply.{Reply}
+use Rattle.heap_model.specs.declared.reply.Reply.TheVariants.{Int as IntReply, Block, Empty}
+use Rattle.heap_words.specs.declared.value.Value.{Value}
+use Rattle.heap_words.specs.declared.value.Value.TheVariants.{Int, Ref, Nothing}
+use Rattle.heap_rule.specs.declared.config.Config.{Config}
+use Rattle.heap_rule.specs.Token.{IsAddress}
+
+-- the register that a load goes into holds what its reply shows, at a block some address of the heap. Other registers, and all of them at any other reply, are as before
+abbrev pub LoadsInto : Config → ℕ → Reply → List Value → List Value → Type 0
+LoadsInto k dst (IntReply z) old new = new ≡ slice_set old dst (Int z)
+LoadsInto k dst (Block label) old new = (address : ℕ) × IsAddress k address × (new ≡ slice_set old dst (Ref address))
+LoadsInto k dst Empty old new = new ≡ slice_set old dst Nothing
+LoadsInto k dst _ old new = new ≡ old
