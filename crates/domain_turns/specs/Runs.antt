@@ -1,5 +1,5 @@
 -- A domain's trace on the shared heap, and what a turn does to it.
-use Rattle.std.specs.Prelude.{◌≡◌, ◌==◌, ℕ, ◌+◌, ◌≤◌, Bool, true, false, List, [], ◌∷◌, ◌++◌, length, take, slice_get, Some, IsTrue}
+use Rattle.std.specs.Prelude.{◌≡◌, ◌==◌, ℕ, ◌+◌, ◌≤◌, Bool, true, false, List, [], ◌∷◌, ◌++◌, length, take, replicate, slice_get, Some, IsTrue}
 use Rattle.std.specs.List.{list_any}
 use Rattle.heap_model.specs.declared.command.Command as model
 use Rattle.heap_model.specs.declared.entry.Entry.{Entry}
@@ -8,6 +8,7 @@ use Rattle.heap_model.specs.declared.reply.Reply.{Reply}
 use Rattle.heap_model.specs.declared.reply.Applied.TheVariants.{Silent}
 use Rattle.heap_model.specs.History.{commands, replies}
 use Rattle.heap_model.specs.Fronts.{Answers}
+use Rattle.heap_words.specs.declared.value.Value.TheVariants.{Nothing}
 use Rattle.heap_rule.specs.Limits.{sizes_in}
 use Rattle.heap_rule.specs.Standing.{Acts}
 use Rattle.heap_rule.specs.Token.{Token, SharedHeap, IsIn}
@@ -54,7 +55,7 @@ pub record IsRun (r : RunView) : Type 0 where
   pub done : r.ended ≡ true → r.next ≡ length r.commands
   pub over : r.ended ≡ true → IsTrue (list_any (is_end_of r.token.view.own.number) r.token.view.seen.front)
 
--- the entry of the domain's end was made
+-- the entry of the domain's end was made, and its registers hold nothing
 pub record HasEnded (h : SharedHeap) (old new : Token) : Type 0 where
   pub here : IsIn new h
   pub answers : Answers (sizes_in old.config) old.view.own.number old.view.seen.front new.view.seen.front (End old.view.own.number) Silent
@@ -62,6 +63,7 @@ pub record HasEnded (h : SharedHeap) (old new : Token) : Type 0 where
   pub idle : new.view.seen.made ≡ []
   pub number : new.view.own.number ≡ old.view.own.number
   pub used : new.view.own.used ≡ old.view.own.used
+  pub registers : new.view.own.registers ≡ replicate 16 Nothing
   pub serial : new.view.own.serial ≡ old.view.own.serial
 
 -- a turn tried the command, and its reply was kept
