@@ -20,8 +20,9 @@ not_ended (suc n) (suc d) h = not_ended n d (omega arith)
 
 can_begin : (h : SharedHeap) (k : Config) (d : ℕ) (cs : List Command) → d < k.domains → IsFine cs → CanBegin (opening_token h.table k d) cs
 can_begin h k d cs inside fine = record {
-  acts = not_ended k.domains d inside;
+  acts = record { goes_on = not_ended k.domains d inside; runs = refl };
   idle = refl;
+  at_rest = refl;
   no_commands = refl;
   no_replies = refl;
   few = fine.few;

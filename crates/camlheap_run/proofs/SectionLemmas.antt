@@ -39,6 +39,11 @@ writable_fits (Alloc dst tag fields) w =
     let q = both (fits Tag (pos tag)) (fits FieldCount (pos fields) && true) p.1 in
     let b = in_range 0 245 tag q.0 in
     let f = in_range 1 126 fields (both (fits FieldCount (pos fields)) true q.1).0 in (register_fits dst p.0, b.1, f.0, f.1)
+writable_fits (AllocMaj dst tag fields) w =
+    let p = both (fits Register (pos dst)) (fits Tag (pos tag) && (fits FieldCount (pos fields) && true)) w in
+    let q = both (fits Tag (pos tag)) (fits FieldCount (pos fields) && true) p.1 in
+    let b = in_range 0 245 tag q.0 in
+    let f = in_range 1 126 fields (both (fits FieldCount (pos fields)) true q.1).0 in (register_fits dst p.0, b.1, f.0, f.1)
 writable_fits (Load dst src index) w =
     let p = both (fits Register (pos dst)) (fits Register (pos src) && (fits Index (pos index) && true)) w in
     (register_fits dst p.0, register_fits src (both (fits Register (pos src)) (fits Index (pos index) && true) p.1).0)
@@ -47,7 +52,6 @@ writable_fits (Store block index item) w =
     let q = both (fits Index (pos index)) (fits Register (pos item) && true) p.1 in
     (register_fits block p.0, register_fits item (both (fits Register (pos item)) true q.1).0)
 writable_fits Poll w = tt
-writable_fits (AllocMaj dst tag fields) w = cc
 writable_fits (Ephe dst keys) w = cc
 writable_fits (SetKey ephe index item) w = cc
 writable_fits (UnsetKey ephe index) w = cc
@@ -59,7 +63,7 @@ writable_fits (GetData dst ephe) w = cc
 writable_fits (CheckData ephe) w = cc
 writable_fits (Finalise item number dst) w = cc
 writable_fits (FinaliseLast item number) w = cc
-writable_fits Minor w = cc
+writable_fits Minor w = tt
 writable_fits Major w = cc
 writable_fits FullMajor w = cc
 

@@ -1,5 +1,5 @@
 -- The runs of a script's sections on one heap, from its start to its end.
-use Rattle.std.specs.Prelude.{◌≡◌, ◌<◌, ◌≤◌, true, false, List, [], map, length, slice_index_or, vec_capacity}
+use Rattle.std.specs.Prelude.{◌≡◌, ◌<◌, ◌≤◌, true, false, List, [], map, length, slice_index_or, vec_capacity, None}
 use Rattle.std.specs.List.{AllByRecursion}
 use Rattle.heap_model.specs.declared.command.Command.{Command}
 use Rattle.heap_model.specs.declared.state.Sizes.{Sizes}
@@ -24,7 +24,7 @@ section_of script t = slice_index_or script t.view.own.number []
 
 -- the run of a domain's section, before its first command
 abbrev pub opened : List (List Command) → Token → RunView
-opened script t = record { token = t; commands = section_of script t; next = 0; replies = []; ended = false }
+opened script t = record { token = t; commands = section_of script t; next = 0; replies = []; ended = false; left = None; asked = None }
 
 -- the domain has a section, and may begin it
 pub record HasSection (script : List (List Command)) (t : Token) : Type 0 where

@@ -1,2 +1,6 @@
 pub mod Trying
+pub mod Moving
+pub mod LeavingLemmas
+pub mod GoingLemmas
+pub mod ExactLemmas
 pub mod Turning

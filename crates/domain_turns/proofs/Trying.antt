@@ -14,7 +14,7 @@ use Rattle.heap_rule.specs.Limits.{sizes_in}
 use Rattle.heap_rule.specs.Standing.{Entered}
 use Rattle.heap_rule.specs.Running.{Runs}
 use Rattle.heap_rule.specs.Token.{Token, SharedHeap, IsIn}
-use Rattle.heap_rule.proofs.Calls.{answered_runs}
+use Rattle.heap_rule.proofs.Calls.{front_stays, answered_runs}
 use Rattle.domain_turns.specs.Tries.{RefusesFull, full_entry}
 
 -- the entry of `full` stood at a tick
@@ -26,7 +26,9 @@ refuses h old new c e r a read changes is answer runs here entered =
     (subst (λ (x : Entry). Answers (sizes_in h.config) old.view.own.number old.view.seen.front new.view.seen.front x (Replied r)) is
     (subst (λ (b : Applied). Answers (sizes_in h.config) old.view.own.number old.view.seen.front new.view.seen.front e b) answer entered.answers)) in
     record {
-      runs = answered_runs h old new c true (Replied r) runs here (ap (λ (x : DomainView). x.own.number) entered.view) (ap (λ (x : DomainView). x.seen.made) entered.view ∙ runs.idle) answers;
+      runs = answered_runs h old new c true (Replied r) runs here (ap (λ (x : DomainView). x.own.number) entered.view) (ap (λ (x : DomainView). x.seen.hunt) entered.view ∙ runs.at_rest) (ap (λ (x : DomainView). x.seen.made) entered.view ∙ runs.idle) (front_stays old.view new.view _ _ entered.view) answers;
       answers = answers;
       heap = (here.0 ∙ sym runs.here.0, here.1 ∙ sym runs.here.1);
+      stays = front_stays old.view new.view _ _ entered.view;
+      free = ap (λ (x : DomainView). x.seen.free) entered.view;
     }

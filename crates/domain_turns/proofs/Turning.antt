@@ -1,5 +1,5 @@
 -- A turn keeps what is true of a run.
-use Rattle.std.proofs.Common.{◌≡◌, ◌∙◌, ℕ, zero, suc, ◌+◌, ◌<◌, ◌≤◌, Bool, true, false, List, [], ◌∷◌, ◌++◌, length, take, slice_get, Some, refl, sym, ap, subst, arith, length-append, append-nil, eq-eqb, add-one}
+use Rattle.std.proofs.Common.{◌≡◌, ◌∙◌, ℕ, zero, suc, ◌+◌, ◌<◌, ◌≤◌, Bool, true, false, List, [], ◌∷◌, ◌++◌, length, take, slice_get, Some, None, Option, refl, sym, ap, subst, arith, length-append, append-nil, eq-eqb, add-one, ⊎_elim}
 use Rattle.heap_model.specs.declared.command.Command as model
 use Rattle.heap_model.specs.declared.entry.Entry.{Entry}
 use Rattle.heap_model.specs.declared.entry.Entry.TheVariants.{Command as CommandOf, End}
@@ -10,8 +10,10 @@ use Rattle.heap_model.proofs.AnswerLemmas.{commands_after, replies_after}
 use Rattle.heap_rule.specs.declared.config.Config.{Config}
 use Rattle.heap_rule.specs.Limits.{sizes_in}
 use Rattle.heap_rule.specs.Token.{Token, SharedHeap}
-use Rattle.domain_turns.specs.Tries.{Tried, is_refused}
-use Rattle.domain_turns.specs.Runs.{RunView, IsRun, HasEnded, is_end_of}
+use Rattle.heap_model.specs.declared.command.Command.TheVariants.{PutInt, AllocMaj}
+use Rattle.domain_turns.specs.Tries.{Enters, Stands, Tried, is_refused}
+use Rattle.heap_rule.specs.declared.phase.Kind.{Kind}
+use Rattle.domain_turns.specs.Runs.{StandsAt, RunView, IsRun, HasEnded, is_end_of}
 use Rattle.std.specs.List.{list_any}
 use Rattle.std.specs.Prelude.{cond, IsTrue, ◌||◌}
 
@@ -28,17 +30,25 @@ inside (x ∷ xs) (suc n) c at = let rest = inside xs n c at in omega arith
 own : (d : ℕ) (c : model.Command) (full : Bool) → command_of d (CommandOf d c full) ≡ c ∷ []
 own d c full = ap (λ (b : Bool). cond b (c ∷ []) []) (eq-eqb d d refl)
 
-pub tried_is_run : (h : SharedHeap) (r : RunView) (new : Token) (c : model.Command) (reply : Reply) → IsRun r → r.ended ≡ false → slice_get r.commands r.next ≡ Some c → Tried h r.token new c reply
-    → IsRun (record r { token = new; next = r.next + 1; replies = r.replies ++ reply ∷ [] })
-tried_is_run h r new c reply is running at t =
+-- the entry that stands
+pub stood : (h : SharedHeap) (old new : Token) (c : model.Command) (r : Reply) → Stands h old new c r → (full : Bool) × Enters old new c full r
+stood h old new (AllocMaj dst tag fields) r s = ⊎_elim (λ a. (false, a)) (λ b. (true, b.0)) s
+stood h old new (PutInt dst z) r s = (false, s)
+stood h old new c r s = (is_refused old c, s)
+
+pub tried_is_run : (h : SharedHeap) (r : RunView) (new : Token) (c : model.Command) (reply : Reply) → IsRun r → r.ended ≡ false → r.left ≡ None → slice_get r.commands r.next ≡ Some c → Tried h r.token new c reply
+    → IsRun (record r { token = new; next = r.next + 1; replies = r.replies ++ reply ∷ []; asked = None })
+tried_is_run h r new c reply is running left at t =
     let d : ℕ = r.token.view.own.number in
     let z = sizes_in r.token.config in
-    let e : Entry = CommandOf d c (is_refused r.token c) in
+    let st = stood h r.token new c reply t.stands in
+    let full : Bool = st.0 in
+    let e : Entry = CommandOf d c full in
     let made : commands new.view.seen.front d ≡ take r.next r.commands ++ c ∷ [] =
-    commands_after z d r.token.view.seen.front new.view.seen.front e (Replied reply) t.answers
-    ∙ ap (λ (cs : List model.Command). cs ++ command_of d e) is.made ∙ ap (λ (cs : List model.Command). take r.next r.commands ++ cs) (own d c (is_refused r.token c)) in
+    commands_after z d r.token.view.seen.front new.view.seen.front e (Replied reply) st.1
+    ∙ ap (λ (cs : List model.Command). cs ++ command_of d e) is.made ∙ ap (λ (cs : List model.Command). take r.next r.commands ++ cs) (own d c full) in
     let answered : replies z new.view.seen.front d ≡ r.replies ++ reply ∷ [] =
-    replies_after z d r.token.view.seen.front new.view.seen.front e (Replied reply) (eq-eqb d d refl) t.answers ∙ ap (λ (rs : List Reply). rs ++ reply ∷ []) is.answered in
+    replies_after z d r.token.view.seen.front new.view.seen.front e (Replied reply) (eq-eqb d d refl) st.1 ∙ ap (λ (rs : List Reply). rs ++ reply ∷ []) is.answered in
     record {
       made = ap (commands new.view.seen.front) t.number ∙ made ∙ sym (take_next r.commands r.next c at) ∙ ap (λ (n : ℕ). take n r.commands) (sym (add-one r.next));
       answered = ap (λ (n : ℕ). replies (sizes_in new.config) new.view.seen.front n) t.number ∙ ap (λ (k : Config). replies (sizes_in k) new.view.seen.front d) t.heap.1 ∙ answered;
@@ -47,7 +57,9 @@ tried_is_run h r new c reply is running at t =
       few = is.few;
       fit = is.fit;
       idle = t.runs.idle;
-      acts = λ running. t.runs.acts;
+      at_rest = t.runs.at_rest;
+      goes_on = λ running. t.runs.acts.goes_on;
+      stands = subst (λ (l : Option Kind). StandsAt l new.view.seen.stage) (sym left) t.runs.acts.runs;
       labels = omega (arith, is.labels, t.serial);
       done = λ ended. cc;
       over = λ ended. cc;
@@ -77,7 +89,9 @@ ended_is_run h r new is whole t =
       few = is.few;
       fit = is.fit;
       idle = t.idle;
-      acts = λ running. cc;
+      at_rest = t.at_rest;
+      goes_on = λ running. cc;
+      stands = subst (StandsAt r.left) (sym t.stays.stage) is.stands;
       labels = omega (arith, is.labels, t.serial);
       done = λ ended. omega (arith, is.within, whole);
       over = λ ended. subst (λ (n : ℕ). IsTrue (list_any (is_end_of n) new.view.seen.front)) (sym t.number)

@@ -1,2 +1,3 @@
-pub mod Runs
 pub mod Tries
+pub mod Runs
+pub mod Past

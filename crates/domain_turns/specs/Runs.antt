@@ -1,26 +1,45 @@
 -- A domain's trace on the shared heap, and what a turn does to it.
-use Rattle.std.specs.Prelude.{◌≡◌, ◌==◌, ℕ, ◌+◌, ◌≤◌, Bool, true, false, List, [], ◌∷◌, ◌++◌, length, take, replicate, slice_get, Some, IsTrue}
+use Rattle.std.specs.Prelude.{◌≡◌, ◌≢◌, ◌==◌, ℕ, ◌+◌, ◌*◌, ◌<◌, ◌≤◌, ◌⊎◌, nat_lt, ◌&&◌, not, Option, None, Bool, true, false, List, [], ◌∷◌, ◌++◌, length, take, replicate, slice_get, Some, IsTrue}
 use Rattle.std.specs.List.{list_any}
 use Rattle.heap_model.specs.declared.command.Command as model
 use Rattle.heap_model.specs.declared.entry.Entry.{Entry}
 use Rattle.heap_model.specs.declared.entry.Entry.TheVariants.{End}
 use Rattle.heap_model.specs.declared.reply.Reply.{Reply}
 use Rattle.heap_model.specs.declared.reply.Applied.TheVariants.{Silent}
-use Rattle.heap_model.specs.History.{commands, replies}
-use Rattle.heap_model.specs.Fronts.{Answers}
+use Rattle.heap_model.specs.History.{IsPrefix, commands, replies}
+use Rattle.heap_model.specs.Fronts.{IsFrontOf, Answers}
 use Rattle.heap_words.specs.declared.value.Value.TheVariants.{Nothing}
+use Rattle.heap_model.specs.Domains.{domain_at}
+use Rattle.heap_model.specs.declared.command.Command.TheVariants.{Minor}
+use Rattle.heap_rule.specs.declared.view.DomainView.{DomainView}
+use Rattle.heap_rule.specs.declared.phase.Kind.{Kind}
+use Rattle.heap_rule.specs.declared.phase.Kind.TheVariants.{Run}
+use Rattle.heap_rule.specs.declared.phase.Stage.{Stage}
+use Rattle.heap_rule.specs.declared.phase.Stage.TheVariants.{In, Gone}
+use Rattle.heap_rule.specs.declared.phase.Note.{Note}
+use Rattle.heap_rule.specs.declared.phase.Note.TheVariants.{Want, Asked, Barrier, Ended}
+use Rattle.heap_rule.specs.Pauses.{noted, arrived_view}
+use Rattle.heap_rule.specs.Rule.{state_of}
+use Rattle.heap_rule.specs.Running.{Stays}
+use Rattle.safepoint.specs.Looks.{Passed}
+use Rattle.domain_turns.specs.declared.turned.Turned.{Turned}
+use Rattle.domain_turns.specs.declared.turned.Turned.TheVariants.{Did, Waiting, Idle}
+use Rattle.domain_turns.specs.declared.turned.Turned.TheVariants.{Ended as Over}
+use Rattle.heap_rule.specs.declared.view.Hunt.TheVariants.{Rests as AtRest}
 use Rattle.heap_rule.specs.Limits.{sizes_in}
 use Rattle.heap_rule.specs.Standing.{Acts}
 use Rattle.heap_rule.specs.Token.{Token, SharedHeap, IsIn}
 use Rattle.domain_turns.specs.Tries.{FitsHeap, Tried}
 
--- a run: the domain's token, its commands, the place of the next one, its replies, and whether its trace has ended
+-- a run: the domain's token, its commands, the place of the next one, its replies, whether its trace has ended, where the domain has arrived from which kind of phase, and how often it had arrived when it asked for a pause for the next command
 pub record RunView : Type 0 where
   pub token : Token
   pub commands : List model.Command
   pub next : ℕ
   pub replies : List Reply
   pub ended : Bool
+  pub left : Option Kind
+  pub asked : Option ℕ
 
 -- whether an entry is the end of domain d
 abbrev pub is_end_of : ℕ → Entry → Bool
@@ -35,11 +54,17 @@ AllFit cs = (i : ℕ) (c : model.Command) → slice_get cs i ≡ Some c → Fits
 pub record CanBegin (t : Token) (cs : List model.Command) : Type 0 where
   pub acts : Acts t.config t.view
   pub idle : t.view.seen.made ≡ []
+  pub at_rest : t.view.seen.hunt ≡ AtRest
   pub no_commands : commands t.view.seen.front t.view.own.number ≡ []
   pub no_replies : replies (sizes_in t.config) t.view.seen.front t.view.own.number ≡ []
   pub few : length cs ≤ 200000
   pub fit : AllFit cs
   pub labels : t.view.own.serial ≤ 4000000000
+
+-- the domain runs, or it has arrived
+abbrev pub StandsAt : Option Kind → Stage → Type 0
+StandsAt None stage = stage ≡ In Run
+StandsAt (Some kind) stage = stage ≡ Gone kind
 
 -- what is true of a run between any two turns: the domain's commands in its front are those before the next, each once and in order, and the replies are theirs
 pub record IsRun (r : RunView) : Type 0 where
@@ -50,7 +75,9 @@ pub record IsRun (r : RunView) : Type 0 where
   pub few : length r.commands ≤ 200000
   pub fit : AllFit r.commands
   pub idle : r.token.view.seen.made ≡ []
-  pub acts : r.ended ≡ false → Acts r.token.config r.token.view
+  pub at_rest : r.token.view.seen.hunt ≡ AtRest
+  pub goes_on : r.ended ≡ false → (domain_at (state_of r.token.config r.token.view.seen.front) r.token.view.own.number).ended ≡ false
+  pub stands : StandsAt r.left r.token.view.seen.stage
   pub labels : r.token.view.own.serial ≤ 4000000000 + r.next
   pub done : r.ended ≡ true → r.next ≡ length r.commands
   pub over : r.ended ≡ true → IsTrue (list_any (is_end_of r.token.view.own.number) r.token.view.seen.front)
@@ -61,18 +88,128 @@ pub record HasEnded (h : SharedHeap) (old new : Token) : Type 0 where
   pub answers : Answers (sizes_in old.config) old.view.own.number old.view.seen.front new.view.seen.front (End old.view.own.number) Silent
   pub heap : (new.table ≡ old.table) × (new.config ≡ old.config)
   pub idle : new.view.seen.made ≡ []
+  pub at_rest : new.view.seen.hunt ≡ AtRest
   pub number : new.view.own.number ≡ old.view.own.number
   pub used : new.view.own.used ≡ old.view.own.used
   pub registers : new.view.own.registers ≡ replicate 16 Nothing
   pub serial : new.view.own.serial ≡ old.view.own.serial
+  pub stays : Stays old.view new.view
+
+-- a pause began and ended since the domain asked: it has arrived since
+abbrev pub served_since : Option ℕ → ℕ → Bool
+served_since None arrivals = false
+served_since (Some at) arrivals = nat_lt at arrivals
+
+-- whether a command waits for a pause of its own
+abbrev pub wants_pause : model.Command → Bool
+wants_pause Minor = true
+wants_pause _ = false
+
+-- and none has served it
+abbrev pub needs_pause : RunView → model.Command → Bool
+needs_pause r c = wants_pause c && not (served_since r.asked r.token.view.own.arrivals)
 
 -- a turn tried the command, and its reply was kept
-pub record TriesCommand (h : SharedHeap) (old new : RunView) (c : model.Command) : Type 0 where
+pub record TriesCommand (h : SharedHeap) (start : Token) (old new : RunView) (c : model.Command) : Type 0 where
+  pub next : slice_get old.commands old.next ≡ Some c
+  pub served : needs_pause old c ≡ false
   pub reply : Reply
-  pub tried : Tried h old.token new.token c reply
-  pub run : new ≡ record old { token = new.token; next = old.next + 1; replies = old.replies ++ reply ∷ [] }
+  pub tried : Tried h start new.token c reply
+  pub run : new ≡ record old { token = new.token; next = old.next + 1; replies = old.replies ++ reply ∷ []; asked = None }
 
 -- a turn ended the trace
-pub record EndsTrace (h : SharedHeap) (old new : RunView) : Type 0 where
-  pub ended : HasEnded h old.token new.token
+pub record EndsTrace (h : SharedHeap) (start : Token) (old new : RunView) : Type 0 where
+  pub past : length old.commands ≤ old.next
+  pub ended : HasEnded h start new.token
   pub run : new ≡ record old { token = new.token; ended = true }
+
+-- a turn asked for a minor collection: the next command waits for one, and no pause has served it
+pub record Asks (h : SharedHeap) (start : Token) (old new : RunView) : Type 0 where
+  pub command : model.Command
+  pub next : slice_get old.commands old.next ≡ Some command
+  pub needs : needs_pause old command ≡ true
+  pub run : new ≡ record old { token = record start { view = noted start.view (Asked 1) }; asked = Some old.token.view.own.arrivals }
+
+-- the token whose domain has noted one thing more
+abbrev pub noted_token : Token → Note → Token
+noted_token t note = record t { view = noted t.view note }
+
+-- what a running domain does in a turn that found no wish
+pub data CalmDid (h : SharedHeap) (old new : RunView) : Type 0 where
+  Wishes : Asks h old.token old new → CalmDid h old new
+  Tries : (c : model.Command) → TriesCommand h old.token old new c → CalmDid h old new
+  Ends : EndsTrace h old.token old new → CalmDid h old new
+
+-- a trace that had ended, and n traces that a load found to have ended
+pub record Rests (old new : RunView) (n : ℕ) : Type 0 where
+  pub over : old.ended ≡ true
+  pub run : new ≡ record old { token = noted_token old.token (Ended n) }
+
+abbrev pub RestAnswers : SharedHeap → RunView → RunView → Turned → Type 0
+RestAnswers h old new (Idle n) = Rests old new n × (n < h.config.domains)
+RestAnswers h old new Over = Rests old new h.config.domains
+RestAnswers h old new _ = ⊥
+
+-- what such a turn answers
+abbrev pub CalmAnswers : SharedHeap → RunView → RunView → Turned → Type 0
+CalmAnswers h old new Did = CalmDid h old new
+CalmAnswers h old new a = RestAnswers h old new a
+
+-- the run whose domain has found this want word
+abbrev pub wanting : RunView → ℕ → RunView
+wanting r w = record r { token = noted_token r.token (Want w) }
+
+-- a running domain found a wish, and arrived
+pub record Stops (old new : RunView) : Type 0 where
+  pub found : ℕ
+  pub wanted : found ≢ 0
+  pub run : new ≡ record old { token = record old.token { view = arrived_view (noted old.token.view (Want found)) }; left = Some Run }
+
+-- what the turn of a running domain answers: it found a wish and arrived, or it found none
+abbrev pub RunAnswers : SharedHeap → RunView → RunView → Turned → Type 0
+RunAnswers h old new Did = Stops old new ⊎ CalmAnswers h (wanting old 0) new Did
+RunAnswers h old new a = CalmAnswers h (wanting old 0) new a
+
+-- the domain had arrived, and a look found that all have and that it runs
+pub record Resumes (h : SharedHeap) (old start : RunView) : Type 0 where
+  pub arrived : (last : Kind) × (old.left ≡ Some last)
+  pub passed : Passed h.config old.token.view start.token.view
+  pub runs : start.token.view.seen.stage ≡ In Run
+  pub run : start ≡ record old { token = record old.token { view = start.token.view }; left = None }
+
+-- where the running part of a turn starts
+abbrev pub Starts : SharedHeap → RunView → RunView → Type 0
+Starts h old start = ((old.left ≡ None) × (start ≡ old)) ⊎ Resumes h old start
+
+-- the domain had arrived, and a look found that all have: it did its share of the phase that had begun, and arrived
+pub record Passes (x y : DomainView) (kind : Kind) : Type 0 where
+  pub own : y.own ≡ record x.own { arrivals = x.own.arrivals + 1 }
+  pub made : y.seen.made ≡ x.seen.made
+  pub hunt : y.seen.hunt ≡ x.seen.hunt
+  pub stage : y.seen.stage ≡ Gone kind
+  pub front : IsFrontOf x.own.number y.seen.front x.seen.front
+
+pub record GoesBy (h : SharedHeap) (old new : RunView) : Type 0 where
+  pub arrived : (last : Kind) × (old.left ≡ Some last)
+  pub kind : Kind
+  pub passes : Passes old.token.view new.token.view kind
+  pub run : new ≡ record old { token = record old.token { view = new.token.view }; left = Some kind }
+
+-- not all have arrived: the barrier word b, found in this turn, is below the end of the domain's turn
+pub record Waits (h : SharedHeap) (old new : RunView) (b : ℕ) : Type 0 where
+  pub arrived : (last : Kind) × (old.left ≡ Some last)
+  pub below : b < old.token.view.own.arrivals * h.config.domains
+  pub run : new ≡ record old { token = noted_token old.token (Barrier b) }
+
+-- what a turn answers
+abbrev pub TurnAnswers : SharedHeap → RunView → RunView → Turned → Type 0
+TurnAnswers h old new (Waiting b) = Waits h old new b
+TurnAnswers h old new Did = GoesBy h old new ⊎ ((start : RunView) × Starts h old start × RunAnswers h start new Did)
+TurnAnswers h old new (Idle n) = (start : RunView) × Starts h old start × RunAnswers h start new (Idle n)
+TurnAnswers h old new Over = (start : RunView) × Starts h old start × RunAnswers h start new Over
+
+-- the same domain's run of the same commands: what the domain saw of the history is a front part of what it sees now
+pub record GoesOn (old new : RunView) : Type 0 where
+  pub commands : new.commands ≡ old.commands
+  pub number : new.token.view.own.number ≡ old.token.view.own.number
+  pub front : IsPrefix old.token.view.seen.front new.token.view.seen.front

@@ -1,7 +1,7 @@
 -- What the try of a command leaves.
-use Rattle.std.specs.Prelude.{◌≡◌, ℕ, ◌+◌, ◌<◌, ◌≤◌, Bool, true, false, nat_lt, if◌then◌else◌}
+use Rattle.std.specs.Prelude.{◌≡◌, ℕ, ◌+◌, ◌<◌, ◌≤◌, ◌⊎◌, Bool, true, false, nat_lt, if◌then◌else◌}
 use Rattle.heap_model.specs.declared.command.Command.{Command}
-use Rattle.heap_model.specs.declared.command.Command.TheVariants.{PutInt, Copy, Forget, Alloc, Load, Store, Poll}
+use Rattle.heap_model.specs.declared.command.Command.TheVariants.{PutInt, Copy, Forget, Alloc, AllocMaj, Load, Store, Poll, Minor}
 use Rattle.heap_model.specs.declared.entry.Entry.{Entry}
 use Rattle.heap_model.specs.declared.entry.Entry.TheVariants.{Command as CommandOf}
 use Rattle.heap_model.specs.declared.reply.Reply.{Reply}
@@ -9,10 +9,16 @@ use Rattle.heap_model.specs.declared.reply.Applied.TheVariants.{Replied}
 use Rattle.heap_model.specs.Fronts.{Answers}
 use Rattle.heap_words.specs.declared.value.Value.TheVariants.{Int}
 use Rattle.heap_words.specs.Values.{IsPackable}
+use Rattle.size_classes.specs.Table.{IsLeastFor}
+use Rattle.size_classes.specs.declared.TheConstants.{SIZES}
+use Rattle.heap_rule.specs.declared.config.Config.{Config}
+use Rattle.heap_rule.specs.declared.view.DomainView.{DomainView}
 use Rattle.heap_rule.specs.Inits.{class_words}
 use Rattle.heap_rule.specs.Limits.{sizes_in}
-use Rattle.heap_rule.specs.Running.{Runs}
+use Rattle.heap_rule.specs.Running.{Runs, Stays}
+use Rattle.heap_rule.specs.Takes.{NoneFree}
 use Rattle.heap_rule.specs.Token.{Token, SharedHeap}
+use Rattle.size_pools.specs.Taken.{Reserved}
 
 -- the commands that run on the shared heap so far, with their numbers in their ranges
 abbrev pub FitsHeap : Command → Type 0
@@ -20,16 +26,18 @@ FitsHeap (PutInt dst value) = (dst < 16) × IsPackable (Int value)
 FitsHeap (Copy dst src) = (dst < 16) × (src < 16)
 FitsHeap (Forget dst) = dst < 16
 FitsHeap (Alloc dst tag fields) = (dst < 16) × (tag ≤ 245) × (1 ≤ fields) × (fields ≤ 126)
+FitsHeap (AllocMaj dst tag fields) = (dst < 16) × (tag ≤ 245) × (1 ≤ fields) × (fields ≤ 126)
 FitsHeap (Load dst src index) = (dst < 16) × (src < 16)
 FitsHeap (Store block index item) = (block < 16) × (item < 16)
 FitsHeap Poll = Unit {0}
+FitsHeap Minor = Unit {0}
 FitsHeap _ = ⊥
 
 -- the entry of a command that is answered `full`
 abbrev pub full_entry : Token → Command → Entry
 full_entry t c = CommandOf t.view.own.number c true
 
--- an allocation for whose block the domain's minor area has no room
+-- a young allocation for whose block the domain's minor area has no room
 abbrev pub is_refused : Token → Command → Bool
 is_refused t (Alloc dst tag fields) = nat_lt t.config.minor_words (t.view.own.used + class_words (fields + 2))
 is_refused t _ = false
@@ -39,17 +47,35 @@ abbrev pub words_taken : Token → Command → ℕ
 words_taken t (Alloc dst tag fields) = if is_refused t (Alloc dst tag fields) then 0 else class_words (fields + 2)
 words_taken t _ = 0
 
+-- the entry of a command stands, answered `full` or not
+abbrev pub Enters : Token → Token → Command → Bool → Reply → Type 0
+Enters old new c full r = Answers (sizes_in old.config) old.view.own.number old.view.seen.front new.view.seen.front (CommandOf old.view.own.number c full) (Replied r)
+
+-- no own pool has a free block for so many fields, and the pools that were found free are no more than the reserve of promotion
+pub record HasNoPool (k : Config) (fields : ℕ) (y : DomainView) : Type 0 where
+  pub free : ℕ
+  pub reserved : Reserved k free y
+  pub none_free : (class : ℕ) → IsLeastFor SIZES (fields + 2) class → NoneFree k y class
+
+-- the entry that stands: `full` for a young block exactly where the minor area has no room, and for one of the major heap exactly where no pool is to be had
+abbrev pub Stands : SharedHeap → Token → Token → Command → Reply → Type 0
+Stands h old new (AllocMaj dst tag fields) r = Enters old new (AllocMaj dst tag fields) false r ⊎ (Enters old new (AllocMaj dst tag fields) true r × HasNoPool h.config fields new.view)
+Stands h old new c r = Enters old new c (is_refused old c) r
+
 -- the entry of the command was made with the reply `full`
 pub record RefusesFull (h : SharedHeap) (old new : Token) (c : Command) (r : Reply) : Type 0 where
   pub runs : Runs h new
   pub answers : Answers (sizes_in old.config) old.view.own.number old.view.seen.front new.view.seen.front (full_entry old c) (Replied r)
   pub heap : (new.table ≡ old.table) × (new.config ≡ old.config)
+  pub stays : Stays old.view new.view
+  pub free : new.view.seen.free ≡ old.view.seen.free
 
--- the entry of the command was made, and answered `full` exactly where the minor area has no room
+-- the entry of the command was made
 pub record Tried (h : SharedHeap) (old new : Token) (c : Command) (r : Reply) : Type 0 where
   pub runs : Runs h new
-  pub answers : Answers (sizes_in old.config) old.view.own.number old.view.seen.front new.view.seen.front (CommandOf old.view.own.number c (is_refused old c)) (Replied r)
+  pub stands : Stands h old new c r
   pub heap : (new.table ≡ old.table) × (new.config ≡ old.config)
+  pub stays : Stays old.view new.view
   pub number : new.view.own.number ≡ old.view.own.number
   pub used : new.view.own.used ≡ old.view.own.used + words_taken old c
   pub serial : new.view.own.serial ≤ old.view.own.serial + 1

@@ -1,16 +1,18 @@
 //! One command on the shared heap.
-ghost use Rattle.std.specs.Prelude.{◌≡◌, ◌+◌, ◌^◌, ◌<◌};
+ghost use Rattle.std.specs.Prelude.{◌≡◌, ◌+◌, ◌^◌, ◌<◌, ◌≤◌, true};
 ghost use Rattle.heap_model.specs.declared.command.Command as model;
-ghost use Rattle.heap_model.specs.declared.command.Command.TheVariants.{Poll, Alloc};
+ghost use Rattle.heap_model.specs.declared.command.Command.TheVariants.{Poll, Minor, AllocMaj};
+ghost use Rattle.heap_model.specs.Commands.{is_allocation};
 ghost use Rattle.heap_model.specs.declared.entry.Entry.{Entry};
 ghost use Rattle.heap_rule.specs.Running.{Runs, Did, ChangesRegisters, own_entry};
-ghost use Rattle.domain_turns.specs.Tries.{FitsHeap, Tried, RefusesFull, full_entry, is_refused};
+ghost use Rattle.domain_turns.specs.Tries.{FitsHeap, Tried, RefusesFull, full_entry};
 
 use field_access::{copy, forget, load, put_int, store};
 use heap_model::command::Command;
 use heap_model::reply::Reply;
 use heap_rule::{Domain, Heap, tick};
 use minor_area::alloc_young;
+use size_pools::alloc_major;
 
 fn poll_as(heap: &Heap, dom: &mut Domain) -> Reply
     ghost entry: { Entry }
@@ -32,11 +34,32 @@ fn poll(heap: &Heap, dom: &mut Domain) -> Reply
     poll_as(heap, dom)
 }
 
-fn full_as(heap: &Heap, dom: &mut Domain, _dst: u8, _tag: u8, _fields: u16) -> Reply
+fn minor_as(heap: &Heap, dom: &mut Domain) -> Reply
     ghost entry: { Entry }
-    requires entry { entry ≡ full_entry dom.old (Alloc _dst _tag _fields) }
+    requires entry { entry ≡ own_entry dom.old Minor }
     requires runs { Runs heap.now dom.old }
-    ensures refuses { RefusesFull heap.now dom.old dom.new (Alloc _dst _tag _fields) result }
+    ensures did { Did heap.now dom.old dom.new Minor result }
+    ensures rest { ChangesRegisters dom.old dom.new }
+{
+    tick(heap, dom, 0, &[]);
+    Reply::Done
+}
+
+// Makes the entry of `minor`.
+fn minor(heap: &Heap, dom: &mut Domain) -> Reply
+    requires { Runs heap.now dom.old }
+    ensures did { Did heap.now dom.old dom.new Minor result }
+    ensures rest { ChangesRegisters dom.old dom.new }
+{
+    minor_as(heap, dom)
+}
+
+fn full_as(heap: &Heap, dom: &mut Domain, _command: &Command) -> Reply
+    ghost entry: { Entry }
+    requires entry { entry ≡ full_entry dom.old _command.now }
+    requires runs { Runs heap.now dom.old }
+    requires allocates { is_allocation _command.now ≡ true }
+    ensures refuses { RefusesFull heap.now dom.old dom.new _command.now result }
     ensures rest { ChangesRegisters dom.old dom.new }
 {
     tick(heap, dom, 0, &[]);
@@ -44,16 +67,32 @@ fn full_as(heap: &Heap, dom: &mut Domain, _dst: u8, _tag: u8, _fields: u16) -> R
 }
 
 // Makes the entry of an allocation that is answered `full`.
-fn full(heap: &Heap, dom: &mut Domain, dst: u8, tag: u8, fields: u16) -> Reply
-    requires { Runs heap.now dom.old }
-    ensures refuses { RefusesFull heap.now dom.old dom.new (Alloc dst tag fields) result }
+fn full(heap: &Heap, dom: &mut Domain, command: &Command) -> Reply
+    requires runs { Runs heap.now dom.old }
+    requires allocates { is_allocation command.now ≡ true }
+    ensures refuses { RefusesFull heap.now dom.old dom.new command.now result }
     ensures rest { ChangesRegisters dom.old dom.new }
 {
-    full_as(heap, dom, dst, tag, fields)
+    full_as(heap, dom, command)
 }
 
-// Makes the entry of a command. An allocation is answered `full` exactly where the minor area has no
-// room for its block.
+// Allocates in the major heap, or makes the entry of `full` where no pool is to be had.
+fn alloc_in_pools(heap: &Heap, dom: &mut Domain, dst: u8, tag: u8, fields: u16) -> Reply
+    requires runs { Runs heap.now dom.old }
+    requires dst { dst < 16 }
+    requires tag { tag ≤ 245 }
+    requires fields { (1 ≤ fields) × (fields ≤ 126) }
+    requires serial { dom.old.view.own.serial + 1 < 2 ^ 32 }
+    ensures { Tried heap.now dom.old dom.new (AllocMaj dst tag fields) result }
+{
+    match alloc_major(heap, dom, dst, tag, fields) {
+        Ok(label) => Reply::Block(label),
+        Err(_none) => full(heap, dom, &Command::AllocMaj { dst, tag, fields }),
+    }
+}
+
+// Makes the entry of a command. A young allocation is answered `full` exactly where the minor area has
+// no room for its block, and one in the major heap exactly where no pool is to be had.
 pub(crate) fn try_command(heap: &Heap, dom: &mut Domain, command: &Command) -> Reply
     requires runs { Runs heap.now dom.old }
     requires fits { FitsHeap command.now }
@@ -68,9 +107,11 @@ pub(crate) fn try_command(heap: &Heap, dom: &mut Domain, command: &Command) -> R
         Command::Store { block, index, item } => store(heap, dom, block, index, item),
         Command::Alloc { dst, tag, fields } => match alloc_young(heap, dom, dst, tag, fields) {
             Ok(label) => Reply::Block(label),
-            Err(_) => full(heap, dom, dst, tag, fields),
+            Err(_) => full(heap, dom, command),
         },
+        Command::AllocMaj { dst, tag, fields } => alloc_in_pools(heap, dom, dst, tag, fields),
         Command::Poll => poll(heap, dom),
+        Command::Minor => minor(heap, dom),
         _ => unreachable!(),
     }
 }

@@ -1,12 +1,12 @@
 //! One domain's trace, and how far it has come.
-ghost use Rattle.std.specs.Prelude.{◌≡◌, ◌↔◌, ◌<◌, true, false, [], length, take, IfOk};
+ghost use Rattle.std.specs.Prelude.{◌≡◌, ◌↔◌, ◌<◌, true, false, [], length, take, IfOk, None};
 ghost use Rattle.heap_model.specs.History.{commands as commands_of, replies as replies_of};
 ghost use Rattle.heap_rule.specs.Limits.{sizes_in};
 ghost use Rattle.domain_turns.specs.Runs.{CanBegin, IsRun};
 
 use heap_model::command::Command;
 use heap_model::reply::Reply;
-use heap_rule::Domain;
+use heap_rule::{Domain, Kind};
 use std::alloc::{AllocError, Global};
 use std::marker::Model;
 
@@ -18,6 +18,10 @@ pub struct DomainRun {
     pub(crate) next: usize,
     pub(crate) replies: Vec<Reply>,
     pub(crate) ended: bool,
+    // The kind of the last even phase that the domain knows of, where it has arrived.
+    pub(crate) left: Option<Kind>,
+    // How often it had arrived when it asked for a pause for the next command.
+    pub(crate) asked: Option<u64>,
 }
 
 impl Model for DomainRun {
@@ -26,9 +30,9 @@ impl Model for DomainRun {
 
     ghost Value = { RunView };
 
-    ghost view = { λ r. record { token = r.domain; commands = r.commands.items; next = r.next; replies = r.replies.items; ended = r.ended } };
+    ghost view = { λ r. record { token = r.domain; commands = r.commands.items; next = r.next; replies = r.replies.items; ended = r.ended; left = r.left; asked = r.asked } };
 
-    ghost invariant = { λ r. IsRun (record { token = r.domain; commands = r.commands.items; next = r.next; replies = r.replies.items; ended = r.ended }) × (length r.commands.items ≤ vec_capacity r.replies) };
+    ghost invariant = { λ r. IsRun (record { token = r.domain; commands = r.commands.items; next = r.next; replies = r.replies.items; ended = r.ended; left = r.left; asked = r.asked }) × (length r.commands.items ≤ vec_capacity r.replies) };
 }
 
 impl DomainRun {
@@ -38,7 +42,7 @@ impl DomainRun {
     /// replies is reserved here. Fails for want of memory alone, and then the domain is given up.
     pub fn make(alloc: Global, dom: Domain, commands: Vec<Command>) -> Result<DomainRun, AllocError>
         requires { CanBegin dom commands.items }
-        ensures { IfOk result (λ r. r ≡ record { token = dom; commands = commands.items; next = 0; replies = []; ended = false }) }
+        ensures { IfOk result (λ r. r ≡ record { token = dom; commands = commands.items; next = 0; replies = []; ended = false; left = None; asked = None }) }
     {
         let replies = Vec::with_capacity(alloc, commands.len())?;
         Ok(DomainRun {
@@ -47,6 +51,8 @@ impl DomainRun {
             next: 0,
             replies,
             ended: false,
+            left: None,
+            asked: None,
         })
     }
 

@@ -1,90 +1,223 @@
 //! Turns.
-ghost use Rattle.std.specs.Prelude.{◌≡◌, ◌↔◌, ◌≤◌, true, false, length, slice_get, Some};
+ghost use Rattle.std.specs.Prelude.{◌≡◌, ◌≢◌, ◌≤◌, ◌<◌, ◌^◌, true, false, length, slice_get, Some, None};
 ghost use Rattle.heap_model.specs.declared.command.Command as model;
-ghost use Rattle.heap_model.specs.declared.entry.Entry.{Entry};
-ghost use Rattle.heap_model.specs.declared.entry.Entry.TheVariants.{End};
+ghost use Rattle.heap_rule.specs.declared.phase.Note.TheVariants as note;
+ghost use Rattle.heap_rule.specs.declared.phase.Kind.TheVariants.{Run};
+ghost use Rattle.heap_rule.specs.Pauses.{noted, arrived_view};
 ghost use Rattle.heap_rule.specs.Running.{Runs};
 ghost use Rattle.heap_rule.specs.Token.{IsIn};
-ghost use Rattle.domain_turns.specs.Runs.{HasEnded, EndsTrace, TriesCommand};
+ghost use Rattle.domain_turns.specs.Runs.{HasEnded, EndsTrace, TriesCommand, RunAnswers, TurnAnswers, RestAnswers, CalmAnswers, Asks, GoesOn, CalmDid, served_since, needs_pause, noted_token};
+ghost use Rattle.domain_turns.specs.Past.{PastAnswers};
+ghost use Rattle.domain_turns.specs.declared.turned.Turned as turned;
 
 use crate::command::try_command;
+use crate::passing::{Past, left_after, pass};
 use crate::run::DomainRun;
+use crate::turned::Turned;
 use heap_model::command::Command;
-use heap_rule::{Change, Domain, Heap, Part, tick};
-
-/// What a turn did.
-#[derive(Clone, Copy, Debug, PartialEq, Eq)]
-pub enum Turned {
-    /// It tried one command, or ended the trace.
-    Did,
-    /// The trace had ended before, and nothing was done.
-    Ended,
-}
-
-fn end_as(heap: &Heap, dom: &mut Domain)
-    ghost entry: { Entry }
-    requires entry { entry ≡ End dom.old.view.own.number }
-    requires runs { Runs heap.now dom.old }
-    ensures { HasEnded heap.now dom.old dom.new }
-{
-    tick(
-        heap,
-        dom,
-        0,
-        &[Change::Clear {
-            part: Part::Register,
-        }],
-    );
-}
+use heap_rule::{Domain, Heap, Kind, ended_add, ended_load};
+use safepoint::{Want, arrive, ask, wants};
 
 // Makes the entry of the end of a trace. The registers hold nothing then.
 fn end(heap: &Heap, dom: &mut Domain)
     requires { Runs heap.now dom.old }
     ensures { HasEnded heap.now dom.old dom.new }
 {
-    end_as(heap, dom);
+    ended_add(heap, dom);
 }
 
 // Tries the next command of a run, and keeps its reply.
 fn try_next(heap: &Heap, run: &mut DomainRun, command: &Command)
     requires here { IsIn run.old.token heap.now }
     requires running { run.old.ended ≡ false }
+    requires left { run.old.left ≡ None }
     requires next { slice_get run.old.commands run.old.next ≡ Some command.now }
-    ensures { TriesCommand heap.now run.old run.new command.now }
+    requires served { needs_pause run.old command.now ≡ false }
+    ensures here { IsIn run.new.token heap.now }
+    ensures tries { TriesCommand heap.now run.old.token run.old run.new command.now }
 {
     let reply = try_command(heap, &mut run.domain, command);
     run.replies.push_reserved(reply);
     run.next += 1;
+    run.asked = None;
 }
 
 // Ends the trace of a run that has no command left.
 fn end_trace(heap: &Heap, run: &mut DomainRun)
     requires here { IsIn run.old.token heap.now }
     requires running { run.old.ended ≡ false }
+    requires left { run.old.left ≡ None }
     requires whole { length run.old.commands ≤ run.old.next }
-    ensures { EndsTrace heap.now run.old run.new }
+    ensures here { IsIn run.new.token heap.now }
+    ensures ends { EndsTrace heap.now run.old.token run.old run.new }
 {
     end(heap, &mut run.domain);
     run.ended = true;
 }
 
-/// Takes a domain one command further, or ends its trace where no command is left. A run that has
-/// ended is left as it is. An allocation is answered `full` exactly where the minor area has no room
-/// for its block.
-pub fn turn(heap: &Heap, run: &mut DomainRun) -> Turned
-    requires { IsIn run.old.token heap.now }
+// The want word.
+fn find_wants(heap: &Heap, run: &mut DomainRun) -> u64
+    requires here { IsIn run.old.token heap.now }
+    requires left { run.old.left ≡ None }
     ensures here { IsIn run.new.token heap.now }
-    ensures ended { (result ≡ Turned.Ended) ↔ (run.old.ended ≡ true) }
-    ensures same { run.old.ended ≡ true → run.new ≡ run.old }
-    ensures tries { (c : model.Command) → run.old.ended ≡ false → slice_get run.old.commands run.old.next ≡ Some c → TriesCommand heap.now run.old run.new c }
-    ensures ends { run.old.ended ≡ false → length run.old.commands ≤ run.old.next → EndsTrace heap.now run.old run.new }
+    ensures run { run.new ≡ record run.old { token = noted_token run.old.token (note.Want result) } }
+{
+    wants(heap, &mut run.domain).bits
+}
+
+// A running domain arrives.
+fn stop(heap: &Heap, run: &mut DomainRun)
+    requires here { IsIn run.old.token heap.now }
+    requires left { run.old.left ≡ None }
+    requires few { run.old.token.view.own.arrivals < 2 ^ 60 }
+    ensures here { IsIn run.new.token heap.now }
+    ensures run { run.new ≡ record run.old { token = record run.old.token { view = arrived_view run.old.token.view }; left = Some Run } }
+{
+    arrive(heap, &mut run.domain);
+    run.left = Some(Kind::Run);
+}
+
+// Asks for a minor collection.
+fn wish(heap: &Heap, run: &mut DomainRun, _command: &Command)
+    requires here { IsIn run.old.token heap.now }
+    requires left { run.old.left ≡ None }
+    requires next { slice_get run.old.commands run.old.next ≡ Some _command.now }
+    requires needs { needs_pause run.old _command.now ≡ true }
+    ensures here { IsIn run.new.token heap.now }
+    ensures asks { Asks heap.now run.old.token run.old run.new }
+{
+    ask(heap, &mut run.domain, Want::Minor);
+    run.asked = Some(run.domain.arrivals());
+}
+
+// Whether a pause was begun and ended since the domain asked for one.
+fn is_served(run: &DomainRun) -> bool
+    ensures { result ≡ served_since run.now.asked run.now.token.view.own.arrivals }
+{
+    match run.asked {
+        Some(at) => at < run.domain.arrivals(),
+        None => false,
+    }
+}
+
+// Whether a command waits for a pause, and none has served it.
+fn needs_pause(run: &DomainRun, command: &Command) -> bool
+    ensures { result ≡ needs_pause run.now command.now }
+{
+    match command {
+        Command::Minor => !is_served(run),
+        _ => false,
+    }
+}
+
+// The turn of a run whose next command is this one, where no pause is wanted.
+fn attempt(heap: &Heap, run: &mut DomainRun, command: &Command)
+    requires here { IsIn run.old.token heap.now }
+    requires running { run.old.ended ≡ false }
+    requires left { run.old.left ≡ None }
+    requires next { slice_get run.old.commands run.old.next ≡ Some command.now }
+    ensures here { IsIn run.new.token heap.now }
+    ensures did { CalmDid heap.now run.old run.new }
+{
+    if needs_pause(run, command) {
+        wish(heap, run, command);
+    } else {
+        try_next(heap, run, command);
+    }
+}
+
+// The turn of a run whose trace has ended, where no pause is wanted.
+fn rest(heap: &Heap, run: &mut DomainRun) -> Turned
+    requires here { IsIn run.old.token heap.now }
+    requires left { run.old.left ≡ None }
+    requires over { run.old.ended ≡ true }
+    ensures here { IsIn run.new.token heap.now }
+    ensures answer { RestAnswers heap.now run.old run.new result }
+{
+    let ended = ended_load(heap, &mut run.domain);
+    if ended < u64::from(heap.config().domains) {
+        Turned::Idle { ended }
+    } else {
+        Turned::Ended
+    }
+}
+
+// The turn of a running domain where no pause is wanted.
+fn go_on(heap: &Heap, run: &mut DomainRun) -> Turned
+    requires here { IsIn run.old.token heap.now }
+    requires left { run.old.left ≡ None }
+    ensures here { IsIn run.new.token heap.now }
+    ensures answer { CalmAnswers heap.now run.old run.new result }
 {
     if run.ended {
-        return Turned::Ended;
+        return rest(heap, run);
     }
     match run.commands.get(run.next).copied() {
-        Some(command) => try_next(heap, run, &command),
+        Some(command) => attempt(heap, run, &command),
         None => end_trace(heap, run),
     }
     Turned::Did
+}
+
+// The turn of a running domain.
+fn turn_running(heap: &Heap, run: &mut DomainRun) -> Turned
+    requires here { IsIn run.old.token heap.now }
+    requires left { run.old.left ≡ None }
+    requires few { run.old.token.view.own.arrivals < 2 ^ 60 }
+    ensures here { IsIn run.new.token heap.now }
+    ensures answer { RunAnswers heap.now run.old run.new result }
+{
+    if find_wants(heap, run) != 0 {
+        stop(heap, run);
+        return Turned::Did;
+    }
+    go_on(heap, run)
+}
+
+// What a domain that has arrived does with the phase that has begun, if one has.
+fn pass_by(heap: &Heap, run: &mut DomainRun, last: Kind) -> Past
+    requires here { IsIn run.old.token heap.now }
+    requires left { run.old.left ≡ Some last }
+    requires few { run.old.token.view.own.arrivals < 2 ^ 60 }
+    ensures here { IsIn run.new.token heap.now }
+    ensures answer { PastAnswers heap.now run.old run.new result }
+{
+    let past = pass(heap, &mut run.domain, last);
+    run.left = left_after(&past, last);
+    past
+}
+
+// The turn of a domain.
+fn turn_on(heap: &Heap, run: &mut DomainRun) -> Turned
+    requires here { IsIn run.old.token heap.now }
+    requires few { run.old.token.view.own.arrivals < 2 ^ 60 }
+    ensures here { IsIn run.new.token heap.now }
+    ensures answer { TurnAnswers heap.now run.old run.new result }
+    ensures goes_on { GoesOn run.old run.new }
+    ensures ended { result ≡ Turned.Ended → run.new.ended ≡ true }
+{
+    let Some(last) = run.left else {
+        return turn_running(heap, run);
+    };
+    match pass_by(heap, run, last) {
+        Past::Waits(b) => Turned::Waiting(b),
+        Past::Arrived(_) => Turned::Did,
+        Past::Runs => turn_running(heap, run),
+    }
+}
+
+/// Takes a domain one step further: tries its next command, does its share of the phase that has
+/// begun, arrives, asks for a pause, or ends its trace. It arrives at most once, and never waits. An
+/// allocation is answered `full` exactly where the minor area has no room for its block, or no pool is
+/// to be had for a block of the major heap.
+pub fn turn(heap: &Heap, run: &mut DomainRun) -> Turned
+    requires here { IsIn run.old.token heap.now }
+    requires few { run.old.token.view.own.arrivals < 2 ^ 60 }
+    ensures here { IsIn run.new.token heap.now }
+    ensures answer { TurnAnswers heap.now run.old run.new result }
+    ensures exact { (other : turned.Turned) → TurnAnswers heap.now run.old run.new other → other ≡ result }
+    ensures goes_on { GoesOn run.old run.new }
+    ensures ended { result ≡ Turned.Ended → run.new.ended ≡ true }
+{
+    turn_on(heap, run)
 }

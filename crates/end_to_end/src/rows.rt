@@ -28,6 +28,16 @@ fn scripts_of_few_replies(rt: HostRuntime) -> Result<(), Fail> {
             "heap 1\ndomain 0\nalloc 1 245 126\n",
             "domain 0\nblk 0:1\n",
         ),
+        (
+            "run",
+            "heap 1\ndomain 0\nminor\nminor\nminor\ndomain 1\nint 1 1\n",
+            "domain 0\nok\nok\nok\ndomain 1\nok\n",
+        ),
+        (
+            "run --domains 1",
+            "heap 1\ndomain 0\nallocmaj 1 3 126\nload 2 1 125\nload 2 1 126\n",
+            "domain 0\nblk 0:1\nint 0\nbounds\n",
+        ),
     ] {
         let alloc = rt.alloc();
         let given = outcome_of(

@@ -24,7 +24,7 @@ use Rattle.heap_rule.specs.Loads.{FieldRead, Measured, Shows}
 use Rattle.heap_rule.specs.Token.{Token, SharedHeap, IsIn, IsAddress}
 use Rattle.heap_rule.specs.Running.{Runs, Did}
 use Rattle.heap_rule.specs.Running.{own_entry}
-use Rattle.heap_rule.proofs.Calls.{answered_did}
+use Rattle.heap_rule.proofs.Calls.{front_stays, look_stays, stays_trans, answered_did}
 use Rattle.heap_model.proofs.FrontLemmas.{answers_after}
 use Rattle.field_access.specs.Registers.{LoadsInto}
 use Rattle.field_access.proofs.Loading.{loaded}
@@ -45,7 +45,7 @@ module _ (h : SharedHeap) (old : Token) (y z : DomainView) (e : Entry) (dst src 
   runs_on : (domain_at (state_of h.config y.seen.front) old.view.own.number).ended ≡ false
   runs_on =
       let before : Acts h.config old.view = subst (λ (k : Config). Acts k old.view) runs.here.1 runs.acts in
-      subst (λ (n : ℕ). (domain_at (state_of h.config y.seen.front) n).ended ≡ false) number_is (looked_acts h.config old.view y m.looked before)
+      subst (λ (n : ℕ). (domain_at (state_of h.config y.seen.front) n).ended ≡ false) number_is (looked_acts h.config old.view y m.looked before).goes_on
 
   answers_is : Answers (sizes_in h.config) old.view.own.number y.seen.front z.seen.front (Command old.view.own.number (Load dst src i) false) (Replied (shown read.held))
   answers_is =
@@ -78,7 +78,9 @@ module _ (h : SharedHeap) (old : Token) (y z : DomainView) (e : Entry) (dst src 
       let replies : r ≡ shown read.held = reply ∙ ap (λ (n : ℕ). shown (register (state_of h.config z.seen.front) n dst)) after_number ∙ ap shown held_after in
       let whole = answers_after (sizes_in h.config) old.view.own.number old.view.seen.front y.seen.front z.seen.front _ _ m.looked.seen answers_is in
       answered_did h old w (Load dst src i) r runs here (ap (λ (x : DomainView). x.own.number) same ∙ after_number)
+      (ap (λ (x : DomainView). x.seen.hunt) same ∙ ap (λ (x : DomainView). x.seen.hunt) read.entered.view ∙ ap (λ (x : DomainView). x.seen.hunt) m.looked.view ∙ runs.at_rest)
       (ap (λ (x : DomainView). x.seen.made) same ∙ ap (λ (x : DomainView). x.seen.made) read.entered.view ∙ ap (λ (x : DomainView). x.seen.made) m.looked.view ∙ runs.idle)
+      (stays_trans old.view y w.view (look_stays old.view y _ m.looked.view) (front_stays y w.view _ _ (same ∙ read.entered.view)))
       (subst (λ (x : DomainView). Answers (sizes_in h.config) old.view.own.number old.view.seen.front x.seen.front (own_entry old (Load dst src i)) (Replied r)) (sym same)
       (subst (λ (q : Reply). Answers (sizes_in h.config) old.view.own.number old.view.seen.front z.seen.front (own_entry old (Load dst src i)) (Replied q)) (sym replies) whole))
 

@@ -1,8 +1,7 @@
 -- The steps on a field of a block whose size was read.
-use Rattle.std.proofs.Common.{◌≡◌, ◌≢◌, ◌∙◌, ℕ, ◌+◌, ◌<◌, false, [], ◌∷◌, refl, sym, ap, subst, arith}
+use Rattle.std.proofs.Common.{◌≡◌, ◌≢◌, ◌∙◌, ℕ, ◌+◌, ◌<◌, [], ◌∷◌, refl, sym, ap, subst, arith}
 use Rattle.heap_model.specs.declared.command.Command.TheVariants.{Load, Store}
 use Rattle.heap_model.specs.declared.entry.Entry.{Entry}
-use Rattle.heap_model.specs.Domains.{domain_at}
 use Rattle.heap_model.specs.Fronts.{HoldsPlain}
 use Rattle.heap_rule.proofs.Acting.{looked_acts}
 use Rattle.heap_words.specs.declared.value.Value.TheVariants.{Ref, Nothing}
@@ -31,8 +30,7 @@ pub field_known : (h : SharedHeap) (old : Token) (y : DomainView) (r i size a : 
 field_known h old y r i size a runs few held m below =
     let own : y.own ≡ old.view.own = ap (λ (x : DomainView). x.own) m.looked.view in
     let number : y.own.number ≡ old.view.own.number = ap (λ (x : DomainView). x.own.number) m.looked.view in
-    let before : (domain_at (state_of h.config old.view.seen.front) old.view.own.number).ended ≡ false =
-    subst (λ (k : Config). (domain_at (state_of k old.view.seen.front) old.view.own.number).ended ≡ false) runs.here.1 runs.acts in
+    let before : Acts h.config old.view = subst (λ (k : Config). Acts k old.view) runs.here.1 runs.acts in
     record {
       may = record {
         address = a;

@@ -13,7 +13,7 @@ use Rattle.heap_rule.specs.Standing.{Entered, Looked}
 use Rattle.heap_rule.specs.Token.{Token, SharedHeap, IsIn}
 use Rattle.heap_rule.specs.Running.{Runs, Did}
 use Rattle.heap_rule.specs.Running.{own_entry}
-use Rattle.heap_rule.proofs.Calls.{answered_did}
+use Rattle.heap_rule.proofs.Calls.{front_stays, look_stays, stays_trans, answered_did}
 use Rattle.heap_model.proofs.FrontLemmas.{answers_after}
 
 -- a call that looked, and then made its entry
@@ -25,5 +25,7 @@ looked_did h old new y c e r read changes is runs here look entered =
     subst (λ (x : Entry). Answers (sizes_in h.config) old.view.own.number y.seen.front new.view.seen.front x (Replied r)) is
     (subst (λ (n : ℕ). Answers (sizes_in h.config) n y.seen.front new.view.seen.front e (Replied r)) number entered.answers) in
     answered_did h old new c r runs here (ap (λ (x : DomainView). x.own.number) entered.view ∙ number)
+    (ap (λ (x : DomainView). x.seen.hunt) entered.view ∙ ap (λ (x : DomainView). x.seen.hunt) look.view ∙ runs.at_rest)
     (ap (λ (x : DomainView). x.seen.made) entered.view ∙ ap (λ (x : DomainView). x.seen.made) look.view ∙ runs.idle)
+    (stays_trans old.view y new.view (look_stays old.view y _ look.view) (front_stays y new.view _ _ entered.view))
     (answers_after (sizes_in h.config) old.view.own.number old.view.seen.front y.seen.front new.view.seen.front _ _ look.seen answers)

@@ -35,3 +35,9 @@ below_end k a e (EpheShape keys) x y n told is below = cc
 pub measured : (k : Config) (a : ℕ) (e : Entry) (x y : DomainView) (found : ℕ) (r : Option ℕ) (n : ℕ) (t : HeadTold k a e x found y) → r ≡ size_of t.shape → r ≡ Some n → place_of e < n
     → Measured k a (subject e) n x y
 measured k a e x y found r n t size some below = below_end k a e t.shape x y n t.told (sym size ∙ some) below
+
+-- the same of the entry that the call is told
+pub measured_at : (k : Config) (a : ℕ) (e own : Entry) (x y : DomainView) (found : ℕ) (r : Option ℕ) (n : ℕ) → e ≡ own → (t : HeadTold k a e x found y) → r ≡ size_of t.shape → r ≡ Some n → place_of own < n
+    → Measured k a (subject own) n x y
+measured_at k a e own x y found r n is t size some below =
+    subst (λ (z : Entry). Measured k a (subject z) n x y) is (measured k a e x y found r n t size some (subst (λ (z : Entry). place_of z < n) (sym is) below))

@@ -1,24 +1,24 @@
 -- What an entry of one domain leaves of everything else, and what it leaves of its own domain: one law for each case.
-use Rattle.std.proofs.Common.{◌≡◌, ◌≢◌, ℕ, zero, suc, ◌+◌, ◌<◌, arith, Bool, true, false, eqb, eqb-true, eq-eqb, is_some, List, [], ◌∷◌, ◌++◌, map, length, get_or, set, slice_get, option_and_then, option_map, unwrap_or, Option, Some, None, refl, ap, sym, ◌∙◌, length-set, get_or-set_other}
+use Rattle.std.proofs.Common.{◌≡◌, ◌≢◌, ℕ, zero, suc, ◌+◌, ◌<◌, arith, Bool, true, false, eqb, eqb-true, eq-eqb, List, [], ◌∷◌, ◌++◌, map, length, get_or, set, Option, Some, None, refl, ap, sym, ◌∙◌, length-set, get_or-set_other}
 use Rattle.heap_model.specs.declared.label.Label.{Label}
 use Rattle.heap_model.specs.declared.command.Command.{Command}
-use Rattle.heap_model.specs.declared.command.Command.TheVariants.{PutInt, Copy, Forget, Alloc, AllocMaj, Load, Store, Ephe as NewEphe, SetKey, UnsetKey, GetKey, CheckKey, SetData, UnsetData, GetData, CheckData, Finalise, FinaliseLast, Poll, Minor, Major, FullMajor}
 use Rattle.heap_model.specs.declared.entry.Entry.{Entry}
 use Rattle.heap_model.specs.declared.entry.Entry.TheVariants.{Command as CommandOf, End, Cut, Queue, Seal, Wipe, Last as LastOf, Collected, Done, Ran}
 use Rattle.heap_model.specs.declared.graph.Value.{Value}
-use Rattle.heap_model.specs.declared.graph.Value.TheVariants.{Int, Block, Nothing}
+use Rattle.heap_model.specs.declared.graph.Value.TheVariants.{Block, Nothing}
 use Rattle.heap_model.specs.declared.graph.Node.{Node}
 use Rattle.heap_model.specs.declared.graph.Node.TheVariants.{Plain, Ephe}
 use Rattle.heap_model.specs.declared.state.Pending.{Pending}
 use Rattle.heap_model.specs.declared.state.Pending.TheVariants.{Fin, Last}
 use Rattle.heap_model.specs.declared.state.DomainState.{DomainState}
 use Rattle.heap_model.specs.declared.state.State.{State}
-use Rattle.heap_model.specs.Graph.{Graph, same_label, node_at, block_at, with_node}
-use Rattle.heap_model.specs.Domains.{domain_at, with_domain, with_register, with_block, register, label_in, no_domain}
-use Rattle.heap_model.specs.Commands.{Outcome, in_bounds, at_ephe, loaded, stored, key_set, key_stored, datum_stored, finalised, finalised_last, tells, is_full_value, allocated, block_in, outcome, after_command}
+use Rattle.heap_model.specs.Graph.{Graph, same_label, node_at, with_node}
+use Rattle.heap_model.specs.Domains.{domain_at, with_domain, with_register, with_block, no_domain}
+use Rattle.heap_model.specs.Commands.{allocated, outcome, after_command}
 use Rattle.heap_model.specs.Entries.{wiped, wiped_keys, with_wiped, with_last_queued, without_first, after_run, ended, next}
 use Rattle.heap_model.specs.History.{is_entry_of}
-use Rattle.heap_model.specs.Fronts.{PlainShape, EpheShape, shape_of, Grew, KeepsDomain, IsCalm}
+use Rattle.heap_model.specs.Fronts.{EpheShape, shape_of, Grew, KeepsDomain, IsCalm}
+use Rattle.heap_model.proofs.MoveLemmas.{moved}
 use Rattle.heap_model.proofs.GraphLemmas.{same_label-true, same_label_refl, node_at-with_node_same, node_at-with_node_other, node_at-append_old}
 
 -- a part of each domain, after one was replaced by another that has it
@@ -76,27 +76,6 @@ frame_after d s t u a b = record {
   grew = grew_after s.graph t.graph u.graph a.grew b.grew;
 }
 
--- the block that a command looks at is one of the graph
-abbrev IsBlock : State → Option (Label × Node) → Type 0
-IsBlock s b = (l : Label) (n : Node) → b ≡ Some (l, n) → node_at s.graph l ≡ Some n
-
-is_block_at : (s : State) (l : Label) → IsBlock s (block_at s.graph l)
-is_block_at s l = go (node_at s.graph l) refl
-  where
-    go : (o : Option Node) → node_at s.graph l ≡ o → IsBlock s (option_map (λ n. (l, n)) o)
-    go None at k n e = cc
-    go (Some m) at k n e =
-        let label : l ≡ k = ap (λ (o : Option (Label × Node)). (unwrap_or o (l, m)).0) e in
-        let node : m ≡ n = ap (λ (o : Option (Label × Node)). (unwrap_or o (l, m)).1) e in
-        ap (node_at s.graph) (sym label) ∙ (at ∙ ap Some node)
-
-is_block_in : (s : State) (d r : ℕ) → IsBlock s (block_in s d r)
-is_block_in s d r = go (label_in s d r)
-  where
-    go : (o : Option Label) → IsBlock s (option_and_then (block_at s.graph) o)
-    go None k n e = cc
-    go (Some l) k n e = is_block_at s l k n e
-
 module _ (d : ℕ) (s : State) where
   frame_same : Frame d s s
   frame_same = record { elsewhere = λ k other. refl; mode = refl; queue = refl; ended = refl; grew = grew_same s.graph s.graph refl }
@@ -116,59 +95,6 @@ module _ (d : ℕ) (s : State) where
   frame_with_block : (l : Label) (old new : Node) → node_at s.graph l ≡ Some old → shape_of new ≡ shape_of old → Frame d s (with_block s l new)
   frame_with_block l old new at same = record { elsewhere = λ k other. refl; mode = refl; queue = refl; ended = refl; grew = grew_node s.graph l old new at same }
 
-  frame_in_bounds : {A : Type 0} (o : Option A) (f : A → Outcome) → ((a : A) → Frame d s (f a).state) → Frame d s (in_bounds s o f).state
-  frame_in_bounds None f each = frame_same
-  frame_in_bounds (Some a) f each = each a
-
-  frame_at_ephe : (b : Option (Label × Node)) (f : Label → List (Option Label) → Value → Outcome)
-      → ((l : Label) (keys : List (Option Label)) (datum : Value) → b ≡ Some (l, Ephe keys datum) → Frame d s (f l keys datum).state) → Frame d s (at_ephe s b f).state
-  frame_at_ephe None f each = frame_same
-  frame_at_ephe (Some (l, Plain tag fields)) f each = frame_same
-  frame_at_ephe (Some (l, Ephe keys datum)) f each = each l keys datum refl
-
-  frame_loaded : (dst index : ℕ) (b : Option (Label × Node)) → Frame d s (loaded s d dst index b).state
-  frame_loaded dst index None = frame_same
-  frame_loaded dst index (Some (l, Plain tag fields)) = frame_in_bounds (slice_get fields index) _ (λ v. frame_with_register dst v)
-  frame_loaded dst index (Some (l, Ephe keys datum)) = frame_same
-
-  frame_stored : (index : ℕ) (b : Option (Label × Node)) (v : Value) → IsBlock s b → Frame d s (stored s index b v).state
-  frame_stored index None v is = frame_same
-  frame_stored index (Some (l, Ephe keys datum)) v is = frame_same
-  frame_stored index (Some (l, Plain tag fields)) Nothing is = frame_same
-  frame_stored index (Some (l, Plain tag fields)) (Int z) is =
-      frame_in_bounds (slice_get fields index) _ (λ _. frame_with_block l _ _ (is l _ refl) (ap (λ n. PlainShape n tag) (length-set fields index (Int z))))
-  frame_stored index (Some (l, Plain tag fields)) (Block k) is =
-      frame_in_bounds (slice_get fields index) _ (λ _. frame_with_block l _ _ (is l _ refl) (ap (λ n. PlainShape n tag) (length-set fields index (Block k))))
-
-  frame_key_set : (index : ℕ) (key : Option Label) (b : Option (Label × Node)) → IsBlock s b → (l : Label) (keys : List (Option Label)) (datum : Value) → b ≡ Some (l, Ephe keys datum)
-      → Frame d s (key_set s index key l keys datum).state
-  frame_key_set index key b is l keys datum e =
-      frame_in_bounds (slice_get keys index) _ (λ _. frame_with_block l _ _ (is l _ e) (ap EpheShape (length-set keys index key)))
-
-  frame_key_stored : (index : ℕ) (key : Option Label) (b : Option (Label × Node)) → IsBlock s b → Frame d s (key_stored s index key b).state
-  frame_key_stored index None b is = frame_same
-  frame_key_stored index (Some k) b is = frame_at_ephe b _ (frame_key_set index (Some k) b is)
-
-  frame_datum : (b : Option (Label × Node)) → IsBlock s b → (v : Value) (l : Label) (keys : List (Option Label)) (datum : Value) → b ≡ Some (l, Ephe keys datum) → Frame d s (with_block s l (Ephe keys v))
-  frame_datum b is v l keys datum e = frame_with_block l _ _ (is l _ e) refl
-
-  frame_datum_stored : (b : Option (Label × Node)) (v : Value) → IsBlock s b → Frame d s (datum_stored s b v).state
-  frame_datum_stored b Nothing is = frame_same
-  frame_datum_stored b (Int z) is = frame_at_ephe b _ (frame_datum b is (Int z))
-  frame_datum_stored b (Block k) is = frame_at_ephe b _ (frame_datum b is (Block k))
-
-  frame_tells : (b : Bool) → Frame d s (tells s b).state
-  frame_tells true = frame_same
-  frame_tells false = frame_same
-
-  frame_finalised : (number dst : ℕ) (l : Option Label) → Frame d s (finalised s d number dst l).state
-  frame_finalised number dst None = frame_same
-  frame_finalised number dst (Some l) = frame_with_domain _ refl refl
-
-  frame_finalised_last : (number : ℕ) (l : Option Label) → Frame d s (finalised_last s d number l).state
-  frame_finalised_last number None = frame_same
-  frame_finalised_last number (Some l) = frame_with_domain _ refl refl
-
   frame_grown : (e : Label × Node) (kept : ℕ) → Frame d s (record s { graph = s.graph ++ e ∷ []; kept = kept })
   frame_grown e kept = record { elsewhere = λ k other. refl; mode = refl; queue = refl; ended = refl; grew = grew_append s.graph e }
 
@@ -182,30 +108,14 @@ frame_allocated d s dst n =
     (frame_after d made grown _ (frame_grown d made (l, n) (s.kept + 1)) (frame_with_register d grown dst (Block l)))
 
 frame_outcome : (d : ℕ) (s : State) (c : Command) → Frame d s (outcome s d c).state
-frame_outcome d s (PutInt dst value) = frame_with_register d s dst (Int value)
-frame_outcome d s (Copy dst src) = frame_with_register d s dst _
-frame_outcome d s (Forget dst) = frame_with_register d s dst Nothing
-frame_outcome d s (Alloc dst tag fields) = frame_allocated d s dst _
-frame_outcome d s (AllocMaj dst tag fields) = frame_allocated d s dst _
-frame_outcome d s (Load dst src index) = frame_loaded d s dst index (block_in s d src)
-frame_outcome d s (Store block index item) = frame_stored d s index (block_in s d block) (register s d item) (is_block_in s d block)
-frame_outcome d s (NewEphe dst keys) = frame_allocated d s dst _
-frame_outcome d s (SetKey ephe index item) = frame_key_stored d s index (label_in s d item) (block_in s d ephe) (is_block_in s d ephe)
-frame_outcome d s (UnsetKey ephe index) = frame_at_ephe d s (block_in s d ephe) _ (frame_key_set d s index None (block_in s d ephe) (is_block_in s d ephe))
-frame_outcome d s (GetKey dst ephe index) =
-    frame_at_ephe d s (block_in s d ephe) _ (λ l keys datum _. frame_in_bounds d s (slice_get keys index) _ (λ k. frame_with_register d s dst _))
-frame_outcome d s (CheckKey ephe index) =
-    frame_at_ephe d s (block_in s d ephe) _ (λ l keys datum _. frame_in_bounds d s (slice_get keys index) _ (λ k. frame_tells d s (is_some k)))
-frame_outcome d s (SetData ephe item) = frame_datum_stored d s (block_in s d ephe) (register s d item) (is_block_in s d ephe)
-frame_outcome d s (UnsetData ephe) = frame_at_ephe d s (block_in s d ephe) _ (frame_datum d s (block_in s d ephe) (is_block_in s d ephe) Nothing)
-frame_outcome d s (GetData dst ephe) = frame_at_ephe d s (block_in s d ephe) _ (λ l keys datum _. frame_with_register d s dst datum)
-frame_outcome d s (CheckData ephe) = frame_at_ephe d s (block_in s d ephe) _ (λ l keys datum _. frame_tells d s (is_full_value datum))
-frame_outcome d s (Finalise item number dst) = frame_finalised d s number dst (label_in s d item)
-frame_outcome d s (FinaliseLast item number) = frame_finalised_last d s number (label_in s d item)
-frame_outcome d s Poll = frame_same d s
-frame_outcome d s Minor = frame_same d s
-frame_outcome d s Major = frame_same d s
-frame_outcome d s FullMajor = frame_same d s
+frame_outcome d s c = moved (Frame d s) s d c (record {
+  same = frame_same d s;
+  held = λ r v named. frame_with_register d s r v;
+  written = λ l old new at found same named. frame_with_block d s l old new found same;
+  made = λ is dst n named. frame_allocated d s dst n;
+  registered = λ is f named. frame_with_domain d s _ refl refl;
+  registered_last = λ is f named. frame_with_domain d s _ refl refl;
+})
 
 frame_after_command : (d : ℕ) (s t : State) → Frame d s t → Frame d s (after_command t d)
 frame_after_command d s t frame = frame_after d s t _ frame (frame_with_domain d t _ refl refl)

@@ -1,12 +1,11 @@
 -- Each label's serial is at most its domain's, so that the label of a new block is new.
-use Rattle.std.proofs.Common.{◌≡◌, ℕ, zero, suc, ◌+◌, ◌<◌, ◌≤◌, Bool, true, false, cond, ◌||◌, IsTrue, List, [], ◌∷◌, ◌++◌, map, length, get_or, set, slice_get, replicate, is_some, Option, Some, None, refl, ap, ◌∙◌, subst, ⊎_elim, arith, get_or-set_same}
+use Rattle.std.proofs.Common.{◌≡◌, ℕ, zero, suc, ◌+◌, ◌<◌, ◌≤◌, Bool, true, false, cond, ◌||◌, IsTrue, List, [], ◌∷◌, ◌++◌, map, length, get_or, set, Option, Some, None, refl, ap, ◌∙◌, subst, ⊎_elim, arith, get_or-set_same}
 use Rattle.heap_model.specs.declared.label.Label.{Label}
 use Rattle.heap_model.specs.declared.command.Command.{Command}
-use Rattle.heap_model.specs.declared.command.Command.TheVariants.{PutInt, Copy, Forget, Alloc, AllocMaj, Load, Store, Ephe as NewEphe, SetKey, UnsetKey, GetKey, CheckKey, SetData, UnsetData, GetData, CheckData, Finalise, FinaliseLast, Poll, Minor, Major, FullMajor}
 use Rattle.heap_model.specs.declared.entry.Entry.{Entry}
 use Rattle.heap_model.specs.declared.entry.Entry.TheVariants.{Command as CommandOf, End, Cut, Queue, Seal, Wipe, Last as LastOf, Collected, Done, Ran}
 use Rattle.heap_model.specs.declared.graph.Value.{Value}
-use Rattle.heap_model.specs.declared.graph.Value.TheVariants.{Int, Block, Nothing}
+use Rattle.heap_model.specs.declared.graph.Value.TheVariants.{Block}
 use Rattle.heap_model.specs.declared.graph.Node.{Node}
 use Rattle.heap_model.specs.declared.graph.Node.TheVariants.{Plain, Ephe}
 use Rattle.heap_model.specs.declared.state.Pending.{Pending}
@@ -15,8 +14,9 @@ use Rattle.heap_model.specs.declared.state.DomainState.{DomainState}
 use Rattle.heap_model.specs.declared.state.Sizes.{Sizes}
 use Rattle.heap_model.specs.declared.state.State.{State}
 use Rattle.heap_model.specs.Graph.{Graph, same_label, labels, has_label, node_at}
-use Rattle.heap_model.specs.Domains.{domain_at, with_domain, with_register, with_block, register, label_in, no_domain, opening, shared_label}
-use Rattle.heap_model.specs.Commands.{Outcome, in_bounds, at_ephe, loaded, stored, key_set, key_stored, datum_stored, finalised, finalised_last, tells, is_full_value, allocated, new_plain, block_in, outcome}
+use Rattle.heap_model.specs.Domains.{domain_at, with_domain, with_register, with_block, no_domain, opening, shared_label}
+use Rattle.heap_model.specs.Commands.{allocated, outcome}
+use Rattle.heap_model.proofs.MoveLemmas.{moved}
 use Rattle.heap_model.specs.Entries.{Allowed, wiped, with_wiped, with_last_queued, without_first, after_run, next}
 use Rattle.heap_model.specs.History.{state_after, LegalFrom, Legal}
 use Rattle.heap_model.specs.WellFormed.{IsNumbered}
@@ -63,52 +63,6 @@ module _ (s : State) where
   same_with_block : (l : Label) (n : Node) → SameNumbers s (with_block s l n)
   same_with_block l n = record { given = labels-with_node s.graph l n; serials = λ d. refl }
 
-  same_in_bounds : {A : Type 0} (o : Option A) (f : A → Outcome) → ((a : A) → SameNumbers s (f a).state) → SameNumbers s (in_bounds s o f).state
-  same_in_bounds None f each = same_self
-  same_in_bounds (Some a) f each = each a
-
-  same_at_ephe : (b : Option (Label × Node)) (f : Label → List (Option Label) → Value → Outcome)
-      → ((l : Label) (keys : List (Option Label)) (datum : Value) → SameNumbers s (f l keys datum).state) → SameNumbers s (at_ephe s b f).state
-  same_at_ephe None f each = same_self
-  same_at_ephe (Some (l, Plain tag fields)) f each = same_self
-  same_at_ephe (Some (l, Ephe keys datum)) f each = each l keys datum
-
-  same_loaded : (d dst index : ℕ) (b : Option (Label × Node)) → SameNumbers s (loaded s d dst index b).state
-  same_loaded d dst index None = same_self
-  same_loaded d dst index (Some (l, Plain tag fields)) = same_in_bounds (slice_get fields index) _ (λ v. same_with_register d dst v)
-  same_loaded d dst index (Some (l, Ephe keys datum)) = same_self
-
-  same_stored : (index : ℕ) (b : Option (Label × Node)) (v : Value) → SameNumbers s (stored s index b v).state
-  same_stored index None v = same_self
-  same_stored index (Some (l, Ephe keys datum)) v = same_self
-  same_stored index (Some (l, Plain tag fields)) Nothing = same_self
-  same_stored index (Some (l, Plain tag fields)) (Int z) = same_in_bounds (slice_get fields index) _ (λ v. same_with_block l _)
-  same_stored index (Some (l, Plain tag fields)) (Block k) = same_in_bounds (slice_get fields index) _ (λ v. same_with_block l _)
-
-  same_key_set : (index : ℕ) (key : Option Label) (l : Label) (keys : List (Option Label)) (datum : Value) → SameNumbers s (key_set s index key l keys datum).state
-  same_key_set index key l keys datum = same_in_bounds (slice_get keys index) _ (λ k. same_with_block l _)
-
-  same_key_stored : (index : ℕ) (key : Option Label) (b : Option (Label × Node)) → SameNumbers s (key_stored s index key b).state
-  same_key_stored index None b = same_self
-  same_key_stored index (Some k) b = same_at_ephe b _ (same_key_set index (Some k))
-
-  same_datum_stored : (b : Option (Label × Node)) (v : Value) → SameNumbers s (datum_stored s b v).state
-  same_datum_stored b Nothing = same_self
-  same_datum_stored b (Int z) = same_at_ephe b _ (λ l keys datum. same_with_block l _)
-  same_datum_stored b (Block k) = same_at_ephe b _ (λ l keys datum. same_with_block l _)
-
-  same_tells : (b : Bool) → SameNumbers s (tells s b).state
-  same_tells true = same_self
-  same_tells false = same_self
-
-  same_finalised : (d number dst : ℕ) (l : Option Label) → SameNumbers s (finalised s d number dst l).state
-  same_finalised d number dst None = same_self
-  same_finalised d number dst (Some l) = same_with_domain d _ refl
-
-  same_finalised_last : (d number : ℕ) (l : Option Label) → SameNumbers s (finalised_last s d number l).state
-  same_finalised_last d number None = same_self
-  same_finalised_last d number (Some l) = same_with_domain d _ refl
-
   same_wiped : (l : Label) (places : List ℕ) (o : Option Node) → SameNumbers s (with_wiped s l (wiped places o))
   same_wiped l places None = same_self
   same_wiped l places (Some (Plain tag fields)) = same_with_block l _
@@ -149,30 +103,14 @@ module _ (s : State) (numbered : IsNumbered s) (d : ℕ) (inside : d < length s.
       numbered_same middle _ (same_with_register middle d dst (Block l)) numbered_middle
 
   numbered_outcome : (c : Command) → IsNumbered (outcome s d c).state
-  numbered_outcome (PutInt dst value) = numbered_same s _ (same_with_register s d dst _) numbered
-  numbered_outcome (Copy dst src) = numbered_same s _ (same_with_register s d dst _) numbered
-  numbered_outcome (Forget dst) = numbered_same s _ (same_with_register s d dst _) numbered
-  numbered_outcome (Alloc dst tag fields) = numbered_allocated dst (new_plain tag fields)
-  numbered_outcome (AllocMaj dst tag fields) = numbered_allocated dst (new_plain tag fields)
-  numbered_outcome (Load dst src index) = numbered_same s _ (same_loaded s d dst index (block_in s d src)) numbered
-  numbered_outcome (Store block index item) = numbered_same s _ (same_stored s index (block_in s d block) (register s d item)) numbered
-  numbered_outcome (NewEphe dst keys) = numbered_allocated dst (Ephe (replicate keys None) Nothing)
-  numbered_outcome (SetKey ephe index item) = numbered_same s _ (same_key_stored s index (label_in s d item) (block_in s d ephe)) numbered
-  numbered_outcome (UnsetKey ephe index) = numbered_same s _ (same_at_ephe s (block_in s d ephe) _ (same_key_set s index None)) numbered
-  numbered_outcome (GetKey dst ephe index) =
-      numbered_same s _ (same_at_ephe s (block_in s d ephe) _ (λ l keys datum. same_in_bounds s (slice_get keys index) _ (λ k. same_with_register s d dst _))) numbered
-  numbered_outcome (CheckKey ephe index) =
-      numbered_same s _ (same_at_ephe s (block_in s d ephe) _ (λ l keys datum. same_in_bounds s (slice_get keys index) _ (λ k. same_tells s (is_some k)))) numbered
-  numbered_outcome (SetData ephe item) = numbered_same s _ (same_datum_stored s (block_in s d ephe) (register s d item)) numbered
-  numbered_outcome (UnsetData ephe) = numbered_same s _ (same_at_ephe s (block_in s d ephe) _ (λ l keys datum. same_with_block s l _)) numbered
-  numbered_outcome (GetData dst ephe) = numbered_same s _ (same_at_ephe s (block_in s d ephe) _ (λ l keys datum. same_with_register s d dst datum)) numbered
-  numbered_outcome (CheckData ephe) = numbered_same s _ (same_at_ephe s (block_in s d ephe) _ (λ l keys datum. same_tells s (is_full_value datum))) numbered
-  numbered_outcome (Finalise item number dst) = numbered_same s _ (same_finalised s d number dst (label_in s d item)) numbered
-  numbered_outcome (FinaliseLast item number) = numbered_same s _ (same_finalised_last s d number (label_in s d item)) numbered
-  numbered_outcome Poll = numbered
-  numbered_outcome Minor = numbered
-  numbered_outcome Major = numbered
-  numbered_outcome FullMajor = numbered
+  numbered_outcome c = moved IsNumbered s d c (record {
+    same = numbered;
+    held = λ r v named. numbered_same s _ (same_with_register s d r v) numbered;
+    written = λ l old new at found same named. numbered_same s _ (same_with_block s l new) numbered;
+    made = λ is dst n named. numbered_allocated dst n;
+    registered = λ is f named. numbered_same s _ (same_with_domain s d _ refl) numbered;
+    registered_last = λ is f named. numbered_same s _ (same_with_domain s d _ refl) numbered;
+  })
 
 -- a number that is no domain's has ended
 pub inside_running : (xs : List DomainState) (d : ℕ) → (get_or xs d no_domain).ended ≡ false → d < length xs

@@ -22,7 +22,8 @@ use Rattle.heap_model.specs.History.{state_after, LegalFrom}
 use Rattle.heap_model.specs.Registrations.{registered_by, registered, ran, all_registered, all_ran, left_over, RegistrationsRunOnce}
 use Rattle.heap_model.proofs.NumberLemmas.{inside_running}
 use Rattle.heap_model.proofs.TallyLemmas.{one_place, tally, tally-append, tally-map, tally-cond, tally-remove, tally-without, tally_count, counted, increasing, changed_at, changed_less, mapped_less}
-use Rattle.heap_model.proofs.DomainStepLemmas.{registers_one, SameWork, work_outcome}
+use Rattle.heap_model.proofs.MoveLemmas.{registers_one}
+use Rattle.heap_model.proofs.DomainStepLemmas.{SameWork, work_outcome}
 
 zero_either : (b : Bool) → ◌≡◌ {A = ℕ} (cond b 0 0) 0
 zero_either true = refl

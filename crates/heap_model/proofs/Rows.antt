@@ -1,14 +1,16 @@
 -- Worked rows: the definitions compute what the manual's examples say.
-use Rattle.std.proofs.Common.{◌≡◌, true, ℕ, false, List, [], ◌∷◌, ◌++◌, map, pos, refl, arith, rules}
+use Rattle.std.proofs.Common.{◌≡◌, ◌≤◌, true, ℕ, false, List, [], ◌∷◌, ◌++◌, map, pos, refl, arith, rules}
 use Rattle.heap_model.specs.declared.label.Label.{Label}
 use Rattle.heap_model.specs.declared.command.Command.{Command}
-use Rattle.heap_model.specs.declared.command.Command.TheVariants.{PutInt, Forget, Alloc, Load, Store, Ephe as NewEphe, SetKey, CheckKey, SetData, CheckData, Finalise, FinaliseLast, FullMajor}
+use Rattle.heap_model.specs.declared.command.Command.TheVariants.{PutInt, Forget, Alloc, Load, Store, Ephe as NewEphe, SetKey, CheckKey, SetData, CheckData, Finalise, FinaliseLast, Poll, FullMajor}
 use Rattle.heap_model.specs.declared.entry.Entry.{Entry}
 use Rattle.heap_model.specs.declared.entry.Entry.TheVariants.{Command as CommandOf, End, Cut, Queue, Seal, Wipe, Last, Collected, Done, Ran}
 use Rattle.heap_model.specs.declared.reply.Reply.TheVariants.{Yes, Done as Ok, Int, Block, BadType, BadIndex, No, Live, Fin, Last as LastReply}
 use Rattle.heap_model.specs.declared.state.Sizes.{Sizes}
 use Rattle.heap_model.specs.Reach.{reachable}
-use Rattle.heap_model.specs.History.{Legal, replies}
+use Rattle.heap_model.specs.Domains.{opening}
+use Rattle.heap_model.specs.Commands.{MayBeFullAfterCollection}
+use Rattle.heap_model.specs.History.{state_after, Legal, replies}
 
 abbrev sizes : Sizes
 sizes = record { domains = 1; pools = 512; minor_words = 32768; classes = 6 }
@@ -261,3 +263,29 @@ both_keys_wiped_illegal h = let dead : false ≡ true = h.1.1.1.1.1.1.1.1.1.1.0.
 
 type_and_bounds_legal : Legal sizes type_and_bounds
 type_and_bounds_legal = search rules
+
+-- `full` after a complete collection: of 14 pools 7 are kept for promotion and 6 may be begun, so that one kept block is enough
+abbrev small : ℕ → Sizes
+small pools = record { domains = 1; pools = pools; minor_words = 4096; classes = 6 }
+
+abbrev collected_once : List Entry
+collected_once = Cut ∷ Seal ∷ Collected ∷ Done ∷ []
+
+full_after_collection : MayBeFullAfterCollection (state_after (opening (small 14)) collected_once) 0 (Alloc 1 0 1)
+unfolding reachable
+full_after_collection = record { allocates = refl; fresh = refl; kept_enough = let enough : 14 ≤ 14 = omega arith in enough }
+
+-- of 15 it isn't
+full_too_early : MayBeFullAfterCollection (state_after (opening (small 15)) collected_once) 0 (Alloc 1 0 1) → ⊥
+unfolding reachable
+full_too_early p = let enough : 15 ≤ 14 = p.kept_enough in absurd (omega arith)
+
+-- nor once the domain has made a command since
+full_not_fresh : MayBeFullAfterCollection (state_after (opening (small 14)) (collected_once ++ run Poll ∷ [])) 0 (Alloc 1 0 1) → ⊥
+unfolding reachable
+full_not_fresh p = let fresh : false ≡ true = p.fresh in cc
+
+-- and no other command has it
+full_no_load : MayBeFullAfterCollection (state_after (opening (small 14)) collected_once) 0 (Load 1 0 0) → ⊥
+unfolding reachable
+full_no_load p = let allocates : false ≡ true = p.allocates in cc

@@ -1,8 +1,7 @@
 -- Each entry keeps a state well formed, so that reachability has its law in every state of a legal history.
-use Rattle.std.proofs.Common.{◌≡◌, ℕ, zero, suc, ◌+◌, Bool, true, false, cond, IsTrue, List, [], ◌∷◌, ◌++◌, map, reverse, length, flat_map, filter_map, option_to_list, replicate, get_or, set, slice_get, option_map, option_and_then, pos, is_some, Option, Some, None, refl, ap, subst, ⊎_elim}
+use Rattle.std.proofs.Common.{◌≡◌, ℕ, zero, suc, ◌+◌, Bool, true, false, cond, IsTrue, List, [], ◌∷◌, ◌++◌, map, reverse, length, flat_map, filter_map, option_to_list, replicate, get_or, set, pos, Option, Some, None, refl, ap, subst, ⊎_elim}
 use Rattle.heap_model.specs.declared.label.Label.{Label}
 use Rattle.heap_model.specs.declared.command.Command.{Command}
-use Rattle.heap_model.specs.declared.command.Command.TheVariants.{PutInt, Copy, Forget, Alloc, AllocMaj, Load, Store, Ephe as NewEphe, SetKey, UnsetKey, GetKey, CheckKey, SetData, UnsetData, GetData, CheckData, Finalise, FinaliseLast, Poll, Minor, Major, FullMajor}
 use Rattle.heap_model.specs.declared.graph.Value.{Value}
 use Rattle.heap_model.specs.declared.graph.Value.TheVariants.{Int, Block, Nothing}
 use Rattle.heap_model.specs.declared.graph.Node.{Node}
@@ -17,19 +16,20 @@ use Rattle.heap_model.specs.declared.state.Pending.{Pending}
 use Rattle.heap_model.specs.declared.state.Pending.TheVariants.{Fin, Last}
 use Rattle.heap_model.specs.declared.state.DomainState.{DomainState}
 use Rattle.heap_model.specs.declared.state.State.{State}
-use Rattle.heap_model.specs.Graph.{Graph, same_label, labels, has_label, label_of, node_at, block_at, with_node}
-use Rattle.heap_model.specs.Domains.{domain_at, with_domain, with_register, register, label_in, with_block, no_domain, pending_label, queues, roots, reach, opening, opening_domain, shared_label, shared_node}
+use Rattle.heap_model.specs.Graph.{Graph, same_label, labels, has_label, label_of, node_at, with_node}
+use Rattle.heap_model.specs.Domains.{domain_at, with_domain, with_register, with_block, no_domain, pending_label, queues, roots, reach, opening, opening_domain, shared_label, shared_node}
 use Rattle.heap_model.specs.Reach.{IsClosedGraph, IsLeastClosed, edges_of, key_holds}
 use Rattle.heap_model.specs.declared.state.Sizes.{Sizes}
 use Rattle.std.specs.List.{list_all}
 use Rattle.std.specs.Option.{option_map_or}
-use Rattle.heap_model.specs.Commands.{Outcome, in_bounds, at_ephe, loaded, stored, key_set, key_stored, key_value, datum_set, datum_stored, finalised, finalised_last, tells, is_full_value, allocated, block_in, outcome, after_command}
+use Rattle.heap_model.specs.Commands.{with_final, with_last, allocated, outcome, after_command}
 use Rattle.heap_model.specs.Entries.{at_places, wiped_keys, wiped, with_wiped, in_mode, with_last_queued, without_first, after_run, next}
 use Rattle.heap_model.specs.History.{state_after}
 use Rattle.heap_model.specs.WellFormed.{names_of, HaveNodes, IsDomainNamed, IsWellFormed}
 use Rattle.heap_model.proofs.GraphLemmas.{node_at-with_node_cases, node_at-append_cases, same_label_refl, labels-with_node}
 use Rattle.heap_model.proofs.ReachLemmas.{or_left, has-append_left, has-append_right, reach_law}
-use Rattle.heap_model.proofs.NamedLemmas.{have_none, have_append, have_left, have_right, have_cons, have_head, have_tail, have_option, have_rest, have_set, have_at, have_get, have_replicate, have_filter_map_append, remove_named, without_named, places_named, queued_finals_named, queued_lasts_named, wiped_keys_named, flat_named}
+use Rattle.heap_model.proofs.MoveLemmas.{moved}
+use Rattle.heap_model.proofs.NamedLemmas.{have_none, have_append, have_left, have_right, have_cons, have_head, have_tail, have_option, have_rest, have_set, have_replicate, have_filter_map_append, remove_named, without_named, places_named, queued_finals_named, queued_lasts_named, wiped_keys_named, flat_named}
 
 -- a part of each domain, after one was replaced
 pub each_domain : (P : DomainState → Type 0) (xs : List DomainState) (d : ℕ) (x : DomainState) → P x → ((k : ℕ) → P (get_or xs k no_domain)) → (k : ℕ) → P (get_or (set xs d x) k no_domain)
@@ -58,11 +58,6 @@ move_domain g h more x named = record {
   queue = λ l a. more l (named.queue l a);
 }
 
--- the block in a register names only labels with nodes
-abbrev BlockNamed : Graph → Option (Label × Node) → Type 0
-BlockNamed g None = Unit {0}
-BlockNamed g (Some (l, n)) = HaveNodes g (names_of n)
-
 module _ (s : State) (wf : IsWellFormed s) where
   wf_with_domain : (d : ℕ) (x : DomainState) → IsDomainNamed s.graph x → IsWellFormed (with_domain s d x)
   wf_with_domain d x named = record { domains = each_domain (IsDomainNamed s.graph) s.domains d x named wf.domains; nodes = wf.nodes; cut = wf.cut }
@@ -71,9 +66,6 @@ module _ (s : State) (wf : IsWellFormed s) where
   wf_with_register d r v named =
       let old = wf.domains d in
       wf_with_domain d _ (record { registers = have_set s.graph label_of (domain_at s d).registers r v old.registers named; finals = old.finals; lasts = old.lasts; queue = old.queue })
-
-  named_register : (d r : ℕ) → HaveNodes s.graph (option_to_list (label_of (register s d r)))
-  named_register d r = have_at s.graph label_of (domain_at s d).registers r Nothing (wf.domains d).registers (have_none s.graph)
 
   wf_with_block : (l : Label) (n : Node) → HaveNodes s.graph (names_of n) → IsWellFormed (with_block s l n)
   wf_with_block l n named =
@@ -87,56 +79,6 @@ module _ (s : State) (wf : IsWellFormed s) where
             (node_at-with_node_cases s.graph l k n m h);
         cut = λ j a. more j (wf.cut j a);
       }
-
-  named_block : (d r : ℕ) → BlockNamed s.graph (block_in s d r)
-  named_block d r = at_label (label_in s d r)
-    where
-      at_node : (l : Label) (o : Option Node) → node_at s.graph l ≡ o → BlockNamed s.graph (option_map (λ n. (l, n)) o)
-      at_node l None e = tt
-      at_node l (Some n) e = wf.nodes l n e
-
-      at_label : (o : Option Label) → BlockNamed s.graph (option_and_then (block_at s.graph) o)
-      at_label None = tt
-      at_label (Some l) = at_node l (node_at s.graph l) refl
-
-  wf_in_bounds : {A : Type 0} (o : Option A) (f : A → Outcome) → ((a : A) → o ≡ Some a → IsWellFormed (f a).state) → IsWellFormed (in_bounds s o f).state
-  wf_in_bounds None f each = wf
-  wf_in_bounds (Some a) f each = each a refl
-
-  wf_at_ephe : (b : Option (Label × Node)) (f : Label → List (Option Label) → Value → Outcome) → BlockNamed s.graph b
-      → ((l : Label) (keys : List (Option Label)) (datum : Value) → HaveNodes s.graph (names_of (Ephe keys datum)) → IsWellFormed (f l keys datum).state)
-      → IsWellFormed (at_ephe s b f).state
-  wf_at_ephe None f named each = wf
-  wf_at_ephe (Some (l, Plain tag fields)) f named each = wf
-  wf_at_ephe (Some (l, Ephe keys datum)) f named each = each l keys datum named
-
-  wf_loaded : (d dst index : ℕ) (b : Option (Label × Node)) → BlockNamed s.graph b → IsWellFormed (loaded s d dst index b).state
-  wf_loaded d dst index None named = wf
-  wf_loaded d dst index (Some (l, Ephe keys datum)) named = wf
-  wf_loaded d dst index (Some (l, Plain tag fields)) named =
-      wf_in_bounds (slice_get fields index) _ (λ v e. wf_with_register d dst v (have_get s.graph label_of fields index v named e))
-
-  wf_stored : (index : ℕ) (b : Option (Label × Node)) (v : Value) → BlockNamed s.graph b → HaveNodes s.graph (option_to_list (label_of v)) → IsWellFormed (stored s index b v).state
-  wf_stored index None v named new = wf
-  wf_stored index (Some (l, Ephe keys datum)) v named new = wf
-  wf_stored index (Some (l, Plain tag fields)) Nothing named new = wf
-  wf_stored index (Some (l, Plain tag fields)) (Int z) named new =
-      wf_in_bounds (slice_get fields index) _ (λ w e. wf_with_block l _ (have_set s.graph label_of fields index (Int z) named new))
-  wf_stored index (Some (l, Plain tag fields)) (Block k) named new =
-      wf_in_bounds (slice_get fields index) _ (λ w e. wf_with_block l _ (have_set s.graph label_of fields index (Block k) named new))
-
-  wf_key_set : (index : ℕ) (key : Option Label) (l : Label) (keys : List (Option Label)) (datum : Value) → HaveNodes s.graph (option_to_list key)
-      → HaveNodes s.graph (names_of (Ephe keys datum)) → IsWellFormed (key_set s index key l keys datum).state
-  wf_key_set index key l keys datum new named =
-      let old = have_left s.graph (filter_map (λ k. k) keys) (option_to_list (label_of datum)) named in
-      let data_named = have_right s.graph (filter_map (λ k. k) keys) (option_to_list (label_of datum)) named in
-      wf_in_bounds (slice_get keys index) _ (λ w e. wf_with_block l _
-      (have_append s.graph (filter_map (λ k. k) (set keys index key)) (option_to_list (label_of datum)) (have_set s.graph (λ k. k) keys index key old new) data_named))
-
-  wf_datum_set : (v : Value) (l : Label) (keys : List (Option Label)) (datum : Value) → HaveNodes s.graph (option_to_list (label_of v))
-      → HaveNodes s.graph (names_of (Ephe keys datum)) → IsWellFormed (datum_set s v l keys datum).state
-  wf_datum_set v l keys datum new named = wf_with_block l _
-      (have_append s.graph (filter_map (λ k. k) keys) (option_to_list (label_of v)) (have_left s.graph (filter_map (λ k. k) keys) (option_to_list (label_of datum)) named) new)
 
 -- a new block
 wf_allocated : (s : State) → IsWellFormed s → (d dst : ℕ) (n : Node) → HaveNodes s.graph (names_of n) → IsWellFormed (allocated s d dst n).state
@@ -162,80 +104,40 @@ wf_allocated s wf d dst n named =
     wf_with_register middle wf_middle d dst (Block l) (have_cons grown l [] has_new (have_none grown))
 
 module _ (s : State) (wf : IsWellFormed s) where
-  wf_key_stored : (index : ℕ) (key : Option Label) (b : Option (Label × Node)) → HaveNodes s.graph (option_to_list key) → BlockNamed s.graph b → IsWellFormed (key_stored s index key b).state
-  wf_key_stored index None b new named = wf
-  wf_key_stored index (Some k) b new named = wf_at_ephe s wf b _ named (λ l keys datum has. wf_key_set s wf index (Some k) l keys datum new has)
-
-  wf_datum_stored : (b : Option (Label × Node)) (v : Value) → BlockNamed s.graph b → HaveNodes s.graph (option_to_list (label_of v)) → IsWellFormed (datum_stored s b v).state
-  wf_datum_stored b Nothing named new = wf
-  wf_datum_stored b (Int z) named new = wf_at_ephe s wf b _ named (λ l keys datum has. wf_datum_set s wf (Int z) l keys datum new has)
-  wf_datum_stored b (Block k) named new = wf_at_ephe s wf b _ named (λ l keys datum has. wf_datum_set s wf (Block k) l keys datum new has)
-
-  wf_tells : (b : Bool) → IsWellFormed (tells s b).state
-  wf_tells true = wf
-  wf_tells false = wf
-
   labels_pushed : {A : Type 0} (f : A → Label) (xs : List A) (x : A) → HaveNodes s.graph (map f xs) → IsTrue (has_label (labels s.graph) (f x)) → HaveNodes s.graph (map f (xs ++ x ∷ []))
   labels_pushed f [] x p q = have_cons s.graph (f x) [] q (have_none s.graph)
   labels_pushed f (y ∷ xs) x p q = have_cons s.graph (f y) (map f (xs ++ x ∷ [])) (have_head s.graph (f y) (map f xs) p) (labels_pushed f xs x (have_tail s.graph (f y) (map f xs) p) q)
 
-  wf_finalised : (d number dst : ℕ) (l : Option Label) → HaveNodes s.graph (option_to_list l) → IsWellFormed (finalised s d number dst l).state
-  wf_finalised d number dst None named = wf
-  wf_finalised d number dst (Some l) named =
+  wf_with_final : (d : ℕ) (f : Finaliser) → HaveNodes s.graph (f.label ∷ []) → IsWellFormed (with_final s d f)
+  wf_with_final d f named =
       let old = wf.domains d in
       wf_with_domain s wf d _ (record {
         registers = old.registers;
         lasts = old.lasts;
         queue = old.queue;
-        finals = labels_pushed (λ f. f.label) (domain_at s d).finals _ old.finals (have_head s.graph l [] named);
+        finals = labels_pushed (λ f. f.label) (domain_at s d).finals f old.finals (have_head s.graph f.label [] named);
       })
 
-  wf_finalised_last : (d number : ℕ) (l : Option Label) → HaveNodes s.graph (option_to_list l) → IsWellFormed (finalised_last s d number l).state
-  wf_finalised_last d number None named = wf
-  wf_finalised_last d number (Some l) named =
+  wf_with_last : (d : ℕ) (f : LastFinaliser) → HaveNodes s.graph (f.label ∷ []) → IsWellFormed (with_last s d f)
+  wf_with_last d f named =
       let old = wf.domains d in
       wf_with_domain s wf d _ (record {
         registers = old.registers;
         finals = old.finals;
         queue = old.queue;
-        lasts = labels_pushed (λ f. f.label) (domain_at s d).lasts _ old.lasts (have_head s.graph l [] named);
+        lasts = labels_pushed (λ f. f.label) (domain_at s d).lasts f old.lasts (have_head s.graph f.label [] named);
       })
-
-  key_value_named : (keys : List (Option Label)) (index : ℕ) (k : Option Label) → HaveNodes s.graph (filter_map (λ x. x) keys) → slice_get keys index ≡ Some k
-      → HaveNodes s.graph (option_to_list (label_of (key_value k)))
-  key_value_named keys index None p e = have_none s.graph
-  key_value_named keys index (Some k) p e = have_get s.graph (λ x. x) keys index (Some k) p e
 
   -- each command keeps a state well formed
   pub wf_outcome : (d : ℕ) (c : Command) → IsWellFormed (outcome s d c).state
-  wf_outcome d (PutInt dst value) = wf_with_register s wf d dst (Int value) (have_none s.graph)
-  wf_outcome d (Copy dst src) = wf_with_register s wf d dst (register s d src) (named_register s wf d src)
-  wf_outcome d (Forget dst) = wf_with_register s wf d dst Nothing (have_none s.graph)
-  wf_outcome d (Alloc dst tag fields) = wf_allocated s wf d dst _ (have_replicate s.graph label_of fields (Int (pos 0)) refl)
-  wf_outcome d (AllocMaj dst tag fields) = wf_allocated s wf d dst _ (have_replicate s.graph label_of fields (Int (pos 0)) refl)
-  wf_outcome d (Load dst src index) = wf_loaded s wf d dst index (block_in s d src) (named_block s wf d src)
-  wf_outcome d (Store block index item) = wf_stored s wf index (block_in s d block) (register s d item) (named_block s wf d block) (named_register s wf d item)
-  wf_outcome d (NewEphe dst keys) =
-      wf_allocated s wf d dst _ (have_append s.graph (filter_map (λ k. k) (replicate keys None)) [] (have_replicate s.graph (λ k. k) keys None refl) (have_none s.graph))
-  wf_outcome d (SetKey ephe index item) = wf_key_stored index (label_in s d item) (block_in s d ephe) (named_register s wf d item) (named_block s wf d ephe)
-  wf_outcome d (UnsetKey ephe index) =
-      wf_at_ephe s wf (block_in s d ephe) _ (named_block s wf d ephe) (λ l keys datum named. wf_key_set s wf index None l keys datum (have_none s.graph) named)
-  wf_outcome d (GetKey dst ephe index) = wf_at_ephe s wf (block_in s d ephe) _ (named_block s wf d ephe) (λ l keys datum named.
-      wf_in_bounds s wf (slice_get keys index) _ (λ k e. wf_with_register s wf d dst (key_value k)
-      (key_value_named keys index k (have_left s.graph (filter_map (λ x. x) keys) (option_to_list (label_of datum)) named) e)))
-  wf_outcome d (CheckKey ephe index) = wf_at_ephe s wf (block_in s d ephe) _ (named_block s wf d ephe) (λ l keys datum named.
-      wf_in_bounds s wf (slice_get keys index) _ (λ k e. wf_tells (is_some k)))
-  wf_outcome d (SetData ephe item) = wf_datum_stored (block_in s d ephe) (register s d item) (named_block s wf d ephe) (named_register s wf d item)
-  wf_outcome d (UnsetData ephe) = wf_at_ephe s wf (block_in s d ephe) _ (named_block s wf d ephe) (λ l keys datum named. wf_datum_set s wf Nothing l keys datum (have_none s.graph) named)
-  wf_outcome d (GetData dst ephe) = wf_at_ephe s wf (block_in s d ephe) _ (named_block s wf d ephe) (λ l keys datum named.
-      wf_with_register s wf d dst datum (have_right s.graph (filter_map (λ x. x) keys) (option_to_list (label_of datum)) named))
-  wf_outcome d (CheckData ephe) = wf_at_ephe s wf (block_in s d ephe) _ (named_block s wf d ephe) (λ l keys datum named. wf_tells (is_full_value datum))
-  wf_outcome d (Finalise item number dst) = wf_finalised d number dst (label_in s d item) (named_register s wf d item)
-  wf_outcome d (FinaliseLast item number) = wf_finalised_last d number (label_in s d item) (named_register s wf d item)
-  wf_outcome d Poll = wf
-  wf_outcome d Minor = wf
-  wf_outcome d Major = wf
-  wf_outcome d FullMajor = wf
+  wf_outcome d c = moved IsWellFormed s d c (record {
+    same = wf;
+    held = λ r v named. wf_with_register s wf d r v (named wf);
+    written = λ l old new at found same named. wf_with_block s wf l new (named wf);
+    made = λ is dst n named. wf_allocated s wf d dst n named;
+    registered = λ is f named. wf_with_final d f (named wf);
+    registered_last = λ is f named. wf_with_last d f (named wf);
+  })
 
 pub queues_named : (g : Graph) (xs : List DomainState) → ((k : ℕ) → HaveNodes g (filter_map pending_label (get_or xs k no_domain).queue)) → HaveNodes g (flat_map (filter_map pending_label) (map (λ x. x.queue) xs))
 queues_named g [] each = have_none g

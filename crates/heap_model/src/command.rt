@@ -2,7 +2,7 @@
 ghost use Rattle.std.specs.Prelude.{◌≡◌};
 
 /// One command of a domain's trace. Registers are numbers below 16. An `index` counts from 0, in scripts to 1,023.
-#[derive(Clone, Copy, Debug, PartialEq, Eq)]
+#[derive(Clone, Copy)]
 pub enum Command {
     /// `int`: register `dst` holds the integer, in scripts from -2^62 to 2^62 - 1.
     PutInt { dst: u8, value: i64 },

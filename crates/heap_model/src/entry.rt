@@ -11,7 +11,7 @@ pub type Places = Sequence<u32>;
 /// A collection is `Cut`, any number of `Queue`, `Seal`, any number of `Wipe` and `Last`, and `Done`. A complete one
 /// has `Collected` before `Done`. From `Cut` to `Done` no domain makes an entry, except `full_major` after
 /// `Collected`.
-#[derive(Debug, Drop)]
+#[derive(Drop)]
 pub enum Entry {
     /// A domain carries out a command: it changes the graph and the domain as the command says, and no queue. Its queue
     /// is empty then; for `full_major` it is enough that the domain's last entry left it empty.

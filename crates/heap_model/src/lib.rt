@@ -1,4 +1,4 @@
-//! The object graph of the heap, the entries of its history, and a slow heap that follows them.
+//! The object graph of the heap, and the entries of its history.
 #![tactic(auto)]
 
 pub mod command;
@@ -8,5 +8,4 @@ pub mod label;
 pub mod laws;
 pub mod reply;
 pub mod sequence;
-pub mod slow_heap;
 pub mod state;

@@ -12,4 +12,7 @@ use Rattle.heap_rule.specs.Standing.{Acts, Looked}
 pub looked_acts : (k : Config) (x y : DomainView) → Looked k x y → Acts k x → Acts k y
 looked_acts k x y looked acts =
     let kept = keeps_front (opening (sizes_in k)) x.own.number y.seen.front x.seen.front looked.seen in
-    ap (λ (n : ℕ). (domain_at (state_of k y.seen.front) n).ended) (ap (λ (z : DomainView). z.own.number) looked.view) ∙ (kept.ended ∙ acts)
+    record {
+      goes_on = ap (λ (n : ℕ). (domain_at (state_of k y.seen.front) n).ended) (ap (λ (z : DomainView). z.own.number) looked.view) ∙ (kept.ended ∙ acts.goes_on);
+      runs = ap (λ (z : DomainView). z.seen.stage) looked.view ∙ acts.runs;
+    }

@@ -10,7 +10,9 @@ use Rattle.heap_rule.specs.Rule.{Good, Rule}
 use Rattle.heap_rule.specs.Token.{Token, SharedHeap, IsIn}
 use Rattle.heap_rule.specs.Ending.{Begins, Learned, AllIn, AllBegin, views_back}
 use Rattle.heap_rule.proofs.Lists.{views_set, domains_map}
-use Rattle.heap_rule.proofs.Keeps.{unmoved}
+use mathlib.Core.Option.{some}
+use lib.ListN.{get_elem?}
+use Rattle.heap_rule.proofs.Keeps.{Words, unmoved}
 use Rattle.heap_rule.proofs.Seats.{joins}
 
 pub views_back-snoc : (ts : List Token) (t : Token) → views_back (ts ++ t ∷ []) ≡ t.view ∷ views_back ts
@@ -42,6 +44,21 @@ all_begin history xs ts rest none_left so a = begin_back history ts (subst (AllD
 pub may_join : (k : Config) (id : ℕ) (v : View) (other : ℕ) (w : View) → w.config ≡ v.config → Joins (Rule k) id v other w (joined v w) spent
 may_join = joins
 
+-- a seat's view is written again as it is
+pub same_views : (k : Config) (s : Words) (r : Rule k s) (id : ℕ) (v : View) → get_elem? s.views id ≡ some v → Rule k record { words = s.words; homes = s.homes; views = set s.views id v }
+same_views k s r id v at = record {
+  log = r.log;
+  live = r.live;
+  pause = r.pause;
+  tenancy = r.tenancy;
+  seat = r.seat;
+  limits = r.limits;
+  whole = r.whole;
+  seats = λ d. subst (λ (n : ℕ). r.seat d < n) (sym (length-set s.views id v)) (r.seats d);
+  views = views_set (Knows k r.log r.seat) (Knows k r.log r.seat) s.views id v r.views (r.views id v at) (λ j u n x. x);
+  good = views_set (λ j u. AllDomains (Good k r.log r.live r.pause r.tenancy s.words) u.domains) (λ j u. AllDomains (Good k r.log r.live r.pause r.tenancy s.words) u.domains) s.views id v r.good (r.good id v at) (λ j u n x. x);
+}
+
 learns : (k : Config) (slots id word : ℕ) (v : View) → Allows (Rule k) slots id (v, []) word (λ n. n) (λ found m'. Learned k (v, []) m')
 learns k slots id word v s r _ at _ =
     let w : View = record v { history = r.log } in
@@ -52,13 +69,15 @@ learns k slots id word v s r _ at _ =
       unmoved k s word (set s.views id w) record {
         log = r.log;
         live = r.live;
+        pause = r.pause;
+        tenancy = r.tenancy;
         seat = r.seat;
         limits = r.limits;
         whole = r.whole;
         seats = λ d. subst (λ (n : ℕ). r.seat d < n) (sym (length-set s.views id w)) (r.seats d);
         views = views_set (Knows k r.log r.seat) (Knows k r.log r.seat) s.views id w r.views
             record { config = mine.config; history = record { rest = []; appends = sym (append-nil r.log) }; domains = mine.domains; distinct = mine.distinct } (λ j u n x. x);
-        good = views_set (λ j u. AllDomains (Good k r.log r.live s.words) u.domains) (λ j u. AllDomains (Good k r.log r.live s.words) u.domains) s.views id w r.good (r.good id v at) (λ j u n x. x);
+        good = views_set (λ j u. AllDomains (Good k r.log r.live r.pause r.tenancy s.words) u.domains) (λ j u. AllDomains (Good k r.log r.live r.pause r.tenancy s.words) u.domains) s.views id w r.good (r.good id v at) (λ j u n x. x);
       },
       record { seat = refl; legal = r.whole.legal; fronts = domains_map (IsSeated k r.log r.seat id) (Begins r.log) v.domains (λ x y. y.front) mine.domains },
     )

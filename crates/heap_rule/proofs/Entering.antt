@@ -27,7 +27,7 @@ use Rattle.heap_rule.specs.Views.{one}
 use Rattle.heap_rule.specs.Rule.{state_of, AllFound, Stood, Rule}
 use Rattle.heap_rule.specs.Standing.{Acts, Entered, with_front, with_registers}
 use Rattle.heap_rule.proofs.Values.{AllStand, holds}
-use Rattle.heap_rule.proofs.Keeps.{Words, mine, my_good, own, control_same, appends, legal_entry}
+use Rattle.heap_rule.proofs.Keeps.{Words, IsCommand, mine, my_good, own, control_same, appends, legal_entry, hunter_as}
 
 module _ (k : Config) (s : Words) (r : Rule k s) (id : ℕ) (hist : List Entry) (x : DomainView) (at : get_elem? s.views id ≡ some (one k hist x)) (acts : Acts k x) where
   abbrev now : model.State
@@ -38,7 +38,7 @@ module _ (k : Config) (s : Words) (r : Rule k s) (id : ℕ) (hist : List Entry) 
 
   -- a domain that acts runs on in the state after the whole history
   pub running : (domain_at now x.own.number).ended ≡ false
-  running = (own k s r id hist x at).ended ∙ acts
+  running = (own k s r id hist x at).ended ∙ acts.goes_on
 
   -- and is one of that state's
   pub inside_state : x.own.number < length now.domains
@@ -77,9 +77,12 @@ module _ (k : Config) (s : Words) (r : Rule k s) (id : ℕ) (hist : List Entry) 
   abbrev pub entered_view : Entry → List Value → DomainView
   entered_view e registers = with_front (with_registers x registers) (r.log ++ e ∷ [])
 
-  pub enters_rule : (e : Entry) (registers : List Value) (answer : Applied) → Enters e registers answer → Rule k record { words = s.words; homes = s.homes; views = set s.views id (one k hist (entered_view e registers)) }
-  enters_rule e registers answer o = let g = my_good k s r id hist x at in appends k s r id hist x at e (entered_view e registers) s.words r.live record {
+  pub enters_rule : (e : Entry) (registers : List Value) (answer : Applied) → Enters e registers answer → IsCommand e → Rule k record { words = s.words; homes = s.homes; views = set s.views id (one k hist (entered_view e registers)) }
+  enters_rule e registers answer o command = let g = my_good k s r id hist x at in appends k s r id hist x at e (entered_view e registers) s.words r.live record {
     alone = o.alone;
+    command = command;
+    runs = acts.runs;
+    stage = refl;
     allowed = o.allowed;
     calm = o.calm;
     number = refl;
@@ -95,6 +98,9 @@ module _ (k : Config) (s : Words) (r : Rule k s) (id : ℕ) (hist : List Entry) 
     prepared = record { fits = g.prepared.fits; written = g.prepared.written };
     areas = λ z _ h. h;
     prepares = λ z _ _ h. h;
+    grid = r.whole.grid;
+    hunter = hunter_as k r.tenancy s.words x (entered_view e registers) refl refl refl refl g.hunter;
+    hunters = λ z _ g. g.hunter;
   }
 
   pub enters : (graph : Graph) (e : Entry) (answer : Applied) (read : Value) (changes : List Change) → EntersTo graph e (changed read changes x.own.registers) answer → Entered k e answer read changes x (entered_view e (changed read changes x.own.registers))

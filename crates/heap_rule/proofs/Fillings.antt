@@ -60,7 +60,7 @@ module _ (k : Config) (limits : IsWithinLimits (sizes_in k)) (w0 w3 w7 : List �
     pub opens : colour ≡ 36 → HeadIs (PlainShape 16 0) head → label ≡ 0 → IsOpening k w7
     opens c h l = record {
       wide = fields.same_length ∙ long6;
-      phases = record { nothing_wanted = control 0 (omega arith) ∙ untouched 0 (λ e. omega arith) (λ e. omega arith); arrivals = control 1 (omega arith) ∙ untouched 1 (λ e. omega arith) (λ e. omega arith); runs = control 2 (omega arith) ∙ untouched 2 (λ e. omega arith) (λ e. omega arith) };
+      rested = record { nothing_wanted = control 0 (omega arith) ∙ untouched 0 (λ e. omega arith) (λ e. omega arith); arrivals = control 1 (omega arith) ∙ untouched 1 (λ e. omega arith) (λ e. omega arith); runs = control 2 (omega arith) ∙ untouched 2 (λ e. omega arith) (λ e. omega arith); nobody_ended = control 8 (omega arith) ∙ untouched 8 (λ e. omega arith) (λ e. omega arith) };
       pools = record {
         count = control 6 (omega arith) ∙ get_or-set_same (set w0 5 colour) 6 (P - 1) 0 (let r = room in let s = length-set w0 5 colour in omega arith);
         asked = control 7 (omega arith) ∙ untouched 7 (λ e. omega arith) (λ e. omega arith);
@@ -77,5 +77,13 @@ module _ (k : Config) (limits : IsWithinLimits (sizes_in k)) (w0 w3 w7 : List �
           ∙ (get_or-set_same (set w3 (11 + P) 4) at head 0 (let r = room in let s = length-set w3 (11 + P) 4 in let t = long3 in omega arith) ∙ h)));
       label = ap (λ j. get_or w7 j 0) (let e : 10 + 2 * P + 2 ≡ at + 1 = omega arith in e) ∙ (fields.below (at + 1) (omega arith)
           ∙ (get_or-set_same (set (set w3 (11 + P) 4) at head) (at + 1) label 0 (let r = room in let s = length-set (set w3 (11 + P) 4) at head in let t = length-set w3 (11 + P) 4 in let u = long3 in omega arith) ∙ l));
+      rest = λ a large.
+          let base : ℕ = 10 + 2 * P in
+          let at_base : at ≡ base + 1 = at_is in
+          fields.above (base + a) (omega arith)
+          ∙ (get_or-set_other (set (set w3 (11 + P) 4) at head) (at + 1) (base + a) label 0 (λ e. omega arith)
+          ∙ (get_or-set_other (set w3 (11 + P) 4) at (base + a) head 0 (λ e. omega arith)
+          ∙ (get_or-set_other w3 (11 + P) (base + a) 4 0 (λ e. omega arith)
+          ∙ (lists.above (base + a) (omega arith) ∙ untouched (base + a) (λ e. omega arith) (λ e. omega arith)))));
       fields = λ i below. ap (λ j. get_or w7 j 0) (let e : 10 + 2 * P + (3 + i) ≡ at + 2 + i = omega arith in e) ∙ fields.filled i below;
     }

@@ -1,5 +1,7 @@
 -- What all kinds of step share: what a domain knows at its seat, and that the rule holds again where the whole, the own domain and each other one meet it.
-use Rattle.std.proofs.Common.{◌≡◌, ◌≢◌, ℕ, ◌+◌, ◌<◌, ◌≤◌, false, List, [], ◌∷◌, ◌++◌, length, get_or, set, Some, sym, refl, ap, ◌∙◌, subst, arith, length-set, get_or-set_other, append_assoc}
+use Rattle.std.proofs.Common.{◌≡◌, ◌≢◌, ℕ, zero, suc, ◌+◌, ◌*◌, ◌<◌, ◌≤◌, false, List, [], ◌∷◌, ◌++◌, length, get_or, set, Some, sym, refl, ap, ◌∙◌, subst, arith, length-set, get_or-set_other, append_assoc, ◌⊎◌, Option}
+use mathlib.Core.Logic.{dite}
+use native.Mathlib.Decide.{ℕ_discrete}
 use mathlib.Core.Option.{some}
 use lib.ListN.{get_elem?}
 use lib.Seq.{set-get_or}
@@ -9,25 +11,33 @@ use Rattle.heap_model.specs.declared.graph.Value.TheVariants.{Int, Block, Nothin
 use Rattle.heap_words.specs.declared.value.Value as words
 use Rattle.heap_words.specs.declared.value.Value.TheVariants.{Int as IntWord, Ref, Nothing as NothingWord}
 use Rattle.heap_model.specs.declared.entry.Entry.{Entry}
+use Rattle.heap_model.specs.declared.entry.Entry.TheVariants.{Command as CommandOf}
+use Rattle.heap_model.specs.declared.state.DomainState.{DomainState}
 use Rattle.heap_model.specs.declared.state.State as model
-use Rattle.heap_model.specs.Domains.{register, opening}
+use Rattle.heap_model.specs.Domains.{domain_at, register, opening}
 use Rattle.heap_model.specs.Entries.{Allowed, next}
 use Rattle.heap_model.specs.History.{IsPrefix, Legal, is_entry_of}
 use Rattle.heap_model.specs.Fronts.{IsCalm, IsFrontOf, KeepsDomain}
 use Rattle.heap_model.proofs.HistoryLemmas.{legal_push, state_after-push}
-use Rattle.heap_model.proofs.FrameLemmas.{keeps_next}
+use Rattle.heap_model.proofs.FrameLemmas.{keeps_next, frame_command}
 use Rattle.heap_model.proofs.FrontLemmas.{front_whole, front_push, keeps_front}
 use Rattle.heap_rule.specs.declared.config.Config.{Config}
 use Rattle.heap_rule.specs.declared.view.DomainView.{DomainView}
+use Rattle.heap_rule.specs.declared.view.Hunt.{Hunt}
+use Rattle.heap_rule.specs.declared.view.Spot.{Spot}
 use Rattle.heap_rule.specs.declared.view.View.{View}
 use Rattle.heap_rule.specs.Limits.{sizes_in}
-use Rattle.heap_rule.specs.Layout.{before_heap}
+use Rattle.heap_rule.specs.Layout.{before_heap, barrier, plan, ended_word, listed, cursor, listed_pool, owner_of}
 use Rattle.heap_rule.specs.Places.{Place, Live, Stands, Placed}
 use Rattle.heap_rule.specs.Changes.{value_at}
 use Rattle.heap_rule.specs.Views.{EachView, AllDomains, IsSeated, Knows, one}
-use Rattle.heap_rule.specs.Rule.{state_of, AllFound, Stood, Area, Prepared, Good, Phases, Pools, NoCycle, Whole, Rule}
+use Rattle.heap_rule.specs.declared.phase.Kind.TheVariants.{Run, Promote, Reset}
+use Rattle.heap_rule.specs.declared.phase.Stage.{Stage}
+use Rattle.heap_rule.specs.declared.phase.Stage.TheVariants.{In, Leads, Led, Gone}
+use Rattle.heap_rule.specs.Phases.{Pause, Phases, sum_of, IsEven, IsOdd, AtStage, Staged, IsInPause, Still, Agree, flag, is_over}
+use Rattle.heap_rule.specs.Rule.{state_of, AllFound, Stood, Area, Prepared, Good, NoCycle, Whole, Rule}
+use Rattle.heap_rule.specs.Pools.{Tenancy, drawn, owned, Pools, Grid, Drawers, Hunts, Hunter, drawn_in, hunting_free, spot_at, IsBefore, limit_of}
 use Rattle.heap_rule.specs.Standing.{with_front}
-use Rattle.heap_rule.proofs.Sizes.{some_pool}
 use Rattle.heap_rule.proofs.Lists.{views_set, domains_map, domains_with}
 
 abbrev pub Words : Type 0
@@ -58,20 +68,119 @@ control_same k words i below = refl
 pub control_set : (k : Config) (words : List ℕ) (a new : ℕ) → 1 ≤ a → Control k words (set words (before_heap k + a) new)
 control_set k words a new low i below = get_or-set_other words (before_heap k + a) i new 0 (λ e. omega arith)
 
-pub phases_same : (k : Config) (words words' : List ℕ) → Control k words words' → Phases words → Phases words'
-phases_same k words words' c s = record { nothing_wanted = c 0 (omega arith) ∙ s.nothing_wanted; arrivals = c 1 (omega arith) ∙ s.arrivals; runs = c 2 (omega arith) ∙ s.runs }
-
-pub pools_same : (k : Config) (words words' : List ℕ) → 1 ≤ k.pools → Control k words words' → Pools k words → Pools k words'
-pools_same k words words' has c s = record {
-  count = c 6 (omega arith) ∙ s.count;
-  asked = c 7 (omega arith) ∙ s.asked;
-  list = λ i below. c (11 + i) (omega arith) ∙ s.list i below;
-  shared = c (11 + k.pools + 0) (omega arith) ∙ s.shared;
-  free = λ i low below. c (11 + k.pools + i) (omega arith) ∙ s.free i low below;
+pub phases_words : (k : Config) (t : Pause) (words words' : List ℕ) → barrier words' ≡ barrier words → plan words' ≡ plan words → Phases k t words → Phases k t words'
+phases_words k t words words' b c s = record {
+  sum = b ∙ s.sum;
+  begun = subst (λ (n : ℕ). t.phase * k.domains ≤ n) (sym b) s.begun;
+  unfinished = subst (λ (n : ℕ). n < (t.phase + 1) * k.domains) (sym b) s.unfinished;
+  each = s.each;
+  even_plan = λ j e. c ∙ s.even_plan j e;
+  next_plan = λ j e l. let p = s.next_plan j e l in (c ∙ p.0, p.1);
+  leader = s.leader;
 }
+
+pub phases_same : (k : Config) (t : Pause) (words words' : List ℕ) → Control k words words' → Phases k t words → Phases k t words'
+phases_same k t words words' c s = phases_words k t words words' (c 1 (omega arith)) (c 2 (omega arith)) s
+
+-- an entry of a domain that is a command
+abbrev pub IsCommand : Entry → Type 0
+IsCommand (CommandOf d c full) = Unit {0}
+IsCommand _ = ⊥
+
+-- a command ends no trace
+pub command_over : (s : model.State) (e : Entry) → IsCommand e → (d : ℕ) → is_over (next s e) d ≡ is_over s d
+command_over s (CommandOf j c full) is d = let f = frame_command s j c full in dite (ℕ_discrete d j)
+    (λ (same : d ≡ j). ap flag (ap (λ (n : ℕ). (domain_at (next s (CommandOf j c full)) n).ended) same ∙ (f.ended ∙ ap (λ (n : ℕ). (domain_at s n).ended) (sym same))))
+    (λ (other : d ≢ j). ap (λ (z : DomainState). flag z.ended) (f.elsewhere d other))
+command_over s _ is d = absurd is
+
+pub sum_same : (f g : ℕ → ℕ) (n : ℕ) → ((d : ℕ) → d < n → g d ≡ f d) → sum_of g n ≡ sum_of f n
+sum_same f g zero each = refl
+sum_same f g (suc n) each = let a = sum_same f g n (λ d h. each d (omega arith)) in let b = each n (omega arith) in λ i. a i + b i
+
+-- two domains that have not arrived are in phases of one kind, and none runs beside an odd phase
+half_same : (i j n : ℕ) → n ≡ i * 2 → n ≡ j * 2 → i ≡ j
+half_same i j n e f = omega arith
+
+odd_same : (i j n : ℕ) → n ≡ i * 2 + 1 → n ≡ j * 2 + 1 → i ≡ j
+odd_same i j n e f = omega arith
+
+pub not_both : (n : ℕ) → IsEven n → IsOdd n → ⊥
+not_both n a b = let i : ℕ = a.0 in let j : ℕ = b.0 in let e : n ≡ i * 2 = a.1 in let f : n ≡ j * 2 + 1 = b.1 in omega arith
+
+pub agree : (t : Pause) (d e a b : ℕ) (x y : Stage) → AtStage t d a x → AtStage t e b y → Agree x y
+agree t d e a b (In u) (In v) p q = sym p.1.2 ∙ (ap t.kinds (half_same p.1.0 q.1.0 t.phase p.1.1 q.1.1) ∙ q.1.2)
+agree t d e a b (In u) (Leads v) p q = not_both t.phase (p.1.0, p.1.1) (q.1.0, q.1.1)
+agree t d e a b (In u) (Led v) p q = not_both t.phase (p.1.0, p.1.1) q.1
+agree t d e a b (In u) (Gone v) p q = tt
+agree t d e a b (Leads u) (In v) p q = not_both t.phase (q.1.0, q.1.1) (p.1.0, p.1.1)
+agree t d e a b (Leads u) (Leads v) p q = sym p.1.2 ∙ (ap t.kinds (odd_same p.1.0 q.1.0 t.phase p.1.1 q.1.1) ∙ q.1.2)
+agree t d e a b (Leads u) (Led v) p q = tt
+agree t d e a b (Leads u) (Gone v) p q = tt
+agree t d e a b (Led u) (In v) p q = not_both t.phase (q.1.0, q.1.1) p.1
+agree t d e a b (Led u) (Leads v) p q = tt
+agree t d e a b (Led u) (Led v) p q = tt
+agree t d e a b (Led u) (Gone v) p q = tt
+agree t d e a b (Gone u) y p q = tt
+
+-- who runs excludes that anyone is in a phase of a pause
+run_alone : (y : Stage) → Agree (In Run) y → IsInPause y → ⊥
+run_alone (In Run) a p = p
+run_alone (In Promote) a p = let e : Run ≡ Promote = a in cc
+run_alone (In Reset) a p = let e : Run ≡ Reset = a in cc
+run_alone (Leads v) a p = a
+run_alone (Led v) a p = a
+run_alone (Gone v) a p = p
+
+pub nobody_paused : (t : Pause) (x z : DomainView) → x.seen.stage ≡ In Run → Staged t x → Staged t z → IsInPause z.seen.stage → ⊥
+nobody_paused t x z runs sx sz paused =
+    run_alone z.seen.stage (agree t x.own.number z.own.number x.own.arrivals z.own.arrivals (In Run) z.seen.stage (subst (AtStage t x.own.number x.own.arrivals) runs sx.stage) sz.stage) paused
+
+-- a domain stands where it stood
+pub staged_as : (t : Pause) (x y : DomainView) → y.own.number ≡ x.own.number → y.own.arrivals ≡ x.own.arrivals → y.seen.stage ≡ x.seen.stage → Staged t x → Staged t y
+staged_as t x y number arrivals stage s = record {
+  arrivals = arrivals ∙ (s.arrivals ∙ ap t.arrived (sym number));
+  stage = subst (λ (z : ℕ × ℕ × Stage). AtStage t z.0 z.1 z.2) (λ i. (sym number i, sym arrivals i, sym stage i)) s.stage;
+}
+
+pub run_still : (log : List Entry) (y : DomainView) → y.seen.stage ≡ In Run → Still log y
+run_still log y runs paused = absurd (subst IsInPause runs paused)
+
+-- the pools stand where their words do
+pub pools_words : (k : Config) (t : Tenancy) (words words' : List ℕ) → listed words' ≡ listed words → cursor words' ≡ cursor words → ((i : ℕ) → i < k.pools → listed_pool words' i ≡ listed_pool words i) → ((q : ℕ) → q < k.pools → owner_of k words' q ≡ owner_of k words q) → Pools k t words → Pools k t words'
+pools_words k t words words' counts asked list owner s =
+    let n : ℕ = listed words in
+    let n' : ℕ = listed words' in
+    let p : ℕ = k.pools in
+    let few : n ≤ p = s.few in
+    let same : n' ≡ n = counts in
+    let lower : (i : ℕ) → i < n' → i < n = (λ i h. let g : i < n' = h in omega arith) in
+    let names : (i : ℕ) → i < n → listed_pool words' i ≡ listed_pool words i = (λ i h. let g : i < n = h in list i (omega arith)) in record {
+      few = let e : n' ≤ p = omega arith in e;
+      inside = λ i h. subst (λ (q : ℕ). q < p) (sym (names i (lower i h))) (s.inside i (lower i h));
+      once = λ i j h g e. s.once i j (lower i h) (lower j g) (sym (names i (lower i h)) ∙ (e ∙ names j (lower j g)));
+      untaken = λ i h g. ap t.holder (names i (lower i h)) ∙ s.untaken i (lower i h) (subst (λ (m : ℕ × ℕ). (m.0 ≤ i) ⊎ (limit_of k m.1 ≤ i)) (λ j. (asked j, counts j)) g);
+      owners = λ q h. owner q h ∙ s.owners q h;
+      owned_by = s.owned_by;
+      drawn_by = s.drawn_by;
+      one_each = s.one_each;
+      asked = subst (λ (m : ℕ). m + sum_of t.asking k.domains ≤ k.pools + k.domains) (sym asked) s.asked;
+    }
+
+pub pools_same : (k : Config) (t : Tenancy) (words words' : List ℕ) → Control k words words' → Pools k t words → Pools k t words'
+pools_same k t words words' c s = pools_words k t words words' (c 6 (omega arith)) (c 7 (omega arith)) (λ i h. let g : i < k.pools = h in c (11 + i) (omega arith)) (λ q h. let g : q < k.pools = h in c (11 + k.pools + q) (omega arith)) s
 
 pub cycle_same : (k : Config) (words words' : List ℕ) → Control k words words' → NoCycle words → NoCycle words'
 cycle_same k words words' c s = record { armed_is = c 4 (omega arith) ∙ s.armed_is; colours_are = c 5 (omega arith) ∙ s.colours_are }
+
+-- what a domain knows of its pools, by other data of it
+pub hunter_as : (k : Config) (t : Tenancy) (words : List ℕ) (x y : DomainView) → y.own.number ≡ x.own.number → y.seen.hunt ≡ x.seen.hunt → y.own.looked ≡ x.own.looked → y.seen.free ≡ x.seen.free → Hunter k t words x → Hunter k t words y
+hunter_as k t words x y number hunt looked free h = record {
+  free = λ f e. h.free f (sym free ∙ e);
+  hunt = subst (λ (z : ℕ × Hunt). Hunts k t words z.0 z.1) (λ i. (sym number i, sym hunt i)) h.hunt;
+  drawn_alone = λ q e. ap drawn_in hunt ∙ h.drawn_alone q (e ∙ ap drawn number);
+  taken = λ q c slot e inside low. h.taken q c slot (e ∙ ap (λ (d : ℕ). owned d c) number) inside (subst (λ (l : List Spot). IsBefore q slot (spot_at l c)) looked low);
+}
 
 -- another domain's registers and serial stand for what they stood for
 pub stood_other : (live live' : Live) (s t : model.State) (x : DomainView) → KeepsDomain s t x.own.number → More live live' → Stood live s x → Stood live' t x
@@ -88,7 +197,7 @@ module _ (k : Config) (s : Words) (r : Rule k s) (id : ℕ) (hist : List Entry) 
   pub mine : IsSeated k r.log r.seat id x
   mine = ((r.views id (one k hist x) at).domains).0
 
-  pub my_good : Good k r.log r.live s.words x
+  pub my_good : Good k r.log r.live r.pause r.tenancy s.words x
   my_good = (r.good id (one k hist x) at).0
 
   -- what the own front tells of the own domain the history tells too
@@ -100,20 +209,22 @@ module _ (k : Config) (s : Words) (r : Rule k s) (id : ℕ) (hist : List Entry) 
   other_domain j y n see same = n (sym see.here ∙ (ap r.seat same ∙ mine.here))
 
   -- Any step of the domain: what the rule says of the whole, of the own domain, and of each other one
-  pub remakes : (y : DomainView) (log' : List Entry) (words' : List ℕ) (live' : Live) → Whole k log' live' words' → EachView (Knows k log' r.seat) (set s.views id (one k hist y)) → Good k log' live' words' y
-      → ((z : DomainView) → z.own.number < k.domains → z.own.number ≢ x.own.number → Good k r.log r.live s.words z → Good k log' live' words' z)
+  pub remakes : (y : DomainView) (log' : List Entry) (words' : List ℕ) (live' : Live) (pause' : Pause) (t' : Tenancy) → Whole k log' live' pause' t' words' → EachView (Knows k log' r.seat) (set s.views id (one k hist y)) → Good k log' live' pause' t' words' y
+      → ((z : DomainView) → z.own.number < k.domains → z.own.number ≢ x.own.number → Good k r.log r.live r.pause r.tenancy s.words z → Good k log' live' pause' t' words' z)
       → Rule k record { words = words'; homes = s.homes; views = set s.views id (one k hist y) }
-  remakes y log' words' live' whole knows own_good goods = record {
+  remakes y log' words' live' pause' t' whole knows own_good goods = let G : DomainView → Type 0 = Good k r.log r.live r.pause r.tenancy s.words in let G' : DomainView → Type 0 = Good k log' live' pause' t' words' in record {
     log = log';
     live = live';
+    pause = pause';
+    tenancy = t';
     seat = r.seat;
     limits = r.limits;
     whole = whole;
     seats = λ d. subst (λ (n : ℕ). r.seat d < n) (sym (length-set s.views id (one k hist y))) (r.seats d);
     views = knows;
-    good = views_set (λ j v. AllDomains (IsSeated k r.log r.seat j) v.domains × AllDomains (Good k r.log r.live s.words) v.domains) (λ j v. AllDomains (Good k log' live' words') v.domains)
+    good = views_set (λ j v. AllDomains (IsSeated k r.log r.seat j) v.domains × AllDomains G v.domains) (λ j v. AllDomains G' v.domains)
         s.views id (one k hist y) (λ j v f. ((r.views j v f).domains, r.good j v f)) (own_good, tt)
-        (λ j v n both. domains_with (IsSeated k r.log r.seat j) (Good k r.log r.live s.words) (Good k log' live' words') v.domains (λ z a b. goods z a.inside (other_domain j z n a) b) both.0 both.1);
+        (λ j v n both. domains_with (IsSeated k r.log r.seat j) G G' v.domains (λ z a b. goods z a.inside (other_domain j z n a) b) both.0 both.1);
   }
 
   -- the seats' fronts where no entry stands
@@ -175,6 +286,9 @@ module _ (k : Config) (s : Words) (r : Rule k s) (id : ℕ) (hist : List Entry) 
   -- What a step owes at which an own entry stands, whatever it does to the words
   pub record Appends (e : Entry) (y : DomainView) (words' : List ℕ) (live' : Live) : Type 0 where
     pub alone : (d : ℕ) → d ≢ x.own.number → is_entry_of d e ≡ false
+    pub command : IsCommand e
+    pub runs : x.seen.stage ≡ In Run
+    pub stage : y.seen.stage ≡ x.seen.stage
     pub allowed : Allowed now e
     pub calm : IsCalm (next now e)
     pub number : y.own.number ≡ x.own.number
@@ -190,38 +304,47 @@ module _ (k : Config) (s : Words) (r : Rule k s) (id : ℕ) (hist : List Entry) 
     pub prepared : Prepared k words' y
     pub areas : (z : DomainView) → z.own.number ≢ x.own.number → Area k r.live z → Area k live' z
     pub prepares : (z : DomainView) → z.own.number ≢ x.own.number → Area k r.live z → Prepared k s.words z → Prepared k words' z
-
-  has_pool : 1 ≤ k.pools
-  has_pool = some_pool k r.limits
+    pub grid : Grid k r.tenancy.holder live' words'
+    pub hunter : Hunter k r.tenancy words' y
+    pub hunters : (z : DomainView) → z.own.number ≢ x.own.number → Good k r.log r.live r.pause r.tenancy s.words z → Hunter k r.tenancy words' z
 
   pub appends : (e : Entry) (y : DomainView) (words' : List ℕ) (live' : Live) → Appends e y words' live' → Rule k record { words = words'; homes = s.homes; views = set s.views id (one k hist y) }
   appends e y words' live' o =
       let log' : List Entry = r.log ++ e ∷ [] in
       let after : state_of k log' ≡ next now e = after_entry e in
-      remakes y log' words' live'
+      remakes y log' words' live' r.pause r.tenancy
       record {
         wide = o.wide ∙ r.whole.wide;
         legal = legal_entry e o.allowed;
         calm = subst IsCalm (sym after) o.calm;
         found = subst (λ (t : model.State). AllFound k live' t.graph words') (sym after) o.found;
         placed = o.placed;
-        phases = phases_same k s.words words' o.control r.whole.phases;
-        pools = pools_same k s.words words' has_pool o.control r.whole.pools;
+        phases = phases_same k r.pause s.words words' o.control r.whole.phases;
+        endings = o.control 8 (omega arith) ∙ (r.whole.endings ∙ sym (ap (λ (t : model.State). sum_of (is_over t) k.domains) after ∙ sum_same (is_over now) (is_over (next now e)) k.domains (λ d _. command_over now e o.command d)));
+        pools = pools_same k r.tenancy s.words words' o.control r.whole.pools;
+        grid = o.grid;
+        drawers = r.whole.drawers;
         cycle = cycle_same k s.words words' o.control r.whole.cycle;
       }
       (knows_entry y e o.alone o.number o.front)
-      record { stood = subst (λ (t : model.State). Stood live' t y) (sym after) o.stood; area = o.area; prepared = o.prepared; idle = o.arrivals ∙ my_good.idle }
+      record { stood = subst (λ (t : model.State). Stood live' t y) (sym after) o.stood; area = o.area; prepared = o.prepared; staged = staged_as r.pause x y o.number o.arrivals o.stage my_good.staged; still = run_still log' y (o.stage ∙ o.runs); hunter = o.hunter; resting = λ n. absurd (n (o.stage ∙ o.runs)) }
       (λ z _ other g. record {
         stood = subst (λ (t : model.State). Stood live' t z) (sym after) (stood_other r.live live' now (next now e) z (keeps_next now e z.own.number (o.alone z.own.number other)) o.more g.stood);
         area = o.areas z other g.area;
         prepared = o.prepares z other g.area g.prepared;
-        idle = g.idle;
+        staged = g.staged;
+        still = λ paused. absurd (nobody_paused r.pause x z o.runs my_good.staged g.staged paused);
+        hunter = o.hunters z other g;
+        resting = g.resting;
       })
 
   -- What a step owes at which no entry stands and nothing comes to live or moves
   pub record Writes (y : DomainView) (words' : List ℕ) : Type 0 where
     pub number : y.own.number ≡ x.own.number
+    pub hunt : y.seen.hunt ≡ x.seen.hunt
     pub front : IsFrontOf x.own.number r.log y.seen.front
+    pub still : Still r.log y
+    pub stage : y.seen.stage ≡ x.seen.stage
     pub arrivals : y.own.arrivals ≡ x.own.arrivals
     pub wide : length words' ≡ length s.words
     pub control : Control k s.words words'
@@ -230,29 +353,38 @@ module _ (k : Config) (s : Words) (r : Rule k s) (id : ℕ) (hist : List Entry) 
     pub area : Area k r.live y
     pub prepared : Prepared k words' y
     pub prepares : (z : DomainView) → z.own.number ≢ x.own.number → Area k r.live z → Prepared k s.words z → Prepared k words' z
+    pub grid : Grid k r.tenancy.holder r.live words'
+    pub hunter : Hunter k r.tenancy words' y
+    pub hunters : (z : DomainView) → z.own.number ≢ x.own.number → Good k r.log r.live r.pause r.tenancy s.words z → Hunter k r.tenancy words' z
 
   pub writes : (y : DomainView) (words' : List ℕ) → Writes y words' → Rule k record { words = words'; homes = s.homes; views = set s.views id (one k hist y) }
   writes y words' o =
-      remakes y r.log words' r.live
+      remakes y r.log words' r.live r.pause r.tenancy
       record {
         wide = o.wide ∙ r.whole.wide;
         legal = r.whole.legal;
         calm = r.whole.calm;
         found = o.found;
         placed = r.whole.placed;
-        phases = phases_same k s.words words' o.control r.whole.phases;
-        pools = pools_same k s.words words' has_pool o.control r.whole.pools;
+        phases = phases_same k r.pause s.words words' o.control r.whole.phases;
+        endings = o.control 8 (omega arith) ∙ r.whole.endings;
+        pools = pools_same k r.tenancy s.words words' o.control r.whole.pools;
+        grid = o.grid;
+        drawers = r.whole.drawers;
         cycle = cycle_same k s.words words' o.control r.whole.cycle;
       }
       (knows_front y o.number o.front)
-      record { stood = o.stood; area = o.area; prepared = o.prepared; idle = o.arrivals ∙ my_good.idle }
-      (λ z _ other g. record { stood = g.stood; area = g.area; prepared = o.prepares z other g.area g.prepared; idle = g.idle })
+      record { stood = o.stood; area = o.area; prepared = o.prepared; staged = staged_as r.pause x y o.number o.arrivals o.stage my_good.staged; still = o.still; hunter = o.hunter; resting = λ n. o.hunt ∙ my_good.resting (λ e. n (o.stage ∙ e)) }
+      (λ z _ other g. record { stood = g.stood; area = g.area; prepared = o.prepares z other g.area g.prepared; staged = g.staged; still = g.still; hunter = o.hunters z other g; resting = g.resting })
 
   -- a step that leaves all but the front, which is then some front of the history
-  pub looks : (front : List Entry) → IsFrontOf x.own.number r.log front → Rule k record { words = s.words; homes = s.homes; views = set s.views id (one k hist (with_front x front)) }
-  looks front is = writes (with_front x front) s.words record {
+  pub looks : (front : List Entry) → IsFrontOf x.own.number r.log front → (IsInPause x.seen.stage → front ≡ r.log) → Rule k record { words = s.words; homes = s.homes; views = set s.views id (one k hist (with_front x front)) }
+  looks front is still = writes (with_front x front) s.words record {
     number = refl;
+    hunt = refl;
     front = is;
+    still = still;
+    stage = refl;
     arrivals = refl;
     wide = refl;
     control = control_same k s.words;
@@ -261,7 +393,54 @@ module _ (k : Config) (s : Words) (r : Rule k s) (id : ℕ) (hist : List Entry) 
     area = record { room = my_good.area.room; free = my_good.area.free };
     prepared = record { fits = my_good.prepared.fits; written = my_good.prepared.written };
     prepares = λ z _ _ p. p;
+    grid = r.whole.grid;
+    hunter = hunter_as k r.tenancy s.words x (with_front x front) refl refl refl refl my_good.hunter;
+    hunters = λ z _ g. g.hunter;
   }
+
+  -- What a step owes that changes the holders of pools or what the domain knows of them. No entry stands and nothing comes to live or moves
+  pub record Holds (looked : List Spot) (hunt : Hunt) (free : Option ℕ) (words' : List ℕ) (t' : Tenancy) : Type 0 where
+    pub runs : x.seen.stage ≡ In Run
+    pub wide : length words' ≡ length s.words
+    pub phases : Phases k r.pause words'
+    pub endings : ended_word words' ≡ ended_word s.words
+    pub cycle : NoCycle words'
+    pub found : AllFound k r.live now.graph words'
+    pub pools : Pools k t' words'
+    pub grid : Grid k t'.holder r.live words'
+    pub drawers : Drawers r.pause t'
+    pub prepares : (z : DomainView) → Prepared k s.words z → Prepared k words' z
+    pub hunter : Hunter k t' words' (hunting_free x looked hunt free)
+    pub hunters : (z : DomainView) → z.own.number ≢ x.own.number → Good k r.log r.live r.pause r.tenancy s.words z → Hunter k t' words' z
+
+  pub holds_again : (looked : List Spot) (hunt : Hunt) (free : Option ℕ) (words' : List ℕ) (t' : Tenancy) → Holds looked hunt free words' t' → Rule k record { words = words'; homes = s.homes; views = set s.views id (one k hist (hunting_free x looked hunt free)) }
+  holds_again looked hunt free words' t' o =
+      let own_prepared = o.prepares x my_good.prepared in
+      remakes (hunting_free x looked hunt free) r.log words' r.live r.pause t'
+      record {
+        wide = o.wide ∙ r.whole.wide;
+        legal = r.whole.legal;
+        calm = r.whole.calm;
+        found = o.found;
+        placed = r.whole.placed;
+        phases = o.phases;
+        endings = o.endings ∙ r.whole.endings;
+        pools = o.pools;
+        grid = o.grid;
+        drawers = o.drawers;
+        cycle = o.cycle;
+      }
+      (knows_front (hunting_free x looked hunt free) refl mine.front)
+      record {
+        stood = record { wide = my_good.stood.wide; each = my_good.stood.each; serial = my_good.stood.serial };
+        area = record { room = my_good.area.room; free = my_good.area.free };
+        prepared = record { fits = own_prepared.fits; written = own_prepared.written };
+        staged = record { arrivals = my_good.staged.arrivals; stage = my_good.staged.stage };
+        still = my_good.still;
+        hunter = o.hunter;
+        resting = λ n. absurd (n o.runs);
+      }
+      (λ z _ other g. record { stood = g.stood; area = g.area; prepared = o.prepares z g.prepared; staged = g.staged; still = g.still; hunter = o.hunters z other g; resting = g.resting })
 
 -- a load leaves the words as they were
 pub unmoved : (k : Config) (s : Words) (at : ℕ) (views : List View) → Rule k record { words = s.words; homes = s.homes; views = views }

@@ -35,7 +35,7 @@ use Rattle.heap_rule.specs.Rule.{state_of, Rule}
 use Rattle.heap_rule.specs.Standing.{Acts, IsAt, with_front}
 use Rattle.heap_rule.specs.Loads.{subject, place_of, HeadEntry, HeadMay, HeadTold, HeadCase, LabelMay, LabelTold, FieldLoadMay, FieldLoadEntry, FieldRead}
 use Rattle.heap_rule.proofs.Values.{AllStand, stand_set, not_nothing, packable, shows}
-use Rattle.heap_rule.proofs.Keeps.{after_entry, Words, mine, own, looks, unmoved}
+use Rattle.heap_rule.proofs.Keeps.{after_entry, Words, IsCommand, mine, my_good, own, looks, unmoved}
 use Rattle.heap_rule.proofs.Entering.{running, inside_state, registers_stand, Enters, entered_view, enters_rule, enters}
 use Rattle.heap_rule.proofs.Blocks.{Lives, lives_at, found_at, plain_at, plain_inside, field_at}
 
@@ -48,6 +48,11 @@ looks_at : (x : DomainView) (a : ℕ) (e : Entry) → HeadEntry x a e → IsAt x
 looks_at x a (Command d (Load dst src i) false) may = may.1
 looks_at x a (Command d (Store block i item) false) may = may.1
 looks_at x a _ may = absurd may
+
+head_command : (x : DomainView) (a : ℕ) (e : Entry) → HeadEntry x a e → IsCommand e
+head_command x a (Command d (Load dst src i) false) may = tt
+head_command x a (Command d (Store block i item) false) may = tt
+head_command x a _ may = absurd may
 
 module _ (k : Config) (s : Words) (r : Rule k s) (id : ℕ) (hist : List Entry) (x : DomainView) (at : get_elem? s.views id ≡ some (one k hist x)) (acts : Acts k x) where
   abbrev now : model.State
@@ -122,21 +127,21 @@ module _ (k : Config) (s : Words) (r : Rule k s) (id : ℕ) (hist : List Entry) 
     rule : Rule k record { words = s.words; homes = s.homes; views = set s.views id (one k hist after) }
     told : HeadCase k a e shape x after
 
-  refusal : (a : ℕ) (e : Entry) (shape : Shape) (answer : Rattle.heap_model.specs.declared.reply.Applied.Applied) → Enters k s r id hist x at acts e x.own.registers answer
+  refusal : (a : ℕ) (e : Entry) (shape : Shape) (answer : Rattle.heap_model.specs.declared.reply.Applied.Applied) → IsCommand e → Enters k s r id hist x at acts e x.own.registers answer
       → HeadCase k a e shape x (entered_view k s r id hist x at acts e x.own.registers) → HeadStep a e shape
-  refusal a e shape answer o told = record { after = entered_view k s r id hist x at acts e x.own.registers; rule = enters_rule k s r id hist x at acts e x.own.registers answer o; told = told }
+  refusal a e shape answer command o told = record { after = entered_view k s r id hist x at acts e x.own.registers; rule = enters_rule k s r id hist x at acts e x.own.registers answer o command; told = told }
 
   head_step : (a : ℕ) (e : Entry) → HeadEntry x a e → (shape : Shape) (b : Lives k s r id hist x at (subject e) a) → b.place.shape ≡ shape → HeadStep a e shape
   head_step a e may (EpheShape keys) b is =
-      let o = kind_entry a e may keys b is in refusal a e (EpheShape keys) (Replied BadType) o (enters k s r id hist x at acts now.graph e (Replied BadType) NothingWord [] o)
+      let o = kind_entry a e may keys b is in refusal a e (EpheShape keys) (Replied BadType) (head_command x a e may) o (enters k s r id hist x at acts now.graph e (Replied BadType) NothingWord [] o)
   head_step a e may (PlainShape n tag) b is = dite (dec_le n (place_of e))
-      (λ past. let o = past_entry a e may n tag b is past in refusal a e (PlainShape n tag) (Replied BadIndex) o record {
+      (λ past. let o = past_entry a e may n tag b is past in refusal a e (PlainShape n tag) (Replied BadIndex) (head_command x a e may) o record {
         below = λ below. absurd (let p : ℕ = place_of e in let h : p < n = below in let g : n ≤ p = past in omega arith);
         past = λ _. enters k s r id hist x at acts now.graph e (Replied BadIndex) NothingWord [] o;
       })
       (λ not_past. record {
         after = with_front x r.log;
-        rule = looks k s r id hist x at r.log (front_whole d r.log);
+        rule = looks k s r id hist x at r.log (front_whole d r.log) (λ _. refl);
         told = record {
           below = λ _. record {
             looked = record { seen = (mine k s r id hist x at).front; legal = r.whole.legal; view = refl };
@@ -181,7 +186,7 @@ labels k slots id word hist x a reg place may s r _ at _ =
       one k hist x,
       keeps,
       tt,
-      unmoved k s word (set s.views id (one k hist x)) (looks k s r id hist x at x.seen.front (mine k s r id hist x at).front),
+      unmoved k s word (set s.views id (one k hist x)) (looks k s r id hist x at x.seen.front (mine k s r id hist x at).front (my_good k s r id hist x at).still),
       (
         record {
           view = refl;
@@ -243,7 +248,7 @@ field_loads k slots id word hist x a dst src i changes place may s r _ at _ =
       one k hist y,
       keeps,
       tt,
-      unmoved k s word (set s.views id (one k hist y)) (enters_rule k s r id hist x at may.acts e regs (Replied (shown f.value)) o),
+      unmoved k s word (set s.views id (one k hist y)) (enters_rule k s r id hist x at may.acts e regs (Replied (shown f.value)) o tt),
       (
         record {
           value = f.stands.value;

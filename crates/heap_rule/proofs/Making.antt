@@ -42,11 +42,12 @@ use Rattle.heap_rule.specs.Places.{Place, Live, extent, head_of, HeadIs, Stands,
 use Rattle.heap_rule.specs.Changes.{value_at, changed, FitChanges}
 use Rattle.heap_rule.specs.Views.{one, Tells}
 use Rattle.heap_rule.specs.Rule.{state_of, AllFound, Stood, Area, Good, Rule}
+use Rattle.heap_rule.proofs.Lots.{Beside, area_beside, grid_beside, hunter_beside}
 use Rattle.heap_rule.specs.Inits.{class_words, fields_of, next_address, next_label, WordMay, WordTold, AllocMay, AllocEntry, AllocTold}
 use Rattle.heap_rule.proofs.Lists.{got_end, got_below}
 use Rattle.heap_rule.proofs.Sizes.{area_below, area_inside}
 use Rattle.heap_rule.proofs.Values.{AllStand, stand_set, holds}
-use Rattle.heap_rule.proofs.Keeps.{Words, More, stands_more, mine, my_good, control_set, appends, writes, legal_entry}
+use Rattle.heap_rule.proofs.Keeps.{Words, More, stands_more, mine, my_good, control_set, hunter_as, appends, writes, legal_entry}
 use Rattle.heap_rule.proofs.Entering.{running, inside_state, registers_stand}
 use Rattle.heap_rule.proofs.Beside.{found_beside, prepared_beside, area_word_far}
 use Rattle.heap_rule.proofs.Born.{live', born, more, old, is_new, placed_born}
@@ -79,9 +80,13 @@ inits k slots id word hist x a new changes place may s r _ at _ =
     let inside : base + minor ≤ heap_words k + 1 = area_inside k x.own.number (mine k s r id hist x at).inside in
     let wide : length s.words ≡ table_words k = r.whole.wide in
     let spot : before_heap k + a < length s.words = (let w : ℕ = heap_words k in let b : ℕ = before_heap k in let l : length s.words ≡ 1 + b + w = wide in let i : base + minor ≤ w + 1 = inside in omega arith) in
+    let beside : (d : ℕ) → Beside k r.tenancy s.words d a = area_beside k r.tenancy s.words a new r.whole.pools (let p : ℕ = x.own.number * minor in let e : k.pools * 4096 < a = omega arith in e) in
     let rule : Rule k record { words = ws; homes = s.homes; views = set s.views id (one k hist y) } = writes k s r id hist x at y ws record {
       number = refl;
+      hunt = refl;
       front = (mine k s r id hist x at).front;
+      still = λ p. g.still p;
+      stage = refl;
       arrivals = refl;
       wide = length-set s.words (before_heap k + a) new;
       control = control_set k s.words a new (omega arith);
@@ -96,6 +101,9 @@ inits k slots id word hist x a new changes place may s r _ at _ =
             (got_end x.seen.made new w j got);
       };
       prepares = λ z other _ p. prepared_beside k s.words a new z (area_word_far k x.own.number a z (let o : base ≤ a = omega arith in o) high other) p;
+      grid = grid_beside k r.tenancy s.words a new r.live r.live r.whole.pools beside (λ b q h. h) (λ b q h _. h) r.whole.grid;
+      hunter = hunter_as k r.tenancy ws x y refl refl refl refl (hunter_beside k r.tenancy s.words a new r.whole.pools x (beside x.own.number) g.hunter);
+      hunters = λ z _ g. hunter_beside k r.tenancy s.words a new r.whole.pools z (beside z.own.number) g.hunter;
     } in (
       one k hist y,
       keeps,
@@ -113,15 +121,15 @@ word_allows k slots id word m x a new changes is place may =
 pub class_fits : (words : ℕ) → words ≤ 128 → words ≤ class_words words
 class_fits words few = grind (arith, nat_tests)
 
-abbrev zero_word : ℕ
+abbrev pub zero_word : ℕ
 zero_word = 1
 
-zero_values : (n i : ℕ) (v : graph_value.Value) → slice_get (replicate n (Int (pos 0))) i ≡ Some v → (v ≡ Int (pos 0)) × (slice_get (replicate n zero_word) i ≡ Some zero_word)
+pub zero_values : (n i : ℕ) (v : graph_value.Value) → slice_get (replicate n (Int (pos 0))) i ≡ Some v → (v ≡ Int (pos 0)) × (slice_get (replicate n zero_word) i ≡ Some zero_word)
 zero_values zero i v e = cc
 zero_values (suc n) zero v e = (cc, refl)
 zero_values (suc n) (suc i) v e = zero_values n i v e
 
-all_more : (live live' : Live) (own : List Value) (theirs : List graph_value.Value) → More live live' → AllStand live own theirs → AllStand live' own theirs
+pub all_more : (live live' : Live) (own : List Value) (theirs : List graph_value.Value) → More live live' → AllStand live own theirs → AllStand live' own theirs
 all_more live live' own theirs grows a = record { wide = a.wide; long = a.long; each = λ r few. stands_more live live' (value_at own r) (get_or theirs r Nothing) grows (a.each r few) }
 
 module _ (k : Config) (s : Words) (r : Rule k s) (id : ℕ) (hist : List Entry) (x : DomainView) (at : get_elem? s.views id ≡ some (one k hist x)) (a new : ℕ) (changes : List Change) (dst tag n : ℕ)
@@ -144,7 +152,7 @@ module _ (k : Config) (s : Words) (r : Rule k s) (id : ℕ) (hist : List Entry) 
   abbrev e : Entry
   e = Command d (Alloc dst tag n) false
 
-  g : Good k r.log r.live s.words x
+  g : Good k r.log r.live r.pause r.tenancy s.words x
   g = my_good k s r id hist x at
 
   in_class : n + 2 ≤ class_words (n + 2)
@@ -234,8 +242,11 @@ module _ (k : Config) (s : Words) (r : Rule k s) (id : ℕ) (hist : List Entry) 
   abbrev after : DomainView
   after = record {
     own = record x.own { registers = regs; used = x.own.used + class_words (n + 2); serial = x.own.serial + 1 };
-    seen = record { front = r.log ++ e ∷ []; made = [] };
+    seen = record x.seen { front = r.log ++ e ∷ []; made = [] };
   }
+
+  beside : (m : ℕ) → Beside k r.tenancy s.words m A
+  beside = area_beside k r.tenancy s.words A new r.whole.pools (let p : ℕ = d * k.minor_words in let q : k.pools * 4096 < A = omega arith in q)
 
   abbrev theirs : List graph_value.Value
   theirs = (domain_at now d).registers
@@ -283,6 +294,9 @@ module _ (k : Config) (s : Words) (r : Rule k s) (id : ℕ) (hist : List Entry) 
   alloc_rule : Rule k record { words = ws; homes = s.homes; views = set s.views id (one k hist after) }
   alloc_rule = appends k s r id hist x at e after ws live1 record {
     alone = λ m other. ne_eqb d m (λ o. other (sym o));
+    command = tt;
+    runs = may.acts.runs;
+    stage = refl;
     allowed = record { running = running k s r id hist x at may.acts; fits = (r.whole.calm.mode, r.whole.calm.queues d); full_fits = tt };
     calm = calm_command now d (Alloc dst tag n) false r.whole.calm;
     number = refl;
@@ -298,6 +312,10 @@ module _ (k : Config) (s : Words) (r : Rule k s) (id : ℕ) (hist : List Entry) 
     prepared = record { fits = λ j w got. cc; written = λ j w got. cc };
     areas = areas1;
     prepares = λ z other _ p. prepared_beside k s.words A new z (area_word_far k d A z (omega arith) (let h = high in let base : ℕ = base_of k d in omega arith) other) p;
+    grid = grid_beside k r.tenancy s.words A new r.live live1 r.whole.pools beside grows
+        (λ b q lives low. old k r.live A born_place (omega arith) away r.whole.placed b q (λ same. let p : ℕ = d * k.minor_words in let l : b ≤ k.pools * 4096 = low in let h : b ≡ A = same in omega arith) lives) r.whole.grid;
+    hunter = hunter_as k r.tenancy ws x after refl refl refl refl (hunter_beside k r.tenancy s.words A new r.whole.pools x (beside d) g.hunter);
+    hunters = λ z _ g. hunter_beside k r.tenancy s.words A new r.whole.pools z (beside z.own.number) g.hunter;
   }
 
   alloc_told : AllocTold k e changes x after

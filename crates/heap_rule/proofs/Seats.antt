@@ -25,8 +25,8 @@ distinct_both seat m n apart (x ∷ xs) ys a b c d = (
 
 -- the rule with other seats
 reseated : (k : Config) (s : Words) (r : Rule k s) (seat : ℕ → ℕ) (views : List View) → ((d : ℕ) → seat d < length views) → EachView (Knows k r.log seat) views
-    → EachDomain (Good k r.log r.live s.words) views → Rule k record { words = s.words; homes = s.homes; views = views }
-reseated k s r seat views seats knows good = record { log = r.log; live = r.live; seat = seat; limits = r.limits; whole = r.whole; seats = seats; views = knows; good = good }
+    → EachDomain (Good k r.log r.live r.pause r.tenancy s.words) views → Rule k record { words = s.words; homes = s.homes; views = views }
+reseated k s r seat views seats knows good = record { log = r.log; live = r.live; pause = r.pause; tenancy = r.tenancy; seat = seat; limits = r.limits; whole = r.whole; seats = seats; views = knows; good = good }
 
 moved : (k : Config) (log : List Entry) (seat seat' : ℕ → ℕ) (j : ℕ) (v : View) → AllDomains (λ x. seat' x.own.number ≡ j) v.domains → Knows k log seat j v → Knows k log seat' j v
 moved k log seat seat' j v here see = record {
@@ -47,7 +47,7 @@ splits k id hist p ps s r at =
     let seat' : ℕ → ℕ = over p.own.number n r.seat in
     let know : Knows k r.log r.seat id v = r.views id v at in
     let mine : IsSeated k r.log r.seat id p = know.domains.0 in
-    let S : DomainView → Type 0 = Good k r.log r.live s.words in
+    let S : DomainView → Type 0 = Good k r.log r.live r.pause r.tenancy s.words in
     reseated k s r seat' (mid ++ right ∷ [])
     (λ d. dite (ℕ_discrete d p.own.number)
     (λ same. subst (λ (x : ℕ). x < length (mid ++ right ∷ [])) (sym (ap seat' same ∙ over_here p.own.number n r.seat)) (omega (arith, length-append mid (right ∷ []))))
@@ -82,7 +82,7 @@ joins k id v other w same_config s r at apart there' =
     let stays : (d : ℕ) → r.seat d ≢ other → seat' d ≡ r.seat d = λ d e. over_else other id (λ y. y) (r.seat d) e in
     let mine : Knows k r.log r.seat id v = r.views id v at in
     let its : Knows k r.log r.seat other w = r.views other w there in
-    let S : DomainView → Type 0 = Good k r.log r.live s.words in
+    let S : DomainView → Type 0 = Good k r.log r.live r.pause r.tenancy s.words in
     let len : length (set mid other spent) ≡ length s.views = length-set mid other spent ∙ length-set s.views id both in
     reseated k s r seat' (set mid other spent)
     (λ d. dite (ℕ_discrete (r.seat d) other)

@@ -1,5 +1,5 @@
 -- The table at the start meets the rule.
-use Rattle.std.proofs.Common.{◌≡◌, ◌≢◌, ℕ, zero, suc, ◌+◌, ◌*◌, ◌<◌, ◌≤◌, lit<, List, [], ◌∷◌, get_or, replicate, slice_get, pos, Option, Some, None, sym, refl, ap, ◌∙◌, subst, inl, arith, unwrap_or}
+use Rattle.std.proofs.Common.{◌≡◌, ◌≢◌, ℕ, zero, suc, ◌+◌, ◌*◌, ◌<◌, ◌≤◌, lit<, false, List, [], ◌∷◌, get_or, replicate, slice_get, pos, Option, Some, None, sym, refl, ap, ◌∙◌, subst, inl, arith, unwrap_or, ◌-◌, ◌⊎◌, inr, ⊎_elim}
 use Rattle.std.proofs.lemmas.Int.{ints}
 use mathlib.Core.Logic.{dite}
 use native.Mathlib.Decide.{ℕ_discrete}
@@ -15,13 +15,19 @@ use Rattle.heap_model.specs.Fronts.{PlainShape}
 use Rattle.heap_words.specs.declared.value.Value.TheVariants.{Int as IntWord, Ref, Nothing as NothingWord}
 use Rattle.heap_rule.specs.declared.config.Config.{Config}
 use Rattle.heap_rule.specs.declared.view.DomainView.{DomainView}
+use Rattle.heap_rule.specs.declared.view.Spot.{Spot}
 use Rattle.heap_rule.specs.declared.view.View.{View}
 use Rattle.heap_rule.specs.Limits.{sizes_in}
-use Rattle.heap_rule.specs.Layout.{heap_words}
+use Rattle.heap_rule.specs.Layout.{heap_words, at_address, listed_pool, owner_of, listed, cursor}
 use Rattle.heap_rule.specs.Places.{Place, Live, extent, Stands, Found, Fits, Placed}
 use Rattle.heap_rule.specs.Changes.{value_at}
+use Rattle.heap_rule.specs.declared.phase.Kind.TheVariants.{Run}
+use Rattle.heap_rule.specs.Phases.{Pause, sum_of, is_over, flag}
+use Rattle.heap_rule.proofs.Keeps.{sum_same}
 use Rattle.heap_rule.specs.Views.{EachView, AllDomains, Distinct, IsSeated, Knows, opening_view, opening_views, first_view}
 use Rattle.heap_rule.specs.Rule.{Stood, Area, Good, Whole, Rule}
+use Rattle.heap_rule.specs.Pools.{Holder, nobody, drawn, owned, owner_word, Tenancy, Pools, Lot, Grid, place_in, size_of, blocks_of, IsBefore}
+use Rattle.heap_rule.proofs.Lots.{owned_same}
 use Rattle.heap_rule.specs.Opening.{IsOpening}
 use Rattle.heap_rule.proofs.Update.{over, over_here, over_else}
 use Rattle.heap_rule.proofs.Sizes.{heap_large}
@@ -41,6 +47,55 @@ unfolding only
 only_at a p e = dite (ℕ_discrete a 1)
     (λ here. (here, ap (λ (o : Option Place). unwrap_or o shared_place) (sym (over_here 1 (Some shared_place) (λ _. None)) ∙ (ap (over 1 (Some shared_place) (λ _. None)) (sym here) ∙ e))))
     (λ other. absurd (let f : ◌≡◌ {A = Option Place} None (Some p) = sym (over_else 1 (Some shared_place) (λ _. None) a other) ∙ e in cc))
+
+-- domain 0 owns pool 0 for blocks of 32 words, and nobody has another
+first_holders : ℕ → Holder
+first_holders = over 0 (owned 0 3) (λ _. nobody)
+
+abbrev first_tenancy : Tenancy
+first_tenancy = record { holder = first_holders; asking = λ _. 0 }
+
+holder_first : first_holders 0 ≡ owned 0 3
+unfolding first_holders
+holder_first = over_here 0 (owned 0 3) (λ _. nobody)
+
+holder_else : (q : ℕ) → q ≢ 0 → first_holders q ≡ nobody
+unfolding first_holders
+holder_else q other = over_else 0 (owned 0 3) (λ _. nobody) q other
+
+no_owned : (d c : ℕ) → ◌≡◌ {A = Holder} nobody (owned d c) → ⊥
+no_owned d c e = cc
+
+no_drawn : (d : ℕ) → ◌≡◌ {A = Holder} nobody (drawn d) → ⊥
+no_drawn d e = cc
+
+owned_drawn : (a b d : ℕ) → ◌≡◌ {A = Holder} (owned a b) (drawn d) → ⊥
+owned_drawn a b d e = cc
+
+holder_at : (q d c : ℕ) → first_holders q ≡ owned d c → (q ≡ 0) × (0 ≡ d) × (3 ≡ c)
+holder_at q d c e = dite (ℕ_discrete q 0)
+    (λ same. let o = owned_same 0 d 3 c (sym holder_first ∙ (ap first_holders (sym same) ∙ e)) in (same, o.0, o.1))
+    (λ other. absurd (no_owned d c (sym (holder_else q other) ∙ e)))
+
+none_drawn : (q d : ℕ) → first_holders q ≡ drawn d → ⊥
+none_drawn q d e = dite (ℕ_discrete q 0)
+    (λ same. owned_drawn 0 3 d (sym holder_first ∙ (ap first_holders (sym same) ∙ e)))
+    (λ other. no_drawn d (sym (holder_else q other) ∙ e))
+
+sum_zero : (n : ℕ) → sum_of (λ _. 0) n ≡ 0
+sum_zero zero = refl
+sum_zero (suc n) = let e = sum_zero n in omega arith
+
+abbrev nowhere : Spot
+nowhere = record { pool = 0; slot = 0 }
+
+get_zero : (n c : ℕ) → get_or (replicate n nowhere) c nowhere ≡ nowhere
+get_zero zero c = refl
+get_zero (suc n) zero = refl
+get_zero (suc n) (suc c) = get_zero n c
+
+no_free : (f : ℕ) → ◌≡◌ {A = Option ℕ} None (Some f) → ⊥
+no_free f e = cc
 
 views_later : (P : DomainView → Type 0) (d n : ℕ) → ((i : ℕ) → d ≤ i → i < d + n → P (opening_view i)) → AllDomains P (opening_views d n)
 views_later P d zero f = tt
@@ -69,6 +124,10 @@ zero_field (suc n) (suc i) v e = let t = zero_field n i v e in (omega arith, t.1
 sole : (P : ℕ → View → Type 0) (v : View) → P 0 v → EachView P (v ∷ [])
 sole P v mine zero u e = subst (P 0) (some-injective v u e) mine
 sole P v mine (suc j) u e = absurd (some-ne-none u (sym e))
+
+-- all run, and none has arrived anywhere
+abbrev first_pause : Pause
+first_pause = record { arrived = λ _. 0; phase = 0; kinds = λ _. Run; led = false }
 
 module _ (k : Config) (limits : IsWithinLimits (sizes_in k)) (words : List ℕ) (opens : IsOpening k words) where
   abbrev s0 : model.State
@@ -121,15 +180,73 @@ module _ (k : Config) (limits : IsWithinLimits (sizes_in k)) (words : List ℕ) 
         inl (let g : a + z ≤ k.pools * 4096 + y + 1 + 0 = omega arith in g);
   }
 
-  whole : Whole k [] only words
+  first_pools : Pools k first_tenancy words
+  first_pools =
+      let p = opens.pools in
+      let n : ℕ = listed words in
+      let P : ℕ = k.pools in
+      let count : n ≡ P - 1 = p.count in
+      let some : 1 ≤ P = (let h = limits.some_pools in omega arith) in
+      let at : (i : ℕ) → i < n → listed_pool words i ≡ i + 1 = (λ i h. let g : i < n = h in p.list i (omega arith)) in record {
+        few = let e : n ≤ P = omega arith in e;
+        inside = λ i h. subst (λ (m : ℕ). m < P) (sym (at i h)) (let g : i < n = h in let e : i + 1 < P = omega arith in e);
+        once = λ i j h g e. let f : i + 1 ≡ j + 1 = sym (at i h) ∙ (e ∙ at j g) in omega arith;
+        untaken = λ i h g. ap first_holders (at i h) ∙ holder_else (i + 1) (λ e. omega arith);
+        owners = λ q h. dite (ℕ_discrete q 0)
+            (λ same. ap (owner_of k words) same ∙ (p.shared ∙ (sym (ap owner_word holder_first) ∙ ap (λ (m : ℕ). owner_word (first_holders m)) (sym same))))
+            (λ other. p.free q (let o : q ≢ 0 = other in omega arith) h ∙ sym (ap owner_word (holder_else q other)));
+        owned_by = λ q d c e. let o = holder_at q d c e in let a : q ≡ 0 = o.0 in let b : 0 ≡ d = o.1 in let f : 3 ≡ c = o.2 in ((let g : q < P = omega arith in g), (let l = limits.some_domain in let g : d < k.domains = omega arith in g), (let g : c < 6 = omega arith in g));
+        drawn_by = λ q d e. absurd (none_drawn q d e);
+        one_each = λ d. omega arith;
+        asked = let e : cursor words ≡ 0 = p.asked in let z : sum_of (λ _. 0) k.domains ≡ 0 = sum_zero k.domains in let c : ℕ = cursor words in let m : ℕ = sum_of (λ _. 0) k.domains in let y : c ≡ 0 = e in let x : m ≡ 0 = z in let g : c + m ≤ P + k.domains = omega arith in g;
+      }
+
+  large_places : (slot : ℕ) → 1 ≤ slot → 19 ≤ place_in 0 3 slot
+  unfolding size_of
+  large_places slot h = let g : 19 ≤ 0 * 4096 + slot * 32 + 1 = omega arith in g
+
+  shared_fits : 18 ≤ size_of 3
+  unfolding size_of
+  shared_fits = omega arith
+
+  shared_inside : 0 < blocks_of 3
+  unfolding size_of blocks_of
+  shared_inside = omega arith
+
+  first_place : place_in 0 3 0 ≡ 1
+  first_place = let z : ℕ = size_of 3 in let o : 0 * 4096 + 0 * z + 1 ≡ 1 = omega arith in o
+
+  first_grid : Grid k first_holders only words
+  first_grid = record {
+    lots = λ a p e low. let t = only_at a p e in subst (λ (x : ℕ × Place). Lot first_holders x.0 x.1) (λ i. (sym t.0 i, t.1 i))
+        record { pool = 0; domain = 0; class = 3; slot = 0; owned_is = holder_first; inside = shared_inside; begins = (let z : ℕ = size_of 3 in let o : 1 ≡ 0 * 4096 + 0 * z + 1 = omega arith in o); fits = shared_fits };
+    places = λ q d c slot e inside. let o = holder_at q d c e in
+        subst (λ (x : ℕ × ℕ). (at_address k words (place_in x.0 x.1 slot) ≡ 0) ⊎ ((p : Place) × (only (place_in x.0 x.1 slot) ≡ Some p))) (λ i. (sym o.0 i, o.2 i))
+        (dite (ℕ_discrete slot 0)
+        (λ same. inr (shared_place, ap only (ap (place_in 0 3) same ∙ first_place) ∙ only_is))
+        (λ other. inl (opens.rest (place_in 0 3 slot) (large_places slot (let n : slot ≢ 0 = other in omega arith)))));
+  }
+
+  whole : Whole k [] only first_pause first_tenancy words
   whole = record {
     wide = opens.wide;
     legal = tt;
     calm = record { mode = refl; queues = queues_empty k.domains };
     found = λ a p e. let t = only_at a p e in subst (λ (x : ℕ × Place). Found k only s0.graph words x.0 x.1) (λ i. (sym t.0 i, t.1 i)) found;
     placed = placed;
-    phases = opens.phases;
-    pools = opens.pools;
+    phases = record {
+      sum = opens.rested.arrivals ∙ sym (sum_zero k.domains);
+      begun = omega arith;
+      unfinished = subst (λ (b : ℕ). b < (0 + 1) * k.domains) (sym opens.rested.arrivals) (let some = limits.some_domain in omega arith);
+      each = λ d below. (omega arith, omega arith);
+      even_plan = λ j e. opens.rested.runs;
+      next_plan = λ j e l. absurd (let h : 0 ≡ j * 2 + 1 = e in omega arith);
+      leader = λ j e a. absurd (let h : 0 ≡ j * 2 + 1 = e in omega arith);
+    };
+    endings = opens.rested.nobody_ended ∙ sym (sum_same (λ _. 0) (is_over s0) k.domains (λ d below. ap (λ (x : DomainState). flag x.ended) (replicated k.domains d below)) ∙ sum_zero k.domains);
+    pools = first_pools;
+    grid = first_grid;
+    drawers = λ q d e. absurd (none_drawn q d e);
     cycle = opens.cycle;
   }
 
@@ -139,6 +256,8 @@ module _ (k : Config) (limits : IsWithinLimits (sizes_in k)) (words : List ℕ) 
       let v : View = record { config = k; history = []; domains = opening_views 0 k.domains } in record {
         log = [];
         live = only;
+        pause = first_pause;
+        tenancy = first_tenancy;
         seat = λ _. 0;
         limits = limits;
         whole = whole;
@@ -149,10 +268,18 @@ module _ (k : Config) (limits : IsWithinLimits (sizes_in k)) (words : List ℕ) 
           domains = views_later (IsSeated k [] (λ _. 0) 0) 0 k.domains (λ x a b. record { inside = omega arith; here = refl; front = record { rest = []; appends = refl; others = refl } });
           distinct = distinct_later 0 k.domains;
         };
-        good = sole (λ _ u. AllDomains (Good k [] only words) u.domains) v (views_later (Good k [] only words) 0 k.domains (λ x a b. record {
+        good = sole (λ _ u. AllDomains (Good k [] only first_pause first_tenancy words) u.domains) v (views_later (Good k [] only first_pause first_tenancy words) 0 k.domains (λ x a b. record {
           stood = stood x (omega arith);
           area = area x;
           prepared = record { fits = λ j w e. cc; written = λ j w e. cc };
-          idle = refl;
+          staged = record { arrivals = refl; stage = (refl, (0, refl, refl)) };
+          still = λ paused. absurd paused;
+          hunter = record {
+            hunt = tt;
+            free = λ f e. absurd (no_free f e);
+            drawn_alone = λ q e. absurd (none_drawn q x e);
+            taken = λ q c slot e inside low. absurd (⊎_elim (λ (h : q < 0). omega arith) (λ (h : (q ≡ 0) × (slot < 0)). let l = h.1 in omega arith) (subst (λ (m : Spot). IsBefore q slot m) (get_zero 6 c) low));
+          };
+          resting = λ n. refl;
         }));
       }

@@ -24,7 +24,7 @@ use Rattle.heap_rule.specs.declared.change.Change.{Change}
 use Rattle.heap_rule.specs.declared.config.Config.{Config}
 use Rattle.heap_rule.specs.declared.view.DomainView.{DomainView}
 use Rattle.heap_rule.specs.declared.view.View.{View}
-use Rattle.heap_rule.specs.Layout.{heap_words, table_words, before_heap}
+use Rattle.heap_rule.specs.Layout.{heap_words, table_words, before_heap, at_address}
 use Rattle.heap_rule.specs.Places.{Place, Live, extent, values_of, Stands, WordStands, Found, Placed}
 use Rattle.heap_rule.specs.Changes.{value_at, changed, FitChanges}
 use Rattle.heap_rule.specs.Views.{one, Tells}
@@ -33,7 +33,8 @@ use Rattle.heap_rule.specs.Standing.{Entered}
 use Rattle.heap_rule.specs.Stores.{FieldStoreMay, FieldStoreEntry}
 use Rattle.heap_rule.proofs.Lists.{got_set, got_below}
 use Rattle.heap_rule.proofs.Values.{AllStand, not_nothing}
-use Rattle.heap_rule.proofs.Keeps.{my_good, control_set, appends}
+use Rattle.heap_rule.proofs.Keeps.{my_good, control_set, hunter_as, appends}
+use Rattle.heap_rule.proofs.Lots.{Beside, head_full, live_beside, grid_beside, hunter_beside}
 use Rattle.heap_rule.proofs.Entering.{running, registers_stand, EntersTo, stood_after, entered_view, enters}
 use Rattle.heap_rule.proofs.Blocks.{field_at, some_same}
 use Rattle.heap_rule.proofs.Beside.{found_beside, prepared_beside, live_word_far}
@@ -125,6 +126,9 @@ field_stores k slots id word hist x a new block i item changes place may s r _ a
     let g = my_good k s r id hist x at in
     let low : 1 ≤ f.address = (r.whole.placed.fits f.address f.place f.lives).low in
     let inside : 2 + i < extent f.place.shape = stored_inside k r.live now.graph s.words f.address i new f.place f.tag f.fields v f.value r.whole.placed r.whole.wide f.lives r.whole.found f.node f.there stands in
+    let head : at_address k s.words f.address ≢ 0 = head_full k r.live now.graph s.words f.address f.place (r.whole.found f.address f.place f.lives) in
+    let beside : (m : ℕ) → Beside k r.tenancy s.words m (f.address + 2 + i) = (λ m. subst (Beside k r.tenancy s.words m) (let h : f.address + (2 + i) ≡ f.address + 2 + i = omega arith in h)
+    (live_beside k r.tenancy r.live s.words f.address (2 + i) f.place r.whole.pools r.whole.grid low f.lives (omega arith) inside head m)) in
     let far : (z : DomainView) → Area k r.live z → Prepared k s.words z → Prepared k words z =
     (λ z area prepared. prepared_beside k s.words (f.address + 2 + i) new z (λ j fits same. live_word_far k r.live f.address (2 + i) f.place z f.lives inside area j fits (same ∙ (let h : f.address + 2 + i ≡ f.address + (2 + i) = omega arith in h))) prepared) in
     let o : EntersTo k s r id hist x at may.acts graph e regs (Replied Done) = record {
@@ -137,6 +141,9 @@ field_stores k slots id word hist x a new block i item changes place may s r _ a
     } in
     let rule : Rule k record { words = words; homes = s.homes; views = set s.views id (one k hist y) } = appends k s r id hist x at e y words r.live record {
       alone = o.alone;
+      command = tt;
+      runs = may.acts.runs;
+      stage = refl;
       allowed = o.allowed;
       calm = o.calm;
       number = refl;
@@ -153,6 +160,9 @@ field_stores k slots id word hist x a new block i item changes place may s r _ a
       prepared = let p = far x g.area g.prepared in record { fits = p.fits; written = p.written };
       areas = λ z _ h. h;
       prepares = λ z _ area p. far z area p;
+      grid = grid_beside k r.tenancy s.words (f.address + 2 + i) new r.live r.live r.whole.pools beside (λ b q h. h) (λ b q h _. h) r.whole.grid;
+      hunter = hunter_as k r.tenancy words x y refl refl refl refl (hunter_beside k r.tenancy s.words (f.address + 2 + i) new r.whole.pools x (beside d) g.hunter);
+      hunters = λ z _ g. hunter_beside k r.tenancy s.words (f.address + 2 + i) new r.whole.pools z (beside z.own.number) g.hunter;
     } in
     let here : word ≡ before_heap k + (f.address + 2 + i) = place ∙ ap (λ (n : ℕ). before_heap k + n) (may.target.field ∙ ap (λ (n : ℕ). n + 2 + i) (sym t.1)) in (
       one k hist y,

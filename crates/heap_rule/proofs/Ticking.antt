@@ -1,13 +1,14 @@
 -- A tick keeps the rule.
-use Rattle.std.proofs.Common.{◌≡◌, ◌∙◌, ℕ, zero, suc, ◌<◌, true, false, ne_eqb, List, [], length, get_or, set, replicate, sym, refl, ap, subst, ⊎_elim}
+use Rattle.std.proofs.Common.{◌≡◌, ℕ, ◌<◌, true, false, ne_eqb, List, [], length, set, sym, refl, subst, ⊎_elim}
 use mathlib.Core.Option.{some}
 use lib.ListN.{get_elem?}
 use Rattle.atomic_table.specs.Table.{Me, keeps, Allows}
 use Rattle.heap_model.specs.declared.command.Command as model_command
-use Rattle.heap_model.specs.declared.command.Command.TheVariants.{PutInt, Copy, Forget, Alloc, AllocMaj, Load, Store, Ephe as NewEphe, Poll}
+use Rattle.heap_model.specs.declared.command.Command.TheVariants.{PutInt, Copy, Forget, Alloc, AllocMaj, Load, Store, Ephe as NewEphe, Poll, Minor}
 use Rattle.heap_model.specs.declared.entry.Entry.{Entry}
-use Rattle.heap_model.specs.declared.entry.Entry.TheVariants.{Command, End}
+use Rattle.heap_model.specs.declared.entry.Entry.TheVariants.{Command}
 use Rattle.heap_model.specs.declared.reply.Applied.TheVariants.{Replied}
+use Rattle.heap_model.specs.declared.reply.Reply.TheVariants.{Done}
 use Rattle.heap_model.specs.declared.graph.Value as model_value
 use Rattle.heap_model.specs.declared.graph.Value.TheVariants.{Int, Nothing}
 use Rattle.heap_model.specs.declared.state.Mode.TheVariants.{Open}
@@ -15,8 +16,8 @@ use Rattle.heap_model.specs.declared.state.State as model
 use Rattle.heap_model.specs.Domains.{domain_at, register}
 use Rattle.heap_model.specs.Commands.{FitsMode, is_allocation}
 use Rattle.heap_model.specs.Fronts.{IsCalm}
-use Rattle.heap_model.proofs.FrameLemmas.{calm_command, calm_end}
-use Rattle.heap_model.proofs.LeavesLemmas.{leaves_put, leaves_copy, leaves_forget, leaves_poll, leaves_full, leaves_end, leaves_load_type, leaves_store_type, leaves_store_nothing}
+use Rattle.heap_model.proofs.FrameLemmas.{calm_command}
+use Rattle.heap_model.proofs.LeavesLemmas.{leaves_put, leaves_copy, leaves_forget, Leaves, leaves_poll, leaves_full, leaves_load_type, leaves_store_type, leaves_store_nothing}
 use Rattle.heap_words.specs.declared.value.Value.{Value}
 use Rattle.heap_words.specs.declared.value.Value.TheVariants.{Int as IntWord, Nothing as NothingWord}
 use Rattle.heap_rule.specs.declared.change.Change.{Change}
@@ -30,7 +31,7 @@ use Rattle.heap_rule.specs.Rule.{state_of, Rule}
 use Rattle.heap_rule.specs.Standing.{Acts}
 use Rattle.heap_rule.specs.Ticks.{IsNoBlock, TickCommand, TickEntry, TickMay, command_answer, tick_answer, TickTold}
 use Rattle.heap_rule.proofs.Values.{AllStand, stand_set, no_label, stands_nothing}
-use Rattle.heap_rule.proofs.Keeps.{Words, unmoved}
+use Rattle.heap_rule.proofs.Keeps.{Words, IsCommand, unmoved}
 use Rattle.heap_rule.proofs.Entering.{running, inside_state, registers_stand, Enters, entered_view, enters_rule, enters}
 
 -- the mode and the queue fit an allocation
@@ -39,6 +40,10 @@ fits_allocation s d (Alloc dst tag fields) is mode queue = (mode, queue)
 fits_allocation s d (AllocMaj dst tag fields) is mode queue = (mode, queue)
 fits_allocation s d (NewEphe dst keys) is mode queue = (mode, queue)
 fits_allocation s d _ is mode queue = absurd (let clash : false ≡ true = is in cc)
+
+-- `minor` leaves and answers what `poll` does
+leaves_minor : (s : model.State) (d : ℕ) → Leaves s (Command d Minor false) d s.graph (domain_at s d).registers (domain_at s d).serial (Replied Done)
+leaves_minor s d = let p = leaves_poll s d in record { graph_is = p.graph_is; registers_are = p.registers_are; serial_is = p.serial_is; replies = p.replies }
 
 module _ (k : Config) (s : Words) (r : Rule k s) (id : ℕ) (hist : List Entry) (x : DomainView) (at : get_elem? s.views id ≡ some (one k hist x)) (acts : Acts k x) (changes : List Change) where
   abbrev now : model.State
@@ -98,6 +103,14 @@ module _ (k : Config) (s : Words) (r : Rule k s) (id : ℕ) (hist : List Entry) 
     stand = subst (λ (l : List Value). AllStand r.live l theirs) (sym may) stand;
     leaves = leaves_poll now d;
   }
+  commands Minor may = record {
+    alone = λ j other. ne_eqb d j (λ e. other (sym e));
+    allowed = record { running = running k s r id hist x at acts; fits = (calm.mode, calm.queues d); full_fits = tt };
+    calm = calm_command now d Minor false calm;
+    theirs = theirs;
+    stand = subst (λ (l : List Value). AllStand r.live l theirs) (sym may) stand;
+    leaves = leaves_minor now d;
+  }
   commands (Load dst src i) may = record {
     alone = λ j other. ne_eqb d j (λ e. other (sym e));
     allowed = record { running = running k s r id hist x at acts; fits = (calm.mode, calm.queues d); full_fits = tt };
@@ -129,36 +142,26 @@ module _ (k : Config) (s : Words) (r : Rule k s) (id : ℕ) (hist : List Entry) 
     stand = subst (λ (l : List Value). AllStand r.live l theirs) (sym may.2) stand;
     leaves = leaves_full now d c;
   }
-  entries (End j) may = subst (λ (n : ℕ). Enters k s r id hist x at acts (End n) regs (tick_answer (End n))) (sym may.0) record {
-    alone = λ i other. ne_eqb d i (λ e. other (sym e));
-    allowed = record { mode = calm.mode; running = running k s r id hist x at acts; queue = calm.queues d };
-    calm = calm_end now d calm;
-    theirs = replicate (length theirs) Nothing;
-    stand = subst (λ (l : List Value). AllStand r.live l (replicate (length theirs) Nothing)) (sym may.1) (nothings (length theirs) stand.long);
-    leaves = leaves_end now d inside;
-  } where
-    nothing : (n q : ℕ) → Stands r.live (value_at (replicate n NothingWord) q) (get_or (replicate n Nothing) q Nothing)
-    nothing zero q = tt
-    nothing (suc n) zero = tt
-    nothing (suc n) (suc q) = nothing n q
-
-    nothings : (n : ℕ) → n ≡ 16 → AllStand r.live (replicate 16 NothingWord) (replicate n Nothing)
-    nothings n e = subst (λ (m : ℕ). AllStand r.live (replicate 16 NothingWord) (replicate m Nothing)) (sym e) record { wide = refl; long = refl; each = λ q few. nothing 16 q }
   entries _ may = absurd may
 
-ticks : (k : Config) (slots id word : ℕ) (hist : List Entry) (x : DomainView) (e : Entry) (changes : List Change) → word ≡ 0 → TickMay k x changes e
+tick_command : (x : DomainView) (changes : List Change) (e : Entry) → TickEntry x changes e → IsCommand e
+tick_command x changes (Command j c false) may = tt
+tick_command x changes (Command j c true) may = tt
+tick_command x changes _ may = absurd may
+
+ticks : (k : Config) (slots id word : ℕ) (hist : List Entry) (x : DomainView) (e : Entry) (changes : List Change) → TickMay k x changes e
     → Allows (Rule k) slots id (one k hist x, []) word (λ n. n) (Tells (TickTold k e changes) (one k hist x, []))
-ticks k slots id word hist x e changes first may s r _ at _ =
+ticks k slots id word hist x e changes may s r _ at _ =
     let o = entries k s r id hist x at may.acts changes e may.entry in
     let regs : List Value = changed NothingWord changes x.own.registers in (
       one k hist (entered_view k s r id hist x at may.acts e regs),
       keeps,
       tt,
-      unmoved k s word (set s.views id (one k hist (entered_view k s r id hist x at may.acts e regs))) (enters_rule k s r id hist x at may.acts e regs (tick_answer e) o),
-      ((enters k s r id hist x at may.acts (state_of k r.log).graph e (tick_answer e) NothingWord changes o, ap (λ (i : ℕ). get_or s.words i 0) first ∙ r.whole.phases.nothing_wanted), refl),
+      unmoved k s word (set s.views id (one k hist (entered_view k s r id hist x at may.acts e regs))) (enters_rule k s r id hist x at may.acts e regs (tick_answer e) o (tick_command x changes e may.entry)),
+      (enters k s r id hist x at may.acts (state_of k r.log).graph e (tick_answer e) NothingWord changes o, refl),
     )
 
-pub tick_allows : (k : Config) (slots id word : ℕ) (m : Me (Unit {0}) View) (x : DomainView) (e : Entry) (changes : List Change) → m ≡ (one k m.0.history x, []) → word ≡ 0 → TickMay k x changes e
+pub tick_allows : (k : Config) (slots id word : ℕ) (m : Me (Unit {0}) View) (x : DomainView) (e : Entry) (changes : List Change) → m ≡ (one k m.0.history x, []) → TickMay k x changes e
     → Allows (Rule k) slots id m word (λ n. n) (Tells (TickTold k e changes) m)
-tick_allows k slots id word m x e changes is first may =
-    subst (λ (n : Me (Unit {0}) View). Allows (Rule k) slots id n word (λ a. a) (Tells (TickTold k e changes) n)) (sym is) (ticks k slots id word m.0.history x e changes first may)
+tick_allows k slots id word m x e changes is may =
+    subst (λ (n : Me (Unit {0}) View). Allows (Rule k) slots id n word (λ a. a) (Tells (TickTold k e changes) n)) (sym is) (ticks k slots id word m.0.history x e changes may)

@@ -86,7 +86,7 @@ pub record AllocTold (k : Config) (e : Entry) (changes : List Change) (x y : Dom
   pub answers : Answers (sizes_in k) x.own.number x.seen.front y.seen.front e (Replied (Block (next_label x)))
   pub view : y ≡ record {
     own = record x.own { registers = changed Nothing changes x.own.registers; used = x.own.used + class_words (fields_of e + 2); serial = x.own.serial + 1 };
-    seen = record { front = y.seen.front; made = [] };
+    seen = record x.seen { front = y.seen.front; made = [] };
   }
   pub holds : Holds k y.own.registers
 

@@ -40,6 +40,10 @@ barrier words = slice_index words 1
 abbrev pub plan : List ℕ → ℕ
 plan words = slice_index words 2
 
+-- how many traces have ended
+abbrev pub ended_word : List ℕ → ℕ
+ended_word words = slice_index words 8
+
 -- whether a collection is under way, and the meanings of the colours
 abbrev pub armed : List ℕ → ℕ
 armed words = slice_index words 4

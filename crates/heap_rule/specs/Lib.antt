@@ -4,7 +4,10 @@ pub mod Places
 pub mod Changes
 pub mod Items
 pub mod Views
+pub mod Phases
+pub mod Pools
 pub mod Rule
+pub mod Meeting
 pub mod Token
 pub mod Opening
 pub mod Ending
@@ -13,4 +16,6 @@ pub mod Ticks
 pub mod Loads
 pub mod Stores
 pub mod Inits
+pub mod Pauses
+pub mod Takes
 pub mod Running

@@ -1,23 +1,32 @@
 -- A heap at its start: the words of its table, and the tokens of its domains.
-use Rattle.std.specs.Prelude.{◌≡◌, ℕ, zero, suc, ◌+◌, ◌<◌, ◌≤◌, List, [], ◌∷◌, length, slice_index}
+use Rattle.std.specs.Prelude.{◌≡◌, ℕ, zero, suc, ◌+◌, ◌-◌, ◌<◌, ◌≤◌, List, [], ◌∷◌, length, slice_index}
 use Rattle.atomic_table.specs.Seated.{TableId}
 use Rattle.heap_model.specs.Fronts.{PlainShape}
 use Rattle.heap_rule.specs.declared.config.Config.{Config}
-use Rattle.heap_rule.specs.Layout.{table_words, at_address}
+use Rattle.heap_rule.specs.Layout.{table_words, at_address, listed_pool, owner_of, listed, cursor}
 use Rattle.heap_rule.specs.Places.{HeadIs}
-use Rattle.heap_rule.specs.Rule.{Phases, Pools, NoCycle}
+use Rattle.heap_rule.specs.Rule.{Rested, NoCycle}
 use Rattle.heap_rule.specs.Token.{Token}
 use Rattle.heap_rule.specs.Views.{opening_view}
+
+-- all pools but the shared block's are listed and free, and none was asked for
+pub record AllListed (k : Config) (words : List ℕ) : Type 0 where
+  pub count : listed words ≡ k.pools - 1
+  pub asked : cursor words ≡ 0
+  pub list : (i : ℕ) → i < k.pools - 1 → listed_pool words i ≡ i + 1
+  pub shared : owner_of k words 0 ≡ 4
+  pub free : (i : ℕ) → 1 ≤ i → i < k.pools → owner_of k words i ≡ 0
 
 -- the words at the start: the control words, and at the address 1 the shared block of 16 fields, each the integer 0
 pub record IsOpening (k : Config) (words : List ℕ) : Type 0 where
   pub wide : length words ≡ table_words k
-  pub phases : Phases words
-  pub pools : Pools k words
+  pub rested : Rested words
+  pub pools : AllListed k words
   pub cycle : NoCycle words
   pub head : HeadIs (PlainShape 16 0) (at_address k words 1)
   pub label : at_address k words 2 ≡ 0
   pub fields : (i : ℕ) → i < 16 → at_address k words (3 + i) ≡ 1
+  pub rest : (a : ℕ) → 19 ≤ a → at_address k words a ≡ 0
 
 -- so many words from an index on are given by their place, and the others stay
 pub record Fills (old new : List ℕ) (from count : ℕ) (f : ℕ → ℕ) : Type 0 where

@@ -1,5 +1,5 @@
 -- The rule of the table: what holds between any two steps. Each part speaks only of what it names. docs/RULE.md explains it.
-use Rattle.std.specs.Prelude.{◌≡◌, ℕ, ◌+◌, ◌-◌, ◌<◌, ◌≤◌, ◌⊎◌, List, length, slice_get, Some}
+use Rattle.std.specs.Prelude.{◌≡◌, ℕ, ◌+◌, ◌<◌, ◌≤◌, ◌⊎◌, List, length, slice_get, Some}
 use Rattle.atomic_table.specs.Table.{State}
 use Rattle.heap_model.specs.declared.entry.Entry.{Entry}
 use Rattle.heap_model.specs.declared.state.State as model
@@ -11,9 +11,11 @@ use Rattle.heap_rule.specs.declared.config.Config.{Config}
 use Rattle.heap_rule.specs.declared.view.DomainView.{DomainView}
 use Rattle.heap_rule.specs.declared.view.View.{View}
 use Rattle.heap_rule.specs.Limits.{sizes_in}
-use Rattle.heap_rule.specs.Layout.{table_words, base_of, at_address, listed_pool, owner_of, want, barrier, plan, armed, colours, listed, cursor}
+use Rattle.heap_rule.specs.Layout.{table_words, base_of, at_address, barrier, plan, want, ended_word, armed, colours}
 use Rattle.heap_rule.specs.Places.{Place, Live, extent, Stands, Found, Placed}
+use Rattle.heap_rule.specs.Pools.{Tenancy, Pools, Grid, Drawers, Resting, Hunter}
 use Rattle.heap_rule.specs.Changes.{value_at}
+use Rattle.heap_rule.specs.Phases.{Pause, Phases, Staged, Still, CountsEnded}
 use Rattle.heap_rule.specs.Views.{EachView, EachDomain, Knows}
 
 -- the state that a history of this heap leaves
@@ -41,25 +43,21 @@ pub record Prepared (k : Config) (words : List ℕ) (x : DomainView) : Type 0 wh
   pub written : (j w : ℕ) → slice_get x.seen.made j ≡ Some w → at_address k words (base_of k x.own.number + x.own.used + 1 + j) ≡ w
 
 -- all that the rule says of one domain
-pub record Good (k : Config) (log : List Entry) (live : Live) (words : List ℕ) (x : DomainView) : Type 0 where
+pub record Good (k : Config) (log : List Entry) (live : Live) (p : Pause) (t : Tenancy) (words : List ℕ) (x : DomainView) : Type 0 where
   pub stood : Stood live (state_of k log) x
   pub area : Area k live x
   pub prepared : Prepared k words x
-  pub idle : x.own.arrivals ≡ 0
+  pub staged : Staged p x
+  pub still : Still log x
+  pub hunter : Hunter k t words x
+  pub resting : Resting x
 
--- Phases: no domain asks for a collection and none has arrived anywhere, so the phase is the first, in which all run
-pub record Phases (words : List ℕ) : Type 0 where
+-- at the start no domain asks for a collection, none has arrived anywhere, and no trace has ended
+pub record Rested (words : List ℕ) : Type 0 where
   pub nothing_wanted : want words ≡ 0
   pub arrivals : barrier words ≡ 0
   pub runs : plan words ≡ 0
-
--- Pools: all but the shared block's are listed and free, and none was asked for
-pub record Pools (k : Config) (words : List ℕ) : Type 0 where
-  pub count : listed words ≡ k.pools - 1
-  pub asked : cursor words ≡ 0
-  pub list : (i : ℕ) → i < k.pools - 1 → listed_pool words i ≡ i + 1
-  pub shared : owner_of k words 0 ≡ 4
-  pub free : (i : ℕ) → 1 ≤ i → i < k.pools → owner_of k words i ≡ 0
+  pub nobody_ended : ended_word words ≡ 0
 
 -- no cycle is under way, and the colours are those of the start: 0 marked, 1 unmarked, 2 garbage
 pub record NoCycle (words : List ℕ) : Type 0 where
@@ -67,23 +65,28 @@ pub record NoCycle (words : List ℕ) : Type 0 where
   pub colours_are : colours words ≡ 36
 
 -- all that the rule says of the history, the places and the words, whoever looks
-pub record Whole (k : Config) (log : List Entry) (live : Live) (words : List ℕ) : Type 0 where
+pub record Whole (k : Config) (log : List Entry) (live : Live) (p : Pause) (t : Tenancy) (words : List ℕ) : Type 0 where
   pub wide : length words ≡ table_words k
   pub legal : Legal (sizes_in k) log
   pub calm : IsCalm (state_of k log)
   pub found : AllFound k live (state_of k log).graph words
   pub placed : Placed k live
-  pub phases : Phases words
-  pub pools : Pools k words
+  pub phases : Phases k p words
+  pub endings : CountsEnded k (state_of k log) words
+  pub pools : Pools k t words
+  pub grid : Grid k t.holder live words
+  pub drawers : Drawers p t
   pub cycle : NoCycle words
 
--- the rule: there are a history, places of blocks and a seat for each domain of which all these parts hold
+-- the rule: there are a history, places of blocks, holders of pools and a seat for each domain of which all these parts hold
 pub record Rule (k : Config) (s : State (Unit {0}) View) : Type 0 where
   pub log : List Entry
   pub live : Live
+  pub pause : Pause
+  pub tenancy : Tenancy
   pub seat : ℕ → ℕ
   pub limits : IsWithinLimits (sizes_in k)
-  pub whole : Whole k log live s.words
+  pub whole : Whole k log live pause tenancy s.words
   pub seats : (d : ℕ) → seat d < length s.views
   pub views : EachView (Knows k log seat) s.views
-  pub good : EachDomain (Good k log live s.words) s.views
+  pub good : EachDomain (Good k log live pause tenancy s.words) s.views

@@ -6,6 +6,8 @@ use Rattle.heap_model.specs.declared.entry.Entry.TheVariants.{Command as Command
 use Rattle.heap_model.specs.declared.reply.Reply.{Reply}
 use Rattle.heap_model.specs.declared.reply.Applied.TheVariants.{Replied}
 use Rattle.heap_model.specs.Fronts.{Answers}
+use Rattle.heap_rule.specs.declared.view.DomainView.{DomainView}
+use Rattle.heap_rule.specs.declared.view.Hunt.TheVariants.{Rests}
 use Rattle.heap_rule.specs.Limits.{sizes_in}
 use Rattle.heap_rule.specs.Standing.{Acts}
 use Rattle.heap_rule.specs.Token.{Token, SharedHeap, IsIn}
@@ -14,17 +16,25 @@ use Rattle.heap_rule.specs.Token.{Token, SharedHeap, IsIn}
 abbrev pub own_entry : Token → Command → Entry
 own_entry t c = CommandOf t.view.own.number c false
 
--- the token is one of the heap's, its trace hasn't ended, and no block is being made
+-- the token is one of the heap's, its trace hasn't ended, no block is being made, and none of the pools is being taken
 pub record Runs (h : SharedHeap) (t : Token) : Type 0 where
   pub here : IsIn t h
   pub acts : Acts t.config t.view
   pub idle : t.view.seen.made ≡ []
+  pub at_rest : t.view.seen.hunt ≡ Rests
+
+-- the domain stands where it stood, and has noted nothing
+pub record Stays (x y : DomainView) : Type 0 where
+  pub arrivals : y.own.arrivals ≡ x.own.arrivals
+  pub stage : y.seen.stage ≡ x.seen.stage
+  pub notes : y.seen.notes ≡ x.seen.notes
 
 -- a call that makes the entry of a command: the domain runs on, its front has grown by entries of others and then by this one, and the reply is the definition's
 pub record Did (h : SharedHeap) (old new : Token) (c : Command) (r : Reply) : Type 0 where
   pub runs : Runs h new
   pub answers : Answers (sizes_in old.config) old.view.own.number old.view.seen.front new.view.seen.front (own_entry old c) (Replied r)
   pub heap : (new.table ≡ old.table) × (new.config ≡ old.config)
+  pub stays : Stays old.view new.view
 
 -- what the domain owns is as before, but for its registers
 pub record ChangesRegisters (old new : Token) : Type 0 where

@@ -12,6 +12,8 @@ use Rattle.heap_rule.specs.declared.config.Config.{Config}
 use Rattle.heap_rule.specs.declared.view.DomainView.{DomainView}
 use Rattle.heap_rule.specs.Limits.{sizes_in}
 use Rattle.heap_rule.specs.Layout.{heap_words}
+use Rattle.heap_rule.specs.declared.phase.Kind.TheVariants.{Run}
+use Rattle.heap_rule.specs.declared.phase.Stage.TheVariants.{In}
 use Rattle.heap_rule.specs.Changes.{value_at, changed}
 use Rattle.heap_rule.specs.Rule.{state_of}
 use Rattle.heap_rule.specs.Token.{Holds}
@@ -20,9 +22,10 @@ use Rattle.heap_rule.specs.Token.{Holds}
 abbrev pub IsInHeap : Config → ℕ → Type 0
 IsInHeap k a = (1 ≤ a) × (a ≤ heap_words k)
 
--- the domain's trace hasn't ended
-abbrev pub Acts : Config → DomainView → Type 0
-Acts k x = (domain_at (state_of k x.seen.front) x.own.number).ended ≡ false
+-- the domain runs, and its trace hasn't ended
+pub record Acts (k : Config) (x : DomainView) : Type 0 where
+  pub goes_on : (domain_at (state_of k x.seen.front) x.own.number).ended ≡ false
+  pub runs : x.seen.stage ≡ In Run
 
 -- register r holds this address
 pub record IsAt (x : DomainView) (r a : ℕ) : Type 0 where

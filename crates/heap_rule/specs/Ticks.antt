@@ -1,9 +1,9 @@
 -- Ticks: the entries that the registers alone decide.
-use Rattle.std.specs.Prelude.{◌≡◌, ℕ, ◌<◌, ◌⊎◌, true, false, List, replicate, slice_set}
+use Rattle.std.specs.Prelude.{◌≡◌, ℕ, ◌<◌, ◌⊎◌, true, false, List, slice_set}
 use Rattle.heap_model.specs.declared.command.Command as model
-use Rattle.heap_model.specs.declared.command.Command.TheVariants.{PutInt, Copy, Forget, Load, Store, Poll}
+use Rattle.heap_model.specs.declared.command.Command.TheVariants.{PutInt, Copy, Forget, Load, Store, Poll, Minor}
 use Rattle.heap_model.specs.declared.entry.Entry.{Entry}
-use Rattle.heap_model.specs.declared.entry.Entry.TheVariants.{Command, End}
+use Rattle.heap_model.specs.declared.entry.Entry.TheVariants.{Command}
 use Rattle.heap_model.specs.declared.reply.Reply.{Reply}
 use Rattle.heap_model.specs.declared.reply.Reply.TheVariants.{Done, BadType, Full}
 use Rattle.heap_model.specs.declared.reply.Applied.{Applied}
@@ -36,13 +36,13 @@ TickCommand x changes (Load dst src i) = (src < 16) × IsNoBlock (value_at x.own
 TickCommand x changes (Store block i item) =
     (block < 16) × (item < 16) × (IsNoBlock (value_at x.own.registers block) ⊎ (value_at x.own.registers item ≡ Nothing)) × LeavesRegisters changes x
 TickCommand x changes Poll = LeavesRegisters changes x
+TickCommand x changes Minor = LeavesRegisters changes x
 TickCommand x changes _ = ⊥
 
--- an own entry that the registers alone decide: such a command, `full` for an allocation, or the end
+-- an own entry that the registers alone decide: such a command, or `full` for an allocation
 abbrev pub TickEntry : DomainView → List Change → Entry → Type 0
 TickEntry x changes (Command d c false) = (d ≡ x.own.number) × TickCommand x changes c
 TickEntry x changes (Command d c true) = (d ≡ x.own.number) × (is_allocation c ≡ true) × LeavesRegisters changes x
-TickEntry x changes (End d) = (d ≡ x.own.number) × Makes changes x (replicate 16 Nothing)
 TickEntry x changes _ = ⊥
 
 -- what a tick asks
@@ -62,6 +62,6 @@ tick_answer (Command d c false) = Replied (command_answer c)
 tick_answer (Command d c true) = Replied Full
 tick_answer _ = Silent
 
--- a tick finds that no domain asks for a collection, and the entry stands there
+-- the entry stands at the tick, whatever word it finds: a domain that has begun a command makes it
 abbrev pub TickTold : Config → Entry → List Change → DomainView → ℕ → DomainView → Type 0
-TickTold k e changes x found y = Entered k e (tick_answer e) Nothing changes x y × (found ≡ 0)
+TickTold k e changes x found y = Entered k e (tick_answer e) Nothing changes x y

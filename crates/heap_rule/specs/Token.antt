@@ -7,7 +7,9 @@ use Rattle.heap_words.specs.declared.value.Value.TheVariants.{Ref}
 use Rattle.heap_words.specs.Values.{IsPackable}
 use Rattle.heap_rule.specs.declared.config.Config.{Config}
 use Rattle.heap_rule.specs.declared.view.DomainView.{DomainView}
+use Rattle.heap_rule.specs.declared.view.Spot.{Spot}
 use Rattle.heap_rule.specs.declared.view.View.{View}
+use Rattle.heap_rule.specs.Pools.{blocks_of, spot_at}
 use Rattle.heap_model.specs.Domains.{IsWithinLimits}
 use Rattle.heap_rule.specs.Limits.{sizes_in}
 use Rattle.heap_rule.specs.Layout.{heap_words}
@@ -39,6 +41,11 @@ pub record Holds (k : Config) (registers : List Value) : Type 0 where
   pub packable : (r : ℕ) → r < 16 → IsPackable (value_at registers r)
   pub inside : (r a : ℕ) → r < 16 → value_at registers r ≡ Ref a → IsAddress k a
 
+-- how far the places of each size class were looked at lies within the pools
+pub record LooksWithin (k : Config) (looked : List Spot) : Type 0 where
+  pub wide : length looked ≡ 6
+  pub within : (class : ℕ) → class < 6 → ((spot_at looked class).pool ≤ k.pools) × ((spot_at looked class).slot < blocks_of class)
+
 -- the seat, at a heap of these numbers, stands for this domain alone
 pub record IsSeatOf (k : Config) (x : DomainView) (me : Me (Unit {0}) View) : Type 0 where
   pub seat : me ≡ (one k me.0.history x, [])
@@ -46,3 +53,4 @@ pub record IsSeatOf (k : Config) (x : DomainView) (me : Me (Unit {0}) View) : Ty
   pub number : x.own.number < k.domains
   pub used : x.own.used ≤ k.minor_words
   pub registers : Holds k x.own.registers
+  pub looked : LooksWithin k x.own.looked

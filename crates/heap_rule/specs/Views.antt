@@ -1,5 +1,5 @@
 -- The views of seats: what each knows of the history and of the domains that it stands for.
-use Rattle.std.specs.Prelude.{◌≡◌, ◌≢◌, ℕ, zero, suc, ◌+◌, ◌<◌, List, [], ◌∷◌, ◌++◌, replicate}
+use Rattle.std.specs.Prelude.{◌≡◌, ◌≢◌, ℕ, zero, suc, ◌+◌, ◌<◌, List, [], ◌∷◌, ◌++◌, replicate, None}
 use mathlib.Core.Option.{some}
 use lib.ListN.{get_elem?}
 use Rattle.atomic_table.specs.Table.{Me, Step}
@@ -9,7 +9,10 @@ use Rattle.heap_model.specs.Fronts.{IsFrontOf}
 use Rattle.heap_words.specs.declared.value.Value.TheVariants.{Ref, Nothing}
 use Rattle.heap_rule.specs.declared.config.Config.{Config}
 use Rattle.heap_rule.specs.declared.view.DomainView.{DomainView}
+use Rattle.heap_rule.specs.declared.view.Hunt.TheVariants.{Rests}
 use Rattle.heap_rule.specs.declared.view.View.{View}
+use Rattle.heap_rule.specs.declared.phase.Kind.TheVariants.{Run}
+use Rattle.heap_rule.specs.declared.phase.Stage.TheVariants.{In}
 
 -- the fact holds of each view, with its seat's number
 abbrev pub EachView : (ℕ → View → Type 0) → List View → Type 0
@@ -49,8 +52,8 @@ one k h x = record { config = k; history = h; domains = x ∷ [] }
 -- a domain at the start: register 0 holds the shared block, which is at the address 1
 abbrev pub opening_view : ℕ → DomainView
 opening_view d = record {
-  own = record { number = d; registers = Ref 1 ∷ replicate 15 Nothing; used = 0; serial = 0; arrivals = 0 };
-  seen = record { front = []; made = [] };
+  own = record { number = d; registers = Ref 1 ∷ replicate 15 Nothing; used = 0; serial = 0; arrivals = 0; looked = replicate 6 (record { pool = 0; slot = 0 }) };
+  seen = record { front = []; made = []; stage = In Run; notes = []; hunt = Rests; free = None };
 }
 
 -- n domains from d on

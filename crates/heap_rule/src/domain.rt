@@ -8,15 +8,16 @@ ghost use Rattle.heap_rule.specs.Items.{items_of};
 ghost use Rattle.heap_rule.specs.Inits.{next_address};
 ghost use Rattle.heap_rule.specs.Limits.{sizes_in};
 ghost use Rattle.heap_rule.specs.Opening.{opening_token};
+ghost use Rattle.heap_rule.specs.Pools.{blocks_of, spot_at};
 ghost use Rattle.heap_rule.specs.Token.{IsAddress};
 ghost use Rattle.heap_rule.specs.Views.{one, opening_view};
 
 use crate::change::{Item, Part};
 use crate::config::Config;
-use crate::view::{Own, View};
+use crate::view::{Own, Spot, View};
 use atomic_table::Seat;
 use heap_words::Value;
-use size_classes::POOL_WORDS;
+use size_classes::{CLASS_COUNT, POOL_WORDS};
 use std::marker::Model;
 
 /// One domain of a heap. It may move between threads.
@@ -59,6 +60,7 @@ impl Domain {
                 used: 0,
                 serial: 0,
                 arrivals: 0,
+                looked: [Spot { pool: 0, slot: 0 }; CLASS_COUNT],
             },
         }
     }
@@ -95,6 +97,15 @@ impl Domain {
     {
         let area = self.own.number * self.config.minor_words;
         self.config.pools * POOL_WORDS + area + 1 + self.own.used
+    }
+
+    /// The place before which no place of the class in the domain's own pools is free.
+    pub fn looked(&self, class: u32) -> Spot
+        requires { class < 6 }
+        ensures value { result ≡ spot_at self.now.view.own.looked class }
+        ensures within { (result.pool ≤ self.now.config.pools) × (result.slot < blocks_of class) }
+    {
+        self.own.looked[class as usize]
     }
 
     /// How many labels the domain has given out.

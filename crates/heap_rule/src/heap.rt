@@ -6,11 +6,13 @@ ghost use Rattle.heap_rule.specs.Limits.{sizes_in, first_outside};
 ghost use Rattle.heap_rule.specs.Opening.{opening_token, opening_tokens};
 ghost use Rattle.heap_rule.specs.Ending.{AllIn, AllBegin};
 ghost use Rattle.heap_rule.specs.Views.{first_view};
+ghost use Rattle.heap_rule.specs.Phases.{Agree};
+ghost use Rattle.heap_rule.specs.Token.{IsIn};
 
 use crate::config::{Config, StartFault};
 use crate::domain::Domain;
 use crate::layout::{WANT, opening_words};
-use crate::rule::{Cut, Glue, Law, Learn};
+use crate::rule::{Agreeing, Cut, Glue, Law, Learn};
 use crate::view::View;
 use atomic_table::{Seat, Table};
 use std::alloc::{AllocError, Global};
@@ -144,5 +146,41 @@ impl Heap {
         }
         self.table.shared.load::<Learn>(&mut seat, WANT);
         Ended { seat }
+    }
+}
+
+impl Heap {
+    /// Brings two domains together for a moment. Both come back as they were, and each act where the
+    /// other may: while one is in a phase of a pause the other doesn't run, and two that are in even
+    /// phases, and haven't arrived there, are in phases of one kind.
+    pub fn meet(&self, a: Domain, b: Domain) -> (Domain, Domain)
+        requires here { IsIn a self.now × IsIn b self.now }
+        ensures agree { Agree a.view.seen.stage b.view.seen.stage }
+        ensures same { (result.0 ≡ a) × (result.1 ≡ b) }
+    {
+        let Domain {
+            mut seat,
+            config,
+            own,
+        } = a;
+        let Domain {
+            seat: other,
+            config: other_config,
+            own: other_own,
+        } = b;
+        self.table.shared.join_seat::<Glue>(&mut seat, other);
+        self.table.shared.load::<Agreeing>(&mut seat, WANT);
+        let first = self.table.shared.split_seat::<Cut>(&mut seat);
+        let first = Domain {
+            seat: first,
+            config,
+            own,
+        };
+        let second = Domain {
+            seat,
+            config: other_config,
+            own: other_own,
+        };
+        (first, second)
     }
 }

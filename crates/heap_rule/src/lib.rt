@@ -7,6 +7,7 @@ mod config;
 mod domain;
 mod heap;
 mod layout;
+mod phase;
 mod rule;
 mod steps;
 mod view;
@@ -15,8 +16,14 @@ pub use change::{Change, Item, Part};
 pub use config::{Config, StartFault};
 pub use domain::Domain;
 pub use heap::{Ended, Heap};
-pub use steps::{field_load, field_store, head_load, init_store, label_load, tick, words_of_class};
-pub use view::{DomainView, Own, Seen, View};
+pub use phase::{Kind, Note, Stage};
+pub use steps::{
+    arrive, ask, class_blocks, class_size, clear_store, cursor_add, cursor_load, ended_add,
+    ended_load, field_load, field_store, fill_store, head_load, head_store, init_store, label_load,
+    list_load, listed_load, look, owner_load, owner_store, owner_word, place_address, place_load,
+    plan_load, plan_store, tick, want_clear, want_load, words_of_class,
+};
+pub use view::{DomainView, Hunt, Own, Seen, Spot, View};
 
 #[cfg(test)]
 mod tests;

@@ -47,6 +47,15 @@ impl Play<(), View> for Learn {
     ghost then = { learned };
 }
 
+/// A load at which a seat that stands for two domains sees that they agree.
+pub struct Agreeing;
+
+impl Play<(), View> for Agreeing {
+    ghost use Rattle.heap_rule.specs.Meeting.{agreed};
+
+    ghost then = { agreed };
+}
+
 /// What one step tells of its domain: the view before, the word found, and the view after. Each
 /// step call picks it.
 pub trait Told {

@@ -2,9 +2,52 @@
 ghost use Rattle.std.specs.Prelude.{◌≡◌};
 
 use crate::config::Config;
+use crate::phase::{Note, Stage};
 use heap_model::entry::Entry;
 use heap_words::Value;
+use size_classes::CLASS_COUNT;
 use std::collections::LinkedList;
+
+/// How far a domain is in taking a free block of the pools.
+pub enum Hunt {
+    /// It takes none.
+    Rests,
+    /// It knows how many pools are listed.
+    Counts {
+        listed: u64,
+    },
+    /// It has seen that a pool is to be had, and may ask for one.
+    Asks {
+        listed: u64,
+    },
+    /// It drew the pool at this place of the list, whose owner word still says nobody, and made so
+    /// many of its block starts Free.
+    Draws {
+        place: u64,
+        pool: u32,
+        class: u32,
+        cleared: u32,
+    },
+    /// This pool is its own, for blocks of this class.
+    Walks {
+        pool: u32,
+        class: u32,
+    },
+    /// This place of an own pool is free. Behind the place of its head these words are written.
+    Fills {
+        pool: u32,
+        class: u32,
+        slot: u32,
+        made: LinkedList<u64>,
+    },
+}
+
+/// A place of a pool: the slot-th of its class. It stands before each place of later pools.
+#[derive(Clone, Copy, Debug, PartialEq, Eq)]
+pub struct Spot {
+    pub pool: u32,
+    pub slot: u32,
+}
 
 /// What a domain's token holds.
 #[derive(Drop)]
@@ -17,6 +60,8 @@ pub struct Own {
     pub serial: u32,
     /// How often the domain has arrived at the barrier.
     pub arrivals: u64,
+    /// For each size class, the place before which no place of an own pool of the class is free.
+    pub looked: [Spot; CLASS_COUNT],
 }
 
 /// What contracts alone know of a domain.
@@ -25,6 +70,14 @@ pub struct Seen {
     pub front: LinkedList<Entry>,
     /// The words, from the label on, that are written of the block that the domain is making.
     pub made: LinkedList<u64>,
+    /// Where the domain stands in the phases.
+    pub stage: Stage,
+    /// What the domain found and did at the control words, in order.
+    pub notes: LinkedList<Note>,
+    /// How far the domain is in taking a free block of the pools.
+    pub hunt: Hunt,
+    /// How many pools were free when the domain last looked, since it last arrived.
+    pub free: Option<u64>,
 }
 
 /// A domain: what its token holds, and what contracts alone know of it.

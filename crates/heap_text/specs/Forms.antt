@@ -74,7 +74,7 @@ form word.FullMajor = row (codes "full_major") [] (λ _ _ _. FullMajor)
 
 -- the words of the grammar: the commands that are built. One more here and in the code's own list makes its row a command of the grammar
 abbrev pub built_words : List Word
-built_words = word.Int ∷ word.Move ∷ word.Drop ∷ word.Alloc ∷ word.Load ∷ word.Store ∷ word.Poll ∷ []
+built_words = word.Int ∷ word.Move ∷ word.Drop ∷ word.Alloc ∷ word.AllocMaj ∷ word.Load ∷ word.Store ∷ word.Poll ∷ word.Minor ∷ []
 
 -- the row that a text is the word of, if it is one that is built
 abbrev pub word_of : List ℕ → Option Word

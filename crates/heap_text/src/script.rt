@@ -7,7 +7,7 @@ use std::alloc::{AllocError, Global};
 use std::marker::Model;
 
 /// A script: for each domain of a run the commands of its trace, in order.
-#[derive(Debug, Drop)]
+#[derive(Drop)]
 pub struct Script {
     sections: Vec<Vec<Command>>,
     commands: u32,

@@ -6,14 +6,16 @@ use crate::form::{Operand, Word};
 use heap_model::command::Command;
 
 // The words of the grammar: the commands that are built.
-const BUILT: [Word; 7] = [
+const BUILT: [Word; 9] = [
     Word::Int,
     Word::Move,
     Word::Drop,
     Word::Alloc,
+    Word::AllocMaj,
     Word::Load,
     Word::Store,
     Word::Poll,
+    Word::Minor,
 ];
 
 // The word that a row's line begins with.

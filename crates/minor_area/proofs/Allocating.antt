@@ -19,6 +19,11 @@ pub alloc_did : (h : SharedHeap) (old new : Token) (mid : DomainView) (e : Entry
 alloc_did h old new mid e dst tag fields l made changes is runs here view told label =
     let answers = subst (λ (x : DomainView). Answers (sizes_in h.config) x.own.number x.seen.front new.view.seen.front e (Replied (Block (next_label x)))) view told.answers in
     let number : new.view.own.number ≡ old.view.own.number = ap (λ (x : DomainView). x.own.number) told.view ∙ ap (λ (x : DomainView). x.own.number) view in
-    answered_did h old new (Alloc dst tag fields) (Block l) runs here number (ap (λ (x : DomainView). x.seen.made) told.view)
+    answered_did h old new (Alloc dst tag fields) (Block l) runs here number (ap (λ (x : DomainView). x.seen.hunt) told.view ∙ (ap (λ (x : DomainView). x.seen.hunt) view ∙ runs.at_rest)) (ap (λ (x : DomainView). x.seen.made) told.view)
+    (record {
+      arrivals = ap (λ (x : DomainView). x.own.arrivals) told.view ∙ ap (λ (x : DomainView). x.own.arrivals) view;
+      stage = ap (λ (x : DomainView). x.seen.stage) told.view ∙ ap (λ (x : DomainView). x.seen.stage) view;
+      notes = ap (λ (x : DomainView). x.seen.notes) told.view ∙ ap (λ (x : DomainView). x.seen.notes) view;
+    })
     (subst (λ (x : Entry). Answers (sizes_in h.config) old.view.own.number old.view.seen.front new.view.seen.front x (Replied (Block l))) is
     (subst (λ (m : Label). Answers (sizes_in h.config) old.view.own.number old.view.seen.front new.view.seen.front e (Replied (Block m))) (sym label) answers))

@@ -1,2 +1,3 @@
 pub mod PutBack
 pub mod SameRuns
+pub mod Drives

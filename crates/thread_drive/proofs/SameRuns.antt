@@ -9,7 +9,7 @@ use Rattle.heap_model.specs.declared.state.Sizes.{Sizes}
 use Rattle.heap_model.specs.Fronts.{Answers}
 use Rattle.heap_model.specs.History.{IsPrefix}
 use Rattle.heap_rule.specs.Token.{SharedHeap}
-use Rattle.domain_turns.specs.Runs.{RunView, TriesCommand, EndsTrace}
+use Rattle.domain_turns.specs.Runs.{RunView, GoesOn}
 use Rattle.thread_drive.specs.Driven.{IsSameRun}
 
 pub same_refl : (r : RunView) → IsSameRun r r
@@ -25,31 +25,5 @@ same_trans a b c p q = record {
   };
 }
 
-answered_front : (z : Sizes) (d : ℕ) (old new : List Entry) (e : Entry) (r : Applied) → Answers z d old new e r → IsPrefix old new
-answered_front z d old new e r a = record { rest = a.between ++ e ∷ []; appends = a.appends ∙ append_assoc old a.between (e ∷ []) }
-
-tried_same : (h : SharedHeap) (old new : RunView) (c : model.Command) → TriesCommand h old new c → IsSameRun old new
-tried_same h old new c t = record {
-  commands = ap (λ (r : RunView). r.commands) t.run;
-  number = t.tried.number;
-  front = answered_front _ _ _ _ _ _ t.tried.answers;
-}
-
-ended_same : (h : SharedHeap) (old new : RunView) → EndsTrace h old new → IsSameRun old new
-ended_same h old new t = record {
-  commands = ap (λ (r : RunView). r.commands) t.run;
-  number = t.ended.number;
-  front = answered_front _ _ _ _ _ _ t.ended.answers;
-}
-
-pub turned_same : (h : SharedHeap) (old new : RunView) → (old.ended ≡ true → new ≡ old)
-    → ((c : model.Command) → old.ended ≡ false → slice_get old.commands old.next ≡ Some c → TriesCommand h old new c)
-    → (old.ended ≡ false → length old.commands ≤ old.next → EndsTrace h old new) → IsSameRun old new
-turned_same h old new over tries ends = by_end old.ended refl
-  where
-    by_end : (b : Bool) → old.ended ≡ b → IsSameRun old new
-    by_end true is = subst (λ (r : RunView). IsSameRun old r) (sym (over is)) (same_refl old)
-    by_end false running = ⊎_elim
-        (λ p. tried_same h old new p.0 (tries p.0 running p.2))
-        (λ p. ended_same h old new (ends running p.0))
-        (slice_get_cases old.commands old.next).1
+pub goes_same : (a b : RunView) → GoesOn a b → IsSameRun a b
+goes_same a b g = record { commands = g.commands; number = g.number; front = g.front }

@@ -143,3 +143,26 @@ fn a_gate_hears_of_each_command(rt: HostRuntime) -> Result<(), Fail> {
     assert_eq!(rt; gate.calls.load(Ordering::SeqCst), 123_456);
     Ok(())
 }
+
+#[test]
+fn collections_stop_all_domains(rt: HostRuntime) -> Result<(), Fail> {
+    let (heap, mut domains) = Heap::start(rt.alloc(), TWO)?;
+    let second = domains.pop().ok_or("no domain")?;
+    let first = domains.pop().ok_or("no domain")?;
+    let three = vec![in rt.alloc(); Command::Minor, Command::Minor, Command::Minor]?;
+    let put = vec![in rt.alloc(); Command::PutInt { dst: 1, value: 1 }]?;
+    let first = DomainRun::make(rt.alloc(), first, three)?;
+    let second = DomainRun::make(rt.alloc(), second, put)?;
+    let runs = drive(&rt, &heap, vec![in rt.alloc(); first, second]?, &NoGate);
+    let all = [
+        [Reply::Done, Reply::Done, Reply::Done].as_slice(),
+        &[Reply::Done],
+    ];
+    assert_eq!(rt; runs.len(), 2);
+    for (d, run) in runs.iter().enumerate() {
+        assert!(rt; run.has_ended());
+        assert_eq!(rt; run.replies(), all[d]);
+        assert_eq!(rt; run.domain().arrivals(), 18);
+    }
+    Ok(())
+}

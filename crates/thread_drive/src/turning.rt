@@ -3,10 +3,25 @@ ghost use Rattle.std.specs.Prelude.{◌≡◌, true};
 ghost use Rattle.heap_rule.specs.Token.{IsIn};
 ghost use Rattle.thread_drive.specs.Driven.{IsSameRun};
 
+use crossbeam_utils::Backoff;
 use domain_turns::{DomainRun, Turned, turn};
 use heap_rule::Heap;
 use outer_io::Gate;
 use std::sync::Wait;
+
+/// How far a turn came.
+#[derive(Clone, Copy, Debug, PartialEq, Eq)]
+pub(crate) enum Went {
+    /// It did something.
+    On,
+    /// It waits for others.
+    Nowhere,
+    /// All traces have ended.
+    Ended,
+}
+
+// A domain that has arrived so often isn't turned any more.
+const MOST_ARRIVALS: u64 = 1 << 60;
 
 // The index of a run's next command, as a gate is told it.
 fn next_index(run: &DomainRun) -> u32
@@ -16,27 +31,54 @@ fn next_index(run: &DomainRun) -> u32
     run.next() as u32
 }
 
-// One turn, with the gate around the command, if one is left.
-pub(crate) fn turn_once<G: Gate>(heap: &Heap, gate: &G, run: &mut DomainRun) -> Turned
+// How far a turn with this answer came.
+fn reached(turned: Turned) -> Went
+    ensures { result ≡ Went.Ended → turned ≡ Turned.Ended }
+{
+    match turned {
+        Turned::Did => Went::On,
+        Turned::Waiting(_) | Turned::Idle { .. } => Went::Nowhere,
+        Turned::Ended => Went::Ended,
+    }
+}
+
+// One turn, where the domain may still arrive.
+fn turn_below(heap: &Heap, run: &mut DomainRun) -> Went
     requires { IsIn run.old.token heap.now }
     ensures here { IsIn run.new.token heap.now }
     ensures same { IsSameRun run.old run.new }
-    ensures ended { result ≡ Turned.Ended → run.new.ended ≡ true }
+    ensures ended { result ≡ Went.Ended → run.new.ended ≡ true }
+{
+    if run.domain().arrivals() >= MOST_ARRIVALS {
+        return Went::Nowhere;
+    }
+    reached(turn(heap, run))
+}
+
+// One turn, with the gate around the command, if one is left. The gate was told of the commands before `told`.
+pub(crate) fn turn_once<G: Gate>(heap: &Heap, gate: &G, told: &mut u32, run: &mut DomainRun) -> Went
+    requires { IsIn run.old.token heap.now }
+    ensures here { IsIn run.new.token heap.now }
+    ensures same { IsSameRun run.old run.new }
+    ensures ended { result ≡ Went.Ended → run.new.ended ≡ true }
 {
     if !run.has_next() {
-        return turn(heap, run);
+        return turn_below(heap, run);
     }
     let number = run.domain().number();
     let at = next_index(run);
-    gate.before(number, at);
-    let turned = turn(heap, run);
+    if *told <= at {
+        *told = at.saturating_add(1);
+        gate.before(number, at);
+    }
+    let went = turn_below(heap, run);
     if next_index(run) != at {
         gate.after(number, at);
     }
-    turned
+    went
 }
 
-// Turns a run until its trace has ended.
+// Turns a run until all traces have ended.
 pub(crate) fn turn_to_end<R: Wait, G: Gate>(
     rt: &R,
     heap: &Heap,
@@ -48,10 +90,13 @@ pub(crate) fn turn_to_end<R: Wait, G: Gate>(
     ensures same { IsSameRun run result }
     ensures ended { result.ended ≡ true }
 {
+    let backoff = Backoff::new();
+    let mut told = 0;
     'turns: for _ in rt.forever() {
-        match turn_once(heap, gate, &mut run) {
-            Turned::Did => (),
-            Turned::Ended => return run,
+        match turn_once(heap, gate, &mut told, &mut run) {
+            Went::On => backoff.reset(),
+            Went::Nowhere => backoff.snooze(),
+            Went::Ended => return run,
         }
     }
     unreachable!()

@@ -14,15 +14,13 @@ use heap_words::Value;
 use std::marker::Brand;
 
 /// A load of the want word, at which an entry stands that the registers alone decide: a command on
-/// registers, `poll`, a load or a store that has no block to look into, an allocation's `full`, or
-/// the end of the trace. `at` is the word's index, 0. Answers the word, which is 0: no domain asks for
-/// a collection yet.
+/// registers, `poll`, `minor`, a load or a store that has no block to look into, or an allocation's
+/// `full`. `at` is the word's index, 0. Answers the word.
 pub fn tick(heap: &Heap, dom: &mut Domain, at: u32, changes: &[Change]) -> u64
     ghost entry: { Entry }
     requires here { IsIn dom.old heap.now }
     requires want { at ≡ 0 }
     requires may { TickMay heap.now.config dom.old.view changes.now entry }
-    ensures nothing_wanted { result ≡ 0 }
     ensures here { IsIn dom.new heap.now }
     ensures entered { Entered heap.now.config entry (tick_answer entry) NothingRead changes.now
         dom.old.view dom.new.view }

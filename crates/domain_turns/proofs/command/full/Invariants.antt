@@ -1,6 +1,5 @@
-use Rattle.heap_model.specs.declared.command.Command.TheVariants.{Alloc}
 use Rattle.domain_turns.specs.Tries.{full_entry}
 use Rattle.domain_turns.proofs.command.full.Given as goal
 
 abbrev pub ghost-full_as : goal.ghost-full_as
-ghost-full_as a = full_entry a.dom.now (Alloc a._dst a._tag a._fields)
+ghost-full_as a = full_entry a.dom.now a._command.now

@@ -1,12 +1,14 @@
-use Rattle.std.proofs.Common.{◌≡◌, ℕ, ◌≤◌, ◌<◌, sym, ap, refl, subst, arith}
+use Rattle.std.proofs.Common.{◌≡◌, ℕ, ◌≤◌, sym, ap, refl, subst, arith}
+use Rattle.heap_model.specs.declared.command.Command.TheVariants.{Load}
+use Rattle.heap_rule.specs.Running.{own_entry}
 use Rattle.heap_rule.specs.Loads.{place_of}
 use Rattle.heap_rule.specs.Ticks.{tick_answer}
 use Rattle.field_access.proofs.Doing.{entered_did}
 use Rattle.heap_rule.specs.declared.view.DomainView.{DomainView}
-use Rattle.heap_rule.specs.Loads.{Measured, subject}
+use Rattle.heap_rule.specs.Loads.{Measured}
 use Rattle.field_access.proofs.FieldSteps.{field_known, load_may}
 use Rattle.field_access.proofs.FieldLoads.{load_did, loads_into, register_loaded}
-use Rattle.field_access.proofs.Looking.{ephemeron_found, past_found, measured}
+use Rattle.field_access.proofs.Looking.{ephemeron_found, past_found, measured_at}
 use Rattle.field_access.proofs.fields.load_as.Goals as goal
 
 pub returns-in_default-clause-did : goal.returns-in_default-clause-did
@@ -30,10 +32,8 @@ pub field_load-requires : goal.field_load-requires
 field_load-requires g c =
     let told = c.head_load.ensures.told in
     let size = c.plain_size.ensures told.shape told.packable told.head in
-    let place : c.args.index ≡ place_of g.entry = ap place_of (sym c.requires.0) in
-    let below : place_of g.entry < c.in-Some.size = subst (λ (n : ℕ). n < c.in-Some.size) place (omega arith) in
-    let of_src : subject g.entry ≡ c.args.src = ap subject c.requires.0 in
-    let looked = subst (λ (r : ℕ). Measured c.args.heap.now.config c.in-Ref.address r c.in-Some.size c.args.dom.now.view c.head_load.new.dom.view) of_src (measured _ _ g.entry _ _ _ _ _ told size c.in-Some.is below) in
+    let looked : Measured c.args.heap.now.config c.in-Ref.address c.args.src c.in-Some.size c.args.dom.now.view c.head_load.new.dom.view =
+    measured_at _ _ g.entry (own_entry c.args.dom.now (Load c.args.dst c.args.src c.args.index)) _ _ _ _ _ c.requires.0 told size c.in-Some.is (omega arith) in
     let field = field_known c.args.heap.now c.args.dom.now c.head_load.new.dom.view c.args.src c.args.index c.in-Some.size c.in-Ref.address c.requires.1.0 c.requires.1.1.1 (sym c.in-Ref.ensures.value) looked (omega arith) in
     let number : c.head_load.new.dom.view.own.number ≡ c.args.dom.now.view.own.number = ap (λ (x : DomainView). x.own.number) looked.looked.view in
     (c.head_load.ensures.here, (field.inside, load_may c.args.heap.now c.args.dom.now c.head_load.new.dom.view g.entry c.args.dst c.args.src c.args.index c.in-Ref.address c.requires.0 number c.requires.1.1.0 field))
@@ -42,10 +42,8 @@ pub shown_register-requires : goal.shown_register-requires
 shown_register-requires g c =
     let told = c.head_load.ensures.told in
     let size = c.plain_size.ensures told.shape told.packable told.head in
-    let place : c.args.index ≡ place_of g.entry = ap place_of (sym c.requires.0) in
-    let below : place_of g.entry < c.in-Some.size = subst (λ (n : ℕ). n < c.in-Some.size) place (omega arith) in
-    let of_src : subject g.entry ≡ c.args.src = ap subject c.requires.0 in
-    let looked = subst (λ (r : ℕ). Measured c.args.heap.now.config c.in-Ref.address r c.in-Some.size c.args.dom.now.view c.head_load.new.dom.view) of_src (measured _ _ g.entry _ _ _ _ _ told size c.in-Some.is below) in
+    let looked : Measured c.args.heap.now.config c.in-Ref.address c.args.src c.in-Some.size c.args.dom.now.view c.head_load.new.dom.view =
+    measured_at _ _ g.entry (own_entry c.args.dom.now (Load c.args.dst c.args.src c.args.index)) _ _ _ _ _ c.requires.0 told size c.in-Some.is (omega arith) in
     let shown = register_loaded c.args.heap.now c.args.dom.now c.head_load.new.dom.view c.field_load.new.dom.view g.entry c.args.dst c.args.src c.args.index c.in-Some.size c.in-Ref.address _ c.config-limits.ensures.limits c.requires.0 c.requires.1.0 c.requires.1.1.0 looked (omega arith) c.field_load.ensures.told in
     (refl, (c.field_load.ensures.here, (c.requires.1.1.0, shown)))
 
@@ -53,10 +51,8 @@ pub returns-clause-did : goal.returns-clause-did
 returns-clause-did g c =
     let told = c.head_load.ensures.told in
     let size = c.plain_size.ensures told.shape told.packable told.head in
-    let place : c.args.index ≡ place_of g.entry = ap place_of (sym c.requires.0) in
-    let below : place_of g.entry < c.in-Some.size = subst (λ (n : ℕ). n < c.in-Some.size) place (omega arith) in
-    let of_src : subject g.entry ≡ c.args.src = ap subject c.requires.0 in
-    let looked = subst (λ (r : ℕ). Measured c.args.heap.now.config c.in-Ref.address r c.in-Some.size c.args.dom.now.view c.head_load.new.dom.view) of_src (measured _ _ g.entry _ _ _ _ _ told size c.in-Some.is below) in
+    let looked : Measured c.args.heap.now.config c.in-Ref.address c.args.src c.in-Some.size c.args.dom.now.view c.head_load.new.dom.view =
+    measured_at _ _ g.entry (own_entry c.args.dom.now (Load c.args.dst c.args.src c.args.index)) _ _ _ _ _ c.requires.0 told size c.in-Some.is (omega arith) in
     load_did c.args.heap.now c.args.dom.now c.head_load.new.dom.view c.field_load.new.dom.view g.entry c.args.dst c.args.src c.args.index c.in-Some.size c.in-Ref.address _ c.config-limits.ensures.limits c.requires.0 c.requires.1.0 c.requires.1.1.0 looked (omega arith) c.field_load.ensures.told
     c.shown_register.new.dom c.shown_register.result c.shown_register.ensures.here c.shown_register.ensures.same c.shown_register.ensures.reply
 
@@ -64,9 +60,7 @@ pub returns-clause-registers : goal.returns-clause-registers
 returns-clause-registers g c =
     let told = c.head_load.ensures.told in
     let size = c.plain_size.ensures told.shape told.packable told.head in
-    let place : c.args.index ≡ place_of g.entry = ap place_of (sym c.requires.0) in
-    let below : place_of g.entry < c.in-Some.size = subst (λ (n : ℕ). n < c.in-Some.size) place (omega arith) in
-    let of_src : subject g.entry ≡ c.args.src = ap subject c.requires.0 in
-    let looked = subst (λ (r : ℕ). Measured c.args.heap.now.config c.in-Ref.address r c.in-Some.size c.args.dom.now.view c.head_load.new.dom.view) of_src (measured _ _ g.entry _ _ _ _ _ told size c.in-Some.is below) in
+    let looked : Measured c.args.heap.now.config c.in-Ref.address c.args.src c.in-Some.size c.args.dom.now.view c.head_load.new.dom.view =
+    measured_at _ _ g.entry (own_entry c.args.dom.now (Load c.args.dst c.args.src c.args.index)) _ _ _ _ _ c.requires.0 told size c.in-Some.is (omega arith) in
     loads_into c.args.heap.now c.args.dom.now c.head_load.new.dom.view c.field_load.new.dom.view g.entry c.args.dst c.args.src c.args.index c.in-Some.size c.in-Ref.address _ c.config-limits.ensures.limits c.requires.0 c.requires.1.0 c.requires.1.1.0 looked (omega arith) c.field_load.ensures.told
     c.shown_register.new.dom c.shown_register.result c.shown_register.ensures.same c.shown_register.ensures.reply

@@ -1,13 +1,15 @@
 use Rattle.std.proofs.Common.{◌≡◌, ◌∙◌, ℕ, ◌≤◌, ◌<◌, sym, ap, refl, subst, arith}
+use Rattle.heap_model.specs.declared.command.Command.TheVariants.{Store}
+use Rattle.heap_rule.specs.Running.{own_entry}
 use Rattle.heap_rule.specs.Loads.{place_of}
 use Rattle.heap_words.specs.Values.{value_word}
 use Rattle.heap_rule.specs.Ticks.{tick_answer}
 use Rattle.field_access.proofs.Doing.{entered_did}
 use Rattle.heap_rule.specs.declared.view.DomainView.{DomainView}
-use Rattle.heap_rule.specs.Loads.{Measured, subject}
+use Rattle.heap_rule.specs.Loads.{Measured}
 use Rattle.field_access.proofs.FieldSteps.{field_known, store_may}
 use Rattle.field_access.proofs.FieldStores.{looked_did}
-use Rattle.field_access.proofs.Looking.{ephemeron_found, past_found, measured}
+use Rattle.field_access.proofs.Looking.{ephemeron_found, past_found, measured, measured_at}
 use Rattle.field_access.proofs.fields.store_as.Goals as goal
 
 pub returns-in_default-clause-did : goal.returns-in_default-clause-did
@@ -34,10 +36,8 @@ pub field_store-requires : goal.field_store-requires
 field_store-requires g c =
     let told = c.head_load.ensures.told in
     let size = c.plain_size.ensures told.shape told.packable told.head in
-    let place : c.args.index ≡ place_of g.entry = ap place_of (sym c.requires.0) in
-    let below : place_of g.entry < c.in-Some.size = subst (λ (n : ℕ). n < c.in-Some.size) place (omega arith) in
-    let of_block : subject g.entry ≡ c.args.block = ap subject c.requires.0 in
-    let looked = subst (λ (r : ℕ). Measured c.args.heap.now.config c.in-Ref.address r c.in-Some.size c.args.dom.now.view c.head_load.new.dom.view) of_block (measured _ _ g.entry _ _ _ _ _ told size c.in-Some.is below) in
+    let looked : Measured c.args.heap.now.config c.in-Ref.address c.args.block c.in-Some.size c.args.dom.now.view c.head_load.new.dom.view =
+    measured_at _ _ g.entry (own_entry c.args.dom.now (Store c.args.block c.args.index c.args.item)) _ _ _ _ _ c.requires.0 told size c.in-Some.is (omega arith) in
     let field = field_known c.args.heap.now c.args.dom.now c.head_load.new.dom.view c.args.block c.args.index c.in-Some.size c.in-Ref.address c.requires.1.0 c.requires.1.1.0 (sym c.in-Ref.ensures.value) looked (omega arith) in
     let own : c.head_load.new.dom.view.own ≡ c.args.dom.now.view.own = ap (λ (x : DomainView). x.own) looked.looked.view in
     (c.head_load.ensures.here, (field.inside, store_may c.args.heap.now c.args.dom.now c.head_load.new.dom.view g.entry c.args.block c.args.index c.args.item c.in-Ref.address _ c.requires.0 own c.requires.1.1.1 (λ empty. c.in_default-value.not-Nothing (c.register-value.ensures.value ∙ empty)) (c.pack_value.ensures ∙ ap value_word c.register-value.ensures.value) field))

@@ -1,0 +1,129 @@
+-- The answer of a turn is determined by what it did: each answer comes exactly where its cause holds.
+use Rattle.std.proofs.Common.{◌≡◌, ◌≢◌, ◌∙◌, ◌⊎◌, ℕ, ◌+◌, ◌<◌, List, [], ◌∷◌, ◌++◌, refl, sym, ap, subst, inl, inr, ⊎_elim, arith, Option, Some, None}
+use Rattle.heap_rule.specs.declared.phase.Note.{Note}
+use Rattle.heap_rule.specs.declared.phase.Note.TheVariants.{Want, Asked, Barrier, Ended, Cleared}
+use Rattle.heap_rule.specs.declared.view.DomainView.{DomainView}
+use Rattle.heap_rule.specs.Token.{SharedHeap}
+use Rattle.domain_turns.specs.declared.turned.Turned.{Turned}
+use Rattle.domain_turns.specs.declared.turned.Turned.TheVariants.{Did, Waiting, Idle}
+use Rattle.domain_turns.specs.declared.turned.Turned.TheVariants.{Ended as Over}
+use Rattle.domain_turns.specs.Runs.{RunView, CalmDid, Rests, CalmAnswers, RunAnswers, TurnAnswers, Starts, Stops, Resumes, GoesBy, Waits, wanting}
+use Rattle.domain_turns.specs.Runs.CalmDid.{Wishes, Tries, Ends}
+
+abbrev notes : RunView → List Note
+notes r = r.token.view.seen.notes
+
+abbrev arrivals : RunView → ℕ
+arrivals r = r.token.view.own.arrivals
+
+-- the last note of a list, or this one
+abbrev last_of : List Note → Note → Note
+last_of [] d = d
+last_of (x ∷ xs) d = last_of xs x
+
+last_snoc : (xs : List Note) (x d : Note) → last_of (xs ++ x ∷ []) d ≡ x
+last_snoc [] x d = refl
+last_snoc (y ∷ xs) x d = last_snoc xs x y
+
+-- what a turn left: it arrived, or its last note is this one
+abbrev Left : RunView → RunView → (Note → Type 0) → Type 0
+Left old new P = (arrivals new ≡ arrivals old) × ((n : Note) × (ns : List Note) × (notes new ≡ ns ++ n ∷ []) × P n)
+
+abbrev IsBarrier : ℕ → Note → Type 0
+IsBarrier b n = n ≡ Barrier b
+
+abbrev IsEnded : ℕ → Note → Type 0
+IsEnded c n = n ≡ Ended c
+
+-- neither a barrier word nor a count of ended traces
+abbrev IsOther : Note → Type 0
+IsOther (Want w) = Unit {0}
+IsOther (Asked w) = Unit {0}
+IsOther _ = ⊥
+
+-- the sign that a turn with this answer leaves
+abbrev Sign : SharedHeap → RunView → RunView → Turned → Type 0
+Sign h old new Did = (arrivals new ≡ arrivals old + 1) ⊎ Left old new IsOther
+Sign h old new (Waiting b) = Left old new (IsBarrier b)
+Sign h old new (Idle n) = Left old new (IsEnded n) × (n < h.config.domains)
+Sign h old new Over = Left old new (IsEnded h.config.domains)
+
+run_sign : (h : SharedHeap) (old new : RunView) (a : Turned) → RunAnswers h old new a → Sign h old new a
+run_sign h old new Did says = ⊎_elim
+    (λ (s : Stops old new). inl (ap arrivals s.run))
+    (λ (c : CalmDid h (wanting old 0) new). inr (did c)) says
+  where
+    did : CalmDid h (wanting old 0) new → Left old new IsOther
+    did (Wishes a) = (ap arrivals a.run, (Asked 1, (notes old ++ Want 0 ∷ []), ap notes a.run, tt))
+    did (Tries c t) = (t.tried.stays.arrivals, (Want 0, notes old, t.tried.stays.notes, tt))
+    did (Ends t) = (t.ended.stays.arrivals, (Want 0, notes old, t.ended.stays.notes, tt))
+run_sign h old new (Waiting b) says = absurd says
+run_sign h old new (Idle n) says = ((ap arrivals says.0.run, (Ended n, (notes old ++ Want 0 ∷ []), ap notes says.0.run, refl)), says.1)
+run_sign h old new Over says = (ap arrivals says.run, (Ended h.config.domains, (notes old ++ Want 0 ∷ []), ap notes says.run, refl))
+
+starts_same : (h : SharedHeap) (old start : RunView) → Starts h old start → arrivals start ≡ arrivals old
+starts_same h old start s = ⊎_elim (λ (t : (old.left ≡ None) × (start ≡ old)). ap arrivals t.1) (λ (t : Resumes h old start). ap (λ (x : DomainView). x.own.arrivals) t.passed.view) s
+
+from_start : (h : SharedHeap) (old start new : RunView) (a : Turned) → arrivals start ≡ arrivals old → Sign h start new a → Sign h old new a
+from_start h old start new Did same s = ⊎_elim
+    (λ (e : arrivals new ≡ arrivals start + 1). inl (e ∙ ap (λ (n : ℕ). n + 1) same))
+    (λ (l : Left start new IsOther). inr (l.0 ∙ same, l.1)) s
+from_start h old start new (Waiting b) same s = (s.0 ∙ same, s.1)
+from_start h old start new (Idle n) same s = ((s.0.0 ∙ same, s.0.1), s.1)
+from_start h old start new Over same s = (s.0 ∙ same, s.1)
+
+sign : (h : SharedHeap) (old new : RunView) (a : Turned) → TurnAnswers h old new a → Sign h old new a
+sign h old new Did says = ⊎_elim
+    (λ (g : GoesBy h old new). inl (ap (λ o. o.arrivals) g.passes.own))
+    (λ (t : (start : RunView) × Starts h old start × RunAnswers h start new Did). from_start h old t.0 new Did (starts_same h old t.0 t.1) (run_sign h t.0 new Did t.2)) says
+sign h old new (Waiting b) w = (ap arrivals w.run, (Barrier b, notes old, ap notes w.run, refl))
+sign h old new (Idle n) t = from_start h old t.0 new (Idle n) (starts_same h old t.0 t.1) (run_sign h t.0 new (Idle n) t.2)
+sign h old new Over t = from_start h old t.0 new Over (starts_same h old t.0 t.1) (run_sign h t.0 new Over t.2)
+
+-- two signs have one last note
+one_note : (old new : RunView) (P Q : Note → Type 0) → Left old new P → Left old new Q → (n : Note) × P n × Q n
+one_note old new P Q p q =
+    let n : Note = p.1.0 in
+    let m : Note = q.1.0 in
+    let same : m ≡ n = sym (last_snoc q.1.1 m Cleared) ∙ (ap (λ (l : List Note). last_of l Cleared) (sym q.1.2 ∙ p.1.2) ∙ last_snoc p.1.1 n Cleared) in
+    (n, p.1.3, subst Q same q.1.3)
+
+barriers : (b c : ℕ) → Barrier b ≡ Barrier c → b ≡ c
+barriers b c e = cc
+
+ends : (b c : ℕ) → Ended b ≡ Ended c → b ≡ c
+ends b c e = cc
+
+apart : (b c : ℕ) → Barrier b ≡ Ended c → ⊥
+apart b c e = cc
+
+no_did : (h : SharedHeap) (old new : RunView) (P : Note → Type 0) → ((n : Note) → P n → IsOther n → ⊥) → Left old new P → Sign h old new Did → ⊥
+no_did h old new P none l s = ⊎_elim (λ (e : arrivals new ≡ arrivals old + 1). let f = l.0 in omega arith) (λ (o : Left old new IsOther). let t = one_note old new P IsOther l o in none t.0 t.1 t.2) s
+
+not_barrier : (b : ℕ) (n : Note) → IsBarrier b n → IsOther n → ⊥
+not_barrier b n is other = subst IsOther is other
+
+not_ended : (c : ℕ) (n : Note) → IsEnded c n → IsOther n → ⊥
+not_ended c n is other = subst IsOther is other
+
+one_sign : (h : SharedHeap) (old new : RunView) (a b : Turned) → Sign h old new a → Sign h old new b → a ≡ b
+one_sign h old new Did Did p q = refl
+one_sign h old new Did (Waiting c) p q = absurd (no_did h old new (IsBarrier c) (not_barrier c) q p)
+one_sign h old new Did (Idle c) p q = absurd (no_did h old new (IsEnded c) (not_ended c) q.0 p)
+one_sign h old new Did Over p q = absurd (no_did h old new (IsEnded h.config.domains) (not_ended h.config.domains) q p)
+one_sign h old new (Waiting b) Did p q = absurd (no_did h old new (IsBarrier b) (not_barrier b) p q)
+one_sign h old new (Waiting b) (Waiting c) p q = let t = one_note old new (IsBarrier b) (IsBarrier c) p q in ap Waiting (barriers b c (sym t.1 ∙ t.2))
+one_sign h old new (Waiting b) (Idle c) p q = let t = one_note old new (IsBarrier b) (IsEnded c) p q.0 in absurd (apart b c (sym t.1 ∙ t.2))
+one_sign h old new (Waiting b) Over p q = let t = one_note old new (IsBarrier b) (IsEnded h.config.domains) p q in absurd (apart b h.config.domains (sym t.1 ∙ t.2))
+one_sign h old new (Idle b) Did p q = absurd (no_did h old new (IsEnded b) (not_ended b) p.0 q)
+one_sign h old new (Idle b) (Waiting c) p q = let t = one_note old new (IsBarrier c) (IsEnded b) q p.0 in absurd (apart c b (sym t.1 ∙ t.2))
+one_sign h old new (Idle b) (Idle c) p q = let t = one_note old new (IsEnded b) (IsEnded c) p.0 q.0 in ap Idle (ends b c (sym t.1 ∙ t.2))
+one_sign h old new (Idle b) Over p q = let t = one_note old new (IsEnded b) (IsEnded h.config.domains) p.0 q in absurd (let e : b ≡ h.config.domains = ends b h.config.domains (sym t.1 ∙ t.2) in let f = p.1 in omega arith)
+one_sign h old new Over Did p q = absurd (no_did h old new (IsEnded h.config.domains) (not_ended h.config.domains) p q)
+one_sign h old new Over (Waiting c) p q = let t = one_note old new (IsBarrier c) (IsEnded h.config.domains) q p in absurd (apart c h.config.domains (sym t.1 ∙ t.2))
+one_sign h old new Over (Idle c) p q = let t = one_note old new (IsEnded c) (IsEnded h.config.domains) q.0 p in absurd (let e : c ≡ h.config.domains = ends c h.config.domains (sym t.1 ∙ t.2) in let f = q.1 in omega arith)
+one_sign h old new Over Over p q = refl
+
+-- what a turn did determines its answer
+pub one_answer : (h : SharedHeap) (old new : RunView) (a b : Turned) → TurnAnswers h old new a → TurnAnswers h old new b → b ≡ a
+one_answer h old new a b p q = sym (one_sign h old new a b (sign h old new a p) (sign h old new b q))

@@ -1,0 +1,74 @@
+-- A turn goes on with the same run.
+use Rattle.std.proofs.Common.{◌≡◌, ◌≢◌, ◌∙◌, ◌⊎◌, ℕ, ◌<◌, List, [], ◌∷◌, ◌++◌, append-nil, append_assoc, refl, sym, ap, subst, inr, ⊎_elim}
+use Rattle.heap_model.specs.declared.entry.Entry.{Entry}
+use Rattle.heap_model.specs.declared.reply.Applied.{Applied}
+use Rattle.heap_model.specs.declared.state.Sizes.{Sizes}
+use Rattle.heap_model.specs.Fronts.{Answers}
+use Rattle.heap_model.specs.History.{IsPrefix}
+use Rattle.heap_rule.specs.Token.{SharedHeap}
+use Rattle.domain_turns.specs.declared.turned.Turned.{Turned}
+use Rattle.domain_turns.specs.declared.turned.Turned.TheVariants.{Did, Waiting, Idle}
+use Rattle.domain_turns.specs.declared.turned.Turned.TheVariants.{Ended as Over}
+use Rattle.domain_turns.specs.Runs.{RunView, CalmDid, Rests, CalmAnswers, RunAnswers, Stops, Resumes, wanting, GoesOn}
+use Rattle.domain_turns.specs.Runs.CalmDid.{Wishes, Tries, Ends}
+use Rattle.domain_turns.proofs.Moving.{front_prefix}
+use Rattle.domain_turns.proofs.Turning.{stood}
+
+answered_front : (z : Sizes) (d : ℕ) (old new : List Entry) (e : Entry) (r : Applied) → Answers z d old new e r → IsPrefix old new
+answered_front z d old new e r a = record { rest = a.between ++ e ∷ []; appends = a.appends ∙ append_assoc old a.between (e ∷ []) }
+
+same_prefix : (old new : List Entry) → new ≡ old → IsPrefix old new
+same_prefix old new is = record { rest = []; appends = is ∙ sym (append-nil old) }
+
+calm_did : (h : SharedHeap) (old new : RunView) → CalmDid h old new → GoesOn old new
+calm_did h old new (Wishes a) = record {
+  commands = ap (λ (r : RunView). r.commands) a.run;
+  number = ap (λ (r : RunView). r.token.view.own.number) a.run;
+  front = same_prefix _ _ (ap (λ (r : RunView). r.token.view.seen.front) a.run);
+}
+calm_did h old new (Tries c t) = record { commands = ap (λ (r : RunView). r.commands) t.run; number = t.tried.number; front = answered_front _ _ _ _ _ _ (stood h old.token new.token c t.reply t.tried.stands).1 }
+calm_did h old new (Ends t) = record { commands = ap (λ (r : RunView). r.commands) t.run; number = t.ended.number; front = answered_front _ _ _ _ _ _ t.ended.answers }
+
+rests : (old new : RunView) (n : ℕ) → Rests old new n → GoesOn old new
+rests old new n r = record {
+  commands = ap (λ (r : RunView). r.commands) r.run;
+  number = ap (λ (r : RunView). r.token.view.own.number) r.run;
+  front = same_prefix _ _ (ap (λ (r : RunView). r.token.view.seen.front) r.run);
+}
+
+-- what a run has that has found a want word it had before
+wanted : (old new : RunView) (w : ℕ) → GoesOn (wanting old w) new → GoesOn old new
+wanted old new w g = record { commands = g.commands; number = g.number; front = g.front }
+
+pub run_goes : (h : SharedHeap) (old new : RunView) (a : Turned) → RunAnswers h old new a → GoesOn old new
+run_goes h old new Did says = ⊎_elim
+    (λ (s : Stops old new). record {
+      commands = ap (λ (r : RunView). r.commands) s.run;
+      number = ap (λ (r : RunView). r.token.view.own.number) s.run;
+      front = same_prefix _ _ (ap (λ (r : RunView). r.token.view.seen.front) s.run);
+    })
+    (λ (c : CalmDid h (wanting old 0) new). wanted old new 0 (calm_did h (wanting old 0) new c)) says
+run_goes h old new (Waiting b) says = absurd says
+run_goes h old new (Idle n) says = wanted old new 0 (rests (wanting old 0) new n says.0)
+run_goes h old new Over says = wanted old new 0 (rests (wanting old 0) new h.config.domains says)
+
+-- a running domain that found no wish
+pub calm_run : (h : SharedHeap) (old start new : RunView) (w : ℕ) (a : Turned) → start ≡ wanting old w → w ≡ 0 → CalmAnswers h start new a → RunAnswers h old new a
+calm_run h old start new w a is none says = by_answer a (subst (λ (n : ℕ). CalmAnswers h (wanting old n) new a) none (subst (λ (r : RunView). CalmAnswers h r new a) is says))
+  where
+    by_answer : (b : Turned) → CalmAnswers h (wanting old 0) new b → RunAnswers h old new b
+    by_answer Did c = inr c
+    by_answer (Waiting b) c = c
+    by_answer (Idle n) c = c
+    by_answer Over c = c
+
+-- a domain that runs again after a pause
+pub resumed_goes : (h : SharedHeap) (old start new : RunView) (a : Turned) → Resumes h old start → RunAnswers h start new a → GoesOn old new
+resumed_goes h old start new a r says =
+    let g = run_goes h start new a says in
+    let p = front_prefix _ _ _ r.passed.seen in
+    record {
+      commands = g.commands ∙ ap (λ (x : RunView). x.commands) r.run;
+      number = g.number ∙ ap (λ x. x.own.number) r.passed.view;
+      front = record { rest = p.rest ++ g.front.rest; appends = g.front.appends ∙ (ap (λ (xs : List Entry). xs ++ g.front.rest) p.appends ∙ append_assoc old.token.view.seen.front p.rest g.front.rest) };
+    }

@@ -1,0 +1,90 @@
+-- A run whose domain moved in the phases, and made no entry.
+use Rattle.std.proofs.Common.{◌≡◌, ◌∙◌, ℕ, ◌+◌, ◌≤◌, Bool, true, false, List, [], ◌∷◌, ◌++◌, length, append-nil, append_assoc, refl, sym, ap, subst, arith, Option, None, Some}
+use Rattle.std.specs.Prelude.{IsTrue, ◌||◌}
+use Rattle.std.specs.List.{list_any}
+use Rattle.heap_model.specs.declared.command.Command as model
+use Rattle.heap_model.specs.declared.entry.Entry.{Entry}
+use Rattle.heap_model.specs.declared.reply.Reply.{Reply}
+use Rattle.heap_model.specs.Domains.{opening}
+use Rattle.heap_model.specs.History.{IsPrefix, state_after, commands, replies}
+use Rattle.heap_model.specs.Fronts.{IsFrontOf, Answers}
+use Rattle.heap_model.proofs.HistoryLemmas.{commands-append, commands-others, replies_from-append, replies_from-others}
+use Rattle.heap_model.proofs.FrontLemmas.{keeps_front}
+use Rattle.heap_rule.specs.declared.config.Config.{Config}
+use Rattle.heap_rule.specs.declared.phase.Kind.{Kind}
+use Rattle.heap_rule.specs.declared.view.DomainView.{DomainView}
+use Rattle.heap_rule.specs.Limits.{sizes_in}
+use Rattle.heap_rule.specs.Token.{Token, SharedHeap, IsIn}
+use Rattle.domain_turns.specs.Runs.{RunView, IsRun, StandsAt, is_end_of}
+
+-- the domain made no entry, and has the labels and the block in the making that it had
+pub record Moves (old new : Token) : Type 0 where
+  pub config : new.config ≡ old.config
+  pub number : new.view.own.number ≡ old.view.own.number
+  pub serial : new.view.own.serial ≡ old.view.own.serial
+  pub made : new.view.seen.made ≡ old.view.seen.made
+  pub hunt : new.view.seen.hunt ≡ old.view.seen.hunt
+  pub front : IsFrontOf old.view.own.number new.view.seen.front old.view.seen.front
+
+any_append : (p : Entry → Bool) (xs ys : List Entry) → IsTrue (list_any p xs) → IsTrue (list_any p (xs ++ ys))
+any_append p [] ys is = absurd (let clash : false ≡ true = is in cc)
+any_append p (x ∷ xs) ys is = more (p x) (list_any p xs) (list_any p (xs ++ ys)) (any_append p xs ys) is
+  where
+    more : (a b c : Bool) → (IsTrue b → IsTrue c) → IsTrue (a || b) → IsTrue (a || c)
+    more true b c f h = refl
+    more false b c f h = f h
+
+pub moved_is_run : (r : RunView) (new : Token) (left : Option Kind) (asked : Option ℕ) → IsRun r → Moves r.token new → StandsAt left new.view.seen.stage → IsRun (record r { token = new; left = left; asked = asked })
+moved_is_run r new left asked is m stands =
+    let d : ℕ = r.token.view.own.number in
+    let k : Config = r.token.config in
+    let old : List Entry = r.token.view.seen.front in
+    let rest : List Entry = m.front.rest in
+    let made : commands new.view.seen.front d ≡ commands old d =
+    ap (λ (h : List Entry). commands h d) m.front.appends ∙ commands-append old rest d ∙ ap (λ t. commands old d ++ t) (commands-others rest d m.front.others) ∙ append-nil (commands old d) in
+    let answered : replies (sizes_in k) new.view.seen.front d ≡ replies (sizes_in k) old d =
+    ap (λ (h : List Entry). replies (sizes_in k) h d) m.front.appends ∙ replies_from-append (opening (sizes_in k)) old rest d
+    ∙ ap (λ t. replies (sizes_in k) old d ++ t) (replies_from-others (state_after (opening (sizes_in k)) old) rest d m.front.others) ∙ append-nil (replies (sizes_in k) old d) in
+    record {
+      made = ap (commands new.view.seen.front) m.number ∙ made ∙ is.made;
+      answered = ap (λ (n : ℕ). replies (sizes_in new.config) new.view.seen.front n) m.number ∙ ap (λ (c : Config). replies (sizes_in c) new.view.seen.front d) m.config ∙ answered ∙ is.answered;
+      each = is.each;
+      within = is.within;
+      few = is.few;
+      fit = is.fit;
+      idle = m.made ∙ is.idle;
+      at_rest = m.hunt ∙ is.at_rest;
+      goes_on = λ running. subst (λ (x : ℕ × Config). (Rattle.heap_model.specs.Domains.domain_at (state_after (opening (sizes_in x.1)) new.view.seen.front) x.0).ended ≡ false) (λ i. (sym m.number i, sym m.config i))
+          ((keeps_front (opening (sizes_in k)) d new.view.seen.front old m.front).ended ∙ is.goes_on running);
+      stands = stands;
+      labels = subst (λ (n : ℕ). n ≤ 4000000000 + r.next) (sym m.serial) is.labels;
+      done = is.done;
+      over = λ ended. subst (λ (x : ℕ × List Entry). IsTrue (list_any (is_end_of x.0) x.1)) (λ i. (sym m.number i, sym m.front.appends i)) (any_append (is_end_of d) old rest (is.over ended));
+    }
+
+-- the whole token, by its view
+pub token_is : (h : SharedHeap) (old new : Token) (view : DomainView) → IsIn old h → IsIn new h → new.view ≡ view → new ≡ record old { view = view }
+token_is h old new view a b is = λ i. record { table = (b.0 ∙ sym a.0) i; config = (b.1 ∙ sym a.1) i; view = is i }
+
+same_front : (d : ℕ) (front : List Entry) → IsFrontOf d front front
+same_front d front = record { rest = []; appends = sym (append-nil front); others = refl }
+
+-- the domain moved to a view with the same number, labels and block in the making
+pub view_moves : (h : SharedHeap) (old new : Token) (y : DomainView) → IsIn old h → IsIn new h → new.view ≡ y → y.own.number ≡ old.view.own.number → y.own.serial ≡ old.view.own.serial → y.seen.made ≡ old.view.seen.made → y.seen.hunt ≡ old.view.seen.hunt
+    → IsFrontOf old.view.own.number y.seen.front old.view.seen.front → Moves old new
+view_moves h old new y a b is number serial made hunt front = record {
+  config = b.1 ∙ sym a.1;
+  number = ap (λ (z : DomainView). z.own.number) is ∙ number;
+  serial = ap (λ (z : DomainView). z.own.serial) is ∙ serial;
+  made = ap (λ (z : DomainView). z.seen.made) is ∙ made;
+  hunt = ap (λ (z : DomainView). z.seen.hunt) is ∙ hunt;
+  front = subst (λ (z : DomainView). IsFrontOf old.view.own.number z.seen.front old.view.seen.front) (sym is) front;
+}
+
+-- and has the same front
+pub still_moves : (h : SharedHeap) (old new : Token) (y : DomainView) → IsIn old h → IsIn new h → new.view ≡ y → y.own.number ≡ old.view.own.number → y.own.serial ≡ old.view.own.serial → y.seen.made ≡ old.view.seen.made → y.seen.hunt ≡ old.view.seen.hunt
+    → y.seen.front ≡ old.view.seen.front → Moves old new
+still_moves h old new y a b is number serial made hunt front = view_moves h old new y a b is number serial made hunt (subst (λ (f : List Entry). IsFrontOf old.view.own.number f old.view.seen.front) (sym front) (same_front old.view.own.number old.view.seen.front))
+
+pub front_prefix : (d : ℕ) (new old : List Entry) → IsFrontOf d new old → IsPrefix old new
+front_prefix d new old f = record { rest = f.rest; appends = f.appends }

@@ -1,0 +1,14 @@
+//! What a turn answers.
+
+/// What a turn did.
+#[derive(Clone, Copy, Debug, PartialEq, Eq)]
+pub enum Turned {
+    /// It tried one command, did its share of a phase, arrived, asked for a pause, or ended the trace.
+    Did,
+    /// The domain has arrived and others haven't: the barrier word, below the end of its turn.
+    Waiting(u64),
+    /// The trace has ended, no pause is wanted, and so many traces have ended, which aren't all.
+    Idle { ended: u64 },
+    /// The trace has ended, no pause is wanted, and all traces have ended.
+    Ended,
+}

@@ -1,5 +1,0 @@
-use Rattle.heap_model.proofs.SoundLemmas.{sound_followed}
-use Rattle.heap_model.proofs.slow_heap.SlowHeap.apply.Goals as goal
-
-pub invariant_of-self : goal.invariant_of-self
-invariant_of-self c = sound_followed _ _ c.args.entry.now c.follow.result c.self.invariant c.follow.ensures.state c.follow.ensures.err

@@ -1,6 +1,0 @@
-use Rattle.std.proofs.Common.{◌≡◌, [], replicate}
-use Rattle.heap_model.proofs.slow_heap.opening.empty_queues.Given as goal
-
--- as many queues as turns
-abbrev pub invariant-loop-i : goal.invariant-loop-i
-invariant-loop-i l = l.queues.items ≡ replicate l._i []

@@ -1,0 +1,184 @@
+-- Steps on the control words of the phases: the other words stay, and so does what they stand for.
+use Rattle.std.proofs.Common.{◌≡◌, ◌≢◌, ℕ, zero, suc, ◌+◌, ◌*◌, ◌<◌, ◌≤◌, ◌⊎◌, List, length, get_or, set, Some, sym, refl, ap, ◌∙◌, subst, arith, ⊎_elim, inl, inr, suc-mul, zero-le}
+use mathlib.Core.Logic.{dite}
+use native.Mathlib.Decide.{ℕ_discrete}
+use mathlib.Core.Option.{some}
+use lib.ListN.{get_elem?}
+use Rattle.heap_model.specs.declared.entry.Entry.{Entry}
+use Rattle.heap_model.specs.Graph.{Graph}
+use Rattle.heap_model.specs.Fronts.{IsFrontOf}
+use Rattle.heap_rule.specs.declared.config.Config.{Config}
+use Rattle.heap_rule.specs.declared.phase.Stage.{Stage}
+use Rattle.heap_rule.specs.declared.phase.Note.{Note}
+use Rattle.heap_rule.specs.declared.view.DomainView.{DomainView}
+use Rattle.heap_rule.specs.Layout.{before_heap, at_address, ended_word, cursor}
+use Rattle.heap_rule.specs.Places.{Place, Live, HeadIs}
+use Rattle.heap_rule.specs.Phases.{Pause, Phases, sum_of, IsEven, IsOdd, Staged, Still}
+use Rattle.heap_rule.specs.Pools.{Holder, Tenancy, Pools, Grid, Drawers, Resting, Hunter, place_in}
+use Rattle.heap_rule.specs.Rule.{state_of, AllFound, Prepared, NoCycle, Rule}
+use Rattle.heap_rule.specs.Views.{one}
+use Rattle.heap_rule.proofs.Holders.{Agrees, same_self, hunter_agree}
+use Rattle.heap_rule.proofs.Keeps.{Words, mine, my_good, remakes, knows_front, phases_words, pools_words, hunter_as}
+
+-- all words stay but the first four, want, barrier, plan and changed, and the ended word
+abbrev pub Untouched : List ℕ → List ℕ → Type 0
+Untouched words words' = (length words' ≡ length words) × ((i : ℕ) → 4 ≤ i → i ≢ 8 → get_or words' i 0 ≡ get_or words i 0)
+
+pub untouched_same : (words : List ℕ) → Untouched words words
+untouched_same words = (refl, λ i low other. refl)
+
+pub found_untouched : (k : Config) (live : Live) (graph : Graph) (words words' : List ℕ) → Untouched words words' → AllFound k live graph words → AllFound k live graph words'
+found_untouched k live graph words words' u found a p lives = let f = found a p lives in record {
+  node = f.node;
+  there = f.there;
+  shape = f.shape;
+  head = subst (HeadIs p.shape) (sym (u.1 (before_heap k + a) (omega arith) (λ e. away a e))) f.head;
+  label = u.1 (before_heap k + (a + 1)) (omega arith) (λ e. away (a + 1) e) ∙ f.label;
+  values = λ i v e. let w = f.values i v e in record { value = w.value; packs = u.1 (before_heap k + (a + 2 + i)) (omega arith) (λ e. away (a + 2 + i) e) ∙ w.packs; stands = w.stands };
+} where
+  away : (b : ℕ) → before_heap k + b ≡ 8 → ⊥
+  away b e = let h : 10 + 2 * k.pools + b ≡ 8 = e in omega arith
+
+pub prepared_untouched : (k : Config) (words words' : List ℕ) (z : DomainView) → Untouched words words' → Prepared k words z → Prepared k words' z
+prepared_untouched k words words' z u p = record {
+  fits = p.fits;
+  written = λ j w e. u.1 (before_heap k + _) (omega arith) (λ e. let h : 10 + 2 * k.pools + _ ≡ 8 = e in omega arith) ∙ p.written j w e;
+}
+
+pub pools_untouched : (k : Config) (t : Tenancy) (words words' : List ℕ) → Untouched words words' → Pools k t words → Pools k t words'
+pools_untouched k t words words' u s = pools_words k t words words' (u.1 6 (omega arith) (λ e. omega arith)) (u.1 7 (omega arith) (λ e. omega arith)) (λ i h. u.1 (11 + i) (omega arith) (λ e. omega arith)) (λ q h. u.1 (11 + k.pools + q) (omega arith) (λ e. omega arith)) s
+
+agrees_untouched : (k : Config) (words words' : List ℕ) → Untouched words words' → Agrees k words words'
+agrees_untouched k words words' u = record {
+  count = u.1 6 (omega arith) (λ e. omega arith);
+  list = λ i h. u.1 (11 + i) (omega arith) (λ e. omega arith);
+  heap = λ a low. u.1 (before_heap k + a) (omega arith) (λ e. let h : 10 + 2 * k.pools + a ≡ 8 = e in omega arith);
+}
+
+pub grid_untouched : (k : Config) (holder : ℕ → Holder) (live : Live) (words words' : List ℕ) → Untouched words words' → Grid k holder live words → Grid k holder live words'
+grid_untouched k holder live words words' u g = let same = agrees_untouched k words words' u in record {
+  lots = g.lots;
+  places = λ q d c slot is inside. ⊎_elim (λ (z : at_address k words (place_in q c slot) ≡ 0). inl (same.heap (place_in q c slot) (omega arith) ∙ z)) (λ (z : (p : Place) × (live (place_in q c slot) ≡ Some p)). inr z) (g.places q d c slot is inside);
+}
+
+pub hunter_untouched : (k : Config) (t : Tenancy) (words words' : List ℕ) (z : DomainView) → Untouched words words' → Hunter k t words z → Hunter k t words' z
+hunter_untouched k t words words' z u h = hunter_agree k t t words words' (agrees_untouched k words words' u) z (let e : cursor words' ≡ cursor words = u.1 7 (omega arith) (λ e. omega arith) in let c : ℕ = cursor words in let c' : ℕ = cursor words' in let f : c' ≡ c = e in let l : c ≤ c' = omega arith in l) (same_self t z.own.number) h
+
+pub cycle_untouched : (words words' : List ℕ) → Untouched words words' → NoCycle words → NoCycle words'
+cycle_untouched words words' u s = record { armed_is = u.1 4 (omega arith) (λ e. omega arith) ∙ s.armed_is; colours_are = u.1 5 (omega arith) (λ e. omega arith) ∙ s.colours_are }
+
+-- sums over the domains
+sum_else : (f g : ℕ → ℕ) (d n : ℕ) → n ≤ d → ((j : ℕ) → j ≢ d → g j ≡ f j) → sum_of g n ≡ sum_of f n
+sum_else f g d zero above same = refl
+sum_else f g d (suc n) above same = let a = sum_else f g d n (omega arith) same in let b = same n (λ e. omega arith) in λ i. a i + b i
+
+-- where one domain has one more
+pub sum_one : (f g : ℕ → ℕ) (d n : ℕ) → d < n → g d ≡ f d + 1 → ((j : ℕ) → j ≢ d → g j ≡ f j) → sum_of g n ≡ sum_of f n + 1
+sum_one f g d zero below more same = absurd (omega arith)
+sum_one f g d (suc n) below more same = dite (ℕ_discrete n d)
+    (λ here.
+    let a : sum_of g n ≡ sum_of f n = sum_else f g d n (let h : n ≡ d = here in omega arith) same in
+    let b : g n ≡ f n + 1 = ap g here ∙ (more ∙ ap (λ (j : ℕ). f j + 1) (sym here)) in
+    let x : ℕ = sum_of f n in let y : ℕ = f n in let h : x + (y + 1) ≡ x + y + 1 = omega arith in (λ i. a i + b i) ∙ h)
+    (λ other.
+    let a : sum_of g n ≡ sum_of f n + 1 = sum_one f g d n (let h : n ≢ d = other in omega arith) more same in
+    let b : g n ≡ f n = same n other in
+    let x : ℕ = sum_of f n in let y : ℕ = f n in let h : x + 1 + y ≡ x + y + 1 = omega arith in (λ i. a i + b i) ∙ h)
+
+pub sum_low : (f : ℕ → ℕ) (n c : ℕ) → ((d : ℕ) → d < n → f d ≤ c) → sum_of f n ≤ n * c
+sum_low f zero c each = zero-le
+sum_low f (suc n) c each =
+    let a : sum_of f n ≤ n * c = sum_low f n c (λ d h. each d (omega arith)) in
+    let b : f n ≤ c = each n (omega arith) in
+    let s : suc n * c ≡ n * c + c = suc-mul n c in
+    let x : ℕ = sum_of f n in let y : ℕ = n * c in let z : x + f n ≤ y + c = omega arith in subst (λ (w : ℕ). x + f n ≤ w) (sym s) z
+
+-- where the sum is as large as it can be, each is
+pub all_up : (f : ℕ → ℕ) (n c : ℕ) → ((d : ℕ) → d < n → f d ≤ c) → sum_of f n ≡ n * c → (d : ℕ) → d < n → f d ≡ c
+all_up f zero c each full d below = absurd (omega arith)
+all_up f (suc n) c each full d below =
+    let a : sum_of f n ≤ n * c = sum_low f n c (λ d h. each d (omega arith)) in
+    let b : f n ≤ c = each n (omega arith) in
+    let s : sum_of f n + f n ≡ n * c + c = full ∙ suc-mul n c in
+    let x : ℕ = sum_of f n in let y : ℕ = n * c in
+    let a' : x ≤ y = a in let s' : x + f n ≡ y + c = s in
+    dite (ℕ_discrete d n)
+    (λ same. ap f same ∙ (let z : f n ≡ c = omega arith in z))
+    (λ other. all_up f n c (λ d h. each d (omega arith)) (let z : x ≡ y = omega arith in z) d (omega arith))
+
+pub parity : (n : ℕ) → IsEven n ⊎ IsOdd n
+parity zero = inl (0, refl)
+parity (suc n) = ⊎_elim (λ (t : IsEven n). inr (t.0, let j : ℕ = t.0 in let e : n ≡ j * 2 = t.1 in let g : suc n ≡ j * 2 + 1 = omega arith in g))
+    (λ (t : IsOdd n). inl (t.0 + 1, let j : ℕ = t.0 in let e : n ≡ j * 2 + 1 = t.1 in let g : suc n ≡ (j + 1) * 2 = omega arith in g)) (parity n)
+
+-- a domain's view after a step of a pause
+abbrev pub moved_to : DomainView → ℕ → List Entry → Stage → List Note → DomainView
+moved_to x arrivals front stage notes = record { own = record x.own { arrivals = arrivals }; seen = record x.seen { front = front; stage = stage; notes = notes } }
+
+module _ (k : Config) (s : Words) (r : Rule k s) (id : ℕ) (hist : List Entry) (x : DomainView) (at : get_elem? s.views id ≡ some (one k hist x)) where
+  -- What a step of a pause owes: no entry stands, no block changes, and the phases may turn
+  pub record Turns (y : DomainView) (pause' : Pause) (words' : List ℕ) : Type 0 where
+    pub untouched : Untouched s.words words'
+    pub front : IsFrontOf x.own.number r.log y.seen.front
+    pub phases : Phases k pause' words'
+    pub endings : ended_word words' ≡ ended_word s.words
+    pub staged : Staged pause' y
+    pub still : Still r.log y
+    pub resting : Resting y
+    pub drawers : Drawers pause' r.tenancy
+    pub others : (z : DomainView) → z.own.number < k.domains → z.own.number ≢ x.own.number → Staged r.pause z → Staged pause' z
+
+  pub turns : (arrivals : ℕ) (front : List Entry) (stage : Stage) (notes : List Note) (pause' : Pause) (words' : List ℕ) → let y : DomainView = moved_to x arrivals front stage notes in Turns y pause' words'
+      → Rule k record { words = words'; homes = s.homes; views = set s.views id (one k hist y) }
+  turns arrivals front stage notes pause' words' o =
+      let y : DomainView = moved_to x arrivals front stage notes in
+      let g = my_good k s r id hist x at in
+      let p = prepared_untouched k s.words words' x o.untouched g.prepared in
+      remakes k s r id hist x at y r.log words' r.live pause' r.tenancy
+      record {
+        wide = o.untouched.0 ∙ r.whole.wide;
+        legal = r.whole.legal;
+        calm = r.whole.calm;
+        found = found_untouched k r.live (state_of k r.log).graph s.words words' o.untouched r.whole.found;
+        placed = r.whole.placed;
+        phases = o.phases;
+        endings = o.endings ∙ r.whole.endings;
+        pools = pools_untouched k r.tenancy s.words words' o.untouched r.whole.pools;
+        grid = grid_untouched k r.tenancy.holder r.live s.words words' o.untouched r.whole.grid;
+        drawers = o.drawers;
+        cycle = cycle_untouched s.words words' o.untouched r.whole.cycle;
+      }
+      (knows_front k s r id hist x at y refl o.front)
+      record {
+        stood = record { wide = g.stood.wide; each = g.stood.each; serial = g.stood.serial };
+        area = record { room = g.area.room; free = g.area.free };
+        prepared = record { fits = p.fits; written = p.written };
+        staged = o.staged;
+        still = o.still;
+        hunter = hunter_as k r.tenancy words' x y refl refl refl refl (hunter_untouched k r.tenancy s.words words' x o.untouched g.hunter);
+        resting = o.resting;
+      }
+      (λ z below other h. record {
+        stood = h.stood;
+        area = h.area;
+        prepared = prepared_untouched k s.words words' z o.untouched h.prepared;
+        staged = o.others z below other h.staged;
+        still = h.still;
+        hunter = hunter_untouched k r.tenancy s.words words' z o.untouched h.hunter;
+        resting = h.resting;
+      })
+
+  -- a step that leaves where all stand, and the front
+  pub notes_rule : (notes : List Note) (words' : List ℕ) → Untouched s.words words' → get_or words' 1 0 ≡ get_or s.words 1 0 → get_or words' 2 0 ≡ get_or s.words 2 0 → ended_word words' ≡ ended_word s.words
+      → Rule k record { words = words'; homes = s.homes; views = set s.views id (one k hist (moved_to x x.own.arrivals x.seen.front x.seen.stage notes)) }
+  notes_rule notes words' u b c e = let g = my_good k s r id hist x at in turns x.own.arrivals x.seen.front x.seen.stage notes r.pause words' record {
+    untouched = u;
+    front = (mine k s r id hist x at).front;
+    phases = phases_words k r.pause s.words words' b c r.whole.phases;
+    endings = e;
+    staged = record { arrivals = g.staged.arrivals; stage = g.staged.stage };
+    still = g.still;
+    resting = λ n. g.resting n;
+    drawers = r.whole.drawers;
+    others = λ z _ _ st. st;
+  }

@@ -1,0 +1,193 @@
+-- One pool gets another holder, and a word before the heap's changes.
+use Rattle.std.proofs.Common.{◌≡◌, ◌≢◌, ℕ, zero, suc, ◌+◌, ◌<◌, ◌≤◌, ◌⊎◌, List, set, Some, sym, refl, ap, ◌∙◌, subst, inl, inr, ⊎_elim, arith, get_or-set_other}
+use mathlib.Core.Logic.{dite}
+use native.Mathlib.Decide.{ℕ_discrete}
+use Rattle.heap_model.specs.Graph.{Graph}
+use Rattle.heap_rule.specs.declared.config.Config.{Config}
+use Rattle.heap_rule.specs.declared.view.Hunt.{Hunt}
+use Rattle.heap_rule.specs.declared.view.Hunt.TheVariants.{Rests, Counts, Asks, Draws, Walks, Fills}
+use Rattle.heap_rule.specs.declared.view.DomainView.{DomainView}
+use Rattle.heap_rule.specs.Layout.{before_heap, base_of, at_address, listed_pool, listed, cursor}
+use Rattle.heap_rule.specs.Places.{Place, Live, Placed}
+use Rattle.heap_rule.specs.Rule.{AllFound, Prepared}
+use Rattle.heap_rule.specs.Pools.{Holder, nobody, drawn, owned, Tenancy, Grid, Hunts, Hunter, place_in, blocks_of, limit_of}
+use Rattle.heap_rule.specs.Phases.{sum_of}
+use Rattle.heap_rule.proofs.Update.{over, over_here, over_else}
+
+-- the words agree on the list and on the heap
+pub record Agrees (k : Config) (words words' : List ℕ) : Type 0 where
+  pub count : listed words' ≡ listed words
+  pub list : (i : ℕ) → i < k.pools → listed_pool words' i ≡ listed_pool words i
+  pub heap : (a : ℕ) → 1 ≤ a → at_address k words' a ≡ at_address k words a
+
+pub agrees_same : (k : Config) (words : List ℕ) → Agrees k words words
+agrees_same k words = record { count = refl; list = λ i h. refl; heap = λ a h. refl }
+
+pub agrees_set : (k : Config) (words : List ℕ) (j new : ℕ) → j ≢ 6 → (j < 11) ⊎ (11 + k.pools ≤ j) → j ≤ before_heap k → Agrees k words (set words j new)
+agrees_set k words j new other beside low = record {
+  count = get_or-set_other words j 6 new 0 (λ e. other (sym e));
+  list = λ i h. get_or-set_other words j (11 + i) new 0 (λ e. let g : 11 + i ≡ j = e in let l : i < k.pools = h in ⊎_elim (λ (b : j < 11). omega arith) (λ (b : 11 + k.pools ≤ j). omega arith) beside);
+  heap = λ a h. get_or-set_other words j (before_heap k + a) new 0 (λ e. let g : before_heap k + a ≡ j = e in let l : 1 ≤ a = h in let m : j ≤ before_heap k = low in omega arith);
+}
+
+pub found_agrees : (k : Config) (live : Live) (graph : Graph) (words words' : List ℕ) → Agrees k words words' → Placed k live → AllFound k live graph words → AllFound k live graph words'
+found_agrees k live graph words words' same placed found a p lives =
+    let f = found a p lives in
+    let low : 1 ≤ a = (placed.fits a p lives).low in record {
+      node = f.node;
+      there = f.there;
+      shape = f.shape;
+      head = same.heap a low ∙ f.head;
+      label = same.heap (a + 1) (omega arith) ∙ f.label;
+      values = λ i v got. let w = f.values i v got in record { value = w.value; packs = same.heap (a + 2 + i) (omega arith) ∙ w.packs; stands = w.stands };
+    }
+
+pub prepared_agrees : (k : Config) (words words' : List ℕ) (z : DomainView) → Agrees k words words' → Prepared k words z → Prepared k words' z
+prepared_agrees k words words' z same p = record {
+  fits = p.fits;
+  written = λ j w got. same.heap (base_of k z.own.number + z.own.used + 1 + j) (omega arith) ∙ p.written j w got;
+}
+
+-- the holders agree on the pools of a domain
+pub record SameFor (t t' : Tenancy) (d : ℕ) : Type 0 where
+  pub drawn_to : (q : ℕ) → t.holder q ≡ drawn d → t'.holder q ≡ drawn d
+  pub drawn_from : (q : ℕ) → t'.holder q ≡ drawn d → t.holder q ≡ drawn d
+  pub owned_to : (q c : ℕ) → t.holder q ≡ owned d c → t'.holder q ≡ owned d c
+  pub owned_from : (q c : ℕ) → t'.holder q ≡ owned d c → t.holder q ≡ owned d c
+  pub asking_same : t'.asking d ≡ t.asking d
+
+pub same_self : (t : Tenancy) (d : ℕ) → SameFor t t d
+same_self t d = record { drawn_to = λ q e. e; drawn_from = λ q e. e; owned_to = λ q c e. e; owned_from = λ q c e. e; asking_same = refl }
+
+pub same_asking : (t : Tenancy) (asking : ℕ → ℕ) (d : ℕ) → asking d ≡ t.asking d → SameFor t record { holder = t.holder; asking = asking } d
+same_asking t asking d same = record { drawn_to = λ q e. e; drawn_from = λ q e. e; owned_to = λ q c e. e; owned_from = λ q c e. e; asking_same = same }
+
+-- the holder is another than this domain
+pub record NotOf (h : Holder) (d : ℕ) : Type 0 where
+  pub not_drawn : h ≢ drawn d
+  pub not_owned : (c : ℕ) → h ≢ owned d c
+
+nobody_drawn : (d : ℕ) → ◌≡◌ {A = Holder} nobody (drawn d) → ⊥
+nobody_drawn d e = cc
+
+nobody_owned : (d c : ℕ) → ◌≡◌ {A = Holder} nobody (owned d c) → ⊥
+nobody_owned d c e = cc
+
+drawn_drawn : (d e : ℕ) → d ≢ e → ◌≡◌ {A = Holder} (drawn d) (drawn e) → ⊥
+drawn_drawn d e n h = n (let g : d ≡ e = cc in g)
+
+pub drawn_owned : (d e c : ℕ) → ◌≡◌ {A = Holder} (drawn d) (owned e c) → ⊥
+drawn_owned d e c h = cc
+
+owned_owned : (d e b c : ℕ) → d ≢ e → ◌≡◌ {A = Holder} (owned d b) (owned e c) → ⊥
+owned_owned d e b c n h = n (let g : d ≡ e = cc in g)
+
+pub nobody_not : (d : ℕ) → NotOf nobody d
+nobody_not d = record { not_drawn = nobody_drawn d; not_owned = nobody_owned d }
+
+pub drawn_not : (d e : ℕ) → d ≢ e → NotOf (drawn d) e
+drawn_not d e n = record { not_drawn = drawn_drawn d e n; not_owned = drawn_owned d e }
+
+pub owned_not : (d c e : ℕ) → d ≢ e → NotOf (owned d c) e
+owned_not d c e n = record { not_drawn = λ h. drawn_owned e d c (sym h); not_owned = λ b. owned_owned d e c b n }
+
+module _ (t : Tenancy) (pool : ℕ) (h : Holder) (asking : ℕ → ℕ) where
+  abbrev pub t' : Tenancy
+  t' = record { holder = over pool h t.holder; asking = asking }
+
+  pub same_over : (d : ℕ) → NotOf (t.holder pool) d → NotOf h d → asking d ≡ t.asking d → SameFor t t' d
+  same_over d before after same = record {
+    drawn_to = λ q e. dite (ℕ_discrete q pool) (λ here. absurd (before.not_drawn (ap t.holder (sym here) ∙ e))) (λ other. over_else pool h t.holder q other ∙ e);
+    drawn_from = λ q e. dite (ℕ_discrete q pool) (λ here. absurd (after.not_drawn (sym (over_here pool h t.holder) ∙ (ap (over pool h t.holder) (sym here) ∙ e)))) (λ other. sym (over_else pool h t.holder q other) ∙ e);
+    owned_to = λ q c e. dite (ℕ_discrete q pool) (λ here. absurd (before.not_owned c (ap t.holder (sym here) ∙ e))) (λ other. over_else pool h t.holder q other ∙ e);
+    owned_from = λ q c e. dite (ℕ_discrete q pool) (λ here. absurd (after.not_owned c (sym (over_here pool h t.holder) ∙ (ap (over pool h t.holder) (sym here) ∙ e)))) (λ other. sym (over_else pool h t.holder q other) ∙ e);
+    asking_same = same;
+  }
+
+  -- the grid, where the pool's places are free
+  pub grid_over : (k : Config) (live : Live) (words words' : List ℕ) → Agrees k words words' → ((d c : ℕ) → t.holder pool ≢ owned d c) → ((d c slot : ℕ) → h ≡ owned d c → slot < blocks_of c → at_address k words (place_in pool c slot) ≡ 0)
+      → Grid k t.holder live words → Grid k (over pool h t.holder) live words'
+  grid_over k live words words' same before free g = record {
+    lots = λ a p lives low. let l = g.lots a p lives low in record {
+      pool = l.pool;
+      domain = l.domain;
+      class = l.class;
+      slot = l.slot;
+      owned_is = over_else pool h t.holder l.pool (λ here. before l.domain l.class (ap t.holder (sym here) ∙ l.owned_is)) ∙ l.owned_is;
+      inside = l.inside;
+      begins = l.begins;
+      fits = l.fits;
+    };
+    places = λ q d c slot is inside.
+        let there : at_address k words' (place_in q c slot) ≡ at_address k words (place_in q c slot) = same.heap (place_in q c slot) (omega arith) in
+        dite (ℕ_discrete q pool)
+        (λ here. inl (there ∙ (ap (λ (m : ℕ). at_address k words (place_in m c slot)) here ∙ free d c slot (sym (over_here pool h t.holder) ∙ (ap (over pool h t.holder) (sym here) ∙ is)) inside)))
+        (λ other. ⊎_elim (λ (z : at_address k words (place_in q c slot) ≡ 0). inl (there ∙ z)) (λ (z : (p : Place) × (live (place_in q c slot) ≡ Some p)). inr z)
+        (g.places q d c slot (sym (over_else pool h t.holder q other) ∙ is) inside));
+  }
+
+-- no more pools are free where the cursor went on
+pub free_later : (k : Config) (words words' : List ℕ) → listed words' ≡ listed words → cursor words ≤ cursor words' → (f : ℕ) → (listed words ≤ f + cursor words) × (listed words ≤ f + limit_of k (listed words))
+    → (listed words' ≤ f + cursor words') × (listed words' ≤ f + limit_of k (listed words'))
+free_later k words words' same grows f h = (
+  (let n : ℕ = listed words in let n' : ℕ = listed words' in let e : n' ≡ n = same in let c : ℕ = cursor words in let c' : ℕ = cursor words' in let l : c ≤ c' = grows in let b : n ≤ f + c = h.0 in let g : n' ≤ f + c' = omega arith in g),
+  subst (λ (m : ℕ). m ≤ f + limit_of k m) (sym same) h.1,
+)
+
+module _ (k : Config) (t t' : Tenancy) (words words' : List ℕ) (agrees : Agrees k words words') where
+  pub hunts_agree : (d : ℕ) → SameFor t t' d → (h : Hunt) → Hunts k t words d h → Hunts k t' words' d h
+  hunts_agree d same Rests u = tt
+  hunts_agree d same (Counts n) u = agrees.count ∙ u
+  hunts_agree d same (Asks n) u = (agrees.count ∙ u.0, same.asking_same ∙ u.1)
+  hunts_agree d same (Draws place pool class cleared) u = record {
+    inside = u.inside;
+    listed_is = u.listed_is;
+    names = agrees.list place u.listed_is ∙ u.names;
+    drawn_is = same.drawn_to pool u.drawn_is;
+    of_class = u.of_class;
+    some = u.some;
+    free = λ j h. agrees.heap (place_in pool class j) (omega arith) ∙ u.free j h;
+  }
+  hunts_agree d same (Walks pool class) u = same.owned_to pool class u
+  hunts_agree d same (Fills pool class slot made) u = record {
+    own_is = same.owned_to pool class u.own_is;
+    inside = u.inside;
+    free = agrees.heap (place_in pool class slot) (omega arith) ∙ u.free;
+    fits = u.fits;
+    written = λ j w got. agrees.heap (place_in pool class slot + 1 + j) (omega arith) ∙ u.written j w got;
+  }
+
+  pub hunter_agree : (z : DomainView) → cursor words ≤ cursor words' → SameFor t t' z.own.number → Hunter k t words z → Hunter k t' words' z
+  hunter_agree z grows same h = record {
+    free = λ f e. free_later k words words' agrees.count grows f (h.free f e);
+    hunt = hunts_agree z.own.number same z.seen.hunt h.hunt;
+    drawn_alone = λ q e. h.drawn_alone q (same.drawn_from q e);
+    taken = λ q c slot is inside low e. h.taken q c slot (same.owned_from q c is) inside low (sym (agrees.heap (place_in q c slot) (omega arith)) ∙ e);
+  }
+
+-- sums
+pub sum_past : (f : ℕ → ℕ) (d v n : ℕ) → n ≤ d → sum_of (over d v f) n ≡ sum_of f n
+sum_past f d v zero above = refl
+sum_past f d v (suc n) above = let e = sum_past f d v n (omega arith) in let g = over_else d v f n (λ same. omega arith) in λ i. e i + g i
+
+pub sum_over : (f : ℕ → ℕ) (d v n : ℕ) → d < n → sum_of (over d v f) n + f d ≡ sum_of f n + v
+sum_over f d v zero below = absurd (omega arith)
+sum_over f d v (suc n) below =
+    let x : ℕ = sum_of f n in let y : ℕ = sum_of (over d v f) n in let o : ℕ = over d v f n in let m : ℕ = f n in let w : ℕ = f d in
+    dite (ℕ_discrete n d)
+    (λ same.
+    let e : y ≡ x = sum_past f d v n (let z : n ≡ d = same in omega arith) in
+    let g : o ≡ v = ap (over d v f) same ∙ over_here d v f in
+    let z : m ≡ w = ap f same in
+    let a : y + o + w ≡ x + m + v = omega arith in a)
+    (λ other.
+    let e : y + w ≡ x + v = sum_over f d v n (let z : n ≢ d = other in omega arith) in
+    let g : o ≡ m = over_else d v f n other in
+    let a : y + o + w ≡ x + m + v = omega arith in a)
+
+pub sum_small : (f : ℕ → ℕ) (n : ℕ) → ((d : ℕ) → f d ≤ 1) → sum_of f n ≤ n
+sum_small f zero each = omega arith
+sum_small f (suc n) each =
+    let a : sum_of f n ≤ n = sum_small f n each in
+    let b : f n ≤ 1 = each n in
+    let x : ℕ = sum_of f n in let y : ℕ = f n in let z : x + y ≤ suc n = omega arith in z

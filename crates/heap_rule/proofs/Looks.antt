@@ -1,0 +1,66 @@
+-- A domain at the start has looked at no place of the pools.
+use Rattle.std.proofs.Common.{◌≡◌, ◌∙◌, ℕ, zero, suc, ◌+◌, ◌<◌, ◌≤◌, lit<, List, [], ◌∷◌, get_or, replicate, sym, refl, subst, arith}
+use Rattle.atomic_table.specs.Table.{Me}
+use Rattle.heap_model.specs.Domains.{IsWithinLimits}
+use Rattle.heap_words.specs.declared.value.Value.{Value}
+use Rattle.heap_words.specs.declared.value.Value.TheVariants.{Ref, Nothing}
+use Rattle.heap_words.specs.Values.{IsPackable}
+use Rattle.heap_rule.specs.declared.config.Config.{Config}
+use Rattle.heap_rule.specs.declared.view.Spot.{Spot}
+use Rattle.heap_rule.specs.Pools.{blocks_of}
+use Rattle.heap_rule.specs.Changes.{value_at}
+use Rattle.heap_rule.specs.Layout.{heap_words}
+use Rattle.heap_rule.specs.Limits.{sizes_in}
+use Rattle.heap_rule.specs.Token.{IsAddress, LooksWithin, IsSeatOf}
+use Rattle.heap_rule.specs.Views.{one, domain_in, opening_view}
+use Rattle.heap_rule.specs.declared.view.View.{View}
+use Rattle.heap_rule.proofs.Classes.{some_block}
+use Rattle.heap_rule.proofs.Sizes.{heap_large}
+
+abbrev nowhere : Spot
+nowhere = record { pool = 0; slot = 0 }
+
+nowhere_at : (n c : ℕ) → get_or (replicate n nowhere) c nowhere ≡ nowhere
+nowhere_at zero c = refl
+nowhere_at (suc n) zero = refl
+nowhere_at (suc n) (suc c) = nowhere_at n c
+
+pub looks_first : (k : Config) → LooksWithin k (replicate 6 (record { pool = 0; slot = 0 }))
+looks_first k = record {
+  wide = refl;
+  within = λ c few. subst (λ (s : Spot). (s.pool ≤ k.pools) × (s.slot < blocks_of c)) (sym (nowhere_at 6 c)) (omega arith, (some_block c few).0);
+}
+
+-- the registers at the start
+nothing_at : (n r : ℕ) → value_at (replicate n Nothing) r ≡ Nothing
+nothing_at zero r = refl
+nothing_at (suc n) zero = refl
+nothing_at (suc n) (suc r) = nothing_at n r
+
+no_ref : (a : ℕ) → ◌≡◌ {A = Value} Nothing (Ref a) → ⊥
+no_ref a e = cc
+
+one_ref : (a : ℕ) → ◌≡◌ {A = Value} (Ref 1) (Ref a) → 1 ≡ a
+one_ref a e = cc
+
+abbrev pub first_registers : List Value
+first_registers = Ref 1 ∷ replicate 15 Nothing
+
+first_packable : (r : ℕ) → IsPackable (value_at first_registers r)
+first_packable zero = (omega arith, lit< tt)
+first_packable (suc r) = subst IsPackable (sym (nothing_at 15 r)) tt
+
+first_inside : (k : Config) → IsWithinLimits (sizes_in k) → (r a : ℕ) → value_at first_registers r ≡ Ref a → IsAddress k a
+first_inside k limits zero a e = subst (IsAddress k) (one_ref a e) (let h = heap_large k limits in let x : ℕ = heap_words k in let y : 4096 ≤ x = h in (let z : 1 ≤ 1 = omega arith in z, let z : 1 + 2 ≤ x = omega arith in z))
+first_inside k limits (suc r) a e = absurd (no_ref a (sym (nothing_at 15 r) ∙ e))
+
+pub first_seat : (k : Config) (n : ℕ) (me : Me (Unit {0}) View) → me ≡ (one k [] (opening_view n), []) → IsWithinLimits (sizes_in k) → n < k.domains
+    → IsSeatOf k (record { own = (opening_view n).own; seen = (domain_in me.0.domains).seen }) me
+first_seat k n me e limits inside = subst (λ (m : Me (Unit {0}) View). IsSeatOf k (record { own = (opening_view n).own; seen = (domain_in m.0.domains).seen }) m) (sym e) record {
+  seat = refl;
+  limits = limits;
+  number = inside;
+  used = omega arith;
+  registers = record { wide = refl; packable = λ r few. first_packable r; inside = λ r a few is. first_inside k limits r a is };
+  looked = looks_first k;
+}

@@ -1,0 +1,191 @@
+-- What a written word leaves of the pools.
+use Rattle.std.proofs.Common.{◌≡◌, ◌≢◌, ℕ, ◌+◌, ◌*◌, ◌<◌, ◌≤◌, ◌⊎◌, List, length, get_or, set, Some, sym, ap, ◌∙◌, subst, inl, inr, ⊎_elim, arith, get_or-set_other, lt_of_not-le}
+use mathlib.Core.Logic.{dite}
+use native.Mathlib.Decide.{ℕ_discrete, dec_le}
+use Rattle.heap_rule.specs.declared.config.Config.{Config}
+use Rattle.heap_rule.specs.declared.view.Hunt.{Hunt}
+use Rattle.heap_rule.specs.declared.view.Hunt.TheVariants.{Rests, Counts, Asks, Draws, Walks, Fills}
+use Rattle.heap_rule.specs.declared.view.DomainView.{DomainView}
+use Rattle.heap_rule.specs.Layout.{before_heap, at_address}
+use Rattle.heap_rule.specs.Places.{Place, Live, extent, head_of, Found}
+use Rattle.heap_model.specs.Graph.{Graph}
+use Rattle.heap_model.specs.Fronts.{Shape, PlainShape, EpheShape}
+use Rattle.heap_words.specs.Heads.{head_word}
+use Rattle.heap_rule.specs.Pools.{Holder, drawn, owned, Tenancy, Pools, Grid, Hunts, Hunter, place_in, size_of, blocks_of, limit_of}
+use Rattle.heap_rule.proofs.Lists.{got_below}
+use Rattle.heap_rule.proofs.Keeps.{control_set, More}
+use Rattle.heap_rule.proofs.Classes.{size_least, slot_below, slot_inside}
+
+-- the pool of one holder isn't that of another
+pub drawn_same : (d e : ℕ) → ◌≡◌ {A = Holder} (drawn d) (drawn e) → d ≡ e
+drawn_same d e h = cc
+
+pub owned_same : (d e c b : ℕ) → ◌≡◌ {A = Holder} (owned d c) (owned e b) → (d ≡ e) × (c ≡ b)
+owned_same d e c b h = (cc, cc)
+
+-- The written word is none that a domain's knowledge of its pools rests on: it lies in no pool that the domain has drawn, and of each place of its own pools either outside, or behind a head that isn't Free
+pub record Beside (k : Config) (t : Tenancy) (words : List ℕ) (d at : ℕ) : Type 0 where
+  pub low : 1 ≤ at
+  pub not_drawn : (q : ℕ) → t.holder q ≡ drawn d → (at ≤ q * 4096) ⊎ (q * 4096 + 4096 < at)
+  pub not_place : (q c slot : ℕ) → t.holder q ≡ owned d c → slot < blocks_of c → ((at < place_in q c slot) ⊎ (place_in q c slot + size_of c ≤ at)) ⊎ ((place_in q c slot < at) × (at_address k words (place_in q c slot) ≢ 0))
+
+module _ (k : Config) (t : Tenancy) (words : List ℕ) (at new : ℕ) where
+  abbrev ws : List ℕ
+  ws = set words (before_heap k + at) new
+
+  -- another word stays
+  pub stays : (a : ℕ) → a ≢ at → at_address k ws a ≡ at_address k words a
+  stays a differ = get_or-set_other words (before_heap k + at) (before_heap k + a) new 0 (λ e. differ (omega arith))
+
+  control_stays : 1 ≤ at → (i : ℕ) → i ≤ before_heap k → get_or ws i 0 ≡ get_or words i 0
+  control_stays low i below = control_set k words at new low i below
+
+  pub place_stays : (p : Pools k t words) (d : ℕ) → Beside k t words d at → (q c slot : ℕ) → t.holder q ≡ owned d c → slot < blocks_of c → at_address k ws (place_in q c slot) ≡ at_address k words (place_in q c slot)
+  place_stays p d b q c slot is inside =
+      let a : ℕ = place_in q c slot in
+      let z : ℕ = size_of c in
+      let large : 4 ≤ z = size_least c (p.owned_by q d c is).2 in
+      stays a (λ e. let same : a ≡ at = e in ⊎_elim (λ (o : (at < a) ⊎ (a + z ≤ at)). ⊎_elim (λ (h : at < a). omega arith) (λ (h : a + z ≤ at). omega arith) o) (λ (o : (a < at) × (at_address k words a ≢ 0)). let h = o.0 in omega arith) (b.not_place q c slot is inside))
+
+  drawn_stays : (d : ℕ) → Beside k t words d at → (p : Pools k t words) → (q c j : ℕ) → t.holder q ≡ drawn d → c < 6 → j < blocks_of c → at_address k ws (place_in q c j) ≡ at_address k words (place_in q c j)
+  drawn_stays d b p q c j is few inside =
+      let s : ℕ = j * size_of c in
+      let z : ℕ = size_of c in
+      let large : 4 ≤ z = size_least c few in
+      let top : s + z ≤ 4096 = slot_inside c j few inside in
+      stays (place_in q c j) (λ e. let same : q * 4096 + s + 1 ≡ at = e in ⊎_elim (λ (h : at ≤ q * 4096). omega arith) (λ (h : q * 4096 + 4096 < at). omega arith) (b.not_drawn q is))
+
+  hunts_beside : (p : Pools k t words) (d : ℕ) → Beside k t words d at → (h : Hunt) → Hunts k t words d h → Hunts k t ws d h
+  hunts_beside p d b Rests u = tt
+  hunts_beside p d b (Counts n) u = control_stays b.low 6 (omega arith) ∙ u
+  hunts_beside p d b (Asks n) u = (control_stays b.low 6 (omega arith) ∙ u.0, u.1)
+  hunts_beside p d b (Draws place pool class cleared) u = record {
+    inside = u.inside;
+    listed_is = u.listed_is;
+    names = (let h = u.listed_is in control_stays b.low (11 + place) (omega arith)) ∙ u.names;
+    drawn_is = u.drawn_is;
+    of_class = u.of_class;
+    some = u.some;
+    free = λ j h. let s = u.some in drawn_stays d b p pool class j u.drawn_is u.of_class (omega arith) ∙ u.free j h;
+  }
+  hunts_beside p d b (Walks pool class) u = u
+  hunts_beside p d b (Fills pool class slot made) u =
+      let a : ℕ = place_in pool class slot in
+      let z : ℕ = size_of class in record {
+        own_is = u.own_is;
+        inside = u.inside;
+        free = place_stays p d b pool class slot u.own_is u.inside ∙ u.free;
+        fits = u.fits;
+        written = λ j w got. stays (a + 1 + j) (λ e.
+            let same : a + 1 + j ≡ at = e in
+            let below : j < length made = got_below made j w got in
+            let n : ℕ = length made in
+            let fits : n < z = u.fits in
+            ⊎_elim (λ (o : (at < a) ⊎ (a + z ≤ at)). ⊎_elim (λ (h : at < a). omega arith) (λ (h : a + z ≤ at). omega arith) o) (λ (o : (a < at) × (at_address k words a ≢ 0)). o.1 u.free) (b.not_place pool class slot u.own_is u.inside)) ∙ u.written j w got;
+      }
+
+  pub hunter_beside : (p : Pools k t words) (z : DomainView) → Beside k t words z.own.number at → Hunter k t words z → Hunter k t ws z
+  hunter_beside p z b h = record {
+    hunt = hunts_beside p z.own.number b z.seen.hunt h.hunt;
+    drawn_alone = h.drawn_alone;
+    free = λ f e. subst (λ (m : ℕ × ℕ). (m.0 ≤ f + m.1) × (m.0 ≤ f + limit_of k m.0)) (λ i. (sym (control_stays b.low 6 (omega arith)) i, sym (control_stays b.low 7 (omega arith)) i)) (h.free f e);
+    taken = λ q c slot is inside low e. h.taken q c slot is inside low (sym (place_stays p z.own.number b q c slot is inside) ∙ e);
+  }
+
+  -- the grid stays where the word is beside the places of all
+  pub grid_beside : (live live' : Live) → (p : Pools k t words) → ((d : ℕ) → Beside k t words d at) → More live live' → ((a : ℕ) (q : Place) → live' a ≡ Some q → a ≤ k.pools * 4096 → live a ≡ Some q) → Grid k t.holder live words → Grid k t.holder live' ws
+  grid_beside live live' p b more old g = record {
+    lots = λ a q lives low. g.lots a q (old a q lives low) low;
+    places = λ q d c slot is inside. ⊎_elim (λ (h : at_address k words (place_in q c slot) ≡ 0). inl (place_stays p d (b d) q c slot is inside ∙ h)) (λ (h : (o : Place) × (live (place_in q c slot) ≡ Some o)). inr (h.0, more (place_in q c slot) h.0 h.1)) (g.places q d c slot is inside);
+  }
+
+  -- a word of a minor area is beside all pools
+  pub area_beside : (p : Pools k t words) → k.pools * 4096 < at → (d : ℕ) → Beside k t words d at
+  area_beside p high d = record {
+    low = omega arith;
+    not_drawn = λ q is. let h : q < k.pools = (p.drawn_by q d is).0 in inr (let g : q * 4096 + 4096 < at = omega arith in g);
+    not_place = λ q c slot is inside.
+        let o = p.owned_by q d c is in
+        let s : ℕ = slot * size_of c in
+        let z : ℕ = size_of c in
+        let top : s + z ≤ 4096 = slot_inside c slot o.2 inside in
+        let below : q < k.pools = o.0 in
+        inl (inr (let g : q * 4096 + s + 1 + z ≤ at = omega arith in g));
+  }
+
+-- a live block's head isn't Free
+pub head_some : (shape : Shape) → head_word (head_of shape) ≢ 0
+head_some (PlainShape size tag) e = omega arith
+head_some (EpheShape keys) e = omega arith
+
+pub head_full : (k : Config) (live : Live) (graph : Graph) (words : List ℕ) (a : ℕ) (o : Place) → Found k live graph words a o → at_address k words a ≢ 0
+head_full k live graph words a o f e = head_some o.shape (sym f.head ∙ e)
+
+holder_clash : (d e c : ℕ) → ◌≡◌ {A = Holder} (drawn d) (owned e c) → ⊥
+holder_clash d e c h = cc
+
+-- a word behind the head of a live block is beside all that rests on pools
+pub live_beside : (k : Config) (t : Tenancy) (live : Live) (words : List ℕ) (a i : ℕ) (o : Place) → Pools k t words → Grid k t.holder live words → 1 ≤ a → live a ≡ Some o → 1 ≤ i → i < extent o.shape
+    → at_address k words a ≢ 0 → (d : ℕ) → Beside k t words d (a + i)
+live_beside k t live words a i o p g low lives some inside head d = dite (dec_le a (k.pools * 4096))
+    (λ le.
+    let l = g.lots a o lives le in
+    let s : ℕ = l.slot * size_of l.class in
+    let z : ℕ = size_of l.class in
+    let few : l.class < 6 = (p.owned_by l.pool l.domain l.class l.owned_is).2 in
+    let top : s + z ≤ 4096 = slot_inside l.class l.slot few l.inside in
+    let n : ℕ = extent o.shape in
+    let fits : n ≤ z = l.fits in
+    let j : i < n = inside in
+    let begins : a ≡ l.pool * 4096 + s + 1 = l.begins in record {
+      low = omega arith;
+      not_drawn = λ q is. dite (dec_le q l.pool)
+          (λ below. dite (ℕ_discrete q l.pool)
+          (λ same. absurd (holder_clash d l.domain l.class (sym is ∙ (ap t.holder same ∙ l.owned_is))))
+          (λ other. inr (let b : q ≤ l.pool = below in let e : q ≢ l.pool = other in let h : q * 4096 + 4096 < a + i = omega arith in h)))
+          (λ above. let b : l.pool < q = lt_of_not-le above in inl (let h : a + i ≤ q * 4096 = omega arith in h));
+      not_place = λ q c slot is below_blocks.
+          let s' : ℕ = slot * size_of c in
+          let z' : ℕ = size_of c in
+          let few' : c < 6 = (p.owned_by q d c is).2 in
+          let top' : s' + z' ≤ 4096 = slot_inside c slot few' below_blocks in
+          dite (ℕ_discrete q l.pool)
+          (λ same.
+          let class_is : c ≡ l.class = (owned_same d l.domain c l.class (sym is ∙ (ap t.holder same ∙ l.owned_is))).1 in
+          let y : ℕ = l.slot * size_of c in
+          let y_is : y ≡ s = ap (λ (b : ℕ). l.slot * size_of b) class_is in
+          let z_is : z' ≡ z = ap size_of class_is in
+          let pool_is : q ≡ l.pool = same in
+          dite (ℕ_discrete slot l.slot)
+          (λ eq.
+          let s_is : s' ≡ y = ap (λ (b : ℕ). b * size_of c) eq in
+          let here : a ≡ place_in q c slot = (let e : a ≡ q * 4096 + s' + 1 = omega arith in e) in
+          inr ((let h : q * 4096 + s' + 1 < a + i = omega arith in h), subst (λ (b : ℕ). at_address k words b ≢ 0) here head))
+          (λ differ. dite (dec_le slot l.slot)
+          (λ below. let m : s' + z' ≤ y = slot_below c slot l.slot (let b : slot ≤ l.slot = below in let e : slot ≢ l.slot = differ in omega arith) in inl (inr (let h : q * 4096 + s' + 1 + z' ≤ a + i = omega arith in h)))
+          (λ above. let m : y + z' ≤ s' = slot_below c l.slot slot (lt_of_not-le above) in inl (inl (let h : a + i < q * 4096 + s' + 1 = omega arith in h)))))
+          (λ other. let e : q ≢ l.pool = other in inl (dite (dec_le q l.pool)
+          (λ below. let b : q ≤ l.pool = below in inr (let h : q * 4096 + s' + 1 + z' ≤ a + i = omega arith in h))
+          (λ above. let b : l.pool < q = lt_of_not-le above in inl (let h : a + i < q * 4096 + s' + 1 = omega arith in h))));
+    })
+    (λ gt. let high : k.pools * 4096 < a = lt_of_not-le gt in area_beside k t words (a + i) 0 p (omega arith) d)
+
+-- a word of a pool is beside all that rests on the pools of others
+pub pool_beside : (k : Config) (t : Tenancy) (words : List ℕ) (pool at d : ℕ) → Pools k t words → pool * 4096 < at → at ≤ pool * 4096 + 4096 → t.holder pool ≢ drawn d → ((c : ℕ) → t.holder pool ≢ owned d c) → Beside k t words d at
+pool_beside k t words pool at d p low high not_drawn not_owned = record {
+  low = omega arith;
+  not_drawn = λ q is. dite (ℕ_discrete q pool)
+      (λ same. absurd (not_drawn (ap t.holder (sym same) ∙ is)))
+      (λ other. let e : q ≢ pool = other in dite (dec_le q pool)
+      (λ below. let b : q ≤ pool = below in inr (let h : q * 4096 + 4096 < at = omega arith in h))
+      (λ above. let b : pool < q = lt_of_not-le above in inl (let h : at ≤ q * 4096 = omega arith in h)));
+  not_place = λ q c slot is inside.
+      let s : ℕ = slot * size_of c in
+      let z : ℕ = size_of c in
+      let top : s + z ≤ 4096 = slot_inside c slot (p.owned_by q d c is).2 inside in
+      dite (ℕ_discrete q pool)
+      (λ same. absurd (not_owned c (ap t.holder (sym same) ∙ is)))
+      (λ other. let e : q ≢ pool = other in inl (dite (dec_le q pool)
+      (λ below. let b : q ≤ pool = below in inr (let h : q * 4096 + s + 1 + z ≤ at = omega arith in h))
+      (λ above. let b : pool < q = lt_of_not-le above in inl (let h : at < q * 4096 + s + 1 = omega arith in h))));
+}

@@ -1,0 +1,43 @@
+-- Two domains at one seat agree.
+use Rattle.std.proofs.Common.{◌≡◌, ℕ, List, [], ◌∷◌, ◌++◌, set, sym, refl, ap, subst}
+use Rattle.atomic_table.specs.Table.{Me, keeps, Allows, Splits}
+use Rattle.heap_model.specs.declared.entry.Entry.{Entry}
+use Rattle.heap_rule.specs.declared.config.Config.{Config}
+use Rattle.heap_rule.specs.declared.view.DomainView.{DomainView}
+use Rattle.heap_rule.specs.declared.view.View.{View}
+use Rattle.heap_rule.specs.Rule.{Rule, Good}
+use Rattle.heap_rule.specs.Views.{AllDomains, one, joined, cut_left, cut_right}
+use Rattle.heap_rule.specs.Meeting.{FirstAgree, Agreed}
+use Rattle.heap_rule.proofs.Keeps.{Words, agree, unmoved}
+use Rattle.heap_rule.proofs.Ends.{same_views}
+use Rattle.heap_rule.proofs.Seats.{splits}
+
+first_agree : (k : Config) (s : Words) (r : Rule k s) (xs : List DomainView) → AllDomains (Good k r.log r.live r.pause r.tenancy s.words) xs → FirstAgree xs
+first_agree k s r [] g = tt
+first_agree k s r (x ∷ []) g = tt
+first_agree k s r (x ∷ y ∷ zs) g = agree r.pause x.own.number y.own.number x.own.arrivals y.own.arrivals x.seen.stage y.seen.stage g.0.staged.stage g.1.0.staged.stage
+
+agrees : (k : Config) (slots id word : ℕ) (v : View) → Allows (Rule k) slots id (v, []) word (λ n. n) (λ found m'. Agreed (v, []) m')
+agrees k slots id word v s r _ at _ = (
+  v,
+  keeps,
+  tt,
+  unmoved k s word (set s.views id v) (same_views k s r id v at),
+  record { same = refl; agree = first_agree k s r v.domains (r.good id v at) },
+)
+
+pub may_agree : (k : Config) (slots id word : ℕ) (m : Me (Unit {0}) View) → m.1 ≡ [] → Allows (Rule k) slots id m word (λ n. n) (λ found m'. Agreed m m')
+may_agree k slots id word m empty = let is : (m.0, []) ≡ m = λ i. (m.0, sym empty i) in
+    subst (λ (x : Me (Unit {0}) View). Allows (Rule k) slots id x word (λ n. n) (λ found m'. Agreed x m')) is (agrees k slots id word m.0)
+
+-- the view of a seat to which another was joined, each of one domain
+pub joined_two : (m n : Me (Unit {0}) View) (k l : Config) (x y : DomainView) → m ≡ (one k m.0.history x, []) → n ≡ (one l n.0.history y, []) → joined m.0 n.0 ≡ record { config = k; history = m.0.history; domains = x ∷ y ∷ [] }
+joined_two m n k l x y is so =
+    let config : m.0.config ≡ k = ap (λ (z : Me (Unit {0}) View). z.0.config) is in
+    let first : m.0.domains ≡ x ∷ [] = ap (λ (z : Me (Unit {0}) View). z.0.domains) is in
+    let second : n.0.domains ≡ y ∷ [] = ap (λ (z : Me (Unit {0}) View). z.0.domains) so in
+    λ i. record { config = config i; history = m.0.history; domains = first i ++ second i }
+
+-- and it may be cut again
+pub may_part : (k : Config) (id : ℕ) (v : View) (hist : List Entry) (x y : DomainView) → v ≡ record { config = k; history = hist; domains = x ∷ y ∷ [] } → Splits (Rule k) id v (cut_left v) (cut_right v)
+may_part k id v hist x y is = subst (λ (u : View). Splits (Rule k) id u (cut_left u) (cut_right u)) (sym is) (splits k id hist x (y ∷ []))

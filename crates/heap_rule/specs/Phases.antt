@@ -1,0 +1,104 @@
+-- Phases: how the words, the domains' arrivals and where each domain stands belong together.
+use Rattle.std.specs.Prelude.{◌≡◌, ℕ, zero, suc, ◌+◌, ◌*◌, ◌<◌, ◌≤◌, Bool, true, false, List}
+use Rattle.heap_model.specs.declared.entry.Entry.{Entry}
+use Rattle.heap_model.specs.declared.state.State as model
+use Rattle.heap_model.specs.Domains.{domain_at}
+use Rattle.heap_rule.specs.declared.config.Config.{Config}
+use Rattle.heap_rule.specs.declared.view.DomainView.{DomainView}
+use Rattle.heap_rule.specs.declared.phase.Kind.{Kind}
+use Rattle.heap_rule.specs.declared.phase.Kind.TheVariants.{Run, Promote, Reset}
+use Rattle.heap_rule.specs.declared.phase.Stage.{Stage}
+use Rattle.heap_rule.specs.declared.phase.Stage.TheVariants.{In, Leads, Led, Gone}
+use Rattle.heap_rule.specs.Layout.{barrier, plan, ended_word}
+
+-- the plan word of a kind
+abbrev pub code : Kind → ℕ
+code Run = 0
+code Promote = 1
+code Reset = 2
+
+-- the kind of a plan word
+abbrev pub kind_at : ℕ → Kind
+kind_at zero = Run
+kind_at (suc zero) = Promote
+kind_at (suc (suc n)) = Reset
+
+-- which kind may come after which, so far
+abbrev pub Follows : Kind → Kind → Type 0
+Follows Run next = next ≡ Promote
+Follows Promote next = next ≡ Reset
+Follows Reset next = next ≡ Run
+
+-- what n domains have together
+abbrev pub sum_of : (ℕ → ℕ) → ℕ → ℕ
+sum_of f zero = 0
+sum_of f (suc n) = sum_of f n + f n
+
+abbrev pub IsEven : ℕ → Type 0
+IsEven n = (j : ℕ) × (n ≡ j * 2)
+
+abbrev pub IsOdd : ℕ → Type 0
+IsOdd n = (j : ℕ) × (n ≡ j * 2 + 1)
+
+-- how the pauses stand: how often each domain has arrived, the number of the phase, the kind of each even phase by half its number, and whether in an odd phase the next kind is named
+pub record Pause : Type 0 where
+  pub arrived : ℕ → ℕ
+  pub phase : ℕ
+  pub kinds : ℕ → Kind
+  pub led : Bool
+
+-- the barrier word is the sum of all arrivals, each domain has arrived as often as the phase's number or once more, and the plan word is the kind
+pub record Phases (k : Config) (t : Pause) (words : List ℕ) : Type 0 where
+  pub sum : barrier words ≡ sum_of t.arrived k.domains
+  pub begun : t.phase * k.domains ≤ barrier words
+  pub unfinished : barrier words < (t.phase + 1) * k.domains
+  pub each : (d : ℕ) → d < k.domains → (t.phase ≤ t.arrived d) × (t.arrived d ≤ t.phase + 1)
+  pub even_plan : (j : ℕ) → t.phase ≡ j * 2 → plan words ≡ code (t.kinds j)
+  pub next_plan : (j : ℕ) → t.phase ≡ j * 2 + 1 → t.led ≡ true → (plan words ≡ code (t.kinds (j + 1))) × Follows (t.kinds j) (t.kinds (j + 1))
+  pub leader : (j : ℕ) → t.phase ≡ j * 2 + 1 → t.arrived 0 ≡ t.phase + 1 → t.led ≡ true
+
+-- where domain d stands. Only one whose arrivals are the phase's number acts
+abbrev pub AtStage : Pause → ℕ → ℕ → Stage → Type 0
+AtStage t d arrivals (In kind) = (arrivals ≡ t.phase) × ((j : ℕ) × (t.phase ≡ j * 2) × (t.kinds j ≡ kind))
+AtStage t d arrivals (Leads kind) = (arrivals ≡ t.phase) × ((j : ℕ) × (t.phase ≡ j * 2 + 1) × (t.kinds j ≡ kind))
+AtStage t d arrivals (Led kind) = (arrivals ≡ t.phase) × IsOdd t.phase × (d ≡ 0) × (t.led ≡ true)
+AtStage t d arrivals (Gone kind) = (j : ℕ) → arrivals ≡ j * 2 + 1 → t.kinds j ≡ kind
+
+-- Phases, of one domain
+pub record Staged (t : Pause) (x : DomainView) : Type 0 where
+  pub arrivals : x.own.arrivals ≡ t.arrived x.own.number
+  pub stage : AtStage t x.own.number x.own.arrivals x.seen.stage
+
+-- the domain acts in a phase of a pause
+abbrev pub IsInPause : Stage → Type 0
+IsInPause (In Run) = ⊥
+IsInPause (In _) = Unit {0}
+IsInPause (Leads _) = Unit {0}
+IsInPause (Led _) = Unit {0}
+IsInPause (Gone _) = ⊥
+
+-- then no entry is appended
+abbrev pub Still : List Entry → DomainView → Type 0
+Still log x = IsInPause x.seen.stage → x.seen.front ≡ log
+
+-- two domains that act are in phases of one kind, and none runs beside an odd phase
+abbrev pub Agree : Stage → Stage → Type 0
+Agree (In a) (In b) = a ≡ b
+Agree (In a) (Leads b) = ⊥
+Agree (In a) (Led b) = ⊥
+Agree (Leads a) (In b) = ⊥
+Agree (Led a) (In b) = ⊥
+Agree (Leads a) (Leads b) = a ≡ b
+Agree _ _ = Unit {0}
+
+-- 1 for a domain whose trace has ended
+abbrev pub flag : Bool → ℕ
+flag true = 1
+flag false = 0
+
+abbrev pub is_over : model.State → ℕ → ℕ
+is_over s d = flag (domain_at s d).ended
+
+-- the ended word counts the domains whose trace has ended
+abbrev pub CountsEnded : Config → model.State → List ℕ → Type 0
+CountsEnded k s words = ended_word words ≡ sum_of (is_over s) k.domains

@@ -1,0 +1,45 @@
+-- What a look answers, and what domain 0 does when it leads.
+use Rattle.std.specs.Prelude.{◌≡◌, ◌*◌, ◌<◌, ◌≤◌, ℕ, List, [], ◌∷◌, ◌++◌}
+use Rattle.heap_model.specs.History.{Legal}
+use Rattle.heap_model.specs.Fronts.{IsFrontOf}
+use Rattle.heap_rule.specs.declared.config.Config.{Config}
+use Rattle.heap_rule.specs.declared.view.DomainView.{DomainView}
+use Rattle.heap_rule.specs.declared.phase.Kind.{Kind}
+use Rattle.heap_rule.specs.declared.phase.Kind.TheVariants.{Run, Promote, Reset}
+use Rattle.heap_rule.specs.declared.phase.Stage.TheVariants.{In, Leads}
+use Rattle.heap_rule.specs.declared.phase.Note.{Note}
+use Rattle.heap_rule.specs.declared.phase.Note.TheVariants.{Barrier, Cleared}
+use Rattle.heap_rule.specs.Limits.{sizes_in}
+use Rattle.heap_rule.specs.Phases.{IsEven, IsOdd}
+use Rattle.heap_rule.specs.Pauses.{noted, kind_in}
+use Rattle.safepoint.specs.declared.answer.Look.{Look}
+use Rattle.safepoint.specs.declared.answer.Look.TheVariants.{Next, Lead, NotAll}
+use Rattle.safepoint.specs.declared.answer.Want as wish
+use Rattle.safepoint.specs.declared.answer.Want.TheVariants.{Minor, Cycle, Finish, Full}
+
+-- the bit of a wish
+abbrev pub bit_of : wish.Want → ℕ
+bit_of Minor = 1
+bit_of Cycle = 2
+bit_of Finish = 4
+bit_of Full = 8
+
+-- all have arrived: the barrier word found isn't below the end of the domain's turn, and the front is the whole history so far
+pub record Passed (k : Config) (x y : DomainView) : Type 0 where
+  pub found : ℕ
+  pub all : x.own.arrivals * k.domains ≤ found
+  pub seen : IsFrontOf x.own.number y.seen.front x.seen.front
+  pub legal : Legal (sizes_in k) y.seen.front
+  pub view : y ≡ record x { seen = record x.seen { front = y.seen.front; stage = y.seen.stage; notes = x.seen.notes ++ Barrier found ∷ [] } }
+
+-- NotAll exactly where the barrier word found is below the end of the domain's turn
+abbrev pub LookAnswers : Config → DomainView → DomainView → Look → Type 0
+LookAnswers k x y (NotAll b) = (b < x.own.arrivals * k.domains) × (y ≡ noted x (Barrier b))
+LookAnswers k x y (Next kind) = Passed k x y × (y.seen.stage ≡ In kind) × IsEven x.own.arrivals
+LookAnswers k x y Lead = Passed k x y × (y.seen.stage ≡ Leads (kind_in x.seen.stage)) × IsOdd x.own.arrivals
+
+-- what domain 0 notes when it leads to a phase of this kind
+abbrev pub cleared : Kind → List Note
+cleared Run = Cleared ∷ []
+cleared Promote = []
+cleared Reset = []

@@ -1,0 +1,137 @@
+//! The steps of a pause, for a domain that takes turns.
+ghost use Rattle.std.specs.Prelude.{◌≡◌, ◌≤◌, ◌<◌, ◌^◌, ◌++◌, [], ◌∷◌};
+ghost use Rattle.heap_rule.specs.declared.phase.Kind as kinds;
+ghost use Rattle.heap_rule.specs.declared.phase.Kind.TheVariants.{Run};
+ghost use Rattle.heap_rule.specs.declared.phase.Stage.TheVariants.{In, Leads, Led};
+ghost use Rattle.heap_rule.specs.declared.phase.Note.TheVariants as note;
+ghost use Rattle.heap_rule.specs.Phases.{code, Follows};
+ghost use Rattle.heap_rule.specs.Pauses.{IsGone, ArriveMay, ClearMay, kind_in, noted, arrived_view};
+ghost use Rattle.heap_rule.specs.Token.{IsIn};
+ghost use Rattle.safepoint.specs.Looks.{bit_of, cleared, LookAnswers};
+
+use crate::answer::{Look, Want, Wants};
+use heap_rule::{Domain, Heap, Kind, plan_load, plan_store, want_clear, want_load};
+
+// The plan word of a kind.
+fn word_of(kind: Kind) -> u64
+    ensures { result ≡ code kind }
+{
+    match kind {
+        Kind::Run => 0,
+        Kind::Promote => 1,
+        Kind::Reset => 2,
+    }
+}
+
+// The kind of a plan word.
+fn kind_of(word: u64) -> Kind
+    ensures { (k : kinds.Kind) → word ≡ code k → result ≡ k }
+{
+    if word == 0 {
+        return Kind::Run;
+    }
+    if word == 1 {
+        return Kind::Promote;
+    }
+    Kind::Reset
+}
+
+/// The kind that comes after this one.
+pub fn follower(kind: Kind) -> Kind
+    ensures { Follows kind result }
+{
+    match kind {
+        Kind::Run => Kind::Promote,
+        Kind::Promote => Kind::Reset,
+        Kind::Reset => Kind::Run,
+    }
+}
+
+// The bit of a wish.
+fn bit_of(want: Want) -> u64
+    ensures { result ≡ bit_of want }
+{
+    match want {
+        Want::Minor => 1,
+        Want::Cycle => 2,
+        Want::Finish => 4,
+        Want::Full => 8,
+    }
+}
+
+/// The wishes so far, by one load.
+pub fn wants(heap: &Heap, dom: &mut Domain) -> Wants
+    requires here { IsIn dom.old heap.now }
+    requires runs { dom.old.view.seen.stage ≡ In Run }
+    ensures here { IsIn dom.new heap.now }
+    ensures view { dom.new.view ≡ noted dom.old.view (note.Want result.bits) }
+{
+    Wants {
+        bits: want_load(heap, dom),
+    }
+}
+
+/// Asks for a pause.
+pub fn ask(heap: &Heap, dom: &mut Domain, want: Want)
+    requires here { IsIn dom.old heap.now }
+    requires runs { dom.old.view.seen.stage ≡ In Run }
+    ensures here { IsIn dom.new heap.now }
+    ensures view { dom.new.view ≡ noted dom.old.view (note.Asked (bit_of want)) }
+{
+    heap_rule::ask(heap, dom, bit_of(want));
+}
+
+/// The domain arrives: its share of the phase is done.
+pub fn arrive(heap: &Heap, dom: &mut Domain)
+    requires here { IsIn dom.old heap.now }
+    requires may { ArriveMay dom.old.view }
+    ensures here { IsIn dom.new heap.now }
+    ensures view { dom.new.view ≡ arrived_view dom.old.view }
+{
+    heap_rule::arrive(heap, dom);
+}
+
+/// Whether all domains have arrived. Then the next phase has begun, and the domain is in it.
+pub fn look(heap: &Heap, dom: &mut Domain) -> Look
+    requires here { IsIn dom.old heap.now }
+    requires gone { IsGone dom.old.view }
+    requires few { dom.old.view.own.arrivals ≤ 2 ^ 60 }
+    ensures here { IsIn dom.new heap.now }
+    ensures answer { LookAnswers heap.now.config dom.old.view dom.new.view result }
+{
+    let b = heap_rule::look(heap, dom);
+    if b < dom.arrivals() * u64::from(heap.config().domains) {
+        return Look::NotAll(b);
+    }
+    if dom.arrivals() % 2 == 1 {
+        return Look::Lead;
+    }
+    let word = plan_load(heap, dom);
+    Look::Next(kind_of(word))
+}
+
+// Takes the wishes back where domains run next.
+fn clear_for(heap: &Heap, dom: &mut Domain, next: Kind)
+    requires here { IsIn dom.old heap.now }
+    requires may { ClearMay dom.old.view }
+    ensures here { IsIn dom.new heap.now }
+    ensures view { dom.new.view ≡ record dom.old.view { seen = record dom.old.view.seen { notes = dom.old.view.seen.notes ++ cleared next } } }
+{
+    match next {
+        Kind::Run => want_clear(heap, dom),
+        Kind::Promote | Kind::Reset => (),
+    }
+}
+
+/// Domain 0 says in an odd phase which phase comes next. Before domains run again no wish is left.
+pub fn lead(heap: &Heap, dom: &mut Domain, next: Kind)
+    requires here { IsIn dom.old heap.now }
+    requires leads { dom.old.view.own.number ≡ 0 }
+    requires odd { dom.old.view.seen.stage ≡ Leads (kind_in dom.old.view.seen.stage) }
+    requires follows { Follows (kind_in dom.old.view.seen.stage) next }
+    ensures here { IsIn dom.new heap.now }
+    ensures view { dom.new.view ≡ record dom.old.view { seen = record dom.old.view.seen { stage = Led next; notes = dom.old.view.seen.notes ++ cleared next } } }
+{
+    clear_for(heap, dom, next);
+    plan_store(heap, dom, word_of(next));
+}

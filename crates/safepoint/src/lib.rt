@@ -1,0 +1,8 @@
+//! Safepoints: all domains stop together and go on together.
+#![tactic(auto)]
+
+mod answer;
+mod barrier;
+
+pub use answer::{Look, Want, Wants};
+pub use barrier::{arrive, ask, follower, lead, look, wants};

@@ -1,0 +1,96 @@
+-- Steps of a search one behind the other.
+use Rattle.std.proofs.Common.{◌≡◌, ◌≢◌, ◌∙◌, ℕ, ◌+◌, ◌-◌, ◌<◌, ◌≤◌, List, length, set, [], Some, None, Option, refl, ap, sym, subst, arith, get_or-set_same}
+use Rattle.heap_rule.specs.declared.view.DomainView.{DomainView}
+use Rattle.heap_rule.specs.declared.view.Hunt.{Hunt}
+use Rattle.heap_rule.specs.declared.view.Hunt.TheVariants.{Rests, Counts, Asks, Draws, Walks, Fills}
+use Rattle.heap_rule.specs.declared.view.Spot.{Spot}
+use Rattle.heap_rule.specs.declared.config.Config.{Config}
+use Rattle.heap_rule.specs.Pools.{owned, owner_word, blocks_of, place_in, drawn_in, spot_at, limit_of, hunting, hunting_free}
+use Rattle.heap_rule.specs.Takes.{with_hunt, looked_to, NoneFree, OwnerMay, ListedTold, CursorTold, CursorAddTold, ListTold, OwnerTold, PlaceTold}
+use Rattle.heap_rule.proofs.Classes.{some_block}
+use Rattle.size_pools.specs.Taken.{Hunted, DrewPool, Took, Missed, Passed, Lacks}
+
+pub hunted_twice : (x y z : DomainView) (g h : Hunt) → Hunted x y g → Hunted y z h → Hunted x z h
+hunted_twice x y z g h a b = b ∙ ap (λ (v : DomainView). hunting_free v z.own.looked h z.seen.free) a
+
+pub hunted_free : (x y : DomainView) (looked : List Spot) (h : Hunt) (free : Option ℕ) → y ≡ hunting_free x looked h free → Hunted x y h
+hunted_free x y looked h free e = e ∙ (λ i. hunting_free x (ap (λ (z : DomainView). z.own.looked) (sym e) i) h (ap (λ (z : DomainView). z.seen.free) (sym e) i))
+
+pub hunted_of : (x y : DomainView) (looked : List Spot) (h : Hunt) → y ≡ hunting x looked h → Hunted x y h
+hunted_of x y looked h e = hunted_free x y looked h x.seen.free e
+
+pub missed_of : (x y : DomainView) (h : Hunt) → Hunted x y h → drawn_in h ≡ None → Missed x y
+missed_of x y h e none = let is : y.seen.hunt ≡ h = ap (λ (z : DomainView). z.seen.hunt) e in record { view = subst (Hunted x y) (sym is) e; at_rest = ap drawn_in is ∙ none }
+
+pub missed_twice : (x y z : DomainView) → Missed x y → Missed y z → Missed x z
+missed_twice x y z a b = record { view = hunted_twice x y z y.seen.hunt z.seen.hunt a.view b.view; at_rest = b.at_rest }
+
+-- the place looked to after a step
+pub spot_of : (x y : DomainView) (class : ℕ) (spot : Spot) (h : Hunt) → class < 6 → length x.own.looked ≡ 6 → y ≡ hunting x (set x.own.looked class spot) h → spot_at y.own.looked class ≡ spot
+spot_of x y class spot h few wide e = ap (λ (z : DomainView). spot_at z.own.looked class) e ∙ get_or-set_same x.own.looked class spot (record { pool = 0; slot = 0 }) (omega arith)
+
+module _ (x v y : DomainView) (pool class i found : ℕ) (few : class < 6) (hunted : Hunted x v (Walks pool class)) (told : PlaceTold pool class i v found y) where
+  module _ (full : found ≢ 0) where
+    pub walked_more : i + 1 < blocks_of class → Hunted x y (Walks pool class) × (spot_at y.own.looked class ≡ record { pool = pool; slot = i + 1 })
+    walked_more b = let e = told.full full b in (hunted_twice x v y (Walks pool class) (Walks pool class) hunted (hunted_of v y _ (Walks pool class) e), spot_of v y class (record { pool = pool; slot = i + 1 }) (Walks pool class) few told.wide e)
+
+    pub walked_last : blocks_of class ≤ i + 1 → Hunted x y (Walks pool class) × (pool < (spot_at y.own.looked class).pool)
+    walked_last b = let e = told.last full b in (
+      hunted_twice x v y (Walks pool class) (Walks pool class) hunted (hunted_of v y _ (Walks pool class) e),
+      subst (λ (s : Spot). pool < s.pool) (sym (spot_of v y class (record { pool = pool + 1; slot = 0 }) (Walks pool class) few told.wide e)) (omega arith),
+    )
+
+  pub walked_took : (k : Config) (a : ℕ) → pool < k.pools → i < blocks_of class → a ≡ place_in pool class i → found ≡ 0 → Took k class a x y
+  walked_took k a inside below is free = record { pool = pool; slot = i; inside = inside; below = below; address = is; view = hunted_twice x v y (Walks pool class) (Fills pool class i _) hunted (hunted_of v y _ (Fills pool class i _) (told.free free)) }
+
+-- a pool that isn't the domain's
+pub passes : (x y : DomainView) (pool class found : ℕ) → class < 6 → OwnerTold pool class x found y → found ≢ owner_word (owned x.own.number class) → Passed class pool x y
+passes x y pool class found few told other =
+    let e = told.other other in record {
+      missed = missed_of x y Rests (hunted_of x y _ Rests e) refl;
+      later = subst (λ (s : Spot). pool < s.pool) (sym (spot_of x y class (record { pool = pool + 1; slot = 0 }) Rests few told.wide e)) (omega arith);
+    }
+
+-- after a look at a pool
+pub took_after : (k : Config) (class a : ℕ) (x v y : DomainView) → Missed x v → Took k class a v y → Took k class a x y
+took_after k class a x v y missed t = record { pool = t.pool; slot = t.slot; inside = t.inside; below = t.below; address = t.address; view = hunted_twice x v y v.seen.hunt (Fills t.pool class t.slot _) missed.view t.view }
+
+some_pool : (p q : ℕ) → ◌≡◌ {A = Option ℕ} (Some p) (Some q) → p ≡ q
+some_pool p q e = cc
+
+-- a pool drawn, cleared and signed: its first place is taken
+pub drawn_took : (k : Config) (x v1 v2 v3 v4 : DomainView) (place class found a : ℕ) → class < 6 → DrewPool k place class x v1 → ListTold v1 found v2
+    → ((p : ℕ) → v2.seen.hunt ≡ Draws p found class 0 → v3 ≡ with_hunt v2 (Draws p found class (blocks_of class)))
+    → v4 ≡ looked_to v3 class (record { pool = found; slot = 0 }) (Fills found class 0 []) → a ≡ place_in found class 0 → Took k class a x v4
+drawn_took k x v1 v2 v3 v4 place class found a few d list cleared signed is =
+    let hunt1 : v1.seen.hunt ≡ Draws place d.pool class 0 = ap (λ (z : DomainView). z.seen.hunt) d.view in
+    let pool_is : d.pool ≡ found = some_pool d.pool found (sym (ap drawn_in hunt1) ∙ list.names) in
+    let hunt2 : v2.seen.hunt ≡ Draws place found class 0 = ap (λ (z : DomainView). z.seen.hunt) list.view ∙ (hunt1 ∙ ap (λ (p : ℕ). Draws place p class 0) pool_is) in
+    let e3 = cleared place hunt2 in
+    let h1 : Hunted x v1 (Draws place d.pool class 0) = d.view in
+    let h2 : Hunted x v2 (Draws place d.pool class 0) = subst (λ (z : DomainView). Hunted x z (Draws place d.pool class 0)) (sym list.view) h1 in
+    let h3 : Hunted x v3 (Draws place found class (blocks_of class)) = hunted_twice x v2 v3 (Draws place d.pool class 0) (Draws place found class (blocks_of class)) h2 (hunted_of v2 v3 _ (Draws place found class (blocks_of class)) e3) in record {
+      pool = found;
+      slot = 0;
+      inside = subst (λ (p : ℕ). p < k.pools) pool_is d.inside;
+      below = (some_block class few).0;
+      address = is;
+      view = hunted_twice x v3 v4 (Draws place found class (blocks_of class)) (Fills found class 0 []) h3 (hunted_of v3 v4 _ (Fills found class 0 []) signed);
+    }
+
+-- the pool drawn and cleared may be signed
+pub owner_ready : (k : Config) (x v1 v2 v3 : DomainView) (place class found word new : ℕ) → DrewPool k place class x v1 → ListTold v1 found v2
+    → ((p : ℕ) → v2.seen.hunt ≡ Draws p found class 0 → v3 ≡ with_hunt v2 (Draws p found class (blocks_of class)))
+    → NoneFree k x class → word ≡ 11 + k.pools + found → new ≡ owner_word (owned v3.own.number class) → OwnerMay k v3 word new found class
+owner_ready k x v1 v2 v3 place class found word new d list cleared none at signs =
+    let hunt1 : v1.seen.hunt ≡ Draws place d.pool class 0 = ap (λ (z : DomainView). z.seen.hunt) d.view in
+    let pool_is : d.pool ≡ found = some_pool d.pool found (sym (ap drawn_in hunt1) ∙ list.names) in
+    let hunt2 : v2.seen.hunt ≡ Draws place found class 0 = ap (λ (z : DomainView). z.seen.hunt) list.view ∙ (hunt1 ∙ ap (λ (p : ℕ). Draws place p class 0) pool_is) in
+    let e3 = cleared place hunt2 in
+    let looked : v3.own.looked ≡ x.own.looked = ap (λ (z : DomainView). z.own.looked) e3 ∙ (ap (λ (z : DomainView). z.own.looked) list.view ∙ d.looked) in record {
+      place = place;
+      hunt = ap (λ (z : DomainView). z.seen.hunt) e3;
+      word = at;
+      signs = signs;
+      none_free = subst (λ (l : List Spot). k.pools ≤ (spot_at l class).pool) (sym looked) none;
+    }

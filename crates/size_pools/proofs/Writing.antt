@@ -1,0 +1,133 @@
+-- The writing of a block at a free place of an own pool.
+use Rattle.std.proofs.Common.{◌≡◌, ◌≢◌, ◌∙◌, ℕ, ◌+◌, ◌*◌, ◌^◌, ◌<◌, ◌≤◌, List, [], ◌∷◌, false, length, replicate, refl, ap, sym, subst, arith, lt_of_not-le}
+use Rattle.heap_model.specs.declared.label.Label.{Label}
+use Rattle.heap_model.specs.declared.command.Command.{Command as CommandType}
+use Rattle.heap_model.specs.declared.command.Command.TheVariants.{AllocMaj}
+use Rattle.heap_model.specs.declared.entry.Entry.{Entry}
+use Rattle.heap_model.specs.declared.entry.Entry.TheVariants.{Command}
+use mathlib.Core.Logic.{dite}
+use native.Mathlib.Decide.{ℕ_discrete, dec_le}
+use Rattle.heap_rule.specs.declared.view.Own.{Own}
+use Rattle.heap_model.specs.declared.reply.Reply.{Reply}
+use Rattle.heap_model.specs.declared.reply.Reply.TheVariants.{Block}
+use Rattle.heap_model.specs.declared.reply.Applied.TheVariants.{Replied}
+use Rattle.heap_model.specs.Fronts.{PlainShape, Answers}
+use Rattle.heap_words.specs.declared.value.Value.TheVariants.{Ref}
+use Rattle.heap_words.specs.Labels.{label_word}
+use Rattle.heap_rule.specs.declared.change.Part.TheVariants.{Register}
+use Rattle.heap_rule.specs.declared.change.Change.{Change}
+use Rattle.heap_rule.specs.declared.change.Change.TheVariants.{Set}
+use Rattle.heap_rule.specs.declared.config.Config.{Config}
+use Rattle.heap_rule.specs.declared.view.DomainView.{DomainView}
+use Rattle.heap_rule.specs.declared.view.Hunt.{Hunt}
+use Rattle.heap_rule.specs.declared.view.Hunt.TheVariants.{Fills}
+use Rattle.heap_rule.specs.Inits.{next_label}
+use Rattle.heap_rule.specs.Limits.{sizes_in}
+use Rattle.heap_rule.specs.Places.{HeadIs}
+use Rattle.heap_rule.specs.Pools.{size_of, hunting_free}
+use Rattle.heap_rule.specs.Running.{Runs, Did, own_entry}
+use Rattle.heap_rule.specs.Standing.{Acts}
+use Rattle.heap_rule.specs.Takes.{with_hunt, MajorMay, MajorEntry, MajorTold}
+use Rattle.heap_rule.specs.Token.{Token, SharedHeap, IsIn}
+use Rattle.heap_rule.proofs.Calls.{acting_did}
+use Rattle.heap_rule.proofs.Classes.{slot_inside, size_is}
+use Rattle.size_pools.specs.Taken.{Hunted, IsBusy, Took, IsRoom, Grows, GrowsBy}
+use Rattle.size_classes.specs.Table.{IsLeastFor}
+use Rattle.size_classes.specs.declared.TheConstants.{SIZES}
+
+-- the block's words lie in the pools
+pub room_inside : (k : Config) (x : DomainView) (a n : ℕ) → IsRoom k x a n → (1 ≤ a) × (a + n + 1 ≤ k.pools * 4096)
+room_inside k x a n r =
+    let z : ℕ = size_of r.class in
+    let s : ℕ = r.slot * size_of r.class in
+    let top : s + z ≤ 4096 = slot_inside r.class r.slot r.of_class r.below in
+    let room : n + 2 ≤ z = r.room in
+    let is : a ≡ r.pool * 4096 + s + 1 = r.address in
+    let i : r.pool < k.pools = r.inside in (omega arith, omega arith)
+
+pub major_may : (h : SharedHeap) (old : Token) (x : DomainView) (a new dst place tag n : ℕ) (runs : IsBusy h old) (r : IsRoom h.config old.view a n)
+    → x ≡ with_hunt old.view (Fills r.pool r.class r.slot (label_word old.view.own.number (old.view.own.serial + 1) ∷ replicate n 1)) → place ≡ dst → dst < 16 → tag ≤ 245 → 1 ≤ n → n ≤ 126 → old.view.own.serial + 1 < 2 ^ 32
+    → HeadIs (PlainShape n tag) new → MajorMay h.config x a new (Set Register place (record { value = Ref a; number = 0; more = 0 }) ∷ []) old.view.own.number dst tag n
+major_may h old x a new dst place tag n runs r is same few small some fits serial head =
+    subst (λ (z : DomainView × ℕ). MajorMay h.config z.0 a new (Set Register z.1 (record { value = Ref a; number = 0; more = 0 }) ∷ []) old.view.own.number dst tag n) (λ i. (sym is i, sym same i)) record {
+      pool = r.pool;
+      class = r.class;
+      slot = r.slot;
+      own = refl;
+      acts = let a : Acts h.config old.view = subst (λ (k : Config). Acts k old.view) runs.here.1 runs.acts in record { goes_on = a.goes_on; runs = a.runs };
+      hunt = refl;
+      word = r.address;
+      tag_fits = omega arith;
+      some_field = some;
+      few_fields = fits;
+      head = head;
+      serial = serial;
+      goes = few;
+      written = refl;
+      fits = (few, tt);
+    }
+
+pub major_did : (h : SharedHeap) (old new : Token) (mid : DomainView) (e : Entry) (dst tag n : ℕ) (l : Label) (hunt : Hunt) (changes : List Change) → e ≡ own_entry old (AllocMaj dst tag n) → IsBusy h old → IsIn new h
+    → mid ≡ with_hunt old.view hunt → MajorTold h.config e changes mid new.view → l ≡ next_label old.view → Did h old new (AllocMaj dst tag n) (Block l)
+major_did h old new mid e dst tag n l hunt changes is runs here view told label =
+    let answers = subst (λ (x : DomainView). Answers (sizes_in h.config) x.own.number x.seen.front new.view.seen.front e (Replied (Block (next_label x)))) view told.answers in
+    let number : new.view.own.number ≡ old.view.own.number = ap (λ (x : DomainView). x.own.number) told.view ∙ ap (λ (x : DomainView). x.own.number) view in
+    acting_did h old new (AllocMaj dst tag n) (Block l) runs.here runs.acts here number (ap (λ (x : DomainView). x.seen.hunt) told.view) (ap (λ (x : DomainView). x.seen.made) told.view ∙ (ap (λ (x : DomainView). x.seen.made) view ∙ runs.idle))
+    (record {
+      arrivals = ap (λ (x : DomainView). x.own.arrivals) told.view ∙ ap (λ (x : DomainView). x.own.arrivals) view;
+      stage = ap (λ (x : DomainView). x.seen.stage) told.view ∙ ap (λ (x : DomainView). x.seen.stage) view;
+      notes = ap (λ (x : DomainView). x.seen.notes) told.view ∙ ap (λ (x : DomainView). x.seen.notes) view;
+    })
+    (subst (λ (x : Entry). Answers (sizes_in h.config) old.view.own.number old.view.seen.front new.view.seen.front x (Replied (Block l))) is
+    (subst (λ (m : Label). Answers (sizes_in h.config) old.view.own.number old.view.seen.front new.view.seen.front e (Replied (Block m))) (sym label) answers))
+
+-- after a search the domain runs on
+pub hunted_runs : (h : SharedHeap) (old new : Token) (hunt : Hunt) → Runs h old → IsIn new h → Hunted old.view new.view hunt → IsBusy h new
+hunted_runs h old new hunt runs here view = record {
+  here = here;
+  acts = subst (λ (z : Config × DomainView). Acts z.0 z.1) (λ i. (sym (here.1 ∙ sym runs.here.1) i, sym view i)) (let a : Acts old.config (hunting_free old.view new.view.own.looked hunt new.view.seen.free) = record { goes_on = runs.acts.goes_on; runs = runs.acts.runs } in a);
+  idle = ap (λ (x : DomainView). x.seen.made) view ∙ runs.idle;
+}
+
+pub hunted_did : (h : SharedHeap) (old mid new : Token) (hunt : Hunt) (c : CommandType) (r : Reply) → Runs h old → IsIn mid h → Hunted old.view mid.view hunt → Did h mid new c r → Did h old new c r
+hunted_did h old mid new hunt c r runs here view did =
+    let config : mid.config ≡ old.config = here.1 ∙ sym runs.here.1 in record {
+      runs = did.runs;
+      answers = subst (λ (z : Config × DomainView). Answers (sizes_in z.0) z.1.own.number z.1.seen.front new.view.seen.front (Command z.1.own.number c false) (Replied r)) (λ i. (config i, view i)) did.answers;
+      heap = (did.heap.0 ∙ (here.0 ∙ sym runs.here.0), did.heap.1 ∙ config);
+      stays = record {
+        arrivals = did.stays.arrivals ∙ ap (λ (x : DomainView). x.own.arrivals) view;
+        stage = did.stays.stage ∙ ap (λ (x : DomainView). x.seen.stage) view;
+        notes = did.stays.notes ∙ ap (λ (x : DomainView). x.seen.notes) view;
+      };
+    }
+
+pub hunted_grows : (old mid new : Token) (hunt : Hunt) → Hunted old.view mid.view hunt → Grows mid new → GrowsBy old new
+hunted_grows old mid new hunt view g = record {
+  own = g.own ∙ (λ i. record (view i).own { registers = new.view.own.registers; serial = (view i).own.serial + 1; looked = looks i });
+  at_rest = g.at_rest;
+} where
+  looks : mid.view.own.looked ≡ new.view.own.looked
+  looks = sym (ap (λ (o : Own). o.looked) g.own)
+
+-- the place taken has room
+pub took_room : (k : Config) (class a n : ℕ) (x y : DomainView) → class < 6 → IsLeastFor SIZES (n + 2) class → Took k class a x y → IsRoom k y a n
+took_room k class a n x y few least t = record {
+  pool = t.pool;
+  class = class;
+  slot = t.slot;
+  hunt = ap (λ (z : DomainView). z.seen.hunt) t.view;
+  inside = t.inside;
+  of_class = few;
+  below = t.below;
+  address = t.address;
+  room = subst (λ (m : ℕ). n + 2 ≤ m) (size_is class) least.fits;
+}
+
+-- the least class is one
+pub least_one : (words c d : ℕ) → IsLeastFor SIZES words c → IsLeastFor SIZES words d → c ≡ d
+least_one words c d a b = dite (dec_le c d)
+    (λ le. dite (ℕ_discrete c d)
+    (λ same. same)
+    (λ other. absurd (let h = b.least c (let n : c ≢ d = other in let l : c ≤ d = le in omega arith) in let f = a.fits in omega arith)))
+    (λ gt. absurd (let h = a.least d (lt_of_not-le gt) in let f = b.fits in omega arith))

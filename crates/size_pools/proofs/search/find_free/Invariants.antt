@@ -1,0 +1,12 @@
+use Rattle.std.proofs.Common.{◌≡◌, ◌<◌, ◌≤◌}
+use Rattle.heap_rule.specs.Pools.{spot_at}
+use Rattle.heap_rule.specs.Token.{IsIn}
+use Rattle.size_pools.specs.Taken.{Missed}
+use Rattle.size_pools.proofs.search.find_free.Given as goal
+
+abbrev pub invariant-loop-passed : goal.invariant-loop-passed
+invariant-loop-passed l = record {
+  here : IsIn l.dom l.heap;
+  missed : Missed l.fn.dom.view l.dom.view;
+  past : l._passed ≤ (spot_at l.dom.view.own.looked l.class).pool;
+}

@@ -1,0 +1,81 @@
+-- What a domain knows of the pools after a search for a free place.
+use Rattle.std.specs.Prelude.{◌≡◌, ℕ, ◌+◌, ◌<◌, ◌≤◌, [], Some, None}
+use Rattle.heap_model.specs.Domains.{reserve}
+use Rattle.heap_rule.specs.Limits.{sizes_in}
+use Rattle.heap_rule.specs.declared.config.Config.{Config}
+use Rattle.heap_rule.specs.declared.view.DomainView.{DomainView}
+use Rattle.heap_rule.specs.declared.view.Hunt.{Hunt}
+use Rattle.heap_rule.specs.declared.view.Hunt.TheVariants.{Rests, Draws, Fills}
+use Rattle.heap_rule.specs.Pools.{size_of, blocks_of, place_in, drawn_in, spot_at, hunting_free}
+use Rattle.heap_rule.specs.Token.{Token, SharedHeap, IsIn}
+use Rattle.heap_rule.specs.Standing.{Acts}
+use Rattle.heap_rule.specs.Takes.{HasNoDraw, NoneFree}
+
+-- all but what the domain knows of pools is as before
+abbrev pub Hunted : DomainView → DomainView → Hunt → Type 0
+Hunted x y hunt = y ≡ hunting_free x y.own.looked hunt y.seen.free
+
+-- the pool at a place of the list is drawn
+pub record DrewPool (k : Config) (place class : ℕ) (x y : DomainView) : Type 0 where
+  pub pool : ℕ
+  pub listed_is : place < k.pools
+  pub inside : pool < k.pools
+  pub view : Hunted x y (Draws place pool class 0)
+  pub looked : y.own.looked ≡ x.own.looked
+
+-- so many pools were found free, which are no more than the reserve
+pub record Reserved (k : Config) (free : ℕ) (y : DomainView) : Type 0 where
+  pub found : y.seen.free ≡ Some free
+  pub few : free ≤ reserve (sizes_in k)
+
+-- the free place at an address is taken, in an own pool of the class
+pub record Took (k : Config) (class a : ℕ) (x y : DomainView) : Type 0 where
+  pub pool : ℕ
+  pub slot : ℕ
+  pub inside : pool < k.pools
+  pub below : slot < blocks_of class
+  pub address : a ≡ place_in pool class slot
+  pub view : Hunted x y (Fills pool class slot [])
+
+-- none is taken, and no pool is drawn
+pub record Missed (x y : DomainView) : Type 0 where
+  pub view : Hunted x y y.seen.hunt
+  pub at_rest : HasNoDraw y
+
+-- the search went on to a later pool
+pub record Passed (class pool : ℕ) (x y : DomainView) : Type 0 where
+  pub missed : Missed x y
+  pub later : pool < (spot_at y.own.looked class).pool
+
+-- no place of an own pool of the class is free
+pub record Lacks (k : Config) (class : ℕ) (x y : DomainView) : Type 0 where
+  pub missed : Missed x y
+  pub none_free : NoneFree k y class
+
+-- the token is one of the heap's, its trace hasn't ended, and no young block is being made
+pub record IsBusy (h : SharedHeap) (t : Token) : Type 0 where
+  pub here : IsIn t h
+  pub acts : Acts t.config t.view
+  pub idle : t.view.seen.made ≡ []
+
+-- a free place of an own pool is taken at this address, with room for a block of so many fields
+pub record IsRoom (k : Config) (x : DomainView) (a fields : ℕ) : Type 0 where
+  pub pool : ℕ
+  pub class : ℕ
+  pub slot : ℕ
+  pub hunt : x.seen.hunt ≡ Fills pool class slot []
+  pub inside : pool < k.pools
+  pub of_class : class < 6
+  pub below : slot < blocks_of class
+  pub address : a ≡ place_in pool class slot
+  pub room : fields + 2 ≤ size_of class
+
+-- besides its registers, the token has given out one label more, and takes no block
+pub record Grows (old new : Token) : Type 0 where
+  pub own : new.view.own ≡ record old.view.own { registers = new.view.own.registers; serial = old.view.own.serial + 1 }
+  pub at_rest : new.view.seen.hunt ≡ Rests
+
+-- the same, and other places were looked at
+pub record GrowsBy (old new : Token) : Type 0 where
+  pub own : new.view.own ≡ record old.view.own { registers = new.view.own.registers; serial = old.view.own.serial + 1; looked = new.view.own.looked }
+  pub at_rest : new.view.seen.hunt ≡ Rests

@@ -1,0 +1,109 @@
+//! The allocation of a block in the major heap.
+ghost use Rattle.std.specs.Prelude.{◌≡◌, ◌+◌, ◌^◌, ◌<◌, ◌≤◌, ℕ, slice_set, [], IfOk, IfErr, OnOk, OnErr};
+ghost use Rattle.heap_model.specs.declared.command.Command.TheVariants.{AllocMaj};
+ghost use Rattle.heap_model.specs.declared.entry.Entry.{Entry};
+ghost use Rattle.heap_model.specs.declared.reply.Reply.TheVariants.{Block};
+ghost use Rattle.heap_words.specs.declared.value.Value.TheVariants.{Ref};
+ghost use Rattle.heap_rule.specs.declared.view.Hunt.TheVariants.{Rests, Fills};
+ghost use Rattle.heap_rule.specs.Running.{Runs, Did, own_entry};
+ghost use Rattle.heap_rule.specs.Takes.{NoneFree};
+ghost use Rattle.heap_rule.specs.Token.{Holds, IsIn};
+ghost use Rattle.size_classes.specs.Table.{IsLeastFor};
+ghost use Rattle.size_classes.specs.declared.TheConstants.{SIZES};
+ghost use Rattle.size_pools.specs.Taken.{Hunted, Reserved, IsBusy, IsRoom, Grows, GrowsBy};
+
+use crate::no_pool::NoPool;
+use crate::taking::take;
+use heap_model::label::Label;
+use heap_rule::{Change, Domain, Heap, Item, Part, fill_store, head_store};
+use heap_words::{Head, Value, pack_head, pack_label, pack_value};
+use size_classes::heap_classes;
+
+// The colour of a block that is allocated while no collection is under way: unmarked.
+const UNMARKED: u8 = 1;
+
+// Writes a block at the place that is taken: its label, its fields, each the integer 0, and its head last.
+fn write_block(heap: &Heap, dom: &mut Domain, at: u32, dst: u8, tag: u8, fields: u16) -> Label
+    ghost entry: { Entry }
+    requires entry { entry ≡ own_entry dom.old (AllocMaj dst tag fields) }
+    requires runs { IsBusy heap.now dom.old }
+    requires room { IsRoom heap.now.config dom.old.view at fields }
+    requires dst { dst < 16 }
+    requires tag { tag ≤ 245 }
+    requires fields { (1 ≤ fields) × (fields ≤ 126) }
+    requires serial { dom.old.view.own.serial + 1 < 2 ^ 32 }
+    ensures did { Did heap.now dom.old dom.new (AllocMaj dst tag fields) (Block result) }
+    ensures grows { Grows dom.old dom.new }
+    ensures registers { dom.new.view.own.registers ≡ slice_set dom.old.view.own.registers dst (Ref at) }
+    ensures holds { Holds heap.now.config dom.new.view.own.registers }
+{
+    let _limits = heap.config();
+    let label = Label {
+        domain: dom.number(),
+        serial: dom.labels_made() + 1,
+    };
+    fill_store(heap, dom, at + 1, pack_label(label.domain, label.serial));
+    for i in 0..u32::from(fields) {
+        fill_store(heap, dom, at + 2 + i, pack_value(Value::Int(0)));
+    }
+    let head = Head::Plain {
+        size: fields,
+        tag,
+        colour: UNMARKED,
+        scanned: false,
+    };
+    let holds = Change::Set {
+        part: Part::Register,
+        place: u32::from(dst),
+        item: Item {
+            value: Value::Ref(at),
+            number: 0,
+            more: 0,
+        },
+    };
+    head_store(heap, dom, at, pack_head(head), &[holds]);
+    label
+}
+
+// The size class of a block with so many fields.
+fn class_for(fields: u16) -> u32
+    requires { fields ≤ 126 }
+    ensures class { result < 6 }
+    ensures least { IsLeastFor SIZES (fields + 2) result }
+{
+    let Some(class) = heap_classes().class_of(usize::from(fields) + 2) else {
+        unreachable!()
+    };
+    class as u32
+}
+
+/// Allocates a plain block of `fields` fields, each the integer 0, in the major heap, and puts it
+/// into register `dst`. Registers are below 16, tags at most 245, fields 1 to 126, and fewer than
+/// 4,294,967,295 labels were made.
+///
+/// `NoPool` exactly where no own pool of the block's class has a free block and the number of pools
+/// that were free at that step is at most the reserve of promotion. Then no entry stands, and nothing
+/// changes but the places that were looked at.
+pub fn alloc_major(
+    heap: &Heap,
+    dom: &mut Domain,
+    dst: u8,
+    tag: u8,
+    fields: u16,
+) -> Result<Label, NoPool>
+    requires runs { Runs heap.now dom.old }
+    requires dst { dst < 16 }
+    requires tag { tag ≤ 245 }
+    requires fields { (1 ≤ fields) × (fields ≤ 126) }
+    requires serial { dom.old.view.own.serial + 1 < 2 ^ 32 }
+    ensures did { IfOk result (λ l. Did heap.now dom.old dom.new (AllocMaj dst tag fields) (Block l)) }
+    ensures grows { OnOk result (GrowsBy dom.old dom.new) }
+    ensures reserved { IfErr result (λ n. Reserved heap.now.config n.free dom.new.view) }
+    ensures none_free { OnErr result ((class : ℕ) → IsLeastFor SIZES (fields + 2) class → NoneFree heap.now.config dom.new.view class) }
+    ensures same { OnErr result (Hunted dom.old.view dom.new.view Rests) }
+    ensures here { IsIn dom.new heap.now }
+{
+    let class = class_for(fields);
+    let at = take(heap, dom, class)?;
+    Ok(write_block(heap, dom, at, dst, tag, fields))
+}

@@ -1,0 +1,107 @@
+//! A pool from the list of free pools.
+ghost use Rattle.std.specs.Prelude.{◌≡◌, ◌+◌, ◌-◌, ◌<◌, ◌≤◌, IfOk, IfErr, OnErr, [], ℕ};
+ghost use Rattle.heap_model.specs.Domains.{reserve as reserve_of};
+ghost use Rattle.heap_rule.specs.declared.phase.Kind.TheVariants.{Run};
+ghost use Rattle.heap_rule.specs.declared.phase.Stage.TheVariants.{In};
+ghost use Rattle.heap_rule.specs.declared.view.Hunt.TheVariants.{Rests, Draws, Fills};
+ghost use Rattle.heap_rule.specs.Limits.{sizes_in};
+ghost use Rattle.heap_rule.specs.Pools.{blocks_of, limit_of};
+ghost use Rattle.heap_rule.specs.Takes.{HasNoDraw, NoneFree, with_hunt, looked_to};
+ghost use Rattle.heap_rule.specs.Token.{IsIn};
+ghost use Rattle.size_pools.specs.Taken.{Hunted, DrewPool, Reserved, Took};
+
+use crate::no_pool::NoPool;
+use heap_rule::{
+    Domain, Heap, class_blocks, clear_store, cursor_add, cursor_load, list_load, listed_load,
+    owner_store, owner_word, place_address,
+};
+use size_classes::reserve;
+
+// The index of the first word of the list.
+const LIST: u32 = 11;
+
+// How many of the listed pools running domains may draw.
+fn limit(heap: &Heap, count: u32) -> u32
+    ensures value { result ≡ limit_of heap.now.config count }
+    ensures rest { count ≤ result + reserve_of (sizes_in heap.now.config) }
+    ensures low { result ≤ count }
+{
+    let config = heap.config();
+    let kept = reserve(config.domains, config.minor_words);
+    if count < kept { 0 } else { count - kept }
+}
+
+// Draws the pool at the cursor, if running domains may. Answers the place and its pool.
+fn draw_pool(heap: &Heap, dom: &mut Domain, class: u32) -> Result<u32, NoPool>
+    requires here { IsIn dom.old heap.now }
+    requires class { class < 6 }
+    requires at_rest { HasNoDraw dom.old.view }
+    requires runs { dom.old.view.seen.stage ≡ In Run }
+    ensures here { IsIn dom.new heap.now }
+    ensures drew { IfOk result (λ place. DrewPool heap.now.config place class dom.old.view dom.new.view) }
+    ensures none { IfErr result (λ n. Reserved heap.now.config n.free dom.new.view) }
+    ensures same { OnErr result (Hunted dom.old.view dom.new.view Rests) }
+    ensures looked { OnErr result (dom.new.view.own.looked ≡ dom.old.view.own.looked) }
+{
+    let _limits = heap.config();
+    let count = listed_load(heap, dom) as u32;
+    let limit = limit(heap, count);
+    let none = NoPool {
+        free: count - limit,
+    };
+    if cursor_load(heap, dom, count) >= u64::from(limit) {
+        return Err(none);
+    }
+    let place = cursor_add(heap, dom, count, class);
+    if place >= u64::from(limit) {
+        return Err(none);
+    }
+    Ok(place as u32)
+}
+
+// Makes all places of the pool drawn free.
+fn clear(heap: &Heap, dom: &mut Domain, pool: u32, class: u32)
+    requires here { IsIn dom.old heap.now }
+    requires class { class < 6 }
+    requires inside { pool < heap.now.config.pools }
+    requires drawn { (place : ℕ) × (dom.old.view.seen.hunt ≡ Draws place pool class 0) }
+    requires runs { dom.old.view.seen.stage ≡ In Run }
+    ensures here { IsIn dom.new heap.now }
+    ensures cleared { (place : ℕ) → dom.old.view.seen.hunt ≡ Draws place pool class 0 → dom.new.view ≡ with_hunt dom.old.view (Draws place pool class (blocks_of class)) }
+{
+    let _limits = heap.config();
+    for slot in 0..class_blocks(class) {
+        clear_store(
+            heap,
+            dom,
+            place_address(pool, class, slot),
+            0,
+            pool,
+            class,
+            slot,
+        );
+    }
+}
+
+// Draws a pool, makes its places free and it the domain's own. Its first place is taken. Answers the
+// place's address.
+pub(crate) fn draw(heap: &Heap, dom: &mut Domain, class: u32) -> Result<u32, NoPool>
+    requires here { IsIn dom.old heap.now }
+    requires class { class < 6 }
+    requires at_rest { HasNoDraw dom.old.view }
+    requires none_free { NoneFree heap.now.config dom.old.view class }
+    requires runs { dom.old.view.seen.stage ≡ In Run }
+    ensures here { IsIn dom.new heap.now }
+    ensures took { IfOk result (λ a. Took heap.now.config class a dom.old.view dom.new.view) }
+    ensures none { IfErr result (λ n. Reserved heap.now.config n.free dom.new.view) }
+    ensures same { OnErr result (Hunted dom.old.view dom.new.view Rests) }
+    ensures looked { OnErr result (dom.new.view.own.looked ≡ dom.old.view.own.looked) }
+{
+    let pools = heap.config().pools;
+    let place = draw_pool(heap, dom, class)?;
+    let pool = list_load(heap, dom, LIST + place) as u32;
+    clear(heap, dom, pool, class);
+    let new = owner_word(dom.number(), class);
+    owner_store(heap, dom, LIST + pools + pool, new, pool, class);
+    Ok(place_address(pool, class, 0))
+}

@@ -1,0 +1,17 @@
+//! Blocks of the major heap: free places of pools, each pool being one domain's for blocks of one size.
+//!
+//! No call takes a lock or memory ("Retrofitting Parallelism onto OCaml", section 3.1).
+#![tactic(auto)]
+
+mod allocation;
+mod draw;
+mod no_pool;
+mod search;
+mod taking;
+
+pub use allocation::alloc_major;
+pub use no_pool::NoPool;
+pub use taking::take;
+
+#[cfg(test)]
+mod tests;

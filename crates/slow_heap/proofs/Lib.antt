@@ -1,0 +1,4 @@
+pub mod CommandLemmas
+pub mod CutLemmas
+pub mod PlaceLemmas
+pub mod SoundLemmas

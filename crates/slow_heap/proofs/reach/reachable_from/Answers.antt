@@ -1,0 +1,18 @@
+use Rattle.std.proofs.Common.{◌≡◌, List, [], length, fold, add-one, arith, sym, ap, ◌∙◌}
+use Rattle.heap_model.specs.declared.label.Label.{Label}
+use Rattle.heap_model.specs.Reach.{with_label, grow, grow_rounds, reachable}
+use Rattle.heap_model.proofs.ReachLemmas.{grow_rounds-suc}
+use Rattle.slow_heap.proofs.reach.reachable_from.Goals as goal
+
+pub loop-i-preserved : goal.loop-i-preserved
+loop-i-preserved c =
+    let start : List Label = fold with_label [] c.args.roots.now.items in
+    rw add-one (c.in_ok-grow_once.ensures ∙ ap (grow c.args.graph.now) c.loop-i.invariant ∙ sym (grow_rounds-suc c.loop-i._i c.args.graph.now start))
+
+pub returns : goal.returns
+unfolding reachable
+returns c =
+    let start : List Label = fold with_label [] c.args.roots.now.items in
+    let list : length c.graph.inside.items.items ≡ length c.args.graph.now = ap length c.graph.view_is in
+    let all : c.loop-i._i ≡ length c.args.graph.now = omega (arith, c.graph.inside.items.ok.0) in
+    c.loop-i.invariant ∙ ap (λ n. grow_rounds n c.args.graph.now start) all

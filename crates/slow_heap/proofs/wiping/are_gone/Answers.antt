@@ -1,0 +1,10 @@
+use Rattle.std.proofs.Common.{◌≡◌, get_or}
+use Rattle.heap_model.proofs.GraphLemmas.{place_node}
+use Rattle.slow_heap.proofs.wiping.are_gone.Goals as goal
+
+pub returns-in-Some : goal.returns-in-Some
+returns-in-Some c =
+    let g = c.args.state.now.graph in
+    let x = c.index.result.now in
+    let here : x ≡ get_or g c.in-Some.i x = rw c.graph.view_is at c.index.ensures in
+    rw (place_node g c.args.l c.in-Some.i x c.in-Some.ensures here) c.has_dead_keys.ensures
