@@ -12,7 +12,7 @@ use Rattle.heap_model.specs.declared.state.Sizes.{Sizes}
 use Rattle.heap_model.specs.Domains.{opening}
 use Rattle.heap_model.specs.History.{Legal, commands, replies, replies_from, state_after}
 use Rattle.heap_model.specs.Output.{line, printed, output, section_text}
-use Rattle.heap_model.proofs.HistoryLemmas.{commands-append, commands-others, replies_from-append, replies_from-others}
+use Rattle.heap_model.proofs.Histories.HistoryLemmas.{commands-append, commands-others, replies_from-append, replies_from-others}
 use Rattle.heap_text.specs.Spelling.{heading_text}
 use Rattle.heap_rule.specs.declared.config.Config.{Config}
 use Rattle.heap_rule.specs.Limits.{sizes_in}

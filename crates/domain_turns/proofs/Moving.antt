@@ -8,8 +8,8 @@ use Rattle.heap_model.specs.declared.reply.Reply.{Reply}
 use Rattle.heap_model.specs.Domains.{opening}
 use Rattle.heap_model.specs.History.{IsPrefix, state_after, commands, replies}
 use Rattle.heap_model.specs.Fronts.{IsFrontOf, Answers}
-use Rattle.heap_model.proofs.HistoryLemmas.{commands-append, commands-others, replies_from-append, replies_from-others}
-use Rattle.heap_model.proofs.FrontLemmas.{keeps_front}
+use Rattle.heap_model.proofs.Histories.HistoryLemmas.{commands-append, commands-others, replies_from-append, replies_from-others}
+use Rattle.heap_model.proofs.Histories.FrontLemmas.{keeps_front}
 use Rattle.heap_rule.specs.declared.config.Config.{Config}
 use Rattle.heap_rule.specs.declared.phase.Kind.{Kind}
 use Rattle.heap_rule.specs.declared.view.DomainView.{DomainView}

@@ -6,7 +6,7 @@ use Rattle.heap_model.specs.declared.entry.Entry.TheVariants.{Command as Command
 use Rattle.heap_model.specs.declared.reply.Reply.{Reply}
 use Rattle.heap_model.specs.declared.reply.Applied.TheVariants.{Replied, Silent}
 use Rattle.heap_model.specs.History.{commands, command_of, replies}
-use Rattle.heap_model.proofs.AnswerLemmas.{commands_after, replies_after}
+use Rattle.heap_model.proofs.Histories.AnswerLemmas.{commands_after, replies_after}
 use Rattle.heap_rule.specs.declared.config.Config.{Config}
 use Rattle.heap_rule.specs.Limits.{sizes_in}
 use Rattle.heap_rule.specs.Token.{Token, SharedHeap}

@@ -25,7 +25,7 @@ use Rattle.heap_rule.specs.Token.{Token, SharedHeap, IsIn, IsAddress}
 use Rattle.heap_rule.specs.Running.{Runs, Did}
 use Rattle.heap_rule.specs.Running.{own_entry}
 use Rattle.heap_rule.proofs.Calls.{front_stays, look_stays, stays_trans, answered_did}
-use Rattle.heap_model.proofs.FrontLemmas.{answers_after}
+use Rattle.heap_model.proofs.Histories.FrontLemmas.{answers_after}
 use Rattle.field_access.specs.Registers.{LoadsInto}
 use Rattle.field_access.proofs.Loading.{loaded}
 

@@ -14,7 +14,7 @@ use Rattle.heap_rule.specs.Token.{Token, SharedHeap, IsIn}
 use Rattle.heap_rule.specs.Running.{Runs, Did}
 use Rattle.heap_rule.specs.Running.{own_entry}
 use Rattle.heap_rule.proofs.Calls.{front_stays, look_stays, stays_trans, answered_did}
-use Rattle.heap_model.proofs.FrontLemmas.{answers_after}
+use Rattle.heap_model.proofs.Histories.FrontLemmas.{answers_after}
 
 -- a call that looked, and then made its entry
 pub looked_did : (h : SharedHeap) (old new : Token) (y : DomainView) (c : Command) (e : Entry) (r : Reply) (read : Value) (changes : List Change) → e ≡ own_entry old c → Runs h old → IsIn new h

@@ -14,12 +14,12 @@ use Rattle.heap_model.specs.Domains.{domain_at, register, opening, IsWithinLimit
 use Rattle.heap_model.specs.Entries.{next}
 use Rattle.heap_model.specs.History.{state_after}
 use Rattle.heap_model.specs.Fronts.{Answers, HoldsPlain}
-use Rattle.heap_model.proofs.AnswerLemmas.{before_entry}
-use Rattle.heap_model.proofs.FrameLemmas.{inside_running}
-use Rattle.heap_model.proofs.FrontLemmas.{keeps_front, holds_later}
-use Rattle.heap_model.proofs.HistoryLemmas.{state_after-push}
-use Rattle.heap_model.proofs.LeavesLemmas.{leaves_load}
-use Rattle.heap_model.proofs.ShapeAfterLemmas.{shaped-history}
+use Rattle.heap_model.proofs.Histories.AnswerLemmas.{before_entry}
+use Rattle.heap_model.proofs.Commands.FrameLemmas.{inside_running}
+use Rattle.heap_model.proofs.Histories.FrontLemmas.{keeps_front, holds_later}
+use Rattle.heap_model.proofs.Histories.HistoryLemmas.{state_after-push}
+use Rattle.heap_model.proofs.Commands.LeavesLemmas.{leaves_load}
+use Rattle.heap_model.proofs.Histories.ShapeAfterLemmas.{shaped-history}
 
 -- the values that a reply shows
 shown_same : (v w : Value) → shown v ≡ shown w → v ≡ w

@@ -12,7 +12,7 @@ use Rattle.heap_model.specs.declared.state.State as model
 use Rattle.heap_model.specs.Graph.{node_at}
 use Rattle.heap_model.specs.Domains.{register, opening}
 use Rattle.heap_model.specs.Fronts.{PlainShape, HoldsPlain}
-use Rattle.heap_model.proofs.FrontLemmas.{plain_of, holds_later}
+use Rattle.heap_model.proofs.Histories.FrontLemmas.{plain_of, holds_later}
 use Rattle.heap_words.specs.declared.value.Value.{Value}
 use Rattle.heap_rule.specs.declared.config.Config.{Config}
 use Rattle.heap_rule.specs.declared.view.DomainView.{DomainView}

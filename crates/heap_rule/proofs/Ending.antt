@@ -12,8 +12,8 @@ use Rattle.heap_model.specs.Graph.{Graph}
 use Rattle.heap_model.specs.Domains.{domain_at, no_domain}
 use Rattle.heap_model.specs.Entries.{next, ended}
 use Rattle.heap_model.specs.Fronts.{IsCalm}
-use Rattle.heap_model.proofs.FrameLemmas.{calm_end, keeps_next}
-use Rattle.heap_model.proofs.LeavesLemmas.{leaves_end}
+use Rattle.heap_model.proofs.Commands.FrameLemmas.{calm_end, keeps_next}
+use Rattle.heap_model.proofs.Commands.LeavesLemmas.{leaves_end}
 use Rattle.heap_words.specs.declared.value.Value.{Value}
 use Rattle.heap_words.specs.declared.value.Value.TheVariants.{Nothing as NothingWord}
 use Rattle.heap_rule.specs.declared.config.Config.{Config}

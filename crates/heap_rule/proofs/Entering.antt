@@ -12,10 +12,10 @@ use Rattle.heap_model.specs.Domains.{domain_at, IsShaped}
 use Rattle.heap_model.specs.Entries.{Allowed, next}
 use Rattle.heap_model.specs.History.{is_entry_of}
 use Rattle.heap_model.specs.Fronts.{IsCalm}
-use Rattle.heap_model.proofs.ShapeAfterLemmas.{shaped-history}
-use Rattle.heap_model.proofs.FrameLemmas.{inside_running}
-use Rattle.heap_model.proofs.FrontLemmas.{answers_push}
-use Rattle.heap_model.proofs.LeavesLemmas.{Leaves}
+use Rattle.heap_model.proofs.Histories.ShapeAfterLemmas.{shaped-history}
+use Rattle.heap_model.proofs.Commands.FrameLemmas.{inside_running}
+use Rattle.heap_model.proofs.Histories.FrontLemmas.{answers_push}
+use Rattle.heap_model.proofs.Commands.LeavesLemmas.{Leaves}
 use Rattle.heap_words.specs.declared.value.Value.{Value}
 use Rattle.heap_rule.specs.declared.change.Change.{Change}
 use Rattle.heap_rule.specs.declared.config.Config.{Config}

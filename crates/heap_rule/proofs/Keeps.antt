@@ -18,9 +18,9 @@ use Rattle.heap_model.specs.Domains.{domain_at, register, opening}
 use Rattle.heap_model.specs.Entries.{Allowed, next}
 use Rattle.heap_model.specs.History.{IsPrefix, Legal, is_entry_of}
 use Rattle.heap_model.specs.Fronts.{IsCalm, IsFrontOf, KeepsDomain}
-use Rattle.heap_model.proofs.HistoryLemmas.{legal_push, state_after-push}
-use Rattle.heap_model.proofs.FrameLemmas.{keeps_next, frame_command}
-use Rattle.heap_model.proofs.FrontLemmas.{front_whole, front_push, keeps_front}
+use Rattle.heap_model.proofs.Histories.HistoryLemmas.{legal_push, state_after-push}
+use Rattle.heap_model.proofs.Commands.FrameLemmas.{keeps_next, frame_command}
+use Rattle.heap_model.proofs.Histories.FrontLemmas.{front_whole, front_push, keeps_front}
 use Rattle.heap_rule.specs.declared.config.Config.{Config}
 use Rattle.heap_rule.specs.declared.view.DomainView.{DomainView}
 use Rattle.heap_rule.specs.declared.view.Hunt.{Hunt}

@@ -19,9 +19,9 @@ use Rattle.heap_model.specs.declared.state.State as model
 use Rattle.heap_model.specs.Domains.{register, domain_at}
 use Rattle.heap_model.specs.Commands.{shown}
 use Rattle.heap_model.specs.Fronts.{Shape, PlainShape, EpheShape, shape_of, IsCalm}
-use Rattle.heap_model.proofs.FrontLemmas.{front_whole}
-use Rattle.heap_model.proofs.FrameLemmas.{calm_command}
-use Rattle.heap_model.proofs.LeavesLemmas.{leaves_load, leaves_load_past, leaves_store_past, leaves_load_kind, leaves_store_kind}
+use Rattle.heap_model.proofs.Histories.FrontLemmas.{front_whole}
+use Rattle.heap_model.proofs.Commands.FrameLemmas.{calm_command}
+use Rattle.heap_model.proofs.Commands.LeavesLemmas.{leaves_load, leaves_load_past, leaves_store_past, leaves_load_kind, leaves_store_kind}
 use Rattle.heap_words.specs.declared.value.Value.{Value}
 use Rattle.heap_words.specs.declared.value.Value.TheVariants.{Nothing as NothingWord}
 use Rattle.heap_rule.specs.declared.change.Change.{Change}

@@ -22,11 +22,11 @@ use Rattle.heap_model.specs.Domains.{domain_at}
 use Rattle.heap_model.specs.Commands.{new_plain}
 use Rattle.heap_model.specs.Entries.{next}
 use Rattle.heap_model.specs.Fronts.{PlainShape}
-use Rattle.heap_model.proofs.GraphLemmas.{node_at-append_old, node_at-append_new}
-use Rattle.heap_model.proofs.NumberLemmas.{next_label_after}
-use Rattle.heap_model.proofs.FrameLemmas.{calm_command}
-use Rattle.heap_model.proofs.FrontLemmas.{answers_push}
-use Rattle.heap_model.proofs.LeavesLemmas.{Leaves, leaves_alloc}
+use Rattle.heap_model.proofs.Graphs.GraphLemmas.{node_at-append_old, node_at-append_new}
+use Rattle.heap_model.proofs.Histories.NumberLemmas.{next_label_after}
+use Rattle.heap_model.proofs.Commands.FrameLemmas.{calm_command}
+use Rattle.heap_model.proofs.Histories.FrontLemmas.{answers_push}
+use Rattle.heap_model.proofs.Commands.LeavesLemmas.{Leaves, leaves_alloc}
 use Rattle.heap_words.specs.declared.value.Value.{Value}
 use Rattle.heap_words.specs.declared.value.Value.TheVariants.{Int as IntWord, Ref, Nothing as NothingWord}
 use Rattle.heap_words.specs.Labels.{label_word}

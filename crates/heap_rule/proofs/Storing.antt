@@ -15,9 +15,9 @@ use Rattle.heap_model.specs.declared.state.State as model
 use Rattle.heap_model.specs.Graph.{Graph, node_at, with_node}
 use Rattle.heap_model.specs.Domains.{register, domain_at}
 use Rattle.heap_model.specs.Fronts.{PlainShape, shape_of}
-use Rattle.heap_model.proofs.GraphLemmas.{node_at-with_node_same, node_at-with_node_other}
-use Rattle.heap_model.proofs.FrameLemmas.{calm_command}
-use Rattle.heap_model.proofs.LeavesLemmas.{leaves_store}
+use Rattle.heap_model.proofs.Graphs.GraphLemmas.{node_at-with_node_same, node_at-with_node_other}
+use Rattle.heap_model.proofs.Commands.FrameLemmas.{calm_command}
+use Rattle.heap_model.proofs.Commands.LeavesLemmas.{leaves_store}
 use Rattle.heap_words.specs.declared.value.Value.{Value}
 use Rattle.heap_words.specs.declared.value.Value.TheVariants.{Nothing as NothingWord}
 use Rattle.heap_rule.specs.declared.change.Change.{Change}

@@ -16,8 +16,8 @@ use Rattle.heap_model.specs.declared.state.State as model
 use Rattle.heap_model.specs.Domains.{domain_at, register}
 use Rattle.heap_model.specs.Commands.{FitsMode, is_allocation}
 use Rattle.heap_model.specs.Fronts.{IsCalm}
-use Rattle.heap_model.proofs.FrameLemmas.{calm_command}
-use Rattle.heap_model.proofs.LeavesLemmas.{leaves_put, leaves_copy, leaves_forget, Leaves, leaves_poll, leaves_full, leaves_load_type, leaves_store_type, leaves_store_nothing}
+use Rattle.heap_model.proofs.Commands.FrameLemmas.{calm_command}
+use Rattle.heap_model.proofs.Commands.LeavesLemmas.{leaves_put, leaves_copy, leaves_forget, Leaves, leaves_poll, leaves_full, leaves_load_type, leaves_store_type, leaves_store_nothing}
 use Rattle.heap_words.specs.declared.value.Value.{Value}
 use Rattle.heap_words.specs.declared.value.Value.TheVariants.{Int as IntWord, Nothing as NothingWord}
 use Rattle.heap_rule.specs.declared.change.Change.{Change}

@@ -23,10 +23,10 @@ use Rattle.heap_model.specs.Commands.{FitsMode, allocated, outcome}
 use Rattle.heap_model.specs.Entries.{Allowed, wiped, with_wiped, after_run, at_places, queued_last, with_queued, with_last_queued, CollectedAllowed, next}
 use Rattle.heap_model.specs.History.{state_after, LegalFrom, Legal}
 use Rattle.heap_model.specs.WellFormed.{IsWellFormed}
-use Rattle.heap_model.proofs.MoveLemmas.{moved}
-use Rattle.heap_model.proofs.ReachLemmas.{Within, has-append_cases, has-append_left, has-append_right, reachable_more, reachable_least, reach_law}
-use Rattle.heap_model.proofs.WellFormedLemmas.{closed_graph, queues_named, wf_after, wf_opening}
-use Rattle.heap_model.proofs.CollectionLemmas.{collected_waiting}
+use Rattle.heap_model.proofs.Commands.MoveLemmas.{moved}
+use Rattle.heap_model.proofs.Reach.ReachLemmas.{Within, has-append_cases, has-append_left, has-append_right, reachable_more, reachable_least, reach_law}
+use Rattle.heap_model.proofs.Histories.WellFormedLemmas.{closed_graph, queues_named, wf_after, wf_opening}
+use Rattle.heap_model.proofs.Collections.CollectionLemmas.{collected_waiting}
 
 -- what no change of a domain, of the graph or of `kept` touches, no command touches
 module _ (Q : State → Type 0) (domain : (t : State) (d : ℕ) (x : DomainState) → Q t → Q (with_domain t d x))

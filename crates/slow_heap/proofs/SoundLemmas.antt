@@ -10,8 +10,8 @@ use Rattle.heap_model.specs.Domains.{opening, IsWithinLimits}
 use Rattle.heap_model.specs.Commands.{outcome}
 use Rattle.heap_model.specs.Entries.{next}
 use Rattle.heap_model.specs.WellFormed.{IsSound}
-use Rattle.heap_model.proofs.ShapeAfterLemmas.{shaped-next, shaped-opening}
-use Rattle.heap_model.proofs.WellFormedLemmas.{wf_next, wf_opening}
+use Rattle.heap_model.proofs.Histories.ShapeAfterLemmas.{shaped-next, shaped-opening}
+use Rattle.heap_model.proofs.Histories.WellFormedLemmas.{wf_next, wf_opening}
 use Rattle.slow_heap.proofs.CutLemmas.{keeps_outcome}
 
 pub sound_opening : (z : Sizes) → IsWithinLimits z → IsSound (opening z)

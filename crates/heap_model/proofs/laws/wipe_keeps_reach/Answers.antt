@@ -1,4 +1,4 @@
-use Rattle.heap_model.proofs.WipeLemmas.{wipe_keeps_reach}
+use Rattle.heap_model.proofs.Collections.WipeLemmas.{wipe_keeps_reach}
 use Rattle.heap_model.proofs.laws.wipe_keeps_reach.Goals as goal
 
 pub returns : goal.returns

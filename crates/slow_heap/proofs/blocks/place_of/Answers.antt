@@ -1,6 +1,6 @@
 use Rattle.std.proofs.Common.{◌≡◌, ◌<◌, ◌≤◌, true, length, get_or, arith, sym, ap, ◌∙◌}
 use Rattle.heap_model.specs.Graph.{same_label}
-use Rattle.heap_model.proofs.GraphLemmas.{first_place, node_at_none, same_label-true}
+use Rattle.heap_model.proofs.Graphs.GraphLemmas.{first_place, node_at_none, same_label-true}
 use Rattle.slow_heap.proofs.blocks.place_of.Goals as goal
 
 pub returns-then-eq : goal.returns-then-eq

@@ -1,7 +1,7 @@
 use Rattle.std.proofs.Common.{◌≡◌, get_or, set, Some, refl}
 use Rattle.heap_model.specs.declared.reply.Reply.TheVariants.{BadType}
 use Rattle.heap_model.specs.Commands.{Outcome, block_in, at_ephe, datum_set, answers}
-use Rattle.heap_model.proofs.ListLemmas.{set_same}
+use Rattle.heap_model.proofs.Graphs.ListLemmas.{set_same}
 use Rattle.slow_heap.proofs.CommandLemmas.{block_in_place, refused_reply, refused_state}
 use Rattle.slow_heap.proofs.ephemerons.write_datum.Goals as goal
 

@@ -5,7 +5,7 @@ use Rattle.heap_model.specs.declared.reply.Reply.TheVariants.{BadType, BadIndex}
 use Rattle.heap_model.specs.declared.graph.Node.{Node}
 use Rattle.heap_model.specs.declared.graph.Node.TheVariants.{Ephe}
 use Rattle.heap_model.specs.Commands.{Outcome, block_in, at_ephe, key_set, answers}
-use Rattle.heap_model.proofs.ListLemmas.{set_same}
+use Rattle.heap_model.proofs.Graphs.ListLemmas.{set_same}
 use Rattle.slow_heap.proofs.CommandLemmas.{block_in_place, refused_reply, refused_state}
 use Rattle.slow_heap.proofs.ephemerons.write_key.Goals as goal
 

@@ -5,7 +5,7 @@ use Rattle.heap_model.specs.declared.graph.Node.{Node}
 use Rattle.heap_model.specs.declared.graph.Node.TheVariants.{Plain}
 use Rattle.heap_model.specs.Domains.{register}
 use Rattle.heap_model.specs.Commands.{Outcome, block_in, stored, answers}
-use Rattle.heap_model.proofs.ListLemmas.{set_same}
+use Rattle.heap_model.proofs.Graphs.ListLemmas.{set_same}
 use Rattle.slow_heap.proofs.CommandLemmas.{block_in_place, stored_past, refused_reply, refused_state}
 use Rattle.slow_heap.proofs.fields.store.Goals as goal
 

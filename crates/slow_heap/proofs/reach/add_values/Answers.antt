@@ -1,7 +1,7 @@
 use Rattle.std.proofs.Common.{◌≡◌, ◌<◌, length, get_or, filter_map, take, option_to_list, pos, ◌∙◌, append_assoc}
 use Rattle.heap_model.specs.declared.graph.Value.TheVariants.{Int}
 use Rattle.heap_model.specs.Graph.{label_of}
-use Rattle.heap_model.proofs.ListLemmas.{filter_map_more}
+use Rattle.heap_model.proofs.Graphs.ListLemmas.{filter_map_more}
 use Rattle.slow_heap.proofs.reach.add_values.Goals as goal
 
 pub loop-value-preserved : goal.loop-value-preserved

@@ -1,7 +1,7 @@
 use Rattle.std.proofs.Common.{◌≡◌, List, [], length, fold, add-one, arith, sym, ap, ◌∙◌}
 use Rattle.heap_model.specs.declared.label.Label.{Label}
 use Rattle.heap_model.specs.Reach.{with_label, grow, grow_rounds, reachable}
-use Rattle.heap_model.proofs.ReachLemmas.{grow_rounds-suc}
+use Rattle.heap_model.proofs.Reach.ReachLemmas.{grow_rounds-suc}
 use Rattle.slow_heap.proofs.reach.reachable_from.Goals as goal
 
 pub loop-i-preserved : goal.loop-i-preserved

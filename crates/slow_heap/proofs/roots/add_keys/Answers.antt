@@ -1,6 +1,6 @@
 use Rattle.std.proofs.Common.{◌≡◌, ◌<◌, length, get_or, filter_map, option_to_list, take, append_assoc, Option, None, ◌∙◌}
 use Rattle.heap_model.specs.declared.label.Label.{Label}
-use Rattle.heap_model.proofs.ListLemmas.{filter_map_more}
+use Rattle.heap_model.proofs.Graphs.ListLemmas.{filter_map_more}
 use Rattle.slow_heap.proofs.roots.add_keys.Goals as goal
 
 pub loop-key-preserved : goal.loop-key-preserved

@@ -2,7 +2,7 @@ use Rattle.std.proofs.Common.{◌<◌, length, get_or, filter_map, option_to_lis
 use Rattle.heap_model.specs.declared.state.Pending.{Pending}
 use Rattle.heap_model.specs.declared.state.Pending.TheVariants.{Fin}
 use Rattle.heap_model.specs.Domains.{pending_label}
-use Rattle.heap_model.proofs.ListLemmas.{filter_map_more}
+use Rattle.heap_model.proofs.Graphs.ListLemmas.{filter_map_more}
 use Rattle.slow_heap.proofs.roots.add_pending.Goals as goal
 
 pub loop-pending-preserved : goal.loop-pending-preserved

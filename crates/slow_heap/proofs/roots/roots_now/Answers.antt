@@ -3,7 +3,7 @@ use Rattle.heap_model.specs.declared.label.Label.{Label}
 use Rattle.heap_model.specs.declared.state.DomainState.{DomainState}
 use Rattle.heap_model.specs.Graph.{label_of}
 use Rattle.heap_model.specs.Domains.{pending_label}
-use Rattle.heap_model.proofs.ListLemmas.{flat_map-map}
+use Rattle.heap_model.proofs.Graphs.ListLemmas.{flat_map-map}
 use Rattle.slow_heap.proofs.roots.roots_now.Goals as goal
 
 pub returns : goal.returns

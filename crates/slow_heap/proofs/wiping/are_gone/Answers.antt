@@ -1,5 +1,5 @@
 use Rattle.std.proofs.Common.{◌≡◌, get_or}
-use Rattle.heap_model.proofs.GraphLemmas.{place_node}
+use Rattle.heap_model.proofs.Graphs.GraphLemmas.{place_node}
 use Rattle.slow_heap.proofs.wiping.are_gone.Goals as goal
 
 pub returns-in-Some : goal.returns-in-Some

@@ -16,12 +16,12 @@ use Rattle.heap_model.specs.Reach.{key_holds, reachable, is_reachable}
 use Rattle.heap_model.specs.Entries.{is_some_and, is_dead, is_gone, is_let_go, has_dead_keys, keys_are_live, freshened, CollectedAllowed, next}
 use Rattle.heap_model.specs.History.{state_after}
 use Rattle.heap_model.specs.Laws.{NothingPermitted, CollectedLeavesNothing, FullMajorCountsReach}
-use Rattle.heap_model.proofs.ListLemmas.{flat_map-map}
-use Rattle.heap_model.proofs.CollectionLemmas.{all_has, all_at}
-use Rattle.heap_model.proofs.ReachLemmas.{or_left, or_right, and_left, and_right, and_both, has-append_left, has-append_right, reachable_more}
-use Rattle.heap_model.proofs.ReachSizeLemmas.{reachable-no_repeats}
-use Rattle.heap_model.proofs.WellFormedLemmas.{reach_after}
-use Rattle.heap_model.proofs.GraphLemmas.{same_label_refl}
+use Rattle.heap_model.proofs.Graphs.ListLemmas.{flat_map-map}
+use Rattle.heap_model.proofs.Collections.CollectionLemmas.{all_has, all_at}
+use Rattle.heap_model.proofs.Reach.ReachLemmas.{or_left, or_right, and_left, and_right, and_both, has-append_left, has-append_right, reachable_more}
+use Rattle.heap_model.proofs.Reach.ReachSizeLemmas.{reachable-no_repeats}
+use Rattle.heap_model.proofs.Histories.WellFormedLemmas.{reach_after}
+use Rattle.heap_model.proofs.Graphs.GraphLemmas.{same_label_refl}
 
 -- what is reachable isn't gone
 not_gone : (s : State) (l : Label) → IsTrue (has_label (reach s) l) → is_gone s (queues s) l ≡ false

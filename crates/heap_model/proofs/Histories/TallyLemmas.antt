@@ -8,7 +8,7 @@ use Rattle.std.proofs.lemmas.List.Recursion.{is_count_by}
 use Rattle.heap_model.specs.declared.state.DomainState.{DomainState}
 use Rattle.heap_model.specs.Domains.{no_domain}
 use Rattle.heap_model.specs.Entries.{is_rising, without_places, at_places}
-use Rattle.heap_model.proofs.ReachLemmas.{and_left, and_right}
+use Rattle.heap_model.proofs.Reach.ReachLemmas.{and_left, and_right}
 
 -- the sum of a function over a list
 abbrev pub tally : {A : Type 0} → (A → ℕ) → List A → ℕ

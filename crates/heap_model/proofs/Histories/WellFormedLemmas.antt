@@ -26,10 +26,10 @@ use Rattle.heap_model.specs.Commands.{with_final, with_last, allocated, outcome,
 use Rattle.heap_model.specs.Entries.{at_places, wiped_keys, wiped, with_wiped, in_mode, with_last_queued, without_first, after_run, next}
 use Rattle.heap_model.specs.History.{state_after}
 use Rattle.heap_model.specs.WellFormed.{names_of, HaveNodes, IsDomainNamed, IsWellFormed}
-use Rattle.heap_model.proofs.GraphLemmas.{node_at-with_node_cases, node_at-append_cases, same_label_refl, labels-with_node}
-use Rattle.heap_model.proofs.ReachLemmas.{or_left, has-append_left, has-append_right, reach_law}
-use Rattle.heap_model.proofs.MoveLemmas.{moved}
-use Rattle.heap_model.proofs.NamedLemmas.{have_none, have_append, have_left, have_right, have_cons, have_head, have_tail, have_option, have_rest, have_set, have_replicate, have_filter_map_append, remove_named, without_named, places_named, queued_finals_named, queued_lasts_named, wiped_keys_named, flat_named}
+use Rattle.heap_model.proofs.Graphs.GraphLemmas.{node_at-with_node_cases, node_at-append_cases, same_label_refl, labels-with_node}
+use Rattle.heap_model.proofs.Reach.ReachLemmas.{or_left, has-append_left, has-append_right, reach_law}
+use Rattle.heap_model.proofs.Commands.MoveLemmas.{moved}
+use Rattle.heap_model.proofs.Graphs.NamedLemmas.{have_none, have_append, have_left, have_right, have_cons, have_head, have_tail, have_option, have_rest, have_set, have_replicate, have_filter_map_append, remove_named, without_named, places_named, queued_finals_named, queued_lasts_named, wiped_keys_named, flat_named}
 
 -- a part of each domain, after one was replaced
 pub each_domain : (P : DomainState → Type 0) (xs : List DomainState) (d : ℕ) (x : DomainState) → P x → ((k : ℕ) → P (get_or xs k no_domain)) → (k : ℕ) → P (get_or (set xs d x) k no_domain)

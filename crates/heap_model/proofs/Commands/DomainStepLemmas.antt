@@ -7,7 +7,7 @@ use Rattle.heap_model.specs.declared.state.DomainState.{DomainState}
 use Rattle.heap_model.specs.declared.state.State.{State}
 use Rattle.heap_model.specs.Domains.{domain_at, with_register, no_domain}
 use Rattle.heap_model.specs.Commands.{allocated, outcome}
-use Rattle.heap_model.proofs.MoveLemmas.{moved, registers_one}
+use Rattle.heap_model.proofs.Commands.MoveLemmas.{moved, registers_one}
 
 -- the same registrations and the same queue
 pub record SameWork (x y : DomainState) : Type 0 where

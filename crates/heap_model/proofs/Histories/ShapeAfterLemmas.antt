@@ -20,9 +20,9 @@ use Rattle.heap_model.specs.Commands.{outcome}
 use Rattle.heap_model.specs.Entries.{wiped, with_wiped, with_last_queued, without_first, in_mode, after_run, next}
 use Rattle.heap_model.specs.History.{state_after}
 use Rattle.heap_model.specs.WellFormed.{IsWellFormed}
-use Rattle.heap_model.proofs.ReachSizeLemmas.{reachable-length}
-use Rattle.heap_model.proofs.WellFormedLemmas.{closed_graph, queues_named, wf_next, wf_opening}
-use Rattle.heap_model.proofs.ShapeLemmas.{shaped-with_domain, shaped-with_block, shaped-with_register, shaped-after_command, shaped-outcome}
+use Rattle.heap_model.proofs.Reach.ReachSizeLemmas.{reachable-length}
+use Rattle.heap_model.proofs.Histories.WellFormedLemmas.{closed_graph, queues_named, wf_next, wf_opening}
+use Rattle.heap_model.proofs.Commands.ShapeLemmas.{shaped-with_domain, shaped-with_block, shaped-with_register, shaped-after_command, shaped-outcome}
 
 registers_mapped : (f : DomainState → DomainState) → ((x : DomainState) → (f x).registers ≡ x.registers) → (xs : List DomainState)
     → ((k : ℕ) → k < length xs → length (get_or xs k no_domain).registers ≡ 16) → (k : ℕ) → k < length xs → length (get_or (map f xs) k no_domain).registers ≡ 16

@@ -10,8 +10,8 @@ use Rattle.heap_model.specs.declared.state.State.{State}
 use Rattle.heap_model.specs.Graph.{same_label, has_label, node_at}
 use Rattle.heap_model.specs.Domains.{domain_at, queues, roots, waiting, settled_roots, settled_reach, is_reachable_with}
 use Rattle.heap_model.specs.Entries.{is_some_and, is_gone, is_let_go, queued_beyond, has_dead_keys, SealAllowed, WipeAllowed, LastAllowed, CollectedAllowed}
-use Rattle.heap_model.proofs.GraphLemmas.{same_label-true}
-use Rattle.heap_model.proofs.ReachLemmas.{Within, or_cases, and_left, and_right, has-append_right, reachable_roots}
+use Rattle.heap_model.proofs.Graphs.GraphLemmas.{same_label-true}
+use Rattle.heap_model.proofs.Reach.ReachLemmas.{Within, or_cases, and_left, and_right, has-append_right, reachable_roots}
 
 -- a label of a list whose labels all pass a test
 pub all_has : (test : Label → Bool) (ls : List Label) → IsTrue (list_all test ls) → (l : Label) → IsTrue (has_label ls l) → IsTrue (test l)

@@ -18,8 +18,8 @@ use Rattle.heap_model.specs.Commands.{allocated, outcome, after_command}
 use Rattle.heap_model.specs.Entries.{wiped, wiped_keys, with_wiped, with_last_queued, without_first, after_run, ended, next}
 use Rattle.heap_model.specs.History.{is_entry_of}
 use Rattle.heap_model.specs.Fronts.{EpheShape, shape_of, Grew, KeepsDomain, IsCalm}
-use Rattle.heap_model.proofs.MoveLemmas.{moved}
-use Rattle.heap_model.proofs.GraphLemmas.{same_label-true, same_label_refl, node_at-with_node_same, node_at-with_node_other, node_at-append_old}
+use Rattle.heap_model.proofs.Commands.MoveLemmas.{moved}
+use Rattle.heap_model.proofs.Graphs.GraphLemmas.{same_label-true, same_label_refl, node_at-with_node_same, node_at-with_node_other, node_at-append_old}
 
 -- a part of each domain, after one was replaced by another that has it
 pub part_set : {A : Type 0} (f : DomainState → A) (xs : List DomainState) (d : ℕ) (x : DomainState) → f x ≡ f (get_or xs d no_domain) → (k : ℕ) → f (get_or (set xs d x) k no_domain) ≡ f (get_or xs k no_domain)

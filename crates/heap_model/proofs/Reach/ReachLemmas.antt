@@ -7,7 +7,7 @@ use Rattle.heap_model.specs.declared.graph.Node.{Node}
 use Rattle.heap_model.specs.declared.graph.Node.TheVariants.{Plain, Ephe}
 use Rattle.heap_model.specs.Graph.{Graph, same_label, labels, has_label, label_of, node_at}
 use Rattle.heap_model.specs.Reach.{key_holds, edges_of, edges_at, with_label, grow, grow_rounds, reachable, HoldsRoots, IsClosedUnder, ReachLaw}
-use Rattle.heap_model.proofs.GraphLemmas.{same_label-true, same_label_refl}
+use Rattle.heap_model.proofs.Graphs.GraphLemmas.{same_label-true, same_label_refl}
 
 -- truth tables
 pub or_cases : (a b : Bool) → IsTrue (a || b) → IsTrue a ⊎ IsTrue b

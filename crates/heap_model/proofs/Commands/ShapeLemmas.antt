@@ -10,7 +10,7 @@ use Rattle.heap_model.specs.declared.state.State.{State}
 use Rattle.heap_model.specs.Graph.{Graph, same_label, with_node}
 use Rattle.heap_model.specs.Domains.{IsShaped, domain_at, with_domain, with_register, with_block, no_domain}
 use Rattle.heap_model.specs.Commands.{allocated, outcome, after_command}
-use Rattle.heap_model.proofs.MoveLemmas.{moved}
+use Rattle.heap_model.proofs.Commands.MoveLemmas.{moved}
 
 -- each list of domains in which one was replaced by another with 16 registers
 registers_kept : (xs : List DomainState) (d : ℕ) (x : DomainState) → (d < length xs → length x.registers ≡ 16)

@@ -20,10 +20,10 @@ use Rattle.heap_model.specs.Commands.{outcome, finalised, finalised_last, after_
 use Rattle.heap_model.specs.Entries.{is_rising, Allowed, queued_final, queued_last, at_places, without_places, with_queued, with_last_queued, with_finals_open, with_lasts_open, freshened, ended, wiped, with_wiped, without_first, after_run, next}
 use Rattle.heap_model.specs.History.{state_after, LegalFrom}
 use Rattle.heap_model.specs.Registrations.{registered_by, registered, ran, all_registered, all_ran, left_over, RegistrationsRunOnce}
-use Rattle.heap_model.proofs.NumberLemmas.{inside_running}
-use Rattle.heap_model.proofs.TallyLemmas.{one_place, tally, tally-append, tally-map, tally-cond, tally-remove, tally-without, tally_count, counted, increasing, changed_at, changed_less, mapped_less}
-use Rattle.heap_model.proofs.MoveLemmas.{registers_one}
-use Rattle.heap_model.proofs.DomainStepLemmas.{SameWork, work_outcome}
+use Rattle.heap_model.proofs.Histories.NumberLemmas.{inside_running}
+use Rattle.heap_model.proofs.Histories.TallyLemmas.{one_place, tally, tally-append, tally-map, tally-cond, tally-remove, tally-without, tally_count, counted, increasing, changed_at, changed_less, mapped_less}
+use Rattle.heap_model.proofs.Commands.MoveLemmas.{registers_one}
+use Rattle.heap_model.proofs.Commands.DomainStepLemmas.{SameWork, work_outcome}
 
 zero_either : (b : Bool) → ◌≡◌ {A = ℕ} (cond b 0 0) 0
 zero_either true = refl

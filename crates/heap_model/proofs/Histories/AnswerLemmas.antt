@@ -11,9 +11,9 @@ use Rattle.heap_model.specs.Domains.{domain_at, opening}
 use Rattle.heap_model.specs.Entries.{next, reply}
 use Rattle.heap_model.specs.History.{state_after, commands, command_of, replies, reply_list, is_entry_of}
 use Rattle.heap_model.specs.Fronts.{Answers, IsFrontOf}
-use Rattle.heap_model.proofs.FrameLemmas.{frame_command}
-use Rattle.heap_model.proofs.FrontLemmas.{keeps_front}
-use Rattle.heap_model.proofs.HistoryLemmas.{state_after-push, commands-append, commands-push, commands-others, replies_from-append, replies_from-others, replies-push}
+use Rattle.heap_model.proofs.Commands.FrameLemmas.{frame_command}
+use Rattle.heap_model.proofs.Histories.FrontLemmas.{keeps_front}
+use Rattle.heap_model.proofs.Histories.HistoryLemmas.{state_after-push, commands-append, commands-push, commands-others, replies_from-append, replies_from-others, replies-push}
 
 -- the front as it was, before the entries of others that the call brought
 pub before_entry : (z : Sizes) (d : ℕ) (old new : List Entry) (e : Entry) (a : Applied) (x : Answers z d old new e a) → IsFrontOf d (old ++ x.between) old

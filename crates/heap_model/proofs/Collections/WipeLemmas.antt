@@ -14,9 +14,9 @@ use Rattle.heap_model.specs.Domains.{queues, roots, reach, waiting, settled_root
 use Rattle.heap_model.specs.Entries.{is_rising, is_some_and, is_gone, has_dead_keys, wiped_keys, wiped as wiped_node, with_wiped, WipeAllowed, next}
 use Rattle.heap_model.specs.Graph.{Graph, same_label, has_label, label_of, node_at, with_node}
 use Rattle.heap_model.specs.Reach.{key_holds, edges_of, edges_at, with_label, grow, grow_rounds, reachable}
-use Rattle.heap_model.proofs.GraphLemmas.{same_label-true, same_label_refl, node_at-with_node_same, node_at-with_node_other}
-use Rattle.heap_model.proofs.ReachLemmas.{and_left, has-append_left, rounds_old, reachable_more}
-use Rattle.heap_model.proofs.ShapeLemmas.{length-with_node}
+use Rattle.heap_model.proofs.Graphs.GraphLemmas.{same_label-true, same_label_refl, node_at-with_node_same, node_at-with_node_other}
+use Rattle.heap_model.proofs.Reach.ReachLemmas.{and_left, has-append_left, rounds_old, reachable_more}
+use Rattle.heap_model.proofs.Commands.ShapeLemmas.{length-with_node}
 
 flat_map_same : (f h : Label → List Label) (xs : List Label) → ((x : Label) → f x ≡ h x) → flat_map f xs ≡ flat_map h xs
 flat_map_same f h [] same = refl

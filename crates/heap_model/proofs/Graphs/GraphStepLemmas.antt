@@ -13,10 +13,10 @@ use Rattle.heap_model.specs.Graph.{Graph, labels, has_label, node_at, with_node}
 use Rattle.heap_model.specs.Commands.{outcome}
 use Rattle.heap_model.specs.Entries.{wiped, with_wiped, after_run, next}
 use Rattle.heap_model.specs.Laws.{written_by, written, LabelsStay, NodesStay}
-use Rattle.heap_model.proofs.MoveLemmas.{moved}
-use Rattle.heap_model.proofs.GraphLemmas.{labels-with_node, node_at-append_old, node_at-with_node_other}
-use Rattle.heap_model.proofs.ReachLemmas.{has-append_left}
-use Rattle.heap_model.proofs.WellFormedLemmas.{labels-append}
+use Rattle.heap_model.proofs.Commands.MoveLemmas.{moved}
+use Rattle.heap_model.proofs.Graphs.GraphLemmas.{labels-with_node, node_at-append_old, node_at-with_node_other}
+use Rattle.heap_model.proofs.Reach.ReachLemmas.{has-append_left}
+use Rattle.heap_model.proofs.Histories.WellFormedLemmas.{labels-append}
 
 -- what holds of a graph holds after an entry, if it holds after each write that the entry may make and after each new block
 module _ (P : Graph → Type 0) (Ok : Label → Type 0) (write : (g : Graph) (l : Label) (n : Node) → Ok l → P g → P (with_node g l n))

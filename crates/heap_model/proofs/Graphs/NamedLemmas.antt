@@ -8,8 +8,8 @@ use Rattle.heap_model.specs.Domains.{pending_label}
 use Rattle.std.specs.List.{cons_option}
 use Rattle.heap_model.specs.Entries.{without_places, at_places, queued_final, queued_last, wiped_keys}
 use Rattle.heap_model.specs.WellFormed.{HaveNodes}
-use Rattle.heap_model.proofs.GraphLemmas.{same_label-true, same_label_refl}
-use Rattle.heap_model.proofs.ReachLemmas.{or_cases, or_left, or_right, has-append_cases, has-append_left, has-append_right}
+use Rattle.heap_model.proofs.Graphs.GraphLemmas.{same_label-true, same_label_refl}
+use Rattle.heap_model.proofs.Reach.ReachLemmas.{or_cases, or_left, or_right, has-append_cases, has-append_left, has-append_right}
 
 -- lists of labels that have nodes
 module _ (g : Graph) where

@@ -3,8 +3,8 @@ use Rattle.std.proofs.Common.{◌≡◌, ℕ, zero, suc, ◌+◌, ◌<◌, ◌�
 use Rattle.heap_model.specs.declared.label.Label.{Label}
 use Rattle.heap_model.specs.Graph.{Graph, same_label, has_label, has_no_repeats, labels}
 use Rattle.heap_model.specs.Reach.{edges_at, with_label, grow, grow_rounds, reachable, HoldsRoots, IsClosedGraph}
-use Rattle.heap_model.proofs.GraphLemmas.{same_label-true, same_label_refl}
-use Rattle.heap_model.proofs.ReachLemmas.{or_cases, or_left, or_right, and_left, and_right, and_both, has-append_cases, has-append_left, has-append_right, has-flat_map_cases, missing, missing_most, missing_drops}
+use Rattle.heap_model.proofs.Graphs.GraphLemmas.{same_label-true, same_label_refl}
+use Rattle.heap_model.proofs.Reach.ReachLemmas.{or_cases, or_left, or_right, and_left, and_right, and_both, has-append_cases, has-append_left, has-append_right, has-flat_map_cases, missing, missing_most, missing_drops}
 
 is_false : (b : Bool) → (IsTrue b → ⊥) → b ≡ false
 is_false true never = absurd (never refl)

@@ -14,8 +14,8 @@ use Rattle.heap_model.specs.Reach.{HoldsRoots, IsClosedUnder}
 use Rattle.heap_model.specs.Domains.{domain_at, queues, roots, waiting, settled_roots, settled_reach, is_reachable_with}
 use Rattle.heap_model.specs.Entries.{is_some_and, is_dead, is_gone, is_let_go, is_rising, ephe_holds, queued_beyond, QueueAllowed, SealAllowed, WipeAllowed, LastAllowed, is_sealed, full_keys, left_reach, DoneAllowed}
 use Rattle.heap_model.specs.Marked.{IsMarked}
-use Rattle.heap_model.proofs.GraphLemmas.{same_label_refl}
-use Rattle.heap_model.proofs.ReachLemmas.{or_left, or_right, and_left, and_right, and_both, has-append_cases, has-flat_map_cases, reachable_least}
+use Rattle.heap_model.proofs.Graphs.GraphLemmas.{same_label_refl}
+use Rattle.heap_model.proofs.Reach.ReachLemmas.{or_left, or_right, and_left, and_right, and_both, has-append_cases, has-flat_map_cases, reachable_least}
 
 -- a list whose labels all pass a test
 all_labels : (test : Label → Bool) (ls : List Label) → ((l : Label) → IsTrue (has_label ls l) → IsTrue (test l)) → IsTrue (list_all test ls)

@@ -19,7 +19,7 @@ use Rattle.heap_model.specs.Graph.{Graph, node_at, with_node, block_at, label_of
 use Rattle.heap_model.specs.Domains.{domain_at, with_domain, with_register, with_block, register, no_domain}
 use Rattle.heap_model.specs.Commands.{Outcome, answers, shown, new_plain, block_in, loaded, stored, in_bounds, read_into, done_with, outcome}
 use Rattle.heap_model.specs.Entries.{next, reply, ended}
-use Rattle.heap_model.proofs.FrameLemmas.{part_set}
+use Rattle.heap_model.proofs.Commands.FrameLemmas.{part_set}
 
 -- the entry leaves this graph, and these registers and this serial of domain d, and answers this
 pub record Leaves (s : State) (e : Entry) (d : ℕ) (graph : Graph) (registers : List Value) (serial : ℕ) (answer : Applied) : Type 0 where

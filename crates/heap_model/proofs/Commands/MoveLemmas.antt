@@ -16,7 +16,7 @@ use Rattle.heap_model.specs.Commands.{Outcome, in_bounds, at_ephe, loaded, store
 use Rattle.heap_model.specs.Fronts.{PlainShape, EpheShape, shape_of}
 use Rattle.heap_model.specs.Laws.{written_by}
 use Rattle.heap_model.specs.WellFormed.{names_of, HaveNodes, IsWellFormed}
-use Rattle.heap_model.proofs.NamedLemmas.{have_none, have_append, have_left, have_right, have_set, have_at, have_get, have_replicate}
+use Rattle.heap_model.proofs.Graphs.NamedLemmas.{have_none, have_append, have_left, have_right, have_set, have_at, have_get, have_replicate}
 
 -- whether a command registers a finaliser
 abbrev pub registers_one : Command → Bool

@@ -16,13 +16,13 @@ use Rattle.heap_model.specs.declared.state.State.{State}
 use Rattle.heap_model.specs.Graph.{Graph, same_label, labels, has_label, node_at}
 use Rattle.heap_model.specs.Domains.{domain_at, with_domain, with_register, with_block, no_domain, opening, shared_label}
 use Rattle.heap_model.specs.Commands.{allocated, outcome}
-use Rattle.heap_model.proofs.MoveLemmas.{moved}
+use Rattle.heap_model.proofs.Commands.MoveLemmas.{moved}
 use Rattle.heap_model.specs.Entries.{Allowed, wiped, with_wiped, with_last_queued, without_first, after_run, next}
 use Rattle.heap_model.specs.History.{state_after, LegalFrom, Legal}
 use Rattle.heap_model.specs.WellFormed.{IsNumbered}
-use Rattle.heap_model.proofs.GraphLemmas.{same_label-true, labels-with_node}
-use Rattle.heap_model.proofs.ReachLemmas.{or_cases, has-append_cases}
-use Rattle.heap_model.proofs.WellFormedLemmas.{labels-append}
+use Rattle.heap_model.proofs.Graphs.GraphLemmas.{same_label-true, labels-with_node}
+use Rattle.heap_model.proofs.Reach.ReachLemmas.{or_cases, has-append_cases}
+use Rattle.heap_model.proofs.Histories.WellFormedLemmas.{labels-append}
 
 -- the serials of a list of domains after a change that leaves them
 serials_set : (xs : List DomainState) (d : ℕ) (x : DomainState) → x.serial ≡ (get_or xs d no_domain).serial → (k : ℕ) → (get_or (set xs d x) k no_domain).serial ≡ (get_or xs k no_domain).serial

@@ -13,8 +13,8 @@ use Rattle.heap_model.specs.Domains.{opening}
 use Rattle.heap_model.specs.Entries.{next, reply}
 use Rattle.heap_model.specs.History.{state_after, Legal, is_entry_of}
 use Rattle.heap_model.specs.Fronts.{NoneOf, IsFrontOf, Answers, PlainShape, shape_of, Grew, KeepsDomain, HoldsPlain}
-use Rattle.heap_model.proofs.HistoryLemmas.{state_after-append}
-use Rattle.heap_model.proofs.FrameLemmas.{keeps_next, grew_next, grew_same, grew_after}
+use Rattle.heap_model.proofs.Histories.HistoryLemmas.{state_after-append}
+use Rattle.heap_model.proofs.Commands.FrameLemmas.{keeps_next, grew_next, grew_same, grew_after}
 
 -- a test that fails
 fails : (b : Bool) → IsTrue (not b) → b ≡ false

@@ -1,0 +1,6 @@
+-- What one command does to a state.
+pub mod MoveLemmas
+pub mod ShapeLemmas
+pub mod LeavesLemmas
+pub mod DomainStepLemmas
+pub mod FrameLemmas

@@ -1,0 +1,9 @@
+-- What holds after every history, and what a front tells of one.
+pub mod HistoryLemmas
+pub mod FrontLemmas
+pub mod WellFormedLemmas
+pub mod NumberLemmas
+pub mod ShapeAfterLemmas
+pub mod TallyLemmas
+pub mod AnswerLemmas
+pub mod Rows

@@ -1,0 +1,3 @@
+-- What is reachable.
+pub mod ReachLemmas
+pub mod ReachSizeLemmas
