@@ -20,12 +20,14 @@ use Rattle.heap_words.specs.declared.value.Value.{Value}
 use Rattle.heap_rule.specs.declared.change.Change.{Change}
 use Rattle.heap_rule.specs.declared.config.Config.{Config}
 use Rattle.heap_rule.specs.declared.view.DomainView.{DomainView}
+use Rattle.heap_rule.specs.declared.view.Own.{Own}
 use Rattle.heap_rule.specs.Limits.{sizes_in}
 use Rattle.heap_rule.specs.Places.{Stands}
 use Rattle.heap_rule.specs.Changes.{value_at, changed}
 use Rattle.heap_rule.specs.Views.{one}
 use Rattle.heap_rule.specs.Rule.{state_of, AllFound, Stood, Rule}
-use Rattle.heap_rule.specs.Standing.{Acts, Entered, with_front, with_registers}
+use Rattle.heap_rule.specs.Standing.{Acts, Entered, with_front, with_own, with_registers}
+use Rattle.heap_rule.proofs.ChangeLemmas.{changed_only}
 use Rattle.heap_rule.proofs.Values.{AllStand, holds}
 use Rattle.heap_rule.proofs.Keeps.{Words, IsCommand, mine, my_good, own, control_same, controls_kept, appends, legal_entry, hunter_as}
 
@@ -103,9 +105,9 @@ module _ (k : Config) (s : Words) (r : Rule k s) (id : ℕ) (hist : List Entry) 
     hunters = λ z _ g. g.hunter;
   }
 
-  pub enters : (graph : Graph) (e : Entry) (answer : Applied) (read : Value) (changes : List Change) → EntersTo graph e (changed read changes x.own.registers) answer → Entered k e answer read changes x (entered_view e (changed read changes x.own.registers))
-  enters graph e answer read changes o = let y : DomainView = entered_view e (changed read changes x.own.registers) in record {
+  pub enters : (graph : Graph) (e : Entry) (answer : Applied) (read : Value) (changes : List Change) → EntersTo graph e ((changed read changes x.own).registers) answer → Entered k e answer read changes x (entered_view e ((changed read changes x.own).registers))
+  enters graph e answer read changes o = let y : DomainView = entered_view e ((changed read changes x.own).registers) in record {
     answers = answers_push (sizes_in k) x.own.number r.account.log x.seen.front e answer (mine k s r id hist x at).front (legal_entry k s r id hist x at e o.allowed) o.leaves.replies;
-    view = refl;
-    holds = holds k r.limits r.account.live r.whole.placed (next now e) y (stood_after graph e (changed read changes x.own.registers) answer y refl refl refl o);
+    view = ap (λ (own : Own). with_front (with_own x own) y.seen.front) (sym (changed_only read changes x.own));
+    holds = holds k r.limits r.account.live r.whole.placed (next now e) y (stood_after graph e ((changed read changes x.own).registers) answer y refl refl refl o);
   }

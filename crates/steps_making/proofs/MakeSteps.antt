@@ -47,6 +47,7 @@ use Rattle.heap_rule.proofs.Lots.{Beside, area_beside, grid_beside, hunter_besid
 use Rattle.steps_making.specs.Inits.{class_words, fields_of, WordMay, WordTold, AllocMay, AllocEntry, AllocTold}
 use Rattle.heap_rule.proofs.Lists.{got_end, got_below}
 use Rattle.heap_rule.proofs.Sizes.{area_below, area_inside}
+use Rattle.heap_rule.proofs.ChangeLemmas.{changed_only, registers_of}
 use Rattle.heap_rule.proofs.Values.{AllStand, stand_set, holds}
 use Rattle.heap_rule.proofs.Keeps.{Words, More, stands_more, mine, my_good, control_set, controls_kept, hunter_as, appends, writes, legal_entry}
 use Rattle.heap_rule.proofs.Entering.{running, inside_state, registers_stand}
@@ -225,7 +226,7 @@ module _ (k : Config) (s : Words) (r : Rule k s) (id : ℕ) (hist : List Entry) 
       (free_far k r.account.live x A g.area (omega arith) (let h = high in let base : ℕ = base_of k d in omega arith) b q before))
 
   abbrev regs : List Value
-  regs = changed NothingWord changes x.own.registers
+  regs = (changed NothingWord changes x.own).registers
 
   abbrev after : DomainView
   after = record {
@@ -244,7 +245,7 @@ module _ (k : Config) (s : Words) (r : Rule k s) (id : ℕ) (hist : List Entry) 
       (leaves_alloc now d (inside_state k s r id hist x at may.acts) dst tag n)
 
   stand1 : AllStand live1 regs (set theirs dst (Block L))
-  stand1 = subst (λ (l : List Value). AllStand live1 l (set theirs dst (Block L))) (sym may.written)
+  stand1 = subst (λ (l : List Value). AllStand live1 l (set theirs dst (Block L))) (sym (ap registers_of may.written))
       (stand_set live1 x.own.registers theirs dst (Ref a) (Block L) may.goes (born_place, ap live1 may.word ∙ lives_now, refl) (all_more r.account.live live1 x.own.registers theirs grows (registers_stand k s r id hist x at may.acts)))
 
   stood1 : Stood live1 (next now e) after
@@ -310,7 +311,10 @@ module _ (k : Config) (s : Words) (r : Rule k s) (id : ℕ) (hist : List Entry) 
   alloc_told = record {
     answers = answers_push (sizes_in k) d r.account.log x.seen.front e (Replied (BlockReply L)) (mine k s r id hist x at).front
         (legal_entry k s r id hist x at e record { running = running k s r id hist x at may.acts; fits = (r.whole.calm.mode, r.whole.calm.queues d); full_fits = tt }) leaves.replies;
-    view = refl;
+    view = λ i. record {
+      own = record (sym (changed_only NothingWord changes x.own) i) { used = x.own.used + class_words (n + 2); serial = x.own.serial + 1 };
+      seen = after.seen;
+    };
     holds = holds k r.limits live1 placed1 (next now e) after stood1;
   }
 

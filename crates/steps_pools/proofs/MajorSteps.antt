@@ -45,6 +45,7 @@ use Rattle.heap_rule.specs.Rule.{state_of, AllFound, Stood, Area, Making, Good, 
 use Rattle.heap_rule.specs.Pools.{Grid, Lot, Hunter, Filling, drawn_in, place_in, size_of}
 use Rattle.heap_rule.specs.Token.{next_label}
 use Rattle.steps_pools.specs.Takes.{MajorMay, MajorEntry, MajorTold}
+use Rattle.heap_rule.proofs.ChangeLemmas.{changed_only, registers_of}
 use Rattle.heap_rule.proofs.Values.{AllStand, stand_set, holds}
 use Rattle.heap_rule.proofs.Keeps.{Words, More, mine, my_good, control_set, controls_kept, appends, legal_entry}
 use Rattle.heap_rule.proofs.Entering.{running, inside_state, registers_stand}
@@ -198,7 +199,7 @@ module _ (k : Config) (s : Words) (r : Rule k s) (id : ℕ) (hist : List Entry) 
       found_beside k r.account.live live1 now.graph grown s.words A new b q grows f (node_at-append_old now.graph (L, new_plain tag n) q.label f.node f.there) (far b q (before b q other lives)))
 
   abbrev regs : List Value
-  regs = changed NothingWord changes x.own.registers
+  regs = (changed NothingWord changes x.own).registers
 
   abbrev after : DomainView
   after = record {
@@ -214,7 +215,7 @@ module _ (k : Config) (s : Words) (r : Rule k s) (id : ℕ) (hist : List Entry) 
       (leaves_major now d (inside_state k s r id hist x at may.acts) dst tag n)
 
   stand1 : AllStand live1 regs (set theirs dst (Block L))
-  stand1 = subst (λ (l : List Value). AllStand live1 l (set theirs dst (Block L))) (sym may.written)
+  stand1 = subst (λ (l : List Value). AllStand live1 l (set theirs dst (Block L))) (sym (ap registers_of may.written))
       (stand_set live1 x.own.registers theirs dst (Ref a) (Block L) may.goes (born_place, ap live1 may.word ∙ lives_now, refl) (all_more r.account.live live1 x.own.registers theirs grows (registers_stand k s r id hist x at may.acts)))
 
   stood1 : Stood live1 (next now e) after
@@ -301,7 +302,7 @@ module _ (k : Config) (s : Words) (r : Rule k s) (id : ℕ) (hist : List Entry) 
   major_told = record {
     answers = answers_push (sizes_in k) d r.account.log x.seen.front e (Replied (BlockReply L)) (mine k s r id hist x at).front
         (legal_entry k s r id hist x at e record { running = running k s r id hist x at may.acts; fits = (r.whole.calm.mode, r.whole.calm.queues d); full_fits = tt }) leaves.replies;
-    view = refl;
+    view = λ i. record { own = record (sym (changed_only NothingWord changes x.own) i) { serial = x.own.serial + 1 }; seen = after.seen };
     holds = holds k r.limits live1 placed1 (next now e) after stood1;
   }
 

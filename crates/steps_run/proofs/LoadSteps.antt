@@ -34,6 +34,7 @@ use Rattle.heap_rule.specs.Raw.{MayStep}
 use Rattle.heap_rule.specs.Rule.{state_of, Rule}
 use Rattle.heap_rule.specs.Standing.{Acts, IsAt, with_front}
 use Rattle.steps_run.specs.Loads.{subject, place_of, HeadEntry, HeadMay, HeadTold, HeadCase, LabelMay, LabelTold, FieldLoadMay, FieldLoadEntry, FieldRead}
+use Rattle.heap_rule.proofs.ChangeLemmas.{changed_only, registers_of}
 use Rattle.heap_rule.proofs.Values.{AllStand, stand_set, not_nothing, packable, shows}
 use Rattle.heap_rule.proofs.Keeps.{after_entry, Words, IsCommand, mine, my_good, own, looks, unmoved}
 use Rattle.heap_rule.proofs.Entering.{running, inside_state, registers_stand, Enters, entered_view, enters_rule, enters}
@@ -203,7 +204,7 @@ label_load_may k word x a reg place may fits slots id h = labels k slots id word
 -- the entry of a load that finds its field
 field_entry : (k : Config) (s : Words) (r : Rule k s) (id : ℕ) (hist : List Entry) (x : DomainView) (at : get_elem? s.views id ≡ some (one k hist x)) (a dst src i : ℕ) (changes : List Change)
     (may : FieldLoadMay k x a changes x.own.number dst src i) → let f = (field_at k s r id hist x at a src i may.reads).0 in
-    Enters k s r id hist x at may.acts (Command x.own.number (Load dst src i) false) (changed f.stands.value changes x.own.registers) (Replied (shown f.value))
+    Enters k s r id hist x at may.acts (Command x.own.number (Load dst src i) false) ((changed f.stands.value changes x.own).registers) (Replied (shown f.value))
 field_entry k s r id hist x at a dst src i changes may =
     let f = (field_at k s r id hist x at a src i may.reads).0 in
     let now : model.State = state_of k r.account.log in
@@ -213,7 +214,7 @@ field_entry k s r id hist x at a dst src i changes may =
       allowed = record { running = running k s r id hist x at may.acts; fits = (r.whole.calm.mode, r.whole.calm.queues d); full_fits = tt };
       calm = calm_command now d (Load dst src i) false r.whole.calm;
       theirs = set theirs dst f.value;
-      stand = subst (λ (l : List Value). AllStand r.account.live l (set theirs dst f.value)) (sym (may.written f.stands.value))
+      stand = subst (λ (l : List Value). AllStand r.account.live l (set theirs dst f.value)) (sym (ap registers_of (may.written f.stands.value)))
           (stand_set r.account.live x.own.registers theirs dst f.stands.value f.value may.goes f.stands.stands (registers_stand k s r id hist x at may.acts));
       leaves = leaves_load now d (inside_state k s r id hist x at may.acts) dst src i f.place.label f.tag f.fields f.value f.held f.node f.there;
     }
@@ -238,7 +239,7 @@ field_loads k slots id word hist x a dst src i changes place may s r _ at _ =
     let t = field_at k s r id hist x at a src i may.reads in
     let f = t.0 in
     let o = field_entry k s r id hist x at a dst src i changes may in
-    let regs : List Value = changed f.stands.value changes x.own.registers in
+    let regs : List Value = (changed f.stands.value changes x.own).registers in
     let y : DomainView = entered_view k s r id hist x at may.acts e regs in
     let here : word ≡ before_heap k + (f.address + 2 + i) = place ∙ ap (λ (n : ℕ). before_heap k + n) (may.reads.field ∙ ap (λ (n : ℕ). n + 2 + i) (sym t.1)) in (
       one k hist y,

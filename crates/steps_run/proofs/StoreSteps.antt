@@ -33,6 +33,7 @@ use Rattle.heap_rule.specs.Rule.{state_of, AllFound, Area, Making, Rule}
 use Rattle.heap_rule.specs.Standing.{Entered}
 use Rattle.steps_run.specs.Stores.{FieldStoreMay, FieldStoreEntry}
 use Rattle.heap_rule.proofs.Lists.{got_set, got_below}
+use Rattle.heap_rule.proofs.ChangeLemmas.{registers_of}
 use Rattle.heap_rule.proofs.Values.{AllStand, not_nothing}
 use Rattle.heap_rule.proofs.Keeps.{my_good, control_set, controls_kept, hunter_as, appends}
 use Rattle.heap_rule.proofs.Lots.{Beside, head_full, live_beside, grid_beside, hunter_beside}
@@ -121,7 +122,7 @@ field_stores k slots id word hist x a new block i item changes place may s r _ a
     let stand = registers_stand k s r id hist x at may.acts in
     let stands : WordStands r.account.live new v = record { value = w; packs = may.word; stands = stand.each item may.from } in
     let graph : Graph = with_node now.graph f.place.label (Plain f.tag (set f.fields i v)) in
-    let regs : List Value = changed NothingWord changes x.own.registers in
+    let regs : List Value = (changed NothingWord changes x.own).registers in
     let words : List ℕ = set s.words (before_heap k + (f.address + 2 + i)) new in
     let y : DomainView = entered_view k s r id hist x at may.acts e regs in
     let g = my_good k s r id hist x at in
@@ -137,7 +138,7 @@ field_stores k slots id word hist x a new block i item changes place may s r _ a
       allowed = record { running = running k s r id hist x at may.acts; fits = (r.whole.calm.mode, r.whole.calm.queues d); full_fits = tt };
       calm = calm_command now d (Store block i item) false r.whole.calm;
       theirs = (domain_at now d).registers;
-      stand = subst (λ (l : List Value). AllStand r.account.live l (domain_at now d).registers) (sym may.same) stand;
+      stand = subst (λ (l : List Value). AllStand r.account.live l (domain_at now d).registers) (sym (ap registers_of may.same)) stand;
       leaves = leaves_store now d block i item f.place.label f.tag f.fields v f.value f.held f.node f.there refl (not_nothing r.account.live w v may.full (stand.each item may.from));
     } in
     let rule : Rule k record { words = words; homes = s.homes; views = set s.views id (one k hist y) } = appends k s r id hist x at e y words r.account.live record {
