@@ -27,6 +27,7 @@ use Rattle.heap_words.specs.declared.value.Value.TheVariants.{Nothing as Nothing
 use Rattle.heap_rule.specs.declared.change.Change.{Change}
 use Rattle.heap_rule.specs.declared.config.Config.{Config}
 use Rattle.heap_rule.specs.declared.view.DomainView.{DomainView}
+use Rattle.heap_rule.specs.Places.{unmarked}
 use Rattle.heap_rule.specs.Layout.{before_heap}
 use Rattle.heap_rule.specs.Changes.{value_at, changed, FitChanges}
 use Rattle.heap_rule.specs.Views.{one, Tells}
@@ -166,8 +167,7 @@ heads k slots id word hist x a e place may s r _ at _ =
       (
         record {
           shape = b.place.shape;
-          packable = (r.whole.placed.fits a b.place b.lives).head;
-          head = ap (λ (i : ℕ). get_or s.words i 0) place ∙ found.head;
+          head = record { colour = unmarked; scanned = false; packable = (r.whole.placed.fits a b.place b.lives).head; packs = ap (λ (i : ℕ). get_or s.words i 0) place ∙ found.head };
           told = done.told;
         },
         refl,
