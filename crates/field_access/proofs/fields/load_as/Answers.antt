@@ -64,3 +64,15 @@ returns-clause-registers g c =
     measured_at _ _ g.entry (own_entry c.args.dom.now (Load c.args.dst c.args.src c.args.index)) _ _ _ _ _ c.requires.0 told size c.in-Some.is (omega arith) in
     loads_into c.args.heap.now c.args.dom.now c.head_load.new.dom.view c.field_load.new.dom.view g.entry c.args.dst c.args.src c.args.index c.in-Some.size c.in-Ref.address _ c.config-limits.ensures.limits c.requires.0 c.requires.1.0 c.requires.1.1.0 looked (omega arith) c.field_load.ensures.told
     c.shown_register.new.dom c.shown_register.result c.shown_register.ensures.same c.shown_register.ensures.reply
+
+pub returns-in_default-plain_size-clause-holds : goal.returns-in_default-plain_size-clause-holds
+returns-in_default-plain_size-clause-holds g c =
+    let told = c.head_load.ensures.told in
+    (ephemeron_found _ _ g.entry _ _ _ _ told (c.plain_size.ensures told.shape told.head) c.in_default-plain_size.is).holds
+
+pub returns-then-index-size-clause-holds : goal.returns-then-index-size-clause-holds
+returns-then-index-size-clause-holds g c =
+    let told = c.head_load.ensures.told in
+    let place : c.args.index ≡ place_of g.entry = ap place_of (sym c.requires.0) in
+    let past : c.in-Some.size ≤ place_of g.entry = subst (λ (n : ℕ). c.in-Some.size ≤ n) place (omega arith) in
+    (past_found _ _ g.entry _ _ _ _ _ told (c.plain_size.ensures told.shape told.head) c.in-Some.is past).holds

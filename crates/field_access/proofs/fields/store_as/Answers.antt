@@ -50,3 +50,15 @@ returns-clause-did g c =
     let below : place_of g.entry < c.in-Some.size = subst (λ (n : ℕ). n < c.in-Some.size) place (omega arith) in
     let looked = measured _ _ g.entry _ _ _ _ _ told size c.in-Some.is below in
     looked_did c.args.heap.now c.args.dom.now c.field_store.new.dom c.head_load.new.dom.view _ g.entry _ _ _ c.requires.0 c.requires.1.0 c.field_store.ensures.here looked.looked c.field_store.ensures.entered
+
+pub returns-in_default-plain_size-clause-holds : goal.returns-in_default-plain_size-clause-holds
+returns-in_default-plain_size-clause-holds g c =
+    let told = c.head_load.ensures.told in
+    (ephemeron_found _ _ g.entry _ _ _ _ told (c.plain_size.ensures told.shape told.head) c.in_default-plain_size.is).holds
+
+pub returns-then-index-size-clause-holds : goal.returns-then-index-size-clause-holds
+returns-then-index-size-clause-holds g c =
+    let told = c.head_load.ensures.told in
+    let place : c.args.index ≡ place_of g.entry = ap place_of (sym c.requires.0) in
+    let past : c.in-Some.size ≤ place_of g.entry = subst (λ (n : ℕ). c.in-Some.size ≤ n) place (omega arith) in
+    (past_found _ _ g.entry _ _ _ _ _ told (c.plain_size.ensures told.shape told.head) c.in-Some.is past).holds
