@@ -16,8 +16,18 @@ pub enum Command {
     AllocMaj { dst: u8, tag: u8, fields: u16 },
     /// `load`: register `dst` holds what a field of the block in `src` holds.
     Load { dst: u8, src: u8, index: u16 },
-    /// `store`: a field of the block in register `block` holds what `item` holds.
+    /// `store`: a field of the block in register `block` holds what `item` holds, a raw block's an integer alone.
     Store { block: u8, index: u16, item: u8 },
+    /// `raw`: `dst` holds a new raw block of the minor heap. Tag 251 to 255; 1 to 126 fields, each the integer 0.
+    Raw { dst: u8, tag: u8, fields: u16 },
+    /// `cas`: where a field of the block in register `block` holds what `expected` holds, it holds what `item` holds, in
+    /// one step. Tells whether it was written.
+    Cas {
+        block: u8,
+        index: u16,
+        expected: u8,
+        item: u8,
+    },
     /// `ephe`: `dst` holds a new ephemeron with 1 to 8 empty keys and empty data.
     Ephe { dst: u8, keys: u16 },
     /// `set_key`: a key of the ephemeron in `ephe` is the block in `item`.
@@ -49,4 +59,13 @@ pub enum Command {
     Major,
     /// `full_major`: asks for a complete collection, and tells what is reachable then.
     FullMajor,
+    /// `spawn`: the domain of a section begins, and what `item` holds is its argument. Like the three below it stands
+    /// for several other commands, and is no entry of a history.
+    Spawn { section: u32, item: u8 },
+    /// `argument`: register `dst` holds the argument of the domain's own section.
+    Argument { dst: u8 },
+    /// `result`: what `item` holds is the result of the domain's own section.
+    PutResult { item: u8 },
+    /// `join`: waits for the end of a section, and register `dst` holds its result.
+    Join { dst: u8, section: u32 },
 }

@@ -7,7 +7,7 @@ use Rattle.heap_model.specs.declared.command.Command.TheVariants.{FullMajor}
 use Rattle.heap_model.specs.declared.entry.Entry.{Entry}
 use Rattle.heap_model.specs.declared.entry.Entry.TheVariants.{Command as CommandOf, End, Cut, Queue, Seal, Wipe, Last as LastOf, Collected, Done, Ran}
 use Rattle.heap_model.specs.declared.graph.Node.{Node}
-use Rattle.heap_model.specs.declared.graph.Node.TheVariants.{Plain, Ephe}
+use Rattle.heap_model.specs.declared.graph.Node.TheVariants.{Plain, Raw, Ephe}
 use Rattle.heap_model.specs.declared.state.Mode.{Mode}
 use Rattle.heap_model.specs.declared.state.Mode.TheVariants.{Open, Cut as CutMode, Sealed, Answer}
 use Rattle.heap_model.specs.declared.state.Pending.{Pending}
@@ -38,8 +38,8 @@ module _ (Q : State → Type 0) (domain : (t : State) (d : ℕ) (x : DomainState
   keeps_outcome s q d c = moved Q s d c (record {
     same = q;
     held = λ r v named. domain s d _ q;
-    written = λ l old new at found same named. made s _ s.kept q;
-    made = λ is dst n named. keeps_allocated s q d dst n;
+    written = λ l old new at found same named full. made s _ s.kept q;
+    made = λ is dst n named full. keeps_allocated s q d dst n;
     registered = λ is f named. domain s d _ q;
     registered_last = λ is f named. domain s d _ q;
   })
@@ -100,6 +100,7 @@ module _ (s : State) (holds : HoldsCut s) where
   holds_wiped : (l : Label) (places : List ℕ) (o : Option Node) → HoldsCut (with_wiped s l (wiped places o))
   holds_wiped l places None = holds
   holds_wiped l places (Some (Plain tag fields)) = holds
+  holds_wiped l places (Some (Raw tag fields)) = holds
   holds_wiped l places (Some (Ephe keys datum)) = holds
 
 run_mode : (s : State) (d : ℕ) (queue : List Pending) → (after_run s d queue).mode ≡ s.mode

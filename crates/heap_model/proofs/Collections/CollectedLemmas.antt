@@ -4,7 +4,7 @@ use Rattle.std.specs.List.{list_all}
 use Rattle.heap_model.specs.declared.label.Label.{Label}
 use Rattle.heap_model.specs.declared.entry.Entry.TheVariants.{Collected}
 use Rattle.heap_model.specs.declared.graph.Node.{Node}
-use Rattle.heap_model.specs.declared.graph.Node.TheVariants.{Plain, Ephe}
+use Rattle.heap_model.specs.declared.graph.Node.TheVariants.{Plain, Raw, Ephe}
 use Rattle.heap_model.specs.declared.state.DomainState.{DomainState}
 use Rattle.heap_model.specs.declared.state.Finaliser.{Finaliser}
 use Rattle.heap_model.specs.declared.state.LastFinaliser.{LastFinaliser}
@@ -13,11 +13,12 @@ use Rattle.heap_model.specs.declared.state.State.{State}
 use Rattle.heap_model.specs.Graph.{same_label, has_label, label_of, node_at}
 use Rattle.heap_model.specs.Domains.{domain_at, no_domain, queues, roots, reach, waiting, settled_roots, settled_reach, is_reachable_with, pending_label, opening}
 use Rattle.heap_model.specs.Reach.{key_holds, reachable, is_reachable}
-use Rattle.heap_model.specs.Entries.{is_some_and, is_dead, is_gone, is_let_go, has_dead_keys, keys_are_live, freshened, CollectedAllowed, next}
+use Rattle.heap_model.specs.Entries.{is_some_and, is_dead, is_gone, is_let_go, has_gone_keys, keys_are_live, freshened, CollectedAllowed, next}
 use Rattle.heap_model.specs.History.{state_after}
 use Rattle.heap_model.specs.Laws.{NothingPermitted, CollectedLeavesNothing, FullMajorCountsReach}
 use Rattle.heap_model.proofs.Graphs.ListLemmas.{flat_map-map}
-use Rattle.heap_model.proofs.Collections.CollectionLemmas.{all_has, all_at}
+use Rattle.heap_model.proofs.Collections.CollectionLemmas.{all_has}
+use Rattle.heap_model.proofs.Graphs.ListLemmas.{all_at}
 use Rattle.heap_model.proofs.Reach.ReachLemmas.{or_left, or_right, and_left, and_right, and_both, has-append_left, has-append_right, reachable_more}
 use Rattle.heap_model.proofs.Reach.ReachSizeLemmas.{reachable-no_repeats}
 use Rattle.heap_model.proofs.Histories.WellFormedLemmas.{reach_after}
@@ -48,9 +49,10 @@ false_and : (a b : Bool) → a ≡ false → a && b ≡ false
 false_and true b e = cc
 false_and false b e = refl
 
-no_keys : (s : State) (o : Option Node) (p : ℕ) → IsTrue (keys_are_live (has_label (reach s)) o) → has_dead_keys s (p ∷ []) o ≡ false
+no_keys : (s : State) (o : Option Node) (p : ℕ) → IsTrue (keys_are_live (has_label (reach s)) o) → has_gone_keys s (p ∷ []) o ≡ false
 no_keys s None p live = refl
 no_keys s (Some (Plain tag fields)) p live = refl
+no_keys s (Some (Raw tag fields)) p live = refl
 no_keys s (Some (Ephe keys datum)) p live = and_false (is_some_and (is_some_and (is_gone s (queues s))) (slice_get keys p)) (no_key s keys p live)
 
 -- a registration of a domain is one of all

@@ -53,8 +53,8 @@ unfolding reachable
 data_reaches_key_legal = search rules
 
 -- the same with no wipe is not legal
-abbrev dead_key_left : List Entry
-dead_key_left =
+abbrev gone_key_left : List Entry
+gone_key_left =
     map run (Alloc 1 0 1 ∷ Alloc 2 0 1 ∷ Store 2 0 1 ∷ NewEphe 3 1 ∷ SetKey 3 0 1 ∷ SetData 3 2 ∷ Forget 1 ∷ Forget 2 ∷ [])
     ++ Cut ∷ Seal ∷ Collected ∷ []
 
@@ -172,7 +172,7 @@ both_sealed_legal = search rules
 
 last_before_final_illegal : Legal sizes (both_sealed ++ Last 0 0 ∷ []) → ⊥
 unfolding reachable
-last_before_final_illegal h = let gone : false ≡ true = h.1.1.1.1.1.1.0.dead in cc
+last_before_final_illegal h = let gone : false ≡ true = h.1.1.1.1.1.1.0.gone in cc
 
 -- a second `full_major` doesn't come before the finaliser that the first one queued
 abbrev collected_again : List Entry
@@ -198,7 +198,7 @@ key_waits_legal = search rules
 
 key_waits_illegal : Legal sizes (key_waits ++ Wipe (block 2) (0 ∷ []) ∷ []) → ⊥
 unfolding reachable
-key_waits_illegal h = let gone : false ≡ true = h.1.1.1.1.1.1.1.0.dead in cc
+key_waits_illegal h = let gone : false ≡ true = h.1.1.1.1.1.1.1.0.gone in cc
 
 -- alloc 1 0 1, ephe 2 1, set_key 2 0 1, finalise_last 1 4, drop 1, full_major, check_key 2 0
 abbrev last_and_key : List Entry
@@ -214,9 +214,9 @@ last_and_key_legal : Legal sizes last_and_key
 unfolding reachable
 last_and_key_legal = search rules
 
-dead_key_left_illegal : Legal sizes dead_key_left → ⊥
+gone_key_left_illegal : Legal sizes gone_key_left → ⊥
 unfolding reachable
-dead_key_left_illegal h = let alive : false ≡ true = h.1.1.1.1.1.1.1.1.1.1.0.keys in cc
+gone_key_left_illegal h = let alive : false ≡ true = h.1.1.1.1.1.1.1.1.1.1.0.keys in cc
 
 -- a chain of ephemerons in the worst order
 abbrev chain_of_ephemerons : List Entry
@@ -259,7 +259,7 @@ both_keys_wiped =
 
 both_keys_wiped_illegal : Legal sizes both_keys_wiped → ⊥
 unfolding reachable
-both_keys_wiped_illegal h = let dead : false ≡ true = h.1.1.1.1.1.1.1.1.1.1.0.dead in cc
+both_keys_wiped_illegal h = let gone : false ≡ true = h.1.1.1.1.1.1.1.1.1.1.0.gone in cc
 
 type_and_bounds_legal : Legal sizes type_and_bounds
 type_and_bounds_legal = search rules
