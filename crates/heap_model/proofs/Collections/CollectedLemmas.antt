@@ -18,6 +18,7 @@ use Rattle.heap_model.specs.History.{state_after}
 use Rattle.heap_model.specs.Laws.{NothingPermitted, CollectedLeavesNothing, FullMajorCountsReach}
 use Rattle.heap_model.proofs.Graphs.ListLemmas.{flat_map-map}
 use Rattle.heap_model.proofs.Collections.CollectionLemmas.{all_has}
+use Rattle.heap_model.proofs.Collections.CutLemmas.{queues_mapped}
 use Rattle.heap_model.proofs.Graphs.ListLemmas.{all_at}
 use Rattle.heap_model.proofs.Reach.ReachLemmas.{or_left, or_right, and_left, and_right, and_both, has-append_left, has-append_right, reachable_more}
 use Rattle.heap_model.proofs.Reach.ReachSizeLemmas.{reachable-no_repeats}
@@ -102,21 +103,23 @@ nothing_left s collected = record {
         (not_gone s f.label (last_at (has_label (reach s)) s.domains d p f collected.lasts e))
 
 -- Collected changes nothing of what is reachable
-queues_fresh : (xs : List DomainState) → map (λ (x : DomainState). x.queue) (map freshened xs) ≡ map (λ (x : DomainState). x.queue) xs
-queues_fresh [] = refl
-queues_fresh (x ∷ xs) = ap (λ t. x.queue ∷ t) (queues_fresh xs)
+pub lasts_fresh : (test : Label → Bool) (xs : List DomainState) → IsTrue (list_all (λ x. list_all (λ f. test f.label) x.lasts) xs)
+    → IsTrue (list_all (λ x. list_all (λ f. test f.label) x.lasts) (map freshened xs))
+lasts_fresh test [] all = refl
+lasts_fresh test (x ∷ xs) all = and_both (list_all (λ f. test f.label) x.lasts) _ (and_left (list_all (λ f. test f.label) x.lasts) _ all)
+    (lasts_fresh test xs (and_right (list_all (λ f. test f.label) x.lasts) _ all))
 
 module _ (s : State) where
   abbrev after : State
   after = next s Collected
 
-  roots_fresh : (qs : List (List Pending)) → roots after qs ≡ roots s qs
+  pub roots_fresh : (qs : List (List Pending)) → roots after qs ≡ roots s qs
   roots_fresh qs = ap (λ t. t ++ flat_map (filter_map pending_label) qs) (flat_map-map (λ (x : DomainState). filter_map label_of x.registers) freshened s.domains)
 
-  reach_fresh : reach after ≡ reach s
-  reach_fresh = ap (reachable s.graph) (ap (roots after) (queues_fresh s.domains) ∙ roots_fresh (queues s))
+  pub reach_fresh : reach after ≡ reach s
+  reach_fresh = ap (reachable s.graph) (ap (roots after) (queues_mapped freshened (λ x. refl) s.domains) ∙ roots_fresh (queues s))
 
-  waiting_fresh : waiting after ≡ waiting s
+  pub waiting_fresh : waiting after ≡ waiting s
   waiting_fresh = flat_map-map (λ (x : DomainState). map (λ f. f.label) x.finals) freshened s.domains
 
   collected_fresh : CollectedAllowed s → IsCollected after
@@ -127,12 +130,6 @@ module _ (s : State) where
     lasts = subst (λ z. IsTrue (list_all (λ x. list_all (λ f. has_label z f.label) x.lasts) (map freshened s.domains))) (sym reach_fresh)
         (lasts_fresh (has_label (reach s)) s.domains allowed.lasts);
   }
-    where
-      lasts_fresh : (test : Label → Bool) (xs : List DomainState) → IsTrue (list_all (λ x. list_all (λ f. test f.label) x.lasts) xs)
-          → IsTrue (list_all (λ x. list_all (λ f. test f.label) x.lasts) (map freshened xs))
-      lasts_fresh test [] all = refl
-      lasts_fresh test (x ∷ xs) all = and_both (list_all (λ f. test f.label) x.lasts) _ (and_left (list_all (λ f. test f.label) x.lasts) _ all)
-          (lasts_fresh test xs (and_right (list_all (λ f. test f.label) x.lasts) _ all))
 
 -- after a Collected that is allowed nothing permitted is left
 pub collected_law : CollectedLeavesNothing

@@ -10,8 +10,9 @@ use Rattle.heap_model.specs.declared.graph.Node.TheVariants.{Plain, Raw, Ephe}
 use Rattle.heap_model.specs.declared.state.Finaliser.{Finaliser}
 use Rattle.heap_model.specs.declared.state.LastFinaliser.{LastFinaliser}
 use Rattle.heap_model.specs.declared.state.State.{State}
+use Rattle.heap_model.specs.declared.state.DomainState.{DomainState}
 use Rattle.heap_model.specs.Graph.{Graph, label_of, node_at, block_at}
-use Rattle.heap_model.specs.Domains.{domain_at, with_register, with_block, register, label_in}
+use Rattle.heap_model.specs.Domains.{domain_at, with_domain, with_register, with_block, register, label_in}
 use Rattle.heap_model.specs.Commands.{Outcome, in_bounds, at_ephe, loaded, at_field, written_over, same_value, written_where, exchanged, has_full_fields, is_int_value, key_set, key_value, key_stored, datum_set, datum_stored, with_final, with_last, finalised, finalised_last, tells, is_full_value, allocated, new_plain, new_raw, block_in, outcome, is_allocation}
 use Rattle.heap_model.specs.Fronts.{PlainShape, RawShape, EpheShape, shape_of}
 use Rattle.heap_model.specs.Laws.{written_by}
@@ -208,3 +209,29 @@ moved P s d (Spawn section item) m = m.same
 moved P s d (Argument dst) m = m.same
 moved P s d (PutResult item) m = m.same
 moved P s d (Join dst section) m = m.same
+
+-- what no change of a domain, of the graph or of `kept` touches, no command touches
+module _ (Q : State → Type 0) (domain : (t : State) (d : ℕ) (x : DomainState) → Q t → Q (with_domain t d x))
+    (made : (t : State) (g : Graph) (n : ℕ) → Q t → Q (record t { graph = g; kept = n })) where
+  keeps_allocated : (s : State) → Q s → (d dst : ℕ) (n : Node) → Q (allocated s d dst n).state
+  keeps_allocated s q d dst n = domain _ d _ (made _ _ _ (domain s d _ q))
+
+  pub keeps_outcome : (s : State) → Q s → (d : ℕ) (c : Command) → Q (outcome s d c).state
+  keeps_outcome s q d c = moved Q s d c (record {
+    same = q;
+    held = λ r v named. domain s d _ q;
+    written = λ l old new at found same named full. made s _ s.kept q;
+    made = λ is dst n named full. keeps_allocated s q d dst n;
+    registered = λ is f named. domain s d _ q;
+    registered_last = λ is f named. domain s d _ q;
+  })
+
+-- a command leaves the mode, the sizes and the queues at the cut
+pub outcome-mode : (s : State) (d : ℕ) (c : Command) → (outcome s d c).state.mode ≡ s.mode
+outcome-mode s = keeps_outcome (λ t. t.mode ≡ s.mode) (λ t d x q. q) (λ t g n q. q) s refl
+
+pub outcome-cut : (s : State) (d : ℕ) (c : Command) → (outcome s d c).state.cut ≡ s.cut
+outcome-cut s = keeps_outcome (λ t. t.cut ≡ s.cut) (λ t d x q. q) (λ t g n q. q) s refl
+
+pub outcome-sizes : (s : State) (d : ℕ) (c : Command) → (outcome s d c).state.sizes ≡ s.sizes
+outcome-sizes s = keeps_outcome (λ t. t.sizes ≡ s.sizes) (λ t d x q. q) (λ t g n q. q) s refl
