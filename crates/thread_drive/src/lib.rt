@@ -5,6 +5,7 @@ mod driving;
 mod rotation;
 mod taking;
 mod turning;
+mod waiting;
 
 pub use driving::drive;
 
