@@ -58,7 +58,7 @@ run_sign h old new Did says = ⊎_elim
     did : CalmDid h (wanting old 0) new → Left old new IsOther
     did (Wishes a) = (ap arrivals a.run, (Asked 1, (notes old ++ Want 0 ∷ []), ap notes a.run, tt))
     did (Tries c t) = (t.tried.stays.arrivals, (Want 0, notes old, t.tried.stays.notes, tt))
-    did (Ends t) = (t.ended.stays.arrivals, (Want 0, notes old, t.ended.stays.notes, tt))
+    did (Ends t) = (ap (λ (x : DomainView). x.own.arrivals) t.ended.view, (Want 0, notes old, ap (λ (x : DomainView). x.seen.notes) t.ended.view, tt))
 run_sign h old new (Waiting b) says = absurd says
 run_sign h old new (Idle n) says = ((ap arrivals says.0.run, (Ended n, (notes old ++ Want 0 ∷ []), ap notes says.0.run, refl)), says.1)
 run_sign h old new Over says = (ap arrivals says.run, (Ended h.config.domains, (notes old ++ Want 0 ∷ []), ap notes says.run, refl))

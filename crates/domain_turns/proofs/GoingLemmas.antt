@@ -6,6 +6,7 @@ use Rattle.heap_model.specs.declared.state.Sizes.{Sizes}
 use Rattle.heap_model.specs.Fronts.{Answers}
 use Rattle.heap_model.specs.History.{IsPrefix}
 use Rattle.heap_rule.specs.declared.view.Own.{Own}
+use Rattle.heap_rule.specs.declared.view.DomainView.{DomainView}
 use Rattle.heap_rule.specs.Token.{SharedHeap}
 use Rattle.domain_turns.specs.declared.turned.Turned.{Turned}
 use Rattle.domain_turns.specs.declared.turned.Turned.TheVariants.{Did, Waiting, Idle}
@@ -29,7 +30,7 @@ calm_did h old new (Wishes a) = record {
   front = same_prefix _ _ (ap (λ (r : RunView). r.token.view.seen.front) a.run);
 }
 calm_did h old new (Tries c t) = record { commands = ap (λ (r : RunView). r.commands) t.run; number = ap (λ (o : Own). o.number) t.tried.own; front = answered_front _ _ _ _ _ _ (stood h old.token new.token c t.reply t.tried.stands).1 }
-calm_did h old new (Ends t) = record { commands = ap (λ (r : RunView). r.commands) t.run; number = ap (λ (o : Own). o.number) t.ended.own; front = answered_front _ _ _ _ _ _ t.ended.answers }
+calm_did h old new (Ends t) = record { commands = ap (λ (r : RunView). r.commands) t.run; number = ap (λ (x : DomainView). x.own.number) t.ended.view; front = answered_front _ _ _ _ _ _ t.ended.answers }
 
 rests : (old new : RunView) (n : ℕ) → Rests old new n → GoesOn old new
 rests old new n r = record {

@@ -13,6 +13,7 @@ use Rattle.heap_rule.specs.Limits.{sizes_in}
 use Rattle.heap_rule.specs.Token.{Token, SharedHeap}
 use Rattle.heap_model.specs.declared.command.Command.TheVariants.{PutInt, Alloc, AllocMaj}
 use Rattle.heap_rule.specs.declared.view.Own.{Own}
+use Rattle.heap_rule.specs.declared.view.DomainView.{DomainView}
 use Rattle.domain_turns.specs.Tries.{Enters, Stands, Tried, is_refused, labels_given}
 use Rattle.heap_rule.specs.declared.phase.Kind.{Kind}
 use Rattle.domain_turns.specs.Runs.{StandsAt, RunView, IsRun, HasEnded, is_end_of}
@@ -87,8 +88,8 @@ pub ended_is_run : (h : SharedHeap) (r : RunView) (new : Token) → IsRun r → 
 ended_is_run h r new is whole t =
     let d : ℕ = r.token.view.own.number in
     let z = sizes_in r.token.config in
-    let number = ap (λ (o : Own). o.number) t.own in
-    let serial : new.view.own.serial ≡ r.token.view.own.serial = ap (λ (o : Own). o.serial) t.own in
+    let number = ap (λ (x : DomainView). x.own.number) t.view in
+    let serial : new.view.own.serial ≡ r.token.view.own.serial = ap (λ (x : DomainView). x.own.serial) t.view in
     let made : commands new.view.seen.front d ≡ commands r.token.view.seen.front d =
     commands_after z d r.token.view.seen.front new.view.seen.front (End d) Silent t.answers ∙ append-nil (commands r.token.view.seen.front d) in
     let answered : replies z new.view.seen.front d ≡ replies z r.token.view.seen.front d =
@@ -100,10 +101,10 @@ ended_is_run h r new is whole t =
       within = is.within;
       few = is.few;
       fit = is.fit;
-      idle = t.idle;
-      at_rest = t.at_rest;
+      idle = ap (λ (x : DomainView). x.seen.made) t.view ∙ is.idle;
+      at_rest = ap (λ (x : DomainView). x.seen.hunt) t.view ∙ is.at_rest;
       goes_on = λ running. cc;
-      stands = subst (StandsAt r.left) (sym t.stays.stage) is.stands;
+      stands = subst (StandsAt r.left) (sym (ap (λ (x : DomainView). x.seen.stage) t.view)) is.stands;
       labels = omega (arith, is.labels, serial);
       done = λ ended. omega (arith, is.within, whole);
       over = λ ended. subst (λ (n : ℕ). IsTrue (list_any (is_end_of n) new.view.seen.front)) (sym number)

@@ -8,6 +8,7 @@ use Rattle.heap_model.specs.declared.reply.Reply.{Reply}
 use Rattle.heap_model.specs.declared.reply.Applied.TheVariants.{Silent}
 use Rattle.heap_model.specs.History.{IsPrefix, commands, replies}
 use Rattle.heap_model.specs.Fronts.{Answers}
+use Rattle.heap_words.specs.declared.value.Value.{Value}
 use Rattle.heap_words.specs.declared.value.Value.TheVariants.{Nothing}
 use Rattle.heap_model.specs.Domains.{domain_at}
 use Rattle.heap_model.specs.declared.command.Command.TheVariants.{Minor}
@@ -22,7 +23,6 @@ use Rattle.heap_rule.specs.declared.phase.Note.TheVariants.{Want, Asked, Barrier
 use Rattle.heap_rule.specs.Phases.{IsEven, IsOdd, Follows}
 use Rattle.heap_rule.specs.Pauses.{noted, arrived_view}
 use Rattle.heap_rule.specs.Rule.{state_of}
-use Rattle.heap_rule.specs.Running.{Stays}
 use Rattle.safepoint.specs.Looks.{Passed, led_view}
 use Rattle.domain_turns.specs.declared.turned.Turned.{Turned}
 use Rattle.domain_turns.specs.declared.turned.Turned.TheVariants.{Did, Waiting, Idle}
@@ -84,15 +84,16 @@ pub record IsRun (r : RunView) : Type 0 where
   pub done : r.ended ≡ true → r.next ≡ length r.commands
   pub over : r.ended ≡ true → IsTrue (list_any (is_end_of r.token.view.own.number) r.token.view.seen.front)
 
+-- the domain with these registers, and another front
+abbrev pub left_with : DomainView → List Value → List Entry → DomainView
+left_with x registers front = record { own = record x.own { registers = registers }; seen = record x.seen { front = front } }
+
 -- the entry of the domain's end was made, and its registers hold nothing
 pub record HasEnded (h : SharedHeap) (old new : Token) : Type 0 where
   pub here : IsIn new h
   pub answers : Answers (sizes_in old.config) old.view.own.number old.view.seen.front new.view.seen.front (End old.view.own.number) Silent
   pub heap : (new.table ≡ old.table) × (new.config ≡ old.config)
-  pub idle : new.view.seen.made ≡ []
-  pub at_rest : new.view.seen.hunt ≡ AtRest
-  pub own : new.view.own ≡ record old.view.own { registers = replicate 16 Nothing }
-  pub stays : Stays old.view new.view
+  pub view : new.view ≡ left_with old.view (replicate 16 Nothing) new.view.seen.front
 
 -- a pause began and ended since the domain asked: it has arrived since
 abbrev pub served_since : Option ℕ → ℕ → Bool

@@ -2,10 +2,16 @@
 #![tactic(auto)]
 
 #[cfg(test)]
+mod domain_turns;
+#[cfg(test)]
 mod heap_words;
 #[cfg(test)]
 mod outer_io;
 #[cfg(test)]
 mod remembered_set;
 #[cfg(test)]
+mod safepoint;
+#[cfg(test)]
 mod size_classes;
+#[cfg(test)]
+mod thread_drive;

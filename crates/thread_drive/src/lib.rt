@@ -8,6 +8,3 @@ mod turning;
 mod waiting;
 
 pub use driving::drive;
-
-#[cfg(test)]
-mod tests;
