@@ -43,6 +43,7 @@ passes_leaves k x y last kind p = ⊎_elim
       stage = ap (λ (v : DomainView). v.seen.stage) is ∙ ap Gone stage;
       front = subst (λ (f : List Entry). IsFrontOf x.own.number f x.seen.front) (sym (ap (λ (v : DomainView). v.seen.front) is)) front;
     }
+
     at_begun : kind_in p.begun.seen.stage ≡ kind → y ≡ arrived_view p.begun → Leaves x y kind
     at_begun stage is = arrived p.begun (ap (λ (v : DomainView). v.own) p.passed.view) (ap (λ (v : DomainView). v.seen.made) p.passed.view) (ap (λ (v : DomainView). v.seen.hunt) p.passed.view) p.passed.seen stage is
 

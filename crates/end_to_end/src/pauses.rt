@@ -1,8 +1,8 @@
 //! Domains that stop together for minor collections, and go on together.
 use crate::outcome::{Outcome, outcome_of, sink, source};
 use std::alloc::{AllocError, Global};
-use std::sync::{Arc, Wait};
 use std::sync::atomic::{AtomicU32, Ordering};
+use std::sync::{Arc, Wait};
 use std::test::Fail;
 use std::thread;
 use std::thread::Threads;
@@ -76,7 +76,11 @@ fn pauses_end(rt: HostRuntime) -> Result<(), Fail> {
             let Row { script, prints } = row_of(rt.alloc(), domains)?;
             let given = run_in_time(rt, rt.alloc(), domains, script)?;
             assert_eq!(rt; given.number, 0, "{domains} domains");
-            assert_eq!(rt; given.written.as_slice(), prints.as_bytes(), "{domains} domains");
+            assert_eq!(rt;
+                given.written.as_slice(),
+                prints.as_bytes(),
+                "{domains} domains"
+            );
         }
     }
     Ok(())
