@@ -8,6 +8,8 @@ mod faults;
 #[cfg(test)]
 mod outcome;
 #[cfg(test)]
+mod pauses;
+#[cfg(test)]
 mod race;
 #[cfg(test)]
 mod rows;

@@ -1,4 +1,4 @@
-use super::*;
+//! Runs driven in threads.
 use domain_turns::DomainRun;
 use heap_model::command::Command;
 use heap_model::reply::Reply;
@@ -6,6 +6,7 @@ use heap_rule::{Config, Heap};
 use outer_io::{Gate, NoGate};
 use std::sync::atomic::{AtomicU32, Ordering};
 use std::test::Fail;
+use thread_drive::drive;
 
 // How often a domain looks for the other one.
 const LOOKS: u32 = 1_000_000_000;
@@ -129,11 +130,12 @@ impl Gate for Heard {
     }
 }
 
+// A command may take several turns, and the gate is told of it once.
 #[test]
 fn a_gate_hears_of_each_command(rt: HostRuntime) -> Result<(), Fail> {
     let (heap, mut domains) = Heap::start(rt.alloc(), ONE)?;
     let domain = domains.pop().ok_or("no domain")?;
-    let commands = vec![in rt.alloc(); Command::Poll, Command::Forget { dst: 0 }, Command::Poll]?;
+    let commands = vec![in rt.alloc(); Command::Poll, Command::Minor, Command::Poll]?;
     let run = DomainRun::make(rt.alloc(), domain, commands)?;
     let gate = Heard {
         calls: AtomicU32::new(0),

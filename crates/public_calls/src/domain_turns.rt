@@ -1,7 +1,7 @@
 //! Traces from their first command to their end.
 ghost use Rattle.heap_rule.specs.Token.{IsIn};
 
-use crate::{DomainRun, Turned, turn};
+use domain_turns::{DomainRun, Turned, turn};
 use heap_model::command::Command;
 use heap_model::label::Label;
 use heap_model::reply::Reply;
