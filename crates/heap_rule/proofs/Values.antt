@@ -8,7 +8,7 @@ use Rattle.heap_model.specs.declared.graph.Value.TheVariants.{Int, Block, Nothin
 use Rattle.heap_model.specs.declared.state.State as model
 use Rattle.heap_model.specs.Graph.{label_of}
 use Rattle.heap_model.specs.Domains.{IsWithinLimits, domain_at}
-use Rattle.heap_model.specs.Fronts.{Shape, PlainShape, EpheShape}
+use Rattle.heap_model.specs.Fronts.{Shape, PlainShape, RawShape, EpheShape}
 use Rattle.heap_words.specs.declared.value.Value as words
 use Rattle.heap_words.specs.declared.value.Value.TheVariants.{Int as IntWord, Ref, Nothing as NothingWord}
 use Rattle.heap_words.specs.Heads.{IsPackableHead}
@@ -25,6 +25,7 @@ use Rattle.heap_rule.proofs.Sizes.{heap_small}
 
 pub extent_large : (shape : Shape) → IsPackableHead (head_of shape) → 3 ≤ extent shape
 extent_large (PlainShape size tag) p = let h : 1 ≤ size = p.0 in omega arith
+extent_large (RawShape size tag) p = let h : 1 ≤ size = p.0 in omega arith
 extent_large (EpheShape keys) p = omega arith
 
 -- a block's address leaves room for its head, its label and a value

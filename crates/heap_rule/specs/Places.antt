@@ -4,10 +4,10 @@ use Rattle.heap_model.specs.declared.label.Label.{Label}
 use Rattle.heap_model.specs.declared.graph.Value.{Value}
 use Rattle.heap_model.specs.declared.graph.Value.TheVariants.{Int, Block, Nothing}
 use Rattle.heap_model.specs.declared.graph.Node.{Node}
-use Rattle.heap_model.specs.declared.graph.Node.TheVariants.{Plain, Ephe}
+use Rattle.heap_model.specs.declared.graph.Node.TheVariants.{Plain, Raw, Ephe}
 use Rattle.heap_model.specs.Graph.{Graph, node_at}
 use Rattle.heap_model.specs.Commands.{key_value}
-use Rattle.heap_model.specs.Fronts.{Shape, PlainShape, EpheShape, shape_of}
+use Rattle.heap_model.specs.Fronts.{Shape, PlainShape, RawShape, EpheShape, shape_of}
 use Rattle.heap_words.specs.declared.value.Value as words
 use Rattle.heap_words.specs.declared.value.Value.TheVariants.{Int as IntWord, Ref, Nothing as NothingWord}
 use Rattle.heap_words.specs.declared.head.Head.{Head}
@@ -30,16 +30,19 @@ Live = ℕ → Option Place
 -- the words of a block: head, label and values
 abbrev pub extent : Shape → ℕ
 extent (PlainShape size tag) = size + 2
+extent (RawShape size tag) = size + 2
 extent (EpheShape keys) = keys + 3
 
 -- the values of a block, in the order of their words
 abbrev pub values_of : Node → List Value
 values_of (Plain tag fields) = fields
+values_of (Raw tag fields) = fields
 values_of (Ephe keys datum) = datum ∷ map key_value keys
 
 -- the head of a block while no cycle is under way: it is unmarked, which is the colour 1
 abbrev pub head_of : Shape → Head
 head_of (PlainShape size tag) = PlainHead size tag 1 false
+head_of (RawShape size tag) = PlainHead size tag 1 false
 head_of (EpheShape keys) = EpheHead keys 1 false
 
 -- the word of such a head
@@ -80,8 +83,14 @@ pub record Found (k : Config) (live : Live) (graph : Graph) (words : List ℕ) (
   pub label : at_address k words (a + 1) ≡ label_word p.label.domain p.label.serial
   pub values : (i : ℕ) (v : Value) → slice_get (values_of node) i ≡ Some v → WordStands live (at_address k words (a + 2 + i)) v
 
+-- no step makes a raw block yet
+abbrev pub IsBuilt : Shape → Type 0
+IsBuilt (RawShape size tag) = ⊥
+IsBuilt _ = Unit {0}
+
 -- the block at an address lies in the heap, and its head and its label can be packed
 pub record Fits (k : Config) (a : ℕ) (p : Place) : Type 0 where
+  pub built : IsBuilt p.shape
   pub low : 1 ≤ a
   pub high : a + extent p.shape ≤ heap_words k + 1
   pub head : IsPackableHead (head_of p.shape)

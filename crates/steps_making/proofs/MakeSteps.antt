@@ -182,6 +182,7 @@ module _ (k : Config) (s : Words) (r : Rule k s) (id : ℕ) (hist : List Entry) 
 
   fits_born : Fits k A born_place
   fits_born = record {
+    built = tt;
     low = let y : ℕ = d * k.minor_words in let z : ℕ = k.pools * 4096 in let o : 1 ≤ z + y + 1 + x.own.used = omega arith in o;
     high = let h = high in let i = inside in let b : ℕ = base_of k d in let w : ℕ = heap_words k in let p : b + k.minor_words ≤ w + 1 = i in let o : A + (n + 2) ≤ w + 1 = omega arith in o;
     head = (may.some_field, (let f = may.few_fields in omega arith), may.tag_fits, omega arith);

@@ -14,11 +14,11 @@ use Rattle.heap_model.specs.declared.reply.Reply.TheVariants.{BadType, BadIndex}
 use Rattle.heap_model.specs.declared.graph.Value as graph_value
 use Rattle.heap_model.specs.declared.graph.Value.TheVariants.{Nothing}
 use Rattle.heap_model.specs.declared.graph.Node.{Node}
-use Rattle.heap_model.specs.declared.graph.Node.TheVariants.{Plain, Ephe}
+use Rattle.heap_model.specs.declared.graph.Node.TheVariants.{Plain, Raw, Ephe}
 use Rattle.heap_model.specs.declared.state.State as model
 use Rattle.heap_model.specs.Domains.{register, domain_at}
 use Rattle.heap_model.specs.Commands.{shown}
-use Rattle.heap_model.specs.Fronts.{Shape, PlainShape, EpheShape, shape_of, IsCalm}
+use Rattle.heap_model.specs.Fronts.{Shape, PlainShape, RawShape, EpheShape, shape_of, IsCalm}
 use Rattle.heap_model.proofs.Histories.FrontLemmas.{front_whole}
 use Rattle.heap_model.proofs.Commands.FrameLemmas.{calm_command}
 use Rattle.heap_model.proofs.Commands.LeavesLemmas.{leaves_load, leaves_load_past, leaves_store_past, leaves_load_kind, leaves_store_kind}
@@ -32,6 +32,7 @@ use Rattle.heap_rule.specs.Changes.{value_at, changed, FitChanges}
 use Rattle.heap_rule.specs.Views.{one, Tells}
 use Rattle.heap_rule.specs.Raw.{MayStep}
 use Rattle.heap_rule.specs.Rule.{state_of, Rule}
+use Rattle.heap_rule.specs.Places.{IsBuilt}
 use Rattle.heap_rule.specs.Standing.{Acts, IsAt, with_front}
 use Rattle.steps_run.specs.Loads.{subject, place_of, HeadEntry, HeadMay, HeadTold, HeadCase, LabelMay, LabelTold, FieldLoadMay, FieldLoadEntry, FieldRead}
 use Rattle.heap_rule.proofs.ChangeLemmas.{changed_only, registers_of}
@@ -43,6 +44,7 @@ use Rattle.heap_rule.proofs.Blocks.{Lives, lives_at, found_at, plain_at, plain_i
 -- the node of an ephemeron's shape
 ephe_of : (n : Node) (keys : ℕ) → shape_of n ≡ EpheShape keys → (ks : List (Option Label)) × (datum : graph_value.Value) × (n ≡ Ephe ks datum)
 ephe_of (Plain tag fields) keys e = cc
+ephe_of (Raw tag fields) keys e = cc
 ephe_of (Ephe ks datum) keys e = (ks, datum, refl)
 
 looks_at : (x : DomainView) (a : ℕ) (e : Entry) → HeadEntry x a e → IsAt x (subject e) a
@@ -135,6 +137,7 @@ module _ (k : Config) (s : Words) (r : Rule k s) (id : ℕ) (hist : List Entry) 
   head_step : (a : ℕ) (e : Entry) → HeadEntry x a e → (shape : Shape) (b : Lives k s r id hist x at (subject e) a) → b.place.shape ≡ shape → HeadStep a e shape
   head_step a e may (EpheShape keys) b is =
       let o = kind_entry a e may keys b is in refusal a e (EpheShape keys) (Replied BadType) (head_command x a e may) o (enters k s r id hist x at acts now.graph e (Replied BadType) NothingWord [] o)
+  head_step a e may (RawShape n tag) b is = absurd (subst IsBuilt is (r.whole.placed.fits a b.place b.lives).built)
   head_step a e may (PlainShape n tag) b is = dite (dec_le n (place_of e))
       (λ past. let o = past_entry a e may n tag b is past in refusal a e (PlainShape n tag) (Replied BadIndex) (head_command x a e may) o record {
         below = λ below. absurd (let p : ℕ = place_of e in let h : p < n = below in let g : n ≤ p = past in omega arith);

@@ -6,7 +6,7 @@ use Rattle.heap_model.specs.declared.entry.Entry.{Entry}
 use Rattle.heap_model.specs.declared.reply.Applied.{Applied}
 use Rattle.heap_model.specs.declared.reply.Applied.TheVariants.{Replied}
 use Rattle.heap_model.specs.Commands.{shown}
-use Rattle.heap_model.specs.Fronts.{Shape, PlainShape, EpheShape}
+use Rattle.heap_model.specs.Fronts.{Shape, PlainShape, RawShape, EpheShape}
 use Rattle.heap_words.specs.declared.value.Value.{Value}
 use Rattle.heap_words.specs.declared.value.Value.TheVariants.{Nothing}
 use Rattle.heap_words.proofs.WordLemmas.{value_word-injective}
@@ -38,6 +38,7 @@ tick_closes k x e changes fits found = entered_closes k x found e (tick_answer e
 
 -- a head load leaves the plain data
 head_own : (k : Config) (a : ℕ) (e : Entry) (x y : DomainView) (shape : Shape) → HeadCase k a e shape x y → y.own ≡ x.own
+head_own k a e x y (RawShape size tag) told = absurd told
 head_own k a e x y (EpheShape keys) told = ap (λ (z : DomainView). z.own) told.view
 head_own k a e x y (PlainShape size tag) told = dite (dec_le size (place_of e))
     (λ past. ap (λ (z : DomainView). z.own) (told.past past).view)

@@ -4,7 +4,7 @@ use mathlib.Core.Option.{some}
 use lib.ListN.{get_elem?}
 use Rattle.atomic_table.specs.Table.{keeps, Allows}
 use Rattle.heap_model.specs.declared.command.Command as model_command
-use Rattle.heap_model.specs.declared.command.Command.TheVariants.{PutInt, Copy, Forget, Alloc, AllocMaj, Load, Store, Ephe as NewEphe, Poll, Minor}
+use Rattle.heap_model.specs.declared.command.Command.TheVariants.{PutInt, Copy, Forget, Alloc, AllocMaj, Load, Store, Raw as NewRaw, Ephe as NewEphe, Poll, Minor}
 use Rattle.heap_model.specs.declared.entry.Entry.{Entry}
 use Rattle.heap_model.specs.declared.entry.Entry.TheVariants.{Command}
 use Rattle.heap_model.specs.declared.reply.Applied.TheVariants.{Replied}
@@ -39,6 +39,7 @@ use Rattle.heap_rule.proofs.Entering.{running, inside_state, registers_stand, En
 fits_allocation : (s : model.State) (d : ℕ) (c : model_command.Command) → is_allocation c ≡ true → s.mode ≡ Open → (domain_at s d).queue ≡ [] → FitsMode s d c
 fits_allocation s d (Alloc dst tag fields) is mode queue = (mode, queue)
 fits_allocation s d (AllocMaj dst tag fields) is mode queue = (mode, queue)
+fits_allocation s d (NewRaw dst tag fields) is mode queue = (mode, queue)
 fits_allocation s d (NewEphe dst keys) is mode queue = (mode, queue)
 fits_allocation s d _ is mode queue = absurd (let clash : false ≡ true = is in cc)
 

@@ -10,7 +10,7 @@ use Rattle.heap_model.specs.declared.reply.Reply.TheVariants.{BadType, BadIndex}
 use Rattle.heap_model.specs.declared.reply.Applied.TheVariants.{Replied}
 use Rattle.heap_model.specs.Commands.{shown}
 use Rattle.heap_model.specs.Domains.{register}
-use Rattle.heap_model.specs.Fronts.{Shape, PlainShape, EpheShape, HoldsPlain}
+use Rattle.heap_model.specs.Fronts.{Shape, PlainShape, RawShape, EpheShape, HoldsPlain}
 use Rattle.heap_words.specs.declared.value.Value.{Value}
 use Rattle.heap_words.specs.declared.value.Value.TheVariants.{Nothing}
 use Rattle.heap_words.specs.Values.{IsPackable, value_word}
@@ -63,9 +63,10 @@ pub record SizeTold (k : Config) (a : ℕ) (e : Entry) (size : ℕ) (x y : Domai
   pub below : place_of e < size → Measured k a (subject e) size x y
   pub past : size ≤ place_of e → Entered k e (Replied BadIndex) Nothing [] x y
 
--- and where the block is no plain one
+-- and where the block is no plain one: an ephemeron, since there are no raw blocks yet
 abbrev pub HeadCase : Config → ℕ → Entry → Shape → DomainView → DomainView → Type 0
 HeadCase k a e (PlainShape size tag) x y = SizeTold k a e size x y
+HeadCase k a e (RawShape size tag) x y = ⊥
 HeadCase k a e (EpheShape keys) x y = Entered k e (Replied BadType) Nothing [] x y
 
 -- a head load tells the shape of the block
