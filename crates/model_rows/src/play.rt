@@ -81,8 +81,9 @@ fn answer(step: Step) -> Result<Applied, ApplyFault> {
     match step {
         Step::Makes(_, reply) | Step::Ran(reply) => Ok(Applied::Replied(reply)),
         Step::Fills(_) => Ok(Applied::Replied(Reply::Full)),
-        Step::Refuses(..) | Step::NoWipe(..) | Step::NoLast(_) | Step::NoCollected =>
-            Err(ApplyFault::NotLegal),
+        Step::Refuses(..) | Step::NoWipe(..) | Step::NoLast(_) | Step::NoCollected => Err(
+            ApplyFault::NotLegal,
+        ),
         _ => Ok(Applied::Silent),
     }
 }
