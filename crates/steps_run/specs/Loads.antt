@@ -20,7 +20,7 @@ use Rattle.heap_rule.specs.declared.change.Change.{Change}
 use Rattle.heap_rule.specs.declared.config.Config.{Config}
 use Rattle.heap_rule.specs.declared.view.DomainView.{DomainView}
 use Rattle.heap_rule.specs.Layout.{heap_words}
-use Rattle.heap_rule.specs.Places.{head_of, HeadIs, Shows}
+use Rattle.heap_rule.specs.Places.{Shows, IsHeadOf}
 use Rattle.heap_rule.specs.Changes.{value_at, changed, FitChanges}
 use Rattle.heap_rule.specs.Rule.{state_of}
 use Rattle.heap_rule.specs.Standing.{Acts, IsAt, FieldMay, Entered, Looked}
@@ -72,8 +72,7 @@ HeadCase k a e (EpheShape keys) x y = Entered k e (Replied BadType) Nothing [] x
 -- a head load tells the shape of the block
 pub record HeadTold (k : Config) (a : ℕ) (e : Entry) (x : DomainView) (found : ℕ) (y : DomainView) : Type 0 where
   pub shape : Shape
-  pub packable : IsPackableHead (head_of shape)
-  pub head : HeadIs shape found
+  pub head : IsHeadOf shape found
   pub told : HeadCase k a e shape x y
 
 -- what a label load asks: the word behind the block's address
