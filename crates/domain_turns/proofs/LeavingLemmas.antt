@@ -9,7 +9,7 @@ use Rattle.heap_rule.specs.declared.phase.Stage.TheVariants.{In, Leads, Gone}
 use Rattle.heap_rule.specs.declared.view.Own.{Own}
 use Rattle.heap_rule.specs.declared.view.DomainView.{DomainView}
 use Rattle.heap_rule.specs.Phases.{Follows, IsEven, IsOdd}
-use Rattle.heap_rule.specs.Pauses.{kind_in, arrived_view}
+use Rattle.steps_pauses.specs.Pauses.{kind_in, arrived_view}
 use Rattle.heap_rule.specs.Token.{Token, SharedHeap, IsIn}
 use Rattle.safepoint.specs.Looks.{led_view}
 use Rattle.domain_turns.specs.declared.passing.Past.{Past}

@@ -21,7 +21,7 @@ use Rattle.heap_rule.specs.declared.phase.Stage.TheVariants.{In, Leads, Gone}
 use Rattle.heap_rule.specs.declared.phase.Note.{Note}
 use Rattle.heap_rule.specs.declared.phase.Note.TheVariants.{Want, Asked, Barrier, Ended}
 use Rattle.heap_rule.specs.Phases.{IsEven, IsOdd, Follows}
-use Rattle.heap_rule.specs.Pauses.{noted, arrived_view}
+use Rattle.steps_pauses.specs.Pauses.{noted, arrived_view}
 use Rattle.heap_rule.specs.Rule.{state_of}
 use Rattle.safepoint.specs.Looks.{Passed, led_view}
 use Rattle.domain_turns.specs.declared.turned.Turned.{Turned}

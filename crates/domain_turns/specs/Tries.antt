@@ -16,10 +16,10 @@ use Rattle.heap_rule.specs.declared.config.Config.{Config}
 use Rattle.heap_rule.specs.declared.view.DomainView.{DomainView}
 use Rattle.heap_rule.specs.declared.view.Own.{Own}
 use Rattle.heap_rule.specs.declared.view.Spot.{Spot}
-use Rattle.heap_rule.specs.Inits.{class_words}
+use Rattle.steps_making.specs.Inits.{class_words}
 use Rattle.heap_rule.specs.Limits.{sizes_in}
 use Rattle.heap_rule.specs.Running.{Runs, Stays}
-use Rattle.heap_rule.specs.Takes.{NoneFree}
+use Rattle.steps_pools.specs.Takes.{NoneFree}
 use Rattle.heap_rule.specs.Token.{Token, SharedHeap}
 use Rattle.size_pools.specs.Taken.{Reserved}
 

@@ -3,7 +3,7 @@ ghost use Rattle.std.specs.Prelude.{◌≡◌, ◌≢◌, ℕ, ◌+◌, ◌*◌,
 ghost use Rattle.heap_model.specs.Domains.{IsWithinLimits};
 ghost use Rattle.heap_model.specs.Fronts.{PlainShape};
 ghost use Rattle.heap_rule.specs.Limits.{sizes_in};
-ghost use Rattle.heap_rule.specs.Places.{HeadIs};
+ghost use Rattle.heap_rule.specs.Places.{IsNewHead};
 ghost use Rattle.heap_rule.specs.Layout.{heap_words, before_heap, table_words};
 ghost use Rattle.heap_rule.specs.Opening.{IsOpening, Fills};
 
@@ -13,25 +13,25 @@ use size_classes::POOL_WORDS;
 use std::alloc::{AllocError, Global};
 
 /// The index of the want word: which collections the domains ask for.
-pub(crate) const WANT: usize = 0;
+pub const WANT: usize = 0;
 
 /// The index of the barrier word: how often the domains have arrived.
-pub(crate) const BARRIER: usize = 1;
+pub const BARRIER: usize = 1;
 
 /// The index of the plan word: which phase comes next.
-pub(crate) const PLAN: usize = 2;
+pub const PLAN: usize = 2;
 
 /// The index of the word that says how many traces have ended.
-pub(crate) const ENDED: usize = 8;
+pub const ENDED: usize = 8;
 
 /// The index of the colours word.
 pub(crate) const COLOURS: usize = 5;
 
 /// The index of the word that says how many pools are in the list of free pools.
-pub(crate) const LISTED: usize = 6;
+pub const LISTED: usize = 6;
 
 /// The index of the word that says how many of them were asked for.
-pub(crate) const CURSOR: usize = 7;
+pub const CURSOR: usize = 7;
 
 /// The index of the first word of the list of free pools.
 pub(crate) const LIST: usize = 11;
@@ -84,7 +84,7 @@ fn put_zeros(words: &mut [u64], from: usize, count: usize)
 
 // The head of the shared block.
 fn shared_head() -> u64
-    ensures { HeadIs (PlainShape 16 0) result }
+    ensures { IsNewHead (PlainShape 16 0) result }
 {
     pack_head(Head::Plain {
         size: SHARED_FIELDS,
