@@ -12,7 +12,7 @@ use Rattle.heap_model.specs.declared.state.Sizes.{Sizes}
 use Rattle.command_line.specs.declared.options.Setting.{Setting}
 use Rattle.command_line.specs.declared.options.Setting.TheVariants.{Domains, Minor, Pools}
 use Rattle.command_line.specs.declared.options.Given.{Given}
-use Rattle.command_line.specs.Numbers.{number_of}
+use Rattle.command_line.specs.Numbers.{option_number}
 use Rattle.command_line.specs.Options.{given_at, given_by, nothing_read}
 use Rattle.command_line.specs.RunCommand.{run_app, read_in}
 use Rattle.command_line.specs.RunWords.{run_given, run_sizes, sizes_given, is_within_limits}
@@ -31,7 +31,7 @@ same_given g h a b c = ap (λ x. record g { domains = x }) a ∙ ap (λ x. recor
 reads : (words : List Text) (m : ArgMatches) (g : Given) → HasMatchesOf run_app words m → given_by nothing_read words ≡ Some g → (s : Setting) → read_in m (name_of s) ≡ given_at g s
 reads words m g has e s =
     let rows = (has refl).0 in
-    ap (option_and_then number_of) (first_value-rows (found_of m) (name_of s) ∙ ap (first_of (name_of s)) rows) ∙ finds words g e s
+    ap (option_and_then option_number) (first_value-rows (found_of m) (name_of s) ∙ ap (first_of (name_of s)) rows) ∙ finds words g e s
 
 within : (fits : Bool) (y z : Sizes) → (if fits then Some y else None) ≡ Some z → y ≡ z
 within true y z e = cc

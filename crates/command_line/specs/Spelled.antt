@@ -20,8 +20,8 @@ pub record Choice : Type 0 where
   pub in_one : Bool
 
 -- its words: `--name=number` (61 is `=`), or `--name` and the number
-abbrev pub words_of : Choice → List (List ℕ)
-words_of c =
+abbrev pub choice_words : Choice → List (List ℕ)
+choice_words c =
     if c.in_one then (codes "--" ++ name_of c.setting ++ 61 ∷ decimal c.number) ∷ []
     else (codes "--" ++ name_of c.setting) ∷ decimal c.number ∷ []
 
@@ -33,7 +33,7 @@ Gives before (c ∷ cs) after = (given_at before c.setting ≡ None) × (c.numbe
 -- the words are `run` and options, which give these numbers
 pub record SpellsRun (words : List (List ℕ)) (given : Given) : Type 0 where
   pub choices : List Choice
-  pub words_are : words ≡ codes "run" ∷ flat_map words_of choices
+  pub words_are : words ≡ codes "run" ∷ flat_map choice_words choices
   pub gives : Gives (record { domains = None; minor = None; pools = None }) choices given
 
 -- the words are spelled so, and ask for these sizes, which are within the limits of a heap

@@ -2,6 +2,12 @@
 #![tactic(auto)]
 
 #[cfg(test)]
+mod command_line;
+#[cfg(test)]
+mod decimals;
+#[cfg(test)]
+mod heap_text;
+#[cfg(test)]
 mod heap_words;
 #[cfg(test)]
 mod outer_io;

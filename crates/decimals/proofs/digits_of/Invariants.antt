@@ -1,7 +1,7 @@
 use Rattle.std.proofs.Common.{◌≡◌, ◌^◌, ◌-◌, ℕ, min, drop}
 use Rattle.std.specs.Str.{all_ascii_digits}
-use Rattle.heap_text.specs.Number.{value_on}
-use Rattle.heap_text.proofs.number.digits_of.Given as goal
+use Rattle.decimals.specs.Natural.{value_on}
+use Rattle.decimals.proofs.digits_of.Given as goal
 
 -- the digits so far are a number, of which the sum is the clipped one
 abbrev pub invariant-loop-byte : goal.invariant-loop-byte
