@@ -6,7 +6,7 @@ use Rattle.heap_rule.specs.declared.phase.Kind.{Kind}
 use Rattle.heap_rule.specs.declared.phase.Stage.TheVariants.{In}
 use Rattle.heap_rule.specs.declared.phase.Kind.TheVariants.{Run}
 use Rattle.heap_rule.specs.declared.phase.Note.TheVariants.{Barrier}
-use Rattle.heap_rule.specs.Pauses.{noted}
+use Rattle.steps_pauses.specs.Pauses.{noted}
 use Rattle.heap_rule.specs.Token.{SharedHeap}
 use Rattle.safepoint.specs.Looks.{Passed}
 use Rattle.domain_turns.specs.declared.passing.Past.{Past}

@@ -18,7 +18,7 @@ use Rattle.heap_rule.specs.declared.phase.Stage.{Stage}
 use Rattle.heap_rule.specs.declared.phase.Stage.TheVariants.{In, Gone}
 use Rattle.heap_rule.specs.declared.phase.Note.{Note}
 use Rattle.heap_rule.specs.declared.phase.Note.TheVariants.{Want, Asked, Barrier, Ended}
-use Rattle.heap_rule.specs.Pauses.{noted, arrived_view}
+use Rattle.steps_pauses.specs.Pauses.{noted, arrived_view}
 use Rattle.heap_rule.specs.Rule.{state_of}
 use Rattle.heap_rule.specs.Running.{Stays}
 use Rattle.safepoint.specs.Looks.{Passed}

@@ -13,10 +13,10 @@ use Rattle.size_classes.specs.Table.{IsLeastFor}
 use Rattle.size_classes.specs.declared.TheConstants.{SIZES}
 use Rattle.heap_rule.specs.declared.config.Config.{Config}
 use Rattle.heap_rule.specs.declared.view.DomainView.{DomainView}
-use Rattle.heap_rule.specs.Inits.{class_words}
+use Rattle.steps_making.specs.Inits.{class_words}
 use Rattle.heap_rule.specs.Limits.{sizes_in}
 use Rattle.heap_rule.specs.Running.{Runs, Stays}
-use Rattle.heap_rule.specs.Takes.{NoneFree}
+use Rattle.steps_pools.specs.Takes.{NoneFree}
 use Rattle.heap_rule.specs.Token.{Token, SharedHeap}
 use Rattle.size_pools.specs.Taken.{Reserved}
 

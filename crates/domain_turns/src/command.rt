@@ -10,9 +10,10 @@ ghost use Rattle.domain_turns.specs.Tries.{FitsHeap, Tried, RefusesFull, full_en
 use field_access::{copy, forget, load, put_int, store};
 use heap_model::command::Command;
 use heap_model::reply::Reply;
-use heap_rule::{Domain, Heap, tick};
+use heap_rule::{Domain, Heap};
 use minor_area::alloc_young;
 use size_pools::alloc_major;
+use steps_run::tick;
 
 fn poll_as(heap: &Heap, dom: &mut Domain) -> Reply
     ghost entry: { Entry }

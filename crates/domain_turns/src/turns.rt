@@ -3,7 +3,7 @@ ghost use Rattle.std.specs.Prelude.{◌≡◌, ◌≢◌, ◌≤◌, ◌<◌, �
 ghost use Rattle.heap_model.specs.declared.command.Command as model;
 ghost use Rattle.heap_rule.specs.declared.phase.Note.TheVariants as note;
 ghost use Rattle.heap_rule.specs.declared.phase.Kind.TheVariants.{Run};
-ghost use Rattle.heap_rule.specs.Pauses.{noted, arrived_view};
+ghost use Rattle.steps_pauses.specs.Pauses.{noted, arrived_view};
 ghost use Rattle.heap_rule.specs.Running.{Runs};
 ghost use Rattle.heap_rule.specs.Token.{IsIn};
 ghost use Rattle.domain_turns.specs.Runs.{HasEnded, EndsTrace, TriesCommand, RunAnswers, TurnAnswers, RestAnswers, CalmAnswers, Asks, GoesOn, CalmDid, served_since, needs_pause, noted_token};
@@ -15,8 +15,9 @@ use crate::passing::{Past, left_after, pass};
 use crate::run::DomainRun;
 use crate::turned::Turned;
 use heap_model::command::Command;
-use heap_rule::{Domain, Heap, Kind, ended_add, ended_load};
+use heap_rule::{Domain, Heap, Kind};
 use safepoint::{Want, arrive, ask, wants};
+use steps_pauses::{ended_add, ended_load};
 
 // Makes the entry of the end of a trace. The registers hold nothing then.
 fn end(heap: &Heap, dom: &mut Domain)

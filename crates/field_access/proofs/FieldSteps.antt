@@ -10,10 +10,11 @@ use Rattle.heap_rule.specs.declared.config.Config.{Config}
 use Rattle.heap_rule.specs.declared.view.DomainView.{DomainView}
 use Rattle.heap_rule.specs.Changes.{value_at}
 use Rattle.heap_rule.specs.declared.view.Own.{Own}
-use Rattle.heap_rule.specs.Stores.{FieldStoreEntry}
+use Rattle.steps_run.specs.Stores.{FieldStoreEntry}
 use Rattle.heap_words.specs.Values.{value_word}
 use Rattle.heap_rule.specs.Rule.{state_of}
-use Rattle.heap_rule.specs.Loads.{FieldMay, FieldLoadEntry, Measured}
+use Rattle.steps_run.specs.Loads.{FieldLoadEntry, Measured}
+use Rattle.heap_rule.specs.Standing.{FieldMay}
 use Rattle.heap_rule.specs.Standing.{Acts, IsInHeap}
 use Rattle.heap_rule.specs.Token.{Token, SharedHeap}
 use Rattle.heap_rule.specs.Running.{Runs}

@@ -7,7 +7,7 @@ use Rattle.heap_model.specs.Fronts.{Shape, PlainShape, EpheShape}
 use Rattle.heap_words.specs.declared.value.Value.TheVariants.{Nothing}
 use Rattle.heap_rule.specs.declared.config.Config.{Config}
 use Rattle.heap_rule.specs.declared.view.DomainView.{DomainView}
-use Rattle.heap_rule.specs.Loads.{HeadCase, HeadTold, Measured, place_of, subject}
+use Rattle.steps_run.specs.Loads.{HeadCase, HeadTold, Measured, place_of, subject}
 use Rattle.heap_rule.specs.Standing.{Entered}
 use Rattle.field_access.specs.Shapes.{size_of}
 

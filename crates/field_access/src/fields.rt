@@ -10,7 +10,7 @@ ghost use Rattle.heap_model.specs.Fronts.{Shape};
 ghost use Rattle.heap_words.specs.Heads.{IsPackableHead};
 ghost use Rattle.heap_words.specs.Labels.{IsPackableLabel, label_word};
 ghost use Rattle.heap_rule.specs.Changes.{value_at};
-ghost use Rattle.heap_rule.specs.Loads.{Shows};
+ghost use Rattle.heap_rule.specs.Places.{Shows};
 ghost use Rattle.heap_rule.specs.Places.{HeadIs, head_of};
 ghost use Rattle.heap_rule.specs.Rule.{state_of};
 ghost use Rattle.heap_rule.specs.Running.{Runs, Did, ChangesRegisters};
@@ -21,8 +21,9 @@ ghost use Rattle.field_access.specs.Shapes.{size_of};
 
 use heap_model::label::Label;
 use heap_model::reply::Reply;
-use heap_rule::{Change, Domain, Heap, field_load, field_store, head_load, label_load, tick};
+use heap_rule::{Change, Domain, Heap};
 use heap_words::{Head, Value, pack_value, unpack_head, unpack_label};
+use steps_run::{field_load, field_store, head_load, label_load, tick};
 
 // The number of fields of the plain block whose head this is, and nothing for an ephemeron.
 fn plain_size(head: u64) -> Option<u16>

@@ -11,8 +11,9 @@ ghost use Rattle.heap_rule.specs.Running.{own_entry};
 ghost use Rattle.heap_rule.specs.Token.{Holds};
 
 use heap_model::reply::Reply;
-use heap_rule::{Change, Domain, Heap, Item, Part, tick};
+use heap_rule::{Change, Domain, Heap, Item, Part};
 use heap_words::Value;
+use steps_run::tick;
 
 // The change by which a register holds a value.
 fn holds(register: u8, value: Value) -> Change

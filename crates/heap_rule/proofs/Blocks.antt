@@ -21,8 +21,7 @@ use Rattle.heap_rule.specs.Layout.{heap_words, at_address}
 use Rattle.heap_rule.specs.Places.{Place, extent, values_of, Stands, WordStands, Found}
 use Rattle.heap_rule.specs.Views.{one}
 use Rattle.heap_rule.specs.Rule.{state_of, Rule}
-use Rattle.heap_rule.specs.Standing.{IsAt}
-use Rattle.heap_rule.specs.Loads.{FieldMay}
+use Rattle.heap_rule.specs.Standing.{IsAt, FieldMay}
 use Rattle.heap_rule.proofs.Lists.{got_there}
 use Rattle.heap_rule.proofs.Values.{stands_block}
 use Rattle.heap_rule.proofs.Keeps.{Words, mine, my_good}

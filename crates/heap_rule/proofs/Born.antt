@@ -1,12 +1,30 @@
 -- A new block comes to live at an address.
-use Rattle.std.proofs.Common.{◌≡◌, ◌≢◌, ℕ, ◌+◌, ◌≤◌, ◌⊎◌, Option, Some, unwrap_or, sym, ap, ◌∙◌, subst, inl, inr, ⊎_elim, arith}
+use Rattle.std.proofs.Common.{◌≡◌, ◌≢◌, ℕ, zero, suc, ◌+◌, ◌≤◌, ◌⊎◌, List, get_or, replicate, slice_get, pos, Option, Some, unwrap_or, refl, sym, ap, ◌∙◌, subst, inl, inr, ⊎_elim, arith}
 use mathlib.Core.Logic.{dite}
 use native.Mathlib.Decide.{ℕ_discrete}
+use Rattle.heap_model.specs.declared.graph.Value as graph_value
+use Rattle.heap_model.specs.declared.graph.Value.TheVariants.{Int, Nothing}
+use Rattle.heap_words.specs.declared.value.Value.{Value}
 use Rattle.heap_rule.specs.declared.config.Config.{Config}
+use Rattle.heap_rule.specs.Changes.{value_at}
 use Rattle.heap_rule.specs.Places.{Place, Live, extent, Fits, Placed}
 use Rattle.heap_rule.proofs.Update.{over, over_here, over_else}
-use Rattle.heap_rule.proofs.Values.{extent_large}
-use Rattle.heap_rule.proofs.Keeps.{More}
+use Rattle.heap_rule.proofs.Values.{AllStand, extent_large}
+use Rattle.heap_rule.proofs.Keeps.{More, stands_more}
+
+-- the word of the integer 0, which every field of a new block holds
+abbrev pub zero_word : ℕ
+zero_word = 1
+
+-- each field of a new block has this word
+pub zero_values : (n i : ℕ) (v : graph_value.Value) → slice_get (replicate n (Int (pos 0))) i ≡ Some v → (v ≡ Int (pos 0)) × (slice_get (replicate n zero_word) i ≡ Some zero_word)
+zero_values zero i v e = cc
+zero_values (suc n) zero v e = (cc, refl)
+zero_values (suc n) (suc i) v e = zero_values n i v e
+
+-- registers stand for the same values where more blocks live
+pub all_more : (live live' : Live) (own : List Value) (theirs : List graph_value.Value) → More live live' → AllStand live own theirs → AllStand live' own theirs
+all_more live live' own theirs grows a = record { wide = a.wide; long = a.long; each = λ r few. stands_more live live' (value_at own r) (get_or theirs r Nothing) grows (a.each r few) }
 
 module _ (k : Config) (live : Live) (A : ℕ) (p : Place) (some : 1 ≤ extent p.shape) (away : (b : ℕ) (q : Place) → live b ≡ Some q → (b + extent q.shape ≤ A) ⊎ (A + extent p.shape ≤ b)) (placed : Placed k live) where
   abbrev pub live' : Live

@@ -59,8 +59,10 @@ pub first_seat : (k : Config) (n : ℕ) (me : Me (Unit {0}) View) → me ≡ (on
 first_seat k n me e limits inside = subst (λ (m : Me (Unit {0}) View). IsSeatOf k (record { own = (opening_view n).own; seen = (domain_in m.0.domains).seen }) m) (sym e) record {
   seat = refl;
   limits = limits;
-  number = inside;
-  used = omega arith;
-  registers = record { wide = refl; packable = λ r few. first_packable r; inside = λ r a few is. first_inside k limits r a is };
-  looked = looks_first k;
+  fits = record {
+    number = inside;
+    used = omega arith;
+    registers = record { wide = refl; packable = λ r few. first_packable r; inside = λ r a few is. first_inside k limits r a is };
+    looked = looks_first k;
+  };
 }

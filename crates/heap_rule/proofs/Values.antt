@@ -17,12 +17,10 @@ use Rattle.heap_rule.specs.declared.config.Config.{Config}
 use Rattle.heap_rule.specs.declared.view.DomainView.{DomainView}
 use Rattle.heap_rule.specs.Limits.{sizes_in}
 use Rattle.heap_rule.specs.Layout.{heap_words}
-use Rattle.heap_rule.specs.Places.{Place, Live, extent, head_of, Stands, Fits, Placed}
+use Rattle.heap_rule.specs.Places.{Place, Live, extent, head_of, Stands, Fits, Placed, IsNoBlock, Shows}
 use Rattle.heap_rule.specs.Changes.{value_at}
 use Rattle.heap_rule.specs.Rule.{Stood}
 use Rattle.heap_rule.specs.Token.{IsAddress, Holds}
-use Rattle.heap_rule.specs.Ticks.{IsNoBlock}
-use Rattle.heap_rule.specs.Loads.{Shows}
 use Rattle.heap_rule.proofs.Sizes.{heap_small}
 
 pub extent_large : (shape : Shape) → IsPackableHead (head_of shape) → 3 ≤ extent shape

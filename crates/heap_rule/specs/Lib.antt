@@ -3,6 +3,7 @@ pub mod Layout
 pub mod Places
 pub mod Changes
 pub mod Items
+pub mod Reads
 pub mod Views
 pub mod Phases
 pub mod Pools
@@ -12,10 +13,5 @@ pub mod Token
 pub mod Opening
 pub mod Ending
 pub mod Standing
-pub mod Ticks
-pub mod Loads
-pub mod Stores
-pub mod Inits
-pub mod Pauses
-pub mod Takes
+pub mod Raw
 pub mod Running

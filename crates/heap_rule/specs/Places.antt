@@ -59,6 +59,18 @@ pub record WordStands (live : Live) (word : ℕ) (v : Value) : Type 0 where
   pub packs : word ≡ value_word value
   pub stands : Stands live value v
 
+-- no address
+abbrev pub IsNoBlock : words.Value → Type 0
+IsNoBlock (Ref a) = ⊥
+IsNoBlock _ = Unit {0}
+
+-- what a value with addresses shows of the graph's value
+abbrev pub Shows : words.Value → Value → Type 0
+Shows (IntWord z) (Int v) = z ≡ v
+Shows (Ref a) (Block l) = Unit {0}
+Shows NothingWord Nothing = Unit {0}
+Shows _ _ = ⊥
+
 -- the words at an address are the node of the block that lives there
 pub record Found (k : Config) (live : Live) (graph : Graph) (words : List ℕ) (a : ℕ) (p : Place) : Type 0 where
   pub node : Node

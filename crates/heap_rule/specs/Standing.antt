@@ -1,10 +1,10 @@
 -- What the contracts of step calls have in common.
-use Rattle.std.specs.Prelude.{◌≡◌, ℕ, ◌<◌, ◌≤◌, false, List}
+use Rattle.std.specs.Prelude.{◌≡◌, ℕ, ◌+◌, ◌<◌, ◌≤◌, false, List}
 use Rattle.heap_model.specs.declared.entry.Entry.{Entry}
 use Rattle.heap_model.specs.declared.reply.Applied.{Applied}
 use Rattle.heap_model.specs.Domains.{domain_at}
 use Rattle.heap_model.specs.History.{Legal}
-use Rattle.heap_model.specs.Fronts.{IsFrontOf, Answers}
+use Rattle.heap_model.specs.Fronts.{IsFrontOf, Answers, HoldsPlain}
 use Rattle.heap_words.specs.declared.value.Value.{Value}
 use Rattle.heap_words.specs.declared.value.Value.TheVariants.{Ref, Nothing}
 use Rattle.heap_rule.specs.declared.change.Change.{Change}
@@ -31,6 +31,15 @@ pub record Acts (k : Config) (x : DomainView) : Type 0 where
 pub record IsAt (x : DomainView) (r a : ℕ) : Type 0 where
   pub few : r < 16
   pub holds : value_at x.own.registers r ≡ Ref a
+
+-- field i of the plain block in register r, of which the size is known
+pub record FieldMay (k : Config) (x : DomainView) (at r i : ℕ) : Type 0 where
+  pub address : ℕ
+  pub size : ℕ
+  pub block : IsAt x r address
+  pub field : at ≡ address + 2 + i
+  pub known : HoldsPlain (state_of k x.seen.front) x.own.number r size
+  pub inside : i < size
 
 -- the changes leave the registers as they are
 abbrev pub LeavesRegisters : List Change → DomainView → Type 0

@@ -2,17 +2,19 @@
 use Rattle.std.specs.Prelude.{◌≡◌, ℕ, ◌+◌, ◌<◌, ◌≤◌, List, [], length}
 use Rattle.atomic_table.specs.Table.{Me}
 use Rattle.atomic_table.specs.Seated.{TableId}
+use Rattle.heap_model.specs.declared.label.Label.{Label}
 use Rattle.heap_words.specs.declared.value.Value.{Value}
 use Rattle.heap_words.specs.declared.value.Value.TheVariants.{Ref}
 use Rattle.heap_words.specs.Values.{IsPackable}
 use Rattle.heap_rule.specs.declared.config.Config.{Config}
 use Rattle.heap_rule.specs.declared.view.DomainView.{DomainView}
+use Rattle.heap_rule.specs.declared.view.Own.{Own}
 use Rattle.heap_rule.specs.declared.view.Spot.{Spot}
 use Rattle.heap_rule.specs.declared.view.View.{View}
 use Rattle.heap_rule.specs.Pools.{blocks_of, spot_at}
 use Rattle.heap_model.specs.Domains.{IsWithinLimits}
 use Rattle.heap_rule.specs.Limits.{sizes_in}
-use Rattle.heap_rule.specs.Layout.{heap_words}
+use Rattle.heap_rule.specs.Layout.{heap_words, base_of}
 use Rattle.heap_rule.specs.Changes.{value_at}
 use Rattle.heap_rule.specs.Views.{one}
 
@@ -46,11 +48,23 @@ pub record LooksWithin (k : Config) (looked : List Spot) : Type 0 where
   pub wide : length looked ≡ 6
   pub within : (class : ℕ) → class < 6 → ((spot_at looked class).pool ≤ k.pools) × ((spot_at looked class).slot < blocks_of class)
 
+-- what is known of a token's own data without a look at the table
+pub record OwnFits (k : Config) (own : Own) : Type 0 where
+  pub number : own.number < k.domains
+  pub used : own.used ≤ k.minor_words
+  pub registers : Holds k own.registers
+  pub looked : LooksWithin k own.looked
+
 -- the seat, at a heap of these numbers, stands for this domain alone
 pub record IsSeatOf (k : Config) (x : DomainView) (me : Me (Unit {0}) View) : Type 0 where
   pub seat : me ≡ (one k me.0.history x, [])
   pub limits : IsWithinLimits (sizes_in k)
-  pub number : x.own.number < k.domains
-  pub used : x.own.used ≤ k.minor_words
-  pub registers : Holds k x.own.registers
-  pub looked : LooksWithin k x.own.looked
+  pub fits : OwnFits k x.own
+
+-- where the domain's next block begins
+abbrev pub next_address : Config → DomainView → ℕ
+next_address k x = base_of k x.own.number + x.own.used
+
+-- the label of the domain's next block
+abbrev pub next_label : DomainView → Label
+next_label x = record { domain = x.own.number; serial = x.own.serial + 1 }

@@ -1,9 +1,10 @@
 //! What a step changes in a domain's token.
-ghost use Rattle.std.specs.Prelude.{◌≡◌, length};
-ghost use Rattle.heap_words.specs.declared.value.Value.{Value};
+ghost use Rattle.std.specs.Prelude.{◌≡◌, ℕ, length};
+ghost use Rattle.heap_words.specs.declared.value.Value as words;
 ghost use Rattle.heap_rule.specs.Changes.{FitChanges, changed};
+ghost use Rattle.heap_rule.specs.Reads.{Reads};
 
-use heap_words::Value;
+use heap_words::{Value, unpack_value};
 
 /// A list of the token. So far the registers are the only one that is there.
 #[derive(Clone, Copy, Debug, PartialEq, Eq)]
@@ -55,8 +56,8 @@ pub enum Change {
     Clear { part: Part },
 }
 
-// Makes the changes of a step in the registers.
-pub(crate) fn make_changes(registers: &mut [Value; 16], read: Value, changes: &[Change])
+/// Makes the changes of a step in the registers.
+pub fn make_changes(registers: &mut [Value; 16], read: Value, changes: &[Change])
     requires { FitChanges changes.now }
     ensures { registers.new ≡ changed read changes.now registers.old }
 {
@@ -72,6 +73,31 @@ pub(crate) fn make_changes(registers: &mut [Value; 16], read: Value, changes: &[
                 part: Part::Register,
             } => *registers = [Value::Nothing; 16],
             _ => unreachable!(),
+        }
+    }
+}
+
+/// How a step reads the word that it found.
+#[derive(Clone, Copy, Debug, PartialEq, Eq)]
+pub enum Reading {
+    /// Not at all.
+    Unread,
+    /// As the word of a value.
+    AsValue,
+}
+
+/// The value that the word is read as, and nothing where it is unread.
+pub fn read_as(reading: Reading, word: u64) -> Value
+    requires { (v : words.Value) × Reads reading word v }
+    ensures { Reads reading word result }
+{
+    match reading {
+        Reading::Unread => Value::Nothing,
+        Reading::AsValue => {
+            let Some(value) = unpack_value(word) else {
+                unreachable!()
+            };
+            value
         }
     }
 }

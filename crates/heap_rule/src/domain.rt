@@ -5,11 +5,10 @@ ghost use Rattle.heap_words.specs.declared.value.Value.TheVariants.{Ref};
 ghost use Rattle.heap_words.specs.Values.{IsPackable};
 ghost use Rattle.heap_rule.specs.Changes.{value_at};
 ghost use Rattle.heap_rule.specs.Items.{items_of};
-ghost use Rattle.heap_rule.specs.Inits.{next_address};
 ghost use Rattle.heap_rule.specs.Limits.{sizes_in};
 ghost use Rattle.heap_rule.specs.Opening.{opening_token};
 ghost use Rattle.heap_rule.specs.Pools.{blocks_of, spot_at};
-ghost use Rattle.heap_rule.specs.Token.{IsAddress};
+ghost use Rattle.heap_rule.specs.Token.{IsAddress, next_address};
 ghost use Rattle.heap_rule.specs.Views.{one, opening_view};
 
 use crate::change::{Item, Part};

@@ -1,7 +1,8 @@
 //! The heap, from its start to its end.
-ghost use Rattle.std.specs.Prelude.{◌≡◌, ◌↔◌, ◌<◌, ◌≤◌, ℕ, [], length, IfOk, Some, Err};
+ghost use Rattle.std.specs.Prelude.{◌≡◌, ◌↔◌, ◌+◌, ◌<◌, ◌≤◌, ℕ, [], length, IfOk, Some, Err};
 ghost use Rattle.heap_model.specs.Domains.{IsWithinLimits};
 ghost use Rattle.heap_model.specs.History.{Legal};
+ghost use Rattle.heap_rule.specs.Layout.{before_heap};
 ghost use Rattle.heap_rule.specs.Limits.{sizes_in, first_outside};
 ghost use Rattle.heap_rule.specs.Opening.{opening_token, opening_tokens};
 ghost use Rattle.heap_rule.specs.Ending.{AllIn, AllBegin};
@@ -11,7 +12,7 @@ ghost use Rattle.heap_rule.specs.Token.{IsIn};
 
 use crate::config::{Config, StartFault};
 use crate::domain::Domain;
-use crate::layout::{WANT, opening_words};
+use crate::layout::{WANT, index_of, opening_words};
 use crate::rule::{Agreeing, Cut, Glue, Law, Learn};
 use crate::view::View;
 use atomic_table::{Seat, Table};
@@ -46,6 +47,13 @@ impl Heap {
         ensures limits { IsWithinLimits (sizes_in self.now.config) }
     {
         self.config
+    }
+
+    /// The index of the word with this address.
+    pub fn index_of(&self, address: u32) -> usize
+        ensures { result ≡ before_heap self.now.config + address }
+    {
+        index_of(self.config.pools, address)
     }
 
     /// A heap, and the tokens of its domains, numbered from 0. Each runs, register 0 holds the

@@ -13,25 +13,25 @@ use size_classes::POOL_WORDS;
 use std::alloc::{AllocError, Global};
 
 /// The index of the want word: which collections the domains ask for.
-pub(crate) const WANT: usize = 0;
+pub const WANT: usize = 0;
 
 /// The index of the barrier word: how often the domains have arrived.
-pub(crate) const BARRIER: usize = 1;
+pub const BARRIER: usize = 1;
 
 /// The index of the plan word: which phase comes next.
-pub(crate) const PLAN: usize = 2;
+pub const PLAN: usize = 2;
 
 /// The index of the word that says how many traces have ended.
-pub(crate) const ENDED: usize = 8;
+pub const ENDED: usize = 8;
 
 /// The index of the colours word.
 pub(crate) const COLOURS: usize = 5;
 
 /// The index of the word that says how many pools are in the list of free pools.
-pub(crate) const LISTED: usize = 6;
+pub const LISTED: usize = 6;
 
 /// The index of the word that says how many of them were asked for.
-pub(crate) const CURSOR: usize = 7;
+pub const CURSOR: usize = 7;
 
 /// The index of the first word of the list of free pools.
 pub(crate) const LIST: usize = 11;

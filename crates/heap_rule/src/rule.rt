@@ -57,7 +57,7 @@ impl Play<(), View> for Agreeing {
 }
 
 /// What one step tells of its domain: the view before, the word found, and the view after. Each
-/// step call picks it.
+/// step call takes `Brand`, and picks it.
 pub trait Told {
     ghost use Rattle.std.specs.Prelude.{ℕ};
     ghost use Rattle.heap_rule.specs.declared.view.DomainView.{DomainView};

@@ -8,10 +8,10 @@ use Rattle.heap_model.specs.declared.reply.Applied.TheVariants.{Replied}
 use Rattle.heap_model.specs.Fronts.{Answers}
 use Rattle.heap_rule.specs.declared.change.Change.{Change}
 use Rattle.heap_rule.specs.declared.view.DomainView.{DomainView}
-use Rattle.heap_rule.specs.Inits.{AllocTold, next_label}
+use Rattle.steps_making.specs.Inits.{AllocTold}
 use Rattle.heap_rule.specs.Limits.{sizes_in}
 use Rattle.heap_rule.specs.Running.{Runs, Did, own_entry}
-use Rattle.heap_rule.specs.Token.{Token, SharedHeap, IsIn}
+use Rattle.heap_rule.specs.Token.{Token, SharedHeap, IsIn, next_label}
 use Rattle.heap_rule.proofs.Calls.{answered_did}
 
 pub alloc_did : (h : SharedHeap) (old new : Token) (mid : DomainView) (e : Entry) (dst tag fields : ℕ) (l : Label) (made : List ℕ) (changes : List Change) → e ≡ own_entry old (Alloc dst tag fields) → Runs h old → IsIn new h

@@ -4,15 +4,17 @@ ghost use Rattle.heap_model.specs.declared.command.Command.TheVariants.{Alloc};
 ghost use Rattle.heap_model.specs.declared.entry.Entry.{Entry};
 ghost use Rattle.heap_model.specs.declared.reply.Reply.TheVariants.{Block};
 ghost use Rattle.heap_words.specs.declared.value.Value.TheVariants.{Ref};
-ghost use Rattle.heap_rule.specs.Inits.{class_words, next_address};
+ghost use Rattle.steps_making.specs.Inits.{class_words};
+ghost use Rattle.heap_rule.specs.Token.{next_address};
 ghost use Rattle.heap_rule.specs.Running.{Runs, Did, own_entry};
 ghost use Rattle.heap_rule.specs.Token.{Holds};
 ghost use Rattle.minor_area.specs.Area.{Grows};
 
 use crate::Need;
 use heap_model::label::Label;
-use heap_rule::{Change, Domain, Heap, Item, Part, init_store, words_of_class};
+use heap_rule::{Change, Domain, Heap, Item, Part};
 use heap_words::{Head, Value, pack_head, pack_label, pack_value};
+use steps_making::{init_store, words_of_class};
 
 // The colour of a block that is allocated while no collection is under way: unmarked.
 const UNMARKED: u8 = 1;

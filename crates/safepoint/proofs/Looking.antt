@@ -7,7 +7,7 @@ use Rattle.heap_rule.specs.declared.view.DomainView.{DomainView}
 use Rattle.heap_rule.specs.declared.phase.Kind.{Kind}
 use Rattle.heap_rule.specs.declared.phase.Stage.TheVariants.{In, Leads}
 use Rattle.heap_rule.specs.Phases.{IsEven, IsOdd, code}
-use Rattle.heap_rule.specs.Pauses.{kind_in, LookTold, Begun, PlanTold}
+use Rattle.steps_pauses.specs.Pauses.{kind_in, LookTold, Begun, PlanTold}
 use Rattle.safepoint.specs.declared.answer.Look.TheVariants.{NotAll, Next, Lead}
 use Rattle.safepoint.specs.Looks.{Passed, LookAnswers}
 

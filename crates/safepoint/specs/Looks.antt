@@ -11,7 +11,7 @@ use Rattle.heap_rule.specs.declared.phase.Note.{Note}
 use Rattle.heap_rule.specs.declared.phase.Note.TheVariants.{Barrier, Cleared}
 use Rattle.heap_rule.specs.Limits.{sizes_in}
 use Rattle.heap_rule.specs.Phases.{IsEven, IsOdd}
-use Rattle.heap_rule.specs.Pauses.{noted, kind_in}
+use Rattle.steps_pauses.specs.Pauses.{noted, kind_in}
 use Rattle.safepoint.specs.declared.answer.Look.{Look}
 use Rattle.safepoint.specs.declared.answer.Look.TheVariants.{Next, Lead, NotAll}
 use Rattle.safepoint.specs.declared.answer.Want as wish

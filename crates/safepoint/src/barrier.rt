@@ -5,12 +5,13 @@ ghost use Rattle.heap_rule.specs.declared.phase.Kind.TheVariants.{Run};
 ghost use Rattle.heap_rule.specs.declared.phase.Stage.TheVariants.{In, Leads, Led};
 ghost use Rattle.heap_rule.specs.declared.phase.Note.TheVariants as note;
 ghost use Rattle.heap_rule.specs.Phases.{code, Follows};
-ghost use Rattle.heap_rule.specs.Pauses.{IsGone, ArriveMay, ClearMay, kind_in, noted, arrived_view};
+ghost use Rattle.steps_pauses.specs.Pauses.{IsGone, ArriveMay, ClearMay, kind_in, noted, arrived_view};
 ghost use Rattle.heap_rule.specs.Token.{IsIn};
 ghost use Rattle.safepoint.specs.Looks.{bit_of, cleared, LookAnswers};
 
 use crate::answer::{Look, Want, Wants};
-use heap_rule::{Domain, Heap, Kind, plan_load, plan_store, want_clear, want_load};
+use heap_rule::{Domain, Heap, Kind};
+use steps_pauses::{plan_load, plan_store, want_clear, want_load};
 
 // The plan word of a kind.
 fn word_of(kind: Kind) -> u64
@@ -78,7 +79,7 @@ pub fn ask(heap: &Heap, dom: &mut Domain, want: Want)
     ensures here { IsIn dom.new heap.now }
     ensures view { dom.new.view ≡ noted dom.old.view (note.Asked (bit_of want)) }
 {
-    heap_rule::ask(heap, dom, bit_of(want));
+    steps_pauses::ask(heap, dom, bit_of(want));
 }
 
 /// The domain arrives: its share of the phase is done.
@@ -88,7 +89,7 @@ pub fn arrive(heap: &Heap, dom: &mut Domain)
     ensures here { IsIn dom.new heap.now }
     ensures view { dom.new.view ≡ arrived_view dom.old.view }
 {
-    heap_rule::arrive(heap, dom);
+    steps_pauses::arrive(heap, dom);
 }
 
 /// Whether all domains have arrived. Then the next phase has begun, and the domain is in it.
@@ -99,7 +100,7 @@ pub fn look(heap: &Heap, dom: &mut Domain) -> Look
     ensures here { IsIn dom.new heap.now }
     ensures answer { LookAnswers heap.now.config dom.old.view dom.new.view result }
 {
-    let b = heap_rule::look(heap, dom);
+    let b = steps_pauses::look(heap, dom);
     if b < dom.arrivals() * u64::from(heap.config().domains) {
         return Look::NotAll(b);
     }

@@ -6,7 +6,7 @@ use Rattle.heap_rule.specs.declared.view.Hunt.TheVariants.{Rests, Counts, Asks, 
 use Rattle.heap_rule.specs.declared.view.Spot.{Spot}
 use Rattle.heap_rule.specs.declared.config.Config.{Config}
 use Rattle.heap_rule.specs.Pools.{owned, owner_word, blocks_of, place_in, drawn_in, spot_at, limit_of, hunting, hunting_free}
-use Rattle.heap_rule.specs.Takes.{with_hunt, looked_to, NoneFree, OwnerMay, ListedTold, CursorTold, CursorAddTold, ListTold, OwnerTold, PlaceTold}
+use Rattle.steps_pools.specs.Takes.{with_hunt, looked_to, NoneFree, OwnerMay, ListedTold, CursorTold, CursorAddTold, ListTold, OwnerTold, PlaceTold}
 use Rattle.heap_rule.proofs.Classes.{some_block}
 use Rattle.size_pools.specs.Taken.{Hunted, DrewPool, Took, Missed, Passed, Lacks}
 

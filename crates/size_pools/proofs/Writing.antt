@@ -21,13 +21,13 @@ use Rattle.heap_rule.specs.declared.config.Config.{Config}
 use Rattle.heap_rule.specs.declared.view.DomainView.{DomainView}
 use Rattle.heap_rule.specs.declared.view.Hunt.{Hunt}
 use Rattle.heap_rule.specs.declared.view.Hunt.TheVariants.{Fills}
-use Rattle.heap_rule.specs.Inits.{next_label}
+use Rattle.heap_rule.specs.Token.{next_label}
 use Rattle.heap_rule.specs.Limits.{sizes_in}
 use Rattle.heap_rule.specs.Places.{HeadIs}
 use Rattle.heap_rule.specs.Pools.{size_of, hunting_free}
 use Rattle.heap_rule.specs.Running.{Runs, Did, own_entry}
 use Rattle.heap_rule.specs.Standing.{Acts}
-use Rattle.heap_rule.specs.Takes.{with_hunt, MajorMay, MajorEntry, MajorTold}
+use Rattle.steps_pools.specs.Takes.{with_hunt, MajorMay, MajorEntry, MajorTold}
 use Rattle.heap_rule.specs.Token.{Token, SharedHeap, IsIn}
 use Rattle.heap_rule.proofs.Calls.{acting_did}
 use Rattle.heap_rule.proofs.Classes.{slot_inside, size_is}

@@ -9,7 +9,7 @@ use Rattle.heap_rule.specs.declared.view.Hunt.TheVariants.{Rests, Draws, Fills}
 use Rattle.heap_rule.specs.Pools.{size_of, blocks_of, place_in, drawn_in, spot_at, hunting_free}
 use Rattle.heap_rule.specs.Token.{Token, SharedHeap, IsIn}
 use Rattle.heap_rule.specs.Standing.{Acts}
-use Rattle.heap_rule.specs.Takes.{HasNoDraw, NoneFree}
+use Rattle.steps_pools.specs.Takes.{HasNoDraw, NoneFree}
 
 -- all but what the domain knows of pools is as before
 abbrev pub Hunted : DomainView → DomainView → Hunt → Type 0

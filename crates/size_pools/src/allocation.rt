@@ -6,7 +6,7 @@ ghost use Rattle.heap_model.specs.declared.reply.Reply.TheVariants.{Block};
 ghost use Rattle.heap_words.specs.declared.value.Value.TheVariants.{Ref};
 ghost use Rattle.heap_rule.specs.declared.view.Hunt.TheVariants.{Rests, Fills};
 ghost use Rattle.heap_rule.specs.Running.{Runs, Did, own_entry};
-ghost use Rattle.heap_rule.specs.Takes.{NoneFree};
+ghost use Rattle.steps_pools.specs.Takes.{NoneFree};
 ghost use Rattle.heap_rule.specs.Token.{Holds, IsIn};
 ghost use Rattle.size_classes.specs.Table.{IsLeastFor};
 ghost use Rattle.size_classes.specs.declared.TheConstants.{SIZES};
@@ -15,9 +15,10 @@ ghost use Rattle.size_pools.specs.Taken.{Hunted, Reserved, IsBusy, IsRoom, Grows
 use crate::no_pool::NoPool;
 use crate::taking::take;
 use heap_model::label::Label;
-use heap_rule::{Change, Domain, Heap, Item, Part, fill_store, head_store};
+use heap_rule::{Change, Domain, Heap, Item, Part};
 use heap_words::{Head, Value, pack_head, pack_label, pack_value};
 use size_classes::heap_classes;
+use steps_pools::{fill_store, head_store};
 
 // The colour of a block that is allocated while no collection is under way: unmarked.
 const UNMARKED: u8 = 1;

@@ -6,16 +6,17 @@ ghost use Rattle.heap_rule.specs.declared.phase.Stage.TheVariants.{In};
 ghost use Rattle.heap_rule.specs.declared.view.Hunt.TheVariants.{Rests, Draws, Fills};
 ghost use Rattle.heap_rule.specs.Limits.{sizes_in};
 ghost use Rattle.heap_rule.specs.Pools.{blocks_of, limit_of};
-ghost use Rattle.heap_rule.specs.Takes.{HasNoDraw, NoneFree, with_hunt, looked_to};
+ghost use Rattle.steps_pools.specs.Takes.{HasNoDraw, NoneFree, with_hunt, looked_to};
 ghost use Rattle.heap_rule.specs.Token.{IsIn};
 ghost use Rattle.size_pools.specs.Taken.{Hunted, DrewPool, Reserved, Took};
 
 use crate::no_pool::NoPool;
-use heap_rule::{
-    Domain, Heap, class_blocks, clear_store, cursor_add, cursor_load, list_load, listed_load,
-    owner_store, owner_word, place_address,
-};
+use heap_rule::{Domain, Heap};
 use size_classes::reserve;
+use steps_pools::{
+    class_blocks, clear_store, cursor_add, cursor_load, list_load, listed_load, owner_store,
+    owner_word, place_address,
+};
 
 // The index of the first word of the list.
 const LIST: u32 = 11;

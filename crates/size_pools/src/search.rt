@@ -4,13 +4,12 @@ ghost use Rattle.heap_rule.specs.declared.phase.Kind.TheVariants.{Run};
 ghost use Rattle.heap_rule.specs.declared.phase.Stage.TheVariants.{In};
 ghost use Rattle.heap_rule.specs.declared.view.Hunt.TheVariants.{Walks};
 ghost use Rattle.heap_rule.specs.Pools.{blocks_of, spot_at};
-ghost use Rattle.heap_rule.specs.Takes.{HasNoDraw};
+ghost use Rattle.steps_pools.specs.Takes.{HasNoDraw};
 ghost use Rattle.heap_rule.specs.Token.{IsIn};
 ghost use Rattle.size_pools.specs.Taken.{Took, Passed, Lacks};
 
-use heap_rule::{
-    Domain, Heap, Spot, class_blocks, owner_load, owner_word, place_address, place_load,
-};
+use heap_rule::{Domain, Heap, Spot};
+use steps_pools::{class_blocks, owner_load, owner_word, place_address, place_load};
 
 // The index of the owner word of the first pool, less the number of pools.
 const OWNERS: u32 = 11;

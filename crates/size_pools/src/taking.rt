@@ -3,7 +3,7 @@ ghost use Rattle.std.specs.Prelude.{◌≡◌, ◌<◌, ◌≤◌, IfOk, IfErr, 
 ghost use Rattle.heap_rule.specs.declared.phase.Kind.TheVariants.{Run};
 ghost use Rattle.heap_rule.specs.declared.phase.Stage.TheVariants.{In};
 ghost use Rattle.heap_rule.specs.declared.view.Hunt.TheVariants.{Rests};
-ghost use Rattle.heap_rule.specs.Takes.{HasNoDraw, NoneFree};
+ghost use Rattle.steps_pools.specs.Takes.{HasNoDraw, NoneFree};
 ghost use Rattle.heap_rule.specs.Token.{IsIn};
 ghost use Rattle.size_pools.specs.Taken.{Hunted, Reserved, Took};
 

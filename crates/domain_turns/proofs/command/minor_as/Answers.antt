@@ -1,5 +1,5 @@
 use Rattle.std.proofs.Common.{ap}
-use Rattle.heap_rule.specs.Ticks.{tick_answer}
+use Rattle.steps_run.specs.Ticks.{tick_answer}
 use Rattle.field_access.proofs.Doing.{entered_did}
 use Rattle.domain_turns.proofs.command.minor_as.Goals as goal
 

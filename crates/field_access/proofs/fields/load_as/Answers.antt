@@ -1,11 +1,11 @@
 use Rattle.std.proofs.Common.{◌≡◌, ℕ, ◌≤◌, sym, ap, refl, subst, arith}
 use Rattle.heap_model.specs.declared.command.Command.TheVariants.{Load}
 use Rattle.heap_rule.specs.Running.{own_entry}
-use Rattle.heap_rule.specs.Loads.{place_of}
-use Rattle.heap_rule.specs.Ticks.{tick_answer}
+use Rattle.steps_run.specs.Loads.{place_of}
+use Rattle.steps_run.specs.Ticks.{tick_answer}
 use Rattle.field_access.proofs.Doing.{entered_did}
 use Rattle.heap_rule.specs.declared.view.DomainView.{DomainView}
-use Rattle.heap_rule.specs.Loads.{Measured}
+use Rattle.steps_run.specs.Loads.{Measured}
 use Rattle.field_access.proofs.FieldSteps.{field_known, load_may}
 use Rattle.field_access.proofs.FieldLoads.{load_did, loads_into, register_loaded}
 use Rattle.field_access.proofs.Looking.{ephemeron_found, past_found, measured_at}

@@ -1,6 +1,6 @@
 use Rattle.std.proofs.Common.{◌≡◌, ◌∙◌, sym, ap}
 use Rattle.heap_rule.specs.declared.config.Config.{Config}
-use Rattle.heap_rule.specs.Inits.{next_address}
+use Rattle.heap_rule.specs.Token.{next_address}
 use Rattle.minor_area.proofs.Allocating.{alloc_did}
 use Rattle.minor_area.proofs.allocation.write_block.Goals as goal
 

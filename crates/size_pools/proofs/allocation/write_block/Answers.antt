@@ -5,7 +5,7 @@ use Rattle.heap_words.specs.declared.value.Value.TheVariants.{Ref}
 use Rattle.heap_rule.specs.declared.change.Part.TheVariants.{Register}
 use Rattle.heap_rule.specs.declared.change.Change.TheVariants.{Set}
 use Rattle.heap_rule.specs.declared.view.Hunt.TheVariants.{Fills}
-use Rattle.heap_rule.specs.Takes.{with_hunt, MajorEntry}
+use Rattle.steps_pools.specs.Takes.{with_hunt, MajorEntry}
 use Rattle.size_pools.proofs.Writing.{room_inside, major_may, major_did}
 use Rattle.size_pools.proofs.allocation.write_block.Goals as goal
 

@@ -1,7 +1,7 @@
 use Rattle.std.proofs.Common.{◌≡◌, ◌∷◌, [], ℕ, replicate}
 use Rattle.heap_words.specs.Labels.{label_word}
 use Rattle.heap_rule.specs.declared.view.Hunt.TheVariants.{Fills}
-use Rattle.heap_rule.specs.Takes.{with_hunt}
+use Rattle.steps_pools.specs.Takes.{with_hunt}
 use Rattle.heap_rule.specs.Token.{IsIn}
 use Rattle.size_pools.proofs.allocation.write_block.Given as goal
 

@@ -1,6 +1,6 @@
 use Rattle.std.proofs.Common.{◌≡◌, ℕ}
 use Rattle.heap_rule.specs.declared.view.Hunt.TheVariants.{Draws}
-use Rattle.heap_rule.specs.Takes.{with_hunt}
+use Rattle.steps_pools.specs.Takes.{with_hunt}
 use Rattle.heap_rule.specs.Token.{IsIn}
 use Rattle.size_pools.proofs.draw.clear.Given as goal
 

@@ -1,5 +1,0 @@
-use Rattle.heap_rule.specs.Inits.{WordTold}
-use Rattle.heap_rule.proofs.steps.making.store_word.Given as goal
-
-abbrev pub ghosts-store_as : goal.ghosts-store_as
-ghosts-store_as a = record { tells = λ x _ y. WordTold a.new x y }

@@ -1,8 +1,0 @@
-use Rattle.heap_model.specs.declared.reply.Applied.TheVariants.{Replied}
-use Rattle.heap_model.specs.declared.reply.Reply.TheVariants.{Done}
-use Rattle.heap_words.specs.declared.value.Value.TheVariants.{Nothing}
-use Rattle.heap_rule.specs.Standing.{Entered}
-use Rattle.heap_rule.proofs.steps.storing.field_store.Given as goal
-
-abbrev pub ghosts-store_as : goal.ghosts-store_as
-ghosts-store_as g a = record { tells = λ x _ y. Entered a.table.now.key g.entry (Replied Done) Nothing a._changes.now x y }

@@ -1,0 +1,350 @@
+-- The making of a block in the own minor area keeps the rule.
+use Rattle.std.proofs.Common.{◌≡◌, ◌≢◌, ℕ, zero, suc, ◌+◌, ◌*◌, ◌^◌, ◌<◌, ◌≤◌, ◌⊎◌, false, ne_eqb, List, [], ◌∷◌, ◌++◌, length, get_or, set, replicate, slice_get, pos, Option, Some, None, sym, refl, ap, ◌∙◌, subst, inl, inr, ⊎_elim, arith, length-set, get_or-set_same, get_or-set_other, lt_of_not-le}
+use Rattle.std.proofs.lemmas.List.{length-replicate}
+use Rattle.std.proofs.lemmas.Int.{ints}
+use Rattle.std.proofs.lemmas.Bool.Decides.{nat_tests}
+use mathlib.Core.Logic.{dite}
+use native.Mathlib.Decide.{ℕ_discrete, dec_le}
+use mathlib.Core.Option.{some}
+use lib.ListN.{get_elem?}
+use Rattle.atomic_table.specs.Table.{keeps, Allows}
+use Rattle.heap_model.specs.declared.label.Label.{Label}
+use Rattle.heap_model.specs.declared.command.Command.TheVariants.{Alloc}
+use Rattle.heap_model.specs.declared.entry.Entry.{Entry}
+use Rattle.heap_model.specs.declared.entry.Entry.TheVariants.{Command}
+use Rattle.heap_model.specs.declared.reply.Applied.TheVariants.{Replied}
+use Rattle.heap_model.specs.declared.reply.Reply.TheVariants.{Block as BlockReply}
+use Rattle.heap_model.specs.declared.graph.Value as graph_value
+use Rattle.heap_model.specs.declared.graph.Value.TheVariants.{Int, Block, Nothing}
+use Rattle.heap_model.specs.declared.graph.Node.{Node}
+use Rattle.heap_model.specs.declared.state.State as model
+use Rattle.heap_model.specs.Graph.{Graph, node_at}
+use Rattle.heap_model.specs.Domains.{domain_at}
+use Rattle.heap_model.specs.Commands.{new_plain}
+use Rattle.heap_model.specs.Entries.{next}
+use Rattle.heap_model.specs.Fronts.{PlainShape}
+use Rattle.heap_model.proofs.Graphs.GraphLemmas.{node_at-append_old, node_at-append_new}
+use Rattle.heap_model.proofs.Histories.NumberLemmas.{next_label_after}
+use Rattle.heap_model.proofs.Commands.FrameLemmas.{calm_command}
+use Rattle.heap_model.proofs.Histories.FrontLemmas.{answers_push}
+use Rattle.heap_model.proofs.Commands.LeavesLemmas.{Leaves, leaves_alloc}
+use Rattle.heap_words.specs.declared.value.Value.{Value}
+use Rattle.heap_words.specs.declared.value.Value.TheVariants.{Int as IntWord, Ref, Nothing as NothingWord}
+use Rattle.heap_words.specs.Heads.{IsPackableHead}
+use Rattle.heap_words.specs.Labels.{label_word}
+use Rattle.heap_rule.specs.declared.change.Change.{Change}
+use Rattle.heap_rule.specs.declared.config.Config.{Config}
+use Rattle.heap_rule.specs.declared.view.DomainView.{DomainView}
+use Rattle.heap_rule.specs.Limits.{sizes_in}
+use Rattle.heap_rule.specs.Layout.{heap_words, before_heap, base_of, at_address, table_words}
+use Rattle.heap_rule.specs.Places.{Place, Live, extent, head_of, HeadIs, Stands, Found, Fits, Placed}
+use Rattle.heap_rule.specs.Changes.{value_at, changed, FitChanges}
+use Rattle.heap_rule.specs.Views.{one, Tells}
+use Rattle.heap_rule.specs.Raw.{MayStore}
+use Rattle.heap_rule.specs.Token.{next_address, next_label}
+use Rattle.heap_rule.specs.Rule.{state_of, AllFound, Stood, Area, Good, Rule}
+use Rattle.heap_rule.proofs.Lots.{Beside, area_beside, grid_beside, hunter_beside}
+use Rattle.steps_making.specs.Inits.{class_words, fields_of, WordMay, WordTold, AllocMay, AllocEntry, AllocTold}
+use Rattle.heap_rule.proofs.Lists.{got_end, got_below}
+use Rattle.heap_rule.proofs.Sizes.{area_below, area_inside}
+use Rattle.heap_rule.proofs.Values.{AllStand, stand_set, holds}
+use Rattle.heap_rule.proofs.Keeps.{Words, More, stands_more, mine, my_good, control_set, hunter_as, appends, writes, legal_entry}
+use Rattle.heap_rule.proofs.Entering.{running, inside_state, registers_stand}
+use Rattle.heap_rule.proofs.Beside.{found_beside, prepared_beside, area_word_far}
+use Rattle.heap_rule.proofs.Born.{zero_word, zero_values, all_more, live', born, more, old, is_new, placed_born}
+
+-- the blocks lie beside the free part of an area
+free_far : (k : Config) (live : Live) (x : DomainView) (at : ℕ) → Area k live x → base_of k x.own.number + x.own.used ≤ at → at < base_of k x.own.number + k.minor_words
+    → (b : ℕ) (q : Place) → live b ≡ Some q → (z : ℕ) → z < extent q.shape → b + z ≢ at
+free_far k live x at area low high b q lives z inside same =
+    let base : ℕ = base_of k x.own.number in
+    let used : ℕ = x.own.used in
+    let minor : ℕ = k.minor_words in
+    let n : ℕ = extent q.shape in
+    let l : base + used ≤ at = low in let h : at < base + minor = high in let i : z < n = inside in let e : b + z ≡ at = same in
+    ⊎_elim (λ (t : b + n ≤ base + used). omega arith) (λ (t : base + minor ≤ b). omega arith) (area.free b q lives)
+
+inits : (k : Config) (slots id word : ℕ) (hist : List Entry) (x : DomainView) (a new : ℕ) (changes : List Change) → word ≡ before_heap k + a → WordMay k x a changes
+    → Allows (Rule k) slots id (one k hist x, []) word (λ _. new) (λ _. Tells (λ y _ z. WordTold new y z) (one k hist x, []) new)
+inits k slots id word hist x a new changes place may s r _ at _ =
+    let m : ℕ = length x.seen.made in
+    let base : ℕ = base_of k x.own.number in
+    let used : ℕ = x.own.used in
+    let minor : ℕ = k.minor_words in
+    let room : used + m + 1 < minor = may.room in
+    let here : a ≡ base + used + 1 + m = may.word in
+    let g = my_good k s r id hist x at in
+    let low : base + used ≤ a = omega arith in
+    let high : a < base + minor = omega arith in
+    let ws : List ℕ = set s.words (before_heap k + a) new in
+    let y : DomainView = record x { seen = record x.seen { made = x.seen.made ++ new ∷ [] } } in
+    let inside : base + minor ≤ heap_words k + 1 = area_inside k x.own.number (mine k s r id hist x at).inside in
+    let wide : length s.words ≡ table_words k = r.whole.wide in
+    let spot : before_heap k + a < length s.words = (let w : ℕ = heap_words k in let b : ℕ = before_heap k in let l : length s.words ≡ 1 + b + w = wide in let i : base + minor ≤ w + 1 = inside in omega arith) in
+    let beside : (d : ℕ) → Beside k r.tenancy s.words d a = area_beside k r.tenancy s.words a new r.whole.pools (let p : ℕ = x.own.number * minor in let e : k.pools * 4096 < a = omega arith in e) in
+    let rule : Rule k record { words = ws; homes = s.homes; views = set s.views id (one k hist y) } = writes k s r id hist x at y ws record {
+      number = refl;
+      hunt = refl;
+      front = (mine k s r id hist x at).front;
+      still = λ p. g.still p;
+      stage = refl;
+      arrivals = refl;
+      wide = length-set s.words (before_heap k + a) new;
+      control = control_set k s.words a new (omega arith);
+      found = λ b q lives. let f = r.whole.found b q lives in found_beside k r.live r.live (state_of k r.log).graph (state_of k r.log).graph s.words a new b q (λ c o h. h) f f.there (free_far k r.live x a g.area low high b q lives);
+      stood = record { wide = g.stood.wide; each = g.stood.each; serial = g.stood.serial };
+      area = record { room = g.area.room; free = g.area.free };
+      prepared = record {
+        fits = λ j w got. ⊎_elim (λ (t : slice_get x.seen.made j ≡ Some w). g.prepared.fits j w t) (λ (t : (j ≡ m) × (new ≡ w)). let f = t.0 in let o : used + j + 1 < minor = omega arith in o) (got_end x.seen.made new w j got);
+        written = λ j w got. ⊎_elim
+            (λ (t : slice_get x.seen.made j ≡ Some w). let below = got_below x.seen.made j w t in get_or-set_other s.words (before_heap k + a) (before_heap k + (base + used + 1 + j)) new 0 (λ e. omega arith) ∙ g.prepared.written j w t)
+            (λ (t : (j ≡ m) × (new ≡ w)). ap (λ (i : ℕ). get_or ws (before_heap k + i) 0) (ap (λ (i : ℕ). base + used + 1 + i) t.0 ∙ sym here) ∙ (get_or-set_same s.words (before_heap k + a) new 0 spot ∙ t.1))
+            (got_end x.seen.made new w j got);
+      };
+      prepares = λ z other _ p. prepared_beside k s.words a new z (area_word_far k x.own.number a z (let o : base ≤ a = omega arith in o) high other) p;
+      grid = grid_beside k r.tenancy s.words a new r.live r.live r.whole.pools beside (λ b q h. h) (λ b q h _. h) r.whole.grid;
+      hunter = hunter_as k r.tenancy ws x y refl refl refl refl (hunter_beside k r.tenancy s.words a new r.whole.pools x (beside x.own.number) g.hunter);
+      hunters = λ z _ g. hunter_beside k r.tenancy s.words a new r.whole.pools z (beside z.own.number) g.hunter;
+    } in (
+      one k hist y,
+      keeps,
+      tt,
+      subst (λ (n : ℕ). Rule k record { words = set s.words n new; homes = s.homes; views = set s.views id (one k hist y) }) (sym place) rule,
+      (record { view = refl }, refl),
+    )
+
+pub word_may : (k : Config) (word : ℕ) (x : DomainView) (a new : ℕ) (changes : List Change) → word ≡ before_heap k + a → WordMay k x a changes → MayStore k x word new (λ y _ z. WordTold new y z)
+word_may k word x a new changes place may fits slots id h = inits k slots id word h x a new changes place may
+
+-- the class of a small block has room for it
+pub class_fits : (words : ℕ) → words ≤ 128 → words ≤ class_words words
+class_fits words few = grind (arith, nat_tests)
+
+module _ (k : Config) (s : Words) (r : Rule k s) (id : ℕ) (hist : List Entry) (x : DomainView) (at : get_elem? s.views id ≡ some (one k hist x)) (a new : ℕ) (changes : List Change) (dst tag n : ℕ)
+    (may : AllocMay k x a new changes x.own.number dst tag n) where
+  abbrev d : ℕ
+  d = x.own.number
+
+  abbrev now : model.State
+  now = state_of k r.log
+
+  abbrev A : ℕ
+  A = next_address k x
+
+  abbrev L : Label
+  L = next_label x
+
+  abbrev born_place : Place
+  born_place = record { label = L; shape = PlainShape n tag }
+
+  abbrev e : Entry
+  e = Command d (Alloc dst tag n) false
+
+  g : Good k r.log r.live r.pause r.tenancy s.words x
+  g = my_good k s r id hist x at
+
+  in_class : n + 2 ≤ class_words (n + 2)
+  in_class = class_fits (n + 2) (let f = may.few_fields in omega arith)
+
+  inside : base_of k d + k.minor_words ≤ heap_words k + 1
+  inside = area_inside k d (mine k s r id hist x at).inside
+
+  high : A + (n + 2) ≤ base_of k d + k.minor_words
+  high = let c : ℕ = class_words (n + 2) in let f : n + 2 ≤ c = in_class in let o : x.own.used + c ≤ k.minor_words = may.room in let b : ℕ = base_of k d in omega arith
+
+  away : (b : ℕ) (q : Place) → r.live b ≡ Some q → (b + extent q.shape ≤ A) ⊎ (A + (n + 2) ≤ b)
+  away b q lives = let m : ℕ = extent q.shape in let base : ℕ = base_of k d in let h : A + (n + 2) ≤ base + k.minor_words = high in
+      ⊎_elim (λ (t : b + m ≤ base + x.own.used). inl t) (λ (t : base + k.minor_words ≤ b). inr (let o : A + (n + 2) ≤ b = omega arith in o)) (g.area.free b q lives)
+
+  abbrev live1 : Live
+  live1 = live' k r.live A born_place (omega arith) away r.whole.placed
+
+  abbrev grown : Graph
+  grown = now.graph ++ (L, new_plain tag n) ∷ []
+
+  abbrev ws : List ℕ
+  ws = set s.words (before_heap k + A) new
+
+  -- what stands behind the head
+  made_at : (j w : ℕ) → slice_get (label_word d (x.own.serial + 1) ∷ replicate n zero_word) j ≡ Some w → at_address k s.words (A + 1 + j) ≡ w
+  made_at j w got = g.prepared.written j w (ap (λ (l : List ℕ). slice_get l j) may.made ∙ got)
+
+  -- the label is the one that the entry gives
+  label_is : L ≡ record { domain = d; serial = (domain_at now d).serial + 1 }
+  label_is = ap (λ (m : ℕ). record { domain = d; serial = m + 1 }) g.stood.serial
+
+  fresh : node_at now.graph L ≡ None
+  fresh = ap (node_at now.graph) label_is ∙ next_label_after (sizes_in k) r.log r.whole.legal d
+
+  fresh_label : (b : ℕ) (q : Place) → r.live b ≡ Some q → q.label ≢ L
+  fresh_label b q lives same = let f = r.whole.found b q lives in absurd (let clash : ◌≡◌ {A = Option Node} None (Some f.node) = sym fresh ∙ (ap (node_at now.graph) (sym same) ∙ f.there) in cc)
+
+  fits_born : Fits k A born_place
+  fits_born = record {
+    low = let y : ℕ = d * k.minor_words in let z : ℕ = k.pools * 4096 in let o : 1 ≤ z + y + 1 + x.own.used = omega arith in o;
+    high = let h = high in let i = inside in let b : ℕ = base_of k d in let w : ℕ = heap_words k in let p : b + k.minor_words ≤ w + 1 = i in let o : A + (n + 2) ≤ w + 1 = omega arith in o;
+    head = (may.some_field, (let f = may.few_fields in omega arith), may.tag_fits, omega arith);
+    label = ((let b = (mine k s r id hist x at).inside in let c = r.limits.domains in omega arith), may.serial);
+  }
+
+  grows : More r.live live1
+  grows = more k r.live A born_place (omega arith) away r.whole.placed
+
+  lives_now : live1 A ≡ Some born_place
+  lives_now = born k r.live A born_place (omega arith) away r.whole.placed
+
+  placed1 : Placed k live1
+  placed1 = placed_born k r.live A born_place (omega arith) away r.whole.placed fits_born fresh_label
+
+  spot : before_heap k + A < length s.words
+  spot = let h = high in let i = inside in let b : ℕ = base_of k d in let w : ℕ = heap_words k in let p : b + k.minor_words ≤ w + 1 = i in let c : ℕ = before_heap k in let l : length s.words ≡ 1 + c + w = r.whole.wide in omega arith
+
+  born_found : Found k live1 grown ws A born_place
+  born_found = record {
+    node = new_plain tag n;
+    there = node_at-append_new now.graph L (new_plain tag n) fresh;
+    shape = ap (λ (m : ℕ). PlainShape m tag) (length-replicate n (Int (pos 0)));
+    head = get_or-set_same s.words (before_heap k + A) new 0 spot ∙ may.head;
+    label = get_or-set_other s.words (before_heap k + A) (before_heap k + (A + 1)) new 0 (λ o. omega arith)
+        ∙ (ap (λ (i : ℕ). get_or s.words (before_heap k + i) 0) (let o : A + 1 ≡ A + 1 + 0 = omega arith in o) ∙ made_at 0 (label_word d (x.own.serial + 1)) refl);
+    values = λ i v got. let t = zero_values n i v got in record {
+      value = IntWord (pos 0);
+      packs = get_or-set_other s.words (before_heap k + A) (before_heap k + (A + 2 + i)) new 0 (λ o. omega arith)
+          ∙ (ap (λ (j : ℕ). get_or s.words (before_heap k + j) 0) (let o : A + 2 + i ≡ A + 1 + suc i = omega arith in o) ∙ made_at (suc i) zero_word t.1);
+      stands = subst (Stands live1 (IntWord (pos 0))) (sym t.0) (refl, (omega (arith, ints), omega (arith, ints)));
+    };
+  }
+
+  found1 : AllFound k live1 grown ws
+  found1 b q lives = dite (ℕ_discrete b A)
+      (λ same. subst (λ (y : ℕ × Place). Found k live1 grown ws y.0 y.1) (λ i. (sym same i, is_new k r.live A born_place (omega arith) away r.whole.placed b q same lives i)) born_found)
+      (λ other.
+      let before : r.live b ≡ Some q = old k r.live A born_place (omega arith) away r.whole.placed b q other lives in
+      let f = r.whole.found b q before in
+      found_beside k r.live live1 now.graph grown s.words A new b q grows f (node_at-append_old now.graph (L, new_plain tag n) q.label f.node f.there)
+      (free_far k r.live x A g.area (omega arith) (let h = high in let base : ℕ = base_of k d in omega arith) b q before))
+
+  abbrev regs : List Value
+  regs = changed NothingWord changes x.own.registers
+
+  abbrev after : DomainView
+  after = record {
+    own = record x.own { registers = regs; used = x.own.used + class_words (n + 2); serial = x.own.serial + 1 };
+    seen = record x.seen { front = r.log ++ e ∷ []; made = [] };
+  }
+
+  beside : (m : ℕ) → Beside k r.tenancy s.words m A
+  beside = area_beside k r.tenancy s.words A new r.whole.pools (let p : ℕ = d * k.minor_words in let q : k.pools * 4096 < A = omega arith in q)
+
+  abbrev theirs : List graph_value.Value
+  theirs = (domain_at now d).registers
+
+  leaves : Leaves now e d grown (set theirs dst (Block L)) ((domain_at now d).serial + 1) (Replied (BlockReply L))
+  leaves = subst (λ (l : Label). Leaves now e d (now.graph ++ (l, new_plain tag n) ∷ []) (set theirs dst (Block l)) ((domain_at now d).serial + 1) (Replied (BlockReply l))) (sym label_is)
+      (leaves_alloc now d (inside_state k s r id hist x at may.acts) dst tag n)
+
+  stand1 : AllStand live1 regs (set theirs dst (Block L))
+  stand1 = subst (λ (l : List Value). AllStand live1 l (set theirs dst (Block L))) (sym may.written)
+      (stand_set live1 x.own.registers theirs dst (Ref a) (Block L) may.goes (born_place, ap live1 may.word ∙ lives_now, refl) (all_more r.live live1 x.own.registers theirs grows (registers_stand k s r id hist x at may.acts)))
+
+  stood1 : Stood live1 (next now e) after
+  stood1 = record {
+    wide = stand1.wide;
+    each = λ q few. subst (λ (l : List graph_value.Value). Stands live1 (value_at regs q) (get_or l q Nothing)) (sym leaves.registers_are) (stand1.each q few);
+    serial = ap (λ (m : ℕ). m + 1) g.stood.serial ∙ sym leaves.serial_is;
+  }
+
+  area1 : Area k live1 after
+  area1 = record {
+    room = may.room;
+    free = λ b q lives. dite (ℕ_discrete b A)
+        (λ same. let size : n + 2 ≡ extent q.shape = ap (λ (z : Place). extent z.shape) (is_new k r.live A born_place (omega arith) away r.whole.placed b q same lives) in
+        let m : ℕ = extent q.shape in let c : ℕ = class_words (n + 2) in let f : n + 2 ≤ c = in_class in let base : ℕ = base_of k d in let z : n + 2 ≡ m = size in
+        inl (let o : b + m ≤ base + (x.own.used + c) = omega arith in o))
+        (λ other. let m : ℕ = extent q.shape in let c : ℕ = class_words (n + 2) in let base : ℕ = base_of k d in
+        ⊎_elim (λ (t : b + m ≤ base + x.own.used). inl (let o : b + m ≤ base + (x.own.used + c) = omega arith in o)) (λ (t : base + k.minor_words ≤ b). inr t)
+        (g.area.free b q (old k r.live A born_place (omega arith) away r.whole.placed b q other lives)));
+  }
+
+  areas1 : (z : DomainView) → z.own.number ≢ d → Area k r.live z → Area k live1 z
+  areas1 z differs has = record {
+    room = has.room;
+    free = λ b q lives. dite (ℕ_discrete b A)
+        (λ same. let size : n + 2 ≡ extent q.shape = ap (λ (y : Place). extent y.shape) (is_new k r.live A born_place (omega arith) away r.whole.placed b q same lives) in
+        let m : ℕ = extent q.shape in let h = high in let mine_base : ℕ = base_of k d in let base : ℕ = base_of k z.own.number in let i : ℕ = z.own.number in let minor : ℕ = k.minor_words in let o : n + 2 ≡ m = size in
+        let top : A + (n + 2) ≤ mine_base + minor = h in
+        dite (dec_le d i)
+        (λ le. inl (let f : mine_base + minor ≤ base = area_below k d i (let c : d ≤ i = le in let y : i ≢ d = differs in omega arith) in let y : b + m ≤ base + z.own.used = omega arith in y))
+        (λ gt. inr (let f : base + minor ≤ mine_base = area_below k i d (lt_of_not-le gt) in let y : base + minor ≤ b = omega arith in y)))
+        (λ other. has.free b q (old k r.live A born_place (omega arith) away r.whole.placed b q other lives));
+  }
+
+  alloc_rule : Rule k record { words = ws; homes = s.homes; views = set s.views id (one k hist after) }
+  alloc_rule = appends k s r id hist x at e after ws live1 record {
+    alone = λ m other. ne_eqb d m (λ o. other (sym o));
+    command = tt;
+    runs = may.acts.runs;
+    stage = refl;
+    allowed = record { running = running k s r id hist x at may.acts; fits = (r.whole.calm.mode, r.whole.calm.queues d); full_fits = tt };
+    calm = calm_command now d (Alloc dst tag n) false r.whole.calm;
+    number = refl;
+    front = refl;
+    arrivals = refl;
+    wide = length-set s.words (before_heap k + A) new;
+    control = control_set k s.words A new (fits_born.low);
+    found = subst (λ (z : Graph). AllFound k live1 z ws) (sym leaves.graph_is) found1;
+    placed = placed1;
+    more = grows;
+    stood = stood1;
+    area = area1;
+    prepared = record { fits = λ j w got. cc; written = λ j w got. cc };
+    areas = areas1;
+    prepares = λ z other _ p. prepared_beside k s.words A new z (area_word_far k d A z (omega arith) (let h = high in let base : ℕ = base_of k d in omega arith) other) p;
+    grid = grid_beside k r.tenancy s.words A new r.live live1 r.whole.pools beside grows
+        (λ b q lives low. old k r.live A born_place (omega arith) away r.whole.placed b q (λ same. let p : ℕ = d * k.minor_words in let l : b ≤ k.pools * 4096 = low in let h : b ≡ A = same in omega arith) lives) r.whole.grid;
+    hunter = hunter_as k r.tenancy ws x after refl refl refl refl (hunter_beside k r.tenancy s.words A new r.whole.pools x (beside d) g.hunter);
+    hunters = λ z _ g. hunter_beside k r.tenancy s.words A new r.whole.pools z (beside z.own.number) g.hunter;
+  }
+
+  alloc_told : AllocTold k e changes x after
+  alloc_told = record {
+    answers = answers_push (sizes_in k) d r.log x.seen.front e (Replied (BlockReply L)) (mine k s r id hist x at).front
+        (legal_entry k s r id hist x at e record { running = running k s r id hist x at may.acts; fits = (r.whole.calm.mode, r.whole.calm.queues d); full_fits = tt }) leaves.replies;
+    view = refl;
+    holds = holds k r.limits live1 placed1 (next now e) after stood1;
+  }
+
+allocs : (k : Config) (slots id word : ℕ) (hist : List Entry) (x : DomainView) (a new : ℕ) (changes : List Change) (dst tag n : ℕ) → word ≡ before_heap k + a → AllocMay k x a new changes x.own.number dst tag n
+    → Allows (Rule k) slots id (one k hist x, []) word (λ _. new) (λ _. Tells (λ y _ z. AllocTold k (Command x.own.number (Alloc dst tag n) false) changes y z) (one k hist x, []) new)
+allocs k slots id word hist x a new changes dst tag n place may s r _ at _ =
+    let y : DomainView = after k s r id hist x at a new changes dst tag n may in (
+      one k hist y,
+      keeps,
+      tt,
+      subst (λ (m : ℕ). Rule k record { words = set s.words m new; homes = s.homes; views = set s.views id (one k hist y) }) (sym (place ∙ ap (λ (m : ℕ). before_heap k + m) may.word)) (alloc_rule k s r id hist x at a new changes dst tag n may),
+      (alloc_told k s r id hist x at a new changes dst tag n may, refl),
+    )
+
+pub alloc_may : (k : Config) (word : ℕ) (x : DomainView) (a new : ℕ) (e : Entry) (changes : List Change) → word ≡ before_heap k + a → AllocEntry k x a new changes e → MayStore k x word new (λ y _ z. AllocTold k e changes y z)
+alloc_may k word x a new (Command j (Alloc dst tag n) false) changes place may fits slots id h =
+    subst (λ (q : ℕ). Allows (Rule k) slots id (one k h x, []) word (λ _. new) (λ _. Tells (λ y _ z. AllocTold k (Command q (Alloc dst tag n) false) changes y z) (one k h x, []) new)) (sym may.own)
+    (allocs k slots id word h x a new changes dst tag n place (subst (λ (i : ℕ). AllocMay k x a new changes i dst tag n) may.own may))
+alloc_may k word x a new _ changes place may fits slots id h = absurd may
+
+pub alloc_fits : (k : Config) (x : DomainView) (a new : ℕ) (changes : List Change) (e : Entry) → AllocEntry k x a new changes e → FitChanges changes
+alloc_fits k x a new changes (Command j (Alloc dst tag n) false) may = may.fits
+alloc_fits k x a new changes _ may = absurd may
+
+-- what the store of a head asks of its numbers
+pub record AllocFacts (k : Config) (x : DomainView) (new : ℕ) (e : Entry) : Type 0 where
+  pub tag : ℕ
+  pub packable : IsPackableHead (head_of (PlainShape (fields_of e) tag))
+  pub head : HeadIs (PlainShape (fields_of e) tag) new
+  pub few : fields_of e ≤ 126
+  pub room : x.own.used + class_words (fields_of e + 2) ≤ k.minor_words
+  pub serial : x.own.serial + 1 < 2 ^ 32
+
+pub alloc_facts : (k : Config) (x : DomainView) (a new : ℕ) (changes : List Change) (e : Entry) → AllocEntry k x a new changes e → AllocFacts k x new e
+alloc_facts k x a new changes (Command j (Alloc dst tag n) false) may =
+    record { tag = tag; packable = (may.some_field, (let f = may.few_fields in omega arith), may.tag_fits, omega arith); head = may.head; few = may.few_fields; room = may.room; serial = may.serial }
+alloc_facts k x a new changes _ may = absurd may

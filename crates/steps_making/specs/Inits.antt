@@ -1,0 +1,100 @@
+-- Stores of the words of a new block in the own minor area: its label and its fields first, and its head last.
+use Rattle.std.specs.Prelude.{◌≡◌, ◌≢◌, ℕ, ◌+◌, ◌^◌, ◌<◌, ◌≤◌, nat_le, false, List, [], ◌∷◌, ◌++◌, length, replicate, slice_set, if◌then◌else◌}
+use Rattle.size_classes.specs.declared.TheConstants.{SIZES}
+use Rattle.heap_model.specs.declared.command.Command.TheVariants.{Alloc}
+use Rattle.heap_model.specs.declared.entry.Entry.{Entry}
+use Rattle.heap_model.specs.declared.entry.Entry.TheVariants.{Command}
+use Rattle.heap_model.specs.declared.reply.Reply.TheVariants.{Block}
+use Rattle.heap_model.specs.declared.reply.Applied.TheVariants.{Replied}
+use Rattle.heap_model.specs.Fronts.{PlainShape, Answers}
+use Rattle.heap_words.specs.declared.head.Head.{Head}
+use Rattle.heap_words.specs.declared.head.Head.TheVariants.{Plain as PlainHead}
+use Rattle.heap_words.specs.declared.value.Value.TheVariants.{Ref, Nothing}
+use Rattle.heap_words.specs.Labels.{label_word}
+use Rattle.heap_rule.specs.declared.change.Change.{Change}
+use Rattle.heap_rule.specs.declared.config.Config.{Config}
+use Rattle.heap_rule.specs.declared.view.DomainView.{DomainView}
+use Rattle.heap_rule.specs.declared.view.Own.{Own}
+use Rattle.heap_rule.specs.Limits.{sizes_in}
+use Rattle.heap_rule.specs.Places.{HeadIs}
+use Rattle.heap_rule.specs.Changes.{changed, FitChanges}
+use Rattle.heap_rule.specs.Standing.{Acts, LeavesRegisters}
+use Rattle.heap_rule.specs.Token.{Holds, next_address, next_label}
+
+-- the words of the least class that has room for so many
+abbrev pub least_size : List ℕ → ℕ → ℕ
+least_size [] words = 0
+least_size (size ∷ sizes) words = if nat_le words size then size else least_size sizes words
+
+-- the words that a block with so many words of its own takes
+abbrev pub class_words : ℕ → ℕ
+class_words words = least_size SIZES words
+
+-- the fields of a plain block's head
+abbrev pub plain_size : Head → ℕ
+plain_size (PlainHead size tag colour scanned) = size
+plain_size _ = 0
+
+-- a word behind the head: the next one of the block that the domain makes
+pub record WordMay (k : Config) (x : DomainView) (at : ℕ) (changes : List Change) : Type 0 where
+  pub word : at ≡ next_address k x + 1 + length x.seen.made
+  pub room : x.own.used + length x.seen.made + 1 < k.minor_words
+  pub same : LeavesRegisters changes x
+  pub fits : FitChanges changes
+
+-- the word was written behind the others
+pub record WordTold (new : ℕ) (x y : DomainView) : Type 0 where
+  pub view : y ≡ record x { seen = record x.seen { made = x.seen.made ++ new ∷ [] } }
+
+-- the head: all other words are written, the label and so many zeros
+pub record AllocMay (k : Config) (x : DomainView) (at new : ℕ) (changes : List Change) (d dst tag fields : ℕ) : Type 0 where
+  pub own : d ≡ x.own.number
+  pub acts : Acts k x
+  pub word : at ≡ next_address k x
+  pub tag_fits : tag < 256
+  pub some_field : 1 ≤ fields
+  pub few_fields : fields ≤ 126
+  pub head : HeadIs (PlainShape fields tag) new
+  pub made : x.seen.made ≡ label_word x.own.number (x.own.serial + 1) ∷ replicate fields 1
+  pub room : x.own.used + class_words (fields + 2) ≤ k.minor_words
+  pub serial : x.own.serial + 1 < 2 ^ 32
+  pub goes : dst < 16
+  pub written : changed Nothing changes x.own.registers ≡ slice_set x.own.registers dst (Ref at)
+  pub fits : FitChanges changes
+
+-- the same of the entry that is told, an own allocation
+abbrev pub AllocEntry : Config → DomainView → ℕ → ℕ → List Change → Entry → Type 0
+AllocEntry k x at new changes (Command d (Alloc dst tag fields) false) = AllocMay k x at new changes d dst tag fields
+AllocEntry k x at new changes _ = ⊥
+
+-- the fields of an allocation
+abbrev pub fields_of : Entry → ℕ
+fields_of (Command d (Alloc dst tag fields) full) = fields
+fields_of _ = 0
+
+-- the block lives, and the entry of its allocation stands
+pub record AllocTold (k : Config) (e : Entry) (changes : List Change) (x y : DomainView) : Type 0 where
+  pub answers : Answers (sizes_in k) x.own.number x.seen.front y.seen.front e (Replied (Block (next_label x)))
+  pub view : y ≡ record {
+    own = record x.own { registers = changed Nothing changes x.own.registers; used = x.own.used + class_words (fields_of e + 2); serial = x.own.serial + 1 };
+    seen = record x.seen { front = y.seen.front; made = [] };
+  }
+  pub holds : Holds k y.own.registers
+
+-- an init store asks one or the other, by its word
+pub record InitMay (k : Config) (x : DomainView) (at new : ℕ) (changes : List Change) (e : Entry) : Type 0 where
+  pub behind : at ≢ next_address k x → WordMay k x at changes
+  pub head : at ≡ next_address k x → AllocEntry k x at new changes e
+
+-- and it tells one or the other
+pub record InitTold (k : Config) (at new : ℕ) (e : Entry) (changes : List Change) (x y : DomainView) : Type 0 where
+  pub behind : at ≢ next_address k x → WordTold new x y
+  pub head : at ≡ next_address k x → AllocTold k e changes x y
+
+-- a block of so many class words and its label can be counted
+abbrev pub CanCount : ℕ → List Change → Own → Type 0
+CanCount words changes own = FitChanges changes × (own.used + words < 2 ^ 32) × (own.serial + 1 < 2 ^ 32)
+
+-- and they are, after the changes
+abbrev pub Counts : ℕ → List Change → Own → Own → Type 0
+Counts words changes own after = after ≡ record own { registers = changed Nothing changes own.registers; used = own.used + words; serial = own.serial + 1 }

@@ -1,0 +1,122 @@
+-- The end of a trace keeps the rule.
+use Rattle.std.proofs.Common.{◌≡◌, ◌≢◌, ℕ, zero, suc, ◌+◌, ◌%◌, ◌^◌, ◌<◌, ◌≤◌, false, ne_eqb, List, [], ◌∷◌, ◌++◌, length, get_or, set, replicate, sym, refl, ap, ◌∙◌, subst, arith, length-set, get_or-set_same, get_or-set_other, mod-eq_of_lt}
+use Rattle.atomic_table.specs.Table.{Me, keeps, Allows}
+use Rattle.heap_model.specs.declared.entry.Entry.{Entry}
+use Rattle.heap_model.specs.declared.entry.Entry.TheVariants.{End}
+use Rattle.heap_model.specs.declared.reply.Applied.TheVariants.{Silent}
+use Rattle.heap_model.specs.declared.graph.Value as model_value
+use Rattle.heap_model.specs.declared.graph.Value.TheVariants.{Nothing}
+use Rattle.heap_model.specs.declared.state.DomainState.{DomainState}
+use Rattle.heap_model.specs.declared.state.State as model
+use Rattle.heap_model.specs.Graph.{Graph}
+use Rattle.heap_model.specs.Domains.{domain_at, no_domain}
+use Rattle.heap_model.specs.Entries.{next, ended}
+use Rattle.heap_model.specs.Fronts.{IsCalm}
+use Rattle.heap_model.proofs.Commands.FrameLemmas.{calm_end, keeps_next}
+use Rattle.heap_model.proofs.Commands.LeavesLemmas.{leaves_end}
+use Rattle.heap_words.specs.declared.value.Value.{Value}
+use Rattle.heap_words.specs.declared.value.Value.TheVariants.{Nothing as NothingWord}
+use Rattle.heap_rule.specs.declared.config.Config.{Config}
+use Rattle.heap_rule.specs.declared.view.DomainView.{DomainView}
+use Rattle.heap_rule.specs.declared.view.View.{View}
+use Rattle.heap_rule.specs.Layout.{heap_words, before_heap, ended_word}
+use Rattle.heap_rule.specs.Places.{Stands}
+use Rattle.heap_rule.specs.Changes.{value_at}
+use Rattle.heap_rule.specs.Phases.{sum_of, is_over, flag}
+use Rattle.steps_pauses.specs.Pauses.{end_changes, EndTold}
+use Rattle.heap_rule.specs.Raw.{MayStep}
+use Rattle.heap_rule.specs.Rule.{state_of, AllFound, Stood, Rule}
+use Rattle.heap_rule.specs.Standing.{Acts}
+use Rattle.heap_rule.specs.Views.{one, Tells}
+use Rattle.heap_rule.proofs.Values.{AllStand}
+use Rattle.heap_rule.proofs.Keeps.{mine, my_good, remakes, knows_entry, after_entry, legal_entry, phases_words, stood_other, nobody_paused, run_still, staged_as, hunter_as}
+use Rattle.heap_rule.proofs.Controls.{Untouched, found_untouched, prepared_untouched, pools_untouched, grid_untouched, hunter_untouched, cycle_untouched, sum_one}
+use Rattle.heap_rule.proofs.Entering.{running, inside_state, registers_stand, Enters, entered_view, stood_after, enters}
+use Rattle.steps_pauses.proofs.PauseSteps.{over_few}
+
+ends : (k : Config) (slots id : ℕ) (hist : List Entry) (x : DomainView) → Acts k x
+    → Allows (Rule k) slots id (one k hist x, []) 8 (λ n. (n + 1) % 2 ^ 64) (Tells (EndTold k) (one k hist x, []))
+ends k slots id hist x acts s r _ at _ =
+    let d : ℕ = x.own.number in
+    let e : Entry = End d in
+    let now : model.State = state_of k r.log in
+    let log' : List Entry = r.log ++ e ∷ [] in
+    let g = my_good k s r id hist x at in
+    let me = mine k s r id hist x at in
+    let w : ℕ = ended_word s.words in
+    let ws : List ℕ = set s.words 8 (w + 1) in
+    let regs : List Value = replicate 16 NothingWord in
+    let stand = registers_stand k s r id hist x at acts in
+    let inside : d < length now.domains = inside_state k s r id hist x at acts in
+    let goes : (domain_at now d).ended ≡ false = running k s r id hist x at acts in
+    let theirs : List model_value.Value = (domain_at now d).registers in
+    let o : Enters k s r id hist x at acts e regs Silent = record {
+      alone = λ i other. ne_eqb d i (λ q. other (sym q));
+      allowed = record { mode = r.whole.calm.mode; running = goes; queue = r.whole.calm.queues d };
+      calm = calm_end now d r.whole.calm;
+      theirs = replicate (length theirs) Nothing;
+      stand = nothings r.live (length theirs) stand.long;
+      leaves = leaves_end now d inside;
+    } in
+    let y : DomainView = entered_view k s r id hist x at acts e regs in
+    let after : state_of k log' ≡ next now e = after_entry k s r id hist x at e in
+    let untouched : Untouched s.words ws = (length-set s.words 8 (w + 1), (λ i low other. get_or-set_other s.words 8 i (w + 1) 0 (λ q. omega arith))) in
+    let few : w ≤ k.domains = over_few k s r in
+    let wrap : (w + 1) % 2 ^ 64 ≡ w + 1 = mod-eq_of_lt (let f = r.limits.domains in omega arith) in
+    let word' : ended_word ws ≡ w + 1 = get_or-set_same s.words 8 (w + 1) 0 (let h : ℕ = heap_words k in let p : ℕ = before_heap k in let q : 10 ≤ p = omega arith in let l : length s.words ≡ 1 + p + h = r.whole.wide in omega arith) in
+    let own_over : is_over (next now e) d ≡ is_over now d + 1 =
+    ap (λ (z : DomainState). flag z.ended) (get_or-set_same now.domains d (ended (domain_at now d)) no_domain inside) ∙ sym (ap (λ b. flag b + 1) goes) in
+    let others_over : (j : ℕ) → j ≢ d → is_over (next now e) j ≡ is_over now j = (λ j other. ap flag (keeps_next now e j (o.alone j other)).ended) in
+    let counts : ended_word ws ≡ sum_of (is_over (state_of k log')) k.domains =
+    word' ∙ (ap (λ (n : ℕ). n + 1) r.whole.endings ∙ (sym (sum_one (is_over now) (is_over (next now e)) d k.domains me.inside own_over others_over) ∙ sym (ap (λ (t : model.State). sum_of (is_over t) k.domains) after))) in
+    let prep = prepared_untouched k s.words ws x untouched g.prepared in
+    let rule : Rule k record { words = ws; homes = s.homes; views = set s.views id (one k hist y) } = remakes k s r id hist x at y log' ws r.live r.pause r.tenancy
+    record {
+      wide = untouched.0 ∙ r.whole.wide;
+      legal = legal_entry k s r id hist x at e o.allowed;
+      calm = subst IsCalm (sym after) o.calm;
+      found = subst (λ (t : model.State). AllFound k r.live t.graph ws) (sym after) (subst (λ (graph : Graph). AllFound k r.live graph ws) (sym o.leaves.graph_is) (found_untouched k r.live now.graph s.words ws untouched r.whole.found));
+      placed = r.whole.placed;
+      phases = phases_words k r.pause s.words ws (get_or-set_other s.words 8 1 (w + 1) 0 (λ q. omega arith)) (get_or-set_other s.words 8 2 (w + 1) 0 (λ q. omega arith)) r.whole.phases;
+      endings = counts;
+      pools = pools_untouched k r.tenancy s.words ws untouched r.whole.pools;
+      grid = grid_untouched k r.tenancy.holder r.live s.words ws untouched r.whole.grid;
+      drawers = r.whole.drawers;
+      cycle = cycle_untouched s.words ws untouched r.whole.cycle;
+    }
+    (knows_entry k s r id hist x at y e o.alone refl refl)
+    record {
+      stood = subst (λ (t : model.State). Stood r.live t y) (sym after) (stood_after k s r id hist x at acts now.graph e regs Silent y refl refl refl o);
+      area = record { room = g.area.room; free = g.area.free };
+      prepared = record { fits = prep.fits; written = prep.written };
+      staged = staged_as r.pause x y refl refl refl g.staged;
+      still = run_still log' y acts.runs;
+      hunter = hunter_as k r.tenancy ws x y refl refl refl refl (hunter_untouched k r.tenancy s.words ws x untouched g.hunter);
+      resting = λ n. absurd (n acts.runs);
+    }
+    (λ z _ other h. record {
+      stood = subst (λ (t : model.State). Stood r.live t z) (sym after) (stood_other r.live r.live now (next now e) z (keeps_next now e z.own.number (o.alone z.own.number other)) (λ a p q. q) h.stood);
+      area = h.area;
+      prepared = prepared_untouched k s.words ws z untouched h.prepared;
+      staged = h.staged;
+      still = λ paused. absurd (nobody_paused r.pause x z acts.runs g.staged h.staged paused);
+      hunter = hunter_untouched k r.tenancy s.words ws z untouched h.hunter;
+      resting = h.resting;
+    }) in (
+      one k hist y,
+      keeps,
+      tt,
+      subst (λ (n : ℕ). Rule k record { words = set s.words 8 n; homes = s.homes; views = set s.views id (one k hist y) }) (sym wrap) rule,
+      (enters k s r id hist x at acts now.graph e Silent NothingWord end_changes o, refl),
+    )
+  where
+    nothing : (live : _) (n q : ℕ) → Stands live (value_at (replicate n NothingWord) q) (get_or (replicate n Nothing) q Nothing)
+    nothing live zero q = tt
+    nothing live (suc n) zero = tt
+    nothing live (suc n) (suc q) = nothing live n q
+
+    nothings : (live : _) (n : ℕ) → n ≡ 16 → AllStand live (replicate 16 NothingWord) (replicate n Nothing)
+    nothings live n e = subst (λ (m : ℕ). AllStand live (replicate 16 NothingWord) (replicate m Nothing)) (sym e) record { wide = refl; long = refl; each = λ q few. nothing live 16 q }
+
+pub end_may : (k : Config) (x : DomainView) → Acts k x → MayStep k x 8 (λ n. (n + 1) % 2 ^ 64) (EndTold k)
+end_may k x acts fits slots id h = ends k slots id h x acts

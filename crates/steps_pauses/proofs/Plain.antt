@@ -1,0 +1,37 @@
+-- What the steps of a pause tell of a token's own data.
+use Rattle.std.proofs.Common.{◌≡◌, ◌+◌, ◌*◌, ◌^◌, ◌<◌, lit<, ℕ, refl, sym, ap, ◌∙◌, subst, arith, lt_of_not-le}
+use mathlib.Core.Logic.{dite}
+use native.Mathlib.Decide.{dec_le}
+use Rattle.heap_model.specs.declared.entry.Entry.TheVariants.{End}
+use Rattle.heap_model.specs.declared.reply.Applied.TheVariants.{Silent}
+use Rattle.heap_words.specs.declared.value.Value.{Value}
+use Rattle.heap_words.specs.declared.value.Value.TheVariants.{Nothing}
+use Rattle.heap_rule.specs.declared.change.Reading.TheVariants.{Unread}
+use Rattle.heap_rule.specs.declared.config.Config.{Config}
+use Rattle.heap_rule.specs.declared.view.Own.{Own}
+use Rattle.heap_rule.specs.declared.view.DomainView.{DomainView}
+use Rattle.heap_rule.specs.Raw.{CanChange, Changes, Closes}
+use Rattle.heap_rule.specs.Token.{OwnFits}
+use Rattle.heap_rule.proofs.Plain.{entered_closes}
+use Rattle.steps_pauses.specs.Pauses.{ArriveMay, Arrived, LookTold, CanArrive, CountsArrival, EndTold, end_changes}
+
+-- a look at the barrier leaves the token's own data
+pub look_own : (k : Config) (x : DomainView) (found : ℕ) (y : DomainView) → LookTold k x found y → y.own ≡ x.own
+look_own k x found y told = dite (dec_le (x.own.arrivals * k.domains) found)
+    (λ past. ap (λ (z : DomainView). z.own) (told.begun past).view)
+    (λ not_past. ap (λ (z : DomainView). z.own) (told.waits (lt_of_not-le not_past)))
+
+-- an arrival is counted
+pub arrived_closes : (k : Config) (x : DomainView) (found : ℕ) → ArriveMay x → Closes k x found Arrived CanArrive CountsArrival
+arrived_closes k x found may y fits told =
+    let own : y.own ≡ record x.own { arrivals = x.own.arrivals + 1 } = ap (λ (z : DomainView). z.own) told in
+    let n : ℕ = x.own.arrivals in
+    let few : n < 2 ^ 60 = may.few in record {
+      can_write = let g : n + 1 < 2 ^ 64 = omega arith in g;
+      written = λ after is. own ∙ sym is;
+      fits = subst (OwnFits k) (sym own) record { number = fits.number; used = fits.used; registers = fits.registers; looked = fits.looked };
+    }
+
+-- the end of a trace empties the registers
+pub end_closes : (k : Config) (x : DomainView) (found : ℕ) → Closes k x found (EndTold k) (λ own. CanChange Unread found end_changes) (λ own after. Changes Unread found end_changes own after)
+end_closes k x found y fits told = entered_closes k x found (End x.own.number) Silent end_changes (lit< tt, tt) y fits told

@@ -1,0 +1,13 @@
+use Rattle.std.proofs.Common.{ap}
+use Rattle.heap_rule.specs.declared.view.DomainView.{DomainView}
+use Rattle.heap_rule.proofs.Closes.{leaves_closes}
+use Rattle.steps_pauses.specs.Pauses.{LeadTold}
+use Rattle.heap_rule.specs.Phases.{kind_at}
+use Rattle.steps_pauses.proofs.PauseSteps.{lead_may}
+use Rattle.steps_pauses.proofs.pausing.plan_store.Goals as goal
+
+pub store_as-requires-clause-may : goal.store_as-requires-clause-may
+store_as-requires-clause-may c = lead_may c.args.heap.now.config c.args.dom.now.view c.args.new (kind_at c.args.new) c.requires.may
+
+pub store_as-requires-clause-closes : goal.store_as-requires-clause-closes
+store_as-requires-clause-closes c = leaves_closes c.args.heap.now.config c.args.dom.now.view c.args.new (LeadTold (kind_at c.args.new)) (λ y told. ap (λ (z : DomainView). z.own) told)

@@ -1,0 +1,121 @@
+-- What the steps of a pause ask and tell.
+use Rattle.std.specs.Prelude.{◌≡◌, ◌≢◌, ℕ, ◌+◌, ◌*◌, ◌^◌, ◌<◌, ◌≤◌, ◌⊎◌, List, [], ◌∷◌, ◌++◌}
+use Rattle.heap_model.specs.declared.entry.Entry.TheVariants.{End}
+use Rattle.heap_model.specs.declared.reply.Applied.TheVariants.{Silent}
+use Rattle.heap_model.specs.History.{Legal}
+use Rattle.heap_model.specs.Fronts.{IsFrontOf}
+use Rattle.heap_words.specs.declared.value.Value.TheVariants.{Nothing}
+use Rattle.heap_rule.specs.declared.change.Change.{Change}
+use Rattle.heap_rule.specs.declared.change.Change.TheVariants.{Clear}
+use Rattle.heap_rule.specs.declared.change.Part.TheVariants.{Register}
+use Rattle.heap_rule.specs.declared.config.Config.{Config}
+use Rattle.heap_rule.specs.declared.view.DomainView.{DomainView}
+use Rattle.heap_rule.specs.declared.view.Own.{Own}
+use Rattle.heap_rule.specs.declared.phase.Kind.{Kind}
+use Rattle.heap_rule.specs.declared.phase.Stage.{Stage}
+use Rattle.heap_rule.specs.declared.phase.Stage.TheVariants.{In, Leads, Led, Gone}
+use Rattle.heap_rule.specs.declared.phase.Note.{Note}
+use Rattle.heap_rule.specs.declared.phase.Note.TheVariants.{Want, Asked, Barrier, Ended, Cleared}
+use Rattle.heap_rule.specs.declared.view.Hunt.TheVariants.{Rests}
+use Rattle.heap_rule.specs.Limits.{sizes_in}
+use Rattle.heap_rule.specs.Phases.{code, Follows, IsEven, IsOdd}
+use Rattle.heap_rule.specs.Standing.{Entered}
+
+-- the domain with one note more, and all else as it was
+abbrev pub noted : DomainView → Note → DomainView
+noted x note = record x { seen = record x.seen { notes = x.seen.notes ++ note ∷ [] } }
+
+-- the kind that a stage names
+abbrev pub kind_in : Stage → Kind
+kind_in (In kind) = kind
+kind_in (Leads kind) = kind
+kind_in (Led kind) = kind
+kind_in (Gone kind) = kind
+
+-- the domain has arrived, and the next phase isn't known to have begun
+abbrev pub IsGone : DomainView → Type 0
+IsGone x = x.seen.stage ≡ Gone (kind_in x.seen.stage)
+
+-- a load of the want word
+abbrev pub WantTold : DomainView → ℕ → DomainView → Type 0
+WantTold x found y = y ≡ noted x (Want found)
+
+-- bits of the want word are set
+abbrev pub AskTold : ℕ → DomainView → ℕ → DomainView → Type 0
+AskTold bits x found y = y ≡ noted x (Asked bits)
+
+-- from where a domain may arrive. Domain 0 leaves an odd phase when it has named the next kind
+abbrev pub ArrivesFrom : ℕ → Stage → Type 0
+ArrivesFrom d (In kind) = Unit {0}
+ArrivesFrom d (Leads kind) = d ≢ 0
+ArrivesFrom d (Led kind) = Unit {0}
+ArrivesFrom d (Gone kind) = ⊥
+
+pub record ArriveMay (x : DomainView) : Type 0 where
+  pub at_rest : x.seen.hunt ≡ Rests
+  pub from : ArrivesFrom x.own.number x.seen.stage
+  pub few : x.own.arrivals < 2 ^ 60
+
+-- the domain has arrived
+abbrev pub arrived_view : DomainView → DomainView
+arrived_view x = record { own = record x.own { arrivals = x.own.arrivals + 1 }; seen = record x.seen { stage = Gone (kind_in x.seen.stage) } }
+
+abbrev pub Arrived : DomainView → ℕ → DomainView → Type 0
+Arrived x found y = y ≡ arrived_view x
+
+-- one more arrival can be counted, and it is
+abbrev pub CanArrive : Own → Type 0
+CanArrive own = own.arrivals + 1 < 2 ^ 64
+
+abbrev pub CountsArrival : Own → Own → Type 0
+CountsArrival own after = after ≡ record own { arrivals = own.arrivals + 1 }
+
+-- the phase has begun: the front is the whole history so far
+pub record Begun (k : Config) (x : DomainView) (found : ℕ) (y : DomainView) : Type 0 where
+  pub seen : IsFrontOf x.own.number y.seen.front x.seen.front
+  pub legal : Legal (sizes_in k) y.seen.front
+  pub kind : Kind
+  pub stage : ((y.seen.stage ≡ In kind) × IsEven x.own.arrivals) ⊎ ((y.seen.stage ≡ Leads (kind_in x.seen.stage)) × IsOdd x.own.arrivals)
+  pub view : y ≡ record x { seen = record x.seen { front = y.seen.front; stage = y.seen.stage; notes = x.seen.notes ++ Barrier found ∷ [] } }
+
+-- a load of the barrier word by a domain that has arrived
+pub record LookTold (k : Config) (x : DomainView) (found : ℕ) (y : DomainView) : Type 0 where
+  pub waits : found < x.own.arrivals * k.domains → y ≡ noted x (Barrier found)
+  pub begun : x.own.arrivals * k.domains ≤ found → Begun k x found y
+
+-- a load of the plan word
+pub record PlanTold (x : DomainView) (found : ℕ) (y : DomainView) : Type 0 where
+  pub view : y ≡ x
+  pub told : (kind : Kind) → x.seen.stage ≡ In kind → found ≡ code kind
+
+-- domain 0 takes the wishes back, in an odd phase before it names the next kind
+pub record ClearMay (x : DomainView) : Type 0 where
+  pub leads : x.own.number ≡ 0
+  pub last : Kind
+  pub stage : x.seen.stage ≡ Leads last
+
+abbrev pub ClearTold : DomainView → ℕ → DomainView → Type 0
+ClearTold x found y = y ≡ noted x Cleared
+
+-- domain 0 names the next kind in an odd phase, once
+pub record LeadMay (x : DomainView) (new : ℕ) (next : Kind) : Type 0 where
+  pub leads : x.own.number ≡ 0
+  pub last : Kind
+  pub stage : x.seen.stage ≡ Leads last
+  pub follows : Follows last next
+  pub word : new ≡ code next
+
+abbrev pub LeadTold : Kind → DomainView → ℕ → DomainView → Type 0
+LeadTold next x found y = y ≡ record x { seen = record x.seen { stage = Led next } }
+
+-- what the end of a trace changes: the registers hold nothing
+abbrev pub end_changes : List Change
+end_changes = Clear Register ∷ []
+
+-- the trace of the domain ends
+abbrev pub EndTold : Config → DomainView → ℕ → DomainView → Type 0
+EndTold k x found y = Entered k (End x.own.number) Silent Nothing end_changes x y
+
+-- a load of the ended word
+abbrev pub EndedTold : Config → DomainView → ℕ → DomainView → Type 0
+EndedTold k x found y = (y ≡ noted x (Ended found)) × (found ≤ k.domains)

@@ -1,0 +1,126 @@
+//! The steps of a pause, and the end of a trace.
+ghost use Rattle.std.specs.Prelude.{◌≡◌, ◌+◌};
+ghost use Rattle.heap_rule.specs.declared.phase.Kind.TheVariants.{Run};
+ghost use Rattle.heap_rule.specs.declared.phase.Stage.TheVariants.{In};
+ghost use Rattle.heap_rule.specs.Phases.{kind_at};
+ghost use Rattle.steps_pauses.specs.Pauses.{IsGone, ArriveMay, ClearMay, LeadMay, WantTold, AskTold, Arrived, LookTold, PlanTold, ClearTold, LeadTold, EndTold, EndedTold};
+ghost use Rattle.heap_rule.specs.Standing.{Acts};
+ghost use Rattle.heap_rule.specs.Token.{IsIn};
+
+use heap_rule::{
+    BARRIER, Change, Changing, Domain, ENDED, Heap, Leaving, Own, PLAN, Part, Reading, WANT, Writing,
+    add_as, load_as, or_as, store_as,
+};
+use std::marker::Brand;
+
+/// A load of the want word, at which no entry stands. Answers the word.
+pub fn want_load(heap: &Heap, dom: &mut Domain) -> u64
+    requires here { IsIn dom.old heap.now }
+    ensures here { IsIn dom.new heap.now }
+    ensures told { WantTold dom.old.view result dom.new.view }
+{
+    load_as::<Brand, Leaving>(heap, dom, WANT, &Leaving, &[])
+}
+
+/// A running domain sets bits of the want word. Answers the word as it was.
+pub fn ask(heap: &Heap, dom: &mut Domain, bits: u64) -> u64
+    requires here { IsIn dom.old heap.now }
+    requires runs { dom.old.view.seen.stage ≡ In Run }
+    ensures here { IsIn dom.new heap.now }
+    ensures told { AskTold bits dom.old.view result dom.new.view }
+{
+    or_as::<Brand, Leaving>(heap, dom, WANT, bits, &Leaving, &[])
+}
+
+// The arrival is counted.
+#[derive(Clone, Copy)]
+struct Arriving;
+
+impl Writing for Arriving {
+    ghost use Rattle.steps_pauses.specs.Pauses.{CanArrive, CountsArrival};
+
+    ghost can = { λ _ _ _ own. CanArrive own };
+
+    ghost writes = { λ _ _ _ own after. CountsArrival own after };
+
+    fn write(&self, _found: u64, _changes: &[Change], own: &mut Own) {
+        own.arrivals += 1;
+    }
+}
+
+/// The domain arrives. Answers the barrier word as it was.
+pub fn arrive(heap: &Heap, dom: &mut Domain) -> u64
+    requires here { IsIn dom.old heap.now }
+    requires may { ArriveMay dom.old.view }
+    ensures here { IsIn dom.new heap.now }
+    ensures told { Arrived dom.old.view result dom.new.view }
+{
+    add_as::<Brand, Arriving>(heap, dom, BARRIER, 1, &Arriving, &[])
+}
+
+/// A load of the barrier word by a domain that has arrived. Answers the word: where it isn't below the
+/// domain's arrivals times the number of domains, the next phase has begun.
+pub fn look(heap: &Heap, dom: &mut Domain) -> u64
+    requires here { IsIn dom.old heap.now }
+    requires gone { IsGone dom.old.view }
+    ensures here { IsIn dom.new heap.now }
+    ensures told { LookTold heap.now.config dom.old.view result dom.new.view }
+{
+    load_as::<Brand, Leaving>(heap, dom, BARRIER, &Leaving, &[])
+}
+
+/// A load of the plan word, which is the kind of the phase that the domain is in.
+pub fn plan_load(heap: &Heap, dom: &mut Domain) -> u64
+    requires here { IsIn dom.old heap.now }
+    ensures here { IsIn dom.new heap.now }
+    ensures told { PlanTold dom.old.view result dom.new.view }
+{
+    load_as::<Brand, Leaving>(heap, dom, PLAN, &Leaving, &[])
+}
+
+/// Domain 0 writes 0 into the want word, in an odd phase.
+pub fn want_clear(heap: &Heap, dom: &mut Domain)
+    requires here { IsIn dom.old heap.now }
+    requires may { ClearMay dom.old.view }
+    ensures here { IsIn dom.new heap.now }
+    ensures told { ClearTold dom.old.view 0 dom.new.view }
+{
+    store_as::<Brand, Leaving>(heap, dom, WANT, 0, &Leaving, &[]);
+}
+
+/// Domain 0 names the kind of the next phase, in an odd phase: `new` is its word.
+pub fn plan_store(heap: &Heap, dom: &mut Domain, new: u64)
+    requires here { IsIn dom.old heap.now }
+    requires may { LeadMay dom.old.view new (kind_at new) }
+    ensures here { IsIn dom.new heap.now }
+    ensures told { LeadTold (kind_at new) dom.old.view new dom.new.view }
+{
+    store_as::<Brand, Leaving>(heap, dom, PLAN, new, &Leaving, &[]);
+}
+
+/// The end of a trace: the ended word rises by one, and the entry of the end stands there. The
+/// registers hold nothing then. Answers how many traces had ended before.
+pub fn ended_add(heap: &Heap, dom: &mut Domain) -> u64
+    requires here { IsIn dom.old heap.now }
+    requires acts { Acts heap.now.config dom.old.view }
+    ensures here { IsIn dom.new heap.now }
+    ensures told { EndTold heap.now.config dom.old.view result dom.new.view }
+{
+    let writing = Changing {
+        at: 0,
+        reading: Reading::Unread,
+    };
+    let changes = [Change::Clear {
+        part: Part::Register,
+    }];
+    add_as::<Brand, Changing>(heap, dom, ENDED, 1, &writing, &changes)
+}
+
+/// A load of the ended word. Answers how many traces have ended.
+pub fn ended_load(heap: &Heap, dom: &mut Domain) -> u64
+    requires here { IsIn dom.old heap.now }
+    ensures here { IsIn dom.new heap.now }
+    ensures told { EndedTold heap.now.config dom.old.view result dom.new.view }
+{
+    load_as::<Brand, Leaving>(heap, dom, ENDED, &Leaving, &[])
+}

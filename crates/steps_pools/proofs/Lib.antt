@@ -1,0 +1,5 @@
+pub mod Plain
+pub mod DrawSteps
+pub mod WalkSteps
+pub mod TakeSteps
+pub mod MajorSteps

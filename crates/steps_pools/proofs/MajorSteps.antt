@@ -1,0 +1,332 @@
+-- The making of a block at a free place of an own pool keeps the rule.
+use Rattle.std.proofs.Common.{◌≡◌, ◌≢◌, ℕ, suc, ◌+◌, ◌*◌, ◌^◌, ◌<◌, ◌≤◌, ◌⊎◌, false, ne_eqb, List, [], ◌∷◌, ◌++◌, length, get_or, set, replicate, slice_get, pos, Option, Some, None, sym, refl, ap, ◌∙◌, subst, inl, inr, ⊎_elim, arith, length-set, get_or-set_same}
+use Rattle.std.proofs.lemmas.List.{length-replicate}
+use Rattle.std.proofs.lemmas.Int.{ints}
+use mathlib.Core.Logic.{dite}
+use native.Mathlib.Decide.{ℕ_discrete}
+use mathlib.Core.Option.{some}
+use lib.ListN.{get_elem?}
+use Rattle.atomic_table.specs.Table.{Me, keeps, Allows}
+use Rattle.heap_model.specs.declared.label.Label.{Label}
+use Rattle.heap_model.specs.declared.command.Command.TheVariants.{AllocMaj}
+use Rattle.heap_model.specs.declared.entry.Entry.{Entry}
+use Rattle.heap_model.specs.declared.entry.Entry.TheVariants.{Command}
+use Rattle.heap_model.specs.declared.reply.Applied.TheVariants.{Replied}
+use Rattle.heap_model.specs.declared.reply.Reply.TheVariants.{Block as BlockReply}
+use Rattle.heap_model.specs.declared.graph.Value as graph_value
+use Rattle.heap_model.specs.declared.graph.Value.TheVariants.{Int, Block, Nothing}
+use Rattle.heap_model.specs.declared.graph.Node.{Node}
+use Rattle.heap_model.specs.declared.state.State as model
+use Rattle.heap_model.specs.Graph.{Graph, node_at}
+use Rattle.heap_model.specs.Domains.{domain_at}
+use Rattle.heap_model.specs.Commands.{new_plain}
+use Rattle.heap_model.specs.Entries.{next}
+use Rattle.heap_model.specs.Fronts.{PlainShape}
+use Rattle.heap_model.proofs.Graphs.GraphLemmas.{node_at-append_old, node_at-append_new}
+use Rattle.heap_model.proofs.Histories.NumberLemmas.{next_label_after}
+use Rattle.heap_model.proofs.Commands.FrameLemmas.{calm_command}
+use Rattle.heap_model.proofs.Histories.FrontLemmas.{answers_push}
+use Rattle.heap_model.proofs.Commands.LeavesLemmas.{Leaves, leaves_alloc}
+use Rattle.heap_words.specs.declared.value.Value.{Value}
+use Rattle.heap_words.specs.declared.value.Value.TheVariants.{Int as IntWord, Ref, Nothing as NothingWord}
+use Rattle.heap_words.specs.Labels.{label_word}
+use Rattle.heap_rule.specs.declared.change.Change.{Change}
+use Rattle.heap_rule.specs.declared.config.Config.{Config}
+use Rattle.heap_rule.specs.declared.view.DomainView.{DomainView}
+use Rattle.heap_rule.specs.declared.view.Hunt.TheVariants.{Rests}
+use Rattle.heap_rule.specs.declared.view.View.{View}
+use Rattle.heap_rule.specs.Limits.{sizes_in}
+use Rattle.heap_rule.specs.Layout.{before_heap, at_address, table_words}
+use Rattle.heap_rule.specs.Places.{Place, Live, extent, Found, Fits, Placed, Stands}
+use Rattle.heap_rule.specs.Changes.{value_at, changed, FitChanges}
+use Rattle.heap_rule.specs.Views.{one, Tells}
+use Rattle.heap_rule.specs.Raw.{MayStore}
+use Rattle.heap_rule.specs.Rule.{state_of, AllFound, Stood, Area, Prepared, Good, Rule}
+use Rattle.heap_rule.specs.Pools.{Grid, Lot, Hunter, Filling, drawn_in, place_in, size_of}
+use Rattle.heap_rule.specs.Token.{next_label}
+use Rattle.steps_pools.specs.Takes.{MajorMay, MajorEntry, MajorTold}
+use Rattle.heap_rule.proofs.Values.{AllStand, stand_set, holds}
+use Rattle.heap_rule.proofs.Keeps.{Words, More, mine, my_good, control_set, appends, legal_entry}
+use Rattle.heap_rule.proofs.Entering.{running, inside_state, registers_stand}
+use Rattle.heap_rule.proofs.Beside.{found_beside, prepared_beside}
+use Rattle.heap_rule.proofs.Born.{zero_word, zero_values, all_more, live', born, more, old, is_new, placed_born}
+use Rattle.heap_rule.proofs.Lots.{hunter_beside, stays, head_some}
+use Rattle.heap_rule.proofs.Holders.{free_later}
+use Rattle.steps_pools.proofs.WalkSteps.{filling, live_far, others_beside, equal_le, lot_top}
+
+-- an allocation in the major heap leaves what a young one leaves
+leaves_major : (s : model.State) (d : ℕ) → d < length s.domains → (dst tag fields : ℕ) → let l : Label = record { domain = d; serial = (domain_at s d).serial + 1 } in
+    Leaves s (Command d (AllocMaj dst tag fields) false) d (s.graph ++ (l, new_plain tag fields) ∷ []) (set (domain_at s d).registers dst (Block l)) ((domain_at s d).serial + 1) (Replied (BlockReply l))
+leaves_major s d inside dst tag fields = let l = leaves_alloc s d inside dst tag fields in record { graph_is = l.graph_is; registers_are = l.registers_are; serial_is = l.serial_is; replies = l.replies }
+
+module _ (k : Config) (s : Words) (r : Rule k s) (id : ℕ) (hist : List Entry) (x : DomainView) (at : get_elem? s.views id ≡ some (one k hist x)) (a new : ℕ) (changes : List Change) (dst tag n : ℕ)
+    (may : MajorMay k x a new changes x.own.number dst tag n) where
+  abbrev pool : ℕ
+  pool = may.pool
+
+  abbrev class : ℕ
+  class = may.class
+
+  abbrev slot : ℕ
+  slot = may.slot
+
+  abbrev d : ℕ
+  d = x.own.number
+
+  abbrev now : model.State
+  now = state_of k r.log
+
+  abbrev A : ℕ
+  A = place_in pool class slot
+
+  abbrev L : Label
+  L = next_label x
+
+  abbrev born_place : Place
+  born_place = record { label = L; shape = PlainShape n tag }
+
+  abbrev e : Entry
+  e = Command d (AllocMaj dst tag n) false
+
+  abbrev words_made : List ℕ
+  words_made = label_word d (x.own.serial + 1) ∷ replicate n zero_word
+
+  g : Good k r.log r.live r.pause r.tenancy s.words x
+  g = my_good k s r id hist x at
+
+  F : Filling k r.tenancy.holder s.words d pool class slot words_made
+  F = filling k s r id hist x at may.acts.runs pool class slot new words_made may.hunt
+
+  made_long : length words_made ≡ n + 1
+  made_long = let l = length-replicate n zero_word in omega arith
+
+  in_class : n + 2 ≤ size_of class
+  in_class = let f : length words_made < size_of class = F.fits in let l = made_long in let y : ℕ = size_of class in let v : ℕ = length words_made in let u : v ≡ n + 1 = l in let w : v < y = f in let o : n + 2 ≤ y = omega arith in o
+
+  pool_in : pool < k.pools
+  pool_in = (r.whole.pools.owned_by pool d class F.own_is).0
+
+  lot : slot * size_of class + size_of class ≤ 4096
+  lot = lot_top k s r id hist x at may.acts.runs pool class slot new words_made may.hunt
+
+  low : pool * 4096 < A
+  low = omega arith
+
+  high : A + (n + 2) ≤ pool * 4096 + 4096 + 1
+  high = let y : ℕ = size_of class in let w : ℕ = slot * size_of class in let t : w + y ≤ 4096 = lot in let c : n + 2 ≤ y = in_class in let o : pool * 4096 + w + 1 + (n + 2) ≤ pool * 4096 + 4096 + 1 = omega arith in o
+
+  in_pools : A + (n + 2) ≤ k.pools * 4096 + 1
+  in_pools = let h = high in let p = pool_in in let b : ℕ = A in let t : b + (n + 2) ≤ pool * 4096 + 4096 + 1 = h in let o : b + (n + 2) ≤ k.pools * 4096 + 1 = omega arith in o
+
+  away : (b : ℕ) (q : Place) → r.live b ≡ Some q → (b + extent q.shape ≤ A) ⊎ (A + (n + 2) ≤ b)
+  away b q lives = let m : ℕ = extent q.shape in let y : ℕ = size_of class in let c : n + 2 ≤ y = in_class in let p : ℕ = A in
+      ⊎_elim (λ (t : b + m ≤ p). inl t) (λ (t : p + y ≤ b). inr (let o : p + (n + 2) ≤ b = omega arith in o)) (live_far k s r id hist x at may.acts.runs pool class slot new words_made may.hunt b q lives)
+
+  abbrev live1 : Live
+  live1 = live' k r.live A born_place (omega arith) away r.whole.placed
+
+  abbrev grown : Graph
+  grown = now.graph ++ (L, new_plain tag n) ∷ []
+
+  abbrev ws : List ℕ
+  ws = set s.words (before_heap k + A) new
+
+  made_at : (j w : ℕ) → slice_get words_made j ≡ Some w → at_address k s.words (A + 1 + j) ≡ w
+  made_at j w got = F.written j w got
+
+  label_is : L ≡ record { domain = d; serial = (domain_at now d).serial + 1 }
+  label_is = ap (λ (m : ℕ). record { domain = d; serial = m + 1 }) g.stood.serial
+
+  fresh : node_at now.graph L ≡ None
+  fresh = ap (node_at now.graph) label_is ∙ next_label_after (sizes_in k) r.log r.whole.legal d
+
+  fresh_label : (b : ℕ) (q : Place) → r.live b ≡ Some q → q.label ≢ L
+  fresh_label b q lives same = let f = r.whole.found b q lives in absurd (let clash : ◌≡◌ {A = Option Node} None (Some f.node) = sym fresh ∙ (ap (node_at now.graph) (sym same) ∙ f.there) in cc)
+
+  fits_born : Fits k A born_place
+  fits_born = record {
+    low = omega arith;
+    high = let h = in_pools in let b : ℕ = A in let t : b + (n + 2) ≤ k.pools * 4096 + 1 = h in let w : ℕ = k.domains * k.minor_words in let o : b + (n + 2) ≤ k.pools * 4096 + w + 1 = omega arith in o;
+    head = (may.some_field, (let f = may.few_fields in omega arith), may.tag_fits, omega arith);
+    label = ((let b = (mine k s r id hist x at).inside in let c = r.limits.domains in omega arith), may.serial);
+  }
+
+  grows : More r.live live1
+  grows = more k r.live A born_place (omega arith) away r.whole.placed
+
+  lives_now : live1 A ≡ Some born_place
+  lives_now = born k r.live A born_place (omega arith) away r.whole.placed
+
+  before : (b : ℕ) (q : Place) → b ≢ A → live1 b ≡ Some q → r.live b ≡ Some q
+  before b q other lives = old k r.live A born_place (omega arith) away r.whole.placed b q other lives
+
+  is_born : (b : ℕ) (q : Place) → b ≡ A → live1 b ≡ Some q → born_place ≡ q
+  is_born b q same lives = is_new k r.live A born_place (omega arith) away r.whole.placed b q same lives
+
+  placed1 : Placed k live1
+  placed1 = placed_born k r.live A born_place (omega arith) away r.whole.placed fits_born fresh_label
+
+  spot : before_heap k + A < length s.words
+  spot = let h = in_pools in let b : ℕ = A in let t : b + (n + 2) ≤ k.pools * 4096 + 1 = h in let w : ℕ = k.domains * k.minor_words in let wide : length s.words ≡ table_words k = r.whole.wide in let o : before_heap k + b < length s.words = omega arith in o
+
+  born_found : Found k live1 grown ws A born_place
+  born_found = record {
+    node = new_plain tag n;
+    there = node_at-append_new now.graph L (new_plain tag n) fresh;
+    shape = ap (λ (m : ℕ). PlainShape m tag) (length-replicate n (Int (pos 0)));
+    head = get_or-set_same s.words (before_heap k + A) new 0 spot ∙ may.head;
+    label = stays k r.tenancy s.words A new (A + 1) (λ o. omega arith)
+        ∙ (ap (at_address k s.words) (let o : A + 1 ≡ A + 1 + 0 = omega arith in o) ∙ made_at 0 (label_word d (x.own.serial + 1)) refl);
+    values = λ i v got. let t = zero_values n i v got in record {
+      value = IntWord (pos 0);
+      packs = stays k r.tenancy s.words A new (A + 2 + i) (λ o. omega arith)
+          ∙ (ap (at_address k s.words) (let o : A + 2 + i ≡ A + 1 + suc i = omega arith in o) ∙ made_at (suc i) zero_word t.1);
+      stands = subst (Stands live1 (IntWord (pos 0))) (sym t.0) (refl, (omega (arith, ints), omega (arith, ints)));
+    };
+  }
+
+  -- a word of a live block isn't the head
+  far : (b : ℕ) (q : Place) → r.live b ≡ Some q → (z : ℕ) → z < extent q.shape → b + z ≢ A
+  far b q lives z inside same = let m : ℕ = extent q.shape in let p : ℕ = A in let i : z < m = inside in let o : b + z ≡ p = same in
+      ⊎_elim (λ (t : b + m ≤ p). omega arith) (λ (t : p + (n + 2) ≤ b). omega arith) (away b q lives)
+
+  found1 : AllFound k live1 grown ws
+  found1 b q lives = dite (ℕ_discrete b A)
+      (λ same. subst (λ (y : ℕ × Place). Found k live1 grown ws y.0 y.1) (λ i. (sym same i, is_born b q same lives i)) born_found)
+      (λ other.
+      let f = r.whole.found b q (before b q other lives) in
+      found_beside k r.live live1 now.graph grown s.words A new b q grows f (node_at-append_old now.graph (L, new_plain tag n) q.label f.node f.there) (far b q (before b q other lives)))
+
+  abbrev regs : List Value
+  regs = changed NothingWord changes x.own.registers
+
+  abbrev after : DomainView
+  after = record {
+    own = record x.own { registers = regs; serial = x.own.serial + 1 };
+    seen = record x.seen { front = r.log ++ e ∷ []; hunt = Rests };
+  }
+
+  abbrev theirs : List graph_value.Value
+  theirs = (domain_at now d).registers
+
+  leaves : Leaves now e d grown (set theirs dst (Block L)) ((domain_at now d).serial + 1) (Replied (BlockReply L))
+  leaves = subst (λ (l : Label). Leaves now e d (now.graph ++ (l, new_plain tag n) ∷ []) (set theirs dst (Block l)) ((domain_at now d).serial + 1) (Replied (BlockReply l))) (sym label_is)
+      (leaves_major now d (inside_state k s r id hist x at may.acts) dst tag n)
+
+  stand1 : AllStand live1 regs (set theirs dst (Block L))
+  stand1 = subst (λ (l : List Value). AllStand live1 l (set theirs dst (Block L))) (sym may.written)
+      (stand_set live1 x.own.registers theirs dst (Ref a) (Block L) may.goes (born_place, ap live1 may.word ∙ lives_now, refl) (all_more r.live live1 x.own.registers theirs grows (registers_stand k s r id hist x at may.acts)))
+
+  stood1 : Stood live1 (next now e) after
+  stood1 = record {
+    wide = stand1.wide;
+    each = λ q few. subst (λ (l : List graph_value.Value). Stands live1 (value_at regs q) (get_or l q Nothing)) (sym leaves.registers_are) (stand1.each q few);
+    serial = ap (λ (m : ℕ). m + 1) g.stood.serial ∙ sym leaves.serial_is;
+  }
+
+  -- the block lies below every minor area
+  areas1 : (z : DomainView) → Area k r.live z → Area k live1 z
+  areas1 z has = record {
+    room = has.room;
+    free = λ b q lives. dite (ℕ_discrete b A)
+        (λ same. let size : n + 2 ≡ extent q.shape = ap (λ (y : Place). extent y.shape) (is_born b q same lives) in
+        let m : ℕ = extent q.shape in let p : ℕ = A in let h : p + (n + 2) ≤ k.pools * 4096 + 1 = in_pools in let y : ℕ = z.own.number * k.minor_words in let o : n + 2 ≡ m = size in let c : b ≡ p = same in
+        inl (let f : b + m ≤ k.pools * 4096 + y + 1 + z.own.used = omega arith in f))
+        (λ other. has.free b q (before b q other lives));
+  }
+
+  -- the block's place in its pool
+  lot_of : Lot r.tenancy.holder A born_place
+  lot_of = record { pool = pool; domain = d; class = class; slot = slot; owned_is = F.own_is; inside = F.inside; begins = refl; fits = in_class }
+
+  grid1 : Grid k r.tenancy.holder live1 ws
+  grid1 = record {
+    lots = λ b q lives under. dite (ℕ_discrete b A)
+        (λ same. subst (λ (y : ℕ × Place). Lot r.tenancy.holder y.0 y.1) (λ i. (sym same i, is_born b q same lives i)) lot_of)
+        (λ other. r.whole.grid.lots b q (before b q other lives) under);
+    places = λ q m c i owned_is below. dite (ℕ_discrete (place_in q c i) A)
+        (λ same. inr (born_place, ap live1 same ∙ lives_now))
+        (λ other. ⊎_elim
+        (λ (z : at_address k s.words (place_in q c i) ≡ 0). inl (stays k r.tenancy s.words A new (place_in q c i) other ∙ z))
+        (λ (z : (p : Place) × (r.live (place_in q c i) ≡ Some p)). inr (z.0, grows (place_in q c i) z.0 z.1)) (r.whole.grid.places q m c i owned_is below));
+  }
+
+  in_pool : A ≤ pool * 4096 + 4096
+  in_pool = let h = high in let p : ℕ = A in let t : p + (n + 2) ≤ pool * 4096 + 4096 + 1 = h in let o : p ≤ pool * 4096 + 4096 = omega arith in o
+
+  -- the new head isn't Free
+  head_new : at_address k ws A ≢ 0
+  head_new z = let h : at_address k ws A ≡ new = get_or-set_same s.words (before_heap k + A) new 0 spot in
+      absurd (head_some (PlainShape n tag) (sym may.head ∙ (sym h ∙ z)))
+
+  hunter1 : Hunter k r.tenancy ws after
+  hunter1 = record {
+    hunt = tt;
+    free = λ f e. free_later k s.words ws (control_set k s.words A new fits_born.low 6 (omega arith)) (equal_le (control_set k s.words A new fits_born.low 7 (omega arith))) f (g.hunter.free f e);
+    drawn_alone = λ q m. sym (ap drawn_in may.hunt) ∙ g.hunter.drawn_alone q m;
+    taken = λ q c i owned_is below seen z. dite (ℕ_discrete (place_in q c i) A)
+        (λ same. head_new (ap (at_address k ws) (sym same) ∙ z))
+        (λ other. g.hunter.taken q c i owned_is below seen (sym (stays k r.tenancy s.words A new (place_in q c i) other) ∙ z));
+  }
+
+  major_rule : Rule k record { words = ws; homes = s.homes; views = set s.views id (one k hist after) }
+  major_rule = appends k s r id hist x at e after ws live1 record {
+    alone = λ m other. ne_eqb d m (λ o. other (sym o));
+    allowed = record { running = running k s r id hist x at may.acts; fits = (r.whole.calm.mode, r.whole.calm.queues d); full_fits = tt };
+    calm = calm_command now d (AllocMaj dst tag n) false r.whole.calm;
+    command = tt;
+    runs = may.acts.runs;
+    stage = refl;
+    number = refl;
+    front = refl;
+    arrivals = refl;
+    wide = length-set s.words (before_heap k + A) new;
+    control = control_set k s.words A new fits_born.low;
+    found = subst (λ (z : Graph). AllFound k live1 z ws) (sym leaves.graph_is) found1;
+    placed = placed1;
+    more = grows;
+    stood = stood1;
+    area = let p = areas1 x g.area in record { room = p.room; free = p.free };
+    prepared = let p = prepares x g.prepared in record { fits = p.fits; written = p.written };
+    areas = λ z _ p. areas1 z p;
+    prepares = λ z _ _ p. prepares z p;
+    grid = grid1;
+    hunter = hunter1;
+    hunters = λ z other g. hunter_beside k r.tenancy s.words A new r.whole.pools z (others_beside k s r id hist x at may.acts.runs pool class slot new words_made may.hunt z other A low in_pool) g.hunter;
+  } where
+    prepares : (z : DomainView) → Prepared k s.words z → Prepared k ws z
+    prepares z p = prepared_beside k s.words A new z (λ j fits m. let h : A ≤ pool * 4096 + 4096 = in_pool in let i = pool_in in let y : ℕ = z.own.number * k.minor_words in let b : ℕ = A in let same : k.pools * 4096 + y + 1 + z.own.used + 1 + j ≡ b = m in omega arith) p
+
+  major_told : MajorTold k e changes x after
+  major_told = record {
+    answers = answers_push (sizes_in k) d r.log x.seen.front e (Replied (BlockReply L)) (mine k s r id hist x at).front
+        (legal_entry k s r id hist x at e record { running = running k s r id hist x at may.acts; fits = (r.whole.calm.mode, r.whole.calm.queues d); full_fits = tt }) leaves.replies;
+    view = refl;
+    holds = holds k r.limits live1 placed1 (next now e) after stood1;
+  }
+
+majors : (k : Config) (slots id word : ℕ) (hist : List Entry) (x : DomainView) (a new : ℕ) (changes : List Change) (dst tag n : ℕ) → word ≡ before_heap k + a → MajorMay k x a new changes x.own.number dst tag n
+    → Allows (Rule k) slots id (one k hist x, []) word (λ _. new) (λ _. Tells (λ y _ z. MajorTold k (Command x.own.number (AllocMaj dst tag n) false) changes y z) (one k hist x, []) new)
+majors k slots id word hist x a new changes dst tag n place may s r _ at _ =
+    let y : DomainView = after k s r id hist x at a new changes dst tag n may in (
+      one k hist y,
+      keeps,
+      tt,
+      subst (λ (m : ℕ). Rule k record { words = set s.words m new; homes = s.homes; views = set s.views id (one k hist y) }) (sym (place ∙ ap (λ (m : ℕ). before_heap k + m) may.word)) (major_rule k s r id hist x at a new changes dst tag n may),
+      (major_told k s r id hist x at a new changes dst tag n may, refl),
+    )
+
+pub major_may : (k : Config) (word : ℕ) (x : DomainView) (a new : ℕ) (e : Entry) (changes : List Change) → word ≡ before_heap k + a → MajorEntry k x a new changes e
+    → MayStore k x word new (λ y _ z. MajorTold k e changes y z)
+major_may k word x a new (Command j (AllocMaj dst tag n) false) changes place may fits slots id h =
+    subst (λ (i : ℕ). Allows (Rule k) slots id (one k h x, []) word (λ _. new) (λ _. Tells (λ y _ z. MajorTold k (Command i (AllocMaj dst tag n) false) changes y z) (one k h x, []) new)) (sym may.own)
+    (majors k slots id word h x a new changes dst tag n place (subst (λ (i : ℕ). MajorMay k x a new changes i dst tag n) may.own may))
+major_may k word x a new _ changes place may fits slots id h = absurd may
+
+pub major_fits : (k : Config) (x : DomainView) (a new : ℕ) (changes : List Change) (e : Entry) → MajorEntry k x a new changes e → FitChanges changes
+major_fits k x a new changes (Command j (AllocMaj dst tag n) false) may = may.fits
+major_fits k x a new changes _ may = absurd may
+
+pub major_serial : (k : Config) (x : DomainView) (a new : ℕ) (changes : List Change) (e : Entry) → MajorEntry k x a new changes e → x.own.serial + 1 < 2 ^ 32
+major_serial k x a new changes (Command j (AllocMaj dst tag n) false) may = may.serial
+major_serial k x a new changes _ may = absurd may

@@ -1,0 +1,98 @@
+-- What the steps on pools tell of a token's own data.
+use Rattle.std.proofs.Common.{◌≡◌, ◌≢◌, ◌+◌, ◌^◌, ◌<◌, ◌≤◌, ℕ, List, set, refl, sym, ap, ◌∙◌, subst, arith, lt_of_not-le, length-set, get_or-set_same, get_or-set_other}
+use mathlib.Core.Logic.{dite}
+use native.Mathlib.Decide.{dec_le, ℕ_discrete}
+use Rattle.heap_model.specs.Domains.{IsWithinLimits}
+use Rattle.heap_model.specs.declared.entry.Entry.{Entry}
+use Rattle.heap_rule.specs.declared.change.Change.{Change}
+use Rattle.heap_rule.specs.declared.config.Config.{Config}
+use Rattle.heap_rule.specs.declared.view.Own.{Own}
+use Rattle.heap_rule.specs.declared.view.DomainView.{DomainView}
+use Rattle.heap_rule.specs.declared.view.Spot.{Spot}
+use Rattle.heap_rule.specs.Changes.{FitChanges}
+use Rattle.heap_rule.specs.Limits.{sizes_in}
+use Rattle.heap_rule.specs.Pools.{blocks_of, owned, owner_word, limit_of, spot_at}
+use Rattle.heap_rule.specs.Raw.{Closes}
+use Rattle.heap_rule.specs.Token.{Holds, LooksWithin, OwnFits}
+use Rattle.heap_rule.proofs.Classes.{some_block}
+use Rattle.steps_pools.specs.Takes.{CursorTold, CursorAddTold, OwnedTold, OwnerTold, PlaceTold, MajorTold}
+use Rattle.steps_pools.specs.Writes.{looking, CanLook, LooksFrom, PassesPool, PassesPlace, CanLabel, Labels}
+
+-- loads and adds of the cursor leave the token's own data
+pub cursor_own : (k : Config) (count : ℕ) (x : DomainView) (found : ℕ) (y : DomainView) → CursorTold k count x found y → y.own ≡ x.own
+cursor_own k count x found y told = dite (dec_le (limit_of k count) found)
+    (λ past. ap (λ (z : DomainView). z.own) (told.past past))
+    (λ not_past. ap (λ (z : DomainView). z.own) (told.below (lt_of_not-le not_past)))
+
+pub cursor_add_own : (k : Config) (count class : ℕ) (x : DomainView) (found : ℕ) (y : DomainView) → CursorAddTold k count class x found y → y.own ≡ x.own
+cursor_add_own k count class x found y told = dite (dec_le (limit_of k count) found)
+    (λ past. ap (λ (z : DomainView). z.own) (told.past past))
+    (λ not_past. ap (λ (z : DomainView). z.own) (told.below (lt_of_not-le not_past)).view)
+
+-- the places looked at, one of them further on
+looks_set : (k : Config) (own : Own) (class : ℕ) (spot : Spot) → LooksWithin k own.looked → spot.pool ≤ k.pools → spot.slot < blocks_of class → LooksWithin k (set own.looked class spot)
+looks_set k own class spot l low small = record {
+  wide = length-set own.looked class spot ∙ l.wide;
+  within = λ c few. dite (ℕ_discrete c class)
+      (λ same. let is : spot_at (set own.looked class spot) c ≡ spot = ap (λ (m : ℕ). spot_at (set own.looked class spot) m) same ∙ get_or-set_same own.looked class spot (record { pool = 0; slot = 0 }) (let w = l.wide in omega arith) in
+      subst (λ (z : Spot). (z.pool ≤ k.pools) × (z.slot < blocks_of c)) (sym is) (low, subst (λ (n : ℕ). spot.slot < blocks_of n) (sym same) small))
+      (λ other. subst (λ (z : Spot). (z.pool ≤ k.pools) × (z.slot < blocks_of c)) (sym (get_or-set_other own.looked class c spot (record { pool = 0; slot = 0 }) other)) (l.within c few));
+}
+
+-- and the token's own data fits again
+looking_fits : (k : Config) (x y : DomainView) (class : ℕ) (spot : Spot) → OwnFits k x.own → y.own ≡ looking x.own class spot → spot.pool ≤ k.pools → spot.slot < blocks_of class → OwnFits k y.own
+looking_fits k x y class spot fits is low small = subst (OwnFits k) (sym is) record { number = fits.number; used = fits.used; registers = fits.registers; looked = looks_set k x.own class spot fits.looked low small }
+
+-- the pools are few
+few_pools : (k : Config) (pool : ℕ) → IsWithinLimits (sizes_in k) → pool < k.pools → pool < 2048
+few_pools k pool limits inside = let all = limits.pools in let p : ℕ = k.pools in let i : pool < p = inside in omega arith
+
+pub owned_closes : (k : Config) (x : DomainView) (new pool class : ℕ) → pool < k.pools → class < 6 → IsWithinLimits (sizes_in k) → Closes k x new (OwnedTold pool class) (λ _. CanLook pool class) (LooksFrom pool class)
+owned_closes k x new pool class inside few limits y fits told =
+    let own = ap (λ (z : DomainView). z.own) told in record {
+      can_write = (few_pools k pool limits inside, few);
+      written = λ after is. own ∙ sym is;
+      fits = looking_fits k x y class (record { pool = pool; slot = 0 }) fits own (let i = inside in omega arith) (some_block class few).0;
+    }
+
+pub owner_closes : (k : Config) (x : DomainView) (found pool class : ℕ) → pool < k.pools → class < 6 → IsWithinLimits (sizes_in k) → Closes k x found (OwnerTold pool class) (λ _. CanLook pool class) (PassesPool pool class found)
+owner_closes k x found pool class inside few limits y fits told = record {
+  can_write = (few_pools k pool limits inside, few);
+  written = λ after is. dite (ℕ_discrete found (owner_word (owned x.own.number class)))
+      (λ own. ap (λ (z : DomainView). z.own) (told.own own) ∙ sym (is.own_pool own))
+      (λ other. ap (λ (z : DomainView). z.own) (told.other other) ∙ sym (is.other other));
+  fits = dite (ℕ_discrete found (owner_word (owned x.own.number class)))
+      (λ own. subst (OwnFits k) (sym (ap (λ (z : DomainView). z.own) (told.own own))) fits)
+      (λ other. looking_fits k x y class (record { pool = pool + 1; slot = 0 }) fits (ap (λ (z : DomainView). z.own) (told.other other)) (let i = inside in omega arith) (some_block class few).0);
+}
+
+pub place_closes : (k : Config) (x : DomainView) (found pool class slot : ℕ) → pool < k.pools → class < 6 → slot < blocks_of class → IsWithinLimits (sizes_in k)
+    → Closes k x found (PlaceTold pool class slot) (λ _. CanLook pool class × (slot < blocks_of class)) (PassesPlace pool class slot found)
+place_closes k x found pool class slot inside few low limits y fits told = record {
+  can_write = ((few_pools k pool limits inside, few), low);
+  written = λ after is. dite (ℕ_discrete found 0)
+      (λ free. ap (λ (z : DomainView). z.own) (told.free free) ∙ sym (is.free free))
+      (λ taken. dite (dec_le (blocks_of class) (slot + 1))
+      (λ last. ap (λ (z : DomainView). z.own) (told.last taken last) ∙ sym (is.last taken last))
+      (λ more. ap (λ (z : DomainView). z.own) (told.full taken (lt_of_not-le more)) ∙ sym (is.full taken (lt_of_not-le more))));
+  fits = dite (ℕ_discrete found 0)
+      (λ free. subst (OwnFits k) (sym (ap (λ (z : DomainView). z.own) (told.free free))) fits)
+      (λ taken. dite (dec_le (blocks_of class) (slot + 1))
+      (λ last. looking_fits k x y class (record { pool = pool + 1; slot = 0 }) fits (ap (λ (z : DomainView). z.own) (told.last taken last)) (let i = inside in omega arith) (some_block class few).0)
+      (λ more. looking_fits k x y class (record { pool = pool; slot = slot + 1 }) fits (ap (λ (z : DomainView). z.own) (told.full taken (lt_of_not-le more))) (let i = inside in omega arith) (lt_of_not-le more)));
+}
+
+-- the head makes the changes, and counts the label
+pub major_closes : (k : Config) (x : DomainView) (new : ℕ) (e : Entry) (changes : List Change) → FitChanges changes → x.own.serial + 1 < 2 ^ 32
+    → Closes k x new (λ y _ z. MajorTold k e changes y z) (CanLabel changes) (Labels changes)
+major_closes k x new e changes fit serial y fits told =
+    let own = ap (λ (z : DomainView). z.own) told.view in record {
+      can_write = (fit, serial);
+      written = λ after is. own ∙ sym is;
+      fits = record {
+        number = subst (λ (o : Own). o.number < k.domains) (sym own) fits.number;
+        used = subst (λ (o : Own). o.used ≤ k.minor_words) (sym own) fits.used;
+        registers = told.holds;
+        looked = subst (λ (o : Own). LooksWithin k o.looked) (sym own) fits.looked;
+      };
+    }

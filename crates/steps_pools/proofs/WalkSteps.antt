@@ -1,0 +1,510 @@
+-- The steps that look at the places of own pools, and make a drawn pool the domain's own.
+use Rattle.std.proofs.Common.{◌≡◌, ◌≢◌, ℕ, ◌+◌, ◌*◌, ◌<◌, ◌≤◌, ◌⊎◌, List, [], ◌∷◌, ◌++◌, length, get_or, set, slice_get, Some, None, sym, refl, ap, ◌∙◌, subst, inl, inr, ⊎_elim, arith, length-set, get_or-set_same, get_or-set_other, lt_of_not-le}
+use mathlib.Core.Logic.{dite}
+use native.Mathlib.Decide.{ℕ_discrete, dec_le}
+use mathlib.Core.Option.{some}
+use lib.ListN.{get_elem?}
+use Rattle.heap_model.specs.declared.entry.Entry.{Entry}
+use Rattle.heap_rule.specs.declared.config.Config.{Config}
+use Rattle.heap_rule.specs.declared.view.DomainView.{DomainView}
+use Rattle.heap_rule.specs.declared.view.Hunt.TheVariants.{Rests, Draws, Walks, Fills}
+use Rattle.heap_rule.specs.declared.view.Spot.{Spot}
+use Rattle.heap_rule.specs.declared.phase.Kind.TheVariants.{Run}
+use Rattle.heap_rule.specs.declared.phase.Stage.TheVariants.{In}
+use Rattle.heap_rule.specs.Layout.{heap_words, before_heap, table_words, at_address, listed, cursor, listed_pool, owner_of}
+use Rattle.heap_rule.specs.Places.{Place, extent}
+use Rattle.heap_rule.specs.Views.{one}
+use Rattle.heap_rule.specs.Rule.{state_of, Rule}
+use Rattle.heap_rule.specs.Pools.{Holder, nobody, drawn, owned, owner_word, Tenancy, Pools, Hunts, Hunter, Clearing, Filling, drawn_in, spot_at, IsBefore, place_in, size_of, blocks_of, limit_of}
+use Rattle.heap_rule.specs.Phases.{sum_of}
+use Rattle.steps_pools.specs.Takes.{with_hunt, looked_to, NoneFree}
+use Rattle.heap_rule.proofs.Update.{over, over_here, over_else}
+use Rattle.heap_rule.proofs.Lists.{got_end, got_below}
+use Rattle.heap_rule.proofs.Keeps.{Words, mine, phases_words, phases_same, cycle_same, control_set, pools_same, holds_again}
+use Rattle.heap_rule.proofs.Classes.{size_least, some_block, slot_below, slot_inside}
+use Rattle.heap_rule.proofs.Beside.{found_beside, prepared_beside}
+use Rattle.heap_rule.proofs.Lots.{Beside, pool_beside, hunter_beside, drawn_same, owned_same, stays, head_full}
+use Rattle.heap_rule.proofs.Holders.{Agrees, agrees_set, found_agrees, prepared_agrees, same_over, drawn_not, owned_not, drawn_owned, grid_over, free_later, hunter_agree}
+use Rattle.steps_pools.proofs.DrawSteps.{hunter, next_hunter, knows, own_word, some_nat}
+
+pub equal_le : {a b : ℕ} → a ≡ b → b ≤ a
+equal_le {a} {b} e = omega arith
+
+abbrev nowhere : Spot
+nowhere = record { pool = 0; slot = 0 }
+
+-- the place looked to, of a class and of the others
+spot_same : (l : List Spot) (class c : ℕ) (n : Spot) → c ≡ class → class < 6 → length l ≡ 6 → spot_at (set l class n) c ≡ n
+spot_same l class c n same few wide = ap (λ (m : ℕ). spot_at (set l class n) m) same ∙ get_or-set_same l class n nowhere (omega arith)
+
+spot_other : (l : List Spot) (class c : ℕ) (n : Spot) → c ≢ class → spot_at (set l class n) c ≡ spot_at l c
+spot_other l class c n other = get_or-set_other l class c n nowhere other
+
+module _ (k : Config) (s : Words) (r : Rule k s) (id : ℕ) (hist : List Entry) (x : DomainView) (at : get_elem? s.views id ≡ some (one k hist x)) (runs : x.seen.stage ≡ In Run) where
+  abbrev d : ℕ
+  d = x.own.number
+
+  abbrev T : Tenancy
+  T = r.tenancy
+
+  H : Hunter k T s.words x
+  H = hunter k s r id hist x at runs
+
+  P : Pools k T s.words
+  P = r.whole.pools
+
+  -- the owner word
+  module _ (pool class : ℕ) (inside : pool < k.pools) (few : class < 6) where
+    abbrev word : ℕ
+    word = owner_of k s.words pool
+
+    own_is : word ≡ owner_word (owned d class) → T.holder pool ≡ owned d class
+    own_is e = own_word (T.holder pool) d class few (λ a b h. (P.owned_by pool a b h).2) (sym (P.owners pool inside) ∙ e)
+
+    pub walks_rule : drawn_in x.seen.hunt ≡ None → word ≡ owner_word (owned d class) → Rule k record { words = s.words; homes = s.homes; views = set s.views id (one k hist (with_hunt x (Walks pool class))) }
+    walks_rule free e = knows k s r id hist x at runs x.own.looked (Walks pool class) (next_hunter k s r id hist x at runs (Walks pool class) (own_is e) (sym free))
+
+    -- the pool isn't the domain's, of this class
+    abbrev past : Spot
+    past = record { pool = pool + 1; slot = 0 }
+
+    pub passes_rule : drawn_in x.seen.hunt ≡ None → word ≢ owner_word (owned d class) → (spot_at x.own.looked class).pool ≡ pool → length x.own.looked ≡ 6
+        → Rule k record { words = s.words; homes = s.homes; views = set s.views id (one k hist (looked_to x class past Rests)) }
+    passes_rule free differ from wide = knows k s r id hist x at runs (set x.own.looked class past) Rests record {
+      hunt = tt;
+      free = H.free;
+      drawn_alone = λ q e. sym free ∙ H.drawn_alone q e;
+      taken = λ q c slot is below seen. dite (ℕ_discrete c class)
+          (λ same.
+          let mine_is : T.holder q ≡ owned d class = is ∙ ap (owned d) same in
+          let other : q ≢ pool = (λ here. differ (P.owners pool inside ∙ ap owner_word (sym (ap T.holder here) ∙ mine_is))) in
+          H.taken q c slot is below (⊎_elim
+          (λ (h : q < pool + 1). inl (subst (λ (m : ℕ). q < m) (sym from ∙ ap (λ (m : ℕ). (spot_at x.own.looked m).pool) (sym same)) (let o : q ≢ pool = other in omega arith)))
+          (λ (h : (q ≡ pool + 1) × (slot < 0)). absurd (let l = h.1 in omega arith))
+          (subst (λ (m : Spot). IsBefore q slot m) (spot_same x.own.looked class c past same few wide) seen)))
+          (λ other. H.taken q c slot is below (subst (λ (m : Spot). IsBefore q slot m) (spot_other x.own.looked class c past other) seen));
+    }
+
+  -- the head at the next place of an own pool
+  module _ (pool class slot : ℕ) (is : x.seen.hunt ≡ Walks pool class) (inside : slot < blocks_of class) where
+    abbrev place : ℕ
+    place = place_in pool class slot
+
+    own : T.holder pool ≡ owned d class
+    own = subst (Hunts k T s.words d) is H.hunt
+
+    few : class < 6
+    few = (P.owned_by pool d class own).2
+
+    no_draw : drawn_in x.seen.hunt ≡ None
+    no_draw = ap drawn_in is
+
+    pub takes_rule : at_address k s.words place ≡ 0 → Rule k record { words = s.words; homes = s.homes; views = set s.views id (one k hist (with_hunt x (Fills pool class slot []))) }
+    takes_rule free = knows k s r id hist x at runs x.own.looked (Fills pool class slot []) (next_hunter k s r id hist x at runs (Fills pool class slot []) record {
+      own_is = own;
+      inside = inside;
+      free = free;
+      fits = (let z : ℕ = size_of class in let l : 4 ≤ z = size_least class few in let g : 0 < z = omega arith in g);
+      written = λ j w got. cc;
+    } (sym no_draw))
+
+    abbrev next : Spot
+    next = record { pool = pool; slot = slot + 1 }
+
+    pub full_rule : at_address k s.words place ≢ 0 → spot_at x.own.looked class ≡ record { pool = pool; slot = slot } → length x.own.looked ≡ 6
+        → Rule k record { words = s.words; homes = s.homes; views = set s.views id (one k hist (looked_to x class next (Walks pool class))) }
+    full_rule full from wide = knows k s r id hist x at runs (set x.own.looked class next) (Walks pool class) record {
+      hunt = own;
+      free = H.free;
+      drawn_alone = λ q e. sym no_draw ∙ H.drawn_alone q e;
+      taken = λ q c i is below seen. dite (ℕ_discrete c class)
+          (λ same.
+          let before : spot_at x.own.looked c ≡ record { pool = pool; slot = slot } = ap (λ (m : ℕ). spot_at x.own.looked m) same ∙ from in
+          ⊎_elim
+          (λ (h : q < pool). H.taken q c i is below (inl (subst (λ (m : Spot). q < m.pool) (sym before) h)))
+          (λ (h : (q ≡ pool) × (i < slot + 1)). dite (ℕ_discrete i slot)
+          (λ (eq : i ≡ slot). λ z. full (subst (λ (m : ℕ × ℕ × ℕ). at_address k s.words (place_in m.0 m.1 m.2) ≡ 0) (λ j. (h.0 j, same j, eq j)) z))
+          (λ (ne : i ≢ slot). H.taken q c i is below (inr (subst (λ (m : Spot). (q ≡ m.pool) × (i < m.slot)) (sym before) (h.0, (let l = h.1 in omega arith))))))
+          (subst (λ (m : Spot). IsBefore q i m) (spot_same x.own.looked class c next same few wide) seen))
+          (λ other. H.taken q c i is below (subst (λ (m : Spot). IsBefore q i m) (spot_other x.own.looked class c next other) seen));
+    }
+
+    abbrev behind : Spot
+    behind = record { pool = pool + 1; slot = 0 }
+
+    pub last_rule : at_address k s.words place ≢ 0 → blocks_of class ≤ slot + 1 → spot_at x.own.looked class ≡ record { pool = pool; slot = slot } → length x.own.looked ≡ 6
+        → Rule k record { words = s.words; homes = s.homes; views = set s.views id (one k hist (looked_to x class behind (Walks pool class))) }
+    last_rule full last from wide = knows k s r id hist x at runs (set x.own.looked class behind) (Walks pool class) record {
+      hunt = own;
+      free = H.free;
+      drawn_alone = λ q e. sym no_draw ∙ H.drawn_alone q e;
+      taken = λ q c i is below seen. dite (ℕ_discrete c class)
+          (λ same.
+          let before : spot_at x.own.looked c ≡ record { pool = pool; slot = slot } = ap (λ (m : ℕ). spot_at x.own.looked m) same ∙ from in
+          ⊎_elim
+          (λ (h : q < pool + 1). dite (ℕ_discrete q pool)
+          (λ (here : q ≡ pool). dite (ℕ_discrete i slot)
+          (λ (eq : i ≡ slot). λ z. full (subst (λ (m : ℕ × ℕ × ℕ). at_address k s.words (place_in m.0 m.1 m.2) ≡ 0) (λ j. (here j, same j, eq j)) z))
+          (λ (ne : i ≢ slot). H.taken q c i is below (inr (subst (λ (m : Spot). (q ≡ m.pool) × (i < m.slot)) (sym before) (here, (let b : i < blocks_of class = subst (λ (m : ℕ). i < blocks_of m) same below in let n : ℕ = blocks_of class in let l : n ≤ slot + 1 = last in omega arith))))))
+          (λ (other : q ≢ pool). H.taken q c i is below (inl (subst (λ (m : Spot). q < m.pool) (sym before) (let o : q ≢ pool = other in omega arith)))))
+          (λ (h : (q ≡ pool + 1) × (i < 0)). absurd (let l = h.1 in omega arith))
+          (subst (λ (m : Spot). IsBefore q i m) (spot_same x.own.looked class c behind same few wide) seen))
+          (λ other. H.taken q c i is below (subst (λ (m : Spot). IsBefore q i m) (spot_other x.own.looked class c behind other) seen));
+    }
+
+  -- Free at the next place of the pool drawn
+  module _ (place pool class cleared : ℕ) (is : x.seen.hunt ≡ Draws place pool class cleared) where
+    drew : Clearing k T.holder s.words d place pool class cleared
+    drew = subst (Hunts k T s.words d) is H.hunt
+
+    others_pool : (z : DomainView) → z.own.number ≢ d → (a : ℕ) → pool * 4096 < a → a ≤ pool * 4096 + 4096 → Beside k T s.words z.own.number a
+    others_pool z other a low high = pool_beside k T s.words pool a z.own.number P low high
+        (λ e. other (sym (drawn_same d z.own.number (sym drew.drawn_is ∙ e)))) (λ c e. drawn_owned d z.own.number c (sym drew.drawn_is ∙ e))
+
+    -- the words of live blocks aren't in the pool
+    far : (a : ℕ) → pool * 4096 < a → a ≤ pool * 4096 + 4096 → (b : ℕ) (q : Place) → r.live b ≡ Some q → (z : ℕ) → z < extent q.shape → b + z ≢ a
+    far a low high b q lives z inside e = dite (dec_le b (k.pools * 4096))
+        (λ le.
+        let l = r.whole.grid.lots b q lives le in
+        let n : ℕ = extent q.shape in
+        let y : ℕ = size_of l.class in
+        let w : ℕ = l.slot * size_of l.class in
+        let top : w + y ≤ 4096 = slot_inside l.class l.slot (P.owned_by l.pool l.domain l.class l.owned_is).2 l.inside in
+        let begins : b ≡ l.pool * 4096 + w + 1 = l.begins in
+        let fits : n ≤ y = l.fits in
+        let i : z < n = inside in
+        let same : b + z ≡ a = e in
+        let here : l.pool ≡ pool = omega arith in
+        drawn_owned d l.domain l.class (sym drew.drawn_is ∙ (ap T.holder (sym here) ∙ l.owned_is)))
+        (λ gt. let g : k.pools * 4096 < b = lt_of_not-le gt in let i : pool < k.pools = drew.inside in let same : b + z ≡ a = e in omega arith)
+
+    -- other pools' places stay
+    own_place_far : (a : ℕ) → pool * 4096 < a → a ≤ pool * 4096 + 4096 → (q c slot : ℕ) → T.holder q ≡ owned d c → slot < blocks_of c → place_in q c slot ≢ a
+    own_place_far a low high q c slot owned_is below e =
+        let y : ℕ = size_of c in
+        let w : ℕ = slot * size_of c in
+        let few : c < 6 = (P.owned_by q d c owned_is).2 in
+        let large : 4 ≤ y = size_least c few in
+        let top : w + y ≤ 4096 = slot_inside c slot few below in
+        let same : q * 4096 + w + 1 ≡ a = e in
+        let here : q ≡ pool = omega arith in
+        drawn_owned d d c (sym drew.drawn_is ∙ (ap T.holder (sym here) ∙ owned_is))
+
+    module _ (some : cleared < blocks_of class) where
+      abbrev A : ℕ
+      A = place_in pool class cleared
+
+      abbrev ws : List ℕ
+      ws = set s.words (before_heap k + A) 0
+
+      low : pool * 4096 < A
+      low = omega arith
+
+      high : A ≤ pool * 4096 + 4096
+      high = let y : ℕ = size_of class in let w : ℕ = cleared * size_of class in let l : 4 ≤ y = size_least class drew.of_class in let top : w + y ≤ 4096 = slot_inside class cleared drew.of_class some in let g : pool * 4096 + w + 1 ≤ pool * 4096 + 4096 = omega arith in g
+
+      spot : before_heap k + A < length s.words
+      spot = let h = high in let i = drew.inside in let w : ℕ = k.domains * k.minor_words in let wide : length s.words ≡ table_words k = r.whole.wide in omega arith
+
+      pub clears_rule : Rule k record { words = ws; homes = s.homes; views = set s.views id (one k hist (with_hunt x (Draws place pool class (cleared + 1)))) }
+      clears_rule = holds_again k s r id hist x at x.own.looked (Draws place pool class (cleared + 1)) x.seen.free ws T record {
+        runs = runs;
+        wide = length-set s.words (before_heap k + A) 0;
+        phases = phases_same k r.pause s.words ws (control_set k s.words A 0 (omega arith)) r.whole.phases;
+        endings = control_set k s.words A 0 (omega arith) 8 (omega arith);
+        cycle = cycle_same k s.words ws (control_set k s.words A 0 (omega arith)) r.whole.cycle;
+        found = λ b q lives. let f = r.whole.found b q lives in found_beside k r.live r.live (state_of k r.log).graph (state_of k r.log).graph s.words A 0 b q (λ c o h. h) f f.there (far A low high b q lives);
+        pools = pools_same k T s.words ws (control_set k s.words A 0 (omega arith)) P;
+        drawers = r.whole.drawers;
+        grid = record {
+          lots = r.whole.grid.lots;
+          places = λ q e c slot owned_is below. dite (ℕ_discrete (place_in q c slot) A)
+              (λ same. inl (ap (at_address k ws) same ∙ get_or-set_same s.words (before_heap k + A) 0 0 spot))
+              (λ other. ⊎_elim (λ (z : at_address k s.words (place_in q c slot) ≡ 0). inl (stays k T s.words A 0 (place_in q c slot) other ∙ z)) (λ (z : (p : Place) × (r.live (place_in q c slot) ≡ Some p)). inr z) (r.whole.grid.places q e c slot owned_is below));
+        };
+        prepares = λ z p. prepared_beside k s.words A 0 z (λ j fits e. let i : pool < k.pools = drew.inside in let h : A ≤ pool * 4096 + 4096 = high in let n : ℕ = z.own.number * k.minor_words in let a : ℕ = A in let same : k.pools * 4096 + n + 1 + z.own.used + 1 + j ≡ a = e in omega arith) p;
+        hunter = record {
+          hunt = record {
+            inside = drew.inside;
+            listed_is = drew.listed_is;
+            names = (let h = drew.listed_is in control_set k s.words A 0 (omega arith) (11 + place) (omega arith)) ∙ drew.names;
+            drawn_is = drew.drawn_is;
+            of_class = drew.of_class;
+            some = (let e : cleared + 1 ≤ blocks_of class = omega arith in e);
+            free = λ j h. dite (ℕ_discrete j cleared)
+                (λ same. ap (λ (i : ℕ). at_address k ws (place_in pool class i)) same ∙ get_or-set_same s.words (before_heap k + A) 0 0 spot)
+                (λ other. stays k T s.words A 0 (place_in pool class j) (λ e.
+                let y : ℕ = size_of class in let l : 4 ≤ y = size_least class drew.of_class in let w : ℕ = cleared * size_of class in let v : ℕ = j * size_of class in
+                let m : v + y ≤ w = slot_below class j cleared (let n : j ≢ cleared = other in omega arith) in
+                let same : pool * 4096 + v + 1 ≡ pool * 4096 + w + 1 = e in omega arith)
+                ∙ drew.free j (let n : j ≢ cleared = other in omega arith));
+          };
+          drawn_alone = λ q e. sym (ap drawn_in is) ∙ H.drawn_alone q e;
+          free = λ f e. free_later k s.words ws (control_set k s.words A 0 (omega arith) 6 (omega arith)) (equal_le (control_set k s.words A 0 (omega arith) 7 (omega arith))) f (H.free f e);
+          taken = λ q c slot owned_is below seen e. H.taken q c slot owned_is below seen (sym (stays k T s.words A 0 (place_in q c slot) (own_place_far A low high q c slot owned_is below)) ∙ e);
+        };
+        hunters = λ z other g. hunter_beside k T s.words A 0 P z (others_pool z other A low high) g.hunter;
+      }
+
+  -- the owner of the pool drawn
+  module _ (place pool class : ℕ) (is : x.seen.hunt ≡ Draws place pool class (blocks_of class)) (none_free : NoneFree k x class) (wide : length x.own.looked ≡ 6) where
+    all_clear : Clearing k T.holder s.words d place pool class (blocks_of class)
+    all_clear = subst (Hunts k T s.words d) is H.hunt
+
+    abbrev spot_owner : ℕ
+    spot_owner = 11 + k.pools + pool
+
+    abbrev signed : ℕ
+    signed = owner_word (owned d class)
+
+    abbrev words2 : List ℕ
+    words2 = set s.words spot_owner signed
+
+    agrees : Agrees k s.words words2
+    agrees = agrees_set k s.words spot_owner signed (λ e. omega arith) (inr (omega arith)) (let i = all_clear.inside in omega arith)
+
+    other_word : (j : ℕ) → j ≢ spot_owner → get_or words2 j 0 ≡ get_or s.words j 0
+    other_word j differ = get_or-set_other s.words spot_owner j signed 0 differ
+
+    abbrev t2 : Tenancy
+    t2 = record { holder = over pool (owned d class) T.holder; asking = T.asking }
+
+    here2 : t2.holder pool ≡ owned d class
+    here2 = over_here pool (owned d class) T.holder
+
+    else2 : (q : ℕ) → q ≢ pool → t2.holder q ≡ T.holder q
+    else2 q other = over_else pool (owned d class) T.holder q other
+
+    long2 : spot_owner < length s.words
+    long2 = let w : length s.words ≡ table_words k = r.whole.wide in let h : ℕ = heap_words k in let i = all_clear.inside in omega arith
+
+    cursor2 : cursor words2 ≡ cursor s.words
+    cursor2 = other_word 7 (λ e. omega arith)
+
+    lower2 : (i : ℕ) → i < listed words2 → i < listed s.words
+    lower2 i h = subst (λ (m : ℕ). i < m) agrees.count h
+
+    names2 : (i : ℕ) → i < listed words2 → listed_pool words2 i ≡ listed_pool s.words i
+    names2 i h = let l = lower2 i h in let m : ℕ = listed s.words in let f : m ≤ k.pools = P.few in let g : i < m = l in agrees.list i (omega arith)
+
+    no_nobody : ◌≡◌ {A = Holder} (drawn d) nobody → ⊥
+    no_nobody e = cc
+
+    owned_not_drawn : (b c e : ℕ) → ◌≡◌ {A = Holder} (owned b c) (drawn e) → ⊥
+    owned_not_drawn b c e h = cc
+
+    pools2 : Pools k t2 words2
+    pools2 = record {
+      few = subst (λ (m : ℕ). m ≤ k.pools) (sym agrees.count) P.few;
+      inside = λ i h. subst (λ (q : ℕ). q < k.pools) (sym (names2 i h)) (P.inside i (lower2 i h));
+      once = λ i j h g e. P.once i j (lower2 i h) (lower2 j g) (sym (names2 i h) ∙ (e ∙ names2 j g));
+      untaken = λ i h g. let u = P.untaken i (lower2 i h) (subst (λ (m : ℕ × ℕ). (m.0 ≤ i) ⊎ (limit_of k m.1 ≤ i)) (λ j. (cursor2 j, agrees.count j)) g) in
+          ap t2.holder (names2 i h) ∙ (else2 (listed_pool s.words i) (λ e. no_nobody (sym all_clear.drawn_is ∙ (ap T.holder (sym e) ∙ u))) ∙ u);
+      owners = λ q h. dite (ℕ_discrete q pool)
+          (λ same. ap (owner_of k words2) same ∙ (get_or-set_same s.words spot_owner signed 0 long2 ∙ (sym (ap owner_word here2) ∙ ap (λ (m : ℕ). owner_word (t2.holder m)) (sym same))))
+          (λ other. other_word (11 + k.pools + q) (λ e. let n : q ≢ pool = other in omega arith) ∙ (P.owners q h ∙ sym (ap owner_word (else2 q other))));
+      owned_by = λ q e c h. dite (ℕ_discrete q pool)
+          (λ same. let o = owned_same d e class c (sym here2 ∙ (ap t2.holder (sym same) ∙ h)) in
+          subst (λ (m : ℕ × ℕ × ℕ). (m.0 < k.pools) × (m.1 < k.domains) × (m.2 < 6)) (λ j. (sym same j, o.0 j, o.1 j)) (all_clear.inside, (mine k s r id hist x at).inside, all_clear.of_class))
+          (λ other. P.owned_by q e c (sym (else2 q other) ∙ h));
+      drawn_by = λ q e h. dite (ℕ_discrete q pool)
+          (λ same. absurd (owned_not_drawn d class e (sym here2 ∙ (ap t2.holder (sym same) ∙ h))))
+          (λ other. P.drawn_by q e (sym (else2 q other) ∙ h));
+      one_each = P.one_each;
+      asked = subst (λ (m : ℕ). m + sum_of T.asking k.domains ≤ k.pools + k.domains) (sym cursor2) P.asked;
+    }
+
+    abbrev from_here : Spot
+    from_here = record { pool = pool; slot = 0 }
+
+    abbrev looked2 : List Spot
+    looked2 = set x.own.looked class from_here
+
+    pub owns_rule : Rule k record { words = words2; homes = s.homes; views = set s.views id (one k hist (looked_to x class from_here (Fills pool class 0 []))) }
+    owns_rule = holds_again k s r id hist x at looked2 (Fills pool class 0 []) x.seen.free words2 t2 record {
+      runs = runs;
+      wide = length-set s.words spot_owner signed;
+      phases = phases_words k r.pause s.words words2 (other_word 1 (λ e. omega arith)) (other_word 2 (λ e. omega arith)) r.whole.phases;
+      endings = other_word 8 (λ e. omega arith);
+      cycle = let p = r.whole.cycle in record { armed_is = other_word 4 (λ e. omega arith) ∙ p.armed_is; colours_are = other_word 5 (λ e. omega arith) ∙ p.colours_are };
+      found = found_agrees k r.live (state_of k r.log).graph s.words words2 agrees r.whole.placed r.whole.found;
+      pools = pools2;
+      drawers = λ q e h. dite (ℕ_discrete q pool)
+          (λ same. absurd (owned_not_drawn d class e (sym here2 ∙ (ap t2.holder (sym same) ∙ h))))
+          (λ other. r.whole.drawers q e (sym (else2 q other) ∙ h));
+      grid = grid_over T pool (owned d class) T.asking k r.live s.words words2 agrees (λ e c h. drawn_owned d e c (sym all_clear.drawn_is ∙ h))
+          (λ e c slot h below. let o = owned_same d e class c h in
+          subst (λ (m : ℕ). at_address k s.words (place_in pool m slot) ≡ 0) o.1 (all_clear.free slot (subst (λ (m : ℕ). slot < blocks_of m) (sym o.1) below))) r.whole.grid;
+      prepares = λ z p. prepared_agrees k s.words words2 z agrees p;
+      hunter = record {
+        hunt = record {
+          own_is = here2;
+          inside = (some_block class all_clear.of_class).0;
+          free = agrees.heap (place_in pool class 0) (omega arith) ∙ all_clear.free 0 (some_block class all_clear.of_class).0;
+          fits = (let z : ℕ = size_of class in let l : 4 ≤ z = size_least class all_clear.of_class in let g : 0 < z = omega arith in g);
+          written = λ j w got. cc;
+        };
+        free = λ f e. free_later k s.words words2 agrees.count (equal_le cursor2) f (H.free f e);
+        drawn_alone = λ q e. absurd (dite (ℕ_discrete q pool)
+            (λ same. owned_not_drawn d class d (sym here2 ∙ (ap t2.holder (sym same) ∙ e)))
+            (λ other. other (sym (some_nat pool q (sym (ap drawn_in is) ∙ H.drawn_alone q (sym (else2 q other) ∙ e))))));
+        taken = λ q c slot owned_is below seen z.
+            let unset : at_address k s.words (place_in q c slot) ≡ 0 = sym (agrees.heap (place_in q c slot) (omega arith)) ∙ z in
+            dite (ℕ_discrete q pool)
+            (λ same.
+            let class_is : c ≡ class = sym (owned_same d d class c (sym here2 ∙ (ap t2.holder (sym same) ∙ owned_is))).1 in
+            ⊎_elim (λ (h : q < pool). omega arith) (λ (h : (q ≡ pool) × (slot < 0)). let l = h.1 in omega arith)
+            (subst (λ (m : Spot). IsBefore q slot m) (spot_same x.own.looked class c from_here class_is all_clear.of_class wide) seen))
+            (λ other.
+            let own_before : T.holder q ≡ owned d c = sym (else2 q other) ∙ owned_is in
+            dite (ℕ_discrete c class)
+            (λ same. H.taken q c slot own_before below (inl (let i : q < k.pools = (P.owned_by q d c own_before).0 in
+            let full : k.pools ≤ (spot_at x.own.looked c).pool = subst (λ (m : ℕ). k.pools ≤ (spot_at x.own.looked m).pool) (sym same) none_free in
+            let w : ℕ = (spot_at x.own.looked c).pool in let g : q < w = omega arith in g)) unset)
+            (λ differ. H.taken q c slot own_before below (subst (λ (m : Spot). IsBefore q slot m) (spot_other x.own.looked class c from_here differ) seen) unset));
+      };
+      hunters = λ z other g. hunter_agree k T t2 s.words words2 agrees z (equal_le cursor2)
+          (same_over T pool (owned d class) T.asking z.own.number (let e : d ≢ z.own.number = (λ m. other (sym m)) in record { not_drawn = λ m. (drawn_not d z.own.number e).not_drawn (sym all_clear.drawn_is ∙ m); not_owned = λ c m. drawn_owned d z.own.number c (sym all_clear.drawn_is ∙ m) }) (owned_not d class z.own.number (λ m. other (sym m))) refl) g.hunter;
+    }
+
+  -- a word behind the head's of the place taken
+  module _ (pool class slot new : ℕ) (made : List ℕ) (is : x.seen.hunt ≡ Fills pool class slot made) where
+    pub filling : Filling k T.holder s.words d pool class slot made
+    filling = subst (Hunts k T s.words d) is H.hunt
+
+    abbrev m : ℕ
+    m = length made
+
+    abbrev B : ℕ
+    B = place_in pool class slot + 1 + m
+
+    pub few_class : class < 6
+    few_class = (P.owned_by pool d class filling.own_is).2
+
+    pub lot_top : slot * size_of class + size_of class ≤ 4096
+    lot_top = slot_inside class slot few_class filling.inside
+
+    fill_low : pool * 4096 < B
+    fill_low = omega arith
+
+    -- the place isn't one of a live block
+    pub not_live : (q : Place) → r.live (place_in pool class slot) ≡ Some q → ⊥
+    not_live q lives = head_full k r.live (state_of k r.log).graph s.words (place_in pool class slot) q (r.whole.found (place_in pool class slot) q lives) filling.free
+
+    -- live blocks lie beside the place taken
+    pub live_far : (b : ℕ) (q : Place) → r.live b ≡ Some q → (b + extent q.shape ≤ place_in pool class slot) ⊎ (place_in pool class slot + size_of class ≤ b)
+    live_far b q lives =
+        let n : ℕ = extent q.shape in
+        let y : ℕ = size_of class in
+        let w : ℕ = slot * size_of class in
+        let top : w + y ≤ 4096 = lot_top in
+        dite (dec_le b (k.pools * 4096))
+        (λ le.
+        let l = r.whole.grid.lots b q lives le in
+        let v : ℕ = size_of l.class in
+        let u : ℕ = l.slot * size_of l.class in
+        let o = P.owned_by l.pool l.domain l.class l.owned_is in
+        let top' : u + v ≤ 4096 = slot_inside l.class l.slot o.2 l.inside in
+        let begins : b ≡ l.pool * 4096 + u + 1 = l.begins in
+        let fits : n ≤ v = l.fits in
+        dite (ℕ_discrete l.pool pool)
+        (λ same.
+        let class_is : l.class ≡ class = (owned_same l.domain d l.class class (sym l.owned_is ∙ (ap T.holder same ∙ filling.own_is))).1 in
+        let vy : v ≡ y = ap size_of class_is in
+        let h : ℕ = l.slot * size_of class in
+        let uh : u ≡ h = ap (λ (c : ℕ). l.slot * size_of c) class_is in
+        let pool_is : l.pool ≡ pool = same in
+        dite (ℕ_discrete l.slot slot)
+        (λ eq. let hw : h ≡ w = ap (λ (i : ℕ). i * size_of class) eq in absurd (not_live q (subst (λ (i : ℕ). r.live i ≡ Some q) (let e : b ≡ pool * 4096 + w + 1 = omega arith in e) lives)))
+        (λ ne. dite (dec_le l.slot slot)
+        (λ below. let e : h + y ≤ w = slot_below class l.slot slot (let i : l.slot ≤ slot = below in let j : l.slot ≢ slot = ne in omega arith) in inl (let g : b + n ≤ pool * 4096 + w + 1 = omega arith in g))
+        (λ above. let e : w + y ≤ h = slot_below class slot l.slot (lt_of_not-le above) in inr (let g : pool * 4096 + w + 1 + y ≤ b = omega arith in g))))
+        (λ other. let ne : l.pool ≢ pool = other in dite (dec_le l.pool pool)
+        (λ below. let e : l.pool ≤ pool = below in inl (let g : b + n ≤ pool * 4096 + w + 1 = omega arith in g))
+        (λ above. let e : pool < l.pool = lt_of_not-le above in inr (let g : pool * 4096 + w + 1 + y ≤ b = omega arith in g))))
+        (λ gt. let g : k.pools * 4096 < b = lt_of_not-le gt in let i : pool < k.pools = (P.owned_by pool d class filling.own_is).0 in inr (let e : pool * 4096 + w + 1 + y ≤ b = omega arith in e))
+
+    -- a word of the place is beside all that others know of their pools
+    pub others_beside : (z : DomainView) → z.own.number ≢ d → (a : ℕ) → pool * 4096 < a → a ≤ pool * 4096 + 4096 → Beside k T s.words z.own.number a
+    others_beside z other a low high = pool_beside k T s.words pool a z.own.number P low high
+        (λ e. drawn_owned z.own.number d class (sym e ∙ filling.own_is)) (λ c e. other (sym (owned_same d z.own.number class c (sym filling.own_is ∙ e)).0))
+
+    -- no place of an owned pool lies inside of it
+    pub inner_far : (q e c i : ℕ) → T.holder q ≡ owned e c → i < blocks_of c → (a : ℕ) → place_in pool class slot < a → a < place_in pool class slot + size_of class → place_in q c i ≢ a
+    inner_far q e c i owned_is below a low high same =
+        let y : ℕ = size_of class in
+        let w : ℕ = slot * size_of class in
+        let top : w + y ≤ 4096 = lot_top in
+        let v : ℕ = size_of c in
+        let u : ℕ = i * size_of c in
+        let o = P.owned_by q e c owned_is in
+        let large : 4 ≤ v = size_least c o.2 in
+        let top' : u + v ≤ 4096 = slot_inside c i o.2 below in
+        let l : pool * 4096 + w + 1 < a = low in
+        let h : a < pool * 4096 + w + 1 + y = high in
+        let at_a : q * 4096 + u + 1 ≡ a = same in
+        let pool_is : q ≡ pool = omega arith in
+        let class_is : c ≡ class = (owned_same e d c class (sym owned_is ∙ (ap T.holder pool_is ∙ filling.own_is))).1 in
+        let p : ℕ = i * size_of class in
+        let up : u ≡ p = ap (λ (b : ℕ). i * size_of b) class_is in
+        dite (dec_le i slot)
+        (λ le. dite (ℕ_discrete i slot)
+        (λ eq. let f : p ≡ w = ap (λ (b : ℕ). b * size_of class) eq in omega arith)
+        (λ ne. let f : p + y ≤ w = slot_below class i slot (let b : i ≤ slot = le in let g : i ≢ slot = ne in omega arith) in omega arith))
+        (λ gt. let f : w + y ≤ p = slot_below class slot i (lt_of_not-le gt) in omega arith)
+
+    module _ (room : m + 1 < size_of class) where
+      abbrev ws3 : List ℕ
+      ws3 = set s.words (before_heap k + B) new
+
+      fill_high : B ≤ pool * 4096 + 4096
+      fill_high = let y : ℕ = size_of class in let w : ℕ = slot * size_of class in let top : w + y ≤ 4096 = lot_top in let f : m + 1 < y = room in let g : pool * 4096 + w + 1 + 1 + m ≤ pool * 4096 + 4096 = omega arith in g
+
+      spot3 : before_heap k + B < length s.words
+      spot3 = let h = fill_high in let i = (P.owned_by pool d class filling.own_is).0 in let w : ℕ = k.domains * k.minor_words in let wide : length s.words ≡ table_words k = r.whole.wide in let b : ℕ = B in let g : b ≤ pool * 4096 + 4096 = h in omega arith
+
+      above_head : place_in pool class slot < B
+      above_head = omega arith
+
+      below_end : B < place_in pool class slot + size_of class
+      below_end = let y : ℕ = size_of class in let f : m + 1 < y = room in let p : ℕ = place_in pool class slot in let g : p + 1 + m < p + y = omega arith in g
+
+      pub fills_rule : Rule k record { words = ws3; homes = s.homes; views = set s.views id (one k hist (with_hunt x (Fills pool class slot (made ++ new ∷ [])))) }
+      fills_rule = holds_again k s r id hist x at x.own.looked (Fills pool class slot (made ++ new ∷ [])) x.seen.free ws3 T record {
+        runs = runs;
+        wide = length-set s.words (before_heap k + B) new;
+        phases = phases_same k r.pause s.words ws3 (control_set k s.words B new (omega arith)) r.whole.phases;
+        endings = control_set k s.words B new (omega arith) 8 (omega arith);
+        cycle = cycle_same k s.words ws3 (control_set k s.words B new (omega arith)) r.whole.cycle;
+        found = λ b q lives. let f = r.whole.found b q lives in found_beside k r.live r.live (state_of k r.log).graph (state_of k r.log).graph s.words B new b q (λ c o h. h) f f.there
+            (λ z inside e. let n : ℕ = extent q.shape in let p : ℕ = place_in pool class slot in let y : ℕ = size_of class in let i : z < n = inside in let same : b + z ≡ p + 1 + m = e in let f : m + 1 < y = room in
+            ⊎_elim (λ (h : b + n ≤ p). omega arith) (λ (h : p + y ≤ b). omega arith) (live_far b q lives));
+        pools = pools_same k T s.words ws3 (control_set k s.words B new (omega arith)) P;
+        drawers = r.whole.drawers;
+        grid = record {
+          lots = r.whole.grid.lots;
+          places = λ q e c i owned_is below. ⊎_elim
+              (λ (z : at_address k s.words (place_in q c i) ≡ 0). inl (stays k T s.words B new (place_in q c i) (inner_far q e c i owned_is below B above_head below_end) ∙ z))
+              (λ (z : (p : Place) × (r.live (place_in q c i) ≡ Some p)). inr z) (r.whole.grid.places q e c i owned_is below);
+        };
+        prepares = λ z p. prepared_beside k s.words B new z (λ j fits e. let i : pool < k.pools = (P.owned_by pool d class filling.own_is).0 in let h : B ≤ pool * 4096 + 4096 = fill_high in let n : ℕ = z.own.number * k.minor_words in let a : ℕ = B in let same : k.pools * 4096 + n + 1 + z.own.used + 1 + j ≡ a = e in omega arith) p;
+        hunter = record {
+          hunt = record {
+            own_is = filling.own_is;
+            inside = filling.inside;
+            free = stays k T s.words B new (place_in pool class slot) (λ e. omega arith) ∙ filling.free;
+            fits = subst (λ (n : ℕ). n < size_of class) (sym (length_end made new)) room;
+            written = λ j w got. ⊎_elim
+                (λ (g : slice_get made j ≡ Some w). let below : j < m = got_below made j w g in stays k T s.words B new (place_in pool class slot + 1 + j) (λ e. omega arith) ∙ filling.written j w g)
+                (λ (g : (j ≡ m) × (new ≡ w)). ap (λ (i : ℕ). at_address k ws3 (place_in pool class slot + 1 + i)) g.0 ∙ (get_or-set_same s.words (before_heap k + B) new 0 spot3 ∙ g.1))
+                (got_end made new w j got);
+          };
+          drawn_alone = λ q e. sym (ap drawn_in is) ∙ H.drawn_alone q e;
+          free = λ f e. free_later k s.words ws3 (control_set k s.words B new (omega arith) 6 (omega arith)) (equal_le (control_set k s.words B new (omega arith) 7 (omega arith))) f (H.free f e);
+          taken = λ q c i owned_is below seen e. H.taken q c i owned_is below seen (sym (stays k T s.words B new (place_in q c i) (inner_far q d c i owned_is below B above_head below_end)) ∙ e);
+        };
+        hunters = λ z other g. hunter_beside k T s.words B new P z (others_beside z other B fill_low fill_high) g.hunter;
+      } where
+        length_end : (l : List ℕ) (a : ℕ) → length (l ++ a ∷ []) ≡ length l + 1
+        length_end [] a = refl
+        length_end (y ∷ l) a = let e = length_end l a in omega arith

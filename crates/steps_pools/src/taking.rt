@@ -1,0 +1,180 @@
+//! The taking of a free block of the pools, and the making of a block there.
+ghost use Rattle.std.specs.Prelude.{◌≡◌, ◌<◌};
+ghost use Rattle.heap_model.specs.declared.entry.Entry.{Entry};
+ghost use Rattle.heap_rule.specs.declared.phase.Kind.TheVariants.{Run};
+ghost use Rattle.heap_rule.specs.declared.phase.Stage.TheVariants.{In};
+ghost use Rattle.heap_rule.specs.declared.view.Hunt.TheVariants.{Counts, Asks};
+ghost use Rattle.heap_rule.specs.Standing.{IsInHeap};
+ghost use Rattle.steps_pools.specs.Takes.{HasNoDraw, ListedTold, CursorTold, CursorAddTold, ListMay, ListTold, ClearMay, ClearTold, OwnerMay, OwnedTold, FillMay, FillTold, MajorEntry, MajorTold};
+ghost use Rattle.heap_rule.specs.Token.{IsIn};
+
+use heap_rule::{
+    CURSOR, Change, Domain, Heap, LISTED, Leaving, Own, Spot, Writing, add_as, load_as,
+    make_changes, store_as,
+};
+use heap_words::Value;
+use std::marker::Brand;
+
+// The token's own data stays as it is. What the step is about is there for the pick alone.
+#[derive(Clone, Copy)]
+struct Asking {
+    count: u32,
+    class: u32,
+}
+
+impl Writing for Asking {
+    ghost use Rattle.heap_rule.specs.Raw.{CanLeave, Leaves};
+
+    ghost can = { λ _ _ _ own. CanLeave own };
+
+    ghost writes = { λ _ _ _ own after. Leaves own after };
+
+    fn write(&self, _found: u64, _changes: &[Change], _own: &mut Own) {}
+}
+
+// The places of a class are looked at from a pool on.
+#[derive(Clone, Copy)]
+struct Owning {
+    pool: u32,
+    class: u32,
+}
+
+impl Writing for Owning {
+    ghost use Rattle.steps_pools.specs.Writes.{CanLook, LooksFrom};
+
+    ghost can = { λ s _ _ _. CanLook s.pool s.class };
+
+    ghost writes = { λ s _ _ own after. LooksFrom s.pool s.class own after };
+
+    fn write(&self, _found: u64, _changes: &[Change], own: &mut Own) {
+        own.looked[self.class as usize] = Spot {
+            pool: self.pool,
+            slot: 0,
+        };
+    }
+}
+
+// The changes are made in the registers, and a label is counted.
+#[derive(Clone, Copy)]
+struct Labelling;
+
+impl Writing for Labelling {
+    ghost use Rattle.steps_pools.specs.Writes.{CanLabel, Labels};
+
+    ghost can = { λ _ _ changes own. CanLabel changes own };
+
+    ghost writes = { λ _ _ changes own after. Labels changes own after };
+
+    fn write(&self, _found: u64, changes: &[Change], own: &mut Own) {
+        make_changes(&mut own.registers, Value::Nothing, changes);
+        own.serial += 1;
+    }
+}
+
+/// A load of the number of listed pools. Answers it.
+pub fn listed_load(heap: &Heap, dom: &mut Domain) -> u64
+    requires here { IsIn dom.old heap.now }
+    requires at_rest { HasNoDraw dom.old.view }
+    requires runs { dom.old.view.seen.stage ≡ In Run }
+    ensures here { IsIn dom.new heap.now }
+    ensures told { ListedTold heap.now.config dom.old.view result dom.new.view }
+{
+    load_as::<Brand, Leaving>(heap, dom, LISTED, &Leaving, &[])
+}
+
+/// A load of the cursor. Where it is below the limit the domain may ask for a pool. Answers the cursor.
+pub fn cursor_load(heap: &Heap, dom: &mut Domain, count: u32) -> u64
+    requires here { IsIn dom.old heap.now }
+    requires counts { dom.old.view.seen.hunt ≡ Counts count }
+    requires runs { dom.old.view.seen.stage ≡ In Run }
+    ensures here { IsIn dom.new heap.now }
+    ensures told { CursorTold heap.now.config count dom.old.view result dom.new.view }
+{
+    load_as::<Brand, Asking>(heap, dom, CURSOR, &Asking { count, class: 0 }, &[])
+}
+
+/// An add of 1 to the cursor. Where it was below the limit the pool at that place of the list is
+/// drawn. Answers what it was.
+pub fn cursor_add(heap: &Heap, dom: &mut Domain, count: u32, class: u32) -> u64
+    requires here { IsIn dom.old heap.now }
+    requires asks { dom.old.view.seen.hunt ≡ Asks count }
+    requires class { class < 6 }
+    requires runs { dom.old.view.seen.stage ≡ In Run }
+    ensures here { IsIn dom.new heap.now }
+    ensures told { CursorAddTold heap.now.config count class dom.old.view result dom.new.view }
+{
+    add_as::<Brand, Asking>(heap, dom, CURSOR, 1, &Asking { count, class }, &[])
+}
+
+/// A load of the list at the place drawn, `at` being the word's index. Answers the pool.
+pub fn list_load(heap: &Heap, dom: &mut Domain, at: u32) -> u64
+    requires here { IsIn dom.old heap.now }
+    requires may { ListMay heap.now.config dom.old.view at }
+    requires runs { dom.old.view.seen.stage ≡ In Run }
+    ensures here { IsIn dom.new heap.now }
+    ensures told { ListTold dom.old.view result dom.new.view }
+{
+    load_as::<Brand, Leaving>(heap, dom, at as usize, &Leaving, &[])
+}
+
+/// A store of Free at the next place of the pool drawn.
+pub fn clear_store(
+    heap: &Heap,
+    dom: &mut Domain,
+    at: u32,
+    new: u64,
+    pool: u32,
+    class: u32,
+    slot: u32,
+)
+    requires here { IsIn dom.old heap.now }
+    requires inside { IsInHeap heap.now.config at }
+    requires may { ClearMay dom.old.view at new pool class slot }
+    requires runs { dom.old.view.seen.stage ≡ In Run }
+    ensures here { IsIn dom.new heap.now }
+    ensures told { ClearTold dom.old.view new dom.new.view }
+{
+    let index = heap.index_of(at);
+    store_as::<Brand, Leaving>(heap, dom, index, new, &Leaving, &[]);
+}
+
+/// A store of the owner word of the pool drawn, all of whose places are free. Its first place is then
+/// taken. `at` is the word's index.
+pub fn owner_store(heap: &Heap, dom: &mut Domain, at: u32, new: u64, pool: u32, class: u32)
+    requires here { IsIn dom.old heap.now }
+    requires inside { (pool < heap.now.config.pools) × (class < 6) }
+    requires may { OwnerMay heap.now.config dom.old.view at new pool class }
+    requires runs { dom.old.view.seen.stage ≡ In Run }
+    ensures here { IsIn dom.new heap.now }
+    ensures told { OwnedTold pool class dom.old.view new dom.new.view }
+{
+    let _limits = heap.config();
+    store_as::<Brand, Owning>(heap, dom, at as usize, new, &Owning { pool, class }, &[]);
+}
+
+/// A store of the next word behind the head's of the place taken.
+pub fn fill_store(heap: &Heap, dom: &mut Domain, at: u32, new: u64)
+    requires here { IsIn dom.old heap.now }
+    requires inside { IsInHeap heap.now.config at }
+    requires may { FillMay dom.old.view at }
+    requires runs { dom.old.view.seen.stage ≡ In Run }
+    ensures here { IsIn dom.new heap.now }
+    ensures told { FillTold dom.old.view new dom.new.view }
+{
+    let index = heap.index_of(at);
+    store_as::<Brand, Leaving>(heap, dom, index, new, &Leaving, &[]);
+}
+
+/// The store of the head at the place taken, at which the block comes to live and the entry of the
+/// allocation stands.
+pub fn head_store(heap: &Heap, dom: &mut Domain, at: u32, new: u64, changes: &[Change])
+    ghost entry: { Entry }
+    requires here { IsIn dom.old heap.now }
+    requires inside { IsInHeap heap.now.config at }
+    requires may { MajorEntry heap.now.config dom.old.view at new changes.now entry }
+    ensures here { IsIn dom.new heap.now }
+    ensures told { MajorTold heap.now.config entry changes.now dom.old.view dom.new.view }
+{
+    let index = heap.index_of(at);
+    store_as::<Brand, Labelling>(heap, dom, index, new, &Labelling, changes);
+}

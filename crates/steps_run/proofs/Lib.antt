@@ -1,0 +1,4 @@
+pub mod Plain
+pub mod TickSteps
+pub mod LoadSteps
+pub mod StoreSteps

@@ -1,0 +1,63 @@
+-- Ticks: the entries that the registers alone decide.
+use Rattle.std.specs.Prelude.{◌≡◌, ℕ, ◌<◌, ◌⊎◌, true, false, List, slice_set}
+use Rattle.heap_model.specs.declared.command.Command as model
+use Rattle.heap_model.specs.declared.command.Command.TheVariants.{PutInt, Copy, Forget, Load, Store, Poll, Minor}
+use Rattle.heap_model.specs.declared.entry.Entry.{Entry}
+use Rattle.heap_model.specs.declared.entry.Entry.TheVariants.{Command}
+use Rattle.heap_model.specs.declared.reply.Reply.{Reply}
+use Rattle.heap_model.specs.declared.reply.Reply.TheVariants.{Done, BadType, Full}
+use Rattle.heap_model.specs.declared.reply.Applied.{Applied}
+use Rattle.heap_model.specs.declared.reply.Applied.TheVariants.{Replied, Silent}
+use Rattle.heap_model.specs.Commands.{is_allocation}
+use Rattle.heap_words.specs.declared.value.Value.{Value}
+use Rattle.heap_words.specs.declared.value.Value.TheVariants.{Int, Nothing}
+use Rattle.heap_words.specs.Values.{IsPackable}
+use Rattle.heap_rule.specs.declared.change.Change.{Change}
+use Rattle.heap_rule.specs.declared.config.Config.{Config}
+use Rattle.heap_rule.specs.declared.view.DomainView.{DomainView}
+use Rattle.heap_rule.specs.Places.{IsNoBlock}
+use Rattle.heap_rule.specs.Changes.{value_at, changed, FitChanges}
+use Rattle.heap_rule.specs.Standing.{Acts, LeavesRegisters, Entered}
+
+-- the changes make the registers these
+abbrev pub Makes : List Change → DomainView → List Value → Type 0
+Makes changes x registers = changed Nothing changes x.own.registers ≡ registers
+
+-- a command that the registers alone decide, and what its changes do
+abbrev pub TickCommand : DomainView → List Change → model.Command → Type 0
+TickCommand x changes (PutInt dst z) = (dst < 16) × IsPackable (Int z) × Makes changes x (slice_set x.own.registers dst (Int z))
+TickCommand x changes (Copy dst src) = (dst < 16) × (src < 16) × Makes changes x (slice_set x.own.registers dst (value_at x.own.registers src))
+TickCommand x changes (Forget dst) = (dst < 16) × Makes changes x (slice_set x.own.registers dst Nothing)
+TickCommand x changes (Load dst src i) = (src < 16) × IsNoBlock (value_at x.own.registers src) × LeavesRegisters changes x
+TickCommand x changes (Store block i item) =
+    (block < 16) × (item < 16) × (IsNoBlock (value_at x.own.registers block) ⊎ (value_at x.own.registers item ≡ Nothing)) × LeavesRegisters changes x
+TickCommand x changes Poll = LeavesRegisters changes x
+TickCommand x changes Minor = LeavesRegisters changes x
+TickCommand x changes _ = ⊥
+
+-- an own entry that the registers alone decide: such a command, or `full` for an allocation
+abbrev pub TickEntry : DomainView → List Change → Entry → Type 0
+TickEntry x changes (Command d c false) = (d ≡ x.own.number) × TickCommand x changes c
+TickEntry x changes (Command d c true) = (d ≡ x.own.number) × (is_allocation c ≡ true) × LeavesRegisters changes x
+TickEntry x changes _ = ⊥
+
+-- what a tick asks
+pub record TickMay (k : Config) (x : DomainView) (changes : List Change) (e : Entry) : Type 0 where
+  pub acts : Acts k x
+  pub entry : TickEntry x changes e
+  pub fits : FitChanges changes
+
+-- what a tick's entry answers: its loads and stores have no block to look into
+abbrev pub command_answer : model.Command → Reply
+command_answer (Load dst src i) = BadType
+command_answer (Store block i item) = BadType
+command_answer _ = Done
+
+abbrev pub tick_answer : Entry → Applied
+tick_answer (Command d c false) = Replied (command_answer c)
+tick_answer (Command d c true) = Replied Full
+tick_answer _ = Silent
+
+-- the entry stands at the tick, whatever word it finds: a domain that has begun a command makes it
+abbrev pub TickTold : Config → Entry → List Change → DomainView → ℕ → DomainView → Type 0
+TickTold k e changes x found y = Entered k e (tick_answer e) Nothing changes x y

@@ -1,4 +1,0 @@
-use Rattle.two_domains.proofs.put_int_as.Given as goal
-
-abbrev pub ghost-tick : goal.ghost-tick
-ghost-tick g a = g.entry
