@@ -1,4 +1,4 @@
-//! What a run of the program over memory gives.
+//! The program over memory.
 ghost use Rattle.std.specs.Prelude.{◌≤◌};
 
 use camlheap_run::{Status, camlheap, fault_line, status_number};
@@ -14,14 +14,14 @@ pub(crate) const PLAIN_PRINTS: &str = "domain 0\nblk 0:1\nok\nok\nint 7\n";
 
 /// How a run ended, its line for standard error, and what it wrote.
 #[derive(Drop)]
-pub(crate) struct Outcome {
+pub(crate) struct Output {
     pub number: u8,
     pub line: Vec<u8>,
     pub written: Vec<u8>,
 }
 
 /// The words of a command line without quotes.
-pub(crate) fn words_of(alloc: Global, line: &str) -> Result<Vec<String>, AllocError> {
+pub(crate) fn words_in(alloc: Global, line: &str) -> Result<Vec<String>, AllocError> {
     let mut words = Vec::new(alloc);
     for word in line.split_whitespace() {
         words.push(String::from_str(alloc, word)?)?;
@@ -30,30 +30,46 @@ pub(crate) fn words_of(alloc: Global, line: &str) -> Result<Vec<String>, AllocEr
 }
 
 /// Runs the program with these words over this source and this sink.
-pub(crate) fn outcome_of<R: Threads + Wait + Sync>(
+pub(crate) fn run_program<R: Threads + Wait + Sync>(
     rt: &R,
     alloc: Global,
     words: &str,
     source: MemSource,
     sink: MemSink,
-) -> Result<Outcome, AllocError> {
-    outcome_with(rt, alloc, words, source, sink, &NoGate)
+) -> Result<Output, AllocError> {
+    run_with_gate(rt, alloc, words, source, sink, &NoGate)
+}
+
+/// Runs the program with these words over a source and a sink that never fail.
+pub(crate) fn run_plain<R: Threads + Wait + Sync>(
+    rt: &R,
+    alloc: Global,
+    words: &str,
+    script: &str,
+) -> Result<Output, AllocError> {
+    run_program(
+        rt,
+        alloc,
+        words,
+        source(alloc, script, 4096, &[])?,
+        sink(alloc, 4096, &[])?,
+    )
 }
 
 /// The same with a gate.
-pub(crate) fn outcome_with<R: Threads + Wait + Sync, G: Gate + Sync>(
+pub(crate) fn run_with_gate<R: Threads + Wait + Sync, G: Gate + Sync>(
     rt: &R,
     alloc: Global,
     words: &str,
     mut source: MemSource,
     mut sink: MemSink,
     gate: &G,
-) -> Result<Outcome, AllocError> {
-    let words = words_of(alloc, words)?;
+) -> Result<Output, AllocError> {
+    let words = words_in(alloc, words)?;
     let status: Status = camlheap(rt, alloc, &words, &mut source, &mut sink, gate);
     let mut line = [0u8; 128];
     let length = fault_line(&status, &mut line);
-    Ok(Outcome {
+    Ok(Output {
         number: status_number(&status),
         line: Vec::from_slice(alloc, &line[..length])?,
         written: Vec::from_slice(alloc, sink.bytes())?,
