@@ -1,20 +1,22 @@
 -- Words ask for sizes exactly where they are spelled so.
 use Rattle.std.proofs.Common.{◌≡◌, ◌∙◌, ℕ, ◌+◌, ◌<◌, ◌^◌, suc, Bool, true, false, List, [], ◌∷◌, ◌++◌, take, drop, Option, Some, None, codes, decimal, refl, sym, ap, subst, arith}
-use Rattle.std.specs.Prelude.{◌==◌, option_and_then, option_map, is_some, bytes_eq, flat_map, if◌then◌else◌}
+use Rattle.std.specs.Prelude.{◌==◌, option_and_then, option_map, is_none, is_some, bytes_eq, flat_map, if◌then◌else◌}
 use Rattle.std.specs.List.{before_first, after_first, position_or_len}
 use Rattle.std.proofs.lemmas.Bool.Decides.{Decides-eqb}
 use Rattle.std.proofs.lemmas.Slice.Eq.{bytes_eq-Decides}
 use Rattle.clap.specs.Lexer.{long_of, long_of_rest, name_and_value, strip_byte, has_byte}
 use Rattle.heap_model.specs.declared.state.Sizes.{Sizes}
+use Rattle.heap_model.specs.Domains.{first_outside}
 use Rattle.command_line.specs.declared.options.Setting.{Setting}
 use Rattle.command_line.specs.declared.options.Setting.TheVariants.{Domains, Minor, Pools}
 use Rattle.command_line.specs.declared.options.Given.{Given}
 use Rattle.command_line.specs.declared.options.Read.{Read}
 use Rattle.command_line.specs.Numbers.{option_number}
 use Rattle.command_line.specs.Options.{given_at, with_number, with_text, with_name, with_option, with_word, setting_named, given_by, nothing_read}
-use Rattle.command_line.specs.RunWords.{run_given, run_sizes, sizes_given, is_within_limits, if_within_limits}
+use Rattle.command_line.specs.RunWords.{run_given, run_sizes, sizes_given, if_within_limits}
 use Rattle.command_line.specs.Spelled.{name_of, Choice, choice_words, Gives, SpellsRun, AsksFor}
 use Rattle.command_line.proofs.NumberLemmas.{number_read, number_again}
+use Rattle.command_line.proofs.ReadLemmas.{fitting}
 use Rattle.command_line.proofs.WalkLemmas.{named_is, some_of, some_map, if_new}
 
 -- a name, and the text behind its `=` if there is one
@@ -201,19 +203,15 @@ given_spelled (word ∷ words) given e =
 spelled_given : (words : List (List ℕ)) (given : Given) → SpellsRun words given → run_given words ≡ Some given
 spelled_given words given s = ap run_given s.words_are ∙ read_again s.choices _ given s.gives
 
-within : (b : Bool) (y z : Sizes) → (if b then Some y else None) ≡ Some z → (b ≡ true) × (y ≡ z)
-within true y z e = (refl, cc)
-within false y z e = cc
-
 -- what words ask for, as they are spelled
 pub asked : (words : List (List ℕ)) (z : Sizes) → run_sizes words ≡ Some z → AsksFor words z
 asked words z e =
     let g = some_of (λ (g : Given). if_within_limits (sizes_given g)) (run_given words) z e in
-    let p = within (is_within_limits (sizes_given g.0)) (sizes_given g.0) z g.2 in
-    record { given = g.0; spells = given_spelled words g.0 g.1; sizes = sym p.1; limits = subst (λ (y : Sizes). is_within_limits y ≡ true) p.1 p.0 }
+    let p = fitting (sizes_given g.0) z g.2 in
+    record { given = g.0; spells = given_spelled words g.0 g.1; sizes = sym p.1; limits = subst (λ (y : Sizes). first_outside y ≡ None) p.1 p.0 }
 
 pub answered : (words : List (List ℕ)) (z : Sizes) → AsksFor words z → run_sizes words ≡ Some z
 answered words z a =
-    let fits : is_within_limits (sizes_given a.given) ≡ true = subst (λ (y : Sizes). is_within_limits y ≡ true) a.sizes a.limits in
+    let fits : first_outside (sizes_given a.given) ≡ None = subst (λ (y : Sizes). first_outside y ≡ None) a.sizes a.limits in
     ap (option_and_then (λ (g : Given). if_within_limits (sizes_given g))) (spelled_given words a.given a.spells)
-    ∙ (ap (λ (b : Bool). if b then Some (sizes_given a.given) else None) fits ∙ ap Some (sym a.sizes))
+    ∙ (ap (λ (o : Option ℕ). if is_none o then Some (sizes_given a.given) else None) fits ∙ ap Some (sym a.sizes))

@@ -1,11 +1,12 @@
 -- The words of a run as they are spelled: `run`, and then options, each with its number.
-use Rattle.std.specs.Prelude.{◌≡◌, ℕ, ◌<◌, ◌^◌, Bool, true, List, [], ◌∷◌, ◌++◌, None, codes, decimal, flat_map, if◌then◌else◌}
+use Rattle.std.specs.Prelude.{◌≡◌, ℕ, ◌<◌, ◌^◌, Bool, List, [], ◌∷◌, ◌++◌, None, codes, decimal, flat_map, if◌then◌else◌}
 use Rattle.heap_model.specs.declared.state.Sizes.{Sizes}
+use Rattle.heap_model.specs.Domains.{first_outside}
 use Rattle.command_line.specs.declared.options.Setting.{Setting}
 use Rattle.command_line.specs.declared.options.Setting.TheVariants.{Domains, Minor, Pools}
 use Rattle.command_line.specs.declared.options.Given.{Given}
 use Rattle.command_line.specs.Options.{given_at, with_number}
-use Rattle.command_line.specs.RunWords.{sizes_given, is_within_limits}
+use Rattle.command_line.specs.RunWords.{sizes_given}
 
 -- the name of an option
 abbrev pub name_of : Setting → List ℕ
@@ -41,4 +42,4 @@ pub record AsksFor (words : List (List ℕ)) (z : Sizes) : Type 0 where
   pub given : Given
   pub spells : SpellsRun words given
   pub sizes : z ≡ sizes_given given
-  pub limits : is_within_limits z ≡ true
+  pub limits : first_outside z ≡ None

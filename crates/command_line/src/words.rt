@@ -1,17 +1,16 @@
 //! Which lists of words are taken.
 ghost use Rattle.std.specs.Prelude.{◌≡◌, ◌↔◌, IsTrue, IsSome, IfOk, IfErr, Some, drop, map, string_bytes, option_map};
 ghost use Rattle.command_line.specs.Options.{given_by, nothing_read, with_name, with_text, with_word};
-ghost use Rattle.command_line.specs.RunWords.{is_within_limits, run_sizes, sizes_given};
+ghost use Rattle.command_line.specs.RunWords.{run_sizes, sizes_given};
 ghost use Rattle.command_line.specs.Spelled.{AsksFor};
 ghost use Rattle.heap_model.specs.declared.state.Sizes.{Sizes};
-ghost use Rattle.heap_model.specs.Domains.{IsWithinLimits};
 
 use crate::long::long_option;
 use crate::number::number;
 use crate::options::{Given, Read, Setting, named_setting};
 use crate::parse::{given_in, matches_of, want_of_memory};
 use heap_model::state::Sizes;
-use size_classes::{CLASS_COUNT, POOL_WORDS, reserve};
+use size_classes::CLASS_COUNT;
 use std::alloc::{AllocError, Global};
 
 const DOMAINS: u32 = 2;
@@ -91,23 +90,6 @@ fn sizes(given: Given) -> Sizes
     }
 }
 
-// Whether sizes with six classes are within the limits of a heap.
-fn are_within_limits(sizes: &Sizes) -> bool
-    requires { sizes.now.classes ≡ 6 }
-    ensures { result ≡ is_within_limits sizes.now }
-{
-    let domains = sizes.domains;
-    if domains < 1 || domains > 8 {
-        return false;
-    }
-    let minor_words = sizes.minor_words;
-    if minor_words < POOL_WORDS || minor_words > 65536 || minor_words % POOL_WORDS != 0 {
-        return false;
-    }
-    let least_pools = reserve(domains, minor_words) + CLASS_COUNT as u32 * domains + 1;
-    least_pools <= sizes.pools && sizes.pools <= 2048
-}
-
 // Whether these are the words of a run.
 fn are_taken(words: &[String]) -> bool
     ensures { IsTrue result ↔ IsSome (run_sizes (map string_bytes words.now)) }
@@ -119,7 +101,7 @@ fn are_taken(words: &[String]) -> bool
         return false;
     }
     match given(rest) {
-        Some(given) => are_within_limits(&sizes(given)),
+        Some(given) => sizes(given).first_outside().is_none(),
         None => false,
     }
 }
