@@ -1,5 +1,5 @@
 -- The runs of a script's sections on one heap, from its start to its end.
-use Rattle.std.specs.Prelude.{◌≡◌, ◌<◌, ◌≤◌, true, List, [], map, length, slice_index_or, vec_capacity, None}
+use Rattle.std.specs.Prelude.{◌≡◌, ◌<◌, ◌≤◌, true, false, List, [], map, length, slice_index_or, vec_capacity, None}
 use Rattle.std.specs.List.{AllByRecursion}
 use Rattle.heap_model.specs.declared.command.Command.{Command}
 use Rattle.heap_model.specs.declared.state.Sizes.{Sizes}
