@@ -4,6 +4,7 @@ use Rattle.std.specs.Prelude.{Option, is_some, find, nat_lt, unsigned_abs, slice
 use Rattle.std.proofs.lemmas.Bool.Decides.{nat_tests}
 use Rattle.std.proofs.lemmas.Int.{ints}
 use Rattle.std.proofs.lemmas.Slice.Eq.{bytes_eq-Decides}
+use Rattle.std.proofs.lemmas.Bool.{and_parts as both}
 use Rattle.heap_model.specs.declared.command.Command.{Command}
 use Rattle.heap_model.specs.declared.command.Command.TheVariants.{PutInt, Copy, Forget, Alloc, AllocMaj, Load, Store, Raw, Cas, Ephe, SetKey, UnsetKey, GetKey, CheckKey, SetData, UnsetData, GetData, CheckData, Finalise, FinaliseLast, Poll, Minor, Major, FullMajor, Spawn, Argument, PutResult, Join}
 use Rattle.heap_text.specs.declared.form.Operand.{Operand}
@@ -11,8 +12,8 @@ use Rattle.heap_text.specs.declared.form.Operand.TheVariants.{Register, Tag, Raw
 use Rattle.heap_text.specs.declared.form.Word.{Word}
 use Rattle.heap_text.specs.declared.form.Word.TheVariants as word
 use Rattle.heap_text.specs.Forms.{form, fits, least, greatest, byte, short, wide, word_of, built_words, is_built, made, parts, all_fit}
-use Rattle.heap_text.specs.Faults.{first_outside}
-use Rattle.heap_text.proofs.DecimalLemmas.{is_free, both}
+use Rattle.heap_text.specs.Faults.{first_out_of_range}
+use Rattle.heap_text.proofs.DecimalLemmas.{is_free}
 use Rattle.heap_text.proofs.RangeLemmas.{least_wide, greatest_wide, passed}
 use Rattle.heap_text.proofs.TextLemmas.{are_small}
 
@@ -146,7 +147,7 @@ few_operands word.Int = lit≤ tt
 few_operands _ = lit≤ tt
 
 -- numbers in their ranges stay as they are
-pub all_held_same : (kinds : List Operand) (zs : List ℤ) → length kinds ≤ 4 → length zs ≡ length kinds → first_outside 1 kinds zs ≡ None → all_held kinds zs ≡ zs
+pub all_held_same : (kinds : List Operand) (zs : List ℤ) → length kinds ≤ 4 → length zs ≡ length kinds → first_out_of_range 1 kinds zs ≡ None → all_held kinds zs ≡ zs
 all_held_same [] [] few n e = refl
 all_held_same [] (x ∷ zs) few n e = absurd (omega arith)
 all_held_same (a ∷ kinds) [] few n e = absurd (omega arith)
@@ -157,7 +158,7 @@ all_held_same (a ∷ []) (x ∷ []) few n e =
 all_held_same (a ∷ []) (x ∷ y ∷ zs) few n e = absurd (omega arith)
 all_held_same (a ∷ b ∷ kinds) (x ∷ []) few n e = absurd (omega arith)
 all_held_same (a ∷ b ∷ []) (x ∷ y ∷ []) few n e =
-    let p = passed (fits a x) (first_outside 2 (b ∷ []) (y ∷ [])) 1 e in
+    let p = passed (fits a x) (first_out_of_range 2 (b ∷ []) (y ∷ [])) 1 e in
     let q = passed (fits b y) None 2 p.1 in
     let first = held_same a x p.0 in
     let second = held_same b y q.0 in
@@ -165,8 +166,8 @@ all_held_same (a ∷ b ∷ []) (x ∷ y ∷ []) few n e =
 all_held_same (a ∷ b ∷ []) (x ∷ y ∷ z ∷ zs) few n e = absurd (omega arith)
 all_held_same (a ∷ b ∷ c ∷ kinds) (x ∷ y ∷ []) few n e = absurd (omega arith)
 all_held_same (a ∷ b ∷ c ∷ []) (x ∷ y ∷ z ∷ []) few n e =
-    let p = passed (fits a x) (first_outside 2 (b ∷ c ∷ []) (y ∷ z ∷ [])) 1 e in
-    let q = passed (fits b y) (first_outside 3 (c ∷ []) (z ∷ [])) 2 p.1 in
+    let p = passed (fits a x) (first_out_of_range 2 (b ∷ c ∷ []) (y ∷ z ∷ [])) 1 e in
+    let q = passed (fits b y) (first_out_of_range 3 (c ∷ []) (z ∷ [])) 2 p.1 in
     let r = passed (fits c z) None 3 q.1 in
     let first = held_same a x p.0 in
     let second = held_same b y q.0 in
@@ -175,9 +176,9 @@ all_held_same (a ∷ b ∷ c ∷ []) (x ∷ y ∷ z ∷ []) few n e =
 all_held_same (a ∷ b ∷ c ∷ []) (x ∷ y ∷ z ∷ v ∷ zs) few n e = absurd (omega arith)
 all_held_same (a ∷ b ∷ c ∷ d ∷ kinds) (x ∷ y ∷ z ∷ []) few n e = absurd (omega arith)
 all_held_same (a ∷ b ∷ c ∷ d ∷ []) (x ∷ y ∷ z ∷ v ∷ []) few n e =
-    let p = passed (fits a x) (first_outside 2 (b ∷ c ∷ d ∷ []) (y ∷ z ∷ v ∷ [])) 1 e in
-    let q = passed (fits b y) (first_outside 3 (c ∷ d ∷ []) (z ∷ v ∷ [])) 2 p.1 in
-    let r = passed (fits c z) (first_outside 4 (d ∷ []) (v ∷ [])) 3 q.1 in
+    let p = passed (fits a x) (first_out_of_range 2 (b ∷ c ∷ d ∷ []) (y ∷ z ∷ v ∷ [])) 1 e in
+    let q = passed (fits b y) (first_out_of_range 3 (c ∷ d ∷ []) (z ∷ v ∷ [])) 2 p.1 in
+    let r = passed (fits c z) (first_out_of_range 4 (d ∷ []) (v ∷ [])) 3 q.1 in
     let t = passed (fits d v) None 4 r.1 in
     let first = held_same a x p.0 in
     let second = held_same b y q.0 in
@@ -188,7 +189,7 @@ all_held_same (a ∷ b ∷ c ∷ d ∷ []) (x ∷ y ∷ z ∷ v ∷ w ∷ zs) fe
 all_held_same (a ∷ b ∷ c ∷ d ∷ f ∷ kinds) (x ∷ y ∷ z ∷ v ∷ zs) few n e = absurd (omega arith)
 
 -- numbers in their ranges are those of the command that is made of them
-pub numbers_kept : (w : Word) (zs : List ℤ) → length zs ≡ length (form w).operands → first_outside 1 (form w).operands zs ≡ None → (parts (made w zs)).numbers ≡ zs
+pub numbers_kept : (w : Word) (zs : List ℤ) → length zs ≡ length (form w).operands → first_out_of_range 1 (form w).operands zs ≡ None → (parts (made w zs)).numbers ≡ zs
 numbers_kept w zs n e = numbers_made w zs ∙ all_held_same (form w).operands zs (few_operands w) n e
 
 -- numbers in their ranges fit 64 bits
@@ -199,24 +200,24 @@ small_between low high (negsuc n) l h e = grind (arith, ints, nat_tests)
 small_if_fits : (kind : Operand) (z : ℤ) → fits kind z ≡ true → nat_lt (unsigned_abs z) (2 ^ 63) ≡ true
 small_if_fits kind z e = small_between (least kind) (greatest kind) z (least_wide kind) (greatest_wide kind) e
 
-pub small_if_inside : (which : ℕ) (kinds : List Operand) (zs : List ℤ) → length zs ≡ length kinds → first_outside which kinds zs ≡ None → are_small zs ≡ true
+pub small_if_inside : (which : ℕ) (kinds : List Operand) (zs : List ℤ) → length zs ≡ length kinds → first_out_of_range which kinds zs ≡ None → are_small zs ≡ true
 small_if_inside which kinds [] n e = refl
 small_if_inside which [] (z ∷ zs) n e = absurd (omega arith)
 small_if_inside which (kind ∷ kinds) (z ∷ zs) n e =
-    let p = passed (fits kind z) (first_outside (which + 1) kinds zs) which e in
+    let p = passed (fits kind z) (first_out_of_range (which + 1) kinds zs) which e in
     ap (λ b. b && are_small zs) (small_if_fits kind z p.0) ∙ small_if_inside (which + 1) kinds zs (omega arith) p.1
 
 -- the two ways to say that numbers are in their ranges
-pub inside_if_fit : (which : ℕ) (kinds : List Operand) (zs : List ℤ) → all_fit kinds zs ≡ true → first_outside which kinds zs ≡ None
+pub inside_if_fit : (which : ℕ) (kinds : List Operand) (zs : List ℤ) → all_fit kinds zs ≡ true → first_out_of_range which kinds zs ≡ None
 inside_if_fit which [] zs e = refl
 inside_if_fit which (kind ∷ kinds) [] e = refl
 inside_if_fit which (kind ∷ kinds) (z ∷ zs) e =
     let p = both (fits kind z) (all_fit kinds zs) e in
-    ap (λ b. cond b (first_outside (which + 1) kinds zs) (Some which)) p.0 ∙ inside_if_fit (which + 1) kinds zs p.1
+    ap (λ b. cond b (first_out_of_range (which + 1) kinds zs) (Some which)) p.0 ∙ inside_if_fit (which + 1) kinds zs p.1
 
-pub fit_if_inside : (which : ℕ) (kinds : List Operand) (zs : List ℤ) → first_outside which kinds zs ≡ None → all_fit kinds zs ≡ true
+pub fit_if_inside : (which : ℕ) (kinds : List Operand) (zs : List ℤ) → first_out_of_range which kinds zs ≡ None → all_fit kinds zs ≡ true
 fit_if_inside which [] zs e = refl
 fit_if_inside which (kind ∷ kinds) [] e = refl
 fit_if_inside which (kind ∷ kinds) (z ∷ zs) e =
-    let p = passed (fits kind z) (first_outside (which + 1) kinds zs) which e in
+    let p = passed (fits kind z) (first_out_of_range (which + 1) kinds zs) which e in
     ap (λ b. b && all_fit kinds zs) p.0 ∙ fit_if_inside (which + 1) kinds zs p.1

@@ -2,7 +2,13 @@
 #![tactic(auto)]
 
 #[cfg(test)]
+mod command_line;
+#[cfg(test)]
+mod decimals;
+#[cfg(test)]
 mod domain_turns;
+#[cfg(test)]
+mod heap_text;
 #[cfg(test)]
 mod heap_words;
 #[cfg(test)]
