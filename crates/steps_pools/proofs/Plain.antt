@@ -8,6 +8,7 @@ use Rattle.heap_rule.specs.declared.change.Change.{Change}
 use Rattle.heap_rule.specs.declared.config.Config.{Config}
 use Rattle.heap_rule.specs.declared.view.Own.{Own}
 use Rattle.heap_rule.specs.declared.view.DomainView.{DomainView}
+use Rattle.heap_rule.specs.declared.view.Hunt.{Hunt}
 use Rattle.heap_rule.specs.declared.view.Spot.{Spot}
 use Rattle.heap_rule.specs.Changes.{FitChanges}
 use Rattle.heap_rule.specs.Limits.{sizes_in}
@@ -19,8 +20,8 @@ use Rattle.steps_pools.specs.Takes.{CursorTold, CursorAddTold, OwnedTold, OwnerT
 use Rattle.steps_pools.specs.Writes.{looking, CanLook, LooksFrom, PassesPool, PassesPlace, CanLabel, Labels}
 
 -- loads and adds of the cursor leave the token's own data
-pub cursor_own : (k : Config) (count : ℕ) (x : DomainView) (found : ℕ) (y : DomainView) → CursorTold k count x found y → y.own ≡ x.own
-cursor_own k count x found y told = dite (dec_le (limit_of k count) found)
+pub cursor_own : (k : Config) (count : ℕ) (hunt : Hunt) (x : DomainView) (found : ℕ) (y : DomainView) → CursorTold k count hunt x found y → y.own ≡ x.own
+cursor_own k count hunt x found y told = dite (dec_le (limit_of k count) found)
     (λ past. ap (λ (z : DomainView). z.own) (told.past past))
     (λ not_past. ap (λ (z : DomainView). z.own) (told.below (lt_of_not-le not_past)))
 

@@ -6,7 +6,7 @@ mod taking;
 mod walking;
 
 pub use taking::{
-    clear_store, cursor_add, cursor_load, fill_store, head_store, list_load, listed_load,
-    owner_store,
+    clear_store, cursor_add, cursor_load, draw_limit, fill_store, free_load, head_store, list_load,
+    listed_load, owner_store,
 };
 pub use walking::{class_blocks, class_size, owner_load, owner_word, place_address, place_load};
