@@ -1,5 +1,5 @@
 -- Steps on the control words of the phases: the other words stay, and so does what they stand for.
-use Rattle.std.proofs.Common.{◌≡◌, ◌≢◌, ℕ, zero, suc, ◌+◌, ◌*◌, ◌<◌, ◌≤◌, ◌⊎◌, List, length, get_or, set, Some, sym, refl, ap, ◌∙◌, subst, arith, ⊎_elim, inl, inr, suc-mul, zero-le}
+use Rattle.std.proofs.Common.{◌≡◌, ◌≢◌, ℕ, zero, suc, ◌+◌, ◌*◌, ◌<◌, ◌≤◌, ◌⊎◌, List, length, get_or, set, Option, Some, sym, refl, ap, ◌∙◌, subst, arith, ⊎_elim, inl, inr, suc-mul, zero-le}
 use mathlib.Core.Logic.{dite}
 use native.Mathlib.Decide.{ℕ_discrete}
 use mathlib.Core.Option.{some}
@@ -11,14 +11,15 @@ use Rattle.heap_rule.specs.declared.config.Config.{Config}
 use Rattle.heap_rule.specs.declared.phase.Stage.{Stage}
 use Rattle.heap_rule.specs.declared.phase.Note.{Note}
 use Rattle.heap_rule.specs.declared.view.DomainView.{DomainView}
-use Rattle.heap_rule.specs.Layout.{before_heap, at_address, ended_word, cursor}
-use Rattle.heap_rule.specs.Places.{Place, Live, HeadIs}
+use Rattle.heap_rule.specs.declared.view.Listing.{Listing}
+use Rattle.heap_rule.specs.Layout.{before_heap, ended_word, cursor}
+use Rattle.heap_rule.specs.Places.{Live, HeadIs}
 use Rattle.heap_rule.specs.Phases.{Pause, Phases, sum_of, IsEven, IsOdd, Staged, Still}
-use Rattle.heap_rule.specs.Pools.{Holder, Tenancy, Pools, Grid, Drawers, Resting, Hunter, place_in}
+use Rattle.heap_rule.specs.Pools.{Holder, Tenancy, Pools, Grid, Drawers, Lists, Resting, Hunter}
 use Rattle.heap_rule.specs.Rule.{state_of, AllFound, Prepared, NoCycle, Rule}
 use Rattle.heap_rule.specs.Views.{one}
-use Rattle.heap_rule.proofs.Holders.{Agrees, same_self, hunter_agree}
-use Rattle.heap_rule.proofs.Keeps.{Words, mine, my_good, remakes, knows_front, phases_words, pools_words, hunter_as}
+use Rattle.heap_rule.proofs.Holders.{Agrees, grid_heap, same_self, hunter_agree}
+use Rattle.heap_rule.proofs.Keeps.{Words, mine, my_good, remakes, knows_front, phases_words, pools_words, lists_same}
 
 -- all words stay but the first four, want, barrier, plan and changed, and the ended word
 abbrev pub Untouched : List ℕ → List ℕ → Type 0
@@ -56,13 +57,16 @@ agrees_untouched k words words' u = record {
 }
 
 pub grid_untouched : (k : Config) (holder : ℕ → Holder) (live : Live) (words words' : List ℕ) → Untouched words words' → Grid k holder live words → Grid k holder live words'
-grid_untouched k holder live words words' u g = let same = agrees_untouched k words words' u in record {
-  lots = g.lots;
-  places = λ q d c slot is inside. ⊎_elim (λ (z : at_address k words (place_in q c slot) ≡ 0). inl (same.heap (place_in q c slot) (omega arith) ∙ z)) (λ (z : (p : Place) × (live (place_in q c slot) ≡ Some p)). inr z) (g.places q d c slot is inside);
-}
+grid_untouched k holder live words words' u g = grid_heap k holder live words words' (agrees_untouched k words words' u).heap g
 
 pub hunter_untouched : (k : Config) (t : Tenancy) (words words' : List ℕ) (z : DomainView) → Untouched words words' → Hunter k t words z → Hunter k t words' z
 hunter_untouched k t words words' z u h = hunter_agree k t t words words' (agrees_untouched k words words' u) z (let e : cursor words' ≡ cursor words = u.1 7 (omega arith) (λ e. omega arith) in let c : ℕ = cursor words in let c' : ℕ = cursor words' in let f : c' ≡ c = e in let l : c ≤ c' = omega arith in l) (same_self t z.own.number) h
+
+pub lists_untouched : (k : Config) (words words' : List ℕ) (number : ℕ) (stage : Stage) (l : Listing) → Untouched words words' → Lists k words number stage l → Lists k words' number stage l
+lists_untouched k words words' number stage l u s = lists_same k words words' number stage l (u.1 6 (omega arith) (λ e. omega arith)) (u.1 7 (omega arith) (λ e. omega arith)) (λ i h. u.1 (11 + i) (omega arith) (λ e. omega arith)) (λ q h. u.1 (11 + k.pools + q) (omega arith) (λ e. omega arith)) s
+
+pub resting_untouched : (k : Config) (words words' : List ℕ) (z : DomainView) → Untouched words words' → Resting k words z → Resting k words' z
+resting_untouched k words words' z u r = record { hunt = r.hunt; free = r.free; lists = λ l e. lists_untouched k words words' z.own.number z.seen.stage l u (r.lists l e) }
 
 pub cycle_untouched : (words words' : List ℕ) → Untouched words words' → NoCycle words → NoCycle words'
 cycle_untouched words words' u s = record { armed_is = u.1 4 (omega arith) (λ e. omega arith) ∙ s.armed_is; colours_are = u.1 5 (omega arith) (λ e. omega arith) ∙ s.colours_are }
@@ -112,8 +116,8 @@ parity (suc n) = ⊎_elim (λ (t : IsEven n). inr (t.0, let j : ℕ = t.0 in let
     (λ (t : IsOdd n). inl (t.0 + 1, let j : ℕ = t.0 in let e : n ≡ j * 2 + 1 = t.1 in let g : suc n ≡ (j + 1) * 2 = omega arith in g)) (parity n)
 
 -- a domain's view after a step of a pause
-abbrev pub moved_to : DomainView → ℕ → List Entry → Stage → List Note → DomainView
-moved_to x arrivals front stage notes = record { own = record x.own { arrivals = arrivals }; seen = record x.seen { front = front; stage = stage; notes = notes } }
+abbrev pub moved_to : DomainView → ℕ → List Entry → Stage → List Note → Option ℕ → Option Listing → DomainView
+moved_to x arrivals front stage notes free listing = record { own = record x.own { arrivals = arrivals }; seen = record x.seen { front = front; stage = stage; notes = notes; free = free; listing = listing } }
 
 module _ (k : Config) (s : Words) (r : Rule k s) (id : ℕ) (hist : List Entry) (x : DomainView) (at : get_elem? s.views id ≡ some (one k hist x)) where
   -- What a step of a pause owes: no entry stands, no block changes, and the phases may turn
@@ -124,14 +128,16 @@ module _ (k : Config) (s : Words) (r : Rule k s) (id : ℕ) (hist : List Entry) 
     pub endings : ended_word words' ≡ ended_word s.words
     pub staged : Staged pause' y
     pub still : Still r.log y
-    pub resting : Resting y
+    pub free : (f : ℕ) → y.seen.free ≡ Some f → x.seen.free ≡ Some f
+    pub resting : Resting k words' y
     pub drawers : Drawers pause' r.tenancy
     pub others : (z : DomainView) → z.own.number < k.domains → z.own.number ≢ x.own.number → Staged r.pause z → Staged pause' z
 
-  pub turns : (arrivals : ℕ) (front : List Entry) (stage : Stage) (notes : List Note) (pause' : Pause) (words' : List ℕ) → let y : DomainView = moved_to x arrivals front stage notes in Turns y pause' words'
+  pub turns : (arrivals : ℕ) (front : List Entry) (stage : Stage) (notes : List Note) (free : Option ℕ) (listing : Option Listing) (pause' : Pause) (words' : List ℕ) → let y : DomainView = moved_to x arrivals front stage notes free listing in Turns y pause' words'
       → Rule k record { words = words'; homes = s.homes; views = set s.views id (one k hist y) }
-  turns arrivals front stage notes pause' words' o =
-      let y : DomainView = moved_to x arrivals front stage notes in
+  turns arrivals front stage notes free listing pause' words' o =
+      let y : DomainView = moved_to x arrivals front stage notes free listing in
+      let h = hunter_untouched k r.tenancy s.words words' x o.untouched (my_good k s r id hist x at).hunter in
       let g = my_good k s r id hist x at in
       let p = prepared_untouched k s.words words' x o.untouched g.prepared in
       remakes k s r id hist x at y r.log words' r.live pause' r.tenancy
@@ -155,7 +161,7 @@ module _ (k : Config) (s : Words) (r : Rule k s) (id : ℕ) (hist : List Entry) 
         prepared = record { fits = p.fits; written = p.written };
         staged = o.staged;
         still = o.still;
-        hunter = hunter_as k r.tenancy words' x y refl refl refl refl (hunter_untouched k r.tenancy s.words words' x o.untouched g.hunter);
+        hunter = record { hunt = h.hunt; drawn_alone = h.drawn_alone; taken = h.taken; free = λ f e. h.free f (o.free f e) };
         resting = o.resting;
       }
       (λ z below other h. record {
@@ -165,20 +171,21 @@ module _ (k : Config) (s : Words) (r : Rule k s) (id : ℕ) (hist : List Entry) 
         staged = o.others z below other h.staged;
         still = h.still;
         hunter = hunter_untouched k r.tenancy s.words words' z o.untouched h.hunter;
-        resting = h.resting;
+        resting = resting_untouched k s.words words' z o.untouched h.resting;
       })
 
   -- a step that leaves where all stand, and the front
   pub notes_rule : (notes : List Note) (words' : List ℕ) → Untouched s.words words' → get_or words' 1 0 ≡ get_or s.words 1 0 → get_or words' 2 0 ≡ get_or s.words 2 0 → ended_word words' ≡ ended_word s.words
-      → Rule k record { words = words'; homes = s.homes; views = set s.views id (one k hist (moved_to x x.own.arrivals x.seen.front x.seen.stage notes)) }
-  notes_rule notes words' u b c e = let g = my_good k s r id hist x at in turns x.own.arrivals x.seen.front x.seen.stage notes r.pause words' record {
+      → Rule k record { words = words'; homes = s.homes; views = set s.views id (one k hist (moved_to x x.own.arrivals x.seen.front x.seen.stage notes x.seen.free x.seen.listing)) }
+  notes_rule notes words' u b c e = let g = my_good k s r id hist x at in turns x.own.arrivals x.seen.front x.seen.stage notes x.seen.free x.seen.listing r.pause words' record {
     untouched = u;
     front = (mine k s r id hist x at).front;
     phases = phases_words k r.pause s.words words' b c r.whole.phases;
     endings = e;
     staged = record { arrivals = g.staged.arrivals; stage = g.staged.stage };
     still = g.still;
-    resting = λ n. g.resting n;
+    free = λ f e. e;
+    resting = let rest = resting_untouched k s.words words' x u g.resting in record { hunt = rest.hunt; free = rest.free; lists = rest.lists };
     drawers = r.whole.drawers;
     others = λ z _ _ st. st;
   }

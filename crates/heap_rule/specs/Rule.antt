@@ -50,7 +50,7 @@ pub record Good (k : Config) (log : List Entry) (live : Live) (p : Pause) (t : T
   pub staged : Staged p x
   pub still : Still log x
   pub hunter : Hunter k t words x
-  pub resting : Resting x
+  pub resting : Resting k words x
 
 -- at the start no domain asks for a collection, none has arrived anywhere, and no trace has ended
 pub record Rested (words : List ℕ) : Type 0 where

@@ -29,7 +29,7 @@ use Rattle.heap_rule.specs.Rule.{state_of, AllFound, Stood, Rule}
 use Rattle.heap_rule.specs.Standing.{Acts}
 use Rattle.heap_rule.specs.Views.{one, Tells}
 use Rattle.heap_rule.proofs.Values.{AllStand}
-use Rattle.heap_rule.proofs.Keeps.{mine, my_good, remakes, knows_entry, after_entry, legal_entry, phases_words, stood_other, nobody_paused, run_still, staged_as, hunter_as}
+use Rattle.heap_rule.proofs.Keeps.{resting_runs, resting_other, mine, my_good, remakes, knows_entry, after_entry, legal_entry, phases_words, stood_other, nobody_paused, run_still, staged_as, hunter_as}
 use Rattle.heap_rule.proofs.Controls.{Untouched, found_untouched, prepared_untouched, pools_untouched, grid_untouched, hunter_untouched, cycle_untouched, sum_one}
 use Rattle.heap_rule.proofs.Entering.{running, inside_state, registers_stand, Enters, entered_view, stood_after, enters}
 use Rattle.steps_pauses.proofs.PauseSteps.{over_few}
@@ -92,7 +92,7 @@ ends k slots id hist x acts s r _ at _ =
       staged = staged_as r.pause x y refl refl refl g.staged;
       still = run_still log' y acts.runs;
       hunter = hunter_as k r.tenancy ws x y refl refl refl refl (hunter_untouched k r.tenancy s.words ws x untouched g.hunter);
-      resting = λ n. absurd (n acts.runs);
+      resting = resting_runs k s.words ws x y acts.runs acts.runs refl g.resting;
     }
     (λ z _ other h. record {
       stood = subst (λ (t : model.State). Stood r.live t z) (sym after) (stood_other r.live r.live now (next now e) z (keeps_next now e z.own.number (o.alone z.own.number other)) (λ a p q. q) h.stood);
@@ -101,7 +101,7 @@ ends k slots id hist x acts s r _ at _ =
       staged = h.staged;
       still = λ paused. absurd (nobody_paused r.pause x z acts.runs g.staged h.staged paused);
       hunter = hunter_untouched k r.tenancy s.words ws z untouched h.hunter;
-      resting = h.resting;
+      resting = resting_other k r.pause s.words ws x z acts.runs g.staged h.staged h.resting;
     }) in (
       one k hist y,
       keeps,

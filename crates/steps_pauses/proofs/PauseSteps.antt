@@ -20,13 +20,13 @@ use Rattle.heap_rule.specs.declared.phase.Note.{Note}
 use Rattle.heap_rule.specs.declared.phase.Note.TheVariants.{Want, Asked, Barrier, Ended, Cleared}
 use Rattle.heap_rule.specs.Layout.{heap_words, before_heap, barrier, plan, ended_word}
 use Rattle.heap_rule.specs.Phases.{code, Follows, sum_of, is_over, IsEven, IsOdd, Pause, Phases, AtStage, Staged, Still, IsInPause}
-use Rattle.heap_rule.specs.Pools.{drawn, drawn_in, Drawers}
+use Rattle.heap_rule.specs.Pools.{drawn, drawn_in, Drawers, IsLeading}
 use Rattle.steps_pauses.specs.Pauses.{noted, kind_in, IsGone, WantTold, AskTold, ArrivesFrom, ArriveMay, arrived_view, Arrived, LookTold, PlanTold, ClearTold, LeadMay, LeadTold, EndedTold}
 use Rattle.heap_rule.specs.Raw.{MayStep, MayStore}
 use Rattle.heap_rule.specs.Rule.{state_of, Rule}
 use Rattle.heap_rule.specs.Views.{one, Tells}
 use Rattle.heap_rule.proofs.Update.{over, over_here, over_else}
-use Rattle.heap_rule.proofs.Controls.{Untouched, untouched_same, sum_one, sum_low, all_up, parity, moved_to, turns, notes_rule}
+use Rattle.heap_rule.proofs.Controls.{Untouched, untouched_same, sum_one, sum_low, all_up, parity, moved_to, turns, notes_rule, resting_untouched}
 use Rattle.heap_rule.proofs.Keeps.{Words, mine, my_good, unmoved}
 
 gone_runs : (kind : Kind) → ◌≡◌ {A = Stage} (Gone kind) (In Run) → ⊥
@@ -137,14 +137,15 @@ arrives k slots id hist x may s r _ at _ =
     let endings : ended_word ws ≡ ended_word s.words = get_or-set_other s.words 1 8 (b + 1) 0 (λ e. omega arith) in
     let through : (t' : Pause) → Phases k t' ws → Staged t' y → ((z : DomainView) → z.own.number < N → z.own.number ≢ d → Staged t z → Staged t' z)
     → Drawers t' r.tenancy → Rule k record { words = ws; homes = s.homes; views = set s.views id (one k hist y) } =
-    (λ t' phases own_stage stages drawers. turns k s r id hist x at (x.own.arrivals + 1) x.seen.front (Gone (kind_in x.seen.stage)) x.seen.notes t' ws record {
+    (λ t' phases own_stage stages drawers. turns k s r id hist x at (x.own.arrivals + 1) x.seen.front (Gone (kind_in x.seen.stage)) x.seen.notes None None t' ws record {
       untouched = untouched;
       front = me.front;
       phases = phases;
       endings = endings;
       staged = own_stage;
       still = λ paused. absurd paused;
-      resting = λ n. may.at_rest;
+      free = λ f e. cc;
+      resting = record { hunt = λ n. may.at_rest; free = λ n. refl; lists = λ l e. cc };
       drawers = drawers;
       others = stages;
     }) in
@@ -224,8 +225,8 @@ looked_at k id hist x gone s r at =
     (λ not_above. let z : a < t.phase + 1 = lt_of_not-le not_above in omega arith) in
     let through : (stage : Stage) → AtStage t x.own.number a stage → ((kind : Kind) × (((stage ≡ In kind) × IsEven a) ⊎ ((stage ≡ Leads (kind_in x.seen.stage)) × IsOdd a))) → Looks k s id hist x =
     (λ stage at' says. record {
-      after = moved_to x a r.log stage notes;
-      rule = turns k s r id hist x at a r.log stage notes t s.words record {
+      after = moved_to x a r.log stage notes x.seen.free x.seen.listing;
+      rule = turns k s r id hist x at a r.log stage notes x.seen.free x.seen.listing t s.words record {
         untouched = untouched_same s.words;
         front = front_whole x.own.number r.log;
         phases = P;
@@ -233,7 +234,12 @@ looked_at k id hist x gone s r at =
         staged = record { arrivals = st.arrivals; stage = at' };
         still = λ _. refl;
         drawers = r.whole.drawers;
-        resting = λ n. (my_good k s r id hist x at).resting (λ e. gone_runs (kind_in x.seen.stage) (sym gone ∙ e));
+        free = λ f e. e;
+        resting = let rest = (my_good k s r id hist x at).resting in let stays : x.seen.stage ≢ In Run = (λ e. gone_runs (kind_in x.seen.stage) (sym gone ∙ e)) in record {
+          hunt = λ n. rest.hunt stays;
+          free = λ n. rest.free stays;
+          lists = λ l e. absurd (subst IsLeading gone (rest.lists l e).leads);
+        };
         others = λ z _ _ its. its;
       };
       told = record {
@@ -288,7 +294,7 @@ leads k slots id hist x new next may s r _ at _ =
     let t : Pause = r.pause in
     let g = my_good k s r id hist x at in
     let ws : List ℕ = set s.words 2 new in
-    let y : DomainView = moved_to x x.own.arrivals x.seen.front (Led next) x.seen.notes in
+    let y : DomainView = moved_to x x.own.arrivals x.seen.front (Led next) x.seen.notes x.seen.free x.seen.listing in
     let before = subst (AtStage t x.own.number x.own.arrivals) may.stage g.staged.stage in
     let j : ℕ = before.1.0 in
     let odd : t.phase ≡ j * 2 + 1 = before.1.1 in
@@ -298,13 +304,18 @@ leads k slots id hist x new next may s r _ at _ =
       one k hist y,
       keeps,
       tt,
-      turns k s r id hist x at x.own.arrivals x.seen.front (Led next) x.seen.notes t' ws record {
+      turns k s r id hist x at x.own.arrivals x.seen.front (Led next) x.seen.notes x.seen.free x.seen.listing t' ws record {
         untouched = (length-set s.words 2 new, (λ i low other. get_or-set_other s.words 2 i new 0 (λ e. omega arith)));
         front = (mine k s r id hist x at).front;
         endings = get_or-set_other s.words 2 8 new 0 (λ e. omega arith);
         still = λ _. g.still (subst IsInPause (sym may.stage) tt);
         drawers = λ q e h. absurd (let i : ℕ = (r.whole.drawers q e h).1.0 in let f : t.phase ≡ i * 2 = (r.whole.drawers q e h).1.1 in omega arith);
-        resting = λ n. g.resting (λ e. leads_runs may.last (sym may.stage ∙ e));
+        free = λ f e. e;
+        resting = let rest = resting_untouched k s.words ws x (length-set s.words 2 new, (λ i low other. get_or-set_other s.words 2 i new 0 (λ e. omega arith))) g.resting in let stays : x.seen.stage ≢ In Run = (λ e. leads_runs may.last (sym may.stage ∙ e)) in record {
+          hunt = λ n. rest.hunt stays;
+          free = λ n. rest.free stays;
+          lists = λ l e. let z = rest.lists l e in record { first = z.first; leads = tt; few = z.few; owners = z.owners; names = z.names; count = z.count; rewinds = z.rewinds };
+        };
         phases = record {
           sum = barrier' ∙ P.sum;
           begun = subst (λ (n : ℕ). t.phase * k.domains ≤ n) (sym barrier') P.begun;

@@ -22,7 +22,7 @@ use Rattle.steps_pools.specs.Takes.{with_hunt, found_free, HasNoDraw}
 use Rattle.heap_rule.proofs.Update.{over, over_here, over_else}
 use Rattle.heap_rule.proofs.Keeps.{Words, mine, my_good, phases_words, holds_again}
 use Rattle.heap_rule.proofs.Lots.{drawn_same}
-use Rattle.heap_rule.proofs.Holders.{Agrees, agrees_same, agrees_set, found_agrees, prepared_agrees, same_asking, same_over, NotOf, nobody_not, drawn_not, drawn_owned, grid_over, free_later, hunter_agree, sum_over, sum_small}
+use Rattle.heap_rule.proofs.Holders.{Agrees, agrees_same, agrees_set, found_agrees, prepared_agrees, same_asking, same_over, NotOf, nobody_not, drawn_not, drawn_owned, grid_heap, grid_over, free_later, hunter_agree, sum_over, sum_small}
 
 pub some_none : (q : ℕ) → ◌≡◌ {A = Option ℕ} None (Some q) → ⊥
 some_none q e = cc
@@ -229,7 +229,7 @@ module _ (k : Config) (s : Words) (r : Rule k s) (id : ℕ) (hist : List Entry) 
         asked = subst (λ (m : ℕ). m + sum_of asking' k.domains ≤ k.pools + k.domains) (sym cursor_is) sums;
       };
       drawers = r.whole.drawers;
-      grid = record { lots = r.whole.grid.lots; places = λ q d c slot is inside. ⊎_elim (λ (z : at_address k s.words (place_in q c slot) ≡ 0). inl (agrees.heap (place_in q c slot) (omega arith) ∙ z)) (λ (z : (p : Place) × (r.live (place_in q c slot) ≡ Some p)). inr z) (r.whole.grid.places q d c slot is inside) };
+      grid = grid_heap k t.holder r.live s.words words1 agrees.heap r.whole.grid;
       prepares = λ z p. prepared_agrees k s.words words1 z agrees p;
       hunter = record { hunt = tt; free = λ f e. late_free f (some_nat (n - limit_of k n) f e); drawn_alone = λ q e. sym (ap drawn_in is) ∙ hunter.drawn_alone q e; taken = λ q c slot is inside low e. hunter.taken q c slot is inside low (sym (agrees.heap (place_in q c slot) (omega arith)) ∙ e) };
       hunters = λ z other g. hunter_agree k t record { holder = t.holder; asking = asking' } s.words words1 agrees z cursor_grows (same_asking t asking' z.own.number (over_else me 0 t.asking z.own.number other)) g.hunter;

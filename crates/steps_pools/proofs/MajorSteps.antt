@@ -277,6 +277,7 @@ module _ (k : Config) (s : Words) (r : Rule k s) (id : ℕ) (hist : List Entry) 
     command = tt;
     runs = may.acts.runs;
     stage = refl;
+    listing = refl;
     number = refl;
     front = refl;
     arrivals = refl;
