@@ -16,10 +16,10 @@ use Rattle.heap_rule.specs.Layout.{before_heap, ended_word, cursor}
 use Rattle.heap_rule.specs.Places.{Live, HeadIs}
 use Rattle.heap_rule.specs.Phases.{Pause, Phases, sum_of, IsEven, IsOdd, Staged, Still}
 use Rattle.heap_rule.specs.Pools.{Holder, Tenancy, Pools, Grid, Drawers, Lists, Resting, Hunter}
-use Rattle.heap_rule.specs.Rule.{state_of, AllFound, Prepared, NoCycle, Rule}
+use Rattle.heap_rule.specs.Rule.{state_of, AllFound, Making, NoCycle, Rule}
 use Rattle.heap_rule.specs.Views.{one}
 use Rattle.heap_rule.proofs.Holders.{Agrees, grid_heap, same_self, hunter_agree}
-use Rattle.heap_rule.proofs.Keeps.{Words, mine, my_good, remakes, knows_front, phases_words, pools_words, lists_same}
+use Rattle.heap_rule.proofs.Keeps.{Words, mine, my_good, remakes, knows_front, phases_words, pools_words, lists_same, resting_lists}
 
 -- all words stay but the first four, want, barrier, plan and changed, and the ended word
 abbrev pub Untouched : List ℕ → List ℕ → Type 0
@@ -40,8 +40,8 @@ found_untouched k live graph words words' u found a p lives = let f = found a p 
   away : (b : ℕ) → before_heap k + b ≡ 8 → ⊥
   away b e = let h : 10 + 2 * k.pools + b ≡ 8 = e in omega arith
 
-pub prepared_untouched : (k : Config) (words words' : List ℕ) (z : DomainView) → Untouched words words' → Prepared k words z → Prepared k words' z
-prepared_untouched k words words' z u p = record {
+pub making_untouched : (k : Config) (words words' : List ℕ) (z : DomainView) → Untouched words words' → Making k words z → Making k words' z
+making_untouched k words words' z u p = record {
   fits = p.fits;
   written = λ j w e. u.1 (before_heap k + _) (omega arith) (λ e. let h : 10 + 2 * k.pools + _ ≡ 8 = e in omega arith) ∙ p.written j w e;
 }
@@ -66,7 +66,7 @@ pub lists_untouched : (k : Config) (words words' : List ℕ) (number : ℕ) (sta
 lists_untouched k words words' number stage l u s = lists_same k words words' number stage l (u.1 6 (omega arith) (λ e. omega arith)) (u.1 7 (omega arith) (λ e. omega arith)) (λ i h. u.1 (11 + i) (omega arith) (λ e. omega arith)) (λ q h. u.1 (11 + k.pools + q) (omega arith) (λ e. omega arith)) s
 
 pub resting_untouched : (k : Config) (words words' : List ℕ) (z : DomainView) → Untouched words words' → Resting k words z → Resting k words' z
-resting_untouched k words words' z u r = record { hunt = r.hunt; free = r.free; lists = λ l e. lists_untouched k words words' z.own.number z.seen.stage l u (r.lists l e) }
+resting_untouched k words words' z u r = resting_lists k words words' z (λ number stage l. lists_untouched k words words' number stage l u) r
 
 pub cycle_untouched : (words words' : List ℕ) → Untouched words words' → NoCycle words → NoCycle words'
 cycle_untouched words words' u s = record { armed_is = u.1 4 (omega arith) (λ e. omega arith) ∙ s.armed_is; colours_are = u.1 5 (omega arith) (λ e. omega arith) ∙ s.colours_are }
@@ -123,34 +123,34 @@ module _ (k : Config) (s : Words) (r : Rule k s) (id : ℕ) (hist : List Entry) 
   -- What a step of a pause owes: no entry stands, no block changes, and the phases may turn
   pub record Turns (y : DomainView) (pause' : Pause) (words' : List ℕ) : Type 0 where
     pub untouched : Untouched s.words words'
-    pub front : IsFrontOf x.own.number r.log y.seen.front
+    pub front : IsFrontOf x.own.number r.account.log y.seen.front
     pub phases : Phases k pause' words'
     pub endings : ended_word words' ≡ ended_word s.words
     pub staged : Staged pause' y
-    pub still : Still r.log y
+    pub still : Still r.account.log y
     pub free : (f : ℕ) → y.seen.free ≡ Some f → x.seen.free ≡ Some f
     pub resting : Resting k words' y
-    pub drawers : Drawers pause' r.tenancy
-    pub others : (z : DomainView) → z.own.number < k.domains → z.own.number ≢ x.own.number → Staged r.pause z → Staged pause' z
+    pub drawers : Drawers pause' r.account.tenancy
+    pub others : (z : DomainView) → z.own.number < k.domains → z.own.number ≢ x.own.number → Staged r.account.pause z → Staged pause' z
 
   pub turns : (arrivals : ℕ) (front : List Entry) (stage : Stage) (notes : List Note) (free : Option ℕ) (listing : Option Listing) (pause' : Pause) (words' : List ℕ) → let y : DomainView = moved_to x arrivals front stage notes free listing in Turns y pause' words'
       → Rule k record { words = words'; homes = s.homes; views = set s.views id (one k hist y) }
   turns arrivals front stage notes free listing pause' words' o =
       let y : DomainView = moved_to x arrivals front stage notes free listing in
-      let h = hunter_untouched k r.tenancy s.words words' x o.untouched (my_good k s r id hist x at).hunter in
+      let h = hunter_untouched k r.account.tenancy s.words words' x o.untouched (my_good k s r id hist x at).hunter in
       let g = my_good k s r id hist x at in
-      let p = prepared_untouched k s.words words' x o.untouched g.prepared in
-      remakes k s r id hist x at y r.log words' r.live pause' r.tenancy
+      let p = making_untouched k s.words words' x o.untouched g.making in
+      remakes k s r id hist x at y (record r.account { pause = pause' }) words'
       record {
         wide = o.untouched.0 ∙ r.whole.wide;
         legal = r.whole.legal;
         calm = r.whole.calm;
-        found = found_untouched k r.live (state_of k r.log).graph s.words words' o.untouched r.whole.found;
+        found = found_untouched k r.account.live (state_of k r.account.log).graph s.words words' o.untouched r.whole.found;
         placed = r.whole.placed;
         phases = o.phases;
         endings = o.endings ∙ r.whole.endings;
-        pools = pools_untouched k r.tenancy s.words words' o.untouched r.whole.pools;
-        grid = grid_untouched k r.tenancy.holder r.live s.words words' o.untouched r.whole.grid;
+        pools = pools_untouched k r.account.tenancy s.words words' o.untouched r.whole.pools;
+        grid = grid_untouched k r.account.tenancy.holder r.account.live s.words words' o.untouched r.whole.grid;
         drawers = o.drawers;
         cycle = cycle_untouched s.words words' o.untouched r.whole.cycle;
       }
@@ -158,7 +158,7 @@ module _ (k : Config) (s : Words) (r : Rule k s) (id : ℕ) (hist : List Entry) 
       record {
         stood = record { wide = g.stood.wide; each = g.stood.each; serial = g.stood.serial };
         area = record { room = g.area.room; free = g.area.free };
-        prepared = record { fits = p.fits; written = p.written };
+        making = record { fits = p.fits; written = p.written };
         staged = o.staged;
         still = o.still;
         hunter = record { hunt = h.hunt; drawn_alone = h.drawn_alone; taken = h.taken; free = λ f e. h.free f (o.free f e) };
@@ -167,20 +167,20 @@ module _ (k : Config) (s : Words) (r : Rule k s) (id : ℕ) (hist : List Entry) 
       (λ z below other h. record {
         stood = h.stood;
         area = h.area;
-        prepared = prepared_untouched k s.words words' z o.untouched h.prepared;
+        making = making_untouched k s.words words' z o.untouched h.making;
         staged = o.others z below other h.staged;
         still = h.still;
-        hunter = hunter_untouched k r.tenancy s.words words' z o.untouched h.hunter;
+        hunter = hunter_untouched k r.account.tenancy s.words words' z o.untouched h.hunter;
         resting = resting_untouched k s.words words' z o.untouched h.resting;
       })
 
   -- a step that leaves where all stand, and the front
   pub notes_rule : (notes : List Note) (words' : List ℕ) → Untouched s.words words' → get_or words' 1 0 ≡ get_or s.words 1 0 → get_or words' 2 0 ≡ get_or s.words 2 0 → ended_word words' ≡ ended_word s.words
       → Rule k record { words = words'; homes = s.homes; views = set s.views id (one k hist (moved_to x x.own.arrivals x.seen.front x.seen.stage notes x.seen.free x.seen.listing)) }
-  notes_rule notes words' u b c e = let g = my_good k s r id hist x at in turns x.own.arrivals x.seen.front x.seen.stage notes x.seen.free x.seen.listing r.pause words' record {
+  notes_rule notes words' u b c e = let g = my_good k s r id hist x at in turns x.own.arrivals x.seen.front x.seen.stage notes x.seen.free x.seen.listing r.account.pause words' record {
     untouched = u;
     front = (mine k s r id hist x at).front;
-    phases = phases_words k r.pause s.words words' b c r.whole.phases;
+    phases = phases_words k r.account.pause s.words words' b c r.whole.phases;
     endings = e;
     staged = record { arrivals = g.staged.arrivals; stage = g.staged.stage };
     still = g.still;

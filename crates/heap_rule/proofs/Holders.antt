@@ -9,7 +9,7 @@ use Rattle.heap_rule.specs.declared.view.Hunt.TheVariants.{Rests, Counts, Asks, 
 use Rattle.heap_rule.specs.declared.view.DomainView.{DomainView}
 use Rattle.heap_rule.specs.Layout.{before_heap, base_of, at_address, listed_pool, listed, cursor}
 use Rattle.heap_rule.specs.Places.{Place, Live, Placed}
-use Rattle.heap_rule.specs.Rule.{AllFound, Prepared}
+use Rattle.heap_rule.specs.Rule.{AllFound, Making}
 use Rattle.heap_rule.specs.Pools.{Holder, nobody, drawn, owned, Tenancy, Grid, Hunts, Hunter, place_in, blocks_of, limit_of}
 use Rattle.heap_rule.specs.Phases.{sum_of}
 use Rattle.heap_rule.proofs.Update.{over, over_here, over_else}
@@ -49,14 +49,14 @@ found_heap k live graph words words' same placed found a p lives =
 pub found_agrees : (k : Config) (live : Live) (graph : Graph) (words words' : List ℕ) → Agrees k words words' → Placed k live → AllFound k live graph words → AllFound k live graph words'
 found_agrees k live graph words words' same placed found = found_heap k live graph words words' same.heap placed found
 
-pub prepared_heap : (k : Config) (words words' : List ℕ) (z : DomainView) → SameHeap k words words' → Prepared k words z → Prepared k words' z
-prepared_heap k words words' z same p = record {
+pub making_heap : (k : Config) (words words' : List ℕ) (z : DomainView) → SameHeap k words words' → Making k words z → Making k words' z
+making_heap k words words' z same p = record {
   fits = p.fits;
   written = λ j w got. same (base_of k z.own.number + z.own.used + 1 + j) (omega arith) ∙ p.written j w got;
 }
 
-pub prepared_agrees : (k : Config) (words words' : List ℕ) (z : DomainView) → Agrees k words words' → Prepared k words z → Prepared k words' z
-prepared_agrees k words words' z same p = prepared_heap k words words' z same.heap p
+pub making_agrees : (k : Config) (words words' : List ℕ) (z : DomainView) → Agrees k words words' → Making k words z → Making k words' z
+making_agrees k words words' z same p = making_heap k words words' z same.heap p
 
 pub grid_heap : (k : Config) (holder : ℕ → Holder) (live : Live) (words words' : List ℕ) → SameHeap k words words' → Grid k holder live words → Grid k holder live words'
 grid_heap k holder live words words' same g = record {

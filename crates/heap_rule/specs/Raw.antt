@@ -22,17 +22,13 @@ MayStep k x word f tells = OwnFits k x.own → (slots id : ℕ) (h : List Entry)
 abbrev pub MayStore : Config → DomainView → ℕ → ℕ → (DomainView → ℕ → DomainView → Type 0) → Type 0
 MayStore k x word new tells = OwnFits k x.own → (slots id : ℕ) (h : List Entry) → Allows (Rule k) slots id (one k h x, []) word (λ _. new) (λ _. Tells tells (one k h x, []) new)
 
--- the plain data with other registers
-abbrev pub rewritten : Own → List Value → Own
-rewritten own registers = record own { registers = registers }
-
 -- the changes can be made with what the word is read as
 abbrev pub CanChange : Reading → ℕ → List Change → Type 0
 CanChange reading found changes = FitChanges changes × ((v : Value) × Reads reading found v)
 
 -- and they are made
 abbrev pub Changes : Reading → ℕ → List Change → Own → Own → Type 0
-Changes reading found changes own after = (v : Value) × Reads reading found v × (after ≡ rewritten own (changed v changes own.registers))
+Changes reading found changes own after = (v : Value) × Reads reading found v × (after ≡ changed v changes own)
 
 -- the plain data can always be left as it is, and it is left
 abbrev pub CanLeave : Own → Type 0

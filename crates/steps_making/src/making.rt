@@ -78,9 +78,11 @@ impl Writing for Counting {
     ghost writes = { λ s found changes own after. Counts s.words changes own after };
 
     fn write(&self, _found: u64, changes: &[Change], own: &mut Own) {
-        make_changes(&mut own.registers, Value::Nothing, changes);
-        own.used += self.words;
-        own.serial += 1;
+        let used = own.used + self.words;
+        let serial = own.serial + 1;
+        make_changes(own, Value::Nothing, changes);
+        own.used = used;
+        own.serial = serial;
     }
 }
 

@@ -10,11 +10,14 @@ use Rattle.heap_rule.specs.declared.view.Own.{Own}
 use Rattle.heap_rule.specs.declared.view.DomainView.{DomainView}
 use Rattle.heap_rule.specs.declared.view.Hunt.{Hunt}
 use Rattle.heap_rule.specs.declared.view.Spot.{Spot}
-use Rattle.heap_rule.specs.Changes.{FitChanges}
+use Rattle.heap_words.specs.declared.value.Value.TheVariants.{Nothing}
+use Rattle.heap_rule.specs.declared.view.Hunt.TheVariants.{Rests}
+use Rattle.heap_rule.specs.Changes.{changed, FitChanges}
 use Rattle.heap_rule.specs.Limits.{sizes_in}
 use Rattle.heap_rule.specs.Pools.{blocks_of, owned, owner_word, limit_of, spot_at}
 use Rattle.heap_rule.specs.Raw.{Closes}
 use Rattle.heap_rule.specs.Token.{Holds, LooksWithin, OwnFits}
+use Rattle.heap_rule.proofs.ChangeLemmas.{changed_only}
 use Rattle.heap_rule.proofs.Classes.{some_block}
 use Rattle.steps_pools.specs.Takes.{CursorTold, CursorAddTold, OwnedTold, OwnerTold, PlaceTold, MajorTold}
 use Rattle.steps_pools.specs.Writes.{looking, CanLook, LooksFrom, PassesPool, PassesPlace, CanLabel, Labels}
@@ -83,17 +86,25 @@ place_closes k x found pool class slot inside few low limits y fits told = recor
       (λ more. looking_fits k x y class (record { pool = pool; slot = slot + 1 }) fits (ap (λ (z : DomainView). z.own) (told.full taken (lt_of_not-le more))) (let i = inside in omega arith) (lt_of_not-le more)));
 }
 
+-- the domain after the head, by its registers
+pub major_rest : (k : Config) (e : Entry) (changes : List Change) (x y : DomainView) → MajorTold k e changes x y → y ≡ record {
+  own = record x.own { registers = (changed Nothing changes x.own).registers; serial = x.own.serial + 1 };
+  seen = record x.seen { front = y.seen.front; hunt = Rests };
+}
+major_rest k e changes x y told = told.view ∙ ap (λ (own : Own). record { own = record own { serial = x.own.serial + 1 }; seen = record x.seen { front = y.seen.front; hunt = Rests } }) (changed_only Nothing changes x.own)
+
 -- the head makes the changes, and counts the label
 pub major_closes : (k : Config) (x : DomainView) (new : ℕ) (e : Entry) (changes : List Change) → FitChanges changes → x.own.serial + 1 < 2 ^ 32
     → Closes k x new (λ y _ z. MajorTold k e changes y z) (CanLabel changes) (Labels changes)
 major_closes k x new e changes fit serial y fits told =
-    let own = ap (λ (z : DomainView). z.own) told.view in record {
+    let own = ap (λ (z : DomainView). z.own) told.view in
+    let rest = ap (λ (z : DomainView). z.own) (major_rest k e changes x y told) in record {
       can_write = (fit, serial);
       written = λ after is. own ∙ sym is;
       fits = record {
-        number = subst (λ (o : Own). o.number < k.domains) (sym own) fits.number;
-        used = subst (λ (o : Own). o.used ≤ k.minor_words) (sym own) fits.used;
+        number = subst (λ (o : Own). o.number < k.domains) (sym rest) fits.number;
+        used = subst (λ (o : Own). o.used ≤ k.minor_words) (sym rest) fits.used;
         registers = told.holds;
-        looked = subst (λ (o : Own). LooksWithin k o.looked) (sym own) fits.looked;
+        looked = subst (λ (o : Own). LooksWithin k o.looked) (sym rest) fits.looked;
       };
     }

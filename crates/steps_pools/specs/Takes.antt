@@ -164,7 +164,7 @@ pub record MajorMay (k : Config) (x : DomainView) (at new : ℕ) (changes : List
   pub head : HeadIs (PlainShape fields tag) new
   pub serial : x.own.serial + 1 < 2 ^ 32
   pub goes : dst < 16
-  pub written : changed Nothing changes x.own.registers ≡ slice_set x.own.registers dst (Ref at)
+  pub written : changed Nothing changes x.own ≡ record x.own { registers = slice_set x.own.registers dst (Ref at) }
   pub fits : FitChanges changes
 
 abbrev pub MajorEntry : Config → DomainView → ℕ → ℕ → List Change → Entry → Type 0
@@ -175,7 +175,7 @@ MajorEntry k x at new changes _ = ⊥
 pub record MajorTold (k : Config) (e : Entry) (changes : List Change) (x y : DomainView) : Type 0 where
   pub answers : Answers (sizes_in k) x.own.number x.seen.front y.seen.front e (Replied (Block (next_label x)))
   pub view : y ≡ record {
-    own = record x.own { registers = changed Nothing changes x.own.registers; serial = x.own.serial + 1 };
+    own = record (changed Nothing changes x.own) { serial = x.own.serial + 1 };
     seen = record x.seen { front = y.seen.front; hunt = Rests };
   }
   pub holds : Holds k y.own.registers

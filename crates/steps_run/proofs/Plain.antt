@@ -16,8 +16,8 @@ use Rattle.heap_rule.specs.declared.config.Config.{Config}
 use Rattle.heap_rule.specs.declared.view.Own.{Own}
 use Rattle.heap_rule.specs.declared.view.DomainView.{DomainView}
 use Rattle.heap_rule.specs.Changes.{changed, FitChanges}
-use Rattle.heap_rule.specs.Raw.{rewritten, CanChange, Changes, Written, Closes}
-use Rattle.heap_rule.proofs.Plain.{fits_rewritten, entered_own, changed_unread, entered_closes}
+use Rattle.heap_rule.specs.Raw.{CanChange, Changes, Written, Closes}
+use Rattle.heap_rule.proofs.Plain.{fits_changed, entered_own, changed_unread, entered_closes}
 use Rattle.heap_rule.specs.Token.{Holds, LooksWithin, OwnFits}
 use Rattle.steps_run.specs.Loads.{place_of, HeadCase, HeadTold, LabelTold, FieldRead}
 use Rattle.steps_run.specs.Ticks.{tick_answer, TickTold}
@@ -26,7 +26,7 @@ use Rattle.steps_run.specs.Ticks.{tick_answer, TickTold}
 kept : (k : Config) (x y : DomainView) (found : ℕ) (changes : List Change) → changes ≡ [] → OwnFits k x.own → y.own ≡ x.own → Written k x y (λ own. CanChange Unread found changes) (λ own after. Changes Unread found changes own after)
 kept k x y found changes empty p same =
     let fits : FitChanges changes = subst FitChanges (sym empty) tt in
-    let own : y.own ≡ rewritten x.own (changed Nothing changes x.own.registers) = same ∙ ap (λ (cs : List Change). rewritten x.own (changed Nothing cs x.own.registers)) (sym empty) in
+    let own : y.own ≡ changed Nothing changes x.own = same ∙ ap (λ (cs : List Change). changed Nothing cs x.own) (sym empty) in
     changed_unread k x y found changes fits p own (subst (λ (o : Own). Holds k o.registers) (sym same) p.registers)
 
 -- what a step that reads no value closes
@@ -53,6 +53,6 @@ pub field_load_closes : (k : Config) (x : DomainView) (e : Entry) (changes : Lis
 field_load_closes k x e changes fits found y p told =
     let own = entered_own k e (Replied (shown told.held)) told.value changes x y told.entered in record {
       can_write = (fits, (told.value, (told.packable, sym told.word)));
-      written = λ after wrote. own ∙ (ap (λ (u : Value). rewritten x.own (changed u changes x.own.registers)) (sym (value_word-injective wrote.0 told.value wrote.1.0 told.packable (wrote.1.1 ∙ told.word))) ∙ sym wrote.2);
-      fits = fits_rewritten k x.own y.own (changed told.value changes x.own.registers) own p told.entered.holds;
+      written = λ after wrote. own ∙ (ap (λ (u : Value). changed u changes x.own) (sym (value_word-injective wrote.0 told.value wrote.1.0 told.packable (wrote.1.1 ∙ told.word))) ∙ sym wrote.2);
+      fits = fits_changed k x.own y.own told.value changes own p told.entered.holds;
     }

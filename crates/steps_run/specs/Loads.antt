@@ -95,7 +95,7 @@ pub record FieldLoadMay (k : Config) (x : DomainView) (at : ℕ) (changes : List
   pub acts : Acts k x
   pub reads : FieldMay k x at src i
   pub goes : dst < 16
-  pub written : (v : Value) → changed v changes x.own.registers ≡ slice_set x.own.registers dst v
+  pub written : (v : Value) → changed v changes x.own ≡ record x.own { registers = slice_set x.own.registers dst v }
   pub fits : FitChanges changes
 
 -- the same of the entry that is told
