@@ -12,8 +12,7 @@ use Rattle.heap_rule.specs.declared.view.Hunt.TheVariants.{Rests, Counts, Asks, 
 use Rattle.heap_rule.specs.declared.view.Spot.{Spot}
 use Rattle.heap_rule.specs.declared.phase.Kind.TheVariants.{Run}
 use Rattle.heap_rule.specs.declared.phase.Stage.TheVariants.{In}
-use Rattle.heap_rule.specs.Layout.{heap_words, table_words, at_address, listed, cursor, listed_pool, owner_of}
-use Rattle.heap_rule.specs.Places.{Place}
+use Rattle.heap_rule.specs.Layout.{heap_words, table_words, listed, cursor, listed_pool, owner_of}
 use Rattle.heap_rule.specs.Views.{one}
 use Rattle.heap_rule.specs.Rule.{state_of, NoCycle, Rule}
 use Rattle.heap_rule.specs.Pools.{Holder, nobody, drawn, owned, owner_word, Tenancy, Pools, Hunts, Hunter, drawn_in, hunting, place_in, blocks_of, limit_of}

@@ -1,9 +1,9 @@
 -- The pools whose owner words say nobody.
-use Rattle.std.proofs.Common.{◌≡◌, ◌≢◌, ℕ, zero, suc, ◌+◌, ◌<◌, ◌≤◌, ◌==◌, if◌then◌else◌, true, false, Bool, List, [], ◌∷◌, ◌++◌, length, slice_get, Some, refl, sym, ap, eqb-true, ◌∙◌, subst, arith}
+use Rattle.std.proofs.Common.{◌≡◌, ◌≢◌, ℕ, zero, suc, ◌+◌, ◌<◌, ◌≤◌, ◌==◌, if◌then◌else◌, true, false, Bool, List, [], ◌∷◌, ◌++◌, length, slice_get, Some, refl, ap, eqb-true, ne_eqb, append-nil, ◌∙◌, subst, arith}
 use Rattle.steps_pools.specs.Listings.{free_from}
 
 -- the pool q goes before those behind it, if it is free
-abbrev put : Bool → ℕ → List ℕ → List ℕ
+abbrev pub put : Bool → ℕ → List ℕ → List ℕ
 put b q rest = if b then q ∷ rest else rest
 
 put_append : (b : Bool) (q : ℕ) (rest more : List ℕ) → put b q (rest ++ more) ≡ put b q rest ++ more
@@ -78,3 +78,10 @@ pub free_few : (q : ℕ) (ws : List ℕ) → length (free_from q ws) ≤ length 
 unfolding free_from
 free_few q [] = omega arith
 free_few q (w ∷ ws) = put_few (w == 0) q (free_from (q + 1) ws) (length ws) (free_few (q + 1) ws)
+
+-- a pool that is free goes last, another doesn't
+pub free_last : (ws : List ℕ) (w : ℕ) → w ≡ 0 → free_from 0 (ws ++ w ∷ []) ≡ free_from 0 ws ++ length ws ∷ []
+free_last ws w none = free_more 0 w ws ∙ (ap (λ (v : ℕ). free_from 0 ws ++ put (v == 0) (0 + length ws) []) none ∙ (let e : 0 + length ws ≡ length ws = omega arith in ap (λ (n : ℕ). free_from 0 ws ++ n ∷ []) e))
+
+pub free_same : (ws : List ℕ) (w : ℕ) → w ≢ 0 → free_from 0 (ws ++ w ∷ []) ≡ free_from 0 ws
+free_same ws w some = free_more 0 w ws ∙ (ap (λ (b : Bool). free_from 0 ws ++ put b (0 + length ws) []) (ne_eqb w 0 some) ∙ append-nil (free_from 0 ws))

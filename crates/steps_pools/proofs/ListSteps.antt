@@ -1,9 +1,9 @@
 -- The steps by which domain 0 writes the list of free pools anew keep the rule.
-use Rattle.std.proofs.Common.{◌≡◌, ◌≢◌, ℕ, ◌+◌, ◌*◌, ◌<◌, ◌≤◌, ◌⊎◌, true, false, List, [], ◌∷◌, ◌++◌, length, get_or, set, slice_get, Option, Some, None, sym, refl, ap, ◌∙◌, subst, inl, inr, ⊎_elim, arith, length-set, length-append, get_or-set_same, get_or-set_other}
-use Rattle.std.proofs.lemmas.Option.{slice_get-get_or, get_or_from_slice_get}
+use Rattle.std.proofs.Common.{◌≡◌, ◌≢◌, ℕ, ◌+◌, ◌*◌, ◌<◌, ◌≤◌, ◌⊎◌, List, [], ◌∷◌, length, get_or, set, slice_get, Option, Some, None, sym, refl, ap, ◌∙◌, subst, inl, inr, ⊎_elim, arith, length-set, length-append, get_or-set_same, get_or-set_other}
+use Rattle.std.proofs.lemmas.Option.{slice_get-get_or}
 use mathlib.Core.Option.{some}
 use lib.ListN.{get_elem?}
-use Rattle.atomic_table.specs.Table.{Me, keeps, Allows}
+use Rattle.atomic_table.specs.Table.{Me, keeps}
 use Rattle.heap_model.specs.declared.entry.Entry.{Entry}
 use Rattle.heap_rule.specs.declared.config.Config.{Config}
 use Rattle.heap_rule.specs.declared.phase.Kind.{Kind}
@@ -14,9 +14,9 @@ use Rattle.heap_rule.specs.declared.view.DomainView.{DomainView}
 use Rattle.heap_rule.specs.declared.view.Hunt.TheVariants.{Rests}
 use Rattle.heap_rule.specs.declared.view.Listing.{Listing}
 use Rattle.heap_rule.specs.declared.view.View.{View}
-use Rattle.heap_rule.specs.Layout.{heap_words, before_heap, table_words, at_address, listed, cursor, listed_pool, owner_of}
+use Rattle.heap_rule.specs.Layout.{heap_words, before_heap, table_words, listed, cursor, listed_pool, owner_of}
 use Rattle.heap_rule.specs.Phases.{AtStage, Staged, IsOdd, sum_of}
-use Rattle.heap_rule.specs.Pools.{Holder, nobody, drawn, owned, owner_word, Tenancy, Pools, IsLeading, Lists, Hunts, Hunter, place_in, limit_of}
+use Rattle.heap_rule.specs.Pools.{Holder, nobody, drawn, owned, owner_word, Tenancy, Pools, IsLeading, Lists, Hunts, Hunter, place_in}
 use Rattle.heap_rule.specs.Raw.{MayStep, MayStore}
 use Rattle.heap_rule.specs.Rule.{state_of, Good, Rule}
 use Rattle.heap_rule.specs.Views.{one}
@@ -332,9 +332,14 @@ look_may k x word may fits slots id h s r _ at _ =
 pub name_may : (k : Config) (x : DomainView) (word new : ℕ) → NameMay k x word → MayStore k x word new NamedTold
 name_may k x word new may fits slots id h s r _ at _ =
     let e = may.empties in
-    let y : DomainView = relisted x (named new) in
-    (one k h y, keeps, tt, subst (λ (z : ℕ × DomainView). Rule k record { words = set s.words z.0 new; homes = s.homes; views = set s.views id (one k h z.1) }) (λ i. (sym may.word i, on_list x e.list (named new) e.listing i))
-        (names_rule k s r id h x at e.leader e.list e.listing e.empty new may.inside), (refl, refl))
+    let y : DomainView = relisted x (named new) in (
+      one k h y,
+      keeps,
+      tt,
+      subst (λ (z : ℕ × DomainView). Rule k record { words = set s.words z.0 new; homes = s.homes; views = set s.views id (one k h z.1) }) (λ i. (sym may.word i, on_list x e.list (named new) e.listing i))
+          (names_rule k s r id h x at e.leader e.list e.listing e.empty new may.inside),
+      (refl, refl),
+    )
 
 pub back_may : (k : Config) (x : DomainView) → Empties x → MayStore k x 7 0 SetBackTold
 back_may k x e fits slots id h s r _ at _ =
@@ -344,6 +349,11 @@ back_may k x e fits slots id h s r _ at _ =
 pub close_may : (k : Config) (x : DomainView) (new : ℕ) → CloseMay k x new → MayStore k x 6 new ListedAsTold
 close_may k x new may fits slots id h s r _ at _ =
     let e = may.empties in
-    let y : DomainView = relisted x (listed_as new) in
-    (one k h y, keeps, tt, subst (λ (z : ℕ × DomainView). Rule k record { words = set s.words 6 z.0; homes = s.homes; views = set s.views id (one k h z.1) }) (λ i. (sym may.count i, (ap (λ (n : ℕ). with_listing x (Some (listed_as n e.list))) (sym may.count) ∙ on_list x e.list (listed_as new) e.listing) i))
-        (closes_rule k s r id h x at e.leader e.list e.listing e.empty may.all may.free), (refl, refl))
+    let y : DomainView = relisted x (listed_as new) in (
+      one k h y,
+      keeps,
+      tt,
+      subst (λ (z : ℕ × DomainView). Rule k record { words = set s.words 6 z.0; homes = s.homes; views = set s.views id (one k h z.1) }) (λ i. (sym may.count i, (ap (λ (n : ℕ). with_listing x (Some (listed_as n e.list))) (sym may.count) ∙ on_list x e.list (listed_as new) e.listing) i))
+          (closes_rule k s r id h x at e.leader e.list e.listing e.empty may.all may.free),
+      (refl, refl),
+    )

@@ -92,3 +92,9 @@ pub record CloseMay (k : Config) (x : DomainView) (new : ℕ) : Type 0 where
 
 abbrev pub ListedAsTold : DomainView → ℕ → DomainView → Type 0
 ListedAsTold x new y = y ≡ relisted x (listed_as new)
+
+-- the list names exactly the pools whose owner words say nobody, rising, and the cursor is 0
+pub record HasList (k : Config) (x : DomainView) : Type 0 where
+  pub owners : List ℕ
+  pub all : length owners ≡ k.pools
+  pub listing : x.seen.listing ≡ Some (record { owners = owners; names = free_pools owners; rewound = true; listed = length (free_pools owners) })
