@@ -10,8 +10,8 @@ use Rattle.heap_model.proofs.Histories.AnswerLemmas.{commands_after, replies_aft
 use Rattle.heap_rule.specs.declared.config.Config.{Config}
 use Rattle.heap_rule.specs.Limits.{sizes_in}
 use Rattle.heap_rule.specs.Token.{Token, SharedHeap}
-use Rattle.heap_model.specs.declared.command.Command.TheVariants.{PutInt, AllocMaj}
-use Rattle.domain_turns.specs.Tries.{Enters, Stands, Tried, is_refused}
+use Rattle.heap_model.specs.declared.command.Command.TheVariants.{Alloc, PutInt, AllocMaj}
+use Rattle.domain_turns.specs.Tries.{Enters, Stands, Tried}
 use Rattle.heap_rule.specs.declared.phase.Kind.{Kind}
 use Rattle.domain_turns.specs.Runs.{StandsAt, RunView, IsRun, HasEnded, is_end_of}
 use Rattle.std.specs.List.{list_any}
@@ -32,9 +32,10 @@ own d c full = ap (λ (b : Bool). cond b (c ∷ []) []) (eq-eqb d d refl)
 
 -- the entry that stands
 pub stood : (h : SharedHeap) (old new : Token) (c : model.Command) (r : Reply) → Stands h old new c r → (full : Bool) × Enters old new c full r
+stood h old new (Alloc dst tag fields) r s = ⊎_elim (λ a. (false, a.0)) (λ b. (true, b.0)) s
 stood h old new (AllocMaj dst tag fields) r s = ⊎_elim (λ a. (false, a)) (λ b. (true, b.0)) s
 stood h old new (PutInt dst z) r s = (false, s)
-stood h old new c r s = (is_refused old c, s)
+stood h old new c r s = (false, s)
 
 pub tried_is_run : (h : SharedHeap) (r : RunView) (new : Token) (c : model.Command) (reply : Reply) → IsRun r → r.ended ≡ false → r.left ≡ None → slice_get r.commands r.next ≡ Some c → Tried h r.token new c reply
     → IsRun (record r { token = new; next = r.next + 1; replies = r.replies ++ reply ∷ []; asked = None })

@@ -29,6 +29,12 @@ pub record IsOpen (k : Config) (y : DomainView) : Type 0 where
   pub found : y.seen.free ≡ Some free
   pub enough : reserve (sizes_in k) ≤ free
 
+-- fewer were
+pub record IsShut (k : Config) (y : DomainView) : Type 0 where
+  pub free : ℕ
+  pub found : y.seen.free ≡ Some free
+  pub few : free < reserve (sizes_in k)
+
 -- the area has no room, and nothing was looked at
 pub record IsFull (h : SharedHeap) (old new : Token) (fields used : ℕ) : Type 0 where
   pub used_is : used ≡ old.view.own.used

@@ -7,6 +7,7 @@ ghost use Rattle.heap_rule.specs.declared.phase.Note.TheVariants as note;
 ghost use Rattle.heap_rule.specs.Phases.{code, Follows};
 ghost use Rattle.steps_pauses.specs.Pauses.{IsGone, ArriveMay, ClearMay, kind_in, noted, arrived_view};
 ghost use Rattle.heap_rule.specs.Token.{IsIn};
+ghost use Rattle.steps_pools.specs.Listings.{HasList};
 ghost use Rattle.safepoint.specs.Looks.{bit_of, cleared, LookAnswers};
 
 use crate::answer::{Look, Want, Wants};
@@ -124,12 +125,14 @@ fn clear_for(heap: &Heap, dom: &mut Domain, next: Kind)
     }
 }
 
-/// Domain 0 says in an odd phase which phase comes next. Before domains run again no wish is left.
+/// Domain 0 says in an odd phase which phase comes next. Before domains run again no wish is left, and
+/// the list of free pools has been written anew in this phase.
 pub fn lead(heap: &Heap, dom: &mut Domain, next: Kind)
     requires here { IsIn dom.old heap.now }
     requires leads { dom.old.view.own.number ≡ 0 }
     requires odd { dom.old.view.seen.stage ≡ Leads (kind_in dom.old.view.seen.stage) }
     requires follows { Follows (kind_in dom.old.view.seen.stage) next }
+    requires list { next ≡ Run → HasList heap.now.config dom.old.view }
     ensures here { IsIn dom.new heap.now }
     ensures view { dom.new.view ≡ record dom.old.view { seen = record dom.old.view.seen { stage = Led next; notes = dom.old.view.seen.notes ++ cleared next } } }
 {
