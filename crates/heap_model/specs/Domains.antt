@@ -1,5 +1,5 @@
 -- The state of the heap: reading and changing the parts of one domain, and the opening state.
-use Rattle.std.specs.Prelude.{◌≡◌, ℕ, ◌+◌, ◌*◌, ◌/◌, ◌%◌, ◌<◌, ◌≤◌, ◌⊎◌, Bool, true, false, List, [], ◌∷◌, ◌++◌, map, length, flat_map, filter_map, replicate, slice_index_or, slice_set, pos, Option, Some, None}
+use Rattle.std.specs.Prelude.{◌≡◌, ℕ, ◌+◌, ◌*◌, ◌/◌, ◌%◌, ◌<◌, ◌≤◌, ◌⊎◌, Bool, true, false, not, ◌&&◌, ◌==◌, nat_le, if◌then◌else◌, List, [], ◌∷◌, ◌++◌, map, length, flat_map, filter_map, replicate, slice_index_or, slice_set, pos, Option, Some, None}
 use Rattle.heap_model.specs.declared.label.Label.{Label}
 use Rattle.heap_model.specs.declared.graph.Value.{Value}
 use Rattle.heap_model.specs.declared.graph.Value.TheVariants.{Int, Block, Nothing}
@@ -113,9 +113,17 @@ opening z = record {
   taken = [];
 }
 
+-- how many classes of block sizes a heap has
+abbrev pub class_count : ℕ
+class_count = 6
+
 -- the pools kept free for promotion
 abbrev pub reserve : Sizes → ℕ
 reserve z = z.domains * (z.minor_words / 4096 + z.classes)
+
+-- the pools that must be there: promotion never lacks one, each domain may have begun one of each class, and the shared block has its own
+abbrev pub least_pools : Sizes → ℕ
+least_pools z = reserve z + z.classes * z.domains + 1
 
 -- the limits of the sizes
 pub record IsWithinLimits (z : Sizes) : Type 0 where
@@ -125,8 +133,25 @@ pub record IsWithinLimits (z : Sizes) : Type 0 where
   pub minor_words : z.minor_words ≤ 65536
   pub whole_pools : z.minor_words % 4096 ≡ 0
   pub classes : (z.classes ≡ 6) ⊎ (z.classes ≡ 9)
-  pub some_pools : reserve z + z.classes * z.domains + 1 ≤ z.pools
+  pub some_pools : least_pools z ≤ z.pools
   pub pools : z.pools ≤ 2048
+
+abbrev pub fits_domains : Sizes → Bool
+fits_domains z = nat_le 1 z.domains && nat_le z.domains 8
+
+abbrev pub fits_minor_words : Sizes → Bool
+fits_minor_words z = nat_le 4096 z.minor_words && nat_le z.minor_words 65536 && z.minor_words % 4096 == 0
+
+abbrev pub fits_pools : Sizes → Bool
+fits_pools z = nat_le (least_pools z) z.pools && nat_le z.pools 2048
+
+-- the first of the numbers that is outside its limit, counted from 1: domains, minor words, pools
+abbrev pub first_outside : Sizes → Option ℕ
+first_outside z =
+    if not (fits_domains z) then Some 1
+    else (if not (fits_minor_words z) then Some 2
+    else (if not (fits_pools z) then Some 3
+    else None))
 
 -- the shape that every state of a heap has
 pub record IsShaped (s : State) : Type 0 where

@@ -1,4 +1,7 @@
 //! The state that a history leaves.
+ghost use Rattle.std.specs.Prelude.{◌≡◌, ◌≤◌, ◌↔◌, IsNone};
+ghost use Rattle.heap_model.specs.Domains.{class_count, least_pools, first_outside, IsWithinLimits};
+
 use crate::graph::{Node, Value};
 use crate::label::Label;
 use crate::sequence::Sequence;
@@ -86,6 +89,39 @@ pub struct Sizes {
     pub minor_words: u32,
     /// How many classes of block sizes there are, 6 or 9.
     pub classes: u32,
+}
+
+impl Sizes {
+    // The pools that must be there: those kept free for promotion, one for each class and domain, and one more.
+    fn least_pools(&self) -> u32
+        requires domains { self.now.domains ≤ 8 }
+        requires minor_words { self.now.minor_words ≤ 65536 }
+        requires classes { self.now.classes ≡ class_count }
+        ensures { result ≡ least_pools self.now }
+    {
+        let reserve = self.domains * (self.minor_words / 4096 + self.classes);
+        reserve + self.classes * self.domains + 1
+    }
+
+    /// The first number that is outside its limit: 1 for `domains`, 2 for `minor_words`, 3 for `pools`. The limits are
+    /// those of the fields; `pools` is at least as many as promotion may need, one more for each class and domain, and
+    /// one for the shared block.
+    pub fn first_outside(&self) -> Option<u32>
+        requires { self.now.classes ≡ class_count }
+        ensures first { result ≡ first_outside self.now }
+        ensures none { IsNone result ↔ IsWithinLimits self.now }
+    {
+        if self.domains < 1 || self.domains > 8 {
+            return Some(1);
+        }
+        if self.minor_words < 4096 || self.minor_words > 65536 || self.minor_words % 4096 != 0 {
+            return Some(2);
+        }
+        if self.pools < self.least_pools() || self.pools > 2048 {
+            return Some(3);
+        }
+        None
+    }
 }
 
 /// The heap after a history: the graph of blocks, what each domain has, and how far a collection has come.

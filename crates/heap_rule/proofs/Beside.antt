@@ -4,7 +4,7 @@ use Rattle.std.proofs.lemmas.List.{length-map}
 use mathlib.Core.Logic.{dite}
 use native.Mathlib.Decide.{dec_le}
 use Rattle.heap_model.specs.declared.graph.Node.{Node}
-use Rattle.heap_model.specs.declared.graph.Node.TheVariants.{Plain, Ephe}
+use Rattle.heap_model.specs.declared.graph.Node.TheVariants.{Plain, Raw, Ephe}
 use Rattle.heap_model.specs.Graph.{Graph, node_at}
 use Rattle.heap_model.specs.Commands.{key_value}
 use Rattle.heap_model.specs.Fronts.{shape_of}
@@ -19,6 +19,7 @@ use Rattle.heap_rule.proofs.Keeps.{More, stands_more}
 
 pub extent_of : (n : Node) → extent (shape_of n) ≡ length (values_of n) + 2
 extent_of (Plain tag fields) = refl
+extent_of (Raw tag fields) = refl
 extent_of (Ephe keys datum) = let l = length-map keys key_value in omega arith
 
 -- a block that the word is none of, in a graph that has its node

@@ -1,5 +1,5 @@
 -- Steps on the control words of the phases: the other words stay, and so does what they stand for.
-use Rattle.std.proofs.Common.{◌≡◌, ◌≢◌, ℕ, zero, suc, ◌+◌, ◌*◌, ◌<◌, ◌≤◌, ◌⊎◌, List, length, get_or, set, Option, Some, sym, refl, ap, ◌∙◌, subst, arith, ⊎_elim, inl, inr, suc-mul, zero-le}
+use Rattle.std.proofs.Common.{◌≡◌, ◌≢◌, ℕ, zero, suc, ◌+◌, ◌*◌, ◌<◌, ◌≤◌, ◌⊎◌, List, length, get_or, set, Option, Some, sym, refl, ap, ◌∙◌, subst, arith, ⊎_elim, inl, inr, suc-mul, zero-le, None, false}
 use mathlib.Core.Logic.{dite}
 use native.Mathlib.Decide.{ℕ_discrete}
 use mathlib.Core.Option.{some}
@@ -12,8 +12,8 @@ use Rattle.heap_rule.specs.declared.phase.Stage.{Stage}
 use Rattle.heap_rule.specs.declared.phase.Note.{Note}
 use Rattle.heap_rule.specs.declared.view.DomainView.{DomainView}
 use Rattle.heap_rule.specs.declared.view.Listing.{Listing}
-use Rattle.heap_rule.specs.Layout.{before_heap, ended_word, cursor}
-use Rattle.heap_rule.specs.Places.{Live, HeadIs}
+use Rattle.heap_rule.specs.Layout.{before_heap, ended_word, cursor, at_address}
+use Rattle.heap_rule.specs.Places.{Live, HeadIs, unmarked, Place}
 use Rattle.heap_rule.specs.Phases.{Pause, Phases, sum_of, IsEven, IsOdd, Staged, Still}
 use Rattle.heap_rule.specs.Pools.{Holder, Tenancy, Pools, Grid, Drawers, Lists, Resting, Hunter}
 use Rattle.heap_rule.specs.Rule.{state_of, AllFound, Making, NoCycle, Rule}
@@ -33,7 +33,7 @@ found_untouched k live graph words words' u found a p lives = let f = found a p 
   node = f.node;
   there = f.there;
   shape = f.shape;
-  head = subst (HeadIs p.shape) (sym (u.1 (before_heap k + a) (omega arith) (λ e. away a e))) f.head;
+  head = subst (HeadIs None p.shape unmarked false) (sym (u.1 (before_heap k + a) (omega arith) (λ e. away a e))) f.head;
   label = u.1 (before_heap k + (a + 1)) (omega arith) (λ e. away (a + 1) e) ∙ f.label;
   values = λ i v e. let w = f.values i v e in record { value = w.value; packs = u.1 (before_heap k + (a + 2 + i)) (omega arith) (λ e. away (a + 2 + i) e) ∙ w.packs; stands = w.stands };
 } where

@@ -1,19 +1,23 @@
 -- An own entry that changes registers and no word of the heap.
-use Rattle.std.proofs.Common.{◌≡◌, ◌≢◌, ℕ, ◌<◌, false, List, [], ◌∷◌, ◌++◌, length, get_or, set, sym, refl, ap, ◌∙◌, subst}
+use Rattle.std.proofs.Common.{◌≡◌, ◌≢◌, ℕ, ◌<◌, false, List, [], ◌∷◌, ◌++◌, length, get_or, set, sym, refl, ap, ◌∙◌, subst, ne_eqb}
 use mathlib.Core.Option.{some}
 use lib.ListN.{get_elem?}
+use Rattle.heap_model.specs.declared.command.Command.{Command}
 use Rattle.heap_model.specs.declared.entry.Entry.{Entry}
+use Rattle.heap_model.specs.declared.entry.Entry.TheVariants.{Command as CommandOf}
 use Rattle.heap_model.specs.declared.reply.Applied.{Applied}
 use Rattle.heap_model.specs.declared.graph.Value as model_value
 use Rattle.heap_model.specs.declared.graph.Value.TheVariants.{Nothing}
 use Rattle.heap_model.specs.declared.state.State as model
 use Rattle.heap_model.specs.Graph.{Graph}
+use Rattle.heap_model.specs.declared.state.Mode.TheVariants.{Open}
+use Rattle.heap_model.specs.Commands.{FitsMode}
 use Rattle.heap_model.specs.Domains.{domain_at, IsShaped}
 use Rattle.heap_model.specs.Entries.{Allowed, next}
 use Rattle.heap_model.specs.History.{is_entry_of}
 use Rattle.heap_model.specs.Fronts.{IsCalm}
 use Rattle.heap_model.proofs.Histories.ShapeAfterLemmas.{shaped-history}
-use Rattle.heap_model.proofs.Commands.FrameLemmas.{inside_running}
+use Rattle.heap_model.proofs.Commands.FrameLemmas.{inside_running, calm_command}
 use Rattle.heap_model.proofs.Histories.FrontLemmas.{answers_push}
 use Rattle.heap_model.proofs.Commands.LeavesLemmas.{Leaves}
 use Rattle.heap_words.specs.declared.value.Value.{Value}
@@ -66,6 +70,22 @@ module _ (k : Config) (s : Words) (r : Rule k s) (id : ℕ) (hist : List Entry) 
   -- and one that leaves the graph as it is
   abbrev pub Enters : Entry → List Value → Applied → Type 0
   Enters e registers answer = EntersTo now.graph e registers answer
+
+  -- the mode is open, and the own queue is empty: what every command but `full_major` waits for
+  pub may_begin : (now.mode ≡ Open) × ((domain_at now x.own.number).queue ≡ [])
+  may_begin = (r.whole.calm.mode, r.whole.calm.queues x.own.number)
+
+  -- the entry of a command that may begin
+  pub enters_command : (graph : Graph) (c : Command) → FitsMode now x.own.number c → (registers : List Value) (answer : Applied) (theirs : List model_value.Value) → AllStand r.account.live registers theirs
+      → Leaves now (CommandOf x.own.number c false) x.own.number graph theirs (domain_at now x.own.number).serial answer → EntersTo graph (CommandOf x.own.number c false) registers answer
+  enters_command graph c fits registers answer theirs stand leaves = record {
+    alone = λ m other. ne_eqb x.own.number m (λ e. other (sym e));
+    allowed = record { running = running; fits = fits; full_fits = tt };
+    calm = calm_command now x.own.number c false r.whole.calm;
+    theirs = theirs;
+    stand = stand;
+    leaves = leaves;
+  }
 
   pub stood_after : (graph : Graph) (e : Entry) (registers : List Value) (answer : Applied) (y : DomainView) → y.own.number ≡ x.own.number → y.own.registers ≡ registers → y.own.serial ≡ x.own.serial → EntersTo graph e registers answer
       → Stood r.account.live (next now e) y

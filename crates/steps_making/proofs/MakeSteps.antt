@@ -37,7 +37,7 @@ use Rattle.heap_rule.specs.declared.config.Config.{Config}
 use Rattle.heap_rule.specs.declared.view.DomainView.{DomainView}
 use Rattle.heap_rule.specs.Limits.{sizes_in}
 use Rattle.heap_rule.specs.Layout.{heap_words, before_heap, base_of, at_address, table_words}
-use Rattle.heap_rule.specs.Places.{Place, Live, extent, head_of, HeadIs, Stands, Found, Fits, Placed}
+use Rattle.heap_rule.specs.Places.{unmarked, IsHeadOf, Place, Live, extent, Stands, Found, Fits, Placed}
 use Rattle.heap_rule.specs.Changes.{value_at, changed, FitChanges}
 use Rattle.heap_rule.specs.Views.{one, Tells}
 use Rattle.heap_rule.specs.Raw.{MayStore}
@@ -184,6 +184,7 @@ module _ (k : Config) (s : Words) (r : Rule k s) (id : ℕ) (hist : List Entry) 
 
   fits_born : Fits k A born_place
   fits_born = record {
+    built = tt;
     low = let y : ℕ = d * k.minor_words in let z : ℕ = k.pools * 4096 in let o : 1 ≤ z + y + 1 + x.own.used = omega arith in o;
     high = let h = high in let i = inside in let b : ℕ = base_of k d in let w : ℕ = heap_words k in let p : b + k.minor_words ≤ w + 1 = i in let o : A + (n + 2) ≤ w + 1 = omega arith in o;
     head = (may.some_field, (let f = may.few_fields in omega arith), may.tag_fits, omega arith);
@@ -345,13 +346,12 @@ alloc_fits k x a new changes _ may = absurd may
 -- what the store of a head asks of its numbers
 pub record AllocFacts (k : Config) (x : DomainView) (new : ℕ) (e : Entry) : Type 0 where
   pub tag : ℕ
-  pub packable : IsPackableHead (head_of (PlainShape (fields_of e) tag))
-  pub head : HeadIs (PlainShape (fields_of e) tag) new
+  pub head : IsHeadOf (PlainShape (fields_of e) tag) new
   pub few : fields_of e ≤ 126
   pub room : x.own.used + class_words (fields_of e + 2) ≤ k.minor_words
   pub serial : x.own.serial + 1 < 2 ^ 32
 
 pub alloc_facts : (k : Config) (x : DomainView) (a new : ℕ) (changes : List Change) (e : Entry) → AllocEntry k x a new changes e → AllocFacts k x new e
 alloc_facts k x a new changes (Command j (Alloc dst tag n) false) may =
-    record { tag = tag; packable = (may.some_field, (let f = may.few_fields in omega arith), may.tag_fits, omega arith); head = may.head; few = may.few_fields; room = may.room; serial = may.serial }
+    record { tag = tag; head = record { colour = unmarked; scanned = false; packable = (may.some_field, (let f = may.few_fields in omega arith), may.tag_fits, omega arith); packs = may.head }; few = may.few_fields; room = may.room; serial = may.serial }
 alloc_facts k x a new changes _ may = absurd may

@@ -1,5 +1,5 @@
 -- What the step calls tell of a token's plain data: it is what their changes and counts make of it.
-use Rattle.std.proofs.Common.{◌≡◌, ◌+◌, ◌≤◌, ◌<◌, ◌^◌, ℕ, List, [], refl, sym, ap, ◌∙◌, subst, arith}
+use Rattle.std.proofs.Common.{◌≡◌, ◌+◌, ◌≤◌, ◌<◌, ◌^◌, ℕ, List, [], refl, sym, ap, ◌∙◌, subst, arith, inl, inr}
 use Rattle.heap_model.specs.declared.entry.Entry.{Entry}
 use Rattle.heap_words.specs.declared.value.Value.{Value}
 use Rattle.heap_words.specs.declared.value.Value.TheVariants.{Nothing}
@@ -11,9 +11,12 @@ use Rattle.heap_rule.specs.declared.view.DomainView.{DomainView}
 use Rattle.heap_rule.specs.Changes.{changed, FitChanges}
 use Rattle.heap_rule.specs.Raw.{CanChange, Changes, Closes}
 use Rattle.heap_rule.specs.Standing.{LeavesOwn}
-use Rattle.heap_rule.specs.Token.{LooksWithin, OwnFits}
+use Rattle.heap_rule.specs.Token.{LooksWithin, OwnFits, next_label}
 use Rattle.heap_rule.proofs.ChangeLemmas.{changed_only}
 use Rattle.steps_making.specs.Inits.{class_words, fields_of, WordTold, AllocTold, CanCount, Counts}
+use Rattle.heap_rule.proofs.Closes.{front_same}
+use Rattle.heap_model.specs.declared.reply.Applied.TheVariants.{Replied}
+use Rattle.heap_model.specs.declared.reply.Reply.TheVariants.{Block}
 
 -- a word behind the head leaves the plain data
 pub word_closes : (k : Config) (x : DomainView) (new : ℕ) (changes : List Change) → FitChanges changes → LeavesOwn changes x
@@ -23,6 +26,7 @@ word_closes k x new changes fits leaves y p told =
       can_write = (fits, (Nothing, refl));
       written = λ after wrote. same ∙ (sym leaves ∙ (ap (λ (u : Value). changed u changes x.own) (sym wrote.1) ∙ sym wrote.2));
       fits = subst (OwnFits k) (sym same) p;
+      once = λ _. inl (record { front = front_same x y (ap (λ (z : DomainView). z.seen.front) told.view); registers = ap (λ (o : Own). o.registers) same; used = ap (λ (o : Own). o.used) same; serial = ap (λ (o : Own). o.serial) same });
     }
 
 -- the domain after the head, by its registers
@@ -50,4 +54,5 @@ alloc_closes k x new words e changes fits class room small serial y p told =
         registers = told.holds;
         looked = subst (λ (o : Own). LooksWithin k o.looked) (sym rest) p.looked;
       };
+      once = λ _. inr (record { entry = e; answer = Replied (Block (next_label x)); answers = told.answers });
     }

@@ -16,7 +16,7 @@ use Rattle.heap_rule.specs.declared.config.Config.{Config}
 use Rattle.heap_rule.specs.declared.view.DomainView.{DomainView}
 use Rattle.heap_rule.specs.declared.view.Own.{Own}
 use Rattle.heap_rule.specs.Limits.{sizes_in}
-use Rattle.heap_rule.specs.Places.{HeadIs}
+use Rattle.heap_rule.specs.Places.{IsNewHead}
 use Rattle.heap_rule.specs.Changes.{changed, FitChanges}
 use Rattle.heap_rule.specs.Standing.{Acts, LeavesOwn}
 use Rattle.heap_rule.specs.Token.{Holds, next_address, next_label}
@@ -54,7 +54,7 @@ pub record AllocMay (k : Config) (x : DomainView) (at new : ℕ) (changes : List
   pub tag_fits : tag < 256
   pub some_field : 1 ≤ fields
   pub few_fields : fields ≤ 126
-  pub head : HeadIs (PlainShape fields tag) new
+  pub head : IsNewHead (PlainShape fields tag) new
   pub made : x.seen.made ≡ label_word x.own.number (x.own.serial + 1) ∷ replicate fields 1
   pub room : x.own.used + class_words (fields + 2) ≤ k.minor_words
   pub serial : x.own.serial + 1 < 2 ^ 32

@@ -145,6 +145,7 @@ module _ (k : Config) (s : Words) (r : Rule k s) (id : ℕ) (hist : List Entry) 
 
   fits_born : Fits k A born_place
   fits_born = record {
+    built = tt;
     low = omega arith;
     high = let h = in_pools in let b : ℕ = A in let t : b + (n + 2) ≤ k.pools * 4096 + 1 = h in let w : ℕ = k.domains * k.minor_words in let o : b + (n + 2) ≤ k.pools * 4096 + w + 1 = omega arith in o;
     head = (may.some_field, (let f = may.few_fields in omega arith), may.tag_fits, omega arith);

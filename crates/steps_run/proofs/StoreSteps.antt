@@ -37,7 +37,7 @@ use Rattle.heap_rule.proofs.ChangeLemmas.{registers_of}
 use Rattle.heap_rule.proofs.Values.{AllStand, not_nothing}
 use Rattle.heap_rule.proofs.Keeps.{my_good, control_set, controls_kept, hunter_as, appends}
 use Rattle.heap_rule.proofs.Lots.{Beside, head_full, live_beside, grid_beside, hunter_beside}
-use Rattle.heap_rule.proofs.Entering.{running, registers_stand, EntersTo, stood_after, entered_view, enters}
+use Rattle.heap_rule.proofs.Entering.{running, registers_stand, EntersTo, stood_after, entered_view, enters, enters_command, may_begin}
 use Rattle.heap_rule.proofs.Blocks.{field_at, some_same}
 use Rattle.heap_rule.proofs.Beside.{found_beside, making_beside, live_word_far}
 
@@ -133,14 +133,9 @@ field_stores k slots id word hist x a new block i item changes place may s r _ a
     (live_beside k r.account.tenancy r.account.live s.words f.address (2 + i) f.place r.whole.pools r.whole.grid low f.lives (omega arith) inside head m)) in
     let far : (z : DomainView) → Area k r.account.live z → Making k s.words z → Making k words z =
     (λ z area making. making_beside k s.words (f.address + 2 + i) new z (λ j fits same. live_word_far k r.account.live f.address (2 + i) f.place z f.lives inside area j fits (same ∙ (let h : f.address + 2 + i ≡ f.address + (2 + i) = omega arith in h))) making) in
-    let o : EntersTo k s r id hist x at may.acts graph e regs (Replied Done) = record {
-      alone = λ m other. ne_eqb d m (λ q. other (sym q));
-      allowed = record { running = running k s r id hist x at may.acts; fits = (r.whole.calm.mode, r.whole.calm.queues d); full_fits = tt };
-      calm = calm_command now d (Store block i item) false r.whole.calm;
-      theirs = (domain_at now d).registers;
-      stand = subst (λ (l : List Value). AllStand r.account.live l (domain_at now d).registers) (sym (ap registers_of may.same)) stand;
-      leaves = leaves_store now d block i item f.place.label f.tag f.fields v f.value f.held f.node f.there refl (not_nothing r.account.live w v may.full (stand.each item may.from));
-    } in
+    let o : EntersTo k s r id hist x at may.acts graph e regs (Replied Done) = enters_command k s r id hist x at may.acts graph (Store block i item) (may_begin k s r id hist x at may.acts) regs _ (domain_at now d).registers
+        (subst (λ (l : List Value). AllStand r.account.live l (domain_at now d).registers) (sym (ap registers_of may.same)) stand)
+        (leaves_store now d block i item f.place.label f.tag f.fields v f.value f.held f.node f.there refl (not_nothing r.account.live w v may.full (stand.each item may.from))) in
     let rule : Rule k record { words = words; homes = s.homes; views = set s.views id (one k hist y) } = appends k s r id hist x at e y words r.account.live record {
       alone = o.alone;
       command = tt;
