@@ -3,11 +3,15 @@ ghost use Rattle.std.specs.Prelude.{◌≡◌, ◌<◌, ◌^◌, []};
 ghost use Rattle.heap_rule.specs.declared.phase.Stage.TheVariants.{Gone, Leads};
 ghost use Rattle.heap_rule.specs.declared.view.Hunt.TheVariants.{Rests};
 ghost use Rattle.heap_rule.specs.Token.{IsIn};
-ghost use Rattle.domain_turns.specs.Runs.{LeavesOdd};
+ghost use Rattle.domain_turns.specs.Runs.{LeavesOdd, Passes};
+ghost use Rattle.heap_rule.specs.declared.phase.Kind.TheVariants.{Run};
+ghost use Rattle.steps_pools.specs.Listings.{IsLeader, HasList};
+ghost use Rattle.size_pools.specs.Listed.{Relisted};
 ghost use Rattle.domain_turns.specs.Past.{PassAnswers, left_after};
 
 use heap_rule::{Domain, Heap, Kind};
 use safepoint::{Look, arrive, follower, lead, look};
+use size_pools::write_list;
 
 // What a look at the barrier came to.
 #[derive(Drop)]
@@ -18,6 +22,20 @@ pub(crate) enum Past {
     Arrived(Kind),
     // The domain runs.
     Runs,
+}
+
+// Before domains run again domain 0 writes the list of free pools anew.
+fn list_for(heap: &Heap, dom: &mut Domain, next: Kind)
+    requires here { IsIn dom.old heap.now }
+    requires leader { IsLeader dom.old.view }
+    ensures here { IsIn dom.new heap.now }
+    ensures list { next ≡ Run → HasList heap.now.config dom.new.view }
+    ensures same { Relisted dom.old.view dom.new.view }
+{
+    match next {
+        Kind::Run => write_list(heap, dom),
+        Kind::Promote | Kind::Reset => (),
+    }
 }
 
 // Domain 0 names the next kind, and then each domain arrives. Answers the kind of the last even phase that the domain knows of.
@@ -32,6 +50,7 @@ fn leave_odd(heap: &Heap, dom: &mut Domain, last: Kind) -> Kind
 {
     if dom.number() == 0 {
         let next = follower(last);
+        list_for(heap, dom, next);
         lead(heap, dom, next);
         arrive(heap, dom);
         next

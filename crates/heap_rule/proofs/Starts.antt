@@ -281,7 +281,7 @@ module _ (k : Config) (limits : IsWithinLimits (sizes_in k)) (words : List ℕ) 
             drawn_alone = λ q e. absurd (none_drawn q x e);
             taken = λ q c slot e inside low. absurd (⊎_elim (λ (h : q < 0). omega arith) (λ (h : (q ≡ 0) × (slot < 0)). let l = h.1 in omega arith) (subst (λ (m : Spot). IsBefore q slot m) (get_zero 6 c) low));
           };
-          resting = λ n. refl;
+          resting = record { hunt = λ n. refl; free = λ n. refl; lists = λ l e. cc };
           took_back = λ kind leads last. absurd (run_leads kind leads);
         }));
       }

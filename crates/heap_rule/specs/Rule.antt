@@ -57,7 +57,7 @@ pub record Good (k : Config) (all : Account) (words : List ℕ) (x : DomainView)
   pub staged : Staged all.pause x
   pub still : Still all.log x
   pub hunter : Hunter k all.tenancy words x
-  pub resting : Resting x
+  pub resting : Resting k words x
   pub took_back : TookBack words x
 
 -- at the start no domain asks for a collection, none has arrived anywhere, and no trace has ended

@@ -1,14 +1,14 @@
 -- Steps of a search one behind the other.
-use Rattle.std.proofs.Common.{◌≡◌, ◌≢◌, ◌∙◌, ℕ, ◌+◌, ◌-◌, ◌<◌, ◌≤◌, List, length, set, [], Some, None, Option, refl, ap, sym, subst, arith, get_or-set_same}
+use Rattle.std.proofs.Common.{◌≡◌, ◌≢◌, ◌∙◌, ℕ, ◌+◌, ◌<◌, ◌≤◌, List, length, set, [], Some, None, Option, refl, ap, sym, subst, arith, get_or-set_same}
 use Rattle.heap_rule.specs.declared.view.DomainView.{DomainView}
 use Rattle.heap_rule.specs.declared.view.Hunt.{Hunt}
-use Rattle.heap_rule.specs.declared.view.Hunt.TheVariants.{Rests, Counts, Asks, Draws, Walks, Fills}
+use Rattle.heap_rule.specs.declared.view.Hunt.TheVariants.{Rests, Draws, Walks, Fills}
 use Rattle.heap_rule.specs.declared.view.Spot.{Spot}
 use Rattle.heap_rule.specs.declared.config.Config.{Config}
-use Rattle.heap_rule.specs.Pools.{owned, owner_word, blocks_of, place_in, drawn_in, spot_at, limit_of, hunting, hunting_free}
-use Rattle.steps_pools.specs.Takes.{with_hunt, looked_to, NoneFree, OwnerMay, ListedTold, CursorTold, CursorAddTold, ListTold, OwnerTold, PlaceTold}
+use Rattle.heap_rule.specs.Pools.{owned, owner_word, blocks_of, place_in, drawn_in, spot_at, hunting, hunting_free}
+use Rattle.steps_pools.specs.Takes.{with_hunt, looked_to, NoneFree, OwnerMay, ListTold, OwnerTold, PlaceTold}
 use Rattle.heap_rule.proofs.Classes.{some_block}
-use Rattle.size_pools.specs.Taken.{Hunted, DrewPool, Took, Missed, Passed, Lacks}
+use Rattle.size_pools.specs.Taken.{Hunted, DrewPool, Took, Missed, Passed}
 
 pub hunted_twice : (x y z : DomainView) (g h : Hunt) → Hunted x y g → Hunted y z h → Hunted x z h
 hunted_twice x y z g h a b = b ∙ ap (λ (v : DomainView). hunting_free v z.own.looked h z.seen.free) a

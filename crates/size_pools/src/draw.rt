@@ -12,25 +12,13 @@ ghost use Rattle.size_pools.specs.Taken.{Hunted, DrewPool, Reserved, Took};
 
 use crate::no_pool::NoPool;
 use heap_rule::{Domain, Heap};
-use size_classes::reserve;
 use steps_pools::{
-    class_blocks, clear_store, cursor_add, cursor_load, list_load, listed_load, owner_store,
-    owner_word, place_address,
+    class_blocks, clear_store, cursor_add, cursor_load, draw_limit, list_load, listed_load,
+    owner_store, owner_word, place_address,
 };
 
 // The index of the first word of the list.
 const LIST: u32 = 11;
-
-// How many of the listed pools running domains may draw.
-fn limit(heap: &Heap, count: u32) -> u32
-    ensures value { result ≡ limit_of heap.now.config count }
-    ensures rest { count ≤ result + reserve_of (sizes_in heap.now.config) }
-    ensures low { result ≤ count }
-{
-    let config = heap.config();
-    let kept = reserve(config.domains, config.minor_words);
-    if count < kept { 0 } else { count - kept }
-}
 
 // Draws the pool at the cursor, if running domains may. Answers the place and its pool.
 fn draw_pool(heap: &Heap, dom: &mut Domain, class: u32) -> Result<u32, NoPool>
@@ -46,7 +34,7 @@ fn draw_pool(heap: &Heap, dom: &mut Domain, class: u32) -> Result<u32, NoPool>
 {
     let _limits = heap.config();
     let count = listed_load(heap, dom) as u32;
-    let limit = limit(heap, count);
+    let limit = draw_limit(heap, count);
     let none = NoPool {
         free: count - limit,
     };

@@ -29,7 +29,7 @@ use Rattle.heap_rule.specs.Rule.{state_of, AllFound, Stood, Rule}
 use Rattle.heap_rule.specs.Standing.{Acts}
 use Rattle.heap_rule.specs.Views.{one, Tells}
 use Rattle.heap_rule.proofs.Values.{AllStand}
-use Rattle.heap_rule.proofs.Keeps.{mine, my_good, remakes, knows_entry, after_entry, legal_entry, phases_words, stood_other, nobody_paused, run_still, staged_as, hunter_as, running_took_back}
+use Rattle.heap_rule.proofs.Keeps.{mine, my_good, remakes, knows_entry, after_entry, legal_entry, phases_words, stood_other, nobody_paused, run_still, staged_as, hunter_as, running_took_back, resting_runs, resting_other}
 use Rattle.heap_rule.proofs.Controls.{Untouched, found_untouched, making_untouched, pools_untouched, grid_untouched, hunter_untouched, cycle_untouched, sum_one}
 use Rattle.heap_rule.proofs.Entering.{running, inside_state, registers_stand, Enters, entered_view, stood_after, enters}
 use Rattle.steps_pauses.proofs.PauseSteps.{over_few}
@@ -94,7 +94,7 @@ ends k slots id hist x acts s r _ at _ =
       staged = staged_as r.account.pause x y refl refl refl g.staged;
       still = run_still log' y acts.runs;
       hunter = hunter_as k r.account.tenancy ws x y refl refl refl refl (hunter_untouched k r.account.tenancy s.words ws x untouched g.hunter);
-      resting = λ n. absurd (n acts.runs);
+      resting = resting_runs k s.words ws x y acts.runs acts.runs refl g.resting;
       took_back = running_took_back ws y acts.runs;
     }
     (λ z _ other h. record {
@@ -104,7 +104,7 @@ ends k slots id hist x acts s r _ at _ =
       staged = h.staged;
       still = λ paused. absurd (nobody_paused r.account.pause x z acts.runs g.staged h.staged paused);
       hunter = hunter_untouched k r.account.tenancy s.words ws z untouched h.hunter;
-      resting = h.resting;
+      resting = resting_other k r.account.pause s.words ws x z acts.runs g.staged h.staged h.resting;
       took_back = λ kind leads last. same_want ∙ h.took_back kind leads last;
     }) in (
       one k hist y,

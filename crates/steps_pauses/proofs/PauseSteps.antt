@@ -11,6 +11,7 @@ use Rattle.heap_model.specs.declared.entry.Entry.{Entry}
 use Rattle.heap_model.proofs.Histories.FrontLemmas.{front_whole}
 use Rattle.heap_rule.specs.declared.config.Config.{Config}
 use Rattle.heap_rule.specs.declared.view.DomainView.{DomainView}
+use Rattle.heap_rule.specs.declared.view.Listing.{Listing}
 use Rattle.heap_rule.specs.declared.view.View.{View}
 use Rattle.heap_rule.specs.declared.phase.Kind.{Kind}
 use Rattle.heap_rule.specs.declared.phase.Kind.TheVariants.{Run}
@@ -20,13 +21,13 @@ use Rattle.heap_rule.specs.declared.phase.Note.{Note}
 use Rattle.heap_rule.specs.declared.phase.Note.TheVariants.{Want, Asked, Barrier, Ended, Cleared}
 use Rattle.heap_rule.specs.Layout.{heap_words, before_heap, barrier, plan, ended_word, want}
 use Rattle.heap_rule.specs.Phases.{code, Follows, sum_of, is_over, IsEven, IsOdd, Pause, Phases, AtStage, Staged, Still, IsInPause, TookBack, Unwished}
-use Rattle.heap_rule.specs.Pools.{drawn, drawn_in, Drawers}
+use Rattle.heap_rule.specs.Pools.{drawn, drawn_in, Drawers, IsLeading}
 use Rattle.steps_pauses.specs.Pauses.{noted, kind_in, IsGone, WantTold, AskTold, ArrivesFrom, ArriveMay, arrived_view, Arrived, LookTold, PlanTold, ClearTold, LeadMay, LeadTold, EndedTold}
 use Rattle.heap_rule.specs.Raw.{MayStep, MayStore}
 use Rattle.heap_rule.specs.Rule.{state_of, Rule}
 use Rattle.heap_rule.specs.Views.{one, Tells}
 use Rattle.heap_rule.proofs.Update.{over, over_here, over_else}
-use Rattle.heap_rule.proofs.Controls.{Untouched, untouched_same, sum_one, sum_low, all_up, parity, moved_to, turns, notes_rule, last_note_end}
+use Rattle.heap_rule.proofs.Controls.{Untouched, untouched_same, sum_one, sum_low, all_up, parity, moved_to, turns, notes_rule, last_note_end, resting_untouched}
 use Rattle.heap_rule.proofs.Keeps.{Words, mine, my_good, unmoved, nobody_paused, not_both}
 
 gone_runs : (kind : Kind) → ◌≡◌ {A = Stage} (Gone kind) (In Run) → ⊥
@@ -46,9 +47,9 @@ IsNotCleared : Note → Type 0
 IsNotCleared n = ◌≡◌ {A = Option Note} (Some n) (Some Cleared) → ⊥
 
 -- then whoever leaves it hasn't just taken them back
-noted_otherwise : (words : List ℕ) (x : DomainView) (arrivals : ℕ) (front : List Entry) (stage : Stage) (n : Note) → IsNotCleared n → TookBack words (moved_to x arrivals front stage (x.seen.notes ++ n ∷ []))
+noted_otherwise : (words : List ℕ) (x : DomainView) (arrivals : ℕ) (front : List Entry) (stage : Stage) (free : Option ℕ) (listing : Option Listing) (n : Note) → IsNotCleared n → TookBack words (moved_to x arrivals front stage (x.seen.notes ++ n ∷ []) free listing)
 unfolding IsNotCleared
-noted_otherwise words x arrivals front stage n other kind leads last = absurd (other (sym (last_note_end x.seen.notes n) ∙ last))
+noted_otherwise words x arrivals front stage free listing n other kind leads last = absurd (other (sym (last_note_end x.seen.notes n) ∙ last))
 
 want_note : (n : ℕ) → IsNotCleared (Want n)
 unfolding IsNotCleared
@@ -75,7 +76,7 @@ noting k slots id word hist x note tells other says s r _ at _ =
       one k hist y,
       keeps,
       tt,
-      unmoved k s word (set s.views id (one k hist y)) (notes_rule k s r id hist x at y.seen.notes s.words (untouched_same s.words) r.whole.unwished (noted_otherwise s.words x x.own.arrivals x.seen.front x.seen.stage (note (get_or s.words word 0)) (other (get_or s.words word 0))) (λ z _ took. took) refl refl refl),
+      unmoved k s word (set s.views id (one k hist y)) (notes_rule k s r id hist x at y.seen.notes s.words (untouched_same s.words) r.whole.unwished (noted_otherwise s.words x x.own.arrivals x.seen.front x.seen.stage x.seen.free x.seen.listing (note (get_or s.words word 0)) (other (get_or s.words word 0))) (λ z _ took. took) refl refl refl),
       (says s r at, refl),
     )
 
@@ -169,14 +170,15 @@ arrives k slots id hist x may s r _ at _ =
     let same_want : want ws ≡ want s.words = get_or-set_other s.words 1 0 (b + 1) 0 (λ e. omega arith) in
     let through : (t' : Pause) → Phases k t' ws → Staged t' y → ((z : DomainView) → z.own.number < N → z.own.number ≢ d → Staged t z → Staged t' z)
     → Drawers t' r.account.tenancy → Unwished t' ws → Rule k record { words = ws; homes = s.homes; views = set s.views id (one k hist y) } =
-    (λ t' phases own_stage stages drawers unwished. turns k s r id hist x at (x.own.arrivals + 1) x.seen.front (Gone (kind_in x.seen.stage)) x.seen.notes t' ws record {
+    (λ t' phases own_stage stages drawers unwished. turns k s r id hist x at (x.own.arrivals + 1) x.seen.front (Gone (kind_in x.seen.stage)) x.seen.notes None None t' ws record {
       untouched = untouched;
       front = me.front;
       phases = phases;
       endings = endings;
       staged = own_stage;
       still = λ paused. absurd paused;
-      resting = λ n. may.at_rest;
+      free = λ f e. cc;
+      resting = record { hunt = λ n. may.at_rest; free = λ n. refl; lists = λ l e. cc };
       drawers = drawers;
       others = stages;
       unwished = unwished;
@@ -261,8 +263,8 @@ looked_at k id hist x gone s r at =
     (λ not_above. let z : a < t.phase + 1 = lt_of_not-le not_above in omega arith) in
     let through : (stage : Stage) → AtStage t x.own.number a stage → ((kind : Kind) × (((stage ≡ In kind) × IsEven a) ⊎ ((stage ≡ Leads (kind_in x.seen.stage)) × IsOdd a))) → Looks k s id hist x =
     (λ stage at' says. record {
-      after = moved_to x a r.account.log stage notes;
-      rule = turns k s r id hist x at a r.account.log stage notes t s.words record {
+      after = moved_to x a r.account.log stage notes x.seen.free x.seen.listing;
+      rule = turns k s r id hist x at a r.account.log stage notes x.seen.free x.seen.listing t s.words record {
         untouched = untouched_same s.words;
         front = front_whole x.own.number r.account.log;
         phases = P;
@@ -270,10 +272,15 @@ looked_at k id hist x gone s r at =
         staged = record { arrivals = st.arrivals; stage = at' };
         still = λ _. refl;
         drawers = r.whole.drawers;
-        resting = λ n. (my_good k s r id hist x at).resting (λ e. gone_runs (kind_in x.seen.stage) (sym gone ∙ e));
+        free = λ f e. e;
+        resting = let rest = (my_good k s r id hist x at).resting in let stays : x.seen.stage ≢ In Run = (λ e. gone_runs (kind_in x.seen.stage) (sym gone ∙ e)) in record {
+          hunt = λ n. rest.hunt stays;
+          free = λ n. rest.free stays;
+          lists = λ l e. absurd (subst IsLeading gone (rest.lists l e).leads);
+        };
         others = λ z _ _ its. its;
         unwished = r.whole.unwished;
-        took_back = noted_otherwise s.words x a r.account.log stage (Barrier b) (barrier_note b);
+        took_back = noted_otherwise s.words x a r.account.log stage x.seen.free x.seen.listing (Barrier b) (barrier_note b);
         others_took_back = λ z _ took. took;
       };
       told = record {
@@ -289,7 +296,7 @@ looked_at k id hist x gone s r at =
     (parity t.phase))
     (λ not_over. record {
       after = noted x (Barrier b);
-      rule = notes_rule k s r id hist x at notes s.words (untouched_same s.words) r.whole.unwished (noted_otherwise s.words x x.own.arrivals x.seen.front x.seen.stage (Barrier b) (barrier_note b)) (λ z _ took. took) refl refl refl;
+      rule = notes_rule k s r id hist x at notes s.words (untouched_same s.words) r.whole.unwished (noted_otherwise s.words x x.own.arrivals x.seen.front x.seen.stage x.seen.free x.seen.listing (Barrier b) (barrier_note b)) (λ z _ took. took) refl refl refl;
       told = record { waits = λ _. refl; begun = λ over_it. absurd (not_over over_it) };
     })
 
@@ -330,7 +337,7 @@ leads k slots id hist x new next may s r _ at _ =
     let t : Pause = r.account.pause in
     let g = my_good k s r id hist x at in
     let ws : List ℕ = set s.words 2 new in
-    let y : DomainView = moved_to x x.own.arrivals x.seen.front (Led next) x.seen.notes in
+    let y : DomainView = moved_to x x.own.arrivals x.seen.front (Led next) x.seen.notes x.seen.free x.seen.listing in
     let before = subst (AtStage t x.own.number x.own.arrivals) may.stage g.staged.stage in
     let j : ℕ = before.1.0 in
     let odd : t.phase ≡ j * 2 + 1 = before.1.1 in
@@ -341,13 +348,18 @@ leads k slots id hist x new next may s r _ at _ =
       one k hist y,
       keeps,
       tt,
-      turns k s r id hist x at x.own.arrivals x.seen.front (Led next) x.seen.notes t' ws record {
+      turns k s r id hist x at x.own.arrivals x.seen.front (Led next) x.seen.notes x.seen.free x.seen.listing t' ws record {
         untouched = (length-set s.words 2 new, (λ i low other. get_or-set_other s.words 2 i new 0 (λ e. omega arith)));
         front = (mine k s r id hist x at).front;
         endings = get_or-set_other s.words 2 8 new 0 (λ e. omega arith);
         still = λ _. g.still (subst IsInPause (sym may.stage) tt);
         drawers = λ q e h. absurd (let i : ℕ = (r.whole.drawers q e h).1.0 in let f : t.phase ≡ i * 2 = (r.whole.drawers q e h).1.1 in omega arith);
-        resting = λ n. g.resting (λ e. leads_runs may.last (sym may.stage ∙ e));
+        free = λ f e. e;
+        resting = let rest = resting_untouched k s.words ws x (length-set s.words 2 new, (λ i low other. get_or-set_other s.words 2 i new 0 (λ e. omega arith))) g.resting in let stays : x.seen.stage ≢ In Run = (λ e. leads_runs may.last (sym may.stage ∙ e)) in record {
+          hunt = λ n. rest.hunt stays;
+          free = λ n. rest.free stays;
+          lists = λ l e. let z = rest.lists l e in record { first = z.first; leads = tt; few = z.few; owners = z.owners; names = z.names; count = z.count; rewinds = z.rewinds };
+        };
         phases = record {
           sum = barrier' ∙ P.sum;
           begun = subst (λ (n : ℕ). t.phase * k.domains ≤ n) (sym barrier') P.begun;
@@ -404,7 +416,7 @@ ask_may k x bits runs fits slots id h s r _ at _ =
       tt,
       wants k slots id h x (Asked bits) (λ n. bit_or n bits) s r at
           (λ j odd. absurd (not_both r.account.pause.phase (even.0, even.1) (j, odd)))
-          (noted_otherwise (set s.words 0 (bit_or (get_or s.words 0 0) bits)) x x.own.arrivals x.seen.front x.seen.stage (Asked bits) (asked_note bits))
+          (noted_otherwise (set s.words 0 (bit_or (get_or s.words 0 0) bits)) x x.own.arrivals x.seen.front x.seen.stage x.seen.free x.seen.listing (Asked bits) (asked_note bits))
           (λ z its took kind leads last. absurd (nobody_paused r.account.pause x z runs staged its (subst IsInPause (sym leads) tt))),
       (refl, refl),
     )

@@ -1,5 +1,5 @@
 -- What the steps of a pause ask and tell.
-use Rattle.std.specs.Prelude.{◌≡◌, ◌≢◌, ℕ, ◌+◌, ◌*◌, ◌^◌, ◌<◌, ◌≤◌, ◌⊎◌, List, [], ◌∷◌, ◌++◌, Some}
+use Rattle.std.specs.Prelude.{◌≡◌, ◌≢◌, ℕ, ◌+◌, ◌*◌, ◌^◌, ◌<◌, ◌≤◌, ◌⊎◌, List, [], ◌∷◌, ◌++◌, Some, None}
 use Rattle.heap_model.specs.declared.entry.Entry.TheVariants.{End}
 use Rattle.heap_model.specs.declared.reply.Applied.TheVariants.{Silent}
 use Rattle.heap_model.specs.History.{Legal}
@@ -58,9 +58,9 @@ pub record ArriveMay (x : DomainView) : Type 0 where
   pub from : ArrivesFrom x.own.number x.seen.stage
   pub few : x.own.arrivals < 2 ^ 60
 
--- the domain has arrived
+-- the domain has arrived: what it knows of how many pools are free, and of the list that it wrote, is void
 abbrev pub arrived_view : DomainView → DomainView
-arrived_view x = record { own = record x.own { arrivals = x.own.arrivals + 1 }; seen = record x.seen { stage = Gone (kind_in x.seen.stage) } }
+arrived_view x = record { own = record x.own { arrivals = x.own.arrivals + 1 }; seen = record x.seen { stage = Gone (kind_in x.seen.stage); free = None; listing = None } }
 
 abbrev pub Arrived : DomainView → ℕ → DomainView → Type 0
 Arrived x found y = y ≡ arrived_view x

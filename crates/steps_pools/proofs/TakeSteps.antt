@@ -18,7 +18,7 @@ use Rattle.heap_rule.specs.Rule.{Rule}
 use Rattle.heap_rule.specs.Pools.{owned, owner_word, Hunts, drawn_in, place_in, blocks_of, limit_of}
 use Rattle.steps_pools.specs.Takes.{with_hunt, found_free, looked_to, HasNoDraw, ListedTold, CursorTold, CursorAddTold, ListMay, ListTold, ClearMay, ClearTold, OwnedTold, FillTold, cleared_more, OwnerMay, OwnerLoadMay, OwnerTold, PlaceMay, PlaceTold, FillMay, filled}
 use Rattle.heap_rule.proofs.Keeps.{unmoved, looks, mine, my_good}
-use Rattle.steps_pools.proofs.DrawSteps.{hunter, listed_rule, asks_rule, rests_rule, late_rule, draws_rule, whole_word, place_inside, pool_inside}
+use Rattle.steps_pools.proofs.DrawSteps.{hunter, listed_rule, asks_rule, rests_rule, below_bounds, past_bounds, late_rule, draws_rule, whole_word, place_inside, pool_inside}
 use Rattle.steps_pools.proofs.WalkSteps.{walks_rule, passes_rule, takes_rule, full_rule, last_rule, clears_rule, owns_rule, fills_rule}
 
 abbrev Seat : Type 0
@@ -32,15 +32,29 @@ listeds k slots id hist x runs free s r _ at _ =
 pub listed_may : (k : Config) (x : DomainView) (runs : x.seen.stage ≡ In Run) → HasNoDraw x → MayStep k x 6 (λ n. n) (ListedTold k)
 listed_may k x runs free fits slots id h = listeds k slots id h x runs free
 
-cursors : (k : Config) (slots id : ℕ) (hist : List Entry) (x : DomainView) (runs : x.seen.stage ≡ In Run) (count : ℕ) → x.seen.hunt ≡ Counts count → Allows (Rule k) slots id (one k hist x, []) 7 (λ n. n) (Tells (CursorTold k count) (one k hist x, []))
+lt_not_le : {a b : ℕ} → a < b → b ≤ a → ⊥
+lt_not_le {a} {b} below past = let p : a < b = below in let q : b ≤ a = past in omega arith
+
+cursors : (k : Config) (slots id : ℕ) (hist : List Entry) (x : DomainView) (runs : x.seen.stage ≡ In Run) (count : ℕ) → x.seen.hunt ≡ Counts count → Allows (Rule k) slots id (one k hist x, []) 7 (λ n. n) (Tells (CursorTold k count (Asks count)) (one k hist x, []))
 cursors k slots id hist x runs count hunt s r _ at _ = dite (dec_le (limit_of k count) (cursor s.words))
     (λ past. let y : DomainView = found_free x (count - limit_of k count) Rests in
-    (one k hist y, keeps, tt, unmoved k s 7 (set s.views id (one k hist y)) (rests_rule k s r id hist x at runs count hunt past), (record { below = λ b. absurd (let c : ℕ = cursor s.words in let l : ℕ = limit_of k count in let p : l ≤ c = past in let q : c < l = b in omega arith); past = λ p. refl }, refl)))
+    (one k hist y, keeps, tt, unmoved k s 7 (set s.views id (one k hist y)) (rests_rule k s r id hist x at runs count (count - limit_of k count) hunt (past_bounds k s r id hist x at runs count (cursor s.words) past)), (record { below = λ b. absurd (lt_not_le b past); past = λ p. refl }, refl)))
     (λ not_past. let below : cursor s.words < limit_of k count = lt_of_not-le not_past in let y : DomainView = found_free x (count - cursor s.words) (Asks count) in
     (one k hist y, keeps, tt, unmoved k s 7 (set s.views id (one k hist y)) (asks_rule k s r id hist x at runs count hunt below), (record { below = λ b. refl; past = λ p. absurd (not_past p) }, refl)))
 
-pub cursor_may : (k : Config) (x : DomainView) (runs : x.seen.stage ≡ In Run) (count : ℕ) → x.seen.hunt ≡ Counts count → MayStep k x 7 (λ n. n) (CursorTold k count)
+pub cursor_may : (k : Config) (x : DomainView) (runs : x.seen.stage ≡ In Run) (count : ℕ) → x.seen.hunt ≡ Counts count → MayStep k x 7 (λ n. n) (CursorTold k count (Asks count))
 cursor_may k x runs count hunt fits slots id h = cursors k slots id h x runs count hunt
+
+-- a domain that takes no pool looks how many are free
+looks_free : (k : Config) (slots id : ℕ) (hist : List Entry) (x : DomainView) (runs : x.seen.stage ≡ In Run) (count : ℕ) → x.seen.hunt ≡ Counts count → Allows (Rule k) slots id (one k hist x, []) 7 (λ n. n) (Tells (CursorTold k count Rests) (one k hist x, []))
+looks_free k slots id hist x runs count hunt s r _ at _ = dite (dec_le (limit_of k count) (cursor s.words))
+    (λ past. let y : DomainView = found_free x (count - limit_of k count) Rests in
+    (one k hist y, keeps, tt, unmoved k s 7 (set s.views id (one k hist y)) (rests_rule k s r id hist x at runs count (count - limit_of k count) hunt (past_bounds k s r id hist x at runs count (cursor s.words) past)), (record { below = λ b. absurd (lt_not_le b past); past = λ p. refl }, refl)))
+    (λ not_past. let below : cursor s.words < limit_of k count = lt_of_not-le not_past in let y : DomainView = found_free x (count - cursor s.words) Rests in
+    (one k hist y, keeps, tt, unmoved k s 7 (set s.views id (one k hist y)) (rests_rule k s r id hist x at runs count (count - cursor s.words) hunt (below_bounds k s r id hist x at runs count (cursor s.words) below)), (record { below = λ b. refl; past = λ p. absurd (not_past p) }, refl)))
+
+pub free_may : (k : Config) (x : DomainView) (runs : x.seen.stage ≡ In Run) (count : ℕ) → x.seen.hunt ≡ Counts count → MayStep k x 7 (λ n. n) (CursorTold k count Rests)
+free_may k x runs count hunt fits slots id h = looks_free k slots id h x runs count hunt
 
 cursor_adds : (k : Config) (slots id : ℕ) (hist : List Entry) (x : DomainView) (runs : x.seen.stage ≡ In Run) (count class : ℕ) → x.seen.hunt ≡ Asks count → class < 6 → Allows (Rule k) slots id (one k hist x, []) 7 (λ n. (n + 1) % 2 ^ 64) (Tells (CursorAddTold k count class) (one k hist x, []))
 cursor_adds k slots id hist x runs count class hunt few s r _ at _ =
@@ -135,10 +149,3 @@ fills k slots id word hist x runs a new here may s r _ at _ =
 
 pub fill_may : (k : Config) (x : DomainView) (runs : x.seen.stage ≡ In Run) (word a new : ℕ) → word ≡ before_heap k + a → FillMay x a → MayStore k x word new FillTold
 fill_may k x runs word a new here may fits slots id h = fills k slots id word h x runs a new here may
-
--- the loads and adds of the cursor leave the plain data
-pub cursor_own : (k : Config) (count : ℕ) (x : DomainView) (found : ℕ) (y : DomainView) → CursorTold k count x found y → y.own ≡ x.own
-cursor_own k count x found y told = dite (dec_le (limit_of k count) found) (λ past. ap (λ (z : DomainView). z.own) (told.past past)) (λ not_past. ap (λ (z : DomainView). z.own) (told.below (lt_of_not-le not_past)))
-
-pub cursor_add_own : (k : Config) (count class : ℕ) (x : DomainView) (found : ℕ) (y : DomainView) → CursorAddTold k count class x found y → y.own ≡ x.own
-cursor_add_own k count class x found y told = dite (dec_le (limit_of k count) found) (λ past. ap (λ (z : DomainView). z.own) (told.past past)) (λ not_past. ap (λ (z : DomainView). z.own) (told.below (lt_of_not-le not_past)).view)

@@ -12,7 +12,7 @@ use Rattle.heap_rule.specs.declared.change.Change.{Change}
 use Rattle.heap_rule.specs.declared.config.Config.{Config}
 use Rattle.heap_rule.specs.declared.view.DomainView.{DomainView}
 use Rattle.heap_rule.specs.declared.view.Hunt.{Hunt}
-use Rattle.heap_rule.specs.declared.view.Hunt.TheVariants.{Rests, Counts, Asks, Draws, Walks, Fills}
+use Rattle.heap_rule.specs.declared.view.Hunt.TheVariants.{Rests, Counts, Draws, Walks, Fills}
 use Rattle.heap_rule.specs.declared.view.Spot.{Spot}
 use Rattle.heap_rule.specs.Limits.{sizes_in}
 use Rattle.heap_rule.specs.Places.{IsNewHead}
@@ -47,9 +47,9 @@ pub record ListedTold (k : Config) (x : DomainView) (found : ℕ) (y : DomainVie
 abbrev pub found_free : DomainView → ℕ → Hunt → DomainView
 found_free x free hunt = hunting_free x x.own.looked hunt (Some free)
 
--- a load of the cursor: where it is below the limit, the domain may ask for a pool
-pub record CursorTold (k : Config) (count : ℕ) (x : DomainView) (found : ℕ) (y : DomainView) : Type 0 where
-  pub below : found < limit_of k count → y ≡ found_free x (count - found) (Asks count)
+-- a load of the cursor tells how many pools are free: those behind it, or those of the reserve where it is past the limit. Where it is below the limit, the domain goes on so
+pub record CursorTold (k : Config) (count : ℕ) (hunt : Hunt) (x : DomainView) (found : ℕ) (y : DomainView) : Type 0 where
+  pub below : found < limit_of k count → y ≡ found_free x (count - found) hunt
   pub past : limit_of k count ≤ found → y ≡ found_free x (count - limit_of k count) Rests
 
 -- the pool at the place that the cursor named is drawn
