@@ -7,7 +7,7 @@ use Rattle.std.proofs.lemmas.Bool.Decides.{nat_tests}
 use Rattle.std.proofs.lemmas.Int.{ints}
 use Rattle.std.proofs.lemmas.Bool.{and_parts as both}
 use Rattle.heap_model.specs.declared.command.Command.{Command}
-use Rattle.heap_model.specs.declared.command.Command.TheVariants.{PutInt, Copy, Forget, Alloc, AllocMaj, Load, Store, Ephe, SetKey, UnsetKey, GetKey, CheckKey, SetData, UnsetData, GetData, CheckData, Finalise, FinaliseLast, Poll, Minor, Major, FullMajor}
+use Rattle.heap_model.specs.declared.command.Command.TheVariants.{PutInt, Copy, Forget, Alloc, AllocMaj, Load, Store, Raw, Cas, Ephe, SetKey, UnsetKey, GetKey, CheckKey, SetData, UnsetData, GetData, CheckData, Finalise, FinaliseLast, Poll, Minor, Major, FullMajor, Spawn, Argument, PutResult, Join}
 use Rattle.heap_text.specs.declared.form.Operand.TheVariants.{Register, Tag, FieldCount, Index, Integer}
 use Rattle.heap_text.specs.Forms.{is_writable, fits}
 use Rattle.heap_text.proofs.ScriptLemmas.{total-cons}
@@ -52,6 +52,8 @@ writable_fits (Store block index item) w =
     let q = both (fits Index (pos index)) (fits Register (pos item) && true) p.1 in
     (register_fits block p.0, register_fits item (both (fits Register (pos item)) true q.1).0)
 writable_fits Poll w = tt
+writable_fits (Raw dst tag fields) w = cc
+writable_fits (Cas block index expected item) w = cc
 writable_fits (Ephe dst keys) w = cc
 writable_fits (SetKey ephe index item) w = cc
 writable_fits (UnsetKey ephe index) w = cc
@@ -66,6 +68,10 @@ writable_fits (FinaliseLast item number) w = cc
 writable_fits Minor w = tt
 writable_fits Major w = cc
 writable_fits FullMajor w = cc
+writable_fits (Spawn section item) w = cc
+writable_fits (Argument dst) w = cc
+writable_fits (PutResult item) w = cc
+writable_fits (Join dst section) w = cc
 
 all_writable_fit : (cs : List Command) → list_all is_writable cs ≡ true → AllFit cs
 all_writable_fit [] w i c at = cc

@@ -16,6 +16,7 @@ use Rattle.heap_rule.specs.Running.{Runs}
 use Rattle.heap_rule.specs.Token.{Token, SharedHeap, IsIn}
 use Rattle.heap_rule.proofs.Calls.{front_stays, answered_runs}
 use Rattle.domain_turns.specs.Tries.{RefusesFull, full_entry}
+use Rattle.heap_rule.proofs.Plain.{entered_rest}
 
 -- the entry of `full` stood at a tick
 pub refuses : (h : SharedHeap) (old new : Token) (c : Command) (e : Entry) (r : Reply) (a : Applied) (read : Value) (changes : List Change) → e ≡ full_entry old c → a ≡ Replied r → Runs h old → IsIn new h
@@ -26,9 +27,9 @@ refuses h old new c e r a read changes is answer runs here entered =
     (subst (λ (x : Entry). Answers (sizes_in h.config) old.view.own.number old.view.seen.front new.view.seen.front x (Replied r)) is
     (subst (λ (b : Applied). Answers (sizes_in h.config) old.view.own.number old.view.seen.front new.view.seen.front e b) answer entered.answers)) in
     record {
-      runs = answered_runs h old new c true (Replied r) runs here (ap (λ (x : DomainView). x.own.number) entered.view) (ap (λ (x : DomainView). x.seen.hunt) entered.view ∙ runs.at_rest) (ap (λ (x : DomainView). x.seen.made) entered.view ∙ runs.idle) (front_stays old.view new.view _ _ entered.view) answers;
+      runs = answered_runs h old new c true (Replied r) runs here (ap (λ (x : DomainView). x.own.number) (entered_rest _ _ _ _ _ _ _ entered)) (ap (λ (x : DomainView). x.seen.hunt) (entered_rest _ _ _ _ _ _ _ entered) ∙ runs.at_rest) (ap (λ (x : DomainView). x.seen.made) (entered_rest _ _ _ _ _ _ _ entered) ∙ runs.idle) (front_stays old.view new.view _ _ (entered_rest _ _ _ _ _ _ _ entered)) answers;
       answers = answers;
       heap = (here.0 ∙ sym runs.here.0, here.1 ∙ sym runs.here.1);
-      stays = front_stays old.view new.view _ _ entered.view;
-      free = ap (λ (x : DomainView). x.seen.free) entered.view;
+      stays = front_stays old.view new.view _ _ (entered_rest _ _ _ _ _ _ _ entered);
+      free = ap (λ (x : DomainView). x.seen.free) (entered_rest _ _ _ _ _ _ _ entered);
     }

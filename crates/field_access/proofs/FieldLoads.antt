@@ -29,6 +29,7 @@ use Rattle.heap_rule.proofs.Calls.{front_stays, look_stays, stays_trans, answere
 use Rattle.heap_model.proofs.Histories.FrontLemmas.{answers_after}
 use Rattle.field_access.specs.Registers.{LoadsInto}
 use Rattle.field_access.proofs.Loading.{loaded}
+use Rattle.heap_rule.proofs.Plain.{entered_rest}
 
 -- the register holds what the reply shows
 shown_into : (k : Config) (dst : ℕ) (before after : List Value) (v : Value) (held : model.Value) → Shows v held → ((a : ℕ) → v ≡ Ref a → IsAddress k a) → after ≡ set before dst v → LoadsInto k dst (shown held) before after
@@ -58,14 +59,14 @@ module _ (h : SharedHeap) (old : Token) (y z : DomainView) (e : Entry) (dst src 
   held_after = loaded (sizes_in h.config) old.view.own.number y.seen.front z.seen.front dst src i size read.held limits runs_on goes m.knows below answers_is
 
   after_number : z.own.number ≡ old.view.own.number
-  after_number = ap (λ (x : DomainView). x.own.number) read.entered.view ∙ number_is
+  after_number = ap (λ (x : DomainView). x.own.number) (entered_rest _ _ _ _ _ _ _ read.entered) ∙ number_is
 
   -- and so does the token's
   pub value_after : value_at z.own.registers dst ≡ read.value
   value_after =
-      let wide : length (set y.own.registers dst read.value) ≡ 16 = ap (λ (x : DomainView). length x.own.registers) (sym read.entered.view) ∙ read.entered.holds.wide in
+      let wide : length (set y.own.registers dst read.value) ≡ 16 = ap (λ (x : DomainView). length x.own.registers) (sym (entered_rest _ _ _ _ _ _ _ read.entered)) ∙ read.entered.holds.wide in
       let inside : dst < length y.own.registers = omega (arith, goes, wide, length-set {A = Value}) in
-      ap (λ (x : DomainView). value_at x.own.registers dst) read.entered.view ∙ get_or-set_same y.own.registers dst read.value Nothing inside
+      ap (λ (x : DomainView). value_at x.own.registers dst) (entered_rest _ _ _ _ _ _ _ read.entered) ∙ get_or-set_same y.own.registers dst read.value Nothing inside
 
   pub register_loaded : Shows (value_at z.own.registers dst) (register (state_of h.config z.seen.front) z.own.number dst)
   register_loaded =
@@ -79,9 +80,9 @@ module _ (h : SharedHeap) (old : Token) (y z : DomainView) (e : Entry) (dst src 
       let replies : r ≡ shown read.held = reply ∙ ap (λ (n : ℕ). shown (register (state_of h.config z.seen.front) n dst)) after_number ∙ ap shown held_after in
       let whole = answers_after (sizes_in h.config) old.view.own.number old.view.seen.front y.seen.front z.seen.front _ _ m.looked.seen answers_is in
       answered_did h old w (Load dst src i) r runs here (ap (λ (x : DomainView). x.own.number) same ∙ after_number)
-      (ap (λ (x : DomainView). x.seen.hunt) same ∙ ap (λ (x : DomainView). x.seen.hunt) read.entered.view ∙ ap (λ (x : DomainView). x.seen.hunt) m.looked.view ∙ runs.at_rest)
-      (ap (λ (x : DomainView). x.seen.made) same ∙ ap (λ (x : DomainView). x.seen.made) read.entered.view ∙ ap (λ (x : DomainView). x.seen.made) m.looked.view ∙ runs.idle)
-      (stays_trans old.view y w.view (look_stays old.view y _ m.looked.view) (front_stays y w.view _ _ (same ∙ read.entered.view)))
+      (ap (λ (x : DomainView). x.seen.hunt) same ∙ ap (λ (x : DomainView). x.seen.hunt) (entered_rest _ _ _ _ _ _ _ read.entered) ∙ ap (λ (x : DomainView). x.seen.hunt) m.looked.view ∙ runs.at_rest)
+      (ap (λ (x : DomainView). x.seen.made) same ∙ ap (λ (x : DomainView). x.seen.made) (entered_rest _ _ _ _ _ _ _ read.entered) ∙ ap (λ (x : DomainView). x.seen.made) m.looked.view ∙ runs.idle)
+      (stays_trans old.view y w.view (look_stays old.view y _ m.looked.view) (front_stays y w.view _ _ (same ∙ (entered_rest _ _ _ _ _ _ _ read.entered))))
       (subst (λ (x : DomainView). Answers (sizes_in h.config) old.view.own.number old.view.seen.front x.seen.front (own_entry old (Load dst src i)) (Replied r)) (sym same)
       (subst (λ (q : Reply). Answers (sizes_in h.config) old.view.own.number old.view.seen.front z.seen.front (own_entry old (Load dst src i)) (Replied q)) (sym replies) whole))
 
@@ -89,6 +90,6 @@ module _ (h : SharedHeap) (old : Token) (y z : DomainView) (e : Entry) (dst src 
   loads_into w r same reply =
       let replies : r ≡ shown read.held = reply ∙ ap (λ (n : ℕ). shown (register (state_of h.config z.seen.front) n dst)) after_number ∙ ap shown held_after in
       let written : w.view.own.registers ≡ set old.view.own.registers dst read.value =
-      ap (λ (x : DomainView). x.own.registers) same ∙ ap (λ (x : DomainView). x.own.registers) read.entered.view ∙ ap (λ (x : DomainView). set x.own.registers dst read.value) m.looked.view in
+      ap (λ (x : DomainView). x.own.registers) same ∙ ap (λ (x : DomainView). x.own.registers) (entered_rest _ _ _ _ _ _ _ read.entered) ∙ ap (λ (x : DomainView). set x.own.registers dst read.value) m.looked.view in
       subst (λ (q : Reply). LoadsInto h.config dst q old.view.own.registers w.view.own.registers) (sym replies)
       (shown_into h.config dst old.view.own.registers w.view.own.registers read.value read.held read.shows (λ a is_at. read.entered.holds.inside dst a goes (value_after ∙ is_at)) written)

@@ -15,6 +15,7 @@ use Rattle.heap_rule.specs.Running.{Runs, Did}
 use Rattle.heap_rule.specs.Running.{own_entry}
 use Rattle.heap_rule.proofs.Calls.{front_stays, look_stays, stays_trans, answered_did}
 use Rattle.heap_model.proofs.Histories.FrontLemmas.{answers_after}
+use Rattle.heap_rule.proofs.Plain.{entered_rest}
 
 -- a call that looked, and then made its entry
 pub looked_did : (h : SharedHeap) (old new : Token) (y : DomainView) (c : Command) (e : Entry) (r : Reply) (read : Value) (changes : List Change) → e ≡ own_entry old c → Runs h old → IsIn new h
@@ -24,8 +25,8 @@ looked_did h old new y c e r read changes is runs here look entered =
     let answers : Answers (sizes_in h.config) old.view.own.number y.seen.front new.view.seen.front (own_entry old c) (Replied r) =
     subst (λ (x : Entry). Answers (sizes_in h.config) old.view.own.number y.seen.front new.view.seen.front x (Replied r)) is
     (subst (λ (n : ℕ). Answers (sizes_in h.config) n y.seen.front new.view.seen.front e (Replied r)) number entered.answers) in
-    answered_did h old new c r runs here (ap (λ (x : DomainView). x.own.number) entered.view ∙ number)
-    (ap (λ (x : DomainView). x.seen.hunt) entered.view ∙ ap (λ (x : DomainView). x.seen.hunt) look.view ∙ runs.at_rest)
-    (ap (λ (x : DomainView). x.seen.made) entered.view ∙ ap (λ (x : DomainView). x.seen.made) look.view ∙ runs.idle)
-    (stays_trans old.view y new.view (look_stays old.view y _ look.view) (front_stays y new.view _ _ entered.view))
+    answered_did h old new c r runs here (ap (λ (x : DomainView). x.own.number) (entered_rest _ _ _ _ _ _ _ entered) ∙ number)
+    (ap (λ (x : DomainView). x.seen.hunt) (entered_rest _ _ _ _ _ _ _ entered) ∙ ap (λ (x : DomainView). x.seen.hunt) look.view ∙ runs.at_rest)
+    (ap (λ (x : DomainView). x.seen.made) (entered_rest _ _ _ _ _ _ _ entered) ∙ ap (λ (x : DomainView). x.seen.made) look.view ∙ runs.idle)
+    (stays_trans old.view y new.view (look_stays old.view y _ look.view) (front_stays y new.view _ _ (entered_rest _ _ _ _ _ _ _ entered)))
     (answers_after (sizes_in h.config) old.view.own.number old.view.seen.front y.seen.front new.view.seen.front _ _ look.seen answers)

@@ -11,7 +11,7 @@ ghost use Rattle.heap_words.specs.Heads.{IsPackableHead};
 ghost use Rattle.heap_words.specs.Labels.{IsPackableLabel, label_word};
 ghost use Rattle.heap_rule.specs.Changes.{value_at};
 ghost use Rattle.heap_rule.specs.Places.{Shows};
-ghost use Rattle.heap_rule.specs.Places.{HeadIs, head_of};
+ghost use Rattle.heap_rule.specs.Places.{IsHeadOf};
 ghost use Rattle.heap_rule.specs.Rule.{state_of};
 ghost use Rattle.heap_rule.specs.Running.{Runs, Did, ChangesRegisters};
 ghost use Rattle.heap_rule.specs.Token.{Holds, IsIn};
@@ -27,8 +27,8 @@ use steps_run::{field_load, field_store, head_load, label_load, tick};
 
 // The number of fields of the plain block whose head this is, and nothing for an ephemeron.
 fn plain_size(head: u64) -> Option<u16>
-    requires { (s : Shape) × IsPackableHead (head_of s) × HeadIs s head }
-    ensures { (s : Shape) → IsPackableHead (head_of s) → HeadIs s head → result ≡ size_of s }
+    requires { (s : Shape) × IsHeadOf s head }
+    ensures { (s : Shape) → IsHeadOf s head → result ≡ size_of s }
 {
     match unpack_head(head) {
         Some(Head::Plain { size, .. }) => Some(size),

@@ -6,4 +6,5 @@ pub mod NumberLemmas
 pub mod ShapeAfterLemmas
 pub mod TallyLemmas
 pub mod AnswerLemmas
+pub mod FieldLemmas
 pub mod Rows

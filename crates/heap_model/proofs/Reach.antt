@@ -1,3 +1,4 @@
 -- What is reachable.
 pub mod ReachLemmas
 pub mod ReachSizeLemmas
+pub mod LabelListLemmas

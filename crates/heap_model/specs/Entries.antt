@@ -4,7 +4,7 @@ use Rattle.std.specs.List.{list_any, list_all}
 use Rattle.std.specs.Option.{option_map_or}
 use Rattle.heap_model.specs.declared.label.Label.{Label}
 use Rattle.heap_model.specs.declared.command.Command as declared_command
-use Rattle.heap_model.specs.declared.command.Command.TheVariants.{Alloc, AllocMaj, Ephe as NewEphe}
+use Rattle.heap_model.specs.declared.command.Command.TheVariants.{Alloc, AllocMaj, Raw as NewRaw, Ephe as NewEphe}
 use Rattle.heap_model.specs.declared.entry.Entry.{Entry}
 use Rattle.heap_model.specs.declared.entry.Entry.TheVariants.{Command, End, Cut, Queue, Seal, Wipe, Last, Collected, Done, Ran}
 use Rattle.heap_model.specs.declared.reply.Reply.TheVariants.{Fin as FinReply, Last as LastReply}
@@ -12,7 +12,7 @@ use Rattle.heap_model.specs.declared.reply.Applied.{Applied}
 use Rattle.heap_model.specs.declared.reply.Applied.TheVariants.{Replied, Silent}
 use Rattle.heap_model.specs.declared.graph.Value.TheVariants.{Block, Nothing}
 use Rattle.heap_model.specs.declared.graph.Node.{Node}
-use Rattle.heap_model.specs.declared.graph.Node.TheVariants.{Plain, Ephe}
+use Rattle.heap_model.specs.declared.graph.Node.TheVariants.{Plain, Raw, Ephe}
 use Rattle.heap_model.specs.declared.state.Mode.{Mode}
 use Rattle.heap_model.specs.declared.state.Mode.TheVariants.{Open, Cut as CutMode, Sealed, Answer}
 use Rattle.heap_model.specs.declared.state.Pending.{Pending}
@@ -85,6 +85,7 @@ is_label l (Some k) = same_label k l
 abbrev pub ephe_holds : Label → Option Node → Bool
 ephe_holds l (Some (Ephe keys datum)) = list_any (is_label l) keys || is_label l (label_of datum)
 ephe_holds l (Some (Plain tag fields)) = false
+ephe_holds l (Some (Raw tag fields)) = false
 ephe_holds l None = false
 
 -- whether no ephemeron that they reach has the label as a key or as its data
@@ -107,28 +108,30 @@ pub record SealAllowed (s : State) : Type 0 where
 abbrev pub has_keys : (Label → Bool) → List ℕ → Option Node → Bool
 has_keys test places (Some (Ephe keys datum)) = list_all (λ p. is_some_and (is_some_and test) (slice_get keys p)) places
 has_keys test places (Some (Plain tag fields)) = false
+has_keys test places (Some (Raw tag fields)) = false
 has_keys test places None = false
 
 -- whether these places of an ephemeron hold full keys that are gone
-abbrev pub has_dead_keys : State → List ℕ → Option Node → Bool
-has_dead_keys s places n = has_keys (is_gone s (queues s)) places n
+abbrev pub has_gone_keys : State → List ℕ → Option Node → Bool
+has_gone_keys s places n = has_keys (is_gone s (queues s)) places n
 
 -- Wipe: full keys of an ephemeron that are gone
 pub record WipeAllowed (s : State) (l : Label) (places : List ℕ) : Type 0 where
   pub mode : s.mode ≡ Sealed
   pub rising : IsTrue (is_rising places)
-  pub dead : IsTrue (has_dead_keys s places (node_at s.graph l))
+  pub gone : IsTrue (has_gone_keys s places (node_at s.graph l))
 
 -- Last: a `finalise_last` whose label is gone, and which no ephemeron holds that isn't gone itself
 pub record LastAllowed (s : State) (d place : ℕ) : Type 0 where
   pub mode : s.mode ≡ Sealed
   pub below : place < (domain_at s d).low
-  pub dead : IsTrue (is_some_and (λ f. is_gone s (queues s) f.label && is_let_go s f.label) (slice_get (domain_at s d).lasts place))
+  pub gone : IsTrue (is_some_and (λ f. is_gone s (queues s) f.label && is_let_go s f.label) (slice_get (domain_at s d).lasts place))
 
 -- whether each full key of an ephemeron passes a test
 abbrev pub keys_are_live : (Label → Bool) → Option Node → Bool
 keys_are_live alive (Some (Ephe keys datum)) = list_all (key_holds alive) keys
 keys_are_live alive (Some (Plain tag fields)) = true
+keys_are_live alive (Some (Raw tag fields)) = true
 keys_are_live alive None = true
 
 -- whether each full key of an ephemeron is reachable
@@ -163,6 +166,7 @@ pub record RanAllowed (s : State) (d : ℕ) : Type 0 where
 abbrev pub full_keys : Option Node → List Label
 full_keys (Some (Ephe keys datum)) = filter_map (λ k. k) keys
 full_keys (Some (Plain tag fields)) = []
+full_keys (Some (Raw tag fields)) = []
 full_keys None = []
 
 -- the labels reachable from all that a collection leaves: besides the settled roots, the `finalise_last` that still wait and the keys of the ephemerons that are reached
@@ -236,6 +240,7 @@ with_wiped s l (Some n) = with_block s l n
 abbrev pub keys_at : List ℕ → Option Node → List Label
 keys_at places (Some (Ephe keys datum)) = filter_map (λ k. k) (at_places places keys)
 keys_at places (Some (Plain tag fields)) = []
+keys_at places (Some (Raw tag fields)) = []
 keys_at places None = []
 
 -- the state in which these labels were taken besides
@@ -288,6 +293,7 @@ reply s _ = Silent
 abbrev pub HasNextSerial : State → ℕ → declared_command.Command → Type 0
 HasNextSerial s d (Alloc dst tag fields) = (domain_at s d).serial < 2 ^ 32 - 1
 HasNextSerial s d (AllocMaj dst tag fields) = (domain_at s d).serial < 2 ^ 32 - 1
+HasNextSerial s d (NewRaw dst tag fields) = (domain_at s d).serial < 2 ^ 32 - 1
 HasNextSerial s d (NewEphe dst keys) = (domain_at s d).serial < 2 ^ 32 - 1
 HasNextSerial s d _ = Unit {0}
 

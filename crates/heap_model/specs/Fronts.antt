@@ -5,7 +5,7 @@ use Rattle.heap_model.specs.declared.label.Label.{Label}
 use Rattle.heap_model.specs.declared.graph.Value.{Value}
 use Rattle.heap_model.specs.declared.graph.Value.TheVariants.{Block}
 use Rattle.heap_model.specs.declared.graph.Node.{Node}
-use Rattle.heap_model.specs.declared.graph.Node.TheVariants.{Plain, Ephe}
+use Rattle.heap_model.specs.declared.graph.Node.TheVariants.{Plain, Raw, Ephe}
 use Rattle.heap_model.specs.declared.entry.Entry.{Entry}
 use Rattle.heap_model.specs.declared.reply.Applied.{Applied}
 use Rattle.heap_model.specs.declared.state.Mode.TheVariants.{Open}
@@ -34,13 +34,15 @@ pub record Answers (z : Sizes) (d : ℕ) (old new : List Entry) (e : Entry) (ans
   pub legal : Legal z new
   pub replies : reply (state_after (opening z) (old ++ between)) e ≡ answer
 
--- what never changes of a block: of a plain one its number of fields and its tag, of an ephemeron its number of keys
+-- what never changes of a block: of a plain or raw one its number of fields and its tag, of an ephemeron its number of keys
 pub data Shape : Type 0 where
   PlainShape : ℕ → ℕ → Shape
+  RawShape : ℕ → ℕ → Shape
   EpheShape : ℕ → Shape
 
 abbrev pub shape_of : Node → Shape
 shape_of (Plain tag fields) = PlainShape (length fields) tag
+shape_of (Raw tag fields) = RawShape (length fields) tag
 shape_of (Ephe keys datum) = EpheShape (length keys)
 
 -- each block of the first graph is in the second, with its shape

@@ -6,7 +6,7 @@ use Rattle.heap_model.specs.declared.label.Label.{Label}
 use Rattle.heap_model.specs.declared.graph.Value.{Value}
 use Rattle.heap_model.specs.declared.graph.Value.TheVariants.{Int, Block, Nothing}
 use Rattle.heap_model.specs.declared.graph.Node.{Node}
-use Rattle.heap_model.specs.declared.graph.Node.TheVariants.{Plain, Ephe}
+use Rattle.heap_model.specs.declared.graph.Node.TheVariants.{Plain, Raw, Ephe}
 
 -- a finite map from labels to nodes
 abbrev pub Graph : Type 0
@@ -59,6 +59,7 @@ label_of Nothing = None
 -- the words that a block takes
 abbrev pub words_of : Node → ℕ
 words_of (Plain tag fields) = length fields + 2
+words_of (Raw tag fields) = length fields + 2
 words_of (Ephe keys datum) = length keys + 3
 
 -- the words of the block with a label

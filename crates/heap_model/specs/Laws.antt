@@ -2,7 +2,7 @@
 use Rattle.std.specs.Prelude.{◌≡◌, ℕ, false, ◌&&◌, IsTrue, List, [], ◌∷◌, length, sum_by, slice_get, Option, Some, None}
 use Rattle.heap_model.specs.declared.label.Label.{Label}
 use Rattle.heap_model.specs.declared.command.Command as declared_command
-use Rattle.heap_model.specs.declared.command.Command.TheVariants.{Store, SetKey, UnsetKey, SetData, UnsetData, FullMajor}
+use Rattle.heap_model.specs.declared.command.Command.TheVariants.{Store, Cas, SetKey, UnsetKey, SetData, UnsetData, FullMajor}
 use Rattle.heap_model.specs.declared.entry.Entry.{Entry}
 use Rattle.heap_model.specs.declared.entry.Entry.TheVariants.{Command, Wipe, Collected}
 use Rattle.heap_model.specs.declared.graph.Node.{Node}
@@ -13,17 +13,19 @@ use Rattle.heap_model.specs.declared.state.Sizes.{Sizes}
 use Rattle.heap_model.specs.declared.state.State.{State}
 use Rattle.heap_model.specs.Graph.{labels, has_label, has_no_repeats, node_at, words_at}
 use Rattle.heap_model.specs.Domains.{domain_at, label_in, queues, roots, reach, opening}
+use Rattle.heap_model.specs.Commands.{has_full_fields}
 use Rattle.heap_model.specs.Reach.{IsLeastClosed}
-use Rattle.heap_model.specs.Entries.{Allowed, next, reply, is_some_and, is_dead, is_gone, is_let_go, has_dead_keys}
+use Rattle.heap_model.specs.Entries.{Allowed, next, reply, is_some_and, is_dead, is_gone, is_let_go, has_gone_keys}
 use Rattle.heap_model.specs.History.{state_after}
 
 -- no entry removes a label from the graph
 abbrev pub LabelsStay : Type 0
 LabelsStay = (s : State) (e : Entry) (l : Label) → IsTrue (has_label (labels s.graph) l) → IsTrue (has_label (labels (next s e).graph) l)
 
--- the label whose node a command may change: the block of a store, the ephemeron of a key or datum command
+-- the label whose node a command may change: the block of a `store` or a `cas`, the ephemeron of a key or datum command
 abbrev pub written_by : State → ℕ → declared_command.Command → Option Label
 written_by s d (Store block index item) = label_in s d block
+written_by s d (Cas block index expected item) = label_in s d block
 written_by s d (SetKey ephe index item) = label_in s d ephe
 written_by s d (UnsetKey ephe index) = label_in s d ephe
 written_by s d (SetData ephe item) = label_in s d ephe
@@ -61,10 +63,14 @@ WipeKeepsReach = (s : State) (l : Label) (keys : List ℕ) → Allowed s (Wipe l
 
 -- nothing is left that a Wipe, a Queue or a Last may take, by their own conditions
 pub record NothingPermitted (s : State) : Type 0 where
-  pub keys : (l : Label) → IsTrue (has_label (reach s) l) → (p : ℕ) → has_dead_keys s (p ∷ []) (node_at s.graph l) ≡ false
+  pub keys : (l : Label) → IsTrue (has_label (reach s) l) → (p : ℕ) → has_gone_keys s (p ∷ []) (node_at s.graph l) ≡ false
   pub finals : (d p : ℕ) → is_some_and (λ f. is_dead s s.cut f.label) (slice_get (domain_at s d).finals p) ≡ false
   pub lasts : (d p : ℕ) → is_some_and (λ f. is_gone s (queues s) f.label && is_let_go s f.label) (slice_get (domain_at s d).lasts p) ≡ false
 
 -- after a Collected that is allowed nothing permitted is left
 abbrev pub CollectedLeavesNothing : Type 0
 CollectedLeavesNothing = (s : State) → Allowed s Collected → NothingPermitted (next s Collected)
+
+-- whatever the history, each field of a plain block holds an integer or a block, and each field of a raw block an integer
+abbrev pub FieldsAreFull : Type 0
+FieldsAreFull = (z : Sizes) (h : List Entry) (l : Label) (n : Node) → node_at (state_after (opening z) h).graph l ≡ Some n → IsTrue (has_full_fields n)

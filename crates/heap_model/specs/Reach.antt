@@ -4,7 +4,7 @@ use Rattle.std.specs.List.{list_all}
 use Rattle.std.specs.Option.{option_map_or}
 use Rattle.heap_model.specs.declared.label.Label.{Label}
 use Rattle.heap_model.specs.declared.graph.Node.{Node}
-use Rattle.heap_model.specs.declared.graph.Node.TheVariants.{Plain, Ephe}
+use Rattle.heap_model.specs.declared.graph.Node.TheVariants.{Plain, Raw, Ephe}
 use Rattle.heap_model.specs.Graph.{Graph, labels, has_label, label_of, node_at}
 
 -- whether a key is empty or alive
@@ -12,9 +12,10 @@ abbrev pub key_holds : (Label → Bool) → Option Label → Bool
 key_holds alive None = true
 key_holds alive (Some k) = alive k
 
--- what a node keeps alive: a plain block its fields, an ephemeron its data where all its full keys are alive
+-- what a node keeps alive: a plain block its fields, a raw block nothing, an ephemeron its data where all its full keys are alive
 abbrev pub edges_of : (Label → Bool) → Node → List Label
 edges_of alive (Plain tag fields) = filter_map label_of fields
+edges_of alive (Raw tag fields) = []
 edges_of alive (Ephe keys datum) = cond (list_all (key_holds alive) keys) (option_to_list (label_of datum)) []
 
 -- what a label keeps alive

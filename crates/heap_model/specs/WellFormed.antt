@@ -2,7 +2,7 @@
 use Rattle.std.specs.Prelude.{◌≡◌, ℕ, ◌≤◌, IsTrue, List, ◌++◌, map, flat_map, filter_map, option_to_list, Some}
 use Rattle.heap_model.specs.declared.label.Label.{Label}
 use Rattle.heap_model.specs.declared.graph.Node.{Node}
-use Rattle.heap_model.specs.declared.graph.Node.TheVariants.{Plain, Ephe}
+use Rattle.heap_model.specs.declared.graph.Node.TheVariants.{Plain, Raw, Ephe}
 use Rattle.heap_model.specs.declared.state.DomainState.{DomainState}
 use Rattle.heap_model.specs.declared.state.State.{State}
 use Rattle.heap_model.specs.Graph.{Graph, labels, has_label, label_of, node_at}
@@ -11,6 +11,7 @@ use Rattle.heap_model.specs.Domains.{domain_at, pending_label, IsShaped}
 -- the labels that a node names
 abbrev pub names_of : Node → List Label
 names_of (Plain tag fields) = filter_map label_of fields
+names_of (Raw tag fields) = filter_map label_of fields
 names_of (Ephe keys datum) = filter_map (λ k. k) keys ++ option_to_list (label_of datum)
 
 -- each of these labels has a node

@@ -1,6 +1,6 @@
 //! Laws of the entries. Each function's contract is one law, and it does nothing else.
 ghost use Rattle.heap_model.specs.Reach.{ReachLaw};
-ghost use Rattle.heap_model.specs.Laws.{LabelsStay, NodesStay, ReachIsLeast, FullMajorCountsReach, WipeKeepsReach, CollectedLeavesNothing};
+ghost use Rattle.heap_model.specs.Laws.{LabelsStay, NodesStay, ReachIsLeast, FullMajorCountsReach, WipeKeepsReach, CollectedLeavesNothing, FieldsAreFull};
 ghost use Rattle.heap_model.specs.Registrations.{RegistrationsRunOnce};
 
 /// No entry removes a label from the graph: blocks are never freed, and never move.
@@ -42,4 +42,10 @@ pub fn collected_leaves_nothing()
 /// lists, in the queue and among those that have run than were made.
 pub fn registrations_run_once()
     ensures { RegistrationsRunOnce }
+{}
+
+/// No field ever holds nothing, and no field of a raw block a block: whatever the history, a plain block's fields hold
+/// integers and blocks, and a raw block's fields integers.
+pub fn fields_are_full()
+    ensures { FieldsAreFull }
 {}

@@ -13,20 +13,21 @@ pub enum Reply {
     Int(i64),
     /// `blk`: the block that was made or read.
     Block(Label),
-    /// `type`: a register holds no block of the kind that the command wants, or nothing where a value is wanted.
+    /// `type`: a register holds no block of the kind that the command wants, or nothing where a value is wanted, or a
+    /// block where an integer is wanted.
     BadType,
     /// `bounds`: the index is not below the count of fields or keys.
     BadIndex,
     /// `none`: the key or the data that was read is empty.
     Empty,
-    /// `yes`: the key or the data that was checked is full.
+    /// `yes`: the key or the data that was checked is full, or the field held what was expected and was written.
     Yes,
-    /// `no`: the key or the data that was checked is empty.
+    /// `no`: the key or the data that was checked is empty, or the field held something else and stays.
     No,
     /// `full`: no room was found, and the allocation made no block.
     Full,
     /// `live`: how many blocks the registers and the queues reach, and the sum of their words: the fields and 2 for a
-    /// plain block, the keys and 3 for an ephemeron. The words by which its class is larger are not counted.
+    /// plain or raw block, the keys and 3 for an ephemeron. The words by which its class is larger are not counted.
     Live { blocks: u64, words: u64 },
     /// `fin`: the finaliser of `finalise` with this number ran, on this block.
     Fin { number: u32, label: Label },

@@ -4,7 +4,7 @@ use Rattle.std.proofs.lemmas.List.{length-map}
 use mathlib.Core.Logic.{dite}
 use native.Mathlib.Decide.{dec_le}
 use Rattle.heap_model.specs.declared.graph.Node.{Node}
-use Rattle.heap_model.specs.declared.graph.Node.TheVariants.{Plain, Ephe}
+use Rattle.heap_model.specs.declared.graph.Node.TheVariants.{Plain, Raw, Ephe}
 use Rattle.heap_model.specs.Graph.{Graph, node_at}
 use Rattle.heap_model.specs.Commands.{key_value}
 use Rattle.heap_model.specs.Fronts.{shape_of}
@@ -12,13 +12,14 @@ use Rattle.heap_rule.specs.declared.config.Config.{Config}
 use Rattle.heap_rule.specs.declared.view.DomainView.{DomainView}
 use Rattle.heap_rule.specs.Layout.{before_heap, base_of}
 use Rattle.heap_rule.specs.Places.{Place, Live, extent, values_of, Found}
-use Rattle.heap_rule.specs.Rule.{Area, Prepared}
+use Rattle.heap_rule.specs.Rule.{Area, Making}
 use Rattle.heap_rule.proofs.Lists.{got_below}
 use Rattle.heap_rule.proofs.Sizes.{area_below}
 use Rattle.heap_rule.proofs.Keeps.{More, stands_more}
 
 pub extent_of : (n : Node) → extent (shape_of n) ≡ length (values_of n) + 2
 extent_of (Plain tag fields) = refl
+extent_of (Raw tag fields) = refl
 extent_of (Ephe keys datum) = let l = length-map keys key_value in omega arith
 
 -- a block that the word is none of, in a graph that has its node
@@ -46,8 +47,8 @@ found_beside k live live' graph graph' words at new b q more f there far =
     }
 
 -- the words of a block in the making stay where the written word isn't one of them
-pub prepared_beside : (k : Config) (words : List ℕ) (at new : ℕ) (z : DomainView) → ((j : ℕ) → z.own.used + j + 1 < k.minor_words → base_of k z.own.number + z.own.used + 1 + j ≢ at) → Prepared k words z → Prepared k (set words (before_heap k + at) new) z
-prepared_beside k words at new z far p = record {
+pub making_beside : (k : Config) (words : List ℕ) (at new : ℕ) (z : DomainView) → ((j : ℕ) → z.own.used + j + 1 < k.minor_words → base_of k z.own.number + z.own.used + 1 + j ≢ at) → Making k words z → Making k (set words (before_heap k + at) new) z
+making_beside k words at new z far p = record {
   fits = p.fits;
   written = λ j w got. let y : ℕ = base_of k z.own.number + z.own.used + 1 + j in let base : ℕ = before_heap k in
       get_or-set_other words (base + at) (base + y) new 0 (λ same. far j (p.fits j w got) (let g : y ≡ at = omega arith in g)) ∙ p.written j w got;

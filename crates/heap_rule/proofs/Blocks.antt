@@ -34,21 +34,21 @@ some_same a b e = cc
 
 module _ (k : Config) (s : Words) (r : Rule k s) (id : ℕ) (hist : List Entry) (x : DomainView) (at : get_elem? s.views id ≡ some (one k hist x)) where
   abbrev now : model.State
-  now = state_of k r.log
+  now = state_of k r.account.log
 
   -- what lives at the address in a register is the register's block
   pub record Lives (reg a : ℕ) : Type 0 where
     pub place : Place
-    pub lives : r.live a ≡ Some place
+    pub lives : r.account.live a ≡ Some place
     pub held : register now x.own.number reg ≡ Block place.label
 
   pub lives_at : (reg a : ℕ) → IsAt x reg a → Lives reg a
   lives_at reg a is =
       let v : graph_value.Value = register now x.own.number reg in
-      let b = stands_block r.live a v (subst (λ (y : Value). Stands r.live y v) is.holds ((my_good k s r id hist x at).stood.each reg is.few)) in
+      let b = stands_block r.account.live a v (subst (λ (y : Value). Stands r.account.live y v) is.holds ((my_good k s r id hist x at).stood.each reg is.few)) in
       record { place = b.1; lives = b.3; held = b.2 ∙ ap Block (sym b.4) }
 
-  pub found_at : (reg a : ℕ) (b : Lives reg a) → Found k r.live now.graph s.words a b.place
+  pub found_at : (reg a : ℕ) (b : Lives reg a) → Found k r.account.live now.graph s.words a b.place
   found_at reg a b = r.whole.found a b.place b.lives
 
   -- a plain block
@@ -70,20 +70,20 @@ module _ (k : Config) (s : Words) (r : Rule k s) (id : ℕ) (hist : List Entry) 
   pub record Field (reg i : ℕ) : Type 0 where
     pub address : ℕ
     pub place : Place
-    pub lives : r.live address ≡ Some place
+    pub lives : r.account.live address ≡ Some place
     pub tag : ℕ
     pub fields : List graph_value.Value
     pub held : register now x.own.number reg ≡ Block place.label
     pub node : node_at now.graph place.label ≡ Some (Plain tag fields)
     pub value : graph_value.Value
     pub there : slice_get fields i ≡ Some value
-    pub stands : WordStands r.live (at_address k s.words (address + 2 + i)) value
+    pub stands : WordStands r.account.live (at_address k s.words (address + 2 + i)) value
 
   pub field_at : (word reg i : ℕ) (may : FieldMay k x word reg i) → (f : Field reg i) × (f.address ≡ may.address)
   field_at word reg i may =
       let b = lives_at reg may.address may.block in
       let found = found_at reg may.address b in
-      let later : HoldsPlain now x.own.number reg may.size = holds_later (opening (sizes_in k)) x.own.number reg may.size r.log x.seen.front (mine k s r id hist x at).front may.known in
+      let later : HoldsPlain now x.own.number reg may.size = holds_later (opening (sizes_in k)) x.own.number reg may.size r.account.log x.seen.front (mine k s r id hist x at).front may.known in
       let label : later.label ≡ b.place.label = block_same later.label b.place.label (sym later.held ∙ b.held) in
       let node : node_at now.graph b.place.label ≡ Some (Plain later.tag later.fields) = ap (node_at now.graph) (sym label) ∙ later.node in
       let is : found.node ≡ Plain later.tag later.fields = some_same found.node (Plain later.tag later.fields) (sym found.there ∙ node) in

@@ -1,11 +1,14 @@
 -- The token after a step: its plain data is again that of its seat's view.
-use Rattle.std.proofs.Common.{◌≡◌, ℕ, [], ◌∷◌, sym, ap, ◌∙◌, subst}
+use Rattle.std.proofs.Common.{◌≡◌, ℕ, List, [], ◌∷◌, sym, ap, ◌∙◌, subst, inl}
 use Rattle.atomic_table.specs.Table.{Me, Allows}
+use Rattle.heap_model.specs.declared.entry.Entry.{Entry}
+use Rattle.heap_model.specs.Fronts.{IsFrontOf}
+use Rattle.heap_model.proofs.Histories.FrontLemmas.{front_whole}
 use Rattle.heap_rule.specs.declared.config.Config.{Config}
 use Rattle.heap_rule.specs.declared.view.Own.{Own}
 use Rattle.heap_rule.specs.declared.view.DomainView.{DomainView}
 use Rattle.heap_rule.specs.declared.view.View.{View}
-use Rattle.heap_rule.specs.Raw.{MayStep, MayStore, CanLeave, Leaves, Closes}
+use Rattle.heap_rule.specs.Raw.{MayStep, MayStore, CanLeave, Leaves, Unentered, EntersOnce, Closes}
 use Rattle.heap_rule.specs.Rule.{Rule}
 use Rattle.heap_rule.specs.Views.{Tells, domain_in, one}
 use Rattle.heap_rule.specs.Token.{SharedHeap, Token, IsIn, IsSeatOf, OwnFits}
@@ -85,10 +88,16 @@ module _ (over h : SharedHeap) (inside t : Token) (m : Me (Unit {0}) View) (o : 
   written_closes found tells can writes m' own asks told wrote = closes tells m' found own told (λ y says.
       let s = asked (λ k x. Closes k x found tells can writes) asks y before says in (s.written own wrote, s.fits))
 
+-- a front that stays
+pub front_same : (x y : DomainView) → y.seen.front ≡ x.seen.front → IsFrontOf x.own.number y.seen.front x.seen.front
+front_same x y same = subst (λ (f : List Entry). IsFrontOf x.own.number f x.seen.front) (sym same) (front_whole x.own.number x.seen.front)
+
 -- a step that leaves the plain data closes
-pub leaves_closes : (k : Config) (x : DomainView) (found : ℕ) (tells : DomainView → ℕ → DomainView → Type 0) → ((y : DomainView) → tells x found y → y.own ≡ x.own) → Closes k x found tells CanLeave Leaves
-leaves_closes k x found tells same y fits told = record {
+pub leaves_closes : (k : Config) (x : DomainView) (found : ℕ) (tells : DomainView → ℕ → DomainView → Type 0) → ((y : DomainView) → tells x found y → y.own ≡ x.own) → ((y : DomainView) → tells x found y → IsFrontOf x.own.number y.seen.front x.seen.front)
+    → Closes k x found tells CanLeave Leaves
+leaves_closes k x found tells same front y fits told = record {
   can_write = tt;
   written = λ own is. same y told ∙ sym is;
   fits = subst (OwnFits k) (sym (same y told)) fits;
+  once = λ _. inl (record { front = front y told; registers = ap (λ (o : Own). o.registers) (same y told); used = ap (λ (o : Own). o.used) (same y told); serial = ap (λ (o : Own). o.serial) (same y told) });
 }

@@ -1,5 +1,5 @@
 -- Steps on the control words of the phases: the other words stay, and so does what they stand for.
-use Rattle.std.proofs.Common.{◌≡◌, ◌≢◌, ℕ, zero, suc, ◌+◌, ◌*◌, ◌<◌, ◌≤◌, ◌⊎◌, List, length, get_or, set, Some, sym, refl, ap, ◌∙◌, subst, arith, ⊎_elim, inl, inr, suc-mul, zero-le}
+use Rattle.std.proofs.Common.{◌≡◌, ◌≢◌, ℕ, zero, suc, ◌+◌, ◌*◌, ◌<◌, ◌≤◌, ◌⊎◌, List, length, get_or, set, Some, sym, refl, ap, ◌∙◌, subst, arith, ⊎_elim, inl, inr, suc-mul, zero-le, None, false}
 use mathlib.Core.Logic.{dite}
 use native.Mathlib.Decide.{ℕ_discrete}
 use mathlib.Core.Option.{some}
@@ -12,10 +12,10 @@ use Rattle.heap_rule.specs.declared.phase.Stage.{Stage}
 use Rattle.heap_rule.specs.declared.phase.Note.{Note}
 use Rattle.heap_rule.specs.declared.view.DomainView.{DomainView}
 use Rattle.heap_rule.specs.Layout.{before_heap, at_address, ended_word, cursor}
-use Rattle.heap_rule.specs.Places.{Place, Live, HeadIs}
+use Rattle.heap_rule.specs.Places.{unmarked, Place, Live, HeadIs}
 use Rattle.heap_rule.specs.Phases.{Pause, Phases, sum_of, IsEven, IsOdd, Staged, Still}
 use Rattle.heap_rule.specs.Pools.{Holder, Tenancy, Pools, Grid, Drawers, Resting, Hunter, place_in}
-use Rattle.heap_rule.specs.Rule.{state_of, AllFound, Prepared, NoCycle, Rule}
+use Rattle.heap_rule.specs.Rule.{state_of, AllFound, Making, NoCycle, Rule}
 use Rattle.heap_rule.specs.Views.{one}
 use Rattle.heap_rule.proofs.Holders.{Agrees, same_self, hunter_agree}
 use Rattle.heap_rule.proofs.Keeps.{Words, mine, my_good, remakes, knows_front, phases_words, pools_words, hunter_as}
@@ -32,15 +32,15 @@ found_untouched k live graph words words' u found a p lives = let f = found a p 
   node = f.node;
   there = f.there;
   shape = f.shape;
-  head = subst (HeadIs p.shape) (sym (u.1 (before_heap k + a) (omega arith) (λ e. away a e))) f.head;
+  head = subst (HeadIs None p.shape unmarked false) (sym (u.1 (before_heap k + a) (omega arith) (λ e. away a e))) f.head;
   label = u.1 (before_heap k + (a + 1)) (omega arith) (λ e. away (a + 1) e) ∙ f.label;
   values = λ i v e. let w = f.values i v e in record { value = w.value; packs = u.1 (before_heap k + (a + 2 + i)) (omega arith) (λ e. away (a + 2 + i) e) ∙ w.packs; stands = w.stands };
 } where
   away : (b : ℕ) → before_heap k + b ≡ 8 → ⊥
   away b e = let h : 10 + 2 * k.pools + b ≡ 8 = e in omega arith
 
-pub prepared_untouched : (k : Config) (words words' : List ℕ) (z : DomainView) → Untouched words words' → Prepared k words z → Prepared k words' z
-prepared_untouched k words words' z u p = record {
+pub making_untouched : (k : Config) (words words' : List ℕ) (z : DomainView) → Untouched words words' → Making k words z → Making k words' z
+making_untouched k words words' z u p = record {
   fits = p.fits;
   written = λ j w e. u.1 (before_heap k + _) (omega arith) (λ e. let h : 10 + 2 * k.pools + _ ≡ 8 = e in omega arith) ∙ p.written j w e;
 }
@@ -119,32 +119,32 @@ module _ (k : Config) (s : Words) (r : Rule k s) (id : ℕ) (hist : List Entry) 
   -- What a step of a pause owes: no entry stands, no block changes, and the phases may turn
   pub record Turns (y : DomainView) (pause' : Pause) (words' : List ℕ) : Type 0 where
     pub untouched : Untouched s.words words'
-    pub front : IsFrontOf x.own.number r.log y.seen.front
+    pub front : IsFrontOf x.own.number r.account.log y.seen.front
     pub phases : Phases k pause' words'
     pub endings : ended_word words' ≡ ended_word s.words
     pub staged : Staged pause' y
-    pub still : Still r.log y
+    pub still : Still r.account.log y
     pub resting : Resting y
-    pub drawers : Drawers pause' r.tenancy
-    pub others : (z : DomainView) → z.own.number < k.domains → z.own.number ≢ x.own.number → Staged r.pause z → Staged pause' z
+    pub drawers : Drawers pause' r.account.tenancy
+    pub others : (z : DomainView) → z.own.number < k.domains → z.own.number ≢ x.own.number → Staged r.account.pause z → Staged pause' z
 
   pub turns : (arrivals : ℕ) (front : List Entry) (stage : Stage) (notes : List Note) (pause' : Pause) (words' : List ℕ) → let y : DomainView = moved_to x arrivals front stage notes in Turns y pause' words'
       → Rule k record { words = words'; homes = s.homes; views = set s.views id (one k hist y) }
   turns arrivals front stage notes pause' words' o =
       let y : DomainView = moved_to x arrivals front stage notes in
       let g = my_good k s r id hist x at in
-      let p = prepared_untouched k s.words words' x o.untouched g.prepared in
-      remakes k s r id hist x at y r.log words' r.live pause' r.tenancy
+      let p = making_untouched k s.words words' x o.untouched g.making in
+      remakes k s r id hist x at y (record r.account { pause = pause' }) words'
       record {
         wide = o.untouched.0 ∙ r.whole.wide;
         legal = r.whole.legal;
         calm = r.whole.calm;
-        found = found_untouched k r.live (state_of k r.log).graph s.words words' o.untouched r.whole.found;
+        found = found_untouched k r.account.live (state_of k r.account.log).graph s.words words' o.untouched r.whole.found;
         placed = r.whole.placed;
         phases = o.phases;
         endings = o.endings ∙ r.whole.endings;
-        pools = pools_untouched k r.tenancy s.words words' o.untouched r.whole.pools;
-        grid = grid_untouched k r.tenancy.holder r.live s.words words' o.untouched r.whole.grid;
+        pools = pools_untouched k r.account.tenancy s.words words' o.untouched r.whole.pools;
+        grid = grid_untouched k r.account.tenancy.holder r.account.live s.words words' o.untouched r.whole.grid;
         drawers = o.drawers;
         cycle = cycle_untouched s.words words' o.untouched r.whole.cycle;
       }
@@ -152,29 +152,29 @@ module _ (k : Config) (s : Words) (r : Rule k s) (id : ℕ) (hist : List Entry) 
       record {
         stood = record { wide = g.stood.wide; each = g.stood.each; serial = g.stood.serial };
         area = record { room = g.area.room; free = g.area.free };
-        prepared = record { fits = p.fits; written = p.written };
+        making = record { fits = p.fits; written = p.written };
         staged = o.staged;
         still = o.still;
-        hunter = hunter_as k r.tenancy words' x y refl refl refl refl (hunter_untouched k r.tenancy s.words words' x o.untouched g.hunter);
+        hunter = hunter_as k r.account.tenancy words' x y refl refl refl refl (hunter_untouched k r.account.tenancy s.words words' x o.untouched g.hunter);
         resting = o.resting;
       }
       (λ z below other h. record {
         stood = h.stood;
         area = h.area;
-        prepared = prepared_untouched k s.words words' z o.untouched h.prepared;
+        making = making_untouched k s.words words' z o.untouched h.making;
         staged = o.others z below other h.staged;
         still = h.still;
-        hunter = hunter_untouched k r.tenancy s.words words' z o.untouched h.hunter;
+        hunter = hunter_untouched k r.account.tenancy s.words words' z o.untouched h.hunter;
         resting = h.resting;
       })
 
   -- a step that leaves where all stand, and the front
   pub notes_rule : (notes : List Note) (words' : List ℕ) → Untouched s.words words' → get_or words' 1 0 ≡ get_or s.words 1 0 → get_or words' 2 0 ≡ get_or s.words 2 0 → ended_word words' ≡ ended_word s.words
       → Rule k record { words = words'; homes = s.homes; views = set s.views id (one k hist (moved_to x x.own.arrivals x.seen.front x.seen.stage notes)) }
-  notes_rule notes words' u b c e = let g = my_good k s r id hist x at in turns x.own.arrivals x.seen.front x.seen.stage notes r.pause words' record {
+  notes_rule notes words' u b c e = let g = my_good k s r id hist x at in turns x.own.arrivals x.seen.front x.seen.stage notes r.account.pause words' record {
     untouched = u;
     front = (mine k s r id hist x at).front;
-    phases = phases_words k r.pause s.words words' b c r.whole.phases;
+    phases = phases_words k r.account.pause s.words words' b c r.whole.phases;
     endings = e;
     staged = record { arrivals = g.staged.arrivals; stage = g.staged.stage };
     still = g.still;

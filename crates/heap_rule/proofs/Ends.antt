@@ -47,39 +47,33 @@ may_join = joins
 -- a seat's view is written again as it is
 pub same_views : (k : Config) (s : Words) (r : Rule k s) (id : ℕ) (v : View) → get_elem? s.views id ≡ some v → Rule k record { words = s.words; homes = s.homes; views = set s.views id v }
 same_views k s r id v at = record {
-  log = r.log;
-  live = r.live;
-  pause = r.pause;
-  tenancy = r.tenancy;
+  account = r.account;
   seat = r.seat;
   limits = r.limits;
   whole = r.whole;
   seats = λ d. subst (λ (n : ℕ). r.seat d < n) (sym (length-set s.views id v)) (r.seats d);
-  views = views_set (Knows k r.log r.seat) (Knows k r.log r.seat) s.views id v r.views (r.views id v at) (λ j u n x. x);
-  good = views_set (λ j u. AllDomains (Good k r.log r.live r.pause r.tenancy s.words) u.domains) (λ j u. AllDomains (Good k r.log r.live r.pause r.tenancy s.words) u.domains) s.views id v r.good (r.good id v at) (λ j u n x. x);
+  views = views_set (Knows k r.account.log r.seat) (Knows k r.account.log r.seat) s.views id v r.views (r.views id v at) (λ j u n x. x);
+  good = views_set (λ j u. AllDomains (Good k r.account s.words) u.domains) (λ j u. AllDomains (Good k r.account s.words) u.domains) s.views id v r.good (r.good id v at) (λ j u n x. x);
 }
 
 learns : (k : Config) (slots id word : ℕ) (v : View) → Allows (Rule k) slots id (v, []) word (λ n. n) (λ found m'. Learned k (v, []) m')
 learns k slots id word v s r _ at _ =
-    let w : View = record v { history = r.log } in
-    let mine : Knows k r.log r.seat id v = r.views id v at in (
+    let w : View = record v { history = r.account.log } in
+    let mine : Knows k r.account.log r.seat id v = r.views id v at in (
       w,
       keeps,
       tt,
       unmoved k s word (set s.views id w) record {
-        log = r.log;
-        live = r.live;
-        pause = r.pause;
-        tenancy = r.tenancy;
+        account = r.account;
         seat = r.seat;
         limits = r.limits;
         whole = r.whole;
         seats = λ d. subst (λ (n : ℕ). r.seat d < n) (sym (length-set s.views id w)) (r.seats d);
-        views = views_set (Knows k r.log r.seat) (Knows k r.log r.seat) s.views id w r.views
-            record { config = mine.config; history = record { rest = []; appends = sym (append-nil r.log) }; domains = mine.domains; distinct = mine.distinct } (λ j u n x. x);
-        good = views_set (λ j u. AllDomains (Good k r.log r.live r.pause r.tenancy s.words) u.domains) (λ j u. AllDomains (Good k r.log r.live r.pause r.tenancy s.words) u.domains) s.views id w r.good (r.good id v at) (λ j u n x. x);
+        views = views_set (Knows k r.account.log r.seat) (Knows k r.account.log r.seat) s.views id w r.views
+            record { config = mine.config; history = record { rest = []; appends = sym (append-nil r.account.log) }; domains = mine.domains; distinct = mine.distinct } (λ j u n x. x);
+        good = views_set (λ j u. AllDomains (Good k r.account s.words) u.domains) (λ j u. AllDomains (Good k r.account s.words) u.domains) s.views id w r.good (r.good id v at) (λ j u n x. x);
       },
-      record { seat = refl; legal = r.whole.legal; fronts = domains_map (IsSeated k r.log r.seat id) (Begins r.log) v.domains (λ x y. y.front) mine.domains },
+      record { seat = refl; legal = r.whole.legal; fronts = domains_map (IsSeated k r.account.log r.seat id) (Begins r.account.log) v.domains (λ x y. y.front) mine.domains },
     )
 
 pub may_learn : (k : Config) (slots id word : ℕ) (m : Me (Unit {0}) View) → m.1 ≡ [] → m.0.config ≡ k → Allows (Rule k) slots id m word (λ n. n) (λ found m'. Learned m.0.config m m')

@@ -1,40 +1,46 @@
 -- An own entry that changes registers and no word of the heap.
-use Rattle.std.proofs.Common.{◌≡◌, ◌≢◌, ℕ, ◌<◌, false, List, [], ◌∷◌, ◌++◌, length, get_or, set, sym, refl, ap, ◌∙◌, subst}
+use Rattle.std.proofs.Common.{◌≡◌, ◌≢◌, ℕ, ◌<◌, false, List, [], ◌∷◌, ◌++◌, length, get_or, set, sym, refl, ap, ◌∙◌, subst, ne_eqb}
 use mathlib.Core.Option.{some}
 use lib.ListN.{get_elem?}
+use Rattle.heap_model.specs.declared.command.Command.{Command}
 use Rattle.heap_model.specs.declared.entry.Entry.{Entry}
+use Rattle.heap_model.specs.declared.entry.Entry.TheVariants.{Command as CommandOf}
 use Rattle.heap_model.specs.declared.reply.Applied.{Applied}
 use Rattle.heap_model.specs.declared.graph.Value as model_value
 use Rattle.heap_model.specs.declared.graph.Value.TheVariants.{Nothing}
 use Rattle.heap_model.specs.declared.state.State as model
 use Rattle.heap_model.specs.Graph.{Graph}
+use Rattle.heap_model.specs.declared.state.Mode.TheVariants.{Open}
+use Rattle.heap_model.specs.Commands.{FitsMode}
 use Rattle.heap_model.specs.Domains.{domain_at, IsShaped}
 use Rattle.heap_model.specs.Entries.{Allowed, next}
 use Rattle.heap_model.specs.History.{is_entry_of}
 use Rattle.heap_model.specs.Fronts.{IsCalm}
 use Rattle.heap_model.proofs.Histories.ShapeAfterLemmas.{shaped-history}
-use Rattle.heap_model.proofs.Commands.FrameLemmas.{inside_running}
+use Rattle.heap_model.proofs.Commands.FrameLemmas.{inside_running, calm_command}
 use Rattle.heap_model.proofs.Histories.FrontLemmas.{answers_push}
 use Rattle.heap_model.proofs.Commands.LeavesLemmas.{Leaves}
 use Rattle.heap_words.specs.declared.value.Value.{Value}
 use Rattle.heap_rule.specs.declared.change.Change.{Change}
 use Rattle.heap_rule.specs.declared.config.Config.{Config}
 use Rattle.heap_rule.specs.declared.view.DomainView.{DomainView}
+use Rattle.heap_rule.specs.declared.view.Own.{Own}
 use Rattle.heap_rule.specs.Limits.{sizes_in}
 use Rattle.heap_rule.specs.Places.{Stands}
 use Rattle.heap_rule.specs.Changes.{value_at, changed}
 use Rattle.heap_rule.specs.Views.{one}
 use Rattle.heap_rule.specs.Rule.{state_of, AllFound, Stood, Rule}
-use Rattle.heap_rule.specs.Standing.{Acts, Entered, with_front, with_registers}
+use Rattle.heap_rule.specs.Standing.{Acts, Entered, with_front, with_own, with_registers}
+use Rattle.heap_rule.proofs.ChangeLemmas.{changed_only}
 use Rattle.heap_rule.proofs.Values.{AllStand, holds}
-use Rattle.heap_rule.proofs.Keeps.{Words, IsCommand, mine, my_good, own, control_same, appends, legal_entry, hunter_as}
+use Rattle.heap_rule.proofs.Keeps.{Words, IsCommand, mine, my_good, own, control_same, controls_kept, appends, legal_entry, hunter_as}
 
 module _ (k : Config) (s : Words) (r : Rule k s) (id : ℕ) (hist : List Entry) (x : DomainView) (at : get_elem? s.views id ≡ some (one k hist x)) (acts : Acts k x) where
   abbrev now : model.State
-  now = state_of k r.log
+  now = state_of k r.account.log
 
   shaped : IsShaped now
-  shaped = shaped-history (sizes_in k) r.log r.limits
+  shaped = shaped-history (sizes_in k) r.account.log r.limits
 
   -- a domain that acts runs on in the state after the whole history
   pub running : (domain_at now x.own.number).ended ≡ false
@@ -45,7 +51,7 @@ module _ (k : Config) (s : Words) (r : Rule k s) (id : ℕ) (hist : List Entry) 
   inside_state = inside_running now.domains x.own.number running
 
   -- the registers of the token stand for those of the state
-  pub registers_stand : AllStand r.live x.own.registers (domain_at now x.own.number).registers
+  pub registers_stand : AllStand r.account.live x.own.registers (domain_at now x.own.number).registers
   registers_stand = record {
     wide = (my_good k s r id hist x at).stood.wide;
     long = shaped.register_count x.own.number inside_state;
@@ -58,27 +64,43 @@ module _ (k : Config) (s : Words) (r : Rule k s) (id : ℕ) (hist : List Entry) 
     pub allowed : Allowed now e
     pub calm : IsCalm (next now e)
     pub theirs : List model_value.Value
-    pub stand : AllStand r.live registers theirs
+    pub stand : AllStand r.account.live registers theirs
     pub leaves : Leaves now e x.own.number graph theirs (domain_at now x.own.number).serial answer
 
   -- and one that leaves the graph as it is
   abbrev pub Enters : Entry → List Value → Applied → Type 0
   Enters e registers answer = EntersTo now.graph e registers answer
 
+  -- the mode is open, and the own queue is empty: what every command but `full_major` waits for
+  pub may_begin : (now.mode ≡ Open) × ((domain_at now x.own.number).queue ≡ [])
+  may_begin = (r.whole.calm.mode, r.whole.calm.queues x.own.number)
+
+  -- the entry of a command that may begin
+  pub enters_command : (graph : Graph) (c : Command) → FitsMode now x.own.number c → (registers : List Value) (answer : Applied) (theirs : List model_value.Value) → AllStand r.account.live registers theirs
+      → Leaves now (CommandOf x.own.number c false) x.own.number graph theirs (domain_at now x.own.number).serial answer → EntersTo graph (CommandOf x.own.number c false) registers answer
+  enters_command graph c fits registers answer theirs stand leaves = record {
+    alone = λ m other. ne_eqb x.own.number m (λ e. other (sym e));
+    allowed = record { running = running; fits = fits; full_fits = tt };
+    calm = calm_command now x.own.number c false r.whole.calm;
+    theirs = theirs;
+    stand = stand;
+    leaves = leaves;
+  }
+
   pub stood_after : (graph : Graph) (e : Entry) (registers : List Value) (answer : Applied) (y : DomainView) → y.own.number ≡ x.own.number → y.own.registers ≡ registers → y.own.serial ≡ x.own.serial → EntersTo graph e registers answer
-      → Stood r.live (next now e) y
+      → Stood r.account.live (next now e) y
   stood_after graph e registers answer y number regs serial o = record {
     wide = ap length regs ∙ o.stand.wide;
-    each = λ q few. subst (λ (z : List Value × ℕ). Stands r.live (value_at z.0 q) (get_or (domain_at (next now e) z.1).registers q Nothing)) (λ i. (sym regs i, sym number i))
-        (subst (λ (l : List model_value.Value). Stands r.live (value_at registers q) (get_or l q Nothing)) (sym o.leaves.registers_are) (o.stand.each q few));
+    each = λ q few. subst (λ (z : List Value × ℕ). Stands r.account.live (value_at z.0 q) (get_or (domain_at (next now e) z.1).registers q Nothing)) (λ i. (sym regs i, sym number i))
+        (subst (λ (l : List model_value.Value). Stands r.account.live (value_at registers q) (get_or l q Nothing)) (sym o.leaves.registers_are) (o.stand.each q few));
     serial = serial ∙ ((my_good k s r id hist x at).stood.serial ∙ (sym o.leaves.serial_is ∙ ap (λ (n : ℕ). (domain_at (next now e) n).serial) (sym number)));
   }
 
   abbrev pub entered_view : Entry → List Value → DomainView
-  entered_view e registers = with_front (with_registers x registers) (r.log ++ e ∷ [])
+  entered_view e registers = with_front (with_registers x registers) (r.account.log ++ e ∷ [])
 
   pub enters_rule : (e : Entry) (registers : List Value) (answer : Applied) → Enters e registers answer → IsCommand e → Rule k record { words = s.words; homes = s.homes; views = set s.views id (one k hist (entered_view e registers)) }
-  enters_rule e registers answer o command = let g = my_good k s r id hist x at in appends k s r id hist x at e (entered_view e registers) s.words r.live record {
+  enters_rule e registers answer o command = let g = my_good k s r id hist x at in appends k s r id hist x at e (entered_view e registers) s.words r.account.live record {
     alone = o.alone;
     command = command;
     runs = acts.runs;
@@ -89,23 +111,23 @@ module _ (k : Config) (s : Words) (r : Rule k s) (id : ℕ) (hist : List Entry) 
     front = refl;
     arrivals = refl;
     wide = refl;
-    control = control_same k s.words;
-    found = subst (λ (graph : Graph). AllFound k r.live graph s.words) (sym o.leaves.graph_is) r.whole.found;
+    controls = controls_kept k s r id hist x at s.words (control_same k s.words);
+    found = subst (λ (graph : Graph). AllFound k r.account.live graph s.words) (sym o.leaves.graph_is) r.whole.found;
     placed = r.whole.placed;
     more = λ a p h. h;
     stood = stood_after now.graph e registers answer (entered_view e registers) refl refl refl o;
     area = record { room = g.area.room; free = g.area.free };
-    prepared = record { fits = g.prepared.fits; written = g.prepared.written };
+    making = record { fits = g.making.fits; written = g.making.written };
     areas = λ z _ h. h;
-    prepares = λ z _ _ h. h;
+    makings = λ z _ _ h. h;
     grid = r.whole.grid;
-    hunter = hunter_as k r.tenancy s.words x (entered_view e registers) refl refl refl refl g.hunter;
+    hunter = hunter_as k r.account.tenancy s.words x (entered_view e registers) refl refl refl refl g.hunter;
     hunters = λ z _ g. g.hunter;
   }
 
-  pub enters : (graph : Graph) (e : Entry) (answer : Applied) (read : Value) (changes : List Change) → EntersTo graph e (changed read changes x.own.registers) answer → Entered k e answer read changes x (entered_view e (changed read changes x.own.registers))
-  enters graph e answer read changes o = let y : DomainView = entered_view e (changed read changes x.own.registers) in record {
-    answers = answers_push (sizes_in k) x.own.number r.log x.seen.front e answer (mine k s r id hist x at).front (legal_entry k s r id hist x at e o.allowed) o.leaves.replies;
-    view = refl;
-    holds = holds k r.limits r.live r.whole.placed (next now e) y (stood_after graph e (changed read changes x.own.registers) answer y refl refl refl o);
+  pub enters : (graph : Graph) (e : Entry) (answer : Applied) (read : Value) (changes : List Change) → EntersTo graph e ((changed read changes x.own).registers) answer → Entered k e answer read changes x (entered_view e ((changed read changes x.own).registers))
+  enters graph e answer read changes o = let y : DomainView = entered_view e ((changed read changes x.own).registers) in record {
+    answers = answers_push (sizes_in k) x.own.number r.account.log x.seen.front e answer (mine k s r id hist x at).front (legal_entry k s r id hist x at e o.allowed) o.leaves.replies;
+    view = ap (λ (own : Own). with_front (with_own x own) y.seen.front) (sym (changed_only read changes x.own));
+    holds = holds k r.limits r.account.live r.whole.placed (next now e) y (stood_after graph e ((changed read changes x.own).registers) answer y refl refl refl o);
   }

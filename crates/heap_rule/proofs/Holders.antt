@@ -9,7 +9,7 @@ use Rattle.heap_rule.specs.declared.view.Hunt.TheVariants.{Rests, Counts, Asks, 
 use Rattle.heap_rule.specs.declared.view.DomainView.{DomainView}
 use Rattle.heap_rule.specs.Layout.{before_heap, base_of, at_address, listed_pool, listed, cursor}
 use Rattle.heap_rule.specs.Places.{Place, Live, Placed}
-use Rattle.heap_rule.specs.Rule.{AllFound, Prepared}
+use Rattle.heap_rule.specs.Rule.{AllFound, Making}
 use Rattle.heap_rule.specs.Pools.{Holder, nobody, drawn, owned, Tenancy, Grid, Hunts, Hunter, place_in, blocks_of, limit_of}
 use Rattle.heap_rule.specs.Phases.{sum_of}
 use Rattle.heap_rule.proofs.Update.{over, over_here, over_else}
@@ -42,8 +42,8 @@ found_agrees k live graph words words' same placed found a p lives =
       values = λ i v got. let w = f.values i v got in record { value = w.value; packs = same.heap (a + 2 + i) (omega arith) ∙ w.packs; stands = w.stands };
     }
 
-pub prepared_agrees : (k : Config) (words words' : List ℕ) (z : DomainView) → Agrees k words words' → Prepared k words z → Prepared k words' z
-prepared_agrees k words words' z same p = record {
+pub making_agrees : (k : Config) (words words' : List ℕ) (z : DomainView) → Agrees k words words' → Making k words z → Making k words' z
+making_agrees k words words' z same p = record {
   fits = p.fits;
   written = λ j w got. same.heap (base_of k z.own.number + z.own.used + 1 + j) (omega arith) ∙ p.written j w got;
 }

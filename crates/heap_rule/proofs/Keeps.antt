@@ -35,7 +35,7 @@ use Rattle.heap_rule.specs.declared.phase.Kind.TheVariants.{Run, Promote, Reset}
 use Rattle.heap_rule.specs.declared.phase.Stage.{Stage}
 use Rattle.heap_rule.specs.declared.phase.Stage.TheVariants.{In, Leads, Led, Gone}
 use Rattle.heap_rule.specs.Phases.{Pause, Phases, sum_of, IsEven, IsOdd, AtStage, Staged, IsInPause, Still, Agree, flag, is_over}
-use Rattle.heap_rule.specs.Rule.{state_of, AllFound, Stood, Area, Prepared, Good, NoCycle, Whole, Rule}
+use Rattle.heap_rule.specs.Rule.{state_of, AllFound, Stood, Area, Making, Account, Good, NoCycle, Whole, Rule}
 use Rattle.heap_rule.specs.Pools.{Tenancy, drawn, owned, Pools, Grid, Drawers, Hunts, Hunter, drawn_in, hunting_free, spot_at, IsBefore, limit_of}
 use Rattle.heap_rule.specs.Standing.{with_front}
 use Rattle.heap_rule.proofs.Lists.{views_set, domains_map, domains_with}
@@ -173,6 +173,13 @@ pools_same k t words words' c s = pools_words k t words words' (c 6 (omega arith
 pub cycle_same : (k : Config) (words words' : List ℕ) → Control k words words' → NoCycle words → NoCycle words'
 cycle_same k words words' c s = record { armed_is = c 4 (omega arith) ∙ s.armed_is; colours_are = c 5 (omega arith) ∙ s.colours_are }
 
+-- what a step owes each part of the rule that speaks of the words before the heap's
+pub record Controls (k : Config) (all : Account) (words words' : List ℕ) : Type 0 where
+  pub phases : Phases k all.pause words'
+  pub ended : ended_word words' ≡ ended_word words
+  pub pools : Pools k all.tenancy words'
+  pub cycle : NoCycle words'
+
 -- what a domain knows of its pools, by other data of it
 pub hunter_as : (k : Config) (t : Tenancy) (words : List ℕ) (x y : DomainView) → y.own.number ≡ x.own.number → y.seen.hunt ≡ x.seen.hunt → y.own.looked ≡ x.own.looked → y.seen.free ≡ x.seen.free → Hunter k t words x → Hunter k t words y
 hunter_as k t words x y number hunt looked free h = record {
@@ -192,44 +199,41 @@ stood_other live live' s t x keeps more st = record {
 
 module _ (k : Config) (s : Words) (r : Rule k s) (id : ℕ) (hist : List Entry) (x : DomainView) (at : get_elem? s.views id ≡ some (one k hist x)) where
   abbrev pub now : model.State
-  now = state_of k r.log
+  now = state_of k r.account.log
 
-  pub mine : IsSeated k r.log r.seat id x
+  pub mine : IsSeated k r.account.log r.seat id x
   mine = ((r.views id (one k hist x) at).domains).0
 
-  pub my_good : Good k r.log r.live r.pause r.tenancy s.words x
+  pub my_good : Good k r.account s.words x
   my_good = (r.good id (one k hist x) at).0
 
   -- what the own front tells of the own domain the history tells too
-  pub own : KeepsDomain (state_of k x.seen.front) (state_of k r.log) x.own.number
-  own = keeps_front (opening (sizes_in k)) x.own.number r.log x.seen.front mine.front
+  pub own : KeepsDomain (state_of k x.seen.front) (state_of k r.account.log) x.own.number
+  own = keeps_front (opening (sizes_in k)) x.own.number r.account.log x.seen.front mine.front
 
   -- every other seat stands for other domains
-  pub other_domain : (j : ℕ) (y : DomainView) → j ≢ id → IsSeated k r.log r.seat j y → y.own.number ≢ x.own.number
+  pub other_domain : (j : ℕ) (y : DomainView) → j ≢ id → IsSeated k r.account.log r.seat j y → y.own.number ≢ x.own.number
   other_domain j y n see same = n (sym see.here ∙ (ap r.seat same ∙ mine.here))
 
   -- Any step of the domain: what the rule says of the whole, of the own domain, and of each other one
-  pub remakes : (y : DomainView) (log' : List Entry) (words' : List ℕ) (live' : Live) (pause' : Pause) (t' : Tenancy) → Whole k log' live' pause' t' words' → EachView (Knows k log' r.seat) (set s.views id (one k hist y)) → Good k log' live' pause' t' words' y
-      → ((z : DomainView) → z.own.number < k.domains → z.own.number ≢ x.own.number → Good k r.log r.live r.pause r.tenancy s.words z → Good k log' live' pause' t' words' z)
+  pub remakes : (y : DomainView) (all' : Account) (words' : List ℕ) → Whole k all' words' → EachView (Knows k all'.log r.seat) (set s.views id (one k hist y)) → Good k all' words' y
+      → ((z : DomainView) → z.own.number < k.domains → z.own.number ≢ x.own.number → Good k r.account s.words z → Good k all' words' z)
       → Rule k record { words = words'; homes = s.homes; views = set s.views id (one k hist y) }
-  remakes y log' words' live' pause' t' whole knows own_good goods = let G : DomainView → Type 0 = Good k r.log r.live r.pause r.tenancy s.words in let G' : DomainView → Type 0 = Good k log' live' pause' t' words' in record {
-    log = log';
-    live = live';
-    pause = pause';
-    tenancy = t';
+  remakes y all' words' whole knows own_good goods = let G : DomainView → Type 0 = Good k r.account s.words in let G' : DomainView → Type 0 = Good k all' words' in record {
+    account = all';
     seat = r.seat;
     limits = r.limits;
     whole = whole;
     seats = λ d. subst (λ (n : ℕ). r.seat d < n) (sym (length-set s.views id (one k hist y))) (r.seats d);
     views = knows;
-    good = views_set (λ j v. AllDomains (IsSeated k r.log r.seat j) v.domains × AllDomains G v.domains) (λ j v. AllDomains G' v.domains)
+    good = views_set (λ j v. AllDomains (IsSeated k r.account.log r.seat j) v.domains × AllDomains G v.domains) (λ j v. AllDomains G' v.domains)
         s.views id (one k hist y) (λ j v f. ((r.views j v f).domains, r.good j v f)) (own_good, tt)
-        (λ j v n both. domains_with (IsSeated k r.log r.seat j) G G' v.domains (λ z a b. goods z a.inside (other_domain j z n a) b) both.0 both.1);
+        (λ j v n both. domains_with (IsSeated k r.account.log r.seat j) G G' v.domains (λ z a b. goods z a.inside (other_domain j z n a) b) both.0 both.1);
   }
 
   -- the seats' fronts where no entry stands
-  pub knows_front : (y : DomainView) → y.own.number ≡ x.own.number → IsFrontOf x.own.number r.log y.seen.front → EachView (Knows k r.log r.seat) (set s.views id (one k hist y))
-  knows_front y number front = views_set (Knows k r.log r.seat) (Knows k r.log r.seat) s.views id (one k hist y) r.views
+  pub knows_front : (y : DomainView) → y.own.number ≡ x.own.number → IsFrontOf x.own.number r.account.log y.seen.front → EachView (Knows k r.account.log r.seat) (set s.views id (one k hist y))
+  knows_front y number front = views_set (Knows k r.account.log r.seat) (Knows k r.account.log r.seat) s.views id (one k hist y) r.views
       record {
         config = (refl, tt);
         distinct = (tt, tt);
@@ -238,20 +242,20 @@ module _ (k : Config) (s : Words) (r : Rule k s) (id : ℕ) (hist : List Entry) 
           record {
             inside = subst (λ (n : ℕ). n < k.domains) (sym number) mine.inside;
             here = ap r.seat number ∙ mine.here;
-            front = subst (λ (n : ℕ). IsFrontOf n r.log y.seen.front) (sym number) front;
+            front = subst (λ (n : ℕ). IsFrontOf n r.account.log y.seen.front) (sym number) front;
           },
           tt,
         );
       }
       (λ j v n see. see)
 
-  longer : (h : List Entry) (e : Entry) → IsPrefix h r.log → IsPrefix h (r.log ++ e ∷ [])
+  longer : (h : List Entry) (e : Entry) → IsPrefix h r.account.log → IsPrefix h (r.account.log ++ e ∷ [])
   longer h e p = record { rest = p.rest ++ e ∷ []; appends = ap (λ l. l ++ e ∷ []) p.appends ∙ append_assoc h p.rest (e ∷ []) }
 
   -- and where one of the domain stands
-  pub knows_entry : (y : DomainView) (e : Entry) → ((d : ℕ) → d ≢ x.own.number → is_entry_of d e ≡ false) → y.own.number ≡ x.own.number → y.seen.front ≡ r.log ++ e ∷ []
-      → EachView (Knows k (r.log ++ e ∷ []) r.seat) (set s.views id (one k hist y))
-  knows_entry y e alone number front = let log' : List Entry = r.log ++ e ∷ [] in views_set (Knows k r.log r.seat) (Knows k log' r.seat) s.views id (one k hist y) r.views
+  pub knows_entry : (y : DomainView) (e : Entry) → ((d : ℕ) → d ≢ x.own.number → is_entry_of d e ≡ false) → y.own.number ≡ x.own.number → y.seen.front ≡ r.account.log ++ e ∷ []
+      → EachView (Knows k (r.account.log ++ e ∷ []) r.seat) (set s.views id (one k hist y))
+  knows_entry y e alone number front = let log' : List Entry = r.account.log ++ e ∷ [] in views_set (Knows k r.account.log r.seat) (Knows k log' r.seat) s.views id (one k hist y) r.views
       record {
         config = (refl, tt);
         distinct = (tt, tt);
@@ -269,19 +273,28 @@ module _ (k : Config) (s : Words) (r : Rule k s) (id : ℕ) (hist : List Entry) 
         config = see.config;
         distinct = see.distinct;
         history = longer v.history e see.history;
-        domains = domains_map (IsSeated k r.log r.seat j) (IsSeated k log' r.seat j) v.domains (λ z a. record {
+        domains = domains_map (IsSeated k r.account.log r.seat j) (IsSeated k log' r.seat j) v.domains (λ z a. record {
           inside = a.inside;
           here = a.here;
-          front = front_push z.own.number r.log z.seen.front e (alone z.own.number (other_domain j z n a)) a.front;
+          front = front_push z.own.number r.account.log z.seen.front e (alone z.own.number (other_domain j z n a)) a.front;
         }) see.domains;
       })
 
   -- the state after one more entry
-  pub after_entry : (e : Entry) → state_of k (r.log ++ e ∷ []) ≡ next now e
-  after_entry e = state_after-push (opening (sizes_in k)) r.log e
+  pub after_entry : (e : Entry) → state_of k (r.account.log ++ e ∷ []) ≡ next now e
+  after_entry e = state_after-push (opening (sizes_in k)) r.account.log e
 
-  pub legal_entry : (e : Entry) → Allowed now e → Legal (sizes_in k) (r.log ++ e ∷ [])
-  legal_entry e allowed = legal_push (opening (sizes_in k)) r.log e r.whole.legal allowed
+  pub legal_entry : (e : Entry) → Allowed now e → Legal (sizes_in k) (r.account.log ++ e ∷ [])
+  legal_entry e allowed = legal_push (opening (sizes_in k)) r.account.log e r.whole.legal allowed
+
+  -- where the words before the heap's stay, so do the parts that speak of them
+  pub controls_kept : (words' : List ℕ) → Control k s.words words' → Controls k r.account s.words words'
+  controls_kept words' c = record {
+    phases = phases_same k r.account.pause s.words words' c r.whole.phases;
+    ended = c 8 (omega arith);
+    pools = pools_same k r.account.tenancy s.words words' c r.whole.pools;
+    cycle = cycle_same k s.words words' c r.whole.cycle;
+  }
 
   -- What a step owes at which an own entry stands, whatever it does to the words
   pub record Appends (e : Entry) (y : DomainView) (words' : List ℕ) (live' : Live) : Type 0 where
@@ -292,48 +305,48 @@ module _ (k : Config) (s : Words) (r : Rule k s) (id : ℕ) (hist : List Entry) 
     pub allowed : Allowed now e
     pub calm : IsCalm (next now e)
     pub number : y.own.number ≡ x.own.number
-    pub front : y.seen.front ≡ r.log ++ e ∷ []
+    pub front : y.seen.front ≡ r.account.log ++ e ∷ []
     pub arrivals : y.own.arrivals ≡ x.own.arrivals
     pub wide : length words' ≡ length s.words
-    pub control : Control k s.words words'
+    pub controls : Controls k r.account s.words words'
     pub found : AllFound k live' (next now e).graph words'
     pub placed : Placed k live'
-    pub more : More r.live live'
+    pub more : More r.account.live live'
     pub stood : Stood live' (next now e) y
     pub area : Area k live' y
-    pub prepared : Prepared k words' y
-    pub areas : (z : DomainView) → z.own.number ≢ x.own.number → Area k r.live z → Area k live' z
-    pub prepares : (z : DomainView) → z.own.number ≢ x.own.number → Area k r.live z → Prepared k s.words z → Prepared k words' z
-    pub grid : Grid k r.tenancy.holder live' words'
-    pub hunter : Hunter k r.tenancy words' y
-    pub hunters : (z : DomainView) → z.own.number ≢ x.own.number → Good k r.log r.live r.pause r.tenancy s.words z → Hunter k r.tenancy words' z
+    pub making : Making k words' y
+    pub areas : (z : DomainView) → z.own.number ≢ x.own.number → Area k r.account.live z → Area k live' z
+    pub makings : (z : DomainView) → z.own.number ≢ x.own.number → Area k r.account.live z → Making k s.words z → Making k words' z
+    pub grid : Grid k r.account.tenancy.holder live' words'
+    pub hunter : Hunter k r.account.tenancy words' y
+    pub hunters : (z : DomainView) → z.own.number ≢ x.own.number → Good k r.account s.words z → Hunter k r.account.tenancy words' z
 
   pub appends : (e : Entry) (y : DomainView) (words' : List ℕ) (live' : Live) → Appends e y words' live' → Rule k record { words = words'; homes = s.homes; views = set s.views id (one k hist y) }
   appends e y words' live' o =
-      let log' : List Entry = r.log ++ e ∷ [] in
+      let log' : List Entry = r.account.log ++ e ∷ [] in
       let after : state_of k log' ≡ next now e = after_entry e in
-      remakes y log' words' live' r.pause r.tenancy
+      remakes y (record r.account { log = log'; live = live' }) words'
       record {
         wide = o.wide ∙ r.whole.wide;
         legal = legal_entry e o.allowed;
         calm = subst IsCalm (sym after) o.calm;
         found = subst (λ (t : model.State). AllFound k live' t.graph words') (sym after) o.found;
         placed = o.placed;
-        phases = phases_same k r.pause s.words words' o.control r.whole.phases;
-        endings = o.control 8 (omega arith) ∙ (r.whole.endings ∙ sym (ap (λ (t : model.State). sum_of (is_over t) k.domains) after ∙ sum_same (is_over now) (is_over (next now e)) k.domains (λ d _. command_over now e o.command d)));
-        pools = pools_same k r.tenancy s.words words' o.control r.whole.pools;
+        phases = o.controls.phases;
+        endings = o.controls.ended ∙ (r.whole.endings ∙ sym (ap (λ (t : model.State). sum_of (is_over t) k.domains) after ∙ sum_same (is_over now) (is_over (next now e)) k.domains (λ d _. command_over now e o.command d)));
+        pools = o.controls.pools;
         grid = o.grid;
         drawers = r.whole.drawers;
-        cycle = cycle_same k s.words words' o.control r.whole.cycle;
+        cycle = o.controls.cycle;
       }
       (knows_entry y e o.alone o.number o.front)
-      record { stood = subst (λ (t : model.State). Stood live' t y) (sym after) o.stood; area = o.area; prepared = o.prepared; staged = staged_as r.pause x y o.number o.arrivals o.stage my_good.staged; still = run_still log' y (o.stage ∙ o.runs); hunter = o.hunter; resting = λ n. absurd (n (o.stage ∙ o.runs)) }
+      record { stood = subst (λ (t : model.State). Stood live' t y) (sym after) o.stood; area = o.area; making = o.making; staged = staged_as r.account.pause x y o.number o.arrivals o.stage my_good.staged; still = run_still log' y (o.stage ∙ o.runs); hunter = o.hunter; resting = λ n. absurd (n (o.stage ∙ o.runs)) }
       (λ z _ other g. record {
-        stood = subst (λ (t : model.State). Stood live' t z) (sym after) (stood_other r.live live' now (next now e) z (keeps_next now e z.own.number (o.alone z.own.number other)) o.more g.stood);
+        stood = subst (λ (t : model.State). Stood live' t z) (sym after) (stood_other r.account.live live' now (next now e) z (keeps_next now e z.own.number (o.alone z.own.number other)) o.more g.stood);
         area = o.areas z other g.area;
-        prepared = o.prepares z other g.area g.prepared;
+        making = o.makings z other g.area g.making;
         staged = g.staged;
-        still = λ paused. absurd (nobody_paused r.pause x z o.runs my_good.staged g.staged paused);
+        still = λ paused. absurd (nobody_paused r.account.pause x z o.runs my_good.staged g.staged paused);
         hunter = o.hunters z other g;
         resting = g.resting;
       })
@@ -342,43 +355,43 @@ module _ (k : Config) (s : Words) (r : Rule k s) (id : ℕ) (hist : List Entry) 
   pub record Writes (y : DomainView) (words' : List ℕ) : Type 0 where
     pub number : y.own.number ≡ x.own.number
     pub hunt : y.seen.hunt ≡ x.seen.hunt
-    pub front : IsFrontOf x.own.number r.log y.seen.front
-    pub still : Still r.log y
+    pub front : IsFrontOf x.own.number r.account.log y.seen.front
+    pub still : Still r.account.log y
     pub stage : y.seen.stage ≡ x.seen.stage
     pub arrivals : y.own.arrivals ≡ x.own.arrivals
     pub wide : length words' ≡ length s.words
-    pub control : Control k s.words words'
-    pub found : AllFound k r.live now.graph words'
-    pub stood : Stood r.live now y
-    pub area : Area k r.live y
-    pub prepared : Prepared k words' y
-    pub prepares : (z : DomainView) → z.own.number ≢ x.own.number → Area k r.live z → Prepared k s.words z → Prepared k words' z
-    pub grid : Grid k r.tenancy.holder r.live words'
-    pub hunter : Hunter k r.tenancy words' y
-    pub hunters : (z : DomainView) → z.own.number ≢ x.own.number → Good k r.log r.live r.pause r.tenancy s.words z → Hunter k r.tenancy words' z
+    pub controls : Controls k r.account s.words words'
+    pub found : AllFound k r.account.live now.graph words'
+    pub stood : Stood r.account.live now y
+    pub area : Area k r.account.live y
+    pub making : Making k words' y
+    pub makings : (z : DomainView) → z.own.number ≢ x.own.number → Area k r.account.live z → Making k s.words z → Making k words' z
+    pub grid : Grid k r.account.tenancy.holder r.account.live words'
+    pub hunter : Hunter k r.account.tenancy words' y
+    pub hunters : (z : DomainView) → z.own.number ≢ x.own.number → Good k r.account s.words z → Hunter k r.account.tenancy words' z
 
   pub writes : (y : DomainView) (words' : List ℕ) → Writes y words' → Rule k record { words = words'; homes = s.homes; views = set s.views id (one k hist y) }
   writes y words' o =
-      remakes y r.log words' r.live r.pause r.tenancy
+      remakes y r.account words'
       record {
         wide = o.wide ∙ r.whole.wide;
         legal = r.whole.legal;
         calm = r.whole.calm;
         found = o.found;
         placed = r.whole.placed;
-        phases = phases_same k r.pause s.words words' o.control r.whole.phases;
-        endings = o.control 8 (omega arith) ∙ r.whole.endings;
-        pools = pools_same k r.tenancy s.words words' o.control r.whole.pools;
+        phases = o.controls.phases;
+        endings = o.controls.ended ∙ r.whole.endings;
+        pools = o.controls.pools;
         grid = o.grid;
         drawers = r.whole.drawers;
-        cycle = cycle_same k s.words words' o.control r.whole.cycle;
+        cycle = o.controls.cycle;
       }
       (knows_front y o.number o.front)
-      record { stood = o.stood; area = o.area; prepared = o.prepared; staged = staged_as r.pause x y o.number o.arrivals o.stage my_good.staged; still = o.still; hunter = o.hunter; resting = λ n. o.hunt ∙ my_good.resting (λ e. n (o.stage ∙ e)) }
-      (λ z _ other g. record { stood = g.stood; area = g.area; prepared = o.prepares z other g.area g.prepared; staged = g.staged; still = g.still; hunter = o.hunters z other g; resting = g.resting })
+      record { stood = o.stood; area = o.area; making = o.making; staged = staged_as r.account.pause x y o.number o.arrivals o.stage my_good.staged; still = o.still; hunter = o.hunter; resting = λ n. o.hunt ∙ my_good.resting (λ e. n (o.stage ∙ e)) }
+      (λ z _ other g. record { stood = g.stood; area = g.area; making = o.makings z other g.area g.making; staged = g.staged; still = g.still; hunter = o.hunters z other g; resting = g.resting })
 
   -- a step that leaves all but the front, which is then some front of the history
-  pub looks : (front : List Entry) → IsFrontOf x.own.number r.log front → (IsInPause x.seen.stage → front ≡ r.log) → Rule k record { words = s.words; homes = s.homes; views = set s.views id (one k hist (with_front x front)) }
+  pub looks : (front : List Entry) → IsFrontOf x.own.number r.account.log front → (IsInPause x.seen.stage → front ≡ r.account.log) → Rule k record { words = s.words; homes = s.homes; views = set s.views id (one k hist (with_front x front)) }
   looks front is still = writes (with_front x front) s.words record {
     number = refl;
     hunt = refl;
@@ -387,14 +400,14 @@ module _ (k : Config) (s : Words) (r : Rule k s) (id : ℕ) (hist : List Entry) 
     stage = refl;
     arrivals = refl;
     wide = refl;
-    control = control_same k s.words;
+    controls = controls_kept s.words (control_same k s.words);
     found = r.whole.found;
     stood = record { wide = my_good.stood.wide; each = my_good.stood.each; serial = my_good.stood.serial };
     area = record { room = my_good.area.room; free = my_good.area.free };
-    prepared = record { fits = my_good.prepared.fits; written = my_good.prepared.written };
-    prepares = λ z _ _ p. p;
+    making = record { fits = my_good.making.fits; written = my_good.making.written };
+    makings = λ z _ _ p. p;
     grid = r.whole.grid;
-    hunter = hunter_as k r.tenancy s.words x (with_front x front) refl refl refl refl my_good.hunter;
+    hunter = hunter_as k r.account.tenancy s.words x (with_front x front) refl refl refl refl my_good.hunter;
     hunters = λ z _ g. g.hunter;
   }
 
@@ -402,21 +415,21 @@ module _ (k : Config) (s : Words) (r : Rule k s) (id : ℕ) (hist : List Entry) 
   pub record Holds (looked : List Spot) (hunt : Hunt) (free : Option ℕ) (words' : List ℕ) (t' : Tenancy) : Type 0 where
     pub runs : x.seen.stage ≡ In Run
     pub wide : length words' ≡ length s.words
-    pub phases : Phases k r.pause words'
+    pub phases : Phases k r.account.pause words'
     pub endings : ended_word words' ≡ ended_word s.words
     pub cycle : NoCycle words'
-    pub found : AllFound k r.live now.graph words'
+    pub found : AllFound k r.account.live now.graph words'
     pub pools : Pools k t' words'
-    pub grid : Grid k t'.holder r.live words'
-    pub drawers : Drawers r.pause t'
-    pub prepares : (z : DomainView) → Prepared k s.words z → Prepared k words' z
+    pub grid : Grid k t'.holder r.account.live words'
+    pub drawers : Drawers r.account.pause t'
+    pub makings : (z : DomainView) → Making k s.words z → Making k words' z
     pub hunter : Hunter k t' words' (hunting_free x looked hunt free)
-    pub hunters : (z : DomainView) → z.own.number ≢ x.own.number → Good k r.log r.live r.pause r.tenancy s.words z → Hunter k t' words' z
+    pub hunters : (z : DomainView) → z.own.number ≢ x.own.number → Good k r.account s.words z → Hunter k t' words' z
 
   pub holds_again : (looked : List Spot) (hunt : Hunt) (free : Option ℕ) (words' : List ℕ) (t' : Tenancy) → Holds looked hunt free words' t' → Rule k record { words = words'; homes = s.homes; views = set s.views id (one k hist (hunting_free x looked hunt free)) }
   holds_again looked hunt free words' t' o =
-      let own_prepared = o.prepares x my_good.prepared in
-      remakes (hunting_free x looked hunt free) r.log words' r.live r.pause t'
+      let own_making = o.makings x my_good.making in
+      remakes (hunting_free x looked hunt free) (record r.account { tenancy = t' }) words'
       record {
         wide = o.wide ∙ r.whole.wide;
         legal = r.whole.legal;
@@ -434,13 +447,13 @@ module _ (k : Config) (s : Words) (r : Rule k s) (id : ℕ) (hist : List Entry) 
       record {
         stood = record { wide = my_good.stood.wide; each = my_good.stood.each; serial = my_good.stood.serial };
         area = record { room = my_good.area.room; free = my_good.area.free };
-        prepared = record { fits = own_prepared.fits; written = own_prepared.written };
+        making = record { fits = own_making.fits; written = own_making.written };
         staged = record { arrivals = my_good.staged.arrivals; stage = my_good.staged.stage };
         still = my_good.still;
         hunter = o.hunter;
         resting = λ n. absurd (n o.runs);
       }
-      (λ z _ other g. record { stood = g.stood; area = g.area; prepared = o.prepares z g.prepared; staged = g.staged; still = g.still; hunter = o.hunters z other g; resting = g.resting })
+      (λ z _ other g. record { stood = g.stood; area = g.area; making = o.makings z g.making; staged = g.staged; still = g.still; hunter = o.hunters z other g; resting = g.resting })
 
 -- a load leaves the words as they were
 pub unmoved : (k : Config) (s : Words) (at : ℕ) (views : List View) → Rule k record { words = s.words; homes = s.homes; views = views }

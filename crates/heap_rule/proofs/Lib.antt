@@ -19,6 +19,7 @@ pub mod Starts
 pub mod Dealt
 pub mod Ends
 pub mod Meetings
+pub mod ChangeLemmas
 pub mod Closes
 pub mod Plain
 pub mod Acting

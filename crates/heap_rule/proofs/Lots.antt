@@ -1,5 +1,5 @@
 -- What a written word leaves of the pools.
-use Rattle.std.proofs.Common.{◌≡◌, ◌≢◌, ℕ, ◌+◌, ◌*◌, ◌<◌, ◌≤◌, ◌⊎◌, List, length, get_or, set, Some, sym, ap, ◌∙◌, subst, inl, inr, ⊎_elim, arith, get_or-set_other, lt_of_not-le}
+use Rattle.std.proofs.Common.{◌≡◌, ◌≢◌, ℕ, ◌+◌, ◌*◌, ◌<◌, ◌≤◌, ◌⊎◌, List, length, get_or, set, Some, sym, ap, ◌∙◌, subst, inl, inr, ⊎_elim, arith, get_or-set_other, lt_of_not-le, None, false}
 use mathlib.Core.Logic.{dite}
 use native.Mathlib.Decide.{ℕ_discrete, dec_le}
 use Rattle.heap_rule.specs.declared.config.Config.{Config}
@@ -7,9 +7,9 @@ use Rattle.heap_rule.specs.declared.view.Hunt.{Hunt}
 use Rattle.heap_rule.specs.declared.view.Hunt.TheVariants.{Rests, Counts, Asks, Draws, Walks, Fills}
 use Rattle.heap_rule.specs.declared.view.DomainView.{DomainView}
 use Rattle.heap_rule.specs.Layout.{before_heap, at_address}
-use Rattle.heap_rule.specs.Places.{Place, Live, extent, head_of, Found}
+use Rattle.heap_rule.specs.Places.{unmarked, Place, Live, extent, head_of, Found}
 use Rattle.heap_model.specs.Graph.{Graph}
-use Rattle.heap_model.specs.Fronts.{Shape, PlainShape, EpheShape}
+use Rattle.heap_model.specs.Fronts.{Shape, PlainShape, RawShape, EpheShape}
 use Rattle.heap_words.specs.Heads.{head_word}
 use Rattle.heap_rule.specs.Pools.{Holder, drawn, owned, Tenancy, Pools, Grid, Hunts, Hunter, place_in, size_of, blocks_of, limit_of}
 use Rattle.heap_rule.proofs.Lists.{got_below}
@@ -114,8 +114,9 @@ module _ (k : Config) (t : Tenancy) (words : List ℕ) (at new : ℕ) where
   }
 
 -- a live block's head isn't Free
-pub head_some : (shape : Shape) → head_word (head_of shape) ≢ 0
+pub head_some : (shape : Shape) → head_word (head_of None shape unmarked false) ≢ 0
 head_some (PlainShape size tag) e = omega arith
+head_some (RawShape size tag) e = omega arith
 head_some (EpheShape keys) e = omega arith
 
 pub head_full : (k : Config) (live : Live) (graph : Graph) (words : List ℕ) (a : ℕ) (o : Place) → Found k live graph words a o → at_address k words a ≢ 0

@@ -12,10 +12,10 @@ use Rattle.heap_rule.proofs.Keeps.{Words, agree, unmoved}
 use Rattle.heap_rule.proofs.Ends.{same_views}
 use Rattle.heap_rule.proofs.Seats.{splits}
 
-first_agree : (k : Config) (s : Words) (r : Rule k s) (xs : List DomainView) → AllDomains (Good k r.log r.live r.pause r.tenancy s.words) xs → FirstAgree xs
+first_agree : (k : Config) (s : Words) (r : Rule k s) (xs : List DomainView) → AllDomains (Good k r.account s.words) xs → FirstAgree xs
 first_agree k s r [] g = tt
 first_agree k s r (x ∷ []) g = tt
-first_agree k s r (x ∷ y ∷ zs) g = agree r.pause x.own.number y.own.number x.own.arrivals y.own.arrivals x.seen.stage y.seen.stage g.0.staged.stage g.1.0.staged.stage
+first_agree k s r (x ∷ y ∷ zs) g = agree r.account.pause x.own.number y.own.number x.own.arrivals y.own.arrivals x.seen.stage y.seen.stage g.0.staged.stage g.1.0.staged.stage
 
 agrees : (k : Config) (slots id word : ℕ) (v : View) → Allows (Rule k) slots id (v, []) word (λ n. n) (λ found m'. Agreed (v, []) m')
 agrees k slots id word v s r _ at _ = (

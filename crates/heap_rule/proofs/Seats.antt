@@ -24,9 +24,9 @@ distinct_both seat m n apart (x ∷ xs) ys a b c d = (
 )
 
 -- the rule with other seats
-reseated : (k : Config) (s : Words) (r : Rule k s) (seat : ℕ → ℕ) (views : List View) → ((d : ℕ) → seat d < length views) → EachView (Knows k r.log seat) views
-    → EachDomain (Good k r.log r.live r.pause r.tenancy s.words) views → Rule k record { words = s.words; homes = s.homes; views = views }
-reseated k s r seat views seats knows good = record { log = r.log; live = r.live; pause = r.pause; tenancy = r.tenancy; seat = seat; limits = r.limits; whole = r.whole; seats = seats; views = knows; good = good }
+reseated : (k : Config) (s : Words) (r : Rule k s) (seat : ℕ → ℕ) (views : List View) → ((d : ℕ) → seat d < length views) → EachView (Knows k r.account.log seat) views
+    → EachDomain (Good k r.account s.words) views → Rule k record { words = s.words; homes = s.homes; views = views }
+reseated k s r seat views seats knows good = record { account = r.account; seat = seat; limits = r.limits; whole = r.whole; seats = seats; views = knows; good = good }
 
 moved : (k : Config) (log : List Entry) (seat seat' : ℕ → ℕ) (j : ℕ) (v : View) → AllDomains (λ x. seat' x.own.number ≡ j) v.domains → Knows k log seat j v → Knows k log seat' j v
 moved k log seat seat' j v here see = record {
@@ -45,24 +45,24 @@ splits k id hist p ps s r at =
     let mid : List View = set s.views id left in
     let long : length mid ≡ n = length-set s.views id left in
     let seat' : ℕ → ℕ = over p.own.number n r.seat in
-    let know : Knows k r.log r.seat id v = r.views id v at in
-    let mine : IsSeated k r.log r.seat id p = know.domains.0 in
-    let S : DomainView → Type 0 = Good k r.log r.live r.pause r.tenancy s.words in
+    let know : Knows k r.account.log r.seat id v = r.views id v at in
+    let mine : IsSeated k r.account.log r.seat id p = know.domains.0 in
+    let S : DomainView → Type 0 = Good k r.account s.words in
     reseated k s r seat' (mid ++ right ∷ [])
     (λ d. dite (ℕ_discrete d p.own.number)
     (λ same. subst (λ (x : ℕ). x < length (mid ++ right ∷ [])) (sym (ap seat' same ∙ over_here p.own.number n r.seat)) (omega (arith, length-append mid (right ∷ []))))
     (λ other. subst (λ (x : ℕ). x < length (mid ++ right ∷ [])) (sym (over_else p.own.number n r.seat d other)) (let b = r.seats d in omega (arith, length-append mid (right ∷ [])))))
-    (views_new (Knows k r.log seat') mid right
-    (views_set (Knows k r.log r.seat) (Knows k r.log seat') s.views id left r.views
+    (views_new (Knows k r.account.log seat') mid right
+    (views_set (Knows k r.account.log r.seat) (Knows k r.account.log seat') s.views id left r.views
     record {
       config = know.config.1;
       history = know.history;
       distinct = know.distinct.1;
-      domains = domains_with (IsSeated k r.log r.seat id) (λ q. q.own.number ≢ p.own.number) (IsSeated k r.log seat' id) ps
+      domains = domains_with (IsSeated k r.account.log r.seat id) (λ q. q.own.number ≢ p.own.number) (IsSeated k r.account.log seat' id) ps
           (λ x y apart. record { inside = y.inside; here = over_else p.own.number n r.seat x.own.number apart ∙ y.here; front = y.front }) know.domains.1 know.distinct.0;
     }
-    (λ j u other see. moved k r.log r.seat seat' j u
-    (domains_map (IsSeated k r.log r.seat j) (λ x. seat' x.own.number ≡ j) u.domains (λ x y. over_else p.own.number n r.seat x.own.number (λ same. other (sym y.here ∙ (ap r.seat same ∙ mine.here))) ∙ y.here) see.domains)
+    (λ j u other see. moved k r.account.log r.seat seat' j u
+    (domains_map (IsSeated k r.account.log r.seat j) (λ x. seat' x.own.number ≡ j) u.domains (λ x y. over_else p.own.number n r.seat x.own.number (λ same. other (sym y.here ∙ (ap r.seat same ∙ mine.here))) ∙ y.here) see.domains)
     see))
     record {
       config = (refl, tt);
@@ -80,29 +80,29 @@ joins k id v other w same_config s r at apart there' =
     let seat' : ℕ → ℕ = λ d. over other id (λ y. y) (r.seat d) in
     let moves : (d : ℕ) → r.seat d ≡ other → seat' d ≡ id = λ d e. ap (over other id (λ y. y)) e ∙ over_here other id (λ y. y) in
     let stays : (d : ℕ) → r.seat d ≢ other → seat' d ≡ r.seat d = λ d e. over_else other id (λ y. y) (r.seat d) e in
-    let mine : Knows k r.log r.seat id v = r.views id v at in
-    let its : Knows k r.log r.seat other w = r.views other w there in
-    let S : DomainView → Type 0 = Good k r.log r.live r.pause r.tenancy s.words in
+    let mine : Knows k r.account.log r.seat id v = r.views id v at in
+    let its : Knows k r.account.log r.seat other w = r.views other w there in
+    let S : DomainView → Type 0 = Good k r.account s.words in
     let len : length (set mid other spent) ≡ length s.views = length-set mid other spent ∙ length-set s.views id both in
     reseated k s r seat' (set mid other spent)
     (λ d. dite (ℕ_discrete (r.seat d) other)
     (λ e. subst (λ (x : ℕ). x < length (set mid other spent)) (sym (moves d e)) (let b = at_below s.views id v at in omega arith))
     (λ e. subst (λ (x : ℕ). x < length (set mid other spent)) (sym (stays d e)) (let b = r.seats d in omega arith)))
-    (views_set (λ j u. j ≢ other → Knows k r.log seat' j u) (Knows k r.log seat') mid other spent
-    (views_set (Knows k r.log r.seat) (λ j u. j ≢ other → Knows k r.log seat' j u) s.views id both r.views
+    (views_set (λ j u. j ≢ other → Knows k r.account.log seat' j u) (Knows k r.account.log seat') mid other spent
+    (views_set (Knows k r.account.log r.seat) (λ j u. j ≢ other → Knows k r.account.log seat' j u) s.views id both r.views
     (λ _. record {
       config = domains_both (λ _. v.config ≡ k) v.domains w.domains mine.config (domains_map (λ _. w.config ≡ k) (λ _. v.config ≡ k) w.domains (λ _ e. sym same_config ∙ e) its.config);
       history = mine.history;
       distinct = distinct_both r.seat id other (λ e. apart (sym e)) v.domains w.domains
-          (domains_map (IsSeated k r.log r.seat id) (λ x. r.seat x.own.number ≡ id) v.domains (λ x y. y.here) mine.domains)
-          (domains_map (IsSeated k r.log r.seat other) (λ x. r.seat x.own.number ≡ other) w.domains (λ x y. y.here) its.domains) mine.distinct its.distinct;
-      domains = domains_both (IsSeated k r.log seat' id) v.domains w.domains
-          (domains_map (IsSeated k r.log r.seat id) (IsSeated k r.log seat' id) v.domains (λ x y. record { inside = y.inside; here = stays x.own.number (λ e. apart (sym e ∙ y.here)) ∙ y.here; front = y.front }) mine.domains)
-          (domains_map (IsSeated k r.log r.seat other) (IsSeated k r.log seat' id) w.domains (λ x y. record { inside = y.inside; here = moves x.own.number y.here; front = y.front }) its.domains);
+          (domains_map (IsSeated k r.account.log r.seat id) (λ x. r.seat x.own.number ≡ id) v.domains (λ x y. y.here) mine.domains)
+          (domains_map (IsSeated k r.account.log r.seat other) (λ x. r.seat x.own.number ≡ other) w.domains (λ x y. y.here) its.domains) mine.distinct its.distinct;
+      domains = domains_both (IsSeated k r.account.log seat' id) v.domains w.domains
+          (domains_map (IsSeated k r.account.log r.seat id) (IsSeated k r.account.log seat' id) v.domains (λ x y. record { inside = y.inside; here = stays x.own.number (λ e. apart (sym e ∙ y.here)) ∙ y.here; front = y.front }) mine.domains)
+          (domains_map (IsSeated k r.account.log r.seat other) (IsSeated k r.account.log seat' id) w.domains (λ x y. record { inside = y.inside; here = moves x.own.number y.here; front = y.front }) its.domains);
     })
-    (λ j u ne see nother. moved k r.log r.seat seat' j u
-    (domains_map (IsSeated k r.log r.seat j) (λ x. seat' x.own.number ≡ j) u.domains (λ x y. stays x.own.number (λ e. nother (sym y.here ∙ e)) ∙ y.here) see.domains) see))
-    record { config = tt; history = record { rest = r.log; appends = refl }; distinct = tt; domains = tt }
+    (λ j u ne see nother. moved k r.account.log r.seat seat' j u
+    (domains_map (IsSeated k r.account.log r.seat j) (λ x. seat' x.own.number ≡ j) u.domains (λ x y. stays x.own.number (λ e. nother (sym y.here ∙ e)) ∙ y.here) see.domains) see))
+    record { config = tt; history = record { rest = r.account.log; appends = refl }; distinct = tt; domains = tt }
     (λ j u ne f. f ne))
     (views_set (λ _ u. AllDomains S u.domains) (λ _ u. AllDomains S u.domains) mid other spent
     (views_set (λ _ u. AllDomains S u.domains) (λ _ u. AllDomains S u.domains) s.views id both r.good (domains_both S v.domains w.domains (r.good id v at) (r.good other w there)) (λ j u _ x. x)) tt (λ j u _ x. x))

@@ -1,8 +1,9 @@
 -- Bounds on the numbers of a heap within its limits.
-use Rattle.std.proofs.Common.{◌≡◌, ℕ, suc, ◌+◌, ◌*◌, ◌^◌, ◌<◌, ◌≤◌, suc-mul, mul-le-mul_right, subst, arith, rules, None}
-use Rattle.heap_model.specs.Domains.{IsWithinLimits}
+use Rattle.std.proofs.Common.{◌≡◌, ℕ, suc, ◌+◌, ◌*◌, ◌^◌, ◌<◌, ◌≤◌, suc-mul, mul-le-mul_right, subst, arith, rules, Option, Some, None, ◌⊎◌, inl, refl}
+use Rattle.heap_model.specs.Domains.{IsWithinLimits, first_outside as outside_sizes}
+use Rattle.heap_model.specs.declared.state.Sizes.{Sizes}
 use Rattle.heap_rule.specs.declared.config.Config.{Config}
-use Rattle.heap_rule.specs.Limits.{sizes_in, first_outside}
+use Rattle.heap_rule.specs.Limits.{sizes_in, first_of, outside_rooms, first_outside}
 use Rattle.heap_rule.specs.Layout.{heap_words, base_of}
 
 -- the areas of two domains lie one behind the other
@@ -37,9 +38,17 @@ heap_small k limits =
 pub heap_large : (k : Config) → IsWithinLimits (sizes_in k) → 4096 ≤ heap_words k
 heap_large k limits = let p = limits.some_pools in let x : ℕ = k.domains * k.minor_words in let some : 1 ≤ k.pools = omega arith in let z : 4096 ≤ k.pools * 4096 + x = omega arith in z
 
+-- where the first of two is nothing
+pub first_none : (a b : Option ℕ) → first_of a b ≡ None → a ≡ None
+first_none (Some n) b e = cc
+first_none None b e = refl
+
+within_sizes : (z : Sizes) → (z.classes ≡ 6) ⊎ (z.classes ≡ 9) → outside_sizes z ≡ None → IsWithinLimits z
+within_sizes z classes fits = search rules
+
 -- where no field is outside its limit
 pub within : (k : Config) → first_outside k ≡ None → IsWithinLimits (sizes_in k)
-within k fits = search rules
+within k fits = within_sizes (sizes_in k) (inl refl) (first_none (outside_sizes (sizes_in k)) (outside_rooms k) fits)
 
 pub some_pool : (k : Config) → IsWithinLimits (sizes_in k) → 1 ≤ k.pools
 some_pool k limits = let h = limits.some_pools in omega arith

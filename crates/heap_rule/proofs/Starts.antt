@@ -25,7 +25,7 @@ use Rattle.heap_rule.specs.declared.phase.Kind.TheVariants.{Run}
 use Rattle.heap_rule.specs.Phases.{Pause, sum_of, is_over, flag}
 use Rattle.heap_rule.proofs.Keeps.{sum_same}
 use Rattle.heap_rule.specs.Views.{EachView, AllDomains, Distinct, IsSeated, Knows, opening_view, opening_views, first_view}
-use Rattle.heap_rule.specs.Rule.{Stood, Area, Good, Whole, Rule}
+use Rattle.heap_rule.specs.Rule.{Stood, Area, Account, Good, Whole, Rule}
 use Rattle.heap_rule.specs.Pools.{Holder, nobody, drawn, owned, owner_word, Tenancy, Pools, Lot, Grid, place_in, size_of, blocks_of, IsBefore}
 use Rattle.heap_rule.proofs.Lots.{owned_same}
 use Rattle.heap_rule.specs.Opening.{IsOpening}
@@ -148,7 +148,7 @@ module _ (k : Config) (limits : IsWithinLimits (sizes_in k)) (words : List ℕ) 
   }
 
   fits : Fits k 1 shared_place
-  fits = record { low = omega arith; high = (let h = heap_large k limits in let x : ℕ = heap_words k in let y : 4096 ≤ x = h in let z : 1 + 18 ≤ x + 1 = omega arith in z); head = (omega arith, omega arith, omega arith, omega arith); label = (omega arith, lit< tt) }
+  fits = record { built = tt; low = omega arith; high = (let h = heap_large k limits in let x : ℕ = heap_words k in let y : 4096 ≤ x = h in let z : 1 + 18 ≤ x + 1 = omega arith in z); head = (omega arith, omega arith, omega arith, omega arith); label = (omega arith, lit< tt) }
 
   placed : Placed k only
   placed = record {
@@ -227,7 +227,10 @@ module _ (k : Config) (limits : IsWithinLimits (sizes_in k)) (words : List ℕ) 
         (λ other. inl (opens.rest (place_in 0 3 slot) (large_places slot (let n : slot ≢ 0 = other in omega arith)))));
   }
 
-  whole : Whole k [] only first_pause first_tenancy words
+  abbrev first_account : Account
+  first_account = record { log = []; live = only; pause = first_pause; tenancy = first_tenancy }
+
+  whole : Whole k first_account words
   whole = record {
     wide = opens.wide;
     legal = tt;
@@ -254,10 +257,7 @@ module _ (k : Config) (limits : IsWithinLimits (sizes_in k)) (words : List ℕ) 
   unfolding first_view
   starts =
       let v : View = record { config = k; history = []; domains = opening_views 0 k.domains } in record {
-        log = [];
-        live = only;
-        pause = first_pause;
-        tenancy = first_tenancy;
+        account = first_account;
         seat = λ _. 0;
         limits = limits;
         whole = whole;
@@ -268,10 +268,10 @@ module _ (k : Config) (limits : IsWithinLimits (sizes_in k)) (words : List ℕ) 
           domains = views_later (IsSeated k [] (λ _. 0) 0) 0 k.domains (λ x a b. record { inside = omega arith; here = refl; front = record { rest = []; appends = refl; others = refl } });
           distinct = distinct_later 0 k.domains;
         };
-        good = sole (λ _ u. AllDomains (Good k [] only first_pause first_tenancy words) u.domains) v (views_later (Good k [] only first_pause first_tenancy words) 0 k.domains (λ x a b. record {
+        good = sole (λ _ u. AllDomains (Good k first_account words) u.domains) v (views_later (Good k first_account words) 0 k.domains (λ x a b. record {
           stood = stood x (omega arith);
           area = area x;
-          prepared = record { fits = λ j w e. cc; written = λ j w e. cc };
+          making = record { fits = λ j w e. cc; written = λ j w e. cc };
           staged = record { arrivals = refl; stage = (refl, (0, refl, refl)) };
           still = λ paused. absurd paused;
           hunter = record {

@@ -1,4 +1,4 @@
--- What the changes of a step do to the registers.
+-- What the changes of a step do to a token's own data.
 use Rattle.std.specs.Prelude.{ℕ, ◌<◌, List, [], ◌∷◌, replicate, slice_set, slice_index_or}
 use Rattle.heap_words.specs.declared.value.Value.{Value}
 use Rattle.heap_words.specs.declared.value.Value.TheVariants.{Nothing}
@@ -7,32 +7,33 @@ use Rattle.heap_rule.specs.declared.change.Part.TheVariants.{Register}
 use Rattle.heap_rule.specs.declared.change.Item.{Item}
 use Rattle.heap_rule.specs.declared.change.Change.{Change}
 use Rattle.heap_rule.specs.declared.change.Change.TheVariants.{Set, Read, Clear}
+use Rattle.heap_rule.specs.declared.view.Own.{Own}
 
 -- what a register holds
 abbrev pub value_at : List Value → ℕ → Value
 value_at registers r = slice_index_or registers r Nothing
 
--- the registers after an item of a list is set
-abbrev pub set_item : Part → ℕ → Item → List Value → List Value
-set_item Register place item registers = slice_set registers place item.value
-set_item _ place item registers = registers
+-- the token's own data after an item of a list is set
+abbrev pub set_item : Part → ℕ → Item → Own → Own
+set_item Register place item own = record own { registers = slice_set own.registers place item.value }
+set_item _ place item own = own
 
--- the registers after a list is emptied
-abbrev pub cleared : Part → List Value → List Value
-cleared Register registers = replicate 16 Nothing
-cleared _ registers = registers
+-- and after a list is emptied
+abbrev pub cleared : Part → Own → Own
+cleared Register own = record own { registers = replicate 16 Nothing }
+cleared _ own = own
 
--- the registers after one change at a step that read this value
-abbrev pub changed_one : Value → Change → List Value → List Value
-changed_one read (Set part place item) registers = set_item part place item registers
-changed_one read (Read register) registers = slice_set registers register read
-changed_one read (Clear part) registers = cleared part registers
-changed_one read _ registers = registers
+-- and after one change at a step that read this value
+abbrev pub changed_one : Value → Change → Own → Own
+changed_one read (Set part place item) own = set_item part place item own
+changed_one read (Read register) own = record own { registers = slice_set own.registers register read }
+changed_one read (Clear part) own = cleared part own
+changed_one read _ own = own
 
--- the registers after the changes, in their order
-abbrev pub changed : Value → List Change → List Value → List Value
-changed read [] registers = registers
-changed read (c ∷ cs) registers = changed read cs (changed_one read c registers)
+-- and after the changes, in their order
+abbrev pub changed : Value → List Change → Own → Own
+changed read [] own = own
+changed read (c ∷ cs) own = changed read cs (changed_one read c own)
 
 -- the list has this place. So far the registers are the only list
 abbrev pub HasPlace : Part → ℕ → Type 0

@@ -4,7 +4,7 @@ use Rattle.atomic_table.specs.Seated.{TableId}
 use Rattle.heap_model.specs.Fronts.{PlainShape}
 use Rattle.heap_rule.specs.declared.config.Config.{Config}
 use Rattle.heap_rule.specs.Layout.{table_words, at_address, listed_pool, owner_of, listed, cursor}
-use Rattle.heap_rule.specs.Places.{HeadIs}
+use Rattle.heap_rule.specs.Places.{IsNewHead}
 use Rattle.heap_rule.specs.Rule.{Rested, NoCycle}
 use Rattle.heap_rule.specs.Token.{Token}
 use Rattle.heap_rule.specs.Views.{opening_view}
@@ -23,7 +23,7 @@ pub record IsOpening (k : Config) (words : List ℕ) : Type 0 where
   pub rested : Rested words
   pub pools : AllListed k words
   pub cycle : NoCycle words
-  pub head : HeadIs (PlainShape 16 0) (at_address k words 1)
+  pub head : IsNewHead (PlainShape 16 0) (at_address k words 1)
   pub label : at_address k words 2 ≡ 0
   pub fields : (i : ℕ) → i < 16 → at_address k words (3 + i) ≡ 1
   pub rest : (a : ℕ) → 19 ≤ a → at_address k words a ≡ 0

@@ -1,17 +1,17 @@
 -- What lives at the addresses, and when words stand for it.
-use Rattle.std.specs.Prelude.{◌≡◌, ◌≢◌, ℕ, ◌+◌, ◌≤◌, ◌⊎◌, false, List, ◌∷◌, map, slice_get, Option, Some}
+use Rattle.std.specs.Prelude.{◌≡◌, ◌≢◌, ℕ, ◌+◌, ◌≤◌, ◌⊎◌, Bool, false, List, ◌∷◌, map, slice_get, Option, Some, None}
 use Rattle.heap_model.specs.declared.label.Label.{Label}
 use Rattle.heap_model.specs.declared.graph.Value.{Value}
 use Rattle.heap_model.specs.declared.graph.Value.TheVariants.{Int, Block, Nothing}
 use Rattle.heap_model.specs.declared.graph.Node.{Node}
-use Rattle.heap_model.specs.declared.graph.Node.TheVariants.{Plain, Ephe}
+use Rattle.heap_model.specs.declared.graph.Node.TheVariants.{Plain, Raw, Ephe}
 use Rattle.heap_model.specs.Graph.{Graph, node_at}
 use Rattle.heap_model.specs.Commands.{key_value}
-use Rattle.heap_model.specs.Fronts.{Shape, PlainShape, EpheShape, shape_of}
+use Rattle.heap_model.specs.Fronts.{Shape, PlainShape, RawShape, EpheShape, shape_of}
 use Rattle.heap_words.specs.declared.value.Value as words
 use Rattle.heap_words.specs.declared.value.Value.TheVariants.{Int as IntWord, Ref, Nothing as NothingWord}
 use Rattle.heap_words.specs.declared.head.Head.{Head}
-use Rattle.heap_words.specs.declared.head.Head.TheVariants.{Plain as PlainHead, Ephe as EpheHead}
+use Rattle.heap_words.specs.declared.head.Head.TheVariants.{Plain as PlainHead, Ephe as EpheHead, Forward}
 use Rattle.heap_words.specs.Values.{IsPackable, value_word}
 use Rattle.heap_words.specs.Heads.{IsPackableHead, head_word}
 use Rattle.heap_words.specs.Labels.{IsPackableLabel, label_word}
@@ -30,21 +30,40 @@ Live = ℕ → Option Place
 -- the words of a block: head, label and values
 abbrev pub extent : Shape → ℕ
 extent (PlainShape size tag) = size + 2
+extent (RawShape size tag) = size + 2
 extent (EpheShape keys) = keys + 3
 
 -- the values of a block, in the order of their words
 abbrev pub values_of : Node → List Value
 values_of (Plain tag fields) = fields
+values_of (Raw tag fields) = fields
 values_of (Ephe keys datum) = datum ∷ map key_value keys
 
--- the head of a block while no cycle is under way: it is unmarked, which is the colour 1
-abbrev pub head_of : Shape → Head
-head_of (PlainShape size tag) = PlainHead size tag 1 false
-head_of (EpheShape keys) = EpheHead keys 1 false
+-- the head of a block of this colour, or of one that forwards to a copy
+abbrev pub head_of : Option ℕ → Shape → ℕ → Bool → Head
+head_of None (PlainShape size tag) colour scanned = PlainHead size tag colour scanned
+head_of None (RawShape size tag) colour scanned = PlainHead size tag colour scanned
+head_of None (EpheShape keys) colour scanned = EpheHead keys colour scanned
+head_of (Some copy) shape colour scanned = Forward copy
 
 -- the word of such a head
-abbrev pub HeadIs : Shape → ℕ → Type 0
-HeadIs shape word = word ≡ head_word (head_of shape)
+abbrev pub HeadIs : Option ℕ → Shape → ℕ → Bool → ℕ → Type 0
+HeadIs forward shape colour scanned word = word ≡ head_word (head_of forward shape colour scanned)
+
+-- the colour of every block while no cycle is under way: it is unmarked
+abbrev pub unmarked : ℕ
+unmarked = 1
+
+-- the word of the head of a new block
+abbrev pub IsNewHead : Shape → ℕ → Type 0
+IsNewHead shape word = HeadIs None shape unmarked false word
+
+-- the word is a head of this shape, whatever its colour
+pub record IsHeadOf (shape : Shape) (word : ℕ) : Type 0 where
+  pub colour : ℕ
+  pub scanned : Bool
+  pub packable : IsPackableHead (head_of None shape colour scanned)
+  pub packs : HeadIs None shape colour scanned word
 
 -- a value with addresses stands for a value of the graph
 abbrev pub Stands : Live → words.Value → Value → Type 0
@@ -76,15 +95,21 @@ pub record Found (k : Config) (live : Live) (graph : Graph) (words : List ℕ) (
   pub node : Node
   pub there : node_at graph p.label ≡ Some node
   pub shape : shape_of node ≡ p.shape
-  pub head : HeadIs p.shape (at_address k words a)
+  pub head : HeadIs None p.shape unmarked false (at_address k words a)
   pub label : at_address k words (a + 1) ≡ label_word p.label.domain p.label.serial
   pub values : (i : ℕ) (v : Value) → slice_get (values_of node) i ≡ Some v → WordStands live (at_address k words (a + 2 + i)) v
 
+-- no step makes a raw block yet
+abbrev pub IsBuilt : Shape → Type 0
+IsBuilt (RawShape size tag) = ⊥
+IsBuilt _ = Unit {0}
+
 -- the block at an address lies in the heap, and its head and its label can be packed
 pub record Fits (k : Config) (a : ℕ) (p : Place) : Type 0 where
+  pub built : IsBuilt p.shape
   pub low : 1 ≤ a
   pub high : a + extent p.shape ≤ heap_words k + 1
-  pub head : IsPackableHead (head_of p.shape)
+  pub head : IsPackableHead (head_of None p.shape unmarked false)
   pub label : IsPackableLabel (p.label.domain, p.label.serial)
 
 -- how blocks lie: each fits, no two have one label, and no two share a word

@@ -38,18 +38,25 @@ pub record Area (k : Config) (live : Live) (x : DomainView) : Type 0 where
   pub free : (a : ℕ) (p : Place) → live a ≡ Some p → (a + extent p.shape ≤ base_of k x.own.number + x.own.used) ⊎ (base_of k x.own.number + k.minor_words ≤ a)
 
 -- the words that a domain has written of the block that it makes, behind the place of the head
-pub record Prepared (k : Config) (words : List ℕ) (x : DomainView) : Type 0 where
+pub record Making (k : Config) (words : List ℕ) (x : DomainView) : Type 0 where
   pub fits : (j w : ℕ) → slice_get x.seen.made j ≡ Some w → x.own.used + j + 1 < k.minor_words
   pub written : (j w : ℕ) → slice_get x.seen.made j ≡ Some w → at_address k words (base_of k x.own.number + x.own.used + 1 + j) ≡ w
 
+-- what there is besides the words: the history, which block lives where, how the pauses stand, and who has each pool
+pub record Account : Type 0 where
+  pub log : List Entry
+  pub live : Live
+  pub pause : Pause
+  pub tenancy : Tenancy
+
 -- all that the rule says of one domain
-pub record Good (k : Config) (log : List Entry) (live : Live) (p : Pause) (t : Tenancy) (words : List ℕ) (x : DomainView) : Type 0 where
-  pub stood : Stood live (state_of k log) x
-  pub area : Area k live x
-  pub prepared : Prepared k words x
-  pub staged : Staged p x
-  pub still : Still log x
-  pub hunter : Hunter k t words x
+pub record Good (k : Config) (all : Account) (words : List ℕ) (x : DomainView) : Type 0 where
+  pub stood : Stood all.live (state_of k all.log) x
+  pub area : Area k all.live x
+  pub making : Making k words x
+  pub staged : Staged all.pause x
+  pub still : Still all.log x
+  pub hunter : Hunter k all.tenancy words x
   pub resting : Resting x
 
 -- at the start no domain asks for a collection, none has arrived anywhere, and no trace has ended
@@ -65,28 +72,25 @@ pub record NoCycle (words : List ℕ) : Type 0 where
   pub colours_are : colours words ≡ 36
 
 -- all that the rule says of the history, the places and the words, whoever looks
-pub record Whole (k : Config) (log : List Entry) (live : Live) (p : Pause) (t : Tenancy) (words : List ℕ) : Type 0 where
+pub record Whole (k : Config) (all : Account) (words : List ℕ) : Type 0 where
   pub wide : length words ≡ table_words k
-  pub legal : Legal (sizes_in k) log
-  pub calm : IsCalm (state_of k log)
-  pub found : AllFound k live (state_of k log).graph words
-  pub placed : Placed k live
-  pub phases : Phases k p words
-  pub endings : CountsEnded k (state_of k log) words
-  pub pools : Pools k t words
-  pub grid : Grid k t.holder live words
-  pub drawers : Drawers p t
+  pub legal : Legal (sizes_in k) all.log
+  pub calm : IsCalm (state_of k all.log)
+  pub found : AllFound k all.live (state_of k all.log).graph words
+  pub placed : Placed k all.live
+  pub phases : Phases k all.pause words
+  pub endings : CountsEnded k (state_of k all.log) words
+  pub pools : Pools k all.tenancy words
+  pub grid : Grid k all.tenancy.holder all.live words
+  pub drawers : Drawers all.pause all.tenancy
   pub cycle : NoCycle words
 
--- the rule: there are a history, places of blocks, holders of pools and a seat for each domain of which all these parts hold
+-- the rule: there are an account and a seat for each domain of which all these parts hold
 pub record Rule (k : Config) (s : State (Unit {0}) View) : Type 0 where
-  pub log : List Entry
-  pub live : Live
-  pub pause : Pause
-  pub tenancy : Tenancy
+  pub account : Account
   pub seat : ℕ → ℕ
   pub limits : IsWithinLimits (sizes_in k)
-  pub whole : Whole k log live pause tenancy s.words
+  pub whole : Whole k account s.words
   pub seats : (d : ℕ) → seat d < length s.views
-  pub views : EachView (Knows k log seat) s.views
-  pub good : EachDomain (Good k log live pause tenancy s.words) s.views
+  pub views : EachView (Knows k account.log seat) s.views
+  pub good : EachDomain (Good k account s.words) s.views

@@ -10,6 +10,7 @@ use Rattle.heap_words.specs.declared.value.Value.TheVariants.{Ref, Nothing}
 use Rattle.heap_rule.specs.declared.change.Change.{Change}
 use Rattle.heap_rule.specs.declared.config.Config.{Config}
 use Rattle.heap_rule.specs.declared.view.DomainView.{DomainView}
+use Rattle.heap_rule.specs.declared.view.Own.{Own}
 use Rattle.heap_rule.specs.Limits.{sizes_in}
 use Rattle.heap_rule.specs.Layout.{heap_words}
 use Rattle.heap_rule.specs.declared.phase.Kind.TheVariants.{Run}
@@ -41,13 +42,16 @@ pub record FieldMay (k : Config) (x : DomainView) (at r i : ℕ) : Type 0 where
   pub known : HoldsPlain (state_of k x.seen.front) x.own.number r size
   pub inside : i < size
 
--- the changes leave the registers as they are
-abbrev pub LeavesRegisters : List Change → DomainView → Type 0
-LeavesRegisters changes x = changed Nothing changes x.own.registers ≡ x.own.registers
+-- the changes leave the token's own data as it is
+abbrev pub LeavesOwn : List Change → DomainView → Type 0
+LeavesOwn changes x = changed Nothing changes x.own ≡ x.own
 
--- the domain with another front, and with other registers
+-- the domain with another front, with other own data, and with other registers
 abbrev pub with_front : DomainView → List Entry → DomainView
 with_front x front = record x { seen = record x.seen { front = front } }
+
+abbrev pub with_own : DomainView → Own → DomainView
+with_own x own = record x { own = own }
 
 abbrev pub with_registers : DomainView → List Value → DomainView
 with_registers x registers = record x { own = record x.own { registers = registers } }
@@ -55,7 +59,7 @@ with_registers x registers = record x { own = record x.own { registers = registe
 -- The entry stands at the step: the front ends with it, and the changes were made with the value that was read
 pub record Entered (k : Config) (e : Entry) (answer : Applied) (read : Value) (changes : List Change) (x y : DomainView) : Type 0 where
   pub answers : Answers (sizes_in k) x.own.number x.seen.front y.seen.front e answer
-  pub view : y ≡ with_front (with_registers x (changed read changes x.own.registers)) y.seen.front
+  pub view : y ≡ with_front (with_own x (changed read changes x.own)) y.seen.front
   pub holds : Holds k y.own.registers
 
 -- No entry stands at the step: the front is the history so far

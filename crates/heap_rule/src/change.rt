@@ -4,6 +4,7 @@ ghost use Rattle.heap_words.specs.declared.value.Value as words;
 ghost use Rattle.heap_rule.specs.Changes.{FitChanges, changed};
 ghost use Rattle.heap_rule.specs.Reads.{Reads};
 
+use crate::view::Own;
 use heap_words::{Value, unpack_value};
 
 /// A list of the token. So far the registers are the only one that is there.
@@ -56,10 +57,10 @@ pub enum Change {
     Clear { part: Part },
 }
 
-/// Makes the changes of a step in the registers.
-pub fn make_changes(registers: &mut [Value; 16], read: Value, changes: &[Change])
+/// Makes the changes of a step at which this value was read.
+pub fn make_changes(own: &mut Own, read: Value, changes: &[Change])
     requires { FitChanges changes.now }
-    ensures { registers.new ≡ changed read changes.now registers.old }
+    ensures { own.new ≡ changed read changes.now own.old }
 {
     for change in changes {
         match *change {
@@ -67,11 +68,11 @@ pub fn make_changes(registers: &mut [Value; 16], read: Value, changes: &[Change]
                 part: Part::Register,
                 place,
                 item,
-            } => registers[place as usize] = item.value,
-            Change::Read { register } => registers[register as usize] = read,
+            } => own.registers[place as usize] = item.value,
+            Change::Read { register } => own.registers[register as usize] = read,
             Change::Clear {
                 part: Part::Register,
-            } => *registers = [Value::Nothing; 16],
+            } => own.registers = [Value::Nothing; 16],
             _ => unreachable!(),
         }
     }

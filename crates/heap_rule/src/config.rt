@@ -1,9 +1,10 @@
 //! How large a heap is, and why it can't be started.
-ghost use Rattle.std.specs.Prelude.{◌≡◌, ◌≤◌, ◌+◌, ◌*◌, ◌/◌};
-ghost use Rattle.heap_rule.specs.Limits.{first_outside};
+ghost use Rattle.std.specs.Prelude.{◌≡◌};
+ghost use Rattle.heap_rule.specs.Limits.{sizes_in, first_outside};
 ghost use Rattle.heap_rule.specs.declared.config.StartFault.TheVariants.{Memory};
 
-use size_classes::{CLASS_COUNT, reserve};
+use heap_model::state::Sizes;
+use size_classes::CLASS_COUNT;
 use std::alloc::{AllocError, AllocFailed};
 use thiserror::Error;
 
@@ -53,28 +54,24 @@ impl<T: Drop> From<AllocFailed<T>> for StartFault {
 const MOST_ROOM: u32 = 200_000;
 
 impl Config {
-    // The pools that must be there: the reserve of promotion, one for each class and domain
-    // besides, and one more.
-    fn least_pools(&self) -> u32
-        requires domains { (1 ≤ self.now.domains) × (self.now.domains ≤ 8) }
-        requires minor { (4096 ≤ self.now.minor_words) × (self.now.minor_words ≤ 65536) }
-        ensures { result ≡ self.now.domains * (self.now.minor_words / 4096 + 6) + 6 * self.now.domains + 1 }
+    /// The numbers that say which histories are legal.
+    pub fn sizes(&self) -> Sizes
+        ensures { result ≡ sizes_in self.now }
     {
-        reserve(self.domains, self.minor_words) + CLASS_COUNT as u32 * self.domains + 1
+        Sizes {
+            domains: self.domains,
+            pools: self.pools,
+            minor_words: self.minor_words,
+            classes: CLASS_COUNT as u32,
+        }
     }
 
     // The first field outside its limit, counted from 1.
     pub(crate) fn first_outside(&self) -> Option<u32>
         ensures { result ≡ first_outside self.now }
     {
-        if self.domains < 1 || self.domains > 8 {
-            return Some(1);
-        }
-        if self.minor_words < 4096 || self.minor_words > 65536 || self.minor_words % 4096 != 0 {
-            return Some(2);
-        }
-        if self.pools < self.least_pools() || self.pools > 2048 {
-            return Some(3);
+        if let Some(field) = self.sizes().first_outside() {
+            return Some(field);
         }
         if self.finals > MOST_ROOM {
             return Some(4);

@@ -3,7 +3,7 @@ ghost use Rattle.std.specs.Prelude.{◌≡◌, ◌≢◌, ℕ, ◌+◌, ◌*◌,
 ghost use Rattle.heap_model.specs.Domains.{IsWithinLimits};
 ghost use Rattle.heap_model.specs.Fronts.{PlainShape};
 ghost use Rattle.heap_rule.specs.Limits.{sizes_in};
-ghost use Rattle.heap_rule.specs.Places.{HeadIs};
+ghost use Rattle.heap_rule.specs.Places.{IsNewHead};
 ghost use Rattle.heap_rule.specs.Layout.{heap_words, before_heap, table_words};
 ghost use Rattle.heap_rule.specs.Opening.{IsOpening, Fills};
 
@@ -84,7 +84,7 @@ fn put_zeros(words: &mut [u64], from: usize, count: usize)
 
 // The head of the shared block.
 fn shared_head() -> u64
-    ensures { HeadIs (PlainShape 16 0) result }
+    ensures { IsNewHead (PlainShape 16 0) result }
 {
     pack_head(Head::Plain {
         size: SHARED_FIELDS,

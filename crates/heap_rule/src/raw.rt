@@ -118,7 +118,7 @@ pub trait Writing {
         ensures { writes self.now found changes.now own.old own.new };
 }
 
-/// The changes are made in the registers, with the value that the word is read as. The address is
+/// The changes are made, with the value that the word is read as. The address is
 /// there for the pick alone.
 #[derive(Clone, Copy)]
 pub struct Changing {
@@ -134,7 +134,7 @@ impl Writing for Changing {
     ghost writes = { λ s found changes own after. Changes s.reading found changes own after };
 
     fn write(&self, found: u64, changes: &[Change], own: &mut Own) {
-        make_changes(&mut own.registers, read_as(self.reading, found), changes);
+        make_changes(own, read_as(self.reading, found), changes);
     }
 }
 

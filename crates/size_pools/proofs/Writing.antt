@@ -23,7 +23,7 @@ use Rattle.heap_rule.specs.declared.view.Hunt.{Hunt}
 use Rattle.heap_rule.specs.declared.view.Hunt.TheVariants.{Fills}
 use Rattle.heap_rule.specs.Token.{next_label}
 use Rattle.heap_rule.specs.Limits.{sizes_in}
-use Rattle.heap_rule.specs.Places.{HeadIs}
+use Rattle.heap_rule.specs.Places.{IsNewHead}
 use Rattle.heap_rule.specs.Pools.{size_of, hunting_free}
 use Rattle.heap_rule.specs.Running.{Runs, Did, own_entry}
 use Rattle.heap_rule.specs.Standing.{Acts}
@@ -34,6 +34,7 @@ use Rattle.heap_rule.proofs.Classes.{slot_inside, size_is}
 use Rattle.size_pools.specs.Taken.{Hunted, IsBusy, Took, IsRoom, Grows, GrowsBy}
 use Rattle.size_classes.specs.Table.{IsLeastFor}
 use Rattle.size_classes.specs.declared.TheConstants.{SIZES}
+use Rattle.steps_pools.proofs.Plain.{major_rest}
 
 -- the block's words lie in the pools
 pub room_inside : (k : Config) (x : DomainView) (a n : ℕ) → IsRoom k x a n → (1 ≤ a) × (a + n + 1 ≤ k.pools * 4096)
@@ -47,7 +48,7 @@ room_inside k x a n r =
 
 pub major_may : (h : SharedHeap) (old : Token) (x : DomainView) (a new dst place tag n : ℕ) (runs : IsBusy h old) (r : IsRoom h.config old.view a n)
     → x ≡ with_hunt old.view (Fills r.pool r.class r.slot (label_word old.view.own.number (old.view.own.serial + 1) ∷ replicate n 1)) → place ≡ dst → dst < 16 → tag ≤ 245 → 1 ≤ n → n ≤ 126 → old.view.own.serial + 1 < 2 ^ 32
-    → HeadIs (PlainShape n tag) new → MajorMay h.config x a new (Set Register place (record { value = Ref a; number = 0; more = 0 }) ∷ []) old.view.own.number dst tag n
+    → IsNewHead (PlainShape n tag) new → MajorMay h.config x a new (Set Register place (record { value = Ref a; number = 0; more = 0 }) ∷ []) old.view.own.number dst tag n
 major_may h old x a new dst place tag n runs r is same few small some fits serial head =
     subst (λ (z : DomainView × ℕ). MajorMay h.config z.0 a new (Set Register z.1 (record { value = Ref a; number = 0; more = 0 }) ∷ []) old.view.own.number dst tag n) (λ i. (sym is i, sym same i)) record {
       pool = r.pool;
@@ -71,12 +72,12 @@ pub major_did : (h : SharedHeap) (old new : Token) (mid : DomainView) (e : Entry
     → mid ≡ with_hunt old.view hunt → MajorTold h.config e changes mid new.view → l ≡ next_label old.view → Did h old new (AllocMaj dst tag n) (Block l)
 major_did h old new mid e dst tag n l hunt changes is runs here view told label =
     let answers = subst (λ (x : DomainView). Answers (sizes_in h.config) x.own.number x.seen.front new.view.seen.front e (Replied (Block (next_label x)))) view told.answers in
-    let number : new.view.own.number ≡ old.view.own.number = ap (λ (x : DomainView). x.own.number) told.view ∙ ap (λ (x : DomainView). x.own.number) view in
-    acting_did h old new (AllocMaj dst tag n) (Block l) runs.here runs.acts here number (ap (λ (x : DomainView). x.seen.hunt) told.view) (ap (λ (x : DomainView). x.seen.made) told.view ∙ (ap (λ (x : DomainView). x.seen.made) view ∙ runs.idle))
+    let number : new.view.own.number ≡ old.view.own.number = ap (λ (x : DomainView). x.own.number) (major_rest _ _ _ _ _ told) ∙ ap (λ (x : DomainView). x.own.number) view in
+    acting_did h old new (AllocMaj dst tag n) (Block l) runs.here runs.acts here number (ap (λ (x : DomainView). x.seen.hunt) (major_rest _ _ _ _ _ told)) (ap (λ (x : DomainView). x.seen.made) (major_rest _ _ _ _ _ told) ∙ (ap (λ (x : DomainView). x.seen.made) view ∙ runs.idle))
     (record {
-      arrivals = ap (λ (x : DomainView). x.own.arrivals) told.view ∙ ap (λ (x : DomainView). x.own.arrivals) view;
-      stage = ap (λ (x : DomainView). x.seen.stage) told.view ∙ ap (λ (x : DomainView). x.seen.stage) view;
-      notes = ap (λ (x : DomainView). x.seen.notes) told.view ∙ ap (λ (x : DomainView). x.seen.notes) view;
+      arrivals = ap (λ (x : DomainView). x.own.arrivals) (major_rest _ _ _ _ _ told) ∙ ap (λ (x : DomainView). x.own.arrivals) view;
+      stage = ap (λ (x : DomainView). x.seen.stage) (major_rest _ _ _ _ _ told) ∙ ap (λ (x : DomainView). x.seen.stage) view;
+      notes = ap (λ (x : DomainView). x.seen.notes) (major_rest _ _ _ _ _ told) ∙ ap (λ (x : DomainView). x.seen.notes) view;
     })
     (subst (λ (x : Entry). Answers (sizes_in h.config) old.view.own.number old.view.seen.front new.view.seen.front x (Replied (Block l))) is
     (subst (λ (m : Label). Answers (sizes_in h.config) old.view.own.number old.view.seen.front new.view.seen.front e (Replied (Block m))) (sym label) answers))

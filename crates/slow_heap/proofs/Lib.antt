@@ -1,4 +1,3 @@
 pub mod CommandLemmas
-pub mod CutLemmas
 pub mod PlaceLemmas
 pub mod SoundLemmas

@@ -12,7 +12,7 @@ use Rattle.heap_model.specs.Entries.{next}
 use Rattle.heap_model.specs.WellFormed.{IsSound}
 use Rattle.heap_model.proofs.Histories.ShapeAfterLemmas.{shaped-next, shaped-opening}
 use Rattle.heap_model.proofs.Histories.WellFormedLemmas.{wf_next, wf_opening}
-use Rattle.slow_heap.proofs.CutLemmas.{keeps_outcome}
+use Rattle.heap_model.proofs.Commands.MoveLemmas.{keeps_outcome}
 
 pub sound_opening : (z : Sizes) → IsWithinLimits z → IsSound (opening z)
 sound_opening z limits = record { shaped = shaped-opening z limits; well_formed = wf_opening z }

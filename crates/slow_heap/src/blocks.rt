@@ -1,8 +1,8 @@
 //! Blocks: where they stand in the graph, and new ones.
-ghost use Rattle.std.specs.Prelude.{◌≡◌, ◌<◌, ◌≤◌, ◌-◌, ◌^◌, length, IfOk, OnOk, OnErr, MatchOption, None, replicate};
+ghost use Rattle.std.specs.Prelude.{◌≡◌, ◌<◌, ◌≤◌, ◌-◌, ◌^◌, length, IfOk, OnOk, OnErr, MatchOption, None, replicate, pos};
 ghost use Rattle.heap_model.specs.Graph.{node_at, IsPlaceOf};
 ghost use Rattle.heap_model.specs.Domains.{domain_at};
-ghost use Rattle.heap_model.specs.Commands.{block_in, IsPlaceInRegister, allocated, new_plain};
+ghost use Rattle.heap_model.specs.Commands.{block_in, IsPlaceInRegister, allocated, new_plain, new_raw};
 
 use crate::registers::{register, set_register};
 use heap_model::graph::{Node, Value};
@@ -39,11 +39,24 @@ pub(crate) fn block_place(state: &State, d: usize, r: u8) -> Option<usize>
 pub(crate) fn plain(alloc: Global, tag: u8, fields: u16) -> Result<Node, AllocError>
     ensures { IfOk result (λ n. n ≡ new_plain tag fields) }
 {
-    let fields = vec![in alloc; Value::Int(0); usize::from(fields)]?;
-    Ok(Node::Plain {
-        tag,
-        fields: Sequence::make(fields),
-    })
+    let fields = zeros(alloc, fields)?;
+    Ok(Node::Plain { tag, fields })
+}
+
+// A new raw block: each field is 0.
+pub(crate) fn raw(alloc: Global, tag: u8, fields: u16) -> Result<Node, AllocError>
+    ensures { IfOk result (λ n. n ≡ new_raw tag fields) }
+{
+    let fields = zeros(alloc, fields)?;
+    Ok(Node::Raw { tag, fields })
+}
+
+// As many fields, each 0.
+fn zeros(alloc: Global, count: u16) -> Result<Sequence<Value>, AllocError>
+    ensures { IfOk result (λ fields. fields ≡ replicate count (Value.Int (pos 0))) }
+{
+    let fields = vec![in alloc; Value::Int(0); usize::from(count)]?;
+    Ok(Sequence::make(fields))
 }
 
 // A new ephemeron: its keys and its data are empty.

@@ -208,7 +208,7 @@ fn has_keys_alive(graph: &Sequence<(Label, Node)>, live: &Vec<Label>, l: Label) 
         return true;
     };
     match &graph.items[i].1 {
-        Node::Plain { .. } => true,
+        Node::Plain { .. } | Node::Raw { .. } => true,
         Node::Ephe { keys, .. } => keys_alive(live, keys),
     }
 }

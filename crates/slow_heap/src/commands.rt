@@ -4,11 +4,11 @@ ghost use Rattle.heap_model.specs.Domains.{IsShaped, IsWithinLimits};
 ghost use Rattle.heap_model.specs.Commands.{FitsMode, is_allocation as allocates, CommandAllowed, after_command as command_made, outcome};
 ghost use Rattle.heap_model.specs.Entries.{command_next, command_reply, HasNextSerial};
 
-use crate::blocks::{add_block, ephemeron, plain};
+use crate::blocks::{add_block, ephemeron, plain, raw};
 use crate::ephemerons::{
     check_data, check_key, get_data, get_key, set_data, set_key, write_datum, write_key,
 };
-use crate::fields::{load, store};
+use crate::fields::{cas, load, store};
 use crate::finalisers::{finalise, finalise_last};
 use crate::registers::{put, register};
 use crate::roots::live;
@@ -59,18 +59,22 @@ fn is_command_allowed(state: &State, d: usize, c: &Command, full: bool) -> bool
     !domains.items[d].ended && fits_mode(state, d, c) && (!full || is_allocation(c))
 }
 
-// Whether the mode and the domain's queue allow a command.
+// Whether the mode and the domain's queue allow a command. The four that stand for several others are never allowed.
 fn fits_mode(state: &State, d: usize, c: &Command) -> bool
     requires { d < length state.now.domains }
     ensures { IsTrue result ↔ FitsMode state.now d c.now }
 {
     let domains = &state.domains;
     let domain = &domains.items[d];
-    if let Command::FullMajor = c {
-        return state.mode == Mode::Answer && domain.due == 0;
-    }
     let queue = &domain.queue;
-    state.mode == Mode::Open && queue.items.is_empty()
+    match c {
+        Command::FullMajor => state.mode == Mode::Answer && domain.due == 0,
+        Command::Spawn { .. }
+        | Command::Argument { .. }
+        | Command::PutResult { .. }
+        | Command::Join { .. } => false,
+        _ => state.mode == Mode::Open && queue.items.is_empty(),
+    }
 }
 
 // Whether a command allocates a block.
@@ -78,7 +82,10 @@ pub(crate) fn is_allocation(c: &Command) -> bool
     ensures { result ≡ allocates c.now }
 {
     match c {
-        Command::Alloc { .. } | Command::AllocMaj { .. } | Command::Ephe { .. } => true,
+        Command::Alloc { .. }
+        | Command::AllocMaj { .. }
+        | Command::Raw { .. }
+        | Command::Ephe { .. } => true,
         _ => false,
     }
 }
@@ -117,6 +124,16 @@ fn run(alloc: Global, state: &mut State, d: usize, c: &Command) -> Result<Reply,
         }
         Command::Load { dst, src, index } => Ok(load(state, d, dst, src, index)),
         Command::Store { block, index, item } => Ok(store(state, d, block, index, item)),
+        Command::Raw { dst, tag, fields } => {
+            let node = raw(alloc, tag, fields)?;
+            add_block(state, d, dst, node)
+        }
+        Command::Cas {
+            block,
+            index,
+            expected,
+            item,
+        } => Ok(cas(state, d, block, index, expected, item)),
         Command::Ephe { dst, keys } => {
             let node = ephemeron(alloc, keys)?;
             add_block(state, d, dst, node)
@@ -135,5 +152,9 @@ fn run(alloc: Global, state: &mut State, d: usize, c: &Command) -> Result<Reply,
         Command::FinaliseLast { item, number } => finalise_last(alloc, state, d, item, number),
         Command::Poll | Command::Minor | Command::Major => Ok(Reply::Done),
         Command::FullMajor => live(alloc, state),
+        Command::Spawn { .. }
+        | Command::Argument { .. }
+        | Command::PutResult { .. }
+        | Command::Join { .. } => Ok(Reply::Done),
     }
 }

@@ -1,6 +1,7 @@
 //! The commands on ephemerons.
 ghost use Rattle.std.specs.Prelude.{◌≡◌, ◌<◌, length, option_map};
 ghost use Rattle.heap_model.specs.Commands.{block_in, at_ephe, key_set, datum_set, outcome, tells as tells_reply};
+ghost use Rattle.slow_heap.specs.Writes.{key_reply, key_left, datum_reply, datum_left};
 
 use crate::blocks::block_place;
 use crate::registers::{read_into, register};
@@ -51,7 +52,15 @@ pub(crate) fn write_key(
     };
     let graph = &mut state.graph;
     let block = &mut graph.items[i];
-    match &mut block.1 {
+    write_key_in(&mut block.1, index, key)
+}
+
+// A key of a block is set or emptied, where it is an ephemeron.
+fn write_key_in(node: &mut Node, index: usize, key: Option<Label>) -> Reply
+    ensures reply { result ≡ key_reply node.old index }
+    ensures node { node.new ≡ key_left node.old index key }
+{
+    match node {
         Node::Ephe { keys, .. } => {
             if index < keys.items.len() {
                 keys.items[index] = key;
@@ -60,7 +69,7 @@ pub(crate) fn write_key(
                 Reply::BadIndex
             }
         }
-        Node::Plain { .. } => Reply::BadType,
+        Node::Plain { .. } | Node::Raw { .. } => Reply::BadType,
     }
 }
 
@@ -75,12 +84,20 @@ pub(crate) fn write_datum(state: &mut State, d: usize, ephe: u8, value: Value) -
     };
     let graph = &mut state.graph;
     let block = &mut graph.items[i];
-    match &mut block.1 {
+    write_datum_in(&mut block.1, value)
+}
+
+// The data of a block is set or emptied, where it is an ephemeron.
+fn write_datum_in(node: &mut Node, value: Value) -> Reply
+    ensures reply { result ≡ datum_reply node.old }
+    ensures node { node.new ≡ datum_left node.old value }
+{
+    match node {
         Node::Ephe { datum, .. } => {
             *datum = value;
             Reply::Done
         }
-        Node::Plain { .. } => Reply::BadType,
+        Node::Plain { .. } | Node::Raw { .. } => Reply::BadType,
     }
 }
 

@@ -238,7 +238,7 @@ fn holds(node: &Node, l: Label) -> bool
     ensures { result ≡ ephe_holds l (Some node.now) }
 {
     match node {
-        Node::Plain { .. } => false,
+        Node::Plain { .. } | Node::Raw { .. } => false,
         Node::Ephe { keys, datum } => has_key(keys, l) || is_label(label(*datum), l),
     }
 }

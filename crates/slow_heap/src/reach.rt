@@ -83,6 +83,7 @@ fn add_edges(live: &Vec<Label>, node: &Node, edges: &mut Vec<Label>) -> Result<(
 {
     match node {
         Node::Plain { fields, .. } => add_values(fields, edges)?,
+        Node::Raw { .. } => {}
         Node::Ephe { keys, datum } => {
             if keys_alive(live, keys) {
                 push_label(edges, label(*datum))?;
@@ -166,6 +167,7 @@ fn words_in(node: &Node) -> Option<u64>
 {
     match node {
         Node::Plain { fields, .. } => (fields.items.len() as u64).checked_add(2),
+        Node::Raw { fields, .. } => (fields.items.len() as u64).checked_add(2),
         Node::Ephe { keys, .. } => (keys.items.len() as u64).checked_add(3),
     }
 }

@@ -137,7 +137,7 @@ fn add_full_keys(node: &Node, labels: &mut Vec<Label>) -> Result<(), AllocError>
     ensures { OnOk result (labels.new.items ≡ labels.old.items ++ full_keys (Some node.now)) }
 {
     match node {
-        Node::Plain { .. } => Ok(()),
+        Node::Plain { .. } | Node::Raw { .. } => Ok(()),
         Node::Ephe { keys, .. } => add_keys(keys, labels),
     }
 }

@@ -48,39 +48,39 @@ fn is_wipe_allowed(state: &State, l: Label, places: &Places, live: &Vec<Label>) 
     state.mode == Mode::Sealed && is_rising(places) && are_gone(state, l, places, live)
 }
 
-// Whether the block with a label is an ephemeron, and these keys of it are full and dead.
+// Whether the block with a label is an ephemeron, and these keys of it are full and gone.
 fn are_gone(state: &State, l: Label, places: &Places, live: &Vec<Label>) -> bool
     ensures { result ≡ has_keys (λ k. not (has_label live.now.items k)) places.now (node_at state.now.graph l) }
 {
     let graph = &state.graph;
     match place_of(graph, l) {
         None => false,
-        Some(i) => has_dead_keys(&graph.items[i].1, places, live),
+        Some(i) => has_gone_keys(&graph.items[i].1, places, live),
     }
 }
 
-// Whether a block is an ephemeron, and these keys of it are full and dead.
-fn has_dead_keys(node: &Node, places: &Places, live: &Vec<Label>) -> bool
+// Whether a block is an ephemeron, and these keys of it are full and gone.
+fn has_gone_keys(node: &Node, places: &Places, live: &Vec<Label>) -> bool
     ensures { result ≡ has_keys (λ k. not (has_label live.now.items k)) places.now (Some node.now) }
 {
     match node {
-        Node::Plain { .. } => false,
-        Node::Ephe { keys, .. } => are_dead_keys(keys, places, live),
+        Node::Plain { .. } | Node::Raw { .. } => false,
+        Node::Ephe { keys, .. } => are_gone_keys(keys, places, live),
     }
 }
 
-// Whether these keys are full and dead.
-fn are_dead_keys(keys: &Sequence<Option<Label>>, places: &Places, live: &Vec<Label>) -> bool
+// Whether these keys are full and gone.
+fn are_gone_keys(keys: &Sequence<Option<Label>>, places: &Places, live: &Vec<Label>) -> bool
     ensures { result ≡ list_all (λ p. is_some_and (is_some_and (λ l. not (has_label live.now.items l))) (slice_get keys.now p)) places.now }
 {
     places
         .items
         .iter()
-        .all(|p| is_dead_key(keys, *p as usize, live))
+        .all(|p| is_gone_key(keys, *p as usize, live))
 }
 
-// Whether a key is full and dead.
-fn is_dead_key(keys: &Sequence<Option<Label>>, place: usize, live: &Vec<Label>) -> bool
+// Whether a key is full and gone.
+fn is_gone_key(keys: &Sequence<Option<Label>>, place: usize, live: &Vec<Label>) -> bool
     ensures { result ≡ is_some_and (is_some_and (λ l. not (has_label live.now.items l))) (slice_get keys.now place) }
 {
     match keys.items.get(place) {
@@ -124,7 +124,7 @@ fn add_wiped(node: &Node, places: &Places, labels: &mut Vec<Label>) -> Result<()
     ensures { OnOk result (labels.new.items ≡ labels.old.items ++ keys_at places.now (Some node.now)) }
 {
     match node {
-        Node::Plain { .. } => Ok(()),
+        Node::Plain { .. } | Node::Raw { .. } => Ok(()),
         Node::Ephe { keys, .. } => add_keys_at(keys, places, labels),
     }
 }

@@ -37,7 +37,7 @@ use Rattle.heap_rule.specs.declared.config.Config.{Config}
 use Rattle.heap_rule.specs.declared.view.DomainView.{DomainView}
 use Rattle.heap_rule.specs.Limits.{sizes_in}
 use Rattle.heap_rule.specs.Layout.{heap_words, before_heap, base_of, at_address, table_words}
-use Rattle.heap_rule.specs.Places.{Place, Live, extent, head_of, HeadIs, Stands, Found, Fits, Placed}
+use Rattle.heap_rule.specs.Places.{unmarked, IsHeadOf, Place, Live, extent, Stands, Found, Fits, Placed}
 use Rattle.heap_rule.specs.Changes.{value_at, changed, FitChanges}
 use Rattle.heap_rule.specs.Views.{one, Tells}
 use Rattle.heap_rule.specs.Raw.{MayStore}
@@ -47,10 +47,11 @@ use Rattle.heap_rule.proofs.Lots.{Beside, area_beside, grid_beside, hunter_besid
 use Rattle.steps_making.specs.Inits.{class_words, fields_of, WordMay, WordTold, AllocMay, AllocEntry, AllocTold}
 use Rattle.heap_rule.proofs.Lists.{got_end, got_below}
 use Rattle.heap_rule.proofs.Sizes.{area_below, area_inside}
+use Rattle.heap_rule.proofs.ChangeLemmas.{changed_only, registers_of}
 use Rattle.heap_rule.proofs.Values.{AllStand, stand_set, holds}
-use Rattle.heap_rule.proofs.Keeps.{Words, More, stands_more, mine, my_good, control_set, hunter_as, appends, writes, legal_entry}
+use Rattle.heap_rule.proofs.Keeps.{Words, More, stands_more, mine, my_good, control_set, controls_kept, hunter_as, appends, writes, legal_entry}
 use Rattle.heap_rule.proofs.Entering.{running, inside_state, registers_stand}
-use Rattle.heap_rule.proofs.Beside.{found_beside, prepared_beside, area_word_far}
+use Rattle.heap_rule.proofs.Beside.{found_beside, making_beside, area_word_far}
 use Rattle.heap_rule.proofs.Born.{zero_word, zero_values, all_more, live', born, more, old, is_new, placed_born}
 
 -- the blocks lie beside the free part of an area
@@ -81,7 +82,7 @@ inits k slots id word hist x a new changes place may s r _ at _ =
     let inside : base + minor ≤ heap_words k + 1 = area_inside k x.own.number (mine k s r id hist x at).inside in
     let wide : length s.words ≡ table_words k = r.whole.wide in
     let spot : before_heap k + a < length s.words = (let w : ℕ = heap_words k in let b : ℕ = before_heap k in let l : length s.words ≡ 1 + b + w = wide in let i : base + minor ≤ w + 1 = inside in omega arith) in
-    let beside : (d : ℕ) → Beside k r.tenancy s.words d a = area_beside k r.tenancy s.words a new r.whole.pools (let p : ℕ = x.own.number * minor in let e : k.pools * 4096 < a = omega arith in e) in
+    let beside : (d : ℕ) → Beside k r.account.tenancy s.words d a = area_beside k r.account.tenancy s.words a new r.whole.pools (let p : ℕ = x.own.number * minor in let e : k.pools * 4096 < a = omega arith in e) in
     let rule : Rule k record { words = ws; homes = s.homes; views = set s.views id (one k hist y) } = writes k s r id hist x at y ws record {
       number = refl;
       hunt = refl;
@@ -90,21 +91,21 @@ inits k slots id word hist x a new changes place may s r _ at _ =
       stage = refl;
       arrivals = refl;
       wide = length-set s.words (before_heap k + a) new;
-      control = control_set k s.words a new (omega arith);
-      found = λ b q lives. let f = r.whole.found b q lives in found_beside k r.live r.live (state_of k r.log).graph (state_of k r.log).graph s.words a new b q (λ c o h. h) f f.there (free_far k r.live x a g.area low high b q lives);
+      controls = controls_kept k s r id hist x at (set s.words (before_heap k + a) new) (control_set k s.words a new (omega arith));
+      found = λ b q lives. let f = r.whole.found b q lives in found_beside k r.account.live r.account.live (state_of k r.account.log).graph (state_of k r.account.log).graph s.words a new b q (λ c o h. h) f f.there (free_far k r.account.live x a g.area low high b q lives);
       stood = record { wide = g.stood.wide; each = g.stood.each; serial = g.stood.serial };
       area = record { room = g.area.room; free = g.area.free };
-      prepared = record {
-        fits = λ j w got. ⊎_elim (λ (t : slice_get x.seen.made j ≡ Some w). g.prepared.fits j w t) (λ (t : (j ≡ m) × (new ≡ w)). let f = t.0 in let o : used + j + 1 < minor = omega arith in o) (got_end x.seen.made new w j got);
+      making = record {
+        fits = λ j w got. ⊎_elim (λ (t : slice_get x.seen.made j ≡ Some w). g.making.fits j w t) (λ (t : (j ≡ m) × (new ≡ w)). let f = t.0 in let o : used + j + 1 < minor = omega arith in o) (got_end x.seen.made new w j got);
         written = λ j w got. ⊎_elim
-            (λ (t : slice_get x.seen.made j ≡ Some w). let below = got_below x.seen.made j w t in get_or-set_other s.words (before_heap k + a) (before_heap k + (base + used + 1 + j)) new 0 (λ e. omega arith) ∙ g.prepared.written j w t)
+            (λ (t : slice_get x.seen.made j ≡ Some w). let below = got_below x.seen.made j w t in get_or-set_other s.words (before_heap k + a) (before_heap k + (base + used + 1 + j)) new 0 (λ e. omega arith) ∙ g.making.written j w t)
             (λ (t : (j ≡ m) × (new ≡ w)). ap (λ (i : ℕ). get_or ws (before_heap k + i) 0) (ap (λ (i : ℕ). base + used + 1 + i) t.0 ∙ sym here) ∙ (get_or-set_same s.words (before_heap k + a) new 0 spot ∙ t.1))
             (got_end x.seen.made new w j got);
       };
-      prepares = λ z other _ p. prepared_beside k s.words a new z (area_word_far k x.own.number a z (let o : base ≤ a = omega arith in o) high other) p;
-      grid = grid_beside k r.tenancy s.words a new r.live r.live r.whole.pools beside (λ b q h. h) (λ b q h _. h) r.whole.grid;
-      hunter = hunter_as k r.tenancy ws x y refl refl refl refl (hunter_beside k r.tenancy s.words a new r.whole.pools x (beside x.own.number) g.hunter);
-      hunters = λ z _ g. hunter_beside k r.tenancy s.words a new r.whole.pools z (beside z.own.number) g.hunter;
+      makings = λ z other _ p. making_beside k s.words a new z (area_word_far k x.own.number a z (let o : base ≤ a = omega arith in o) high other) p;
+      grid = grid_beside k r.account.tenancy s.words a new r.account.live r.account.live r.whole.pools beside (λ b q h. h) (λ b q h _. h) r.whole.grid;
+      hunter = hunter_as k r.account.tenancy ws x y refl refl refl refl (hunter_beside k r.account.tenancy s.words a new r.whole.pools x (beside x.own.number) g.hunter);
+      hunters = λ z _ g. hunter_beside k r.account.tenancy s.words a new r.whole.pools z (beside z.own.number) g.hunter;
     } in (
       one k hist y,
       keeps,
@@ -126,7 +127,7 @@ module _ (k : Config) (s : Words) (r : Rule k s) (id : ℕ) (hist : List Entry) 
   d = x.own.number
 
   abbrev now : model.State
-  now = state_of k r.log
+  now = state_of k r.account.log
 
   abbrev A : ℕ
   A = next_address k x
@@ -140,7 +141,7 @@ module _ (k : Config) (s : Words) (r : Rule k s) (id : ℕ) (hist : List Entry) 
   abbrev e : Entry
   e = Command d (Alloc dst tag n) false
 
-  g : Good k r.log r.live r.pause r.tenancy s.words x
+  g : Good k r.account s.words x
   g = my_good k s r id hist x at
 
   in_class : n + 2 ≤ class_words (n + 2)
@@ -152,12 +153,12 @@ module _ (k : Config) (s : Words) (r : Rule k s) (id : ℕ) (hist : List Entry) 
   high : A + (n + 2) ≤ base_of k d + k.minor_words
   high = let c : ℕ = class_words (n + 2) in let f : n + 2 ≤ c = in_class in let o : x.own.used + c ≤ k.minor_words = may.room in let b : ℕ = base_of k d in omega arith
 
-  away : (b : ℕ) (q : Place) → r.live b ≡ Some q → (b + extent q.shape ≤ A) ⊎ (A + (n + 2) ≤ b)
+  away : (b : ℕ) (q : Place) → r.account.live b ≡ Some q → (b + extent q.shape ≤ A) ⊎ (A + (n + 2) ≤ b)
   away b q lives = let m : ℕ = extent q.shape in let base : ℕ = base_of k d in let h : A + (n + 2) ≤ base + k.minor_words = high in
       ⊎_elim (λ (t : b + m ≤ base + x.own.used). inl t) (λ (t : base + k.minor_words ≤ b). inr (let o : A + (n + 2) ≤ b = omega arith in o)) (g.area.free b q lives)
 
   abbrev live1 : Live
-  live1 = live' k r.live A born_place (omega arith) away r.whole.placed
+  live1 = live' k r.account.live A born_place (omega arith) away r.whole.placed
 
   abbrev grown : Graph
   grown = now.graph ++ (L, new_plain tag n) ∷ []
@@ -167,34 +168,35 @@ module _ (k : Config) (s : Words) (r : Rule k s) (id : ℕ) (hist : List Entry) 
 
   -- what stands behind the head
   made_at : (j w : ℕ) → slice_get (label_word d (x.own.serial + 1) ∷ replicate n zero_word) j ≡ Some w → at_address k s.words (A + 1 + j) ≡ w
-  made_at j w got = g.prepared.written j w (ap (λ (l : List ℕ). slice_get l j) may.made ∙ got)
+  made_at j w got = g.making.written j w (ap (λ (l : List ℕ). slice_get l j) may.made ∙ got)
 
   -- the label is the one that the entry gives
   label_is : L ≡ record { domain = d; serial = (domain_at now d).serial + 1 }
   label_is = ap (λ (m : ℕ). record { domain = d; serial = m + 1 }) g.stood.serial
 
   fresh : node_at now.graph L ≡ None
-  fresh = ap (node_at now.graph) label_is ∙ next_label_after (sizes_in k) r.log r.whole.legal d
+  fresh = ap (node_at now.graph) label_is ∙ next_label_after (sizes_in k) r.account.log r.whole.legal d
 
-  fresh_label : (b : ℕ) (q : Place) → r.live b ≡ Some q → q.label ≢ L
+  fresh_label : (b : ℕ) (q : Place) → r.account.live b ≡ Some q → q.label ≢ L
   fresh_label b q lives same = let f = r.whole.found b q lives in absurd (let clash : ◌≡◌ {A = Option Node} None (Some f.node) = sym fresh ∙ (ap (node_at now.graph) (sym same) ∙ f.there) in cc)
 
   fits_born : Fits k A born_place
   fits_born = record {
+    built = tt;
     low = let y : ℕ = d * k.minor_words in let z : ℕ = k.pools * 4096 in let o : 1 ≤ z + y + 1 + x.own.used = omega arith in o;
     high = let h = high in let i = inside in let b : ℕ = base_of k d in let w : ℕ = heap_words k in let p : b + k.minor_words ≤ w + 1 = i in let o : A + (n + 2) ≤ w + 1 = omega arith in o;
     head = (may.some_field, (let f = may.few_fields in omega arith), may.tag_fits, omega arith);
     label = ((let b = (mine k s r id hist x at).inside in let c = r.limits.domains in omega arith), may.serial);
   }
 
-  grows : More r.live live1
-  grows = more k r.live A born_place (omega arith) away r.whole.placed
+  grows : More r.account.live live1
+  grows = more k r.account.live A born_place (omega arith) away r.whole.placed
 
   lives_now : live1 A ≡ Some born_place
-  lives_now = born k r.live A born_place (omega arith) away r.whole.placed
+  lives_now = born k r.account.live A born_place (omega arith) away r.whole.placed
 
   placed1 : Placed k live1
-  placed1 = placed_born k r.live A born_place (omega arith) away r.whole.placed fits_born fresh_label
+  placed1 = placed_born k r.account.live A born_place (omega arith) away r.whole.placed fits_born fresh_label
 
   spot : before_heap k + A < length s.words
   spot = let h = high in let i = inside in let b : ℕ = base_of k d in let w : ℕ = heap_words k in let p : b + k.minor_words ≤ w + 1 = i in let c : ℕ = before_heap k in let l : length s.words ≡ 1 + c + w = r.whole.wide in omega arith
@@ -217,24 +219,24 @@ module _ (k : Config) (s : Words) (r : Rule k s) (id : ℕ) (hist : List Entry) 
 
   found1 : AllFound k live1 grown ws
   found1 b q lives = dite (ℕ_discrete b A)
-      (λ same. subst (λ (y : ℕ × Place). Found k live1 grown ws y.0 y.1) (λ i. (sym same i, is_new k r.live A born_place (omega arith) away r.whole.placed b q same lives i)) born_found)
+      (λ same. subst (λ (y : ℕ × Place). Found k live1 grown ws y.0 y.1) (λ i. (sym same i, is_new k r.account.live A born_place (omega arith) away r.whole.placed b q same lives i)) born_found)
       (λ other.
-      let before : r.live b ≡ Some q = old k r.live A born_place (omega arith) away r.whole.placed b q other lives in
+      let before : r.account.live b ≡ Some q = old k r.account.live A born_place (omega arith) away r.whole.placed b q other lives in
       let f = r.whole.found b q before in
-      found_beside k r.live live1 now.graph grown s.words A new b q grows f (node_at-append_old now.graph (L, new_plain tag n) q.label f.node f.there)
-      (free_far k r.live x A g.area (omega arith) (let h = high in let base : ℕ = base_of k d in omega arith) b q before))
+      found_beside k r.account.live live1 now.graph grown s.words A new b q grows f (node_at-append_old now.graph (L, new_plain tag n) q.label f.node f.there)
+      (free_far k r.account.live x A g.area (omega arith) (let h = high in let base : ℕ = base_of k d in omega arith) b q before))
 
   abbrev regs : List Value
-  regs = changed NothingWord changes x.own.registers
+  regs = (changed NothingWord changes x.own).registers
 
   abbrev after : DomainView
   after = record {
     own = record x.own { registers = regs; used = x.own.used + class_words (n + 2); serial = x.own.serial + 1 };
-    seen = record x.seen { front = r.log ++ e ∷ []; made = [] };
+    seen = record x.seen { front = r.account.log ++ e ∷ []; made = [] };
   }
 
-  beside : (m : ℕ) → Beside k r.tenancy s.words m A
-  beside = area_beside k r.tenancy s.words A new r.whole.pools (let p : ℕ = d * k.minor_words in let q : k.pools * 4096 < A = omega arith in q)
+  beside : (m : ℕ) → Beside k r.account.tenancy s.words m A
+  beside = area_beside k r.account.tenancy s.words A new r.whole.pools (let p : ℕ = d * k.minor_words in let q : k.pools * 4096 < A = omega arith in q)
 
   abbrev theirs : List graph_value.Value
   theirs = (domain_at now d).registers
@@ -244,8 +246,8 @@ module _ (k : Config) (s : Words) (r : Rule k s) (id : ℕ) (hist : List Entry) 
       (leaves_alloc now d (inside_state k s r id hist x at may.acts) dst tag n)
 
   stand1 : AllStand live1 regs (set theirs dst (Block L))
-  stand1 = subst (λ (l : List Value). AllStand live1 l (set theirs dst (Block L))) (sym may.written)
-      (stand_set live1 x.own.registers theirs dst (Ref a) (Block L) may.goes (born_place, ap live1 may.word ∙ lives_now, refl) (all_more r.live live1 x.own.registers theirs grows (registers_stand k s r id hist x at may.acts)))
+  stand1 = subst (λ (l : List Value). AllStand live1 l (set theirs dst (Block L))) (sym (ap registers_of may.written))
+      (stand_set live1 x.own.registers theirs dst (Ref a) (Block L) may.goes (born_place, ap live1 may.word ∙ lives_now, refl) (all_more r.account.live live1 x.own.registers theirs grows (registers_stand k s r id hist x at may.acts)))
 
   stood1 : Stood live1 (next now e) after
   stood1 = record {
@@ -258,25 +260,25 @@ module _ (k : Config) (s : Words) (r : Rule k s) (id : ℕ) (hist : List Entry) 
   area1 = record {
     room = may.room;
     free = λ b q lives. dite (ℕ_discrete b A)
-        (λ same. let size : n + 2 ≡ extent q.shape = ap (λ (z : Place). extent z.shape) (is_new k r.live A born_place (omega arith) away r.whole.placed b q same lives) in
+        (λ same. let size : n + 2 ≡ extent q.shape = ap (λ (z : Place). extent z.shape) (is_new k r.account.live A born_place (omega arith) away r.whole.placed b q same lives) in
         let m : ℕ = extent q.shape in let c : ℕ = class_words (n + 2) in let f : n + 2 ≤ c = in_class in let base : ℕ = base_of k d in let z : n + 2 ≡ m = size in
         inl (let o : b + m ≤ base + (x.own.used + c) = omega arith in o))
         (λ other. let m : ℕ = extent q.shape in let c : ℕ = class_words (n + 2) in let base : ℕ = base_of k d in
         ⊎_elim (λ (t : b + m ≤ base + x.own.used). inl (let o : b + m ≤ base + (x.own.used + c) = omega arith in o)) (λ (t : base + k.minor_words ≤ b). inr t)
-        (g.area.free b q (old k r.live A born_place (omega arith) away r.whole.placed b q other lives)));
+        (g.area.free b q (old k r.account.live A born_place (omega arith) away r.whole.placed b q other lives)));
   }
 
-  areas1 : (z : DomainView) → z.own.number ≢ d → Area k r.live z → Area k live1 z
+  areas1 : (z : DomainView) → z.own.number ≢ d → Area k r.account.live z → Area k live1 z
   areas1 z differs has = record {
     room = has.room;
     free = λ b q lives. dite (ℕ_discrete b A)
-        (λ same. let size : n + 2 ≡ extent q.shape = ap (λ (y : Place). extent y.shape) (is_new k r.live A born_place (omega arith) away r.whole.placed b q same lives) in
+        (λ same. let size : n + 2 ≡ extent q.shape = ap (λ (y : Place). extent y.shape) (is_new k r.account.live A born_place (omega arith) away r.whole.placed b q same lives) in
         let m : ℕ = extent q.shape in let h = high in let mine_base : ℕ = base_of k d in let base : ℕ = base_of k z.own.number in let i : ℕ = z.own.number in let minor : ℕ = k.minor_words in let o : n + 2 ≡ m = size in
         let top : A + (n + 2) ≤ mine_base + minor = h in
         dite (dec_le d i)
         (λ le. inl (let f : mine_base + minor ≤ base = area_below k d i (let c : d ≤ i = le in let y : i ≢ d = differs in omega arith) in let y : b + m ≤ base + z.own.used = omega arith in y))
         (λ gt. inr (let f : base + minor ≤ mine_base = area_below k i d (lt_of_not-le gt) in let y : base + minor ≤ b = omega arith in y)))
-        (λ other. has.free b q (old k r.live A born_place (omega arith) away r.whole.placed b q other lives));
+        (λ other. has.free b q (old k r.account.live A born_place (omega arith) away r.whole.placed b q other lives));
   }
 
   alloc_rule : Rule k record { words = ws; homes = s.homes; views = set s.views id (one k hist after) }
@@ -291,26 +293,29 @@ module _ (k : Config) (s : Words) (r : Rule k s) (id : ℕ) (hist : List Entry) 
     front = refl;
     arrivals = refl;
     wide = length-set s.words (before_heap k + A) new;
-    control = control_set k s.words A new (fits_born.low);
+    controls = controls_kept k s r id hist x at ws (control_set k s.words A new (fits_born.low));
     found = subst (λ (z : Graph). AllFound k live1 z ws) (sym leaves.graph_is) found1;
     placed = placed1;
     more = grows;
     stood = stood1;
     area = area1;
-    prepared = record { fits = λ j w got. cc; written = λ j w got. cc };
+    making = record { fits = λ j w got. cc; written = λ j w got. cc };
     areas = areas1;
-    prepares = λ z other _ p. prepared_beside k s.words A new z (area_word_far k d A z (omega arith) (let h = high in let base : ℕ = base_of k d in omega arith) other) p;
-    grid = grid_beside k r.tenancy s.words A new r.live live1 r.whole.pools beside grows
-        (λ b q lives low. old k r.live A born_place (omega arith) away r.whole.placed b q (λ same. let p : ℕ = d * k.minor_words in let l : b ≤ k.pools * 4096 = low in let h : b ≡ A = same in omega arith) lives) r.whole.grid;
-    hunter = hunter_as k r.tenancy ws x after refl refl refl refl (hunter_beside k r.tenancy s.words A new r.whole.pools x (beside d) g.hunter);
-    hunters = λ z _ g. hunter_beside k r.tenancy s.words A new r.whole.pools z (beside z.own.number) g.hunter;
+    makings = λ z other _ p. making_beside k s.words A new z (area_word_far k d A z (omega arith) (let h = high in let base : ℕ = base_of k d in omega arith) other) p;
+    grid = grid_beside k r.account.tenancy s.words A new r.account.live live1 r.whole.pools beside grows
+        (λ b q lives low. old k r.account.live A born_place (omega arith) away r.whole.placed b q (λ same. let p : ℕ = d * k.minor_words in let l : b ≤ k.pools * 4096 = low in let h : b ≡ A = same in omega arith) lives) r.whole.grid;
+    hunter = hunter_as k r.account.tenancy ws x after refl refl refl refl (hunter_beside k r.account.tenancy s.words A new r.whole.pools x (beside d) g.hunter);
+    hunters = λ z _ g. hunter_beside k r.account.tenancy s.words A new r.whole.pools z (beside z.own.number) g.hunter;
   }
 
   alloc_told : AllocTold k e changes x after
   alloc_told = record {
-    answers = answers_push (sizes_in k) d r.log x.seen.front e (Replied (BlockReply L)) (mine k s r id hist x at).front
+    answers = answers_push (sizes_in k) d r.account.log x.seen.front e (Replied (BlockReply L)) (mine k s r id hist x at).front
         (legal_entry k s r id hist x at e record { running = running k s r id hist x at may.acts; fits = (r.whole.calm.mode, r.whole.calm.queues d); full_fits = tt }) leaves.replies;
-    view = refl;
+    view = λ i. record {
+      own = record (sym (changed_only NothingWord changes x.own) i) { used = x.own.used + class_words (n + 2); serial = x.own.serial + 1 };
+      seen = after.seen;
+    };
     holds = holds k r.limits live1 placed1 (next now e) after stood1;
   }
 
@@ -338,13 +343,12 @@ alloc_fits k x a new changes _ may = absurd may
 -- what the store of a head asks of its numbers
 pub record AllocFacts (k : Config) (x : DomainView) (new : ℕ) (e : Entry) : Type 0 where
   pub tag : ℕ
-  pub packable : IsPackableHead (head_of (PlainShape (fields_of e) tag))
-  pub head : HeadIs (PlainShape (fields_of e) tag) new
+  pub head : IsHeadOf (PlainShape (fields_of e) tag) new
   pub few : fields_of e ≤ 126
   pub room : x.own.used + class_words (fields_of e + 2) ≤ k.minor_words
   pub serial : x.own.serial + 1 < 2 ^ 32
 
 pub alloc_facts : (k : Config) (x : DomainView) (a new : ℕ) (changes : List Change) (e : Entry) → AllocEntry k x a new changes e → AllocFacts k x new e
 alloc_facts k x a new changes (Command j (Alloc dst tag n) false) may =
-    record { tag = tag; packable = (may.some_field, (let f = may.few_fields in omega arith), may.tag_fits, omega arith); head = may.head; few = may.few_fields; room = may.room; serial = may.serial }
+    record { tag = tag; head = record { colour = unmarked; scanned = false; packable = (may.some_field, (let f = may.few_fields in omega arith), may.tag_fits, omega arith); packs = may.head }; few = may.few_fields; room = may.room; serial = may.serial }
 alloc_facts k x a new changes _ may = absurd may

@@ -16,9 +16,9 @@ use Rattle.heap_rule.specs.declared.config.Config.{Config}
 use Rattle.heap_rule.specs.declared.view.DomainView.{DomainView}
 use Rattle.heap_rule.specs.declared.view.Own.{Own}
 use Rattle.heap_rule.specs.Limits.{sizes_in}
-use Rattle.heap_rule.specs.Places.{HeadIs}
+use Rattle.heap_rule.specs.Places.{IsNewHead}
 use Rattle.heap_rule.specs.Changes.{changed, FitChanges}
-use Rattle.heap_rule.specs.Standing.{Acts, LeavesRegisters}
+use Rattle.heap_rule.specs.Standing.{Acts, LeavesOwn}
 use Rattle.heap_rule.specs.Token.{Holds, next_address, next_label}
 
 -- the words of the least class that has room for so many
@@ -39,7 +39,7 @@ plain_size _ = 0
 pub record WordMay (k : Config) (x : DomainView) (at : ℕ) (changes : List Change) : Type 0 where
   pub word : at ≡ next_address k x + 1 + length x.seen.made
   pub room : x.own.used + length x.seen.made + 1 < k.minor_words
-  pub same : LeavesRegisters changes x
+  pub same : LeavesOwn changes x
   pub fits : FitChanges changes
 
 -- the word was written behind the others
@@ -54,12 +54,12 @@ pub record AllocMay (k : Config) (x : DomainView) (at new : ℕ) (changes : List
   pub tag_fits : tag < 256
   pub some_field : 1 ≤ fields
   pub few_fields : fields ≤ 126
-  pub head : HeadIs (PlainShape fields tag) new
+  pub head : IsNewHead (PlainShape fields tag) new
   pub made : x.seen.made ≡ label_word x.own.number (x.own.serial + 1) ∷ replicate fields 1
   pub room : x.own.used + class_words (fields + 2) ≤ k.minor_words
   pub serial : x.own.serial + 1 < 2 ^ 32
   pub goes : dst < 16
-  pub written : changed Nothing changes x.own.registers ≡ slice_set x.own.registers dst (Ref at)
+  pub written : changed Nothing changes x.own ≡ record x.own { registers = slice_set x.own.registers dst (Ref at) }
   pub fits : FitChanges changes
 
 -- the same of the entry that is told, an own allocation
@@ -76,7 +76,7 @@ fields_of _ = 0
 pub record AllocTold (k : Config) (e : Entry) (changes : List Change) (x y : DomainView) : Type 0 where
   pub answers : Answers (sizes_in k) x.own.number x.seen.front y.seen.front e (Replied (Block (next_label x)))
   pub view : y ≡ record {
-    own = record x.own { registers = changed Nothing changes x.own.registers; used = x.own.used + class_words (fields_of e + 2); serial = x.own.serial + 1 };
+    own = record (changed Nothing changes x.own) { used = x.own.used + class_words (fields_of e + 2); serial = x.own.serial + 1 };
     seen = record x.seen { front = y.seen.front; made = [] };
   }
   pub holds : Holds k y.own.registers
@@ -97,4 +97,4 @@ CanCount words changes own = FitChanges changes × (own.used + words < 2 ^ 32) �
 
 -- and they are, after the changes
 abbrev pub Counts : ℕ → List Change → Own → Own → Type 0
-Counts words changes own after = after ≡ record own { registers = changed Nothing changes own.registers; used = own.used + words; serial = own.serial + 1 }
+Counts words changes own after = after ≡ record (changed Nothing changes own) { used = own.used + words; serial = own.serial + 1 }

@@ -4,7 +4,7 @@ ghost use Rattle.heap_model.specs.declared.entry.Entry.{Entry};
 ghost use Rattle.heap_model.specs.Fronts.{PlainShape};
 ghost use Rattle.heap_words.specs.Heads.{IsPackableHead};
 ghost use Rattle.steps_making.specs.Inits.{plain_size, class_words, fields_of, WordMay, WordTold, AllocEntry, AllocTold, InitMay, InitTold};
-ghost use Rattle.heap_rule.specs.Places.{head_of, HeadIs};
+ghost use Rattle.heap_rule.specs.Places.{IsHeadOf};
 ghost use Rattle.heap_rule.specs.Standing.{IsInHeap};
 ghost use Rattle.heap_rule.specs.Token.{IsIn};
 
@@ -38,8 +38,8 @@ fn plain_size(head: Head) -> u16
 
 // The number of fields in the head word of a plain block.
 fn size_in(word: u64) -> u16
-    requires { (size : ℕ) × (tag : ℕ) × IsPackableHead (head_of (PlainShape size tag)) × HeadIs (PlainShape size tag) word }
-    ensures { (size tag : ℕ) → IsPackableHead (head_of (PlainShape size tag)) → HeadIs (PlainShape size tag) word → result ≡ size }
+    requires { (size : ℕ) × (tag : ℕ) × IsHeadOf (PlainShape size tag) word }
+    ensures { (size tag : ℕ) → IsHeadOf (PlainShape size tag) word → result ≡ size }
 {
     let Some(head) = unpack_head(word) else {
         unreachable!()
@@ -78,9 +78,11 @@ impl Writing for Counting {
     ghost writes = { λ s found changes own after. Counts s.words changes own after };
 
     fn write(&self, _found: u64, changes: &[Change], own: &mut Own) {
-        make_changes(&mut own.registers, Value::Nothing, changes);
-        own.used += self.words;
-        own.serial += 1;
+        let used = own.used + self.words;
+        let serial = own.serial + 1;
+        make_changes(own, Value::Nothing, changes);
+        own.used = used;
+        own.serial = serial;
     }
 }
 

@@ -30,7 +30,7 @@ use Rattle.heap_rule.specs.Standing.{Acts}
 use Rattle.heap_rule.specs.Views.{one, Tells}
 use Rattle.heap_rule.proofs.Values.{AllStand}
 use Rattle.heap_rule.proofs.Keeps.{mine, my_good, remakes, knows_entry, after_entry, legal_entry, phases_words, stood_other, nobody_paused, run_still, staged_as, hunter_as}
-use Rattle.heap_rule.proofs.Controls.{Untouched, found_untouched, prepared_untouched, pools_untouched, grid_untouched, hunter_untouched, cycle_untouched, sum_one}
+use Rattle.heap_rule.proofs.Controls.{Untouched, found_untouched, making_untouched, pools_untouched, grid_untouched, hunter_untouched, cycle_untouched, sum_one}
 use Rattle.heap_rule.proofs.Entering.{running, inside_state, registers_stand, Enters, entered_view, stood_after, enters}
 use Rattle.steps_pauses.proofs.PauseSteps.{over_few}
 
@@ -39,8 +39,8 @@ ends : (k : Config) (slots id : ℕ) (hist : List Entry) (x : DomainView) → Ac
 ends k slots id hist x acts s r _ at _ =
     let d : ℕ = x.own.number in
     let e : Entry = End d in
-    let now : model.State = state_of k r.log in
-    let log' : List Entry = r.log ++ e ∷ [] in
+    let now : model.State = state_of k r.account.log in
+    let log' : List Entry = r.account.log ++ e ∷ [] in
     let g = my_good k s r id hist x at in
     let me = mine k s r id hist x at in
     let w : ℕ = ended_word s.words in
@@ -55,7 +55,7 @@ ends k slots id hist x acts s r _ at _ =
       allowed = record { mode = r.whole.calm.mode; running = goes; queue = r.whole.calm.queues d };
       calm = calm_end now d r.whole.calm;
       theirs = replicate (length theirs) Nothing;
-      stand = nothings r.live (length theirs) stand.long;
+      stand = nothings r.account.live (length theirs) stand.long;
       leaves = leaves_end now d inside;
     } in
     let y : DomainView = entered_view k s r id hist x at acts e regs in
@@ -69,38 +69,38 @@ ends k slots id hist x acts s r _ at _ =
     let others_over : (j : ℕ) → j ≢ d → is_over (next now e) j ≡ is_over now j = (λ j other. ap flag (keeps_next now e j (o.alone j other)).ended) in
     let counts : ended_word ws ≡ sum_of (is_over (state_of k log')) k.domains =
     word' ∙ (ap (λ (n : ℕ). n + 1) r.whole.endings ∙ (sym (sum_one (is_over now) (is_over (next now e)) d k.domains me.inside own_over others_over) ∙ sym (ap (λ (t : model.State). sum_of (is_over t) k.domains) after))) in
-    let prep = prepared_untouched k s.words ws x untouched g.prepared in
-    let rule : Rule k record { words = ws; homes = s.homes; views = set s.views id (one k hist y) } = remakes k s r id hist x at y log' ws r.live r.pause r.tenancy
+    let prep = making_untouched k s.words ws x untouched g.making in
+    let rule : Rule k record { words = ws; homes = s.homes; views = set s.views id (one k hist y) } = remakes k s r id hist x at y (record r.account { log = log' }) ws
     record {
       wide = untouched.0 ∙ r.whole.wide;
       legal = legal_entry k s r id hist x at e o.allowed;
       calm = subst IsCalm (sym after) o.calm;
-      found = subst (λ (t : model.State). AllFound k r.live t.graph ws) (sym after) (subst (λ (graph : Graph). AllFound k r.live graph ws) (sym o.leaves.graph_is) (found_untouched k r.live now.graph s.words ws untouched r.whole.found));
+      found = subst (λ (t : model.State). AllFound k r.account.live t.graph ws) (sym after) (subst (λ (graph : Graph). AllFound k r.account.live graph ws) (sym o.leaves.graph_is) (found_untouched k r.account.live now.graph s.words ws untouched r.whole.found));
       placed = r.whole.placed;
-      phases = phases_words k r.pause s.words ws (get_or-set_other s.words 8 1 (w + 1) 0 (λ q. omega arith)) (get_or-set_other s.words 8 2 (w + 1) 0 (λ q. omega arith)) r.whole.phases;
+      phases = phases_words k r.account.pause s.words ws (get_or-set_other s.words 8 1 (w + 1) 0 (λ q. omega arith)) (get_or-set_other s.words 8 2 (w + 1) 0 (λ q. omega arith)) r.whole.phases;
       endings = counts;
-      pools = pools_untouched k r.tenancy s.words ws untouched r.whole.pools;
-      grid = grid_untouched k r.tenancy.holder r.live s.words ws untouched r.whole.grid;
+      pools = pools_untouched k r.account.tenancy s.words ws untouched r.whole.pools;
+      grid = grid_untouched k r.account.tenancy.holder r.account.live s.words ws untouched r.whole.grid;
       drawers = r.whole.drawers;
       cycle = cycle_untouched s.words ws untouched r.whole.cycle;
     }
     (knows_entry k s r id hist x at y e o.alone refl refl)
     record {
-      stood = subst (λ (t : model.State). Stood r.live t y) (sym after) (stood_after k s r id hist x at acts now.graph e regs Silent y refl refl refl o);
+      stood = subst (λ (t : model.State). Stood r.account.live t y) (sym after) (stood_after k s r id hist x at acts now.graph e regs Silent y refl refl refl o);
       area = record { room = g.area.room; free = g.area.free };
-      prepared = record { fits = prep.fits; written = prep.written };
-      staged = staged_as r.pause x y refl refl refl g.staged;
+      making = record { fits = prep.fits; written = prep.written };
+      staged = staged_as r.account.pause x y refl refl refl g.staged;
       still = run_still log' y acts.runs;
-      hunter = hunter_as k r.tenancy ws x y refl refl refl refl (hunter_untouched k r.tenancy s.words ws x untouched g.hunter);
+      hunter = hunter_as k r.account.tenancy ws x y refl refl refl refl (hunter_untouched k r.account.tenancy s.words ws x untouched g.hunter);
       resting = λ n. absurd (n acts.runs);
     }
     (λ z _ other h. record {
-      stood = subst (λ (t : model.State). Stood r.live t z) (sym after) (stood_other r.live r.live now (next now e) z (keeps_next now e z.own.number (o.alone z.own.number other)) (λ a p q. q) h.stood);
+      stood = subst (λ (t : model.State). Stood r.account.live t z) (sym after) (stood_other r.account.live r.account.live now (next now e) z (keeps_next now e z.own.number (o.alone z.own.number other)) (λ a p q. q) h.stood);
       area = h.area;
-      prepared = prepared_untouched k s.words ws z untouched h.prepared;
+      making = making_untouched k s.words ws z untouched h.making;
       staged = h.staged;
-      still = λ paused. absurd (nobody_paused r.pause x z acts.runs g.staged h.staged paused);
-      hunter = hunter_untouched k r.tenancy s.words ws z untouched h.hunter;
+      still = λ paused. absurd (nobody_paused r.account.pause x z acts.runs g.staged h.staged paused);
+      hunter = hunter_untouched k r.account.tenancy s.words ws z untouched h.hunter;
       resting = h.resting;
     }) in (
       one k hist y,

@@ -108,7 +108,7 @@ arrives k slots id hist x may s r _ at _ =
     let some : 0 < N = r.limits.some_domain in
     let b : ℕ = barrier s.words in
     let P = r.whole.phases in
-    let t : Pause = r.pause in
+    let t : Pause = r.account.pause in
     let ph : ℕ = t.phase in
     let st = (my_good k s r id hist x at).staged in
     let here : x.own.arrivals ≡ t.phase = acting t d x.own.arrivals x.seen.stage may.from st.stage in
@@ -136,7 +136,7 @@ arrives k slots id hist x may s r _ at _ =
     let untouched : Untouched s.words ws = (length-set s.words 1 (b + 1), (λ i low other. get_or-set_other s.words 1 i (b + 1) 0 (λ e. omega arith))) in
     let endings : ended_word ws ≡ ended_word s.words = get_or-set_other s.words 1 8 (b + 1) 0 (λ e. omega arith) in
     let through : (t' : Pause) → Phases k t' ws → Staged t' y → ((z : DomainView) → z.own.number < N → z.own.number ≢ d → Staged t z → Staged t' z)
-    → Drawers t' r.tenancy → Rule k record { words = ws; homes = s.homes; views = set s.views id (one k hist y) } =
+    → Drawers t' r.account.tenancy → Rule k record { words = ws; homes = s.homes; views = set s.views id (one k hist y) } =
     (λ t' phases own_stage stages drawers. turns k s r id hist x at (x.own.arrivals + 1) x.seen.front (Gone (kind_in x.seen.stage)) x.seen.notes t' ws record {
       untouched = untouched;
       front = me.front;
@@ -148,7 +148,7 @@ arrives k slots id hist x may s r _ at _ =
       drawers = drawers;
       others = stages;
     }) in
-    let mine_undrawn : (q : ℕ) → r.tenancy.holder q ≡ drawn d → ⊥ = (λ q h. none_some q (sym (ap drawn_in may.at_rest) ∙ (my_good k s r id hist x at).hunter.drawn_alone q h)) in
+    let mine_undrawn : (q : ℕ) → r.account.tenancy.holder q ≡ drawn d → ⊥ = (λ q h. none_some q (sym (ap drawn_in may.at_rest) ∙ (my_good k s r id hist x at).hunter.drawn_alone q h)) in
     let rule : Rule k record { words = ws; homes = s.homes; views = set s.views id (one k hist y) } = dite (dec_le ((ph + 1) * N) (b + 1))
     (λ full.
     let m : ℕ = (ph + 1) * N in
@@ -210,7 +210,7 @@ looked_at k id hist x gone s r at =
     let N : ℕ = k.domains in
     let b : ℕ = barrier s.words in
     let P = r.whole.phases in
-    let t : Pause = r.pause in
+    let t : Pause = r.account.pause in
     let st = (my_good k s r id hist x at).staged in
     let me = mine k s r id hist x at in
     let a : ℕ = x.own.arrivals in
@@ -224,10 +224,10 @@ looked_at k id hist x gone s r at =
     (λ not_above. let z : a < t.phase + 1 = lt_of_not-le not_above in omega arith) in
     let through : (stage : Stage) → AtStage t x.own.number a stage → ((kind : Kind) × (((stage ≡ In kind) × IsEven a) ⊎ ((stage ≡ Leads (kind_in x.seen.stage)) × IsOdd a))) → Looks k s id hist x =
     (λ stage at' says. record {
-      after = moved_to x a r.log stage notes;
-      rule = turns k s r id hist x at a r.log stage notes t s.words record {
+      after = moved_to x a r.account.log stage notes;
+      rule = turns k s r id hist x at a r.account.log stage notes t s.words record {
         untouched = untouched_same s.words;
-        front = front_whole x.own.number r.log;
+        front = front_whole x.own.number r.account.log;
         phases = P;
         endings = refl;
         staged = record { arrivals = st.arrivals; stage = at' };
@@ -263,7 +263,7 @@ plans k slots id hist x s r _ at _ =
       keeps,
       tt,
       unmoved k s 2 (set s.views id (one k hist x)) (notes_rule k s r id hist x at x.seen.notes s.words (untouched_same s.words) refl refl refl),
-      (record { view = refl; told = λ kind is. let f = (subst (AtStage r.pause x.own.number x.own.arrivals) is st.stage).1 in r.whole.phases.even_plan f.0 f.1 ∙ ap code f.2 }, refl),
+      (record { view = refl; told = λ kind is. let f = (subst (AtStage r.account.pause x.own.number x.own.arrivals) is st.stage).1 in r.whole.phases.even_plan f.0 f.1 ∙ ap code f.2 }, refl),
     )
 
 -- a step that writes the want word
@@ -285,7 +285,7 @@ leads : (k : Config) (slots id : ℕ) (hist : List Entry) (x : DomainView) (new 
     → Allows (Rule k) slots id (one k hist x, []) 2 (λ _. new) (λ _. Tells (LeadTold next) (one k hist x, []) new)
 leads k slots id hist x new next may s r _ at _ =
     let P = r.whole.phases in
-    let t : Pause = r.pause in
+    let t : Pause = r.account.pause in
     let g = my_good k s r id hist x at in
     let ws : List ℕ = set s.words 2 new in
     let y : DomainView = moved_to x x.own.arrivals x.seen.front (Led next) x.seen.notes in
@@ -331,9 +331,9 @@ leads k slots id hist x new next may s r _ at _ =
 -- at most all traces have ended
 pub over_few : (k : Config) (s : Words) → Rule k s → ended_word s.words ≤ k.domains
 over_few k s r =
-    let all : sum_of (is_over (state_of k r.log)) k.domains ≤ k.domains * 1 = sum_low (is_over (state_of k r.log)) k.domains 1 (λ d below. one_at_most _) in
+    let all : sum_of (is_over (state_of k r.account.log)) k.domains ≤ k.domains * 1 = sum_low (is_over (state_of k r.account.log)) k.domains 1 (λ d below. one_at_most _) in
     let e = r.whole.endings in
-    let x : ℕ = sum_of (is_over (state_of k r.log)) k.domains in let h : x ≤ k.domains * 1 = all in let f : ended_word s.words ≡ x = e in omega arith
+    let x : ℕ = sum_of (is_over (state_of k r.account.log)) k.domains in let h : x ≤ k.domains * 1 = all in let f : ended_word s.words ≡ x = e in omega arith
   where
     one_at_most : (b : _) → Rattle.heap_rule.specs.Phases.flag b ≤ 1
     one_at_most true = omega arith

@@ -1,5 +1,5 @@
 -- What the steps of a pause tell of a token's own data.
-use Rattle.std.proofs.Common.{◌≡◌, ◌+◌, ◌*◌, ◌^◌, ◌<◌, lit<, ℕ, refl, sym, ap, ◌∙◌, subst, arith, lt_of_not-le}
+use Rattle.std.proofs.Common.{◌≡◌, ◌+◌, ◌*◌, ◌^◌, ◌<◌, lit<, ℕ, refl, sym, ap, ◌∙◌, subst, arith, lt_of_not-le, inl}
 use mathlib.Core.Logic.{dite}
 use native.Mathlib.Decide.{dec_le}
 use Rattle.heap_model.specs.declared.entry.Entry.TheVariants.{End}
@@ -14,12 +14,20 @@ use Rattle.heap_rule.specs.Raw.{CanChange, Changes, Closes}
 use Rattle.heap_rule.specs.Token.{OwnFits}
 use Rattle.heap_rule.proofs.Plain.{entered_closes}
 use Rattle.steps_pauses.specs.Pauses.{ArriveMay, Arrived, LookTold, CanArrive, CountsArrival, EndTold, end_changes}
+use Rattle.heap_rule.proofs.Closes.{front_same}
+use Rattle.heap_model.specs.Fronts.{IsFrontOf}
 
 -- a look at the barrier leaves the token's own data
 pub look_own : (k : Config) (x : DomainView) (found : ℕ) (y : DomainView) → LookTold k x found y → y.own ≡ x.own
 look_own k x found y told = dite (dec_le (x.own.arrivals * k.domains) found)
     (λ past. ap (λ (z : DomainView). z.own) (told.begun past).view)
     (λ not_past. ap (λ (z : DomainView). z.own) (told.waits (lt_of_not-le not_past)))
+
+-- and finds the front as it was, or entries of others behind it
+pub look_front : (k : Config) (x : DomainView) (found : ℕ) (y : DomainView) → LookTold k x found y → IsFrontOf x.own.number y.seen.front x.seen.front
+look_front k x found y told = dite (dec_le (x.own.arrivals * k.domains) found)
+    (λ past. (told.begun past).seen)
+    (λ not_past. front_same x y (ap (λ (z : DomainView). z.seen.front) (told.waits (lt_of_not-le not_past))))
 
 -- an arrival is counted
 pub arrived_closes : (k : Config) (x : DomainView) (found : ℕ) → ArriveMay x → Closes k x found Arrived CanArrive CountsArrival
@@ -30,6 +38,7 @@ arrived_closes k x found may y fits told =
       can_write = let g : n + 1 < 2 ^ 64 = omega arith in g;
       written = λ after is. own ∙ sym is;
       fits = subst (OwnFits k) (sym own) record { number = fits.number; used = fits.used; registers = fits.registers; looked = fits.looked };
+      once = λ _. inl (record { front = front_same x y (ap (λ (z : DomainView). z.seen.front) told); registers = ap (λ (o : Own). o.registers) own; used = ap (λ (o : Own). o.used) own; serial = ap (λ (o : Own). o.serial) own });
     }
 
 -- the end of a trace empties the registers

@@ -22,7 +22,7 @@ use Rattle.steps_pools.specs.Takes.{with_hunt, found_free, HasNoDraw}
 use Rattle.heap_rule.proofs.Update.{over, over_here, over_else}
 use Rattle.heap_rule.proofs.Keeps.{Words, mine, my_good, phases_words, holds_again}
 use Rattle.heap_rule.proofs.Lots.{drawn_same}
-use Rattle.heap_rule.proofs.Holders.{Agrees, agrees_same, agrees_set, found_agrees, prepared_agrees, same_asking, same_over, NotOf, nobody_not, drawn_not, drawn_owned, grid_over, free_later, hunter_agree, sum_over, sum_small}
+use Rattle.heap_rule.proofs.Holders.{Agrees, agrees_same, agrees_set, found_agrees, making_agrees, same_asking, same_over, NotOf, nobody_not, drawn_not, drawn_owned, grid_over, free_later, hunter_agree, sum_over, sum_small}
 
 pub some_none : (q : ℕ) → ◌≡◌ {A = Option ℕ} None (Some q) → ⊥
 some_none q e = cc
@@ -44,7 +44,7 @@ module _ (k : Config) (s : Words) (r : Rule k s) (id : ℕ) (hist : List Entry) 
   me = x.own.number
 
   abbrev pub t : Tenancy
-  t = r.tenancy
+  t = r.account.tenancy
 
   pub hunter : Hunter k t s.words x
   hunter = (my_good k s r id hist x at).hunter
@@ -68,7 +68,7 @@ module _ (k : Config) (s : Words) (r : Rule k s) (id : ℕ) (hist : List Entry) 
     pools = pools;
     grid = r.whole.grid;
     drawers = r.whole.drawers;
-    prepares = λ z p. p;
+    makings = λ z p. p;
     hunter = own;
     hunters = λ z _ g. g.hunter;
   }
@@ -89,7 +89,7 @@ module _ (k : Config) (s : Words) (r : Rule k s) (id : ℕ) (hist : List Entry) 
     pools = pools;
     grid = r.whole.grid;
     drawers = r.whole.drawers;
-    prepares = λ z p. p;
+    makings = λ z p. p;
     hunter = record {
       hunt = tt;
       drawn_alone = λ q e. sym (ap drawn_in is) ∙ hunter.drawn_alone q e;
@@ -136,7 +136,7 @@ module _ (k : Config) (s : Words) (r : Rule k s) (id : ℕ) (hist : List Entry) 
         };
         grid = r.whole.grid;
         drawers = r.whole.drawers;
-        prepares = λ z p. p;
+        makings = λ z p. p;
         hunter = record { hunt = (counts, over_here me 1 t.asking); free = λ f e. below_free n f counts below (some_nat (n - cursor s.words) f e); drawn_alone = λ q e. sym (ap drawn_in is) ∙ hunter.drawn_alone q e; taken = hunter.taken };
         hunters = λ z other g. hunter_agree k t record { holder = t.holder; asking = over me 1 t.asking } s.words s.words (agrees_same k s.words) z (let c : ℕ = cursor s.words in let o : c ≤ c = omega arith in o) (same_asking t (over me 1 t.asking) z.own.number (over_else me 1 t.asking z.own.number other)) g.hunter;
       }
@@ -193,8 +193,8 @@ module _ (k : Config) (s : Words) (r : Rule k s) (id : ℕ) (hist : List Entry) 
     other_word : (j : ℕ) → j ≢ 7 → get_or words1 j 0 ≡ get_or s.words j 0
     other_word j differ = get_or-set_other s.words 7 j (c + 1) 0 differ
 
-    phases1 : Phases k r.pause words1
-    phases1 = phases_words k r.pause s.words words1 (other_word 1 (λ e. omega arith)) (other_word 2 (λ e. omega arith)) r.whole.phases
+    phases1 : Phases k r.account.pause words1
+    phases1 = phases_words k r.account.pause s.words words1 (other_word 1 (λ e. omega arith)) (other_word 2 (λ e. omega arith)) r.whole.phases
 
     cycle1 : NoCycle words1
     cycle1 = let p = r.whole.cycle in record { armed_is = other_word 4 (λ e. omega arith) ∙ p.armed_is; colours_are = other_word 5 (λ e. omega arith) ∙ p.colours_are }
@@ -210,7 +210,7 @@ module _ (k : Config) (s : Words) (r : Rule k s) (id : ℕ) (hist : List Entry) 
       phases = phases1;
       endings = other_word 8 (λ e. omega arith);
       cycle = cycle1;
-      found = found_agrees k r.live (state_of k r.log).graph s.words words1 agrees r.whole.placed r.whole.found;
+      found = found_agrees k r.account.live (state_of k r.account.log).graph s.words words1 agrees r.whole.placed r.whole.found;
       pools = record {
         few = subst (λ (m : ℕ). m ≤ k.pools) (sym agrees.count) pools.few;
         inside = λ i h. subst (λ (q : ℕ). q < k.pools) (sym (names i h)) (pools.inside i (lower i h));
@@ -223,8 +223,8 @@ module _ (k : Config) (s : Words) (r : Rule k s) (id : ℕ) (hist : List Entry) 
         asked = subst (λ (m : ℕ). m + sum_of asking' k.domains ≤ k.pools + k.domains) (sym cursor_is) sums;
       };
       drawers = r.whole.drawers;
-      grid = record { lots = r.whole.grid.lots; places = λ q d c slot is inside. ⊎_elim (λ (z : at_address k s.words (place_in q c slot) ≡ 0). inl (agrees.heap (place_in q c slot) (omega arith) ∙ z)) (λ (z : (p : Place) × (r.live (place_in q c slot) ≡ Some p)). inr z) (r.whole.grid.places q d c slot is inside) };
-      prepares = λ z p. prepared_agrees k s.words words1 z agrees p;
+      grid = record { lots = r.whole.grid.lots; places = λ q d c slot is inside. ⊎_elim (λ (z : at_address k s.words (place_in q c slot) ≡ 0). inl (agrees.heap (place_in q c slot) (omega arith) ∙ z)) (λ (z : (p : Place) × (r.account.live (place_in q c slot) ≡ Some p)). inr z) (r.whole.grid.places q d c slot is inside) };
+      makings = λ z p. making_agrees k s.words words1 z agrees p;
       hunter = record { hunt = tt; free = λ f e. late_free f (some_nat (n - limit_of k n) f e); drawn_alone = λ q e. sym (ap drawn_in is) ∙ hunter.drawn_alone q e; taken = λ q c slot is inside low e. hunter.taken q c slot is inside low (sym (agrees.heap (place_in q c slot) (omega arith)) ∙ e) };
       hunters = λ z other g. hunter_agree k t record { holder = t.holder; asking = asking' } s.words words1 agrees z cursor_grows (same_asking t asking' z.own.number (over_else me 0 t.asking z.own.number other)) g.hunter;
     } where
@@ -299,12 +299,12 @@ module _ (k : Config) (s : Words) (r : Rule k s) (id : ℕ) (hist : List Entry) 
       nothing_drawn q e = some_none q (sym (ap drawn_in is) ∙ hunter.drawn_alone q e)
 
       abbrev RunsNow : ℕ → Type 0
-      RunsNow n = (r.pause.arrived n ≡ r.pause.phase) × ((j : ℕ) × (r.pause.phase ≡ j * 2) × (r.pause.kinds j ≡ Run))
+      RunsNow n = (r.account.pause.arrived n ≡ r.account.pause.phase) × ((j : ℕ) × (r.account.pause.phase ≡ j * 2) × (r.account.pause.kinds j ≡ Run))
 
       own_runs : RunsNow me
       own_runs =
           let st = (my_good k s r id hist x at).staged in
-          let a = subst (AtStage r.pause me x.own.arrivals) runs st.stage in (sym st.arrivals ∙ a.0, a.1)
+          let a = subst (AtStage r.account.pause me x.own.arrivals) runs st.stage in (sym st.arrivals ∙ a.0, a.1)
 
       pub draws_rule : Rule k record { words = words1; homes = s.homes; views = set s.views id (one k hist (with_hunt x (Draws c pool class 0))) }
       draws_rule = holds_again k s r id hist x at x.own.looked (Draws c pool class 0) x.seen.free words1 t1 record {
@@ -313,13 +313,13 @@ module _ (k : Config) (s : Words) (r : Rule k s) (id : ℕ) (hist : List Entry) 
         phases = phases1;
         endings = other_word 8 (λ e. omega arith);
         cycle = cycle1;
-        found = found_agrees k r.live (state_of k r.log).graph s.words words1 agrees r.whole.placed r.whole.found;
+        found = found_agrees k r.account.live (state_of k r.account.log).graph s.words words1 agrees r.whole.placed r.whole.found;
         pools = pools1;
         drawers = λ q e h. dite (ℕ_discrete q pool)
             (λ same. subst RunsNow (drawn_same me e (sym (over_here pool (drawn me) t.holder) ∙ (ap t1.holder (sym same) ∙ h))) own_runs)
             (λ other. r.whole.drawers q e (sym (else1 q other) ∙ h));
-        grid = grid_over t pool (drawn me) asking' k r.live s.words words1 agrees (λ d b e. (nobody_not d).not_owned b (sym was ∙ e)) (λ d b slot e inside. absurd (drawn_owned me d b e)) r.whole.grid;
-        prepares = λ z p. prepared_agrees k s.words words1 z agrees p;
+        grid = grid_over t pool (drawn me) asking' k r.account.live s.words words1 agrees (λ d b e. (nobody_not d).not_owned b (sym was ∙ e)) (λ d b slot e inside. absurd (drawn_owned me d b e)) r.whole.grid;
+        makings = λ z p. making_agrees k s.words words1 z agrees p;
         hunter = record {
           hunt = record { inside = pool_inside; listed_is = place_inside; names = agrees.list c place_inside; drawn_is = over_here pool (drawn me) t.holder; of_class = few; some = (let b : ℕ = blocks_of class in let o : 0 ≤ b = omega arith in o); free = λ j h. absurd (omega arith) };
           free = λ f e. free_later k s.words words1 agrees.count cursor_grows f (hunter.free f e);

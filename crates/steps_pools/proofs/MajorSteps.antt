@@ -41,14 +41,15 @@ use Rattle.heap_rule.specs.Places.{Place, Live, extent, Found, Fits, Placed, Sta
 use Rattle.heap_rule.specs.Changes.{value_at, changed, FitChanges}
 use Rattle.heap_rule.specs.Views.{one, Tells}
 use Rattle.heap_rule.specs.Raw.{MayStore}
-use Rattle.heap_rule.specs.Rule.{state_of, AllFound, Stood, Area, Prepared, Good, Rule}
+use Rattle.heap_rule.specs.Rule.{state_of, AllFound, Stood, Area, Making, Good, Rule}
 use Rattle.heap_rule.specs.Pools.{Grid, Lot, Hunter, Filling, drawn_in, place_in, size_of}
 use Rattle.heap_rule.specs.Token.{next_label}
 use Rattle.steps_pools.specs.Takes.{MajorMay, MajorEntry, MajorTold}
+use Rattle.heap_rule.proofs.ChangeLemmas.{changed_only, registers_of}
 use Rattle.heap_rule.proofs.Values.{AllStand, stand_set, holds}
-use Rattle.heap_rule.proofs.Keeps.{Words, More, mine, my_good, control_set, appends, legal_entry}
+use Rattle.heap_rule.proofs.Keeps.{Words, More, mine, my_good, control_set, controls_kept, appends, legal_entry}
 use Rattle.heap_rule.proofs.Entering.{running, inside_state, registers_stand}
-use Rattle.heap_rule.proofs.Beside.{found_beside, prepared_beside}
+use Rattle.heap_rule.proofs.Beside.{found_beside, making_beside}
 use Rattle.heap_rule.proofs.Born.{zero_word, zero_values, all_more, live', born, more, old, is_new, placed_born}
 use Rattle.heap_rule.proofs.Lots.{hunter_beside, stays, head_some}
 use Rattle.heap_rule.proofs.Holders.{free_later}
@@ -74,7 +75,7 @@ module _ (k : Config) (s : Words) (r : Rule k s) (id : ℕ) (hist : List Entry) 
   d = x.own.number
 
   abbrev now : model.State
-  now = state_of k r.log
+  now = state_of k r.account.log
 
   abbrev A : ℕ
   A = place_in pool class slot
@@ -91,10 +92,10 @@ module _ (k : Config) (s : Words) (r : Rule k s) (id : ℕ) (hist : List Entry) 
   abbrev words_made : List ℕ
   words_made = label_word d (x.own.serial + 1) ∷ replicate n zero_word
 
-  g : Good k r.log r.live r.pause r.tenancy s.words x
+  g : Good k r.account s.words x
   g = my_good k s r id hist x at
 
-  F : Filling k r.tenancy.holder s.words d pool class slot words_made
+  F : Filling k r.account.tenancy.holder s.words d pool class slot words_made
   F = filling k s r id hist x at may.acts.runs pool class slot new words_made may.hunt
 
   made_long : length words_made ≡ n + 1
@@ -118,12 +119,12 @@ module _ (k : Config) (s : Words) (r : Rule k s) (id : ℕ) (hist : List Entry) 
   in_pools : A + (n + 2) ≤ k.pools * 4096 + 1
   in_pools = let h = high in let p = pool_in in let b : ℕ = A in let t : b + (n + 2) ≤ pool * 4096 + 4096 + 1 = h in let o : b + (n + 2) ≤ k.pools * 4096 + 1 = omega arith in o
 
-  away : (b : ℕ) (q : Place) → r.live b ≡ Some q → (b + extent q.shape ≤ A) ⊎ (A + (n + 2) ≤ b)
+  away : (b : ℕ) (q : Place) → r.account.live b ≡ Some q → (b + extent q.shape ≤ A) ⊎ (A + (n + 2) ≤ b)
   away b q lives = let m : ℕ = extent q.shape in let y : ℕ = size_of class in let c : n + 2 ≤ y = in_class in let p : ℕ = A in
       ⊎_elim (λ (t : b + m ≤ p). inl t) (λ (t : p + y ≤ b). inr (let o : p + (n + 2) ≤ b = omega arith in o)) (live_far k s r id hist x at may.acts.runs pool class slot new words_made may.hunt b q lives)
 
   abbrev live1 : Live
-  live1 = live' k r.live A born_place (omega arith) away r.whole.placed
+  live1 = live' k r.account.live A born_place (omega arith) away r.whole.placed
 
   abbrev grown : Graph
   grown = now.graph ++ (L, new_plain tag n) ∷ []
@@ -138,33 +139,34 @@ module _ (k : Config) (s : Words) (r : Rule k s) (id : ℕ) (hist : List Entry) 
   label_is = ap (λ (m : ℕ). record { domain = d; serial = m + 1 }) g.stood.serial
 
   fresh : node_at now.graph L ≡ None
-  fresh = ap (node_at now.graph) label_is ∙ next_label_after (sizes_in k) r.log r.whole.legal d
+  fresh = ap (node_at now.graph) label_is ∙ next_label_after (sizes_in k) r.account.log r.whole.legal d
 
-  fresh_label : (b : ℕ) (q : Place) → r.live b ≡ Some q → q.label ≢ L
+  fresh_label : (b : ℕ) (q : Place) → r.account.live b ≡ Some q → q.label ≢ L
   fresh_label b q lives same = let f = r.whole.found b q lives in absurd (let clash : ◌≡◌ {A = Option Node} None (Some f.node) = sym fresh ∙ (ap (node_at now.graph) (sym same) ∙ f.there) in cc)
 
   fits_born : Fits k A born_place
   fits_born = record {
+    built = tt;
     low = omega arith;
     high = let h = in_pools in let b : ℕ = A in let t : b + (n + 2) ≤ k.pools * 4096 + 1 = h in let w : ℕ = k.domains * k.minor_words in let o : b + (n + 2) ≤ k.pools * 4096 + w + 1 = omega arith in o;
     head = (may.some_field, (let f = may.few_fields in omega arith), may.tag_fits, omega arith);
     label = ((let b = (mine k s r id hist x at).inside in let c = r.limits.domains in omega arith), may.serial);
   }
 
-  grows : More r.live live1
-  grows = more k r.live A born_place (omega arith) away r.whole.placed
+  grows : More r.account.live live1
+  grows = more k r.account.live A born_place (omega arith) away r.whole.placed
 
   lives_now : live1 A ≡ Some born_place
-  lives_now = born k r.live A born_place (omega arith) away r.whole.placed
+  lives_now = born k r.account.live A born_place (omega arith) away r.whole.placed
 
-  before : (b : ℕ) (q : Place) → b ≢ A → live1 b ≡ Some q → r.live b ≡ Some q
-  before b q other lives = old k r.live A born_place (omega arith) away r.whole.placed b q other lives
+  before : (b : ℕ) (q : Place) → b ≢ A → live1 b ≡ Some q → r.account.live b ≡ Some q
+  before b q other lives = old k r.account.live A born_place (omega arith) away r.whole.placed b q other lives
 
   is_born : (b : ℕ) (q : Place) → b ≡ A → live1 b ≡ Some q → born_place ≡ q
-  is_born b q same lives = is_new k r.live A born_place (omega arith) away r.whole.placed b q same lives
+  is_born b q same lives = is_new k r.account.live A born_place (omega arith) away r.whole.placed b q same lives
 
   placed1 : Placed k live1
-  placed1 = placed_born k r.live A born_place (omega arith) away r.whole.placed fits_born fresh_label
+  placed1 = placed_born k r.account.live A born_place (omega arith) away r.whole.placed fits_born fresh_label
 
   spot : before_heap k + A < length s.words
   spot = let h = in_pools in let b : ℕ = A in let t : b + (n + 2) ≤ k.pools * 4096 + 1 = h in let w : ℕ = k.domains * k.minor_words in let wide : length s.words ≡ table_words k = r.whole.wide in let o : before_heap k + b < length s.words = omega arith in o
@@ -175,18 +177,18 @@ module _ (k : Config) (s : Words) (r : Rule k s) (id : ℕ) (hist : List Entry) 
     there = node_at-append_new now.graph L (new_plain tag n) fresh;
     shape = ap (λ (m : ℕ). PlainShape m tag) (length-replicate n (Int (pos 0)));
     head = get_or-set_same s.words (before_heap k + A) new 0 spot ∙ may.head;
-    label = stays k r.tenancy s.words A new (A + 1) (λ o. omega arith)
+    label = stays k r.account.tenancy s.words A new (A + 1) (λ o. omega arith)
         ∙ (ap (at_address k s.words) (let o : A + 1 ≡ A + 1 + 0 = omega arith in o) ∙ made_at 0 (label_word d (x.own.serial + 1)) refl);
     values = λ i v got. let t = zero_values n i v got in record {
       value = IntWord (pos 0);
-      packs = stays k r.tenancy s.words A new (A + 2 + i) (λ o. omega arith)
+      packs = stays k r.account.tenancy s.words A new (A + 2 + i) (λ o. omega arith)
           ∙ (ap (at_address k s.words) (let o : A + 2 + i ≡ A + 1 + suc i = omega arith in o) ∙ made_at (suc i) zero_word t.1);
       stands = subst (Stands live1 (IntWord (pos 0))) (sym t.0) (refl, (omega (arith, ints), omega (arith, ints)));
     };
   }
 
   -- a word of a live block isn't the head
-  far : (b : ℕ) (q : Place) → r.live b ≡ Some q → (z : ℕ) → z < extent q.shape → b + z ≢ A
+  far : (b : ℕ) (q : Place) → r.account.live b ≡ Some q → (z : ℕ) → z < extent q.shape → b + z ≢ A
   far b q lives z inside same = let m : ℕ = extent q.shape in let p : ℕ = A in let i : z < m = inside in let o : b + z ≡ p = same in
       ⊎_elim (λ (t : b + m ≤ p). omega arith) (λ (t : p + (n + 2) ≤ b). omega arith) (away b q lives)
 
@@ -195,15 +197,15 @@ module _ (k : Config) (s : Words) (r : Rule k s) (id : ℕ) (hist : List Entry) 
       (λ same. subst (λ (y : ℕ × Place). Found k live1 grown ws y.0 y.1) (λ i. (sym same i, is_born b q same lives i)) born_found)
       (λ other.
       let f = r.whole.found b q (before b q other lives) in
-      found_beside k r.live live1 now.graph grown s.words A new b q grows f (node_at-append_old now.graph (L, new_plain tag n) q.label f.node f.there) (far b q (before b q other lives)))
+      found_beside k r.account.live live1 now.graph grown s.words A new b q grows f (node_at-append_old now.graph (L, new_plain tag n) q.label f.node f.there) (far b q (before b q other lives)))
 
   abbrev regs : List Value
-  regs = changed NothingWord changes x.own.registers
+  regs = (changed NothingWord changes x.own).registers
 
   abbrev after : DomainView
   after = record {
     own = record x.own { registers = regs; serial = x.own.serial + 1 };
-    seen = record x.seen { front = r.log ++ e ∷ []; hunt = Rests };
+    seen = record x.seen { front = r.account.log ++ e ∷ []; hunt = Rests };
   }
 
   abbrev theirs : List graph_value.Value
@@ -214,8 +216,8 @@ module _ (k : Config) (s : Words) (r : Rule k s) (id : ℕ) (hist : List Entry) 
       (leaves_major now d (inside_state k s r id hist x at may.acts) dst tag n)
 
   stand1 : AllStand live1 regs (set theirs dst (Block L))
-  stand1 = subst (λ (l : List Value). AllStand live1 l (set theirs dst (Block L))) (sym may.written)
-      (stand_set live1 x.own.registers theirs dst (Ref a) (Block L) may.goes (born_place, ap live1 may.word ∙ lives_now, refl) (all_more r.live live1 x.own.registers theirs grows (registers_stand k s r id hist x at may.acts)))
+  stand1 = subst (λ (l : List Value). AllStand live1 l (set theirs dst (Block L))) (sym (ap registers_of may.written))
+      (stand_set live1 x.own.registers theirs dst (Ref a) (Block L) may.goes (born_place, ap live1 may.word ∙ lives_now, refl) (all_more r.account.live live1 x.own.registers theirs grows (registers_stand k s r id hist x at may.acts)))
 
   stood1 : Stood live1 (next now e) after
   stood1 = record {
@@ -225,7 +227,7 @@ module _ (k : Config) (s : Words) (r : Rule k s) (id : ℕ) (hist : List Entry) 
   }
 
   -- the block lies below every minor area
-  areas1 : (z : DomainView) → Area k r.live z → Area k live1 z
+  areas1 : (z : DomainView) → Area k r.account.live z → Area k live1 z
   areas1 z has = record {
     room = has.room;
     free = λ b q lives. dite (ℕ_discrete b A)
@@ -236,19 +238,19 @@ module _ (k : Config) (s : Words) (r : Rule k s) (id : ℕ) (hist : List Entry) 
   }
 
   -- the block's place in its pool
-  lot_of : Lot r.tenancy.holder A born_place
+  lot_of : Lot r.account.tenancy.holder A born_place
   lot_of = record { pool = pool; domain = d; class = class; slot = slot; owned_is = F.own_is; inside = F.inside; begins = refl; fits = in_class }
 
-  grid1 : Grid k r.tenancy.holder live1 ws
+  grid1 : Grid k r.account.tenancy.holder live1 ws
   grid1 = record {
     lots = λ b q lives under. dite (ℕ_discrete b A)
-        (λ same. subst (λ (y : ℕ × Place). Lot r.tenancy.holder y.0 y.1) (λ i. (sym same i, is_born b q same lives i)) lot_of)
+        (λ same. subst (λ (y : ℕ × Place). Lot r.account.tenancy.holder y.0 y.1) (λ i. (sym same i, is_born b q same lives i)) lot_of)
         (λ other. r.whole.grid.lots b q (before b q other lives) under);
     places = λ q m c i owned_is below. dite (ℕ_discrete (place_in q c i) A)
         (λ same. inr (born_place, ap live1 same ∙ lives_now))
         (λ other. ⊎_elim
-        (λ (z : at_address k s.words (place_in q c i) ≡ 0). inl (stays k r.tenancy s.words A new (place_in q c i) other ∙ z))
-        (λ (z : (p : Place) × (r.live (place_in q c i) ≡ Some p)). inr (z.0, grows (place_in q c i) z.0 z.1)) (r.whole.grid.places q m c i owned_is below));
+        (λ (z : at_address k s.words (place_in q c i) ≡ 0). inl (stays k r.account.tenancy s.words A new (place_in q c i) other ∙ z))
+        (λ (z : (p : Place) × (r.account.live (place_in q c i) ≡ Some p)). inr (z.0, grows (place_in q c i) z.0 z.1)) (r.whole.grid.places q m c i owned_is below));
   }
 
   in_pool : A ≤ pool * 4096 + 4096
@@ -259,14 +261,14 @@ module _ (k : Config) (s : Words) (r : Rule k s) (id : ℕ) (hist : List Entry) 
   head_new z = let h : at_address k ws A ≡ new = get_or-set_same s.words (before_heap k + A) new 0 spot in
       absurd (head_some (PlainShape n tag) (sym may.head ∙ (sym h ∙ z)))
 
-  hunter1 : Hunter k r.tenancy ws after
+  hunter1 : Hunter k r.account.tenancy ws after
   hunter1 = record {
     hunt = tt;
     free = λ f e. free_later k s.words ws (control_set k s.words A new fits_born.low 6 (omega arith)) (equal_le (control_set k s.words A new fits_born.low 7 (omega arith))) f (g.hunter.free f e);
     drawn_alone = λ q m. sym (ap drawn_in may.hunt) ∙ g.hunter.drawn_alone q m;
     taken = λ q c i owned_is below seen z. dite (ℕ_discrete (place_in q c i) A)
         (λ same. head_new (ap (at_address k ws) (sym same) ∙ z))
-        (λ other. g.hunter.taken q c i owned_is below seen (sym (stays k r.tenancy s.words A new (place_in q c i) other) ∙ z));
+        (λ other. g.hunter.taken q c i owned_is below seen (sym (stays k r.account.tenancy s.words A new (place_in q c i) other) ∙ z));
   }
 
   major_rule : Rule k record { words = ws; homes = s.homes; views = set s.views id (one k hist after) }
@@ -281,27 +283,27 @@ module _ (k : Config) (s : Words) (r : Rule k s) (id : ℕ) (hist : List Entry) 
     front = refl;
     arrivals = refl;
     wide = length-set s.words (before_heap k + A) new;
-    control = control_set k s.words A new fits_born.low;
+    controls = controls_kept k s r id hist x at ws (control_set k s.words A new fits_born.low);
     found = subst (λ (z : Graph). AllFound k live1 z ws) (sym leaves.graph_is) found1;
     placed = placed1;
     more = grows;
     stood = stood1;
     area = let p = areas1 x g.area in record { room = p.room; free = p.free };
-    prepared = let p = prepares x g.prepared in record { fits = p.fits; written = p.written };
+    making = let p = makings x g.making in record { fits = p.fits; written = p.written };
     areas = λ z _ p. areas1 z p;
-    prepares = λ z _ _ p. prepares z p;
+    makings = λ z _ _ p. makings z p;
     grid = grid1;
     hunter = hunter1;
-    hunters = λ z other g. hunter_beside k r.tenancy s.words A new r.whole.pools z (others_beside k s r id hist x at may.acts.runs pool class slot new words_made may.hunt z other A low in_pool) g.hunter;
+    hunters = λ z other g. hunter_beside k r.account.tenancy s.words A new r.whole.pools z (others_beside k s r id hist x at may.acts.runs pool class slot new words_made may.hunt z other A low in_pool) g.hunter;
   } where
-    prepares : (z : DomainView) → Prepared k s.words z → Prepared k ws z
-    prepares z p = prepared_beside k s.words A new z (λ j fits m. let h : A ≤ pool * 4096 + 4096 = in_pool in let i = pool_in in let y : ℕ = z.own.number * k.minor_words in let b : ℕ = A in let same : k.pools * 4096 + y + 1 + z.own.used + 1 + j ≡ b = m in omega arith) p
+    makings : (z : DomainView) → Making k s.words z → Making k ws z
+    makings z p = making_beside k s.words A new z (λ j fits m. let h : A ≤ pool * 4096 + 4096 = in_pool in let i = pool_in in let y : ℕ = z.own.number * k.minor_words in let b : ℕ = A in let same : k.pools * 4096 + y + 1 + z.own.used + 1 + j ≡ b = m in omega arith) p
 
   major_told : MajorTold k e changes x after
   major_told = record {
-    answers = answers_push (sizes_in k) d r.log x.seen.front e (Replied (BlockReply L)) (mine k s r id hist x at).front
+    answers = answers_push (sizes_in k) d r.account.log x.seen.front e (Replied (BlockReply L)) (mine k s r id hist x at).front
         (legal_entry k s r id hist x at e record { running = running k s r id hist x at may.acts; fits = (r.whole.calm.mode, r.whole.calm.queues d); full_fits = tt }) leaves.replies;
-    view = refl;
+    view = λ i. record { own = record (sym (changed_only NothingWord changes x.own) i) { serial = x.own.serial + 1 }; seen = after.seen };
     holds = holds k r.limits live1 placed1 (next now e) after stood1;
   }
 

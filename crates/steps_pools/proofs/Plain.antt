@@ -1,5 +1,5 @@
 -- What the steps on pools tell of a token's own data.
-use Rattle.std.proofs.Common.{◌≡◌, ◌≢◌, ◌+◌, ◌^◌, ◌<◌, ◌≤◌, ℕ, List, set, refl, sym, ap, ◌∙◌, subst, arith, lt_of_not-le, length-set, get_or-set_same, get_or-set_other}
+use Rattle.std.proofs.Common.{◌≡◌, ◌≢◌, ◌+◌, ◌^◌, ◌<◌, ◌≤◌, ℕ, List, set, refl, sym, ap, ◌∙◌, subst, arith, lt_of_not-le, length-set, get_or-set_same, get_or-set_other, inl, inr}
 use mathlib.Core.Logic.{dite}
 use native.Mathlib.Decide.{dec_le, ℕ_discrete}
 use Rattle.heap_model.specs.Domains.{IsWithinLimits}
@@ -9,14 +9,22 @@ use Rattle.heap_rule.specs.declared.config.Config.{Config}
 use Rattle.heap_rule.specs.declared.view.Own.{Own}
 use Rattle.heap_rule.specs.declared.view.DomainView.{DomainView}
 use Rattle.heap_rule.specs.declared.view.Spot.{Spot}
-use Rattle.heap_rule.specs.Changes.{FitChanges}
+use Rattle.heap_words.specs.declared.value.Value.TheVariants.{Nothing}
+use Rattle.heap_rule.specs.declared.view.Hunt.TheVariants.{Rests}
+use Rattle.heap_rule.specs.Changes.{changed, FitChanges}
 use Rattle.heap_rule.specs.Limits.{sizes_in}
-use Rattle.heap_rule.specs.Pools.{blocks_of, owned, owner_word, limit_of, spot_at}
-use Rattle.heap_rule.specs.Raw.{Closes}
-use Rattle.heap_rule.specs.Token.{Holds, LooksWithin, OwnFits}
+use Rattle.heap_rule.specs.Pools.{blocks_of, owned, owner_word, limit_of, spot_at, hunting}
+use Rattle.heap_rule.specs.Raw.{Closes, StepsOnce}
+use Rattle.heap_rule.specs.Token.{Holds, LooksWithin, OwnFits, next_label}
+use Rattle.heap_rule.proofs.ChangeLemmas.{changed_only}
 use Rattle.heap_rule.proofs.Classes.{some_block}
 use Rattle.steps_pools.specs.Takes.{CursorTold, CursorAddTold, OwnedTold, OwnerTold, PlaceTold, MajorTold}
 use Rattle.steps_pools.specs.Writes.{looking, CanLook, LooksFrom, PassesPool, PassesPlace, CanLabel, Labels}
+use Rattle.heap_rule.proofs.Closes.{front_same}
+use Rattle.heap_model.specs.Fronts.{IsFrontOf}
+use Rattle.heap_rule.specs.declared.view.Hunt.{Hunt}
+use Rattle.heap_model.specs.declared.reply.Applied.TheVariants.{Replied}
+use Rattle.heap_model.specs.declared.reply.Reply.TheVariants.{Block}
 
 -- loads and adds of the cursor leave the token's own data
 pub cursor_own : (k : Config) (count : ℕ) (x : DomainView) (found : ℕ) (y : DomainView) → CursorTold k count x found y → y.own ≡ x.own
@@ -28,6 +36,26 @@ pub cursor_add_own : (k : Config) (count class : ℕ) (x : DomainView) (found : 
 cursor_add_own k count class x found y told = dite (dec_le (limit_of k count) found)
     (λ past. ap (λ (z : DomainView). z.own) (told.past past))
     (λ not_past. ap (λ (z : DomainView). z.own) (told.below (lt_of_not-le not_past)).view)
+
+-- and the front
+pub cursor_front : (k : Config) (count : ℕ) (x : DomainView) (found : ℕ) (y : DomainView) → CursorTold k count x found y → IsFrontOf x.own.number y.seen.front x.seen.front
+cursor_front k count x found y told = dite (dec_le (limit_of k count) found)
+    (λ past. front_same x y (ap (λ (z : DomainView). z.seen.front) (told.past past)))
+    (λ not_past. front_same x y (ap (λ (z : DomainView). z.seen.front) (told.below (lt_of_not-le not_past))))
+
+pub cursor_add_front : (k : Config) (count class : ℕ) (x : DomainView) (found : ℕ) (y : DomainView) → CursorAddTold k count class x found y → IsFrontOf x.own.number y.seen.front x.seen.front
+cursor_add_front k count class x found y told = dite (dec_le (limit_of k count) found)
+    (λ past. front_same x y (ap (λ (z : DomainView). z.seen.front) (told.past past)))
+    (λ not_past. front_same x y (ap (λ (z : DomainView). z.seen.front) (told.below (lt_of_not-le not_past)).view))
+
+-- a step at which the domain looks to another place
+looking_once : (k : Config) (x y : DomainView) (spots : List Spot) (hunt : Hunt) → y ≡ hunting x spots hunt → StepsOnce k x y
+looking_once k x y spots hunt is _ = inl (record {
+  front = front_same x y (ap (λ (z : DomainView). z.seen.front) is);
+  registers = ap (λ (z : DomainView). z.own.registers) is;
+  used = ap (λ (z : DomainView). z.own.used) is;
+  serial = ap (λ (z : DomainView). z.own.serial) is;
+})
 
 -- the places looked at, one of them further on
 looks_set : (k : Config) (own : Own) (class : ℕ) (spot : Spot) → LooksWithin k own.looked → spot.pool ≤ k.pools → spot.slot < blocks_of class → LooksWithin k (set own.looked class spot)
@@ -53,6 +81,7 @@ owned_closes k x new pool class inside few limits y fits told =
       can_write = (few_pools k pool limits inside, few);
       written = λ after is. own ∙ sym is;
       fits = looking_fits k x y class (record { pool = pool; slot = 0 }) fits own (let i = inside in omega arith) (some_block class few).0;
+      once = looking_once k x y _ _ told;
     }
 
 pub owner_closes : (k : Config) (x : DomainView) (found pool class : ℕ) → pool < k.pools → class < 6 → IsWithinLimits (sizes_in k) → Closes k x found (OwnerTold pool class) (λ _. CanLook pool class) (PassesPool pool class found)
@@ -64,6 +93,9 @@ owner_closes k x found pool class inside few limits y fits told = record {
   fits = dite (ℕ_discrete found (owner_word (owned x.own.number class)))
       (λ own. subst (OwnFits k) (sym (ap (λ (z : DomainView). z.own) (told.own own))) fits)
       (λ other. looking_fits k x y class (record { pool = pool + 1; slot = 0 }) fits (ap (λ (z : DomainView). z.own) (told.other other)) (let i = inside in omega arith) (some_block class few).0);
+  once = dite (ℕ_discrete found (owner_word (owned x.own.number class)))
+      (λ own. looking_once k x y _ _ (told.own own))
+      (λ other. looking_once k x y _ _ (told.other other));
 }
 
 pub place_closes : (k : Config) (x : DomainView) (found pool class slot : ℕ) → pool < k.pools → class < 6 → slot < blocks_of class → IsWithinLimits (sizes_in k)
@@ -80,19 +112,33 @@ place_closes k x found pool class slot inside few low limits y fits told = recor
       (λ taken. dite (dec_le (blocks_of class) (slot + 1))
       (λ last. looking_fits k x y class (record { pool = pool + 1; slot = 0 }) fits (ap (λ (z : DomainView). z.own) (told.last taken last)) (let i = inside in omega arith) (some_block class few).0)
       (λ more. looking_fits k x y class (record { pool = pool; slot = slot + 1 }) fits (ap (λ (z : DomainView). z.own) (told.full taken (lt_of_not-le more))) (let i = inside in omega arith) (lt_of_not-le more)));
+  once = dite (ℕ_discrete found 0)
+      (λ free. looking_once k x y _ _ (told.free free))
+      (λ taken. dite (dec_le (blocks_of class) (slot + 1))
+      (λ last. looking_once k x y _ _ (told.last taken last))
+      (λ more. looking_once k x y _ _ (told.full taken (lt_of_not-le more))));
 }
+
+-- the domain after the head, by its registers
+pub major_rest : (k : Config) (e : Entry) (changes : List Change) (x y : DomainView) → MajorTold k e changes x y → y ≡ record {
+  own = record x.own { registers = (changed Nothing changes x.own).registers; serial = x.own.serial + 1 };
+  seen = record x.seen { front = y.seen.front; hunt = Rests };
+}
+major_rest k e changes x y told = told.view ∙ ap (λ (own : Own). record { own = record own { serial = x.own.serial + 1 }; seen = record x.seen { front = y.seen.front; hunt = Rests } }) (changed_only Nothing changes x.own)
 
 -- the head makes the changes, and counts the label
 pub major_closes : (k : Config) (x : DomainView) (new : ℕ) (e : Entry) (changes : List Change) → FitChanges changes → x.own.serial + 1 < 2 ^ 32
     → Closes k x new (λ y _ z. MajorTold k e changes y z) (CanLabel changes) (Labels changes)
 major_closes k x new e changes fit serial y fits told =
-    let own = ap (λ (z : DomainView). z.own) told.view in record {
+    let own = ap (λ (z : DomainView). z.own) told.view in
+    let rest = ap (λ (z : DomainView). z.own) (major_rest k e changes x y told) in record {
       can_write = (fit, serial);
       written = λ after is. own ∙ sym is;
       fits = record {
-        number = subst (λ (o : Own). o.number < k.domains) (sym own) fits.number;
-        used = subst (λ (o : Own). o.used ≤ k.minor_words) (sym own) fits.used;
+        number = subst (λ (o : Own). o.number < k.domains) (sym rest) fits.number;
+        used = subst (λ (o : Own). o.used ≤ k.minor_words) (sym rest) fits.used;
         registers = told.holds;
-        looked = subst (λ (o : Own). LooksWithin k o.looked) (sym own) fits.looked;
+        looked = subst (λ (o : Own). LooksWithin k o.looked) (sym rest) fits.looked;
       };
+      once = λ _. inr (record { entry = e; answer = Replied (Block (next_label x)); answers = told.answers });
     }

@@ -69,7 +69,7 @@ cursor_add_may k x runs count class hunt few fits slots id h = cursor_adds k slo
 
 lists : (k : Config) (slots id : ℕ) (hist : List Entry) (x : DomainView) (runs : x.seen.stage ≡ In Run) (word : ℕ) → ListMay k x word → Allows (Rule k) slots id (one k hist x, []) word (λ n. n) (Tells ListTold (one k hist x, []))
 lists k slots id hist x runs word may s r _ at _ =
-    let d = subst (Hunts k r.tenancy s.words x.own.number) may.hunt (hunter k s r id hist x at runs).hunt in
+    let d = subst (Hunts k r.account.tenancy s.words x.own.number) may.hunt (hunter k s r id hist x at runs).hunt in
     let found : get_or s.words word 0 ≡ may.pool = ap (λ (n : ℕ). get_or s.words n 0) may.word ∙ d.names in
     (one k hist x, keeps, tt, unmoved k s word (set s.views id (one k hist x)) (looks k s r id hist x at x.seen.front (mine k s r id hist x at).front (my_good k s r id hist x at).still), (record { names = ap drawn_in may.hunt ∙ ap Some (sym found); view = refl }, refl))
 

@@ -22,9 +22,9 @@ use Rattle.heap_rule.proofs.Update.{over, over_here, over_else}
 use Rattle.heap_rule.proofs.Lists.{got_end, got_below}
 use Rattle.heap_rule.proofs.Keeps.{Words, mine, phases_words, phases_same, cycle_same, control_set, pools_same, holds_again}
 use Rattle.heap_rule.proofs.Classes.{size_least, some_block, slot_below, slot_inside}
-use Rattle.heap_rule.proofs.Beside.{found_beside, prepared_beside}
+use Rattle.heap_rule.proofs.Beside.{found_beside, making_beside}
 use Rattle.heap_rule.proofs.Lots.{Beside, pool_beside, hunter_beside, drawn_same, owned_same, stays, head_full}
-use Rattle.heap_rule.proofs.Holders.{Agrees, agrees_set, found_agrees, prepared_agrees, same_over, drawn_not, owned_not, drawn_owned, grid_over, free_later, hunter_agree}
+use Rattle.heap_rule.proofs.Holders.{Agrees, agrees_set, found_agrees, making_agrees, same_over, drawn_not, owned_not, drawn_owned, grid_over, free_later, hunter_agree}
 use Rattle.steps_pools.proofs.DrawSteps.{hunter, next_hunter, knows, own_word, some_nat}
 
 pub equal_le : {a b : ℕ} → a ≡ b → b ≤ a
@@ -45,7 +45,7 @@ module _ (k : Config) (s : Words) (r : Rule k s) (id : ℕ) (hist : List Entry) 
   d = x.own.number
 
   abbrev T : Tenancy
-  T = r.tenancy
+  T = r.account.tenancy
 
   H : Hunter k T s.words x
   H = hunter k s r id hist x at runs
@@ -162,7 +162,7 @@ module _ (k : Config) (s : Words) (r : Rule k s) (id : ℕ) (hist : List Entry) 
         (λ e. other (sym (drawn_same d z.own.number (sym drew.drawn_is ∙ e)))) (λ c e. drawn_owned d z.own.number c (sym drew.drawn_is ∙ e))
 
     -- the words of live blocks aren't in the pool
-    far : (a : ℕ) → pool * 4096 < a → a ≤ pool * 4096 + 4096 → (b : ℕ) (q : Place) → r.live b ≡ Some q → (z : ℕ) → z < extent q.shape → b + z ≢ a
+    far : (a : ℕ) → pool * 4096 < a → a ≤ pool * 4096 + 4096 → (b : ℕ) (q : Place) → r.account.live b ≡ Some q → (z : ℕ) → z < extent q.shape → b + z ≢ a
     far a low high b q lives z inside e = dite (dec_le b (k.pools * 4096))
         (λ le.
         let l = r.whole.grid.lots b q lives le in
@@ -210,19 +210,19 @@ module _ (k : Config) (s : Words) (r : Rule k s) (id : ℕ) (hist : List Entry) 
       clears_rule = holds_again k s r id hist x at x.own.looked (Draws place pool class (cleared + 1)) x.seen.free ws T record {
         runs = runs;
         wide = length-set s.words (before_heap k + A) 0;
-        phases = phases_same k r.pause s.words ws (control_set k s.words A 0 (omega arith)) r.whole.phases;
+        phases = phases_same k r.account.pause s.words ws (control_set k s.words A 0 (omega arith)) r.whole.phases;
         endings = control_set k s.words A 0 (omega arith) 8 (omega arith);
         cycle = cycle_same k s.words ws (control_set k s.words A 0 (omega arith)) r.whole.cycle;
-        found = λ b q lives. let f = r.whole.found b q lives in found_beside k r.live r.live (state_of k r.log).graph (state_of k r.log).graph s.words A 0 b q (λ c o h. h) f f.there (far A low high b q lives);
+        found = λ b q lives. let f = r.whole.found b q lives in found_beside k r.account.live r.account.live (state_of k r.account.log).graph (state_of k r.account.log).graph s.words A 0 b q (λ c o h. h) f f.there (far A low high b q lives);
         pools = pools_same k T s.words ws (control_set k s.words A 0 (omega arith)) P;
         drawers = r.whole.drawers;
         grid = record {
           lots = r.whole.grid.lots;
           places = λ q e c slot owned_is below. dite (ℕ_discrete (place_in q c slot) A)
               (λ same. inl (ap (at_address k ws) same ∙ get_or-set_same s.words (before_heap k + A) 0 0 spot))
-              (λ other. ⊎_elim (λ (z : at_address k s.words (place_in q c slot) ≡ 0). inl (stays k T s.words A 0 (place_in q c slot) other ∙ z)) (λ (z : (p : Place) × (r.live (place_in q c slot) ≡ Some p)). inr z) (r.whole.grid.places q e c slot owned_is below));
+              (λ other. ⊎_elim (λ (z : at_address k s.words (place_in q c slot) ≡ 0). inl (stays k T s.words A 0 (place_in q c slot) other ∙ z)) (λ (z : (p : Place) × (r.account.live (place_in q c slot) ≡ Some p)). inr z) (r.whole.grid.places q e c slot owned_is below));
         };
-        prepares = λ z p. prepared_beside k s.words A 0 z (λ j fits e. let i : pool < k.pools = drew.inside in let h : A ≤ pool * 4096 + 4096 = high in let n : ℕ = z.own.number * k.minor_words in let a : ℕ = A in let same : k.pools * 4096 + n + 1 + z.own.used + 1 + j ≡ a = e in omega arith) p;
+        makings = λ z p. making_beside k s.words A 0 z (λ j fits e. let i : pool < k.pools = drew.inside in let h : A ≤ pool * 4096 + 4096 = high in let n : ℕ = z.own.number * k.minor_words in let a : ℕ = A in let same : k.pools * 4096 + n + 1 + z.own.used + 1 + j ≡ a = e in omega arith) p;
         hunter = record {
           hunt = record {
             inside = drew.inside;
@@ -324,18 +324,18 @@ module _ (k : Config) (s : Words) (r : Rule k s) (id : ℕ) (hist : List Entry) 
     owns_rule = holds_again k s r id hist x at looked2 (Fills pool class 0 []) x.seen.free words2 t2 record {
       runs = runs;
       wide = length-set s.words spot_owner signed;
-      phases = phases_words k r.pause s.words words2 (other_word 1 (λ e. omega arith)) (other_word 2 (λ e. omega arith)) r.whole.phases;
+      phases = phases_words k r.account.pause s.words words2 (other_word 1 (λ e. omega arith)) (other_word 2 (λ e. omega arith)) r.whole.phases;
       endings = other_word 8 (λ e. omega arith);
       cycle = let p = r.whole.cycle in record { armed_is = other_word 4 (λ e. omega arith) ∙ p.armed_is; colours_are = other_word 5 (λ e. omega arith) ∙ p.colours_are };
-      found = found_agrees k r.live (state_of k r.log).graph s.words words2 agrees r.whole.placed r.whole.found;
+      found = found_agrees k r.account.live (state_of k r.account.log).graph s.words words2 agrees r.whole.placed r.whole.found;
       pools = pools2;
       drawers = λ q e h. dite (ℕ_discrete q pool)
           (λ same. absurd (owned_not_drawn d class e (sym here2 ∙ (ap t2.holder (sym same) ∙ h))))
           (λ other. r.whole.drawers q e (sym (else2 q other) ∙ h));
-      grid = grid_over T pool (owned d class) T.asking k r.live s.words words2 agrees (λ e c h. drawn_owned d e c (sym all_clear.drawn_is ∙ h))
+      grid = grid_over T pool (owned d class) T.asking k r.account.live s.words words2 agrees (λ e c h. drawn_owned d e c (sym all_clear.drawn_is ∙ h))
           (λ e c slot h below. let o = owned_same d e class c h in
           subst (λ (m : ℕ). at_address k s.words (place_in pool m slot) ≡ 0) o.1 (all_clear.free slot (subst (λ (m : ℕ). slot < blocks_of m) (sym o.1) below))) r.whole.grid;
-      prepares = λ z p. prepared_agrees k s.words words2 z agrees p;
+      makings = λ z p. making_agrees k s.words words2 z agrees p;
       hunter = record {
         hunt = record {
           own_is = here2;
@@ -388,11 +388,11 @@ module _ (k : Config) (s : Words) (r : Rule k s) (id : ℕ) (hist : List Entry) 
     fill_low = omega arith
 
     -- the place isn't one of a live block
-    pub not_live : (q : Place) → r.live (place_in pool class slot) ≡ Some q → ⊥
-    not_live q lives = head_full k r.live (state_of k r.log).graph s.words (place_in pool class slot) q (r.whole.found (place_in pool class slot) q lives) filling.free
+    pub not_live : (q : Place) → r.account.live (place_in pool class slot) ≡ Some q → ⊥
+    not_live q lives = head_full k r.account.live (state_of k r.account.log).graph s.words (place_in pool class slot) q (r.whole.found (place_in pool class slot) q lives) filling.free
 
     -- live blocks lie beside the place taken
-    pub live_far : (b : ℕ) (q : Place) → r.live b ≡ Some q → (b + extent q.shape ≤ place_in pool class slot) ⊎ (place_in pool class slot + size_of class ≤ b)
+    pub live_far : (b : ℕ) (q : Place) → r.account.live b ≡ Some q → (b + extent q.shape ≤ place_in pool class slot) ⊎ (place_in pool class slot + size_of class ≤ b)
     live_far b q lives =
         let n : ℕ = extent q.shape in
         let y : ℕ = size_of class in
@@ -415,7 +415,7 @@ module _ (k : Config) (s : Words) (r : Rule k s) (id : ℕ) (hist : List Entry) 
         let uh : u ≡ h = ap (λ (c : ℕ). l.slot * size_of c) class_is in
         let pool_is : l.pool ≡ pool = same in
         dite (ℕ_discrete l.slot slot)
-        (λ eq. let hw : h ≡ w = ap (λ (i : ℕ). i * size_of class) eq in absurd (not_live q (subst (λ (i : ℕ). r.live i ≡ Some q) (let e : b ≡ pool * 4096 + w + 1 = omega arith in e) lives)))
+        (λ eq. let hw : h ≡ w = ap (λ (i : ℕ). i * size_of class) eq in absurd (not_live q (subst (λ (i : ℕ). r.account.live i ≡ Some q) (let e : b ≡ pool * 4096 + w + 1 = omega arith in e) lives)))
         (λ ne. dite (dec_le l.slot slot)
         (λ below. let e : h + y ≤ w = slot_below class l.slot slot (let i : l.slot ≤ slot = below in let j : l.slot ≢ slot = ne in omega arith) in inl (let g : b + n ≤ pool * 4096 + w + 1 = omega arith in g))
         (λ above. let e : w + y ≤ h = slot_below class slot l.slot (lt_of_not-le above) in inr (let g : pool * 4096 + w + 1 + y ≤ b = omega arith in g))))
@@ -473,10 +473,10 @@ module _ (k : Config) (s : Words) (r : Rule k s) (id : ℕ) (hist : List Entry) 
       fills_rule = holds_again k s r id hist x at x.own.looked (Fills pool class slot (made ++ new ∷ [])) x.seen.free ws3 T record {
         runs = runs;
         wide = length-set s.words (before_heap k + B) new;
-        phases = phases_same k r.pause s.words ws3 (control_set k s.words B new (omega arith)) r.whole.phases;
+        phases = phases_same k r.account.pause s.words ws3 (control_set k s.words B new (omega arith)) r.whole.phases;
         endings = control_set k s.words B new (omega arith) 8 (omega arith);
         cycle = cycle_same k s.words ws3 (control_set k s.words B new (omega arith)) r.whole.cycle;
-        found = λ b q lives. let f = r.whole.found b q lives in found_beside k r.live r.live (state_of k r.log).graph (state_of k r.log).graph s.words B new b q (λ c o h. h) f f.there
+        found = λ b q lives. let f = r.whole.found b q lives in found_beside k r.account.live r.account.live (state_of k r.account.log).graph (state_of k r.account.log).graph s.words B new b q (λ c o h. h) f f.there
             (λ z inside e. let n : ℕ = extent q.shape in let p : ℕ = place_in pool class slot in let y : ℕ = size_of class in let i : z < n = inside in let same : b + z ≡ p + 1 + m = e in let f : m + 1 < y = room in
             ⊎_elim (λ (h : b + n ≤ p). omega arith) (λ (h : p + y ≤ b). omega arith) (live_far b q lives));
         pools = pools_same k T s.words ws3 (control_set k s.words B new (omega arith)) P;
@@ -485,9 +485,9 @@ module _ (k : Config) (s : Words) (r : Rule k s) (id : ℕ) (hist : List Entry) 
           lots = r.whole.grid.lots;
           places = λ q e c i owned_is below. ⊎_elim
               (λ (z : at_address k s.words (place_in q c i) ≡ 0). inl (stays k T s.words B new (place_in q c i) (inner_far q e c i owned_is below B above_head below_end) ∙ z))
-              (λ (z : (p : Place) × (r.live (place_in q c i) ≡ Some p)). inr z) (r.whole.grid.places q e c i owned_is below);
+              (λ (z : (p : Place) × (r.account.live (place_in q c i) ≡ Some p)). inr z) (r.whole.grid.places q e c i owned_is below);
         };
-        prepares = λ z p. prepared_beside k s.words B new z (λ j fits e. let i : pool < k.pools = (P.owned_by pool d class filling.own_is).0 in let h : B ≤ pool * 4096 + 4096 = fill_high in let n : ℕ = z.own.number * k.minor_words in let a : ℕ = B in let same : k.pools * 4096 + n + 1 + z.own.used + 1 + j ≡ a = e in omega arith) p;
+        makings = λ z p. making_beside k s.words B new z (λ j fits e. let i : pool < k.pools = (P.owned_by pool d class filling.own_is).0 in let h : B ≤ pool * 4096 + 4096 = fill_high in let n : ℕ = z.own.number * k.minor_words in let a : ℕ = B in let same : k.pools * 4096 + n + 1 + z.own.used + 1 + j ≡ a = e in omega arith) p;
         hunter = record {
           hunt = record {
             own_is = filling.own_is;

@@ -15,7 +15,7 @@ use Rattle.heap_rule.specs.declared.view.Hunt.{Hunt}
 use Rattle.heap_rule.specs.declared.view.Hunt.TheVariants.{Rests, Counts, Asks, Draws, Walks, Fills}
 use Rattle.heap_rule.specs.declared.view.Spot.{Spot}
 use Rattle.heap_rule.specs.Limits.{sizes_in}
-use Rattle.heap_rule.specs.Places.{HeadIs}
+use Rattle.heap_rule.specs.Places.{IsNewHead}
 use Rattle.heap_rule.specs.Changes.{changed, FitChanges}
 use Rattle.heap_rule.specs.Pools.{size_of, blocks_of, place_in, owner_word, owned, limit_of, drawn_in, spot_at, hunting_free, hunting}
 use Rattle.heap_rule.specs.Token.{next_label}
@@ -161,10 +161,10 @@ pub record MajorMay (k : Config) (x : DomainView) (at new : ℕ) (changes : List
   pub tag_fits : tag < 256
   pub some_field : 1 ≤ fields
   pub few_fields : fields ≤ 126
-  pub head : HeadIs (PlainShape fields tag) new
+  pub head : IsNewHead (PlainShape fields tag) new
   pub serial : x.own.serial + 1 < 2 ^ 32
   pub goes : dst < 16
-  pub written : changed Nothing changes x.own.registers ≡ slice_set x.own.registers dst (Ref at)
+  pub written : changed Nothing changes x.own ≡ record x.own { registers = slice_set x.own.registers dst (Ref at) }
   pub fits : FitChanges changes
 
 abbrev pub MajorEntry : Config → DomainView → ℕ → ℕ → List Change → Entry → Type 0
@@ -175,7 +175,7 @@ MajorEntry k x at new changes _ = ⊥
 pub record MajorTold (k : Config) (e : Entry) (changes : List Change) (x y : DomainView) : Type 0 where
   pub answers : Answers (sizes_in k) x.own.number x.seen.front y.seen.front e (Replied (Block (next_label x)))
   pub view : y ≡ record {
-    own = record x.own { registers = changed Nothing changes x.own.registers; serial = x.own.serial + 1 };
+    own = record (changed Nothing changes x.own) { serial = x.own.serial + 1 };
     seen = record x.seen { front = y.seen.front; hunt = Rests };
   }
   pub holds : Holds k y.own.registers

@@ -35,4 +35,4 @@ abbrev pub CanLabel : List Change → Own → Type 0
 CanLabel changes own = FitChanges changes × (own.serial + 1 < 2 ^ 32)
 
 abbrev pub Labels : List Change → Own → Own → Type 0
-Labels changes own after = after ≡ record own { registers = changed Nothing changes own.registers; serial = own.serial + 1 }
+Labels changes own after = after ≡ record (changed Nothing changes own) { serial = own.serial + 1 }

@@ -66,8 +66,9 @@ impl Writing for Labelling {
     ghost writes = { λ _ _ changes own after. Labels changes own after };
 
     fn write(&self, _found: u64, changes: &[Change], own: &mut Own) {
-        make_changes(&mut own.registers, Value::Nothing, changes);
-        own.serial += 1;
+        let serial = own.serial + 1;
+        make_changes(own, Value::Nothing, changes);
+        own.serial = serial;
     }
 }
 

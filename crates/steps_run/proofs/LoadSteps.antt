@@ -14,11 +14,11 @@ use Rattle.heap_model.specs.declared.reply.Reply.TheVariants.{BadType, BadIndex}
 use Rattle.heap_model.specs.declared.graph.Value as graph_value
 use Rattle.heap_model.specs.declared.graph.Value.TheVariants.{Nothing}
 use Rattle.heap_model.specs.declared.graph.Node.{Node}
-use Rattle.heap_model.specs.declared.graph.Node.TheVariants.{Plain, Ephe}
+use Rattle.heap_model.specs.declared.graph.Node.TheVariants.{Plain, Raw, Ephe}
 use Rattle.heap_model.specs.declared.state.State as model
 use Rattle.heap_model.specs.Domains.{register, domain_at}
 use Rattle.heap_model.specs.Commands.{shown}
-use Rattle.heap_model.specs.Fronts.{Shape, PlainShape, EpheShape, shape_of, IsCalm}
+use Rattle.heap_model.specs.Fronts.{Shape, PlainShape, RawShape, EpheShape, shape_of, IsCalm}
 use Rattle.heap_model.proofs.Histories.FrontLemmas.{front_whole}
 use Rattle.heap_model.proofs.Commands.FrameLemmas.{calm_command}
 use Rattle.heap_model.proofs.Commands.LeavesLemmas.{leaves_load, leaves_load_past, leaves_store_past, leaves_load_kind, leaves_store_kind}
@@ -27,21 +27,25 @@ use Rattle.heap_words.specs.declared.value.Value.TheVariants.{Nothing as Nothing
 use Rattle.heap_rule.specs.declared.change.Change.{Change}
 use Rattle.heap_rule.specs.declared.config.Config.{Config}
 use Rattle.heap_rule.specs.declared.view.DomainView.{DomainView}
+use Rattle.heap_rule.specs.Places.{unmarked}
 use Rattle.heap_rule.specs.Layout.{before_heap}
 use Rattle.heap_rule.specs.Changes.{value_at, changed, FitChanges}
 use Rattle.heap_rule.specs.Views.{one, Tells}
 use Rattle.heap_rule.specs.Raw.{MayStep}
 use Rattle.heap_rule.specs.Rule.{state_of, Rule}
+use Rattle.heap_rule.specs.Places.{IsBuilt}
 use Rattle.heap_rule.specs.Standing.{Acts, IsAt, with_front}
 use Rattle.steps_run.specs.Loads.{subject, place_of, HeadEntry, HeadMay, HeadTold, HeadCase, LabelMay, LabelTold, FieldLoadMay, FieldLoadEntry, FieldRead}
+use Rattle.heap_rule.proofs.ChangeLemmas.{changed_only, registers_of}
 use Rattle.heap_rule.proofs.Values.{AllStand, stand_set, not_nothing, packable, shows}
 use Rattle.heap_rule.proofs.Keeps.{after_entry, Words, IsCommand, mine, my_good, own, looks, unmoved}
-use Rattle.heap_rule.proofs.Entering.{running, inside_state, registers_stand, Enters, entered_view, enters_rule, enters}
+use Rattle.heap_rule.proofs.Entering.{running, inside_state, registers_stand, Enters, entered_view, enters_rule, enters, enters_command, may_begin}
 use Rattle.heap_rule.proofs.Blocks.{Lives, lives_at, found_at, plain_at, plain_inside, field_at}
 
 -- the node of an ephemeron's shape
 ephe_of : (n : Node) (keys : ℕ) → shape_of n ≡ EpheShape keys → (ks : List (Option Label)) × (datum : graph_value.Value) × (n ≡ Ephe ks datum)
 ephe_of (Plain tag fields) keys e = cc
+ephe_of (Raw tag fields) keys e = cc
 ephe_of (Ephe ks datum) keys e = (ks, datum, refl)
 
 looks_at : (x : DomainView) (a : ℕ) (e : Entry) → HeadEntry x a e → IsAt x (subject e) a
@@ -56,7 +60,7 @@ head_command x a _ may = absurd may
 
 module _ (k : Config) (s : Words) (r : Rule k s) (id : ℕ) (hist : List Entry) (x : DomainView) (at : get_elem? s.views id ≡ some (one k hist x)) (acts : Acts k x) where
   abbrev now : model.State
-  now = state_of k r.log
+  now = state_of k r.account.log
 
   abbrev d : ℕ
   d = x.own.number
@@ -67,32 +71,22 @@ module _ (k : Config) (s : Words) (r : Rule k s) (id : ℕ) (hist : List Entry) 
   calm : IsCalm now
   calm = r.whole.calm
 
-  stand : AllStand r.live x.own.registers theirs
+  stand : AllStand r.account.live x.own.registers theirs
   stand = registers_stand k s r id hist x at acts
 
   -- the entry of a load or a store whose place is past the end
   past_entry : (a : ℕ) (e : Entry) → HeadEntry x a e → (n tag : ℕ) (b : Lives k s r id hist x at (subject e) a) → b.place.shape ≡ PlainShape n tag → n ≤ place_of e → Enters k s r id hist x at acts e x.own.registers (Replied BadIndex)
   past_entry a (Command j (Load dst src i) false) may n tag b is past =
       let p = plain_at k s r id hist x at src a b n tag is in
-      subst (λ (m : ℕ). Enters k s r id hist x at acts (Command m (Load dst src i) false) x.own.registers (Replied BadIndex)) (sym may.0) record {
-        alone = λ m other. ne_eqb d m (λ e. other (sym e));
-        allowed = record { running = running k s r id hist x at acts; fits = (calm.mode, calm.queues d); full_fits = tt };
-        calm = calm_command now d (Load dst src i) false calm;
-        theirs = theirs;
-        stand = stand;
-        leaves = leaves_load_past now d dst src i p.label p.tag p.fields p.held p.node (let l = p.size in omega arith);
-      }
+      subst (λ (m : ℕ). Enters k s r id hist x at acts (Command m (Load dst src i) false) x.own.registers (Replied BadIndex)) (sym may.0) (enters_command k s r id hist x at acts now.graph (Load dst src i) (may_begin k s r id hist x at acts) x.own.registers _ (theirs)
+      (stand)
+      (leaves_load_past now d dst src i p.label p.tag p.fields p.held p.node (let l = p.size in omega arith)))
   past_entry a (Command j (Store block i item) false) may n tag b is past =
       let p = plain_at k s r id hist x at block a b n tag is in
-      subst (λ (m : ℕ). Enters k s r id hist x at acts (Command m (Store block i item) false) x.own.registers (Replied BadIndex)) (sym may.0) record {
-        alone = λ m other. ne_eqb d m (λ e. other (sym e));
-        allowed = record { running = running k s r id hist x at acts; fits = (calm.mode, calm.queues d); full_fits = tt };
-        calm = calm_command now d (Store block i item) false calm;
-        theirs = theirs;
-        stand = stand;
-        leaves = leaves_store_past now d block i item p.label p.tag p.fields p.held p.node (let l = p.size in omega arith)
-            (not_nothing r.live (value_at x.own.registers item) (register now d item) may.3 (stand.each item may.2));
-      }
+      subst (λ (m : ℕ). Enters k s r id hist x at acts (Command m (Store block i item) false) x.own.registers (Replied BadIndex)) (sym may.0) (enters_command k s r id hist x at acts now.graph (Store block i item) (may_begin k s r id hist x at acts) x.own.registers _ (theirs)
+      (stand)
+      (leaves_store_past now d block i item p.label p.tag p.fields p.held p.node (let l = p.size in omega arith)
+            (not_nothing r.account.live (value_at x.own.registers item) (register now d item) may.3 (stand.each item may.2))))
   past_entry a _ may n tag b is past = absurd may
 
   -- and of one that looks into an ephemeron
@@ -100,25 +94,15 @@ module _ (k : Config) (s : Words) (r : Rule k s) (id : ℕ) (hist : List Entry) 
   kind_entry a (Command j (Load dst src i) false) may keys b is =
       let f = found_at k s r id hist x at src a b in
       let p = ephe_of f.node keys (f.shape ∙ is) in
-      subst (λ (m : ℕ). Enters k s r id hist x at acts (Command m (Load dst src i) false) x.own.registers (Replied BadType)) (sym may.0) record {
-        alone = λ m other. ne_eqb d m (λ e. other (sym e));
-        allowed = record { running = running k s r id hist x at acts; fits = (calm.mode, calm.queues d); full_fits = tt };
-        calm = calm_command now d (Load dst src i) false calm;
-        theirs = theirs;
-        stand = stand;
-        leaves = leaves_load_kind now d dst src i b.place.label p.0 p.1 b.held (f.there ∙ ap Some p.2);
-      }
+      subst (λ (m : ℕ). Enters k s r id hist x at acts (Command m (Load dst src i) false) x.own.registers (Replied BadType)) (sym may.0) (enters_command k s r id hist x at acts now.graph (Load dst src i) (may_begin k s r id hist x at acts) x.own.registers _ (theirs)
+      (stand)
+      (leaves_load_kind now d dst src i b.place.label p.0 p.1 b.held (f.there ∙ ap Some p.2)))
   kind_entry a (Command j (Store block i item) false) may keys b is =
       let f = found_at k s r id hist x at block a b in
       let p = ephe_of f.node keys (f.shape ∙ is) in
-      subst (λ (m : ℕ). Enters k s r id hist x at acts (Command m (Store block i item) false) x.own.registers (Replied BadType)) (sym may.0) record {
-        alone = λ m other. ne_eqb d m (λ e. other (sym e));
-        allowed = record { running = running k s r id hist x at acts; fits = (calm.mode, calm.queues d); full_fits = tt };
-        calm = calm_command now d (Store block i item) false calm;
-        theirs = theirs;
-        stand = stand;
-        leaves = leaves_store_kind now d block i item b.place.label p.0 p.1 b.held (f.there ∙ ap Some p.2);
-      }
+      subst (λ (m : ℕ). Enters k s r id hist x at acts (Command m (Store block i item) false) x.own.registers (Replied BadType)) (sym may.0) (enters_command k s r id hist x at acts now.graph (Store block i item) (may_begin k s r id hist x at acts) x.own.registers _ (theirs)
+      (stand)
+      (leaves_store_kind now d block i item b.place.label p.0 p.1 b.held (f.there ∙ ap Some p.2)))
   kind_entry a _ may keys b is = absurd may
 
   -- the view after a head load, by the block's shape
@@ -134,14 +118,15 @@ module _ (k : Config) (s : Words) (r : Rule k s) (id : ℕ) (hist : List Entry) 
   head_step : (a : ℕ) (e : Entry) → HeadEntry x a e → (shape : Shape) (b : Lives k s r id hist x at (subject e) a) → b.place.shape ≡ shape → HeadStep a e shape
   head_step a e may (EpheShape keys) b is =
       let o = kind_entry a e may keys b is in refusal a e (EpheShape keys) (Replied BadType) (head_command x a e may) o (enters k s r id hist x at acts now.graph e (Replied BadType) NothingWord [] o)
+  head_step a e may (RawShape n tag) b is = absurd (subst IsBuilt is (r.whole.placed.fits a b.place b.lives).built)
   head_step a e may (PlainShape n tag) b is = dite (dec_le n (place_of e))
       (λ past. let o = past_entry a e may n tag b is past in refusal a e (PlainShape n tag) (Replied BadIndex) (head_command x a e may) o record {
         below = λ below. absurd (let p : ℕ = place_of e in let h : p < n = below in let g : n ≤ p = past in omega arith);
         past = λ _. enters k s r id hist x at acts now.graph e (Replied BadIndex) NothingWord [] o;
       })
       (λ not_past. record {
-        after = with_front x r.log;
-        rule = looks k s r id hist x at r.log (front_whole d r.log) (λ _. refl);
+        after = with_front x r.account.log;
+        rule = looks k s r id hist x at r.account.log (front_whole d r.account.log) (λ _. refl);
         told = record {
           below = λ _. record {
             looked = record { seen = (mine k s r id hist x at).front; legal = r.whole.legal; view = refl };
@@ -165,8 +150,7 @@ heads k slots id word hist x a e place may s r _ at _ =
       (
         record {
           shape = b.place.shape;
-          packable = (r.whole.placed.fits a b.place b.lives).head;
-          head = ap (λ (i : ℕ). get_or s.words i 0) place ∙ found.head;
+          head = record { colour = unmarked; scanned = false; packable = (r.whole.placed.fits a b.place b.lives).head; packs = ap (λ (i : ℕ). get_or s.words i 0) place ∙ found.head };
           told = done.told;
         },
         refl,
@@ -203,30 +187,30 @@ label_load_may k word x a reg place may fits slots id h = labels k slots id word
 -- the entry of a load that finds its field
 field_entry : (k : Config) (s : Words) (r : Rule k s) (id : ℕ) (hist : List Entry) (x : DomainView) (at : get_elem? s.views id ≡ some (one k hist x)) (a dst src i : ℕ) (changes : List Change)
     (may : FieldLoadMay k x a changes x.own.number dst src i) → let f = (field_at k s r id hist x at a src i may.reads).0 in
-    Enters k s r id hist x at may.acts (Command x.own.number (Load dst src i) false) (changed f.stands.value changes x.own.registers) (Replied (shown f.value))
+    Enters k s r id hist x at may.acts (Command x.own.number (Load dst src i) false) ((changed f.stands.value changes x.own).registers) (Replied (shown f.value))
 field_entry k s r id hist x at a dst src i changes may =
     let f = (field_at k s r id hist x at a src i may.reads).0 in
-    let now : model.State = state_of k r.log in
+    let now : model.State = state_of k r.account.log in
     let d : ℕ = x.own.number in
     let theirs : List graph_value.Value = (domain_at now d).registers in record {
       alone = λ m other. ne_eqb d m (λ e. other (sym e));
-      allowed = record { running = running k s r id hist x at may.acts; fits = (r.whole.calm.mode, r.whole.calm.queues d); full_fits = tt };
+      allowed = record { running = running k s r id hist x at may.acts; fits = may_begin k s r id hist x at may.acts; full_fits = tt };
       calm = calm_command now d (Load dst src i) false r.whole.calm;
       theirs = set theirs dst f.value;
-      stand = subst (λ (l : List Value). AllStand r.live l (set theirs dst f.value)) (sym (may.written f.stands.value))
-          (stand_set r.live x.own.registers theirs dst f.stands.value f.value may.goes f.stands.stands (registers_stand k s r id hist x at may.acts));
+      stand = subst (λ (l : List Value). AllStand r.account.live l (set theirs dst f.value)) (sym (ap registers_of (may.written f.stands.value)))
+          (stand_set r.account.live x.own.registers theirs dst f.stands.value f.value may.goes f.stands.stands (registers_stand k s r id hist x at may.acts));
       leaves = leaves_load now d (inside_state k s r id hist x at may.acts) dst src i f.place.label f.tag f.fields f.value f.held f.node f.there;
     }
 
 -- the register that the load writes then holds the field
 register_after : (k : Config) (s : Words) (r : Rule k s) (id : ℕ) (hist : List Entry) (x : DomainView) (at : get_elem? s.views id ≡ some (one k hist x)) (a dst src i : ℕ) (changes : List Change)
-    (may : FieldLoadMay k x a changes x.own.number dst src i) → register (state_of k (r.log ++ Command x.own.number (Load dst src i) false ∷ [])) x.own.number dst ≡ (field_at k s r id hist x at a src i may.reads).0.value
+    (may : FieldLoadMay k x a changes x.own.number dst src i) → register (state_of k (r.account.log ++ Command x.own.number (Load dst src i) false ∷ [])) x.own.number dst ≡ (field_at k s r id hist x at a src i may.reads).0.value
 unfolding field_entry
 register_after k s r id hist x at a dst src i changes may =
     let f = (field_at k s r id hist x at a src i may.reads).0 in
     let e : Entry = Command x.own.number (Load dst src i) false in
     let o = field_entry k s r id hist x at a dst src i changes may in
-    let theirs : List graph_value.Value = (domain_at (state_of k r.log) x.own.number).registers in
+    let theirs : List graph_value.Value = (domain_at (state_of k r.account.log) x.own.number).registers in
     ap (λ (t : model.State). register t x.own.number dst) (after_entry k s r id hist x at e)
     ∙ (ap (λ (l : List graph_value.Value). get_or l dst Nothing) o.leaves.registers_are
     ∙ get_or-set_same theirs dst f.value Nothing (let w = (registers_stand k s r id hist x at may.acts).long in let l = may.goes in omega arith))
@@ -238,7 +222,7 @@ field_loads k slots id word hist x a dst src i changes place may s r _ at _ =
     let t = field_at k s r id hist x at a src i may.reads in
     let f = t.0 in
     let o = field_entry k s r id hist x at a dst src i changes may in
-    let regs : List Value = changed f.stands.value changes x.own.registers in
+    let regs : List Value = (changed f.stands.value changes x.own).registers in
     let y : DomainView = entered_view k s r id hist x at may.acts e regs in
     let here : word ≡ before_heap k + (f.address + 2 + i) = place ∙ ap (λ (n : ℕ). before_heap k + n) (may.reads.field ∙ ap (λ (n : ℕ). n + 2 + i) (sym t.1)) in (
       one k hist y,
@@ -248,12 +232,12 @@ field_loads k slots id word hist x a dst src i changes place may s r _ at _ =
       (
         record {
           value = f.stands.value;
-          packable = packable k r.limits r.live r.whole.placed f.stands.value f.value f.stands.stands;
+          packable = packable k r.limits r.account.live r.whole.placed f.stands.value f.value f.stands.stands;
           word = ap (λ (n : ℕ). get_or s.words n 0) here ∙ f.stands.packs;
           held = f.value;
-          shows = shows r.live f.stands.value f.value f.stands.stands;
+          shows = shows r.account.live f.stands.value f.value f.stands.stands;
           register_is = register_after k s r id hist x at a dst src i changes may;
-          entered = enters k s r id hist x at may.acts (state_of k r.log).graph e (Replied (shown f.value)) f.stands.value changes o;
+          entered = enters k s r id hist x at may.acts (state_of k r.account.log).graph e (Replied (shown f.value)) f.stands.value changes o;
         },
         refl,
       ),

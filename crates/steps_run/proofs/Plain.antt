@@ -1,12 +1,13 @@
 -- What the step calls tell of a token's plain data: it is what their changes make of it.
-use Rattle.std.proofs.Common.{◌≡◌, ◌<◌, ◌≤◌, ℕ, List, [], refl, sym, ap, ◌∙◌, subst, lt_of_not-le}
+use Rattle.std.proofs.Common.{inl, ◌≡◌, ◌<◌, ◌≤◌, ℕ, List, [], refl, sym, ap, ◌∙◌, subst, lt_of_not-le}
 use mathlib.Core.Logic.{dite}
 use native.Mathlib.Decide.{dec_le}
 use Rattle.heap_model.specs.declared.entry.Entry.{Entry}
 use Rattle.heap_model.specs.declared.reply.Applied.{Applied}
 use Rattle.heap_model.specs.declared.reply.Applied.TheVariants.{Replied}
+use Rattle.heap_model.specs.declared.reply.Reply.TheVariants.{BadType, BadIndex}
 use Rattle.heap_model.specs.Commands.{shown}
-use Rattle.heap_model.specs.Fronts.{Shape, PlainShape, EpheShape}
+use Rattle.heap_model.specs.Fronts.{Shape, PlainShape, RawShape, EpheShape}
 use Rattle.heap_words.specs.declared.value.Value.{Value}
 use Rattle.heap_words.specs.declared.value.Value.TheVariants.{Nothing}
 use Rattle.heap_words.proofs.WordLemmas.{value_word-injective}
@@ -16,18 +17,19 @@ use Rattle.heap_rule.specs.declared.config.Config.{Config}
 use Rattle.heap_rule.specs.declared.view.Own.{Own}
 use Rattle.heap_rule.specs.declared.view.DomainView.{DomainView}
 use Rattle.heap_rule.specs.Changes.{changed, FitChanges}
-use Rattle.heap_rule.specs.Raw.{rewritten, CanChange, Changes, Written, Closes}
-use Rattle.heap_rule.proofs.Plain.{fits_rewritten, entered_own, changed_unread, entered_closes}
+use Rattle.heap_rule.specs.Raw.{StepsOnce, CanChange, Changes, Written, Closes}
+use Rattle.heap_rule.proofs.Plain.{fits_changed, entered_own, enters_once, changed_unread, entered_closes}
+use Rattle.heap_rule.proofs.Closes.{front_same}
 use Rattle.heap_rule.specs.Token.{Holds, LooksWithin, OwnFits}
 use Rattle.steps_run.specs.Loads.{place_of, HeadCase, HeadTold, LabelTold, FieldRead}
 use Rattle.steps_run.specs.Ticks.{tick_answer, TickTold}
 
 -- a load that leaves the plain data, and has no changes
-kept : (k : Config) (x y : DomainView) (found : ℕ) (changes : List Change) → changes ≡ [] → OwnFits k x.own → y.own ≡ x.own → Written k x y (λ own. CanChange Unread found changes) (λ own after. Changes Unread found changes own after)
-kept k x y found changes empty p same =
+kept : (k : Config) (x y : DomainView) (found : ℕ) (changes : List Change) → changes ≡ [] → OwnFits k x.own → y.own ≡ x.own → StepsOnce k x y → Written k x y (λ own. CanChange Unread found changes) (λ own after. Changes Unread found changes own after)
+kept k x y found changes empty p same once =
     let fits : FitChanges changes = subst FitChanges (sym empty) tt in
-    let own : y.own ≡ rewritten x.own (changed Nothing changes x.own.registers) = same ∙ ap (λ (cs : List Change). rewritten x.own (changed Nothing cs x.own.registers)) (sym empty) in
-    changed_unread k x y found changes fits p own (subst (λ (o : Own). Holds k o.registers) (sym same) p.registers)
+    let own : y.own ≡ changed Nothing changes x.own = same ∙ ap (λ (cs : List Change). changed Nothing cs x.own) (sym empty) in
+    changed_unread k x y found changes fits p own (subst (λ (o : Own). Holds k o.registers) (sym same) p.registers) once
 
 -- what a step that reads no value closes
 abbrev pub ClosesUnread : Config → DomainView → List Change → (DomainView → ℕ → DomainView → Type 0) → Type 0
@@ -38,21 +40,33 @@ tick_closes k x e changes fits found = entered_closes k x found e (tick_answer e
 
 -- a head load leaves the plain data
 head_own : (k : Config) (a : ℕ) (e : Entry) (x y : DomainView) (shape : Shape) → HeadCase k a e shape x y → y.own ≡ x.own
+head_own k a e x y (RawShape size tag) told = absurd told
 head_own k a e x y (EpheShape keys) told = ap (λ (z : DomainView). z.own) told.view
 head_own k a e x y (PlainShape size tag) told = dite (dec_le size (place_of e))
     (λ past. ap (λ (z : DomainView). z.own) (told.past past).view)
     (λ not_past. ap (λ (z : DomainView). z.own) (told.below (lt_of_not-le not_past)).looked.view)
 
+-- and its entry stands there, or none does
+head_once : (k : Config) (a : ℕ) (e : Entry) (x y : DomainView) (shape : Shape) → HeadCase k a e shape x y → StepsOnce k x y
+head_once k a e x y (EpheShape keys) told = enters_once k e (Replied BadType) Nothing [] x y told
+head_once k a e x y (RawShape size tag) told = absurd told
+head_once k a e x y (PlainShape size tag) told = dite (dec_le size (place_of e))
+    (λ past. enters_once k e (Replied BadIndex) Nothing [] x y (told.past past))
+    (λ not_past _. let m = told.below (lt_of_not-le not_past) in let own = ap (λ (z : DomainView). z.own) m.looked.view in
+    inl (record { front = m.looked.seen; registers = ap (λ (o : Own). o.registers) own; used = ap (λ (o : Own). o.used) own; serial = ap (λ (o : Own). o.serial) own }))
+
 pub head_closes : (k : Config) (x : DomainView) (a : ℕ) (e : Entry) (changes : List Change) → changes ≡ [] → ClosesUnread k x changes (HeadTold k a e)
-head_closes k x a e changes empty found y p told = kept k x y found changes empty p (head_own k a e x y told.shape told.told)
+head_closes k x a e changes empty found y p told = kept k x y found changes empty p (head_own k a e x y told.shape told.told) (head_once k a e x y told.shape told.told)
 
 pub label_closes : (k : Config) (x : DomainView) (r : ℕ) (changes : List Change) → changes ≡ [] → ClosesUnread k x changes (LabelTold k r)
-label_closes k x r changes empty found y p told = kept k x y found changes empty p (ap (λ (z : DomainView). z.own) told.view)
+label_closes k x r changes empty found y p told = let own = ap (λ (z : DomainView). z.own) told.view in
+    kept k x y found changes empty p own (λ _. inl (record { front = front_same x y (ap (λ (z : DomainView). z.seen.front) told.view); registers = ap (λ (o : Own). o.registers) own; used = ap (λ (o : Own). o.used) own; serial = ap (λ (o : Own). o.serial) own }))
 
 pub field_load_closes : (k : Config) (x : DomainView) (e : Entry) (changes : List Change) → FitChanges changes → (found : ℕ) → Closes k x found (FieldRead k e changes) (λ own. CanChange AsValue found changes) (λ own after. Changes AsValue found changes own after)
 field_load_closes k x e changes fits found y p told =
     let own = entered_own k e (Replied (shown told.held)) told.value changes x y told.entered in record {
       can_write = (fits, (told.value, (told.packable, sym told.word)));
-      written = λ after wrote. own ∙ (ap (λ (u : Value). rewritten x.own (changed u changes x.own.registers)) (sym (value_word-injective wrote.0 told.value wrote.1.0 told.packable (wrote.1.1 ∙ told.word))) ∙ sym wrote.2);
-      fits = fits_rewritten k x.own y.own (changed told.value changes x.own.registers) own p told.entered.holds;
+      written = λ after wrote. own ∙ (ap (λ (u : Value). changed u changes x.own) (sym (value_word-injective wrote.0 told.value wrote.1.0 told.packable (wrote.1.1 ∙ told.word))) ∙ sym wrote.2);
+      fits = fits_changed k x.own y.own told.value changes own p told.entered.holds;
+      once = enters_once k e (Replied (shown told.held)) told.value changes x y told.entered;
     }

@@ -29,16 +29,17 @@ use Rattle.heap_rule.specs.Places.{Place, Live, extent, values_of, Stands, WordS
 use Rattle.heap_rule.specs.Changes.{value_at, changed, FitChanges}
 use Rattle.heap_rule.specs.Views.{one, Tells}
 use Rattle.heap_rule.specs.Raw.{MayStore}
-use Rattle.heap_rule.specs.Rule.{state_of, AllFound, Area, Prepared, Rule}
+use Rattle.heap_rule.specs.Rule.{state_of, AllFound, Area, Making, Rule}
 use Rattle.heap_rule.specs.Standing.{Entered}
 use Rattle.steps_run.specs.Stores.{FieldStoreMay, FieldStoreEntry}
 use Rattle.heap_rule.proofs.Lists.{got_set, got_below}
+use Rattle.heap_rule.proofs.ChangeLemmas.{registers_of}
 use Rattle.heap_rule.proofs.Values.{AllStand, not_nothing}
-use Rattle.heap_rule.proofs.Keeps.{my_good, control_set, hunter_as, appends}
+use Rattle.heap_rule.proofs.Keeps.{my_good, control_set, controls_kept, hunter_as, appends}
 use Rattle.heap_rule.proofs.Lots.{Beside, head_full, live_beside, grid_beside, hunter_beside}
-use Rattle.heap_rule.proofs.Entering.{running, registers_stand, EntersTo, stood_after, entered_view, enters}
+use Rattle.heap_rule.proofs.Entering.{running, registers_stand, EntersTo, stood_after, entered_view, enters, enters_command, may_begin}
 use Rattle.heap_rule.proofs.Blocks.{field_at, some_same}
-use Rattle.heap_rule.proofs.Beside.{found_beside, prepared_beside, live_word_far}
+use Rattle.heap_rule.proofs.Beside.{found_beside, making_beside, live_word_far}
 
 -- one field of one block changes, in the words and in the graph
 module _ (k : Config) (live : Live) (graph : Graph) (words : List ℕ) (a i new : ℕ) (p : Place) (tag : ℕ) (fields : List graph_value.Value) (v old : graph_value.Value)
@@ -113,34 +114,29 @@ field_stores : (k : Config) (slots id word : ℕ) (hist : List Entry) (x : Domai
 field_stores k slots id word hist x a new block i item changes place may s r _ at _ =
     let d : ℕ = x.own.number in
     let e : Entry = Command d (Store block i item) false in
-    let now : model.State = state_of k r.log in
+    let now : model.State = state_of k r.account.log in
     let t = field_at k s r id hist x at a block i may.target in
     let f = t.0 in
     let w : Value = value_at x.own.registers item in
     let v : graph_value.Value = register now d item in
     let stand = registers_stand k s r id hist x at may.acts in
-    let stands : WordStands r.live new v = record { value = w; packs = may.word; stands = stand.each item may.from } in
+    let stands : WordStands r.account.live new v = record { value = w; packs = may.word; stands = stand.each item may.from } in
     let graph : Graph = with_node now.graph f.place.label (Plain f.tag (set f.fields i v)) in
-    let regs : List Value = changed NothingWord changes x.own.registers in
+    let regs : List Value = (changed NothingWord changes x.own).registers in
     let words : List ℕ = set s.words (before_heap k + (f.address + 2 + i)) new in
     let y : DomainView = entered_view k s r id hist x at may.acts e regs in
     let g = my_good k s r id hist x at in
     let low : 1 ≤ f.address = (r.whole.placed.fits f.address f.place f.lives).low in
-    let inside : 2 + i < extent f.place.shape = stored_inside k r.live now.graph s.words f.address i new f.place f.tag f.fields v f.value r.whole.placed r.whole.wide f.lives r.whole.found f.node f.there stands in
-    let head : at_address k s.words f.address ≢ 0 = head_full k r.live now.graph s.words f.address f.place (r.whole.found f.address f.place f.lives) in
-    let beside : (m : ℕ) → Beside k r.tenancy s.words m (f.address + 2 + i) = (λ m. subst (Beside k r.tenancy s.words m) (let h : f.address + (2 + i) ≡ f.address + 2 + i = omega arith in h)
-    (live_beside k r.tenancy r.live s.words f.address (2 + i) f.place r.whole.pools r.whole.grid low f.lives (omega arith) inside head m)) in
-    let far : (z : DomainView) → Area k r.live z → Prepared k s.words z → Prepared k words z =
-    (λ z area prepared. prepared_beside k s.words (f.address + 2 + i) new z (λ j fits same. live_word_far k r.live f.address (2 + i) f.place z f.lives inside area j fits (same ∙ (let h : f.address + 2 + i ≡ f.address + (2 + i) = omega arith in h))) prepared) in
-    let o : EntersTo k s r id hist x at may.acts graph e regs (Replied Done) = record {
-      alone = λ m other. ne_eqb d m (λ q. other (sym q));
-      allowed = record { running = running k s r id hist x at may.acts; fits = (r.whole.calm.mode, r.whole.calm.queues d); full_fits = tt };
-      calm = calm_command now d (Store block i item) false r.whole.calm;
-      theirs = (domain_at now d).registers;
-      stand = subst (λ (l : List Value). AllStand r.live l (domain_at now d).registers) (sym may.same) stand;
-      leaves = leaves_store now d block i item f.place.label f.tag f.fields v f.value f.held f.node f.there refl (not_nothing r.live w v may.full (stand.each item may.from));
-    } in
-    let rule : Rule k record { words = words; homes = s.homes; views = set s.views id (one k hist y) } = appends k s r id hist x at e y words r.live record {
+    let inside : 2 + i < extent f.place.shape = stored_inside k r.account.live now.graph s.words f.address i new f.place f.tag f.fields v f.value r.whole.placed r.whole.wide f.lives r.whole.found f.node f.there stands in
+    let head : at_address k s.words f.address ≢ 0 = head_full k r.account.live now.graph s.words f.address f.place (r.whole.found f.address f.place f.lives) in
+    let beside : (m : ℕ) → Beside k r.account.tenancy s.words m (f.address + 2 + i) = (λ m. subst (Beside k r.account.tenancy s.words m) (let h : f.address + (2 + i) ≡ f.address + 2 + i = omega arith in h)
+    (live_beside k r.account.tenancy r.account.live s.words f.address (2 + i) f.place r.whole.pools r.whole.grid low f.lives (omega arith) inside head m)) in
+    let far : (z : DomainView) → Area k r.account.live z → Making k s.words z → Making k words z =
+    (λ z area making. making_beside k s.words (f.address + 2 + i) new z (λ j fits same. live_word_far k r.account.live f.address (2 + i) f.place z f.lives inside area j fits (same ∙ (let h : f.address + 2 + i ≡ f.address + (2 + i) = omega arith in h))) making) in
+    let o : EntersTo k s r id hist x at may.acts graph e regs (Replied Done) = enters_command k s r id hist x at may.acts graph (Store block i item) (may_begin k s r id hist x at may.acts) regs _ (domain_at now d).registers
+        (subst (λ (l : List Value). AllStand r.account.live l (domain_at now d).registers) (sym (ap registers_of may.same)) stand)
+        (leaves_store now d block i item f.place.label f.tag f.fields v f.value f.held f.node f.there refl (not_nothing r.account.live w v may.full (stand.each item may.from))) in
+    let rule : Rule k record { words = words; homes = s.homes; views = set s.views id (one k hist y) } = appends k s r id hist x at e y words r.account.live record {
       alone = o.alone;
       command = tt;
       runs = may.acts.runs;
@@ -151,19 +147,19 @@ field_stores k slots id word hist x a new block i item changes place may s r _ a
       front = refl;
       arrivals = refl;
       wide = length-set s.words (before_heap k + (f.address + 2 + i)) new;
-      control = control_set k s.words (f.address + 2 + i) new (omega arith);
-      found = subst (λ (z : Graph). AllFound k r.live z words) (sym o.leaves.graph_is)
-          (stored_found k r.live now.graph s.words f.address i new f.place f.tag f.fields v f.value r.whole.placed r.whole.wide f.lives r.whole.found f.node f.there stands);
+      controls = controls_kept k s r id hist x at (set s.words (before_heap k + (f.address + 2 + i)) new) (control_set k s.words (f.address + 2 + i) new (omega arith));
+      found = subst (λ (z : Graph). AllFound k r.account.live z words) (sym o.leaves.graph_is)
+          (stored_found k r.account.live now.graph s.words f.address i new f.place f.tag f.fields v f.value r.whole.placed r.whole.wide f.lives r.whole.found f.node f.there stands);
       placed = r.whole.placed;
       more = λ b p h. h;
       stood = stood_after k s r id hist x at may.acts graph e regs (Replied Done) y refl refl refl o;
       area = record { room = g.area.room; free = g.area.free };
-      prepared = let p = far x g.area g.prepared in record { fits = p.fits; written = p.written };
+      making = let p = far x g.area g.making in record { fits = p.fits; written = p.written };
       areas = λ z _ h. h;
-      prepares = λ z _ area p. far z area p;
-      grid = grid_beside k r.tenancy s.words (f.address + 2 + i) new r.live r.live r.whole.pools beside (λ b q h. h) (λ b q h _. h) r.whole.grid;
-      hunter = hunter_as k r.tenancy words x y refl refl refl refl (hunter_beside k r.tenancy s.words (f.address + 2 + i) new r.whole.pools x (beside d) g.hunter);
-      hunters = λ z _ g. hunter_beside k r.tenancy s.words (f.address + 2 + i) new r.whole.pools z (beside z.own.number) g.hunter;
+      makings = λ z _ area p. far z area p;
+      grid = grid_beside k r.account.tenancy s.words (f.address + 2 + i) new r.account.live r.account.live r.whole.pools beside (λ b q h. h) (λ b q h _. h) r.whole.grid;
+      hunter = hunter_as k r.account.tenancy words x y refl refl refl refl (hunter_beside k r.account.tenancy s.words (f.address + 2 + i) new r.whole.pools x (beside d) g.hunter);
+      hunters = λ z _ g. hunter_beside k r.account.tenancy s.words (f.address + 2 + i) new r.whole.pools z (beside z.own.number) g.hunter;
     } in
     let here : word ≡ before_heap k + (f.address + 2 + i) = place ∙ ap (λ (n : ℕ). before_heap k + n) (may.target.field ∙ ap (λ (n : ℕ). n + 2 + i) (sym t.1)) in (
       one k hist y,

@@ -1,10 +1,10 @@
 -- A tick keeps the rule.
-use Rattle.std.proofs.Common.{◌≡◌, ℕ, ◌<◌, true, false, ne_eqb, List, [], length, set, sym, refl, subst, ⊎_elim}
+use Rattle.std.proofs.Common.{◌≡◌, ℕ, ◌<◌, true, false, ne_eqb, List, [], length, set, sym, ap, refl, subst, ⊎_elim}
 use mathlib.Core.Option.{some}
 use lib.ListN.{get_elem?}
 use Rattle.atomic_table.specs.Table.{keeps, Allows}
 use Rattle.heap_model.specs.declared.command.Command as model_command
-use Rattle.heap_model.specs.declared.command.Command.TheVariants.{PutInt, Copy, Forget, Alloc, AllocMaj, Load, Store, Ephe as NewEphe, Poll, Minor}
+use Rattle.heap_model.specs.declared.command.Command.TheVariants.{PutInt, Copy, Forget, Alloc, AllocMaj, Load, Store, Raw as NewRaw, Ephe as NewEphe, Poll, Minor}
 use Rattle.heap_model.specs.declared.entry.Entry.{Entry}
 use Rattle.heap_model.specs.declared.entry.Entry.TheVariants.{Command}
 use Rattle.heap_model.specs.declared.reply.Applied.TheVariants.{Replied}
@@ -30,14 +30,16 @@ use Rattle.heap_rule.specs.Raw.{MayStep}
 use Rattle.heap_rule.specs.Rule.{state_of, Rule}
 use Rattle.heap_rule.specs.Standing.{Acts}
 use Rattle.steps_run.specs.Ticks.{TickCommand, TickEntry, TickMay, command_answer, tick_answer, TickTold}
+use Rattle.heap_rule.proofs.ChangeLemmas.{changed_only, registers_of}
 use Rattle.heap_rule.proofs.Values.{AllStand, stand_set, no_label, stands_nothing}
 use Rattle.heap_rule.proofs.Keeps.{Words, IsCommand, unmoved}
-use Rattle.heap_rule.proofs.Entering.{running, inside_state, registers_stand, Enters, entered_view, enters_rule, enters}
+use Rattle.heap_rule.proofs.Entering.{running, inside_state, registers_stand, Enters, entered_view, enters_rule, enters, enters_command, may_begin}
 
 -- the mode and the queue fit an allocation
 fits_allocation : (s : model.State) (d : ℕ) (c : model_command.Command) → is_allocation c ≡ true → s.mode ≡ Open → (domain_at s d).queue ≡ [] → FitsMode s d c
 fits_allocation s d (Alloc dst tag fields) is mode queue = (mode, queue)
 fits_allocation s d (AllocMaj dst tag fields) is mode queue = (mode, queue)
+fits_allocation s d (NewRaw dst tag fields) is mode queue = (mode, queue)
 fits_allocation s d (NewEphe dst keys) is mode queue = (mode, queue)
 fits_allocation s d _ is mode queue = absurd (let clash : false ≡ true = is in cc)
 
@@ -47,13 +49,13 @@ leaves_minor s d = let p = leaves_poll s d in record { graph_is = p.graph_is; re
 
 module _ (k : Config) (s : Words) (r : Rule k s) (id : ℕ) (hist : List Entry) (x : DomainView) (at : get_elem? s.views id ≡ some (one k hist x)) (acts : Acts k x) (changes : List Change) where
   abbrev now : model.State
-  now = state_of k r.log
+  now = state_of k r.account.log
 
   abbrev d : ℕ
   d = x.own.number
 
   abbrev regs : List Value
-  regs = changed NothingWord changes x.own.registers
+  regs = (changed NothingWord changes x.own).registers
 
   -- the model's registers
   abbrev theirs : List model_value.Value
@@ -62,7 +64,7 @@ module _ (k : Config) (s : Words) (r : Rule k s) (id : ℕ) (hist : List Entry) 
   calm : IsCalm now
   calm = r.whole.calm
 
-  stand : AllStand r.live x.own.registers theirs
+  stand : AllStand r.account.live x.own.registers theirs
   stand = registers_stand k s r id hist x at acts
 
   inside : d < length now.domains
@@ -70,66 +72,31 @@ module _ (k : Config) (s : Words) (r : Rule k s) (id : ℕ) (hist : List Entry) 
 
   -- a register command: the changed registers stand for those that it leaves
   commands : (c : model_command.Command) → TickCommand x changes c → Enters k s r id hist x at acts (Command d c false) regs (Replied (command_answer c))
-  commands (PutInt dst z) may = record {
-    alone = λ j other. ne_eqb d j (λ e. other (sym e));
-    allowed = record { running = running k s r id hist x at acts; fits = (calm.mode, calm.queues d); full_fits = tt };
-    calm = calm_command now d (PutInt dst z) false calm;
-    theirs = set theirs dst (Int z);
-    stand = subst (λ (l : List Value). AllStand r.live l (set theirs dst (Int z))) (sym may.2) (stand_set r.live x.own.registers theirs dst (IntWord z) (Int z) may.0 (refl, may.1) stand);
-    leaves = leaves_put now d inside dst z;
-  }
-  commands (Copy dst src) may = record {
-    alone = λ j other. ne_eqb d j (λ e. other (sym e));
-    allowed = record { running = running k s r id hist x at acts; fits = (calm.mode, calm.queues d); full_fits = tt };
-    calm = calm_command now d (Copy dst src) false calm;
-    theirs = set theirs dst (register now d src);
-    stand = subst (λ (l : List Value). AllStand r.live l (set theirs dst (register now d src))) (sym may.2)
-        (stand_set r.live x.own.registers theirs dst (value_at x.own.registers src) (register now d src) may.0 (stand.each src may.1) stand);
-    leaves = leaves_copy now d inside dst src;
-  }
-  commands (Forget dst) may = record {
-    alone = λ j other. ne_eqb d j (λ e. other (sym e));
-    allowed = record { running = running k s r id hist x at acts; fits = (calm.mode, calm.queues d); full_fits = tt };
-    calm = calm_command now d (Forget dst) false calm;
-    theirs = set theirs dst Nothing;
-    stand = subst (λ (l : List Value). AllStand r.live l (set theirs dst Nothing)) (sym may.1) (stand_set r.live x.own.registers theirs dst NothingWord Nothing may.0 tt stand);
-    leaves = leaves_forget now d inside dst;
-  }
-  commands Poll may = record {
-    alone = λ j other. ne_eqb d j (λ e. other (sym e));
-    allowed = record { running = running k s r id hist x at acts; fits = (calm.mode, calm.queues d); full_fits = tt };
-    calm = calm_command now d Poll false calm;
-    theirs = theirs;
-    stand = subst (λ (l : List Value). AllStand r.live l theirs) (sym may) stand;
-    leaves = leaves_poll now d;
-  }
-  commands Minor may = record {
-    alone = λ j other. ne_eqb d j (λ e. other (sym e));
-    allowed = record { running = running k s r id hist x at acts; fits = (calm.mode, calm.queues d); full_fits = tt };
-    calm = calm_command now d Minor false calm;
-    theirs = theirs;
-    stand = subst (λ (l : List Value). AllStand r.live l theirs) (sym may) stand;
-    leaves = leaves_minor now d;
-  }
-  commands (Load dst src i) may = record {
-    alone = λ j other. ne_eqb d j (λ e. other (sym e));
-    allowed = record { running = running k s r id hist x at acts; fits = (calm.mode, calm.queues d); full_fits = tt };
-    calm = calm_command now d (Load dst src i) false calm;
-    theirs = theirs;
-    stand = subst (λ (l : List Value). AllStand r.live l theirs) (sym may.2) stand;
-    leaves = leaves_load_type now d dst src i (no_label r.live (value_at x.own.registers src) (register now d src) may.1 (stand.each src may.0));
-  }
-  commands (Store block i item) may = record {
-    alone = λ j other. ne_eqb d j (λ e. other (sym e));
-    allowed = record { running = running k s r id hist x at acts; fits = (calm.mode, calm.queues d); full_fits = tt };
-    calm = calm_command now d (Store block i item) false calm;
-    theirs = theirs;
-    stand = subst (λ (l : List Value). AllStand r.live l theirs) (sym may.3) stand;
-    leaves = ⊎_elim
-        (λ (n : IsNoBlock (value_at x.own.registers block)). leaves_store_type now d block i item (no_label r.live (value_at x.own.registers block) (register now d block) n (stand.each block may.0)))
-        (λ (e : value_at x.own.registers item ≡ NothingWord). leaves_store_nothing now d block i item (stands_nothing r.live (register now d item) (subst (λ (v : Value). Stands r.live v (register now d item)) e (stand.each item may.1))))
-        may.2;
-  }
+  commands (PutInt dst z) may = enters_command k s r id hist x at acts now.graph (PutInt dst z) (may_begin k s r id hist x at acts) regs _ (set theirs dst (Int z))
+      (subst (λ (l : List Value). AllStand r.account.live l (set theirs dst (Int z))) (sym (ap registers_of may.2)) (stand_set r.account.live x.own.registers theirs dst (IntWord z) (Int z) may.0 (refl, may.1) stand))
+      (leaves_put now d inside dst z)
+  commands (Copy dst src) may = enters_command k s r id hist x at acts now.graph (Copy dst src) (may_begin k s r id hist x at acts) regs _ (set theirs dst (register now d src))
+      (subst (λ (l : List Value). AllStand r.account.live l (set theirs dst (register now d src))) (sym (ap registers_of may.2))
+        (stand_set r.account.live x.own.registers theirs dst (value_at x.own.registers src) (register now d src) may.0 (stand.each src may.1) stand))
+      (leaves_copy now d inside dst src)
+  commands (Forget dst) may = enters_command k s r id hist x at acts now.graph (Forget dst) (may_begin k s r id hist x at acts) regs _ (set theirs dst Nothing)
+      (subst (λ (l : List Value). AllStand r.account.live l (set theirs dst Nothing)) (sym (ap registers_of may.1)) (stand_set r.account.live x.own.registers theirs dst NothingWord Nothing may.0 tt stand))
+      (leaves_forget now d inside dst)
+  commands Poll may = enters_command k s r id hist x at acts now.graph Poll (may_begin k s r id hist x at acts) regs _ (theirs)
+      (subst (λ (l : List Value). AllStand r.account.live l theirs) (sym (ap registers_of may)) stand)
+      (leaves_poll now d)
+  commands Minor may = enters_command k s r id hist x at acts now.graph Minor (may_begin k s r id hist x at acts) regs _ (theirs)
+      (subst (λ (l : List Value). AllStand r.account.live l theirs) (sym (ap registers_of may)) stand)
+      (leaves_minor now d)
+  commands (Load dst src i) may = enters_command k s r id hist x at acts now.graph (Load dst src i) (may_begin k s r id hist x at acts) regs _ (theirs)
+      (subst (λ (l : List Value). AllStand r.account.live l theirs) (sym (ap registers_of may.2)) stand)
+      (leaves_load_type now d dst src i (no_label r.account.live (value_at x.own.registers src) (register now d src) may.1 (stand.each src may.0)))
+  commands (Store block i item) may = enters_command k s r id hist x at acts now.graph (Store block i item) (may_begin k s r id hist x at acts) regs _ (theirs)
+      (subst (λ (l : List Value). AllStand r.account.live l theirs) (sym (ap registers_of may.3)) stand)
+      (⊎_elim
+        (λ (n : IsNoBlock (value_at x.own.registers block)). leaves_store_type now d block i item (no_label r.account.live (value_at x.own.registers block) (register now d block) n (stand.each block may.0)))
+        (λ (e : value_at x.own.registers item ≡ NothingWord). leaves_store_nothing now d block i item (stands_nothing r.account.live (register now d item) (subst (λ (v : Value). Stands r.account.live v (register now d item)) e (stand.each item may.1))))
+        may.2)
   commands _ may = absurd may
 
   entries : (e : Entry) → TickEntry x changes e → Enters k s r id hist x at acts e regs (tick_answer e)
@@ -139,7 +106,7 @@ module _ (k : Config) (s : Words) (r : Rule k s) (id : ℕ) (hist : List Entry) 
     allowed = record { running = running k s r id hist x at acts; fits = fits_allocation now d c may.1 calm.mode (calm.queues d); full_fits = may.1 };
     calm = calm_command now d c true calm;
     theirs = theirs;
-    stand = subst (λ (l : List Value). AllStand r.live l theirs) (sym may.2) stand;
+    stand = subst (λ (l : List Value). AllStand r.account.live l theirs) (sym (ap registers_of may.2)) stand;
     leaves = leaves_full now d c;
   }
   entries _ may = absurd may
@@ -153,12 +120,12 @@ ticks : (k : Config) (slots id word : ℕ) (hist : List Entry) (x : DomainView) 
     → Allows (Rule k) slots id (one k hist x, []) word (λ n. n) (Tells (TickTold k e changes) (one k hist x, []))
 ticks k slots id word hist x e changes may s r _ at _ =
     let o = entries k s r id hist x at may.acts changes e may.entry in
-    let regs : List Value = changed NothingWord changes x.own.registers in (
+    let regs : List Value = (changed NothingWord changes x.own).registers in (
       one k hist (entered_view k s r id hist x at may.acts e regs),
       keeps,
       tt,
       unmoved k s word (set s.views id (one k hist (entered_view k s r id hist x at may.acts e regs))) (enters_rule k s r id hist x at may.acts e regs (tick_answer e) o (tick_command x changes e may.entry)),
-      (enters k s r id hist x at may.acts (state_of k r.log).graph e (tick_answer e) NothingWord changes o, refl),
+      (enters k s r id hist x at may.acts (state_of k r.account.log).graph e (tick_answer e) NothingWord changes o, refl),
     )
 
 pub tick_may : (k : Config) (word : ℕ) (x : DomainView) (e : Entry) (changes : List Change) → TickMay k x changes e → MayStep k x word (λ n. n) (TickTold k e changes)

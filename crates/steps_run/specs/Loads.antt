@@ -10,7 +10,7 @@ use Rattle.heap_model.specs.declared.reply.Reply.TheVariants.{BadType, BadIndex}
 use Rattle.heap_model.specs.declared.reply.Applied.TheVariants.{Replied}
 use Rattle.heap_model.specs.Commands.{shown}
 use Rattle.heap_model.specs.Domains.{register}
-use Rattle.heap_model.specs.Fronts.{Shape, PlainShape, EpheShape, HoldsPlain}
+use Rattle.heap_model.specs.Fronts.{Shape, PlainShape, RawShape, EpheShape, HoldsPlain}
 use Rattle.heap_words.specs.declared.value.Value.{Value}
 use Rattle.heap_words.specs.declared.value.Value.TheVariants.{Nothing}
 use Rattle.heap_words.specs.Values.{IsPackable, value_word}
@@ -20,7 +20,7 @@ use Rattle.heap_rule.specs.declared.change.Change.{Change}
 use Rattle.heap_rule.specs.declared.config.Config.{Config}
 use Rattle.heap_rule.specs.declared.view.DomainView.{DomainView}
 use Rattle.heap_rule.specs.Layout.{heap_words}
-use Rattle.heap_rule.specs.Places.{head_of, HeadIs, Shows}
+use Rattle.heap_rule.specs.Places.{Shows, IsHeadOf}
 use Rattle.heap_rule.specs.Changes.{value_at, changed, FitChanges}
 use Rattle.heap_rule.specs.Rule.{state_of}
 use Rattle.heap_rule.specs.Standing.{Acts, IsAt, FieldMay, Entered, Looked}
@@ -63,16 +63,16 @@ pub record SizeTold (k : Config) (a : ℕ) (e : Entry) (size : ℕ) (x y : Domai
   pub below : place_of e < size → Measured k a (subject e) size x y
   pub past : size ≤ place_of e → Entered k e (Replied BadIndex) Nothing [] x y
 
--- and where the block is no plain one
+-- and where the block is no plain one: an ephemeron, since there are no raw blocks yet
 abbrev pub HeadCase : Config → ℕ → Entry → Shape → DomainView → DomainView → Type 0
 HeadCase k a e (PlainShape size tag) x y = SizeTold k a e size x y
+HeadCase k a e (RawShape size tag) x y = ⊥
 HeadCase k a e (EpheShape keys) x y = Entered k e (Replied BadType) Nothing [] x y
 
 -- a head load tells the shape of the block
 pub record HeadTold (k : Config) (a : ℕ) (e : Entry) (x : DomainView) (found : ℕ) (y : DomainView) : Type 0 where
   pub shape : Shape
-  pub packable : IsPackableHead (head_of shape)
-  pub head : HeadIs shape found
+  pub head : IsHeadOf shape found
   pub told : HeadCase k a e shape x y
 
 -- what a label load asks: the word behind the block's address
@@ -95,7 +95,7 @@ pub record FieldLoadMay (k : Config) (x : DomainView) (at : ℕ) (changes : List
   pub acts : Acts k x
   pub reads : FieldMay k x at src i
   pub goes : dst < 16
-  pub written : (v : Value) → changed v changes x.own.registers ≡ slice_set x.own.registers dst v
+  pub written : (v : Value) → changed v changes x.own ≡ record x.own { registers = slice_set x.own.registers dst v }
   pub fits : FitChanges changes
 
 -- the same of the entry that is told

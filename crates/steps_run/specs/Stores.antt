@@ -9,7 +9,7 @@ use Rattle.heap_rule.specs.declared.change.Change.{Change}
 use Rattle.heap_rule.specs.declared.config.Config.{Config}
 use Rattle.heap_rule.specs.declared.view.DomainView.{DomainView}
 use Rattle.heap_rule.specs.Changes.{value_at, FitChanges}
-use Rattle.heap_rule.specs.Standing.{Acts, FieldMay, LeavesRegisters}
+use Rattle.heap_rule.specs.Standing.{Acts, FieldMay, LeavesOwn}
 
 -- the field gets the word of what a register holds
 pub record FieldStoreMay (k : Config) (x : DomainView) (at new : ℕ) (changes : List Change) (d block i item : ℕ) : Type 0 where
@@ -19,7 +19,7 @@ pub record FieldStoreMay (k : Config) (x : DomainView) (at new : ℕ) (changes :
   pub from : item < 16
   pub full : value_at x.own.registers item ≢ Nothing
   pub word : new ≡ value_word (value_at x.own.registers item)
-  pub same : LeavesRegisters changes x
+  pub same : LeavesOwn changes x
   pub fits : FitChanges changes
 
 -- the same of the entry that is told, an own store

@@ -17,28 +17,28 @@ use Rattle.heap_rule.specs.declared.config.Config.{Config}
 use Rattle.heap_rule.specs.declared.view.DomainView.{DomainView}
 use Rattle.heap_rule.specs.Places.{IsNoBlock}
 use Rattle.heap_rule.specs.Changes.{value_at, changed, FitChanges}
-use Rattle.heap_rule.specs.Standing.{Acts, LeavesRegisters, Entered}
+use Rattle.heap_rule.specs.Standing.{Acts, LeavesOwn, Entered}
 
 -- the changes make the registers these
 abbrev pub Makes : List Change → DomainView → List Value → Type 0
-Makes changes x registers = changed Nothing changes x.own.registers ≡ registers
+Makes changes x registers = changed Nothing changes x.own ≡ record x.own { registers = registers }
 
 -- a command that the registers alone decide, and what its changes do
 abbrev pub TickCommand : DomainView → List Change → model.Command → Type 0
 TickCommand x changes (PutInt dst z) = (dst < 16) × IsPackable (Int z) × Makes changes x (slice_set x.own.registers dst (Int z))
 TickCommand x changes (Copy dst src) = (dst < 16) × (src < 16) × Makes changes x (slice_set x.own.registers dst (value_at x.own.registers src))
 TickCommand x changes (Forget dst) = (dst < 16) × Makes changes x (slice_set x.own.registers dst Nothing)
-TickCommand x changes (Load dst src i) = (src < 16) × IsNoBlock (value_at x.own.registers src) × LeavesRegisters changes x
+TickCommand x changes (Load dst src i) = (src < 16) × IsNoBlock (value_at x.own.registers src) × LeavesOwn changes x
 TickCommand x changes (Store block i item) =
-    (block < 16) × (item < 16) × (IsNoBlock (value_at x.own.registers block) ⊎ (value_at x.own.registers item ≡ Nothing)) × LeavesRegisters changes x
-TickCommand x changes Poll = LeavesRegisters changes x
-TickCommand x changes Minor = LeavesRegisters changes x
+    (block < 16) × (item < 16) × (IsNoBlock (value_at x.own.registers block) ⊎ (value_at x.own.registers item ≡ Nothing)) × LeavesOwn changes x
+TickCommand x changes Poll = LeavesOwn changes x
+TickCommand x changes Minor = LeavesOwn changes x
 TickCommand x changes _ = ⊥
 
 -- an own entry that the registers alone decide: such a command, or `full` for an allocation
 abbrev pub TickEntry : DomainView → List Change → Entry → Type 0
 TickEntry x changes (Command d c false) = (d ≡ x.own.number) × TickCommand x changes c
-TickEntry x changes (Command d c true) = (d ≡ x.own.number) × (is_allocation c ≡ true) × LeavesRegisters changes x
+TickEntry x changes (Command d c true) = (d ≡ x.own.number) × (is_allocation c ≡ true) × LeavesOwn changes x
 TickEntry x changes _ = ⊥
 
 -- what a tick asks

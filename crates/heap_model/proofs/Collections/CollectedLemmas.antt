@@ -4,7 +4,7 @@ use Rattle.std.specs.List.{list_all}
 use Rattle.heap_model.specs.declared.label.Label.{Label}
 use Rattle.heap_model.specs.declared.entry.Entry.TheVariants.{Collected}
 use Rattle.heap_model.specs.declared.graph.Node.{Node}
-use Rattle.heap_model.specs.declared.graph.Node.TheVariants.{Plain, Ephe}
+use Rattle.heap_model.specs.declared.graph.Node.TheVariants.{Plain, Raw, Ephe}
 use Rattle.heap_model.specs.declared.state.DomainState.{DomainState}
 use Rattle.heap_model.specs.declared.state.Finaliser.{Finaliser}
 use Rattle.heap_model.specs.declared.state.LastFinaliser.{LastFinaliser}
@@ -13,11 +13,13 @@ use Rattle.heap_model.specs.declared.state.State.{State}
 use Rattle.heap_model.specs.Graph.{same_label, has_label, label_of, node_at}
 use Rattle.heap_model.specs.Domains.{domain_at, no_domain, queues, roots, reach, waiting, settled_roots, settled_reach, is_reachable_with, pending_label, opening}
 use Rattle.heap_model.specs.Reach.{key_holds, reachable, is_reachable}
-use Rattle.heap_model.specs.Entries.{is_some_and, is_dead, is_gone, is_let_go, has_dead_keys, keys_are_live, freshened, CollectedAllowed, next}
+use Rattle.heap_model.specs.Entries.{is_some_and, is_dead, is_gone, is_let_go, has_gone_keys, keys_are_live, freshened, CollectedAllowed, next}
 use Rattle.heap_model.specs.History.{state_after}
 use Rattle.heap_model.specs.Laws.{NothingPermitted, CollectedLeavesNothing, FullMajorCountsReach}
 use Rattle.heap_model.proofs.Graphs.ListLemmas.{flat_map-map}
-use Rattle.heap_model.proofs.Collections.CollectionLemmas.{all_has, all_at}
+use Rattle.heap_model.proofs.Collections.CollectionLemmas.{all_has}
+use Rattle.heap_model.proofs.Collections.CutLemmas.{queues_mapped}
+use Rattle.heap_model.proofs.Graphs.ListLemmas.{all_at}
 use Rattle.heap_model.proofs.Reach.ReachLemmas.{or_left, or_right, and_left, and_right, and_both, has-append_left, has-append_right, reachable_more}
 use Rattle.heap_model.proofs.Reach.ReachSizeLemmas.{reachable-no_repeats}
 use Rattle.heap_model.proofs.Histories.WellFormedLemmas.{reach_after}
@@ -48,9 +50,10 @@ false_and : (a b : Bool) → a ≡ false → a && b ≡ false
 false_and true b e = cc
 false_and false b e = refl
 
-no_keys : (s : State) (o : Option Node) (p : ℕ) → IsTrue (keys_are_live (has_label (reach s)) o) → has_dead_keys s (p ∷ []) o ≡ false
+no_keys : (s : State) (o : Option Node) (p : ℕ) → IsTrue (keys_are_live (has_label (reach s)) o) → has_gone_keys s (p ∷ []) o ≡ false
 no_keys s None p live = refl
 no_keys s (Some (Plain tag fields)) p live = refl
+no_keys s (Some (Raw tag fields)) p live = refl
 no_keys s (Some (Ephe keys datum)) p live = and_false (is_some_and (is_some_and (is_gone s (queues s))) (slice_get keys p)) (no_key s keys p live)
 
 -- a registration of a domain is one of all
@@ -100,21 +103,23 @@ nothing_left s collected = record {
         (not_gone s f.label (last_at (has_label (reach s)) s.domains d p f collected.lasts e))
 
 -- Collected changes nothing of what is reachable
-queues_fresh : (xs : List DomainState) → map (λ (x : DomainState). x.queue) (map freshened xs) ≡ map (λ (x : DomainState). x.queue) xs
-queues_fresh [] = refl
-queues_fresh (x ∷ xs) = ap (λ t. x.queue ∷ t) (queues_fresh xs)
+pub lasts_fresh : (test : Label → Bool) (xs : List DomainState) → IsTrue (list_all (λ x. list_all (λ f. test f.label) x.lasts) xs)
+    → IsTrue (list_all (λ x. list_all (λ f. test f.label) x.lasts) (map freshened xs))
+lasts_fresh test [] all = refl
+lasts_fresh test (x ∷ xs) all = and_both (list_all (λ f. test f.label) x.lasts) _ (and_left (list_all (λ f. test f.label) x.lasts) _ all)
+    (lasts_fresh test xs (and_right (list_all (λ f. test f.label) x.lasts) _ all))
 
 module _ (s : State) where
   abbrev after : State
   after = next s Collected
 
-  roots_fresh : (qs : List (List Pending)) → roots after qs ≡ roots s qs
+  pub roots_fresh : (qs : List (List Pending)) → roots after qs ≡ roots s qs
   roots_fresh qs = ap (λ t. t ++ flat_map (filter_map pending_label) qs) (flat_map-map (λ (x : DomainState). filter_map label_of x.registers) freshened s.domains)
 
-  reach_fresh : reach after ≡ reach s
-  reach_fresh = ap (reachable s.graph) (ap (roots after) (queues_fresh s.domains) ∙ roots_fresh (queues s))
+  pub reach_fresh : reach after ≡ reach s
+  reach_fresh = ap (reachable s.graph) (ap (roots after) (queues_mapped freshened (λ x. refl) s.domains) ∙ roots_fresh (queues s))
 
-  waiting_fresh : waiting after ≡ waiting s
+  pub waiting_fresh : waiting after ≡ waiting s
   waiting_fresh = flat_map-map (λ (x : DomainState). map (λ f. f.label) x.finals) freshened s.domains
 
   collected_fresh : CollectedAllowed s → IsCollected after
@@ -125,12 +130,6 @@ module _ (s : State) where
     lasts = subst (λ z. IsTrue (list_all (λ x. list_all (λ f. has_label z f.label) x.lasts) (map freshened s.domains))) (sym reach_fresh)
         (lasts_fresh (has_label (reach s)) s.domains allowed.lasts);
   }
-    where
-      lasts_fresh : (test : Label → Bool) (xs : List DomainState) → IsTrue (list_all (λ x. list_all (λ f. test f.label) x.lasts) xs)
-          → IsTrue (list_all (λ x. list_all (λ f. test f.label) x.lasts) (map freshened xs))
-      lasts_fresh test [] all = refl
-      lasts_fresh test (x ∷ xs) all = and_both (list_all (λ f. test f.label) x.lasts) _ (and_left (list_all (λ f. test f.label) x.lasts) _ all)
-          (lasts_fresh test xs (and_right (list_all (λ f. test f.label) x.lasts) _ all))
 
 -- after a Collected that is allowed nothing permitted is left
 pub collected_law : CollectedLeavesNothing

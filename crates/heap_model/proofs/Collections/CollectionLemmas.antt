@@ -1,5 +1,5 @@
 -- What a collection never takes: the values that a waiting registration may bring back.
-use Rattle.std.proofs.Common.{◌≡◌, ℕ, zero, suc, Bool, true, false, not, ◌&&◌, IsTrue, List, [], ◌∷◌, slice_get, Option, Some, refl, subst, ⊎_elim}
+use Rattle.std.proofs.Common.{◌≡◌, ℕ, Bool, true, false, not, ◌&&◌, IsTrue, List, [], ◌∷◌, slice_get, Option, Some, refl, subst, ⊎_elim}
 use Rattle.std.specs.List.{list_all}
 use Rattle.heap_model.specs.declared.label.Label.{Label}
 use Rattle.heap_model.specs.declared.graph.Value.{Value}
@@ -9,8 +9,9 @@ use Rattle.heap_model.specs.declared.state.LastFinaliser.{LastFinaliser}
 use Rattle.heap_model.specs.declared.state.State.{State}
 use Rattle.heap_model.specs.Graph.{same_label, has_label, node_at}
 use Rattle.heap_model.specs.Domains.{domain_at, queues, roots, waiting, settled_roots, settled_reach, is_reachable_with}
-use Rattle.heap_model.specs.Entries.{is_some_and, is_gone, is_let_go, queued_beyond, has_dead_keys, SealAllowed, WipeAllowed, LastAllowed, CollectedAllowed}
+use Rattle.heap_model.specs.Entries.{is_some_and, is_gone, is_let_go, queued_beyond, has_gone_keys, SealAllowed, WipeAllowed, LastAllowed, CollectedAllowed}
 use Rattle.heap_model.proofs.Graphs.GraphLemmas.{same_label-true}
+use Rattle.heap_model.proofs.Graphs.ListLemmas.{all_at}
 use Rattle.heap_model.proofs.Reach.ReachLemmas.{Within, or_cases, and_left, and_right, has-append_right, reachable_roots}
 
 -- a label of a list whose labels all pass a test
@@ -20,11 +21,6 @@ all_has test (k ∷ ls) all l h = ⊎_elim
     (λ here. subst (λ z. IsTrue (test z)) (same_label-true k l here) (and_left (test k) (list_all test ls) all))
     (λ later. all_has test ls (and_right (test k) (list_all test ls) all) l later)
     (or_cases (same_label k l) (has_label ls l) h)
-
-pub all_at : {A : Type 0} (test : A → Bool) (xs : List A) → IsTrue (list_all test xs) → (i : ℕ) (x : A) → slice_get xs i ≡ Some x → IsTrue (test x)
-all_at test [] all i x e = cc
-all_at test (y ∷ xs) all zero x e = let same : y ≡ x = cc in subst (λ z. IsTrue (test z)) same (and_left (test y) (list_all test xs) all)
-all_at test (y ∷ xs) all (suc i) x e = all_at test xs (and_right (test y) (list_all test xs) all) i x e
 
 module _ (s : State) (qs : List (List Pending)) where
   -- a waiting registration reaches its value
@@ -51,16 +47,16 @@ sealed_together s allowed l h = gone_waits_nowhere s s.cut l (all_has (is_gone s
 pub wiped_waits_nowhere : (s : State) (x : Label) (places : List ℕ) (keys : List (Option Label)) (datum : Value) → WipeAllowed s x places → node_at s.graph x ≡ Some (Ephe keys datum)
     → (i p : ℕ) (k : Label) → slice_get places i ≡ Some p → slice_get keys p ≡ Some (Some k) → has_label (waiting s) k ≡ false
 wiped_waits_nowhere s x places keys datum allowed node i p k at full =
-    let dead : IsTrue (has_dead_keys s places (Some (Ephe keys datum))) = subst (λ o. IsTrue (has_dead_keys s places o)) node allowed.dead in
+    let gone : IsTrue (has_gone_keys s places (Some (Ephe keys datum))) = subst (λ o. IsTrue (has_gone_keys s places o)) node allowed.gone in
     let here : IsTrue (is_some_and (is_some_and (is_gone s (queues s))) (slice_get keys p)) =
-    all_at (λ q. is_some_and (is_some_and (is_gone s (queues s))) (slice_get keys q)) places dead i p at in
+    all_at (λ q. is_some_and (is_some_and (is_gone s (queues s))) (slice_get keys q)) places gone i p at in
     gone_waits_nowhere s (queues s) k (subst (λ o. IsTrue (is_some_and (is_some_and (is_gone s (queues s))) o)) full here)
 
 -- Last: a `finalise_last` comes only when its value waits for no finaliser
 pub last_waits_nowhere : (s : State) (d place : ℕ) → LastAllowed s d place → (f : LastFinaliser) → slice_get (domain_at s d).lasts place ≡ Some f → has_label (waiting s) f.label ≡ false
 last_waits_nowhere s d place allowed f at =
     let here : IsTrue (is_some_and (λ f. is_gone s (queues s) f.label && is_let_go s f.label) (Some f)) =
-    subst (λ o. IsTrue (is_some_and (λ f. is_gone s (queues s) f.label && is_let_go s f.label) o)) at allowed.dead in
+    subst (λ o. IsTrue (is_some_and (λ f. is_gone s (queues s) f.label && is_let_go s f.label) o)) at allowed.gone in
     gone_waits_nowhere s (queues s) f.label (and_left (is_gone s (queues s) f.label) (is_let_go s f.label) here)
 
 -- Collected: no registration waits that could have been queued

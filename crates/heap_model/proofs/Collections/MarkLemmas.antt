@@ -18,7 +18,7 @@ use Rattle.heap_model.proofs.Graphs.GraphLemmas.{same_label_refl}
 use Rattle.heap_model.proofs.Reach.ReachLemmas.{or_left, or_right, and_left, and_right, and_both, has-append_cases, has-flat_map_cases, reachable_least}
 
 -- a list whose labels all pass a test
-all_labels : (test : Label → Bool) (ls : List Label) → ((l : Label) → IsTrue (has_label ls l) → IsTrue (test l)) → IsTrue (list_all test ls)
+pub all_labels : (test : Label → Bool) (ls : List Label) → ((l : Label) → IsTrue (has_label ls l) → IsTrue (test l)) → IsTrue (list_all test ls)
 all_labels test [] each = refl
 all_labels test (k ∷ ls) each = and_both (test k) (list_all test ls)
     (each k (or_left (same_label k k) (has_label ls k) (same_label_refl k)))
@@ -85,7 +85,7 @@ pub wipe_unmarked : (s : State) (marked : Label → Bool) (l : Label) (places : 
 wipe_unmarked s marked l places keys datum mode rising node marks unmarked = record {
   mode = mode;
   rising = rising;
-  dead = rw node (all_weaker _ (λ p. is_some_and (is_some_and (is_gone s (queues s))) (slice_get keys p)) places
+  gone = rw node (all_weaker _ (λ p. is_some_and (is_some_and (is_gone s (queues s))) (slice_get keys p)) places
       (λ p. some_weaker _ (is_some_and (is_gone s (queues s))) (slice_get keys p) (λ o.
       some_weaker (λ k. not (marked k)) (is_gone s (queues s)) o (unmarked_gone s (queues s) marked marks)))
       unmarked);
@@ -98,7 +98,7 @@ pub last_unmarked : (s : State) (marked : Label → Bool) (d place : ℕ) (f : L
 last_unmarked s marked d place f mode below at marks unmarked let_go = record {
   mode = mode;
   below = below;
-  dead = rw at (and_both (is_gone s (queues s) f.label) (is_let_go s f.label) (unmarked_gone s (queues s) marked marks f.label unmarked)
+  gone = rw at (and_both (is_gone s (queues s) f.label) (is_let_go s f.label) (unmarked_gone s (queues s) marked marks f.label unmarked)
       (all_labels (λ x. not (ephe_holds f.label (node_at s.graph x))) (settled_reach s (queues s))
       (λ x h. let_go x (settled_marked s (queues s) marked marks x h))));
 }

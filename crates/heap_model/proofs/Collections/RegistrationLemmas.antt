@@ -7,7 +7,7 @@ use Rattle.heap_model.specs.declared.entry.Entry.{Entry}
 use Rattle.heap_model.specs.declared.entry.Entry.TheVariants.{Command as CommandOf, End, Cut, Queue, Seal, Wipe, Last as LastOf, Collected, Done, Ran}
 use Rattle.heap_model.specs.declared.graph.Value.TheVariants.{Block}
 use Rattle.heap_model.specs.declared.graph.Node.{Node}
-use Rattle.heap_model.specs.declared.graph.Node.TheVariants.{Plain, Ephe}
+use Rattle.heap_model.specs.declared.graph.Node.TheVariants.{Plain, Raw, Ephe}
 use Rattle.heap_model.specs.declared.state.Finaliser.{Finaliser}
 use Rattle.heap_model.specs.declared.state.LastFinaliser.{LastFinaliser}
 use Rattle.heap_model.specs.declared.state.Pending.{Pending}
@@ -20,7 +20,7 @@ use Rattle.heap_model.specs.Commands.{outcome, finalised, finalised_last, after_
 use Rattle.heap_model.specs.Entries.{is_rising, Allowed, queued_final, queued_last, at_places, without_places, with_queued, with_last_queued, with_finals_open, with_lasts_open, freshened, ended, wiped, with_wiped, without_first, after_run, next}
 use Rattle.heap_model.specs.History.{state_after, LegalFrom}
 use Rattle.heap_model.specs.Registrations.{registered_by, registered, ran, all_registered, all_ran, left_over, RegistrationsRunOnce}
-use Rattle.heap_model.proofs.Histories.NumberLemmas.{inside_running}
+use Rattle.heap_model.proofs.Commands.FrameLemmas.{inside_running}
 use Rattle.heap_model.proofs.Histories.TallyLemmas.{one_place, tally, tally-append, tally-map, tally-cond, tally-remove, tally-without, tally_count, counted, increasing, changed_at, changed_less, mapped_less}
 use Rattle.heap_model.proofs.Commands.MoveLemmas.{registers_one}
 use Rattle.heap_model.proofs.Commands.DomainStepLemmas.{SameWork, work_outcome}
@@ -154,6 +154,7 @@ module _ (f : Pending → ℕ) where
     fits_wiped : (l : Label) (places : List ℕ) (o : Option Node) → W (domain_at (with_wiped s l (wiped places o)) k) ≤ W (domain_at s k)
     fits_wiped l places None = omega arith
     fits_wiped l places (Some (Plain tag fields)) = omega arith
+    fits_wiped l places (Some (Raw tag fields)) = omega arith
     fits_wiped l places (Some (Ephe keys datum)) = omega arith
 
     fits_next : (e : Entry) → Allowed s e → Fits k s (next s e) (tally f (ran k s e)) (tally f (registered k s e))

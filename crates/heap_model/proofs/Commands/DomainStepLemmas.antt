@@ -31,8 +31,8 @@ module _ (Q : List DomainState → Type 0) (change : (xs : List DomainState) (d 
     work_outcome d c other = moved (λ t. Q t.domains) s d c (record {
       same = q;
       held = λ r v named. work_register d r v;
-      written = λ l old new at found same named. q;
-      made = λ is dst n named. work_allocated d dst n;
+      written = λ l old new at found same named full. q;
+      made = λ is dst n named full. work_allocated d dst n;
       registered = λ is f named. absurd (let clash : true ≡ false = sym is ∙ other in cc);
       registered_last = λ is f named. absurd (let clash : true ≡ false = sym is ∙ other in cc);
     })

@@ -7,7 +7,7 @@ use Rattle.heap_model.specs.declared.entry.Entry.TheVariants.{Command as Command
 use Rattle.heap_model.specs.declared.graph.Value.{Value}
 use Rattle.heap_model.specs.declared.graph.Value.TheVariants.{Block, Nothing}
 use Rattle.heap_model.specs.declared.graph.Node.{Node}
-use Rattle.heap_model.specs.declared.graph.Node.TheVariants.{Plain, Ephe}
+use Rattle.heap_model.specs.declared.graph.Node.TheVariants.{Plain, Raw, Ephe}
 use Rattle.heap_model.specs.declared.state.Pending.{Pending}
 use Rattle.heap_model.specs.declared.state.Pending.TheVariants.{Fin, Last}
 use Rattle.heap_model.specs.declared.state.DomainState.{DomainState}
@@ -29,7 +29,7 @@ part_set f (y ∷ xs) zero x same (suc k) = refl
 part_set f (y ∷ xs) (suc d) x same zero = refl
 part_set f (y ∷ xs) (suc d) x same (suc k) = part_set f xs d x same k
 
-part_map : {A : Type 0} (f : DomainState → A) (g : DomainState → DomainState) → ((x : DomainState) → f (g x) ≡ f x) → (xs : List DomainState) (k : ℕ) → f (get_or (map g xs) k no_domain) ≡ f (get_or xs k no_domain)
+pub part_map : {A : Type 0} (f : DomainState → A) (g : DomainState → DomainState) → ((x : DomainState) → f (g x) ≡ f x) → (xs : List DomainState) (k : ℕ) → f (get_or (map g xs) k no_domain) ≡ f (get_or xs k no_domain)
 part_map f g same [] k = refl
 part_map f g same (x ∷ xs) zero = same x
 part_map f g same (x ∷ xs) (suc k) = part_map f g same xs k
@@ -111,8 +111,8 @@ frame_outcome : (d : ℕ) (s : State) (c : Command) → Frame d s (outcome s d c
 frame_outcome d s c = moved (Frame d s) s d c (record {
   same = frame_same d s;
   held = λ r v named. frame_with_register d s r v;
-  written = λ l old new at found same named. frame_with_block d s l old new found same;
-  made = λ is dst n named. frame_allocated d s dst n;
+  written = λ l old new at found same named full. frame_with_block d s l old new found same;
+  made = λ is dst n named full. frame_allocated d s dst n;
   registered = λ is f named. frame_with_domain d s _ refl refl;
   registered_last = λ is f named. frame_with_domain d s _ refl refl;
 })
@@ -182,6 +182,7 @@ wiped_length (p ∷ ps) keys = length-set (wiped_keys ps keys) p None ∙ wiped_
 grew_wiped : (s : State) (l : Label) (places : List ℕ) (o : Option Node) → node_at s.graph l ≡ o → Grew s.graph (with_wiped s l (wiped places o)).graph
 grew_wiped s l places None at = grew_same s.graph s.graph refl
 grew_wiped s l places (Some (Plain tag fields)) at = grew_node s.graph l (Plain tag fields) (Plain tag fields) at refl
+grew_wiped s l places (Some (Raw tag fields)) at = grew_node s.graph l (Raw tag fields) (Raw tag fields) at refl
 grew_wiped s l places (Some (Ephe keys datum)) at = grew_node s.graph l (Ephe keys datum) (Ephe (wiped_keys places keys) Nothing) at (ap EpheShape (wiped_length places keys))
 
 grew_run : (s : State) (d : ℕ) (queue : List Pending) → Grew s.graph (after_run s d queue).graph

@@ -1,21 +1,23 @@
 -- What a command may do to a state, in six moves: nothing, a register, the node of a block, a new block, and a registration of each kind. What holds after each move holds after every command.
-use Rattle.std.proofs.Common.{◌≡◌, ℕ, Bool, true, false, is_some, List, [], ◌∷◌, replicate, filter_map, option_to_list, pos, set, length-set, slice_get, option_map, option_and_then, unwrap_or, Option, Some, None, refl, ap, sym, ◌∙◌}
+use Rattle.std.proofs.Common.{◌≡◌, ℕ, Bool, true, false, IsTrue, is_some, List, [], ◌∷◌, replicate, filter_map, option_to_list, ℤ, pos, set, length-set, slice_get, option_map, option_and_then, unwrap_or, Option, Some, None, refl, ap, sym, ◌∙◌}
 use Rattle.heap_model.specs.declared.label.Label.{Label}
 use Rattle.heap_model.specs.declared.command.Command.{Command}
-use Rattle.heap_model.specs.declared.command.Command.TheVariants.{PutInt, Copy, Forget, Alloc, AllocMaj, Load, Store, Ephe as NewEphe, SetKey, UnsetKey, GetKey, CheckKey, SetData, UnsetData, GetData, CheckData, Finalise, FinaliseLast, Poll, Minor, Major, FullMajor}
+use Rattle.heap_model.specs.declared.command.Command.TheVariants.{PutInt, Copy, Forget, Alloc, AllocMaj, Load, Store, Raw as NewRaw, Cas, Ephe as NewEphe, SetKey, UnsetKey, GetKey, CheckKey, SetData, UnsetData, GetData, CheckData, Finalise, FinaliseLast, Poll, Minor, Major, FullMajor, Spawn, Argument, PutResult, Join}
 use Rattle.heap_model.specs.declared.graph.Value.{Value}
 use Rattle.heap_model.specs.declared.graph.Value.TheVariants.{Int, Block, Nothing}
 use Rattle.heap_model.specs.declared.graph.Node.{Node}
-use Rattle.heap_model.specs.declared.graph.Node.TheVariants.{Plain, Ephe}
+use Rattle.heap_model.specs.declared.graph.Node.TheVariants.{Plain, Raw, Ephe}
 use Rattle.heap_model.specs.declared.state.Finaliser.{Finaliser}
 use Rattle.heap_model.specs.declared.state.LastFinaliser.{LastFinaliser}
 use Rattle.heap_model.specs.declared.state.State.{State}
+use Rattle.heap_model.specs.declared.state.DomainState.{DomainState}
 use Rattle.heap_model.specs.Graph.{Graph, label_of, node_at, block_at}
-use Rattle.heap_model.specs.Domains.{domain_at, with_register, with_block, register, label_in}
-use Rattle.heap_model.specs.Commands.{Outcome, in_bounds, at_ephe, loaded, stored, key_set, key_value, key_stored, datum_set, datum_stored, with_final, with_last, finalised, finalised_last, tells, is_full_value, allocated, new_plain, block_in, outcome, is_allocation}
-use Rattle.heap_model.specs.Fronts.{PlainShape, EpheShape, shape_of}
+use Rattle.heap_model.specs.Domains.{domain_at, with_domain, with_register, with_block, register, label_in}
+use Rattle.heap_model.specs.Commands.{Outcome, in_bounds, at_ephe, loaded, at_field, written_over, same_value, written_where, exchanged, has_full_fields, is_int_value, key_set, key_value, key_stored, datum_set, datum_stored, with_final, with_last, finalised, finalised_last, tells, is_full_value, allocated, new_plain, new_raw, block_in, outcome, is_allocation}
+use Rattle.heap_model.specs.Fronts.{PlainShape, RawShape, EpheShape, shape_of}
 use Rattle.heap_model.specs.Laws.{written_by}
 use Rattle.heap_model.specs.WellFormed.{names_of, HaveNodes, IsWellFormed}
+use Rattle.heap_model.proofs.Graphs.ListLemmas.{all_set, all_replicate}
 use Rattle.heap_model.proofs.Graphs.NamedLemmas.{have_none, have_append, have_left, have_right, have_set, have_at, have_get, have_replicate}
 
 -- whether a command registers a finaliser
@@ -24,13 +26,13 @@ registers_one (Finalise item number dst) = true
 registers_one (FinaliseLast item number) = true
 registers_one _ = false
 
--- what a fact of states owes to the moves of a command. Each label that a move names has a node, where all that the state names have one
+-- what a fact of states owes to the moves of a command. Each label that a move names has a node, where all that the state names have one, and a written block's fields hold what they may, where they did
 pub record Moves (P : State → Type 0) (s : State) (d : ℕ) (c : Command) : Type 0 where
   pub same : P s
   pub held : (r : ℕ) (v : Value) → (IsWellFormed s → HaveNodes s.graph (option_to_list (label_of v))) → P (with_register s d r v)
   pub written : (l : Label) (old new : Node) → written_by s d c ≡ Some l → node_at s.graph l ≡ Some old → shape_of new ≡ shape_of old
-      → (IsWellFormed s → HaveNodes s.graph (names_of new)) → P (with_block s l new)
-  pub made : is_allocation c ≡ true → (dst : ℕ) (n : Node) → HaveNodes s.graph (names_of n) → P (allocated s d dst n).state
+      → (IsWellFormed s → HaveNodes s.graph (names_of new)) → (IsTrue (has_full_fields old) → IsTrue (has_full_fields new)) → P (with_block s l new)
+  pub made : is_allocation c ≡ true → (dst : ℕ) (n : Node) → HaveNodes s.graph (names_of n) → IsTrue (has_full_fields n) → P (allocated s d dst n).state
   pub registered : registers_one c ≡ true → (f : Finaliser) → (IsWellFormed s → HaveNodes s.graph (f.label ∷ [])) → P (with_final s d f)
   pub registered_last : registers_one c ≡ true → (f : LastFinaliser) → (IsWellFormed s → HaveNodes s.graph (f.label ∷ [])) → P (with_last s d f)
 
@@ -85,11 +87,13 @@ module _ (P : State → Type 0) (s : State) (d : ℕ) (c : Command) (m : Moves P
     node_named : (l : Label) (n : Node) → block_in s d r ≡ Some (l, n) → IsWellFormed s → HaveNodes s.graph (names_of n)
     node_named l n e wf = wf.nodes l n (held_block s d r l n e).node
 
-    at_plain : (dst index : ℕ) (b : Option (Label × Node)) → block_in s d r ≡ b → P (loaded s d dst index b).state
-    at_plain dst index None e = m.same
-    at_plain dst index (Some (l, Plain tag fields)) e =
+    reads_field : (dst index : ℕ) (b : Option (Label × Node)) → block_in s d r ≡ b → P (loaded s d dst index b).state
+    reads_field dst index None e = m.same
+    reads_field dst index (Some (l, Plain tag fields)) e =
         within (slice_get fields index) _ (λ v at. m.held dst v (λ wf. have_get s.graph label_of fields index v (node_named l (Plain tag fields) e wf) at))
-    at_plain dst index (Some (l, Ephe keys datum)) e = m.same
+    reads_field dst index (Some (l, Raw tag fields)) e =
+        within (slice_get fields index) _ (λ v at. m.held dst v (λ wf. have_get s.graph label_of fields index v (node_named l (Raw tag fields) e wf) at))
+    reads_field dst index (Some (l, Ephe keys datum)) e = m.same
 
     at_keys : (f : Label → List (Option Label) → Value → Outcome)
         → ((l : Label) (keys : List (Option Label)) (datum : Value) → block_in s d r ≡ Some (l, Ephe keys datum) → P (f l keys datum).state) → P (at_ephe s (block_in s d r) f).state
@@ -98,6 +102,7 @@ module _ (P : State → Type 0) (s : State) (d : ℕ) (c : Command) (m : Moves P
         go : (b : Option (Label × Node)) → block_in s d r ≡ b → P (at_ephe s b f).state
         go None e = m.same
         go (Some (l, Plain tag fields)) e = m.same
+        go (Some (l, Raw tag fields)) e = m.same
         go (Some (l, Ephe keys datum)) e = each l keys datum e
 
   told : (b : Bool) → P (tells s b).state
@@ -106,27 +111,48 @@ module _ (P : State → Type 0) (s : State) (d : ℕ) (c : Command) (m : Moves P
 
   -- and one that writes it
   module _ (r : ℕ) (writes : (l : Label) → label_in s d r ≡ Some l → written_by s d c ≡ Some l) where
-    writes_node : (l : Label) (old new : Node) → block_in s d r ≡ Some (l, old) → shape_of new ≡ shape_of old → (IsWellFormed s → HaveNodes s.graph (names_of new)) → P (with_block s l new)
-    writes_node l old new e same named = let h = held_block s d r l old e in m.written l old new (writes l h.label) h.node same named
+    writes_node : (l : Label) (old new : Node) → block_in s d r ≡ Some (l, old) → shape_of new ≡ shape_of old → (IsWellFormed s → HaveNodes s.graph (names_of new))
+        → (IsTrue (has_full_fields old) → IsTrue (has_full_fields new)) → P (with_block s l new)
+    writes_node l old new e same named full = let h = held_block s d r l old e in m.written l old new (writes l h.label) h.node same named full
 
-    writes_value : (index : ℕ) (l : Label) (tag : ℕ) (fields : List Value) (v : Value) → block_in s d r ≡ Some (l, Plain tag fields) → (IsWellFormed s → HaveNodes s.graph (option_to_list (label_of v)))
-        → P (with_block s l (Plain tag (set fields index v)))
-    writes_value index l tag fields v e new = writes_node l _ _ e (ap (λ n. PlainShape n tag) (length-set fields index v))
+    writes_plain : (index : ℕ) (l : Label) (tag : ℕ) (fields : List Value) (v : Value) → block_in s d r ≡ Some (l, Plain tag fields) → IsTrue (is_full_value v)
+        → (IsWellFormed s → HaveNodes s.graph (option_to_list (label_of v))) → P (with_block s l (Plain tag (set fields index v)))
+    writes_plain index l tag fields v e full new = writes_node l _ _ e (ap (λ n. PlainShape n tag) (length-set fields index v))
         (λ wf. have_set s.graph label_of fields index v (node_named r l (Plain tag fields) e wf) (new wf))
+        (all_set is_full_value fields index v full)
 
-    writes_field : (index : ℕ) (b : Option (Label × Node)) (v : Value) → block_in s d r ≡ b → (IsWellFormed s → HaveNodes s.graph (option_to_list (label_of v))) → P (stored s index b v).state
-    writes_field index None v e new = m.same
-    writes_field index (Some (l, Ephe keys datum)) v e new = m.same
-    writes_field index (Some (l, Plain tag fields)) Nothing e new = m.same
-    writes_field index (Some (l, Plain tag fields)) (Int z) e new = within (slice_get fields index) _ (λ _ at. writes_value index l tag fields (Int z) e new)
-    writes_field index (Some (l, Plain tag fields)) (Block k) e new = within (slice_get fields index) _ (λ _ at. writes_value index l tag fields (Block k) e new)
+    writes_raw : (index : ℕ) (l : Label) (tag : ℕ) (fields : List Value) (z : ℤ) → block_in s d r ≡ Some (l, Raw tag fields) → P (with_block s l (Raw tag (set fields index (Int z))))
+    writes_raw index l tag fields z e = writes_node l _ _ e (ap (λ n. RawShape n tag) (length-set fields index (Int z)))
+        (λ wf. have_set s.graph label_of fields index (Int z) (node_named r l (Raw tag fields) e wf) (have_none s.graph))
+        (all_set is_int_value fields index (Int z) refl)
+
+    -- what is done with a field keeps the fact, if it does where the block is written
+    module _ (f : Label → Node → Value → Outcome) (each : (l : Label) (new : Node) (held : Value) → P (with_block s l new) → P (f l new held).state) where
+      writes_field : (index : ℕ) (b : Option (Label × Node)) (v : Value) → block_in s d r ≡ b → (IsWellFormed s → HaveNodes s.graph (option_to_list (label_of v))) → P (at_field s index b v f).state
+      writes_field index None v e new = m.same
+      writes_field index (Some (l, Ephe keys datum)) v e new = m.same
+      writes_field index (Some (l, Plain tag fields)) Nothing e new = m.same
+      writes_field index (Some (l, Plain tag fields)) (Int z) e new = within (slice_get fields index) _ (λ held at. each l _ held (writes_plain index l tag fields (Int z) e refl new))
+      writes_field index (Some (l, Plain tag fields)) (Block k) e new = within (slice_get fields index) _ (λ held at. each l _ held (writes_plain index l tag fields (Block k) e refl new))
+      writes_field index (Some (l, Raw tag fields)) Nothing e new = m.same
+      writes_field index (Some (l, Raw tag fields)) (Int z) e new = within (slice_get fields index) _ (λ held at. each l _ held (writes_raw index l tag fields z e))
+      writes_field index (Some (l, Raw tag fields)) (Block k) e new = m.same
+
+    writes_where : (l : Label) (new : Node) (b : Bool) → P (with_block s l new) → P (written_where s l new b).state
+    writes_where l new true p = p
+    writes_where l new false p = m.same
+
+    exchanges : (index : ℕ) (expected v : Value) → (IsWellFormed s → HaveNodes s.graph (option_to_list (label_of v))) → P (exchanged s index (block_in s d r) expected v).state
+    exchanges index Nothing v new = m.same
+    exchanges index (Int z) v new = writes_field _ (λ l n held p. writes_where l n (same_value held (Int z)) p) index (block_in s d r) v refl new
+    exchanges index (Block k) v new = writes_field _ (λ l n held p. writes_where l n (same_value held (Block k)) p) index (block_in s d r) v refl new
 
     writes_key : (index : ℕ) (key : Option Label) → (IsWellFormed s → HaveNodes s.graph (option_to_list key)) → P (at_ephe s (block_in s d r) (key_set s index key)).state
     writes_key index key new = at_keys r _ (λ l keys datum e. within (slice_get keys index) _ (λ _ at. writes_node l _ _ e (ap EpheShape (length-set keys index key))
-        (λ wf. with_key_named s.graph keys datum (node_named r l (Ephe keys datum) e wf) index key (new wf))))
+        (λ wf. with_key_named s.graph keys datum (node_named r l (Ephe keys datum) e wf) index key (new wf)) (λ full. full)))
 
     writes_datum : (v : Value) → (IsWellFormed s → HaveNodes s.graph (option_to_list (label_of v))) → P (at_ephe s (block_in s d r) (datum_set s v)).state
-    writes_datum v new = at_keys r _ (λ l keys datum e. writes_node l _ _ e refl (λ wf. with_datum_named s.graph keys datum (node_named r l (Ephe keys datum) e wf) v (new wf)))
+    writes_datum v new = at_keys r _ (λ l keys datum e. writes_node l _ _ e refl (λ wf. with_datum_named s.graph keys datum (node_named r l (Ephe keys datum) e wf) v (new wf)) (λ full. full))
 
     writes_given_key : (index : ℕ) (o : Option Label) → (IsWellFormed s → HaveNodes s.graph (option_to_list o)) → P (key_stored s index o (block_in s d r)).state
     writes_given_key index None new = m.same
@@ -142,13 +168,17 @@ pub moved : (P : State → Type 0) (s : State) (d : ℕ) (c : Command) → Moves
 moved P s d (PutInt dst value) m = m.held dst (Int value) (λ wf. have_none s.graph)
 moved P s d (Copy dst src) m = m.held dst (register s d src) (λ wf. named_register s wf d src)
 moved P s d (Forget dst) m = m.held dst Nothing (λ wf. have_none s.graph)
-moved P s d (Alloc dst tag fields) m = m.made refl dst (new_plain tag fields) (have_replicate s.graph label_of fields (Int (pos 0)) refl)
-moved P s d (AllocMaj dst tag fields) m = m.made refl dst (new_plain tag fields) (have_replicate s.graph label_of fields (Int (pos 0)) refl)
-moved P s d (Load dst src index) m = at_plain P s d (Load dst src index) m src dst index (block_in s d src) refl
+moved P s d (Alloc dst tag fields) m = m.made refl dst (new_plain tag fields) (have_replicate s.graph label_of fields (Int (pos 0)) refl) (all_replicate is_full_value fields (Int (pos 0)) refl)
+moved P s d (AllocMaj dst tag fields) m = m.made refl dst (new_plain tag fields) (have_replicate s.graph label_of fields (Int (pos 0)) refl) (all_replicate is_full_value fields (Int (pos 0)) refl)
+moved P s d (Load dst src index) m = reads_field P s d (Load dst src index) m src dst index (block_in s d src) refl
 moved P s d (Store block index item) m =
-    writes_field P s d (Store block index item) m block (λ l e. e) index (block_in s d block) (register s d item) refl (λ wf. named_register s wf d item)
+    writes_field P s d (Store block index item) m block (λ l e. e) (written_over s) (λ l n held p. p) index (block_in s d block) (register s d item) refl (λ wf. named_register s wf d item)
+moved P s d (NewRaw dst tag fields) m =
+    m.made refl dst (new_raw tag fields) (have_replicate s.graph label_of fields (Int (pos 0)) refl) (all_replicate is_int_value fields (Int (pos 0)) refl)
+moved P s d (Cas block index expected item) m =
+    exchanges P s d (Cas block index expected item) m block (λ l e. e) index (register s d expected) (register s d item) (λ wf. named_register s wf d item)
 moved P s d (NewEphe dst keys) m = m.made refl dst (Ephe (replicate keys None) Nothing)
-    (have_append s.graph (filter_map (λ k. k) (replicate keys None)) [] (have_replicate s.graph (λ k. k) keys None refl) (have_none s.graph))
+    (have_append s.graph (filter_map (λ k. k) (replicate keys None)) [] (have_replicate s.graph (λ k. k) keys None refl) (have_none s.graph)) refl
 moved P s d (SetKey ephe index item) m = writes_given_key P s d (SetKey ephe index item) m ephe (λ l e. e) index (label_in s d item) (λ wf. named_register s wf d item)
 moved P s d (UnsetKey ephe index) m = writes_key P s d (UnsetKey ephe index) m ephe (λ l e. e) index None (λ wf. have_none s.graph)
 moved P s d (GetKey dst ephe index) m =
@@ -175,3 +205,33 @@ moved P s d Poll m = m.same
 moved P s d Minor m = m.same
 moved P s d Major m = m.same
 moved P s d FullMajor m = m.same
+moved P s d (Spawn section item) m = m.same
+moved P s d (Argument dst) m = m.same
+moved P s d (PutResult item) m = m.same
+moved P s d (Join dst section) m = m.same
+
+-- what no change of a domain, of the graph or of `kept` touches, no command touches
+module _ (Q : State → Type 0) (domain : (t : State) (d : ℕ) (x : DomainState) → Q t → Q (with_domain t d x))
+    (made : (t : State) (g : Graph) (n : ℕ) → Q t → Q (record t { graph = g; kept = n })) where
+  keeps_allocated : (s : State) → Q s → (d dst : ℕ) (n : Node) → Q (allocated s d dst n).state
+  keeps_allocated s q d dst n = domain _ d _ (made _ _ _ (domain s d _ q))
+
+  pub keeps_outcome : (s : State) → Q s → (d : ℕ) (c : Command) → Q (outcome s d c).state
+  keeps_outcome s q d c = moved Q s d c (record {
+    same = q;
+    held = λ r v named. domain s d _ q;
+    written = λ l old new at found same named full. made s _ s.kept q;
+    made = λ is dst n named full. keeps_allocated s q d dst n;
+    registered = λ is f named. domain s d _ q;
+    registered_last = λ is f named. domain s d _ q;
+  })
+
+-- a command leaves the mode, the sizes and the queues at the cut
+pub outcome-mode : (s : State) (d : ℕ) (c : Command) → (outcome s d c).state.mode ≡ s.mode
+outcome-mode s = keeps_outcome (λ t. t.mode ≡ s.mode) (λ t d x q. q) (λ t g n q. q) s refl
+
+pub outcome-cut : (s : State) (d : ℕ) (c : Command) → (outcome s d c).state.cut ≡ s.cut
+outcome-cut s = keeps_outcome (λ t. t.cut ≡ s.cut) (λ t d x q. q) (λ t g n q. q) s refl
+
+pub outcome-sizes : (s : State) (d : ℕ) (c : Command) → (outcome s d c).state.sizes ≡ s.sizes
+outcome-sizes s = keeps_outcome (λ t. t.sizes ≡ s.sizes) (λ t d x q. q) (λ t g n q. q) s refl

@@ -75,8 +75,8 @@ pub shaped-outcome : (s : State) → IsShaped s → (d : ℕ) (c : Command) → 
 shaped-outcome s shaped d c = moved IsShaped s d c (record {
   same = shaped;
   held = λ r v named. shaped-with_register s shaped d r v;
-  written = λ l old new at found same named. shaped-with_block s shaped l new;
-  made = λ is dst n named. shaped-allocated s shaped d dst n;
+  written = λ l old new at found same named full. shaped-with_block s shaped l new;
+  made = λ is dst n named full. shaped-allocated s shaped d dst n;
   registered = λ is f named. shaped-with_domain s shaped d _ (shaped.register_count d);
   registered_last = λ is f named. shaped-with_domain s shaped d _ (shaped.register_count d);
 })

@@ -5,7 +5,8 @@ use Rattle.heap_model.specs.declared.label.Label.{Label}
 use Rattle.heap_model.specs.declared.graph.Node.{Node}
 use Rattle.heap_model.specs.Graph.{Graph, same_label, labels, node_at, with_node, IsPlaceOf}
 
-and_parts : (a b : Bool) → (a && b) ≡ true → (a ≡ true) × (b ≡ true)
+-- both of two tests
+pub and_parts : (a b : Bool) → (a && b) ≡ true → (a ≡ true) × (b ≡ true)
 and_parts true true e = (refl, refl)
 and_parts true false e = cc
 and_parts false b e = cc
@@ -49,15 +50,15 @@ first_place (e ∷ g) l (suc i) d lt is before =
       written = λ n. rw other (ap (λ t. e ∷ t) (later.written n));
     }
 
--- what the graph holds after a change
-same_label-false : (k l : Label) → (k ≡ l → ⊥) → same_label k l ≡ false
+-- and it tells different ones
+pub same_label-false : (k l : Label) → (k ≡ l → ⊥) → same_label k l ≡ false
 same_label-false k l differ = go (same_label k l) refl
   where
     go : (b : Bool) → same_label k l ≡ b → b ≡ false
     go true e = absurd (differ (same_label-true k l e))
     go false e = refl
 
--- a new node at a label that the graph has
+-- what the graph holds after a change: a new node at a label that the graph has
 with_node_same_step : (b : Bool) (e : Label × Node) (g h : Graph) (l : Label) (n m : Node) → same_label e.0 l ≡ b
     → (node_at g l ≡ Some m → node_at h l ≡ Some n) → cond b (Some e.1) (node_at g l) ≡ Some m
     → node_at (cond b ((e.0, n) ∷ g) (e ∷ h)) l ≡ Some n

@@ -5,7 +5,7 @@ use Rattle.heap_model.specs.declared.command.Command.{Command}
 use Rattle.heap_model.specs.declared.entry.Entry.{Entry}
 use Rattle.heap_model.specs.declared.entry.Entry.TheVariants.{Command as CommandOf, End, Cut, Queue, Seal, Wipe, Last as LastOf, Collected, Done, Ran}
 use Rattle.heap_model.specs.declared.graph.Node.{Node}
-use Rattle.heap_model.specs.declared.graph.Node.TheVariants.{Plain, Ephe}
+use Rattle.heap_model.specs.declared.graph.Node.TheVariants.{Plain, Raw, Ephe}
 use Rattle.heap_model.specs.declared.state.Pending.{Pending}
 use Rattle.heap_model.specs.declared.state.Pending.TheVariants.{Fin, Last}
 use Rattle.heap_model.specs.declared.state.State.{State}
@@ -26,8 +26,8 @@ module _ (P : Graph → Type 0) (Ok : Label → Type 0) (write : (g : Graph) (l 
     kept_outcome d c ok = moved (λ t. P t.graph) s d c (record {
       same = p;
       held = λ r v named. p;
-      written = λ l old new at found same named. write s.graph l new (ok l at) p;
-      made = λ is dst n named. grow s.graph _ p;
+      written = λ l old new at found same named full. write s.graph l new (ok l at) p;
+      made = λ is dst n named full. grow s.graph _ p;
       registered = λ is f named. p;
       registered_last = λ is f named. p;
     })
@@ -35,6 +35,7 @@ module _ (P : Graph → Type 0) (Ok : Label → Type 0) (write : (g : Graph) (l 
     kept_wiped : (l : Label) (places : List ℕ) (o : Option Node) → Ok l → P (with_wiped s l (wiped places o)).graph
     kept_wiped l places None ok = p
     kept_wiped l places (Some (Plain tag fields)) ok = write s.graph l _ ok p
+    kept_wiped l places (Some (Raw tag fields)) ok = write s.graph l _ ok p
     kept_wiped l places (Some (Ephe keys datum)) ok = write s.graph l _ ok p
 
     kept_after_run : (d : ℕ) (queue : List Pending) → P (after_run s d queue).graph

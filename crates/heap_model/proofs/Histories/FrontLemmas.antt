@@ -1,11 +1,11 @@
 -- Fronts that grow, and what a domain's front tells of the whole history.
-use Rattle.std.proofs.Common.{◌≡◌, ℕ, Bool, true, false, not, ◌&&◌, IsTrue, List, [], ◌∷◌, ◌++◌, refl, ap, sym, ◌∙◌, subst, append_assoc, append-nil, length, get_or, Some}
+use Rattle.std.proofs.Common.{◌≡◌, ℕ, false, not, List, [], ◌∷◌, ◌++◌, refl, ap, sym, ◌∙◌, subst, append_assoc, append-nil, length, get_or, Some}
 use Rattle.std.specs.List.{list_all}
 use Rattle.heap_model.specs.declared.entry.Entry.{Entry}
 use Rattle.heap_model.specs.declared.graph.Value.{Value}
 use Rattle.heap_model.specs.declared.graph.Value.TheVariants.{Nothing}
 use Rattle.heap_model.specs.declared.graph.Node.{Node}
-use Rattle.heap_model.specs.declared.graph.Node.TheVariants.{Plain, Ephe}
+use Rattle.heap_model.specs.declared.graph.Node.TheVariants.{Plain, Raw, Ephe}
 use Rattle.heap_model.specs.declared.reply.Applied.{Applied}
 use Rattle.heap_model.specs.declared.state.Sizes.{Sizes}
 use Rattle.heap_model.specs.declared.state.State.{State}
@@ -13,21 +13,14 @@ use Rattle.heap_model.specs.Domains.{opening}
 use Rattle.heap_model.specs.Entries.{next, reply}
 use Rattle.heap_model.specs.History.{state_after, Legal, is_entry_of}
 use Rattle.heap_model.specs.Fronts.{NoneOf, IsFrontOf, Answers, PlainShape, shape_of, Grew, KeepsDomain, HoldsPlain}
+use Rattle.heap_model.proofs.Graphs.GraphLemmas.{and_parts}
+use Rattle.heap_model.proofs.Reach.ReachLemmas.{is_false}
 use Rattle.heap_model.proofs.Histories.HistoryLemmas.{state_after-append}
 use Rattle.heap_model.proofs.Commands.FrameLemmas.{keeps_next, grew_next, grew_same, grew_after}
 
--- a test that fails
-fails : (b : Bool) → IsTrue (not b) → b ≡ false
-fails true e = cc
-fails false e = refl
-
-both : (a b : Bool) → IsTrue (a && b) → IsTrue a × IsTrue b
-both true true e = (refl, refl)
-both true false e = cc
-both false b e = cc
-
+-- none of a list, one by one
 none_cons : (d : ℕ) (e : Entry) (h : List Entry) → NoneOf d (e ∷ h) → (is_entry_of d e ≡ false) × NoneOf d h
-none_cons d e h none = let parts = both (not (is_entry_of d e)) (list_all (λ x. not (is_entry_of d x)) h) none in (fails (is_entry_of d e) parts.0, parts.1)
+none_cons d e h none = let parts = and_parts (not (is_entry_of d e)) (list_all (λ x. not (is_entry_of d x)) h) none in (is_false (is_entry_of d e) parts.0, parts.1)
 
 none_push : (d : ℕ) (h : List Entry) (e : Entry) → NoneOf d h → is_entry_of d e ≡ false → NoneOf d (h ++ e ∷ [])
 none_push d [] e none other = rw other refl
@@ -85,6 +78,7 @@ plain_of (Plain t fields) n tag e =
     let tags : t ≡ tag = cc in
     let sizes : length fields ≡ n = cc in
     (fields, ap (λ x. Plain x fields) tags, sizes)
+plain_of (Raw t fields) n tag e = cc
 plain_of (Ephe keys datum) n tag e = cc
 
 -- what a front of domain d says of a plain block in one of its registers holds in the history

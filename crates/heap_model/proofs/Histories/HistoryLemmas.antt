@@ -1,5 +1,5 @@
 -- Histories that grow: what one more entry changes.
-use Rattle.std.proofs.Common.{◌≡◌, ℕ, Bool, true, false, cond, List, [], ◌∷◌, ◌++◌, refl, ap, sym, ◌∙◌, append_assoc, append-nil, IsTrue, ◌&&◌, not}
+use Rattle.std.proofs.Common.{◌≡◌, ℕ, Bool, true, false, cond, List, [], ◌∷◌, ◌++◌, refl, ap, sym, ◌∙◌, append_assoc, append-nil, IsTrue, not}
 use Rattle.std.specs.List.{list_all}
 use Rattle.heap_model.specs.declared.entry.Entry.{Entry}
 use Rattle.heap_model.specs.declared.entry.Entry.TheVariants.{Command as CommandOf, End, Cut, Queue, Seal, Wipe, Last, Collected, Done, Ran}
@@ -8,6 +8,8 @@ use Rattle.heap_model.specs.declared.state.Sizes.{Sizes}
 use Rattle.heap_model.specs.declared.state.State.{State}
 use Rattle.heap_model.specs.Domains.{opening}
 use Rattle.heap_model.specs.Entries.{Allowed, next, reply}
+use Rattle.heap_model.proofs.Graphs.GraphLemmas.{and_parts}
+use Rattle.heap_model.proofs.Reach.ReachLemmas.{is_false}
 use Rattle.heap_model.specs.History.{state_after, LegalFrom, commands, command_of, replies_from, replies, reply_list, is_entry_of}
 
 -- the state after two lists is that after the second, from the state after the first
@@ -48,11 +50,6 @@ replies-push z h e d =
     replies_from-append (opening z) h (e ∷ []) d ∙ ap (λ t. replies z h d ++ t) (append-nil (cond (is_entry_of d e) (reply_list (reply (state_after (opening z) h) e)) []))
 
 -- entries of others add no reply and no command
-both : (a b : Bool) → IsTrue (a && b) → IsTrue a × IsTrue b
-both true true e = (refl, refl)
-both true false e = cc
-both false b e = cc
-
 pub command_of-other : (d : ℕ) (e : Entry) → is_entry_of d e ≡ false → command_of d e ≡ []
 command_of-other d (CommandOf k c full) other = rw other refl
 command_of-other d (End k) other = refl
@@ -65,20 +62,16 @@ command_of-other d Collected other = refl
 command_of-other d Done other = refl
 command_of-other d (Ran k) other = refl
 
-is_not : (b : Bool) → IsTrue (not b) → b ≡ false
-is_not true e = cc
-is_not false e = refl
-
 pub commands-others : (h : List Entry) (d : ℕ) → IsTrue (list_all (λ x. not (is_entry_of d x)) h) → commands h d ≡ []
 commands-others [] d others = refl
 commands-others (e ∷ h) d others =
-    let parts = both (not (is_entry_of d e)) (list_all (λ x. not (is_entry_of d x)) h) others in
-    rw (command_of-other d e (is_not (is_entry_of d e) parts.0)) (commands-others h d parts.1)
+    let parts = and_parts (not (is_entry_of d e)) (list_all (λ x. not (is_entry_of d x)) h) others in
+    rw (command_of-other d e (is_false (is_entry_of d e) parts.0)) (commands-others h d parts.1)
 
 pub replies_from-others : (s : State) (h : List Entry) (d : ℕ) → IsTrue (list_all (λ x. not (is_entry_of d x)) h) → replies_from s h d ≡ []
 replies_from-others s [] d others = refl
 replies_from-others s (e ∷ h) d others =
-    let parts = both (not (is_entry_of d e)) (list_all (λ x. not (is_entry_of d x)) h) others in
+    let parts = and_parts (not (is_entry_of d e)) (list_all (λ x. not (is_entry_of d x)) h) others in
     not_own (is_entry_of d e) parts.0 (reply_list (reply s e)) ∙ replies_from-others (next s e) h d parts.1
   where
     not_own : (b : Bool) → IsTrue (not b) → (r : List Reply) → {t : List Reply} → cond b r [] ++ t ≡ t

@@ -1,5 +1,5 @@
 -- Each label's serial is at most its domain's, so that the label of a new block is new.
-use Rattle.std.proofs.Common.{◌≡◌, ℕ, zero, suc, ◌+◌, ◌<◌, ◌≤◌, Bool, true, false, cond, ◌||◌, IsTrue, List, [], ◌∷◌, ◌++◌, map, length, get_or, set, Option, Some, None, refl, ap, ◌∙◌, subst, ⊎_elim, arith, get_or-set_same}
+use Rattle.std.proofs.Common.{◌≡◌, ℕ, zero, suc, ◌+◌, ◌<◌, ◌≤◌, Bool, true, false, cond, ◌||◌, IsTrue, List, [], ◌∷◌, ◌++◌, length, get_or, set, Option, Some, None, refl, ap, ◌∙◌, subst, ⊎_elim, arith, get_or-set_same}
 use Rattle.heap_model.specs.declared.label.Label.{Label}
 use Rattle.heap_model.specs.declared.command.Command.{Command}
 use Rattle.heap_model.specs.declared.entry.Entry.{Entry}
@@ -7,7 +7,7 @@ use Rattle.heap_model.specs.declared.entry.Entry.TheVariants.{Command as Command
 use Rattle.heap_model.specs.declared.graph.Value.{Value}
 use Rattle.heap_model.specs.declared.graph.Value.TheVariants.{Block}
 use Rattle.heap_model.specs.declared.graph.Node.{Node}
-use Rattle.heap_model.specs.declared.graph.Node.TheVariants.{Plain, Ephe}
+use Rattle.heap_model.specs.declared.graph.Node.TheVariants.{Plain, Raw, Ephe}
 use Rattle.heap_model.specs.declared.state.Pending.{Pending}
 use Rattle.heap_model.specs.declared.state.Pending.TheVariants.{Fin, Last}
 use Rattle.heap_model.specs.declared.state.DomainState.{DomainState}
@@ -16,6 +16,7 @@ use Rattle.heap_model.specs.declared.state.State.{State}
 use Rattle.heap_model.specs.Graph.{Graph, same_label, labels, has_label, node_at}
 use Rattle.heap_model.specs.Domains.{domain_at, with_domain, with_register, with_block, no_domain, opening, shared_label}
 use Rattle.heap_model.specs.Commands.{allocated, outcome}
+use Rattle.heap_model.proofs.Commands.FrameLemmas.{part_set, part_map, inside_running}
 use Rattle.heap_model.proofs.Commands.MoveLemmas.{moved}
 use Rattle.heap_model.specs.Entries.{Allowed, wiped, with_wiped, with_last_queued, without_first, after_run, next}
 use Rattle.heap_model.specs.History.{state_after, LegalFrom, Legal}
@@ -23,19 +24,6 @@ use Rattle.heap_model.specs.WellFormed.{IsNumbered}
 use Rattle.heap_model.proofs.Graphs.GraphLemmas.{same_label-true, labels-with_node}
 use Rattle.heap_model.proofs.Reach.ReachLemmas.{or_cases, has-append_cases}
 use Rattle.heap_model.proofs.Histories.WellFormedLemmas.{labels-append}
-
--- the serials of a list of domains after a change that leaves them
-serials_set : (xs : List DomainState) (d : ℕ) (x : DomainState) → x.serial ≡ (get_or xs d no_domain).serial → (k : ℕ) → (get_or (set xs d x) k no_domain).serial ≡ (get_or xs k no_domain).serial
-serials_set [] d x same k = refl
-serials_set (y ∷ xs) zero x same zero = same
-serials_set (y ∷ xs) zero x same (suc k) = refl
-serials_set (y ∷ xs) (suc d) x same zero = refl
-serials_set (y ∷ xs) (suc d) x same (suc k) = serials_set xs d x same k
-
-serials_map : (f : DomainState → DomainState) → ((x : DomainState) → (f x).serial ≡ x.serial) → (xs : List DomainState) (k : ℕ) → (get_or (map f xs) k no_domain).serial ≡ (get_or xs k no_domain).serial
-serials_map f same [] k = refl
-serials_map f same (x ∷ xs) zero = same x
-serials_map f same (x ∷ xs) (suc k) = serials_map f same xs k
 
 -- a state with the labels and the serials of another
 record SameNumbers (s t : State) : Type 0 where
@@ -55,7 +43,7 @@ module _ (s : State) where
   same_self = record { given = refl; serials = λ d. refl }
 
   same_with_domain : (d : ℕ) (x : DomainState) → x.serial ≡ (domain_at s d).serial → SameNumbers s (with_domain s d x)
-  same_with_domain d x same = record { given = refl; serials = serials_set s.domains d x same }
+  same_with_domain d x same = record { given = refl; serials = part_set (λ y. y.serial) s.domains d x same }
 
   same_with_register : (d r : ℕ) (v : Value) → SameNumbers s (with_register s d r v)
   same_with_register d r v = same_with_domain d _ refl
@@ -66,6 +54,7 @@ module _ (s : State) where
   same_wiped : (l : Label) (places : List ℕ) (o : Option Node) → SameNumbers s (with_wiped s l (wiped places o))
   same_wiped l places None = same_self
   same_wiped l places (Some (Plain tag fields)) = same_with_block l _
+  same_wiped l places (Some (Raw tag fields)) = same_with_block l _
   same_wiped l places (Some (Ephe keys datum)) = same_with_block l _
 
 same_after_run : (s : State) (d : ℕ) (queue : List Pending) → SameNumbers s (after_run s d queue)
@@ -106,17 +95,11 @@ module _ (s : State) (numbered : IsNumbered s) (d : ℕ) (inside : d < length s.
   numbered_outcome c = moved IsNumbered s d c (record {
     same = numbered;
     held = λ r v named. numbered_same s _ (same_with_register s d r v) numbered;
-    written = λ l old new at found same named. numbered_same s _ (same_with_block s l new) numbered;
-    made = λ is dst n named. numbered_allocated dst n;
+    written = λ l old new at found same named full. numbered_same s _ (same_with_block s l new) numbered;
+    made = λ is dst n named full. numbered_allocated dst n;
     registered = λ is f named. numbered_same s _ (same_with_domain s d _ refl) numbered;
     registered_last = λ is f named. numbered_same s _ (same_with_domain s d _ refl) numbered;
   })
-
--- a number that is no domain's has ended
-pub inside_running : (xs : List DomainState) (d : ℕ) → (get_or xs d no_domain).ended ≡ false → d < length xs
-inside_running [] d e = cc
-inside_running (x ∷ xs) zero e = omega arith
-inside_running (x ∷ xs) (suc d) e = omega (arith, inside_running xs d e)
 
 -- each entry that is allowed keeps the numbering
 pub numbered_next : (s : State) (e : Entry) → Allowed s e → IsNumbered s → IsNumbered (next s e)
@@ -126,10 +109,10 @@ numbered_next s (CommandOf d c false) allowed numbered =
     (numbered_outcome s numbered d (inside_running s.domains d allowed.running) c)
 numbered_next s (End d) allowed numbered = numbered_same s _ (same_with_domain s d _ refl) numbered
 numbered_next s Cut allowed numbered =
-    numbered_same s (next s Cut) (record { given = refl; serials = serials_map (λ x. record x { low = length x.finals }) (λ x. refl) s.domains }) numbered
+    numbered_same s (next s Cut) (record { given = refl; serials = part_map (λ y. y.serial) (λ x. record x { low = length x.finals }) (λ x. refl) s.domains }) numbered
 numbered_next s (Queue d places) allowed numbered = numbered_same s _ (same_with_domain s d _ refl) numbered
 numbered_next s Seal allowed numbered =
-    numbered_same s (next s Seal) (record { given = refl; serials = serials_map (λ x. record x { low = length x.lasts }) (λ x. refl) s.domains }) numbered
+    numbered_same s (next s Seal) (record { given = refl; serials = part_map (λ y. y.serial) (λ x. record x { low = length x.lasts }) (λ x. refl) s.domains }) numbered
 numbered_next s (Wipe l keys) allowed numbered =
     let same = same_wiped s l keys (node_at s.graph l) in
     numbered_same s (next s (Wipe l keys)) (record { given = same.given; serials = same.serials }) numbered
@@ -137,7 +120,7 @@ numbered_next s (LastOf d place) allowed numbered =
     let same = same_with_domain s d (with_last_queued (domain_at s d) place) refl in
     numbered_same s (next s (LastOf d place)) (record { given = same.given; serials = same.serials }) numbered
 numbered_next s Collected allowed numbered =
-    numbered_same s (next s Collected) (record { given = refl; serials = serials_map (λ x. record x { fresh = true }) (λ x. refl) s.domains }) numbered
+    numbered_same s (next s Collected) (record { given = refl; serials = part_map (λ y. y.serial) (λ x. record x { fresh = true }) (λ x. refl) s.domains }) numbered
 numbered_next s Done allowed numbered = numbered_same s (next s Done) (record { given = refl; serials = λ d. refl }) numbered
 numbered_next s (Ran d) allowed numbered = numbered_same s _ (same_after_run s d (domain_at s d).queue) numbered
 

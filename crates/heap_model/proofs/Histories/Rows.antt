@@ -2,7 +2,7 @@
 use Rattle.std.proofs.Common.{◌≡◌, ◌≤◌, true, ℕ, false, List, [], ◌∷◌, ◌++◌, map, pos, refl, arith, rules}
 use Rattle.heap_model.specs.declared.label.Label.{Label}
 use Rattle.heap_model.specs.declared.command.Command.{Command}
-use Rattle.heap_model.specs.declared.command.Command.TheVariants.{PutInt, Forget, Alloc, Load, Store, Ephe as NewEphe, SetKey, CheckKey, SetData, CheckData, Finalise, FinaliseLast, Poll, FullMajor}
+use Rattle.heap_model.specs.declared.command.Command.TheVariants.{PutInt, Forget, Alloc, Load, Store, Raw as NewRaw, Cas, Minor, Spawn, Argument, PutResult, Join, Ephe as NewEphe, SetKey, CheckKey, SetData, CheckData, Finalise, FinaliseLast, Poll, FullMajor}
 use Rattle.heap_model.specs.declared.entry.Entry.{Entry}
 use Rattle.heap_model.specs.declared.entry.Entry.TheVariants.{Command as CommandOf, End, Cut, Queue, Seal, Wipe, Last, Collected, Done, Ran}
 use Rattle.heap_model.specs.declared.reply.Reply.TheVariants.{Yes, Done as Ok, Int, Block, BadType, BadIndex, No, Live, Fin, Last as LastReply}
@@ -53,8 +53,8 @@ unfolding reachable
 data_reaches_key_legal = search rules
 
 -- the same with no wipe is not legal
-abbrev dead_key_left : List Entry
-dead_key_left =
+abbrev gone_key_left : List Entry
+gone_key_left =
     map run (Alloc 1 0 1 ∷ Alloc 2 0 1 ∷ Store 2 0 1 ∷ NewEphe 3 1 ∷ SetKey 3 0 1 ∷ SetData 3 2 ∷ Forget 1 ∷ Forget 2 ∷ [])
     ++ Cut ∷ Seal ∷ Collected ∷ []
 
@@ -172,7 +172,7 @@ both_sealed_legal = search rules
 
 last_before_final_illegal : Legal sizes (both_sealed ++ Last 0 0 ∷ []) → ⊥
 unfolding reachable
-last_before_final_illegal h = let gone : false ≡ true = h.1.1.1.1.1.1.0.dead in cc
+last_before_final_illegal h = let gone : false ≡ true = h.1.1.1.1.1.1.0.gone in cc
 
 -- a second `full_major` doesn't come before the finaliser that the first one queued
 abbrev collected_again : List Entry
@@ -198,7 +198,7 @@ key_waits_legal = search rules
 
 key_waits_illegal : Legal sizes (key_waits ++ Wipe (block 2) (0 ∷ []) ∷ []) → ⊥
 unfolding reachable
-key_waits_illegal h = let gone : false ≡ true = h.1.1.1.1.1.1.1.0.dead in cc
+key_waits_illegal h = let gone : false ≡ true = h.1.1.1.1.1.1.1.0.gone in cc
 
 -- alloc 1 0 1, ephe 2 1, set_key 2 0 1, finalise_last 1 4, drop 1, full_major, check_key 2 0
 abbrev last_and_key : List Entry
@@ -214,9 +214,9 @@ last_and_key_legal : Legal sizes last_and_key
 unfolding reachable
 last_and_key_legal = search rules
 
-dead_key_left_illegal : Legal sizes dead_key_left → ⊥
+gone_key_left_illegal : Legal sizes gone_key_left → ⊥
 unfolding reachable
-dead_key_left_illegal h = let alive : false ≡ true = h.1.1.1.1.1.1.1.1.1.1.0.keys in cc
+gone_key_left_illegal h = let alive : false ≡ true = h.1.1.1.1.1.1.1.1.1.1.0.keys in cc
 
 -- a chain of ephemerons in the worst order
 abbrev chain_of_ephemerons : List Entry
@@ -259,7 +259,7 @@ both_keys_wiped =
 
 both_keys_wiped_illegal : Legal sizes both_keys_wiped → ⊥
 unfolding reachable
-both_keys_wiped_illegal h = let dead : false ≡ true = h.1.1.1.1.1.1.1.1.1.1.0.dead in cc
+both_keys_wiped_illegal h = let gone : false ≡ true = h.1.1.1.1.1.1.1.1.1.1.0.gone in cc
 
 type_and_bounds_legal : Legal sizes type_and_bounds
 type_and_bounds_legal = search rules
@@ -289,3 +289,87 @@ full_not_fresh p = let fresh : false ≡ true = p.fresh in cc
 full_no_load : MayBeFullAfterCollection (state_after (opening (small 14)) collected_once) 0 (Load 1 0 0) → ⊥
 unfolding reachable
 full_no_load p = let allocates : false ≡ true = p.allocates in cc
+
+-- raw blocks: raw 1 252 3, int 2 5, store 1 0 2, store 1 1 1, load 3 1 0, full_major
+abbrev raw_block : List Entry
+raw_block = map run (NewRaw 1 252 3 ∷ PutInt 2 (pos 5) ∷ Store 1 0 2 ∷ Store 1 1 1 ∷ Load 3 1 0 ∷ []) ++ full_major [] [] ++ End 0 ∷ []
+
+raw_block_replies : replies sizes raw_block 0 ≡ Block (block 1) ∷ Ok ∷ Ok ∷ BadType ∷ Int (pos 5) ∷ Live 2 23 ∷ []
+unfolding reachable
+raw_block_replies = refl
+
+raw_block_legal : Legal sizes raw_block
+unfolding reachable
+raw_block_legal = search rules
+
+-- compare-and-set: int 1 0, int 2 9, cas 0 3 1 2, cas 0 3 1 2, load 3 0 3, cas 0 16 1 2, cas 0 3 9 2
+abbrev exchanges : List Entry
+exchanges = map run (PutInt 1 (pos 0) ∷ PutInt 2 (pos 9) ∷ Cas 0 3 1 2 ∷ Cas 0 3 1 2 ∷ Load 3 0 3 ∷ Cas 0 16 1 2 ∷ Cas 0 3 9 2 ∷ []) ++ End 0 ∷ []
+
+exchanges_replies : replies sizes exchanges 0 ≡ Ok ∷ Ok ∷ Yes ∷ No ∷ Int (pos 9) ∷ BadIndex ∷ BadType ∷ []
+exchanges_replies = refl
+
+exchanges_legal : Legal sizes exchanges
+exchanges_legal = search rules
+
+-- a block that is expected: alloc 1 0 1, store 0 0 1, minor, int 2 1, cas 0 0 1 2
+abbrev expects_a_block : List Entry
+expects_a_block = map run (Alloc 1 0 1 ∷ Store 0 0 1 ∷ Minor ∷ PutInt 2 (pos 1) ∷ Cas 0 0 1 2 ∷ []) ++ End 0 ∷ []
+
+expects_a_block_replies : replies sizes expects_a_block 0 ≡ Block (block 1) ∷ Ok ∷ Ok ∷ Ok ∷ Yes ∷ []
+expects_a_block_replies = refl
+
+expects_a_block_legal : Legal sizes expects_a_block
+expects_a_block_legal = search rules
+
+-- no block goes into a raw block by compare-and-set either: raw 1 252 1, int 2 0, cas 1 0 2 1, load 3 1 0
+abbrev exchanges_raw : List Entry
+exchanges_raw = map run (NewRaw 1 252 1 ∷ PutInt 2 (pos 0) ∷ Cas 1 0 2 1 ∷ Load 3 1 0 ∷ []) ++ End 0 ∷ []
+
+exchanges_raw_replies : replies sizes exchanges_raw 0 ≡ Block (block 1) ∷ Ok ∷ BadType ∷ Int (pos 0) ∷ []
+exchanges_raw_replies = refl
+
+-- two domains exchange the same field: int 1 0, int 2 5, cas 0 0 1 2 in each. Whichever comes first is answered yes, and the other no
+abbrev two_sizes : Sizes
+two_sizes = record { domains = 2; pools = 512; minor_words = 32768; classes = 6 }
+
+abbrev makes : ℕ → Command → Entry
+makes d c = CommandOf d c false
+
+abbrev both_exchange : ℕ → ℕ → List Entry
+both_exchange first second =
+    makes 0 (PutInt 1 (pos 0)) ∷ makes 1 (PutInt 1 (pos 0)) ∷ makes 1 (PutInt 2 (pos 5)) ∷ makes 0 (PutInt 2 (pos 5))
+    ∷ makes first (Cas 0 0 1 2) ∷ makes second (Cas 0 0 1 2) ∷ End 0 ∷ End 1 ∷ []
+
+first_exchanges : (replies two_sizes (both_exchange 0 1) 0 ≡ Ok ∷ Ok ∷ Yes ∷ []) × (replies two_sizes (both_exchange 0 1) 1 ≡ Ok ∷ Ok ∷ No ∷ [])
+first_exchanges = (refl, refl)
+
+second_exchanges : (replies two_sizes (both_exchange 1 0) 0 ≡ Ok ∷ Ok ∷ No ∷ []) × (replies two_sizes (both_exchange 1 0) 1 ≡ Ok ∷ Ok ∷ Yes ∷ [])
+second_exchanges = (refl, refl)
+
+both_exchange_legal : Legal two_sizes (both_exchange 0 1) × Legal two_sizes (both_exchange 1 0)
+both_exchange_legal = (first, second)
+  where
+    first : Legal two_sizes (both_exchange 0 1)
+    first = search rules
+
+    second : Legal two_sizes (both_exchange 1 0)
+    second = search rules
+
+-- a command that stands for several others is no entry
+spawn_illegal : Legal sizes (run (Spawn 1 1) ∷ []) → ⊥
+spawn_illegal h = h.0.fits
+
+argument_illegal : Legal sizes (run (Argument 1) ∷ []) → ⊥
+argument_illegal h = h.0.fits
+
+result_illegal : Legal sizes (run (PutResult 1) ∷ []) → ⊥
+result_illegal h = h.0.fits
+
+join_illegal : Legal sizes (run (Join 1 1) ∷ []) → ⊥
+join_illegal h = h.0.fits
+
+-- a raw block may be answered `full`
+full_raw : MayBeFullAfterCollection (state_after (opening (small 14)) collected_once) 0 (NewRaw 1 252 1)
+unfolding reachable
+full_raw = record { allocates = refl; fresh = refl; kept_enough = let enough : 14 ≤ 14 = omega arith in enough }

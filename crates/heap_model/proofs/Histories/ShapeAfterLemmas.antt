@@ -6,7 +6,7 @@ use Rattle.heap_model.specs.declared.entry.Entry.{Entry}
 use Rattle.heap_model.specs.declared.entry.Entry.TheVariants.{Command as CommandOf, End, Cut, Queue, Seal, Wipe, Last as LastOf, Collected, Done, Ran}
 use Rattle.heap_model.specs.declared.graph.Value.TheVariants.{Block}
 use Rattle.heap_model.specs.declared.graph.Node.{Node}
-use Rattle.heap_model.specs.declared.graph.Node.TheVariants.{Plain, Ephe}
+use Rattle.heap_model.specs.declared.graph.Node.TheVariants.{Plain, Raw, Ephe}
 use Rattle.heap_model.specs.declared.state.Mode.{Mode}
 use Rattle.heap_model.specs.declared.state.Mode.TheVariants.{Cut as CutMode, Sealed, Answer}
 use Rattle.heap_model.specs.declared.state.Pending.{Pending}
@@ -46,6 +46,7 @@ module _ (s : State) (shaped : IsShaped s) where
   shaped-wiped : (l : Label) (places : List ℕ) (o : Option Node) → IsShaped (with_wiped s l (wiped places o))
   shaped-wiped l places None = shaped
   shaped-wiped l places (Some (Plain tag fields)) = shaped-with_block s shaped l _
+  shaped-wiped l places (Some (Raw tag fields)) = shaped-with_block s shaped l _
   shaped-wiped l places (Some (Ephe keys datum)) = shaped-with_block s shaped l _
 
   shaped-after_run : (d : ℕ) (queue : List Pending) → IsShaped (after_run s d queue)

@@ -5,7 +5,7 @@ use Rattle.heap_model.specs.declared.command.Command.{Command}
 use Rattle.heap_model.specs.declared.graph.Value.{Value}
 use Rattle.heap_model.specs.declared.graph.Value.TheVariants.{Int, Block, Nothing}
 use Rattle.heap_model.specs.declared.graph.Node.{Node}
-use Rattle.heap_model.specs.declared.graph.Node.TheVariants.{Plain, Ephe}
+use Rattle.heap_model.specs.declared.graph.Node.TheVariants.{Plain, Raw, Ephe}
 use Rattle.heap_model.specs.declared.entry.Entry.{Entry}
 use Rattle.heap_model.specs.declared.entry.Entry.TheVariants.{Command as CommandOf, End, Cut, Queue, Seal, Wipe, Last as LastOf, Collected, Done, Ran}
 use Rattle.heap_model.specs.declared.state.Mode.{Mode}
@@ -133,8 +133,8 @@ module _ (s : State) (wf : IsWellFormed s) where
   wf_outcome d c = moved IsWellFormed s d c (record {
     same = wf;
     held = λ r v named. wf_with_register s wf d r v (named wf);
-    written = λ l old new at found same named. wf_with_block s wf l new (named wf);
-    made = λ is dst n named. wf_allocated s wf d dst n named;
+    written = λ l old new at found same named full. wf_with_block s wf l new (named wf);
+    made = λ is dst n named full. wf_allocated s wf d dst n named;
     registered = λ is f named. wf_with_final d f (named wf);
     registered_last = λ is f named. wf_with_last d f (named wf);
   })
@@ -168,6 +168,7 @@ module _ (s : State) (wf : IsWellFormed s) where
   wf_wiped : (l : Label) (keys : List ℕ) (o : Option Node) → node_at s.graph l ≡ o → IsWellFormed (with_wiped s l (wiped keys o))
   wf_wiped l places None e = wf
   wf_wiped l places (Some (Plain tag fields)) e = wf_with_block s wf l (Plain tag fields) (wf.nodes l (Plain tag fields) e)
+  wf_wiped l places (Some (Raw tag fields)) e = wf_with_block s wf l (Raw tag fields) (wf.nodes l (Raw tag fields) e)
   wf_wiped l places (Some (Ephe keys datum)) e =
       let named = have_left s.graph (filter_map (λ k. k) keys) (option_to_list (label_of datum)) (wf.nodes l (Ephe keys datum) e) in
       wf_with_block s wf l _ (have_append s.graph (filter_map (λ k. k) (wiped_keys places keys)) [] (wiped_keys_named s.graph places keys named) (have_none s.graph))
@@ -263,6 +264,7 @@ wf_opening z =
 kept_named : (g : Graph) (alive : Label → Bool) (o : Option Node) → ((n : Node) → o ≡ Some n → HaveNodes g (names_of n)) → HaveNodes g (option_map_or (edges_of alive) o [])
 kept_named g alive None each = have_none g
 kept_named g alive (Some (Plain tag fields)) each = each (Plain tag fields) refl
+kept_named g alive (Some (Raw tag fields)) each = have_none g
 kept_named g alive (Some (Ephe keys datum)) each =
     kept (list_all (key_holds alive) keys) (have_right g (filter_map (λ k. k) keys) (option_to_list (label_of datum)) (each (Ephe keys datum) refl))
   where

@@ -1,10 +1,10 @@
 -- Reachability is the least closed set that holds the roots.
-use Rattle.std.proofs.Common.{◌≡◌, ◌⊎◌, ℕ, zero, suc, ◌<◌, ◌≤◌, Bool, true, false, cond, ◌&&◌, ◌||◌, IsTrue, List, [], ◌∷◌, ◌++◌, length, flat_map, fold, option_to_list, Option, Some, None, refl, sym, subst, inl, inr, ⊎_elim, arith}
+use Rattle.std.proofs.Common.{◌≡◌, ◌⊎◌, ℕ, zero, suc, ◌<◌, ◌≤◌, Bool, true, false, cond, not, ◌&&◌, ◌||◌, IsTrue, List, [], ◌∷◌, ◌++◌, length, filter_map, flat_map, fold, option_to_list, Option, Some, None, refl, sym, subst, inl, inr, ⊎_elim, arith}
 use Rattle.std.specs.List.{list_all}
 use Rattle.std.specs.Option.{option_map_or}
 use Rattle.heap_model.specs.declared.label.Label.{Label}
 use Rattle.heap_model.specs.declared.graph.Node.{Node}
-use Rattle.heap_model.specs.declared.graph.Node.TheVariants.{Plain, Ephe}
+use Rattle.heap_model.specs.declared.graph.Node.TheVariants.{Plain, Raw, Ephe}
 use Rattle.heap_model.specs.Graph.{Graph, same_label, labels, has_label, label_of, node_at}
 use Rattle.heap_model.specs.Reach.{key_holds, edges_of, edges_at, with_label, grow, grow_rounds, reachable, HoldsRoots, IsClosedUnder, ReachLaw}
 use Rattle.heap_model.proofs.Graphs.GraphLemmas.{same_label-true, same_label_refl}
@@ -33,6 +33,25 @@ and_right false b e = cc
 pub and_both : (a b : Bool) → IsTrue a → IsTrue b → IsTrue (a && b)
 and_both true b e f = f
 and_both false b e f = cc
+
+pub is_false : (b : Bool) → IsTrue (not b) → b ≡ false
+is_false true e = cc
+is_false false e = refl
+
+pub not_false : (b : Bool) → b ≡ false → IsTrue (not b)
+not_false true e = cc
+not_false false e = refl
+
+pub never_true : (b : Bool) → (IsTrue b → ⊥) → b ≡ false
+never_true true never = absurd (never refl)
+never_true false never = refl
+
+pub never_not : (b : Bool) → (IsTrue b → ⊥) → IsTrue (not b)
+never_not b never = not_false b (never_true b never)
+
+pub not_true : (b : Bool) → IsTrue (not b) → IsTrue b → ⊥
+not_true true n h = let clash : false ≡ true = n in cc
+not_true false n h = let clash : false ≡ true = h in cc
 
 pub true_or_false : (b : Bool) → IsTrue b ⊎ (b ≡ false)
 true_or_false true = inl refl
@@ -145,8 +164,25 @@ module _ (alive other : Label → Bool) (more : (l : Label) → IsTrue (alive l)
   edges_grow : (n : Option Node) → Within (option_map_or (edges_of alive) n []) (option_map_or (edges_of other) n [])
   edges_grow None x h = h
   edges_grow (Some (Plain tag fields)) x h = h
+  edges_grow (Some (Raw tag fields)) x h = cc
   edges_grow (Some (Ephe keys datum)) x h =
       data_kept (list_all (key_holds alive) keys) (list_all (key_holds other) keys) (keys_grow keys) (option_to_list (label_of datum)) x h
+
+-- full keys that are all alive, as a test of each and as a list
+pub keys_all : (alive : Label → Bool) (keys : List (Option Label)) → HoldsRoots (filter_map (λ k. k) keys) alive → IsTrue (list_all (key_holds alive) keys)
+keys_all alive [] h = refl
+keys_all alive (None ∷ keys) h = keys_all alive keys h
+keys_all alive (Some k ∷ keys) h = and_both (alive k) (list_all (key_holds alive) keys)
+    (h k (or_left (same_label k k) (has_label (filter_map (λ k. k) keys) k) (same_label_refl k)))
+    (keys_all alive keys (λ l at. h l (or_right (same_label k l) (has_label (filter_map (λ k. k) keys) l) at)))
+
+pub all_keys : (alive : Label → Bool) (keys : List (Option Label)) → IsTrue (list_all (key_holds alive) keys) → HoldsRoots (filter_map (λ k. k) keys) alive
+all_keys alive [] h l at = cc
+all_keys alive (None ∷ keys) h l at = all_keys alive keys h l at
+all_keys alive (Some k ∷ keys) h l at = ⊎_elim
+    (λ here. subst (λ z. IsTrue (alive z)) (same_label-true k l here) (and_left (alive k) (list_all (key_holds alive) keys) h))
+    (λ later. all_keys alive keys (and_right (alive k) (list_all (key_holds alive) keys) h) l later)
+    (or_cases (same_label k l) (has_label (filter_map (λ k. k) keys) l) at)
 
 -- a set is closed where it holds what its labels keep alive
 abbrev IsClosed : Graph → List Label → Type 0

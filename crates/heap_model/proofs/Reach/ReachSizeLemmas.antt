@@ -4,19 +4,7 @@ use Rattle.heap_model.specs.declared.label.Label.{Label}
 use Rattle.heap_model.specs.Graph.{Graph, same_label, has_label, has_no_repeats, labels}
 use Rattle.heap_model.specs.Reach.{edges_at, with_label, grow, grow_rounds, reachable, HoldsRoots, IsClosedGraph}
 use Rattle.heap_model.proofs.Graphs.GraphLemmas.{same_label-true, same_label_refl}
-use Rattle.heap_model.proofs.Reach.ReachLemmas.{or_cases, or_left, or_right, and_left, and_right, and_both, has-append_cases, has-append_left, has-append_right, has-flat_map_cases, missing, missing_most, missing_drops}
-
-is_false : (b : Bool) → (IsTrue b → ⊥) → b ≡ false
-is_false true never = absurd (never refl)
-is_false false never = refl
-
-not_true : (b : Bool) → IsTrue (not b) → IsTrue b → ⊥
-not_true true h t = let clash : false ≡ true = h in cc
-not_true false h t = let clash : false ≡ true = t in cc
-
-not_from : (b : Bool) → b ≡ false → IsTrue (not b)
-not_from true e = cc
-not_from false e = refl
+use Rattle.heap_model.proofs.Reach.ReachLemmas.{not_true, never_not, or_cases, or_left, or_right, and_left, and_right, and_both, has-append_cases, has-append_left, has-append_right, has-flat_map_cases, missing, missing_most, missing_drops}
 
 -- one more label that isn't there yet
 no_repeats_push : (ls : List Label) (l : Label) → (IsTrue (has_label ls l) → ⊥) → IsTrue (has_no_repeats ls) → IsTrue (has_no_repeats (ls ++ l ∷ []))
@@ -30,7 +18,7 @@ no_repeats_push (k ∷ ls) l new once =
     (or_cases (same_label l k) false here))
     (has-append_cases ls (l ∷ []) k h) in
     and_both (not (has_label (ls ++ l ∷ []) k)) (has_no_repeats (ls ++ l ∷ []))
-    (not_from (has_label (ls ++ l ∷ []) k) (is_false (has_label (ls ++ l ∷ []) k) not_later))
+    (never_not (has_label (ls ++ l ∷ []) k) not_later)
     (no_repeats_push ls l (λ h. new (or_right (same_label k l) (has_label ls l) h)) (and_right (not (has_label ls k)) (has_no_repeats ls) once))
 
 no_repeats_with_label : (live : List Label) (l : Label) → IsTrue (has_no_repeats live) → IsTrue (has_no_repeats (with_label live l))

@@ -17,13 +17,13 @@ returns-in_default-clause-did g c = entered_did _ _ _ _ g.entry _ _ _ _ c.requir
 pub returns-in_default-plain_size-clause-did : goal.returns-in_default-plain_size-clause-did
 returns-in_default-plain_size-clause-did g c =
     let told = c.head_load.ensures.told in
-    let size = c.plain_size.ensures told.shape told.packable told.head in
+    let size = c.plain_size.ensures told.shape told.head in
     entered_did _ _ _ _ g.entry _ _ _ _ c.requires.0 refl c.requires.1.0 c.head_load.ensures.here (ephemeron_found _ _ g.entry _ _ _ _ told size c.in_default-plain_size.is)
 
 pub returns-then-index-size-clause-did : goal.returns-then-index-size-clause-did
 returns-then-index-size-clause-did g c =
     let told = c.head_load.ensures.told in
-    let size = c.plain_size.ensures told.shape told.packable told.head in
+    let size = c.plain_size.ensures told.shape told.head in
     let place : c.args.index ≡ place_of g.entry = ap place_of (sym c.requires.0) in
     let past : c.in-Some.size ≤ place_of g.entry = subst (λ (n : ℕ). c.in-Some.size ≤ n) place (omega arith) in
     entered_did _ _ _ _ g.entry _ _ _ _ c.requires.0 refl c.requires.1.0 c.head_load.ensures.here (past_found _ _ g.entry _ _ _ _ _ told size c.in-Some.is past)
@@ -31,7 +31,7 @@ returns-then-index-size-clause-did g c =
 pub field_load-requires : goal.field_load-requires
 field_load-requires g c =
     let told = c.head_load.ensures.told in
-    let size = c.plain_size.ensures told.shape told.packable told.head in
+    let size = c.plain_size.ensures told.shape told.head in
     let looked : Measured c.args.heap.now.config c.in-Ref.address c.args.src c.in-Some.size c.args.dom.now.view c.head_load.new.dom.view =
     measured_at _ _ g.entry (own_entry c.args.dom.now (Load c.args.dst c.args.src c.args.index)) _ _ _ _ _ c.requires.0 told size c.in-Some.is (omega arith) in
     let field = field_known c.args.heap.now c.args.dom.now c.head_load.new.dom.view c.args.src c.args.index c.in-Some.size c.in-Ref.address c.requires.1.0 c.requires.1.1.1 (sym c.in-Ref.ensures.value) looked (omega arith) in
@@ -41,7 +41,7 @@ field_load-requires g c =
 pub shown_register-requires : goal.shown_register-requires
 shown_register-requires g c =
     let told = c.head_load.ensures.told in
-    let size = c.plain_size.ensures told.shape told.packable told.head in
+    let size = c.plain_size.ensures told.shape told.head in
     let looked : Measured c.args.heap.now.config c.in-Ref.address c.args.src c.in-Some.size c.args.dom.now.view c.head_load.new.dom.view =
     measured_at _ _ g.entry (own_entry c.args.dom.now (Load c.args.dst c.args.src c.args.index)) _ _ _ _ _ c.requires.0 told size c.in-Some.is (omega arith) in
     let shown = register_loaded c.args.heap.now c.args.dom.now c.head_load.new.dom.view c.field_load.new.dom.view g.entry c.args.dst c.args.src c.args.index c.in-Some.size c.in-Ref.address _ c.config-limits.ensures.limits c.requires.0 c.requires.1.0 c.requires.1.1.0 looked (omega arith) c.field_load.ensures.told in
@@ -50,7 +50,7 @@ shown_register-requires g c =
 pub returns-clause-did : goal.returns-clause-did
 returns-clause-did g c =
     let told = c.head_load.ensures.told in
-    let size = c.plain_size.ensures told.shape told.packable told.head in
+    let size = c.plain_size.ensures told.shape told.head in
     let looked : Measured c.args.heap.now.config c.in-Ref.address c.args.src c.in-Some.size c.args.dom.now.view c.head_load.new.dom.view =
     measured_at _ _ g.entry (own_entry c.args.dom.now (Load c.args.dst c.args.src c.args.index)) _ _ _ _ _ c.requires.0 told size c.in-Some.is (omega arith) in
     load_did c.args.heap.now c.args.dom.now c.head_load.new.dom.view c.field_load.new.dom.view g.entry c.args.dst c.args.src c.args.index c.in-Some.size c.in-Ref.address _ c.config-limits.ensures.limits c.requires.0 c.requires.1.0 c.requires.1.1.0 looked (omega arith) c.field_load.ensures.told
@@ -59,8 +59,20 @@ returns-clause-did g c =
 pub returns-clause-registers : goal.returns-clause-registers
 returns-clause-registers g c =
     let told = c.head_load.ensures.told in
-    let size = c.plain_size.ensures told.shape told.packable told.head in
+    let size = c.plain_size.ensures told.shape told.head in
     let looked : Measured c.args.heap.now.config c.in-Ref.address c.args.src c.in-Some.size c.args.dom.now.view c.head_load.new.dom.view =
     measured_at _ _ g.entry (own_entry c.args.dom.now (Load c.args.dst c.args.src c.args.index)) _ _ _ _ _ c.requires.0 told size c.in-Some.is (omega arith) in
     loads_into c.args.heap.now c.args.dom.now c.head_load.new.dom.view c.field_load.new.dom.view g.entry c.args.dst c.args.src c.args.index c.in-Some.size c.in-Ref.address _ c.config-limits.ensures.limits c.requires.0 c.requires.1.0 c.requires.1.1.0 looked (omega arith) c.field_load.ensures.told
     c.shown_register.new.dom c.shown_register.result c.shown_register.ensures.same c.shown_register.ensures.reply
+
+pub returns-in_default-plain_size-clause-holds : goal.returns-in_default-plain_size-clause-holds
+returns-in_default-plain_size-clause-holds g c =
+    let told = c.head_load.ensures.told in
+    (ephemeron_found _ _ g.entry _ _ _ _ told (c.plain_size.ensures told.shape told.head) c.in_default-plain_size.is).holds
+
+pub returns-then-index-size-clause-holds : goal.returns-then-index-size-clause-holds
+returns-then-index-size-clause-holds g c =
+    let told = c.head_load.ensures.told in
+    let place : c.args.index ≡ place_of g.entry = ap place_of (sym c.requires.0) in
+    let past : c.in-Some.size ≤ place_of g.entry = subst (λ (n : ℕ). c.in-Some.size ≤ n) place (omega arith) in
+    (past_found _ _ g.entry _ _ _ _ _ told (c.plain_size.ensures told.shape told.head) c.in-Some.is past).holds

@@ -18,13 +18,13 @@ returns-in_default-clause-did g c = entered_did _ _ _ _ g.entry _ _ _ _ c.requir
 pub returns-in_default-plain_size-clause-did : goal.returns-in_default-plain_size-clause-did
 returns-in_default-plain_size-clause-did g c =
     let told = c.head_load.ensures.told in
-    let size = c.plain_size.ensures told.shape told.packable told.head in
+    let size = c.plain_size.ensures told.shape told.head in
     entered_did _ _ _ _ g.entry _ _ _ _ c.requires.0 refl c.requires.1.0 c.head_load.ensures.here (ephemeron_found _ _ g.entry _ _ _ _ told size c.in_default-plain_size.is)
 
 pub returns-then-index-size-clause-did : goal.returns-then-index-size-clause-did
 returns-then-index-size-clause-did g c =
     let told = c.head_load.ensures.told in
-    let size = c.plain_size.ensures told.shape told.packable told.head in
+    let size = c.plain_size.ensures told.shape told.head in
     let place : c.args.index ≡ place_of g.entry = ap place_of (sym c.requires.0) in
     let past : c.in-Some.size ≤ place_of g.entry = subst (λ (n : ℕ). c.in-Some.size ≤ n) place (omega arith) in
     entered_did _ _ _ _ g.entry _ _ _ _ c.requires.0 refl c.requires.1.0 c.head_load.ensures.here (past_found _ _ g.entry _ _ _ _ _ told size c.in-Some.is past)
@@ -35,7 +35,7 @@ returns-in-Nothing-clause-did g c = entered_did _ _ _ _ g.entry _ _ _ _ c.requir
 pub field_store-requires : goal.field_store-requires
 field_store-requires g c =
     let told = c.head_load.ensures.told in
-    let size = c.plain_size.ensures told.shape told.packable told.head in
+    let size = c.plain_size.ensures told.shape told.head in
     let looked : Measured c.args.heap.now.config c.in-Ref.address c.args.block c.in-Some.size c.args.dom.now.view c.head_load.new.dom.view =
     measured_at _ _ g.entry (own_entry c.args.dom.now (Store c.args.block c.args.index c.args.item)) _ _ _ _ _ c.requires.0 told size c.in-Some.is (omega arith) in
     let field = field_known c.args.heap.now c.args.dom.now c.head_load.new.dom.view c.args.block c.args.index c.in-Some.size c.in-Ref.address c.requires.1.0 c.requires.1.1.0 (sym c.in-Ref.ensures.value) looked (omega arith) in
@@ -45,8 +45,20 @@ field_store-requires g c =
 pub returns-clause-did : goal.returns-clause-did
 returns-clause-did g c =
     let told = c.head_load.ensures.told in
-    let size = c.plain_size.ensures told.shape told.packable told.head in
+    let size = c.plain_size.ensures told.shape told.head in
     let place : c.args.index ≡ place_of g.entry = ap place_of (sym c.requires.0) in
     let below : place_of g.entry < c.in-Some.size = subst (λ (n : ℕ). n < c.in-Some.size) place (omega arith) in
     let looked = measured _ _ g.entry _ _ _ _ _ told size c.in-Some.is below in
     looked_did c.args.heap.now c.args.dom.now c.field_store.new.dom c.head_load.new.dom.view _ g.entry _ _ _ c.requires.0 c.requires.1.0 c.field_store.ensures.here looked.looked c.field_store.ensures.entered
+
+pub returns-in_default-plain_size-clause-holds : goal.returns-in_default-plain_size-clause-holds
+returns-in_default-plain_size-clause-holds g c =
+    let told = c.head_load.ensures.told in
+    (ephemeron_found _ _ g.entry _ _ _ _ told (c.plain_size.ensures told.shape told.head) c.in_default-plain_size.is).holds
+
+pub returns-then-index-size-clause-holds : goal.returns-then-index-size-clause-holds
+returns-then-index-size-clause-holds g c =
+    let told = c.head_load.ensures.told in
+    let place : c.args.index ≡ place_of g.entry = ap place_of (sym c.requires.0) in
+    let past : c.in-Some.size ≤ place_of g.entry = subst (λ (n : ℕ). c.in-Some.size ≤ n) place (omega arith) in
+    (past_found _ _ g.entry _ _ _ _ _ told (c.plain_size.ensures told.shape told.head) c.in-Some.is past).holds

@@ -5,5 +5,5 @@ use Rattle.heap_rule.proofs.change.make_changes.Given as goal
 abbrev pub invariant-loop-change : goal.invariant-loop-change
 invariant-loop-change l = record {
   fit : FitChanges (drop l.change-index l.changes);
-  made : changed l.read (drop l.change-index l.changes) l.registers ≡ changed l.read l.changes l.initial.registers;
+  made : changed l.read (drop l.change-index l.changes) l.own ≡ changed l.read l.changes l.initial.own;
 }

@@ -7,4 +7,4 @@ returns-in-Some c =
     let g = c.args.state.now.graph in
     let x = c.index.result.now in
     let here : x ≡ get_or g c.in-Some.i x = rw c.graph.view_is at c.index.ensures in
-    rw (place_node g c.args.l c.in-Some.i x c.in-Some.ensures here) c.has_dead_keys.ensures
+    rw (place_node g c.args.l c.in-Some.i x c.in-Some.ensures here) c.has_gone_keys.ensures

@@ -1,6 +1,6 @@
 use Rattle.std.proofs.Common.{ap}
 use Rattle.heap_rule.specs.declared.view.DomainView.{DomainView}
-use Rattle.heap_rule.proofs.Closes.{leaves_closes}
+use Rattle.heap_rule.proofs.Closes.{front_same, leaves_closes}
 use Rattle.steps_pauses.specs.Pauses.{AskTold}
 use Rattle.steps_pauses.proofs.PauseSteps.{ask_may}
 use Rattle.steps_pauses.proofs.pausing.ask.Goals as goal
@@ -9,4 +9,4 @@ pub or_as-requires-clause-may : goal.or_as-requires-clause-may
 or_as-requires-clause-may c = ask_may c.args.heap.now.config c.args.dom.now.view c.args.bits
 
 pub or_as-requires-clause-closes : goal.or_as-requires-clause-closes
-or_as-requires-clause-closes c = λ found. leaves_closes c.args.heap.now.config c.args.dom.now.view found (AskTold c.args.bits) (λ y told. ap (λ (z : DomainView). z.own) told)
+or_as-requires-clause-closes c = λ found. leaves_closes c.args.heap.now.config c.args.dom.now.view found (AskTold c.args.bits) (λ y told. ap (λ (z : DomainView). z.own) told) (λ y told. front_same c.args.dom.now.view y (ap (λ (z : DomainView). z.seen.front) told))

@@ -1,6 +1,6 @@
 use Rattle.heap_rule.proofs.Closes.{leaves_closes}
 use Rattle.steps_pools.specs.Takes.{CursorAddTold}
-use Rattle.steps_pools.proofs.Plain.{cursor_add_own}
+use Rattle.steps_pools.proofs.Plain.{cursor_add_own, cursor_add_front}
 use Rattle.steps_pools.proofs.TakeSteps.{cursor_add_may}
 use Rattle.steps_pools.proofs.taking.cursor_add.Goals as goal
 
@@ -8,4 +8,4 @@ pub add_as-requires-clause-may : goal.add_as-requires-clause-may
 add_as-requires-clause-may c = cursor_add_may c.args.heap.now.config c.args.dom.now.view c.requires.runs c.args.count c.args.class c.requires.asks c.requires.class
 
 pub add_as-requires-clause-closes : goal.add_as-requires-clause-closes
-add_as-requires-clause-closes c = λ found. leaves_closes c.args.heap.now.config c.args.dom.now.view found (CursorAddTold c.args.heap.now.config c.args.count c.args.class) (cursor_add_own c.args.heap.now.config c.args.count c.args.class c.args.dom.now.view found)
+add_as-requires-clause-closes c = λ found. leaves_closes c.args.heap.now.config c.args.dom.now.view found (CursorAddTold c.args.heap.now.config c.args.count c.args.class) (cursor_add_own c.args.heap.now.config c.args.count c.args.class c.args.dom.now.view found) (cursor_add_front c.args.heap.now.config c.args.count c.args.class c.args.dom.now.view found)

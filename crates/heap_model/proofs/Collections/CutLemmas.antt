@@ -3,11 +3,11 @@ use Rattle.std.proofs.Common.{append-nil, ap₂, ◌≡◌, ℕ, zero, suc, Bool
 use Rattle.std.proofs.lemmas.List.Elements.{filter_map-append}
 use Rattle.heap_model.specs.declared.label.Label.{Label}
 use Rattle.heap_model.specs.declared.command.Command.{Command}
-use Rattle.heap_model.specs.declared.command.Command.TheVariants.{FullMajor}
+use Rattle.heap_model.specs.declared.command.Command.TheVariants.{FullMajor, Spawn, Argument, PutResult, Join}
 use Rattle.heap_model.specs.declared.entry.Entry.{Entry}
 use Rattle.heap_model.specs.declared.entry.Entry.TheVariants.{Command as CommandOf, End, Cut, Queue, Seal, Wipe, Last as LastOf, Collected, Done, Ran}
 use Rattle.heap_model.specs.declared.graph.Node.{Node}
-use Rattle.heap_model.specs.declared.graph.Node.TheVariants.{Plain, Ephe}
+use Rattle.heap_model.specs.declared.graph.Node.TheVariants.{Plain, Raw, Ephe}
 use Rattle.heap_model.specs.declared.state.Mode.{Mode}
 use Rattle.heap_model.specs.declared.state.Mode.TheVariants.{Open, Cut as CutMode, Sealed, Answer}
 use Rattle.heap_model.specs.declared.state.Pending.{Pending}
@@ -17,55 +17,30 @@ use Rattle.heap_model.specs.declared.state.LastFinaliser.{LastFinaliser}
 use Rattle.heap_model.specs.Reach.{reachable}
 use Rattle.heap_model.specs.declared.state.Sizes.{Sizes}
 use Rattle.heap_model.specs.declared.state.State.{State}
-use Rattle.heap_model.specs.Graph.{Graph, has_label, label_of, node_at}
+use Rattle.heap_model.specs.Graph.{has_label, label_of, node_at}
 use Rattle.heap_model.specs.Domains.{domain_at, with_domain, no_domain, pending_label, queues, roots, reach, waiting, settled_roots, settled_reach, opening}
-use Rattle.heap_model.specs.Commands.{FitsMode, allocated, outcome}
+use Rattle.heap_model.specs.Commands.{FitsMode}
 use Rattle.heap_model.specs.Entries.{Allowed, wiped, with_wiped, after_run, at_places, queued_last, with_queued, with_last_queued, CollectedAllowed, next}
 use Rattle.heap_model.specs.History.{state_after, LegalFrom, Legal}
 use Rattle.heap_model.specs.WellFormed.{IsWellFormed}
-use Rattle.heap_model.proofs.Commands.MoveLemmas.{moved}
+use Rattle.heap_model.proofs.Graphs.ListLemmas.{flat_map-map}
+use Rattle.heap_model.proofs.Commands.MoveLemmas.{outcome-mode}
 use Rattle.heap_model.proofs.Reach.ReachLemmas.{Within, has-append_cases, has-append_left, has-append_right, reachable_more, reachable_least, reach_law}
 use Rattle.heap_model.proofs.Histories.WellFormedLemmas.{closed_graph, queues_named, wf_after, wf_opening}
 use Rattle.heap_model.proofs.Collections.CollectionLemmas.{collected_waiting}
 
--- what no change of a domain, of the graph or of `kept` touches, no command touches
-module _ (Q : State → Type 0) (domain : (t : State) (d : ℕ) (x : DomainState) → Q t → Q (with_domain t d x))
-    (made : (t : State) (g : Graph) (n : ℕ) → Q t → Q (record t { graph = g; kept = n })) where
-  keeps_allocated : (s : State) → Q s → (d dst : ℕ) (n : Node) → Q (allocated s d dst n).state
-  keeps_allocated s q d dst n = domain _ d _ (made _ _ _ (domain s d _ q))
-
-  pub keeps_outcome : (s : State) → Q s → (d : ℕ) (c : Command) → Q (outcome s d c).state
-  keeps_outcome s q d c = moved Q s d c (record {
-    same = q;
-    held = λ r v named. domain s d _ q;
-    written = λ l old new at found same named. made s _ s.kept q;
-    made = λ is dst n named. keeps_allocated s q d dst n;
-    registered = λ is f named. domain s d _ q;
-    registered_last = λ is f named. domain s d _ q;
-  })
-
--- a command leaves the mode, the sizes and the queues at the cut
-pub outcome-mode : (s : State) (d : ℕ) (c : Command) → (outcome s d c).state.mode ≡ s.mode
-outcome-mode s = keeps_outcome (λ t. t.mode ≡ s.mode) (λ t d x q. q) (λ t g n q. q) s refl
-
-pub outcome-cut : (s : State) (d : ℕ) (c : Command) → (outcome s d c).state.cut ≡ s.cut
-outcome-cut s = keeps_outcome (λ t. t.cut ≡ s.cut) (λ t d x q. q) (λ t g n q. q) s refl
-
-pub outcome-sizes : (s : State) (d : ℕ) (c : Command) → (outcome s d c).state.sizes ≡ s.sizes
-outcome-sizes s = keeps_outcome (λ t. t.sizes ≡ s.sizes) (λ t d x q. q) (λ t g n q. q) s refl
-
 -- whether a collection is between its Cut and its Collected or Done
-abbrev is_collecting : Mode → Bool
+abbrev pub is_collecting : Mode → Bool
 is_collecting Open = false
 is_collecting CutMode = true
 is_collecting Sealed = true
 is_collecting Answer = false
 
-abbrev pending_labels : List (List Pending) → List Label
+abbrev pub pending_labels : List (List Pending) → List Label
 pending_labels qs = flat_map (filter_map pending_label) qs
 
 -- what the queues held at the cut they still hold
-abbrev HoldsCut : State → Type 0
+abbrev pub HoldsCut : State → Type 0
 HoldsCut s = IsTrue (is_collecting s.mode) → Within (pending_labels s.cut) (pending_labels (queues s))
 
 not_collecting : (s : State) (m : Mode) → is_collecting m ≡ false → s.mode ≡ m → HoldsCut s
@@ -73,10 +48,14 @@ not_collecting s m quiet at h = absurd (let clash : false ≡ true = sym quiet �
 
 fits_quiet : (s : State) (d : ℕ) (c : Command) → FitsMode s d c → is_collecting s.mode ≡ false
 fits_quiet s d FullMajor fits = ap is_collecting fits.0
+fits_quiet s d (Spawn section item) fits = absurd fits
+fits_quiet s d (Argument dst) fits = absurd fits
+fits_quiet s d (PutResult item) fits = absurd fits
+fits_quiet s d (Join dst section) fits = absurd fits
 fits_quiet s d c fits = ap is_collecting fits.0
 
 -- one queue that grows
-queue_grows : (xs : List DomainState) (d : ℕ) (y : DomainState) (more : List Pending) → y.queue ≡ (get_or xs d no_domain).queue ++ more
+pub queue_grows : (xs : List DomainState) (d : ℕ) (y : DomainState) (more : List Pending) → y.queue ≡ (get_or xs d no_domain).queue ++ more
     → Within (pending_labels (map (λ x. x.queue) xs)) (pending_labels (map (λ x. x.queue) (set xs d y)))
 queue_grows [] d y more grown l h = h
 queue_grows (x ∷ xs) zero y more grown l h = ⊎_elim
@@ -91,7 +70,7 @@ queue_grows (x ∷ xs) (suc d) y more grown l h = ⊎_elim
     (λ later. has-append_right (filter_map pending_label x.queue) (pending_labels (map (λ x. x.queue) (set xs d y))) l (queue_grows xs d y more grown l later))
     (has-append_cases (filter_map pending_label x.queue) (pending_labels (map (λ x. x.queue) xs)) l h)
 
-queues_mapped : (f : DomainState → DomainState) → ((x : DomainState) → (f x).queue ≡ x.queue) → (xs : List DomainState)
+pub queues_mapped : (f : DomainState → DomainState) → ((x : DomainState) → (f x).queue ≡ x.queue) → (xs : List DomainState)
     → map (λ (x : DomainState). x.queue) (map f xs) ≡ map (λ (x : DomainState). x.queue) xs
 queues_mapped f same [] = refl
 queues_mapped f same (x ∷ xs) = (λ i. same x i ∷ map (λ (x : DomainState). x.queue) (map f xs)) ∙ ap (λ t. x.queue ∷ t) (queues_mapped f same xs)
@@ -100,6 +79,7 @@ module _ (s : State) (holds : HoldsCut s) where
   holds_wiped : (l : Label) (places : List ℕ) (o : Option Node) → HoldsCut (with_wiped s l (wiped places o))
   holds_wiped l places None = holds
   holds_wiped l places (Some (Plain tag fields)) = holds
+  holds_wiped l places (Some (Raw tag fields)) = holds
   holds_wiped l places (Some (Ephe keys datum)) = holds
 
 run_mode : (s : State) (d : ℕ) (queue : List Pending) → (after_run s d queue).mode ≡ s.mode
@@ -107,7 +87,7 @@ run_mode s d [] = refl
 run_mode s d (Fin number l r ∷ rest) = refl
 run_mode s d (Last number ∷ rest) = refl
 
-holds_next : (s : State) (e : Entry) → Allowed s e → HoldsCut s → HoldsCut (next s e)
+pub holds_next : (s : State) (e : Entry) → Allowed s e → HoldsCut s → HoldsCut (next s e)
 holds_next s (CommandOf d c true) allowed holds = not_collecting (next s (CommandOf d c true)) s.mode (fits_quiet s d c allowed.fits) refl
 holds_next s (CommandOf d c false) allowed holds = not_collecting (next s (CommandOf d c false)) s.mode (fits_quiet s d c allowed.fits) (outcome-mode s d c)
 holds_next s (End d) allowed holds = not_collecting (next s (End d)) Open refl allowed.mode
@@ -126,7 +106,7 @@ holds_next s Collected allowed holds = not_collecting (next s Collected) Answer 
 holds_next s Done allowed holds = not_collecting (next s Done) Open refl refl
 holds_next s (Ran d) allowed holds = not_collecting (next s (Ran d)) Open refl (run_mode s d (domain_at s d).queue ∙ allowed.mode)
 
-holds_after : (s : State) (h : List Entry) → LegalFrom s h → HoldsCut s → HoldsCut (state_after s h)
+pub holds_after : (s : State) (h : List Entry) → LegalFrom s h → HoldsCut s → HoldsCut (state_after s h)
 holds_after s [] legal holds = holds
 holds_after s (e ∷ h) legal holds = holds_after (next s e) h legal.1 (holds_next s e legal.0 holds)
 
@@ -152,16 +132,12 @@ collected_settled z h legal allowed =
     )
 
 -- a `finalise_last` that is queued changes neither the reach nor the settled reach
-part_same : {B : Type 0} (f : DomainState → List B) (xs : List DomainState) (d : ℕ) (y : DomainState) → f y ≡ f (get_or xs d no_domain) → flat_map f (set xs d y) ≡ flat_map f xs
+pub part_same : {B : Type 0} (f : DomainState → List B) (xs : List DomainState) (d : ℕ) (y : DomainState) → f y ≡ f (get_or xs d no_domain) → flat_map f (set xs d y) ≡ flat_map f xs
 part_same f [] d y same = refl
 part_same f (x ∷ xs) zero y same = ap (λ t. t ++ flat_map f xs) same
 part_same f (x ∷ xs) (suc d) y same = ap (λ t. f x ++ t) (part_same f xs d y same)
 
-queue_labels : (xs : List DomainState) → pending_labels (map (λ x. x.queue) xs) ≡ flat_map (λ x. filter_map pending_label x.queue) xs
-queue_labels [] = refl
-queue_labels (x ∷ xs) = ap (λ t. filter_map pending_label x.queue ++ t) (queue_labels xs)
-
-no_last_labels : (xs : List LastFinaliser) → filter_map pending_label (map queued_last xs) ≡ []
+pub no_last_labels : (xs : List LastFinaliser) → filter_map pending_label (map queued_last xs) ≡ []
 no_last_labels [] = refl
 no_last_labels (x ∷ xs) = no_last_labels xs
 
@@ -174,9 +150,9 @@ module _ (s : State) (d place : ℕ) where
       let same : filter_map pending_label queued.queue ≡ filter_map pending_label (domain_at s d).queue =
       filter_map-append pending_label (domain_at s d).queue _
       ∙ ap (λ t. filter_map pending_label (domain_at s d).queue ++ t) (no_last_labels (at_places (place ∷ []) (domain_at s d).lasts)) ∙ append-nil (filter_map pending_label (domain_at s d).queue) in
-      queue_labels (set s.domains d queued) ∙ part_same (λ x. filter_map pending_label x.queue) s.domains d queued same ∙ sym (queue_labels s.domains)
+      flat_map-map (filter_map pending_label) (λ (x : DomainState). x.queue) (set s.domains d queued) ∙ part_same (λ x. filter_map pending_label x.queue) s.domains d queued same ∙ sym (flat_map-map (filter_map pending_label) (λ (x : DomainState). x.queue) s.domains)
 
-  roots_same : roots (next s (LastOf d place)) (queues (next s (LastOf d place))) ≡ roots s (queues s)
+  pub roots_same : roots (next s (LastOf d place)) (queues (next s (LastOf d place))) ≡ roots s (queues s)
   roots_same = ap₂ (λ a b. a ++ b) (part_same (λ x. filter_map label_of x.registers) s.domains d queued refl) queued_labels_same
 
   pub last_keeps_reach : reach (next s (LastOf d place)) ≡ reach s
