@@ -18,7 +18,7 @@ const MAX_COMMANDS: u32 = 200_000;
 
 // The place of the first number outside the range of its operand, counted from 1.
 fn first_out_of_range(kinds: &[Operand], numbers: &[i64]) -> Option<u32>
-    requires few { length kinds.now ≤ 3 }
+    requires few { length kinds.now ≤ 4 }
     requires counted { length numbers.now ≡ length kinds.now }
     ensures { result ≡ first_out_of_range_of 1 kinds.now numbers.now }
 {

@@ -31,8 +31,8 @@ pub(crate) fn clipped_number(bytes: &[u8]) -> Option<i64>
 }
 
 // The numbers behind a word: exactly so many.
-pub(crate) fn numbers_of(mut rest: Option<&[u8]>, count: usize) -> Option<ArrayVec<i64, 3>>
-    requires { count ≤ 3 }
+pub(crate) fn numbers_of(mut rest: Option<&[u8]>, count: usize) -> Option<ArrayVec<i64, 4>>
+    requires { count ≤ 4 }
     ensures counted { IfSome result (λ v. length v.items ≡ count) }
     ensures value { option_map (λ v. v.items) result
         ≡ option_map (map clipped) (counted_numbers count (texts_behind (option_map (λ r. r.now) rest.entry))) }
