@@ -4,8 +4,7 @@ ghost use Rattle.heap_rule.specs.Token.{IsIn};
 ghost use Rattle.thread_drive.specs.Driven.{AllHere, IsSameRuns, AllEnded};
 
 use crate::turning::{Went, turn_once};
-use crate::waiting::{announced, wait};
-use crossbeam_utils::Backoff;
+use crate::waiting::Waiter;
 use crossbeam_utils::sync::EventCount;
 use domain_turns::DomainRun;
 use heap_rule::Heap;
@@ -73,13 +72,13 @@ pub(crate) fn rotate<R: Wait, G: Gate>(
     ensures ended { AllEnded runs.new.items }
     ensures capacity { vec_capacity runs.new ≡ vec_capacity runs.old }
 {
-    let backoff = Backoff::new();
+    let mut waiter = Waiter::new(events);
     let mut told = [0; MOST_DOMAINS];
     'turns: for _ in rt.forever() {
-        let key = announced(&backoff, events);
+        let announced = waiter.announced();
         match turn_each(heap, gate, events, &mut told, runs.as_mut_slice()) {
-            Went::On => backoff.reset(),
-            Went::Nowhere => wait(rt, &backoff, key),
+            Went::On => waiter.went_on(),
+            Went::Nowhere => waiter.wait(rt, announced),
             Went::Ended => return,
         }
     }

@@ -3,8 +3,7 @@ ghost use Rattle.std.specs.Prelude.{◌≡◌, true};
 ghost use Rattle.heap_rule.specs.Token.{IsIn};
 ghost use Rattle.thread_drive.specs.Driven.{IsSameRun};
 
-use crate::waiting::{announced, wait};
-use crossbeam_utils::Backoff;
+use crate::waiting::Waiter;
 use crossbeam_utils::sync::EventCount;
 use domain_turns::{DomainRun, Turned, turn};
 use heap_rule::Heap;
@@ -104,13 +103,13 @@ pub(crate) fn turn_to_end<R: Wait, G: Gate>(
     ensures same { IsSameRun run result }
     ensures ended { result.ended ≡ true }
 {
-    let backoff = Backoff::new();
+    let mut waiter = Waiter::new(events);
     let mut told = 0;
     'turns: for _ in rt.forever() {
-        let key = announced(&backoff, events);
+        let announced = waiter.announced();
         match turn_once(heap, gate, events, &mut told, &mut run) {
-            Went::On => backoff.reset(),
-            Went::Nowhere => wait(rt, &backoff, key),
+            Went::On => waiter.went_on(),
+            Went::Nowhere => waiter.wait(rt, announced),
             Went::Ended => return run,
         }
     }

@@ -3,20 +3,51 @@ use crossbeam_utils::Backoff;
 use crossbeam_utils::sync::{EventCount, Key};
 use std::sync::Wait;
 
-// Announces a wait once spinning is no use. It stands before the turn that finds nothing to do, so that
-// what another thread does after this turn's look still ends the wait.
-pub(crate) fn announced<'a>(backoff: &Backoff, events: &'a EventCount) -> Option<Key<'a>> {
-    if backoff.is_completed() {
-        Some(events.prepare_wait())
-    } else {
-        None
-    }
+// After so many turns in a row that found nothing to do a thread sleeps. A `Backoff` spins ever longer after them, the last
+// time for some microseconds. It never yields, since on a busy machine a yield gives a whole time slice away.
+const SPINS: u32 = 7;
+
+// What a thread waits by: it spins at first, and then sleeps until another thread tells of an event.
+#[derive(Drop)]
+pub(crate) struct Waiter<'a> {
+    events: &'a EventCount,
+    backoff: Backoff,
+    spins: u32,
 }
 
-// Spins, yields, or sleeps until the next event, where a wait was announced.
-pub(crate) fn wait<R: Wait>(rt: &R, backoff: &Backoff, key: Option<Key<'_>>) {
-    match key {
-        Some(key) => key.wait(rt),
-        None => backoff.snooze(),
+impl<'a> Waiter<'a> {
+    pub(crate) fn new(events: &'a EventCount) -> Waiter<'a> {
+        Waiter {
+            events,
+            backoff: Backoff::new(),
+            spins: 0,
+        }
+    }
+
+    // Announces a sleep once spinning is no use. That comes before the turn that finds nothing to do, so
+    // that whatever another thread does after this turn's look ends the sleep.
+    pub(crate) fn announced(&self) -> Option<Key<'a>> {
+        if self.spins < SPINS {
+            None
+        } else {
+            Some(self.events.prepare_wait())
+        }
+    }
+
+    // Sleeps until the next event, where that was announced, and else spins.
+    pub(crate) fn wait<R: Wait>(&mut self, rt: &R, announced: Option<Key<'_>>) {
+        match announced {
+            Some(key) => key.wait(rt),
+            None => {
+                self.backoff.spin();
+                self.spins = self.spins.saturating_add(1);
+            }
+        }
+    }
+
+    // A turn did something.
+    pub(crate) fn went_on(&mut self) {
+        self.backoff.reset();
+        self.spins = 0;
     }
 }
