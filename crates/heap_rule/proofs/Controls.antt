@@ -12,8 +12,8 @@ use Rattle.heap_rule.specs.declared.phase.Stage.{Stage}
 use Rattle.heap_rule.specs.declared.phase.Note.{Note}
 use Rattle.heap_rule.specs.declared.view.DomainView.{DomainView}
 use Rattle.heap_rule.specs.declared.view.Listing.{Listing}
-use Rattle.heap_rule.specs.Layout.{before_heap, ended_word, cursor, at_address}
-use Rattle.heap_rule.specs.Places.{Live, HeadIs, unmarked, Place}
+use Rattle.heap_rule.specs.Layout.{before_heap, ended_word, cursor}
+use Rattle.heap_rule.specs.Places.{Live, HeadIs, unmarked}
 use Rattle.heap_rule.specs.Phases.{Pause, Phases, sum_of, IsEven, IsOdd, Staged, Still}
 use Rattle.heap_rule.specs.Pools.{Holder, Tenancy, Pools, Grid, Drawers, Lists, Resting, Hunter}
 use Rattle.heap_rule.specs.Rule.{state_of, AllFound, Making, NoCycle, Rule}
