@@ -12,6 +12,3 @@ pub use colours::{Colours, pack_colours, rotate, unpack_colours};
 pub use head::{Head, pack_head, unpack_head};
 pub use label::{pack_label, unpack_label};
 pub use value::{Value, pack_value, unpack_value};
-
-#[cfg(test)]
-mod tests;

@@ -23,6 +23,3 @@ pub use source::Source;
 pub use std_sink::StdSink;
 pub use std_source::StdSource;
 pub use sure_source::SureSource;
-
-#[cfg(test)]
-mod tests;

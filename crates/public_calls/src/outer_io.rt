@@ -1,5 +1,8 @@
 //! Each public call once on its happy path, and the adapters over memory.
-use super::*;
+use outer_io::{
+    Failed, Gate, LengthSink, MemSink, MemSource, NoGate, Sink, Source, StdSink, StdSource,
+    SureSource,
+};
 use std::alloc::Global;
 use std::test::Fail;
 

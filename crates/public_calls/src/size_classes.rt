@@ -1,0 +1,52 @@
+//! The heap's table of six sizes, and a table of nine.
+use size_classes::{Classes, heap_classes, reserve};
+use std::process::Abort;
+
+// Words of a block, and the class and its words that the table of six gives.
+const ROWS: [(usize, usize, usize); 12] = [
+    (3, 0, 4),
+    (4, 0, 4),
+    (5, 1, 8),
+    (8, 1, 8),
+    (9, 2, 16),
+    (16, 2, 16),
+    (17, 3, 32),
+    (32, 3, 32),
+    (33, 4, 64),
+    (64, 4, 64),
+    (65, 5, 128),
+    (128, 5, 128),
+];
+
+// The same code over a table of nine sizes.
+const NINE: Classes<9> = Classes {
+    sizes: [4, 8, 16, 32, 64, 128, 256, 512, 1024],
+};
+
+fn check<const C: usize>(rt: &impl Abort, classes: &Classes<C>) {
+    for (words, class, size) in &ROWS {
+        assert_eq!(rt; classes.class_of(*words), Some(*class));
+        if *class < C {
+            assert_eq!(rt; classes.words_of(*class), *size);
+        }
+    }
+}
+
+#[test]
+fn each_size_has_its_class(rt: HostRuntime) {
+    let six = heap_classes();
+    check(&rt, &six);
+    assert_eq!(rt; six.class_of(129), None);
+    check(&rt, &NINE);
+    assert_eq!(rt; NINE.class_of(129), Some(6));
+    assert_eq!(rt; NINE.class_of(1024), Some(8));
+    assert_eq!(rt; NINE.class_of(1025), None);
+    assert_eq!(rt; NINE.words_of(7), 512);
+}
+
+#[test]
+fn reserve_covers_minor_areas(rt: HostRuntime) {
+    assert_eq!(rt; reserve(1, 4096), 7);
+    assert_eq!(rt; reserve(2, 32768), 28);
+    assert_eq!(rt; reserve(8, 65536), 176);
+}
