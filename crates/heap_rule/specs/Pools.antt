@@ -1,7 +1,7 @@
 -- The pools: who has each, where their blocks lie, and what a domain that takes one of their blocks knows.
 use Rattle.std.specs.Prelude.{◌≡◌, ◌≢◌, ℕ, ◌+◌, ◌*◌, ◌-◌, ◌/◌, ◌<◌, ◌≤◌, ◌⊎◌, List, length, slice_index, slice_index_or, slice_get, Option, Some, None, true}
 use Rattle.size_classes.specs.declared.TheConstants.{SIZES}
-use Rattle.heap_model.specs.Domains.{reserve}
+use Rattle.heap_model.specs.Domains.{class_count, reserve}
 use Rattle.heap_rule.specs.declared.config.Config.{Config}
 use Rattle.heap_rule.specs.declared.view.Hunt.{Hunt}
 use Rattle.heap_rule.specs.declared.view.Listing.{Listing}
@@ -54,7 +54,7 @@ pub record Pools (k : Config) (t : Tenancy) (words : List ℕ) : Type 0 where
   pub once : (i j : ℕ) → i < listed words → j < listed words → listed_pool words i ≡ listed_pool words j → i ≡ j
   pub untaken : (i : ℕ) → i < listed words → (cursor words ≤ i) ⊎ (limit_of k (listed words) ≤ i) → t.holder (listed_pool words i) ≡ nobody
   pub owners : (q : ℕ) → q < k.pools → owner_of k words q ≡ owner_word (t.holder q)
-  pub owned_by : (q d c : ℕ) → t.holder q ≡ owned d c → (q < k.pools) × (d < k.domains) × (c < 6)
+  pub owned_by : (q d c : ℕ) → t.holder q ≡ owned d c → (q < k.pools) × (d < k.domains) × (c < class_count)
   pub drawn_by : (q d : ℕ) → t.holder q ≡ drawn d → (q < k.pools) × (d < k.domains)
   pub one_each : (d : ℕ) → t.asking d ≤ 1
   pub asked : cursor words + sum_of t.asking k.domains ≤ k.pools + k.domains
@@ -89,7 +89,7 @@ pub record Clearing (k : Config) (holder : ℕ → Holder) (words : List ℕ) (d
   pub listed_is : place < k.pools
   pub names : listed_pool words place ≡ pool
   pub drawn_is : holder pool ≡ drawn d
-  pub of_class : class < 6
+  pub of_class : class < class_count
   pub some : cleared ≤ blocks_of class
   pub free : (j : ℕ) → j < cleared → at_address k words (place_in pool class j) ≡ 0
 

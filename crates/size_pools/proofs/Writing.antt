@@ -1,4 +1,5 @@
 -- The writing of a block at a free place of an own pool.
+use Rattle.heap_model.specs.Domains.{class_count}
 use Rattle.std.proofs.Common.{◌≡◌, ◌≢◌, ◌∙◌, ℕ, ◌+◌, ◌*◌, ◌^◌, ◌<◌, ◌≤◌, List, [], ◌∷◌, false, replicate, refl, ap, sym, subst, arith, lt_of_not-le}
 use Rattle.heap_model.specs.declared.label.Label.{Label}
 use Rattle.heap_model.specs.declared.command.Command.{Command as CommandType}
@@ -112,7 +113,7 @@ hunted_grows old mid new hunt view g = record {
   looks = sym (ap (λ (o : Own). o.looked) g.own)
 
 -- the place taken has room
-pub took_room : (k : Config) (class a n : ℕ) (x y : DomainView) → class < 6 → IsLeastFor SIZES (n + 2) class → Took k class a x y → IsRoom k y a n
+pub took_room : (k : Config) (class a n : ℕ) (x y : DomainView) → class < class_count → IsLeastFor SIZES (n + 2) class → Took k class a x y → IsRoom k y a n
 took_room k class a n x y few least t = record {
   pool = t.pool;
   class = class;

@@ -1,6 +1,6 @@
 //! A pool from the list of free pools.
 ghost use Rattle.std.specs.Prelude.{◌≡◌, ◌+◌, ◌-◌, ◌<◌, ◌≤◌, IfOk, IfErr, OnErr, [], ℕ};
-ghost use Rattle.heap_model.specs.Domains.{reserve as reserve_of};
+ghost use Rattle.heap_model.specs.Domains.{class_count, reserve as reserve_of};
 ghost use Rattle.heap_rule.specs.declared.phase.Kind.TheVariants.{Run};
 ghost use Rattle.heap_rule.specs.declared.phase.Stage.TheVariants.{In};
 ghost use Rattle.heap_rule.specs.declared.view.Hunt.TheVariants.{Rests, Draws, Fills};
@@ -23,7 +23,7 @@ const LIST: u32 = 11;
 // Draws the pool at the cursor, if running domains may. Answers the place and its pool.
 fn draw_pool(heap: &Heap, dom: &mut Domain, class: u32) -> Result<u32, NoPool>
     requires here { IsIn dom.old heap.now }
-    requires class { class < 6 }
+    requires class { class < class_count }
     requires at_rest { HasNoDraw dom.old.view }
     requires runs { dom.old.view.seen.stage ≡ In Run }
     ensures here { IsIn dom.new heap.now }
@@ -51,7 +51,7 @@ fn draw_pool(heap: &Heap, dom: &mut Domain, class: u32) -> Result<u32, NoPool>
 // Makes all places of the pool drawn free.
 fn clear(heap: &Heap, dom: &mut Domain, pool: u32, class: u32)
     requires here { IsIn dom.old heap.now }
-    requires class { class < 6 }
+    requires class { class < class_count }
     requires inside { pool < heap.now.config.pools }
     requires drawn { (place : ℕ) × (dom.old.view.seen.hunt ≡ Draws place pool class 0) }
     requires runs { dom.old.view.seen.stage ≡ In Run }
@@ -76,7 +76,7 @@ fn clear(heap: &Heap, dom: &mut Domain, pool: u32, class: u32)
 // place's address.
 pub(crate) fn draw(heap: &Heap, dom: &mut Domain, class: u32) -> Result<u32, NoPool>
     requires here { IsIn dom.old heap.now }
-    requires class { class < 6 }
+    requires class { class < class_count }
     requires at_rest { HasNoDraw dom.old.view }
     requires none_free { NoneFree heap.now.config dom.old.view class }
     requires runs { dom.old.view.seen.stage ≡ In Run }

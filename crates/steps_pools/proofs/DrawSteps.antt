@@ -1,4 +1,5 @@
 -- The steps that take a free block of the pools keep the rule.
+use Rattle.heap_model.specs.Domains.{class_count}
 use Rattle.std.proofs.Common.{◌≡◌, ◌≢◌, ℕ, ◌+◌, ◌*◌, ◌-◌, ◌^◌, ◌%◌, ◌<◌, ◌≤◌, ◌⊎◌, List, length, get_or, set, Option, Some, None, sym, refl, ap, ◌∙◌, subst, inl, inr, ⊎_elim, arith, length-set, get_or-set_same, get_or-set_other}
 use mathlib.Core.Logic.{dite}
 use native.Mathlib.Decide.{ℕ_discrete}
@@ -30,11 +31,11 @@ pub some_nat : (p q : ℕ) → ◌≡◌ {A = Option ℕ} (Some p) (Some q) → 
 some_nat p q e = cc
 
 -- which owner word is which holder's
-pub own_word : (h : Holder) (d c : ℕ) → c < 6 → ((e b : ℕ) → h ≡ owned e b → b < 6) → owner_word h ≡ 16 * d + c + 1 → h ≡ owned d c
+pub own_word : (h : Holder) (d c : ℕ) → c < class_count → ((e b : ℕ) → h ≡ owned e b → b < class_count) → owner_word h ≡ 16 * d + c + 1 → h ≡ owned d c
 own_word nobody d c few each e = absurd (omega arith)
 own_word (drawn b) d c few each e = absurd (omega arith)
 own_word (owned a b) d c few each e =
-    let small : b < 6 = each a b refl in
+    let small : b < class_count = each a b refl in
     let x : a ≡ d = omega arith in
     let y : b ≡ c = omega arith in λ i. owned (x i) (y i)
 
@@ -248,7 +249,7 @@ module _ (k : Config) (s : Words) (r : Rule k s) (id : ℕ) (hist : List Entry) 
       names i h = let l = lower i h in let m : ℕ = listed s.words in let f : m ≤ k.pools = pools.few in let g : i < m = l in agrees.list i (omega arith)
 
     -- it found one
-    module _ (class : ℕ) (few : class < 6) (below : c < limit_of k n) where
+    module _ (class : ℕ) (few : class < class_count) (below : c < limit_of k n) where
       abbrev pool : ℕ
       pool = listed_pool s.words c
 

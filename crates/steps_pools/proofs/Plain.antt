@@ -2,7 +2,7 @@
 use Rattle.std.proofs.Common.{◌≡◌, ◌+◌, ◌^◌, ◌<◌, ◌≤◌, ℕ, List, set, sym, ap, ◌∙◌, subst, arith, lt_of_not-le, length-set, get_or-set_same, get_or-set_other, ◌≢◌, refl, inl, inr}
 use mathlib.Core.Logic.{dite}
 use native.Mathlib.Decide.{dec_le, ℕ_discrete}
-use Rattle.heap_model.specs.Domains.{IsWithinLimits}
+use Rattle.heap_model.specs.Domains.{class_count, IsWithinLimits}
 use Rattle.heap_model.specs.declared.entry.Entry.{Entry}
 use Rattle.heap_rule.specs.declared.change.Change.{Change}
 use Rattle.heap_rule.specs.declared.config.Config.{Config}
@@ -75,7 +75,7 @@ looking_fits k x y class spot fits is low small = subst (OwnFits k) (sym is) rec
 few_pools : (k : Config) (pool : ℕ) → IsWithinLimits (sizes_in k) → pool < k.pools → pool < 2048
 few_pools k pool limits inside = let all = limits.pools in let p : ℕ = k.pools in let i : pool < p = inside in omega arith
 
-pub owned_closes : (k : Config) (x : DomainView) (new pool class : ℕ) → pool < k.pools → class < 6 → IsWithinLimits (sizes_in k) → Closes k x new (OwnedTold pool class) (λ _. CanLook pool class) (LooksFrom pool class)
+pub owned_closes : (k : Config) (x : DomainView) (new pool class : ℕ) → pool < k.pools → class < class_count → IsWithinLimits (sizes_in k) → Closes k x new (OwnedTold pool class) (λ _. CanLook pool class) (LooksFrom pool class)
 owned_closes k x new pool class inside few limits y fits told =
     let own = ap (λ (z : DomainView). z.own) told in record {
       can_write = (few_pools k pool limits inside, few);
@@ -84,7 +84,7 @@ owned_closes k x new pool class inside few limits y fits told =
       once = looking_once k x y _ _ told;
     }
 
-pub owner_closes : (k : Config) (x : DomainView) (found pool class : ℕ) → pool < k.pools → class < 6 → IsWithinLimits (sizes_in k) → Closes k x found (OwnerTold pool class) (λ _. CanLook pool class) (PassesPool pool class found)
+pub owner_closes : (k : Config) (x : DomainView) (found pool class : ℕ) → pool < k.pools → class < class_count → IsWithinLimits (sizes_in k) → Closes k x found (OwnerTold pool class) (λ _. CanLook pool class) (PassesPool pool class found)
 owner_closes k x found pool class inside few limits y fits told = record {
   can_write = (few_pools k pool limits inside, few);
   written = λ after is. dite (ℕ_discrete found (owner_word (owned x.own.number class)))
@@ -98,7 +98,7 @@ owner_closes k x found pool class inside few limits y fits told = record {
       (λ other. looking_once k x y _ _ (told.other other));
 }
 
-pub place_closes : (k : Config) (x : DomainView) (found pool class slot : ℕ) → pool < k.pools → class < 6 → slot < blocks_of class → IsWithinLimits (sizes_in k)
+pub place_closes : (k : Config) (x : DomainView) (found pool class slot : ℕ) → pool < k.pools → class < class_count → slot < blocks_of class → IsWithinLimits (sizes_in k)
     → Closes k x found (PlaceTold pool class slot) (λ _. CanLook pool class × (slot < blocks_of class)) (PassesPlace pool class slot found)
 place_closes k x found pool class slot inside few low limits y fits told = record {
   can_write = ((few_pools k pool limits inside, few), low);

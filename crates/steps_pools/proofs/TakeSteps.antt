@@ -1,4 +1,5 @@
 -- The kinds of step that take a free block of the pools: each is allowed.
+use Rattle.heap_model.specs.Domains.{class_count}
 use Rattle.std.proofs.Common.{◌≡◌, ℕ, ◌+◌, ◌-◌, ◌^◌, ◌%◌, ◌<◌, ◌≤◌, List, [], ◌∷◌, ◌++◌, length, get_or, set, Some, sym, refl, ap, ◌∙◌, subst, arith, lt_of_not-le}
 use mathlib.Core.Logic.{dite}
 use native.Mathlib.Decide.{ℕ_discrete, dec_le}
@@ -56,7 +57,7 @@ looks_free k slots id hist x runs count hunt s r _ at _ = dite (dec_le (limit_of
 pub free_may : (k : Config) (x : DomainView) (runs : x.seen.stage ≡ In Run) (count : ℕ) → x.seen.hunt ≡ Counts count → MayStep k x 7 (λ n. n) (CursorTold k count Rests)
 free_may k x runs count hunt fits slots id h = looks_free k slots id h x runs count hunt
 
-cursor_adds : (k : Config) (slots id : ℕ) (hist : List Entry) (x : DomainView) (runs : x.seen.stage ≡ In Run) (count class : ℕ) → x.seen.hunt ≡ Asks count → class < 6 → Allows (Rule k) slots id (one k hist x, []) 7 (λ n. (n + 1) % 2 ^ 64) (Tells (CursorAddTold k count class) (one k hist x, []))
+cursor_adds : (k : Config) (slots id : ℕ) (hist : List Entry) (x : DomainView) (runs : x.seen.stage ≡ In Run) (count class : ℕ) → x.seen.hunt ≡ Asks count → class < class_count → Allows (Rule k) slots id (one k hist x, []) 7 (λ n. (n + 1) % 2 ^ 64) (Tells (CursorAddTold k count class) (one k hist x, []))
 cursor_adds k slots id hist x runs count class hunt few s r _ at _ =
     let c : ℕ = cursor s.words in
     let same : c + 1 ≡ (c + 1) % 2 ^ 64 = sym (whole_word k s r id hist x at runs count hunt) in
@@ -78,7 +79,7 @@ cursor_adds k slots id hist x runs count class hunt few s r _ at _ =
       (record { below = λ b. record { pool = listed_pool s.words c; listed_is = place_inside k s r id hist x at runs count hunt class few below; inside = pool_inside k s r id hist x at runs count hunt class few below; view = refl }; past = λ p. absurd (not_past p) }, refl),
     ))
 
-pub cursor_add_may : (k : Config) (x : DomainView) (runs : x.seen.stage ≡ In Run) (count class : ℕ) → x.seen.hunt ≡ Asks count → class < 6 → MayStep k x 7 (λ n. (n + 1) % 2 ^ 64) (CursorAddTold k count class)
+pub cursor_add_may : (k : Config) (x : DomainView) (runs : x.seen.stage ≡ In Run) (count class : ℕ) → x.seen.hunt ≡ Asks count → class < class_count → MayStep k x 7 (λ n. (n + 1) % 2 ^ 64) (CursorAddTold k count class)
 cursor_add_may k x runs count class hunt few fits slots id h = cursor_adds k slots id h x runs count class hunt few
 
 lists : (k : Config) (slots id : ℕ) (hist : List Entry) (x : DomainView) (runs : x.seen.stage ≡ In Run) (word : ℕ) → ListMay k x word → Allows (Rule k) slots id (one k hist x, []) word (λ n. n) (Tells ListTold (one k hist x, []))
@@ -101,7 +102,7 @@ clears k slots id word hist x runs a new pool class cleared here may s r _ at _ 
 pub clear_may : (k : Config) (x : DomainView) (runs : x.seen.stage ≡ In Run) (word a new pool class cleared : ℕ) → word ≡ before_heap k + a → ClearMay x a new pool class cleared → MayStore k x word new ClearTold
 clear_may k x runs word a new pool class cleared here may fits slots id h = clears k slots id word h x runs a new pool class cleared here may
 
-owns : (k : Config) (slots id word : ℕ) (hist : List Entry) (x : DomainView) (runs : x.seen.stage ≡ In Run) (new pool class : ℕ) → length x.own.looked ≡ 6 → OwnerMay k x word new pool class
+owns : (k : Config) (slots id word : ℕ) (hist : List Entry) (x : DomainView) (runs : x.seen.stage ≡ In Run) (new pool class : ℕ) → length x.own.looked ≡ class_count → OwnerMay k x word new pool class
     → Allows (Rule k) slots id (one k hist x, []) word (λ _. new) (λ _. Tells (λ y _ z. z ≡ looked_to y class (record { pool = pool; slot = 0 }) (Fills pool class 0 [])) (one k hist x, []) new)
 owns k slots id word hist x runs new pool class wide may s r _ at _ =
     let y : DomainView = looked_to x class (record { pool = pool; slot = 0 }) (Fills pool class 0 []) in
@@ -110,7 +111,7 @@ owns k slots id word hist x runs new pool class wide may s r _ at _ =
 pub owner_may : (k : Config) (x : DomainView) (runs : x.seen.stage ≡ In Run) (word new pool class : ℕ) → OwnerMay k x word new pool class → MayStore k x word new (OwnedTold pool class)
 owner_may k x runs word new pool class may fits slots id h = owns k slots id word h x runs new pool class fits.looked.wide may
 
-owners : (k : Config) (slots id word : ℕ) (hist : List Entry) (x : DomainView) (runs : x.seen.stage ≡ In Run) (pool class : ℕ) → length x.own.looked ≡ 6 → OwnerLoadMay k x word pool class → Allows (Rule k) slots id (one k hist x, []) word (λ n. n) (Tells (OwnerTold pool class) (one k hist x, []))
+owners : (k : Config) (slots id word : ℕ) (hist : List Entry) (x : DomainView) (runs : x.seen.stage ≡ In Run) (pool class : ℕ) → length x.own.looked ≡ class_count → OwnerLoadMay k x word pool class → Allows (Rule k) slots id (one k hist x, []) word (λ n. n) (Tells (OwnerTold pool class) (one k hist x, []))
 owners k slots id word hist x runs pool class wide may s r _ at _ =
     let found : ℕ = owner_of k s.words pool in
     let found_is : get_or s.words word 0 ≡ found = ap (λ (n : ℕ). get_or s.words n 0) may.word in
@@ -123,7 +124,7 @@ owners k slots id word hist x runs pool class wide may s r _ at _ =
 pub owner_load_may : (k : Config) (x : DomainView) (runs : x.seen.stage ≡ In Run) (word pool class : ℕ) → OwnerLoadMay k x word pool class → MayStep k x word (λ n. n) (OwnerTold pool class)
 owner_load_may k x runs word pool class may fits slots id h = owners k slots id word h x runs pool class fits.looked.wide may
 
-places : (k : Config) (slots id word : ℕ) (hist : List Entry) (x : DomainView) (runs : x.seen.stage ≡ In Run) (a pool class slot : ℕ) → word ≡ before_heap k + a → length x.own.looked ≡ 6 → PlaceMay x a pool class slot → Allows (Rule k) slots id (one k hist x, []) word (λ n. n) (Tells (PlaceTold pool class slot) (one k hist x, []))
+places : (k : Config) (slots id word : ℕ) (hist : List Entry) (x : DomainView) (runs : x.seen.stage ≡ In Run) (a pool class slot : ℕ) → word ≡ before_heap k + a → length x.own.looked ≡ class_count → PlaceMay x a pool class slot → Allows (Rule k) slots id (one k hist x, []) word (λ n. n) (Tells (PlaceTold pool class slot) (one k hist x, []))
 places k slots id word hist x runs a pool class slot here wide may s r _ at _ =
     let found : ℕ = at_address k s.words (place_in pool class slot) in
     let found_is : get_or s.words word 0 ≡ found = ap (λ (n : ℕ). get_or s.words n 0) (here ∙ ap (λ (n : ℕ). before_heap k + n) may.word) in

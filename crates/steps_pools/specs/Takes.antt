@@ -1,4 +1,5 @@
 -- Steps that take a free block of the pools, and make a block there.
+use Rattle.heap_model.specs.Domains.{class_count}
 use Rattle.std.specs.Prelude.{◌≡◌, ◌≢◌, ℕ, ◌+◌, ◌-◌, ◌^◌, ◌<◌, ◌≤◌, false, List, [], ◌∷◌, ◌++◌, length, replicate, slice_set, Some, None}
 use Rattle.heap_model.specs.declared.command.Command.TheVariants.{AllocMaj}
 use Rattle.heap_model.specs.declared.entry.Entry.{Entry}
@@ -111,11 +112,11 @@ pub record OwnerLoadMay (k : Config) (x : DomainView) (at pool class : ℕ) : Ty
   pub at_rest : HasNoDraw x
   pub word : at ≡ 11 + k.pools + pool
   pub inside : pool < k.pools
-  pub of_class : class < 6
+  pub of_class : class < class_count
   pub next : (spot_at x.own.looked class).pool ≡ pool
 
 pub record OwnerTold (pool class : ℕ) (x : DomainView) (found : ℕ) (y : DomainView) : Type 0 where
-  pub wide : length x.own.looked ≡ 6
+  pub wide : length x.own.looked ≡ class_count
   pub own : found ≡ owner_word (owned x.own.number class) → y ≡ with_hunt x (Walks pool class)
   pub other : found ≢ owner_word (owned x.own.number class) → y ≡ looked_to x class (record { pool = pool + 1; slot = 0 }) Rests
 
@@ -127,7 +128,7 @@ pub record PlaceMay (x : DomainView) (at pool class slot : ℕ) : Type 0 where
   pub next : spot_at x.own.looked class ≡ record { pool = pool; slot = slot }
 
 pub record PlaceTold (pool class slot : ℕ) (x : DomainView) (found : ℕ) (y : DomainView) : Type 0 where
-  pub wide : length x.own.looked ≡ 6
+  pub wide : length x.own.looked ≡ class_count
   pub free : found ≡ 0 → y ≡ with_hunt x (Fills pool class slot [])
   pub full : found ≢ 0 → slot + 1 < blocks_of class → y ≡ looked_to x class (record { pool = pool; slot = slot + 1 }) (Walks pool class)
   pub last : found ≢ 0 → blocks_of class ≤ slot + 1 → y ≡ looked_to x class (record { pool = pool + 1; slot = 0 }) (Walks pool class)

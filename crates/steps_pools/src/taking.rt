@@ -1,6 +1,6 @@
 //! The taking of a free block of the pools, and the making of a block there.
 ghost use Rattle.std.specs.Prelude.{◌≡◌, ◌+◌, ◌<◌, ◌≤◌};
-ghost use Rattle.heap_model.specs.Domains.{reserve as reserve_of};
+ghost use Rattle.heap_model.specs.Domains.{class_count, reserve as reserve_of};
 ghost use Rattle.heap_model.specs.declared.entry.Entry.{Entry};
 ghost use Rattle.heap_rule.specs.declared.phase.Kind.TheVariants.{Run};
 ghost use Rattle.heap_rule.specs.declared.phase.Stage.TheVariants.{In};
@@ -125,7 +125,7 @@ pub fn free_load(heap: &Heap, dom: &mut Domain, count: u32) -> u64
 pub fn cursor_add(heap: &Heap, dom: &mut Domain, count: u32, class: u32) -> u64
     requires here { IsIn dom.old heap.now }
     requires asks { dom.old.view.seen.hunt ≡ Asks count }
-    requires class { class < 6 }
+    requires class { class < class_count }
     requires runs { dom.old.view.seen.stage ≡ In Run }
     ensures here { IsIn dom.new heap.now }
     ensures told { CursorAddTold heap.now.config count class dom.old.view result dom.new.view }
@@ -169,7 +169,7 @@ pub fn clear_store(
 /// taken. `at` is the word's index.
 pub fn owner_store(heap: &Heap, dom: &mut Domain, at: u32, new: u64, pool: u32, class: u32)
     requires here { IsIn dom.old heap.now }
-    requires inside { (pool < heap.now.config.pools) × (class < 6) }
+    requires inside { (pool < heap.now.config.pools) × (class < class_count) }
     requires may { OwnerMay heap.now.config dom.old.view at new pool class }
     requires runs { dom.old.view.seen.stage ≡ In Run }
     ensures here { IsIn dom.new heap.now }
