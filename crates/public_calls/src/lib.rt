@@ -4,8 +4,12 @@
 #[cfg(test)]
 mod heap_words;
 #[cfg(test)]
+mod minor_area;
+#[cfg(test)]
 mod outer_io;
 #[cfg(test)]
 mod remembered_set;
 #[cfg(test)]
 mod size_classes;
+#[cfg(test)]
+mod size_pools;
