@@ -14,6 +14,3 @@ pub use allocation::alloc_major;
 pub use listing::write_list;
 pub use no_pool::NoPool;
 pub use taking::take;
-
-#[cfg(test)]
-mod tests;

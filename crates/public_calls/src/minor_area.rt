@@ -2,8 +2,8 @@
 ghost use Rattle.std.specs.Prelude.{◌+◌, ◌^◌, ◌<◌, ◌≤◌};
 ghost use Rattle.heap_rule.specs.Running.{Runs};
 
-use super::*;
 use heap_rule::{Config, Domain, Heap};
+use minor_area::{Need, alloc_young};
 use std::test::Fail;
 
 // Allocates so many blocks of 126 fields, each of which takes 128 words.

@@ -1,4 +1,5 @@
-use super::*;
+//! The calls on registers and fields.
+use field_access::{copy, forget, load, put_int, store};
 use heap_model::reply::Reply;
 use heap_rule::{Config, Heap};
 use std::test::Fail;

@@ -1,4 +1,5 @@
-use super::*;
+//! The start and the end of a heap, and what a domain tells of itself.
+use heap_rule::{Config, Heap, Part, StartFault};
 use heap_words::Value;
 use std::test::Fail;
 
