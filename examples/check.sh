@@ -8,17 +8,7 @@ trap 'rm -rf "$work"' EXIT
 "$top/camlheap" run --domains 1 <"$top/examples/chain.heap" >/dev/null || exit 1
 cp "$top/crates/camlheap/out/camlheap" "$work/camlheap" && chmod 755 "$work" || exit 1
 
-# Runs a command with at most $1 processes or threads of its user. The superuser isn't bound by the limit, so that
-# one runs it as a user that has no process.
-limited() {
-    local limit=$1
-    shift
-    if [ "$(id -u)" = 0 ]; then
-        setpriv --reuid 65534 --regid 65534 --clear-groups bash -c 'ulimit -u "$0"; exec "$@"' "$limit" "$@"
-    else
-        bash -c 'ulimit -u "$0"; exec "$@"' "$limit" "$@"
-    fi
-}
+. "$top/examples/limited.sh"
 
 # Runs the example $1 once, under the limit $2 if there is one, and prints the name of the file that has its output.
 outcome() {

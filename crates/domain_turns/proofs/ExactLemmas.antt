@@ -1,14 +1,16 @@
 -- The answer of a turn is determined by what it did: each answer comes exactly where its cause holds.
-use Rattle.std.proofs.Common.{◌≡◌, ◌≢◌, ◌∙◌, ◌⊎◌, ℕ, ◌+◌, ◌<◌, List, [], ◌∷◌, ◌++◌, refl, sym, ap, subst, inl, inr, ⊎_elim, arith, Option, Some, None}
+use Rattle.std.proofs.Common.{◌≡◌, ◌∙◌, ◌⊎◌, ℕ, ◌+◌, ◌<◌, List, [], ◌∷◌, ◌++◌, refl, sym, ap, subst, inl, inr, ⊎_elim, arith, None}
 use Rattle.heap_rule.specs.declared.phase.Note.{Note}
 use Rattle.heap_rule.specs.declared.phase.Note.TheVariants.{Want, Asked, Barrier, Ended, Cleared}
 use Rattle.heap_rule.specs.declared.view.DomainView.{DomainView}
+use Rattle.heap_rule.specs.declared.view.Own.{Own}
 use Rattle.heap_rule.specs.Token.{SharedHeap}
 use Rattle.domain_turns.specs.declared.turned.Turned.{Turned}
 use Rattle.domain_turns.specs.declared.turned.Turned.TheVariants.{Did, Waiting, Idle}
 use Rattle.domain_turns.specs.declared.turned.Turned.TheVariants.{Ended as Over}
-use Rattle.domain_turns.specs.Runs.{RunView, CalmDid, Rests, CalmAnswers, RunAnswers, TurnAnswers, Starts, Stops, Resumes, GoesBy, Waits, wanting}
+use Rattle.domain_turns.specs.Runs.{RunView, CalmDid, RunAnswers, TurnAnswers, Starts, Stops, Resumes, GoesBy, wanting}
 use Rattle.domain_turns.specs.Runs.CalmDid.{Wishes, Tries, Ends}
+use Rattle.domain_turns.proofs.LeavingLemmas.{passes_leaves}
 
 abbrev notes : RunView → List Note
 notes r = r.token.view.seen.notes
@@ -56,7 +58,7 @@ run_sign h old new Did says = ⊎_elim
     did : CalmDid h (wanting old 0) new → Left old new IsOther
     did (Wishes a) = (ap arrivals a.run, (Asked 1, (notes old ++ Want 0 ∷ []), ap notes a.run, tt))
     did (Tries c t) = (t.tried.stays.arrivals, (Want 0, notes old, t.tried.stays.notes, tt))
-    did (Ends t) = (t.ended.stays.arrivals, (Want 0, notes old, t.ended.stays.notes, tt))
+    did (Ends t) = (ap (λ (x : DomainView). x.own.arrivals) t.ended.view, (Want 0, notes old, ap (λ (x : DomainView). x.seen.notes) t.ended.view, tt))
 run_sign h old new (Waiting b) says = absurd says
 run_sign h old new (Idle n) says = ((ap arrivals says.0.run, (Ended n, (notes old ++ Want 0 ∷ []), ap notes says.0.run, refl)), says.1)
 run_sign h old new Over says = (ap arrivals says.run, (Ended h.config.domains, (notes old ++ Want 0 ∷ []), ap notes says.run, refl))
@@ -74,7 +76,7 @@ from_start h old start new Over same s = (s.0 ∙ same, s.1)
 
 sign : (h : SharedHeap) (old new : RunView) (a : Turned) → TurnAnswers h old new a → Sign h old new a
 sign h old new Did says = ⊎_elim
-    (λ (g : GoesBy h old new). inl (ap (λ o. o.arrivals) g.passes.own))
+    (λ (g : GoesBy h old new). inl (ap (λ (o : Own). o.arrivals) (passes_leaves h.config old.token.view new.token.view g.last g.kind g.passes).own))
     (λ (t : (start : RunView) × Starts h old start × RunAnswers h start new Did). from_start h old t.0 new Did (starts_same h old t.0 t.1) (run_sign h t.0 new Did t.2)) says
 sign h old new (Waiting b) w = (ap arrivals w.run, (Barrier b, notes old, ap notes w.run, refl))
 sign h old new (Idle n) t = from_start h old t.0 new (Idle n) (starts_same h old t.0 t.1) (run_sign h t.0 new (Idle n) t.2)

@@ -1,16 +1,19 @@
 -- A turn goes on with the same run.
-use Rattle.std.proofs.Common.{◌≡◌, ◌≢◌, ◌∙◌, ◌⊎◌, ℕ, ◌<◌, List, [], ◌∷◌, ◌++◌, append-nil, append_assoc, refl, sym, ap, subst, inr, ⊎_elim}
+use Rattle.std.proofs.Common.{◌≡◌, ◌∙◌, ℕ, List, [], ◌∷◌, ◌++◌, append-nil, append_assoc, sym, ap, subst, inr, ⊎_elim}
 use Rattle.heap_model.specs.declared.entry.Entry.{Entry}
 use Rattle.heap_model.specs.declared.reply.Applied.{Applied}
 use Rattle.heap_model.specs.declared.state.Sizes.{Sizes}
 use Rattle.heap_model.specs.Fronts.{Answers}
 use Rattle.heap_model.specs.History.{IsPrefix}
+use Rattle.heap_rule.specs.declared.view.Own.{Own}
+use Rattle.heap_rule.specs.declared.view.DomainView.{DomainView}
 use Rattle.heap_rule.specs.Token.{SharedHeap}
 use Rattle.domain_turns.specs.declared.turned.Turned.{Turned}
 use Rattle.domain_turns.specs.declared.turned.Turned.TheVariants.{Did, Waiting, Idle}
 use Rattle.domain_turns.specs.declared.turned.Turned.TheVariants.{Ended as Over}
-use Rattle.domain_turns.specs.Runs.{RunView, CalmDid, Rests, CalmAnswers, RunAnswers, Stops, Resumes, wanting, GoesOn}
+use Rattle.domain_turns.specs.Runs.{RunView, CalmDid, Rests, CalmAnswers, RunAnswers, Stops, Resumes, GoesBy, wanting, GoesOn}
 use Rattle.domain_turns.specs.Runs.CalmDid.{Wishes, Tries, Ends}
+use Rattle.domain_turns.proofs.LeavingLemmas.{passes_leaves}
 use Rattle.domain_turns.proofs.Moving.{front_prefix}
 use Rattle.domain_turns.proofs.Turning.{stood}
 
@@ -26,8 +29,8 @@ calm_did h old new (Wishes a) = record {
   number = ap (λ (r : RunView). r.token.view.own.number) a.run;
   front = same_prefix _ _ (ap (λ (r : RunView). r.token.view.seen.front) a.run);
 }
-calm_did h old new (Tries c t) = record { commands = ap (λ (r : RunView). r.commands) t.run; number = t.tried.number; front = answered_front _ _ _ _ _ _ (stood h old.token new.token c t.reply t.tried.stands).1 }
-calm_did h old new (Ends t) = record { commands = ap (λ (r : RunView). r.commands) t.run; number = t.ended.number; front = answered_front _ _ _ _ _ _ t.ended.answers }
+calm_did h old new (Tries c t) = record { commands = ap (λ (r : RunView). r.commands) t.run; number = ap (λ (o : Own). o.number) t.tried.own; front = answered_front _ _ _ _ _ _ (stood h old.token new.token c t.reply t.tried.stands).1 }
+calm_did h old new (Ends t) = record { commands = ap (λ (r : RunView). r.commands) t.run; number = ap (λ (x : DomainView). x.own.number) t.ended.view; front = answered_front _ _ _ _ _ _ t.ended.answers }
 
 rests : (old new : RunView) (n : ℕ) → Rests old new n → GoesOn old new
 rests old new n r = record {
@@ -71,4 +74,14 @@ resumed_goes h old start new a r says =
       commands = g.commands ∙ ap (λ (x : RunView). x.commands) r.run;
       number = g.number ∙ ap (λ x. x.own.number) r.passed.view;
       front = record { rest = p.rest ++ g.front.rest; appends = g.front.appends ∙ (ap (λ (xs : List Entry). xs ++ g.front.rest) p.appends ∙ append_assoc old.token.view.seen.front p.rest g.front.rest) };
+    }
+
+-- a domain that went through a phase
+pub gone_goes : (h : SharedHeap) (old new : RunView) → GoesBy h old new → GoesOn old new
+gone_goes h old new g =
+    let l = passes_leaves h.config old.token.view new.token.view g.last g.kind g.passes in
+    record {
+      commands = ap (λ (r : RunView). r.commands) g.run;
+      number = ap (λ (o : Own). o.number) l.own;
+      front = front_prefix _ _ _ l.front;
     }

@@ -1,13 +1,11 @@
 -- A run whose domain moved in the phases, and made no entry.
-use Rattle.std.proofs.Common.{◌≡◌, ◌∙◌, ℕ, ◌+◌, ◌≤◌, Bool, true, false, List, [], ◌∷◌, ◌++◌, length, append-nil, append_assoc, refl, sym, ap, subst, arith, Option, None, Some}
+use Rattle.std.proofs.Common.{◌≡◌, ◌∙◌, ℕ, ◌+◌, ◌≤◌, Bool, true, false, List, [], ◌∷◌, ◌++◌, append-nil, refl, sym, ap, subst, Option}
 use Rattle.std.specs.Prelude.{IsTrue, ◌||◌}
 use Rattle.std.specs.List.{list_any}
-use Rattle.heap_model.specs.declared.command.Command as model
 use Rattle.heap_model.specs.declared.entry.Entry.{Entry}
-use Rattle.heap_model.specs.declared.reply.Reply.{Reply}
 use Rattle.heap_model.specs.Domains.{opening}
 use Rattle.heap_model.specs.History.{IsPrefix, state_after, commands, replies}
-use Rattle.heap_model.specs.Fronts.{IsFrontOf, Answers}
+use Rattle.heap_model.specs.Fronts.{IsFrontOf}
 use Rattle.heap_model.proofs.Histories.HistoryLemmas.{commands-append, commands-others, replies_from-append, replies_from-others}
 use Rattle.heap_model.proofs.Histories.FrontLemmas.{keeps_front}
 use Rattle.heap_rule.specs.declared.config.Config.{Config}

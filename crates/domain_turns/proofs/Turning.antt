@@ -4,14 +4,17 @@ use Rattle.heap_model.specs.declared.command.Command as model
 use Rattle.heap_model.specs.declared.entry.Entry.{Entry}
 use Rattle.heap_model.specs.declared.entry.Entry.TheVariants.{Command as CommandOf, End}
 use Rattle.heap_model.specs.declared.reply.Reply.{Reply}
+use Rattle.heap_model.specs.declared.reply.Reply.TheVariants.{Block}
 use Rattle.heap_model.specs.declared.reply.Applied.TheVariants.{Replied, Silent}
 use Rattle.heap_model.specs.History.{commands, command_of, replies}
 use Rattle.heap_model.proofs.Histories.AnswerLemmas.{commands_after, replies_after}
 use Rattle.heap_rule.specs.declared.config.Config.{Config}
 use Rattle.heap_rule.specs.Limits.{sizes_in}
 use Rattle.heap_rule.specs.Token.{Token, SharedHeap}
-use Rattle.heap_model.specs.declared.command.Command.TheVariants.{Alloc, PutInt, AllocMaj}
-use Rattle.domain_turns.specs.Tries.{Enters, Stands, Tried}
+use Rattle.heap_model.specs.declared.command.Command.TheVariants.{PutInt, Alloc, AllocMaj}
+use Rattle.heap_rule.specs.declared.view.Own.{Own}
+use Rattle.heap_rule.specs.declared.view.DomainView.{DomainView}
+use Rattle.domain_turns.specs.Tries.{Enters, Stands, Tried, labels_given}
 use Rattle.heap_rule.specs.declared.phase.Kind.{Kind}
 use Rattle.domain_turns.specs.Runs.{StandsAt, RunView, IsRun, HasEnded, is_end_of}
 use Rattle.std.specs.List.{list_any}
@@ -37,11 +40,19 @@ stood h old new (AllocMaj dst tag fields) r s = ⊎_elim (λ a. (false, a)) (λ 
 stood h old new (PutInt dst z) r s = (false, s)
 stood h old new c r s = (false, s)
 
+labels_few : (c : model.Command) (r : Reply) → labels_given c r ≤ 1
+labels_few (Alloc dst tag fields) (Block l) = omega arith
+labels_few (AllocMaj dst tag fields) (Block l) = omega arith
+labels_few c r = omega arith
+
 pub tried_is_run : (h : SharedHeap) (r : RunView) (new : Token) (c : model.Command) (reply : Reply) → IsRun r → r.ended ≡ false → r.left ≡ None → slice_get r.commands r.next ≡ Some c → Tried h r.token new c reply
     → IsRun (record r { token = new; next = r.next + 1; replies = r.replies ++ reply ∷ []; asked = None })
 tried_is_run h r new c reply is running left at t =
     let d : ℕ = r.token.view.own.number in
     let z = sizes_in r.token.config in
+    let number = ap (λ (o : Own). o.number) t.own in
+    let serial : new.view.own.serial ≡ r.token.view.own.serial + labels_given c reply = ap (λ (o : Own). o.serial) t.own in
+    let few = labels_few c reply in
     let st = stood h r.token new c reply t.stands in
     let full : Bool = st.0 in
     let e : Entry = CommandOf d c full in
@@ -51,8 +62,8 @@ tried_is_run h r new c reply is running left at t =
     let answered : replies z new.view.seen.front d ≡ r.replies ++ reply ∷ [] =
     replies_after z d r.token.view.seen.front new.view.seen.front e (Replied reply) (eq-eqb d d refl) st.1 ∙ ap (λ (rs : List Reply). rs ++ reply ∷ []) is.answered in
     record {
-      made = ap (commands new.view.seen.front) t.number ∙ made ∙ sym (take_next r.commands r.next c at) ∙ ap (λ (n : ℕ). take n r.commands) (sym (add-one r.next));
-      answered = ap (λ (n : ℕ). replies (sizes_in new.config) new.view.seen.front n) t.number ∙ ap (λ (k : Config). replies (sizes_in k) new.view.seen.front d) t.heap.1 ∙ answered;
+      made = ap (commands new.view.seen.front) number ∙ made ∙ sym (take_next r.commands r.next c at) ∙ ap (λ (n : ℕ). take n r.commands) (sym (add-one r.next));
+      answered = ap (λ (n : ℕ). replies (sizes_in new.config) new.view.seen.front n) number ∙ ap (λ (k : Config). replies (sizes_in k) new.view.seen.front d) t.heap.1 ∙ answered;
       each = length-append r.replies (reply ∷ []) ∙ ap (λ (n : ℕ). n + 1) is.each;
       within = let below = inside r.commands r.next c at in omega arith;
       few = is.few;
@@ -61,7 +72,7 @@ tried_is_run h r new c reply is running left at t =
       at_rest = t.runs.at_rest;
       goes_on = λ running. t.runs.acts.goes_on;
       stands = subst (λ (l : Option Kind). StandsAt l new.view.seen.stage) (sym left) t.runs.acts.runs;
-      labels = omega (arith, is.labels, t.serial);
+      labels = omega (arith, is.labels, serial, few);
       done = λ ended. cc;
       over = λ ended. cc;
     }
@@ -78,23 +89,25 @@ pub ended_is_run : (h : SharedHeap) (r : RunView) (new : Token) → IsRun r → 
 ended_is_run h r new is whole t =
     let d : ℕ = r.token.view.own.number in
     let z = sizes_in r.token.config in
+    let number = ap (λ (x : DomainView). x.own.number) t.view in
+    let serial : new.view.own.serial ≡ r.token.view.own.serial = ap (λ (x : DomainView). x.own.serial) t.view in
     let made : commands new.view.seen.front d ≡ commands r.token.view.seen.front d =
     commands_after z d r.token.view.seen.front new.view.seen.front (End d) Silent t.answers ∙ append-nil (commands r.token.view.seen.front d) in
     let answered : replies z new.view.seen.front d ≡ replies z r.token.view.seen.front d =
     replies_after z d r.token.view.seen.front new.view.seen.front (End d) Silent (eq-eqb d d refl) t.answers ∙ append-nil (replies z r.token.view.seen.front d) in
     record {
-      made = ap (commands new.view.seen.front) t.number ∙ made ∙ is.made;
-      answered = ap (λ (n : ℕ). replies (sizes_in new.config) new.view.seen.front n) t.number ∙ ap (λ (k : Config). replies (sizes_in k) new.view.seen.front d) t.heap.1 ∙ answered ∙ is.answered;
+      made = ap (commands new.view.seen.front) number ∙ made ∙ is.made;
+      answered = ap (λ (n : ℕ). replies (sizes_in new.config) new.view.seen.front n) number ∙ ap (λ (k : Config). replies (sizes_in k) new.view.seen.front d) t.heap.1 ∙ answered ∙ is.answered;
       each = is.each;
       within = is.within;
       few = is.few;
       fit = is.fit;
-      idle = t.idle;
-      at_rest = t.at_rest;
+      idle = ap (λ (x : DomainView). x.seen.made) t.view ∙ is.idle;
+      at_rest = ap (λ (x : DomainView). x.seen.hunt) t.view ∙ is.at_rest;
       goes_on = λ running. cc;
-      stands = subst (StandsAt r.left) (sym t.stays.stage) is.stands;
-      labels = omega (arith, is.labels, t.serial);
+      stands = subst (StandsAt r.left) (sym (ap (λ (x : DomainView). x.seen.stage) t.view)) is.stands;
+      labels = omega (arith, is.labels, serial);
       done = λ ended. omega (arith, is.within, whole);
-      over = λ ended. subst (λ (n : ℕ). IsTrue (list_any (is_end_of n) new.view.seen.front)) (sym t.number)
+      over = λ ended. subst (λ (n : ℕ). IsTrue (list_any (is_end_of n) new.view.seen.front)) (sym number)
           (subst (λ (front : List Entry). IsTrue (list_any (is_end_of d) front)) (sym t.answers.appends) (any_last (is_end_of d) (r.token.view.seen.front ++ t.answers.between) (End d) (eq-eqb d d refl)));
     }

@@ -13,10 +13,11 @@ use Rattle.domain_turns.specs.declared.passing.Past.{Past}
 use Rattle.domain_turns.specs.declared.passing.Past.TheVariants.{Waits, Arrived, Runs}
 use Rattle.domain_turns.specs.Runs.{RunView, Passes, GoesBy, Waits as RunWaits, Resumes}
 
-abbrev pub PassAnswers : Config → DomainView → DomainView → Past → Type 0
-PassAnswers k x y (Waits b) = (b < x.own.arrivals * k.domains) × (y ≡ noted x (Barrier b))
-PassAnswers k x y (Arrived kind) = Passes x y kind
-PassAnswers k x y Runs = Passed k x y × (y.seen.stage ≡ In Run)
+-- what a look at the barrier came to, for a domain that arrived from a phase whose last even kind is `last`
+abbrev pub PassAnswers : Config → DomainView → DomainView → Kind → Past → Type 0
+PassAnswers k x y last (Waits b) = (b < x.own.arrivals * k.domains) × (y ≡ noted x (Barrier b))
+PassAnswers k x y last (Arrived kind) = Passes k x y last kind
+PassAnswers k x y last Runs = Passed k x y × (y.seen.stage ≡ In Run)
 
 -- the kind of the last even phase that it then knows of
 abbrev pub left_after : Past → Kind → Option Kind

@@ -7,21 +7,23 @@ use Rattle.heap_model.specs.declared.entry.Entry.TheVariants.{End}
 use Rattle.heap_model.specs.declared.reply.Reply.{Reply}
 use Rattle.heap_model.specs.declared.reply.Applied.TheVariants.{Silent}
 use Rattle.heap_model.specs.History.{IsPrefix, commands, replies}
-use Rattle.heap_model.specs.Fronts.{IsFrontOf, Answers}
+use Rattle.heap_model.specs.Fronts.{Answers}
+use Rattle.heap_words.specs.declared.value.Value.{Value}
 use Rattle.heap_words.specs.declared.value.Value.TheVariants.{Nothing}
 use Rattle.heap_model.specs.Domains.{domain_at}
 use Rattle.heap_model.specs.declared.command.Command.TheVariants.{Minor}
+use Rattle.heap_rule.specs.declared.config.Config.{Config}
 use Rattle.heap_rule.specs.declared.view.DomainView.{DomainView}
 use Rattle.heap_rule.specs.declared.phase.Kind.{Kind}
 use Rattle.heap_rule.specs.declared.phase.Kind.TheVariants.{Run}
 use Rattle.heap_rule.specs.declared.phase.Stage.{Stage}
-use Rattle.heap_rule.specs.declared.phase.Stage.TheVariants.{In, Gone}
+use Rattle.heap_rule.specs.declared.phase.Stage.TheVariants.{In, Leads, Gone}
 use Rattle.heap_rule.specs.declared.phase.Note.{Note}
 use Rattle.heap_rule.specs.declared.phase.Note.TheVariants.{Want, Asked, Barrier, Ended}
+use Rattle.heap_rule.specs.Phases.{IsEven, IsOdd, Follows}
 use Rattle.steps_pauses.specs.Pauses.{noted, arrived_view}
 use Rattle.heap_rule.specs.Rule.{state_of}
-use Rattle.heap_rule.specs.Running.{Stays}
-use Rattle.safepoint.specs.Looks.{Passed}
+use Rattle.safepoint.specs.Looks.{Passed, led_view}
 use Rattle.domain_turns.specs.declared.turned.Turned.{Turned}
 use Rattle.domain_turns.specs.declared.turned.Turned.TheVariants.{Did, Waiting, Idle}
 use Rattle.domain_turns.specs.declared.turned.Turned.TheVariants.{Ended as Over}
@@ -82,18 +84,16 @@ pub record IsRun (r : RunView) : Type 0 where
   pub done : r.ended ≡ true → r.next ≡ length r.commands
   pub over : r.ended ≡ true → IsTrue (list_any (is_end_of r.token.view.own.number) r.token.view.seen.front)
 
+-- the domain with these registers, and another front
+abbrev pub left_with : DomainView → List Value → List Entry → DomainView
+left_with x registers front = record { own = record x.own { registers = registers }; seen = record x.seen { front = front } }
+
 -- the entry of the domain's end was made, and its registers hold nothing
 pub record HasEnded (h : SharedHeap) (old new : Token) : Type 0 where
   pub here : IsIn new h
   pub answers : Answers (sizes_in old.config) old.view.own.number old.view.seen.front new.view.seen.front (End old.view.own.number) Silent
   pub heap : (new.table ≡ old.table) × (new.config ≡ old.config)
-  pub idle : new.view.seen.made ≡ []
-  pub at_rest : new.view.seen.hunt ≡ AtRest
-  pub number : new.view.own.number ≡ old.view.own.number
-  pub used : new.view.own.used ≡ old.view.own.used
-  pub registers : new.view.own.registers ≡ replicate 16 Nothing
-  pub serial : new.view.own.serial ≡ old.view.own.serial
-  pub stays : Stays old.view new.view
+  pub view : new.view ≡ left_with old.view (replicate 16 Nothing) new.view.seen.front
 
 -- a pause began and ended since the domain asked: it has arrived since
 abbrev pub served_since : Option ℕ → ℕ → Bool
@@ -181,18 +181,22 @@ pub record Resumes (h : SharedHeap) (old start : RunView) : Type 0 where
 abbrev pub Starts : SharedHeap → RunView → RunView → Type 0
 Starts h old start = ((old.left ≡ None) × (start ≡ old)) ⊎ Resumes h old start
 
--- the domain had arrived, and a look found that all have: it did its share of the phase that had begun, and arrived
-pub record Passes (x y : DomainView) (kind : Kind) : Type 0 where
-  pub own : y.own ≡ record x.own { arrivals = x.own.arrivals + 1 }
-  pub made : y.seen.made ≡ x.seen.made
-  pub hunt : y.seen.hunt ≡ x.seen.hunt
-  pub stage : y.seen.stage ≡ Gone kind
-  pub front : IsFrontOf x.own.number y.seen.front x.seen.front
+-- how a domain leaves an odd phase: domain 0 names the kind that comes next, and takes the wishes back where it is Run
+abbrev pub LeavesOdd : DomainView → DomainView → Kind → Kind → Type 0
+LeavesOdd x y last kind = ((x.own.number ≡ 0) × Follows last kind × (y ≡ arrived_view (led_view x kind))) ⊎ ((x.own.number ≢ 0) × (kind ≡ last) × (y ≡ arrived_view x))
 
+-- a look found that all have arrived: the domain did its share of the phase that had begun, and arrived
+pub record Passes (k : Config) (x y : DomainView) (last kind : Kind) : Type 0 where
+  pub begun : DomainView
+  pub passed : Passed k x begun
+  pub share : (IsEven x.own.arrivals × (begun.seen.stage ≡ In kind) × (kind ≢ Run) × (y ≡ arrived_view begun)) ⊎ (IsOdd x.own.arrivals × (begun.seen.stage ≡ Leads last) × LeavesOdd begun y last kind)
+
+-- the domain had arrived, and went through the phase that had begun since
 pub record GoesBy (h : SharedHeap) (old new : RunView) : Type 0 where
-  pub arrived : (last : Kind) × (old.left ≡ Some last)
+  pub last : Kind
+  pub arrived : old.left ≡ Some last
   pub kind : Kind
-  pub passes : Passes old.token.view new.token.view kind
+  pub passes : Passes h.config old.token.view new.token.view last kind
   pub run : new ≡ record old { token = record old.token { view = new.token.view }; left = Some kind }
 
 -- not all have arrived: the barrier word b, found in this turn, is below the end of the domain's turn

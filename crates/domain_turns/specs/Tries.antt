@@ -1,5 +1,5 @@
 -- What the try of a command leaves.
-use Rattle.std.specs.Prelude.{◌≡◌, ℕ, ◌+◌, ◌<◌, ◌≤◌, ◌⊎◌, Bool, true, false}
+use Rattle.std.specs.Prelude.{◌≡◌, ℕ, ◌+◌, ◌<◌, ◌≤◌, ◌⊎◌, List, Bool, true, false, nat_lt, if◌then◌else◌}
 use Rattle.heap_model.specs.declared.command.Command.{Command}
 use Rattle.heap_model.specs.declared.command.Command.TheVariants.{PutInt, Copy, Forget, Alloc, AllocMaj, Load, Store, Poll, Minor}
 use Rattle.heap_model.specs.declared.entry.Entry.{Entry}
@@ -14,6 +14,8 @@ use Rattle.size_classes.specs.Table.{IsLeastFor}
 use Rattle.size_classes.specs.declared.TheConstants.{SIZES}
 use Rattle.heap_rule.specs.declared.config.Config.{Config}
 use Rattle.heap_rule.specs.declared.view.DomainView.{DomainView}
+use Rattle.heap_rule.specs.declared.view.Own.{Own}
+use Rattle.heap_rule.specs.declared.view.Spot.{Spot}
 use Rattle.steps_making.specs.Inits.{class_words}
 use Rattle.heap_rule.specs.Limits.{sizes_in}
 use Rattle.heap_rule.specs.Running.{Runs, Stays}
@@ -77,12 +79,30 @@ pub record RefusesFull (h : SharedHeap) (old new : Token) (c : Command) (r : Rep
   pub stays : Stays old.view new.view
   pub free : new.view.seen.free ≡ old.view.seen.free
 
+-- how many labels the command gave out: one where it is an allocation that isn't answered `full`
+abbrev pub labels_given : Command → Reply → ℕ
+labels_given (Alloc dst tag fields) (Block l) = 1
+labels_given (AllocMaj dst tag fields) (Block l) = 1
+labels_given _ _ = 0
+
+-- how far the places of each size class were then looked at: an allocation in the major heap may look at more of them
+abbrev pub looked_by : Command → Own → Own → List Spot
+looked_by (AllocMaj dst tag fields) old new = new.looked
+looked_by _ old new = old.looked
+
+-- what the domain then owns: the registers are those that the entry left, and all but what is named is as it was
+abbrev pub own_after : Token → Token → Command → Reply → Own
+own_after old new c r = record old.view.own {
+  registers = new.view.own.registers;
+  used = old.view.own.used + words_taken c r;
+  serial = old.view.own.serial + labels_given c r;
+  looked = looked_by c old.view.own new.view.own;
+}
+
 -- the entry of the command was made
 pub record Tried (h : SharedHeap) (old new : Token) (c : Command) (r : Reply) : Type 0 where
   pub runs : Runs h new
   pub stands : Stands h old new c r
   pub heap : (new.table ≡ old.table) × (new.config ≡ old.config)
   pub stays : Stays old.view new.view
-  pub number : new.view.own.number ≡ old.view.own.number
-  pub used : new.view.own.used ≡ old.view.own.used + words_taken c r
-  pub serial : new.view.own.serial ≤ old.view.own.serial + 1
+  pub own : new.view.own ≡ own_after old new c r

@@ -13,6 +13,3 @@ mod turns;
 pub use run::DomainRun;
 pub use turned::Turned;
 pub use turns::turn;
-
-#[cfg(test)]
-mod tests;

@@ -1,12 +1,12 @@
 //! What a domain does that has arrived.
-ghost use Rattle.std.specs.Prelude.{◌≡◌, ◌<◌, ◌^◌};
-ghost use Rattle.heap_rule.specs.declared.phase.Kind.TheVariants.{Run};
+ghost use Rattle.std.specs.Prelude.{◌≡◌, ◌<◌, ◌^◌, []};
 ghost use Rattle.heap_rule.specs.declared.phase.Stage.TheVariants.{Gone, Leads};
 ghost use Rattle.heap_rule.specs.declared.view.Hunt.TheVariants.{Rests};
 ghost use Rattle.heap_rule.specs.Token.{IsIn};
+ghost use Rattle.domain_turns.specs.Runs.{LeavesOdd, Passes};
+ghost use Rattle.heap_rule.specs.declared.phase.Kind.TheVariants.{Run};
 ghost use Rattle.steps_pools.specs.Listings.{IsLeader, HasList};
 ghost use Rattle.size_pools.specs.Listed.{Relisted};
-ghost use Rattle.domain_turns.specs.Runs.{Passes};
 ghost use Rattle.domain_turns.specs.Past.{PassAnswers, left_after};
 
 use heap_rule::{Domain, Heap, Kind};
@@ -43,9 +43,10 @@ fn leave_odd(heap: &Heap, dom: &mut Domain, last: Kind) -> Kind
     requires here { IsIn dom.old heap.now }
     requires odd { dom.old.view.seen.stage ≡ Leads last }
     requires at_rest { dom.old.view.seen.hunt ≡ Rests }
+    requires idle { dom.old.view.seen.made ≡ [] }
     requires few { dom.old.view.own.arrivals < 2 ^ 60 }
     ensures here { IsIn dom.new heap.now }
-    ensures passes { Passes dom.old.view dom.new.view result }
+    ensures leaves { LeavesOdd dom.old.view dom.new.view last result }
 {
     if dom.number() == 0 {
         let next = follower(last);
@@ -64,9 +65,10 @@ pub(crate) fn pass(heap: &Heap, dom: &mut Domain, last: Kind) -> Past
     requires here { IsIn dom.old heap.now }
     requires gone { dom.old.view.seen.stage ≡ Gone last }
     requires at_rest { dom.old.view.seen.hunt ≡ Rests }
+    requires idle { dom.old.view.seen.made ≡ [] }
     requires few { dom.old.view.own.arrivals < 2 ^ 60 }
     ensures here { IsIn dom.new heap.now }
-    ensures answer { PassAnswers heap.now.config dom.old.view dom.new.view result }
+    ensures answer { PassAnswers heap.now.config dom.old.view dom.new.view last result }
 {
     match look(heap, dom) {
         Look::NotAll(b) => Past::Waits(b),

@@ -1,5 +1,5 @@
 -- Steps on the control words of the phases: the other words stay, and so does what they stand for.
-use Rattle.std.proofs.Common.{◌≡◌, ◌≢◌, ℕ, zero, suc, ◌+◌, ◌*◌, ◌<◌, ◌≤◌, ◌⊎◌, List, length, get_or, set, Option, Some, sym, refl, ap, ◌∙◌, subst, arith, ⊎_elim, inl, inr, suc-mul, zero-le, None, false}
+use Rattle.std.proofs.Common.{◌≡◌, ◌≢◌, ℕ, zero, suc, ◌+◌, ◌*◌, ◌<◌, ◌≤◌, ◌⊎◌, List, length, get_or, set, Some, sym, refl, ap, ◌∙◌, subst, arith, ⊎_elim, inl, inr, suc-mul, zero-le, None, false, Option, ◌++◌, ◌∷◌, []}
 use mathlib.Core.Logic.{dite}
 use native.Mathlib.Decide.{ℕ_discrete}
 use mathlib.Core.Option.{some}
@@ -11,11 +11,11 @@ use Rattle.heap_rule.specs.declared.config.Config.{Config}
 use Rattle.heap_rule.specs.declared.phase.Stage.{Stage}
 use Rattle.heap_rule.specs.declared.phase.Note.{Note}
 use Rattle.heap_rule.specs.declared.view.DomainView.{DomainView}
+use Rattle.heap_rule.specs.Layout.{before_heap, at_address, ended_word, cursor}
+use Rattle.heap_rule.specs.Places.{unmarked, Place, Live, HeadIs}
+use Rattle.heap_rule.specs.Phases.{Pause, Phases, sum_of, IsEven, IsOdd, Staged, Still, TookBack, Unwished, last_from, last_note}
+use Rattle.heap_rule.specs.Pools.{Holder, Tenancy, Pools, Grid, Drawers, Resting, Hunter, place_in, Lists}
 use Rattle.heap_rule.specs.declared.view.Listing.{Listing}
-use Rattle.heap_rule.specs.Layout.{before_heap, ended_word, cursor}
-use Rattle.heap_rule.specs.Places.{Live, HeadIs, unmarked}
-use Rattle.heap_rule.specs.Phases.{Pause, Phases, sum_of, IsEven, IsOdd, Staged, Still}
-use Rattle.heap_rule.specs.Pools.{Holder, Tenancy, Pools, Grid, Drawers, Lists, Resting, Hunter}
 use Rattle.heap_rule.specs.Rule.{state_of, AllFound, Making, NoCycle, Rule}
 use Rattle.heap_rule.specs.Views.{one}
 use Rattle.heap_rule.proofs.Holders.{Agrees, grid_heap, same_self, hunter_agree}
@@ -132,6 +132,9 @@ module _ (k : Config) (s : Words) (r : Rule k s) (id : ℕ) (hist : List Entry) 
     pub resting : Resting k words' y
     pub drawers : Drawers pause' r.account.tenancy
     pub others : (z : DomainView) → z.own.number < k.domains → z.own.number ≢ x.own.number → Staged r.account.pause z → Staged pause' z
+    pub unwished : Unwished pause' words'
+    pub took_back : TookBack words' y
+    pub others_took_back : (z : DomainView) → Staged r.account.pause z → TookBack s.words z → TookBack words' z
 
   pub turns : (arrivals : ℕ) (front : List Entry) (stage : Stage) (notes : List Note) (free : Option ℕ) (listing : Option Listing) (pause' : Pause) (words' : List ℕ) → let y : DomainView = moved_to x arrivals front stage notes free listing in Turns y pause' words'
       → Rule k record { words = words'; homes = s.homes; views = set s.views id (one k hist y) }
@@ -148,6 +151,7 @@ module _ (k : Config) (s : Words) (r : Rule k s) (id : ℕ) (hist : List Entry) 
         found = found_untouched k r.account.live (state_of k r.account.log).graph s.words words' o.untouched r.whole.found;
         placed = r.whole.placed;
         phases = o.phases;
+        unwished = o.unwished;
         endings = o.endings ∙ r.whole.endings;
         pools = pools_untouched k r.account.tenancy s.words words' o.untouched r.whole.pools;
         grid = grid_untouched k r.account.tenancy.holder r.account.live s.words words' o.untouched r.whole.grid;
@@ -163,6 +167,7 @@ module _ (k : Config) (s : Words) (r : Rule k s) (id : ℕ) (hist : List Entry) 
         still = o.still;
         hunter = record { hunt = h.hunt; drawn_alone = h.drawn_alone; taken = h.taken; free = λ f e. h.free f (o.free f e) };
         resting = o.resting;
+        took_back = o.took_back;
       }
       (λ z below other h. record {
         stood = h.stood;
@@ -172,12 +177,14 @@ module _ (k : Config) (s : Words) (r : Rule k s) (id : ℕ) (hist : List Entry) 
         still = h.still;
         hunter = hunter_untouched k r.account.tenancy s.words words' z o.untouched h.hunter;
         resting = resting_untouched k s.words words' z o.untouched h.resting;
+        took_back = o.others_took_back z h.staged h.took_back;
       })
 
   -- a step that leaves where all stand, and the front
-  pub notes_rule : (notes : List Note) (words' : List ℕ) → Untouched s.words words' → get_or words' 1 0 ≡ get_or s.words 1 0 → get_or words' 2 0 ≡ get_or s.words 2 0 → ended_word words' ≡ ended_word s.words
+  pub notes_rule : (notes : List Note) (words' : List ℕ) → Untouched s.words words' → Unwished r.account.pause words' → TookBack words' (moved_to x x.own.arrivals x.seen.front x.seen.stage notes x.seen.free x.seen.listing)
+      → ((z : DomainView) → Staged r.account.pause z → TookBack s.words z → TookBack words' z) → get_or words' 1 0 ≡ get_or s.words 1 0 → get_or words' 2 0 ≡ get_or s.words 2 0 → ended_word words' ≡ ended_word s.words
       → Rule k record { words = words'; homes = s.homes; views = set s.views id (one k hist (moved_to x x.own.arrivals x.seen.front x.seen.stage notes x.seen.free x.seen.listing)) }
-  notes_rule notes words' u b c e = let g = my_good k s r id hist x at in turns x.own.arrivals x.seen.front x.seen.stage notes x.seen.free x.seen.listing r.account.pause words' record {
+  notes_rule notes words' u unwished took_back others_took_back b c e = let g = my_good k s r id hist x at in turns x.own.arrivals x.seen.front x.seen.stage notes x.seen.free x.seen.listing r.account.pause words' record {
     untouched = u;
     front = (mine k s r id hist x at).front;
     phases = phases_words k r.account.pause s.words words' b c r.whole.phases;
@@ -188,4 +195,15 @@ module _ (k : Config) (s : Words) (r : Rule k s) (id : ℕ) (hist : List Entry) 
     resting = let rest = resting_untouched k s.words words' x u g.resting in record { hunt = rest.hunt; free = rest.free; lists = rest.lists };
     drawers = r.whole.drawers;
     others = λ z _ _ st. st;
+    unwished = unwished;
+    took_back = took_back;
+    others_took_back = others_took_back;
   }
+
+-- the last of a list that ends with a note
+last_end : (o : Option Note) (notes : List Note) (n : Note) → last_from o (notes ++ n ∷ []) ≡ Some n
+last_end o [] n = refl
+last_end o (m ∷ notes) n = last_end (Some m) notes n
+
+pub last_note_end : (notes : List Note) (n : Note) → last_note (notes ++ n ∷ []) ≡ Some n
+last_note_end notes n = last_end None notes n

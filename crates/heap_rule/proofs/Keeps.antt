@@ -29,14 +29,14 @@ use Rattle.heap_rule.specs.declared.view.Listing.{Listing}
 use Rattle.heap_rule.specs.declared.view.Spot.{Spot}
 use Rattle.heap_rule.specs.declared.view.View.{View}
 use Rattle.heap_rule.specs.Limits.{sizes_in}
-use Rattle.heap_rule.specs.Layout.{before_heap, barrier, plan, ended_word, listed, cursor, listed_pool, owner_of}
+use Rattle.heap_rule.specs.Layout.{before_heap, barrier, plan, ended_word, listed, cursor, listed_pool, owner_of, want}
 use Rattle.heap_rule.specs.Places.{Place, Live, Stands, Placed}
 use Rattle.heap_rule.specs.Changes.{value_at}
 use Rattle.heap_rule.specs.Views.{EachView, AllDomains, IsSeated, Knows, one}
 use Rattle.heap_rule.specs.declared.phase.Kind.TheVariants.{Run, Promote, Reset}
 use Rattle.heap_rule.specs.declared.phase.Stage.{Stage}
 use Rattle.heap_rule.specs.declared.phase.Stage.TheVariants.{In, Leads, Led, Gone}
-use Rattle.heap_rule.specs.Phases.{Pause, Phases, sum_of, IsEven, IsOdd, AtStage, Staged, IsInPause, Still, Agree, flag, is_over}
+use Rattle.heap_rule.specs.Phases.{Pause, Phases, sum_of, IsEven, IsOdd, AtStage, Staged, IsInPause, Still, Agree, flag, is_over, TookBack, last_note}
 use Rattle.heap_rule.specs.Rule.{state_of, AllFound, Stood, Area, Making, Account, Good, NoCycle, Whole, Rule}
 use Rattle.heap_rule.specs.Pools.{Tenancy, drawn, owned, Pools, Grid, Drawers, IsLeading, Lists, Resting, Hunts, Hunter, drawn_in, hunting_free, spot_at, IsBefore, limit_of}
 use Rattle.heap_rule.specs.Standing.{with_front}
@@ -148,6 +148,13 @@ staged_as t x y number arrivals stage s = record {
 pub run_still : (log : List Entry) (y : DomainView) → y.seen.stage ≡ In Run → Still log y
 run_still log y runs paused = absurd (subst IsInPause runs paused)
 
+-- a domain that runs doesn't lead
+pub run_leads : (kind : _) → ◌≡◌ {A = Stage} (In Run) (Leads kind) → ⊥
+run_leads kind e = cc
+
+pub running_took_back : (words : List ℕ) (y : DomainView) → y.seen.stage ≡ In Run → TookBack words y
+running_took_back words y runs kind leads last = absurd (run_leads kind (sym runs ∙ leads))
+
 -- who leads is in a pause
 pub leads_paused : (stage : Stage) → IsLeading stage → IsInPause stage
 leads_paused (In kind) leads = absurd leads
@@ -229,6 +236,7 @@ cycle_same k words words' c s = record { armed_is = c 4 (omega arith) ∙ s.arme
 -- what a step owes each part of the rule that speaks of the words before the heap's
 pub record Controls (k : Config) (all : Account) (words words' : List ℕ) : Type 0 where
   pub phases : Phases k all.pause words'
+  pub want : want words' ≡ want words
   pub ended : ended_word words' ≡ ended_word words
   pub pools : Pools k all.tenancy words'
   pub lists : (number : ℕ) (stage : Stage) (l : Listing) → Lists k words number stage l → Lists k words' number stage l
@@ -345,6 +353,7 @@ module _ (k : Config) (s : Words) (r : Rule k s) (id : ℕ) (hist : List Entry) 
   pub controls_kept : (words' : List ℕ) → Control k s.words words' → Controls k r.account s.words words'
   controls_kept words' c = record {
     phases = phases_same k r.account.pause s.words words' c r.whole.phases;
+    want = c 0 (omega arith);
     ended = c 8 (omega arith);
     pools = pools_same k r.account.tenancy s.words words' c r.whole.pools;
     lists = λ number stage l. lists_control k s.words words' number stage l c;
@@ -389,6 +398,7 @@ module _ (k : Config) (s : Words) (r : Rule k s) (id : ℕ) (hist : List Entry) 
         found = subst (λ (t : model.State). AllFound k live' t.graph words') (sym after) o.found;
         placed = o.placed;
         phases = o.controls.phases;
+        unwished = λ j odd led runs. o.controls.want ∙ r.whole.unwished j odd led runs;
         endings = o.controls.ended ∙ (r.whole.endings ∙ sym (ap (λ (t : model.State). sum_of (is_over t) k.domains) after ∙ sum_same (is_over now) (is_over (next now e)) k.domains (λ d _. command_over now e o.command d)));
         pools = o.controls.pools;
         grid = o.grid;
@@ -396,7 +406,7 @@ module _ (k : Config) (s : Words) (r : Rule k s) (id : ℕ) (hist : List Entry) 
         cycle = o.controls.cycle;
       }
       (knows_entry y e o.alone o.number o.front)
-      record { stood = subst (λ (t : model.State). Stood live' t y) (sym after) o.stood; area = o.area; making = o.making; staged = staged_as r.account.pause x y o.number o.arrivals o.stage my_good.staged; still = run_still log' y (o.stage ∙ o.runs); hunter = o.hunter; resting = resting_runs k s.words words' x y o.runs (o.stage ∙ o.runs) o.listing my_good.resting }
+      record { stood = subst (λ (t : model.State). Stood live' t y) (sym after) o.stood; area = o.area; making = o.making; staged = staged_as r.account.pause x y o.number o.arrivals o.stage my_good.staged; still = run_still log' y (o.stage ∙ o.runs); hunter = o.hunter; resting = resting_runs k s.words words' x y o.runs (o.stage ∙ o.runs) o.listing my_good.resting; took_back = running_took_back words' y (o.stage ∙ o.runs) }
       (λ z _ other g. record {
         stood = subst (λ (t : model.State). Stood live' t z) (sym after) (stood_other r.account.live live' now (next now e) z (keeps_next now e z.own.number (o.alone z.own.number other)) o.more g.stood);
         area = o.areas z other g.area;
@@ -405,6 +415,7 @@ module _ (k : Config) (s : Words) (r : Rule k s) (id : ℕ) (hist : List Entry) 
         still = λ paused. absurd (nobody_paused r.account.pause x z o.runs my_good.staged g.staged paused);
         hunter = o.hunters z other g;
         resting = resting_other k r.account.pause s.words words' x z o.runs my_good.staged g.staged g.resting;
+        took_back = λ kind leads last. o.controls.want ∙ g.took_back kind leads last;
       })
 
   -- What a step owes at which no entry stands and nothing comes to live or moves
@@ -416,6 +427,7 @@ module _ (k : Config) (s : Words) (r : Rule k s) (id : ℕ) (hist : List Entry) 
     pub front : IsFrontOf x.own.number r.account.log y.seen.front
     pub still : Still r.account.log y
     pub stage : y.seen.stage ≡ x.seen.stage
+    pub notes : y.seen.notes ≡ x.seen.notes
     pub arrivals : y.own.arrivals ≡ x.own.arrivals
     pub wide : length words' ≡ length s.words
     pub controls : Controls k r.account s.words words'
@@ -438,6 +450,7 @@ module _ (k : Config) (s : Words) (r : Rule k s) (id : ℕ) (hist : List Entry) 
         found = o.found;
         placed = r.whole.placed;
         phases = o.controls.phases;
+        unwished = λ j odd led runs. o.controls.want ∙ r.whole.unwished j odd led runs;
         endings = o.controls.ended ∙ r.whole.endings;
         pools = o.controls.pools;
         grid = o.grid;
@@ -445,8 +458,8 @@ module _ (k : Config) (s : Words) (r : Rule k s) (id : ℕ) (hist : List Entry) 
         cycle = o.controls.cycle;
       }
       (knows_front y o.number o.front)
-      record { stood = o.stood; area = o.area; making = o.making; staged = staged_as r.account.pause x y o.number o.arrivals o.stage my_good.staged; still = o.still; hunter = o.hunter; resting = resting_as k words' x y o.number o.stage o.hunt o.free o.listing (resting_lists k s.words words' x o.controls.lists my_good.resting) }
-      (λ z _ other g. record { stood = g.stood; area = g.area; making = o.makings z other g.area g.making; staged = g.staged; still = g.still; hunter = o.hunters z other g; resting = resting_lists k s.words words' z o.controls.lists g.resting })
+      record { stood = o.stood; area = o.area; making = o.making; staged = staged_as r.account.pause x y o.number o.arrivals o.stage my_good.staged; still = o.still; hunter = o.hunter; resting = resting_as k words' x y o.number o.stage o.hunt o.free o.listing (resting_lists k s.words words' x o.controls.lists my_good.resting); took_back = λ kind leads last. o.controls.want ∙ my_good.took_back kind (sym o.stage ∙ leads) (sym (ap last_note o.notes) ∙ last) }
+      (λ z _ other g. record { stood = g.stood; area = g.area; making = o.makings z other g.area g.making; staged = g.staged; still = g.still; hunter = o.hunters z other g; resting = resting_lists k s.words words' z o.controls.lists g.resting; took_back = λ kind leads last. o.controls.want ∙ g.took_back kind leads last })
 
   -- a step that leaves all but the front, which is then some front of the history
   pub looks : (front : List Entry) → IsFrontOf x.own.number r.account.log front → (IsInPause x.seen.stage → front ≡ r.account.log) → Rule k record { words = s.words; homes = s.homes; views = set s.views id (one k hist (with_front x front)) }
@@ -458,6 +471,7 @@ module _ (k : Config) (s : Words) (r : Rule k s) (id : ℕ) (hist : List Entry) 
     front = is;
     still = still;
     stage = refl;
+    notes = refl;
     arrivals = refl;
     wide = refl;
     controls = controls_kept s.words (control_same k s.words);
@@ -476,6 +490,7 @@ module _ (k : Config) (s : Words) (r : Rule k s) (id : ℕ) (hist : List Entry) 
     pub runs : x.seen.stage ≡ In Run
     pub wide : length words' ≡ length s.words
     pub phases : Phases k r.account.pause words'
+    pub want : want words' ≡ want s.words
     pub endings : ended_word words' ≡ ended_word s.words
     pub cycle : NoCycle words'
     pub found : AllFound k r.account.live now.graph words'
@@ -497,6 +512,7 @@ module _ (k : Config) (s : Words) (r : Rule k s) (id : ℕ) (hist : List Entry) 
         found = o.found;
         placed = r.whole.placed;
         phases = o.phases;
+        unwished = λ j odd led runs. o.want ∙ r.whole.unwished j odd led runs;
         endings = o.endings ∙ r.whole.endings;
         pools = o.pools;
         grid = o.grid;
@@ -512,8 +528,9 @@ module _ (k : Config) (s : Words) (r : Rule k s) (id : ℕ) (hist : List Entry) 
         still = my_good.still;
         hunter = o.hunter;
         resting = resting_runs k s.words words' x (hunting_free x looked hunt free) o.runs o.runs refl my_good.resting;
+        took_back = λ kind leads last. o.want ∙ my_good.took_back kind leads last;
       }
-      (λ z _ other g. record { stood = g.stood; area = g.area; making = o.makings z g.making; staged = g.staged; still = g.still; hunter = o.hunters z other g; resting = resting_other k r.account.pause s.words words' x z o.runs my_good.staged g.staged g.resting })
+      (λ z _ other g. record { stood = g.stood; area = g.area; making = o.makings z g.making; staged = g.staged; still = g.still; hunter = o.hunters z other g; resting = resting_other k r.account.pause s.words words' x z o.runs my_good.staged g.staged g.resting; took_back = λ kind leads last. o.want ∙ g.took_back kind leads last })
 
 -- a load leaves the words as they were
 pub unmoved : (k : Config) (s : Words) (at : ℕ) (views : List View) → Rule k record { words = s.words; homes = s.homes; views = views }

@@ -23,7 +23,7 @@ use Rattle.heap_rule.specs.Places.{Place, Live, extent, Stands, Found, Fits, Pla
 use Rattle.heap_rule.specs.Changes.{value_at}
 use Rattle.heap_rule.specs.declared.phase.Kind.TheVariants.{Run}
 use Rattle.heap_rule.specs.Phases.{Pause, sum_of, is_over, flag}
-use Rattle.heap_rule.proofs.Keeps.{sum_same}
+use Rattle.heap_rule.proofs.Keeps.{sum_same, run_leads}
 use Rattle.heap_rule.specs.Views.{EachView, AllDomains, Distinct, IsSeated, Knows, opening_view, opening_views, first_view}
 use Rattle.heap_rule.specs.Rule.{Stood, Area, Account, Good, Whole, Rule}
 use Rattle.heap_rule.specs.Pools.{Holder, nobody, drawn, owned, owner_word, Tenancy, Pools, Lot, Grid, place_in, size_of, blocks_of, IsBefore}
@@ -246,6 +246,7 @@ module _ (k : Config) (limits : IsWithinLimits (sizes_in k)) (words : List ℕ) 
       next_plan = λ j e l. absurd (let h : 0 ≡ j * 2 + 1 = e in omega arith);
       leader = λ j e a. absurd (let h : 0 ≡ j * 2 + 1 = e in omega arith);
     };
+    unwished = λ j odd led runs. absurd (let h : 0 ≡ j * 2 + 1 = odd in omega arith);
     endings = opens.rested.nobody_ended ∙ sym (sum_same (λ _. 0) (is_over s0) k.domains (λ d below. ap (λ (x : DomainState). flag x.ended) (replicated k.domains d below)) ∙ sum_zero k.domains);
     pools = first_pools;
     grid = first_grid;
@@ -281,5 +282,6 @@ module _ (k : Config) (limits : IsWithinLimits (sizes_in k)) (words : List ℕ) 
             taken = λ q c slot e inside low. absurd (⊎_elim (λ (h : q < 0). omega arith) (λ (h : (q ≡ 0) × (slot < 0)). let l = h.1 in omega arith) (subst (λ (m : Spot). IsBefore q slot m) (get_zero class_count c) low));
           };
           resting = record { hunt = λ n. refl; free = λ n. refl; lists = λ l e. cc };
+          took_back = λ kind leads last. absurd (run_leads kind leads);
         }));
       }

@@ -2,6 +2,14 @@
 #![tactic(auto)]
 
 #[cfg(test)]
+mod command_line;
+#[cfg(test)]
+mod decimals;
+#[cfg(test)]
+mod domain_turns;
+#[cfg(test)]
+mod heap_text;
+#[cfg(test)]
 mod heap_words;
 #[cfg(test)]
 mod minor_area;
@@ -10,6 +18,10 @@ mod outer_io;
 #[cfg(test)]
 mod remembered_set;
 #[cfg(test)]
+mod safepoint;
+#[cfg(test)]
 mod size_classes;
 #[cfg(test)]
 mod size_pools;
+#[cfg(test)]
+mod thread_drive;

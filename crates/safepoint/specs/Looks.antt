@@ -6,7 +6,7 @@ use Rattle.heap_rule.specs.declared.config.Config.{Config}
 use Rattle.heap_rule.specs.declared.view.DomainView.{DomainView}
 use Rattle.heap_rule.specs.declared.phase.Kind.{Kind}
 use Rattle.heap_rule.specs.declared.phase.Kind.TheVariants.{Run, Promote, Reset}
-use Rattle.heap_rule.specs.declared.phase.Stage.TheVariants.{In, Leads}
+use Rattle.heap_rule.specs.declared.phase.Stage.TheVariants.{In, Leads, Led}
 use Rattle.heap_rule.specs.declared.phase.Note.{Note}
 use Rattle.heap_rule.specs.declared.phase.Note.TheVariants.{Barrier, Cleared}
 use Rattle.heap_rule.specs.Limits.{sizes_in}
@@ -43,3 +43,7 @@ abbrev pub cleared : Kind → List Note
 cleared Run = Cleared ∷ []
 cleared Promote = []
 cleared Reset = []
+
+-- domain 0 has named the next kind
+abbrev pub led_view : DomainView → Kind → DomainView
+led_view x next = record x { seen = record x.seen { stage = Led next; notes = x.seen.notes ++ cleared next } }

@@ -2,13 +2,13 @@
 ghost use Rattle.std.specs.Prelude.{◌≡◌, ◌≤◌, ◌<◌, ◌^◌, ◌++◌, [], ◌∷◌};
 ghost use Rattle.heap_rule.specs.declared.phase.Kind as kinds;
 ghost use Rattle.heap_rule.specs.declared.phase.Kind.TheVariants.{Run};
-ghost use Rattle.heap_rule.specs.declared.phase.Stage.TheVariants.{In, Leads, Led};
+ghost use Rattle.heap_rule.specs.declared.phase.Stage.TheVariants.{In, Leads};
 ghost use Rattle.heap_rule.specs.declared.phase.Note.TheVariants as note;
 ghost use Rattle.heap_rule.specs.Phases.{code, Follows};
 ghost use Rattle.steps_pauses.specs.Pauses.{IsGone, ArriveMay, ClearMay, kind_in, noted, arrived_view};
 ghost use Rattle.heap_rule.specs.Token.{IsIn};
+ghost use Rattle.safepoint.specs.Looks.{bit_of, cleared, led_view, LookAnswers};
 ghost use Rattle.steps_pools.specs.Listings.{HasList};
-ghost use Rattle.safepoint.specs.Looks.{bit_of, cleared, LookAnswers};
 
 use crate::answer::{Look, Want, Wants};
 use heap_rule::{Domain, Heap, Kind};
@@ -134,7 +134,7 @@ pub fn lead(heap: &Heap, dom: &mut Domain, next: Kind)
     requires follows { Follows (kind_in dom.old.view.seen.stage) next }
     requires list { next ≡ Run → HasList heap.now.config dom.old.view }
     ensures here { IsIn dom.new heap.now }
-    ensures view { dom.new.view ≡ record dom.old.view { seen = record dom.old.view.seen { stage = Led next; notes = dom.old.view.seen.notes ++ cleared next } } }
+    ensures view { dom.new.view ≡ led_view dom.old.view next }
 {
     clear_for(heap, dom, next);
     plan_store(heap, dom, word_of(next));

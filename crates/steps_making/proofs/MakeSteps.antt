@@ -91,6 +91,7 @@ inits k slots id word hist x a new changes place may s r _ at _ =
       front = (mine k s r id hist x at).front;
       still = λ p. g.still p;
       stage = refl;
+      notes = refl;
       arrivals = refl;
       wide = length-set s.words (before_heap k + a) new;
       controls = controls_kept k s r id hist x at (set s.words (before_heap k + a) new) (control_set k s.words a new (omega arith));

@@ -73,6 +73,7 @@ module _ (k : Config) (s : Words) (r : Rule k s) (id : ℕ) (hist : List Entry) 
     runs = runs;
     wide = refl;
     phases = r.whole.phases;
+    want = refl;
     endings = refl;
     cycle = r.whole.cycle;
     found = r.whole.found;
@@ -94,6 +95,7 @@ module _ (k : Config) (s : Words) (r : Rule k s) (id : ℕ) (hist : List Entry) 
     runs = runs;
     wide = refl;
     phases = r.whole.phases;
+    want = refl;
     endings = refl;
     cycle = r.whole.cycle;
     found = r.whole.found;
@@ -126,6 +128,7 @@ module _ (k : Config) (s : Words) (r : Rule k s) (id : ℕ) (hist : List Entry) 
         runs = runs;
         wide = refl;
         phases = r.whole.phases;
+        want = refl;
         endings = refl;
         cycle = r.whole.cycle;
         found = r.whole.found;
@@ -214,6 +217,7 @@ module _ (k : Config) (s : Words) (r : Rule k s) (id : ℕ) (hist : List Entry) 
       runs = runs;
       wide = length-set s.words 7 (c + 1);
       phases = phases1;
+      want = other_word 0 (λ e. omega arith);
       endings = other_word 8 (λ e. omega arith);
       cycle = cycle1;
       found = found_agrees k r.account.live (state_of k r.account.log).graph s.words words1 agrees r.whole.placed r.whole.found;
@@ -317,6 +321,7 @@ module _ (k : Config) (s : Words) (r : Rule k s) (id : ℕ) (hist : List Entry) 
         runs = runs;
         wide = length-set s.words 7 (c + 1);
         phases = phases1;
+        want = other_word 0 (λ e. omega arith);
         endings = other_word 8 (λ e. omega arith);
         cycle = cycle1;
         found = found_agrees k r.account.live (state_of k r.account.log).graph s.words words1 agrees r.whole.placed r.whole.found;

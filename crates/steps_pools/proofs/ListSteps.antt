@@ -86,6 +86,7 @@ module _ (k : Config) (s : Words) (r : Rule k s) (id : ℕ) (hist : List Entry) 
         found = found_heap k r.account.live (state_of k r.account.log).graph s.words words' o.heap r.whole.placed r.whole.found;
         placed = r.whole.placed;
         phases = phases_words k r.account.pause s.words words' (o.control 1 (inl (omega arith))) (o.control 2 (inl (omega arith))) r.whole.phases;
+        unwished = λ j odd led runs. o.control 0 (inl (omega arith)) ∙ r.whole.unwished j odd led runs;
         endings = o.control 8 (inr refl) ∙ r.whole.endings;
         pools = o.pools;
         grid = grid_heap k t.holder r.account.live s.words words' o.heap r.whole.grid;
@@ -101,6 +102,7 @@ module _ (k : Config) (s : Words) (r : Rule k s) (id : ℕ) (hist : List Entry) 
         still = good.still;
         hunter = record { hunt = h.hunt; drawn_alone = h.drawn_alone; taken = h.taken; free = h.free };
         resting = record { hunt = good.resting.hunt; free = good.resting.free; lists = o.lists };
+        took_back = λ kind leads last. o.control 0 (inl (omega arith)) ∙ good.took_back kind leads last;
       }
       (λ z _ other g. record {
         stood = g.stood;
@@ -110,6 +112,7 @@ module _ (k : Config) (s : Words) (r : Rule k s) (id : ℕ) (hist : List Entry) 
         still = g.still;
         hunter = let stays : z.seen.stage ≢ In Run = nobody_runs z g.staged in rests_hunter k t s.words words' z o.heap (g.resting.hunt stays) (g.resting.free stays) g.hunter;
         resting = record { hunt = g.resting.hunt; free = g.resting.free; lists = λ l e. absurd (other ((g.resting.lists l e).first ∙ sym leader.first)) };
+        took_back = λ kind leads last. o.control 0 (inl (omega arith)) ∙ g.took_back kind leads last;
       })
 
   -- a store of one of these words

@@ -212,6 +212,7 @@ module _ (k : Config) (s : Words) (r : Rule k s) (id : ℕ) (hist : List Entry) 
         runs = runs;
         wide = length-set s.words (before_heap k + A) 0;
         phases = phases_same k r.account.pause s.words ws (control_set k s.words A 0 (omega arith)) r.whole.phases;
+        want = control_set k s.words A 0 (omega arith) 0 (omega arith);
         endings = control_set k s.words A 0 (omega arith) 8 (omega arith);
         cycle = cycle_same k s.words ws (control_set k s.words A 0 (omega arith)) r.whole.cycle;
         found = λ b q lives. let f = r.whole.found b q lives in found_beside k r.account.live r.account.live (state_of k r.account.log).graph (state_of k r.account.log).graph s.words A 0 b q (λ c o h. h) f f.there (far A low high b q lives);
@@ -326,6 +327,7 @@ module _ (k : Config) (s : Words) (r : Rule k s) (id : ℕ) (hist : List Entry) 
       runs = runs;
       wide = length-set s.words spot_owner signed;
       phases = phases_words k r.account.pause s.words words2 (other_word 1 (λ e. omega arith)) (other_word 2 (λ e. omega arith)) r.whole.phases;
+      want = other_word 0 (λ e. omega arith);
       endings = other_word 8 (λ e. omega arith);
       cycle = let p = r.whole.cycle in record { armed_is = other_word 4 (λ e. omega arith) ∙ p.armed_is; colours_are = other_word 5 (λ e. omega arith) ∙ p.colours_are };
       found = found_agrees k r.account.live (state_of k r.account.log).graph s.words words2 agrees r.whole.placed r.whole.found;
@@ -475,6 +477,7 @@ module _ (k : Config) (s : Words) (r : Rule k s) (id : ℕ) (hist : List Entry) 
         runs = runs;
         wide = length-set s.words (before_heap k + B) new;
         phases = phases_same k r.account.pause s.words ws3 (control_set k s.words B new (omega arith)) r.whole.phases;
+        want = control_set k s.words B new (omega arith) 0 (omega arith);
         endings = control_set k s.words B new (omega arith) 8 (omega arith);
         cycle = cycle_same k s.words ws3 (control_set k s.words B new (omega arith)) r.whole.cycle;
         found = λ b q lives. let f = r.whole.found b q lives in found_beside k r.account.live r.account.live (state_of k r.account.log).graph (state_of k r.account.log).graph s.words B new b q (λ c o h. h) f f.there

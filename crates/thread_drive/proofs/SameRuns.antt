@@ -1,14 +1,6 @@
 -- A turn, by what it did.
-use Rattle.std.proofs.Common.{◌≡◌, ◌∙◌, ℕ, ◌≤◌, Bool, true, false, List, [], ◌∷◌, ◌++◌, length, append-nil, append_assoc, refl, sym, ap, subst, ⊎_elim}
-use Rattle.std.specs.Prelude.{slice_get, Some}
-use Rattle.std.proofs.lemmas.Option.{slice_get_cases}
-use Rattle.heap_model.specs.declared.command.Command as model
+use Rattle.std.proofs.Common.{◌∙◌, List, [], ◌++◌, append-nil, append_assoc, refl, sym, ap}
 use Rattle.heap_model.specs.declared.entry.Entry.{Entry}
-use Rattle.heap_model.specs.declared.reply.Applied.{Applied}
-use Rattle.heap_model.specs.declared.state.Sizes.{Sizes}
-use Rattle.heap_model.specs.Fronts.{Answers}
-use Rattle.heap_model.specs.History.{IsPrefix}
-use Rattle.heap_rule.specs.Token.{SharedHeap}
 use Rattle.domain_turns.specs.Runs.{RunView, GoesOn}
 use Rattle.thread_drive.specs.Driven.{IsSameRun}
 

@@ -8,6 +8,7 @@ ghost use Rattle.thread_drive.specs.Taking.{IsTakenOut};
 use crate::rotation::rotate;
 use crate::taking::{put_back, take_out};
 use crate::turning::turn_to_end;
+use crossbeam_utils::sync::EventCount;
 use domain_turns::DomainRun;
 use heap_rule::Heap;
 use outer_io::Gate;
@@ -43,6 +44,7 @@ fn work<R: Wait, G: Gate>(
     rt: &R,
     heap: &Heap,
     gate: &G,
+    events: &EventCount,
     refused: &AtomicU32,
     run: DomainRun,
 ) -> Worked
@@ -55,13 +57,19 @@ fn work<R: Wait, G: Gate>(
         return Worked { run, ended: false };
     }
     Worked {
-        run: turn_to_end(rt, heap, gate, run),
+        run: turn_to_end(rt, heap, gate, events, run),
         ended: true,
     }
 }
 
 // The run that a thread gave back, with its trace ended.
-fn ended_run<R: Wait, G: Gate>(rt: &R, heap: &Heap, gate: &G, worked: Worked) -> DomainRun
+fn ended_run<R: Wait, G: Gate>(
+    rt: &R,
+    heap: &Heap,
+    gate: &G,
+    events: &EventCount,
+    worked: Worked,
+) -> DomainRun
     requires ended { worked.ended ≡ true → worked.run.ended ≡ true }
     requires here { IsIn worked.run.token heap.now }
     ensures here { IsIn result.token heap.now }
@@ -72,7 +80,7 @@ fn ended_run<R: Wait, G: Gate>(rt: &R, heap: &Heap, gate: &G, worked: Worked) ->
     if ended {
         run
     } else {
-        turn_to_end(rt, heap, gate, run)
+        turn_to_end(rt, heap, gate, events, run)
     }
 }
 
@@ -82,6 +90,7 @@ fn start<'s, E, R: Threads + Wait + Sync, G: Gate + Sync>(
     rt: &'s R,
     heap: &'s Heap,
     gate: &'s G,
+    events: &'s EventCount,
     refused: &'s AtomicU32,
     run: DomainRun,
 ) -> Result<PromisedHandle<Worked, SameRun>, DomainRun>
@@ -94,7 +103,7 @@ fn start<'s, E, R: Threads + Wait + Sync, G: Gate + Sync>(
         heap: Snapshot::of(heap),
         run: Snapshot::of(&run),
     };
-    match scope.spawn_with(promise, move || work(rt, heap, gate, refused, run)) {
+    match scope.spawn_with(promise, move || work(rt, heap, gate, events, refused, run)) {
         Ok(child) => Ok(child),
         Err(error) => {
             refused.store(number, Ordering::SeqCst);
@@ -110,6 +119,7 @@ fn joined<R: Threads + Wait, G: Gate>(
     rt: &R,
     heap: &Heap,
     gate: &G,
+    events: &EventCount,
     child: PromisedHandle<Worked, SameRun>,
 ) -> DomainRun
     requires { child.promise.heap.value ≡ heap.now }
@@ -118,7 +128,7 @@ fn joined<R: Threads + Wait, G: Gate>(
     ensures ended { result.ended ≡ true }
 {
     let worked = child.join(rt);
-    ended_run(rt, heap, gate, worked)
+    ended_run(rt, heap, gate, events, worked)
 }
 
 // Takes the run at this place out. The last one moves there.
@@ -141,6 +151,7 @@ fn drive_to<'s, E, R: Threads + Wait + Sync, G: Gate + Sync>(
     rt: &'s R,
     heap: &'s Heap,
     gate: &'s G,
+    events: &'s EventCount,
     refused: &'s AtomicU32,
     runs: &mut Vec<DomainRun>,
     at: usize,
@@ -153,19 +164,19 @@ fn drive_to<'s, E, R: Threads + Wait + Sync, G: Gate + Sync>(
     ensures capacity { vec_capacity runs.new ≡ vec_capacity runs.old }
 {
     if at == 0 {
-        rotate(rt, heap, gate, runs);
+        rotate(rt, heap, gate, events, runs);
         return;
     }
     let run = take_here(heap, runs, at);
-    match start(scope, rt, heap, gate, refused, run) {
+    match start(scope, rt, heap, gate, events, refused, run) {
         Ok(child) => {
-            drive_to(scope, rt, heap, gate, refused, runs, at - 1);
-            let run = joined(rt, heap, gate, child);
+            drive_to(scope, rt, heap, gate, events, refused, runs, at - 1);
+            let run = joined(rt, heap, gate, events, child);
             put_back(runs, at, run);
         }
         Err(run) => {
             put_back(runs, at, run);
-            drive_to(scope, rt, heap, gate, refused, runs, at - 1);
+            drive_to(scope, rt, heap, gate, events, refused, runs, at - 1);
         }
     }
 }
@@ -191,6 +202,8 @@ pub fn drive<R: Threads + Wait + Sync, G: Gate + Sync>(
     }
     let refused = AtomicU32::new(NONE);
     let handed_back = &refused;
+    let events = EventCount::new();
+    let shared = &events;
     thread::scope(
         thread::scope_env(),
         rt,
@@ -200,7 +213,7 @@ pub fn drive<R: Threads + Wait + Sync, G: Gate + Sync>(
         {
             let mut runs = runs;
             let last = runs.len() - 1;
-            drive_to(scope, rt, heap, gate, handed_back, &mut runs, last);
+            drive_to(scope, rt, heap, gate, shared, handed_back, &mut runs, last);
             runs
         },
     )

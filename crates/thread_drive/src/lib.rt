@@ -5,8 +5,6 @@ mod driving;
 mod rotation;
 mod taking;
 mod turning;
+mod waiting;
 
 pub use driving::drive;
-
-#[cfg(test)]
-mod tests;

@@ -4,7 +4,8 @@ ghost use Rattle.heap_rule.specs.Token.{IsIn};
 ghost use Rattle.thread_drive.specs.Driven.{AllHere, IsSameRuns, AllEnded};
 
 use crate::turning::{Went, turn_once};
-use crossbeam_utils::Backoff;
+use crate::waiting::Waiter;
+use crossbeam_utils::sync::EventCount;
 use domain_turns::DomainRun;
 use heap_rule::Heap;
 use outer_io::Gate;
@@ -23,7 +24,13 @@ fn place_of(heap: &Heap, run: &DomainRun) -> usize
 }
 
 // One turn of each run. It answers how far they came: nowhere only where none did anything.
-fn turn_each<G: Gate>(heap: &Heap, gate: &G, told: &mut [u32; 8], runs: &mut [DomainRun]) -> Went
+fn turn_each<G: Gate>(
+    heap: &Heap,
+    gate: &G,
+    events: &EventCount,
+    told: &mut [u32; 8],
+    runs: &mut [DomainRun],
+) -> Went
     requires { AllHere heap.now runs.old }
     ensures here { AllHere heap.now runs.new }
     ensures same { IsSameRuns runs.old runs.new }
@@ -33,7 +40,7 @@ fn turn_each<G: Gate>(heap: &Heap, gate: &G, told: &mut [u32; 8], runs: &mut [Do
     let mut some = false;
     for run in runs.iter_mut() {
         let place = place_of(heap, run);
-        match turn_once(heap, gate, &mut told[place], run) {
+        match turn_once(heap, gate, events, &mut told[place], run) {
             Went::On => {
                 all = false;
                 some = true;
@@ -52,19 +59,26 @@ fn turn_each<G: Gate>(heap: &Heap, gate: &G, told: &mut [u32; 8], runs: &mut [Do
 }
 
 // Turns these runs in rotation until all traces have ended. It waits only where none of them went on, so that it never waits for one that it turns itself.
-pub(crate) fn rotate<R: Wait, G: Gate>(rt: &R, heap: &Heap, gate: &G, runs: &mut Vec<DomainRun>)
+pub(crate) fn rotate<R: Wait, G: Gate>(
+    rt: &R,
+    heap: &Heap,
+    gate: &G,
+    events: &EventCount,
+    runs: &mut Vec<DomainRun>,
+)
     requires { AllHere heap.now runs.old.items }
     ensures here { AllHere heap.now runs.new.items }
     ensures same { IsSameRuns runs.old.items runs.new.items }
     ensures ended { AllEnded runs.new.items }
     ensures capacity { vec_capacity runs.new ≡ vec_capacity runs.old }
 {
-    let backoff = Backoff::new();
+    let mut waiter = Waiter::new(events);
     let mut told = [0; MOST_DOMAINS];
     'turns: for _ in rt.forever() {
-        match turn_each(heap, gate, &mut told, runs.as_mut_slice()) {
-            Went::On => backoff.reset(),
-            Went::Nowhere => backoff.snooze(),
+        let announced = waiter.announced();
+        match turn_each(heap, gate, events, &mut told, runs.as_mut_slice()) {
+            Went::On => waiter.went_on(),
+            Went::Nowhere => waiter.wait(rt, announced),
             Went::Ended => return,
         }
     }

@@ -3,7 +3,8 @@ ghost use Rattle.std.specs.Prelude.{◌≡◌, true};
 ghost use Rattle.heap_rule.specs.Token.{IsIn};
 ghost use Rattle.thread_drive.specs.Driven.{IsSameRun};
 
-use crossbeam_utils::Backoff;
+use crate::waiting::Waiter;
+use crossbeam_utils::sync::EventCount;
 use domain_turns::{DomainRun, Turned, turn};
 use heap_rule::Heap;
 use outer_io::Gate;
@@ -55,25 +56,36 @@ fn turn_below(heap: &Heap, run: &mut DomainRun) -> Went
     reached(turn(heap, run))
 }
 
-// One turn, with the gate around the command, if one is left. The gate was told of the commands before `told`.
-pub(crate) fn turn_once<G: Gate>(heap: &Heap, gate: &G, told: &mut u32, run: &mut DomainRun) -> Went
+// Tells the gate of the next command, if one is left that it wasn't told of: it was told of those before `told`.
+fn tell_before<G: Gate>(gate: &G, told: &mut u32, run: &DomainRun) {
+    let at = next_index(run);
+    if run.has_next() && *told <= at {
+        *told = at.saturating_add(1);
+        gate.before(run.domain().number(), at);
+    }
+}
+
+// One turn, with the gate around the command, if one is left. Where it went on without a command the
+// domain arrived, asked for a pause or ended its trace, and others that wait may go on too.
+pub(crate) fn turn_once<G: Gate>(
+    heap: &Heap,
+    gate: &G,
+    events: &EventCount,
+    told: &mut u32,
+    run: &mut DomainRun,
+) -> Went
     requires { IsIn run.old.token heap.now }
     ensures here { IsIn run.new.token heap.now }
     ensures same { IsSameRun run.old run.new }
     ensures ended { result ≡ Went.Ended → run.new.ended ≡ true }
 {
-    if !run.has_next() {
-        return turn_below(heap, run);
-    }
-    let number = run.domain().number();
     let at = next_index(run);
-    if *told <= at {
-        *told = at.saturating_add(1);
-        gate.before(number, at);
-    }
+    tell_before(gate, told, run);
     let went = turn_below(heap, run);
     if next_index(run) != at {
-        gate.after(number, at);
+        gate.after(run.domain().number(), at);
+    } else if went == Went::On {
+        events.notify_all();
     }
     went
 }
@@ -83,6 +95,7 @@ pub(crate) fn turn_to_end<R: Wait, G: Gate>(
     rt: &R,
     heap: &Heap,
     gate: &G,
+    events: &EventCount,
     mut run: DomainRun,
 ) -> DomainRun
     requires { IsIn run.token heap.now }
@@ -90,12 +103,13 @@ pub(crate) fn turn_to_end<R: Wait, G: Gate>(
     ensures same { IsSameRun run result }
     ensures ended { result.ended ≡ true }
 {
-    let backoff = Backoff::new();
+    let mut waiter = Waiter::new(events);
     let mut told = 0;
     'turns: for _ in rt.forever() {
-        match turn_once(heap, gate, &mut told, &mut run) {
-            Went::On => backoff.reset(),
-            Went::Nowhere => backoff.snooze(),
+        let announced = waiter.announced();
+        match turn_once(heap, gate, events, &mut told, &mut run) {
+            Went::On => waiter.went_on(),
+            Went::Nowhere => waiter.wait(rt, announced),
             Went::Ended => return run,
         }
     }

@@ -13,7 +13,7 @@ invariant_of-run c =
     let here : IsIn r.token c.args.heap.now = subst (λ (x : RunView). IsIn x.token c.args.heap.now) (sym c.run.view_is) c.requires.here in
     let left : r.left ≡ Some c.args.last = subst (λ (x : RunView). x.left ≡ Some c.args.last) (sym c.run.view_is) c.requires.left in
     let gone : r.token.view.seen.stage ≡ Gone c.args.last = subst (λ (l : Option Kind). StandsAt l r.token.view.seen.stage) left c.run.invariant.0.stands in (
-      moved_is_run r c.pass-past.new.dom c.left_after-run-inside.result r.asked c.run.invariant.0 (passed_moves c.args.heap.now r.token c.pass-past.new.dom c.pass-past.result here c.pass-past.ensures.here c.pass-past.ensures.answer)
+      moved_is_run r c.pass-past.new.dom c.left_after-run-inside.result r.asked c.run.invariant.0 (passed_moves c.args.heap.now r.token c.pass-past.new.dom c.args.last c.pass-past.result here c.pass-past.ensures.here c.pass-past.ensures.answer)
           (subst (λ (l : Option Kind). StandsAt l c.pass-past.new.dom.view.seen.stage) (sym c.left_after-run-inside.ensures) (passed_stands c.args.heap.now r.token c.pass-past.new.dom c.pass-past.result c.args.last gone c.pass-past.ensures.answer)),
       c.run.invariant.1,
     )

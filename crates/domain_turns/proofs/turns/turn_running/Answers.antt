@@ -1,4 +1,3 @@
-use Rattle.std.proofs.Common.{rules}
 use Rattle.domain_turns.proofs.GoingLemmas.{calm_run}
 use Rattle.domain_turns.proofs.turns.turn_running.Goals as goal
 

@@ -1,0 +1,170 @@
+//! Traces from their first command to their end.
+ghost use Rattle.heap_rule.specs.Token.{IsIn};
+
+use domain_turns::{DomainRun, Turned, turn};
+use heap_model::command::Command;
+use heap_model::label::Label;
+use heap_model::reply::Reply;
+use heap_rule::{Config, Heap};
+use std::test::Fail;
+
+const ONE_DOMAIN: Config = Config {
+    domains: 1,
+    minor_words: 4096,
+    pools: 14,
+    finals: 0,
+    ephes: 0,
+};
+
+// So often a domain arrives in no test.
+const MOST: u64 = 1_000_000;
+
+// A turn, where the domain may still arrive.
+fn turned(heap: &Heap, run: &mut DomainRun) -> Option<Turned>
+    requires { IsIn run.old.token heap.now }
+    ensures { IsIn run.new.token heap.now }
+{
+    if run.domain().arrivals() >= MOST {
+        return None;
+    }
+    Some(turn(heap, run))
+}
+
+#[test]
+fn a_trace_runs_to_its_end(rt: HostRuntime) -> Result<(), Fail> {
+    let (heap, mut domains) = Heap::start(rt.alloc(), ONE_DOMAIN)?;
+    let domain = domains.pop().ok_or("no domain")?;
+    let commands = vec![in rt.alloc();
+        Command::Alloc {
+            dst: 1,
+            tag: 0,
+            fields: 2
+        },
+        Command::Store {
+            block: 0,
+            index: 3,
+            item: 1
+        },
+        Command::Load {
+            dst: 2,
+            src: 0,
+            index: 16
+        },
+        Command::Poll,
+    ]?;
+    let mut run = DomainRun::make(rt.alloc(), domain, commands)?;
+    assert_eq!(rt; turned(&heap, &mut run), Some(Turned::Did));
+    assert_eq!(rt; turned(&heap, &mut run), Some(Turned::Did));
+    assert_eq!(rt; turned(&heap, &mut run), Some(Turned::Did));
+    assert_eq!(rt; turned(&heap, &mut run), Some(Turned::Did));
+    assert!(rt; !run.has_ended());
+    assert_eq!(rt; turned(&heap, &mut run), Some(Turned::Did));
+    assert_eq!(rt; turned(&heap, &mut run), Some(Turned::Ended));
+    assert_eq!(rt; run.next(), 4);
+    let first = Label {
+        domain: 0,
+        serial: 1,
+    };
+    let replies = [
+        Reply::Block(first),
+        Reply::Done,
+        Reply::BadIndex,
+        Reply::Done,
+    ];
+    assert_eq!(rt; run.replies(), replies.as_slice());
+    assert_eq!(rt; run.domain().labels_made(), 1);
+    if !run.has_ended() {
+        return Err(Fail::from("the trace hasn't ended"));
+    }
+    assert_eq!(rt; run.into_domain().number(), 0);
+    Ok(())
+}
+
+const TWO_DOMAINS: Config = Config {
+    domains: 2,
+    minor_words: 4096,
+    pools: 27,
+    finals: 0,
+    ephes: 0,
+};
+
+// One domain goes through a phase and waits, and then the other goes through it.
+fn go_through(heap: &Heap, idle: &mut DomainRun, asking: &mut DomainRun) -> [Option<Turned>; 3]
+    requires idle { IsIn idle.old.token heap.now }
+    requires asking { IsIn asking.old.token heap.now }
+    ensures idle { IsIn idle.new.token heap.now }
+    ensures asking { IsIn asking.new.token heap.now }
+{
+    let passed = turned(heap, idle);
+    let waits = turned(heap, idle);
+    let last = turned(heap, asking);
+    [passed, waits, last]
+}
+
+#[test]
+fn a_pause_takes_all_domains_with_it(rt: HostRuntime) -> Result<(), Fail> {
+    let (heap, mut domains) = Heap::start(rt.alloc(), TWO_DOMAINS)?;
+    let second = domains.pop().ok_or("no domain")?;
+    let first = domains.pop().ok_or("no domain")?;
+    let mut asking = DomainRun::make(rt.alloc(), first, vec![in rt.alloc(); Command::Minor]?)?;
+    let mut idle = DomainRun::make(rt.alloc(), second, vec![in rt.alloc(); Command::Poll]?)?;
+    // The second ends its trace, and is idle.
+    assert_eq!(rt; turned(&heap, &mut idle), Some(Turned::Did));
+    assert_eq!(rt; turned(&heap, &mut idle), Some(Turned::Did));
+    assert_eq!(rt; turned(&heap, &mut idle), Some(Turned::Idle { ended: 1 }));
+    // The first asks, and arrives in phase 0.
+    assert_eq!(rt; turned(&heap, &mut asking), Some(Turned::Did));
+    assert_eq!(rt; turned(&heap, &mut asking), Some(Turned::Did));
+    assert_eq!(rt; turned(&heap, &mut asking), Some(Turned::Waiting(1)));
+    // The idle one arrives too, and all go through the phases 1 to 5.
+    assert_eq!(rt; turned(&heap, &mut idle), Some(Turned::Did));
+    assert_eq!(rt;
+        go_through(&heap, &mut idle, &mut asking),
+        [
+            Some(Turned::Did),
+            Some(Turned::Waiting(3)),
+            Some(Turned::Did)
+        ]
+    );
+    assert_eq!(rt;
+        go_through(&heap, &mut idle, &mut asking),
+        [
+            Some(Turned::Did),
+            Some(Turned::Waiting(5)),
+            Some(Turned::Did)
+        ]
+    );
+    assert_eq!(rt;
+        go_through(&heap, &mut idle, &mut asking),
+        [
+            Some(Turned::Did),
+            Some(Turned::Waiting(7)),
+            Some(Turned::Did)
+        ]
+    );
+    assert_eq!(rt;
+        go_through(&heap, &mut idle, &mut asking),
+        [
+            Some(Turned::Did),
+            Some(Turned::Waiting(9)),
+            Some(Turned::Did)
+        ]
+    );
+    assert_eq!(rt;
+        go_through(&heap, &mut idle, &mut asking),
+        [
+            Some(Turned::Did),
+            Some(Turned::Waiting(11)),
+            Some(Turned::Did)
+        ]
+    );
+    // In phase 6 all run. The wish was served, and the entry of `minor` is made.
+    assert_eq!(rt; turned(&heap, &mut idle), Some(Turned::Idle { ended: 1 }));
+    assert_eq!(rt; turned(&heap, &mut asking), Some(Turned::Did));
+    assert_eq!(rt; asking.domain().arrivals(), 6);
+    assert_eq!(rt; asking.replies(), [Reply::Done].as_slice());
+    assert_eq!(rt; turned(&heap, &mut asking), Some(Turned::Did));
+    assert_eq!(rt; turned(&heap, &mut asking), Some(Turned::Ended));
+    assert_eq!(rt; turned(&heap, &mut idle), Some(Turned::Ended));
+    Ok(())
+}

@@ -1,0 +1,170 @@
+//! Runs driven in threads.
+use domain_turns::DomainRun;
+use heap_model::command::Command;
+use heap_model::reply::Reply;
+use heap_rule::{Config, Heap};
+use outer_io::{Gate, NoGate};
+use std::sync::atomic::{AtomicU32, Ordering};
+use std::test::Fail;
+use thread_drive::drive;
+
+// How often a domain looks for the other one.
+const LOOKS: u32 = 1_000_000_000;
+
+const ONE: Config = Config {
+    domains: 1,
+    minor_words: 4096,
+    pools: 14,
+    finals: 0,
+    ephes: 0,
+};
+
+const TWO: Config = Config {
+    domains: 2,
+    minor_words: 4096,
+    pools: 27,
+    finals: 0,
+    ephes: 0,
+};
+
+// Whether each of two domains has come to its first command, and how many have seen the other there.
+#[derive(Drop)]
+struct Meeting {
+    first: AtomicU32,
+    second: AtomicU32,
+    met: AtomicU32,
+}
+
+impl Meeting {
+    // Raises the one flag, and looks for the other.
+    fn meet(&self, mine: &AtomicU32, other: &AtomicU32) {
+        mine.store(1, Ordering::SeqCst);
+        for _ in 0..LOOKS {
+            if other.load(Ordering::SeqCst) == 1 {
+                self.met.fetch_add(1, Ordering::SeqCst);
+                return;
+            }
+        }
+    }
+}
+
+impl Gate for Meeting {
+    fn before(&self, domain: u32, index: u32) {
+        match (domain, index) {
+            (0, 0) => self.meet(&self.first, &self.second),
+            (1, 0) => self.meet(&self.second, &self.first),
+            _ => (),
+        }
+    }
+
+    fn after(&self, _domain: u32, _index: u32) {}
+}
+
+#[test]
+fn two_calls_meet(rt: HostRuntime) -> Result<(), Fail> {
+    let (heap, mut domains) = Heap::start(rt.alloc(), TWO)?;
+    let second = domains.pop().ok_or("no domain")?;
+    let first = domains.pop().ok_or("no domain")?;
+    let first = DomainRun::make(rt.alloc(), first, vec![in rt.alloc(); Command::Poll]?)?;
+    let second = DomainRun::make(rt.alloc(), second, vec![in rt.alloc(); Command::Poll]?)?;
+    let gate = Meeting {
+        first: AtomicU32::new(0),
+        second: AtomicU32::new(0),
+        met: AtomicU32::new(0),
+    };
+    let runs = vec![in rt.alloc(); first, second]?;
+    let runs = drive(&rt, &heap, runs, &gate);
+    assert_eq!(rt; runs.len(), 2);
+    assert_eq!(rt; gate.met.load(Ordering::SeqCst), 2);
+    Ok(())
+}
+
+#[test]
+fn runs_come_back_in_order_with_their_replies(rt: HostRuntime) -> Result<(), Fail> {
+    let (heap, mut domains) = Heap::start(rt.alloc(), TWO)?;
+    let second = domains.pop().ok_or("no domain")?;
+    let first = domains.pop().ok_or("no domain")?;
+    let put = vec![in rt.alloc(); Command::PutInt { dst: 1, value: 7 }, Command::Poll]?;
+    let load = vec![in rt.alloc();
+        Command::Load {
+            dst: 1,
+            src: 0,
+            index: 16
+        },
+    ]?;
+    let first = DomainRun::make(rt.alloc(), first, put)?;
+    let second = DomainRun::make(rt.alloc(), second, load)?;
+    let runs = vec![in rt.alloc(); first, second]?;
+    let runs = drive(&rt, &heap, runs, &NoGate);
+    let all = [[Reply::Done, Reply::Done].as_slice(), &[Reply::BadIndex]];
+    assert_eq!(rt; runs.len(), 2);
+    for (d, run) in runs.iter().enumerate() {
+        assert_eq!(rt; run.domain().number() as usize, d);
+        assert!(rt; run.has_ended());
+        assert_eq!(rt; run.replies(), all[d]);
+    }
+    Ok(())
+}
+
+// The calls of a gate for one domain, as the digits of a number: 1 and 2 before and after the command 0, 3 and 4 for
+// the command 1, and so on.
+#[derive(Drop)]
+struct Heard {
+    calls: AtomicU32,
+}
+
+impl Heard {
+    fn hear(&self, call: u32) {
+        let heard = self.calls.load(Ordering::SeqCst);
+        self.calls.store(heard.wrapping_mul(10).wrapping_add(call), Ordering::SeqCst);
+    }
+}
+
+impl Gate for Heard {
+    fn before(&self, _domain: u32, index: u32) {
+        self.hear(index.wrapping_mul(2).wrapping_add(1));
+    }
+
+    fn after(&self, _domain: u32, index: u32) {
+        self.hear(index.wrapping_mul(2).wrapping_add(2));
+    }
+}
+
+// A command may take several turns, and the gate is told of it once.
+#[test]
+fn a_gate_hears_of_each_command(rt: HostRuntime) -> Result<(), Fail> {
+    let (heap, mut domains) = Heap::start(rt.alloc(), ONE)?;
+    let domain = domains.pop().ok_or("no domain")?;
+    let commands = vec![in rt.alloc(); Command::Poll, Command::Minor, Command::Poll]?;
+    let run = DomainRun::make(rt.alloc(), domain, commands)?;
+    let gate = Heard {
+        calls: AtomicU32::new(0),
+    };
+    let runs = drive(&rt, &heap, vec![in rt.alloc(); run]?, &gate);
+    assert_eq!(rt; runs.len(), 1);
+    assert_eq!(rt; gate.calls.load(Ordering::SeqCst), 123_456);
+    Ok(())
+}
+
+#[test]
+fn collections_stop_all_domains(rt: HostRuntime) -> Result<(), Fail> {
+    let (heap, mut domains) = Heap::start(rt.alloc(), TWO)?;
+    let second = domains.pop().ok_or("no domain")?;
+    let first = domains.pop().ok_or("no domain")?;
+    let three = vec![in rt.alloc(); Command::Minor, Command::Minor, Command::Minor]?;
+    let put = vec![in rt.alloc(); Command::PutInt { dst: 1, value: 1 }]?;
+    let first = DomainRun::make(rt.alloc(), first, three)?;
+    let second = DomainRun::make(rt.alloc(), second, put)?;
+    let runs = drive(&rt, &heap, vec![in rt.alloc(); first, second]?, &NoGate);
+    let all = [
+        [Reply::Done, Reply::Done, Reply::Done].as_slice(),
+        &[Reply::Done],
+    ];
+    assert_eq!(rt; runs.len(), 2);
+    for (d, run) in runs.iter().enumerate() {
+        assert!(rt; run.has_ended());
+        assert_eq!(rt; run.replies(), all[d]);
+        assert_eq!(rt; run.domain().arrivals(), 18);
+    }
+    Ok(())
+}
