@@ -1,10 +1,11 @@
 //! One command on the shared heap.
 ghost use Rattle.std.specs.Prelude.{◌≡◌, ◌+◌, ◌^◌, ◌<◌, ◌≤◌, true};
 ghost use Rattle.heap_model.specs.declared.command.Command as model;
-ghost use Rattle.heap_model.specs.declared.command.Command.TheVariants.{Poll, Minor, Alloc, AllocMaj};
+ghost use Rattle.heap_model.specs.declared.command.Command.TheVariants.{Alloc, AllocMaj};
 ghost use Rattle.heap_model.specs.Commands.{is_allocation};
 ghost use Rattle.heap_model.specs.declared.entry.Entry.{Entry};
 ghost use Rattle.heap_rule.specs.Running.{Runs, Did, ChangesRegisters, own_entry};
+ghost use Rattle.steps_run.specs.Ticks.{is_quiet};
 ghost use Rattle.domain_turns.specs.Tries.{FitsHeap, Tried, RefusesFull, full_entry};
 
 use field_access::{copy, forget, load, put_int, store};
@@ -15,44 +16,26 @@ use minor_area::alloc_young;
 use size_pools::alloc_major;
 use steps_run::tick;
 
-fn poll_as(heap: &Heap, dom: &mut Domain) -> Reply
+fn quiet_as(heap: &Heap, dom: &mut Domain, _command: &Command) -> Reply
     ghost entry: { Entry }
-    requires entry { entry ≡ own_entry dom.old Poll }
+    requires entry { entry ≡ own_entry dom.old _command.now }
     requires runs { Runs heap.now dom.old }
-    ensures did { Did heap.now dom.old dom.new Poll result }
+    requires quiet { is_quiet _command.now ≡ true }
+    ensures did { Did heap.now dom.old dom.new _command.now result }
     ensures rest { ChangesRegisters dom.old dom.new }
 {
     tick(heap, dom, 0, &[]);
     Reply::Done
 }
 
-// Makes the entry of `poll`.
-fn poll(heap: &Heap, dom: &mut Domain) -> Reply
-    requires { Runs heap.now dom.old }
-    ensures did { Did heap.now dom.old dom.new Poll result }
-    ensures rest { ChangesRegisters dom.old dom.new }
-{
-    poll_as(heap, dom)
-}
-
-fn minor_as(heap: &Heap, dom: &mut Domain) -> Reply
-    ghost entry: { Entry }
-    requires entry { entry ≡ own_entry dom.old Minor }
+// Makes the entry of a command that changes nothing.
+fn quiet(heap: &Heap, dom: &mut Domain, command: &Command) -> Reply
     requires runs { Runs heap.now dom.old }
-    ensures did { Did heap.now dom.old dom.new Minor result }
+    requires quiet { is_quiet command.now ≡ true }
+    ensures did { Did heap.now dom.old dom.new command.now result }
     ensures rest { ChangesRegisters dom.old dom.new }
 {
-    tick(heap, dom, 0, &[]);
-    Reply::Done
-}
-
-// Makes the entry of `minor`.
-fn minor(heap: &Heap, dom: &mut Domain) -> Reply
-    requires { Runs heap.now dom.old }
-    ensures did { Did heap.now dom.old dom.new Minor result }
-    ensures rest { ChangesRegisters dom.old dom.new }
-{
-    minor_as(heap, dom)
+    quiet_as(heap, dom, command)
 }
 
 fn full_as(heap: &Heap, dom: &mut Domain, _command: &Command) -> Reply
@@ -125,8 +108,7 @@ pub(crate) fn try_command(heap: &Heap, dom: &mut Domain, command: &Command) -> R
         Command::Store { block, index, item } => store(heap, dom, block, index, item),
         Command::Alloc { dst, tag, fields } => alloc_in_area(heap, dom, dst, tag, fields),
         Command::AllocMaj { dst, tag, fields } => alloc_in_pools(heap, dom, dst, tag, fields),
-        Command::Poll => poll(heap, dom),
-        Command::Minor => minor(heap, dom),
+        Command::Poll | Command::Minor => quiet(heap, dom, command),
         _ => unreachable!(),
     }
 }

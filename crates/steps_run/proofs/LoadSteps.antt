@@ -86,7 +86,7 @@ module _ (k : Config) (s : Words) (r : Rule k s) (id : ℕ) (hist : List Entry) 
       subst (λ (m : ℕ). Enters k s r id hist x at acts (Command m (Store block i item) false) x.own.registers (Replied BadIndex)) (sym may.0) (enters_command k s r id hist x at acts now.graph (Store block i item) (may_begin k s r id hist x at acts) x.own.registers _ (theirs)
       (stand)
       (leaves_store_past now d block i item p.label p.tag p.fields p.held p.node (let l = p.size in omega arith)
-            (not_nothing r.account.live (value_at x.own.registers item) (register now d item) may.3 (stand.each item may.2))))
+      (not_nothing r.account.live (value_at x.own.registers item) (register now d item) may.3 (stand.each item may.2))))
   past_entry a _ may n tag b is past = absurd may
 
   -- and of one that looks into an ephemeron

@@ -134,8 +134,8 @@ field_stores k slots id word hist x a new block i item changes place may s r _ a
     let far : (z : DomainView) → Area k r.account.live z → Making k s.words z → Making k words z =
     (λ z area making. making_beside k s.words (f.address + 2 + i) new z (λ j fits same. live_word_far k r.account.live f.address (2 + i) f.place z f.lives inside area j fits (same ∙ (let h : f.address + 2 + i ≡ f.address + (2 + i) = omega arith in h))) making) in
     let o : EntersTo k s r id hist x at may.acts graph e regs (Replied Done) = enters_command k s r id hist x at may.acts graph (Store block i item) (may_begin k s r id hist x at may.acts) regs _ (domain_at now d).registers
-        (subst (λ (l : List Value). AllStand r.account.live l (domain_at now d).registers) (sym (ap registers_of may.same)) stand)
-        (leaves_store now d block i item f.place.label f.tag f.fields v f.value f.held f.node f.there refl (not_nothing r.account.live w v may.full (stand.each item may.from))) in
+    (subst (λ (l : List Value). AllStand r.account.live l (domain_at now d).registers) (sym (ap registers_of may.same)) stand)
+    (leaves_store now d block i item f.place.label f.tag f.fields v f.value f.held f.node f.there refl (not_nothing r.account.live w v may.full (stand.each item may.from))) in
     let rule : Rule k record { words = words; homes = s.homes; views = set s.views id (one k hist y) } = appends k s r id hist x at e y words r.account.live record {
       alone = o.alone;
       command = tt;

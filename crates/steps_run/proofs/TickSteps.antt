@@ -29,7 +29,7 @@ use Rattle.heap_rule.specs.Views.{one, Tells}
 use Rattle.heap_rule.specs.Raw.{MayStep}
 use Rattle.heap_rule.specs.Rule.{state_of, Rule}
 use Rattle.heap_rule.specs.Standing.{Acts}
-use Rattle.steps_run.specs.Ticks.{TickCommand, TickEntry, TickMay, command_answer, tick_answer, TickTold}
+use Rattle.steps_run.specs.Ticks.{is_quiet, TickCommand, TickEntry, TickMay, command_answer, tick_answer, TickTold}
 use Rattle.heap_rule.proofs.ChangeLemmas.{changed_only, registers_of}
 use Rattle.heap_rule.proofs.Values.{AllStand, stand_set, no_label, stands_nothing}
 use Rattle.heap_rule.proofs.Keeps.{Words, IsCommand, unmoved}
@@ -73,7 +73,7 @@ module _ (k : Config) (s : Words) (r : Rule k s) (id : ℕ) (hist : List Entry) 
       (leaves_put now d inside dst z)
   commands (Copy dst src) may = enters_command k s r id hist x at acts now.graph (Copy dst src) (may_begin k s r id hist x at acts) regs _ (set theirs dst (register now d src))
       (subst (λ (l : List Value). AllStand r.account.live l (set theirs dst (register now d src))) (sym (ap registers_of may.2))
-        (stand_set r.account.live x.own.registers theirs dst (value_at x.own.registers src) (register now d src) may.0 (stand.each src may.1) stand))
+      (stand_set r.account.live x.own.registers theirs dst (value_at x.own.registers src) (register now d src) may.0 (stand.each src may.1) stand))
       (leaves_copy now d inside dst src)
   commands (Forget dst) may = enters_command k s r id hist x at acts now.graph (Forget dst) (may_begin k s r id hist x at acts) regs _ (set theirs dst Nothing)
       (subst (λ (l : List Value). AllStand r.account.live l (set theirs dst Nothing)) (sym (ap registers_of may.1)) (stand_set r.account.live x.own.registers theirs dst NothingWord Nothing may.0 tt stand))
@@ -90,9 +90,9 @@ module _ (k : Config) (s : Words) (r : Rule k s) (id : ℕ) (hist : List Entry) 
   commands (Store block i item) may = enters_command k s r id hist x at acts now.graph (Store block i item) (may_begin k s r id hist x at acts) regs _ (theirs)
       (subst (λ (l : List Value). AllStand r.account.live l theirs) (sym (ap registers_of may.3)) stand)
       (⊎_elim
-        (λ (n : IsNoBlock (value_at x.own.registers block)). leaves_store_type now d block i item (no_label r.account.live (value_at x.own.registers block) (register now d block) n (stand.each block may.0)))
-        (λ (e : value_at x.own.registers item ≡ NothingWord). leaves_store_nothing now d block i item (stands_nothing r.account.live (register now d item) (subst (λ (v : Value). Stands r.account.live v (register now d item)) e (stand.each item may.1))))
-        may.2)
+      (λ (n : IsNoBlock (value_at x.own.registers block)). leaves_store_type now d block i item (no_label r.account.live (value_at x.own.registers block) (register now d block) n (stand.each block may.0)))
+      (λ (e : value_at x.own.registers item ≡ NothingWord). leaves_store_nothing now d block i item (stands_nothing r.account.live (register now d item) (subst (λ (v : Value). Stands r.account.live v (register now d item)) e (stand.each item may.1))))
+      may.2)
   commands _ may = absurd may
 
   entries : (e : Entry) → TickEntry x changes e → Enters k s r id hist x at acts e regs (tick_answer e)
@@ -126,3 +126,14 @@ ticks k slots id word hist x e changes may s r _ at _ =
 
 pub tick_may : (k : Config) (word : ℕ) (x : DomainView) (e : Entry) (changes : List Change) → TickMay k x changes e → MayStep k x word (λ n. n) (TickTold k e changes)
 tick_may k word x e changes may fits slots id h = ticks k slots id word h x e changes may
+
+-- a command that changes nothing may stand at a tick that has no changes, and is answered so
+pub quiet_may : (x : DomainView) (c : model_command.Command) → is_quiet c ≡ true → TickCommand x [] c
+quiet_may x Poll quiet = refl
+quiet_may x Minor quiet = refl
+quiet_may x _ quiet = cc
+
+pub quiet_answer : (c : model_command.Command) → is_quiet c ≡ true → command_answer c ≡ Done
+quiet_answer Poll quiet = refl
+quiet_answer Minor quiet = refl
+quiet_answer _ quiet = cc

@@ -1,5 +1,5 @@
 -- Ticks: the entries that the registers alone decide.
-use Rattle.std.specs.Prelude.{◌≡◌, ℕ, ◌<◌, ◌⊎◌, true, false, List, slice_set}
+use Rattle.std.specs.Prelude.{◌≡◌, ℕ, ◌<◌, ◌⊎◌, Bool, true, false, List, slice_set}
 use Rattle.heap_model.specs.declared.command.Command as model
 use Rattle.heap_model.specs.declared.command.Command.TheVariants.{PutInt, Copy, Forget, Load, Store, Poll, Minor}
 use Rattle.heap_model.specs.declared.entry.Entry.{Entry}
@@ -22,6 +22,12 @@ use Rattle.heap_rule.specs.Standing.{Acts, LeavesOwn, Entered}
 -- the changes make the registers these
 abbrev pub Makes : List Change → DomainView → List Value → Type 0
 Makes changes x registers = changed Nothing changes x.own ≡ record x.own { registers = registers }
+
+-- a command that changes nothing
+abbrev pub is_quiet : model.Command → Bool
+is_quiet Poll = true
+is_quiet Minor = true
+is_quiet _ = false
 
 -- a command that the registers alone decide, and what its changes do
 abbrev pub TickCommand : DomainView → List Change → model.Command → Type 0

@@ -1,4 +1,4 @@
-use Rattle.domain_turns.proofs.command.poll_as.Given as goal
+use Rattle.domain_turns.proofs.command.quiet_as.Given as goal
 
 abbrev pub ghost-tick : goal.ghost-tick
 ghost-tick g a = g.entry
