@@ -6,9 +6,9 @@ mod endless;
 #[cfg(test)]
 mod faults;
 #[cfg(test)]
-mod program;
-#[cfg(test)]
 mod pauses;
+#[cfg(test)]
+mod program;
 #[cfg(test)]
 mod race;
 #[cfg(test)]
