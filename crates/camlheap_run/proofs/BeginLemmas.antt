@@ -4,9 +4,9 @@ use Rattle.std.specs.Prelude.{Option, cond, not, ◌&&◌, nat_le, slice_get, sl
 use Rattle.std.proofs.lemmas.Bool.Decides.{nat_tests}
 use Rattle.std.specs.List.{AllByRecursion}
 use Rattle.heap_model.specs.declared.command.Command.{Command}
-use Rattle.heap_model.specs.Domains.{opening_domain, no_domain}
+use Rattle.heap_model.specs.Domains.{opening_domain, no_domain, fits_domains}
 use Rattle.heap_rule.specs.declared.config.Config.{Config}
-use Rattle.heap_rule.specs.Limits.{first_outside, fits_domains}
+use Rattle.heap_rule.specs.Limits.{sizes_in, first_outside, first_of}
 use Rattle.heap_rule.specs.Opening.{opening_token, opening_tokens}
 use Rattle.heap_rule.specs.Token.{SharedHeap}
 use Rattle.domain_turns.specs.Runs.{CanBegin}
@@ -63,5 +63,9 @@ first_fits false o e = cc
 at_least_one : (n : ℕ) → (nat_le 1 n && nat_le n 8) ≡ true → 0 < n
 at_least_one n fits = grind (arith, nat_tests)
 
+no_first : (o later : Option ℕ) → first_of o later ≡ None → o ≡ None
+no_first (Some n) later e = cc
+no_first None later e = refl
+
 pub some_domain : (k : Config) → first_outside k ≡ None → 0 < k.domains
-some_domain k within = at_least_one k.domains (first_fits (fits_domains k) _ within)
+some_domain k within = at_least_one k.domains (first_fits (fits_domains (sizes_in k)) _ (no_first _ _ within))
