@@ -10,7 +10,7 @@ use std::process::ExitCode;
 use std::{env, io};
 
 // The words behind the program's name.
-fn words_of<R: Env + AllocGlobal>(rt: &R, alloc: Global) -> io::Result<Vec<String>> {
+fn words_given<R: Env + AllocGlobal>(rt: &R, alloc: Global) -> io::Result<Vec<String>> {
     let mut words = Vec::new(alloc);
     for (place, word) in env::args(rt)?.enumerate() {
         if place > 0 {
@@ -21,7 +21,7 @@ fn words_of<R: Env + AllocGlobal>(rt: &R, alloc: Global) -> io::Result<Vec<Strin
 }
 
 fn main(rt: HostRuntime) -> ExitCode {
-    let status = match words_of(&rt, rt.alloc()) {
+    let status = match words_given(&rt, rt.alloc()) {
         Ok(words) => {
             let mut src = StdSource::make(rt.stdin());
             let mut out = StdSink::make(rt.stdout());

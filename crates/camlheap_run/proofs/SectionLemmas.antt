@@ -5,11 +5,11 @@ use Rattle.std.specs.List.{list_all}
 use Rattle.std.proofs.lemmas.List.{length-replicate}
 use Rattle.std.proofs.lemmas.Bool.Decides.{nat_tests}
 use Rattle.std.proofs.lemmas.Int.{ints}
+use Rattle.std.proofs.lemmas.Bool.{and_parts as both}
 use Rattle.heap_model.specs.declared.command.Command.{Command}
 use Rattle.heap_model.specs.declared.command.Command.TheVariants.{PutInt, Copy, Forget, Alloc, AllocMaj, Load, Store, Raw, Cas, Ephe, SetKey, UnsetKey, GetKey, CheckKey, SetData, UnsetData, GetData, CheckData, Finalise, FinaliseLast, Poll, Minor, Major, FullMajor, Spawn, Argument, PutResult, Join}
 use Rattle.heap_text.specs.declared.form.Operand.TheVariants.{Register, Tag, FieldCount, Index, Integer}
 use Rattle.heap_text.specs.Forms.{is_writable, fits}
-use Rattle.heap_text.proofs.DecimalLemmas.{both}
 use Rattle.heap_text.proofs.ScriptLemmas.{total-cons}
 use Rattle.domain_turns.specs.Tries.{FitsHeap}
 use Rattle.domain_turns.specs.Runs.{AllFit}

@@ -1,11 +1,12 @@
 -- The sizes that words ask for, and what a run at these sizes has done.
-use Rattle.std.proofs.Common.{◌≡◌, ℕ, Bool, true, false, cond, List, refl, ap, ◌∙◌, subst, Some, None}
-use Rattle.std.specs.Prelude.{Option, option_and_then, unwrap_or}
+use Rattle.std.proofs.Common.{◌≡◌, ℕ, cond, List, refl, ap, ◌∙◌, subst, Some, None}
+use Rattle.std.specs.Prelude.{Option, is_none, option_and_then, unwrap_or}
 use Rattle.heap_model.specs.declared.command.Command.{Command}
 use Rattle.heap_model.specs.declared.state.Sizes.{Sizes}
+use Rattle.heap_model.specs.Domains.{class_count, first_outside}
 use Rattle.heap_rule.specs.Ending.{Past}
 use Rattle.command_line.specs.declared.options.Given.{Given}
-use Rattle.command_line.specs.RunWords.{run_given, run_sizes, sizes_given, is_within_limits, if_within_limits}
+use Rattle.command_line.specs.RunWords.{run_given, run_sizes, sizes_given, if_within_limits}
 use Rattle.camlheap_run.specs.Words.{asked_sizes, default_sizes}
 use Rattle.camlheap_run.specs.Reading.{ReadsScript}
 use Rattle.camlheap_run.specs.Running.{AreRunSizes}
@@ -14,17 +15,17 @@ use Rattle.camlheap_run.specs.Outcome.{WritesRun, WritesFrontOfRun, RunsToEnd, S
 pub asked_is : (words : List (List ℕ)) (z : Sizes) → Some z ≡ run_sizes words → z ≡ asked_sizes words
 asked_is words z taken = ap (λ (o : Option Sizes). unwrap_or o default_sizes) taken
 
-within : (y z : Sizes) (b : Bool) → is_within_limits y ≡ b → y.classes ≡ 6 → Some z ≡ cond b (Some y) None → AreRunSizes z
-within y z true fits six taken =
+within : (y z : Sizes) (o : Option ℕ) → first_outside y ≡ o → y.classes ≡ class_count → Some z ≡ cond (is_none o) (Some y) None → AreRunSizes z
+within y z None fits six taken =
     let is : z ≡ y = cc in record {
-      limits = ap is_within_limits is ∙ fits;
+      limits = ap first_outside is ∙ fits;
       classes = ap (λ (s : Sizes). s.classes) is ∙ six;
     }
-within y z false fits six taken = cc
+within y z (Some k) outside six taken = cc
 
 given_sizes : (o : Option Given) (z : Sizes) → Some z ≡ option_and_then (λ g. if_within_limits (sizes_given g)) o → AreRunSizes z
 given_sizes None z taken = cc
-given_sizes (Some g) z taken = within (sizes_given g) z (is_within_limits (sizes_given g)) refl refl taken
+given_sizes (Some g) z taken = within (sizes_given g) z (first_outside (sizes_given g)) refl refl taken
 
 pub run_sizes_fit : (words : List (List ℕ)) (z : Sizes) → Some z ≡ run_sizes words → AreRunSizes z
 run_sizes_fit words z taken = given_sizes (run_given words) z taken

@@ -50,6 +50,11 @@ IsQuiet (Done ended) = ⊥
 IsQuiet (WriteFault ended) = ⊥
 IsQuiet _ = Unit {0}
 
+-- a write failed
+abbrev pub IsWriteFault : Status → Type 0
+IsWriteFault (WriteFault ended) = Unit {0}
+IsWriteFault _ = ⊥
+
 -- the run was done, or memory ran out before its first byte
 abbrev pub IsDoneOrMemory : Status → Type 0
 IsDoneOrMemory (Done ended) = Unit {0}

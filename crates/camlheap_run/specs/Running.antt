@@ -3,8 +3,8 @@ use Rattle.std.specs.Prelude.{◌≡◌, ◌<◌, ◌≤◌, true, false, List, 
 use Rattle.std.specs.List.{AllByRecursion}
 use Rattle.heap_model.specs.declared.command.Command.{Command}
 use Rattle.heap_model.specs.declared.state.Sizes.{Sizes}
+use Rattle.heap_model.specs.Domains.{class_count, first_outside}
 use Rattle.heap_model.specs.History.{Legal}
-use Rattle.command_line.specs.RunWords.{is_within_limits}
 use Rattle.heap_rule.specs.declared.config.Config.{Config}
 use Rattle.heap_rule.specs.Limits.{sizes_in}
 use Rattle.heap_rule.specs.Opening.{opening_tokens}
@@ -15,8 +15,8 @@ use Rattle.camlheap_run.specs.declared.begin.Begun.{Begun}
 
 -- sizes that the words of a run may ask for
 pub record AreRunSizes (z : Sizes) : Type 0 where
-  pub limits : is_within_limits z ≡ true
-  pub classes : z.classes ≡ 6
+  pub limits : first_outside z ≡ None
+  pub classes : z.classes ≡ class_count
 
 -- the commands of a domain: those of its section
 abbrev pub section_of : List (List Command) → Token → List Command

@@ -7,14 +7,14 @@ use Rattle.camlheap_run.specs.declared.status.Status.{Status}
 use Rattle.camlheap_run.specs.declared.status.Status.TheVariants.{Done, Usage, Script, ReadFault, WriteFault, Memory}
 
 -- the number with which the program ends
-abbrev pub number_of : Status → ℕ
-number_of (Done ended) = 0
-number_of Usage = 1
-number_of (Script NoMemory) = 5
-number_of (Script fault) = 2
-number_of ReadFault = 3
-number_of (WriteFault ended) = 4
-number_of Memory = 5
+abbrev pub exit_number : Status → ℕ
+exit_number (Done ended) = 0
+exit_number Usage = 1
+exit_number (Script NoMemory) = 5
+exit_number (Script fault) = 2
+exit_number ReadFault = 3
+exit_number (WriteFault ended) = 4
+exit_number Memory = 5
 
 -- what is said of a line of the script
 abbrev pub at_line : ℕ → List ℕ → List ℕ

@@ -1,5 +1,5 @@
 //! Reads the script of a source.
-ghost use Rattle.std.specs.Prelude.{◌≡◌, ◌≤◌, List, IfOk, IsErr, Err};
+ghost use Rattle.std.specs.Prelude.{◌≡◌, ◌<◌, ◌≤◌, List, IfOk, IsErr, Err};
 ghost use Rattle.outer_io.specs.Faults.{Rose};
 ghost use Rattle.heap_model.specs.declared.command.Command.{Command};
 ghost use Rattle.heap_text.specs.declared.fault.ScriptFault.{ScriptFault};
@@ -23,6 +23,7 @@ const MOST_READ: usize = 16_777_217;
 pub(crate) fn read_bytes<S: Source>(alloc: Global, src: &mut S) -> Result<Vec<u8>, ReadStop>
     ensures later { S.faults src.old ≤ S.faults src.new }
     ensures fault { result ≡ Err ReadStop.Fault → Rose (S.faults src.old) (S.faults src.new) }
+    ensures failed { S.faults src.old < S.faults src.new → result ≡ Err ReadStop.Fault }
     ensures bytes { IfOk result (λ v. AreRead (S.left src.old) (S.left src.new) v.items) }
 {
     let mut bytes = Vec::new(alloc);
@@ -69,6 +70,7 @@ pub(crate) fn script_of<S: Source>(
     requires { (1 ≤ domains) × (domains ≤ 8) }
     ensures later { S.faults src.old ≤ S.faults src.new }
     ensures fault { result ≡ Err NoScript.ReadFault → Rose (S.faults src.old) (S.faults src.new) }
+    ensures failed { S.faults src.old < S.faults src.new → result ≡ Err NoScript.ReadFault }
     ensures script { IfOk result (ReadsScript domains (S.left src.old) (S.left src.new)) }
     ensures refused { (f : ScriptFault) → result ≡ Err (NoScript.Refused f) → ReadsFault domains (S.left src.old) (S.left src.new) f }
 

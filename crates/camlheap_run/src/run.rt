@@ -1,10 +1,10 @@
 //! Runs a script, and writes what it prints.
-ghost use Rattle.std.specs.Prelude.{◌≡◌, ◌≤◌, Option};
+ghost use Rattle.std.specs.Prelude.{◌≡◌, ◌<◌, ◌≤◌, Option};
 ghost use Rattle.heap_rule.specs.Ending.{Past};
 ghost use Rattle.outer_io.specs.Faults.{Rose};
 ghost use Rattle.camlheap_run.specs.Reading.{IsSpelled};
 ghost use Rattle.camlheap_run.specs.Running.{AreRunSizes};
-ghost use Rattle.camlheap_run.specs.Outcome.{WritesRun, WritesFrontOfRun, IsRunAnswer};
+ghost use Rattle.camlheap_run.specs.Outcome.{WritesRun, WritesFrontOfRun, IsWriteFault, IsRunAnswer};
 
 use crate::Status;
 use crate::begin::{Begun, begin, config_of};
@@ -18,8 +18,8 @@ use std::sync::Wait;
 use std::thread::Threads;
 use thread_drive::drive;
 
-// Runs the sections of a script on one heap, each domain in a thread, and then writes them in order. All memory is
-// taken before the first command.
+// Runs the sections of a script on one heap, in threads, and then writes them in order. All memory is taken before the
+// first command.
 pub(crate) fn run<R: Threads + Wait + Sync, K: Sink, G: Gate + Sync>(
     rt: &R,
     alloc: Global,
@@ -34,6 +34,7 @@ pub(crate) fn run<R: Threads + Wait + Sync, K: Sink, G: Gate + Sync>(
     ensures done { (ended : Option Past) → result ≡ Status.Done ended → WritesRun sizes.now script.now ended (K.written out.old) (K.written out.new) }
     ensures cut { (ended : Option Past) → result ≡ Status.WriteFault ended → WritesFrontOfRun sizes.now script.now ended (K.written out.old) (K.written out.new) }
     ensures fault { (ended : Option Past) → result ≡ Status.WriteFault ended → Rose (K.faults out.old) (K.faults out.new) }
+    ensures failed { K.faults out.old < K.faults out.new → IsWriteFault result }
     ensures quiet { result ≡ Status.Memory → out.new ≡ out.old }
     ensures answers { IsRunAnswer result }
 {

@@ -1,6 +1,6 @@
 //! How a run of the program ended, as a number and as a line.
 ghost use Rattle.std.specs.Prelude.{◌≡◌, ◌≤◌, ◌+◌, ◌++◌, take, drop, length, decimal, codes};
-ghost use Rattle.camlheap_run.specs.Status.{number_of, line_of, fault_text};
+ghost use Rattle.camlheap_run.specs.Status.{exit_number, line_of, fault_text};
 ghost use Rattle.heap_model.specs.Output.{line};
 
 use heap_rule::Ended;
@@ -27,7 +27,7 @@ pub enum Status {
 
 /// The number with which the program ends.
 pub fn status_number(status: &Status) -> u8
-    ensures { result ≡ number_of status.now }
+    ensures { result ≡ exit_number status.now }
 {
     match status {
         Status::Done { .. } => 0,

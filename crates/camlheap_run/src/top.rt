@@ -1,12 +1,12 @@
 //! The top call: the words, reading, the script, running and writing, in this order.
-ghost use Rattle.std.specs.Prelude.{◌≡◌, ◌≢◌, ◌≤◌, List, Option, map, string_bytes};
+ghost use Rattle.std.specs.Prelude.{◌≡◌, ◌≢◌, ◌<◌, ◌≤◌, List, Option, map, string_bytes};
 ghost use Rattle.heap_model.specs.declared.command.Command.{Command};
 ghost use Rattle.heap_rule.specs.Ending.{Past};
 ghost use Rattle.heap_text.specs.declared.fault.ScriptFault.{ScriptFault};
 ghost use Rattle.outer_io.specs.Faults.{Rose};
 ghost use Rattle.camlheap_run.specs.Words.{AreRunWords, asked_sizes};
 ghost use Rattle.camlheap_run.specs.Reading.{ReadsFault, TellsScript, TellsFault};
-ghost use Rattle.camlheap_run.specs.Outcome.{RunsToEnd, StopsWriting, IsQuiet, IsEither, IsDoneOrMemory};
+ghost use Rattle.camlheap_run.specs.Outcome.{RunsToEnd, StopsWriting, IsQuiet, IsWriteFault, IsEither, IsDoneOrMemory};
 
 use crate::Status;
 use crate::reading::{NoScript, script_of};
@@ -17,13 +17,13 @@ use std::alloc::{AllocError, Global};
 use std::sync::Wait;
 use std::thread::Threads;
 
-/// Reads a script from the source, runs its sections on one shared heap, each domain in a thread of its own, and writes
-/// the replies to the sink: for each domain the line `domain d` and the lines of its replies.
+/// Reads a script from the source, runs its sections on one shared heap, in threads, and writes the replies to the
+/// sink: for each domain the line `domain d` and the lines of its replies.
 ///
 /// `words` are the words of the command line behind the program's name: `run`, and the options of
 /// [`words_fit`](command_line::words_fit). The refusals come in the order in which the
-/// work is done: the words, reading, the script, running, writing. Want of memory may come at any time before the
-/// first byte is written.
+/// work is done: the words, reading, the script, running, writing. A read or a write that failed isn't tried again.
+/// Want of memory may come at any time before the first byte is written.
 ///
 /// It waits for its threads, and so may wait without end: nothing is said of when they run. The clauses also leave
 /// free which allocations are answered `full`.
@@ -51,6 +51,10 @@ pub fn camlheap<R: Threads + Wait + Sync, S: Source, K: Sink, G: Gate + Sync>(
     ensures writes { K.faults out.old ≤ K.faults out.new }
     ensures read_fault { result ≡ Status.ReadFault → Rose (S.faults src.old) (S.faults src.new) }
     ensures write_fault { (ended : Option Past) → result ≡ Status.WriteFault ended → Rose (K.faults out.old) (K.faults out.new) }
+
+    // A read or a write that failed decides the answer: none is tried again.
+    ensures read_failed { S.faults src.old < S.faults src.new → result ≡ Status.ReadFault }
+    ensures write_failed { K.faults out.old < K.faults out.new → IsWriteFault result }
 
     // Where the source tells its bytes, they decide, unless a read or a write fails or memory runs out.
     ensures complete { (s : List (List Command)) → AreRunWords (map string_bytes words.now)

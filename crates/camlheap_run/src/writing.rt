@@ -1,8 +1,8 @@
 //! Hands the text of a run to a sink, line by line.
-ghost use Rattle.std.specs.Prelude.{◌≤◌, ◌++◌, length, flat_map, OnErr};
+ghost use Rattle.std.specs.Prelude.{◌++◌, length, flat_map};
 ghost use Rattle.heap_model.specs.Output.{line, reply_text, printed};
 ghost use Rattle.heap_text.specs.Spelling.{heading_text};
-ghost use Rattle.outer_io.specs.Faults.{Rose};
+ghost use Rattle.outer_io.specs.Faults.{HasCause};
 ghost use Rattle.camlheap_run.specs.Writing.{Writes, run_text};
 
 use domain_turns::DomainRun;
@@ -12,8 +12,7 @@ use outer_io::{Failed, Sink};
 
 // Hands a text to the sink, and again what a write leaves of it.
 fn write_all<K: Sink>(out: &mut K, text: &[u8]) -> Result<(), Failed>
-    ensures later { K.faults out.old ≤ K.faults out.new }
-    ensures fault { OnErr result (Rose (K.faults out.old) (K.faults out.new)) }
+    ensures cause { HasCause (K.faults out.old) (K.faults out.new) result }
     ensures bytes { Writes (K.written out.old) (K.written out.new) result text.now }
 {
     let mut at = 0;
@@ -26,8 +25,7 @@ fn write_all<K: Sink>(out: &mut K, text: &[u8]) -> Result<(), Failed>
 
 // Writes the heading of a domain.
 fn write_heading<K: Sink>(out: &mut K, domain: u32) -> Result<(), Failed>
-    ensures later { K.faults out.old ≤ K.faults out.new }
-    ensures fault { OnErr result (Rose (K.faults out.old) (K.faults out.new)) }
+    ensures cause { HasCause (K.faults out.old) (K.faults out.new) result }
     ensures bytes { Writes (K.written out.old) (K.written out.new) result (line (heading_text domain)) }
 {
     let mut text: Line = [0; 64];
@@ -37,8 +35,7 @@ fn write_heading<K: Sink>(out: &mut K, domain: u32) -> Result<(), Failed>
 
 // Writes the line of a reply.
 fn write_reply<K: Sink>(out: &mut K, reply: &Reply) -> Result<(), Failed>
-    ensures later { K.faults out.old ≤ K.faults out.new }
-    ensures fault { OnErr result (Rose (K.faults out.old) (K.faults out.new)) }
+    ensures cause { HasCause (K.faults out.old) (K.faults out.new) result }
     ensures bytes { Writes (K.written out.old) (K.written out.new) result (line (reply_text reply.now)) }
 {
     let mut text: Line = [0; 64];
@@ -48,8 +45,7 @@ fn write_reply<K: Sink>(out: &mut K, reply: &Reply) -> Result<(), Failed>
 
 // Writes the lines of replies, in order.
 fn write_replies<K: Sink>(out: &mut K, replies: &[Reply]) -> Result<(), Failed>
-    ensures later { K.faults out.old ≤ K.faults out.new }
-    ensures fault { OnErr result (Rose (K.faults out.old) (K.faults out.new)) }
+    ensures cause { HasCause (K.faults out.old) (K.faults out.new) result }
     ensures bytes { Writes (K.written out.old) (K.written out.new) result (printed replies.now) }
 {
     'replies: for reply in replies {
@@ -60,8 +56,7 @@ fn write_replies<K: Sink>(out: &mut K, replies: &[Reply]) -> Result<(), Failed>
 
 // Writes the section of a domain: its heading, and the lines of its replies.
 fn write_section<K: Sink>(out: &mut K, domain: u32, replies: &[Reply]) -> Result<(), Failed>
-    ensures later { K.faults out.old ≤ K.faults out.new }
-    ensures fault { OnErr result (Rose (K.faults out.old) (K.faults out.new)) }
+    ensures cause { HasCause (K.faults out.old) (K.faults out.new) result }
     ensures bytes { Writes (K.written out.old) (K.written out.new) result (line (heading_text domain) ++ printed replies.now) }
 {
     write_heading(out, domain)?;
@@ -70,8 +65,7 @@ fn write_section<K: Sink>(out: &mut K, domain: u32, replies: &[Reply]) -> Result
 
 // Writes the sections of runs, in order.
 pub(crate) fn write_runs<K: Sink>(out: &mut K, runs: &[DomainRun]) -> Result<(), Failed>
-    ensures later { K.faults out.old ≤ K.faults out.new }
-    ensures fault { OnErr result (Rose (K.faults out.old) (K.faults out.new)) }
+    ensures cause { HasCause (K.faults out.old) (K.faults out.new) result }
     ensures bytes { Writes (K.written out.old) (K.written out.new) result (flat_map run_text runs.now) }
 {
     'runs: for run in runs {

@@ -1,34 +1,33 @@
--- Reading a number by `parse`.
-use Rattle.std.proofs.Common.{rules, ◌≡◌, ℕ, ◌^◌, ◌<◌, true, List, arith, length}
-use Rattle.std.specs.Prelude.{Result, Err, None}
-use Rattle.std.specs.Char.{is_ascii_digit}
-use Rattle.std.specs.List.{list_all}
-use Rattle.std.specs.Str.Parse.{digits_value}
-use Rattle.std.proofs.lemmas.Grind.{common_steps}
-use Rattle.std.specs.Result.{OkIff}
-use Rattle.std.specs.Str.Parse.{ParsesUnsigned}
-use Rattle.command_line.specs.Numbers.{is_decimal, number_of}
-use Rattle.std.proofs.lemmas.Str.Parse.{IsNumeralModel, numerals_by_value, parse_digits}
+-- The number of an option is read from its decimal, and from no other text.
+use Rattle.std.proofs.Common.{◌≡◌, ℕ, ◌^◌, ◌<◌, Bool, true, false, refl, List, Some, None, decimal, ap, ◌∙◌, arith}
+use Rattle.std.specs.Prelude.{Option, nat_lt, option_and_then, if◌then◌else◌}
+use Rattle.std.proofs.lemmas.Bool.Decides.{nat_tests}
+use Rattle.decimals.specs.Natural.{natural}
+use Rattle.decimals.proofs.NaturalLemmas.{natural-decimal, natural_read}
+use Rattle.command_line.specs.Numbers.{if_small, option_number}
 
-pub own : IsNumeralModel (λ ds. list_all is_ascii_digit ds ≡ true) (digits_value 10)
-own = numerals_by_value _ (search rules)
+small_by : (b : Bool) (m n : ℕ) → nat_lt m (2 ^ 32) ≡ b → (if b then Some m else None) ≡ Some n → (m ≡ n) × (m < 2 ^ 32)
+small_by true m n t e = (cc, grind (arith, nat_tests))
+small_by false m n t e = cc
 
--- decimal text is digits alone, and not empty
-pub digits_of : (text : List ℕ) → is_decimal text ≡ true → list_all is_ascii_digit text ≡ true
-digits_of text d = grind (arith, common_steps)
+small_of : (o : Option ℕ) (n : ℕ) → option_and_then if_small o ≡ Some n → (o ≡ Some n) × (n < 2 ^ 32)
+small_of None n e = cc
+small_of (Some m) n e =
+    let p = small_by (nat_lt m (2 ^ 32)) m n refl e in
+    (ap Some p.0, omega (arith, p.0, p.1))
 
--- what `parse` gives of decimal digits
-pub parsed : {E : Type 0} (text : List ℕ) (r : Result ℕ E) → ParsesUnsigned 32 10 text r → is_decimal text ≡ true → OkIff r ((0 < length text) × (digits_value 10 text < 2 ^ 32)) (digits_value 10 text)
-parsed text r h d = parse_digits own 32 text r h (digits_of text d)
+-- what is read as a number is a natural number in decimal
+pub natural_of_number : (text : List ℕ) (n : ℕ) → option_number text ≡ Some n → (natural text ≡ Some n) × (n < 2 ^ 32)
+natural_of_number text n e = small_of (natural text) n e
 
--- decimal text is not empty
-pub some_digit : (text : List ℕ) → is_decimal text ≡ true → 0 < length text
-some_digit text d = grind (arith, common_steps)
+-- a text that is read as a number is its decimal
+pub number_read : (text : List ℕ) (n : ℕ) → option_number text ≡ Some n → (text ≡ decimal n) × (n < 2 ^ 32)
+number_read text n e =
+    let p = natural_of_number text n e in
+    (natural_read text n p.0 (omega (arith, p.1)), p.1)
 
--- decimal text that `parse` refuses is too large
-pub too_large : {E : Type 0} (text : List ℕ) (e : E) → ParsesUnsigned 32 10 text (Err e) → is_decimal text ≡ true → None ≡ number_of text
-too_large text e h d =
-    let some = some_digit text d in
-    let refused : ¬ ((0 < length text) × (digits_value 10 text < 2 ^ 32)) = parsed text (Err e) h d in
-    let large : ¬ (digits_value 10 text < 2 ^ 32) = λ small. refused (some, small) in
-    grind (arith, common_steps)
+-- and a number is read from its decimal
+pub number_again : (n : ℕ) → n < 2 ^ 32 → option_number (decimal n) ≡ Some n
+number_again n small =
+    let test : nat_lt n (2 ^ 32) ≡ true = grind (arith, nat_tests) in
+    ap (option_and_then if_small) (natural-decimal n (omega arith)) ∙ ap (λ (b : Bool). if b then Some n else None) test

@@ -10,11 +10,11 @@ use Rattle.command_line.specs.declared.options.Setting.{Setting}
 use Rattle.command_line.specs.declared.options.Setting.TheVariants.{Domains, Minor, Pools}
 use Rattle.command_line.specs.declared.options.Given.{Given}
 use Rattle.command_line.specs.declared.options.Read.{Read}
-use Rattle.command_line.specs.Numbers.{number_of}
+use Rattle.command_line.specs.Numbers.{option_number}
 use Rattle.command_line.specs.Options.{given_at, with_word, with_name, setting_named, given_by, nothing_read}
 use Rattle.command_line.specs.RunCommand.{run_app}
 use Rattle.command_line.specs.Spelled.{name_of}
-use Rattle.command_line.proofs.WalkLemmas.{run_rules, walk_at, Follows, some_of, some_map, if_new, gone, named_is, none_shown, decimal_of, follows_word, step_joined, step_value, not_hyphens, no_hyphen, one_word}
+use Rattle.command_line.proofs.WalkLemmas.{run_rules, walk_at, Follows, some_of, some_map, if_new, gone, named_is, none_shown, follows_word, step_joined, step_value, not_hyphens, number_plain, one_word}
 
 -- the pending option may be used
 abbrev Settles : Walk → Type 0
@@ -56,7 +56,7 @@ name_goes : (g : Given) (s : Setting) (v : Option Text) (next : Read) (w : Walk)
     → Passes w word × Ready next.waiting (walked run_rules [] w word)
 name_goes g s (Some text) next w word f settles long e =
     let new = if_new (given_at g s) _ next e in
-    let n = some_map _ (number_of text) next new.1 in
+    let n = some_map _ (option_number text) next new.1 in
     let here = subst Settles f.4 settles in
     let away = gone g s (settled_rows run_rules f.0 f.1) f.5 new.0 in
     let walk : walked run_rules [] w word ≡ _ = ap (λ (x : Walk). walked run_rules [] x word) f.4 ∙ step_joined s word text f.0 f.1 f.2 f.3 long in (
@@ -74,8 +74,8 @@ name_goes g s None next w word f settles long e =
 word_goes : (g : Given) (waiting : Option Setting) (next : Read) (w : Walk) (word : Text) → Follows g waiting w → Ready waiting w → with_word (record { given = g; waiting = waiting }) word ≡ Some next
     → Passes w word × Ready next.waiting (walked run_rules [] w word)
 word_goes g (Some s) next w word f ready e =
-    let n = some_map _ (number_of word) next e in
-    let plain = no_hyphen word (decimal_of word n.0 n.1) in
+    let n = some_map _ (option_number word) next e in
+    let plain = number_plain word n.0 n.1 in
     let away = gone g s f.0 f.4 f.5 in
     let walk : walked run_rules [] w word ≡ _ = ap (λ (x : Walk). walked run_rules [] x word) f.3 ∙ step_value s word n.0 f.0 f.1 f.2 n.1 in (
       subst (λ (x : Walk). Passes x word) (sym f.3) (value_passes s word f.0 f.1 f.2 plain (one_word word plain)),

@@ -1,9 +1,9 @@
 -- A parse of words that are taken finds the numbers that they give.
-use Rattle.std.proofs.Common.{◌≡◌, ◌∙◌, ℕ, Bool, true, false, List, [], ◌∷◌, ◌++◌, Option, Some, None, append-nil, refl, sym, ap, subst, arith}
+use Rattle.std.proofs.Common.{◌≡◌, ◌∙◌, ℕ, Bool, true, false, List, [], ◌∷◌, ◌++◌, Option, Some, None, append-nil, refl, sym, ap, subst}
 use Rattle.std.specs.Char.{is_ascii_digit}
+use Rattle.std.proofs.lemmas.Bool.{and_parts}
 use Rattle.std.proofs.lemmas.Bool.Decides.{Decides-eqb}
-use Rattle.std.proofs.lemmas.Grind.{common_steps}
-use Rattle.std.specs.Prelude.{◌==◌, ◌&&◌, option_and_then, option_map, is_some, bytes_eq, fold, if◌then◌else◌}
+use Rattle.std.specs.Prelude.{◌==◌, not, option_and_then, option_map, is_some, bytes_eq, fold, if◌then◌else◌}
 use Rattle.clap.specs.Lexer.{long_of, strip_byte}
 use Rattle.clap.specs.Walk.{Row, Rule, Text, Walk, Waiting, idle, option, first_of, has_row, settled_rows, walked, walk_from, nothing_held, arg_by_id, used_by_id, with_default, default_rows, reading_by, with_values, without, more_values}
 use Rattle.clap.specs.Simple.{built, matches_of}
@@ -15,11 +15,14 @@ use Rattle.command_line.specs.declared.options.Setting.{Setting}
 use Rattle.command_line.specs.declared.options.Setting.TheVariants.{Domains, Minor, Pools}
 use Rattle.command_line.specs.declared.options.Given.{Given}
 use Rattle.command_line.specs.declared.options.Read.{Read}
-use Rattle.command_line.specs.Numbers.{is_decimal, number_of}
+use Rattle.command_line.specs.Numbers.{option_number}
 use Rattle.command_line.specs.Options.{given_at, with_number, with_name, with_word, setting_named, given_by, nothing_read}
 use Rattle.command_line.specs.RunCommand.{run_app}
 use Rattle.command_line.specs.Spelled.{name_of}
 use Rattle.std.proofs.lemmas.Slice.Eq.{bytes_eq-Decides}
+use Rattle.decimals.specs.Natural.{is_natural}
+use Rattle.decimals.proofs.NaturalLemmas.{natural_is}
+use Rattle.command_line.proofs.NumberLemmas.{natural_of_number}
 use Rattle.command_line.proofs.RowLemmas.{at_row-missing, first_of-missing, first_of-added, first_of-other, has_row-other}
 
 -- the options as a parse has them
@@ -32,7 +35,7 @@ rule_for s = arg_by_id run_rules (name_of s)
 
 -- what is read of an option
 abbrev pub read_of : Setting → List Row → Option ℕ
-read_of s rows = option_and_then number_of (first_of (name_of s) rows)
+read_of s rows = option_and_then option_number (first_of (name_of s) rows)
 
 -- an option without a number has no row, and one with a number has it in its row
 abbrev pub Shows : Option ℕ → Setting → List Row → Type 0
@@ -43,7 +46,7 @@ abbrev pub AllShow : Given → List Row → Type 0
 AllShow g rows = (s : Setting) → Shows (given_at g s) s rows
 
 shows-read : (o : Option ℕ) (s : Setting) (rows : List Row) → Shows o s rows → read_of s rows ≡ o
-shows-read None s rows h = ap (option_and_then number_of) (first_of-missing (name_of s) rows h)
+shows-read None s rows h = ap (option_and_then option_number) (first_of-missing (name_of s) rows h)
 shows-read (Some n) s rows h = h
 
 -- a use of an option whose row isn't there adds its row at the end
@@ -62,17 +65,17 @@ use_adds Domains v rows h = with_values-new _ _ _ _ rows h
 use_adds Minor v rows h = with_values-new _ _ _ _ rows h
 use_adds Pools v rows h = with_values-new _ _ _ _ rows h
 
-shows-own : (s : Setting) (v : Text) (n : ℕ) (rows : List Row) → has_row (name_of s) rows ≡ false → number_of v ≡ Some n → read_of s (rows ++ row_for s v ∷ []) ≡ Some n
-shows-own Domains v n rows h e = ap (option_and_then number_of) (first_of-added (name_of Domains) rows _ h) ∙ e
-shows-own Minor v n rows h e = ap (option_and_then number_of) (first_of-added (name_of Minor) rows _ h) ∙ e
-shows-own Pools v n rows h e = ap (option_and_then number_of) (first_of-added (name_of Pools) rows _ h) ∙ e
+shows-own : (s : Setting) (v : Text) (n : ℕ) (rows : List Row) → has_row (name_of s) rows ≡ false → option_number v ≡ Some n → read_of s (rows ++ row_for s v ∷ []) ≡ Some n
+shows-own Domains v n rows h e = ap (option_and_then option_number) (first_of-added (name_of Domains) rows _ h) ∙ e
+shows-own Minor v n rows h e = ap (option_and_then option_number) (first_of-added (name_of Minor) rows _ h) ∙ e
+shows-own Pools v n rows h e = ap (option_and_then option_number) (first_of-added (name_of Pools) rows _ h) ∙ e
 
 shows-other : (o : Option ℕ) (t : Setting) (rows : List Row) (row : Row) → bytes_eq row.id (name_of t) ≡ false → Shows o t rows → Shows o t (rows ++ row ∷ [])
 shows-other None t rows row other h = has_row-other (name_of t) rows row other ∙ h
-shows-other (Some n) t rows row other h = ap (option_and_then number_of) (first_of-other (name_of t) rows row other) ∙ h
+shows-other (Some n) t rows row other h = ap (option_and_then option_number) (first_of-other (name_of t) rows row other) ∙ h
 
 -- the numbers with one more, and the rows with its row
-pub shows-more : (g : Given) (s : Setting) (v : Text) (n : ℕ) (rows : List Row) → AllShow g rows → has_row (name_of s) rows ≡ false → number_of v ≡ Some n
+pub shows-more : (g : Given) (s : Setting) (v : Text) (n : ℕ) (rows : List Row) → AllShow g rows → has_row (name_of s) rows ≡ false → option_number v ≡ Some n
     → AllShow (with_number g s n) (rows ++ row_for s v ∷ [])
 shows-more g Domains v n rows all gone e Domains = shows-own Domains v n rows gone e
 shows-more g Domains v n rows all gone e Minor = shows-other _ Minor rows _ refl (all Minor)
@@ -127,20 +130,19 @@ step_named Domains word pending rows skip position e = rw (not_hyphens word _ e,
 step_named Minor word pending rows skip position e = rw (not_hyphens word _ e, e) refl
 step_named Pools word pending rows skip position e = rw (not_hyphens word _ e, e) refl
 
--- a number does not begin with a hyphen
-pub no_hyphen : (word : Text) → is_decimal word ≡ true → strip_byte 45 word ≡ None
+first_digit : (x : ℕ) (xs : Text) → is_natural (x ∷ xs) ≡ true → is_ascii_digit x ≡ true
+first_digit x [] d = d
+first_digit x (y ∷ ys) d = (and_parts (is_ascii_digit x) _ (and_parts (not (x == 48)) _ d).1).0
+
+no_hyphen : (word : Text) → is_natural word ≡ true → strip_byte 45 word ≡ None
 no_hyphen [] d = refl
 no_hyphen (x ∷ xs) d =
-    let first : is_ascii_digit x ≡ true = grind (arith, common_steps) in
-    let other : (x == 45) ≡ false = not_true (x == 45) (λ same. let is : x ≡ 45 = (Decides-eqb x 45).0 same in let digit : is_ascii_digit 45 ≡ true = ap is_ascii_digit (sym is) ∙ first in cc) in
+    let other : (x == 45) ≡ false = not_true (x == 45) (λ same. let is : x ≡ 45 = (Decides-eqb x 45).0 same in let digit : is_ascii_digit 45 ≡ true = ap is_ascii_digit (sym is) ∙ first_digit x xs d in cc) in
     rw other refl
 
-decimal-if : (b : Bool) (d : Bool) (n m : ℕ) → (if b && d then Some m else None) ≡ Some n → b ≡ true
-decimal-if true d n m e = refl
-decimal-if false d n m e = cc
-
-pub decimal_of : (word : Text) (n : ℕ) → number_of word ≡ Some n → is_decimal word ≡ true
-decimal_of word n e = decimal-if (is_decimal word) _ n _ e
+-- a number does not begin with a hyphen
+pub number_plain : (word : Text) (n : ℕ) → option_number word ≡ Some n → strip_byte 45 word ≡ None
+number_plain word n e = no_hyphen word (natural_is word n (natural_of_number word n e).0)
 
 -- what begins with no hyphen is not two hyphens
 pub one_word : (word : Text) → strip_byte 45 word ≡ None → bytes_eq word (45 ∷ 45 ∷ []) ≡ false
@@ -153,10 +155,10 @@ value-step Domains word rows skip position plain other = rw (other, plain, plain
 value-step Minor word rows skip position plain other = rw (other, plain, plain) refl
 value-step Pools word rows skip position plain other = rw (other, plain, plain) refl
 
-pub step_value : (s : Setting) (word : Text) (n : ℕ) (rows : List Row) (skip position : ℕ) → number_of word ≡ Some n
+pub step_value : (s : Setting) (word : Text) (n : ℕ) (rows : List Row) (skip position : ℕ) → option_number word ≡ Some n
     → walked run_rules [] (walk_at (Some (name_of s, [])) rows skip (option (name_of s)) position) word ≡ walk_at (Some (name_of s, word ∷ [])) rows skip idle position
 step_value s word n rows skip position e =
-    let plain = no_hyphen word (decimal_of word n e) in
+    let plain = number_plain word n e in
     value-step s word rows skip position plain (one_word word plain)
 
 -- the walk follows what was read: each number given is shown by the rows, once the pending option is used
@@ -186,7 +188,7 @@ follows_name : (g : Given) (s : Setting) (v : Option Text) (next : Read) (w : Wa
     → with_name (record { given = g; waiting = None }) v s ≡ Some next → Follows next.given next.waiting (walked run_rules [] w word)
 follows_name g s (Some text) next w word f long e =
     let new = if_new (given_at g s) _ next e in
-    let n = some_map _ (number_of text) next new.1 in
+    let n = some_map _ (option_number text) next new.1 in
     let rows = settled_rows run_rules f.0 f.1 in
     let walk : walked run_rules [] w word ≡ walk_at None (used_by_id (rule_for s) (text ∷ []) rows) f.2 idle f.3 = ap (λ (x : Walk). walked run_rules [] x word) f.4 ∙ step_joined s word text f.0 f.1 f.2 f.3 long in
     let away = gone g s rows f.5 new.0 in
@@ -202,7 +204,7 @@ follows_name g s None next w word f long e =
 pub follows_word : (g : Given) (waiting : Option Setting) (next : Read) (w : Walk) (word : Text) → Follows g waiting w → with_word (record { given = g; waiting = waiting }) word ≡ Some next
     → Follows next.given next.waiting (walked run_rules [] w word)
 follows_word g (Some s) next w word f e =
-    let n = some_map _ (number_of word) next e in
+    let n = some_map _ (option_number word) next e in
     let walk : walked run_rules [] w word ≡ walk_at (Some (name_of s, word ∷ [])) f.0 f.1 idle f.2 = ap (λ (x : Walk). walked run_rules [] x word) f.3 ∙ step_value s word n.0 f.0 f.1 f.2 n.1 in
     let away = gone g s f.0 f.4 f.5 in
     let shows = subst (λ (rows : List Row). AllShow (with_number g s n.0) rows) (sym (use_adds s word f.0 away)) (shows-more g s word n.0 f.0 f.4 away n.1) in

@@ -5,7 +5,7 @@ use Rattle.command_line.specs.declared.options.Setting.{Setting}
 use Rattle.command_line.specs.declared.options.Setting.TheVariants.{Domains, Minor, Pools}
 use Rattle.command_line.specs.declared.options.Given.{Given}
 use Rattle.command_line.specs.declared.options.Read.{Read}
-use Rattle.command_line.specs.Numbers.{number_of}
+use Rattle.command_line.specs.Numbers.{option_number}
 
 -- the option with a name
 abbrev pub setting_named : List ℕ → Option Setting
@@ -35,7 +35,7 @@ settled r s n = record { given = with_number r.given s n; waiting = None }
 
 -- a text is an option's number
 abbrev pub with_text : Read → Setting → List ℕ → Option Read
-with_text r s text = option_map (settled r s) (number_of text)
+with_text r s text = option_map (settled r s) (option_number text)
 
 -- an option's name, with the text behind its `=` if there is one; each option is given once
 abbrev pub with_name : Read → Option (List ℕ) → Setting → Option Read

@@ -2,7 +2,7 @@
 use Rattle.std.specs.Prelude.{ℕ, true, List, Option, Some, option_and_then, codes}
 use Rattle.clap.specs.Words.{App, Rule, Text, first_value, found_of, new_app, new_rule, with_rule}
 use Rattle.clap.specs.declared.parser.matches.ArgMatches.{ArgMatches}
-use Rattle.command_line.specs.Numbers.{number_of}
+use Rattle.command_line.specs.Numbers.{option_number}
 
 -- an option with a long name
 abbrev pub option_rule : Text → Rule
@@ -17,4 +17,4 @@ run_app = with_rule (with_rule (with_rule (plain_app (new_app (codes "run"))) (o
 
 -- the number that a parse found for an option
 abbrev pub read_in : ArgMatches → List ℕ → Option ℕ
-read_in m name = option_and_then number_of (first_value (found_of m) name)
+read_in m name = option_and_then option_number (first_value (found_of m) name)

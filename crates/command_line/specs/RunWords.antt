@@ -1,7 +1,7 @@
 -- The words of `run`.
-use Rattle.std.specs.Prelude.{ℕ, ◌+◌, ◌*◌, ◌%◌, Bool, ◌&&◌, ◌==◌, nat_le, List, [], ◌∷◌, Option, Some, None, option_and_then, unwrap_or, codes, bytes_eq, if◌then◌else◌}
+use Rattle.std.specs.Prelude.{ℕ, List, [], ◌∷◌, Option, Some, None, is_none, option_and_then, unwrap_or, codes, bytes_eq, if◌then◌else◌}
 use Rattle.heap_model.specs.declared.state.Sizes.{Sizes}
-use Rattle.heap_model.specs.Domains.{sizes_of, reserve}
+use Rattle.heap_model.specs.Domains.{sizes_of, class_count, first_outside}
 use Rattle.command_line.specs.declared.options.Given.{Given}
 use Rattle.command_line.specs.Options.{given_by, nothing_read}
 
@@ -12,16 +12,11 @@ run_given (word ∷ words) = if bytes_eq word (codes "run") then given_by nothin
 
 -- the sizes of a run: what isn't given is 2 domains, 32768 minor words and 512 pools
 abbrev pub sizes_given : Given → Sizes
-sizes_given g = sizes_of (unwrap_or g.domains 2) (unwrap_or g.pools 512) (unwrap_or g.minor 32768) 6
+sizes_given g = sizes_of (unwrap_or g.domains 2) (unwrap_or g.pools 512) (unwrap_or g.minor 32768) class_count
 
--- whether the sizes of a run are within the limits of a heap
-abbrev pub is_within_limits : Sizes → Bool
-is_within_limits z = (nat_le 1 z.domains && nat_le z.domains 8)
-    && (nat_le 4096 z.minor_words && nat_le z.minor_words 65536 && z.minor_words % 4096 == 0)
-    && (nat_le (reserve z + z.classes * z.domains + 1) z.pools && nat_le z.pools 2048)
-
+-- sizes, where none of them is outside the limits of a heap
 abbrev pub if_within_limits : Sizes → Option Sizes
-if_within_limits z = if is_within_limits z then Some z else None
+if_within_limits z = if is_none (first_outside z) then Some z else None
 
 -- the sizes that the words of a run ask for, where the words are taken
 abbrev pub run_sizes : List (List ℕ) → Option Sizes

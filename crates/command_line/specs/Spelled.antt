@@ -1,11 +1,12 @@
 -- The words of a run as they are spelled: `run`, and then options, each with its number.
-use Rattle.std.specs.Prelude.{◌≡◌, ℕ, ◌<◌, ◌^◌, Bool, true, List, [], ◌∷◌, ◌++◌, None, codes, decimal, flat_map, if◌then◌else◌}
+use Rattle.std.specs.Prelude.{◌≡◌, ℕ, ◌<◌, ◌^◌, Bool, List, [], ◌∷◌, ◌++◌, None, codes, decimal, flat_map, if◌then◌else◌}
 use Rattle.heap_model.specs.declared.state.Sizes.{Sizes}
+use Rattle.heap_model.specs.Domains.{first_outside}
 use Rattle.command_line.specs.declared.options.Setting.{Setting}
 use Rattle.command_line.specs.declared.options.Setting.TheVariants.{Domains, Minor, Pools}
 use Rattle.command_line.specs.declared.options.Given.{Given}
 use Rattle.command_line.specs.Options.{given_at, with_number}
-use Rattle.command_line.specs.RunWords.{sizes_given, is_within_limits}
+use Rattle.command_line.specs.RunWords.{sizes_given}
 
 -- the name of an option
 abbrev pub name_of : Setting → List ℕ
@@ -20,8 +21,8 @@ pub record Choice : Type 0 where
   pub in_one : Bool
 
 -- its words: `--name=number` (61 is `=`), or `--name` and the number
-abbrev pub words_of : Choice → List (List ℕ)
-words_of c =
+abbrev pub choice_words : Choice → List (List ℕ)
+choice_words c =
     if c.in_one then (codes "--" ++ name_of c.setting ++ 61 ∷ decimal c.number) ∷ []
     else (codes "--" ++ name_of c.setting) ∷ decimal c.number ∷ []
 
@@ -33,7 +34,7 @@ Gives before (c ∷ cs) after = (given_at before c.setting ≡ None) × (c.numbe
 -- the words are `run` and options, which give these numbers
 pub record SpellsRun (words : List (List ℕ)) (given : Given) : Type 0 where
   pub choices : List Choice
-  pub words_are : words ≡ codes "run" ∷ flat_map words_of choices
+  pub words_are : words ≡ codes "run" ∷ flat_map choice_words choices
   pub gives : Gives (record { domains = None; minor = None; pools = None }) choices given
 
 -- the words are spelled so, and ask for these sizes, which are within the limits of a heap
@@ -41,4 +42,4 @@ pub record AsksFor (words : List (List ℕ)) (z : Sizes) : Type 0 where
   pub given : Given
   pub spells : SpellsRun words given
   pub sizes : z ≡ sizes_given given
-  pub limits : is_within_limits z ≡ true
+  pub limits : first_outside z ≡ None

@@ -1,17 +1,16 @@
 //! Which lists of words are taken.
 ghost use Rattle.std.specs.Prelude.{◌≡◌, ◌↔◌, IsTrue, IsSome, IfOk, IfErr, Some, drop, map, string_bytes, option_map};
 ghost use Rattle.command_line.specs.Options.{given_by, nothing_read, with_name, with_text, with_word};
-ghost use Rattle.command_line.specs.RunWords.{is_within_limits, run_sizes, sizes_given};
+ghost use Rattle.command_line.specs.RunWords.{run_sizes, sizes_given};
 ghost use Rattle.command_line.specs.Spelled.{AsksFor};
 ghost use Rattle.heap_model.specs.declared.state.Sizes.{Sizes};
-ghost use Rattle.heap_model.specs.Domains.{IsWithinLimits};
 
 use crate::long::long_option;
 use crate::number::number;
 use crate::options::{Given, Read, Setting, named_setting};
 use crate::parse::{given_in, matches_of, want_of_memory};
 use heap_model::state::Sizes;
-use size_classes::{CLASS_COUNT, POOL_WORDS, reserve};
+use size_classes::CLASS_COUNT;
 use std::alloc::{AllocError, Global};
 
 const DOMAINS: u32 = 2;
@@ -91,23 +90,6 @@ fn sizes(given: Given) -> Sizes
     }
 }
 
-// Whether sizes with six classes are within the limits of a heap.
-fn are_within_limits(sizes: &Sizes) -> bool
-    requires { sizes.now.classes ≡ 6 }
-    ensures { result ≡ is_within_limits sizes.now }
-{
-    let domains = sizes.domains;
-    if domains < 1 || domains > 8 {
-        return false;
-    }
-    let minor_words = sizes.minor_words;
-    if minor_words < POOL_WORDS || minor_words > 65536 || minor_words % POOL_WORDS != 0 {
-        return false;
-    }
-    let least_pools = reserve(domains, minor_words) + CLASS_COUNT as u32 * domains + 1;
-    least_pools <= sizes.pools && sizes.pools <= 2048
-}
-
 // Whether these are the words of a run.
 fn are_taken(words: &[String]) -> bool
     ensures { IsTrue result ↔ IsSome (run_sizes (map string_bytes words.now)) }
@@ -119,7 +101,7 @@ fn are_taken(words: &[String]) -> bool
         return false;
     }
     match given(rest) {
-        Some(given) => are_within_limits(&sizes(given)),
+        Some(given) => sizes(given).first_outside().is_none(),
         None => false,
     }
 }
@@ -160,77 +142,5 @@ pub fn read_words(alloc: Global, words: &[String]) -> Result<Option<Sizes>, Allo
     match matches_of(alloc, behind_first(words)) {
         Ok(matches) => Ok(Some(sizes(given_in(&matches)))),
         Err(error) => Err(want_of_memory(error)),
-    }
-}
-
-#[cfg(test)]
-mod tests {
-    use super::*;
-    use std::test::Fail;
-
-    // The words of a line, which single spaces part.
-    fn words(alloc: Global, line: &str) -> Result<Vec<String>, AllocError> {
-        let mut words = Vec::new(alloc);
-        for word in line.split(' ') {
-            words.push(String::from_str(alloc, word)?)?;
-        }
-        Ok(words)
-    }
-
-    // Words of a run, and the domains, minor words and pools that they ask for.
-    const TAKEN: [(&str, (u32, u32, u32)); 6] = [
-        ("run", (2, 32768, 512)),
-        ("run --domains 1", (1, 32768, 512)),
-        (
-            "run --domains=8 --minor=65536 --pools=2048",
-            (8, 65536, 2048),
-        ),
-        ("run --pools 14 --minor 4096 --domains 1", (1, 4096, 14)),
-        ("run --minor=4096", (2, 4096, 512)),
-        ("run --minor 4096 --pools=27", (2, 4096, 27)),
-    ];
-
-    const REFUSED: [&str; 20] = [
-        "",
-        "run x",
-        "runs",
-        "run --domains 9",
-        "run --domains 0",
-        "run --domains",
-        "run --domains=",
-        "run --domains 01",
-        "run --domains +1",
-        "run --domains -1",
-        "run --domains 4294967297",
-        "run --domains 99999999999999999999999",
-        "run --domains 1 --minor 4096 --pools 13",
-        "run --minor 5000",
-        "run --minor 4096 --pools 26",
-        "run --pools 14 --pools 14",
-        "run --pools=600 --pools 600",
-        "run --help",
-        "run --",
-        "run --domain 1",
-    ];
-
-    #[test]
-    fn lines_are_taken_or_refused(rt: HostRuntime) -> Result<(), Fail> {
-        for (line, asked) in &TAKEN {
-            let words = words(rt.alloc(), line)?;
-            assert!(rt; words_fit(&words), "{line}");
-            let sizes = read_words(rt.alloc(), &words)?.ok_or("refused")?;
-            assert_eq!(rt;
-                (sizes.domains, sizes.minor_words, sizes.pools),
-                *asked,
-                "{line}"
-            );
-        }
-        for line in &REFUSED {
-            let words = words(rt.alloc(), line)?;
-            assert!(rt; !words_fit(&words), "{line}");
-            assert!(rt; read_words(rt.alloc(), &words)?.is_none(), "{line}");
-        }
-        assert!(rt; !words_fit(&[]));
-        Ok(())
     }
 }

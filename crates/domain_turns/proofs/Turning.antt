@@ -14,7 +14,7 @@ use Rattle.heap_rule.specs.Token.{Token, SharedHeap}
 use Rattle.heap_model.specs.declared.command.Command.TheVariants.{PutInt, Alloc, AllocMaj}
 use Rattle.heap_rule.specs.declared.view.Own.{Own}
 use Rattle.heap_rule.specs.declared.view.DomainView.{DomainView}
-use Rattle.domain_turns.specs.Tries.{Enters, Stands, Tried, is_refused, labels_given}
+use Rattle.domain_turns.specs.Tries.{Enters, Stands, Tried, labels_given}
 use Rattle.heap_rule.specs.declared.phase.Kind.{Kind}
 use Rattle.domain_turns.specs.Runs.{StandsAt, RunView, IsRun, HasEnded, is_end_of}
 use Rattle.std.specs.List.{list_any}
@@ -35,9 +35,10 @@ own d c full = ap (λ (b : Bool). cond b (c ∷ []) []) (eq-eqb d d refl)
 
 -- the entry that stands
 pub stood : (h : SharedHeap) (old new : Token) (c : model.Command) (r : Reply) → Stands h old new c r → (full : Bool) × Enters old new c full r
+stood h old new (Alloc dst tag fields) r s = ⊎_elim (λ a. (false, a.0)) (λ b. (true, b.0)) s
 stood h old new (AllocMaj dst tag fields) r s = ⊎_elim (λ a. (false, a)) (λ b. (true, b.0)) s
 stood h old new (PutInt dst z) r s = (false, s)
-stood h old new c r s = (is_refused old c, s)
+stood h old new c r s = (false, s)
 
 labels_few : (c : model.Command) (r : Reply) → labels_given c r ≤ 1
 labels_few (Alloc dst tag fields) (Block l) = omega arith

@@ -21,6 +21,7 @@ use Rattle.heap_rule.specs.Limits.{sizes_in}
 use Rattle.heap_rule.specs.Running.{Runs, Stays}
 use Rattle.steps_pools.specs.Takes.{NoneFree}
 use Rattle.heap_rule.specs.Token.{Token, SharedHeap}
+use Rattle.minor_area.specs.Area.{HasRoom, IsOpen, IsShut}
 use Rattle.size_pools.specs.Taken.{Reserved}
 
 -- the commands that run on the shared heap so far, with their numbers in their ranges
@@ -40,15 +41,10 @@ FitsHeap _ = ⊥
 abbrev pub full_entry : Token → Command → Entry
 full_entry t c = CommandOf t.view.own.number c true
 
--- a young allocation for whose block the domain's minor area has no room
-abbrev pub is_refused : Token → Command → Bool
-is_refused t (Alloc dst tag fields) = nat_lt t.config.minor_words (t.view.own.used + class_words (fields + 2))
-is_refused t _ = false
-
--- how many words of the domain's minor area a command takes: those of the block of an allocation that isn't refused
-abbrev pub words_taken : Token → Command → ℕ
-words_taken t (Alloc dst tag fields) = if is_refused t (Alloc dst tag fields) then 0 else class_words (fields + 2)
-words_taken t _ = 0
+-- how many words of the domain's minor area a command takes: those of the block of an allocation that isn't answered `full`
+abbrev pub words_taken : Command → Reply → ℕ
+words_taken (Alloc dst tag fields) (Block l) = class_words (fields + 2)
+words_taken _ _ = 0
 
 -- the entry of a command stands, answered `full` or not
 abbrev pub Enters : Token → Token → Command → Bool → Reply → Type 0
@@ -60,10 +56,20 @@ pub record HasNoPool (k : Config) (fields : ℕ) (y : DomainView) : Type 0 where
   pub reserved : Reserved k free y
   pub none_free : (class : ℕ) → IsLeastFor SIZES (fields + 2) class → NoneFree k y class
 
--- the entry that stands: `full` for a young block exactly where the minor area has no room, and for one of the major heap exactly where no pool is to be had
+-- the minor area has room for a block of so many fields, and as many pools were found free as promotion may need
+pub record HasSpace (h : SharedHeap) (old new : Token) (fields : ℕ) : Type 0 where
+  pub room : HasRoom h.config old.view fields
+  pub enough : IsOpen h.config new.view
+
+-- or it has no room, or fewer pools were found free
+abbrev pub HasNoSpace : SharedHeap → Token → Token → ℕ → Type 0
+HasNoSpace h old new fields = (h.config.minor_words < old.view.own.used + class_words (fields + 2)) ⊎ (HasRoom h.config old.view fields × IsShut h.config new.view)
+
+-- the entry that stands: `full` for a young block exactly where the minor area has no room or too few pools are free, and for one of the major heap exactly where no pool is to be had
 abbrev pub Stands : SharedHeap → Token → Token → Command → Reply → Type 0
+Stands h old new (Alloc dst tag fields) r = (Enters old new (Alloc dst tag fields) false r × HasSpace h old new fields) ⊎ (Enters old new (Alloc dst tag fields) true r × HasNoSpace h old new fields)
 Stands h old new (AllocMaj dst tag fields) r = Enters old new (AllocMaj dst tag fields) false r ⊎ (Enters old new (AllocMaj dst tag fields) true r × HasNoPool h.config fields new.view)
-Stands h old new c r = Enters old new c (is_refused old c) r
+Stands h old new c r = Enters old new c false r
 
 -- the entry of the command was made with the reply `full`
 pub record RefusesFull (h : SharedHeap) (old new : Token) (c : Command) (r : Reply) : Type 0 where
@@ -88,7 +94,7 @@ looked_by _ old new = old.looked
 abbrev pub own_after : Token → Token → Command → Reply → Own
 own_after old new c r = record old.view.own {
   registers = new.view.own.registers;
-  used = old.view.own.used + words_taken old c;
+  used = old.view.own.used + words_taken c r;
   serial = old.view.own.serial + labels_given c r;
   looked = looked_by c old.view.own new.view.own;
 }

@@ -1,7 +1,7 @@
 //! One command on the shared heap.
 ghost use Rattle.std.specs.Prelude.{◌≡◌, ◌+◌, ◌^◌, ◌<◌, ◌≤◌, true};
 ghost use Rattle.heap_model.specs.declared.command.Command as model;
-ghost use Rattle.heap_model.specs.declared.command.Command.TheVariants.{Poll, Minor, AllocMaj};
+ghost use Rattle.heap_model.specs.declared.command.Command.TheVariants.{Poll, Minor, Alloc, AllocMaj};
 ghost use Rattle.heap_model.specs.Commands.{is_allocation};
 ghost use Rattle.heap_model.specs.declared.entry.Entry.{Entry};
 ghost use Rattle.heap_rule.specs.Running.{Runs, Did, ChangesRegisters, own_entry};
@@ -92,8 +92,25 @@ fn alloc_in_pools(heap: &Heap, dom: &mut Domain, dst: u8, tag: u8, fields: u16) 
     }
 }
 
+// Allocates in the minor area, or makes the entry of `full` where it has no room, or where too few
+// pools are free.
+fn alloc_in_area(heap: &Heap, dom: &mut Domain, dst: u8, tag: u8, fields: u16) -> Reply
+    requires runs { Runs heap.now dom.old }
+    requires dst { dst < 16 }
+    requires tag { tag ≤ 245 }
+    requires fields { (1 ≤ fields) × (fields ≤ 126) }
+    requires serial { dom.old.view.own.serial + 1 < 2 ^ 32 }
+    ensures { Tried heap.now dom.old dom.new (Alloc dst tag fields) result }
+{
+    match alloc_young(heap, dom, dst, tag, fields) {
+        Ok(label) => Reply::Block(label),
+        Err(_need) => full(heap, dom, &Command::Alloc { dst, tag, fields }),
+    }
+}
+
 // Makes the entry of a command. A young allocation is answered `full` exactly where the minor area has
-// no room for its block, and one in the major heap exactly where no pool is to be had.
+// no room for its block or fewer pools are free than promotion may need, and one in the major heap
+// exactly where no pool is to be had.
 pub(crate) fn try_command(heap: &Heap, dom: &mut Domain, command: &Command) -> Reply
     requires runs { Runs heap.now dom.old }
     requires fits { FitsHeap command.now }
@@ -106,10 +123,7 @@ pub(crate) fn try_command(heap: &Heap, dom: &mut Domain, command: &Command) -> R
         Command::Forget { dst } => forget(heap, dom, dst),
         Command::Load { dst, src, index } => load(heap, dom, dst, src, index),
         Command::Store { block, index, item } => store(heap, dom, block, index, item),
-        Command::Alloc { dst, tag, fields } => match alloc_young(heap, dom, dst, tag, fields) {
-            Ok(label) => Reply::Block(label),
-            Err(_) => full(heap, dom, command),
-        },
+        Command::Alloc { dst, tag, fields } => alloc_in_area(heap, dom, dst, tag, fields),
         Command::AllocMaj { dst, tag, fields } => alloc_in_pools(heap, dom, dst, tag, fields),
         Command::Poll => poll(heap, dom),
         Command::Minor => minor(heap, dom),

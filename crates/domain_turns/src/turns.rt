@@ -209,8 +209,8 @@ fn turn_on(heap: &Heap, run: &mut DomainRun) -> Turned
 
 /// Takes a domain one step further: tries its next command, does its share of the phase that has
 /// begun, arrives, asks for a pause, or ends its trace. It arrives at most once, and never waits. An
-/// allocation is answered `full` exactly where the minor area has no room for its block, or no pool is
-/// to be had for a block of the major heap.
+/// allocation is answered `full` exactly where the minor area has no room for its block or fewer pools
+/// are free than promotion may need, or where no pool is to be had for a block of the major heap.
 pub fn turn(heap: &Heap, run: &mut DomainRun) -> Turned
     requires here { IsIn run.old.token heap.now }
     requires few { run.old.token.view.own.arrivals < 2 ^ 60 }

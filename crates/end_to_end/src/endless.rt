@@ -1,7 +1,7 @@
 //! A source without an end.
 ghost use Rattle.std.specs.Prelude.{None};
 
-use crate::outcome::words_of;
+use crate::program::words_in;
 use camlheap_run::{Status, camlheap};
 use heap_text::ScriptFault;
 use outer_io::{Failed, MemSink, NoGate, Source};
@@ -32,7 +32,7 @@ impl Source for Endless {
 #[test]
 fn reading_stops_one_byte_past_the_limit(rt: HostRuntime) -> Result<(), Fail> {
     let alloc = rt.alloc();
-    let words = words_of(alloc, "run --domains 1")?;
+    let words = words_in(alloc, "run --domains 1")?;
     let mut source = Endless {
         given: 0,
         largest: 0,

@@ -1,12 +1,12 @@
 //! Reads and writes that fail or are short.
-use crate::outcome::{PLAIN, PLAIN_PRINTS, outcome_of, sink, source};
+use crate::program::{PLAIN, PLAIN_PRINTS, run_program, sink, source};
 use std::test::Fail;
 
 #[test]
 fn each_read_fails_in_turn(rt: HostRuntime) -> Result<(), Fail> {
     for failing in 1..=5u32 {
         let alloc = rt.alloc();
-        let given = outcome_of(
+        let given = run_program(
             &rt,
             alloc,
             "run --domains 1",
@@ -35,7 +35,7 @@ fn each_write_fails_in_turn(rt: HostRuntime) -> Result<(), Fail> {
         (4096, 5, "domain 0\nblk 0:1\nok\nok\n"),
     ] {
         let alloc = rt.alloc();
-        let given = outcome_of(
+        let given = run_program(
             &rt,
             alloc,
             "run --domains 1",
@@ -58,7 +58,7 @@ fn the_size_of_pieces_changes_nothing(rt: HostRuntime) -> Result<(), Fail> {
     for piece in [1usize, 2, 3, 7, 59, 4096] {
         let piece = piece.max(1);
         let alloc = rt.alloc();
-        let given = outcome_of(
+        let given = run_program(
             &rt,
             alloc,
             "run --domains 1",

@@ -6,7 +6,7 @@ mod endless;
 #[cfg(test)]
 mod faults;
 #[cfg(test)]
-mod outcome;
+mod program;
 #[cfg(test)]
 mod pauses;
 #[cfg(test)]

@@ -1,5 +1,5 @@
 //! Domains that race for a field of the shared block.
-use crate::outcome::{outcome_of, outcome_with, sink, source};
+use crate::program::{run_plain, run_with_gate, sink, source};
 use outer_io::Gate;
 use std::alloc::{AllocError, Global};
 use std::sync::Wait;
@@ -24,13 +24,7 @@ const BOTH_20: &str = "domain 0\nok\nok\nint 20\ndomain 1\nok\nok\nint 20\n";
 fn a_race_prints_what_a_history_allows(rt: HostRuntime) -> Result<(), Fail> {
     for turn in 0..200u32 {
         let alloc = rt.alloc();
-        let given = outcome_of(
-            &rt,
-            alloc,
-            WORDS,
-            source(alloc, RACE, 4096, &[])?,
-            sink(alloc, 4096, &[])?,
-        )?;
+        let given = run_plain(&rt, alloc, WORDS, RACE)?;
         assert_eq!(rt; given.number, 0, "run {turn}");
         let allowed = [BOTH_10, EACH_ITS_OWN, BOTH_20]
             .iter()
@@ -88,7 +82,7 @@ fn prints_in_order<R: Threads + Wait + Sync>(
     };
     let source = source(alloc, script, 4096, &[])?;
     let sink = sink(alloc, 4096, &[])?;
-    let given = outcome_with(rt, alloc, WORDS, source, sink, &gate)?;
+    let given = run_with_gate(rt, alloc, WORDS, source, sink, &gate)?;
     Ok(given.written)
 }
 

@@ -1,7 +1,8 @@
 //! Loads and stores of the fields of plain blocks.
-ghost use Rattle.std.specs.Prelude.{◌≡◌, ◌<◌, ℕ, Option};
+ghost use Rattle.std.specs.Prelude.{◌≡◌, ◌≢◌, ◌<◌, ℕ, Option};
 ghost use Rattle.heap_model.specs.declared.command.Command.TheVariants.{Load, Store};
 ghost use Rattle.heap_model.specs.declared.entry.Entry.{Entry};
+ghost use Rattle.heap_model.specs.declared.reply.Reply.TheVariants.{Empty};
 ghost use Rattle.heap_model.specs.declared.graph.Value as model;
 ghost use Rattle.heap_model.specs.declared.label.Label as labels;
 ghost use Rattle.heap_model.specs.Commands.{shown};
@@ -10,12 +11,10 @@ ghost use Rattle.heap_model.specs.Fronts.{Shape};
 ghost use Rattle.heap_words.specs.Heads.{IsPackableHead};
 ghost use Rattle.heap_words.specs.Labels.{IsPackableLabel, label_word};
 ghost use Rattle.heap_rule.specs.Changes.{value_at};
-ghost use Rattle.heap_rule.specs.Places.{Shows};
-ghost use Rattle.heap_rule.specs.Places.{IsHeadOf};
+ghost use Rattle.heap_rule.specs.Places.{Shows, IsHeadOf};
 ghost use Rattle.heap_rule.specs.Rule.{state_of};
-ghost use Rattle.heap_rule.specs.Running.{Runs, Did, ChangesRegisters};
+ghost use Rattle.heap_rule.specs.Running.{Runs, Did, ChangesRegisters, own_entry};
 ghost use Rattle.heap_rule.specs.Token.{Holds, IsIn};
-ghost use Rattle.heap_rule.specs.Running.{own_entry};
 ghost use Rattle.field_access.specs.Registers.{LoadsInto};
 ghost use Rattle.field_access.specs.Shapes.{size_of};
 
@@ -97,13 +96,14 @@ fn load_as(heap: &Heap, dom: &mut Domain, dst: u8, src: u8, index: u16) -> Reply
 /// Loads a field of the plain block in a register into another. The reply is `type` where register
 /// `src` holds no plain block, and else `bounds` where the block has no such field: then the
 /// registers stay as they are. Else register `dst` holds what the field does, and the reply shows
-/// it: an integer, the label of a block, or nothing. Registers are below 16, and the domain's trace
-/// hasn't ended.
+/// it: an integer or the label of a block, since no field holds nothing. Registers are below 16, and
+/// the domain's trace hasn't ended.
 pub fn load(heap: &Heap, dom: &mut Domain, dst: u8, src: u8, index: u16) -> Reply
     requires runs { Runs heap.now dom.old }
     requires dst { dst < 16 }
     requires src { src < 16 }
     ensures did { Did heap.now dom.old dom.new (Load dst src index) result }
+    ensures full { result ≢ Empty }
     ensures rest { ChangesRegisters dom.old dom.new }
     ensures registers { LoadsInto heap.now.config dst result dom.old.view.own.registers dom.new.view.own.registers }
     ensures holds { Holds heap.now.config dom.new.view.own.registers }

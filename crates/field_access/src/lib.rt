@@ -9,6 +9,3 @@ mod registers;
 
 pub use fields::{load, store};
 pub use registers::{copy, forget, put_int};
-
-#[cfg(test)]
-mod tests;

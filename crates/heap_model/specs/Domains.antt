@@ -1,4 +1,4 @@
--- The state of the heap: reading and changing the parts of one domain, and the opening state.
+-- The state of the heap: reading and changing the parts of one domain, the opening state, and the limits of the sizes.
 use Rattle.std.specs.Prelude.{◌≡◌, ℕ, ◌+◌, ◌*◌, ◌/◌, ◌%◌, ◌<◌, ◌≤◌, ◌⊎◌, Bool, true, false, not, ◌&&◌, ◌==◌, nat_le, if◌then◌else◌, List, [], ◌∷◌, ◌++◌, map, length, flat_map, filter_map, replicate, slice_index_or, slice_set, pos, Option, Some, None}
 use Rattle.heap_model.specs.declared.label.Label.{Label}
 use Rattle.heap_model.specs.declared.graph.Value.{Value}

@@ -49,6 +49,14 @@ shape_of (Ephe keys datum) = EpheShape (length keys)
 abbrev pub Grew : Graph → Graph → Type 0
 Grew g h = (l : Label) (n : Node) → node_at g l ≡ Some n → (m : Node) × (node_at h l ≡ Some m) × (shape_of m ≡ shape_of n)
 
+-- register r of domain d holds a block of this shape
+pub record HoldsShape (s : State) (d r : ℕ) (shape : Shape) : Type 0 where
+  pub label : Label
+  pub node : Node
+  pub held : register s d r ≡ Block label
+  pub there : node_at s.graph label ≡ Some node
+  pub shape_is : shape_of node ≡ shape
+
 -- register r of domain d holds a plain block with so many fields
 pub record HoldsPlain (s : State) (d r count : ℕ) : Type 0 where
   pub label : Label

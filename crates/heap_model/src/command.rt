@@ -1,5 +1,4 @@
 //! The commands of a domain's trace.
-ghost use Rattle.std.specs.Prelude.{◌≡◌};
 
 /// One command of a domain's trace. Registers are numbers below 16. An `index` counts from 0, in scripts to 1,023.
 #[derive(Clone, Copy)]

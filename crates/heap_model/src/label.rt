@@ -1,5 +1,4 @@
 //! The names of blocks.
-ghost use Rattle.std.specs.Prelude.{◌≡◌};
 
 /// The `serial`-th block that `domain` has allocated. The shared block is `0:0`.
 #[derive(Clone, Copy, Debug, PartialEq, Eq)]

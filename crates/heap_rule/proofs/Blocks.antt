@@ -11,7 +11,7 @@ use Rattle.heap_model.specs.declared.graph.Node.TheVariants.{Plain}
 use Rattle.heap_model.specs.declared.state.State as model
 use Rattle.heap_model.specs.Graph.{node_at}
 use Rattle.heap_model.specs.Domains.{register, opening}
-use Rattle.heap_model.specs.Fronts.{PlainShape, HoldsPlain}
+use Rattle.heap_model.specs.Fronts.{PlainShape, HoldsPlain, Shape, HoldsShape}
 use Rattle.heap_model.proofs.Histories.FrontLemmas.{plain_of, holds_later}
 use Rattle.heap_words.specs.declared.value.Value.{Value}
 use Rattle.heap_rule.specs.declared.config.Config.{Config}
@@ -57,6 +57,10 @@ module _ (k : Config) (s : Words) (r : Rule k s) (id : ℕ) (hist : List Entry) 
       let f = found_at reg a b in
       let p = plain_of f.node n tag (f.shape ∙ is) in
       record { label = b.place.label; tag = tag; fields = p.0; held = b.held; node = f.there ∙ ap Some p.1; size = p.2 }
+
+  -- whatever its shape
+  pub shape_at : (reg a : ℕ) (b : Lives reg a) (shape : Shape) → b.place.shape ≡ shape → HoldsShape now x.own.number reg shape
+  shape_at reg a b shape is = let f = found_at reg a b in record { label = b.place.label; node = f.node; held = b.held; there = f.there; shape_is = f.shape ∙ is }
 
   pub plain_inside : (reg a : ℕ) (b : Lives reg a) (n tag : ℕ) → b.place.shape ≡ PlainShape n tag → a + n + 1 ≤ heap_words k
   plain_inside reg a b n tag is =

@@ -1,38 +1,52 @@
--- The size classes of pools, and where their places lie.
-use Rattle.std.proofs.Common.{◌≡◌, ℕ, zero, suc, ◌+◌, ◌*◌, ◌/◌, ◌<◌, ◌≤◌, suc-mul, mul-le-mul_right, get_or, refl, ap, subst, arith}
+-- The size classes of pools, and where their places lie. Nothing here names a size: the table is checked as a whole.
+use Rattle.std.proofs.Common.{◌≡◌, ℕ, zero, suc, ◌+◌, ◌*◌, ◌/◌, ◌<◌, ◌≤◌, Bool, true, false, cond, leb, leb-true, eqb, eqb-true, List, [], ◌∷◌, length, suc-mul, mul-le-mul_right, get_or, refl, ap, subst, arith}
+use Rattle.std.proofs.Math.Nat.{mul-le-mul_left, zero-mul}
 use Rattle.size_classes.specs.declared.TheConstants.{SIZES}
+use Rattle.heap_model.specs.Domains.{class_count}
 use Rattle.heap_rule.specs.Pools.{size_of, blocks_of}
 
--- each class has at least four words, and its blocks fill a pool
-pub size_least : (c : ℕ) → c < 6 → 4 ≤ size_of c
+-- blocks of a class have at least four words, and fill a pool
+record IsSize (n : ℕ) : Type 0 where
+  pub least : 4 ≤ n
+  pub fills : 4096 / n * n ≡ 4096
+
+-- whether all sizes of a table are so
+abbrev all_fill : List ℕ → Bool
+all_fill [] = true
+all_fill (n ∷ ns) = cond (leb 4 n) (cond (eqb (4096 / n * n) 4096) (all_fill ns) false) false
+
+all_true : (a b c : Bool) → cond a (cond b c false) false ≡ true → (a ≡ true) × (b ≡ true) × (c ≡ true)
+all_true true true c e = (refl, refl, e)
+all_true true false c e = cc
+all_true false b c e = cc
+
+size_in : (l : List ℕ) (c : ℕ) → all_fill l ≡ true → c < length l → IsSize (get_or l c 0)
+size_in [] c all h = absurd (omega arith)
+size_in (n ∷ ns) zero all h = let t = all_true (leb 4 n) (eqb (4096 / n * n) 4096) (all_fill ns) all in record { least = leb-true 4 n t.0; fills = eqb-true (4096 / n * n) 4096 t.1 }
+size_in (n ∷ ns) (suc c) all h = size_in ns c (all_true (leb 4 n) (eqb (4096 / n * n) 4096) (all_fill ns) all).2 (omega arith)
+
+its_size : (c : ℕ) → c < class_count → IsSize (size_of c)
 unfolding size_of
-size_least zero h = omega arith
-size_least (suc zero) h = omega arith
-size_least (suc (suc zero)) h = omega arith
-size_least (suc (suc (suc zero))) h = omega arith
-size_least (suc (suc (suc (suc zero)))) h = omega arith
-size_least (suc (suc (suc (suc (suc zero))))) h = omega arith
-size_least (suc (suc (suc (suc (suc (suc c)))))) h = absurd (omega arith)
+its_size c h = size_in SIZES c refl h
 
-pub fill : (c : ℕ) → c < 6 → blocks_of c * size_of c ≡ 4096
-unfolding size_of blocks_of
-fill zero h = refl
-fill (suc zero) h = refl
-fill (suc (suc zero)) h = refl
-fill (suc (suc (suc zero))) h = refl
-fill (suc (suc (suc (suc zero)))) h = refl
-fill (suc (suc (suc (suc (suc zero))))) h = refl
-fill (suc (suc (suc (suc (suc (suc c)))))) h = absurd (omega arith)
+-- each class has at least four words, and its blocks fill a pool
+pub size_least : (c : ℕ) → c < class_count → 4 ≤ size_of c
+size_least c h = (its_size c h).least
 
-pub some_block : (c : ℕ) → c < 6 → (0 < blocks_of c) × (blocks_of c ≤ 1024)
-unfolding size_of blocks_of
-some_block zero h = (omega arith, omega arith)
-some_block (suc zero) h = (omega arith, omega arith)
-some_block (suc (suc zero)) h = (omega arith, omega arith)
-some_block (suc (suc (suc zero))) h = (omega arith, omega arith)
-some_block (suc (suc (suc (suc zero)))) h = (omega arith, omega arith)
-some_block (suc (suc (suc (suc (suc zero))))) h = (omega arith, omega arith)
-some_block (suc (suc (suc (suc (suc (suc c)))))) h = absurd (omega arith)
+pub fill : (c : ℕ) → c < class_count → blocks_of c * size_of c ≡ 4096
+unfolding blocks_of
+fill c h = (its_size c h).fills
+
+pub some_block : (c : ℕ) → c < class_count → (0 < blocks_of c) × (blocks_of c ≤ 1024)
+some_block c h =
+    let b : ℕ = blocks_of c in
+    let z : ℕ = size_of c in
+    let most : b * 4 ≤ b * z = mul-le-mul_left b (size_least c h) in
+    let all : b * z ≡ 4096 = fill c h in (some b z all, let p : ℕ = b * z in let e : p ≡ 4096 = all in let m : b * 4 ≤ p = most in omega arith)
+  where
+    some : (b z : ℕ) → b * z ≡ 4096 → 0 < b
+    some zero z e = let f : 0 * z ≡ 0 = zero-mul z in absurd (omega arith)
+    some (suc b) z e = omega arith
 
 -- a place lies behind another of its pool and class
 pub slot_below : (c i j : ℕ) → i < j → i * size_of c + size_of c ≤ j * size_of c
@@ -42,18 +56,11 @@ slot_below c i j h =
     subst (λ (n : ℕ). n ≤ j * z) (suc-mul i z) m
 
 -- a place lies in its pool
-pub slot_inside : (c slot : ℕ) → c < 6 → slot < blocks_of c → slot * size_of c + size_of c ≤ 4096
+pub slot_inside : (c slot : ℕ) → c < class_count → slot < blocks_of c → slot * size_of c + size_of c ≤ 4096
 slot_inside c slot few h = subst (λ (n : ℕ). slot * size_of c + size_of c ≤ n) (fill c few) (slot_below c slot (blocks_of c) h)
 
-pub size_most : (c : ℕ) → c < 6 → size_of c ≤ 128
-unfolding size_of
-size_most zero h = omega arith
-size_most (suc zero) h = omega arith
-size_most (suc (suc zero)) h = omega arith
-size_most (suc (suc (suc zero))) h = omega arith
-size_most (suc (suc (suc (suc zero)))) h = omega arith
-size_most (suc (suc (suc (suc (suc zero))))) h = omega arith
-size_most (suc (suc (suc (suc (suc (suc c)))))) h = absurd (omega arith)
+pub size_most : (c : ℕ) → c < class_count → size_of c ≤ 4096
+size_most c h = let z : ℕ = size_of c in let s : 0 * z + z ≤ 4096 = slot_inside c 0 h (some_block c h).0 in let e : 0 * z ≡ 0 = zero-mul z in omega arith
 
 pub size_is : (c : ℕ) → get_or SIZES c 0 ≡ size_of c
 unfolding size_of

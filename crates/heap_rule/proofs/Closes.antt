@@ -8,7 +8,7 @@ use Rattle.heap_rule.specs.declared.config.Config.{Config}
 use Rattle.heap_rule.specs.declared.view.Own.{Own}
 use Rattle.heap_rule.specs.declared.view.DomainView.{DomainView}
 use Rattle.heap_rule.specs.declared.view.View.{View}
-use Rattle.heap_rule.specs.Raw.{MayStep, MayStore, CanLeave, Leaves, Unentered, EntersOnce, Closes}
+use Rattle.heap_rule.specs.Raw.{MayStep, MayStore, CanLeave, Leaves, Closes}
 use Rattle.heap_rule.specs.Rule.{Rule}
 use Rattle.heap_rule.specs.Views.{Tells, domain_in, one}
 use Rattle.heap_rule.specs.Token.{SharedHeap, Token, IsIn, IsSeatOf, OwnFits}

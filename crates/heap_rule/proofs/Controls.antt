@@ -1,5 +1,5 @@
 -- Steps on the control words of the phases: the other words stay, and so does what they stand for.
-use Rattle.std.proofs.Common.{◌≡◌, ◌≢◌, ℕ, zero, suc, ◌+◌, ◌*◌, ◌<◌, ◌≤◌, ◌⊎◌, List, length, get_or, set, Some, sym, refl, ap, ◌∙◌, subst, arith, ⊎_elim, inl, inr, suc-mul, zero-le, None, false}
+use Rattle.std.proofs.Common.{◌≡◌, ◌≢◌, ℕ, zero, suc, ◌+◌, ◌*◌, ◌<◌, ◌≤◌, ◌⊎◌, List, length, get_or, set, Some, sym, refl, ap, ◌∙◌, subst, arith, ⊎_elim, inl, inr, suc-mul, zero-le, None, false, Option, ◌++◌, ◌∷◌, []}
 use mathlib.Core.Logic.{dite}
 use native.Mathlib.Decide.{ℕ_discrete}
 use mathlib.Core.Option.{some}
@@ -11,14 +11,15 @@ use Rattle.heap_rule.specs.declared.config.Config.{Config}
 use Rattle.heap_rule.specs.declared.phase.Stage.{Stage}
 use Rattle.heap_rule.specs.declared.phase.Note.{Note}
 use Rattle.heap_rule.specs.declared.view.DomainView.{DomainView}
-use Rattle.heap_rule.specs.Layout.{before_heap, at_address, ended_word, cursor}
-use Rattle.heap_rule.specs.Places.{unmarked, Place, Live, HeadIs}
-use Rattle.heap_rule.specs.Phases.{Pause, Phases, sum_of, IsEven, IsOdd, Staged, Still}
-use Rattle.heap_rule.specs.Pools.{Holder, Tenancy, Pools, Grid, Drawers, Resting, Hunter, place_in}
+use Rattle.heap_rule.specs.Layout.{before_heap, ended_word, cursor}
+use Rattle.heap_rule.specs.Places.{unmarked, Live, HeadIs}
+use Rattle.heap_rule.specs.Phases.{Pause, Phases, sum_of, IsEven, IsOdd, Staged, Still, TookBack, Unwished, last_from, last_note}
+use Rattle.heap_rule.specs.Pools.{Holder, Tenancy, Pools, Grid, Drawers, Resting, Hunter, Lists}
+use Rattle.heap_rule.specs.declared.view.Listing.{Listing}
 use Rattle.heap_rule.specs.Rule.{state_of, AllFound, Making, NoCycle, Rule}
 use Rattle.heap_rule.specs.Views.{one}
-use Rattle.heap_rule.proofs.Holders.{Agrees, same_self, hunter_agree}
-use Rattle.heap_rule.proofs.Keeps.{Words, mine, my_good, remakes, knows_front, phases_words, pools_words, hunter_as}
+use Rattle.heap_rule.proofs.Holders.{Agrees, grid_heap, same_self, hunter_agree}
+use Rattle.heap_rule.proofs.Keeps.{Words, mine, my_good, remakes, knows_front, phases_words, pools_words, lists_same, resting_lists}
 
 -- all words stay but the first four, want, barrier, plan and changed, and the ended word
 abbrev pub Untouched : List ℕ → List ℕ → Type 0
@@ -56,13 +57,16 @@ agrees_untouched k words words' u = record {
 }
 
 pub grid_untouched : (k : Config) (holder : ℕ → Holder) (live : Live) (words words' : List ℕ) → Untouched words words' → Grid k holder live words → Grid k holder live words'
-grid_untouched k holder live words words' u g = let same = agrees_untouched k words words' u in record {
-  lots = g.lots;
-  places = λ q d c slot is inside. ⊎_elim (λ (z : at_address k words (place_in q c slot) ≡ 0). inl (same.heap (place_in q c slot) (omega arith) ∙ z)) (λ (z : (p : Place) × (live (place_in q c slot) ≡ Some p)). inr z) (g.places q d c slot is inside);
-}
+grid_untouched k holder live words words' u g = grid_heap k holder live words words' (agrees_untouched k words words' u).heap g
 
 pub hunter_untouched : (k : Config) (t : Tenancy) (words words' : List ℕ) (z : DomainView) → Untouched words words' → Hunter k t words z → Hunter k t words' z
 hunter_untouched k t words words' z u h = hunter_agree k t t words words' (agrees_untouched k words words' u) z (let e : cursor words' ≡ cursor words = u.1 7 (omega arith) (λ e. omega arith) in let c : ℕ = cursor words in let c' : ℕ = cursor words' in let f : c' ≡ c = e in let l : c ≤ c' = omega arith in l) (same_self t z.own.number) h
+
+pub lists_untouched : (k : Config) (words words' : List ℕ) (number : ℕ) (stage : Stage) (l : Listing) → Untouched words words' → Lists k words number stage l → Lists k words' number stage l
+lists_untouched k words words' number stage l u s = lists_same k words words' number stage l (u.1 6 (omega arith) (λ e. omega arith)) (u.1 7 (omega arith) (λ e. omega arith)) (λ i h. u.1 (11 + i) (omega arith) (λ e. omega arith)) (λ q h. u.1 (11 + k.pools + q) (omega arith) (λ e. omega arith)) s
+
+pub resting_untouched : (k : Config) (words words' : List ℕ) (z : DomainView) → Untouched words words' → Resting k words z → Resting k words' z
+resting_untouched k words words' z u r = resting_lists k words words' z (λ number stage l. lists_untouched k words words' number stage l u) r
 
 pub cycle_untouched : (words words' : List ℕ) → Untouched words words' → NoCycle words → NoCycle words'
 cycle_untouched words words' u s = record { armed_is = u.1 4 (omega arith) (λ e. omega arith) ∙ s.armed_is; colours_are = u.1 5 (omega arith) (λ e. omega arith) ∙ s.colours_are }
@@ -112,8 +116,8 @@ parity (suc n) = ⊎_elim (λ (t : IsEven n). inr (t.0, let j : ℕ = t.0 in let
     (λ (t : IsOdd n). inl (t.0 + 1, let j : ℕ = t.0 in let e : n ≡ j * 2 + 1 = t.1 in let g : suc n ≡ (j + 1) * 2 = omega arith in g)) (parity n)
 
 -- a domain's view after a step of a pause
-abbrev pub moved_to : DomainView → ℕ → List Entry → Stage → List Note → DomainView
-moved_to x arrivals front stage notes = record { own = record x.own { arrivals = arrivals }; seen = record x.seen { front = front; stage = stage; notes = notes } }
+abbrev pub moved_to : DomainView → ℕ → List Entry → Stage → List Note → Option ℕ → Option Listing → DomainView
+moved_to x arrivals front stage notes free listing = record { own = record x.own { arrivals = arrivals }; seen = record x.seen { front = front; stage = stage; notes = notes; free = free; listing = listing } }
 
 module _ (k : Config) (s : Words) (r : Rule k s) (id : ℕ) (hist : List Entry) (x : DomainView) (at : get_elem? s.views id ≡ some (one k hist x)) where
   -- What a step of a pause owes: no entry stands, no block changes, and the phases may turn
@@ -124,14 +128,19 @@ module _ (k : Config) (s : Words) (r : Rule k s) (id : ℕ) (hist : List Entry) 
     pub endings : ended_word words' ≡ ended_word s.words
     pub staged : Staged pause' y
     pub still : Still r.account.log y
-    pub resting : Resting y
+    pub free : (f : ℕ) → y.seen.free ≡ Some f → x.seen.free ≡ Some f
+    pub resting : Resting k words' y
     pub drawers : Drawers pause' r.account.tenancy
     pub others : (z : DomainView) → z.own.number < k.domains → z.own.number ≢ x.own.number → Staged r.account.pause z → Staged pause' z
+    pub unwished : Unwished pause' words'
+    pub took_back : TookBack words' y
+    pub others_took_back : (z : DomainView) → Staged r.account.pause z → TookBack s.words z → TookBack words' z
 
-  pub turns : (arrivals : ℕ) (front : List Entry) (stage : Stage) (notes : List Note) (pause' : Pause) (words' : List ℕ) → let y : DomainView = moved_to x arrivals front stage notes in Turns y pause' words'
+  pub turns : (arrivals : ℕ) (front : List Entry) (stage : Stage) (notes : List Note) (free : Option ℕ) (listing : Option Listing) (pause' : Pause) (words' : List ℕ) → let y : DomainView = moved_to x arrivals front stage notes free listing in Turns y pause' words'
       → Rule k record { words = words'; homes = s.homes; views = set s.views id (one k hist y) }
-  turns arrivals front stage notes pause' words' o =
-      let y : DomainView = moved_to x arrivals front stage notes in
+  turns arrivals front stage notes free listing pause' words' o =
+      let y : DomainView = moved_to x arrivals front stage notes free listing in
+      let h = hunter_untouched k r.account.tenancy s.words words' x o.untouched (my_good k s r id hist x at).hunter in
       let g = my_good k s r id hist x at in
       let p = making_untouched k s.words words' x o.untouched g.making in
       remakes k s r id hist x at y (record r.account { pause = pause' }) words'
@@ -142,6 +151,7 @@ module _ (k : Config) (s : Words) (r : Rule k s) (id : ℕ) (hist : List Entry) 
         found = found_untouched k r.account.live (state_of k r.account.log).graph s.words words' o.untouched r.whole.found;
         placed = r.whole.placed;
         phases = o.phases;
+        unwished = o.unwished;
         endings = o.endings ∙ r.whole.endings;
         pools = pools_untouched k r.account.tenancy s.words words' o.untouched r.whole.pools;
         grid = grid_untouched k r.account.tenancy.holder r.account.live s.words words' o.untouched r.whole.grid;
@@ -155,8 +165,9 @@ module _ (k : Config) (s : Words) (r : Rule k s) (id : ℕ) (hist : List Entry) 
         making = record { fits = p.fits; written = p.written };
         staged = o.staged;
         still = o.still;
-        hunter = hunter_as k r.account.tenancy words' x y refl refl refl refl (hunter_untouched k r.account.tenancy s.words words' x o.untouched g.hunter);
+        hunter = record { hunt = h.hunt; drawn_alone = h.drawn_alone; taken = h.taken; free = λ f e. h.free f (o.free f e) };
         resting = o.resting;
+        took_back = o.took_back;
       }
       (λ z below other h. record {
         stood = h.stood;
@@ -165,20 +176,34 @@ module _ (k : Config) (s : Words) (r : Rule k s) (id : ℕ) (hist : List Entry) 
         staged = o.others z below other h.staged;
         still = h.still;
         hunter = hunter_untouched k r.account.tenancy s.words words' z o.untouched h.hunter;
-        resting = h.resting;
+        resting = resting_untouched k s.words words' z o.untouched h.resting;
+        took_back = o.others_took_back z h.staged h.took_back;
       })
 
   -- a step that leaves where all stand, and the front
-  pub notes_rule : (notes : List Note) (words' : List ℕ) → Untouched s.words words' → get_or words' 1 0 ≡ get_or s.words 1 0 → get_or words' 2 0 ≡ get_or s.words 2 0 → ended_word words' ≡ ended_word s.words
-      → Rule k record { words = words'; homes = s.homes; views = set s.views id (one k hist (moved_to x x.own.arrivals x.seen.front x.seen.stage notes)) }
-  notes_rule notes words' u b c e = let g = my_good k s r id hist x at in turns x.own.arrivals x.seen.front x.seen.stage notes r.account.pause words' record {
+  pub notes_rule : (notes : List Note) (words' : List ℕ) → Untouched s.words words' → Unwished r.account.pause words' → TookBack words' (moved_to x x.own.arrivals x.seen.front x.seen.stage notes x.seen.free x.seen.listing)
+      → ((z : DomainView) → Staged r.account.pause z → TookBack s.words z → TookBack words' z) → get_or words' 1 0 ≡ get_or s.words 1 0 → get_or words' 2 0 ≡ get_or s.words 2 0 → ended_word words' ≡ ended_word s.words
+      → Rule k record { words = words'; homes = s.homes; views = set s.views id (one k hist (moved_to x x.own.arrivals x.seen.front x.seen.stage notes x.seen.free x.seen.listing)) }
+  notes_rule notes words' u unwished took_back others_took_back b c e = let g = my_good k s r id hist x at in turns x.own.arrivals x.seen.front x.seen.stage notes x.seen.free x.seen.listing r.account.pause words' record {
     untouched = u;
     front = (mine k s r id hist x at).front;
     phases = phases_words k r.account.pause s.words words' b c r.whole.phases;
     endings = e;
     staged = record { arrivals = g.staged.arrivals; stage = g.staged.stage };
     still = g.still;
-    resting = λ n. g.resting n;
+    free = λ f e. e;
+    resting = let rest = resting_untouched k s.words words' x u g.resting in record { hunt = rest.hunt; free = rest.free; lists = rest.lists };
     drawers = r.whole.drawers;
     others = λ z _ _ st. st;
+    unwished = unwished;
+    took_back = took_back;
+    others_took_back = others_took_back;
   }
+
+-- the last of a list that ends with a note
+last_end : (o : Option Note) (notes : List Note) (n : Note) → last_from o (notes ++ n ∷ []) ≡ Some n
+last_end o [] n = refl
+last_end o (m ∷ notes) n = last_end (Some m) notes n
+
+pub last_note_end : (notes : List Note) (n : Note) → last_note (notes ++ n ∷ []) ≡ Some n
+last_note_end notes n = last_end None notes n

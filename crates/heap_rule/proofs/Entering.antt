@@ -105,6 +105,7 @@ module _ (k : Config) (s : Words) (r : Rule k s) (id : ℕ) (hist : List Entry) 
     command = command;
     runs = acts.runs;
     stage = refl;
+    listing = refl;
     allowed = o.allowed;
     calm = o.calm;
     number = refl;

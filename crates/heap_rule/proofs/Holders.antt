@@ -30,22 +30,38 @@ agrees_set k words j new other beside low = record {
   heap = λ a h. get_or-set_other words j (before_heap k + a) new 0 (λ e. let g : before_heap k + a ≡ j = e in let l : 1 ≤ a = h in let m : j ≤ before_heap k = low in omega arith);
 }
 
-pub found_agrees : (k : Config) (live : Live) (graph : Graph) (words words' : List ℕ) → Agrees k words words' → Placed k live → AllFound k live graph words → AllFound k live graph words'
-found_agrees k live graph words words' same placed found a p lives =
+-- and on the heap alone: then its blocks stand as they did
+abbrev pub SameHeap : Config → List ℕ → List ℕ → Type 0
+SameHeap k words words' = (a : ℕ) → 1 ≤ a → at_address k words' a ≡ at_address k words a
+
+pub found_heap : (k : Config) (live : Live) (graph : Graph) (words words' : List ℕ) → SameHeap k words words' → Placed k live → AllFound k live graph words → AllFound k live graph words'
+found_heap k live graph words words' same placed found a p lives =
     let f = found a p lives in
     let low : 1 ≤ a = (placed.fits a p lives).low in record {
       node = f.node;
       there = f.there;
       shape = f.shape;
-      head = same.heap a low ∙ f.head;
-      label = same.heap (a + 1) (omega arith) ∙ f.label;
-      values = λ i v got. let w = f.values i v got in record { value = w.value; packs = same.heap (a + 2 + i) (omega arith) ∙ w.packs; stands = w.stands };
+      head = same a low ∙ f.head;
+      label = same (a + 1) (omega arith) ∙ f.label;
+      values = λ i v got. let w = f.values i v got in record { value = w.value; packs = same (a + 2 + i) (omega arith) ∙ w.packs; stands = w.stands };
     }
 
-pub making_agrees : (k : Config) (words words' : List ℕ) (z : DomainView) → Agrees k words words' → Making k words z → Making k words' z
-making_agrees k words words' z same p = record {
+pub found_agrees : (k : Config) (live : Live) (graph : Graph) (words words' : List ℕ) → Agrees k words words' → Placed k live → AllFound k live graph words → AllFound k live graph words'
+found_agrees k live graph words words' same placed found = found_heap k live graph words words' same.heap placed found
+
+pub making_heap : (k : Config) (words words' : List ℕ) (z : DomainView) → SameHeap k words words' → Making k words z → Making k words' z
+making_heap k words words' z same p = record {
   fits = p.fits;
-  written = λ j w got. same.heap (base_of k z.own.number + z.own.used + 1 + j) (omega arith) ∙ p.written j w got;
+  written = λ j w got. same (base_of k z.own.number + z.own.used + 1 + j) (omega arith) ∙ p.written j w got;
+}
+
+pub making_agrees : (k : Config) (words words' : List ℕ) (z : DomainView) → Agrees k words words' → Making k words z → Making k words' z
+making_agrees k words words' z same p = making_heap k words words' z same.heap p
+
+pub grid_heap : (k : Config) (holder : ℕ → Holder) (live : Live) (words words' : List ℕ) → SameHeap k words words' → Grid k holder live words → Grid k holder live words'
+grid_heap k holder live words words' same g = record {
+  lots = g.lots;
+  places = λ q d c slot is inside. ⊎_elim (λ (z : at_address k words (place_in q c slot) ≡ 0). inl (same (place_in q c slot) (omega arith) ∙ z)) (λ (z : (p : Place) × (live (place_in q c slot) ≡ Some p)). inr z) (g.places q d c slot is inside);
 }
 
 -- the holders agree on the pools of a domain

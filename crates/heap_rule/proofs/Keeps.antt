@@ -1,4 +1,5 @@
 -- What all kinds of step share: what a domain knows at its seat, and that the rule holds again where the whole, the own domain and each other one meet it.
+use Rattle.std.proofs.lemmas.Option.{slice_get_within}
 use Rattle.std.proofs.Common.{◌≡◌, ◌≢◌, ℕ, zero, suc, ◌+◌, ◌*◌, ◌<◌, ◌≤◌, false, List, [], ◌∷◌, ◌++◌, length, get_or, set, Some, sym, refl, ap, ◌∙◌, subst, arith, length-set, get_or-set_other, append_assoc, ◌⊎◌, Option}
 use mathlib.Core.Logic.{dite}
 use native.Mathlib.Decide.{ℕ_discrete}
@@ -24,19 +25,20 @@ use Rattle.heap_model.proofs.Histories.FrontLemmas.{front_whole, front_push, kee
 use Rattle.heap_rule.specs.declared.config.Config.{Config}
 use Rattle.heap_rule.specs.declared.view.DomainView.{DomainView}
 use Rattle.heap_rule.specs.declared.view.Hunt.{Hunt}
+use Rattle.heap_rule.specs.declared.view.Listing.{Listing}
 use Rattle.heap_rule.specs.declared.view.Spot.{Spot}
 use Rattle.heap_rule.specs.declared.view.View.{View}
 use Rattle.heap_rule.specs.Limits.{sizes_in}
-use Rattle.heap_rule.specs.Layout.{before_heap, barrier, plan, ended_word, listed, cursor, listed_pool, owner_of}
+use Rattle.heap_rule.specs.Layout.{before_heap, barrier, plan, ended_word, listed, cursor, listed_pool, owner_of, want}
 use Rattle.heap_rule.specs.Places.{Place, Live, Stands, Placed}
 use Rattle.heap_rule.specs.Changes.{value_at}
 use Rattle.heap_rule.specs.Views.{EachView, AllDomains, IsSeated, Knows, one}
 use Rattle.heap_rule.specs.declared.phase.Kind.TheVariants.{Run, Promote, Reset}
 use Rattle.heap_rule.specs.declared.phase.Stage.{Stage}
 use Rattle.heap_rule.specs.declared.phase.Stage.TheVariants.{In, Leads, Led, Gone}
-use Rattle.heap_rule.specs.Phases.{Pause, Phases, sum_of, IsEven, IsOdd, AtStage, Staged, IsInPause, Still, Agree, flag, is_over}
+use Rattle.heap_rule.specs.Phases.{Pause, Phases, sum_of, IsEven, IsOdd, AtStage, Staged, IsInPause, Still, Agree, flag, is_over, TookBack, last_note}
 use Rattle.heap_rule.specs.Rule.{state_of, AllFound, Stood, Area, Making, Account, Good, NoCycle, Whole, Rule}
-use Rattle.heap_rule.specs.Pools.{Tenancy, drawn, owned, Pools, Grid, Drawers, Hunts, Hunter, drawn_in, hunting_free, spot_at, IsBefore, limit_of}
+use Rattle.heap_rule.specs.Pools.{Tenancy, drawn, owned, Pools, Grid, Drawers, IsLeading, Lists, Resting, Hunts, Hunter, drawn_in, hunting_free, spot_at, IsBefore, limit_of}
 use Rattle.heap_rule.specs.Standing.{with_front}
 use Rattle.heap_rule.proofs.Lists.{views_set, domains_map, domains_with}
 
@@ -146,6 +148,64 @@ staged_as t x y number arrivals stage s = record {
 pub run_still : (log : List Entry) (y : DomainView) → y.seen.stage ≡ In Run → Still log y
 run_still log y runs paused = absurd (subst IsInPause runs paused)
 
+-- a domain that runs doesn't lead
+pub run_leads : (kind : _) → ◌≡◌ {A = Stage} (In Run) (Leads kind) → ⊥
+run_leads kind e = cc
+
+pub running_took_back : (words : List ℕ) (y : DomainView) → y.seen.stage ≡ In Run → TookBack words y
+running_took_back words y runs kind leads last = absurd (run_leads kind (sym runs ∙ leads))
+
+-- who leads is in a pause
+pub leads_paused : (stage : Stage) → IsLeading stage → IsInPause stage
+leads_paused (In kind) leads = absurd leads
+leads_paused (Leads last) leads = tt
+leads_paused (Led next) leads = tt
+leads_paused (Gone kind) leads = absurd leads
+
+-- a running domain writes no list, and nobody does beside it
+pub resting_runs : (k : Config) (words words' : List ℕ) (x y : DomainView) → x.seen.stage ≡ In Run → y.seen.stage ≡ In Run → y.seen.listing ≡ x.seen.listing → Resting k words x → Resting k words' y
+resting_runs k words words' x y runs still listing r = record {
+  hunt = λ n. absurd (n still);
+  free = λ n. absurd (n still);
+  lists = λ l e. absurd (subst IsLeading runs (r.lists l (sym listing ∙ e)).leads);
+}
+
+pub resting_other : (k : Config) (t : Pause) (words words' : List ℕ) (x z : DomainView) → x.seen.stage ≡ In Run → Staged t x → Staged t z → Resting k words z → Resting k words' z
+resting_other k t words words' x z runs sx sz r = record {
+  hunt = r.hunt;
+  free = r.free;
+  lists = λ l e. absurd (nobody_paused t x z runs sx sz (leads_paused z.seen.stage (r.lists l e).leads));
+}
+
+-- the list that domain 0 writes stays where the control words, the list and the owner words do
+pub lists_same : (k : Config) (words words' : List ℕ) (number : ℕ) (stage : Stage) (l : Listing) → listed words' ≡ listed words → cursor words' ≡ cursor words → ((i : ℕ) → i < k.pools → listed_pool words' i ≡ listed_pool words i) → ((q : ℕ) → q < k.pools → owner_of k words' q ≡ owner_of k words q)
+    → Lists k words number stage l → Lists k words' number stage l
+lists_same k words words' number stage l count asked list owner s = record {
+  first = s.first;
+  leads = s.leads;
+  few = s.few;
+  owners = λ q w got. owner q (within (length l.owners) q s.few.0 (slice_get_within l.owners q w got)) ∙ s.owners q w got;
+  names = λ i q got. list i (within (length l.names) i s.few.1 (slice_get_within l.names i q got)) ∙ s.names i q got;
+  count = count ∙ s.count;
+  rewinds = λ b. asked ∙ s.rewinds b;
+} where
+  within : (n i : ℕ) → n ≤ k.pools → i < n → i < k.pools
+  within n i few below = let f : n ≤ k.pools = few in let b : i < n = below in omega arith
+
+pub lists_control : (k : Config) (words words' : List ℕ) (number : ℕ) (stage : Stage) (l : Listing) → Control k words words' → Lists k words number stage l → Lists k words' number stage l
+lists_control k words words' number stage l c s = lists_same k words words' number stage l (c 6 (omega arith)) (c 7 (omega arith)) (λ i h. let g : i < k.pools = h in c (11 + i) (omega arith)) (λ q h. let g : q < k.pools = h in c (11 + k.pools + q) (omega arith)) s
+
+pub resting_lists : (k : Config) (words words' : List ℕ) (z : DomainView) → ((number : ℕ) (stage : Stage) (l : Listing) → Lists k words number stage l → Lists k words' number stage l) → Resting k words z → Resting k words' z
+resting_lists k words words' z lists r = record { hunt = r.hunt; free = r.free; lists = λ l e. lists z.own.number z.seen.stage l (r.lists l e) }
+
+-- a domain that stands where it stood, and knows the same of the pools
+pub resting_as : (k : Config) (words : List ℕ) (x y : DomainView) → y.own.number ≡ x.own.number → y.seen.stage ≡ x.seen.stage → y.seen.hunt ≡ x.seen.hunt → y.seen.free ≡ x.seen.free → y.seen.listing ≡ x.seen.listing → Resting k words x → Resting k words y
+resting_as k words x y number stage hunt free listing r = record {
+  hunt = λ n. hunt ∙ r.hunt (λ e. n (stage ∙ e));
+  free = λ n. free ∙ r.free (λ e. n (stage ∙ e));
+  lists = λ l e. subst (λ (z : ℕ × Stage). Lists k words z.0 z.1 l) (λ i. (sym number i, sym stage i)) (r.lists l (sym listing ∙ e));
+}
+
 -- the pools stand where their words do
 pub pools_words : (k : Config) (t : Tenancy) (words words' : List ℕ) → listed words' ≡ listed words → cursor words' ≡ cursor words → ((i : ℕ) → i < k.pools → listed_pool words' i ≡ listed_pool words i) → ((q : ℕ) → q < k.pools → owner_of k words' q ≡ owner_of k words q) → Pools k t words → Pools k t words'
 pools_words k t words words' counts asked list owner s =
@@ -176,8 +236,10 @@ cycle_same k words words' c s = record { armed_is = c 4 (omega arith) ∙ s.arme
 -- what a step owes each part of the rule that speaks of the words before the heap's
 pub record Controls (k : Config) (all : Account) (words words' : List ℕ) : Type 0 where
   pub phases : Phases k all.pause words'
+  pub want : want words' ≡ want words
   pub ended : ended_word words' ≡ ended_word words
   pub pools : Pools k all.tenancy words'
+  pub lists : (number : ℕ) (stage : Stage) (l : Listing) → Lists k words number stage l → Lists k words' number stage l
   pub cycle : NoCycle words'
 
 -- what a domain knows of its pools, by other data of it
@@ -291,8 +353,10 @@ module _ (k : Config) (s : Words) (r : Rule k s) (id : ℕ) (hist : List Entry) 
   pub controls_kept : (words' : List ℕ) → Control k s.words words' → Controls k r.account s.words words'
   controls_kept words' c = record {
     phases = phases_same k r.account.pause s.words words' c r.whole.phases;
+    want = c 0 (omega arith);
     ended = c 8 (omega arith);
     pools = pools_same k r.account.tenancy s.words words' c r.whole.pools;
+    lists = λ number stage l. lists_control k s.words words' number stage l c;
     cycle = cycle_same k s.words words' c r.whole.cycle;
   }
 
@@ -302,6 +366,7 @@ module _ (k : Config) (s : Words) (r : Rule k s) (id : ℕ) (hist : List Entry) 
     pub command : IsCommand e
     pub runs : x.seen.stage ≡ In Run
     pub stage : y.seen.stage ≡ x.seen.stage
+    pub listing : y.seen.listing ≡ x.seen.listing
     pub allowed : Allowed now e
     pub calm : IsCalm (next now e)
     pub number : y.own.number ≡ x.own.number
@@ -333,6 +398,7 @@ module _ (k : Config) (s : Words) (r : Rule k s) (id : ℕ) (hist : List Entry) 
         found = subst (λ (t : model.State). AllFound k live' t.graph words') (sym after) o.found;
         placed = o.placed;
         phases = o.controls.phases;
+        unwished = λ j odd led runs. o.controls.want ∙ r.whole.unwished j odd led runs;
         endings = o.controls.ended ∙ (r.whole.endings ∙ sym (ap (λ (t : model.State). sum_of (is_over t) k.domains) after ∙ sum_same (is_over now) (is_over (next now e)) k.domains (λ d _. command_over now e o.command d)));
         pools = o.controls.pools;
         grid = o.grid;
@@ -340,7 +406,7 @@ module _ (k : Config) (s : Words) (r : Rule k s) (id : ℕ) (hist : List Entry) 
         cycle = o.controls.cycle;
       }
       (knows_entry y e o.alone o.number o.front)
-      record { stood = subst (λ (t : model.State). Stood live' t y) (sym after) o.stood; area = o.area; making = o.making; staged = staged_as r.account.pause x y o.number o.arrivals o.stage my_good.staged; still = run_still log' y (o.stage ∙ o.runs); hunter = o.hunter; resting = λ n. absurd (n (o.stage ∙ o.runs)) }
+      record { stood = subst (λ (t : model.State). Stood live' t y) (sym after) o.stood; area = o.area; making = o.making; staged = staged_as r.account.pause x y o.number o.arrivals o.stage my_good.staged; still = run_still log' y (o.stage ∙ o.runs); hunter = o.hunter; resting = resting_runs k s.words words' x y o.runs (o.stage ∙ o.runs) o.listing my_good.resting; took_back = running_took_back words' y (o.stage ∙ o.runs) }
       (λ z _ other g. record {
         stood = subst (λ (t : model.State). Stood live' t z) (sym after) (stood_other r.account.live live' now (next now e) z (keeps_next now e z.own.number (o.alone z.own.number other)) o.more g.stood);
         area = o.areas z other g.area;
@@ -348,16 +414,20 @@ module _ (k : Config) (s : Words) (r : Rule k s) (id : ℕ) (hist : List Entry) 
         staged = g.staged;
         still = λ paused. absurd (nobody_paused r.account.pause x z o.runs my_good.staged g.staged paused);
         hunter = o.hunters z other g;
-        resting = g.resting;
+        resting = resting_other k r.account.pause s.words words' x z o.runs my_good.staged g.staged g.resting;
+        took_back = λ kind leads last. o.controls.want ∙ g.took_back kind leads last;
       })
 
   -- What a step owes at which no entry stands and nothing comes to live or moves
   pub record Writes (y : DomainView) (words' : List ℕ) : Type 0 where
     pub number : y.own.number ≡ x.own.number
     pub hunt : y.seen.hunt ≡ x.seen.hunt
+    pub free : y.seen.free ≡ x.seen.free
+    pub listing : y.seen.listing ≡ x.seen.listing
     pub front : IsFrontOf x.own.number r.account.log y.seen.front
     pub still : Still r.account.log y
     pub stage : y.seen.stage ≡ x.seen.stage
+    pub notes : y.seen.notes ≡ x.seen.notes
     pub arrivals : y.own.arrivals ≡ x.own.arrivals
     pub wide : length words' ≡ length s.words
     pub controls : Controls k r.account s.words words'
@@ -380,6 +450,7 @@ module _ (k : Config) (s : Words) (r : Rule k s) (id : ℕ) (hist : List Entry) 
         found = o.found;
         placed = r.whole.placed;
         phases = o.controls.phases;
+        unwished = λ j odd led runs. o.controls.want ∙ r.whole.unwished j odd led runs;
         endings = o.controls.ended ∙ r.whole.endings;
         pools = o.controls.pools;
         grid = o.grid;
@@ -387,17 +458,20 @@ module _ (k : Config) (s : Words) (r : Rule k s) (id : ℕ) (hist : List Entry) 
         cycle = o.controls.cycle;
       }
       (knows_front y o.number o.front)
-      record { stood = o.stood; area = o.area; making = o.making; staged = staged_as r.account.pause x y o.number o.arrivals o.stage my_good.staged; still = o.still; hunter = o.hunter; resting = λ n. o.hunt ∙ my_good.resting (λ e. n (o.stage ∙ e)) }
-      (λ z _ other g. record { stood = g.stood; area = g.area; making = o.makings z other g.area g.making; staged = g.staged; still = g.still; hunter = o.hunters z other g; resting = g.resting })
+      record { stood = o.stood; area = o.area; making = o.making; staged = staged_as r.account.pause x y o.number o.arrivals o.stage my_good.staged; still = o.still; hunter = o.hunter; resting = resting_as k words' x y o.number o.stage o.hunt o.free o.listing (resting_lists k s.words words' x o.controls.lists my_good.resting); took_back = λ kind leads last. o.controls.want ∙ my_good.took_back kind (sym o.stage ∙ leads) (sym (ap last_note o.notes) ∙ last) }
+      (λ z _ other g. record { stood = g.stood; area = g.area; making = o.makings z other g.area g.making; staged = g.staged; still = g.still; hunter = o.hunters z other g; resting = resting_lists k s.words words' z o.controls.lists g.resting; took_back = λ kind leads last. o.controls.want ∙ g.took_back kind leads last })
 
   -- a step that leaves all but the front, which is then some front of the history
   pub looks : (front : List Entry) → IsFrontOf x.own.number r.account.log front → (IsInPause x.seen.stage → front ≡ r.account.log) → Rule k record { words = s.words; homes = s.homes; views = set s.views id (one k hist (with_front x front)) }
   looks front is still = writes (with_front x front) s.words record {
     number = refl;
     hunt = refl;
+    free = refl;
+    listing = refl;
     front = is;
     still = still;
     stage = refl;
+    notes = refl;
     arrivals = refl;
     wide = refl;
     controls = controls_kept s.words (control_same k s.words);
@@ -416,6 +490,7 @@ module _ (k : Config) (s : Words) (r : Rule k s) (id : ℕ) (hist : List Entry) 
     pub runs : x.seen.stage ≡ In Run
     pub wide : length words' ≡ length s.words
     pub phases : Phases k r.account.pause words'
+    pub want : want words' ≡ want s.words
     pub endings : ended_word words' ≡ ended_word s.words
     pub cycle : NoCycle words'
     pub found : AllFound k r.account.live now.graph words'
@@ -437,6 +512,7 @@ module _ (k : Config) (s : Words) (r : Rule k s) (id : ℕ) (hist : List Entry) 
         found = o.found;
         placed = r.whole.placed;
         phases = o.phases;
+        unwished = λ j odd led runs. o.want ∙ r.whole.unwished j odd led runs;
         endings = o.endings ∙ r.whole.endings;
         pools = o.pools;
         grid = o.grid;
@@ -451,9 +527,10 @@ module _ (k : Config) (s : Words) (r : Rule k s) (id : ℕ) (hist : List Entry) 
         staged = record { arrivals = my_good.staged.arrivals; stage = my_good.staged.stage };
         still = my_good.still;
         hunter = o.hunter;
-        resting = λ n. absurd (n o.runs);
+        resting = resting_runs k s.words words' x (hunting_free x looked hunt free) o.runs o.runs refl my_good.resting;
+        took_back = λ kind leads last. o.want ∙ my_good.took_back kind leads last;
       }
-      (λ z _ other g. record { stood = g.stood; area = g.area; making = o.makings z g.making; staged = g.staged; still = g.still; hunter = o.hunters z other g; resting = g.resting })
+      (λ z _ other g. record { stood = g.stood; area = g.area; making = o.makings z g.making; staged = g.staged; still = g.still; hunter = o.hunters z other g; resting = resting_other k r.account.pause s.words words' x z o.runs my_good.staged g.staged g.resting; took_back = λ kind leads last. o.want ∙ g.took_back kind leads last })
 
 -- a load leaves the words as they were
 pub unmoved : (k : Config) (s : Words) (at : ℕ) (views : List View) → Rule k record { words = s.words; homes = s.homes; views = views }

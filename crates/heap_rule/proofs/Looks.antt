@@ -1,7 +1,7 @@
 -- A domain at the start has looked at no place of the pools.
 use Rattle.std.proofs.Common.{◌≡◌, ◌∙◌, ℕ, zero, suc, ◌+◌, ◌<◌, ◌≤◌, lit<, List, [], ◌∷◌, get_or, replicate, sym, refl, subst, arith}
 use Rattle.atomic_table.specs.Table.{Me}
-use Rattle.heap_model.specs.Domains.{IsWithinLimits}
+use Rattle.heap_model.specs.Domains.{class_count, IsWithinLimits}
 use Rattle.heap_words.specs.declared.value.Value.{Value}
 use Rattle.heap_words.specs.declared.value.Value.TheVariants.{Ref, Nothing}
 use Rattle.heap_words.specs.Values.{IsPackable}
@@ -25,10 +25,10 @@ nowhere_at zero c = refl
 nowhere_at (suc n) zero = refl
 nowhere_at (suc n) (suc c) = nowhere_at n c
 
-pub looks_first : (k : Config) → LooksWithin k (replicate 6 (record { pool = 0; slot = 0 }))
+pub looks_first : (k : Config) → LooksWithin k (replicate class_count (record { pool = 0; slot = 0 }))
 looks_first k = record {
   wide = refl;
-  within = λ c few. subst (λ (s : Spot). (s.pool ≤ k.pools) × (s.slot < blocks_of c)) (sym (nowhere_at 6 c)) (omega arith, (some_block c few).0);
+  within = λ c few. subst (λ (s : Spot). (s.pool ≤ k.pools) × (s.slot < blocks_of c)) (sym (nowhere_at class_count c)) (omega arith, (some_block c few).0);
 }
 
 -- the registers at the start

@@ -1,4 +1,5 @@
 -- What a written word leaves of the pools.
+use Rattle.heap_model.specs.Domains.{class_count}
 use Rattle.std.proofs.Common.{◌≡◌, ◌≢◌, ℕ, ◌+◌, ◌*◌, ◌<◌, ◌≤◌, ◌⊎◌, List, length, get_or, set, Some, sym, ap, ◌∙◌, subst, inl, inr, ⊎_elim, arith, get_or-set_other, lt_of_not-le, None, false}
 use mathlib.Core.Logic.{dite}
 use native.Mathlib.Decide.{ℕ_discrete, dec_le}
@@ -47,7 +48,7 @@ module _ (k : Config) (t : Tenancy) (words : List ℕ) (at new : ℕ) where
       let large : 4 ≤ z = size_least c (p.owned_by q d c is).2 in
       stays a (λ e. let same : a ≡ at = e in ⊎_elim (λ (o : (at < a) ⊎ (a + z ≤ at)). ⊎_elim (λ (h : at < a). omega arith) (λ (h : a + z ≤ at). omega arith) o) (λ (o : (a < at) × (at_address k words a ≢ 0)). let h = o.0 in omega arith) (b.not_place q c slot is inside))
 
-  drawn_stays : (d : ℕ) → Beside k t words d at → (p : Pools k t words) → (q c j : ℕ) → t.holder q ≡ drawn d → c < 6 → j < blocks_of c → at_address k ws (place_in q c j) ≡ at_address k words (place_in q c j)
+  drawn_stays : (d : ℕ) → Beside k t words d at → (p : Pools k t words) → (q c j : ℕ) → t.holder q ≡ drawn d → c < class_count → j < blocks_of c → at_address k ws (place_in q c j) ≡ at_address k words (place_in q c j)
   drawn_stays d b p q c j is few inside =
       let s : ℕ = j * size_of c in
       let z : ℕ = size_of c in
@@ -133,7 +134,7 @@ live_beside k t live words a i o p g low lives some inside head d = dite (dec_le
     let l = g.lots a o lives le in
     let s : ℕ = l.slot * size_of l.class in
     let z : ℕ = size_of l.class in
-    let few : l.class < 6 = (p.owned_by l.pool l.domain l.class l.owned_is).2 in
+    let few : l.class < class_count = (p.owned_by l.pool l.domain l.class l.owned_is).2 in
     let top : s + z ≤ 4096 = slot_inside l.class l.slot few l.inside in
     let n : ℕ = extent o.shape in
     let fits : n ≤ z = l.fits in
@@ -148,7 +149,7 @@ live_beside k t live words a i o p g low lives some inside head d = dite (dec_le
       not_place = λ q c slot is below_blocks.
           let s' : ℕ = slot * size_of c in
           let z' : ℕ = size_of c in
-          let few' : c < 6 = (p.owned_by q d c is).2 in
+          let few' : c < class_count = (p.owned_by q d c is).2 in
           let top' : s' + z' ≤ 4096 = slot_inside c slot few' below_blocks in
           dite (ℕ_discrete q l.pool)
           (λ same.

@@ -9,7 +9,7 @@ use Rattle.heap_model.specs.declared.graph.Value.{Value}
 use Rattle.heap_model.specs.declared.graph.Value.TheVariants.{Int, Block, Nothing}
 use Rattle.heap_model.specs.declared.state.DomainState.{DomainState}
 use Rattle.heap_model.specs.declared.state.State as model
-use Rattle.heap_model.specs.Domains.{IsWithinLimits, domain_at, register, no_domain, opening_domain, shared_label, shared_node}
+use Rattle.heap_model.specs.Domains.{class_count, IsWithinLimits, domain_at, register, no_domain, opening_domain, shared_label, shared_node}
 use Rattle.heap_model.specs.Domains as states
 use Rattle.heap_model.specs.Fronts.{PlainShape}
 use Rattle.heap_words.specs.declared.value.Value.TheVariants.{Int as IntWord, Ref, Nothing as NothingWord}
@@ -23,7 +23,7 @@ use Rattle.heap_rule.specs.Places.{Place, Live, extent, Stands, Found, Fits, Pla
 use Rattle.heap_rule.specs.Changes.{value_at}
 use Rattle.heap_rule.specs.declared.phase.Kind.TheVariants.{Run}
 use Rattle.heap_rule.specs.Phases.{Pause, sum_of, is_over, flag}
-use Rattle.heap_rule.proofs.Keeps.{sum_same}
+use Rattle.heap_rule.proofs.Keeps.{sum_same, run_leads}
 use Rattle.heap_rule.specs.Views.{EachView, AllDomains, Distinct, IsSeated, Knows, opening_view, opening_views, first_view}
 use Rattle.heap_rule.specs.Rule.{Stood, Area, Account, Good, Whole, Rule}
 use Rattle.heap_rule.specs.Pools.{Holder, nobody, drawn, owned, owner_word, Tenancy, Pools, Lot, Grid, place_in, size_of, blocks_of, IsBefore}
@@ -195,7 +195,7 @@ module _ (k : Config) (limits : IsWithinLimits (sizes_in k)) (words : List ℕ) 
         owners = λ q h. dite (ℕ_discrete q 0)
             (λ same. ap (owner_of k words) same ∙ (p.shared ∙ (sym (ap owner_word holder_first) ∙ ap (λ (m : ℕ). owner_word (first_holders m)) (sym same))))
             (λ other. p.free q (let o : q ≢ 0 = other in omega arith) h ∙ sym (ap owner_word (holder_else q other)));
-        owned_by = λ q d c e. let o = holder_at q d c e in let a : q ≡ 0 = o.0 in let b : 0 ≡ d = o.1 in let f : 3 ≡ c = o.2 in ((let g : q < P = omega arith in g), (let l = limits.some_domain in let g : d < k.domains = omega arith in g), (let g : c < 6 = omega arith in g));
+        owned_by = λ q d c e. let o = holder_at q d c e in let a : q ≡ 0 = o.0 in let b : 0 ≡ d = o.1 in let f : 3 ≡ c = o.2 in ((let g : q < P = omega arith in g), (let l = limits.some_domain in let g : d < k.domains = omega arith in g), (let g : c < class_count = omega arith in g));
         drawn_by = λ q d e. absurd (none_drawn q d e);
         one_each = λ d. omega arith;
         asked = let e : cursor words ≡ 0 = p.asked in let z : sum_of (λ _. 0) k.domains ≡ 0 = sum_zero k.domains in let c : ℕ = cursor words in let m : ℕ = sum_of (λ _. 0) k.domains in let y : c ≡ 0 = e in let x : m ≡ 0 = z in let g : c + m ≤ P + k.domains = omega arith in g;
@@ -246,6 +246,7 @@ module _ (k : Config) (limits : IsWithinLimits (sizes_in k)) (words : List ℕ) 
       next_plan = λ j e l. absurd (let h : 0 ≡ j * 2 + 1 = e in omega arith);
       leader = λ j e a. absurd (let h : 0 ≡ j * 2 + 1 = e in omega arith);
     };
+    unwished = λ j odd led runs. absurd (let h : 0 ≡ j * 2 + 1 = odd in omega arith);
     endings = opens.rested.nobody_ended ∙ sym (sum_same (λ _. 0) (is_over s0) k.domains (λ d below. ap (λ (x : DomainState). flag x.ended) (replicated k.domains d below)) ∙ sum_zero k.domains);
     pools = first_pools;
     grid = first_grid;
@@ -278,8 +279,9 @@ module _ (k : Config) (limits : IsWithinLimits (sizes_in k)) (words : List ℕ) 
             hunt = tt;
             free = λ f e. absurd (no_free f e);
             drawn_alone = λ q e. absurd (none_drawn q x e);
-            taken = λ q c slot e inside low. absurd (⊎_elim (λ (h : q < 0). omega arith) (λ (h : (q ≡ 0) × (slot < 0)). let l = h.1 in omega arith) (subst (λ (m : Spot). IsBefore q slot m) (get_zero 6 c) low));
+            taken = λ q c slot e inside low. absurd (⊎_elim (λ (h : q < 0). omega arith) (λ (h : (q ≡ 0) × (slot < 0)). let l = h.1 in omega arith) (subst (λ (m : Spot). IsBefore q slot m) (get_zero class_count c) low));
           };
-          resting = λ n. refl;
+          resting = record { hunt = λ n. refl; free = λ n. refl; lists = λ l e. cc };
+          took_back = λ kind leads last. absurd (run_leads kind leads);
         }));
       }

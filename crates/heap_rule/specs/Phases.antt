@@ -1,5 +1,5 @@
 -- Phases: how the words, the domains' arrivals and where each domain stands belong together.
-use Rattle.std.specs.Prelude.{◌≡◌, ℕ, zero, suc, ◌+◌, ◌*◌, ◌<◌, ◌≤◌, Bool, true, false, List}
+use Rattle.std.specs.Prelude.{◌≡◌, ℕ, zero, suc, ◌+◌, ◌*◌, ◌<◌, ◌≤◌, Bool, true, false, List, [], ◌∷◌, Option, Some, None}
 use Rattle.heap_model.specs.declared.entry.Entry.{Entry}
 use Rattle.heap_model.specs.declared.state.State as model
 use Rattle.heap_model.specs.Domains.{domain_at}
@@ -7,9 +7,11 @@ use Rattle.heap_rule.specs.declared.config.Config.{Config}
 use Rattle.heap_rule.specs.declared.view.DomainView.{DomainView}
 use Rattle.heap_rule.specs.declared.phase.Kind.{Kind}
 use Rattle.heap_rule.specs.declared.phase.Kind.TheVariants.{Run, Promote, Reset}
+use Rattle.heap_rule.specs.declared.phase.Note.{Note}
+use Rattle.heap_rule.specs.declared.phase.Note.TheVariants.{Cleared}
 use Rattle.heap_rule.specs.declared.phase.Stage.{Stage}
 use Rattle.heap_rule.specs.declared.phase.Stage.TheVariants.{In, Leads, Led, Gone}
-use Rattle.heap_rule.specs.Layout.{barrier, plan, ended_word}
+use Rattle.heap_rule.specs.Layout.{barrier, plan, want, ended_word}
 
 -- the plan word of a kind
 abbrev pub code : Kind → ℕ
@@ -102,3 +104,19 @@ is_over s d = flag (domain_at s d).ended
 -- the ended word counts the domains whose trace has ended
 abbrev pub CountsEnded : Config → model.State → List ℕ → Type 0
 CountsEnded k s words = ended_word words ≡ sum_of (is_over s) k.domains
+
+-- the last of a list of notes
+abbrev pub last_from : Option Note → List Note → Option Note
+last_from o [] = o
+last_from o (n ∷ ns) = last_from (Some n) ns
+
+abbrev pub last_note : List Note → Option Note
+last_note notes = last_from None notes
+
+-- a domain that leads, and whose last note is that it took the wishes back, finds none
+abbrev pub TookBack : List ℕ → DomainView → Type 0
+TookBack words x = (kind : Kind) → x.seen.stage ≡ Leads kind → last_note x.seen.notes ≡ Some Cleared → want words ≡ 0
+
+-- nobody has a wish when the domains run again
+abbrev pub Unwished : Pause → List ℕ → Type 0
+Unwished t words = (j : ℕ) → t.phase ≡ j * 2 + 1 → t.led ≡ true → t.kinds (j + 1) ≡ Run → want words ≡ 0

@@ -1,14 +1,16 @@
 -- The pools: who has each, where their blocks lie, and what a domain that takes one of their blocks knows.
-use Rattle.std.specs.Prelude.{◌≡◌, ◌≢◌, ℕ, ◌+◌, ◌*◌, ◌-◌, ◌/◌, ◌<◌, ◌≤◌, ◌⊎◌, List, length, slice_index, slice_index_or, slice_get, Option, Some, None}
+use Rattle.std.specs.Prelude.{◌≡◌, ◌≢◌, ℕ, ◌+◌, ◌*◌, ◌-◌, ◌/◌, ◌<◌, ◌≤◌, ◌⊎◌, List, length, slice_index, slice_index_or, slice_get, Option, Some, None, true}
 use Rattle.size_classes.specs.declared.TheConstants.{SIZES}
-use Rattle.heap_model.specs.Domains.{reserve}
+use Rattle.heap_model.specs.Domains.{class_count, reserve}
 use Rattle.heap_rule.specs.declared.config.Config.{Config}
 use Rattle.heap_rule.specs.declared.view.Hunt.{Hunt}
+use Rattle.heap_rule.specs.declared.view.Listing.{Listing}
 use Rattle.heap_rule.specs.declared.view.Hunt.TheVariants.{Rests, Counts, Asks, Draws, Walks, Fills}
 use Rattle.heap_rule.specs.declared.view.Spot.{Spot}
 use Rattle.heap_rule.specs.declared.view.DomainView.{DomainView}
 use Rattle.heap_rule.specs.declared.phase.Kind.TheVariants.{Run}
-use Rattle.heap_rule.specs.declared.phase.Stage.TheVariants.{In}
+use Rattle.heap_rule.specs.declared.phase.Stage.{Stage}
+use Rattle.heap_rule.specs.declared.phase.Stage.TheVariants.{In, Leads, Led}
 use Rattle.heap_rule.specs.Limits.{sizes_in}
 use Rattle.heap_rule.specs.Layout.{at_address, listed_pool, owner_of, listed, cursor}
 use Rattle.heap_rule.specs.Places.{Place, Live, extent}
@@ -52,7 +54,7 @@ pub record Pools (k : Config) (t : Tenancy) (words : List ℕ) : Type 0 where
   pub once : (i j : ℕ) → i < listed words → j < listed words → listed_pool words i ≡ listed_pool words j → i ≡ j
   pub untaken : (i : ℕ) → i < listed words → (cursor words ≤ i) ⊎ (limit_of k (listed words) ≤ i) → t.holder (listed_pool words i) ≡ nobody
   pub owners : (q : ℕ) → q < k.pools → owner_of k words q ≡ owner_word (t.holder q)
-  pub owned_by : (q d c : ℕ) → t.holder q ≡ owned d c → (q < k.pools) × (d < k.domains) × (c < 6)
+  pub owned_by : (q d c : ℕ) → t.holder q ≡ owned d c → (q < k.pools) × (d < k.domains) × (c < class_count)
   pub drawn_by : (q d : ℕ) → t.holder q ≡ drawn d → (q < k.pools) × (d < k.domains)
   pub one_each : (d : ℕ) → t.asking d ≤ 1
   pub asked : cursor words + sum_of t.asking k.domains ≤ k.pools + k.domains
@@ -87,7 +89,7 @@ pub record Clearing (k : Config) (holder : ℕ → Holder) (words : List ℕ) (d
   pub listed_is : place < k.pools
   pub names : listed_pool words place ≡ pool
   pub drawn_is : holder pool ≡ drawn d
-  pub of_class : class < 6
+  pub of_class : class < class_count
   pub some : cleared ≤ blocks_of class
   pub free : (j : ℕ) → j < cleared → at_address k words (place_in pool class j) ≡ 0
 
@@ -111,9 +113,27 @@ IsBefore q slot spot = (q < spot.pool) ⊎ ((q ≡ spot.pool) × (slot < spot.sl
 abbrev pub Drawers : Pause → Tenancy → Type 0
 Drawers p t = (q d : ℕ) → t.holder q ≡ drawn d → (p.arrived d ≡ p.phase) × ((j : ℕ) × (p.phase ≡ j * 2) × (p.kinds j ≡ Run))
 
--- a domain that doesn't run takes no block
-abbrev pub Resting : DomainView → Type 0
-Resting x = x.seen.stage ≢ In Run → x.seen.hunt ≡ Rests
+-- domain 0 acts in an odd phase
+abbrev pub IsLeading : Stage → Type 0
+IsLeading (Leads last) = Unit {0}
+IsLeading (Led next) = Unit {0}
+IsLeading _ = ⊥
+
+-- domain 0 writes the list of free pools anew: these are the owner words of the first pools, the first places of the list, and how many are listed, and the cursor is 0 once it was set back
+pub record Lists (k : Config) (words : List ℕ) (number : ℕ) (stage : Stage) (l : Listing) : Type 0 where
+  pub first : number ≡ 0
+  pub leads : IsLeading stage
+  pub few : (length l.owners ≤ k.pools) × (length l.names ≤ k.pools)
+  pub owners : (q w : ℕ) → slice_get l.owners q ≡ Some w → owner_of k words q ≡ w
+  pub names : (i q : ℕ) → slice_get l.names i ≡ Some q → listed_pool words i ≡ q
+  pub count : listed words ≡ l.listed
+  pub rewinds : l.rewound ≡ true → cursor words ≡ 0
+
+-- a domain that doesn't run takes no block, and knows nothing of how many pools are free. Only domain 0 writes the list, in an odd phase
+pub record Resting (k : Config) (words : List ℕ) (x : DomainView) : Type 0 where
+  pub hunt : x.seen.stage ≢ In Run → x.seen.hunt ≡ Rests
+  pub free : x.seen.stage ≢ In Run → x.seen.free ≡ None
+  pub lists : (l : Listing) → x.seen.listing ≡ Some l → Lists k words x.own.number x.seen.stage l
 
 -- the domain with other places looked at, and further on in taking a block
 abbrev pub hunting_free : DomainView → List Spot → Hunt → Option ℕ → DomainView

@@ -15,7 +15,7 @@ use Rattle.heap_rule.specs.Layout.{table_words, base_of, at_address, barrier, pl
 use Rattle.heap_rule.specs.Places.{Place, Live, extent, Stands, Found, Placed}
 use Rattle.heap_rule.specs.Pools.{Tenancy, Pools, Grid, Drawers, Resting, Hunter}
 use Rattle.heap_rule.specs.Changes.{value_at}
-use Rattle.heap_rule.specs.Phases.{Pause, Phases, Staged, Still, CountsEnded}
+use Rattle.heap_rule.specs.Phases.{Pause, Phases, Staged, Still, TookBack, Unwished, CountsEnded}
 use Rattle.heap_rule.specs.Views.{EachView, EachDomain, Knows}
 
 -- the state that a history of this heap leaves
@@ -57,7 +57,8 @@ pub record Good (k : Config) (all : Account) (words : List ℕ) (x : DomainView)
   pub staged : Staged all.pause x
   pub still : Still all.log x
   pub hunter : Hunter k all.tenancy words x
-  pub resting : Resting x
+  pub resting : Resting k words x
+  pub took_back : TookBack words x
 
 -- at the start no domain asks for a collection, none has arrived anywhere, and no trace has ended
 pub record Rested (words : List ℕ) : Type 0 where
@@ -79,6 +80,7 @@ pub record Whole (k : Config) (all : Account) (words : List ℕ) : Type 0 where
   pub found : AllFound k all.live (state_of k all.log).graph words
   pub placed : Placed k all.live
   pub phases : Phases k all.pause words
+  pub unwished : Unwished all.pause words
   pub endings : CountsEnded k (state_of k all.log) words
   pub pools : Pools k all.tenancy words
   pub grid : Grid k all.tenancy.holder all.live words

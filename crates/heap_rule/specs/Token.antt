@@ -12,7 +12,7 @@ use Rattle.heap_rule.specs.declared.view.Own.{Own}
 use Rattle.heap_rule.specs.declared.view.Spot.{Spot}
 use Rattle.heap_rule.specs.declared.view.View.{View}
 use Rattle.heap_rule.specs.Pools.{blocks_of, spot_at}
-use Rattle.heap_model.specs.Domains.{IsWithinLimits}
+use Rattle.heap_model.specs.Domains.{class_count, IsWithinLimits}
 use Rattle.heap_rule.specs.Limits.{sizes_in}
 use Rattle.heap_rule.specs.Layout.{heap_words, base_of}
 use Rattle.heap_rule.specs.Changes.{value_at}
@@ -45,8 +45,8 @@ pub record Holds (k : Config) (registers : List Value) : Type 0 where
 
 -- how far the places of each size class were looked at lies within the pools
 pub record LooksWithin (k : Config) (looked : List Spot) : Type 0 where
-  pub wide : length looked ≡ 6
-  pub within : (class : ℕ) → class < 6 → ((spot_at looked class).pool ≤ k.pools) × ((spot_at looked class).slot < blocks_of class)
+  pub wide : length looked ≡ class_count
+  pub within : (class : ℕ) → class < class_count → ((spot_at looked class).pool ≤ k.pools) × ((spot_at looked class).slot < blocks_of class)
 
 -- what is known of a token's own data without a look at the table
 pub record OwnFits (k : Config) (own : Own) : Type 0 where

@@ -1,4 +1,5 @@
 -- The views of seats: what each knows of the history and of the domains that it stands for.
+use Rattle.heap_model.specs.Domains.{class_count}
 use Rattle.std.specs.Prelude.{◌≡◌, ◌≢◌, ℕ, zero, suc, ◌+◌, ◌<◌, List, [], ◌∷◌, ◌++◌, replicate, None}
 use mathlib.Core.Option.{some}
 use lib.ListN.{get_elem?}
@@ -52,8 +53,8 @@ one k h x = record { config = k; history = h; domains = x ∷ [] }
 -- a domain at the start: register 0 holds the shared block, which is at the address 1
 abbrev pub opening_view : ℕ → DomainView
 opening_view d = record {
-  own = record { number = d; registers = Ref 1 ∷ replicate 15 Nothing; used = 0; serial = 0; arrivals = 0; looked = replicate 6 (record { pool = 0; slot = 0 }) };
-  seen = record { front = []; made = []; stage = In Run; notes = []; hunt = Rests; free = None };
+  own = record { number = d; registers = Ref 1 ∷ replicate 15 Nothing; used = 0; serial = 0; arrivals = 0; looked = replicate class_count (record { pool = 0; slot = 0 }) };
+  seen = record { front = []; made = []; stage = In Run; notes = []; hunt = Rests; free = None; listing = None };
 }
 
 -- n domains from d on

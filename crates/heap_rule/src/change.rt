@@ -8,7 +8,7 @@ use crate::view::Own;
 use heap_words::{Value, unpack_value};
 
 /// A list of the token. So far the registers are the only one that is there.
-#[derive(Clone, Copy, Debug, PartialEq, Eq)]
+#[derive(Clone, Copy)]
 pub enum Part {
     /// The 16 registers.
     Register,
@@ -35,7 +35,7 @@ pub enum Part {
 }
 
 /// One item of a list. A number that a list doesn't use is 0, and a value `Nothing`.
-#[derive(Clone, Copy, Debug, PartialEq, Eq)]
+#[derive(Clone, Copy)]
 pub struct Item {
     pub value: Value,
     pub number: u32,
@@ -43,7 +43,7 @@ pub struct Item {
 }
 
 /// One change of the token. The changes of a step are made in their order.
-#[derive(Clone, Copy, Debug, PartialEq, Eq)]
+#[derive(Clone, Copy)]
 pub enum Change {
     /// The item at the place is this one.
     Set { part: Part, place: u32, item: Item },

@@ -1,6 +1,6 @@
 //! The token of a domain.
 ghost use Rattle.std.specs.Prelude.{◌≡◌, ◌≢◌, ◌+◌, ◌<◌, ◌≤◌, ℕ, [], length, slice_get, Some};
-ghost use Rattle.heap_model.specs.Domains.{IsWithinLimits};
+ghost use Rattle.heap_model.specs.Domains.{class_count, IsWithinLimits};
 ghost use Rattle.heap_words.specs.declared.value.Value.TheVariants.{Ref};
 ghost use Rattle.heap_words.specs.Values.{IsPackable};
 ghost use Rattle.heap_rule.specs.Changes.{value_at};
@@ -100,7 +100,7 @@ impl Domain {
 
     /// The place before which no place of the class in the domain's own pools is free.
     pub fn looked(&self, class: u32) -> Spot
-        requires { class < 6 }
+        requires { class < class_count }
         ensures value { result ≡ spot_at self.now.view.own.looked class }
         ensures within { (result.pool ≤ self.now.config.pools) × (result.slot < blocks_of class) }
     {

@@ -20,7 +20,4 @@ pub use layout::{BARRIER, CURSOR, ENDED, LISTED, PLAN, WANT};
 pub use phase::{Kind, Note, Stage};
 pub use raw::{Changing, Leaving, Writing, add_as, exchange_as, load_as, or_as, store_as};
 pub use rule::Told;
-pub use view::{DomainView, Hunt, Own, Seen, Spot, View};
-
-#[cfg(test)]
-mod tests;
+pub use view::{DomainView, Hunt, Listing, Own, Seen, Spot, View};

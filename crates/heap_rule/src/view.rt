@@ -49,6 +49,18 @@ pub struct Spot {
     pub slot: u32,
 }
 
+/// The list of free pools, while domain 0 writes it anew.
+pub struct Listing {
+    /// The owner words that it found, from pool 0 on.
+    pub owners: LinkedList<u64>,
+    /// The pools that it wrote into the list, from its first place on.
+    pub names: LinkedList<u64>,
+    /// Whether the cursor is 0 again.
+    pub rewound: bool,
+    /// How many of them the word of the listed pools says.
+    pub listed: u64,
+}
+
 /// What a domain's token holds.
 #[derive(Drop)]
 pub struct Own {
@@ -78,6 +90,8 @@ pub struct Seen {
     pub hunt: Hunt,
     /// How many pools were free when the domain last looked, since it last arrived.
     pub free: Option<u64>,
+    /// The list of free pools, since the domain began to write it in this phase.
+    pub listing: Option<Listing>,
 }
 
 /// A domain: what its token holds, and what contracts alone know of it.

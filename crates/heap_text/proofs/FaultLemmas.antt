@@ -6,14 +6,14 @@ use Rattle.std.specs.Ordering.{int_eq}
 use Rattle.std.proofs.lemmas.Bool.Decides.{nat_tests}
 use Rattle.std.proofs.lemmas.List.{append-nil}
 use Rattle.std.proofs.lemmas.List.Sums.{sum_by-append}
+use Rattle.std.proofs.lemmas.Bool.{and_parts}
 use Rattle.heap_model.specs.declared.command.Command.{Command}
 use Rattle.heap_text.specs.declared.form.Word.{Word}
 use Rattle.heap_text.specs.declared.fault.ScriptFault.{ScriptFault}
 use Rattle.heap_text.specs.declared.fault.ScriptFault.TheVariants.{Range, Order, Syntax}
 use Rattle.heap_text.specs.Forms.{form, parts as taken_apart, is_writable}
 use Rattle.heap_text.specs.Spelling.{command_text, heading_text, section_lines, lines_from, script_lines, IsWritten}
-use Rattle.heap_text.specs.Faults.{heading, command, shape, is_heading, is_command, headings, commands, first_outside, fault_of_shape, line_fault, fault_from, or_else}
-use Rattle.heap_text.proofs.DecimalLemmas.{both}
+use Rattle.heap_text.specs.Faults.{heading, command, line_shape, is_heading, is_command, heading_lines, command_lines, first_out_of_range, fault_of_shape, line_fault, fault_from, or_else}
 use Rattle.heap_text.proofs.ScriptLemmas.{total-cons}
 use Rattle.heap_text.proofs.LineLemmas.{ranges_alone}
 use Rattle.heap_text.proofs.ShapeLemmas.{written, shape-command, shape-heading}
@@ -36,29 +36,29 @@ count-push test b before l e = sum_by-append (λ x. cond (test x) 1 0) before (l
 -- what stands before a line: some lines, with so many headings and so many commands
 pub record Before (before : List (List ℕ)) (h c : ℕ) : Type 0 where
   pub some : 0 < length before
-  pub headings_are : headings before ≡ h
-  pub commands_are : commands before ≡ c
+  pub headings_are : heading_lines before ≡ h
+  pub commands_are : command_lines before ≡ c
 
-pub before_heading : (before : List (List ℕ)) (h c : ℕ) (z : ℤ) (l : List ℕ) → Before before h c → shape l ≡ heading z → Before (before ++ l ∷ []) (h + 1) c
+pub before_heading : (before : List (List ℕ)) (h c : ℕ) (z : ℤ) (l : List ℕ) → Before before h c → line_shape l ≡ heading z → Before (before ++ l ∷ []) (h + 1) c
 before_heading before h c z l b e = record {
   some = omega (arith, length-append before (l ∷ []));
-  headings_are = omega (arith, count-push (λ x. is_heading (shape x)) true before l (ap is_heading e), b.headings_are);
-  commands_are = omega (arith, count-push (λ x. is_command (shape x)) false before l (ap is_command e), b.commands_are);
+  headings_are = omega (arith, count-push (λ x. is_heading (line_shape x)) true before l (ap is_heading e), b.headings_are);
+  commands_are = omega (arith, count-push (λ x. is_command (line_shape x)) false before l (ap is_command e), b.commands_are);
 }
 
-pub before_command : (before : List (List ℕ)) (h c : ℕ) (w : Word) (zs : List ℤ) (l : List ℕ) → Before before h c → shape l ≡ command w zs → Before (before ++ l ∷ []) h (c + 1)
+pub before_command : (before : List (List ℕ)) (h c : ℕ) (w : Word) (zs : List ℤ) (l : List ℕ) → Before before h c → line_shape l ≡ command w zs → Before (before ++ l ∷ []) h (c + 1)
 before_command before h c w zs l b e = record {
   some = omega (arith, length-append before (l ∷ []));
-  headings_are = omega (arith, count-push (λ x. is_heading (shape x)) false before l (ap is_heading e), b.headings_are);
-  commands_are = omega (arith, count-push (λ x. is_command (shape x)) true before l (ap is_command e), b.commands_are);
+  headings_are = omega (arith, count-push (λ x. is_heading (line_shape x)) false before l (ap is_heading e), b.headings_are);
+  commands_are = omega (arith, count-push (λ x. is_command (line_shape x)) true before l (ap is_command e), b.commands_are);
 }
 
 -- the fault of a line below the first, by what stands before it
-pub line_fault_below : (domains : ℕ) (before : List (List ℕ)) (h c : ℕ) (l : List ℕ) → Before before h c → line_fault domains before l ≡ fault_of_shape domains (length before + 1) h c (shape l)
+pub line_fault_below : (domains : ℕ) (before : List (List ℕ)) (h c : ℕ) (l : List ℕ) → Before before h c → line_fault domains before l ≡ fault_of_shape domains (length before + 1) h c (line_shape l)
 line_fault_below domains [] h c l b = absurd (omega (arith, b.some))
 line_fault_below domains (first ∷ before) h c l b =
-    ap (λ x. fault_of_shape domains (length (first ∷ before) + 1) x (commands (first ∷ before)) (shape l)) b.headings_are
-    ∙ ap (λ x. fault_of_shape domains (length (first ∷ before) + 1) h x (shape l)) b.commands_are
+    ap (λ x. fault_of_shape domains (length (first ∷ before) + 1) x (command_lines (first ∷ before)) (line_shape l)) b.headings_are
+    ∙ ap (λ x. fault_of_shape domains (length (first ∷ before) + 1) h x (line_shape l)) b.commands_are
 
 -- a line without a fault is passed over
 pub passed_over : (domains : ℕ) (before : List (List ℕ)) (l : List ℕ) (parts : List (List ℕ)) → 0 < length parts → line_fault domains before l ≡ None
@@ -85,7 +85,7 @@ no_heading_fault domains line h c small =
     ap (λ b. cond b (cond (int_eq (pos h) (pos h)) None (Some (Order line))) (Some (Range line 1))) inside ∙ ap (λ b. cond b None (Some (Order line))) next
 
 -- a command of the grammar in its place has no fault
-no_command_fault : (domains line h c : ℕ) (w : Word) (zs : List ℤ) → 0 < h → c < 200000 → first_outside 1 (form w).operands zs ≡ None → fault_of_shape domains line h c (command w zs) ≡ None
+no_command_fault : (domains line h c : ℕ) (w : Word) (zs : List ℤ) → 0 < h → c < 200000 → first_out_of_range 1 (form w).operands zs ≡ None → fault_of_shape domains line h c (command w zs) ≡ None
 no_command_fault domains line h c w zs some room inside =
     let begun : h ≢ 0 = omega arith in
     ranges_alone domains line h c w zs begun room ∙ ap (option_map (Range line)) inside
@@ -93,8 +93,8 @@ no_command_fault domains line h c w zs some room inside =
 before_same : (before after : List (List ℕ)) (h c d : ℕ) → Before before h c → before ≡ after → c ≡ d → Before after h d
 before_same before after h c d b e n = record {
   some = omega (arith, ap length e, b.some);
-  headings_are = ap headings (sym e) ∙ b.headings_are;
-  commands_are = ap commands (sym e) ∙ b.commands_are ∙ n;
+  headings_are = ap heading_lines (sym e) ∙ b.headings_are;
+  commands_are = ap command_lines (sym e) ∙ b.commands_are ∙ n;
 }
 
 -- what a walk over lines without faults leaves
@@ -125,7 +125,7 @@ over_commands : (domains : ℕ) (before : List (List ℕ)) (h c : ℕ) (cs : Lis
     → Walked domains before (map command_text cs) parts h (c + length cs)
 over_commands domains before h c [] parts b some room more e = walked_none domains before parts h c (c + 0) b (omega arith)
 over_commands domains before h c (x ∷ cs) parts b some room more e =
-    let p = both (is_writable x) (list_all is_writable cs) e in
+    let p = and_parts (is_writable x) (list_all is_writable cs) e in
     let w = written x p.0 in
     let said = shape-command x w in
     let none = line_fault_below domains before h c (command_text x) b ∙ ap (fault_of_shape domains (length before + 1) h c) said ∙ no_command_fault domains (length before + 1) h c (taken_apart x).word (taken_apart x).numbers some (omega arith) w.inside in
@@ -150,7 +150,7 @@ over_sections domains before h c [] parts b few small room more e =
     let counted : c ≡ c + 0 = omega arith in
     subst (λ (k : ℕ). Walked domains before [] parts k (c + 0)) same (walked_none domains before parts h c (c + 0) b counted)
 over_sections domains before h c (cs ∷ sections) parts b few small room more e =
-    let p = both (list_all is_writable cs) (list_all (list_all is_writable) sections) e in
+    let p = and_parts (list_all is_writable cs) (list_all (list_all is_writable) sections) e in
     let total = total-cons cs sections in
     let front = over_section domains before h c cs (lines_from (h + 1) sections ++ parts) b (omega arith) small (omega (arith, total)) (omega (arith, length-append (lines_from (h + 1) sections) parts)) p.0 in
     let back = over_sections domains (before ++ section_lines h cs) (h + 1) (c + length cs) sections parts front.counts (omega arith) small (omega (arith, total)) more p.1 in

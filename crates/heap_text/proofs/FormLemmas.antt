@@ -4,15 +4,16 @@ use Rattle.std.specs.Prelude.{Option, is_some, find, nat_lt, unsigned_abs, slice
 use Rattle.std.proofs.lemmas.Bool.Decides.{nat_tests}
 use Rattle.std.proofs.lemmas.Int.{ints}
 use Rattle.std.proofs.lemmas.Slice.Eq.{bytes_eq-Decides}
+use Rattle.std.proofs.lemmas.Bool.{and_parts as both}
 use Rattle.heap_model.specs.declared.command.Command.{Command}
-use Rattle.heap_model.specs.declared.command.Command.TheVariants.{PutInt, Copy, Forget, Alloc, AllocMaj, Load, Store, Ephe, SetKey, UnsetKey, GetKey, CheckKey, SetData, UnsetData, GetData, CheckData, Finalise, FinaliseLast, Poll, Minor, Major, FullMajor}
+use Rattle.heap_model.specs.declared.command.Command.TheVariants.{PutInt, Copy, Forget, Alloc, AllocMaj, Load, Store, Raw, Cas, Ephe, SetKey, UnsetKey, GetKey, CheckKey, SetData, UnsetData, GetData, CheckData, Finalise, FinaliseLast, Poll, Minor, Major, FullMajor, Spawn, Argument, PutResult, Join}
 use Rattle.heap_text.specs.declared.form.Operand.{Operand}
-use Rattle.heap_text.specs.declared.form.Operand.TheVariants.{Register, Tag, FieldCount, KeyCount, Index, FinaliserNumber, Integer}
+use Rattle.heap_text.specs.declared.form.Operand.TheVariants.{Register, Tag, RawTag, FieldCount, KeyCount, Index, FinaliserNumber, Integer, Section}
 use Rattle.heap_text.specs.declared.form.Word.{Word}
 use Rattle.heap_text.specs.declared.form.Word.TheVariants as word
 use Rattle.heap_text.specs.Forms.{form, fits, least, greatest, byte, short, wide, word_of, built_words, is_built, made, parts, all_fit}
-use Rattle.heap_text.specs.Faults.{first_outside}
-use Rattle.heap_text.proofs.DecimalLemmas.{is_free, both}
+use Rattle.heap_text.specs.Faults.{first_out_of_range}
+use Rattle.heap_text.proofs.DecimalLemmas.{is_free}
 use Rattle.heap_text.proofs.RangeLemmas.{least_wide, greatest_wide, passed}
 use Rattle.heap_text.proofs.TextLemmas.{are_small}
 
@@ -70,6 +71,8 @@ whole word.Alloc zs = Alloc (nat_at zs 0) (nat_at zs 1) (nat_at zs 2)
 whole word.AllocMaj zs = AllocMaj (nat_at zs 0) (nat_at zs 1) (nat_at zs 2)
 whole word.Load zs = Load (nat_at zs 0) (nat_at zs 1) (nat_at zs 2)
 whole word.Store zs = Store (nat_at zs 0) (nat_at zs 1) (nat_at zs 2)
+whole word.Raw zs = Raw (nat_at zs 0) (nat_at zs 1) (nat_at zs 2)
+whole word.Cas zs = Cas (nat_at zs 0) (nat_at zs 1) (nat_at zs 2) (nat_at zs 3)
 whole word.Ephe zs = Ephe (nat_at zs 0) (nat_at zs 1)
 whole word.SetKey zs = SetKey (nat_at zs 0) (nat_at zs 1) (nat_at zs 2)
 whole word.UnsetKey zs = UnsetKey (nat_at zs 0) (nat_at zs 1)
@@ -85,6 +88,10 @@ whole word.Poll zs = Poll
 whole word.Minor zs = Minor
 whole word.Major zs = Major
 whole word.FullMajor zs = FullMajor
+whole word.Spawn zs = Spawn (nat_at zs 0) (nat_at zs 1)
+whole word.Argument zs = Argument (nat_at zs 0)
+whole word.Result zs = PutResult (nat_at zs 0)
+whole word.Join zs = Join (nat_at zs 0) (nat_at zs 1)
 
 pub whole-parts : (c : Command) → whole (parts c).word (parts c).numbers ≡ c
 whole-parts (PutInt dst value) = refl
@@ -95,10 +102,12 @@ abbrev pub held : Operand → ℤ → ℤ
 held Integer z = z
 held Register z = pos (byte z)
 held Tag z = pos (byte z)
+held RawTag z = pos (byte z)
 held FieldCount z = pos (short z)
 held KeyCount z = pos (short z)
 held Index z = pos (short z)
 held FinaliserNumber z = pos (wide z)
+held Section z = pos (wide z)
 
 held_between : (most high : ℕ) (low z : ℤ) → int_le (pos 0) low ≡ true → high ≤ most → (int_le low z && int_le z (pos high)) ≡ true → pos (min (unsigned_abs z) most) ≡ z
 held_between most high low (pos n) l h e = grind (arith, ints, nat_tests)
@@ -108,17 +117,20 @@ pub held_same : (kind : Operand) (z : ℤ) → fits kind z ≡ true → held kin
 held_same Integer z e = refl
 held_same Register z e = held_between 255 15 (pos 0) z refl (omega arith) e
 held_same Tag z e = held_between 255 245 (pos 0) z refl (omega arith) e
+held_same RawTag z e = held_between 255 255 (pos 251) z refl (omega arith) e
 held_same FieldCount z e = held_between 65535 126 (pos 1) z refl (omega arith) e
 held_same KeyCount z e = held_between 65535 8 (pos 1) z refl (omega arith) e
 held_same Index z e = held_between 65535 1023 (pos 0) z refl (omega arith) e
 held_same FinaliserNumber z e = held_between 4294967295 65535 (pos 0) z refl (omega arith) e
+held_same Section z e = held_between 4294967295 7 (pos 0) z refl (omega arith) e
 
--- up to three numbers as their fields hold them
+-- up to four numbers as their fields hold them
 abbrev pub all_held : List Operand → List ℤ → List ℤ
 all_held [] zs = []
 all_held (a ∷ []) zs = held a (slice_index_or zs 0 (pos 0)) ∷ []
 all_held (a ∷ b ∷ []) zs = held a (slice_index_or zs 0 (pos 0)) ∷ held b (slice_index_or zs 1 (pos 0)) ∷ []
-all_held (a ∷ b ∷ c ∷ more) zs = held a (slice_index_or zs 0 (pos 0)) ∷ held b (slice_index_or zs 1 (pos 0)) ∷ held c (slice_index_or zs 2 (pos 0)) ∷ []
+all_held (a ∷ b ∷ c ∷ []) zs = held a (slice_index_or zs 0 (pos 0)) ∷ held b (slice_index_or zs 1 (pos 0)) ∷ held c (slice_index_or zs 2 (pos 0)) ∷ []
+all_held (a ∷ b ∷ c ∷ d ∷ more) zs = held a (slice_index_or zs 0 (pos 0)) ∷ held b (slice_index_or zs 1 (pos 0)) ∷ held c (slice_index_or zs 2 (pos 0)) ∷ held d (slice_index_or zs 3 (pos 0)) ∷ []
 
 -- the numbers of a command that was made
 pub numbers_made : (w : Word) (zs : List ℤ) → (parts (made w zs)).numbers ≡ all_held (form w).operands zs
@@ -129,13 +141,13 @@ pub word_made : (w : Word) (zs : List ℤ) → (parts (made w zs)).word ≡ w
 word_made word.Int zs = refl
 word_made _ zs = refl
 
--- no row has more than three numbers
-pub few_operands : (w : Word) → length (form w).operands ≤ 3
+-- no row has more than four numbers
+pub few_operands : (w : Word) → length (form w).operands ≤ 4
 few_operands word.Int = lit≤ tt
 few_operands _ = lit≤ tt
 
 -- numbers in their ranges stay as they are
-pub all_held_same : (kinds : List Operand) (zs : List ℤ) → length kinds ≤ 3 → length zs ≡ length kinds → first_outside 1 kinds zs ≡ None → all_held kinds zs ≡ zs
+pub all_held_same : (kinds : List Operand) (zs : List ℤ) → length kinds ≤ 4 → length zs ≡ length kinds → first_out_of_range 1 kinds zs ≡ None → all_held kinds zs ≡ zs
 all_held_same [] [] few n e = refl
 all_held_same [] (x ∷ zs) few n e = absurd (omega arith)
 all_held_same (a ∷ kinds) [] few n e = absurd (omega arith)
@@ -146,7 +158,7 @@ all_held_same (a ∷ []) (x ∷ []) few n e =
 all_held_same (a ∷ []) (x ∷ y ∷ zs) few n e = absurd (omega arith)
 all_held_same (a ∷ b ∷ kinds) (x ∷ []) few n e = absurd (omega arith)
 all_held_same (a ∷ b ∷ []) (x ∷ y ∷ []) few n e =
-    let p = passed (fits a x) (first_outside 2 (b ∷ []) (y ∷ [])) 1 e in
+    let p = passed (fits a x) (first_out_of_range 2 (b ∷ []) (y ∷ [])) 1 e in
     let q = passed (fits b y) None 2 p.1 in
     let first = held_same a x p.0 in
     let second = held_same b y q.0 in
@@ -154,18 +166,30 @@ all_held_same (a ∷ b ∷ []) (x ∷ y ∷ []) few n e =
 all_held_same (a ∷ b ∷ []) (x ∷ y ∷ z ∷ zs) few n e = absurd (omega arith)
 all_held_same (a ∷ b ∷ c ∷ kinds) (x ∷ y ∷ []) few n e = absurd (omega arith)
 all_held_same (a ∷ b ∷ c ∷ []) (x ∷ y ∷ z ∷ []) few n e =
-    let p = passed (fits a x) (first_outside 2 (b ∷ c ∷ []) (y ∷ z ∷ [])) 1 e in
-    let q = passed (fits b y) (first_outside 3 (c ∷ []) (z ∷ [])) 2 p.1 in
+    let p = passed (fits a x) (first_out_of_range 2 (b ∷ c ∷ []) (y ∷ z ∷ [])) 1 e in
+    let q = passed (fits b y) (first_out_of_range 3 (c ∷ []) (z ∷ [])) 2 p.1 in
     let r = passed (fits c z) None 3 q.1 in
     let first = held_same a x p.0 in
     let second = held_same b y q.0 in
     let third = held_same c z r.0 in
     cc
 all_held_same (a ∷ b ∷ c ∷ []) (x ∷ y ∷ z ∷ v ∷ zs) few n e = absurd (omega arith)
-all_held_same (a ∷ b ∷ c ∷ d ∷ kinds) (x ∷ y ∷ z ∷ zs) few n e = absurd (omega arith)
+all_held_same (a ∷ b ∷ c ∷ d ∷ kinds) (x ∷ y ∷ z ∷ []) few n e = absurd (omega arith)
+all_held_same (a ∷ b ∷ c ∷ d ∷ []) (x ∷ y ∷ z ∷ v ∷ []) few n e =
+    let p = passed (fits a x) (first_out_of_range 2 (b ∷ c ∷ d ∷ []) (y ∷ z ∷ v ∷ [])) 1 e in
+    let q = passed (fits b y) (first_out_of_range 3 (c ∷ d ∷ []) (z ∷ v ∷ [])) 2 p.1 in
+    let r = passed (fits c z) (first_out_of_range 4 (d ∷ []) (v ∷ [])) 3 q.1 in
+    let t = passed (fits d v) None 4 r.1 in
+    let first = held_same a x p.0 in
+    let second = held_same b y q.0 in
+    let third = held_same c z r.0 in
+    let fourth = held_same d v t.0 in
+    cc
+all_held_same (a ∷ b ∷ c ∷ d ∷ []) (x ∷ y ∷ z ∷ v ∷ w ∷ zs) few n e = absurd (omega arith)
+all_held_same (a ∷ b ∷ c ∷ d ∷ f ∷ kinds) (x ∷ y ∷ z ∷ v ∷ zs) few n e = absurd (omega arith)
 
 -- numbers in their ranges are those of the command that is made of them
-pub numbers_kept : (w : Word) (zs : List ℤ) → length zs ≡ length (form w).operands → first_outside 1 (form w).operands zs ≡ None → (parts (made w zs)).numbers ≡ zs
+pub numbers_kept : (w : Word) (zs : List ℤ) → length zs ≡ length (form w).operands → first_out_of_range 1 (form w).operands zs ≡ None → (parts (made w zs)).numbers ≡ zs
 numbers_kept w zs n e = numbers_made w zs ∙ all_held_same (form w).operands zs (few_operands w) n e
 
 -- numbers in their ranges fit 64 bits
@@ -176,24 +200,24 @@ small_between low high (negsuc n) l h e = grind (arith, ints, nat_tests)
 small_if_fits : (kind : Operand) (z : ℤ) → fits kind z ≡ true → nat_lt (unsigned_abs z) (2 ^ 63) ≡ true
 small_if_fits kind z e = small_between (least kind) (greatest kind) z (least_wide kind) (greatest_wide kind) e
 
-pub small_if_inside : (which : ℕ) (kinds : List Operand) (zs : List ℤ) → length zs ≡ length kinds → first_outside which kinds zs ≡ None → are_small zs ≡ true
+pub small_if_inside : (which : ℕ) (kinds : List Operand) (zs : List ℤ) → length zs ≡ length kinds → first_out_of_range which kinds zs ≡ None → are_small zs ≡ true
 small_if_inside which kinds [] n e = refl
 small_if_inside which [] (z ∷ zs) n e = absurd (omega arith)
 small_if_inside which (kind ∷ kinds) (z ∷ zs) n e =
-    let p = passed (fits kind z) (first_outside (which + 1) kinds zs) which e in
+    let p = passed (fits kind z) (first_out_of_range (which + 1) kinds zs) which e in
     ap (λ b. b && are_small zs) (small_if_fits kind z p.0) ∙ small_if_inside (which + 1) kinds zs (omega arith) p.1
 
 -- the two ways to say that numbers are in their ranges
-pub inside_if_fit : (which : ℕ) (kinds : List Operand) (zs : List ℤ) → all_fit kinds zs ≡ true → first_outside which kinds zs ≡ None
+pub inside_if_fit : (which : ℕ) (kinds : List Operand) (zs : List ℤ) → all_fit kinds zs ≡ true → first_out_of_range which kinds zs ≡ None
 inside_if_fit which [] zs e = refl
 inside_if_fit which (kind ∷ kinds) [] e = refl
 inside_if_fit which (kind ∷ kinds) (z ∷ zs) e =
     let p = both (fits kind z) (all_fit kinds zs) e in
-    ap (λ b. cond b (first_outside (which + 1) kinds zs) (Some which)) p.0 ∙ inside_if_fit (which + 1) kinds zs p.1
+    ap (λ b. cond b (first_out_of_range (which + 1) kinds zs) (Some which)) p.0 ∙ inside_if_fit (which + 1) kinds zs p.1
 
-pub fit_if_inside : (which : ℕ) (kinds : List Operand) (zs : List ℤ) → first_outside which kinds zs ≡ None → all_fit kinds zs ≡ true
+pub fit_if_inside : (which : ℕ) (kinds : List Operand) (zs : List ℤ) → first_out_of_range which kinds zs ≡ None → all_fit kinds zs ≡ true
 fit_if_inside which [] zs e = refl
 fit_if_inside which (kind ∷ kinds) [] e = refl
 fit_if_inside which (kind ∷ kinds) (z ∷ zs) e =
-    let p = passed (fits kind z) (first_outside (which + 1) kinds zs) which e in
+    let p = passed (fits kind z) (first_out_of_range (which + 1) kinds zs) which e in
     ap (λ b. b && all_fit kinds zs) p.0 ∙ fit_if_inside (which + 1) kinds zs p.1

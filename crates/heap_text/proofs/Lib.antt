@@ -1,4 +1,4 @@
-pub mod CutLemmas
+pub mod SplitLemmas
 pub mod ScriptLemmas
 pub mod NumberLemmas
 pub mod RangeLemmas

@@ -3,7 +3,7 @@ use Rattle.std.proofs.Common.{◌≡◌, ℕ, ◌<◌, ◌≢◌, ℤ, List, ◌
 use Rattle.std.specs.Prelude.{Option, is_some, option_map}
 use Rattle.std.proofs.lemmas.Bool.Decides.{nat_tests}
 use Rattle.std.proofs.lemmas.List.Splits.{length-slice_split}
-use Rattle.heap_text.specs.Cut.{texts_behind}
+use Rattle.heap_text.specs.Split.{texts_behind}
 use Rattle.heap_text.specs.Number.{numbers, counted_numbers, clipped}
 
 -- what the numbers so far make of those to come

@@ -4,13 +4,13 @@ use Rattle.std.specs.Prelude.{Result, codes, nat_lt, ◌==◌}
 use Rattle.std.specs.List.{list_all, slice_split}
 use Rattle.std.proofs.lemmas.Bool.Decides.{nat_tests}
 use Rattle.std.proofs.lemmas.List.{append-nil}
+use Rattle.std.proofs.lemmas.Bool.{and_parts}
 use Rattle.heap_model.specs.declared.command.Command.{Command}
 use Rattle.heap_text.specs.declared.fault.ScriptFault.{ScriptFault}
 use Rattle.heap_text.specs.declared.fault.ScriptFault.TheVariants.{Syntax, Order, Range, TooLong, TooMany, Memory}
 use Rattle.heap_text.specs.Forms.{parts, is_writable}
 use Rattle.heap_text.specs.Spelling.{command_text, section_lines, lines_from, spelling, with_empty, IsWritten, Spells, IsUnlessMemory}
-use Rattle.heap_text.specs.Faults.{Shape, heading, command, neither, shape, fault_from, first_fault, IsFaultUnlessMemory}
-use Rattle.heap_text.proofs.DecimalLemmas.{both}
+use Rattle.heap_text.specs.Faults.{LineShape, heading, command, neither, line_shape, fault_from, first_fault, IsFaultUnlessMemory}
 use Rattle.heap_text.proofs.FormLemmas.{whole, whole-parts}
 use Rattle.heap_text.proofs.ShapeLemmas.{written, shape-command, shape-heading}
 use Rattle.heap_text.proofs.SectionLemmas.{split_spelling}
@@ -21,21 +21,21 @@ pub record Sections : Type 0 where
   pub open_commands : List Command
   pub sections : List (List Command)
 
-abbrev with_line : Shape → Sections → Sections
+abbrev with_line : LineShape → Sections → Sections
 with_line (heading z) s = record { open_commands = []; sections = s.open_commands ∷ s.sections }
 with_line (command w zs) s = record { open_commands = whole w zs ∷ s.open_commands; sections = s.sections }
 with_line neither s = s
 
 abbrev decoded : List (List ℕ) → Sections
 decoded [] = record { open_commands = []; sections = [] }
-decoded (l ∷ ls) = with_line (shape l) (decoded ls)
+decoded (l ∷ ls) = with_line (line_shape l) (decoded ls)
 
 -- the lines of commands give them back
 decoded-commands : (cs : List Command) (rest : List (List ℕ)) (s : Sections) → decoded rest ≡ s → s.open_commands ≡ [] → list_all is_writable cs ≡ true
     → decoded (map command_text cs ++ rest) ≡ record { open_commands = cs; sections = s.sections }
 decoded-commands [] rest s e none fit = e ∙ ap (λ (cs : List Command). record s { open_commands = cs }) none
 decoded-commands (c ∷ cs) rest s e none fit =
-    let p = both (is_writable c) (list_all is_writable cs) fit in
+    let p = and_parts (is_writable c) (list_all is_writable cs) fit in
     ap (λ x. with_line x (decoded (map command_text cs ++ rest))) (shape-command c (written c p.0))
     ∙ ap (with_line (command (parts c).word (parts c).numbers)) (decoded-commands cs rest s e none p.1)
     ∙ ap (λ (x : Command). record s { open_commands = x ∷ cs }) (whole-parts c)
@@ -45,7 +45,7 @@ decoded-sections : (n : ℕ) (sections : List (List Command)) (rest : List (List
     → decoded (lines_from n sections ++ rest) ≡ record { open_commands = []; sections = sections }
 decoded-sections n [] rest small e fit = e
 decoded-sections n (cs ∷ sections) rest small e fit =
-    let p = both (list_all is_writable cs) (list_all (list_all is_writable) sections) fit in
+    let p = and_parts (list_all is_writable cs) (list_all (list_all is_writable) sections) fit in
     let later = decoded-sections (n + 1) sections rest (omega arith) e p.1 in
     ap decoded (append_assoc (section_lines n cs) (lines_from (n + 1) sections) rest)
     ∙ ap (λ x. with_line x (decoded (map command_text cs ++ (lines_from (n + 1) sections ++ rest)))) (shape-heading n (omega arith))

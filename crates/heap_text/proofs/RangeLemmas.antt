@@ -7,7 +7,7 @@ use Rattle.heap_text.specs.declared.form.Operand.{Operand}
 use Rattle.heap_text.specs.declared.form.Operand.TheVariants.{Integer}
 use Rattle.heap_text.specs.Number.{clipped}
 use Rattle.heap_text.specs.Forms.{fits, least, greatest}
-use Rattle.heap_text.specs.Faults.{first_outside}
+use Rattle.heap_text.specs.Faults.{first_out_of_range}
 
 abbrev is_between : ℤ → ℤ → ℤ → Bool
 is_between low high z = int_le low z && int_le z high
@@ -29,12 +29,12 @@ greatest_wide _ = refl
 pub fits-clipped : (kind : Operand) (z : ℤ) → fits kind (clipped z) ≡ fits kind z
 fits-clipped kind z = clipped_between (least kind) (greatest kind) z (least_wide kind) (greatest_wide kind)
 
-pub first_outside-clipped : (which : ℕ) (kinds : List Operand) (zs : List ℤ) → first_outside which kinds (map clipped zs) ≡ first_outside which kinds zs
-first_outside-clipped which [] zs = refl
-first_outside-clipped which (kind ∷ kinds) [] = refl
-first_outside-clipped which (kind ∷ kinds) (z ∷ zs) =
-    ap (λ b. cond b (first_outside (which + 1) kinds (map clipped zs)) (Some which)) (fits-clipped kind z)
-    ∙ ap (λ o. cond (fits kind z) o (Some which)) (first_outside-clipped (which + 1) kinds zs)
+pub first_out_of_range-clipped : (which : ℕ) (kinds : List Operand) (zs : List ℤ) → first_out_of_range which kinds (map clipped zs) ≡ first_out_of_range which kinds zs
+first_out_of_range-clipped which [] zs = refl
+first_out_of_range-clipped which (kind ∷ kinds) [] = refl
+first_out_of_range-clipped which (kind ∷ kinds) (z ∷ zs) =
+    ap (λ b. cond b (first_out_of_range (which + 1) kinds (map clipped zs)) (Some which)) (fits-clipped kind z)
+    ∙ ap (λ o. cond (fits kind z) o (Some which)) (first_out_of_range-clipped (which + 1) kinds zs)
 
 -- a number in such a range is not clipped
 between_kept : (low high z : ℤ) → int_le (negsuc 9223372036854775800) low ≡ true → int_le high (pos 9223372036854775800) ≡ true → is_between low high z ≡ true → clipped z ≡ z
@@ -49,11 +49,11 @@ pub passed : (b : Bool) (o : Option ℕ) (which : ℕ) → cond b o (Some which)
 passed true o which e = (refl, e)
 passed false o which e = cc
 
-pub map-clipped_kept : (which : ℕ) (kinds : List Operand) (zs : List ℤ) → length zs ≡ length kinds → first_outside which kinds zs ≡ None → map clipped zs ≡ zs
+pub map-clipped_kept : (which : ℕ) (kinds : List Operand) (zs : List ℤ) → length zs ≡ length kinds → first_out_of_range which kinds zs ≡ None → map clipped zs ≡ zs
 map-clipped_kept which kinds [] n e = refl
 map-clipped_kept which [] (z ∷ zs) n e = absurd (omega arith)
 map-clipped_kept which (kind ∷ kinds) (z ∷ zs) n e =
-    let p = passed (fits kind z) (first_outside (which + 1) kinds zs) which e in
+    let p = passed (fits kind z) (first_out_of_range (which + 1) kinds zs) which e in
     let head = clipped_kept kind z p.0 in
     let rest = map-clipped_kept (which + 1) kinds zs (omega arith) p.1 in
     cc

@@ -1,15 +1,16 @@
--- The lines of a script: how they grow by a heading and by a command, and how the script's text is cut into them.
+-- The lines of a script: how they grow by a heading and by a command, and how the script's text is split into them.
 use Rattle.std.proofs.Common.{◌≡◌, ℕ, ◌+◌, ◌<◌, ◌^◌, List, [], ◌∷◌, ◌++◌, map, length, length-append, true, ◌&&◌, refl, ap, sym, ◌∙◌, arith, append_assoc, sum_by}
 use Rattle.std.specs.Prelude.{flat_map, codes, ◌==◌}
 use Rattle.std.specs.List.{list_all, slice_split}
 use Rattle.std.proofs.lemmas.List.{append-nil}
 use Rattle.std.proofs.lemmas.List.Concat.{flat_map-append}
+use Rattle.std.proofs.lemmas.Bool.{and_parts}
 use Rattle.heap_model.specs.declared.command.Command.{Command}
 use Rattle.heap_model.specs.Output.{line}
 use Rattle.heap_text.specs.Forms.{is_writable}
 use Rattle.heap_text.specs.Script.{with_command}
 use Rattle.heap_text.specs.Spelling.{command_text, heading_text, section_lines, lines_from, script_lines, spelling, IsWritten}
-use Rattle.heap_text.proofs.DecimalLemmas.{is_free, both}
+use Rattle.heap_text.proofs.DecimalLemmas.{is_free}
 use Rattle.heap_text.proofs.TextLemmas.{split-free}
 use Rattle.heap_text.proofs.ScriptLemmas.{total-with_command, total-cons}
 use Rattle.heap_text.proofs.ShapeLemmas.{written, command_without_line_feed, heading_without_line_feed}
@@ -47,11 +48,11 @@ lines-open sections =
 pub lines-push : (sections : List (List Command)) (c : Command) → 0 < length sections → script_lines (with_command sections c) ≡ script_lines sections ++ command_text c ∷ []
 lines-push sections c h = ap (λ ls. codes "heap 1" ∷ ls) (lines-pushed 0 sections c h)
 
--- the text of lines is cut into them
+-- the text of lines is split into them
 cut_lines : (lines : List (List ℕ)) (rest : List ℕ) → list_all (is_free 10) lines ≡ true → slice_split (λ b. b == 10) (flat_map line lines ++ rest) ≡ lines ++ slice_split (λ b. b == 10) rest
 cut_lines [] rest e = refl
 cut_lines (l ∷ lines) rest e =
-    let p = both (is_free 10 l) (list_all (is_free 10) lines) e in
+    let p = and_parts (is_free 10 l) (list_all (is_free 10) lines) e in
     ap (slice_split (λ b. b == 10)) (append_assoc (line l) (flat_map line lines) rest ∙ append_assoc l (10 ∷ []) (flat_map line lines ++ rest))
     ∙ split-free 10 l (flat_map line lines ++ rest) p.0
     ∙ ap (λ ls. l ∷ ls) (cut_lines lines rest p.1)
@@ -59,24 +60,24 @@ cut_lines (l ∷ lines) rest e =
 free_append : (ks bs : List (List ℕ)) → list_all (is_free 10) ks ≡ true → list_all (is_free 10) bs ≡ true → list_all (is_free 10) (ks ++ bs) ≡ true
 free_append [] bs e f = f
 free_append (a ∷ ks) bs e f =
-    let p = both (is_free 10 a) (list_all (is_free 10) ks) e in
+    let p = and_parts (is_free 10 a) (list_all (is_free 10) ks) e in
     ap (λ b. b && list_all (is_free 10) (ks ++ bs)) p.0 ∙ free_append ks bs p.1 f
 
 commands_free : (cs : List Command) → list_all is_writable cs ≡ true → list_all (is_free 10) (map command_text cs) ≡ true
 commands_free [] e = refl
 commands_free (c ∷ cs) e =
-    let p = both (is_writable c) (list_all is_writable cs) e in
+    let p = and_parts (is_writable c) (list_all is_writable cs) e in
     ap (λ b. b && list_all (is_free 10) (map command_text cs)) (command_without_line_feed c (written c p.0)) ∙ commands_free cs p.1
 
 lines_free : (n : ℕ) (sections : List (List Command)) → n + length sections < 2 ^ 63 → list_all (list_all is_writable) sections ≡ true → list_all (is_free 10) (lines_from n sections) ≡ true
 lines_free n [] h e = refl
 lines_free n (cs ∷ sections) h e =
-    let p = both (list_all is_writable cs) (list_all (list_all is_writable) sections) e in
+    let p = and_parts (list_all is_writable cs) (list_all (list_all is_writable) sections) e in
     free_append (section_lines n cs) (lines_from (n + 1) sections)
     (ap (λ b. b && list_all (is_free 10) (map command_text cs)) (heading_without_line_feed n (omega arith)) ∙ commands_free cs p.0)
     (lines_free (n + 1) sections (omega arith) p.1)
 
--- the text of a script, and what stands behind it, is cut into the script's lines and what stands behind them
+-- the text of a script, and what stands behind it, is split into the script's lines and what stands behind them
 pub split_spelling : (domains : ℕ) (sections : List (List Command)) (rest : List ℕ) → domains < 2 ^ 32 → IsWritten domains sections
     → slice_split (λ b. b == 10) (spelling sections ++ rest) ≡ script_lines sections ++ slice_split (λ b. b == 10) rest
 split_spelling domains sections rest small w = cut_lines (script_lines sections) rest (lines_free 0 sections (omega (arith, w.few_sections)) w.writable)
@@ -85,22 +86,22 @@ split_spelling domains sections rest small w = cut_lines (script_lines sections)
 all-push : (sections : List (List Command)) → list_all (list_all is_writable) sections ≡ true → list_all (list_all is_writable) (sections ++ [] ∷ []) ≡ true
 all-push [] e = refl
 all-push (cs ∷ sections) e =
-    let p = both (list_all is_writable cs) (list_all (list_all is_writable) sections) e in
+    let p = and_parts (list_all is_writable cs) (list_all (list_all is_writable) sections) e in
     ap (λ b. b && list_all (list_all is_writable) (sections ++ [] ∷ [])) p.0 ∙ all-push sections p.1
 
 one_more : (cs : List Command) (c : Command) → list_all is_writable cs ≡ true → is_writable c ≡ true → list_all is_writable (cs ++ c ∷ []) ≡ true
 one_more [] c e f = ap (λ b. b && true) f
 one_more (x ∷ cs) c e f =
-    let p = both (is_writable x) (list_all is_writable cs) e in
+    let p = and_parts (is_writable x) (list_all is_writable cs) e in
     ap (λ b. b && list_all is_writable (cs ++ c ∷ [])) p.0 ∙ one_more cs c p.1 f
 
 all-with_command : (sections : List (List Command)) (c : Command) → list_all (list_all is_writable) sections ≡ true → is_writable c ≡ true → list_all (list_all is_writable) (with_command sections c) ≡ true
 all-with_command [] c e f = refl
 all-with_command (cs ∷ []) c e f =
-    let p = both (list_all is_writable cs) true e in
+    let p = and_parts (list_all is_writable cs) true e in
     ap (λ b. b && true) (one_more cs c p.0 f)
 all-with_command (cs ∷ next ∷ sections) c e f =
-    let p = both (list_all is_writable cs) (list_all (list_all is_writable) (next ∷ sections)) e in
+    let p = and_parts (list_all is_writable cs) (list_all (list_all is_writable) (next ∷ sections)) e in
     ap (λ b. b && list_all (list_all is_writable) (with_command (next ∷ sections) c)) p.0 ∙ all-with_command (next ∷ sections) c p.1 f
 
 length-with_command : (sections : List (List Command)) (c : Command) → length (with_command sections c) ≡ length sections

@@ -5,20 +5,21 @@ use Rattle.std.specs.Fmt.{signed_decimal}
 use Rattle.std.proofs.lemmas.List.{append-nil}
 use Rattle.std.proofs.lemmas.Bool.Decides.{nat_tests}
 use Rattle.std.proofs.lemmas.Slice.Eq.{bytes_eq-Decides}
+use Rattle.std.proofs.lemmas.Bool.{and_parts}
 use Rattle.heap_model.specs.declared.command.Command.{Command}
 use Rattle.heap_text.specs.declared.form.Word.{Word}
 use Rattle.heap_text.specs.Number.{counted_numbers}
 use Rattle.heap_text.specs.Forms.{form, word_of, is_built, is_writable, made, parts, all_fit}
 use Rattle.heap_text.specs.Spelling.{row_text, command_text, heading_text}
-use Rattle.heap_text.specs.Faults.{heading, command, texts, shape, shape_of, heading_shape, row_shape, command_shape, first_outside}
-use Rattle.heap_text.proofs.DecimalLemmas.{is_free, both, signed_decimal_free}
+use Rattle.heap_text.specs.Faults.{heading, command, texts, line_shape, shape_of_texts, heading_shape, row_shape, command_shape, first_out_of_range}
+use Rattle.heap_text.proofs.DecimalLemmas.{is_free, signed_decimal_free}
 use Rattle.heap_text.proofs.TextLemmas.{are_small, spaced, texts-row, spaced_free, is_free-append, row_read, counted-map, counted_read, counted_length}
 use Rattle.heap_text.proofs.FormLemmas.{word_without_space, word_without_line_feed, word_no_heading, word_found, word_read, parts_counted, numbers_kept, word_made, small_if_inside, inside_if_fit, fit_if_inside}
 
 -- a row with its numbers says just that
-row_said : (w : Word) (zs : List ℤ) → is_built w ≡ true → length zs ≡ length (form w).operands → are_small zs ≡ true → shape (row_text w zs) ≡ command w zs
+row_said : (w : Word) (zs : List ℤ) → is_built w ≡ true → length zs ≡ length (form w).operands → are_small zs ≡ true → line_shape (row_text w zs) ≡ command w zs
 row_said w zs built n small =
-    ap shape_of (texts-row (form w).text zs (word_without_space w) small)
+    ap shape_of_texts (texts-row (form w).text zs (word_without_space w) small)
     ∙ ap (λ b. cond b (heading_shape (counted_numbers 1 (map signed_decimal zs))) (row_shape (word_of (form w).text) (map signed_decimal zs))) (word_no_heading w)
     ∙ ap (λ o. row_shape o (map signed_decimal zs)) (word_found w built)
     ∙ ap (command_shape w) (counted-map (length (form w).operands) zs n small)
@@ -26,12 +27,12 @@ row_said w zs built n small =
 -- a command of the grammar: its row, and its numbers are in their ranges
 pub record Written (c : Command) : Type 0 where
   pub built : is_built (parts c).word ≡ true
-  pub inside : first_outside 1 (form (parts c).word).operands (parts c).numbers ≡ None
+  pub inside : first_out_of_range 1 (form (parts c).word).operands (parts c).numbers ≡ None
   pub small : are_small (parts c).numbers ≡ true
 
 pub written : (c : Command) → is_writable c ≡ true → Written c
 written c e =
-    let p = both (is_built (parts c).word) (all_fit (form (parts c).word).operands (parts c).numbers) e in
+    let p = and_parts (is_built (parts c).word) (all_fit (form (parts c).word).operands (parts c).numbers) e in
     let inside = inside_if_fit 1 (form (parts c).word).operands (parts c).numbers p.1 in
     record {
       built = p.0;
@@ -39,7 +40,7 @@ written c e =
       small = small_if_inside 1 (form (parts c).word).operands (parts c).numbers (parts_counted c) inside;
     }
 
-pub shape-command : (c : Command) → Written c → shape (command_text c) ≡ command (parts c).word (parts c).numbers
+pub shape-command : (c : Command) → Written c → line_shape (command_text c) ≡ command (parts c).word (parts c).numbers
 shape-command c w = row_said (parts c).word (parts c).numbers w.built (parts_counted c) w.small
 
 pub command_without_line_feed : (c : Command) → Written c → is_free 10 (command_text c) ≡ true
@@ -52,10 +53,10 @@ heading_spaced n = ap (λ x. codes "domain " ++ x) (sym (append-nil (decimal n))
 small_one : (n : ℕ) → n < 2 ^ 63 → are_small (pos n ∷ []) ≡ true
 small_one n h = grind (arith, nat_tests)
 
-pub shape-heading : (n : ℕ) → n < 2 ^ 63 → shape (heading_text n) ≡ heading (pos n)
+pub shape-heading : (n : ℕ) → n < 2 ^ 63 → line_shape (heading_text n) ≡ heading (pos n)
 shape-heading n h =
-    ap shape (heading_spaced n)
-    ∙ ap shape_of (texts-row (codes "domain") (pos n ∷ []) refl (small_one n h))
+    ap line_shape (heading_spaced n)
+    ∙ ap shape_of_texts (texts-row (codes "domain") (pos n ∷ []) refl (small_one n h))
     ∙ ap heading_shape (counted-map 1 (pos n ∷ []) refl (small_one n h))
 
 pub heading_without_line_feed : (n : ℕ) → n < 2 ^ 63 → is_free 10 (heading_text n) ≡ true
@@ -102,7 +103,7 @@ command_by : (b : Bool) (t : List ℕ) (ts : List (List ℕ)) (w : Word) (zs : L
 command_by true t ts w zs e = absurd (no_command_heading (counted_numbers 1 ts) w zs e)
 command_by false t ts w zs e = row_numbers (word_of t) ts w zs e
 
-heading_of_texts : (line : List ℕ) (parts : List (List ℕ)) (n : ℕ) → n < 2 ^ 63 → texts line ≡ parts → shape_of parts ≡ heading (pos n) → line ≡ heading_text n
+heading_of_texts : (line : List ℕ) (parts : List (List ℕ)) (n : ℕ) → n < 2 ^ 63 → texts line ≡ parts → shape_of_texts parts ≡ heading (pos n) → line ≡ heading_text n
 heading_of_texts line [] n h same e = cc
 heading_of_texts line (t ∷ ts) n h same e =
     let p = heading_by (bytes_eq t (codes "domain")) t ts (pos n) refl e in
@@ -110,7 +111,7 @@ heading_of_texts line (t ∷ ts) n h same e =
     row_read line (codes "domain") (pos n ∷ []) (same ∙ ap (λ x. x ∷ ts) p.0 ∙ ap (λ x. codes "domain" ∷ x) q.0) ∙ sym (heading_spaced n)
 
 -- a line that says a heading is its text
-pub heading_said : (line : List ℕ) (n : ℕ) → n < 2 ^ 63 → shape line ≡ heading (pos n) → line ≡ heading_text n
+pub heading_said : (line : List ℕ) (n : ℕ) → n < 2 ^ 63 → line_shape line ≡ heading (pos n) → line ≡ heading_text n
 heading_said line n h e = heading_of_texts line (texts line) n h refl e
 
 -- what is known of a line that says a command with numbers in their ranges
@@ -118,7 +119,7 @@ pub record SaysCommand (line : List ℕ) (c : Command) : Type 0 where
   pub text : line ≡ command_text c
   pub writable : is_writable c ≡ true
 
-command_of_texts : (line : List ℕ) (ps : List (List ℕ)) (w : Word) (zs : List ℤ) → texts line ≡ ps → shape_of ps ≡ command w zs → first_outside 1 (form w).operands zs ≡ None → SaysCommand line (made w zs)
+command_of_texts : (line : List ℕ) (ps : List (List ℕ)) (w : Word) (zs : List ℤ) → texts line ≡ ps → shape_of_texts ps ≡ command w zs → first_out_of_range 1 (form w).operands zs ≡ None → SaysCommand line (made w zs)
 command_of_texts line [] w zs same e inside = cc
 command_of_texts line (t ∷ ts) w zs same e inside =
     let p = command_by (bytes_eq t (codes "domain")) t ts w zs e in
@@ -136,5 +137,5 @@ command_of_texts line (t ∷ ts) w zs same e inside =
     }
 
 -- a line that says a command is its text
-pub command_said : (line : List ℕ) (w : Word) (zs : List ℤ) → shape line ≡ command w zs → first_outside 1 (form w).operands zs ≡ None → SaysCommand line (made w zs)
+pub command_said : (line : List ℕ) (w : Word) (zs : List ℤ) → line_shape line ≡ command w zs → first_out_of_range 1 (form w).operands zs ≡ None → SaysCommand line (made w zs)
 command_said line w zs e inside = command_of_texts line (texts line) w zs refl e inside

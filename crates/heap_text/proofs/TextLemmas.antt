@@ -6,11 +6,12 @@ use Rattle.std.specs.List.{list_all, slice_split, onto_first, join_with_byte}
 use Rattle.std.proofs.lemmas.Bool.Decides.{nat_tests}
 use Rattle.std.proofs.lemmas.List.{length-map, append-nil}
 use Rattle.std.proofs.lemmas.List.Splits.{join_with_byte-slice_split}
+use Rattle.std.proofs.lemmas.Bool.{and_parts}
 use Rattle.heap_text.specs.Number.{number, numbers, counted_numbers}
 use Rattle.heap_text.specs.Faults.{texts}
-use Rattle.heap_text.proofs.DecimalLemmas.{is_free, both, number-signed_decimal, number_read, signed_decimal_free}
+use Rattle.heap_text.proofs.DecimalLemmas.{is_free, number-signed_decimal, number_read, signed_decimal_free}
 
--- a text is cut at a mark that doesn't stand in its front
+-- a text is split at a mark that doesn't stand in its front
 split_on : (t : Bool) (b : ℕ) (parts : List (List ℕ)) → not t ≡ true → cond t ([] ∷ parts) (onto_first b parts) ≡ onto_first b parts
 split_on true b parts e = cc
 split_on false b parts e = refl
@@ -20,19 +21,19 @@ split-free mark [] rest e =
     let test : (mark == mark) ≡ true = grind (arith, nat_tests) in
     ap (λ t. cond t ([] ∷ slice_split (λ b. b == mark) rest) (onto_first mark (slice_split (λ b. b == mark) rest))) test
 split-free mark (b ∷ bs) rest e =
-    let p = both (not (b == mark)) (is_free mark bs) e in
+    let p = and_parts (not (b == mark)) (is_free mark bs) e in
     split_on (b == mark) b (slice_split (λ x. x == mark) (bs ++ mark ∷ rest)) p.0 ∙ ap (onto_first b) (split-free mark bs rest p.1)
 
 pub split-free_end : (mark : ℕ) (bs : List ℕ) → is_free mark bs ≡ true → slice_split (λ b. b == mark) bs ≡ bs ∷ []
 split-free_end mark [] e = refl
 split-free_end mark (b ∷ bs) e =
-    let p = both (not (b == mark)) (is_free mark bs) e in
+    let p = and_parts (not (b == mark)) (is_free mark bs) e in
     split_on (b == mark) b (slice_split (λ x. x == mark) bs) p.0 ∙ ap (onto_first b) (split-free_end mark bs p.1)
 
 pub is_free-append : (mark : ℕ) (bs cs : List ℕ) → is_free mark bs ≡ true → is_free mark cs ≡ true → is_free mark (bs ++ cs) ≡ true
 is_free-append mark [] cs e f = f
 is_free-append mark (b ∷ bs) cs e f =
-    let p = both (not (b == mark)) (is_free mark bs) e in
+    let p = and_parts (not (b == mark)) (is_free mark bs) e in
     ap (λ x. x && is_free mark (bs ++ cs)) p.0 ∙ is_free-append mark bs cs p.1 f
 
 -- numbers that 64 bits hold
@@ -41,7 +42,7 @@ are_small zs = list_all (λ z. nat_lt (unsigned_abs z) (2 ^ 63)) zs
 
 small_head : (z : ℤ) (zs : List ℤ) → are_small (z ∷ zs) ≡ true → (unsigned_abs z < 2 ^ 63) × (are_small zs ≡ true)
 small_head z zs e =
-    let p = both (nat_lt (unsigned_abs z) (2 ^ 63)) (are_small zs) e in
+    let p = and_parts (nat_lt (unsigned_abs z) (2 ^ 63)) (are_small zs) e in
     let below : unsigned_abs z < 2 ^ 63 = grind (arith, nat_tests) in
     (below, p.1)
 

@@ -10,57 +10,58 @@ use Rattle.heap_text.specs.Number.{counted_numbers}
 use Rattle.heap_text.specs.Forms.{form, fits, word_of}
 
 -- what a line says, whatever stands before it
-pub data Shape : Type 0 where
-  heading : ℤ → Shape
-  command : Word → List ℤ → Shape
-  neither : Shape
+pub data LineShape : Type 0 where
+  heading : ℤ → LineShape
+  command : Word → List ℤ → LineShape
+  neither : LineShape
 
 -- a command, if it has its count of numbers
-abbrev pub command_shape : Word → Option (List ℤ) → Shape
+abbrev pub command_shape : Word → Option (List ℤ) → LineShape
 command_shape w None = neither
 command_shape w (Some zs) = command w zs
 
 -- a heading, if it has one number
-abbrev pub heading_shape : Option (List ℤ) → Shape
+abbrev pub heading_shape : Option (List ℤ) → LineShape
 heading_shape (Some (z ∷ [])) = heading z
 heading_shape _ = neither
 
 -- the texts behind the word of a row
-abbrev pub row_shape : Option Word → List (List ℕ) → Shape
+abbrev pub row_shape : Option Word → List (List ℕ) → LineShape
 row_shape None ts = neither
 row_shape (Some w) ts = command_shape w (counted_numbers (length (form w).operands) ts)
 
--- the texts of a line
-abbrev pub shape_of : List (List ℕ) → Shape
-shape_of [] = neither
-shape_of (t ∷ ts) = if bytes_eq t (codes "domain") then heading_shape (counted_numbers 1 ts) else row_shape (word_of t) ts
+-- what the texts of a line say
+abbrev pub shape_of_texts : List (List ℕ) → LineShape
+shape_of_texts [] = neither
+shape_of_texts (t ∷ ts) = if bytes_eq t (codes "domain") then heading_shape (counted_numbers 1 ts) else row_shape (word_of t) ts
 
--- a line, cut at each space
+-- a line, split at each space
 abbrev pub texts : List ℕ → List (List ℕ)
 texts line = slice_split (λ b. b == 32) line
 
-abbrev pub shape : List ℕ → Shape
-shape line = shape_of (texts line)
+-- what a line says
+abbrev pub line_shape : List ℕ → LineShape
+line_shape line = shape_of_texts (texts line)
 
-abbrev pub is_heading : Shape → Bool
+abbrev pub is_heading : LineShape → Bool
 is_heading (heading z) = true
 is_heading _ = false
 
-abbrev pub is_command : Shape → Bool
+abbrev pub is_command : LineShape → Bool
 is_command (command w zs) = true
 is_command _ = false
 
 -- how many of these lines are headings, and how many are commands
-abbrev pub headings : List (List ℕ) → ℕ
-headings lines = count_by (λ l. is_heading (shape l)) lines
+abbrev pub heading_lines : List (List ℕ) → ℕ
+heading_lines lines = count_by (λ l. is_heading (line_shape l)) lines
 
-abbrev pub commands : List (List ℕ) → ℕ
-commands lines = count_by (λ l. is_command (shape l)) lines
+abbrev pub command_lines : List (List ℕ) → ℕ
+command_lines lines = count_by (λ l. is_command (line_shape l)) lines
 
 -- the place, counted from `which`, of the first number that is outside the range of its operand
-abbrev pub first_outside : ℕ → List Operand → List ℤ → Option ℕ
-first_outside which (kind ∷ kinds) (z ∷ zs) = if fits kind z then first_outside (which + 1) kinds zs else Some which
-first_outside which _ _ = None
+abbrev pub first_out_of_range : ℕ → List Operand → List ℤ → Option ℕ
+first_out_of_range which (kind ∷ kinds) (z ∷ zs) = if fits kind z then first_out_of_range (which + 1) kinds zs else Some which
+first_out_of_range which _ _ = None
 
 -- whether a number is that of a section in a run with so many domains
 abbrev pub is_section : ℕ → ℤ → Bool
@@ -68,21 +69,21 @@ is_section domains (pos n) = nat_lt n domains
 is_section domains (negsuc n) = false
 
 -- what is wrong with a line below the first, by its number, the headings and the commands before it, and what it says
-abbrev pub fault_of_shape : ℕ → ℕ → ℕ → ℕ → Shape → Option ScriptFault
+abbrev pub fault_of_shape : ℕ → ℕ → ℕ → ℕ → LineShape → Option ScriptFault
 fault_of_shape domains line before_headings before_commands neither = Some (Syntax line)
 fault_of_shape domains line before_headings before_commands (heading z) =
     if is_section domains z then (if int_eq z (pos before_headings) then None else Some (Order line)) else Some (Range line 1)
 fault_of_shape domains line before_headings before_commands (command w zs) =
     if before_headings == 0 then Some (Order line)
     else if nat_le 200000 before_commands then Some (TooMany line)
-    else option_map (Range line) (first_outside 1 (form w).operands zs)
+    else option_map (Range line) (first_out_of_range 1 (form w).operands zs)
 
 -- what is wrong with a line, given the lines before it
 abbrev pub line_fault : ℕ → List (List ℕ) → List ℕ → Option ScriptFault
 line_fault domains [] line = if bytes_eq line (codes "heap 1") then None else Some (Syntax 1)
 line_fault domains (first ∷ before) line =
     let lines = first ∷ before in
-    fault_of_shape domains (length lines + 1) (headings lines) (commands lines) (shape line)
+    fault_of_shape domains (length lines + 1) (heading_lines lines) (command_lines lines) (line_shape line)
 
 -- what is wrong with what stands behind the last line feed, given the lines: it is to be empty, and not the first
 abbrev pub end_fault : List (List ℕ) → List ℕ → Option ScriptFault

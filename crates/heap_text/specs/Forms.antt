@@ -1,14 +1,15 @@
 -- The table of commands: each command's word, the numbers of its line with their ranges, and how the command is made of them.
 use Rattle.std.specs.Prelude.{ℕ, ℤ, pos, unsigned_abs, Bool, true, ◌&&◌, is_some, min, List, [], ◌∷◌, map, slice_index_or, Option, find, codes, bytes_eq, int_le, neg_ℤ}
 use Rattle.heap_model.specs.declared.command.Command.{Command}
-use Rattle.heap_model.specs.declared.command.Command.TheVariants.{PutInt, Copy, Forget, Alloc, AllocMaj, Load, Store, Ephe, SetKey, UnsetKey, GetKey, CheckKey, SetData, UnsetData, GetData, CheckData, Finalise, FinaliseLast, Poll, Minor, Major, FullMajor}
+use Rattle.heap_model.specs.declared.command.Command.TheVariants.{PutInt, Copy, Forget, Alloc, AllocMaj, Load, Store, Raw, Cas, Ephe, SetKey, UnsetKey, GetKey, CheckKey, SetData, UnsetData, GetData, CheckData, Finalise, FinaliseLast, Poll, Minor, Major, FullMajor, Spawn, Argument, PutResult, Join}
 use Rattle.heap_text.specs.declared.form.Operand.{Operand}
-use Rattle.heap_text.specs.declared.form.Operand.TheVariants.{Register, Tag, FieldCount, KeyCount, Index, FinaliserNumber, Integer}
+use Rattle.heap_text.specs.declared.form.Operand.TheVariants.{Register, Tag, RawTag, FieldCount, KeyCount, Index, FinaliserNumber, Integer, Section}
 use Rattle.heap_text.specs.declared.form.Word.{Word}
 use Rattle.heap_text.specs.declared.form.Word.TheVariants as word
 
 -- the least number of each kind
 abbrev pub least : Operand → ℤ
+least RawTag = pos 251
 least FieldCount = pos 1
 least KeyCount = pos 1
 least Integer = neg_ℤ (pos 4611686018427387904)
@@ -18,11 +19,13 @@ least _ = pos 0
 abbrev pub greatest : Operand → ℤ
 greatest Register = pos 15
 greatest Tag = pos 245
+greatest RawTag = pos 255
 greatest FieldCount = pos 126
 greatest KeyCount = pos 8
 greatest Index = pos 1023
 greatest FinaliserNumber = pos 65535
 greatest Integer = pos 4611686018427387903
+greatest Section = pos 7
 
 -- whether a number is in the range of its kind
 abbrev pub fits : Operand → ℤ → Bool
@@ -32,7 +35,7 @@ fits kind z = int_le (least kind) z && int_le z (greatest kind)
 pub record Form : Type 0 where
   pub text : List ℕ
   pub operands : List Operand
-  pub make : ℤ → ℤ → ℤ → Command
+  pub make : ℤ → ℤ → ℤ → ℤ → Command
 
 -- a number as a variant's field of 8, 16 or 32 bits holds it: one in its range stays as it is
 abbrev pub byte : ℤ → ℕ
@@ -44,33 +47,39 @@ short z = min (unsigned_abs z) 65535
 abbrev pub wide : ℤ → ℕ
 wide z = min (unsigned_abs z) 4294967295
 
-abbrev pub row : List ℕ → List Operand → (ℤ → ℤ → ℤ → Command) → Form
+abbrev pub row : List ℕ → List Operand → (ℤ → ℤ → ℤ → ℤ → Command) → Form
 row text operands make = record { text = text; operands = operands; make = make }
 
 -- the table
 abbrev pub form : Word → Form
-form word.Int = row (codes "int") (Register ∷ Integer ∷ []) (λ dst value _. PutInt (byte dst) value)
-form word.Move = row (codes "move") (Register ∷ Register ∷ []) (λ dst src _. Copy (byte dst) (byte src))
-form word.Drop = row (codes "drop") (Register ∷ []) (λ dst _ _. Forget (byte dst))
-form word.Alloc = row (codes "alloc") (Register ∷ Tag ∷ FieldCount ∷ []) (λ dst tag fields. Alloc (byte dst) (byte tag) (short fields))
-form word.AllocMaj = row (codes "allocmaj") (Register ∷ Tag ∷ FieldCount ∷ []) (λ dst tag fields. AllocMaj (byte dst) (byte tag) (short fields))
-form word.Load = row (codes "load") (Register ∷ Register ∷ Index ∷ []) (λ dst src index. Load (byte dst) (byte src) (short index))
-form word.Store = row (codes "store") (Register ∷ Index ∷ Register ∷ []) (λ block index item. Store (byte block) (short index) (byte item))
-form word.Ephe = row (codes "ephe") (Register ∷ KeyCount ∷ []) (λ dst keys _. Ephe (byte dst) (short keys))
-form word.SetKey = row (codes "set_key") (Register ∷ Index ∷ Register ∷ []) (λ ephe index item. SetKey (byte ephe) (short index) (byte item))
-form word.UnsetKey = row (codes "unset_key") (Register ∷ Index ∷ []) (λ ephe index _. UnsetKey (byte ephe) (short index))
-form word.GetKey = row (codes "get_key") (Register ∷ Register ∷ Index ∷ []) (λ dst ephe index. GetKey (byte dst) (byte ephe) (short index))
-form word.CheckKey = row (codes "check_key") (Register ∷ Index ∷ []) (λ ephe index _. CheckKey (byte ephe) (short index))
-form word.SetData = row (codes "set_data") (Register ∷ Register ∷ []) (λ ephe item _. SetData (byte ephe) (byte item))
-form word.UnsetData = row (codes "unset_data") (Register ∷ []) (λ ephe _ _. UnsetData (byte ephe))
-form word.GetData = row (codes "get_data") (Register ∷ Register ∷ []) (λ dst ephe _. GetData (byte dst) (byte ephe))
-form word.CheckData = row (codes "check_data") (Register ∷ []) (λ ephe _ _. CheckData (byte ephe))
-form word.Finalise = row (codes "finalise") (Register ∷ FinaliserNumber ∷ Register ∷ []) (λ item number dst. Finalise (byte item) (wide number) (byte dst))
-form word.FinaliseLast = row (codes "finalise_last") (Register ∷ FinaliserNumber ∷ []) (λ item number _. FinaliseLast (byte item) (wide number))
-form word.Poll = row (codes "poll") [] (λ _ _ _. Poll)
-form word.Minor = row (codes "minor") [] (λ _ _ _. Minor)
-form word.Major = row (codes "major") [] (λ _ _ _. Major)
-form word.FullMajor = row (codes "full_major") [] (λ _ _ _. FullMajor)
+form word.Int = row (codes "int") (Register ∷ Integer ∷ []) (λ dst value _ _. PutInt (byte dst) value)
+form word.Move = row (codes "move") (Register ∷ Register ∷ []) (λ dst src _ _. Copy (byte dst) (byte src))
+form word.Drop = row (codes "drop") (Register ∷ []) (λ dst _ _ _. Forget (byte dst))
+form word.Alloc = row (codes "alloc") (Register ∷ Tag ∷ FieldCount ∷ []) (λ dst tag fields _. Alloc (byte dst) (byte tag) (short fields))
+form word.AllocMaj = row (codes "allocmaj") (Register ∷ Tag ∷ FieldCount ∷ []) (λ dst tag fields _. AllocMaj (byte dst) (byte tag) (short fields))
+form word.Load = row (codes "load") (Register ∷ Register ∷ Index ∷ []) (λ dst src index _. Load (byte dst) (byte src) (short index))
+form word.Store = row (codes "store") (Register ∷ Index ∷ Register ∷ []) (λ block index item _. Store (byte block) (short index) (byte item))
+form word.Raw = row (codes "raw") (Register ∷ RawTag ∷ FieldCount ∷ []) (λ dst tag fields _. Raw (byte dst) (byte tag) (short fields))
+form word.Cas = row (codes "cas") (Register ∷ Index ∷ Register ∷ Register ∷ []) (λ block index expected item. Cas (byte block) (short index) (byte expected) (byte item))
+form word.Ephe = row (codes "ephe") (Register ∷ KeyCount ∷ []) (λ dst keys _ _. Ephe (byte dst) (short keys))
+form word.SetKey = row (codes "set_key") (Register ∷ Index ∷ Register ∷ []) (λ ephe index item _. SetKey (byte ephe) (short index) (byte item))
+form word.UnsetKey = row (codes "unset_key") (Register ∷ Index ∷ []) (λ ephe index _ _. UnsetKey (byte ephe) (short index))
+form word.GetKey = row (codes "get_key") (Register ∷ Register ∷ Index ∷ []) (λ dst ephe index _. GetKey (byte dst) (byte ephe) (short index))
+form word.CheckKey = row (codes "check_key") (Register ∷ Index ∷ []) (λ ephe index _ _. CheckKey (byte ephe) (short index))
+form word.SetData = row (codes "set_data") (Register ∷ Register ∷ []) (λ ephe item _ _. SetData (byte ephe) (byte item))
+form word.UnsetData = row (codes "unset_data") (Register ∷ []) (λ ephe _ _ _. UnsetData (byte ephe))
+form word.GetData = row (codes "get_data") (Register ∷ Register ∷ []) (λ dst ephe _ _. GetData (byte dst) (byte ephe))
+form word.CheckData = row (codes "check_data") (Register ∷ []) (λ ephe _ _ _. CheckData (byte ephe))
+form word.Finalise = row (codes "finalise") (Register ∷ FinaliserNumber ∷ Register ∷ []) (λ item number dst _. Finalise (byte item) (wide number) (byte dst))
+form word.FinaliseLast = row (codes "finalise_last") (Register ∷ FinaliserNumber ∷ []) (λ item number _ _. FinaliseLast (byte item) (wide number))
+form word.Poll = row (codes "poll") [] (λ _ _ _ _. Poll)
+form word.Minor = row (codes "minor") [] (λ _ _ _ _. Minor)
+form word.Major = row (codes "major") [] (λ _ _ _ _. Major)
+form word.FullMajor = row (codes "full_major") [] (λ _ _ _ _. FullMajor)
+form word.Spawn = row (codes "spawn") (Section ∷ Register ∷ []) (λ section item _ _. Spawn (wide section) (byte item))
+form word.Argument = row (codes "argument") (Register ∷ []) (λ dst _ _ _. Argument (byte dst))
+form word.Result = row (codes "result") (Register ∷ []) (λ item _ _ _. PutResult (byte item))
+form word.Join = row (codes "join") (Register ∷ Section ∷ []) (λ dst section _ _. Join (byte dst) (wide section))
 
 -- the words of the grammar: the commands that are built. One more here and in the code's own list makes its row a command of the grammar
 abbrev pub built_words : List Word
@@ -82,7 +91,7 @@ word_of text = find (λ w. bytes_eq (form w).text text) built_words
 
 -- the command of a row and its numbers
 abbrev pub made : Word → List ℤ → Command
-made w zs = (form w).make (slice_index_or zs 0 (pos 0)) (slice_index_or zs 1 (pos 0)) (slice_index_or zs 2 (pos 0))
+made w zs = (form w).make (slice_index_or zs 0 (pos 0)) (slice_index_or zs 1 (pos 0)) (slice_index_or zs 2 (pos 0)) (slice_index_or zs 3 (pos 0))
 
 -- a command taken apart: its row and its numbers
 pub record Parts : Type 0 where
@@ -101,6 +110,8 @@ parts (Alloc dst tag fields) = parts_of word.Alloc (dst ∷ tag ∷ fields ∷ [
 parts (AllocMaj dst tag fields) = parts_of word.AllocMaj (dst ∷ tag ∷ fields ∷ [])
 parts (Load dst src index) = parts_of word.Load (dst ∷ src ∷ index ∷ [])
 parts (Store block index item) = parts_of word.Store (block ∷ index ∷ item ∷ [])
+parts (Raw dst tag fields) = parts_of word.Raw (dst ∷ tag ∷ fields ∷ [])
+parts (Cas block index expected item) = parts_of word.Cas (block ∷ index ∷ expected ∷ item ∷ [])
 parts (Ephe dst keys) = parts_of word.Ephe (dst ∷ keys ∷ [])
 parts (SetKey ephe index item) = parts_of word.SetKey (ephe ∷ index ∷ item ∷ [])
 parts (UnsetKey ephe index) = parts_of word.UnsetKey (ephe ∷ index ∷ [])
@@ -116,6 +127,10 @@ parts Poll = parts_of word.Poll []
 parts Minor = parts_of word.Minor []
 parts Major = parts_of word.Major []
 parts FullMajor = parts_of word.FullMajor []
+parts (Spawn section item) = parts_of word.Spawn (section ∷ item ∷ [])
+parts (Argument dst) = parts_of word.Argument (dst ∷ [])
+parts (PutResult item) = parts_of word.Result (item ∷ [])
+parts (Join dst section) = parts_of word.Join (dst ∷ section ∷ [])
 
 -- whether a row's command is built
 abbrev pub is_built : Word → Bool

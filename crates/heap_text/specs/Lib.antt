@@ -3,5 +3,5 @@ pub mod Forms
 pub mod Script
 pub mod Spelling
 pub mod Faults
-pub mod Cut
+pub mod Split
 pub mod Steps

@@ -6,11 +6,13 @@ ghost use Rattle.std.specs.Prelude.{◌≡◌};
 pub enum Operand {
     Register,
     Tag,
+    RawTag,
     FieldCount,
     KeyCount,
     Index,
     FinaliserNumber,
     Integer,
+    Section,
 }
 
 /// A row of the table: the word that a command's line begins with.
@@ -23,6 +25,8 @@ pub enum Word {
     AllocMaj,
     Load,
     Store,
+    Raw,
+    Cas,
     Ephe,
     SetKey,
     UnsetKey,
@@ -38,4 +42,8 @@ pub enum Word {
     Minor,
     Major,
     FullMajor,
+    Spawn,
+    Argument,
+    Result,
+    Join,
 }

@@ -1,7 +1,6 @@
 //! Scripts and reply lines as text: what a script is, its first fault, and how commands, replies and headings are printed.
 #![tactic(auto)]
 
-mod cut;
 pub mod fault;
 pub mod form;
 pub mod front;
@@ -11,6 +10,7 @@ mod number;
 pub mod print;
 pub mod read;
 pub mod script;
+mod split;
 mod table;
 
 pub use fault::ScriptFault;
@@ -18,6 +18,3 @@ pub use front::Line;
 pub use print::{print_command, print_heading, print_reply};
 pub use read::read_script;
 pub use script::Script;
-
-#[cfg(test)]
-mod tests;

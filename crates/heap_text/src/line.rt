@@ -2,8 +2,8 @@
 ghost use Rattle.std.specs.Prelude.{◌≡◌, ℕ, ◌≤◌, ◌<◌, length, sum_by, option_map, Some, IfErr, OnOk};
 ghost use Rattle.heap_text.specs.Number.{counted_numbers};
 ghost use Rattle.heap_text.specs.Forms.{form};
-ghost use Rattle.heap_text.specs.Cut.{texts_behind};
-ghost use Rattle.heap_text.specs.Faults.{shape, heading_shape, command_shape, fault_of_shape, is_section as is_section_of, first_outside as first_outside_of, IsFaultUnlessMemory};
+ghost use Rattle.heap_text.specs.Split.{texts_behind};
+ghost use Rattle.heap_text.specs.Faults.{line_shape, heading_shape, command_shape, fault_of_shape, is_section as is_section_of, first_out_of_range as first_out_of_range_of, IsFaultUnlessMemory};
 ghost use Rattle.heap_text.specs.Steps.{IsHeadingNumber, OpensSection, AddsCommand, TakesLine};
 
 use crate::fault::ScriptFault;
@@ -17,10 +17,10 @@ use std::alloc::Global;
 const MAX_COMMANDS: u32 = 200_000;
 
 // The place of the first number outside the range of its operand, counted from 1.
-fn first_outside(kinds: &[Operand], numbers: &[i64]) -> Option<u32>
-    requires few { length kinds.now ≤ 3 }
+fn first_out_of_range(kinds: &[Operand], numbers: &[i64]) -> Option<u32>
+    requires few { length kinds.now ≤ 4 }
     requires counted { length numbers.now ≡ length kinds.now }
-    ensures { result ≡ first_outside_of 1 kinds.now numbers.now }
+    ensures { result ≡ first_out_of_range_of 1 kinds.now numbers.now }
 {
     for (at, kind) in kinds.iter().enumerate() {
         if !fits(*kind, numbers[at]) {
@@ -100,7 +100,7 @@ fn take_command(
     if MAX_COMMANDS <= script.commands() {
         return Err(ScriptFault::TooMany { line });
     }
-    match first_outside(operands, numbers.as_slice()) {
+    match first_out_of_range(operands, numbers.as_slice()) {
         Some(which) => Err(ScriptFault::Range { line, which }),
         None => match script.push(make(word, numbers.as_slice())) {
             Ok(()) => Ok(()),
@@ -117,9 +117,9 @@ pub(crate) fn take_line(
     script: &mut Script,
     text: &[u8],
 ) -> Result<(), ScriptFault>
-    ensures ok { OnOk result (TakesLine domains (shape text.now) script.old script.new) }
+    ensures ok { OnOk result (TakesLine domains (line_shape text.now) script.old script.new) }
     ensures fault { IfErr result (λ e. IsFaultUnlessMemory e
-        (fault_of_shape domains line (length script.old) (sum_by length script.old) (shape text.now))) }
+        (fault_of_shape domains line (length script.old) (sum_by length script.old) (line_shape text.now))) }
 {
     let (word, rest) = first_text(text);
     if word == b"domain".as_slice() {

@@ -106,7 +106,7 @@ fn front_of_reply(reply: &Reply) -> Front
 
 // A row with numbers that aren't negative.
 fn front_of_row(word: Word, numbers: &[u32]) -> Front
-    requires { length numbers.now ≤ 3 }
+    requires { length numbers.now ≤ 4 }
     ensures text { result ≡ row_text word (map pos numbers.now) }
     ensures short { length result ≤ 13 + 11 * length numbers.now }
 {
@@ -148,6 +148,13 @@ fn front_of_command(command: &Command) -> Front
         Command::AllocMaj { dst, tag, fields } => row!(AllocMaj, dst, tag, fields),
         Command::Load { dst, src, index } => row!(Load, dst, src, index),
         Command::Store { block, index, item } => row!(Store, block, index, item),
+        Command::Raw { dst, tag, fields } => row!(Raw, dst, tag, fields),
+        Command::Cas {
+            block,
+            index,
+            expected,
+            item,
+        } => row!(Cas, block, index, expected, item),
         Command::Ephe { dst, keys } => row!(Ephe, dst, keys),
         Command::SetKey { ephe, index, item } => row!(SetKey, ephe, index, item),
         Command::UnsetKey { ephe, index } => row!(UnsetKey, ephe, index),
@@ -163,5 +170,9 @@ fn front_of_command(command: &Command) -> Front
         Command::Minor => row!(Minor),
         Command::Major => row!(Major),
         Command::FullMajor => row!(FullMajor),
+        Command::Spawn { section, item } => row!(Spawn, section, item),
+        Command::Argument { dst } => row!(Argument, dst),
+        Command::PutResult { item } => row!(Result, item),
+        Command::Join { dst, section } => row!(Join, dst, section),
     }
 }

@@ -7,10 +7,10 @@ ghost use Rattle.heap_text.specs.declared.fault.ScriptFault as declared_fault;
 ghost use Rattle.heap_text.specs.Spelling.{spelling, with_empty, Spells, IsUnlessMemory, IsWritten};
 ghost use Rattle.heap_text.specs.Faults.{fault_from, first_fault, IsFaultUnlessMemory};
 
-use crate::cut::cut_at;
 use crate::fault::ScriptFault;
 use crate::line::take_line;
 use crate::script::Script;
+use crate::split::split_once;
 use std::alloc::Global;
 
 /// The greatest count of bytes of a script.
@@ -27,7 +27,7 @@ fn read_sections(alloc: Global, domains: u32, behind: &[u8]) -> Result<Script, S
     let mut script = Script::new(alloc);
     let mut line: u32 = 2;
     let mut rest = behind;
-    'lines: while let Some((text, tail)) = cut_at(rest, b'\n') {
+    'lines: while let Some((text, tail)) = split_once(rest, b'\n') {
         if let Err(fault) = take_line(alloc, domains, line, &mut script, text) {
             return Err(fault);
         }
@@ -66,7 +66,7 @@ fn read_lines(alloc: Global, domains: u32, bytes: &[u8]) -> Result<Script, Scrip
     ensures found { IfOk result (λ s. Spells domains s bytes.now) }
     ensures fault { IfErr result (λ e. IsFaultUnlessMemory e (first_fault domains bytes.now)) }
 {
-    let Some((first, behind)) = cut_at(bytes, b'\n') else {
+    let Some((first, behind)) = split_once(bytes, b'\n') else {
         return Err(ScriptFault::Syntax { line: 1 });
     };
     if !is_first_line(first) {

@@ -31,6 +31,8 @@ pub(crate) fn text_of(word: Word) -> &'static [u8]
         Word::AllocMaj => b"allocmaj",
         Word::Load => b"load",
         Word::Store => b"store",
+        Word::Raw => b"raw",
+        Word::Cas => b"cas",
         Word::Ephe => b"ephe",
         Word::SetKey => b"set_key",
         Word::UnsetKey => b"unset_key",
@@ -46,6 +48,10 @@ pub(crate) fn text_of(word: Word) -> &'static [u8]
         Word::Minor => b"minor",
         Word::Major => b"major",
         Word::FullMajor => b"full_major",
+        Word::Spawn => b"spawn",
+        Word::Argument => b"argument",
+        Word::Result => b"result",
+        Word::Join => b"join",
     }
 }
 
@@ -61,6 +67,13 @@ pub(crate) fn operands_of(word: Word) -> &'static [Operand]
         Word::AllocMaj => &[Operand::Register, Operand::Tag, Operand::FieldCount],
         Word::Load => &[Operand::Register, Operand::Register, Operand::Index],
         Word::Store => &[Operand::Register, Operand::Index, Operand::Register],
+        Word::Raw => &[Operand::Register, Operand::RawTag, Operand::FieldCount],
+        Word::Cas => &[
+            Operand::Register,
+            Operand::Index,
+            Operand::Register,
+            Operand::Register,
+        ],
         Word::Ephe => &[Operand::Register, Operand::KeyCount],
         Word::SetKey => &[Operand::Register, Operand::Index, Operand::Register],
         Word::UnsetKey => &[Operand::Register, Operand::Index],
@@ -80,6 +93,10 @@ pub(crate) fn operands_of(word: Word) -> &'static [Operand]
         Word::Minor => &[],
         Word::Major => &[],
         Word::FullMajor => &[],
+        Word::Spawn => &[Operand::Section, Operand::Register],
+        Word::Argument => &[Operand::Register],
+        Word::Result => &[Operand::Register],
+        Word::Join => &[Operand::Register, Operand::Section],
     }
 }
 
@@ -97,6 +114,7 @@ pub(crate) fn make(word: Word, numbers: &[i64]) -> Command
     let a = number_at(numbers, 0);
     let b = number_at(numbers, 1);
     let c = number_at(numbers, 2);
+    let d = number_at(numbers, 3);
     match word {
         Word::Int => Command::PutInt {
             dst: byte(a),
@@ -126,6 +144,17 @@ pub(crate) fn make(word: Word, numbers: &[i64]) -> Command
             block: byte(a),
             index: short(b),
             item: byte(c),
+        },
+        Word::Raw => Command::Raw {
+            dst: byte(a),
+            tag: byte(b),
+            fields: short(c),
+        },
+        Word::Cas => Command::Cas {
+            block: byte(a),
+            index: short(b),
+            expected: byte(c),
+            item: byte(d),
         },
         Word::Ephe => Command::Ephe {
             dst: byte(a),
@@ -172,6 +201,16 @@ pub(crate) fn make(word: Word, numbers: &[i64]) -> Command
         Word::Minor => Command::Minor,
         Word::Major => Command::Major,
         Word::FullMajor => Command::FullMajor,
+        Word::Spawn => Command::Spawn {
+            section: wide(a),
+            item: byte(b),
+        },
+        Word::Argument => Command::Argument { dst: byte(a) },
+        Word::Result => Command::PutResult { item: byte(a) },
+        Word::Join => Command::Join {
+            dst: byte(a),
+            section: wide(b),
+        },
     }
 }
 
@@ -204,6 +243,7 @@ fn least(kind: Operand) -> i64
     ensures { result ≡ least_of kind }
 {
     match kind {
+        Operand::RawTag => 251,
         Operand::FieldCount | Operand::KeyCount => 1,
         Operand::Integer => -4_611_686_018_427_387_904,
         _ => 0,
@@ -216,11 +256,13 @@ fn greatest(kind: Operand) -> i64
     match kind {
         Operand::Register => 15,
         Operand::Tag => 245,
+        Operand::RawTag => 255,
         Operand::FieldCount => 126,
         Operand::KeyCount => 8,
         Operand::Index => 1023,
         Operand::FinaliserNumber => 65_535,
         Operand::Integer => 4_611_686_018_427_387_903,
+        Operand::Section => 7,
     }
 }
 

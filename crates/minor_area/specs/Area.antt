@@ -1,7 +1,53 @@
--- What an allocation leaves of a token.
-use Rattle.std.specs.Prelude.{◌≡◌, ℕ, ◌+◌}
-use Rattle.heap_rule.specs.Token.{Token}
+-- What an allocation finds and leaves.
+use Rattle.std.specs.Prelude.{◌≡◌, ℕ, ◌+◌, ◌<◌, ◌≤◌, Some}
+use Rattle.heap_model.specs.Domains.{reserve}
+use Rattle.heap_rule.specs.declared.config.Config.{Config}
+use Rattle.heap_rule.specs.declared.view.DomainView.{DomainView}
+use Rattle.heap_rule.specs.declared.view.Hunt.TheVariants.{Rests}
+use Rattle.heap_rule.specs.Limits.{sizes_in}
+use Rattle.heap_rule.specs.Token.{Token, SharedHeap}
+use Rattle.steps_making.specs.Inits.{class_words}
+use Rattle.steps_pools.specs.Takes.{found_free}
+use Rattle.minor_area.specs.declared.need.Need.{Need}
+use Rattle.minor_area.specs.declared.need.Need.TheVariants.{AreaFull, Closed}
 
 -- besides its registers, the token has used so many words more and given out one label more
 pub record Grows (old new : Token) (words : ℕ) : Type 0 where
   pub own : new.view.own ≡ record old.view.own { registers = new.view.own.registers; used = old.view.own.used + words; serial = old.view.own.serial + 1 }
+
+-- the domain's minor area has room for a block of so many fields
+abbrev pub HasRoom : Config → DomainView → ℕ → Type 0
+HasRoom k x fields = x.own.used + class_words (fields + 2) ≤ k.minor_words
+
+-- the domain found so many pools free, and knows and holds all else as before
+abbrev pub FoundFree : DomainView → ℕ → DomainView → Type 0
+FoundFree x free y = y ≡ found_free x free Rests
+
+-- as many pools were found free as promotion may need
+pub record IsOpen (k : Config) (y : DomainView) : Type 0 where
+  pub free : ℕ
+  pub found : y.seen.free ≡ Some free
+  pub enough : reserve (sizes_in k) ≤ free
+
+-- fewer were
+pub record IsShut (k : Config) (y : DomainView) : Type 0 where
+  pub free : ℕ
+  pub found : y.seen.free ≡ Some free
+  pub few : free < reserve (sizes_in k)
+
+-- the area has no room, and nothing was looked at
+pub record IsFull (h : SharedHeap) (old new : Token) (fields used : ℕ) : Type 0 where
+  pub used_is : used ≡ old.view.own.used
+  pub no_room : h.config.minor_words < old.view.own.used + class_words (fields + 2)
+  pub same : new ≡ old
+
+-- the area has room, and fewer pools were found free than promotion may need
+pub record IsClosed (h : SharedHeap) (old new : Token) (fields free : ℕ) : Type 0 where
+  pub room : HasRoom h.config old.view fields
+  pub found : FoundFree old.view free new.view
+  pub few : free < reserve (sizes_in h.config)
+
+-- why no block was allocated
+abbrev pub Needs : SharedHeap → Token → Token → ℕ → Need → Type 0
+Needs h old new fields (AreaFull used) = IsFull h old new fields used
+Needs h old new fields (Closed free) = IsClosed h old new fields free

@@ -1,20 +1,25 @@
 //! The allocation of a young block.
-ghost use Rattle.std.specs.Prelude.{◌≡◌, ◌+◌, ◌^◌, ◌<◌, ◌≤◌, slice_set, Err, IfOk, IfErr, OnOk, OnErr};
+ghost use Rattle.std.specs.Prelude.{◌≡◌, ◌+◌, ◌^◌, ◌<◌, ◌≤◌, slice_set, IfOk, IfErr, OnOk, OnErr};
 ghost use Rattle.heap_model.specs.declared.command.Command.TheVariants.{Alloc};
 ghost use Rattle.heap_model.specs.declared.entry.Entry.{Entry};
 ghost use Rattle.heap_model.specs.declared.reply.Reply.TheVariants.{Block};
 ghost use Rattle.heap_words.specs.declared.value.Value.TheVariants.{Ref};
 ghost use Rattle.steps_making.specs.Inits.{class_words};
+ghost use Rattle.heap_rule.specs.declared.phase.Kind.TheVariants.{Run};
+ghost use Rattle.heap_rule.specs.declared.phase.Stage.TheVariants.{In};
+ghost use Rattle.heap_rule.specs.declared.view.Hunt.TheVariants.{Rests};
 ghost use Rattle.heap_rule.specs.Token.{next_address};
 ghost use Rattle.heap_rule.specs.Running.{Runs, Did, own_entry};
-ghost use Rattle.heap_rule.specs.Token.{Holds};
-ghost use Rattle.minor_area.specs.Area.{Grows};
+ghost use Rattle.heap_rule.specs.Token.{Holds, IsIn};
+ghost use Rattle.minor_area.specs.Area.{Grows, HasRoom, FoundFree, IsOpen, Needs};
 
 use crate::Need;
 use heap_model::label::Label;
 use heap_rule::{Change, Domain, Heap, Item, Part};
 use heap_words::{Head, Value, pack_head, pack_label, pack_value};
+use size_classes::reserve;
 use steps_making::{init_store, words_of_class};
+use steps_pools::{draw_limit, free_load, listed_load};
 
 // The colour of a block that is allocated while no collection is under way: unmarked.
 const UNMARKED: u8 = 1;
@@ -31,6 +36,7 @@ fn write_block(heap: &Heap, dom: &mut Domain, dst: u8, tag: u8, fields: u16) -> 
     requires room { dom.old.view.own.used + class_words (fields + 2) ≤ heap.now.config.minor_words }
     ensures did { Did heap.now dom.old dom.new (Alloc dst tag fields) (Block result) }
     ensures grows { Grows dom.old dom.new (class_words (fields + 2)) }
+    ensures free { dom.new.view.seen.free ≡ dom.old.view.seen.free }
     ensures registers { dom.new.view.own.registers ≡ slice_set dom.old.view.own.registers dst (Ref (next_address heap.now.config dom.old.view)) }
     ensures holds { Holds heap.now.config dom.new.view.own.registers }
 {
@@ -69,12 +75,28 @@ fn write_block(heap: &Heap, dom: &mut Domain, dst: u8, tag: u8, fields: u16) -> 
     label
 }
 
+// How many pools are free.
+fn find_free(heap: &Heap, dom: &mut Domain) -> u32
+    requires here { IsIn dom.old heap.now }
+    requires at_rest { dom.old.view.seen.hunt ≡ Rests }
+    requires runs { dom.old.view.seen.stage ≡ In Run }
+    ensures here { IsIn dom.new heap.now }
+    ensures found { FoundFree dom.old.view result dom.new.view }
+{
+    let _limits = heap.config();
+    let listed = listed_load(heap, dom) as u32;
+    let limit = draw_limit(heap, listed);
+    let cursor = free_load(heap, dom, listed);
+    listed - cursor.min(u64::from(limit)) as u32
+}
+
 /// Allocates a plain block of `fields` fields, each the integer 0, in the domain's minor area, and
 /// puts it into register `dst`. Registers are below 16, tags at most 245, fields 1 to 126, and fewer
 /// than 4,294,967,295 labels were made.
 ///
 /// `AreaFull` exactly where the words that are used and those of the block's size class are more
-/// than a minor area has. Then nothing changes, and no entry stands.
+/// than a minor area has. `Closed` exactly where the area has room and fewer pools are free, by loads
+/// of this call, than promotion may need. After both no entry stands, and nothing changes.
 pub fn alloc_young(
     heap: &Heap,
     dom: &mut Domain,
@@ -91,15 +113,19 @@ pub fn alloc_young(
     ensures grows { OnOk result (Grows dom.old dom.new (class_words (fields + 2))) }
     ensures registers { OnOk result (dom.new.view.own.registers ≡ slice_set dom.old.view.own.registers dst (Ref (next_address heap.now.config dom.old.view))) }
     ensures holds { OnOk result (Holds heap.now.config dom.new.view.own.registers) }
-    ensures fits { OnOk result (dom.old.view.own.used + class_words (fields + 2) ≤ heap.now.config.minor_words) }
-    ensures need { IfErr result (λ n. n ≡ Need.AreaFull dom.old.view.own.used) }
-    ensures full { OnErr result (heap.now.config.minor_words < dom.old.view.own.used + class_words (fields + 2)) }
-    ensures same { OnErr result (dom.new ≡ dom.old) }
+    ensures room { OnOk result (HasRoom heap.now.config dom.old.view fields) }
+    ensures open { OnOk result (IsOpen heap.now.config dom.new.view) }
+    ensures needs { IfErr result (λ need. Needs heap.now dom.old dom.new fields need) }
+    ensures runs { OnErr result (Runs heap.now dom.new) }
 {
+    let config = heap.config();
     let used = dom.area_used();
-    let words = words_of_class(usize::from(fields) + 2);
-    if words > heap.config().minor_words - used {
+    if words_of_class(usize::from(fields) + 2) > config.minor_words - used {
         return Err(Need::AreaFull { used });
+    }
+    let free = find_free(heap, dom);
+    if free < reserve(config.domains, config.minor_words) {
+        return Err(Need::Closed { free });
     }
     Ok(write_block(heap, dom, dst, tag, fields))
 }

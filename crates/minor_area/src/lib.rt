@@ -9,6 +9,3 @@ mod need;
 
 pub use allocation::alloc_young;
 pub use need::Need;
-
-#[cfg(test)]
-mod tests;

@@ -12,7 +12,7 @@ pub trait Sink {
     /// The bytes written so far, where the sink tells them.
     ghost written: { Self → Option (List ℕ) };
 
-    /// How often it has failed.
+    /// How often it has failed. It rises at failures alone.
     ghost faults: { Self → ℕ };
 
     /// Appends bytes from the front of the piece, and answers how many: at least one where the piece isn't empty.

@@ -12,7 +12,7 @@ pub trait Source {
     /// The bytes that are left, where the source tells them.
     ghost left: { Self → Option (List ℕ) };
 
-    /// How often it has failed.
+    /// How often it has failed. It rises at failures alone.
     ghost faults: { Self → ℕ };
 
     /// Takes bytes from the front of what is left into the front of the buffer, and answers how many.

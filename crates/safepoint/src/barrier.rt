@@ -8,6 +8,7 @@ ghost use Rattle.heap_rule.specs.Phases.{code, Follows};
 ghost use Rattle.steps_pauses.specs.Pauses.{IsGone, ArriveMay, ClearMay, kind_in, noted, arrived_view};
 ghost use Rattle.heap_rule.specs.Token.{IsIn};
 ghost use Rattle.safepoint.specs.Looks.{bit_of, cleared, led_view, LookAnswers};
+ghost use Rattle.steps_pools.specs.Listings.{HasList};
 
 use crate::answer::{Look, Want, Wants};
 use heap_rule::{Domain, Heap, Kind};
@@ -124,12 +125,14 @@ fn clear_for(heap: &Heap, dom: &mut Domain, next: Kind)
     }
 }
 
-/// Domain 0 says in an odd phase which phase comes next. Before domains run again no wish is left.
+/// Domain 0 says in an odd phase which phase comes next. Before domains run again no wish is left, and
+/// the list of free pools has been written anew in this phase.
 pub fn lead(heap: &Heap, dom: &mut Domain, next: Kind)
     requires here { IsIn dom.old heap.now }
     requires leads { dom.old.view.own.number ≡ 0 }
     requires odd { dom.old.view.seen.stage ≡ Leads (kind_in dom.old.view.seen.stage) }
     requires follows { Follows (kind_in dom.old.view.seen.stage) next }
+    requires list { next ≡ Run → HasList heap.now.config dom.old.view }
     ensures here { IsIn dom.new heap.now }
     ensures view { dom.new.view ≡ led_view dom.old.view next }
 {

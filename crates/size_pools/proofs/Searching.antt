@@ -1,14 +1,15 @@
 -- Steps of a search one behind the other.
-use Rattle.std.proofs.Common.{◌≡◌, ◌≢◌, ◌∙◌, ℕ, ◌+◌, ◌-◌, ◌<◌, ◌≤◌, List, length, set, [], Some, None, Option, refl, ap, sym, subst, arith, get_or-set_same}
+use Rattle.heap_model.specs.Domains.{class_count}
+use Rattle.std.proofs.Common.{◌≡◌, ◌≢◌, ◌∙◌, ℕ, ◌+◌, ◌<◌, ◌≤◌, List, length, set, [], Some, None, Option, refl, ap, sym, subst, arith, get_or-set_same}
 use Rattle.heap_rule.specs.declared.view.DomainView.{DomainView}
 use Rattle.heap_rule.specs.declared.view.Hunt.{Hunt}
-use Rattle.heap_rule.specs.declared.view.Hunt.TheVariants.{Rests, Counts, Asks, Draws, Walks, Fills}
+use Rattle.heap_rule.specs.declared.view.Hunt.TheVariants.{Rests, Draws, Walks, Fills}
 use Rattle.heap_rule.specs.declared.view.Spot.{Spot}
 use Rattle.heap_rule.specs.declared.config.Config.{Config}
-use Rattle.heap_rule.specs.Pools.{owned, owner_word, blocks_of, place_in, drawn_in, spot_at, limit_of, hunting, hunting_free}
-use Rattle.steps_pools.specs.Takes.{with_hunt, looked_to, NoneFree, OwnerMay, ListedTold, CursorTold, CursorAddTold, ListTold, OwnerTold, PlaceTold}
+use Rattle.heap_rule.specs.Pools.{owned, owner_word, blocks_of, place_in, drawn_in, spot_at, hunting, hunting_free}
+use Rattle.steps_pools.specs.Takes.{with_hunt, looked_to, NoneFree, OwnerMay, ListTold, OwnerTold, PlaceTold}
 use Rattle.heap_rule.proofs.Classes.{some_block}
-use Rattle.size_pools.specs.Taken.{Hunted, DrewPool, Took, Missed, Passed, Lacks}
+use Rattle.size_pools.specs.Taken.{Hunted, DrewPool, Took, Missed, Passed}
 
 pub hunted_twice : (x y z : DomainView) (g h : Hunt) → Hunted x y g → Hunted y z h → Hunted x z h
 hunted_twice x y z g h a b = b ∙ ap (λ (v : DomainView). hunting_free v z.own.looked h z.seen.free) a
@@ -26,10 +27,10 @@ pub missed_twice : (x y z : DomainView) → Missed x y → Missed y z → Missed
 missed_twice x y z a b = record { view = hunted_twice x y z y.seen.hunt z.seen.hunt a.view b.view; at_rest = b.at_rest }
 
 -- the place looked to after a step
-pub spot_of : (x y : DomainView) (class : ℕ) (spot : Spot) (h : Hunt) → class < 6 → length x.own.looked ≡ 6 → y ≡ hunting x (set x.own.looked class spot) h → spot_at y.own.looked class ≡ spot
+pub spot_of : (x y : DomainView) (class : ℕ) (spot : Spot) (h : Hunt) → class < class_count → length x.own.looked ≡ class_count → y ≡ hunting x (set x.own.looked class spot) h → spot_at y.own.looked class ≡ spot
 spot_of x y class spot h few wide e = ap (λ (z : DomainView). spot_at z.own.looked class) e ∙ get_or-set_same x.own.looked class spot (record { pool = 0; slot = 0 }) (omega arith)
 
-module _ (x v y : DomainView) (pool class i found : ℕ) (few : class < 6) (hunted : Hunted x v (Walks pool class)) (told : PlaceTold pool class i v found y) where
+module _ (x v y : DomainView) (pool class i found : ℕ) (few : class < class_count) (hunted : Hunted x v (Walks pool class)) (told : PlaceTold pool class i v found y) where
   module _ (full : found ≢ 0) where
     pub walked_more : i + 1 < blocks_of class → Hunted x y (Walks pool class) × (spot_at y.own.looked class ≡ record { pool = pool; slot = i + 1 })
     walked_more b = let e = told.full full b in (hunted_twice x v y (Walks pool class) (Walks pool class) hunted (hunted_of v y _ (Walks pool class) e), spot_of v y class (record { pool = pool; slot = i + 1 }) (Walks pool class) few told.wide e)
@@ -44,7 +45,7 @@ module _ (x v y : DomainView) (pool class i found : ℕ) (few : class < 6) (hunt
   walked_took k a inside below is free = record { pool = pool; slot = i; inside = inside; below = below; address = is; view = hunted_twice x v y (Walks pool class) (Fills pool class i _) hunted (hunted_of v y _ (Fills pool class i _) (told.free free)) }
 
 -- a pool that isn't the domain's
-pub passes : (x y : DomainView) (pool class found : ℕ) → class < 6 → OwnerTold pool class x found y → found ≢ owner_word (owned x.own.number class) → Passed class pool x y
+pub passes : (x y : DomainView) (pool class found : ℕ) → class < class_count → OwnerTold pool class x found y → found ≢ owner_word (owned x.own.number class) → Passed class pool x y
 passes x y pool class found few told other =
     let e = told.other other in record {
       missed = missed_of x y Rests (hunted_of x y _ Rests e) refl;
@@ -59,7 +60,7 @@ some_pool : (p q : ℕ) → ◌≡◌ {A = Option ℕ} (Some p) (Some q) → p �
 some_pool p q e = cc
 
 -- a pool drawn, cleared and signed: its first place is taken
-pub drawn_took : (k : Config) (x v1 v2 v3 v4 : DomainView) (place class found a : ℕ) → class < 6 → DrewPool k place class x v1 → ListTold v1 found v2
+pub drawn_took : (k : Config) (x v1 v2 v3 v4 : DomainView) (place class found a : ℕ) → class < class_count → DrewPool k place class x v1 → ListTold v1 found v2
     → ((p : ℕ) → v2.seen.hunt ≡ Draws p found class 0 → v3 ≡ with_hunt v2 (Draws p found class (blocks_of class)))
     → v4 ≡ looked_to v3 class (record { pool = found; slot = 0 }) (Fills found class 0 []) → a ≡ place_in found class 0 → Took k class a x v4
 drawn_took k x v1 v2 v3 v4 place class found a few d list cleared signed is =

@@ -1,5 +1,6 @@
 -- The writing of a block at a free place of an own pool.
-use Rattle.std.proofs.Common.{◌≡◌, ◌≢◌, ◌∙◌, ℕ, ◌+◌, ◌*◌, ◌^◌, ◌<◌, ◌≤◌, List, [], ◌∷◌, false, length, replicate, refl, ap, sym, subst, arith, lt_of_not-le}
+use Rattle.heap_model.specs.Domains.{class_count}
+use Rattle.std.proofs.Common.{◌≡◌, ◌≢◌, ◌∙◌, ℕ, ◌+◌, ◌*◌, ◌^◌, ◌<◌, ◌≤◌, List, [], ◌∷◌, false, replicate, refl, ap, sym, subst, arith, lt_of_not-le}
 use Rattle.heap_model.specs.declared.label.Label.{Label}
 use Rattle.heap_model.specs.declared.command.Command.{Command as CommandType}
 use Rattle.heap_model.specs.declared.command.Command.TheVariants.{AllocMaj}
@@ -27,7 +28,7 @@ use Rattle.heap_rule.specs.Places.{IsNewHead}
 use Rattle.heap_rule.specs.Pools.{size_of, hunting_free}
 use Rattle.heap_rule.specs.Running.{Runs, Did, own_entry}
 use Rattle.heap_rule.specs.Standing.{Acts}
-use Rattle.steps_pools.specs.Takes.{with_hunt, MajorMay, MajorEntry, MajorTold}
+use Rattle.steps_pools.specs.Takes.{with_hunt, MajorMay, MajorTold}
 use Rattle.heap_rule.specs.Token.{Token, SharedHeap, IsIn}
 use Rattle.heap_rule.proofs.Calls.{acting_did}
 use Rattle.heap_rule.proofs.Classes.{slot_inside, size_is}
@@ -112,7 +113,7 @@ hunted_grows old mid new hunt view g = record {
   looks = sym (ap (λ (o : Own). o.looked) g.own)
 
 -- the place taken has room
-pub took_room : (k : Config) (class a n : ℕ) (x y : DomainView) → class < 6 → IsLeastFor SIZES (n + 2) class → Took k class a x y → IsRoom k y a n
+pub took_room : (k : Config) (class a n : ℕ) (x y : DomainView) → class < class_count → IsLeastFor SIZES (n + 2) class → Took k class a x y → IsRoom k y a n
 took_room k class a n x y few least t = record {
   pool = t.pool;
   class = class;

@@ -1,12 +1,12 @@
 -- What a domain knows of the pools after a search for a free place.
-use Rattle.std.specs.Prelude.{◌≡◌, ℕ, ◌+◌, ◌<◌, ◌≤◌, [], Some, None}
-use Rattle.heap_model.specs.Domains.{reserve}
+use Rattle.std.specs.Prelude.{◌≡◌, ℕ, ◌+◌, ◌<◌, ◌≤◌, [], Some}
+use Rattle.heap_model.specs.Domains.{class_count, reserve}
 use Rattle.heap_rule.specs.Limits.{sizes_in}
 use Rattle.heap_rule.specs.declared.config.Config.{Config}
 use Rattle.heap_rule.specs.declared.view.DomainView.{DomainView}
 use Rattle.heap_rule.specs.declared.view.Hunt.{Hunt}
 use Rattle.heap_rule.specs.declared.view.Hunt.TheVariants.{Rests, Draws, Fills}
-use Rattle.heap_rule.specs.Pools.{size_of, blocks_of, place_in, drawn_in, spot_at, hunting_free}
+use Rattle.heap_rule.specs.Pools.{size_of, blocks_of, place_in, spot_at, hunting_free}
 use Rattle.heap_rule.specs.Token.{Token, SharedHeap, IsIn}
 use Rattle.heap_rule.specs.Standing.{Acts}
 use Rattle.steps_pools.specs.Takes.{HasNoDraw, NoneFree}
@@ -65,7 +65,7 @@ pub record IsRoom (k : Config) (x : DomainView) (a fields : ℕ) : Type 0 where
   pub slot : ℕ
   pub hunt : x.seen.hunt ≡ Fills pool class slot []
   pub inside : pool < k.pools
-  pub of_class : class < 6
+  pub of_class : class < class_count
   pub below : slot < blocks_of class
   pub address : a ≡ place_in pool class slot
   pub room : fields + 2 ≤ size_of class

@@ -1,4 +1,5 @@
 //! The allocation of a block in the major heap.
+ghost use Rattle.heap_model.specs.Domains.{class_count};
 ghost use Rattle.std.specs.Prelude.{◌≡◌, ◌+◌, ◌^◌, ◌<◌, ◌≤◌, ℕ, slice_set, [], IfOk, IfErr, OnOk, OnErr};
 ghost use Rattle.heap_model.specs.declared.command.Command.TheVariants.{AllocMaj};
 ghost use Rattle.heap_model.specs.declared.entry.Entry.{Entry};
@@ -69,7 +70,7 @@ fn write_block(heap: &Heap, dom: &mut Domain, at: u32, dst: u8, tag: u8, fields:
 // The size class of a block with so many fields.
 fn class_for(fields: u16) -> u32
     requires { fields ≤ 126 }
-    ensures class { result < 6 }
+    ensures class { result < class_count }
     ensures least { IsLeastFor SIZES (fields + 2) result }
 {
     let Some(class) = heap_classes().class_of(usize::from(fields) + 2) else {

@@ -1,6 +1,6 @@
 //! A pool from the list of free pools.
 ghost use Rattle.std.specs.Prelude.{◌≡◌, ◌+◌, ◌-◌, ◌<◌, ◌≤◌, IfOk, IfErr, OnErr, [], ℕ};
-ghost use Rattle.heap_model.specs.Domains.{reserve as reserve_of};
+ghost use Rattle.heap_model.specs.Domains.{class_count, reserve as reserve_of};
 ghost use Rattle.heap_rule.specs.declared.phase.Kind.TheVariants.{Run};
 ghost use Rattle.heap_rule.specs.declared.phase.Stage.TheVariants.{In};
 ghost use Rattle.heap_rule.specs.declared.view.Hunt.TheVariants.{Rests, Draws, Fills};
@@ -12,30 +12,18 @@ ghost use Rattle.size_pools.specs.Taken.{Hunted, DrewPool, Reserved, Took};
 
 use crate::no_pool::NoPool;
 use heap_rule::{Domain, Heap};
-use size_classes::reserve;
 use steps_pools::{
-    class_blocks, clear_store, cursor_add, cursor_load, list_load, listed_load, owner_store,
-    owner_word, place_address,
+    class_blocks, clear_store, cursor_add, cursor_load, draw_limit, list_load, listed_load,
+    owner_store, owner_word, place_address,
 };
 
 // The index of the first word of the list.
 const LIST: u32 = 11;
 
-// How many of the listed pools running domains may draw.
-fn limit(heap: &Heap, count: u32) -> u32
-    ensures value { result ≡ limit_of heap.now.config count }
-    ensures rest { count ≤ result + reserve_of (sizes_in heap.now.config) }
-    ensures low { result ≤ count }
-{
-    let config = heap.config();
-    let kept = reserve(config.domains, config.minor_words);
-    if count < kept { 0 } else { count - kept }
-}
-
 // Draws the pool at the cursor, if running domains may. Answers the place and its pool.
 fn draw_pool(heap: &Heap, dom: &mut Domain, class: u32) -> Result<u32, NoPool>
     requires here { IsIn dom.old heap.now }
-    requires class { class < 6 }
+    requires class { class < class_count }
     requires at_rest { HasNoDraw dom.old.view }
     requires runs { dom.old.view.seen.stage ≡ In Run }
     ensures here { IsIn dom.new heap.now }
@@ -46,7 +34,7 @@ fn draw_pool(heap: &Heap, dom: &mut Domain, class: u32) -> Result<u32, NoPool>
 {
     let _limits = heap.config();
     let count = listed_load(heap, dom) as u32;
-    let limit = limit(heap, count);
+    let limit = draw_limit(heap, count);
     let none = NoPool {
         free: count - limit,
     };
@@ -63,7 +51,7 @@ fn draw_pool(heap: &Heap, dom: &mut Domain, class: u32) -> Result<u32, NoPool>
 // Makes all places of the pool drawn free.
 fn clear(heap: &Heap, dom: &mut Domain, pool: u32, class: u32)
     requires here { IsIn dom.old heap.now }
-    requires class { class < 6 }
+    requires class { class < class_count }
     requires inside { pool < heap.now.config.pools }
     requires drawn { (place : ℕ) × (dom.old.view.seen.hunt ≡ Draws place pool class 0) }
     requires runs { dom.old.view.seen.stage ≡ In Run }
@@ -88,7 +76,7 @@ fn clear(heap: &Heap, dom: &mut Domain, pool: u32, class: u32)
 // place's address.
 pub(crate) fn draw(heap: &Heap, dom: &mut Domain, class: u32) -> Result<u32, NoPool>
     requires here { IsIn dom.old heap.now }
-    requires class { class < 6 }
+    requires class { class < class_count }
     requires at_rest { HasNoDraw dom.old.view }
     requires none_free { NoneFree heap.now.config dom.old.view class }
     requires runs { dom.old.view.seen.stage ≡ In Run }

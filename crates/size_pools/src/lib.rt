@@ -5,13 +5,12 @@
 
 mod allocation;
 mod draw;
+mod listing;
 mod no_pool;
 mod search;
 mod taking;
 
 pub use allocation::alloc_major;
+pub use listing::write_list;
 pub use no_pool::NoPool;
 pub use taking::take;
-
-#[cfg(test)]
-mod tests;

@@ -1,4 +1,5 @@
 //! The search for a free place of the domain's own pools.
+ghost use Rattle.heap_model.specs.Domains.{class_count};
 ghost use Rattle.std.specs.Prelude.{◌≡◌, ◌+◌, ◌<◌, MatchOption};
 ghost use Rattle.heap_rule.specs.declared.phase.Kind.TheVariants.{Run};
 ghost use Rattle.heap_rule.specs.declared.phase.Stage.TheVariants.{In};
@@ -17,7 +18,7 @@ const OWNERS: u32 = 11;
 // Looks at the places of an own pool from one on.
 fn walk(heap: &Heap, dom: &mut Domain, class: u32, pool: u32, slot: u32) -> Option<u32>
     requires here { IsIn dom.old heap.now }
-    requires class { class < 6 }
+    requires class { class < class_count }
     requires inside { (pool < heap.now.config.pools) × (slot < blocks_of class) }
     requires walks { dom.old.view.seen.hunt ≡ Walks pool class }
     requires next { spot_at dom.old.view.own.looked class ≡ record { pool = pool; slot = slot } }
@@ -38,7 +39,7 @@ fn walk(heap: &Heap, dom: &mut Domain, class: u32, pool: u32, slot: u32) -> Opti
 // Looks at the places of a pool from one on, if it is the domain's own, for blocks of the class.
 fn look_in(heap: &Heap, dom: &mut Domain, class: u32, pool: u32, slot: u32) -> Option<u32>
     requires here { IsIn dom.old heap.now }
-    requires class { class < 6 }
+    requires class { class < class_count }
     requires inside { (pool < heap.now.config.pools) × (slot < blocks_of class) }
     requires at_rest { HasNoDraw dom.old.view }
     requires next { spot_at dom.old.view.own.looked class ≡ record { pool = pool; slot = slot } }
@@ -58,7 +59,7 @@ fn look_in(heap: &Heap, dom: &mut Domain, class: u32, pool: u32, slot: u32) -> O
 // Looks for a free place of the domain's own pools of the class.
 pub(crate) fn find_free(heap: &Heap, dom: &mut Domain, class: u32) -> Option<u32>
     requires here { IsIn dom.old heap.now }
-    requires class { class < 6 }
+    requires class { class < class_count }
     requires at_rest { HasNoDraw dom.old.view }
     requires runs { dom.old.view.seen.stage ≡ In Run }
     ensures here { IsIn dom.new heap.now }

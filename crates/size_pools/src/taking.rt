@@ -1,4 +1,5 @@
 //! A free block of the pools.
+ghost use Rattle.heap_model.specs.Domains.{class_count};
 ghost use Rattle.std.specs.Prelude.{◌≡◌, ◌<◌, ◌≤◌, IfOk, IfErr, OnErr};
 ghost use Rattle.heap_rule.specs.declared.phase.Kind.TheVariants.{Run};
 ghost use Rattle.heap_rule.specs.declared.phase.Stage.TheVariants.{In};
@@ -19,7 +20,7 @@ use heap_rule::{Domain, Heap};
 /// free at that step is at most the reserve of promotion.
 pub fn take(heap: &Heap, dom: &mut Domain, class: u32) -> Result<u32, NoPool>
     requires here { IsIn dom.old heap.now }
-    requires class { class < 6 }
+    requires class { class < class_count }
     requires at_rest { HasNoDraw dom.old.view }
     requires runs { dom.old.view.seen.stage ≡ In Run }
     ensures here { IsIn dom.new heap.now }

@@ -1,10 +1,11 @@
 //! Collections: where one begins, is sealed, has collected all that it may, and ends.
-ghost use Rattle.std.specs.Prelude.{◌≡◌, ◌++◌, IfOk, OnOk, OnErr, IsTrue, ◌↔◌, map, filter_map, drop, length, not, true, slice_get};
+ghost use Rattle.std.specs.Prelude.{◌≡◌, ◌++◌, IfOk, OnOk, IsTrue, ◌↔◌, map, filter_map, drop, not, true, slice_get};
 ghost use Rattle.std.specs.List.{list_all};
 ghost use Rattle.heap_model.specs.Graph.{has_label, node_at};
 ghost use Rattle.heap_model.specs.Domains.{pending_label, queues, roots, reach as reach_of, waiting as waiting_labels, settled_reach};
-ghost use Rattle.heap_model.specs.Reach.{key_holds, reachable};
-ghost use Rattle.heap_model.specs.Entries.{Allowed, next, reply, in_mode, queued_after, queued_beyond, left_reach, with_finals_open, with_lasts_open, freshened, keys_are_live, SealAllowed, CollectedAllowed, DoneAllowed};
+ghost use Rattle.heap_model.specs.Reach.{reachable};
+ghost use Rattle.heap_model.specs.Entries.{queued_after, queued_beyond, left_reach, with_finals_open, with_lasts_open, freshened, keys_are_live, SealAllowed, CollectedAllowed, DoneAllowed};
+ghost use Rattle.slow_heap.specs.Follows.{Follows};
 
 use crate::blocks::place_of;
 use crate::reach::{holds_label, keys_alive};
@@ -19,11 +20,7 @@ use std::alloc::{AllocError, Global};
 
 // The entry that begins a collection.
 pub(crate) fn cut_entry(alloc: Global, state: &mut State) -> Result<Applied, ApplyFault>
-    ensures allowed { OnOk result (Allowed state.old Entry.Cut) }
-    ensures reply { IfOk result (λ a. a ≡ reply state.old Entry.Cut) }
-    ensures state { OnOk result (state.new ≡ next state.old Entry.Cut) }
-    ensures not_legal { result ≡ Err ApplyFault.NotLegal → Allowed state.old Entry.Cut → ⊥ }
-    ensures err { OnErr result (state.new ≡ state.old) }
+    ensures { Follows state.old state.new Entry.Cut result }
 {
     if state.mode != Mode::Open {
         return Err(ApplyFault::NotLegal);
@@ -61,11 +58,7 @@ fn mark_finals(domains: &mut Sequence<DomainState>)
 
 // The entry that seals what was queued.
 pub(crate) fn seal_entry(alloc: Global, state: &mut State) -> Result<Applied, ApplyFault>
-    ensures allowed { OnOk result (Allowed state.old Entry.Seal) }
-    ensures reply { IfOk result (λ a. a ≡ reply state.old Entry.Seal) }
-    ensures state { OnOk result (state.new ≡ next state.old Entry.Seal) }
-    ensures not_legal { result ≡ Err ApplyFault.NotLegal → Allowed state.old Entry.Seal → ⊥ }
-    ensures err { OnErr result (state.new ≡ state.old) }
+    ensures { Follows state.old state.new Entry.Seal result }
 {
     let live = settled_at_cut(alloc, state)?;
     let queued = queued_since(alloc, &state.domains, &state.cut)?;
@@ -150,11 +143,7 @@ fn mark_lasts(domains: &mut Sequence<DomainState>)
 
 // The entry that says that nothing which is permitted is left.
 pub(crate) fn collected_entry(alloc: Global, state: &mut State) -> Result<Applied, ApplyFault>
-    ensures allowed { OnOk result (Allowed state.old Entry.Collected) }
-    ensures reply { IfOk result (λ a. a ≡ reply state.old Entry.Collected) }
-    ensures state { OnOk result (state.new ≡ next state.old Entry.Collected) }
-    ensures not_legal { result ≡ Err ApplyFault.NotLegal → Allowed state.old Entry.Collected → ⊥ }
-    ensures err { OnErr result (state.new ≡ state.old) }
+    ensures { Follows state.old state.new Entry.Collected result }
 {
     let live = reach(alloc, state)?;
     let at_cut = reach_at_cut(alloc, state)?;
@@ -238,11 +227,7 @@ fn freshen(domains: &mut Sequence<DomainState>)
 
 // The entry that ends a collection.
 pub(crate) fn done_entry(alloc: Global, state: &mut State) -> Result<Applied, ApplyFault>
-    ensures allowed { OnOk result (Allowed state.old Entry.Done) }
-    ensures reply { IfOk result (λ a. a ≡ reply state.old Entry.Done) }
-    ensures state { OnOk result (state.new ≡ next state.old Entry.Done) }
-    ensures not_legal { result ≡ Err ApplyFault.NotLegal → Allowed state.old Entry.Done → ⊥ }
-    ensures err { OnErr result (state.new ≡ state.old) }
+    ensures { Follows state.old state.new Entry.Done result }
 {
     let live = left(alloc, state)?;
     if !is_done_allowed(state, &live) {

@@ -1,8 +1,9 @@
 //! The entries of commands.
 ghost use Rattle.std.specs.Prelude.{◌≡◌, ◌<◌, length, IfOk, OnOk, OnErr, IsTrue, ◌↔◌};
-ghost use Rattle.heap_model.specs.Domains.{IsShaped, IsWithinLimits};
+ghost use Rattle.heap_model.specs.Domains.{IsShaped};
 ghost use Rattle.heap_model.specs.Commands.{FitsMode, is_allocation as allocates, CommandAllowed, after_command as command_made, outcome};
-ghost use Rattle.heap_model.specs.Entries.{command_next, command_reply, HasNextSerial};
+ghost use Rattle.heap_model.specs.Entries.{HasNextSerial};
+ghost use Rattle.slow_heap.specs.Follows.{Follows};
 
 use crate::blocks::{add_block, ephemeron, plain, raw};
 use crate::ephemerons::{
@@ -13,6 +14,7 @@ use crate::finalisers::{finalise, finalise_last};
 use crate::registers::{put, register};
 use crate::roots::live;
 use heap_model::command::Command;
+use heap_model::entry::Entry;
 use heap_model::graph::Value;
 use heap_model::reply::{Applied, ApplyFault, Reply};
 use heap_model::state::{Mode, State};
@@ -29,11 +31,7 @@ pub(crate) fn command_entry(
     requires domain { d < length state.old.domains }
     requires shaped { IsShaped state.old }
     requires serial { HasNextSerial state.old d c.now }
-    ensures allowed { OnOk result (CommandAllowed state.old d c.now full) }
-    ensures reply { IfOk result (λ a. a ≡ command_reply state.old d c.now full) }
-    ensures state { OnOk result (state.new ≡ command_next state.old d c.now full) }
-    ensures not_legal { result ≡ Err ApplyFault.NotLegal → CommandAllowed state.old d c.now full → ⊥ }
-    ensures err { OnErr result (state.new ≡ state.old) }
+    ensures { Follows state.old state.new (Entry.Command d c.now full) result }
 {
     if !is_command_allowed(state, d, c, full) {
         return Err(ApplyFault::NotLegal);

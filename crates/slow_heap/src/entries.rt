@@ -1,7 +1,8 @@
 //! All kinds of entries.
-ghost use Rattle.std.specs.Prelude.{◌≡◌, ◌<◌, ◌↔◌, IsTrue, IfOk, OnOk, OnErr, length};
+ghost use Rattle.std.specs.Prelude.{◌≡◌, ◌<◌, ◌↔◌, IsTrue, length};
 ghost use Rattle.heap_model.specs.Domains.{IsShaped, domain_at, with_domain};
-ghost use Rattle.heap_model.specs.Entries.{Allowed, next, reply, IsInRange, HasNextSerial, EndAllowed, ended};
+ghost use Rattle.heap_model.specs.Entries.{next, IsInRange, HasNextSerial, ended};
+ghost use Rattle.slow_heap.specs.Follows.{Follows};
 
 use crate::collections::{collected_entry, cut_entry, done_entry, seal_entry};
 use crate::commands::{command_entry, is_allocation};
@@ -46,11 +47,7 @@ fn has_next_serial(state: &State, d: usize, c: &Command) -> bool
 pub(crate) fn follow(alloc: Global, state: &mut State, entry: &Entry) -> Result<Applied, ApplyFault>
     requires shaped { IsShaped state.old }
     requires in_range { IsInRange state.old entry.now }
-    ensures allowed { OnOk result (Allowed state.old entry.now) }
-    ensures reply { IfOk result (λ a. a ≡ reply state.old entry.now) }
-    ensures state { OnOk result (state.new ≡ next state.old entry.now) }
-    ensures not_legal { result ≡ Err ApplyFault.NotLegal → Allowed state.old entry.now → ⊥ }
-    ensures err { OnErr result (state.new ≡ state.old) }
+    ensures { Follows state.old state.new entry.now result }
 {
     match entry {
         Entry::Command {
@@ -73,11 +70,7 @@ pub(crate) fn follow(alloc: Global, state: &mut State, entry: &Entry) -> Result<
 // The entry of a domain's end.
 fn end_entry(state: &mut State, d: usize) -> Result<Applied, ApplyFault>
     requires { d < length state.old.domains }
-    ensures allowed { OnOk result (EndAllowed state.old d) }
-    ensures reply { IfOk result (λ a. a ≡ Applied.Silent) }
-    ensures state { OnOk result (state.new ≡ with_domain state.old d (ended (domain_at state.old d))) }
-    ensures not_legal { result ≡ Err ApplyFault.NotLegal → EndAllowed state.old d → ⊥ }
-    ensures err { OnErr result (state.new ≡ state.old) }
+    ensures { Follows state.old state.new (Entry.End d) result }
 {
     let domains = &state.domains;
     let domain = &domains.items[d];

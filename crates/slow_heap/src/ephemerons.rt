@@ -1,6 +1,6 @@
 //! The commands on ephemerons.
-ghost use Rattle.std.specs.Prelude.{◌≡◌, ◌<◌, length, option_map};
-ghost use Rattle.heap_model.specs.Commands.{block_in, at_ephe, key_set, datum_set, outcome, tells as tells_reply};
+ghost use Rattle.std.specs.Prelude.{◌≡◌, ◌<◌, length};
+ghost use Rattle.heap_model.specs.Commands.{block_in, at_ephe, key_set, datum_set, outcome};
 ghost use Rattle.slow_heap.specs.Writes.{key_reply, key_left, datum_reply, datum_left};
 
 use crate::blocks::block_place;

@@ -93,6 +93,3 @@ impl SlowHeap {
         entries::follow(self.alloc, &mut self.state, entry)
     }
 }
-
-#[cfg(test)]
-mod tests;

@@ -1,6 +1,6 @@
 //! The heap before its first entry.
 ghost use Rattle.std.specs.Prelude.{◌≡◌, IfOk, replicate, []};
-ghost use Rattle.heap_model.specs.Domains.{opening, opening_domain as opening_part, sizes_of};
+ghost use Rattle.heap_model.specs.Domains.{opening, opening_domain as opening_part};
 
 use heap_model::graph::{Node, Value};
 use heap_model::label::Label;

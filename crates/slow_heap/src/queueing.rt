@@ -1,10 +1,11 @@
 //! Finalisers that a collection queues, and those that run.
 ghost use Rattle.std.specs.Prelude.{◌≡◌, ◌≢◌, ◌++◌, ◌∷◌, [], ◌<◌, ◌&&◌, IfOk, OnOk, OnErr, IsTrue, ◌↔◌, map, reverse, drop, remove, length, not, nat_lt, slice_get, Some};
 ghost use Rattle.std.specs.List.{list_all, list_any};
-ghost use Rattle.heap_model.specs.Graph.{has_label, node_at, label_of};
+ghost use Rattle.heap_model.specs.Graph.{has_label, node_at};
 ghost use Rattle.heap_model.specs.Domains.{domain_at, with_domain, queues, roots, settled_reach};
 ghost use Rattle.heap_model.specs.Reach.{reachable};
-ghost use Rattle.heap_model.specs.Entries.{Allowed, next, reply, is_rising as rises, is_some_and, without_places, at_places, queued_final, with_queued, with_last_queued, without_first, ephe_holds, is_label as label_is, is_let_go, QueueAllowed, LastAllowed, RanAllowed};
+ghost use Rattle.heap_model.specs.Entries.{next, is_rising as rises, is_some_and, without_places, at_places, queued_final, with_queued, without_first, ephe_holds, is_label as label_is, QueueAllowed, LastAllowed, RanAllowed};
+ghost use Rattle.slow_heap.specs.Follows.{Follows};
 
 use crate::blocks::place_of;
 use crate::reach::{holds_label, label};
@@ -26,11 +27,7 @@ pub(crate) fn queue_entry(
     places: &Places,
 ) -> Result<Applied, ApplyFault>
     requires { d < length state.old.domains }
-    ensures allowed { OnOk result (QueueAllowed state.old d places.now) }
-    ensures reply { IfOk result (λ a. a ≡ Applied.Silent) }
-    ensures state { OnOk result (state.new ≡ with_domain state.old d (with_queued (domain_at state.old d) places.now)) }
-    ensures not_legal { result ≡ Err ApplyFault.NotLegal → QueueAllowed state.old d places.now → ⊥ }
-    ensures err { OnErr result (state.new ≡ state.old) }
+    ensures { Follows state.old state.new (Entry.Queue d places.now) result }
 {
     let live = reach_at_cut(alloc, state)?;
     if !is_queue_allowed(state, d, places, &live) {
@@ -173,11 +170,7 @@ pub(crate) fn last_entry(
     place: u32,
 ) -> Result<Applied, ApplyFault>
     requires { d < length state.old.domains }
-    ensures allowed { OnOk result (LastAllowed state.old d place) }
-    ensures reply { IfOk result (λ a. a ≡ Applied.Silent) }
-    ensures state { OnOk result (state.new ≡ next state.old (Entry.Last d place)) }
-    ensures not_legal { result ≡ Err ApplyFault.NotLegal → LastAllowed state.old d place → ⊥ }
-    ensures err { OnErr result (state.new ≡ state.old) }
+    ensures { Follows state.old state.new (Entry.Last d place) result }
 {
     let live = settled(alloc, state)?;
     if !is_last_allowed(state, d, place, &live) {
@@ -285,11 +278,7 @@ fn queue_last(alloc: Global, state: &mut State, d: usize, place: u32) -> Result<
 // The entry of a finaliser that runs.
 pub(crate) fn ran_entry(state: &mut State, d: usize) -> Result<Applied, ApplyFault>
     requires { d < length state.old.domains }
-    ensures allowed { OnOk result (RanAllowed state.old d) }
-    ensures reply { IfOk result (λ a. a ≡ reply state.old (Entry.Ran d)) }
-    ensures state { OnOk result (state.new ≡ next state.old (Entry.Ran d)) }
-    ensures not_legal { result ≡ Err ApplyFault.NotLegal → RanAllowed state.old d → ⊥ }
-    ensures err { OnErr result (state.new ≡ state.old) }
+    ensures { Follows state.old state.new (Entry.Ran d) result }
 {
     if !is_ran_allowed(state, d) {
         return Err(ApplyFault::NotLegal);

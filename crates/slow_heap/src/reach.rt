@@ -1,7 +1,7 @@
 //! The labels reachable from given roots, by rounds over the whole graph.
-ghost use Rattle.std.specs.Prelude.{◌≡◌, ◌++◌, ◌↔◌, IfOk, IfSome, IsTrue, flat_map, filter_map, fold, option_to_list, sum_by, OnErr, OnOk};
+ghost use Rattle.std.specs.Prelude.{◌≡◌, ◌++◌, IfOk, IfSome, flat_map, filter_map, fold, option_to_list, sum_by, OnOk};
 ghost use Rattle.std.specs.List.{list_all};
-ghost use Rattle.heap_model.specs.Graph.{has_label, node_at, label_of, words_at, words_of};
+ghost use Rattle.heap_model.specs.Graph.{has_label, label_of, words_at, words_of};
 ghost use Rattle.heap_model.specs.Reach.{key_holds, with_label, edges_of, edges_at, grow, reachable};
 
 use crate::blocks::place_of;

@@ -1,7 +1,7 @@
 //! The roots, and what a collection takes as reachable.
-ghost use Rattle.std.specs.Prelude.{◌≡◌, ◌++◌, IfOk, OnOk, flat_map, filter_map, map, length, Some};
+ghost use Rattle.std.specs.Prelude.{◌≡◌, ◌++◌, IfOk, OnOk, flat_map, filter_map, map, Some};
 ghost use Rattle.heap_model.specs.Graph.{label_of, node_at};
-ghost use Rattle.heap_model.specs.Domains.{pending_label, queues, roots, reach as reach_of, waiting as waiting_labels, settled_reach, is_reachable_with};
+ghost use Rattle.heap_model.specs.Domains.{pending_label, queues, roots, reach as reach_of, waiting as waiting_labels, settled_reach};
 ghost use Rattle.heap_model.specs.Reach.{reachable};
 ghost use Rattle.heap_model.specs.Commands.{live_reply};
 ghost use Rattle.heap_model.specs.Entries.{full_keys, left_reach};

@@ -1,9 +1,10 @@
 //! Ephemerons whose keys a collection empties.
-ghost use Rattle.std.specs.Prelude.{◌≡◌, ◌++◌, IfOk, OnOk, OnErr, IsTrue, ◌↔◌, filter_map, not, slice_get, option_to_list, Some};
+ghost use Rattle.std.specs.Prelude.{◌≡◌, ◌++◌, IfOk, OnOk, IsTrue, ◌↔◌, filter_map, not, slice_get, option_to_list, Some};
 ghost use Rattle.std.specs.List.{list_all};
 ghost use Rattle.heap_model.specs.Graph.{has_label, node_at};
 ghost use Rattle.heap_model.specs.Domains.{queues, settled_reach};
-ghost use Rattle.heap_model.specs.Entries.{next, is_some_and, at_places, wiped_keys, keys_at, with_wiped, wiped, has_keys, WipeAllowed};
+ghost use Rattle.heap_model.specs.Entries.{is_some_and, at_places, wiped_keys, keys_at, with_wiped, wiped, has_keys, WipeAllowed};
+ghost use Rattle.slow_heap.specs.Follows.{Follows};
 
 use crate::blocks::place_of;
 use crate::queueing::is_rising;
@@ -24,11 +25,7 @@ pub(crate) fn wipe_entry(
     l: Label,
     places: &Places,
 ) -> Result<Applied, ApplyFault>
-    ensures allowed { OnOk result (WipeAllowed state.old l places.now) }
-    ensures reply { IfOk result (λ a. a ≡ Applied.Silent) }
-    ensures state { OnOk result (state.new ≡ next state.old (Entry.Wipe l places.now)) }
-    ensures not_legal { result ≡ Err ApplyFault.NotLegal → WipeAllowed state.old l places.now → ⊥ }
-    ensures err { OnErr result (state.new ≡ state.old) }
+    ensures { Follows state.old state.new (Entry.Wipe l places.now) result }
 {
     let live = settled(alloc, state)?;
     if !is_wipe_allowed(state, l, places, &live) {

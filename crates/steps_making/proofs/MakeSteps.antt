@@ -86,9 +86,12 @@ inits k slots id word hist x a new changes place may s r _ at _ =
     let rule : Rule k record { words = ws; homes = s.homes; views = set s.views id (one k hist y) } = writes k s r id hist x at y ws record {
       number = refl;
       hunt = refl;
+      free = refl;
+      listing = refl;
       front = (mine k s r id hist x at).front;
       still = λ p. g.still p;
       stage = refl;
+      notes = refl;
       arrivals = refl;
       wide = length-set s.words (before_heap k + a) new;
       controls = controls_kept k s r id hist x at (set s.words (before_heap k + a) new) (control_set k s.words a new (omega arith));
@@ -287,6 +290,7 @@ module _ (k : Config) (s : Words) (r : Rule k s) (id : ℕ) (hist : List Entry) 
     command = tt;
     runs = may.acts.runs;
     stage = refl;
+    listing = refl;
     allowed = record { running = running k s r id hist x at may.acts; fits = (r.whole.calm.mode, r.whole.calm.queues d); full_fits = tt };
     calm = calm_command now d (Alloc dst tag n) false r.whole.calm;
     number = refl;

@@ -20,6 +20,8 @@ use Rattle.heap_rule.specs.Places.{IsNewHead}
 use Rattle.heap_rule.specs.Changes.{changed, FitChanges}
 use Rattle.heap_rule.specs.Standing.{Acts, LeavesOwn}
 use Rattle.heap_rule.specs.Token.{Holds, next_address, next_label}
+use Rattle.heap_rule.specs.declared.phase.Kind.TheVariants.{Run}
+use Rattle.heap_rule.specs.declared.phase.Stage.TheVariants.{In}
 
 -- the words of the least class that has room for so many
 abbrev pub least_size : List ℕ → ℕ → ℕ
@@ -37,6 +39,7 @@ plain_size _ = 0
 
 -- a word behind the head: the next one of the block that the domain makes
 pub record WordMay (k : Config) (x : DomainView) (at : ℕ) (changes : List Change) : Type 0 where
+  pub runs : x.seen.stage ≡ In Run
   pub word : at ≡ next_address k x + 1 + length x.seen.made
   pub room : x.own.used + length x.seen.made + 1 < k.minor_words
   pub same : LeavesOwn changes x

@@ -19,7 +19,7 @@ use Rattle.heap_words.specs.declared.value.Value.TheVariants.{Nothing as Nothing
 use Rattle.heap_rule.specs.declared.config.Config.{Config}
 use Rattle.heap_rule.specs.declared.view.DomainView.{DomainView}
 use Rattle.heap_rule.specs.declared.view.View.{View}
-use Rattle.heap_rule.specs.Layout.{heap_words, before_heap, ended_word}
+use Rattle.heap_rule.specs.Layout.{heap_words, before_heap, ended_word, want}
 use Rattle.heap_rule.specs.Places.{Stands}
 use Rattle.heap_rule.specs.Changes.{value_at}
 use Rattle.heap_rule.specs.Phases.{sum_of, is_over, flag}
@@ -29,7 +29,7 @@ use Rattle.heap_rule.specs.Rule.{state_of, AllFound, Stood, Rule}
 use Rattle.heap_rule.specs.Standing.{Acts}
 use Rattle.heap_rule.specs.Views.{one, Tells}
 use Rattle.heap_rule.proofs.Values.{AllStand}
-use Rattle.heap_rule.proofs.Keeps.{mine, my_good, remakes, knows_entry, after_entry, legal_entry, phases_words, stood_other, nobody_paused, run_still, staged_as, hunter_as}
+use Rattle.heap_rule.proofs.Keeps.{mine, my_good, remakes, knows_entry, after_entry, legal_entry, phases_words, stood_other, nobody_paused, run_still, staged_as, hunter_as, running_took_back, resting_runs, resting_other}
 use Rattle.heap_rule.proofs.Controls.{Untouched, found_untouched, making_untouched, pools_untouched, grid_untouched, hunter_untouched, cycle_untouched, sum_one}
 use Rattle.heap_rule.proofs.Entering.{running, inside_state, registers_stand, Enters, entered_view, stood_after, enters}
 use Rattle.steps_pauses.proofs.PauseSteps.{over_few}
@@ -69,6 +69,7 @@ ends k slots id hist x acts s r _ at _ =
     let others_over : (j : ℕ) → j ≢ d → is_over (next now e) j ≡ is_over now j = (λ j other. ap flag (keeps_next now e j (o.alone j other)).ended) in
     let counts : ended_word ws ≡ sum_of (is_over (state_of k log')) k.domains =
     word' ∙ (ap (λ (n : ℕ). n + 1) r.whole.endings ∙ (sym (sum_one (is_over now) (is_over (next now e)) d k.domains me.inside own_over others_over) ∙ sym (ap (λ (t : model.State). sum_of (is_over t) k.domains) after))) in
+    let same_want : want ws ≡ want s.words = get_or-set_other s.words 8 0 (w + 1) 0 (λ q. omega arith) in
     let prep = making_untouched k s.words ws x untouched g.making in
     let rule : Rule k record { words = ws; homes = s.homes; views = set s.views id (one k hist y) } = remakes k s r id hist x at y (record r.account { log = log' }) ws
     record {
@@ -78,6 +79,7 @@ ends k slots id hist x acts s r _ at _ =
       found = subst (λ (t : model.State). AllFound k r.account.live t.graph ws) (sym after) (subst (λ (graph : Graph). AllFound k r.account.live graph ws) (sym o.leaves.graph_is) (found_untouched k r.account.live now.graph s.words ws untouched r.whole.found));
       placed = r.whole.placed;
       phases = phases_words k r.account.pause s.words ws (get_or-set_other s.words 8 1 (w + 1) 0 (λ q. omega arith)) (get_or-set_other s.words 8 2 (w + 1) 0 (λ q. omega arith)) r.whole.phases;
+      unwished = λ j odd led runs. same_want ∙ r.whole.unwished j odd led runs;
       endings = counts;
       pools = pools_untouched k r.account.tenancy s.words ws untouched r.whole.pools;
       grid = grid_untouched k r.account.tenancy.holder r.account.live s.words ws untouched r.whole.grid;
@@ -92,7 +94,8 @@ ends k slots id hist x acts s r _ at _ =
       staged = staged_as r.account.pause x y refl refl refl g.staged;
       still = run_still log' y acts.runs;
       hunter = hunter_as k r.account.tenancy ws x y refl refl refl refl (hunter_untouched k r.account.tenancy s.words ws x untouched g.hunter);
-      resting = λ n. absurd (n acts.runs);
+      resting = resting_runs k s.words ws x y acts.runs acts.runs refl g.resting;
+      took_back = running_took_back ws y acts.runs;
     }
     (λ z _ other h. record {
       stood = subst (λ (t : model.State). Stood r.account.live t z) (sym after) (stood_other r.account.live r.account.live now (next now e) z (keeps_next now e z.own.number (o.alone z.own.number other)) (λ a p q. q) h.stood);
@@ -101,7 +104,8 @@ ends k slots id hist x acts s r _ at _ =
       staged = h.staged;
       still = λ paused. absurd (nobody_paused r.account.pause x z acts.runs g.staged h.staged paused);
       hunter = hunter_untouched k r.account.tenancy s.words ws z untouched h.hunter;
-      resting = h.resting;
+      resting = resting_other k r.account.pause s.words ws x z acts.runs g.staged h.staged h.resting;
+      took_back = λ kind leads last. same_want ∙ h.took_back kind leads last;
     }) in (
       one k hist y,
       keeps,

@@ -11,6 +11,7 @@ use Rattle.heap_model.specs.declared.entry.Entry.{Entry}
 use Rattle.heap_model.proofs.Histories.FrontLemmas.{front_whole}
 use Rattle.heap_rule.specs.declared.config.Config.{Config}
 use Rattle.heap_rule.specs.declared.view.DomainView.{DomainView}
+use Rattle.heap_rule.specs.declared.view.Listing.{Listing}
 use Rattle.heap_rule.specs.declared.view.View.{View}
 use Rattle.heap_rule.specs.declared.phase.Kind.{Kind}
 use Rattle.heap_rule.specs.declared.phase.Kind.TheVariants.{Run}
@@ -18,33 +19,64 @@ use Rattle.heap_rule.specs.declared.phase.Stage.{Stage}
 use Rattle.heap_rule.specs.declared.phase.Stage.TheVariants.{In, Leads, Led, Gone}
 use Rattle.heap_rule.specs.declared.phase.Note.{Note}
 use Rattle.heap_rule.specs.declared.phase.Note.TheVariants.{Want, Asked, Barrier, Ended, Cleared}
-use Rattle.heap_rule.specs.Layout.{heap_words, before_heap, barrier, plan, ended_word}
-use Rattle.heap_rule.specs.Phases.{code, Follows, sum_of, is_over, IsEven, IsOdd, Pause, Phases, AtStage, Staged, Still, IsInPause}
-use Rattle.heap_rule.specs.Pools.{drawn, drawn_in, Drawers}
+use Rattle.heap_rule.specs.Layout.{heap_words, before_heap, barrier, plan, ended_word, want}
+use Rattle.heap_rule.specs.Phases.{code, Follows, sum_of, is_over, IsEven, IsOdd, Pause, Phases, AtStage, Staged, Still, IsInPause, TookBack, Unwished}
+use Rattle.heap_rule.specs.Pools.{drawn, drawn_in, Drawers, IsLeading}
 use Rattle.steps_pauses.specs.Pauses.{noted, kind_in, IsGone, WantTold, AskTold, ArrivesFrom, ArriveMay, arrived_view, Arrived, LookTold, PlanTold, ClearTold, LeadMay, LeadTold, EndedTold}
 use Rattle.heap_rule.specs.Raw.{MayStep, MayStore}
 use Rattle.heap_rule.specs.Rule.{state_of, Rule}
 use Rattle.heap_rule.specs.Views.{one, Tells}
 use Rattle.heap_rule.proofs.Update.{over, over_here, over_else}
-use Rattle.heap_rule.proofs.Controls.{Untouched, untouched_same, sum_one, sum_low, all_up, parity, moved_to, turns, notes_rule}
-use Rattle.heap_rule.proofs.Keeps.{Words, mine, my_good, unmoved}
+use Rattle.heap_rule.proofs.Controls.{Untouched, untouched_same, sum_one, sum_low, all_up, parity, moved_to, turns, notes_rule, last_note_end, resting_untouched}
+use Rattle.heap_rule.proofs.Keeps.{Words, mine, my_good, unmoved, nobody_paused, not_both}
 
 gone_runs : (kind : Kind) → ◌≡◌ {A = Stage} (Gone kind) (In Run) → ⊥
 gone_runs kind e = cc
 
+gone_leads : (kind last : Kind) → ◌≡◌ {A = Stage} (Gone kind) (Leads last) → ⊥
+gone_leads kind last e = cc
+
+led_leads : (kind last : Kind) → ◌≡◌ {A = Stage} (Led kind) (Leads last) → ⊥
+led_leads kind last e = cc
+
 leads_runs : (kind : Kind) → ◌≡◌ {A = Stage} (Leads kind) (In Run) → ⊥
 leads_runs kind e = cc
 
+-- the note doesn't say that the wishes were taken back
+IsNotCleared : Note → Type 0
+IsNotCleared n = ◌≡◌ {A = Option Note} (Some n) (Some Cleared) → ⊥
+
+-- then whoever leaves it hasn't just taken them back
+noted_otherwise : (words : List ℕ) (x : DomainView) (arrivals : ℕ) (front : List Entry) (stage : Stage) (free : Option ℕ) (listing : Option Listing) (n : Note) → IsNotCleared n → TookBack words (moved_to x arrivals front stage (x.seen.notes ++ n ∷ []) free listing)
+unfolding IsNotCleared
+noted_otherwise words x arrivals front stage free listing n other kind leads last = absurd (other (sym (last_note_end x.seen.notes n) ∙ last))
+
+want_note : (n : ℕ) → IsNotCleared (Want n)
+unfolding IsNotCleared
+want_note n e = cc
+
+asked_note : (n : ℕ) → IsNotCleared (Asked n)
+unfolding IsNotCleared
+asked_note n e = cc
+
+barrier_note : (n : ℕ) → IsNotCleared (Barrier n)
+unfolding IsNotCleared
+barrier_note n e = cc
+
+ended_note : (n : ℕ) → IsNotCleared (Ended n)
+unfolding IsNotCleared
+ended_note n e = cc
+
 -- a load that leaves a note
-noting : (k : Config) (slots id word : ℕ) (hist : List Entry) (x : DomainView) (note : ℕ → Note) (tells : DomainView → ℕ → DomainView → Type 0)
+noting : (k : Config) (slots id word : ℕ) (hist : List Entry) (x : DomainView) (note : ℕ → Note) (tells : DomainView → ℕ → DomainView → Type 0) → ((n : ℕ) → IsNotCleared (note n))
     → ((s : Words) → Rule k s → get_elem? s.views id ≡ some (one k hist x) → tells x (get_or s.words word 0) (noted x (note (get_or s.words word 0))))
     → Allows (Rule k) slots id (one k hist x, []) word (λ n. n) (Tells tells (one k hist x, []))
-noting k slots id word hist x note tells says s r _ at _ =
+noting k slots id word hist x note tells other says s r _ at _ =
     let y : DomainView = noted x (note (get_or s.words word 0)) in (
       one k hist y,
       keeps,
       tt,
-      unmoved k s word (set s.views id (one k hist y)) (notes_rule k s r id hist x at y.seen.notes s.words (untouched_same s.words) refl refl refl),
+      unmoved k s word (set s.views id (one k hist y)) (notes_rule k s r id hist x at y.seen.notes s.words (untouched_same s.words) r.whole.unwished (noted_otherwise s.words x x.own.arrivals x.seen.front x.seen.stage x.seen.free x.seen.listing (note (get_or s.words word 0)) (other (get_or s.words word 0))) (λ z _ took. took) refl refl refl),
       (says s r at, refl),
     )
 
@@ -135,18 +167,23 @@ arrives k slots id hist x may s r _ at _ =
     let known : (j : ℕ) → x.own.arrivals + 1 ≡ j * 2 + 1 → t.kinds j ≡ kind_in x.seen.stage = leaves t d x.own.arrivals x.seen.stage may.from st.stage in
     let untouched : Untouched s.words ws = (length-set s.words 1 (b + 1), (λ i low other. get_or-set_other s.words 1 i (b + 1) 0 (λ e. omega arith))) in
     let endings : ended_word ws ≡ ended_word s.words = get_or-set_other s.words 1 8 (b + 1) 0 (λ e. omega arith) in
+    let same_want : want ws ≡ want s.words = get_or-set_other s.words 1 0 (b + 1) 0 (λ e. omega arith) in
     let through : (t' : Pause) → Phases k t' ws → Staged t' y → ((z : DomainView) → z.own.number < N → z.own.number ≢ d → Staged t z → Staged t' z)
-    → Drawers t' r.account.tenancy → Rule k record { words = ws; homes = s.homes; views = set s.views id (one k hist y) } =
-    (λ t' phases own_stage stages drawers. turns k s r id hist x at (x.own.arrivals + 1) x.seen.front (Gone (kind_in x.seen.stage)) x.seen.notes t' ws record {
+    → Drawers t' r.account.tenancy → Unwished t' ws → Rule k record { words = ws; homes = s.homes; views = set s.views id (one k hist y) } =
+    (λ t' phases own_stage stages drawers unwished. turns k s r id hist x at (x.own.arrivals + 1) x.seen.front (Gone (kind_in x.seen.stage)) x.seen.notes None None t' ws record {
       untouched = untouched;
       front = me.front;
       phases = phases;
       endings = endings;
       staged = own_stage;
       still = λ paused. absurd paused;
-      resting = λ n. may.at_rest;
+      free = λ f e. cc;
+      resting = record { hunt = λ n. may.at_rest; free = λ n. refl; lists = λ l e. cc };
       drawers = drawers;
       others = stages;
+      unwished = unwished;
+      took_back = λ kind leads last. absurd (gone_leads (kind_in x.seen.stage) kind leads);
+      others_took_back = λ z _ took kind leads last. same_want ∙ took kind leads last;
     }) in
     let mine_undrawn : (q : ℕ) → r.account.tenancy.holder q ≡ drawn d → ⊥ = (λ q h. none_some q (sym (ap drawn_in may.at_rest) ∙ (my_good k s r id hist x at).hunter.drawn_alone q h)) in
     let rule : Rule k record { words = ws; homes = s.homes; views = set s.views id (one k hist y) } = dite (dec_le ((ph + 1) * N) (b + 1))
@@ -173,7 +210,8 @@ arrives k slots id hist x may s r _ at _ =
     })
     (λ q e h. absurd (dite (ℕ_discrete e d)
     (λ same. mine_undrawn q (h ∙ ap drawn same))
-    (λ other. let a : t.arrived e ≡ ph = (r.whole.drawers q e h).0 in let c : t.arrived e ≡ ph + 1 = sym (else_is e other) ∙ ups e (r.whole.pools.drawn_by q e h).1 in omega arith))))
+    (λ other. let a : t.arrived e ≡ ph = (r.whole.drawers q e h).0 in let c : t.arrived e ≡ ph + 1 = sym (else_is e other) ∙ ups e (r.whole.pools.drawn_by q e h).1 in omega arith)))
+    (λ j odd led. absurd (true≢false (sym led))))
     (λ not_full.
     through (record t { arrived = arrived' }) record {
       sum = sum';
@@ -191,7 +229,8 @@ arrives k slots id hist x may s r _ at _ =
     })
     (λ q e h. dite (ℕ_discrete e d)
     (λ same. absurd (mine_undrawn q (h ∙ ap drawn same)))
-    (λ other. (else_is e other ∙ (r.whole.drawers q e h).0, (r.whole.drawers q e h).1)))) in (
+    (λ other. (else_is e other ∙ (r.whole.drawers q e h).0, (r.whole.drawers q e h).1)))
+    (λ j odd led runs. same_want ∙ r.whole.unwished j odd led runs)) in (
       one k hist y,
       keeps,
       tt,
@@ -224,8 +263,8 @@ looked_at k id hist x gone s r at =
     (λ not_above. let z : a < t.phase + 1 = lt_of_not-le not_above in omega arith) in
     let through : (stage : Stage) → AtStage t x.own.number a stage → ((kind : Kind) × (((stage ≡ In kind) × IsEven a) ⊎ ((stage ≡ Leads (kind_in x.seen.stage)) × IsOdd a))) → Looks k s id hist x =
     (λ stage at' says. record {
-      after = moved_to x a r.account.log stage notes;
-      rule = turns k s r id hist x at a r.account.log stage notes t s.words record {
+      after = moved_to x a r.account.log stage notes x.seen.free x.seen.listing;
+      rule = turns k s r id hist x at a r.account.log stage notes x.seen.free x.seen.listing t s.words record {
         untouched = untouched_same s.words;
         front = front_whole x.own.number r.account.log;
         phases = P;
@@ -233,8 +272,16 @@ looked_at k id hist x gone s r at =
         staged = record { arrivals = st.arrivals; stage = at' };
         still = λ _. refl;
         drawers = r.whole.drawers;
-        resting = λ n. (my_good k s r id hist x at).resting (λ e. gone_runs (kind_in x.seen.stage) (sym gone ∙ e));
+        free = λ f e. e;
+        resting = let rest = (my_good k s r id hist x at).resting in let stays : x.seen.stage ≢ In Run = (λ e. gone_runs (kind_in x.seen.stage) (sym gone ∙ e)) in record {
+          hunt = λ n. rest.hunt stays;
+          free = λ n. rest.free stays;
+          lists = λ l e. absurd (subst IsLeading gone (rest.lists l e).leads);
+        };
         others = λ z _ _ its. its;
+        unwished = r.whole.unwished;
+        took_back = noted_otherwise s.words x a r.account.log stage x.seen.free x.seen.listing (Barrier b) (barrier_note b);
+        others_took_back = λ z _ took. took;
       };
       told = record {
         waits = λ below. absurd (let u : b < end = below in let w : end ≤ b = over_it in omega arith);
@@ -249,7 +296,7 @@ looked_at k id hist x gone s r at =
     (parity t.phase))
     (λ not_over. record {
       after = noted x (Barrier b);
-      rule = notes_rule k s r id hist x at notes s.words (untouched_same s.words) refl refl refl;
+      rule = notes_rule k s r id hist x at notes s.words (untouched_same s.words) r.whole.unwished (noted_otherwise s.words x x.own.arrivals x.seen.front x.seen.stage x.seen.free x.seen.listing (Barrier b) (barrier_note b)) (λ z _ took. took) refl refl refl;
       told = record { waits = λ _. refl; begun = λ over_it. absurd (not_over over_it) };
     })
 
@@ -262,16 +309,18 @@ plans k slots id hist x s r _ at _ =
       one k hist x,
       keeps,
       tt,
-      unmoved k s 2 (set s.views id (one k hist x)) (notes_rule k s r id hist x at x.seen.notes s.words (untouched_same s.words) refl refl refl),
+      unmoved k s 2 (set s.views id (one k hist x)) (notes_rule k s r id hist x at x.seen.notes s.words (untouched_same s.words) r.whole.unwished (my_good k s r id hist x at).took_back (λ z _ took. took) refl refl refl),
       (record { view = refl; told = λ kind is. let f = (subst (AtStage r.account.pause x.own.number x.own.arrivals) is st.stage).1 in r.whole.phases.even_plan f.0 f.1 ∙ ap code f.2 }, refl),
     )
 
 -- a step that writes the want word
-wants : (k : Config) (slots id : ℕ) (hist : List Entry) (x : DomainView) (note : Note) (f : ℕ → ℕ) (s : Words) (r : Rule k s) (at : get_elem? s.views id ≡ some (one k hist x))
+wants : (k : Config) (slots id : ℕ) (hist : List Entry) (x : DomainView) (note : Note) (f : ℕ → ℕ) (s : Words) (r : Rule k s) (at : get_elem? s.views id ≡ some (one k hist x)) → let ws : List ℕ = set s.words 0 (f (get_or s.words 0 0)) in
+    Unwished r.account.pause ws → TookBack ws (noted x note) → ((z : DomainView) → Staged r.account.pause z → TookBack s.words z → TookBack ws z)
     → Rule k record { words = set s.words 0 (f (get_or s.words 0 0)); homes = s.homes; views = set s.views id (one k hist (noted x note)) }
-wants k slots id hist x note f s r at =
+wants k slots id hist x note f s r at unwished took_back others =
     let new : ℕ = f (get_or s.words 0 0) in
     notes_rule k s r id hist x at (x.seen.notes ++ note ∷ []) (set s.words 0 new) (length-set s.words 0 new, (λ i low other. get_or-set_other s.words 0 i new 0 (λ e. omega arith)))
+    unwished took_back others
     (get_or-set_other s.words 0 1 new 0 (λ e. omega arith)) (get_or-set_other s.words 0 2 new 0 (λ e. omega arith)) (get_or-set_other s.words 0 8 new 0 (λ e. omega arith))
 
 -- what another than domain 0 knows in an odd phase stays when the next kind is named
@@ -288,23 +337,29 @@ leads k slots id hist x new next may s r _ at _ =
     let t : Pause = r.account.pause in
     let g = my_good k s r id hist x at in
     let ws : List ℕ = set s.words 2 new in
-    let y : DomainView = moved_to x x.own.arrivals x.seen.front (Led next) x.seen.notes in
+    let y : DomainView = moved_to x x.own.arrivals x.seen.front (Led next) x.seen.notes x.seen.free x.seen.listing in
     let before = subst (AtStage t x.own.number x.own.arrivals) may.stage g.staged.stage in
     let j : ℕ = before.1.0 in
     let odd : t.phase ≡ j * 2 + 1 = before.1.1 in
     let t' : Pause = record t { kinds = over (j + 1) next t.kinds; led = true } in
     let plan' : plan ws ≡ new = get_or-set_same s.words 2 new 0 (let w : ℕ = heap_words k in let p : ℕ = before_heap k in let o : 10 ≤ p = omega arith in let l : length s.words ≡ 1 + p + w = r.whole.wide in omega arith) in
+    let same_want : want ws ≡ want s.words = get_or-set_other s.words 2 0 new 0 (λ e. omega arith) in
     let barrier' : barrier ws ≡ barrier s.words = get_or-set_other s.words 2 1 new 0 (λ e. omega arith) in (
       one k hist y,
       keeps,
       tt,
-      turns k s r id hist x at x.own.arrivals x.seen.front (Led next) x.seen.notes t' ws record {
+      turns k s r id hist x at x.own.arrivals x.seen.front (Led next) x.seen.notes x.seen.free x.seen.listing t' ws record {
         untouched = (length-set s.words 2 new, (λ i low other. get_or-set_other s.words 2 i new 0 (λ e. omega arith)));
         front = (mine k s r id hist x at).front;
         endings = get_or-set_other s.words 2 8 new 0 (λ e. omega arith);
         still = λ _. g.still (subst IsInPause (sym may.stage) tt);
         drawers = λ q e h. absurd (let i : ℕ = (r.whole.drawers q e h).1.0 in let f : t.phase ≡ i * 2 = (r.whole.drawers q e h).1.1 in omega arith);
-        resting = λ n. g.resting (λ e. leads_runs may.last (sym may.stage ∙ e));
+        free = λ f e. e;
+        resting = let rest = resting_untouched k s.words ws x (length-set s.words 2 new, (λ i low other. get_or-set_other s.words 2 i new 0 (λ e. omega arith))) g.resting in let stays : x.seen.stage ≢ In Run = (λ e. leads_runs may.last (sym may.stage ∙ e)) in record {
+          hunt = λ n. rest.hunt stays;
+          free = λ n. rest.free stays;
+          lists = λ l e. let z = rest.lists l e in record { first = z.first; leads = tt; few = z.few; owners = z.owners; names = z.names; count = z.count; rewinds = z.rewinds };
+        };
         phases = record {
           sum = barrier' ∙ P.sum;
           begun = subst (λ (n : ℕ). t.phase * k.domains ≤ n) (sym barrier') P.begun;
@@ -320,6 +375,12 @@ leads k slots id hist x new next may s r _ at _ =
           leader = λ i e a. refl;
         };
         staged = record { arrivals = g.staged.arrivals; stage = (before.0, (j, odd), may.leads, refl) };
+        unwished = λ i e l runs.
+            let same : i ≡ j = (let h : t.phase ≡ i * 2 + 1 = e in omega arith) in
+            let next_is : next ≡ Run = sym (over_here (j + 1) next t.kinds) ∙ (ap (λ (n : ℕ). over (j + 1) next t.kinds (n + 1)) (sym same) ∙ runs) in
+            same_want ∙ g.took_back may.last may.stage (may.took_back next_is);
+        took_back = λ kind leads last. absurd (led_leads next kind leads);
+        others_took_back = λ z _ took kind leads last. same_want ∙ took kind leads last;
         others = λ z below other its. record {
           arrivals = its.arrivals;
           stage = others_led t j next z.own.number z.own.arrivals z.seen.stage odd (λ first. other (first ∙ sym may.leads)) (subst (λ (n : ℕ). n ≤ t.phase + 1) (sym its.arrivals) (P.each z.own.number below).1) its.stage;
@@ -341,16 +402,34 @@ over_few k s r =
 
 -- what the step calls ask of the rule
 pub want_may : (k : Config) (x : DomainView) → MayStep k x 0 (λ n. n) WantTold
-want_may k x fits slots id h = noting k slots id 0 h x Want WantTold (λ s r at. refl)
+want_may k x fits slots id h = noting k slots id 0 h x Want WantTold want_note (λ s r at. refl)
 
 pub ended_may : (k : Config) (x : DomainView) → MayStep k x 8 (λ n. n) (EndedTold k)
-ended_may k x fits slots id h = noting k slots id 8 h x Ended (EndedTold k) (λ s r at. (refl, over_few k s r))
+ended_may k x fits slots id h = noting k slots id 8 h x Ended (EndedTold k) ended_note (λ s r at. (refl, over_few k s r))
 
-pub ask_may : (k : Config) (x : DomainView) (bits : ℕ) → MayStep k x 0 (λ n. bit_or n bits) (AskTold bits)
-ask_may k x bits fits slots id h s r _ at _ = (one k h (noted x (Asked bits)), keeps, tt, wants k slots id h x (Asked bits) (λ n. bit_or n bits) s r at, (refl, refl))
+pub ask_may : (k : Config) (x : DomainView) (bits : ℕ) → x.seen.stage ≡ In Run → MayStep k x 0 (λ n. bit_or n bits) (AskTold bits)
+ask_may k x bits runs fits slots id h s r _ at _ =
+    let staged = (my_good k s r id h x at).staged in
+    let even = (subst (AtStage r.account.pause x.own.number x.own.arrivals) runs staged.stage).1 in (
+      one k h (noted x (Asked bits)),
+      keeps,
+      tt,
+      wants k slots id h x (Asked bits) (λ n. bit_or n bits) s r at
+          (λ j odd. absurd (not_both r.account.pause.phase (even.0, even.1) (j, odd)))
+          (noted_otherwise (set s.words 0 (bit_or (get_or s.words 0 0) bits)) x x.own.arrivals x.seen.front x.seen.stage x.seen.free x.seen.listing (Asked bits) (asked_note bits))
+          (λ z its took kind leads last. absurd (nobody_paused r.account.pause x z runs staged its (subst IsInPause (sym leads) tt))),
+      (refl, refl),
+    )
 
 pub clear_may : (k : Config) (x : DomainView) → MayStore k x 0 0 ClearTold
-clear_may k x fits slots id h s r _ at _ = (one k h (noted x Cleared), keeps, tt, wants k slots id h x Cleared (λ _. 0) s r at, (refl, refl))
+clear_may k x fits slots id h s r _ at _ =
+    let none : want (set s.words 0 0) ≡ 0 = get_or-set_same s.words 0 0 0 (let w : ℕ = heap_words k in let p : ℕ = before_heap k in let o : 10 ≤ p = omega arith in let l : length s.words ≡ 1 + p + w = r.whole.wide in omega arith) in (
+      one k h (noted x Cleared),
+      keeps,
+      tt,
+      wants k slots id h x Cleared (λ _. 0) s r at (λ j odd led runs. none) (λ kind leads last. none) (λ z its took kind leads last. none),
+      (refl, refl),
+    )
 
 pub arrive_may : (k : Config) (x : DomainView) → ArriveMay x → MayStep k x 1 (λ n. (n + 1) % 2 ^ 64) Arrived
 arrive_may k x may fits slots id h = arrives k slots id h x may

@@ -1,5 +1,5 @@
 -- What the steps of a pause ask and tell.
-use Rattle.std.specs.Prelude.{◌≡◌, ◌≢◌, ℕ, ◌+◌, ◌*◌, ◌^◌, ◌<◌, ◌≤◌, ◌⊎◌, List, [], ◌∷◌, ◌++◌}
+use Rattle.std.specs.Prelude.{◌≡◌, ◌≢◌, ℕ, ◌+◌, ◌*◌, ◌^◌, ◌<◌, ◌≤◌, ◌⊎◌, List, [], ◌∷◌, ◌++◌, Some, None}
 use Rattle.heap_model.specs.declared.entry.Entry.TheVariants.{End}
 use Rattle.heap_model.specs.declared.reply.Applied.TheVariants.{Silent}
 use Rattle.heap_model.specs.History.{Legal}
@@ -18,8 +18,9 @@ use Rattle.heap_rule.specs.declared.phase.Note.{Note}
 use Rattle.heap_rule.specs.declared.phase.Note.TheVariants.{Want, Asked, Barrier, Ended, Cleared}
 use Rattle.heap_rule.specs.declared.view.Hunt.TheVariants.{Rests}
 use Rattle.heap_rule.specs.Limits.{sizes_in}
-use Rattle.heap_rule.specs.Phases.{code, Follows, IsEven, IsOdd}
+use Rattle.heap_rule.specs.Phases.{code, Follows, IsEven, IsOdd, last_note}
 use Rattle.heap_rule.specs.Standing.{Entered}
+use Rattle.heap_rule.specs.declared.phase.Kind.TheVariants.{Run}
 
 -- the domain with one note more, and all else as it was
 abbrev pub noted : DomainView → Note → DomainView
@@ -53,12 +54,13 @@ ArrivesFrom d (Gone kind) = ⊥
 
 pub record ArriveMay (x : DomainView) : Type 0 where
   pub at_rest : x.seen.hunt ≡ Rests
+  pub idle : x.seen.made ≡ []
   pub from : ArrivesFrom x.own.number x.seen.stage
   pub few : x.own.arrivals < 2 ^ 60
 
--- the domain has arrived
+-- the domain has arrived: what it knows of how many pools are free, and of the list that it wrote, is void
 abbrev pub arrived_view : DomainView → DomainView
-arrived_view x = record { own = record x.own { arrivals = x.own.arrivals + 1 }; seen = record x.seen { stage = Gone (kind_in x.seen.stage) } }
+arrived_view x = record { own = record x.own { arrivals = x.own.arrivals + 1 }; seen = record x.seen { stage = Gone (kind_in x.seen.stage); free = None; listing = None } }
 
 abbrev pub Arrived : DomainView → ℕ → DomainView → Type 0
 Arrived x found y = y ≡ arrived_view x
@@ -97,13 +99,14 @@ pub record ClearMay (x : DomainView) : Type 0 where
 abbrev pub ClearTold : DomainView → ℕ → DomainView → Type 0
 ClearTold x found y = y ≡ noted x Cleared
 
--- domain 0 names the next kind in an odd phase, once
+-- domain 0 names the next kind in an odd phase, once. Before the domains run again it has just taken the wishes back
 pub record LeadMay (x : DomainView) (new : ℕ) (next : Kind) : Type 0 where
   pub leads : x.own.number ≡ 0
   pub last : Kind
   pub stage : x.seen.stage ≡ Leads last
   pub follows : Follows last next
   pub word : new ≡ code next
+  pub took_back : next ≡ Run → last_note x.seen.notes ≡ Some Cleared
 
 abbrev pub LeadTold : Kind → DomainView → ℕ → DomainView → Type 0
 LeadTold next x found y = y ≡ record x { seen = record x.seen { stage = Led next } }

@@ -8,8 +8,8 @@ ghost use Rattle.heap_rule.specs.Standing.{Acts};
 ghost use Rattle.heap_rule.specs.Token.{IsIn};
 
 use heap_rule::{
-    BARRIER, Change, Changing, Domain, ENDED, Heap, Leaving, Own, PLAN, Part, Reading, WANT, Writing,
-    add_as, load_as, or_as, store_as,
+    BARRIER, Change, Changing, Domain, ENDED, Heap, Leaving, Own, PLAN, Part, Reading, WANT,
+    Writing, add_as, load_as, or_as, store_as,
 };
 use std::marker::Brand;
 

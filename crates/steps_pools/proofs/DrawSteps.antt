@@ -1,4 +1,5 @@
 -- The steps that take a free block of the pools keep the rule.
+use Rattle.heap_model.specs.Domains.{class_count}
 use Rattle.std.proofs.Common.{◌≡◌, ◌≢◌, ℕ, ◌+◌, ◌*◌, ◌-◌, ◌^◌, ◌%◌, ◌<◌, ◌≤◌, ◌⊎◌, List, length, get_or, set, Option, Some, None, sym, refl, ap, ◌∙◌, subst, inl, inr, ⊎_elim, arith, length-set, get_or-set_same, get_or-set_other}
 use mathlib.Core.Logic.{dite}
 use native.Mathlib.Decide.{ℕ_discrete}
@@ -12,8 +13,7 @@ use Rattle.heap_rule.specs.declared.view.Hunt.TheVariants.{Rests, Counts, Asks, 
 use Rattle.heap_rule.specs.declared.view.Spot.{Spot}
 use Rattle.heap_rule.specs.declared.phase.Kind.TheVariants.{Run}
 use Rattle.heap_rule.specs.declared.phase.Stage.TheVariants.{In}
-use Rattle.heap_rule.specs.Layout.{heap_words, table_words, at_address, listed, cursor, listed_pool, owner_of}
-use Rattle.heap_rule.specs.Places.{Place}
+use Rattle.heap_rule.specs.Layout.{heap_words, table_words, listed, cursor, listed_pool, owner_of}
 use Rattle.heap_rule.specs.Views.{one}
 use Rattle.heap_rule.specs.Rule.{state_of, NoCycle, Rule}
 use Rattle.heap_rule.specs.Pools.{Holder, nobody, drawn, owned, owner_word, Tenancy, Pools, Hunts, Hunter, drawn_in, hunting, place_in, blocks_of, limit_of}
@@ -22,7 +22,7 @@ use Rattle.steps_pools.specs.Takes.{with_hunt, found_free, HasNoDraw}
 use Rattle.heap_rule.proofs.Update.{over, over_here, over_else}
 use Rattle.heap_rule.proofs.Keeps.{Words, mine, my_good, phases_words, holds_again}
 use Rattle.heap_rule.proofs.Lots.{drawn_same}
-use Rattle.heap_rule.proofs.Holders.{Agrees, agrees_same, agrees_set, found_agrees, making_agrees, same_asking, same_over, NotOf, nobody_not, drawn_not, drawn_owned, grid_over, free_later, hunter_agree, sum_over, sum_small}
+use Rattle.heap_rule.proofs.Holders.{Agrees, agrees_same, agrees_set, found_agrees, making_agrees, same_asking, same_over, NotOf, nobody_not, drawn_not, drawn_owned, grid_heap, grid_over, free_later, hunter_agree, sum_over, sum_small}
 
 pub some_none : (q : ℕ) → ◌≡◌ {A = Option ℕ} None (Some q) → ⊥
 some_none q e = cc
@@ -31,11 +31,11 @@ pub some_nat : (p q : ℕ) → ◌≡◌ {A = Option ℕ} (Some p) (Some q) → 
 some_nat p q e = cc
 
 -- which owner word is which holder's
-pub own_word : (h : Holder) (d c : ℕ) → c < 6 → ((e b : ℕ) → h ≡ owned e b → b < 6) → owner_word h ≡ 16 * d + c + 1 → h ≡ owned d c
+pub own_word : (h : Holder) (d c : ℕ) → c < class_count → ((e b : ℕ) → h ≡ owned e b → b < class_count) → owner_word h ≡ 16 * d + c + 1 → h ≡ owned d c
 own_word nobody d c few each e = absurd (omega arith)
 own_word (drawn b) d c few each e = absurd (omega arith)
 own_word (owned a b) d c few each e =
-    let small : b < 6 = each a b refl in
+    let small : b < class_count = each a b refl in
     let x : a ≡ d = omega arith in
     let y : b ≡ c = omega arith in λ i. owned (x i) (y i)
 
@@ -45,6 +45,17 @@ module _ (k : Config) (s : Words) (r : Rule k s) (id : ℕ) (hist : List Entry) 
 
   abbrev pub t : Tenancy
   t = r.account.tenancy
+
+  -- with so many listed and asked for, no more than f are free
+  abbrev pub BoundsFree : ℕ → ℕ → ℕ → Type 0
+  BoundsFree n c f = (n ≤ f + c) × (n ≤ f + limit_of k n)
+
+  -- where the cursor is below the limit, and where it is past it
+  pub below_bounds : (n c : ℕ) → c < limit_of k n → BoundsFree n c (n - c)
+  below_bounds n c below = let l : ℕ = limit_of k n in let p : c < l = below in (omega arith, let a : n ≤ n - c + l = omega arith in a)
+
+  pub past_bounds : (n c : ℕ) → limit_of k n ≤ c → BoundsFree n c (n - limit_of k n)
+  past_bounds n c past = let l : ℕ = limit_of k n in let p : l ≤ c = past in (let a : n ≤ n - l + c = omega arith in a, let a : n ≤ n - l + l = omega arith in a)
 
   pub hunter : Hunter k t s.words x
   hunter = (my_good k s r id hist x at).hunter
@@ -62,6 +73,7 @@ module _ (k : Config) (s : Words) (r : Rule k s) (id : ℕ) (hist : List Entry) 
     runs = runs;
     wide = refl;
     phases = r.whole.phases;
+    want = refl;
     endings = refl;
     cycle = r.whole.cycle;
     found = r.whole.found;
@@ -77,12 +89,13 @@ module _ (k : Config) (s : Words) (r : Rule k s) (id : ℕ) (hist : List Entry) 
   pub listed_rule : HasNoDraw x → Rule k record { words = s.words; homes = s.homes; views = set s.views id (one k hist (with_hunt x (Counts (listed s.words)))) }
   listed_rule free = knows x.own.looked (Counts (listed s.words)) (next_hunter (Counts (listed s.words)) refl (sym free))
 
-  -- the domain takes no more
-  pub rests_rule : (n : ℕ) → x.seen.hunt ≡ Counts n → limit_of k n ≤ cursor s.words → Rule k record { words = s.words; homes = s.homes; views = set s.views id (one k hist (found_free x (n - limit_of k n) Rests)) }
-  rests_rule n is past = holds_again k s r id hist x at x.own.looked Rests (Some (n - limit_of k n)) s.words t record {
+  -- as many are free as the load of the cursor found, and the domain takes no more
+  pub rests_rule : (n f : ℕ) → x.seen.hunt ≡ Counts n → BoundsFree n (cursor s.words) f → Rule k record { words = s.words; homes = s.homes; views = set s.views id (one k hist (found_free x f Rests)) }
+  rests_rule n f is bounds = holds_again k s r id hist x at x.own.looked Rests (Some f) s.words t record {
     runs = runs;
     wide = refl;
     phases = r.whole.phases;
+    want = refl;
     endings = refl;
     cycle = r.whole.cycle;
     found = r.whole.found;
@@ -94,12 +107,10 @@ module _ (k : Config) (s : Words) (r : Rule k s) (id : ℕ) (hist : List Entry) 
       hunt = tt;
       drawn_alone = λ q e. sym (ap drawn_in is) ∙ hunter.drawn_alone q e;
       taken = hunter.taken;
-      free = λ f e. past_free n f (subst (Hunts k t s.words me) is hunter.hunt) past (some_nat (n - limit_of k n) f e);
+      free = λ g e. subst (BoundsFree (listed s.words) (cursor s.words)) (some_nat f g e) (subst (λ (m : ℕ). BoundsFree m (cursor s.words) f) (sym (subst (Hunts k t s.words me) is hunter.hunt)) bounds);
     };
     hunters = λ z _ g. g.hunter;
-  } where
-    past_free : (n f : ℕ) → listed s.words ≡ n → limit_of k n ≤ cursor s.words → n - limit_of k n ≡ f → (listed s.words ≤ f + cursor s.words) × (listed s.words ≤ f + limit_of k (listed s.words))
-    past_free n f is past e = subst (λ (m : ℕ). (m ≤ f + cursor s.words) × (m ≤ f + limit_of k m)) (sym is) (let l : ℕ = limit_of k n in let c : ℕ = cursor s.words in let p : l ≤ c = past in let g : n - l ≡ f = e in (let a : n ≤ f + c = omega arith in a, let a : n ≤ f + l = omega arith in a))
+  }
 
   -- the cursor: the domain may ask
   asks_tenancy : Tenancy
@@ -117,6 +128,7 @@ module _ (k : Config) (s : Words) (r : Rule k s) (id : ℕ) (hist : List Entry) 
         runs = runs;
         wide = refl;
         phases = r.whole.phases;
+        want = refl;
         endings = refl;
         cycle = r.whole.cycle;
         found = r.whole.found;
@@ -137,13 +149,10 @@ module _ (k : Config) (s : Words) (r : Rule k s) (id : ℕ) (hist : List Entry) 
         grid = r.whole.grid;
         drawers = r.whole.drawers;
         makings = λ z p. p;
-        hunter = record { hunt = (counts, over_here me 1 t.asking); free = λ f e. below_free n f counts below (some_nat (n - cursor s.words) f e); drawn_alone = λ q e. sym (ap drawn_in is) ∙ hunter.drawn_alone q e; taken = hunter.taken };
+        hunter = record { hunt = (counts, over_here me 1 t.asking); free = λ f e. subst (BoundsFree (listed s.words) (cursor s.words)) (some_nat (n - cursor s.words) f e) (subst (λ (m : ℕ). BoundsFree m (cursor s.words) (n - cursor s.words)) (sym counts) (below_bounds n (cursor s.words) below)); drawn_alone = λ q e. sym (ap drawn_in is) ∙ hunter.drawn_alone q e; taken = hunter.taken };
         hunters = λ z other g. hunter_agree k t record { holder = t.holder; asking = over me 1 t.asking } s.words s.words (agrees_same k s.words) z (let c : ℕ = cursor s.words in let o : c ≤ c = omega arith in o) (same_asking t (over me 1 t.asking) z.own.number (over_else me 1 t.asking z.own.number other)) g.hunter;
       }
     where
-      below_free : (n f : ℕ) → listed s.words ≡ n → cursor s.words < limit_of k n → n - cursor s.words ≡ f → (listed s.words ≤ f + cursor s.words) × (listed s.words ≤ f + limit_of k (listed s.words))
-      below_free n f is below e = subst (λ (m : ℕ). (m ≤ f + cursor s.words) × (m ≤ f + limit_of k m)) (sym is) (let l : ℕ = limit_of k n in let c : ℕ = cursor s.words in let p : c < l = below in let g : n - c ≡ f = e in (let a : n ≤ f + c = omega arith in a, let a : n ≤ f + l = omega arith in a))
-
       limit_low : (n : ℕ) → limit_of k n ≤ n
       limit_low n = let e : ℕ = limit_of k n in omega arith
 
@@ -208,6 +217,7 @@ module _ (k : Config) (s : Words) (r : Rule k s) (id : ℕ) (hist : List Entry) 
       runs = runs;
       wide = length-set s.words 7 (c + 1);
       phases = phases1;
+      want = other_word 0 (λ e. omega arith);
       endings = other_word 8 (λ e. omega arith);
       cycle = cycle1;
       found = found_agrees k r.account.live (state_of k r.account.log).graph s.words words1 agrees r.whole.placed r.whole.found;
@@ -223,7 +233,7 @@ module _ (k : Config) (s : Words) (r : Rule k s) (id : ℕ) (hist : List Entry) 
         asked = subst (λ (m : ℕ). m + sum_of asking' k.domains ≤ k.pools + k.domains) (sym cursor_is) sums;
       };
       drawers = r.whole.drawers;
-      grid = record { lots = r.whole.grid.lots; places = λ q d c slot is inside. ⊎_elim (λ (z : at_address k s.words (place_in q c slot) ≡ 0). inl (agrees.heap (place_in q c slot) (omega arith) ∙ z)) (λ (z : (p : Place) × (r.account.live (place_in q c slot) ≡ Some p)). inr z) (r.whole.grid.places q d c slot is inside) };
+      grid = grid_heap k t.holder r.account.live s.words words1 agrees.heap r.whole.grid;
       makings = λ z p. making_agrees k s.words words1 z agrees p;
       hunter = record { hunt = tt; free = λ f e. late_free f (some_nat (n - limit_of k n) f e); drawn_alone = λ q e. sym (ap drawn_in is) ∙ hunter.drawn_alone q e; taken = λ q c slot is inside low e. hunter.taken q c slot is inside low (sym (agrees.heap (place_in q c slot) (omega arith)) ∙ e) };
       hunters = λ z other g. hunter_agree k t record { holder = t.holder; asking = asking' } s.words words1 agrees z cursor_grows (same_asking t asking' z.own.number (over_else me 0 t.asking z.own.number other)) g.hunter;
@@ -239,7 +249,7 @@ module _ (k : Config) (s : Words) (r : Rule k s) (id : ℕ) (hist : List Entry) 
       names i h = let l = lower i h in let m : ℕ = listed s.words in let f : m ≤ k.pools = pools.few in let g : i < m = l in agrees.list i (omega arith)
 
     -- it found one
-    module _ (class : ℕ) (few : class < 6) (below : c < limit_of k n) where
+    module _ (class : ℕ) (few : class < class_count) (below : c < limit_of k n) where
       abbrev pool : ℕ
       pool = listed_pool s.words c
 
@@ -311,6 +321,7 @@ module _ (k : Config) (s : Words) (r : Rule k s) (id : ℕ) (hist : List Entry) 
         runs = runs;
         wide = length-set s.words 7 (c + 1);
         phases = phases1;
+        want = other_word 0 (λ e. omega arith);
         endings = other_word 8 (λ e. omega arith);
         cycle = cycle1;
         found = found_agrees k r.account.live (state_of k r.account.log).graph s.words words1 agrees r.whole.placed r.whole.found;

@@ -3,3 +3,5 @@ pub mod DrawSteps
 pub mod WalkSteps
 pub mod TakeSteps
 pub mod MajorSteps
+pub mod FreePools
+pub mod ListSteps

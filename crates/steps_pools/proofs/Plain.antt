@@ -1,13 +1,14 @@
 -- What the steps on pools tell of a token's own data.
-use Rattle.std.proofs.Common.{◌≡◌, ◌≢◌, ◌+◌, ◌^◌, ◌<◌, ◌≤◌, ℕ, List, set, refl, sym, ap, ◌∙◌, subst, arith, lt_of_not-le, length-set, get_or-set_same, get_or-set_other, inl, inr}
+use Rattle.std.proofs.Common.{◌≡◌, ◌+◌, ◌^◌, ◌<◌, ◌≤◌, ℕ, List, set, sym, ap, ◌∙◌, subst, arith, lt_of_not-le, length-set, get_or-set_same, get_or-set_other, ◌≢◌, refl, inl, inr}
 use mathlib.Core.Logic.{dite}
 use native.Mathlib.Decide.{dec_le, ℕ_discrete}
-use Rattle.heap_model.specs.Domains.{IsWithinLimits}
+use Rattle.heap_model.specs.Domains.{class_count, IsWithinLimits}
 use Rattle.heap_model.specs.declared.entry.Entry.{Entry}
 use Rattle.heap_rule.specs.declared.change.Change.{Change}
 use Rattle.heap_rule.specs.declared.config.Config.{Config}
 use Rattle.heap_rule.specs.declared.view.Own.{Own}
 use Rattle.heap_rule.specs.declared.view.DomainView.{DomainView}
+use Rattle.heap_rule.specs.declared.view.Hunt.{Hunt}
 use Rattle.heap_rule.specs.declared.view.Spot.{Spot}
 use Rattle.heap_words.specs.declared.value.Value.TheVariants.{Nothing}
 use Rattle.heap_rule.specs.declared.view.Hunt.TheVariants.{Rests}
@@ -15,20 +16,19 @@ use Rattle.heap_rule.specs.Changes.{changed, FitChanges}
 use Rattle.heap_rule.specs.Limits.{sizes_in}
 use Rattle.heap_rule.specs.Pools.{blocks_of, owned, owner_word, limit_of, spot_at, hunting}
 use Rattle.heap_rule.specs.Raw.{Closes, StepsOnce}
-use Rattle.heap_rule.specs.Token.{Holds, LooksWithin, OwnFits, next_label}
+use Rattle.heap_rule.specs.Token.{LooksWithin, OwnFits, Holds, next_label}
 use Rattle.heap_rule.proofs.ChangeLemmas.{changed_only}
 use Rattle.heap_rule.proofs.Classes.{some_block}
 use Rattle.steps_pools.specs.Takes.{CursorTold, CursorAddTold, OwnedTold, OwnerTold, PlaceTold, MajorTold}
 use Rattle.steps_pools.specs.Writes.{looking, CanLook, LooksFrom, PassesPool, PassesPlace, CanLabel, Labels}
 use Rattle.heap_rule.proofs.Closes.{front_same}
 use Rattle.heap_model.specs.Fronts.{IsFrontOf}
-use Rattle.heap_rule.specs.declared.view.Hunt.{Hunt}
 use Rattle.heap_model.specs.declared.reply.Applied.TheVariants.{Replied}
 use Rattle.heap_model.specs.declared.reply.Reply.TheVariants.{Block}
 
 -- loads and adds of the cursor leave the token's own data
-pub cursor_own : (k : Config) (count : ℕ) (x : DomainView) (found : ℕ) (y : DomainView) → CursorTold k count x found y → y.own ≡ x.own
-cursor_own k count x found y told = dite (dec_le (limit_of k count) found)
+pub cursor_own : (k : Config) (count : ℕ) (hunt : Hunt) (x : DomainView) (found : ℕ) (y : DomainView) → CursorTold k count hunt x found y → y.own ≡ x.own
+cursor_own k count hunt x found y told = dite (dec_le (limit_of k count) found)
     (λ past. ap (λ (z : DomainView). z.own) (told.past past))
     (λ not_past. ap (λ (z : DomainView). z.own) (told.below (lt_of_not-le not_past)))
 
@@ -38,8 +38,8 @@ cursor_add_own k count class x found y told = dite (dec_le (limit_of k count) fo
     (λ not_past. ap (λ (z : DomainView). z.own) (told.below (lt_of_not-le not_past)).view)
 
 -- and the front
-pub cursor_front : (k : Config) (count : ℕ) (x : DomainView) (found : ℕ) (y : DomainView) → CursorTold k count x found y → IsFrontOf x.own.number y.seen.front x.seen.front
-cursor_front k count x found y told = dite (dec_le (limit_of k count) found)
+pub cursor_front : (k : Config) (count : ℕ) (hunt : Hunt) (x : DomainView) (found : ℕ) (y : DomainView) → CursorTold k count hunt x found y → IsFrontOf x.own.number y.seen.front x.seen.front
+cursor_front k count hunt x found y told = dite (dec_le (limit_of k count) found)
     (λ past. front_same x y (ap (λ (z : DomainView). z.seen.front) (told.past past)))
     (λ not_past. front_same x y (ap (λ (z : DomainView). z.seen.front) (told.below (lt_of_not-le not_past))))
 
@@ -75,7 +75,7 @@ looking_fits k x y class spot fits is low small = subst (OwnFits k) (sym is) rec
 few_pools : (k : Config) (pool : ℕ) → IsWithinLimits (sizes_in k) → pool < k.pools → pool < 2048
 few_pools k pool limits inside = let all = limits.pools in let p : ℕ = k.pools in let i : pool < p = inside in omega arith
 
-pub owned_closes : (k : Config) (x : DomainView) (new pool class : ℕ) → pool < k.pools → class < 6 → IsWithinLimits (sizes_in k) → Closes k x new (OwnedTold pool class) (λ _. CanLook pool class) (LooksFrom pool class)
+pub owned_closes : (k : Config) (x : DomainView) (new pool class : ℕ) → pool < k.pools → class < class_count → IsWithinLimits (sizes_in k) → Closes k x new (OwnedTold pool class) (λ _. CanLook pool class) (LooksFrom pool class)
 owned_closes k x new pool class inside few limits y fits told =
     let own = ap (λ (z : DomainView). z.own) told in record {
       can_write = (few_pools k pool limits inside, few);
@@ -84,7 +84,7 @@ owned_closes k x new pool class inside few limits y fits told =
       once = looking_once k x y _ _ told;
     }
 
-pub owner_closes : (k : Config) (x : DomainView) (found pool class : ℕ) → pool < k.pools → class < 6 → IsWithinLimits (sizes_in k) → Closes k x found (OwnerTold pool class) (λ _. CanLook pool class) (PassesPool pool class found)
+pub owner_closes : (k : Config) (x : DomainView) (found pool class : ℕ) → pool < k.pools → class < class_count → IsWithinLimits (sizes_in k) → Closes k x found (OwnerTold pool class) (λ _. CanLook pool class) (PassesPool pool class found)
 owner_closes k x found pool class inside few limits y fits told = record {
   can_write = (few_pools k pool limits inside, few);
   written = λ after is. dite (ℕ_discrete found (owner_word (owned x.own.number class)))
@@ -98,7 +98,7 @@ owner_closes k x found pool class inside few limits y fits told = record {
       (λ other. looking_once k x y _ _ (told.other other));
 }
 
-pub place_closes : (k : Config) (x : DomainView) (found pool class slot : ℕ) → pool < k.pools → class < 6 → slot < blocks_of class → IsWithinLimits (sizes_in k)
+pub place_closes : (k : Config) (x : DomainView) (found pool class slot : ℕ) → pool < k.pools → class < class_count → slot < blocks_of class → IsWithinLimits (sizes_in k)
     → Closes k x found (PlaceTold pool class slot) (λ _. CanLook pool class × (slot < blocks_of class)) (PassesPlace pool class slot found)
 place_closes k x found pool class slot inside few low limits y fits told = record {
   can_write = ((few_pools k pool limits inside, few), low);

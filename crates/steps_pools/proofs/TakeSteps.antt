@@ -1,4 +1,5 @@
 -- The kinds of step that take a free block of the pools: each is allowed.
+use Rattle.heap_model.specs.Domains.{class_count}
 use Rattle.std.proofs.Common.{◌≡◌, ℕ, ◌+◌, ◌-◌, ◌^◌, ◌%◌, ◌<◌, ◌≤◌, List, [], ◌∷◌, ◌++◌, length, get_or, set, Some, sym, refl, ap, ◌∙◌, subst, arith, lt_of_not-le}
 use mathlib.Core.Logic.{dite}
 use native.Mathlib.Decide.{ℕ_discrete, dec_le}
@@ -18,7 +19,7 @@ use Rattle.heap_rule.specs.Rule.{Rule}
 use Rattle.heap_rule.specs.Pools.{owned, owner_word, Hunts, drawn_in, place_in, blocks_of, limit_of}
 use Rattle.steps_pools.specs.Takes.{with_hunt, found_free, looked_to, HasNoDraw, ListedTold, CursorTold, CursorAddTold, ListMay, ListTold, ClearMay, ClearTold, OwnedTold, FillTold, cleared_more, OwnerMay, OwnerLoadMay, OwnerTold, PlaceMay, PlaceTold, FillMay, filled}
 use Rattle.heap_rule.proofs.Keeps.{unmoved, looks, mine, my_good}
-use Rattle.steps_pools.proofs.DrawSteps.{hunter, listed_rule, asks_rule, rests_rule, late_rule, draws_rule, whole_word, place_inside, pool_inside}
+use Rattle.steps_pools.proofs.DrawSteps.{hunter, listed_rule, asks_rule, rests_rule, below_bounds, past_bounds, late_rule, draws_rule, whole_word, place_inside, pool_inside}
 use Rattle.steps_pools.proofs.WalkSteps.{walks_rule, passes_rule, takes_rule, full_rule, last_rule, clears_rule, owns_rule, fills_rule}
 
 abbrev Seat : Type 0
@@ -32,17 +33,31 @@ listeds k slots id hist x runs free s r _ at _ =
 pub listed_may : (k : Config) (x : DomainView) (runs : x.seen.stage ≡ In Run) → HasNoDraw x → MayStep k x 6 (λ n. n) (ListedTold k)
 listed_may k x runs free fits slots id h = listeds k slots id h x runs free
 
-cursors : (k : Config) (slots id : ℕ) (hist : List Entry) (x : DomainView) (runs : x.seen.stage ≡ In Run) (count : ℕ) → x.seen.hunt ≡ Counts count → Allows (Rule k) slots id (one k hist x, []) 7 (λ n. n) (Tells (CursorTold k count) (one k hist x, []))
+lt_not_le : {a b : ℕ} → a < b → b ≤ a → ⊥
+lt_not_le {a} {b} below past = let p : a < b = below in let q : b ≤ a = past in omega arith
+
+cursors : (k : Config) (slots id : ℕ) (hist : List Entry) (x : DomainView) (runs : x.seen.stage ≡ In Run) (count : ℕ) → x.seen.hunt ≡ Counts count → Allows (Rule k) slots id (one k hist x, []) 7 (λ n. n) (Tells (CursorTold k count (Asks count)) (one k hist x, []))
 cursors k slots id hist x runs count hunt s r _ at _ = dite (dec_le (limit_of k count) (cursor s.words))
     (λ past. let y : DomainView = found_free x (count - limit_of k count) Rests in
-    (one k hist y, keeps, tt, unmoved k s 7 (set s.views id (one k hist y)) (rests_rule k s r id hist x at runs count hunt past), (record { below = λ b. absurd (let c : ℕ = cursor s.words in let l : ℕ = limit_of k count in let p : l ≤ c = past in let q : c < l = b in omega arith); past = λ p. refl }, refl)))
+    (one k hist y, keeps, tt, unmoved k s 7 (set s.views id (one k hist y)) (rests_rule k s r id hist x at runs count (count - limit_of k count) hunt (past_bounds k s r id hist x at runs count (cursor s.words) past)), (record { below = λ b. absurd (lt_not_le b past); past = λ p. refl }, refl)))
     (λ not_past. let below : cursor s.words < limit_of k count = lt_of_not-le not_past in let y : DomainView = found_free x (count - cursor s.words) (Asks count) in
     (one k hist y, keeps, tt, unmoved k s 7 (set s.views id (one k hist y)) (asks_rule k s r id hist x at runs count hunt below), (record { below = λ b. refl; past = λ p. absurd (not_past p) }, refl)))
 
-pub cursor_may : (k : Config) (x : DomainView) (runs : x.seen.stage ≡ In Run) (count : ℕ) → x.seen.hunt ≡ Counts count → MayStep k x 7 (λ n. n) (CursorTold k count)
+pub cursor_may : (k : Config) (x : DomainView) (runs : x.seen.stage ≡ In Run) (count : ℕ) → x.seen.hunt ≡ Counts count → MayStep k x 7 (λ n. n) (CursorTold k count (Asks count))
 cursor_may k x runs count hunt fits slots id h = cursors k slots id h x runs count hunt
 
-cursor_adds : (k : Config) (slots id : ℕ) (hist : List Entry) (x : DomainView) (runs : x.seen.stage ≡ In Run) (count class : ℕ) → x.seen.hunt ≡ Asks count → class < 6 → Allows (Rule k) slots id (one k hist x, []) 7 (λ n. (n + 1) % 2 ^ 64) (Tells (CursorAddTold k count class) (one k hist x, []))
+-- a domain that takes no pool looks how many are free
+looks_free : (k : Config) (slots id : ℕ) (hist : List Entry) (x : DomainView) (runs : x.seen.stage ≡ In Run) (count : ℕ) → x.seen.hunt ≡ Counts count → Allows (Rule k) slots id (one k hist x, []) 7 (λ n. n) (Tells (CursorTold k count Rests) (one k hist x, []))
+looks_free k slots id hist x runs count hunt s r _ at _ = dite (dec_le (limit_of k count) (cursor s.words))
+    (λ past. let y : DomainView = found_free x (count - limit_of k count) Rests in
+    (one k hist y, keeps, tt, unmoved k s 7 (set s.views id (one k hist y)) (rests_rule k s r id hist x at runs count (count - limit_of k count) hunt (past_bounds k s r id hist x at runs count (cursor s.words) past)), (record { below = λ b. absurd (lt_not_le b past); past = λ p. refl }, refl)))
+    (λ not_past. let below : cursor s.words < limit_of k count = lt_of_not-le not_past in let y : DomainView = found_free x (count - cursor s.words) Rests in
+    (one k hist y, keeps, tt, unmoved k s 7 (set s.views id (one k hist y)) (rests_rule k s r id hist x at runs count (count - cursor s.words) hunt (below_bounds k s r id hist x at runs count (cursor s.words) below)), (record { below = λ b. refl; past = λ p. absurd (not_past p) }, refl)))
+
+pub free_may : (k : Config) (x : DomainView) (runs : x.seen.stage ≡ In Run) (count : ℕ) → x.seen.hunt ≡ Counts count → MayStep k x 7 (λ n. n) (CursorTold k count Rests)
+free_may k x runs count hunt fits slots id h = looks_free k slots id h x runs count hunt
+
+cursor_adds : (k : Config) (slots id : ℕ) (hist : List Entry) (x : DomainView) (runs : x.seen.stage ≡ In Run) (count class : ℕ) → x.seen.hunt ≡ Asks count → class < class_count → Allows (Rule k) slots id (one k hist x, []) 7 (λ n. (n + 1) % 2 ^ 64) (Tells (CursorAddTold k count class) (one k hist x, []))
 cursor_adds k slots id hist x runs count class hunt few s r _ at _ =
     let c : ℕ = cursor s.words in
     let same : c + 1 ≡ (c + 1) % 2 ^ 64 = sym (whole_word k s r id hist x at runs count hunt) in
@@ -64,7 +79,7 @@ cursor_adds k slots id hist x runs count class hunt few s r _ at _ =
       (record { below = λ b. record { pool = listed_pool s.words c; listed_is = place_inside k s r id hist x at runs count hunt class few below; inside = pool_inside k s r id hist x at runs count hunt class few below; view = refl }; past = λ p. absurd (not_past p) }, refl),
     ))
 
-pub cursor_add_may : (k : Config) (x : DomainView) (runs : x.seen.stage ≡ In Run) (count class : ℕ) → x.seen.hunt ≡ Asks count → class < 6 → MayStep k x 7 (λ n. (n + 1) % 2 ^ 64) (CursorAddTold k count class)
+pub cursor_add_may : (k : Config) (x : DomainView) (runs : x.seen.stage ≡ In Run) (count class : ℕ) → x.seen.hunt ≡ Asks count → class < class_count → MayStep k x 7 (λ n. (n + 1) % 2 ^ 64) (CursorAddTold k count class)
 cursor_add_may k x runs count class hunt few fits slots id h = cursor_adds k slots id h x runs count class hunt few
 
 lists : (k : Config) (slots id : ℕ) (hist : List Entry) (x : DomainView) (runs : x.seen.stage ≡ In Run) (word : ℕ) → ListMay k x word → Allows (Rule k) slots id (one k hist x, []) word (λ n. n) (Tells ListTold (one k hist x, []))
@@ -87,7 +102,7 @@ clears k slots id word hist x runs a new pool class cleared here may s r _ at _ 
 pub clear_may : (k : Config) (x : DomainView) (runs : x.seen.stage ≡ In Run) (word a new pool class cleared : ℕ) → word ≡ before_heap k + a → ClearMay x a new pool class cleared → MayStore k x word new ClearTold
 clear_may k x runs word a new pool class cleared here may fits slots id h = clears k slots id word h x runs a new pool class cleared here may
 
-owns : (k : Config) (slots id word : ℕ) (hist : List Entry) (x : DomainView) (runs : x.seen.stage ≡ In Run) (new pool class : ℕ) → length x.own.looked ≡ 6 → OwnerMay k x word new pool class
+owns : (k : Config) (slots id word : ℕ) (hist : List Entry) (x : DomainView) (runs : x.seen.stage ≡ In Run) (new pool class : ℕ) → length x.own.looked ≡ class_count → OwnerMay k x word new pool class
     → Allows (Rule k) slots id (one k hist x, []) word (λ _. new) (λ _. Tells (λ y _ z. z ≡ looked_to y class (record { pool = pool; slot = 0 }) (Fills pool class 0 [])) (one k hist x, []) new)
 owns k slots id word hist x runs new pool class wide may s r _ at _ =
     let y : DomainView = looked_to x class (record { pool = pool; slot = 0 }) (Fills pool class 0 []) in
@@ -96,7 +111,7 @@ owns k slots id word hist x runs new pool class wide may s r _ at _ =
 pub owner_may : (k : Config) (x : DomainView) (runs : x.seen.stage ≡ In Run) (word new pool class : ℕ) → OwnerMay k x word new pool class → MayStore k x word new (OwnedTold pool class)
 owner_may k x runs word new pool class may fits slots id h = owns k slots id word h x runs new pool class fits.looked.wide may
 
-owners : (k : Config) (slots id word : ℕ) (hist : List Entry) (x : DomainView) (runs : x.seen.stage ≡ In Run) (pool class : ℕ) → length x.own.looked ≡ 6 → OwnerLoadMay k x word pool class → Allows (Rule k) slots id (one k hist x, []) word (λ n. n) (Tells (OwnerTold pool class) (one k hist x, []))
+owners : (k : Config) (slots id word : ℕ) (hist : List Entry) (x : DomainView) (runs : x.seen.stage ≡ In Run) (pool class : ℕ) → length x.own.looked ≡ class_count → OwnerLoadMay k x word pool class → Allows (Rule k) slots id (one k hist x, []) word (λ n. n) (Tells (OwnerTold pool class) (one k hist x, []))
 owners k slots id word hist x runs pool class wide may s r _ at _ =
     let found : ℕ = owner_of k s.words pool in
     let found_is : get_or s.words word 0 ≡ found = ap (λ (n : ℕ). get_or s.words n 0) may.word in
@@ -109,7 +124,7 @@ owners k slots id word hist x runs pool class wide may s r _ at _ =
 pub owner_load_may : (k : Config) (x : DomainView) (runs : x.seen.stage ≡ In Run) (word pool class : ℕ) → OwnerLoadMay k x word pool class → MayStep k x word (λ n. n) (OwnerTold pool class)
 owner_load_may k x runs word pool class may fits slots id h = owners k slots id word h x runs pool class fits.looked.wide may
 
-places : (k : Config) (slots id word : ℕ) (hist : List Entry) (x : DomainView) (runs : x.seen.stage ≡ In Run) (a pool class slot : ℕ) → word ≡ before_heap k + a → length x.own.looked ≡ 6 → PlaceMay x a pool class slot → Allows (Rule k) slots id (one k hist x, []) word (λ n. n) (Tells (PlaceTold pool class slot) (one k hist x, []))
+places : (k : Config) (slots id word : ℕ) (hist : List Entry) (x : DomainView) (runs : x.seen.stage ≡ In Run) (a pool class slot : ℕ) → word ≡ before_heap k + a → length x.own.looked ≡ class_count → PlaceMay x a pool class slot → Allows (Rule k) slots id (one k hist x, []) word (λ n. n) (Tells (PlaceTold pool class slot) (one k hist x, []))
 places k slots id word hist x runs a pool class slot here wide may s r _ at _ =
     let found : ℕ = at_address k s.words (place_in pool class slot) in
     let found_is : get_or s.words word 0 ≡ found = ap (λ (n : ℕ). get_or s.words n 0) (here ∙ ap (λ (n : ℕ). before_heap k + n) may.word) in
@@ -135,10 +150,3 @@ fills k slots id word hist x runs a new here may s r _ at _ =
 
 pub fill_may : (k : Config) (x : DomainView) (runs : x.seen.stage ≡ In Run) (word a new : ℕ) → word ≡ before_heap k + a → FillMay x a → MayStore k x word new FillTold
 fill_may k x runs word a new here may fits slots id h = fills k slots id word h x runs a new here may
-
--- the loads and adds of the cursor leave the plain data
-pub cursor_own : (k : Config) (count : ℕ) (x : DomainView) (found : ℕ) (y : DomainView) → CursorTold k count x found y → y.own ≡ x.own
-cursor_own k count x found y told = dite (dec_le (limit_of k count) found) (λ past. ap (λ (z : DomainView). z.own) (told.past past)) (λ not_past. ap (λ (z : DomainView). z.own) (told.below (lt_of_not-le not_past)))
-
-pub cursor_add_own : (k : Config) (count class : ℕ) (x : DomainView) (found : ℕ) (y : DomainView) → CursorAddTold k count class x found y → y.own ≡ x.own
-cursor_add_own k count class x found y told = dite (dec_le (limit_of k count) found) (λ past. ap (λ (z : DomainView). z.own) (told.past past)) (λ not_past. ap (λ (z : DomainView). z.own) (told.below (lt_of_not-le not_past)).view)

@@ -1,4 +1,5 @@
 -- The steps that look at the places of own pools, and make a drawn pool the domain's own.
+use Rattle.heap_model.specs.Domains.{class_count}
 use Rattle.std.proofs.Common.{◌≡◌, ◌≢◌, ℕ, ◌+◌, ◌*◌, ◌<◌, ◌≤◌, ◌⊎◌, List, [], ◌∷◌, ◌++◌, length, get_or, set, slice_get, Some, None, sym, refl, ap, ◌∙◌, subst, inl, inr, ⊎_elim, arith, length-set, get_or-set_same, get_or-set_other, lt_of_not-le}
 use mathlib.Core.Logic.{dite}
 use native.Mathlib.Decide.{ℕ_discrete, dec_le}
@@ -34,7 +35,7 @@ abbrev nowhere : Spot
 nowhere = record { pool = 0; slot = 0 }
 
 -- the place looked to, of a class and of the others
-spot_same : (l : List Spot) (class c : ℕ) (n : Spot) → c ≡ class → class < 6 → length l ≡ 6 → spot_at (set l class n) c ≡ n
+spot_same : (l : List Spot) (class c : ℕ) (n : Spot) → c ≡ class → class < class_count → length l ≡ class_count → spot_at (set l class n) c ≡ n
 spot_same l class c n same few wide = ap (λ (m : ℕ). spot_at (set l class n) m) same ∙ get_or-set_same l class n nowhere (omega arith)
 
 spot_other : (l : List Spot) (class c : ℕ) (n : Spot) → c ≢ class → spot_at (set l class n) c ≡ spot_at l c
@@ -54,7 +55,7 @@ module _ (k : Config) (s : Words) (r : Rule k s) (id : ℕ) (hist : List Entry) 
   P = r.whole.pools
 
   -- the owner word
-  module _ (pool class : ℕ) (inside : pool < k.pools) (few : class < 6) where
+  module _ (pool class : ℕ) (inside : pool < k.pools) (few : class < class_count) where
     abbrev word : ℕ
     word = owner_of k s.words pool
 
@@ -68,7 +69,7 @@ module _ (k : Config) (s : Words) (r : Rule k s) (id : ℕ) (hist : List Entry) 
     abbrev past : Spot
     past = record { pool = pool + 1; slot = 0 }
 
-    pub passes_rule : drawn_in x.seen.hunt ≡ None → word ≢ owner_word (owned d class) → (spot_at x.own.looked class).pool ≡ pool → length x.own.looked ≡ 6
+    pub passes_rule : drawn_in x.seen.hunt ≡ None → word ≢ owner_word (owned d class) → (spot_at x.own.looked class).pool ≡ pool → length x.own.looked ≡ class_count
         → Rule k record { words = s.words; homes = s.homes; views = set s.views id (one k hist (looked_to x class past Rests)) }
     passes_rule free differ from wide = knows k s r id hist x at runs (set x.own.looked class past) Rests record {
       hunt = tt;
@@ -93,7 +94,7 @@ module _ (k : Config) (s : Words) (r : Rule k s) (id : ℕ) (hist : List Entry) 
     own : T.holder pool ≡ owned d class
     own = subst (Hunts k T s.words d) is H.hunt
 
-    few : class < 6
+    few : class < class_count
     few = (P.owned_by pool d class own).2
 
     no_draw : drawn_in x.seen.hunt ≡ None
@@ -111,7 +112,7 @@ module _ (k : Config) (s : Words) (r : Rule k s) (id : ℕ) (hist : List Entry) 
     abbrev next : Spot
     next = record { pool = pool; slot = slot + 1 }
 
-    pub full_rule : at_address k s.words place ≢ 0 → spot_at x.own.looked class ≡ record { pool = pool; slot = slot } → length x.own.looked ≡ 6
+    pub full_rule : at_address k s.words place ≢ 0 → spot_at x.own.looked class ≡ record { pool = pool; slot = slot } → length x.own.looked ≡ class_count
         → Rule k record { words = s.words; homes = s.homes; views = set s.views id (one k hist (looked_to x class next (Walks pool class))) }
     full_rule full from wide = knows k s r id hist x at runs (set x.own.looked class next) (Walks pool class) record {
       hunt = own;
@@ -132,7 +133,7 @@ module _ (k : Config) (s : Words) (r : Rule k s) (id : ℕ) (hist : List Entry) 
     abbrev behind : Spot
     behind = record { pool = pool + 1; slot = 0 }
 
-    pub last_rule : at_address k s.words place ≢ 0 → blocks_of class ≤ slot + 1 → spot_at x.own.looked class ≡ record { pool = pool; slot = slot } → length x.own.looked ≡ 6
+    pub last_rule : at_address k s.words place ≢ 0 → blocks_of class ≤ slot + 1 → spot_at x.own.looked class ≡ record { pool = pool; slot = slot } → length x.own.looked ≡ class_count
         → Rule k record { words = s.words; homes = s.homes; views = set s.views id (one k hist (looked_to x class behind (Walks pool class))) }
     last_rule full last from wide = knows k s r id hist x at runs (set x.own.looked class behind) (Walks pool class) record {
       hunt = own;
@@ -183,7 +184,7 @@ module _ (k : Config) (s : Words) (r : Rule k s) (id : ℕ) (hist : List Entry) 
     own_place_far a low high q c slot owned_is below e =
         let y : ℕ = size_of c in
         let w : ℕ = slot * size_of c in
-        let few : c < 6 = (P.owned_by q d c owned_is).2 in
+        let few : c < class_count = (P.owned_by q d c owned_is).2 in
         let large : 4 ≤ y = size_least c few in
         let top : w + y ≤ 4096 = slot_inside c slot few below in
         let same : q * 4096 + w + 1 ≡ a = e in
@@ -211,6 +212,7 @@ module _ (k : Config) (s : Words) (r : Rule k s) (id : ℕ) (hist : List Entry) 
         runs = runs;
         wide = length-set s.words (before_heap k + A) 0;
         phases = phases_same k r.account.pause s.words ws (control_set k s.words A 0 (omega arith)) r.whole.phases;
+        want = control_set k s.words A 0 (omega arith) 0 (omega arith);
         endings = control_set k s.words A 0 (omega arith) 8 (omega arith);
         cycle = cycle_same k s.words ws (control_set k s.words A 0 (omega arith)) r.whole.cycle;
         found = λ b q lives. let f = r.whole.found b q lives in found_beside k r.account.live r.account.live (state_of k r.account.log).graph (state_of k r.account.log).graph s.words A 0 b q (λ c o h. h) f f.there (far A low high b q lives);
@@ -247,7 +249,7 @@ module _ (k : Config) (s : Words) (r : Rule k s) (id : ℕ) (hist : List Entry) 
       }
 
   -- the owner of the pool drawn
-  module _ (place pool class : ℕ) (is : x.seen.hunt ≡ Draws place pool class (blocks_of class)) (none_free : NoneFree k x class) (wide : length x.own.looked ≡ 6) where
+  module _ (place pool class : ℕ) (is : x.seen.hunt ≡ Draws place pool class (blocks_of class)) (none_free : NoneFree k x class) (wide : length x.own.looked ≡ class_count) where
     all_clear : Clearing k T.holder s.words d place pool class (blocks_of class)
     all_clear = subst (Hunts k T s.words d) is H.hunt
 
@@ -305,7 +307,7 @@ module _ (k : Config) (s : Words) (r : Rule k s) (id : ℕ) (hist : List Entry) 
           (λ other. other_word (11 + k.pools + q) (λ e. let n : q ≢ pool = other in omega arith) ∙ (P.owners q h ∙ sym (ap owner_word (else2 q other))));
       owned_by = λ q e c h. dite (ℕ_discrete q pool)
           (λ same. let o = owned_same d e class c (sym here2 ∙ (ap t2.holder (sym same) ∙ h)) in
-          subst (λ (m : ℕ × ℕ × ℕ). (m.0 < k.pools) × (m.1 < k.domains) × (m.2 < 6)) (λ j. (sym same j, o.0 j, o.1 j)) (all_clear.inside, (mine k s r id hist x at).inside, all_clear.of_class))
+          subst (λ (m : ℕ × ℕ × ℕ). (m.0 < k.pools) × (m.1 < k.domains) × (m.2 < class_count)) (λ j. (sym same j, o.0 j, o.1 j)) (all_clear.inside, (mine k s r id hist x at).inside, all_clear.of_class))
           (λ other. P.owned_by q e c (sym (else2 q other) ∙ h));
       drawn_by = λ q e h. dite (ℕ_discrete q pool)
           (λ same. absurd (owned_not_drawn d class e (sym here2 ∙ (ap t2.holder (sym same) ∙ h))))
@@ -325,6 +327,7 @@ module _ (k : Config) (s : Words) (r : Rule k s) (id : ℕ) (hist : List Entry) 
       runs = runs;
       wide = length-set s.words spot_owner signed;
       phases = phases_words k r.account.pause s.words words2 (other_word 1 (λ e. omega arith)) (other_word 2 (λ e. omega arith)) r.whole.phases;
+      want = other_word 0 (λ e. omega arith);
       endings = other_word 8 (λ e. omega arith);
       cycle = let p = r.whole.cycle in record { armed_is = other_word 4 (λ e. omega arith) ∙ p.armed_is; colours_are = other_word 5 (λ e. omega arith) ∙ p.colours_are };
       found = found_agrees k r.account.live (state_of k r.account.log).graph s.words words2 agrees r.whole.placed r.whole.found;
@@ -378,7 +381,7 @@ module _ (k : Config) (s : Words) (r : Rule k s) (id : ℕ) (hist : List Entry) 
     abbrev B : ℕ
     B = place_in pool class slot + 1 + m
 
-    pub few_class : class < 6
+    pub few_class : class < class_count
     few_class = (P.owned_by pool d class filling.own_is).2
 
     pub lot_top : slot * size_of class + size_of class ≤ 4096
@@ -474,6 +477,7 @@ module _ (k : Config) (s : Words) (r : Rule k s) (id : ℕ) (hist : List Entry) 
         runs = runs;
         wide = length-set s.words (before_heap k + B) new;
         phases = phases_same k r.account.pause s.words ws3 (control_set k s.words B new (omega arith)) r.whole.phases;
+        want = control_set k s.words B new (omega arith) 0 (omega arith);
         endings = control_set k s.words B new (omega arith) 8 (omega arith);
         cycle = cycle_same k s.words ws3 (control_set k s.words B new (omega arith)) r.whole.cycle;
         found = λ b q lives. let f = r.whole.found b q lives in found_beside k r.account.live r.account.live (state_of k r.account.log).graph (state_of k r.account.log).graph s.words B new b q (λ c o h. h) f f.there

@@ -1,4 +1,5 @@
 -- Steps that take a free block of the pools, and make a block there.
+use Rattle.heap_model.specs.Domains.{class_count}
 use Rattle.std.specs.Prelude.{◌≡◌, ◌≢◌, ℕ, ◌+◌, ◌-◌, ◌^◌, ◌<◌, ◌≤◌, false, List, [], ◌∷◌, ◌++◌, length, replicate, slice_set, Some, None}
 use Rattle.heap_model.specs.declared.command.Command.TheVariants.{AllocMaj}
 use Rattle.heap_model.specs.declared.entry.Entry.{Entry}
@@ -12,7 +13,7 @@ use Rattle.heap_rule.specs.declared.change.Change.{Change}
 use Rattle.heap_rule.specs.declared.config.Config.{Config}
 use Rattle.heap_rule.specs.declared.view.DomainView.{DomainView}
 use Rattle.heap_rule.specs.declared.view.Hunt.{Hunt}
-use Rattle.heap_rule.specs.declared.view.Hunt.TheVariants.{Rests, Counts, Asks, Draws, Walks, Fills}
+use Rattle.heap_rule.specs.declared.view.Hunt.TheVariants.{Rests, Counts, Draws, Walks, Fills}
 use Rattle.heap_rule.specs.declared.view.Spot.{Spot}
 use Rattle.heap_rule.specs.Limits.{sizes_in}
 use Rattle.heap_rule.specs.Places.{IsNewHead}
@@ -47,9 +48,9 @@ pub record ListedTold (k : Config) (x : DomainView) (found : ℕ) (y : DomainVie
 abbrev pub found_free : DomainView → ℕ → Hunt → DomainView
 found_free x free hunt = hunting_free x x.own.looked hunt (Some free)
 
--- a load of the cursor: where it is below the limit, the domain may ask for a pool
-pub record CursorTold (k : Config) (count : ℕ) (x : DomainView) (found : ℕ) (y : DomainView) : Type 0 where
-  pub below : found < limit_of k count → y ≡ found_free x (count - found) (Asks count)
+-- a load of the cursor tells how many pools are free: those behind it, or those of the reserve where it is past the limit. Where it is below the limit, the domain goes on so
+pub record CursorTold (k : Config) (count : ℕ) (hunt : Hunt) (x : DomainView) (found : ℕ) (y : DomainView) : Type 0 where
+  pub below : found < limit_of k count → y ≡ found_free x (count - found) hunt
   pub past : limit_of k count ≤ found → y ≡ found_free x (count - limit_of k count) Rests
 
 -- the pool at the place that the cursor named is drawn
@@ -111,11 +112,11 @@ pub record OwnerLoadMay (k : Config) (x : DomainView) (at pool class : ℕ) : Ty
   pub at_rest : HasNoDraw x
   pub word : at ≡ 11 + k.pools + pool
   pub inside : pool < k.pools
-  pub of_class : class < 6
+  pub of_class : class < class_count
   pub next : (spot_at x.own.looked class).pool ≡ pool
 
 pub record OwnerTold (pool class : ℕ) (x : DomainView) (found : ℕ) (y : DomainView) : Type 0 where
-  pub wide : length x.own.looked ≡ 6
+  pub wide : length x.own.looked ≡ class_count
   pub own : found ≡ owner_word (owned x.own.number class) → y ≡ with_hunt x (Walks pool class)
   pub other : found ≢ owner_word (owned x.own.number class) → y ≡ looked_to x class (record { pool = pool + 1; slot = 0 }) Rests
 
@@ -127,7 +128,7 @@ pub record PlaceMay (x : DomainView) (at pool class slot : ℕ) : Type 0 where
   pub next : spot_at x.own.looked class ≡ record { pool = pool; slot = slot }
 
 pub record PlaceTold (pool class slot : ℕ) (x : DomainView) (found : ℕ) (y : DomainView) : Type 0 where
-  pub wide : length x.own.looked ≡ 6
+  pub wide : length x.own.looked ≡ class_count
   pub free : found ≡ 0 → y ≡ with_hunt x (Fills pool class slot [])
   pub full : found ≢ 0 → slot + 1 < blocks_of class → y ≡ looked_to x class (record { pool = pool; slot = slot + 1 }) (Walks pool class)
   pub last : found ≢ 0 → blocks_of class ≤ slot + 1 → y ≡ looked_to x class (record { pool = pool + 1; slot = 0 }) (Walks pool class)

@@ -1,4 +1,5 @@
 -- What the steps on pools write into a token's own data.
+use Rattle.heap_model.specs.Domains.{class_count}
 use Rattle.std.specs.Prelude.{◌≡◌, ◌≢◌, ℕ, ◌+◌, ◌^◌, ◌<◌, ◌≤◌, List, slice_set}
 use Rattle.heap_words.specs.declared.value.Value.TheVariants.{Nothing}
 use Rattle.heap_rule.specs.declared.change.Change.{Change}
@@ -13,7 +14,7 @@ looking own class spot = record own { looked = slice_set own.looked class spot }
 
 -- the pool and the class exist
 abbrev pub CanLook : ℕ → ℕ → Type 0
-CanLook pool class = (pool < 2048) × (class < 6)
+CanLook pool class = (pool < 2048) × (class < class_count)
 
 -- the places are looked at from this pool on
 abbrev pub LooksFrom : ℕ → ℕ → Own → Own → Type 0

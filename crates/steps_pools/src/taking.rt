@@ -1,9 +1,12 @@
 //! The taking of a free block of the pools, and the making of a block there.
-ghost use Rattle.std.specs.Prelude.{◌≡◌, ◌<◌};
+ghost use Rattle.std.specs.Prelude.{◌≡◌, ◌+◌, ◌<◌, ◌≤◌};
+ghost use Rattle.heap_model.specs.Domains.{class_count, reserve as reserve_of};
 ghost use Rattle.heap_model.specs.declared.entry.Entry.{Entry};
 ghost use Rattle.heap_rule.specs.declared.phase.Kind.TheVariants.{Run};
 ghost use Rattle.heap_rule.specs.declared.phase.Stage.TheVariants.{In};
-ghost use Rattle.heap_rule.specs.declared.view.Hunt.TheVariants.{Counts, Asks};
+ghost use Rattle.heap_rule.specs.declared.view.Hunt.TheVariants.{Rests, Counts, Asks};
+ghost use Rattle.heap_rule.specs.Limits.{sizes_in};
+ghost use Rattle.heap_rule.specs.Pools.{limit_of};
 ghost use Rattle.heap_rule.specs.Standing.{IsInHeap};
 ghost use Rattle.steps_pools.specs.Takes.{HasNoDraw, ListedTold, CursorTold, CursorAddTold, ListMay, ListTold, ClearMay, ClearTold, OwnerMay, OwnedTold, FillMay, FillTold, MajorEntry, MajorTold};
 ghost use Rattle.heap_rule.specs.Token.{IsIn};
@@ -13,6 +16,7 @@ use heap_rule::{
     make_changes, store_as,
 };
 use heap_words::Value;
+use size_classes::reserve;
 use std::marker::Brand;
 
 // The token's own data stays as it is. What the step is about is there for the pick alone.
@@ -72,6 +76,17 @@ impl Writing for Labelling {
     }
 }
 
+/// How many of so many listed pools running domains may draw: all but those of the reserve of promotion.
+pub fn draw_limit(heap: &Heap, count: u32) -> u32
+    ensures value { result ≡ limit_of heap.now.config count }
+    ensures rest { count ≤ result + reserve_of (sizes_in heap.now.config) }
+    ensures low { result ≤ count }
+{
+    let config = heap.config();
+    let kept = reserve(config.domains, config.minor_words);
+    if count < kept { 0 } else { count - kept }
+}
+
 /// A load of the number of listed pools. Answers it.
 pub fn listed_load(heap: &Heap, dom: &mut Domain) -> u64
     requires here { IsIn dom.old heap.now }
@@ -89,7 +104,18 @@ pub fn cursor_load(heap: &Heap, dom: &mut Domain, count: u32) -> u64
     requires counts { dom.old.view.seen.hunt ≡ Counts count }
     requires runs { dom.old.view.seen.stage ≡ In Run }
     ensures here { IsIn dom.new heap.now }
-    ensures told { CursorTold heap.now.config count dom.old.view result dom.new.view }
+    ensures told { CursorTold heap.now.config count (Asks count) dom.old.view result dom.new.view }
+{
+    load_as::<Brand, Asking>(heap, dom, CURSOR, &Asking { count, class: 0 }, &[])
+}
+
+/// A load of the cursor by a domain that takes no pool, for the number of free ones. Answers the cursor.
+pub fn free_load(heap: &Heap, dom: &mut Domain, count: u32) -> u64
+    requires here { IsIn dom.old heap.now }
+    requires counts { dom.old.view.seen.hunt ≡ Counts count }
+    requires runs { dom.old.view.seen.stage ≡ In Run }
+    ensures here { IsIn dom.new heap.now }
+    ensures told { CursorTold heap.now.config count Rests dom.old.view result dom.new.view }
 {
     load_as::<Brand, Asking>(heap, dom, CURSOR, &Asking { count, class: 0 }, &[])
 }
@@ -99,7 +125,7 @@ pub fn cursor_load(heap: &Heap, dom: &mut Domain, count: u32) -> u64
 pub fn cursor_add(heap: &Heap, dom: &mut Domain, count: u32, class: u32) -> u64
     requires here { IsIn dom.old heap.now }
     requires asks { dom.old.view.seen.hunt ≡ Asks count }
-    requires class { class < 6 }
+    requires class { class < class_count }
     requires runs { dom.old.view.seen.stage ≡ In Run }
     ensures here { IsIn dom.new heap.now }
     ensures told { CursorAddTold heap.now.config count class dom.old.view result dom.new.view }
@@ -143,7 +169,7 @@ pub fn clear_store(
 /// taken. `at` is the word's index.
 pub fn owner_store(heap: &Heap, dom: &mut Domain, at: u32, new: u64, pool: u32, class: u32)
     requires here { IsIn dom.old heap.now }
-    requires inside { (pool < heap.now.config.pools) × (class < 6) }
+    requires inside { (pool < heap.now.config.pools) × (class < class_count) }
     requires may { OwnerMay heap.now.config dom.old.view at new pool class }
     requires runs { dom.old.view.seen.stage ≡ In Run }
     ensures here { IsIn dom.new heap.now }

@@ -1,4 +1,5 @@
 //! Looks at the places of the domain's own pools.
+ghost use Rattle.heap_model.specs.Domains.{class_count};
 ghost use Rattle.std.specs.Prelude.{◌≡◌, ◌≢◌, ◌+◌, ◌*◌, ◌<◌, ◌≤◌, true, false};
 ghost use Rattle.heap_rule.specs.declared.phase.Kind.TheVariants.{Run};
 ghost use Rattle.heap_rule.specs.declared.phase.Stage.TheVariants.{In};
@@ -20,9 +21,9 @@ pub fn owner_word(domain: u32, class: u32) -> u64
 
 /// The words of a block of a class.
 pub fn class_size(class: u32) -> u32
-    requires { class < 6 }
+    requires { class < class_count }
     ensures value { result ≡ size_of class }
-    ensures some { (4 ≤ result) × (result ≤ 128) }
+    ensures some { (4 ≤ result) × (result ≤ 4096) }
 {
     let classes = heap_classes();
     classes.words_of(class as usize) as u32
@@ -30,7 +31,7 @@ pub fn class_size(class: u32) -> u32
 
 /// The blocks of a pool of a class.
 pub fn class_blocks(class: u32) -> u32
-    requires { class < 6 }
+    requires { class < class_count }
     ensures value { result ≡ blocks_of class }
     ensures few { (0 < result) × (result ≤ 1024) }
 {
@@ -40,7 +41,7 @@ pub fn class_blocks(class: u32) -> u32
 /// The address of a place of a pool.
 pub fn place_address(pool: u32, class: u32, slot: u32) -> u32
     requires pool { pool < 2048 }
-    requires class { class < 6 }
+    requires class { class < class_count }
     requires slot { slot < blocks_of class }
     ensures value { result ≡ place_in pool class slot }
     ensures inside { (pool * 4096 < result) × (result ≤ pool * 4096 + 4096) }
@@ -51,7 +52,7 @@ pub fn place_address(pool: u32, class: u32, slot: u32) -> u32
 // The place behind one, in the next pool behind the last.
 fn behind(pool: u32, class: u32, slot: u32) -> Spot
     requires pool { pool < 2048 }
-    requires class { class < 6 }
+    requires class { class < class_count }
     requires slot { slot < blocks_of class }
     ensures next { slot + 1 < blocks_of class → result ≡ record { pool = pool; slot = slot + 1 } }
     ensures last { blocks_of class ≤ slot + 1 → result ≡ record { pool = pool + 1; slot = 0 } }
@@ -134,7 +135,7 @@ pub fn owner_load(heap: &Heap, dom: &mut Domain, at: u32, pool: u32, class: u32)
 pub fn place_load(heap: &Heap, dom: &mut Domain, at: u32, pool: u32, class: u32, slot: u32) -> u64
     requires here { IsIn dom.old heap.now }
     requires inside { IsInHeap heap.now.config at }
-    requires few { (class < 6) × (slot < 1024) × (pool < heap.now.config.pools) }
+    requires few { (class < class_count) × (slot < 1024) × (pool < heap.now.config.pools) }
     requires may { PlaceMay dom.old.view at pool class slot }
     requires runs { dom.old.view.seen.stage ≡ In Run }
     ensures here { IsIn dom.new heap.now }

@@ -40,7 +40,7 @@ use Rattle.heap_rule.proofs.ChangeLemmas.{changed_only, registers_of}
 use Rattle.heap_rule.proofs.Values.{AllStand, stand_set, not_nothing, packable, shows}
 use Rattle.heap_rule.proofs.Keeps.{after_entry, Words, IsCommand, mine, my_good, own, looks, unmoved}
 use Rattle.heap_rule.proofs.Entering.{running, inside_state, registers_stand, Enters, entered_view, enters_rule, enters, enters_command, may_begin}
-use Rattle.heap_rule.proofs.Blocks.{Lives, lives_at, found_at, plain_at, plain_inside, field_at}
+use Rattle.heap_rule.proofs.Blocks.{Lives, lives_at, found_at, plain_at, plain_inside, field_at, shape_at}
 
 -- the node of an ephemeron's shape
 ephe_of : (n : Node) (keys : ℕ) → shape_of n ≡ EpheShape keys → (ks : List (Option Label)) × (datum : graph_value.Value) × (n ≡ Ephe ks datum)
@@ -122,6 +122,7 @@ module _ (k : Config) (s : Words) (r : Rule k s) (id : ℕ) (hist : List Entry) 
   head_step a e may (PlainShape n tag) b is = dite (dec_le n (place_of e))
       (λ past. let o = past_entry a e may n tag b is past in refusal a e (PlainShape n tag) (Replied BadIndex) (head_command x a e may) o record {
         below = λ below. absurd (let p : ℕ = place_of e in let h : p < n = below in let g : n ≤ p = past in omega arith);
+        shape = λ below. absurd (let p : ℕ = place_of e in let h : p < n = below in let g : n ≤ p = past in omega arith);
         past = λ _. enters k s r id hist x at acts now.graph e (Replied BadIndex) NothingWord [] o;
       })
       (λ not_past. record {
@@ -133,6 +134,7 @@ module _ (k : Config) (s : Words) (r : Rule k s) (id : ℕ) (hist : List Entry) 
             knows = plain_at k s r id hist x at (subject e) a b n tag is;
             inside = plain_inside k s r id hist x at (subject e) a b n tag is;
           };
+          shape = λ _. shape_at k s r id hist x at (subject e) a b (PlainShape n tag) is;
           past = λ past. absurd (not_past past);
         };
       })

@@ -141,6 +141,7 @@ field_stores k slots id word hist x a new block i item changes place may s r _ a
       command = tt;
       runs = may.acts.runs;
       stage = refl;
+      listing = refl;
       allowed = o.allowed;
       calm = o.calm;
       number = refl;

@@ -17,7 +17,7 @@ use Rattle.heap_model.specs.Domains.{domain_at, register}
 use Rattle.heap_model.specs.Commands.{FitsMode, is_allocation}
 use Rattle.heap_model.specs.Fronts.{IsCalm}
 use Rattle.heap_model.proofs.Commands.FrameLemmas.{calm_command}
-use Rattle.heap_model.proofs.Commands.LeavesLemmas.{leaves_put, leaves_copy, leaves_forget, Leaves, leaves_poll, leaves_full, leaves_load_type, leaves_store_type, leaves_store_nothing}
+use Rattle.heap_model.proofs.Commands.LeavesLemmas.{leaves_put, leaves_copy, leaves_forget, Leaves, leaves_poll, leaves_full, leaves_load_type, leaves_store_type, leaves_store_nothing, leaves_minor}
 use Rattle.heap_words.specs.declared.value.Value.{Value}
 use Rattle.heap_words.specs.declared.value.Value.TheVariants.{Int as IntWord, Nothing as NothingWord}
 use Rattle.heap_rule.specs.declared.change.Change.{Change}
@@ -42,10 +42,6 @@ fits_allocation s d (AllocMaj dst tag fields) is mode queue = (mode, queue)
 fits_allocation s d (NewRaw dst tag fields) is mode queue = (mode, queue)
 fits_allocation s d (NewEphe dst keys) is mode queue = (mode, queue)
 fits_allocation s d _ is mode queue = absurd (let clash : false ≡ true = is in cc)
-
--- `minor` leaves and answers what `poll` does
-leaves_minor : (s : model.State) (d : ℕ) → Leaves s (Command d Minor false) d s.graph (domain_at s d).registers (domain_at s d).serial (Replied Done)
-leaves_minor s d = let p = leaves_poll s d in record { graph_is = p.graph_is; registers_are = p.registers_are; serial_is = p.serial_is; replies = p.replies }
 
 module _ (k : Config) (s : Words) (r : Rule k s) (id : ℕ) (hist : List Entry) (x : DomainView) (at : get_elem? s.views id ≡ some (one k hist x)) (acts : Acts k x) (changes : List Change) where
   abbrev now : model.State

@@ -10,7 +10,7 @@ use Rattle.heap_model.specs.declared.reply.Reply.TheVariants.{BadType, BadIndex}
 use Rattle.heap_model.specs.declared.reply.Applied.TheVariants.{Replied}
 use Rattle.heap_model.specs.Commands.{shown}
 use Rattle.heap_model.specs.Domains.{register}
-use Rattle.heap_model.specs.Fronts.{Shape, PlainShape, RawShape, EpheShape, HoldsPlain}
+use Rattle.heap_model.specs.Fronts.{Shape, PlainShape, RawShape, EpheShape, HoldsPlain, HoldsShape}
 use Rattle.heap_words.specs.declared.value.Value.{Value}
 use Rattle.heap_words.specs.declared.value.Value.TheVariants.{Nothing}
 use Rattle.heap_words.specs.Values.{IsPackable, value_word}
@@ -59,13 +59,14 @@ pub record Measured (k : Config) (a r size : ℕ) (x y : DomainView) : Type 0 wh
   pub inside : a + size + 1 ≤ heap_words k
 
 -- the entry stands at the step exactly where its place is past the end of the fields
-pub record SizeTold (k : Config) (a : ℕ) (e : Entry) (size : ℕ) (x y : DomainView) : Type 0 where
+pub record SizeTold (k : Config) (a : ℕ) (e : Entry) (size tag : ℕ) (x y : DomainView) : Type 0 where
   pub below : place_of e < size → Measured k a (subject e) size x y
+  pub shape : place_of e < size → HoldsShape (state_of k y.seen.front) x.own.number (subject e) (PlainShape size tag)
   pub past : size ≤ place_of e → Entered k e (Replied BadIndex) Nothing [] x y
 
 -- and where the block is no plain one: an ephemeron, since there are no raw blocks yet
 abbrev pub HeadCase : Config → ℕ → Entry → Shape → DomainView → DomainView → Type 0
-HeadCase k a e (PlainShape size tag) x y = SizeTold k a e size x y
+HeadCase k a e (PlainShape size tag) x y = SizeTold k a e size tag x y
 HeadCase k a e (RawShape size tag) x y = ⊥
 HeadCase k a e (EpheShape keys) x y = Entered k e (Replied BadType) Nothing [] x y
 

@@ -1,4 +1,4 @@
-use Rattle.std.proofs.Common.{arith}
+use Rattle.std.proofs.Common.{◌∙◌, arith}
 use Rattle.std.proofs.lemmas.Grind.{common_steps}
 use Rattle.std.proofs.lemmas.List.{take_rest}
 use Rattle.std.proofs.Math.Seq.{take-add}
@@ -9,7 +9,7 @@ use Rattle.camlheap_run.proofs.writing.write_all.Goals as goal
 pub writing-preserved : goal.writing-preserved
 writing-preserved g c =
     let both = Appends-trans _ _ _ _ _ c.writing.invariant.bytes c.in_ok-count.ensures.bytes in record {
-      later = omega (arith, c.in_ok-count.ensures.cause.later);
+      calm = c.in_ok-count.ensures.cause.calm ∙ c.writing.invariant.calm;
       inside = grind (arith, common_steps);
       bytes = rw (take-add c.writing.at c.in_ok-count.count c.args.text.now) (rw (take_rest c.args.text.now c.writing.at) at both);
     }

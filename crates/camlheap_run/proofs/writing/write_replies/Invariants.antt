@@ -1,10 +1,10 @@
-use Rattle.std.proofs.Common.{◌≤◌, take}
+use Rattle.std.proofs.Common.{◌≡◌, take}
 use Rattle.std.specs.Io.KnownBytes.{Appends}
 use Rattle.heap_model.specs.Output.{printed}
 use Rattle.camlheap_run.proofs.writing.write_replies.Given as goal
 
 abbrev pub invariant-replies : goal.invariant-replies
 invariant-replies g l = record {
-  later : g.K.Sink.faults l.initial.out ≤ g.K.Sink.faults l.out;
+  calm : g.K.Sink.faults l.out ≡ g.K.Sink.faults l.initial.out;
   bytes : Appends (g.K.Sink.written l.initial.out) (g.K.Sink.written l.out) (printed (take l.reply-index l.replies));
 }

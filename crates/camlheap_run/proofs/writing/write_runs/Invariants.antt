@@ -1,4 +1,4 @@
-use Rattle.std.proofs.Common.{◌≤◌, take}
+use Rattle.std.proofs.Common.{◌≡◌, take}
 use Rattle.std.specs.Prelude.{flat_map}
 use Rattle.std.specs.Io.KnownBytes.{Appends}
 use Rattle.camlheap_run.specs.Writing.{run_text}
@@ -6,6 +6,6 @@ use Rattle.camlheap_run.proofs.writing.write_runs.Given as goal
 
 abbrev pub invariant-runs : goal.invariant-runs
 invariant-runs g l = record {
-  later : g.K.Sink.faults l.initial.out ≤ g.K.Sink.faults l.out;
+  calm : g.K.Sink.faults l.out ≡ g.K.Sink.faults l.initial.out;
   bytes : Appends (g.K.Sink.written l.initial.out) (g.K.Sink.written l.out) (flat_map run_text (take l.run-index l.runs));
 }

@@ -1,6 +1,6 @@
 use Rattle.std.proofs.Common.{◌≡◌, ◌+◌, length, map}
 use Rattle.std.specs.Prelude.{option_map}
-use Rattle.heap_text.specs.Cut.{texts_behind}
+use Rattle.heap_text.specs.Split.{texts_behind}
 use Rattle.heap_text.specs.Number.{numbers, clipped}
 use Rattle.heap_text.proofs.NumberLemmas.{behind}
 use Rattle.heap_text.proofs.number.numbers_of.Given as goal

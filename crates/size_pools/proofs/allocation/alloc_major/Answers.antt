@@ -1,7 +1,6 @@
-use Rattle.std.proofs.Common.{◌≡◌, ◌∙◌, ℕ, ◌+◌, ◌^◌, ◌<◌, ◌≤◌, refl, ap, sym, subst}
+use Rattle.std.proofs.Common.{ℕ, ◌+◌, ◌^◌, ◌<◌, refl, ap, sym, subst}
 use Rattle.heap_rule.specs.declared.view.DomainView.{DomainView}
-use Rattle.heap_rule.specs.declared.view.Hunt.TheVariants.{Fills}
-use Rattle.size_pools.proofs.Writing.{hunted_runs, hunted_did, hunted_grows, took_room, least_one}
+use Rattle.size_pools.proofs.Writing.{hunted_runs, took_room}
 use Rattle.size_pools.proofs.allocation.alloc_major.Goals as goal
 
 pub write_block-requires : goal.write_block-requires

@@ -1,4 +1,4 @@
-use Rattle.std.proofs.Common.{◌≡◌, ◌∙◌, ℕ, ◌+◌, ◌*◌, ◌^◌, ◌<◌, ◌≤◌, List, [], ◌∷◌, replicate, ap, sym, subst, arith}
+use Rattle.std.proofs.Common.{◌≡◌, ◌∙◌, ℕ, ◌+◌, ◌*◌, ◌^◌, ◌<◌, ◌≤◌, [], ◌∷◌, replicate, sym, subst, arith}
 use Rattle.heap_model.specs.declared.entry.Entry.{Entry}
 use Rattle.heap_words.specs.Labels.{label_word}
 use Rattle.heap_words.specs.declared.value.Value.TheVariants.{Ref}

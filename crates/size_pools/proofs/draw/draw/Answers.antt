@@ -1,4 +1,4 @@
-use Rattle.std.proofs.Common.{◌≡◌, ◌∙◌, ◌+◌, ◌*◌, ◌<◌, ℕ, refl, ap}
+use Rattle.std.proofs.Common.{◌∙◌, ◌+◌, ◌*◌, ℕ, refl, ap}
 use Rattle.heap_rule.specs.declared.config.Config.{Config}
 use Rattle.heap_rule.specs.declared.view.DomainView.{DomainView}
 use Rattle.heap_rule.proofs.Classes.{some_block}

@@ -1,4 +1,4 @@
-use Rattle.std.proofs.Common.{◌≡◌, ◌<◌, ◌≤◌}
+use Rattle.std.proofs.Common.{◌≤◌}
 use Rattle.heap_rule.specs.Pools.{spot_at}
 use Rattle.heap_rule.specs.Token.{IsIn}
 use Rattle.size_pools.specs.Taken.{Missed}

@@ -1,9 +1,7 @@
-use Rattle.std.proofs.Common.{◌≡◌, ◌≢◌, ◌+◌, ◌<◌, ◌≤◌, ℕ, lt_of_not-le}
+use Rattle.std.proofs.Common.{◌≢◌, ◌+◌, lt_of_not-le}
 use mathlib.Core.Logic.{dite}
 use native.Mathlib.Decide.{dec_le}
-use Rattle.heap_rule.specs.declared.view.Hunt.TheVariants.{Walks}
 use Rattle.heap_rule.specs.Pools.{blocks_of}
-use Rattle.size_pools.specs.Taken.{Hunted}
 use Rattle.size_pools.proofs.Searching.{walked_more, walked_last}
 use Rattle.size_pools.proofs.search.walk.Goals as goal
 

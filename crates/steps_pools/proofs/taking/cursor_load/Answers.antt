@@ -1,3 +1,4 @@
+use Rattle.heap_rule.specs.declared.view.Hunt.TheVariants.{Asks}
 use Rattle.heap_rule.proofs.Closes.{leaves_closes}
 use Rattle.steps_pools.specs.Takes.{CursorTold}
 use Rattle.steps_pools.proofs.Plain.{cursor_own, cursor_front}
@@ -8,4 +9,4 @@ pub load_as-requires-clause-may : goal.load_as-requires-clause-may
 load_as-requires-clause-may c = cursor_may c.args.heap.now.config c.args.dom.now.view c.requires.runs c.args.count c.requires.counts
 
 pub load_as-requires-clause-closes : goal.load_as-requires-clause-closes
-load_as-requires-clause-closes c = λ found. leaves_closes c.args.heap.now.config c.args.dom.now.view found (CursorTold c.args.heap.now.config c.args.count) (cursor_own c.args.heap.now.config c.args.count c.args.dom.now.view found) (cursor_front c.args.heap.now.config c.args.count c.args.dom.now.view found)
+load_as-requires-clause-closes c = λ found. leaves_closes c.args.heap.now.config c.args.dom.now.view found (CursorTold c.args.heap.now.config c.args.count (Asks c.args.count)) (cursor_own c.args.heap.now.config c.args.count (Asks c.args.count) c.args.dom.now.view found) (cursor_front c.args.heap.now.config c.args.count (Asks c.args.count) c.args.dom.now.view found)

@@ -9,4 +9,4 @@ returns-clause-value c = c.words_of.ensures ∙ (ap (λ (l : List ℕ). get_or l
 pub returns-clause-some : goal.returns-clause-some
 returns-clause-some c =
     let v : c.words_of.result ≡ size_of c.args.class = c.words_of.ensures ∙ (ap (λ (l : List ℕ). get_or l c.args.class 0) c.heap_classes-classes.ensures ∙ size_is c.args.class) in
-    (subst (λ (n : ℕ). 4 ≤ n) (sym v) (size_least c.args.class c.requires), subst (λ (n : ℕ). n ≤ 128) (sym v) (size_most c.args.class c.requires))
+    (subst (λ (n : ℕ). 4 ≤ n) (sym v) (size_least c.args.class c.requires), subst (λ (n : ℕ). n ≤ 4096) (sym v) (size_most c.args.class c.requires))

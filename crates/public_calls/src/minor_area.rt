@@ -1,0 +1,42 @@
+//! A minor area that fills.
+ghost use Rattle.std.specs.Prelude.{◌+◌, ◌^◌, ◌<◌, ◌≤◌};
+ghost use Rattle.heap_rule.specs.Running.{Runs};
+
+use heap_rule::{Config, Domain, Heap};
+use minor_area::{Need, alloc_young};
+use std::test::Fail;
+
+// Allocates so many blocks of 126 fields, each of which takes 128 words.
+fn allocate(heap: &Heap, dom: &mut Domain, blocks: u32) -> Result<(), Need>
+    requires runs { Runs heap.now dom.old }
+    requires labels { dom.old.view.own.serial + blocks < 2 ^ 32 }
+    ensures runs { Runs heap.now dom.new }
+    ensures labels { dom.new.view.own.serial ≤ dom.old.view.own.serial + blocks }
+{
+    for _made in 0..blocks {
+        alloc_young(heap, dom, 1, 0, 126)?;
+    }
+    Ok(())
+}
+
+#[test]
+fn a_minor_area_fills(rt: HostRuntime) -> Result<(), Fail> {
+    let config = Config {
+        domains: 1,
+        minor_words: 4096,
+        pools: 14,
+        finals: 0,
+        ephes: 0,
+    };
+    let (heap, mut domains) = Heap::start(rt.alloc(), config)?;
+    let mut dom = domains.pop().ok_or("no domain")?;
+    assert_eq!(rt; allocate(&heap, &mut dom, 32), Ok(()));
+    assert_eq!(rt; dom.area_used(), 4096);
+    let last = dom.register(1);
+    let full = alloc_young(&heap, &mut dom, 1, 0, 126);
+    assert_eq!(rt; full, Err(Need::AreaFull { used: 4096 }));
+    assert_eq!(rt; dom.area_used(), 4096);
+    assert_eq!(rt; dom.labels_made(), 32);
+    assert_eq!(rt; dom.register(1), last);
+    Ok(())
+}

@@ -1,0 +1,35 @@
+-- Domain 0 may name the next kind once it has taken the wishes back, where the domains run next.
+use Rattle.std.proofs.Common.{◌≡◌, ℕ, List, [], ◌∷◌, ◌++◌, Some, Option, sym, refl, ap, ◌∙◌, subst}
+use Rattle.heap_rule.specs.declared.view.DomainView.{DomainView}
+use Rattle.heap_rule.specs.declared.phase.Kind.{Kind}
+use Rattle.heap_rule.specs.declared.phase.Kind.TheVariants.{Run, Promote, Reset}
+use Rattle.heap_rule.specs.declared.phase.Note.{Note}
+use Rattle.heap_rule.specs.declared.phase.Note.TheVariants.{Cleared}
+use Rattle.heap_rule.specs.declared.phase.Stage.TheVariants.{Leads}
+use Rattle.heap_rule.specs.Phases.{code, kind_at, Follows, last_note}
+use Rattle.heap_rule.proofs.Controls.{last_note_end}
+use Rattle.steps_pauses.specs.Pauses.{kind_in, LeadMay}
+use Rattle.safepoint.specs.Looks.{cleared}
+
+-- the kind of a kind's word
+pub kind_of_code : (kind : Kind) → kind_at (code kind) ≡ kind
+kind_of_code Run = refl
+kind_of_code Promote = refl
+kind_of_code Reset = refl
+
+-- the last note says that the wishes were taken back
+took : (notes : List Note) (next : Kind) → next ≡ Run → last_note (notes ++ cleared next) ≡ Some Cleared
+took notes next runs = subst (λ (kind : Kind). last_note (notes ++ cleared kind) ≡ Some Cleared) (sym runs) (last_note_end notes Cleared)
+
+pub lead_may : (x y : DomainView) (word : ℕ) (next : Kind) → x.own.number ≡ 0 → x.seen.stage ≡ Leads (kind_in x.seen.stage) → Follows (kind_in x.seen.stage) next → word ≡ code next
+    → y ≡ record x { seen = record x.seen { notes = x.seen.notes ++ cleared next } } → LeadMay y word (kind_at word)
+lead_may x y word next first leads follows is view =
+    let kind : kind_at word ≡ next = ap kind_at is ∙ kind_of_code next in
+    subst (λ (z : DomainView). LeadMay z word (kind_at word)) (sym view) (record {
+      leads = first;
+      last = kind_in x.seen.stage;
+      stage = leads;
+      follows = subst (Follows (kind_in x.seen.stage)) (sym kind) follows;
+      word = is ∙ ap code (sym kind);
+      took_back = λ runs. took x.seen.notes next (sym kind ∙ runs);
+    })

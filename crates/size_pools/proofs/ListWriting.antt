@@ -1,0 +1,110 @@
+-- The list of free pools grows by one pool that is nobody's.
+use Rattle.std.proofs.Common.{◌≡◌, ◌≢◌, ℕ, ◌+◌, ◌<◌, ◌≤◌, false, List, [], ◌∷◌, ◌++◌, length, Some, refl, sym, ap, ◌∙◌, subst, arith, length-append}
+use Rattle.heap_rule.specs.declared.config.Config.{Config}
+use Rattle.heap_rule.specs.declared.view.DomainView.{DomainView}
+use Rattle.heap_rule.specs.declared.view.Listing.{Listing}
+use Rattle.steps_pools.specs.Listings.{with_listing, further, relisted, found_owner, named, set_back, listed_as, free_from, free_pools, IsLeader, EmptiedTold, LookMay, LookedTold, NameMay, NamedTold, SetBackTold, CloseMay, ListedAsTold, HasList}
+use Rattle.steps_pools.proofs.FreePools.{free_last, free_same}
+use Rattle.size_pools.specs.Listed.{HasListed, Relisted}
+
+-- the list so far
+abbrev so_far : List ℕ → List ℕ → Listing
+so_far owners names = record { owners = owners; names = names; rewound = false; listed = 0 }
+
+on_list : (x y : DomainView) (l : Listing) (f : Listing → Listing) → x.seen.listing ≡ Some l → y ≡ relisted x f → y.seen.listing ≡ Some (f l)
+on_list x y l f listing told = ap (λ (z : DomainView). z.seen.listing) told ∙ ap (further f) listing
+
+same_list : (x y : DomainView) (f : Listing → Listing) → y ≡ relisted x f → Relisted x y
+same_list x y f told = told ∙ ap (with_listing x) (sym (ap (λ (z : DomainView). z.seen.listing) told))
+
+leads_on : (x y : DomainView) → Relisted x y → IsLeader x → IsLeader y
+leads_on x y same leader = subst IsLeader (sym same) (let l : IsLeader (with_listing x y.seen.listing) = record { first = leader.first; last = leader.last; stage = leader.stage } in l)
+
+no_names : free_from 0 [] ≡ []
+unfolding free_from
+no_names = refl
+
+-- the list is empty
+pub none_listed : (x y : DomainView) → IsLeader x → EmptiedTold x 0 y → HasListed y 0 0
+none_listed x y leader told = record {
+  leader = leads_on x y (told ∙ ap (with_listing x) (sym (ap (λ (z : DomainView). z.seen.listing) told))) leader;
+  owners = [];
+  all = refl;
+  count_is = ap length no_names;
+  listing = ap (λ (z : DomainView). z.seen.listing) told ∙ ap (λ (names : List ℕ). Some (so_far [] names)) (sym no_names);
+}
+
+module _ (k : Config) (x : DomainView) (pool count : ℕ) (h : HasListed x pool count) where
+  -- the next owner word may be looked at
+  pub look_ready : (at : ℕ) → pool < k.pools → at ≡ 11 + k.pools + pool → LookMay k x at
+  look_ready at inside word = record {
+    leader = h.leader;
+    list = so_far h.owners (free_pools h.owners);
+    listing = h.listing;
+    inside = subst (λ (n : ℕ). n < k.pools) (sym h.all) inside;
+    word = word ∙ ap (λ (n : ℕ). 11 + k.pools + n) (sym h.all);
+  }
+
+  module _ (y : DomainView) (found : ℕ) (told : LookedTold x found y) where
+    after : Listing
+    after = so_far (h.owners ++ found ∷ []) (free_pools h.owners)
+
+    looked_list : y.seen.listing ≡ Some (so_far (h.owners ++ found ∷ []) (free_pools h.owners))
+    looked_list = on_list x y (so_far h.owners (free_pools h.owners)) (found_owner found) h.listing told
+
+    looked_same : Relisted x y
+    looked_same = same_list x y (found_owner found) told
+
+    one_more : length (h.owners ++ found ∷ []) ≡ pool + 1
+    one_more = length-append h.owners (found ∷ []) ∙ ap (λ (n : ℕ). n + 1) h.all
+
+    -- somebody's pool isn't listed
+    pub passed : found ≢ 0 → HasListed y (pool + 1) count
+    passed some = let e = free_same h.owners found some in record {
+      leader = leads_on x y looked_same h.leader;
+      owners = h.owners ++ found ∷ [];
+      all = one_more;
+      count_is = ap length e ∙ h.count_is;
+      listing = looked_list ∙ ap (λ (names : List ℕ). Some (so_far (h.owners ++ found ∷ []) names)) (sym e);
+    }
+
+    -- and nobody's is
+    pub name_ready : (at : ℕ) → pool < k.pools → count ≤ pool → at ≡ 11 + count → NameMay k y at
+    name_ready at inside few word = record {
+      empties = record { leader = leads_on x y looked_same h.leader; list = so_far (h.owners ++ found ∷ []) (free_pools h.owners); listing = looked_list; empty = refl };
+      inside = subst (λ (n : ℕ). n < k.pools) (sym h.count_is) (let p : pool < k.pools = inside in let c : count ≤ pool = few in let o : count < k.pools = omega arith in o);
+      word = word ∙ ap (λ (n : ℕ). 11 + n) (sym h.count_is);
+    }
+
+    pub listed_one : (z : DomainView) → found ≡ 0 → NamedTold y pool z → HasListed z (pool + 1) (count + 1)
+    listed_one z none said = let e = free_last h.owners found none in record {
+      leader = leads_on y z (same_list y z (named pool) said) (leads_on x y looked_same h.leader);
+      owners = h.owners ++ found ∷ [];
+      all = one_more;
+      count_is = ap length e ∙ (length-append (free_pools h.owners) (length h.owners ∷ []) ∙ ap (λ (n : ℕ). n + 1) h.count_is);
+      listing = on_list y z (so_far (h.owners ++ found ∷ []) (free_pools h.owners)) (named pool) looked_list said ∙ ap (λ (names : List ℕ). Some (so_far (h.owners ++ found ∷ []) names)) (ap (λ (n : ℕ). free_pools h.owners ++ n ∷ []) (sym h.all) ∙ sym e);
+    }
+
+-- the cursor is set back, and the pools are listed
+module _ (k : Config) (x : DomainView) (count : ℕ) (h : HasListed x k.pools count) where
+  module _ (y : DomainView) (told : SetBackTold x 0 y) where
+    abbrev back : Listing
+    back = set_back (so_far h.owners (free_pools h.owners))
+
+    back_list : y.seen.listing ≡ Some back
+    back_list = on_list x y (so_far h.owners (free_pools h.owners)) set_back h.listing told
+
+    pub close_ready : CloseMay k y count
+    close_ready = record {
+      empties = record { leader = leads_on x y (same_list x y set_back told) h.leader; list = back; listing = back_list; empty = refl };
+      all = h.all;
+      free = refl;
+      count = sym h.count_is;
+    }
+
+    pub closed_list : (z : DomainView) → ListedAsTold y count z → HasList k z
+    closed_list z said = record {
+      owners = h.owners;
+      all = h.all;
+      listing = on_list y z back (listed_as count) back_list said ∙ ap (λ (n : ℕ). Some (listed_as n back)) (sym h.count_is);
+    }

@@ -1,0 +1,16 @@
+-- The list of free pools, while it is written anew.
+use Rattle.std.specs.Prelude.{◌≡◌, ℕ, false, List, length, Some}
+use Rattle.heap_rule.specs.declared.view.DomainView.{DomainView}
+use Rattle.steps_pools.specs.Listings.{with_listing, free_pools, IsLeader}
+
+-- so many owner words were looked at, and the list, of which no pool is listed yet, names the pools among these that are nobody's: so many
+pub record HasListed (x : DomainView) (pools count : ℕ) : Type 0 where
+  pub leader : IsLeader x
+  pub owners : List ℕ
+  pub all : length owners ≡ pools
+  pub count_is : length (free_pools owners) ≡ count
+  pub listing : x.seen.listing ≡ Some (record { owners = owners; names = free_pools owners; rewound = false; listed = 0 })
+
+-- the domain holds and knows all else as before
+abbrev pub Relisted : DomainView → DomainView → Type 0
+Relisted x y = y ≡ with_listing x y.seen.listing

@@ -1,0 +1,65 @@
+//! The list of free pools, written anew.
+ghost use Rattle.std.specs.Prelude.{◌≡◌, ◌+◌, ◌<◌, ◌≤◌};
+ghost use Rattle.heap_rule.specs.Token.{IsIn};
+ghost use Rattle.steps_pools.specs.Listings.{IsLeader, HasList};
+ghost use Rattle.size_pools.specs.Listed.{HasListed, Relisted};
+
+use heap_rule::{Domain, Heap};
+use steps_pools::{cursor_clear, list_store, listed_clear, listed_store, owner_look};
+
+// The index of the first word of the list, and of the first owner word less the number of pools.
+const LIST: u32 = 11;
+
+// Looks at the owner word of the next pool, and where it says nobody writes the pool into the list,
+// which names so many. Answers how many it then names.
+fn list_pool(heap: &Heap, dom: &mut Domain, pool: u32, count: u32) -> u32
+    requires here { IsIn dom.old heap.now }
+    requires inside { pool < heap.now.config.pools }
+    requires few { count ≤ pool }
+    requires listed { HasListed dom.old.view pool count }
+    ensures here { IsIn dom.new heap.now }
+    ensures few { result ≤ pool + 1 }
+    ensures listed { HasListed dom.new.view (pool + 1) result }
+    ensures same { Relisted dom.old.view dom.new.view }
+{
+    let pools = heap.config().pools;
+    if owner_look(heap, dom, LIST + pools + pool) != 0 {
+        return count;
+    }
+    list_store(heap, dom, LIST + count, u64::from(pool));
+    count + 1
+}
+
+// Writes the pools that are nobody's into the empty list. Answers how many they are.
+fn list_pools(heap: &Heap, dom: &mut Domain) -> u32
+    requires here { IsIn dom.old heap.now }
+    requires empty { HasListed dom.old.view 0 0 }
+    ensures here { IsIn dom.new heap.now }
+    ensures listed { HasListed dom.new.view heap.now.config.pools result }
+    ensures same { Relisted dom.old.view dom.new.view }
+{
+    let pools = heap.config().pools;
+    let mut count = 0;
+    for pool in 0..pools {
+        count = list_pool(heap, dom, pool, count);
+    }
+    count
+}
+
+/// Domain 0 writes the list of free pools anew, in an odd phase in which it hasn't named the next
+/// kind: the list then names exactly the pools that are nobody's, rising, and the cursor is 0. All
+/// other words, and all that the domain owns, stay as they are.
+///
+/// While it writes, no pool is listed: the number of listed pools is 0 first, and set last.
+pub fn write_list(heap: &Heap, dom: &mut Domain)
+    requires here { IsIn dom.old heap.now }
+    requires leader { IsLeader dom.old.view }
+    ensures here { IsIn dom.new heap.now }
+    ensures list { HasList heap.now.config dom.new.view }
+    ensures same { Relisted dom.old.view dom.new.view }
+{
+    listed_clear(heap, dom);
+    let count = list_pools(heap, dom);
+    cursor_clear(heap, dom);
+    listed_store(heap, dom, u64::from(count));
+}

@@ -1,0 +1,100 @@
+-- Steps by which domain 0 writes the list of free pools anew, in an odd phase.
+use Rattle.std.specs.Prelude.{◌≡◌, ℕ, ◌+◌, ◌<◌, ◌==◌, if◌then◌else◌, true, false, List, [], ◌∷◌, ◌++◌, length, Option, Some, None}
+use Rattle.heap_rule.specs.declared.config.Config.{Config}
+use Rattle.heap_rule.specs.declared.phase.Kind.{Kind}
+use Rattle.heap_rule.specs.declared.phase.Stage.TheVariants.{Leads}
+use Rattle.heap_rule.specs.declared.view.DomainView.{DomainView}
+use Rattle.heap_rule.specs.declared.view.Listing.{Listing}
+
+-- the pools, numbered from q on, whose owner words say nobody, rising
+unfoldable pub free_from : ℕ → List ℕ → List ℕ
+free_from q [] = []
+free_from q (w ∷ ws) = if w == 0 then q ∷ free_from (q + 1) ws else free_from (q + 1) ws
+
+abbrev pub free_pools : List ℕ → List ℕ
+free_pools owners = free_from 0 owners
+
+-- the domain with another list in the making
+abbrev pub with_listing : DomainView → Option Listing → DomainView
+with_listing x listing = record x { seen = record x.seen { listing = listing } }
+
+-- the domain further on in writing the list
+abbrev pub further : (Listing → Listing) → Option Listing → Option Listing
+further f None = None
+further f (Some l) = Some (f l)
+
+abbrev pub relisted : DomainView → (Listing → Listing) → DomainView
+relisted x f = with_listing x (further f x.seen.listing)
+
+-- one owner word more is found, one place more of the list is written, the cursor is set back, so many pools are listed
+abbrev pub found_owner : ℕ → Listing → Listing
+found_owner word l = record l { owners = l.owners ++ word ∷ [] }
+
+abbrev pub named : ℕ → Listing → Listing
+named pool l = record l { names = l.names ++ pool ∷ [] }
+
+abbrev pub set_back : Listing → Listing
+set_back l = record l { rewound = true }
+
+abbrev pub listed_as : ℕ → Listing → Listing
+listed_as count l = record l { listed = count }
+
+-- domain 0 acts in an odd phase, and hasn't named the next kind
+pub record IsLeader (x : DomainView) : Type 0 where
+  pub first : x.own.number ≡ 0
+  pub last : Kind
+  pub stage : x.seen.stage ≡ Leads last
+
+-- no pool is listed, no owner word is found and no place of the list is written so far
+abbrev pub no_listing : Listing
+no_listing = record { owners = []; names = []; rewound = false; listed = 0 }
+
+abbrev pub EmptiedTold : DomainView → ℕ → DomainView → Type 0
+EmptiedTold x new y = y ≡ with_listing x (Some no_listing)
+
+-- domain 0 writes the list, and no pool is listed
+pub record Empties (x : DomainView) : Type 0 where
+  pub leader : IsLeader x
+  pub list : Listing
+  pub listing : x.seen.listing ≡ Some list
+  pub empty : list.listed ≡ 0
+
+-- a load of the next owner word
+pub record LookMay (k : Config) (x : DomainView) (at : ℕ) : Type 0 where
+  pub leader : IsLeader x
+  pub list : Listing
+  pub listing : x.seen.listing ≡ Some list
+  pub inside : length list.owners < k.pools
+  pub word : at ≡ 11 + k.pools + length list.owners
+
+abbrev pub LookedTold : DomainView → ℕ → DomainView → Type 0
+LookedTold x found y = y ≡ relisted x (found_owner found)
+
+-- a store of the next place of the list
+pub record NameMay (k : Config) (x : DomainView) (at : ℕ) : Type 0 where
+  pub empties : Empties x
+  pub inside : length empties.list.names < k.pools
+  pub word : at ≡ 11 + length empties.list.names
+
+abbrev pub NamedTold : DomainView → ℕ → DomainView → Type 0
+NamedTold x new y = y ≡ relisted x (named new)
+
+-- a store of 0 into the cursor
+abbrev pub SetBackTold : DomainView → ℕ → DomainView → Type 0
+SetBackTold x new y = y ≡ relisted x set_back
+
+-- a store of the number of listed pools: the list names those whose owner words say nobody, and all owner words were looked at
+pub record CloseMay (k : Config) (x : DomainView) (new : ℕ) : Type 0 where
+  pub empties : Empties x
+  pub all : length empties.list.owners ≡ k.pools
+  pub free : empties.list.names ≡ free_pools empties.list.owners
+  pub count : new ≡ length empties.list.names
+
+abbrev pub ListedAsTold : DomainView → ℕ → DomainView → Type 0
+ListedAsTold x new y = y ≡ relisted x (listed_as new)
+
+-- the list names exactly the pools whose owner words say nobody, rising, and the cursor is 0
+pub record HasList (k : Config) (x : DomainView) : Type 0 where
+  pub owners : List ℕ
+  pub all : length owners ≡ k.pools
+  pub listing : x.seen.listing ≡ Some (record { owners = owners; names = free_pools owners; rewound = true; listed = length (free_pools owners) })
