@@ -183,7 +183,9 @@ fn drive_to<'s, E, R: Threads + Wait + Sync, G: Gate + Sync>(
 
 /// Turns each run until its trace has ended: the first in this thread, and each other one in a thread
 /// of its own, or in this one in rotation where its thread is refused. They come back in their order.
-/// No memory is taken.
+/// No memory is taken. A thread whose domains wait for others spins for some microseconds and then sleeps
+/// until another domain arrives, asks for a pause or ends its trace. A domain that has arrived 2^60 times
+/// isn't turned any more, and then this call waits without end.
 ///
 /// The gate is called with a domain's number and the index of a command before the command's first
 /// turn, and once its reply is kept.
