@@ -6,6 +6,8 @@ mod endless;
 #[cfg(test)]
 mod faults;
 #[cfg(test)]
+mod pools;
+#[cfg(test)]
 mod program;
 #[cfg(test)]
 mod pauses;
