@@ -8,6 +8,8 @@ mod faults;
 #[cfg(test)]
 mod pauses;
 #[cfg(test)]
+mod pools;
+#[cfg(test)]
 mod program;
 #[cfg(test)]
 mod race;
