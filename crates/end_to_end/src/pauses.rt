@@ -1,5 +1,5 @@
 //! Domains that stop together for minor collections, and go on together.
-use crate::outcome::{Outcome, outcome_of, sink, source};
+use crate::program::{Output, run_plain};
 use std::alloc::{AllocError, Global};
 use std::sync::atomic::{AtomicU32, Ordering};
 use std::sync::{Arc, Wait};
@@ -39,11 +39,9 @@ fn run_of<R: Threads + Wait + Sync>(
     alloc: Global,
     domains: u32,
     script: &str,
-) -> Result<Outcome, AllocError> {
+) -> Result<Output, AllocError> {
     let words = format!(in alloc; "run --domains {domains} --minor 4096 --pools 105")?;
-    let source = source(alloc, script, 4096, &[])?;
-    let sink = sink(alloc, 4096, &[])?;
-    outcome_of(rt, alloc, &words, source, sink)
+    run_plain(rt, alloc, &words, script)
 }
 
 // A run in a thread of its own. It fails where the run hasn't ended after half a minute.
@@ -52,7 +50,7 @@ fn run_in_time<R: Threads + Wait + Clock + Send + Sync + Copy + 'static>(
     alloc: Global,
     domains: u32,
     script: String,
-) -> Result<Outcome, Fail> {
+) -> Result<Output, Fail> {
     let ended = Arc::new(alloc, AtomicU32::new(0))?;
     let seen = ended.clone()?;
     let child = thread::spawn(&rt, move || {
