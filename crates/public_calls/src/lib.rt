@@ -2,30 +2,30 @@
 #![tactic(auto)]
 
 #[cfg(test)]
-mod command_line;
+mod command_line_calls;
 #[cfg(test)]
-mod decimals;
+mod decimals_calls;
 #[cfg(test)]
-mod domain_turns;
+mod domain_turns_calls;
 #[cfg(test)]
-mod field_access;
+mod field_access_calls;
 #[cfg(test)]
-mod heap_rule;
+mod heap_rule_calls;
 #[cfg(test)]
-mod heap_text;
+mod heap_text_calls;
 #[cfg(test)]
-mod heap_words;
+mod heap_words_calls;
 #[cfg(test)]
-mod minor_area;
+mod minor_area_calls;
 #[cfg(test)]
-mod outer_io;
+mod outer_io_calls;
 #[cfg(test)]
-mod remembered_set;
+mod remembered_set_calls;
 #[cfg(test)]
-mod safepoint;
+mod safepoint_calls;
 #[cfg(test)]
-mod size_classes;
+mod size_classes_calls;
 #[cfg(test)]
-mod size_pools;
+mod size_pools_calls;
 #[cfg(test)]
-mod thread_drive;
+mod thread_drive_calls;

@@ -1,6 +1,6 @@
-use Rattle.std.proofs.Common.{◌≡◌, ◌+◌, ◌≤◌}
+use Rattle.std.proofs.Common.{◌+◌, ◌≤◌}
 use Rattle.heap_rule.specs.Running.{Runs}
-use Rattle.public_calls.proofs.size_pools.allocate.Given as goal
+use Rattle.public_calls.proofs.minor_area_calls.allocate.Given as goal
 
 abbrev pub invariant-loop-made : goal.invariant-loop-made
 invariant-loop-made l = record {
