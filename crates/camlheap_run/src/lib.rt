@@ -9,5 +9,6 @@ mod status;
 mod top;
 mod writing;
 
+pub use command_line::words_fit;
 pub use status::{Status, fault_line, status_number};
 pub use top::camlheap;

@@ -21,7 +21,7 @@ use std::thread::Threads;
 /// sink: for each domain the line `domain d` and the lines of its replies.
 ///
 /// `words` are the words of the command line behind the program's name: `run`, and the options of
-/// [`words_fit`](command_line::words_fit). The refusals come in the order in which the
+/// [`words_fit`](crate::words_fit). The refusals come in the order in which the
 /// work is done: the words, reading, the script, running, writing. A read or a write that failed isn't tried again.
 /// Want of memory may come at any time before the first byte is written.
 ///
