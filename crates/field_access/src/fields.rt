@@ -37,7 +37,7 @@ fn plain_size(head: u64) -> Option<u16>
 }
 
 // The label whose word this is.
-fn label_in(word: u64) -> Label
+fn label_of_word(word: u64) -> Label
     requires { (l : labels.Label) × IsPackableLabel (l.domain, l.serial) × (label_word l.domain l.serial ≡ word) }
     ensures { (l : labels.Label) → IsPackableLabel (l.domain, l.serial) → label_word l.domain l.serial ≡ word → result ≡ l }
 {
@@ -62,7 +62,7 @@ fn shown_register(heap: &Heap, dom: &mut Domain, r: u8) -> Reply
     match dom.register(r) {
         Value::Int(z) => Reply::Int(z),
         Value::Nothing => Reply::Empty,
-        Value::Ref(address) => Reply::Block(label_in(label_load(heap, dom, address + 1, &[]))),
+        Value::Ref(address) => Reply::Block(label_of_word(label_load(heap, dom, address + 1, &[]))),
     }
 }
 

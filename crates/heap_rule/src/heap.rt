@@ -13,7 +13,7 @@ ghost use Rattle.heap_rule.specs.Token.{IsIn};
 use crate::config::{Config, StartFault};
 use crate::domain::Domain;
 use crate::layout::{WANT, index_of, opening_words};
-use crate::rule::{Agreeing, Cut, Glue, Law, Learn};
+use crate::rule::{Agreeing, JoinSeat, Law, Learn, SplitSeat};
 use crate::view::View;
 use atomic_table::{Seat, Table};
 use std::alloc::{AllocError, Global};
@@ -90,7 +90,7 @@ fn seated(
     let mut seat = seat;
     let mut domains = Vec::new(alloc);
     for i in 0..count - 1 {
-        let mine = heap.table.shared.split_seat::<Cut>(&mut seat);
+        let mine = heap.table.shared.split_seat::<SplitSeat>(&mut seat);
         domains.push(Domain::make(mine, &heap.config, i))?;
     }
     domains.push(Domain::make(seat, &heap.config, count - 1))?;
@@ -150,7 +150,7 @@ impl Heap {
                 config: _,
                 own: _,
             } = next;
-            self.table.shared.join_seat::<Glue>(&mut seat, other);
+            self.table.shared.join_seat::<JoinSeat>(&mut seat, other);
         }
         self.table.shared.load::<Learn>(&mut seat, WANT);
         Ended { seat }
@@ -176,9 +176,9 @@ impl Heap {
             config: other_config,
             own: other_own,
         } = b;
-        self.table.shared.join_seat::<Glue>(&mut seat, other);
+        self.table.shared.join_seat::<JoinSeat>(&mut seat, other);
         self.table.shared.load::<Agreeing>(&mut seat, WANT);
-        let first = self.table.shared.split_seat::<Cut>(&mut seat);
+        let first = self.table.shared.split_seat::<SplitSeat>(&mut seat);
         let first = Domain {
             seat: first,
             config,

@@ -18,6 +18,6 @@ pub use domain::Domain;
 pub use heap::{Ended, Heap};
 pub use layout::{BARRIER, CURSOR, ENDED, LISTED, PLAN, WANT};
 pub use phase::{Kind, Note, Stage};
-pub use raw::{Changing, Leaving, Writing, add_as, exchange_as, load_as, or_as, store_as};
+pub use raw::{Changing, Leaving, Writing, raw_add, raw_exchange, raw_load, raw_or, raw_store};
 pub use rule::Told;
 pub use view::{DomainView, Hunt, Listing, Own, Seen, Spot, View};

@@ -154,7 +154,7 @@ impl Writing for Leaving {
 
 /// A load of the word at an index, after which the token's plain data is written. The rule allows
 /// the load, and what it tells of the plain data is what is written. Answers the word.
-pub fn load_as<T: Told, W: Writing>(
+pub fn raw_load<T: Told, W: Writing>(
     heap: &Heap,
     dom: &mut Domain,
     index: usize,
@@ -175,7 +175,7 @@ pub fn load_as<T: Told, W: Writing>(
 }
 
 /// A store to the word at an index, likewise.
-pub fn store_as<T: Told, W: Writing>(
+pub fn raw_store<T: Told, W: Writing>(
     heap: &Heap,
     dom: &mut Domain,
     index: usize,
@@ -196,7 +196,7 @@ pub fn store_as<T: Told, W: Writing>(
 }
 
 /// An add to the word at an index, likewise. Answers the word as it was.
-pub fn add_as<T: Told, W: Writing>(
+pub fn raw_add<T: Told, W: Writing>(
     heap: &Heap,
     dom: &mut Domain,
     index: usize,
@@ -218,7 +218,7 @@ pub fn add_as<T: Told, W: Writing>(
 }
 
 /// An `or` of bits to the word at an index, likewise. Answers the word as it was.
-pub fn or_as<T: Told, W: Writing>(
+pub fn raw_or<T: Told, W: Writing>(
     heap: &Heap,
     dom: &mut Domain,
     index: usize,
@@ -241,7 +241,7 @@ pub fn or_as<T: Told, W: Writing>(
 
 /// An exchange of the word at an index by `new` where it is `old`, likewise. Answers the word as it
 /// was.
-pub fn exchange_as<T: Told, W: Writing>(
+pub fn raw_exchange<T: Told, W: Writing>(
     heap: &Heap,
     dom: &mut Domain,
     index: usize,

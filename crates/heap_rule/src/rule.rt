@@ -17,9 +17,9 @@ impl TableRule<(), View, Config> for Law {
 }
 
 /// How a seat is cut: the new seat stands for the first domain.
-pub struct Cut;
+pub struct SplitSeat;
 
-impl Split<View> for Cut {
+impl Split<View> for SplitSeat {
     ghost use Rattle.heap_rule.specs.Views.{cut_left, cut_right};
 
     ghost left = { cut_left };
@@ -28,9 +28,9 @@ impl Split<View> for Cut {
 }
 
 /// How two seats are made one, which stands for the domains of both.
-pub struct Glue;
+pub struct JoinSeat;
 
-impl Join<View> for Glue {
+impl Join<View> for JoinSeat {
     ghost use Rattle.heap_rule.specs.Views.{joined, spent};
 
     ghost both = { joined };

@@ -33,9 +33,9 @@ abbrev pub class_words : ℕ → ℕ
 class_words words = least_size SIZES words
 
 -- the fields of a plain block's head
-abbrev pub plain_size : Head → ℕ
-plain_size (PlainHead size tag colour scanned) = size
-plain_size _ = 0
+abbrev pub head_size : Head → ℕ
+head_size (PlainHead size tag colour scanned) = size
+head_size _ = 0
 
 -- a word behind the head: the next one of the block that the domain makes
 pub record WordMay (k : Config) (x : DomainView) (at : ℕ) (changes : List Change) : Type 0 where

@@ -3,12 +3,12 @@ ghost use Rattle.std.specs.Prelude.{◌≡◌, ◌≢◌, ◌+◌, ◌<◌, ◌�
 ghost use Rattle.heap_model.specs.declared.entry.Entry.{Entry};
 ghost use Rattle.heap_model.specs.Fronts.{PlainShape};
 ghost use Rattle.heap_words.specs.Heads.{IsPackableHead};
-ghost use Rattle.steps_making.specs.Inits.{plain_size, class_words, fields_of, WordMay, WordTold, AllocEntry, AllocTold, InitMay, InitTold};
+ghost use Rattle.steps_making.specs.Inits.{head_size, class_words, fields_of, WordMay, WordTold, AllocEntry, AllocTold, InitMay, InitTold};
 ghost use Rattle.heap_rule.specs.Places.{IsHeadOf};
 ghost use Rattle.heap_rule.specs.Standing.{IsInHeap};
 ghost use Rattle.heap_rule.specs.Token.{IsIn};
 
-use heap_rule::{Change, Changing, Domain, Heap, Own, Reading, Writing, make_changes, store_as};
+use heap_rule::{Change, Changing, Domain, Heap, Own, Reading, Writing, make_changes, raw_store};
 use heap_words::{Head, Value, unpack_head};
 use size_classes::heap_classes;
 use std::marker::Brand;
@@ -27,8 +27,8 @@ pub fn words_of_class(words: usize) -> u32
 }
 
 // The number of fields of a plain block's head, and 0 of another head.
-fn plain_size(head: Head) -> u16
-    ensures { result ≡ plain_size head }
+fn head_size(head: Head) -> u16
+    ensures { result ≡ head_size head }
 {
     match head {
         Head::Plain { size, .. } => size,
@@ -44,7 +44,7 @@ fn size_in(word: u64) -> u16
     let Some(head) = unpack_head(word) else {
         unreachable!()
     };
-    plain_size(head)
+    head_size(head)
 }
 
 // A store of the next word behind the place of the head.
@@ -60,7 +60,7 @@ fn store_word(heap: &Heap, dom: &mut Domain, at: u32, new: u64, changes: &[Chang
         at,
         reading: Reading::Unread,
     };
-    store_as::<Brand, Changing>(heap, dom, index, new, &writing, changes);
+    raw_store::<Brand, Changing>(heap, dom, index, new, &writing, changes);
 }
 
 // The changes are made in the registers, and a block of so many class words and its label are
@@ -98,7 +98,7 @@ fn store_head(heap: &Heap, dom: &mut Domain, at: u32, new: u64, changes: &[Chang
     let _limits = heap.config();
     let index = heap.index_of(at);
     let words = words_of_class(size_in(new) as usize + 2);
-    store_as::<Brand, Counting>(heap, dom, index, new, &Counting { words }, changes);
+    raw_store::<Brand, Counting>(heap, dom, index, new, &Counting { words }, changes);
 }
 
 /// A store of a word of the block that the domain is making in its own minor area: first the label,

@@ -9,7 +9,7 @@ ghost use Rattle.heap_rule.specs.Token.{IsIn};
 
 use heap_rule::{
     BARRIER, Change, Changing, Domain, ENDED, Heap, Leaving, Own, PLAN, Part, Reading, WANT,
-    Writing, add_as, load_as, or_as, store_as,
+    Writing, raw_add, raw_load, raw_or, raw_store,
 };
 use std::marker::Brand;
 
@@ -19,7 +19,7 @@ pub fn want_load(heap: &Heap, dom: &mut Domain) -> u64
     ensures here { IsIn dom.new heap.now }
     ensures told { WantTold dom.old.view result dom.new.view }
 {
-    load_as::<Brand, Leaving>(heap, dom, WANT, &Leaving, &[])
+    raw_load::<Brand, Leaving>(heap, dom, WANT, &Leaving, &[])
 }
 
 /// A running domain sets bits of the want word. Answers the word as it was.
@@ -29,7 +29,7 @@ pub fn ask(heap: &Heap, dom: &mut Domain, bits: u64) -> u64
     ensures here { IsIn dom.new heap.now }
     ensures told { AskTold bits dom.old.view result dom.new.view }
 {
-    or_as::<Brand, Leaving>(heap, dom, WANT, bits, &Leaving, &[])
+    raw_or::<Brand, Leaving>(heap, dom, WANT, bits, &Leaving, &[])
 }
 
 // The arrival is counted.
@@ -55,7 +55,7 @@ pub fn arrive(heap: &Heap, dom: &mut Domain) -> u64
     ensures here { IsIn dom.new heap.now }
     ensures told { Arrived dom.old.view result dom.new.view }
 {
-    add_as::<Brand, Arriving>(heap, dom, BARRIER, 1, &Arriving, &[])
+    raw_add::<Brand, Arriving>(heap, dom, BARRIER, 1, &Arriving, &[])
 }
 
 /// A load of the barrier word by a domain that has arrived. Answers the word: where it isn't below the
@@ -66,7 +66,7 @@ pub fn look(heap: &Heap, dom: &mut Domain) -> u64
     ensures here { IsIn dom.new heap.now }
     ensures told { LookTold heap.now.config dom.old.view result dom.new.view }
 {
-    load_as::<Brand, Leaving>(heap, dom, BARRIER, &Leaving, &[])
+    raw_load::<Brand, Leaving>(heap, dom, BARRIER, &Leaving, &[])
 }
 
 /// A load of the plan word, which is the kind of the phase that the domain is in.
@@ -75,7 +75,7 @@ pub fn plan_load(heap: &Heap, dom: &mut Domain) -> u64
     ensures here { IsIn dom.new heap.now }
     ensures told { PlanTold dom.old.view result dom.new.view }
 {
-    load_as::<Brand, Leaving>(heap, dom, PLAN, &Leaving, &[])
+    raw_load::<Brand, Leaving>(heap, dom, PLAN, &Leaving, &[])
 }
 
 /// Domain 0 writes 0 into the want word, in an odd phase.
@@ -85,7 +85,7 @@ pub fn want_clear(heap: &Heap, dom: &mut Domain)
     ensures here { IsIn dom.new heap.now }
     ensures told { ClearTold dom.old.view 0 dom.new.view }
 {
-    store_as::<Brand, Leaving>(heap, dom, WANT, 0, &Leaving, &[]);
+    raw_store::<Brand, Leaving>(heap, dom, WANT, 0, &Leaving, &[]);
 }
 
 /// Domain 0 names the kind of the next phase, in an odd phase: `new` is its word.
@@ -95,7 +95,7 @@ pub fn plan_store(heap: &Heap, dom: &mut Domain, new: u64)
     ensures here { IsIn dom.new heap.now }
     ensures told { LeadTold (kind_at new) dom.old.view new dom.new.view }
 {
-    store_as::<Brand, Leaving>(heap, dom, PLAN, new, &Leaving, &[]);
+    raw_store::<Brand, Leaving>(heap, dom, PLAN, new, &Leaving, &[]);
 }
 
 /// The end of a trace: the ended word rises by one, and the entry of the end stands there. The
@@ -113,7 +113,7 @@ pub fn ended_add(heap: &Heap, dom: &mut Domain) -> u64
     let changes = [Change::Clear {
         part: Part::Register,
     }];
-    add_as::<Brand, Changing>(heap, dom, ENDED, 1, &writing, &changes)
+    raw_add::<Brand, Changing>(heap, dom, ENDED, 1, &writing, &changes)
 }
 
 /// A load of the ended word. Answers how many traces have ended.
@@ -122,5 +122,5 @@ pub fn ended_load(heap: &Heap, dom: &mut Domain) -> u64
     ensures here { IsIn dom.new heap.now }
     ensures told { EndedTold heap.now.config dom.old.view result dom.new.view }
 {
-    load_as::<Brand, Leaving>(heap, dom, ENDED, &Leaving, &[])
+    raw_load::<Brand, Leaving>(heap, dom, ENDED, &Leaving, &[])
 }

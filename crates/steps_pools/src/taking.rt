@@ -12,8 +12,8 @@ ghost use Rattle.steps_pools.specs.Takes.{HasNoDraw, ListedTold, CursorTold, Cur
 ghost use Rattle.heap_rule.specs.Token.{IsIn};
 
 use heap_rule::{
-    CURSOR, Change, Domain, Heap, LISTED, Leaving, Own, Spot, Writing, add_as, load_as,
-    make_changes, store_as,
+    CURSOR, Change, Domain, Heap, LISTED, Leaving, Own, Spot, Writing, make_changes, raw_add,
+    raw_load, raw_store,
 };
 use heap_words::Value;
 use size_classes::reserve;
@@ -95,7 +95,7 @@ pub fn listed_load(heap: &Heap, dom: &mut Domain) -> u64
     ensures here { IsIn dom.new heap.now }
     ensures told { ListedTold heap.now.config dom.old.view result dom.new.view }
 {
-    load_as::<Brand, Leaving>(heap, dom, LISTED, &Leaving, &[])
+    raw_load::<Brand, Leaving>(heap, dom, LISTED, &Leaving, &[])
 }
 
 /// A load of the cursor. Where it is below the limit the domain may ask for a pool. Answers the cursor.
@@ -106,7 +106,7 @@ pub fn cursor_load(heap: &Heap, dom: &mut Domain, count: u32) -> u64
     ensures here { IsIn dom.new heap.now }
     ensures told { CursorTold heap.now.config count (Asks count) dom.old.view result dom.new.view }
 {
-    load_as::<Brand, Asking>(heap, dom, CURSOR, &Asking { count, class: 0 }, &[])
+    raw_load::<Brand, Asking>(heap, dom, CURSOR, &Asking { count, class: 0 }, &[])
 }
 
 /// A load of the cursor by a domain that takes no pool, for the number of free ones. Answers the cursor.
@@ -117,7 +117,7 @@ pub fn free_load(heap: &Heap, dom: &mut Domain, count: u32) -> u64
     ensures here { IsIn dom.new heap.now }
     ensures told { CursorTold heap.now.config count Rests dom.old.view result dom.new.view }
 {
-    load_as::<Brand, Asking>(heap, dom, CURSOR, &Asking { count, class: 0 }, &[])
+    raw_load::<Brand, Asking>(heap, dom, CURSOR, &Asking { count, class: 0 }, &[])
 }
 
 /// An add of 1 to the cursor. Where it was below the limit the pool at that place of the list is
@@ -130,7 +130,7 @@ pub fn cursor_add(heap: &Heap, dom: &mut Domain, count: u32, class: u32) -> u64
     ensures here { IsIn dom.new heap.now }
     ensures told { CursorAddTold heap.now.config count class dom.old.view result dom.new.view }
 {
-    add_as::<Brand, Asking>(heap, dom, CURSOR, 1, &Asking { count, class }, &[])
+    raw_add::<Brand, Asking>(heap, dom, CURSOR, 1, &Asking { count, class }, &[])
 }
 
 /// A load of the list at the place drawn, `at` being the word's index. Answers the pool.
@@ -141,7 +141,7 @@ pub fn list_load(heap: &Heap, dom: &mut Domain, at: u32) -> u64
     ensures here { IsIn dom.new heap.now }
     ensures told { ListTold dom.old.view result dom.new.view }
 {
-    load_as::<Brand, Leaving>(heap, dom, at as usize, &Leaving, &[])
+    raw_load::<Brand, Leaving>(heap, dom, at as usize, &Leaving, &[])
 }
 
 /// A store of Free at the next place of the pool drawn.
@@ -162,7 +162,7 @@ pub fn clear_store(
     ensures told { ClearTold dom.old.view new dom.new.view }
 {
     let index = heap.index_of(at);
-    store_as::<Brand, Leaving>(heap, dom, index, new, &Leaving, &[]);
+    raw_store::<Brand, Leaving>(heap, dom, index, new, &Leaving, &[]);
 }
 
 /// A store of the owner word of the pool drawn, all of whose places are free. Its first place is then
@@ -176,7 +176,7 @@ pub fn owner_store(heap: &Heap, dom: &mut Domain, at: u32, new: u64, pool: u32, 
     ensures told { OwnedTold pool class dom.old.view new dom.new.view }
 {
     let _limits = heap.config();
-    store_as::<Brand, Owning>(heap, dom, at as usize, new, &Owning { pool, class }, &[]);
+    raw_store::<Brand, Owning>(heap, dom, at as usize, new, &Owning { pool, class }, &[]);
 }
 
 /// A store of the next word behind the head's of the place taken.
@@ -189,7 +189,7 @@ pub fn fill_store(heap: &Heap, dom: &mut Domain, at: u32, new: u64)
     ensures told { FillTold dom.old.view new dom.new.view }
 {
     let index = heap.index_of(at);
-    store_as::<Brand, Leaving>(heap, dom, index, new, &Leaving, &[]);
+    raw_store::<Brand, Leaving>(heap, dom, index, new, &Leaving, &[]);
 }
 
 /// The store of the head at the place taken, at which the block comes to live and the entry of the
@@ -203,5 +203,5 @@ pub fn head_store(heap: &Heap, dom: &mut Domain, at: u32, new: u64, changes: &[C
     ensures told { MajorTold heap.now.config entry changes.now dom.old.view dom.new.view }
 {
     let index = heap.index_of(at);
-    store_as::<Brand, Labelling>(heap, dom, index, new, &Labelling, changes);
+    raw_store::<Brand, Labelling>(heap, dom, index, new, &Labelling, changes);
 }

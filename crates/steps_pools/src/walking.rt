@@ -8,7 +8,7 @@ ghost use Rattle.heap_rule.specs.Standing.{IsInHeap};
 ghost use Rattle.steps_pools.specs.Takes.{OwnerLoadMay, OwnerTold, PlaceMay, PlaceTold};
 ghost use Rattle.heap_rule.specs.Token.{IsIn};
 
-use heap_rule::{Change, Domain, Heap, Own, Spot, Writing, load_as};
+use heap_rule::{Change, Domain, Heap, Own, Spot, Writing, raw_load};
 use size_classes::{POOL_WORDS, heap_classes};
 use std::marker::Brand;
 
@@ -128,7 +128,7 @@ pub fn owner_load(heap: &Heap, dom: &mut Domain, at: u32, pool: u32, class: u32)
     ensures told { OwnerTold pool class dom.old.view result dom.new.view }
 {
     let _limits = heap.config();
-    load_as::<Brand, PassingPool>(heap, dom, at as usize, &PassingPool { pool, class }, &[])
+    raw_load::<Brand, PassingPool>(heap, dom, at as usize, &PassingPool { pool, class }, &[])
 }
 
 /// A load of the head at the next place of an own pool. Answers the head's word.
@@ -144,5 +144,5 @@ pub fn place_load(heap: &Heap, dom: &mut Domain, at: u32, pool: u32, class: u32,
     let _limits = heap.config();
     let index = heap.index_of(at);
     let passing = PassingPlace { pool, class, slot };
-    load_as::<Brand, PassingPlace>(heap, dom, index, &passing, &[])
+    raw_load::<Brand, PassingPlace>(heap, dom, index, &passing, &[])
 }

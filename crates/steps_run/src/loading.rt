@@ -5,7 +5,7 @@ ghost use Rattle.steps_run.specs.Loads.{HeadMay, HeadTold, LabelMay, LabelTold, 
 ghost use Rattle.heap_rule.specs.Standing.{IsInHeap};
 ghost use Rattle.heap_rule.specs.Token.{IsIn};
 
-use heap_rule::{Change, Changing, Domain, Heap, Reading, load_as};
+use heap_rule::{Change, Changing, Domain, Heap, Reading, raw_load};
 use std::marker::Brand;
 
 /// A load of the head of the block in the register that a `load` or a `store` looks into. The entry
@@ -26,7 +26,7 @@ pub fn head_load(heap: &Heap, dom: &mut Domain, at: u32, changes: &[Change]) -> 
         at,
         reading: Reading::Unread,
     };
-    load_as::<Brand, Changing>(heap, dom, index, &writing, changes)
+    raw_load::<Brand, Changing>(heap, dom, index, &writing, changes)
 }
 
 /// A load of the label of the block in a register. No entry stands here, and the front stays. `at` is
@@ -45,7 +45,7 @@ pub fn label_load(heap: &Heap, dom: &mut Domain, at: u32, changes: &[Change]) ->
         at,
         reading: Reading::Unread,
     };
-    load_as::<Brand, Changing>(heap, dom, index, &writing, changes)
+    raw_load::<Brand, Changing>(heap, dom, index, &writing, changes)
 }
 
 /// A load of a field of the plain block in a register, whose size is known. The entry of the `load`
@@ -64,5 +64,5 @@ pub fn field_load(heap: &Heap, dom: &mut Domain, at: u32, changes: &[Change]) ->
         at,
         reading: Reading::AsValue,
     };
-    load_as::<Brand, Changing>(heap, dom, index, &reads, changes)
+    raw_load::<Brand, Changing>(heap, dom, index, &reads, changes)
 }

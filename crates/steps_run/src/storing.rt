@@ -7,7 +7,7 @@ ghost use Rattle.heap_rule.specs.Standing.{Entered, IsInHeap};
 ghost use Rattle.steps_run.specs.Stores.{FieldStoreEntry};
 ghost use Rattle.heap_rule.specs.Token.{IsIn};
 
-use heap_rule::{Change, Changing, Domain, Heap, Reading, store_as};
+use heap_rule::{Change, Changing, Domain, Heap, Reading, raw_store};
 use std::marker::Brand;
 
 /// A store to a field of the plain block in a register, whose size is known. The entry of the
@@ -27,5 +27,5 @@ pub fn field_store(heap: &Heap, dom: &mut Domain, at: u32, new: u64, changes: &[
         at,
         reading: Reading::Unread,
     };
-    store_as::<Brand, Changing>(heap, dom, index, new, &writing, changes);
+    raw_store::<Brand, Changing>(heap, dom, index, new, &writing, changes);
 }

@@ -6,7 +6,7 @@ ghost use Rattle.heap_rule.specs.Standing.{Entered};
 ghost use Rattle.steps_run.specs.Ticks.{TickMay, tick_answer};
 ghost use Rattle.heap_rule.specs.Token.{IsIn};
 
-use heap_rule::{Change, Changing, Domain, Heap, Reading, load_as};
+use heap_rule::{Change, Changing, Domain, Heap, Reading, raw_load};
 use std::marker::Brand;
 
 /// A load of the want word, at which an entry stands that the registers alone decide: a command on
@@ -25,5 +25,5 @@ pub fn tick(heap: &Heap, dom: &mut Domain, at: u32, changes: &[Change]) -> u64
         at,
         reading: Reading::Unread,
     };
-    load_as::<Brand, Changing>(heap, dom, at as usize, &writing, changes)
+    raw_load::<Brand, Changing>(heap, dom, at as usize, &writing, changes)
 }

@@ -13,11 +13,11 @@ words_of_class-words-requires g c =
     let size = c.size_in.ensures (fields_of g.entry) f.tag f.head in
     let few = f.few in omega arith
 
-pub store_as-requires-clause-may : goal.store_as-requires-clause-may
-store_as-requires-clause-may g c = alloc_may c.args.heap.now.config c.index_of-index.result c.args.dom.now.view c.args.at c.args.new g.entry c.args.changes.now c.index_of-index.ensures c.requires.1.1
+pub raw_store-requires-clause-may : goal.raw_store-requires-clause-may
+raw_store-requires-clause-may g c = alloc_may c.args.heap.now.config c.index_of-index.result c.args.dom.now.view c.args.at c.args.new g.entry c.args.changes.now c.index_of-index.ensures c.requires.1.1
 
-pub store_as-requires-clause-closes : goal.store_as-requires-clause-closes
-store_as-requires-clause-closes g c =
+pub raw_store-requires-clause-closes : goal.raw_store-requires-clause-closes
+raw_store-requires-clause-closes g c =
     let f = alloc_facts c.args.heap.now.config c.args.dom.now.view c.args.at c.args.new c.args.changes.now g.entry c.requires.1.1 in
     let words = c.words_of_class-words.ensures ∙ ap (λ (n : ℕ). class_words (n + 2)) (c.size_in.ensures (fields_of g.entry) f.tag f.head) in
     let fits = alloc_fits c.args.heap.now.config c.args.dom.now.view c.args.at c.args.new c.args.changes.now g.entry c.requires.1.1 in

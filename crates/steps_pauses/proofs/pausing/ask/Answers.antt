@@ -5,8 +5,8 @@ use Rattle.steps_pauses.specs.Pauses.{AskTold}
 use Rattle.steps_pauses.proofs.PauseSteps.{ask_may}
 use Rattle.steps_pauses.proofs.pausing.ask.Goals as goal
 
-pub or_as-requires-clause-may : goal.or_as-requires-clause-may
-or_as-requires-clause-may c = ask_may c.args.heap.now.config c.args.dom.now.view c.args.bits c.requires.runs
+pub raw_or-requires-clause-may : goal.raw_or-requires-clause-may
+raw_or-requires-clause-may c = ask_may c.args.heap.now.config c.args.dom.now.view c.args.bits c.requires.runs
 
-pub or_as-requires-clause-closes : goal.or_as-requires-clause-closes
-or_as-requires-clause-closes c = λ found. leaves_closes c.args.heap.now.config c.args.dom.now.view found (AskTold c.args.bits) (λ y told. ap (λ (z : DomainView). z.own) told) (λ y told. front_same c.args.dom.now.view y (ap (λ (z : DomainView). z.seen.front) told))
+pub raw_or-requires-clause-closes : goal.raw_or-requires-clause-closes
+raw_or-requires-clause-closes c = λ found. leaves_closes c.args.heap.now.config c.args.dom.now.view found (AskTold c.args.bits) (λ y told. ap (λ (z : DomainView). z.own) told) (λ y told. front_same c.args.dom.now.view y (ap (λ (z : DomainView). z.seen.front) told))

@@ -5,8 +5,8 @@ use Rattle.steps_pauses.specs.Pauses.{EndedTold}
 use Rattle.steps_pauses.proofs.PauseSteps.{ended_may}
 use Rattle.steps_pauses.proofs.pausing.ended_load.Goals as goal
 
-pub load_as-requires-clause-may : goal.load_as-requires-clause-may
-load_as-requires-clause-may c = ended_may c.args.heap.now.config c.args.dom.now.view
+pub raw_load-requires-clause-may : goal.raw_load-requires-clause-may
+raw_load-requires-clause-may c = ended_may c.args.heap.now.config c.args.dom.now.view
 
-pub load_as-requires-clause-closes : goal.load_as-requires-clause-closes
-load_as-requires-clause-closes c = λ found. leaves_closes c.args.heap.now.config c.args.dom.now.view found (EndedTold c.args.heap.now.config) (λ y told. ap (λ (z : DomainView). z.own) told.0) (λ y told. front_same c.args.dom.now.view y (ap (λ (z : DomainView). z.seen.front) told.0))
+pub raw_load-requires-clause-closes : goal.raw_load-requires-clause-closes
+raw_load-requires-clause-closes c = λ found. leaves_closes c.args.heap.now.config c.args.dom.now.view found (EndedTold c.args.heap.now.config) (λ y told. ap (λ (z : DomainView). z.own) told.0) (λ y told. front_same c.args.dom.now.view y (ap (λ (z : DomainView). z.seen.front) told.0))

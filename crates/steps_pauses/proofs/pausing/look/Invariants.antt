@@ -1,5 +1,5 @@
 use Rattle.steps_pauses.specs.Pauses.{LookTold}
 use Rattle.steps_pauses.proofs.pausing.look.Given as goal
 
-abbrev pub ghosts-load_as : goal.ghosts-load_as
-ghosts-load_as a = record { tells = LookTold a.heap.now.config }
+abbrev pub ghosts-raw_load : goal.ghosts-raw_load
+ghosts-raw_load a = record { tells = LookTold a.heap.now.config }

@@ -5,8 +5,8 @@ use Rattle.steps_pauses.specs.Pauses.{ClearTold}
 use Rattle.steps_pauses.proofs.PauseSteps.{clear_may}
 use Rattle.steps_pauses.proofs.pausing.want_clear.Goals as goal
 
-pub store_as-requires-clause-may : goal.store_as-requires-clause-may
-store_as-requires-clause-may c = clear_may c.args.heap.now.config c.args.dom.now.view
+pub raw_store-requires-clause-may : goal.raw_store-requires-clause-may
+raw_store-requires-clause-may c = clear_may c.args.heap.now.config c.args.dom.now.view
 
-pub store_as-requires-clause-closes : goal.store_as-requires-clause-closes
-store_as-requires-clause-closes c = leaves_closes c.args.heap.now.config c.args.dom.now.view 0 ClearTold (λ y told. ap (λ (z : DomainView). z.own) told) (λ y told. front_same c.args.dom.now.view y (ap (λ (z : DomainView). z.seen.front) told))
+pub raw_store-requires-clause-closes : goal.raw_store-requires-clause-closes
+raw_store-requires-clause-closes c = leaves_closes c.args.heap.now.config c.args.dom.now.view 0 ClearTold (λ y told. ap (λ (z : DomainView). z.own) told) (λ y told. front_same c.args.dom.now.view y (ap (λ (z : DomainView). z.seen.front) told))

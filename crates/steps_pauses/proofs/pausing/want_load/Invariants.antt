@@ -1,5 +1,5 @@
 use Rattle.steps_pauses.specs.Pauses.{WantTold}
 use Rattle.steps_pauses.proofs.pausing.want_load.Given as goal
 
-abbrev pub ghosts-load_as : goal.ghosts-load_as
-ghosts-load_as a = record { tells = WantTold }
+abbrev pub ghosts-raw_load : goal.ghosts-raw_load
+ghosts-raw_load a = record { tells = WantTold }

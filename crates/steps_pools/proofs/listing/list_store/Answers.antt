@@ -5,8 +5,8 @@ use Rattle.steps_pools.specs.Listings.{NamedTold}
 use Rattle.steps_pools.proofs.ListSteps.{name_may}
 use Rattle.steps_pools.proofs.listing.list_store.Goals as goal
 
-pub store_as-requires-clause-may : goal.store_as-requires-clause-may
-store_as-requires-clause-may c = name_may c.args.heap.now.config c.args.dom.now.view c.args.at c.args.new c.requires.may
+pub raw_store-requires-clause-may : goal.raw_store-requires-clause-may
+raw_store-requires-clause-may c = name_may c.args.heap.now.config c.args.dom.now.view c.args.at c.args.new c.requires.may
 
-pub store_as-requires-clause-closes : goal.store_as-requires-clause-closes
-store_as-requires-clause-closes c = leaves_closes c.args.heap.now.config c.args.dom.now.view c.args.new NamedTold (λ y told. ap (λ (z : DomainView). z.own) told) (λ y told. front_same c.args.dom.now.view y (ap (λ (z : DomainView). z.seen.front) told))
+pub raw_store-requires-clause-closes : goal.raw_store-requires-clause-closes
+raw_store-requires-clause-closes c = leaves_closes c.args.heap.now.config c.args.dom.now.view c.args.new NamedTold (λ y told. ap (λ (z : DomainView). z.own) told) (λ y told. front_same c.args.dom.now.view y (ap (λ (z : DomainView). z.seen.front) told))

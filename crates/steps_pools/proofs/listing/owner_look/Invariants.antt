@@ -1,5 +1,5 @@
 use Rattle.steps_pools.specs.Listings.{LookedTold}
 use Rattle.steps_pools.proofs.listing.owner_look.Given as goal
 
-abbrev pub ghosts-load_as : goal.ghosts-load_as
-ghosts-load_as a = record { tells = LookedTold }
+abbrev pub ghosts-raw_load : goal.ghosts-raw_load
+ghosts-raw_load a = record { tells = LookedTold }

@@ -1,5 +1,5 @@
 use Rattle.steps_pools.specs.Takes.{ClearTold}
 use Rattle.steps_pools.proofs.taking.clear_store.Given as goal
 
-abbrev pub ghosts-store_as : goal.ghosts-store_as
-ghosts-store_as a = record { tells = ClearTold }
+abbrev pub ghosts-raw_store : goal.ghosts-raw_store
+ghosts-raw_store a = record { tells = ClearTold }

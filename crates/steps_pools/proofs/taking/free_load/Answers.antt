@@ -5,8 +5,8 @@ use Rattle.steps_pools.proofs.Plain.{cursor_own, cursor_front}
 use Rattle.steps_pools.proofs.TakeSteps.{free_may}
 use Rattle.steps_pools.proofs.taking.free_load.Goals as goal
 
-pub load_as-requires-clause-may : goal.load_as-requires-clause-may
-load_as-requires-clause-may c = free_may c.args.heap.now.config c.args.dom.now.view c.requires.runs c.args.count c.requires.counts
+pub raw_load-requires-clause-may : goal.raw_load-requires-clause-may
+raw_load-requires-clause-may c = free_may c.args.heap.now.config c.args.dom.now.view c.requires.runs c.args.count c.requires.counts
 
-pub load_as-requires-clause-closes : goal.load_as-requires-clause-closes
-load_as-requires-clause-closes c = λ found. leaves_closes c.args.heap.now.config c.args.dom.now.view found (CursorTold c.args.heap.now.config c.args.count Rests) (cursor_own c.args.heap.now.config c.args.count Rests c.args.dom.now.view found) (cursor_front c.args.heap.now.config c.args.count Rests c.args.dom.now.view found)
+pub raw_load-requires-clause-closes : goal.raw_load-requires-clause-closes
+raw_load-requires-clause-closes c = λ found. leaves_closes c.args.heap.now.config c.args.dom.now.view found (CursorTold c.args.heap.now.config c.args.count Rests) (cursor_own c.args.heap.now.config c.args.count Rests c.args.dom.now.view found) (cursor_front c.args.heap.now.config c.args.count Rests c.args.dom.now.view found)

@@ -1,4 +1,4 @@
-use Rattle.field_access.proofs.fields.label_in.Goals as goal
+use Rattle.field_access.proofs.fields.label_of_word.Goals as goal
 
 pub unreachable-requires : goal.unreachable-requires
 unreachable-requires c =

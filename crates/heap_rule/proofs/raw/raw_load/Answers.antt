@@ -1,23 +1,22 @@
-use Rattle.std.proofs.Common.{◌+◌, ◌%◌, ◌^◌}
 use Rattle.heap_rule.proofs.Closes.{Opened, step_allowed, can_write, written_closes}
-use Rattle.heap_rule.proofs.raw.add_as.Goals as goal
+use Rattle.heap_rule.proofs.raw.raw_load.Goals as goal
 
-pub add_step-found-requires-clause-rule : goal.add_step-found-requires-clause-rule
-add_step-found-requires-clause-rule g c =
+pub load_step-found-requires-clause-rule : goal.load_step-found-requires-clause-rule
+load_step-found-requires-clause-rule g c =
     let o : Opened _ c.args.heap.now _ c.args.dom.now c.dom.inside.seat.me = record { heap = c.heap.view_is; token = c.dom.view_is; here = c.requires.here; seat = c.dom.invariant } in
-    step_allowed _ _ _ _ _ o _ _ c.args.index (λ n. (n + c.args.amount) % 2 ^ 64) g.T.Told.tells c.requires.may
+    step_allowed _ _ _ _ _ o _ _ c.args.index (λ n. n) g.T.Told.tells c.requires.may
 
 pub write-requires : goal.write-requires
 write-requires g c =
     let o : Opened _ c.args.heap.now _ c.args.dom.now c.dom.inside.seat.me = record { heap = c.heap.view_is; token = c.dom.view_is; here = c.requires.here; seat = c.dom.invariant } in
-    can_write _ _ _ _ _ o c.add_step-found.result g.T.Told.tells _ _ _ (c.requires.closes c.add_step-found.result) c.add_step-found.ensures.told
+    can_write _ _ _ _ _ o c.load_step-found.result g.T.Told.tells _ _ _ (c.requires.closes c.load_step-found.result) c.load_step-found.ensures.told
 
 pub invariant_of-dom : goal.invariant_of-dom
 invariant_of-dom g c =
     let o : Opened _ c.args.heap.now _ c.args.dom.now c.dom.inside.seat.me = record { heap = c.heap.view_is; token = c.dom.view_is; here = c.requires.here; seat = c.dom.invariant } in
-    (written_closes _ _ _ _ _ o c.add_step-found.result g.T.Told.tells _ _ _ _ (c.requires.closes c.add_step-found.result) c.add_step-found.ensures.told c.write.ensures).0
+    (written_closes _ _ _ _ _ o c.load_step-found.result g.T.Told.tells _ _ _ _ (c.requires.closes c.load_step-found.result) c.load_step-found.ensures.told c.write.ensures).0
 
 pub returns-clause-told : goal.returns-clause-told
 returns-clause-told g c =
     let o : Opened _ c.args.heap.now _ c.args.dom.now c.dom.inside.seat.me = record { heap = c.heap.view_is; token = c.dom.view_is; here = c.requires.here; seat = c.dom.invariant } in
-    (written_closes _ _ _ _ _ o c.add_step-found.result g.T.Told.tells _ _ _ _ (c.requires.closes c.add_step-found.result) c.add_step-found.ensures.told c.write.ensures).1
+    (written_closes _ _ _ _ _ o c.load_step-found.result g.T.Told.tells _ _ _ _ (c.requires.closes c.load_step-found.result) c.load_step-found.ensures.told c.write.ensures).1
