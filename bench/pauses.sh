@@ -37,12 +37,12 @@ seconds() {
 # Times the pauses. The first domain asks, and the others have ended and go along. A run of no pause is taken off.
 times() {
     for domains in 1 2 4 8; do
-        script "$domains" 2000 0 >"$work/many"
+        script "$domains" 20000 0 >"$work/many"
         script "$domains" 0 0 >"$work/none"
         many=$(seconds "$domains" "$work/many")
         none=$(seconds "$domains" "$work/none")
         awk -v d="$domains" -v m="$many" -v n="$none" -v what="$1" 'BEGIN {
-            printf "%s, domains %d: %.0f pauses a second (2000 pauses in %.3f s)\n", what, d, 2000 / (m - n), m - n
+            printf "%s, domains %d: %.0f pauses a second (20000 pauses in %.3f s)\n", what, d, 20000 / (m - n), m - n
         }'
     done
 }
