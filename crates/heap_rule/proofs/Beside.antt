@@ -1,5 +1,5 @@
 -- A word is written: what lies beside it stays.
-use Rattle.std.proofs.Common.{◌≡◌, ◌≢◌, ℕ, ◌+◌, ◌<◌, ◌≤◌, List, length, get_or, set, Some, sym, refl, ap, ◌∙◌, ⊎_elim, arith, get_or-set_other, lt_of_not-le}
+use Rattle.std.proofs.Common.{◌≡◌, ◌≢◌, ℕ, ◌+◌, ◌<◌, ◌≤◌, false, List, length, get_or, set, Some, sym, refl, ap, ◌∙◌, subst, ⊎_elim, arith, get_or-set_other, lt_of_not-le}
 use Rattle.std.proofs.lemmas.List.{length-map}
 use mathlib.Core.Logic.{dite}
 use native.Mathlib.Decide.{dec_le}
@@ -11,11 +11,11 @@ use Rattle.heap_model.specs.Fronts.{shape_of}
 use Rattle.heap_rule.specs.declared.config.Config.{Config}
 use Rattle.heap_rule.specs.declared.view.DomainView.{DomainView}
 use Rattle.heap_rule.specs.Layout.{before_heap, base_of}
-use Rattle.heap_rule.specs.Places.{Place, Live, extent, values_of, Found}
+use Rattle.heap_rule.specs.Places.{Place, Live, extent, values_of, Found, unmarked, HeadIs, More, IsOldWord}
 use Rattle.heap_rule.specs.Rule.{Area, Making}
 use Rattle.heap_rule.proofs.Lists.{got_below}
 use Rattle.heap_rule.proofs.Sizes.{area_below}
-use Rattle.heap_rule.proofs.Keeps.{More, stands_more}
+use Rattle.heap_rule.proofs.Keeps.{stands_more}
 
 pub extent_of : (n : Node) → extent (shape_of n) ≡ length (values_of n) + 2
 extent_of (Plain tag fields) = refl
@@ -34,16 +34,18 @@ found_beside k live live' graph graph' words at new b q more f there far =
       node = f.node;
       there = there;
       shape = f.shape;
-      head = ap (λ (i : ℕ). get_or (set words (base + at) new) (base + i) 0) (let g : b ≡ b + 0 = omega arith in g) ∙ (stays 0 (omega arith) ∙ (ap (λ (i : ℕ). get_or words (base + i) 0) (let g : b + 0 ≡ b = omega arith in g) ∙ f.head));
+      head = subst (HeadIs q.forward q.shape unmarked false) (sym (ap (λ (i : ℕ). get_or (set words (base + at) new) (base + i) 0) (let g : b ≡ b + 0 = omega arith in g) ∙ (stays 0 (omega arith) ∙ ap (λ (i : ℕ). get_or words (base + i) 0) (let g : b + 0 ≡ b = omega arith in g)))) f.head;
       label = stays 1 (omega arith) ∙ f.label;
-      values = λ i v got.
+      values = λ i v has got.
           let below : i < n = got_below (values_of f.node) i v got in
-          let w = f.values i v got in record {
+          let w = f.values i v has got in record {
             value = w.value;
             packs = ap (λ (j : ℕ). get_or (set words (base + at) new) (base + j) 0) (let g : b + 2 + i ≡ b + (2 + i) = omega arith in g)
                 ∙ (stays (2 + i) (omega arith) ∙ (ap (λ (j : ℕ). get_or words (base + j) 0) (let g : b + (2 + i) ≡ b + 2 + i = omega arith in g) ∙ w.packs));
             stands = stands_more live live' w.value v more w.stands;
           };
+      old = λ low i inside has none. subst (IsOldWord k) (sym (ap (λ (j : ℕ). get_or (set words (base + at) new) (base + j) 0) (let g : b + 2 + i ≡ b + (2 + i) = omega arith in g)
+          ∙ (stays (2 + i) (omega arith) ∙ ap (λ (j : ℕ). get_or words (base + j) 0) (let g : b + (2 + i) ≡ b + 2 + i = omega arith in g)))) (f.old low i inside has none);
     }
 
 -- the words of a block in the making stay where the written word isn't one of them

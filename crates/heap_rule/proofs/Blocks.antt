@@ -1,5 +1,5 @@
 -- The block in a register: in the words, and in the graph.
-use Rattle.std.proofs.Common.{◌≡◌, ℕ, ◌+◌, ◌<◌, ◌≤◌, List, length, slice_get, Some, sym, refl, ap, ◌∙◌, subst, arith}
+use Rattle.std.proofs.Common.{Option, ◌≡◌, ℕ, ◌+◌, ◌<◌, ◌≤◌, List, length, slice_get, Some, sym, refl, ap, ◌∙◌, subst, arith}
 use mathlib.Core.Option.{some}
 use lib.ListN.{get_elem?}
 use Rattle.heap_model.specs.declared.label.Label.{Label}
@@ -18,7 +18,7 @@ use Rattle.heap_rule.specs.declared.config.Config.{Config}
 use Rattle.heap_rule.specs.declared.view.DomainView.{DomainView}
 use Rattle.heap_rule.specs.Limits.{sizes_in}
 use Rattle.heap_rule.specs.Layout.{heap_words, at_address}
-use Rattle.heap_rule.specs.Places.{Place, extent, values_of, Stands, WordStands, Found}
+use Rattle.heap_rule.specs.Places.{Place, extent, values_of, Stands, WordStands, Found, Debt, HasValue, Settled}
 use Rattle.heap_rule.specs.Views.{one}
 use Rattle.heap_rule.specs.Rule.{state_of, Rule}
 use Rattle.heap_rule.specs.Standing.{IsAt, FieldMay}
@@ -83,8 +83,8 @@ module _ (k : Config) (s : Words) (r : Rule k s) (id : ℕ) (hist : List Entry) 
     pub there : slice_get fields i ≡ Some value
     pub stands : WordStands r.account.live (at_address k s.words (address + 2 + i)) value
 
-  pub field_at : (word reg i : ℕ) (may : FieldMay k x word reg i) → (f : Field reg i) × (f.address ≡ may.address)
-  field_at word reg i may =
+  pub field_at : Settled r.account.live → (word reg i : ℕ) (may : FieldMay k x word reg i) → (f : Field reg i) × (f.address ≡ may.address)
+  field_at settled word reg i may =
       let b = lives_at reg may.address may.block in
       let found = found_at reg may.address b in
       let later : HoldsPlain now x.own.number reg may.size = holds_later (opening (sizes_in k)) x.own.number reg may.size r.account.log x.seen.front (mine k s r id hist x at).front may.known in
@@ -102,7 +102,7 @@ module _ (k : Config) (s : Words) (r : Rule k s) (id : ℕ) (hist : List Entry) 
           node = node;
           value = v.0;
           there = v.1;
-          stands = found.values i v.0 (ap (λ (n : Node). slice_get (values_of n) i) is ∙ v.1);
+          stands = found.values i v.0 (subst (λ (o : Option Debt). HasValue o i) (sym (settled may.address b.place b.lives).no_debt) tt) (ap (λ (n : Node). slice_get (values_of n) i) is ∙ v.1);
         },
         refl,
       )

@@ -1,5 +1,6 @@
 -- A new block comes to live at an address.
-use Rattle.std.proofs.Common.{◌≡◌, ◌≢◌, ℕ, zero, suc, ◌+◌, ◌≤◌, ◌⊎◌, List, get_or, replicate, slice_get, pos, Option, Some, unwrap_or, refl, sym, ap, ◌∙◌, subst, inl, inr, ⊎_elim, arith}
+use Rattle.heap_rule.specs.Copies.{Recalls}
+use Rattle.std.proofs.Common.{◌≡◌, ◌≢◌, ℕ, zero, suc, ◌+◌, ◌≤◌, ◌⊎◌, List, get_or, replicate, slice_get, pos, Option, Some, None, unwrap_or, refl, sym, ap, ◌∙◌, subst, inl, inr, ⊎_elim, arith}
 use mathlib.Core.Logic.{dite}
 use native.Mathlib.Decide.{ℕ_discrete}
 use Rattle.heap_model.specs.declared.graph.Value as graph_value
@@ -7,10 +8,10 @@ use Rattle.heap_model.specs.declared.graph.Value.TheVariants.{Int, Nothing}
 use Rattle.heap_words.specs.declared.value.Value.{Value}
 use Rattle.heap_rule.specs.declared.config.Config.{Config}
 use Rattle.heap_rule.specs.Changes.{value_at}
-use Rattle.heap_rule.specs.Places.{Place, Live, extent, Fits, Placed}
+use Rattle.heap_rule.specs.Places.{Place, Live, extent, Fits, Placed, Settled, IsBare, More}
 use Rattle.heap_rule.proofs.Update.{over, over_here, over_else}
 use Rattle.heap_rule.proofs.Values.{AllStand, extent_large}
-use Rattle.heap_rule.proofs.Keeps.{More, stands_more}
+use Rattle.heap_rule.proofs.Keeps.{stands_more}
 
 -- the word of the integer 0, which every field of a new block holds
 abbrev pub zero_word : ℕ
@@ -38,7 +39,7 @@ module _ (k : Config) (live : Live) (A : ℕ) (p : Place) (some : 1 ≤ extent p
   born = over_here A (Some p) live
 
   pub more : More live live'
-  more b q lives = over_else A (Some p) live b (elsewhere b q lives) ∙ lives
+  more b q lives = record { place = q; lives = over_else A (Some p) live b (elsewhere b q lives) ∙ lives; label = refl; shape = refl }
 
   pub old : (b : ℕ) (q : Place) → b ≢ A → live' b ≡ Some q → live b ≡ Some q
   old b q other lives = sym (over_else A (Some p) live b other) ∙ lives
@@ -51,13 +52,13 @@ module _ (k : Config) (live : Live) (A : ℕ) (p : Place) (some : 1 ≤ extent p
     fits = λ b q lives. dite (ℕ_discrete b A)
         (λ same. subst (λ (y : ℕ × Place). Fits k y.0 y.1) (λ j. (sym same j, is_new b q same lives j)) fits)
         (λ other. placed.fits b q (old b q other lives));
-    once = λ b c q o lives lives' labels. dite (ℕ_discrete b A)
+    once = λ b c q o lives lives' labels f g. dite (ℕ_discrete b A)
         (λ same. dite (ℕ_discrete c A)
         (λ same'. same ∙ sym same')
         (λ other'. absurd (fresh c o (old c o other' lives') (sym labels ∙ ap (λ (z : Place). z.label) (sym (is_new b q same lives))))))
         (λ other. dite (ℕ_discrete c A)
         (λ same'. absurd (fresh b q (old b q other lives) (labels ∙ ap (λ (z : Place). z.label) (sym (is_new c o same' lives')))))
-        (λ other'. placed.once b c q o (old b q other lives) (old c o other' lives') labels));
+        (λ other'. placed.once b c q o (old b q other lives) (old c o other' lives') labels f g));
     apart = λ b c q o lives lives' differ. dite (ℕ_discrete b A)
         (λ same.
         let n : ℕ = extent p.shape in let size : n ≡ extent q.shape = ap (λ (z : Place). extent z.shape) (is_new b q same lives) in
@@ -71,3 +72,13 @@ module _ (k : Config) (live : Live) (A : ℕ) (p : Place) (some : 1 ≤ extent p
         ⊎_elim (λ (t : b + w ≤ A). inl (let g : b + w ≤ c = omega arith in g)) (λ (t : A + n ≤ b). inr (let g : c + m ≤ b = omega arith in g)) (away b q (old b q other lives)))
         (λ other'. placed.apart b c q o (old b q other lives) (old c o other' lives') differ));
   }
+
+  pub settled_born : IsBare p → Settled live → Settled live'
+  settled_born bare settled b q lives = dite (ℕ_discrete b A)
+      (λ same. subst IsBare (is_new b q same lives) bare)
+      (λ other. settled b q (old b q other lives))
+
+  pub recalls_born : ((i : ℕ) → p.named i ≡ None) → (d : ℕ) → Recalls d live live'
+  recalls_born none d b q i lives named = dite (ℕ_discrete b A)
+      (λ same. absurd (let e : ◌≡◌ {A = Option ℕ} None (Some d) = sym (none i) ∙ (ap (λ (z : Place). z.named i) (is_new b q same lives) ∙ named) in cc))
+      (λ other. record { place = q; lives = old b q other lives; named = named })

@@ -12,14 +12,16 @@ use Rattle.heap_rule.specs.declared.phase.Stage.{Stage}
 use Rattle.heap_rule.specs.declared.phase.Note.{Note}
 use Rattle.heap_rule.specs.declared.view.DomainView.{DomainView}
 use Rattle.heap_rule.specs.Layout.{before_heap, ended_word, cursor}
-use Rattle.heap_rule.specs.Places.{unmarked, Live, HeadIs}
+use Rattle.heap_rule.specs.Places.{unmarked, Place, Live, HeadIs, IsOldWord}
+use Rattle.heap_rule.specs.declared.view.Copying.{Copying}
+use Rattle.heap_rule.specs.Copies.{Owes}
 use Rattle.heap_rule.specs.Phases.{Pause, Phases, sum_of, IsEven, IsOdd, Staged, Still, TookBack, Unwished, last_from, last_note}
 use Rattle.heap_rule.specs.Pools.{Holder, Tenancy, Pools, Grid, Drawers, Resting, Hunter, Lists}
 use Rattle.heap_rule.specs.declared.view.Listing.{Listing}
 use Rattle.heap_rule.specs.Rule.{state_of, AllFound, Making, NoCycle, Rule}
 use Rattle.heap_rule.specs.Views.{one}
 use Rattle.heap_rule.proofs.Holders.{Agrees, grid_heap, same_self, hunter_agree}
-use Rattle.heap_rule.proofs.Keeps.{Words, mine, my_good, remakes, knows_front, phases_words, pools_words, lists_same, resting_lists}
+use Rattle.heap_rule.proofs.Keeps.{Words, mine, my_good, remakes, knows_front, phases_words, pools_words, lists_same, resting_lists, owes_as}
 
 -- all words stay but the first four, want, barrier, plan and changed, and the ended word
 abbrev pub Untouched : List ℕ → List ℕ → Type 0
@@ -33,9 +35,10 @@ found_untouched k live graph words words' u found a p lives = let f = found a p 
   node = f.node;
   there = f.there;
   shape = f.shape;
-  head = subst (HeadIs None p.shape unmarked false) (sym (u.1 (before_heap k + a) (omega arith) (λ e. away a e))) f.head;
+  head = subst (HeadIs p.forward p.shape unmarked false) (sym (u.1 (before_heap k + a) (omega arith) (λ e. away a e))) f.head;
   label = u.1 (before_heap k + (a + 1)) (omega arith) (λ e. away (a + 1) e) ∙ f.label;
-  values = λ i v e. let w = f.values i v e in record { value = w.value; packs = u.1 (before_heap k + (a + 2 + i)) (omega arith) (λ e. away (a + 2 + i) e) ∙ w.packs; stands = w.stands };
+  values = λ i v has e. let w = f.values i v has e in record { value = w.value; packs = u.1 (before_heap k + (a + 2 + i)) (omega arith) (λ e. away (a + 2 + i) e) ∙ w.packs; stands = w.stands };
+  old = λ low i inside has none. subst (IsOldWord k) (sym (u.1 (before_heap k + (a + 2 + i)) (omega arith) (λ e. away (a + 2 + i) e))) (f.old low i inside has none);
 } where
   away : (b : ℕ) → before_heap k + b ≡ 8 → ⊥
   away b e = let h : 10 + 2 * k.pools + b ≡ 8 = e in omega arith
@@ -116,8 +119,8 @@ parity (suc n) = ⊎_elim (λ (t : IsEven n). inr (t.0, let j : ℕ = t.0 in let
     (λ (t : IsOdd n). inl (t.0 + 1, let j : ℕ = t.0 in let e : n ≡ j * 2 + 1 = t.1 in let g : suc n ≡ (j + 1) * 2 = omega arith in g)) (parity n)
 
 -- a domain's view after a step of a pause
-abbrev pub moved_to : DomainView → ℕ → List Entry → Stage → List Note → Option ℕ → Option Listing → DomainView
-moved_to x arrivals front stage notes free listing = record { own = record x.own { arrivals = arrivals }; seen = record x.seen { front = front; stage = stage; notes = notes; free = free; listing = listing } }
+abbrev pub moved_to : DomainView → ℕ → List Entry → Stage → List Note → Option ℕ → Option Listing → Copying → DomainView
+moved_to x arrivals front stage notes free listing copying = record { own = record x.own { arrivals = arrivals }; seen = record x.seen { front = front; stage = stage; notes = notes; free = free; listing = listing; copying = copying } }
 
 module _ (k : Config) (s : Words) (r : Rule k s) (id : ℕ) (hist : List Entry) (x : DomainView) (at : get_elem? s.views id ≡ some (one k hist x)) where
   -- What a step of a pause owes: no entry stands, no block changes, and the phases may turn
@@ -130,16 +133,17 @@ module _ (k : Config) (s : Words) (r : Rule k s) (id : ℕ) (hist : List Entry) 
     pub still : Still r.account.log y
     pub free : (f : ℕ) → y.seen.free ≡ Some f → x.seen.free ≡ Some f
     pub resting : Resting k words' y
+    pub owes : Owes k r.account.live y
     pub drawers : Drawers pause' r.account.tenancy
     pub others : (z : DomainView) → z.own.number < k.domains → z.own.number ≢ x.own.number → Staged r.account.pause z → Staged pause' z
     pub unwished : Unwished pause' words'
     pub took_back : TookBack words' y
     pub others_took_back : (z : DomainView) → Staged r.account.pause z → TookBack s.words z → TookBack words' z
 
-  pub turns : (arrivals : ℕ) (front : List Entry) (stage : Stage) (notes : List Note) (free : Option ℕ) (listing : Option Listing) (pause' : Pause) (words' : List ℕ) → let y : DomainView = moved_to x arrivals front stage notes free listing in Turns y pause' words'
+  pub turns : (arrivals : ℕ) (front : List Entry) (stage : Stage) (notes : List Note) (free : Option ℕ) (listing : Option Listing) (copying : Copying) (pause' : Pause) (words' : List ℕ) → let y : DomainView = moved_to x arrivals front stage notes free listing copying in Turns y pause' words'
       → Rule k record { words = words'; homes = s.homes; views = set s.views id (one k hist y) }
-  turns arrivals front stage notes free listing pause' words' o =
-      let y : DomainView = moved_to x arrivals front stage notes free listing in
+  turns arrivals front stage notes free listing copying pause' words' o =
+      let y : DomainView = moved_to x arrivals front stage notes free listing copying in
       let h = hunter_untouched k r.account.tenancy s.words words' x o.untouched (my_good k s r id hist x at).hunter in
       let g = my_good k s r id hist x at in
       let p = making_untouched k s.words words' x o.untouched g.making in
@@ -150,6 +154,7 @@ module _ (k : Config) (s : Words) (r : Rule k s) (id : ℕ) (hist : List Entry) 
         calm = r.whole.calm;
         found = found_untouched k r.account.live (state_of k r.account.log).graph s.words words' o.untouched r.whole.found;
         placed = r.whole.placed;
+        settled = r.whole.settled;
         phases = o.phases;
         unwished = o.unwished;
         endings = o.endings ∙ r.whole.endings;
@@ -168,6 +173,7 @@ module _ (k : Config) (s : Words) (r : Rule k s) (id : ℕ) (hist : List Entry) 
         hunter = record { hunt = h.hunt; drawn_alone = h.drawn_alone; taken = h.taken; free = λ f e. h.free f (o.free f e) };
         resting = o.resting;
         took_back = o.took_back;
+        owes = o.owes;
       }
       (λ z below other h. record {
         stood = h.stood;
@@ -178,13 +184,15 @@ module _ (k : Config) (s : Words) (r : Rule k s) (id : ℕ) (hist : List Entry) 
         hunter = hunter_untouched k r.account.tenancy s.words words' z o.untouched h.hunter;
         resting = resting_untouched k s.words words' z o.untouched h.resting;
         took_back = o.others_took_back z h.staged h.took_back;
+        owes = h.owes;
       })
 
   -- a step that leaves where all stand, and the front
-  pub notes_rule : (notes : List Note) (words' : List ℕ) → Untouched s.words words' → Unwished r.account.pause words' → TookBack words' (moved_to x x.own.arrivals x.seen.front x.seen.stage notes x.seen.free x.seen.listing)
+  pub notes_rule : (notes : List Note) (words' : List ℕ) → let y : DomainView = moved_to x x.own.arrivals x.seen.front x.seen.stage notes x.seen.free x.seen.listing x.seen.copying in Untouched s.words words' → Unwished r.account.pause words' → TookBack words' y
       → ((z : DomainView) → Staged r.account.pause z → TookBack s.words z → TookBack words' z) → get_or words' 1 0 ≡ get_or s.words 1 0 → get_or words' 2 0 ≡ get_or s.words 2 0 → ended_word words' ≡ ended_word s.words
-      → Rule k record { words = words'; homes = s.homes; views = set s.views id (one k hist (moved_to x x.own.arrivals x.seen.front x.seen.stage notes x.seen.free x.seen.listing)) }
-  notes_rule notes words' u unwished took_back others_took_back b c e = let g = my_good k s r id hist x at in turns x.own.arrivals x.seen.front x.seen.stage notes x.seen.free x.seen.listing r.account.pause words' record {
+      → Rule k record { words = words'; homes = s.homes; views = set s.views id (one k hist y) }
+  notes_rule notes words' u unwished took_back others_took_back b c e = let g = my_good k s r id hist x at in let y : DomainView = moved_to x x.own.arrivals x.seen.front x.seen.stage notes x.seen.free x.seen.listing x.seen.copying in turns x.own.arrivals x.seen.front x.seen.stage notes x.seen.free x.seen.listing x.seen.copying r.account.pause words' record {
+    owes = owes_as k r.account.live x y refl refl refl refl g.owes;
     untouched = u;
     front = (mine k s r id hist x at).front;
     phases = phases_words k r.account.pause s.words words' b c r.whole.phases;

@@ -33,7 +33,7 @@ use Rattle.heap_rule.specs.Rule.{state_of, AllFound, Stood, Rule}
 use Rattle.heap_rule.specs.Standing.{Acts, Entered, with_front, with_own, with_registers}
 use Rattle.heap_rule.proofs.ChangeLemmas.{changed_only}
 use Rattle.heap_rule.proofs.Values.{AllStand, holds}
-use Rattle.heap_rule.proofs.Keeps.{Words, IsCommand, mine, my_good, own, control_same, controls_kept, appends, legal_entry, hunter_as}
+use Rattle.heap_rule.proofs.Keeps.{Words, IsCommand, mine, my_good, own, control_same, controls_kept, appends, legal_entry, hunter_as, more_same, owes_as, recalls_same}
 
 module _ (k : Config) (s : Words) (r : Rule k s) (id : ℕ) (hist : List Entry) (x : DomainView) (at : get_elem? s.views id ≡ some (one k hist x)) (acts : Acts k x) where
   abbrev now : model.State
@@ -115,7 +115,10 @@ module _ (k : Config) (s : Words) (r : Rule k s) (id : ℕ) (hist : List Entry) 
     controls = controls_kept k s r id hist x at s.words (control_same k s.words);
     found = subst (λ (graph : Graph). AllFound k r.account.live graph s.words) (sym o.leaves.graph_is) r.whole.found;
     placed = r.whole.placed;
-    more = λ a p h. h;
+    settled = r.whole.settled;
+    owes = owes_as k r.account.live x (entered_view e registers) refl refl refl refl g.owes;
+    recalls = λ d _. recalls_same d r.account.live;
+    more = more_same r.account.live;
     stood = stood_after now.graph e registers answer (entered_view e registers) refl refl refl o;
     area = record { room = g.area.room; free = g.area.free };
     making = record { fits = g.making.fits; written = g.making.written };

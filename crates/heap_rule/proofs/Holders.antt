@@ -1,5 +1,5 @@
 -- One pool gets another holder, and a word before the heap's changes.
-use Rattle.std.proofs.Common.{◌≡◌, ◌≢◌, ℕ, zero, suc, ◌+◌, ◌<◌, ◌≤◌, ◌⊎◌, List, set, Some, sym, refl, ap, ◌∙◌, subst, inl, inr, ⊎_elim, arith, get_or-set_other}
+use Rattle.std.proofs.Common.{false, ◌≡◌, ◌≢◌, ℕ, zero, suc, ◌+◌, ◌<◌, ◌≤◌, ◌⊎◌, List, set, Some, sym, refl, ap, ◌∙◌, subst, inl, inr, ⊎_elim, arith, get_or-set_other}
 use mathlib.Core.Logic.{dite}
 use native.Mathlib.Decide.{ℕ_discrete}
 use Rattle.heap_model.specs.Graph.{Graph}
@@ -8,7 +8,7 @@ use Rattle.heap_rule.specs.declared.view.Hunt.{Hunt}
 use Rattle.heap_rule.specs.declared.view.Hunt.TheVariants.{Rests, Counts, Asks, Draws, Walks, Fills}
 use Rattle.heap_rule.specs.declared.view.DomainView.{DomainView}
 use Rattle.heap_rule.specs.Layout.{before_heap, base_of, at_address, listed_pool, listed, cursor}
-use Rattle.heap_rule.specs.Places.{Place, Live, Placed}
+use Rattle.heap_rule.specs.Places.{unmarked, Place, Live, Placed, HeadIs, IsOldWord}
 use Rattle.heap_rule.specs.Rule.{AllFound, Making}
 use Rattle.heap_rule.specs.Pools.{Holder, nobody, drawn, owned, Tenancy, Grid, Hunts, Hunter, place_in, blocks_of, limit_of}
 use Rattle.heap_rule.specs.Phases.{sum_of}
@@ -41,9 +41,10 @@ found_heap k live graph words words' same placed found a p lives =
       node = f.node;
       there = f.there;
       shape = f.shape;
-      head = same a low ∙ f.head;
+      head = subst (HeadIs p.forward p.shape unmarked false) (sym (same a low)) f.head;
       label = same (a + 1) (omega arith) ∙ f.label;
-      values = λ i v got. let w = f.values i v got in record { value = w.value; packs = same (a + 2 + i) (omega arith) ∙ w.packs; stands = w.stands };
+      values = λ i v has got. let w = f.values i v has got in record { value = w.value; packs = same (a + 2 + i) (omega arith) ∙ w.packs; stands = w.stands };
+      old = λ under i inside has none. subst (IsOldWord k) (sym (same (a + 2 + i) (omega arith))) (f.old under i inside has none);
     }
 
 pub found_agrees : (k : Config) (live : Live) (graph : Graph) (words words' : List ℕ) → Agrees k words words' → Placed k live → AllFound k live graph words → AllFound k live graph words'

@@ -1,6 +1,6 @@
 -- What all kinds of step share: what a domain knows at its seat, and that the rule holds again where the whole, the own domain and each other one meet it.
 use Rattle.std.proofs.lemmas.Option.{slice_get_within}
-use Rattle.std.proofs.Common.{◌≡◌, ◌≢◌, ℕ, zero, suc, ◌+◌, ◌*◌, ◌<◌, ◌≤◌, false, List, [], ◌∷◌, ◌++◌, length, get_or, set, Some, sym, refl, ap, ◌∙◌, subst, arith, length-set, get_or-set_other, append_assoc, ◌⊎◌, Option}
+use Rattle.std.proofs.Common.{slice_get, inl, inr, ⊎_elim, None, ◌≡◌, ◌≢◌, ℕ, zero, suc, ◌+◌, ◌*◌, ◌<◌, ◌≤◌, false, List, [], ◌∷◌, ◌++◌, length, get_or, set, Some, sym, refl, ap, ◌∙◌, subst, arith, length-set, get_or-set_other, append_assoc, ◌⊎◌, Option}
 use mathlib.Core.Logic.{dite}
 use native.Mathlib.Decide.{ℕ_discrete}
 use mathlib.Core.Option.{some}
@@ -18,7 +18,7 @@ use Rattle.heap_model.specs.declared.state.State as model
 use Rattle.heap_model.specs.Domains.{domain_at, register, opening}
 use Rattle.heap_model.specs.Entries.{Allowed, next}
 use Rattle.heap_model.specs.History.{IsPrefix, Legal, is_entry_of}
-use Rattle.heap_model.specs.Fronts.{IsCalm, IsFrontOf, KeepsDomain}
+use Rattle.heap_model.specs.Fronts.{IsCalm, IsFrontOf, KeepsDomain, Shape}
 use Rattle.heap_model.proofs.Histories.HistoryLemmas.{legal_push, state_after-push}
 use Rattle.heap_model.proofs.Commands.FrameLemmas.{keeps_next, frame_command}
 use Rattle.heap_model.proofs.Histories.FrontLemmas.{front_whole, front_push, keeps_front}
@@ -30,7 +30,10 @@ use Rattle.heap_rule.specs.declared.view.Spot.{Spot}
 use Rattle.heap_rule.specs.declared.view.View.{View}
 use Rattle.heap_rule.specs.Limits.{sizes_in}
 use Rattle.heap_rule.specs.Layout.{before_heap, barrier, plan, ended_word, listed, cursor, listed_pool, owner_of, want}
-use Rattle.heap_rule.specs.Places.{Place, Live, Stands, Placed}
+use Rattle.heap_rule.specs.declared.view.Copying.{Copying}
+use Rattle.heap_rule.specs.declared.view.Owing.{Owing}
+use Rattle.heap_rule.specs.Places.{Debt, Place, Live, Stands, Placed, Settled, More, extent}
+use Rattle.heap_rule.specs.Copies.{nothing_copied, known, Owes, IsField, Recalls}
 use Rattle.heap_rule.specs.Changes.{value_at}
 use Rattle.heap_rule.specs.Views.{EachView, AllDomains, IsSeated, Knows, one}
 use Rattle.heap_rule.specs.declared.phase.Kind.TheVariants.{Run, Promote, Reset}
@@ -45,16 +48,71 @@ use Rattle.heap_rule.proofs.Lists.{views_set, domains_map, domains_with}
 abbrev pub Words : Type 0
 Words = State (Unit {0}) View
 
--- more places live
-abbrev pub More : Live → Live → Type 0
-More live live' = (a : ℕ) (p : Place) → live a ≡ Some p → live' a ≡ Some p
+pub more_same : (live : Live) → More live live
+more_same live a p lives = record { place = p; lives = lives; label = refl; shape = refl }
+
+-- no place is owed anything
+pub no_debt : (live : Live) → Settled live → (c : ℕ) (p : Place) (d : Debt) → live c ≡ Some p → p.owed ≡ Some d → ⊥
+no_debt live settled c p d lives owed = let e : ◌≡◌ {A = Option Debt} None (Some d) = sym (settled c p lives).no_debt ∙ owed in cc
+
+pub no_owing : (c : Copying) (i : ℕ) (o : Owing) → c ≡ nothing_copied → slice_get c.pending i ≡ Some o → ⊥
+no_owing c i o none got = let e : ◌≡◌ {A = Option Owing} None (Some o) = sym (ap (λ (z : Copying). slice_get z.pending i) none) ∙ got in cc
+
+pub nothing_known : (live : Live) → More (known []) live
+nothing_known live a p e = let f : ◌≡◌ {A = Option Place} None (Some p) = e in cc
+
+-- who has copied nothing owes nothing
+pub field_again : (k : Config) (live live' : Live) (at : ℕ) → More live live' → Settled live' → IsField k live at → IsField k live' at
+field_again k live live' at more settled f = let m = more f.block f.place f.lives in record {
+  block = f.block;
+  place = m.place;
+  index = f.index;
+  lives = m.lives;
+  is = f.is;
+  inside = subst (λ (s : Shape). f.index + 2 < extent s) (sym m.shape) f.inside;
+  old = f.old;
+  filled = (settled f.block m.place m.lives).no_debt;
+}
+
+pub recalls_same : (d : ℕ) (live : Live) → Recalls d live live
+recalls_same d live b q i lives named = record { place = q; lives = lives; named = named }
+
+pub owes_run : (k : Config) (live live' : Live) (z y : DomainView) → Settled live' → y.seen.copying ≡ nothing_copied → y.own.number ≡ z.own.number → y.seen.remembered ≡ z.seen.remembered → More live live' → Recalls z.own.number live live' → Owes k live z → Owes k live' y
+owes_run k live live' z y settled none number remembered more recalls o = record {
+  quiet = inl none;
+  knows = subst (λ (c : Copying). More (known c.met) live') (sym none) (nothing_known live');
+  owed = λ i o got. absurd (no_owing y.seen.copying i o none got);
+  once = λ i j o q got _ _. absurd (no_owing y.seen.copying i o none got);
+  listed = λ c p d lives owed _. absurd (no_debt live' settled c p d lives owed);
+  recalled = λ b q i lives named. let t = recalls b q i lives (named ∙ ap Some number) in let u = o.recalled b t.place i t.lives t.named in (u.0, ap (λ (l : List ℕ). slice_get l u.0) remembered ∙ u.1);
+  fields = λ j at got. field_again k live live' at more settled (o.fields j at (ap (λ (l : List ℕ). slice_get l j) (sym remembered) ∙ got));
+}
+
+-- where the places stay
+pub owes_as : (k : Config) (live : Live) (x y : DomainView) → y.own.number ≡ x.own.number → y.seen.copying ≡ x.seen.copying → y.seen.stage ≡ x.seen.stage → y.seen.remembered ≡ x.seen.remembered → Owes k live x → Owes k live y
+owes_as k live x y number copying stage remembered o = record {
+  recalled = λ b q i lives named. let u = o.recalled b q i lives (named ∙ ap Some number) in (u.0, ap (λ (l : List ℕ). slice_get l u.0) remembered ∙ u.1);
+  fields = λ j at got. o.fields j at (ap (λ (l : List ℕ). slice_get l j) (sym remembered) ∙ got);
+  quiet = ⊎_elim (λ (h : x.seen.copying ≡ nothing_copied). inl (copying ∙ h)) (λ (h : x.seen.stage ≡ In Promote). inr (stage ∙ h)) o.quiet;
+  knows = subst (λ (c : Copying). More (known c.met) live) (sym copying) o.knows;
+  owed = λ i w got. let t = o.owed i w (ap (λ (c : Copying). slice_get c.pending i) (sym copying) ∙ got) in record { place = t.place; lives = t.lives; debt = t.debt ∙ ap (λ (n : ℕ). Some (record { source = w.source; domain = n; filled = w.filled })) (sym number) };
+  once = λ i j w q got got'. o.once i j w q (ap (λ (c : Copying). slice_get c.pending i) (sym copying) ∙ got) (ap (λ (c : Copying). slice_get c.pending j) (sym copying) ∙ got');
+  listed = λ c p d lives owed mine. let t = o.listed c p d lives owed (mine ∙ number) in (t.0, ap (λ (z : Copying). slice_get z.pending t.0) copying ∙ t.1);
+}
+
+-- who isn't in Promote has copied nothing
+pub quiet_in : (k : Config) (live : Live) (x : DomainView) → Owes k live x → (x.seen.stage ≡ In Promote → ⊥) → x.seen.copying ≡ nothing_copied
+quiet_in k live x o outside = ⊎_elim (λ (h : x.seen.copying ≡ nothing_copied). h) (λ (h : x.seen.stage ≡ In Promote). absurd (outside h)) o.quiet
+
+run_not_promote : (st : Stage) → st ≡ In Run → st ≡ In Promote → ⊥
+run_not_promote st e f = let h : In Run ≡ In Promote = sym e ∙ f in cc
 
 pub stands_more : (live live' : Live) (x : words.Value) (v : Value) → More live live' → Stands live x v → Stands live' x v
 stands_more live live' (IntWord z) (Int v) more s = s
 stands_more live live' (IntWord z) (Block l) more s = s
 stands_more live live' (IntWord z) Nothing more s = s
 stands_more live live' (Ref a) (Int v) more s = s
-stands_more live live' (Ref a) (Block l) more s = (s.0, more a s.0 s.1, s.2)
+stands_more live live' (Ref a) (Block l) more s = let m = more a s.0 s.1 in (m.place, m.lives, m.label ∙ s.2)
 stands_more live live' (Ref a) Nothing more s = s
 stands_more live live' NothingWord (Int v) more s = s
 stands_more live live' NothingWord (Block l) more s = s
@@ -360,6 +418,10 @@ module _ (k : Config) (s : Words) (r : Rule k s) (id : ℕ) (hist : List Entry) 
     cycle = cycle_same k s.words words' c r.whole.cycle;
   }
 
+  -- what a running domain owes then
+  pub quiet : x.seen.stage ≡ In Run → x.seen.copying ≡ nothing_copied
+  quiet runs = quiet_in k r.account.live x my_good.owes (run_not_promote x.seen.stage runs)
+
   -- What a step owes at which an own entry stands, whatever it does to the words
   pub record Appends (e : Entry) (y : DomainView) (words' : List ℕ) (live' : Live) : Type 0 where
     pub alone : (d : ℕ) → d ≢ x.own.number → is_entry_of d e ≡ false
@@ -376,7 +438,10 @@ module _ (k : Config) (s : Words) (r : Rule k s) (id : ℕ) (hist : List Entry) 
     pub controls : Controls k r.account s.words words'
     pub found : AllFound k live' (next now e).graph words'
     pub placed : Placed k live'
+    pub settled : Settled live'
     pub more : More r.account.live live'
+    pub owes : Owes k live' y
+    pub recalls : (d : ℕ) → d ≢ x.own.number → Recalls d r.account.live live'
     pub stood : Stood live' (next now e) y
     pub area : Area k live' y
     pub making : Making k words' y
@@ -397,6 +462,7 @@ module _ (k : Config) (s : Words) (r : Rule k s) (id : ℕ) (hist : List Entry) 
         calm = subst IsCalm (sym after) o.calm;
         found = subst (λ (t : model.State). AllFound k live' t.graph words') (sym after) o.found;
         placed = o.placed;
+        settled = o.settled;
         phases = o.controls.phases;
         unwished = λ j odd led runs. o.controls.want ∙ r.whole.unwished j odd led runs;
         endings = o.controls.ended ∙ (r.whole.endings ∙ sym (ap (λ (t : model.State). sum_of (is_over t) k.domains) after ∙ sum_same (is_over now) (is_over (next now e)) k.domains (λ d _. command_over now e o.command d)));
@@ -406,7 +472,7 @@ module _ (k : Config) (s : Words) (r : Rule k s) (id : ℕ) (hist : List Entry) 
         cycle = o.controls.cycle;
       }
       (knows_entry y e o.alone o.number o.front)
-      record { stood = subst (λ (t : model.State). Stood live' t y) (sym after) o.stood; area = o.area; making = o.making; staged = staged_as r.account.pause x y o.number o.arrivals o.stage my_good.staged; still = run_still log' y (o.stage ∙ o.runs); hunter = o.hunter; resting = resting_runs k s.words words' x y o.runs (o.stage ∙ o.runs) o.listing my_good.resting; took_back = running_took_back words' y (o.stage ∙ o.runs) }
+      record { stood = subst (λ (t : model.State). Stood live' t y) (sym after) o.stood; area = o.area; making = o.making; staged = staged_as r.account.pause x y o.number o.arrivals o.stage my_good.staged; still = run_still log' y (o.stage ∙ o.runs); hunter = o.hunter; resting = resting_runs k s.words words' x y o.runs (o.stage ∙ o.runs) o.listing my_good.resting; took_back = running_took_back words' y (o.stage ∙ o.runs); owes = o.owes }
       (λ z _ other g. record {
         stood = subst (λ (t : model.State). Stood live' t z) (sym after) (stood_other r.account.live live' now (next now e) z (keeps_next now e z.own.number (o.alone z.own.number other)) o.more g.stood);
         area = o.areas z other g.area;
@@ -416,6 +482,7 @@ module _ (k : Config) (s : Words) (r : Rule k s) (id : ℕ) (hist : List Entry) 
         hunter = o.hunters z other g;
         resting = resting_other k r.account.pause s.words words' x z o.runs my_good.staged g.staged g.resting;
         took_back = λ kind leads last. o.controls.want ∙ g.took_back kind leads last;
+        owes = owes_run k r.account.live live' z z o.settled (quiet_in k r.account.live z g.owes (λ e. nobody_paused r.account.pause x z o.runs my_good.staged g.staged (subst IsInPause (sym e) tt))) refl refl o.more (o.recalls z.own.number other) g.owes;
       })
 
   -- What a step owes at which no entry stands and nothing comes to live or moves
@@ -428,6 +495,8 @@ module _ (k : Config) (s : Words) (r : Rule k s) (id : ℕ) (hist : List Entry) 
     pub still : Still r.account.log y
     pub stage : y.seen.stage ≡ x.seen.stage
     pub notes : y.seen.notes ≡ x.seen.notes
+    pub copying : y.seen.copying ≡ x.seen.copying
+    pub remembered : y.seen.remembered ≡ x.seen.remembered
     pub arrivals : y.own.arrivals ≡ x.own.arrivals
     pub wide : length words' ≡ length s.words
     pub controls : Controls k r.account s.words words'
@@ -449,6 +518,7 @@ module _ (k : Config) (s : Words) (r : Rule k s) (id : ℕ) (hist : List Entry) 
         calm = r.whole.calm;
         found = o.found;
         placed = r.whole.placed;
+        settled = r.whole.settled;
         phases = o.controls.phases;
         unwished = λ j odd led runs. o.controls.want ∙ r.whole.unwished j odd led runs;
         endings = o.controls.ended ∙ r.whole.endings;
@@ -458,8 +528,8 @@ module _ (k : Config) (s : Words) (r : Rule k s) (id : ℕ) (hist : List Entry) 
         cycle = o.controls.cycle;
       }
       (knows_front y o.number o.front)
-      record { stood = o.stood; area = o.area; making = o.making; staged = staged_as r.account.pause x y o.number o.arrivals o.stage my_good.staged; still = o.still; hunter = o.hunter; resting = resting_as k words' x y o.number o.stage o.hunt o.free o.listing (resting_lists k s.words words' x o.controls.lists my_good.resting); took_back = λ kind leads last. o.controls.want ∙ my_good.took_back kind (sym o.stage ∙ leads) (sym (ap last_note o.notes) ∙ last) }
-      (λ z _ other g. record { stood = g.stood; area = g.area; making = o.makings z other g.area g.making; staged = g.staged; still = g.still; hunter = o.hunters z other g; resting = resting_lists k s.words words' z o.controls.lists g.resting; took_back = λ kind leads last. o.controls.want ∙ g.took_back kind leads last })
+      record { stood = o.stood; area = o.area; making = o.making; staged = staged_as r.account.pause x y o.number o.arrivals o.stage my_good.staged; still = o.still; hunter = o.hunter; resting = resting_as k words' x y o.number o.stage o.hunt o.free o.listing (resting_lists k s.words words' x o.controls.lists my_good.resting); took_back = λ kind leads last. o.controls.want ∙ my_good.took_back kind (sym o.stage ∙ leads) (sym (ap last_note o.notes) ∙ last); owes = owes_as k r.account.live x y o.number o.copying o.stage o.remembered my_good.owes }
+      (λ z _ other g. record { stood = g.stood; area = g.area; making = o.makings z other g.area g.making; staged = g.staged; still = g.still; hunter = o.hunters z other g; resting = resting_lists k s.words words' z o.controls.lists g.resting; took_back = λ kind leads last. o.controls.want ∙ g.took_back kind leads last; owes = g.owes })
 
   -- a step that leaves all but the front, which is then some front of the history
   pub looks : (front : List Entry) → IsFrontOf x.own.number r.account.log front → (IsInPause x.seen.stage → front ≡ r.account.log) → Rule k record { words = s.words; homes = s.homes; views = set s.views id (one k hist (with_front x front)) }
@@ -472,6 +542,8 @@ module _ (k : Config) (s : Words) (r : Rule k s) (id : ℕ) (hist : List Entry) 
     still = still;
     stage = refl;
     notes = refl;
+    copying = refl;
+    remembered = refl;
     arrivals = refl;
     wide = refl;
     controls = controls_kept s.words (control_same k s.words);
@@ -511,6 +583,7 @@ module _ (k : Config) (s : Words) (r : Rule k s) (id : ℕ) (hist : List Entry) 
         calm = r.whole.calm;
         found = o.found;
         placed = r.whole.placed;
+        settled = r.whole.settled;
         phases = o.phases;
         unwished = λ j odd led runs. o.want ∙ r.whole.unwished j odd led runs;
         endings = o.endings ∙ r.whole.endings;
@@ -529,8 +602,9 @@ module _ (k : Config) (s : Words) (r : Rule k s) (id : ℕ) (hist : List Entry) 
         hunter = o.hunter;
         resting = resting_runs k s.words words' x (hunting_free x looked hunt free) o.runs o.runs refl my_good.resting;
         took_back = λ kind leads last. o.want ∙ my_good.took_back kind leads last;
+        owes = owes_as k r.account.live x (hunting_free x looked hunt free) refl refl refl refl my_good.owes;
       }
-      (λ z _ other g. record { stood = g.stood; area = g.area; making = o.makings z g.making; staged = g.staged; still = g.still; hunter = o.hunters z other g; resting = resting_other k r.account.pause s.words words' x z o.runs my_good.staged g.staged g.resting; took_back = λ kind leads last. o.want ∙ g.took_back kind leads last })
+      (λ z _ other g. record { stood = g.stood; area = g.area; making = o.makings z g.making; staged = g.staged; still = g.still; hunter = o.hunters z other g; resting = resting_other k r.account.pause s.words words' x z o.runs my_good.staged g.staged g.resting; took_back = λ kind leads last. o.want ∙ g.took_back kind leads last; owes = g.owes })
 
 -- a load leaves the words as they were
 pub unmoved : (k : Config) (s : Words) (at : ℕ) (views : List View) → Rule k record { words = s.words; homes = s.homes; views = views }

@@ -7,6 +7,7 @@ pub mod Keeps
 pub mod Classes
 pub mod Looks
 pub mod Lots
+pub mod Again
 pub mod Holders
 pub mod Entering
 pub mod Controls

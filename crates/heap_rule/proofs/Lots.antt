@@ -1,6 +1,6 @@
 -- What a written word leaves of the pools.
 use Rattle.heap_model.specs.Domains.{class_count}
-use Rattle.std.proofs.Common.{◌≡◌, ◌≢◌, ℕ, ◌+◌, ◌*◌, ◌<◌, ◌≤◌, ◌⊎◌, List, length, get_or, set, Some, sym, ap, ◌∙◌, subst, inl, inr, ⊎_elim, arith, get_or-set_other, lt_of_not-le, None, false}
+use Rattle.std.proofs.Common.{◌^◌, Option, None, ◌≡◌, ◌≢◌, ℕ, ◌+◌, ◌*◌, ◌<◌, ◌≤◌, ◌⊎◌, List, length, get_or, set, Some, sym, ap, ◌∙◌, subst, inl, inr, ⊎_elim, arith, get_or-set_other, lt_of_not-le, false}
 use mathlib.Core.Logic.{dite}
 use native.Mathlib.Decide.{ℕ_discrete, dec_le}
 use Rattle.heap_rule.specs.declared.config.Config.{Config}
@@ -8,13 +8,13 @@ use Rattle.heap_rule.specs.declared.view.Hunt.{Hunt}
 use Rattle.heap_rule.specs.declared.view.Hunt.TheVariants.{Rests, Counts, Asks, Draws, Walks, Fills}
 use Rattle.heap_rule.specs.declared.view.DomainView.{DomainView}
 use Rattle.heap_rule.specs.Layout.{before_heap, at_address}
-use Rattle.heap_rule.specs.Places.{unmarked, Place, Live, extent, head_of, Found}
+use Rattle.heap_rule.specs.Places.{unmarked, Place, Live, extent, head_of, Found, HeadIs, More}
 use Rattle.heap_model.specs.Graph.{Graph}
 use Rattle.heap_model.specs.Fronts.{Shape, PlainShape, RawShape, EpheShape}
 use Rattle.heap_words.specs.Heads.{head_word}
 use Rattle.heap_rule.specs.Pools.{Holder, drawn, owned, Tenancy, Pools, Grid, Hunts, Hunter, place_in, size_of, blocks_of, limit_of}
 use Rattle.heap_rule.proofs.Lists.{got_below}
-use Rattle.heap_rule.proofs.Keeps.{control_set, More}
+use Rattle.heap_rule.proofs.Keeps.{control_set}
 use Rattle.heap_rule.proofs.Classes.{size_least, slot_below, slot_inside}
 
 -- the pool of one holder isn't that of another
@@ -97,7 +97,7 @@ module _ (k : Config) (t : Tenancy) (words : List ℕ) (at new : ℕ) where
   pub grid_beside : (live live' : Live) → (p : Pools k t words) → ((d : ℕ) → Beside k t words d at) → More live live' → ((a : ℕ) (q : Place) → live' a ≡ Some q → a ≤ k.pools * 4096 → live a ≡ Some q) → Grid k t.holder live words → Grid k t.holder live' ws
   grid_beside live live' p b more old g = record {
     lots = λ a q lives low. g.lots a q (old a q lives low) low;
-    places = λ q d c slot is inside. ⊎_elim (λ (h : at_address k words (place_in q c slot) ≡ 0). inl (place_stays p d (b d) q c slot is inside ∙ h)) (λ (h : (o : Place) × (live (place_in q c slot) ≡ Some o)). inr (h.0, more (place_in q c slot) h.0 h.1)) (g.places q d c slot is inside);
+    places = λ q d c slot is inside. ⊎_elim (λ (h : at_address k words (place_in q c slot) ≡ 0). inl (place_stays p d (b d) q c slot is inside ∙ h)) (λ (h : (o : Place) × (live (place_in q c slot) ≡ Some o)). (let m = more (place_in q c slot) h.0 h.1 in inr (m.place, m.lives))) (g.places q d c slot is inside);
   }
 
   -- a word of a minor area is beside all pools
@@ -120,8 +120,13 @@ head_some (PlainShape size tag) e = omega arith
 head_some (RawShape size tag) e = omega arith
 head_some (EpheShape keys) e = omega arith
 
+-- nor is one that forwards
+head_at_some : (forward : Option ℕ) (shape : Shape) (word : ℕ) → HeadIs forward shape unmarked false word → word ≢ 0
+head_at_some None shape word h e = head_some shape (sym h ∙ e)
+head_at_some (Some copy) shape word h e = let f : 3 + 2 ^ 32 * copy ≡ 0 = sym h ∙ e in omega arith
+
 pub head_full : (k : Config) (live : Live) (graph : Graph) (words : List ℕ) (a : ℕ) (o : Place) → Found k live graph words a o → at_address k words a ≢ 0
-head_full k live graph words a o f e = head_some o.shape (sym f.head ∙ e)
+head_full k live graph words a o f e = head_at_some o.forward o.shape (at_address k words a) f.head e
 
 holder_clash : (d e c : ℕ) → ◌≡◌ {A = Holder} (drawn d) (owned e c) → ⊥
 holder_clash d e c h = cc

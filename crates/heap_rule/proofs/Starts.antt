@@ -1,4 +1,5 @@
 -- The table at the start meets the rule.
+use Rattle.heap_rule.specs.Copies.{Owes}
 use Rattle.std.proofs.Common.{◌≡◌, ◌≢◌, ℕ, zero, suc, ◌+◌, ◌*◌, ◌<◌, ◌≤◌, lit<, false, List, [], ◌∷◌, get_or, replicate, slice_get, pos, Option, Some, None, sym, refl, ap, ◌∙◌, subst, inl, arith, unwrap_or, ◌-◌, ◌⊎◌, inr, ⊎_elim}
 use Rattle.std.proofs.lemmas.Int.{ints}
 use mathlib.Core.Logic.{dite}
@@ -19,7 +20,7 @@ use Rattle.heap_rule.specs.declared.view.Spot.{Spot}
 use Rattle.heap_rule.specs.declared.view.View.{View}
 use Rattle.heap_rule.specs.Limits.{sizes_in}
 use Rattle.heap_rule.specs.Layout.{heap_words, at_address, listed_pool, owner_of, listed, cursor}
-use Rattle.heap_rule.specs.Places.{Place, Live, extent, Stands, Found, Fits, Placed}
+use Rattle.heap_rule.specs.Places.{Place, Live, extent, Stands, Found, Fits, Placed, IsBare, Settled, IsOldWord, Debt}
 use Rattle.heap_rule.specs.Changes.{value_at}
 use Rattle.heap_rule.specs.declared.phase.Kind.TheVariants.{Run}
 use Rattle.heap_rule.specs.Phases.{Pause, sum_of, is_over, flag}
@@ -33,7 +34,7 @@ use Rattle.heap_rule.proofs.Update.{over, over_here, over_else}
 use Rattle.heap_rule.proofs.Sizes.{heap_large}
 
 abbrev shared_place : Place
-shared_place = record { label = shared_label; shape = PlainShape 16 0 }
+shared_place = record { label = shared_label; shape = PlainShape 16 0; forward = None; owed = None; named = λ _. None }
 
 only : Live
 only = over 1 (Some shared_place) (λ _. None)
@@ -140,11 +141,12 @@ module _ (k : Config) (limits : IsWithinLimits (sizes_in k)) (words : List ℕ) 
     shape = refl;
     head = opens.head;
     label = opens.label;
-    values = λ i v e. let t = zero_field 16 i v e in record {
+    values = λ i v _ e. let t = zero_field 16 i v e in record {
       value = IntWord (pos 0);
       packs = ap (λ j. get_or words j 0) (let g : 10 + 2 * k.pools + (1 + 2 + i) ≡ 10 + 2 * k.pools + (3 + i) = omega arith in g) ∙ opens.fields i t.0;
       stands = subst (Stands only (IntWord (pos 0))) (sym t.1) (refl, (omega (arith, ints), omega (arith, ints)));
     };
+    old = λ _ i inside _ _. subst (IsOldWord k) (sym (ap (λ j. get_or words j 0) (let g : 10 + 2 * k.pools + (1 + 2 + i) ≡ 10 + 2 * k.pools + (3 + i) = omega arith in g) ∙ opens.fields i (let h : i + 2 < 18 = inside in omega arith))) (inl refl);
   }
 
   fits : Fits k 1 shared_place
@@ -153,8 +155,22 @@ module _ (k : Config) (limits : IsWithinLimits (sizes_in k)) (words : List ℕ) 
   placed : Placed k only
   placed = record {
     fits = λ a p e. let t = only_at a p e in subst (λ (x : ℕ × Place). Fits k x.0 x.1) (λ i. (sym t.0 i, t.1 i)) fits;
-    once = λ a b p q e f same. (only_at a p e).0 ∙ sym (only_at b q f).0;
+    once = λ a b p q e f same _ _. (only_at a p e).0 ∙ sym (only_at b q f).0;
     apart = λ a b p q e f ne. absurd (ne ((only_at a p e).0 ∙ sym (only_at b q f).0));
+  }
+
+  only_settled : Settled only
+  only_settled a p e = subst IsBare (only_at a p e).1 record { no_forward = refl; no_debt = refl }
+
+  first_owes : (d : ℕ) → Owes k only (opening_view d)
+  first_owes d = record {
+    quiet = inl refl;
+    knows = λ a p e. let f : ◌≡◌ {A = Option Place} None (Some p) = e in cc;
+    owed = λ i o e. cc;
+    once = λ i j o q e f g. cc;
+    listed = λ c p debt lives owed _. absurd (let e : ◌≡◌ {A = Option Debt} None (Some debt) = sym (only_settled c p lives).no_debt ∙ owed in cc);
+    recalled = λ b p i lives named. absurd (let e : ◌≡◌ {A = Option ℕ} None (Some d) = ap (λ (z : Place). z.named i) (only_at b p lives).1 ∙ named in cc);
+    fields = λ j a e. cc;
   }
 
   stood : (d : ℕ) → d < k.domains → Stood only s0 (opening_view d)
@@ -237,6 +253,7 @@ module _ (k : Config) (limits : IsWithinLimits (sizes_in k)) (words : List ℕ) 
     calm = record { mode = refl; queues = queues_empty k.domains };
     found = λ a p e. let t = only_at a p e in subst (λ (x : ℕ × Place). Found k only s0.graph words x.0 x.1) (λ i. (sym t.0 i, t.1 i)) found;
     placed = placed;
+    settled = only_settled;
     phases = record {
       sum = opens.rested.arrivals ∙ sym (sum_zero k.domains);
       begun = omega arith;
@@ -275,6 +292,7 @@ module _ (k : Config) (limits : IsWithinLimits (sizes_in k)) (words : List ℕ) 
           making = record { fits = λ j w e. cc; written = λ j w e. cc };
           staged = record { arrivals = refl; stage = (refl, (0, refl, refl)) };
           still = λ paused. absurd paused;
+          owes = first_owes x;
           hunter = record {
             hunt = tt;
             free = λ f e. absurd (no_free f e);

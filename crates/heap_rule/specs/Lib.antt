@@ -7,6 +7,7 @@ pub mod Reads
 pub mod Views
 pub mod Phases
 pub mod Pools
+pub mod Copies
 pub mod Rule
 pub mod Meeting
 pub mod Token

@@ -1,5 +1,5 @@
 -- What lives at the addresses, and when words stand for it.
-use Rattle.std.specs.Prelude.{◌≡◌, ◌≢◌, ℕ, ◌+◌, ◌≤◌, ◌⊎◌, Bool, false, List, ◌∷◌, map, slice_get, Option, Some, None}
+use Rattle.std.specs.Prelude.{◌≡◌, ◌≢◌, ℕ, ◌+◌, ◌*◌, ◌%◌, ◌<◌, ◌≤◌, ◌⊎◌, Bool, false, List, ◌∷◌, map, slice_get, Option, Some, None}
 use Rattle.heap_model.specs.declared.label.Label.{Label}
 use Rattle.heap_model.specs.declared.graph.Value.{Value}
 use Rattle.heap_model.specs.declared.graph.Value.TheVariants.{Int, Block, Nothing}
@@ -18,10 +18,24 @@ use Rattle.heap_words.specs.Labels.{IsPackableLabel, label_word}
 use Rattle.heap_rule.specs.declared.config.Config.{Config}
 use Rattle.heap_rule.specs.Layout.{heap_words, at_address}
 
--- a block: its label, and its shape
+-- what is owed to a copy that isn't filled yet: the young block that it is a copy of, the domain that fills it, and how many of its values it has
+pub record Debt : Type 0 where
+  pub source : ℕ
+  pub domain : ℕ
+  pub filled : ℕ
+
+-- a block: its label and its shape, the copy to which its head forwards, what is owed to it, and which domain remembers its i-th value
 pub record Place : Type 0 where
   pub label : Label
   pub shape : Shape
+  pub forward : Option ℕ
+  pub owed : Option Debt
+  pub named : ℕ → Option ℕ
+
+-- a block as running domains have it: it neither forwards nor is owed anything
+pub record IsBare (p : Place) : Type 0 where
+  pub no_forward : p.forward ≡ None
+  pub no_debt : p.owed ≡ None
 
 -- which block lives at an address
 abbrev pub Live : Type 0
@@ -65,6 +79,11 @@ pub record IsHeadOf (shape : Shape) (word : ℕ) : Type 0 where
   pub packable : IsPackableHead (head_of None shape colour scanned)
   pub packs : HeadIs None shape colour scanned word
 
+-- the block has its i-th value
+abbrev pub HasValue : Option Debt → ℕ → Type 0
+HasValue None i = Unit {0}
+HasValue (Some debt) i = i < debt.filled
+
 -- a value with addresses stands for a value of the graph
 abbrev pub Stands : Live → words.Value → Value → Type 0
 Stands live (IntWord z) (Int v) = (z ≡ v) × IsPackable (IntWord z)
@@ -90,14 +109,23 @@ Shows (Ref a) (Block l) = Unit {0}
 Shows NothingWord Nothing = Unit {0}
 Shows _ _ = ⊥
 
--- the words at an address are the node of the block that lives there
+-- the addresses of the pools come before those of the minor areas
+abbrev pub IsOldAt : Config → ℕ → Type 0
+IsOldAt k a = a ≤ k.pools * 4096
+
+-- the word is no address in a minor area
+abbrev pub IsOldWord : Config → ℕ → Type 0
+IsOldWord k word = (word % 2 ≡ 1) ⊎ (word ≤ 2 * (k.pools * 4096))
+
+-- the words at an address are the node of the block that lives there, as far as it is filled
 pub record Found (k : Config) (live : Live) (graph : Graph) (words : List ℕ) (a : ℕ) (p : Place) : Type 0 where
   pub node : Node
   pub there : node_at graph p.label ≡ Some node
   pub shape : shape_of node ≡ p.shape
-  pub head : HeadIs None p.shape unmarked false (at_address k words a)
+  pub head : HeadIs p.forward p.shape unmarked false (at_address k words a)
   pub label : at_address k words (a + 1) ≡ label_word p.label.domain p.label.serial
-  pub values : (i : ℕ) (v : Value) → slice_get (values_of node) i ≡ Some v → WordStands live (at_address k words (a + 2 + i)) v
+  pub values : (i : ℕ) (v : Value) → HasValue p.owed i → slice_get (values_of node) i ≡ Some v → WordStands live (at_address k words (a + 2 + i)) v
+  pub old : IsOldAt k a → (i : ℕ) → i + 2 < extent p.shape → HasValue p.owed i → p.named i ≡ None → IsOldWord k (at_address k words (a + 2 + i))
 
 -- no step makes a raw block yet
 abbrev pub IsBuilt : Shape → Type 0
@@ -112,8 +140,23 @@ pub record Fits (k : Config) (a : ℕ) (p : Place) : Type 0 where
   pub head : IsPackableHead (head_of None p.shape unmarked false)
   pub label : IsPackableLabel (p.label.domain, p.label.serial)
 
--- how blocks lie: each fits, no two have one label, and no two share a word
+-- how blocks lie: each fits, no two that don't forward have one label, and no two share a word
 pub record Placed (k : Config) (live : Live) : Type 0 where
   pub fits : (a : ℕ) (p : Place) → live a ≡ Some p → Fits k a p
-  pub once : (a b : ℕ) (p q : Place) → live a ≡ Some p → live b ≡ Some q → p.label ≡ q.label → a ≡ b
+  pub once : (a b : ℕ) (p q : Place) → live a ≡ Some p → live b ≡ Some q → p.label ≡ q.label → p.forward ≡ None → q.forward ≡ None → a ≡ b
   pub apart : (a b : ℕ) (p q : Place) → live a ≡ Some p → live b ≡ Some q → a ≢ b → (a + extent p.shape ≤ b) ⊎ (b + extent q.shape ≤ a)
+
+-- nothing forwards, and no copy is owed anything
+abbrev pub Settled : Live → Type 0
+Settled live = (a : ℕ) (p : Place) → live a ≡ Some p → IsBare p
+
+-- the block at an address lives there again, as the same block
+pub record Lasts (live : Live) (a : ℕ) (p : Place) : Type 0 where
+  pub place : Place
+  pub lives : live a ≡ Some place
+  pub label : place.label ≡ p.label
+  pub shape : place.shape ≡ p.shape
+
+-- each block of the one lives in the other
+abbrev pub More : Live → Live → Type 0
+More live live' = (a : ℕ) (p : Place) → live a ≡ Some p → Lasts live' a p

@@ -12,7 +12,8 @@ use Rattle.heap_rule.specs.declared.view.DomainView.{DomainView}
 use Rattle.heap_rule.specs.declared.view.View.{View}
 use Rattle.heap_rule.specs.Limits.{sizes_in}
 use Rattle.heap_rule.specs.Layout.{table_words, base_of, at_address, barrier, plan, want, ended_word, armed, colours}
-use Rattle.heap_rule.specs.Places.{Place, Live, extent, Stands, Found, Placed}
+use Rattle.heap_rule.specs.Places.{Place, Live, extent, Stands, Found, Placed, Settled}
+use Rattle.heap_rule.specs.Copies.{Owes}
 use Rattle.heap_rule.specs.Pools.{Tenancy, Pools, Grid, Drawers, Resting, Hunter}
 use Rattle.heap_rule.specs.Changes.{value_at}
 use Rattle.heap_rule.specs.Phases.{Pause, Phases, Staged, Still, TookBack, Unwished, CountsEnded}
@@ -59,6 +60,7 @@ pub record Good (k : Config) (all : Account) (words : List ℕ) (x : DomainView)
   pub hunter : Hunter k all.tenancy words x
   pub resting : Resting k words x
   pub took_back : TookBack words x
+  pub owes : Owes k all.live x
 
 -- at the start no domain asks for a collection, none has arrived anywhere, and no trace has ended
 pub record Rested (words : List ℕ) : Type 0 where
@@ -79,6 +81,7 @@ pub record Whole (k : Config) (all : Account) (words : List ℕ) : Type 0 where
   pub calm : IsCalm (state_of k all.log)
   pub found : AllFound k all.live (state_of k all.log).graph words
   pub placed : Placed k all.live
+  pub settled : Settled all.live
   pub phases : Phases k all.pause words
   pub unwished : Unwished all.pause words
   pub endings : CountsEnded k (state_of k all.log) words

@@ -54,7 +54,7 @@ one k h x = record { config = k; history = h; domains = x ∷ [] }
 abbrev pub opening_view : ℕ → DomainView
 opening_view d = record {
   own = record { number = d; registers = Ref 1 ∷ replicate 15 Nothing; used = 0; serial = 0; arrivals = 0; looked = replicate class_count (record { pool = 0; slot = 0 }) };
-  seen = record { front = []; made = []; stage = In Run; notes = []; hunt = Rests; free = None; listing = None };
+  seen = record { front = []; made = []; stage = In Run; notes = []; hunt = Rests; free = None; listing = None; copying = record { met = []; pending = [] }; remembered = [] };
 }
 
 -- n domains from d on

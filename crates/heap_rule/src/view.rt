@@ -4,6 +4,7 @@ ghost use Rattle.std.specs.Prelude.{◌≡◌};
 use crate::config::Config;
 use crate::phase::{Note, Stage};
 use heap_model::entry::Entry;
+use heap_model::label::Label;
 use heap_words::Value;
 use size_classes::CLASS_COUNT;
 use std::collections::LinkedList;
@@ -76,6 +77,32 @@ pub struct Own {
     pub looked: [Spot; CLASS_COUNT],
 }
 
+/// The shape of a block.
+pub enum Form {
+    Plain { size: u16, tag: u8 },
+    Ephe { keys: u16 },
+}
+
+/// A block that a domain has met.
+pub struct Met {
+    pub address: u32,
+    pub label: Label,
+    pub form: Form,
+}
+
+/// A copy that a domain is to fill from a young block, and how many values it has.
+pub struct Owing {
+    pub copy: u32,
+    pub source: u32,
+    pub filled: u32,
+}
+
+/// What a domain has met in a collection of young blocks, and which copies it is to fill.
+pub struct Copying {
+    pub met: LinkedList<Met>,
+    pub pending: LinkedList<Owing>,
+}
+
 /// What contracts alone know of a domain.
 pub struct Seen {
     /// The history as far as the domain has seen it.
@@ -92,6 +119,10 @@ pub struct Seen {
     pub free: Option<u64>,
     /// The list of free pools, since the domain began to write it in this phase.
     pub listing: Option<Listing>,
+    /// What it has met and owes in a collection of young blocks.
+    pub copying: Copying,
+    /// The fields of blocks in pools into which it stored addresses of its area or others'.
+    pub remembered: LinkedList<u32>,
 }
 
 /// A domain: what its token holds, and what contracts alone know of it.
