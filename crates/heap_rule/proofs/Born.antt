@@ -1,14 +1,19 @@
 -- A new block comes to live at an address.
 use Rattle.heap_rule.specs.Copies.{Recalls}
-use Rattle.std.proofs.Common.{◌≡◌, ◌≢◌, ℕ, zero, suc, ◌+◌, ◌≤◌, ◌⊎◌, List, get_or, replicate, slice_get, pos, Option, Some, None, unwrap_or, refl, sym, ap, ◌∙◌, subst, inl, inr, ⊎_elim, arith}
+use Rattle.std.proofs.Common.{◌*◌, ◌≡◌, ◌≢◌, ℕ, zero, suc, ◌+◌, ◌<◌, ◌≤◌, ◌⊎◌, List, get_or, replicate, slice_get, pos, Option, Some, None, unwrap_or, refl, sym, ap, ◌∙◌, subst, inl, inr, ⊎_elim, arith}
 use mathlib.Core.Logic.{dite}
 use native.Mathlib.Decide.{ℕ_discrete}
 use Rattle.heap_model.specs.declared.graph.Value as graph_value
 use Rattle.heap_model.specs.declared.graph.Value.TheVariants.{Int, Nothing}
 use Rattle.heap_words.specs.declared.value.Value.{Value}
 use Rattle.heap_rule.specs.declared.config.Config.{Config}
+use Rattle.heap_model.specs.Domains.{reserve}
+use Rattle.heap_rule.specs.declared.view.DomainView.{DomainView}
+use Rattle.heap_rule.specs.Limits.{sizes_in}
+use Rattle.heap_rule.specs.Layout.{heap_words, base_of, listed}
+use Rattle.heap_rule.specs.Room.{Opened}
 use Rattle.heap_rule.specs.Changes.{value_at}
-use Rattle.heap_rule.specs.Places.{Place, Live, extent, Fits, Placed, Settled, IsBare, More}
+use Rattle.heap_rule.specs.Places.{Place, Live, extent, span, Fits, Placed, Spread, Settled, IsBare, More}
 use Rattle.heap_rule.proofs.Update.{over, over_here, over_else}
 use Rattle.heap_rule.proofs.Values.{AllStand, extent_large}
 use Rattle.heap_rule.proofs.Keeps.{stands_more}
@@ -82,3 +87,40 @@ module _ (k : Config) (live : Live) (A : ℕ) (p : Place) (some : 1 ≤ extent p
   recalls_born none d b q i lives named = dite (ℕ_discrete b A)
       (λ same. absurd (let e : ◌≡◌ {A = Option ℕ} None (Some d) = sym (none i) ∙ (ap (λ (z : Place). z.named i) (is_new b q same lives) ∙ named) in cc))
       (λ other. record { place = q; lives = old b q other lives; named = named })
+
+  pub naming_born : ((i : ℕ) → p.named i ≡ None) → ((b : ℕ) (q : Place) (i d : ℕ) → live b ≡ Some q → q.named i ≡ Some d → (d < k.domains) × (i + 2 < extent q.shape)) → (b : ℕ) (q : Place) (i d : ℕ) → live' b ≡ Some q → q.named i ≡ Some d → (d < k.domains) × (i + 2 < extent q.shape)
+  naming_born none naming b q i d lives named = dite (ℕ_discrete b A)
+      (λ same. absurd (let e : ◌≡◌ {A = Option ℕ} None (Some d) = sym (none i) ∙ (ap (λ (z : Place). z.named i) (is_new b q same lives) ∙ named) in cc))
+      (λ other. naming b q i d (old b q other lives) named)
+
+  -- where the new block lies so in a minor area, blocks lie there as they should
+  pub spread_born : (k.pools * 4096 < A → A + span p.shape ≤ heap_words k + 1) → ((b : ℕ) (q : Place) → live b ≡ Some q → k.pools * 4096 < b → b < A → b + span q.shape ≤ A) → ((b : ℕ) (q : Place) → live b ≡ Some q → k.pools * 4096 < A → A < b → A + span p.shape ≤ b)
+      → Spread k live → Spread k live'
+  spread_born fits before after s = record {
+    apart = λ b c q o lives lives' young below. dite (ℕ_discrete b A)
+        (λ same. dite (ℕ_discrete c A)
+        (λ same'. absurd (let e : b ≡ A = same in let f : c ≡ A = same' in omega arith))
+        (λ other'. subst (λ (z : ℕ × Place). z.0 + span z.1.shape ≤ c) (λ j. (sym same j, is_new b q same lives j))
+            (after c o (old c o other' lives') (let e : b ≡ A = same in omega arith) (let e : b ≡ A = same in omega arith))))
+        (λ other. dite (ℕ_discrete c A)
+        (λ same'. subst (λ (z : ℕ). b + span q.shape ≤ z) (sym same') (before b q (old b q other lives) young (let e : c ≡ A = same' in omega arith)))
+        (λ other'. s.apart b c q o (old b q other lives) (old c o other' lives') young below));
+    inside = λ b q lives young. dite (ℕ_discrete b A)
+        (λ same. subst (λ (z : ℕ × Place). z.0 + span z.1.shape ≤ heap_words k + 1) (λ j. (sym same j, is_new b q same lives j)) (fits (let e : b ≡ A = same in omega arith)))
+        (λ other. s.inside b q (old b q other lives) young);
+  }
+
+  -- and where it lies there, the reserve is listed
+  pub opened_born : (words : List ℕ) → (k.pools * 4096 < A → reserve (sizes_in k) ≤ listed words) → Opened k live words → Opened k live' words
+  opened_born words enough o b q lives young = dite (ℕ_discrete b A)
+      (λ same. enough (let e : b ≡ A = same in omega arith))
+      (λ other. o b q (old b q other lives) young)
+
+  -- a domain's area has the words of the blocks' classes
+  pub classes_born : (x y : DomainView) → base_of k y.own.number ≡ base_of k x.own.number → ((b : ℕ) (q : Place) → live b ≡ Some q → k.pools * 4096 < b → (b + span q.shape ≤ base_of k x.own.number + x.own.used) ⊎ (base_of k x.own.number + k.minor_words ≤ b))
+      → x.own.used ≤ y.own.used → (k.pools * 4096 < A → (A + span p.shape ≤ base_of k y.own.number + y.own.used) ⊎ (base_of k y.own.number + k.minor_words ≤ A))
+      → (b : ℕ) (q : Place) → live' b ≡ Some q → k.pools * 4096 < b → (b + span q.shape ≤ base_of k y.own.number + y.own.used) ⊎ (base_of k y.own.number + k.minor_words ≤ b)
+  classes_born x y base classes more here b q lives young = dite (ℕ_discrete b A)
+      (λ same. subst (λ (z : ℕ × Place). (z.0 + span z.1.shape ≤ base_of k y.own.number + y.own.used) ⊎ (base_of k y.own.number + k.minor_words ≤ z.0)) (λ j. (sym same j, is_new b q same lives j)) (here (let e : b ≡ A = same in omega arith)))
+      (λ other. let m : ℕ = base_of k x.own.number in let n : ℕ = base_of k y.own.number in let e : n ≡ m = base in let w : ℕ = span q.shape in
+      ⊎_elim (λ (h : b + w ≤ m + x.own.used). inl (let g : b + w ≤ n + y.own.used = omega arith in g)) (λ (h : m + k.minor_words ≤ b). inr (let g : n + k.minor_words ≤ b = omega arith in g)) (classes b q (old b q other lives) young))

@@ -11,17 +11,20 @@ use Rattle.heap_rule.specs.declared.config.Config.{Config}
 use Rattle.heap_rule.specs.declared.phase.Stage.{Stage}
 use Rattle.heap_rule.specs.declared.phase.Note.{Note}
 use Rattle.heap_rule.specs.declared.view.DomainView.{DomainView}
-use Rattle.heap_rule.specs.Layout.{before_heap, ended_word, cursor}
-use Rattle.heap_rule.specs.Places.{unmarked, Place, Live, HeadIs, IsOldWord}
+use Rattle.heap_rule.specs.Layout.{before_heap, ended_word, cursor, listed}
+use Rattle.heap_rule.specs.Places.{unmarked, Place, Live, HeadIs, IsOldWord, Settled}
 use Rattle.heap_rule.specs.declared.view.Copying.{Copying}
-use Rattle.heap_rule.specs.Copies.{Owes}
-use Rattle.heap_rule.specs.Phases.{Pause, Phases, sum_of, IsEven, IsOdd, Staged, Still, TookBack, Unwished, last_from, last_note}
-use Rattle.heap_rule.specs.Pools.{Holder, Tenancy, Pools, Grid, Drawers, Resting, Hunter, Lists}
+use Rattle.heap_rule.specs.Copies.{Owes, Promoting, AllCleared, Emptied, Rooted}
+use Rattle.heap_rule.specs.Phases.{Pause, Phases, sum_of, IsEven, IsOdd, Staged, Still, TookBack, HasSetBack, Unwished, last_from, last_note}
+use Rattle.heap_rule.specs.Pools.{Stock, Reserved, limit_of, Holder, Tenancy, Pools, Grid, Drawers, Resting, Hunter, Lists}
 use Rattle.heap_rule.specs.declared.view.Listing.{Listing}
 use Rattle.heap_rule.specs.Rule.{state_of, AllFound, Making, NoCycle, Rule}
+use Rattle.heap_rule.specs.Room.{Room, IsUnused, Drawable}
+use Rattle.remembered_set.specs.Bounded.{Bounded}
+use Rattle.heap_rule.specs.declared.view.Copied.{Copied}
 use Rattle.heap_rule.specs.Views.{one}
-use Rattle.heap_rule.proofs.Holders.{Agrees, grid_heap, same_self, hunter_agree}
-use Rattle.heap_rule.proofs.Keeps.{Words, mine, my_good, remakes, knows_front, phases_words, pools_words, lists_same, resting_lists, owes_as}
+use Rattle.heap_rule.proofs.Holders.{Agrees, agrees_same, grid_heap, same_self, hunter_agree, SameStock, stock_self}
+use Rattle.heap_rule.proofs.Keeps.{Words, mine, my_good, remakes, knows_front, phases_words, pools_words, lists_same, resting_lists, owes_as, hunter_as, room_words, opened_words}
 
 -- all words stay but the first four, want, barrier, plan and changed, and the ended word
 abbrev pub Untouched : List ℕ → List ℕ → Type 0
@@ -59,8 +62,22 @@ agrees_untouched k words words' u = record {
   heap = λ a low. u.1 (before_heap k + a) (omega arith) (λ e. let h : 10 + 2 * k.pools + a ≡ 8 = e in omega arith);
 }
 
-pub grid_untouched : (k : Config) (holder : ℕ → Holder) (live : Live) (words words' : List ℕ) → Untouched words words' → Grid k holder live words → Grid k holder live words'
-grid_untouched k holder live words words' u g = grid_heap k holder live words words' (agrees_untouched k words words' u).heap g
+pub grid_untouched : (k : Config) (t : Tenancy) (live : Live) (words words' : List ℕ) → Untouched words words' → Grid k t live words → Grid k t live words'
+grid_untouched k t live words words' u g = grid_heap k t live words words' (agrees_untouched k words words' u).heap g
+
+pub reserved_untouched : (k : Config) (p : Pause) (t : Tenancy) (words words' : List ℕ) → Untouched words words' → Pools k t words → Reserved k p t words → Reserved k p t words'
+reserved_untouched k p t words words' u pools kept keeps i below above =
+    let n : ℕ = listed words in let n' : ℕ = listed words' in let e : n' ≡ n = u.1 6 (omega arith) (λ e. omega arith) in
+    let few : n ≤ k.pools = pools.few in
+    let low : i < n = (let g : i < n' = below in omega arith) in
+    ap t.holder (u.1 (11 + i) (omega arith) (λ e. omega arith)) ∙ kept keeps i low (subst (λ (m : ℕ). limit_of k m ≤ i) e above)
+
+pub counts_untouched : (words words' : List ℕ) → Untouched words words' → (listed words' ≡ listed words) × (cursor words' ≡ cursor words)
+counts_untouched words words' u = (u.1 6 (omega arith) (λ e. omega arith), u.1 7 (omega arith) (λ e. omega arith))
+
+-- what is known of the cursor and the list stays
+pub low_untouched : (k : Config) (words words' : List ℕ) → Untouched words words' → cursor words ≤ limit_of k (listed words) → cursor words' ≤ limit_of k (listed words')
+low_untouched k words words' u low = let c = counts_untouched words words' u in subst (λ (m : ℕ × ℕ). m.0 ≤ limit_of k m.1) (λ i. (sym c.1 i, sym c.0 i)) low
 
 pub hunter_untouched : (k : Config) (t : Tenancy) (words words' : List ℕ) (z : DomainView) → Untouched words words' → Hunter k t words z → Hunter k t words' z
 hunter_untouched k t words words' z u h = hunter_agree k t t words words' (agrees_untouched k words words' u) z (let e : cursor words' ≡ cursor words = u.1 7 (omega arith) (λ e. omega arith) in let c : ℕ = cursor words in let c' : ℕ = cursor words' in let f : c' ≡ c = e in let l : c ≤ c' = omega arith in l) (same_self t z.own.number) h
@@ -118,13 +135,41 @@ parity zero = inl (0, refl)
 parity (suc n) = ⊎_elim (λ (t : IsEven n). inr (t.0, let j : ℕ = t.0 in let e : n ≡ j * 2 = t.1 in let g : suc n ≡ j * 2 + 1 = omega arith in g))
     (λ (t : IsOdd n). inl (t.0 + 1, let j : ℕ = t.0 in let e : n ≡ j * 2 + 1 = t.1 in let g : suc n ≡ (j + 1) * 2 = omega arith in g)) (parity n)
 
--- a domain's view after a step of a pause
-abbrev pub moved_to : DomainView → ℕ → List Entry → Stage → List Note → Option ℕ → Option Listing → Copying → DomainView
-moved_to x arrivals front stage notes free listing copying = record { own = record x.own { arrivals = arrivals }; seen = record x.seen { front = front; stage = stage; notes = notes; free = free; listing = listing; copying = copying } }
+-- what a domain has used of the pools changes, and nothing of who has them
+pub pools_stock : (k : Config) (t : Tenancy) (stock : Stock) (words : List ℕ) → Pools k t words → Pools k (record t { stock = stock }) words
+pools_stock k t stock words p = record { few = p.few; inside = p.inside; once = p.once; untaken = p.untaken; owners = p.owners; owned_by = p.owned_by; drawn_by = p.drawn_by; one_each = p.one_each; asked = p.asked }
+
+pub grid_stock : (k : Config) (t : Tenancy) (stock : Stock) (live : Live) (words : List ℕ) → Grid k t live words → Grid k (record t { stock = stock }) live words
+grid_stock k t stock live words g = record { lots = g.lots; places = g.places; spares = g.spares }
+
+pub hunter_stock : (k : Config) (t : Tenancy) (stock : Stock) (words : List ℕ) (z : DomainView) → SameStock t.stock stock z.own.number → Hunter k t words z → Hunter k (record t { stock = stock }) words z
+hunter_stock k t stock words z same h = hunter_agree k t (record t { stock = stock }) words words (agrees_same k words) z (let c : ℕ = cursor words in let l : c ≤ c = omega arith in l)
+    record { drawn_to = λ q e. e; drawn_from = λ q e. e; owned_to = λ q c e. e; owned_from = λ q c e. e; asking_same = refl; prepared_to = λ a e. e; prepared_from = λ a e. e; stock_same = same } h
+
+-- a domain's view after a step of a pause: what is told of it but its number, its registers and its pools
+pub record Move : Type 0 where
+  pub arrivals : ℕ
+  pub pending : Bounded Copied
+  pub front : List Entry
+  pub stage : Stage
+  pub notes : List Note
+  pub free : Option ℕ
+  pub listing : Option Listing
+  pub copying : Copying
+
+abbrev pub moved_to : DomainView → Move → DomainView
+moved_to x m = record {
+  own = record x.own { arrivals = m.arrivals; pending = m.pending };
+  seen = record x.seen { front = m.front; stage = m.stage; notes = m.notes; free = m.free; listing = m.listing; copying = m.copying };
+}
+
+-- the domain stands where it stands, and knows what it knows
+abbrev pub no_move : DomainView → Move
+no_move x = record { arrivals = x.own.arrivals; pending = x.own.pending; front = x.seen.front; stage = x.seen.stage; notes = x.seen.notes; free = x.seen.free; listing = x.seen.listing; copying = x.seen.copying }
 
 module _ (k : Config) (s : Words) (r : Rule k s) (id : ℕ) (hist : List Entry) (x : DomainView) (at : get_elem? s.views id ≡ some (one k hist x)) where
-  -- What a step of a pause owes: no entry stands, no block changes, and the phases may turn
-  pub record Turns (y : DomainView) (pause' : Pause) (words' : List ℕ) : Type 0 where
+  -- What a step of a pause owes: no entry stands, no block changes, and the phases may turn. The domain's list of copies may be emptied
+  pub record Turns (y : DomainView) (pause' : Pause) (stock' : Stock) (words' : List ℕ) : Type 0 where
     pub untouched : Untouched s.words words'
     pub front : IsFrontOf x.own.number r.account.log y.seen.front
     pub phases : Phases k pause' words'
@@ -134,46 +179,71 @@ module _ (k : Config) (s : Words) (r : Rule k s) (id : ℕ) (hist : List Entry) 
     pub free : (f : ℕ) → y.seen.free ≡ Some f → x.seen.free ≡ Some f
     pub resting : Resting k words' y
     pub owes : Owes k r.account.live y
-    pub drawers : Drawers pause' r.account.tenancy
+    pub settled : Settled r.account.live ⊎ Promoting pause'
+    pub cleared : AllCleared k r.account.live pause'
+    pub emptied : Emptied k r.account.live pause'
+    pub rooted : Rooted k pause' y
+    pub roots : (z : DomainView) → z.own.number < k.domains → z.own.number ≢ x.own.number → Staged r.account.pause z → Rooted k r.account.pause z → Rooted k pause' z
+    pub reserved : Reserved k pause' r.account.tenancy words'
+    pub drawers : Drawers pause' (record r.account.tenancy { stock = stock' })
+    pub room : Room k r.account.live pause' stock' words'
+    pub unused : IsUnused pause' stock'
+    pub drawable : Drawable k pause' words'
+    pub hunter : Hunter k (record r.account.tenancy { stock = stock' }) words' y
+    pub stocks : (d : ℕ) → d ≢ x.own.number → SameStock r.account.tenancy.stock stock' d
     pub others : (z : DomainView) → z.own.number < k.domains → z.own.number ≢ x.own.number → Staged r.account.pause z → Staged pause' z
     pub unwished : Unwished pause' words'
     pub took_back : TookBack words' y
     pub others_took_back : (z : DomainView) → Staged r.account.pause z → TookBack s.words z → TookBack words' z
+    pub set_back : HasSetBack y → cursor words' ≤ limit_of k (listed words')
 
-  pub turns : (arrivals : ℕ) (front : List Entry) (stage : Stage) (notes : List Note) (free : Option ℕ) (listing : Option Listing) (copying : Copying) (pause' : Pause) (words' : List ℕ) → let y : DomainView = moved_to x arrivals front stage notes free listing copying in Turns y pause' words'
+  pub turns : (m : Move) (pause' : Pause) (stock' : Stock) (words' : List ℕ) → let y : DomainView = moved_to x m in Turns y pause' stock' words'
       → Rule k record { words = words'; homes = s.homes; views = set s.views id (one k hist y) }
-  turns arrivals front stage notes free listing copying pause' words' o =
-      let y : DomainView = moved_to x arrivals front stage notes free listing copying in
-      let h = hunter_untouched k r.account.tenancy s.words words' x o.untouched (my_good k s r id hist x at).hunter in
+  turns m pause' stock' words' o =
+      let y : DomainView = moved_to x m in
       let g = my_good k s r id hist x at in
       let p = making_untouched k s.words words' x o.untouched g.making in
-      remakes k s r id hist x at y (record r.account { pause = pause' }) words'
+      let t' : Tenancy = record r.account.tenancy { stock = stock' } in
+      let grid1 = grid_untouched k r.account.tenancy r.account.live s.words words' o.untouched r.whole.grid in
+      let pools1 = pools_untouched k r.account.tenancy s.words words' o.untouched r.whole.pools in
+      remakes k s r id hist x at y (record r.account { pause = pause'; tenancy = t' }) words'
       record {
         wide = o.untouched.0 ∙ r.whole.wide;
         legal = r.whole.legal;
         calm = r.whole.calm;
         found = found_untouched k r.account.live (state_of k r.account.log).graph s.words words' o.untouched r.whole.found;
         placed = r.whole.placed;
-        settled = r.whole.settled;
+        spread = r.whole.spread;
+        settled = o.settled;
+        copies = r.whole.copies;
+        cleared = o.cleared;
+        emptied = o.emptied;
         phases = o.phases;
         unwished = o.unwished;
         endings = o.endings ∙ r.whole.endings;
-        pools = pools_untouched k r.account.tenancy s.words words' o.untouched r.whole.pools;
-        grid = grid_untouched k r.account.tenancy.holder r.account.live s.words words' o.untouched r.whole.grid;
+        pools = pools_stock k r.account.tenancy stock' words' pools1;
+        reserved = o.reserved;
+        grid = grid_stock k r.account.tenancy stock' r.account.live words' grid1;
         drawers = o.drawers;
+        room = o.room;
+        unused = o.unused;
+        opened = opened_words k r.account.live s.words words' (λ _ _ _ _. (counts_untouched s.words words' o.untouched).0) r.whole.opened;
+        drawable = o.drawable;
         cycle = cycle_untouched s.words words' o.untouched r.whole.cycle;
       }
       (knows_front k s r id hist x at y refl o.front)
       record {
         stood = record { wide = g.stood.wide; each = g.stood.each; serial = g.stood.serial };
-        area = record { room = g.area.room; free = g.area.free };
+        area = record { room = g.area.room; free = g.area.free; classes = g.area.classes };
         making = record { fits = p.fits; written = p.written };
         staged = o.staged;
         still = o.still;
-        hunter = record { hunt = h.hunt; drawn_alone = h.drawn_alone; taken = h.taken; free = λ f e. h.free f (o.free f e) };
+        hunter = o.hunter;
         resting = o.resting;
         took_back = o.took_back;
         owes = o.owes;
+        rooted = o.rooted;
+        set_back = o.set_back;
       }
       (λ z below other h. record {
         stood = h.stood;
@@ -181,18 +251,30 @@ module _ (k : Config) (s : Words) (r : Rule k s) (id : ℕ) (hist : List Entry) 
         making = making_untouched k s.words words' z o.untouched h.making;
         staged = o.others z below other h.staged;
         still = h.still;
-        hunter = hunter_untouched k r.account.tenancy s.words words' z o.untouched h.hunter;
+        hunter = hunter_stock k r.account.tenancy stock' words' z (o.stocks z.own.number other) (hunter_untouched k r.account.tenancy s.words words' z o.untouched h.hunter);
         resting = resting_untouched k s.words words' z o.untouched h.resting;
         took_back = o.others_took_back z h.staged h.took_back;
         owes = h.owes;
+        rooted = o.roots z below other h.staged h.rooted;
+        set_back = λ b. low_untouched k s.words words' o.untouched (h.set_back b);
       })
 
   -- a step that leaves where all stand, and the front
-  pub notes_rule : (notes : List Note) (words' : List ℕ) → let y : DomainView = moved_to x x.own.arrivals x.seen.front x.seen.stage notes x.seen.free x.seen.listing x.seen.copying in Untouched s.words words' → Unwished r.account.pause words' → TookBack words' y
-      → ((z : DomainView) → Staged r.account.pause z → TookBack s.words z → TookBack words' z) → get_or words' 1 0 ≡ get_or s.words 1 0 → get_or words' 2 0 ≡ get_or s.words 2 0 → ended_word words' ≡ ended_word s.words
+  pub notes_rule : (notes : List Note) (words' : List ℕ) → let y : DomainView = moved_to x (record (no_move x) { notes = notes }) in Untouched s.words words' → Unwished r.account.pause words' → TookBack words' y
+      → (HasSetBack y → HasSetBack x) → ((z : DomainView) → Staged r.account.pause z → TookBack s.words z → TookBack words' z) → get_or words' 1 0 ≡ get_or s.words 1 0 → get_or words' 2 0 ≡ get_or s.words 2 0 → ended_word words' ≡ ended_word s.words
       → Rule k record { words = words'; homes = s.homes; views = set s.views id (one k hist y) }
-  notes_rule notes words' u unwished took_back others_took_back b c e = let g = my_good k s r id hist x at in let y : DomainView = moved_to x x.own.arrivals x.seen.front x.seen.stage notes x.seen.free x.seen.listing x.seen.copying in turns x.own.arrivals x.seen.front x.seen.stage notes x.seen.free x.seen.listing x.seen.copying r.account.pause words' record {
+  notes_rule notes words' u unwished took_back set_back others_took_back b c e =
+      let g = my_good k s r id hist x at in
+      let m : Move = record (no_move x) { notes = notes } in
+      let y : DomainView = moved_to x m in
+      let t = r.account.tenancy in
+      let counts = counts_untouched s.words words' u in turns m r.account.pause t.stock words' record {
     owes = owes_as k r.account.live x y refl refl refl refl g.owes;
+    settled = r.whole.settled;
+    cleared = r.whole.cleared;
+    emptied = r.whole.emptied;
+    rooted = g.rooted;
+    roots = λ z _ _ _ ro. ro;
     untouched = u;
     front = (mine k s r id hist x at).front;
     phases = phases_words k r.account.pause s.words words' b c r.whole.phases;
@@ -201,11 +283,21 @@ module _ (k : Config) (s : Words) (r : Rule k s) (id : ℕ) (hist : List Entry) 
     still = g.still;
     free = λ f e. e;
     resting = let rest = resting_untouched k s.words words' x u g.resting in record { hunt = rest.hunt; free = rest.free; lists = rest.lists };
+    reserved = reserved_untouched k r.account.pause t s.words words' u r.whole.pools r.whole.reserved;
     drawers = r.whole.drawers;
+    room = room_words k r.account.live r.account.pause t.stock s.words words' (λ _. counts) r.whole.room;
+    unused = r.whole.unused;
+    drawable = record {
+      to_run = λ j odd led runs. counts.1 ∙ r.whole.drawable.to_run j odd led runs;
+      to_copy = λ j odd led copies. low_untouched k s.words words' u (r.whole.drawable.to_copy j odd led copies);
+    };
+    hunter = hunter_as k t words' x y refl refl refl refl refl refl (hunter_untouched k t s.words words' x u g.hunter);
+    stocks = λ d _. stock_self t.stock d;
     others = λ z _ _ st. st;
     unwished = unwished;
     took_back = took_back;
     others_took_back = others_took_back;
+    set_back = λ h. low_untouched k s.words words' u (g.set_back (set_back h));
   }
 
 -- the last of a list that ends with a note

@@ -33,7 +33,7 @@ use Rattle.heap_rule.specs.Rule.{state_of, AllFound, Stood, Rule}
 use Rattle.heap_rule.specs.Standing.{Acts, Entered, with_front, with_own, with_registers}
 use Rattle.heap_rule.proofs.ChangeLemmas.{changed_only}
 use Rattle.heap_rule.proofs.Values.{AllStand, holds}
-use Rattle.heap_rule.proofs.Keeps.{Words, IsCommand, mine, my_good, own, control_same, controls_kept, appends, legal_entry, hunter_as, more_same, owes_as, recalls_same}
+use Rattle.heap_rule.proofs.Keeps.{Words, IsCommand, mine, my_good, own, control_same, controls_kept, appends, legal_entry, hunter_as, more_same, owes_as, recalls_same, run_settled}
 
 module _ (k : Config) (s : Words) (r : Rule k s) (id : ℕ) (hist : List Entry) (x : DomainView) (at : get_elem? s.views id ≡ some (one k hist x)) (acts : Acts k x) where
   abbrev now : model.State
@@ -115,17 +115,20 @@ module _ (k : Config) (s : Words) (r : Rule k s) (id : ℕ) (hist : List Entry) 
     controls = controls_kept k s r id hist x at s.words (control_same k s.words);
     found = subst (λ (graph : Graph). AllFound k r.account.live graph s.words) (sym o.leaves.graph_is) r.whole.found;
     placed = r.whole.placed;
-    settled = r.whole.settled;
+    spread = r.whole.spread;
+    opened = r.whole.opened;
+    settled = run_settled k s r id hist x at acts.runs;
     owes = owes_as k r.account.live x (entered_view e registers) refl refl refl refl g.owes;
     recalls = λ d _. recalls_same d r.account.live;
+    naming = r.whole.copies.naming;
     more = more_same r.account.live;
     stood = stood_after now.graph e registers answer (entered_view e registers) refl refl refl o;
-    area = record { room = g.area.room; free = g.area.free };
+    area = record { room = g.area.room; free = g.area.free; classes = g.area.classes };
     making = record { fits = g.making.fits; written = g.making.written };
     areas = λ z _ h. h;
     makings = λ z _ _ h. h;
     grid = r.whole.grid;
-    hunter = hunter_as k r.account.tenancy s.words x (entered_view e registers) refl refl refl refl g.hunter;
+    hunter = hunter_as k r.account.tenancy s.words x (entered_view e registers) refl refl refl refl refl refl g.hunter;
     hunters = λ z _ g. g.hunter;
   }
 

@@ -1,16 +1,16 @@
 -- One pool gets another holder, and a word before the heap's changes.
-use Rattle.std.proofs.Common.{false, ◌≡◌, ◌≢◌, ℕ, zero, suc, ◌+◌, ◌<◌, ◌≤◌, ◌⊎◌, List, set, Some, sym, refl, ap, ◌∙◌, subst, inl, inr, ⊎_elim, arith, get_or-set_other}
+use Rattle.std.proofs.Common.{◌*◌, false, ◌≡◌, ◌≢◌, ℕ, zero, suc, ◌+◌, ◌<◌, ◌≤◌, ◌⊎◌, List, set, Some, sym, refl, ap, ◌∙◌, subst, inl, inr, ⊎_elim, arith, get_or-set_other}
 use mathlib.Core.Logic.{dite}
 use native.Mathlib.Decide.{ℕ_discrete}
 use Rattle.heap_model.specs.Graph.{Graph}
 use Rattle.heap_rule.specs.declared.config.Config.{Config}
 use Rattle.heap_rule.specs.declared.view.Hunt.{Hunt}
-use Rattle.heap_rule.specs.declared.view.Hunt.TheVariants.{Rests, Counts, Asks, Draws, Walks, Fills}
+use Rattle.heap_rule.specs.declared.view.Hunt.TheVariants.{Rests, Counts, Asks, Draws, Walks, Fills, Labels, Heads}
 use Rattle.heap_rule.specs.declared.view.DomainView.{DomainView}
 use Rattle.heap_rule.specs.Layout.{before_heap, base_of, at_address, listed_pool, listed, cursor}
 use Rattle.heap_rule.specs.Places.{unmarked, Place, Live, Placed, HeadIs, IsOldWord}
 use Rattle.heap_rule.specs.Rule.{AllFound, Making}
-use Rattle.heap_rule.specs.Pools.{Holder, nobody, drawn, owned, Tenancy, Grid, Hunts, Hunter, place_in, blocks_of, limit_of}
+use Rattle.heap_rule.specs.Pools.{Holder, nobody, drawn, owned, Stock, Tenancy, OwnPlace, IsSpare, Grid, Hunts, Hunter, Latest, DrawsFor, place_in, blocks_of, limit_of}
 use Rattle.heap_rule.specs.Phases.{sum_of}
 use Rattle.heap_rule.proofs.Update.{over, over_here, over_else}
 
@@ -59,25 +59,42 @@ making_heap k words words' z same p = record {
 pub making_agrees : (k : Config) (words words' : List ℕ) (z : DomainView) → Agrees k words words' → Making k words z → Making k words' z
 making_agrees k words words' z same p = making_heap k words words' z same.heap p
 
-pub grid_heap : (k : Config) (holder : ℕ → Holder) (live : Live) (words words' : List ℕ) → SameHeap k words words' → Grid k holder live words → Grid k holder live words'
-grid_heap k holder live words words' same g = record {
+pub grid_heap : (k : Config) (t : Tenancy) (live : Live) (words words' : List ℕ) → SameHeap k words words' → Grid k t live words → Grid k t live words'
+grid_heap k t live words words' same g = record {
   lots = g.lots;
-  places = λ q d c slot is inside. ⊎_elim (λ (z : at_address k words (place_in q c slot) ≡ 0). inl (same (place_in q c slot) (omega arith) ∙ z)) (λ (z : (p : Place) × (live (place_in q c slot) ≡ Some p)). inr z) (g.places q d c slot is inside);
-}
+  places = λ q d c slot is inside. ⊎_elim (λ (z : at_address k words (place_in q c slot) ≡ 0). inl (same (place_in q c slot) (omega arith) ∙ z)) (λ z. inr z) (g.places q d c slot is inside);
+  spares = λ a d is. spare_heap a d (g.spares a d is);
+} where
+  spare_heap : (a d : ℕ) → IsSpare k t.holder live words a d → IsSpare k t.holder live words' a d
+  spare_heap a d s = record { own = s.own; head = λ e. s.head (sym (same a (let b : a ≡ place_in s.own.pool s.own.class s.own.slot = s.own.begins in omega arith)) ∙ e); empty = s.empty }
 
--- the holders agree on the pools of a domain
+-- what copying has used agrees on a domain
+pub record SameStock (s s' : Stock) (d : ℕ) : Type 0 where
+  pub drawn : s'.drawn d ≡ s.drawn d
+  pub copies : s'.copies d ≡ s.copies d
+  pub latest : s'.latest d ≡ s.latest d
+  pub used : s'.used d ≡ s.used d
+  pub claims : s'.claims d ≡ s.claims d
+
+pub stock_self : (s : Stock) (d : ℕ) → SameStock s s d
+stock_self s d = record { drawn = refl; copies = refl; latest = refl; used = refl; claims = refl }
+
+-- the holders agree on the pools of a domain, and so do the places that it has prepared and what it has used
 pub record SameFor (t t' : Tenancy) (d : ℕ) : Type 0 where
   pub drawn_to : (q : ℕ) → t.holder q ≡ drawn d → t'.holder q ≡ drawn d
   pub drawn_from : (q : ℕ) → t'.holder q ≡ drawn d → t.holder q ≡ drawn d
   pub owned_to : (q c : ℕ) → t.holder q ≡ owned d c → t'.holder q ≡ owned d c
   pub owned_from : (q c : ℕ) → t'.holder q ≡ owned d c → t.holder q ≡ owned d c
   pub asking_same : t'.asking d ≡ t.asking d
+  pub prepared_to : (a : ℕ) → t.prepared a ≡ Some d → t'.prepared a ≡ Some d
+  pub prepared_from : (a : ℕ) → t'.prepared a ≡ Some d → t.prepared a ≡ Some d
+  pub stock_same : SameStock t.stock t'.stock d
 
 pub same_self : (t : Tenancy) (d : ℕ) → SameFor t t d
-same_self t d = record { drawn_to = λ q e. e; drawn_from = λ q e. e; owned_to = λ q c e. e; owned_from = λ q c e. e; asking_same = refl }
+same_self t d = record { drawn_to = λ q e. e; drawn_from = λ q e. e; owned_to = λ q c e. e; owned_from = λ q c e. e; asking_same = refl; prepared_to = λ a e. e; prepared_from = λ a e. e; stock_same = stock_self t.stock d }
 
-pub same_asking : (t : Tenancy) (asking : ℕ → ℕ) (d : ℕ) → asking d ≡ t.asking d → SameFor t record { holder = t.holder; asking = asking } d
-same_asking t asking d same = record { drawn_to = λ q e. e; drawn_from = λ q e. e; owned_to = λ q c e. e; owned_from = λ q c e. e; asking_same = same }
+pub same_asking : (t : Tenancy) (asking : ℕ → ℕ) (d : ℕ) → asking d ≡ t.asking d → SameFor t (record t { asking = asking }) d
+same_asking t asking d same = record { drawn_to = λ q e. e; drawn_from = λ q e. e; owned_to = λ q c e. e; owned_from = λ q c e. e; asking_same = same; prepared_to = λ a e. e; prepared_from = λ a e. e; stock_same = stock_self t.stock d }
 
 -- the holder is another than this domain
 pub record NotOf (h : Holder) (d : ℕ) : Type 0 where
@@ -108,12 +125,15 @@ drawn_not d e n = record { not_drawn = drawn_drawn d e n; not_owned = drawn_owne
 pub owned_not : (d c e : ℕ) → d ≢ e → NotOf (owned d c) e
 owned_not d c e n = record { not_drawn = λ h. drawn_owned e d c (sym h); not_owned = λ b. owned_owned d e c b n }
 
-module _ (t : Tenancy) (pool : ℕ) (h : Holder) (asking : ℕ → ℕ) where
+module _ (t : Tenancy) (pool : ℕ) (h : Holder) (asking : ℕ → ℕ) (stock : Stock) where
   abbrev pub t' : Tenancy
-  t' = record { holder = over pool h t.holder; asking = asking }
+  t' = record { holder = over pool h t.holder; asking = asking; prepared = t.prepared; stock = stock }
 
-  pub same_over : (d : ℕ) → NotOf (t.holder pool) d → NotOf h d → asking d ≡ t.asking d → SameFor t t' d
-  same_over d before after same = record {
+  pub same_over : (d : ℕ) → NotOf (t.holder pool) d → NotOf h d → asking d ≡ t.asking d → SameStock t.stock stock d → SameFor t t' d
+  same_over d before after same used = record {
+    prepared_to = λ a e. e;
+    prepared_from = λ a e. e;
+    stock_same = used;
     drawn_to = λ q e. dite (ℕ_discrete q pool) (λ here. absurd (before.not_drawn (ap t.holder (sym here) ∙ e))) (λ other. over_else pool h t.holder q other ∙ e);
     drawn_from = λ q e. dite (ℕ_discrete q pool) (λ here. absurd (after.not_drawn (sym (over_here pool h t.holder) ∙ (ap (over pool h t.holder) (sym here) ∙ e)))) (λ other. sym (over_else pool h t.holder q other) ∙ e);
     owned_to = λ q c e. dite (ℕ_discrete q pool) (λ here. absurd (before.not_owned c (ap t.holder (sym here) ∙ e))) (λ other. over_else pool h t.holder q other ∙ e);
@@ -123,14 +143,15 @@ module _ (t : Tenancy) (pool : ℕ) (h : Holder) (asking : ℕ → ℕ) where
 
   -- the grid, where the pool's places are free
   pub grid_over : (k : Config) (live : Live) (words words' : List ℕ) → Agrees k words words' → ((d c : ℕ) → t.holder pool ≢ owned d c) → ((d c slot : ℕ) → h ≡ owned d c → slot < blocks_of c → at_address k words (place_in pool c slot) ≡ 0)
-      → Grid k t.holder live words → Grid k (over pool h t.holder) live words'
-  grid_over k live words words' same before free g = record {
+      → Grid k t live words → Grid k t' live words'
+  grid_over k live words words' same before free g =
+      let stays : (q d c : ℕ) → t.holder q ≡ owned d c → over pool h t.holder q ≡ owned d c = (λ q d c is. over_else pool h t.holder q (λ here. before d c (ap t.holder (sym here) ∙ is)) ∙ is) in record {
     lots = λ a p lives low. let l = g.lots a p lives low in record {
       pool = l.pool;
       domain = l.domain;
       class = l.class;
       slot = l.slot;
-      owned_is = over_else pool h t.holder l.pool (λ here. before l.domain l.class (ap t.holder (sym here) ∙ l.owned_is)) ∙ l.owned_is;
+      owned_is = stays l.pool l.domain l.class l.owned_is;
       inside = l.inside;
       begins = l.begins;
       fits = l.fits;
@@ -139,19 +160,28 @@ module _ (t : Tenancy) (pool : ℕ) (h : Holder) (asking : ℕ → ℕ) where
         let there : at_address k words' (place_in q c slot) ≡ at_address k words (place_in q c slot) = same.heap (place_in q c slot) (omega arith) in
         dite (ℕ_discrete q pool)
         (λ here. inl (there ∙ (ap (λ (m : ℕ). at_address k words (place_in m c slot)) here ∙ free d c slot (sym (over_here pool h t.holder) ∙ (ap (over pool h t.holder) (sym here) ∙ is)) inside)))
-        (λ other. ⊎_elim (λ (z : at_address k words (place_in q c slot) ≡ 0). inl (there ∙ z)) (λ (z : (p : Place) × (live (place_in q c slot) ≡ Some p)). inr z)
+        (λ other. ⊎_elim (λ (z : at_address k words (place_in q c slot) ≡ 0). inl (there ∙ z)) (λ z. inr z)
         (g.places q d c slot (sym (over_else pool h t.holder q other) ∙ is) inside));
+    spares = λ a d is. let s = g.spares a d is in let o = s.own in record {
+      own = record { pool = o.pool; class = o.class; slot = o.slot; owned_is = stays o.pool d o.class o.owned_is; inside = o.inside; begins = o.begins };
+      head = λ e. s.head (sym (same.heap a (let b : a ≡ place_in o.pool o.class o.slot = o.begins in omega arith)) ∙ e);
+      empty = s.empty;
+    };
   }
 
 -- no more pools are free where the cursor went on
-pub free_later : (k : Config) (words words' : List ℕ) → listed words' ≡ listed words → cursor words ≤ cursor words' → (f : ℕ) → (listed words ≤ f + cursor words) × (listed words ≤ f + limit_of k (listed words))
-    → (listed words' ≤ f + cursor words') × (listed words' ≤ f + limit_of k (listed words'))
+pub free_later : (k : Config) (words words' : List ℕ) → listed words' ≡ listed words → cursor words ≤ cursor words' → (f : ℕ) → (listed words ≤ f + cursor words) × (listed words ≤ f + limit_of k (listed words)) × (f ≤ listed words)
+    → (listed words' ≤ f + cursor words') × (listed words' ≤ f + limit_of k (listed words')) × (f ≤ listed words')
 free_later k words words' same grows f h = (
   (let n : ℕ = listed words in let n' : ℕ = listed words' in let e : n' ≡ n = same in let c : ℕ = cursor words in let c' : ℕ = cursor words' in let l : c ≤ c' = grows in let b : n ≤ f + c = h.0 in let g : n' ≤ f + c' = omega arith in g),
   subst (λ (m : ℕ). m ≤ f + limit_of k m) (sym same) h.1,
+  subst (λ (m : ℕ). f ≤ m) (sym same) h.2,
 )
 
 module _ (k : Config) (t t' : Tenancy) (words words' : List ℕ) (agrees : Agrees k words words') where
+  place_agrees : (d : ℕ) → SameFor t t' d → (a : ℕ) → OwnPlace t.holder a d → OwnPlace t'.holder a d
+  place_agrees d same a o = record { pool = o.pool; class = o.class; slot = o.slot; owned_is = same.owned_to o.pool o.class o.owned_is; inside = o.inside; begins = o.begins }
+
   pub hunts_agree : (d : ℕ) → SameFor t t' d → (h : Hunt) → Hunts k t words d h → Hunts k t' words' d h
   hunts_agree d same Rests u = tt
   hunts_agree d same (Counts n) u = agrees.count ∙ u
@@ -173,6 +203,24 @@ module _ (k : Config) (t t' : Tenancy) (words words' : List ℕ) (agrees : Agree
     fits = u.fits;
     written = λ j w got. agrees.heap (place_in pool class slot + 1 + j) (omega arith) ∙ u.written j w got;
   }
+  hunts_agree d same (Labels address label) u = (same.prepared_to address u.0, place_agrees d same address u.1, agrees.heap (address + 1) (omega arith) ∙ u.2)
+  hunts_agree d same (Heads address label head) u = (same.prepared_to address u.0, place_agrees d same address u.1, agrees.heap (address + 1) (omega arith) ∙ u.2, agrees.heap address (let b : address ≡ place_in u.1.pool u.1.class u.1.slot = u.1.begins in omega arith) ∙ u.3)
+
+  pub latest_agrees : (d c : ℕ) → SameFor t t' d → Latest k t words d c → Latest k t' words' d c
+  latest_agrees d c same l =
+      let st = same.stock_same in
+      let q : t'.stock.latest d c ≡ t.stock.latest d c = ap (λ (f : ℕ → ℕ). f c) st.latest in
+      let u : t'.stock.used d c ≡ t.stock.used d c = ap (λ (f : ℕ → ℕ). f c) st.used in
+      let dr : t'.stock.drawn d c ≡ t.stock.drawn d c = ap (λ (f : ℕ → ℕ). f c) st.drawn in
+      let co : t'.stock.copies d c ≡ t.stock.copies d c = ap (λ (f : ℕ → ℕ). f c) st.copies in
+      let Rest : ℕ → ℕ → ℕ → Type 0 = (λ pool used j. (at_address k words' (place_in pool c j) ≡ 0) ⊎ ((j ≡ used) × (t'.prepared (place_in pool c j) ≡ Some d))) in record {
+        own_is = subst (λ (m : ℕ). t'.holder m ≡ owned d c) (sym q) (same.owned_to (t.stock.latest d c) c l.own_is);
+        few = subst (λ (m : ℕ). m ≤ blocks_of c) (sym u) l.few;
+        enough = subst (λ (m : ℕ × ℕ × ℕ). m.0 * blocks_of c + m.1 ≤ m.2 + blocks_of c) (λ i. (sym dr i, sym u i, sym co i)) l.enough;
+        rest = λ j from inside. subst (λ (m : ℕ × ℕ). Rest m.0 m.1 j) (λ i. (sym q i, sym u i))
+            (⊎_elim (λ (z : at_address k words (place_in (t.stock.latest d c) c j) ≡ 0). inl (agrees.heap (place_in (t.stock.latest d c) c j) (omega arith) ∙ z)) (λ (z : (j ≡ t.stock.used d c) × (t.prepared (place_in (t.stock.latest d c) c j) ≡ Some d)). inr (z.0, same.prepared_to (place_in (t.stock.latest d c) c j) z.1))
+            (l.rest j (subst (λ (m : ℕ). m ≤ j) u from) inside));
+      }
 
   pub hunter_agree : (z : DomainView) → cursor words ≤ cursor words' → SameFor t t' z.own.number → Hunter k t words z → Hunter k t' words' z
   hunter_agree z grows same h = record {
@@ -180,6 +228,10 @@ module _ (k : Config) (t t' : Tenancy) (words words' : List ℕ) (agrees : Agree
     hunt = hunts_agree z.own.number same z.seen.hunt h.hunt;
     drawn_alone = λ q e. h.drawn_alone q (same.drawn_from q e);
     taken = λ q c slot is inside low e. h.taken q c slot (same.owned_from q c is) inside low (sym (agrees.heap (place_in q c slot) (omega arith)) ∙ e);
+    holds = λ c a few e. let u = h.holds c a few e in (same.prepared_to a u.0, (u.1.0, u.1.1, same.owned_to u.1.0 c u.1.2, u.1.3, u.1.4));
+    prepared = λ q c slot is inside e. h.prepared q c slot (same.owned_from q c is) inside (same.prepared_from (place_in q c slot) e);
+    claims = h.claims ∙ sym same.stock_same.claims;
+    supply = λ c few some. ⊎_elim (λ (z : DrawsFor c z.seen.hunt). inl z) (λ (l : Latest k t words z.own.number c). inr (latest_agrees z.own.number c same l)) (h.supply c few (subst (λ (m : ℕ). 0 < m) (ap (λ (f : ℕ → ℕ). f c) same.stock_same.drawn) some));
   }
 
 -- sums

@@ -1,6 +1,7 @@
 -- What all kinds of step share: what a domain knows at its seat, and that the rule holds again where the whole, the own domain and each other one meet it.
 use Rattle.std.proofs.lemmas.Option.{slice_get_within}
-use Rattle.std.proofs.Common.{slice_get, inl, inr, ⊎_elim, None, ◌≡◌, ◌≢◌, ℕ, zero, suc, ◌+◌, ◌*◌, ◌<◌, ◌≤◌, false, List, [], ◌∷◌, ◌++◌, length, get_or, set, Some, sym, refl, ap, ◌∙◌, subst, arith, length-set, get_or-set_other, append_assoc, ◌⊎◌, Option}
+use Rattle.heap_rule.specs.declared.phase.Kind.{Kind}
+use Rattle.std.proofs.Common.{zero-le, slice_get, inl, inr, ⊎_elim, None, ◌≡◌, ◌≢◌, ℕ, zero, suc, ◌+◌, ◌*◌, ◌<◌, ◌≤◌, false, List, [], ◌∷◌, ◌++◌, length, get_or, set, Some, sym, refl, ap, ◌∙◌, subst, arith, length-set, get_or-set_other, append_assoc, ◌⊎◌, Option}
 use mathlib.Core.Logic.{dite}
 use native.Mathlib.Decide.{ℕ_discrete}
 use mathlib.Core.Option.{some}
@@ -32,18 +33,21 @@ use Rattle.heap_rule.specs.Limits.{sizes_in}
 use Rattle.heap_rule.specs.Layout.{before_heap, barrier, plan, ended_word, listed, cursor, listed_pool, owner_of, want}
 use Rattle.heap_rule.specs.declared.view.Copying.{Copying}
 use Rattle.heap_rule.specs.declared.view.Owing.{Owing}
-use Rattle.heap_rule.specs.Places.{Debt, Place, Live, Stands, Placed, Settled, More, extent}
-use Rattle.heap_rule.specs.Copies.{nothing_copied, known, Owes, IsField, Recalls}
+use Rattle.heap_rule.specs.Places.{Debt, Place, Live, Stands, Placed, Spread, Settled, More, extent}
+use Rattle.heap_rule.specs.Copies.{nothing_copied, known, Owes, IsField, Recalls, Copies, Promoting, Resetting, Cleared, AllCleared, Emptied, IsOldValue, HoldsOld, Rooted}
 use Rattle.heap_rule.specs.Changes.{value_at}
 use Rattle.heap_rule.specs.Views.{EachView, AllDomains, IsSeated, Knows, one}
 use Rattle.heap_rule.specs.declared.phase.Kind.TheVariants.{Run, Promote, Reset}
 use Rattle.heap_rule.specs.declared.phase.Stage.{Stage}
 use Rattle.heap_rule.specs.declared.phase.Stage.TheVariants.{In, Leads, Led, Gone}
-use Rattle.heap_rule.specs.Phases.{Pause, Phases, sum_of, IsEven, IsOdd, AtStage, Staged, IsInPause, Still, Agree, flag, is_over, TookBack, last_note}
+use Rattle.heap_rule.specs.Phases.{Pause, Phases, sum_of, IsEven, IsOdd, AtStage, Staged, IsInPause, Still, Agree, flag, is_over, TookBack, HasSetBack, last_note}
 use Rattle.heap_rule.specs.Rule.{state_of, AllFound, Stood, Area, Making, Account, Good, NoCycle, Whole, Rule}
-use Rattle.heap_rule.specs.Pools.{Tenancy, drawn, owned, Pools, Grid, Drawers, IsLeading, Lists, Resting, Hunts, Hunter, drawn_in, hunting_free, spot_at, IsBefore, limit_of}
+use Rattle.heap_rule.specs.Room.{spent_stock, count, drawn_in_all, copied_words, Room, IsUnused, Opened, Drawable}
+use Rattle.heap_model.specs.Domains.{class_count, reserve}
+use Rattle.heap_rule.specs.Layout.{heap_words}
+use Rattle.heap_rule.specs.Pools.{Stock, no_stock, Reserved, Takes, IsCopying, Latest, DrawsFor, prepared_at, size_of, Tenancy, drawn, owned, Pools, Grid, Drawers, IsLeading, Lists, Resting, Hunts, Hunter, drawn_in, hunting_free, spot_at, IsBefore, limit_of}
 use Rattle.heap_rule.specs.Standing.{with_front}
-use Rattle.heap_rule.proofs.Lists.{views_set, domains_map, domains_with}
+use Rattle.heap_rule.proofs.Lists.{views_set, domains_map, domains_with, no_item}
 
 abbrev pub Words : Type 0
 Words = State (Unit {0}) View
@@ -98,6 +102,18 @@ owes_as k live x y number copying stage remembered o = record {
   owed = λ i w got. let t = o.owed i w (ap (λ (c : Copying). slice_get c.pending i) (sym copying) ∙ got) in record { place = t.place; lives = t.lives; debt = t.debt ∙ ap (λ (n : ℕ). Some (record { source = w.source; domain = n; filled = w.filled })) (sym number) };
   once = λ i j w q got got'. o.once i j w q (ap (λ (c : Copying). slice_get c.pending i) (sym copying) ∙ got) (ap (λ (c : Copying). slice_get c.pending j) (sym copying) ∙ got');
   listed = λ c p d lives owed mine. let t = o.listed c p d lives owed (mine ∙ number) in (t.0, ap (λ (z : Copying). slice_get z.pending t.0) copying ∙ t.1);
+}
+
+-- who is to fill no copy may stand anywhere
+pub owes_rests : (k : Config) (live : Live) (x y : DomainView) → y.own.number ≡ x.own.number → y.seen.copying ≡ nothing_copied → x.seen.copying.pending ≡ [] → y.seen.remembered ≡ x.seen.remembered → Owes k live x → Owes k live y
+owes_rests k live x y number none idle remembered o = record {
+  quiet = inl none;
+  knows = subst (λ (c : Copying). More (known c.met) live) (sym none) (nothing_known live);
+  owed = λ i w got. absurd (no_owing y.seen.copying i w none got);
+  once = λ i j w q got _ _. absurd (no_owing y.seen.copying i w none got);
+  listed = λ c p d lives owed mine. let t = o.listed c p d lives owed (mine ∙ number) in absurd (no_item x.seen.copying.pending t.0 _ idle t.1);
+  recalled = λ b q i lives named. let u = o.recalled b q i lives (named ∙ ap Some number) in (u.0, ap (λ (l : List ℕ). slice_get l u.0) remembered ∙ u.1);
+  fields = λ j at got. o.fields j at (ap (λ (l : List ℕ). slice_get l j) (sym remembered) ∙ got);
 }
 
 -- who isn't in Promote has copied nothing
@@ -203,6 +219,46 @@ staged_as t x y number arrivals stage s = record {
   stage = subst (λ (z : ℕ × ℕ × Stage). AtStage t z.0 z.1 z.2) (λ i. (sym number i, sym arrivals i, sym stage i)) s.stage;
 }
 
+-- the kinds of the phase in hand
+kind_differs : (t : Pause) (i j : ℕ) (n : ℕ) (a b : Kind) → n ≡ i * 2 → n ≡ j * 2 → t.kinds i ≡ a → t.kinds j ≡ b → a ≡ b
+kind_differs t i j n a b e f g h = sym g ∙ (ap t.kinds (half_same i j n e f) ∙ h)
+
+pub run_promoting : (t : Pause) (x : DomainView) → x.seen.stage ≡ In Run → Staged t x → Promoting t → ⊥
+run_promoting t x runs s p = let a = (subst (AtStage t x.own.number x.own.arrivals) runs s.stage).1 in let e : Run ≡ Promote = kind_differs t a.0 p.0 t.phase Run Promote a.1 p.1 a.2 p.2 in cc
+
+pub run_resetting : (t : Pause) (x : DomainView) → x.seen.stage ≡ In Run → Staged t x → Resetting t → ⊥
+run_resetting t x runs s p = let a = (subst (AtStage t x.own.number x.own.arrivals) runs s.stage).1 in ⊎_elim
+    (λ (h : (j : ℕ) × (t.phase ≡ j * 2 + 1) × (t.kinds j ≡ Promote)). not_both t.phase (a.0, a.1) (h.0, h.1))
+    (λ h. ⊎_elim
+        (λ (g : (j : ℕ) × (t.phase ≡ j * 2) × (t.kinds j ≡ Reset)). let e : Run ≡ Reset = kind_differs t a.0 g.0 t.phase Run Reset a.1 g.1 a.2 g.2 in cc)
+        (λ (g : (j : ℕ) × (t.phase ≡ j * 2 + 1) × (t.kinds j ≡ Reset)). not_both t.phase (a.0, a.1) (g.0, g.1)) h)
+    p
+
+pub promote_now : (t : Pause) (x : DomainView) → x.seen.stage ≡ In Promote → Staged t x → Promoting t
+promote_now t x is s = (subst (AtStage t x.own.number x.own.arrivals) is s.stage).1
+
+pub promote_here : (t : Pause) (x : DomainView) → x.seen.stage ≡ In Promote → Staged t x → x.own.arrivals ≡ t.phase
+promote_here t x is s = (subst (AtStage t x.own.number x.own.arrivals) is s.stage).0
+
+pub promote_rests : (t : Pause) → Promoting t → Resetting t → ⊥
+promote_rests t a p = ⊎_elim
+    (λ (h : (j : ℕ) × (t.phase ≡ j * 2 + 1) × (t.kinds j ≡ Promote)). not_both t.phase (a.0, a.1) (h.0, h.1))
+    (λ h. ⊎_elim
+        (λ (g : (j : ℕ) × (t.phase ≡ j * 2) × (t.kinds j ≡ Reset)). let e : Promote ≡ Reset = kind_differs t a.0 g.0 t.phase Promote Reset a.1 g.1 a.2 g.2 in cc)
+        (λ (g : (j : ℕ) × (t.phase ≡ j * 2 + 1) × (t.kinds j ≡ Reset)). not_both t.phase (a.0, a.1) (g.0, g.1)) h)
+    p
+
+pub rooted_as : (k : Config) (t : Pause) (x y : DomainView) → y.own.registers ≡ x.own.registers → y.own.arrivals ≡ x.own.arrivals → Rooted k t x → Rooted k t y
+rooted_as k t x y registers arrivals r p up q few = subst (λ (l : List words.Value). IsOldValue k (value_at l q)) (sym registers) (r p (sym arrivals ∙ up) q few)
+
+-- where nothing forwards
+pub copies_settled : (k : Config) (live : Live) → Settled live → ((b : ℕ) (q : Place) (i d : ℕ) → live b ≡ Some q → q.named i ≡ Some d → (d < k.domains) × (i + 2 < extent q.shape)) → Copies k live
+copies_settled k live settled naming = record {
+  leads = λ a p c lives f. absurd (let e : ◌≡◌ {A = Option ℕ} None (Some c) = sym (settled a p lives).no_forward ∙ f in cc);
+  pends = λ c q o lives owed. absurd (no_debt live settled c q o lives owed);
+  naming = naming;
+}
+
 pub run_still : (log : List Entry) (y : DomainView) → y.seen.stage ≡ In Run → Still log y
 run_still log y runs paused = absurd (subst IsInPause runs paused)
 
@@ -220,20 +276,84 @@ leads_paused (Leads last) leads = tt
 leads_paused (Led next) leads = tt
 leads_paused (Gone kind) leads = absurd leads
 
--- a running domain writes no list, and nobody does beside it
-pub resting_runs : (k : Config) (words words' : List ℕ) (x y : DomainView) → x.seen.stage ≡ In Run → y.seen.stage ≡ In Run → y.seen.listing ≡ x.seen.listing → Resting k words x → Resting k words' y
-resting_runs k words words' x y runs still listing r = record {
-  hunt = λ n. absurd (n still);
-  free = λ n. absurd (n still);
-  lists = λ l e. absurd (subst IsLeading runs (r.lists l (sym listing ∙ e)).leads);
+-- a domain that takes blocks leads no pause
+takes_leads : (stage : Stage) → Takes stage → IsLeading stage → ⊥
+takes_leads stage takes leads = ⊎_elim (λ (h : stage ≡ In Run). subst IsLeading h leads) (λ (h : stage ≡ In Promote). subst IsLeading h leads) takes
+
+-- and nobody leads one beside it
+in_alone : (kind : Kind) (y : Stage) → Agree (In kind) y → IsLeading y → ⊥
+in_alone kind (In v) a l = l
+in_alone kind (Leads v) a l = a
+in_alone kind (Led v) a l = a
+in_alone kind (Gone v) a l = l
+
+pub nobody_leads : (t : Pause) (x z : DomainView) → Takes x.seen.stage → Staged t x → Staged t z → IsLeading z.seen.stage → ⊥
+nobody_leads t x z takes sx sz leads =
+    let beside : (kind : Kind) → x.seen.stage ≡ In kind → ⊥ = (λ kind is. in_alone kind z.seen.stage (agree t x.own.number z.own.number x.own.arrivals z.own.arrivals (In kind) z.seen.stage (subst (AtStage t x.own.number x.own.arrivals) is sx.stage) sz.stage) leads) in
+    ⊎_elim (beside Run) (beside Promote) takes
+
+-- the phase of a domain that takes blocks is an even one
+pub takes_even : (t : Pause) (x : DomainView) → Takes x.seen.stage → Staged t x → IsEven t.phase
+takes_even t x takes s =
+    let even : (kind : Kind) → x.seen.stage ≡ In kind → IsEven t.phase = (λ kind is. let a = (subst (AtStage t x.own.number x.own.arrivals) is s.stage).1 in (a.0, a.1)) in
+    ⊎_elim (even Run) (even Promote) takes
+
+-- while a domain takes blocks nobody has named the next phase
+pub takes_drawable : (k : Config) (t : Pause) (words : List ℕ) (x : DomainView) → Takes x.seen.stage → Staged t x → Drawable k t words
+takes_drawable k t words x takes s = let e = takes_even t x takes s in record {
+  to_run = λ j odd _ _. absurd (not_both t.phase e (j, odd));
+  to_copy = λ j odd _ _. absurd (not_both t.phase e (j, odd));
 }
 
-pub resting_other : (k : Config) (t : Pause) (words words' : List ℕ) (x z : DomainView) → x.seen.stage ≡ In Run → Staged t x → Staged t z → Resting k words z → Resting k words' z
-resting_other k t words words' x z runs sx sz r = record {
+-- a domain that takes blocks writes no list, and nobody does beside it
+pub resting_takes : (k : Config) (words words' : List ℕ) (x y : DomainView) → Takes x.seen.stage → Takes y.seen.stage → (y.seen.stage ≢ In Run → y.seen.free ≡ None) → y.seen.listing ≡ x.seen.listing → Resting k words x → Resting k words' y
+resting_takes k words words' x y takes still free listing r = record {
+  hunt = λ n. absurd (n still);
+  free = free;
+  lists = λ l e. absurd (takes_leads x.seen.stage takes (r.lists l (sym listing ∙ e)).leads);
+}
+
+pub resting_runs : (k : Config) (words words' : List ℕ) (x y : DomainView) → x.seen.stage ≡ In Run → y.seen.stage ≡ In Run → y.seen.listing ≡ x.seen.listing → Resting k words x → Resting k words' y
+resting_runs k words words' x y runs still listing r = resting_takes k words words' x y (inl runs) (inl still) (λ n. absurd (n still)) listing r
+
+pub resting_other : (k : Config) (t : Pause) (words words' : List ℕ) (x z : DomainView) → Takes x.seen.stage → Staged t x → Staged t z → Resting k words z → Resting k words' z
+resting_other k t words words' x z takes sx sz r = record {
   hunt = r.hunt;
   free = r.free;
-  lists = λ l e. absurd (nobody_paused t x z runs sx sz (leads_paused z.seen.stage (r.lists l e).leads));
+  lists = λ l e. absurd (nobody_leads t x z takes sx sz (r.lists l e).leads);
 }
+
+-- nobody copies while a domain runs
+pub run_copying : (t : Pause) (x : DomainView) (d : ℕ) → x.seen.stage ≡ In Run → Staged t x → IsCopying t d → ⊥
+run_copying t x d runs s c = run_promoting t x runs s c.1
+
+-- a pause in which nobody copies has used nothing of the pools
+pub room_unused : (k : Config) (live : Live) (t : Pause) (s : Stock) (words : List ℕ) → (Promoting t → ⊥) → Room k live t (spent_stock s) words
+room_unused k live t s words rests = record {
+  fills = λ d c. omega arith;
+  fit = subst (λ (n : ℕ). n ≤ count (λ _. false) (heap_words k + 1)) (sym (nothing_drawn k.domains)) (zero-le);
+  claims = λ x e. cc;
+  listed_copies = λ d. zero-le;
+  left = λ p. absurd (rests p);
+} where
+  zeros : (n : ℕ) → sum_of (λ c. 0 * size_of c) n ≡ 0
+  zeros zero = refl
+  zeros (suc n) = let h : sum_of (λ c. 0 * size_of c) n ≡ 0 = zeros n in let z : 0 * size_of n ≡ 0 = omega arith in λ i. h i + z i
+  nothing_drawn : (n : ℕ) → sum_of (copied_words (spent_stock s)) n ≡ 0
+  nothing_drawn zero = refl
+  nothing_drawn (suc n) = let h = nothing_drawn n in let z = zeros class_count in λ i. h i + z i
+
+pub room_words : (k : Config) (live : Live) (t : Pause) (s : Stock) (words words' : List ℕ) → (Promoting t → (listed words' ≡ listed words) × (cursor words' ≡ cursor words)) → Room k live t s words → Room k live t s words'
+room_words k live t s words words' same r = record {
+  fills = r.fills;
+  fit = r.fit;
+  claims = r.claims;
+  listed_copies = r.listed_copies;
+  left = λ p a q lives young. let e = same p in subst (λ (m : ℕ × ℕ). m.0 + reserve (sizes_in k) ≤ m.1 + drawn_in_all k s) (λ i. (sym e.1 i, sym e.0 i)) (r.left p a q lives young);
+}
+
+pub opened_words : (k : Config) (live : Live) (words words' : List ℕ) → ((a : ℕ) (q : Place) → live a ≡ Some q → k.pools * 4096 < a → listed words' ≡ listed words) → Opened k live words → Opened k live words'
+opened_words k live words words' same o a q lives young = subst (λ (n : ℕ). reserve (sizes_in k) ≤ n) (sym (same a q lives young)) (o a q lives young)
 
 -- the list that domain 0 writes stays where the control words, the list and the owner words do
 pub lists_same : (k : Config) (words words' : List ℕ) (number : ℕ) (stage : Stage) (l : Listing) → listed words' ≡ listed words → cursor words' ≡ cursor words → ((i : ℕ) → i < k.pools → listed_pool words' i ≡ listed_pool words i) → ((q : ℕ) → q < k.pools → owner_of k words' q ≡ owner_of k words q)
@@ -259,7 +379,7 @@ resting_lists k words words' z lists r = record { hunt = r.hunt; free = r.free; 
 -- a domain that stands where it stood, and knows the same of the pools
 pub resting_as : (k : Config) (words : List ℕ) (x y : DomainView) → y.own.number ≡ x.own.number → y.seen.stage ≡ x.seen.stage → y.seen.hunt ≡ x.seen.hunt → y.seen.free ≡ x.seen.free → y.seen.listing ≡ x.seen.listing → Resting k words x → Resting k words y
 resting_as k words x y number stage hunt free listing r = record {
-  hunt = λ n. hunt ∙ r.hunt (λ e. n (stage ∙ e));
+  hunt = λ n. hunt ∙ r.hunt (λ takes. n (subst Takes (sym stage) takes));
   free = λ n. free ∙ r.free (λ e. n (stage ∙ e));
   lists = λ l e. subst (λ (z : ℕ × Stage). Lists k words z.0 z.1 l) (λ i. (sym number i, sym stage i)) (r.lists l (sym listing ∙ e));
 }
@@ -277,7 +397,7 @@ pools_words k t words words' counts asked list owner s =
       few = let e : n' ≤ p = omega arith in e;
       inside = λ i h. subst (λ (q : ℕ). q < p) (sym (names i (lower i h))) (s.inside i (lower i h));
       once = λ i j h g e. s.once i j (lower i h) (lower j g) (sym (names i (lower i h)) ∙ (e ∙ names j (lower j g)));
-      untaken = λ i h g. ap t.holder (names i (lower i h)) ∙ s.untaken i (lower i h) (subst (λ (m : ℕ × ℕ). (m.0 ≤ i) ⊎ (limit_of k m.1 ≤ i)) (λ j. (asked j, counts j)) g);
+      untaken = λ i h g. ap t.holder (names i (lower i h)) ∙ s.untaken i (lower i h) (subst (λ (m : ℕ). m ≤ i) asked g);
       owners = λ q h. owner q h ∙ s.owners q h;
       owned_by = s.owned_by;
       drawn_by = s.drawn_by;
@@ -299,14 +419,24 @@ pub record Controls (k : Config) (all : Account) (words words' : List ℕ) : Typ
   pub pools : Pools k all.tenancy words'
   pub lists : (number : ℕ) (stage : Stage) (l : Listing) → Lists k words number stage l → Lists k words' number stage l
   pub cycle : NoCycle words'
+  pub reserved : Reserved k all.pause all.tenancy words'
+  pub counts : Promoting all.pause → (listed words' ≡ listed words) × (cursor words' ≡ cursor words)
+  pub listed_young : (a : ℕ) (q : Place) → all.live a ≡ Some q → k.pools * 4096 < a → listed words' ≡ listed words
+  pub drawable : Drawable k all.pause words'
+  pub set_back : (z : DomainView) → Staged all.pause z → HasSetBack z → cursor words ≤ limit_of k (listed words) → cursor words' ≤ limit_of k (listed words')
 
 -- what a domain knows of its pools, by other data of it
-pub hunter_as : (k : Config) (t : Tenancy) (words : List ℕ) (x y : DomainView) → y.own.number ≡ x.own.number → y.seen.hunt ≡ x.seen.hunt → y.own.looked ≡ x.own.looked → y.seen.free ≡ x.seen.free → Hunter k t words x → Hunter k t words y
-hunter_as k t words x y number hunt looked free h = record {
+pub hunter_as : (k : Config) (t : Tenancy) (words : List ℕ) (x y : DomainView) → y.own.number ≡ x.own.number → y.seen.hunt ≡ x.seen.hunt → y.own.looked ≡ x.own.looked → y.seen.free ≡ x.seen.free → y.own.prepared ≡ x.own.prepared → length y.own.pending.items ≡ length x.own.pending.items
+    → Hunter k t words x → Hunter k t words y
+hunter_as k t words x y number hunt looked free prepared pending h = record {
   free = λ f e. h.free f (sym free ∙ e);
   hunt = subst (λ (z : ℕ × Hunt). Hunts k t words z.0 z.1) (λ i. (sym number i, sym hunt i)) h.hunt;
   drawn_alone = λ q e. ap drawn_in hunt ∙ h.drawn_alone q (e ∙ ap drawn number);
   taken = λ q c slot e inside low. h.taken q c slot (e ∙ ap (λ (d : ℕ). owned d c) number) inside (subst (λ (l : List Spot). IsBefore q slot (spot_at l c)) looked low);
+  holds = λ c a few e. let u = h.holds c a few (ap (λ (l : List (Option ℕ)). prepared_at l c) (sym prepared) ∙ e) in (u.0 ∙ ap Some (sym number), (u.1.0, u.1.1, u.1.2 ∙ ap (λ (d : ℕ). owned d c) (sym number), u.1.3, u.1.4));
+  prepared = λ q c slot is inside e. ap (λ (l : List (Option ℕ)). prepared_at l c) prepared ∙ h.prepared q c slot (is ∙ ap (λ (d : ℕ). owned d c) number) inside (e ∙ ap Some number);
+  claims = pending ∙ (h.claims ∙ ap t.stock.claims (sym number));
+  supply = λ c few some. subst (λ (z : ℕ × Hunt). DrawsFor c z.1 ⊎ Latest k t words z.0 c) (λ i. (sym number i, sym hunt i)) (h.supply c few (subst (λ (d : ℕ). 0 < t.stock.drawn d c) number some));
 }
 
 -- another domain's registers and serial stand for what they stood for
@@ -416,11 +546,25 @@ module _ (k : Config) (s : Words) (r : Rule k s) (id : ℕ) (hist : List Entry) 
     pools = pools_same k r.account.tenancy s.words words' c r.whole.pools;
     lists = λ number stage l. lists_control k s.words words' number stage l c;
     cycle = cycle_same k s.words words' c r.whole.cycle;
+    reserved = λ keeps i below above. let n : ℕ = listed s.words in let n' : ℕ = listed words' in let e : n' ≡ n = c 6 (omega arith) in
+        let few : n ≤ k.pools = r.whole.pools.few in
+        let low : i < n = (let g : i < n' = below in omega arith) in
+        ap r.account.tenancy.holder (c (11 + i) (omega arith)) ∙ r.whole.reserved keeps i low (subst (λ (m : ℕ). limit_of k m ≤ i) e above);
+    counts = λ _. (c 6 (omega arith), c 7 (omega arith));
+    listed_young = λ _ _ _ _. c 6 (omega arith);
+    drawable = record {
+      to_run = λ j odd led runs. c 7 (omega arith) ∙ r.whole.drawable.to_run j odd led runs;
+      to_copy = λ j odd led copies. subst (λ (m : ℕ × ℕ). m.0 ≤ limit_of k m.1) (λ i. (sym (c 7 (omega arith)) i, sym (c 6 (omega arith)) i)) (r.whole.drawable.to_copy j odd led copies);
+    };
+    set_back = λ _ _ _ low. subst (λ (m : ℕ × ℕ). m.0 ≤ limit_of k m.1) (λ i. (sym (c 7 (omega arith)) i, sym (c 6 (omega arith)) i)) low;
   }
 
   -- what a running domain owes then
   pub quiet : x.seen.stage ≡ In Run → x.seen.copying ≡ nothing_copied
   quiet runs = quiet_in k r.account.live x my_good.owes (run_not_promote x.seen.stage runs)
+
+  pub run_settled : x.seen.stage ≡ In Run → Settled r.account.live
+  run_settled runs = ⊎_elim (λ (h : Settled r.account.live). h) (λ (h : Promoting r.account.pause). absurd (run_promoting r.account.pause x runs my_good.staged h)) r.whole.settled
 
   -- What a step owes at which an own entry stands, whatever it does to the words
   pub record Appends (e : Entry) (y : DomainView) (words' : List ℕ) (live' : Live) : Type 0 where
@@ -438,16 +582,19 @@ module _ (k : Config) (s : Words) (r : Rule k s) (id : ℕ) (hist : List Entry) 
     pub controls : Controls k r.account s.words words'
     pub found : AllFound k live' (next now e).graph words'
     pub placed : Placed k live'
+    pub spread : Spread k live'
+    pub opened : Opened k live' words'
     pub settled : Settled live'
     pub more : More r.account.live live'
     pub owes : Owes k live' y
     pub recalls : (d : ℕ) → d ≢ x.own.number → Recalls d r.account.live live'
+    pub naming : (b : ℕ) (q : Place) (i d : ℕ) → live' b ≡ Some q → q.named i ≡ Some d → (d < k.domains) × (i + 2 < extent q.shape)
     pub stood : Stood live' (next now e) y
     pub area : Area k live' y
     pub making : Making k words' y
     pub areas : (z : DomainView) → z.own.number ≢ x.own.number → Area k r.account.live z → Area k live' z
     pub makings : (z : DomainView) → z.own.number ≢ x.own.number → Area k r.account.live z → Making k s.words z → Making k words' z
-    pub grid : Grid k r.account.tenancy.holder live' words'
+    pub grid : Grid k r.account.tenancy live' words'
     pub hunter : Hunter k r.account.tenancy words' y
     pub hunters : (z : DomainView) → z.own.number ≢ x.own.number → Good k r.account s.words z → Hunter k r.account.tenancy words' z
 
@@ -462,17 +609,26 @@ module _ (k : Config) (s : Words) (r : Rule k s) (id : ℕ) (hist : List Entry) 
         calm = subst IsCalm (sym after) o.calm;
         found = subst (λ (t : model.State). AllFound k live' t.graph words') (sym after) o.found;
         placed = o.placed;
-        settled = o.settled;
+        spread = o.spread;
+        settled = inl o.settled;
+        copies = copies_settled k live' o.settled o.naming;
+        cleared = λ h. absurd (run_promoting r.account.pause x o.runs my_good.staged h);
+        emptied = λ h. absurd (run_resetting r.account.pause x o.runs my_good.staged h);
         phases = o.controls.phases;
         unwished = λ j odd led runs. o.controls.want ∙ r.whole.unwished j odd led runs;
         endings = o.controls.ended ∙ (r.whole.endings ∙ sym (ap (λ (t : model.State). sum_of (is_over t) k.domains) after ∙ sum_same (is_over now) (is_over (next now e)) k.domains (λ d _. command_over now e o.command d)));
         pools = o.controls.pools;
+        reserved = o.controls.reserved;
         grid = o.grid;
         drawers = r.whole.drawers;
+        room = subst (λ (z : Stock). Room k live' r.account.pause z words') (sym (r.whole.unused (run_promoting r.account.pause x o.runs my_good.staged))) (room_unused k live' r.account.pause r.account.tenancy.stock words' (run_promoting r.account.pause x o.runs my_good.staged));
+        unused = r.whole.unused;
+        opened = o.opened;
+        drawable = o.controls.drawable;
         cycle = o.controls.cycle;
       }
       (knows_entry y e o.alone o.number o.front)
-      record { stood = subst (λ (t : model.State). Stood live' t y) (sym after) o.stood; area = o.area; making = o.making; staged = staged_as r.account.pause x y o.number o.arrivals o.stage my_good.staged; still = run_still log' y (o.stage ∙ o.runs); hunter = o.hunter; resting = resting_runs k s.words words' x y o.runs (o.stage ∙ o.runs) o.listing my_good.resting; took_back = running_took_back words' y (o.stage ∙ o.runs); owes = o.owes }
+      record { stood = subst (λ (t : model.State). Stood live' t y) (sym after) o.stood; area = o.area; making = o.making; staged = staged_as r.account.pause x y o.number o.arrivals o.stage my_good.staged; still = run_still log' y (o.stage ∙ o.runs); hunter = o.hunter; resting = resting_runs k s.words words' x y o.runs (o.stage ∙ o.runs) o.listing my_good.resting; took_back = running_took_back words' y (o.stage ∙ o.runs); owes = o.owes; rooted = λ h. absurd (run_promoting r.account.pause x o.runs my_good.staged h); set_back = λ h. absurd (run_leads Run (sym (o.stage ∙ o.runs) ∙ h.0)) }
       (λ z _ other g. record {
         stood = subst (λ (t : model.State). Stood live' t z) (sym after) (stood_other r.account.live live' now (next now e) z (keeps_next now e z.own.number (o.alone z.own.number other)) o.more g.stood);
         area = o.areas z other g.area;
@@ -480,9 +636,11 @@ module _ (k : Config) (s : Words) (r : Rule k s) (id : ℕ) (hist : List Entry) 
         staged = g.staged;
         still = λ paused. absurd (nobody_paused r.account.pause x z o.runs my_good.staged g.staged paused);
         hunter = o.hunters z other g;
-        resting = resting_other k r.account.pause s.words words' x z o.runs my_good.staged g.staged g.resting;
+        resting = resting_other k r.account.pause s.words words' x z (inl o.runs) my_good.staged g.staged g.resting;
         took_back = λ kind leads last. o.controls.want ∙ g.took_back kind leads last;
+        set_back = λ h. o.controls.set_back z g.staged h (g.set_back h);
         owes = owes_run k r.account.live live' z z o.settled (quiet_in k r.account.live z g.owes (λ e. nobody_paused r.account.pause x z o.runs my_good.staged g.staged (subst IsInPause (sym e) tt))) refl refl o.more (o.recalls z.own.number other) g.owes;
+        rooted = λ h. absurd (run_promoting r.account.pause x o.runs my_good.staged h);
       })
 
   -- What a step owes at which no entry stands and nothing comes to live or moves
@@ -497,6 +655,7 @@ module _ (k : Config) (s : Words) (r : Rule k s) (id : ℕ) (hist : List Entry) 
     pub notes : y.seen.notes ≡ x.seen.notes
     pub copying : y.seen.copying ≡ x.seen.copying
     pub remembered : y.seen.remembered ≡ x.seen.remembered
+    pub registers : y.own.registers ≡ x.own.registers
     pub arrivals : y.own.arrivals ≡ x.own.arrivals
     pub wide : length words' ≡ length s.words
     pub controls : Controls k r.account s.words words'
@@ -505,7 +664,7 @@ module _ (k : Config) (s : Words) (r : Rule k s) (id : ℕ) (hist : List Entry) 
     pub area : Area k r.account.live y
     pub making : Making k words' y
     pub makings : (z : DomainView) → z.own.number ≢ x.own.number → Area k r.account.live z → Making k s.words z → Making k words' z
-    pub grid : Grid k r.account.tenancy.holder r.account.live words'
+    pub grid : Grid k r.account.tenancy r.account.live words'
     pub hunter : Hunter k r.account.tenancy words' y
     pub hunters : (z : DomainView) → z.own.number ≢ x.own.number → Good k r.account s.words z → Hunter k r.account.tenancy words' z
 
@@ -518,18 +677,27 @@ module _ (k : Config) (s : Words) (r : Rule k s) (id : ℕ) (hist : List Entry) 
         calm = r.whole.calm;
         found = o.found;
         placed = r.whole.placed;
+        spread = r.whole.spread;
         settled = r.whole.settled;
+        copies = r.whole.copies;
+        cleared = r.whole.cleared;
+        emptied = r.whole.emptied;
         phases = o.controls.phases;
         unwished = λ j odd led runs. o.controls.want ∙ r.whole.unwished j odd led runs;
         endings = o.controls.ended ∙ r.whole.endings;
         pools = o.controls.pools;
+        reserved = o.controls.reserved;
         grid = o.grid;
         drawers = r.whole.drawers;
+        room = room_words k r.account.live r.account.pause r.account.tenancy.stock s.words words' o.controls.counts r.whole.room;
+        unused = r.whole.unused;
+        opened = opened_words k r.account.live s.words words' o.controls.listed_young r.whole.opened;
+        drawable = o.controls.drawable;
         cycle = o.controls.cycle;
       }
       (knows_front y o.number o.front)
-      record { stood = o.stood; area = o.area; making = o.making; staged = staged_as r.account.pause x y o.number o.arrivals o.stage my_good.staged; still = o.still; hunter = o.hunter; resting = resting_as k words' x y o.number o.stage o.hunt o.free o.listing (resting_lists k s.words words' x o.controls.lists my_good.resting); took_back = λ kind leads last. o.controls.want ∙ my_good.took_back kind (sym o.stage ∙ leads) (sym (ap last_note o.notes) ∙ last); owes = owes_as k r.account.live x y o.number o.copying o.stage o.remembered my_good.owes }
-      (λ z _ other g. record { stood = g.stood; area = g.area; making = o.makings z other g.area g.making; staged = g.staged; still = g.still; hunter = o.hunters z other g; resting = resting_lists k s.words words' z o.controls.lists g.resting; took_back = λ kind leads last. o.controls.want ∙ g.took_back kind leads last; owes = g.owes })
+      record { stood = o.stood; area = o.area; making = o.making; staged = staged_as r.account.pause x y o.number o.arrivals o.stage my_good.staged; still = o.still; hunter = o.hunter; resting = resting_as k words' x y o.number o.stage o.hunt o.free o.listing (resting_lists k s.words words' x o.controls.lists my_good.resting); took_back = λ kind leads last. o.controls.want ∙ my_good.took_back kind (sym o.stage ∙ leads) (sym (ap last_note o.notes) ∙ last); owes = owes_as k r.account.live x y o.number o.copying o.stage o.remembered my_good.owes; rooted = rooted_as k r.account.pause x y o.registers o.arrivals my_good.rooted; set_back = λ h. o.controls.set_back x my_good.staged (sym o.stage ∙ h.0, sym (ap last_note o.notes) ∙ h.1) (my_good.set_back (sym o.stage ∙ h.0, sym (ap last_note o.notes) ∙ h.1)) }
+      (λ z _ other g. record { stood = g.stood; area = g.area; making = o.makings z other g.area g.making; staged = g.staged; still = g.still; hunter = o.hunters z other g; resting = resting_lists k s.words words' z o.controls.lists g.resting; took_back = λ kind leads last. o.controls.want ∙ g.took_back kind leads last; owes = g.owes; rooted = g.rooted; set_back = λ h. o.controls.set_back z g.staged h (g.set_back h) })
 
   -- a step that leaves all but the front, which is then some front of the history
   pub looks : (front : List Entry) → IsFrontOf x.own.number r.account.log front → (IsInPause x.seen.stage → front ≡ r.account.log) → Rule k record { words = s.words; homes = s.homes; views = set s.views id (one k hist (with_front x front)) }
@@ -544,30 +712,36 @@ module _ (k : Config) (s : Words) (r : Rule k s) (id : ℕ) (hist : List Entry) 
     notes = refl;
     copying = refl;
     remembered = refl;
+    registers = refl;
     arrivals = refl;
     wide = refl;
     controls = controls_kept s.words (control_same k s.words);
     found = r.whole.found;
     stood = record { wide = my_good.stood.wide; each = my_good.stood.each; serial = my_good.stood.serial };
-    area = record { room = my_good.area.room; free = my_good.area.free };
+    area = record { room = my_good.area.room; free = my_good.area.free; classes = my_good.area.classes };
     making = record { fits = my_good.making.fits; written = my_good.making.written };
     makings = λ z _ _ p. p;
     grid = r.whole.grid;
-    hunter = hunter_as k r.account.tenancy s.words x (with_front x front) refl refl refl refl my_good.hunter;
+    hunter = hunter_as k r.account.tenancy s.words x (with_front x front) refl refl refl refl refl refl my_good.hunter;
     hunters = λ z _ g. g.hunter;
   }
 
   -- What a step owes that changes the holders of pools or what the domain knows of them. No entry stands and nothing comes to live or moves
   pub record Holds (looked : List Spot) (hunt : Hunt) (free : Option ℕ) (words' : List ℕ) (t' : Tenancy) : Type 0 where
-    pub runs : x.seen.stage ≡ In Run
+    pub takes : Takes x.seen.stage
+    pub known_free : x.seen.stage ≢ In Run → free ≡ None
     pub wide : length words' ≡ length s.words
     pub phases : Phases k r.account.pause words'
     pub want : want words' ≡ want s.words
+    pub listed_same : listed words' ≡ listed s.words
+    pub reserved : Reserved k r.account.pause t' words'
+    pub room : Room k r.account.live r.account.pause t'.stock words'
+    pub unused : IsUnused r.account.pause t'.stock
     pub endings : ended_word words' ≡ ended_word s.words
     pub cycle : NoCycle words'
     pub found : AllFound k r.account.live now.graph words'
     pub pools : Pools k t' words'
-    pub grid : Grid k t'.holder r.account.live words'
+    pub grid : Grid k t' r.account.live words'
     pub drawers : Drawers r.account.pause t'
     pub makings : (z : DomainView) → Making k s.words z → Making k words' z
     pub hunter : Hunter k t' words' (hunting_free x looked hunt free)
@@ -583,28 +757,39 @@ module _ (k : Config) (s : Words) (r : Rule k s) (id : ℕ) (hist : List Entry) 
         calm = r.whole.calm;
         found = o.found;
         placed = r.whole.placed;
+        spread = r.whole.spread;
         settled = r.whole.settled;
+        copies = r.whole.copies;
+        cleared = r.whole.cleared;
+        emptied = r.whole.emptied;
         phases = o.phases;
         unwished = λ j odd led runs. o.want ∙ r.whole.unwished j odd led runs;
         endings = o.endings ∙ r.whole.endings;
         pools = o.pools;
+        reserved = o.reserved;
         grid = o.grid;
         drawers = o.drawers;
+        room = o.room;
+        unused = o.unused;
+        opened = opened_words k r.account.live s.words words' (λ _ _ _ _. o.listed_same) r.whole.opened;
+        drawable = takes_drawable k r.account.pause words' x o.takes my_good.staged;
         cycle = o.cycle;
       }
       (knows_front (hunting_free x looked hunt free) refl mine.front)
       record {
         stood = record { wide = my_good.stood.wide; each = my_good.stood.each; serial = my_good.stood.serial };
-        area = record { room = my_good.area.room; free = my_good.area.free };
+        area = record { room = my_good.area.room; free = my_good.area.free; classes = my_good.area.classes };
         making = record { fits = own_making.fits; written = own_making.written };
         staged = record { arrivals = my_good.staged.arrivals; stage = my_good.staged.stage };
         still = my_good.still;
         hunter = o.hunter;
-        resting = resting_runs k s.words words' x (hunting_free x looked hunt free) o.runs o.runs refl my_good.resting;
+        resting = resting_takes k s.words words' x (hunting_free x looked hunt free) o.takes o.takes o.known_free refl my_good.resting;
         took_back = λ kind leads last. o.want ∙ my_good.took_back kind leads last;
         owes = owes_as k r.account.live x (hunting_free x looked hunt free) refl refl refl refl my_good.owes;
+        rooted = my_good.rooted;
+        set_back = λ h. absurd (takes_leads x.seen.stage o.takes (subst IsLeading (sym h.0) tt));
       }
-      (λ z _ other g. record { stood = g.stood; area = g.area; making = o.makings z g.making; staged = g.staged; still = g.still; hunter = o.hunters z other g; resting = resting_other k r.account.pause s.words words' x z o.runs my_good.staged g.staged g.resting; took_back = λ kind leads last. o.want ∙ g.took_back kind leads last; owes = g.owes })
+      (λ z _ other g. record { stood = g.stood; area = g.area; making = o.makings z g.making; staged = g.staged; still = g.still; hunter = o.hunters z other g; resting = resting_other k r.account.pause s.words words' x z o.takes my_good.staged g.staged g.resting; took_back = λ kind leads last. o.want ∙ g.took_back kind leads last; owes = g.owes; rooted = g.rooted; set_back = λ h. absurd (nobody_leads r.account.pause x z o.takes my_good.staged g.staged (subst IsLeading (sym h.0) tt)) })
 
 -- a load leaves the words as they were
 pub unmoved : (k : Config) (s : Words) (at : ℕ) (views : List View) → Rule k record { words = s.words; homes = s.homes; views = views }

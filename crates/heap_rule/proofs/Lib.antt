@@ -11,10 +11,10 @@ pub mod Again
 pub mod Holders
 pub mod Entering
 pub mod Controls
+pub mod Drops
 pub mod Blocks
 pub mod Beside
 pub mod Born
-pub mod Returns
 pub mod Seats
 pub mod Starts
 pub mod Dealt

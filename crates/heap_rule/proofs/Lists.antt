@@ -38,6 +38,10 @@ module _ {A : Type 0} where
   got_below (x ∷ xs) zero a e = omega arith
   got_below (x ∷ xs) (suc i) a e = let h = got_below xs i a e in omega arith
 
+  pub no_item : (l : List A) (i : ℕ) (a : A) → l ≡ [] → slice_get l i ≡ Some a → ⊥
+  no_item [] i a none e = cc
+  no_item (x ∷ xs) i a none e = cc
+
   pub got_there : (l : List A) (i : ℕ) → i < length l → (a : A) × (slice_get l i ≡ Some a)
   got_there [] i h = absurd (omega arith)
   got_there (x ∷ xs) zero h = (x, refl)

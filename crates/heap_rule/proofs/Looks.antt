@@ -12,6 +12,8 @@ use Rattle.heap_rule.specs.Changes.{value_at}
 use Rattle.heap_rule.specs.Layout.{heap_words}
 use Rattle.heap_rule.specs.Limits.{sizes_in}
 use Rattle.heap_rule.specs.Token.{IsAddress, LooksWithin, IsSeatOf}
+use Rattle.remembered_set.specs.Bounded.{Bounded}
+use Rattle.heap_rule.specs.declared.view.Own.{Own}
 use Rattle.heap_rule.specs.Views.{one, domain_in, opening_view}
 use Rattle.heap_rule.specs.declared.view.View.{View}
 use Rattle.heap_rule.proofs.Classes.{some_block}
@@ -54,9 +56,13 @@ first_inside : (k : Config) → IsWithinLimits (sizes_in k) → (r a : ℕ) → 
 first_inside k limits zero a e = subst (IsAddress k) (one_ref a e) (let h = heap_large k limits in let x : ℕ = heap_words k in let y : 4096 ≤ x = h in (let z : 1 ≤ 1 = omega arith in z, let z : 1 + 2 ≤ x = omega arith in z))
 first_inside k limits (suc r) a e = absurd (no_ref a (sym (nothing_at 15 r) ∙ e))
 
-pub first_seat : (k : Config) (n : ℕ) (me : Me (Unit {0}) View) → me ≡ (one k [] (opening_view n), []) → IsWithinLimits (sizes_in k) → n < k.domains
-    → IsSeatOf k (record { own = (opening_view n).own; seen = (domain_in me.0.domains).seen }) me
-first_seat k n me e limits inside = subst (λ (m : Me (Unit {0}) View). IsSeatOf k (record { own = (opening_view n).own; seen = (domain_in m.0.domains).seen }) m) (sym e) record {
+-- an empty list with so much room
+pub empty_list : {T : Type 0} (b : Bounded T) (room : ℕ) → b.items ≡ [] → b.room ≡ room → b ≡ record { items = []; room = room }
+empty_list b room none free = λ i. record { items = none i; room = free i }
+
+pub first_seat : (k : Config) (n : ℕ) (own : Own) (me : Me (Unit {0}) View) → own ≡ (opening_view k n).own → me ≡ (one k [] (opening_view k n), []) → IsWithinLimits (sizes_in k) → n < k.domains
+    → IsSeatOf k (record { own = own; seen = (domain_in me.0.domains).seen }) me
+first_seat k n own me is e limits inside = subst (λ (m : Own × Me (Unit {0}) View). IsSeatOf k (record { own = m.0; seen = (domain_in m.1.0.domains).seen }) m.1) (λ i. (sym is i, sym e i)) record {
   seat = refl;
   limits = limits;
   fits = record {
@@ -64,5 +70,7 @@ first_seat k n me e limits inside = subst (λ (m : Me (Unit {0}) View). IsSeatOf
     used = omega arith;
     registers = record { wide = refl; packable = λ r few. first_packable r; inside = λ r a few is. first_inside k limits r a is };
     looked = looks_first k;
+    prepared = refl;
+    pending = omega arith;
   };
 }

@@ -1,21 +1,29 @@
 -- What a written word leaves of the pools.
 use Rattle.heap_model.specs.Domains.{class_count}
-use Rattle.std.proofs.Common.{◌^◌, Option, None, ◌≡◌, ◌≢◌, ℕ, ◌+◌, ◌*◌, ◌<◌, ◌≤◌, ◌⊎◌, List, length, get_or, set, Some, sym, ap, ◌∙◌, subst, inl, inr, ⊎_elim, arith, get_or-set_other, lt_of_not-le, false}
+use Rattle.std.proofs.Common.{refl, ◌^◌, Option, None, ◌≡◌, ◌≢◌, ℕ, ◌+◌, ◌*◌, ◌<◌, ◌≤◌, ◌⊎◌, List, length, get_or, set, Some, sym, ap, ◌∙◌, subst, inl, inr, ⊎_elim, arith, get_or-set_other, lt_of_not-le, false}
 use mathlib.Core.Logic.{dite}
 use native.Mathlib.Decide.{ℕ_discrete, dec_le}
 use Rattle.heap_rule.specs.declared.config.Config.{Config}
 use Rattle.heap_rule.specs.declared.view.Hunt.{Hunt}
-use Rattle.heap_rule.specs.declared.view.Hunt.TheVariants.{Rests, Counts, Asks, Draws, Walks, Fills}
+use Rattle.heap_rule.specs.declared.view.Hunt.TheVariants.{Rests, Counts, Asks, Draws, Walks, Fills, Labels, Heads}
 use Rattle.heap_rule.specs.declared.view.DomainView.{DomainView}
 use Rattle.heap_rule.specs.Layout.{before_heap, at_address}
 use Rattle.heap_rule.specs.Places.{unmarked, Place, Live, extent, head_of, Found, HeadIs, More}
 use Rattle.heap_model.specs.Graph.{Graph}
 use Rattle.heap_model.specs.Fronts.{Shape, PlainShape, RawShape, EpheShape}
 use Rattle.heap_words.specs.Heads.{head_word}
-use Rattle.heap_rule.specs.Pools.{Holder, drawn, owned, Tenancy, Pools, Grid, Hunts, Hunter, place_in, size_of, blocks_of, limit_of}
+use Rattle.heap_rule.specs.Pools.{Holder, drawn, owned, Tenancy, OwnPlace, IsSpare, Pools, Grid, Hunts, Hunter, Latest, DrawsFor, place_in, size_of, blocks_of, limit_of}
 use Rattle.heap_rule.proofs.Lists.{got_below}
 use Rattle.heap_rule.proofs.Keeps.{control_set}
 use Rattle.heap_rule.proofs.Classes.{size_least, slot_below, slot_inside}
+
+pub number_cases : (o : Option ℕ) → (o ≡ None) ⊎ ((d : ℕ) × (o ≡ Some d))
+number_cases None = inl refl
+number_cases (Some d) = inr (d, refl)
+
+pub place_cases : (o : Option Place) → (o ≡ None) ⊎ ((q : Place) × (o ≡ Some q))
+place_cases None = inl refl
+place_cases (Some q) = inr (q, refl)
 
 -- the pool of one holder isn't that of another
 pub drawn_same : (d e : ℕ) → ◌≡◌ {A = Holder} (drawn d) (drawn e) → d ≡ e
@@ -24,11 +32,22 @@ drawn_same d e h = cc
 pub owned_same : (d e c b : ℕ) → ◌≡◌ {A = Holder} (owned d c) (owned e b) → (d ≡ e) × (c ≡ b)
 owned_same d e c b h = (cc, cc)
 
--- The written word is none that a domain's knowledge of its pools rests on: it lies in no pool that the domain has drawn, and of each place of its own pools either outside, or behind a head that isn't Free
+-- The written word is none that a domain's knowledge of its pools rests on: it lies in no pool that the domain has drawn, and of each place of its own pools either outside, or behind a head that isn't Free, where the place isn't prepared
 pub record Beside (k : Config) (t : Tenancy) (words : List ℕ) (d at : ℕ) : Type 0 where
   pub low : 1 ≤ at
   pub not_drawn : (q : ℕ) → t.holder q ≡ drawn d → (at ≤ q * 4096) ⊎ (q * 4096 + 4096 < at)
-  pub not_place : (q c slot : ℕ) → t.holder q ≡ owned d c → slot < blocks_of c → ((at < place_in q c slot) ⊎ (place_in q c slot + size_of c ≤ at)) ⊎ ((place_in q c slot < at) × (at_address k words (place_in q c slot) ≢ 0))
+  pub not_place : (q c slot : ℕ) → t.holder q ≡ owned d c → slot < blocks_of c → ((at < place_in q c slot) ⊎ (place_in q c slot + size_of c ≤ at)) ⊎ ((place_in q c slot < at) × (at_address k words (place_in q c slot) ≢ 0) × (t.prepared (place_in q c slot) ≡ None))
+
+-- a place of an owned pool lies in the pools
+pub place_low : (k : Config) (t : Tenancy) (words : List ℕ) (a d : ℕ) → Pools k t words → OwnPlace t.holder a d → a ≤ k.pools * 4096
+place_low k t words a d p o =
+    let e = p.owned_by o.pool d o.class o.owned_is in
+    let u : ℕ = o.slot * size_of o.class in
+    let v : ℕ = size_of o.class in
+    let top : u + v ≤ 4096 = slot_inside o.class o.slot e.2 o.inside in
+    let large : 4 ≤ v = size_least o.class e.2 in
+    let below : o.pool < k.pools = e.0 in
+    let begins : a ≡ o.pool * 4096 + u + 1 = o.begins in omega arith
 
 module _ (k : Config) (t : Tenancy) (words : List ℕ) (at new : ℕ) where
   abbrev ws : List ℕ
@@ -46,7 +65,19 @@ module _ (k : Config) (t : Tenancy) (words : List ℕ) (at new : ℕ) where
       let a : ℕ = place_in q c slot in
       let z : ℕ = size_of c in
       let large : 4 ≤ z = size_least c (p.owned_by q d c is).2 in
-      stays a (λ e. let same : a ≡ at = e in ⊎_elim (λ (o : (at < a) ⊎ (a + z ≤ at)). ⊎_elim (λ (h : at < a). omega arith) (λ (h : a + z ≤ at). omega arith) o) (λ (o : (a < at) × (at_address k words a ≢ 0)). let h = o.0 in omega arith) (b.not_place q c slot is inside))
+      stays a (λ e. let same : a ≡ at = e in ⊎_elim (λ (o : (at < a) ⊎ (a + z ≤ at)). ⊎_elim (λ (h : at < a). omega arith) (λ (h : a + z ≤ at). omega arith) o) (λ (o : (a < at) × (at_address k words a ≢ 0) × (t.prepared a ≡ None)). let h = o.0 in omega arith) (b.not_place q c slot is inside))
+
+  -- the first two words of a prepared place stay
+  prepared_stays : (p : Pools k t words) (d : ℕ) → Beside k t words d at → (a i : ℕ) → OwnPlace t.holder a d → t.prepared a ≡ Some d → i < 2 → at_address k ws (a + i) ≡ at_address k words (a + i)
+  prepared_stays p d b a i o is few =
+      let here : ℕ = place_in o.pool o.class o.slot in
+      let at_here : a ≡ here = o.begins in
+      let z : ℕ = size_of o.class in
+      let large : 4 ≤ z = size_least o.class (p.owned_by o.pool d o.class o.owned_is).2 in
+      stays (a + i) (λ e. let same : a + i ≡ at = e in ⊎_elim
+          (λ (h : (at < here) ⊎ (here + z ≤ at)). ⊎_elim (λ (h : at < here). omega arith) (λ (h : here + z ≤ at). omega arith) h)
+          (λ (h : (here < at) × (at_address k words here ≢ 0) × (t.prepared here ≡ None)). let e : ◌≡◌ {A = Option ℕ} None (Some d) = sym h.2 ∙ (ap t.prepared (sym at_here) ∙ is) in cc)
+          (b.not_place o.pool o.class o.slot o.owned_is o.inside))
 
   drawn_stays : (d : ℕ) → Beside k t words d at → (p : Pools k t words) → (q c j : ℕ) → t.holder q ≡ drawn d → c < class_count → j < blocks_of c → at_address k ws (place_in q c j) ≡ at_address k words (place_in q c j)
   drawn_stays d b p q c j is few inside =
@@ -82,23 +113,47 @@ module _ (k : Config) (t : Tenancy) (words : List ℕ) (at new : ℕ) where
             let below : j < length made = got_below made j w got in
             let n : ℕ = length made in
             let fits : n < z = u.fits in
-            ⊎_elim (λ (o : (at < a) ⊎ (a + z ≤ at)). ⊎_elim (λ (h : at < a). omega arith) (λ (h : a + z ≤ at). omega arith) o) (λ (o : (a < at) × (at_address k words a ≢ 0)). o.1 u.free) (b.not_place pool class slot u.own_is u.inside)) ∙ u.written j w got;
+            ⊎_elim (λ (o : (at < a) ⊎ (a + z ≤ at)). ⊎_elim (λ (h : at < a). omega arith) (λ (h : a + z ≤ at). omega arith) o) (λ (o : (a < at) × (at_address k words a ≢ 0) × (t.prepared a ≡ None)). o.1 u.free) (b.not_place pool class slot u.own_is u.inside)) ∙ u.written j w got;
       }
+  hunts_beside p d b (Labels address label) u = (u.0, u.1, prepared_stays p d b address 1 u.1 u.0 (omega arith) ∙ u.2)
+  hunts_beside p d b (Heads address label head) u = (u.0, u.1, prepared_stays p d b address 1 u.1 u.0 (omega arith) ∙ u.2, head_stays ∙ u.3) where
+    head_stays : at_address k ws address ≡ at_address k words address
+    head_stays = let e : address + 0 ≡ address = omega arith in sym (ap (at_address k ws) e) ∙ (prepared_stays p d b address 0 u.1 u.0 (omega arith) ∙ ap (at_address k words) e)
+
+  pub latest_beside : (p : Pools k t words) (d c : ℕ) → Beside k t words d at → Latest k t words d c → Latest k t ws d c
+  latest_beside p d c b l = record {
+    own_is = l.own_is;
+    few = l.few;
+    enough = l.enough;
+    rest = λ j from inside. ⊎_elim (λ (z : at_address k words (place_in (t.stock.latest d c) c j) ≡ 0). inl (place_stays p d b (t.stock.latest d c) c j l.own_is inside ∙ z)) (λ z. inr z) (l.rest j from inside);
+  }
 
   pub hunter_beside : (p : Pools k t words) (z : DomainView) → Beside k t words z.own.number at → Hunter k t words z → Hunter k t ws z
   hunter_beside p z b h = record {
     hunt = hunts_beside p z.own.number b z.seen.hunt h.hunt;
     drawn_alone = h.drawn_alone;
-    free = λ f e. subst (λ (m : ℕ × ℕ). (m.0 ≤ f + m.1) × (m.0 ≤ f + limit_of k m.0)) (λ i. (sym (control_stays b.low 6 (omega arith)) i, sym (control_stays b.low 7 (omega arith)) i)) (h.free f e);
+    holds = h.holds;
+    prepared = h.prepared;
+    claims = h.claims;
+    supply = λ c few some. ⊎_elim (λ (u : DrawsFor c z.seen.hunt). inl u) (λ (l : Latest k t words z.own.number c). inr (latest_beside p z.own.number c b l)) (h.supply c few some);
+    free = λ f e. subst (λ (m : ℕ × ℕ). (m.0 ≤ f + m.1) × (m.0 ≤ f + limit_of k m.0) × (f ≤ m.0)) (λ i. (sym (control_stays b.low 6 (omega arith)) i, sym (control_stays b.low 7 (omega arith)) i)) (h.free f e);
     taken = λ q c slot is inside low e. h.taken q c slot is inside low (sym (place_stays p z.own.number b q c slot is inside) ∙ e);
   }
 
   -- the grid stays where the word is beside the places of all
-  pub grid_beside : (live live' : Live) → (p : Pools k t words) → ((d : ℕ) → Beside k t words d at) → More live live' → ((a : ℕ) (q : Place) → live' a ≡ Some q → a ≤ k.pools * 4096 → live a ≡ Some q) → Grid k t.holder live words → Grid k t.holder live' ws
+  pub grid_beside : (live live' : Live) → (p : Pools k t words) → ((d : ℕ) → Beside k t words d at) → More live live' → ((a : ℕ) (q : Place) → live' a ≡ Some q → a ≤ k.pools * 4096 → live a ≡ Some q) → Grid k t live words → Grid k t live' ws
   grid_beside live live' p b more old g = record {
     lots = λ a q lives low. g.lots a q (old a q lives low) low;
-    places = λ q d c slot is inside. ⊎_elim (λ (h : at_address k words (place_in q c slot) ≡ 0). inl (place_stays p d (b d) q c slot is inside ∙ h)) (λ (h : (o : Place) × (live (place_in q c slot) ≡ Some o)). (let m = more (place_in q c slot) h.0 h.1 in inr (m.place, m.lives))) (g.places q d c slot is inside);
-  }
+    places = λ q d c slot is inside. ⊎_elim (λ (h : at_address k words (place_in q c slot) ≡ 0). inl (place_stays p d (b d) q c slot is inside ∙ h))
+        (λ h. inr (⊎_elim (λ (h : (o : Place) × (live (place_in q c slot) ≡ Some o)). (let m = more (place_in q c slot) h.0 h.1 in inl (m.place, m.lives))) (λ (h : t.prepared (place_in q c slot) ≡ Some d). inr h) h)) (g.places q d c slot is inside);
+    spares = λ a d is. let s = g.spares a d is in let o = s.own in record {
+      own = o;
+      head = λ e. s.head (ap (at_address k words) o.begins ∙ (sym (place_stays p d (b d) o.pool o.class o.slot o.owned_is o.inside) ∙ (sym (ap (at_address k ws) o.begins) ∙ e)));
+      empty = empty_old a d s;
+    };
+  } where
+    empty_old : (a d : ℕ) → IsSpare k t.holder live words a d → live' a ≡ None
+    empty_old a d s = ⊎_elim (λ (e : live' a ≡ None). e) (λ (h : (q : Place) × (live' a ≡ Some q)). absurd (let e : ◌≡◌ {A = Option Place} None (Some h.0) = sym s.empty ∙ old a h.0 h.1 (place_low k t words a d p s.own) in cc)) (place_cases (live' a))
 
   -- a word of a minor area is beside all pools
   pub area_beside : (p : Pools k t words) → k.pools * 4096 < at → (d : ℕ) → Beside k t words d at
@@ -131,8 +186,12 @@ head_full k live graph words a o f e = head_at_some o.forward o.shape (at_addres
 holder_clash : (d e c : ℕ) → ◌≡◌ {A = Holder} (drawn d) (owned e c) → ⊥
 holder_clash d e c h = cc
 
+-- the place at which a block lives isn't prepared
+pub lived_unprepared : (k : Config) (t : Tenancy) (live : Live) (words : List ℕ) (a : ℕ) (o : Place) → Grid k t live words → live a ≡ Some o → t.prepared a ≡ None
+lived_unprepared k t live words a o g lives = ⊎_elim (λ (e : t.prepared a ≡ None). e) (λ (h : (d : ℕ) × (t.prepared a ≡ Some d)). absurd (let e : ◌≡◌ {A = Option Place} None (Some o) = sym (g.spares a h.0 h.1).empty ∙ lives in cc)) (number_cases (t.prepared a))
+
 -- a word behind the head of a live block is beside all that rests on pools
-pub live_beside : (k : Config) (t : Tenancy) (live : Live) (words : List ℕ) (a i : ℕ) (o : Place) → Pools k t words → Grid k t.holder live words → 1 ≤ a → live a ≡ Some o → 1 ≤ i → i < extent o.shape
+pub live_beside : (k : Config) (t : Tenancy) (live : Live) (words : List ℕ) (a i : ℕ) (o : Place) → Pools k t words → Grid k t live words → 1 ≤ a → live a ≡ Some o → 1 ≤ i → i < extent o.shape
     → at_address k words a ≢ 0 → (d : ℕ) → Beside k t words d (a + i)
 live_beside k t live words a i o p g low lives some inside head d = dite (dec_le a (k.pools * 4096))
     (λ le.
@@ -144,7 +203,8 @@ live_beside k t live words a i o p g low lives some inside head d = dite (dec_le
     let n : ℕ = extent o.shape in
     let fits : n ≤ z = l.fits in
     let j : i < n = inside in
-    let begins : a ≡ l.pool * 4096 + s + 1 = l.begins in record {
+    let begins : a ≡ l.pool * 4096 + s + 1 = l.begins in
+    let unprepared : t.prepared a ≡ None = lived_unprepared k t live words a o g lives in record {
       low = omega arith;
       not_drawn = λ q is. dite (dec_le q l.pool)
           (λ below. dite (ℕ_discrete q l.pool)
@@ -167,7 +227,7 @@ live_beside k t live words a i o p g low lives some inside head d = dite (dec_le
           (λ eq.
           let s_is : s' ≡ y = ap (λ (b : ℕ). b * size_of c) eq in
           let here : a ≡ place_in q c slot = (let e : a ≡ q * 4096 + s' + 1 = omega arith in e) in
-          inr ((let h : q * 4096 + s' + 1 < a + i = omega arith in h), subst (λ (b : ℕ). at_address k words b ≢ 0) here head))
+          inr ((let h : q * 4096 + s' + 1 < a + i = omega arith in h), subst (λ (b : ℕ). at_address k words b ≢ 0) here head, ap t.prepared (sym here) ∙ unprepared))
           (λ differ. dite (dec_le slot l.slot)
           (λ below. let m : s' + z' ≤ y = slot_below c slot l.slot (let b : slot ≤ l.slot = below in let e : slot ≢ l.slot = differ in omega arith) in inl (inr (let h : q * 4096 + s' + 1 + z' ≤ a + i = omega arith in h)))
           (λ above. let m : y + z' ≤ s' = slot_below c l.slot slot (lt_of_not-le above) in inl (inl (let h : a + i < q * 4096 + s' + 1 = omega arith in h)))))

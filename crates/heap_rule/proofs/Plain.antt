@@ -1,5 +1,5 @@
 -- A token's own data after the changes of a step.
-use Rattle.std.proofs.Common.{◌≡◌, ◌<◌, ◌≤◌, ℕ, List, refl, sym, ap, ◌∙◌, subst, inr}
+use Rattle.std.proofs.Common.{◌≡◌, ◌+◌, ◌<◌, ◌≤◌, ℕ, List, length, refl, sym, ap, ◌∙◌, subst, inr}
 use Rattle.heap_model.specs.declared.entry.Entry.{Entry}
 use Rattle.heap_model.specs.declared.reply.Applied.{Applied}
 use Rattle.heap_words.specs.declared.value.Value.{Value}
@@ -23,6 +23,8 @@ fits_changed k own own' read changes is fits holds =
       used = subst (λ (o : Own). o.used ≤ k.minor_words) (sym only) fits.used;
       registers = holds;
       looked = subst (λ (o : Own). LooksWithin k o.looked) (sym only) fits.looked;
+      prepared = ap (λ (o : Own). length o.prepared) only ∙ fits.prepared;
+      pending = ap (λ (o : Own). o.pending.room + length o.pending.items) only ∙ fits.pending;
     }
 
 pub entered_own : (k : Config) (e : Entry) (answer : Applied) (read : Value) (changes : List Change) (x y : DomainView) → Entered k e answer read changes x y → y.own ≡ changed read changes x.own

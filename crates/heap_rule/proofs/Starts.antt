@@ -22,12 +22,12 @@ use Rattle.heap_rule.specs.Limits.{sizes_in}
 use Rattle.heap_rule.specs.Layout.{heap_words, at_address, listed_pool, owner_of, listed, cursor}
 use Rattle.heap_rule.specs.Places.{Place, Live, extent, Stands, Found, Fits, Placed, IsBare, Settled, IsOldWord, Debt}
 use Rattle.heap_rule.specs.Changes.{value_at}
-use Rattle.heap_rule.specs.declared.phase.Kind.TheVariants.{Run}
+use Rattle.heap_rule.specs.declared.phase.Kind.TheVariants.{Run, Promote, Reset}
 use Rattle.heap_rule.specs.Phases.{Pause, sum_of, is_over, flag}
-use Rattle.heap_rule.proofs.Keeps.{sum_same, run_leads}
+use Rattle.heap_rule.proofs.Keeps.{sum_same, run_leads, copies_settled, room_unused}
 use Rattle.heap_rule.specs.Views.{EachView, AllDomains, Distinct, IsSeated, Knows, opening_view, opening_views, first_view}
 use Rattle.heap_rule.specs.Rule.{Stood, Area, Account, Good, Whole, Rule}
-use Rattle.heap_rule.specs.Pools.{Holder, nobody, drawn, owned, owner_word, Tenancy, Pools, Lot, Grid, place_in, size_of, blocks_of, IsBefore}
+use Rattle.heap_rule.specs.Pools.{no_stock, IsPlace, Holder, nobody, drawn, owned, owner_word, Tenancy, Pools, Lot, Grid, place_in, size_of, blocks_of, IsBefore}
 use Rattle.heap_rule.proofs.Lots.{owned_same}
 use Rattle.heap_rule.specs.Opening.{IsOpening}
 use Rattle.heap_rule.proofs.Update.{over, over_here, over_else}
@@ -54,7 +54,7 @@ first_holders : ℕ → Holder
 first_holders = over 0 (owned 0 3) (λ _. nobody)
 
 abbrev first_tenancy : Tenancy
-first_tenancy = record { holder = first_holders; asking = λ _. 0 }
+first_tenancy = record { holder = first_holders; asking = λ _. 0; prepared = λ _. None; stock = no_stock }
 
 holder_first : first_holders 0 ≡ owned 0 3
 unfolding first_holders
@@ -98,13 +98,24 @@ get_zero (suc n) (suc c) = get_zero n c
 no_free : (f : ℕ) → ◌≡◌ {A = Option ℕ} None (Some f) → ⊥
 no_free f e = cc
 
-views_later : (P : DomainView → Type 0) (d n : ℕ) → ((i : ℕ) → d ≤ i → i < d + n → P (opening_view i)) → AllDomains P (opening_views d n)
-views_later P d zero f = tt
-views_later P d (suc n) f = (f d (omega arith) (omega arith), views_later P (d + 1) n (λ x a b. f x (omega arith) (omega arith)))
+views_later : (k : Config) (P : DomainView → Type 0) (d n : ℕ) → ((i : ℕ) → d ≤ i → i < d + n → P (opening_view k i)) → AllDomains P (opening_views k d n)
+views_later k P d zero f = tt
+views_later k P d (suc n) f = (f d (omega arith) (omega arith), views_later k P (d + 1) n (λ x a b. f x (omega arith) (omega arith)))
 
-distinct_later : (d n : ℕ) → Distinct (opening_views d n)
-distinct_later d zero = tt
-distinct_later d (suc n) = (views_later (λ y. y.own.number ≢ d) (d + 1) n (λ x a b e. omega arith), distinct_later (d + 1) n)
+distinct_later : (k : Config) (d n : ℕ) → Distinct (opening_views k d n)
+distinct_later k d zero = tt
+distinct_later k d (suc n) = (views_later k (λ y. y.own.number ≢ d) (d + 1) n (λ x a b e. omega arith), distinct_later k (d + 1) n)
+
+no_spare : (a d : ℕ) → ◌≡◌ {A = Option ℕ} None (Some d) → ⊥
+no_spare a d e = cc
+
+abbrev no_place : Option ℕ
+no_place = None
+
+prepared_first : (n c : ℕ) → get_or (replicate n no_place) c no_place ≡ no_place
+prepared_first zero c = refl
+prepared_first (suc n) zero = refl
+prepared_first (suc n) (suc c) = prepared_first n c
 
 -- each domain of the opening state
 replicated : (n d : ℕ) → d < n → get_or (replicate n opening_domain) d no_domain ≡ opening_domain
@@ -159,10 +170,17 @@ module _ (k : Config) (limits : IsWithinLimits (sizes_in k)) (words : List ℕ) 
     apart = λ a b p q e f ne. absurd (ne ((only_at a p e).0 ∙ sym (only_at b q f).0));
   }
 
+  -- the shared block lies in a pool
+  only_old : (a : ℕ) (p : Place) → only a ≡ Some p → k.pools * 4096 < a → ⊥
+  only_old a p e young = let one : a ≡ 1 = (only_at a p e).0 in let h = limits.some_pools in omega arith
+
   only_settled : Settled only
   only_settled a p e = subst IsBare (only_at a p e).1 record { no_forward = refl; no_debt = refl }
 
-  first_owes : (d : ℕ) → Owes k only (opening_view d)
+  not_named : (b : ℕ) (p : Place) (i d : ℕ) → only b ≡ Some p → p.named i ≡ Some d → ⊥
+  not_named b p i d lives named = let e : ◌≡◌ {A = Option ℕ} None (Some d) = ap (λ (z : Place). z.named i) (only_at b p lives).1 ∙ named in cc
+
+  first_owes : (d : ℕ) → Owes k only (opening_view k d)
   first_owes d = record {
     quiet = inl refl;
     knows = λ a p e. let f : ◌≡◌ {A = Option Place} None (Some p) = e in cc;
@@ -173,7 +191,7 @@ module _ (k : Config) (limits : IsWithinLimits (sizes_in k)) (words : List ℕ) 
     fields = λ j a e. cc;
   }
 
-  stood : (d : ℕ) → d < k.domains → Stood only s0 (opening_view d)
+  stood : (d : ℕ) → d < k.domains → Stood only s0 (opening_view k d)
   stood d below = let is = replicated k.domains d below in record {
     wide = refl;
     each = λ r few. subst (λ (x : DomainState). Stands only (value_at (Ref 1 ∷ replicate 15 NothingWord) r) (get_or x.registers r Nothing)) (sym is) (each r);
@@ -188,12 +206,13 @@ module _ (k : Config) (limits : IsWithinLimits (sizes_in k)) (words : List ℕ) 
     each zero = (shared_place, only_is, refl)
     each (suc r) = nothings 15 r
 
-  area : (d : ℕ) → Area k only (opening_view d)
+  area : (d : ℕ) → Area k only (opening_view k d)
   area d = record {
     room = omega arith;
     free = λ a p e. let t = only_at a p e in let one : a ≡ 1 = t.0 in let size : extent p.shape ≡ 18 = ap (λ (x : Place). extent x.shape) (sym t.1) in
         let h = limits.some_pools in let y : ℕ = d * k.minor_words in let z : ℕ = extent p.shape in let w : z ≡ 18 = size in
         inl (let g : a + z ≤ k.pools * 4096 + y + 1 + 0 = omega arith in g);
+    classes = λ a p e young. absurd (only_old a p e young);
   }
 
   first_pools : Pools k first_tenancy words
@@ -232,15 +251,16 @@ module _ (k : Config) (limits : IsWithinLimits (sizes_in k)) (words : List ℕ) 
   first_place : place_in 0 3 0 ≡ 1
   first_place = let z : ℕ = size_of 3 in let o : 0 * 4096 + 0 * z + 1 ≡ 1 = omega arith in o
 
-  first_grid : Grid k first_holders only words
+  first_grid : Grid k first_tenancy only words
   first_grid = record {
     lots = λ a p e low. let t = only_at a p e in subst (λ (x : ℕ × Place). Lot first_holders x.0 x.1) (λ i. (sym t.0 i, t.1 i))
         record { pool = 0; domain = 0; class = 3; slot = 0; owned_is = holder_first; inside = shared_inside; begins = (let z : ℕ = size_of 3 in let o : 1 ≡ 0 * 4096 + 0 * z + 1 = omega arith in o); fits = shared_fits };
     places = λ q d c slot e inside. let o = holder_at q d c e in
-        subst (λ (x : ℕ × ℕ). (at_address k words (place_in x.0 x.1 slot) ≡ 0) ⊎ ((p : Place) × (only (place_in x.0 x.1 slot) ≡ Some p))) (λ i. (sym o.0 i, o.2 i))
+        subst (λ (x : ℕ × ℕ). IsPlace k first_tenancy only words d (place_in x.0 x.1 slot)) (λ i. (sym o.0 i, o.2 i))
         (dite (ℕ_discrete slot 0)
-        (λ same. inr (shared_place, ap only (ap (place_in 0 3) same ∙ first_place) ∙ only_is))
+        (λ same. inr (inl (shared_place, ap only (ap (place_in 0 3) same ∙ first_place) ∙ only_is)))
         (λ other. inl (opens.rest (place_in 0 3 slot) (large_places slot (let n : slot ≢ 0 = other in omega arith)))));
+    spares = λ a d e. absurd (no_spare a d e);
   }
 
   abbrev first_account : Account
@@ -253,7 +273,12 @@ module _ (k : Config) (limits : IsWithinLimits (sizes_in k)) (words : List ℕ) 
     calm = record { mode = refl; queues = queues_empty k.domains };
     found = λ a p e. let t = only_at a p e in subst (λ (x : ℕ × Place). Found k only s0.graph words x.0 x.1) (λ i. (sym t.0 i, t.1 i)) found;
     placed = placed;
-    settled = only_settled;
+    spread = record { apart = λ a b p q e f young. absurd (only_old a p e young); inside = λ a p e young. absurd (only_old a p e young) };
+    settled = inl only_settled;
+    copies = copies_settled k only only_settled (λ b p i d lives named. absurd (not_named b p i d lives named));
+    cleared = λ h. absurd (let e : Run ≡ Promote = h.2 in cc);
+    emptied = λ h. absurd (⊎_elim (λ (t : (j : ℕ) × (0 ≡ j * 2 + 1) × (Run ≡ Promote)). let e : Run ≡ Promote = t.2 in cc)
+        (λ g. ⊎_elim (λ (t : (j : ℕ) × (0 ≡ j * 2) × (Run ≡ Reset)). let e : Run ≡ Reset = t.2 in cc) (λ (t : (j : ℕ) × (0 ≡ j * 2 + 1) × (Run ≡ Reset)). let e : Run ≡ Reset = t.2 in cc) g) h);
     phases = record {
       sum = opens.rested.arrivals ∙ sym (sum_zero k.domains);
       begun = omega arith;
@@ -267,39 +292,51 @@ module _ (k : Config) (limits : IsWithinLimits (sizes_in k)) (words : List ℕ) 
     endings = opens.rested.nobody_ended ∙ sym (sum_same (λ _. 0) (is_over s0) k.domains (λ d below. ap (λ (x : DomainState). flag x.ended) (replicated k.domains d below)) ∙ sum_zero k.domains);
     pools = first_pools;
     grid = first_grid;
-    drawers = λ q d e. absurd (none_drawn q d e);
+    reserved = λ _ i h above. let n : ℕ = listed words in let P : ℕ = k.pools in let count : n ≡ P - 1 = opens.pools.count in
+        ap first_holders (opens.pools.list i (let g : i < n = h in omega arith)) ∙ holder_else (i + 1) (λ e. omega arith);
+    drawers = record { drawn = λ q d e. absurd (none_drawn q d e); prepared = λ a d e. absurd (no_spare a d e); claims = λ d some. absurd (let h : 0 < 0 = some in omega arith) };
+    room = room_unused k only first_pause no_stock words (λ h. let e : Run ≡ Promote = h.2 in cc);
+    unused = λ _. refl;
+    opened = λ a q e young. absurd (only_old a q e young);
+    drawable = record { to_run = λ j odd _ _. absurd (let h : 0 ≡ j * 2 + 1 = odd in omega arith); to_copy = λ j odd _ _. absurd (let h : 0 ≡ j * 2 + 1 = odd in omega arith) };
     cycle = opens.cycle;
   }
 
   pub starts : Rule k (opening words [] (first_view k))
   unfolding first_view
   starts =
-      let v : View = record { config = k; history = []; domains = opening_views 0 k.domains } in record {
+      let v : View = record { config = k; history = []; domains = opening_views k 0 k.domains } in record {
         account = first_account;
         seat = λ _. 0;
         limits = limits;
         whole = whole;
         seats = λ d. lit< tt;
         views = sole (Knows k [] (λ _. 0)) v record {
-          config = views_later (λ _. k ≡ k) 0 k.domains (λ x a b. refl);
+          config = views_later k (λ _. k ≡ k) 0 k.domains (λ x a b. refl);
           history = record { rest = []; appends = refl };
-          domains = views_later (IsSeated k [] (λ _. 0) 0) 0 k.domains (λ x a b. record { inside = omega arith; here = refl; front = record { rest = []; appends = refl; others = refl } });
-          distinct = distinct_later 0 k.domains;
+          domains = views_later k (IsSeated k [] (λ _. 0) 0) 0 k.domains (λ x a b. record { inside = omega arith; here = refl; front = record { rest = []; appends = refl; others = refl } });
+          distinct = distinct_later k 0 k.domains;
         };
-        good = sole (λ _ u. AllDomains (Good k first_account words) u.domains) v (views_later (Good k first_account words) 0 k.domains (λ x a b. record {
+        good = sole (λ _ u. AllDomains (Good k first_account words) u.domains) v (views_later k (Good k first_account words) 0 k.domains (λ x a b. record {
           stood = stood x (omega arith);
           area = area x;
           making = record { fits = λ j w e. cc; written = λ j w e. cc };
           staged = record { arrivals = refl; stage = (refl, (0, refl, refl)) };
           still = λ paused. absurd paused;
           owes = first_owes x;
+          rooted = λ h. absurd (let e : Run ≡ Promote = h.2 in cc);
           hunter = record {
             hunt = tt;
             free = λ f e. absurd (no_free f e);
             drawn_alone = λ q e. absurd (none_drawn q x e);
+            holds = λ c a few e. absurd (no_spare a a (sym (prepared_first class_count c) ∙ e));
+            prepared = λ q c slot is inside e. absurd (no_spare (place_in q c slot) x e);
+            claims = refl;
+            supply = λ c few some. absurd (let h : 0 < 0 = some in omega arith);
             taken = λ q c slot e inside low. absurd (⊎_elim (λ (h : q < 0). omega arith) (λ (h : (q ≡ 0) × (slot < 0)). let l = h.1 in omega arith) (subst (λ (m : Spot). IsBefore q slot m) (get_zero class_count c) low));
           };
           resting = record { hunt = λ n. refl; free = λ n. refl; lists = λ l e. cc };
           took_back = λ kind leads last. absurd (run_leads kind leads);
+          set_back = λ h. absurd (run_leads Run h.0);
         }));
       }

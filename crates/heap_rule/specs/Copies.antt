@@ -1,5 +1,5 @@
 -- What a domain knows and owes in a collection of young blocks.
-use Rattle.std.specs.Prelude.{◌≡◌, ℕ, ◌+◌, ◌<◌, ◌⊎◌, cond, eqb, List, [], ◌∷◌, slice_get, Some, None}
+use Rattle.std.specs.Prelude.{◌≡◌, ◌≢◌, ℕ, ◌+◌, ◌*◌, ◌<◌, ◌⊎◌, cond, eqb, List, [], ◌∷◌, slice_get, Some, None}
 use Rattle.heap_model.specs.Fronts.{Shape, PlainShape, EpheShape}
 use Rattle.heap_rule.specs.declared.view.Form.{Form}
 use Rattle.heap_rule.specs.declared.view.Form.TheVariants.{Plain, Ephe}
@@ -10,6 +10,11 @@ use Rattle.heap_rule.specs.declared.view.DomainView.{DomainView}
 use Rattle.heap_rule.specs.declared.phase.Kind.TheVariants.{Promote}
 use Rattle.heap_rule.specs.declared.phase.Stage.TheVariants.{In}
 use Rattle.heap_rule.specs.declared.config.Config.{Config}
+use Rattle.heap_words.specs.declared.value.Value as words
+use Rattle.heap_words.specs.declared.value.Value.TheVariants.{Ref}
+use Rattle.heap_rule.specs.declared.phase.Kind.TheVariants.{Reset}
+use Rattle.heap_rule.specs.Changes.{value_at}
+use Rattle.heap_rule.specs.Phases.{Pause}
 use Rattle.heap_rule.specs.Places.{Debt, Place, Live, More, extent, IsOldAt}
 
 -- no block was met, and no copy is to be filled
@@ -67,3 +72,61 @@ pub record Remembers (live : Live) (d b i : ℕ) : Type 0 where
 
 abbrev pub Recalls : ℕ → Live → Live → Type 0
 Recalls d live live' = (b : ℕ) (q : Place) (i : ℕ) → live' b ≡ Some q → q.named i ≡ Some d → Remembers live d b i
+
+-- a block that forwards is in a minor area, and its copy, the same block, in a pool
+pub record Leads (k : Config) (live : Live) (a : ℕ) (p : Place) (c : ℕ) : Type 0 where
+  pub young : k.pools * 4096 < a
+  pub old : IsOldAt k c
+  pub filled : p.owed ≡ None
+  pub place : Place
+  pub lives : live c ≡ Some place
+  pub label : place.label ≡ p.label
+  pub shape : place.shape ≡ p.shape
+  pub plain : place.forward ≡ None
+
+-- a copy that is owed values lies in a pool, and its source forwards to it
+pub record Pends (k : Config) (live : Live) (c : ℕ) (q : Place) (o : Debt) : Type 0 where
+  pub inside : o.domain < k.domains
+  pub old : IsOldAt k c
+  pub plain : q.forward ≡ None
+  pub place : Place
+  pub lives : live o.source ≡ Some place
+  pub forwards : place.forward ≡ Some c
+
+-- all that the rule says of copies, whoever looks
+pub record Copies (k : Config) (live : Live) : Type 0 where
+  pub leads : (a : ℕ) (p : Place) (c : ℕ) → live a ≡ Some p → p.forward ≡ Some c → Leads k live a p c
+  pub pends : (c : ℕ) (q : Place) (o : Debt) → live c ≡ Some q → q.owed ≡ Some o → Pends k live c q o
+  pub naming : (b : ℕ) (q : Place) (i d : ℕ) → live b ≡ Some q → q.named i ≡ Some d → (d < k.domains) × (i + 2 < extent q.shape)
+
+-- the phase is one in which copies are made
+abbrev pub Promoting : Pause → Type 0
+Promoting t = (j : ℕ) × (t.phase ≡ j * 2) × (t.kinds j ≡ Promote)
+
+-- from the end of Promote to the end of Reset nothing lives in minor areas
+abbrev pub Resetting : Pause → Type 0
+Resetting t = ((j : ℕ) × (t.phase ≡ j * 2 + 1) × (t.kinds j ≡ Promote)) ⊎ (((j : ℕ) × (t.phase ≡ j * 2) × (t.kinds j ≡ Reset)) ⊎ ((j : ℕ) × (t.phase ≡ j * 2 + 1) × (t.kinds j ≡ Reset)))
+
+-- a domain owes no values and remembers no fields
+pub record Cleared (live : Live) (d : ℕ) : Type 0 where
+  pub no_debt : (b : ℕ) (q : Place) (o : Debt) → live b ≡ Some q → q.owed ≡ Some o → o.domain ≢ d
+  pub no_field : (b : ℕ) (q : Place) (i : ℕ) → live b ≡ Some q → q.named i ≢ Some d
+
+-- whoever has arrived from Promote owes nothing
+abbrev pub AllCleared : Config → Live → Pause → Type 0
+AllCleared k live t = Promoting t → (d : ℕ) → d < k.domains → t.arrived d ≡ t.phase + 1 → Cleared live d
+
+abbrev pub Emptied : Config → Live → Pause → Type 0
+Emptied k live t = Resetting t → (a : ℕ) (q : Place) → live a ≡ Some q → IsOldAt k a
+
+-- no address of a minor area
+abbrev pub IsOldValue : Config → words.Value → Type 0
+IsOldValue k (Ref a) = IsOldAt k a
+IsOldValue k _ = Unit {0}
+
+abbrev pub HoldsOld : Config → DomainView → Type 0
+HoldsOld k x = (r : ℕ) → r < 16 → IsOldValue k (value_at x.own.registers r)
+
+-- whoever has arrived from Promote holds no address of a minor area
+abbrev pub Rooted : Config → Pause → DomainView → Type 0
+Rooted k t x = Promoting t → x.own.arrivals ≡ t.phase + 1 → HoldsOld k x

@@ -6,8 +6,9 @@ pub mod Items
 pub mod Reads
 pub mod Views
 pub mod Phases
-pub mod Pools
 pub mod Copies
+pub mod Pools
+pub mod Room
 pub mod Rule
 pub mod Meeting
 pub mod Token

@@ -37,7 +37,7 @@ pub record Fills (old new : List ℕ) (from count : ℕ) (f : ℕ → ℕ) : Typ
 
 -- the token of domain d at the start
 abbrev pub opening_token : TableId → Config → ℕ → Token
-opening_token table k d = record { table = table; config = k; view = opening_view d }
+opening_token table k d = record { table = table; config = k; view = opening_view k d }
 
 -- those of n domains from d on
 abbrev pub opening_tokens : TableId → Config → ℕ → ℕ → List Token

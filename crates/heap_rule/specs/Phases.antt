@@ -8,7 +8,7 @@ use Rattle.heap_rule.specs.declared.view.DomainView.{DomainView}
 use Rattle.heap_rule.specs.declared.phase.Kind.{Kind}
 use Rattle.heap_rule.specs.declared.phase.Kind.TheVariants.{Run, Promote, Reset}
 use Rattle.heap_rule.specs.declared.phase.Note.{Note}
-use Rattle.heap_rule.specs.declared.phase.Note.TheVariants.{Cleared}
+use Rattle.heap_rule.specs.declared.phase.Note.TheVariants.{Cleared, SetBack}
 use Rattle.heap_rule.specs.declared.phase.Stage.{Stage}
 use Rattle.heap_rule.specs.declared.phase.Stage.TheVariants.{In, Leads, Led, Gone}
 use Rattle.heap_rule.specs.Layout.{barrier, plan, want, ended_word}
@@ -116,6 +116,10 @@ last_note notes = last_from None notes
 -- a domain that leads, and whose last note is that it took the wishes back, finds none
 abbrev pub TookBack : List ℕ → DomainView → Type 0
 TookBack words x = (kind : Kind) → x.seen.stage ≡ Leads kind → last_note x.seen.notes ≡ Some Cleared → want words ≡ 0
+
+-- a domain that leads a pause in, and whose last note is that it set the cursor back
+abbrev pub HasSetBack : DomainView → Type 0
+HasSetBack x = (x.seen.stage ≡ Leads Run) × (last_note x.seen.notes ≡ Some SetBack)
 
 -- nobody has a wish when the domains run again
 abbrev pub Unwished : Pause → List ℕ → Type 0

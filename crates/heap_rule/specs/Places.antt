@@ -1,5 +1,6 @@
 -- What lives at the addresses, and when words stand for it.
-use Rattle.std.specs.Prelude.{◌≡◌, ◌≢◌, ℕ, ◌+◌, ◌*◌, ◌%◌, ◌<◌, ◌≤◌, ◌⊎◌, Bool, false, List, ◌∷◌, map, slice_get, Option, Some, None}
+use Rattle.std.specs.Prelude.{[], nat_le, if◌then◌else◌, ◌≡◌, ◌≢◌, ℕ, ◌+◌, ◌*◌, ◌%◌, ◌<◌, ◌≤◌, ◌⊎◌, Bool, false, List, ◌∷◌, map, slice_get, Option, Some, None}
+use Rattle.size_classes.specs.declared.TheConstants.{SIZES}
 use Rattle.heap_model.specs.declared.label.Label.{Label}
 use Rattle.heap_model.specs.declared.graph.Value.{Value}
 use Rattle.heap_model.specs.declared.graph.Value.TheVariants.{Int, Block, Nothing}
@@ -46,6 +47,19 @@ abbrev pub extent : Shape → ℕ
 extent (PlainShape size tag) = size + 2
 extent (RawShape size tag) = size + 2
 extent (EpheShape keys) = keys + 3
+
+-- the words of the least size that has room for so many
+abbrev pub least_size : List ℕ → ℕ → ℕ
+least_size [] words = 0
+least_size (size ∷ sizes) words = if nat_le words size then size else least_size sizes words
+
+-- the words that a block with so many words of its own takes: those of its size class
+unfoldable pub class_words : ℕ → ℕ
+class_words words = least_size SIZES words
+
+-- and so many a block takes
+abbrev pub span : Shape → ℕ
+span shape = class_words (extent shape)
 
 -- the values of a block, in the order of their words
 abbrev pub values_of : Node → List Value
@@ -145,6 +159,11 @@ pub record Placed (k : Config) (live : Live) : Type 0 where
   pub fits : (a : ℕ) (p : Place) → live a ≡ Some p → Fits k a p
   pub once : (a b : ℕ) (p q : Place) → live a ≡ Some p → live b ≡ Some q → p.label ≡ q.label → p.forward ≡ None → q.forward ≡ None → a ≡ b
   pub apart : (a b : ℕ) (p q : Place) → live a ≡ Some p → live b ≡ Some q → a ≢ b → (a + extent p.shape ≤ b) ⊎ (b + extent q.shape ≤ a)
+
+-- how blocks lie in the minor areas: each takes the words of its size class, and no two share one of these
+pub record Spread (k : Config) (live : Live) : Type 0 where
+  pub apart : (a b : ℕ) (p q : Place) → live a ≡ Some p → live b ≡ Some q → k.pools * 4096 < a → a < b → a + span p.shape ≤ b
+  pub inside : (a : ℕ) (p : Place) → live a ≡ Some p → k.pools * 4096 < a → a + span p.shape ≤ heap_words k + 1
 
 -- nothing forwards, and no copy is owed anything
 abbrev pub Settled : Live → Type 0

@@ -1,14 +1,14 @@
 -- The pools: who has each, where their blocks lie, and what a domain that takes one of their blocks knows.
-use Rattle.std.specs.Prelude.{◌≡◌, ◌≢◌, ℕ, ◌+◌, ◌*◌, ◌-◌, ◌/◌, ◌<◌, ◌≤◌, ◌⊎◌, List, length, slice_index, slice_index_or, slice_get, Option, Some, None, true}
+use Rattle.std.specs.Prelude.{Bool, false, ◌≡◌, ◌≢◌, ℕ, ◌+◌, ◌*◌, ◌-◌, ◌/◌, ◌<◌, ◌≤◌, ◌⊎◌, List, length, slice_index, slice_index_or, slice_get, Option, Some, None, true}
 use Rattle.size_classes.specs.declared.TheConstants.{SIZES}
 use Rattle.heap_model.specs.Domains.{class_count, reserve}
 use Rattle.heap_rule.specs.declared.config.Config.{Config}
 use Rattle.heap_rule.specs.declared.view.Hunt.{Hunt}
 use Rattle.heap_rule.specs.declared.view.Listing.{Listing}
-use Rattle.heap_rule.specs.declared.view.Hunt.TheVariants.{Rests, Counts, Asks, Draws, Walks, Fills}
+use Rattle.heap_rule.specs.declared.view.Hunt.TheVariants.{Rests, Counts, Asks, Draws, Walks, Fills, Labels, Heads}
 use Rattle.heap_rule.specs.declared.view.Spot.{Spot}
 use Rattle.heap_rule.specs.declared.view.DomainView.{DomainView}
-use Rattle.heap_rule.specs.declared.phase.Kind.TheVariants.{Run}
+use Rattle.heap_rule.specs.declared.phase.Kind.TheVariants.{Run, Promote}
 use Rattle.heap_rule.specs.declared.phase.Stage.{Stage}
 use Rattle.heap_rule.specs.declared.phase.Stage.TheVariants.{In, Leads, Led}
 use Rattle.heap_rule.specs.Limits.{sizes_in}
@@ -38,26 +38,53 @@ owner_word nobody = 0
 owner_word (drawn d) = 0
 owner_word (owned d class) = 16 * d + class + 1
 
--- who has each pool, and 1 for each domain that may have seen that one is to be had and not asked since
+-- what domains have used of the pools since they began to copy: how many pools each has drawn for each class, and how many copies of it made, the pool that it drew last, how many places of that it used, how many copies it made in all, and which words of minor areas belong to blocks that were copied
+pub record Stock : Type 0 where
+  pub drawn : ℕ → ℕ → ℕ
+  pub copies : ℕ → ℕ → ℕ
+  pub latest : ℕ → ℕ → ℕ
+  pub used : ℕ → ℕ → ℕ
+  pub claims : ℕ → ℕ
+  pub claimed : ℕ → Bool
+
+-- before they begin
+abbrev pub no_stock : Stock
+no_stock = record { drawn = λ _ _. 0; copies = λ _ _. 0; latest = λ _ _. 0; used = λ _ _. 0; claims = λ _. 0; claimed = λ _. false }
+
+-- who has each pool, 1 for each domain that may have seen that one is to be had and not asked since, which domain has prepared the place at an address for a copy, and what copying has used
 pub record Tenancy : Type 0 where
   pub holder : ℕ → Holder
   pub asking : ℕ → ℕ
+  pub prepared : ℕ → Option ℕ
+  pub stock : Stock
+
+-- in these phases domains take blocks of pools: while they run, and while they copy young blocks
+abbrev pub Takes : Stage → Type 0
+Takes stage = (stage ≡ In Run) ⊎ (stage ≡ In Promote)
 
 -- how many of the listed pools running domains may draw
 abbrev pub limit_of : Config → ℕ → ℕ
 limit_of k count = count - reserve (sizes_in k)
 
--- Pools: the list names pools that differ. Those behind the cursor, and those of the reserve, are nobody's. The owner words say who owns each
+-- Pools: the list names pools that differ. Those behind the cursor are nobody's. The owner words say who owns each
 pub record Pools (k : Config) (t : Tenancy) (words : List ℕ) : Type 0 where
   pub few : listed words ≤ k.pools
   pub inside : (i : ℕ) → i < listed words → listed_pool words i < k.pools
   pub once : (i j : ℕ) → i < listed words → j < listed words → listed_pool words i ≡ listed_pool words j → i ≡ j
-  pub untaken : (i : ℕ) → i < listed words → (cursor words ≤ i) ⊎ (limit_of k (listed words) ≤ i) → t.holder (listed_pool words i) ≡ nobody
+  pub untaken : (i : ℕ) → i < listed words → cursor words ≤ i → t.holder (listed_pool words i) ≡ nobody
   pub owners : (q : ℕ) → q < k.pools → owner_of k words q ≡ owner_word (t.holder q)
   pub owned_by : (q d c : ℕ) → t.holder q ≡ owned d c → (q < k.pools) × (d < k.domains) × (c < class_count)
   pub drawn_by : (q d : ℕ) → t.holder q ≡ drawn d → (q < k.pools) × (d < k.domains)
   pub one_each : (d : ℕ) → t.asking d ≤ 1
   pub asked : cursor words + sum_of t.asking k.domains ≤ k.pools + k.domains
+
+-- the domains run, or the pause begins in which they copy young blocks
+abbrev pub KeepsReserve : Pause → Type 0
+KeepsReserve p = (j : ℕ) × ((p.phase ≡ j * 2) ⊎ (p.phase ≡ j * 2 + 1)) × (p.kinds j ≡ Run)
+
+-- so far the pools of the reserve are nobody's
+abbrev pub Reserved : Config → Pause → Tenancy → List ℕ → Type 0
+Reserved k p t words = KeepsReserve p → (i : ℕ) → i < listed words → limit_of k (listed words) ≤ i → t.holder (listed_pool words i) ≡ nobody
 
 -- the place of a block in a pool
 pub record Lot (holder : ℕ → Holder) (a : ℕ) (p : Place) : Type 0 where
@@ -70,10 +97,30 @@ pub record Lot (holder : ℕ → Holder) (a : ℕ) (p : Place) : Type 0 where
   pub begins : a ≡ place_in pool class slot
   pub fits : extent p.shape ≤ size_of class
 
--- Represents, the places in pools: each block of the pools begins at a place of an owned pool and fits its class, and at each place of an owned pool a block lives or its head says Free
-pub record Grid (k : Config) (holder : ℕ → Holder) (live : Live) (words : List ℕ) : Type 0 where
-  pub lots : (a : ℕ) (p : Place) → live a ≡ Some p → a ≤ k.pools * 4096 → Lot holder a p
-  pub places : (q d c slot : ℕ) → holder q ≡ owned d c → slot < blocks_of c → (at_address k words (place_in q c slot) ≡ 0) ⊎ ((p : Place) × (live (place_in q c slot) ≡ Some p))
+-- an address is that of a place of a domain's own pools
+pub record OwnPlace (holder : ℕ → Holder) (a d : ℕ) : Type 0 where
+  pub pool : ℕ
+  pub class : ℕ
+  pub slot : ℕ
+  pub owned_is : holder pool ≡ owned d class
+  pub inside : slot < blocks_of class
+  pub begins : a ≡ place_in pool class slot
+
+-- the place at an address is prepared for a copy: it lies in a pool of the domain, no block lives there, and its head isn't Free
+pub record IsSpare (k : Config) (holder : ℕ → Holder) (live : Live) (words : List ℕ) (a d : ℕ) : Type 0 where
+  pub own : OwnPlace holder a d
+  pub head : at_address k words a ≢ 0
+  pub empty : live a ≡ None
+
+-- what is at a place of an owned pool: its head says Free, a block lives there, or it is prepared for a copy
+abbrev pub IsPlace : Config → Tenancy → Live → List ℕ → ℕ → ℕ → Type 0
+IsPlace k t live words d a = (at_address k words a ≡ 0) ⊎ (((p : Place) × (live a ≡ Some p)) ⊎ (t.prepared a ≡ Some d))
+
+-- Represents, the places in pools: each block of the pools begins at a place of an owned pool and fits its class, and at each place of an owned pool a block lives, or its head says Free, or it is prepared
+pub record Grid (k : Config) (t : Tenancy) (live : Live) (words : List ℕ) : Type 0 where
+  pub lots : (a : ℕ) (p : Place) → live a ≡ Some p → a ≤ k.pools * 4096 → Lot t.holder a p
+  pub places : (q d c slot : ℕ) → t.holder q ≡ owned d c → slot < blocks_of c → IsPlace k t live words d (place_in q c slot)
+  pub spares : (a d : ℕ) → t.prepared a ≡ Some d → IsSpare k t.holder live words a d
 
 -- a place of an own pool is free, and these words are written behind its head's
 pub record Filling (k : Config) (holder : ℕ → Holder) (words : List ℕ) (d pool class slot : ℕ) (made : List ℕ) : Type 0 where
@@ -101,6 +148,8 @@ Hunts k t words d (Asks n) = (listed words ≡ n) × (t.asking d ≡ 1)
 Hunts k t words d (Draws place pool class cleared) = Clearing k t.holder words d place pool class cleared
 Hunts k t words d (Walks pool class) = t.holder pool ≡ owned d class
 Hunts k t words d (Fills pool class slot made) = Filling k t.holder words d pool class slot made
+Hunts k t words d (Labels address label) = (t.prepared address ≡ Some d) × OwnPlace t.holder address d × (at_address k words (address + 1) ≡ label)
+Hunts k t words d (Heads address label head) = (t.prepared address ≡ Some d) × OwnPlace t.holder address d × (at_address k words (address + 1) ≡ label) × (at_address k words address ≡ head)
 
 -- the place of a class to which a domain has looked, and the places before it
 abbrev pub spot_at : List Spot → ℕ → Spot
@@ -109,9 +158,19 @@ spot_at looked class = slice_index_or looked class (record { pool = 0; slot = 0 
 abbrev pub IsBefore : ℕ → ℕ → Spot → Type 0
 IsBefore q slot spot = (q < spot.pool) ⊎ ((q ≡ spot.pool) × (slot < spot.slot))
 
--- a domain that has drawn a pool and doesn't own it yet runs in this phase, so in a pause an owner word of 0 says that the pool is nobody's
-abbrev pub Drawers : Pause → Tenancy → Type 0
-Drawers p t = (q d : ℕ) → t.holder q ≡ drawn d → (p.arrived d ≡ p.phase) × ((j : ℕ) × (p.phase ≡ j * 2) × (p.kinds j ≡ Run))
+-- a domain hasn't arrived in this phase, in which domains run or copy young blocks
+abbrev pub IsTaking : Pause → ℕ → Type 0
+IsTaking p d = (p.arrived d ≡ p.phase) × ((j : ℕ) × (p.phase ≡ j * 2) × ((p.kinds j ≡ Run) ⊎ (p.kinds j ≡ Promote)))
+
+-- a domain hasn't arrived in this phase, in which they copy young blocks
+abbrev pub IsCopying : Pause → ℕ → Type 0
+IsCopying p d = (p.arrived d ≡ p.phase) × ((j : ℕ) × (p.phase ≡ j * 2) × (p.kinds j ≡ Promote))
+
+-- who has drawn a pool and doesn't own it yet takes blocks in this phase, so in an odd one an owner word of 0 says that the pool is nobody's. Who has prepared a place, or has copies in its list, copies in this phase
+pub record Drawers (p : Pause) (t : Tenancy) : Type 0 where
+  pub drawn : (q d : ℕ) → t.holder q ≡ drawn d → IsTaking p d
+  pub prepared : (a d : ℕ) → t.prepared a ≡ Some d → IsCopying p d
+  pub claims : (d : ℕ) → 0 < t.stock.claims d → IsCopying p d
 
 -- domain 0 acts in an odd phase
 abbrev pub IsLeading : Stage → Type 0
@@ -129,9 +188,9 @@ pub record Lists (k : Config) (words : List ℕ) (number : ℕ) (stage : Stage) 
   pub count : listed words ≡ l.listed
   pub rewinds : l.rewound ≡ true → cursor words ≡ 0
 
--- a domain that doesn't run takes no block, and knows nothing of how many pools are free. Only domain 0 writes the list, in an odd phase
+-- a domain that neither runs nor copies takes no block, and knows nothing of how many pools are free where it doesn't run. Only domain 0 writes the list, in an odd phase
 pub record Resting (k : Config) (words : List ℕ) (x : DomainView) : Type 0 where
-  pub hunt : x.seen.stage ≢ In Run → x.seen.hunt ≡ Rests
+  pub hunt : (Takes x.seen.stage → ⊥) → x.seen.hunt ≡ Rests
   pub free : x.seen.stage ≢ In Run → x.seen.free ≡ None
   pub lists : (l : Listing) → x.seen.listing ≡ Some l → Lists k words x.own.number x.seen.stage l
 
@@ -147,9 +206,29 @@ abbrev pub drawn_in : Hunt → Option ℕ
 drawn_in (Draws place pool class cleared) = Some pool
 drawn_in _ = None
 
--- all that the rule says of one domain's pools: what it knows in the middle of taking a block, that no other pool is drawn by it, that the places which it has looked at aren't free, and that no more pools are free than it last found
+-- the pool that it has drawn is for this class
+abbrev pub DrawsFor : ℕ → Hunt → Type 0
+DrawsFor c (Draws place pool class cleared) = class ≡ c
+DrawsFor c _ = ⊥
+
+-- the pool that a domain drew last for a class while it copies: so many of its places are used, the others are free, but that the next may be prepared. It has made as many copies as the pools drawn before it and these have places
+pub record Latest (k : Config) (t : Tenancy) (words : List ℕ) (d c : ℕ) : Type 0 where
+  pub own_is : t.holder (t.stock.latest d c) ≡ owned d c
+  pub few : t.stock.used d c ≤ blocks_of c
+  pub enough : t.stock.drawn d c * blocks_of c + t.stock.used d c ≤ t.stock.copies d c + blocks_of c
+  pub rest : (j : ℕ) → t.stock.used d c ≤ j → j < blocks_of c → (at_address k words (place_in (t.stock.latest d c) c j) ≡ 0) ⊎ ((j ≡ t.stock.used d c) × (t.prepared (place_in (t.stock.latest d c) c j) ≡ Some d))
+
+-- the place that is prepared for a class
+abbrev pub prepared_at : List (Option ℕ) → ℕ → Option ℕ
+prepared_at prepared class = slice_index_or prepared class None
+
+-- all that the rule says of one domain's pools: what it knows in the middle of taking a block, that no other pool is drawn by it, that the places which it has looked at aren't free, and that no more pools are free than it last found, which were no more than are listed. The places that it has prepared are those of its list, and its list of copies has all that it made
 pub record Hunter (k : Config) (t : Tenancy) (words : List ℕ) (x : DomainView) : Type 0 where
   pub hunt : Hunts k t words x.own.number x.seen.hunt
   pub drawn_alone : (q : ℕ) → t.holder q ≡ drawn x.own.number → drawn_in x.seen.hunt ≡ Some q
   pub taken : (q c slot : ℕ) → t.holder q ≡ owned x.own.number c → slot < blocks_of c → IsBefore q slot (spot_at x.own.looked c) → at_address k words (place_in q c slot) ≢ 0
-  pub free : (f : ℕ) → x.seen.free ≡ Some f → (listed words ≤ f + cursor words) × (listed words ≤ f + limit_of k (listed words))
+  pub free : (f : ℕ) → x.seen.free ≡ Some f → (listed words ≤ f + cursor words) × (listed words ≤ f + limit_of k (listed words)) × (f ≤ listed words)
+  pub holds : (c a : ℕ) → c < class_count → prepared_at x.own.prepared c ≡ Some a → (t.prepared a ≡ Some x.own.number) × ((q slot : ℕ) × (t.holder q ≡ owned x.own.number c) × (slot < blocks_of c) × (a ≡ place_in q c slot))
+  pub prepared : (q c slot : ℕ) → t.holder q ≡ owned x.own.number c → slot < blocks_of c → t.prepared (place_in q c slot) ≡ Some x.own.number → prepared_at x.own.prepared c ≡ Some (place_in q c slot)
+  pub claims : length x.own.pending.items ≡ t.stock.claims x.own.number
+  pub supply : (c : ℕ) → c < class_count → 0 < t.stock.drawn x.own.number c → DrawsFor c x.seen.hunt ⊎ Latest k t words x.own.number c

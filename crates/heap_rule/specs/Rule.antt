@@ -1,5 +1,5 @@
 -- The rule of the table: what holds between any two steps. Each part speaks only of what it names. docs/RULE.md explains it.
-use Rattle.std.specs.Prelude.{◌≡◌, ℕ, ◌+◌, ◌<◌, ◌≤◌, ◌⊎◌, List, length, slice_get, Some}
+use Rattle.std.specs.Prelude.{◌≡◌, ℕ, ◌+◌, ◌*◌, ◌<◌, ◌≤◌, ◌⊎◌, List, length, slice_get, Some}
 use Rattle.atomic_table.specs.Table.{State}
 use Rattle.heap_model.specs.declared.entry.Entry.{Entry}
 use Rattle.heap_model.specs.declared.state.State as model
@@ -11,12 +11,13 @@ use Rattle.heap_rule.specs.declared.config.Config.{Config}
 use Rattle.heap_rule.specs.declared.view.DomainView.{DomainView}
 use Rattle.heap_rule.specs.declared.view.View.{View}
 use Rattle.heap_rule.specs.Limits.{sizes_in}
-use Rattle.heap_rule.specs.Layout.{table_words, base_of, at_address, barrier, plan, want, ended_word, armed, colours}
-use Rattle.heap_rule.specs.Places.{Place, Live, extent, Stands, Found, Placed, Settled}
-use Rattle.heap_rule.specs.Copies.{Owes}
-use Rattle.heap_rule.specs.Pools.{Tenancy, Pools, Grid, Drawers, Resting, Hunter}
+use Rattle.heap_rule.specs.Layout.{table_words, base_of, at_address, barrier, plan, want, ended_word, armed, colours, listed, cursor}
+use Rattle.heap_rule.specs.Places.{Place, Live, extent, Stands, Found, Placed, Spread, span, Settled}
+use Rattle.heap_rule.specs.Copies.{Owes, Copies, Promoting, AllCleared, Emptied, Rooted}
+use Rattle.heap_rule.specs.Room.{Room, IsUnused, Opened, Drawable}
+use Rattle.heap_rule.specs.Pools.{limit_of, Tenancy, Pools, Reserved, Grid, Drawers, Resting, Hunter}
 use Rattle.heap_rule.specs.Changes.{value_at}
-use Rattle.heap_rule.specs.Phases.{Pause, Phases, Staged, Still, TookBack, Unwished, CountsEnded}
+use Rattle.heap_rule.specs.Phases.{Pause, Phases, Staged, Still, TookBack, HasSetBack, Unwished, CountsEnded}
 use Rattle.heap_rule.specs.Views.{EachView, EachDomain, Knows}
 
 -- the state that a history of this heap leaves
@@ -37,6 +38,7 @@ pub record Stood (live : Live) (s : model.State) (x : DomainView) : Type 0 where
 pub record Area (k : Config) (live : Live) (x : DomainView) : Type 0 where
   pub room : x.own.used ≤ k.minor_words
   pub free : (a : ℕ) (p : Place) → live a ≡ Some p → (a + extent p.shape ≤ base_of k x.own.number + x.own.used) ⊎ (base_of k x.own.number + k.minor_words ≤ a)
+  pub classes : (a : ℕ) (p : Place) → live a ≡ Some p → k.pools * 4096 < a → (a + span p.shape ≤ base_of k x.own.number + x.own.used) ⊎ (base_of k x.own.number + k.minor_words ≤ a)
 
 -- the words that a domain has written of the block that it makes, behind the place of the head
 pub record Making (k : Config) (words : List ℕ) (x : DomainView) : Type 0 where
@@ -61,6 +63,8 @@ pub record Good (k : Config) (all : Account) (words : List ℕ) (x : DomainView)
   pub resting : Resting k words x
   pub took_back : TookBack words x
   pub owes : Owes k all.live x
+  pub rooted : Rooted k all.pause x
+  pub set_back : HasSetBack x → cursor words ≤ limit_of k (listed words)
 
 -- at the start no domain asks for a collection, none has arrived anywhere, and no trace has ended
 pub record Rested (words : List ℕ) : Type 0 where
@@ -81,13 +85,22 @@ pub record Whole (k : Config) (all : Account) (words : List ℕ) : Type 0 where
   pub calm : IsCalm (state_of k all.log)
   pub found : AllFound k all.live (state_of k all.log).graph words
   pub placed : Placed k all.live
-  pub settled : Settled all.live
+  pub spread : Spread k all.live
+  pub settled : Settled all.live ⊎ Promoting all.pause
+  pub copies : Copies k all.live
+  pub cleared : AllCleared k all.live all.pause
+  pub emptied : Emptied k all.live all.pause
   pub phases : Phases k all.pause words
   pub unwished : Unwished all.pause words
   pub endings : CountsEnded k (state_of k all.log) words
   pub pools : Pools k all.tenancy words
-  pub grid : Grid k all.tenancy.holder all.live words
+  pub reserved : Reserved k all.pause all.tenancy words
+  pub grid : Grid k all.tenancy all.live words
   pub drawers : Drawers all.pause all.tenancy
+  pub room : Room k all.live all.pause all.tenancy.stock words
+  pub unused : IsUnused all.pause all.tenancy.stock
+  pub opened : Opened k all.live words
+  pub drawable : Drawable k all.pause words
   pub cycle : NoCycle words
 
 -- the rule: there are an account and a seat for each domain of which all these parts hold

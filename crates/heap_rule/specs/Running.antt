@@ -16,18 +16,24 @@ use Rattle.heap_rule.specs.Token.{Token, SharedHeap, IsIn}
 abbrev pub own_entry : Token → Command → Entry
 own_entry t c = CommandOf t.view.own.number c false
 
+-- the fields that the domain may have to look through are those of its list
+abbrev pub RemembersAll : DomainView → Type 0
+RemembersAll x = x.seen.remembered ≡ x.own.remembered.items
+
 -- the token is one of the heap's, its trace hasn't ended, no block is being made, and none of the pools is being taken
 pub record Runs (h : SharedHeap) (t : Token) : Type 0 where
   pub here : IsIn t h
   pub acts : Acts t.config t.view
   pub idle : t.view.seen.made ≡ []
   pub at_rest : t.view.seen.hunt ≡ Rests
+  pub remembers : RemembersAll t.view
 
 -- the domain stands where it stood, and has noted nothing
 pub record Stays (x y : DomainView) : Type 0 where
   pub arrivals : y.own.arrivals ≡ x.own.arrivals
   pub stage : y.seen.stage ≡ x.seen.stage
   pub notes : y.seen.notes ≡ x.seen.notes
+  pub remembers : RemembersAll x → RemembersAll y
 
 -- a call that makes the entry of a command: the domain runs on, its front has grown by entries of others and then by this one, and the reply is the definition's
 pub record Did (h : SharedHeap) (old new : Token) (c : Command) (r : Reply) : Type 0 where

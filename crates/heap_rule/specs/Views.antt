@@ -1,6 +1,6 @@
 -- The views of seats: what each knows of the history and of the domains that it stands for.
 use Rattle.heap_model.specs.Domains.{class_count}
-use Rattle.std.specs.Prelude.{◌≡◌, ◌≢◌, ℕ, zero, suc, ◌+◌, ◌<◌, List, [], ◌∷◌, ◌++◌, replicate, None}
+use Rattle.std.specs.Prelude.{◌≡◌, ◌≢◌, ℕ, zero, suc, ◌+◌, ◌*◌, ◌/◌, ◌<◌, List, [], ◌∷◌, ◌++◌, replicate, None}
 use mathlib.Core.Option.{some}
 use lib.ListN.{get_elem?}
 use Rattle.atomic_table.specs.Table.{Me, Step}
@@ -8,6 +8,7 @@ use Rattle.heap_model.specs.declared.entry.Entry.{Entry}
 use Rattle.heap_model.specs.History.{IsPrefix}
 use Rattle.heap_model.specs.Fronts.{IsFrontOf}
 use Rattle.heap_words.specs.declared.value.Value.TheVariants.{Ref, Nothing}
+use Rattle.heap_rule.specs.declared.view.TheConstants.{REMEMBERED_ROOM}
 use Rattle.heap_rule.specs.declared.config.Config.{Config}
 use Rattle.heap_rule.specs.declared.view.DomainView.{DomainView}
 use Rattle.heap_rule.specs.declared.view.Hunt.TheVariants.{Rests}
@@ -50,30 +51,48 @@ pub record Knows (k : Config) (log : List Entry) (seat : ℕ → ℕ) (id : ℕ)
 abbrev pub one : Config → List Entry → DomainView → View
 one k h x = record { config = k; history = h; domains = x ∷ [] }
 
+-- how many copies a domain can make in one collection, since a block has four words at least
+abbrev pub pending_room : Config → ℕ
+pending_room k = k.domains * k.minor_words / 4
+
 -- a domain at the start: register 0 holds the shared block, which is at the address 1
-abbrev pub opening_view : ℕ → DomainView
-opening_view d = record {
-  own = record { number = d; registers = Ref 1 ∷ replicate 15 Nothing; used = 0; serial = 0; arrivals = 0; looked = replicate class_count (record { pool = 0; slot = 0 }) };
+abbrev pub opening_view : Config → ℕ → DomainView
+opening_view k d = record {
+  own = record {
+    number = d;
+    registers = Ref 1 ∷ replicate 15 Nothing;
+    used = 0;
+    serial = 0;
+    arrivals = 0;
+    looked = replicate class_count (record { pool = 0; slot = 0 });
+    remembered = record { items = []; room = REMEMBERED_ROOM };
+    prepared = replicate class_count None;
+    pending = record { items = []; room = pending_room k };
+  };
   seen = record { front = []; made = []; stage = In Run; notes = []; hunt = Rests; free = None; listing = None; copying = record { met = []; pending = [] }; remembered = [] };
 }
 
 -- n domains from d on
-abbrev pub opening_views : ℕ → ℕ → List DomainView
-opening_views d zero = []
-opening_views d (suc n) = opening_view d ∷ opening_views (d + 1) n
+abbrev pub opening_views : Config → ℕ → ℕ → List DomainView
+opening_views k d zero = []
+opening_views k d (suc n) = opening_view k d ∷ opening_views k (d + 1) n
 
 -- the view of the first seat, which stands for all domains
 unfoldable pub first_view : Config → View
-first_view k = record { config = k; history = []; domains = opening_views 0 k.domains }
+first_view k = record { config = k; history = []; domains = opening_views k 0 k.domains }
 
 -- the domains behind the first
 abbrev pub rest_of : List DomainView → List DomainView
 rest_of [] = []
 rest_of (x ∷ xs) = xs
 
+-- the numbers of no heap
+abbrev pub no_config : Config
+no_config = record { domains = 0; minor_words = 0; pools = 0; finals = 0; ephes = 0 }
+
 -- the domain of a seat that stands for one
 abbrev pub domain_in : List DomainView → DomainView
-domain_in [] = opening_view 0
+domain_in [] = opening_view no_config 0
 domain_in (x ∷ xs) = x
 
 -- what a step of a seat that stands for one domain tells
@@ -97,4 +116,4 @@ joined v w = record v { domains = v.domains ++ w.domains }
 
 -- the view of a seat that was joined to another: it stands for no domain
 abbrev pub spent : View
-spent = record { config = record { domains = 0; minor_words = 0; pools = 0; finals = 0; ephes = 0 }; history = []; domains = [] }
+spent = record { config = no_config; history = []; domains = [] }

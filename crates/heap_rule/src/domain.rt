@@ -1,5 +1,5 @@
 //! The token of a domain.
-ghost use Rattle.std.specs.Prelude.{◌≡◌, ◌≢◌, ◌+◌, ◌<◌, ◌≤◌, ℕ, [], length, slice_get, Some};
+ghost use Rattle.std.specs.Prelude.{◌≡◌, ◌≢◌, ◌+◌, ◌<◌, ◌≤◌, ℕ, [], IfOk, length, slice_get, Some};
 ghost use Rattle.heap_model.specs.Domains.{class_count, IsWithinLimits};
 ghost use Rattle.heap_words.specs.declared.value.Value.TheVariants.{Ref};
 ghost use Rattle.heap_words.specs.Values.{IsPackable};
@@ -7,16 +7,18 @@ ghost use Rattle.heap_rule.specs.Changes.{value_at};
 ghost use Rattle.heap_rule.specs.Items.{items_of};
 ghost use Rattle.heap_rule.specs.Limits.{sizes_in};
 ghost use Rattle.heap_rule.specs.Opening.{opening_token};
-ghost use Rattle.heap_rule.specs.Pools.{blocks_of, spot_at};
+ghost use Rattle.heap_rule.specs.Pools.{blocks_of, prepared_at, spot_at};
 ghost use Rattle.heap_rule.specs.Token.{IsAddress, next_address};
 ghost use Rattle.heap_rule.specs.Views.{one, opening_view};
 
 use crate::change::{Item, Part};
 use crate::config::Config;
-use crate::view::{Own, Spot, View};
+use crate::view::{Copied, Own, REMEMBERED_ROOM, Spot, View};
 use atomic_table::Seat;
 use heap_words::Value;
+use remembered_set::{BoundedList, Remembered};
 use size_classes::{CLASS_COUNT, POOL_WORDS};
+use std::alloc::{AllocError, Global};
 use std::marker::Model;
 
 /// One domain of a heap. It may move between threads.
@@ -42,15 +44,23 @@ impl Model for Domain {
 
 impl Domain {
     // The token of a domain that has just been given its seat.
-    pub(crate) fn make(seat: Seat<(), View>, config: &Config, number: u32) -> Domain
-        requires seat { seat.me ≡ (one config.now [] (opening_view number), []) }
+    pub(crate) fn make(
+        alloc: Global,
+        seat: Seat<(), View>,
+        config: &Config,
+        number: u32,
+    ) -> Result<Domain, AllocError>
+        requires seat { seat.me ≡ (one config.now [] (opening_view config.now number), []) }
         requires limits { IsWithinLimits (sizes_in config.now) }
         requires inside { number < config.now.domains }
-        ensures { result ≡ opening_token seat.table_id config.now number }
+        ensures { IfOk result (λ d. d ≡ opening_token seat.table_id config.now number) }
     {
         let mut registers = [Value::Nothing; 16];
         registers[0] = Value::Ref(1);
-        Domain {
+        let remembered = Remembered::make(alloc, REMEMBERED_ROOM)?;
+        let area_words = config.domains as usize * config.minor_words as usize;
+        let pending = BoundedList::make(alloc, area_words / 4)?;
+        Ok(Domain {
             seat,
             config: *config,
             own: Own {
@@ -60,8 +70,11 @@ impl Domain {
                 serial: 0,
                 arrivals: 0,
                 looked: [Spot { pool: 0, slot: 0 }; CLASS_COUNT],
+                remembered,
+                prepared: [None; CLASS_COUNT],
+                pending,
             },
-        }
+        })
     }
 
     /// The domain's number, counted from 0.
@@ -105,6 +118,51 @@ impl Domain {
         ensures within { (result.pool ≤ self.now.config.pools) × (result.slot < blocks_of class) }
     {
         self.own.looked[class as usize]
+    }
+
+    /// How many more fields the domain can remember before its next collection.
+    pub fn remembered_room(&self) -> usize
+        ensures { result ≡ self.now.view.own.remembered.room }
+    {
+        self.own.remembered.room()
+    }
+
+    /// The remembered fields, in the order in which they were remembered.
+    pub fn remembered_len(&self) -> usize
+        ensures { result ≡ length self.now.view.own.remembered.items }
+    {
+        self.own.remembered.len()
+    }
+
+    /// The `i`-th of them.
+    pub fn remembered_at(&self, i: usize) -> u32
+        requires { i < length self.now.view.own.remembered.items }
+        ensures { Some result ≡ slice_get self.now.view.own.remembered.items i }
+    {
+        self.own.remembered.get(i)
+    }
+
+    /// The place that is prepared for a copy of a size class.
+    pub fn prepared(&self, class: u32) -> Option<u32>
+        requires { class < class_count }
+        ensures { result ≡ prepared_at self.now.view.own.prepared class }
+    {
+        self.own.prepared[class as usize]
+    }
+
+    /// How many copies the domain has made in this collection.
+    pub fn pending_len(&self) -> usize
+        ensures { result ≡ length self.now.view.own.pending.items }
+    {
+        self.own.pending.len()
+    }
+
+    /// The `i`-th of them.
+    pub fn pending_at(&self, i: usize) -> Copied
+        requires { i < length self.now.view.own.pending.items }
+        ensures { Some result ≡ slice_get self.now.view.own.pending.items i }
+    {
+        self.own.pending.get(i)
     }
 
     /// How many labels the domain has given out.

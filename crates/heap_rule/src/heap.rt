@@ -91,9 +91,11 @@ fn seated(
     let mut domains = Vec::new(alloc);
     for i in 0..count - 1 {
         let mine = heap.table.shared.split_seat::<SplitSeat>(&mut seat);
-        domains.push(Domain::make(mine, &heap.config, i))?;
+        let domain = Domain::make(alloc, mine, &heap.config, i)?;
+        domains.push(domain)?;
     }
-    domains.push(Domain::make(seat, &heap.config, count - 1))?;
+    let last = Domain::make(alloc, seat, &heap.config, count - 1)?;
+    domains.push(last)?;
     Ok(domains)
 }
 

@@ -20,4 +20,6 @@ pub use layout::{BARRIER, CURSOR, ENDED, LISTED, PLAN, WANT};
 pub use phase::{Kind, Note, Stage};
 pub use raw::{Changing, Leaving, Writing, raw_add, raw_exchange, raw_load, raw_or, raw_store};
 pub use rule::Told;
-pub use view::{Copying, DomainView, Form, Hunt, Listing, Met, Own, Owing, Seen, Spot, View};
+pub use view::{
+    Copied, Copying, DomainView, Form, Hunt, Listing, Met, Own, Owing, REMEMBERED_ROOM, Seen, Spot, View,
+};

@@ -35,4 +35,6 @@ pub enum Note {
     Ended(u64),
     /// It wrote 0 into the want word.
     Cleared,
+    /// It set the cursor back, so that none of the pools behind it is of the reserve.
+    SetBack,
 }

@@ -6,6 +6,7 @@ use crate::phase::{Note, Stage};
 use heap_model::entry::Entry;
 use heap_model::label::Label;
 use heap_words::Value;
+use remembered_set::{BoundedList, Remembered};
 use size_classes::CLASS_COUNT;
 use std::collections::LinkedList;
 
@@ -41,6 +42,17 @@ pub enum Hunt {
         slot: u32,
         made: LinkedList<u64>,
     },
+    /// The prepared place at this address has this label.
+    Labels {
+        address: u32,
+        label: u64,
+    },
+    /// It has this label and this head.
+    Heads {
+        address: u32,
+        label: u64,
+        head: u64,
+    },
 }
 
 /// A place of a pool: the slot-th of its class. It stands before each place of later pools.
@@ -62,6 +74,9 @@ pub struct Listing {
     pub listed: u64,
 }
 
+/// How many fields a domain can remember between two collections of its minor area.
+pub const REMEMBERED_ROOM: usize = 4096;
+
 /// What a domain's token holds.
 #[derive(Drop)]
 pub struct Own {
@@ -75,6 +90,20 @@ pub struct Own {
     pub arrivals: u64,
     /// For each size class, the place before which no place of an own pool of the class is free.
     pub looked: [Spot; CLASS_COUNT],
+    /// The fields of blocks in pools into which the domain stored addresses of minor areas since its
+    /// last collection.
+    pub remembered: Remembered,
+    /// For each size class, the place of an own pool that is prepared for a copy.
+    pub prepared: [Option<u32>; CLASS_COUNT],
+    /// The copies that the domain has made in this collection.
+    pub pending: BoundedList<Copied>,
+}
+
+/// A copy of a young block, and the block's address.
+#[derive(Clone, Copy, Debug, PartialEq, Eq)]
+pub struct Copied {
+    pub copy: u32,
+    pub source: u32,
 }
 
 /// The shape of a block.
@@ -121,7 +150,7 @@ pub struct Seen {
     pub listing: Option<Listing>,
     /// What it has met and owes in a collection of young blocks.
     pub copying: Copying,
-    /// The fields of blocks in pools into which it stored addresses of its area or others'.
+    /// The remembered fields that may still hold addresses of minor areas.
     pub remembered: LinkedList<u32>,
 }
 

@@ -1,7 +1,7 @@
--- A list of addresses with room for more.
+-- A list of items with room for more.
 use Rattle.std.specs.Prelude.{ℕ, List}
 
--- the addresses, and how many more fit
-pub record Bounded : Type 0 where
-  pub addresses : List ℕ
+-- the items, and how many more fit
+pub record Bounded (T : Type 0) : Type 0 where
+  pub items : List T
   pub room : ℕ

@@ -1,77 +1,79 @@
-//! The remembered set of a domain: a list of addresses with room that is reserved at the start.
+//! Lists with room that is reserved at the start, among them the remembered set of a domain.
 #![tactic(auto)]
 
-ghost use Rattle.std.specs.Prelude.{◌≡◌, ◌<◌, ◌≤◌, ◌+◌, ◌-◌, ◌++◌, ◌∷◌, [], IfOk, length, slice_index};
+ghost use Rattle.std.specs.Prelude.{◌≡◌, ◌<◌, ◌≤◌, ◌+◌, ◌-◌, ◌++◌, ◌∷◌, [], IfOk, Some, length, slice_get};
 
 use std::alloc::{AllocError, Global};
 use std::marker::Model;
 
-/// The fields of the major heap that may hold a young reference, in the order in which they were
-/// remembered ("Retrofitting Parallelism onto OCaml", section 3.3). Contracts see the list of
-/// addresses, and how many more fit.
+/// A list whose memory is all taken when it is made. Contracts see its items, and how many more fit.
 #[derive(Drop)]
-pub struct Remembered {
-    addresses: Vec<u32>,
+pub struct BoundedList<T> {
+    items: Vec<T>,
 }
 
-impl Model for Remembered {
+/// The fields of the major heap that may hold a young reference, in the order in which they were
+/// remembered ("Retrofitting Parallelism onto OCaml", section 3.3).
+pub type Remembered = BoundedList<u32>;
+
+impl<T> Model for BoundedList<T> {
     ghost use Rattle.std.specs.Prelude.{◌-◌, ◌≤◌, vec_len, vec_capacity};
     ghost use Rattle.remembered_set.specs.Bounded.{Bounded};
 
-    ghost Value = { Bounded };
+    ghost Value = { Bounded T };
 
-    ghost view = { λ r. record { addresses = r.addresses.items; room = vec_capacity r.addresses - vec_len r.addresses } };
+    ghost view = { λ r. record { items = r.items.items; room = vec_capacity r.items - vec_len r.items } };
 
-    ghost invariant = { λ r. vec_len r.addresses ≤ vec_capacity r.addresses };
+    ghost invariant = { λ r. vec_len r.items ≤ vec_capacity r.items };
 }
 
-impl Remembered {
-    /// An empty set with room for `room` addresses, all of which is taken here. Fails for want of
+impl<T: Copy> BoundedList<T> {
+    /// An empty list with room for `room` items, all of which is taken here. Fails for want of
     /// memory alone.
-    pub fn make(alloc: Global, room: usize) -> Result<Remembered, AllocError>
-        ensures empty { IfOk result (λ r. r.addresses ≡ []) }
+    pub fn make(alloc: Global, room: usize) -> Result<BoundedList<T>, AllocError>
+        ensures empty { IfOk result (λ r. r.items ≡ []) }
         ensures room { IfOk result (λ r. r.room ≡ room) }
     {
-        let addresses = Vec::with_capacity(alloc, room)?;
-        Ok(Remembered { addresses })
+        let items = Vec::with_capacity(alloc, room)?;
+        Ok(BoundedList { items })
     }
 
-    /// How many more addresses fit.
+    /// How many more items fit.
     pub fn room(&self) -> usize
         ensures { result ≡ self.now.room }
     {
-        self.addresses.capacity() - self.addresses.len()
+        self.items.capacity() - self.items.len()
     }
 
-    /// How many addresses there are.
+    /// How many items there are.
     pub fn len(&self) -> usize
-        ensures { result ≡ length self.now.addresses }
+        ensures { result ≡ length self.now.items }
     {
-        self.addresses.len()
+        self.items.len()
     }
 
-    /// The `i`-th address, from 0 on.
-    pub fn get(&self, i: usize) -> u32
-        requires { i < length self.now.addresses }
-        ensures { result ≡ slice_index self.now.addresses i }
+    /// The `i`-th item, from 0 on.
+    pub fn get(&self, i: usize) -> T
+        requires { i < length self.now.items }
+        ensures { Some result ≡ slice_get self.now.items i }
     {
-        self.addresses[i]
+        self.items[i]
     }
 
-    /// Appends an address. Takes no memory.
-    pub fn push(&mut self, address: u32)
+    /// Appends an item. Takes no memory.
+    pub fn push(&mut self, item: T)
         requires { 1 ≤ self.old.room }
-        ensures addresses { self.new.addresses ≡ self.old.addresses ++ address ∷ [] }
+        ensures items { self.new.items ≡ self.old.items ++ item ∷ [] }
         ensures room { self.new.room + 1 ≡ self.old.room }
     {
-        self.addresses.push_reserved(address);
+        self.items.push_reserved(item);
     }
 
-    /// Forgets all addresses, which makes room for as many more.
+    /// Forgets all items, which makes room for as many more.
     pub fn clear(&mut self)
-        ensures addresses { self.new.addresses ≡ [] }
-        ensures room { self.new.room ≡ self.old.room + length self.old.addresses }
+        ensures items { self.new.items ≡ [] }
+        ensures room { self.new.room ≡ self.old.room + length self.old.items }
     {
-        self.addresses.clear();
+        self.items.clear();
     }
 }

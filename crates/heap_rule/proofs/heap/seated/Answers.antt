@@ -32,8 +32,8 @@ loop-i-preserved c =
     let conf : c.heap.inside.config ≡ c.args.heap.now.config = c.heap.invariant.1 ∙ ap (λ (h : SharedHeap). h.config) c.heap.view_is in record {
       table = cut.0 ∙ c.loop-i.invariant.table;
       view = left_after c.args.heap.now.config c.loop-i.i c.args.count c.loop-i.seat.me c.split_seat-mine.new.seat.me below c.loop-i.invariant.view cut.2;
-      made = dealt c.args.heap.now.table c.args.heap.now.config c.loop-i.i c.args.count c.loop-i.domains.items c.push.new.self.items c.make.result below c.loop-i.invariant.made
-          (c.make.ensures ∙ (λ i. opening_token ((cut.3 ∙ c.loop-i.invariant.table) i) (conf i) c.loop-i.i))
+      made = dealt c.args.heap.now.table c.args.heap.now.config c.loop-i.i c.args.count c.loop-i.domains.items c.push.new.self.items c.in_ok-domain.domain below c.loop-i.invariant.made
+          (c.in_ok-domain.ensures ∙ (λ i. opening_token ((cut.3 ∙ c.loop-i.invariant.table) i) (conf i) c.loop-i.i))
           c.in_ok-push.ensures.items;
     }
 
@@ -43,4 +43,4 @@ make-requires-clause-seat c =
     let cut = c.split_seat-mine.ensures in
     let right = right_after c.args.heap.now.config c.loop-i.i c.args.count c.loop-i.seat.me c.split_seat-mine.result.me below c.loop-i.invariant.view cut.4 in
     let conf : c.heap.inside.config ≡ c.args.heap.now.config = c.heap.invariant.1 ∙ ap (λ (h : SharedHeap). h.config) c.heap.view_is in
-    right ∙ ap (λ (k : Config). (one k [] (opening_view c.loop-i.i), [])) (sym conf)
+    right ∙ ap (λ (k : Config). (one k [] (opening_view k c.loop-i.i), [])) (sym conf)

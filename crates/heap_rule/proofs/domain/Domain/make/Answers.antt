@@ -1,5 +1,16 @@
-use Rattle.heap_rule.proofs.Looks.{first_seat}
+use Rattle.std.proofs.Common.{◌≡◌, sym}
+use Rattle.heap_rule.specs.declared.view.Own.{Own}
+use Rattle.heap_rule.specs.declared.view.TheConstants.{REMEMBERED_ROOM}
+use Rattle.heap_rule.specs.Opening.{opening_token}
+use Rattle.heap_rule.specs.Views.{opening_view, pending_room}
+use Rattle.heap_rule.proofs.Looks.{first_seat, empty_list}
 use Rattle.heap_rule.proofs.domain.Domain.make.Goals as goal
 
 pub invariant_of-result : goal.invariant_of-result
-invariant_of-result c = first_seat c.args.config.now c.args.number c.args.seat.me c.requires.seat c.requires.limits c.requires.inside
+invariant_of-result c =
+    let k = c.args.config.now in
+    let opening : Own = (opening_view k c.args.number).own in
+    let own : Own = record opening { remembered = c.in_ok-remembered.remembered; pending = c.in_ok-pending.pending } in
+    let remembered = empty_list c.in_ok-remembered.remembered REMEMBERED_ROOM c.in_ok-remembered.ensures.empty c.in_ok-remembered.ensures.room in
+    let pending = empty_list c.in_ok-pending.pending (pending_room k) c.in_ok-pending.ensures.empty c.in_ok-pending.ensures.room in
+    first_seat k c.args.number own c.args.seat.me (λ i. record opening { remembered = remembered i; pending = pending i }) c.requires.seat c.requires.limits c.requires.inside
