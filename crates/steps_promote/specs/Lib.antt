@@ -1,0 +1,3 @@
+pub mod Promotion
+pub mod Claims
+pub mod Writes
