@@ -1,0 +1,143 @@
+-- What all steps of copying share: the rule holds again where the places, the pools and each domain meet it.
+use Rattle.std.proofs.Common.{◌≡◌, ◌≢◌, ℕ, ◌+◌, ◌*◌, ◌<◌, ◌≤◌, ◌⊎◌, List, length, set, slice_get, Some, None, Option, sym, refl, ap, ◌∙◌, subst, inl, inr, ⊎_elim, arith}
+use mathlib.Core.Option.{some}
+use lib.ListN.{get_elem?}
+use Rattle.heap_model.specs.declared.entry.Entry.{Entry}
+use Rattle.heap_model.specs.declared.state.State as model
+use Rattle.heap_model.specs.Domains.{register, domain_at}
+use Rattle.heap_model.specs.Fronts.{IsFrontOf}
+use Rattle.heap_words.specs.declared.value.Value as words
+use Rattle.heap_rule.specs.declared.config.Config.{Config}
+use Rattle.heap_rule.specs.declared.view.Listing.{Listing}
+use Rattle.heap_rule.specs.declared.view.DomainView.{DomainView}
+use Rattle.heap_rule.specs.declared.view.View.{View}
+use Rattle.heap_rule.specs.declared.phase.Kind.TheVariants.{Run, Promote}
+use Rattle.heap_rule.specs.declared.phase.Stage.TheVariants.{In, Leads}
+use Rattle.heap_rule.specs.Changes.{value_at}
+use Rattle.heap_rule.specs.Copies.{Owes, Copies, Promoting, AllCleared}
+use Rattle.heap_rule.specs.Layout.{before_heap, at_address}
+use Rattle.heap_rule.specs.Phases.{Pause, IsInPause, Still, Staged, last_note}
+use Rattle.heap_rule.specs.Places.{Place, Live, Stands, Placed, Spread, More}
+use Rattle.heap_rule.specs.Pools.{Tenancy, Pools, Grid, Drawers, KeepsReserve, Hunter, Takes, IsLeading}
+use Rattle.heap_rule.specs.Room.{Room, Opened}
+use Rattle.heap_rule.specs.Rule.{state_of, AllFound, Stood, Area, Making, Good, Rule}
+use Rattle.heap_rule.specs.Views.{one}
+use Rattle.heap_rule.proofs.Keeps.{Words, Control, mine, my_good, remakes, knows_front, phases_same, cycle_same, staged_as, stands_more, nobody_leads, takes_drawable, resting_takes, resting_other, promote_now, promote_here, promote_rests, lists_control}
+
+-- while young blocks are copied the reserve may be drawn
+pub copying_keeps : (t : Pause) → Promoting t → KeepsReserve t → ⊥
+copying_keeps t p keeps = ⊎_elim
+    (λ (even : t.phase ≡ keeps.0 * 2). clash (half keeps.0 p.0 t.phase even p.1))
+    (λ (odd : t.phase ≡ keeps.0 * 2 + 1). let i : ℕ = keeps.0 in let j : ℕ = p.0 in let e : t.phase ≡ i * 2 + 1 = odd in let f : t.phase ≡ j * 2 = p.1 in omega arith)
+    keeps.1
+  where
+    half : (i j n : ℕ) → n ≡ i * 2 → n ≡ j * 2 → i ≡ j
+    half i j n e f = omega arith
+    clash : keeps.0 ≡ p.0 → ⊥
+    clash same = let e : Run ≡ Promote = sym keeps.2 ∙ (ap t.kinds same ∙ p.2) in cc
+
+module _ (k : Config) (s : Words) (r : Rule k s) (id : ℕ) (hist : List Entry) (x : DomainView) (at : get_elem? s.views id ≡ some (one k hist x)) (promotes : x.seen.stage ≡ In Promote) where
+  abbrev pub now : model.State
+  now = state_of k r.account.log
+
+  pub promoting : Promoting r.account.pause
+  promoting = promote_now r.account.pause x promotes (my_good k s r id hist x at).staged
+
+  takes : Takes x.seen.stage
+  takes = inr promotes
+
+  -- what a step of a domain that copies owes: no entry stands, its phase and its front stay
+  pub record Promotes (y : DomainView) (words' : List ℕ) (live' : Live) (t' : Tenancy) : Type 0 where
+    pub number : y.own.number ≡ x.own.number
+    pub arrivals : y.own.arrivals ≡ x.own.arrivals
+    pub stage : y.seen.stage ≡ x.seen.stage
+    pub front : y.seen.front ≡ x.seen.front
+    pub free : y.seen.free ≡ x.seen.free
+    pub listing : y.seen.listing ≡ x.seen.listing
+    pub wide : length words' ≡ length s.words
+    pub control : Control k s.words words'
+    pub found : AllFound k live' now.graph words'
+    pub placed : Placed k live'
+    pub spread : Spread k live'
+    pub more : More r.account.live live'
+    pub copies : Copies k live'
+    pub cleared : AllCleared k live' r.account.pause
+    pub pools : Pools k t' words'
+    pub grid : Grid k t' live' words'
+    pub drawers : Drawers r.account.pause t'
+    pub room : Room k live' r.account.pause t'.stock words'
+    pub opened : Opened k live' words'
+    pub stood : Stood live' now y
+    pub area : Area k live' y
+    pub making : Making k words' y
+    pub hunter : Hunter k t' words' y
+    pub owes : Owes k live' y
+    pub areas : (z : DomainView) → z.own.number ≢ x.own.number → Area k r.account.live z → Area k live' z
+    pub makings : (z : DomainView) → z.own.number ≢ x.own.number → Area k r.account.live z → Making k s.words z → Making k words' z
+    pub hunters : (z : DomainView) → z.own.number ≢ x.own.number → Hunter k r.account.tenancy s.words z → Hunter k t' words' z
+    pub owe : (z : DomainView) → z.own.number ≢ x.own.number → Owes k r.account.live z → Owes k live' z
+
+  pub promotes_again : (y : DomainView) (words' : List ℕ) (live' : Live) (t' : Tenancy) → Promotes y words' live' t' → Rule k record { words = words'; homes = s.homes; views = set s.views id (one k hist y) }
+  promotes_again y words' live' t' o =
+      let g = my_good k s r id hist x at in
+      let here = promote_here r.account.pause x promotes g.staged in
+      remakes k s r id hist x at y (record r.account { live = live'; tenancy = t' }) words'
+      record {
+        wide = o.wide ∙ r.whole.wide;
+        legal = r.whole.legal;
+        calm = r.whole.calm;
+        found = o.found;
+        placed = o.placed;
+        spread = o.spread;
+        settled = inr promoting;
+        copies = o.copies;
+        cleared = o.cleared;
+        emptied = λ h. absurd (promote_rests r.account.pause promoting h);
+        phases = phases_same k r.account.pause s.words words' o.control r.whole.phases;
+        unwished = λ j odd led runs. o.control 0 (omega arith) ∙ r.whole.unwished j odd led runs;
+        endings = o.control 8 (omega arith) ∙ r.whole.endings;
+        pools = o.pools;
+        reserved = λ keeps. absurd (copying_keeps r.account.pause promoting keeps);
+        grid = o.grid;
+        drawers = o.drawers;
+        room = o.room;
+        unused = λ rests. absurd (rests promoting);
+        opened = o.opened;
+        drawable = takes_drawable k r.account.pause words' x takes g.staged;
+        cycle = cycle_same k s.words words' o.control r.whole.cycle;
+      }
+      (knows_front k s r id hist x at y o.number (subst (λ (l : List Entry). IsFrontOf x.own.number r.account.log l) (sym o.front) (mine k s r id hist x at).front))
+      record {
+        stood = o.stood;
+        area = o.area;
+        making = o.making;
+        staged = staged_as r.account.pause x y o.number o.arrivals o.stage g.staged;
+        still = λ paused. o.front ∙ g.still (subst IsInPause o.stage paused);
+        hunter = o.hunter;
+        resting = resting_takes k s.words words' x y takes (subst Takes (sym o.stage) takes) (λ n. o.free ∙ g.resting.free (λ e. n (o.stage ∙ e))) o.listing g.resting;
+        took_back = λ kind leads last. absurd (nobody_leads r.account.pause x x takes g.staged g.staged (subst IsLeading (sym (sym o.stage ∙ leads)) tt));
+        owes = o.owes;
+        rooted = λ _ up. absurd (let e : y.own.arrivals ≡ r.account.pause.phase + 1 = up in let f : x.own.arrivals ≡ r.account.pause.phase = here in let h : y.own.arrivals ≡ x.own.arrivals = o.arrivals in omega arith);
+        set_back = λ h. absurd (nobody_leads r.account.pause x x takes g.staged g.staged (subst IsLeading (sym (sym o.stage ∙ h.0)) tt));
+      }
+      (λ z _ other h. record {
+        stood = record { wide = h.stood.wide; each = λ q few. stands_more r.account.live live' (value_at z.own.registers q) (register now z.own.number q) o.more (h.stood.each q few); serial = h.stood.serial };
+        area = o.areas z other h.area;
+        making = o.makings z other h.area h.making;
+        staged = h.staged;
+        still = h.still;
+        hunter = o.hunters z other h.hunter;
+        resting = resting_other k r.account.pause s.words words' x z takes g.staged h.staged h.resting;
+        took_back = λ kind leads last. absurd (nobody_leads r.account.pause x z takes g.staged h.staged (subst IsLeading (sym leads) tt));
+        owes = o.owe z other h.owes;
+        rooted = h.rooted;
+        set_back = λ b. absurd (nobody_leads r.account.pause x z takes g.staged h.staged (subst IsLeading (sym b.0) tt));
+      })
+
+  -- nothing lives elsewhere, and no word changes
+  pub stood_same : (y : DomainView) → y.own.number ≡ x.own.number → y.own.registers ≡ x.own.registers → y.own.serial ≡ x.own.serial → (live' : Live) → More r.account.live live' → Stood live' now y
+  stood_same y number registers serial live' more = let st = (my_good k s r id hist x at).stood in record {
+    wide = ap (λ (l : List words.Value). length l) registers ∙ st.wide;
+    each = λ q few. subst (λ (z : List words.Value × ℕ). Stands live' (value_at z.0 q) (register now z.1 q)) (λ i. (sym registers i, sym number i)) (stands_more r.account.live live' (value_at x.own.registers q) (register now x.own.number q) more (st.each q few));
+    serial = serial ∙ (st.serial ∙ ap (λ (d : ℕ). (domain_at now d).serial) (sym number));
+  }

@@ -1,0 +1,87 @@
+-- In Reset a domain's minor area is free again.
+use Rattle.std.proofs.Common.{◌≡◌, ◌≢◌, ℕ, ◌+◌, ◌*◌, ◌<◌, ◌≤◌, List, [], length, set, slice_get, Some, None, Option, sym, refl, ap, ◌∙◌, inl, inr, subst, arith, length-set}
+use mathlib.Core.Option.{some}
+use lib.ListN.{get_elem?}
+use Rattle.atomic_table.specs.Table.{keeps}
+use Rattle.heap_model.specs.declared.entry.Entry.{Entry}
+use Rattle.heap_rule.specs.declared.config.Config.{Config}
+use Rattle.heap_rule.specs.declared.view.DomainView.{DomainView}
+use Rattle.heap_rule.specs.declared.view.View.{View}
+use Rattle.heap_rule.specs.declared.phase.Kind.TheVariants.{Run, Reset}
+use Rattle.heap_rule.specs.declared.phase.Stage.{Stage}
+use Rattle.heap_rule.specs.declared.phase.Stage.TheVariants.{In}
+use Rattle.heap_rule.specs.Layout.{before_heap, base_of}
+use Rattle.heap_rule.specs.Places.{Place, extent}
+use Rattle.heap_rule.specs.Phases.{Pause, AtStage, Staged}
+use Rattle.heap_rule.specs.Copies.{Resetting}
+use Rattle.heap_rule.specs.Raw.{MayStore, CanLeave, Closes}
+use Rattle.heap_rule.specs.Rule.{state_of, Rule}
+use Rattle.heap_rule.specs.Token.{OwnFits}
+use Rattle.heap_rule.specs.Views.{one}
+use Rattle.steps_promote.specs.Promotion.{ResetMay, reset_view, ResetTold}
+use Rattle.steps_promote.specs.Writes.{Resets}
+use Rattle.heap_rule.proofs.Again.{ends_low}
+use Rattle.heap_rule.proofs.Beside.{found_beside, making_beside, area_word_far}
+use Rattle.heap_rule.proofs.Lots.{Beside, area_beside, grid_beside, hunter_beside}
+use Rattle.heap_rule.proofs.Keeps.{Words, mine, my_good, control_set, controls_kept, hunter_as, more_same, writes}
+
+reset_now : (t : Pause) (x : DomainView) → x.seen.stage ≡ In Reset → Staged t x → Resetting t
+reset_now t x is s = inr (inl (subst (AtStage t x.own.number x.own.arrivals) is s.stage).1)
+
+none_made : (l : List ℕ) (j w : ℕ) → l ≡ [] → slice_get l j ≡ Some w → ⊥
+none_made l j w none got = let e : ◌≡◌ {A = Option ℕ} None (Some w) = sym (ap (λ (z : List ℕ). slice_get z j) none) ∙ got in cc
+
+pub reset_may : (k : Config) (x : DomainView) (word a new : ℕ) → word ≡ before_heap k + a → ResetMay k x a → MayStore k x word new ResetTold
+reset_may k x word a new place may fits slots id hist s r _ at _ =
+    let g = my_good k s r id hist x at in
+    let base : ℕ = base_of k x.own.number in
+    let minor : ℕ = k.minor_words in
+    let here : a ≡ base = may.word in
+    let m : ℕ = x.own.number * minor in
+    let high : k.pools * 4096 < a = (let e : a ≡ k.pools * 4096 + m + 1 = here in let o : k.pools * 4096 < a = omega arith in o) in
+    let emptied = r.whole.emptied (reset_now r.account.pause x may.stage g.staged) in
+    let below : (b : ℕ) (q : Place) → r.account.live b ≡ Some q → b + extent q.shape ≤ base = (λ b q lives. let low : b ≤ k.pools * 4096 = emptied b q lives in
+        let h = ends_low k r.account.tenancy r.account.live s.words b q r.whole.pools r.whole.grid lives low in let n : ℕ = extent q.shape in let y : b + n ≤ k.pools * 4096 + 1 = h in let o : b + n ≤ k.pools * 4096 + m + 1 = omega arith in o) in
+    let ws : List ℕ = set s.words (before_heap k + a) new in
+    let y : DomainView = reset_view x in
+    let beside : (d : ℕ) → Beside k r.account.tenancy s.words d a = area_beside k r.account.tenancy s.words a new r.whole.pools high in
+    let rule : Rule k record { words = ws; homes = s.homes; views = set s.views id (one k hist y) } = writes k s r id hist x at y ws record {
+      number = refl;
+      front = (mine k s r id hist x at).front;
+      still = λ p. g.still p;
+      stage = refl;
+      hunt = refl;
+      free = refl;
+      listing = refl;
+      notes = refl;
+      copying = refl;
+      remembered = refl;
+      registers = refl;
+      arrivals = refl;
+      wide = length-set s.words (before_heap k + a) new;
+      controls = controls_kept k s r id hist x at ws (control_set k s.words a new (omega arith));
+      found = λ b q lives. let f = r.whole.found b q lives in found_beside k r.account.live r.account.live (state_of k r.account.log).graph (state_of k r.account.log).graph s.words a new b q (more_same r.account.live) f f.there
+          (λ z inside e. let n : ℕ = extent q.shape in let h : b + n ≤ base = below b q lives in let i : z < n = inside in let o : b + z ≡ a = e in omega arith);
+      stood = record { wide = g.stood.wide; each = g.stood.each; serial = g.stood.serial };
+      area = record { room = (let o : 0 ≤ minor = omega arith in o); free = λ b q lives. inl (let n : ℕ = extent q.shape in let h : b + n ≤ base = below b q lives in let o : b + n ≤ base + 0 = omega arith in o); classes = λ b q lives young. absurd (let low : b ≤ k.pools * 4096 = emptied b q lives in omega arith) };
+      making = record { fits = λ j w got. absurd (none_made x.seen.made j w may.blank got); written = λ j w got. absurd (none_made x.seen.made j w may.blank got) };
+      makings = λ z other _ p. making_beside k s.words a new z (area_word_far k x.own.number a z (let o : base ≤ a = omega arith in o) (let h : 0 < minor = may.some in let o : a < base + minor = omega arith in o) other) p;
+      grid = grid_beside k r.account.tenancy s.words a new r.account.live r.account.live r.whole.pools beside (more_same r.account.live) (λ b q h _. h) r.whole.grid;
+      hunter = hunter_as k r.account.tenancy ws x y refl refl refl refl refl refl (hunter_beside k r.account.tenancy s.words a new r.whole.pools x (beside x.own.number) g.hunter);
+      hunters = λ z _ h. hunter_beside k r.account.tenancy s.words a new r.whole.pools z (beside z.own.number) h.hunter;
+    } in (
+      one k hist y,
+      keeps,
+      tt,
+      subst (λ (n : ℕ). Rule k record { words = set s.words n new; homes = s.homes; views = set s.views id (one k hist y) }) (sym place) rule,
+      (refl, refl),
+    )
+
+-- it closes where the area's use and the list were set back
+pub reset_closes : (k : Config) (x : DomainView) (found a : ℕ) → ResetMay k x a → Closes k x found ResetTold CanLeave Resets
+reset_closes k x found a may y fits told = let own = ap (λ (z : DomainView). z.own) told in record {
+  can_write = tt;
+  written = λ after wrote. own ∙ sym wrote;
+  fits = subst (λ (z : DomainView). OwnFits k z.own) (sym told) record { number = fits.number; used = omega arith; registers = fits.registers; looked = fits.looked; prepared = fits.prepared; pending = fits.pending };
+  once = λ runs. absurd (let e : ◌≡◌ {A = Stage} (In Reset) (In Run) = sym may.stage ∙ runs in cc);
+}
