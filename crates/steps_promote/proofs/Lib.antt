@@ -5,3 +5,6 @@ pub mod Places
 pub mod Filling
 pub mod Rewriting
 pub mod Resets
+pub mod OwnPlaces
+pub mod Preparing
+pub mod Freeing
