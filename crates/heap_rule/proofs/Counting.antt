@@ -53,7 +53,7 @@ sum_le_more f g e j (suc n) below each more =
     let b : v ≤ w = each n (omega arith) in
     let z : x + v + e ≤ y + w = omega arith in z)
 
-sum_times : (f : ℕ → ℕ) (q n : ℕ) → sum_of (λ i. f i * q) n ≡ sum_of f n * q
+pub sum_times : (f : ℕ → ℕ) (q n : ℕ) → sum_of (λ i. f i * q) n ≡ sum_of f n * q
 sum_times f q zero = omega arith
 sum_times f q (suc n) =
     let e : sum_of (λ i. f i * q) n ≡ sum_of f n * q = sum_times f q n in

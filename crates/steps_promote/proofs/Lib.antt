@@ -8,3 +8,4 @@ pub mod Resets
 pub mod OwnPlaces
 pub mod Preparing
 pub mod Freeing
+pub mod ClaimSteps

@@ -153,3 +153,42 @@ module _ (k : Config) (s : Words) (r : Rule k s) (id : ℕ) (hist : List Entry) 
               (λ ne. dite (dec_le j o.slot)
                   (λ le. let g : h' + y ≤ m = slot_below o.class j o.slot (let p : j ≤ o.slot = le in let nn : j ≢ o.slot = ne in omega arith) in omega arith)
                   (λ gt. let g : m + y ≤ h' = slot_below o.class o.slot j (lt_of_not-le gt) in omega arith))
+
+  -- no live block shares a word with the whole place
+  pub apart : (b : ℕ) (q : Place) → r.account.live b ≡ Some q → (b + extent q.shape ≤ a) ⊎ (a + size_of o.class ≤ b)
+  apart b q lives =
+      let n : ℕ = extent q.shape in
+      let y : ℕ = z in
+      let m : ℕ = w in
+      let t1 : m + y ≤ 4096 = top in
+      let e : a ≡ o.pool * 4096 + m + 1 = is in
+      dite (dec_le b (k.pools * 4096))
+      (λ le.
+      let l = r.whole.grid.lots b q lives le in
+      let v : ℕ = size_of l.class in
+      let u : ℕ = l.slot * size_of l.class in
+      let own = r.whole.pools.owned_by l.pool l.domain l.class l.owned_is in
+      let top' : u + v ≤ 4096 = slot_inside l.class l.slot own.2 l.inside in
+      let begins : b ≡ l.pool * 4096 + u + 1 = l.begins in
+      let fits : n ≤ v = l.fits in
+      dite (ℕ_discrete l.pool o.pool)
+      (λ same.
+      let both = owned_same l.domain me l.class o.class (sym l.owned_is ∙ (ap t.holder same ∙ o.owned_is)) in
+      let vy : v ≡ y = ap size_of both.1 in
+      let h' : ℕ = l.slot * size_of o.class in
+      let uh : u ≡ h' = ap (λ (d : ℕ). l.slot * size_of d) both.1 in
+      let here : l.pool ≡ o.pool = same in
+      dite (ℕ_discrete l.slot o.slot)
+          (λ eq. let hm : h' ≡ m = ap (λ (d : ℕ). d * size_of o.class) eq in
+              let ba : b ≡ a = omega arith in absurd (let none : ◌≡◌ {A = Option Place} None (Some q) = sym empty ∙ (ap r.account.live (sym ba) ∙ lives) in cc))
+          (λ ne. dite (dec_le l.slot o.slot)
+              (λ below. let g : h' + y ≤ m = slot_below o.class l.slot o.slot (let p : l.slot ≤ o.slot = below in let nn : l.slot ≢ o.slot = ne in omega arith) in inl (let f : b + n ≤ a = omega arith in f))
+              (λ above. let g : m + y ≤ h' = slot_below o.class o.slot l.slot (lt_of_not-le above) in inr (let f : a + y ≤ b = omega arith in f))))
+      (λ other. let ne : l.pool ≢ o.pool = other in dite (dec_le l.pool o.pool)
+          (λ below. let p : l.pool ≤ o.pool = below in inl (let f : b + n ≤ a = omega arith in f))
+          (λ above. let p : o.pool < l.pool = lt_of_not-le above in inr (let f : a + y ≤ b = omega arith in f))))
+      (λ gt. let g : k.pools * 4096 < b = lt_of_not-le gt in let p : o.pool < k.pools = inside_pools in inr (let f : a + y ≤ b = omega arith in f))
+
+  -- the whole place lies in the pools
+  pub below_areas : a + size_of o.class ≤ k.pools * 4096 + 1
+  below_areas = let y : ℕ = z in let m : ℕ = w in let t1 : m + y ≤ 4096 = top in let e : a ≡ o.pool * 4096 + m + 1 = is in let p : o.pool < k.pools = inside_pools in let f : a + y ≤ k.pools * 4096 + 1 = omega arith in f
