@@ -5,6 +5,7 @@ pub mod Sizes
 pub mod Values
 pub mod Keeps
 pub mod Classes
+pub mod Counting
 pub mod Looks
 pub mod Lots
 pub mod Again
