@@ -1,6 +1,6 @@
 -- Steps that take a free block of the pools, and make a block there.
 use Rattle.heap_model.specs.Domains.{class_count}
-use Rattle.std.specs.Prelude.{◌≡◌, ◌≢◌, ℕ, ◌+◌, ◌-◌, ◌^◌, ◌<◌, ◌≤◌, false, List, [], ◌∷◌, ◌++◌, length, replicate, slice_set, Some, None}
+use Rattle.std.specs.Prelude.{◌≡◌, ◌≢◌, ℕ, ◌+◌, ◌*◌, ◌-◌, ◌^◌, ◌<◌, ◌≤◌, false, List, [], ◌∷◌, ◌++◌, length, replicate, slice_set, Some, None}
 use Rattle.heap_model.specs.declared.command.Command.TheVariants.{AllocMaj}
 use Rattle.heap_model.specs.declared.entry.Entry.{Entry}
 use Rattle.heap_model.specs.declared.entry.Entry.TheVariants.{Command}
@@ -15,10 +15,13 @@ use Rattle.heap_rule.specs.declared.view.DomainView.{DomainView}
 use Rattle.heap_rule.specs.declared.view.Hunt.{Hunt}
 use Rattle.heap_rule.specs.declared.view.Hunt.TheVariants.{Rests, Counts, Draws, Walks, Fills}
 use Rattle.heap_rule.specs.declared.view.Spot.{Spot}
+use Rattle.heap_rule.specs.declared.phase.Kind.TheVariants.{Promote}
+use Rattle.heap_rule.specs.declared.phase.Stage.TheVariants.{In}
+use Rattle.heap_rule.specs.Copies.{known}
 use Rattle.heap_rule.specs.Limits.{sizes_in}
-use Rattle.heap_rule.specs.Places.{IsNewHead}
+use Rattle.heap_rule.specs.Places.{Place, IsNewHead}
 use Rattle.heap_rule.specs.Changes.{changed, FitChanges}
-use Rattle.heap_rule.specs.Pools.{size_of, blocks_of, place_in, owner_word, owned, limit_of, drawn_in, spot_at, hunting_free, hunting}
+use Rattle.heap_rule.specs.Pools.{size_of, blocks_of, place_in, owner_word, owned, limit_of, drawn_in, prepared_at, spot_at, hunting_free, hunting}
 use Rattle.heap_rule.specs.Token.{next_label}
 use Rattle.heap_rule.specs.Standing.{Acts}
 use Rattle.heap_rule.specs.Token.{Holds}
@@ -64,6 +67,22 @@ pub record Drew (k : Config) (place class : ℕ) (x y : DomainView) : Type 0 whe
 pub record CursorAddTold (k : Config) (count class : ℕ) (x : DomainView) (found : ℕ) (y : DomainView) : Type 0 where
   pub below : found < limit_of k count → Drew k found class x y
   pub past : limit_of k count ≤ found → y ≡ found_free x (count - limit_of k count) Rests
+
+-- a domain that copies young blocks and has met one in a minor area, and of whose own pools of the class no place is free or prepared, draws a pool
+pub record CopyDrawMay (k : Config) (x : DomainView) (class : ℕ) : Type 0 where
+  pub stage : x.seen.stage ≡ In Promote
+  pub at_rest : HasNoDraw x
+  pub of_class : class < class_count
+  pub none_free : NoneFree k x class
+  pub unprepared : prepared_at x.own.prepared class ≡ None
+  pub address : ℕ
+  pub block : Place
+  pub met : known x.seen.copying.met address ≡ Some block
+  pub young : k.pools * 4096 < address
+
+-- it draws one whatever the cursor was
+abbrev pub CopyDrawTold : Config → ℕ → DomainView → ℕ → DomainView → Type 0
+CopyDrawTold k class x found y = Drew k found class x y
 
 -- a load of the list at the place drawn
 pub record ListMay (k : Config) (x : DomainView) (at : ℕ) : Type 0 where
