@@ -26,7 +26,7 @@ use Rattle.heap_rule.specs.Token.{next_label}
 use Rattle.heap_rule.specs.Limits.{sizes_in}
 use Rattle.heap_rule.specs.Places.{IsNewHead}
 use Rattle.heap_rule.specs.Pools.{size_of, hunting_free}
-use Rattle.heap_rule.specs.Running.{Runs, Did, own_entry}
+use Rattle.heap_rule.specs.Running.{RemembersAll, Runs, Did, own_entry}
 use Rattle.heap_rule.specs.Standing.{Acts}
 use Rattle.steps_pools.specs.Takes.{with_hunt, MajorMay, MajorTold}
 use Rattle.heap_rule.specs.Token.{Token, SharedHeap, IsIn}
@@ -74,14 +74,19 @@ pub major_did : (h : SharedHeap) (old new : Token) (mid : DomainView) (e : Entry
 major_did h old new mid e dst tag n l hunt changes is runs here view told label =
     let answers = subst (λ (x : DomainView). Answers (sizes_in h.config) x.own.number x.seen.front new.view.seen.front e (Replied (Block (next_label x)))) view told.answers in
     let number : new.view.own.number ≡ old.view.own.number = ap (λ (x : DomainView). x.own.number) (major_rest _ _ _ _ _ told) ∙ ap (λ (x : DomainView). x.own.number) view in
-    acting_did h old new (AllocMaj dst tag n) (Block l) runs.here runs.acts here number (ap (λ (x : DomainView). x.seen.hunt) (major_rest _ _ _ _ _ told)) (ap (λ (x : DomainView). x.seen.made) (major_rest _ _ _ _ _ told) ∙ (ap (λ (x : DomainView). x.seen.made) view ∙ runs.idle))
+    acting_did h old new (AllocMaj dst tag n) (Block l) runs.here runs.acts runs.remembers here number (ap (λ (x : DomainView). x.seen.hunt) (major_rest _ _ _ _ _ told)) (ap (λ (x : DomainView). x.seen.made) (major_rest _ _ _ _ _ told) ∙ (ap (λ (x : DomainView). x.seen.made) view ∙ runs.idle))
     (record {
       arrivals = ap (λ (x : DomainView). x.own.arrivals) (major_rest _ _ _ _ _ told) ∙ ap (λ (x : DomainView). x.own.arrivals) view;
       stage = ap (λ (x : DomainView). x.seen.stage) (major_rest _ _ _ _ _ told) ∙ ap (λ (x : DomainView). x.seen.stage) view;
       notes = ap (λ (x : DomainView). x.seen.notes) (major_rest _ _ _ _ _ told) ∙ ap (λ (x : DomainView). x.seen.notes) view;
+      remembers = λ all. ap (λ (x : DomainView). x.seen.remembered) (major_rest _ _ _ _ _ told) ∙ (ap (λ (x : DomainView). x.seen.remembered) view ∙ (all ∙ sym (ap (λ (x : DomainView). x.own.remembered.items) (major_rest _ _ _ _ _ told) ∙ ap (λ (x : DomainView). x.own.remembered.items) view)));
     })
     (subst (λ (x : Entry). Answers (sizes_in h.config) old.view.own.number old.view.seen.front new.view.seen.front x (Replied (Block l))) is
     (subst (λ (m : Label). Answers (sizes_in h.config) old.view.own.number old.view.seen.front new.view.seen.front e (Replied (Block m))) (sym label) answers))
+
+-- a search leaves the remembered fields
+hunted_remembers : (x y : DomainView) (hunt : Hunt) → Hunted x y hunt → RemembersAll x → RemembersAll y
+hunted_remembers x y hunt view all = ap (λ (z : DomainView). z.seen.remembered) view ∙ (all ∙ sym (ap (λ (z : DomainView). z.own.remembered.items) view))
 
 -- after a search the domain runs on
 pub hunted_runs : (h : SharedHeap) (old new : Token) (hunt : Hunt) → Runs h old → IsIn new h → Hunted old.view new.view hunt → IsBusy h new
@@ -89,6 +94,7 @@ hunted_runs h old new hunt runs here view = record {
   here = here;
   acts = subst (λ (z : Config × DomainView). Acts z.0 z.1) (λ i. (sym (here.1 ∙ sym runs.here.1) i, sym view i)) (let a : Acts old.config (hunting_free old.view new.view.own.looked hunt new.view.seen.free) = record { goes_on = runs.acts.goes_on; runs = runs.acts.runs } in a);
   idle = ap (λ (x : DomainView). x.seen.made) view ∙ runs.idle;
+  remembers = hunted_remembers old.view new.view hunt view runs.remembers;
 }
 
 pub hunted_did : (h : SharedHeap) (old mid new : Token) (hunt : Hunt) (c : CommandType) (r : Reply) → Runs h old → IsIn mid h → Hunted old.view mid.view hunt → Did h mid new c r → Did h old new c r
@@ -101,6 +107,7 @@ hunted_did h old mid new hunt c r runs here view did =
         arrivals = did.stays.arrivals ∙ ap (λ (x : DomainView). x.own.arrivals) view;
         stage = did.stays.stage ∙ ap (λ (x : DomainView). x.seen.stage) view;
         notes = did.stays.notes ∙ ap (λ (x : DomainView). x.seen.notes) view;
+        remembers = λ all. did.stays.remembers (hunted_remembers old.view mid.view hunt view all);
       };
     }
 

@@ -11,6 +11,7 @@ use Rattle.heap_rule.specs.declared.view.Hunt.{Hunt}
 use Rattle.heap_rule.specs.declared.view.Hunt.TheVariants.{Rests, Draws, Fills}
 use Rattle.heap_rule.specs.Pools.{size_of, blocks_of, place_in, spot_at, hunting_free}
 use Rattle.heap_rule.specs.Token.{Token, SharedHeap, IsIn}
+use Rattle.heap_rule.specs.Running.{RemembersAll}
 use Rattle.heap_rule.specs.Standing.{Acts}
 use Rattle.steps_pools.specs.Takes.{HasNoDraw, NoneFree}
 
@@ -47,7 +48,14 @@ pub record DrewPool (k : Config) (place class : ℕ) (x y : DomainView) : Type 0
   pub looked : y.own.looked ≡ x.own.looked
   pub unreserved : Unreserved k y
 
--- the free place at an address is taken, in an own pool of the class
+-- the pool at a place of the list is drawn for the class
+pub record HasDrawn (k : Config) (place class : ℕ) (x : DomainView) : Type 0 where
+  pub pool : ℕ
+  pub listed_is : place < k.pools
+  pub inside : pool < k.pools
+  pub hunt : x.seen.hunt ≡ Draws place pool class 0
+
+-- the free place at an address is taken, in an own pool of the class: it is the one looked to
 pub record Took (k : Config) (class a : ℕ) (x y : DomainView) : Type 0 where
   pub pool : ℕ
   pub slot : ℕ
@@ -55,6 +63,7 @@ pub record Took (k : Config) (class a : ℕ) (x y : DomainView) : Type 0 where
   pub below : slot < blocks_of class
   pub address : a ≡ place_in pool class slot
   pub view : Hunted x y (Fills pool class slot [])
+  pub next : spot_at y.own.looked class ≡ record { pool = pool; slot = slot }
 
 -- none is taken, and no pool is drawn
 pub record Missed (x y : DomainView) : Type 0 where
@@ -71,11 +80,12 @@ pub record Lacks (k : Config) (class : ℕ) (x y : DomainView) : Type 0 where
   pub missed : Missed x y
   pub none_free : NoneFree k y class
 
--- the token is one of the heap's, its trace hasn't ended, and no young block is being made
+-- the token is one of the heap's, its trace hasn't ended, no young block is being made, and its list has the fields that it may have to look through
 pub record IsBusy (h : SharedHeap) (t : Token) : Type 0 where
   pub here : IsIn t h
   pub acts : Acts t.config t.view
   pub idle : t.view.seen.made ≡ []
+  pub remembers : RemembersAll t.view
 
 -- a free place of an own pool is taken at this address, with room for a block of so many fields
 pub record IsRoom (k : Config) (x : DomainView) (a fields : ℕ) : Type 0 where

@@ -19,9 +19,8 @@ use Rattle.heap_rule.specs.Layout.{heap_words, table_words, at_address, listed, 
 use Rattle.heap_rule.specs.Views.{one}
 use Rattle.heap_rule.specs.Room.{Room, IsUnused, drawn_in_all}
 use Rattle.heap_rule.specs.Rule.{state_of, NoCycle, Rule}
-use Rattle.heap_rule.specs.Places.{Place}
 use Rattle.heap_rule.specs.Copies.{Promoting}
-use Rattle.heap_rule.specs.Pools.{Holder, nobody, drawn, owned, owner_word, Stock, Tenancy, Takes, Pools, Reserved, KeepsReserve, Drawers, IsTaking, Hunts, Hunter, Latest, DrawsFor, IsBefore, spot_at, drawn_in, hunting, hunting_free, place_in, blocks_of, limit_of}
+use Rattle.heap_rule.specs.Pools.{Holder, nobody, drawn, owned, owner_word, Stock, Tenancy, Takes, Pools, KeepsReserve, IsTaking, Hunts, Hunter, Latest, DrawsFor, IsBefore, spot_at, drawn_in, hunting, hunting_free, place_in, blocks_of, limit_of}
 use Rattle.heap_rule.specs.Phases.{Pause, Phases, AtStage, sum_of}
 use Rattle.steps_pools.specs.Takes.{with_hunt, found_free, HasNoDraw}
 use Rattle.heap_rule.proofs.Update.{over, over_here, over_else}
@@ -568,8 +567,10 @@ module _ (k : Config) (s : Words) (r : Rule k s) (id : ℕ) (hist : List Entry) 
           let u : x ≤ T.stock.copies d class = used in
           let e : (n + 1) * m ≡ x + m = ap (λ (z : ℕ). z * m) (add-one n) ∙ suc-mul n m in
           subst (λ (z : ℕ). z * m ≤ T.stock.copies d class + m) (sym one_more) (subst (λ (z : ℕ). z ≤ T.stock.copies d class + m) (sym e) (let y : ℕ = T.stock.copies d class in let u' : x ≤ y = u in let g : x + m ≤ y + m = omega arith in g))
+
       cursor_is : cursor words2 ≡ place + 1
       cursor_is = get_or-set_same s.words 7 (place + 1) 0 (let w : length s.words ≡ table_words k = r.whole.wide in let h : ℕ = heap_words k in omega arith)
+
       listed_is : listed words2 ≡ listed s.words
       listed_is = get_or-set_other s.words 7 6 (place + 1) 0 (λ e. omega arith)
 

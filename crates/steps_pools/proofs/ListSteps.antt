@@ -12,8 +12,7 @@ use Rattle.heap_rule.specs.declared.phase.Kind.{Kind}
 use Rattle.heap_rule.specs.declared.phase.Kind.TheVariants.{Run, Promote, Reset}
 use Rattle.heap_rule.specs.declared.phase.Note.{Note}
 use Rattle.heap_rule.specs.declared.phase.Note.TheVariants.{Cleared, SetBack}
-use Rattle.heap_rule.specs.declared.phase.Stage.{Stage}
-use Rattle.heap_rule.specs.declared.phase.Stage.TheVariants.{In, Leads}
+use Rattle.heap_rule.specs.declared.phase.Stage.TheVariants.{Leads}
 use Rattle.heap_rule.specs.declared.view.DomainView.{DomainView}
 use Rattle.heap_rule.specs.declared.view.Hunt.TheVariants.{Rests}
 use Rattle.heap_rule.specs.declared.view.Listing.{Listing}
@@ -302,14 +301,14 @@ module _ (k : Config) (s : Words) (r : Rule k s) (id : ℕ) (hist : List Entry) 
     -- one owner word more is found
     pub finds_rule : length l.owners < k.pools → Rule k record { words = s.words; homes = s.homes; views = set s.views id (one k hist (with_listing x (Some (found_owner (owner_of k s.words (length l.owners)) l)))) }
     finds_rule inside = let word : ℕ = owner_of k s.words (length l.owners) in let after : Listing = found_owner word l in relists_reset (Some after) s.words refl (λ a low. refl) (λ i low. refl) r.whole.pools (λ m e. subst (Lists k s.words x.own.number x.seen.stage) (some_list after m e) record {
-        first = known.first;
-        leads = known.leads;
-        few = (subst (λ (n : ℕ). n ≤ k.pools) (sym (length-append l.owners (word ∷ []))) (let n : ℕ = length l.owners in let i : n < k.pools = inside in let o : n + 1 ≤ k.pools = omega arith in o), known.few.1);
-        owners = λ q w got. ⊎_elim (λ (g : slice_get l.owners q ≡ Some w). known.owners q w g) (λ (g : (q ≡ length l.owners) × (word ≡ w)). ap (owner_of k s.words) g.0 ∙ g.1) (got_end l.owners word w q got);
-        names = known.names;
-        count = known.count;
-        rewinds = known.rewinds;
-      }) (λ e. e)
+      first = known.first;
+      leads = known.leads;
+      few = (subst (λ (n : ℕ). n ≤ k.pools) (sym (length-append l.owners (word ∷ []))) (let n : ℕ = length l.owners in let i : n < k.pools = inside in let o : n + 1 ≤ k.pools = omega arith in o), known.few.1);
+      owners = λ q w got. ⊎_elim (λ (g : slice_get l.owners q ≡ Some w). known.owners q w g) (λ (g : (q ≡ length l.owners) × (word ≡ w)). ap (owner_of k s.words) g.0 ∙ g.1) (got_end l.owners word w q got);
+      names = known.names;
+      count = known.count;
+      rewinds = known.rewinds;
+    }) (λ e. e)
 
     module _ (empty : l.listed ≡ 0) where
       none : listed s.words ≡ 0

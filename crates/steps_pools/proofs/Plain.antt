@@ -1,5 +1,5 @@
 -- What the steps on pools tell of a token's own data.
-use Rattle.std.proofs.Common.{◌≡◌, ◌+◌, ◌^◌, ◌<◌, ◌≤◌, ℕ, List, length, set, sym, ap, ◌∙◌, subst, arith, lt_of_not-le, length-set, get_or-set_same, get_or-set_other, ◌≢◌, refl, inl, inr}
+use Rattle.std.proofs.Common.{◌≡◌, ◌+◌, ◌^◌, ◌<◌, ◌≤◌, ℕ, List, length, set, sym, ap, ◌∙◌, subst, arith, lt_of_not-le, length-set, get_or-set_same, get_or-set_other, inl, inr}
 use mathlib.Core.Logic.{dite}
 use native.Mathlib.Decide.{dec_le, ℕ_discrete}
 use Rattle.heap_model.specs.Domains.{class_count, IsWithinLimits}
@@ -16,7 +16,7 @@ use Rattle.heap_rule.specs.Changes.{changed, FitChanges}
 use Rattle.heap_rule.specs.Limits.{sizes_in}
 use Rattle.heap_rule.specs.Pools.{blocks_of, owned, owner_word, limit_of, spot_at, hunting}
 use Rattle.heap_rule.specs.Raw.{Closes, StepsOnce}
-use Rattle.heap_rule.specs.Token.{LooksWithin, OwnFits, Holds, next_label}
+use Rattle.heap_rule.specs.Token.{LooksWithin, OwnFits, next_label}
 use Rattle.heap_rule.proofs.ChangeLemmas.{changed_only}
 use Rattle.heap_rule.proofs.Classes.{some_block}
 use Rattle.steps_pools.specs.Takes.{CursorTold, CursorAddTold, OwnedTold, OwnerTold, PlaceTold, MajorTold}
@@ -89,11 +89,11 @@ few_pools k pool limits inside = let all = limits.pools in let p : ℕ = k.pools
 
 pub owned_closes : (k : Config) (x : DomainView) (new pool class : ℕ) → pool < k.pools → class < class_count → IsWithinLimits (sizes_in k) → Closes k x new (OwnedTold pool class) (λ _. CanLook pool class) (LooksFrom pool class)
 owned_closes k x new pool class inside few limits y fits told =
-    let own = ap (λ (z : DomainView). z.own) told in record {
+    let own = ap (λ (z : DomainView). z.own) told.view in record {
       can_write = (few_pools k pool limits inside, few);
       written = λ after is. own ∙ sym is;
       fits = looking_fits k x y class (record { pool = pool; slot = 0 }) fits own (let i = inside in omega arith) (some_block class few).0;
-      once = looking_once k x y _ _ told;
+      once = looking_once k x y _ _ told.view;
     }
 
 pub owner_closes : (k : Config) (x : DomainView) (found pool class : ℕ) → pool < k.pools → class < class_count → IsWithinLimits (sizes_in k) → Closes k x found (OwnerTold pool class) (λ _. CanLook pool class) (PassesPool pool class found)

@@ -1,6 +1,6 @@
 -- A domain that copies young blocks always finds a pool to draw.
-use Rattle.heap_model.specs.Domains.{class_count, IsWithinLimits}
-use Rattle.std.proofs.Common.{◌≡◌, ◌≢◌, ℕ, ◌+◌, ◌*◌, ◌<◌, ◌≤◌, ◌⊎◌, List, Option, Some, None, sym, refl, ap, ◌∙◌, subst, inl, inr, ⊎_elim, arith, lt_of_not-le}
+use Rattle.heap_model.specs.Domains.{class_count}
+use Rattle.std.proofs.Common.{◌≡◌, ℕ, ◌+◌, ◌*◌, ◌<◌, ◌≤◌, List, Some, None, sym, ◌∙◌, subst, inl, ⊎_elim, arith, lt_of_not-le}
 use mathlib.Core.Logic.{dite}
 use native.Mathlib.Decide.{dec_le}
 use mathlib.Core.Option.{some}
@@ -8,10 +8,7 @@ use lib.ListN.{get_elem?}
 use Rattle.heap_model.specs.declared.entry.Entry.{Entry}
 use Rattle.heap_rule.specs.declared.config.Config.{Config}
 use Rattle.heap_rule.specs.declared.view.DomainView.{DomainView}
-use Rattle.heap_rule.specs.declared.phase.Kind.TheVariants.{Promote}
-use Rattle.heap_rule.specs.declared.phase.Stage.TheVariants.{In}
 use Rattle.heap_rule.specs.Layout.{at_address, listed, cursor}
-use Rattle.heap_rule.specs.Places.{Place}
 use Rattle.heap_rule.specs.Views.{one}
 use Rattle.heap_rule.specs.Rule.{Rule}
 use Rattle.heap_rule.specs.Pools.{Tenancy, Pools, Hunter, Latest, DrawsFor, drawn_in, spot_at, prepared_at, place_in, blocks_of}
@@ -54,5 +51,5 @@ module _ (k : Config) (s : Words) (r : Rule k s) (id : ℕ) (hist : List Entry) 
   pub pool_left : cursor s.words < listed s.words
   pool_left =
       let g = my_good k s r id hist x at in
-      let lasts = g.owes.knows may.address may.block may.met in
-      room_left k r.account.live r.account.pause r.account.tenancy.stock s.words r.whole.room r.limits x.own.number class (mine k s r id hist x at).inside may.of_class all_used (promote_now r.account.pause x may.stage g.staged) may.address lasts.place lasts.lives may.young
+      let lasts = g.owes.knows may.young.address may.young.block may.young.met in
+      room_left k r.account.live r.account.pause r.account.tenancy.stock s.words r.whole.room r.limits x.own.number class (mine k s r id hist x at).inside may.of_class all_used (promote_now r.account.pause x may.stage g.staged) may.young.address lasts.place lasts.lives may.young.young

@@ -122,10 +122,10 @@ pub clear_may : (k : Config) (x : DomainView) (takes : Takes x.seen.stage) (word
 clear_may k x takes word a new pool class cleared here may fits slots id h = clears k slots id word h x takes a new pool class cleared here may
 
 owns : (k : Config) (slots id word : ℕ) (hist : List Entry) (x : DomainView) (takes : Takes x.seen.stage) (new pool class : ℕ) → length x.own.looked ≡ class_count → OwnerMay k x word new pool class
-    → Allows (Rule k) slots id (one k hist x, []) word (λ _. new) (λ _. Tells (λ y _ z. z ≡ looked_to y class (record { pool = pool; slot = 0 }) (Fills pool class 0 [])) (one k hist x, []) new)
+    → Allows (Rule k) slots id (one k hist x, []) word (λ _. new) (λ _. Tells (OwnedTold pool class) (one k hist x, []) new)
 owns k slots id word hist x takes new pool class wide may s r _ at _ =
     let y : DomainView = looked_to x class (record { pool = pool; slot = 0 }) (Fills pool class 0 []) in
-    (one k hist y, keeps, tt, subst (λ (n : ℕ × ℕ). Rule k record { words = set s.words n.0 n.1; homes = s.homes; views = set s.views id (one k hist y) }) (λ i. (sym may.word i, sym may.signs i)) (owns_rule k s r id hist x at takes may.place pool class may.hunt may.none_free wide), (refl, refl))
+    (one k hist y, keeps, tt, subst (λ (n : ℕ × ℕ). Rule k record { words = set s.words n.0 n.1; homes = s.homes; views = set s.views id (one k hist y) }) (λ i. (sym may.word i, sym may.signs i)) (owns_rule k s r id hist x at takes may.place pool class may.hunt may.none_free wide), (record { wide = wide; view = refl }, refl))
 
 pub owner_may : (k : Config) (x : DomainView) (takes : Takes x.seen.stage) (word new pool class : ℕ) → OwnerMay k x word new pool class → MayStore k x word new (OwnedTold pool class)
 owner_may k x takes word new pool class may fits slots id h = owns k slots id word h x takes new pool class fits.looked.wide may

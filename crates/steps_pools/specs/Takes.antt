@@ -68,6 +68,13 @@ pub record CursorAddTold (k : Config) (count class : ℕ) (x : DomainView) (foun
   pub below : found < limit_of k count → Drew k found class x y
   pub past : limit_of k count ≤ found → y ≡ found_free x (count - limit_of k count) Rests
 
+-- the domain has met a block of a minor area
+pub record HasYoung (k : Config) (x : DomainView) : Type 0 where
+  pub address : ℕ
+  pub block : Place
+  pub met : known x.seen.copying.met address ≡ Some block
+  pub young : k.pools * 4096 < address
+
 -- a domain that copies young blocks and has met one in a minor area, and of whose own pools of the class no place is free or prepared, draws a pool
 pub record CopyDrawMay (k : Config) (x : DomainView) (class : ℕ) : Type 0 where
   pub stage : x.seen.stage ≡ In Promote
@@ -75,10 +82,7 @@ pub record CopyDrawMay (k : Config) (x : DomainView) (class : ℕ) : Type 0 wher
   pub of_class : class < class_count
   pub none_free : NoneFree k x class
   pub unprepared : prepared_at x.own.prepared class ≡ None
-  pub address : ℕ
-  pub block : Place
-  pub met : known x.seen.copying.met address ≡ Some block
-  pub young : k.pools * 4096 < address
+  pub young : HasYoung k x
 
 -- it draws one whatever the cursor was
 abbrev pub CopyDrawTold : Config → ℕ → DomainView → ℕ → DomainView → Type 0
@@ -123,8 +127,9 @@ pub record OwnerMay (k : Config) (x : DomainView) (at new pool class : ℕ) : Ty
   pub none_free : NoneFree k x class
 
 -- the pool is the domain's, and its first place is taken
-abbrev pub OwnedTold : ℕ → ℕ → DomainView → ℕ → DomainView → Type 0
-OwnedTold pool class x new y = y ≡ looked_to x class (record { pool = pool; slot = 0 }) (Fills pool class 0 [])
+pub record OwnedTold (pool class : ℕ) (x : DomainView) (new : ℕ) (y : DomainView) : Type 0 where
+  pub wide : length x.own.looked ≡ class_count
+  pub view : y ≡ looked_to x class (record { pool = pool; slot = 0 }) (Fills pool class 0 [])
 
 -- a load of the owner of the pool in which the places of the class are looked at next
 pub record OwnerLoadMay (k : Config) (x : DomainView) (at pool class : ℕ) : Type 0 where
