@@ -1,11 +1,11 @@
 -- The list of free pools grows by one pool that is nobody's.
-use Rattle.std.proofs.Common.{◌≡◌, ◌≢◌, ℕ, ◌+◌, ◌<◌, ◌≤◌, false, List, [], ◌∷◌, ◌++◌, length, Option, Some, refl, sym, ap, ◌∙◌, subst, arith, length-append}
+use Rattle.std.proofs.Common.{◌≡◌, ◌≢◌, ℕ, ◌+◌, ◌<◌, ◌≤◌, false, List, [], ◌∷◌, ◌++◌, length, Some, refl, sym, ap, ◌∙◌, subst, arith, length-append}
 use Rattle.heap_rule.specs.declared.config.Config.{Config}
 use Rattle.heap_rule.specs.declared.view.DomainView.{DomainView}
 use Rattle.heap_rule.specs.declared.view.Listing.{Listing}
 use Rattle.steps_pools.specs.Listings.{with_listing, further, relisted, found_owner, named, set_back, listed_as, no_listing, noted_set_back, IsOpener, CountedTold, HasCounted, free_from, free_pools, IsLeader, EmptiedTold, LookMay, LookedTold, NameMay, NamedTold, SetBackTold, CloseMay, ListedAsTold, HasList}
 use Rattle.steps_pools.proofs.FreePools.{free_last, free_same}
-use Rattle.size_pools.specs.Listed.{HasListed, Relisted, SetsBack}
+use Rattle.size_pools.specs.Listed.{HasListed, Relisted}
 use Rattle.heap_rule.specs.declared.phase.Note.TheVariants.{SetBack}
 use Rattle.heap_rule.specs.Phases.{last_note}
 use Rattle.heap_rule.proofs.Controls.{last_note_end}
@@ -122,15 +122,6 @@ counted_ready k x y count opener told = record {
   count_is = refl;
 }
 
--- and so it stays where the cursor is only looked at
-pub still_counted : (x y : DomainView) (count : ℕ) → y ≡ x → HasCounted x count → HasCounted y count
-still_counted x y count same h = subst (λ (z : DomainView). HasCounted z count) (sym same) h
-
 -- the cursor is set back
-pub sets_back : (k : Config) (x y z : DomainView) (count : ℕ) → CountedTold k x count y → z ≡ noted_set_back y → SetsBack x z
-sets_back k x y z count told noted =
-    let listing : z.seen.listing ≡ Some (listed_as count no_listing) = ap (λ (v : DomainView). v.seen.listing) noted ∙ ap (λ (v : DomainView). v.seen.listing) told.view in
-    noted ∙ (ap noted_set_back told.view ∙ ap (λ (l : Option Listing). noted_set_back (with_listing x l)) (sym listing))
-
 pub notes_back : (y z : DomainView) → z ≡ noted_set_back y → last_note z.seen.notes ≡ Some SetBack
 notes_back y z noted = ap (λ (v : DomainView). last_note v.seen.notes) noted ∙ last_note_end y.seen.notes SetBack

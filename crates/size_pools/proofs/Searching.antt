@@ -10,7 +10,7 @@ use Rattle.heap_rule.specs.declared.view.Spot.{Spot}
 use Rattle.heap_rule.specs.declared.config.Config.{Config}
 use Rattle.heap_rule.specs.Limits.{sizes_in}
 use Rattle.heap_rule.specs.Pools.{Takes, owned, owner_word, blocks_of, place_in, drawn_in, limit_of, spot_at, hunting, hunting_free}
-use Rattle.steps_pools.specs.Takes.{with_hunt, looked_to, NoneFree, ListedTold, CursorTold, Drew, OwnerMay, OwnedTold, ListTold, OwnerTold, PlaceTold}
+use Rattle.steps_pools.specs.Takes.{with_hunt, NoneFree, ListedTold, CursorTold, Drew, OwnerMay, OwnedTold, ListTold, OwnerTold, PlaceTold}
 use Rattle.heap_rule.proofs.Classes.{some_block}
 use Rattle.size_pools.specs.Taken.{Hunted, HasDrawn, DrewPool, Unreserved, Took, Missed, Passed}
 
@@ -92,9 +92,6 @@ hunted_takes x y h view takes = subst Takes (sym (ap (λ (z : DomainView). z.see
 -- a pool was drawn
 pub drew_drawn : (k : Config) (place class : ℕ) (x y : DomainView) → DrewPool k place class x y → HasDrawn k place class y
 drew_drawn k place class x y d = record { pool = d.pool; listed_is = d.listed_is; inside = d.inside; hunt = ap (λ (z : DomainView). z.seen.hunt) d.view }
-
-pub copy_drawn : (k : Config) (place class : ℕ) (x y : DomainView) → Drew k place class x y → HasDrawn k place class y
-copy_drawn k place class x y d = record { pool = d.pool; listed_is = d.listed_is; inside = d.inside; hunt = ap (λ (z : DomainView). z.seen.hunt) d.view }
 
 -- and no place of an own pool is free still
 pub none_still : (k : Config) (class : ℕ) (x y : DomainView) → y.own.looked ≡ x.own.looked → NoneFree k x class → NoneFree k y class

@@ -13,8 +13,8 @@ ghost use Rattle.size_pools.specs.Taken.{Hunted, HasDrawn, DrewPool, Reserved, U
 use crate::no_pool::NoPool;
 use heap_rule::{Domain, Heap};
 use steps_pools::{
-    class_blocks, clear_store, copy_draw, cursor_add, cursor_load, draw_limit, list_load, listed_load,
-    owner_store, owner_word, place_address,
+    class_blocks, clear_store, copy_draw, cursor_add, cursor_load, draw_limit, list_load,
+    listed_load, owner_store, owner_word, place_address,
 };
 
 // The index of the first word of the list.

@@ -1,5 +1,4 @@
-use Rattle.std.proofs.Common.{ap, inl, ◌∙◌}
-use Rattle.heap_rule.specs.declared.view.DomainView.{DomainView}
+use Rattle.std.proofs.Common.{inl}
 use Rattle.size_pools.proofs.Searching.{drew_drawn, hunted_takes, none_still, took_later, still_unreserved}
 use Rattle.size_pools.proofs.draw.draw.Goals as goal
 

@@ -1,7 +1,7 @@
 use Rattle.std.proofs.Common.{◌∙◌, ◌+◌, ◌*◌, ℕ, refl, ap}
 use Rattle.heap_rule.specs.declared.config.Config.{Config}
 use Rattle.heap_rule.proofs.Classes.{some_block}
-use Rattle.size_pools.proofs.Searching.{drawn_took, drawn_free, found_drawn, found_inside, clear_takes, owner_ready}
+use Rattle.size_pools.proofs.Searching.{drawn_took, drawn_free, found_drawn, clear_takes, owner_ready}
 use Rattle.size_pools.proofs.draw.sign.Goals as goal
 
 pub list_load-pool-requires-clause-may : goal.list_load-pool-requires-clause-may
