@@ -70,9 +70,8 @@ pub fn write_list(heap: &Heap, dom: &mut Domain)
 }
 
 /// Domain 0, in the first phase of a pause in which it hasn't named the next kind, sets the cursor back
-/// to the limit of running domains where it stands above, and notes that it did: then none of the
-/// pools behind the cursor is drawn, and all of the reserve are among them. All that the domain owns,
-/// and all other words, stay as they are.
+/// to the limit of running domains where it stands above, and notes that it did. All that the domain
+/// owns stays as it is, and so does what it knows, but for how many pools are listed.
 pub fn set_cursor_back(heap: &Heap, dom: &mut Domain)
     requires here { IsIn dom.old heap.now }
     requires opener { IsOpener dom.old.view }
