@@ -3,9 +3,12 @@ use Rattle.std.proofs.Common.{◌≡◌, ◌≢◌, ℕ, ◌+◌, ◌<◌, ◌�
 use Rattle.heap_rule.specs.declared.config.Config.{Config}
 use Rattle.heap_rule.specs.declared.view.DomainView.{DomainView}
 use Rattle.heap_rule.specs.declared.view.Listing.{Listing}
-use Rattle.steps_pools.specs.Listings.{with_listing, further, relisted, found_owner, named, set_back, listed_as, free_from, free_pools, IsLeader, EmptiedTold, LookMay, LookedTold, NameMay, NamedTold, SetBackTold, CloseMay, ListedAsTold, HasList}
+use Rattle.steps_pools.specs.Listings.{with_listing, further, relisted, found_owner, named, set_back, listed_as, no_listing, noted_set_back, IsOpener, CountedTold, HasCounted, free_from, free_pools, IsLeader, EmptiedTold, LookMay, LookedTold, NameMay, NamedTold, SetBackTold, CloseMay, ListedAsTold, HasList}
 use Rattle.steps_pools.proofs.FreePools.{free_last, free_same}
 use Rattle.size_pools.specs.Listed.{HasListed, Relisted}
+use Rattle.heap_rule.specs.declared.phase.Note.TheVariants.{SetBack}
+use Rattle.heap_rule.specs.Phases.{last_note}
+use Rattle.heap_rule.proofs.Controls.{last_note_end}
 
 -- the list so far
 abbrev so_far : List ℕ → List ℕ → Listing
@@ -18,7 +21,7 @@ same_list : (x y : DomainView) (f : Listing → Listing) → y ≡ relisted x f 
 same_list x y f told = told ∙ ap (with_listing x) (sym (ap (λ (z : DomainView). z.seen.listing) told))
 
 leads_on : (x y : DomainView) → Relisted x y → IsLeader x → IsLeader y
-leads_on x y same leader = subst IsLeader (sym same) (let l : IsLeader (with_listing x y.seen.listing) = record { first = leader.first; last = leader.last; stage = leader.stage } in l)
+leads_on x y same leader = subst IsLeader (sym same) (let l : IsLeader (with_listing x y.seen.listing) = record { first = leader.first; stage = leader.stage } in l)
 
 no_names : free_from 0 [] ≡ []
 unfolding free_from
@@ -108,3 +111,17 @@ module _ (k : Config) (x : DomainView) (count : ℕ) (h : HasListed x k.pools co
       all = h.all;
       listing = on_list y z back (listed_as count) back_list said ∙ ap (λ (n : ℕ). Some (listed_as n back)) (sym h.count_is);
     }
+
+-- how many pools are listed is known
+pub counted_ready : (k : Config) (x y : DomainView) (count : ℕ) → IsOpener x → CountedTold k x count y → HasCounted y count
+counted_ready k x y count opener told = record {
+  opener = subst IsOpener (sym told.view) (let l : IsOpener (with_listing x (Some (listed_as count no_listing))) = record { first = opener.first; stage = opener.stage } in l);
+  list = listed_as count no_listing;
+  listing = ap (λ (z : DomainView). z.seen.listing) told.view;
+  kept = refl;
+  count_is = refl;
+}
+
+-- the cursor is set back
+pub notes_back : (y z : DomainView) → z ≡ noted_set_back y → last_note z.seen.notes ≡ Some SetBack
+notes_back y z noted = ap (λ (v : DomainView). last_note v.seen.notes) noted ∙ last_note_end y.seen.notes SetBack

@@ -1,6 +1,6 @@
 -- The writing of a block at a free place of an own pool.
 use Rattle.heap_model.specs.Domains.{class_count}
-use Rattle.std.proofs.Common.{◌≡◌, ◌≢◌, ◌∙◌, ℕ, ◌+◌, ◌*◌, ◌^◌, ◌<◌, ◌≤◌, List, [], ◌∷◌, false, replicate, refl, ap, sym, subst, arith, lt_of_not-le}
+use Rattle.std.proofs.Common.{◌≡◌, ◌≢◌, ◌∙◌, ℕ, ◌+◌, ◌*◌, ◌^◌, ◌<◌, ◌≤◌, List, [], ◌∷◌, false, replicate, slice_set, inl, inr, ⊎_elim, refl, ap, sym, subst, arith, lt_of_not-le}
 use Rattle.heap_model.specs.declared.label.Label.{Label}
 use Rattle.heap_model.specs.declared.command.Command.{Command as CommandType}
 use Rattle.heap_model.specs.declared.command.Command.TheVariants.{AllocMaj}
@@ -26,13 +26,13 @@ use Rattle.heap_rule.specs.Token.{next_label}
 use Rattle.heap_rule.specs.Limits.{sizes_in}
 use Rattle.heap_rule.specs.Places.{IsNewHead}
 use Rattle.heap_rule.specs.Pools.{size_of, hunting_free}
-use Rattle.heap_rule.specs.Running.{Runs, Did, own_entry}
+use Rattle.heap_rule.specs.Running.{RemembersAll, Runs, Did, own_entry}
 use Rattle.heap_rule.specs.Standing.{Acts}
 use Rattle.steps_pools.specs.Takes.{with_hunt, MajorMay, MajorTold}
 use Rattle.heap_rule.specs.Token.{Token, SharedHeap, IsIn}
 use Rattle.heap_rule.proofs.Calls.{acting_did}
 use Rattle.heap_rule.proofs.Classes.{slot_inside, size_is}
-use Rattle.size_pools.specs.Taken.{Hunted, IsBusy, Took, IsRoom, Grows, GrowsBy}
+use Rattle.size_pools.specs.Taken.{Hunted, FoundOwn, Unreserved, HasPlace, IsBusy, Took, IsRoom, Grows, GrowsBy, PutsPlace}
 use Rattle.size_classes.specs.Table.{IsLeastFor}
 use Rattle.size_classes.specs.declared.TheConstants.{SIZES}
 use Rattle.steps_pools.proofs.Plain.{major_rest}
@@ -74,14 +74,19 @@ pub major_did : (h : SharedHeap) (old new : Token) (mid : DomainView) (e : Entry
 major_did h old new mid e dst tag n l hunt changes is runs here view told label =
     let answers = subst (λ (x : DomainView). Answers (sizes_in h.config) x.own.number x.seen.front new.view.seen.front e (Replied (Block (next_label x)))) view told.answers in
     let number : new.view.own.number ≡ old.view.own.number = ap (λ (x : DomainView). x.own.number) (major_rest _ _ _ _ _ told) ∙ ap (λ (x : DomainView). x.own.number) view in
-    acting_did h old new (AllocMaj dst tag n) (Block l) runs.here runs.acts here number (ap (λ (x : DomainView). x.seen.hunt) (major_rest _ _ _ _ _ told)) (ap (λ (x : DomainView). x.seen.made) (major_rest _ _ _ _ _ told) ∙ (ap (λ (x : DomainView). x.seen.made) view ∙ runs.idle))
+    acting_did h old new (AllocMaj dst tag n) (Block l) runs.here runs.acts runs.remembers here number (ap (λ (x : DomainView). x.seen.hunt) (major_rest _ _ _ _ _ told)) (ap (λ (x : DomainView). x.seen.made) (major_rest _ _ _ _ _ told) ∙ (ap (λ (x : DomainView). x.seen.made) view ∙ runs.idle))
     (record {
       arrivals = ap (λ (x : DomainView). x.own.arrivals) (major_rest _ _ _ _ _ told) ∙ ap (λ (x : DomainView). x.own.arrivals) view;
       stage = ap (λ (x : DomainView). x.seen.stage) (major_rest _ _ _ _ _ told) ∙ ap (λ (x : DomainView). x.seen.stage) view;
       notes = ap (λ (x : DomainView). x.seen.notes) (major_rest _ _ _ _ _ told) ∙ ap (λ (x : DomainView). x.seen.notes) view;
+      remembers = λ all. ap (λ (x : DomainView). x.seen.remembered) (major_rest _ _ _ _ _ told) ∙ (ap (λ (x : DomainView). x.seen.remembered) view ∙ (all ∙ sym (ap (λ (x : DomainView). x.own.remembered.items) (major_rest _ _ _ _ _ told) ∙ ap (λ (x : DomainView). x.own.remembered.items) view)));
     })
     (subst (λ (x : Entry). Answers (sizes_in h.config) old.view.own.number old.view.seen.front new.view.seen.front x (Replied (Block l))) is
     (subst (λ (m : Label). Answers (sizes_in h.config) old.view.own.number old.view.seen.front new.view.seen.front e (Replied (Block m))) (sym label) answers))
+
+-- a search leaves the remembered fields
+hunted_remembers : (x y : DomainView) (hunt : Hunt) → Hunted x y hunt → RemembersAll x → RemembersAll y
+hunted_remembers x y hunt view all = ap (λ (z : DomainView). z.seen.remembered) view ∙ (all ∙ sym (ap (λ (z : DomainView). z.own.remembered.items) view))
 
 -- after a search the domain runs on
 pub hunted_runs : (h : SharedHeap) (old new : Token) (hunt : Hunt) → Runs h old → IsIn new h → Hunted old.view new.view hunt → IsBusy h new
@@ -89,6 +94,7 @@ hunted_runs h old new hunt runs here view = record {
   here = here;
   acts = subst (λ (z : Config × DomainView). Acts z.0 z.1) (λ i. (sym (here.1 ∙ sym runs.here.1) i, sym view i)) (let a : Acts old.config (hunting_free old.view new.view.own.looked hunt new.view.seen.free) = record { goes_on = runs.acts.goes_on; runs = runs.acts.runs } in a);
   idle = ap (λ (x : DomainView). x.seen.made) view ∙ runs.idle;
+  remembers = hunted_remembers old.view new.view hunt view runs.remembers;
 }
 
 pub hunted_did : (h : SharedHeap) (old mid new : Token) (hunt : Hunt) (c : CommandType) (r : Reply) → Runs h old → IsIn mid h → Hunted old.view mid.view hunt → Did h mid new c r → Did h old new c r
@@ -101,6 +107,7 @@ hunted_did h old mid new hunt c r runs here view did =
         arrivals = did.stays.arrivals ∙ ap (λ (x : DomainView). x.own.arrivals) view;
         stage = did.stays.stage ∙ ap (λ (x : DomainView). x.seen.stage) view;
         notes = did.stays.notes ∙ ap (λ (x : DomainView). x.seen.notes) view;
+        remembers = λ all. did.stays.remembers (hunted_remembers old.view mid.view hunt view all);
       };
     }
 
@@ -125,6 +132,22 @@ took_room k class a n x y few least t = record {
   address = t.address;
   room = subst (λ (m : ℕ). n + 2 ≤ m) (size_is class) least.fits;
 }
+
+-- the register holds its address
+pub took_puts : (k : Config) (class a n dst : ℕ) (old mid new : Token) → IsLeastFor SIZES (n + 2) class → Took k class a old.view mid.view → new.view.own.registers ≡ slice_set mid.view.own.registers dst (Ref a) → PutsPlace k dst n old new
+took_puts k class a n dst old mid new least t registers = record {
+  pool = t.pool;
+  class = class;
+  slot = t.slot;
+  inside = t.inside;
+  least = least;
+  below = t.below;
+  registers = registers ∙ (λ i. slice_set (ap (λ (z : DomainView). z.own.registers) t.view i) dst (Ref (t.address i)));
+}
+
+-- what was found of free pools is still known
+pub has_still : (k : Config) (class : ℕ) (x y z : DomainView) → HasPlace k class x y → z.seen.free ≡ y.seen.free → HasPlace k class x z
+has_still k class x y z has same = ⊎_elim (λ (o : FoundOwn k class x y). inl (record { left = o.left; unseen = same ∙ o.unseen })) (λ (u : Unreserved k y). inr (record { free = u.free; found = same ∙ u.found; more = u.more })) has
 
 -- the least class is one
 pub least_one : (words c d : ℕ) → IsLeastFor SIZES words c → IsLeastFor SIZES words d → c ≡ d

@@ -1,7 +1,7 @@
 -- The list of free pools, while it is written anew.
 use Rattle.std.specs.Prelude.{◌≡◌, ℕ, false, List, length, Some}
 use Rattle.heap_rule.specs.declared.view.DomainView.{DomainView}
-use Rattle.steps_pools.specs.Listings.{with_listing, free_pools, IsLeader}
+use Rattle.steps_pools.specs.Listings.{with_listing, noted_set_back, free_pools, IsLeader}
 
 -- so many owner words were looked at, and the list, of which no pool is listed yet, names the pools among these that are nobody's: so many
 pub record HasListed (x : DomainView) (pools count : ℕ) : Type 0 where
@@ -10,6 +10,10 @@ pub record HasListed (x : DomainView) (pools count : ℕ) : Type 0 where
   pub all : length owners ≡ pools
   pub count_is : length (free_pools owners) ≡ count
   pub listing : x.seen.listing ≡ Some (record { owners = owners; names = free_pools owners; rewound = false; listed = 0 })
+
+-- the domain notes that it has set the cursor back, and holds and knows all else but how many pools are listed as before
+abbrev pub SetsBack : DomainView → DomainView → Type 0
+SetsBack x y = y ≡ noted_set_back (with_listing x y.seen.listing)
 
 -- the domain holds and knows all else as before
 abbrev pub Relisted : DomainView → DomainView → Type 0

@@ -11,6 +11,6 @@ mod search;
 mod taking;
 
 pub use allocation::alloc_major;
-pub use listing::write_list;
+pub use listing::{set_cursor_back, write_list};
 pub use no_pool::NoPool;
-pub use taking::take;
+pub use taking::{take, take_for_copy};

@@ -1,11 +1,16 @@
-//! The list of free pools, written anew.
-ghost use Rattle.std.specs.Prelude.{◌≡◌, ◌+◌, ◌<◌, ◌≤◌};
+//! The list of free pools, written anew, and its cursor set back.
+ghost use Rattle.std.specs.Prelude.{◌≡◌, ◌+◌, ◌<◌, ◌≤◌, Some};
+ghost use Rattle.heap_rule.specs.declared.phase.Note.TheVariants.{SetBack};
+ghost use Rattle.heap_rule.specs.Phases.{last_note};
 ghost use Rattle.heap_rule.specs.Token.{IsIn};
-ghost use Rattle.steps_pools.specs.Listings.{IsLeader, HasList};
-ghost use Rattle.size_pools.specs.Listed.{HasListed, Relisted};
+ghost use Rattle.steps_pools.specs.Listings.{IsLeader, IsOpener, HasList};
+ghost use Rattle.size_pools.specs.Listed.{HasListed, Relisted, SetsBack};
 
 use heap_rule::{Domain, Heap};
-use steps_pools::{cursor_clear, list_store, listed_clear, listed_store, owner_look};
+use steps_pools::{
+    cursor_clear, cursor_cut, cursor_look, draw_limit, list_store, listed_clear, listed_look,
+    listed_store, owner_look,
+};
 
 // The index of the first word of the list, and of the first owner word less the number of pools.
 const LIST: u32 = 11;
@@ -46,8 +51,8 @@ fn list_pools(heap: &Heap, dom: &mut Domain) -> u32
     count
 }
 
-/// Domain 0 writes the list of free pools anew, in an odd phase in which it hasn't named the next
-/// kind: the list then names exactly the pools that are nobody's, rising, and the cursor is 0. All
+/// Domain 0 writes the list of free pools anew, in the phase after Reset in which it hasn't named the
+/// next kind: the list then names exactly the pools that are nobody's, rising, and the cursor is 0. All
 /// other words, and all that the domain owns, stay as they are.
 ///
 /// While it writes, no pool is listed: the number of listed pools is 0 first, and set last.
@@ -62,4 +67,22 @@ pub fn write_list(heap: &Heap, dom: &mut Domain)
     let count = list_pools(heap, dom);
     cursor_clear(heap, dom);
     listed_store(heap, dom, u64::from(count));
+}
+
+/// Domain 0, in the first phase of a pause in which it hasn't named the next kind, sets the cursor back
+/// to the limit of running domains where it stands above, and notes that it did. All that the domain
+/// owns stays as it is, and so does what it knows, but for how many pools are listed.
+pub fn set_cursor_back(heap: &Heap, dom: &mut Domain)
+    requires here { IsIn dom.old heap.now }
+    requires opener { IsOpener dom.old.view }
+    ensures here { IsIn dom.new heap.now }
+    ensures noted { last_note dom.new.view.seen.notes ≡ Some SetBack }
+    ensures same { SetsBack dom.old.view dom.new.view }
+{
+    let _limits = heap.config();
+    let count = listed_look(heap, dom) as u32;
+    let limit = u64::from(draw_limit(heap, count));
+    if cursor_look(heap, dom, count) > limit {
+        cursor_cut(heap, dom, count, limit);
+    }
 }

@@ -1,14 +1,15 @@
 //! A free block of the pools.
 ghost use Rattle.heap_model.specs.Domains.{class_count};
-ghost use Rattle.std.specs.Prelude.{◌≡◌, ◌<◌, ◌≤◌, IfOk, IfErr, OnErr};
-ghost use Rattle.heap_rule.specs.declared.phase.Kind.TheVariants.{Run};
+ghost use Rattle.std.specs.Prelude.{◌≡◌, ◌<◌, ◌≤◌, IfOk, IfErr, OnOk, OnErr, None};
+ghost use Rattle.heap_rule.specs.Pools.{prepared_at};
+ghost use Rattle.heap_rule.specs.declared.phase.Kind.TheVariants.{Run, Promote};
 ghost use Rattle.heap_rule.specs.declared.phase.Stage.TheVariants.{In};
 ghost use Rattle.heap_rule.specs.declared.view.Hunt.TheVariants.{Rests};
-ghost use Rattle.steps_pools.specs.Takes.{HasNoDraw, NoneFree};
+ghost use Rattle.steps_pools.specs.Takes.{HasNoDraw, HasYoung, NoneFree};
 ghost use Rattle.heap_rule.specs.Token.{IsIn};
-ghost use Rattle.size_pools.specs.Taken.{Hunted, Reserved, Took};
+ghost use Rattle.size_pools.specs.Taken.{Hunted, Reserved, HasPlace, Took};
 
-use crate::draw::draw;
+use crate::draw::{draw, draw_for_copy};
 use crate::no_pool::NoPool;
 use crate::search::find_free;
 use heap_rule::{Domain, Heap};
@@ -25,6 +26,7 @@ pub fn take(heap: &Heap, dom: &mut Domain, class: u32) -> Result<u32, NoPool>
     requires runs { dom.old.view.seen.stage ≡ In Run }
     ensures here { IsIn dom.new heap.now }
     ensures took { IfOk result (λ a. Took heap.now.config class a dom.old.view dom.new.view) }
+    ensures has_place { OnOk result (HasPlace heap.now.config class dom.old.view dom.new.view) }
     ensures reserved { IfErr result (λ n. Reserved heap.now.config n.free dom.new.view) }
     ensures none_free { OnErr result (NoneFree heap.now.config dom.new.view class) }
     ensures same { OnErr result (Hunted dom.old.view dom.new.view Rests) }
@@ -33,4 +35,25 @@ pub fn take(heap: &Heap, dom: &mut Domain, class: u32) -> Result<u32, NoPool>
         return Ok(at);
     }
     draw(heap, dom, class)
+}
+
+/// Takes a free block of a size class for a copy of a young block: from the domain's own pools, and
+/// where none is free from a new pool, of which one is always to be had. The domain has met a block
+/// of a minor area, and no place is prepared for the class. Answers the block's address. What is known
+/// besides stays as it was.
+pub fn take_for_copy(heap: &Heap, dom: &mut Domain, class: u32) -> u32
+    requires here { IsIn dom.old heap.now }
+    requires class { class < class_count }
+    requires at_rest { HasNoDraw dom.old.view }
+    requires copies { dom.old.view.seen.stage ≡ In Promote }
+    requires unprepared { prepared_at dom.old.view.own.prepared class ≡ None }
+    requires met { HasYoung heap.now.config dom.old.view }
+    ensures here { IsIn dom.new heap.now }
+    ensures took { Took heap.now.config class result dom.old.view dom.new.view }
+    ensures free { dom.new.view.seen.free ≡ dom.old.view.seen.free }
+{
+    match find_free(heap, dom, class) {
+        Some(at) => at,
+        None => draw_for_copy(heap, dom, class),
+    }
 }

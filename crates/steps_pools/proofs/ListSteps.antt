@@ -1,36 +1,41 @@
 -- The steps by which domain 0 writes the list of free pools anew keep the rule.
-use Rattle.std.proofs.Common.{◌≡◌, ◌≢◌, ℕ, ◌+◌, ◌*◌, ◌<◌, ◌≤◌, ◌⊎◌, List, [], ◌∷◌, length, get_or, set, slice_get, Option, Some, None, sym, refl, ap, ◌∙◌, subst, inl, inr, ⊎_elim, arith, length-set, length-append, get_or-set_same, get_or-set_other}
+use Rattle.std.proofs.Common.{◌≡◌, ◌≢◌, ℕ, ◌+◌, ◌*◌, ◌<◌, ◌≤◌, ◌⊎◌, Bool, true, false, List, [], ◌∷◌, ◌++◌, length, get_or, set, slice_get, Option, Some, None, sym, refl, ap, ◌∙◌, subst, inl, inr, ⊎_elim, arith, length-set, length-append, get_or-set_same, get_or-set_other}
 use Rattle.std.proofs.lemmas.Option.{slice_get-get_or}
+use mathlib.Core.Logic.{dite}
+use native.Mathlib.Decide.{dec_le}
 use mathlib.Core.Option.{some}
 use lib.ListN.{get_elem?}
 use Rattle.atomic_table.specs.Table.{Me, keeps}
 use Rattle.heap_model.specs.declared.entry.Entry.{Entry}
 use Rattle.heap_rule.specs.declared.config.Config.{Config}
 use Rattle.heap_rule.specs.declared.phase.Kind.{Kind}
-use Rattle.heap_rule.specs.declared.phase.Kind.TheVariants.{Run}
-use Rattle.heap_rule.specs.declared.phase.Stage.{Stage}
-use Rattle.heap_rule.specs.declared.phase.Stage.TheVariants.{In, Leads}
+use Rattle.heap_rule.specs.declared.phase.Kind.TheVariants.{Run, Promote, Reset}
+use Rattle.heap_rule.specs.declared.phase.Note.{Note}
+use Rattle.heap_rule.specs.declared.phase.Note.TheVariants.{Cleared, SetBack}
+use Rattle.heap_rule.specs.declared.phase.Stage.TheVariants.{Leads}
 use Rattle.heap_rule.specs.declared.view.DomainView.{DomainView}
 use Rattle.heap_rule.specs.declared.view.Hunt.TheVariants.{Rests}
 use Rattle.heap_rule.specs.declared.view.Listing.{Listing}
 use Rattle.heap_rule.specs.declared.view.View.{View}
 use Rattle.heap_rule.specs.Layout.{heap_words, before_heap, table_words, listed, cursor, listed_pool, owner_of}
-use Rattle.heap_rule.specs.Phases.{AtStage, Staged, IsOdd, sum_of}
-use Rattle.heap_rule.specs.Pools.{Holder, nobody, drawn, owned, owner_word, Tenancy, Pools, IsLeading, Lists, Hunts, Hunter, place_in}
+use Rattle.heap_rule.specs.Places.{Place}
+use Rattle.heap_rule.specs.Copies.{Promoting}
+use Rattle.heap_rule.specs.Room.{Drawable}
+use Rattle.heap_rule.specs.Phases.{Pause, Follows, AtStage, Staged, IsOdd, sum_of, last_note, HasSetBack}
+use Rattle.heap_rule.specs.Pools.{Holder, nobody, drawn, owned, owner_word, Tenancy, Takes, Pools, Reserved, KeepsReserve, IsLeading, Lists, Hunts, Hunter, Latest, DrawsFor, drawn_in, limit_of, place_in}
 use Rattle.heap_rule.specs.Raw.{MayStep, MayStore}
 use Rattle.heap_rule.specs.Rule.{state_of, Good, Rule}
 use Rattle.heap_rule.specs.Views.{one}
-use Rattle.heap_rule.proofs.Holders.{SameHeap, found_heap, making_heap, grid_heap}
-use Rattle.heap_rule.proofs.Keeps.{Words, mine, my_good, remakes, knows_front, phases_words, not_both, unmoved}
+use Rattle.heap_rule.proofs.Holders.{SameHeap, found_heap, making_heap, grid_heap, sum_small}
+use Rattle.heap_rule.proofs.Keeps.{Words, mine, my_good, remakes, looks, knows_front, phases_words, room_words, opened_words, hunter_as, owes_as, takes_even, not_both, unmoved}
+use Rattle.heap_rule.proofs.Controls.{last_note_end}
 use Rattle.heap_rule.proofs.Lists.{got_below, got_end}
-use Rattle.steps_pools.specs.Listings.{with_listing, further, relisted, found_owner, named, set_back, listed_as, no_listing, IsLeader, Empties, EmptiedTold, LookMay, LookedTold, NameMay, NamedTold, SetBackTold, CloseMay, ListedAsTold, free_pools}
+use Rattle.steps_pools.specs.Listings.{with_listing, further, relisted, found_owner, named, set_back, listed_as, no_listing, IsLeader, IsOpener, CountedTold, HasCounted, noted_set_back, CursorLookTold, CursorCutTold, Empties, EmptiedTold, LookMay, LookedTold, NameMay, NamedTold, SetBackTold, CloseMay, ListedAsTold, free_pools}
 use Rattle.steps_pools.proofs.FreePools.{IsFree, free_there, free_once}
+use Rattle.steps_pools.proofs.DrawSteps.{draws_none, latest_words}
 
 none_some : (f : ℕ) → ◌≡◌ {A = Option ℕ} None (Some f) → ⊥
 none_some f e = cc
-
-leads_runs : (kind : Kind) → ◌≡◌ {A = Stage} (Leads kind) (In Run) → ⊥
-leads_runs kind e = cc
 
 some_list : (a b : Listing) → ◌≡◌ {A = Option Listing} (Some a) (Some b) → a ≡ b
 some_list a b e = cc
@@ -42,42 +47,71 @@ rests_hunter k t words words' z same rests free h = record {
   drawn_alone = h.drawn_alone;
   taken = λ q c slot is inside low e. h.taken q c slot is inside low (sym (same (place_in q c slot) (omega arith)) ∙ e);
   free = λ f e. absurd (none_some f (sym free ∙ e));
+  holds = h.holds;
+  prepared = h.prepared;
+  claims = h.claims;
+  supply = λ c few some. ⊎_elim (λ (u : DrawsFor c z.seen.hunt). absurd (draws_none c z.seen.hunt (ap drawn_in rests) u))
+      (λ (l : Latest k t words z.own.number c). inr (latest_words k t words words' z.own.number c (λ q slot is inside. same (place_in q c slot) (omega arith)) l)) (h.supply c few some);
 }
 
 -- the words that are written: the count of listed pools, the cursor, and the list
 abbrev pub IsOfList : Config → ℕ → Type 0
 IsOfList k j = (j ≡ 6) ⊎ ((j ≡ 7) ⊎ ((11 ≤ j) × (j < 11 + k.pools)))
 
-module _ (k : Config) (s : Words) (r : Rule k s) (id : ℕ) (hist : List Entry) (x : DomainView) (at : get_elem? s.views id ≡ some (one k hist x)) (leader : IsLeader x) where
+-- the domain with another list in the making, and other notes
+abbrev pub listing_notes : DomainView → Option Listing → List Note → DomainView
+listing_notes x listing notes = record x { seen = record x.seen { listing = listing; notes = notes } }
+
+module _ (k : Config) (s : Words) (r : Rule k s) (id : ℕ) (hist : List Entry) (x : DomainView) (at : get_elem? s.views id ≡ some (one k hist x)) (last : Kind) (first : x.own.number ≡ 0) (stage : x.seen.stage ≡ Leads last) where
   abbrev pub t : Tenancy
   t = r.account.tenancy
+
+  abbrev pub pause : Pause
+  pause = r.account.pause
 
   pub good : Good k r.account s.words x
   good = my_good k s r id hist x at
 
-  -- the phase is odd, so no domain runs
-  pub odd : IsOdd r.account.pause.phase
-  odd = let h = (subst (AtStage r.account.pause x.own.number x.own.arrivals) leader.stage good.staged.stage).1 in (h.0, h.1)
+  -- the phase is the odd one after one of that kind
+  pub half : (j : ℕ) × (pause.phase ≡ j * 2 + 1) × (pause.kinds j ≡ last)
+  half = (subst (AtStage pause x.own.number x.own.arrivals) stage good.staged.stage).1
 
-  nobody_runs : (z : DomainView) → Staged r.account.pause z → z.seen.stage ≡ In Run → ⊥
-  nobody_runs z staged runs = let h = (subst (AtStage r.account.pause z.own.number z.own.arrivals) runs staged.stage).1 in not_both r.account.pause.phase (h.0, h.1) odd
+  pub odd : IsOdd pause.phase
+  odd = (half.0, half.1)
 
-  own_stays : x.seen.stage ≡ In Run → ⊥
-  own_stays e = leads_runs leader.last (sym leader.stage ∙ e)
+  pub kind_here : (j : ℕ) → pause.phase ≡ j * 2 + 1 → pause.kinds j ≡ last
+  kind_here j is = let i : ℕ = half.0 in let e : pause.phase ≡ i * 2 + 1 = half.1 in let same : j ≡ i = omega arith in ap pause.kinds same ∙ half.2
+
+  -- so no domain takes blocks
+  nobody_takes : (z : DomainView) → Staged pause z → Takes z.seen.stage → ⊥
+  nobody_takes z staged takes = not_both pause.phase (takes_even pause z takes staged) odd
+
+  pub not_promoting : Promoting pause → ⊥
+  not_promoting p = not_both pause.phase (p.0, p.1) odd
+
+  leads : IsLeading x.seen.stage
+  leads = subst IsLeading (sym stage) tt
 
   -- what such a step owes
-  pub record Relists (listing : Option Listing) (words' : List ℕ) : Type 0 where
+  pub record Relists (listing : Option Listing) (notes : List Note) (words' : List ℕ) : Type 0 where
     pub wide : length words' ≡ length s.words
     pub heap : SameHeap k s.words words'
     pub control : (i : ℕ) → (i < 6) ⊎ (i ≡ 8) → get_or words' i 0 ≡ get_or s.words i 0
     pub pools : Pools k t words'
     pub lists : (l : Listing) → listing ≡ Some l → Lists k words' x.own.number x.seen.stage l
+    pub listed_young : (a : ℕ) (q : Place) → r.account.live a ≡ Some q → k.pools * 4096 < a → listed words' ≡ listed s.words
+    pub reserved : Reserved k pause t words'
+    pub drawable : Drawable k pause words'
+    pub took_back : last_note notes ≡ Some Cleared → last_note x.seen.notes ≡ Some Cleared
+    pub set_back : x.seen.stage ≡ Leads Run → last_note notes ≡ Some SetBack → cursor words' ≤ limit_of k (listed words')
+    pub others_set_back : (z : DomainView) → Staged pause z → HasSetBack z → cursor s.words ≤ limit_of k (listed s.words) → cursor words' ≤ limit_of k (listed words')
 
-  pub relists : (listing : Option Listing) (words' : List ℕ) → Relists listing words' → Rule k record { words = words'; homes = s.homes; views = set s.views id (one k hist (with_listing x listing)) }
-  relists listing words' o =
-      let y : DomainView = with_listing x listing in
+  pub relists : (listing : Option Listing) (notes : List Note) (words' : List ℕ) → Relists listing notes words' → Rule k record { words = words'; homes = s.homes; views = set s.views id (one k hist (listing_notes x listing notes)) }
+  relists listing notes words' o =
+      let y : DomainView = listing_notes x listing notes in
       let making = making_heap k s.words words' x o.heap good.making in
-      let h = rests_hunter k t s.words words' x o.heap (good.resting.hunt own_stays) (good.resting.free own_stays) good.hunter in
+      let own_stays : Takes x.seen.stage → ⊥ = nobody_takes x good.staged in
+      let h = rests_hunter k t s.words words' x o.heap (good.resting.hunt own_stays) (good.resting.free (λ e. own_stays (inl e))) good.hunter in
       remakes k s r id hist x at y r.account words'
       record {
         wide = o.wide ∙ r.whole.wide;
@@ -85,24 +119,37 @@ module _ (k : Config) (s : Words) (r : Rule k s) (id : ℕ) (hist : List Entry) 
         calm = r.whole.calm;
         found = found_heap k r.account.live (state_of k r.account.log).graph s.words words' o.heap r.whole.placed r.whole.found;
         placed = r.whole.placed;
-        phases = phases_words k r.account.pause s.words words' (o.control 1 (inl (omega arith))) (o.control 2 (inl (omega arith))) r.whole.phases;
+        spread = r.whole.spread;
+        settled = r.whole.settled;
+        copies = r.whole.copies;
+        cleared = r.whole.cleared;
+        emptied = r.whole.emptied;
+        phases = phases_words k pause s.words words' (o.control 1 (inl (omega arith))) (o.control 2 (inl (omega arith))) r.whole.phases;
         unwished = λ j odd led runs. o.control 0 (inl (omega arith)) ∙ r.whole.unwished j odd led runs;
         endings = o.control 8 (inr refl) ∙ r.whole.endings;
         pools = o.pools;
-        grid = grid_heap k t.holder r.account.live s.words words' o.heap r.whole.grid;
+        reserved = o.reserved;
+        grid = grid_heap k t r.account.live s.words words' o.heap r.whole.grid;
         drawers = r.whole.drawers;
+        room = room_words k r.account.live pause t.stock s.words words' (λ p. absurd (not_promoting p)) r.whole.room;
+        unused = r.whole.unused;
+        opened = opened_words k r.account.live s.words words' o.listed_young r.whole.opened;
+        drawable = o.drawable;
         cycle = let c = r.whole.cycle in record { armed_is = o.control 4 (inl (omega arith)) ∙ c.armed_is; colours_are = o.control 5 (inl (omega arith)) ∙ c.colours_are };
       }
       (knows_front k s r id hist x at y refl (mine k s r id hist x at).front)
       record {
         stood = record { wide = good.stood.wide; each = good.stood.each; serial = good.stood.serial };
-        area = record { room = good.area.room; free = good.area.free };
+        area = record { room = good.area.room; free = good.area.free; classes = good.area.classes };
         making = record { fits = making.fits; written = making.written };
         staged = record { arrivals = good.staged.arrivals; stage = good.staged.stage };
         still = good.still;
-        hunter = record { hunt = h.hunt; drawn_alone = h.drawn_alone; taken = h.taken; free = h.free };
+        hunter = hunter_as k t words' x y refl refl refl refl refl refl h;
         resting = record { hunt = good.resting.hunt; free = good.resting.free; lists = o.lists };
-        took_back = λ kind leads last. o.control 0 (inl (omega arith)) ∙ good.took_back kind leads last;
+        took_back = λ kind leads last. o.control 0 (inl (omega arith)) ∙ good.took_back kind leads (o.took_back last);
+        owes = owes_as k r.account.live x y refl refl refl refl good.owes;
+        rooted = good.rooted;
+        set_back = λ h. o.set_back h.0 h.1;
       }
       (λ z _ other g. record {
         stood = g.stood;
@@ -110,11 +157,16 @@ module _ (k : Config) (s : Words) (r : Rule k s) (id : ℕ) (hist : List Entry) 
         making = making_heap k s.words words' z o.heap g.making;
         staged = g.staged;
         still = g.still;
-        hunter = let stays : z.seen.stage ≢ In Run = nobody_runs z g.staged in rests_hunter k t s.words words' z o.heap (g.resting.hunt stays) (g.resting.free stays) g.hunter;
-        resting = record { hunt = g.resting.hunt; free = g.resting.free; lists = λ l e. absurd (other ((g.resting.lists l e).first ∙ sym leader.first)) };
+        hunter = let stays : Takes z.seen.stage → ⊥ = nobody_takes z g.staged in rests_hunter k t s.words words' z o.heap (g.resting.hunt stays) (g.resting.free (λ e. stays (inl e))) g.hunter;
+        resting = record { hunt = g.resting.hunt; free = g.resting.free; lists = λ l e. absurd (other ((g.resting.lists l e).first ∙ sym first)) };
         took_back = λ kind leads last. o.control 0 (inl (omega arith)) ∙ g.took_back kind leads last;
+        owes = g.owes;
+        rooted = g.rooted;
+        set_back = λ h. o.others_set_back z g.staged h (g.set_back h);
       })
 
+-- one of these words is written
+module _ (k : Config) (s : Words) (r : Rule k s) where
   -- a store of one of these words
   module _ (j new : ℕ) (of_list : IsOfList k j) where
     abbrev pub ws : List ℕ
@@ -140,8 +192,12 @@ module _ (k : Config) (s : Words) (r : Rule k s) (id : ℕ) (hist : List Entry) 
     pub owners_same : (q : ℕ) → owner_of k ws q ≡ owner_of k s.words q
     owners_same q = beside (11 + k.pools + q) (λ e. omega arith) (λ e. omega arith) (inr (omega arith))
 
+    -- what stays beside them
+    pub control : (i : ℕ) → (i < 6) ⊎ (i ≡ 8) → get_or ws i 0 ≡ get_or s.words i 0
+    control i low = ⊎_elim (λ (b : i < 6). beside i (λ e. omega arith) (λ e. omega arith) (inl (omega arith))) (λ (b : i ≡ 8). beside i (λ e. omega arith) (λ e. omega arith) (inl (omega arith))) low
+
     -- where no pool is listed, the list may be anything
-    pub emptied : listed ws ≡ 0 → cursor ws ≤ cursor s.words → Pools k t ws
+    pub emptied : listed ws ≡ 0 → cursor ws ≤ cursor s.words → Pools k r.account.tenancy ws
     emptied none low =
         let pools = r.whole.pools in
         let nothing : (i : ℕ) → i < listed ws → ⊥ = (λ i h. let l : ℕ = listed ws in let e : l ≡ 0 = none in let b : i < l = h in omega arith) in record {
@@ -153,59 +209,106 @@ module _ (k : Config) (s : Words) (r : Rule k s) (id : ℕ) (hist : List Entry) 
           owned_by = pools.owned_by;
           drawn_by = pools.drawn_by;
           one_each = pools.one_each;
-          asked = let c : ℕ = cursor ws in let d : ℕ = cursor s.words in let u : ℕ = sum_of t.asking k.domains in let b : d + u ≤ k.pools + k.domains = pools.asked in let l : c ≤ d = low in let o : c + u ≤ k.pools + k.domains = omega arith in o;
+          asked = let c : ℕ = cursor ws in let d : ℕ = cursor s.words in let u : ℕ = sum_of r.account.tenancy.asking k.domains in let b : d + u ≤ k.pools + k.domains = pools.asked in let l : c ≤ d = low in let o : c + u ≤ k.pools + k.domains = omega arith in o;
         }
 
-    pub stores : (listing : Option Listing) → Pools k t ws → ((l : Listing) → listing ≡ Some l → Lists k ws x.own.number x.seen.stage l) → Rule k record { words = ws; homes = s.homes; views = set s.views id (one k hist (with_listing x listing)) }
-    stores listing pools lists = relists listing ws record {
-      wide = length-set s.words j new;
-      heap = heap;
-      control = λ i low. ⊎_elim (λ (b : i < 6). beside i (λ e. omega arith) (λ e. omega arith) (inl (omega arith))) (λ (b : i ≡ 8). beside i (λ e. omega arith) (λ e. omega arith) (inl (omega arith))) low;
-      pools = pools;
-      lists = lists;
-    }
+-- after Reset, domain 0 may write the list
+module _ (k : Config) (s : Words) (r : Rule k s) (id : ℕ) (hist : List Entry) (x : DomainView) (at : get_elem? s.views id ≡ some (one k hist x)) (leader : IsLeader x) where
+  abbrev T : Tenancy
+  T = r.account.tenancy
 
-  leads : IsLeading x.seen.stage
-  leads = subst IsLeading (sym leader.stage) tt
+  good_leader : Good k r.account s.words x
+  good_leader = my_good k s r id hist x at
+
+  kind_is : (j : ℕ) → r.account.pause.phase ≡ j * 2 + 1 → r.account.pause.kinds j ≡ Reset
+  kind_is j odd = kind_here k s r id hist x at Reset leader.first leader.stage j odd
+
+  -- nothing lives in minor areas
+  nothing_young : (a : ℕ) (q : Place) → r.account.live a ≡ Some q → k.pools * 4096 < a → ⊥
+  nothing_young a q lives young = let o : a ≤ k.pools * 4096 = r.whole.emptied (inr (inr (half k s r id hist x at Reset leader.first leader.stage))) a q lives in omega arith
+
+  reset_run : ◌≡◌ {A = Kind} Reset Run → ⊥
+  reset_run e = cc
+
+  run_promote : ◌≡◌ {A = Kind} Run Promote → ⊥
+  run_promote e = cc
+
+  -- no pools are kept
+  nothing_kept : KeepsReserve r.account.pause → ⊥
+  nothing_kept kept = ⊎_elim
+      (λ (h : r.account.pause.phase ≡ kept.0 * 2). not_both r.account.pause.phase (kept.0, h) (odd k s r id hist x at Reset leader.first leader.stage))
+      (λ (h : r.account.pause.phase ≡ kept.0 * 2 + 1). reset_run (sym (kind_is kept.0 h) ∙ kept.2)) kept.1
+
+  -- nobody has set the cursor back
+  nobody_set_back : (z : DomainView) → Staged r.account.pause z → HasSetBack z → ⊥
+  nobody_set_back z staged h = let a = (subst (AtStage r.account.pause z.own.number z.own.arrivals) h.0 staged.stage).1 in reset_run (sym (kind_is a.0 a.1) ∙ a.2)
+
+  -- domains run next
+  drawable_reset : (words' : List ℕ) → (cursor s.words ≡ 0 → cursor words' ≡ 0) → Drawable k r.account.pause words'
+  drawable_reset words' low = record {
+    to_run = λ j odd led runs. low (r.whole.drawable.to_run j odd led runs);
+    to_copy = λ j odd led copies. absurd (run_promote (sym (subst (λ (kind : Kind). Follows kind (r.account.pause.kinds (j + 1))) (kind_is j odd) (r.whole.phases.next_plan j odd led).1) ∙ copies));
+  }
+
+  -- a store of one of these words, or a load
+  relists_reset : (listing : Option Listing) (words' : List ℕ) → length words' ≡ length s.words → SameHeap k s.words words' → ((i : ℕ) → (i < 6) ⊎ (i ≡ 8) → get_or words' i 0 ≡ get_or s.words i 0) → Pools k T words' → ((l : Listing) → listing ≡ Some l → Lists k words' x.own.number x.seen.stage l) → (cursor s.words ≡ 0 → cursor words' ≡ 0)
+      → Rule k record { words = words'; homes = s.homes; views = set s.views id (one k hist (with_listing x listing)) }
+  relists_reset listing words' wide heap control pools lists low = relists k s r id hist x at Reset leader.first leader.stage listing x.seen.notes words' record {
+    wide = wide;
+    heap = heap;
+    control = control;
+    pools = pools;
+    lists = lists;
+    listed_young = λ a q lives young. absurd (nothing_young a q lives young);
+    reserved = λ keeps. absurd (nothing_kept keeps);
+    drawable = drawable_reset words' low;
+    took_back = λ e. e;
+    set_back = λ leads noted. absurd (nobody_set_back x good_leader.staged (leads, noted));
+    others_set_back = λ z staged h. absurd (nobody_set_back z staged h);
+  }
+
+  module _ (j new : ℕ) (of_list : IsOfList k j) where
+    abbrev pub ws0 : List ℕ
+    ws0 = set s.words j new
+
+    pub stores : (listing : Option Listing) → Pools k T ws0 → ((l : Listing) → listing ≡ Some l → Lists k ws0 x.own.number x.seen.stage l) → (cursor s.words ≡ 0 → cursor ws0 ≡ 0) → Rule k record { words = ws0; homes = s.homes; views = set s.views id (one k hist (with_listing x listing)) }
+    stores listing pools lists low = relists_reset listing ws0 (length-set s.words j new) (heap k s r j new of_list) (control k s r j new of_list) pools lists low
+
+  leads_now : IsLeading x.seen.stage
+  leads_now = subst IsLeading (sym leader.stage) tt
 
   -- the list is emptied
   pub empties_rule : Rule k record { words = set s.words 6 0; homes = s.homes; views = set s.views id (one k hist (with_listing x (Some no_listing))) }
   empties_rule =
-      let none : listed (set s.words 6 0) ≡ 0 = here 6 0 (inl refl) in
-      let same : cursor (set s.words 6 0) ≡ cursor s.words = elsewhere 6 0 (inl refl) 7 (λ e. omega arith) in
+      let none : listed (set s.words 6 0) ≡ 0 = here k s r 6 0 (inl refl) in
+      let same : cursor (set s.words 6 0) ≡ cursor s.words = elsewhere k s r 6 0 (inl refl) 7 (λ e. omega arith) in
       let low : cursor (set s.words 6 0) ≤ cursor s.words = subst (λ (n : ℕ). n ≤ cursor s.words) (sym same) (let c : ℕ = cursor s.words in let o : c ≤ c = omega arith in o) in
       let p : ℕ = k.pools in
-      stores 6 0 (inl refl) (Some no_listing) (emptied 6 0 (inl refl) none low) (λ l e. subst (Lists k (set s.words 6 0) x.own.number x.seen.stage) (some_list no_listing l e) record {
+      stores 6 0 (inl refl) (Some no_listing) (emptied k s r 6 0 (inl refl) none low) (λ l e. subst (Lists k (set s.words 6 0) x.own.number x.seen.stage) (some_list no_listing l e) record {
         first = leader.first;
-        leads = leads;
+        leads = leads_now;
         few = let o : 0 ≤ p = omega arith in (o, o);
         owners = λ q w got. cc;
         names = λ i q got. cc;
         count = none;
         rewinds = λ b. cc;
-      })
+      }) (λ e. same ∙ e)
 
   module _ (l : Listing) (listing : x.seen.listing ≡ Some l) where
     known : Lists k s.words x.own.number x.seen.stage l
-    known = good.resting.lists l listing
+    known = good_leader.resting.lists l listing
 
     -- one owner word more is found
     pub finds_rule : length l.owners < k.pools → Rule k record { words = s.words; homes = s.homes; views = set s.views id (one k hist (with_listing x (Some (found_owner (owner_of k s.words (length l.owners)) l)))) }
-    finds_rule inside = let word : ℕ = owner_of k s.words (length l.owners) in let after : Listing = found_owner word l in relists (Some after) s.words record {
-      wide = refl;
-      heap = λ a low. refl;
-      control = λ i low. refl;
-      pools = r.whole.pools;
-      lists = λ m e. subst (Lists k s.words x.own.number x.seen.stage) (some_list after m e) record {
-        first = known.first;
-        leads = known.leads;
-        few = (subst (λ (n : ℕ). n ≤ k.pools) (sym (length-append l.owners (word ∷ []))) (let n : ℕ = length l.owners in let i : n < k.pools = inside in let o : n + 1 ≤ k.pools = omega arith in o), known.few.1);
-        owners = λ q w got. ⊎_elim (λ (g : slice_get l.owners q ≡ Some w). known.owners q w g) (λ (g : (q ≡ length l.owners) × (word ≡ w)). ap (owner_of k s.words) g.0 ∙ g.1) (got_end l.owners word w q got);
-        names = known.names;
-        count = known.count;
-        rewinds = known.rewinds;
-      };
-    }
+    finds_rule inside = let word : ℕ = owner_of k s.words (length l.owners) in let after : Listing = found_owner word l in relists_reset (Some after) s.words refl (λ a low. refl) (λ i low. refl) r.whole.pools (λ m e. subst (Lists k s.words x.own.number x.seen.stage) (some_list after m e) record {
+      first = known.first;
+      leads = known.leads;
+      few = (subst (λ (n : ℕ). n ≤ k.pools) (sym (length-append l.owners (word ∷ []))) (let n : ℕ = length l.owners in let i : n < k.pools = inside in let o : n + 1 ≤ k.pools = omega arith in o), known.few.1);
+      owners = λ q w got. ⊎_elim (λ (g : slice_get l.owners q ≡ Some w). known.owners q w g) (λ (g : (q ≡ length l.owners) × (word ≡ w)). ap (owner_of k s.words) g.0 ∙ g.1) (got_end l.owners word w q got);
+      names = known.names;
+      count = known.count;
+      rewinds = known.rewinds;
+    }) (λ e. e)
 
     module _ (empty : l.listed ≡ 0) where
       none : listed s.words ≡ 0
@@ -218,37 +321,37 @@ module _ (k : Config) (s : Words) (r : Rule k s) (id : ℕ) (hist : List Entry) 
           let j : ℕ = 11 + n in
           let of_list : IsOfList k j = inr (inr (omega arith, let i : n < k.pools = inside in omega arith)) in
           let w1 : List ℕ = set s.words j new in
-          let count : listed w1 ≡ listed s.words = elsewhere j new of_list 6 (λ e. omega arith) in
-          let asked : cursor w1 ≡ cursor s.words = elsewhere j new of_list 7 (λ e. omega arith) in
+          let count : listed w1 ≡ listed s.words = elsewhere k s r j new of_list 6 (λ e. omega arith) in
+          let asked : cursor w1 ≡ cursor s.words = elsewhere k s r j new of_list 7 (λ e. omega arith) in
           let low : cursor w1 ≤ cursor s.words = subst (λ (c : ℕ). c ≤ cursor s.words) (sym asked) (let c : ℕ = cursor s.words in let o : c ≤ c = omega arith in o) in
-          stores j new of_list (Some (named new l)) (emptied j new of_list (count ∙ none) low) (λ m e. subst (Lists k w1 x.own.number x.seen.stage) (some_list (named new l) m e) record {
+          stores j new of_list (Some (named new l)) (emptied k s r j new of_list (count ∙ none) low) (λ m e. subst (Lists k w1 x.own.number x.seen.stage) (some_list (named new l) m e) record {
             first = known.first;
             leads = known.leads;
             few = (known.few.0, subst (λ (c : ℕ). c ≤ k.pools) (sym (length-append l.names (new ∷ []))) (let i : n < k.pools = inside in let o : n + 1 ≤ k.pools = omega arith in o));
-            owners = λ q w got. owners_same j new of_list q ∙ known.owners q w got;
-            names = λ i q got. ⊎_elim (λ (g : slice_get l.names i ≡ Some q). let below : i < n = got_below l.names i q g in elsewhere j new of_list (11 + i) (λ e. omega arith) ∙ known.names i q g)
-                (λ (g : (i ≡ length l.names) × (new ≡ q)). ap (λ (c : ℕ). get_or w1 (11 + c) 0) g.0 ∙ (here j new of_list ∙ g.1)) (got_end l.names new q i got);
+            owners = λ q w got. owners_same k s r j new of_list q ∙ known.owners q w got;
+            names = λ i q got. ⊎_elim (λ (g : slice_get l.names i ≡ Some q). let below : i < n = got_below l.names i q g in elsewhere k s r j new of_list (11 + i) (λ e. omega arith) ∙ known.names i q g)
+                (λ (g : (i ≡ length l.names) × (new ≡ q)). ap (λ (c : ℕ). get_or w1 (11 + c) 0) g.0 ∙ (here k s r j new of_list ∙ g.1)) (got_end l.names new q i got);
             count = count ∙ known.count;
             rewinds = λ b. asked ∙ known.rewinds b;
-          })
+          }) (λ e. asked ∙ e)
 
       -- the cursor is set back
       pub back_rule : Rule k record { words = set s.words 7 0; homes = s.homes; views = set s.views id (one k hist (with_listing x (Some (set_back l)))) }
       back_rule =
           let of_list : IsOfList k 7 = inr (inl refl) in
           let w1 : List ℕ = set s.words 7 0 in
-          let count : listed w1 ≡ listed s.words = elsewhere 7 0 of_list 6 (λ e. omega arith) in
-          let zero_is : cursor w1 ≡ 0 = here 7 0 of_list in
+          let count : listed w1 ≡ listed s.words = elsewhere k s r 7 0 of_list 6 (λ e. omega arith) in
+          let zero_is : cursor w1 ≡ 0 = here k s r 7 0 of_list in
           let low : cursor w1 ≤ cursor s.words = subst (λ (c : ℕ). c ≤ cursor s.words) (sym zero_is) (let c : ℕ = cursor s.words in let o : 0 ≤ c = omega arith in o) in
-          stores 7 0 of_list (Some (set_back l)) (emptied 7 0 of_list (count ∙ none) low) (λ m e. subst (Lists k w1 x.own.number x.seen.stage) (some_list (set_back l) m e) record {
+          stores 7 0 of_list (Some (set_back l)) (emptied k s r 7 0 of_list (count ∙ none) low) (λ m e. subst (Lists k w1 x.own.number x.seen.stage) (some_list (set_back l) m e) record {
             first = known.first;
             leads = known.leads;
             few = known.few;
-            owners = λ q w got. owners_same 7 0 of_list q ∙ known.owners q w got;
-            names = λ i q got. elsewhere 7 0 of_list (11 + i) (λ e. omega arith) ∙ known.names i q got;
+            owners = λ q w got. owners_same k s r 7 0 of_list q ∙ known.owners q w got;
+            names = λ i q got. elsewhere k s r 7 0 of_list (11 + i) (λ e. omega arith) ∙ known.names i q got;
             count = count ∙ known.count;
             rewinds = λ b. zero_is;
-          })
+          }) (λ e. zero_is)
 
       -- the pools that the list names are nobody's, and they are listed
       module _ (all : length l.owners ≡ k.pools) (free : l.names ≡ free_pools l.owners) where
@@ -262,15 +365,15 @@ module _ (k : Config) (s : Words) (r : Rule k s) (id : ℕ) (hist : List Entry) 
         w2 = set s.words 6 n
 
         count : listed w2 ≡ n
-        count = here 6 n of_list
+        count = here k s r 6 n of_list
 
         asked_same : cursor w2 ≡ cursor s.words
-        asked_same = elsewhere 6 n of_list 7 (λ e. omega arith)
+        asked_same = elsewhere k s r 6 n of_list 7 (λ e. omega arith)
 
         at_place : (i : ℕ) → i < listed w2 → slice_get (free_pools l.owners) i ≡ Some (listed_pool w2 i)
         at_place i h =
             let got : slice_get l.names i ≡ Some (get_or l.names i 0) = slice_get-get_or l.names i 0 (subst (λ (m : ℕ). i < m) count h) in
-            let is : listed_pool w2 i ≡ get_or l.names i 0 = elsewhere 6 n of_list (11 + i) (λ e. omega arith) ∙ known.names i (get_or l.names i 0) got in
+            let is : listed_pool w2 i ≡ get_or l.names i 0 = elsewhere k s r 6 n of_list (11 + i) (λ e. omega arith) ∙ known.names i (get_or l.names i 0) got in
             subst (λ (z : List ℕ × ℕ). slice_get z.0 i ≡ Some z.1) (λ c. (free c, sym is c)) got
 
         its : (i : ℕ) → i < listed w2 → IsFree 0 (listed_pool w2 i) l.owners
@@ -284,11 +387,11 @@ module _ (k : Config) (s : Words) (r : Rule k s) (id : ℕ) (hist : List Entry) 
         no_owner (drawn d) e n = absurd (n d refl)
         no_owner (owned d c) e n = absurd (omega arith)
 
-        nobodys : (i : ℕ) → i < listed w2 → t.holder (listed_pool w2 i) ≡ nobody
+        nobodys : (i : ℕ) → i < listed w2 → T.holder (listed_pool w2 i) ≡ nobody
         nobodys i h =
             let q : ℕ = listed_pool w2 i in
             let word : owner_of k s.words q ≡ 0 = known.owners q 0 ((its i h).word q (omega arith)) in
-            no_owner (t.holder q) (sym (r.whole.pools.owners q (names_inside i h)) ∙ word) (λ d e. let w = (r.whole.drawers q d e).1 in not_both r.account.pause.phase (w.0, w.1) odd)
+            no_owner (T.holder q) (sym (r.whole.pools.owners q (names_inside i h)) ∙ word) (λ d e. let w = (r.whole.drawers.drawn q d e).1 in not_both r.account.pause.phase (w.0, w.1) (odd k s r id hist x at Reset leader.first leader.stage))
 
         pub closes_rule : Rule k record { words = w2; homes = s.homes; views = set s.views id (one k hist (with_listing x (Some (listed_as n l)))) }
         closes_rule =
@@ -298,20 +401,153 @@ module _ (k : Config) (s : Words) (r : Rule k s) (id : ℕ) (hist : List Entry) 
               inside = names_inside;
               once = λ i j h g e. free_once 0 i j (listed_pool w2 i) l.owners (at_place i h) (subst (λ (q : ℕ). slice_get (free_pools l.owners) j ≡ Some q) (sym e) (at_place j g));
               untaken = λ i h g. nobodys i h;
-              owners = λ q h. owners_same 6 n of_list q ∙ pools.owners q h;
+              owners = λ q h. owners_same k s r 6 n of_list q ∙ pools.owners q h;
               owned_by = pools.owned_by;
               drawn_by = pools.drawn_by;
               one_each = pools.one_each;
-              asked = subst (λ (c : ℕ). c + sum_of t.asking k.domains ≤ k.pools + k.domains) (sym asked_same) pools.asked;
+              asked = subst (λ (c : ℕ). c + sum_of T.asking k.domains ≤ k.pools + k.domains) (sym asked_same) pools.asked;
             } (λ m e. subst (Lists k w2 x.own.number x.seen.stage) (some_list (listed_as n l) m e) record {
               first = known.first;
               leads = known.leads;
               few = known.few;
-              owners = λ q w got. owners_same 6 n of_list q ∙ known.owners q w got;
-              names = λ i q got. elsewhere 6 n of_list (11 + i) (λ e. omega arith) ∙ known.names i q got;
+              owners = λ q w got. owners_same k s r 6 n of_list q ∙ known.owners q w got;
+              names = λ i q got. elsewhere k s r 6 n of_list (11 + i) (λ e. omega arith) ∙ known.names i q got;
               count = count;
               rewinds = λ b. asked_same ∙ known.rewinds b;
-            })
+            }) (λ e. asked_same ∙ e)
+
+-- in the first phase of a pause, domain 0 may set the cursor back
+module _ (k : Config) (s : Words) (r : Rule k s) (id : ℕ) (hist : List Entry) (x : DomainView) (at : get_elem? s.views id ≡ some (one k hist x)) (opener : IsOpener x) where
+  abbrev T0 : Tenancy
+  T0 = r.account.tenancy
+
+  good_opener : Good k r.account s.words x
+  good_opener = my_good k s r id hist x at
+
+  -- the domains ran before, so the pools of the reserve are nobody's
+  reserve_kept : KeepsReserve r.account.pause
+  reserve_kept = let h = half k s r id hist x at Run opener.first opener.stage in (h.0, inr h.1, h.2)
+
+  wishes_kept : (notes : List Note) → last_note (notes ++ SetBack ∷ []) ≡ Some Cleared → ⊥
+  wishes_kept notes e = let clash : ◌≡◌ {A = Option Note} (Some SetBack) (Some Cleared) = sym (last_note_end notes SetBack) ∙ e in cc
+
+  -- so many pools are listed
+  pub counts_rule : Rule k record { words = s.words; homes = s.homes; views = set s.views id (one k hist (with_listing x (Some (listed_as (listed s.words) no_listing)))) }
+  counts_rule = let l : Listing = listed_as (listed s.words) no_listing in relists k s r id hist x at Run opener.first opener.stage (Some l) x.seen.notes s.words record {
+    wide = refl;
+    heap = λ a low. refl;
+    control = λ i low. refl;
+    pools = r.whole.pools;
+    lists = λ m e. subst (Lists k s.words x.own.number x.seen.stage) (some_list l m e) record {
+      first = opener.first;
+      leads = subst IsLeading (sym opener.stage) tt;
+      few = (let p : ℕ = k.pools in let o : 0 ≤ p = omega arith in (o, o));
+      owners = λ q w got. cc;
+      names = λ i q got. cc;
+      count = refl;
+      rewinds = λ b. cc;
+    };
+    listed_young = λ _ _ _ _. refl;
+    reserved = r.whole.reserved;
+    drawable = r.whole.drawable;
+    took_back = λ e. e;
+    set_back = λ leads noted. good_opener.set_back (leads, noted);
+    others_set_back = λ _ _ _ low. low;
+  }
+
+  module _ (l : Listing) (listing : x.seen.listing ≡ Some l) where
+    counted : Lists k s.words x.own.number x.seen.stage l
+    counted = good_opener.resting.lists l listing
+
+    -- the cursor is low enough
+    pub low_rule : cursor s.words ≤ limit_of k l.listed → Rule k record { words = s.words; homes = s.homes; views = set s.views id (one k hist (noted_set_back x)) }
+    low_rule low = relists k s r id hist x at Run opener.first opener.stage x.seen.listing (x.seen.notes ++ SetBack ∷ []) s.words record {
+      wide = refl;
+      heap = λ a low. refl;
+      control = λ i low. refl;
+      pools = r.whole.pools;
+      lists = good_opener.resting.lists;
+      listed_young = λ _ _ _ _. refl;
+      reserved = r.whole.reserved;
+      drawable = r.whole.drawable;
+      took_back = λ e. absurd (wishes_kept x.seen.notes e);
+      set_back = λ _ _. subst (λ (n : ℕ). cursor s.words ≤ limit_of k n) (sym counted.count) low;
+      others_set_back = λ _ _ _ low. low;
+    }
+
+    -- it is cut to the limit
+    module _ (kept : l.rewound ≡ false) where
+      abbrev limit : ℕ
+      limit = limit_of k l.listed
+
+      abbrev ws7 : List ℕ
+      ws7 = set s.words 7 limit
+
+      of_seven : IsOfList k 7
+      of_seven = inr (inl refl)
+
+      cursor_is : cursor ws7 ≡ limit
+      cursor_is = here k s r 7 limit of_seven
+
+      listed_same : listed ws7 ≡ listed s.words
+      listed_same = elsewhere k s r 7 limit of_seven 6 (λ e. omega arith)
+
+      list_same : (i : ℕ) → listed_pool ws7 i ≡ listed_pool s.words i
+      list_same i = elsewhere k s r 7 limit of_seven (11 + i) (λ e. omega arith)
+
+      lower : (i : ℕ) → i < listed ws7 → i < listed s.words
+      lower i h = subst (λ (n : ℕ). i < n) listed_same h
+
+      low_now : cursor ws7 ≤ limit_of k (listed ws7)
+      low_now = subst (λ (m : ℕ × ℕ). m.0 ≤ limit_of k m.1) (λ i. (sym cursor_is i, sym (listed_same ∙ counted.count) i)) (let n : ℕ = limit in let o : n ≤ n = omega arith in o)
+
+      run_promote_next : ◌≡◌ {A = Kind} Run Promote → ⊥
+      run_promote_next e = cc
+
+      pub cuts_rule : Rule k record { words = ws7; homes = s.homes; views = set s.views id (one k hist (noted_set_back x)) }
+      cuts_rule =
+          let pools = r.whole.pools in
+          relists k s r id hist x at Run opener.first opener.stage x.seen.listing (x.seen.notes ++ SetBack ∷ []) ws7 record {
+            wide = length-set s.words 7 limit;
+            heap = heap k s r 7 limit of_seven;
+            control = control k s r 7 limit of_seven;
+            pools = record {
+              few = subst (λ (n : ℕ). n ≤ k.pools) (sym listed_same) pools.few;
+              inside = λ i h. subst (λ (q : ℕ). q < k.pools) (sym (list_same i)) (pools.inside i (lower i h));
+              once = λ i j h g e. pools.once i j (lower i h) (lower j g) (sym (list_same i) ∙ (e ∙ list_same j));
+              untaken = λ i h g. ap T0.holder (list_same i) ∙ r.whole.reserved reserve_kept i (lower i h) (subst (λ (n : ℕ). limit_of k n ≤ i) (sym counted.count) (subst (λ (n : ℕ). n ≤ i) cursor_is g));
+              owners = λ q h. owners_same k s r 7 limit of_seven q ∙ pools.owners q h;
+              owned_by = pools.owned_by;
+              drawn_by = pools.drawn_by;
+              one_each = pools.one_each;
+              asked =
+                  let u : ℕ = sum_of T0.asking k.domains in let v : u ≤ k.domains = sum_small T0.asking k.domains pools.one_each in
+                  let n : ℕ = listed s.words in let m : ℕ = l.listed in let e : n ≡ m = counted.count in let f : n ≤ k.pools = pools.few in
+                  let z : ℕ = limit in let y : z ≤ m = limit_low m in
+                  let g : z + u ≤ k.pools + k.domains = omega arith in subst (λ (c : ℕ). c + u ≤ k.pools + k.domains) (sym cursor_is) g;
+            };
+            lists = λ m e. let same : l ≡ m = some_list l m (sym listing ∙ e) in subst (Lists k ws7 x.own.number x.seen.stage) same record {
+              first = counted.first;
+              leads = counted.leads;
+              few = counted.few;
+              owners = λ q w got. owners_same k s r 7 limit of_seven q ∙ counted.owners q w got;
+              names = λ i q got. list_same i ∙ counted.names i q got;
+              count = listed_same ∙ counted.count;
+              rewinds = λ b. absurd (let clash : ◌≡◌ {A = Bool} false true = sym kept ∙ b in cc);
+            };
+            listed_young = λ _ _ _ _. listed_same;
+            reserved = λ still i h above. ap T0.holder (list_same i) ∙ r.whole.reserved still i (lower i h) (subst (λ (n : ℕ). limit_of k n ≤ i) listed_same above);
+            drawable = record {
+              to_run = λ j odd led runs. absurd (run_promote_next (sym runs ∙ subst (λ (kind : Kind). Follows kind (r.account.pause.kinds (j + 1))) (kind_here k s r id hist x at Run opener.first opener.stage j odd) (r.whole.phases.next_plan j odd led).1));
+              to_copy = λ _ _ _ _. low_now;
+            };
+            took_back = λ e. absurd (wishes_kept x.seen.notes e);
+            set_back = λ _ _. low_now;
+            others_set_back = λ _ _ _ _. low_now;
+          }
+        where
+          limit_low : (m : ℕ) → limit_of k m ≤ m
+          limit_low m = let e : ℕ = limit_of k m in omega arith
 
 abbrev Seat : Type 0
 Seat = Me (Unit {0}) View
@@ -358,5 +594,31 @@ close_may k x new may fits slots id h s r _ at _ =
       tt,
       subst (λ (z : ℕ × DomainView). Rule k record { words = set s.words 6 z.0; homes = s.homes; views = set s.views id (one k h z.1) }) (λ i. (sym may.count i, (ap (λ (n : ℕ). with_listing x (Some (listed_as n e.list))) (sym may.count) ∙ on_list x e.list (listed_as new) e.listing) i))
           (closes_rule k s r id h x at e.leader e.list e.listing e.empty may.all may.free),
+      (refl, refl),
+    )
+
+pub count_may : (k : Config) (x : DomainView) → IsOpener x → MayStep k x 6 (λ n. n) (CountedTold k)
+count_may k x opener fits slots id h s r _ at _ =
+    let y : DomainView = with_listing x (Some (listed_as (listed s.words) no_listing)) in
+    (one k h y, keeps, tt, unmoved k s 6 (set s.views id (one k h y)) (counts_rule k s r id h x at opener), (record { few = r.whole.pools.few; view = refl }, refl))
+
+lt_not_le : {a b : ℕ} → a < b → b ≤ a → ⊥
+lt_not_le {a} {b} below past = let p : a < b = below in let q : b ≤ a = past in omega arith
+
+pub cursor_look_may : (k : Config) (x : DomainView) (count : ℕ) → HasCounted x count → MayStep k x 7 (λ n. n) (CursorLookTold k count)
+cursor_look_may k x count may fits slots id h s r _ at _ = dite (dec_le (cursor s.words) (limit_of k count))
+    (λ low. let y : DomainView = noted_set_back x in
+    (one k h y, keeps, tt, unmoved k s 7 (set s.views id (one k h y)) (low_rule k s r id h x at may.opener may.list may.listing (subst (λ (n : ℕ). cursor s.words ≤ limit_of k n) (sym may.count_is) low)), (record { low = λ l. refl; high = λ b. absurd (lt_not_le b low) }, refl)))
+    (λ high.
+    (one k h x, keeps, tt, unmoved k s 7 (set s.views id (one k h x)) (looks k s r id h x at x.seen.front (mine k s r id h x at).front (my_good k s r id h x at).still), (record { low = λ l. absurd (high l); high = λ b. refl }, refl)))
+
+pub cut_may : (k : Config) (x : DomainView) (n new : ℕ) → HasCounted x n → new ≡ limit_of k n → MayStore k x 7 new CursorCutTold
+cut_may k x n new may is fits slots id h s r _ at _ =
+    let y : DomainView = noted_set_back x in
+    let new_is : limit_of k may.list.listed ≡ new = ap (limit_of k) may.count_is ∙ sym is in (
+      one k h y,
+      keeps,
+      tt,
+      subst (λ (n : ℕ). Rule k record { words = set s.words 7 n; homes = s.homes; views = set s.views id (one k h y) }) new_is (cuts_rule k s r id h x at may.opener may.list may.listing may.kept),
       (refl, refl),
     )

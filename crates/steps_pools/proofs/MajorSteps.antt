@@ -1,5 +1,5 @@
 -- The making of a block at a free place of an own pool keeps the rule.
-use Rattle.std.proofs.Common.{◌≡◌, ◌≢◌, ℕ, suc, ◌+◌, ◌*◌, ◌^◌, ◌<◌, ◌≤◌, ◌⊎◌, false, ne_eqb, List, [], ◌∷◌, ◌++◌, length, get_or, set, replicate, slice_get, pos, Option, Some, None, sym, refl, ap, ◌∙◌, subst, inl, inr, ⊎_elim, arith, length-set, get_or-set_same}
+use Rattle.std.proofs.Common.{◌≡◌, ◌≢◌, ℕ, zero, suc, ◌+◌, ◌*◌, ◌^◌, ◌<◌, ◌≤◌, ◌⊎◌, false, ne_eqb, List, [], ◌∷◌, ◌++◌, length, get_or, set, replicate, slice_get, pos, Option, Some, None, sym, refl, ap, ◌∙◌, subst, inl, inr, ⊎_elim, arith, length-set, get_or-set_same}
 use Rattle.std.proofs.lemmas.List.{length-replicate}
 use Rattle.std.proofs.lemmas.Int.{ints}
 use mathlib.Core.Logic.{dite}
@@ -36,7 +36,8 @@ use Rattle.heap_rule.specs.declared.view.DomainView.{DomainView}
 use Rattle.heap_rule.specs.declared.view.Hunt.TheVariants.{Rests}
 use Rattle.heap_rule.specs.Limits.{sizes_in}
 use Rattle.heap_rule.specs.Layout.{before_heap, at_address, table_words}
-use Rattle.heap_rule.specs.Places.{Place, Live, extent, Found, Fits, Placed, Stands}
+use Rattle.heap_rule.specs.Copies.{Recalls}
+use Rattle.heap_rule.specs.Places.{Place, Live, extent, Found, Fits, Placed, Spread, Stands, More, Settled, IsOldWord}
 use Rattle.heap_rule.specs.Changes.{value_at, changed, FitChanges}
 use Rattle.heap_rule.specs.Views.{one, Tells}
 use Rattle.heap_rule.specs.Raw.{MayStore}
@@ -46,13 +47,19 @@ use Rattle.heap_rule.specs.Token.{next_label}
 use Rattle.steps_pools.specs.Takes.{MajorMay, MajorEntry, MajorTold}
 use Rattle.heap_rule.proofs.ChangeLemmas.{changed_only, registers_of}
 use Rattle.heap_rule.proofs.Values.{AllStand, stand_set, holds}
-use Rattle.heap_rule.proofs.Keeps.{Words, More, mine, my_good, control_set, controls_kept, appends, legal_entry}
+use Rattle.heap_rule.proofs.Keeps.{Words, mine, my_good, control_set, controls_kept, appends, legal_entry, owes_run, quiet, run_settled, opened_words}
 use Rattle.heap_rule.proofs.Entering.{running, inside_state, registers_stand}
 use Rattle.heap_rule.proofs.Beside.{found_beside, making_beside}
-use Rattle.heap_rule.proofs.Born.{zero_word, zero_values, all_more, live', born, more, old, is_new, placed_born}
-use Rattle.heap_rule.proofs.Lots.{hunter_beside, stays, head_some}
+use Rattle.heap_rule.proofs.Born.{zero_word, zero_values, all_more, live', born, more, old, is_new, placed_born, settled_born, recalls_born, naming_born, spread_born, opened_born, classes_born}
+use Rattle.heap_rule.proofs.Lots.{hunter_beside, stays, head_some, place_cases}
 use Rattle.heap_rule.proofs.Holders.{free_later}
+use Rattle.steps_pools.proofs.DrawSteps.{none_drawn}
 use Rattle.steps_pools.proofs.WalkSteps.{filling, live_far, others_beside, equal_le, lot_top}
+
+zero_there : (n i : ℕ) → i < n → slice_get (replicate n zero_word) i ≡ Some zero_word
+zero_there zero i h = absurd (omega arith)
+zero_there (suc n) zero h = refl
+zero_there (suc n) (suc i) h = zero_there n i (omega arith)
 
 -- an allocation in the major heap leaves what a young one leaves
 leaves_major : (s : model.State) (d : ℕ) → d < length s.domains → (dst tag fields : ℕ) → let l : Label = record { domain = d; serial = (domain_at s d).serial + 1 } in
@@ -83,7 +90,7 @@ module _ (k : Config) (s : Words) (r : Rule k s) (id : ℕ) (hist : List Entry) 
   L = next_label x
 
   abbrev born_place : Place
-  born_place = record { label = L; shape = PlainShape n tag }
+  born_place = record { label = L; shape = PlainShape n tag; forward = None; owed = None; named = λ _. None }
 
   abbrev e : Entry
   e = Command d (AllocMaj dst tag n) false
@@ -95,7 +102,7 @@ module _ (k : Config) (s : Words) (r : Rule k s) (id : ℕ) (hist : List Entry) 
   g = my_good k s r id hist x at
 
   F : Filling k r.account.tenancy.holder s.words d pool class slot words_made
-  F = filling k s r id hist x at may.acts.runs pool class slot new words_made may.hunt
+  F = filling k s r id hist x at (inl may.acts.runs) pool class slot new words_made may.hunt
 
   made_long : length words_made ≡ n + 1
   made_long = let l = length-replicate n zero_word in omega arith
@@ -107,7 +114,7 @@ module _ (k : Config) (s : Words) (r : Rule k s) (id : ℕ) (hist : List Entry) 
   pool_in = (r.whole.pools.owned_by pool d class F.own_is).0
 
   lot : slot * size_of class + size_of class ≤ 4096
-  lot = lot_top k s r id hist x at may.acts.runs pool class slot new words_made may.hunt
+  lot = lot_top k s r id hist x at (inl may.acts.runs) pool class slot new words_made may.hunt
 
   low : pool * 4096 < A
   low = omega arith
@@ -120,7 +127,7 @@ module _ (k : Config) (s : Words) (r : Rule k s) (id : ℕ) (hist : List Entry) 
 
   away : (b : ℕ) (q : Place) → r.account.live b ≡ Some q → (b + extent q.shape ≤ A) ⊎ (A + (n + 2) ≤ b)
   away b q lives = let m : ℕ = extent q.shape in let y : ℕ = size_of class in let c : n + 2 ≤ y = in_class in let p : ℕ = A in
-      ⊎_elim (λ (t : b + m ≤ p). inl t) (λ (t : p + y ≤ b). inr (let o : p + (n + 2) ≤ b = omega arith in o)) (live_far k s r id hist x at may.acts.runs pool class slot new words_made may.hunt b q lives)
+      ⊎_elim (λ (t : b + m ≤ p). inl t) (λ (t : p + y ≤ b). inr (let o : p + (n + 2) ≤ b = omega arith in o)) (live_far k s r id hist x at (inl may.acts.runs) pool class slot new words_made may.hunt b q lives)
 
   abbrev live1 : Live
   live1 = live' k r.account.live A born_place (omega arith) away r.whole.placed
@@ -167,6 +174,23 @@ module _ (k : Config) (s : Words) (r : Rule k s) (id : ℕ) (hist : List Entry) 
   placed1 : Placed k live1
   placed1 = placed_born k r.account.live A born_place (omega arith) away r.whole.placed fits_born fresh_label
 
+  settled1 : Settled live1
+  settled1 = settled_born k r.account.live A born_place (omega arith) away r.whole.placed record { no_forward = refl; no_debt = refl } (run_settled k s r id hist x at may.acts.runs)
+
+  recalls1 : (m : ℕ) → Recalls m r.account.live live1
+  recalls1 = recalls_born k r.account.live A born_place (omega arith) away r.whole.placed (λ i. refl)
+
+  -- the block lies in the pools, so nothing changes in the minor areas
+  old_block : A ≤ k.pools * 4096
+  old_block = let h = in_pools in let b : ℕ = A in let t : b + (n + 2) ≤ k.pools * 4096 + 1 = h in let o : b ≤ k.pools * 4096 = omega arith in o
+
+  not_young : k.pools * 4096 < A → ⊥
+  not_young young = let a : A ≤ k.pools * 4096 = old_block in let b : ℕ = A in let c : b ≤ k.pools * 4096 = a in let e : k.pools * 4096 < b = young in omega arith
+
+  spread1 : Spread k live1
+  spread1 = spread_born k r.account.live A born_place (omega arith) away r.whole.placed (λ young. absurd (not_young young))
+      (λ b q lives young below. absurd (not_young (let a : ℕ = A in let e : b < a = below in let f : k.pools * 4096 < b = young in let o : k.pools * 4096 < a = omega arith in o))) (λ b q lives young below. absurd (not_young young)) r.whole.spread
+
   spot : before_heap k + A < length s.words
   spot = let h = in_pools in let b : ℕ = A in let t : b + (n + 2) ≤ k.pools * 4096 + 1 = h in let w : ℕ = k.domains * k.minor_words in let wide : length s.words ≡ table_words k = r.whole.wide in let o : before_heap k + b < length s.words = omega arith in o
 
@@ -178,12 +202,14 @@ module _ (k : Config) (s : Words) (r : Rule k s) (id : ℕ) (hist : List Entry) 
     head = get_or-set_same s.words (before_heap k + A) new 0 spot ∙ may.head;
     label = stays k r.account.tenancy s.words A new (A + 1) (λ o. omega arith)
         ∙ (ap (at_address k s.words) (let o : A + 1 ≡ A + 1 + 0 = omega arith in o) ∙ made_at 0 (label_word d (x.own.serial + 1)) refl);
-    values = λ i v got. let t = zero_values n i v got in record {
+    values = λ i v _ got. let t = zero_values n i v got in record {
       value = IntWord (pos 0);
       packs = stays k r.account.tenancy s.words A new (A + 2 + i) (λ o. omega arith)
           ∙ (ap (at_address k s.words) (let o : A + 2 + i ≡ A + 1 + suc i = omega arith in o) ∙ made_at (suc i) zero_word t.1);
       stands = subst (Stands live1 (IntWord (pos 0))) (sym t.0) (refl, (omega (arith, ints), omega (arith, ints)));
     };
+    old = λ _ i inside _ _. subst (IsOldWord k) (sym (stays k r.account.tenancy s.words A new (A + 2 + i) (λ o. omega arith)
+        ∙ (ap (at_address k s.words) (let o : A + 2 + i ≡ A + 1 + suc i = omega arith in o) ∙ made_at (suc i) zero_word (zero_there n i (let h : i + 2 < n + 2 = inside in omega arith))))) (inl refl);
   }
 
   -- a word of a live block isn't the head
@@ -234,22 +260,35 @@ module _ (k : Config) (s : Words) (r : Rule k s) (id : ℕ) (hist : List Entry) 
         let m : ℕ = extent q.shape in let p : ℕ = A in let h : p + (n + 2) ≤ k.pools * 4096 + 1 = in_pools in let y : ℕ = z.own.number * k.minor_words in let o : n + 2 ≡ m = size in let c : b ≡ p = same in
         inl (let f : b + m ≤ k.pools * 4096 + y + 1 + z.own.used = omega arith in f))
         (λ other. has.free b q (before b q other lives));
+    classes = classes_born k r.account.live A born_place (omega arith) away r.whole.placed z z refl has.classes (let u : ℕ = z.own.used in let o : u ≤ u = omega arith in o) (λ young. absurd (not_young young));
   }
 
   -- the block's place in its pool
   lot_of : Lot r.account.tenancy.holder A born_place
   lot_of = record { pool = pool; domain = d; class = class; slot = slot; owned_is = F.own_is; inside = F.inside; begins = refl; fits = in_class }
 
-  grid1 : Grid k r.account.tenancy.holder live1 ws
+  -- the place isn't prepared
+  spare_far : (b m : ℕ) → r.account.tenancy.prepared b ≡ Some m → b ≢ A
+  spare_far b m is same = (r.whole.grid.spares b m is).head (ap (at_address k s.words) same ∙ F.free)
+
+  none_some_place : (q : Place) → ◌≡◌ {A = Option Place} None (Some q) → ⊥
+  none_some_place q e = cc
+
+  grid1 : Grid k r.account.tenancy live1 ws
   grid1 = record {
     lots = λ b q lives under. dite (ℕ_discrete b A)
         (λ same. subst (λ (y : ℕ × Place). Lot r.account.tenancy.holder y.0 y.1) (λ i. (sym same i, is_born b q same lives i)) lot_of)
         (λ other. r.whole.grid.lots b q (before b q other lives) under);
     places = λ q m c i owned_is below. dite (ℕ_discrete (place_in q c i) A)
-        (λ same. inr (born_place, ap live1 same ∙ lives_now))
+        (λ same. inr (inl (born_place, ap live1 same ∙ lives_now)))
         (λ other. ⊎_elim
         (λ (z : at_address k s.words (place_in q c i) ≡ 0). inl (stays k r.account.tenancy s.words A new (place_in q c i) other ∙ z))
-        (λ (z : (p : Place) × (r.account.live (place_in q c i) ≡ Some p)). inr (z.0, grows (place_in q c i) z.0 z.1)) (r.whole.grid.places q m c i owned_is below));
+        (λ z. inr (⊎_elim (λ (z : (p : Place) × (r.account.live (place_in q c i) ≡ Some p)). inl (let m = grows (place_in q c i) z.0 z.1 in (m.place, m.lives))) (λ (z : r.account.tenancy.prepared (place_in q c i) ≡ Some m). inr z) z)) (r.whole.grid.places q m c i owned_is below));
+    spares = λ b m is. let spare = r.whole.grid.spares b m is in record {
+      own = spare.own;
+      head = λ z. spare.head (sym (stays k r.account.tenancy s.words A new b (spare_far b m is)) ∙ z);
+      empty = ⊎_elim (λ (e : live1 b ≡ None). e) (λ (h : (q : Place) × (live1 b ≡ Some q)). absurd (none_some_place h.0 (sym spare.empty ∙ before b h.0 (spare_far b m is) h.1))) (place_cases (live1 b));
+    };
   }
 
   in_pool : A ≤ pool * 4096 + 4096
@@ -268,6 +307,10 @@ module _ (k : Config) (s : Words) (r : Rule k s) (id : ℕ) (hist : List Entry) 
     taken = λ q c i owned_is below seen z. dite (ℕ_discrete (place_in q c i) A)
         (λ same. head_new (ap (at_address k ws) (sym same) ∙ z))
         (λ other. g.hunter.taken q c i owned_is below seen (sym (stays k r.account.tenancy s.words A new (place_in q c i) other) ∙ z));
+    holds = g.hunter.holds;
+    prepared = g.hunter.prepared;
+    claims = g.hunter.claims;
+    supply = λ c _ some. absurd (none_drawn k s r id hist x at (inl may.acts.runs) may.acts.runs c some);
   }
 
   major_rule : Rule k record { words = ws; homes = s.homes; views = set s.views id (one k hist after) }
@@ -286,15 +329,21 @@ module _ (k : Config) (s : Words) (r : Rule k s) (id : ℕ) (hist : List Entry) 
     controls = controls_kept k s r id hist x at ws (control_set k s.words A new fits_born.low);
     found = subst (λ (z : Graph). AllFound k live1 z ws) (sym leaves.graph_is) found1;
     placed = placed1;
+    spread = spread1;
+    opened = opened_born k r.account.live A born_place (omega arith) away r.whole.placed ws (λ young. absurd (not_young young)) (opened_words k r.account.live s.words ws (λ _ _ _ _. control_set k s.words A new fits_born.low 6 (omega arith)) r.whole.opened);
+    settled = settled1;
+    owes = owes_run k r.account.live live1 x after settled1 (quiet k s r id hist x at may.acts.runs) refl refl grows (recalls1 d) g.owes;
+    recalls = λ m _. recalls1 m;
+    naming = naming_born k r.account.live A born_place (omega arith) away r.whole.placed (λ i. refl) r.whole.copies.naming;
     more = grows;
     stood = stood1;
-    area = let p = areas1 x g.area in record { room = p.room; free = p.free };
+    area = let p = areas1 x g.area in record { room = p.room; free = p.free; classes = p.classes };
     making = let p = makings x g.making in record { fits = p.fits; written = p.written };
     areas = λ z _ p. areas1 z p;
     makings = λ z _ _ p. makings z p;
     grid = grid1;
     hunter = hunter1;
-    hunters = λ z other g. hunter_beside k r.account.tenancy s.words A new r.whole.pools z (others_beside k s r id hist x at may.acts.runs pool class slot new words_made may.hunt z other A low in_pool) g.hunter;
+    hunters = λ z other g. hunter_beside k r.account.tenancy s.words A new r.whole.pools z (others_beside k s r id hist x at (inl may.acts.runs) pool class slot new words_made may.hunt z other A low in_pool) g.hunter;
   } where
     makings : (z : DomainView) → Making k s.words z → Making k ws z
     makings z p = making_beside k s.words A new z (λ j fits m. let h : A ≤ pool * 4096 + 4096 = in_pool in let i = pool_in in let y : ℕ = z.own.number * k.minor_words in let b : ℕ = A in let same : k.pools * 4096 + y + 1 + z.own.used + 1 + j ≡ b = m in omega arith) p

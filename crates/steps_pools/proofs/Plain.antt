@@ -1,5 +1,5 @@
 -- What the steps on pools tell of a token's own data.
-use Rattle.std.proofs.Common.{◌≡◌, ◌+◌, ◌^◌, ◌<◌, ◌≤◌, ℕ, List, set, sym, ap, ◌∙◌, subst, arith, lt_of_not-le, length-set, get_or-set_same, get_or-set_other, ◌≢◌, refl, inl, inr}
+use Rattle.std.proofs.Common.{◌≡◌, ◌+◌, ◌^◌, ◌<◌, ◌≤◌, ℕ, List, length, set, sym, ap, ◌∙◌, subst, arith, lt_of_not-le, length-set, get_or-set_same, get_or-set_other, inl, inr}
 use mathlib.Core.Logic.{dite}
 use native.Mathlib.Decide.{dec_le, ℕ_discrete}
 use Rattle.heap_model.specs.Domains.{class_count, IsWithinLimits}
@@ -16,10 +16,11 @@ use Rattle.heap_rule.specs.Changes.{changed, FitChanges}
 use Rattle.heap_rule.specs.Limits.{sizes_in}
 use Rattle.heap_rule.specs.Pools.{blocks_of, owned, owner_word, limit_of, spot_at, hunting}
 use Rattle.heap_rule.specs.Raw.{Closes, StepsOnce}
-use Rattle.heap_rule.specs.Token.{LooksWithin, OwnFits, Holds, next_label}
+use Rattle.heap_rule.specs.Token.{LooksWithin, OwnFits, next_label}
 use Rattle.heap_rule.proofs.ChangeLemmas.{changed_only}
 use Rattle.heap_rule.proofs.Classes.{some_block}
 use Rattle.steps_pools.specs.Takes.{CursorTold, CursorAddTold, OwnedTold, OwnerTold, PlaceTold, MajorTold}
+use Rattle.steps_pools.specs.Listings.{CursorLookTold}
 use Rattle.steps_pools.specs.Writes.{looking, CanLook, LooksFrom, PassesPool, PassesPlace, CanLabel, Labels}
 use Rattle.heap_rule.proofs.Closes.{front_same}
 use Rattle.heap_model.specs.Fronts.{IsFrontOf}
@@ -48,6 +49,17 @@ cursor_add_front k count class x found y told = dite (dec_le (limit_of k count) 
     (λ past. front_same x y (ap (λ (z : DomainView). z.seen.front) (told.past past)))
     (λ not_past. front_same x y (ap (λ (z : DomainView). z.seen.front) (told.below (lt_of_not-le not_past)).view))
 
+-- so does a look at the cursor by domain 0
+pub cursor_look_own : (k : Config) (count : ℕ) (x : DomainView) (found : ℕ) (y : DomainView) → CursorLookTold k count x found y → y.own ≡ x.own
+cursor_look_own k count x found y told = dite (dec_le found (limit_of k count))
+    (λ low. ap (λ (z : DomainView). z.own) (told.low low))
+    (λ high. ap (λ (z : DomainView). z.own) (told.high (lt_of_not-le high)))
+
+pub cursor_look_front : (k : Config) (count : ℕ) (x : DomainView) (found : ℕ) (y : DomainView) → CursorLookTold k count x found y → IsFrontOf x.own.number y.seen.front x.seen.front
+cursor_look_front k count x found y told = dite (dec_le found (limit_of k count))
+    (λ low. front_same x y (ap (λ (z : DomainView). z.seen.front) (told.low low)))
+    (λ high. front_same x y (ap (λ (z : DomainView). z.seen.front) (told.high (lt_of_not-le high))))
+
 -- a step at which the domain looks to another place
 looking_once : (k : Config) (x y : DomainView) (spots : List Spot) (hunt : Hunt) → y ≡ hunting x spots hunt → StepsOnce k x y
 looking_once k x y spots hunt is _ = inl (record {
@@ -69,7 +81,7 @@ looks_set k own class spot l low small = record {
 
 -- and the token's own data fits again
 looking_fits : (k : Config) (x y : DomainView) (class : ℕ) (spot : Spot) → OwnFits k x.own → y.own ≡ looking x.own class spot → spot.pool ≤ k.pools → spot.slot < blocks_of class → OwnFits k y.own
-looking_fits k x y class spot fits is low small = subst (OwnFits k) (sym is) record { number = fits.number; used = fits.used; registers = fits.registers; looked = looks_set k x.own class spot fits.looked low small }
+looking_fits k x y class spot fits is low small = subst (OwnFits k) (sym is) record { number = fits.number; used = fits.used; registers = fits.registers; looked = looks_set k x.own class spot fits.looked low small; prepared = fits.prepared; pending = fits.pending }
 
 -- the pools are few
 few_pools : (k : Config) (pool : ℕ) → IsWithinLimits (sizes_in k) → pool < k.pools → pool < 2048
@@ -77,11 +89,11 @@ few_pools k pool limits inside = let all = limits.pools in let p : ℕ = k.pools
 
 pub owned_closes : (k : Config) (x : DomainView) (new pool class : ℕ) → pool < k.pools → class < class_count → IsWithinLimits (sizes_in k) → Closes k x new (OwnedTold pool class) (λ _. CanLook pool class) (LooksFrom pool class)
 owned_closes k x new pool class inside few limits y fits told =
-    let own = ap (λ (z : DomainView). z.own) told in record {
+    let own = ap (λ (z : DomainView). z.own) told.view in record {
       can_write = (few_pools k pool limits inside, few);
       written = λ after is. own ∙ sym is;
       fits = looking_fits k x y class (record { pool = pool; slot = 0 }) fits own (let i = inside in omega arith) (some_block class few).0;
-      once = looking_once k x y _ _ told;
+      once = looking_once k x y _ _ told.view;
     }
 
 pub owner_closes : (k : Config) (x : DomainView) (found pool class : ℕ) → pool < k.pools → class < class_count → IsWithinLimits (sizes_in k) → Closes k x found (OwnerTold pool class) (λ _. CanLook pool class) (PassesPool pool class found)
@@ -139,6 +151,8 @@ major_closes k x new e changes fit serial y fits told =
         used = subst (λ (o : Own). o.used ≤ k.minor_words) (sym rest) fits.used;
         registers = told.holds;
         looked = subst (λ (o : Own). LooksWithin k o.looked) (sym rest) fits.looked;
+        prepared = ap (λ (o : Own). length o.prepared) rest ∙ fits.prepared;
+        pending = ap (λ (o : Own). o.pending.room + length o.pending.items) rest ∙ fits.pending;
       };
       once = λ _. inr (record { entry = e; answer = Replied (Block (next_label x)); answers = told.answers });
     }

@@ -10,23 +10,22 @@ use Rattle.heap_rule.specs.declared.config.Config.{Config}
 use Rattle.heap_rule.specs.declared.view.DomainView.{DomainView}
 use Rattle.heap_rule.specs.declared.view.Hunt.TheVariants.{Rests, Draws, Walks, Fills}
 use Rattle.heap_rule.specs.declared.view.Spot.{Spot}
-use Rattle.heap_rule.specs.declared.phase.Kind.TheVariants.{Run}
-use Rattle.heap_rule.specs.declared.phase.Stage.TheVariants.{In}
 use Rattle.heap_rule.specs.Layout.{heap_words, before_heap, table_words, at_address, listed, cursor, listed_pool, owner_of}
-use Rattle.heap_rule.specs.Places.{Place, extent}
+use Rattle.heap_rule.specs.Places.{Place, Live, extent}
+use Rattle.heap_rule.specs.Room.{Room, IsUnused}
 use Rattle.heap_rule.specs.Views.{one}
 use Rattle.heap_rule.specs.Rule.{state_of, Rule}
-use Rattle.heap_rule.specs.Pools.{Holder, nobody, drawn, owned, owner_word, Tenancy, Pools, Hunts, Hunter, Clearing, Filling, drawn_in, spot_at, IsBefore, place_in, size_of, blocks_of, limit_of}
+use Rattle.heap_rule.specs.Pools.{Holder, nobody, drawn, owned, owner_word, Stock, Tenancy, Takes, Pools, Grid, IsSpare, Hunts, Hunter, Latest, DrawsFor, Clearing, Filling, drawn_in, spot_at, IsBefore, place_in, size_of, blocks_of, limit_of}
 use Rattle.heap_rule.specs.Phases.{sum_of}
 use Rattle.steps_pools.specs.Takes.{with_hunt, looked_to, NoneFree}
 use Rattle.heap_rule.proofs.Update.{over, over_here, over_else}
 use Rattle.heap_rule.proofs.Lists.{got_end, got_below}
-use Rattle.heap_rule.proofs.Keeps.{Words, mine, phases_words, phases_same, cycle_same, control_set, pools_same, holds_again}
+use Rattle.heap_rule.proofs.Keeps.{Words, mine, more_same, phases_words, phases_same, cycle_same, control_set, controls_kept, pools_same, room_words, holds_again}
 use Rattle.heap_rule.proofs.Classes.{size_least, some_block, slot_below, slot_inside}
 use Rattle.heap_rule.proofs.Beside.{found_beside, making_beside}
 use Rattle.heap_rule.proofs.Lots.{Beside, pool_beside, hunter_beside, drawn_same, owned_same, stays, head_full}
-use Rattle.heap_rule.proofs.Holders.{Agrees, agrees_set, found_agrees, making_agrees, same_over, drawn_not, owned_not, drawn_owned, grid_over, free_later, hunter_agree}
-use Rattle.steps_pools.proofs.DrawSteps.{hunter, next_hunter, knows, own_word, some_nat}
+use Rattle.heap_rule.proofs.Holders.{Agrees, agrees_set, found_agrees, making_agrees, SameStock, same_over, drawn_not, owned_not, drawn_owned, grid_over, free_later, hunter_agree}
+use Rattle.steps_pools.proofs.DrawSteps.{hunter, next_hunter, hunter_on, knows, known_free, draws_none, latest_words, own_word, some_nat}
 
 pub equal_le : {a b : ℕ} → a ≡ b → b ≤ a
 equal_le {a} {b} e = omega arith
@@ -41,7 +40,16 @@ spot_same l class c n same few wide = ap (λ (m : ℕ). spot_at (set l class n) 
 spot_other : (l : List Spot) (class c : ℕ) (n : Spot) → c ≢ class → spot_at (set l class n) c ≡ spot_at l c
 spot_other l class c n other = get_or-set_other l class c n nowhere other
 
-module _ (k : Config) (s : Words) (r : Rule k s) (id : ℕ) (hist : List Entry) (x : DomainView) (at : get_elem? s.views id ≡ some (one k hist x)) (runs : x.seen.stage ≡ In Run) where
+-- the prepared places stay where the written word is the head of no place of an owned pool
+pub spares_stay : (k : Config) (t : Tenancy) (live : Live) (words : List ℕ) (at new : ℕ) → ((q e c slot : ℕ) → t.holder q ≡ owned e c → slot < blocks_of c → place_in q c slot ≢ at) → Grid k t live words
+    → (a e : ℕ) → t.prepared a ≡ Some e → IsSpare k t.holder live (set words (before_heap k + at) new) a e
+spares_stay k t live words at new far g a e prep = let s = g.spares a e prep in let o = s.own in record {
+  own = o;
+  head = λ z. s.head (sym (stays k t words at new a (λ same. far o.pool e o.class o.slot o.owned_is o.inside (sym o.begins ∙ same))) ∙ z);
+  empty = s.empty;
+}
+
+module _ (k : Config) (s : Words) (r : Rule k s) (id : ℕ) (hist : List Entry) (x : DomainView) (at : get_elem? s.views id ≡ some (one k hist x)) (takes : Takes x.seen.stage) where
   abbrev d : ℕ
   d = x.own.number
 
@@ -49,7 +57,7 @@ module _ (k : Config) (s : Words) (r : Rule k s) (id : ℕ) (hist : List Entry) 
   T = r.account.tenancy
 
   H : Hunter k T s.words x
-  H = hunter k s r id hist x at runs
+  H = hunter k s r id hist x at takes
 
   P : Pools k T s.words
   P = r.whole.pools
@@ -63,7 +71,7 @@ module _ (k : Config) (s : Words) (r : Rule k s) (id : ℕ) (hist : List Entry) 
     own_is e = own_word (T.holder pool) d class few (λ a b h. (P.owned_by pool a b h).2) (sym (P.owners pool inside) ∙ e)
 
     pub walks_rule : drawn_in x.seen.hunt ≡ None → word ≡ owner_word (owned d class) → Rule k record { words = s.words; homes = s.homes; views = set s.views id (one k hist (with_hunt x (Walks pool class))) }
-    walks_rule free e = knows k s r id hist x at runs x.own.looked (Walks pool class) (next_hunter k s r id hist x at runs (Walks pool class) (own_is e) (sym free))
+    walks_rule free e = knows k s r id hist x at takes x.own.looked (Walks pool class) (next_hunter k s r id hist x at takes (Walks pool class) (own_is e) free)
 
     -- the pool isn't the domain's, of this class
     abbrev past : Spot
@@ -71,20 +79,17 @@ module _ (k : Config) (s : Words) (r : Rule k s) (id : ℕ) (hist : List Entry) 
 
     pub passes_rule : drawn_in x.seen.hunt ≡ None → word ≢ owner_word (owned d class) → (spot_at x.own.looked class).pool ≡ pool → length x.own.looked ≡ class_count
         → Rule k record { words = s.words; homes = s.homes; views = set s.views id (one k hist (looked_to x class past Rests)) }
-    passes_rule free differ from wide = knows k s r id hist x at runs (set x.own.looked class past) Rests record {
-      hunt = tt;
-      free = H.free;
-      drawn_alone = λ q e. sym free ∙ H.drawn_alone q e;
-      taken = λ q c slot is below seen. dite (ℕ_discrete c class)
-          (λ same.
-          let mine_is : T.holder q ≡ owned d class = is ∙ ap (owned d) same in
-          let other : q ≢ pool = (λ here. differ (P.owners pool inside ∙ ap owner_word (sym (ap T.holder here) ∙ mine_is))) in
-          H.taken q c slot is below (⊎_elim
-          (λ (h : q < pool + 1). inl (subst (λ (m : ℕ). q < m) (sym from ∙ ap (λ (m : ℕ). (spot_at x.own.looked m).pool) (sym same)) (let o : q ≢ pool = other in omega arith)))
-          (λ (h : (q ≡ pool + 1) × (slot < 0)). absurd (let l = h.1 in omega arith))
-          (subst (λ (m : Spot). IsBefore q slot m) (spot_same x.own.looked class c past same few wide) seen)))
-          (λ other. H.taken q c slot is below (subst (λ (m : Spot). IsBefore q slot m) (spot_other x.own.looked class c past other) seen));
-    }
+    passes_rule free differ from wide = knows k s r id hist x at takes (set x.own.looked class past) Rests (hunter_on k T s.words x (set x.own.looked class past) Rests x.seen.free tt free
+        (λ q c slot is below seen. dite (ℕ_discrete c class)
+        (λ same.
+        let mine_is : T.holder q ≡ owned d class = is ∙ ap (owned d) same in
+        let other : q ≢ pool = (λ here. differ (P.owners pool inside ∙ ap owner_word (sym (ap T.holder here) ∙ mine_is))) in
+        H.taken q c slot is below (⊎_elim
+        (λ (h : q < pool + 1). inl (subst (λ (m : ℕ). q < m) (sym from ∙ ap (λ (m : ℕ). (spot_at x.own.looked m).pool) (sym same)) (let o : q ≢ pool = other in omega arith)))
+        (λ (h : (q ≡ pool + 1) × (slot < 0)). absurd (let l = h.1 in omega arith))
+        (subst (λ (m : Spot). IsBefore q slot m) (spot_same x.own.looked class c past same few wide) seen)))
+        (λ other. H.taken q c slot is below (subst (λ (m : Spot). IsBefore q slot m) (spot_other x.own.looked class c past other) seen)))
+        H.free H)
 
   -- the head at the next place of an own pool
   module _ (pool class slot : ℕ) (is : x.seen.hunt ≡ Walks pool class) (inside : slot < blocks_of class) where
@@ -101,57 +106,51 @@ module _ (k : Config) (s : Words) (r : Rule k s) (id : ℕ) (hist : List Entry) 
     no_draw = ap drawn_in is
 
     pub takes_rule : at_address k s.words place ≡ 0 → Rule k record { words = s.words; homes = s.homes; views = set s.views id (one k hist (with_hunt x (Fills pool class slot []))) }
-    takes_rule free = knows k s r id hist x at runs x.own.looked (Fills pool class slot []) (next_hunter k s r id hist x at runs (Fills pool class slot []) record {
+    takes_rule free = knows k s r id hist x at takes x.own.looked (Fills pool class slot []) (next_hunter k s r id hist x at takes (Fills pool class slot []) record {
       own_is = own;
       inside = inside;
       free = free;
       fits = (let z : ℕ = size_of class in let l : 4 ≤ z = size_least class few in let g : 0 < z = omega arith in g);
       written = λ j w got. cc;
-    } (sym no_draw))
+    } no_draw)
 
     abbrev next : Spot
     next = record { pool = pool; slot = slot + 1 }
 
     pub full_rule : at_address k s.words place ≢ 0 → spot_at x.own.looked class ≡ record { pool = pool; slot = slot } → length x.own.looked ≡ class_count
         → Rule k record { words = s.words; homes = s.homes; views = set s.views id (one k hist (looked_to x class next (Walks pool class))) }
-    full_rule full from wide = knows k s r id hist x at runs (set x.own.looked class next) (Walks pool class) record {
-      hunt = own;
-      free = H.free;
-      drawn_alone = λ q e. sym no_draw ∙ H.drawn_alone q e;
-      taken = λ q c i is below seen. dite (ℕ_discrete c class)
-          (λ same.
-          let before : spot_at x.own.looked c ≡ record { pool = pool; slot = slot } = ap (λ (m : ℕ). spot_at x.own.looked m) same ∙ from in
-          ⊎_elim
-          (λ (h : q < pool). H.taken q c i is below (inl (subst (λ (m : Spot). q < m.pool) (sym before) h)))
-          (λ (h : (q ≡ pool) × (i < slot + 1)). dite (ℕ_discrete i slot)
-          (λ (eq : i ≡ slot). λ z. full (subst (λ (m : ℕ × ℕ × ℕ). at_address k s.words (place_in m.0 m.1 m.2) ≡ 0) (λ j. (h.0 j, same j, eq j)) z))
-          (λ (ne : i ≢ slot). H.taken q c i is below (inr (subst (λ (m : Spot). (q ≡ m.pool) × (i < m.slot)) (sym before) (h.0, (let l = h.1 in omega arith))))))
-          (subst (λ (m : Spot). IsBefore q i m) (spot_same x.own.looked class c next same few wide) seen))
-          (λ other. H.taken q c i is below (subst (λ (m : Spot). IsBefore q i m) (spot_other x.own.looked class c next other) seen));
-    }
+    full_rule full from wide = knows k s r id hist x at takes (set x.own.looked class next) (Walks pool class) (hunter_on k T s.words x (set x.own.looked class next) (Walks pool class) x.seen.free own no_draw
+        (λ q c i is below seen. dite (ℕ_discrete c class)
+        (λ same.
+        let before : spot_at x.own.looked c ≡ record { pool = pool; slot = slot } = ap (λ (m : ℕ). spot_at x.own.looked m) same ∙ from in
+        ⊎_elim
+        (λ (h : q < pool). H.taken q c i is below (inl (subst (λ (m : Spot). q < m.pool) (sym before) h)))
+        (λ (h : (q ≡ pool) × (i < slot + 1)). dite (ℕ_discrete i slot)
+        (λ (eq : i ≡ slot). λ z. full (subst (λ (m : ℕ × ℕ × ℕ). at_address k s.words (place_in m.0 m.1 m.2) ≡ 0) (λ j. (h.0 j, same j, eq j)) z))
+        (λ (ne : i ≢ slot). H.taken q c i is below (inr (subst (λ (m : Spot). (q ≡ m.pool) × (i < m.slot)) (sym before) (h.0, (let l = h.1 in omega arith))))))
+        (subst (λ (m : Spot). IsBefore q i m) (spot_same x.own.looked class c next same few wide) seen))
+        (λ other. H.taken q c i is below (subst (λ (m : Spot). IsBefore q i m) (spot_other x.own.looked class c next other) seen)))
+        H.free H)
 
     abbrev behind : Spot
     behind = record { pool = pool + 1; slot = 0 }
 
     pub last_rule : at_address k s.words place ≢ 0 → blocks_of class ≤ slot + 1 → spot_at x.own.looked class ≡ record { pool = pool; slot = slot } → length x.own.looked ≡ class_count
         → Rule k record { words = s.words; homes = s.homes; views = set s.views id (one k hist (looked_to x class behind (Walks pool class))) }
-    last_rule full last from wide = knows k s r id hist x at runs (set x.own.looked class behind) (Walks pool class) record {
-      hunt = own;
-      free = H.free;
-      drawn_alone = λ q e. sym no_draw ∙ H.drawn_alone q e;
-      taken = λ q c i is below seen. dite (ℕ_discrete c class)
-          (λ same.
-          let before : spot_at x.own.looked c ≡ record { pool = pool; slot = slot } = ap (λ (m : ℕ). spot_at x.own.looked m) same ∙ from in
-          ⊎_elim
-          (λ (h : q < pool + 1). dite (ℕ_discrete q pool)
-          (λ (here : q ≡ pool). dite (ℕ_discrete i slot)
-          (λ (eq : i ≡ slot). λ z. full (subst (λ (m : ℕ × ℕ × ℕ). at_address k s.words (place_in m.0 m.1 m.2) ≡ 0) (λ j. (here j, same j, eq j)) z))
-          (λ (ne : i ≢ slot). H.taken q c i is below (inr (subst (λ (m : Spot). (q ≡ m.pool) × (i < m.slot)) (sym before) (here, (let b : i < blocks_of class = subst (λ (m : ℕ). i < blocks_of m) same below in let n : ℕ = blocks_of class in let l : n ≤ slot + 1 = last in omega arith))))))
-          (λ (other : q ≢ pool). H.taken q c i is below (inl (subst (λ (m : Spot). q < m.pool) (sym before) (let o : q ≢ pool = other in omega arith)))))
-          (λ (h : (q ≡ pool + 1) × (i < 0)). absurd (let l = h.1 in omega arith))
-          (subst (λ (m : Spot). IsBefore q i m) (spot_same x.own.looked class c behind same few wide) seen))
-          (λ other. H.taken q c i is below (subst (λ (m : Spot). IsBefore q i m) (spot_other x.own.looked class c behind other) seen));
-    }
+    last_rule full last from wide = knows k s r id hist x at takes (set x.own.looked class behind) (Walks pool class) (hunter_on k T s.words x (set x.own.looked class behind) (Walks pool class) x.seen.free own no_draw
+        (λ q c i is below seen. dite (ℕ_discrete c class)
+        (λ same.
+        let before : spot_at x.own.looked c ≡ record { pool = pool; slot = slot } = ap (λ (m : ℕ). spot_at x.own.looked m) same ∙ from in
+        ⊎_elim
+        (λ (h : q < pool + 1). dite (ℕ_discrete q pool)
+        (λ (here : q ≡ pool). dite (ℕ_discrete i slot)
+        (λ (eq : i ≡ slot). λ z. full (subst (λ (m : ℕ × ℕ × ℕ). at_address k s.words (place_in m.0 m.1 m.2) ≡ 0) (λ j. (here j, same j, eq j)) z))
+        (λ (ne : i ≢ slot). H.taken q c i is below (inr (subst (λ (m : Spot). (q ≡ m.pool) × (i < m.slot)) (sym before) (here, (let b : i < blocks_of class = subst (λ (m : ℕ). i < blocks_of m) same below in let n : ℕ = blocks_of class in let l : n ≤ slot + 1 = last in omega arith))))))
+        (λ (other : q ≢ pool). H.taken q c i is below (inl (subst (λ (m : Spot). q < m.pool) (sym before) (let o : q ≢ pool = other in omega arith)))))
+        (λ (h : (q ≡ pool + 1) × (i < 0)). absurd (let l = h.1 in omega arith))
+        (subst (λ (m : Spot). IsBefore q i m) (spot_same x.own.looked class c behind same few wide) seen))
+        (λ other. H.taken q c i is below (subst (λ (m : Spot). IsBefore q i m) (spot_other x.own.looked class c behind other) seen)))
+        H.free H)
 
   -- Free at the next place of the pool drawn
   module _ (place pool class cleared : ℕ) (is : x.seen.hunt ≡ Draws place pool class cleared) where
@@ -179,17 +178,17 @@ module _ (k : Config) (s : Words) (r : Rule k s) (id : ℕ) (hist : List Entry) 
         drawn_owned d l.domain l.class (sym drew.drawn_is ∙ (ap T.holder (sym here) ∙ l.owned_is)))
         (λ gt. let g : k.pools * 4096 < b = lt_of_not-le gt in let i : pool < k.pools = drew.inside in let same : b + z ≡ a = e in omega arith)
 
-    -- other pools' places stay
-    own_place_far : (a : ℕ) → pool * 4096 < a → a ≤ pool * 4096 + 4096 → (q c slot : ℕ) → T.holder q ≡ owned d c → slot < blocks_of c → place_in q c slot ≢ a
-    own_place_far a low high q c slot owned_is below e =
+    -- no place of an owned pool lies in it
+    place_far : (a : ℕ) → pool * 4096 < a → a ≤ pool * 4096 + 4096 → (q e c slot : ℕ) → T.holder q ≡ owned e c → slot < blocks_of c → place_in q c slot ≢ a
+    place_far a low high q e c slot owned_is below same_place =
         let y : ℕ = size_of c in
         let w : ℕ = slot * size_of c in
-        let few : c < class_count = (P.owned_by q d c owned_is).2 in
+        let few : c < class_count = (P.owned_by q e c owned_is).2 in
         let large : 4 ≤ y = size_least c few in
         let top : w + y ≤ 4096 = slot_inside c slot few below in
-        let same : q * 4096 + w + 1 ≡ a = e in
+        let same : q * 4096 + w + 1 ≡ a = same_place in
         let here : q ≡ pool = omega arith in
-        drawn_owned d d c (sym drew.drawn_is ∙ (ap T.holder (sym here) ∙ owned_is))
+        drawn_owned d e c (sym drew.drawn_is ∙ (ap T.holder (sym here) ∙ owned_is))
 
     module _ (some : cleared < blocks_of class) where
       abbrev A : ℕ
@@ -208,21 +207,27 @@ module _ (k : Config) (s : Words) (r : Rule k s) (id : ℕ) (hist : List Entry) 
       spot = let h = high in let i = drew.inside in let w : ℕ = k.domains * k.minor_words in let wide : length s.words ≡ table_words k = r.whole.wide in omega arith
 
       pub clears_rule : Rule k record { words = ws; homes = s.homes; views = set s.views id (one k hist (with_hunt x (Draws place pool class (cleared + 1)))) }
-      clears_rule = holds_again k s r id hist x at x.own.looked (Draws place pool class (cleared + 1)) x.seen.free ws T record {
-        runs = runs;
+      clears_rule = let controls = controls_kept k s r id hist x at ws (control_set k s.words A 0 (omega arith)) in holds_again k s r id hist x at x.own.looked (Draws place pool class (cleared + 1)) x.seen.free ws T record {
+        takes = takes;
+        known_free = known_free k s r id hist x at takes;
+        listed_same = control_set k s.words A 0 (omega arith) 6 (omega arith);
+        reserved = controls.reserved;
+        room = room_words k r.account.live r.account.pause T.stock s.words ws controls.counts r.whole.room;
+        unused = r.whole.unused;
         wide = length-set s.words (before_heap k + A) 0;
         phases = phases_same k r.account.pause s.words ws (control_set k s.words A 0 (omega arith)) r.whole.phases;
         want = control_set k s.words A 0 (omega arith) 0 (omega arith);
         endings = control_set k s.words A 0 (omega arith) 8 (omega arith);
         cycle = cycle_same k s.words ws (control_set k s.words A 0 (omega arith)) r.whole.cycle;
-        found = λ b q lives. let f = r.whole.found b q lives in found_beside k r.account.live r.account.live (state_of k r.account.log).graph (state_of k r.account.log).graph s.words A 0 b q (λ c o h. h) f f.there (far A low high b q lives);
+        found = λ b q lives. let f = r.whole.found b q lives in found_beside k r.account.live r.account.live (state_of k r.account.log).graph (state_of k r.account.log).graph s.words A 0 b q (more_same r.account.live) f f.there (far A low high b q lives);
         pools = pools_same k T s.words ws (control_set k s.words A 0 (omega arith)) P;
         drawers = r.whole.drawers;
         grid = record {
           lots = r.whole.grid.lots;
           places = λ q e c slot owned_is below. dite (ℕ_discrete (place_in q c slot) A)
               (λ same. inl (ap (at_address k ws) same ∙ get_or-set_same s.words (before_heap k + A) 0 0 spot))
-              (λ other. ⊎_elim (λ (z : at_address k s.words (place_in q c slot) ≡ 0). inl (stays k T s.words A 0 (place_in q c slot) other ∙ z)) (λ (z : (p : Place) × (r.account.live (place_in q c slot) ≡ Some p)). inr z) (r.whole.grid.places q e c slot owned_is below));
+              (λ other. ⊎_elim (λ (z : at_address k s.words (place_in q c slot) ≡ 0). inl (stays k T s.words A 0 (place_in q c slot) other ∙ z)) (λ z. inr z) (r.whole.grid.places q e c slot owned_is below));
+          spares = spares_stay k T r.account.live s.words A 0 (λ q e c slot owned_is below. place_far A low high q e c slot owned_is below) r.whole.grid;
         };
         makings = λ z p. making_beside k s.words A 0 z (λ j fits e. let i : pool < k.pools = drew.inside in let h : A ≤ pool * 4096 + 4096 = high in let n : ℕ = z.own.number * k.minor_words in let a : ℕ = A in let same : k.pools * 4096 + n + 1 + z.own.used + 1 + j ≡ a = e in omega arith) p;
         hunter = record {
@@ -243,7 +248,12 @@ module _ (k : Config) (s : Words) (r : Rule k s) (id : ℕ) (hist : List Entry) 
           };
           drawn_alone = λ q e. sym (ap drawn_in is) ∙ H.drawn_alone q e;
           free = λ f e. free_later k s.words ws (control_set k s.words A 0 (omega arith) 6 (omega arith)) (equal_le (control_set k s.words A 0 (omega arith) 7 (omega arith))) f (H.free f e);
-          taken = λ q c slot owned_is below seen e. H.taken q c slot owned_is below seen (sym (stays k T s.words A 0 (place_in q c slot) (own_place_far A low high q c slot owned_is below)) ∙ e);
+          taken = λ q c slot owned_is below seen e. H.taken q c slot owned_is below seen (sym (stays k T s.words A 0 (place_in q c slot) (place_far A low high q d c slot owned_is below)) ∙ e);
+          holds = H.holds;
+          prepared = H.prepared;
+          claims = H.claims;
+          supply = λ c few some. ⊎_elim (λ (u : DrawsFor c x.seen.hunt). inl (subst (DrawsFor c) is u))
+              (λ (l : Latest k T s.words d c). inr (latest_words k T s.words ws d c (λ q slot owned_is below. stays k T s.words A 0 (place_in q c slot) (place_far A low high q d c slot owned_is below)) l)) (H.supply c few some);
         };
         hunters = λ z other g. hunter_beside k T s.words A 0 P z (others_pool z other A low high) g.hunter;
       }
@@ -268,8 +278,30 @@ module _ (k : Config) (s : Words) (r : Rule k s) (id : ℕ) (hist : List Entry) 
     other_word : (j : ℕ) → j ≢ spot_owner → get_or words2 j 0 ≡ get_or s.words j 0
     other_word j differ = get_or-set_other s.words spot_owner j signed 0 differ
 
+    -- the domain drew it last for the class, and used none of its places
+    abbrev own_latest : ℕ → ℕ
+    own_latest = over class pool (T.stock.latest d)
+
+    abbrev own_used : ℕ → ℕ
+    own_used = over class 0 (T.stock.used d)
+
+    abbrev stock2 : Stock
+    stock2 = record T.stock { latest = over d own_latest T.stock.latest; used = over d own_used T.stock.used }
+
+    latest_here : stock2.latest d class ≡ pool
+    latest_here = ap (λ (f : ℕ → ℕ). f class) (over_here d own_latest T.stock.latest) ∙ over_here class pool (T.stock.latest d)
+
+    used_here : stock2.used d class ≡ 0
+    used_here = ap (λ (f : ℕ → ℕ). f class) (over_here d own_used T.stock.used) ∙ over_here class 0 (T.stock.used d)
+
+    latest_else : (c : ℕ) → c ≢ class → stock2.latest d c ≡ T.stock.latest d c
+    latest_else c other = ap (λ (f : ℕ → ℕ). f c) (over_here d own_latest T.stock.latest) ∙ over_else class pool (T.stock.latest d) c other
+
+    used_else : (c : ℕ) → c ≢ class → stock2.used d c ≡ T.stock.used d c
+    used_else c other = ap (λ (f : ℕ → ℕ). f c) (over_here d own_used T.stock.used) ∙ over_else class 0 (T.stock.used d) c other
+
     abbrev t2 : Tenancy
-    t2 = record { holder = over pool (owned d class) T.holder; asking = T.asking }
+    t2 = record { holder = over pool (owned d class) T.holder; asking = T.asking; prepared = T.prepared; stock = stock2 }
 
     here2 : t2.holder pool ≡ owned d class
     here2 = over_here pool (owned d class) T.holder
@@ -295,13 +327,60 @@ module _ (k : Config) (s : Words) (r : Rule k s) (id : ℕ) (hist : List Entry) 
     owned_not_drawn : (b c e : ℕ) → ◌≡◌ {A = Holder} (owned b c) (drawn e) → ⊥
     owned_not_drawn b c e h = cc
 
+    -- a listed pool that is nobody's isn't this one
+    nobody_still : (i : ℕ) → i < listed words2 → T.holder (listed_pool s.words i) ≡ nobody → t2.holder (listed_pool words2 i) ≡ nobody
+    nobody_still i h u = ap t2.holder (names2 i h) ∙ (else2 (listed_pool s.words i) (λ e. no_nobody (sym all_clear.drawn_is ∙ (ap T.holder (sym e) ∙ u))) ∙ u)
+
+    owned_still : (q c : ℕ) → T.holder q ≡ owned d c → t2.holder q ≡ owned d c
+    owned_still q c e = else2 q (λ same. drawn_owned d d c (sym all_clear.drawn_is ∙ (ap T.holder (sym same) ∙ e))) ∙ e
+
+    counts2 : (listed words2 ≡ listed s.words) × (cursor words2 ≡ cursor s.words)
+    counts2 = (agrees.count, cursor2)
+
+    room2 : Room k r.account.live r.account.pause stock2 words2
+    room2 = let w = room_words k r.account.live r.account.pause T.stock s.words words2 (λ _. counts2) r.whole.room in record { fills = w.fills; fit = w.fit; claims = w.claims; listed_copies = w.listed_copies; left = w.left }
+
+    unused2 : IsUnused r.account.pause stock2
+    unused2 rests = ap (λ (z : Stock). record z { latest = stock2.latest; used = stock2.used }) (r.whole.unused rests)
+
+    -- all places of the pool are free
+    latest2 : (c : ℕ) → c ≡ class → Latest k t2 words2 d c
+    latest2 c same = subst (Latest k t2 words2 d) (sym same) record {
+      own_is = subst (λ (m : ℕ). t2.holder m ≡ owned d class) (sym latest_here) here2;
+      few = subst (λ (m : ℕ). m ≤ blocks_of class) (sym used_here) (let b : ℕ = blocks_of class in let o : 0 ≤ b = omega arith in o);
+      enough = subst (λ (m : ℕ). T.stock.drawn d class * blocks_of class + m ≤ T.stock.copies d class + blocks_of class) (sym used_here)
+          (let f : T.stock.drawn d class * blocks_of class ≤ T.stock.copies d class + blocks_of class = r.whole.room.fills d class in let u : ℕ = T.stock.drawn d class * blocks_of class in let v : ℕ = T.stock.copies d class + blocks_of class in let g : u ≤ v = f in let o : u + 0 ≤ v = omega arith in o);
+      rest = λ j from below. inl (subst (λ (m : ℕ). at_address k words2 (place_in m class j) ≡ 0) (sym latest_here) (agrees.heap (place_in pool class j) (omega arith) ∙ all_clear.free j below));
+    }
+
+    -- the pools drawn last for other classes stay so
+    latest_other : (c : ℕ) → c ≢ class → Latest k T s.words d c → Latest k t2 words2 d c
+    latest_other c other l =
+        let Rest : ℕ → ℕ → ℕ → Type 0 = (λ pool used j. (at_address k words2 (place_in pool c j) ≡ 0) ⊎ ((j ≡ used) × (T.prepared (place_in pool c j) ≡ Some d))) in record {
+          own_is = subst (λ (m : ℕ). t2.holder m ≡ owned d c) (sym (latest_else c other)) (owned_still (T.stock.latest d c) c l.own_is);
+          few = subst (λ (m : ℕ). m ≤ blocks_of c) (sym (used_else c other)) l.few;
+          enough = subst (λ (m : ℕ). T.stock.drawn d c * blocks_of c + m ≤ T.stock.copies d c + blocks_of c) (sym (used_else c other)) l.enough;
+          rest = λ j from inside. subst (λ (m : ℕ × ℕ). Rest m.0 m.1 j) (λ i. (sym (latest_else c other) i, sym (used_else c other) i))
+              (⊎_elim (λ (z : at_address k s.words (place_in (T.stock.latest d c) c j) ≡ 0). inl (agrees.heap (place_in (T.stock.latest d c) c j) (omega arith) ∙ z)) (λ (z : (j ≡ T.stock.used d c) × (T.prepared (place_in (T.stock.latest d c) c j) ≡ Some d)). inr z)
+              (l.rest j (subst (λ (m : ℕ). m ≤ j) (used_else c other) from) inside));
+        }
+
+    -- a place of an own pool was so before, or lies in this one, whose places are free, so it isn't prepared
+    owned_was : (q c : ℕ) → q ≢ pool → t2.holder q ≡ owned d c → T.holder q ≡ owned d c
+    owned_was q c other e = sym (else2 q other) ∙ e
+
+    unprepared2 : (q c slot : ℕ) → t2.holder q ≡ owned d c → slot < blocks_of c → T.prepared (place_in q c slot) ≡ Some d → q ≢ pool
+    unprepared2 q c slot owned_is below prep same =
+        let class_is : class ≡ c = (owned_same d d class c (sym here2 ∙ (ap t2.holder (sym same) ∙ owned_is))).1 in
+        let free : at_address k s.words (place_in pool c slot) ≡ 0 = subst (λ (m : ℕ). at_address k s.words (place_in pool m slot) ≡ 0) class_is (all_clear.free slot (subst (λ (m : ℕ). slot < blocks_of m) (sym class_is) below)) in
+        (r.whole.grid.spares (place_in q c slot) d prep).head (ap (λ (m : ℕ). at_address k s.words (place_in m c slot)) same ∙ free)
+
     pools2 : Pools k t2 words2
     pools2 = record {
       few = subst (λ (m : ℕ). m ≤ k.pools) (sym agrees.count) P.few;
       inside = λ i h. subst (λ (q : ℕ). q < k.pools) (sym (names2 i h)) (P.inside i (lower2 i h));
       once = λ i j h g e. P.once i j (lower2 i h) (lower2 j g) (sym (names2 i h) ∙ (e ∙ names2 j g));
-      untaken = λ i h g. let u = P.untaken i (lower2 i h) (subst (λ (m : ℕ × ℕ). (m.0 ≤ i) ⊎ (limit_of k m.1 ≤ i)) (λ j. (cursor2 j, agrees.count j)) g) in
-          ap t2.holder (names2 i h) ∙ (else2 (listed_pool s.words i) (λ e. no_nobody (sym all_clear.drawn_is ∙ (ap T.holder (sym e) ∙ u))) ∙ u);
+      untaken = λ i h g. nobody_still i h (P.untaken i (lower2 i h) (subst (λ (m : ℕ). m ≤ i) cursor2 g));
       owners = λ q h. dite (ℕ_discrete q pool)
           (λ same. ap (owner_of k words2) same ∙ (get_or-set_same s.words spot_owner signed 0 long2 ∙ (sym (ap owner_word here2) ∙ ap (λ (m : ℕ). owner_word (t2.holder m)) (sym same))))
           (λ other. other_word (11 + k.pools + q) (λ e. let n : q ≢ pool = other in omega arith) ∙ (P.owners q h ∙ sym (ap owner_word (else2 q other))));
@@ -316,6 +395,9 @@ module _ (k : Config) (s : Words) (r : Rule k s) (id : ℕ) (hist : List Entry) 
       asked = subst (λ (m : ℕ). m + sum_of T.asking k.domains ≤ k.pools + k.domains) (sym cursor2) P.asked;
     }
 
+    stock_still : (e : ℕ) → e ≢ d → SameStock T.stock stock2 e
+    stock_still e other = record { drawn = refl; copies = refl; latest = over_else d own_latest T.stock.latest e other; used = over_else d own_used T.stock.used e other; claims = refl }
+
     abbrev from_here : Spot
     from_here = record { pool = pool; slot = 0 }
 
@@ -324,7 +406,12 @@ module _ (k : Config) (s : Words) (r : Rule k s) (id : ℕ) (hist : List Entry) 
 
     pub owns_rule : Rule k record { words = words2; homes = s.homes; views = set s.views id (one k hist (looked_to x class from_here (Fills pool class 0 []))) }
     owns_rule = holds_again k s r id hist x at looked2 (Fills pool class 0 []) x.seen.free words2 t2 record {
-      runs = runs;
+      takes = takes;
+      known_free = known_free k s r id hist x at takes;
+      listed_same = agrees.count;
+      reserved = λ keeps i h above. nobody_still i h (r.whole.reserved keeps i (lower2 i h) (subst (λ (m : ℕ). limit_of k m ≤ i) agrees.count above));
+      room = room2;
+      unused = unused2;
       wide = length-set s.words spot_owner signed;
       phases = phases_words k r.account.pause s.words words2 (other_word 1 (λ e. omega arith)) (other_word 2 (λ e. omega arith)) r.whole.phases;
       want = other_word 0 (λ e. omega arith);
@@ -332,10 +419,14 @@ module _ (k : Config) (s : Words) (r : Rule k s) (id : ℕ) (hist : List Entry) 
       cycle = let p = r.whole.cycle in record { armed_is = other_word 4 (λ e. omega arith) ∙ p.armed_is; colours_are = other_word 5 (λ e. omega arith) ∙ p.colours_are };
       found = found_agrees k r.account.live (state_of k r.account.log).graph s.words words2 agrees r.whole.placed r.whole.found;
       pools = pools2;
-      drawers = λ q e h. dite (ℕ_discrete q pool)
-          (λ same. absurd (owned_not_drawn d class e (sym here2 ∙ (ap t2.holder (sym same) ∙ h))))
-          (λ other. r.whole.drawers q e (sym (else2 q other) ∙ h));
-      grid = grid_over T pool (owned d class) T.asking k r.account.live s.words words2 agrees (λ e c h. drawn_owned d e c (sym all_clear.drawn_is ∙ h))
+      drawers = record {
+        drawn = λ q e h. dite (ℕ_discrete q pool)
+            (λ same. absurd (owned_not_drawn d class e (sym here2 ∙ (ap t2.holder (sym same) ∙ h))))
+            (λ other. r.whole.drawers.drawn q e (sym (else2 q other) ∙ h));
+        prepared = r.whole.drawers.prepared;
+        claims = r.whole.drawers.claims;
+      };
+      grid = grid_over T pool (owned d class) T.asking stock2 k r.account.live s.words words2 agrees (λ e c h. drawn_owned d e c (sym all_clear.drawn_is ∙ h))
           (λ e c slot h below. let o = owned_same d e class c h in
           subst (λ (m : ℕ). at_address k s.words (place_in pool m slot) ≡ 0) o.1 (all_clear.free slot (subst (λ (m : ℕ). slot < blocks_of m) (sym o.1) below))) r.whole.grid;
       makings = λ z p. making_agrees k s.words words2 z agrees p;
@@ -365,9 +456,14 @@ module _ (k : Config) (s : Words) (r : Rule k s) (id : ℕ) (hist : List Entry) 
             let full : k.pools ≤ (spot_at x.own.looked c).pool = subst (λ (m : ℕ). k.pools ≤ (spot_at x.own.looked m).pool) (sym same) none_free in
             let w : ℕ = (spot_at x.own.looked c).pool in let g : q < w = omega arith in g)) unset)
             (λ differ. H.taken q c slot own_before below (subst (λ (m : Spot). IsBefore q slot m) (spot_other x.own.looked class c from_here differ) seen) unset));
+        holds = λ c a few e. let u = H.holds c a few e in (u.0, (u.1.0, u.1.1, owned_still u.1.0 c u.1.2, u.1.3, u.1.4));
+        prepared = λ q c slot owned_is below e. H.prepared q c slot (owned_was q c (unprepared2 q c slot owned_is below e) owned_is) below e;
+        claims = H.claims;
+        supply = λ c few some. inr (dite (ℕ_discrete c class) (λ same. latest2 c same)
+            (λ other. latest_other c other (⊎_elim (λ (u : DrawsFor c x.seen.hunt). absurd (other (sym (subst (DrawsFor c) is u)))) (λ (l : Latest k T s.words d c). l) (H.supply c few some))));
       };
       hunters = λ z other g. hunter_agree k T t2 s.words words2 agrees z (equal_le cursor2)
-          (same_over T pool (owned d class) T.asking z.own.number (let e : d ≢ z.own.number = (λ m. other (sym m)) in record { not_drawn = λ m. (drawn_not d z.own.number e).not_drawn (sym all_clear.drawn_is ∙ m); not_owned = λ c m. drawn_owned d z.own.number c (sym all_clear.drawn_is ∙ m) }) (owned_not d class z.own.number (λ m. other (sym m))) refl) g.hunter;
+          (same_over T pool (owned d class) T.asking stock2 z.own.number (let e : d ≢ z.own.number = (λ m. other (sym m)) in record { not_drawn = λ m. (drawn_not d z.own.number e).not_drawn (sym all_clear.drawn_is ∙ m); not_owned = λ c m. drawn_owned d z.own.number c (sym all_clear.drawn_is ∙ m) }) (owned_not d class z.own.number (λ m. other (sym m))) refl (stock_still z.own.number other)) g.hunter;
     }
 
   -- a word behind the head's of the place taken
@@ -473,14 +569,19 @@ module _ (k : Config) (s : Words) (r : Rule k s) (id : ℕ) (hist : List Entry) 
       below_end = let y : ℕ = size_of class in let f : m + 1 < y = room in let p : ℕ = place_in pool class slot in let g : p + 1 + m < p + y = omega arith in g
 
       pub fills_rule : Rule k record { words = ws3; homes = s.homes; views = set s.views id (one k hist (with_hunt x (Fills pool class slot (made ++ new ∷ [])))) }
-      fills_rule = holds_again k s r id hist x at x.own.looked (Fills pool class slot (made ++ new ∷ [])) x.seen.free ws3 T record {
-        runs = runs;
+      fills_rule = let controls = controls_kept k s r id hist x at ws3 (control_set k s.words B new (omega arith)) in holds_again k s r id hist x at x.own.looked (Fills pool class slot (made ++ new ∷ [])) x.seen.free ws3 T record {
+        takes = takes;
+        known_free = known_free k s r id hist x at takes;
+        listed_same = control_set k s.words B new (omega arith) 6 (omega arith);
+        reserved = controls.reserved;
+        room = room_words k r.account.live r.account.pause T.stock s.words ws3 controls.counts r.whole.room;
+        unused = r.whole.unused;
         wide = length-set s.words (before_heap k + B) new;
         phases = phases_same k r.account.pause s.words ws3 (control_set k s.words B new (omega arith)) r.whole.phases;
         want = control_set k s.words B new (omega arith) 0 (omega arith);
         endings = control_set k s.words B new (omega arith) 8 (omega arith);
         cycle = cycle_same k s.words ws3 (control_set k s.words B new (omega arith)) r.whole.cycle;
-        found = λ b q lives. let f = r.whole.found b q lives in found_beside k r.account.live r.account.live (state_of k r.account.log).graph (state_of k r.account.log).graph s.words B new b q (λ c o h. h) f f.there
+        found = λ b q lives. let f = r.whole.found b q lives in found_beside k r.account.live r.account.live (state_of k r.account.log).graph (state_of k r.account.log).graph s.words B new b q (more_same r.account.live) f f.there
             (λ z inside e. let n : ℕ = extent q.shape in let p : ℕ = place_in pool class slot in let y : ℕ = size_of class in let i : z < n = inside in let same : b + z ≡ p + 1 + m = e in let f : m + 1 < y = room in
             ⊎_elim (λ (h : b + n ≤ p). omega arith) (λ (h : p + y ≤ b). omega arith) (live_far b q lives));
         pools = pools_same k T s.words ws3 (control_set k s.words B new (omega arith)) P;
@@ -489,7 +590,8 @@ module _ (k : Config) (s : Words) (r : Rule k s) (id : ℕ) (hist : List Entry) 
           lots = r.whole.grid.lots;
           places = λ q e c i owned_is below. ⊎_elim
               (λ (z : at_address k s.words (place_in q c i) ≡ 0). inl (stays k T s.words B new (place_in q c i) (inner_far q e c i owned_is below B above_head below_end) ∙ z))
-              (λ (z : (p : Place) × (r.account.live (place_in q c i) ≡ Some p)). inr z) (r.whole.grid.places q e c i owned_is below);
+              (λ z. inr z) (r.whole.grid.places q e c i owned_is below);
+          spares = spares_stay k T r.account.live s.words B new (λ q e c i owned_is below. inner_far q e c i owned_is below B above_head below_end) r.whole.grid;
         };
         makings = λ z p. making_beside k s.words B new z (λ j fits e. let i : pool < k.pools = (P.owned_by pool d class filling.own_is).0 in let h : B ≤ pool * 4096 + 4096 = fill_high in let n : ℕ = z.own.number * k.minor_words in let a : ℕ = B in let same : k.pools * 4096 + n + 1 + z.own.used + 1 + j ≡ a = e in omega arith) p;
         hunter = record {
@@ -506,6 +608,11 @@ module _ (k : Config) (s : Words) (r : Rule k s) (id : ℕ) (hist : List Entry) 
           drawn_alone = λ q e. sym (ap drawn_in is) ∙ H.drawn_alone q e;
           free = λ f e. free_later k s.words ws3 (control_set k s.words B new (omega arith) 6 (omega arith)) (equal_le (control_set k s.words B new (omega arith) 7 (omega arith))) f (H.free f e);
           taken = λ q c i owned_is below seen e. H.taken q c i owned_is below seen (sym (stays k T s.words B new (place_in q c i) (inner_far q d c i owned_is below B above_head below_end)) ∙ e);
+          holds = H.holds;
+          prepared = H.prepared;
+          claims = H.claims;
+          supply = λ c few some. ⊎_elim (λ (u : DrawsFor c x.seen.hunt). absurd (draws_none c x.seen.hunt (ap drawn_in is) u))
+              (λ (l : Latest k T s.words d c). inr (latest_words k T s.words ws3 d c (λ q i owned_is below. stays k T s.words B new (place_in q c i) (inner_far q d c i owned_is below B above_head below_end)) l)) (H.supply c few some);
         };
         hunters = λ z other g. hunter_beside k T s.words B new P z (others_beside z other B fill_low fill_high) g.hunter;
       } where

@@ -1,10 +1,12 @@
 -- Steps by which domain 0 writes the list of free pools anew, in an odd phase.
-use Rattle.std.specs.Prelude.{◌≡◌, ℕ, ◌+◌, ◌<◌, ◌==◌, if◌then◌else◌, true, false, List, [], ◌∷◌, ◌++◌, length, Option, Some, None}
+use Rattle.std.specs.Prelude.{◌≡◌, ℕ, ◌+◌, ◌<◌, ◌≤◌, ◌==◌, if◌then◌else◌, true, false, List, [], ◌∷◌, ◌++◌, length, Option, Some, None}
 use Rattle.heap_rule.specs.declared.config.Config.{Config}
-use Rattle.heap_rule.specs.declared.phase.Kind.{Kind}
+use Rattle.heap_rule.specs.declared.phase.Kind.TheVariants.{Run, Reset}
+use Rattle.heap_rule.specs.declared.phase.Note.TheVariants.{SetBack}
 use Rattle.heap_rule.specs.declared.phase.Stage.TheVariants.{Leads}
 use Rattle.heap_rule.specs.declared.view.DomainView.{DomainView}
 use Rattle.heap_rule.specs.declared.view.Listing.{Listing}
+use Rattle.heap_rule.specs.Pools.{limit_of}
 
 -- the pools, numbered from q on, whose owner words say nobody, rising
 unfoldable pub free_from : ℕ → List ℕ → List ℕ
@@ -39,11 +41,10 @@ set_back l = record l { rewound = true }
 abbrev pub listed_as : ℕ → Listing → Listing
 listed_as count l = record l { listed = count }
 
--- domain 0 acts in an odd phase, and hasn't named the next kind
+-- domain 0 acts in the odd phase after Reset, and hasn't named the next kind
 pub record IsLeader (x : DomainView) : Type 0 where
   pub first : x.own.number ≡ 0
-  pub last : Kind
-  pub stage : x.seen.stage ≡ Leads last
+  pub stage : x.seen.stage ≡ Leads Reset
 
 -- no pool is listed, no owner word is found and no place of the list is written so far
 abbrev pub no_listing : Listing
@@ -51,6 +52,37 @@ no_listing = record { owners = []; names = []; rewound = false; listed = 0 }
 
 abbrev pub EmptiedTold : DomainView → ℕ → DomainView → Type 0
 EmptiedTold x new y = y ≡ with_listing x (Some no_listing)
+
+-- domain 0 acts in the first phase of a pause, and hasn't named the next kind
+pub record IsOpener (x : DomainView) : Type 0 where
+  pub first : x.own.number ≡ 0
+  pub stage : x.seen.stage ≡ Leads Run
+
+-- a load of the number of listed pools
+pub record CountedTold (k : Config) (x : DomainView) (found : ℕ) (y : DomainView) : Type 0 where
+  pub few : found ≤ k.pools
+  pub view : y ≡ with_listing x (Some (listed_as found no_listing))
+
+-- so many pools are listed, and the cursor wasn't set to 0
+pub record HasCounted (x : DomainView) (count : ℕ) : Type 0 where
+  pub opener : IsOpener x
+  pub list : Listing
+  pub listing : x.seen.listing ≡ Some list
+  pub kept : list.rewound ≡ false
+  pub count_is : list.listed ≡ count
+
+-- the domain notes that it has set the cursor back
+abbrev pub noted_set_back : DomainView → DomainView
+noted_set_back x = record x { seen = record x.seen { notes = x.seen.notes ++ SetBack ∷ [] } }
+
+-- a load of the cursor: up to the limit it need not be set back
+pub record CursorLookTold (k : Config) (count : ℕ) (x : DomainView) (found : ℕ) (y : DomainView) : Type 0 where
+  pub low : found ≤ limit_of k count → y ≡ noted_set_back x
+  pub high : limit_of k count < found → y ≡ x
+
+-- a store of the limit into the cursor
+abbrev pub CursorCutTold : DomainView → ℕ → DomainView → Type 0
+CursorCutTold x new y = y ≡ noted_set_back x
 
 -- domain 0 writes the list, and no pool is listed
 pub record Empties (x : DomainView) : Type 0 where

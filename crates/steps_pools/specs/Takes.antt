@@ -1,6 +1,6 @@
 -- Steps that take a free block of the pools, and make a block there.
 use Rattle.heap_model.specs.Domains.{class_count}
-use Rattle.std.specs.Prelude.{◌≡◌, ◌≢◌, ℕ, ◌+◌, ◌-◌, ◌^◌, ◌<◌, ◌≤◌, false, List, [], ◌∷◌, ◌++◌, length, replicate, slice_set, Some, None}
+use Rattle.std.specs.Prelude.{◌≡◌, ◌≢◌, ℕ, ◌+◌, ◌*◌, ◌-◌, ◌^◌, ◌<◌, ◌≤◌, false, List, [], ◌∷◌, ◌++◌, length, replicate, slice_set, Some, None}
 use Rattle.heap_model.specs.declared.command.Command.TheVariants.{AllocMaj}
 use Rattle.heap_model.specs.declared.entry.Entry.{Entry}
 use Rattle.heap_model.specs.declared.entry.Entry.TheVariants.{Command}
@@ -15,10 +15,13 @@ use Rattle.heap_rule.specs.declared.view.DomainView.{DomainView}
 use Rattle.heap_rule.specs.declared.view.Hunt.{Hunt}
 use Rattle.heap_rule.specs.declared.view.Hunt.TheVariants.{Rests, Counts, Draws, Walks, Fills}
 use Rattle.heap_rule.specs.declared.view.Spot.{Spot}
+use Rattle.heap_rule.specs.declared.phase.Kind.TheVariants.{Promote}
+use Rattle.heap_rule.specs.declared.phase.Stage.TheVariants.{In}
+use Rattle.heap_rule.specs.Copies.{known}
 use Rattle.heap_rule.specs.Limits.{sizes_in}
-use Rattle.heap_rule.specs.Places.{IsNewHead}
+use Rattle.heap_rule.specs.Places.{Place, IsNewHead}
 use Rattle.heap_rule.specs.Changes.{changed, FitChanges}
-use Rattle.heap_rule.specs.Pools.{size_of, blocks_of, place_in, owner_word, owned, limit_of, drawn_in, spot_at, hunting_free, hunting}
+use Rattle.heap_rule.specs.Pools.{size_of, blocks_of, place_in, owner_word, owned, limit_of, drawn_in, prepared_at, spot_at, hunting_free, hunting}
 use Rattle.heap_rule.specs.Token.{next_label}
 use Rattle.heap_rule.specs.Standing.{Acts}
 use Rattle.heap_rule.specs.Token.{Holds}
@@ -65,6 +68,26 @@ pub record CursorAddTold (k : Config) (count class : ℕ) (x : DomainView) (foun
   pub below : found < limit_of k count → Drew k found class x y
   pub past : limit_of k count ≤ found → y ≡ found_free x (count - limit_of k count) Rests
 
+-- the domain has met a block of a minor area
+pub record HasYoung (k : Config) (x : DomainView) : Type 0 where
+  pub address : ℕ
+  pub block : Place
+  pub met : known x.seen.copying.met address ≡ Some block
+  pub young : k.pools * 4096 < address
+
+-- a domain that copies young blocks and has met one in a minor area, and of whose own pools of the class no place is free or prepared, draws a pool
+pub record CopyDrawMay (k : Config) (x : DomainView) (class : ℕ) : Type 0 where
+  pub stage : x.seen.stage ≡ In Promote
+  pub at_rest : HasNoDraw x
+  pub of_class : class < class_count
+  pub none_free : NoneFree k x class
+  pub unprepared : prepared_at x.own.prepared class ≡ None
+  pub young : HasYoung k x
+
+-- it draws one whatever the cursor was
+abbrev pub CopyDrawTold : Config → ℕ → DomainView → ℕ → DomainView → Type 0
+CopyDrawTold k class x found y = Drew k found class x y
+
 -- a load of the list at the place drawn
 pub record ListMay (k : Config) (x : DomainView) (at : ℕ) : Type 0 where
   pub place : ℕ
@@ -104,8 +127,9 @@ pub record OwnerMay (k : Config) (x : DomainView) (at new pool class : ℕ) : Ty
   pub none_free : NoneFree k x class
 
 -- the pool is the domain's, and its first place is taken
-abbrev pub OwnedTold : ℕ → ℕ → DomainView → ℕ → DomainView → Type 0
-OwnedTold pool class x new y = y ≡ looked_to x class (record { pool = pool; slot = 0 }) (Fills pool class 0 [])
+pub record OwnedTold (pool class : ℕ) (x : DomainView) (new : ℕ) (y : DomainView) : Type 0 where
+  pub wide : length x.own.looked ≡ class_count
+  pub view : y ≡ looked_to x class (record { pool = pool; slot = 0 }) (Fills pool class 0 [])
 
 -- a load of the owner of the pool in which the places of the class are looked at next
 pub record OwnerLoadMay (k : Config) (x : DomainView) (at pool class : ℕ) : Type 0 where

@@ -7,9 +7,12 @@ mod listing;
 mod taking;
 mod walking;
 
-pub use listing::{cursor_clear, list_store, listed_clear, listed_store, owner_look};
+pub use listing::{
+    cursor_clear, cursor_cut, cursor_look, list_store, listed_clear, listed_look, listed_store,
+    owner_look,
+};
 pub use taking::{
-    clear_store, cursor_add, cursor_load, draw_limit, fill_store, free_load, head_store, list_load,
-    listed_load, owner_store,
+    clear_store, copy_draw, cursor_add, cursor_load, draw_limit, fill_store, free_load, head_store,
+    list_load, listed_load, owner_store,
 };
 pub use walking::{class_blocks, class_size, owner_load, owner_word, place_address, place_load};

@@ -1,9 +1,59 @@
-//! The writing of the list of free pools by domain 0, in an odd phase.
+//! The writing of the list of free pools, and the setting back of the cursor, by domain 0 in odd phases.
 ghost use Rattle.heap_rule.specs.Token.{IsIn};
-ghost use Rattle.steps_pools.specs.Listings.{IsLeader, Empties, EmptiedTold, LookMay, LookedTold, NameMay, NamedTold, SetBackTold, CloseMay, ListedAsTold};
+ghost use Rattle.std.specs.Prelude.{◌≡◌};
+ghost use Rattle.heap_rule.specs.Pools.{limit_of};
+ghost use Rattle.steps_pools.specs.Listings.{IsLeader, IsOpener, CountedTold, HasCounted, CursorLookTold, CursorCutTold, Empties, EmptiedTold, LookMay, LookedTold, NameMay, NamedTold, SetBackTold, CloseMay, ListedAsTold};
 
-use heap_rule::{CURSOR, Domain, Heap, LISTED, Leaving, raw_load, raw_store};
+use heap_rule::{CURSOR, Change, Domain, Heap, LISTED, Leaving, Own, Writing, raw_load, raw_store};
 use std::marker::Brand;
+
+// The token's own data stays as it is. How many pools are listed is there for the pick alone.
+#[derive(Clone, Copy)]
+struct Cutting {
+    count: u32,
+}
+
+impl Writing for Cutting {
+    ghost use Rattle.heap_rule.specs.Raw.{CanLeave, Leaves};
+
+    ghost can = { λ _ _ _ own. CanLeave own };
+
+    ghost writes = { λ _ _ _ own after. Leaves own after };
+
+    fn write(&self, _found: u64, _changes: &[Change], _own: &mut Own) {}
+}
+
+/// A load of the number of listed pools by domain 0, in the first phase of a pause. Answers it.
+pub fn listed_look(heap: &Heap, dom: &mut Domain) -> u64
+    requires here { IsIn dom.old heap.now }
+    requires opener { IsOpener dom.old.view }
+    ensures here { IsIn dom.new heap.now }
+    ensures told { CountedTold heap.now.config dom.old.view result dom.new.view }
+{
+    raw_load::<Brand, Leaving>(heap, dom, LISTED, &Leaving, &[])
+}
+
+/// A load of the cursor by domain 0. Where it is not above the limit, the domain notes that it need
+/// not be set back. Answers the cursor.
+pub fn cursor_look(heap: &Heap, dom: &mut Domain, count: u32) -> u64
+    requires here { IsIn dom.old heap.now }
+    requires counted { HasCounted dom.old.view count }
+    ensures here { IsIn dom.new heap.now }
+    ensures told { CursorLookTold heap.now.config count dom.old.view result dom.new.view }
+{
+    raw_load::<Brand, Cutting>(heap, dom, CURSOR, &Cutting { count }, &[])
+}
+
+/// Domain 0 sets the cursor to the limit.
+pub fn cursor_cut(heap: &Heap, dom: &mut Domain, count: u32, new: u64)
+    requires here { IsIn dom.old heap.now }
+    requires counted { HasCounted dom.old.view count }
+    requires limit { new ≡ limit_of heap.now.config count }
+    ensures here { IsIn dom.new heap.now }
+    ensures told { CursorCutTold dom.old.view new dom.new.view }
+{
+    raw_store::<Brand, Leaving>(heap, dom, CURSOR, new, &Leaving, &[]);
+}
 
 /// Domain 0 empties the list of free pools: none is listed.
 pub fn listed_clear(heap: &Heap, dom: &mut Domain)

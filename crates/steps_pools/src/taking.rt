@@ -6,9 +6,9 @@ ghost use Rattle.heap_rule.specs.declared.phase.Kind.TheVariants.{Run};
 ghost use Rattle.heap_rule.specs.declared.phase.Stage.TheVariants.{In};
 ghost use Rattle.heap_rule.specs.declared.view.Hunt.TheVariants.{Rests, Counts, Asks};
 ghost use Rattle.heap_rule.specs.Limits.{sizes_in};
-ghost use Rattle.heap_rule.specs.Pools.{limit_of};
+ghost use Rattle.heap_rule.specs.Pools.{Takes, limit_of};
 ghost use Rattle.heap_rule.specs.Standing.{IsInHeap};
-ghost use Rattle.steps_pools.specs.Takes.{HasNoDraw, ListedTold, CursorTold, CursorAddTold, ListMay, ListTold, ClearMay, ClearTold, OwnerMay, OwnedTold, FillMay, FillTold, MajorEntry, MajorTold};
+ghost use Rattle.steps_pools.specs.Takes.{HasNoDraw, ListedTold, CursorTold, CursorAddTold, CopyDrawMay, CopyDrawTold, ListMay, ListTold, ClearMay, ClearTold, OwnerMay, OwnedTold, FillMay, FillTold, MajorEntry, MajorTold};
 ghost use Rattle.heap_rule.specs.Token.{IsIn};
 
 use heap_rule::{
@@ -133,11 +133,22 @@ pub fn cursor_add(heap: &Heap, dom: &mut Domain, count: u32, class: u32) -> u64
     raw_add::<Brand, Asking>(heap, dom, CURSOR, 1, &Asking { count, class }, &[])
 }
 
+/// An add of 1 to the cursor by a domain that copies young blocks. A pool is always drawn. Answers what
+/// the cursor was, which is the pool's place in the list.
+pub fn copy_draw(heap: &Heap, dom: &mut Domain, class: u32) -> u64
+    requires here { IsIn dom.old heap.now }
+    requires may { CopyDrawMay heap.now.config dom.old.view class }
+    ensures here { IsIn dom.new heap.now }
+    ensures told { CopyDrawTold heap.now.config class dom.old.view result dom.new.view }
+{
+    raw_add::<Brand, Asking>(heap, dom, CURSOR, 1, &Asking { count: 0, class }, &[])
+}
+
 /// A load of the list at the place drawn, `at` being the word's index. Answers the pool.
 pub fn list_load(heap: &Heap, dom: &mut Domain, at: u32) -> u64
     requires here { IsIn dom.old heap.now }
     requires may { ListMay heap.now.config dom.old.view at }
-    requires runs { dom.old.view.seen.stage ≡ In Run }
+    requires takes { Takes dom.old.view.seen.stage }
     ensures here { IsIn dom.new heap.now }
     ensures told { ListTold dom.old.view result dom.new.view }
 {
@@ -157,7 +168,7 @@ pub fn clear_store(
     requires here { IsIn dom.old heap.now }
     requires inside { IsInHeap heap.now.config at }
     requires may { ClearMay dom.old.view at new pool class slot }
-    requires runs { dom.old.view.seen.stage ≡ In Run }
+    requires takes { Takes dom.old.view.seen.stage }
     ensures here { IsIn dom.new heap.now }
     ensures told { ClearTold dom.old.view new dom.new.view }
 {
@@ -171,7 +182,7 @@ pub fn owner_store(heap: &Heap, dom: &mut Domain, at: u32, new: u64, pool: u32, 
     requires here { IsIn dom.old heap.now }
     requires inside { (pool < heap.now.config.pools) × (class < class_count) }
     requires may { OwnerMay heap.now.config dom.old.view at new pool class }
-    requires runs { dom.old.view.seen.stage ≡ In Run }
+    requires takes { Takes dom.old.view.seen.stage }
     ensures here { IsIn dom.new heap.now }
     ensures told { OwnedTold pool class dom.old.view new dom.new.view }
 {
@@ -184,7 +195,7 @@ pub fn fill_store(heap: &Heap, dom: &mut Domain, at: u32, new: u64)
     requires here { IsIn dom.old heap.now }
     requires inside { IsInHeap heap.now.config at }
     requires may { FillMay dom.old.view at }
-    requires runs { dom.old.view.seen.stage ≡ In Run }
+    requires takes { Takes dom.old.view.seen.stage }
     ensures here { IsIn dom.new heap.now }
     ensures told { FillTold dom.old.view new dom.new.view }
 {

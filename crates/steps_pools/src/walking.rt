@@ -1,9 +1,7 @@
 //! Looks at the places of the domain's own pools.
 ghost use Rattle.heap_model.specs.Domains.{class_count};
 ghost use Rattle.std.specs.Prelude.{◌≡◌, ◌≢◌, ◌+◌, ◌*◌, ◌<◌, ◌≤◌, true, false};
-ghost use Rattle.heap_rule.specs.declared.phase.Kind.TheVariants.{Run};
-ghost use Rattle.heap_rule.specs.declared.phase.Stage.TheVariants.{In};
-ghost use Rattle.heap_rule.specs.Pools.{size_of, blocks_of, place_in};
+ghost use Rattle.heap_rule.specs.Pools.{Takes, size_of, blocks_of, place_in};
 ghost use Rattle.heap_rule.specs.Standing.{IsInHeap};
 ghost use Rattle.steps_pools.specs.Takes.{OwnerLoadMay, OwnerTold, PlaceMay, PlaceTold};
 ghost use Rattle.heap_rule.specs.Token.{IsIn};
@@ -123,7 +121,7 @@ impl Writing for PassingPlace {
 pub fn owner_load(heap: &Heap, dom: &mut Domain, at: u32, pool: u32, class: u32) -> u64
     requires here { IsIn dom.old heap.now }
     requires may { OwnerLoadMay heap.now.config dom.old.view at pool class }
-    requires runs { dom.old.view.seen.stage ≡ In Run }
+    requires takes { Takes dom.old.view.seen.stage }
     ensures here { IsIn dom.new heap.now }
     ensures told { OwnerTold pool class dom.old.view result dom.new.view }
 {
@@ -137,7 +135,7 @@ pub fn place_load(heap: &Heap, dom: &mut Domain, at: u32, pool: u32, class: u32,
     requires inside { IsInHeap heap.now.config at }
     requires few { (class < class_count) × (slot < 1024) × (pool < heap.now.config.pools) }
     requires may { PlaceMay dom.old.view at pool class slot }
-    requires runs { dom.old.view.seen.stage ≡ In Run }
+    requires takes { Takes dom.old.view.seen.stage }
     ensures here { IsIn dom.new heap.now }
     ensures told { PlaceTold pool class slot dom.old.view result dom.new.view }
 {

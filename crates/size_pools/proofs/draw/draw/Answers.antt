@@ -1,21 +1,18 @@
-use Rattle.std.proofs.Common.{◌∙◌, ◌+◌, ◌*◌, ℕ, refl, ap}
-use Rattle.heap_rule.specs.declared.config.Config.{Config}
-use Rattle.heap_rule.specs.declared.view.DomainView.{DomainView}
-use Rattle.heap_rule.proofs.Classes.{some_block}
-use Rattle.size_pools.proofs.Searching.{drawn_took, owner_ready}
+use Rattle.std.proofs.Common.{inl}
+use Rattle.size_pools.proofs.Searching.{drew_drawn, hunted_takes, none_still, took_later, still_unreserved}
 use Rattle.size_pools.proofs.draw.draw.Goals as goal
 
-pub list_load-pool-requires-clause-may : goal.list_load-pool-requires-clause-may
-list_load-pool-requires-clause-may c = let d = c.in_ok-place.ensures.drew in record { place = c.in_ok-place.place; pool = d.pool; class = c.args.class; cleared = 0; hunt = ap (λ (z : DomainView). z.seen.hunt) d.view; word = refl; inside = d.listed_is }
+pub sign-requires-clause-drawn : goal.sign-requires-clause-drawn
+sign-requires-clause-drawn c = drew_drawn c.args.heap.now.config c.in_ok-place.place c.args.class c.args.dom.now.view c.draw_pool.new.dom.view c.in_ok-place.ensures.drew
 
-pub place_address-requires-clause-slot : goal.place_address-requires-clause-slot
-place_address-requires-clause-slot c = (some_block c.args.class c.requires.class).0
+pub sign-requires-clause-none_free : goal.sign-requires-clause-none_free
+sign-requires-clause-none_free c = none_still c.args.heap.now.config c.args.class c.args.dom.now.view c.draw_pool.new.dom.view c.in_ok-place.ensures.drew.looked c.requires.none_free
+
+pub sign-requires-clause-takes : goal.sign-requires-clause-takes
+sign-requires-clause-takes c = hunted_takes c.args.dom.now.view c.draw_pool.new.dom.view _ c.in_ok-place.ensures.drew.view (inl c.requires.runs)
 
 pub returns-clause-took : goal.returns-clause-took
-returns-clause-took c = drawn_took c.args.heap.now.config c.args.dom.now.view c.draw_pool.new.dom.view c.list_load-pool.new.dom.view c.clear.new.dom.view c.owner_store.new.dom.view
-    c.in_ok-place.place c.args.class c.list_load-pool.result c.place_address.result c.requires.class c.in_ok-place.ensures.drew c.list_load-pool.ensures.told c.clear.ensures.cleared c.owner_store.ensures.told c.place_address.ensures.value
+returns-clause-took c = took_later c.args.heap.now.config c.args.class c.sign.result c.args.dom.now.view c.draw_pool.new.dom.view c.sign.new.dom.view _ c.in_ok-place.ensures.drew.view c.sign.ensures.took
 
-pub owner_store-requires-clause-may : goal.owner_store-requires-clause-may
-owner_store-requires-clause-may c = owner_ready c.args.heap.now.config c.args.dom.now.view c.draw_pool.new.dom.view c.list_load-pool.new.dom.view c.clear.new.dom.view c.in_ok-place.place c.args.class c.list_load-pool.result _ _
-    c.in_ok-place.ensures.drew c.list_load-pool.ensures.told c.clear.ensures.cleared c.requires.none_free (ap (λ (k : Config). 11 + k.pools + c.list_load-pool.result) c.config-pools.ensures.value)
-    (c.owner_word-new.ensures ∙ ap (λ (n : ℕ). 16 * n + c.args.class + 1) c.number.ensures.value)
+pub returns-clause-unreserved : goal.returns-clause-unreserved
+returns-clause-unreserved c = still_unreserved c.args.heap.now.config c.draw_pool.new.dom.view c.sign.new.dom.view c.sign.ensures.free c.in_ok-place.ensures.drew.unreserved

@@ -6,7 +6,7 @@ use Rattle.steps_pools.proofs.TakeSteps.{clear_may}
 use Rattle.steps_pools.proofs.taking.clear_store.Goals as goal
 
 pub raw_store-requires-clause-may : goal.raw_store-requires-clause-may
-raw_store-requires-clause-may c = clear_may c.args.heap.now.config c.args.dom.now.view c.requires.runs c.index_of-index.result c.args.at c.args.new c.args.pool c.args.class c.args.slot c.index_of-index.ensures c.requires.may
+raw_store-requires-clause-may c = clear_may c.args.heap.now.config c.args.dom.now.view c.requires.takes c.index_of-index.result c.args.at c.args.new c.args.pool c.args.class c.args.slot c.index_of-index.ensures c.requires.may
 
 pub raw_store-requires-clause-closes : goal.raw_store-requires-clause-closes
 raw_store-requires-clause-closes c = leaves_closes c.args.heap.now.config c.args.dom.now.view c.args.new ClearTold (λ y told. ap (λ (z : DomainView). z.own) told) (λ y told. front_same c.args.dom.now.view y (ap (λ (z : DomainView). z.seen.front) told))
