@@ -198,7 +198,7 @@ others_led t j next d arrivals (Leads kd) odd other few at = let i : ℕ = at.1.
 others_led t j next d arrivals (Led kd) odd other few at = absurd (other at.2)
 others_led t j next d arrivals (Gone kd) odd other few at = λ i e. over_else (j + 1) next t.kinds i (λ same. omega arith) ∙ at i e
 
--- between Promote and Run stays so
+-- when the next kind is named it stays so that nothing lives in minor areas
 resetting_led : (t : Pause) (j : ℕ) (next : Kind) → t.phase ≡ j * 2 + 1 → Resetting (record t { kinds = over (j + 1) next t.kinds; led = true }) → Resetting t
 resetting_led t j next odd h =
     let same : (i : ℕ) → t.phase ≡ i * 2 + 1 → over (j + 1) next t.kinds i ≡ t.kinds i = (λ i e. over_else (j + 1) next t.kinds i (λ up. omega arith)) in ⊎_elim
@@ -207,7 +207,7 @@ resetting_led t j next odd h =
     (λ (a : (i : ℕ) × (t.phase ≡ i * 2) × (over (j + 1) next t.kinds i ≡ Reset)). absurd (not_both t.phase (a.0, a.1) (j, odd)))
     (λ (a : (i : ℕ) × (t.phase ≡ i * 2 + 1) × (over (j + 1) next t.kinds i ≡ Reset)). inr (inr (a.0, a.1, sym (same a.0 a.1) ∙ a.2))) q) h
 
--- and whether the reserve is kept
+-- and the reserve is kept where it was
 keeps_led : (t : Pause) (j : ℕ) (next : Kind) → t.phase ≡ j * 2 + 1 → KeepsReserve (record t { kinds = over (j + 1) next t.kinds; led = true }) → KeepsReserve t
 keeps_led t j next odd h = ⊎_elim
     (λ (even : t.phase ≡ h.0 * 2). absurd (not_both t.phase (h.0, even) (j, odd)))
