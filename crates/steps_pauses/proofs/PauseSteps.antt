@@ -294,10 +294,7 @@ leads k slots id hist x new next may s r _ at _ =
           leader = λ i e a. refl;
         };
         staged = record { arrivals = g.staged.arrivals; stage = (before.0, (j, odd), may.leads, refl) };
-        unwished = λ i e l runs.
-            let same : i ≡ j = (let h : t.phase ≡ i * 2 + 1 = e in omega arith) in
-            let next_is : next ≡ Run = sym (over_here (j + 1) next t.kinds) ∙ (ap (λ (n : ℕ). over (j + 1) next t.kinds (n + 1)) (sym same) ∙ runs) in
-            same_want ∙ g.took_back may.last may.stage (may.took_back next_is);
+        unwished = λ i e l runs. same_want ∙ g.took_back may.last may.stage (may.took_back (sym (named i e) ∙ runs));
         took_back = λ kind leads last. absurd (led_leads next kind leads);
         others_took_back = λ z _ took kind leads last. same_want ∙ took kind leads last;
         others = λ z below other its. record {

@@ -58,7 +58,7 @@ ArrivesFrom d (Leads kind) = d ≢ 0
 ArrivesFrom d (Led kind) = Unit {0}
 ArrivesFrom d (Gone kind) = ⊥
 
--- A domain arrives in the middle of nothing. Where it leaves Promote it owes no copy a value, has looked through all its remembered fields, holds no address of a minor area and has no place prepared. Where it leaves Reset its minor area is empty
+-- A domain arrives while it takes no block and makes none. Where it leaves Promote it owes no copy a value, has looked through all its remembered fields, holds no address of a minor area and has no place prepared. Where it leaves Reset its minor area is empty
 pub record ArriveMay (k : Config) (x : DomainView) : Type 0 where
   pub at_rest : x.seen.hunt ≡ Rests
   pub idle : x.seen.made ≡ []
@@ -84,10 +84,11 @@ arrived_view x = record {
 abbrev pub Arrived : DomainView → ℕ → DomainView → Type 0
 Arrived x found y = y ≡ arrived_view x
 
--- one more arrival can be counted, and it is, and the list of copies is emptied
+-- one more arrival can be counted
 abbrev pub CanArrive : Own → Type 0
 CanArrive own = own.arrivals + 1 < 2 ^ 64
 
+-- it is counted, and the list of copies is emptied
 abbrev pub CountsArrival : Own → Own → Type 0
 CountsArrival own after = after ≡ record own { arrivals = own.arrivals + 1; pending = forgotten own.pending }
 
