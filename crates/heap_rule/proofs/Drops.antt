@@ -193,7 +193,7 @@ module _ (k : Config) (s : Words) (r : Rule k s) (id : ℕ) (hist : List Entry) 
     pub free : NoDebts r.account.live
     pub at_rest : (q d : ℕ) → r.account.tenancy.holder q ≡ drawn d → ⊥
     pub unprepared : (a d : ℕ) → r.account.tenancy.prepared a ≡ Some d → ⊥
-    pub no_claims : (d : ℕ) → d ≢ x.own.number → r.account.tenancy.stock.claims d ≡ 0
+    pub no_claims : (d : ℕ) → d < k.domains → d ≢ x.own.number → r.account.tenancy.stock.claims d ≡ 0
     pub unwished : Unwished pause' words'
     pub took_back : TookBack words' y
     pub others_took_back : (z : DomainView) → Staged r.account.pause z → TookBack s.words z → TookBack words' z
@@ -290,7 +290,7 @@ module _ (k : Config) (s : Words) (r : Rule k s) (id : ℕ) (hist : List Entry) 
           free = zh.free;
           holds = zh.holds;
           prepared = zh.prepared;
-          claims = zh.claims ∙ o.no_claims z.own.number other;
+          claims = zh.claims ∙ o.no_claims z.own.number below other;
           supply = λ c few some. absurd (let h : 0 < 0 = some in omega arith);
         };
         resting = resting_untouched k s.words words' z o.untouched h.resting;

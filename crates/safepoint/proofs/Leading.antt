@@ -1,14 +1,17 @@
 -- Domain 0 may name the next kind once it has taken the wishes back, where the domains run next.
-use Rattle.std.proofs.Common.{◌≡◌, ℕ, List, [], ◌∷◌, ◌++◌, Some, Option, sym, refl, ap, ◌∙◌, subst}
+use Rattle.std.proofs.Common.{◌≡◌, ℕ, List, ◌++◌, Some, true, length, sym, refl, ap, ◌∙◌, subst}
+use Rattle.std.proofs.lemmas.List.{append-nil}
+use Rattle.heap_rule.specs.declared.config.Config.{Config}
 use Rattle.heap_rule.specs.declared.view.DomainView.{DomainView}
 use Rattle.heap_rule.specs.declared.phase.Kind.{Kind}
 use Rattle.heap_rule.specs.declared.phase.Kind.TheVariants.{Run, Promote, Reset}
 use Rattle.heap_rule.specs.declared.phase.Note.{Note}
-use Rattle.heap_rule.specs.declared.phase.Note.TheVariants.{Cleared}
+use Rattle.heap_rule.specs.declared.phase.Note.TheVariants.{Cleared, SetBack}
 use Rattle.heap_rule.specs.declared.phase.Stage.TheVariants.{Leads}
 use Rattle.heap_rule.specs.Phases.{code, kind_at, Follows, last_note}
 use Rattle.heap_rule.proofs.Controls.{last_note_end}
 use Rattle.steps_pauses.specs.Pauses.{kind_in, LeadMay}
+use Rattle.steps_pools.specs.Listings.{HasList, free_pools}
 use Rattle.safepoint.specs.Looks.{cleared}
 
 -- the kind of a kind's word
@@ -21,9 +24,13 @@ kind_of_code Reset = refl
 took : (notes : List Note) (next : Kind) → next ≡ Run → last_note (notes ++ cleared next) ≡ Some Cleared
 took notes next runs = subst (λ (kind : Kind). last_note (notes ++ cleared kind) ≡ Some Cleared) (sym runs) (last_note_end notes Cleared)
 
-pub lead_may : (x y : DomainView) (word : ℕ) (next : Kind) → x.own.number ≡ 0 → x.seen.stage ≡ Leads (kind_in x.seen.stage) → Follows (kind_in x.seen.stage) next → word ≡ code next
+-- where domains copy next, the last note says that the cursor was set back
+back : (notes : List Note) (next : Kind) → next ≡ Promote → last_note notes ≡ Some SetBack → last_note (notes ++ cleared next) ≡ Some SetBack
+back notes next copies last = subst (λ (kind : Kind). last_note (notes ++ cleared kind) ≡ Some SetBack) (sym copies) (ap last_note (append-nil notes) ∙ last)
+
+pub lead_may : (k : Config) (x y : DomainView) (word : ℕ) (next : Kind) → x.own.number ≡ 0 → x.seen.stage ≡ Leads (kind_in x.seen.stage) → Follows (kind_in x.seen.stage) next → word ≡ code next → (next ≡ Run → HasList k x) → (next ≡ Promote → last_note x.seen.notes ≡ Some SetBack)
     → y ≡ record x { seen = record x.seen { notes = x.seen.notes ++ cleared next } } → LeadMay y word (kind_at word)
-lead_may x y word next first leads follows is view =
+lead_may k x y word next first leads follows is list set_back view =
     let kind : kind_at word ≡ next = ap kind_at is ∙ kind_of_code next in
     subst (λ (z : DomainView). LeadMay z word (kind_at word)) (sym view) (record {
       leads = first;
@@ -32,4 +39,6 @@ lead_may x y word next first leads follows is view =
       follows = subst (Follows (kind_in x.seen.stage)) (sym kind) follows;
       word = is ∙ ap code (sym kind);
       took_back = λ runs. took x.seen.notes next (sym kind ∙ runs);
+      rewound = λ runs. let l = list (sym kind ∙ runs) in (record { owners = l.owners; names = free_pools l.owners; rewound = true; listed = length (free_pools l.owners) }, l.listing, refl);
+      set_back = λ copies. let is = sym kind ∙ copies in back x.seen.notes next is (set_back is);
     })

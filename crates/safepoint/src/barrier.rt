@@ -1,10 +1,10 @@
 //! The steps of a pause, for a domain that takes turns.
-ghost use Rattle.std.specs.Prelude.{◌≡◌, ◌≤◌, ◌<◌, ◌^◌, ◌++◌, [], ◌∷◌};
+ghost use Rattle.std.specs.Prelude.{◌≡◌, ◌≤◌, ◌<◌, ◌^◌, ◌++◌, [], ◌∷◌, Some};
 ghost use Rattle.heap_rule.specs.declared.phase.Kind as kinds;
-ghost use Rattle.heap_rule.specs.declared.phase.Kind.TheVariants.{Run};
+ghost use Rattle.heap_rule.specs.declared.phase.Kind.TheVariants.{Run, Promote};
 ghost use Rattle.heap_rule.specs.declared.phase.Stage.TheVariants.{In, Leads};
 ghost use Rattle.heap_rule.specs.declared.phase.Note.TheVariants as note;
-ghost use Rattle.heap_rule.specs.Phases.{code, Follows};
+ghost use Rattle.heap_rule.specs.Phases.{code, Follows, last_note};
 ghost use Rattle.steps_pauses.specs.Pauses.{IsGone, ArriveMay, ClearMay, kind_in, noted, arrived_view};
 ghost use Rattle.heap_rule.specs.Token.{IsIn};
 ghost use Rattle.safepoint.specs.Looks.{bit_of, cleared, led_view, LookAnswers};
@@ -86,7 +86,7 @@ pub fn ask(heap: &Heap, dom: &mut Domain, want: Want)
 /// The domain arrives: its share of the phase is done.
 pub fn arrive(heap: &Heap, dom: &mut Domain)
     requires here { IsIn dom.old heap.now }
-    requires may { ArriveMay dom.old.view }
+    requires may { ArriveMay heap.now.config dom.old.view }
     ensures here { IsIn dom.new heap.now }
     ensures view { dom.new.view ≡ arrived_view dom.old.view }
 {
@@ -126,13 +126,15 @@ fn clear_for(heap: &Heap, dom: &mut Domain, next: Kind)
 }
 
 /// Domain 0 says in an odd phase which phase comes next. Before domains run again no wish is left, and
-/// the list of free pools has been written anew in this phase.
+/// the list of free pools has been written anew in this phase. Before they copy the cursor was just set
+/// back out of the reserve.
 pub fn lead(heap: &Heap, dom: &mut Domain, next: Kind)
     requires here { IsIn dom.old heap.now }
     requires leads { dom.old.view.own.number ≡ 0 }
     requires odd { dom.old.view.seen.stage ≡ Leads (kind_in dom.old.view.seen.stage) }
     requires follows { Follows (kind_in dom.old.view.seen.stage) next }
     requires list { next ≡ Run → HasList heap.now.config dom.old.view }
+    requires set_back { next ≡ Promote → last_note dom.old.view.seen.notes ≡ Some note.SetBack }
     ensures here { IsIn dom.new heap.now }
     ensures view { dom.new.view ≡ led_view dom.old.view next }
 {

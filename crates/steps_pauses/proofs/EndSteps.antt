@@ -1,6 +1,6 @@
 -- The end of a trace keeps the rule.
-use Rattle.std.proofs.Common.{◌≡◌, ◌≢◌, ℕ, zero, suc, ◌+◌, ◌%◌, ◌^◌, ◌<◌, ◌≤◌, false, ne_eqb, List, [], ◌∷◌, ◌++◌, length, get_or, set, replicate, sym, refl, ap, ◌∙◌, subst, arith, length-set, get_or-set_same, get_or-set_other, mod-eq_of_lt}
-use Rattle.atomic_table.specs.Table.{Me, keeps, Allows}
+use Rattle.std.proofs.Common.{◌≡◌, ◌≢◌, ℕ, zero, suc, ◌+◌, ◌%◌, ◌^◌, ◌<◌, ◌≤◌, false, ne_eqb, List, [], ◌∷◌, ◌++◌, length, get_or, set, replicate, sym, refl, ap, ◌∙◌, subst, arith, length-set, get_or-set_same, get_or-set_other, mod-eq_of_lt, inl}
+use Rattle.atomic_table.specs.Table.{keeps, Allows}
 use Rattle.heap_model.specs.declared.entry.Entry.{Entry}
 use Rattle.heap_model.specs.declared.entry.Entry.TheVariants.{End}
 use Rattle.heap_model.specs.declared.reply.Applied.TheVariants.{Silent}
@@ -18,7 +18,6 @@ use Rattle.heap_words.specs.declared.value.Value.{Value}
 use Rattle.heap_words.specs.declared.value.Value.TheVariants.{Nothing as NothingWord}
 use Rattle.heap_rule.specs.declared.config.Config.{Config}
 use Rattle.heap_rule.specs.declared.view.DomainView.{DomainView}
-use Rattle.heap_rule.specs.declared.view.View.{View}
 use Rattle.heap_rule.specs.Layout.{heap_words, before_heap, ended_word, want}
 use Rattle.heap_rule.specs.Places.{Stands}
 use Rattle.heap_rule.specs.Changes.{value_at}
@@ -27,10 +26,11 @@ use Rattle.steps_pauses.specs.Pauses.{end_changes, EndTold}
 use Rattle.heap_rule.specs.Raw.{MayStep}
 use Rattle.heap_rule.specs.Rule.{state_of, AllFound, Stood, Rule}
 use Rattle.heap_rule.specs.Standing.{Acts}
+use Rattle.heap_rule.specs.declared.phase.Kind.TheVariants.{Run}
 use Rattle.heap_rule.specs.Views.{one, Tells}
 use Rattle.heap_rule.proofs.Values.{AllStand}
-use Rattle.heap_rule.proofs.Keeps.{mine, my_good, remakes, knows_entry, after_entry, legal_entry, phases_words, stood_other, nobody_paused, run_still, staged_as, hunter_as, running_took_back, resting_runs, resting_other}
-use Rattle.heap_rule.proofs.Controls.{Untouched, found_untouched, making_untouched, pools_untouched, grid_untouched, hunter_untouched, cycle_untouched, sum_one}
+use Rattle.heap_rule.proofs.Keeps.{mine, my_good, remakes, knows_entry, after_entry, legal_entry, phases_words, stood_other, nobody_paused, run_still, staged_as, hunter_as, running_took_back, resting_runs, resting_other, room_words, opened_words, takes_drawable, owes_as, more_same, run_promoting, run_leads}
+use Rattle.heap_rule.proofs.Controls.{Untouched, found_untouched, making_untouched, pools_untouched, grid_untouched, hunter_untouched, cycle_untouched, reserved_untouched, counts_untouched, low_untouched, sum_one}
 use Rattle.heap_rule.proofs.Entering.{running, inside_state, registers_stand, Enters, entered_view, stood_after, enters}
 use Rattle.steps_pauses.proofs.PauseSteps.{over_few}
 
@@ -70,6 +70,7 @@ ends k slots id hist x acts s r _ at _ =
     let counts : ended_word ws ≡ sum_of (is_over (state_of k log')) k.domains =
     word' ∙ (ap (λ (n : ℕ). n + 1) r.whole.endings ∙ (sym (sum_one (is_over now) (is_over (next now e)) d k.domains me.inside own_over others_over) ∙ sym (ap (λ (t : model.State). sum_of (is_over t) k.domains) after))) in
     let same_want : want ws ≡ want s.words = get_or-set_other s.words 8 0 (w + 1) 0 (λ q. omega arith) in
+    let same_counts = counts_untouched s.words ws untouched in
     let prep = making_untouched k s.words ws x untouched g.making in
     let rule : Rule k record { words = ws; homes = s.homes; views = set s.views id (one k hist y) } = remakes k s r id hist x at y (record r.account { log = log' }) ws
     record {
@@ -78,34 +79,50 @@ ends k slots id hist x acts s r _ at _ =
       calm = subst IsCalm (sym after) o.calm;
       found = subst (λ (t : model.State). AllFound k r.account.live t.graph ws) (sym after) (subst (λ (graph : Graph). AllFound k r.account.live graph ws) (sym o.leaves.graph_is) (found_untouched k r.account.live now.graph s.words ws untouched r.whole.found));
       placed = r.whole.placed;
+      spread = r.whole.spread;
+      settled = r.whole.settled;
+      copies = r.whole.copies;
+      cleared = r.whole.cleared;
+      emptied = r.whole.emptied;
       phases = phases_words k r.account.pause s.words ws (get_or-set_other s.words 8 1 (w + 1) 0 (λ q. omega arith)) (get_or-set_other s.words 8 2 (w + 1) 0 (λ q. omega arith)) r.whole.phases;
       unwished = λ j odd led runs. same_want ∙ r.whole.unwished j odd led runs;
       endings = counts;
       pools = pools_untouched k r.account.tenancy s.words ws untouched r.whole.pools;
-      grid = grid_untouched k r.account.tenancy.holder r.account.live s.words ws untouched r.whole.grid;
+      reserved = reserved_untouched k r.account.pause r.account.tenancy s.words ws untouched r.whole.pools r.whole.reserved;
+      room = room_words k r.account.live r.account.pause r.account.tenancy.stock s.words ws (λ _. same_counts) r.whole.room;
+      unused = r.whole.unused;
+      opened = opened_words k r.account.live s.words ws (λ _ _ _ _. same_counts.0) r.whole.opened;
+      drawable = takes_drawable k r.account.pause ws x (inl acts.runs) g.staged;
+      grid = grid_untouched k r.account.tenancy r.account.live s.words ws untouched r.whole.grid;
       drawers = r.whole.drawers;
       cycle = cycle_untouched s.words ws untouched r.whole.cycle;
     }
     (knows_entry k s r id hist x at y e o.alone refl refl)
     record {
       stood = subst (λ (t : model.State). Stood r.account.live t y) (sym after) (stood_after k s r id hist x at acts now.graph e regs Silent y refl refl refl o);
-      area = record { room = g.area.room; free = g.area.free };
+      area = record { room = g.area.room; free = g.area.free; classes = g.area.classes };
       making = record { fits = prep.fits; written = prep.written };
       staged = staged_as r.account.pause x y refl refl refl g.staged;
       still = run_still log' y acts.runs;
-      hunter = hunter_as k r.account.tenancy ws x y refl refl refl refl (hunter_untouched k r.account.tenancy s.words ws x untouched g.hunter);
+      hunter = hunter_as k r.account.tenancy ws x y refl refl refl refl refl refl (hunter_untouched k r.account.tenancy s.words ws x untouched g.hunter);
       resting = resting_runs k s.words ws x y acts.runs acts.runs refl g.resting;
       took_back = running_took_back ws y acts.runs;
+      owes = owes_as k r.account.live x y refl refl refl refl g.owes;
+      rooted = λ h. absurd (run_promoting r.account.pause x acts.runs g.staged h);
+      set_back = λ back. absurd (run_leads Run (sym acts.runs ∙ back.0));
     }
     (λ z _ other h. record {
-      stood = subst (λ (t : model.State). Stood r.account.live t z) (sym after) (stood_other r.account.live r.account.live now (next now e) z (keeps_next now e z.own.number (o.alone z.own.number other)) (λ a p q. q) h.stood);
+      stood = subst (λ (t : model.State). Stood r.account.live t z) (sym after) (stood_other r.account.live r.account.live now (next now e) z (keeps_next now e z.own.number (o.alone z.own.number other)) (more_same r.account.live) h.stood);
       area = h.area;
       making = making_untouched k s.words ws z untouched h.making;
       staged = h.staged;
       still = λ paused. absurd (nobody_paused r.account.pause x z acts.runs g.staged h.staged paused);
       hunter = hunter_untouched k r.account.tenancy s.words ws z untouched h.hunter;
-      resting = resting_other k r.account.pause s.words ws x z acts.runs g.staged h.staged h.resting;
+      resting = resting_other k r.account.pause s.words ws x z (inl acts.runs) g.staged h.staged h.resting;
       took_back = λ kind leads last. same_want ∙ h.took_back kind leads last;
+      owes = h.owes;
+      rooted = h.rooted;
+      set_back = λ back. low_untouched k s.words ws untouched (h.set_back back);
     }) in (
       one k hist y,
       keeps,

@@ -1,3 +1,4 @@
 pub mod Plain
+mod Arrivals
 pub mod PauseSteps
 pub mod EndSteps

@@ -1,11 +1,9 @@
 -- What the steps of a pause tell of a token's own data.
-use Rattle.std.proofs.Common.{◌≡◌, ◌+◌, ◌*◌, ◌^◌, ◌<◌, lit<, ℕ, refl, sym, ap, ◌∙◌, subst, arith, lt_of_not-le, inl}
+use Rattle.std.proofs.Common.{◌≡◌, ◌+◌, ◌*◌, ◌^◌, ◌<◌, lit<, ℕ, sym, ap, ◌∙◌, subst, arith, lt_of_not-le, inl, length}
 use mathlib.Core.Logic.{dite}
 use native.Mathlib.Decide.{dec_le}
 use Rattle.heap_model.specs.declared.entry.Entry.TheVariants.{End}
 use Rattle.heap_model.specs.declared.reply.Applied.TheVariants.{Silent}
-use Rattle.heap_words.specs.declared.value.Value.{Value}
-use Rattle.heap_words.specs.declared.value.Value.TheVariants.{Nothing}
 use Rattle.heap_rule.specs.declared.change.Reading.TheVariants.{Unread}
 use Rattle.heap_rule.specs.declared.config.Config.{Config}
 use Rattle.heap_rule.specs.declared.view.Own.{Own}
@@ -13,7 +11,7 @@ use Rattle.heap_rule.specs.declared.view.DomainView.{DomainView}
 use Rattle.heap_rule.specs.Raw.{CanChange, Changes, Closes}
 use Rattle.heap_rule.specs.Token.{OwnFits}
 use Rattle.heap_rule.proofs.Plain.{entered_closes}
-use Rattle.steps_pauses.specs.Pauses.{ArriveMay, Arrived, LookTold, CanArrive, CountsArrival, EndTold, end_changes}
+use Rattle.steps_pauses.specs.Pauses.{ArriveMay, forgotten, Arrived, LookTold, CanArrive, CountsArrival, EndTold, end_changes}
 use Rattle.heap_rule.proofs.Closes.{front_same}
 use Rattle.heap_model.specs.Fronts.{IsFrontOf}
 
@@ -29,15 +27,18 @@ look_front k x found y told = dite (dec_le (x.own.arrivals * k.domains) found)
     (λ past. (told.begun past).seen)
     (λ not_past. front_same x y (ap (λ (z : DomainView). z.seen.front) (told.waits (lt_of_not-le not_past))))
 
+no_more : (n : ℕ) → n + 0 ≡ n
+no_more n = omega arith
+
 -- an arrival is counted
-pub arrived_closes : (k : Config) (x : DomainView) (found : ℕ) → ArriveMay x → Closes k x found Arrived CanArrive CountsArrival
+pub arrived_closes : (k : Config) (x : DomainView) (found : ℕ) → ArriveMay k x → Closes k x found Arrived CanArrive CountsArrival
 arrived_closes k x found may y fits told =
-    let own : y.own ≡ record x.own { arrivals = x.own.arrivals + 1 } = ap (λ (z : DomainView). z.own) told in
+    let own : y.own ≡ record x.own { arrivals = x.own.arrivals + 1; pending = forgotten x.own.pending } = ap (λ (z : DomainView). z.own) told in
     let n : ℕ = x.own.arrivals in
     let few : n < 2 ^ 60 = may.few in record {
       can_write = let g : n + 1 < 2 ^ 64 = omega arith in g;
       written = λ after is. own ∙ sym is;
-      fits = subst (OwnFits k) (sym own) record { number = fits.number; used = fits.used; registers = fits.registers; looked = fits.looked };
+      fits = subst (OwnFits k) (sym own) record { number = fits.number; used = fits.used; registers = fits.registers; looked = fits.looked; prepared = fits.prepared; pending = no_more (x.own.pending.room + length x.own.pending.items) ∙ fits.pending };
       once = λ _. inl (record { front = front_same x y (ap (λ (z : DomainView). z.seen.front) told); registers = ap (λ (o : Own). o.registers) own; used = ap (λ (o : Own). o.used) own; serial = ap (λ (o : Own). o.serial) own });
     }
 

@@ -1,5 +1,6 @@
 -- What the steps of a pause ask and tell.
-use Rattle.std.specs.Prelude.{◌≡◌, ◌≢◌, ℕ, ◌+◌, ◌*◌, ◌^◌, ◌<◌, ◌≤◌, ◌⊎◌, List, [], ◌∷◌, ◌++◌, Some, None}
+use Rattle.std.specs.Prelude.{◌≡◌, ◌≢◌, ℕ, ◌+◌, ◌*◌, ◌^◌, ◌<◌, ◌≤◌, ◌⊎◌, true, List, [], ◌∷◌, ◌++◌, length, Some, None}
+use Rattle.heap_model.specs.Domains.{class_count}
 use Rattle.heap_model.specs.declared.entry.Entry.TheVariants.{End}
 use Rattle.heap_model.specs.declared.reply.Applied.TheVariants.{Silent}
 use Rattle.heap_model.specs.History.{Legal}
@@ -11,16 +12,21 @@ use Rattle.heap_rule.specs.declared.change.Part.TheVariants.{Register}
 use Rattle.heap_rule.specs.declared.config.Config.{Config}
 use Rattle.heap_rule.specs.declared.view.DomainView.{DomainView}
 use Rattle.heap_rule.specs.declared.view.Own.{Own}
+use Rattle.heap_rule.specs.declared.view.Listing.{Listing}
+use Rattle.heap_rule.specs.declared.view.Copied.{Copied}
+use Rattle.remembered_set.specs.Bounded.{Bounded}
 use Rattle.heap_rule.specs.declared.phase.Kind.{Kind}
 use Rattle.heap_rule.specs.declared.phase.Stage.{Stage}
 use Rattle.heap_rule.specs.declared.phase.Stage.TheVariants.{In, Leads, Led, Gone}
 use Rattle.heap_rule.specs.declared.phase.Note.{Note}
-use Rattle.heap_rule.specs.declared.phase.Note.TheVariants.{Want, Asked, Barrier, Ended, Cleared}
+use Rattle.heap_rule.specs.declared.phase.Note.TheVariants.{Want, Asked, Barrier, Ended, Cleared, SetBack}
 use Rattle.heap_rule.specs.declared.view.Hunt.TheVariants.{Rests}
 use Rattle.heap_rule.specs.Limits.{sizes_in}
 use Rattle.heap_rule.specs.Phases.{code, Follows, IsEven, IsOdd, last_note}
+use Rattle.heap_rule.specs.Pools.{prepared_at}
+use Rattle.heap_rule.specs.Copies.{nothing_copied, HoldsOld}
 use Rattle.heap_rule.specs.Standing.{Entered}
-use Rattle.heap_rule.specs.declared.phase.Kind.TheVariants.{Run}
+use Rattle.heap_rule.specs.declared.phase.Kind.TheVariants.{Run, Promote, Reset}
 
 -- the domain with one note more, and all else as it was
 abbrev pub noted : DomainView → Note → DomainView
@@ -52,25 +58,39 @@ ArrivesFrom d (Leads kind) = d ≢ 0
 ArrivesFrom d (Led kind) = Unit {0}
 ArrivesFrom d (Gone kind) = ⊥
 
-pub record ArriveMay (x : DomainView) : Type 0 where
+-- A domain arrives while it takes no block and makes none. Where it leaves Promote it owes no copy a value, has looked through all its remembered fields, holds no address of a minor area and has no place prepared. Where it leaves Reset its minor area is empty
+pub record ArriveMay (k : Config) (x : DomainView) : Type 0 where
   pub at_rest : x.seen.hunt ≡ Rests
   pub idle : x.seen.made ≡ []
   pub from : ArrivesFrom x.own.number x.seen.stage
   pub few : x.own.arrivals < 2 ^ 60
+  pub paid : x.seen.stage ≡ In Promote → x.seen.copying.pending ≡ []
+  pub looked_through : x.seen.stage ≡ In Promote → x.seen.remembered ≡ []
+  pub holds_old : x.seen.stage ≡ In Promote → HoldsOld k x
+  pub unprepared : x.seen.stage ≡ In Promote → (c : ℕ) → c < class_count → prepared_at x.own.prepared c ≡ None
+  pub emptied : x.seen.stage ≡ In Reset → x.own.used ≡ 0
 
--- the domain has arrived: what it knows of how many pools are free, and of the list that it wrote, is void
+-- a list that has forgotten its items, and has room for as many more
+abbrev pub forgotten : Bounded Copied → Bounded Copied
+forgotten l = record { items = []; room = l.room + length l.items }
+
+-- the domain has arrived: its list of copies is empty, and what it knows of the blocks that it met, of how many pools are free, and of the list that it wrote, is void
 abbrev pub arrived_view : DomainView → DomainView
-arrived_view x = record { own = record x.own { arrivals = x.own.arrivals + 1 }; seen = record x.seen { stage = Gone (kind_in x.seen.stage); free = None; listing = None } }
+arrived_view x = record {
+  own = record x.own { arrivals = x.own.arrivals + 1; pending = forgotten x.own.pending };
+  seen = record x.seen { stage = Gone (kind_in x.seen.stage); free = None; listing = None; copying = nothing_copied };
+}
 
 abbrev pub Arrived : DomainView → ℕ → DomainView → Type 0
 Arrived x found y = y ≡ arrived_view x
 
--- one more arrival can be counted, and it is
+-- one more arrival can be counted
 abbrev pub CanArrive : Own → Type 0
 CanArrive own = own.arrivals + 1 < 2 ^ 64
 
+-- it is counted, and the list of copies is emptied
 abbrev pub CountsArrival : Own → Own → Type 0
-CountsArrival own after = after ≡ record own { arrivals = own.arrivals + 1 }
+CountsArrival own after = after ≡ record own { arrivals = own.arrivals + 1; pending = forgotten own.pending }
 
 -- the phase has begun: the front is the whole history so far
 pub record Begun (k : Config) (x : DomainView) (found : ℕ) (y : DomainView) : Type 0 where
@@ -99,7 +119,7 @@ pub record ClearMay (x : DomainView) : Type 0 where
 abbrev pub ClearTold : DomainView → ℕ → DomainView → Type 0
 ClearTold x found y = y ≡ noted x Cleared
 
--- domain 0 names the next kind in an odd phase, once. Before the domains run again it has just taken the wishes back
+-- domain 0 names the next kind in an odd phase, once. Before the domains run again it has just taken the wishes back, and set the cursor to 0 in this phase. Before they copy it has just set the cursor back out of the reserve
 pub record LeadMay (x : DomainView) (new : ℕ) (next : Kind) : Type 0 where
   pub leads : x.own.number ≡ 0
   pub last : Kind
@@ -107,6 +127,8 @@ pub record LeadMay (x : DomainView) (new : ℕ) (next : Kind) : Type 0 where
   pub follows : Follows last next
   pub word : new ≡ code next
   pub took_back : next ≡ Run → last_note x.seen.notes ≡ Some Cleared
+  pub rewound : next ≡ Run → (l : Listing) × (x.seen.listing ≡ Some l) × (l.rewound ≡ true)
+  pub set_back : next ≡ Promote → last_note x.seen.notes ≡ Some SetBack
 
 abbrev pub LeadTold : Kind → DomainView → ℕ → DomainView → Type 0
 LeadTold next x found y = y ≡ record x { seen = record x.seen { stage = Led next } }

@@ -32,7 +32,7 @@ pub fn ask(heap: &Heap, dom: &mut Domain, bits: u64)
     raw_or::<Brand, Leaving>(heap, dom, WANT, bits, &Leaving, &[]);
 }
 
-// The arrival is counted.
+// The arrival is counted, and the list of copies is emptied.
 #[derive(Clone, Copy)]
 struct Arriving;
 
@@ -45,13 +45,14 @@ impl Writing for Arriving {
 
     fn write(&self, _found: u64, _changes: &[Change], own: &mut Own) {
         own.arrivals += 1;
+        own.pending.clear();
     }
 }
 
-/// The domain arrives.
+/// The domain arrives, which empties its list of copies.
 pub fn arrive(heap: &Heap, dom: &mut Domain)
     requires here { IsIn dom.old heap.now }
-    requires may { ArriveMay dom.old.view }
+    requires may { ArriveMay heap.now.config dom.old.view }
     ensures here { IsIn dom.new heap.now }
     ensures told { Arrived dom.old.view 0 dom.new.view }
 {
