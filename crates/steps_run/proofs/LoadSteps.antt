@@ -35,7 +35,7 @@ use Rattle.heap_rule.specs.Raw.{MayStep}
 use Rattle.heap_rule.specs.Rule.{state_of, Rule}
 use Rattle.heap_rule.specs.Standing.{Acts, IsAt, with_front}
 use Rattle.steps_run.specs.Loads.{subject, place_of, HeadEntry, HeadMay, HeadTold, HeadCase, LabelMay, LabelTold, FieldLoadMay, FieldLoadEntry, FieldRead}
-use Rattle.heap_rule.proofs.ChangeLemmas.{changed_only, registers_of}
+use Rattle.heap_rule.proofs.ChangeLemmas.{registers_of}
 use Rattle.heap_rule.proofs.Values.{AllStand, stand_set, not_nothing, packable, shows}
 use Rattle.heap_rule.proofs.Keeps.{after_entry, Words, IsCommand, mine, my_good, own, looks, unmoved, run_settled}
 use Rattle.heap_rule.proofs.Entering.{running, inside_state, registers_stand, Enters, entered_view, enters_rule, enters, enters_command, may_begin}

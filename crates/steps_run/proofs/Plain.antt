@@ -1,9 +1,8 @@
 -- What the step calls tell of a token's plain data: it is what their changes make of it.
-use Rattle.std.proofs.Common.{inl, inr, ◌≡◌, ◌+◌, ◌<◌, ◌≤◌, ℕ, Bool, List, [], length, refl, sym, ap, ◌∙◌, subst, lt_of_not-le}
+use Rattle.std.proofs.Common.{inl, inr, ◌≡◌, ◌+◌, ◌<◌, ◌≤◌, ℕ, Bool, List, [], length, sym, ap, ◌∙◌, subst, lt_of_not-le}
 use mathlib.Core.Logic.{dite}
 use native.Mathlib.Decide.{dec_le}
 use Rattle.heap_model.specs.declared.entry.Entry.{Entry}
-use Rattle.heap_model.specs.declared.reply.Applied.{Applied}
 use Rattle.heap_model.specs.declared.reply.Applied.TheVariants.{Replied}
 use Rattle.heap_model.specs.declared.reply.Reply.TheVariants.{Done, BadType, BadIndex}
 use Rattle.heap_model.specs.Commands.{shown}

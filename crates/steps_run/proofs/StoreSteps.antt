@@ -1,5 +1,5 @@
 -- Stores to fields keep the rule.
-use Rattle.std.proofs.Common.{◌≡◌, ◌≢◌, ℕ, ◌+◌, ◌<◌, ◌≤◌, false, ne_eqb, List, [], length, get_or, set, slice_get, Some, Option, None, unwrap_or, sym, refl, ap, ◌∙◌, subst, ⊎_elim, arith, length-set, get_or-set_same, get_or-set_other, zero, suc, true, Bool, ◌%◌, ◌*◌, ◌⊎◌, ◌↔◌, ◌∷◌, ◌++◌, inl, inr, zero-le, lt_of_not-le}
+use Rattle.std.proofs.Common.{◌≡◌, ◌≢◌, ℕ, ◌+◌, ◌<◌, ◌≤◌, false, List, [], length, get_or, set, slice_get, Some, Option, None, unwrap_or, sym, refl, ap, ◌∙◌, subst, ⊎_elim, arith, length-set, get_or-set_same, get_or-set_other, zero, suc, true, Bool, ◌*◌, ◌⊎◌, ◌↔◌, ◌∷◌, ◌++◌, inl, inr, zero-le, lt_of_not-le}
 use Rattle.std.proofs.lemmas.Int.{ints}
 use mathlib.Core.Logic.{dite}
 use native.Mathlib.Decide.{ℕ_discrete, dec_le}
@@ -19,7 +19,6 @@ use Rattle.heap_model.specs.Domains.{register, domain_at}
 use Rattle.heap_model.specs.Entries.{next}
 use Rattle.heap_model.specs.Fronts.{PlainShape, Shape, shape_of}
 use Rattle.heap_model.proofs.Graphs.GraphLemmas.{node_at-with_node_same, node_at-with_node_other}
-use Rattle.heap_model.proofs.Commands.FrameLemmas.{calm_command}
 use Rattle.heap_model.proofs.Commands.LeavesLemmas.{leaves_store}
 use Rattle.heap_words.specs.declared.value.Value.{Value}
 use Rattle.heap_words.specs.declared.value.Value.TheVariants.{Int as IntWord, Ref, Nothing as NothingWord}
@@ -28,12 +27,11 @@ use Rattle.heap_rule.specs.declared.change.Change.{Change}
 use Rattle.heap_rule.specs.declared.config.Config.{Config}
 use Rattle.heap_rule.specs.declared.view.DomainView.{DomainView}
 use Rattle.heap_rule.specs.declared.view.Own.{Own}
-use Rattle.heap_rule.specs.declared.view.View.{View}
 use Rattle.heap_rule.specs.declared.view.Copying.{Copying}
 use Rattle.heap_rule.specs.Copies.{nothing_copied, known}
 use Rattle.heap_rule.specs.Layout.{heap_words, table_words, before_heap, at_address}
 use Rattle.heap_rule.specs.Places.{unmarked, HeadIs, Place, Live, extent, values_of, Stands, WordStands, Found, Placed, IsBare, Settled, IsOldAt, IsOldWord, More}
-use Rattle.heap_rule.specs.Changes.{value_at, changed, FitChanges}
+use Rattle.heap_rule.specs.Changes.{value_at, changed}
 use Rattle.heap_rule.specs.Views.{one, Tells}
 use Rattle.heap_rule.specs.Raw.{MayStore}
 use Rattle.heap_rule.specs.Rule.{state_of, AllFound, Area, Making, Rule}
@@ -46,7 +44,7 @@ use Rattle.heap_rule.proofs.Keeps.{mine, my_good, control_set, controls_kept, hu
 use Rattle.heap_rule.proofs.Again.{Back, placed_back, area_back, spread_back, opened_back, grid_back}
 use Rattle.heap_rule.proofs.Update.{over, over_here, over_else}
 use Rattle.heap_rule.proofs.Lots.{Beside, head_full, live_beside, grid_beside, hunter_beside}
-use Rattle.heap_rule.proofs.Entering.{running, registers_stand, EntersTo, stood_after, entered_view, enters, enters_command, may_begin}
+use Rattle.heap_rule.proofs.Entering.{registers_stand, EntersTo, stood_after, entered_view, enters, enters_command, may_begin}
 use Rattle.heap_rule.proofs.Blocks.{field_at, some_same}
 use Rattle.heap_rule.proofs.Beside.{found_beside, making_beside, live_word_far}
 
@@ -278,9 +276,9 @@ field_stores k slots id word hist x a new remembers block i item changes place m
         listed = λ b q debt lives owed _. absurd (no_debt live1 bare b q debt lives owed);
         recalled = λ b q j lives named. ⊎_elim
             (λ (h : (b ≡ f.address) × (c.named' j ≡ Some d)). ⊎_elim
-                (λ (n : f.place.named j ≡ Some d). let u = g.owes.recalled f.address f.place j f.lives n in (u.0, got_kept remembers x.seen.remembered a u.0 (b + 2 + j) (u.1 ∙ ap (λ (m : ℕ). Some (m + 2 + j)) (sym h.0))))
-                (λ (n : (j ≡ i) × (remembers ≡ true)). (length x.seen.remembered, got_new remembers x.seen.remembered a n.1 ∙ ap Some (at_is ∙ (λ p. sym h.0 p + 2 + sym n.0 p))))
-                (c.mine j h.1))
+            (λ (n : f.place.named j ≡ Some d). let u = g.owes.recalled f.address f.place j f.lives n in (u.0, got_kept remembers x.seen.remembered a u.0 (b + 2 + j) (u.1 ∙ ap (λ (m : ℕ). Some (m + 2 + j)) (sym h.0))))
+            (λ (n : (j ≡ i) × (remembers ≡ true)). (length x.seen.remembered, got_new remembers x.seen.remembered a n.1 ∙ ap Some (at_is ∙ (λ p. sym h.0 p + 2 + sym n.0 p))))
+            (c.mine j h.1))
             (λ (h : r.account.live b ≡ Some q). let u = g.owes.recalled b q j h named in (u.0, got_kept remembers x.seen.remembered a u.0 (b + 2 + j) u.1))
             (who d b j q lives named);
         fields = λ j spot got. ⊎_elim
@@ -303,11 +301,11 @@ field_stores k slots id word hist x a new remembers block i item changes place m
           let same : f.place ≡ u.place = ap (λ (z : Option Place). unwrap_or z f.place) (sym f.lives ∙ (ap r.account.live (sym h.0) ∙ u.lives)) in
           let shape : f.place.shape ≡ q.shape = ap (λ (z : Place). z.shape) same ∙ u.shape in
           subst (λ (z : Shape). (m < k.domains) × (j + 2 < extent z)) shape (dite (ℕ_discrete m d)
-              (λ mine_is. ⊎_elim
-                  (λ (n : f.place.named j ≡ Some d). let l = r.whole.copies.naming f.address f.place j d f.lives n in (let b = l.0 in omega arith, l.1))
-                  (λ (n : (j ≡ i) × (remembers ≡ true)). (let l = (mine k s r id hist x at).inside in omega arith, (let z : ℕ = extent f.place.shape in let b : 2 + i < z = inside in let p : j ≡ i = n.0 in let l : j + 2 < z = omega arith in l)))
-                  (c.mine j (h.1 ∙ ap Some mine_is)))
-              (λ other. r.whole.copies.naming f.address f.place j m f.lives (c.theirs m j other h.1))))
+          (λ mine_is. ⊎_elim
+          (λ (n : f.place.named j ≡ Some d). let l = r.whole.copies.naming f.address f.place j d f.lives n in (let b = l.0 in omega arith, l.1))
+          (λ (n : (j ≡ i) × (remembers ≡ true)). (let l = (mine k s r id hist x at).inside in omega arith, (let z : ℕ = extent f.place.shape in let b : 2 + i < z = inside in let p : j ≡ i = n.0 in let l : j + 2 < z = omega arith in l)))
+          (c.mine j (h.1 ∙ ap Some mine_is)))
+          (λ other. r.whole.copies.naming f.address f.place j m f.lives (c.theirs m j other h.1))))
           (λ (h : r.account.live b ≡ Some q). r.whole.copies.naming b q j m h named)
           (who m b j q lives named);
       recalls = λ m differ b q j lives named. ⊎_elim
