@@ -1,16 +1,17 @@
 -- The steps on a field of a block whose size was read.
-use Rattle.std.proofs.Common.{◌≡◌, ◌≢◌, ◌∙◌, ℕ, ◌+◌, ◌<◌, [], ◌∷◌, refl, sym, ap, subst, arith}
+use Rattle.std.proofs.Common.{◌≡◌, ◌≢◌, ◌↔◌, ◌∙◌, ℕ, ◌+◌, ◌<◌, ◌≤◌, Bool, true, [], ◌∷◌, refl, sym, ap, subst, arith}
 use Rattle.heap_model.specs.declared.command.Command.TheVariants.{Load, Store}
 use Rattle.heap_model.specs.declared.entry.Entry.{Entry}
 use Rattle.heap_model.specs.Fronts.{HoldsPlain}
 use Rattle.heap_rule.proofs.Acting.{looked_acts}
+use Rattle.heap_words.specs.declared.value.Value.{Value}
 use Rattle.heap_words.specs.declared.value.Value.TheVariants.{Ref, Nothing}
 use Rattle.heap_rule.specs.declared.change.Change.TheVariants.{Read}
 use Rattle.heap_rule.specs.declared.config.Config.{Config}
 use Rattle.heap_rule.specs.declared.view.DomainView.{DomainView}
 use Rattle.heap_rule.specs.Changes.{value_at}
 use Rattle.heap_rule.specs.declared.view.Own.{Own}
-use Rattle.steps_run.specs.Stores.{FieldStoreEntry}
+use Rattle.steps_run.specs.Stores.{MustRemember, FieldStoreEntry}
 use Rattle.heap_words.specs.Values.{value_word}
 use Rattle.heap_rule.specs.Rule.{state_of}
 use Rattle.steps_run.specs.Loads.{FieldLoadEntry, Measured}
@@ -53,10 +54,10 @@ load_may h old y e dst src i a is number goes f =
     (record { own = sym number; acts = f.acts; reads = f.may; goes = goes; written = λ v. refl; fits = (goes, tt) })
 
 -- the step of a store may be made
-pub store_may : (h : SharedHeap) (old : Token) (y : DomainView) (e : Entry) (block i item a new : ℕ) → e ≡ own_entry old (Store block i item) → y.own ≡ old.view.own → item < 16 → value_at old.view.own.registers item ≢ Nothing
-    → new ≡ value_word (value_at old.view.own.registers item) → Field h.config y block i a → FieldStoreEntry h.config y (a + 2 + i) new [] e
-store_may h old y e block i item a new is own from full word f =
-    subst (λ (x : Entry). FieldStoreEntry h.config y (a + 2 + i) new [] x) (sym is)
+pub store_may : (h : SharedHeap) (old : Token) (y : DomainView) (e : Entry) (block i item a new : ℕ) (remembers : Bool) → e ≡ own_entry old (Store block i item) → y.own ≡ old.view.own → value_at old.view.own.registers block ≡ Ref a → item < 16 → value_at old.view.own.registers item ≢ Nothing
+    → new ≡ value_word (value_at old.view.own.registers item) → (remembers ≡ true) ↔ MustRemember h.config (Ref a) (value_at old.view.own.registers item) → 1 ≤ old.view.own.remembered.room → Field h.config y block i a → FieldStoreEntry h.config y (a + 2 + i) new remembers [] e
+store_may h old y e block i item a new remembers is own held from full word exact room f =
+    subst (λ (x : Entry). FieldStoreEntry h.config y (a + 2 + i) new remembers [] x) (sym is)
     (record {
       own = sym (ap (λ (o : Own). o.number) own);
       acts = f.acts;
@@ -64,6 +65,8 @@ store_may h old y e block i item a new is own from full word f =
       from = from;
       full = λ empty. full (sym (ap (λ (o : Own). value_at o.registers item) own) ∙ empty);
       word = word ∙ sym (ap (λ (o : Own). value_word (value_at o.registers item)) own);
+      exact = subst (λ (v : Value × Value). (remembers ≡ true) ↔ MustRemember h.config v.0 v.1) (λ j. (sym (ap (λ (o : Own). value_at o.registers block) own ∙ held) j, value_at (sym own j).registers item)) exact;
+      room = λ _. subst (λ (o : Own). 1 ≤ o.remembered.room) (sym own) room;
       same = refl;
       fits = tt;
     })

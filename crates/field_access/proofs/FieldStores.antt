@@ -1,32 +1,51 @@
 -- A store to a field whose block was looked at before.
-use Rattle.std.proofs.Common.{◌≡◌, ◌∙◌, ℕ, List, ap, subst}
+use Rattle.std.proofs.Common.{◌≡◌, ◌∙◌, ℕ, Bool, List, sym, ap, subst}
 use Rattle.heap_model.specs.declared.command.Command.{Command}
 use Rattle.heap_model.specs.declared.entry.Entry.{Entry}
-use Rattle.heap_model.specs.declared.reply.Reply.{Reply}
+use Rattle.heap_model.specs.declared.reply.Reply.TheVariants.{Done}
 use Rattle.heap_model.specs.declared.reply.Applied.TheVariants.{Replied}
 use Rattle.heap_model.specs.Fronts.{Answers}
 use Rattle.heap_words.specs.declared.value.Value.{Value}
+use Rattle.heap_words.specs.declared.value.Value.TheVariants.{Nothing}
 use Rattle.heap_rule.specs.declared.change.Change.{Change}
+use Rattle.heap_rule.specs.declared.config.Config.{Config}
 use Rattle.heap_rule.specs.declared.view.DomainView.{DomainView}
+use Rattle.heap_rule.specs.declared.view.Own.{Own}
+use Rattle.heap_rule.specs.Changes.{changed}
 use Rattle.heap_rule.specs.Limits.{sizes_in}
-use Rattle.heap_rule.specs.Standing.{Entered, Looked}
+use Rattle.heap_rule.specs.Standing.{Looked, with_front, with_own, with_registers}
+use Rattle.steps_run.specs.Stores.{with_field, remembering, StoreTold}
 use Rattle.heap_rule.specs.Token.{Token, SharedHeap, IsIn}
-use Rattle.heap_rule.specs.Running.{Runs, Did}
+use Rattle.heap_rule.specs.Running.{Runs, Stays, Did}
 use Rattle.heap_rule.specs.Running.{own_entry}
-use Rattle.heap_rule.proofs.Calls.{front_stays, look_stays, stays_trans, answered_did}
+use Rattle.heap_rule.proofs.Calls.{look_stays, stays_trans, answered_did}
 use Rattle.heap_model.proofs.Histories.FrontLemmas.{answers_after}
-use Rattle.heap_rule.proofs.Plain.{entered_rest}
+use Rattle.heap_rule.proofs.ChangeLemmas.{changed_only}
 
--- a call that looked, and then made its entry
-pub looked_did : (h : SharedHeap) (old new : Token) (y : DomainView) (c : Command) (e : Entry) (r : Reply) (read : Value) (changes : List Change) → e ≡ own_entry old c → Runs h old → IsIn new h
-    → Looked h.config old.view y → Entered h.config e (Replied r) read changes y new.view → Did h old new c r
-looked_did h old new y c e r read changes is runs here look entered =
+-- the domain after a store, by its registers
+stored_rest : (k : Config) (e : Entry) (at : ℕ) (remembers : Bool) (changes : List Change) (x y : DomainView) → StoreTold k e at remembers changes x y → y ≡ with_front (remembering remembers at (with_registers x (changed Nothing changes x.own).registers)) y.seen.front
+stored_rest k e at remembers changes x y told = told.view ∙ ap (λ (own : Own). with_front (remembering remembers at (with_own x own)) y.seen.front) (changed_only Nothing changes x.own)
+
+-- it stands where it stood
+store_stays : (x y : DomainView) (at : ℕ) (remembers : Bool) (registers : List Value) (front : List Entry) → y ≡ with_front (remembering remembers at (with_registers x registers)) front → Stays x y
+store_stays x y at remembers registers front is = record {
+  arrivals = ap (λ (z : DomainView). z.own.arrivals) is;
+  stage = ap (λ (z : DomainView). z.seen.stage) is;
+  notes = ap (λ (z : DomainView). z.seen.notes) is;
+  remembers = λ all. ap (λ (z : DomainView). z.seen.remembered) is ∙ (ap (with_field remembers at) all ∙ ap (λ (z : DomainView). z.own.remembered.items) (sym is));
+}
+
+-- a call that looked, and then stored
+pub stored_did : (h : SharedHeap) (old new : Token) (y : DomainView) (c : Command) (e : Entry) (at : ℕ) (remembers : Bool) (changes : List Change) → e ≡ own_entry old c → Runs h old → IsIn new h
+    → Looked h.config old.view y → StoreTold h.config e at remembers changes y new.view → Did h old new c Done
+stored_did h old new y c e at remembers changes is runs here look told =
     let number : y.own.number ≡ old.view.own.number = ap (λ (x : DomainView). x.own.number) look.view in
-    let answers : Answers (sizes_in h.config) old.view.own.number y.seen.front new.view.seen.front (own_entry old c) (Replied r) =
-    subst (λ (x : Entry). Answers (sizes_in h.config) old.view.own.number y.seen.front new.view.seen.front x (Replied r)) is
-    (subst (λ (n : ℕ). Answers (sizes_in h.config) n y.seen.front new.view.seen.front e (Replied r)) number entered.answers) in
-    answered_did h old new c r runs here (ap (λ (x : DomainView). x.own.number) (entered_rest _ _ _ _ _ _ _ entered) ∙ number)
-    (ap (λ (x : DomainView). x.seen.hunt) (entered_rest _ _ _ _ _ _ _ entered) ∙ ap (λ (x : DomainView). x.seen.hunt) look.view ∙ runs.at_rest)
-    (ap (λ (x : DomainView). x.seen.made) (entered_rest _ _ _ _ _ _ _ entered) ∙ ap (λ (x : DomainView). x.seen.made) look.view ∙ runs.idle)
-    (stays_trans old.view y new.view (look_stays old.view y _ look.view) (front_stays y new.view _ _ (entered_rest _ _ _ _ _ _ _ entered)))
+    let rest = stored_rest h.config e at remembers changes y new.view told in
+    let answers : Answers (sizes_in h.config) old.view.own.number y.seen.front new.view.seen.front (own_entry old c) (Replied Done) =
+    subst (λ (x : Entry). Answers (sizes_in h.config) old.view.own.number y.seen.front new.view.seen.front x (Replied Done)) is
+    (subst (λ (n : ℕ). Answers (sizes_in h.config) n y.seen.front new.view.seen.front e (Replied Done)) number told.answers) in
+    answered_did h old new c Done runs here (ap (λ (x : DomainView). x.own.number) rest ∙ number)
+    (ap (λ (x : DomainView). x.seen.hunt) rest ∙ ap (λ (x : DomainView). x.seen.hunt) look.view ∙ runs.at_rest)
+    (ap (λ (x : DomainView). x.seen.made) rest ∙ ap (λ (x : DomainView). x.seen.made) look.view ∙ runs.idle)
+    (stays_trans old.view y new.view (look_stays old.view y _ look.view) (store_stays y new.view at remembers _ _ rest))
     (answers_after (sizes_in h.config) old.view.own.number old.view.seen.front y.seen.front new.view.seen.front _ _ look.seen answers)

@@ -1,2 +1,3 @@
 pub mod Registers
+pub mod Remembered
 pub mod Shapes

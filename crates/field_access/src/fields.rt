@@ -1,5 +1,5 @@
 //! Loads and stores of the fields of plain blocks.
-ghost use Rattle.std.specs.Prelude.{◌≡◌, ◌≢◌, ◌<◌, ℕ, Option};
+ghost use Rattle.std.specs.Prelude.{◌≡◌, ◌≢◌, ◌↔◌, ◌<◌, ◌≤◌, ℕ, true, Option};
 ghost use Rattle.heap_model.specs.declared.command.Command.TheVariants.{Load, Store};
 ghost use Rattle.heap_model.specs.declared.entry.Entry.{Entry};
 ghost use Rattle.heap_model.specs.declared.reply.Reply.TheVariants.{Empty};
@@ -15,13 +15,17 @@ ghost use Rattle.heap_rule.specs.Places.{Shows, IsHeadOf};
 ghost use Rattle.heap_rule.specs.Rule.{state_of};
 ghost use Rattle.heap_rule.specs.Running.{Runs, Did, ChangesRegisters, own_entry};
 ghost use Rattle.heap_rule.specs.Token.{Holds, IsIn};
+ghost use Rattle.heap_words.specs.declared.value.Value.TheVariants.{Ref};
+ghost use Rattle.steps_run.specs.Stores.{MustRemember};
 ghost use Rattle.field_access.specs.Registers.{LoadsInto};
+ghost use Rattle.field_access.specs.Remembered.{ChangesRemembered, PutsYoung, field_of, one_more};
 ghost use Rattle.field_access.specs.Shapes.{size_of};
 
 use heap_model::label::Label;
 use heap_model::reply::Reply;
 use heap_rule::{Change, Domain, Heap};
 use heap_words::{Head, Value, pack_value, unpack_head, unpack_label};
+use size_classes::POOL_WORDS;
 use steps_run::{field_load, field_store, head_load, label_load, tick};
 
 // The number of fields of the plain block whose head this is, and nothing for an ephemeron.
@@ -111,14 +115,31 @@ pub fn load(heap: &Heap, dom: &mut Domain, dst: u8, src: u8, index: u16) -> Repl
     load_as(heap, dom, dst, src, index)
 }
 
+// Whether a field of the block at an address must be remembered once it gets the value.
+fn must_remember(heap: &Heap, block: u32, value: Value) -> bool
+    ensures { (result ≡ true) ↔ MustRemember heap.now.config (Ref block) value }
+{
+    let config = heap.config();
+    let pools = config.pools * POOL_WORDS;
+    match value {
+        Value::Ref(address) => block <= pools && pools < address,
+        _ => false,
+    }
+}
+
 fn store_as(heap: &Heap, dom: &mut Domain, block: u8, index: u16, item: u8) -> Reply
     ghost entry: { Entry }
     requires entry { entry ≡ own_entry dom.old (Store block index item) }
     requires runs { Runs heap.now dom.old }
     requires block { block < 16 }
     requires item { item < 16 }
+    requires room { 1 ≤ dom.old.view.own.remembered.room }
     ensures did { Did heap.now dom.old dom.new (Store block index item) result }
-    ensures rest { ChangesRegisters dom.old dom.new }
+    ensures rest { ChangesRemembered dom.old dom.new }
+    ensures remembered { PutsYoung heap.now.config result (value_at dom.old.view.own.registers block) (value_at dom.old.view.own.registers item)
+        → dom.new.view.own.remembered ≡ one_more (field_of (value_at dom.old.view.own.registers block) index) dom.old.view.own.remembered }
+    ensures unremembered { (PutsYoung heap.now.config result (value_at dom.old.view.own.registers block) (value_at dom.old.view.own.registers item) → ⊥)
+        → dom.new.view.own.remembered ≡ dom.old.view.own.remembered }
     ensures registers { dom.new.view.own.registers ≡ dom.old.view.own.registers }
     ensures holds { Holds heap.now.config dom.new.view.own.registers }
 {
@@ -139,19 +160,27 @@ fn store_as(heap: &Heap, dom: &mut Domain, block: u8, index: u16, item: u8) -> R
         return Reply::BadIndex;
     }
     let at = address + 2 + index as u32;
-    field_store(heap, dom, at, pack_value(value), &[]);
+    let remembers = must_remember(heap, address, value);
+    field_store(heap, dom, at, pack_value(value), remembers, &[]);
     Reply::Done
 }
 
 /// Stores what a register holds into a field of the plain block in another. The reply is `type`
 /// where register `block` holds no plain block or register `item` holds nothing, and else `bounds`
-/// where the block has no such field. Registers are below 16, and the domain's trace hasn't ended.
+/// where the block has no such field. A field of a block in a pool that gets a block in a minor area
+/// is one more that the domain remembers. Registers are below 16, the domain's trace hasn't ended,
+/// and it has room for one more field.
 pub fn store(heap: &Heap, dom: &mut Domain, block: u8, index: u16, item: u8) -> Reply
     requires runs { Runs heap.now dom.old }
     requires block { block < 16 }
     requires item { item < 16 }
+    requires room { 1 ≤ dom.old.view.own.remembered.room }
     ensures did { Did heap.now dom.old dom.new (Store block index item) result }
-    ensures rest { ChangesRegisters dom.old dom.new }
+    ensures rest { ChangesRemembered dom.old dom.new }
+    ensures remembered { PutsYoung heap.now.config result (value_at dom.old.view.own.registers block) (value_at dom.old.view.own.registers item)
+        → dom.new.view.own.remembered ≡ one_more (field_of (value_at dom.old.view.own.registers block) index) dom.old.view.own.remembered }
+    ensures unremembered { (PutsYoung heap.now.config result (value_at dom.old.view.own.registers block) (value_at dom.old.view.own.registers item) → ⊥)
+        → dom.new.view.own.remembered ≡ dom.old.view.own.remembered }
     ensures registers { dom.new.view.own.registers ≡ dom.old.view.own.registers }
     ensures holds { Holds heap.now.config dom.new.view.own.registers }
 {

@@ -6,7 +6,7 @@ use Rattle.heap_rule.specs.declared.view.DomainView.{DomainView}
 use Rattle.heap_rule.specs.declared.view.Hunt.TheVariants.{Rests}
 use Rattle.heap_rule.specs.Limits.{sizes_in}
 use Rattle.heap_rule.specs.Token.{Token, SharedHeap}
-use Rattle.steps_making.specs.Inits.{class_words}
+use Rattle.heap_rule.specs.Places.{class_words}
 use Rattle.steps_pools.specs.Takes.{found_free}
 use Rattle.minor_area.specs.declared.need.Need.{Need}
 use Rattle.minor_area.specs.declared.need.Need.TheVariants.{AreaFull, Closed}
@@ -23,13 +23,7 @@ HasRoom k x fields = x.own.used + class_words (fields + 2) ≤ k.minor_words
 abbrev pub FoundFree : DomainView → ℕ → DomainView → Type 0
 FoundFree x free y = y ≡ found_free x free Rests
 
--- as many pools were found free as promotion may need
-pub record IsOpen (k : Config) (y : DomainView) : Type 0 where
-  pub free : ℕ
-  pub found : y.seen.free ≡ Some free
-  pub enough : reserve (sizes_in k) ≤ free
-
--- fewer were
+-- fewer pools were found free than promotion may need
 pub record IsShut (k : Config) (y : DomainView) : Type 0 where
   pub free : ℕ
   pub found : y.seen.free ≡ Some free

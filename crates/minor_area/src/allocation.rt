@@ -4,14 +4,15 @@ ghost use Rattle.heap_model.specs.declared.command.Command.TheVariants.{Alloc};
 ghost use Rattle.heap_model.specs.declared.entry.Entry.{Entry};
 ghost use Rattle.heap_model.specs.declared.reply.Reply.TheVariants.{Block};
 ghost use Rattle.heap_words.specs.declared.value.Value.TheVariants.{Ref};
-ghost use Rattle.steps_making.specs.Inits.{class_words};
+ghost use Rattle.heap_rule.specs.Places.{class_words};
+ghost use Rattle.steps_making.specs.Inits.{IsOpen};
 ghost use Rattle.heap_rule.specs.declared.phase.Kind.TheVariants.{Run};
 ghost use Rattle.heap_rule.specs.declared.phase.Stage.TheVariants.{In};
 ghost use Rattle.heap_rule.specs.declared.view.Hunt.TheVariants.{Rests};
 ghost use Rattle.heap_rule.specs.Token.{next_address};
 ghost use Rattle.heap_rule.specs.Running.{Runs, Did, own_entry};
 ghost use Rattle.heap_rule.specs.Token.{Holds, IsIn};
-ghost use Rattle.minor_area.specs.Area.{Grows, HasRoom, FoundFree, IsOpen, Needs};
+ghost use Rattle.minor_area.specs.Area.{Grows, HasRoom, FoundFree, Needs};
 
 use crate::Need;
 use heap_model::label::Label;
@@ -24,7 +25,9 @@ use steps_pools::{draw_limit, free_load, listed_load};
 // The colour of a block that is allocated while no collection is under way: unmarked.
 const UNMARKED: u8 = 1;
 
-// Writes a block for which there is room: its label, its fields, each the integer 0, and its head last.
+// Writes a block for which there is room, in its area and in the pools: its label, its fields, each
+// the integer 0, and its head last.
+#[tactic(auto, unfolding(heap_rule::specs::Places::class_words))]
 fn write_block(heap: &Heap, dom: &mut Domain, dst: u8, tag: u8, fields: u16) -> Label
     ghost entry: { Entry }
     requires entry { entry ≡ own_entry dom.old (Alloc dst tag fields) }
@@ -34,6 +37,7 @@ fn write_block(heap: &Heap, dom: &mut Domain, dst: u8, tag: u8, fields: u16) -> 
     requires fields { (1 ≤ fields) × (fields ≤ 126) }
     requires serial { dom.old.view.own.serial + 1 < 2 ^ 32 }
     requires room { dom.old.view.own.used + class_words (fields + 2) ≤ heap.now.config.minor_words }
+    requires opened { IsOpen heap.now.config dom.old.view }
     ensures did { Did heap.now dom.old dom.new (Alloc dst tag fields) (Block result) }
     ensures grows { Grows dom.old dom.new (class_words (fields + 2)) }
     ensures free { dom.new.view.seen.free ≡ dom.old.view.seen.free }

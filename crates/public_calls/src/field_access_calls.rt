@@ -17,12 +17,15 @@ fn one_domain_on_the_shared_block(rt: HostRuntime) -> Result<(), Fail> {
     let (heap, mut domains) = Heap::start(rt.alloc(), config)?;
     let mut dom = domains.pop().ok_or("no domain")?;
     assert_eq!(rt; put_int(&heap, &mut dom, 1, 7), Reply::Done);
+    assert!(rt; dom.remembered_room() >= 1);
     assert_eq!(rt; store(&heap, &mut dom, 0, 15, 1), Reply::Done);
     assert_eq!(rt; load(&heap, &mut dom, 2, 0, 15), Reply::Int(7));
     assert_eq!(rt; copy(&heap, &mut dom, 3, 2), Reply::Done);
     assert_eq!(rt; load(&heap, &mut dom, 4, 0, 16), Reply::BadIndex);
     assert_eq!(rt; load(&heap, &mut dom, 4, 3, 0), Reply::BadType);
     assert_eq!(rt; forget(&heap, &mut dom, 3), Reply::Done);
+    assert!(rt; dom.remembered_room() >= 1);
     assert_eq!(rt; store(&heap, &mut dom, 0, 0, 3), Reply::BadType);
+    assert_eq!(rt; dom.remembered_len(), 0);
     Ok(())
 }

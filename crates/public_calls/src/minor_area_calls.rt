@@ -1,7 +1,9 @@
-//! A minor area that fills.
+//! A minor area that fills, and a young block in a field of an old one.
 ghost use Rattle.std.specs.Prelude.{◌+◌, ◌^◌, ◌<◌, ◌≤◌};
 ghost use Rattle.heap_rule.specs.Running.{Runs};
 
+use field_access::store;
+use heap_model::reply::Reply;
 use heap_rule::{Config, Domain, Heap};
 use minor_area::{Need, alloc_young};
 use std::test::Fail;
@@ -38,5 +40,34 @@ fn a_minor_area_fills(rt: HostRuntime) -> Result<(), Fail> {
     assert_eq!(rt; dom.area_used(), 4096);
     assert_eq!(rt; dom.labels_made(), 32);
     assert_eq!(rt; dom.register(1), last);
+    Ok(())
+}
+
+// The shared block lies in a pool. The field that gets the young block is remembered, and neither the
+// one that gets the shared block nor the young block's own.
+#[test]
+fn a_young_block_in_the_shared_block(rt: HostRuntime) -> Result<(), Fail> {
+    let config = Config {
+        domains: 1,
+        minor_words: 4096,
+        pools: 14,
+        finals: 0,
+        ephes: 0,
+    };
+    let (heap, mut domains) = Heap::start(rt.alloc(), config)?;
+    let mut dom = domains.pop().ok_or("no domain")?;
+    if alloc_young(&heap, &mut dom, 1, 0, 2).is_err() {
+        return Err("no block")?;
+    }
+    let room = dom.remembered_room();
+    assert!(rt; room >= 1);
+    assert_eq!(rt; store(&heap, &mut dom, 0, 15, 1), Reply::Done);
+    assert!(rt; dom.remembered_room() >= 1);
+    assert_eq!(rt; store(&heap, &mut dom, 0, 3, 0), Reply::Done);
+    assert!(rt; dom.remembered_room() >= 1);
+    assert_eq!(rt; store(&heap, &mut dom, 1, 1, 1), Reply::Done);
+    assert_eq!(rt; dom.remembered_len(), 1);
+    assert_eq!(rt; dom.remembered_at(0), 18);
+    assert_eq!(rt; dom.remembered_room() + 1, room);
     Ok(())
 }

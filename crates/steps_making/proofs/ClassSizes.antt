@@ -2,7 +2,7 @@
 use Rattle.std.proofs.Common.{◌≡◌, ℕ, zero, suc, ◌<◌, ◌≤◌, cond, nat_le, List, [], ◌∷◌, get_or, ◌∙◌, arith}
 use Rattle.std.proofs.lemmas.Bool.Decides.{nat_tests}
 use Rattle.size_classes.specs.Table.{IsLeastFor}
-use Rattle.steps_making.specs.Inits.{least_size}
+use Rattle.heap_rule.specs.Places.{least_size}
 
 first_fits : (size words rest : ℕ) → words ≤ size → size ≡ cond (nat_le words size) size rest
 first_fits size words rest h = grind (arith, nat_tests)

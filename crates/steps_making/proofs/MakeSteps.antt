@@ -1,5 +1,5 @@
 -- The making of a block in the own minor area keeps the rule.
-use Rattle.std.proofs.Common.{◌≡◌, ◌≢◌, ℕ, zero, suc, ◌+◌, ◌*◌, ◌^◌, ◌<◌, ◌≤◌, ◌⊎◌, false, ne_eqb, List, [], ◌∷◌, ◌++◌, length, get_or, set, replicate, slice_get, pos, Option, Some, None, sym, refl, ap, ◌∙◌, subst, inl, inr, ⊎_elim, arith, length-set, get_or-set_same, get_or-set_other, lt_of_not-le}
+use Rattle.std.proofs.Common.{◌≡◌, ◌≢◌, ℕ, suc, ◌+◌, ◌*◌, ◌^◌, ◌<◌, ◌≤◌, ◌⊎◌, false, ne_eqb, List, [], ◌∷◌, ◌++◌, length, get_or, set, replicate, slice_get, pos, Option, Some, None, sym, refl, ap, ◌∙◌, subst, inl, inr, ⊎_elim, arith, length-set, get_or-set_same, get_or-set_other, lt_of_not-le}
 use Rattle.std.proofs.lemmas.List.{length-replicate}
 use Rattle.std.proofs.lemmas.Int.{ints}
 use Rattle.std.proofs.lemmas.Bool.Decides.{nat_tests}
@@ -19,7 +19,7 @@ use Rattle.heap_model.specs.declared.graph.Value.TheVariants.{Int, Block, Nothin
 use Rattle.heap_model.specs.declared.graph.Node.{Node}
 use Rattle.heap_model.specs.declared.state.State as model
 use Rattle.heap_model.specs.Graph.{Graph, node_at}
-use Rattle.heap_model.specs.Domains.{domain_at}
+use Rattle.heap_model.specs.Domains.{domain_at, reserve}
 use Rattle.heap_model.specs.Commands.{new_plain}
 use Rattle.heap_model.specs.Entries.{next}
 use Rattle.heap_model.specs.Fronts.{PlainShape}
@@ -30,29 +30,30 @@ use Rattle.heap_model.proofs.Histories.FrontLemmas.{answers_push}
 use Rattle.heap_model.proofs.Commands.LeavesLemmas.{Leaves, leaves_alloc}
 use Rattle.heap_words.specs.declared.value.Value.{Value}
 use Rattle.heap_words.specs.declared.value.Value.TheVariants.{Int as IntWord, Ref, Nothing as NothingWord}
-use Rattle.heap_words.specs.Heads.{IsPackableHead}
 use Rattle.heap_words.specs.Labels.{label_word}
 use Rattle.heap_rule.specs.declared.change.Change.{Change}
 use Rattle.heap_rule.specs.declared.config.Config.{Config}
 use Rattle.heap_rule.specs.declared.view.DomainView.{DomainView}
 use Rattle.heap_rule.specs.Limits.{sizes_in}
-use Rattle.heap_rule.specs.Layout.{heap_words, before_heap, base_of, at_address, table_words}
-use Rattle.heap_rule.specs.Places.{unmarked, IsHeadOf, Place, Live, extent, Stands, Found, Fits, Placed}
+use Rattle.heap_rule.specs.Layout.{heap_words, before_heap, base_of, at_address, table_words, listed}
+use Rattle.heap_rule.specs.Places.{unmarked, IsHeadOf, Place, Live, extent, class_words, span, Stands, Found, Fits, Placed, Spread, Settled, More}
+use Rattle.heap_rule.specs.Copies.{Recalls}
+use Rattle.heap_rule.specs.Room.{Opened}
 use Rattle.heap_rule.specs.Changes.{value_at, changed, FitChanges}
 use Rattle.heap_rule.specs.Views.{one, Tells}
 use Rattle.heap_rule.specs.Raw.{MayStore}
 use Rattle.heap_rule.specs.Token.{next_address, next_label}
 use Rattle.heap_rule.specs.Rule.{state_of, AllFound, Stood, Area, Good, Rule}
 use Rattle.heap_rule.proofs.Lots.{Beside, area_beside, grid_beside, hunter_beside}
-use Rattle.steps_making.specs.Inits.{class_words, fields_of, WordMay, WordTold, AllocMay, AllocEntry, AllocTold}
+use Rattle.steps_making.specs.Inits.{fields_of, WordMay, WordTold, AllocMay, AllocEntry, AllocTold}
 use Rattle.heap_rule.proofs.Lists.{got_end, got_below}
 use Rattle.heap_rule.proofs.Sizes.{area_below, area_inside}
 use Rattle.heap_rule.proofs.ChangeLemmas.{changed_only, registers_of}
 use Rattle.heap_rule.proofs.Values.{AllStand, stand_set, holds}
-use Rattle.heap_rule.proofs.Keeps.{Words, More, stands_more, mine, my_good, control_set, controls_kept, hunter_as, appends, writes, legal_entry}
+use Rattle.heap_rule.proofs.Keeps.{Words, more_same, mine, my_good, control_set, controls_kept, hunter_as, appends, writes, legal_entry, owes_run, opened_words, quiet, run_settled}
 use Rattle.heap_rule.proofs.Entering.{running, inside_state, registers_stand}
 use Rattle.heap_rule.proofs.Beside.{found_beside, making_beside, area_word_far}
-use Rattle.heap_rule.proofs.Born.{zero_word, zero_values, all_more, live', born, more, old, is_new, placed_born}
+use Rattle.heap_rule.proofs.Born.{zero_word, zero_values, all_more, live', born, more, old, is_new, placed_born, settled_born, recalls_born, naming_born, spread_born, opened_born, classes_born}
 
 -- the blocks lie beside the free part of an area
 free_far : (k : Config) (live : Live) (x : DomainView) (at : ℕ) → Area k live x → base_of k x.own.number + x.own.used ≤ at → at < base_of k x.own.number + k.minor_words
@@ -92,12 +93,15 @@ inits k slots id word hist x a new changes place may s r _ at _ =
       still = λ p. g.still p;
       stage = refl;
       notes = refl;
+      copying = refl;
+      remembered = refl;
+      registers = refl;
       arrivals = refl;
       wide = length-set s.words (before_heap k + a) new;
       controls = controls_kept k s r id hist x at (set s.words (before_heap k + a) new) (control_set k s.words a new (omega arith));
-      found = λ b q lives. let f = r.whole.found b q lives in found_beside k r.account.live r.account.live (state_of k r.account.log).graph (state_of k r.account.log).graph s.words a new b q (λ c o h. h) f f.there (free_far k r.account.live x a g.area low high b q lives);
+      found = λ b q lives. let f = r.whole.found b q lives in found_beside k r.account.live r.account.live (state_of k r.account.log).graph (state_of k r.account.log).graph s.words a new b q (more_same r.account.live) f f.there (free_far k r.account.live x a g.area low high b q lives);
       stood = record { wide = g.stood.wide; each = g.stood.each; serial = g.stood.serial };
-      area = record { room = g.area.room; free = g.area.free };
+      area = record { room = g.area.room; free = g.area.free; classes = g.area.classes };
       making = record {
         fits = λ j w got. ⊎_elim (λ (t : slice_get x.seen.made j ≡ Some w). g.making.fits j w t) (λ (t : (j ≡ m) × (new ≡ w)). let f = t.0 in let o : used + j + 1 < minor = omega arith in o) (got_end x.seen.made new w j got);
         written = λ j w got. ⊎_elim
@@ -106,8 +110,8 @@ inits k slots id word hist x a new changes place may s r _ at _ =
             (got_end x.seen.made new w j got);
       };
       makings = λ z other _ p. making_beside k s.words a new z (area_word_far k x.own.number a z (let o : base ≤ a = omega arith in o) high other) p;
-      grid = grid_beside k r.account.tenancy s.words a new r.account.live r.account.live r.whole.pools beside (λ b q h. h) (λ b q h _. h) r.whole.grid;
-      hunter = hunter_as k r.account.tenancy ws x y refl refl refl refl (hunter_beside k r.account.tenancy s.words a new r.whole.pools x (beside x.own.number) g.hunter);
+      grid = grid_beside k r.account.tenancy s.words a new r.account.live r.account.live r.whole.pools beside (more_same r.account.live) (λ b q h _. h) r.whole.grid;
+      hunter = hunter_as k r.account.tenancy ws x y refl refl refl refl refl refl (hunter_beside k r.account.tenancy s.words a new r.whole.pools x (beside x.own.number) g.hunter);
       hunters = λ z _ g. hunter_beside k r.account.tenancy s.words a new r.whole.pools z (beside z.own.number) g.hunter;
     } in (
       one k hist y,
@@ -122,6 +126,7 @@ word_may k word x a new changes place may fits slots id h = inits k slots id wor
 
 -- the class of a small block has room for it
 pub class_fits : (words : ℕ) → words ≤ 128 → words ≤ class_words words
+unfolding class_words
 class_fits words few = grind (arith, nat_tests)
 
 module _ (k : Config) (s : Words) (r : Rule k s) (id : ℕ) (hist : List Entry) (x : DomainView) (at : get_elem? s.views id ≡ some (one k hist x)) (a new : ℕ) (changes : List Change) (dst tag n : ℕ)
@@ -139,7 +144,7 @@ module _ (k : Config) (s : Words) (r : Rule k s) (id : ℕ) (hist : List Entry) 
   L = next_label x
 
   abbrev born_place : Place
-  born_place = record { label = L; shape = PlainShape n tag }
+  born_place = record { label = L; shape = PlainShape n tag; forward = None; owed = None; named = λ _. None }
 
   abbrev e : Entry
   e = Command d (Alloc dst tag n) false
@@ -201,6 +206,38 @@ module _ (k : Config) (s : Words) (r : Rule k s) (id : ℕ) (hist : List Entry) 
   placed1 : Placed k live1
   placed1 = placed_born k r.account.live A born_place (omega arith) away r.whole.placed fits_born fresh_label
 
+  settled1 : Settled live1
+  settled1 = settled_born k r.account.live A born_place (omega arith) away r.whole.placed record { no_forward = refl; no_debt = refl } (run_settled k s r id hist x at may.acts.runs)
+
+  recalls1 : (m : ℕ) → Recalls m r.account.live live1
+  recalls1 = recalls_born k r.account.live A born_place (omega arith) away r.whole.placed (λ i. refl)
+
+  -- the words of the block's class lie in the own area
+  class_high : A + class_words (n + 2) ≤ base_of k d + k.minor_words
+  class_high = let c : ℕ = class_words (n + 2) in let o : x.own.used + c ≤ k.minor_words = may.room in let b : ℕ = base_of k d in omega arith
+
+  spread1 : Spread k live1
+  spread1 =
+      let c : ℕ = class_words (n + 2) in
+      let base : ℕ = base_of k d in
+      let top : A + c ≤ base + k.minor_words = class_high in
+      let room : x.own.used ≤ k.minor_words = g.area.room in
+      spread_born k r.account.live A born_place (omega arith) away r.whole.placed
+      (λ _. let w : ℕ = heap_words k in let i : base + k.minor_words ≤ w + 1 = inside in let o : A + c ≤ w + 1 = omega arith in o)
+      (λ b q lives young below. let l : b < A = below in let m : ℕ = span q.shape in
+      ⊎_elim (λ (t : b + m ≤ base + x.own.used). t) (λ (t : base + k.minor_words ≤ b). absurd (omega arith)) (g.area.classes b q lives young))
+      (λ b q lives young above. let l : A < b = above in let y : k.pools * 4096 < A = young in let m : ℕ = span q.shape in
+      ⊎_elim (λ (t : b + m ≤ base + x.own.used). absurd (omega arith)) (λ (t : base + k.minor_words ≤ b). let o : A + c ≤ b = omega arith in o) (g.area.classes b q lives (let o : k.pools * 4096 < b = omega arith in o)))
+      r.whole.spread
+
+  -- the reserve is listed, since so many pools were found free
+  opened1 : Opened k live1 ws
+  opened1 =
+      let same : listed ws ≡ listed s.words = control_set k s.words A new fits_born.low 6 (omega arith) in
+      let found = (g.hunter.free may.opened.free may.opened.found).2 in
+      let enough : reserve (sizes_in k) ≤ listed s.words = (let m : ℕ = reserve (sizes_in k) in let f : m ≤ may.opened.free = may.opened.enough in let l : ℕ = listed s.words in let o : may.opened.free ≤ l = found in omega arith) in
+      opened_born k r.account.live A born_place (omega arith) away r.whole.placed ws (λ _. subst (λ (m : ℕ). reserve (sizes_in k) ≤ m) (sym same) enough) (opened_words k r.account.live s.words ws (λ _ _ _ _. same) r.whole.opened)
+
   spot : before_heap k + A < length s.words
   spot = let h = high in let i = inside in let b : ℕ = base_of k d in let w : ℕ = heap_words k in let p : b + k.minor_words ≤ w + 1 = i in let c : ℕ = before_heap k in let l : length s.words ≡ 1 + c + w = r.whole.wide in omega arith
 
@@ -212,12 +249,13 @@ module _ (k : Config) (s : Words) (r : Rule k s) (id : ℕ) (hist : List Entry) 
     head = get_or-set_same s.words (before_heap k + A) new 0 spot ∙ may.head;
     label = get_or-set_other s.words (before_heap k + A) (before_heap k + (A + 1)) new 0 (λ o. omega arith)
         ∙ (ap (λ (i : ℕ). get_or s.words (before_heap k + i) 0) (let o : A + 1 ≡ A + 1 + 0 = omega arith in o) ∙ made_at 0 (label_word d (x.own.serial + 1)) refl);
-    values = λ i v got. let t = zero_values n i v got in record {
+    values = λ i v _ got. let t = zero_values n i v got in record {
       value = IntWord (pos 0);
       packs = get_or-set_other s.words (before_heap k + A) (before_heap k + (A + 2 + i)) new 0 (λ o. omega arith)
           ∙ (ap (λ (j : ℕ). get_or s.words (before_heap k + j) 0) (let o : A + 2 + i ≡ A + 1 + suc i = omega arith in o) ∙ made_at (suc i) zero_word t.1);
       stands = subst (Stands live1 (IntWord (pos 0))) (sym t.0) (refl, (omega (arith, ints), omega (arith, ints)));
     };
+    old = λ low i _ _ _. absurd (let y : ℕ = d * k.minor_words in let l : k.pools * 4096 + y + 1 + x.own.used ≤ k.pools * 4096 = low in omega arith);
   }
 
   found1 : AllFound k live1 grown ws
@@ -269,6 +307,7 @@ module _ (k : Config) (s : Words) (r : Rule k s) (id : ℕ) (hist : List Entry) 
         (λ other. let m : ℕ = extent q.shape in let c : ℕ = class_words (n + 2) in let base : ℕ = base_of k d in
         ⊎_elim (λ (t : b + m ≤ base + x.own.used). inl (let o : b + m ≤ base + (x.own.used + c) = omega arith in o)) (λ (t : base + k.minor_words ≤ b). inr t)
         (g.area.free b q (old k r.account.live A born_place (omega arith) away r.whole.placed b q other lives)));
+    classes = classes_born k r.account.live A born_place (omega arith) away r.whole.placed x after refl g.area.classes (omega arith) (λ _. inl (let c : ℕ = class_words (n + 2) in let base : ℕ = base_of k d in let o : A + c ≤ base + (x.own.used + c) = omega arith in o));
   }
 
   areas1 : (z : DomainView) → z.own.number ≢ d → Area k r.account.live z → Area k live1 z
@@ -282,6 +321,12 @@ module _ (k : Config) (s : Words) (r : Rule k s) (id : ℕ) (hist : List Entry) 
         (λ le. inl (let f : mine_base + minor ≤ base = area_below k d i (let c : d ≤ i = le in let y : i ≢ d = differs in omega arith) in let y : b + m ≤ base + z.own.used = omega arith in y))
         (λ gt. inr (let f : base + minor ≤ mine_base = area_below k i d (lt_of_not-le gt) in let y : base + minor ≤ b = omega arith in y)))
         (λ other. has.free b q (old k r.account.live A born_place (omega arith) away r.whole.placed b q other lives));
+    classes = classes_born k r.account.live A born_place (omega arith) away r.whole.placed z z refl has.classes (omega arith) (λ _.
+        let c : ℕ = class_words (n + 2) in let mine_base : ℕ = base_of k d in let base : ℕ = base_of k z.own.number in let i : ℕ = z.own.number in let minor : ℕ = k.minor_words in
+        let top : A + c ≤ mine_base + minor = class_high in
+        dite (dec_le d i)
+        (λ le. inl (let f : mine_base + minor ≤ base = area_below k d i (let l : d ≤ i = le in let y : i ≢ d = differs in omega arith) in let y : A + c ≤ base + z.own.used = omega arith in y))
+        (λ gt. inr (let f : base + minor ≤ mine_base = area_below k i d (lt_of_not-le gt) in let y : base + minor ≤ A = omega arith in y)));
   }
 
   alloc_rule : Rule k record { words = ws; homes = s.homes; views = set s.views id (one k hist after) }
@@ -300,6 +345,12 @@ module _ (k : Config) (s : Words) (r : Rule k s) (id : ℕ) (hist : List Entry) 
     controls = controls_kept k s r id hist x at ws (control_set k s.words A new (fits_born.low));
     found = subst (λ (z : Graph). AllFound k live1 z ws) (sym leaves.graph_is) found1;
     placed = placed1;
+    spread = spread1;
+    opened = opened1;
+    settled = settled1;
+    owes = owes_run k r.account.live live1 x after settled1 (quiet k s r id hist x at may.acts.runs) refl refl grows (recalls1 d) g.owes;
+    recalls = λ m _. recalls1 m;
+    naming = naming_born k r.account.live A born_place (omega arith) away r.whole.placed (λ i. refl) r.whole.copies.naming;
     more = grows;
     stood = stood1;
     area = area1;
@@ -308,7 +359,7 @@ module _ (k : Config) (s : Words) (r : Rule k s) (id : ℕ) (hist : List Entry) 
     makings = λ z other _ p. making_beside k s.words A new z (area_word_far k d A z (omega arith) (let h = high in let base : ℕ = base_of k d in omega arith) other) p;
     grid = grid_beside k r.account.tenancy s.words A new r.account.live live1 r.whole.pools beside grows
         (λ b q lives low. old k r.account.live A born_place (omega arith) away r.whole.placed b q (λ same. let p : ℕ = d * k.minor_words in let l : b ≤ k.pools * 4096 = low in let h : b ≡ A = same in omega arith) lives) r.whole.grid;
-    hunter = hunter_as k r.account.tenancy ws x after refl refl refl refl (hunter_beside k r.account.tenancy s.words A new r.whole.pools x (beside d) g.hunter);
+    hunter = hunter_as k r.account.tenancy ws x after refl refl refl refl refl refl (hunter_beside k r.account.tenancy s.words A new r.whole.pools x (beside d) g.hunter);
     hunters = λ z _ g. hunter_beside k r.account.tenancy s.words A new r.whole.pools z (beside z.own.number) g.hunter;
   }
 

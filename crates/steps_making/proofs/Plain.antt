@@ -1,5 +1,5 @@
 -- What the step calls tell of a token's plain data: it is what their changes and counts make of it.
-use Rattle.std.proofs.Common.{◌≡◌, ◌+◌, ◌≤◌, ◌<◌, ◌^◌, ℕ, List, [], refl, sym, ap, ◌∙◌, subst, arith, inl, inr}
+use Rattle.std.proofs.Common.{◌≡◌, ◌+◌, ◌≤◌, ◌<◌, ◌^◌, ℕ, List, [], length, refl, sym, ap, ◌∙◌, subst, arith, inl, inr}
 use Rattle.heap_model.specs.declared.entry.Entry.{Entry}
 use Rattle.heap_words.specs.declared.value.Value.{Value}
 use Rattle.heap_words.specs.declared.value.Value.TheVariants.{Nothing}
@@ -11,9 +11,10 @@ use Rattle.heap_rule.specs.declared.view.DomainView.{DomainView}
 use Rattle.heap_rule.specs.Changes.{changed, FitChanges}
 use Rattle.heap_rule.specs.Raw.{CanChange, Changes, Closes}
 use Rattle.heap_rule.specs.Standing.{LeavesOwn}
+use Rattle.heap_rule.specs.Places.{class_words}
 use Rattle.heap_rule.specs.Token.{LooksWithin, OwnFits, next_label}
 use Rattle.heap_rule.proofs.ChangeLemmas.{changed_only}
-use Rattle.steps_making.specs.Inits.{class_words, fields_of, WordTold, AllocTold, CanCount, Counts}
+use Rattle.steps_making.specs.Inits.{fields_of, WordTold, AllocTold, CanCount, Counts}
 use Rattle.heap_rule.proofs.Closes.{front_same}
 use Rattle.heap_model.specs.declared.reply.Applied.TheVariants.{Replied}
 use Rattle.heap_model.specs.declared.reply.Reply.TheVariants.{Block}
@@ -53,6 +54,8 @@ alloc_closes k x new words e changes fits class room small serial y p told =
         used = subst (λ (o : Own). o.used ≤ k.minor_words) (sym rest) room;
         registers = told.holds;
         looked = subst (λ (o : Own). LooksWithin k o.looked) (sym rest) p.looked;
+        prepared = ap (λ (o : Own). length o.prepared) rest ∙ p.prepared;
+        pending = ap (λ (o : Own). o.pending.room + length o.pending.items) rest ∙ p.pending;
       };
       once = λ _. inr (record { entry = e; answer = Replied (Block (next_label x)); answers = told.answers });
     }

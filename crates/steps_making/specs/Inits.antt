@@ -1,11 +1,11 @@
 -- Stores of the words of a new block in the own minor area: its label and its fields first, and its head last.
-use Rattle.std.specs.Prelude.{◌≡◌, ◌≢◌, ℕ, ◌+◌, ◌^◌, ◌<◌, ◌≤◌, nat_le, false, List, [], ◌∷◌, ◌++◌, length, replicate, slice_set, if◌then◌else◌}
-use Rattle.size_classes.specs.declared.TheConstants.{SIZES}
+use Rattle.std.specs.Prelude.{◌≡◌, ◌≢◌, ℕ, ◌+◌, ◌^◌, ◌<◌, ◌≤◌, false, List, [], ◌∷◌, ◌++◌, length, replicate, slice_set, Some}
 use Rattle.heap_model.specs.declared.command.Command.TheVariants.{Alloc}
 use Rattle.heap_model.specs.declared.entry.Entry.{Entry}
 use Rattle.heap_model.specs.declared.entry.Entry.TheVariants.{Command}
 use Rattle.heap_model.specs.declared.reply.Reply.TheVariants.{Block}
 use Rattle.heap_model.specs.declared.reply.Applied.TheVariants.{Replied}
+use Rattle.heap_model.specs.Domains.{reserve}
 use Rattle.heap_model.specs.Fronts.{PlainShape, Answers}
 use Rattle.heap_words.specs.declared.head.Head.{Head}
 use Rattle.heap_words.specs.declared.head.Head.TheVariants.{Plain as PlainHead}
@@ -16,21 +16,18 @@ use Rattle.heap_rule.specs.declared.config.Config.{Config}
 use Rattle.heap_rule.specs.declared.view.DomainView.{DomainView}
 use Rattle.heap_rule.specs.declared.view.Own.{Own}
 use Rattle.heap_rule.specs.Limits.{sizes_in}
-use Rattle.heap_rule.specs.Places.{IsNewHead}
+use Rattle.heap_rule.specs.Places.{IsNewHead, class_words}
 use Rattle.heap_rule.specs.Changes.{changed, FitChanges}
 use Rattle.heap_rule.specs.Standing.{Acts, LeavesOwn}
 use Rattle.heap_rule.specs.Token.{Holds, next_address, next_label}
 use Rattle.heap_rule.specs.declared.phase.Kind.TheVariants.{Run}
 use Rattle.heap_rule.specs.declared.phase.Stage.TheVariants.{In}
 
--- the words of the least class that has room for so many
-abbrev pub least_size : List ℕ → ℕ → ℕ
-least_size [] words = 0
-least_size (size ∷ sizes) words = if nat_le words size then size else least_size sizes words
-
--- the words that a block with so many words of its own takes
-abbrev pub class_words : ℕ → ℕ
-class_words words = least_size SIZES words
+-- as many pools were found free as promotion may need
+pub record IsOpen (k : Config) (x : DomainView) : Type 0 where
+  pub free : ℕ
+  pub found : x.seen.free ≡ Some free
+  pub enough : reserve (sizes_in k) ≤ free
 
 -- the fields of a plain block's head
 abbrev pub head_size : Head → ℕ
@@ -60,6 +57,7 @@ pub record AllocMay (k : Config) (x : DomainView) (at new : ℕ) (changes : List
   pub head : IsNewHead (PlainShape fields tag) new
   pub made : x.seen.made ≡ label_word x.own.number (x.own.serial + 1) ∷ replicate fields 1
   pub room : x.own.used + class_words (fields + 2) ≤ k.minor_words
+  pub opened : IsOpen k x
   pub serial : x.own.serial + 1 < 2 ^ 32
   pub goes : dst < 16
   pub written : changed Nothing changes x.own ≡ record x.own { registers = slice_set x.own.registers dst (Ref at) }

@@ -3,8 +3,8 @@ ghost use Rattle.std.specs.Prelude.{◌≡◌, ◌≢◌, ◌+◌, ◌<◌, ◌�
 ghost use Rattle.heap_model.specs.declared.entry.Entry.{Entry};
 ghost use Rattle.heap_model.specs.Fronts.{PlainShape};
 ghost use Rattle.heap_words.specs.Heads.{IsPackableHead};
-ghost use Rattle.steps_making.specs.Inits.{head_size, class_words, fields_of, WordMay, WordTold, AllocEntry, AllocTold, InitMay, InitTold};
-ghost use Rattle.heap_rule.specs.Places.{IsHeadOf};
+ghost use Rattle.steps_making.specs.Inits.{head_size, fields_of, WordMay, WordTold, AllocEntry, AllocTold, InitMay, InitTold};
+ghost use Rattle.heap_rule.specs.Places.{IsHeadOf, class_words};
 ghost use Rattle.heap_rule.specs.Standing.{IsInHeap};
 ghost use Rattle.heap_rule.specs.Token.{IsIn};
 
@@ -105,7 +105,8 @@ fn store_head(heap: &Heap, dom: &mut Domain, at: u32, new: u64, changes: &[Chang
 /// then the fields, each the integer 0, and at last the head, at which the block comes to live and
 /// the allocation's entry stands. `at` is the word's address: the next one behind those that are
 /// written, and for the head the one at which the block begins. The changes leave the registers as
-/// they are, and at the head they put the block's address into the register of the allocation.
+/// they are, and at the head they put the block's address into the register of the allocation. At the
+/// head the domain has found as many pools free as promotion may need.
 pub fn init_store(heap: &Heap, dom: &mut Domain, at: u32, new: u64, changes: &[Change])
     ghost entry: { Entry }
     requires here { IsIn dom.old heap.now }

@@ -27,18 +27,17 @@ use Rattle.heap_words.specs.declared.value.Value.TheVariants.{Nothing as Nothing
 use Rattle.heap_rule.specs.declared.change.Change.{Change}
 use Rattle.heap_rule.specs.declared.config.Config.{Config}
 use Rattle.heap_rule.specs.declared.view.DomainView.{DomainView}
-use Rattle.heap_rule.specs.Places.{unmarked}
-use Rattle.heap_rule.specs.Layout.{before_heap}
+use Rattle.heap_rule.specs.Places.{unmarked, HeadIs, IsBuilt}
+use Rattle.heap_rule.specs.Layout.{before_heap, at_address}
 use Rattle.heap_rule.specs.Changes.{value_at, changed, FitChanges}
 use Rattle.heap_rule.specs.Views.{one, Tells}
 use Rattle.heap_rule.specs.Raw.{MayStep}
 use Rattle.heap_rule.specs.Rule.{state_of, Rule}
-use Rattle.heap_rule.specs.Places.{IsBuilt}
 use Rattle.heap_rule.specs.Standing.{Acts, IsAt, with_front}
 use Rattle.steps_run.specs.Loads.{subject, place_of, HeadEntry, HeadMay, HeadTold, HeadCase, LabelMay, LabelTold, FieldLoadMay, FieldLoadEntry, FieldRead}
-use Rattle.heap_rule.proofs.ChangeLemmas.{changed_only, registers_of}
+use Rattle.heap_rule.proofs.ChangeLemmas.{registers_of}
 use Rattle.heap_rule.proofs.Values.{AllStand, stand_set, not_nothing, packable, shows}
-use Rattle.heap_rule.proofs.Keeps.{after_entry, Words, IsCommand, mine, my_good, own, looks, unmoved}
+use Rattle.heap_rule.proofs.Keeps.{after_entry, Words, IsCommand, mine, my_good, own, looks, unmoved, run_settled}
 use Rattle.heap_rule.proofs.Entering.{running, inside_state, registers_stand, Enters, entered_view, enters_rule, enters, enters_command, may_begin}
 use Rattle.heap_rule.proofs.Blocks.{Lives, lives_at, found_at, plain_at, plain_inside, field_at, shape_at}
 
@@ -152,7 +151,7 @@ heads k slots id word hist x a e place may s r _ at _ =
       (
         record {
           shape = b.place.shape;
-          head = record { colour = unmarked; scanned = false; packable = (r.whole.placed.fits a b.place b.lives).head; packs = ap (λ (i : ℕ). get_or s.words i 0) place ∙ found.head };
+          head = record { colour = unmarked; scanned = false; packable = (r.whole.placed.fits a b.place b.lives).head; packs = ap (λ (i : ℕ). get_or s.words i 0) place ∙ subst (λ (f : Option ℕ). HeadIs f b.place.shape unmarked false (at_address k s.words a)) (run_settled k s r id hist x at may.acts.runs a b.place b.lives).no_forward found.head };
           told = done.told;
         },
         refl,
@@ -188,10 +187,10 @@ label_load_may k word x a reg place may fits slots id h = labels k slots id word
 
 -- the entry of a load that finds its field
 field_entry : (k : Config) (s : Words) (r : Rule k s) (id : ℕ) (hist : List Entry) (x : DomainView) (at : get_elem? s.views id ≡ some (one k hist x)) (a dst src i : ℕ) (changes : List Change)
-    (may : FieldLoadMay k x a changes x.own.number dst src i) → let f = (field_at k s r id hist x at a src i may.reads).0 in
+    (may : FieldLoadMay k x a changes x.own.number dst src i) → let f = (field_at k s r id hist x at (run_settled k s r id hist x at may.acts.runs) a src i may.reads).0 in
     Enters k s r id hist x at may.acts (Command x.own.number (Load dst src i) false) ((changed f.stands.value changes x.own).registers) (Replied (shown f.value))
 field_entry k s r id hist x at a dst src i changes may =
-    let f = (field_at k s r id hist x at a src i may.reads).0 in
+    let f = (field_at k s r id hist x at (run_settled k s r id hist x at may.acts.runs) a src i may.reads).0 in
     let now : model.State = state_of k r.account.log in
     let d : ℕ = x.own.number in
     let theirs : List graph_value.Value = (domain_at now d).registers in record {
@@ -206,10 +205,10 @@ field_entry k s r id hist x at a dst src i changes may =
 
 -- the register that the load writes then holds the field
 register_after : (k : Config) (s : Words) (r : Rule k s) (id : ℕ) (hist : List Entry) (x : DomainView) (at : get_elem? s.views id ≡ some (one k hist x)) (a dst src i : ℕ) (changes : List Change)
-    (may : FieldLoadMay k x a changes x.own.number dst src i) → register (state_of k (r.account.log ++ Command x.own.number (Load dst src i) false ∷ [])) x.own.number dst ≡ (field_at k s r id hist x at a src i may.reads).0.value
+    (may : FieldLoadMay k x a changes x.own.number dst src i) → register (state_of k (r.account.log ++ Command x.own.number (Load dst src i) false ∷ [])) x.own.number dst ≡ (field_at k s r id hist x at (run_settled k s r id hist x at may.acts.runs) a src i may.reads).0.value
 unfolding field_entry
 register_after k s r id hist x at a dst src i changes may =
-    let f = (field_at k s r id hist x at a src i may.reads).0 in
+    let f = (field_at k s r id hist x at (run_settled k s r id hist x at may.acts.runs) a src i may.reads).0 in
     let e : Entry = Command x.own.number (Load dst src i) false in
     let o = field_entry k s r id hist x at a dst src i changes may in
     let theirs : List graph_value.Value = (domain_at (state_of k r.account.log) x.own.number).registers in
@@ -221,7 +220,7 @@ field_loads : (k : Config) (slots id word : ℕ) (hist : List Entry) (x : Domain
     → let e : Entry = Command x.own.number (Load dst src i) false in Allows (Rule k) slots id (one k hist x, []) word (λ n. n) (Tells (FieldRead k e changes) (one k hist x, []))
 field_loads k slots id word hist x a dst src i changes place may s r _ at _ =
     let e : Entry = Command x.own.number (Load dst src i) false in
-    let t = field_at k s r id hist x at a src i may.reads in
+    let t = field_at k s r id hist x at (run_settled k s r id hist x at may.acts.runs) a src i may.reads in
     let f = t.0 in
     let o = field_entry k s r id hist x at a dst src i changes may in
     let regs : List Value = (changed f.stands.value changes x.own).registers in

@@ -1,11 +1,10 @@
 -- What the step calls tell of a token's plain data: it is what their changes make of it.
-use Rattle.std.proofs.Common.{inl, ◌≡◌, ◌<◌, ◌≤◌, ℕ, List, [], refl, sym, ap, ◌∙◌, subst, lt_of_not-le}
+use Rattle.std.proofs.Common.{inl, inr, ◌≡◌, ◌+◌, ◌<◌, ◌≤◌, ℕ, Bool, List, [], length, sym, ap, ◌∙◌, subst, lt_of_not-le}
 use mathlib.Core.Logic.{dite}
 use native.Mathlib.Decide.{dec_le}
 use Rattle.heap_model.specs.declared.entry.Entry.{Entry}
-use Rattle.heap_model.specs.declared.reply.Applied.{Applied}
 use Rattle.heap_model.specs.declared.reply.Applied.TheVariants.{Replied}
-use Rattle.heap_model.specs.declared.reply.Reply.TheVariants.{BadType, BadIndex}
+use Rattle.heap_model.specs.declared.reply.Reply.TheVariants.{Done, BadType, BadIndex}
 use Rattle.heap_model.specs.Commands.{shown}
 use Rattle.heap_model.specs.Fronts.{Shape, PlainShape, RawShape, EpheShape}
 use Rattle.heap_words.specs.declared.value.Value.{Value}
@@ -20,6 +19,8 @@ use Rattle.heap_rule.specs.Changes.{changed, FitChanges}
 use Rattle.heap_rule.specs.Raw.{StepsOnce, CanChange, Changes, Written, Closes}
 use Rattle.heap_rule.proofs.Plain.{fits_changed, entered_own, enters_once, changed_unread, entered_closes}
 use Rattle.heap_rule.proofs.Closes.{front_same}
+use Rattle.heap_rule.proofs.ChangeLemmas.{changed_only}
+use Rattle.steps_run.specs.Stores.{remembering_own, StoreTold, CanStore, Stores}
 use Rattle.heap_rule.specs.Token.{Holds, LooksWithin, OwnFits}
 use Rattle.steps_run.specs.Loads.{place_of, HeadCase, HeadTold, LabelTold, FieldRead}
 use Rattle.steps_run.specs.Ticks.{tick_answer, TickTold}
@@ -37,6 +38,25 @@ ClosesUnread k x changes tells = (found : ℕ) → Closes k x found tells (λ ow
 
 pub tick_closes : (k : Config) (x : DomainView) (e : Entry) (changes : List Change) → FitChanges changes → ClosesUnread k x changes (TickTold k e changes)
 tick_closes k x e changes fits found = entered_closes k x found e (tick_answer e) changes fits
+
+-- a store makes the changes, and remembers the field where it is to
+pub store_closes : (k : Config) (x : DomainView) (at new : ℕ) (remembers : Bool) (e : Entry) (changes : List Change) → CanStore remembers changes x.own
+    → Closes k x new (λ y _ z. StoreTold k e at remembers changes y z) (CanStore remembers changes) (Stores at remembers changes)
+store_closes k x at new remembers e changes can y p told =
+    let own : y.own ≡ remembering_own remembers at (changed Nothing changes x.own) = ap (λ (z : DomainView). z.own) told.view in
+    let rest : y.own ≡ remembering_own remembers at (record x.own { registers = (changed Nothing changes x.own).registers }) = own ∙ ap (remembering_own remembers at) (changed_only Nothing changes x.own) in record {
+      can_write = can;
+      written = λ after wrote. own ∙ sym wrote;
+      fits = record {
+        number = subst (λ (o : Own). o.number < k.domains) (sym rest) p.number;
+        used = subst (λ (o : Own). o.used ≤ k.minor_words) (sym rest) p.used;
+        registers = told.holds;
+        looked = subst (λ (o : Own). LooksWithin k o.looked) (sym rest) p.looked;
+        prepared = ap (λ (o : Own). length o.prepared) rest ∙ p.prepared;
+        pending = ap (λ (o : Own). o.pending.room + length o.pending.items) rest ∙ p.pending;
+      };
+      once = λ _. inr (record { entry = e; answer = Replied Done; answers = told.answers });
+    }
 
 -- a head load leaves the plain data
 head_own : (k : Config) (a : ℕ) (e : Entry) (x y : DomainView) (shape : Shape) → HeadCase k a e shape x y → y.own ≡ x.own

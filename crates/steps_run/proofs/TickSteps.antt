@@ -17,7 +17,7 @@ use Rattle.heap_model.specs.Domains.{domain_at, register}
 use Rattle.heap_model.specs.Commands.{FitsMode, is_allocation}
 use Rattle.heap_model.specs.Fronts.{IsCalm}
 use Rattle.heap_model.proofs.Commands.FrameLemmas.{calm_command}
-use Rattle.heap_model.proofs.Commands.LeavesLemmas.{leaves_put, leaves_copy, leaves_forget, Leaves, leaves_poll, leaves_full, leaves_load_type, leaves_store_type, leaves_store_nothing, leaves_minor}
+use Rattle.heap_model.proofs.Commands.LeavesLemmas.{leaves_put, leaves_copy, leaves_forget, leaves_poll, leaves_full, leaves_load_type, leaves_store_type, leaves_store_nothing, leaves_minor}
 use Rattle.heap_words.specs.declared.value.Value.{Value}
 use Rattle.heap_words.specs.declared.value.Value.TheVariants.{Int as IntWord, Nothing as NothingWord}
 use Rattle.heap_rule.specs.declared.change.Change.{Change}
@@ -30,7 +30,7 @@ use Rattle.heap_rule.specs.Raw.{MayStep}
 use Rattle.heap_rule.specs.Rule.{state_of, Rule}
 use Rattle.heap_rule.specs.Standing.{Acts}
 use Rattle.steps_run.specs.Ticks.{is_quiet, TickCommand, TickEntry, TickMay, command_answer, tick_answer, TickTold}
-use Rattle.heap_rule.proofs.ChangeLemmas.{changed_only, registers_of}
+use Rattle.heap_rule.proofs.ChangeLemmas.{registers_of}
 use Rattle.heap_rule.proofs.Values.{AllStand, stand_set, no_label, stands_nothing}
 use Rattle.heap_rule.proofs.Keeps.{Words, IsCommand, unmoved}
 use Rattle.heap_rule.proofs.Entering.{running, inside_state, registers_stand, Enters, entered_view, enters_rule, enters, enters_command, may_begin}

@@ -14,7 +14,6 @@ use Rattle.heap_model.specs.Fronts.{Shape, PlainShape, RawShape, EpheShape, Hold
 use Rattle.heap_words.specs.declared.value.Value.{Value}
 use Rattle.heap_words.specs.declared.value.Value.TheVariants.{Nothing}
 use Rattle.heap_words.specs.Values.{IsPackable, value_word}
-use Rattle.heap_words.specs.Heads.{IsPackableHead}
 use Rattle.heap_words.specs.Labels.{IsPackableLabel, label_word}
 use Rattle.heap_rule.specs.declared.change.Change.{Change}
 use Rattle.heap_rule.specs.declared.config.Config.{Config}

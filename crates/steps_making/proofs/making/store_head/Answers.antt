@@ -1,5 +1,6 @@
 use Rattle.std.proofs.Common.{◌∙◌, ℕ, ◌+◌, ap, arith}
-use Rattle.steps_making.specs.Inits.{fields_of, class_words}
+use Rattle.heap_rule.specs.Places.{class_words}
+use Rattle.steps_making.specs.Inits.{fields_of}
 use Rattle.steps_making.proofs.Plain.{alloc_closes}
 use Rattle.steps_making.proofs.MakeSteps.{alloc_may, alloc_fits, alloc_facts}
 use Rattle.steps_making.proofs.making.store_head.Goals as goal

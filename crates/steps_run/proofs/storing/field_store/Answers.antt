@@ -1,13 +1,12 @@
-use Rattle.heap_model.specs.declared.reply.Applied.TheVariants.{Replied}
-use Rattle.heap_model.specs.declared.reply.Reply.TheVariants.{Done}
-use Rattle.heap_rule.proofs.Plain.{entered_closes}
+use Rattle.steps_run.proofs.Plain.{store_closes}
 use Rattle.steps_run.proofs.StoreSteps.{field_store_may, field_store_fits}
 use Rattle.steps_run.proofs.storing.field_store.Goals as goal
 
 pub raw_store-requires-clause-may : goal.raw_store-requires-clause-may
-raw_store-requires-clause-may g c = field_store_may c.args.heap.now.config c.index_of-index.result c.args.dom.now.view c.args.at c.args.new g.entry c.args.changes.now c.index_of-index.ensures c.requires.1.1
+raw_store-requires-clause-may g c =
+    field_store_may c.args.heap.now.config c.index_of-index.result c.args.dom.now.view c.args.at c.args.new c.args.remembers g.entry c.args.changes.now c.index_of-index.ensures c.requires.1.1
 
 pub raw_store-requires-clause-closes : goal.raw_store-requires-clause-closes
 raw_store-requires-clause-closes g c =
-    entered_closes c.args.heap.now.config c.args.dom.now.view c.args.new g.entry (Replied Done) c.args.changes.now
-    (field_store_fits c.args.heap.now.config c.args.dom.now.view c.args.at c.args.new c.args.changes.now g.entry c.requires.1.1)
+    store_closes c.args.heap.now.config c.args.dom.now.view c.args.at c.args.new c.args.remembers g.entry c.args.changes.now
+    (field_store_fits c.args.heap.now.config c.args.dom.now.view c.args.at c.args.new c.args.remembers c.args.changes.now g.entry c.requires.1.1)
