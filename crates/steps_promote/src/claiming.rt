@@ -1,5 +1,5 @@
 //! The race for young blocks: a place is prepared for a copy, and one exchange claims the block.
-ghost use Rattle.std.specs.Prelude.{◌≡◌, ◌↔◌, IsTrue};
+ghost use Rattle.std.specs.Prelude.{◌≡◌, ◌≤◌, ◌↔◌, IsTrue};
 ghost use Rattle.heap_rule.specs.Standing.{IsInHeap};
 ghost use Rattle.heap_rule.specs.Token.{IsIn};
 ghost use Rattle.steps_promote.specs.Claims.{ClaimMay, ClaimTold, FreeMay, FreedTold, HeadStoreMay, HeadStoreTold, LabelStoreMay, LabelStoreTold, PrepareMay, PrepareTold};
@@ -175,6 +175,7 @@ pub fn claim_exchange(
 pub fn free_store(heap: &Heap, dom: &mut Domain, at: u32, pool: u32, class: u32, slot: u32)
     requires here { IsIn dom.old heap.now }
     requires inside { IsInHeap heap.now.config at }
+    requires pool { pool ≤ heap.now.config.pools }
     requires may { FreeMay dom.old.view at pool class slot }
     ensures here { IsIn dom.new heap.now }
     ensures told { FreedTold pool class slot dom.old.view 0 dom.new.view }
