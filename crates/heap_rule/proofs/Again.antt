@@ -7,7 +7,7 @@ use Rattle.heap_words.specs.Labels.{IsPackableLabel}
 use Rattle.heap_rule.specs.declared.config.Config.{Config}
 use Rattle.heap_rule.specs.declared.view.DomainView.{DomainView}
 use Rattle.heap_rule.specs.Layout.{heap_words, base_of, at_address}
-use Rattle.heap_rule.specs.Places.{Place, Live, extent, span, Spread, unmarked, head_of, IsBuilt, Fits, Placed, More}
+use Rattle.heap_rule.specs.Places.{Place, Live, extent, span, Spread, unmarked, HasClass, head_of, IsBuilt, Fits, Placed, More}
 use Rattle.heap_rule.specs.Pools.{Holder, Tenancy, Lot, Pools, Grid, place_in, size_of}
 use Rattle.heap_rule.specs.Room.{Opened}
 use Rattle.heap_rule.specs.Rule.{Area}
@@ -30,9 +30,14 @@ fits_back k b p q label shape f = record {
   low = f.low;
   high = subst (λ (s : Shape). b + extent s ≤ heap_words k + 1) shape f.high;
   built = subst IsBuilt shape f.built;
+  classed = subst (λ (s : Shape). HasClass (extent s)) shape f.classed;
   head = subst (λ (s : Shape). IsPackableHead (head_of None s unmarked false)) shape f.head;
   label = subst (λ (l : Label). IsPackableLabel (l.domain, l.serial)) label f.label;
 }
+
+-- what was met lies in the heap
+pub met_fits : (k : Config) (met live : Live) → More met live → Placed k live → (a : ℕ) (p : Place) → met a ≡ Some p → Fits k a p
+met_fits k met live more placed a p e = let l = more a p e in fits_back k a l.place p l.label l.shape (placed.fits a l.place l.lives)
 
 pub placed_back : (k : Config) (live live' : Live) → Back live live' → Placed k live → Placed k live'
 placed_back k live live' back p = record {

@@ -17,6 +17,7 @@ use Rattle.heap_rule.specs.declared.view.Own.{Own}
 use Rattle.heap_rule.specs.Views.{one, domain_in, opening_view}
 use Rattle.heap_rule.specs.declared.view.View.{View}
 use Rattle.heap_rule.proofs.Classes.{some_block}
+use Rattle.heap_rule.proofs.Lists.{no_item}
 use Rattle.heap_rule.proofs.Sizes.{heap_large}
 
 abbrev nowhere : Spot
@@ -70,6 +71,7 @@ first_seat k n own me is e limits inside = subst (λ (m : Own × Me (Unit {0}) V
     used = omega arith;
     registers = record { wide = refl; packable = λ r few. first_packable r; inside = λ r a few is. first_inside k limits r a is };
     looked = looks_first k;
+    remembered = λ i a e. absurd (no_item [] i a refl e);
     prepared = refl;
     pending = omega arith;
   };

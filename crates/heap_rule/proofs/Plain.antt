@@ -12,7 +12,7 @@ use Rattle.heap_rule.specs.declared.view.DomainView.{DomainView}
 use Rattle.heap_rule.specs.Changes.{changed, FitChanges}
 use Rattle.heap_rule.specs.Raw.{StepsOnce, CanChange, Changes, Written, Closes}
 use Rattle.heap_rule.specs.Standing.{Entered, with_front, with_own, with_registers}
-use Rattle.heap_rule.specs.Token.{Holds, LooksWithin, OwnFits}
+use Rattle.heap_rule.specs.Token.{AllInHeap, Holds, LooksWithin, OwnFits}
 use Rattle.heap_rule.proofs.ChangeLemmas.{changed_only}
 
 -- what fits a token fits it after the changes, where the registers then hold what registers may hold
@@ -23,6 +23,7 @@ fits_changed k own own' read changes is fits holds =
       used = subst (λ (o : Own). o.used ≤ k.minor_words) (sym only) fits.used;
       registers = holds;
       looked = subst (λ (o : Own). LooksWithin k o.looked) (sym only) fits.looked;
+      remembered = subst (λ (o : Own). AllInHeap k o.remembered.items) (sym only) fits.remembered;
       prepared = ap (λ (o : Own). length o.prepared) only ∙ fits.prepared;
       pending = ap (λ (o : Own). o.pending.room + length o.pending.items) only ∙ fits.pending;
     }

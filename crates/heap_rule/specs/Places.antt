@@ -1,5 +1,5 @@
 -- What lives at the addresses, and when words stand for it.
-use Rattle.std.specs.Prelude.{[], nat_le, if◌then◌else◌, ◌≡◌, ◌≢◌, ℕ, ◌+◌, ◌*◌, ◌%◌, ◌<◌, ◌≤◌, ◌⊎◌, Bool, false, List, ◌∷◌, map, slice_get, Option, Some, None}
+use Rattle.std.specs.Prelude.{[], nat_le, if◌then◌else◌, ◌≡◌, ◌≢◌, ℕ, ◌+◌, ◌*◌, ◌%◌, ◌<◌, ◌≤◌, ◌⊎◌, Bool, false, List, ◌∷◌, length, map, slice_get, slice_index, Option, Some, None}
 use Rattle.size_classes.specs.declared.TheConstants.{SIZES}
 use Rattle.heap_model.specs.declared.label.Label.{Label}
 use Rattle.heap_model.specs.declared.graph.Value.{Value}
@@ -146,11 +146,16 @@ abbrev pub IsBuilt : Shape → Type 0
 IsBuilt (RawShape size tag) = ⊥
 IsBuilt _ = Unit {0}
 
--- the block at an address lies in the heap, and its head and its label can be packed
+-- a size class has room for so many words
+abbrev pub HasClass : ℕ → Type 0
+HasClass words = (class : ℕ) × (class < length SIZES) × (words ≤ slice_index SIZES class)
+
+-- the block at an address lies in the heap, a size class has room for it, and its head and its label can be packed
 pub record Fits (k : Config) (a : ℕ) (p : Place) : Type 0 where
   pub built : IsBuilt p.shape
   pub low : 1 ≤ a
   pub high : a + extent p.shape ≤ heap_words k + 1
+  pub classed : HasClass (extent p.shape)
   pub head : IsPackableHead (head_of None p.shape unmarked false)
   pub label : IsPackableLabel (p.label.domain, p.label.serial)
 

@@ -1,5 +1,5 @@
 -- What contracts see of a heap and of a domain's token.
-use Rattle.std.specs.Prelude.{◌≡◌, ℕ, ◌+◌, ◌<◌, ◌≤◌, List, [], length}
+use Rattle.std.specs.Prelude.{◌≡◌, ℕ, ◌+◌, ◌<◌, ◌≤◌, List, [], length, slice_get, Some}
 use Rattle.atomic_table.specs.Table.{Me}
 use Rattle.atomic_table.specs.Seated.{TableId}
 use Rattle.heap_model.specs.declared.label.Label.{Label}
@@ -48,12 +48,17 @@ pub record LooksWithin (k : Config) (looked : List Spot) : Type 0 where
   pub wide : length looked ≡ class_count
   pub within : (class : ℕ) → class < class_count → ((spot_at looked class).pool ≤ k.pools) × ((spot_at looked class).slot < blocks_of class)
 
+-- addresses of the heap
+abbrev pub AllInHeap : Config → List ℕ → Type 0
+AllInHeap k addresses = (i a : ℕ) → slice_get addresses i ≡ Some a → (1 ≤ a) × (a ≤ heap_words k)
+
 -- what is known of a token's own data without a look at the table
 pub record OwnFits (k : Config) (own : Own) : Type 0 where
   pub number : own.number < k.domains
   pub used : own.used ≤ k.minor_words
   pub registers : Holds k own.registers
   pub looked : LooksWithin k own.looked
+  pub remembered : AllInHeap k own.remembered.items
   pub prepared : length own.prepared ≡ class_count
   pub pending : own.pending.room + length own.pending.items ≡ pending_room k
 

@@ -8,8 +8,9 @@ ghost use Rattle.heap_rule.specs.Items.{items_of};
 ghost use Rattle.heap_rule.specs.Limits.{sizes_in};
 ghost use Rattle.heap_rule.specs.Opening.{opening_token};
 ghost use Rattle.heap_rule.specs.Pools.{blocks_of, prepared_at, spot_at};
+ghost use Rattle.heap_rule.specs.Standing.{IsInHeap};
 ghost use Rattle.heap_rule.specs.Token.{IsAddress, next_address};
-ghost use Rattle.heap_rule.specs.Views.{one, opening_view};
+ghost use Rattle.heap_rule.specs.Views.{one, opening_view, pending_room};
 
 use crate::change::{Item, Part};
 use crate::config::Config;
@@ -137,7 +138,8 @@ impl Domain {
     /// The `i`-th of them.
     pub fn remembered_at(&self, i: usize) -> u32
         requires { i < length self.now.view.own.remembered.items }
-        ensures { Some result ≡ slice_get self.now.view.own.remembered.items i }
+        ensures item { Some result ≡ slice_get self.now.view.own.remembered.items i }
+        ensures inside { IsInHeap self.now.config result }
     {
         self.own.remembered.get(i)
     }
@@ -152,7 +154,8 @@ impl Domain {
 
     /// How many copies the domain has made in this collection.
     pub fn pending_len(&self) -> usize
-        ensures { result ≡ length self.now.view.own.pending.items }
+        ensures count { result ≡ length self.now.view.own.pending.items }
+        ensures few { result ≤ pending_room self.now.config }
     {
         self.own.pending.len()
     }
