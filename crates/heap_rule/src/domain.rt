@@ -147,7 +147,8 @@ impl Domain {
     /// The place that is prepared for a copy of a size class.
     pub fn prepared(&self, class: u32) -> Option<u32>
         requires { class < class_count }
-        ensures { result ≡ prepared_at self.now.view.own.prepared class }
+        ensures place { result ≡ prepared_at self.now.view.own.prepared class }
+        ensures wide { length self.now.view.own.prepared ≡ class_count }
     {
         self.own.prepared[class as usize]
     }

@@ -15,10 +15,10 @@ use Rattle.heap_rule.specs.declared.view.Spot.{Spot}
 use Rattle.heap_rule.specs.declared.view.DomainView.{DomainView}
 use Rattle.heap_rule.specs.declared.phase.Kind.TheVariants.{Promote}
 use Rattle.heap_rule.specs.declared.phase.Stage.TheVariants.{In}
-use Rattle.heap_rule.specs.Places.{Place, extent, IsNewHead, IsOldAt, Lasts}
+use Rattle.heap_rule.specs.Places.{Place, extent, IsNewHead, IsOldAt, More}
 use Rattle.heap_rule.specs.Pools.{place_in, blocks_of, spot_at, IsBefore, prepared_at}
 use Rattle.heap_rule.specs.Standing.{IsInHeap}
-use Rattle.steps_promote.specs.Promotion.{Knows, met_of}
+use Rattle.steps_promote.specs.Promotion.{Knows, AllFit, met_of}
 
 -- the own data with another place prepared for a class
 abbrev pub preparing : Own → ℕ → Option ℕ → Own
@@ -108,6 +108,8 @@ pub record ClaimTold (k : Config) (at old class copy : ℕ) (x : DomainView) (fo
   pub met : Knows x at ≡ Some place
   pub won : found ≡ old → ClaimWon at class copy place x y
   pub lost : found ≢ old → ClaimLost k place x found y
+  pub more : More (Knows x) (Knows y)
+  pub fit : AllFit k y
 
 -- a prepared place is given back: its head is Free again
 pub record FreeMay (x : DomainView) (at pool class slot : ℕ) : Type 0 where

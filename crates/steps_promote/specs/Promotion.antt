@@ -21,7 +21,7 @@ use Rattle.heap_rule.specs.declared.view.DomainView.{DomainView}
 use Rattle.heap_rule.specs.declared.phase.Kind.TheVariants.{Promote, Reset}
 use Rattle.heap_rule.specs.declared.phase.Stage.TheVariants.{In}
 use Rattle.heap_rule.specs.Layout.{base_of}
-use Rattle.heap_rule.specs.Places.{Place, Live, extent, values_of, unmarked, head_of, IsNewHead, IsBuilt, Stands, IsOldAt, IsOldWord, Lasts, More}
+use Rattle.heap_rule.specs.Places.{Place, Live, extent, values_of, unmarked, head_of, IsNewHead, IsBuilt, Fits, Stands, IsOldAt, IsOldWord, Lasts, More}
 use Rattle.heap_rule.specs.Changes.{value_at}
 use Rattle.heap_rule.specs.Copies.{known}
 use Rattle.heap_rule.specs.Rule.{state_of}
@@ -49,6 +49,10 @@ meeting x m = with_met x (m ∷ x.seen.copying.met)
 abbrev pub Knows : DomainView → Live
 Knows x = known x.seen.copying.met
 
+-- what the domain has met lies in the heap
+abbrev pub AllFit : Config → DomainView → Type 0
+AllFit k x = (a : ℕ) (p : Place) → Knows x a ≡ Some p → Fits k a p
+
 -- a load of the head of a block that was met, or that a register holds
 pub record HeadMay (x : DomainView) (at : ℕ) : Type 0 where
   pub stage : x.seen.stage ≡ In Promote
@@ -75,6 +79,7 @@ pub record HeadMet (k : Config) (at : ℕ) (x : DomainView) (found : ℕ) (y : D
   pub packable : IsPackableHead (head_of None place.shape unmarked false)
   pub here : Lasts (Knows y) at place
   pub more : More (Knows x) (Knows y)
+  pub fit : AllFit k y
   pub told : StaysThere at place x found y ⊎ Forwards k at place x found y
 
 -- a load of the label of a block that was met
@@ -116,6 +121,7 @@ pub record ValueMet (k : Config) (source i : ℕ) (x : DomainView) (found : ℕ)
   pub has : HasValueAt (state_of k x.seen.front) place.label i held
   pub stands : Stands (Knows y) value held
   pub more : More (Knows x) (Knows y)
+  pub fit : AllFit k y
   pub view : y ≡ with_met x y.seen.copying.met
 
 -- the domain with other copies to fill
@@ -199,6 +205,7 @@ pub record Recalled (k : Config) (at : ℕ) (x : DomainView) (found : ℕ) (y : 
   pub has : HasValueAt (state_of k x.seen.front) place.label index held
   pub stands : Stands (Knows y) value held
   pub more : More (Knows x) (Knows y)
+  pub fit : AllFit k y
   pub view : y ≡ with_met x y.seen.copying.met
 
 -- the domain with other remembered fields
