@@ -44,7 +44,7 @@ use Rattle.heap_rule.specs.Views.{one, pending_room}
 use Rattle.steps_promote.specs.Claims.{preparing, pushed, ClaimMay, ClaimWon, ClaimLost, ClaimTold}
 use Rattle.steps_promote.specs.Promotion.{met_of, Knows}
 use Rattle.steps_promote.specs.Writes.{CanClaim, Claims}
-use Rattle.heap_rule.proofs.Again.{Was}
+use Rattle.heap_rule.proofs.Again.{met_fits}
 use Rattle.heap_rule.proofs.Beside.{extent_of, found_beside, making_beside, live_word_far}
 use Rattle.heap_rule.proofs.Classes.{size_least}
 use Rattle.heap_rule.proofs.Counting.{joined_with, joined_cases, claim_counts, claim_few, sum_le, sum_times}
@@ -331,6 +331,8 @@ module _ (k : Config) (s : Words) (r : Rule k s) (id : ℕ) (hist : List Entry) 
         inside = (let l = (r.whole.placed.fits c2 lead.place lead.lives).low in l, (let h : c2 ≤ k.pools * 4096 = lead.old in let n : ℕ = k.domains * k.minor_words in let g : c2 ≤ k.pools * 4096 + n = omega arith in g));
         view = refl;
       };
+      more = known_more live (met_of c2 may.place) x.seen.copying.met (my_good k s r id hist x at).owes.knows its;
+      fit = met_fits k (known met1) live (knows_more live (met_of c2 may.place) x.seen.copying.met (my_good k s r id hist x at).owes.knows its) r.whole.placed;
     }
 
   -- the claim is won. `used2` says how many places of the pool drawn last are used then
@@ -443,6 +445,7 @@ module _ (k : Config) (s : Words) (r : Rule k s) (id : ℕ) (hist : List Entry) 
     fits_c : Fits k c pc
     fits_c = let fs = r.whole.placed.fits a p lives in record {
       built = fs.built;
+      classed = fs.classed;
       low = c_low;
       high = (let n : ℕ = extent p.shape in let y : ℕ = size_of class in let h : n ≤ y = size_fits in let u : c + y ≤ k.pools * 4096 + 1 = c_top in let m : ℕ = k.domains * k.minor_words in let g : c + n ≤ k.pools * 4096 + m + 1 = omega arith in g);
       head = fs.head;
@@ -460,7 +463,7 @@ module _ (k : Config) (s : Words) (r : Rule k s) (id : ℕ) (hist : List Entry) 
     placed2 : Placed k live2
     placed2 = record {
       fits = λ b q e. cases b q e
-          (λ same i. subst (λ (z : ℕ × Place). Fits k z.0 z.1) (λ j. (sym same j, i j)) (let fs = r.whole.placed.fits a p lives in record { built = fs.built; low = fs.low; high = fs.high; head = fs.head; label = fs.label }))
+          (λ same i. subst (λ (z : ℕ × Place). Fits k z.0 z.1) (λ j. (sym same j, i j)) (let fs = r.whole.placed.fits a p lives in record { built = fs.built; classed = fs.classed; low = fs.low; high = fs.high; head = fs.head; label = fs.label }))
           (λ same i. subst (λ (z : ℕ × Place). Fits k z.0 z.1) (λ j. (sym same j, i j)) fits_c)
           (λ na nc l. r.whole.placed.fits b q l);
       once = λ b d q u e g labels none_b none_d. cases b q e
@@ -850,6 +853,12 @@ module _ (k : Config) (s : Words) (r : Rule k s) (id : ℕ) (hist : List Entry) 
       fields = λ j at_field got. field2 at_field (w.fields j at_field got);
     }
 
+    known_two : More (Knows x) (Knows won_view)
+    known_two = known_more live2 (met_of c may.place) x.seen.copying.met (knows_again (known x.seen.copying.met) (my_good k s r id hist x at).owes.knows) met_lasts
+
+    fit_two : (b : ℕ) (q : Place) → Knows won_view b ≡ Some q → Fits k b q
+    fit_two = met_fits k (Knows won_view) live2 (knows_more live2 (met_of c may.place) x.seen.copying.met (knows_again (known x.seen.copying.met) (my_good k s r id hist x at).owes.knows) met_lasts) placed2
+
     area2 : (z : DomainView) → Area k live z → Area k live2 z
     area2 z g = record {
       room = g.room;
@@ -963,23 +972,32 @@ module _ (k : Config) (s : Words) (r : Rule k s) (id : ℕ) (hist : List Entry) 
     pub rule : Rule k record { words = set s.words (before_heap k + a) (either (eqb found old) new found); homes = s.homes; views = set s.views id (one k hist after) }
     pub told : ClaimTold k a old class c x found after
 
-  pub outcome : Outcome (at_address k s.words a)
-  outcome = ⊎_elim
-      (λ (bare : p.forward ≡ None).
+  -- the claim is won, with so many places used of the pool drawn last
+  won_outcome : (bare : p.forward ≡ None) (used2 : ℕ) → (Latest k t s.words me class → (used2 ≤ blocks_of class) × (used2 ≤ t.stock.used me class + 1) × ((j : ℕ) → used2 ≤ j → j < blocks_of class → at_address k s.words (place_in (t.stock.latest me class) class j) ≡ 0)) → Outcome (at_address k s.words a)
+  won_outcome bare used2 latest2 =
       let found : ℕ = at_address k s.words a in
       let same : found ≡ old = head_is_old bare in
       let word : either (eqb found old) new found ≡ new = ap (λ (b : Bool). either b new found) (eq-eqb found old same) in
-      let told : ClaimTold k a old class c x found won = record {
-        place = may.place;
-        met = may.met;
-        won = λ _. record { room = room_for_it bare; view = refl };
-        lost = λ differs. absurd (differs same);
-      } in
-      dite (ℕ_discrete (place_in last class used1) c)
-      (λ here. dite (dec_le (blocks_of class) used1)
-      (λ full. record { after = won; rule = subst (λ (n : ℕ). Rule k record { words = set s.words (before_heap k + a) n; homes = s.homes; views = set s.views id (one k hist won) }) (sym word) (won_rule bare used1 (same_used (λ _ below. let h : blocks_of class ≤ used1 = full in let g : used1 < blocks_of class = below in omega arith))); told = told })
-      (λ room. record { after = won; rule = subst (λ (n : ℕ). Rule k record { words = set s.words (before_heap k + a) n; homes = s.homes; views = set s.views id (one k hist won) }) (sym word) (won_rule bare (used1 + 1) (next_used here (lt_of_not-le room))); told = told }))
-      (λ other. record { after = won; rule = subst (λ (n : ℕ). Rule k record { words = set s.words (before_heap k + a) n; homes = s.homes; views = set s.views id (one k hist won) }) (sym word) (won_rule bare used1 (same_used (λ same_place _. other same_place))); told = told }))
+      let after : DomainView = won_view bare used2 latest2 in record {
+        after = after;
+        rule = subst (λ (n : ℕ). Rule k record { words = set s.words (before_heap k + a) n; homes = s.homes; views = set s.views id (one k hist after) }) (sym word) (won_rule bare used2 latest2);
+        told = record {
+          place = may.place;
+          met = may.met;
+          won = λ _. record { room = room_for_it bare; view = refl };
+          lost = λ differs. absurd (differs same);
+          more = known_two bare used2 latest2;
+          fit = fit_two bare used2 latest2;
+        };
+      }
+
+  pub outcome : Outcome (at_address k s.words a)
+  outcome = ⊎_elim
+      (λ (bare : p.forward ≡ None). dite (ℕ_discrete (place_in last class used1) c)
+          (λ here. dite (dec_le (blocks_of class) used1)
+              (λ full. won_outcome bare used1 (same_used (λ _ below. let h : blocks_of class ≤ used1 = full in let g : used1 < blocks_of class = below in omega arith)))
+              (λ room. won_outcome bare (used1 + 1) (next_used here (lt_of_not-le room))))
+          (λ other. won_outcome bare used1 (same_used (λ same_place _. other same_place))))
       (λ (t2 : (c2 : ℕ) × (p.forward ≡ Some c2)).
       let found : ℕ = at_address k s.words a in
       let differs : found ≢ old = (λ e. forwards_not p.shape old t2.0 old_head (sym e ∙ found_forward t2.0 t2.1)) in
@@ -989,12 +1007,6 @@ module _ (k : Config) (s : Words) (r : Rule k s) (id : ℕ) (hist : List Entry) 
         told = lost_told t2.0 t2.1;
       })
       (number_cases p.forward)
-    where
-      won : DomainView
-      won = record {
-        own = preparing (pushed x.own c a) class None;
-        seen = record x.seen { hunt = Rests; copying = record { met = met_of c may.place ∷ x.seen.copying.met; pending = x.seen.copying.pending ++ record { copy = c; source = a; filled = 0 } ∷ [] } };
-      }
 
 pub claim_may : (k : Config) (x : DomainView) (word a old new class c : ℕ) → word ≡ before_heap k + a → ClaimMay k x a old new class c → MayStep k x word (λ n. either (eqb n old) new n) (ClaimTold k a old class c)
 claim_may k x word a old new class c place may fits slots id hist s r _ at _ =
@@ -1019,6 +1031,7 @@ claim_closes k x found a old new class c may y fits told = dite (ℕ_discrete fo
         used = fits.used;
         registers = fits.registers;
         looked = fits.looked;
+        remembered = fits.remembered;
         prepared = length-set x.own.prepared class None ∙ fits.prepared;
         pending = (let n : ℕ = length x.own.pending.items in let e : ℕ = x.own.pending.room in let h : 1 ≤ e = w.room in
             ap (λ (m : ℕ). e - 1 + m) (longer x.own.pending.items (record { copy = c; source = a })) ∙ ((let g : e - 1 + (n + 1) ≡ e + n = omega arith in g) ∙ fits.pending));

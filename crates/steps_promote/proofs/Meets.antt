@@ -33,6 +33,7 @@ use Rattle.heap_rule.specs.Rule.{state_of, Rule, Stood}
 use Rattle.heap_rule.specs.Views.{one, Tells}
 use Rattle.heap_rule.specs.Standing.{IsAt}
 use Rattle.steps_promote.specs.Promotion.{form_of, met_of, with_met, meeting, Knows, HeadMay, StaysThere, Forwards, HeadMet, LabelMay, LabelMet, HasValueAt, ValueMay, ValueMet, RecallMay, Recalled}
+use Rattle.heap_rule.proofs.Again.{met_fits}
 use Rattle.heap_rule.proofs.Beside.{extent_of}
 use Rattle.heap_rule.proofs.Blocks.{lives_at}
 use Rattle.heap_rule.proofs.Values.{address_of, packable}
@@ -175,6 +176,7 @@ module _ (k : Config) (s : Words) (r : Rule k s) (id : ℕ) (hist : List Entry) 
               packable = packs;
               here = known_met a p ms (built a p lives);
               more = grows1;
+              fit = met_fits k (known (m ∷ ms)) live more1 r.whole.placed;
               told = inl record { head = subst (λ (o : Option ℕ). HeadIs o p.shape unmarked false (at_address k s.words a)) none f.head; view = refl };
             };
           })
@@ -193,6 +195,7 @@ module _ (k : Config) (s : Words) (r : Rule k s) (id : ℕ) (hist : List Entry) 
               packable = packs;
               here = lasts_more (known (m ∷ ms)) (known (n ∷ m ∷ ms)) a p (known_more live n (m ∷ ms) more1 its) (known_met a p ms (built a p lives));
               more = more_trans (known ms) (known (m ∷ ms)) (known (n ∷ m ∷ ms)) grows1 (known_more live n (m ∷ ms) more1 its);
+              fit = met_fits k (known (n ∷ m ∷ ms)) live (knows_more live n (m ∷ ms) more1 its) r.whole.placed;
               told = inr record {
                 copy = c;
                 word = subst (λ (o : Option ℕ). HeadIs o p.shape unmarked false (at_address k s.words a)) t.1 f.head;
@@ -265,6 +268,7 @@ module _ (k : Config) (s : Words) (r : Rule k s) (id : ℕ) (hist : List Entry) 
           has = subst (λ (log : List Entry). HasValueAt (state_of k log) may.place.label i v.0) (sym front) record { node = f.node; there = ap (node_at now.graph) (sym l.label) ∙ f.there; is = v.1 };
           stands = m.stands;
           more = m.more;
+          fit = met_fits k (known m.met) live m.lives r.whole.placed;
           view = refl;
         };
       }
@@ -307,6 +311,7 @@ module _ (k : Config) (s : Words) (r : Rule k s) (id : ℕ) (hist : List Entry) 
           has = subst (λ (log : List Entry). HasValueAt (state_of k log) p.label u.index v.0) (sym front) record { node = f.node; there = f.there; is = v.1 };
           stands = stands_more (known m.met) (known (b ∷ m.met)) w.value v.0 grows m.stands;
           more = more_trans (Knows x) (known m.met) (known (b ∷ m.met)) m.more grows;
+          fit = met_fits k (known (b ∷ m.met)) live (knows_more live b m.met m.lives lasts) r.whole.placed;
           view = refl;
         };
       }

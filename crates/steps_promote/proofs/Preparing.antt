@@ -259,7 +259,7 @@ pub prepared_closes : (k : Config) (x y : DomainView) (class : ℕ) (v : Option 
 prepared_closes k x y class v can writes promotes allowed wrote fits own = record {
   can_write = allowed;
   written = wrote;
-  fits = subst (OwnFits k) (sym own) record { number = fits.number; used = fits.used; registers = fits.registers; looked = fits.looked; prepared = length-set x.own.prepared class v ∙ fits.prepared; pending = fits.pending };
+  fits = subst (OwnFits k) (sym own) record { number = fits.number; used = fits.used; registers = fits.registers; looked = fits.looked; remembered = fits.remembered; prepared = length-set x.own.prepared class v ∙ fits.prepared; pending = fits.pending };
   once = promote_once k x y promotes;
 }
 

@@ -23,7 +23,7 @@ use Rattle.heap_rule.specs.Places.{Place, Live, Stands, More}
 use Rattle.heap_rule.specs.Raw.{StepsOnce, MayStep, Closes}
 use Rattle.heap_rule.specs.Rule.{state_of, Rule, Stood}
 use Rattle.heap_rule.specs.Standing.{with_registers}
-use Rattle.heap_rule.specs.Token.{Holds, LooksWithin}
+use Rattle.heap_rule.specs.Token.{AllInHeap, Holds, LooksWithin}
 use Rattle.heap_rule.specs.Views.{one}
 use Rattle.steps_promote.specs.Promotion.{Knows, MoveMay, MoveTold}
 use Rattle.steps_promote.specs.Writes.{CanMove, Moves}
@@ -128,6 +128,7 @@ move_closes k x found reg copy may y fits told =
         used = subst (λ (o : Own). o.used ≤ k.minor_words) (sym own) fits.used;
         registers = told.holds;
         looked = subst (λ (o : Own). LooksWithin k o.looked) (sym own) fits.looked;
+        remembered = subst (λ (o : Own). AllInHeap k o.remembered.items) (sym own) fits.remembered;
         prepared = ap (λ (o : Own). length o.prepared) own ∙ fits.prepared;
         pending = ap (λ (o : Own). o.pending.room + length o.pending.items) own ∙ fits.pending;
       };
