@@ -1,5 +1,5 @@
 -- The making of a block in the own minor area keeps the rule.
-use Rattle.std.proofs.Common.{◌≡◌, ◌≢◌, ℕ, suc, ◌+◌, ◌*◌, ◌^◌, ◌<◌, ◌≤◌, ◌⊎◌, false, ne_eqb, List, [], ◌∷◌, ◌++◌, length, get_or, set, replicate, slice_get, pos, Option, Some, None, sym, refl, ap, ◌∙◌, subst, inl, inr, ⊎_elim, arith, length-set, get_or-set_same, get_or-set_other, lt_of_not-le}
+use Rattle.std.proofs.Common.{◌≡◌, ◌≢◌, ℕ, suc, ◌+◌, ◌*◌, ◌^◌, ◌<◌, ◌≤◌, ◌⊎◌, Bool, true, false, nat_le, if◌then◌else◌, leb-true, ne_eqb, List, zero, [], ◌∷◌, ◌++◌, length, get_or, set, replicate, slice_get, pos, Option, Some, None, sym, refl, ap, ◌∙◌, subst, inl, inr, ⊎_elim, arith, length-set, get_or-set_same, get_or-set_other, lt_of_not-le}
 use Rattle.std.proofs.lemmas.List.{length-replicate}
 use Rattle.std.proofs.lemmas.Int.{ints}
 use Rattle.std.proofs.lemmas.Bool.Decides.{nat_tests}
@@ -36,7 +36,8 @@ use Rattle.heap_rule.specs.declared.config.Config.{Config}
 use Rattle.heap_rule.specs.declared.view.DomainView.{DomainView}
 use Rattle.heap_rule.specs.Limits.{sizes_in}
 use Rattle.heap_rule.specs.Layout.{heap_words, before_heap, base_of, at_address, table_words, listed}
-use Rattle.heap_rule.specs.Places.{unmarked, IsHeadOf, Place, Live, extent, class_words, span, Stands, Found, Fits, Placed, Spread, Settled, More}
+use Rattle.size_classes.specs.declared.TheConstants.{SIZES}
+use Rattle.heap_rule.specs.Places.{unmarked, IsHeadOf, Place, Live, extent, least_size, class_words, HasClass, span, Stands, Found, Fits, Placed, Spread, Settled, More}
 use Rattle.heap_rule.specs.Copies.{Recalls}
 use Rattle.heap_rule.specs.Room.{Opened}
 use Rattle.heap_rule.specs.Changes.{value_at, changed, FitChanges}
@@ -129,6 +130,18 @@ pub class_fits : (words : ℕ) → words ≤ 128 → words ≤ class_words words
 unfolding class_words
 class_fits words few = grind (arith, nat_tests)
 
+-- the least size that has room is that of a class
+class_of_size : (sizes : List ℕ) (words : ℕ) → 0 < words → words ≤ least_size sizes words → (c : ℕ) × (c < length sizes) × (words ≤ get_or sizes c 0)
+class_of_size [] words few fits = absurd (omega arith)
+class_of_size (z ∷ zs) words few fits = pick (nat_le words z) refl (λ e. let r = class_of_size zs words few (subst (λ (b : Bool). words ≤ (if b then z else least_size zs words)) e fits) in (suc r.0, (let h = r.1 in omega arith), r.2)) where
+  pick : (b : Bool) → nat_le words z ≡ b → (nat_le words z ≡ false → (c : ℕ) × (c < length (z ∷ zs)) × (words ≤ get_or (z ∷ zs) c 0)) → (c : ℕ) × (c < length (z ∷ zs)) × (words ≤ get_or (z ∷ zs) c 0)
+  pick true e later = (0, omega arith, leb-true words z e)
+  pick false e later = later e
+
+some_class : (words : ℕ) → 0 < words → words ≤ 128 → HasClass words
+unfolding class_words
+some_class words low few = class_of_size SIZES words low (class_fits words few)
+
 module _ (k : Config) (s : Words) (r : Rule k s) (id : ℕ) (hist : List Entry) (x : DomainView) (at : get_elem? s.views id ≡ some (one k hist x)) (a new : ℕ) (changes : List Change) (dst tag n : ℕ)
     (may : AllocMay k x a new changes x.own.number dst tag n) where
   abbrev d : ℕ
@@ -191,6 +204,7 @@ module _ (k : Config) (s : Words) (r : Rule k s) (id : ℕ) (hist : List Entry) 
   fits_born : Fits k A born_place
   fits_born = record {
     built = tt;
+    classed = some_class (n + 2) (omega arith) (let f = may.few_fields in omega arith);
     low = let y : ℕ = d * k.minor_words in let z : ℕ = k.pools * 4096 in let o : 1 ≤ z + y + 1 + x.own.used = omega arith in o;
     high = let h = high in let i = inside in let b : ℕ = base_of k d in let w : ℕ = heap_words k in let p : b + k.minor_words ≤ w + 1 = i in let o : A + (n + 2) ≤ w + 1 = omega arith in o;
     head = (may.some_field, (let f = may.few_fields in omega arith), may.tag_fits, omega arith);

@@ -12,7 +12,7 @@ use Rattle.heap_rule.specs.Changes.{changed, FitChanges}
 use Rattle.heap_rule.specs.Raw.{CanChange, Changes, Closes}
 use Rattle.heap_rule.specs.Standing.{LeavesOwn}
 use Rattle.heap_rule.specs.Places.{class_words}
-use Rattle.heap_rule.specs.Token.{LooksWithin, OwnFits, next_label}
+use Rattle.heap_rule.specs.Token.{AllInHeap, LooksWithin, OwnFits, next_label}
 use Rattle.heap_rule.proofs.ChangeLemmas.{changed_only}
 use Rattle.steps_making.specs.Inits.{fields_of, WordTold, AllocTold, CanCount, Counts}
 use Rattle.heap_rule.proofs.Closes.{front_same}
@@ -54,6 +54,7 @@ alloc_closes k x new words e changes fits class room small serial y p told =
         used = subst (λ (o : Own). o.used ≤ k.minor_words) (sym rest) room;
         registers = told.holds;
         looked = subst (λ (o : Own). LooksWithin k o.looked) (sym rest) p.looked;
+        remembered = subst (λ (o : Own). AllInHeap k o.remembered.items) (sym rest) p.remembered;
         prepared = ap (λ (o : Own). length o.prepared) rest ∙ p.prepared;
         pending = ap (λ (o : Own). o.pending.room + length o.pending.items) rest ∙ p.pending;
       };

@@ -37,7 +37,7 @@ use Rattle.heap_rule.specs.declared.view.Hunt.TheVariants.{Rests}
 use Rattle.heap_rule.specs.Limits.{sizes_in}
 use Rattle.heap_rule.specs.Layout.{before_heap, at_address, table_words}
 use Rattle.heap_rule.specs.Copies.{Recalls}
-use Rattle.heap_rule.specs.Places.{Place, Live, extent, Found, Fits, Placed, Spread, Stands, More, Settled, IsOldWord}
+use Rattle.heap_rule.specs.Places.{HasClass, Place, Live, extent, Found, Fits, Placed, Spread, Stands, More, Settled, IsOldWord}
 use Rattle.heap_rule.specs.Changes.{value_at, changed, FitChanges}
 use Rattle.heap_rule.specs.Views.{one, Tells}
 use Rattle.heap_rule.specs.Raw.{MayStore}
@@ -150,9 +150,14 @@ module _ (k : Config) (s : Words) (r : Rule k s) (id : ℕ) (hist : List Entry) 
   fresh_label : (b : ℕ) (q : Place) → r.account.live b ≡ Some q → q.label ≢ L
   fresh_label b q lives same = let f = r.whole.found b q lives in absurd (let clash : ◌≡◌ {A = Option Node} None (Some f.node) = sym fresh ∙ (ap (node_at now.graph) (sym same) ∙ f.there) in cc)
 
+  has_class : HasClass (n + 2)
+  unfolding size_of
+  has_class = (class, (r.whole.pools.owned_by pool d class F.own_is).2, in_class)
+
   fits_born : Fits k A born_place
   fits_born = record {
     built = tt;
+    classed = has_class;
     low = omega arith;
     high = let h = in_pools in let b : ℕ = A in let t : b + (n + 2) ≤ k.pools * 4096 + 1 = h in let w : ℕ = k.domains * k.minor_words in let o : b + (n + 2) ≤ k.pools * 4096 + w + 1 = omega arith in o;
     head = (may.some_field, (let f = may.few_fields in omega arith), may.tag_fits, omega arith);

@@ -16,7 +16,7 @@ use Rattle.heap_rule.specs.Changes.{changed, FitChanges}
 use Rattle.heap_rule.specs.Limits.{sizes_in}
 use Rattle.heap_rule.specs.Pools.{blocks_of, owned, owner_word, limit_of, spot_at, hunting}
 use Rattle.heap_rule.specs.Raw.{Closes, StepsOnce}
-use Rattle.heap_rule.specs.Token.{LooksWithin, OwnFits, next_label}
+use Rattle.heap_rule.specs.Token.{AllInHeap, LooksWithin, OwnFits, next_label}
 use Rattle.heap_rule.proofs.ChangeLemmas.{changed_only}
 use Rattle.heap_rule.proofs.Classes.{some_block}
 use Rattle.steps_pools.specs.Takes.{CursorTold, CursorAddTold, OwnedTold, OwnerTold, PlaceTold, MajorTold}
@@ -81,7 +81,7 @@ looks_set k own class spot l low small = record {
 
 -- and the token's own data fits again
 looking_fits : (k : Config) (x y : DomainView) (class : ℕ) (spot : Spot) → OwnFits k x.own → y.own ≡ looking x.own class spot → spot.pool ≤ k.pools → spot.slot < blocks_of class → OwnFits k y.own
-looking_fits k x y class spot fits is low small = subst (OwnFits k) (sym is) record { number = fits.number; used = fits.used; registers = fits.registers; looked = looks_set k x.own class spot fits.looked low small; prepared = fits.prepared; pending = fits.pending }
+looking_fits k x y class spot fits is low small = subst (OwnFits k) (sym is) record { number = fits.number; used = fits.used; registers = fits.registers; looked = looks_set k x.own class spot fits.looked low small; remembered = fits.remembered; prepared = fits.prepared; pending = fits.pending }
 
 -- the pools are few
 few_pools : (k : Config) (pool : ℕ) → IsWithinLimits (sizes_in k) → pool < k.pools → pool < 2048
@@ -151,6 +151,7 @@ major_closes k x new e changes fit serial y fits told =
         used = subst (λ (o : Own). o.used ≤ k.minor_words) (sym rest) fits.used;
         registers = told.holds;
         looked = subst (λ (o : Own). LooksWithin k o.looked) (sym rest) fits.looked;
+        remembered = subst (λ (o : Own). AllInHeap k o.remembered.items) (sym rest) fits.remembered;
         prepared = ap (λ (o : Own). length o.prepared) rest ∙ fits.prepared;
         pending = ap (λ (o : Own). o.pending.room + length o.pending.items) rest ∙ fits.pending;
       };

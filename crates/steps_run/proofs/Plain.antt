@@ -1,5 +1,5 @@
 -- What the step calls tell of a token's plain data: it is what their changes make of it.
-use Rattle.std.proofs.Common.{inl, inr, ◌≡◌, ◌+◌, ◌<◌, ◌≤◌, ℕ, Bool, List, [], length, sym, ap, ◌∙◌, subst, lt_of_not-le}
+use Rattle.std.proofs.Common.{zero, suc, ◌∷◌, inl, inr, ◌≡◌, ◌+◌, ◌<◌, ◌≤◌, ℕ, Bool, List, [], length, sym, ap, ◌∙◌, subst, lt_of_not-le}
 use mathlib.Core.Logic.{dite}
 use native.Mathlib.Decide.{dec_le}
 use Rattle.heap_model.specs.declared.entry.Entry.{Entry}
@@ -20,8 +20,9 @@ use Rattle.heap_rule.specs.Raw.{StepsOnce, CanChange, Changes, Written, Closes}
 use Rattle.heap_rule.proofs.Plain.{fits_changed, entered_own, enters_once, changed_unread, entered_closes}
 use Rattle.heap_rule.proofs.Closes.{front_same}
 use Rattle.heap_rule.proofs.ChangeLemmas.{changed_only}
-use Rattle.steps_run.specs.Stores.{remembering_own, StoreTold, CanStore, Stores}
-use Rattle.heap_rule.specs.Token.{Holds, LooksWithin, OwnFits}
+use Rattle.steps_run.specs.Stores.{with_field, remembering_own, StoreTold, CanStore, Stores}
+use Rattle.heap_rule.specs.Token.{AllInHeap, Holds, LooksWithin, OwnFits}
+use Rattle.heap_rule.specs.Standing.{IsInHeap}
 use Rattle.steps_run.specs.Loads.{place_of, HeadCase, HeadTold, LabelTold, FieldRead}
 use Rattle.steps_run.specs.Ticks.{tick_answer, TickTold}
 
@@ -40,9 +41,16 @@ pub tick_closes : (k : Config) (x : DomainView) (e : Entry) (changes : List Chan
 tick_closes k x e changes fits found = entered_closes k x found e (tick_answer e) changes fits
 
 -- a store makes the changes, and remembers the field where it is to
-pub store_closes : (k : Config) (x : DomainView) (at new : ℕ) (remembers : Bool) (e : Entry) (changes : List Change) → CanStore remembers changes x.own
+field_in_heap : (k : Config) (remembers : Bool) (at : ℕ) (l : List ℕ) → IsInHeap k at → AllInHeap k l → AllInHeap k (with_field remembers at l)
+field_in_heap k false at l inside all i a e = all i a e
+field_in_heap k true at [] inside all zero a e = subst (IsInHeap k) (let same : at ≡ a = cc in same) inside
+field_in_heap k true at [] inside all (suc i) a e = cc
+field_in_heap k true at (x ∷ l) inside all zero a e = all 0 a e
+field_in_heap k true at (x ∷ l) inside all (suc i) a e = field_in_heap k true at l inside (λ j b got. all (suc j) b got) i a e
+
+pub store_closes : (k : Config) (x : DomainView) (at new : ℕ) (remembers : Bool) (e : Entry) (changes : List Change) → IsInHeap k at → CanStore remembers changes x.own
     → Closes k x new (λ y _ z. StoreTold k e at remembers changes y z) (CanStore remembers changes) (Stores at remembers changes)
-store_closes k x at new remembers e changes can y p told =
+store_closes k x at new remembers e changes inside can y p told =
     let own : y.own ≡ remembering_own remembers at (changed Nothing changes x.own) = ap (λ (z : DomainView). z.own) told.view in
     let rest : y.own ≡ remembering_own remembers at (record x.own { registers = (changed Nothing changes x.own).registers }) = own ∙ ap (remembering_own remembers at) (changed_only Nothing changes x.own) in record {
       can_write = can;
@@ -52,6 +60,7 @@ store_closes k x at new remembers e changes can y p told =
         used = subst (λ (o : Own). o.used ≤ k.minor_words) (sym rest) p.used;
         registers = told.holds;
         looked = subst (λ (o : Own). LooksWithin k o.looked) (sym rest) p.looked;
+        remembered = subst (λ (o : Own). AllInHeap k o.remembered.items) (sym rest) (field_in_heap k remembers at x.own.remembered.items inside p.remembered);
         prepared = ap (λ (o : Own). length o.prepared) rest ∙ p.prepared;
         pending = ap (λ (o : Own). o.pending.room + length o.pending.items) rest ∙ p.pending;
       };

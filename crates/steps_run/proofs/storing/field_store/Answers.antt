@@ -8,5 +8,5 @@ raw_store-requires-clause-may g c =
 
 pub raw_store-requires-clause-closes : goal.raw_store-requires-clause-closes
 raw_store-requires-clause-closes g c =
-    store_closes c.args.heap.now.config c.args.dom.now.view c.args.at c.args.new c.args.remembers g.entry c.args.changes.now
+    store_closes c.args.heap.now.config c.args.dom.now.view c.args.at c.args.new c.args.remembers g.entry c.args.changes.now c.requires.1.0
     (field_store_fits c.args.heap.now.config c.args.dom.now.view c.args.at c.args.new c.args.remembers c.args.changes.now g.entry c.requires.1.1)
