@@ -22,14 +22,14 @@ pub fn want_load(heap: &Heap, dom: &mut Domain) -> u64
     raw_load::<Brand, Leaving>(heap, dom, WANT, &Leaving, &[])
 }
 
-/// A running domain sets bits of the want word. Answers the word as it was.
-pub fn ask(heap: &Heap, dom: &mut Domain, bits: u64) -> u64
+/// A running domain sets bits of the want word.
+pub fn ask(heap: &Heap, dom: &mut Domain, bits: u64)
     requires here { IsIn dom.old heap.now }
     requires runs { dom.old.view.seen.stage ≡ In Run }
     ensures here { IsIn dom.new heap.now }
-    ensures told { AskTold bits dom.old.view result dom.new.view }
+    ensures told { AskTold bits dom.old.view 0 dom.new.view }
 {
-    raw_or::<Brand, Leaving>(heap, dom, WANT, bits, &Leaving, &[])
+    raw_or::<Brand, Leaving>(heap, dom, WANT, bits, &Leaving, &[]);
 }
 
 // The arrival is counted.
@@ -48,14 +48,14 @@ impl Writing for Arriving {
     }
 }
 
-/// The domain arrives. Answers the barrier word as it was.
-pub fn arrive(heap: &Heap, dom: &mut Domain) -> u64
+/// The domain arrives.
+pub fn arrive(heap: &Heap, dom: &mut Domain)
     requires here { IsIn dom.old heap.now }
     requires may { ArriveMay dom.old.view }
     ensures here { IsIn dom.new heap.now }
-    ensures told { Arrived dom.old.view result dom.new.view }
+    ensures told { Arrived dom.old.view 0 dom.new.view }
 {
-    raw_add::<Brand, Arriving>(heap, dom, BARRIER, 1, &Arriving, &[])
+    raw_add::<Brand, Arriving>(heap, dom, BARRIER, 1, &Arriving, &[]);
 }
 
 /// A load of the barrier word by a domain that has arrived. Answers the word: where it isn't below the
@@ -99,12 +99,12 @@ pub fn plan_store(heap: &Heap, dom: &mut Domain, new: u64)
 }
 
 /// The end of a trace: the ended word rises by one, and the entry of the end stands there. The
-/// registers hold nothing then. Answers how many traces had ended before.
-pub fn ended_add(heap: &Heap, dom: &mut Domain) -> u64
+/// registers hold nothing then.
+pub fn ended_add(heap: &Heap, dom: &mut Domain)
     requires here { IsIn dom.old heap.now }
     requires acts { Acts heap.now.config dom.old.view }
     ensures here { IsIn dom.new heap.now }
-    ensures told { EndTold heap.now.config dom.old.view result dom.new.view }
+    ensures told { EndTold heap.now.config dom.old.view 0 dom.new.view }
 {
     let writing = Changing {
         at: 0,
@@ -113,7 +113,7 @@ pub fn ended_add(heap: &Heap, dom: &mut Domain) -> u64
     let changes = [Change::Clear {
         part: Part::Register,
     }];
-    raw_add::<Brand, Changing>(heap, dom, ENDED, 1, &writing, &changes)
+    raw_add::<Brand, Changing>(heap, dom, ENDED, 1, &writing, &changes);
 }
 
 /// A load of the ended word. Answers how many traces have ended.
