@@ -36,7 +36,7 @@ own d c full = ap (λ (b : Bool). cond b (c ∷ []) []) (eq-eqb d d refl)
 -- the entry that stands
 pub stood : (h : SharedHeap) (old new : Token) (c : model.Command) (r : Reply) → Stands h old new c r → (full : Bool) × Enters old new c full r
 stood h old new (Alloc dst tag fields) r s = ⊎_elim (λ a. (false, a.0)) (λ b. (true, b.0)) s
-stood h old new (AllocMaj dst tag fields) r s = ⊎_elim (λ a. (false, a)) (λ b. (true, b.0)) s
+stood h old new (AllocMaj dst tag fields) r s = ⊎_elim (λ a. (false, a.0)) (λ b. (true, b.0)) s
 stood h old new (PutInt dst z) r s = (false, s)
 stood h old new c r s = (false, s)
 

@@ -22,7 +22,7 @@ use Rattle.heap_rule.specs.Running.{Runs, Stays}
 use Rattle.steps_pools.specs.Takes.{NoneFree}
 use Rattle.heap_rule.specs.Token.{Token, SharedHeap}
 use Rattle.minor_area.specs.Area.{HasRoom, IsOpen, IsShut}
-use Rattle.size_pools.specs.Taken.{Reserved}
+use Rattle.size_pools.specs.Taken.{Reserved, HasPlace}
 
 -- the commands that run on the shared heap so far, with their numbers in their ranges
 abbrev pub FitsHeap : Command → Type 0
@@ -56,6 +56,10 @@ pub record HasNoPool (k : Config) (fields : ℕ) (y : DomainView) : Type 0 where
   pub reserved : Reserved k free y
   pub none_free : (class : ℕ) → IsLeastFor SIZES (fields + 2) class → NoneFree k y class
 
+-- a place for so many fields was found in an own pool, or more pools were found free than the reserve of promotion
+abbrev pub HasPool : Config → ℕ → DomainView → DomainView → Type 0
+HasPool k fields x y = (class : ℕ) → IsLeastFor SIZES (fields + 2) class → HasPlace k class x y
+
 -- the minor area has room for a block of so many fields, and as many pools were found free as promotion may need
 pub record HasSpace (h : SharedHeap) (old new : Token) (fields : ℕ) : Type 0 where
   pub room : HasRoom h.config old.view fields
@@ -68,7 +72,7 @@ HasNoSpace h old new fields = (h.config.minor_words < old.view.own.used + class_
 -- the entry that stands: `full` for a young block exactly where the minor area has no room or too few pools are free, and for one of the major heap exactly where no pool is to be had
 abbrev pub Stands : SharedHeap → Token → Token → Command → Reply → Type 0
 Stands h old new (Alloc dst tag fields) r = (Enters old new (Alloc dst tag fields) false r × HasSpace h old new fields) ⊎ (Enters old new (Alloc dst tag fields) true r × HasNoSpace h old new fields)
-Stands h old new (AllocMaj dst tag fields) r = Enters old new (AllocMaj dst tag fields) false r ⊎ (Enters old new (AllocMaj dst tag fields) true r × HasNoPool h.config fields new.view)
+Stands h old new (AllocMaj dst tag fields) r = (Enters old new (AllocMaj dst tag fields) false r × HasPool h.config fields old.view new.view) ⊎ (Enters old new (AllocMaj dst tag fields) true r × HasNoPool h.config fields new.view)
 Stands h old new c r = Enters old new c false r
 
 -- the entry of the command was made with the reply `full`

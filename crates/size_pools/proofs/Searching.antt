@@ -1,15 +1,18 @@
 -- Steps of a search one behind the other.
-use Rattle.heap_model.specs.Domains.{class_count}
-use Rattle.std.proofs.Common.{◌≡◌, ◌≢◌, ◌∙◌, ℕ, ◌+◌, ◌<◌, ◌≤◌, List, length, set, [], Some, None, Option, refl, ap, sym, subst, arith, get_or-set_same}
+use Rattle.heap_model.specs.Domains.{class_count, reserve}
+use Rattle.std.proofs.Common.{◌≡◌, ◌≢◌, ◌∙◌, ℕ, ◌+◌, ◌-◌, ◌<◌, ◌≤◌, List, length, set, [], Some, None, Option, refl, ap, sym, subst, arith, lt_of_not-le, get_or-set_same}
+use mathlib.Core.Logic.{dite}
+use native.Mathlib.Decide.{dec_le}
 use Rattle.heap_rule.specs.declared.view.DomainView.{DomainView}
 use Rattle.heap_rule.specs.declared.view.Hunt.{Hunt}
-use Rattle.heap_rule.specs.declared.view.Hunt.TheVariants.{Rests, Draws, Walks, Fills}
+use Rattle.heap_rule.specs.declared.view.Hunt.TheVariants.{Rests, Counts, Asks, Draws, Walks, Fills}
 use Rattle.heap_rule.specs.declared.view.Spot.{Spot}
 use Rattle.heap_rule.specs.declared.config.Config.{Config}
-use Rattle.heap_rule.specs.Pools.{owned, owner_word, blocks_of, place_in, drawn_in, spot_at, hunting, hunting_free}
-use Rattle.steps_pools.specs.Takes.{with_hunt, looked_to, NoneFree, OwnerMay, ListTold, OwnerTold, PlaceTold}
+use Rattle.heap_rule.specs.Limits.{sizes_in}
+use Rattle.heap_rule.specs.Pools.{owned, owner_word, blocks_of, place_in, drawn_in, limit_of, spot_at, hunting, hunting_free}
+use Rattle.steps_pools.specs.Takes.{with_hunt, looked_to, NoneFree, ListedTold, CursorTold, Drew, OwnerMay, ListTold, OwnerTold, PlaceTold}
 use Rattle.heap_rule.proofs.Classes.{some_block}
-use Rattle.size_pools.specs.Taken.{Hunted, DrewPool, Took, Missed, Passed}
+use Rattle.size_pools.specs.Taken.{Hunted, DrewPool, Unreserved, Took, Missed, Passed}
 
 pub hunted_twice : (x y z : DomainView) (g h : Hunt) → Hunted x y g → Hunted y z h → Hunted x z h
 hunted_twice x y z g h a b = b ∙ ap (λ (v : DomainView). hunting_free v z.own.looked h z.seen.free) a
@@ -41,6 +44,11 @@ module _ (x v y : DomainView) (pool class i found : ℕ) (few : class < class_co
       subst (λ (s : Spot). pool < s.pool) (sym (spot_of v y class (record { pool = pool + 1; slot = 0 }) (Walks pool class) few told.wide e)) (omega arith),
     )
 
+    pub walked_free : y.seen.free ≡ v.seen.free
+    walked_free = dite (dec_le (blocks_of class) (i + 1))
+        (λ last. ap (λ (z : DomainView). z.seen.free) (told.last full last))
+        (λ not_last. ap (λ (z : DomainView). z.seen.free) (told.full full (lt_of_not-le not_last)))
+
   pub walked_took : (k : Config) (a : ℕ) → pool < k.pools → i < blocks_of class → a ≡ place_in pool class i → found ≡ 0 → Took k class a x y
   walked_took k a inside below is free = record { pool = pool; slot = i; inside = inside; below = below; address = is; view = hunted_twice x v y (Walks pool class) (Fills pool class i _) hunted (hunted_of v y _ (Fills pool class i _) (told.free free)) }
 
@@ -59,39 +67,64 @@ took_after k class a x v y missed t = record { pool = t.pool; slot = t.slot; ins
 some_pool : (p q : ℕ) → ◌≡◌ {A = Option ℕ} (Some p) (Some q) → p ≡ q
 some_pool p q e = cc
 
--- a pool drawn, cleared and signed: its first place is taken
-pub drawn_took : (k : Config) (x v1 v2 v3 v4 : DomainView) (place class found a : ℕ) → class < class_count → DrewPool k place class x v1 → ListTold v1 found v2
-    → ((p : ℕ) → v2.seen.hunt ≡ Draws p found class 0 → v3 ≡ with_hunt v2 (Draws p found class (blocks_of class)))
-    → v4 ≡ looked_to v3 class (record { pool = found; slot = 0 }) (Fills found class 0 []) → a ≡ place_in found class 0 → Took k class a x v4
-drawn_took k x v1 v2 v3 v4 place class found a few d list cleared signed is =
-    let hunt1 : v1.seen.hunt ≡ Draws place d.pool class 0 = ap (λ (z : DomainView). z.seen.hunt) d.view in
-    let pool_is : d.pool ≡ found = some_pool d.pool found (sym (ap drawn_in hunt1) ∙ list.names) in
-    let hunt2 : v2.seen.hunt ≡ Draws place found class 0 = ap (λ (z : DomainView). z.seen.hunt) list.view ∙ (hunt1 ∙ ap (λ (p : ℕ). Draws place p class 0) pool_is) in
-    let e3 = cleared place hunt2 in
-    let h1 : Hunted x v1 (Draws place d.pool class 0) = d.view in
-    let h2 : Hunted x v2 (Draws place d.pool class 0) = subst (λ (z : DomainView). Hunted x z (Draws place d.pool class 0)) (sym list.view) h1 in
-    let h3 : Hunted x v3 (Draws place found class (blocks_of class)) = hunted_twice x v2 v3 (Draws place d.pool class 0) (Draws place found class (blocks_of class)) h2 (hunted_of v2 v3 _ (Draws place found class (blocks_of class)) e3) in record {
-      pool = found;
-      slot = 0;
-      inside = subst (λ (p : ℕ). p < k.pools) pool_is d.inside;
-      below = (some_block class few).0;
-      address = is;
-      view = hunted_twice x v3 v4 (Draws place found class (blocks_of class)) (Fills found class 0 []) h3 (hunted_of v3 v4 _ (Fills found class 0 []) signed);
+-- the cursor was below the limit at a load, and at the add that drew the pool
+pub drew_pool : (k : Config) (x v1 v2 y : DomainView) (count found place class : ℕ) → ListedTold k x count v1 → CursorTold k count (Asks count) v1 found v2 → found < limit_of k count → Drew k place class v2 y → DrewPool k place class x y
+drew_pool k x v1 v2 y count found place class listed told below d =
+    let e2 = told.below below in
+    let h1 : Hunted x v1 (Counts count) = hunted_of x v1 x.own.looked (Counts count) listed.view in
+    let h2 : Hunted x v2 (Asks count) = hunted_twice x v1 v2 (Counts count) (Asks count) h1 (hunted_free v1 v2 v1.own.looked (Asks count) (Some (count - found)) e2) in record {
+      pool = d.pool;
+      listed_is = d.listed_is;
+      inside = d.inside;
+      view = hunted_twice x v2 y (Asks count) (Draws place d.pool class 0) h2 (hunted_of v2 y v2.own.looked (Draws place d.pool class 0) d.view);
+      looked = ap (λ (z : DomainView). z.own.looked) d.view ∙ (ap (λ (z : DomainView). z.own.looked) e2 ∙ ap (λ (z : DomainView). z.own.looked) listed.view);
+      unreserved = record {
+        free = count - found;
+        found = ap (λ (z : DomainView). z.seen.free) d.view ∙ ap (λ (z : DomainView). z.seen.free) e2;
+        more = let r : ℕ = reserve (sizes_in k) in let b : found < count - r = below in let m : r < count - found = omega arith in m;
+      };
     }
 
--- the pool drawn and cleared may be signed
-pub owner_ready : (k : Config) (x v1 v2 v3 : DomainView) (place class found word new : ℕ) → DrewPool k place class x v1 → ListTold v1 found v2
-    → ((p : ℕ) → v2.seen.hunt ≡ Draws p found class 0 → v3 ≡ with_hunt v2 (Draws p found class (blocks_of class)))
-    → NoneFree k x class → word ≡ 11 + k.pools + found → new ≡ owner_word (owned v3.own.number class) → OwnerMay k v3 word new found class
-owner_ready k x v1 v2 v3 place class found word new d list cleared none at signs =
-    let hunt1 : v1.seen.hunt ≡ Draws place d.pool class 0 = ap (λ (z : DomainView). z.seen.hunt) d.view in
-    let pool_is : d.pool ≡ found = some_pool d.pool found (sym (ap drawn_in hunt1) ∙ list.names) in
-    let hunt2 : v2.seen.hunt ≡ Draws place found class 0 = ap (λ (z : DomainView). z.seen.hunt) list.view ∙ (hunt1 ∙ ap (λ (p : ℕ). Draws place p class 0) pool_is) in
-    let e3 = cleared place hunt2 in
-    let looked : v3.own.looked ≡ x.own.looked = ap (λ (z : DomainView). z.own.looked) e3 ∙ (ap (λ (z : DomainView). z.own.looked) list.view ∙ d.looked) in record {
-      place = place;
-      hunt = ap (λ (z : DomainView). z.seen.hunt) e3;
-      word = at;
-      signs = signs;
-      none_free = subst (λ (l : List Spot). k.pools ≤ (spot_at l class).pool) (sym looked) none;
+-- a pool drawn, cleared and signed
+module _ (k : Config) (x v1 v2 v3 : DomainView) (place class found : ℕ) (d : DrewPool k place class x v1) (list : ListTold v1 found v2) (cleared : (p : ℕ) → v2.seen.hunt ≡ Draws p found class 0 → v3 ≡ with_hunt v2 (Draws p found class (blocks_of class))) where
+  hunt1 : v1.seen.hunt ≡ Draws place d.pool class 0
+  hunt1 = ap (λ (z : DomainView). z.seen.hunt) d.view
+
+  pool_is : d.pool ≡ found
+  pool_is = some_pool d.pool found (sym (ap drawn_in hunt1) ∙ list.names)
+
+  all_clear : v3 ≡ with_hunt v2 (Draws place found class (blocks_of class))
+  all_clear = cleared place (ap (λ (z : DomainView). z.seen.hunt) list.view ∙ (hunt1 ∙ ap (λ (p : ℕ). Draws place p class 0) pool_is))
+
+  module _ (v4 : DomainView) (signed : v4 ≡ looked_to v3 class (record { pool = found; slot = 0 }) (Fills found class 0 [])) where
+    -- its first place is taken
+    pub drawn_took : (a : ℕ) → class < class_count → a ≡ place_in found class 0 → Took k class a x v4
+    drawn_took a few is =
+        let h2 : Hunted x v2 (Draws place d.pool class 0) = subst (λ (z : DomainView). Hunted x z (Draws place d.pool class 0)) (sym list.view) d.view in
+        let h3 : Hunted x v3 (Draws place found class (blocks_of class)) = hunted_twice x v2 v3 (Draws place d.pool class 0) (Draws place found class (blocks_of class)) h2 (hunted_of v2 v3 _ (Draws place found class (blocks_of class)) all_clear) in record {
+          pool = found;
+          slot = 0;
+          inside = subst (λ (p : ℕ). p < k.pools) pool_is d.inside;
+          below = (some_block class few).0;
+          address = is;
+          view = hunted_twice x v3 v4 (Draws place found class (blocks_of class)) (Fills found class 0 []) h3 (hunted_of v3 v4 _ (Fills found class 0 []) signed);
+        }
+
+    -- of more free pools than the reserve
+    pub drawn_unreserved : Unreserved k v4
+    drawn_unreserved = record {
+      free = d.unreserved.free;
+      found = ap (λ (z : DomainView). z.seen.free) signed ∙ (ap (λ (z : DomainView). z.seen.free) all_clear ∙ (ap (λ (z : DomainView). z.seen.free) list.view ∙ d.unreserved.found));
+      more = d.unreserved.more;
     }
+
+  -- and it may be signed
+  pub owner_ready : (word new : ℕ) → NoneFree k x class → word ≡ 11 + k.pools + found → new ≡ owner_word (owned v3.own.number class) → OwnerMay k v3 word new found class
+  owner_ready word new none at signs =
+      let looked : v3.own.looked ≡ x.own.looked = ap (λ (z : DomainView). z.own.looked) all_clear ∙ (ap (λ (z : DomainView). z.own.looked) list.view ∙ d.looked) in record {
+        place = place;
+        hunt = ap (λ (z : DomainView). z.seen.hunt) all_clear;
+        word = at;
+        signs = signs;
+        none_free = subst (λ (l : List Spot). k.pools ≤ (spot_at l class).pool) (sym looked) none;
+      }

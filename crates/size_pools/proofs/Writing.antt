@@ -1,6 +1,6 @@
 -- The writing of a block at a free place of an own pool.
 use Rattle.heap_model.specs.Domains.{class_count}
-use Rattle.std.proofs.Common.{◌≡◌, ◌≢◌, ◌∙◌, ℕ, ◌+◌, ◌*◌, ◌^◌, ◌<◌, ◌≤◌, List, [], ◌∷◌, false, replicate, refl, ap, sym, subst, arith, lt_of_not-le}
+use Rattle.std.proofs.Common.{◌≡◌, ◌≢◌, ◌∙◌, ℕ, ◌+◌, ◌*◌, ◌^◌, ◌<◌, ◌≤◌, List, [], ◌∷◌, false, replicate, slice_set, inl, inr, ⊎_elim, refl, ap, sym, subst, arith, lt_of_not-le}
 use Rattle.heap_model.specs.declared.label.Label.{Label}
 use Rattle.heap_model.specs.declared.command.Command.{Command as CommandType}
 use Rattle.heap_model.specs.declared.command.Command.TheVariants.{AllocMaj}
@@ -32,7 +32,7 @@ use Rattle.steps_pools.specs.Takes.{with_hunt, MajorMay, MajorTold}
 use Rattle.heap_rule.specs.Token.{Token, SharedHeap, IsIn}
 use Rattle.heap_rule.proofs.Calls.{acting_did}
 use Rattle.heap_rule.proofs.Classes.{slot_inside, size_is}
-use Rattle.size_pools.specs.Taken.{Hunted, IsBusy, Took, IsRoom, Grows, GrowsBy}
+use Rattle.size_pools.specs.Taken.{Hunted, FoundOwn, Unreserved, HasPlace, IsBusy, Took, IsRoom, Grows, GrowsBy, PutsPlace}
 use Rattle.size_classes.specs.Table.{IsLeastFor}
 use Rattle.size_classes.specs.declared.TheConstants.{SIZES}
 use Rattle.steps_pools.proofs.Plain.{major_rest}
@@ -125,6 +125,22 @@ took_room k class a n x y few least t = record {
   address = t.address;
   room = subst (λ (m : ℕ). n + 2 ≤ m) (size_is class) least.fits;
 }
+
+-- the register holds its address
+pub took_puts : (k : Config) (class a n dst : ℕ) (old mid new : Token) → IsLeastFor SIZES (n + 2) class → Took k class a old.view mid.view → new.view.own.registers ≡ slice_set mid.view.own.registers dst (Ref a) → PutsPlace k dst n old new
+took_puts k class a n dst old mid new least t registers = record {
+  pool = t.pool;
+  class = class;
+  slot = t.slot;
+  inside = t.inside;
+  least = least;
+  below = t.below;
+  registers = registers ∙ (λ i. slice_set (ap (λ (z : DomainView). z.own.registers) t.view i) dst (Ref (t.address i)));
+}
+
+-- what was found of free pools is still known
+pub has_still : (k : Config) (class : ℕ) (x y z : DomainView) → HasPlace k class x y → z.seen.free ≡ y.seen.free → HasPlace k class x z
+has_still k class x y z has same = ⊎_elim (λ (o : FoundOwn k class x y). inl (record { left = o.left; unseen = same ∙ o.unseen })) (λ (u : Unreserved k y). inr (record { free = u.free; found = same ∙ u.found; more = u.more })) has
 
 -- the least class is one
 pub least_one : (words c d : ℕ) → IsLeastFor SIZES words c → IsLeastFor SIZES words d → c ≡ d

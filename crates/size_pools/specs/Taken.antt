@@ -1,6 +1,9 @@
 -- What a domain knows of the pools after a search for a free place.
-use Rattle.std.specs.Prelude.{◌≡◌, ℕ, ◌+◌, ◌<◌, ◌≤◌, [], Some}
+use Rattle.std.specs.Prelude.{◌≡◌, ℕ, ◌+◌, ◌<◌, ◌≤◌, ◌⊎◌, slice_set, [], Some}
 use Rattle.heap_model.specs.Domains.{class_count, reserve}
+use Rattle.heap_words.specs.declared.value.Value.TheVariants.{Ref}
+use Rattle.size_classes.specs.Table.{IsLeastFor}
+use Rattle.size_classes.specs.declared.TheConstants.{SIZES}
 use Rattle.heap_rule.specs.Limits.{sizes_in}
 use Rattle.heap_rule.specs.declared.config.Config.{Config}
 use Rattle.heap_rule.specs.declared.view.DomainView.{DomainView}
@@ -15,18 +18,34 @@ use Rattle.steps_pools.specs.Takes.{HasNoDraw, NoneFree}
 abbrev pub Hunted : DomainView → DomainView → Hunt → Type 0
 Hunted x y hunt = y ≡ hunting_free x y.own.looked hunt y.seen.free
 
--- the pool at a place of the list is drawn
+-- so many pools were found free, which are no more than the reserve
+pub record Reserved (k : Config) (free : ℕ) (y : DomainView) : Type 0 where
+  pub found : y.seen.free ≡ Some free
+  pub few : free ≤ reserve (sizes_in k)
+
+-- more pools were found free than the reserve
+pub record Unreserved (k : Config) (y : DomainView) : Type 0 where
+  pub free : ℕ
+  pub found : y.seen.free ≡ Some free
+  pub more : reserve (sizes_in k) < free
+
+-- the own pools of the class hadn't all been looked through, and it was not looked at how many pools are free
+pub record FoundOwn (k : Config) (class : ℕ) (x y : DomainView) : Type 0 where
+  pub left : (spot_at x.own.looked class).pool < k.pools
+  pub unseen : y.seen.free ≡ x.seen.free
+
+-- where a free place may come from: a place of an own pool was found, or more pools were found free than the reserve
+abbrev pub HasPlace : Config → ℕ → DomainView → DomainView → Type 0
+HasPlace k class x y = FoundOwn k class x y ⊎ Unreserved k y
+
+-- the pool at a place of the list is drawn, and more were found free than the reserve
 pub record DrewPool (k : Config) (place class : ℕ) (x y : DomainView) : Type 0 where
   pub pool : ℕ
   pub listed_is : place < k.pools
   pub inside : pool < k.pools
   pub view : Hunted x y (Draws place pool class 0)
   pub looked : y.own.looked ≡ x.own.looked
-
--- so many pools were found free, which are no more than the reserve
-pub record Reserved (k : Config) (free : ℕ) (y : DomainView) : Type 0 where
-  pub found : y.seen.free ≡ Some free
-  pub few : free ≤ reserve (sizes_in k)
+  pub unreserved : Unreserved k y
 
 -- the free place at an address is taken, in an own pool of the class
 pub record Took (k : Config) (class a : ℕ) (x y : DomainView) : Type 0 where
@@ -79,3 +98,13 @@ pub record Grows (old new : Token) : Type 0 where
 pub record GrowsBy (old new : Token) : Type 0 where
   pub own : new.view.own ≡ record old.view.own { registers = new.view.own.registers; serial = old.view.own.serial + 1; looked = new.view.own.looked }
   pub at_rest : new.view.seen.hunt ≡ Rests
+
+-- register dst holds the address of a place of a pool, of the class for so many fields, and the other registers are as before
+pub record PutsPlace (k : Config) (dst fields : ℕ) (old new : Token) : Type 0 where
+  pub pool : ℕ
+  pub class : ℕ
+  pub slot : ℕ
+  pub inside : pool < k.pools
+  pub least : IsLeastFor SIZES (fields + 2) class
+  pub below : slot < blocks_of class
+  pub registers : new.view.own.registers ≡ slice_set old.view.own.registers dst (Ref (place_in pool class slot))

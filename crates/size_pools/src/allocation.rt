@@ -11,7 +11,7 @@ ghost use Rattle.steps_pools.specs.Takes.{NoneFree};
 ghost use Rattle.heap_rule.specs.Token.{Holds, IsIn};
 ghost use Rattle.size_classes.specs.Table.{IsLeastFor};
 ghost use Rattle.size_classes.specs.declared.TheConstants.{SIZES};
-ghost use Rattle.size_pools.specs.Taken.{Hunted, Reserved, IsBusy, IsRoom, Grows, GrowsBy};
+ghost use Rattle.size_pools.specs.Taken.{Hunted, Reserved, HasPlace, IsBusy, IsRoom, Grows, GrowsBy, PutsPlace};
 
 use crate::no_pool::NoPool;
 use crate::taking::take;
@@ -36,6 +36,7 @@ fn write_block(heap: &Heap, dom: &mut Domain, at: u32, dst: u8, tag: u8, fields:
     requires serial { dom.old.view.own.serial + 1 < 2 ^ 32 }
     ensures did { Did heap.now dom.old dom.new (AllocMaj dst tag fields) (Block result) }
     ensures grows { Grows dom.old dom.new }
+    ensures free { dom.new.view.seen.free ≡ dom.old.view.seen.free }
     ensures registers { dom.new.view.own.registers ≡ slice_set dom.old.view.own.registers dst (Ref at) }
     ensures holds { Holds heap.now.config dom.new.view.own.registers }
 {
@@ -100,6 +101,8 @@ pub fn alloc_major(
     requires serial { dom.old.view.own.serial + 1 < 2 ^ 32 }
     ensures did { IfOk result (λ l. Did heap.now dom.old dom.new (AllocMaj dst tag fields) (Block l)) }
     ensures grows { OnOk result (GrowsBy dom.old dom.new) }
+    ensures registers { OnOk result (PutsPlace heap.now.config dst fields dom.old dom.new) }
+    ensures has_place { OnOk result ((class : ℕ) → IsLeastFor SIZES (fields + 2) class → HasPlace heap.now.config class dom.old.view dom.new.view) }
     ensures reserved { IfErr result (λ n. Reserved heap.now.config n.free dom.new.view) }
     ensures none_free { OnErr result ((class : ℕ) → IsLeastFor SIZES (fields + 2) class → NoneFree heap.now.config dom.new.view class) }
     ensures same { OnErr result (Hunted dom.old.view dom.new.view Rests) }

@@ -1,5 +1,5 @@
 //! A pool from the list of free pools.
-ghost use Rattle.std.specs.Prelude.{◌≡◌, ◌+◌, ◌-◌, ◌<◌, ◌≤◌, IfOk, IfErr, OnErr, [], ℕ};
+ghost use Rattle.std.specs.Prelude.{◌≡◌, ◌+◌, ◌-◌, ◌<◌, ◌≤◌, IfOk, IfErr, OnOk, OnErr, [], ℕ};
 ghost use Rattle.heap_model.specs.Domains.{class_count, reserve as reserve_of};
 ghost use Rattle.heap_rule.specs.declared.phase.Kind.TheVariants.{Run};
 ghost use Rattle.heap_rule.specs.declared.phase.Stage.TheVariants.{In};
@@ -8,7 +8,7 @@ ghost use Rattle.heap_rule.specs.Limits.{sizes_in};
 ghost use Rattle.heap_rule.specs.Pools.{blocks_of, limit_of};
 ghost use Rattle.steps_pools.specs.Takes.{HasNoDraw, NoneFree, with_hunt, looked_to};
 ghost use Rattle.heap_rule.specs.Token.{IsIn};
-ghost use Rattle.size_pools.specs.Taken.{Hunted, DrewPool, Reserved, Took};
+ghost use Rattle.size_pools.specs.Taken.{Hunted, DrewPool, Reserved, Unreserved, Took};
 
 use crate::no_pool::NoPool;
 use heap_rule::{Domain, Heap};
@@ -82,6 +82,7 @@ pub(crate) fn draw(heap: &Heap, dom: &mut Domain, class: u32) -> Result<u32, NoP
     requires runs { dom.old.view.seen.stage ≡ In Run }
     ensures here { IsIn dom.new heap.now }
     ensures took { IfOk result (λ a. Took heap.now.config class a dom.old.view dom.new.view) }
+    ensures unreserved { OnOk result (Unreserved heap.now.config dom.new.view) }
     ensures none { IfErr result (λ n. Reserved heap.now.config n.free dom.new.view) }
     ensures same { OnErr result (Hunted dom.old.view dom.new.view Rests) }
     ensures looked { OnErr result (dom.new.view.own.looked ≡ dom.old.view.own.looked) }

@@ -1,13 +1,13 @@
 //! The search for a free place of the domain's own pools.
 ghost use Rattle.heap_model.specs.Domains.{class_count};
-ghost use Rattle.std.specs.Prelude.{◌≡◌, ◌+◌, ◌<◌, MatchOption};
+ghost use Rattle.std.specs.Prelude.{◌≡◌, ◌+◌, ◌<◌, MatchOption, OnSome};
 ghost use Rattle.heap_rule.specs.declared.phase.Kind.TheVariants.{Run};
 ghost use Rattle.heap_rule.specs.declared.phase.Stage.TheVariants.{In};
 ghost use Rattle.heap_rule.specs.declared.view.Hunt.TheVariants.{Walks};
 ghost use Rattle.heap_rule.specs.Pools.{blocks_of, spot_at};
 ghost use Rattle.steps_pools.specs.Takes.{HasNoDraw};
 ghost use Rattle.heap_rule.specs.Token.{IsIn};
-ghost use Rattle.size_pools.specs.Taken.{Took, Passed, Lacks};
+ghost use Rattle.size_pools.specs.Taken.{FoundOwn, Took, Passed, Lacks};
 
 use heap_rule::{Domain, Heap, Spot};
 use steps_pools::{class_blocks, owner_load, owner_word, place_address, place_load};
@@ -25,6 +25,7 @@ fn walk(heap: &Heap, dom: &mut Domain, class: u32, pool: u32, slot: u32) -> Opti
     requires runs { dom.old.view.seen.stage ≡ In Run }
     ensures here { IsIn dom.new heap.now }
     ensures found { MatchOption result (Passed class pool dom.old.view dom.new.view) (λ a. Took heap.now.config class a dom.old.view dom.new.view) }
+    ensures free { dom.new.view.seen.free ≡ dom.old.view.seen.free }
 {
     let _limits = heap.config();
     for i in slot..class_blocks(class) {
@@ -46,6 +47,7 @@ fn look_in(heap: &Heap, dom: &mut Domain, class: u32, pool: u32, slot: u32) -> O
     requires runs { dom.old.view.seen.stage ≡ In Run }
     ensures here { IsIn dom.new heap.now }
     ensures found { MatchOption result (Passed class pool dom.old.view dom.new.view) (λ a. Took heap.now.config class a dom.old.view dom.new.view) }
+    ensures free { dom.new.view.seen.free ≡ dom.old.view.seen.free }
 {
     let at = OWNERS + heap.config().pools + pool;
     let own = owner_word(dom.number(), class);
@@ -64,6 +66,7 @@ pub(crate) fn find_free(heap: &Heap, dom: &mut Domain, class: u32) -> Option<u32
     requires runs { dom.old.view.seen.stage ≡ In Run }
     ensures here { IsIn dom.new heap.now }
     ensures found { MatchOption result (Lacks heap.now.config class dom.old.view dom.new.view) (λ a. Took heap.now.config class a dom.old.view dom.new.view) }
+    ensures own { OnSome result (FoundOwn heap.now.config class dom.old.view dom.new.view) }
 {
     let pools = heap.config().pools;
     for _passed in 0..pools {

@@ -1,12 +1,12 @@
 //! A free block of the pools.
 ghost use Rattle.heap_model.specs.Domains.{class_count};
-ghost use Rattle.std.specs.Prelude.{◌≡◌, ◌<◌, ◌≤◌, IfOk, IfErr, OnErr};
+ghost use Rattle.std.specs.Prelude.{◌≡◌, ◌<◌, ◌≤◌, IfOk, IfErr, OnOk, OnErr};
 ghost use Rattle.heap_rule.specs.declared.phase.Kind.TheVariants.{Run};
 ghost use Rattle.heap_rule.specs.declared.phase.Stage.TheVariants.{In};
 ghost use Rattle.heap_rule.specs.declared.view.Hunt.TheVariants.{Rests};
 ghost use Rattle.steps_pools.specs.Takes.{HasNoDraw, NoneFree};
 ghost use Rattle.heap_rule.specs.Token.{IsIn};
-ghost use Rattle.size_pools.specs.Taken.{Hunted, Reserved, Took};
+ghost use Rattle.size_pools.specs.Taken.{Hunted, Reserved, HasPlace, Took};
 
 use crate::draw::draw;
 use crate::no_pool::NoPool;
@@ -25,6 +25,7 @@ pub fn take(heap: &Heap, dom: &mut Domain, class: u32) -> Result<u32, NoPool>
     requires runs { dom.old.view.seen.stage ≡ In Run }
     ensures here { IsIn dom.new heap.now }
     ensures took { IfOk result (λ a. Took heap.now.config class a dom.old.view dom.new.view) }
+    ensures has_place { OnOk result (HasPlace heap.now.config class dom.old.view dom.new.view) }
     ensures reserved { IfErr result (λ n. Reserved heap.now.config n.free dom.new.view) }
     ensures none_free { OnErr result (NoneFree heap.now.config dom.new.view class) }
     ensures same { OnErr result (Hunted dom.old.view dom.new.view Rests) }

@@ -1,6 +1,7 @@
 use Rattle.std.proofs.Common.{ℕ, ◌+◌, ◌^◌, ◌<◌, refl, ap, sym, subst}
 use Rattle.heap_rule.specs.declared.view.DomainView.{DomainView}
-use Rattle.size_pools.proofs.Writing.{hunted_runs, took_room}
+use Rattle.size_pools.specs.Taken.{HasPlace}
+use Rattle.size_pools.proofs.Writing.{hunted_runs, took_room, took_puts, has_still, least_one}
 use Rattle.size_pools.proofs.allocation.alloc_major.Goals as goal
 
 pub write_block-requires : goal.write_block-requires
@@ -15,3 +16,10 @@ write_block-requires c =
         ),
       ),
     )
+
+pub returns-clause-registers : goal.returns-clause-registers
+returns-clause-registers c = took_puts c.args.heap.now.config c.class_for-class.result c.in_ok-at.at c.args.fields c.args.dst c.args.dom.now c.take.new.dom c.write_block.new.dom c.class_for-class.ensures.least c.in_ok-at.ensures.took c.write_block.ensures.registers
+
+pub returns-clause-has_place : goal.returns-clause-has_place
+returns-clause-has_place c = λ class least. subst (λ (d : ℕ). HasPlace c.args.heap.now.config d c.args.dom.now.view c.write_block.new.dom.view) (least_one (c.args.fields + 2) c.class_for-class.result class c.class_for-class.ensures.least least)
+    (has_still c.args.heap.now.config c.class_for-class.result c.args.dom.now.view c.take.new.dom.view c.write_block.new.dom.view c.in_ok-at.ensures.has_place c.write_block.ensures.free)

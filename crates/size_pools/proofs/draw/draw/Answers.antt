@@ -2,7 +2,7 @@ use Rattle.std.proofs.Common.{◌∙◌, ◌+◌, ◌*◌, ℕ, refl, ap}
 use Rattle.heap_rule.specs.declared.config.Config.{Config}
 use Rattle.heap_rule.specs.declared.view.DomainView.{DomainView}
 use Rattle.heap_rule.proofs.Classes.{some_block}
-use Rattle.size_pools.proofs.Searching.{drawn_took, owner_ready}
+use Rattle.size_pools.proofs.Searching.{drawn_took, drawn_unreserved, owner_ready}
 use Rattle.size_pools.proofs.draw.draw.Goals as goal
 
 pub list_load-pool-requires-clause-may : goal.list_load-pool-requires-clause-may
@@ -12,10 +12,14 @@ pub place_address-requires-clause-slot : goal.place_address-requires-clause-slot
 place_address-requires-clause-slot c = (some_block c.args.class c.requires.class).0
 
 pub returns-clause-took : goal.returns-clause-took
-returns-clause-took c = drawn_took c.args.heap.now.config c.args.dom.now.view c.draw_pool.new.dom.view c.list_load-pool.new.dom.view c.clear.new.dom.view c.owner_store.new.dom.view
-    c.in_ok-place.place c.args.class c.list_load-pool.result c.place_address.result c.requires.class c.in_ok-place.ensures.drew c.list_load-pool.ensures.told c.clear.ensures.cleared c.owner_store.ensures.told c.place_address.ensures.value
+returns-clause-took c = drawn_took c.args.heap.now.config c.args.dom.now.view c.draw_pool.new.dom.view c.list_load-pool.new.dom.view c.clear.new.dom.view c.in_ok-place.place c.args.class c.list_load-pool.result
+    c.in_ok-place.ensures.drew c.list_load-pool.ensures.told c.clear.ensures.cleared c.owner_store.new.dom.view c.owner_store.ensures.told c.place_address.result c.requires.class c.place_address.ensures.value
+
+pub returns-clause-unreserved : goal.returns-clause-unreserved
+returns-clause-unreserved c = drawn_unreserved c.args.heap.now.config c.args.dom.now.view c.draw_pool.new.dom.view c.list_load-pool.new.dom.view c.clear.new.dom.view c.in_ok-place.place c.args.class c.list_load-pool.result
+    c.in_ok-place.ensures.drew c.list_load-pool.ensures.told c.clear.ensures.cleared c.owner_store.new.dom.view c.owner_store.ensures.told
 
 pub owner_store-requires-clause-may : goal.owner_store-requires-clause-may
-owner_store-requires-clause-may c = owner_ready c.args.heap.now.config c.args.dom.now.view c.draw_pool.new.dom.view c.list_load-pool.new.dom.view c.clear.new.dom.view c.in_ok-place.place c.args.class c.list_load-pool.result _ _
-    c.in_ok-place.ensures.drew c.list_load-pool.ensures.told c.clear.ensures.cleared c.requires.none_free (ap (λ (k : Config). 11 + k.pools + c.list_load-pool.result) c.config-pools.ensures.value)
+owner_store-requires-clause-may c = owner_ready c.args.heap.now.config c.args.dom.now.view c.draw_pool.new.dom.view c.list_load-pool.new.dom.view c.clear.new.dom.view c.in_ok-place.place c.args.class c.list_load-pool.result
+    c.in_ok-place.ensures.drew c.list_load-pool.ensures.told c.clear.ensures.cleared _ _ c.requires.none_free (ap (λ (k : Config). 11 + k.pools + c.list_load-pool.result) c.config-pools.ensures.value)
     (c.owner_word-new.ensures ∙ ap (λ (n : ℕ). 16 * n + c.args.class + 1) c.number.ensures.value)

@@ -1,4 +1,4 @@
-use Rattle.std.proofs.Common.{◌≤◌}
+use Rattle.std.proofs.Common.{◌≡◌, ◌≤◌}
 use Rattle.heap_rule.specs.Pools.{spot_at}
 use Rattle.heap_rule.specs.Token.{IsIn}
 use Rattle.size_pools.specs.Taken.{Missed}
@@ -8,5 +8,7 @@ abbrev pub invariant-loop-passed : goal.invariant-loop-passed
 invariant-loop-passed l = record {
   here : IsIn l.dom l.heap;
   missed : Missed l.fn.dom.view l.dom.view;
+  free : l.dom.view.seen.free ≡ l.fn.dom.view.seen.free;
+  near : (spot_at l.fn.dom.view.own.looked l.class).pool ≤ (spot_at l.dom.view.own.looked l.class).pool;
   past : l._passed ≤ (spot_at l.dom.view.own.looked l.class).pool;
 }

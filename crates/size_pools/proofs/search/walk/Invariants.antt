@@ -10,5 +10,6 @@ invariant-loop-i l = record {
   here : IsIn l.dom l.heap;
   view : Hunted l.fn.dom.view l.dom.view (Walks l.pool l.class);
   more : l.i < blocks_of l.class → spot_at l.dom.view.own.looked l.class ≡ record { pool = l.pool; slot = l.i };
+  free : l.dom.view.seen.free ≡ l.fn.dom.view.seen.free;
   done : blocks_of l.class ≤ l.i → l.pool < (spot_at l.dom.view.own.looked l.class).pool;
 }
