@@ -1,5 +1,5 @@
 -- Places that are given back, and a domain's whole share.
-use Rattle.std.proofs.Common.{◌≡◌, ◌≢◌, ℕ, zero, suc, ◌+◌, ◌*◌, ◌<◌, ◌≤◌, ◌⊎◌, List, [], drop, set, Option, Some, None, sym, refl, ap, ◌∙◌, subst, inl, inr, ⊎_elim, arith, get_or-set_other}
+use Rattle.std.proofs.Common.{◌≡◌, ℕ, ◌+◌, ◌<◌, ◌≤◌, List, [], set, Option, Some, None, sym, refl, ap, ◌∙◌, subst, inl, inr, ⊎_elim, arith, get_or-set_other}
 use mathlib.Core.Logic.{dite}
 use native.Mathlib.Decide.{ℕ_discrete, dec_lt}
 use Rattle.heap_model.specs.Domains.{class_count}
@@ -13,10 +13,9 @@ use Rattle.heap_rule.specs.declared.phase.Stage.TheVariants.{In}
 use Rattle.heap_rule.specs.Copies.{known, nothing_copied, IsOldValue}
 use Rattle.heap_rule.specs.Changes.{value_at}
 use Rattle.heap_rule.proofs.Lists.{no_item}
-use Rattle.heap_rule.specs.Pools.{spot_at, IsBefore, prepared_at}
+use Rattle.heap_rule.specs.Pools.{spot_at, prepared_at}
 use Rattle.steps_promote.specs.Claims.{freed, FreeMay, FreedTold}
-use Rattle.steps_promote.specs.Promotion.{Knows}
-use Rattle.promote_claim.specs.Working.{IsPlaceIn, AllPlaced, Works, Tied, owed_from, with_claims}
+use Rattle.promote_claim.specs.Working.{AllPlaced, Works, Tied, owed_from, with_claims}
 use Rattle.promote_claim.specs.Filling.{AllFilled}
 use Rattle.promote_claim.specs.Roots.{AllMoved, AllRewritten}
 use Rattle.promote_claim.specs.Sharing.{Unprepared, GaveBack, with_share, Shared}

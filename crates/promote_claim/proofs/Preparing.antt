@@ -1,25 +1,20 @@
 -- A place that is prepared for a copy.
-use Rattle.std.proofs.Common.{◌≡◌, ◌≢◌, ℕ, zero, suc, ◌+◌, ◌-◌, ◌*◌, ◌/◌, ◌%◌, ◌<◌, ◌≤◌, List, [], ◌∷◌, length, get_or, set, slice_get, Option, Some, None, sym, refl, ap, ◌∙◌, subst, arith, get_or-set_same, get_or-set_other}
+use Rattle.std.proofs.Common.{◌≡◌, ◌≢◌, ℕ, zero, suc, ◌+◌, ◌-◌, ◌*◌, ◌/◌, ◌%◌, ◌<◌, ◌≤◌, List, [], ◌∷◌, length, set, Option, Some, None, sym, refl, ap, ◌∙◌, subst, arith, get_or-set_same, get_or-set_other}
 use mathlib.Core.Logic.{dite}
 use native.Mathlib.Decide.{ℕ_discrete}
 use Rattle.std.proofs.lemmas.Nat.{div-mul-add}
 use Rattle.heap_model.specs.Domains.{class_count}
-use Rattle.heap_words.specs.Labels.{label_word}
 use Rattle.heap_rule.specs.declared.config.Config.{Config}
-use Rattle.heap_rule.specs.declared.view.Hunt.{Hunt}
 use Rattle.heap_rule.specs.declared.view.Hunt.TheVariants.{Rests, Fills, Labels, Heads}
-use Rattle.heap_rule.specs.declared.view.Own.{Own}
 use Rattle.heap_rule.specs.declared.view.Spot.{Spot}
 use Rattle.heap_rule.specs.declared.view.DomainView.{DomainView}
-use Rattle.heap_rule.specs.Layout.{heap_words}
-use Rattle.heap_rule.specs.Places.{Place, Live, IsOldAt}
-use Rattle.heap_rule.specs.Pools.{size_of, blocks_of, place_in, spot_at, prepared_at, hunting_free}
+use Rattle.heap_rule.specs.Pools.{size_of, blocks_of, place_in, prepared_at, hunting_free}
 use Rattle.heap_rule.specs.Standing.{IsInHeap}
 use Rattle.heap_rule.proofs.Classes.{size_least, slot_inside}
-use Rattle.steps_promote.specs.Promotion.{Knows, LabelMet}
+use Rattle.steps_promote.specs.Promotion.{LabelMet}
 use Rattle.steps_promote.specs.Claims.{with_hunt, preparing, PrepareMay, PrepareTold, LabelStoreMay, LabelStoreTold, HeadStoreMay, HeadStoreTold}
 use Rattle.size_pools.specs.Taken.{Took}
-use Rattle.promote_claim.specs.Working.{IsPlaceIn, Works, with_claims, IsMetWith, Prepared, Written}
+use Rattle.promote_claim.specs.Working.{IsPlaceIn, Works, Prepared, Written}
 
 -- where a place of a class lies
 pub place_old : (k : Config) (class a : ℕ) → class < class_count → IsPlaceIn k class a → (1 ≤ a) × (a + 3 ≤ k.pools * 4096)

@@ -1,5 +1,5 @@
 -- What becomes of the roots.
-use Rattle.std.proofs.Common.{◌≡◌, ◌≢◌, ℕ, zero, suc, ◌+◌, ◌-◌, ◌*◌, ◌^◌, ◌<◌, ◌≤◌, ◌⊎◌, List, [], ◌∷◌, ◌++◌, length, drop, set, slice_get, Option, Some, None, sym, refl, ap, ◌∙◌, subst, inr, arith, length-set, get_or-set_same, get_or-set_other}
+use Rattle.std.proofs.Common.{◌≡◌, ℕ, ◌+◌, ◌<◌, List, ◌∷◌, length, drop, set, sym, refl, ap, ◌∙◌, subst, inr, arith, length-set, get_or-set_same, get_or-set_other}
 use mathlib.Core.Logic.{dite}
 use native.Mathlib.Decide.{ℕ_discrete}
 use Rattle.heap_model.specs.declared.entry.Entry.{Entry}
@@ -13,7 +13,7 @@ use Rattle.heap_rule.specs.Changes.{value_at}
 use Rattle.heap_rule.specs.Copies.{IsOldValue}
 use Rattle.heap_rule.specs.Places.{Stands}
 use Rattle.heap_rule.specs.Rule.{state_of}
-use Rattle.heap_rule.specs.Standing.{IsAt, with_registers}
+use Rattle.heap_rule.specs.Standing.{with_registers}
 use Rattle.steps_promote.specs.Promotion.{Knows, recalling, HasValueAt, HeadMay, MoveMay, MoveTold, Recalled, RewriteMay, RewriteTold}
 use Rattle.promote_claim.specs.Working.{Works, Tied, with_claims, Grown, Claimed, Forwarded, StandsFor}
 use Rattle.promote_claim.specs.Roots.{with_moves, Moved, with_rewrites, Rewritten}

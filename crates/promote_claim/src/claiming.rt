@@ -11,13 +11,13 @@ ghost use Rattle.promote_claim.specs.Working.{Works, IsMetWith, Claimed, Prepare
 
 use crate::heads::{copy_of, words_of};
 use crate::places::{class_for, spot_in};
-use steps_promote::{
-    claim_exchange, prepare_head, prepare_label, prepare_store, young_head_load, young_label_load,
-};
-use size_pools::take_for_copy;
 use heap_rule::{Domain, Heap};
 use heap_words::{Head, Value, pack_head};
 use size_classes::POOL_WORDS;
+use size_pools::take_for_copy;
+use steps_promote::{
+    claim_exchange, prepare_head, prepare_label, prepare_store, young_head_load, young_label_load,
+};
 
 // A head that isn't Free.
 const TAKEN: u64 = 1;

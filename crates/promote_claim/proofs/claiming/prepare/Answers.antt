@@ -1,4 +1,4 @@
-use Rattle.std.proofs.Common.{◌≡◌, ℕ, sym, ◌∙◌, arith}
+use Rattle.std.proofs.Common.{sym, ◌∙◌, arith}
 use Rattle.promote_claim.proofs.Preparing.{place_inside, took_place, prepare_may, prepared_now}
 use Rattle.promote_claim.proofs.claiming.prepare.Goals as goal
 

@@ -1,4 +1,4 @@
-use Rattle.std.proofs.Common.{◌≡◌, ◌<◌, sym, ◌∙◌}
+use Rattle.std.proofs.Common.{◌<◌, sym, ◌∙◌}
 use Rattle.heap_model.specs.Domains.{class_count}
 use Rattle.promote_claim.proofs.Preparing.{place_inside}
 use Rattle.promote_claim.proofs.Giving.{free_may, free_pool}
