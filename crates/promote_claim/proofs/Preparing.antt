@@ -56,32 +56,31 @@ set_none [] (suc c) = refl
 set_none (x ∷ xs) zero = refl
 set_none (x ∷ xs) (suc c) = set_none xs c
 
--- a place was prepared before
-pub prepared_before : (k : Config) (class a : ℕ) (x : DomainView) → Works k x → prepared_at x.own.prepared class ≡ Some a → Prepared k class x x a
-prepared_before k class a x w is = record { view = refl; works = w; copying = refl; pending = refl; here = is }
-
 -- a free place was taken
-module _ (k : Config) (class a : ℕ) (x t : DomainView) (few : class < class_count) (w : Works k x) (took : Took k class a x t) where
+module _ (k : Config) (class a : ℕ) (x t : DomainView) (few : class < class_count) (w : Works k x) (took : Took k class a x t) (free : t.seen.free ≡ x.seen.free) where
+  view_is : t ≡ hunting_free x t.own.looked (Fills took.pool class took.slot []) x.seen.free
+  view_is = took.view ∙ ap (hunting_free x t.own.looked (Fills took.pool class took.slot [])) free
+
   pub took_place : IsPlaceIn k class a
   took_place = record { pool = took.pool; slot = took.slot; inside = took.inside; below = took.below; address = took.address }
 
   pub prepare_may : (spot : Spot) (new : ℕ) → new ≢ 0 → prepared_at x.own.prepared class ≡ None → spot ≡ record { pool = took.pool; slot = took.slot } → PrepareMay t a new spot.pool class spot.slot
   prepare_may spot new some none is = subst (λ (s : Spot). PrepareMay t a new s.pool class s.slot) (sym is) record {
-    stage = ap (λ (z : DomainView). z.seen.stage) took.view ∙ w.stage;
+    stage = ap (λ (z : DomainView). z.seen.stage) view_is ∙ w.stage;
     made = [];
-    hunt = ap (λ (z : DomainView). z.seen.hunt) took.view;
+    hunt = ap (λ (z : DomainView). z.seen.hunt) view_is;
     next = took.next;
-    none = ap (λ (z : DomainView). prepared_at z.own.prepared class) took.view ∙ none;
+    none = ap (λ (z : DomainView). prepared_at z.own.prepared class) view_is ∙ none;
     of_class = few;
     word = took.address;
     head = some;
   }
 
-  pub prepared_now : (new : ℕ) (y : DomainView) → t.seen.free ≡ x.seen.free → length x.own.prepared ≡ class_count → PrepareTold a class t new y → Prepared k class x y a
-  prepared_now new y free wide told =
+  pub prepared_now : (new : ℕ) (y : DomainView) → length x.own.prepared ≡ class_count → PrepareTold a class t new y → Prepared k class x y a
+  prepared_now new y wide told =
       let L : List Spot = t.own.looked in
       let y' : DomainView = record { own = record (preparing x.own class (Some a)) { looked = L }; seen = record x.seen { hunt = Rests } } in
-      let e : y ≡ y' = told ∙ ap (λ (z : DomainView). record { own = preparing z.own class (Some a); seen = record z.seen { hunt = Rests } }) (took.view ∙ ap (hunting_free x L (Fills took.pool class took.slot [])) free) in
+      let e : y ≡ y' = told ∙ ap (λ (z : DomainView). record { own = preparing z.own class (Some a); seen = record z.seen { hunt = Rests } }) view_is in
       let long : class < length x.own.prepared = subst (λ (n : ℕ). class < n) (sym wide) few in
       subst (λ (z : DomainView). Prepared k class x z a) (sym e) record {
         view = refl;

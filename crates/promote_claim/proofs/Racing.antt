@@ -1,9 +1,7 @@
 -- The claim of a block that was met.
-use Rattle.std.proofs.Common.{◌≡◌, ◌≢◌, ℕ, ◌+◌, ◌*◌, ◌<◌, ◌≤◌, List, [], ◌∷◌, ◌++◌, length, append-nil, set, slice_get, Option, Some, None, sym, refl, ap, ◌∙◌, subst, ⊎_elim, arith, get_or-set_other}
+use Rattle.std.proofs.Common.{◌≡◌, ◌≢◌, ℕ, ◌+◌, ◌*◌, ◌<◌, ◌≤◌, List, [], ◌∷◌, ◌++◌, length, append-nil, set, slice_get, Option, Some, None, sym, ap, ◌∙◌, subst, ⊎_elim, arith, get_or-set_other}
 use mathlib.Core.Logic.{dite}
 use native.Mathlib.Decide.{ℕ_discrete}
-use Rattle.size_classes.specs.declared.TheConstants.{SIZES}
-use Rattle.size_classes.specs.Table.{IsLeastFor}
 use Rattle.heap_model.specs.Domains.{class_count, IsWithinLimits}
 use Rattle.heap_words.specs.Labels.{label_word}
 use Rattle.heap_words.specs.Unpacked.{Unpacks}
@@ -14,11 +12,11 @@ use Rattle.heap_rule.specs.declared.view.Hunt.TheVariants.{Rests, Heads}
 use Rattle.heap_rule.specs.declared.view.DomainView.{DomainView}
 use Rattle.heap_rule.specs.Copies.{met_place, known}
 use Rattle.heap_rule.specs.Limits.{sizes_in}
-use Rattle.heap_rule.specs.Places.{Place, Live, extent, IsNewHead, IsBuilt, IsOldAt, More}
+use Rattle.heap_rule.specs.Places.{Place, Live, IsBuilt, IsOldAt, More}
 use Rattle.heap_rule.specs.Pools.{prepared_at}
 use Rattle.heap_rule.proofs.Lists.{got_end}
 use Rattle.steps_promote.specs.Promotion.{met_of, Knows}
-use Rattle.steps_promote.specs.Claims.{with_hunt, preparing, pushed, ClaimMay, ClaimTold}
+use Rattle.steps_promote.specs.Claims.{with_hunt, preparing, pushed, ClaimTold}
 use Rattle.promote_claim.specs.Heads.{IsForward, forward_word}
 use Rattle.promote_claim.specs.Working.{SameBlock, IsPair, Works, with_claims, IsMetWith, Claimed, Prepared, Written}
 use Rattle.promote_claim.proofs.Meeting.{form_shape, known_here, same_lasts, pair_more, old_small, forward_same}
@@ -35,22 +33,6 @@ module _ (k : Config) (young word class copy : ℕ) (x p y : DomainView) (few : 
 
   known_same : Knows y ≡ Knows x
   known_same = ap (λ (z : DomainView). Knows z) wrote.view ∙ ap (λ (c : Copying). known c.met) ready.copying
-
-  pub claim_may : (new : ℕ) → IsLeastFor SIZES (extent m.place.shape) class → new ≡ forward_word copy → ClaimMay k y young word new class copy
-  claim_may new least is = subst (λ (z : DomainView). ClaimMay k z young word new class copy) (sym wrote.view) record {
-    stage = ready.works.stage;
-    place = wrote.place;
-    met = wrote.met;
-    young = is_young;
-    label = label_word wrote.place.label.domain wrote.place.label.serial;
-    hunt = refl;
-    head = subst (λ (q : Place). IsNewHead q.shape word) (sym place_is) m.head;
-    label_is = refl;
-    of_class = few;
-    least = subst (λ (q : Place). IsLeastFor SIZES (extent q.shape) class) (sym place_is) least;
-    prepared = ready.here;
-    word = is;
-  }
 
   module _ (z : DomainView) (found : ℕ) (told : ClaimTold k young word class copy y found z) (w : Works k x) (limits : IsWithinLimits (sizes_in k)) where
     told_place : told.place ≡ m.place

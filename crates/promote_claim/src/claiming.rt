@@ -5,8 +5,8 @@ ghost use Rattle.heap_words.specs.Values.{IsPackable};
 ghost use Rattle.heap_rule.specs.Pools.{prepared_at};
 ghost use Rattle.heap_rule.specs.Standing.{IsInHeap};
 ghost use Rattle.heap_rule.specs.Token.{IsIn};
-ghost use Rattle.steps_promote.specs.Promotion.{HeadMay};
 ghost use Rattle.steps_pools.specs.Takes.{HasYoung};
+ghost use Rattle.steps_promote.specs.Promotion.{HeadMay};
 ghost use Rattle.promote_claim.specs.Working.{Works, IsMetWith, Claimed, Prepared, Written, Forwarded, StandsFor};
 
 use crate::heads::{copy_of, words_of};
