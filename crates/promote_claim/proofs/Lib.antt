@@ -1,0 +1,5 @@
+pub mod Meeting
+pub mod Preparing
+pub mod Racing
+pub mod Valuing
+pub mod Fills

@@ -1,0 +1,166 @@
+-- What a domain that copies knows after it has met a block.
+use Rattle.std.proofs.Common.{◌≡◌, ◌≢◌, ℕ, zero, suc, ◌+◌, ◌*◌, ◌^◌, ◌<◌, ◌≤◌, ◌⊎◌, cond, eqb, eq-eqb, Bool, false, List, [], ◌∷◌, ◌++◌, length, append-nil, append_assoc, slice_get, Option, Some, None, sym, refl, ap, ◌∙◌, subst, ⊎_elim, arith}
+use Rattle.heap_model.specs.Domains.{class_count, IsWithinLimits}
+use Rattle.heap_model.specs.Fronts.{Shape, PlainShape, RawShape, EpheShape}
+use Rattle.heap_words.specs.declared.head.Head.{Head}
+use Rattle.heap_words.specs.declared.head.Head.TheVariants.{Forward}
+use Rattle.heap_words.specs.Heads.{IsPackableHead, head_word}
+use Rattle.heap_words.specs.Unpacked.{Unpacks}
+use Rattle.heap_words.proofs.WordLemmas.{head_word-injective}
+use Rattle.heap_rule.specs.declared.config.Config.{Config}
+use Rattle.heap_rule.specs.declared.view.Copied.{Copied}
+use Rattle.heap_rule.specs.declared.view.Met.{Met}
+use Rattle.heap_rule.specs.declared.view.DomainView.{DomainView}
+use Rattle.heap_rule.specs.Copies.{met_place, shape_of_form, known}
+use Rattle.heap_rule.specs.Limits.{sizes_in}
+use Rattle.heap_rule.specs.Layout.{heap_words}
+use Rattle.heap_rule.specs.Places.{Place, Live, extent, unmarked, head_of, HasClass, IsBuilt, IsNewHead, IsOldAt, Fits, Lasts, More}
+use Rattle.heap_rule.specs.Pools.{prepared_at}
+use Rattle.heap_rule.specs.Standing.{IsInHeap}
+use Rattle.heap_rule.proofs.Values.{address_of}
+use Rattle.steps_promote.specs.Promotion.{form_of, met_of, with_met, meeting, AllFit, Knows, StaysThere, Forwards, HeadMet}
+use Rattle.promote_claim.specs.Heads.{IsForward, forward_word, IsHeadFor}
+use Rattle.promote_claim.specs.Working.{SameBlock, IsPair, AllPairs, Works, owed_from, with_claims, Grown, IsMetWith, Claimed}
+
+pub form_shape : (s : Shape) → IsBuilt s → shape_of_form (form_of s) ≡ s
+form_shape (PlainShape size tag) built = refl
+form_shape (RawShape size tag) built = absurd built
+form_shape (EpheShape keys) built = refl
+
+pub known_here : (m : Met) (ms : List Met) → known (m ∷ ms) m.address ≡ Some (met_place m)
+known_here m ms = ap (λ (b : Bool). cond b (Some (met_place m)) (known ms m.address)) (eq-eqb m.address m.address refl)
+
+pub more_same : (live : Live) → More live live
+more_same live a p e = record { place = p; lives = e; label = refl; shape = refl }
+
+pub more_twice : (a b c : Live) → More a b → More b c → More a c
+more_twice a b c f g x p e = let h = f x p e in let i = g x h.place h.lives in record { place = i.place; lives = i.lives; label = i.label ∙ h.label; shape = i.shape ∙ h.shape }
+
+pub lasts_more : (live live' : Live) (a : ℕ) (p : Place) → More live live' → Lasts live a p → Lasts live' a p
+lasts_more live live' a p more l = let m = more a l.place l.lives in record { place = m.place; lives = m.lives; label = m.label ∙ l.label; shape = m.shape ∙ l.shape }
+
+pub same_more : (live live' : Live) (a c : ℕ) → More live live' → SameBlock live a c → SameBlock live' a c
+same_more live live' a c more s = let f = more a s.from s.here in let t = more c s.to s.there in record {
+  from = f.place;
+  here = f.lives;
+  to = t.place;
+  there = t.lives;
+  label = t.label ∙ (s.label ∙ sym f.label);
+  shape = t.shape ∙ (s.shape ∙ sym f.shape);
+}
+
+-- two addresses at which one block was met
+pub same_lasts : (live : Live) (a c : ℕ) (p : Place) → Lasts live a p → Lasts live c p → SameBlock live a c
+same_lasts live a c p f t = record { from = f.place; here = f.lives; to = t.place; there = t.lives; label = t.label ∙ sym f.label; shape = t.shape ∙ sym f.shape }
+
+pub pair_more : (k : Config) (x y : DomainView) (c : Copied) → More (Knows x) (Knows y) → IsPair k x c → IsPair k y c
+pair_more k x y c more p = record { young = p.young; old = p.old; same = same_more (Knows x) (Knows y) c.source c.copy more p.same }
+
+-- an address of the pools is small
+pub old_small : (k : Config) (a : ℕ) → IsWithinLimits (sizes_in k) → IsOldAt k a → a < 2 ^ 32
+old_small k a limits old = let p : ℕ = k.pools in let few : p ≤ 2048 = limits.pools in let o : a ≤ p * 4096 = old in omega arith
+
+-- what was met lies in the heap
+pub met_inside : (k : Config) (x : DomainView) (a : ℕ) (p : Place) → AllFit k x → Knows x a ≡ Some p → IsInHeap k a
+met_inside k x a p fit e = let f = address_of k a p (fit a p e) in let w : ℕ = heap_words k in let l : 1 ≤ a = f.0 in let h : a + 2 ≤ w = f.1 in (l, let g : a ≤ w = omega arith in g)
+
+-- its label too
+pub met_label_inside : (k : Config) (x : DomainView) (a : ℕ) (p : Place) → AllFit k x → Knows x a ≡ Some p → IsInHeap k (a + 1)
+met_label_inside k x a p fit e = let f = address_of k a p (fit a p e) in let w : ℕ = heap_words k in let l : 1 ≤ a = f.0 in let h : a + 2 ≤ w = f.1 in (let g : 1 ≤ a + 1 = omega arith in g, let g : a + 1 ≤ w = omega arith in g)
+
+-- and its values
+pub met_value_inside : (k : Config) (x : DomainView) (a i : ℕ) (p : Place) → AllFit k x → Knows x a ≡ Some p → i + 2 < extent p.shape → IsInHeap k (a + 2 + i)
+met_value_inside k x a i p fit e below = let f = fit a p e in let w : ℕ = heap_words k in let l : 1 ≤ a = f.low in let n : ℕ = extent p.shape in let h : a + n ≤ w + 1 = f.high in let b : i + 2 < n = below in
+    (let g : 1 ≤ a + 2 + i = omega arith in g, let g : a + 2 + i ≤ w = omega arith in g)
+
+pub met_view : (x y : DomainView) (met : List Met) → y ≡ with_met x met → y ≡ with_met x y.seen.copying.met
+met_view x y met e = e ∙ ap (with_met x) (sym (ap (λ (z : DomainView). z.seen.copying.met) e))
+
+-- a block was met, and nothing else has changed
+module _ (k : Config) (x y : DomainView) (e : y ≡ with_met x y.seen.copying.met) (more : More (Knows x) (Knows y)) (fit : AllFit k y) (w : Works k x) where
+  pub works_on : Works k y
+  works_on = record {
+    stage = ap (λ (z : DomainView). z.seen.stage) e ∙ w.stage;
+    at_rest = ap (λ (z : DomainView). z.seen.hunt) e ∙ w.at_rest;
+    fit = fit;
+    placed = λ class a few is. w.placed class a few (ap (λ (z : DomainView). prepared_at z.own.prepared class) (sym e) ∙ is);
+    pairs = λ i c got. pair_more k x y c more (w.pairs i c (ap (λ (z : DomainView). slice_get z.own.pending.items i) (sym e) ∙ got));
+  }
+
+  pub grown_met : Grown k x y
+  grown_met = record {
+    view = e ∙ ap (with_claims x) (sym e);
+    works = works_on;
+    more = more;
+    made = [];
+    items = ap (λ (z : DomainView). z.own.pending.items) e ∙ sym (append-nil x.own.pending.items);
+    owed = ap (λ (z : DomainView). z.seen.copying.pending) e ∙ sym (append-nil x.seen.copying.pending);
+  }
+
+pub owed_append : (a b : List Copied) → owed_from (a ++ b) ≡ owed_from a ++ owed_from b
+owed_append [] b = refl
+owed_append (c ∷ cs) b = ap (λ l. record { copy = c.copy; source = c.source; filled = 0 } ∷ l) (owed_append cs b)
+
+pub grown_none : (k : Config) (x : DomainView) → Works k x → Grown k x x
+grown_none k x w = record { view = refl; works = w; more = more_same (Knows x); made = []; items = sym (append-nil x.own.pending.items); owed = sym (append-nil x.seen.copying.pending) }
+
+-- claims one behind the other
+pub grown_twice : (k : Config) (x y z : DomainView) → Grown k x y → Grown k y z → Grown k x z
+grown_twice k x y z a b = record {
+  view = b.view ∙ ap (λ (v : DomainView). with_claims v z) a.view;
+  works = b.works;
+  more = more_twice (Knows x) (Knows y) (Knows z) a.more b.more;
+  made = a.made ++ b.made;
+  items = b.items ∙ (ap (λ (l : List Copied). l ++ b.made) a.items ∙ append_assoc x.own.pending.items a.made b.made);
+  owed = b.owed ∙ (ap (λ l. l ++ owed_from b.made) a.owed ∙ (append_assoc x.seen.copying.pending (owed_from a.made) (owed_from b.made) ∙ ap (λ l. x.seen.copying.pending ++ l) (sym (owed_append a.made b.made))));
+}
+
+-- the head of a block that stays isn't one that forwards
+pub stays_put : (s : Shape) (c : ℕ) → head_of None s unmarked false ≡ Forward c → ⊥
+stays_put (PlainShape size tag) c e = cc
+stays_put (RawShape size tag) c e = cc
+stays_put (EpheShape keys) c e = cc
+
+pub never_forward : (s : Shape) (word c : ℕ) → IsPackableHead (head_of None s unmarked false) → IsNewHead s word → IsForward c → forward_word c ≡ word → ⊥
+never_forward s word c fits head forward is = stays_put s c (head_word-injective (head_of None s unmarked false) (Forward c) fits forward (sym head ∙ sym is))
+
+pub forward_same : (a b : ℕ) → forward_word a ≡ forward_word b → a ≡ b
+forward_same a b e = let h : 3 + 2 ^ 32 * a ≡ 3 + 2 ^ 32 * b = e in omega arith
+
+-- the head of a block that was met
+module _ (k : Config) (at : ℕ) (x : DomainView) (word : ℕ) (y : DomainView) (told : HeadMet k at x word y) (limits : IsWithinLimits (sizes_in k)) where
+  head_view : y ≡ with_met x y.seen.copying.met
+  head_view = ⊎_elim (λ (t : StaysThere at told.place x word y). met_view x y (met_of at told.place ∷ x.seen.copying.met) t.view)
+      (λ (t : Forwards k at told.place x word y). met_view x y (met_of t.copy told.place ∷ met_of at told.place ∷ x.seen.copying.met) t.view)
+      told.told
+
+  pub head_grown : Works k x → Grown k x y
+  head_grown w = grown_met k x y head_view told.more told.fit w
+
+  -- where the head forwards, the copy was met
+  pub head_claimed : (copy : ℕ) → Works k x → IsForward copy × (forward_word copy ≡ word) → Claimed k at x y copy
+  head_claimed copy w leads = ⊎_elim
+      (λ (t : StaysThere at told.place x word y). absurd (never_forward told.place.shape word copy told.packable t.head leads.0 leads.1))
+      (λ (t : Forwards k at told.place x word y).
+      subst (Claimed k at x y) (forward_same t.copy copy (sym t.word ∙ sym leads.1)) record {
+        grown = head_grown w;
+        old = t.old;
+        same = same_lasts (Knows y) at t.copy told.place told.here t.there;
+      })
+      told.told
+
+  -- where it doesn't, it is that of a block of its shape
+  pub head_stays : Unpacks IsForward forward_word word None → StaysThere at told.place x word y
+  head_stays none = ⊎_elim (λ (t : StaysThere at told.place x word y). t)
+      (λ (t : Forwards k at told.place x word y). absurd (let e : ◌≡◌ {A = Option ℕ} None (Some t.copy) = none.only t.copy (t.inside.0, old_small k t.copy limits t.old) (sym t.word) in cc))
+      told.told
+
+  pub met_with : Unpacks IsForward forward_word word None → IsMetWith y at word
+  met_with none = let l = told.here in record { place = l.place; met = l.lives; head = subst (λ (s : Shape). IsNewHead s word) (sym l.shape) (head_stays none).head }
+
+-- the head of a block that was met says how large it is
+pub head_for : (k : Config) (x : DomainView) (a word : ℕ) → AllFit k x → (m : IsMetWith x a word) → IsHeadFor m.place.shape word
+head_for k x a word fit m = let f = fit a m.place m.met in record { built = f.built; packable = f.head; head = m.head }
+
+pub claimed_after : (k : Config) (a c : ℕ) (x y z : DomainView) → Grown k x y → Claimed k a y z c → Claimed k a x z c
+claimed_after k a c x y z g t = record { grown = grown_twice k x y z g t.grown; old = t.old; same = t.same }

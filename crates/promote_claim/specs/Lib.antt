@@ -1,0 +1,6 @@
+pub mod Working
+pub mod Heads
+pub mod Filling
+pub mod Roots
+pub mod Sharing
+pub mod Stand

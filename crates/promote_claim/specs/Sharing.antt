@@ -1,0 +1,38 @@
+-- What a domain's share of a collection comes to.
+use Rattle.std.specs.Prelude.{◌≡◌, ℕ, ◌<◌, [], None}
+use Rattle.heap_model.specs.Domains.{class_count}
+use Rattle.heap_rule.specs.declared.config.Config.{Config}
+use Rattle.heap_rule.specs.declared.view.DomainView.{DomainView}
+use Rattle.heap_rule.specs.declared.view.Hunt.TheVariants.{Rests}
+use Rattle.heap_rule.specs.declared.phase.Kind.TheVariants.{Promote}
+use Rattle.heap_rule.specs.declared.phase.Stage.TheVariants.{In}
+use Rattle.heap_rule.specs.Copies.{HoldsOld}
+use Rattle.heap_rule.specs.Pools.{prepared_at}
+use Rattle.promote_claim.specs.Working.{with_claims}
+
+-- no place is prepared for a copy
+abbrev pub Unprepared : DomainView → Type 0
+Unprepared x = (class : ℕ) → class < class_count → prepared_at x.own.prepared class ≡ None
+
+-- the places that were prepared are given back
+pub record GaveBack (x y : DomainView) : Type 0 where
+  pub view : y ≡ with_claims x y
+  pub at_rest : y.seen.hunt ≡ Rests
+  pub copying : y.seen.copying ≡ x.seen.copying
+  pub unprepared : Unprepared y
+
+-- the domain with its registers, its copies, its places of the pools and the fields to be looked through as another has them
+abbrev pub with_share : DomainView → DomainView → DomainView
+with_share x y = record {
+  own = record x.own { registers = y.own.registers; looked = y.own.looked; prepared = y.own.prepared; pending = y.own.pending };
+  seen = record x.seen { hunt = y.seen.hunt; copying = y.seen.copying; remembered = y.seen.remembered };
+}
+
+-- the domain owes no copy a value, has looked through all its remembered fields, holds no address of a minor area, and has no place prepared: it may arrive. All else is as it was
+pub record Shared (k : Config) (x y : DomainView) : Type 0 where
+  pub view : y ≡ with_share x y
+  pub at_rest : y.seen.hunt ≡ Rests
+  pub paid : y.seen.copying.pending ≡ []
+  pub looked_through : y.seen.remembered ≡ []
+  pub holds_old : HoldsOld k y
+  pub unprepared : Unprepared y

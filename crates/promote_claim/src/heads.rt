@@ -1,0 +1,30 @@
+//! What the word of a head says of its block.
+ghost use Rattle.std.specs.Prelude.{◌≡◌, ℕ};
+ghost use Rattle.heap_model.specs.Fronts.{Shape};
+ghost use Rattle.heap_rule.specs.Places.{extent};
+ghost use Rattle.heap_words.specs.Unpacked.{Unpacks};
+ghost use Rattle.promote_claim.specs.Heads.{IsForward, forward_word, IsHeadFor};
+
+use heap_words::{Head, unpack_head};
+
+// The copy to which the head forwards.
+pub(crate) fn copy_of(word: u64) -> Option<u32>
+    ensures { Unpacks IsForward forward_word word result }
+{
+    match unpack_head(word) {
+        Some(Head::Forward(copy)) => Some(copy),
+        _ => None,
+    }
+}
+
+// The words of the block, its head and its label among them.
+pub(crate) fn words_of(word: u64) -> u32
+    requires { (shape : Shape) × IsHeadFor shape word }
+    ensures { (shape : Shape) → IsHeadFor shape word → result ≡ extent shape }
+{
+    match unpack_head(word) {
+        Some(Head::Plain { size, .. }) => u32::from(size) + 2,
+        Some(Head::Ephe { keys, .. }) => u32::from(keys) + 3,
+        _ => unreachable!(),
+    }
+}

@@ -1,0 +1,57 @@
+//! A domain's share of a collection.
+ghost use Rattle.std.specs.Prelude.{◌≡◌, []};
+ghost use Rattle.heap_rule.specs.declared.phase.Kind.TheVariants.{Promote};
+ghost use Rattle.heap_rule.specs.declared.phase.Stage.TheVariants.{In};
+ghost use Rattle.heap_rule.specs.declared.view.Hunt.TheVariants.{Rests};
+ghost use Rattle.heap_rule.specs.Copies.{nothing_copied};
+ghost use Rattle.heap_rule.specs.Running.{RemembersAll};
+ghost use Rattle.heap_rule.specs.Token.{IsIn};
+ghost use Rattle.promote_claim.specs.Sharing.{Unprepared, GaveBack, Shared};
+ghost use Rattle.promote_claim.specs.Working.{Works};
+
+use crate::filling::fill_all;
+use crate::places::spot_in;
+use crate::roots::{move_registers, rewrite_fields};
+use crate::steps::free_store;
+use heap_rule::{Domain, Heap};
+use size_classes::CLASS_COUNT;
+
+// Gives the places back that were prepared for claims which another domain won.
+fn give_back(heap: &Heap, dom: &mut Domain)
+    requires here { IsIn dom.old heap.now }
+    requires works { Works heap.now.config dom.old.view }
+    ensures here { IsIn dom.new heap.now }
+    ensures gave { GaveBack dom.old.view dom.new.view }
+{
+    let _limits = heap.config();
+    for class in 0..CLASS_COUNT as u32 {
+        if let Some(at) = dom.prepared(class) {
+            let spot = spot_in(at, class);
+            free_store(heap, dom, at, spot.pool, class, spot.slot);
+        }
+    }
+}
+
+/// A domain's share of a phase in which the domains copy young blocks: all that its registers and its
+/// remembered fields lead to is copied, as far as no other domain copies it. Afterwards no register
+/// and none of these fields has an address of a minor area, each copy that the domain made has all
+/// its values, none of which is such an address, and no place is prepared: the domain may arrive.
+///
+/// Nothing has been copied or prepared before, and the fields to be looked through are those of the
+/// domain's list.
+pub fn promote(heap: &Heap, dom: &mut Domain)
+    requires here { IsIn dom.old heap.now }
+    requires stage { dom.old.view.seen.stage ≡ In Promote }
+    requires at_rest { dom.old.view.seen.hunt ≡ Rests }
+    requires quiet { dom.old.view.seen.copying ≡ nothing_copied }
+    requires no_copies { dom.old.view.own.pending.items ≡ [] }
+    requires remembers { RemembersAll dom.old.view }
+    requires unprepared { Unprepared dom.old.view }
+    ensures here { IsIn dom.new heap.now }
+    ensures shared { Shared heap.now.config dom.old.view dom.new.view }
+{
+    move_registers(heap, dom);
+    rewrite_fields(heap, dom);
+    fill_all(heap, dom);
+    give_back(heap, dom);
+}
