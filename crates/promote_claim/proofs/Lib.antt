@@ -3,3 +3,5 @@ pub mod Preparing
 pub mod Racing
 pub mod Valuing
 pub mod Fills
+pub mod Rooting
+pub mod Giving

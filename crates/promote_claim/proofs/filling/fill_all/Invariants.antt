@@ -1,11 +1,16 @@
-use Rattle.std.proofs.Common.{◌≡◌, ◌+◌, ◌<◌, ◌≤◌, length, ℕ, ◌-◌, ◌*◌}
+use Rattle.std.proofs.Common.{◌≡◌, ◌≤◌, ◌-◌, length}
 use Rattle.heap_rule.specs.Token.{IsIn}
-use Rattle.promote_claim.specs.Filling.{FilledTo, AllFilled}
-use Rattle.promote_claim.specs.Working.{Works, Tied}
+use Rattle.heap_rule.specs.Views.{pending_room}
+use Rattle.promote_claim.specs.Working.{Works, Tied, with_claims}
 use Rattle.promote_claim.proofs.filling.fill_all.Given as goal
 
 abbrev pub invariant-loop-i : goal.invariant-loop-i
-invariant-loop-i l = ?
+invariant-loop-i l = record {
+  here : IsIn l.dom l.heap;
+  works : Works l.heap.config l.dom.view;
+  view : l.dom.view ≡ with_claims l.fn.dom.view l.dom.view;
+  tied : Tied l.i l.dom.view;
+}
 
 abbrev pub decreases-loop-i : goal.decreases-loop-i
-decreases-loop-i l = ?
+decreases-loop-i l = pending_room l.heap.config - l.i

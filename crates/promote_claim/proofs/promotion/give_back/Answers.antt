@@ -1,42 +1,17 @@
-use Rattle.std.proofs.Common.{rules, ◌≡◌, [], ℕ, ◌+◌, ◌-◌, ◌*◌, ◌<◌, ◌≤◌, length, ◌/◌, ◌%◌, Bool, true, false, nat_eq, nat_lt, List, ◌∷◌, ◌++◌, slice_index_or, slice_set, bit_and, bit_or, Fits, w8, w32, w64, Bor, MutBor}
-use Rattle.heap_rule.specs.declared.phase.Kind.TheVariants.{Promote}
-use Rattle.heap_rule.specs.declared.phase.Stage.TheVariants.{In}
-use Rattle.heap_rule.specs.declared.view.Hunt.TheVariants.{Rests}
-use Rattle.heap_rule.specs.Copies.{nothing_copied}
-use Rattle.heap_rule.specs.Running.{RemembersAll}
-use Rattle.heap_rule.specs.Token.{IsIn}
-use Rattle.promote_claim.specs.Sharing.{Unprepared, GaveBack, Shared}
-use Rattle.promote_claim.specs.Working.{Works}
+use Rattle.std.proofs.Common.{◌≡◌, ◌<◌, sym, ◌∙◌}
+use Rattle.heap_model.specs.Domains.{class_count}
+use Rattle.promote_claim.proofs.Preparing.{place_inside}
+use Rattle.promote_claim.proofs.Giving.{free_may}
 use Rattle.promote_claim.proofs.promotion.give_back.Goals as goal
 
--- src/promotion.rt:27:5
-pub loop-class-init : goal.loop-class-init
-loop-class-init c = ?
-
--- src/promotion.rt:29:17
-pub spot_in-spot-requires-clause-place : goal.spot_in-spot-requires-clause-place
-spot_in-spot-requires-clause-place c = ?
-
--- src/promotion.rt:30:13
-pub free_store-requires-clause-here : goal.free_store-requires-clause-here
-free_store-requires-clause-here c = ?
-
--- src/promotion.rt:30:13
 pub free_store-requires-clause-inside : goal.free_store-requires-clause-inside
-free_store-requires-clause-inside c = ?
+free_store-requires-clause-inside c =
+    let few : c.loop-class.class < class_count = c.loop-class-test.true in
+    place_inside c.args.heap.now.config c.loop-class.class c.in-Some.at few (c.loop-class.invariant.gives.placed c.loop-class.class c.in-Some.at few (sym c.prepared.ensures.place ∙ c.in-Some.is))
 
--- src/promotion.rt:30:13
 pub free_store-requires-clause-may : goal.free_store-requires-clause-may
-free_store-requires-clause-may c = ?
-
--- src/promotion.rt:27:5
-pub loop-class-preserved : goal.loop-class-preserved
-loop-class-preserved c = ?
-
--- src/promotion.rt:20:1
-pub returns-clause-here : goal.returns-clause-here
-returns-clause-here c = ?
-
--- src/promotion.rt:20:1
-pub returns-clause-gave : goal.returns-clause-gave
-returns-clause-gave c = ?
+free_store-requires-clause-may c =
+    let few : c.loop-class.class < class_count = c.loop-class-test.true in
+    let here = sym c.prepared.ensures.place ∙ c.in-Some.is in
+    let p = c.loop-class.invariant.gives.placed c.loop-class.class c.in-Some.at few here in
+    free_may c.args.heap.now.config c.loop-class.class c.in-Some.at c.args.dom.now.view c.loop-class.dom.view few c.loop-class.invariant.gives here c.spot_in-spot.result (c.spot_in-spot.ensures p.pool p.slot p.below p.address)

@@ -1,19 +1,18 @@
-use Rattle.std.proofs.Common.{rules, ◌≡◌, ◌<◌, List, ℕ, ◌∷◌, ◌+◌, ◌-◌, ◌*◌, ◌≤◌, length, ◌/◌, ◌%◌, Bool, true, false, nat_eq, nat_lt, [], ◌++◌, slice_index_or, slice_set, bit_and, bit_or, Fits, w8, w32, w64, Bor, MutBor}
-use Rattle.heap_rule.specs.Running.{RemembersAll}
-use Rattle.heap_rule.specs.Standing.{IsInHeap}
-use Rattle.heap_rule.specs.Token.{IsIn}
-use Rattle.promote_claim.specs.Roots.{Moved, AllMoved, Rewritten, AllRewritten}
-use Rattle.promote_claim.specs.Working.{Works, Tied}
+use Rattle.std.proofs.Common.{◌≡◌, ℕ, sym, subst}
+use Rattle.steps_promote.specs.Promotion.{RewriteMay, RewriteTold}
+use Rattle.promote_claim.proofs.Rooting.{field_grown, rewrite_may, rewritten}
 use Rattle.promote_claim.proofs.roots.rewrite_field.Goals as goal
 
--- src/roots.rt:58:9
 pub forwarded-value-requires-clause-works : goal.forwarded-value-requires-clause-works
-forwarded-value-requires-clause-works c = ?
+forwarded-value-requires-clause-works c = let f = c.requires.first in let l = c.remembered_load-word in
+    (field_grown c.args.heap.now.config c.args.dom.now.view l.new.dom.view c.args.at l.result c.requires.works c.requires.tied f.0 f.1 l.ensures.told).works
 
--- src/roots.rt:59:5
 pub remembered_store-requires-clause-may : goal.remembered_store-requires-clause-may
-remembered_store-requires-clause-may c = ?
+remembered_store-requires-clause-may c = let f = c.requires.first in let l = c.remembered_load-word in
+    subst (RewriteMay c.args.heap.now.config c.forwarded-value.new.dom.view c.args.at) (sym c.pack_value.ensures)
+    (rewrite_may c.args.heap.now.config c.args.dom.now.view l.new.dom.view c.args.at l.result c.requires.works c.requires.tied f.0 f.1 l.ensures.told c.read_as.result c.read_as.ensures c.forwarded-value.new.dom.view c.forwarded-value.result c.forwarded-value.ensures.forwarded)
 
--- src/roots.rt:47:1
 pub returns-clause-rewritten : goal.returns-clause-rewritten
-returns-clause-rewritten c = ?
+returns-clause-rewritten c = let f = c.requires.first in let l = c.remembered_load-word in
+    rewritten c.args.heap.now.config c.args.dom.now.view l.new.dom.view c.args.at l.result c.requires.works c.requires.tied f.0 f.1 l.ensures.told c.read_as.result c.read_as.ensures c.forwarded-value.new.dom.view c.forwarded-value.result c.forwarded-value.ensures.forwarded
+    c.remembered_store.new.dom.view (subst (λ (n : ℕ). RewriteTold c.args.at c.forwarded-value.new.dom.view n c.remembered_store.new.dom.view) c.pack_value.ensures c.remembered_store.ensures.told)

@@ -1,0 +1,124 @@
+-- What becomes of the roots.
+use Rattle.std.proofs.Common.{◌≡◌, ◌≢◌, ℕ, zero, suc, ◌+◌, ◌-◌, ◌*◌, ◌^◌, ◌<◌, ◌≤◌, ◌⊎◌, List, [], ◌∷◌, ◌++◌, length, drop, set, slice_get, Option, Some, None, sym, refl, ap, ◌∙◌, subst, inr, arith, length-set, get_or-set_same, get_or-set_other}
+use mathlib.Core.Logic.{dite}
+use native.Mathlib.Decide.{ℕ_discrete}
+use Rattle.heap_model.specs.declared.entry.Entry.{Entry}
+use Rattle.heap_words.specs.declared.value.Value.{Value}
+use Rattle.heap_words.specs.declared.value.Value.TheVariants.{Ref, Nothing}
+use Rattle.heap_words.specs.Values.{IsPackable, value_word}
+use Rattle.heap_words.proofs.WordLemmas.{value_word-injective}
+use Rattle.heap_rule.specs.declared.config.Config.{Config}
+use Rattle.heap_rule.specs.declared.view.DomainView.{DomainView}
+use Rattle.heap_rule.specs.Changes.{value_at}
+use Rattle.heap_rule.specs.Copies.{IsOldValue}
+use Rattle.heap_rule.specs.Places.{Stands}
+use Rattle.heap_rule.specs.Rule.{state_of}
+use Rattle.heap_rule.specs.Standing.{IsAt, with_registers}
+use Rattle.steps_promote.specs.Promotion.{Knows, recalling, HasValueAt, HeadMay, MoveMay, MoveTold, Recalled, RewriteMay, RewriteTold}
+use Rattle.promote_claim.specs.Working.{Works, Tied, with_claims, Grown, Claimed, Forwarded, StandsFor}
+use Rattle.promote_claim.specs.Roots.{with_moves, Moved, with_rewrites, Rewritten}
+use Rattle.promote_claim.proofs.Meeting.{grown_met, grown_twice, lasts_more}
+use Rattle.promote_claim.proofs.Valuing.{old_word}
+use Rattle.promote_claim.proofs.Fills.{tied_grown}
+
+-- a block in a register may be looked at
+pub held_may : (k : Config) (x : DomainView) (r a : ℕ) → Works k x → r < 16 → value_at x.own.registers r ≡ Ref a → HeadMay x a
+held_may k x r a w few holds = record { stage = w.stage; from = inr (r, record { few = few; holds = holds }) }
+
+-- the register gets the copy's address
+module _ (k : Config) (x y : DomainView) (r a c : ℕ) (w : Works k x) (t : Tied 0 x) (few : r < 16) (holds : value_at x.own.registers r ≡ Ref a) (claimed : Claimed k a x y c) where
+  registers_same : y.own.registers ≡ x.own.registers
+  registers_same = ap (λ (z : DomainView). z.own.registers) claimed.grown.view
+
+  pub move_may : MoveMay y r c
+  move_may = record {
+    stage = claimed.grown.works.stage;
+    few = few;
+    address = a;
+    holds = ap (λ (l : List Value). value_at l r) registers_same ∙ holds;
+    from = claimed.same.from;
+    met = claimed.same.here;
+    to = claimed.same.to;
+    there = claimed.same.there;
+    label = claimed.same.label;
+  }
+
+  pub moved : (found : ℕ) (z : DomainView) → MoveTold k r c y found z → Moved k r x z
+  moved found z told =
+      let R : List Value = set y.own.registers r (Ref c) in
+      let q : DomainView = with_registers (with_claims x y) R in
+      let e : z ≡ q = told.view ∙ ap (λ (v : DomainView). with_registers v R) claimed.grown.view in
+      let long : length y.own.registers ≡ 16 = sym (length-set y.own.registers r (Ref c)) ∙ (sym (ap (λ (v : DomainView). length v.own.registers) told.view) ∙ told.holds.wide) in
+      let v = claimed.grown.works in
+      let n : ℕ = length y.own.registers in
+      subst (Moved k r x) (sym e) record {
+        view = refl;
+        works = record { stage = w.stage; at_rest = v.at_rest; fit = v.fit; placed = v.placed; pairs = λ j b got. let o = v.pairs j b got in record { young = o.young; old = o.old; same = o.same } };
+        tied = tied_grown k 0 x y (omega arith) t claimed.grown;
+        old = subst (IsOldValue k) (sym (get_or-set_same y.own.registers r (Ref c) Nothing (let h : n ≡ 16 = long in let g : r < n = omega arith in g))) claimed.old;
+        others = λ j other. get_or-set_other y.own.registers r j (Ref c) Nothing other ∙ ap (λ (l : List Value). value_at l j) registers_same;
+      }
+
+-- registers up to one, and up to the next
+pub old_next : (k : Config) (n : ℕ) (x y : DomainView) → ((j : ℕ) → j < n → IsOldValue k (value_at x.own.registers j)) → Moved k n x y → (j : ℕ) → j < n + 1 → IsOldValue k (value_at y.own.registers j)
+old_next k n x y before m j below = dite (ℕ_discrete j n)
+    (λ same. subst (λ (i : ℕ). IsOldValue k (value_at y.own.registers i)) (sym same) m.old)
+    (λ other. subst (IsOldValue k) (sym (m.others j other)) (before j (omega arith)))
+
+pub moves_twice : (x y z : DomainView) → y ≡ with_moves x y → z ≡ with_moves y z → z ≡ with_moves x z
+moves_twice x y z a b = b ∙ ap (λ (v : DomainView). with_moves v z) a
+
+pub rewrites_twice : (x y z : DomainView) → y ≡ with_rewrites x y → z ≡ with_rewrites y z → z ≡ with_rewrites x z
+rewrites_twice x y z a b = b ∙ ap (λ (v : DomainView). with_rewrites v z) a
+
+-- a remembered field was loaded
+module _ (k : Config) (x y : DomainView) (at word : ℕ) (w : Works k x) (t : Tied 0 x) (rest : List ℕ) (first : x.seen.remembered ≡ at ∷ rest) (told : Recalled k at x word y) where
+  pub field_grown : Grown k x y
+  field_grown = grown_met k x y told.view told.more told.fit w
+
+  module _ (v : Value) (read : IsPackable v × (value_word v ≡ word)) where
+    value_is : v ≡ told.value
+    value_is = value_word-injective v told.value read.0 told.packable (read.1 ∙ told.word)
+
+    as_held : Stands (Knows y) v told.held
+    as_held = subst (λ (u : Value). Stands (Knows y) u told.held) (sym value_is) told.stands
+
+    pub field_stands : StandsFor y v
+    field_stands = (told.held, as_held)
+
+    module _ (z : DomainView) (new : Value) (fw : Forwarded k v y z new) where
+      remembered_same : z.seen.remembered ≡ x.seen.remembered
+      remembered_same = ap (λ (u : DomainView). u.seen.remembered) fw.grown.view ∙ ap (λ (u : DomainView). u.seen.remembered) told.view
+
+      pub rewrite_may : RewriteMay k z at (value_word new)
+      rewrite_may = record {
+        stage = fw.grown.works.stage;
+        rest = rest;
+        first = remembered_same ∙ first;
+        block = told.block;
+        place = told.place;
+        index = told.index;
+        is = told.is;
+        inside = told.inside;
+        here = lasts_more (Knows y) (Knows z) told.block told.place fw.grown.more told.here;
+        value = new;
+        packs = refl;
+        held = told.held;
+        has = subst (λ (o : List Entry). HasValueAt (state_of k o) told.place.label told.index told.held) (sym (ap (λ (u : DomainView). u.seen.front) fw.grown.view ∙ ap (λ (u : DomainView). u.seen.front) told.view)) told.has;
+        stands = fw.stands told.held as_held;
+        old = old_word k new fw.packable fw.old;
+      }
+
+      pub rewritten : (u : DomainView) → RewriteTold at z (value_word new) u → Rewritten k x u
+      rewritten u said =
+          let g = grown_twice k x y z field_grown fw.grown in
+          let L : List ℕ = drop 1 x.seen.remembered in
+          let rests : said.rest ≡ L = ap (drop 1) (sym said.first ∙ remembered_same) in
+          let e : u ≡ recalling (with_claims x z) L = said.view ∙ (λ i. recalling (g.view i) (rests i)) in
+          let o = g.works in
+          subst (Rewritten k x) (sym e) record {
+            view = refl;
+            works = record { stage = w.stage; at_rest = o.at_rest; fit = o.fit; placed = o.placed; pairs = λ j b got. let p = o.pairs j b got in record { young = p.young; old = p.old; same = p.same } };
+            tied = tied_grown k 0 x z (omega arith) t g;
+            forgotten = refl;
+          }
