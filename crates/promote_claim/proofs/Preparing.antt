@@ -61,10 +61,6 @@ set_none [] (suc c) = refl
 set_none (x ∷ xs) zero = refl
 set_none (x ∷ xs) (suc c) = set_none xs c
 
--- a place was prepared before
-pub prepared_before : (k : Config) (class a : ℕ) (x : DomainView) → Works k x → prepared_at x.own.prepared class ≡ Some a → Prepared k class x x a
-prepared_before k class a x w is = record { view = refl; works = w; copying = refl; pending = refl; here = is }
-
 -- a free place was taken
 module _ (k : Config) (class a : ℕ) (x t : DomainView) (few : class < class_count) (w : Works k x) (took : TookFor k class a x t) where
   pub took_place : IsPlaceIn k class a

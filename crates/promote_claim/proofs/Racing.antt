@@ -37,22 +37,6 @@ module _ (k : Config) (young word class copy : ℕ) (x p y : DomainView) (few : 
   known_same : Knows y ≡ Knows x
   known_same = ap (λ (z : DomainView). Knows z) wrote.view ∙ ap (λ (c : Copying). known c.met) ready.copying
 
-  pub claim_may : (new : ℕ) → IsLeastFor SIZES (extent m.place.shape) class → new ≡ forward_word copy → ClaimMay k y young word new class copy
-  claim_may new least is = subst (λ (z : DomainView). ClaimMay k z young word new class copy) (sym wrote.view) record {
-    stage = ready.works.stage;
-    place = wrote.place;
-    met = wrote.met;
-    young = is_young;
-    label = label_word wrote.place.label.domain wrote.place.label.serial;
-    hunt = refl;
-    head = subst (λ (q : Place). IsNewHead q.shape word) (sym place_is) m.head;
-    label_is = refl;
-    of_class = few;
-    least = subst (λ (q : Place). IsLeastFor SIZES (extent q.shape) class) (sym place_is) least;
-    prepared = ready.here;
-    word = is;
-  }
-
   module _ (z : DomainView) (found : ℕ) (told : ClaimTold k young word class copy y found z) (w : Works k x) (limits : IsWithinLimits (sizes_in k)) where
     told_place : told.place ≡ m.place
     told_place = some_same told.place m.place (sym told.met ∙ (ap (λ (l : Live). l young) known_same ∙ m.met))

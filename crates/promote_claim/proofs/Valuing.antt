@@ -49,10 +49,6 @@ ref_forwarded k x y a c limits t = record {
   old = t.old;
 }
 
--- what is no address of a minor area stays
-pub stays_forwarded : (k : Config) (x : DomainView) (v : Value) → Works k x → IsPackable v → IsOldValue k v → Forwarded k v x x v
-stays_forwarded k x v w fits old = record { grown = grown_none k x w; stands = λ held s. s; packable = fits; old = old }
-
 -- the word of such a value
 pub old_word : (k : Config) (v : Value) → IsPackable v → IsOldValue k v → IsOldWord k (value_word v)
 old_word k (Int z) fits old = inl (omega (arith, ints))
