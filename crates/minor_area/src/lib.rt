@@ -6,6 +6,8 @@
 
 mod allocation;
 mod need;
+mod resetting;
 
 pub use allocation::alloc_young;
 pub use need::Need;
+pub use resetting::reset;

@@ -1,5 +1,5 @@
 -- What the filling of copies comes to.
-use Rattle.std.proofs.Common.{◌≡◌, ◌≢◌, ℕ, zero, suc, ◌+◌, ◌-◌, ◌*◌, ◌^◌, ◌<◌, ◌≤◌, ◌⊎◌, List, [], ◌∷◌, ◌++◌, length, drop, slice_get, Option, Some, None, sym, refl, ap, ◌∙◌, subst, arith, add-one, ⊎_elim}
+use Rattle.std.proofs.Common.{◌≡◌, ℕ, zero, suc, ◌+◌, ◌-◌, ◌*◌, ◌<◌, ◌≤◌, List, [], ◌∷◌, ◌++◌, length, drop, slice_get, Some, sym, refl, ap, ◌∙◌, subst, arith, add-one, ⊎_elim}
 use Rattle.heap_model.specs.Domains.{IsWithinLimits}
 use Rattle.heap_model.specs.Fronts.{Shape}
 use Rattle.heap_words.proofs.WordLemmas.{value_word-injective}
@@ -12,15 +12,15 @@ use Rattle.heap_rule.specs.declared.config.Config.{Config}
 use Rattle.heap_rule.specs.declared.view.Copied.{Copied}
 use Rattle.heap_rule.specs.declared.view.Owing.{Owing}
 use Rattle.heap_rule.specs.declared.view.DomainView.{DomainView}
-use Rattle.heap_rule.specs.Places.{Place, Live, extent, Stands, More}
+use Rattle.heap_rule.specs.Places.{Place, extent, Stands}
 use Rattle.heap_rule.specs.Rule.{state_of}
 use Rattle.heap_model.specs.declared.entry.Entry.{Entry}
 use Rattle.heap_model.specs.declared.label.Label.{Label}
-use Rattle.steps_promote.specs.Promotion.{Knows, with_pending, StaysThere, Forwards, HasValueAt, HeadMet, ValueMay, ValueMet, FillMay, FillTold, FilledMay, FilledTold}
+use Rattle.steps_promote.specs.Promotion.{Knows, with_pending, StaysThere, Forwards, HasValueAt, HeadMet, ValueMay, ValueMet, FillMay, FillTold, FilledTold}
 use Rattle.promote_claim.specs.Heads.{IsHeadFor}
-use Rattle.promote_claim.specs.Working.{SameBlock, IsPair, AllPairs, Works, Tied, owed_from, with_claims, Grown, Forwarded, StandsFor}
-use Rattle.promote_claim.specs.Filling.{FilledTo, AllFilled, Progress}
-use Rattle.promote_claim.proofs.Meeting.{grown_met, head_grown, met_inside, met_value_inside, owed_append}
+use Rattle.promote_claim.specs.Working.{IsPair, Works, Tied, owed_from, with_claims, Grown, Forwarded, StandsFor}
+use Rattle.promote_claim.specs.Filling.{FilledTo, Progress}
+use Rattle.promote_claim.proofs.Meeting.{grown_met, head_grown, met_value_inside, owed_append}
 use Rattle.promote_claim.proofs.Valuing.{old_word}
 
 module _ {A : Type 0} where

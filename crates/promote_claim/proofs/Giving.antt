@@ -1,27 +1,15 @@
 -- Places that are given back, and a domain's whole share.
-use Rattle.std.proofs.Common.{◌≡◌, ◌≢◌, ℕ, zero, suc, ◌+◌, ◌*◌, ◌<◌, ◌≤◌, ◌⊎◌, List, [], drop, set, Option, Some, None, sym, refl, ap, ◌∙◌, subst, inl, inr, ⊎_elim, arith, get_or-set_other}
-use mathlib.Core.Logic.{dite}
-use native.Mathlib.Decide.{ℕ_discrete, dec_lt}
+use Rattle.std.proofs.Common.{◌≡◌, ℕ, ◌<◌, Some, None, sym, subst}
 use Rattle.heap_model.specs.Domains.{class_count}
 use Rattle.heap_rule.specs.declared.config.Config.{Config}
 use Rattle.heap_rule.specs.declared.view.Spot.{Spot}
-use Rattle.heap_rule.specs.declared.view.Copying.{Copying}
 use Rattle.heap_rule.specs.declared.view.DomainView.{DomainView}
 use Rattle.heap_rule.specs.declared.view.Hunt.TheVariants.{Rests}
 use Rattle.heap_rule.specs.declared.phase.Kind.TheVariants.{Promote}
 use Rattle.heap_rule.specs.declared.phase.Stage.TheVariants.{In}
-use Rattle.heap_rule.specs.Copies.{known, nothing_copied, IsOldValue}
-use Rattle.heap_rule.specs.Changes.{value_at}
-use Rattle.heap_rule.proofs.Lists.{no_item}
-use Rattle.heap_rule.specs.Pools.{spot_at, IsBefore, prepared_at}
-use Rattle.steps_promote.specs.Claims.{freed, FreeMay, FreedTold}
-use Rattle.steps_promote.specs.Promotion.{Knows}
-use Rattle.promote_claim.specs.Working.{IsPlaceIn, AllPlaced, Works, Tied, owed_from, with_claims}
-use Rattle.promote_claim.specs.Filling.{AllFilled}
-use Rattle.promote_claim.specs.Roots.{AllMoved, AllRewritten}
-use Rattle.promote_claim.specs.Sharing.{Unprepared, GaveBack, with_share, Shared}
-use Rattle.promote_claim.proofs.Preparing.{set_none}
-use Rattle.promote_claim.proofs.Fills.{claims_twice}
+use Rattle.heap_rule.specs.Pools.{prepared_at}
+use Rattle.steps_promote.specs.Claims.{FreeMay}
+use Rattle.promote_claim.specs.Working.{AllPlaced, with_claims}
 
 -- a domain that has begun to give its places back
 pub record Gives (k : Config) (class : ℕ) (x y : DomainView) : Type 0 where

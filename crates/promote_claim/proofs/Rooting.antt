@@ -1,7 +1,5 @@
 -- What becomes of the roots.
-use Rattle.std.proofs.Common.{◌≡◌, ◌≢◌, ℕ, zero, suc, ◌+◌, ◌-◌, ◌*◌, ◌^◌, ◌<◌, ◌≤◌, ◌⊎◌, List, [], ◌∷◌, ◌++◌, length, drop, set, slice_get, Option, Some, None, sym, refl, ap, ◌∙◌, subst, inr, arith, length-set, get_or-set_same, get_or-set_other}
-use mathlib.Core.Logic.{dite}
-use native.Mathlib.Decide.{ℕ_discrete}
+use Rattle.std.proofs.Common.{◌≡◌, ℕ, ◌<◌, List, ◌∷◌, length, drop, set, sym, refl, ap, ◌∙◌, subst, arith, length-set, get_or-set_same, get_or-set_other}
 use Rattle.heap_model.specs.declared.entry.Entry.{Entry}
 use Rattle.heap_words.specs.declared.value.Value.{Value}
 use Rattle.heap_words.specs.declared.value.Value.TheVariants.{Ref, Nothing}
@@ -13,10 +11,10 @@ use Rattle.heap_rule.specs.Changes.{value_at}
 use Rattle.heap_rule.specs.Copies.{IsOldValue}
 use Rattle.heap_rule.specs.Places.{Stands}
 use Rattle.heap_rule.specs.Rule.{state_of}
-use Rattle.heap_rule.specs.Standing.{IsAt, with_registers}
-use Rattle.steps_promote.specs.Promotion.{Knows, recalling, HasValueAt, HeadMay, MoveMay, MoveTold, Recalled, RewriteMay, RewriteTold}
-use Rattle.promote_claim.specs.Working.{Works, Tied, with_claims, Grown, Claimed, Forwarded, StandsFor}
-use Rattle.promote_claim.specs.Roots.{with_moves, Moved, with_rewrites, Rewritten}
+use Rattle.heap_rule.specs.Standing.{with_registers}
+use Rattle.steps_promote.specs.Promotion.{Knows, recalling, HasValueAt, MoveTold, Recalled, RewriteMay, RewriteTold}
+use Rattle.promote_claim.specs.Working.{Works, Tied, with_claims, Grown, Claimed, Forwarded}
+use Rattle.promote_claim.specs.Roots.{Moved, with_rewrites, Rewritten}
 use Rattle.promote_claim.proofs.Meeting.{grown_met, grown_twice, lasts_more}
 use Rattle.promote_claim.proofs.Valuing.{old_word}
 use Rattle.promote_claim.proofs.Fills.{tied_grown}

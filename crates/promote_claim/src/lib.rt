@@ -9,11 +9,7 @@ mod filling;
 mod heads;
 mod places;
 mod promotion;
-mod resetting;
 mod roots;
-mod steps;
-mod taking;
 
 pub use claiming::claim;
 pub use promotion::promote;
-pub use resetting::reset;

@@ -5,8 +5,8 @@ ghost use Rattle.heap_rule.specs.declared.phase.Stage.TheVariants.{In};
 ghost use Rattle.heap_rule.specs.Token.{IsIn};
 ghost use Rattle.steps_promote.specs.Promotion.{reset_view};
 
-use crate::steps::area_reset;
 use heap_rule::{Domain, Heap};
+use steps_promote::area_reset;
 
 /// Empties the domain's minor area, in the phase behind that in which the domains have copied all
 /// young blocks that they need. The domain remembers no field then.
