@@ -1,5 +1,5 @@
 -- Places that have changed in other things than label and shape.
-use Rattle.std.proofs.Common.{◌≡◌, ℕ, ◌+◌, ◌*◌, ◌≤◌, ◌⊎◌, List, Option, Some, None, false, refl, sym, ◌∙◌, subst, inl, inr, ⊎_elim, arith}
+use Rattle.std.proofs.Common.{◌≡◌, ℕ, ◌+◌, ◌*◌, ◌≤◌, ◌⊎◌, List, Option, Some, None, false, sym, ◌∙◌, subst, inl, inr, ⊎_elim, arith}
 use Rattle.heap_model.specs.declared.label.Label.{Label}
 use Rattle.heap_model.specs.Fronts.{Shape}
 use Rattle.heap_words.specs.Heads.{IsPackableHead}

@@ -101,7 +101,7 @@ module _ (k : Config) (live : Live) (A : ℕ) (p : Place) (some : 1 ≤ extent p
         (λ same. dite (ℕ_discrete c A)
         (λ same'. absurd (let e : b ≡ A = same in let f : c ≡ A = same' in omega arith))
         (λ other'. subst (λ (z : ℕ × Place). z.0 + span z.1.shape ≤ c) (λ j. (sym same j, is_new b q same lives j))
-            (after c o (old c o other' lives') (let e : b ≡ A = same in omega arith) (let e : b ≡ A = same in omega arith))))
+        (after c o (old c o other' lives') (let e : b ≡ A = same in omega arith) (let e : b ≡ A = same in omega arith))))
         (λ other. dite (ℕ_discrete c A)
         (λ same'. subst (λ (z : ℕ). b + span q.shape ≤ z) (sym same') (before b q (old b q other lives) young (let e : c ≡ A = same' in omega arith)))
         (λ other'. s.apart b c q o (old b q other lives) (old c o other' lives') young below));

@@ -12,11 +12,11 @@ use Rattle.heap_rule.specs.declared.phase.Stage.{Stage}
 use Rattle.heap_rule.specs.declared.phase.Note.{Note}
 use Rattle.heap_rule.specs.declared.view.DomainView.{DomainView}
 use Rattle.heap_rule.specs.Layout.{before_heap, ended_word, cursor, listed}
-use Rattle.heap_rule.specs.Places.{unmarked, Place, Live, HeadIs, IsOldWord, Settled}
+use Rattle.heap_rule.specs.Places.{unmarked, Live, HeadIs, IsOldWord, Settled}
 use Rattle.heap_rule.specs.declared.view.Copying.{Copying}
 use Rattle.heap_rule.specs.Copies.{Owes, Promoting, AllCleared, Emptied, Rooted}
 use Rattle.heap_rule.specs.Phases.{Pause, Phases, sum_of, IsEven, IsOdd, Staged, Still, TookBack, HasSetBack, Unwished, last_from, last_note}
-use Rattle.heap_rule.specs.Pools.{Stock, Reserved, limit_of, Holder, Tenancy, Pools, Grid, Drawers, Resting, Hunter, Lists}
+use Rattle.heap_rule.specs.Pools.{Stock, Reserved, limit_of, Tenancy, Pools, Grid, Drawers, Resting, Hunter, Lists}
 use Rattle.heap_rule.specs.declared.view.Listing.{Listing}
 use Rattle.heap_rule.specs.Rule.{state_of, AllFound, Making, NoCycle, Rule}
 use Rattle.heap_rule.specs.Room.{Room, IsUnused, Drawable}
@@ -269,36 +269,36 @@ module _ (k : Config) (s : Words) (r : Rule k s) (id : ℕ) (hist : List Entry) 
       let y : DomainView = moved_to x m in
       let t = r.account.tenancy in
       let counts = counts_untouched s.words words' u in turns m r.account.pause t.stock words' record {
-    owes = owes_as k r.account.live x y refl refl refl refl g.owes;
-    settled = r.whole.settled;
-    cleared = r.whole.cleared;
-    emptied = r.whole.emptied;
-    rooted = g.rooted;
-    roots = λ z _ _ _ ro. ro;
-    untouched = u;
-    front = (mine k s r id hist x at).front;
-    phases = phases_words k r.account.pause s.words words' b c r.whole.phases;
-    endings = e;
-    staged = record { arrivals = g.staged.arrivals; stage = g.staged.stage };
-    still = g.still;
-    free = λ f e. e;
-    resting = let rest = resting_untouched k s.words words' x u g.resting in record { hunt = rest.hunt; free = rest.free; lists = rest.lists };
-    reserved = reserved_untouched k r.account.pause t s.words words' u r.whole.pools r.whole.reserved;
-    drawers = r.whole.drawers;
-    room = room_words k r.account.live r.account.pause t.stock s.words words' (λ _. counts) r.whole.room;
-    unused = r.whole.unused;
-    drawable = record {
-      to_run = λ j odd led runs. counts.1 ∙ r.whole.drawable.to_run j odd led runs;
-      to_copy = λ j odd led copies. low_untouched k s.words words' u (r.whole.drawable.to_copy j odd led copies);
-    };
-    hunter = hunter_as k t words' x y refl refl refl refl refl refl (hunter_untouched k t s.words words' x u g.hunter);
-    stocks = λ d _. stock_self t.stock d;
-    others = λ z _ _ st. st;
-    unwished = unwished;
-    took_back = took_back;
-    others_took_back = others_took_back;
-    set_back = λ h. low_untouched k s.words words' u (g.set_back (set_back h));
-  }
+        owes = owes_as k r.account.live x y refl refl refl refl g.owes;
+        settled = r.whole.settled;
+        cleared = r.whole.cleared;
+        emptied = r.whole.emptied;
+        rooted = g.rooted;
+        roots = λ z _ _ _ ro. ro;
+        untouched = u;
+        front = (mine k s r id hist x at).front;
+        phases = phases_words k r.account.pause s.words words' b c r.whole.phases;
+        endings = e;
+        staged = record { arrivals = g.staged.arrivals; stage = g.staged.stage };
+        still = g.still;
+        free = λ f e. e;
+        resting = let rest = resting_untouched k s.words words' x u g.resting in record { hunt = rest.hunt; free = rest.free; lists = rest.lists };
+        reserved = reserved_untouched k r.account.pause t s.words words' u r.whole.pools r.whole.reserved;
+        drawers = r.whole.drawers;
+        room = room_words k r.account.live r.account.pause t.stock s.words words' (λ _. counts) r.whole.room;
+        unused = r.whole.unused;
+        drawable = record {
+          to_run = λ j odd led runs. counts.1 ∙ r.whole.drawable.to_run j odd led runs;
+          to_copy = λ j odd led copies. low_untouched k s.words words' u (r.whole.drawable.to_copy j odd led copies);
+        };
+        hunter = hunter_as k t words' x y refl refl refl refl refl refl (hunter_untouched k t s.words words' x u g.hunter);
+        stocks = λ d _. stock_self t.stock d;
+        others = λ z _ _ st. st;
+        unwished = unwished;
+        took_back = took_back;
+        others_took_back = others_took_back;
+        set_back = λ h. low_untouched k s.words words' u (g.set_back (set_back h));
+      }
 
 -- the last of a list that ends with a note
 last_end : (o : Option Note) (notes : List Note) (n : Note) → last_from o (notes ++ n ∷ []) ≡ Some n

@@ -9,7 +9,7 @@ use Rattle.heap_model.specs.declared.graph.Value.{Value}
 use Rattle.heap_model.specs.declared.graph.Value.TheVariants.{Int, Block, Nothing}
 use Rattle.heap_model.specs.Graph.{Graph}
 use Rattle.heap_model.specs.Domains.{register}
-use Rattle.heap_model.specs.Fronts.{Shape, IsFrontOf}
+use Rattle.heap_model.specs.Fronts.{IsFrontOf}
 use Rattle.heap_words.specs.declared.value.Value as words
 use Rattle.heap_words.specs.declared.value.Value.TheVariants.{Int as IntWord, Ref, Nothing as NothingWord}
 use Rattle.heap_words.specs.Values.{value_word}
@@ -19,23 +19,20 @@ use Rattle.heap_rule.specs.declared.view.Copied.{Copied}
 use Rattle.heap_rule.specs.declared.view.Hunt.{Hunt}
 use Rattle.heap_rule.specs.declared.view.Hunt.TheVariants.{Rests, Counts, Asks, Draws, Walks, Fills, Labels, Heads}
 use Rattle.heap_rule.specs.declared.view.DomainView.{DomainView}
-use Rattle.heap_rule.specs.declared.view.View.{View}
-use Rattle.heap_rule.specs.declared.phase.Note.{Note}
-use Rattle.heap_rule.specs.declared.phase.Stage.{Stage}
 use Rattle.heap_rule.specs.Layout.{at_address, ended_word}
-use Rattle.heap_rule.specs.Places.{Debt, Place, Live, extent, values_of, Stands, Found, HasValue, IsOldAt, IsOldWord, IsBare, Settled, More}
+use Rattle.heap_rule.specs.Places.{Debt, Place, Live, extent, values_of, Stands, HasValue, IsOldAt, IsOldWord, Settled, More}
 use Rattle.heap_rule.specs.Changes.{value_at}
-use Rattle.heap_rule.specs.Copies.{nothing_copied, known, Owes, IsField, Copies, Promoting, IsOldValue, HoldsOld, Rooted}
+use Rattle.heap_rule.specs.Copies.{nothing_copied, known, Owes, Copies, Promoting, IsOldValue, HoldsOld, Rooted}
 use Rattle.heap_rule.specs.Phases.{Pause, Phases, IsOdd, Staged, Still, TookBack, HasSetBack, Unwished}
-use Rattle.heap_rule.specs.Pools.{no_stock, drawn, Stock, Hunts, KeepsReserve, Resting, Hunter, Holder, Tenancy, Pools, Grid, Lot, owned, place_in, size_of, blocks_of}
-use Rattle.heap_rule.specs.Rule.{state_of, AllFound, Stood, Good, Rule}
+use Rattle.heap_rule.specs.Pools.{no_stock, drawn, Stock, Hunts, KeepsReserve, Resting, Tenancy, Pools, Grid, place_in, size_of}
+use Rattle.heap_rule.specs.Rule.{state_of, AllFound, Stood, Rule}
 use Rattle.heap_rule.specs.Views.{one}
-use Rattle.heap_rule.proofs.Again.{Back, Was, placed_back, spread_back, area_back, none_back}
+use Rattle.heap_rule.proofs.Again.{Back, placed_back, spread_back, area_back, none_back}
 use Rattle.heap_rule.proofs.Lots.{number_cases}
 use Rattle.heap_rule.proofs.Beside.{extent_of}
 use Rattle.heap_rule.proofs.Classes.{slot_inside, size_least}
 use Rattle.heap_rule.proofs.Lists.{got_below}
-use Rattle.heap_rule.proofs.Keeps.{Words, mine, my_good, remakes, knows_front, room_unused, copies_settled, no_debt, no_owing, nothing_known}
+use Rattle.heap_rule.proofs.Keeps.{Words, my_good, remakes, knows_front, room_unused, copies_settled, no_owing, nothing_known}
 use Rattle.heap_rule.proofs.Controls.{Move, Untouched, found_untouched, making_untouched, pools_untouched, grid_untouched, hunter_untouched, resting_untouched, low_untouched, cycle_untouched, pools_stock, grid_stock, moved_to}
 
 abbrev Side : Config → ℕ → Type 0

@@ -8,7 +8,7 @@ use Rattle.heap_rule.specs.declared.view.Hunt.{Hunt}
 use Rattle.heap_rule.specs.declared.view.Hunt.TheVariants.{Rests, Counts, Asks, Draws, Walks, Fills, Labels, Heads}
 use Rattle.heap_rule.specs.declared.view.DomainView.{DomainView}
 use Rattle.heap_rule.specs.Layout.{before_heap, base_of, at_address, listed_pool, listed, cursor}
-use Rattle.heap_rule.specs.Places.{unmarked, Place, Live, Placed, HeadIs, IsOldWord}
+use Rattle.heap_rule.specs.Places.{unmarked, Live, Placed, HeadIs, IsOldWord}
 use Rattle.heap_rule.specs.Rule.{AllFound, Making}
 use Rattle.heap_rule.specs.Pools.{Holder, nobody, drawn, owned, Stock, Tenancy, OwnPlace, IsSpare, Grid, Hunts, Hunter, Latest, DrawsFor, place_in, blocks_of, limit_of}
 use Rattle.heap_rule.specs.Phases.{sum_of}
@@ -146,28 +146,28 @@ module _ (t : Tenancy) (pool : ℕ) (h : Holder) (asking : ℕ → ℕ) (stock :
       → Grid k t live words → Grid k t' live words'
   grid_over k live words words' same before free g =
       let stays : (q d c : ℕ) → t.holder q ≡ owned d c → over pool h t.holder q ≡ owned d c = (λ q d c is. over_else pool h t.holder q (λ here. before d c (ap t.holder (sym here) ∙ is)) ∙ is) in record {
-    lots = λ a p lives low. let l = g.lots a p lives low in record {
-      pool = l.pool;
-      domain = l.domain;
-      class = l.class;
-      slot = l.slot;
-      owned_is = stays l.pool l.domain l.class l.owned_is;
-      inside = l.inside;
-      begins = l.begins;
-      fits = l.fits;
-    };
-    places = λ q d c slot is inside.
-        let there : at_address k words' (place_in q c slot) ≡ at_address k words (place_in q c slot) = same.heap (place_in q c slot) (omega arith) in
-        dite (ℕ_discrete q pool)
-        (λ here. inl (there ∙ (ap (λ (m : ℕ). at_address k words (place_in m c slot)) here ∙ free d c slot (sym (over_here pool h t.holder) ∙ (ap (over pool h t.holder) (sym here) ∙ is)) inside)))
-        (λ other. ⊎_elim (λ (z : at_address k words (place_in q c slot) ≡ 0). inl (there ∙ z)) (λ z. inr z)
-        (g.places q d c slot (sym (over_else pool h t.holder q other) ∙ is) inside));
-    spares = λ a d is. let s = g.spares a d is in let o = s.own in record {
-      own = record { pool = o.pool; class = o.class; slot = o.slot; owned_is = stays o.pool d o.class o.owned_is; inside = o.inside; begins = o.begins };
-      head = λ e. s.head (sym (same.heap a (let b : a ≡ place_in o.pool o.class o.slot = o.begins in omega arith)) ∙ e);
-      empty = s.empty;
-    };
-  }
+        lots = λ a p lives low. let l = g.lots a p lives low in record {
+          pool = l.pool;
+          domain = l.domain;
+          class = l.class;
+          slot = l.slot;
+          owned_is = stays l.pool l.domain l.class l.owned_is;
+          inside = l.inside;
+          begins = l.begins;
+          fits = l.fits;
+        };
+        places = λ q d c slot is inside.
+            let there : at_address k words' (place_in q c slot) ≡ at_address k words (place_in q c slot) = same.heap (place_in q c slot) (omega arith) in
+            dite (ℕ_discrete q pool)
+            (λ here. inl (there ∙ (ap (λ (m : ℕ). at_address k words (place_in m c slot)) here ∙ free d c slot (sym (over_here pool h t.holder) ∙ (ap (over pool h t.holder) (sym here) ∙ is)) inside)))
+            (λ other. ⊎_elim (λ (z : at_address k words (place_in q c slot) ≡ 0). inl (there ∙ z)) (λ z. inr z)
+            (g.places q d c slot (sym (over_else pool h t.holder q other) ∙ is) inside));
+        spares = λ a d is. let s = g.spares a d is in let o = s.own in record {
+          own = record { pool = o.pool; class = o.class; slot = o.slot; owned_is = stays o.pool d o.class o.owned_is; inside = o.inside; begins = o.begins };
+          head = λ e. s.head (sym (same.heap a (let b : a ≡ place_in o.pool o.class o.slot = o.begins in omega arith)) ∙ e);
+          empty = s.empty;
+        };
+      }
 
 -- no more pools are free where the cursor went on
 pub free_later : (k : Config) (words words' : List ℕ) → listed words' ≡ listed words → cursor words ≤ cursor words' → (f : ℕ) → (listed words ≤ f + cursor words) × (listed words ≤ f + limit_of k (listed words)) × (f ≤ listed words)

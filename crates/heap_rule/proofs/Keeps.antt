@@ -34,7 +34,7 @@ use Rattle.heap_rule.specs.Layout.{before_heap, barrier, plan, ended_word, liste
 use Rattle.heap_rule.specs.declared.view.Copying.{Copying}
 use Rattle.heap_rule.specs.declared.view.Owing.{Owing}
 use Rattle.heap_rule.specs.Places.{Debt, Place, Live, Stands, Placed, Spread, Settled, More, extent}
-use Rattle.heap_rule.specs.Copies.{nothing_copied, known, Owes, IsField, Recalls, Copies, Promoting, Resetting, Cleared, AllCleared, Emptied, IsOldValue, HoldsOld, Rooted}
+use Rattle.heap_rule.specs.Copies.{nothing_copied, known, Owes, IsField, Recalls, Copies, Promoting, Resetting, IsOldValue, Rooted}
 use Rattle.heap_rule.specs.Changes.{value_at}
 use Rattle.heap_rule.specs.Views.{EachView, AllDomains, IsSeated, Knows, one}
 use Rattle.heap_rule.specs.declared.phase.Kind.TheVariants.{Run, Promote, Reset}
@@ -45,7 +45,7 @@ use Rattle.heap_rule.specs.Rule.{state_of, AllFound, Stood, Area, Making, Accoun
 use Rattle.heap_rule.specs.Room.{spent_stock, count, drawn_in_all, copied_words, Room, IsUnused, Opened, Drawable}
 use Rattle.heap_model.specs.Domains.{class_count, reserve}
 use Rattle.heap_rule.specs.Layout.{heap_words}
-use Rattle.heap_rule.specs.Pools.{Stock, no_stock, Reserved, Takes, IsCopying, Latest, DrawsFor, prepared_at, size_of, Tenancy, drawn, owned, Pools, Grid, Drawers, IsLeading, Lists, Resting, Hunts, Hunter, drawn_in, hunting_free, spot_at, IsBefore, limit_of}
+use Rattle.heap_rule.specs.Pools.{Stock, Reserved, Takes, IsCopying, Latest, DrawsFor, prepared_at, size_of, Tenancy, drawn, owned, Pools, Grid, Drawers, IsLeading, Lists, Resting, Hunts, Hunter, drawn_in, hunting_free, spot_at, IsBefore, limit_of}
 use Rattle.heap_rule.specs.Standing.{with_front}
 use Rattle.heap_rule.proofs.Lists.{views_set, domains_map, domains_with, no_item}
 
@@ -231,8 +231,8 @@ pub run_resetting : (t : Pause) (x : DomainView) → x.seen.stage ≡ In Run →
 run_resetting t x runs s p = let a = (subst (AtStage t x.own.number x.own.arrivals) runs s.stage).1 in ⊎_elim
     (λ (h : (j : ℕ) × (t.phase ≡ j * 2 + 1) × (t.kinds j ≡ Promote)). not_both t.phase (a.0, a.1) (h.0, h.1))
     (λ h. ⊎_elim
-        (λ (g : (j : ℕ) × (t.phase ≡ j * 2) × (t.kinds j ≡ Reset)). let e : Run ≡ Reset = kind_differs t a.0 g.0 t.phase Run Reset a.1 g.1 a.2 g.2 in cc)
-        (λ (g : (j : ℕ) × (t.phase ≡ j * 2 + 1) × (t.kinds j ≡ Reset)). not_both t.phase (a.0, a.1) (g.0, g.1)) h)
+    (λ (g : (j : ℕ) × (t.phase ≡ j * 2) × (t.kinds j ≡ Reset)). let e : Run ≡ Reset = kind_differs t a.0 g.0 t.phase Run Reset a.1 g.1 a.2 g.2 in cc)
+    (λ (g : (j : ℕ) × (t.phase ≡ j * 2 + 1) × (t.kinds j ≡ Reset)). not_both t.phase (a.0, a.1) (g.0, g.1)) h)
     p
 
 pub promote_now : (t : Pause) (x : DomainView) → x.seen.stage ≡ In Promote → Staged t x → Promoting t
@@ -245,8 +245,8 @@ pub promote_rests : (t : Pause) → Promoting t → Resetting t → ⊥
 promote_rests t a p = ⊎_elim
     (λ (h : (j : ℕ) × (t.phase ≡ j * 2 + 1) × (t.kinds j ≡ Promote)). not_both t.phase (a.0, a.1) (h.0, h.1))
     (λ h. ⊎_elim
-        (λ (g : (j : ℕ) × (t.phase ≡ j * 2) × (t.kinds j ≡ Reset)). let e : Promote ≡ Reset = kind_differs t a.0 g.0 t.phase Promote Reset a.1 g.1 a.2 g.2 in cc)
-        (λ (g : (j : ℕ) × (t.phase ≡ j * 2 + 1) × (t.kinds j ≡ Reset)). not_both t.phase (a.0, a.1) (g.0, g.1)) h)
+    (λ (g : (j : ℕ) × (t.phase ≡ j * 2) × (t.kinds j ≡ Reset)). let e : Promote ≡ Reset = kind_differs t a.0 g.0 t.phase Promote Reset a.1 g.1 a.2 g.2 in cc)
+    (λ (g : (j : ℕ) × (t.phase ≡ j * 2 + 1) × (t.kinds j ≡ Reset)). not_both t.phase (a.0, a.1) (g.0, g.1)) h)
     p
 
 pub rooted_as : (k : Config) (t : Pause) (x y : DomainView) → y.own.registers ≡ x.own.registers → y.own.arrivals ≡ x.own.arrivals → Rooted k t x → Rooted k t y
@@ -340,6 +340,7 @@ room_unused k live t s words rests = record {
   zeros : (n : ℕ) → sum_of (λ c. 0 * size_of c) n ≡ 0
   zeros zero = refl
   zeros (suc n) = let h : sum_of (λ c. 0 * size_of c) n ≡ 0 = zeros n in let z : 0 * size_of n ≡ 0 = omega arith in λ i. h i + z i
+
   nothing_drawn : (n : ℕ) → sum_of (copied_words (spent_stock s)) n ≡ 0
   nothing_drawn zero = refl
   nothing_drawn (suc n) = let h = nothing_drawn n in let z = zeros class_count in λ i. h i + z i

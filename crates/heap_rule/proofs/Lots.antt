@@ -75,9 +75,9 @@ module _ (k : Config) (t : Tenancy) (words : List ℕ) (at new : ℕ) where
       let z : ℕ = size_of o.class in
       let large : 4 ≤ z = size_least o.class (p.owned_by o.pool d o.class o.owned_is).2 in
       stays (a + i) (λ e. let same : a + i ≡ at = e in ⊎_elim
-          (λ (h : (at < here) ⊎ (here + z ≤ at)). ⊎_elim (λ (h : at < here). omega arith) (λ (h : here + z ≤ at). omega arith) h)
-          (λ (h : (here < at) × (at_address k words here ≢ 0) × (t.prepared here ≡ None)). let e : ◌≡◌ {A = Option ℕ} None (Some d) = sym h.2 ∙ (ap t.prepared (sym at_here) ∙ is) in cc)
-          (b.not_place o.pool o.class o.slot o.owned_is o.inside))
+      (λ (h : (at < here) ⊎ (here + z ≤ at)). ⊎_elim (λ (h : at < here). omega arith) (λ (h : here + z ≤ at). omega arith) h)
+      (λ (h : (here < at) × (at_address k words here ≢ 0) × (t.prepared here ≡ None)). let e : ◌≡◌ {A = Option ℕ} None (Some d) = sym h.2 ∙ (ap t.prepared (sym at_here) ∙ is) in cc)
+      (b.not_place o.pool o.class o.slot o.owned_is o.inside))
 
   drawn_stays : (d : ℕ) → Beside k t words d at → (p : Pools k t words) → (q c j : ℕ) → t.holder q ≡ drawn d → c < class_count → j < blocks_of c → at_address k ws (place_in q c j) ≡ at_address k words (place_in q c j)
   drawn_stays d b p q c j is few inside =

@@ -1,6 +1,6 @@
 -- The table at the start meets the rule.
 use Rattle.heap_rule.specs.Copies.{Owes}
-use Rattle.std.proofs.Common.{◌≡◌, ◌≢◌, ℕ, zero, suc, ◌+◌, ◌*◌, ◌<◌, ◌≤◌, lit<, false, List, [], ◌∷◌, get_or, replicate, slice_get, pos, Option, Some, None, sym, refl, ap, ◌∙◌, subst, inl, arith, unwrap_or, ◌-◌, ◌⊎◌, inr, ⊎_elim}
+use Rattle.std.proofs.Common.{◌≡◌, ◌≢◌, ℕ, zero, suc, ◌+◌, ◌*◌, ◌<◌, ◌≤◌, lit<, false, List, [], ◌∷◌, get_or, replicate, slice_get, pos, Option, Some, None, sym, refl, ap, ◌∙◌, subst, inl, arith, unwrap_or, ◌-◌, inr, ⊎_elim}
 use Rattle.std.proofs.lemmas.Int.{ints}
 use mathlib.Core.Logic.{dite}
 use native.Mathlib.Decide.{ℕ_discrete}
@@ -19,7 +19,7 @@ use Rattle.heap_rule.specs.declared.view.DomainView.{DomainView}
 use Rattle.heap_rule.specs.declared.view.Spot.{Spot}
 use Rattle.heap_rule.specs.declared.view.View.{View}
 use Rattle.heap_rule.specs.Limits.{sizes_in}
-use Rattle.heap_rule.specs.Layout.{heap_words, at_address, listed_pool, owner_of, listed, cursor}
+use Rattle.heap_rule.specs.Layout.{heap_words, listed_pool, owner_of, listed, cursor}
 use Rattle.heap_rule.specs.Places.{Place, Live, extent, Stands, Found, Fits, Placed, IsBare, Settled, IsOldWord, Debt}
 use Rattle.heap_rule.specs.Changes.{value_at}
 use Rattle.heap_rule.specs.declared.phase.Kind.TheVariants.{Run, Promote, Reset}

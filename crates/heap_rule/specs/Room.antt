@@ -8,7 +8,7 @@ use Rattle.heap_rule.specs.Layout.{heap_words, listed, cursor}
 use Rattle.heap_rule.specs.Places.{Place, Live, span}
 use Rattle.heap_rule.specs.Copies.{Promoting}
 use Rattle.heap_rule.specs.Phases.{Pause, sum_of}
-use Rattle.heap_rule.specs.Pools.{Stock, Tenancy, no_stock, size_of, blocks_of, limit_of}
+use Rattle.heap_rule.specs.Pools.{Stock, no_stock, size_of, blocks_of, limit_of}
 
 -- how many numbers below n have a property
 abbrev pub count : (ℕ → Bool) → ℕ → ℕ

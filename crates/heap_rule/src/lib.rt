@@ -21,5 +21,6 @@ pub use phase::{Kind, Note, Stage};
 pub use raw::{Changing, Leaving, Writing, raw_add, raw_exchange, raw_load, raw_or, raw_store};
 pub use rule::Told;
 pub use view::{
-    Copied, Copying, DomainView, Form, Hunt, Listing, Met, Own, Owing, REMEMBERED_ROOM, Seen, Spot, View,
+    Copied, Copying, DomainView, Form, Hunt, Listing, Met, Owing, Own, REMEMBERED_ROOM, Seen, Spot,
+    View,
 };

@@ -1,4 +1,4 @@
-//! The end of a collection of young blocks.
+//! An empty minor area.
 ghost use Rattle.std.specs.Prelude.{◌≡◌, []};
 ghost use Rattle.heap_rule.specs.declared.phase.Kind.TheVariants.{Reset};
 ghost use Rattle.heap_rule.specs.declared.phase.Stage.TheVariants.{In};
@@ -6,22 +6,20 @@ ghost use Rattle.heap_rule.specs.Token.{IsIn};
 ghost use Rattle.steps_promote.specs.Promotion.{reset_view};
 
 use heap_rule::{Domain, Heap};
-use size_classes::POOL_WORDS;
 use steps_promote::area_reset;
 
-/// In Reset, when all blocks that live have been copied out of the minor areas: no word of the domain's
-/// own area is used any more, and it remembers no field. All else is as it was.
-///
-/// The domain has looked through the fields that it remembered.
+/// Empties the domain's minor area, in the phase behind that in which the domains have copied all
+/// young blocks that they need. The domain remembers no field then.
 pub fn reset(heap: &Heap, dom: &mut Domain)
     requires here { IsIn dom.old heap.now }
     requires stage { dom.old.view.seen.stage ≡ In Reset }
     requires idle { dom.old.view.seen.made ≡ [] }
     requires looked_through { dom.old.view.seen.remembered ≡ [] }
     ensures here { IsIn dom.new heap.now }
-    ensures view { dom.new.view ≡ reset_view dom.old.view }
+    ensures empty { dom.new.view ≡ reset_view dom.old.view }
 {
-    let config = heap.config();
-    let area = dom.number() * config.minor_words;
-    area_reset(heap, dom, config.pools * POOL_WORDS + area + 1);
+    let _limits = heap.config();
+    let _number = dom.number();
+    let first = dom.next_address() - dom.area_used();
+    area_reset(heap, dom, first);
 }

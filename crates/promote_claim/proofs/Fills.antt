@@ -1,5 +1,5 @@
 -- What the filling of copies comes to.
-use Rattle.std.proofs.Common.{◌≡◌, ◌≢◌, ℕ, zero, suc, ◌+◌, ◌-◌, ◌*◌, ◌^◌, ◌<◌, ◌≤◌, ◌⊎◌, List, [], ◌∷◌, ◌++◌, length, drop, slice_get, Option, Some, None, sym, refl, ap, ◌∙◌, subst, arith, add-one, ⊎_elim}
+use Rattle.std.proofs.Common.{◌≡◌, ℕ, zero, suc, ◌+◌, ◌-◌, ◌*◌, ◌<◌, ◌≤◌, List, [], ◌∷◌, ◌++◌, length, drop, slice_get, Some, sym, refl, ap, ◌∙◌, subst, arith, add-one, ⊎_elim}
 use Rattle.heap_model.specs.Domains.{IsWithinLimits}
 use Rattle.heap_model.specs.Fronts.{Shape}
 use Rattle.heap_words.proofs.WordLemmas.{value_word-injective}
@@ -12,15 +12,15 @@ use Rattle.heap_rule.specs.declared.config.Config.{Config}
 use Rattle.heap_rule.specs.declared.view.Copied.{Copied}
 use Rattle.heap_rule.specs.declared.view.Owing.{Owing}
 use Rattle.heap_rule.specs.declared.view.DomainView.{DomainView}
-use Rattle.heap_rule.specs.Places.{Place, Live, extent, Stands, More}
+use Rattle.heap_rule.specs.Places.{Place, extent, Stands}
 use Rattle.heap_rule.specs.Rule.{state_of}
 use Rattle.heap_model.specs.declared.entry.Entry.{Entry}
 use Rattle.heap_model.specs.declared.label.Label.{Label}
-use Rattle.steps_promote.specs.Promotion.{Knows, with_pending, StaysThere, Forwards, HasValueAt, HeadMet, ValueMay, ValueMet, FillMay, FillTold, FilledMay, FilledTold}
+use Rattle.steps_promote.specs.Promotion.{Knows, with_pending, StaysThere, Forwards, HasValueAt, HeadMet, ValueMay, ValueMet, FillMay, FillTold, FilledTold}
 use Rattle.promote_claim.specs.Heads.{IsHeadFor}
-use Rattle.promote_claim.specs.Working.{SameBlock, IsPair, AllPairs, Works, Tied, owed_from, with_claims, Grown, Forwarded, StandsFor}
-use Rattle.promote_claim.specs.Filling.{FilledTo, AllFilled, Progress}
-use Rattle.promote_claim.proofs.Meeting.{grown_met, head_grown, met_inside, met_value_inside, owed_append}
+use Rattle.promote_claim.specs.Working.{IsPair, Works, Tied, owed_from, with_claims, Grown, Forwarded, StandsFor}
+use Rattle.promote_claim.specs.Filling.{FilledTo, Progress}
+use Rattle.promote_claim.proofs.Meeting.{grown_met, head_grown, met_value_inside, owed_append}
 use Rattle.promote_claim.proofs.Valuing.{old_word}
 
 module _ {A : Type 0} where
@@ -135,9 +135,6 @@ module _ (k : Config) (i : ℕ) (c : Copied) (x : DomainView) where
       pub copy_value_inside : n < size → IsInHeap k (c.copy + 2 + n)
       copy_value_inside low = met_value_inside k y c.copy n p.place p.works.fit p.met (to_large low)
 
-      pub copy_inside : IsInHeap k c.copy
-      copy_inside = met_inside k y c.copy p.place p.works.fit p.met
-
       -- the value that was loaded, and what it has become
       module _ (low : n < size) (word : ℕ) (y1 : DomainView) (told : ValueMet k c.source n y word y1) where
         pub value_grown : Grown k y y1
@@ -202,18 +199,6 @@ module _ (k : Config) (i : ℕ) (c : Copied) (x : DomainView) where
           works_pending : (l : List Owing) → Works k (with_pending y l)
           works_pending l = let w = p.works in record { stage = w.stage; at_rest = w.at_rest; fit = w.fit; placed = w.placed; pairs = λ j b got. let o = w.pairs j b got in record { young = o.young; old = o.old; same = o.same } }
 
-      -- all are
-      pub end_may : size ≤ n → FilledMay y c.copy
-      end_may over = record {
-        stage = p.works.stage;
-        first = record { copy = c.copy; source = c.source; filled = n };
-        rest = owed_from (drop (i + 1) y.own.pending.items);
-        pending = p.pending;
-        place = p.place;
-        met = p.met;
-        full = (let b : ℕ = extent p.place.shape in let f : b ≡ size + 2 = p.extent_is in let g : b ≤ n + 2 = omega arith in g);
-      }
-
       pub ended : (found : ℕ) (z : DomainView) → FilledTold y found z → FilledTo k (i + 1) x z
       ended found z told =
           let same = owing_same told.first (record { copy = c.copy; source = c.source; filled = n }) told.rest (owed_from (drop (i + 1) y.own.pending.items)) (sym told.pending ∙ p.pending) in
@@ -226,10 +211,3 @@ module _ (k : Config) (i : ℕ) (c : Copied) (x : DomainView) where
             tied = refl;
             some = (let b = get_below y.own.pending.items i c p.item in let g : i + 1 ≤ length y.own.pending.items = omega arith in g);
           }
-
--- the copies up to one are filled, and so are those up to the next
-pub filled_twice : (k : Config) (i j : ℕ) (x y z : DomainView) → y ≡ with_claims x y → FilledTo k j y z → FilledTo k j x z
-filled_twice k i j x y z view f = record { view = claims_twice x y z view f.view; works = f.works; tied = f.tied; some = f.some }
-
-pub all_filled : (k : Config) (i : ℕ) (x y : DomainView) → y ≡ with_claims x y → Works k y → Tied i y → length y.own.pending.items ≤ i → AllFilled k x y
-all_filled k i x y view w t over = record { view = view; works = w; paid = t ∙ ap owed_from (drop_all y.own.pending.items i over) }

@@ -1,10 +1,9 @@
 -- What a domain that copies knows after it has met a block.
-use Rattle.std.proofs.Common.{◌≡◌, ◌≢◌, ℕ, zero, suc, ◌+◌, ◌*◌, ◌^◌, ◌<◌, ◌≤◌, ◌⊎◌, cond, eqb, eq-eqb, Bool, false, List, [], ◌∷◌, ◌++◌, length, append-nil, append_assoc, slice_get, Option, Some, None, sym, refl, ap, ◌∙◌, subst, ⊎_elim, arith}
-use Rattle.heap_model.specs.Domains.{class_count, IsWithinLimits}
+use Rattle.std.proofs.Common.{◌≡◌, ℕ, ◌+◌, ◌*◌, ◌^◌, ◌<◌, ◌≤◌, cond, eq-eqb, Bool, false, List, [], ◌∷◌, ◌++◌, append-nil, append_assoc, slice_get, Option, Some, None, sym, refl, ap, ◌∙◌, subst, ⊎_elim, arith}
+use Rattle.heap_model.specs.Domains.{IsWithinLimits}
 use Rattle.heap_model.specs.Fronts.{Shape, PlainShape, RawShape, EpheShape}
-use Rattle.heap_words.specs.declared.head.Head.{Head}
 use Rattle.heap_words.specs.declared.head.Head.TheVariants.{Forward}
-use Rattle.heap_words.specs.Heads.{IsPackableHead, head_word}
+use Rattle.heap_words.specs.Heads.{IsPackableHead}
 use Rattle.heap_words.specs.Unpacked.{Unpacks}
 use Rattle.heap_words.proofs.WordLemmas.{head_word-injective}
 use Rattle.heap_rule.specs.declared.config.Config.{Config}
@@ -14,13 +13,13 @@ use Rattle.heap_rule.specs.declared.view.DomainView.{DomainView}
 use Rattle.heap_rule.specs.Copies.{met_place, shape_of_form, known}
 use Rattle.heap_rule.specs.Limits.{sizes_in}
 use Rattle.heap_rule.specs.Layout.{heap_words}
-use Rattle.heap_rule.specs.Places.{Place, Live, extent, unmarked, head_of, HasClass, IsBuilt, IsNewHead, IsOldAt, Fits, Lasts, More}
+use Rattle.heap_rule.specs.Places.{Place, Live, extent, unmarked, head_of, IsBuilt, IsNewHead, IsOldAt, Lasts, More}
 use Rattle.heap_rule.specs.Pools.{prepared_at}
 use Rattle.heap_rule.specs.Standing.{IsInHeap}
 use Rattle.heap_rule.proofs.Values.{address_of}
-use Rattle.steps_promote.specs.Promotion.{form_of, met_of, with_met, meeting, AllFit, Knows, StaysThere, Forwards, HeadMet}
+use Rattle.steps_promote.specs.Promotion.{form_of, met_of, with_met, AllFit, Knows, StaysThere, Forwards, HeadMet}
 use Rattle.promote_claim.specs.Heads.{IsForward, forward_word, IsHeadFor}
-use Rattle.promote_claim.specs.Working.{SameBlock, IsPair, AllPairs, Works, owed_from, with_claims, Grown, IsMetWith, Claimed}
+use Rattle.promote_claim.specs.Working.{SameBlock, IsPair, Works, owed_from, with_claims, Grown, IsMetWith, Claimed}
 
 pub form_shape : (s : Shape) → IsBuilt s → shape_of_form (form_of s) ≡ s
 form_shape (PlainShape size tag) built = refl

@@ -1,25 +1,20 @@
 -- A place that is prepared for a copy.
-use Rattle.std.proofs.Common.{◌≡◌, ◌≢◌, ℕ, zero, suc, ◌+◌, ◌-◌, ◌*◌, ◌/◌, ◌%◌, ◌<◌, ◌≤◌, List, [], ◌∷◌, length, get_or, set, slice_get, Option, Some, None, sym, refl, ap, ◌∙◌, subst, arith, get_or-set_same, get_or-set_other}
+use Rattle.std.proofs.Common.{◌≡◌, ◌≢◌, ℕ, zero, suc, ◌+◌, ◌-◌, ◌*◌, ◌/◌, ◌%◌, ◌<◌, ◌≤◌, List, [], ◌∷◌, length, set, Option, Some, None, sym, refl, ap, ◌∙◌, subst, arith, get_or-set_same, get_or-set_other}
 use mathlib.Core.Logic.{dite}
 use native.Mathlib.Decide.{ℕ_discrete}
 use Rattle.std.proofs.lemmas.Nat.{div-mul-add}
 use Rattle.heap_model.specs.Domains.{class_count}
-use Rattle.heap_words.specs.Labels.{label_word}
 use Rattle.heap_rule.specs.declared.config.Config.{Config}
-use Rattle.heap_rule.specs.declared.view.Hunt.{Hunt}
 use Rattle.heap_rule.specs.declared.view.Hunt.TheVariants.{Rests, Fills, Labels, Heads}
-use Rattle.heap_rule.specs.declared.view.Own.{Own}
 use Rattle.heap_rule.specs.declared.view.Spot.{Spot}
 use Rattle.heap_rule.specs.declared.view.DomainView.{DomainView}
-use Rattle.heap_rule.specs.Layout.{heap_words}
-use Rattle.heap_rule.specs.Places.{Place, Live, IsOldAt}
-use Rattle.heap_rule.specs.Pools.{size_of, blocks_of, place_in, spot_at, prepared_at, hunting_free}
+use Rattle.heap_rule.specs.Pools.{size_of, blocks_of, place_in, prepared_at, hunting_free}
 use Rattle.heap_rule.specs.Standing.{IsInHeap}
 use Rattle.heap_rule.proofs.Classes.{size_least, slot_inside}
-use Rattle.steps_promote.specs.Promotion.{Knows, LabelMet}
+use Rattle.steps_promote.specs.Promotion.{LabelMet}
 use Rattle.steps_promote.specs.Claims.{with_hunt, preparing, PrepareMay, PrepareTold, LabelStoreMay, LabelStoreTold, HeadStoreMay, HeadStoreTold}
-use Rattle.promote_claim.specs.Stand.{TookFor}
-use Rattle.promote_claim.specs.Working.{IsPlaceIn, Works, with_claims, IsMetWith, Prepared, Written}
+use Rattle.size_pools.specs.Taken.{Took}
+use Rattle.promote_claim.specs.Working.{IsPlaceIn, Works, Prepared, Written}
 
 -- where a place of a class lies
 pub place_old : (k : Config) (class a : ℕ) → class < class_count → IsPlaceIn k class a → (1 ≤ a) × (a + 3 ≤ k.pools * 4096)
@@ -61,22 +56,21 @@ set_none [] (suc c) = refl
 set_none (x ∷ xs) zero = refl
 set_none (x ∷ xs) (suc c) = set_none xs c
 
--- a place was prepared before
-pub prepared_before : (k : Config) (class a : ℕ) (x : DomainView) → Works k x → prepared_at x.own.prepared class ≡ Some a → Prepared k class x x a
-prepared_before k class a x w is = record { view = refl; works = w; copying = refl; pending = refl; here = is }
-
 -- a free place was taken
-module _ (k : Config) (class a : ℕ) (x t : DomainView) (few : class < class_count) (w : Works k x) (took : TookFor k class a x t) where
+module _ (k : Config) (class a : ℕ) (x t : DomainView) (few : class < class_count) (w : Works k x) (took : Took k class a x t) (free : t.seen.free ≡ x.seen.free) where
+  view_is : t ≡ hunting_free x t.own.looked (Fills took.pool class took.slot []) x.seen.free
+  view_is = took.view ∙ ap (hunting_free x t.own.looked (Fills took.pool class took.slot [])) free
+
   pub took_place : IsPlaceIn k class a
   took_place = record { pool = took.pool; slot = took.slot; inside = took.inside; below = took.below; address = took.address }
 
   pub prepare_may : (spot : Spot) (new : ℕ) → new ≢ 0 → prepared_at x.own.prepared class ≡ None → spot ≡ record { pool = took.pool; slot = took.slot } → PrepareMay t a new spot.pool class spot.slot
   prepare_may spot new some none is = subst (λ (s : Spot). PrepareMay t a new s.pool class s.slot) (sym is) record {
-    stage = ap (λ (z : DomainView). z.seen.stage) took.view ∙ w.stage;
+    stage = ap (λ (z : DomainView). z.seen.stage) view_is ∙ w.stage;
     made = [];
-    hunt = ap (λ (z : DomainView). z.seen.hunt) took.view;
-    next = took.spot;
-    none = ap (λ (z : DomainView). prepared_at z.own.prepared class) took.view ∙ none;
+    hunt = ap (λ (z : DomainView). z.seen.hunt) view_is;
+    next = took.next;
+    none = ap (λ (z : DomainView). prepared_at z.own.prepared class) view_is ∙ none;
     of_class = few;
     word = took.address;
     head = some;
@@ -86,7 +80,7 @@ module _ (k : Config) (class a : ℕ) (x t : DomainView) (few : class < class_co
   prepared_now new y wide told =
       let L : List Spot = t.own.looked in
       let y' : DomainView = record { own = record (preparing x.own class (Some a)) { looked = L }; seen = record x.seen { hunt = Rests } } in
-      let e : y ≡ y' = told ∙ ap (λ (z : DomainView). record { own = preparing z.own class (Some a); seen = record z.seen { hunt = Rests } }) took.view in
+      let e : y ≡ y' = told ∙ ap (λ (z : DomainView). record { own = preparing z.own class (Some a); seen = record z.seen { hunt = Rests } }) view_is in
       let long : class < length x.own.prepared = subst (λ (n : ℕ). class < n) (sym wide) few in
       subst (λ (z : DomainView). Prepared k class x z a) (sym e) record {
         view = refl;

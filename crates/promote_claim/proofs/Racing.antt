@@ -1,11 +1,8 @@
 -- The claim of a block that was met.
-use Rattle.std.proofs.Common.{◌≡◌, ◌≢◌, ℕ, zero, suc, ◌+◌, ◌-◌, ◌*◌, ◌^◌, ◌<◌, ◌≤◌, ◌⊎◌, List, [], ◌∷◌, ◌++◌, length, append-nil, set, slice_get, Option, Some, None, sym, refl, ap, ◌∙◌, subst, ⊎_elim, arith, get_or-set_other}
+use Rattle.std.proofs.Common.{◌≡◌, ◌≢◌, ℕ, ◌+◌, ◌*◌, ◌<◌, ◌≤◌, List, [], ◌∷◌, ◌++◌, length, append-nil, set, slice_get, Option, Some, None, sym, ap, ◌∙◌, subst, ⊎_elim, arith, get_or-set_other}
 use mathlib.Core.Logic.{dite}
 use native.Mathlib.Decide.{ℕ_discrete}
-use Rattle.size_classes.specs.declared.TheConstants.{SIZES}
-use Rattle.size_classes.specs.Table.{IsLeastFor}
 use Rattle.heap_model.specs.Domains.{class_count, IsWithinLimits}
-use Rattle.heap_model.specs.Fronts.{Shape}
 use Rattle.heap_words.specs.Labels.{label_word}
 use Rattle.heap_words.specs.Unpacked.{Unpacks}
 use Rattle.heap_rule.specs.declared.config.Config.{Config}
@@ -15,14 +12,14 @@ use Rattle.heap_rule.specs.declared.view.Hunt.TheVariants.{Rests, Heads}
 use Rattle.heap_rule.specs.declared.view.DomainView.{DomainView}
 use Rattle.heap_rule.specs.Copies.{met_place, known}
 use Rattle.heap_rule.specs.Limits.{sizes_in}
-use Rattle.heap_rule.specs.Places.{Place, Live, extent, IsNewHead, IsBuilt, IsOldAt, Fits, Lasts, More}
+use Rattle.heap_rule.specs.Places.{Place, Live, IsBuilt, IsOldAt, More}
 use Rattle.heap_rule.specs.Pools.{prepared_at}
 use Rattle.heap_rule.proofs.Lists.{got_end}
-use Rattle.steps_promote.specs.Promotion.{met_of, AllFit, Knows}
-use Rattle.steps_promote.specs.Claims.{with_hunt, preparing, pushed, ClaimMay, ClaimWon, ClaimLost, ClaimTold}
-use Rattle.promote_claim.specs.Heads.{IsForward, forward_word, IsHeadFor}
-use Rattle.promote_claim.specs.Working.{SameBlock, IsPair, IsPlaceIn, Works, with_claims, Grown, IsMetWith, Claimed, Prepared, Written}
-use Rattle.promote_claim.proofs.Meeting.{form_shape, known_here, lasts_more, same_lasts, same_more, pair_more, old_small, forward_same}
+use Rattle.steps_promote.specs.Promotion.{met_of, Knows}
+use Rattle.steps_promote.specs.Claims.{with_hunt, preparing, pushed, ClaimTold}
+use Rattle.promote_claim.specs.Heads.{IsForward, forward_word}
+use Rattle.promote_claim.specs.Working.{SameBlock, IsPair, Works, with_claims, IsMetWith, Claimed, Prepared, Written}
+use Rattle.promote_claim.proofs.Meeting.{form_shape, known_here, same_lasts, pair_more, old_small, forward_same}
 use Rattle.promote_claim.proofs.Preparing.{place_old, set_none}
 
 some_same : (p q : Place) → Some p ≡ Some q → p ≡ q
@@ -36,22 +33,6 @@ module _ (k : Config) (young word class copy : ℕ) (x p y : DomainView) (few : 
 
   known_same : Knows y ≡ Knows x
   known_same = ap (λ (z : DomainView). Knows z) wrote.view ∙ ap (λ (c : Copying). known c.met) ready.copying
-
-  pub claim_may : (new : ℕ) → IsLeastFor SIZES (extent m.place.shape) class → new ≡ forward_word copy → ClaimMay k y young word new class copy
-  claim_may new least is = subst (λ (z : DomainView). ClaimMay k z young word new class copy) (sym wrote.view) record {
-    stage = ready.works.stage;
-    place = wrote.place;
-    met = wrote.met;
-    young = is_young;
-    label = label_word wrote.place.label.domain wrote.place.label.serial;
-    hunt = refl;
-    head = subst (λ (q : Place). IsNewHead q.shape word) (sym place_is) m.head;
-    label_is = refl;
-    of_class = few;
-    least = subst (λ (q : Place). IsLeastFor SIZES (extent q.shape) class) (sym place_is) least;
-    prepared = ready.here;
-    word = is;
-  }
 
   module _ (z : DomainView) (found : ℕ) (told : ClaimTold k young word class copy y found z) (w : Works k x) (limits : IsWithinLimits (sizes_in k)) where
     told_place : told.place ≡ m.place
@@ -106,7 +87,7 @@ module _ (k : Config) (young word class copy : ℕ) (x p y : DomainView) (few : 
         let l = told.won hit in
         let owing : Copied = record { copy = copy; source = young } in
         let e = l.view ∙ ap (λ (v : DomainView). record { own = preparing (pushed v.own copy young) class None; seen = record v.seen { hunt = Rests; copying = record { met = met_of copy told.place ∷ v.seen.copying.met; pending = v.seen.copying.pending ++ record { copy = copy; source = young; filled = 0 } ∷ [] } } })
-            (wrote.view ∙ ap (λ (v : DomainView). with_hunt v (Heads copy (label_word wrote.place.label.domain wrote.place.label.serial) word)) ready.view) in
+        (wrote.view ∙ ap (λ (v : DomainView). with_hunt v (Heads copy (label_word wrote.place.label.domain wrote.place.label.serial) word)) ready.view) in
         let items : z.own.pending.items ≡ x.own.pending.items ++ owing ∷ [] = ap (λ (v : DomainView). v.own.pending.items) e ∙ ap (λ b. b.items ++ owing ∷ []) ready.pending in
         let pending : z.seen.copying.pending ≡ x.seen.copying.pending ++ record { copy = copy; source = young; filled = 0 } ∷ [] = ap (λ (v : DomainView). v.seen.copying.pending) e ∙ ap (λ (c : Copying). c.pending ++ record { copy = copy; source = young; filled = 0 } ∷ []) ready.copying in
         let same : SameBlock (Knows z) young copy = met_at copy (ap (λ (v : DomainView). Knows v copy) l.view ∙ known_here (met_of copy told.place) y.seen.copying.met) in

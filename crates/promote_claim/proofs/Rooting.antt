@@ -1,7 +1,5 @@
 -- What becomes of the roots.
-use Rattle.std.proofs.Common.{◌≡◌, ◌≢◌, ℕ, zero, suc, ◌+◌, ◌-◌, ◌*◌, ◌^◌, ◌<◌, ◌≤◌, ◌⊎◌, List, [], ◌∷◌, ◌++◌, length, drop, set, slice_get, Option, Some, None, sym, refl, ap, ◌∙◌, subst, inr, arith, length-set, get_or-set_same, get_or-set_other}
-use mathlib.Core.Logic.{dite}
-use native.Mathlib.Decide.{ℕ_discrete}
+use Rattle.std.proofs.Common.{◌≡◌, ℕ, ◌<◌, List, ◌∷◌, length, drop, set, sym, refl, ap, ◌∙◌, subst, arith, length-set, get_or-set_same, get_or-set_other}
 use Rattle.heap_model.specs.declared.entry.Entry.{Entry}
 use Rattle.heap_words.specs.declared.value.Value.{Value}
 use Rattle.heap_words.specs.declared.value.Value.TheVariants.{Ref, Nothing}
@@ -13,35 +11,18 @@ use Rattle.heap_rule.specs.Changes.{value_at}
 use Rattle.heap_rule.specs.Copies.{IsOldValue}
 use Rattle.heap_rule.specs.Places.{Stands}
 use Rattle.heap_rule.specs.Rule.{state_of}
-use Rattle.heap_rule.specs.Standing.{IsAt, with_registers}
-use Rattle.steps_promote.specs.Promotion.{Knows, recalling, HasValueAt, HeadMay, MoveMay, MoveTold, Recalled, RewriteMay, RewriteTold}
-use Rattle.promote_claim.specs.Working.{Works, Tied, with_claims, Grown, Claimed, Forwarded, StandsFor}
-use Rattle.promote_claim.specs.Roots.{with_moves, Moved, with_rewrites, Rewritten}
+use Rattle.heap_rule.specs.Standing.{with_registers}
+use Rattle.steps_promote.specs.Promotion.{Knows, recalling, HasValueAt, MoveTold, Recalled, RewriteMay, RewriteTold}
+use Rattle.promote_claim.specs.Working.{Works, Tied, with_claims, Grown, Claimed, Forwarded}
+use Rattle.promote_claim.specs.Roots.{Moved, with_rewrites, Rewritten}
 use Rattle.promote_claim.proofs.Meeting.{grown_met, grown_twice, lasts_more}
 use Rattle.promote_claim.proofs.Valuing.{old_word}
 use Rattle.promote_claim.proofs.Fills.{tied_grown}
-
--- a block in a register may be looked at
-pub held_may : (k : Config) (x : DomainView) (r a : ℕ) → Works k x → r < 16 → value_at x.own.registers r ≡ Ref a → HeadMay x a
-held_may k x r a w few holds = record { stage = w.stage; from = inr (r, record { few = few; holds = holds }) }
 
 -- the register gets the copy's address
 module _ (k : Config) (x y : DomainView) (r a c : ℕ) (w : Works k x) (t : Tied 0 x) (few : r < 16) (holds : value_at x.own.registers r ≡ Ref a) (claimed : Claimed k a x y c) where
   registers_same : y.own.registers ≡ x.own.registers
   registers_same = ap (λ (z : DomainView). z.own.registers) claimed.grown.view
-
-  pub move_may : MoveMay y r c
-  move_may = record {
-    stage = claimed.grown.works.stage;
-    few = few;
-    address = a;
-    holds = ap (λ (l : List Value). value_at l r) registers_same ∙ holds;
-    from = claimed.same.from;
-    met = claimed.same.here;
-    to = claimed.same.to;
-    there = claimed.same.there;
-    label = claimed.same.label;
-  }
 
   pub moved : (found : ℕ) (z : DomainView) → MoveTold k r c y found z → Moved k r x z
   moved found z told =
@@ -59,15 +40,6 @@ module _ (k : Config) (x y : DomainView) (r a c : ℕ) (w : Works k x) (t : Tied
         others = λ j other. get_or-set_other y.own.registers r j (Ref c) Nothing other ∙ ap (λ (l : List Value). value_at l j) registers_same;
       }
 
--- registers up to one, and up to the next
-pub old_next : (k : Config) (n : ℕ) (x y : DomainView) → ((j : ℕ) → j < n → IsOldValue k (value_at x.own.registers j)) → Moved k n x y → (j : ℕ) → j < n + 1 → IsOldValue k (value_at y.own.registers j)
-old_next k n x y before m j below = dite (ℕ_discrete j n)
-    (λ same. subst (λ (i : ℕ). IsOldValue k (value_at y.own.registers i)) (sym same) m.old)
-    (λ other. subst (IsOldValue k) (sym (m.others j other)) (before j (omega arith)))
-
-pub moves_twice : (x y z : DomainView) → y ≡ with_moves x y → z ≡ with_moves y z → z ≡ with_moves x z
-moves_twice x y z a b = b ∙ ap (λ (v : DomainView). with_moves v z) a
-
 pub rewrites_twice : (x y z : DomainView) → y ≡ with_rewrites x y → z ≡ with_rewrites y z → z ≡ with_rewrites x z
 rewrites_twice x y z a b = b ∙ ap (λ (v : DomainView). with_rewrites v z) a
 
@@ -82,9 +54,6 @@ module _ (k : Config) (x y : DomainView) (at word : ℕ) (w : Works k x) (t : Ti
 
     as_held : Stands (Knows y) v told.held
     as_held = subst (λ (u : Value). Stands (Knows y) u told.held) (sym value_is) told.stands
-
-    pub field_stands : StandsFor y v
-    field_stands = (told.held, as_held)
 
     module _ (z : DomainView) (new : Value) (fw : Forwarded k v y z new) where
       remembered_same : z.seen.remembered ≡ x.seen.remembered

@@ -1,5 +1,5 @@
 -- What the value of a root or of a copied block becomes.
-use Rattle.std.proofs.Common.{◌≡◌, ◌≢◌, ℕ, ◌+◌, ◌*◌, ◌%◌, ◌^◌, ◌<◌, ◌≤◌, ◌⊎◌, Some, sym, ap, ◌∙◌, subst, inl, inr, arith}
+use Rattle.std.proofs.Common.{◌≡◌, ℕ, ◌*◌, ◌≤◌, Some, sym, ap, ◌∙◌, inl, inr, arith}
 use Rattle.std.proofs.lemmas.Int.{ints}
 use Rattle.heap_model.specs.Domains.{IsWithinLimits}
 use Rattle.heap_model.specs.declared.graph.Value as model
@@ -11,11 +11,11 @@ use Rattle.heap_rule.specs.declared.config.Config.{Config}
 use Rattle.heap_rule.specs.declared.view.DomainView.{DomainView}
 use Rattle.heap_rule.specs.Copies.{IsOldValue}
 use Rattle.heap_rule.specs.Limits.{sizes_in}
-use Rattle.heap_rule.specs.Places.{Place, Live, Stands, IsOldAt, IsOldWord, More}
+use Rattle.heap_rule.specs.Places.{Place, Live, Stands, IsOldWord, More}
 use Rattle.heap_rule.specs.Standing.{IsInHeap}
-use Rattle.steps_promote.specs.Promotion.{AllFit, Knows, HeadMay}
+use Rattle.steps_promote.specs.Promotion.{Knows, HeadMay}
 use Rattle.promote_claim.specs.Working.{SameBlock, Works, Claimed, Forwarded, StandsFor}
-use Rattle.promote_claim.proofs.Meeting.{grown_none, met_inside, old_small}
+use Rattle.promote_claim.proofs.Meeting.{met_inside, old_small}
 
 some_same : (p q : Place) → Some p ≡ Some q → p ≡ q
 some_same p q e = cc
@@ -48,10 +48,6 @@ ref_forwarded k x y a c limits t = record {
   packable = ((t.grown.works.fit c t.same.to t.same.there).low, old_small k c limits t.old);
   old = t.old;
 }
-
--- what is no address of a minor area stays
-pub stays_forwarded : (k : Config) (x : DomainView) (v : Value) → Works k x → IsPackable v → IsOldValue k v → Forwarded k v x x v
-stays_forwarded k x v w fits old = record { grown = grown_none k x w; stands = λ held s. s; packable = fits; old = old }
 
 -- the word of such a value
 pub old_word : (k : Config) (v : Value) → IsPackable v → IsOldValue k v → IsOldWord k (value_word v)

@@ -1,5 +1,5 @@
 -- What the word of a head says of its block.
-use Rattle.std.specs.Prelude.{ℕ, ◌^◌, ◌<◌, ◌≤◌, false, None}
+use Rattle.std.specs.Prelude.{ℕ, false, None}
 use Rattle.heap_model.specs.Fronts.{Shape}
 use Rattle.heap_words.specs.declared.head.Head.TheVariants.{Forward}
 use Rattle.heap_words.specs.Heads.{IsPackableHead, head_word}

@@ -3,4 +3,3 @@ pub mod Heads
 pub mod Filling
 pub mod Roots
 pub mod Sharing
-pub mod Stand

@@ -4,8 +4,6 @@ use Rattle.heap_model.specs.Domains.{class_count}
 use Rattle.heap_rule.specs.declared.config.Config.{Config}
 use Rattle.heap_rule.specs.declared.view.DomainView.{DomainView}
 use Rattle.heap_rule.specs.declared.view.Hunt.TheVariants.{Rests}
-use Rattle.heap_rule.specs.declared.phase.Kind.TheVariants.{Promote}
-use Rattle.heap_rule.specs.declared.phase.Stage.TheVariants.{In}
 use Rattle.heap_rule.specs.Copies.{HoldsOld}
 use Rattle.heap_rule.specs.Pools.{prepared_at}
 use Rattle.promote_claim.specs.Working.{with_claims}

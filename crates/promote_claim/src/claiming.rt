@@ -5,19 +5,19 @@ ghost use Rattle.heap_words.specs.Values.{IsPackable};
 ghost use Rattle.heap_rule.specs.Pools.{prepared_at};
 ghost use Rattle.heap_rule.specs.Standing.{IsInHeap};
 ghost use Rattle.heap_rule.specs.Token.{IsIn};
+ghost use Rattle.steps_pools.specs.Takes.{HasYoung};
 ghost use Rattle.steps_promote.specs.Promotion.{HeadMay};
-ghost use Rattle.promote_claim.specs.Stand.{HasMetYoung};
 ghost use Rattle.promote_claim.specs.Working.{Works, IsMetWith, Claimed, Prepared, Written, Forwarded, StandsFor};
 
 use crate::heads::{copy_of, words_of};
 use crate::places::{class_for, spot_in};
-use crate::steps::{
-    claim_exchange, prepare_head, prepare_label, prepare_store, young_head_load, young_label_load,
-};
-use crate::taking::take_for_copy;
 use heap_rule::{Domain, Heap};
 use heap_words::{Head, Value, pack_head};
 use size_classes::POOL_WORDS;
+use size_pools::take_for_copy;
+use steps_promote::{
+    claim_exchange, prepare_head, prepare_label, prepare_store, young_head_load, young_label_load,
+};
 
 // A head that isn't Free.
 const TAKEN: u64 = 1;
@@ -27,7 +27,7 @@ fn prepare(heap: &Heap, dom: &mut Domain, class: u32) -> u32
     requires here { IsIn dom.old heap.now }
     requires works { Works heap.now.config dom.old.view }
     requires class { class < class_count }
-    requires young { HasMetYoung heap.now.config dom.old.view }
+    requires young { HasYoung heap.now.config dom.old.view }
     ensures here { IsIn dom.new heap.now }
     ensures prepared { Prepared heap.now.config class dom.old.view dom.new.view result }
 {

@@ -6,9 +6,9 @@ ghost use Rattle.promote_claim.specs.Working.{Works, Tied};
 
 use crate::claiming::forwarded;
 use crate::heads::words_of;
-use crate::steps::{copy_end, copy_store, young_field_load, young_head_load};
 use heap_rule::{Copied, Domain, Heap, Reading, read_as};
 use heap_words::pack_value;
+use steps_promote::{copy_end, copy_store, young_field_load, young_head_load};
 
 // Fills the i-th copy, the first that the domain is to fill. What its values lead to is copied too.
 fn fill(heap: &Heap, dom: &mut Domain, i: usize)

@@ -10,8 +10,6 @@ mod heads;
 mod places;
 mod promotion;
 mod roots;
-mod steps;
-mod taking;
 
 pub use claiming::claim;
 pub use promotion::promote;

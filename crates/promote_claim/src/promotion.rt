@@ -12,9 +12,9 @@ ghost use Rattle.promote_claim.specs.Working.{Works};
 use crate::filling::fill_all;
 use crate::places::spot_in;
 use crate::roots::{move_registers, rewrite_fields};
-use crate::steps::free_store;
 use heap_rule::{Domain, Heap};
 use size_classes::CLASS_COUNT;
+use steps_promote::free_store;
 
 // Gives the places back that were prepared for claims which another domain won.
 fn give_back(heap: &Heap, dom: &mut Domain)

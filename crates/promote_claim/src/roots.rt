@@ -7,10 +7,10 @@ ghost use Rattle.promote_claim.specs.Roots.{Moved, AllMoved, Rewritten, AllRewri
 ghost use Rattle.promote_claim.specs.Working.{Works, Tied};
 
 use crate::claiming::{claim, forwarded};
-use crate::steps::{register_move, remembered_load, remembered_store};
 use heap_rule::{Domain, Heap, Reading, read_as};
 use heap_words::{Value, pack_value};
 use size_classes::POOL_WORDS;
+use steps_promote::{register_move, remembered_load, remembered_store};
 
 // A register that holds the address of a young block gets that of its copy.
 fn move_register(heap: &Heap, dom: &mut Domain, register: u8)

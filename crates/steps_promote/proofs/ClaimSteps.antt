@@ -1,5 +1,5 @@
 -- The claim of a young block: where its head is found as it was met, the prepared place is its copy.
-use Rattle.std.proofs.Common.{rules, nat_le, ◌≡◌, ◌≢◌, ℕ, zero, suc, ◌+◌, ◌-◌, ◌*◌, ◌^◌, ◌/◌, ◌<◌, ◌≤◌, ◌⊎◌, Bool, true, false, cond, ltb, eqb, eq-eqb, ne_eqb, if◌then◌else◌, List, [], ◌∷◌, ◌++◌, length, get_or, set, slice_get, Option, Some, None, unwrap_or, sym, refl, ap, ◌∙◌, subst, inl, inr, ⊎_elim, arith, lt_of_not-le, length-set, get_or-set_same, get_or-set_other, zero-le, suc-mul}
+use Rattle.std.proofs.Common.{rules, nat_le, ◌≡◌, ◌≢◌, ℕ, zero, suc, ◌+◌, ◌-◌, ◌*◌, ◌^◌, ◌/◌, ◌<◌, ◌≤◌, ◌⊎◌, Bool, true, false, eqb, eq-eqb, ne_eqb, if◌then◌else◌, List, [], ◌∷◌, ◌++◌, length, get_or, set, slice_get, Option, Some, None, unwrap_or, sym, refl, ap, ◌∙◌, subst, inl, inr, ⊎_elim, arith, lt_of_not-le, length-set, get_or-set_same, get_or-set_other, suc-mul}
 use Rattle.std.proofs.Math.Nat.{mul-le-mul_left}
 use mathlib.Core.Logic.{dite}
 use native.Mathlib.Decide.{ℕ_discrete, dec_le}
@@ -12,50 +12,43 @@ use Rattle.size_classes.specs.declared.TheConstants.{SIZES}
 use Rattle.size_classes.specs.Table.{IsLeastFor}
 use Rattle.heap_model.specs.declared.entry.Entry.{Entry}
 use Rattle.heap_model.specs.declared.label.Label.{Label}
-use Rattle.heap_model.specs.declared.state.State as model
 use Rattle.heap_model.specs.Domains.{class_count, reserve}
 use Rattle.heap_model.specs.Fronts.{Shape, PlainShape, RawShape, EpheShape}
 use Rattle.heap_model.specs.Graph.{Graph}
 use Rattle.heap_words.specs.declared.head.Head.TheVariants.{Forward}
-use Rattle.heap_words.specs.Heads.{IsPackableHead, head_word}
-use Rattle.heap_words.specs.Labels.{IsPackableLabel, label_word}
+use Rattle.heap_words.specs.Heads.{head_word}
+use Rattle.heap_words.specs.Labels.{label_word}
 use Rattle.heap_rule.specs.declared.config.Config.{Config}
 use Rattle.heap_rule.specs.declared.view.Copied.{Copied}
-use Rattle.heap_rule.specs.declared.view.Hunt.{Hunt}
 use Rattle.heap_rule.specs.declared.view.Hunt.TheVariants.{Rests, Heads}
 use Rattle.heap_rule.specs.declared.view.Met.{Met}
-use Rattle.heap_rule.specs.declared.view.Own.{Own}
 use Rattle.heap_rule.specs.declared.view.Owing.{Owing}
 use Rattle.heap_rule.specs.declared.view.DomainView.{DomainView}
-use Rattle.heap_rule.specs.declared.view.View.{View}
-use Rattle.heap_rule.specs.declared.phase.Kind.TheVariants.{Promote}
-use Rattle.heap_rule.specs.declared.phase.Stage.TheVariants.{In}
 use Rattle.heap_rule.specs.Copies.{met_place, known, debt_of, IsOwed, IsField, Owes, Copies, Leads, Promoting, Cleared}
-use Rattle.heap_rule.specs.Layout.{heap_words, before_heap, base_of, at_address, listed, cursor}
+use Rattle.heap_rule.specs.Layout.{heap_words, before_heap, base_of, at_address}
 use Rattle.heap_rule.specs.Limits.{sizes_in}
 use Rattle.heap_rule.specs.Phases.{sum_of}
-use Rattle.heap_rule.specs.Places.{Debt, Place, Live, extent, span, class_words, least_size, values_of, unmarked, head_of, HeadIs, IsNewHead, HasValue, Found, Fits, Placed, Spread, IsOldAt, IsOldWord, Lasts, More, IsBuilt}
-use Rattle.heap_rule.specs.Pools.{Stock, limit_of, owned, drawn, drawn_in, Tenancy, Pools, Hunts, Hunter, OwnPlace, IsSpare, Lot, Grid, Latest, DrawsFor, Drawers, IsCopying, IsBefore, spot_at, place_in, size_of, blocks_of, prepared_at}
+use Rattle.heap_rule.specs.Places.{Debt, Place, Live, extent, span, class_words, least_size, unmarked, HeadIs, IsNewHead, Found, Fits, Placed, Spread, Lasts, More, IsBuilt}
+use Rattle.heap_rule.specs.Pools.{Stock, limit_of, owned, drawn_in, Tenancy, Hunts, Hunter, OwnPlace, Lot, Grid, Latest, DrawsFor, Drawers, IsCopying, place_in, size_of, blocks_of, prepared_at}
 use Rattle.heap_rule.specs.Raw.{MayStep, Closes}
-use Rattle.heap_rule.specs.Room.{count, drawn_in_all, copied_words, IsClaimed, Room, Opened}
+use Rattle.heap_rule.specs.Room.{count, drawn_in_all, copied_words, Room, Opened}
 use Rattle.heap_rule.specs.Rule.{state_of, AllFound, Area, Making, Rule}
 use Rattle.heap_rule.specs.Token.{OwnFits}
-use Rattle.heap_rule.specs.Views.{one, pending_room}
-use Rattle.steps_promote.specs.Claims.{preparing, pushed, ClaimMay, ClaimWon, ClaimLost, ClaimTold}
+use Rattle.heap_rule.specs.Views.{one}
+use Rattle.steps_promote.specs.Claims.{preparing, pushed, ClaimMay, ClaimTold}
 use Rattle.steps_promote.specs.Promotion.{met_of, Knows}
 use Rattle.steps_promote.specs.Writes.{CanClaim, Claims}
 use Rattle.heap_rule.proofs.Again.{met_fits}
-use Rattle.heap_rule.proofs.Beside.{extent_of, found_beside, making_beside, live_word_far}
+use Rattle.heap_rule.proofs.Beside.{found_beside, making_beside, live_word_far}
 use Rattle.heap_rule.proofs.Classes.{size_least}
 use Rattle.heap_rule.proofs.Counting.{joined_with, joined_cases, claim_counts, claim_few, sum_le, sum_times}
 use Rattle.heap_rule.proofs.Drops.{debt_cases}
-use Rattle.heap_rule.proofs.Holders.{SameFor, SameStock, agrees_same, hunter_agree}
-use Rattle.heap_rule.proofs.Keeps.{Words, mine, my_good, control_set, control_same, pools_same, room_words, opened_words, owes_as, more_same, stands_more, hunter_as, promote_now, promote_here}
-use Rattle.heap_rule.proofs.Lists.{got_below}
-use Rattle.heap_rule.proofs.Lots.{area_beside, hunter_beside, number_cases, place_cases, place_low}
+use Rattle.heap_rule.proofs.Holders.{SameFor, agrees_same, hunter_agree}
+use Rattle.heap_rule.proofs.Keeps.{Words, mine, my_good, control_set, control_same, pools_same, opened_words, more_same, stands_more, hunter_as, promote_now, promote_here}
+use Rattle.heap_rule.proofs.Lots.{area_beside, hunter_beside, number_cases, place_low}
 use Rattle.heap_rule.proofs.Update.{over, over_here, over_else}
-use Rattle.heap_rule.proofs.Values.{address_of, extent_large}
-use Rattle.steps_promote.proofs.Meets.{form_shape, knows_more, known_more, known_met, place_same}
+use Rattle.heap_rule.proofs.Values.{extent_large}
+use Rattle.steps_promote.proofs.Meets.{form_shape, knows_more, known_more, place_same}
 use Rattle.steps_promote.proofs.OwnPlaces as places
 use Rattle.steps_promote.proofs.OwnPlaces.{place_sole}
 use Rattle.steps_promote.proofs.Preparing.{number_same, prepared_here, prepared_else}
@@ -439,8 +432,8 @@ module _ (k : Config) (s : Words) (r : Rule k s) (id : ℕ) (hist : List Entry) 
         (λ same i. subst (λ (z : ℕ × Place). Found k live2 graph ws z.0 z.1) (λ j. (sym same j, i j)) found_a)
         (λ same i. subst (λ (z : ℕ × Place). Found k live2 graph ws z.0 z.1) (λ j. (sym same j, i j)) found_c)
         (λ na nc l. let fb = r.whole.found b q l in found_beside k live live2 graph graph s.words a new b q more2 fb fb.there
-            (λ z within clash. let m : ℕ = extent q.shape in let n : ℕ = extent p.shape in let big : 3 ≤ n = extent_large p.shape (r.whole.placed.fits a p lives).head in let i : z < m = within in let h : b + z ≡ a = clash in
-            ⊎_elim (λ (u : b + m ≤ a). omega arith) (λ (u : a + n ≤ b). omega arith) (r.whole.placed.apart b a q p l lives na)))
+        (λ z within clash. let m : ℕ = extent q.shape in let n : ℕ = extent p.shape in let big : 3 ≤ n = extent_large p.shape (r.whole.placed.fits a p lives).head in let i : z < m = within in let h : b + z ≡ a = clash in
+        ⊎_elim (λ (u : b + m ≤ a). omega arith) (λ (u : a + n ≤ b). omega arith) (r.whole.placed.apart b a q p l lives na)))
 
     fits_c : Fits k c pc
     fits_c = let fs = r.whole.placed.fits a p lives in record {
@@ -562,9 +555,9 @@ module _ (k : Config) (s : Words) (r : Rule k s) (id : ℕ) (hist : List Entry) 
       no_debt = λ b q w e owed. cases b q e
           (λ same i. absurd (no_debt w (sym paid ∙ (ap (λ (z : Place). z.owed) i ∙ owed))))
           (λ same i. λ mine_too.
-              let w_is : me ≡ d = ap (λ (z : Debt). z.domain) (debt_same debt w (ap (λ (z : Place). z.owed) i ∙ owed)) ∙ mine_too in
-              let up' : x.own.arrivals ≡ r.account.pause.phase + 1 = (my_good k s r id hist x at).staged.arrivals ∙ (ap r.account.pause.arrived w_is ∙ up) in
-              let e' : x.own.arrivals ≡ r.account.pause.phase = here_now in omega arith)
+          let w_is : me ≡ d = ap (λ (z : Debt). z.domain) (debt_same debt w (ap (λ (z : Place). z.owed) i ∙ owed)) ∙ mine_too in
+          let up' : x.own.arrivals ≡ r.account.pause.phase + 1 = (my_good k s r id hist x at).staged.arrivals ∙ (ap r.account.pause.arrived w_is ∙ up) in
+          let e' : x.own.arrivals ≡ r.account.pause.phase = here_now in omega arith)
           (λ na nc l. cl.no_debt b q w l owed);
       no_field = λ b q i e named. cases b q e
           (λ same j. cl.no_field a p i lives (ap (λ (z : Place). z.named i) j ∙ named))
@@ -607,8 +600,8 @@ module _ (k : Config) (s : Words) (r : Rule k s) (id : ℕ) (hist : List Entry) 
     copies_grow : (d e : ℕ) → t.stock.copies d e ≤ copies' d e
     copies_grow d e = dite (ℕ_discrete d me)
         (λ same. subst (λ (n : ℕ). t.stock.copies n e ≤ copies' n e) (sym same) (dite (ℕ_discrete e class)
-            (λ eq. subst (λ (n : ℕ). t.stock.copies me n ≤ copies' me n) (sym eq) (let m : ℕ = t.stock.copies me class in let n : ℕ = copies' me class in let h : n ≡ m + 1 = copies_one in let g : m ≤ n = omega arith in g))
-            (λ ne. let m : ℕ = t.stock.copies me e in let n : ℕ = copies' me e in let h : n ≡ m = copies_same e ne in let g : m ≤ n = omega arith in g)))
+        (λ eq. subst (λ (n : ℕ). t.stock.copies me n ≤ copies' me n) (sym eq) (let m : ℕ = t.stock.copies me class in let n : ℕ = copies' me class in let h : n ≡ m + 1 = copies_one in let g : m ≤ n = omega arith in g))
+        (λ ne. let m : ℕ = t.stock.copies me e in let n : ℕ = copies' me e in let h : n ≡ m = copies_same e ne in let g : m ≤ n = omega arith in g)))
         (λ other. let m : ℕ = t.stock.copies d e in let n : ℕ = copies' d e in let h : n ≡ m = ap (λ (g : ℕ → ℕ). g e) (copies_else d other) in let g : m ≤ n = omega arith in g)
 
     was_prepared : (b d : ℕ) → prepared' b ≡ Some d → (b ≢ c) × (t.prepared b ≡ Some d)
@@ -631,13 +624,13 @@ module _ (k : Config) (s : Words) (r : Rule k s) (id : ℕ) (hist : List Entry) 
       lots = λ b q e low. cases b q e
           (λ same i. absurd (let y : k.pools * 4096 < a = may.young in let z : b ≤ k.pools * 4096 = low in let m : b ≡ a = same in omega arith))
           (λ same i. subst (λ (z : ℕ × Place). Lot t.holder z.0 z.1) (λ j. (sym same j, i j))
-              record { pool = own_place.pool; domain = me; class = class; slot = own_place.slot; owned_is = own_place.owned_is; inside = own_place.inside; begins = own_place.begins; fits = size_fits })
+          record { pool = own_place.pool; domain = me; class = class; slot = own_place.slot; owned_is = own_place.owned_is; inside = own_place.inside; begins = own_place.begins; fits = size_fits })
           (λ na nc l. r.whole.grid.lots b q l low);
       places = λ q d e j owned_is below. dite (ℕ_discrete (place_in q e j) c)
           (λ same. inr (inl (pc, ap live2 same ∙ here_c)))
           (λ other. ⊎_elim (λ (z : at_address k s.words (place_in q e j) ≡ 0). inl (place_stays q d e j owned_is below ∙ z))
-              (λ z. inr (⊎_elim (λ (v : (u : Place) × (live (place_in q e j) ≡ Some u)). inl (let m = more2 (place_in q e j) v.0 v.1 in (m.place, m.lives))) (λ (v : t.prepared (place_in q e j) ≡ Some d). inr (over_else c None t.prepared (place_in q e j) other ∙ v)) z))
-              (r.whole.grid.places q d e j owned_is below));
+          (λ z. inr (⊎_elim (λ (v : (u : Place) × (live (place_in q e j) ≡ Some u)). inl (let m = more2 (place_in q e j) v.0 v.1 in (m.place, m.lives))) (λ (v : t.prepared (place_in q e j) ≡ Some d). inr (over_else c None t.prepared (place_in q e j) other ∙ v)) z))
+          (r.whole.grid.places q d e j owned_is below));
       spares = λ b d is.
           let u = was_prepared b d is in
           let sp = r.whole.grid.spares b d u.1 in
@@ -711,8 +704,8 @@ module _ (k : Config) (s : Words) (r : Rule k s) (id : ℕ) (hist : List Entry) 
           (λ from to. record { block = a; copy = c; place = p2; lives = here_a; forwards = refl; young = may.young; from = from; to = to });
       listed_copies = λ d. dite (ℕ_discrete d me)
           (λ same. subst (λ (n : ℕ). stock'.claims n ≤ sum_of (copies' n) class_count) (sym same)
-              (subst (λ (n : ℕ × ℕ). n.0 ≤ n.1) (λ i. (sym (over_here me (t.stock.claims me + 1) t.stock.claims) i, sym (sum_more (t.stock.copies me) (copies' me) class 1 class_count may.of_class copies_one copies_same) i))
-              (let u : ℕ = t.stock.claims me in let v : ℕ = sum_of (t.stock.copies me) class_count in let h : u ≤ v = r.whole.room.listed_copies me in let g : u + 1 ≤ v + 1 = omega arith in g)))
+          (subst (λ (n : ℕ × ℕ). n.0 ≤ n.1) (λ i. (sym (over_here me (t.stock.claims me + 1) t.stock.claims) i, sym (sum_more (t.stock.copies me) (copies' me) class 1 class_count may.of_class copies_one copies_same) i))
+          (let u : ℕ = t.stock.claims me in let v : ℕ = sum_of (t.stock.copies me) class_count in let h : u ≤ v = r.whole.room.listed_copies me in let g : u + 1 ≤ v + 1 = omega arith in g)))
           (λ other. subst (λ (n : ℕ × (ℕ → ℕ)). n.0 ≤ sum_of n.1 class_count) (λ i. (sym (over_else me (t.stock.claims me + 1) t.stock.claims d other) i, sym (copies_else d other) i)) (r.whole.room.listed_copies d));
       left = λ h b q e young. let v = young_was b q young e in
           subst (λ (n : ℕ × ℕ). n.0 + reserve (sizes_in k) ≤ n.1 + drawn_in_all k t.stock) (λ i. (sym (control_set k s.words a new low_a 7 (omega arith)) i, sym (control_set k s.words a new low_a 6 (omega arith)) i)) (r.whole.room.left h b v.0 v.1 young);
@@ -837,13 +830,13 @@ module _ (k : Config) (s : Words) (r : Rule k s) (id : ℕ) (hist : List Entry) 
           (got_either l owing v i got);
       once = λ i j v u got got' same. ⊎_elim
           (λ (h : slice_get l i ≡ Some v). ⊎_elim
-              (λ (h' : slice_get l j ≡ Some u). w.once i j v u h h' same)
-              (λ (h' : (j ≡ length l) × (Some owing ≡ Some u)). let z = w.owed i v h in absurd (not_there v.copy z.place z.lives (same ∙ ap (λ (y : Owing). y.copy) (sym (owing_same owing u h'.1)))))
-              (got_either l owing u j got'))
+          (λ (h' : slice_get l j ≡ Some u). w.once i j v u h h' same)
+          (λ (h' : (j ≡ length l) × (Some owing ≡ Some u)). let z = w.owed i v h in absurd (not_there v.copy z.place z.lives (same ∙ ap (λ (y : Owing). y.copy) (sym (owing_same owing u h'.1)))))
+          (got_either l owing u j got'))
           (λ (h : (i ≡ length l) × (Some owing ≡ Some v)). ⊎_elim
-              (λ (h' : slice_get l j ≡ Some u). let z = w.owed j u h' in absurd (not_there u.copy z.place z.lives (sym same ∙ ap (λ (y : Owing). y.copy) (sym (owing_same owing v h.1)))))
-              (λ (h' : (j ≡ length l) × (Some owing ≡ Some u)). h.0 ∙ sym h'.0)
-              (got_either l owing u j got'))
+          (λ (h' : slice_get l j ≡ Some u). let z = w.owed j u h' in absurd (not_there u.copy z.place z.lives (sym same ∙ ap (λ (y : Owing). y.copy) (sym (owing_same owing v h.1)))))
+          (λ (h' : (j ≡ length l) × (Some owing ≡ Some u)). h.0 ∙ sym h'.0)
+          (got_either l owing u j got'))
           (got_either l owing v i got);
       listed = λ b q d e owed its. cases b q e
           (λ same i. absurd (no_debt d (sym paid ∙ (ap (λ (u : Place). u.owed) i ∙ owed))))
@@ -865,7 +858,7 @@ module _ (k : Config) (s : Words) (r : Rule k s) (id : ℕ) (hist : List Entry) 
       free = λ b q e. cases b q e
           (λ same i. subst (λ (u : ℕ × Place). (u.0 + extent u.1.shape ≤ base_of k z.own.number + z.own.used) ⊎ (base_of k z.own.number + k.minor_words ≤ u.0)) (λ j. (sym same j, i j)) (g.free a p lives))
           (λ same i. subst (λ (u : ℕ × Place). (u.0 + extent u.1.shape ≤ base_of k z.own.number + z.own.used) ⊎ (base_of k z.own.number + k.minor_words ≤ u.0)) (λ j. (sym same j, i j))
-              (inl (let n : ℕ = extent p.shape in let y : ℕ = size_of class in let h : n ≤ y = size_fits in let u : c + y ≤ k.pools * 4096 + 1 = c_top in let m : ℕ = z.own.number * k.minor_words in let v : c + n ≤ k.pools * 4096 + m + 1 + z.own.used = omega arith in v)))
+          (inl (let n : ℕ = extent p.shape in let y : ℕ = size_of class in let h : n ≤ y = size_fits in let u : c + y ≤ k.pools * 4096 + 1 = c_top in let m : ℕ = z.own.number * k.minor_words in let v : c + n ≤ k.pools * 4096 + m + 1 + z.own.used = omega arith in v)))
           (λ na nc l. g.free b q l);
       classes = λ b q e young. let v = young_was b q young e in subst (λ (u : Shape). (b + span u ≤ base_of k z.own.number + z.own.used) ⊎ (base_of k z.own.number + k.minor_words ≤ b)) v.3 (g.classes b v.0 v.1 young);
     }
@@ -994,10 +987,10 @@ module _ (k : Config) (s : Words) (r : Rule k s) (id : ℕ) (hist : List Entry) 
   pub outcome : Outcome (at_address k s.words a)
   outcome = ⊎_elim
       (λ (bare : p.forward ≡ None). dite (ℕ_discrete (place_in last class used1) c)
-          (λ here. dite (dec_le (blocks_of class) used1)
-              (λ full. won_outcome bare used1 (same_used (λ _ below. let h : blocks_of class ≤ used1 = full in let g : used1 < blocks_of class = below in omega arith)))
-              (λ room. won_outcome bare (used1 + 1) (next_used here (lt_of_not-le room))))
-          (λ other. won_outcome bare used1 (same_used (λ same_place _. other same_place))))
+      (λ here. dite (dec_le (blocks_of class) used1)
+      (λ full. won_outcome bare used1 (same_used (λ _ below. let h : blocks_of class ≤ used1 = full in let g : used1 < blocks_of class = below in omega arith)))
+      (λ room. won_outcome bare (used1 + 1) (next_used here (lt_of_not-le room))))
+      (λ other. won_outcome bare used1 (same_used (λ same_place _. other same_place))))
       (λ (t2 : (c2 : ℕ) × (p.forward ≡ Some c2)).
       let found : ℕ = at_address k s.words a in
       let differs : found ≢ old = (λ e. forwards_not p.shape old t2.0 old_head (sym e ∙ found_forward t2.0 t2.1)) in

@@ -1,5 +1,5 @@
 -- The values of a copy are stored, one after the other, and then it is owed nothing more.
-use Rattle.std.proofs.Common.{◌≡◌, ◌≢◌, ℕ, zero, suc, ◌+◌, ◌*◌, ◌<◌, ◌≤◌, ◌⊎◌, false, List, [], ◌∷◌, length, get_or, set, slice_get, Option, Some, None, unwrap_or, sym, refl, ap, ◌∙◌, subst, inl, inr, ⊎_elim, arith, length-set, get_or-set_same, get_or-set_other}
+use Rattle.std.proofs.Common.{◌≡◌, ◌≢◌, ℕ, zero, suc, ◌+◌, ◌*◌, ◌<◌, ◌≤◌, false, List, ◌∷◌, length, get_or, set, slice_get, Option, Some, None, unwrap_or, sym, refl, ap, ◌∙◌, subst, inr, ⊎_elim, arith, length-set, get_or-set_same, get_or-set_other}
 use mathlib.Core.Logic.{dite}
 use native.Mathlib.Decide.{ℕ_discrete}
 use mathlib.Core.Option.{some}
@@ -8,19 +8,17 @@ use Rattle.atomic_table.specs.Table.{keeps}
 use Rattle.heap_model.specs.declared.entry.Entry.{Entry}
 use Rattle.heap_model.specs.declared.graph.Value as graph_value
 use Rattle.heap_model.specs.declared.graph.Node.{Node}
-use Rattle.heap_model.specs.declared.state.State as model
 use Rattle.heap_model.specs.Graph.{Graph, node_at}
 use Rattle.heap_model.specs.Fronts.{Shape}
 use Rattle.heap_rule.specs.declared.config.Config.{Config}
 use Rattle.heap_rule.specs.declared.view.Owing.{Owing}
 use Rattle.heap_rule.specs.declared.view.DomainView.{DomainView}
-use Rattle.heap_rule.specs.declared.view.View.{View}
 use Rattle.heap_rule.specs.declared.phase.Kind.TheVariants.{Promote}
 use Rattle.heap_rule.specs.declared.phase.Stage.TheVariants.{In}
 use Rattle.heap_rule.specs.Layout.{heap_words, before_heap, at_address}
 use Rattle.heap_rule.specs.Places.{Debt, Place, Live, extent, values_of, unmarked, HeadIs, HasValue, Stands, Found, IsOldWord, More}
 use Rattle.heap_rule.specs.Phases.{IsInPause}
-use Rattle.heap_rule.specs.Pools.{Tenancy, Grid, Hunter}
+use Rattle.heap_rule.specs.Pools.{Grid, Hunter}
 use Rattle.heap_rule.specs.Copies.{known, debt_of, IsOwed, Owes, IsField, Copies, Pends, Promoting, Cleared}
 use Rattle.heap_rule.specs.Raw.{MayStep, MayStore}
 use Rattle.heap_rule.specs.Rule.{state_of, AllFound, Area, Making, Rule}
@@ -184,11 +182,11 @@ module _ (k : Config) (s : Words) (r : Rule k s) (id : ℕ) (hist : List Entry) 
   rest_listed b q d other e owed its =
       let t = (my_good k s r id hist x at).owes.listed b q d (was b q other e) owed its in
       behind t.0 (ap (λ (l : List Owing). slice_get l t.0) (sym first) ∙ t.1) where
-    behind : (i : ℕ) → slice_get (o ∷ rest) i ≡ Some (record { copy = b; source = d.source; filled = d.filled }) → (j : ℕ) × (slice_get rest j ≡ Some (record { copy = b; source = d.source; filled = d.filled }))
-    behind zero g = absurd (other (sym (ap (λ (v : Owing). v.copy) (owing_same o (record { copy = b; source = d.source; filled = d.filled }) g)))) where
-      owing_same : (u v : Owing) → Some u ≡ Some v → u ≡ v
-      owing_same u v e = cc
-    behind (suc i) g = (i, g)
+        behind : (i : ℕ) → slice_get (o ∷ rest) i ≡ Some (record { copy = b; source = d.source; filled = d.filled }) → (j : ℕ) × (slice_get rest j ≡ Some (record { copy = b; source = d.source; filled = d.filled }))
+        behind zero g = absurd (other (sym (ap (λ (v : Owing). v.copy) (owing_same o (record { copy = b; source = d.source; filled = d.filled }) g)))) where
+          owing_same : (u v : Owing) → Some u ≡ Some v → u ≡ v
+          owing_same u v e = cc
+        behind (suc i) g = (i, g)
 
   -- the rule with what the domain is still to fill
   pub fills_again : (pending2 : List Owing) (words' : List ℕ) → length words' ≡ length s.words → Control k s.words words' → AllFound k live2 (state_of k r.account.log).graph words' → Grid k r.account.tenancy r.account.live words'
@@ -248,38 +246,38 @@ end_may k x word a may fits slots id hist s r _ at _ =
     let same_shape : p1.shape ≡ may.place.shape = ap (λ (z : Place). z.shape) (ap (λ (z : Option Place). unwrap_or z p1) (sym lives1 ∙ l.lives)) ∙ l.shape in
     let full : extent p1.shape ≤ o.filled + 2 = subst (λ (z : Shape). extent z ≤ o.filled + 2) (sym same_shape) may.full in
     let found : AllFound k live1 graph s.words = (λ b q e. dite (ℕ_discrete b o.copy)
-        (λ same.
-        let f = r.whole.found o.copy p1 lives1 in
-        let n : ℕ = length (values_of f.node) in
-        let size : extent p1.shape ≡ n + 2 = ap extent (sym f.shape) ∙ extent_of f.node in
-        let has : (i : ℕ) → i + 2 < extent p1.shape → HasValue p1.owed i = (λ i h. subst (λ (z : Option Debt). HasValue z i) (sym debt1) (let y : ℕ = extent p1.shape in let u : y ≤ o.filled + 2 = full in let v : i + 2 < y = h in let w : i < o.filled = omega arith in w)) in
-        subst (λ (z : ℕ × Place). Found k live1 graph s.words z.0 z.1) (λ i. (sym same i, again b q same e i)) record {
-          node = f.node;
-          there = f.there;
-          shape = f.shape;
-          head = f.head;
-          label = f.label;
-          values = λ i v _ got. let w = f.values i v (has i (let y : ℕ = extent p1.shape in let u : y ≡ n + 2 = size in let t : i < n = got_below (values_of f.node) i v got in let w : i + 2 < y = omega arith in w)) got in
-              record { value = w.value; packs = w.packs; stands = stands_more r.account.live live1 w.value v grows w.stands };
-          old = λ low i inside _ none. f.old low i inside (has i inside) none;
-        })
-        (λ other. let f = r.whole.found b q (before b q other e) in record {
-          node = f.node;
-          there = f.there;
-          shape = f.shape;
-          head = f.head;
-          label = f.label;
-          values = λ i v h got. let w = f.values i v h got in record { value = w.value; packs = w.packs; stands = stands_more r.account.live live1 w.value v grows w.stands };
-          old = f.old;
-        })) in
+    (λ same.
+    let f = r.whole.found o.copy p1 lives1 in
+    let n : ℕ = length (values_of f.node) in
+    let size : extent p1.shape ≡ n + 2 = ap extent (sym f.shape) ∙ extent_of f.node in
+    let has : (i : ℕ) → i + 2 < extent p1.shape → HasValue p1.owed i = (λ i h. subst (λ (z : Option Debt). HasValue z i) (sym debt1) (let y : ℕ = extent p1.shape in let u : y ≤ o.filled + 2 = full in let v : i + 2 < y = h in let w : i < o.filled = omega arith in w)) in
+    subst (λ (z : ℕ × Place). Found k live1 graph s.words z.0 z.1) (λ i. (sym same i, again b q same e i)) record {
+      node = f.node;
+      there = f.there;
+      shape = f.shape;
+      head = f.head;
+      label = f.label;
+      values = λ i v _ got. let w = f.values i v (has i (let y : ℕ = extent p1.shape in let u : y ≡ n + 2 = size in let t : i < n = got_below (values_of f.node) i v got in let w : i + 2 < y = omega arith in w)) got in
+          record { value = w.value; packs = w.packs; stands = stands_more r.account.live live1 w.value v grows w.stands };
+      old = λ low i inside _ none. f.old low i inside (has i inside) none;
+    })
+    (λ other. let f = r.whole.found b q (before b q other e) in record {
+      node = f.node;
+      there = f.there;
+      shape = f.shape;
+      head = f.head;
+      label = f.label;
+      values = λ i v h got. let w = f.values i v h got in record { value = w.value; packs = w.packs; stands = stands_more r.account.live live1 w.value v grows w.stands };
+      old = f.old;
+    })) in
     let y : DomainView = with_pending x rest in
     let rule : Rule k record { words = s.words; homes = s.homes; views = set s.views id (one k hist y) } =
-        fills_again k s r id hist x at may.stage o rest may.pending None of rest s.words refl (control_same k s.words) found r.whole.grid (λ z _ h. h) (λ z h. h)
-        (rest_owed k s r id hist x at may.stage o rest may.pending None of)
-        (rest_once k s r id hist x at may.stage o rest may.pending None of)
-        (λ b q d e owed its. dite (ℕ_discrete b o.copy)
-            (λ same. absurd (no_debt_some d (ap (λ (z : Place). z.owed) (again b q same e) ∙ owed)))
-            (λ other. rest_listed k s r id hist x at may.stage o rest may.pending None of b q d other e owed its)) in (
+    fills_again k s r id hist x at may.stage o rest may.pending None of rest s.words refl (control_same k s.words) found r.whole.grid (λ z _ h. h) (λ z h. h)
+    (rest_owed k s r id hist x at may.stage o rest may.pending None of)
+    (rest_once k s r id hist x at may.stage o rest may.pending None of)
+    (λ b q d e owed its. dite (ℕ_discrete b o.copy)
+    (λ same. absurd (no_debt_some d (ap (λ (z : Place). z.owed) (again b q same e) ∙ owed)))
+    (λ other. rest_listed k s r id hist x at may.stage o rest may.pending None of b q d other e owed its)) in (
       one k hist y,
       keeps,
       tt,
@@ -356,28 +354,28 @@ fill_may k x word a new place may fits slots id hist s r _ at _ =
           (λ other. let differ : i ≢ n = other in let h : i < n + 1 = has in subst (IsOldWord k) (sym (get_or-set_other s.words (before_heap k + A) (before_heap k + (c0 + 2 + i)) new 0 (λ e. differ (omega arith)))) (f.old under i within (earlier i (omega arith)) none));
     } in
     let found : AllFound k live1 graph ws = (λ b q e. dite (ℕ_discrete b c0)
-        (λ same. subst (λ (z : ℕ × Place). Found k live1 graph ws z.0 z.1) (λ i. (sym same i, again b q same e i)) here)
-        (λ other. let fb = r.whole.found b q (before b q other e) in found_beside k r.account.live live1 graph graph s.words A new b q grows fb fb.there
-            (λ z within clash. let m : ℕ = extent q.shape in let i : z < m = within in let h : b + z ≡ A = clash in
-            ⊎_elim (λ (t : b + m ≤ c0). omega arith) (λ (t : c0 + ext ≤ b). omega arith) (r.whole.placed.apart b c0 q p1 (before b q other e) lives1 other)))) in
+    (λ same. subst (λ (z : ℕ × Place). Found k live1 graph ws z.0 z.1) (λ i. (sym same i, again b q same e i)) here)
+    (λ other. let fb = r.whole.found b q (before b q other e) in found_beside k r.account.live live1 graph graph s.words A new b q grows fb fb.there
+    (λ z within clash. let m : ℕ = extent q.shape in let i : z < m = within in let h : b + z ≡ A = clash in
+    ⊎_elim (λ (t : b + m ≤ c0). omega arith) (λ (t : c0 + ext ≤ b). omega arith) (r.whole.placed.apart b c0 q p1 (before b q other e) lives1 other)))) in
     let head : at_address k s.words c0 ≢ 0 = head_full k r.account.live graph s.words c0 p1 f in
     let beside : (m : ℕ) → Beside k r.account.tenancy s.words m A = (λ m. subst (Beside k r.account.tenancy s.words m) (let h : c0 + (2 + n) ≡ A = omega arith in h)
-        (live_beside k r.account.tenancy r.account.live s.words c0 (2 + n) p1 r.whole.pools r.whole.grid low lives1 (omega arith) (omega arith) head m)) in
+    (live_beside k r.account.tenancy r.account.live s.words c0 (2 + n) p1 r.whole.pools r.whole.grid low lives1 (omega arith) (omega arith) head m)) in
     let pending2 : List Owing = record o { filled = n + 1 } ∷ rest in
     let y : DomainView = with_pending x pending2 in
     let top : (v : Owing) → slice_get pending2 0 ≡ Some v → record o { filled = n + 1 } ≡ v = (λ v e. some_owing (record o { filled = n + 1 }) v e) in
     let owed1 = rest_owed k s r id hist x at may.stage o rest may.pending (Some d2) of in
     let apart1 = rest_apart k s r id hist x at may.stage o rest may.pending (Some d2) of in
     let rule : Rule k record { words = ws; homes = s.homes; views = set s.views id (one k hist y) } =
-        fills_again k s r id hist x at may.stage o rest may.pending (Some d2) of pending2 ws (length-set s.words (before_heap k + A) new) (control_set k s.words A new (omega arith)) found
-        (grid_beside k r.account.tenancy s.words A new r.account.live r.account.live r.whole.pools beside (more_same r.account.live) (λ b q h _. h) r.whole.grid)
-        (λ z area making. making_beside k s.words A new z (λ j fit same. live_word_far k r.account.live c0 (2 + n) p1 z lives1 (omega arith) area j fit (same ∙ (let h : A ≡ c0 + (2 + n) = omega arith in h))) making)
-        (λ z h. hunter_beside k r.account.tenancy s.words A new r.whole.pools z (beside z.own.number) h)
-        (owed_cases live1 x (record o { filled = n + 1 }) rest record { place = record p1 { owed = Some d2 }; lives = here2 k s r id hist x at may.stage o rest may.pending (Some d2) of; debt = refl } owed1)
-        (once_cases (record o { filled = n + 1 }) rest (rest_once k s r id hist x at may.stage o rest may.pending (Some d2) of) apart1)
-        (λ b q d e owed its. dite (ℕ_discrete b c0)
-            (λ same. let i = debt_same d2 d (ap (λ (z : Place). z.owed) (again b q same e) ∙ owed) in (0, (λ j. Some (record { copy = sym same j; source = (i j).source; filled = (i j).filled }))))
-            (λ other. let t = rest_listed k s r id hist x at may.stage o rest may.pending (Some d2) of b q d other e owed its in (suc t.0, t.1))) in (
+    fills_again k s r id hist x at may.stage o rest may.pending (Some d2) of pending2 ws (length-set s.words (before_heap k + A) new) (control_set k s.words A new (omega arith)) found
+    (grid_beside k r.account.tenancy s.words A new r.account.live r.account.live r.whole.pools beside (more_same r.account.live) (λ b q h _. h) r.whole.grid)
+    (λ z area making. making_beside k s.words A new z (λ j fit same. live_word_far k r.account.live c0 (2 + n) p1 z lives1 (omega arith) area j fit (same ∙ (let h : A ≡ c0 + (2 + n) = omega arith in h))) making)
+    (λ z h. hunter_beside k r.account.tenancy s.words A new r.whole.pools z (beside z.own.number) h)
+    (owed_cases live1 x (record o { filled = n + 1 }) rest record { place = record p1 { owed = Some d2 }; lives = here2 k s r id hist x at may.stage o rest may.pending (Some d2) of; debt = refl } owed1)
+    (once_cases (record o { filled = n + 1 }) rest (rest_once k s r id hist x at may.stage o rest may.pending (Some d2) of) apart1)
+    (λ b q d e owed its. dite (ℕ_discrete b c0)
+    (λ same. let i = debt_same d2 d (ap (λ (z : Place). z.owed) (again b q same e) ∙ owed) in (0, (λ j. Some (record { copy = sym same j; source = (i j).source; filled = (i j).filled }))))
+    (λ other. let t = rest_listed k s r id hist x at may.stage o rest may.pending (Some d2) of b q d other e owed its in (suc t.0, t.1))) in (
       one k hist y,
       keeps,
       tt,

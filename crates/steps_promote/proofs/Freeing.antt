@@ -1,5 +1,5 @@
 -- A prepared place is given back, and the words of one are written.
-use Rattle.std.proofs.Common.{◌≡◌, ◌≢◌, ℕ, ◌+◌, ◌*◌, ◌<◌, ◌≤◌, ◌⊎◌, List, [], length, get_or, set, slice_get, Option, Some, None, sym, refl, ap, ◌∙◌, subst, inl, inr, ⊎_elim, arith, lt_of_not-le, length-set, get_or-set_same, get_or-set_other}
+use Rattle.std.proofs.Common.{◌≡◌, ◌≢◌, ℕ, ◌+◌, ◌*◌, ◌<◌, ◌≤◌, List, length, get_or, set, Option, Some, None, sym, refl, ap, ◌∙◌, subst, inl, inr, ⊎_elim, arith, lt_of_not-le, length-set, get_or-set_same, get_or-set_other}
 use mathlib.Core.Logic.{dite}
 use native.Mathlib.Decide.{ℕ_discrete, dec_le}
 use mathlib.Core.Option.{some}
@@ -10,24 +10,22 @@ use Rattle.heap_model.specs.Domains.{class_count}
 use Rattle.heap_rule.specs.declared.config.Config.{Config}
 use Rattle.heap_rule.specs.declared.view.Hunt.{Hunt}
 use Rattle.heap_rule.specs.declared.view.Hunt.TheVariants.{Rests, Labels, Heads}
-use Rattle.heap_rule.specs.declared.view.Own.{Own}
 use Rattle.heap_rule.specs.declared.view.Spot.{Spot}
 use Rattle.heap_rule.specs.declared.view.DomainView.{DomainView}
-use Rattle.heap_rule.specs.declared.view.View.{View}
 use Rattle.heap_rule.specs.declared.phase.Kind.TheVariants.{Promote}
 use Rattle.heap_rule.specs.declared.phase.Stage.TheVariants.{In}
 use Rattle.heap_rule.specs.Layout.{before_heap, at_address, listed, cursor}
 use Rattle.heap_rule.specs.Places.{Place, Live}
-use Rattle.heap_rule.specs.Pools.{limit_of, owned, drawn, drawn_in, Tenancy, Pools, Hunts, Hunter, OwnPlace, IsSpare, Grid, Latest, DrawsFor, Drawers, IsBefore, spot_at, place_in, size_of, blocks_of, prepared_at}
+use Rattle.heap_rule.specs.Pools.{limit_of, owned, drawn_in, Tenancy, Hunts, Hunter, OwnPlace, Grid, Latest, DrawsFor, IsBefore, spot_at, place_in, size_of, blocks_of, prepared_at}
 use Rattle.heap_rule.specs.Raw.{MayStore, Closes}
-use Rattle.heap_rule.specs.Rule.{state_of, Rule}
-use Rattle.heap_rule.specs.Token.{LooksWithin, OwnFits}
+use Rattle.heap_rule.specs.Rule.{Rule}
+use Rattle.heap_rule.specs.Token.{OwnFits}
 use Rattle.heap_rule.specs.Views.{one}
 use Rattle.steps_promote.specs.Claims.{preparing, with_hunt, LabelStoreMay, LabelStoreTold, HeadStoreMay, HeadStoreTold, FreeMay, freed, FreedTold}
 use Rattle.steps_promote.specs.Writes.{CanPrepare, Frees}
 use Rattle.heap_rule.proofs.Classes.{size_least, slot_below, slot_inside}
 use Rattle.heap_rule.proofs.Holders.{SameFor, agrees_same, hunter_agree, stock_self}
-use Rattle.heap_rule.proofs.Keeps.{Words, mine, my_good, control_set, pools_same, room_words, opened_words, owes_as, more_same}
+use Rattle.heap_rule.proofs.Keeps.{Words, my_good, control_set, pools_same, room_words, opened_words, owes_as, more_same}
 use Rattle.heap_rule.proofs.Lots.{hunter_beside}
 use Rattle.heap_rule.proofs.Update.{over, over_here, over_else}
 use Rattle.steps_promote.proofs.OwnPlaces as places
@@ -51,7 +49,7 @@ before_trans : (q i pool slot : ℕ) (spot : Spot) → IsBefore q i (record { po
 before_trans q i pool slot spot a b = ⊎_elim
     (λ (h : q < pool). ⊎_elim (λ (g : pool < spot.pool). inl (let o : q < spot.pool = omega arith in o)) (λ (g : (pool ≡ spot.pool) × (slot < spot.slot)). let e : pool ≡ spot.pool = g.0 in inl (let o : q < spot.pool = omega arith in o)) b)
     (λ (h : (q ≡ pool) × (i < slot)). let e : q ≡ pool = h.0 in let f : i < slot = h.1 in
-        ⊎_elim (λ (g : pool < spot.pool). inl (let o : q < spot.pool = omega arith in o)) (λ (g : (pool ≡ spot.pool) × (slot < spot.slot)). let u : pool ≡ spot.pool = g.0 in let v : slot < spot.slot = g.1 in inr ((let o : q ≡ spot.pool = omega arith in o), (let o : i < spot.slot = omega arith in o))) b)
+    ⊎_elim (λ (g : pool < spot.pool). inl (let o : q < spot.pool = omega arith in o)) (λ (g : (pool ≡ spot.pool) × (slot < spot.slot)). let u : pool ≡ spot.pool = g.0 in let v : slot < spot.slot = g.1 in inr ((let o : q ≡ spot.pool = omega arith in o), (let o : i < spot.slot = omega arith in o))) b)
     a
 
 before_self : (q i : ℕ) → IsBefore q i (record { pool = q; slot = i }) → ⊥
@@ -102,7 +100,6 @@ module _ (k : Config) (s : Words) (r : Rule k s) (id : ℕ) (hist : List Entry) 
 
     pub others : (z : DomainView) → z.own.number ≢ me → Hunter k t s.words z → Hunter k t ws z
     others z other h = hunter_beside k t s.words (a + i) new r.whole.pools z (places.others_beside k s r id hist x at a o empty i new four z.own.number other) h
-
 
     -- the head at the place is no Free afterwards: the place stays prepared
     module _ (head : at_address k ws a ≢ 0) (y : DomainView) (hunt : Hunt) (y_is : y ≡ with_hunt x hunt) (hunts : Hunts k t ws me hunt) (draws : drawn_in x.seen.hunt ≡ None) (class_none : (c : ℕ) → DrawsFor c x.seen.hunt → ⊥) where
@@ -215,8 +212,8 @@ module _ (k : Config) (s : Words) (r : Rule k s) (id : ℕ) (hist : List Entry) 
       places = λ q d c j owned_is below. dite (ℕ_discrete (place_in q c j) a)
           (λ same. inl (ap (at_address k w0) same ∙ free))
           (λ other. ⊎_elim (λ (z : at_address k s.words (place_in q c j) ≡ 0). inl (stays0 q d c j owned_is below other ∙ z))
-              (λ z. inr (⊎_elim (λ (v : (p : Place) × (live (place_in q c j) ≡ Some p)). inl v) (λ (v : t.prepared (place_in q c j) ≡ Some d). inr (over_else a None t.prepared (place_in q c j) other ∙ v)) z))
-              (r.whole.grid.places q d c j owned_is below));
+          (λ z. inr (⊎_elim (λ (v : (p : Place) × (live (place_in q c j) ≡ Some p)). inl v) (λ (v : t.prepared (place_in q c j) ≡ Some d). inr (over_else a None t.prepared (place_in q c j) other ∙ v)) z))
+          (r.whole.grid.places q d c j owned_is below));
       spares = λ b d is. let u = was b d is in let sp = r.whole.grid.spares b d u.1 in let own = sp.own in record {
         own = own;
         head = λ e. sp.head (ap (at_address k s.words) own.begins ∙ (sym (stays0 own.pool d own.class own.slot own.owned_is own.inside (λ same. u.0 (own.begins ∙ same))) ∙ (ap (at_address k w0) (sym own.begins) ∙ e)));
@@ -244,8 +241,8 @@ module _ (k : Config) (s : Words) (r : Rule k s) (id : ℕ) (hist : List Entry) 
       rest = λ j low below. dite (ℕ_discrete (place_in (t.stock.latest me c) c j) a)
           (λ same. inl (ap (at_address k w0) same ∙ free))
           (λ other. ⊎_elim (λ (z : at_address k s.words (place_in (t.stock.latest me c) c j) ≡ 0). inl (stays0 (t.stock.latest me c) me c j l.own_is below other ∙ z))
-              (λ (z : (j ≡ t.stock.used me c) × (t.prepared (place_in (t.stock.latest me c) c j) ≡ Some me)). inr (z.0, over_else a None t.prepared (place_in (t.stock.latest me c) c j) other ∙ z.1))
-              (l.rest j low below));
+          (λ (z : (j ≡ t.stock.used me c) × (t.prepared (place_in (t.stock.latest me c) c j) ≡ Some me)). inr (z.0, over_else a None t.prepared (place_in (t.stock.latest me c) c j) other ∙ z.1))
+          (l.rest j low below));
     }
 
     hunter0 : Hunter k t' w0 y
@@ -359,10 +356,10 @@ head_store_may k x word a new place may fits slots id hist s r _ at _ =
 before_dec : (pool slot : ℕ) (spot : Spot) → Dec (IsBefore pool slot spot)
 before_dec pool slot spot = dite (dec_le spot.pool pool)
     (λ le. dite (ℕ_discrete pool spot.pool)
-        (λ same. dite (dec_le spot.slot slot)
-            (λ past. no (λ b. ⊎_elim (λ (h : pool < spot.pool). let l : spot.pool ≤ pool = le in omega arith) (λ (h : (pool ≡ spot.pool) × (slot < spot.slot)). let l : spot.slot ≤ slot = past in let f = h.1 in omega arith) b))
-            (λ here. yes (inr (same, lt_of_not-le here))))
-        (λ other. no (λ b. ⊎_elim (λ (h : pool < spot.pool). let l : spot.pool ≤ pool = le in omega arith) (λ (h : (pool ≡ spot.pool) × (slot < spot.slot)). other h.0) b)))
+    (λ same. dite (dec_le spot.slot slot)
+    (λ past. no (λ b. ⊎_elim (λ (h : pool < spot.pool). let l : spot.pool ≤ pool = le in omega arith) (λ (h : (pool ≡ spot.pool) × (slot < spot.slot)). let l : spot.slot ≤ slot = past in let f = h.1 in omega arith) b))
+    (λ here. yes (inr (same, lt_of_not-le here))))
+    (λ other. no (λ b. ⊎_elim (λ (h : pool < spot.pool). let l : spot.pool ≤ pool = le in omega arith) (λ (h : (pool ≡ spot.pool) × (slot < spot.slot)). other h.0) b)))
     (λ gt. yes (inl (lt_of_not-le gt)))
 
 -- two places of a class at one address
@@ -373,12 +370,14 @@ same_place k class q i pool slot few inside inside' same =
     let top' : w + y ≤ 4096 = slot_inside class slot few inside' in
     let large : 4 ≤ y = size_least class few in
     let at : q * 4096 + u + 1 ≡ pool * 4096 + w + 1 = same in
-    let here : q ≡ pool = omega arith in
-    (here, dite (ℕ_discrete i slot)
-        (λ eq. eq)
-        (λ ne. absurd (dite (dec_le i slot)
-            (λ below. let g : u + y ≤ w = slot_below class i slot (let b : i ≤ slot = below in let n : i ≢ slot = ne in omega arith) in omega arith)
-            (λ above. let g : w + y ≤ u = slot_below class slot i (lt_of_not-le above) in omega arith))))
+    let here : q ≡ pool = omega arith in (
+      here,
+      dite (ℕ_discrete i slot)
+          (λ eq. eq)
+          (λ ne. absurd (dite (dec_le i slot)
+          (λ below. let g : u + y ≤ w = slot_below class i slot (let b : i ≤ slot = below in let n : i ≢ slot = ne in omega arith) in omega arith)
+          (λ above. let g : w + y ≤ u = slot_below class slot i (lt_of_not-le above) in omega arith))),
+    )
 
 -- which places come before the one from which the search goes on
 abbrev earlier_spot : (x : DomainView) (pool class slot : ℕ) → List Spot
@@ -403,12 +402,13 @@ free_may k x word a pool class slot place may fits slots id hist s r _ at _ =
       subst (λ (n : ℕ). Rule k record { words = set s.words n 0; homes = s.homes; views = set s.views id (one k hist y) }) (sym (place ∙ (let g : before_heap k + a ≡ before_heap k + (a + 0) = omega arith in g)))
           (frees_rule k s r id hist x at may.stage a class may.of_class may.prepared (earlier_spot x pool class slot)
           (λ q c j owned_is below low. dite (ℕ_discrete c class)
-              (λ same.
-              let spot : spot_at (earlier_spot x pool class slot) c ≡ record { pool = pool; slot = slot } = ap (spot_at (earlier_spot x pool class slot)) same ∙ looked_here x.own.looked class (record { pool = pool; slot = slot }) fits.looked.wide may.of_class in
-              let low' : IsBefore q j (record { pool = pool; slot = slot }) = subst (IsBefore q j) spot low in
-              (subst (λ (n : ℕ). IsBefore q j (spot_at x.own.looked n)) (sym same) (before_trans q j pool slot (spot_at x.own.looked class) low' before),
-                  (λ here. let z = spot_at_place q c j owned_is below here in before_self pool slot (subst (λ (n : ℕ × ℕ). IsBefore n.0 n.1 (record { pool = pool; slot = slot })) (λ i. ((z.0 ∙ pool_is.0) i, (z.2 ∙ pool_is.1) i)) low'))))
-              (λ other. (subst (IsBefore q j) (looked_else x.own.looked class c (record { pool = pool; slot = slot }) other) low, (λ here. other (spot_at_place q c j owned_is below here).1))))
+          (λ same.
+          let spot : spot_at (earlier_spot x pool class slot) c ≡ record { pool = pool; slot = slot } = ap (spot_at (earlier_spot x pool class slot)) same ∙ looked_here x.own.looked class (record { pool = pool; slot = slot }) fits.looked.wide may.of_class in
+          let low' : IsBefore q j (record { pool = pool; slot = slot }) = subst (IsBefore q j) spot low in (
+            subst (λ (n : ℕ). IsBefore q j (spot_at x.own.looked n)) (sym same) (before_trans q j pool slot (spot_at x.own.looked class) low' before),
+            (λ here. let z = spot_at_place q c j owned_is below here in before_self pool slot (subst (λ (n : ℕ × ℕ). IsBefore n.0 n.1 (record { pool = pool; slot = slot })) (λ i. ((z.0 ∙ pool_is.0) i, (z.2 ∙ pool_is.1) i)) low')),
+          ))
+          (λ other. (subst (IsBefore q j) (looked_else x.own.looked class c (record { pool = pool; slot = slot }) other) low, (λ here. other (spot_at_place q c j owned_is below here).1))))
           d.0 d.1 may.at_rest fits.prepared),
       (record { earlier = λ _. refl; later = λ n. absurd (n before) }, refl),
     ))
@@ -419,8 +419,11 @@ free_may k x word a pool class slot place may fits slots id hist s r _ at _ =
       tt,
       subst (λ (n : ℕ). Rule k record { words = set s.words n 0; homes = s.homes; views = set s.views id (one k hist y) }) (sym (place ∙ (let g : before_heap k + a ≡ before_heap k + (a + 0) = omega arith in g)))
           (frees_rule k s r id hist x at may.stage a class may.of_class may.prepared x.own.looked
-          (λ q c j owned_is below low. (low, (λ here. let z = spot_at_place q c j owned_is below here in
-              not_before (subst (λ (n : ℕ × ℕ × ℕ). IsBefore n.0 n.1 (spot_at x.own.looked n.2)) (λ i. ((z.0 ∙ pool_is.0) i, (z.2 ∙ pool_is.1) i, z.1 i)) low))))
+          (λ q c j owned_is below low. (
+            low,
+            (λ here. let z = spot_at_place q c j owned_is below here in
+                not_before (subst (λ (n : ℕ × ℕ × ℕ). IsBefore n.0 n.1 (spot_at x.own.looked n.2)) (λ i. ((z.0 ∙ pool_is.0) i, (z.2 ∙ pool_is.1) i, z.1 i)) low)),
+          ))
           d.0 d.1 may.at_rest fits.prepared),
       (record { earlier = λ b. absurd (not_before b); later = λ _. refl }, refl),
     ))

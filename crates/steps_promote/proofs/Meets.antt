@@ -1,15 +1,14 @@
 -- Loads at which a domain that copies meets blocks.
-use Rattle.std.proofs.Common.{◌≡◌, ◌≢◌, ℕ, ◌+◌, ◌*◌, ◌<◌, ◌≤◌, ◌⊎◌, cond, eqb, eq-eqb, ne_eqb, Bool, false, List, [], ◌∷◌, length, get_or, set, slice_get, Option, Some, None, unwrap_or, sym, refl, ap, ◌∙◌, subst, inl, inr, ⊎_elim, arith}
+use Rattle.std.proofs.Common.{◌≡◌, ◌≢◌, ℕ, ◌+◌, ◌*◌, ◌<◌, ◌≤◌, cond, eq-eqb, ne_eqb, Bool, false, List, ◌∷◌, length, get_or, set, slice_get, Option, Some, None, sym, refl, ap, ◌∙◌, subst, inl, inr, ⊎_elim, arith}
 use mathlib.Core.Logic.{dite}
 use native.Mathlib.Decide.{ℕ_discrete}
 use mathlib.Core.Option.{some}
 use lib.ListN.{get_elem?}
-use Rattle.atomic_table.specs.Table.{keeps, Allows}
+use Rattle.atomic_table.specs.Table.{keeps}
 use Rattle.heap_model.specs.declared.label.Label.{Label}
 use Rattle.heap_model.specs.declared.entry.Entry.{Entry}
 use Rattle.heap_model.specs.declared.graph.Value as graph_value
 use Rattle.heap_model.specs.declared.graph.Value.TheVariants.{Int, Block, Nothing}
-use Rattle.heap_model.specs.declared.graph.Node.{Node}
 use Rattle.heap_model.specs.declared.state.State as model
 use Rattle.heap_model.specs.Graph.{node_at}
 use Rattle.heap_model.specs.Fronts.{Shape, PlainShape, RawShape, EpheShape}
@@ -18,19 +17,16 @@ use Rattle.heap_words.specs.declared.value.Value.TheVariants.{Int as IntWord, Re
 use Rattle.heap_words.specs.Labels.{label_word}
 use Rattle.heap_rule.specs.declared.config.Config.{Config}
 use Rattle.heap_rule.specs.declared.view.Met.{Met}
-use Rattle.heap_rule.specs.declared.view.Copying.{Copying}
 use Rattle.heap_rule.specs.declared.view.DomainView.{DomainView}
-use Rattle.heap_rule.specs.declared.view.View.{View}
 use Rattle.heap_rule.specs.declared.phase.Kind.TheVariants.{Promote}
-use Rattle.heap_rule.specs.declared.phase.Stage.{Stage}
 use Rattle.heap_rule.specs.declared.phase.Stage.TheVariants.{In}
 use Rattle.heap_rule.specs.Layout.{heap_words, before_heap, at_address}
-use Rattle.heap_rule.specs.Places.{Debt, Place, Live, extent, values_of, unmarked, HeadIs, HasValue, IsBuilt, Stands, Found, IsOldAt, Lasts, More}
+use Rattle.heap_rule.specs.Places.{Debt, Place, Live, extent, values_of, unmarked, HeadIs, HasValue, IsBuilt, Stands, Lasts, More}
 use Rattle.heap_rule.specs.Phases.{IsInPause}
-use Rattle.heap_rule.specs.Copies.{met_place, shape_of_form, known, Owes, IsOwed}
+use Rattle.heap_rule.specs.Copies.{met_place, shape_of_form, known}
 use Rattle.heap_rule.specs.Raw.{MayStep}
-use Rattle.heap_rule.specs.Rule.{state_of, Rule, Stood}
-use Rattle.heap_rule.specs.Views.{one, Tells}
+use Rattle.heap_rule.specs.Rule.{state_of, Rule}
+use Rattle.heap_rule.specs.Views.{one}
 use Rattle.heap_rule.specs.Standing.{IsAt}
 use Rattle.steps_promote.specs.Promotion.{form_of, met_of, with_met, meeting, Knows, HeadMay, StaysThere, Forwards, HeadMet, LabelMay, LabelMet, HasValueAt, ValueMay, ValueMet, RecallMay, Recalled}
 use Rattle.heap_rule.proofs.Again.{met_fits}
@@ -40,7 +36,7 @@ use Rattle.heap_rule.proofs.Values.{address_of, packable}
 use Rattle.heap_rule.proofs.Lists.{got_there}
 use Rattle.heap_rule.proofs.Drops.{debt_cases}
 use Rattle.heap_rule.proofs.Lots.{number_cases}
-use Rattle.heap_rule.proofs.Keeps.{Words, mine, my_good, remakes, knows_front, control_same, hunter_as, unmoved, more_same, stands_more}
+use Rattle.heap_rule.proofs.Keeps.{Words, my_good, control_same, hunter_as, unmoved, more_same, stands_more}
 use Rattle.steps_promote.proofs.Remaking.{promotes_again, stood_same}
 
 pub form_shape : (s : Shape) → IsBuilt s → shape_of_form (form_of s) ≡ s
@@ -167,47 +163,47 @@ module _ (k : Config) (s : Words) (r : Rule k s) (id : ℕ) (hist : List Entry) 
       let grows1 : More (known ms) (known (m ∷ ms)) = known_more live m ms knows lasts in
       let packs = (r.whole.placed.fits a p lives).head in
       ⊎_elim
-          (λ (none : p.forward ≡ None). record {
-            after = meeting x m;
-            rule = meets_rule (m ∷ ms) more1;
-            told = record {
-              place = p;
-              built = built a p lives;
-              packable = packs;
-              here = known_met a p ms (built a p lives);
-              more = grows1;
-              fit = met_fits k (known (m ∷ ms)) live more1 r.whole.placed;
-              told = inl record { head = subst (λ (o : Option ℕ). HeadIs o p.shape unmarked false (at_address k s.words a)) none f.head; view = refl };
-            };
-          })
-          (λ (t : (c : ℕ) × (p.forward ≡ Some c)).
-          let c : ℕ = t.0 in
-          let l = r.whole.copies.leads a p c lives t.1 in
-          let n : Met = met_of c p in
-          let its : Lasts live c (met_place n) = record { place = l.place; lives = l.lives; label = l.label; shape = l.shape ∙ sym (form_shape p.shape (built a p lives)) } in
-          let fits = address_of k c l.place (r.whole.placed.fits c l.place l.lives) in
-          record {
-            after = meeting (meeting x m) n;
-            rule = meets_rule (n ∷ m ∷ ms) (knows_more live n (m ∷ ms) more1 its);
-            told = record {
-              place = p;
-              built = built a p lives;
-              packable = packs;
-              here = lasts_more (known (m ∷ ms)) (known (n ∷ m ∷ ms)) a p (known_more live n (m ∷ ms) more1 its) (known_met a p ms (built a p lives));
-              more = more_trans (known ms) (known (m ∷ ms)) (known (n ∷ m ∷ ms)) grows1 (known_more live n (m ∷ ms) more1 its);
-              fit = met_fits k (known (n ∷ m ∷ ms)) live (knows_more live n (m ∷ ms) more1 its) r.whole.placed;
-              told = inr record {
-                copy = c;
-                word = subst (λ (o : Option ℕ). HeadIs o p.shape unmarked false (at_address k s.words a)) t.1 f.head;
-                young = l.young;
-                old = l.old;
-                inside = (fits.0, let w : ℕ = heap_words k in let h : c + 2 ≤ w = fits.1 in let e : c ≤ w = omega arith in e);
-                view = refl;
-                there = known_met c p (m ∷ ms) (built a p lives);
-              };
-            };
-          })
-          (number_cases p.forward)
+      (λ (none : p.forward ≡ None). record {
+        after = meeting x m;
+        rule = meets_rule (m ∷ ms) more1;
+        told = record {
+          place = p;
+          built = built a p lives;
+          packable = packs;
+          here = known_met a p ms (built a p lives);
+          more = grows1;
+          fit = met_fits k (known (m ∷ ms)) live more1 r.whole.placed;
+          told = inl record { head = subst (λ (o : Option ℕ). HeadIs o p.shape unmarked false (at_address k s.words a)) none f.head; view = refl };
+        };
+      })
+      (λ (t : (c : ℕ) × (p.forward ≡ Some c)).
+      let c : ℕ = t.0 in
+      let l = r.whole.copies.leads a p c lives t.1 in
+      let n : Met = met_of c p in
+      let its : Lasts live c (met_place n) = record { place = l.place; lives = l.lives; label = l.label; shape = l.shape ∙ sym (form_shape p.shape (built a p lives)) } in
+      let fits = address_of k c l.place (r.whole.placed.fits c l.place l.lives) in
+      record {
+        after = meeting (meeting x m) n;
+        rule = meets_rule (n ∷ m ∷ ms) (knows_more live n (m ∷ ms) more1 its);
+        told = record {
+          place = p;
+          built = built a p lives;
+          packable = packs;
+          here = lasts_more (known (m ∷ ms)) (known (n ∷ m ∷ ms)) a p (known_more live n (m ∷ ms) more1 its) (known_met a p ms (built a p lives));
+          more = more_trans (known ms) (known (m ∷ ms)) (known (n ∷ m ∷ ms)) grows1 (known_more live n (m ∷ ms) more1 its);
+          fit = met_fits k (known (n ∷ m ∷ ms)) live (knows_more live n (m ∷ ms) more1 its) r.whole.placed;
+          told = inr record {
+            copy = c;
+            word = subst (λ (o : Option ℕ). HeadIs o p.shape unmarked false (at_address k s.words a)) t.1 f.head;
+            young = l.young;
+            old = l.old;
+            inside = (fits.0, let w : ℕ = heap_words k in let h : c + 2 ≤ w = fits.1 in let e : c ≤ w = omega arith in e);
+            view = refl;
+            there = known_met c p (m ∷ ms) (built a p lives);
+          };
+        };
+      })
+      (number_cases p.forward)
 
   -- a value that a block holds is met
   record Meets (v : Value) (g : graph_value.Value) : Type 0 where
@@ -246,7 +242,7 @@ module _ (k : Config) (s : Words) (r : Rule k s) (id : ℕ) (hist : List Entry) 
       let p : Place = l.place in
       let f = r.whole.found b p l.lives in
       let paid : p.owed ≡ None = ⊎_elim (λ (e : p.owed ≡ None). e)
-          (λ (t : (o : Debt) × (p.owed ≡ Some o)). absurd (let old : b ≤ k.pools * 4096 = (r.whole.copies.pends b p t.0 l.lives t.1).old in let young : k.pools * 4096 < b = may.young in omega arith)) (debt_cases p.owed) in
+      (λ (t : (o : Debt) × (p.owed ≡ Some o)). absurd (let old : b ≤ k.pools * 4096 = (r.whole.copies.pends b p t.0 l.lives t.1).old in let young : k.pools * 4096 < b = may.young in omega arith)) (debt_cases p.owed) in
       let n : ℕ = length (values_of f.node) in
       let size : extent p.shape ≡ n + 2 = ap extent (sym f.shape) ∙ extent_of f.node in
       let z : ℕ = extent p.shape in let z' : ℕ = extent may.place.shape in let zz : z ≡ z' = ap extent l.shape in

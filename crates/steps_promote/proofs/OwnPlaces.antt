@@ -1,23 +1,21 @@
 -- A place of an own pool at which no block lives: what a store to its first two words leaves.
-use Rattle.std.proofs.Common.{◌≡◌, ◌≢◌, ℕ, ◌+◌, ◌*◌, ◌<◌, ◌≤◌, ◌⊎◌, List, length, get_or, set, slice_get, Option, Some, None, sym, refl, ap, ◌∙◌, subst, inl, inr, ⊎_elim, arith, lt_of_not-le}
+use Rattle.std.proofs.Common.{◌≡◌, ◌≢◌, ℕ, ◌+◌, ◌*◌, ◌<◌, ◌≤◌, ◌⊎◌, List, length, set, Option, Some, None, sym, refl, ap, ◌∙◌, inl, inr, arith, lt_of_not-le}
 use mathlib.Core.Logic.{dite}
 use native.Mathlib.Decide.{ℕ_discrete, dec_le}
 use mathlib.Core.Option.{some}
 use lib.ListN.{get_elem?}
 use Rattle.heap_model.specs.declared.entry.Entry.{Entry}
 use Rattle.heap_model.specs.Domains.{class_count}
-use Rattle.heap_model.specs.Graph.{Graph}
 use Rattle.heap_rule.specs.declared.config.Config.{Config}
 use Rattle.heap_rule.specs.declared.view.DomainView.{DomainView}
-use Rattle.heap_rule.specs.declared.view.View.{View}
-use Rattle.heap_rule.specs.Layout.{before_heap, base_of, heap_words, at_address}
-use Rattle.heap_rule.specs.Places.{Place, Live, extent}
-use Rattle.heap_rule.specs.Pools.{Holder, drawn, owned, Tenancy, Pools, Grid, OwnPlace, Hunter, Latest, place_in, size_of, blocks_of}
+use Rattle.heap_rule.specs.Layout.{before_heap, heap_words, at_address}
+use Rattle.heap_rule.specs.Places.{Place, extent}
+use Rattle.heap_rule.specs.Pools.{Holder, drawn, owned, Tenancy, Pools, OwnPlace, place_in, size_of, blocks_of}
 use Rattle.heap_rule.specs.Rule.{state_of, AllFound, Making, Rule}
 use Rattle.heap_rule.specs.Views.{one}
 use Rattle.heap_rule.proofs.Beside.{found_beside, making_beside}
 use Rattle.heap_rule.proofs.Classes.{size_least, slot_below, slot_inside}
-use Rattle.heap_rule.proofs.Keeps.{Words, mine, my_good, more_same}
+use Rattle.heap_rule.proofs.Keeps.{Words, more_same}
 use Rattle.heap_rule.proofs.Lots.{Beside, pool_beside, owned_same, stays}
 
 drawn_owned : (d e c : ℕ) → ◌≡◌ {A = Holder} (drawn d) (owned e c) → ⊥
@@ -39,12 +37,16 @@ place_sole k t words q d c i pool e class slot p is inside is' inside' same =
     let here : q ≡ pool = omega arith in
     let both = owned_same d e c class (sym is ∙ (ap t.holder here ∙ is')) in
     let u' : ℕ = i * size_of class in
-    let u_is : u ≡ u' = ap (λ (z : ℕ). i * size_of z) both.1 in
-    (here, both.0, both.1, dite (ℕ_discrete i slot)
-        (λ eq. eq)
-        (λ ne. absurd (dite (dec_le i slot)
-            (λ below. let g : u' + y ≤ w = slot_below class i slot (let b : i ≤ slot = below in let n : i ≢ slot = ne in omega arith) in omega arith)
-            (λ above. let g : w + y ≤ u' = slot_below class slot i (lt_of_not-le above) in omega arith))))
+    let u_is : u ≡ u' = ap (λ (z : ℕ). i * size_of z) both.1 in (
+      here,
+      both.0,
+      both.1,
+      dite (ℕ_discrete i slot)
+          (λ eq. eq)
+          (λ ne. absurd (dite (dec_le i slot)
+          (λ below. let g : u' + y ≤ w = slot_below class i slot (let b : i ≤ slot = below in let n : i ≢ slot = ne in omega arith) in omega arith)
+          (λ above. let g : w + y ≤ u' = slot_below class slot i (lt_of_not-le above) in omega arith))),
+    )
 
 module _ (k : Config) (s : Words) (r : Rule k s) (id : ℕ) (hist : List Entry) (x : DomainView) (at : get_elem? s.views id ≡ some (one k hist x)) (a : ℕ) (o : OwnPlace r.account.tenancy.holder a x.own.number) (empty : r.account.live a ≡ None) where
   abbrev t : Tenancy
@@ -107,11 +109,11 @@ module _ (k : Config) (s : Words) (r : Rule k s) (id : ℕ) (hist : List Entry) 
       let h' : ℕ = l.slot * size_of o.class in
       let uh : u ≡ h' = ap (λ (d : ℕ). l.slot * size_of d) both.1 in
       dite (ℕ_discrete l.slot o.slot)
-          (λ eq. let hm : h' ≡ m = ap (λ (d : ℕ). d * size_of o.class) eq in
-              let ba : b ≡ a = omega arith in let none : ◌≡◌ {A = Option Place} None (Some q) = sym empty ∙ (ap r.account.live (sym ba) ∙ lives) in cc)
-          (λ ne. dite (dec_le l.slot o.slot)
-              (λ below. let g : h' + y ≤ m = slot_below o.class l.slot o.slot (let p : l.slot ≤ o.slot = below in let nn : l.slot ≢ o.slot = ne in omega arith) in omega arith)
-              (λ above. let g : m + y ≤ h' = slot_below o.class o.slot l.slot (lt_of_not-le above) in omega arith)))
+      (λ eq. let hm : h' ≡ m = ap (λ (d : ℕ). d * size_of o.class) eq in
+      let ba : b ≡ a = omega arith in let none : ◌≡◌ {A = Option Place} None (Some q) = sym empty ∙ (ap r.account.live (sym ba) ∙ lives) in cc)
+      (λ ne. dite (dec_le l.slot o.slot)
+      (λ below. let g : h' + y ≤ m = slot_below o.class l.slot o.slot (let p : l.slot ≤ o.slot = below in let nn : l.slot ≢ o.slot = ne in omega arith) in omega arith)
+      (λ above. let g : m + y ≤ h' = slot_below o.class o.slot l.slot (lt_of_not-le above) in omega arith)))
       (λ gt. let g : k.pools * 4096 < b = lt_of_not-le gt in let p : a + i ≤ o.pool * 4096 + 4096 = (in_pool i h).1 in let q' : o.pool < k.pools = inside_pools in let clash : b + j ≡ a + i = same in omega arith)
 
   module _ (i new : ℕ) (small : i < 4) where
@@ -149,10 +151,10 @@ module _ (k : Config) (s : Words) (r : Rule k s) (id : ℕ) (hist : List Entry) 
           let h' : ℕ = j * size_of o.class in
           let uh : u ≡ h' = ap (λ (n : ℕ). j * size_of n) both.1 in
           dite (ℕ_discrete j o.slot)
-              (λ eq. let hm : h' ≡ m = ap (λ (n : ℕ). n * size_of o.class) eq in let ne : q * 4096 + u + 1 ≢ a = other in omega arith)
-              (λ ne. dite (dec_le j o.slot)
-                  (λ le. let g : h' + y ≤ m = slot_below o.class j o.slot (let p : j ≤ o.slot = le in let nn : j ≢ o.slot = ne in omega arith) in omega arith)
-                  (λ gt. let g : m + y ≤ h' = slot_below o.class o.slot j (lt_of_not-le gt) in omega arith))
+          (λ eq. let hm : h' ≡ m = ap (λ (n : ℕ). n * size_of o.class) eq in let ne : q * 4096 + u + 1 ≢ a = other in omega arith)
+          (λ ne. dite (dec_le j o.slot)
+          (λ le. let g : h' + y ≤ m = slot_below o.class j o.slot (let p : j ≤ o.slot = le in let nn : j ≢ o.slot = ne in omega arith) in omega arith)
+          (λ gt. let g : m + y ≤ h' = slot_below o.class o.slot j (lt_of_not-le gt) in omega arith))
 
   -- no live block shares a word with the whole place
   pub apart : (b : ℕ) (q : Place) → r.account.live b ≡ Some q → (b + extent q.shape ≤ a) ⊎ (a + size_of o.class ≤ b)
@@ -179,14 +181,14 @@ module _ (k : Config) (s : Words) (r : Rule k s) (id : ℕ) (hist : List Entry) 
       let uh : u ≡ h' = ap (λ (d : ℕ). l.slot * size_of d) both.1 in
       let here : l.pool ≡ o.pool = same in
       dite (ℕ_discrete l.slot o.slot)
-          (λ eq. let hm : h' ≡ m = ap (λ (d : ℕ). d * size_of o.class) eq in
-              let ba : b ≡ a = omega arith in absurd (let none : ◌≡◌ {A = Option Place} None (Some q) = sym empty ∙ (ap r.account.live (sym ba) ∙ lives) in cc))
-          (λ ne. dite (dec_le l.slot o.slot)
-              (λ below. let g : h' + y ≤ m = slot_below o.class l.slot o.slot (let p : l.slot ≤ o.slot = below in let nn : l.slot ≢ o.slot = ne in omega arith) in inl (let f : b + n ≤ a = omega arith in f))
-              (λ above. let g : m + y ≤ h' = slot_below o.class o.slot l.slot (lt_of_not-le above) in inr (let f : a + y ≤ b = omega arith in f))))
+      (λ eq. let hm : h' ≡ m = ap (λ (d : ℕ). d * size_of o.class) eq in
+      let ba : b ≡ a = omega arith in absurd (let none : ◌≡◌ {A = Option Place} None (Some q) = sym empty ∙ (ap r.account.live (sym ba) ∙ lives) in cc))
+      (λ ne. dite (dec_le l.slot o.slot)
+      (λ below. let g : h' + y ≤ m = slot_below o.class l.slot o.slot (let p : l.slot ≤ o.slot = below in let nn : l.slot ≢ o.slot = ne in omega arith) in inl (let f : b + n ≤ a = omega arith in f))
+      (λ above. let g : m + y ≤ h' = slot_below o.class o.slot l.slot (lt_of_not-le above) in inr (let f : a + y ≤ b = omega arith in f))))
       (λ other. let ne : l.pool ≢ o.pool = other in dite (dec_le l.pool o.pool)
-          (λ below. let p : l.pool ≤ o.pool = below in inl (let f : b + n ≤ a = omega arith in f))
-          (λ above. let p : o.pool < l.pool = lt_of_not-le above in inr (let f : a + y ≤ b = omega arith in f))))
+      (λ below. let p : l.pool ≤ o.pool = below in inl (let f : b + n ≤ a = omega arith in f))
+      (λ above. let p : o.pool < l.pool = lt_of_not-le above in inr (let f : a + y ≤ b = omega arith in f))))
       (λ gt. let g : k.pools * 4096 < b = lt_of_not-le gt in let p : o.pool < k.pools = inside_pools in inr (let f : a + y ≤ b = omega arith in f))
 
   -- the whole place lies in the pools

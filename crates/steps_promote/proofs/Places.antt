@@ -1,29 +1,26 @@
 -- One block's place changes in what it is owed or in which of its values are remembered: its label, its shape and its forwarding stay.
-use Rattle.std.proofs.Common.{◌≡◌, ◌≢◌, ℕ, ◌+◌, ◌*◌, ◌<◌, ◌≤◌, Bool, true, List, length, set, slice_get, Option, Some, None, unwrap_or, sym, refl, ap, ◌∙◌, subst, arith}
+use Rattle.std.proofs.Common.{◌≡◌, ◌≢◌, ℕ, ◌+◌, ◌<◌, List, length, set, slice_get, Option, Some, unwrap_or, sym, refl, ap, ◌∙◌, subst, arith}
 use mathlib.Core.Logic.{dite}
 use native.Mathlib.Decide.{ℕ_discrete}
 use mathlib.Core.Option.{some}
 use lib.ListN.{get_elem?}
 use Rattle.heap_model.specs.declared.entry.Entry.{Entry}
-use Rattle.heap_model.specs.declared.label.Label.{Label}
-use Rattle.heap_model.specs.declared.state.State as model
 use Rattle.heap_model.specs.Fronts.{Shape}
 use Rattle.heap_rule.specs.declared.config.Config.{Config}
 use Rattle.heap_rule.specs.declared.view.DomainView.{DomainView}
 use Rattle.heap_rule.specs.declared.view.Own.{Own}
-use Rattle.heap_rule.specs.declared.view.View.{View}
 use Rattle.heap_rule.specs.declared.phase.Kind.TheVariants.{Promote}
 use Rattle.heap_rule.specs.declared.phase.Stage.TheVariants.{In}
 use Rattle.heap_rule.specs.Copies.{Owes, Copies, AllCleared}
-use Rattle.heap_rule.specs.Layout.{before_heap, base_of, at_address, listed, cursor}
+use Rattle.heap_rule.specs.Layout.{base_of, at_address, listed, cursor}
 use Rattle.heap_rule.specs.Phases.{Pause}
 use Rattle.heap_rule.specs.Places.{Place, Live, span, More}
 use Rattle.heap_rule.specs.Pools.{Stock, Hunter, Grid}
-use Rattle.heap_rule.specs.Room.{IsClaimed, Room}
+use Rattle.heap_rule.specs.Room.{Room}
 use Rattle.heap_rule.specs.Rule.{state_of, AllFound, Area, Making, Rule}
 use Rattle.heap_rule.specs.Views.{one}
 use Rattle.heap_rule.proofs.Again.{Was, Back, placed_back, spread_back, opened_back, area_back, grid_back}
-use Rattle.heap_rule.proofs.Keeps.{Words, Control, mine, my_good, hunter_as, pools_same, room_words, opened_words}
+use Rattle.heap_rule.proofs.Keeps.{Words, Control, my_good, hunter_as, pools_same, room_words, opened_words}
 use Rattle.heap_rule.proofs.Update.{over, over_here, over_else}
 use Rattle.steps_promote.proofs.Remaking.{promotes_again, stood_same}
 

@@ -1,25 +1,22 @@
 -- A free place that the domain took is prepared for a copy: the first store to its head.
-use Rattle.std.proofs.Common.{◌≡◌, ◌≢◌, ℕ, ◌+◌, ◌*◌, ◌<◌, ◌≤◌, ◌⊎◌, List, [], length, get_or, set, slice_get, Option, Some, None, sym, refl, ap, ◌∙◌, subst, inl, inr, ⊎_elim, arith, lt_of_not-le, length-set, get_or-set_same, get_or-set_other}
+use Rattle.std.proofs.Common.{◌≡◌, ◌≢◌, ℕ, ◌+◌, ◌<◌, ◌≤◌, List, length, get_or, set, Option, Some, None, sym, refl, ap, ◌∙◌, subst, inl, inr, ⊎_elim, arith, length-set, get_or-set_same, get_or-set_other}
 use mathlib.Core.Logic.{dite}
-use native.Mathlib.Decide.{ℕ_discrete, dec_le}
+use native.Mathlib.Decide.{ℕ_discrete}
 use mathlib.Core.Option.{some}
 use lib.ListN.{get_elem?}
 use Rattle.atomic_table.specs.Table.{keeps}
 use Rattle.heap_model.specs.declared.entry.Entry.{Entry}
 use Rattle.heap_model.specs.Domains.{class_count}
 use Rattle.heap_rule.specs.declared.config.Config.{Config}
-use Rattle.heap_rule.specs.declared.view.Hunt.{Hunt}
-use Rattle.heap_rule.specs.declared.view.Hunt.TheVariants.{Rests, Fills}
+use Rattle.heap_rule.specs.declared.view.Hunt.TheVariants.{Rests}
 use Rattle.heap_rule.specs.declared.view.Own.{Own}
 use Rattle.heap_rule.specs.declared.view.Spot.{Spot}
 use Rattle.heap_rule.specs.declared.view.DomainView.{DomainView}
-use Rattle.heap_rule.specs.declared.view.View.{View}
-use Rattle.heap_rule.specs.declared.phase.Kind.TheVariants.{Run, Promote}
-use Rattle.heap_rule.specs.declared.phase.Stage.{Stage}
+use Rattle.heap_rule.specs.declared.phase.Kind.TheVariants.{Promote}
 use Rattle.heap_rule.specs.declared.phase.Stage.TheVariants.{In}
 use Rattle.heap_rule.specs.Layout.{before_heap, at_address, listed, cursor}
 use Rattle.heap_rule.specs.Places.{Place, Live}
-use Rattle.heap_rule.specs.Pools.{limit_of, owned, drawn, drawn_in, Tenancy, Pools, Filling, Hunts, Hunter, OwnPlace, IsSpare, Grid, Latest, DrawsFor, Drawers, IsCopying, IsBefore, spot_at, place_in, blocks_of, prepared_at}
+use Rattle.heap_rule.specs.Pools.{limit_of, owned, drawn_in, Tenancy, Pools, Filling, Hunts, Hunter, OwnPlace, IsSpare, Grid, Latest, DrawsFor, Drawers, IsCopying, IsBefore, spot_at, place_in, blocks_of, prepared_at}
 use Rattle.heap_rule.specs.Raw.{MayStore, Written, Closes}
 use Rattle.heap_rule.specs.Rule.{state_of, Rule}
 use Rattle.heap_rule.specs.Token.{OwnFits}
@@ -27,7 +24,7 @@ use Rattle.heap_rule.specs.Views.{one}
 use Rattle.steps_promote.specs.Claims.{preparing, PrepareMay, PrepareTold}
 use Rattle.steps_promote.specs.Writes.{CanPrepare, Prepares}
 use Rattle.heap_rule.proofs.Holders.{SameFor, agrees_same, hunter_agree, stock_self}
-use Rattle.heap_rule.proofs.Keeps.{Words, mine, my_good, control_set, pools_same, room_words, opened_words, owes_as, more_same, promote_now, promote_here}
+use Rattle.heap_rule.proofs.Keeps.{Words, my_good, control_set, pools_same, room_words, opened_words, owes_as, more_same, promote_now, promote_here}
 use Rattle.heap_rule.proofs.Lots.{head_full, hunter_beside, place_cases}
 use Rattle.heap_rule.proofs.Update.{over, over_here, over_else}
 use Rattle.steps_promote.proofs.OwnPlaces as places
@@ -106,13 +103,13 @@ module _ (k : Config) (s : Words) (r : Rule k s) (id : ℕ) (hist : List Entry) 
     lots = r.whole.grid.lots;
     places = λ q d c j owned_is below. dite (ℕ_discrete (place_in q c j) a)
         (λ same. let one_is = place_sole k t s.words q d c j pool me class slot r.whole.pools owned_is below F.own_is F.inside (same ∙ may.word) in
-            inr (inr (ap prepared' same ∙ (over_here a (Some me) t.prepared ∙ ap Some (sym one_is.1)))))
+        inr (inr (ap prepared' same ∙ (over_here a (Some me) t.prepared ∙ ap Some (sym one_is.1)))))
         (λ other. ⊎_elim (λ (z : at_address k s.words (place_in q c j) ≡ 0). inl (stays q d c j owned_is below other ∙ z))
-            (λ z. inr (⊎_elim (λ (y : (p : Place) × (live (place_in q c j) ≡ Some p)). inl y) (λ (y : t.prepared (place_in q c j) ≡ Some d). inr (over_else a (Some me) t.prepared (place_in q c j) other ∙ y)) z))
-            (r.whole.grid.places q d c j owned_is below));
+        (λ z. inr (⊎_elim (λ (y : (p : Place) × (live (place_in q c j) ≡ Some p)). inl y) (λ (y : t.prepared (place_in q c j) ≡ Some d). inr (over_else a (Some me) t.prepared (place_in q c j) other ∙ y)) z))
+        (r.whole.grid.places q d c j owned_is below));
     spares = λ b d is. dite (ℕ_discrete b a)
         (λ same. let d_is : me ≡ d = number_same me d (sym (over_here a (Some me) t.prepared) ∙ (ap prepared' (sym same) ∙ is)) in
-            subst (λ (z : ℕ × ℕ). IsSpare k t.holder live ws z.0 z.1) (λ i. (sym same i, d_is i)) record { own = o; head = λ e. may.head (sym written ∙ e); empty = empty })
+        subst (λ (z : ℕ × ℕ). IsSpare k t.holder live ws z.0 z.1) (λ i. (sym same i, d_is i)) record { own = o; head = λ e. may.head (sym written ∙ e); empty = empty })
         (λ other. let sp = r.whole.grid.spares b d (sym (over_else a (Some me) t.prepared b other) ∙ is) in let own = sp.own in record {
           own = own;
           head = λ e. sp.head (ap (at_address k s.words) own.begins ∙ (sym (stays own.pool d own.class own.slot own.owned_is own.inside (λ same. other (own.begins ∙ same))) ∙ (ap (at_address k ws) (sym own.begins) ∙ e)));
@@ -171,8 +168,8 @@ module _ (k : Config) (s : Words) (r : Rule k s) (id : ℕ) (hist : List Entry) 
         let spot : spot_at x.own.looked c ≡ record { pool = pool; slot = slot } = ap (spot_at x.own.looked) one_is.2 ∙ may.next in
         let before : IsBefore q u (spot_at x.own.looked c) = subst (λ (z : Spot). IsBefore q u z) (sym spot) (inr (one_is.0, subst (λ (n : ℕ). u < n) one_is.3 less)) in
         absurd (⊎_elim (λ (z : at_address k s.words (place_in q c u) ≡ 0). H.taken q c u l.own_is u_below before z)
-            (λ (z : (u ≡ u) × (t.prepared (place_in q c u) ≡ Some me)). no_some (place_in q c u) (sym may.none ∙ (ap (prepared_at x.own.prepared) (sym one_is.2) ∙ H.prepared q c u l.own_is u_below z.1)))
-            (l.rest u (omega arith) u_below)))
+        (λ (z : (u ≡ u) × (t.prepared (place_in q c u) ≡ Some me)). no_some (place_in q c u) (sym may.none ∙ (ap (prepared_at x.own.prepared) (sym one_is.2) ∙ H.prepared q c u l.own_is u_below z.1)))
+        (l.rest u (omega arith) u_below)))
 
   hunter' : Hunter k t' ws y
   hunter' = record {
@@ -184,14 +181,14 @@ module _ (k : Config) (s : Words) (r : Rule k s) (id : ℕ) (hist : List Entry) 
     free = λ f e. subst (λ (m : ℕ × ℕ). (m.0 ≤ f + m.1) × (m.0 ≤ f + limit_of k m.0) × (f ≤ m.0)) (λ i. (sym (control' 6 (omega arith)) i, sym (control' 7 (omega arith)) i)) (H.free f e);
     holds = λ c b few e. dite (ℕ_discrete c class)
         (λ same. let b_is : a ≡ b = number_same a b (sym (prepared_here x.own.prepared class (Some a) wide may.of_class) ∙ (ap (prepared_at (set x.own.prepared class (Some a))) (sym same) ∙ e)) in
-            (ap prepared' (sym b_is) ∙ over_here a (Some me) t.prepared, (pool, slot, F.own_is ∙ ap (owned me) (sym same), subst (λ (z : ℕ). slot < blocks_of z) (sym same) F.inside, sym b_is ∙ (may.word ∙ ap (λ (z : ℕ). place_in pool z slot) (sym same)))))
+        (ap prepared' (sym b_is) ∙ over_here a (Some me) t.prepared, (pool, slot, F.own_is ∙ ap (owned me) (sym same), subst (λ (z : ℕ). slot < blocks_of z) (sym same) F.inside, sym b_is ∙ (may.word ∙ ap (λ (z : ℕ). place_in pool z slot) (sym same)))))
         (λ other. let u = H.holds c b few (sym (prepared_else x.own.prepared class c (Some a) other) ∙ e) in
-            (over_else a (Some me) t.prepared b (λ same. unprepared me (ap t.prepared (sym same) ∙ u.0)) ∙ u.0, u.1));
+        (over_else a (Some me) t.prepared b (λ same. unprepared me (ap t.prepared (sym same) ∙ u.0)) ∙ u.0, u.1));
     prepared = λ q c j owned_is below e. dite (ℕ_discrete (place_in q c j) a)
         (λ same. let one_is = place_sole k t s.words q me c j pool me class slot r.whole.pools owned_is below F.own_is F.inside (same ∙ may.word) in
-            ap (prepared_at (set x.own.prepared class (Some a))) one_is.2 ∙ (prepared_here x.own.prepared class (Some a) wide may.of_class ∙ ap Some (sym same)))
+        ap (prepared_at (set x.own.prepared class (Some a))) one_is.2 ∙ (prepared_here x.own.prepared class (Some a) wide may.of_class ∙ ap Some (sym same)))
         (λ other. let old = H.prepared q c j owned_is below (sym (over_else a (Some me) t.prepared (place_in q c j) other) ∙ e) in
-            prepared_else x.own.prepared class c (Some a) (λ same. no_some (place_in q c j) (sym may.none ∙ (ap (prepared_at x.own.prepared) (sym same) ∙ old))) ∙ old);
+        prepared_else x.own.prepared class c (Some a) (λ same. no_some (place_in q c j) (sym may.none ∙ (ap (prepared_at x.own.prepared) (sym same) ∙ old))) ∙ old);
     claims = H.claims;
     supply = λ c few some. inr (latest' c few (⊎_elim (λ (h : DrawsFor c x.seen.hunt). absurd (subst (DrawsFor c) may.hunt h)) (λ (l : Latest k t s.words me c). l) (H.supply c few some)));
   }

@@ -1,5 +1,5 @@
 -- A register that holds the address of a block that was met gets that of its copy.
-use Rattle.std.proofs.Common.{◌≡◌, ◌≢◌, ℕ, ◌+◌, ◌<◌, ◌≤◌, List, length, get_or, set, Some, sym, refl, ap, ◌∙◌, subst, arith, length-set, get_or-set_same, get_or-set_other}
+use Rattle.std.proofs.Common.{◌≡◌, ℕ, ◌+◌, ◌<◌, ◌≤◌, List, length, get_or, set, sym, refl, ap, ◌∙◌, subst, arith, length-set, get_or-set_same, get_or-set_other}
 use mathlib.Core.Logic.{dite}
 use native.Mathlib.Decide.{ℕ_discrete}
 use mathlib.Core.Option.{some}
@@ -14,7 +14,6 @@ use Rattle.heap_words.specs.declared.value.Value.TheVariants.{Ref, Nothing as No
 use Rattle.heap_rule.specs.declared.config.Config.{Config}
 use Rattle.heap_rule.specs.declared.view.Own.{Own}
 use Rattle.heap_rule.specs.declared.view.DomainView.{DomainView}
-use Rattle.heap_rule.specs.declared.view.View.{View}
 use Rattle.heap_rule.specs.declared.phase.Kind.TheVariants.{Run, Promote}
 use Rattle.heap_rule.specs.declared.phase.Stage.{Stage}
 use Rattle.heap_rule.specs.declared.phase.Stage.TheVariants.{In}
@@ -23,12 +22,12 @@ use Rattle.heap_rule.specs.Places.{Place, Live, Stands, More}
 use Rattle.heap_rule.specs.Raw.{StepsOnce, MayStep, Closes}
 use Rattle.heap_rule.specs.Rule.{state_of, Rule, Stood}
 use Rattle.heap_rule.specs.Standing.{with_registers}
-use Rattle.heap_rule.specs.Token.{AllInHeap, Holds, LooksWithin}
+use Rattle.heap_rule.specs.Token.{AllInHeap, LooksWithin}
 use Rattle.heap_rule.specs.Views.{one}
 use Rattle.steps_promote.specs.Promotion.{Knows, MoveMay, MoveTold}
 use Rattle.steps_promote.specs.Writes.{CanMove, Moves}
 use Rattle.heap_rule.proofs.Values.{stands_block, holds}
-use Rattle.heap_rule.proofs.Keeps.{Words, mine, my_good, control_same, hunter_as, owes_as, unmoved, more_same}
+use Rattle.heap_rule.proofs.Keeps.{Words, my_good, control_same, hunter_as, owes_as, unmoved, more_same}
 use Rattle.steps_promote.proofs.Meets.{place_same}
 use Rattle.steps_promote.proofs.Remaking.{promotes_again}
 
@@ -60,7 +59,7 @@ module _ (k : Config) (s : Words) (r : Rule k s) (id : ℕ) (hist : List Entry) 
         wide = length-set regs reg (Ref copy) ∙ st.wide;
         each = λ q few. dite (ℕ_discrete q reg)
             (λ same. subst (λ (z : ℕ). Stands live (value_at (set regs reg (Ref copy)) z) (register now x.own.number z)) (sym same)
-                (subst (λ (z : Value). Stands live z (register now x.own.number reg)) (sym (get_or-set_same regs reg (Ref copy) NothingWord (let w : length regs ≡ 16 = st.wide in let f = may.few in let n : ℕ = length regs in let e : n ≡ 16 = w in let o : reg < n = omega arith in o))) (moved_stands reg copy may)))
+            (subst (λ (z : Value). Stands live z (register now x.own.number reg)) (sym (get_or-set_same regs reg (Ref copy) NothingWord (let w : length regs ≡ 16 = st.wide in let f = may.few in let n : ℕ = length regs in let e : n ≡ 16 = w in let o : reg < n = omega arith in o))) (moved_stands reg copy may)))
             (λ other. subst (λ (z : Value). Stands live z (register now x.own.number q)) (sym (get_or-set_other regs reg q (Ref copy) NothingWord other)) (st.each q few));
         serial = st.serial;
       }

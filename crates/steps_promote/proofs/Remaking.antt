@@ -1,5 +1,5 @@
 -- What all steps of copying share: the rule holds again where the places, the pools and each domain meet it.
-use Rattle.std.proofs.Common.{◌≡◌, ◌≢◌, ℕ, ◌+◌, ◌*◌, ◌<◌, ◌≤◌, ◌⊎◌, List, length, set, slice_get, Some, None, Option, sym, refl, ap, ◌∙◌, subst, inl, inr, ⊎_elim, arith}
+use Rattle.std.proofs.Common.{◌≡◌, ◌≢◌, ℕ, ◌+◌, ◌*◌, List, length, set, sym, ap, ◌∙◌, subst, inr, ⊎_elim, arith}
 use mathlib.Core.Option.{some}
 use lib.ListN.{get_elem?}
 use Rattle.heap_model.specs.declared.entry.Entry.{Entry}
@@ -8,21 +8,18 @@ use Rattle.heap_model.specs.Domains.{register, domain_at}
 use Rattle.heap_model.specs.Fronts.{IsFrontOf}
 use Rattle.heap_words.specs.declared.value.Value as words
 use Rattle.heap_rule.specs.declared.config.Config.{Config}
-use Rattle.heap_rule.specs.declared.view.Listing.{Listing}
 use Rattle.heap_rule.specs.declared.view.DomainView.{DomainView}
-use Rattle.heap_rule.specs.declared.view.View.{View}
 use Rattle.heap_rule.specs.declared.phase.Kind.TheVariants.{Run, Promote}
-use Rattle.heap_rule.specs.declared.phase.Stage.TheVariants.{In, Leads}
+use Rattle.heap_rule.specs.declared.phase.Stage.TheVariants.{In}
 use Rattle.heap_rule.specs.Changes.{value_at}
 use Rattle.heap_rule.specs.Copies.{Owes, Copies, Promoting, AllCleared}
-use Rattle.heap_rule.specs.Layout.{before_heap, at_address}
-use Rattle.heap_rule.specs.Phases.{Pause, IsInPause, Still, Staged, last_note}
-use Rattle.heap_rule.specs.Places.{Place, Live, Stands, Placed, Spread, More}
+use Rattle.heap_rule.specs.Phases.{Pause, IsInPause}
+use Rattle.heap_rule.specs.Places.{Live, Stands, Placed, Spread, More}
 use Rattle.heap_rule.specs.Pools.{Tenancy, Pools, Grid, Drawers, KeepsReserve, Hunter, Takes, IsLeading}
 use Rattle.heap_rule.specs.Room.{Room, Opened}
-use Rattle.heap_rule.specs.Rule.{state_of, AllFound, Stood, Area, Making, Good, Rule}
+use Rattle.heap_rule.specs.Rule.{state_of, AllFound, Stood, Area, Making, Rule}
 use Rattle.heap_rule.specs.Views.{one}
-use Rattle.heap_rule.proofs.Keeps.{Words, Control, mine, my_good, remakes, knows_front, phases_same, cycle_same, staged_as, stands_more, nobody_leads, takes_drawable, resting_takes, resting_other, promote_now, promote_here, promote_rests, lists_control}
+use Rattle.heap_rule.proofs.Keeps.{Words, Control, mine, my_good, remakes, knows_front, phases_same, cycle_same, staged_as, stands_more, nobody_leads, takes_drawable, resting_takes, resting_other, promote_now, promote_here, promote_rests}
 
 -- while young blocks are copied the reserve may be drawn
 pub copying_keeps : (t : Pause) → Promoting t → KeepsReserve t → ⊥
@@ -33,6 +30,7 @@ copying_keeps t p keeps = ⊎_elim
   where
     half : (i j n : ℕ) → n ≡ i * 2 → n ≡ j * 2 → i ≡ j
     half i j n e f = omega arith
+
     clash : keeps.0 ≡ p.0 → ⊥
     clash same = let e : Run ≡ Promote = sym keeps.2 ∙ (ap t.kinds same ∙ p.2) in cc
 

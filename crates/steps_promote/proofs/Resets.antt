@@ -1,12 +1,8 @@
 -- In Reset a domain's minor area is free again.
-use Rattle.std.proofs.Common.{◌≡◌, ◌≢◌, ℕ, ◌+◌, ◌*◌, ◌<◌, ◌≤◌, List, [], length, set, slice_get, Some, None, Option, sym, refl, ap, ◌∙◌, inl, inr, subst, arith, length-set}
-use mathlib.Core.Option.{some}
-use lib.ListN.{get_elem?}
+use Rattle.std.proofs.Common.{◌≡◌, ℕ, ◌+◌, ◌*◌, ◌<◌, ◌≤◌, List, [], set, slice_get, Some, None, Option, sym, refl, ap, ◌∙◌, inl, inr, subst, arith, length-set}
 use Rattle.atomic_table.specs.Table.{keeps}
-use Rattle.heap_model.specs.declared.entry.Entry.{Entry}
 use Rattle.heap_rule.specs.declared.config.Config.{Config}
 use Rattle.heap_rule.specs.declared.view.DomainView.{DomainView}
-use Rattle.heap_rule.specs.declared.view.View.{View}
 use Rattle.heap_rule.specs.declared.phase.Kind.TheVariants.{Run, Reset}
 use Rattle.heap_rule.specs.declared.phase.Stage.{Stage}
 use Rattle.heap_rule.specs.declared.phase.Stage.TheVariants.{In}
@@ -23,7 +19,7 @@ use Rattle.steps_promote.specs.Writes.{Resets}
 use Rattle.heap_rule.proofs.Again.{ends_low}
 use Rattle.heap_rule.proofs.Beside.{found_beside, making_beside, area_word_far}
 use Rattle.heap_rule.proofs.Lots.{Beside, area_beside, grid_beside, hunter_beside}
-use Rattle.heap_rule.proofs.Keeps.{Words, mine, my_good, control_set, controls_kept, hunter_as, more_same, writes}
+use Rattle.heap_rule.proofs.Keeps.{mine, my_good, control_set, controls_kept, hunter_as, more_same, writes}
 
 reset_now : (t : Pause) (x : DomainView) → x.seen.stage ≡ In Reset → Staged t x → Resetting t
 reset_now t x is s = inr (inl (subst (AtStage t x.own.number x.own.arrivals) is s.stage).1)
@@ -41,7 +37,7 @@ reset_may k x word a new place may fits slots id hist s r _ at _ =
     let high : k.pools * 4096 < a = (let e : a ≡ k.pools * 4096 + m + 1 = here in let o : k.pools * 4096 < a = omega arith in o) in
     let emptied = r.whole.emptied (reset_now r.account.pause x may.stage g.staged) in
     let below : (b : ℕ) (q : Place) → r.account.live b ≡ Some q → b + extent q.shape ≤ base = (λ b q lives. let low : b ≤ k.pools * 4096 = emptied b q lives in
-        let h = ends_low k r.account.tenancy r.account.live s.words b q r.whole.pools r.whole.grid lives low in let n : ℕ = extent q.shape in let y : b + n ≤ k.pools * 4096 + 1 = h in let o : b + n ≤ k.pools * 4096 + m + 1 = omega arith in o) in
+    let h = ends_low k r.account.tenancy r.account.live s.words b q r.whole.pools r.whole.grid lives low in let n : ℕ = extent q.shape in let y : b + n ≤ k.pools * 4096 + 1 = h in let o : b + n ≤ k.pools * 4096 + m + 1 = omega arith in o) in
     let ws : List ℕ = set s.words (before_heap k + a) new in
     let y : DomainView = reset_view x in
     let beside : (d : ℕ) → Beside k r.account.tenancy s.words d a = area_beside k r.account.tenancy s.words a new r.whole.pools high in

@@ -1,5 +1,5 @@
 -- A remembered field gets a word that is no address of a minor area, and nobody remembers it any more.
-use Rattle.std.proofs.Common.{◌≡◌, ◌≢◌, ℕ, zero, suc, ◌+◌, ◌*◌, ◌<◌, ◌≤◌, ◌⊎◌, false, List, [], ◌∷◌, length, get_or, set, slice_get, Option, Some, None, sym, refl, ap, ◌∙◌, subst, ⊎_elim, arith, length-set, get_or-set_same, get_or-set_other}
+use Rattle.std.proofs.Common.{◌≡◌, ◌≢◌, ℕ, zero, suc, ◌+◌, ◌<◌, ◌≤◌, false, List, ◌∷◌, length, get_or, set, slice_get, Option, Some, None, sym, refl, ap, ◌∙◌, subst, ⊎_elim, arith, length-set, get_or-set_same, get_or-set_other}
 use mathlib.Core.Logic.{dite}
 use native.Mathlib.Decide.{ℕ_discrete}
 use mathlib.Core.Option.{some}
@@ -12,7 +12,6 @@ use Rattle.heap_model.specs.Graph.{Graph, node_at}
 use Rattle.heap_model.specs.Fronts.{Shape}
 use Rattle.heap_rule.specs.declared.config.Config.{Config}
 use Rattle.heap_rule.specs.declared.view.DomainView.{DomainView}
-use Rattle.heap_rule.specs.declared.view.View.{View}
 use Rattle.heap_rule.specs.Layout.{heap_words, before_heap}
 use Rattle.heap_rule.specs.Places.{Debt, Place, Live, extent, values_of, unmarked, HeadIs, Stands, Found, IsOldWord, Lasts, More}
 use Rattle.heap_rule.specs.Phases.{IsInPause}
@@ -231,8 +230,8 @@ module _ (k : Config) (s : Words) (r : Rule k s) (id : ℕ) (hist : List Entry) 
   found2 b q e = dite (ℕ_discrete b c)
       (λ same. subst (λ (z : ℕ × Place). Found k live2 graph ws z.0 z.1) (λ i. (sym same i, is2 b q same e i)) found_here)
       (λ other. let fb = r.whole.found b q (was b q other e) in found_beside k r.account.live live2 graph graph s.words A new b q more fb fb.there
-          (λ z within clash. let m : ℕ = extent q.shape in let i : z < m = within in let h : b + z ≡ A = clash in let n : ℕ = ext in let y : i0 + 2 < n = inside in
-          ⊎_elim (λ (t : b + m ≤ c). omega arith) (λ (t : c + n ≤ b). omega arith) (r.whole.placed.apart b c q p (was b q other e) lives other)))
+      (λ z within clash. let m : ℕ = extent q.shape in let i : z < m = within in let h : b + z ≡ A = clash in let n : ℕ = ext in let y : i0 + 2 < n = inside in
+      ⊎_elim (λ (t : b + m ≤ c). omega arith) (λ (t : c + n ≤ b). omega arith) (r.whole.placed.apart b c q p (was b q other e) lives other)))
 
   beside : (m : ℕ) → Beside k r.account.tenancy s.words m A
   beside m = subst (Beside k r.account.tenancy s.words m) (let h : c + (2 + i0) ≡ A = omega arith in h)
@@ -246,9 +245,9 @@ module _ (k : Config) (s : Words) (r : Rule k s) (id : ℕ) (hist : List Entry) 
   rest_has b i q e named differs =
       let t = (my_good k s r id hist x at).owes.recalled b q i e named in
       behind t.0 (ap (λ (l : List ℕ). slice_get l t.0) (sym may.first) ∙ t.1) where
-    behind : (j : ℕ) → slice_get (a ∷ may.rest) j ≡ Some (b + 2 + i) → (j : ℕ) × (slice_get may.rest j ≡ Some (b + 2 + i))
-    behind zero g = absurd (differs (sole b i q e (r.whole.copies.naming b q i x.own.number e named).1 (sym (some_address a (b + 2 + i) g))))
-    behind (suc j) g = (j, g)
+        behind : (j : ℕ) → slice_get (a ∷ may.rest) j ≡ Some (b + 2 + i) → (j : ℕ) × (slice_get may.rest j ≡ Some (b + 2 + i))
+        behind zero g = absurd (differs (sole b i q e (r.whole.copies.naming b q i x.own.number e named).1 (sym (some_address a (b + 2 + i) g))))
+        behind (suc j) g = (j, g)
 
   rewrite_rule : Rule k record { words = ws; homes = s.homes; views = set s.views id (one k hist (recalling x may.rest)) }
   rewrite_rule =

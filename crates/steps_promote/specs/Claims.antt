@@ -7,7 +7,6 @@ use Rattle.heap_words.specs.declared.head.Head.TheVariants.{Forward}
 use Rattle.heap_words.specs.Heads.{head_word}
 use Rattle.heap_words.specs.Labels.{label_word}
 use Rattle.heap_rule.specs.declared.config.Config.{Config}
-use Rattle.heap_rule.specs.declared.view.Copied.{Copied}
 use Rattle.heap_rule.specs.declared.view.Hunt.{Hunt}
 use Rattle.heap_rule.specs.declared.view.Hunt.TheVariants.{Rests, Fills, Labels, Heads}
 use Rattle.heap_rule.specs.declared.view.Own.{Own}

@@ -4,7 +4,9 @@ ghost use Rattle.heap_rule.specs.Standing.{IsInHeap};
 ghost use Rattle.heap_rule.specs.Token.{IsIn};
 ghost use Rattle.steps_promote.specs.Claims.{ClaimMay, ClaimTold, FreeMay, FreedTold, HeadStoreMay, HeadStoreTold, LabelStoreMay, LabelStoreTold, PrepareMay, PrepareTold};
 
-use heap_rule::{Change, Copied, Domain, Heap, Leaving, Own, Spot, Writing, raw_exchange, raw_store};
+use heap_rule::{
+    Change, Copied, Domain, Heap, Leaving, Own, Spot, Writing, raw_exchange, raw_store,
+};
 use std::marker::Brand;
 
 // A place is prepared for a class.

@@ -84,7 +84,16 @@ pub fn young_label_load(heap: &Heap, dom: &mut Domain, at: u32, source: u32) -> 
     ensures told { LabelMet source dom.old.view result dom.new.view }
 {
     let index = heap.index_of(at);
-    raw_load::<Brand, Meeting>(heap, dom, index, &Meeting { at: source, place: 0 }, &[])
+    raw_load::<Brand, Meeting>(
+        heap,
+        dom,
+        index,
+        &Meeting {
+            at: source,
+            place: 0,
+        },
+        &[],
+    )
 }
 
 /// A load of value `place` of a block in a minor area that was met, which is at `source`. The block

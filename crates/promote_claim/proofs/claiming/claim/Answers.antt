@@ -1,4 +1,4 @@
-use Rattle.std.proofs.Common.{◌≡◌, ℕ, Option, subst}
+use Rattle.std.proofs.Common.{ℕ, Option, subst}
 use Rattle.heap_words.specs.Unpacked.{Unpacks}
 use Rattle.promote_claim.specs.Heads.{IsForward, forward_word}
 use Rattle.promote_claim.proofs.Meeting.{head_grown, head_claimed, met_with, claimed_after}

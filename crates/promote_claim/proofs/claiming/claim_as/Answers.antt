@@ -1,4 +1,4 @@
-use Rattle.std.proofs.Common.{◌≡◌, ◌≢◌, ℕ, ◌+◌, ◌*◌, ◌^◌, ◌<◌, ◌≤◌, Option, Some, None, true, false, true≢false, sym, subst, ◌∙◌, arith}
+use Rattle.std.proofs.Common.{ℕ, ◌+◌, ◌*◌, ◌≤◌, Option, true≢false, sym, subst, ◌∙◌, arith}
 use Rattle.heap_words.specs.Unpacked.{Unpacks}
 use Rattle.promote_claim.specs.Heads.{IsForward, forward_word}
 use Rattle.promote_claim.proofs.Meeting.{head_for, old_small}

@@ -1,8 +1,8 @@
-use Rattle.std.proofs.Common.{◌≡◌, sym, subst}
+use Rattle.std.proofs.Common.{sym, subst}
 use Rattle.heap_words.specs.declared.value.Value.{Value}
 use Rattle.heap_words.specs.declared.value.Value.TheVariants.{Ref}
 use Rattle.promote_claim.specs.Working.{StandsFor, Forwarded}
-use Rattle.promote_claim.proofs.Valuing.{ref_inside, ref_may, ref_forwarded}
+use Rattle.promote_claim.proofs.Valuing.{ref_inside, ref_forwarded}
 use Rattle.promote_claim.proofs.claiming.forwarded.Goals as goal
 
 pub claim-requires-clause-inside : goal.claim-requires-clause-inside

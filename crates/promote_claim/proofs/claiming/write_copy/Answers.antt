@@ -1,8 +1,8 @@
-use Rattle.std.proofs.Common.{◌≡◌, ℕ, ◌+◌, ◌*◌, ◌^◌, ◌<◌, ◌≤◌, sym, ◌∙◌, arith}
+use Rattle.std.proofs.Common.{ℕ, ◌+◌, ◌^◌, ◌<◌, ◌≤◌, arith}
 use Rattle.heap_rule.specs.Layout.{heap_words}
 use Rattle.heap_rule.proofs.Sizes.{heap_small}
 use Rattle.promote_claim.proofs.Meeting.{met_label_inside}
-use Rattle.promote_claim.proofs.Preparing.{place_inside, place_label_inside, label_may, labelled, head_may, written}
+use Rattle.promote_claim.proofs.Preparing.{place_inside, place_label_inside}
 use Rattle.promote_claim.proofs.claiming.write_copy.Goals as goal
 
 pub overflow_add-young : goal.overflow_add-young

@@ -1,9 +1,9 @@
-use Rattle.std.proofs.Common.{◌≡◌, ◌≢◌, ℕ, ◌+◌, ◌-◌, ◌*◌, ◌^◌, ◌<◌, ◌≤◌, sym, subst, arith}
+use Rattle.std.proofs.Common.{ℕ, ◌+◌, ◌-◌, ◌^◌, ◌<◌, ◌≤◌, sym, subst, arith}
 use Rattle.heap_rule.specs.Layout.{heap_words}
 use Rattle.heap_rule.proofs.Sizes.{heap_small}
-use Rattle.steps_promote.specs.Promotion.{FillMay, FillTold}
+use Rattle.steps_promote.specs.Promotion.{FillMay}
 use Rattle.promote_claim.proofs.Meeting.{met_inside}
-use Rattle.promote_claim.proofs.Fills.{progress_start, value_may, source_inside, copy_value_inside, value_grown, value_stands, progress_forwarded, fill_may, progress_on, ended}
+use Rattle.promote_claim.proofs.Fills.{progress_start, source_inside, value_grown, value_stands, progress_forwarded, fill_may, progress_on, ended}
 use Rattle.promote_claim.proofs.filling.fill.Goals as goal
 
 pub young_head_load-requires-clause-inside : goal.young_head_load-requires-clause-inside

@@ -1,4 +1,3 @@
-use Rattle.std.proofs.Common.{◌≤◌}
 use Rattle.heap_rule.specs.Token.{IsIn}
 use Rattle.promote_claim.specs.Filling.{Progress}
 use Rattle.promote_claim.proofs.filling.fill.Given as goal

@@ -1,4 +1,4 @@
-use Rattle.std.proofs.Common.{◌≡◌, ◌≤◌, ◌-◌, length}
+use Rattle.std.proofs.Common.{◌≡◌, ◌-◌}
 use Rattle.heap_rule.specs.Token.{IsIn}
 use Rattle.heap_rule.specs.Views.{pending_room}
 use Rattle.promote_claim.specs.Working.{Works, Tied, with_claims}

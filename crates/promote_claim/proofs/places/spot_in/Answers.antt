@@ -1,4 +1,4 @@
-use Rattle.std.proofs.Common.{◌≡◌, ℕ, List, get_or, ap, ◌∙◌}
+use Rattle.std.proofs.Common.{ℕ, List, get_or, ap, ◌∙◌}
 use Rattle.heap_rule.proofs.Classes.{size_is}
 use Rattle.promote_claim.proofs.Preparing.{spot_is}
 use Rattle.promote_claim.proofs.places.spot_in.Goals as goal

@@ -1,4 +1,4 @@
-use Rattle.std.proofs.Common.{◌≡◌, sym, ◌∙◌}
+use Rattle.std.proofs.Common.{sym, ◌∙◌}
 use Rattle.promote_claim.proofs.Rooting.{moved}
 use Rattle.promote_claim.proofs.roots.move_register.Goals as goal
 

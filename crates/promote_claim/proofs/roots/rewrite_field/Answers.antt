@@ -1,4 +1,4 @@
-use Rattle.std.proofs.Common.{◌≡◌, ℕ, sym, subst}
+use Rattle.std.proofs.Common.{ℕ, sym, subst}
 use Rattle.steps_promote.specs.Promotion.{RewriteMay, RewriteTold}
 use Rattle.promote_claim.proofs.Rooting.{field_grown, rewrite_may, rewritten}
 use Rattle.promote_claim.proofs.roots.rewrite_field.Goals as goal

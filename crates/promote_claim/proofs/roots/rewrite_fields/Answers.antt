@@ -1,4 +1,4 @@
-use Rattle.std.proofs.Common.{◌≡◌, ℕ, ◌+◌, List, ◌∷◌, drop, Option, Some, slice_get, sym, ap, ◌∙◌}
+use Rattle.std.proofs.Common.{◌≡◌, ℕ, ◌+◌, List, drop, Some, slice_get, sym, ap, ◌∙◌}
 use Rattle.heap_rule.specs.declared.view.DomainView.{DomainView}
 use Rattle.promote_claim.proofs.Fills.{drop_item}
 use Rattle.promote_claim.proofs.Rooting.{rewrites_twice}

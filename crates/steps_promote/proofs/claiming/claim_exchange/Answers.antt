@@ -1,5 +1,4 @@
 use Rattle.steps_promote.proofs.ClaimSteps.{claim_may, claim_closes}
-
 use Rattle.steps_promote.proofs.claiming.claim_exchange.Goals as goal
 
 pub raw_exchange-found-requires-clause-may : goal.raw_exchange-found-requires-clause-may

@@ -1,5 +1,4 @@
 use Rattle.steps_promote.proofs.Freeing.{free_may, free_closes}
-
 use Rattle.steps_promote.proofs.claiming.free_store.Goals as goal
 
 pub raw_store-requires-clause-may : goal.raw_store-requires-clause-may

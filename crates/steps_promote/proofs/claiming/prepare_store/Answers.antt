@@ -1,5 +1,4 @@
 use Rattle.steps_promote.proofs.Preparing.{prepare_may, prepare_closes}
-
 use Rattle.steps_promote.proofs.claiming.prepare_store.Goals as goal
 
 pub raw_store-requires-clause-may : goal.raw_store-requires-clause-may

@@ -1,5 +1,4 @@
 use Rattle.steps_promote.proofs.Resets.{reset_may, reset_closes}
-
 use Rattle.steps_promote.proofs.promoting.area_reset.Goals as goal
 
 pub raw_store-requires-clause-may : goal.raw_store-requires-clause-may

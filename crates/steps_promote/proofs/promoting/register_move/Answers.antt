@@ -1,5 +1,4 @@
 use Rattle.steps_promote.proofs.Registers.{move_may, move_closes}
-
 use Rattle.steps_promote.proofs.promoting.register_move.Goals as goal
 
 pub raw_load-requires-clause-may : goal.raw_load-requires-clause-may

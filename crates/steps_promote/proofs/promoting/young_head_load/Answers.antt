@@ -1,5 +1,3 @@
-use Rattle.std.proofs.Common.{ap}
-use Rattle.heap_rule.specs.declared.view.DomainView.{DomainView}
 use Rattle.steps_promote.specs.Promotion.{HeadMet}
 use Rattle.steps_promote.proofs.Meets.{head_may, head_met_own, head_met_front}
 use Rattle.heap_rule.proofs.Closes.{front_same, leaves_closes}

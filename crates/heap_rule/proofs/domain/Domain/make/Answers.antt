@@ -1,7 +1,5 @@
-use Rattle.std.proofs.Common.{◌≡◌, sym}
 use Rattle.heap_rule.specs.declared.view.Own.{Own}
 use Rattle.heap_rule.specs.declared.view.TheConstants.{REMEMBERED_ROOM}
-use Rattle.heap_rule.specs.Opening.{opening_token}
 use Rattle.heap_rule.specs.Views.{opening_view, pending_room}
 use Rattle.heap_rule.proofs.Looks.{first_seat, empty_list}
 use Rattle.heap_rule.proofs.domain.Domain.make.Goals as goal

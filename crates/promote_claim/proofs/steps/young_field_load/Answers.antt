@@ -1,4 +1,0 @@
-use Rattle.promote_claim.proofs.steps.young_field_load.Goals as goal
-
-pub returns : goal.returns
-returns c = ?
