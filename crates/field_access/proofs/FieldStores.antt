@@ -32,6 +32,7 @@ store_stays x y at remembers registers front is = record {
   arrivals = ap (λ (z : DomainView). z.own.arrivals) is;
   stage = ap (λ (z : DomainView). z.seen.stage) is;
   notes = ap (λ (z : DomainView). z.seen.notes) is;
+  copying = ap (λ (z : DomainView). z.seen.copying) is;
   remembers = λ all. ap (λ (z : DomainView). z.seen.remembered) is ∙ (ap (with_field remembers at) all ∙ ap (λ (z : DomainView). z.own.remembered.items) (sym is));
 }
 

@@ -152,6 +152,7 @@ phases_words k t words words' b c s = record {
   each = s.each;
   even_plan = λ j e. c ∙ s.even_plan j e;
   next_plan = λ j e l. let p = s.next_plan j e l in (c ∙ p.0, p.1);
+  followed = s.followed;
   leader = s.leader;
 }
 
@@ -187,13 +188,13 @@ not_both n a b = let i : ℕ = a.0 in let j : ℕ = b.0 in let e : n ≡ i * 2 =
 pub agree : (t : Pause) (d e a b : ℕ) (x y : Stage) → AtStage t d a x → AtStage t e b y → Agree x y
 agree t d e a b (In u) (In v) p q = sym p.1.2 ∙ (ap t.kinds (half_same p.1.0 q.1.0 t.phase p.1.1 q.1.1) ∙ q.1.2)
 agree t d e a b (In u) (Leads v) p q = not_both t.phase (p.1.0, p.1.1) (q.1.0, q.1.1)
-agree t d e a b (In u) (Led v) p q = not_both t.phase (p.1.0, p.1.1) q.1
+agree t d e a b (In u) (Led v) p q = not_both t.phase (p.1.0, p.1.1) (q.1.0, q.1.1)
 agree t d e a b (In u) (Gone v) p q = tt
 agree t d e a b (Leads u) (In v) p q = not_both t.phase (q.1.0, q.1.1) (p.1.0, p.1.1)
 agree t d e a b (Leads u) (Leads v) p q = sym p.1.2 ∙ (ap t.kinds (odd_same p.1.0 q.1.0 t.phase p.1.1 q.1.1) ∙ q.1.2)
 agree t d e a b (Leads u) (Led v) p q = tt
 agree t d e a b (Leads u) (Gone v) p q = tt
-agree t d e a b (Led u) (In v) p q = not_both t.phase (q.1.0, q.1.1) p.1
+agree t d e a b (Led u) (In v) p q = not_both t.phase (q.1.0, q.1.1) (p.1.0, p.1.1)
 agree t d e a b (Led u) (Leads v) p q = tt
 agree t d e a b (Led u) (Led v) p q = tt
 agree t d e a b (Led u) (Gone v) p q = tt

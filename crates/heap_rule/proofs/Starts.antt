@@ -286,6 +286,7 @@ module _ (k : Config) (limits : IsWithinLimits (sizes_in k)) (words : List ℕ) 
       each = λ d below. (omega arith, omega arith);
       even_plan = λ j e. opens.rested.runs;
       next_plan = λ j e l. absurd (let h : 0 ≡ j * 2 + 1 = e in omega arith);
+      followed = λ j e. absurd (let h : 0 ≡ j * 2 + 2 = e in omega arith);
       leader = λ j e a. absurd (let h : 0 ≡ j * 2 + 1 = e in omega arith);
     };
     unwished = λ j odd led runs. absurd (let h : 0 ≡ j * 2 + 1 = odd in omega arith);

@@ -1,5 +1,5 @@
 -- Phases: how the words, the domains' arrivals and where each domain stands belong together.
-use Rattle.std.specs.Prelude.{◌≡◌, ℕ, zero, suc, ◌+◌, ◌*◌, ◌<◌, ◌≤◌, Bool, true, false, List, [], ◌∷◌, Option, Some, None}
+use Rattle.std.specs.Prelude.{◌≡◌, ◌≢◌, ℕ, zero, suc, ◌+◌, ◌*◌, ◌<◌, ◌≤◌, Bool, true, false, List, [], ◌∷◌, Option, Some, None}
 use Rattle.heap_model.specs.declared.entry.Entry.{Entry}
 use Rattle.heap_model.specs.declared.state.State as model
 use Rattle.heap_model.specs.Domains.{domain_at}
@@ -49,7 +49,7 @@ pub record Pause : Type 0 where
   pub kinds : ℕ → Kind
   pub led : Bool
 
--- the barrier word is the sum of all arrivals, each domain has arrived as often as the phase's number or once more, and the plan word is the kind
+-- the barrier word is the sum of all arrivals, each domain has arrived as often as the phase's number or once more, and the plan word is the kind, which follows the one before
 pub record Phases (k : Config) (t : Pause) (words : List ℕ) : Type 0 where
   pub sum : barrier words ≡ sum_of t.arrived k.domains
   pub begun : t.phase * k.domains ≤ barrier words
@@ -57,14 +57,23 @@ pub record Phases (k : Config) (t : Pause) (words : List ℕ) : Type 0 where
   pub each : (d : ℕ) → d < k.domains → (t.phase ≤ t.arrived d) × (t.arrived d ≤ t.phase + 1)
   pub even_plan : (j : ℕ) → t.phase ≡ j * 2 → plan words ≡ code (t.kinds j)
   pub next_plan : (j : ℕ) → t.phase ≡ j * 2 + 1 → t.led ≡ true → (plan words ≡ code (t.kinds (j + 1))) × Follows (t.kinds j) (t.kinds (j + 1))
+  pub followed : (j : ℕ) → t.phase ≡ j * 2 + 2 → Follows (t.kinds j) (t.kinds (j + 1))
   pub leader : (j : ℕ) → t.phase ≡ j * 2 + 1 → t.arrived 0 ≡ t.phase + 1 → t.led ≡ true
+
+-- who has left an odd phase knows the kind of the phase before it, and domain 0 the one that it named
+abbrev pub LeftOdd : (ℕ → Kind) → ℕ → ℕ → Kind → Type 0
+LeftOdd kinds d arrivals kind = (j : ℕ) × (arrivals ≡ j * 2 + 2) × (d ≡ 0 → kinds (j + 1) ≡ kind) × (d ≢ 0 → kinds j ≡ kind)
+
+-- the kind of an even phase that begins, for a domain that left an odd one and knew this kind: domain 0 named it, and it follows the one that the others know
+abbrev pub Comes : ℕ → Kind → Kind → Type 0
+Comes d known kind = (d ≡ 0 → kind ≡ known) × (d ≢ 0 → Follows known kind)
 
 -- where domain d stands. Only one whose arrivals are the phase's number acts
 abbrev pub AtStage : Pause → ℕ → ℕ → Stage → Type 0
 AtStage t d arrivals (In kind) = (arrivals ≡ t.phase) × ((j : ℕ) × (t.phase ≡ j * 2) × (t.kinds j ≡ kind))
 AtStage t d arrivals (Leads kind) = (arrivals ≡ t.phase) × ((j : ℕ) × (t.phase ≡ j * 2 + 1) × (t.kinds j ≡ kind))
-AtStage t d arrivals (Led kind) = (arrivals ≡ t.phase) × IsOdd t.phase × (d ≡ 0) × (t.led ≡ true)
-AtStage t d arrivals (Gone kind) = (j : ℕ) → arrivals ≡ j * 2 + 1 → t.kinds j ≡ kind
+AtStage t d arrivals (Led kind) = (arrivals ≡ t.phase) × ((j : ℕ) × (t.phase ≡ j * 2 + 1) × (t.kinds (j + 1) ≡ kind)) × (d ≡ 0) × (t.led ≡ true)
+AtStage t d arrivals (Gone kind) = ((j : ℕ) → arrivals ≡ j * 2 + 1 → t.kinds j ≡ kind) × (IsEven arrivals → LeftOdd t.kinds d arrivals kind)
 
 -- Phases, of one domain
 pub record Staged (t : Pause) (x : DomainView) : Type 0 where

@@ -25,6 +25,7 @@ alloc_did h old new mid e dst tag fields l made changes is runs here view told l
       arrivals = ap (λ (x : DomainView). x.own.arrivals) (alloc_rest _ _ _ _ _ told) ∙ ap (λ (x : DomainView). x.own.arrivals) view;
       stage = ap (λ (x : DomainView). x.seen.stage) (alloc_rest _ _ _ _ _ told) ∙ ap (λ (x : DomainView). x.seen.stage) view;
       notes = ap (λ (x : DomainView). x.seen.notes) (alloc_rest _ _ _ _ _ told) ∙ ap (λ (x : DomainView). x.seen.notes) view;
+      copying = ap (λ (x : DomainView). x.seen.copying) (alloc_rest _ _ _ _ _ told) ∙ ap (λ (x : DomainView). x.seen.copying) view;
       remembers = λ all. ap (λ (x : DomainView). x.seen.remembered) (alloc_rest _ _ _ _ _ told) ∙ (ap (λ (x : DomainView). x.seen.remembered) view ∙ (all
           ∙ (ap (λ (x : DomainView). x.own.remembered.items) (sym view) ∙ ap (λ (x : DomainView). x.own.remembered.items) (sym (alloc_rest _ _ _ _ _ told)))));
     })

@@ -79,6 +79,7 @@ major_did h old new mid e dst tag n l hunt changes is runs here view told label 
       arrivals = ap (λ (x : DomainView). x.own.arrivals) (major_rest _ _ _ _ _ told) ∙ ap (λ (x : DomainView). x.own.arrivals) view;
       stage = ap (λ (x : DomainView). x.seen.stage) (major_rest _ _ _ _ _ told) ∙ ap (λ (x : DomainView). x.seen.stage) view;
       notes = ap (λ (x : DomainView). x.seen.notes) (major_rest _ _ _ _ _ told) ∙ ap (λ (x : DomainView). x.seen.notes) view;
+      copying = ap (λ (x : DomainView). x.seen.copying) (major_rest _ _ _ _ _ told) ∙ ap (λ (x : DomainView). x.seen.copying) view;
       remembers = λ all. ap (λ (x : DomainView). x.seen.remembered) (major_rest _ _ _ _ _ told) ∙ (ap (λ (x : DomainView). x.seen.remembered) view ∙ (all ∙ sym (ap (λ (x : DomainView). x.own.remembered.items) (major_rest _ _ _ _ _ told) ∙ ap (λ (x : DomainView). x.own.remembered.items) view)));
     })
     (subst (λ (x : Entry). Answers (sizes_in h.config) old.view.own.number old.view.seen.front new.view.seen.front x (Replied (Block l))) is
@@ -107,6 +108,7 @@ hunted_did h old mid new hunt c r runs here view did =
         arrivals = did.stays.arrivals ∙ ap (λ (x : DomainView). x.own.arrivals) view;
         stage = did.stays.stage ∙ ap (λ (x : DomainView). x.seen.stage) view;
         notes = did.stays.notes ∙ ap (λ (x : DomainView). x.seen.notes) view;
+        copying = did.stays.copying ∙ ap (λ (x : DomainView). x.seen.copying) view;
         remembers = λ all. did.stays.remembers (hunted_remembers old.view mid.view hunt view all);
       };
     }

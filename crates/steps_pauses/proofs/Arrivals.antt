@@ -19,7 +19,7 @@ use Rattle.heap_rule.specs.Layout.{heap_words, before_heap, barrier, plan, ended
 use Rattle.heap_rule.specs.Limits.{sizes_in}
 use Rattle.heap_rule.specs.Places.{Place, Live, Settled}
 use Rattle.heap_rule.specs.Copies.{nothing_copied, Promoting, Cleared as Clears, AllCleared, Emptied, Rooted}
-use Rattle.heap_rule.specs.Phases.{code, Follows, sum_of, IsEven, IsOdd, Pause, Phases, AtStage, Staged, Unwished}
+use Rattle.heap_rule.specs.Phases.{code, Follows, sum_of, IsEven, IsOdd, Pause, Phases, LeftOdd, AtStage, Staged, Unwished}
 use Rattle.heap_rule.specs.Pools.{Stock, Tenancy, nobody, drawn, drawn_in, place_in, limit_of, Reserved, Drawers, Hunts}
 use Rattle.heap_rule.specs.Room.{spent_stock, drawn_in_all, Room, IsUnused, Drawable}
 use Rattle.heap_rule.specs.Rule.{Good, Rule}
@@ -45,6 +45,13 @@ leaves t d arrivals (Leads kd) from at j e = let f = at.1 in let i : ℕ = f.0 i
 leaves t d arrivals (Led kd) from at j e = let f = at.1 in let i : ℕ = f.0 in let g : arrivals ≡ t.phase = at.0 in let h : t.phase ≡ i * 2 + 1 = f.1 in absurd (omega arith)
 leaves t d arrivals (Gone kd) from at j e = absurd from
 
+-- also where it leaves an odd phase
+leaves_odd : (t : Pause) (d arrivals : ℕ) (st : Stage) → ArrivesFrom d st → AtStage t d arrivals st → IsEven (arrivals + 1) → LeftOdd t.kinds d (arrivals + 1) (kind_in st)
+leaves_odd t d arrivals (In kd) from at even = absurd (let i : ℕ = at.1.0 in let g : arrivals ≡ t.phase = at.0 in let h : t.phase ≡ i * 2 = at.1.1 in let j : ℕ = even.0 in let e : arrivals + 1 ≡ j * 2 = even.1 in omega arith)
+leaves_odd t d arrivals (Leads kd) from at even = (at.1.0, (let i : ℕ = at.1.0 in let g : arrivals ≡ t.phase = at.0 in let h : t.phase ≡ i * 2 + 1 = at.1.1 in omega arith), λ first. absurd (from first), λ other. at.1.2)
+leaves_odd t d arrivals (Led kd) from at even = (at.1.0, (let i : ℕ = at.1.0 in let g : arrivals ≡ t.phase = at.0 in let h : t.phase ≡ i * 2 + 1 = at.1.1 in omega arith), λ first. at.1.2, λ other. absurd (other at.2))
+leaves_odd t d arrivals (Gone kd) from at even = absurd from
+
 -- domain 0 leaves an odd phase when it has led
 has_led : (t : Pause) (d arrivals : ℕ) (st : Stage) → d ≡ 0 → (j : ℕ) → t.phase ≡ j * 2 + 1 → ArrivesFrom d st → AtStage t d arrivals st → t.led ≡ true
 has_led t d arrivals (In kd) first j e from at = absurd (let i : ℕ = at.1.0 in let h : t.phase ≡ i * 2 = at.1.1 in omega arith)
@@ -57,7 +64,7 @@ ahead : (t t' : Pause) (d arrivals : ℕ) (st : Stage) → arrivals ≡ t.phase 
 ahead t t' d arrivals (In kd) up same at = absurd (let e : arrivals ≡ t.phase = at.0 in omega arith)
 ahead t t' d arrivals (Leads kd) up same at = absurd (let e : arrivals ≡ t.phase = at.0 in omega arith)
 ahead t t' d arrivals (Led kd) up same at = absurd (let e : arrivals ≡ t.phase = at.0 in omega arith)
-ahead t t' d arrivals (Gone kd) up same at = λ j e. same j ∙ at j e
+ahead t t' d arrivals (Gone kd) up same at = (λ j e. same j ∙ at.0 j e, λ even. let l = at.1 even in (l.0, l.1, λ first. same (l.0 + 1) ∙ l.2 first, λ other. same l.0 ∙ l.3 other))
 
 -- where only arrivals of others change
 same_stage : (t : Pause) (arrived' : ℕ → ℕ) (d arrivals : ℕ) (st : Stage) → AtStage t d arrivals st → AtStage (record t { arrived = arrived' }) d arrivals st
@@ -90,7 +97,7 @@ gone_leads kind last e = cc
 in_promote : (t : Pause) (d arrivals : ℕ) (st : Stage) → ArrivesFrom d st → AtStage t d arrivals st → Promoting t → st ≡ In Promote
 in_promote t d arrivals (In kd) from at p = ap In (sym at.1.2 ∙ (ap t.kinds (let i : ℕ = at.1.0 in let j : ℕ = p.0 in let e : t.phase ≡ i * 2 = at.1.1 in let f : t.phase ≡ j * 2 = p.1 in let g : i ≡ j = omega arith in g) ∙ p.2))
 in_promote t d arrivals (Leads kd) from at p = absurd (not_both t.phase (p.0, p.1) (at.1.0, at.1.1))
-in_promote t d arrivals (Led kd) from at p = absurd (not_both t.phase (p.0, p.1) at.1)
+in_promote t d arrivals (Led kd) from at p = absurd (not_both t.phase (p.0, p.1) (at.1.0, at.1.1))
 in_promote t d arrivals (Gone kd) from at p = absurd from
 
 -- who is one ahead is in no phase
@@ -220,8 +227,8 @@ module _ (k : Config) (s : Words) (r : Rule k s) (id : ℕ) (hist : List Entry) 
       (λ same. has_led pause number x.own.arrivals x.seen.stage (sym same) j odd may.from good.staged.stage)
       (λ other. r.whole.phases.leader j odd (sym (else_is 0 other) ∙ up))
 
-  known : (j : ℕ) → x.own.arrivals + 1 ≡ j * 2 + 1 → pause.kinds j ≡ kind_in x.seen.stage
-  known = leaves pause number x.own.arrivals x.seen.stage may.from good.staged.stage
+  known : AtStage pause number (x.own.arrivals + 1) (Gone (kind_in x.seen.stage))
+  known = (leaves pause number x.own.arrivals x.seen.stage may.from good.staged.stage, leaves_odd pause number x.own.arrivals x.seen.stage may.from good.staged.stage)
 
   promotes : Promoting pause → x.seen.stage ≡ In Promote
   promotes = in_promote pause number x.own.arrivals x.seen.stage may.from good.staged.stage
@@ -321,6 +328,7 @@ module _ (k : Config) (s : Words) (r : Rule k s) (id : ℕ) (hist : List Entry) 
       each = each_is;
       even_plan = λ j e. plan_is ∙ r.whole.phases.even_plan j e;
       next_plan = λ j e l. let p = r.whole.phases.next_plan j e l in (plan_is ∙ p.0, p.1);
+      followed = r.whole.phases.followed;
       leader = leader_is;
     };
     staged = record { arrivals = counted; stage = known };
@@ -434,6 +442,7 @@ module _ (k : Config) (s : Words) (r : Rule k s) (id : ℕ) (hist : List Entry) 
       -- an odd phase ends when domain 0 has led
       even_plan = λ j e. half_before j pause.phase e (λ i odd more. plan_is ∙ ((r.whole.phases.next_plan i odd (led_is i odd)).0 ∙ ap (λ (n : ℕ). code (pause.kinds n)) more));
       next_plan = λ j e l. absurd (true≢false (sym l));
+      followed = λ j e. let odd : pause.phase ≡ j * 2 + 1 = (let f : pause.phase + 1 ≡ j * 2 + 2 = e in omega arith) in (r.whole.phases.next_plan j odd (led_is j odd)).1;
       leader = λ j e a. absurd (let f : arrived' 0 ≡ pause.phase + 1 = ups 0 r.limits.some_domain in let g : arrived' 0 ≡ pause.phase + 1 + 1 = a in omega arith);
     }
 

@@ -17,7 +17,7 @@ use Rattle.heap_rule.specs.declared.phase.Stage.TheVariants.{In, Leads, Led, Gon
 use Rattle.heap_rule.specs.declared.phase.Note.{Note}
 use Rattle.heap_rule.specs.declared.phase.Note.TheVariants.{Want, Asked, Barrier, Ended, Cleared, SetBack}
 use Rattle.heap_rule.specs.Layout.{heap_words, before_heap, barrier, plan, ended_word, want}
-use Rattle.heap_rule.specs.Phases.{code, Follows, sum_of, is_over, IsEven, IsOdd, Pause, Phases, AtStage, Staged, Still, IsInPause, TookBack, HasSetBack, Unwished, last_note}
+use Rattle.heap_rule.specs.Phases.{code, Follows, Comes, sum_of, is_over, IsEven, IsOdd, Pause, Phases, LeftOdd, AtStage, Staged, Still, IsInPause, TookBack, HasSetBack, Unwished, last_note}
 use Rattle.heap_rule.specs.Pools.{Tenancy, Takes, IsLeading, KeepsReserve}
 use Rattle.heap_rule.specs.Places.{Live}
 use Rattle.heap_rule.specs.Copies.{nothing_copied, Promoting, Resetting}
@@ -94,6 +94,22 @@ record Looks (k : Config) (s : Words) (id : ℕ) (hist : List Entry) (x : Domain
   rule : Rule k record { words = s.words; homes = s.homes; views = set s.views id (one k hist after) }
   told : LookTold k x (barrier s.words) after
 
+in_kind : (a b : Kind) → ◌≡◌ {A = Stage} (In a) (In b) → a ≡ b
+in_kind a b e = cc
+
+leads_in : (a b : Kind) → ◌≡◌ {A = Stage} (Leads a) (In b) → ⊥
+leads_in a b e = cc
+
+-- the kind of the phase that has begun
+coming : (t : Pause) (d arrivals : ℕ) (last : Kind) → arrivals ≡ t.phase → LeftOdd t.kinds d arrivals last → ((j : ℕ) → t.phase ≡ j * 2 + 2 → Follows (t.kinds j) (t.kinds (j + 1))) → (even : IsEven t.phase) → Comes d last (t.kinds even.0)
+coming t d arrivals last here left followed even =
+    let i : ℕ = left.0 in
+    let j : ℕ = even.0 in
+    let e : arrivals ≡ i * 2 + 2 = left.1 in
+    let f : t.phase ≡ j * 2 = even.1 in
+    let next : j ≡ i + 1 = omega arith in
+    (λ first. ap t.kinds next ∙ left.2 first, λ other. subst (λ (n : ℕ). Follows last (t.kinds n)) (sym next) (subst (λ (kind : Kind). Follows kind (t.kinds (i + 1))) (left.3 other) (followed i (sym here ∙ e))))
+
 looked_at : (k : Config) (id : ℕ) (hist : List Entry) (x : DomainView) → IsGone x → (s : Words) → Rule k s → get_elem? s.views id ≡ some (one k hist x) → Looks k s id hist x
 looked_at k id hist x gone s r at =
     let N : ℕ = k.domains in
@@ -115,9 +131,11 @@ looked_at k id hist x gone s r at =
     let tenancy : Tenancy = r.account.tenancy in
     let live : Live = r.account.live in
     let quiet : x.seen.copying ≡ nothing_copied = quiet_in k live x g.owes (λ e. gone_promotes (kind_in x.seen.stage) (sym gone ∙ e)) in
+    let known : AtStage t x.own.number a (Gone (kind_in x.seen.stage)) = subst (AtStage t x.own.number a) gone st.stage in
+    let came : IsEven a → (even : IsEven t.phase) → Comes x.own.number (kind_in x.seen.stage) (t.kinds even.0) = (λ left even. coming t x.own.number a (kind_in x.seen.stage) here (known.1 left) P.followed even) in
     let moving : Stage → Move = (λ stage. record (no_move x) { front = r.account.log; stage = stage; notes = notes }) in
-    let through : (stage : Stage) → AtStage t x.own.number a stage → ((kind : Kind) × (((stage ≡ In kind) × IsEven a) ⊎ ((stage ≡ Leads (kind_in x.seen.stage)) × IsOdd a))) → Looks k s id hist x =
-    (λ stage at' says. record {
+    let through : (stage : Stage) → AtStage t x.own.number a stage → ((kind : Kind) × (((stage ≡ In kind) × IsEven a) ⊎ ((stage ≡ Leads (kind_in x.seen.stage)) × IsOdd a))) → ((kind : Kind) → stage ≡ In kind → Comes x.own.number (kind_in x.seen.stage) kind) → Looks k s id hist x =
+    (λ stage at' says comes. record {
       after = moved_to x (moving stage);
       rule = turns k s r id hist x at (moving stage) t tenancy.stock s.words record {
         owes = owes_rests k live x (moved_to x (moving stage)) refl quiet (ap (λ (c : Copying). c.pending) quiet) refl g.owes;
@@ -153,14 +171,15 @@ looked_at k id hist x gone s r at =
       };
       told = record {
         waits = λ below. absurd (let u : b < end = below in let w : end ≤ b = over_it in omega arith);
-        begun = λ _. record { seen = me.front; legal = r.whole.legal; kind = says.0; stage = says.1; view = refl };
+        begun = λ _. record { seen = me.front; legal = r.whole.legal; kind = says.0; stage = says.1; comes = comes; view = refl };
       };
     }) in
     ⊎_elim
-    (λ (even : IsEven t.phase). through (In (t.kinds even.0)) (here, (even.0, even.1, refl)) (t.kinds even.0, inl (refl, subst IsEven (sym here) even)))
+    (λ (even : IsEven t.phase). through (In (t.kinds even.0)) (here, (even.0, even.1, refl)) (t.kinds even.0, inl (refl, subst IsEven (sym here) even))
+        (λ kind is. subst (Comes x.own.number (kind_in x.seen.stage)) (in_kind (t.kinds even.0) kind is) (came (subst IsEven (sym here) even) even)))
     (λ (odd : IsOdd t.phase).
-    let last : t.kinds odd.0 ≡ kind_in x.seen.stage = subst (AtStage t x.own.number a) gone st.stage odd.0 (here ∙ odd.1) in
-    through (Leads (kind_in x.seen.stage)) (here, (odd.0, odd.1, last)) (Run, inr (refl, subst IsOdd (sym here) odd)))
+    let last : t.kinds odd.0 ≡ kind_in x.seen.stage = known.0 odd.0 (here ∙ odd.1) in
+    through (Leads (kind_in x.seen.stage)) (here, (odd.0, odd.1, last)) (Run, inr (refl, subst IsOdd (sym here) odd)) (λ kind is. absurd (leads_in (kind_in x.seen.stage) kind is)))
     (parity t.phase))
     (λ not_over. record {
       after = noted x (Barrier b);
@@ -196,7 +215,10 @@ others_led : (t : Pause) (j : ℕ) (next : Kind) (d arrivals : ℕ) (st : Stage)
 others_led t j next d arrivals (In kd) odd other few at = absurd (let i : ℕ = at.1.0 in let h : t.phase ≡ i * 2 = at.1.1 in omega arith)
 others_led t j next d arrivals (Leads kd) odd other few at = let i : ℕ = at.1.0 in let h : t.phase ≡ i * 2 + 1 = at.1.1 in (at.0, (i, h, over_else (j + 1) next t.kinds i (λ e. omega arith) ∙ at.1.2))
 others_led t j next d arrivals (Led kd) odd other few at = absurd (other at.2)
-others_led t j next d arrivals (Gone kd) odd other few at = λ i e. over_else (j + 1) next t.kinds i (λ same. omega arith) ∙ at i e
+others_led t j next d arrivals (Gone kd) odd other few at = (
+  λ i e. over_else (j + 1) next t.kinds i (λ same. omega arith) ∙ at.0 i e,
+  λ even. let l = at.1 even in (l.0, l.1, λ first. absurd (other first), λ _. over_else (j + 1) next t.kinds l.0 (λ same. let i : ℕ = l.0 in let e : arrivals ≡ i * 2 + 2 = l.1 in let g : i ≡ j + 1 = same in omega arith) ∙ l.3 other),
+)
 
 -- when the next kind is named it stays so that nothing lives in minor areas
 resetting_led : (t : Pause) (j : ℕ) (next : Kind) → t.phase ≡ j * 2 + 1 → Resetting (record t { kinds = over (j + 1) next t.kinds; led = true }) → Resetting t
@@ -291,9 +313,10 @@ leads k slots id hist x new next may s r _ at _ =
                 plan' ∙ (may.word ∙ ap code (sym (over_here (j + 1) next t.kinds))),
                 subst (λ (z : Kind × Kind). Follows z.0 z.1) (λ c. (sym (over_else (j + 1) next t.kinds j (λ f. omega arith) ∙ before.1.2) c, sym (over_here (j + 1) next t.kinds) c)) may.follows,
               );
+          followed = λ i e. absurd (let h : t.phase ≡ i * 2 + 2 = e in omega arith);
           leader = λ i e a. refl;
         };
-        staged = record { arrivals = g.staged.arrivals; stage = (before.0, (j, odd), may.leads, refl) };
+        staged = record { arrivals = g.staged.arrivals; stage = (before.0, (j, odd, over_here (j + 1) next t.kinds), may.leads, refl) };
         unwished = λ i e l runs. same_want ∙ g.took_back may.last may.stage (may.took_back (sym (named i e) ∙ runs));
         took_back = λ kind leads last. absurd (led_leads next kind leads);
         others_took_back = λ z _ took kind leads last. same_want ∙ took kind leads last;

@@ -22,7 +22,7 @@ use Rattle.heap_rule.specs.declared.phase.Note.{Note}
 use Rattle.heap_rule.specs.declared.phase.Note.TheVariants.{Want, Asked, Barrier, Ended, Cleared, SetBack}
 use Rattle.heap_rule.specs.declared.view.Hunt.TheVariants.{Rests}
 use Rattle.heap_rule.specs.Limits.{sizes_in}
-use Rattle.heap_rule.specs.Phases.{code, Follows, IsEven, IsOdd, last_note}
+use Rattle.heap_rule.specs.Phases.{code, Follows, Comes, IsEven, IsOdd, last_note}
 use Rattle.heap_rule.specs.Pools.{prepared_at}
 use Rattle.heap_rule.specs.Copies.{nothing_copied, HoldsOld}
 use Rattle.heap_rule.specs.Standing.{Entered}
@@ -92,12 +92,13 @@ CanArrive own = own.arrivals + 1 < 2 ^ 64
 abbrev pub CountsArrival : Own → Own → Type 0
 CountsArrival own after = after ≡ record own { arrivals = own.arrivals + 1; pending = forgotten own.pending }
 
--- the phase has begun: the front is the whole history so far
+-- the phase has begun: the front is the whole history so far, and an even phase is of the kind that domain 0 named, which follows the last
 pub record Begun (k : Config) (x : DomainView) (found : ℕ) (y : DomainView) : Type 0 where
   pub seen : IsFrontOf x.own.number y.seen.front x.seen.front
   pub legal : Legal (sizes_in k) y.seen.front
   pub kind : Kind
   pub stage : ((y.seen.stage ≡ In kind) × IsEven x.own.arrivals) ⊎ ((y.seen.stage ≡ Leads (kind_in x.seen.stage)) × IsOdd x.own.arrivals)
+  pub comes : (next : Kind) → y.seen.stage ≡ In next → Comes x.own.number (kind_in x.seen.stage) next
   pub view : y ≡ record x { seen = record x.seen { front = y.seen.front; stage = y.seen.stage; notes = x.seen.notes ++ Barrier found ∷ [] } }
 
 -- a load of the barrier word by a domain that has arrived
