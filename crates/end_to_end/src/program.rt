@@ -93,5 +93,5 @@ pub(crate) fn source(
 pub(crate) fn sink(alloc: Global, piece: usize, fails: &[u32]) -> Result<MemSink, AllocError>
     requires { 1 ≤ piece }
 {
-    MemSink::make(alloc, 4096, piece, Vec::from_slice(alloc, fails)?)
+    MemSink::make(alloc, 65_536, piece, Vec::from_slice(alloc, fails)?)
 }

@@ -3,7 +3,7 @@ use crate::program::{PLAIN, PLAIN_PRINTS, run_plain};
 use std::test::Fail;
 
 // Words, a script, and what its run prints.
-const REPLIES: [(&str, &str, &str); 9] = [
+const REPLIES: [(&str, &str, &str); 11] = [
     ("run --domains 1", PLAIN, PLAIN_PRINTS),
     ("run --domains 1", "heap 1\ndomain 0\n", "domain 0\n"),
     ("run", "heap 1\ndomain 0\n", "domain 0\ndomain 1\n"),
@@ -37,6 +37,16 @@ const REPLIES: [(&str, &str, &str); 9] = [
         "heap 1\ndomain 0\nallocmaj 1 3 126\nload 2 1 125\nload 2 1 126\n",
         "domain 0\nblk 0:1\nint 0\nbounds\n",
     ),
+    (
+        "run --domains 1",
+        "heap 1\ndomain 0\nalloc 1 0 2\nint 2 7\nstore 1 0 2\nstore 0 3 1\ndrop 1\nminor\nload 4 0 3\nload 5 4 0\n",
+        "domain 0\nblk 0:1\nok\nok\nok\nok\nok\nblk 0:1\nint 7\n",
+    ),
+    (
+        "run --domains 1",
+        "heap 1\ndomain 0\nalloc 1 0 2\nalloc 2 0 2\nstore 1 0 2\nstore 2 0 1\nstore 1 1 1\nminor\nload 3 1 0\nload 4 3 0\nload 5 4 1\n",
+        "domain 0\nblk 0:1\nblk 0:2\nok\nok\nok\nok\nblk 0:2\nblk 0:1\nblk 0:1\n",
+    ),
 ];
 
 #[test]
@@ -47,25 +57,6 @@ fn scripts_of_few_replies(rt: HostRuntime) -> Result<(), Fail> {
         assert_eq!(rt; given.line.len(), 0, "{script}");
         assert_eq!(rt; given.written.as_slice(), prints.as_bytes(), "{script}");
     }
-    Ok(())
-}
-
-// A block of 126 fields takes 128 words, so 32 of them fit into a minor area of 4096.
-#[test]
-fn a_minor_area_fills(rt: HostRuntime) -> Result<(), Fail> {
-    let alloc = rt.alloc();
-    let mut script = String::from_str(alloc, "heap 1\ndomain 0\n")?;
-    let mut prints = String::from_str(alloc, "domain 0\n")?;
-    for serial in 1..=32u32 {
-        script.push_str("alloc 1 0 126\n")?;
-        prints.push_str(&format!(in alloc; "blk 0:{serial}\n")?)?;
-    }
-    script.push_str("alloc 1 0 126\nalloc 2 0 2\nload 2 1 125\n")?;
-    prints.push_str("full\nfull\nint 0\n")?;
-    let words = "run --domains 1 --minor 4096 --pools 14";
-    let given = run_plain(&rt, alloc, words, script.as_str())?;
-    assert_eq!(rt; given.number, 0);
-    assert_eq!(rt; given.written.as_slice(), prints.as_bytes());
     Ok(())
 }
 

@@ -145,3 +145,77 @@ fn a_pause_takes_all_domains_with_it(rt: HostRuntime) -> Result<(), Fail> {
     assert_eq!(rt; turned(&heap, &mut idle), Some(Turned::Ended));
     Ok(())
 }
+
+// Both go on by turns, each so often.
+fn take_turns(heap: &Heap, first: &mut DomainRun, second: &mut DomainRun, turns: u32)
+    requires first { IsIn first.old.token heap.now }
+    requires second { IsIn second.old.token heap.now }
+    ensures first { IsIn first.new.token heap.now }
+    ensures second { IsIn second.new.token heap.now }
+{
+    for _taken in 0..turns {
+        turned(heap, first);
+        turned(heap, second);
+    }
+}
+
+// A young block is reached from a register of each domain and from a field that the first remembers. Both
+// domains claim it, and go on with one copy of it.
+#[test]
+fn two_domains_claim_one_block(rt: HostRuntime) -> Result<(), Fail> {
+    let (heap, mut domains) = Heap::start(rt.alloc(), TWO_DOMAINS)?;
+    let second = domains.pop().ok_or("no domain")?;
+    let first = domains.pop().ok_or("no domain")?;
+    let commands = vec![in rt.alloc();
+        Command::Alloc {
+            dst: 1,
+            tag: 0,
+            fields: 2
+        },
+        Command::Store {
+            block: 0,
+            index: 3,
+            item: 1
+        },
+        Command::Minor,
+        Command::Load {
+            dst: 2,
+            src: 0,
+            index: 3
+        },
+    ]?;
+    let mut making = DomainRun::make(rt.alloc(), first, commands)?;
+    let commands = vec![in rt.alloc();
+        Command::Poll,
+        Command::Load {
+            dst: 1,
+            src: 0,
+            index: 3
+        },
+    ]?;
+    let mut sharing = DomainRun::make(rt.alloc(), second, commands)?;
+    take_turns(&heap, &mut making, &mut sharing, 2);
+    let young = making.domain().register(1);
+    assert_eq!(rt; sharing.domain().register(1), young);
+    assert_eq!(rt; making.domain().remembered_len(), 1);
+    take_turns(&heap, &mut making, &mut sharing, 40);
+    assert!(rt; making.has_ended() && sharing.has_ended());
+    let copy = making.domain().register(1);
+    assert!(rt; copy != young);
+    assert_eq!(rt; making.domain().register(2), copy);
+    assert_eq!(rt; sharing.domain().register(1), copy);
+    assert_eq!(rt; making.domain().area_used(), 0);
+    assert_eq!(rt; making.domain().remembered_len(), 0);
+    let block = Label {
+        domain: 0,
+        serial: 1,
+    };
+    let replies = [
+        Reply::Block(block),
+        Reply::Done,
+        Reply::Done,
+        Reply::Block(block),
+    ];
+    assert_eq!(rt; making.replies(), replies.as_slice());
+    Ok(())
+}

@@ -71,3 +71,37 @@ fn a_young_block_in_the_shared_block(rt: HostRuntime) -> Result<(), Fail> {
     assert_eq!(rt; dom.remembered_room() + 1, room);
     Ok(())
 }
+
+// Stores register 1 into field 3 of the shared block until no more fields can be remembered. Answers how
+// often it did.
+fn fill_remembered(heap: &Heap, dom: &mut Domain) -> u32
+    requires { Runs heap.now dom.old }
+    ensures { Runs heap.now dom.new }
+{
+    for stored in 0..10_000u32 {
+        if dom.remembered_room() == 0 {
+            return stored;
+        }
+        store(heap, dom, 0, 3, 1);
+    }
+    10_000
+}
+
+#[test]
+fn a_remembered_set_fills(rt: HostRuntime) -> Result<(), Fail> {
+    let config = Config {
+        domains: 1,
+        minor_words: 4096,
+        pools: 14,
+        finals: 0,
+        ephes: 0,
+    };
+    let (heap, mut domains) = Heap::start(rt.alloc(), config)?;
+    let mut dom = domains.pop().ok_or("no domain")?;
+    if alloc_young(&heap, &mut dom, 1, 0, 2).is_err() {
+        return Err("no block")?;
+    }
+    assert_eq!(rt; fill_remembered(&heap, &mut dom), 4096);
+    assert_eq!(rt; (dom.remembered_len(), dom.remembered_room()), (4096, 0));
+    Ok(())
+}
