@@ -1,4 +1,4 @@
--- Places that are given back, and a domain's whole share.
+-- Places that are given back.
 use Rattle.std.proofs.Common.{◌≡◌, ℕ, ◌<◌, Some, None, sym, subst}
 use Rattle.heap_model.specs.Domains.{class_count}
 use Rattle.heap_rule.specs.declared.config.Config.{Config}

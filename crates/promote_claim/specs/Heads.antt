@@ -9,6 +9,7 @@ use Rattle.heap_rule.specs.Places.{unmarked, head_of, IsBuilt, IsNewHead}
 abbrev pub IsForward : ℕ → Type 0
 IsForward copy = IsPackableHead (Forward copy)
 
+-- the word of such a head
 abbrev pub forward_word : ℕ → ℕ
 forward_word copy = head_word (Forward copy)
 
