@@ -76,7 +76,7 @@ from_start h old start new Over same s = (s.0 ∙ same, s.1)
 
 sign : (h : SharedHeap) (old new : RunView) (a : Turned) → TurnAnswers h old new a → Sign h old new a
 sign h old new Did says = ⊎_elim
-    (λ (g : GoesBy h old new). inl (ap (λ (o : Own). o.arrivals) (passes_leaves h.config old.token.view new.token.view g.last g.kind g.passes).own))
+    (λ (g : GoesBy h old new). inl (passes_leaves h.config old.token.view new.token.view g.last g.kind g.passes).arrivals)
     (λ (t : (start : RunView) × Starts h old start × RunAnswers h start new Did). from_start h old t.0 new Did (starts_same h old t.0 t.1) (run_sign h t.0 new Did t.2)) says
 sign h old new (Waiting b) w = (ap arrivals w.run, (Barrier b, notes old, ap notes w.run, refl))
 sign h old new (Idle n) t = from_start h old t.0 new (Idle n) (starts_same h old t.0 t.1) (run_sign h t.0 new (Idle n) t.2)

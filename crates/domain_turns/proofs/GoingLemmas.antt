@@ -82,6 +82,6 @@ gone_goes h old new g =
     let l = passes_leaves h.config old.token.view new.token.view g.last g.kind g.passes in
     record {
       commands = ap (λ (r : RunView). r.commands) g.run;
-      number = ap (λ (o : Own). o.number) l.own;
+      number = l.number;
       front = front_prefix _ _ _ l.front;
     }

@@ -1,3 +1,4 @@
+pub mod PauseLemmas
 pub mod Trying
 pub mod Moving
 pub mod LeavingLemmas

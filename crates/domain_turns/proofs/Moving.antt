@@ -13,7 +13,8 @@ use Rattle.heap_rule.specs.declared.phase.Kind.{Kind}
 use Rattle.heap_rule.specs.declared.view.DomainView.{DomainView}
 use Rattle.heap_rule.specs.Limits.{sizes_in}
 use Rattle.heap_rule.specs.Token.{Token, SharedHeap, IsIn}
-use Rattle.domain_turns.specs.Runs.{RunView, IsRun, StandsAt, is_end_of}
+use Rattle.heap_rule.specs.declared.view.Hunt.TheVariants.{Rests}
+use Rattle.domain_turns.specs.Runs.{RunView, IsRun, IsBetween, is_end_of}
 
 -- the domain made no entry, and has the labels and the block in the making that it had
 pub record Moves (old new : Token) : Type 0 where
@@ -21,7 +22,7 @@ pub record Moves (old new : Token) : Type 0 where
   pub number : new.view.own.number ≡ old.view.own.number
   pub serial : new.view.own.serial ≡ old.view.own.serial
   pub made : new.view.seen.made ≡ old.view.seen.made
-  pub hunt : new.view.seen.hunt ≡ old.view.seen.hunt
+  pub hunt : old.view.seen.hunt ≡ Rests → new.view.seen.hunt ≡ Rests
   pub front : IsFrontOf old.view.own.number new.view.seen.front old.view.seen.front
 
 any_append : (p : Entry → Bool) (xs ys : List Entry) → IsTrue (list_any p xs) → IsTrue (list_any p (xs ++ ys))
@@ -32,8 +33,8 @@ any_append p (x ∷ xs) ys is = more (p x) (list_any p xs) (list_any p (xs ++ ys
     more true b c f h = refl
     more false b c f h = f h
 
-pub moved_is_run : (r : RunView) (new : Token) (left : Option Kind) (asked : Option ℕ) → IsRun r → Moves r.token new → StandsAt left new.view.seen.stage → IsRun (record r { token = new; left = left; asked = asked })
-moved_is_run r new left asked is m stands =
+pub moved_is_run : (r : RunView) (new : Token) (left : Option Kind) (asked : Option ℕ) → IsRun r → Moves r.token new → IsBetween left asked new → IsRun (record r { token = new; left = left; asked = asked })
+moved_is_run r new left asked is m between =
     let d : ℕ = r.token.view.own.number in
     let k : Config = r.token.config in
     let old : List Entry = r.token.view.seen.front in
@@ -51,10 +52,10 @@ moved_is_run r new left asked is m stands =
       few = is.few;
       fit = is.fit;
       idle = m.made ∙ is.idle;
-      at_rest = m.hunt ∙ is.at_rest;
+      at_rest = m.hunt is.at_rest;
       goes_on = λ running. subst (λ (x : ℕ × Config). (Rattle.heap_model.specs.Domains.domain_at (state_after (opening (sizes_in x.1)) new.view.seen.front) x.0).ended ≡ false) (λ i. (sym m.number i, sym m.config i))
           ((keeps_front (opening (sizes_in k)) d new.view.seen.front old m.front).ended ∙ is.goes_on running);
-      stands = stands;
+      between = between;
       labels = subst (λ (n : ℕ). n ≤ 4000000000 + r.next) (sym m.serial) is.labels;
       done = is.done;
       over = λ ended. subst (λ (x : ℕ × List Entry). IsTrue (list_any (is_end_of x.0) x.1)) (λ i. (sym m.number i, sym m.front.appends i)) (any_append (is_end_of d) old rest (is.over ended));
@@ -75,7 +76,7 @@ view_moves h old new y a b is number serial made hunt front = record {
   number = ap (λ (z : DomainView). z.own.number) is ∙ number;
   serial = ap (λ (z : DomainView). z.own.serial) is ∙ serial;
   made = ap (λ (z : DomainView). z.seen.made) is ∙ made;
-  hunt = ap (λ (z : DomainView). z.seen.hunt) is ∙ hunt;
+  hunt = λ at_rest. ap (λ (z : DomainView). z.seen.hunt) is ∙ (hunt ∙ at_rest);
   front = subst (λ (z : DomainView). IsFrontOf old.view.own.number z.seen.front old.view.seen.front) (sym is) front;
 }
 

@@ -16,7 +16,9 @@ use Rattle.heap_rule.specs.declared.view.Own.{Own}
 use Rattle.heap_rule.specs.declared.view.DomainView.{DomainView}
 use Rattle.domain_turns.specs.Tries.{Enters, Stands, Tried, labels_given}
 use Rattle.heap_rule.specs.declared.phase.Kind.{Kind}
-use Rattle.domain_turns.specs.Runs.{StandsAt, RunView, IsRun, HasEnded, is_end_of}
+use Rattle.heap_rule.specs.Phases.{IsEven}
+use Rattle.domain_turns.specs.Runs.{RunView, IsBetween, IsRun, HasEnded, is_end_of, served_since}
+use Rattle.domain_turns.proofs.PauseLemmas.{quiet_as}
 use Rattle.std.specs.List.{list_any}
 use Rattle.std.specs.Prelude.{cond, IsTrue, ◌||◌}
 
@@ -45,6 +47,29 @@ labels_few (Alloc dst tag fields) (Block l) = omega arith
 labels_few (AllocMaj dst tag fields) (Block l) = omega arith
 labels_few c r = omega arith
 
+-- after the try of a command the domain runs on
+tried_between : (h : SharedHeap) (old new : Token) (c : model.Command) (reply : Reply) (asked : Option ℕ) → IsBetween None asked old → Tried h old new c reply → IsBetween None None new
+tried_between h old new c reply asked is t = record {
+  stands = t.runs.acts.runs;
+  quiet = quiet_as old.view new.view t.stays.copying (ap (λ (o : Own). o.pending) t.own) (ap (λ (o : Own). o.prepared) t.own) is.quiet;
+  even = λ none. subst IsEven (sym t.stays.arrivals) (is.even none);
+  remembers = λ _. t.runs.remembers;
+  collected = λ _ served. cc;
+  has_left = λ known left. cc;
+}
+
+-- after the end of the trace it runs too
+ended_between : (h : SharedHeap) (old new : Token) (asked : Option ℕ) → IsBetween None asked old → HasEnded h old new → IsBetween None asked new
+ended_between h old new asked is t =
+    let arrivals : new.view.own.arrivals ≡ old.view.own.arrivals = ap (λ (x : DomainView). x.own.arrivals) t.view in record {
+      stands = ap (λ (x : DomainView). x.seen.stage) t.view ∙ is.stands;
+      quiet = quiet_as old.view new.view (ap (λ (x : DomainView). x.seen.copying) t.view) (ap (λ (x : DomainView). x.own.pending) t.view) (ap (λ (x : DomainView). x.own.prepared) t.view) is.quiet;
+      even = λ none. subst IsEven (sym arrivals) (is.even none);
+      remembers = λ none. ap (λ (x : DomainView). x.seen.remembered) t.view ∙ (is.remembers none ∙ sym (ap (λ (x : DomainView). x.own.remembered.items) t.view));
+      collected = λ none served. ap (λ (x : DomainView). x.own.used) t.view ∙ is.collected none (ap (served_since asked) (sym arrivals) ∙ served);
+      has_left = λ known left. cc;
+    }
+
 pub tried_is_run : (h : SharedHeap) (r : RunView) (new : Token) (c : model.Command) (reply : Reply) → IsRun r → r.ended ≡ false → r.left ≡ None → slice_get r.commands r.next ≡ Some c → Tried h r.token new c reply
     → IsRun (record r { token = new; next = r.next + 1; replies = r.replies ++ reply ∷ []; asked = None })
 tried_is_run h r new c reply is running left at t =
@@ -71,7 +96,7 @@ tried_is_run h r new c reply is running left at t =
       idle = t.runs.idle;
       at_rest = t.runs.at_rest;
       goes_on = λ running. t.runs.acts.goes_on;
-      stands = subst (λ (l : Option Kind). StandsAt l new.view.seen.stage) (sym left) t.runs.acts.runs;
+      between = subst (λ (l : Option Kind). IsBetween l None new) (sym left) (tried_between h r.token new c reply r.asked (subst (λ (l : Option Kind). IsBetween l r.asked r.token) left is.between) t);
       labels = omega (arith, is.labels, serial, few);
       done = λ ended. cc;
       over = λ ended. cc;
@@ -85,8 +110,8 @@ any_last p (x ∷ xs) e is = any_more (p x) (list_any p (xs ++ e ∷ [])) (any_l
     any_more true b h = refl
     any_more false b h = h
 
-pub ended_is_run : (h : SharedHeap) (r : RunView) (new : Token) → IsRun r → length r.commands ≤ r.next → HasEnded h r.token new → IsRun (record r { token = new; ended = true })
-ended_is_run h r new is whole t =
+pub ended_is_run : (h : SharedHeap) (r : RunView) (new : Token) → IsRun r → r.left ≡ None → length r.commands ≤ r.next → HasEnded h r.token new → IsRun (record r { token = new; ended = true })
+ended_is_run h r new is left whole t =
     let d : ℕ = r.token.view.own.number in
     let z = sizes_in r.token.config in
     let number = ap (λ (x : DomainView). x.own.number) t.view in
@@ -105,7 +130,7 @@ ended_is_run h r new is whole t =
       idle = ap (λ (x : DomainView). x.seen.made) t.view ∙ is.idle;
       at_rest = ap (λ (x : DomainView). x.seen.hunt) t.view ∙ is.at_rest;
       goes_on = λ running. cc;
-      stands = subst (StandsAt r.left) (sym (ap (λ (x : DomainView). x.seen.stage) t.view)) is.stands;
+      between = subst (λ (l : Option Kind). IsBetween l r.asked new) (sym left) (ended_between h r.token new r.asked (subst (λ (l : Option Kind). IsBetween l r.asked r.token) left is.between) t);
       labels = omega (arith, is.labels, serial);
       done = λ ended. omega (arith, is.within, whole);
       over = λ ended. subst (λ (n : ℕ). IsTrue (list_any (is_end_of n) new.view.seen.front)) (sym number)

@@ -1,3 +1,4 @@
 pub mod Tries
 pub mod Runs
 pub mod Past
+pub mod Pausing

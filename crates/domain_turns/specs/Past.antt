@@ -11,13 +11,15 @@ use Rattle.heap_rule.specs.Token.{SharedHeap}
 use Rattle.safepoint.specs.Looks.{Passed}
 use Rattle.domain_turns.specs.declared.passing.Past.{Past}
 use Rattle.domain_turns.specs.declared.passing.Past.TheVariants.{Waits, Arrived, Runs}
+use Rattle.heap_rule.specs.Phases.{IsEven}
+use Rattle.domain_turns.specs.Pausing.{IsCollected}
 use Rattle.domain_turns.specs.Runs.{RunView, Passes, GoesBy, Waits as RunWaits, Resumes}
 
 -- what a look at the barrier came to, for a domain that arrived from a phase whose last even kind is `last`
 abbrev pub PassAnswers : Config → DomainView → DomainView → Kind → Past → Type 0
 PassAnswers k x y last (Waits b) = (b < x.own.arrivals * k.domains) × (y ≡ noted x (Barrier b))
 PassAnswers k x y last (Arrived kind) = Passes k x y last kind
-PassAnswers k x y last Runs = Passed k x y × (y.seen.stage ≡ In Run)
+PassAnswers k x y last Runs = Passed k x y × (y.seen.stage ≡ In Run) × IsEven x.own.arrivals × IsCollected k y
 
 -- the kind of the last even phase that it then knows of
 abbrev pub left_after : Past → Kind → Option Kind

@@ -1,5 +1,5 @@
 -- A domain's trace on the shared heap, and what a turn does to it.
-use Rattle.std.specs.Prelude.{◌≡◌, ◌≢◌, ◌==◌, ℕ, ◌+◌, ◌*◌, ◌<◌, ◌≤◌, ◌⊎◌, nat_lt, ◌&&◌, not, Option, None, Bool, true, false, List, [], ◌∷◌, ◌++◌, length, take, replicate, slice_get, Some, IsTrue}
+use Rattle.std.specs.Prelude.{◌≡◌, ◌≢◌, ◌==◌, ℕ, ◌+◌, ◌*◌, ◌<◌, ◌≤◌, ◌⊎◌, nat_lt, Option, None, Bool, true, false, List, [], ◌∷◌, ◌++◌, length, take, replicate, slice_get, Some, IsTrue}
 use Rattle.std.specs.List.{list_any}
 use Rattle.heap_model.specs.declared.command.Command as model
 use Rattle.heap_model.specs.declared.entry.Entry.{Entry}
@@ -20,7 +20,8 @@ use Rattle.heap_rule.specs.declared.phase.Stage.{Stage}
 use Rattle.heap_rule.specs.declared.phase.Stage.TheVariants.{In, Leads, Gone}
 use Rattle.heap_rule.specs.declared.phase.Note.{Note}
 use Rattle.heap_rule.specs.declared.phase.Note.TheVariants.{Want, Asked, Barrier, Ended}
-use Rattle.heap_rule.specs.Phases.{IsEven, IsOdd, Follows}
+use Rattle.heap_rule.specs.Phases.{IsEven, IsOdd, Follows, Comes}
+use Rattle.heap_rule.specs.Running.{RemembersAll}
 use Rattle.steps_pauses.specs.Pauses.{noted, arrived_view}
 use Rattle.heap_rule.specs.Rule.{state_of}
 use Rattle.safepoint.specs.Looks.{Passed, led_view}
@@ -31,7 +32,8 @@ use Rattle.heap_rule.specs.declared.view.Hunt.TheVariants.{Rests as AtRest}
 use Rattle.heap_rule.specs.Limits.{sizes_in}
 use Rattle.heap_rule.specs.Standing.{Acts}
 use Rattle.heap_rule.specs.Token.{Token, SharedHeap, IsIn}
-use Rattle.domain_turns.specs.Tries.{FitsHeap, Tried}
+use Rattle.domain_turns.specs.Pausing.{IsQuiet, HasLeft, LeavesEven, IsCollected, opened_view}
+use Rattle.domain_turns.specs.Tries.{FitsHeap, NeedsMinor, Tried}
 
 -- a run: the domain's token, its commands, the place of the next one, its replies, whether its trace has ended, where the domain has arrived from which kind of phase, and how often it had arrived when it asked for a pause for the next command
 pub record RunView : Type 0 where
@@ -52,6 +54,11 @@ is_end_of d _ = false
 abbrev pub AllFit : List model.Command → Type 0
 AllFit cs = (i : ℕ) (c : model.Command) → slice_get cs i ≡ Some c → FitsHeap c
 
+-- a pause began and ended since the domain asked: it has arrived since
+abbrev pub served_since : Option ℕ → ℕ → Bool
+served_since None arrivals = false
+served_since (Some at) arrivals = nat_lt at arrivals
+
 -- a domain that runs, without an entry so far, may begin these commands
 pub record CanBegin (t : Token) (cs : List model.Command) : Type 0 where
   pub acts : Acts t.config t.view
@@ -62,11 +69,23 @@ pub record CanBegin (t : Token) (cs : List model.Command) : Type 0 where
   pub few : length cs ≤ 200000
   pub fit : AllFit cs
   pub labels : t.view.own.serial ≤ 4000000000
+  pub even : IsEven t.view.own.arrivals
+  pub quiet : IsQuiet t.view
+  pub remembers : RemembersAll t.view
 
 -- the domain runs, or it has arrived
 abbrev pub StandsAt : Option Kind → Stage → Type 0
 StandsAt None stage = stage ≡ In Run
 StandsAt (Some kind) stage = stage ≡ Gone kind
+
+-- how a domain stands between two turns: it runs, and its minor area is empty where a pause has come since it asked for one, or it has arrived
+pub record IsBetween (left : Option Kind) (asked : Option ℕ) (t : Token) : Type 0 where
+  pub stands : StandsAt left t.view.seen.stage
+  pub quiet : IsQuiet t.view
+  pub even : left ≡ None → IsEven t.view.own.arrivals
+  pub remembers : left ≡ None → RemembersAll t.view
+  pub collected : left ≡ None → served_since asked t.view.own.arrivals ≡ true → t.view.own.used ≡ 0
+  pub has_left : (known : Kind) → left ≡ Some known → HasLeft t.config known t.view
 
 -- what is true of a run between any two turns: the domain's commands in its front are those before the next, each once and in order, and the replies are theirs
 pub record IsRun (r : RunView) : Type 0 where
@@ -79,7 +98,7 @@ pub record IsRun (r : RunView) : Type 0 where
   pub idle : r.token.view.seen.made ≡ []
   pub at_rest : r.token.view.seen.hunt ≡ AtRest
   pub goes_on : r.ended ≡ false → (domain_at (state_of r.token.config r.token.view.seen.front) r.token.view.own.number).ended ≡ false
-  pub stands : StandsAt r.left r.token.view.seen.stage
+  pub between : IsBetween r.left r.asked r.token
   pub labels : r.token.view.own.serial ≤ 4000000000 + r.next
   pub done : r.ended ≡ true → r.next ≡ length r.commands
   pub over : r.ended ≡ true → IsTrue (list_any (is_end_of r.token.view.own.number) r.token.view.seen.front)
@@ -95,24 +114,11 @@ pub record HasEnded (h : SharedHeap) (old new : Token) : Type 0 where
   pub heap : (new.table ≡ old.table) × (new.config ≡ old.config)
   pub view : new.view ≡ left_with old.view (replicate 16 Nothing) new.view.seen.front
 
--- a pause began and ended since the domain asked: it has arrived since
-abbrev pub served_since : Option ℕ → ℕ → Bool
-served_since None arrivals = false
-served_since (Some at) arrivals = nat_lt at arrivals
-
--- whether a command waits for a pause of its own
-abbrev pub wants_pause : model.Command → Bool
-wants_pause Minor = true
-wants_pause _ = false
-
--- and none has served it
-abbrev pub needs_pause : RunView → model.Command → Bool
-needs_pause r c = wants_pause c && not (served_since r.asked r.token.view.own.arrivals)
-
--- a turn tried the command, and its reply was kept
+-- a turn tried the command, and its reply was kept. No collection of young blocks had to come first, and a `minor` finds the minor area empty
 pub record TriesCommand (h : SharedHeap) (start : Token) (old new : RunView) (c : model.Command) : Type 0 where
   pub next : slice_get old.commands old.next ≡ Some c
-  pub served : needs_pause old c ≡ false
+  pub ready : NeedsMinor h.config start.view.own (served_since old.asked old.token.view.own.arrivals) c → ⊥
+  pub collected : c ≡ Minor → start.view.own.used ≡ 0
   pub reply : Reply
   pub tried : Tried h start new.token c reply
   pub run : new ≡ record old { token = new.token; next = old.next + 1; replies = old.replies ++ reply ∷ []; asked = None }
@@ -123,11 +129,11 @@ pub record EndsTrace (h : SharedHeap) (start : Token) (old new : RunView) : Type
   pub ended : HasEnded h start new.token
   pub run : new ≡ record old { token = new.token; ended = true }
 
--- a turn asked for a minor collection: the next command waits for one, and no pause has served it
+-- a turn asked for a minor collection, which the next command needs first
 pub record Asks (h : SharedHeap) (start : Token) (old new : RunView) : Type 0 where
   pub command : model.Command
   pub next : slice_get old.commands old.next ≡ Some command
-  pub needs : needs_pause old command ≡ true
+  pub needs : NeedsMinor h.config start.view.own (served_since old.asked old.token.view.own.arrivals) command
   pub run : new ≡ record old { token = record start { view = noted start.view (Asked 1) }; asked = Some old.token.view.own.arrivals }
 
 -- the token whose domain has noted one thing more
@@ -170,26 +176,27 @@ abbrev pub RunAnswers : SharedHeap → RunView → RunView → Turned → Type 0
 RunAnswers h old new Did = Stops old new ⊎ CalmAnswers h (wanting old 0) new Did
 RunAnswers h old new a = CalmAnswers h (wanting old 0) new a
 
--- the domain had arrived, and a look found that all have and that it runs
+-- the domain had arrived, and a look found that all have and that it runs: a collection is done
 pub record Resumes (h : SharedHeap) (old start : RunView) : Type 0 where
   pub arrived : (last : Kind) × (old.left ≡ Some last)
   pub passed : Passed h.config old.token.view start.token.view
   pub runs : start.token.view.seen.stage ≡ In Run
+  pub collected : IsCollected h.config start.token.view
   pub run : start ≡ record old { token = record old.token { view = start.token.view }; left = None }
 
 -- where the running part of a turn starts
 abbrev pub Starts : SharedHeap → RunView → RunView → Type 0
 Starts h old start = ((old.left ≡ None) × (start ≡ old)) ⊎ Resumes h old start
 
--- how a domain leaves an odd phase: domain 0 names the kind that comes next, and takes the wishes back where it is Run
+-- how a domain leaves an odd phase: domain 0 names the kind that comes next. It takes the wishes back where it is Run, and sets the cursor back where it is Promote
 abbrev pub LeavesOdd : DomainView → DomainView → Kind → Kind → Type 0
-LeavesOdd x y last kind = ((x.own.number ≡ 0) × Follows last kind × (y ≡ arrived_view (led_view x kind))) ⊎ ((x.own.number ≢ 0) × (kind ≡ last) × (y ≡ arrived_view x))
+LeavesOdd x y last kind = ((x.own.number ≡ 0) × Follows last kind × (y ≡ arrived_view (led_view (opened_view x kind) kind))) ⊎ ((x.own.number ≢ 0) × (kind ≡ last) × (y ≡ arrived_view x))
 
 -- a look found that all have arrived: the domain did its share of the phase that had begun, and arrived
 pub record Passes (k : Config) (x y : DomainView) (last kind : Kind) : Type 0 where
   pub begun : DomainView
   pub passed : Passed k x begun
-  pub share : (IsEven x.own.arrivals × (begun.seen.stage ≡ In kind) × (kind ≢ Run) × (y ≡ arrived_view begun)) ⊎ (IsOdd x.own.arrivals × (begun.seen.stage ≡ Leads last) × LeavesOdd begun y last kind)
+  pub share : (IsEven x.own.arrivals × (begun.seen.stage ≡ In kind) × Comes x.own.number last kind × LeavesEven k kind begun y) ⊎ (IsOdd x.own.arrivals × (begun.seen.stage ≡ Leads last) × LeavesOdd begun y last kind)
 
 -- the domain had arrived, and went through the phase that had begun since
 pub record GoesBy (h : SharedHeap) (old new : RunView) : Type 0 where

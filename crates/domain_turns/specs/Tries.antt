@@ -16,12 +16,14 @@ use Rattle.heap_rule.specs.declared.config.Config.{Config}
 use Rattle.heap_rule.specs.declared.view.DomainView.{DomainView}
 use Rattle.heap_rule.specs.declared.view.Own.{Own}
 use Rattle.heap_rule.specs.declared.view.Spot.{Spot}
-use Rattle.steps_making.specs.Inits.{class_words}
+use Rattle.remembered_set.specs.Bounded.{Bounded}
+use Rattle.heap_rule.specs.Places.{class_words}
 use Rattle.heap_rule.specs.Limits.{sizes_in}
 use Rattle.heap_rule.specs.Running.{Runs, Stays}
 use Rattle.steps_pools.specs.Takes.{NoneFree}
 use Rattle.heap_rule.specs.Token.{Token, SharedHeap}
-use Rattle.minor_area.specs.Area.{HasRoom, IsOpen, IsShut}
+use Rattle.steps_making.specs.Inits.{IsOpen}
+use Rattle.minor_area.specs.Area.{HasRoom, IsShut}
 use Rattle.size_pools.specs.Taken.{Reserved, HasPlace}
 
 -- the commands that run on the shared heap so far, with their numbers in their ranges
@@ -36,6 +38,13 @@ FitsHeap (Store block index item) = (block < 16) × (item < 16)
 FitsHeap Poll = Unit {0}
 FitsHeap Minor = Unit {0}
 FitsHeap _ = ⊥
+
+-- a collection of young blocks must come first: no pause has served a `minor`, the minor area has no room for the young block, or the domain can't remember one more field
+abbrev pub NeedsMinor : Config → Own → Bool → Command → Type 0
+NeedsMinor k own served Minor = served ≡ false
+NeedsMinor k own served (Alloc dst tag fields) = k.minor_words < own.used + class_words (fields + 2)
+NeedsMinor k own served (Store block index item) = own.remembered.room < 1
+NeedsMinor k own served _ = ⊥
 
 -- the entry of a command that is answered `full`
 abbrev pub full_entry : Token → Command → Entry
@@ -65,11 +74,12 @@ pub record HasSpace (h : SharedHeap) (old new : Token) (fields : ℕ) : Type 0 w
   pub room : HasRoom h.config old.view fields
   pub enough : IsOpen h.config new.view
 
--- or it has no room, or fewer pools were found free
-abbrev pub HasNoSpace : SharedHeap → Token → Token → ℕ → Type 0
-HasNoSpace h old new fields = (h.config.minor_words < old.view.own.used + class_words (fields + 2)) ⊎ (HasRoom h.config old.view fields × IsShut h.config new.view)
+-- or it has, and fewer pools were found free
+pub record HasNoSpace (h : SharedHeap) (old new : Token) (fields : ℕ) : Type 0 where
+  pub room : HasRoom h.config old.view fields
+  pub few : IsShut h.config new.view
 
--- the entry that stands: `full` for a young block exactly where the minor area has no room or too few pools are free, and for one of the major heap exactly where no pool is to be had
+-- the entry that stands: `full` for a young block exactly where too few pools are free, and for one of the major heap exactly where no pool is to be had
 abbrev pub Stands : SharedHeap → Token → Token → Command → Reply → Type 0
 Stands h old new (Alloc dst tag fields) r = (Enters old new (Alloc dst tag fields) false r × HasSpace h old new fields) ⊎ (Enters old new (Alloc dst tag fields) true r × HasNoSpace h old new fields)
 Stands h old new (AllocMaj dst tag fields) r = (Enters old new (AllocMaj dst tag fields) false r × HasPool h.config fields old.view new.view) ⊎ (Enters old new (AllocMaj dst tag fields) true r × HasNoPool h.config fields new.view)
@@ -94,6 +104,11 @@ abbrev pub looked_by : Command → Own → Own → List Spot
 looked_by (AllocMaj dst tag fields) old new = new.looked
 looked_by _ old new = old.looked
 
+-- which fields the domain then remembers: a store may add one
+abbrev pub remembered_by : Command → Own → Own → Bounded ℕ
+remembered_by (Store block index item) old new = new.remembered
+remembered_by _ old new = old.remembered
+
 -- what the domain then owns: the registers are those that the entry left, and all but what is named is as it was
 abbrev pub own_after : Token → Token → Command → Reply → Own
 own_after old new c r = record old.view.own {
@@ -101,6 +116,7 @@ own_after old new c r = record old.view.own {
   used = old.view.own.used + words_taken c r;
   serial = old.view.own.serial + labels_given c r;
   looked = looked_by c old.view.own new.view.own;
+  remembered = remembered_by c old.view.own new.view.own;
 }
 
 -- the entry of the command was made

@@ -1,12 +1,12 @@
 //! Turns.
 ghost use Rattle.std.specs.Prelude.{◌≡◌, ◌≢◌, ◌≤◌, ◌<◌, ◌^◌, true, false, length, slice_get, Some, None};
-ghost use Rattle.heap_model.specs.declared.command.Command as model;
 ghost use Rattle.heap_rule.specs.declared.phase.Note.TheVariants as note;
 ghost use Rattle.heap_rule.specs.declared.phase.Kind.TheVariants.{Run};
 ghost use Rattle.steps_pauses.specs.Pauses.{noted, arrived_view};
 ghost use Rattle.heap_rule.specs.Running.{Runs};
 ghost use Rattle.heap_rule.specs.Token.{IsIn};
-ghost use Rattle.domain_turns.specs.Runs.{HasEnded, EndsTrace, TriesCommand, RunAnswers, TurnAnswers, RestAnswers, CalmAnswers, Asks, GoesOn, CalmDid, served_since, needs_pause, noted_token};
+ghost use Rattle.domain_turns.specs.Runs.{HasEnded, EndsTrace, TriesCommand, RunAnswers, TurnAnswers, RestAnswers, CalmAnswers, Asks, GoesOn, CalmDid, served_since, noted_token};
+ghost use Rattle.domain_turns.specs.Tries.{NeedsMinor};
 ghost use Rattle.domain_turns.specs.Past.{PastAnswers};
 ghost use Rattle.domain_turns.specs.declared.turned.Turned as turned;
 
@@ -27,20 +27,36 @@ fn end(heap: &Heap, dom: &mut Domain)
     ended_add(heap, dom);
 }
 
-// Tries the next command of a run, and keeps its reply.
-fn try_next(heap: &Heap, run: &mut DomainRun, command: &Command)
+// Whether a pause was begun and ended since the domain asked for one.
+fn is_served(run: &DomainRun) -> bool
+    ensures { result ≡ served_since run.now.asked run.now.token.view.own.arrivals }
+{
+    match run.asked {
+        Some(at) => at < run.domain.arrivals(),
+        None => false,
+    }
+}
+
+// Tries the next command of a run, and keeps its reply. Answers whether it was tried: it isn't where a
+// collection of young blocks must come first.
+fn try_next(heap: &Heap, run: &mut DomainRun, command: &Command) -> bool
     requires here { IsIn run.old.token heap.now }
     requires running { run.old.ended ≡ false }
     requires left { run.old.left ≡ None }
     requires next { slice_get run.old.commands run.old.next ≡ Some command.now }
-    requires served { needs_pause run.old command.now ≡ false }
     ensures here { IsIn run.new.token heap.now }
-    ensures tries { TriesCommand heap.now run.old.token run.old run.new command.now }
+    ensures tries { result ≡ true → TriesCommand heap.now run.old.token run.old run.new command.now }
+    ensures needs { result ≡ false → NeedsMinor heap.now.config run.old.token.view.own (served_since run.old.asked run.old.token.view.own.arrivals) command.now }
+    ensures same { result ≡ false → run.new ≡ run.old }
 {
-    let reply = try_command(heap, &mut run.domain, command);
+    let served = is_served(run);
+    let Some(reply) = try_command(heap, &mut run.domain, command, served) else {
+        return false;
+    };
     run.replies.push_reserved(reply);
     run.next += 1;
     run.asked = None;
+    true
 }
 
 // Ends the trace of a run that has no command left.
@@ -83,32 +99,12 @@ fn wish(heap: &Heap, run: &mut DomainRun, _command: &Command)
     requires here { IsIn run.old.token heap.now }
     requires left { run.old.left ≡ None }
     requires next { slice_get run.old.commands run.old.next ≡ Some _command.now }
-    requires needs { needs_pause run.old _command.now ≡ true }
+    requires needs { NeedsMinor heap.now.config run.old.token.view.own (served_since run.old.asked run.old.token.view.own.arrivals) _command.now }
     ensures here { IsIn run.new.token heap.now }
     ensures asks { Asks heap.now run.old.token run.old run.new }
 {
     ask(heap, &mut run.domain, Want::Minor);
     run.asked = Some(run.domain.arrivals());
-}
-
-// Whether a pause was begun and ended since the domain asked for one.
-fn is_served(run: &DomainRun) -> bool
-    ensures { result ≡ served_since run.now.asked run.now.token.view.own.arrivals }
-{
-    match run.asked {
-        Some(at) => at < run.domain.arrivals(),
-        None => false,
-    }
-}
-
-// Whether a command waits for a pause, and none has served it.
-fn needs_pause(run: &DomainRun, command: &Command) -> bool
-    ensures { result ≡ needs_pause run.now command.now }
-{
-    match command {
-        Command::Minor => !is_served(run),
-        _ => false,
-    }
 }
 
 // The turn of a run whose next command is this one, where no pause is wanted.
@@ -120,10 +116,8 @@ fn attempt(heap: &Heap, run: &mut DomainRun, command: &Command)
     ensures here { IsIn run.new.token heap.now }
     ensures did { CalmDid heap.now run.old run.new }
 {
-    if needs_pause(run, command) {
+    if !try_next(heap, run, command) {
         wish(heap, run, command);
-    } else {
-        try_next(heap, run, command);
     }
 }
 
@@ -209,8 +203,13 @@ fn turn_on(heap: &Heap, run: &mut DomainRun) -> Turned
 
 /// Takes a domain one step further: tries its next command, does its share of the phase that has
 /// begun, arrives, asks for a pause, or ends its trace. It arrives at most once, and never waits. An
-/// allocation is answered `full` exactly where the minor area has no room for its block or fewer pools
-/// are free than promotion may need, or where no pool is to be had for a block of the major heap.
+/// allocation is answered `full` exactly where fewer pools are free than promotion may need for a young
+/// block, or where no pool is to be had for a block of the major heap.
+///
+/// It asks for a collection of young blocks, and tries the command in another turn, exactly where the
+/// next command is `minor` and no pause has served it, where it allocates a young block for which the
+/// minor area has no room, or where it stores and no more field can be remembered. A domain that runs
+/// again after a pause has an empty minor area, remembers no field, and holds no address of a minor area.
 pub fn turn(heap: &Heap, run: &mut DomainRun) -> Turned
     requires here { IsIn run.old.token heap.now }
     requires few { run.old.token.view.own.arrivals < 2 ^ 60 }
