@@ -4,10 +4,11 @@ use Rattle.std.specs.Prelude.{Option, cond, not, ◌&&◌, nat_le, slice_get, sl
 use Rattle.std.proofs.lemmas.Bool.Decides.{nat_tests}
 use Rattle.std.specs.List.{AllByRecursion}
 use Rattle.heap_model.specs.declared.command.Command.{Command}
-use Rattle.heap_model.specs.Domains.{opening_domain, no_domain, fits_domains}
+use Rattle.heap_model.specs.Domains.{class_count, opening_domain, no_domain, fits_domains}
 use Rattle.heap_rule.specs.declared.config.Config.{Config}
 use Rattle.heap_rule.specs.Limits.{sizes_in, first_outside, first_of}
 use Rattle.heap_rule.specs.Opening.{opening_token, opening_tokens}
+use Rattle.heap_rule.specs.Pools.{prepared_at}
 use Rattle.heap_rule.specs.Token.{SharedHeap}
 use Rattle.domain_turns.specs.Runs.{CanBegin}
 use Rattle.camlheap_run.specs.Running.{HasSection, opened}
@@ -17,6 +18,15 @@ not_ended : (n d : ℕ) → d < n → (slice_index_or (replicate n opening_domai
 not_ended zero d h = absurd (omega arith)
 not_ended (suc n) zero h = refl
 not_ended (suc n) (suc d) h = not_ended n d (omega arith)
+
+abbrev no_place : Option ℕ
+no_place = None
+
+-- in a list of no places none is found
+none_listed : (n c : ℕ) → prepared_at (replicate n no_place) c ≡ None
+none_listed zero c = refl
+none_listed (suc n) zero = refl
+none_listed (suc n) (suc c) = none_listed n c
 
 can_begin : (h : SharedHeap) (k : Config) (d : ℕ) (cs : List Command) → d < k.domains → IsFine cs → CanBegin (opening_token h.table k d) cs
 can_begin h k d cs inside fine = record {
@@ -28,6 +38,9 @@ can_begin h k d cs inside fine = record {
   few = fine.few;
   fit = fine.fit;
   labels = omega arith;
+  even = (0, refl);
+  quiet = record { quiet = refl; no_copies = refl; unprepared = λ c _. none_listed class_count c };
+  remembers = refl;
 }
 
 -- each of these domains has a section, and may begin it
