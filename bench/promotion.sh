@@ -122,7 +122,7 @@ checked() {
             number = "int " (from * 1000000 + (serial - 1 - kind) / 4)
             return serial
         }
-        $1 == "domain" { d = $2; if (d != next_domain++) wrong("order"); place = 0; round = 0; delete newest; delete newest_pair; next }
+        $1 == "domain" { d = $2; if (d != next_domain++) wrong("order"); place = 0; round = 0; behind = "type"; delete newest; delete newest_pair; next }
         place % 22 == 0 || place % 22 == 9 || place % 22 == 18 || place % 22 == 20 {
             made = 4 * round + (place % 22 == 0 ? 1 : place % 22 == 9 ? 2 : place % 22 == 18 ? 3 : 4)
             if ($0 != "blk " d ":" made) wrong("made " made)
@@ -150,12 +150,13 @@ checked() {
             }
         }
         place % 22 == 15 {
-            none = empty || $0 == "int 0"
-            if (empty && $0 != "type") wrong("no pair")
-            if (!none) label($0, 0)
+            # Where there is no pair yet, register 8 keeps what it held.
+            if (empty) { if ($0 != "type") wrong("no pair") }
+            else if ($0 == "int 0") behind = "type"
+            else { label($0, 0); behind = number }
         }
-        place % 22 == 16 || place % 22 == 17 { if ($0 != (none ? "type" : number)) wrong("the integer behind a pair") }
-        place % 22 ~ /^(1|2|3|4|5|11|12|13|19|21)$/ || place % 22 == 10 { if ($0 != "ok") wrong("not ok") }
+        place % 22 == 16 || place % 22 == 17 { if ($0 != behind) wrong("the integer behind a pair") }
+        place % 22 ~ /^(1|2|3|4|5|10|11|12|13|19|21)$/ { if ($0 != "ok") wrong("not ok") }
         { place++; if (place % 22 == 0) round++ }
         END { if (!bad) print next_domain == domains && round == int(200000 / domains / 22) ? "right" : "wrong: too short" }
     ' "$work/out"
