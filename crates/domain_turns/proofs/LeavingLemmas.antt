@@ -1,5 +1,5 @@
 -- What the look of a domain that has arrived leaves of its run.
-use Rattle.std.proofs.Common.{◌≡◌, ◌≢◌, ◌∙◌, ℕ, ◌+◌, ◌⊎◌, List, Option, Some, refl, sym, ap, subst, inl, ⊎_elim}
+use Rattle.std.proofs.Common.{◌≡◌, ◌≢◌, ◌∙◌, ℕ, ◌+◌, List, Option, Some, refl, sym, ap, subst, inl, ⊎_elim}
 use Rattle.heap_model.specs.declared.entry.Entry.{Entry}
 use Rattle.heap_model.specs.Fronts.{IsFrontOf}
 use Rattle.heap_rule.specs.declared.config.Config.{Config}
@@ -75,15 +75,15 @@ even_leaves k x b y Run p stage l = absurd l
 even_leaves k x b y Promote p stage l =
     let v = l.shared.view in
     begun_leaves k x b y l.done Promote p
-        (record {
-          number = ap (λ (z : DomainView). z.own.number) v;
-          serial = ap (λ (z : DomainView). z.own.serial) v;
-          arrivals = ap (λ (z : DomainView). z.own.arrivals) v;
-          made = ap (λ (z : DomainView). z.seen.made) v;
-          hunt = λ _. l.shared.at_rest;
-          front = ap (λ (z : DomainView). z.seen.front) v;
-        })
-        l.view (ap (λ (z : DomainView). kind_in z.seen.stage) v ∙ ap kind_in stage)
+    (record {
+      number = ap (λ (z : DomainView). z.own.number) v;
+      serial = ap (λ (z : DomainView). z.own.serial) v;
+      arrivals = ap (λ (z : DomainView). z.own.arrivals) v;
+      made = ap (λ (z : DomainView). z.seen.made) v;
+      hunt = λ _. l.shared.at_rest;
+      front = ap (λ (z : DomainView). z.seen.front) v;
+    })
+    l.view (ap (λ (z : DomainView). kind_in z.seen.stage) v ∙ ap kind_in stage)
 even_leaves k x b y Reset p stage l = begun_leaves k x b y (reset_view b) Reset p (record { number = refl; serial = refl; arrivals = refl; made = refl; hunt = λ at_rest. at_rest; front = refl }) l (ap kind_in stage)
 
 pub passes_leaves : (k : Config) (x y : DomainView) (last kind : Kind) → Passes k x y last kind → Leaves x y kind
@@ -91,7 +91,7 @@ passes_leaves k x y last kind p = ⊎_elim
     (λ (even : IsEven x.own.arrivals × (p.begun.seen.stage ≡ In kind) × Comes x.own.number last kind × LeavesEven k kind p.begun y). even_leaves k x p.begun y kind p.passed even.1 even.3)
     (λ (odd : IsOdd x.own.arrivals × (p.begun.seen.stage ≡ Leads last) × LeavesOdd p.begun y last kind). ⊎_elim
     (λ (leads : (p.begun.own.number ≡ 0) × Follows last kind × (y ≡ arrived_view (led_view (opened_view p.begun kind) kind))). begun_leaves k x p.begun y (led_view (opened_view p.begun kind) kind) kind p.passed
-        (record { number = refl; serial = refl; arrivals = refl; made = refl; hunt = λ at_rest. at_rest; front = refl }) leads.2 refl)
+    (record { number = refl; serial = refl; arrivals = refl; made = refl; hunt = λ at_rest. at_rest; front = refl }) leads.2 refl)
     (λ (follows : (p.begun.own.number ≢ 0) × (kind ≡ last) × (y ≡ arrived_view p.begun)). begun_leaves k x p.begun y p.begun kind p.passed (same_self p.begun) follows.2 (ap kind_in odd.1 ∙ sym follows.1))
     odd.2)
     p.share
@@ -105,18 +105,18 @@ passes_past k x y last kind p left =
       ready = λ again _. absurd (not_both y.own.arrivals again (subst IsOdd (sym l.arrivals) (even_next x.own.arrivals even.0)));
     })
     (λ (odd : IsOdd x.own.arrivals × (p.begun.seen.stage ≡ Leads last) × LeavesOdd p.begun y last kind).
-        let went : IsPast k last p.begun = looked_past k last x p.begun p.passed (left.past (inl odd.0)) in
-        let even : IsEven y.own.arrivals = subst IsEven (sym l.arrivals) (odd_next x.own.arrivals odd.0) in
-        let number : p.begun.own.number ≡ x.own.number = ap (λ (z : DomainView). z.own.number) p.passed.view in ⊎_elim
-        (λ (leads : (p.begun.own.number ≡ 0) × Follows last kind × (y ≡ arrived_view (led_view (opened_view p.begun kind) kind))). record {
-          past = λ either. absurd (⊎_elim (λ (up : IsOdd y.own.arrivals). not_both y.own.arrivals even up) (λ (other : y.own.number ≢ 0). other (l.number ∙ (sym number ∙ leads.0))) either);
-          ready = λ _ _. record { before = last; follows = leads.1; past = left_past p.begun (led_view (opened_view p.begun kind) kind) leads.2 refl refl refl refl went };
-        })
-        (λ (follows : (p.begun.own.number ≢ 0) × (kind ≡ last) × (y ≡ arrived_view p.begun)). record {
-          past = λ _. subst (λ (c : Kind). IsPast k c y) (sym follows.1) (left_past p.begun p.begun follows.2 refl refl refl refl went);
-          ready = λ _ first. absurd (follows.0 (number ∙ (sym l.number ∙ first)));
-        })
-        odd.2)
+    let went : IsPast k last p.begun = looked_past k last x p.begun p.passed (left.past (inl odd.0)) in
+    let even : IsEven y.own.arrivals = subst IsEven (sym l.arrivals) (odd_next x.own.arrivals odd.0) in
+    let number : p.begun.own.number ≡ x.own.number = ap (λ (z : DomainView). z.own.number) p.passed.view in ⊎_elim
+    (λ (leads : (p.begun.own.number ≡ 0) × Follows last kind × (y ≡ arrived_view (led_view (opened_view p.begun kind) kind))). record {
+      past = λ either. absurd (⊎_elim (λ (up : IsOdd y.own.arrivals). not_both y.own.arrivals even up) (λ (other : y.own.number ≢ 0). other (l.number ∙ (sym number ∙ leads.0))) either);
+      ready = λ _ _. record { before = last; follows = leads.1; past = left_past p.begun (led_view (opened_view p.begun kind) kind) leads.2 refl refl refl refl went };
+    })
+    (λ (follows : (p.begun.own.number ≢ 0) × (kind ≡ last) × (y ≡ arrived_view p.begun)). record {
+      past = λ _. subst (λ (c : Kind). IsPast k c y) (sym follows.1) (left_past p.begun p.begun follows.2 refl refl refl refl went);
+      ready = λ _ first. absurd (follows.0 (number ∙ (sym l.number ∙ first)));
+    })
+    odd.2)
     p.share
   where
     left_past : (b z : DomainView) → y ≡ arrived_view z → z.seen.remembered ≡ b.seen.remembered → z.own.remembered ≡ b.own.remembered → z.own.registers ≡ b.own.registers → z.own.used ≡ b.own.used → IsPast k last b → IsPast k last y

@@ -176,7 +176,7 @@ looked_at k id hist x gone s r at =
     }) in
     ⊎_elim
     (λ (even : IsEven t.phase). through (In (t.kinds even.0)) (here, (even.0, even.1, refl)) (t.kinds even.0, inl (refl, subst IsEven (sym here) even))
-        (λ kind is. subst (Comes x.own.number (kind_in x.seen.stage)) (in_kind (t.kinds even.0) kind is) (came (subst IsEven (sym here) even) even)))
+    (λ kind is. subst (Comes x.own.number (kind_in x.seen.stage)) (in_kind (t.kinds even.0) kind is) (came (subst IsEven (sym here) even) even)))
     (λ (odd : IsOdd t.phase).
     let last : t.kinds odd.0 ≡ kind_in x.seen.stage = known.0 odd.0 (here ∙ odd.1) in
     through (Leads (kind_in x.seen.stage)) (here, (odd.0, odd.1, last)) (Run, inr (refl, subst IsOdd (sym here) odd)) (λ kind is. absurd (leads_in (kind_in x.seen.stage) kind is)))
