@@ -8,7 +8,6 @@ use Rattle.heap_model.specs.Domains.{class_count, opening_domain, no_domain, fit
 use Rattle.heap_rule.specs.declared.config.Config.{Config}
 use Rattle.heap_rule.specs.Limits.{sizes_in, first_outside, first_of}
 use Rattle.heap_rule.specs.Opening.{opening_token, opening_tokens}
-use Rattle.heap_rule.specs.Pools.{prepared_at}
 use Rattle.heap_rule.specs.Token.{SharedHeap}
 use Rattle.domain_turns.specs.Runs.{CanBegin}
 use Rattle.camlheap_run.specs.Running.{HasSection, opened}
@@ -19,14 +18,10 @@ not_ended zero d h = absurd (omega arith)
 not_ended (suc n) zero h = refl
 not_ended (suc n) (suc d) h = not_ended n d (omega arith)
 
-abbrev no_place : Option ℕ
-no_place = None
-
--- in a list of no places none is found
-none_listed : (n c : ℕ) → prepared_at (replicate n no_place) c ≡ None
-none_listed zero c = refl
-none_listed (suc n) zero = refl
-none_listed (suc n) (suc c) = none_listed n c
+nothing_prepared : (n class : ℕ) → ◌≡◌ {A = Option ℕ} (slice_index_or (replicate n None) class None) None
+nothing_prepared zero class = refl
+nothing_prepared (suc n) zero = refl
+nothing_prepared (suc n) (suc class) = nothing_prepared n class
 
 can_begin : (h : SharedHeap) (k : Config) (d : ℕ) (cs : List Command) → d < k.domains → IsFine cs → CanBegin (opening_token h.table k d) cs
 can_begin h k d cs inside fine = record {
@@ -39,7 +34,7 @@ can_begin h k d cs inside fine = record {
   fit = fine.fit;
   labels = omega arith;
   even = (0, refl);
-  quiet = record { quiet = refl; no_copies = refl; unprepared = λ c _. none_listed class_count c };
+  quiet = record { quiet = refl; no_copies = refl; unprepared = λ class _. nothing_prepared class_count class };
   remembers = refl;
 }
 

@@ -1,5 +1,5 @@
 -- What the look of a domain that has arrived leaves of its run.
-use Rattle.std.proofs.Common.{◌≡◌, ◌≢◌, ◌∙◌, ℕ, ◌+◌, ◌⊎◌, List, Option, Some, refl, sym, ap, subst, inl, ⊎_elim}
+use Rattle.std.proofs.Common.{◌≡◌, ◌≢◌, ◌∙◌, ℕ, ◌+◌, List, Option, Some, refl, sym, ap, subst, inl, ⊎_elim}
 use Rattle.heap_model.specs.declared.entry.Entry.{Entry}
 use Rattle.heap_model.specs.Fronts.{IsFrontOf}
 use Rattle.heap_rule.specs.declared.config.Config.{Config}

@@ -1,9 +1,8 @@
-use Rattle.std.proofs.Common.{◌∙◌, ap, sym, subst, refl}
-use Rattle.heap_model.specs.declared.entry.Entry.{Entry}
+use Rattle.std.proofs.Common.{◌∙◌, ap}
 use Rattle.heap_model.specs.declared.reply.Reply.{Reply}
 use Rattle.heap_model.specs.declared.reply.Applied.TheVariants.{Replied}
-use Rattle.steps_run.specs.Ticks.{tick_answer, TickEntry}
-use Rattle.steps_run.proofs.TickSteps.{quiet_may, quiet_answer}
+use Rattle.steps_run.specs.Ticks.{tick_answer}
+use Rattle.steps_run.proofs.TickSteps.{quiet_answer}
 use Rattle.field_access.proofs.Doing.{entered_did}
 use Rattle.domain_turns.proofs.command.quiet_as.Goals as goal
 
