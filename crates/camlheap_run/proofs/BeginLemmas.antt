@@ -4,7 +4,7 @@ use Rattle.std.specs.Prelude.{Option, cond, not, ◌&&◌, nat_le, slice_get, sl
 use Rattle.std.proofs.lemmas.Bool.Decides.{nat_tests}
 use Rattle.std.specs.List.{AllByRecursion}
 use Rattle.heap_model.specs.declared.command.Command.{Command}
-use Rattle.heap_model.specs.Domains.{class_count, opening_domain, no_domain, fits_domains}
+use Rattle.heap_model.specs.Domains.{opening_domain, no_domain, fits_domains}
 use Rattle.heap_rule.specs.declared.config.Config.{Config}
 use Rattle.heap_rule.specs.Limits.{sizes_in, first_outside, first_of}
 use Rattle.heap_rule.specs.Opening.{opening_token, opening_tokens}
@@ -18,11 +18,6 @@ not_ended zero d h = absurd (omega arith)
 not_ended (suc n) zero h = refl
 not_ended (suc n) (suc d) h = not_ended n d (omega arith)
 
-nothing_prepared : (n class : ℕ) → ◌≡◌ {A = Option ℕ} (slice_index_or (replicate n None) class None) None
-nothing_prepared zero class = refl
-nothing_prepared (suc n) zero = refl
-nothing_prepared (suc n) (suc class) = nothing_prepared n class
-
 can_begin : (h : SharedHeap) (k : Config) (d : ℕ) (cs : List Command) → d < k.domains → IsFine cs → CanBegin (opening_token h.table k d) cs
 can_begin h k d cs inside fine = record {
   acts = record { goes_on = not_ended k.domains d inside; runs = refl };
@@ -33,9 +28,11 @@ can_begin h k d cs inside fine = record {
   few = fine.few;
   fit = fine.fit;
   labels = omega arith;
-  even = (0, refl);
-  quiet = record { quiet = refl; no_copies = refl; unprepared = λ class _. nothing_prepared class_count class };
+  even = refl;
   remembers = refl;
+  quiet = refl;
+  no_copies = refl;
+  unprepared = refl;
 }
 
 -- each of these domains has a section, and may begin it

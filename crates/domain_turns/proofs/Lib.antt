@@ -1,3 +1,4 @@
+pub mod Beginning
 pub mod PauseLemmas
 pub mod Trying
 pub mod Moving

@@ -1,5 +1,5 @@
 -- A domain's trace on the shared heap, and what a turn does to it.
-use Rattle.std.specs.Prelude.{◌≡◌, ◌≢◌, ◌==◌, ℕ, ◌+◌, ◌*◌, ◌<◌, ◌≤◌, ◌⊎◌, nat_lt, Option, None, Bool, true, false, List, [], ◌∷◌, ◌++◌, length, take, replicate, slice_get, Some, IsTrue}
+use Rattle.std.specs.Prelude.{◌≡◌, ◌≢◌, ◌==◌, ℕ, ◌+◌, ◌*◌, ◌%◌, ◌<◌, ◌≤◌, ◌⊎◌, nat_lt, Option, None, Bool, true, false, List, [], ◌∷◌, ◌++◌, length, take, replicate, slice_get, Some, IsTrue}
 use Rattle.std.specs.List.{list_any}
 use Rattle.heap_model.specs.declared.command.Command as model
 use Rattle.heap_model.specs.declared.entry.Entry.{Entry}
@@ -10,7 +10,7 @@ use Rattle.heap_model.specs.History.{IsPrefix, commands, replies}
 use Rattle.heap_model.specs.Fronts.{Answers}
 use Rattle.heap_words.specs.declared.value.Value.{Value}
 use Rattle.heap_words.specs.declared.value.Value.TheVariants.{Nothing}
-use Rattle.heap_model.specs.Domains.{domain_at}
+use Rattle.heap_model.specs.Domains.{class_count, domain_at}
 use Rattle.heap_model.specs.declared.command.Command.TheVariants.{Minor}
 use Rattle.heap_rule.specs.declared.config.Config.{Config}
 use Rattle.heap_rule.specs.declared.view.DomainView.{DomainView}
@@ -21,6 +21,7 @@ use Rattle.heap_rule.specs.declared.phase.Stage.TheVariants.{In, Leads, Gone}
 use Rattle.heap_rule.specs.declared.phase.Note.{Note}
 use Rattle.heap_rule.specs.declared.phase.Note.TheVariants.{Want, Asked, Barrier, Ended}
 use Rattle.heap_rule.specs.Phases.{IsEven, IsOdd, Follows, Comes}
+use Rattle.heap_rule.specs.Copies.{nothing_copied}
 use Rattle.heap_rule.specs.Running.{RemembersAll}
 use Rattle.steps_pauses.specs.Pauses.{noted, arrived_view}
 use Rattle.heap_rule.specs.Rule.{state_of}
@@ -59,7 +60,7 @@ abbrev pub served_since : Option ℕ → ℕ → Bool
 served_since None arrivals = false
 served_since (Some at) arrivals = nat_lt at arrivals
 
--- a domain that runs, without an entry so far, may begin these commands
+-- a domain that runs, without an entry so far, may begin these commands. It is in the middle of no pause and of no collection
 pub record CanBegin (t : Token) (cs : List model.Command) : Type 0 where
   pub acts : Acts t.config t.view
   pub idle : t.view.seen.made ≡ []
@@ -69,9 +70,11 @@ pub record CanBegin (t : Token) (cs : List model.Command) : Type 0 where
   pub few : length cs ≤ 200000
   pub fit : AllFit cs
   pub labels : t.view.own.serial ≤ 4000000000
-  pub even : IsEven t.view.own.arrivals
-  pub quiet : IsQuiet t.view
+  pub even : t.view.own.arrivals % 2 ≡ 0
   pub remembers : RemembersAll t.view
+  pub quiet : t.view.seen.copying ≡ nothing_copied
+  pub no_copies : t.view.own.pending.items ≡ []
+  pub unprepared : t.view.own.prepared ≡ replicate class_count None
 
 -- the domain runs, or it has arrived
 abbrev pub StandsAt : Option Kind → Stage → Type 0

@@ -40,6 +40,7 @@ impl DomainRun {
     /// history so far; there are at most 200,000 commands, each of a kind that runs on the shared heap
     /// and with its numbers in their ranges; at most 4,000,000,000 labels were made. The room for the
     /// replies is reserved here. Fails for want of memory alone, and then the domain is given up.
+    #[tactic(auto, using(crate::proofs::Beginning::begins_between))]
     pub fn make(alloc: Global, dom: Domain, commands: Vec<Command>) -> Result<DomainRun, AllocError>
         requires { CanBegin dom commands.items }
         ensures { IfOk result (λ r. r ≡ record { token = dom; commands = commands.items; next = 0; replies = []; ended = false; left = None; asked = None }) }
