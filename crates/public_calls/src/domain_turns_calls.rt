@@ -6,6 +6,7 @@ use heap_model::command::Command;
 use heap_model::label::Label;
 use heap_model::reply::Reply;
 use heap_rule::{Config, Heap};
+use heap_words::Value;
 use std::test::Fail;
 
 const ONE_DOMAIN: Config = Config {
@@ -77,6 +78,57 @@ fn a_trace_runs_to_its_end(rt: HostRuntime) -> Result<(), Fail> {
         return Err(Fail::from("the trace hasn't ended"));
     }
     assert_eq!(rt; run.into_domain().number(), 0);
+    Ok(())
+}
+
+// So many turns: whether each did something.
+fn all_did(heap: &Heap, run: &mut DomainRun, turns: u32) -> bool
+    requires { IsIn run.old.token heap.now }
+    ensures { IsIn run.new.token heap.now }
+{
+    let mut right = true;
+    for _taken in 0..turns {
+        right = turned(heap, run) == Some(Turned::Did) && right;
+    }
+    right
+}
+
+const MOVING: [Command; 4] = [
+    Command::Alloc {
+        dst: 1,
+        tag: 0,
+        fields: 2,
+    },
+    Command::Store {
+        block: 1,
+        index: 1,
+        item: 0,
+    },
+    Command::Minor,
+    Command::Load {
+        dst: 2,
+        src: 1,
+        index: 1,
+    },
+];
+
+// After the pause the register leads to a block of a pool, which has the field that the young one had.
+#[test]
+fn a_pause_moves_a_young_block_into_a_pool(rt: HostRuntime) -> Result<(), Fail> {
+    let alloc = rt.alloc();
+    let (heap, mut domains) = Heap::start(alloc, ONE_DOMAIN)?;
+    let domain = domains.pop().ok_or("no domain")?;
+    let mut run = DomainRun::make(alloc, domain, Vec::from_slice(alloc, &MOVING)?)?;
+    assert!(rt; all_did(&heap, &mut run, 2));
+    assert_eq!(rt; run.domain().register(1), Value::Ref(14 * 4096 + 1));
+    assert_eq!(rt; run.domain().area_used(), 4);
+    // It asks, goes through the phases, and makes the entry of `minor`.
+    assert!(rt; all_did(&heap, &mut run, 8));
+    assert_eq!(rt; run.next(), 3);
+    assert_eq!(rt; run.domain().area_used(), 0);
+    assert_eq!(rt; run.domain().register(1), Value::Ref(4097));
+    assert!(rt; all_did(&heap, &mut run, 1));
+    assert_eq!(rt; run.domain().register(2), Value::Ref(1));
     Ok(())
 }
 
