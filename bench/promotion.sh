@@ -46,43 +46,54 @@ chains() {
     }'
 }
 
+# A script of $1 domains of which the first asks for $2 pauses.
+pauses() {
+    awk -v domains="$1" -v pauses="$2" 'BEGIN {
+        print "heap 1"
+        for (d = 0; d < domains; d++) {
+            print "domain " d
+            if (d == 0) for (k = 0; k < pauses; k++) print "minor"
+        }
+    }'
+}
+
 # A block takes 16 words. A run in which all blocks are dropped before each collection is taken off: what is left is copying.
+# In a round each domain asks once, so at most as many pauses as domains come to the time of a pause in which nothing is copied.
 words() {
-    local blocks=1000 rounds all domains
+    local domains rounds
     for domains in 1 2 4; do
         rounds=$((48 / domains))
-        all=$((domains * rounds * blocks))
-        chains "$domains" "$blocks" "$rounds" kept >"$work/kept"
-        chains "$domains" "$blocks" "$rounds" dropped >"$work/dropped"
-        kept=$(seconds "$domains" "$work/kept")
-        dropped=$(seconds "$domains" "$work/dropped")
-        awk -v d="$domains" -v n="$all" -v k="$kept" -v z="$dropped" -v r="$rounds" 'BEGIN {
-            printf "domains %d: %.0f words copied a second (%d blocks of 16 words, %.0f ns a block, %.3f ms a collection)\n", d, n * 16 / (k - z), n, (k - z) / n * 1e9, (k - z) / r * 1e3
+        chains "$domains" 1000 "$rounds" kept >"$work/kept"
+        chains "$domains" 1000 "$rounds" dropped >"$work/dropped"
+        pauses "$domains" 5000 >"$work/pauses"
+        pauses "$domains" 0 >"$work/none"
+        awk -v d="$domains" -v r="$rounds" -v kept="$(seconds "$domains" "$work/kept")" -v dropped="$(seconds "$domains" "$work/dropped")" \
+            -v pauses="$(seconds "$domains" "$work/pauses")" -v none="$(seconds "$domains" "$work/none")" 'BEGIN {
+            copying = kept - dropped
+            pause = (pauses - none) / 5000
+            printf "domains %d: %.0f words copied a second; a round of %d blocks takes %.3f ms, a pause without copying %.3f ms, so copying is at least %.1f %% of a pause\n", d, 48000 * 16 / copying, d * 1000, copying / r * 1e3, pause * 1e3, 100 * copying / (copying + r * d * pause)
         }'
     done
 }
 
-# A script of one domain that makes $1 blocks of the major heap, 2 fields each, in a chain, and then 40 chains of 1000 young
-# blocks, which are kept or dropped as $2 says.
+# A script of one domain that makes $1 blocks of the major heap, 2 fields each, none of which is freed, and then 20 chains of
+# 1000 young blocks, which are kept or dropped as $2 says.
 beside() {
     awk -v old="$1" 'BEGIN {
         print "heap 1"
         print "domain 0"
-        print "int 3 0"
-        for (k = 0; k < old; k++) print "allocmaj 4 0 2" (k % 4 == 0 ? "\nstore 4 0 3\nmove 3 4" : "")
+        for (k = 0; k < old; k++) print "allocmaj 4 0 2"
     }'
     chains 1 1000 20 "$2" | tail -n +3
 }
 
 live() {
-    local old kept dropped
+    local old
     for old in 1000 100000; do
         beside "$old" kept >"$work/kept"
         beside "$old" dropped >"$work/dropped"
-        kept=$(seconds 1 "$work/kept")
-        dropped=$(seconds 1 "$work/dropped")
-        awk -v o="$old" -v k="$kept" -v z="$dropped" 'BEGIN {
-            printf "beside %d blocks of the major heap: %.0f ns a copied block\n", o, (k - z) / 20000 * 1e9
+        awk -v o="$old" -v kept="$(seconds 1 "$work/kept")" -v dropped="$(seconds 1 "$work/dropped")" 'BEGIN {
+            printf "beside %d blocks of the major heap: %.0f ns a copied block\n", o, (kept - dropped) / 20000 * 1e9
         }'
     done | tee "$work/live"
     awk '{ t[NR] = $(NF - 4) } END { printf "ratio %.2f\n", t[2] / t[1] }' "$work/live"
@@ -177,7 +188,7 @@ outcome() {
 }
 
 stress() {
-    for domains in 1 2 3 4 5 6 7 8; do
+    for domains in ${DOMAINS:-1 2 3 4 5 6 7 8}; do
         sharing "$domains" >"$work/stress"
         for limit in none 1 2; do
             for _ in $(seq "${RUNS:-20}"); do
