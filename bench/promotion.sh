@@ -1,7 +1,7 @@
 #!/usr/bin/env bash
-# Times minor collections: words copied a second by 1, 2 and 4 domains in one run and the share of a pause that copying takes,
-# and what a copied block costs beside 10^3 and 10^5 live blocks of the major heap. The fastest of several runs counts. It claims
-# nothing.
+# Times minor collections: words made and copied a second by 1, 2 and 4 domains in one run, the share of a pause that copying
+# takes, and what a copied block costs beside 10^3 and 10^5 blocks of the major heap. The fastest of several runs counts. It
+# claims nothing.
 # With the word `stress` it times nothing: 1 to 8 domains store young blocks into a block that all have and load those of the
 # others, 200,000 commands in all with the smallest areas, 20 times each, with threads and without. Each output is checked, and
 # the runs that hang or print something wrong are counted. It ends with 1 where there is one.
@@ -12,13 +12,20 @@ work=$(mktemp -d)
 trap 'rm -rf "$work"' EXIT
 "$top/camlheap" run --domains 1 <"$top/examples/chain.heap" >/dev/null
 cp "$top/crates/camlheap/out/camlheap" "$work/camlheap" && chmod 755 "$work"
-runs=${RUNS:-5}
+runs=${RUNS:-15}
 
-# Seconds of one run with $1 domains of the script $2, the least of several. None of its commands may be answered `full`.
+. "$top/examples/limited.sh"
+
+# Seconds of one run with $1 domains of the script $2, the least of several: in threads, or where $3 is `alone` in one thread, which
+# turns all domains. None of the commands may be answered `full`.
 seconds() {
+    local run=("$work/camlheap" run --domains "$1" --minor 65536 --pools 2048)
+    if [ "${3:-}" = alone ]; then
+        run=(limited 1 "${run[@]}")
+    fi
     for _ in $(seq "$runs"); do
         start=$(date +%s.%N)
-        timeout 300 "$work/camlheap" run --domains "$1" --minor 32768 --pools 2048 <"$2" >"$work/out"
+        "${run[@]}" <"$2" >"$work/out"
         end=$(date +%s.%N)
         echo "$start $end"
     done | awk '{ t = $2 - $1; if (NR == 1 || t < least) least = t } END { print least }'
@@ -28,7 +35,7 @@ seconds() {
     fi
 }
 
-# A script of $1 domains that each make $2 young blocks of 14 fields in a chain, $3 times. A collection follows each
+# A script of $1 domains that each make $2 young blocks of 126 fields in a chain, $3 times. A collection follows each
 # chain: what it leads to is held by register 1 where $4 is `kept`, and by none where it is `dropped`.
 chains() {
     awk -v domains="$1" -v blocks="$2" -v rounds="$3" -v what="$4" 'BEGIN {
@@ -37,7 +44,7 @@ chains() {
             print "domain " d
             for (r = 0; r < rounds; r++) {
                 print "int 1 0"
-                for (k = 0; k < blocks; k++) print "alloc 2 0 14\nstore 2 0 1\nmove 1 2"
+                for (k = 0; k < blocks; k++) print "alloc 2 0 126\nstore 2 0 1\nmove 1 2"
                 print "drop 2"
                 if (what == "dropped") print "drop 1"; else print "poll"
                 print "minor"
@@ -57,34 +64,49 @@ pauses() {
     }'
 }
 
-# A block takes 16 words. A run in which all blocks are dropped before each collection is taken off: what is left is copying.
-# In a round each domain asks once, so at most as many pauses as domains come to the time of a pause in which nothing is copied.
+# As many lines as the chains have, and no block.
+polls() {
+    awk -v domains="$1" -v lines="$2" 'BEGIN {
+        print "heap 1"
+        for (d = 0; d < domains; d++) {
+            print "domain " d
+            for (k = 0; k < lines; k++) print "poll"
+        }
+    }'
+}
+
+# 48,000 blocks of 128 words are made and copied, by all domains together. In threads: how many words a second, the making of the
+# blocks included; what a run of as many polls takes is taken off. In one thread, where no domain waits for another: what copying
+# takes of a pause. For that a run in which all blocks are dropped before each collection is taken off; a domain asks once in a
+# round, and what a pause takes in which nothing is copied is told by a script of pauses alone.
 words() {
     local domains rounds
     for domains in 1 2 4; do
-        rounds=$((48 / domains))
-        chains "$domains" 1000 "$rounds" kept >"$work/kept"
-        chains "$domains" 1000 "$rounds" dropped >"$work/dropped"
+        rounds=$((96 / domains))
+        chains "$domains" 500 "$rounds" kept >"$work/kept"
+        chains "$domains" 500 "$rounds" dropped >"$work/dropped"
+        polls "$domains" $((rounds * 1504)) >"$work/polls"
         pauses "$domains" 5000 >"$work/pauses"
         pauses "$domains" 0 >"$work/none"
-        awk -v d="$domains" -v r="$rounds" -v kept="$(seconds "$domains" "$work/kept")" -v dropped="$(seconds "$domains" "$work/dropped")" \
-            -v pauses="$(seconds "$domains" "$work/pauses")" -v none="$(seconds "$domains" "$work/none")" 'BEGIN {
-            copying = kept - dropped
-            pause = (pauses - none) / 5000
-            printf "domains %d: %.0f words copied a second; a round of %d blocks takes %.3f ms, a pause without copying %.3f ms, so copying is at least %.1f %% of a pause\n", d, 48000 * 16 / copying, d * 1000, copying / r * 1e3, pause * 1e3, 100 * copying / (copying + r * d * pause)
+        awk -v d="$domains" -v kept="$(seconds "$domains" "$work/kept")" -v polls="$(seconds "$domains" "$work/polls")" \
+            -v alone="$(seconds "$domains" "$work/kept" alone)" -v dropped="$(seconds "$domains" "$work/dropped" alone)" \
+            -v pauses="$(seconds "$domains" "$work/pauses" alone)" -v none="$(seconds "$domains" "$work/none" alone)" 'BEGIN {
+            copying = alone - dropped
+            pausing = 96 * (pauses - none) / 5000
+            printf "domains %d: %.0f million words made and copied a second; in one thread copying takes %.0f ns a block, %.1f %% of the pauses\n", d, 48000 * 128 / (kept - polls) / 1e6, copying / 48000 * 1e9, 100 * copying / (copying + pausing)
         }'
     done
 }
 
-# A script of one domain that makes $1 blocks of the major heap, 2 fields each, none of which is freed, and then 20 chains of
-# 1000 young blocks, which are kept or dropped as $2 says.
+# A script of one domain that makes $1 blocks of the major heap, 2 fields each, none of which is freed, and then 40 chains of
+# 500 young blocks, which are kept or dropped as $2 says.
 beside() {
     awk -v old="$1" 'BEGIN {
         print "heap 1"
         print "domain 0"
         for (k = 0; k < old; k++) print "allocmaj 4 0 2"
     }'
-    chains 1 1000 20 "$2" | tail -n +3
+    chains 1 500 40 "$2" | tail -n +3
 }
 
 live() {
@@ -92,7 +114,7 @@ live() {
     for old in 1000 100000; do
         beside "$old" kept >"$work/kept"
         beside "$old" dropped >"$work/dropped"
-        awk -v o="$old" -v kept="$(seconds 1 "$work/kept")" -v dropped="$(seconds 1 "$work/dropped")" 'BEGIN {
+        awk -v o="$old" -v kept="$(seconds 1 "$work/kept" alone)" -v dropped="$(seconds 1 "$work/dropped" alone)" 'BEGIN {
             printf "beside %d blocks of the major heap: %.0f ns a copied block\n", o, (kept - dropped) / 20000 * 1e9
         }'
     done | tee "$work/live"
