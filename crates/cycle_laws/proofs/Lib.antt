@@ -1,0 +1,13 @@
+pub mod Tracing
+pub mod Sharing
+pub mod DomainParts
+pub mod Deciding
+pub mod Cleaning
+pub mod Leaving
+pub mod Counting
+pub mod Cycling
+pub mod Keeping
+pub mod Covering
+pub mod Sweep
+pub mod Progressing
+pub mod Pooling

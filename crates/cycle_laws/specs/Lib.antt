@@ -1,0 +1,14 @@
+pub mod Marks
+pub mod Shares
+pub mod Queueing
+pub mod Taking
+pub mod Counting
+pub mod Laws
+pub mod EntryLaws
+pub mod Cycle
+pub mod CycleLaws
+pub mod Fullness
+pub mod Cover
+pub mod Pools
+pub mod Sweeping
+pub mod Progress

@@ -1,0 +1,56 @@
+-- Clean and Lasts: which keys and registrations of `finalise_last` are taken; and what a collection leaves.
+use Rattle.std.specs.Prelude.{◌≡◌, ℕ, ◌≤◌, Bool, not, IsTrue, List, map, filter_map, flat_map, length, slice_get, Some}
+use Rattle.heap_model.specs.declared.label.Label.{Label}
+use Rattle.heap_model.specs.declared.state.LastFinaliser.{LastFinaliser}
+use Rattle.heap_model.specs.declared.state.Mode.TheVariants.{Sealed}
+use Rattle.heap_model.specs.declared.state.State.{State}
+use Rattle.heap_model.specs.Graph.{has_label, label_of}
+use Rattle.heap_model.specs.Reach.{HoldsRoots}
+use Rattle.heap_model.specs.Domains.{domain_at, pending_label, queues}
+use Rattle.heap_model.specs.Marked.{IsMarked}
+use Rattle.cycle_laws.specs.Marks.{FieldsMarked, KeysMarked, DataMarked}
+use Rattle.cycle_laws.specs.Shares.{Layout, Shares, AreShares, AllOwned}
+
+-- what was taken since the Seal is unmarked
+abbrev pub TakenUnmarked : State → (Label → Bool) → Type 0
+TakenUnmarked s marked = (l : Label) → IsTrue (has_label s.taken l) → IsTrue (not (marked l))
+
+-- the labels of the registrations of `finalise_last`
+abbrev pub last_labels : State → List Label
+last_labels s = flat_map (λ x. map (λ f. f.label) x.lasts) s.domains
+
+-- Clean: a marked ephemeron that its domain has seen has no unmarked key left; all registrations of `finalise_last` are still to be looked at
+pub record InClean (n : ℕ) (y : Layout) (s : State) (marked : Label → Bool) (w : Shares) : Type 0 where
+  pub mode : s.mode ≡ Sealed
+  pub shares : AreShares y w
+  pub owned : AllOwned n y marked
+  pub marks : IsMarked s (queues s) marked
+  pub taken : TakenUnmarked s marked
+  pub clean : (d a : ℕ) (l : Label) → IsTrue (w.seen d a) → y.live a ≡ Some l → IsTrue (marked l) → KeysMarked s.graph marked l
+  pub low : (d : ℕ) → (domain_at s d).low ≡ length (domain_at s d).lasts
+
+-- Lasts: no marked ephemeron has an unmarked key; each domain goes through its registrations of `finalise_last` from the last to the first
+pub record InLasts (s : State) (marked : Label → Bool) (left : ℕ → ℕ) : Type 0 where
+  pub mode : s.mode ≡ Sealed
+  pub marks : IsMarked s (queues s) marked
+  pub taken : TakenUnmarked s marked
+  pub keys : (l : Label) → IsTrue (marked l) → KeysMarked s.graph marked l
+  pub below : (d : ℕ) → left d ≤ (domain_at s d).low
+  pub kept : (d p : ℕ) (f : LastFinaliser) → left d ≤ p → slice_get (domain_at s d).lasts p ≡ Some f → IsTrue (marked f.label)
+
+-- from the end of Lasts to the Done: what a collection leaves is marked, and what it took is not
+pub record IsLeft (s : State) (marked : Label → Bool) : Type 0 where
+  pub marks : IsMarked s (queues s) marked
+  pub taken : TakenUnmarked s marked
+  pub keys : (l : Label) → IsTrue (marked l) → KeysMarked s.graph marked l
+  pub lasts : HoldsRoots (last_labels s) marked
+
+-- each reference leads to a marked block: those that a domain has, and those in marked blocks. So the unmarked blocks may go
+pub record LeadsToMarked (s : State) (marked : Label → Bool) : Type 0 where
+  pub registers : (d : ℕ) → HoldsRoots (filter_map label_of (domain_at s d).registers) marked
+  pub queue : (d : ℕ) → HoldsRoots (filter_map pending_label (domain_at s d).queue) marked
+  pub finals : (d : ℕ) → HoldsRoots (map (λ f. f.label) (domain_at s d).finals) marked
+  pub lasts : (d : ℕ) → HoldsRoots (map (λ f. f.label) (domain_at s d).lasts) marked
+  pub fields : (l : Label) → IsTrue (marked l) → FieldsMarked s.graph marked l
+  pub keys : (l : Label) → IsTrue (marked l) → KeysMarked s.graph marked l
+  pub datum : (l : Label) → IsTrue (marked l) → DataMarked s.graph marked l
