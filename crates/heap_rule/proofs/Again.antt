@@ -1,13 +1,12 @@
 -- Places that have changed in other things than label and shape.
-use Rattle.std.proofs.Common.{◌≡◌, ℕ, ◌+◌, ◌*◌, ◌≤◌, ◌⊎◌, List, Option, Some, None, false, sym, ◌∙◌, subst, inl, inr, ⊎_elim, arith}
+use Rattle.std.proofs.Common.{◌≡◌, ℕ, ◌+◌, ◌*◌, ◌≤◌, ◌⊎◌, List, Option, Some, None, sym, ◌∙◌, subst, inl, inr, ⊎_elim, arith}
 use Rattle.heap_model.specs.declared.label.Label.{Label}
 use Rattle.heap_model.specs.Fronts.{Shape}
-use Rattle.heap_words.specs.Heads.{IsPackableHead}
 use Rattle.heap_words.specs.Labels.{IsPackableLabel}
 use Rattle.heap_rule.specs.declared.config.Config.{Config}
 use Rattle.heap_rule.specs.declared.view.DomainView.{DomainView}
 use Rattle.heap_rule.specs.Layout.{heap_words, base_of, at_address}
-use Rattle.heap_rule.specs.Places.{Place, Live, extent, span, Spread, unmarked, HasClass, head_of, IsBuilt, Fits, Placed, More}
+use Rattle.heap_rule.specs.Places.{Place, Live, extent, span, Spread, HasClass, IsPackableShape, IsBuilt, Fits, Placed, More}
 use Rattle.heap_rule.specs.Pools.{Holder, Tenancy, Lot, Pools, Grid, place_in, size_of}
 use Rattle.heap_rule.specs.Room.{Opened}
 use Rattle.heap_rule.specs.Rule.{Area}
@@ -31,7 +30,7 @@ fits_back k b p q label shape f = record {
   high = subst (λ (s : Shape). b + extent s ≤ heap_words k + 1) shape f.high;
   built = subst IsBuilt shape f.built;
   classed = subst (λ (s : Shape). HasClass (extent s)) shape f.classed;
-  head = subst (λ (s : Shape). IsPackableHead (head_of None s unmarked false)) shape f.head;
+  head = subst IsPackableShape shape f.head;
   label = subst (λ (l : Label). IsPackableLabel (l.domain, l.serial)) label f.label;
 }
 
@@ -77,7 +76,7 @@ pub grid_back : (k : Config) (t : Tenancy) (live live' : Live) (words : List ℕ
 grid_back k t live live' words back more g = record {
   lots = lots_back k t.holder live live' back g.lots;
   places = λ q d c slot is inside. ⊎_elim (λ (z : at_address k words (place_in q c slot) ≡ 0). inl z)
-      (λ z. inr (⊎_elim (λ (y : (p : Place) × (live (place_in q c slot) ≡ Some p)). let m = more (place_in q c slot) y.0 y.1 in inl (m.place, m.lives)) (λ (y : t.prepared (place_in q c slot) ≡ Some d). inr y) z))
+      (λ z. inr (⊎_elim (λ (y : (p : Place) × (live (place_in q c slot) ≡ Some p)). let m = more (place_in q c slot) y.0 y.1 in inl (m.place, m.lives)) (λ y. inr y) z))
       (g.places q d c slot is inside);
   spares = λ a d is. let s = g.spares a d is in record { own = s.own; head = s.head; empty = none_back live live' a back s.empty };
 }

@@ -1,5 +1,5 @@
 -- A word is written: what lies beside it stays.
-use Rattle.std.proofs.Common.{◌≡◌, ◌≢◌, ℕ, ◌+◌, ◌<◌, ◌≤◌, false, List, length, get_or, set, Some, sym, refl, ap, ◌∙◌, subst, ⊎_elim, arith, get_or-set_other, lt_of_not-le}
+use Rattle.std.proofs.Common.{◌≡◌, ◌≢◌, ℕ, ◌+◌, ◌<◌, ◌≤◌, List, length, get_or, set, Some, sym, refl, ap, ◌∙◌, subst, ⊎_elim, arith, get_or-set_other, lt_of_not-le}
 use Rattle.std.proofs.lemmas.List.{length-map}
 use mathlib.Core.Logic.{dite}
 use native.Mathlib.Decide.{dec_le}
@@ -11,8 +11,9 @@ use Rattle.heap_model.specs.Fronts.{shape_of}
 use Rattle.heap_rule.specs.declared.config.Config.{Config}
 use Rattle.heap_rule.specs.declared.view.DomainView.{DomainView}
 use Rattle.heap_rule.specs.Layout.{before_heap, base_of}
-use Rattle.heap_rule.specs.Places.{Place, Live, extent, values_of, Found, unmarked, HeadIs, More, IsOldWord}
+use Rattle.heap_rule.specs.Places.{Place, Live, Paint, extent, values_of, Found, More, IsOldWord}
 use Rattle.heap_rule.specs.Rule.{Area, Making}
+use Rattle.heap_rule.proofs.HeadLemmas.{head_at}
 use Rattle.heap_rule.proofs.Lists.{got_below}
 use Rattle.heap_rule.proofs.Sizes.{area_below}
 use Rattle.heap_rule.proofs.Keeps.{stands_more}
@@ -23,9 +24,9 @@ extent_of (Raw tag fields) = refl
 extent_of (Ephe keys datum) = let l = length-map keys key_value in omega arith
 
 -- a block that the word is none of, in a graph that has its node
-pub found_beside : (k : Config) (live live' : Live) (graph graph' : Graph) (words : List ℕ) (at new b : ℕ) (q : Place) → More live live' → (f : Found k live graph words b q) → node_at graph' q.label ≡ Some f.node
-    → ((z : ℕ) → z < extent q.shape → b + z ≢ at) → Found k live' graph' (set words (before_heap k + at) new) b q
-found_beside k live live' graph graph' words at new b q more f there far =
+pub found_beside : (k : Config) (paint : Paint) (live live' : Live) (graph graph' : Graph) (words : List ℕ) (at new b : ℕ) (q : Place) → More live live' → (f : Found k paint live graph words b q) → node_at graph' q.label ≡ Some f.node
+    → ((z : ℕ) → z < extent q.shape → b + z ≢ at) → Found k paint live' graph' (set words (before_heap k + at) new) b q
+found_beside k paint live live' graph graph' words at new b q more f there far =
     let e : ℕ = extent q.shape in
     let n : ℕ = length (values_of f.node) in
     let size : e ≡ n + 2 = ap extent (sym f.shape) ∙ extent_of f.node in
@@ -34,7 +35,7 @@ found_beside k live live' graph graph' words at new b q more f there far =
       node = f.node;
       there = there;
       shape = f.shape;
-      head = subst (HeadIs q.forward q.shape unmarked false) (sym (ap (λ (i : ℕ). get_or (set words (base + at) new) (base + i) 0) (let g : b ≡ b + 0 = omega arith in g) ∙ (stays 0 (omega arith) ∙ ap (λ (i : ℕ). get_or words (base + i) 0) (let g : b + 0 ≡ b = omega arith in g)))) f.head;
+      head = head_at paint q (ap (λ (i : ℕ). get_or (set words (base + at) new) (base + i) 0) (let g : b ≡ b + 0 = omega arith in g) ∙ (stays 0 (omega arith) ∙ ap (λ (i : ℕ). get_or words (base + i) 0) (let g : b + 0 ≡ b = omega arith in g))) f.head;
       label = stays 1 (omega arith) ∙ f.label;
       values = λ i v has got.
           let below : i < n = got_below (values_of f.node) i v got in

@@ -48,7 +48,7 @@ module _ (k : Config) (s : Words) (r : Rule k s) (id : ℕ) (hist : List Entry) 
       let b = stands_block r.account.live a v (subst (λ (y : Value). Stands r.account.live y v) is.holds ((my_good k s r id hist x at).stood.each reg is.few)) in
       record { place = b.1; lives = b.3; held = b.2 ∙ ap Block (sym b.4) }
 
-  pub found_at : (reg a : ℕ) (b : Lives reg a) → Found k r.account.live now.graph s.words a b.place
+  pub found_at : (reg a : ℕ) (b : Lives reg a) → Found k r.account.cycling.paint r.account.live now.graph s.words a b.place
   found_at reg a b = r.whole.found a b.place b.lives
 
   -- a plain block

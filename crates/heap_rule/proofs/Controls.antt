@@ -1,5 +1,5 @@
 -- Steps on the control words of the phases: the other words stay, and so does what they stand for.
-use Rattle.std.proofs.Common.{◌≡◌, ◌≢◌, ℕ, zero, suc, ◌+◌, ◌*◌, ◌<◌, ◌≤◌, ◌⊎◌, List, length, get_or, set, Some, sym, refl, ap, ◌∙◌, subst, arith, ⊎_elim, inl, inr, suc-mul, zero-le, None, false, Option, ◌++◌, ◌∷◌, []}
+use Rattle.std.proofs.Common.{◌≡◌, ◌≢◌, ℕ, zero, suc, ◌+◌, ◌*◌, ◌<◌, ◌≤◌, ◌⊎◌, List, length, get_or, set, Some, sym, refl, ap, ◌∙◌, subst, arith, ⊎_elim, inl, inr, suc-mul, zero-le, None, Option, ◌++◌, ◌∷◌, []}
 use mathlib.Core.Logic.{dite}
 use native.Mathlib.Decide.{ℕ_discrete}
 use mathlib.Core.Option.{some}
@@ -11,20 +11,24 @@ use Rattle.heap_rule.specs.declared.config.Config.{Config}
 use Rattle.heap_rule.specs.declared.phase.Stage.{Stage}
 use Rattle.heap_rule.specs.declared.phase.Note.{Note}
 use Rattle.heap_rule.specs.declared.view.DomainView.{DomainView}
-use Rattle.heap_rule.specs.Layout.{before_heap, ended_word, cursor, listed}
-use Rattle.heap_rule.specs.Places.{unmarked, Live, HeadIs, IsOldWord, Settled}
+use Rattle.heap_rule.specs.Layout.{before_heap, ended_word, cursor, listed, changed_word, at_address}
+use Rattle.heap_rule.specs.Places.{Live, Paint, IsOldWord, Settled}
 use Rattle.heap_rule.specs.declared.view.Copying.{Copying}
 use Rattle.heap_rule.specs.Copies.{Owes, Promoting, AllCleared, Emptied, Rooted}
 use Rattle.heap_rule.specs.Phases.{Pause, Phases, sum_of, IsEven, IsOdd, Staged, Still, TookBack, HasSetBack, Unwished, last_from, last_note}
-use Rattle.heap_rule.specs.Pools.{Stock, Reserved, limit_of, Tenancy, Pools, Grid, Drawers, Resting, Hunter, Lists}
+use Rattle.heap_rule.specs.Pools.{Stock, Reserved, limit_of, Tenancy, Pools, Grid, Drawers, Resting, Hunter, Lists, Holder}
 use Rattle.heap_rule.specs.declared.view.Listing.{Listing}
-use Rattle.heap_rule.specs.Rule.{state_of, AllFound, Making, NoCycle, Rule}
+use Rattle.heap_rule.specs.Rule.{state_of, AllFound, Making, Account, Sharing, Rule, Good}
 use Rattle.heap_rule.specs.Room.{Room, IsUnused, Drawable}
 use Rattle.remembered_set.specs.Bounded.{Bounded}
 use Rattle.heap_rule.specs.declared.view.Copied.{Copied}
 use Rattle.heap_rule.specs.Views.{one}
+use Rattle.heap_rule.proofs.HeadLemmas.{head_at}
 use Rattle.heap_rule.proofs.Holders.{Agrees, agrees_same, grid_heap, same_self, hunter_agree, SameStock, stock_self}
 use Rattle.heap_rule.proofs.Keeps.{Words, mine, my_good, remakes, knows_front, phases_words, pools_words, lists_same, resting_lists, owes_as, hunter_as, room_words, opened_words}
+use Rattle.heap_rule.proofs.Sharings.{SameCycle, cycle_words, leading_words, knows_words}
+use Rattle.heap_rule.specs.declared.view.Share.{Share}
+use Rattle.heap_rule.specs.Cycles.{Cycling, Cycled, Telling, Leading, KnowsBlocks}
 
 -- all words stay but the first four, want, barrier, plan and changed, and the ended word
 abbrev pub Untouched : List ℕ → List ℕ → Type 0
@@ -33,12 +37,12 @@ Untouched words words' = (length words' ≡ length words) × ((i : ℕ) → 4 �
 pub untouched_same : (words : List ℕ) → Untouched words words
 untouched_same words = (refl, λ i low other. refl)
 
-pub found_untouched : (k : Config) (live : Live) (graph : Graph) (words words' : List ℕ) → Untouched words words' → AllFound k live graph words → AllFound k live graph words'
-found_untouched k live graph words words' u found a p lives = let f = found a p lives in record {
+pub found_untouched : (k : Config) (paint : Paint) (live : Live) (graph : Graph) (words words' : List ℕ) → Untouched words words' → AllFound k paint live graph words → AllFound k paint live graph words'
+found_untouched k paint live graph words words' u found a p lives = let f = found a p lives in record {
   node = f.node;
   there = f.there;
   shape = f.shape;
-  head = subst (HeadIs p.forward p.shape unmarked false) (sym (u.1 (before_heap k + a) (omega arith) (λ e. away a e))) f.head;
+  head = head_at paint p (u.1 (before_heap k + a) (omega arith) (λ e. away a e)) f.head;
   label = u.1 (before_heap k + (a + 1)) (omega arith) (λ e. away (a + 1) e) ∙ f.label;
   values = λ i v has e. let w = f.values i v has e in record { value = w.value; packs = u.1 (before_heap k + (a + 2 + i)) (omega arith) (λ e. away (a + 2 + i) e) ∙ w.packs; stands = w.stands };
   old = λ low i inside has none. subst (IsOldWord k) (sym (u.1 (before_heap k + (a + 2 + i)) (omega arith) (λ e. away (a + 2 + i) e))) (f.old low i inside has none);
@@ -88,8 +92,28 @@ lists_untouched k words words' number stage l u s = lists_same k words words' nu
 pub resting_untouched : (k : Config) (words words' : List ℕ) (z : DomainView) → Untouched words words' → Resting k words z → Resting k words' z
 resting_untouched k words words' z u r = resting_lists k words words' z (λ number stage l. lists_untouched k words words' number stage l u) r
 
-pub cycle_untouched : (words words' : List ℕ) → Untouched words words' → NoCycle words → NoCycle words'
-cycle_untouched words words' u s = record { armed_is = u.1 4 (omega arith) (λ e. omega arith) ∙ s.armed_is; colours_are = u.1 5 (omega arith) (λ e. omega arith) ∙ s.colours_are }
+pub cycle_untouched : (words words' : List ℕ) → Untouched words words' → changed_word words' ≡ changed_word words → SameCycle words words'
+cycle_untouched words words' u changed = record {
+  armed_same = u.1 4 (omega arith) (λ e. omega arith);
+  colours_same = u.1 5 (omega arith) (λ e. omega arith);
+  changed_same = changed;
+  blocks_same = u.1 9 (omega arith) (λ e. omega arith);
+  words_same = u.1 10 (omega arith) (λ e. omega arith);
+}
+
+-- all that the rule says of a domain's share stays where nothing of a collection moves
+pub sharing_words : (k : Config) (all all' : Account) (words words' : List ℕ) (z : DomainView) → all'.log ≡ all.log → all'.live ≡ all.live → all'.tenancy.holder ≡ all.tenancy.holder → all'.cycling ≡ all.cycling
+    → SameCycle words words' → ((a : ℕ) → at_address k words' a ≡ at_address k words a) → Sharing k all words z.own.number z.own.registers z.seen.stage z.seen.share → Sharing k all' words' z.own.number z.own.registers z.seen.stage z.seen.share
+sharing_words k all all' words words' z log live holder cycling same heap sh = record {
+  telling = subst (λ (c : Cycling). Telling c.paint.colours c.shares z.own.number z.seen.share) (sym cycling) sh.telling;
+  leading = subst (λ (c : Cycling). Leading c words' z.own.number z.seen.stage z.seen.share) (sym cycling) (leading_words all.cycling words words' z.own.number z.seen.stage z.seen.share same sh.leading);
+  knows = subst (λ (m : List Entry × Live × (ℕ → Holder) × Cycling). KnowsBlocks k m.1 m.2 (state_of k m.0).graph m.3.paint.marks words' z.own.number z.own.registers z.seen.stage z.seen.share)
+      (λ i. (sym log i, sym live i, sym holder i, sym cycling i)) (knows_words k all.live all.tenancy.holder (state_of k all.log).graph all.cycling.paint.marks words words' z.own.number z.own.registers z.seen.stage z.seen.share heap sh.knows);
+}
+
+-- the heap's words stay
+pub heap_untouched : (k : Config) (words words' : List ℕ) → Untouched words words' → (a : ℕ) → at_address k words' a ≡ at_address k words a
+heap_untouched k words words' u a = u.1 (before_heap k + a) (omega arith) (λ e. let h : 10 + 2 * k.pools + a ≡ 8 = e in omega arith)
 
 -- sums over the domains
 sum_else : (f g : ℕ → ℕ) (d n : ℕ) → n ≤ d → ((j : ℕ) → j ≢ d → g j ≡ f j) → sum_of g n ≡ sum_of f n
@@ -156,20 +180,30 @@ pub record Move : Type 0 where
   pub free : Option ℕ
   pub listing : Option Listing
   pub copying : Copying
+  pub share : Share
 
 abbrev pub moved_to : DomainView → Move → DomainView
 moved_to x m = record {
   own = record x.own { arrivals = m.arrivals; pending = m.pending };
-  seen = record x.seen { front = m.front; stage = m.stage; notes = m.notes; free = m.free; listing = m.listing; copying = m.copying };
+  seen = record x.seen { front = m.front; stage = m.stage; notes = m.notes; free = m.free; listing = m.listing; copying = m.copying; share = m.share };
 }
 
 -- the domain stands where it stands, and knows what it knows
 abbrev pub no_move : DomainView → Move
-no_move x = record { arrivals = x.own.arrivals; pending = x.own.pending; front = x.seen.front; stage = x.seen.stage; notes = x.seen.notes; free = x.seen.free; listing = x.seen.listing; copying = x.seen.copying }
+no_move x = record { arrivals = x.own.arrivals; pending = x.own.pending; front = x.seen.front; stage = x.seen.stage; notes = x.seen.notes; free = x.seen.free; listing = x.seen.listing; copying = x.seen.copying; share = x.seen.share }
 
 module _ (k : Config) (s : Words) (r : Rule k s) (id : ℕ) (hist : List Entry) (x : DomainView) (at : get_elem? s.views id ≡ some (one k hist x)) where
+  -- what there is besides the words after a step of a pause
+  abbrev pub turned : Pause → Tenancy → Cycling → Account
+  turned pause' t' c' = record r.account { pause = pause'; tenancy = t'; cycling = c' }
+
   -- What a step of a pause owes: no entry stands, no block changes, and the phases may turn. The domain's list of copies may be emptied
-  pub record Turns (y : DomainView) (pause' : Pause) (stock' : Stock) (words' : List ℕ) : Type 0 where
+  pub record Turns (y : DomainView) (pause' : Pause) (stock' : Stock) (c' : Cycling) (words' : List ℕ) : Type 0 where
+    pub paint : c'.paint ≡ r.account.cycling.paint
+    pub cycle : Cycled k (state_of k r.account.log) r.account.live pause' (record r.account.tenancy { stock = stock' }) c' words'
+    pub sharing : Sharing k (turned pause' (record r.account.tenancy { stock = stock' }) c') words' y.own.number y.own.registers y.seen.stage y.seen.share
+    pub sharings : (z : DomainView) → z.own.number < k.domains → z.own.number ≢ x.own.number → Good k r.account s.words z
+        → Sharing k (turned pause' (record r.account.tenancy { stock = stock' }) c') words' z.own.number z.own.registers z.seen.stage z.seen.share
     pub untouched : Untouched s.words words'
     pub front : IsFrontOf x.own.number r.account.log y.seen.front
     pub phases : Phases k pause' words'
@@ -197,21 +231,22 @@ module _ (k : Config) (s : Words) (r : Rule k s) (id : ℕ) (hist : List Entry) 
     pub others_took_back : (z : DomainView) → Staged r.account.pause z → TookBack s.words z → TookBack words' z
     pub set_back : HasSetBack y → cursor words' ≤ limit_of k (listed words')
 
-  pub turns : (m : Move) (pause' : Pause) (stock' : Stock) (words' : List ℕ) → let y : DomainView = moved_to x m in Turns y pause' stock' words'
+  pub turns : (m : Move) (pause' : Pause) (stock' : Stock) (c' : Cycling) (words' : List ℕ) → let y : DomainView = moved_to x m in Turns y pause' stock' c' words'
       → Rule k record { words = words'; homes = s.homes; views = set s.views id (one k hist y) }
-  turns m pause' stock' words' o =
+  turns m pause' stock' c' words' o =
       let y : DomainView = moved_to x m in
       let g = my_good k s r id hist x at in
       let p = making_untouched k s.words words' x o.untouched g.making in
       let t' : Tenancy = record r.account.tenancy { stock = stock' } in
       let grid1 = grid_untouched k r.account.tenancy r.account.live s.words words' o.untouched r.whole.grid in
       let pools1 = pools_untouched k r.account.tenancy s.words words' o.untouched r.whole.pools in
-      remakes k s r id hist x at y (record r.account { pause = pause'; tenancy = t' }) words'
+      remakes k s r id hist x at y (turned pause' t' c') words'
       record {
         wide = o.untouched.0 ∙ r.whole.wide;
         legal = r.whole.legal;
-        calm = r.whole.calm;
-        found = found_untouched k r.account.live (state_of k r.account.log).graph s.words words' o.untouched r.whole.found;
+        plain = r.whole.plain;
+        queues = r.whole.queues;
+        found = subst (λ (paint : Paint). AllFound k paint r.account.live (state_of k r.account.log).graph words') (sym o.paint) (found_untouched k r.account.cycling.paint r.account.live (state_of k r.account.log).graph s.words words' o.untouched r.whole.found);
         placed = r.whole.placed;
         spread = r.whole.spread;
         settled = o.settled;
@@ -229,7 +264,7 @@ module _ (k : Config) (s : Words) (r : Rule k s) (id : ℕ) (hist : List Entry) 
         unused = o.unused;
         opened = opened_words k r.account.live s.words words' (λ _ _ _ _. (counts_untouched s.words words' o.untouched).0) r.whole.opened;
         drawable = o.drawable;
-        cycle = cycle_untouched s.words words' o.untouched r.whole.cycle;
+        cycle = o.cycle;
       }
       (knows_front k s r id hist x at y refl o.front)
       record {
@@ -244,6 +279,7 @@ module _ (k : Config) (s : Words) (r : Rule k s) (id : ℕ) (hist : List Entry) 
         owes = o.owes;
         rooted = o.rooted;
         set_back = o.set_back;
+        sharing = o.sharing;
       }
       (λ z below other h. record {
         stood = h.stood;
@@ -257,18 +293,25 @@ module _ (k : Config) (s : Words) (r : Rule k s) (id : ℕ) (hist : List Entry) 
         owes = h.owes;
         rooted = o.roots z below other h.staged h.rooted;
         set_back = λ b. low_untouched k s.words words' o.untouched (h.set_back b);
+        sharing = o.sharings z below other h;
       })
 
   -- a step that leaves where all stand, and the front
-  pub notes_rule : (notes : List Note) (words' : List ℕ) → let y : DomainView = moved_to x (record (no_move x) { notes = notes }) in Untouched s.words words' → Unwished r.account.pause words' → TookBack words' y
+  pub notes_rule : (notes : List Note) (words' : List ℕ) → let y : DomainView = moved_to x (record (no_move x) { notes = notes }) in Untouched s.words words' → changed_word words' ≡ changed_word s.words → Unwished r.account.pause words' → TookBack words' y
       → (HasSetBack y → HasSetBack x) → ((z : DomainView) → Staged r.account.pause z → TookBack s.words z → TookBack words' z) → get_or words' 1 0 ≡ get_or s.words 1 0 → get_or words' 2 0 ≡ get_or s.words 2 0 → ended_word words' ≡ ended_word s.words
       → Rule k record { words = words'; homes = s.homes; views = set s.views id (one k hist y) }
-  notes_rule notes words' u unwished took_back set_back others_took_back b c e =
+  notes_rule notes words' u changed unwished took_back set_back others_took_back b c e =
       let g = my_good k s r id hist x at in
       let m : Move = record (no_move x) { notes = notes } in
       let y : DomainView = moved_to x m in
       let t = r.account.tenancy in
-      let counts = counts_untouched s.words words' u in turns m r.account.pause t.stock words' record {
+      let counts = counts_untouched s.words words' u in
+      let same : SameCycle s.words words' = cycle_untouched s.words words' u changed in
+      let heap : (a : ℕ) → at_address k words' a ≡ at_address k s.words a = heap_untouched k s.words words' u in turns m r.account.pause t.stock r.account.cycling words' record {
+        paint = refl;
+        cycle = cycle_words k (state_of k r.account.log) r.account.live r.account.pause t r.account.cycling s.words words' same heap r.whole.cycle;
+        sharing = sharing_words k r.account r.account s.words words' x refl refl refl refl same heap g.sharing;
+        sharings = λ z _ _ h. sharing_words k r.account r.account s.words words' z refl refl refl refl same heap h.sharing;
         owes = owes_as k r.account.live x y refl refl refl refl g.owes;
         settled = r.whole.settled;
         cleared = r.whole.cleared;

@@ -20,12 +20,12 @@ use Rattle.heap_rule.specs.declared.view.Hunt.{Hunt}
 use Rattle.heap_rule.specs.declared.view.Hunt.TheVariants.{Rests, Counts, Asks, Draws, Walks, Fills, Labels, Heads}
 use Rattle.heap_rule.specs.declared.view.DomainView.{DomainView}
 use Rattle.heap_rule.specs.Layout.{at_address, ended_word}
-use Rattle.heap_rule.specs.Places.{Debt, Place, Live, extent, values_of, Stands, HasValue, IsOldAt, IsOldWord, Settled, More}
+use Rattle.heap_rule.specs.Places.{Debt, Place, Live, extent, values_of, Stands, HasValue, IsOldAt, IsOldWord, Settled, More, Paint}
 use Rattle.heap_rule.specs.Changes.{value_at}
 use Rattle.heap_rule.specs.Copies.{nothing_copied, known, Owes, Copies, Promoting, IsOldValue, HoldsOld, Rooted}
 use Rattle.heap_rule.specs.Phases.{Pause, Phases, IsOdd, Staged, Still, TookBack, HasSetBack, Unwished}
 use Rattle.heap_rule.specs.Pools.{no_stock, drawn, Stock, Hunts, KeepsReserve, Resting, Tenancy, Pools, Grid, place_in, size_of}
-use Rattle.heap_rule.specs.Rule.{state_of, AllFound, Stood, Rule}
+use Rattle.heap_rule.specs.Rule.{state_of, AllFound, Stood, Rule, Account, Sharing, Good}
 use Rattle.heap_rule.specs.Views.{one}
 use Rattle.heap_rule.proofs.Again.{Back, placed_back, spread_back, area_back, none_back}
 use Rattle.heap_rule.proofs.Lots.{number_cases}
@@ -33,7 +33,8 @@ use Rattle.heap_rule.proofs.Beside.{extent_of}
 use Rattle.heap_rule.proofs.Classes.{slot_inside, size_least}
 use Rattle.heap_rule.proofs.Lists.{got_below}
 use Rattle.heap_rule.proofs.Keeps.{Words, my_good, remakes, knows_front, room_unused, copies_settled, no_owing, nothing_known}
-use Rattle.heap_rule.proofs.Controls.{Move, Untouched, found_untouched, making_untouched, pools_untouched, grid_untouched, hunter_untouched, resting_untouched, low_untouched, cycle_untouched, pools_stock, grid_stock, moved_to}
+use Rattle.heap_rule.proofs.Controls.{Move, Untouched, found_untouched, making_untouched, pools_untouched, grid_untouched, hunter_untouched, resting_untouched, low_untouched, pools_stock, grid_stock, moved_to}
+use Rattle.heap_rule.specs.Cycles.{Cycling, Cycled}
 
 abbrev Side : Config → ℕ → Type 0
 Side k a = (a ≤ k.pools * 4096) ⊎ (k.pools * 4096 < a)
@@ -90,7 +91,7 @@ pub record NoDebts (live : Live) : Type 0 where
   pub no_debt : (b : ℕ) (q : Place) (o : Debt) → live b ≡ Some q → q.owed ≡ Some o → ⊥
   pub no_field : (b : ℕ) (q : Place) (i d : ℕ) → live b ≡ Some q → q.named i ≡ Some d → ⊥
 
-module _ (k : Config) (live : Live) (graph : Graph) (words : List ℕ) (found : AllFound k live graph words) (copies : Copies k live) (free : NoDebts live) where
+module _ (k : Config) (paint : Paint) (live : Live) (graph : Graph) (words : List ℕ) (found : AllFound k paint live graph words) (copies : Copies k live) (free : NoDebts live) where
   abbrev live' : Live
   live' = dropped k live
 
@@ -106,7 +107,7 @@ module _ (k : Config) (live : Live) (graph : Graph) (words : List ℕ) (found : 
     no_debt = paid b q w.1;
   }
 
-  pub drop_found : AllFound k live' graph words
+  pub drop_found : AllFound k paint live' graph words
   drop_found b q e =
       let w = was_low k live b q e in
       let f = found b q w.1 in
@@ -145,7 +146,7 @@ module _ (k : Config) (live : Live) (graph : Graph) (words : List ℕ) (found : 
         let top : u + v ≤ 4096 = slot_inside c slot o.2 inside in
         let large : 4 ≤ v = size_least c o.2 in
         let below : q < k.pools = o.0 in
-        inl (z.0, kept_low k live (place_in q c slot) z.0 z.1 (let h : q * 4096 + u + 1 ≤ k.pools * 4096 = omega arith in h))) (λ (z : t.prepared (place_in q c slot) ≡ Some d). inr z) z)) (g.places q d c slot is inside);
+        inl (z.0, kept_low k live (place_in q c slot) z.0 z.1 (let h : q * 4096 + u + 1 ≤ k.pools * 4096 = omega arith in h))) (λ z. inr z) z)) (g.places q d c slot is inside);
   }
 
   pub drop_owes : (x y : DomainView) → y.own.number ≡ x.own.number → y.seen.copying ≡ nothing_copied → y.seen.remembered ≡ x.seen.remembered → Owes k live x → Owes k live' y
@@ -171,8 +172,16 @@ hunts_stock k t stock words d (Labels address label) u = u
 hunts_stock k t stock words d (Heads address label head) u = u
 
 module _ (k : Config) (s : Words) (r : Rule k s) (id : ℕ) (hist : List Entry) (x : DomainView) (at : get_elem? s.views id ≡ some (one k hist x)) where
+  -- what there is besides the words after the last arrival of Promote
+  abbrev pub dropped_to : Pause → Cycling → Account
+  dropped_to pause' c' = record r.account { live = dropped k r.account.live; pause = pause'; tenancy = record r.account.tenancy { stock = no_stock }; cycling = c' }
+
   -- what the last arrival of Promote owes: it empties the domain's list of copies, and nothing of the pools is used any more
-  pub record Drops (y : DomainView) (pause' : Pause) (words' : List ℕ) : Type 0 where
+  pub record Drops (y : DomainView) (pause' : Pause) (c' : Cycling) (words' : List ℕ) : Type 0 where
+    pub paint : c'.paint ≡ r.account.cycling.paint
+    pub cycle : Cycled k (state_of k r.account.log) (dropped k r.account.live) pause' (record r.account.tenancy { stock = no_stock }) c' words'
+    pub sharing : Sharing k (dropped_to pause' c') words' y.own.number y.own.registers y.seen.stage y.seen.share
+    pub sharings : (z : DomainView) → z.own.number < k.domains → z.own.number ≢ x.own.number → Good k r.account s.words z → Sharing k (dropped_to pause' c') words' z.own.number z.own.registers z.seen.stage z.seen.share
     pub untouched : Untouched s.words words'
     pub front : IsFrontOf x.own.number r.account.log y.seen.front
     pub phases : Phases k pause' words'
@@ -199,9 +208,9 @@ module _ (k : Config) (s : Words) (r : Rule k s) (id : ℕ) (hist : List Entry) 
     pub all_old : (z : DomainView) → z.own.number < k.domains → z.own.number ≢ x.own.number → Staged r.account.pause z → Rooted k r.account.pause z → HoldsOld k z
     pub all_quiet : (z : DomainView) → z.own.number < k.domains → z.own.number ≢ x.own.number → Staged r.account.pause z → Owes k r.account.live z → z.seen.copying ≡ nothing_copied
 
-  pub drops : (m : Move) (pause' : Pause) (words' : List ℕ) → m.copying ≡ nothing_copied → let y : DomainView = moved_to x m in Drops y pause' words'
+  pub drops : (m : Move) (pause' : Pause) (c' : Cycling) (words' : List ℕ) → m.copying ≡ nothing_copied → let y : DomainView = moved_to x m in Drops y pause' c' words'
       → Rule k record { words = words'; homes = s.homes; views = set s.views id (one k hist y) }
-  drops m pause' words' quiet o =
+  drops m pause' c' words' quiet o =
       let y : DomainView = moved_to x m in
       let g = my_good k s r id hist x at in
       let live0 : Live = r.account.live in
@@ -210,29 +219,31 @@ module _ (k : Config) (s : Words) (r : Rule k s) (id : ℕ) (hist : List Entry) 
       let p = making_untouched k s.words words' x o.untouched g.making in
       let graph : Graph = (state_of k r.account.log).graph in
       let live1 : Live = dropped k live0 in
-      let found0 : AllFound k live0 graph words' = found_untouched k live0 graph s.words words' o.untouched r.whole.found in
-      let settled1 : Settled live1 = drop_settled k live0 graph words' found0 r.whole.copies o.free in
-      let back : Back live0 live1 = drop_back k live0 graph words' found0 r.whole.copies o.free in
+      let paint0 : Paint = r.account.cycling.paint in
+      let found0 : AllFound k paint0 live0 graph words' = found_untouched k paint0 live0 graph s.words words' o.untouched r.whole.found in
+      let settled1 : Settled live1 = drop_settled k paint0 live0 graph words' found0 r.whole.copies o.free in
+      let back : Back live0 live1 = drop_back k paint0 live0 graph words' found0 r.whole.copies o.free in
       let stood_low : (z : DomainView) → HoldsOld k z → Stood live0 (state_of k r.account.log) z → Stood live1 (state_of k r.account.log) z = (λ z old st. record {
         wide = st.wide;
         each = λ q few. stands_old k live0 (value_at z.own.registers q) (register (state_of k r.account.log) z.own.number q) (old q few) (st.each q few);
         serial = st.serial;
       }) in
       let pools1 = pools_untouched k t s.words words' o.untouched r.whole.pools in
-      let grid1 = drop_grid k live0 graph words' found0 r.whole.copies o.free t pools1 (grid_untouched k t live0 s.words words' o.untouched r.whole.grid) in
+      let grid1 = drop_grid k paint0 live0 graph words' found0 r.whole.copies o.free t pools1 (grid_untouched k t live0 s.words words' o.untouched r.whole.grid) in
       let mine_stood = stood_low x o.own_old g.stood in
       let mine_area = area_back k live0 live1 x back g.area in
       let mine_hunter = hunter_untouched k t s.words words' x o.untouched g.hunter in
-      remakes k s r id hist x at y (record r.account { live = live1; pause = pause'; tenancy = t' }) words'
+      remakes k s r id hist x at y (dropped_to pause' c') words'
       record {
         wide = o.untouched.0 ∙ r.whole.wide;
         legal = r.whole.legal;
-        calm = r.whole.calm;
-        found = drop_found k live0 graph words' found0 r.whole.copies o.free;
+        plain = r.whole.plain;
+        queues = r.whole.queues;
+        found = subst (λ (p : Paint). AllFound k p live1 graph words') (sym o.paint) (drop_found k paint0 live0 graph words' found0 r.whole.copies o.free);
         placed = placed_back k live0 live1 back r.whole.placed;
         spread = spread_back k live0 live1 back r.whole.spread;
         settled = inl settled1;
-        copies = drop_copies k live0 graph words' found0 r.whole.copies o.free;
+        copies = drop_copies k paint0 live0 graph words' found0 r.whole.copies o.free;
         cleared = λ h. absurd (o.over h);
         emptied = λ _ a q e. (was_low k live0 a q e).0;
         phases = o.phases;
@@ -249,7 +260,7 @@ module _ (k : Config) (s : Words) (r : Rule k s) (id : ℕ) (hist : List Entry) 
           to_run = λ j _ led _. absurd (let e : ◌≡◌ {A = Bool} true false = sym led ∙ o.not_led in cc);
           to_copy = λ j _ led _. absurd (let e : ◌≡◌ {A = Bool} true false = sym led ∙ o.not_led in cc);
         };
-        cycle = cycle_untouched s.words words' o.untouched r.whole.cycle;
+        cycle = o.cycle;
       }
       (knows_front k s r id hist x at y refl o.front)
       record {
@@ -270,9 +281,10 @@ module _ (k : Config) (s : Words) (r : Rule k s) (id : ℕ) (hist : List Entry) 
         };
         resting = o.resting;
         took_back = o.took_back;
-        owes = drop_owes k live0 graph words' found0 r.whole.copies o.free x y refl quiet refl g.owes;
+        owes = drop_owes k paint0 live0 graph words' found0 r.whole.copies o.free x y refl quiet refl g.owes;
         rooted = λ h. absurd (o.over h);
         set_back = λ h. absurd (o.gone h);
+        sharing = o.sharing;
       }
       (λ z below other h. let zh = hunter_untouched k t s.words words' z o.untouched h.hunter in record {
         stood = stood_low z (o.all_old z below other h.staged h.rooted) h.stood;
@@ -292,7 +304,8 @@ module _ (k : Config) (s : Words) (r : Rule k s) (id : ℕ) (hist : List Entry) 
         };
         resting = resting_untouched k s.words words' z o.untouched h.resting;
         took_back = o.others_took_back z h.staged h.took_back;
-        owes = drop_owes k live0 graph words' found0 r.whole.copies o.free z z refl (o.all_quiet z below other h.staged h.owes) refl h.owes;
+        owes = drop_owes k paint0 live0 graph words' found0 r.whole.copies o.free z z refl (o.all_quiet z below other h.staged h.owes) refl h.owes;
         rooted = λ h. absurd (o.over h);
         set_back = λ b. low_untouched k s.words words' o.untouched (h.set_back b);
+        sharing = o.sharings z below other h;
       })

@@ -33,7 +33,8 @@ use Rattle.heap_rule.specs.Rule.{state_of, AllFound, Stood, Rule}
 use Rattle.heap_rule.specs.Standing.{Acts, Entered, with_front, with_own, with_registers}
 use Rattle.heap_rule.proofs.ChangeLemmas.{changed_only}
 use Rattle.heap_rule.proofs.Values.{AllStand, holds}
-use Rattle.heap_rule.proofs.Keeps.{Words, IsCommand, mine, my_good, own, control_same, controls_kept, appends, legal_entry, hunter_as, more_same, owes_as, recalls_same, run_settled}
+use Rattle.heap_rule.proofs.Keeps.{Words, IsCommand, mine, my_good, own, control_same, controls_kept, appends, legal_entry, hunter_as, more_same, owes_as, recalls_same, run_settled, run_calm}
+use Rattle.heap_rule.specs.Cycles.{IsPlainCommand, IsPlainEntry}
 
 module _ (k : Config) (s : Words) (r : Rule k s) (id : ℕ) (hist : List Entry) (x : DomainView) (at : get_elem? s.views id ≡ some (one k hist x)) (acts : Acts k x) where
   abbrev now : model.State
@@ -61,6 +62,7 @@ module _ (k : Config) (s : Words) (r : Rule k s) (id : ℕ) (hist : List Entry) 
   -- What an own entry owes that leaves this graph: the registers then stand for those that it leaves
   pub record EntersTo (graph : Graph) (e : Entry) (registers : List Value) (answer : Applied) : Type 0 where
     pub alone : (d : ℕ) → d ≢ x.own.number → is_entry_of d e ≡ false
+    pub plain : IsPlainEntry e
     pub allowed : Allowed now e
     pub calm : IsCalm (next now e)
     pub theirs : List model_value.Value
@@ -71,17 +73,22 @@ module _ (k : Config) (s : Words) (r : Rule k s) (id : ℕ) (hist : List Entry) 
   abbrev pub Enters : Entry → List Value → Applied → Type 0
   Enters e registers answer = EntersTo now.graph e registers answer
 
+  -- no collector's entry is open
+  pub calm : IsCalm now
+  calm = run_calm k s r id hist x at acts.runs
+
   -- the mode is open, and the own queue is empty: what every command but `full_major` waits for
   pub may_begin : (now.mode ≡ Open) × ((domain_at now x.own.number).queue ≡ [])
-  may_begin = (r.whole.calm.mode, r.whole.calm.queues x.own.number)
+  may_begin = (calm.mode, calm.queues x.own.number)
 
   -- the entry of a command that may begin
-  pub enters_command : (graph : Graph) (c : Command) → FitsMode now x.own.number c → (registers : List Value) (answer : Applied) (theirs : List model_value.Value) → AllStand r.account.live registers theirs
+  pub enters_command : (graph : Graph) (c : Command) → IsPlainCommand c → FitsMode now x.own.number c → (registers : List Value) (answer : Applied) (theirs : List model_value.Value) → AllStand r.account.live registers theirs
       → Leaves now (CommandOf x.own.number c false) x.own.number graph theirs (domain_at now x.own.number).serial answer → EntersTo graph (CommandOf x.own.number c false) registers answer
-  enters_command graph c fits registers answer theirs stand leaves = record {
+  enters_command graph c plain fits registers answer theirs stand leaves = record {
     alone = λ m other. ne_eqb x.own.number m (λ e. other (sym e));
+    plain = plain;
     allowed = record { running = running; fits = fits; full_fits = tt };
-    calm = calm_command now x.own.number c false r.whole.calm;
+    calm = calm_command now x.own.number c false calm;
     theirs = theirs;
     stand = stand;
     leaves = leaves;
@@ -103,9 +110,11 @@ module _ (k : Config) (s : Words) (r : Rule k s) (id : ℕ) (hist : List Entry) 
   enters_rule e registers answer o command = let g = my_good k s r id hist x at in appends k s r id hist x at e (entered_view e registers) s.words r.account.live record {
     alone = o.alone;
     command = command;
+    plain = o.plain;
     runs = acts.runs;
     stage = refl;
     listing = refl;
+    share = refl;
     allowed = o.allowed;
     calm = o.calm;
     number = refl;
@@ -113,7 +122,7 @@ module _ (k : Config) (s : Words) (r : Rule k s) (id : ℕ) (hist : List Entry) 
     arrivals = refl;
     wide = refl;
     controls = controls_kept k s r id hist x at s.words (control_same k s.words);
-    found = subst (λ (graph : Graph). AllFound k r.account.live graph s.words) (sym o.leaves.graph_is) r.whole.found;
+    found = subst (λ (graph : Graph). AllFound k r.account.cycling.paint r.account.live graph s.words) (sym o.leaves.graph_is) r.whole.found;
     placed = r.whole.placed;
     spread = r.whole.spread;
     opened = r.whole.opened;

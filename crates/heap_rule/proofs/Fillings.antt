@@ -1,11 +1,11 @@
 -- Words that are filled one by one.
-use Rattle.std.proofs.Common.{◌≡◌, ◌≢◌, ℕ, ◌+◌, ◌*◌, ◌-◌, ◌<◌, ◌≤◌, List, length, get_or, set, ap, ◌∙◌, arith, length-set, get_or-set_same, get_or-set_other}
+use Rattle.std.proofs.Common.{◌≡◌, ◌≢◌, ℕ, ◌+◌, ◌*◌, ◌-◌, ◌<◌, ◌≤◌, List, length, get_or, set, ap, ◌∙◌, arith, length-set, get_or-set_same, get_or-set_other, None, false}
 use Rattle.heap_model.specs.Domains.{IsWithinLimits}
 use Rattle.heap_model.specs.Fronts.{PlainShape}
 use Rattle.heap_rule.specs.declared.config.Config.{Config}
 use Rattle.heap_rule.specs.Limits.{sizes_in}
 use Rattle.heap_rule.specs.Layout.{heap_words, table_words}
-use Rattle.heap_rule.specs.Places.{IsNewHead}
+use Rattle.heap_rule.specs.Places.{HeadIs}
 use Rattle.heap_rule.specs.Opening.{Fills, IsOpening}
 use Rattle.heap_rule.proofs.Sizes.{heap_large}
 
@@ -57,10 +57,10 @@ module _ (k : Config) (limits : IsWithinLimits (sizes_in k)) (w0 w3 w7 : List �
         ∙ (get_or-set_other (set w3 (11 + P) 4) at (11 + P) head 0 (λ e. omega (arith, has_pool))
         ∙ get_or-set_same w3 (11 + P) 4 0 (let r = room in let l = long3 in omega arith))))
 
-    pub opens : colour ≡ 36 → IsNewHead (PlainShape 16 0) head → label ≡ 0 → IsOpening k w7
+    pub opens : colour ≡ 36 → HeadIs None (PlainShape 16 0) 1 false head → label ≡ 0 → IsOpening k w7
     opens c h l = record {
       wide = fields.same_length ∙ long6;
-      rested = record { nothing_wanted = control 0 (omega arith) ∙ untouched 0 (λ e. omega arith) (λ e. omega arith); arrivals = control 1 (omega arith) ∙ untouched 1 (λ e. omega arith) (λ e. omega arith); runs = control 2 (omega arith) ∙ untouched 2 (λ e. omega arith) (λ e. omega arith); nobody_ended = control 8 (omega arith) ∙ untouched 8 (λ e. omega arith) (λ e. omega arith) };
+      rested = record { nothing_wanted = control 0 (omega arith) ∙ untouched 0 (λ e. omega arith) (λ e. omega arith); arrivals = control 1 (omega arith) ∙ untouched 1 (λ e. omega arith) (λ e. omega arith); runs = control 2 (omega arith) ∙ untouched 2 (λ e. omega arith) (λ e. omega arith); nobody_ended = control 8 (omega arith) ∙ untouched 8 (λ e. omega arith) (λ e. omega arith); unchanged = control 3 (omega arith) ∙ untouched 3 (λ e. omega arith) (λ e. omega arith) };
       pools = record {
         count = control 6 (omega arith) ∙ get_or-set_same (set w0 5 colour) 6 (P - 1) 0 (let r = room in let s = length-set w0 5 colour in omega arith);
         asked = control 7 (omega arith) ∙ untouched 7 (λ e. omega arith) (λ e. omega arith);

@@ -1,5 +1,5 @@
 -- One pool gets another holder, and a word before the heap's changes.
-use Rattle.std.proofs.Common.{◌*◌, false, ◌≡◌, ◌≢◌, ℕ, zero, suc, ◌+◌, ◌<◌, ◌≤◌, ◌⊎◌, List, set, Some, sym, refl, ap, ◌∙◌, subst, inl, inr, ⊎_elim, arith, get_or-set_other}
+use Rattle.std.proofs.Common.{◌*◌, ◌≡◌, ◌≢◌, ℕ, zero, suc, ◌+◌, ◌<◌, ◌≤◌, ◌⊎◌, List, set, Some, sym, refl, ap, ◌∙◌, subst, inl, inr, ⊎_elim, arith, get_or-set_other}
 use mathlib.Core.Logic.{dite}
 use native.Mathlib.Decide.{ℕ_discrete}
 use Rattle.heap_model.specs.Graph.{Graph}
@@ -8,10 +8,11 @@ use Rattle.heap_rule.specs.declared.view.Hunt.{Hunt}
 use Rattle.heap_rule.specs.declared.view.Hunt.TheVariants.{Rests, Counts, Asks, Draws, Walks, Fills, Labels, Heads}
 use Rattle.heap_rule.specs.declared.view.DomainView.{DomainView}
 use Rattle.heap_rule.specs.Layout.{before_heap, base_of, at_address, listed_pool, listed, cursor}
-use Rattle.heap_rule.specs.Places.{unmarked, Live, Placed, HeadIs, IsOldWord}
+use Rattle.heap_rule.specs.Places.{Live, Paint, Placed, IsOldWord}
 use Rattle.heap_rule.specs.Rule.{AllFound, Making}
 use Rattle.heap_rule.specs.Pools.{Holder, nobody, drawn, owned, Stock, Tenancy, OwnPlace, IsSpare, Grid, Hunts, Hunter, Latest, DrawsFor, place_in, blocks_of, limit_of}
 use Rattle.heap_rule.specs.Phases.{sum_of}
+use Rattle.heap_rule.proofs.HeadLemmas.{head_at}
 use Rattle.heap_rule.proofs.Update.{over, over_here, over_else}
 
 -- the words agree on the list and on the heap
@@ -34,21 +35,21 @@ agrees_set k words j new other beside low = record {
 abbrev pub SameHeap : Config → List ℕ → List ℕ → Type 0
 SameHeap k words words' = (a : ℕ) → 1 ≤ a → at_address k words' a ≡ at_address k words a
 
-pub found_heap : (k : Config) (live : Live) (graph : Graph) (words words' : List ℕ) → SameHeap k words words' → Placed k live → AllFound k live graph words → AllFound k live graph words'
-found_heap k live graph words words' same placed found a p lives =
+pub found_heap : (k : Config) (paint : Paint) (live : Live) (graph : Graph) (words words' : List ℕ) → SameHeap k words words' → Placed k live → AllFound k paint live graph words → AllFound k paint live graph words'
+found_heap k paint live graph words words' same placed found a p lives =
     let f = found a p lives in
     let low : 1 ≤ a = (placed.fits a p lives).low in record {
       node = f.node;
       there = f.there;
       shape = f.shape;
-      head = subst (HeadIs p.forward p.shape unmarked false) (sym (same a low)) f.head;
+      head = head_at paint p (same a low) f.head;
       label = same (a + 1) (omega arith) ∙ f.label;
       values = λ i v has got. let w = f.values i v has got in record { value = w.value; packs = same (a + 2 + i) (omega arith) ∙ w.packs; stands = w.stands };
       old = λ under i inside has none. subst (IsOldWord k) (sym (same (a + 2 + i) (omega arith))) (f.old under i inside has none);
     }
 
-pub found_agrees : (k : Config) (live : Live) (graph : Graph) (words words' : List ℕ) → Agrees k words words' → Placed k live → AllFound k live graph words → AllFound k live graph words'
-found_agrees k live graph words words' same placed found = found_heap k live graph words words' same.heap placed found
+pub found_agrees : (k : Config) (paint : Paint) (live : Live) (graph : Graph) (words words' : List ℕ) → Agrees k words words' → Placed k live → AllFound k paint live graph words → AllFound k paint live graph words'
+found_agrees k paint live graph words words' same placed found = found_heap k paint live graph words words' same.heap placed found
 
 pub making_heap : (k : Config) (words words' : List ℕ) (z : DomainView) → SameHeap k words words' → Making k words z → Making k words' z
 making_heap k words words' z same p = record {
@@ -127,7 +128,7 @@ owned_not d c e n = record { not_drawn = λ h. drawn_owned e d c (sym h); not_ow
 
 module _ (t : Tenancy) (pool : ℕ) (h : Holder) (asking : ℕ → ℕ) (stock : Stock) where
   abbrev pub t' : Tenancy
-  t' = record { holder = over pool h t.holder; asking = asking; prepared = t.prepared; stock = stock }
+  t' = record { holder = over pool h t.holder; asking = asking; prepared = t.prepared; garbage = t.garbage; stock = stock }
 
   pub same_over : (d : ℕ) → NotOf (t.holder pool) d → NotOf h d → asking d ≡ t.asking d → SameStock t.stock stock d → SameFor t t' d
   same_over d before after same used = record {

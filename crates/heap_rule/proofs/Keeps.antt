@@ -34,14 +34,17 @@ use Rattle.heap_rule.specs.Layout.{before_heap, barrier, plan, ended_word, liste
 use Rattle.heap_rule.specs.declared.view.Copying.{Copying}
 use Rattle.heap_rule.specs.declared.view.Owing.{Owing}
 use Rattle.heap_rule.specs.Places.{Debt, Place, Live, Stands, Placed, Spread, Settled, More, extent}
-use Rattle.heap_rule.specs.Copies.{nothing_copied, known, Owes, IsField, Recalls, Copies, Promoting, Resetting, IsOldValue, Rooted}
+use Rattle.heap_rule.specs.Copies.{nothing_copied, known, Owes, IsField, Recalls, Copies, Promoting, IsOldValue, Rooted}
 use Rattle.heap_rule.specs.Changes.{value_at}
 use Rattle.heap_rule.specs.Views.{EachView, AllDomains, IsSeated, Knows, one}
-use Rattle.heap_rule.specs.declared.phase.Kind.TheVariants.{Run, Promote, Reset}
+use Rattle.heap_rule.specs.declared.phase.Kind.TheVariants.{Run, Promote}
 use Rattle.heap_rule.specs.declared.phase.Stage.{Stage}
 use Rattle.heap_rule.specs.declared.phase.Stage.TheVariants.{In, Leads, Led, Gone}
-use Rattle.heap_rule.specs.Phases.{Pause, Phases, sum_of, IsEven, IsOdd, AtStage, Staged, IsInPause, Still, Agree, flag, is_over, TookBack, HasSetBack, last_note}
-use Rattle.heap_rule.specs.Rule.{state_of, AllFound, Stood, Area, Making, Account, Good, NoCycle, Whole, Rule}
+use Rattle.heap_rule.specs.Phases.{Pause, Phases, sum_of, IsEven, AtStage, Staged, IsInPause, Still, Agree, flag, is_over, TookBack, HasSetBack, last_note}
+use Rattle.heap_rule.specs.Rule.{state_of, AllFound, Stood, Area, Making, Account, Good, Sharing, NoneQueued, Whole, Rule}
+use Rattle.heap_rule.specs.Cycles.{Cycling, Cycled, Telling, Leading, HasNoCycle, IsBetween, IsIdle, AllPlain, IsPlainEntry}
+use Rattle.heap_rule.proofs.PauseFacts.{not_both, agree, nobody_paused, staged_as, run_promoting, run_resetting}
+use Rattle.heap_rule.proofs.Sharings.{SameCycle, kind_now, cycle_between, facts_between, leading_words, leading_as, telling_as, idle_in, idle_beside, takes_kind}
 use Rattle.heap_rule.specs.Room.{spent_stock, count, drawn_in_all, copied_words, Room, IsUnused, Opened, Drawable}
 use Rattle.heap_model.specs.Domains.{class_count, reserve}
 use Rattle.heap_rule.specs.Layout.{heap_words}
@@ -51,6 +54,11 @@ use Rattle.heap_rule.proofs.Lists.{views_set, domains_map, domains_with, no_item
 
 abbrev pub Words : Type 0
 Words = State (Unit {0}) View
+
+-- one more entry
+pub plain_push : (h : List Entry) (e : Entry) → AllPlain h → IsPlainEntry e → AllPlain (h ++ e ∷ [])
+plain_push [] e all p = (p, tt)
+plain_push (x ∷ h) e all p = (all.0, plain_push h e all.1 p)
 
 pub more_same : (live : Live) → More live live
 more_same live a p lives = record { place = p; lives = lives; label = refl; shape = refl }
@@ -175,80 +183,6 @@ pub sum_same : (f g : ℕ → ℕ) (n : ℕ) → ((d : ℕ) → d < n → g d �
 sum_same f g zero each = refl
 sum_same f g (suc n) each = let a = sum_same f g n (λ d h. each d (omega arith)) in let b = each n (omega arith) in λ i. a i + b i
 
--- two domains that have not arrived are in phases of one kind, and none runs beside an odd phase
-half_same : (i j n : ℕ) → n ≡ i * 2 → n ≡ j * 2 → i ≡ j
-half_same i j n e f = omega arith
-
-odd_same : (i j n : ℕ) → n ≡ i * 2 + 1 → n ≡ j * 2 + 1 → i ≡ j
-odd_same i j n e f = omega arith
-
-pub not_both : (n : ℕ) → IsEven n → IsOdd n → ⊥
-not_both n a b = let i : ℕ = a.0 in let j : ℕ = b.0 in let e : n ≡ i * 2 = a.1 in let f : n ≡ j * 2 + 1 = b.1 in omega arith
-
-pub agree : (t : Pause) (d e a b : ℕ) (x y : Stage) → AtStage t d a x → AtStage t e b y → Agree x y
-agree t d e a b (In u) (In v) p q = sym p.1.2 ∙ (ap t.kinds (half_same p.1.0 q.1.0 t.phase p.1.1 q.1.1) ∙ q.1.2)
-agree t d e a b (In u) (Leads v) p q = not_both t.phase (p.1.0, p.1.1) (q.1.0, q.1.1)
-agree t d e a b (In u) (Led v) p q = not_both t.phase (p.1.0, p.1.1) (q.1.0, q.1.1)
-agree t d e a b (In u) (Gone v) p q = tt
-agree t d e a b (Leads u) (In v) p q = not_both t.phase (q.1.0, q.1.1) (p.1.0, p.1.1)
-agree t d e a b (Leads u) (Leads v) p q = sym p.1.2 ∙ (ap t.kinds (odd_same p.1.0 q.1.0 t.phase p.1.1 q.1.1) ∙ q.1.2)
-agree t d e a b (Leads u) (Led v) p q = tt
-agree t d e a b (Leads u) (Gone v) p q = tt
-agree t d e a b (Led u) (In v) p q = not_both t.phase (q.1.0, q.1.1) (p.1.0, p.1.1)
-agree t d e a b (Led u) (Leads v) p q = tt
-agree t d e a b (Led u) (Led v) p q = tt
-agree t d e a b (Led u) (Gone v) p q = tt
-agree t d e a b (Gone u) y p q = tt
-
--- who runs excludes that anyone is in a phase of a pause
-run_alone : (y : Stage) → Agree (In Run) y → IsInPause y → ⊥
-run_alone (In Run) a p = p
-run_alone (In Promote) a p = let e : Run ≡ Promote = a in cc
-run_alone (In Reset) a p = let e : Run ≡ Reset = a in cc
-run_alone (Leads v) a p = a
-run_alone (Led v) a p = a
-run_alone (Gone v) a p = p
-
-pub nobody_paused : (t : Pause) (x z : DomainView) → x.seen.stage ≡ In Run → Staged t x → Staged t z → IsInPause z.seen.stage → ⊥
-nobody_paused t x z runs sx sz paused =
-    run_alone z.seen.stage (agree t x.own.number z.own.number x.own.arrivals z.own.arrivals (In Run) z.seen.stage (subst (AtStage t x.own.number x.own.arrivals) runs sx.stage) sz.stage) paused
-
--- a domain stands where it stood
-pub staged_as : (t : Pause) (x y : DomainView) → y.own.number ≡ x.own.number → y.own.arrivals ≡ x.own.arrivals → y.seen.stage ≡ x.seen.stage → Staged t x → Staged t y
-staged_as t x y number arrivals stage s = record {
-  arrivals = arrivals ∙ (s.arrivals ∙ ap t.arrived (sym number));
-  stage = subst (λ (z : ℕ × ℕ × Stage). AtStage t z.0 z.1 z.2) (λ i. (sym number i, sym arrivals i, sym stage i)) s.stage;
-}
-
--- the kinds of the phase in hand
-kind_differs : (t : Pause) (i j : ℕ) (n : ℕ) (a b : Kind) → n ≡ i * 2 → n ≡ j * 2 → t.kinds i ≡ a → t.kinds j ≡ b → a ≡ b
-kind_differs t i j n a b e f g h = sym g ∙ (ap t.kinds (half_same i j n e f) ∙ h)
-
-pub run_promoting : (t : Pause) (x : DomainView) → x.seen.stage ≡ In Run → Staged t x → Promoting t → ⊥
-run_promoting t x runs s p = let a = (subst (AtStage t x.own.number x.own.arrivals) runs s.stage).1 in let e : Run ≡ Promote = kind_differs t a.0 p.0 t.phase Run Promote a.1 p.1 a.2 p.2 in cc
-
-pub run_resetting : (t : Pause) (x : DomainView) → x.seen.stage ≡ In Run → Staged t x → Resetting t → ⊥
-run_resetting t x runs s p = let a = (subst (AtStage t x.own.number x.own.arrivals) runs s.stage).1 in ⊎_elim
-    (λ (h : (j : ℕ) × (t.phase ≡ j * 2 + 1) × (t.kinds j ≡ Promote)). not_both t.phase (a.0, a.1) (h.0, h.1))
-    (λ h. ⊎_elim
-    (λ (g : (j : ℕ) × (t.phase ≡ j * 2) × (t.kinds j ≡ Reset)). let e : Run ≡ Reset = kind_differs t a.0 g.0 t.phase Run Reset a.1 g.1 a.2 g.2 in cc)
-    (λ (g : (j : ℕ) × (t.phase ≡ j * 2 + 1) × (t.kinds j ≡ Reset)). not_both t.phase (a.0, a.1) (g.0, g.1)) h)
-    p
-
-pub promote_now : (t : Pause) (x : DomainView) → x.seen.stage ≡ In Promote → Staged t x → Promoting t
-promote_now t x is s = (subst (AtStage t x.own.number x.own.arrivals) is s.stage).1
-
-pub promote_here : (t : Pause) (x : DomainView) → x.seen.stage ≡ In Promote → Staged t x → x.own.arrivals ≡ t.phase
-promote_here t x is s = (subst (AtStage t x.own.number x.own.arrivals) is s.stage).0
-
-pub promote_rests : (t : Pause) → Promoting t → Resetting t → ⊥
-promote_rests t a p = ⊎_elim
-    (λ (h : (j : ℕ) × (t.phase ≡ j * 2 + 1) × (t.kinds j ≡ Promote)). not_both t.phase (a.0, a.1) (h.0, h.1))
-    (λ h. ⊎_elim
-    (λ (g : (j : ℕ) × (t.phase ≡ j * 2) × (t.kinds j ≡ Reset)). let e : Promote ≡ Reset = kind_differs t a.0 g.0 t.phase Promote Reset a.1 g.1 a.2 g.2 in cc)
-    (λ (g : (j : ℕ) × (t.phase ≡ j * 2 + 1) × (t.kinds j ≡ Reset)). not_both t.phase (a.0, a.1) (g.0, g.1)) h)
-    p
-
 pub rooted_as : (k : Config) (t : Pause) (x y : DomainView) → y.own.registers ≡ x.own.registers → y.own.arrivals ≡ x.own.arrivals → Rooted k t x → Rooted k t y
 rooted_as k t x y registers arrivals r p up q few = subst (λ (l : List words.Value). IsOldValue k (value_at l q)) (sym registers) (r p (sym arrivals ∙ up) q few)
 
@@ -273,8 +207,8 @@ running_took_back words y runs kind leads last = absurd (run_leads kind (sym run
 -- who leads is in a pause
 pub leads_paused : (stage : Stage) → IsLeading stage → IsInPause stage
 leads_paused (In kind) leads = absurd leads
-leads_paused (Leads last) leads = tt
-leads_paused (Led next) leads = tt
+leads_paused (Leads kind) leads = tt
+leads_paused (Led kind) leads = tt
 leads_paused (Gone kind) leads = absurd leads
 
 -- a domain that takes blocks leads no pause
@@ -410,8 +344,8 @@ pools_words k t words words' counts asked list owner s =
 pub pools_same : (k : Config) (t : Tenancy) (words words' : List ℕ) → Control k words words' → Pools k t words → Pools k t words'
 pools_same k t words words' c s = pools_words k t words words' (c 6 (omega arith)) (c 7 (omega arith)) (λ i h. let g : i < k.pools = h in c (11 + i) (omega arith)) (λ q h. let g : q < k.pools = h in c (11 + k.pools + q) (omega arith)) s
 
-pub cycle_same : (k : Config) (words words' : List ℕ) → Control k words words' → NoCycle words → NoCycle words'
-cycle_same k words words' c s = record { armed_is = c 4 (omega arith) ∙ s.armed_is; colours_are = c 5 (omega arith) ∙ s.colours_are }
+pub cycle_control : (k : Config) (words words' : List ℕ) → Control k words words' → SameCycle words words'
+cycle_control k words words' c = record { armed_same = c 4 (omega arith); colours_same = c 5 (omega arith); changed_same = c 3 (omega arith); blocks_same = c 9 (omega arith); words_same = c 10 (omega arith) }
 
 -- what a step owes each part of the rule that speaks of the words before the heap's
 pub record Controls (k : Config) (all : Account) (words words' : List ℕ) : Type 0 where
@@ -420,7 +354,7 @@ pub record Controls (k : Config) (all : Account) (words words' : List ℕ) : Typ
   pub ended : ended_word words' ≡ ended_word words
   pub pools : Pools k all.tenancy words'
   pub lists : (number : ℕ) (stage : Stage) (l : Listing) → Lists k words number stage l → Lists k words' number stage l
-  pub cycle : NoCycle words'
+  pub cycle : SameCycle words words'
   pub reserved : Reserved k all.pause all.tenancy words'
   pub counts : Promoting all.pause → (listed words' ≡ listed words) × (cursor words' ≡ cursor words)
   pub listed_young : (a : ℕ) (q : Place) → all.live a ≡ Some q → k.pools * 4096 < a → listed words' ≡ listed words
@@ -547,7 +481,7 @@ module _ (k : Config) (s : Words) (r : Rule k s) (id : ℕ) (hist : List Entry) 
     ended = c 8 (omega arith);
     pools = pools_same k r.account.tenancy s.words words' c r.whole.pools;
     lists = λ number stage l. lists_control k s.words words' number stage l c;
-    cycle = cycle_same k s.words words' c r.whole.cycle;
+    cycle = cycle_control k s.words words' c;
     reserved = λ keeps i below above. let n : ℕ = listed s.words in let n' : ℕ = listed words' in let e : n' ≡ n = c 6 (omega arith) in
         let few : n ≤ k.pools = r.whole.pools.few in
         let low : i < n = (let g : i < n' = below in omega arith) in
@@ -568,13 +502,50 @@ module _ (k : Config) (s : Words) (r : Rule k s) (id : ℕ) (hist : List Entry) 
   pub run_settled : x.seen.stage ≡ In Run → Settled r.account.live
   run_settled runs = ⊎_elim (λ (h : Settled r.account.live). h) (λ (h : Promoting r.account.pause). absurd (run_promoting r.account.pause x runs my_good.staged h)) r.whole.settled
 
+  -- a step of a domain in a phase without a collection of the major heap changes nothing of one
+  pub no_cycle_here : (kind : Kind) → HasNoCycle kind → x.seen.stage ≡ In kind → HasNoCycle r.account.cycling.kind
+  no_cycle_here kind none is = subst HasNoCycle (sym (kind_now k r.account.pause r.account.cycling x kind is my_good.staged r.whole.cycle.told)) none
+
+  pub between_here : (kind : Kind) → HasNoCycle kind → x.seen.stage ≡ In kind → IsBetween now r.account.cycling
+  between_here kind none is = facts_between r.account.cycling.kind k now r.account.live r.account.tenancy r.account.cycling s.words (no_cycle_here kind none is) r.whole.cycle.facts
+
+  pub cycle_here : (kind : Kind) → HasNoCycle kind → x.seen.stage ≡ In kind → (after : model.State) (live' : Live) (t' : Tenancy) (words' : List ℕ) → after.mode ≡ now.mode → ((a : ℕ) → t'.garbage a ≡ r.account.tenancy.garbage a) → SameCycle s.words words'
+      → Cycled k after live' r.account.pause t' r.account.cycling words'
+  cycle_here kind none is after live' t' words' mode garbage same = cycle_between k now after r.account.live live' r.account.pause r.account.tenancy t' r.account.cycling s.words words' (no_cycle_here kind none is) mode garbage same r.whole.cycle
+
+  pub idle_here : (kind : Kind) → HasNoCycle kind → x.seen.stage ≡ In kind → IsIdle x.seen.share
+  idle_here kind none is = idle_in k r.account.live r.account.tenancy.holder now.graph r.account.cycling.paint.marks s.words x kind none is my_good.sharing.knows
+
+  pub sharing_here : (kind : Kind) → HasNoCycle kind → x.seen.stage ≡ In kind → (all' : Account) (words' : List ℕ) (y : DomainView) → all'.cycling ≡ r.account.cycling → SameCycle s.words words'
+      → y.own.number ≡ x.own.number → y.seen.stage ≡ x.seen.stage → y.seen.share ≡ x.seen.share → Sharing k all' words' y.own.number y.own.registers y.seen.stage y.seen.share
+  sharing_here kind none is all' words' y cycling same number stage share = record {
+    telling = subst (λ (c : Cycling). Telling c.paint.colours c.shares y.own.number y.seen.share) (sym cycling) (telling_as r.account.cycling.paint.colours r.account.cycling.shares x.own.number y.own.number x.seen.share y.seen.share number share my_good.sharing.telling);
+    leading = subst (λ (c : Cycling). Leading c words' y.own.number y.seen.stage y.seen.share) (sym cycling)
+        (leading_as r.account.cycling words' x.own.number y.own.number x.seen.stage y.seen.stage x.seen.share y.seen.share number stage share (leading_words r.account.cycling s.words words' x.own.number x.seen.stage x.seen.share same my_good.sharing.leading));
+    knows = inl (subst IsIdle (sym share) (idle_here kind none is));
+  }
+
+  pub sharings_here : (kind : Kind) → HasNoCycle kind → x.seen.stage ≡ In kind → (all' : Account) (words' : List ℕ) → all'.cycling ≡ r.account.cycling → SameCycle s.words words'
+      → (z : DomainView) → Good k r.account s.words z → Sharing k all' words' z.own.number z.own.registers z.seen.stage z.seen.share
+  sharings_here kind none is all' words' cycling same z g = record {
+    telling = subst (λ (c : Cycling). Telling c.paint.colours c.shares z.own.number z.seen.share) (sym cycling) g.sharing.telling;
+    leading = subst (λ (c : Cycling). Leading c words' z.own.number z.seen.stage z.seen.share) (sym cycling) (leading_words r.account.cycling s.words words' z.own.number z.seen.stage z.seen.share same g.sharing.leading);
+    knows = inl (idle_beside k r.account.live r.account.tenancy.holder now.graph r.account.cycling.paint.marks s.words r.account.pause x z kind none is my_good.staged g.staged g.sharing.knows);
+  }
+
+  -- no collector's entry is open while a domain runs
+  pub run_calm : x.seen.stage ≡ In Run → IsCalm now
+  run_calm runs = record { mode = (between_here Run tt runs).mode; queues = r.whole.queues }
+
   -- What a step owes at which an own entry stands, whatever it does to the words
   pub record Appends (e : Entry) (y : DomainView) (words' : List ℕ) (live' : Live) : Type 0 where
     pub alone : (d : ℕ) → d ≢ x.own.number → is_entry_of d e ≡ false
     pub command : IsCommand e
+    pub plain : IsPlainEntry e
     pub runs : x.seen.stage ≡ In Run
     pub stage : y.seen.stage ≡ x.seen.stage
     pub listing : y.seen.listing ≡ x.seen.listing
+    pub share : y.seen.share ≡ x.seen.share
     pub allowed : Allowed now e
     pub calm : IsCalm (next now e)
     pub number : y.own.number ≡ x.own.number
@@ -582,7 +553,7 @@ module _ (k : Config) (s : Words) (r : Rule k s) (id : ℕ) (hist : List Entry) 
     pub arrivals : y.own.arrivals ≡ x.own.arrivals
     pub wide : length words' ≡ length s.words
     pub controls : Controls k r.account s.words words'
-    pub found : AllFound k live' (next now e).graph words'
+    pub found : AllFound k r.account.cycling.paint live' (next now e).graph words'
     pub placed : Placed k live'
     pub spread : Spread k live'
     pub opened : Opened k live' words'
@@ -608,8 +579,9 @@ module _ (k : Config) (s : Words) (r : Rule k s) (id : ℕ) (hist : List Entry) 
       record {
         wide = o.wide ∙ r.whole.wide;
         legal = legal_entry e o.allowed;
-        calm = subst IsCalm (sym after) o.calm;
-        found = subst (λ (t : model.State). AllFound k live' t.graph words') (sym after) o.found;
+        plain = plain_push r.account.log e r.whole.plain o.plain;
+        queues = subst NoneQueued (sym after) o.calm.queues;
+        found = subst (λ (t : model.State). AllFound k r.account.cycling.paint live' t.graph words') (sym after) o.found;
         placed = o.placed;
         spread = o.spread;
         settled = inl o.settled;
@@ -627,10 +599,10 @@ module _ (k : Config) (s : Words) (r : Rule k s) (id : ℕ) (hist : List Entry) 
         unused = r.whole.unused;
         opened = o.opened;
         drawable = o.controls.drawable;
-        cycle = o.controls.cycle;
+        cycle = cycle_here Run tt o.runs (state_of k log') live' r.account.tenancy words' (ap (λ (t : model.State). t.mode) after ∙ (o.calm.mode ∙ sym (between_here Run tt o.runs).mode)) (λ a. refl) o.controls.cycle;
       }
       (knows_entry y e o.alone o.number o.front)
-      record { stood = subst (λ (t : model.State). Stood live' t y) (sym after) o.stood; area = o.area; making = o.making; staged = staged_as r.account.pause x y o.number o.arrivals o.stage my_good.staged; still = run_still log' y (o.stage ∙ o.runs); hunter = o.hunter; resting = resting_runs k s.words words' x y o.runs (o.stage ∙ o.runs) o.listing my_good.resting; took_back = running_took_back words' y (o.stage ∙ o.runs); owes = o.owes; rooted = λ h. absurd (run_promoting r.account.pause x o.runs my_good.staged h); set_back = λ h. absurd (run_leads Run (sym (o.stage ∙ o.runs) ∙ h.0)) }
+      record { stood = subst (λ (t : model.State). Stood live' t y) (sym after) o.stood; area = o.area; making = o.making; staged = staged_as r.account.pause x y o.number o.arrivals o.stage my_good.staged; still = run_still log' y (o.stage ∙ o.runs); hunter = o.hunter; resting = resting_runs k s.words words' x y o.runs (o.stage ∙ o.runs) o.listing my_good.resting; took_back = running_took_back words' y (o.stage ∙ o.runs); owes = o.owes; rooted = λ h. absurd (run_promoting r.account.pause x o.runs my_good.staged h); set_back = λ h. absurd (run_leads Run (sym (o.stage ∙ o.runs) ∙ h.0)); sharing = sharing_here Run tt o.runs (record r.account { log = log'; live = live' }) words' y refl o.controls.cycle o.number o.stage o.share }
       (λ z _ other g. record {
         stood = subst (λ (t : model.State). Stood live' t z) (sym after) (stood_other r.account.live live' now (next now e) z (keeps_next now e z.own.number (o.alone z.own.number other)) o.more g.stood);
         area = o.areas z other g.area;
@@ -643,6 +615,7 @@ module _ (k : Config) (s : Words) (r : Rule k s) (id : ℕ) (hist : List Entry) 
         set_back = λ h. o.controls.set_back z g.staged h (g.set_back h);
         owes = owes_run k r.account.live live' z z o.settled (quiet_in k r.account.live z g.owes (λ e. nobody_paused r.account.pause x z o.runs my_good.staged g.staged (subst IsInPause (sym e) tt))) refl refl o.more (o.recalls z.own.number other) g.owes;
         rooted = λ h. absurd (run_promoting r.account.pause x o.runs my_good.staged h);
+        sharing = sharings_here Run tt o.runs (record r.account { log = log'; live = live' }) words' refl o.controls.cycle z g;
       })
 
   -- What a step owes at which no entry stands and nothing comes to live or moves
@@ -661,7 +634,7 @@ module _ (k : Config) (s : Words) (r : Rule k s) (id : ℕ) (hist : List Entry) 
     pub arrivals : y.own.arrivals ≡ x.own.arrivals
     pub wide : length words' ≡ length s.words
     pub controls : Controls k r.account s.words words'
-    pub found : AllFound k r.account.live now.graph words'
+    pub found : AllFound k r.account.cycling.paint r.account.live now.graph words'
     pub stood : Stood r.account.live now y
     pub area : Area k r.account.live y
     pub making : Making k words' y
@@ -669,6 +642,9 @@ module _ (k : Config) (s : Words) (r : Rule k s) (id : ℕ) (hist : List Entry) 
     pub grid : Grid k r.account.tenancy r.account.live words'
     pub hunter : Hunter k r.account.tenancy words' y
     pub hunters : (z : DomainView) → z.own.number ≢ x.own.number → Good k r.account s.words z → Hunter k r.account.tenancy words' z
+    pub cycle : Cycled k now r.account.live r.account.pause r.account.tenancy r.account.cycling words'
+    pub sharing : Sharing k r.account words' y.own.number y.own.registers y.seen.stage y.seen.share
+    pub sharings : (z : DomainView) → z.own.number ≢ x.own.number → Good k r.account s.words z → Sharing k r.account words' z.own.number z.own.registers z.seen.stage z.seen.share
 
   pub writes : (y : DomainView) (words' : List ℕ) → Writes y words' → Rule k record { words = words'; homes = s.homes; views = set s.views id (one k hist y) }
   writes y words' o =
@@ -676,7 +652,8 @@ module _ (k : Config) (s : Words) (r : Rule k s) (id : ℕ) (hist : List Entry) 
       record {
         wide = o.wide ∙ r.whole.wide;
         legal = r.whole.legal;
-        calm = r.whole.calm;
+        plain = r.whole.plain;
+        queues = r.whole.queues;
         found = o.found;
         placed = r.whole.placed;
         spread = r.whole.spread;
@@ -695,11 +672,11 @@ module _ (k : Config) (s : Words) (r : Rule k s) (id : ℕ) (hist : List Entry) 
         unused = r.whole.unused;
         opened = opened_words k r.account.live s.words words' o.controls.listed_young r.whole.opened;
         drawable = o.controls.drawable;
-        cycle = o.controls.cycle;
+        cycle = o.cycle;
       }
       (knows_front y o.number o.front)
-      record { stood = o.stood; area = o.area; making = o.making; staged = staged_as r.account.pause x y o.number o.arrivals o.stage my_good.staged; still = o.still; hunter = o.hunter; resting = resting_as k words' x y o.number o.stage o.hunt o.free o.listing (resting_lists k s.words words' x o.controls.lists my_good.resting); took_back = λ kind leads last. o.controls.want ∙ my_good.took_back kind (sym o.stage ∙ leads) (sym (ap last_note o.notes) ∙ last); owes = owes_as k r.account.live x y o.number o.copying o.stage o.remembered my_good.owes; rooted = rooted_as k r.account.pause x y o.registers o.arrivals my_good.rooted; set_back = λ h. o.controls.set_back x my_good.staged (sym o.stage ∙ h.0, sym (ap last_note o.notes) ∙ h.1) (my_good.set_back (sym o.stage ∙ h.0, sym (ap last_note o.notes) ∙ h.1)) }
-      (λ z _ other g. record { stood = g.stood; area = g.area; making = o.makings z other g.area g.making; staged = g.staged; still = g.still; hunter = o.hunters z other g; resting = resting_lists k s.words words' z o.controls.lists g.resting; took_back = λ kind leads last. o.controls.want ∙ g.took_back kind leads last; owes = g.owes; rooted = g.rooted; set_back = λ h. o.controls.set_back z g.staged h (g.set_back h) })
+      record { stood = o.stood; area = o.area; making = o.making; staged = staged_as r.account.pause x y o.number o.arrivals o.stage my_good.staged; still = o.still; hunter = o.hunter; resting = resting_as k words' x y o.number o.stage o.hunt o.free o.listing (resting_lists k s.words words' x o.controls.lists my_good.resting); took_back = λ kind leads last. o.controls.want ∙ my_good.took_back kind (sym o.stage ∙ leads) (sym (ap last_note o.notes) ∙ last); owes = owes_as k r.account.live x y o.number o.copying o.stage o.remembered my_good.owes; rooted = rooted_as k r.account.pause x y o.registers o.arrivals my_good.rooted; set_back = λ h. o.controls.set_back x my_good.staged (sym o.stage ∙ h.0, sym (ap last_note o.notes) ∙ h.1) (my_good.set_back (sym o.stage ∙ h.0, sym (ap last_note o.notes) ∙ h.1)); sharing = o.sharing }
+      (λ z _ other g. record { stood = g.stood; area = g.area; making = o.makings z other g.area g.making; staged = g.staged; still = g.still; hunter = o.hunters z other g; resting = resting_lists k s.words words' z o.controls.lists g.resting; took_back = λ kind leads last. o.controls.want ∙ g.took_back kind leads last; owes = g.owes; rooted = g.rooted; set_back = λ h. o.controls.set_back z g.staged h (g.set_back h); sharing = o.sharings z other g })
 
   -- a step that leaves all but the front, which is then some front of the history
   pub looks : (front : List Entry) → IsFrontOf x.own.number r.account.log front → (IsInPause x.seen.stage → front ≡ r.account.log) → Rule k record { words = s.words; homes = s.homes; views = set s.views id (one k hist (with_front x front)) }
@@ -726,6 +703,9 @@ module _ (k : Config) (s : Words) (r : Rule k s) (id : ℕ) (hist : List Entry) 
     grid = r.whole.grid;
     hunter = hunter_as k r.account.tenancy s.words x (with_front x front) refl refl refl refl refl refl my_good.hunter;
     hunters = λ z _ g. g.hunter;
+    cycle = r.whole.cycle;
+    sharing = my_good.sharing;
+    sharings = λ z _ g. g.sharing;
   }
 
   -- What a step owes that changes the holders of pools or what the domain knows of them. No entry stands and nothing comes to live or moves
@@ -740,8 +720,9 @@ module _ (k : Config) (s : Words) (r : Rule k s) (id : ℕ) (hist : List Entry) 
     pub room : Room k r.account.live r.account.pause t'.stock words'
     pub unused : IsUnused r.account.pause t'.stock
     pub endings : ended_word words' ≡ ended_word s.words
-    pub cycle : NoCycle words'
-    pub found : AllFound k r.account.live now.graph words'
+    pub cycle : SameCycle s.words words'
+    pub garbage : (a : ℕ) → t'.garbage a ≡ r.account.tenancy.garbage a
+    pub found : AllFound k r.account.cycling.paint r.account.live now.graph words'
     pub pools : Pools k t' words'
     pub grid : Grid k t' r.account.live words'
     pub drawers : Drawers r.account.pause t'
@@ -752,11 +733,13 @@ module _ (k : Config) (s : Words) (r : Rule k s) (id : ℕ) (hist : List Entry) 
   pub holds_again : (looked : List Spot) (hunt : Hunt) (free : Option ℕ) (words' : List ℕ) (t' : Tenancy) → Holds looked hunt free words' t' → Rule k record { words = words'; homes = s.homes; views = set s.views id (one k hist (hunting_free x looked hunt free)) }
   holds_again looked hunt free words' t' o =
       let own_making = o.makings x my_good.making in
+      let in_kind = takes_kind x.seen.stage o.takes in
       remakes (hunting_free x looked hunt free) (record r.account { tenancy = t' }) words'
       record {
         wide = o.wide ∙ r.whole.wide;
         legal = r.whole.legal;
-        calm = r.whole.calm;
+        plain = r.whole.plain;
+        queues = r.whole.queues;
         found = o.found;
         placed = r.whole.placed;
         spread = r.whole.spread;
@@ -775,7 +758,7 @@ module _ (k : Config) (s : Words) (r : Rule k s) (id : ℕ) (hist : List Entry) 
         unused = o.unused;
         opened = opened_words k r.account.live s.words words' (λ _ _ _ _. o.listed_same) r.whole.opened;
         drawable = takes_drawable k r.account.pause words' x o.takes my_good.staged;
-        cycle = o.cycle;
+        cycle = cycle_here in_kind.0 in_kind.1 in_kind.2 now r.account.live t' words' refl o.garbage o.cycle;
       }
       (knows_front (hunting_free x looked hunt free) refl mine.front)
       record {
@@ -790,8 +773,9 @@ module _ (k : Config) (s : Words) (r : Rule k s) (id : ℕ) (hist : List Entry) 
         owes = owes_as k r.account.live x (hunting_free x looked hunt free) refl refl refl refl my_good.owes;
         rooted = my_good.rooted;
         set_back = λ h. absurd (takes_leads x.seen.stage o.takes (subst IsLeading (sym h.0) tt));
+        sharing = sharing_here in_kind.0 in_kind.1 in_kind.2 (record r.account { tenancy = t' }) words' (hunting_free x looked hunt free) refl o.cycle refl refl refl;
       }
-      (λ z _ other g. record { stood = g.stood; area = g.area; making = o.makings z g.making; staged = g.staged; still = g.still; hunter = o.hunters z other g; resting = resting_other k r.account.pause s.words words' x z o.takes my_good.staged g.staged g.resting; took_back = λ kind leads last. o.want ∙ g.took_back kind leads last; owes = g.owes; rooted = g.rooted; set_back = λ h. absurd (nobody_leads r.account.pause x z o.takes my_good.staged g.staged (subst IsLeading (sym h.0) tt)) })
+      (λ z _ other g. record { stood = g.stood; area = g.area; making = o.makings z g.making; staged = g.staged; still = g.still; hunter = o.hunters z other g; resting = resting_other k r.account.pause s.words words' x z o.takes my_good.staged g.staged g.resting; took_back = λ kind leads last. o.want ∙ g.took_back kind leads last; owes = g.owes; rooted = g.rooted; set_back = λ h. absurd (nobody_leads r.account.pause x z o.takes my_good.staged g.staged (subst IsLeading (sym h.0) tt)); sharing = sharings_here in_kind.0 in_kind.1 in_kind.2 (record r.account { tenancy = t' }) words' refl o.cycle z g })
 
 -- a load leaves the words as they were
 pub unmoved : (k : Config) (s : Words) (at : ℕ) (views : List View) → Rule k record { words = s.words; homes = s.homes; views = views }

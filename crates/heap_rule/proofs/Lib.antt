@@ -3,6 +3,9 @@ pub mod Update
 pub mod Lists
 pub mod Sizes
 pub mod Values
+pub mod PauseFacts
+pub mod HeadLemmas
+pub mod Sharings
 pub mod Keeps
 pub mod Classes
 pub mod Counting

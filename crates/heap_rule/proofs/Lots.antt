@@ -1,6 +1,6 @@
 -- What a written word leaves of the pools.
 use Rattle.heap_model.specs.Domains.{class_count}
-use Rattle.std.proofs.Common.{refl, ◌^◌, Option, None, ◌≡◌, ◌≢◌, ℕ, ◌+◌, ◌*◌, ◌<◌, ◌≤◌, ◌⊎◌, List, length, get_or, set, Some, sym, ap, ◌∙◌, subst, inl, inr, ⊎_elim, arith, get_or-set_other, lt_of_not-le, false}
+use Rattle.std.proofs.Common.{Bool, true, false, refl, ◌^◌, Option, None, ◌≡◌, ◌≢◌, ℕ, ◌+◌, ◌*◌, ◌<◌, ◌≤◌, ◌⊎◌, List, length, get_or, set, Some, sym, ap, ◌∙◌, subst, inl, inr, ⊎_elim, arith, get_or-set_other, lt_of_not-le, false}
 use mathlib.Core.Logic.{dite}
 use native.Mathlib.Decide.{ℕ_discrete, dec_le}
 use Rattle.heap_rule.specs.declared.config.Config.{Config}
@@ -8,7 +8,7 @@ use Rattle.heap_rule.specs.declared.view.Hunt.{Hunt}
 use Rattle.heap_rule.specs.declared.view.Hunt.TheVariants.{Rests, Counts, Asks, Draws, Walks, Fills, Labels, Heads}
 use Rattle.heap_rule.specs.declared.view.DomainView.{DomainView}
 use Rattle.heap_rule.specs.Layout.{before_heap, at_address}
-use Rattle.heap_rule.specs.Places.{unmarked, Place, Live, extent, head_of, Found, HeadIs, More}
+use Rattle.heap_rule.specs.Places.{Place, Live, Paint, colour_in, extent, head_of, Found, HeadIs, More}
 use Rattle.heap_model.specs.Graph.{Graph}
 use Rattle.heap_model.specs.Fronts.{Shape, PlainShape, RawShape, EpheShape}
 use Rattle.heap_words.specs.Heads.{head_word}
@@ -145,7 +145,7 @@ module _ (k : Config) (t : Tenancy) (words : List ℕ) (at new : ℕ) where
   grid_beside live live' p b more old g = record {
     lots = λ a q lives low. g.lots a q (old a q lives low) low;
     places = λ q d c slot is inside. ⊎_elim (λ (h : at_address k words (place_in q c slot) ≡ 0). inl (place_stays p d (b d) q c slot is inside ∙ h))
-        (λ h. inr (⊎_elim (λ (h : (o : Place) × (live (place_in q c slot) ≡ Some o)). (let m = more (place_in q c slot) h.0 h.1 in inl (m.place, m.lives))) (λ (h : t.prepared (place_in q c slot) ≡ Some d). inr h) h)) (g.places q d c slot is inside);
+        (λ h. inr (⊎_elim (λ (h : (o : Place) × (live (place_in q c slot) ≡ Some o)). (let m = more (place_in q c slot) h.0 h.1 in inl (m.place, m.lives))) (λ h. inr h) h)) (g.places q d c slot is inside);
     spares = λ a d is. let s = g.spares a d is in let o = s.own in record {
       own = o;
       head = λ e. s.head (ap (at_address k words) o.begins ∙ (sym (place_stays p d (b d) o.pool o.class o.slot o.owned_is o.inside) ∙ (sym (ap (at_address k ws) o.begins) ∙ e)));
@@ -170,18 +170,21 @@ module _ (k : Config) (t : Tenancy) (words : List ℕ) (at new : ℕ) where
   }
 
 -- a live block's head isn't Free
-pub head_some : (shape : Shape) → head_word (head_of None shape unmarked false) ≢ 0
-head_some (PlainShape size tag) e = omega arith
-head_some (RawShape size tag) e = omega arith
-head_some (EpheShape keys) e = omega arith
+pub head_some : (shape : Shape) (colour : ℕ) (scanned : Bool) → head_word (head_of None shape colour scanned) ≢ 0
+head_some (PlainShape size tag) colour true e = omega arith
+head_some (PlainShape size tag) colour false e = omega arith
+head_some (RawShape size tag) colour true e = omega arith
+head_some (RawShape size tag) colour false e = omega arith
+head_some (EpheShape keys) colour true e = omega arith
+head_some (EpheShape keys) colour false e = omega arith
 
 -- nor is one that forwards
-head_at_some : (forward : Option ℕ) (shape : Shape) (word : ℕ) → HeadIs forward shape unmarked false word → word ≢ 0
-head_at_some None shape word h e = head_some shape (sym h ∙ e)
-head_at_some (Some copy) shape word h e = let f : 3 + 2 ^ 32 * copy ≡ 0 = sym h ∙ e in omega arith
+head_at_some : (forward : Option ℕ) (shape : Shape) (colour : ℕ) (scanned : Bool) (word : ℕ) → HeadIs forward shape colour scanned word → word ≢ 0
+head_at_some None shape colour scanned word h e = head_some shape colour scanned (sym h ∙ e)
+head_at_some (Some copy) shape colour scanned word h e = let f : 3 + 2 ^ 32 * copy ≡ 0 = sym h ∙ e in omega arith
 
-pub head_full : (k : Config) (live : Live) (graph : Graph) (words : List ℕ) (a : ℕ) (o : Place) → Found k live graph words a o → at_address k words a ≢ 0
-head_full k live graph words a o f e = head_at_some o.forward o.shape (at_address k words a) f.head e
+pub head_full : (k : Config) (paint : Paint) (live : Live) (graph : Graph) (words : List ℕ) (a : ℕ) (o : Place) → Found k paint live graph words a o → at_address k words a ≢ 0
+head_full k paint live graph words a o f e = head_at_some o.forward o.shape (colour_in paint o.label) f.head.scanned (at_address k words a) f.head.packs e
 
 holder_clash : (d e c : ℕ) → ◌≡◌ {A = Holder} (drawn d) (owned e c) → ⊥
 holder_clash d e c h = cc

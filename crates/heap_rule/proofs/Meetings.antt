@@ -8,7 +8,8 @@ use Rattle.heap_rule.specs.declared.view.View.{View}
 use Rattle.heap_rule.specs.Rule.{Rule, Good}
 use Rattle.heap_rule.specs.Views.{AllDomains, one, joined, cut_left, cut_right}
 use Rattle.heap_rule.specs.Meeting.{FirstAgree, Agreed}
-use Rattle.heap_rule.proofs.Keeps.{Words, agree, unmoved}
+use Rattle.heap_rule.proofs.PauseFacts.{agree}
+use Rattle.heap_rule.proofs.Keeps.{Words, unmoved}
 use Rattle.heap_rule.proofs.Ends.{same_views}
 use Rattle.heap_rule.proofs.Seats.{splits}
 

@@ -1,6 +1,6 @@
 -- The table at the start meets the rule.
-use Rattle.heap_rule.specs.Copies.{Owes}
-use Rattle.std.proofs.Common.{◌≡◌, ◌≢◌, ℕ, zero, suc, ◌+◌, ◌*◌, ◌<◌, ◌≤◌, lit<, false, List, [], ◌∷◌, get_or, replicate, slice_get, pos, Option, Some, None, sym, refl, ap, ◌∙◌, subst, inl, arith, unwrap_or, ◌-◌, inr, ⊎_elim}
+use Rattle.heap_rule.specs.Copies.{Owes, IsEmptying}
+use Rattle.std.proofs.Common.{◌≡◌, ◌≢◌, ℕ, zero, suc, ◌+◌, ◌*◌, ◌<◌, ◌≤◌, lit<, false, List, [], ◌∷◌, get_or, replicate, slice_get, pos, Option, Some, None, sym, refl, ap, ◌∙◌, subst, inl, arith, unwrap_or, ◌-◌, inr, ⊎_elim, true}
 use Rattle.std.proofs.lemmas.Int.{ints}
 use mathlib.Core.Logic.{dite}
 use native.Mathlib.Decide.{ℕ_discrete}
@@ -22,16 +22,19 @@ use Rattle.heap_rule.specs.Limits.{sizes_in}
 use Rattle.heap_rule.specs.Layout.{heap_words, listed_pool, owner_of, listed, cursor}
 use Rattle.heap_rule.specs.Places.{Place, Live, extent, Stands, Found, Fits, Placed, IsBare, Settled, IsOldWord, Debt}
 use Rattle.heap_rule.specs.Changes.{value_at}
-use Rattle.heap_rule.specs.declared.phase.Kind.TheVariants.{Run, Promote, Reset}
+use Rattle.heap_rule.specs.declared.phase.Kind.TheVariants.{Run, Promote}
 use Rattle.heap_rule.specs.Phases.{Pause, sum_of, is_over, flag}
 use Rattle.heap_rule.proofs.Keeps.{sum_same, run_leads, copies_settled, room_unused}
 use Rattle.heap_rule.specs.Views.{EachView, AllDomains, Distinct, IsSeated, Knows, opening_view, opening_views, first_view}
 use Rattle.heap_rule.specs.Rule.{Stood, Area, Account, Good, Whole, Rule}
 use Rattle.heap_rule.specs.Pools.{no_stock, IsPlace, Holder, nobody, drawn, owned, owner_word, Tenancy, Pools, Lot, Grid, place_in, size_of, blocks_of, IsBefore}
 use Rattle.heap_rule.proofs.Lots.{owned_same}
-use Rattle.heap_rule.specs.Opening.{IsOpening}
+use Rattle.heap_rule.specs.Opening.{IsOpening, first_colours}
 use Rattle.heap_rule.proofs.Update.{over, over_here, over_else}
 use Rattle.heap_rule.proofs.Sizes.{heap_large}
+use Rattle.heap_rule.specs.Cycles.{Cycling}
+use Rattle.cycle_laws.specs.Cycle.{First}
+use Rattle.cycle_laws.specs.Shares.{no_shares}
 
 abbrev shared_place : Place
 shared_place = record { label = shared_label; shape = PlainShape 16 0; forward = None; owed = None; named = λ _. None }
@@ -54,7 +57,7 @@ first_holders : ℕ → Holder
 first_holders = over 0 (owned 0 3) (λ _. nobody)
 
 abbrev first_tenancy : Tenancy
-first_tenancy = record { holder = first_holders; asking = λ _. 0; prepared = λ _. None; stock = no_stock }
+first_tenancy = record { holder = first_holders; asking = λ _. 0; prepared = λ _. None; garbage = λ _. false; stock = no_stock }
 
 holder_first : first_holders 0 ≡ owned 0 3
 unfolding first_holders
@@ -141,16 +144,20 @@ sole P v mine (suc j) u e = absurd (some-ne-none u (sym e))
 abbrev first_pause : Pause
 first_pause = record { arrived = λ _. 0; phase = 0; kinds = λ _. Run; led = false }
 
+-- no collection has begun
+abbrev first_cycle : Cycling
+first_cycle = record { kind = Run; whole = true; pass = First; paint = record { colours = first_colours; marks = record { marked = λ _. false; scanned = λ _. false } }; shares = no_shares; before = λ _. false; left = λ _. 0; rotated = false; counts = record { own = λ _. []; blocks = λ _. false; words = λ _. false } }
+
 module _ (k : Config) (limits : IsWithinLimits (sizes_in k)) (words : List ℕ) (opens : IsOpening k words) where
   abbrev s0 : model.State
   s0 = states.opening (sizes_in k)
 
-  found : Found k only s0.graph words 1 shared_place
+  found : Found k first_cycle.paint only s0.graph words 1 shared_place
   found = record {
     node = shared_node;
     there = refl;
     shape = refl;
-    head = opens.head;
+    head = record { scanned = false; packs = opens.head; tells = λ is. cc };
     label = opens.label;
     values = λ i v _ e. let t = zero_field 16 i v e in record {
       value = IntWord (pos 0);
@@ -161,7 +168,7 @@ module _ (k : Config) (limits : IsWithinLimits (sizes_in k)) (words : List ℕ) 
   }
 
   fits : Fits k 1 shared_place
-  fits = record { built = tt; classed = (3, omega arith, omega arith); low = omega arith; high = (let h = heap_large k limits in let x : ℕ = heap_words k in let y : 4096 ≤ x = h in let z : 1 + 18 ≤ x + 1 = omega arith in z); head = (omega arith, omega arith, omega arith, omega arith); label = (omega arith, lit< tt) }
+  fits = record { built = tt; classed = (3, omega arith, omega arith); low = omega arith; high = (let h = heap_large k limits in let x : ℕ = heap_words k in let y : 4096 ≤ x = h in let z : 1 + 18 ≤ x + 1 = omega arith in z); head = (omega arith, omega arith, omega arith); label = (omega arith, lit< tt) }
 
   placed : Placed k only
   placed = record {
@@ -264,21 +271,21 @@ module _ (k : Config) (limits : IsWithinLimits (sizes_in k)) (words : List ℕ) 
   }
 
   abbrev first_account : Account
-  first_account = record { log = []; live = only; pause = first_pause; tenancy = first_tenancy }
+  first_account = record { log = []; live = only; pause = first_pause; tenancy = first_tenancy; cycling = first_cycle }
 
   whole : Whole k first_account words
   whole = record {
     wide = opens.wide;
     legal = tt;
-    calm = record { mode = refl; queues = queues_empty k.domains };
-    found = λ a p e. let t = only_at a p e in subst (λ (x : ℕ × Place). Found k only s0.graph words x.0 x.1) (λ i. (sym t.0 i, t.1 i)) found;
+    plain = tt;
+    queues = queues_empty k.domains;
+    found = λ a p e. let t = only_at a p e in subst (λ (x : ℕ × Place). Found k first_cycle.paint only s0.graph words x.0 x.1) (λ i. (sym t.0 i, t.1 i)) found;
     placed = placed;
     spread = record { apart = λ a b p q e f young. absurd (only_old a p e young); inside = λ a p e young. absurd (only_old a p e young) };
     settled = inl only_settled;
     copies = copies_settled k only only_settled (λ b p i d lives named. absurd (not_named b p i d lives named));
     cleared = λ h. absurd (let e : Run ≡ Promote = h.2 in cc);
-    emptied = λ h. absurd (⊎_elim (λ (t : (j : ℕ) × (0 ≡ j * 2 + 1) × (Run ≡ Promote)). let e : Run ≡ Promote = t.2 in cc)
-        (λ g. ⊎_elim (λ (t : (j : ℕ) × (0 ≡ j * 2) × (Run ≡ Reset)). let e : Run ≡ Reset = t.2 in cc) (λ (t : (j : ℕ) × (0 ≡ j * 2 + 1) × (Run ≡ Reset)). let e : Run ≡ Reset = t.2 in cc) g) h);
+    emptied = λ h. absurd (⊎_elim (λ (t : (j : ℕ) × (0 ≡ j * 2 + 1) × (Run ≢ Run)). t.2 refl) (λ (t : (j : ℕ) × (0 ≡ j * 2) × IsEmptying Run). t.2.0 refl) h);
     phases = record {
       sum = opens.rested.arrivals ∙ sym (sum_zero k.domains);
       begun = omega arith;
@@ -300,7 +307,19 @@ module _ (k : Config) (limits : IsWithinLimits (sizes_in k)) (words : List ℕ) 
     unused = λ _. refl;
     opened = λ a q e young. absurd (only_old a q e young);
     drawable = record { to_run = λ j odd _ _. absurd (let h : 0 ≡ j * 2 + 1 = odd in omega arith); to_copy = λ j odd _ _. absurd (let h : 0 ≡ j * 2 + 1 = odd in omega arith) };
-    cycle = opens.cycle;
+    cycle = record {
+      armed_is = opens.cycle.armed_is;
+      meanings = record { marked_fits = omega arith; unmarked_fits = omega arith; garbage_fits = omega arith; marked_differs = λ e. omega arith; unmarked_differs = λ e. omega arith; garbage_differs = λ e. omega arith };
+      colours_are = opens.cycle.colours_are;
+      changed_is = opens.rested.unchanged;
+      facts = record { mode = refl; unmarked = λ l. refl; unchanged = refl; unrotated = refl };
+      told = record {
+        even = λ j e. (refl, λ d below. record { waits = λ f. refl; gone = λ f. absurd (let g : 0 ≡ 0 + 1 = f in omega arith) });
+        odd = λ j e f. absurd (let h : 0 ≡ j * 2 + 1 = e in omega arith);
+        led = λ j e f. absurd (let h : 0 ≡ j * 2 + 1 = e in omega arith);
+      };
+      leaves = record { none = λ _ a. refl; dead = λ a is. absurd (let e : false ≡ true = is in cc); head = λ a is. absurd (let e : false ≡ true = is in cc) };
+    };
   }
 
   pub starts : Rule k (opening words [] (first_view k))
@@ -339,5 +358,10 @@ module _ (k : Config) (limits : IsWithinLimits (sizes_in k)) (words : List ℕ) 
           resting = record { hunt = λ n. refl; free = λ n. refl; lists = λ l e. cc };
           took_back = λ kind leads last. absurd (run_leads kind leads);
           set_back = λ h. absurd (run_leads Run h.0);
+          sharing = record {
+            telling = record { owes = λ _. refl; seen = λ _. refl; fresh = λ e. cc; forgotten = λ e. cc; colours = λ c e. cc };
+            leading = record { changed = λ v e. cc; found_blocks = λ v e. cc; found_words = λ v e. cc; rotated = λ _ e. refl; turned = λ e. cc };
+            knows = inl refl;
+          };
         }));
       }

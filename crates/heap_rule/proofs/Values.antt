@@ -1,5 +1,5 @@
 -- What words and registers stand for.
-use Rattle.std.proofs.Common.{◌≡◌, ◌≢◌, ℕ, ◌+◌, ◌^◌, ◌<◌, ◌≤◌, List, length, get_or, set, Some, None, sym, refl, ◌∙◌, subst, arith, length-set, get_or-set_same, get_or-set_other, false}
+use Rattle.std.proofs.Common.{◌≡◌, ◌≢◌, ℕ, ◌+◌, ◌^◌, ◌<◌, ◌≤◌, List, length, get_or, set, Some, None, sym, refl, ◌∙◌, subst, arith, length-set, get_or-set_same, get_or-set_other}
 use mathlib.Core.Logic.{dite}
 use native.Mathlib.Decide.{ℕ_discrete}
 use Rattle.heap_model.specs.declared.label.Label.{Label}
@@ -11,19 +11,18 @@ use Rattle.heap_model.specs.Domains.{IsWithinLimits, domain_at}
 use Rattle.heap_model.specs.Fronts.{Shape, PlainShape, RawShape, EpheShape}
 use Rattle.heap_words.specs.declared.value.Value as words
 use Rattle.heap_words.specs.declared.value.Value.TheVariants.{Int as IntWord, Ref, Nothing as NothingWord}
-use Rattle.heap_words.specs.Heads.{IsPackableHead}
 use Rattle.heap_words.specs.Values.{IsPackable}
 use Rattle.heap_rule.specs.declared.config.Config.{Config}
 use Rattle.heap_rule.specs.declared.view.DomainView.{DomainView}
 use Rattle.heap_rule.specs.Limits.{sizes_in}
 use Rattle.heap_rule.specs.Layout.{heap_words}
-use Rattle.heap_rule.specs.Places.{unmarked, Place, Live, extent, head_of, Stands, Fits, Placed, IsNoBlock, Shows}
+use Rattle.heap_rule.specs.Places.{Place, Live, extent, IsPackableShape, Stands, Fits, Placed, IsNoBlock, Shows}
 use Rattle.heap_rule.specs.Changes.{value_at}
 use Rattle.heap_rule.specs.Rule.{Stood}
 use Rattle.heap_rule.specs.Token.{IsAddress, Holds}
 use Rattle.heap_rule.proofs.Sizes.{heap_small}
 
-pub extent_large : (shape : Shape) → IsPackableHead (head_of None shape unmarked false) → 3 ≤ extent shape
+pub extent_large : (shape : Shape) → IsPackableShape shape → 3 ≤ extent shape
 extent_large (PlainShape size tag) p = let h : 1 ≤ size = p.0 in omega arith
 extent_large (RawShape size tag) p = let h : 1 ≤ size = p.0 in omega arith
 extent_large (EpheShape keys) p = omega arith

@@ -7,12 +7,12 @@ use Rattle.heap_rule.specs.declared.view.Met.{Met}
 use Rattle.heap_rule.specs.declared.view.Owing.{Owing}
 use Rattle.heap_rule.specs.declared.view.Copying.{Copying}
 use Rattle.heap_rule.specs.declared.view.DomainView.{DomainView}
-use Rattle.heap_rule.specs.declared.phase.Kind.TheVariants.{Promote}
+use Rattle.heap_rule.specs.declared.phase.Kind.{Kind}
+use Rattle.heap_rule.specs.declared.phase.Kind.TheVariants.{Run, Promote}
 use Rattle.heap_rule.specs.declared.phase.Stage.TheVariants.{In}
 use Rattle.heap_rule.specs.declared.config.Config.{Config}
 use Rattle.heap_words.specs.declared.value.Value as words
 use Rattle.heap_words.specs.declared.value.Value.TheVariants.{Ref}
-use Rattle.heap_rule.specs.declared.phase.Kind.TheVariants.{Reset}
 use Rattle.heap_rule.specs.Changes.{value_at}
 use Rattle.heap_rule.specs.Phases.{Pause}
 use Rattle.heap_rule.specs.Places.{Debt, Place, Live, More, extent, IsOldAt}
@@ -103,9 +103,12 @@ pub record Copies (k : Config) (live : Live) : Type 0 where
 abbrev pub Promoting : Pause → Type 0
 Promoting t = (j : ℕ) × (t.phase ≡ j * 2) × (t.kinds j ≡ Promote)
 
--- from the end of Promote to the end of Reset nothing lives in minor areas
+-- from the end of Promote until the domains run again nothing lives in minor areas
+abbrev pub IsEmptying : Kind → Type 0
+IsEmptying kind = (kind ≢ Run) × (kind ≢ Promote)
+
 abbrev pub Resetting : Pause → Type 0
-Resetting t = ((j : ℕ) × (t.phase ≡ j * 2 + 1) × (t.kinds j ≡ Promote)) ⊎ (((j : ℕ) × (t.phase ≡ j * 2) × (t.kinds j ≡ Reset)) ⊎ ((j : ℕ) × (t.phase ≡ j * 2 + 1) × (t.kinds j ≡ Reset)))
+Resetting t = ((j : ℕ) × (t.phase ≡ j * 2 + 1) × (t.kinds j ≢ Run)) ⊎ ((j : ℕ) × (t.phase ≡ j * 2) × IsEmptying (t.kinds j))
 
 -- a domain owes no values and remembers no fields
 pub record Cleared (live : Live) (d : ℕ) : Type 0 where

@@ -40,6 +40,10 @@ barrier words = slice_index words 1
 abbrev pub plan : List ℕ → ℕ
 plan words = slice_index words 2
 
+-- 1 where a block was darkened that another round must see
+abbrev pub changed_word : List ℕ → ℕ
+changed_word words = slice_index words 3
+
 -- how many traces have ended
 abbrev pub ended_word : List ℕ → ℕ
 ended_word words = slice_index words 8
@@ -57,3 +61,10 @@ listed words = slice_index words 6
 
 abbrev pub cursor : List ℕ → ℕ
 cursor words = slice_index words 7
+
+-- how many blocks a collection has left, and how many words they have
+abbrev pub live_blocks : List ℕ → ℕ
+live_blocks words = slice_index words 9
+
+abbrev pub live_words : List ℕ → ℕ
+live_words words = slice_index words 10

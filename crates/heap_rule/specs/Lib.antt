@@ -9,6 +9,7 @@ pub mod Phases
 pub mod Copies
 pub mod Pools
 pub mod Room
+pub mod Cycles
 pub mod Rule
 pub mod Meeting
 pub mod Token

@@ -1,13 +1,24 @@
 -- A heap at its start: the words of its table, and the tokens of its domains.
-use Rattle.std.specs.Prelude.{◌≡◌, ℕ, zero, suc, ◌+◌, ◌-◌, ◌<◌, ◌≤◌, List, [], ◌∷◌, length, slice_index}
+use Rattle.std.specs.Prelude.{◌≡◌, ℕ, zero, suc, ◌+◌, ◌-◌, ◌<◌, ◌≤◌, false, List, [], ◌∷◌, length, slice_index, None}
 use Rattle.atomic_table.specs.Seated.{TableId}
 use Rattle.heap_model.specs.Fronts.{PlainShape}
+use Rattle.heap_words.specs.declared.colours.Colours.{Colours}
+use Rattle.heap_words.specs.ColourWords.{colours_word}
 use Rattle.heap_rule.specs.declared.config.Config.{Config}
-use Rattle.heap_rule.specs.Layout.{table_words, at_address, listed_pool, owner_of, listed, cursor}
-use Rattle.heap_rule.specs.Places.{IsNewHead}
-use Rattle.heap_rule.specs.Rule.{Rested, NoCycle}
+use Rattle.heap_rule.specs.Layout.{table_words, at_address, listed_pool, owner_of, listed, cursor, armed, colours}
+use Rattle.heap_rule.specs.Places.{HeadIs}
+use Rattle.heap_rule.specs.Rule.{Rested}
 use Rattle.heap_rule.specs.Token.{Token}
 use Rattle.heap_rule.specs.Views.{opening_view}
+
+-- the meanings of the colours at the start
+abbrev pub first_colours : Colours
+first_colours = record { marked = 0; unmarked = 1; garbage = 2 }
+
+-- no cycle is under way, and the colours are those of the start
+pub record NoCycle (words : List ℕ) : Type 0 where
+  pub armed_is : armed words ≡ 0
+  pub colours_are : colours words ≡ colours_word first_colours
 
 -- all pools but the shared block's are listed and free, and none was asked for
 pub record AllListed (k : Config) (words : List ℕ) : Type 0 where
@@ -23,7 +34,7 @@ pub record IsOpening (k : Config) (words : List ℕ) : Type 0 where
   pub rested : Rested words
   pub pools : AllListed k words
   pub cycle : NoCycle words
-  pub head : IsNewHead (PlainShape 16 0) (at_address k words 1)
+  pub head : HeadIs None (PlainShape 16 0) first_colours.unmarked false (at_address k words 1)
   pub label : at_address k words 2 ≡ 0
   pub fields : (i : ℕ) → i < 16 → at_address k words (3 + i) ≡ 1
   pub rest : (a : ℕ) → 19 ≤ a → at_address k words a ≡ 0

@@ -1,12 +1,12 @@
 -- Phases: how the words, the domains' arrivals and where each domain stands belong together.
-use Rattle.std.specs.Prelude.{◌≡◌, ◌≢◌, ℕ, zero, suc, ◌+◌, ◌*◌, ◌<◌, ◌≤◌, Bool, true, false, List, [], ◌∷◌, Option, Some, None}
+use Rattle.std.specs.Prelude.{◌≡◌, ◌≢◌, ℕ, zero, suc, ◌+◌, ◌*◌, ◌<◌, ◌≤◌, ◌⊎◌, Bool, true, false, List, [], ◌∷◌, Option, Some, None}
 use Rattle.heap_model.specs.declared.entry.Entry.{Entry}
 use Rattle.heap_model.specs.declared.state.State as model
 use Rattle.heap_model.specs.Domains.{domain_at}
 use Rattle.heap_rule.specs.declared.config.Config.{Config}
 use Rattle.heap_rule.specs.declared.view.DomainView.{DomainView}
 use Rattle.heap_rule.specs.declared.phase.Kind.{Kind}
-use Rattle.heap_rule.specs.declared.phase.Kind.TheVariants.{Run, Promote, Reset}
+use Rattle.heap_rule.specs.declared.phase.Kind.TheVariants.{Run, Promote, Reset, Roots, Mark, Rounds, Decide, Queued, Clean, Lasts, Sweep, Answer}
 use Rattle.heap_rule.specs.declared.phase.Note.{Note}
 use Rattle.heap_rule.specs.declared.phase.Note.TheVariants.{Cleared, SetBack}
 use Rattle.heap_rule.specs.declared.phase.Stage.{Stage}
@@ -18,18 +18,45 @@ abbrev pub code : Kind → ℕ
 code Run = 0
 code Promote = 1
 code Reset = 2
+code Roots = 3
+code Mark = 4
+code Rounds = 5
+code Decide = 6
+code Queued = 7
+code Clean = 8
+code Lasts = 9
+code Sweep = 10
+code Answer = 11
 
 -- the kind of a plan word
 abbrev pub kind_at : ℕ → Kind
 kind_at zero = Run
 kind_at (suc zero) = Promote
-kind_at (suc (suc n)) = Reset
+kind_at (suc (suc zero)) = Reset
+kind_at (suc (suc (suc zero))) = Roots
+kind_at (suc (suc (suc (suc zero)))) = Mark
+kind_at (suc (suc (suc (suc (suc zero))))) = Rounds
+kind_at (suc (suc (suc (suc (suc (suc zero)))))) = Decide
+kind_at (suc (suc (suc (suc (suc (suc (suc zero))))))) = Queued
+kind_at (suc (suc (suc (suc (suc (suc (suc (suc zero)))))))) = Clean
+kind_at (suc (suc (suc (suc (suc (suc (suc (suc (suc zero))))))))) = Lasts
+kind_at (suc (suc (suc (suc (suc (suc (suc (suc (suc (suc zero)))))))))) = Sweep
+kind_at (suc (suc (suc (suc (suc (suc (suc (suc (suc (suc (suc n))))))))))) = Answer
 
--- which kind may come after which, so far
+-- which kind may come after which. No collection of the major heap begins yet
 abbrev pub Follows : Kind → Kind → Type 0
 Follows Run next = next ≡ Promote
 Follows Promote next = next ≡ Reset
 Follows Reset next = next ≡ Run
+Follows Roots next = next ≡ Mark
+Follows Mark next = (next ≡ Mark) ⊎ (next ≡ Rounds)
+Follows Rounds next = (next ≡ Mark) ⊎ ((next ≡ Decide) ⊎ (next ≡ Clean))
+Follows Decide next = next ≡ Queued
+Follows Queued next = next ≡ Mark
+Follows Clean next = next ≡ Lasts
+Follows Lasts next = next ≡ Sweep
+Follows Sweep next = (next ≡ Run) ⊎ (next ≡ Answer)
+Follows Answer next = next ≡ Run
 
 -- what n domains have together
 abbrev pub sum_of : (ℕ → ℕ) → ℕ → ℕ
@@ -71,9 +98,9 @@ Comes d known kind = (d ≡ 0 → kind ≡ known) × (d ≢ 0 → Follows known 
 -- where domain d stands. Only one whose arrivals are the phase's number acts
 abbrev pub AtStage : Pause → ℕ → ℕ → Stage → Type 0
 AtStage t d arrivals (In kind) = (arrivals ≡ t.phase) × ((j : ℕ) × (t.phase ≡ j * 2) × (t.kinds j ≡ kind))
-AtStage t d arrivals (Leads kind) = (arrivals ≡ t.phase) × ((j : ℕ) × (t.phase ≡ j * 2 + 1) × (t.kinds j ≡ kind))
+AtStage t d arrivals (Leads kind) = (arrivals ≡ t.phase) × ((j : ℕ) × (t.phase ≡ j * 2 + 1) × (t.kinds j ≡ kind)) × (d ≡ 0 → t.led ≡ false)
 AtStage t d arrivals (Led kind) = (arrivals ≡ t.phase) × ((j : ℕ) × (t.phase ≡ j * 2 + 1) × (t.kinds (j + 1) ≡ kind)) × (d ≡ 0) × (t.led ≡ true)
-AtStage t d arrivals (Gone kind) = ((j : ℕ) → arrivals ≡ j * 2 + 1 → t.kinds j ≡ kind) × (IsEven arrivals → LeftOdd t.kinds d arrivals kind)
+AtStage t d arrivals (Gone kind) = ((j : ℕ) → arrivals ≡ j * 2 + 1 → t.kinds j ≡ kind) × (IsEven arrivals → LeftOdd t.kinds d arrivals kind) × (d ≡ 0 → arrivals ≡ t.phase → t.led ≡ false)
 
 -- Phases, of one domain
 pub record Staged (t : Pause) (x : DomainView) : Type 0 where

@@ -1,5 +1,5 @@
 -- What lives at the addresses, and when words stand for it.
-use Rattle.std.specs.Prelude.{[], nat_le, if◌then◌else◌, ◌≡◌, ◌≢◌, ℕ, ◌+◌, ◌*◌, ◌%◌, ◌<◌, ◌≤◌, ◌⊎◌, Bool, false, List, ◌∷◌, length, map, slice_get, slice_index, Option, Some, None}
+use Rattle.std.specs.Prelude.{[], nat_le, if◌then◌else◌, ◌≡◌, ◌≢◌, ℕ, ◌+◌, ◌*◌, ◌%◌, ◌<◌, ◌≤◌, ◌⊎◌, Bool, false, cond, IsTrue, List, ◌∷◌, length, map, slice_get, slice_index, Option, Some, None}
 use Rattle.size_classes.specs.declared.TheConstants.{SIZES}
 use Rattle.heap_model.specs.declared.label.Label.{Label}
 use Rattle.heap_model.specs.declared.graph.Value.{Value}
@@ -7,10 +7,12 @@ use Rattle.heap_model.specs.declared.graph.Value.TheVariants.{Int, Block, Nothin
 use Rattle.heap_model.specs.declared.graph.Node.{Node}
 use Rattle.heap_model.specs.declared.graph.Node.TheVariants.{Plain, Raw, Ephe}
 use Rattle.heap_model.specs.Graph.{Graph, node_at}
+use Rattle.cycle_laws.specs.Marks.{Marks}
 use Rattle.heap_model.specs.Commands.{key_value}
 use Rattle.heap_model.specs.Fronts.{Shape, PlainShape, RawShape, EpheShape, shape_of}
 use Rattle.heap_words.specs.declared.value.Value as words
 use Rattle.heap_words.specs.declared.value.Value.TheVariants.{Int as IntWord, Ref, Nothing as NothingWord}
+use Rattle.heap_words.specs.declared.colours.Colours.{Colours}
 use Rattle.heap_words.specs.declared.head.Head.{Head}
 use Rattle.heap_words.specs.declared.head.Head.TheVariants.{Plain as PlainHead, Ephe as EpheHead, Forward}
 use Rattle.heap_words.specs.Values.{IsPackable, value_word}
@@ -78,13 +80,32 @@ head_of (Some copy) shape colour scanned = Forward copy
 abbrev pub HeadIs : Option ℕ → Shape → ℕ → Bool → ℕ → Type 0
 HeadIs forward shape colour scanned word = word ≡ head_word (head_of forward shape colour scanned)
 
--- the colour of every block while no cycle is under way: it is unmarked
-abbrev pub unmarked : ℕ
-unmarked = 1
+-- the meanings of the colours, and which blocks a cycle has marked and scanned ("Retrofitting Parallelism onto OCaml", section 3.2)
+pub record Paint : Type 0 where
+  pub colours : Colours
+  pub marks : Marks
 
--- the word of the head of a new block
-abbrev pub IsNewHead : Shape → ℕ → Type 0
-IsNewHead shape word = HeadIs None shape unmarked false word
+-- the colour of a block: it is marked, or unmarked
+abbrev pub colour_in : Paint → Label → ℕ
+colour_in paint l = cond (paint.marks.marked l) paint.colours.marked paint.colours.unmarked
+
+-- the word is the head of this block. The scanned mark of an unmarked block means nothing
+pub record IsHead (paint : Paint) (p : Place) (word : ℕ) : Type 0 where
+  pub scanned : Bool
+  pub packs : HeadIs p.forward p.shape (colour_in paint p.label) scanned word
+  pub tells : IsTrue (paint.marks.marked p.label) → scanned ≡ paint.marks.scanned p.label
+
+-- the word of the head of a new block, whose domain knows which colour means unmarked
+pub record IsNewHead (known : Option Colours) (shape : Shape) (word : ℕ) : Type 0 where
+  pub colours : Colours
+  pub known_is : known ≡ Some colours
+  pub packs : HeadIs None shape colours.unmarked false word
+
+-- a head of this shape can be packed, whatever its colour
+abbrev pub IsPackableShape : Shape → Type 0
+IsPackableShape (PlainShape size tag) = (1 ≤ size) × (size ≤ 1022) × (tag < 256)
+IsPackableShape (RawShape size tag) = (1 ≤ size) × (size ≤ 1022) × (tag < 256)
+IsPackableShape (EpheShape keys) = (1 ≤ keys) × (keys ≤ 8)
 
 -- the word is a head of this shape, whatever its colour
 pub record IsHeadOf (shape : Shape) (word : ℕ) : Type 0 where
@@ -132,11 +153,11 @@ abbrev pub IsOldWord : Config → ℕ → Type 0
 IsOldWord k word = (word % 2 ≡ 1) ⊎ (word ≤ 2 * (k.pools * 4096))
 
 -- the words at an address are the node of the block that lives there, as far as it is filled
-pub record Found (k : Config) (live : Live) (graph : Graph) (words : List ℕ) (a : ℕ) (p : Place) : Type 0 where
+pub record Found (k : Config) (paint : Paint) (live : Live) (graph : Graph) (words : List ℕ) (a : ℕ) (p : Place) : Type 0 where
   pub node : Node
   pub there : node_at graph p.label ≡ Some node
   pub shape : shape_of node ≡ p.shape
-  pub head : HeadIs p.forward p.shape unmarked false (at_address k words a)
+  pub head : IsHead paint p (at_address k words a)
   pub label : at_address k words (a + 1) ≡ label_word p.label.domain p.label.serial
   pub values : (i : ℕ) (v : Value) → HasValue p.owed i → slice_get (values_of node) i ≡ Some v → WordStands live (at_address k words (a + 2 + i)) v
   pub old : IsOldAt k a → (i : ℕ) → i + 2 < extent p.shape → HasValue p.owed i → p.named i ≡ None → IsOldWord k (at_address k words (a + 2 + i))
@@ -156,7 +177,7 @@ pub record Fits (k : Config) (a : ℕ) (p : Place) : Type 0 where
   pub low : 1 ≤ a
   pub high : a + extent p.shape ≤ heap_words k + 1
   pub classed : HasClass (extent p.shape)
-  pub head : IsPackableHead (head_of None p.shape unmarked false)
+  pub head : IsPackableShape p.shape
   pub label : IsPackableLabel (p.label.domain, p.label.serial)
 
 -- how blocks lie: each fits, no two that don't forward have one label, and no two share a word

@@ -1,5 +1,5 @@
 -- The pools: who has each, where their blocks lie, and what a domain that takes one of their blocks knows.
-use Rattle.std.specs.Prelude.{Bool, false, ◌≡◌, ◌≢◌, ℕ, ◌+◌, ◌*◌, ◌-◌, ◌/◌, ◌<◌, ◌≤◌, ◌⊎◌, List, length, slice_index, slice_index_or, slice_get, Option, Some, None, true}
+use Rattle.std.specs.Prelude.{Bool, false, IsTrue, ◌≡◌, ◌≢◌, ℕ, ◌+◌, ◌*◌, ◌-◌, ◌/◌, ◌<◌, ◌≤◌, ◌⊎◌, List, length, slice_index, slice_index_or, slice_get, Option, Some, None, true}
 use Rattle.size_classes.specs.declared.TheConstants.{SIZES}
 use Rattle.heap_model.specs.Domains.{class_count, reserve}
 use Rattle.heap_rule.specs.declared.config.Config.{Config}
@@ -51,11 +51,12 @@ pub record Stock : Type 0 where
 abbrev pub no_stock : Stock
 no_stock = record { drawn = λ _ _. 0; copies = λ _ _. 0; latest = λ _ _. 0; used = λ _ _. 0; claims = λ _. 0; claimed = λ _. false }
 
--- who has each pool, 1 for each domain that may have seen that one is to be had and not asked since, which domain has prepared the place at an address for a copy, and what copying has used
+-- who has each pool, 1 for each domain that may have seen that one is to be had and not asked since, which domain has prepared the place at an address for a copy, at which places blocks lie that a collection hasn't marked, and what copying has used
 pub record Tenancy : Type 0 where
   pub holder : ℕ → Holder
   pub asking : ℕ → ℕ
   pub prepared : ℕ → Option ℕ
+  pub garbage : ℕ → Bool
   pub stock : Stock
 
 -- in these phases domains take blocks of pools: while they run, and while they copy young blocks
@@ -112,11 +113,11 @@ pub record IsSpare (k : Config) (holder : ℕ → Holder) (live : Live) (words :
   pub head : at_address k words a ≢ 0
   pub empty : live a ≡ None
 
--- what is at a place of an owned pool: its head says Free, a block lives there, or it is prepared for a copy
+-- what is at a place of an owned pool: its head says Free, a block lives there, it is prepared for a copy, or it is garbage
 abbrev pub IsPlace : Config → Tenancy → Live → List ℕ → ℕ → ℕ → Type 0
-IsPlace k t live words d a = (at_address k words a ≡ 0) ⊎ (((p : Place) × (live a ≡ Some p)) ⊎ (t.prepared a ≡ Some d))
+IsPlace k t live words d a = (at_address k words a ≡ 0) ⊎ (((p : Place) × (live a ≡ Some p)) ⊎ ((t.prepared a ≡ Some d) ⊎ IsTrue (t.garbage a)))
 
--- Represents, the places in pools: each block of the pools begins at a place of an owned pool and fits its class, and at each place of an owned pool a block lives, or its head says Free, or it is prepared
+-- Represents, the places in pools: each block of the pools begins at a place of an owned pool and fits its class, and at each place of an owned pool a block lives, or its head says Free, or it is prepared, or it is garbage
 pub record Grid (k : Config) (t : Tenancy) (live : Live) (words : List ℕ) : Type 0 where
   pub lots : (a : ℕ) (p : Place) → live a ≡ Some p → a ≤ k.pools * 4096 → Lot t.holder a p
   pub places : (q d c slot : ℕ) → t.holder q ≡ owned d c → slot < blocks_of c → IsPlace k t live words d (place_in q c slot)
@@ -174,8 +175,8 @@ pub record Drawers (p : Pause) (t : Tenancy) : Type 0 where
 
 -- domain 0 acts in an odd phase
 abbrev pub IsLeading : Stage → Type 0
-IsLeading (Leads last) = Unit {0}
-IsLeading (Led next) = Unit {0}
+IsLeading (Leads kind) = Unit {0}
+IsLeading (Led kind) = Unit {0}
 IsLeading _ = ⊥
 
 -- domain 0 writes the list of free pools anew: these are the owner words of the first pools, the first places of the list, and how many are listed, and the cursor is 0 once it was set back

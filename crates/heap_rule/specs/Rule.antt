@@ -1,22 +1,25 @@
 -- The rule of the table: what holds between any two steps. Each part speaks only of what it names. docs/RULE.md explains it.
-use Rattle.std.specs.Prelude.{◌≡◌, ℕ, ◌+◌, ◌*◌, ◌<◌, ◌≤◌, ◌⊎◌, List, length, slice_get, Some}
+use Rattle.std.specs.Prelude.{◌≡◌, ℕ, ◌+◌, ◌*◌, ◌<◌, ◌≤◌, ◌⊎◌, List, [], length, slice_get, Some}
 use Rattle.atomic_table.specs.Table.{State}
 use Rattle.heap_model.specs.declared.entry.Entry.{Entry}
 use Rattle.heap_model.specs.declared.state.State as model
 use Rattle.heap_model.specs.Graph.{Graph}
 use Rattle.heap_model.specs.Domains.{domain_at, register, opening, IsWithinLimits}
 use Rattle.heap_model.specs.History.{state_after, Legal}
-use Rattle.heap_model.specs.Fronts.{IsCalm}
+use Rattle.heap_words.specs.declared.value.Value.{Value}
 use Rattle.heap_rule.specs.declared.config.Config.{Config}
 use Rattle.heap_rule.specs.declared.view.DomainView.{DomainView}
+use Rattle.heap_rule.specs.declared.view.Share.{Share}
 use Rattle.heap_rule.specs.declared.view.View.{View}
+use Rattle.heap_rule.specs.declared.phase.Stage.{Stage}
 use Rattle.heap_rule.specs.Limits.{sizes_in}
-use Rattle.heap_rule.specs.Layout.{table_words, base_of, at_address, barrier, plan, want, ended_word, armed, colours, listed, cursor}
-use Rattle.heap_rule.specs.Places.{Place, Live, extent, Stands, Found, Placed, Spread, span, Settled}
+use Rattle.heap_rule.specs.Layout.{table_words, base_of, at_address, barrier, plan, want, ended_word, changed_word, listed, cursor}
+use Rattle.heap_rule.specs.Places.{Place, Live, Paint, extent, Stands, Found, Placed, Spread, span, Settled}
 use Rattle.heap_rule.specs.Copies.{Owes, Copies, Promoting, AllCleared, Emptied, Rooted}
 use Rattle.heap_rule.specs.Room.{Room, IsUnused, Opened, Drawable}
 use Rattle.heap_rule.specs.Pools.{limit_of, Tenancy, Pools, Reserved, Grid, Drawers, Resting, Hunter}
 use Rattle.heap_rule.specs.Changes.{value_at}
+use Rattle.heap_rule.specs.Cycles.{Cycling, Cycled, Telling, Leading, KnowsBlocks, AllPlain}
 use Rattle.heap_rule.specs.Phases.{Pause, Phases, Staged, Still, TookBack, HasSetBack, Unwished, CountsEnded}
 use Rattle.heap_rule.specs.Views.{EachView, EachDomain, Knows}
 
@@ -25,8 +28,8 @@ abbrev pub state_of : Config → List Entry → model.State
 state_of k log = state_after (opening (sizes_in k)) log
 
 -- Represents: the words are the graph's nodes
-abbrev pub AllFound : Config → Live → Graph → List ℕ → Type 0
-AllFound k live graph words = (a : ℕ) (p : Place) → live a ≡ Some p → Found k live graph words a p
+abbrev pub AllFound : Config → Paint → Live → Graph → List ℕ → Type 0
+AllFound k paint live graph words = (a : ℕ) (p : Place) → live a ≡ Some p → Found k paint live graph words a p
 
 -- Represents: the registers and the serial of a domain stand for those of the state
 pub record Stood (live : Live) (s : model.State) (x : DomainView) : Type 0 where
@@ -45,12 +48,19 @@ pub record Making (k : Config) (words : List ℕ) (x : DomainView) : Type 0 wher
   pub fits : (j w : ℕ) → slice_get x.seen.made j ≡ Some w → x.own.used + j + 1 < k.minor_words
   pub written : (j w : ℕ) → slice_get x.seen.made j ≡ Some w → at_address k words (base_of k x.own.number + x.own.used + 1 + j) ≡ w
 
--- what there is besides the words: the history, which block lives where, how the pauses stand, and who has each pool
+-- what there is besides the words: the history, which block lives where, how the pauses stand, who has each pool, and how a collection of the major heap stands
 pub record Account : Type 0 where
   pub log : List Entry
   pub live : Live
   pub pause : Pause
   pub tenancy : Tenancy
+  pub cycling : Cycling
+
+-- what the rule says of one domain's share of a collection
+pub record Sharing (k : Config) (all : Account) (words : List ℕ) (d : ℕ) (registers : List Value) (stage : Stage) (share : Share) : Type 0 where
+  pub telling : Telling all.cycling.paint.colours all.cycling.shares d share
+  pub leading : Leading all.cycling words d stage share
+  pub knows : KnowsBlocks k all.live all.tenancy.holder (state_of k all.log).graph all.cycling.paint.marks words d registers stage share
 
 -- all that the rule says of one domain
 pub record Good (k : Config) (all : Account) (words : List ℕ) (x : DomainView) : Type 0 where
@@ -65,6 +75,7 @@ pub record Good (k : Config) (all : Account) (words : List ℕ) (x : DomainView)
   pub owes : Owes k all.live x
   pub rooted : Rooted k all.pause x
   pub set_back : HasSetBack x → cursor words ≤ limit_of k (listed words)
+  pub sharing : Sharing k all words x.own.number x.own.registers x.seen.stage x.seen.share
 
 -- at the start no domain asks for a collection, none has arrived anywhere, and no trace has ended
 pub record Rested (words : List ℕ) : Type 0 where
@@ -72,18 +83,19 @@ pub record Rested (words : List ℕ) : Type 0 where
   pub arrivals : barrier words ≡ 0
   pub runs : plan words ≡ 0
   pub nobody_ended : ended_word words ≡ 0
+  pub unchanged : changed_word words ≡ 0
 
--- no cycle is under way, and the colours are those of the start: 0 marked, 1 unmarked, 2 garbage
-pub record NoCycle (words : List ℕ) : Type 0 where
-  pub armed_is : armed words ≡ 0
-  pub colours_are : colours words ≡ 36
+-- no finaliser waits in a queue
+abbrev pub NoneQueued : model.State → Type 0
+NoneQueued s = (d : ℕ) → (domain_at s d).queue ≡ []
 
 -- all that the rule says of the history, the places and the words, whoever looks
 pub record Whole (k : Config) (all : Account) (words : List ℕ) : Type 0 where
   pub wide : length words ≡ table_words k
   pub legal : Legal (sizes_in k) all.log
-  pub calm : IsCalm (state_of k all.log)
-  pub found : AllFound k all.live (state_of k all.log).graph words
+  pub plain : AllPlain all.log
+  pub queues : NoneQueued (state_of k all.log)
+  pub found : AllFound k all.cycling.paint all.live (state_of k all.log).graph words
   pub placed : Placed k all.live
   pub spread : Spread k all.live
   pub settled : Settled all.live ⊎ Promoting all.pause
@@ -101,7 +113,7 @@ pub record Whole (k : Config) (all : Account) (words : List ℕ) : Type 0 where
   pub unused : IsUnused all.pause all.tenancy.stock
   pub opened : Opened k all.live words
   pub drawable : Drawable k all.pause words
-  pub cycle : NoCycle words
+  pub cycle : Cycled k (state_of k all.log) all.live all.pause all.tenancy all.cycling words
 
 -- the rule: there are an account and a seat for each domain of which all these parts hold
 pub record Rule (k : Config) (s : State (Unit {0}) View) : Type 0 where

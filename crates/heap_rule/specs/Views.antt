@@ -1,6 +1,6 @@
 -- The views of seats: what each knows of the history and of the domains that it stands for.
 use Rattle.heap_model.specs.Domains.{class_count}
-use Rattle.std.specs.Prelude.{◌≡◌, ◌≢◌, ℕ, zero, suc, ◌+◌, ◌*◌, ◌/◌, ◌<◌, List, [], ◌∷◌, ◌++◌, replicate, None}
+use Rattle.std.specs.Prelude.{◌≡◌, ◌≢◌, ℕ, zero, suc, ◌+◌, ◌*◌, ◌/◌, ◌<◌, List, [], ◌∷◌, ◌++◌, replicate, false, None}
 use mathlib.Core.Option.{some}
 use lib.ListN.{get_elem?}
 use Rattle.atomic_table.specs.Table.{Me, Step}
@@ -12,6 +12,8 @@ use Rattle.heap_rule.specs.declared.view.TheConstants.{REMEMBERED_ROOM}
 use Rattle.heap_rule.specs.declared.config.Config.{Config}
 use Rattle.heap_rule.specs.declared.view.DomainView.{DomainView}
 use Rattle.heap_rule.specs.declared.view.Hunt.TheVariants.{Rests}
+use Rattle.heap_rule.specs.declared.view.Scan.TheVariants.{Idle}
+use Rattle.heap_rule.specs.declared.view.Share.{Share}
 use Rattle.heap_rule.specs.declared.view.View.{View}
 use Rattle.heap_rule.specs.declared.phase.Kind.TheVariants.{Run}
 use Rattle.heap_rule.specs.declared.phase.Stage.TheVariants.{In}
@@ -55,6 +57,10 @@ one k h x = record { config = k; history = h; domains = x ∷ [] }
 abbrev pub pending_room : Config → ℕ
 pending_room k = k.domains * k.minor_words / 4
 
+-- what a domain knows of a phase in which it has done nothing
+abbrev pub fresh_share : Share
+fresh_share = record { colours = None; changed = None; blocks = None; words = None; rotated = false; owes = false; sights = []; glimpse = None; scan = Idle; walk = record { pool = 0; slot = 0 }; tenure = None; roots = []; marked = [] }
+
 -- a domain at the start: register 0 holds the shared block, which is at the address 1
 abbrev pub opening_view : Config → ℕ → DomainView
 opening_view k d = record {
@@ -69,7 +75,7 @@ opening_view k d = record {
     prepared = replicate class_count None;
     pending = record { items = []; room = pending_room k };
   };
-  seen = record { front = []; made = []; stage = In Run; notes = []; hunt = Rests; free = None; listing = None; copying = record { met = []; pending = [] }; remembered = [] };
+  seen = record { front = []; made = []; stage = In Run; notes = []; hunt = Rests; free = None; listing = None; copying = record { met = []; pending = [] }; remembered = []; share = fresh_share };
 }
 
 -- n domains from d on

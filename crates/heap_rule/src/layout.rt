@@ -1,9 +1,9 @@
 //! The words of the table at the start. docs/HEAP.md draws where they lie.
-ghost use Rattle.std.specs.Prelude.{◌≡◌, ◌≢◌, ℕ, ◌+◌, ◌*◌, ◌-◌, ◌<◌, ◌≤◌, length, slice_index, IfOk};
+ghost use Rattle.std.specs.Prelude.{◌≡◌, ◌≢◌, ℕ, ◌+◌, ◌*◌, ◌-◌, ◌<◌, ◌≤◌, length, slice_index, false, None, IfOk};
 ghost use Rattle.heap_model.specs.Domains.{IsWithinLimits};
 ghost use Rattle.heap_model.specs.Fronts.{PlainShape};
 ghost use Rattle.heap_rule.specs.Limits.{sizes_in};
-ghost use Rattle.heap_rule.specs.Places.{IsNewHead};
+ghost use Rattle.heap_rule.specs.Places.{HeadIs};
 ghost use Rattle.heap_rule.specs.Layout.{heap_words, before_heap, table_words};
 ghost use Rattle.heap_rule.specs.Opening.{IsOpening, Fills};
 
@@ -25,7 +25,7 @@ pub const PLAN: usize = 2;
 pub const ENDED: usize = 8;
 
 /// The index of the colours word.
-pub(crate) const COLOURS: usize = 5;
+pub const COLOURS: usize = 5;
 
 /// The index of the word that says how many pools are in the list of free pools.
 pub const LISTED: usize = 6;
@@ -84,7 +84,7 @@ fn put_zeros(words: &mut [u64], from: usize, count: usize)
 
 // The head of the shared block.
 fn shared_head() -> u64
-    ensures { IsNewHead (PlainShape 16 0) result }
+    ensures { HeadIs None (PlainShape 16 0) 1 false result }
 {
     pack_head(Head::Plain {
         size: SHARED_FIELDS,

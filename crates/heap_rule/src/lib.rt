@@ -16,11 +16,11 @@ pub use change::{Change, Item, Part, Reading, make_changes, read_as};
 pub use config::{Config, StartFault};
 pub use domain::Domain;
 pub use heap::{Ended, Heap};
-pub use layout::{BARRIER, CURSOR, ENDED, LISTED, PLAN, WANT};
+pub use layout::{BARRIER, COLOURS, CURSOR, ENDED, LISTED, PLAN, WANT};
 pub use phase::{Kind, Note, Stage};
 pub use raw::{Changing, Leaving, Writing, raw_add, raw_exchange, raw_load, raw_or, raw_store};
 pub use rule::Told;
 pub use view::{
-    Copied, Copying, DomainView, Form, Hunt, Listing, Met, Owing, Own, REMEMBERED_ROOM, Seen, Spot,
-    View,
+    Copied, Copying, DomainView, Form, Glimpse, Hunt, Listing, Met, Owing, Own, REMEMBERED_ROOM, Scan,
+    Seen, Share, Spot, Tenure, View,
 };

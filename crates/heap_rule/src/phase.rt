@@ -9,6 +9,24 @@ pub enum Kind {
     Promote,
     /// Minor areas are emptied.
     Reset,
+    /// What registers and queues refer to is marked.
+    Roots,
+    /// What marked blocks refer to is marked.
+    Mark,
+    /// The data of marked ephemerons whose full keys are all marked is marked.
+    Rounds,
+    /// Registrations of finalisers whose values are unmarked are queued.
+    Decide,
+    /// What queues refer to is marked.
+    Queued,
+    /// Unmarked keys of marked ephemerons are emptied, and their data with them.
+    Clean,
+    /// Registrations of last finalisers whose values are unmarked are queued.
+    Lasts,
+    /// What wasn't marked is freed.
+    Sweep,
+    /// Domains that wait for a complete collection are answered.
+    Answer,
 }
 
 /// Where a domain stands. No value of it is made: it exists in contracts alone.

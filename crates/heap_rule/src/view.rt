@@ -5,7 +5,7 @@ use crate::config::Config;
 use crate::phase::{Note, Stage};
 use heap_model::entry::Entry;
 use heap_model::label::Label;
-use heap_words::Value;
+use heap_words::{Colours, Value};
 use remembered_set::{BoundedList, Remembered};
 use size_classes::CLASS_COUNT;
 use std::collections::LinkedList;
@@ -132,6 +132,68 @@ pub struct Copying {
     pub pending: LinkedList<Owing>,
 }
 
+/// A head that a domain found.
+pub struct Glimpse {
+    pub address: u32,
+    pub word: u64,
+}
+
+/// A pool, and the class of its blocks.
+pub struct Tenure {
+    pub pool: u32,
+    pub class: u32,
+}
+
+/// How far a domain is in a block that it scans.
+pub enum Scan {
+    /// It scans none.
+    Idle,
+    /// What so many fields of the block refer to is marked. This head was found there.
+    Reads {
+        block: u32,
+        done: u32,
+        size: u32,
+        head: u64,
+    },
+    /// So is that, and the next field refers to the block at this address.
+    Holds {
+        block: u32,
+        done: u32,
+        size: u32,
+        head: u64,
+        address: u32,
+    },
+}
+
+/// What a domain knows of the present phase. It forgets all of it when it arrives.
+pub struct Share {
+    /// The meanings of the colours, once it has loaded them.
+    pub colours: Option<Colours>,
+    /// The changed word, once domain 0 has loaded it in an odd phase.
+    pub changed: Option<u64>,
+    /// The word of the live blocks, once it has loaded or written it.
+    pub blocks: Option<u64>,
+    /// The word of the live words, likewise.
+    pub words: Option<u64>,
+    /// Whether domain 0 has rotated the colours in this phase.
+    pub rotated: bool,
+    /// Whether it has still to store that it darkened a block.
+    pub owes: bool,
+    /// The own places at which it has found what the phase asks.
+    pub sights: LinkedList<u32>,
+    /// The head that it found last.
+    pub glimpse: Option<Glimpse>,
+    pub scan: Scan,
+    /// The place of the pools before which it has been at each own place.
+    pub walk: Spot,
+    /// A pool that is its own.
+    pub tenure: Option<Tenure>,
+    /// The registers whose blocks are marked.
+    pub roots: LinkedList<u8>,
+    /// Blocks that are marked.
+    pub marked: LinkedList<u32>,
+}
+
 /// What contracts alone know of a domain.
 pub struct Seen {
     /// The history as far as the domain has seen it.
@@ -152,6 +214,8 @@ pub struct Seen {
     pub copying: Copying,
     /// The remembered fields that may still hold addresses of minor areas.
     pub remembered: LinkedList<u32>,
+    /// What it knows of the present phase.
+    pub share: Share,
 }
 
 /// A domain: what its token holds, and what contracts alone know of it.

@@ -1,0 +1,14 @@
+-- Heads of blocks, whatever their colour.
+use Rattle.std.proofs.Common.{◌≡◌, ℕ, ◌<◌, Bool, ◌∙◌, None}
+use Rattle.heap_model.specs.Fronts.{Shape, PlainShape, RawShape, EpheShape}
+use Rattle.heap_words.specs.Heads.{IsPackableHead}
+use Rattle.heap_rule.specs.Places.{Place, Paint, IsHead, IsPackableShape, head_of}
+
+-- the head of a block stays where its word does
+pub head_at : {word word' : ℕ} (paint : Paint) (p : Place) → word' ≡ word → IsHead paint p word → IsHead paint p word'
+head_at paint p same h = record { scanned = h.scanned; packs = same ∙ h.packs; tells = h.tells }
+
+pub packable_head : (shape : Shape) (colour : ℕ) (scanned : Bool) → colour < 3 → IsPackableShape shape → IsPackableHead (head_of None shape colour scanned)
+packable_head (PlainShape size tag) colour scanned few p = (p.0, p.1, p.2, few)
+packable_head (RawShape size tag) colour scanned few p = (p.0, p.1, p.2, few)
+packable_head (EpheShape keys) colour scanned few p = (p.0, p.1, few)

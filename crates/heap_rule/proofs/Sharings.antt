@@ -1,0 +1,177 @@
+-- What steps outside a collection of the major heap, and steps that leave its words, keep of it.
+use Rattle.std.proofs.Common.{◌≡◌, ℕ, true, false, IsTrue, List, sym, refl, ◌∙◌, subst, inl, inr, ⊎_elim}
+use Rattle.heap_model.specs.declared.state.State as model
+use Rattle.heap_model.specs.Graph.{Graph}
+use Rattle.cycle_laws.specs.Marks.{Marks}
+use Rattle.cycle_laws.specs.Shares.{Shares}
+use Rattle.heap_words.specs.declared.colours.Colours.{Colours}
+use Rattle.heap_words.specs.declared.value.Value.{Value}
+use Rattle.heap_rule.specs.declared.config.Config.{Config}
+use Rattle.heap_rule.specs.declared.view.DomainView.{DomainView}
+use Rattle.heap_rule.specs.declared.view.Share.{Share}
+use Rattle.heap_rule.specs.declared.phase.Kind.{Kind}
+use Rattle.heap_rule.specs.declared.phase.Kind.TheVariants.{Run, Promote, Reset, Roots, Mark, Rounds, Decide, Queued, Clean, Lasts, Sweep, Answer}
+use Rattle.heap_rule.specs.declared.phase.Stage.{Stage}
+use Rattle.heap_rule.specs.declared.phase.Stage.TheVariants.{In, Leads, Led, Gone}
+use Rattle.heap_rule.specs.Layout.{at_address, armed, colours, changed_word, live_blocks, live_words}
+use Rattle.heap_rule.specs.Phases.{Pause, Agree, AtStage, Staged}
+use Rattle.heap_rule.specs.Places.{Live}
+use Rattle.heap_rule.specs.Pools.{Holder, Tenancy, Takes}
+use Rattle.heap_rule.specs.Cycles.{Cycling, Cycled, Facts, IsBetween, IsSwept, Told, Leading, Telling, Knowing, KnowsBlocks, HasNoCycle, IsCollecting, IsIdle}
+use Rattle.heap_rule.proofs.PauseFacts.{agree}
+
+-- the words of a collection stay: whether one is under way, the colours, what was changed, and the live words
+pub record SameCycle (words words' : List ℕ) : Type 0 where
+  pub armed_same : armed words' ≡ armed words
+  pub colours_same : colours words' ≡ colours words
+  pub changed_same : changed_word words' ≡ changed_word words
+  pub blocks_same : live_blocks words' ≡ live_blocks words
+  pub words_same : live_words words' ≡ live_words words
+
+pub cycle_unmoved : (words : List ℕ) → SameCycle words words
+cycle_unmoved words = record { armed_same = refl; colours_same = refl; changed_same = refl; blocks_same = refl; words_same = refl }
+
+-- between two collections the facts are the same in each kind
+pub facts_between : (kind : Kind) (k : Config) (s : model.State) (live : Live) (t : Tenancy) (c : Cycling) (words : List ℕ) → HasNoCycle kind → Facts kind k s live t c words → IsBetween s c
+facts_between Run k s live t c words none f = f
+facts_between Promote k s live t c words none f = f
+facts_between Reset k s live t c words none f = f
+facts_between Roots k s live t c words none f = absurd none
+facts_between Mark k s live t c words none f = absurd none
+facts_between Rounds k s live t c words none f = absurd none
+facts_between Decide k s live t c words none f = absurd none
+facts_between Queued k s live t c words none f = absurd none
+facts_between Clean k s live t c words none f = absurd none
+facts_between Lasts k s live t c words none f = absurd none
+facts_between Sweep k s live t c words none f = absurd none
+facts_between Answer k s live t c words none f = absurd none
+
+pub between_facts : (kind : Kind) (k : Config) (s : model.State) (live : Live) (t : Tenancy) (c : Cycling) (words : List ℕ) → HasNoCycle kind → IsBetween s c → Facts kind k s live t c words
+between_facts Run k s live t c words none f = f
+between_facts Promote k s live t c words none f = f
+between_facts Reset k s live t c words none f = f
+between_facts Roots k s live t c words none f = absurd none
+between_facts Mark k s live t c words none f = absurd none
+between_facts Rounds k s live t c words none f = absurd none
+between_facts Decide k s live t c words none f = absurd none
+between_facts Queued k s live t c words none f = absurd none
+between_facts Clean k s live t c words none f = absurd none
+between_facts Lasts k s live t c words none f = absurd none
+between_facts Sweep k s live t c words none f = absurd none
+between_facts Answer k s live t c words none f = absurd none
+
+-- in an even phase the facts of its kind hold
+pub kind_now : (k : Config) (p : Pause) (c : Cycling) (x : DomainView) (kind : Kind) → x.seen.stage ≡ In kind → Staged p x → Told k p c.kind c.shares → c.kind ≡ kind
+kind_now k p c x kind is staged told = let a = (subst (AtStage p x.own.number x.own.arrivals) is staged.stage).1 in sym (told.even a.0 a.1).0 ∙ a.2
+
+-- outside a collection there is no garbage, whatever happens to blocks and pools
+pub cycle_between : (k : Config) (s s' : model.State) (live live' : Live) (p : Pause) (t t' : Tenancy) (c : Cycling) (words words' : List ℕ) → HasNoCycle c.kind → s'.mode ≡ s.mode → ((a : ℕ) → t'.garbage a ≡ t.garbage a)
+    → SameCycle words words' → Cycled k s live p t c words → Cycled k s' live' p t' c words'
+cycle_between k s s' live live' p t t' c words words' none mode garbage same y =
+    let b = facts_between c.kind k s live t c words none y.facts in
+    let nothing : (a : ℕ) → t'.garbage a ≡ false = (λ a. garbage a ∙ y.leaves.none b.unrotated a) in
+    let no_garbage : (a : ℕ) → IsTrue (t'.garbage a) → ⊥ = (λ a is. let e : false ≡ true = sym (nothing a) ∙ is in cc) in record {
+      armed_is = same.armed_same ∙ y.armed_is;
+      meanings = y.meanings;
+      colours_are = same.colours_same ∙ y.colours_are;
+      changed_is = same.changed_same ∙ y.changed_is;
+      facts = between_facts c.kind k s' live' t' c words' none record { mode = mode ∙ b.mode; unmarked = b.unmarked; unchanged = b.unchanged; unrotated = b.unrotated };
+      told = y.told;
+      leaves = record {
+        none = λ _ a. nothing a;
+        dead = λ a is. absurd (no_garbage a is);
+        head = λ a is. absurd (no_garbage a is);
+      };
+    }
+
+-- the live words are counted as before
+swept_words : (k : Config) (s : model.State) (live : Live) (holder : ℕ → Holder) (c : Cycling) (words words' : List ℕ) → SameCycle words words' → IsSwept k s live holder c words → IsSwept k s live holder c words'
+swept_words k s live holder c words words' same f = let n = f.counted in record {
+  facts = f.facts;
+  rotated = f.rotated;
+  all_marked = f.all_marked;
+  unchanged = f.unchanged;
+  counted = record { first = n.first; once = n.once; owned = n.owned; all = n.all; blocks_are = same.blocks_same ∙ n.blocks_are; words_are = same.words_same ∙ n.words_are };
+}
+
+facts_words : (kind : Kind) (k : Config) (s : model.State) (live : Live) (t : Tenancy) (c : Cycling) (words words' : List ℕ) → SameCycle words words' → Facts kind k s live t c words → Facts kind k s live t c words'
+facts_words Run k s live t c words words' same f = f
+facts_words Promote k s live t c words words' same f = f
+facts_words Reset k s live t c words words' same f = f
+facts_words Roots k s live t c words words' same f = f
+facts_words Mark k s live t c words words' same f = f
+facts_words Rounds k s live t c words words' same f = f
+facts_words Decide k s live t c words words' same f = f
+facts_words Queued k s live t c words words' same f = f
+facts_words Clean k s live t c words words' same f = f
+facts_words Lasts k s live t c words words' same f = f
+facts_words Sweep k s live t c words words' same f = record { swept = swept_words k s live t.holder c words words' same f.swept; sweep = f.sweep; all_counted = f.all_counted }
+facts_words Answer k s live t c words words' same f = record { swept = swept_words k s live t.holder c words words' same f.swept; clean = f.clean; all_counted = f.all_counted }
+
+-- a step that leaves the words of a collection and the heads of garbage
+pub cycle_words : (k : Config) (s : model.State) (live : Live) (p : Pause) (t : Tenancy) (c : Cycling) (words words' : List ℕ) → SameCycle words words' → ((a : ℕ) → at_address k words' a ≡ at_address k words a)
+    → Cycled k s live p t c words → Cycled k s live p t c words'
+cycle_words k s live p t c words words' same heap y = record {
+  armed_is = same.armed_same ∙ y.armed_is;
+  meanings = y.meanings;
+  colours_are = same.colours_same ∙ y.colours_are;
+  changed_is = same.changed_same ∙ y.changed_is;
+  facts = facts_words c.kind k s live t c words words' same y.facts;
+  told = y.told;
+  leaves = record { none = y.leaves.none; dead = y.leaves.dead; head = λ a is. let h = y.leaves.head a is in (h.0, h.1, heap a ∙ h.2) };
+}
+
+-- what a domain has loaded of these words it knows still
+pub leading_words : (c : Cycling) (words words' : List ℕ) (d : ℕ) (stage : Stage) (share : Share) → SameCycle words words' → Leading c words d stage share → Leading c words' d stage share
+leading_words c words words' d stage share same l = record {
+  changed = l.changed;
+  found_blocks = λ v e. let h = l.found_blocks v e in (h.0, same.blocks_same ∙ h.1);
+  found_words = λ v e. let h = l.found_words v e in (h.0, same.words_same ∙ h.1);
+  rotated = l.rotated;
+  turned = l.turned;
+}
+
+pub knowing_words : (k : Config) (live : Live) (holder : ℕ → Holder) (graph : Graph) (marks : Marks) (words words' : List ℕ) (d : ℕ) (registers : List Value) (share : Share) → ((a : ℕ) → at_address k words' a ≡ at_address k words a)
+    → Knowing k live holder graph marks words d registers share → Knowing k live holder graph marks words' d registers share
+knowing_words k live holder graph marks words words' d registers share heap n = record {
+  glimpse = λ g p e lives. ⊎_elim (λ (h : at_address k words g.address ≡ g.word). inl (heap g.address ∙ h)) (λ h. inr h) (n.glimpse g p e lives);
+  scan = n.scan;
+  walked = n.walked;
+  tenure = n.tenure;
+  rooted = n.rooted;
+  marked = n.marked;
+}
+
+pub knows_words : (k : Config) (live : Live) (holder : ℕ → Holder) (graph : Graph) (marks : Marks) (words words' : List ℕ) (d : ℕ) (registers : List Value) (stage : Stage) (share : Share) → ((a : ℕ) → at_address k words' a ≡ at_address k words a)
+    → KnowsBlocks k live holder graph marks words d registers stage share → KnowsBlocks k live holder graph marks words' d registers stage share
+knows_words k live holder graph marks words words' d registers stage share heap n = ⊎_elim (λ (h : IsIdle share). inl h)
+    (λ (h : IsCollecting stage × Knowing k live holder graph marks words d registers share). inr (h.0, knowing_words k live holder graph marks words words' d registers share heap h.1)) n
+
+-- outside a collection nobody is at a block
+collects_none : (kind : Kind) → HasNoCycle kind → (y : Stage) → Agree (In kind) y → IsCollecting y → ⊥
+collects_none kind none (In v) a l = l (subst HasNoCycle a none)
+collects_none kind none (Leads v) a l = l
+collects_none kind none (Led v) a l = l
+collects_none kind none (Gone v) a l = l
+
+pub idle_beside : (k : Config) (live : Live) (holder : ℕ → Holder) (graph : Graph) (marks : Marks) (words : List ℕ) (t : Pause) (x z : DomainView) (kind : Kind) → HasNoCycle kind → x.seen.stage ≡ In kind → Staged t x → Staged t z
+    → KnowsBlocks k live holder graph marks words z.own.number z.own.registers z.seen.stage z.seen.share → IsIdle z.seen.share
+idle_beside k live holder graph marks words t x z kind none is sx sz n = ⊎_elim (λ (h : IsIdle z.seen.share). h)
+    (λ (h : IsCollecting z.seen.stage × Knowing k live holder graph marks words z.own.number z.own.registers z.seen.share).
+    absurd (collects_none kind none z.seen.stage (agree t x.own.number z.own.number x.own.arrivals z.own.arrivals (In kind) z.seen.stage (subst (AtStage t x.own.number x.own.arrivals) is sx.stage) sz.stage) h.0)) n
+
+-- and so does a domain that is in a phase without a collection itself
+pub idle_in : (k : Config) (live : Live) (holder : ℕ → Holder) (graph : Graph) (marks : Marks) (words : List ℕ) (x : DomainView) (kind : Kind) → HasNoCycle kind → x.seen.stage ≡ In kind
+    → KnowsBlocks k live holder graph marks words x.own.number x.own.registers x.seen.stage x.seen.share → IsIdle x.seen.share
+idle_in k live holder graph marks words x kind none is n = ⊎_elim (λ (h : IsIdle x.seen.share). h)
+    (λ (h : IsCollecting x.seen.stage × Knowing k live holder graph marks words x.own.number x.own.registers x.seen.share). absurd ((subst IsCollecting is h.0) none)) n
+
+pub telling_as : (means : Colours) (w : Shares) (d d' : ℕ) (share share' : Share) → d' ≡ d → share' ≡ share → Telling means w d share → Telling means w d' share'
+telling_as means w d d' share share' number same t = subst (λ (z : ℕ × Share). Telling means w z.0 z.1) (λ i. (sym number i, sym same i)) t
+
+pub leading_as : (c : Cycling) (words : List ℕ) (d d' : ℕ) (stage stage' : Stage) (share share' : Share) → d' ≡ d → stage' ≡ stage → share' ≡ share → Leading c words d stage share → Leading c words d' stage' share'
+leading_as c words d d' stage stage' share share' number stands same l = subst (λ (z : ℕ × Stage × Share). Leading c words z.0 z.1 z.2) (λ i. (sym number i, sym stands i, sym same i)) l
+
+-- a domain in a phase that takes blocks is in one without a collection
+pub takes_kind : (stage : Stage) → Takes stage → (kind : Kind) × HasNoCycle kind × (stage ≡ In kind)
+takes_kind stage takes = ⊎_elim (λ (h : stage ≡ In Run). (Run, tt, h)) (λ (h : stage ≡ In Promote). (Promote, tt, h)) takes

@@ -1,0 +1,297 @@
+-- A collection of the major heap in the rule: what is marked, how far the domains are, and what each of them knows in a phase of it.
+use Rattle.std.specs.Prelude.{◌≡◌, ◌≢◌, ℕ, zero, suc, ◌+◌, ◌*◌, ◌/◌, ◌%◌, ◌<◌, ◌⊎◌, ◌==◌, ◌||◌, nat_le, Bool, true, false, cond, IsTrue, List, [], ◌∷◌, length, slice_get, sum_by, Option, Some, None}
+use Rattle.std.specs.List.{list_any}
+use Rattle.heap_model.specs.declared.label.Label.{Label}
+use Rattle.heap_model.specs.declared.command.Command.{Command}
+use Rattle.heap_model.specs.declared.command.Command.TheVariants.{PutInt, Copy, Forget, Alloc, AllocMaj, Load, Store, Poll, Minor, Major, FullMajor}
+use Rattle.heap_model.specs.declared.entry.Entry.{Entry}
+use Rattle.heap_model.specs.declared.entry.Entry.TheVariants.{Command as CommandOf, End, Cut, Seal, Collected, Done}
+use Rattle.heap_model.specs.declared.graph.Value.{Value}
+use Rattle.heap_model.specs.declared.graph.Value.TheVariants.{Block}
+use Rattle.heap_model.specs.declared.graph.Node.TheVariants.{Plain}
+use Rattle.heap_model.specs.declared.state.State as model
+use Rattle.heap_model.specs.declared.state.Mode.TheVariants.{Open}
+use Rattle.heap_model.specs.Graph.{Graph, node_at, has_label, has_no_repeats, words_at}
+use Rattle.heap_model.specs.Fronts.{Shape}
+use Rattle.cycle_laws.specs.Counting.{added_up}
+use Rattle.cycle_laws.specs.Cycle as laws
+use Rattle.cycle_laws.specs.Marks.{Marks, fields_of}
+use Rattle.cycle_laws.specs.Progress.{FieldsDone}
+use Rattle.cycle_laws.specs.Shares.{Layout, Shares, AllArrived}
+use Rattle.cycle_laws.specs.Sweeping.{InSweep}
+use Rattle.heap_words.specs.declared.colours.Colours.{Colours}
+use Rattle.heap_words.specs.ColourWords.{IsPermutation, colours_word}
+use Rattle.heap_words.specs.declared.value.Value as held
+use Rattle.heap_words.specs.declared.value.Value.TheVariants.{Ref}
+use Rattle.heap_rule.specs.declared.config.Config.{Config}
+use Rattle.heap_rule.specs.declared.phase.Kind.{Kind}
+use Rattle.heap_rule.specs.declared.phase.Kind.TheVariants.{Run, Promote, Reset, Roots, Mark, Rounds, Decide, Queued, Clean, Lasts, Sweep, Answer}
+use Rattle.heap_rule.specs.declared.phase.Stage.{Stage}
+use Rattle.heap_rule.specs.declared.phase.Stage.TheVariants.{In}
+use Rattle.heap_rule.specs.declared.view.Glimpse.{Glimpse}
+use Rattle.heap_rule.specs.declared.view.Scan.{Scan}
+use Rattle.heap_rule.specs.declared.view.Scan.TheVariants.{Idle, Reads, Holds}
+use Rattle.heap_rule.specs.declared.view.Share.{Share}
+use Rattle.heap_rule.specs.declared.view.Tenure.{Tenure}
+use Rattle.heap_rule.specs.Changes.{value_at}
+use Rattle.heap_rule.specs.Layout.{at_address, armed, colours, changed_word, live_blocks, live_words}
+use Rattle.heap_rule.specs.Phases.{Pause, flag}
+use Rattle.heap_rule.specs.Places.{Place, Live, Paint, HeadIs, IsHeadOf}
+use Rattle.heap_rule.specs.Pools.{Tenancy, Holder, nobody, drawn, owned, size_of, blocks_of, place_in, IsBefore, IsLeading}
+use Rattle.heap_rule.specs.Views.{fresh_share}
+
+-- the commands so far: none registers a finaliser, and none makes an ephemeron or a raw block
+abbrev pub IsPlainCommand : Command → Type 0
+IsPlainCommand (PutInt dst z) = Unit {0}
+IsPlainCommand (Copy dst src) = Unit {0}
+IsPlainCommand (Forget dst) = Unit {0}
+IsPlainCommand (Alloc dst tag fields) = Unit {0}
+IsPlainCommand (AllocMaj dst tag fields) = Unit {0}
+IsPlainCommand (Load dst src i) = Unit {0}
+IsPlainCommand (Store block i item) = Unit {0}
+IsPlainCommand Poll = Unit {0}
+IsPlainCommand Minor = Unit {0}
+IsPlainCommand Major = Unit {0}
+IsPlainCommand FullMajor = Unit {0}
+IsPlainCommand _ = ⊥
+
+-- and the entries: nothing is queued, emptied or run
+abbrev pub IsPlainEntry : Entry → Type 0
+IsPlainEntry (CommandOf d c true) = Unit {0}
+IsPlainEntry (CommandOf d c false) = IsPlainCommand c
+IsPlainEntry (End d) = Unit {0}
+IsPlainEntry Cut = Unit {0}
+IsPlainEntry Seal = Unit {0}
+IsPlainEntry Collected = Unit {0}
+IsPlainEntry Done = Unit {0}
+IsPlainEntry _ = ⊥
+
+abbrev pub AllPlain : List Entry → Type 0
+AllPlain [] = Unit {0}
+AllPlain (e ∷ h) = IsPlainEntry e × AllPlain h
+
+-- which blocks each domain has counted, and who has added them to the live blocks and to the live words
+pub record Counts : Type 0 where
+  pub own : ℕ → List Label
+  pub blocks : ℕ → Bool
+  pub words : ℕ → Bool
+
+-- what exists of a collection in proofs alone, with the kind of the phase whose facts hold now
+pub record Cycling : Type 0 where
+  pub kind : Kind
+  -- whether it began in this pause, and whether it is past its Cut
+  pub whole : Bool
+  pub pass : laws.Pass
+  pub paint : Paint
+  pub shares : Shares
+  -- what was marked when the present Rounds began
+  pub before : Label → Bool
+  -- how many registrations a domain has left to look at
+  pub left : ℕ → ℕ
+  -- whether the colours were rotated since the marking ended
+  pub rotated : Bool
+  pub counts : Counts
+
+-- which label's block lies at a place of the pools
+abbrev pub label_in : Option Place → Option Label
+label_in None = None
+label_in (Some p) = Some p.label
+
+abbrev pub label_at : Config → Live → ℕ → Option Label
+label_at k live a = cond (nat_le a (k.pools * 4096)) (label_in (live a)) None
+
+-- in whose pool a place for a block lies: it begins at a multiple of the pool's class
+abbrev pub starts_in : Holder → ℕ → Option ℕ
+starts_in nobody rest = None
+starts_in (drawn d) rest = None
+starts_in (owned d c) rest = cond (rest % size_of c == 0) (Some d) None
+
+abbrev pub owner_at : (ℕ → Holder) → ℕ → Option ℕ
+owner_at holder zero = None
+owner_at holder (suc a) = starts_in (holder (a / 4096)) (a % 4096)
+
+abbrev pub layout_of : Config → Live → (ℕ → Holder) → Layout
+layout_of k live holder = record { live = label_at k live; owner = owner_at holder }
+
+-- the collection as its laws have it
+abbrev pub cycle_of : Config → Live → (ℕ → Holder) → Cycling → laws.Cycle
+cycle_of k live holder c = record { whole = c.whole; marks = c.paint.marks; layout = layout_of k live holder; shares = c.shares; before = c.before; left = c.left }
+
+-- between two collections nothing is marked, and no collector's entry is open
+pub record IsBetween (s : model.State) (c : Cycling) : Type 0 where
+  pub mode : s.mode ≡ Open
+  pub unmarked : (l : Label) → c.paint.marks.marked l ≡ false
+  pub unchanged : c.shares.changed ≡ false
+  pub unrotated : c.rotated ≡ false
+
+-- in most phases of a collection the changed word is 0, and the colours aren't rotated yet
+pub record IsPlain (c : Cycling) : Type 0 where
+  pub unchanged : c.shares.changed ≡ false
+  pub unrotated : c.rotated ≡ false
+
+-- the live words are what those domains have added that have counted: each its own blocks, each once
+pub record Counted (n : ℕ) (y : Layout) (g : Graph) (marked : Label → Bool) (c : Counts) (words : List ℕ) : Type 0 where
+  pub first : (d : ℕ) → IsTrue (c.words d) → IsTrue (c.blocks d)
+  pub once : (d : ℕ) → IsTrue (c.blocks d) → IsTrue (has_no_repeats (c.own d))
+  pub owned : (d : ℕ) (l : Label) → IsTrue (c.blocks d) → IsTrue (has_label (c.own d) l) → (a : ℕ) × (y.live a ≡ Some l) × (y.owner a ≡ Some d) × IsTrue (marked l)
+  pub all : (d a : ℕ) (l : Label) → IsTrue (c.blocks d) → y.live a ≡ Some l → y.owner a ≡ Some d → IsTrue (marked l) → IsTrue (has_label (c.own d) l)
+  pub blocks_are : live_blocks words ≡ added_up c.blocks (λ d. length (c.own d)) n
+  pub words_are : live_words words ≡ added_up c.words (λ d. sum_by (words_at g) (c.own d)) n
+
+-- after the rotation every block that lives was marked
+abbrev pub AllMarked : Live → (Label → Bool) → Type 0
+AllMarked live marked = (a : ℕ) (p : Place) → live a ≡ Some p → IsTrue (marked p.label)
+
+-- what holds from the rotation on: all that lives was marked, and the live words are what was counted
+pub record IsSwept (k : Config) (s : model.State) (live : Live) (holder : ℕ → Holder) (c : Cycling) (words : List ℕ) : Type 0 where
+  pub facts : laws.InPhase laws.Sweep k.domains s (cycle_of k live holder c)
+  pub rotated : IsTrue c.rotated
+  pub all_marked : AllMarked live c.paint.marks.marked
+  pub unchanged : c.shares.changed ≡ false
+  pub counted : Counted k.domains (layout_of k live holder) s.graph c.paint.marks.marked c.counts words
+
+-- while blocks are freed and counted, whoever has arrived has been at all its places, and has added what it counted
+pub record Sweeping (k : Config) (s : model.State) (live : Live) (t : Tenancy) (c : Cycling) (words : List ℕ) : Type 0 where
+  pub swept : IsSwept k s live t.holder c words
+  pub sweep : InSweep k.domains (owner_at t.holder) t.garbage c.shares.seen c.shares.arrived
+  pub all_counted : (d : ℕ) → IsTrue (c.shares.arrived d) → IsTrue (c.counts.words d)
+
+-- where a collection is answered no garbage is left, and all have counted
+pub record Answering (k : Config) (s : model.State) (live : Live) (t : Tenancy) (c : Cycling) (words : List ℕ) : Type 0 where
+  pub swept : IsSwept k s live t.holder c words
+  pub clean : (a : ℕ) → t.garbage a ≡ false
+  pub all_counted : (d : ℕ) → d < k.domains → IsTrue (c.counts.words d)
+
+-- what holds in a phase of a kind
+abbrev pub Facts : Kind → Config → model.State → Live → Tenancy → Cycling → List ℕ → Type 0
+Facts Run k s live t c words = IsBetween s c
+Facts Promote k s live t c words = IsBetween s c
+Facts Reset k s live t c words = IsBetween s c
+Facts Roots k s live t c words = laws.InPhase (laws.Roots laws.First) k.domains s (cycle_of k live t.holder c) × IsPlain c
+Facts Mark k s live t c words = laws.InPhase (laws.Mark c.pass) k.domains s (cycle_of k live t.holder c) × (c.rotated ≡ false)
+Facts Rounds k s live t c words = laws.InPhase (laws.Rounds c.pass) k.domains s (cycle_of k live t.holder c) × (c.rotated ≡ false)
+Facts Decide k s live t c words = laws.InPhase laws.Decide k.domains s (cycle_of k live t.holder c) × IsPlain c
+Facts Queued k s live t c words = laws.InPhase (laws.Roots laws.Second) k.domains s (cycle_of k live t.holder c) × IsPlain c
+Facts Clean k s live t c words = laws.InPhase laws.Clean k.domains s (cycle_of k live t.holder c) × IsPlain c
+Facts Lasts k s live t c words = laws.InPhase laws.Lasts k.domains s (cycle_of k live t.holder c) × (c.shares.changed ≡ false) × (IsTrue c.rotated → AllMarked live c.paint.marks.marked)
+Facts Sweep k s live t c words = Sweeping k s live t c words
+Facts Answer k s live t c words = Answering k s live t c words
+
+-- whether a domain has arrived, in an even phase
+pub record ArrivedAs (p : Pause) (w : Shares) (d : ℕ) : Type 0 where
+  pub waits : p.arrived d ≡ p.phase → w.arrived d ≡ false
+  pub gone : p.arrived d ≡ p.phase + 1 → w.arrived d ≡ true
+
+-- a domain has done nothing in the phase
+pub record IsStart (w : Shares) (d : ℕ) : Type 0 where
+  pub waits : w.arrived d ≡ false
+  pub paid : w.owes d ≡ false
+  pub blind : w.seen d ≡ (λ a. false)
+
+-- the pauses tell which kind's facts hold, and who has arrived: in an even phase those of its kind, in an odd one those of the kind before it
+-- until the next is named, and then those of that
+pub record Told (k : Config) (p : Pause) (kind : Kind) (w : Shares) : Type 0 where
+  pub even : (j : ℕ) → p.phase ≡ j * 2 → (p.kinds j ≡ kind) × ((d : ℕ) → d < k.domains → ArrivedAs p w d)
+  pub odd : (j : ℕ) → p.phase ≡ j * 2 + 1 → p.led ≡ false → (p.kinds j ≡ kind) × AllArrived k.domains w
+  pub led : (j : ℕ) → p.phase ≡ j * 2 + 1 → p.led ≡ true → (p.kinds (j + 1) ≡ kind) × ((d : ℕ) → IsStart w d)
+
+-- the head of an unmarked block is there still, under the colour that means garbage after the rotation
+abbrev pub IsGarbageHead : Paint → ℕ → Type 0
+IsGarbageHead paint word = (shape : Shape) × (scanned : Bool) × HeadIs None shape paint.colours.garbage scanned word
+
+-- garbage is no block that lives, and there is none before the rotation
+pub record Leaves (k : Config) (live : Live) (garbage : ℕ → Bool) (c : Cycling) (words : List ℕ) : Type 0 where
+  pub none : c.rotated ≡ false → (a : ℕ) → garbage a ≡ false
+  pub dead : (a : ℕ) → IsTrue (garbage a) → live a ≡ None
+  pub head : (a : ℕ) → IsTrue (garbage a) → IsGarbageHead c.paint (at_address k words a)
+
+-- Cycle: the control words tell it, and the facts of the phase hold
+pub record Cycled (k : Config) (s : model.State) (live : Live) (p : Pause) (t : Tenancy) (c : Cycling) (words : List ℕ) : Type 0 where
+  pub armed_is : armed words ≡ 0
+  pub meanings : IsPermutation c.paint.colours
+  pub colours_are : colours words ≡ colours_word c.paint.colours
+  pub changed_is : changed_word words ≡ flag c.shares.changed
+  pub facts : Facts c.kind k s live t c words
+  pub told : Told k p c.kind c.shares
+  pub leaves : Leaves k live t.garbage c words
+
+-- whether a domain has been at a place
+abbrev pub seen_by : List ℕ → ℕ → Bool
+seen_by [] b = false
+seen_by (a ∷ rest) b = b == a || seen_by rest b
+
+-- who is at no block knows of the colours and the control words alone
+abbrev pub IsIdle : Share → Type 0
+IsIdle share = share ≡ record fresh_share { colours = share.colours; changed = share.changed; blocks = share.blocks; words = share.words; rotated = share.rotated }
+
+-- Cycle, of one domain: until it arrives its view tells its share, and then it has forgotten it. Domain 0 alone knows of the colours in an odd phase
+pub record Telling (means : Colours) (w : Shares) (d : ℕ) (share : Share) : Type 0 where
+  pub owes : w.arrived d ≡ false → w.owes d ≡ share.owes
+  pub seen : w.arrived d ≡ false → w.seen d ≡ seen_by share.sights
+  pub fresh : w.arrived d ≡ true → IsIdle share
+  pub forgotten : w.arrived d ≡ true → d ≢ 0 → share.colours ≡ None
+  pub colours : (known : Colours) → share.colours ≡ Some known → known ≡ means
+
+-- what a domain has loaded and done at the control words of a collection
+pub record Leading (c : Cycling) (words : List ℕ) (d : ℕ) (stage : Stage) (share : Share) : Type 0 where
+  pub changed : (v : ℕ) → share.changed ≡ Some v → (d ≡ 0) × IsLeading stage × (v ≡ flag c.shares.changed)
+  pub found_blocks : (v : ℕ) → share.blocks ≡ Some v → (IsLeading stage ⊎ (stage ≡ In Answer)) × (live_blocks words ≡ v)
+  pub found_words : (v : ℕ) → share.words ≡ Some v → (IsLeading stage ⊎ (stage ≡ In Answer)) × (live_words words ≡ v)
+  pub rotated : d ≡ 0 → c.kind ≡ Lasts → c.rotated ≡ share.rotated
+  pub turned : share.rotated ≡ true → IsLeading stage
+
+-- how far a domain is in a block: its first fields are done
+pub record Scanned (live : Live) (graph : Graph) (marks : Marks) (block done size head : ℕ) : Type 0 where
+  pub place : Place
+  pub lives : live block ≡ Some place
+  pub marked : IsTrue (marks.marked place.label)
+  pub tag : ℕ
+  pub fields : List Value
+  pub node : (node_at graph place.label ≡ Some (Plain tag fields)) ⊎ ((fields ≡ []) × (fields_of (node_at graph place.label) ≡ []))
+  pub head_is : IsHeadOf place.shape head
+  pub size_is : length fields ≡ size
+  pub through : FieldsDone marks.marked fields done
+
+-- and the next refers to the block at an address
+pub record Refers (live : Live) (graph : Graph) (marks : Marks) (block done size head address : ℕ) : Type 0 where
+  pub reads : Scanned live graph marks block done size head
+  pub target : Place
+  pub there : live address ≡ Some target
+  pub holds : slice_get reads.fields done ≡ Some (Block target.label)
+
+abbrev pub Scans : Live → Graph → Marks → Scan → Type 0
+Scans live graph marks Idle = Unit {0}
+Scans live graph marks (Reads block done size head) = Scanned live graph marks block done size head
+Scans live graph marks (Holds block done size head address) = Refers live graph marks block done size head address
+
+-- a block lives at an address, and it is marked
+abbrev pub IsMarkedAt : Live → (Label → Bool) → ℕ → Type 0
+IsMarkedAt live marked a = (p : Place) × (live a ≡ Some p) × IsTrue (marked p.label)
+
+-- What a domain knows of blocks in a phase: the head that it found is still there, or its block was marked since; it has been at its own
+-- places as far as it has walked; the blocks of the registers and of the list that it has looked at are marked; and the ones that it has
+-- counted are its own, each once
+pub record Knowing (k : Config) (live : Live) (holder : ℕ → Holder) (graph : Graph) (marks : Marks) (words : List ℕ) (d : ℕ) (registers : List held.Value) (share : Share) : Type 0 where
+  pub glimpse : (g : Glimpse) (p : Place) → share.glimpse ≡ Some g → live g.address ≡ Some p → (at_address k words g.address ≡ g.word) ⊎ IsTrue (marks.marked p.label)
+  pub scan : Scans live graph marks share.scan
+  pub walked : (q c slot : ℕ) → holder q ≡ owned d c → slot < blocks_of c → IsBefore q slot share.walk → IsTrue (seen_by share.sights (place_in q c slot))
+  pub tenure : (t : Tenure) → share.tenure ≡ Some t → holder t.pool ≡ owned d t.class
+  pub rooted : (r a : ℕ) (p : Place) → IsTrue (list_any (λ q. q == r) share.roots) → value_at registers r ≡ Ref a → live a ≡ Some p → IsTrue (marks.marked p.label)
+  pub marked : (a : ℕ) → IsTrue (seen_by share.marked a) → IsMarkedAt live marks.marked a
+
+-- no collection of the major heap is under way in a phase of this kind
+abbrev pub HasNoCycle : Kind → Type 0
+HasNoCycle Run = Unit {0}
+HasNoCycle Promote = Unit {0}
+HasNoCycle Reset = Unit {0}
+HasNoCycle _ = ⊥
+
+-- a domain does its share of a collection of the major heap
+abbrev pub IsCollecting : Stage → Type 0
+IsCollecting (In kind) = HasNoCycle kind → ⊥
+IsCollecting _ = ⊥
+
+-- whoever doesn't is at no block
+abbrev pub KnowsBlocks : Config → Live → (ℕ → Holder) → Graph → Marks → List ℕ → ℕ → List held.Value → Stage → Share → Type 0
+KnowsBlocks k live holder graph marks words d registers stage share = IsIdle share ⊎ (IsCollecting stage × Knowing k live holder graph marks words d registers share)
+
