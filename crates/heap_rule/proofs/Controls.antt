@@ -28,7 +28,8 @@ use Rattle.heap_rule.proofs.Holders.{Agrees, agrees_same, grid_heap, same_self, 
 use Rattle.heap_rule.proofs.Keeps.{Words, mine, my_good, remakes, knows_front, phases_words, pools_words, lists_same, resting_lists, owes_as, hunter_as, room_words, opened_words}
 use Rattle.heap_rule.proofs.Sharings.{SameCycle, cycle_words, leading_words, knows_words}
 use Rattle.heap_rule.specs.declared.view.Share.{Share}
-use Rattle.heap_rule.specs.Cycles.{Cycling, Cycled, Telling, Leading, KnowsBlocks}
+use Rattle.heap_rule.specs.Cycles.{Cycling, Cycled, Telling, Leading, KnowsBlocks, Adds}
+use Rattle.heap_rule.specs.Fullness.{Homes, Fullness}
 
 -- all words stay but the first four, want, barrier, plan and changed, and the ended word
 abbrev pub Untouched : List ℕ → List ℕ → Type 0
@@ -109,6 +110,7 @@ sharing_words k all all' words words' z log live holder cycling same heap sh = r
   leading = subst (λ (c : Cycling). Leading c words' z.own.number z.seen.stage z.seen.share) (sym cycling) (leading_words all.cycling words words' z.own.number z.seen.stage z.seen.share same sh.leading);
   knows = subst (λ (m : List Entry × Live × (ℕ → Holder) × Cycling). KnowsBlocks k m.1 m.2 (state_of k m.0).graph m.3.paint.marks words' z.own.number z.own.registers z.seen.stage z.seen.share)
       (λ i. (sym log i, sym live i, sym holder i, sym cycling i)) (knows_words k all.live all.tenancy.holder (state_of k all.log).graph all.cycling.paint.marks words words' z.own.number z.own.registers z.seen.stage z.seen.share heap sh.knows);
+  adds = subst (λ (m : Live × Cycling). Adds m.0 m.1 z.own.number z.seen.share) (λ i. (sym live i, sym cycling i)) sh.adds;
 }
 
 -- the heap's words stay
@@ -168,7 +170,7 @@ grid_stock k t stock live words g = record { lots = g.lots; places = g.places; s
 
 pub hunter_stock : (k : Config) (t : Tenancy) (stock : Stock) (words : List ℕ) (z : DomainView) → SameStock t.stock stock z.own.number → Hunter k t words z → Hunter k (record t { stock = stock }) words z
 hunter_stock k t stock words z same h = hunter_agree k t (record t { stock = stock }) words words (agrees_same k words) z (let c : ℕ = cursor words in let l : c ≤ c = omega arith in l)
-    record { drawn_to = λ q e. e; drawn_from = λ q e. e; owned_to = λ q c e. e; owned_from = λ q c e. e; asking_same = refl; prepared_to = λ a e. e; prepared_from = λ a e. e; stock_same = same } h
+    record { drawn_to = λ q e. e; drawn_from = λ q e. e; owned_to = λ q c e. e; owned_from = λ q c e. e; asking_same = refl; prepared_to = λ a e. e; prepared_from = λ a e. e; fresh_same = λ c. refl; stock_same = same } h
 
 -- a domain's view after a step of a pause: what is told of it but its number, its registers and its pools
 pub record Move : Type 0 where
@@ -194,16 +196,17 @@ no_move x = record { arrivals = x.own.arrivals; pending = x.own.pending; front =
 
 module _ (k : Config) (s : Words) (r : Rule k s) (id : ℕ) (hist : List Entry) (x : DomainView) (at : get_elem? s.views id ≡ some (one k hist x)) where
   -- what there is besides the words after a step of a pause
-  abbrev pub turned : Pause → Tenancy → Cycling → Account
-  turned pause' t' c' = record r.account { pause = pause'; tenancy = t'; cycling = c' }
+  abbrev pub turned : Pause → Tenancy → Cycling → Homes → Account
+  turned pause' t' c' homes' = record r.account { pause = pause'; tenancy = t'; cycling = c'; homes = homes' }
 
   -- What a step of a pause owes: no entry stands, no block changes, and the phases may turn. The domain's list of copies may be emptied
-  pub record Turns (y : DomainView) (pause' : Pause) (stock' : Stock) (c' : Cycling) (words' : List ℕ) : Type 0 where
+  pub record Turns (y : DomainView) (pause' : Pause) (stock' : Stock) (c' : Cycling) (homes' : Homes) (words' : List ℕ) : Type 0 where
+    pub full : Fullness k r.account.log r.account.live r.account.tenancy.holder r.account.tenancy.fresh homes' c'.kind
     pub paint : c'.paint ≡ r.account.cycling.paint
     pub cycle : Cycled k (state_of k r.account.log) r.account.live pause' (record r.account.tenancy { stock = stock' }) c' words'
-    pub sharing : Sharing k (turned pause' (record r.account.tenancy { stock = stock' }) c') words' y.own.number y.own.registers y.seen.stage y.seen.share
+    pub sharing : Sharing k (turned pause' (record r.account.tenancy { stock = stock' }) c' homes') words' y.own.number y.own.registers y.seen.stage y.seen.share
     pub sharings : (z : DomainView) → z.own.number < k.domains → z.own.number ≢ x.own.number → Good k r.account s.words z
-        → Sharing k (turned pause' (record r.account.tenancy { stock = stock' }) c') words' z.own.number z.own.registers z.seen.stage z.seen.share
+        → Sharing k (turned pause' (record r.account.tenancy { stock = stock' }) c' homes') words' z.own.number z.own.registers z.seen.stage z.seen.share
     pub untouched : Untouched s.words words'
     pub front : IsFrontOf x.own.number r.account.log y.seen.front
     pub phases : Phases k pause' words'
@@ -231,20 +234,21 @@ module _ (k : Config) (s : Words) (r : Rule k s) (id : ℕ) (hist : List Entry) 
     pub others_took_back : (z : DomainView) → Staged r.account.pause z → TookBack s.words z → TookBack words' z
     pub set_back : HasSetBack y → cursor words' ≤ limit_of k (listed words')
 
-  pub turns : (m : Move) (pause' : Pause) (stock' : Stock) (c' : Cycling) (words' : List ℕ) → let y : DomainView = moved_to x m in Turns y pause' stock' c' words'
+  pub turns : (m : Move) (pause' : Pause) (stock' : Stock) (c' : Cycling) (homes' : Homes) (words' : List ℕ) → let y : DomainView = moved_to x m in Turns y pause' stock' c' homes' words'
       → Rule k record { words = words'; homes = s.homes; views = set s.views id (one k hist y) }
-  turns m pause' stock' c' words' o =
+  turns m pause' stock' c' homes' words' o =
       let y : DomainView = moved_to x m in
       let g = my_good k s r id hist x at in
       let p = making_untouched k s.words words' x o.untouched g.making in
       let t' : Tenancy = record r.account.tenancy { stock = stock' } in
       let grid1 = grid_untouched k r.account.tenancy r.account.live s.words words' o.untouched r.whole.grid in
       let pools1 = pools_untouched k r.account.tenancy s.words words' o.untouched r.whole.pools in
-      remakes k s r id hist x at y (turned pause' t' c') words'
+      remakes k s r id hist x at y (turned pause' t' c' homes') words'
       record {
         wide = o.untouched.0 ∙ r.whole.wide;
         legal = r.whole.legal;
         plain = r.whole.plain;
+        full = o.full;
         queues = r.whole.queues;
         found = subst (λ (paint : Paint). AllFound k paint r.account.live (state_of k r.account.log).graph words') (sym o.paint) (found_untouched k r.account.cycling.paint r.account.live (state_of k r.account.log).graph s.words words' o.untouched r.whole.found);
         placed = r.whole.placed;
@@ -307,7 +311,8 @@ module _ (k : Config) (s : Words) (r : Rule k s) (id : ℕ) (hist : List Entry) 
       let t = r.account.tenancy in
       let counts = counts_untouched s.words words' u in
       let same : SameCycle s.words words' = cycle_untouched s.words words' u changed in
-      let heap : (a : ℕ) → at_address k words' a ≡ at_address k s.words a = heap_untouched k s.words words' u in turns m r.account.pause t.stock r.account.cycling words' record {
+      let heap : (a : ℕ) → at_address k words' a ≡ at_address k s.words a = heap_untouched k s.words words' u in turns m r.account.pause t.stock r.account.cycling r.account.homes words' record {
+        full = r.whole.full;
         paint = refl;
         cycle = cycle_words k (state_of k r.account.log) r.account.live r.account.pause t r.account.cycling s.words words' same heap r.whole.cycle;
         sharing = sharing_words k r.account r.account s.words words' x refl refl refl refl same heap g.sharing;

@@ -35,6 +35,9 @@ use Rattle.heap_rule.proofs.Lists.{got_below}
 use Rattle.heap_rule.proofs.Keeps.{Words, my_good, remakes, knows_front, room_unused, copies_settled, no_owing, nothing_known}
 use Rattle.heap_rule.proofs.Controls.{Move, Untouched, found_untouched, making_untouched, pools_untouched, grid_untouched, hunter_untouched, resting_untouched, low_untouched, pools_stock, grid_stock, moved_to}
 use Rattle.heap_rule.specs.Cycles.{Cycling, Cycled}
+use Rattle.heap_rule.proofs.FullnessLemmas.{full_less, full_kind}
+use Rattle.heap_rule.specs.declared.phase.Kind.{Kind}
+use Rattle.heap_rule.specs.declared.phase.Kind.TheVariants.{Answer}
 
 abbrev Side : Config → ℕ → Type 0
 Side k a = (a ≤ k.pools * 4096) ⊎ (k.pools * 4096 < a)
@@ -179,6 +182,7 @@ module _ (k : Config) (s : Words) (r : Rule k s) (id : ℕ) (hist : List Entry) 
   -- what the last arrival of Promote owes: it empties the domain's list of copies, and nothing of the pools is used any more
   pub record Drops (y : DomainView) (pause' : Pause) (c' : Cycling) (words' : List ℕ) : Type 0 where
     pub paint : c'.paint ≡ r.account.cycling.paint
+    pub kind : c'.kind ≡ r.account.cycling.kind
     pub cycle : Cycled k (state_of k r.account.log) (dropped k r.account.live) pause' (record r.account.tenancy { stock = no_stock }) c' words'
     pub sharing : Sharing k (dropped_to pause' c') words' y.own.number y.own.registers y.seen.stage y.seen.share
     pub sharings : (z : DomainView) → z.own.number < k.domains → z.own.number ≢ x.own.number → Good k r.account s.words z → Sharing k (dropped_to pause' c') words' z.own.number z.own.registers z.seen.stage z.seen.share
@@ -238,6 +242,7 @@ module _ (k : Config) (s : Words) (r : Rule k s) (id : ℕ) (hist : List Entry) 
         wide = o.untouched.0 ∙ r.whole.wide;
         legal = r.whole.legal;
         plain = r.whole.plain;
+        full = full_less k r.account.log live0 live1 t.holder t.fresh r.account.homes c'.kind (λ a p e. (was_low k live0 a p e).1) (full_kind k r.account.log live0 t.holder t.fresh r.account.homes r.account.cycling.kind c'.kind (subst (λ (kind : Kind). (kind ≡ Answer → ⊥) → r.account.cycling.kind ≡ Answer → ⊥) (sym o.kind) (λ h. h)) r.whole.full);
         queues = r.whole.queues;
         found = subst (λ (p : Paint). AllFound k p live1 graph words') (sym o.paint) (drop_found k paint0 live0 graph words' found0 r.whole.copies o.free);
         placed = placed_back k live0 live1 back r.whole.placed;

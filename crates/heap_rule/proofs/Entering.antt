@@ -35,6 +35,8 @@ use Rattle.heap_rule.proofs.ChangeLemmas.{changed_only}
 use Rattle.heap_rule.proofs.Values.{AllStand, holds}
 use Rattle.heap_rule.proofs.Keeps.{Words, IsCommand, mine, my_good, own, control_same, controls_kept, appends, legal_entry, hunter_as, more_same, owes_as, recalls_same, run_settled, run_calm}
 use Rattle.heap_rule.specs.Cycles.{IsPlainCommand, IsPlainEntry}
+use Rattle.heap_rule.proofs.FullnessLemmas.{full_stays, command_collects}
+use Rattle.heap_rule.specs.Fullness.{Fullness}
 
 module _ (k : Config) (s : Words) (r : Rule k s) (id : ℕ) (hist : List Entry) (x : DomainView) (at : get_elem? s.views id ≡ some (one k hist x)) (acts : Acts k x) where
   abbrev now : model.State
@@ -107,7 +109,8 @@ module _ (k : Config) (s : Words) (r : Rule k s) (id : ℕ) (hist : List Entry) 
   entered_view e registers = with_front (with_registers x registers) (r.account.log ++ e ∷ [])
 
   pub enters_rule : (e : Entry) (registers : List Value) (answer : Applied) → Enters e registers answer → IsCommand e → Rule k record { words = s.words; homes = s.homes; views = set s.views id (one k hist (entered_view e registers)) }
-  enters_rule e registers answer o command = let g = my_good k s r id hist x at in appends k s r id hist x at e (entered_view e registers) s.words r.account.live record {
+  enters_rule e registers answer o command = let g = my_good k s r id hist x at in appends k s r id hist x at e (entered_view e registers) s.words r.account.live r.account.homes record {
+    full = full_stays k r.account.log r.account.live r.account.tenancy.holder r.account.tenancy.fresh r.account.homes r.account.cycling.kind e (command_collects e command) r.whole.full;
     alone = o.alone;
     command = command;
     plain = o.plain;

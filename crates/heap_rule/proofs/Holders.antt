@@ -1,5 +1,5 @@
 -- One pool gets another holder, and a word before the heap's changes.
-use Rattle.std.proofs.Common.{◌*◌, ◌≡◌, ◌≢◌, ℕ, zero, suc, ◌+◌, ◌<◌, ◌≤◌, ◌⊎◌, List, set, Some, sym, refl, ap, ◌∙◌, subst, inl, inr, ⊎_elim, arith, get_or-set_other}
+use Rattle.std.proofs.Common.{◌*◌, ◌≡◌, ◌≢◌, ℕ, zero, suc, ◌+◌, ◌<◌, ◌≤◌, ◌⊎◌, List, set, Some, sym, refl, ap, ◌∙◌, subst, inl, inr, ⊎_elim, arith, get_or-set_other, Option}
 use mathlib.Core.Logic.{dite}
 use native.Mathlib.Decide.{ℕ_discrete}
 use Rattle.heap_model.specs.Graph.{Graph}
@@ -89,13 +89,14 @@ pub record SameFor (t t' : Tenancy) (d : ℕ) : Type 0 where
   pub asking_same : t'.asking d ≡ t.asking d
   pub prepared_to : (a : ℕ) → t.prepared a ≡ Some d → t'.prepared a ≡ Some d
   pub prepared_from : (a : ℕ) → t'.prepared a ≡ Some d → t.prepared a ≡ Some d
+  pub fresh_same : (c : ℕ) → t'.fresh d c ≡ t.fresh d c
   pub stock_same : SameStock t.stock t'.stock d
 
 pub same_self : (t : Tenancy) (d : ℕ) → SameFor t t d
-same_self t d = record { drawn_to = λ q e. e; drawn_from = λ q e. e; owned_to = λ q c e. e; owned_from = λ q c e. e; asking_same = refl; prepared_to = λ a e. e; prepared_from = λ a e. e; stock_same = stock_self t.stock d }
+same_self t d = record { drawn_to = λ q e. e; drawn_from = λ q e. e; owned_to = λ q c e. e; owned_from = λ q c e. e; asking_same = refl; prepared_to = λ a e. e; prepared_from = λ a e. e; fresh_same = λ c. refl; stock_same = stock_self t.stock d }
 
 pub same_asking : (t : Tenancy) (asking : ℕ → ℕ) (d : ℕ) → asking d ≡ t.asking d → SameFor t (record t { asking = asking }) d
-same_asking t asking d same = record { drawn_to = λ q e. e; drawn_from = λ q e. e; owned_to = λ q c e. e; owned_from = λ q c e. e; asking_same = same; prepared_to = λ a e. e; prepared_from = λ a e. e; stock_same = stock_self t.stock d }
+same_asking t asking d same = record { drawn_to = λ q e. e; drawn_from = λ q e. e; owned_to = λ q c e. e; owned_from = λ q c e. e; asking_same = same; prepared_to = λ a e. e; prepared_from = λ a e. e; fresh_same = λ c. refl; stock_same = stock_self t.stock d }
 
 -- the holder is another than this domain
 pub record NotOf (h : Holder) (d : ℕ) : Type 0 where
@@ -126,12 +127,13 @@ drawn_not d e n = record { not_drawn = drawn_drawn d e n; not_owned = drawn_owne
 pub owned_not : (d c e : ℕ) → d ≢ e → NotOf (owned d c) e
 owned_not d c e n = record { not_drawn = λ h. drawn_owned e d c (sym h); not_owned = λ b. owned_owned d e c b n }
 
-module _ (t : Tenancy) (pool : ℕ) (h : Holder) (asking : ℕ → ℕ) (stock : Stock) where
+module _ (t : Tenancy) (pool : ℕ) (h : Holder) (asking : ℕ → ℕ) (fresh : ℕ → ℕ → Option ℕ) (stock : Stock) where
   abbrev pub t' : Tenancy
-  t' = record { holder = over pool h t.holder; asking = asking; prepared = t.prepared; garbage = t.garbage; stock = stock }
+  t' = record { holder = over pool h t.holder; asking = asking; prepared = t.prepared; garbage = t.garbage; fresh = fresh; stock = stock }
 
-  pub same_over : (d : ℕ) → NotOf (t.holder pool) d → NotOf h d → asking d ≡ t.asking d → SameStock t.stock stock d → SameFor t t' d
-  same_over d before after same used = record {
+  pub same_over : (d : ℕ) → NotOf (t.holder pool) d → NotOf h d → asking d ≡ t.asking d → ((c : ℕ) → fresh d c ≡ t.fresh d c) → SameStock t.stock stock d → SameFor t t' d
+  same_over d before after same drew used = record {
+    fresh_same = drew;
     prepared_to = λ a e. e;
     prepared_from = λ a e. e;
     stock_same = used;
@@ -192,6 +194,7 @@ module _ (k : Config) (t t' : Tenancy) (words words' : List ℕ) (agrees : Agree
     listed_is = u.listed_is;
     names = agrees.list place u.listed_is ∙ u.names;
     drawn_is = same.drawn_to pool u.drawn_is;
+    fresh_is = same.fresh_same class ∙ u.fresh_is;
     of_class = u.of_class;
     some = u.some;
     free = λ j h. agrees.heap (place_in pool class j) (omega arith) ∙ u.free j h;

@@ -44,13 +44,14 @@ use Rattle.heap_rule.specs.Phases.{Pause, Phases, sum_of, IsEven, AtStage, Stage
 use Rattle.heap_rule.specs.Rule.{state_of, AllFound, Stood, Area, Making, Account, Good, Sharing, NoneQueued, Whole, Rule}
 use Rattle.heap_rule.specs.Cycles.{Cycling, Cycled, Telling, Leading, HasNoCycle, IsBetween, IsIdle, AllPlain, IsPlainEntry}
 use Rattle.heap_rule.proofs.PauseFacts.{not_both, agree, nobody_paused, staged_as, run_promoting, run_resetting}
-use Rattle.heap_rule.proofs.Sharings.{SameCycle, kind_now, cycle_between, facts_between, leading_words, leading_as, telling_as, idle_in, idle_beside, takes_kind}
+use Rattle.heap_rule.proofs.Sharings.{SameCycle, kind_now, cycle_between, facts_between, leading_words, leading_as, telling_as, idle_in, idle_beside, takes_kind, adds_nothing}
 use Rattle.heap_rule.specs.Room.{spent_stock, count, drawn_in_all, copied_words, Room, IsUnused, Opened, Drawable}
 use Rattle.heap_model.specs.Domains.{class_count, reserve}
 use Rattle.heap_rule.specs.Layout.{heap_words}
 use Rattle.heap_rule.specs.Pools.{Stock, Reserved, Takes, IsCopying, Latest, DrawsFor, prepared_at, size_of, Tenancy, drawn, owned, Pools, Grid, Drawers, IsLeading, Lists, Resting, Hunts, Hunter, drawn_in, hunting_free, spot_at, IsBefore, limit_of}
 use Rattle.heap_rule.specs.Standing.{with_front}
 use Rattle.heap_rule.proofs.Lists.{views_set, domains_map, domains_with, no_item}
+use Rattle.heap_rule.specs.Fullness.{Homes, Fullness}
 
 abbrev pub Words : Type 0
 Words = State (Unit {0}) View
@@ -523,6 +524,7 @@ module _ (k : Config) (s : Words) (r : Rule k s) (id : ℕ) (hist : List Entry) 
     leading = subst (λ (c : Cycling). Leading c words' y.own.number y.seen.stage y.seen.share) (sym cycling)
         (leading_as r.account.cycling words' x.own.number y.own.number x.seen.stage y.seen.stage x.seen.share y.seen.share number stage share (leading_words r.account.cycling s.words words' x.own.number x.seen.stage x.seen.share same my_good.sharing.leading));
     knows = inl (subst IsIdle (sym share) (idle_here kind none is));
+    adds = adds_nothing all'.live all'.cycling y.own.number y.seen.share (subst (λ (c : Cycling). HasNoCycle c.kind) (sym cycling) (no_cycle_here kind none is));
   }
 
   pub sharings_here : (kind : Kind) → HasNoCycle kind → x.seen.stage ≡ In kind → (all' : Account) (words' : List ℕ) → all'.cycling ≡ r.account.cycling → SameCycle s.words words'
@@ -531,6 +533,7 @@ module _ (k : Config) (s : Words) (r : Rule k s) (id : ℕ) (hist : List Entry) 
     telling = subst (λ (c : Cycling). Telling c.paint.colours c.shares z.own.number z.seen.share) (sym cycling) g.sharing.telling;
     leading = subst (λ (c : Cycling). Leading c words' z.own.number z.seen.stage z.seen.share) (sym cycling) (leading_words r.account.cycling s.words words' z.own.number z.seen.stage z.seen.share same g.sharing.leading);
     knows = inl (idle_beside k r.account.live r.account.tenancy.holder now.graph r.account.cycling.paint.marks s.words r.account.pause x z kind none is my_good.staged g.staged g.sharing.knows);
+    adds = adds_nothing all'.live all'.cycling z.own.number z.seen.share (subst (λ (c : Cycling). HasNoCycle c.kind) (sym cycling) (no_cycle_here kind none is));
   }
 
   -- no collector's entry is open while a domain runs
@@ -538,10 +541,11 @@ module _ (k : Config) (s : Words) (r : Rule k s) (id : ℕ) (hist : List Entry) 
   run_calm runs = record { mode = (between_here Run tt runs).mode; queues = r.whole.queues }
 
   -- What a step owes at which an own entry stands, whatever it does to the words
-  pub record Appends (e : Entry) (y : DomainView) (words' : List ℕ) (live' : Live) : Type 0 where
+  pub record Appends (e : Entry) (y : DomainView) (words' : List ℕ) (live' : Live) (homes' : Homes) : Type 0 where
     pub alone : (d : ℕ) → d ≢ x.own.number → is_entry_of d e ≡ false
     pub command : IsCommand e
     pub plain : IsPlainEntry e
+    pub full : Fullness k (r.account.log ++ e ∷ []) live' r.account.tenancy.holder r.account.tenancy.fresh homes' r.account.cycling.kind
     pub runs : x.seen.stage ≡ In Run
     pub stage : y.seen.stage ≡ x.seen.stage
     pub listing : y.seen.listing ≡ x.seen.listing
@@ -571,15 +575,16 @@ module _ (k : Config) (s : Words) (r : Rule k s) (id : ℕ) (hist : List Entry) 
     pub hunter : Hunter k r.account.tenancy words' y
     pub hunters : (z : DomainView) → z.own.number ≢ x.own.number → Good k r.account s.words z → Hunter k r.account.tenancy words' z
 
-  pub appends : (e : Entry) (y : DomainView) (words' : List ℕ) (live' : Live) → Appends e y words' live' → Rule k record { words = words'; homes = s.homes; views = set s.views id (one k hist y) }
-  appends e y words' live' o =
+  pub appends : (e : Entry) (y : DomainView) (words' : List ℕ) (live' : Live) (homes' : Homes) → Appends e y words' live' homes' → Rule k record { words = words'; homes = s.homes; views = set s.views id (one k hist y) }
+  appends e y words' live' homes' o =
       let log' : List Entry = r.account.log ++ e ∷ [] in
       let after : state_of k log' ≡ next now e = after_entry e in
-      remakes y (record r.account { log = log'; live = live' }) words'
+      remakes y (record r.account { log = log'; live = live'; homes = homes' }) words'
       record {
         wide = o.wide ∙ r.whole.wide;
         legal = legal_entry e o.allowed;
         plain = plain_push r.account.log e r.whole.plain o.plain;
+        full = o.full;
         queues = subst NoneQueued (sym after) o.calm.queues;
         found = subst (λ (t : model.State). AllFound k r.account.cycling.paint live' t.graph words') (sym after) o.found;
         placed = o.placed;
@@ -602,7 +607,7 @@ module _ (k : Config) (s : Words) (r : Rule k s) (id : ℕ) (hist : List Entry) 
         cycle = cycle_here Run tt o.runs (state_of k log') live' r.account.tenancy words' (ap (λ (t : model.State). t.mode) after ∙ (o.calm.mode ∙ sym (between_here Run tt o.runs).mode)) (λ a. refl) o.controls.cycle;
       }
       (knows_entry y e o.alone o.number o.front)
-      record { stood = subst (λ (t : model.State). Stood live' t y) (sym after) o.stood; area = o.area; making = o.making; staged = staged_as r.account.pause x y o.number o.arrivals o.stage my_good.staged; still = run_still log' y (o.stage ∙ o.runs); hunter = o.hunter; resting = resting_runs k s.words words' x y o.runs (o.stage ∙ o.runs) o.listing my_good.resting; took_back = running_took_back words' y (o.stage ∙ o.runs); owes = o.owes; rooted = λ h. absurd (run_promoting r.account.pause x o.runs my_good.staged h); set_back = λ h. absurd (run_leads Run (sym (o.stage ∙ o.runs) ∙ h.0)); sharing = sharing_here Run tt o.runs (record r.account { log = log'; live = live' }) words' y refl o.controls.cycle o.number o.stage o.share }
+      record { stood = subst (λ (t : model.State). Stood live' t y) (sym after) o.stood; area = o.area; making = o.making; staged = staged_as r.account.pause x y o.number o.arrivals o.stage my_good.staged; still = run_still log' y (o.stage ∙ o.runs); hunter = o.hunter; resting = resting_runs k s.words words' x y o.runs (o.stage ∙ o.runs) o.listing my_good.resting; took_back = running_took_back words' y (o.stage ∙ o.runs); owes = o.owes; rooted = λ h. absurd (run_promoting r.account.pause x o.runs my_good.staged h); set_back = λ h. absurd (run_leads Run (sym (o.stage ∙ o.runs) ∙ h.0)); sharing = sharing_here Run tt o.runs (record r.account { log = log'; live = live'; homes = homes' }) words' y refl o.controls.cycle o.number o.stage o.share }
       (λ z _ other g. record {
         stood = subst (λ (t : model.State). Stood live' t z) (sym after) (stood_other r.account.live live' now (next now e) z (keeps_next now e z.own.number (o.alone z.own.number other)) o.more g.stood);
         area = o.areas z other g.area;
@@ -615,7 +620,7 @@ module _ (k : Config) (s : Words) (r : Rule k s) (id : ℕ) (hist : List Entry) 
         set_back = λ h. o.controls.set_back z g.staged h (g.set_back h);
         owes = owes_run k r.account.live live' z z o.settled (quiet_in k r.account.live z g.owes (λ e. nobody_paused r.account.pause x z o.runs my_good.staged g.staged (subst IsInPause (sym e) tt))) refl refl o.more (o.recalls z.own.number other) g.owes;
         rooted = λ h. absurd (run_promoting r.account.pause x o.runs my_good.staged h);
-        sharing = sharings_here Run tt o.runs (record r.account { log = log'; live = live' }) words' refl o.controls.cycle z g;
+        sharing = sharings_here Run tt o.runs (record r.account { log = log'; live = live'; homes = homes' }) words' refl o.controls.cycle z g;
       })
 
   -- What a step owes at which no entry stands and nothing comes to live or moves
@@ -653,6 +658,7 @@ module _ (k : Config) (s : Words) (r : Rule k s) (id : ℕ) (hist : List Entry) 
         wide = o.wide ∙ r.whole.wide;
         legal = r.whole.legal;
         plain = r.whole.plain;
+        full = r.whole.full;
         queues = r.whole.queues;
         found = o.found;
         placed = r.whole.placed;
@@ -722,6 +728,7 @@ module _ (k : Config) (s : Words) (r : Rule k s) (id : ℕ) (hist : List Entry) 
     pub endings : ended_word words' ≡ ended_word s.words
     pub cycle : SameCycle s.words words'
     pub garbage : (a : ℕ) → t'.garbage a ≡ r.account.tenancy.garbage a
+    pub full : Fullness k r.account.log r.account.live t'.holder t'.fresh r.account.homes r.account.cycling.kind
     pub found : AllFound k r.account.cycling.paint r.account.live now.graph words'
     pub pools : Pools k t' words'
     pub grid : Grid k t' r.account.live words'
@@ -739,6 +746,7 @@ module _ (k : Config) (s : Words) (r : Rule k s) (id : ℕ) (hist : List Entry) 
         wide = o.wide ∙ r.whole.wide;
         legal = r.whole.legal;
         plain = r.whole.plain;
+        full = o.full;
         queues = r.whole.queues;
         found = o.found;
         placed = r.whole.placed;

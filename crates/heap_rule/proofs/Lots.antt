@@ -96,6 +96,7 @@ module _ (k : Config) (t : Tenancy) (words : List ℕ) (at new : ℕ) where
     listed_is = u.listed_is;
     names = (let h = u.listed_is in control_stays b.low (11 + place) (omega arith)) ∙ u.names;
     drawn_is = u.drawn_is;
+    fresh_is = u.fresh_is;
     of_class = u.of_class;
     some = u.some;
     free = λ j h. let s = u.some in drawn_stays d b p pool class j u.drawn_is u.of_class (omega arith) ∙ u.free j h;

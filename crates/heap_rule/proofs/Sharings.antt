@@ -17,7 +17,7 @@ use Rattle.heap_rule.specs.Layout.{at_address, armed, colours, changed_word, liv
 use Rattle.heap_rule.specs.Phases.{Pause, Agree, AtStage, Staged}
 use Rattle.heap_rule.specs.Places.{Live}
 use Rattle.heap_rule.specs.Pools.{Holder, Tenancy, Takes}
-use Rattle.heap_rule.specs.Cycles.{Cycling, Cycled, Facts, IsBetween, IsSwept, Told, Leading, Telling, Knowing, KnowsBlocks, HasNoCycle, IsCollecting, IsIdle}
+use Rattle.heap_rule.specs.Cycles.{Cycling, Cycled, Facts, IsBetween, IsSwept, Told, Leading, Telling, Knowing, KnowsBlocks, HasNoCycle, IsCollecting, IsIdle, Adds}
 use Rattle.heap_rule.proofs.PauseFacts.{agree}
 
 -- the words of a collection stay: whether one is under way, the colours, what was changed, and the live words
@@ -140,6 +140,7 @@ knowing_words k live holder graph marks words words' d registers share heap n = 
   tenure = n.tenure;
   rooted = n.rooted;
   marked = n.marked;
+  tally = n.tally;
 }
 
 pub knows_words : (k : Config) (live : Live) (holder : ℕ → Holder) (graph : Graph) (marks : Marks) (words words' : List ℕ) (d : ℕ) (registers : List Value) (stage : Stage) (share : Share) → ((a : ℕ) → at_address k words' a ≡ at_address k words a)
@@ -171,6 +172,10 @@ telling_as means w d d' share share' number same t = subst (λ (z : ℕ × Share
 
 pub leading_as : (c : Cycling) (words : List ℕ) (d d' : ℕ) (stage stage' : Stage) (share share' : Share) → d' ≡ d → stage' ≡ stage → share' ≡ share → Leading c words d stage share → Leading c words d' stage' share'
 leading_as c words d d' stage stage' share share' number stands same l = subst (λ (z : ℕ × Stage × Share). Leading c words z.0 z.1 z.2) (λ i. (sym number i, sym stands i, sym same i)) l
+
+-- outside a collection nobody has anything to add
+pub adds_nothing : (live : Live) (c : Cycling) (d : ℕ) (share : Share) → HasNoCycle c.kind → Adds live c d share
+adds_nothing live c d share none = record { blocks = λ e _. absurd (subst HasNoCycle e none); words = λ e _. absurd (subst HasNoCycle e none); own = λ e _ _. absurd (subst HasNoCycle e none) }
 
 -- a domain in a phase that takes blocks is in one without a collection
 pub takes_kind : (stage : Stage) → Takes stage → (kind : Kind) × HasNoCycle kind × (stage ≡ In kind)

@@ -1,6 +1,6 @@
 -- The table at the start meets the rule.
 use Rattle.heap_rule.specs.Copies.{Owes, IsEmptying}
-use Rattle.std.proofs.Common.{◌≡◌, ◌≢◌, ℕ, zero, suc, ◌+◌, ◌*◌, ◌<◌, ◌≤◌, lit<, false, List, [], ◌∷◌, get_or, replicate, slice_get, pos, Option, Some, None, sym, refl, ap, ◌∙◌, subst, inl, arith, unwrap_or, ◌-◌, inr, ⊎_elim, true}
+use Rattle.std.proofs.Common.{◌≡◌, ◌≢◌, ℕ, zero, suc, ◌+◌, ◌*◌, ◌<◌, ◌≤◌, lit<, false, List, [], ◌∷◌, get_or, replicate, slice_get, pos, Option, Some, None, sym, refl, ap, ◌∙◌, subst, inl, arith, unwrap_or, ◌-◌, inr, ⊎_elim, true, IsTrue, cond, Bool}
 use Rattle.std.proofs.lemmas.Int.{ints}
 use mathlib.Core.Logic.{dite}
 use native.Mathlib.Decide.{ℕ_discrete}
@@ -35,6 +35,10 @@ use Rattle.heap_rule.proofs.Sizes.{heap_large}
 use Rattle.heap_rule.specs.Cycles.{Cycling}
 use Rattle.cycle_laws.specs.Cycle.{First}
 use Rattle.cycle_laws.specs.Shares.{no_shares}
+use Rattle.heap_model.specs.Graph.{has_label, same_label, node_at}
+use Rattle.heap_model.proofs.Graphs.GraphLemmas.{same_label-true}
+use Rattle.heap_rule.specs.Fullness.{Homes, Fullness}
+use Rattle.heap_model.specs.declared.label.Label.{Label}
 
 abbrev shared_place : Place
 shared_place = record { label = shared_label; shape = PlainShape 16 0; forward = None; owed = None; named = λ _. None }
@@ -57,7 +61,7 @@ first_holders : ℕ → Holder
 first_holders = over 0 (owned 0 3) (λ _. nobody)
 
 abbrev first_tenancy : Tenancy
-first_tenancy = record { holder = first_holders; asking = λ _. 0; prepared = λ _. None; garbage = λ _. false; stock = no_stock }
+first_tenancy = record { holder = first_holders; asking = λ _. 0; prepared = λ _. None; garbage = λ _. false; fresh = λ _ _. None; stock = no_stock }
 
 holder_first : first_holders 0 ≡ owned 0 3
 unfolding first_holders
@@ -143,6 +147,21 @@ sole P v mine (suc j) u e = absurd (some-ne-none u (sym e))
 -- all run, and none has arrived anywhere
 abbrev first_pause : Pause
 first_pause = record { arrived = λ _. 0; phase = 0; kinds = λ _. Run; led = false }
+
+-- the shared block lies in pool 0
+first_homes : Homes
+first_homes l = cond (same_label shared_label l) (Some 0) None
+
+first_home : first_homes shared_label ≡ Some 0
+unfolding first_homes
+first_home = refl
+
+first_made : (l : Label) (q : ℕ) → first_homes l ≡ Some q → shared_label ≡ l
+unfolding first_homes
+first_made l q e = same_label-true shared_label l (go (same_label shared_label l) refl) where
+  go : (b : Bool) → same_label shared_label l ≡ b → same_label shared_label l ≡ true
+  go true is = is
+  go false is = absurd (let f : ◌≡◌ {A = Option ℕ} None (Some q) = sym (ap (λ (b : Bool). cond b (Some 0) None) is) ∙ e in cc)
 
 -- no collection has begun
 abbrev first_cycle : Cycling
@@ -271,13 +290,21 @@ module _ (k : Config) (limits : IsWithinLimits (sizes_in k)) (words : List ℕ) 
   }
 
   abbrev first_account : Account
-  first_account = record { log = []; live = only; pause = first_pause; tenancy = first_tenancy; cycling = first_cycle }
+  first_account = record { log = []; live = only; pause = first_pause; tenancy = first_tenancy; cycling = first_cycle; homes = first_homes }
 
   whole : Whole k first_account words
   whole = record {
     wide = opens.wide;
     legal = tt;
     plain = tt;
+    full = record {
+      kept = λ a p e. let t = only_at a p e in subst (λ (l : Label). IsTrue (has_label (shared_label ∷ []) l)) (ap (λ (q : Place). q.label) t.1) refl;
+      low = λ q d c slot p is inside e. let t = only_at (place_in q c slot) p e in let o = holder_at q d c is in subst (λ (l : Label). first_homes l ≡ Some q) (ap (λ (z : Place). z.label) t.1) (first_home ∙ ap Some (sym o.0));
+      young = λ a p e young _. absurd (only_old a p e young);
+      made = λ l q e. (shared_node, subst (λ (x : Label). node_at s0.graph x ≡ Some shared_node) (first_made l q e) refl);
+      owned = λ _ q d c is. let o = holder_at q d c is in inr (shared_label, refl, first_home ∙ ap Some (sym o.0));
+      drawn = λ q d e. absurd (none_drawn q d e);
+    };
     queues = queues_empty k.domains;
     found = λ a p e. let t = only_at a p e in subst (λ (x : ℕ × Place). Found k first_cycle.paint only s0.graph words x.0 x.1) (λ i. (sym t.0 i, t.1 i)) found;
     placed = placed;
@@ -362,6 +389,7 @@ module _ (k : Config) (limits : IsWithinLimits (sizes_in k)) (words : List ℕ) 
             telling = record { owes = λ _. refl; seen = λ _. refl; fresh = λ e. cc; forgotten = λ e. cc; colours = λ c e. cc };
             leading = record { changed = λ v e. cc; found_blocks = λ v e. cc; found_words = λ v e. cc; rotated = λ _ e. refl; turned = λ e. cc };
             knows = inl refl;
+            adds = record { blocks = λ e _. refl; words = λ e _. refl; own = λ e _ f. cc };
           };
         }));
       }

@@ -1,5 +1,5 @@
 -- A collection of the major heap in the rule: what is marked, how far the domains are, and what each of them knows in a phase of it.
-use Rattle.std.specs.Prelude.{◌≡◌, ◌≢◌, ℕ, zero, suc, ◌+◌, ◌*◌, ◌/◌, ◌%◌, ◌<◌, ◌⊎◌, ◌==◌, ◌||◌, nat_le, Bool, true, false, cond, IsTrue, List, [], ◌∷◌, length, slice_get, sum_by, Option, Some, None}
+use Rattle.std.specs.Prelude.{◌≡◌, ◌≢◌, ℕ, zero, suc, ◌+◌, ◌*◌, ◌/◌, ◌%◌, ◌<◌, ◌⊎◌, ◌==◌, ◌||◌, nat_le, filter_map, Bool, true, false, cond, IsTrue, List, [], ◌∷◌, length, slice_get, sum_by, Option, Some, None}
 use Rattle.std.specs.List.{list_any}
 use Rattle.heap_model.specs.declared.label.Label.{Label}
 use Rattle.heap_model.specs.declared.command.Command.{Command}
@@ -36,7 +36,7 @@ use Rattle.heap_rule.specs.declared.view.Tenure.{Tenure}
 use Rattle.heap_rule.specs.Changes.{value_at}
 use Rattle.heap_rule.specs.Layout.{at_address, armed, colours, changed_word, live_blocks, live_words}
 use Rattle.heap_rule.specs.Phases.{Pause, flag}
-use Rattle.heap_rule.specs.Places.{Place, Live, Paint, HeadIs, IsHeadOf}
+use Rattle.heap_rule.specs.Places.{Place, Live, Paint, extent, HeadIs, IsHeadOf}
 use Rattle.heap_rule.specs.Pools.{Tenancy, Holder, nobody, drawn, owned, size_of, blocks_of, place_in, IsBefore, IsLeading}
 use Rattle.heap_rule.specs.Views.{fresh_share}
 
@@ -264,13 +264,29 @@ Scans live graph marks Idle = Unit {0}
 Scans live graph marks (Reads block done size head) = Scanned live graph marks block done size head
 Scans live graph marks (Holds block done size head address) = Refers live graph marks block done size head address
 
+-- the words of a block and its label, where one lives
+abbrev pub extent_in : Option Place → ℕ
+extent_in None = 0
+extent_in (Some p) = extent p.shape
+
+abbrev pub labels_in : Live → List ℕ → List Label
+labels_in live places = filter_map (λ a. label_in (live a)) places
+
 -- a block lives at an address, and it is marked
 abbrev pub IsMarkedAt : Live → (Label → Bool) → ℕ → Type 0
 IsMarkedAt live marked a = (p : Place) × (live a ≡ Some p) × IsTrue (marked p.label)
 
+-- the own blocks that a domain has counted: each once, all up to a place of the pools, and so many words
+pub record Tallied (k : Config) (live : Live) (holder : ℕ → Holder) (d : ℕ) (share : Share) : Type 0 where
+  pub once : (i j a : ℕ) → slice_get share.tally i ≡ Some a → slice_get share.tally j ≡ Some a → i ≡ j
+  pub own : (a : ℕ) → IsTrue (seen_by share.tally a) → (q : ℕ) × (c : ℕ) × (slot : ℕ) × (holder q ≡ owned d c) × (slot < blocks_of c) × (a ≡ place_in q c slot)
+  pub lives : (a : ℕ) → IsTrue (seen_by share.tally a) → (p : Place) × (live a ≡ Some p)
+  pub all : (q c slot : ℕ) (p : Place) → holder q ≡ owned d c → slot < blocks_of c → IsBefore q slot share.tallied → live (place_in q c slot) ≡ Some p → IsTrue (seen_by share.tally (place_in q c slot))
+  pub words : share.tally_words ≡ sum_by (λ a. extent_in (live a)) share.tally
+
 -- What a domain knows of blocks in a phase: the head that it found is still there, or its block was marked since; it has been at its own
--- places as far as it has walked; the blocks of the registers and of the list that it has looked at are marked; and the ones that it has
--- counted are its own, each once
+-- places as far as it has walked; the blocks of the registers and of the list that it has looked at are marked; and what it has
+-- counted is its own
 pub record Knowing (k : Config) (live : Live) (holder : ℕ → Holder) (graph : Graph) (marks : Marks) (words : List ℕ) (d : ℕ) (registers : List held.Value) (share : Share) : Type 0 where
   pub glimpse : (g : Glimpse) (p : Place) → share.glimpse ≡ Some g → live g.address ≡ Some p → (at_address k words g.address ≡ g.word) ⊎ IsTrue (marks.marked p.label)
   pub scan : Scans live graph marks share.scan
@@ -278,6 +294,13 @@ pub record Knowing (k : Config) (live : Live) (holder : ℕ → Holder) (graph :
   pub tenure : (t : Tenure) → share.tenure ≡ Some t → holder t.pool ≡ owned d t.class
   pub rooted : (r a : ℕ) (p : Place) → IsTrue (list_any (λ q. q == r) share.roots) → value_at registers r ≡ Ref a → live a ≡ Some p → IsTrue (marks.marked p.label)
   pub marked : (a : ℕ) → IsTrue (seen_by share.marked a) → IsMarkedAt live marks.marked a
+  pub tally : Tallied k live holder d share
+
+-- what a domain has added to the live words is what it has counted
+pub record Adds (live : Live) (c : Cycling) (d : ℕ) (share : Share) : Type 0 where
+  pub blocks : c.kind ≡ Sweep → c.shares.arrived d ≡ false → c.counts.blocks d ≡ share.added_blocks
+  pub words : c.kind ≡ Sweep → c.shares.arrived d ≡ false → c.counts.words d ≡ share.added_words
+  pub own : c.kind ≡ Sweep → c.shares.arrived d ≡ false → share.added_blocks ≡ true → c.counts.own d ≡ labels_in live share.tally
 
 -- no collection of the major heap is under way in a phase of this kind
 abbrev pub HasNoCycle : Kind → Type 0

@@ -10,6 +10,7 @@ pub mod Copies
 pub mod Pools
 pub mod Room
 pub mod Cycles
+pub mod Fullness
 pub mod Rule
 pub mod Meeting
 pub mod Token

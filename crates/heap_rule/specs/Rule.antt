@@ -19,7 +19,8 @@ use Rattle.heap_rule.specs.Copies.{Owes, Copies, Promoting, AllCleared, Emptied,
 use Rattle.heap_rule.specs.Room.{Room, IsUnused, Opened, Drawable}
 use Rattle.heap_rule.specs.Pools.{limit_of, Tenancy, Pools, Reserved, Grid, Drawers, Resting, Hunter}
 use Rattle.heap_rule.specs.Changes.{value_at}
-use Rattle.heap_rule.specs.Cycles.{Cycling, Cycled, Telling, Leading, KnowsBlocks, AllPlain}
+use Rattle.heap_rule.specs.Fullness.{Homes, Fullness}
+use Rattle.heap_rule.specs.Cycles.{Cycling, Cycled, Telling, Leading, KnowsBlocks, Adds, AllPlain}
 use Rattle.heap_rule.specs.Phases.{Pause, Phases, Staged, Still, TookBack, HasSetBack, Unwished, CountsEnded}
 use Rattle.heap_rule.specs.Views.{EachView, EachDomain, Knows}
 
@@ -48,19 +49,21 @@ pub record Making (k : Config) (words : List ℕ) (x : DomainView) : Type 0 wher
   pub fits : (j w : ℕ) → slice_get x.seen.made j ≡ Some w → x.own.used + j + 1 < k.minor_words
   pub written : (j w : ℕ) → slice_get x.seen.made j ≡ Some w → at_address k words (base_of k x.own.number + x.own.used + 1 + j) ≡ w
 
--- what there is besides the words: the history, which block lives where, how the pauses stand, who has each pool, and how a collection of the major heap stands
+-- what there is besides the words: the history, which block lives where, how the pauses stand, who has each pool, how a collection of the major heap stands, and in which pool each block lies or has lain
 pub record Account : Type 0 where
   pub log : List Entry
   pub live : Live
   pub pause : Pause
   pub tenancy : Tenancy
   pub cycling : Cycling
+  pub homes : Homes
 
 -- what the rule says of one domain's share of a collection
 pub record Sharing (k : Config) (all : Account) (words : List ℕ) (d : ℕ) (registers : List Value) (stage : Stage) (share : Share) : Type 0 where
   pub telling : Telling all.cycling.paint.colours all.cycling.shares d share
   pub leading : Leading all.cycling words d stage share
   pub knows : KnowsBlocks k all.live all.tenancy.holder (state_of k all.log).graph all.cycling.paint.marks words d registers stage share
+  pub adds : Adds all.live all.cycling d share
 
 -- all that the rule says of one domain
 pub record Good (k : Config) (all : Account) (words : List ℕ) (x : DomainView) : Type 0 where
@@ -94,6 +97,7 @@ pub record Whole (k : Config) (all : Account) (words : List ℕ) : Type 0 where
   pub wide : length words ≡ table_words k
   pub legal : Legal (sizes_in k) all.log
   pub plain : AllPlain all.log
+  pub full : Fullness k all.log all.live all.tenancy.holder all.tenancy.fresh all.homes all.cycling.kind
   pub queues : NoneQueued (state_of k all.log)
   pub found : AllFound k all.cycling.paint all.live (state_of k all.log).graph words
   pub placed : Placed k all.live

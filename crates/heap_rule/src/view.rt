@@ -192,6 +192,13 @@ pub struct Share {
     pub roots: LinkedList<u8>,
     /// Blocks that are marked.
     pub marked: LinkedList<u32>,
+    /// The own blocks that it has counted, up to this place of the pools, and the words that they have.
+    pub tally: LinkedList<u32>,
+    pub tallied: Spot,
+    pub tally_words: u64,
+    /// Whether it has added them to the live blocks, and to the live words.
+    pub added_blocks: bool,
+    pub added_words: bool,
 }
 
 /// What contracts alone know of a domain.
