@@ -133,12 +133,12 @@ pub record Filling (k : Config) (holder : ℕ → Holder) (words : List ℕ) (d 
   pub written : (j w : ℕ) → slice_get made j ≡ Some w → at_address k words (place_in pool class slot + 1 + j) ≡ w
 
 -- so many places of a drawn pool are free
-pub record Clearing (k : Config) (t : Tenancy) (words : List ℕ) (d place pool class cleared : ℕ) : Type 0 where
+pub record Clearing (k : Config) (holder : ℕ → Holder) (fresh : ℕ → ℕ → Option ℕ) (words : List ℕ) (d place pool class cleared : ℕ) : Type 0 where
   pub inside : pool < k.pools
   pub listed_is : place < k.pools
   pub names : listed_pool words place ≡ pool
-  pub drawn_is : t.holder pool ≡ drawn d
-  pub fresh_is : t.fresh d class ≡ Some pool
+  pub drawn_is : holder pool ≡ drawn d
+  pub fresh_is : fresh d class ≡ Some pool
   pub of_class : class < class_count
   pub some : cleared ≤ blocks_of class
   pub free : (j : ℕ) → j < cleared → at_address k words (place_in pool class j) ≡ 0
@@ -148,7 +148,7 @@ abbrev pub Hunts : Config → Tenancy → List ℕ → ℕ → Hunt → Type 0
 Hunts k t words d Rests = Unit {0}
 Hunts k t words d (Counts n) = listed words ≡ n
 Hunts k t words d (Asks n) = (listed words ≡ n) × (t.asking d ≡ 1)
-Hunts k t words d (Draws place pool class cleared) = Clearing k t words d place pool class cleared
+Hunts k t words d (Draws place pool class cleared) = Clearing k t.holder t.fresh words d place pool class cleared
 Hunts k t words d (Walks pool class) = t.holder pool ≡ owned d class
 Hunts k t words d (Fills pool class slot made) = Filling k t.holder words d pool class slot made
 Hunts k t words d (Labels address label) = (t.prepared address ≡ Some d) × OwnPlace t.holder address d × (at_address k words (address + 1) ≡ label)
