@@ -1,5 +1,7 @@
 -- From the Seal to the end of Clean: each Wipe that is made is allowed, and at the end no marked ephemeron has an unmarked key.
-use Rattle.std.proofs.Common.{◌≡◌, ⊎_elim, ℕ, zero, suc, arith, Bool, true, false, cond, not, IsTrue, List, [], ◌∷◌, ◌++◌, map, flat_map, filter_map, length, set, slice_get, Option, Some, None, refl, ap, ap₂, sym, ◌∙◌, subst, eqb, eqb-true}
+use Rattle.std.proofs.lemmas.Bool.{ne_eqb}
+use Rattle.heap_model.proofs.Collections.CutLemmas.{queues_mapped}
+use Rattle.std.proofs.Common.{◌≡◌, ⊎_elim, ℕ, zero, suc, arith, Bool, true, false, cond, not, IsTrue, List, [], ◌∷◌, ◌++◌, map, flat_map, filter_map, length, set, slice_get, Option, Some, None, refl, ap, ap₂, sym, ◌∙◌, subst, eqb}
 use Rattle.std.specs.List.{cons_option, list_all, list_any}
 use Rattle.std.specs.Option.{option_map_or}
 use Rattle.heap_model.specs.declared.label.Label.{Label}
@@ -21,13 +23,12 @@ use Rattle.heap_model.proofs.Commands.FrameLemmas.{label_cases}
 use Rattle.heap_model.proofs.Collections.MarkLemmas.{wipe_unmarked}
 use Rattle.heap_model.proofs.Collections.WipeLemmas.{wipe_keeps_reachable, wipe_keeps_reach}
 use Rattle.heap_model.proofs.Reach.ReachLemmas.{or_cases, or_left, or_right, and_left, and_right, has-append_cases, has-append_left}
-use Rattle.cycle_laws.specs.EntryLaws.{CleanLaw}
 use Rattle.cycle_laws.specs.Marks.{KeysMarked, IsWhole}
 use Rattle.cycle_laws.specs.Shares.{Layout, Shares, no_shares, sees, arrives, AllArrived, AllOwned}
 use Rattle.cycle_laws.specs.Queueing.{WaitingReached, CutStays}
 use Rattle.cycle_laws.specs.Taking.{InClean}
 use Rattle.cycle_laws.proofs.Sharing.{shares_start, shares_sees, shares_arrives, sees_was}
-use Rattle.cycle_laws.proofs.Deciding.{mapped_at, queues_mapped}
+use Rattle.cycle_laws.proofs.Deciding.{mapped_at}
 
 -- labels of one kind, after each domain was changed
 pub part_mapped : (f : DomainState → List Label) (g : DomainState → DomainState) → ((x : DomainState) → f (g x) ≡ f x) → (xs : List DomainState) → flat_map f (map g xs) ≡ flat_map f xs
@@ -95,20 +96,13 @@ get_set_none (x ∷ keys) zero (suc p) k e = (e, (λ same. absurd (omega arith))
 get_set_none (x ∷ keys) (suc q) zero k e = (e, (λ same. absurd (omega arith)))
 get_set_none (x ∷ keys) (suc q) (suc p) k e = let t = get_set_none keys q p k e in (t.0, (λ same. t.1 (omega arith)))
 
-differ : (q p : ℕ) → (q ≡ p → ⊥) → eqb q p ≡ false
-differ q p other = go (eqb q p) refl
-  where
-    go : (b : Bool) → eqb q p ≡ b → b ≡ false
-    go true e = absurd (other (eqb-true q p e))
-    go false e = refl
-
 get_wiped : (places : List ℕ) (keys : List (Option Label)) (p : ℕ) (k : Label) → slice_get (wiped_keys places keys) p ≡ Some (Some k)
     → (slice_get keys p ≡ Some (Some k)) × (list_any (λ q. eqb q p) places ≡ false)
 get_wiped [] keys p k e = (e, refl)
 get_wiped (q ∷ ps) keys p k e =
     let first = get_set_none (wiped_keys ps keys) q p k e in
     let rest = get_wiped ps keys p k first.0 in
-    let here : eqb q p ≡ false = differ q p first.1 in
+    let here : eqb q p ≡ false = ne_eqb q p first.1 in
     (rest.0, rw here rest.1)
 
 -- the labels that a wipe takes
@@ -253,6 +247,3 @@ waiting_seal s reached l h = subst (λ z. IsTrue (is_reachable s.graph z l)) (sy
 pub cut_stays_seal : (s : State) → CutStays s → CutStays (next s Seal)
 cut_stays_seal s stays l h = subst (λ z. IsTrue (has_label z l)) (sym (roots_mapped_now s with_lasts_open (λ x. refl) (λ x. refl)))
     (stays l (subst (λ z. IsTrue (has_label z l)) (roots_mapped s with_lasts_open (λ x. refl) (λ x. refl) s.cut) h))
-
-pub clean_law : CleanLaw
-clean_law = record { start = clean_start; allowed = wipe_allowed; wiped = clean_wipes; cleans = wipe_cleans; looks = clean_sees; arrived = clean_arrives }

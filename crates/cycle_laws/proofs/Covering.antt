@@ -1,5 +1,6 @@
 -- What is known of the marks beside running domains is kept by each move, and gives at the end that the marked blocks are closed.
-use Rattle.std.proofs.Common.{◌≡◌, ◌⊎◌, ⊎_elim, ℕ, zero, suc, Bool, true, false, not, ◌||◌, IsTrue, List, [], ◌∷◌, filter_map, slice_get, set, Option, Some, None, refl, ap, sym, ◌∙◌, subst}
+use Rattle.heap_model.proofs.Reach.ReachLemmas.{is_false, not_true}
+use Rattle.std.proofs.Common.{◌≡◌, ◌⊎◌, ⊎_elim, ℕ, zero, suc, Bool, false, not, ◌||◌, IsTrue, List, [], ◌∷◌, filter_map, slice_get, set, Option, Some, None, refl, ap, sym, ◌∙◌, subst}
 use Rattle.heap_model.specs.declared.label.Label.{Label}
 use Rattle.heap_model.specs.declared.graph.Value.{Value}
 use Rattle.heap_model.specs.declared.graph.Value.TheVariants.{Int, Block, Nothing}
@@ -13,7 +14,7 @@ use Rattle.heap_model.proofs.Histories.NumberLemmas.{node_at-no_label}
 use Rattle.heap_model.proofs.Reach.ReachLemmas.{or_cases, or_left, or_right, and_left, and_right, true_or_false}
 use Rattle.cycle_laws.specs.Marks.{darkened, with_scanned, fields_of, FieldsMarked, NoneGrey, DataFollows}
 use Rattle.cycle_laws.specs.Cover.{field_in, field_at, is_new, InCover, Covering, IsCovered}
-use Rattle.cycle_laws.proofs.Tracing.{More, darkened_more, darkened_cases, not_true, edges_hold}
+use Rattle.cycle_laws.proofs.Tracing.{More, darkened_more, darkened_cases, edges_hold}
 
 -- Cover holds the marked and the new labels, is closed under old fields, and grows with the marks
 module _ (old : Graph) (marked : Label → Bool) where
@@ -30,9 +31,6 @@ module _ (old : Graph) (marked : Label → Bool) where
   cover_more other more l cover set m n c = cover set (λ x h. m x (more x h)) n c
 
 -- the fields of a graph
-not_new : (old : Graph) (l : Label) → has_label (labels old) l ≡ true → is_new old l ≡ false
-not_new old l e = ap not e
-
 new_or_old : (old : Graph) (l : Label) → IsTrue (is_new old l) ⊎ (is_new old l ≡ false)
 new_or_old old l = true_or_false (is_new old l)
 
@@ -40,10 +38,6 @@ no_old_field : (old : Graph) (l : Label) (i : ℕ) (x : Label) → IsTrue (is_ne
 no_old_field old l i x new at =
     let none : node_at old l ≡ None = node_at-no_label old l (is_false (has_label (labels old) l) new) in
     let clash : field_in None i ≡ Some (Block x) = subst (λ o. field_in o i ≡ Some (Block x)) none at in cc
-  where
-    is_false : (b : Bool) → IsTrue (not b) → b ≡ false
-    is_false true n = cc
-    is_false false n = refl
 
 -- a field whose present label is marked, or that was stored into, had a marked label
 pub field_done : (v : Covering) → IsCovered v → (l : Label) (i : ℕ) → ((x : Label) → field_at v.now l i ≡ Some (Block x) → IsTrue (v.marks.marked x))

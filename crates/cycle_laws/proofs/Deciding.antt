@@ -1,5 +1,9 @@
 -- From the Cut to the end of Decide: each Queue that is made is allowed, and at the end the Seal is allowed and what waits is marked.
-use Rattle.std.proofs.Common.{◌≡◌, ◌⊎◌, inl, inr, ⊎_elim, ℕ, zero, suc, ◌<◌, ◌≤◌, arith, Bool, true, false, not, nat_lt, IsTrue, List, [], ◌∷◌, ◌++◌, map, flat_map, filter_map, length, get_or, slice_get, remove, Option, Some, None, refl, ap, ap₂, sym, ◌∙◌, subst}
+use Rattle.std.proofs.lemmas.Option.{slice_get_within}
+use Rattle.heap_model.proofs.Collections.CutLemmas.{part_same, queues_mapped, queue_grows}
+use Rattle.heap_model.proofs.Graphs.ListLemmas.{set_cases_inside}
+use Rattle.cycle_laws.proofs.Sharing.{last_or}
+use Rattle.std.proofs.Common.{◌≡◌, ⊎_elim, ℕ, zero, suc, ◌<◌, ◌≤◌, arith, Bool, true, false, not, nat_lt, IsTrue, List, [], ◌∷◌, ◌++◌, map, flat_map, filter_map, length, get_or, slice_get, remove, Option, Some, None, refl, ap, sym, ◌∙◌, subst}
 use Rattle.std.specs.List.{cons_option}
 use Rattle.std.proofs.lemmas.Bool.{lt-ltb}
 use Rattle.heap_model.specs.declared.label.Label.{Label}
@@ -16,35 +20,18 @@ use Rattle.heap_model.proofs.Graphs.GraphLemmas.{same_label-true}
 use Rattle.heap_model.proofs.Graphs.ListLemmas.{flat_map-map}
 use Rattle.heap_model.proofs.Collections.MarkLemmas.{queue_unmarked, seal_marked}
 use Rattle.heap_model.proofs.Reach.ReachLemmas.{or_cases, and_both, has-append_cases, has-append_left, has-append_right, reachable_more}
-use Rattle.cycle_laws.specs.EntryLaws.{WholeLaw, DecideLaw}
 use Rattle.cycle_laws.specs.Marks.{IsWhole}
 use Rattle.cycle_laws.specs.Shares.{at_domain}
 use Rattle.cycle_laws.specs.Queueing.{InDecide, IsDecided, WaitingReached, CutStays}
 use Rattle.cycle_laws.proofs.Tracing.{More, holds_more}
 use Rattle.cycle_laws.proofs.Sharing.{at_cases}
-use Rattle.cycle_laws.proofs.DomainParts.{roots_end, part_all, part_same, set_cases, registration_cases, get-remove_above, beyond_grown, beyond_none, queues_grow}
+use Rattle.cycle_laws.proofs.DomainParts.{part_all, registration_cases, get-remove_above, beyond_grown, beyond_none}
 
 -- a function of the domains, after each was changed
 pub mapped_at : (g : DomainState → DomainState) → g no_domain ≡ no_domain → (xs : List DomainState) (d : ℕ) → get_or (map g xs) d no_domain ≡ g (get_or xs d no_domain)
 mapped_at g none [] d = sym none
 mapped_at g none (x ∷ xs) zero = refl
 mapped_at g none (x ∷ xs) (suc d) = mapped_at g none xs d
-
-pub queues_mapped : (g : DomainState → DomainState) → ((x : DomainState) → (g x).queue ≡ x.queue) → (xs : List DomainState)
-    → map (λ (x : DomainState). x.queue) (map g xs) ≡ map (λ (x : DomainState). x.queue) xs
-queues_mapped g same [] = refl
-queues_mapped g same (x ∷ xs) = ap₂ (λ a b. a ∷ b) (same x) (queues_mapped g same xs)
-
-pub get_inside : {A : Type 0} (xs : List A) (p : ℕ) (x : A) → slice_get xs p ≡ Some x → p < length xs
-get_inside [] p x e = cc
-get_inside (y ∷ xs) zero x e = omega arith
-get_inside (y ∷ xs) (suc p) x e = let rest = get_inside xs p x e in omega arith
-
-pub le_cases : (p j : ℕ) → p ≤ j → (p ≡ j) ⊎ (suc p ≤ j)
-le_cases zero zero le = inl refl
-le_cases zero (suc j) le = inr (omega arith)
-le_cases (suc p) zero le = absurd (omega arith)
-le_cases (suc p) (suc j) le = ⊎_elim (λ e. inl (ap suc e)) (λ lt. inr (omega arith)) (le_cases p j (omega arith))
 
 -- the one label that a Queue of one place adds to a queue
 one_label : (o : Option Finaliser) (f : Finaliser) → o ≡ Some f → (l : Label)
@@ -66,7 +53,7 @@ decide_start s marked closed holds = record {
   below = λ d. let low = ap (λ (x : DomainState). x.low) (mapped_at with_finals_open refl s.domains d) in omega (arith, low);
   kept = λ d p f le e.
       let at : slice_get (domain_at s d).finals p ≡ Some f = ap (λ (x : DomainState). slice_get x.finals p) (sym (mapped_at with_finals_open refl s.domains d)) ∙ e in
-      let inside = get_inside (domain_at s d).finals p f at in
+      let inside = slice_get_within (domain_at s d).finals p f at in
       absurd (omega (arith, inside, le));
   queued = λ l h.
       let none : queued_beyond (queues (next s Cut)) (queues s) ≡ [] =
@@ -90,10 +77,10 @@ module _ (s : State) (marked : Label → Bool) (left : ℕ → ℕ) (i : InDecid
           (λ t.
           let here : slice_get (domain_at s d).finals j ≡ Some g = subst (λ n. slice_get (domain_at s n).finals j ≡ Some g) t.0 e in
           let le' : p ≤ j = subst (λ n. n ≤ j) t.1 le in ⊎_elim
+          (λ above. i.kept d j g (subst (λ n. n ≤ j) (sym next_place) above) here)
           (λ same. let is_it : f ≡ g = (let back : slice_get (domain_at s d).finals p ≡ Some g = subst (λ n. slice_get (domain_at s d).finals n ≡ Some g) (sym same) here in cc (at, back)) in
           subst (λ (z : Finaliser). IsTrue (marked z.label)) is_it is)
-          (λ above. i.kept d j g (subst (λ n. n ≤ j) (sym next_place) above) here)
-          (le_cases p j le'))
+          (last_or p j (omega (arith, le'))))
           (λ t. i.kept k j g (subst (λ n. n ≤ j) t.1 le) e)
           (at_cases left d p k);
       queued = i.queued;
@@ -128,7 +115,7 @@ module _ (s : State) (marked : Label → Bool) (left : ℕ → ℕ) (i : InDecid
               (λ u. absurd (t.0 u.0))
               (λ u. let low = ap (λ (x : DomainState). x.low) t.1 in let now = u.1 in let was = i.below k in omega (arith, low, now, was))
               (at_cases left d p k))
-              (set_cases s.domains d queued_domain k inside);
+              (set_cases_inside s.domains d queued_domain no_domain k inside);
           kept = λ k j g le e. ⊎_elim
               (λ t. ⊎_elim
               (λ u.
@@ -141,7 +128,7 @@ module _ (s : State) (marked : Label → Bool) (left : ℕ → ℕ) (i : InDecid
               (λ u. absurd (t.0 u.0))
               (λ u. i.kept k j g (subst (λ n. n ≤ j) u.1 le) (ap (λ (x : DomainState). slice_get x.finals j) (sym t.1) ∙ e))
               (at_cases left d p k))
-              (set_cases s.domains d queued_domain k inside);
+              (set_cases_inside s.domains d queued_domain no_domain k inside);
           queued = λ l h. ⊎_elim
               (λ old. i.queued l old)
               (λ new. subst (λ z. IsTrue (not (marked z))) (one_label (slice_get (domain_at s d).finals p) f at l new) un)
@@ -182,7 +169,7 @@ module _ (s : State) (d : ℕ) (y : DomainState) (more : List Pending) (register
   pub roots_grow : HoldsRoots (roots s (queues s)) (has_label (roots (with_domain s d y) (queues (with_domain s d y))))
   roots_grow l h = ⊎_elim
       (λ a. has-append_left (registers_of (with_domain s d y)) (pending_of (queues (with_domain s d y))) l (subst (λ z. IsTrue (has_label z l)) (sym registers_same) a))
-      (λ b. has-append_right (registers_of (with_domain s d y)) (pending_of (queues (with_domain s d y))) l (queues_grow s.domains d y more queue l b))
+      (λ b. has-append_right (registers_of (with_domain s d y)) (pending_of (queues (with_domain s d y))) l (queue_grows s.domains d y more queue l b))
       (has-append_cases (registers_of s) (pending_of (queues s)) l h)
 
   pub cut_roots_same : (qs : List (List Pending)) → roots (with_domain s d y) qs ≡ roots s qs
@@ -207,9 +194,3 @@ whole_end s marked i stays whole = (
   (λ l h. whole l (i.waiting l h)),
   (λ l h. reachable_more s.graph (roots s s.cut) (roots s (queues s)) stays l (whole l h)),
 )
-
-pub decide_law : DecideLaw
-decide_law = record { held = roots_end; start = decide_start; keeps = decide_keeps; allowed = queue_allowed; queued = decide_queues; end = decide_end }
-
-pub whole_law : WholeLaw
-whole_law = record { start = whole_start; queued = whole_queues; end = whole_end }

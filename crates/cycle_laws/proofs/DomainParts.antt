@@ -1,5 +1,6 @@
 -- The labels that domains have in their registers, lists and queues, domain by domain.
-use Rattle.std.proofs.Common.{◌≡◌, ◌⊎◌, inl, inr, ⊎_elim, ℕ, zero, suc, ◌<◌, ◌≤◌, arith, Bool, true, false, IsTrue, List, [], ◌∷◌, ◌++◌, map, flat_map, filter_map, length, get_or, set, slice_get, remove, drop, Some, refl, ap, sym, ◌∙◌, subst, eqb, eqb-true, eq-eqb, get_or-set_same, get_or-set_other}
+use Rattle.std.proofs.Math.Seq.{drop-length}
+use Rattle.std.proofs.Common.{◌≡◌, ◌⊎◌, inl, inr, ⊎_elim, ℕ, zero, suc, ◌<◌, ◌≤◌, arith, Bool, IsTrue, List, [], ◌∷◌, ◌++◌, map, flat_map, filter_map, length, get_or, set, slice_get, remove, drop, Some, refl, sym, subst}
 use Rattle.std.proofs.lemmas.List.Elements.{filter_map-append}
 use Rattle.heap_model.specs.declared.label.Label.{Label}
 use Rattle.heap_model.specs.declared.state.DomainState.{DomainState}
@@ -29,23 +30,6 @@ module _ (f : DomainState → List Label) where
   part_has [] d none l h = let clash : IsTrue (has_label [] l) = subst (λ z. IsTrue (has_label z l)) none h in clash
   part_has (x ∷ xs) zero none l h = has-append_left (f x) (flat_map f xs) l h
   part_has (x ∷ xs) (suc d) none l h = has-append_right (f x) (flat_map f xs) l (part_has xs d none l h)
-
-  pub part_same : (xs : List DomainState) (d : ℕ) (y : DomainState) → f y ≡ f (get_or xs d no_domain) → flat_map f (set xs d y) ≡ flat_map f xs
-  part_same [] d y same = refl
-  part_same (x ∷ xs) zero y same = ap (λ t. t ++ flat_map f xs) same
-  part_same (x ∷ xs) (suc d) y same = ap (λ t. f x ++ t) (part_same xs d y same)
-
--- a domain that changes, and the others
-pub set_cases : (xs : List DomainState) (d : ℕ) (y : DomainState) (k : ℕ) → d < length xs
-    → ((k ≡ d) × (get_or (set xs d y) k no_domain ≡ y)) ⊎ ((k ≡ d → ⊥) × (get_or (set xs d y) k no_domain ≡ get_or xs k no_domain))
-set_cases xs d y k lt = go (eqb k d) refl
-  where
-    go : (b : Bool) → eqb k d ≡ b
-        → ((k ≡ d) × (get_or (set xs d y) k no_domain ≡ y)) ⊎ ((k ≡ d → ⊥) × (get_or (set xs d y) k no_domain ≡ get_or xs k no_domain))
-    go true e = inl (eqb-true k d e, subst (λ j. get_or (set xs d y) j no_domain ≡ y) (sym (eqb-true k d e)) (get_or-set_same xs d y no_domain lt))
-    go false e =
-        let other : k ≡ d → ⊥ = λ same. let clash : true ≡ false = sym (eq-eqb k d same) ∙ e in cc in
-        inr (other, get_or-set_other xs d k y no_domain other)
 
 -- the labels of registrations
 module _ {A : Type 0} (f : A → Label) where
@@ -117,29 +101,6 @@ beyond_grown (x ∷ xs) (suc d) y more (old ∷ olds) grown l h =
     (has-append_cases (queued_after x.queue (Some old)) now l h)
 
 -- nothing stands beyond the queues themselves
-drop_none : (ps : List Pending) → drop (length ps) ps ≡ []
-drop_none [] = refl
-drop_none (p ∷ ps) = drop_none ps
-
 pub beyond_none : (qs : List (List Pending)) → queued_beyond qs qs ≡ []
 beyond_none [] = refl
-beyond_none (q ∷ qs) = rw drop_none (beyond_none qs)
-
--- what the queues held they hold as one of them grows
-pub queues_grow : (xs : List DomainState) (d : ℕ) (y : DomainState) (more : List Pending) → y.queue ≡ (get_or xs d no_domain).queue ++ more
-    → HoldsRoots (flat_map (filter_map pending_label) (map (λ x. x.queue) xs)) (has_label (flat_map (filter_map pending_label) (map (λ x. x.queue) (set xs d y))))
-queues_grow [] d y more grown l h = h
-queues_grow (x ∷ xs) zero y more grown l h =
-    let rest : List Label = flat_map (filter_map pending_label) (map (λ x. x.queue) xs) in ⊎_elim
-    (λ here. has-append_left (filter_map pending_label y.queue) rest l
-    (let split : filter_map pending_label y.queue ≡ filter_map pending_label x.queue ++ filter_map pending_label more =
-    ap (filter_map pending_label) grown ∙ filter_map-append pending_label x.queue more in
-    subst (λ z. IsTrue (has_label z l)) (sym split) (has-append_left (filter_map pending_label x.queue) (filter_map pending_label more) l here)))
-    (λ later. has-append_right (filter_map pending_label y.queue) rest l later)
-    (has-append_cases (filter_map pending_label x.queue) rest l h)
-queues_grow (x ∷ xs) (suc d) y more grown l h =
-    let rest : List Label = flat_map (filter_map pending_label) (map (λ x. x.queue) xs) in
-    let now : List Label = flat_map (filter_map pending_label) (map (λ x. x.queue) (set xs d y)) in ⊎_elim
-    (λ here. has-append_left (filter_map pending_label x.queue) now l here)
-    (λ later. has-append_right (filter_map pending_label x.queue) now l (queues_grow xs d y more grown l later))
-    (has-append_cases (filter_map pending_label x.queue) rest l h)
+beyond_none (q ∷ qs) = rw drop-length (beyond_none qs)

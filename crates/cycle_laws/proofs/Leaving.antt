@@ -1,7 +1,14 @@
 -- Lasts, the rotation of the colours, and the entries that end a collection.
-use Rattle.std.proofs.Common.{◌≡◌, ◌⊎◌, inl, inr, ⊎_elim, append-nil, ℕ, suc, ◌<◌, ◌≤◌, arith, Bool, true, false, not, IsTrue, List, [], ◌∷◌, ◌++◌, map, flat_map, filter_map, option_to_list, length, set, slice_get, remove, Option, Some, None, refl, ap, ap₂, sym, ◌∙◌, subst}
+use Rattle.std.proofs.lemmas.Option.{slice_get_within}
+use Rattle.heap_model.proofs.Collections.CutLemmas.{part_same, roots_same}
+use Rattle.heap_model.proofs.Collections.MarkLemmas.{all_labels}
+use Rattle.heap_model.proofs.Graphs.ListLemmas.{set_cases_inside}
+use Rattle.heap_model.proofs.Reach.ReachLemmas.{keys_all, not_true}
+use Rattle.heap_model.specs.Domains.{no_domain}
+use Rattle.cycle_laws.proofs.Sharing.{last_or}
+use Rattle.cycle_laws.proofs.Tracing.{marked_reach}
+use Rattle.std.proofs.Common.{◌≡◌, ◌⊎◌, inl, inr, ⊎_elim, ℕ, suc, ◌<◌, ◌≤◌, arith, Bool, true, false, not, IsTrue, List, [], ◌∷◌, ◌++◌, map, flat_map, filter_map, option_to_list, length, set, slice_get, remove, Option, Some, None, refl, ap, ap₂, sym, ◌∙◌, subst}
 use Rattle.std.specs.List.{cons_option, list_all, list_any}
-use Rattle.std.proofs.lemmas.List.Elements.{filter_map-append}
 use Rattle.heap_model.specs.declared.label.Label.{Label}
 use Rattle.heap_model.specs.declared.command.Command.TheVariants.{FullMajor}
 use Rattle.heap_model.specs.declared.entry.Entry.TheVariants.{Command as CommandOf, Last as LastOf, Collected}
@@ -16,20 +23,19 @@ use Rattle.heap_model.specs.declared.state.State.{State}
 use Rattle.heap_model.specs.Graph.{Graph, same_label, has_label, label_of, node_at}
 use Rattle.heap_model.specs.Reach.{reachable, is_reachable, HoldsRoots, IsClosedUnder}
 use Rattle.heap_model.specs.Domains.{domain_at, pending_label, queues, roots, reach, waiting, is_reachable_with}
-use Rattle.heap_model.specs.Entries.{with_last_queued, queued_last, at_places, freshened, full_keys, ephe_holds, is_label, keys_are_live, has_live_keys, is_sealed, LastAllowed, CollectedAllowed, DoneAllowed, next}
+use Rattle.heap_model.specs.Entries.{with_last_queued, at_places, freshened, full_keys, ephe_holds, is_label, keys_are_live, has_live_keys, is_sealed, LastAllowed, CollectedAllowed, DoneAllowed, next}
 use Rattle.heap_model.proofs.Graphs.GraphLemmas.{same_label-true, same_label_refl}
 use Rattle.heap_model.proofs.Collections.MarkLemmas.{last_unmarked, done_marked}
 use Rattle.heap_model.proofs.Graphs.ListLemmas.{flat_map-map}
 use Rattle.heap_model.proofs.Reach.ReachLemmas.{or_cases, or_left, or_right, and_both, has-append_cases, has-append_left, has-append_right, reachable_least}
-use Rattle.cycle_laws.specs.EntryLaws.{LeftLaw, LastsLaw}
+use Rattle.cycle_laws.specs.Taking.{LeftLaw}
 use Rattle.cycle_laws.specs.Marks.{fields_of, data_of, KeysMarked, IsWhole}
 use Rattle.cycle_laws.specs.Shares.{Layout, Shares, at_domain, AllArrived}
 use Rattle.cycle_laws.specs.Queueing.{WaitingReached}
 use Rattle.cycle_laws.specs.Taking.{last_labels, InClean, InLasts, IsLeft, LeadsToMarked}
-use Rattle.cycle_laws.proofs.Tracing.{held_fields, held_data, keys_all, not_true, holds_more}
+use Rattle.cycle_laws.proofs.Tracing.{held_fields, held_data, holds_more}
 use Rattle.cycle_laws.proofs.Sharing.{at_cases}
-use Rattle.cycle_laws.proofs.DomainParts.{part_all, part_has, part_same, set_cases, registration_cases, get-remove_above}
-use Rattle.cycle_laws.proofs.Deciding.{get_inside, le_cases}
+use Rattle.cycle_laws.proofs.DomainParts.{part_all, part_has, registration_cases, get-remove_above}
 use Rattle.cycle_laws.proofs.Cleaning.{part_mapped, roots_mapped_now, clean_end}
 
 -- what an ephemeron holds is one of its keys or its data
@@ -79,12 +85,8 @@ lasts_start n y s marked w i arrived = record {
   taken = i.taken;
   keys = clean_end n y s marked w i arrived;
   below = λ d. let low = i.low d in omega (arith, low);
-  kept = λ d p f le e. let inside = get_inside (domain_at s d).lasts p f e in absurd (omega (arith, inside, le));
+  kept = λ d p f le e. let inside = slice_get_within (domain_at s d).lasts p f e in absurd (omega (arith, inside, le));
 }
-
-no_labels : (xs : List LastFinaliser) → filter_map pending_label (map queued_last xs) ≡ []
-no_labels [] = refl
-no_labels (x ∷ xs) = no_labels xs
 
 one_last : (o : Option LastFinaliser) (f : LastFinaliser) → o ≡ Some f → (l : Label) → IsTrue (has_label (map (λ g. g.label) (cons_option o [])) l) → f.label ≡ l
 one_last None f e l h = cc
@@ -110,10 +112,10 @@ module _ (s : State) (marked : Label → Bool) (left : ℕ → ℕ) (i : InLasts
           (λ t.
           let here : slice_get (domain_at s d).lasts j ≡ Some g = subst (λ n. slice_get (domain_at s n).lasts j ≡ Some g) t.0 e in
           let le' : p ≤ j = subst (λ n. n ≤ j) t.1 le in ⊎_elim
+          (λ above. i.kept d j g (subst (λ n. n ≤ j) (sym next_place) above) here)
           (λ same. let is_it : f ≡ g = (let back : slice_get (domain_at s d).lasts p ≡ Some g = subst (λ n. slice_get (domain_at s d).lasts n ≡ Some g) (sym same) here in cc (at, back)) in
           subst (λ (z : LastFinaliser). IsTrue (marked z.label)) is_it is)
-          (λ above. i.kept d j g (subst (λ n. n ≤ j) (sym next_place) above) here)
-          (le_cases p j le'))
+          (last_or p j (omega (arith, le'))))
           (λ t. i.kept k j g (subst (λ n. n ≤ j) t.1 le) e)
           (at_cases left d p k);
     }
@@ -130,17 +132,6 @@ module _ (s : State) (marked : Label → Bool) (left : ℕ → ℕ) (i : InLasts
         abbrev queued_domain : DomainState
         queued_domain = with_last_queued (domain_at s d) p
 
-        queue_same : filter_map pending_label queued_domain.queue ≡ filter_map pending_label (domain_at s d).queue
-        queue_same = filter_map-append pending_label (domain_at s d).queue _
-            ∙ ap (λ t. filter_map pending_label (domain_at s d).queue ++ t) (no_labels (at_places (p ∷ []) (domain_at s d).lasts))
-            ∙ append-nil (filter_map pending_label (domain_at s d).queue)
-
-        roots_same : roots (next s (LastOf d p)) (queues (next s (LastOf d p))) ≡ roots s (queues s)
-        roots_same = ap₂ (λ a b. a ++ b) (part_same (λ x. filter_map label_of x.registers) s.domains d queued_domain refl)
-            (flat_map-map (filter_map pending_label) (λ (x : DomainState). x.queue) (set s.domains d queued_domain)
-            ∙ part_same (λ x. filter_map pending_label x.queue) s.domains d queued_domain queue_same
-            ∙ sym (flat_map-map (filter_map pending_label) (λ (x : DomainState). x.queue) s.domains))
-
         waiting_same : waiting (next s (LastOf d p)) ≡ waiting s
         waiting_same = part_same (λ x. map (λ f. f.label) x.finals) s.domains d queued_domain refl
 
@@ -148,7 +139,7 @@ module _ (s : State) (marked : Label → Bool) (left : ℕ → ℕ) (i : InLasts
         lasts_queues = record {
           mode = i.mode;
           marks = record {
-            roots = subst (λ z. HoldsRoots z marked) (sym roots_same) i.marks.roots;
+            roots = subst (λ z. HoldsRoots z marked) (sym (roots_same s d p)) i.marks.roots;
             waiting = subst (λ z. HoldsRoots z marked) (sym waiting_same) i.marks.waiting;
             closed = i.marks.closed;
           };
@@ -166,7 +157,7 @@ module _ (s : State) (marked : Label → Bool) (left : ℕ → ℕ) (i : InLasts
               (λ u. absurd (t.0 u.0))
               (λ u. let low = ap (λ (x : DomainState). x.low) t.1 in let now = u.1 in let was = i.below k in omega (arith, low, now, was))
               (at_cases left d p k))
-              (set_cases s.domains d queued_domain k inside);
+              (set_cases_inside s.domains d queued_domain no_domain k inside);
           kept = λ k j g le e. ⊎_elim
               (λ t. ⊎_elim
               (λ u.
@@ -179,12 +170,12 @@ module _ (s : State) (marked : Label → Bool) (left : ℕ → ℕ) (i : InLasts
               (λ u. absurd (t.0 u.0))
               (λ u. i.kept k j g (subst (λ n. n ≤ j) u.1 le) (ap (λ (x : DomainState). slice_get x.lasts j) (sym t.1) ∙ e))
               (at_cases left d p k))
-              (set_cases s.domains d queued_domain k inside);
+              (set_cases_inside s.domains d queued_domain no_domain k inside);
         }
 
         -- a whole cycle stays so
         pub last_whole : IsWhole s.graph (roots s (queues s)) marked → IsWhole s.graph (roots (next s (LastOf d p)) (queues (next s (LastOf d p)))) marked
-        last_whole whole = subst (λ z. IsWhole s.graph z marked) (sym roots_same) whole
+        last_whole whole = subst (λ z. IsWhole s.graph z marked) (sym (roots_same s d p)) whole
 
         pub last_waiting : WaitingReached s → WaitingReached (next s (LastOf d p))
         last_waiting reached l h = subst (λ z. IsTrue (is_reachable s.graph (z ++ flat_map (filter_map pending_label) s.cut) l))
@@ -228,12 +219,6 @@ pub done_left : (s : State) (marked : Label → Bool) → IsTrue (is_sealed s.mo
 done_left s marked mode i = done_marked s marked mode i.marks i.lasts (λ x k is h. i.keys x is k h) i.taken
 
 -- the entry Collected, in a whole cycle
-all_labels : (test : Label → Bool) (ls : List Label) → HoldsRoots ls test → IsTrue (list_all test ls)
-all_labels test [] each = refl
-all_labels test (k ∷ ls) each = and_both (test k) (list_all test ls)
-    (each k (or_left (same_label k k) (has_label ls k) (same_label_refl k)))
-    (all_labels test ls (λ l h. each l (or_right (same_label k l) (has_label ls l) h)))
-
 all_lasts : (test : Label → Bool) (xs : List LastFinaliser) → HoldsRoots (map (λ f. f.label) xs) test → IsTrue (list_all (λ f. test f.label) xs)
 all_lasts test [] each = refl
 all_lasts test (x ∷ xs) each = and_both (test x.label) (list_all (λ f. test f.label) xs)
@@ -297,6 +282,11 @@ left_full_major s marked d i = record {
   lasts = subst (λ z. HoldsRoots z marked) (sym (part_same (λ x. map (λ f. f.label) x.lasts) s.domains d (asked s d) refl)) i.lasts;
 }
 
+-- where the cycle was whole, what is marked is what is reachable
+left_reach : (s : State) (marked : Label → Bool) → IsLeft s marked → IsWhole s.graph (roots s (queues s)) marked
+    → (l : Label) → marked l ≡ is_reachable s.graph (roots s (queues s)) l
+left_reach s marked i = marked_reach s.graph (roots s (queues s)) marked i.marks.closed i.marks.roots
+
 -- neither changes what is reachable
 pub collected_reach : (s : State) → reach (next s Collected) ≡ reach s
 collected_reach s = ap (reachable s.graph) (roots_mapped_now s freshened (λ x. refl) (λ x. refl))
@@ -304,11 +294,9 @@ collected_reach s = ap (reachable s.graph) (roots_mapped_now s freshened (λ x. 
 pub asked_reach : (s : State) (d : ℕ) → reach (next s (CommandOf d FullMajor false)) ≡ reach s
 asked_reach s d = ap (reachable s.graph) (asked_roots s d)
 
-pub lasts_law : LastsLaw
-lasts_law = record { start = lasts_start; keeps = lasts_keeps; allowed = last_allowed; queued = lasts_queues; end = lasts_end }
-
 pub left_law : LeftLaw
 left_law = record {
+  marked_reach = left_reach;
   leads = leads_to_marked;
   done = done_left;
   collected = collected_left;

@@ -1,5 +1,8 @@
 -- A domain goes through a block field by field, or key by key.
-use Rattle.std.proofs.Common.{◌≡◌, ◌⊎◌, inl, inr, ⊎_elim, ℕ, zero, suc, ◌<◌, ◌≤◌, arith, Bool, true, false, not, nat_lt, ◌||◌, IsTrue, List, [], ◌∷◌, ◌++◌, filter_map, length, slice_get, Option, Some, None, refl, ap, sym, ◌∙◌, subst, eqb, eq-eqb, eqb-true}
+use Rattle.std.proofs.lemmas.Option.{slice_get_within}
+use Rattle.heap_model.proofs.Reach.ReachLemmas.{not_true}
+use Rattle.cycle_laws.proofs.Sharing.{last_or}
+use Rattle.std.proofs.Common.{◌≡◌, ◌⊎◌, inl, inr, ⊎_elim, ℕ, zero, suc, ◌<◌, ◌≤◌, arith, Bool, true, false, not, nat_lt, ◌||◌, IsTrue, List, [], ◌∷◌, ◌++◌, filter_map, length, slice_get, Option, Some, None, refl, sym, ◌∙◌, subst, eqb, eq-eqb, eqb-true}
 use Rattle.std.specs.List.{list_all, list_any}
 use Rattle.std.proofs.lemmas.Bool.{lt-ltb}
 use Rattle.heap_model.specs.declared.label.Label.{Label}
@@ -13,16 +16,7 @@ use Rattle.heap_model.proofs.Graphs.GraphLemmas.{same_label-true, same_label_ref
 use Rattle.heap_model.proofs.Reach.ReachLemmas.{or_cases, or_left, or_right, and_left, and_right, and_both}
 use Rattle.cycle_laws.specs.Marks.{fields_of, FieldsMarked, KeysMarked}
 use Rattle.cycle_laws.specs.Progress.{ProgressLaw, FieldsDone, KeysDone, KeysFound}
-use Rattle.cycle_laws.proofs.Tracing.{not_true}
-use Rattle.cycle_laws.proofs.Deciding.{get_inside}
 use Rattle.cycle_laws.proofs.Cleaning.{keys_each}
-
--- a place up to i is one below it, or i itself
-last_or : (p i : ℕ) → p < suc i → (p < i) ⊎ (p ≡ i)
-last_or zero zero lt = inr refl
-last_or zero (suc i) lt = inl (omega arith)
-last_or (suc p) zero lt = absurd (omega arith)
-last_or (suc p) (suc i) lt = ⊎_elim (λ less. inl (omega arith)) (λ same. inr (ap suc same)) (last_or p i (omega arith))
 
 -- fields
 pub fields_start : (marked : Label → Bool) (fields : List Value) → FieldsDone marked fields 0
@@ -47,7 +41,7 @@ fields_each marked (Block y ∷ fields) each l h = ⊎_elim
 pub fields_end : (g : Graph) (marked : Label → Bool) (l : Label) (tag : ℕ) (fields : List Value) (i : ℕ) → node_at g l ≡ Some (Plain tag fields)
     → FieldsDone marked fields i → length fields ≤ i → FieldsMarked g marked l
 fields_end g marked l tag fields i node done all = subst (λ o. HoldsRoots (fields_of o) marked) (sym node)
-    (fields_each marked fields (λ p x e. let inside = get_inside fields p (Block x) e in done p x (omega (arith, inside, all)) e))
+    (fields_each marked fields (λ p x e. let inside = slice_get_within fields p (Block x) e in done p x (omega (arith, inside, all)) e))
 
 -- keys
 pub keys_start : (marked : Label → Bool) (keys : List (Option Label)) → KeysDone marked keys 0
@@ -63,7 +57,7 @@ keys_next marked keys i done here p k lt at = ⊎_elim
 pub keys_end : (g : Graph) (marked : Label → Bool) (l : Label) (keys : List (Option Label)) (datum : Value) (i : ℕ) → node_at g l ≡ Some (Ephe keys datum)
     → KeysDone marked keys i → length keys ≤ i → KeysMarked g marked l
 keys_end g marked l keys datum i node done all = subst (λ o. HoldsRoots (full_keys o) marked) (sym node)
-    (keys_each marked keys (λ p k e. let inside = get_inside keys p (Some k) e in done p k (omega (arith, inside, all)) e))
+    (keys_each marked keys (λ p k e. let inside = slice_get_within keys p (Some k) e in done p k (omega (arith, inside, all)) e))
 
 key_listed : (keys : List (Option Label)) (p : ℕ) (k : Label) → slice_get keys p ≡ Some (Some k) → IsTrue (has_label (filter_map (λ j. j) keys) k)
 key_listed [] p k e = cc
@@ -151,7 +145,7 @@ found_takes marked keys i places found k at un = record {
 
 pub found_end : (marked : Label → Bool) (keys : List (Option Label)) (i : ℕ) (places : List ℕ) → KeysFound marked keys i places → length keys ≤ i
     → (p : ℕ) (k : Label) → slice_get keys p ≡ Some (Some k) → list_any (λ q. eqb q p) places ≡ false → IsTrue (marked k)
-found_end marked keys i places found all p k at none = let inside = get_inside keys p (Some k) at in found.others p k (omega (arith, inside, all)) at none
+found_end marked keys i places found all p k at none = let inside = slice_get_within keys p (Some k) at in found.others p k (omega (arith, inside, all)) at none
 
 pub progress_law : ProgressLaw
 progress_law = record {

@@ -1,8 +1,12 @@
 -- The live words: what each domain adds of its own blocks, and what that comes to.
-use Rattle.std.specs.Prelude.{◌≡◌, ℕ, zero, suc, ◌+◌, Bool, cond, IsTrue, List, length, sum_by, Some}
+use Rattle.std.specs.Prelude.{◌≡◌, ℕ, zero, suc, ◌+◌, ◌<◌, Bool, true, false, cond, IsTrue, List, length, sum_by, Some}
 use Rattle.heap_model.specs.declared.label.Label.{Label}
 use Rattle.heap_model.specs.Graph.{Graph, has_label, has_no_repeats, words_at}
-use Rattle.cycle_laws.specs.Shares.{Layout}
+use Rattle.cycle_laws.specs.Shares.{Layout, OnePlaceEach, at_domain, AllOwned}
+use Rattle.cycle_laws.specs.Marks.{IsWhole}
+use Rattle.heap_model.specs.declared.state.State.{State}
+use Rattle.heap_model.specs.Domains.{queues, roots, reach}
+use Rattle.cycle_laws.specs.Taking.{IsLeft}
 
 -- the sum of a function over the first domains
 abbrev pub total : (ℕ → ℕ) → ℕ → ℕ
@@ -24,3 +28,14 @@ pub record InCount (n : ℕ) (y : Layout) (g : Graph) (marked : Label → Bool) 
   pub out : IsShareOut y marked own
   pub blocks_are : blocks ≡ added_up added (λ d. length (own d)) n
   pub words_are : words ≡ added_up added (λ d. sum_by (words_at g) (own d)) n
+
+-- what the domains add up is what `full_major` answers, where the cycle was whole
+pub record CountLaw : Type 0 where
+  pub start : (n : ℕ) (y : Layout) (g : Graph) (marked : Label → Bool) (own : ℕ → List Label) → IsShareOut y marked own
+      → InCount n y g marked own (λ d. false) 0 0
+  pub adds : (n : ℕ) (y : Layout) (g : Graph) (marked : Label → Bool) (own : ℕ → List Label) (added : ℕ → Bool) (blocks words : ℕ)
+      → InCount n y g marked own added blocks words → (d : ℕ) → d < n → added d ≡ false
+      → InCount n y g marked own (at_domain added d true) (blocks + length (own d)) (words + sum_by (words_at g) (own d))
+  pub end : (n : ℕ) (y : Layout) (s : State) (marked : Label → Bool) (own : ℕ → List Label) (added : ℕ → Bool) (blocks words : ℕ)
+      → InCount n y s.graph marked own added blocks words → OnePlaceEach y → ((d : ℕ) → d < n → IsTrue (added d)) → AllOwned n y marked → IsLeft s marked
+      → IsWhole s.graph (roots s (queues s)) marked → (blocks ≡ length (reach s)) × (words ≡ sum_by (words_at s.graph) (reach s))

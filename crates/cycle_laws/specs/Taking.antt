@@ -1,15 +1,19 @@
 -- Clean and Lasts: which keys and registrations of `finalise_last` are taken; and what a collection leaves.
-use Rattle.std.specs.Prelude.{◌≡◌, ℕ, ◌≤◌, Bool, not, IsTrue, List, map, filter_map, flat_map, length, slice_get, Some}
+use Rattle.std.specs.Prelude.{◌≡◌, false, ℕ, ◌≤◌, Bool, not, IsTrue, List, map, filter_map, flat_map, length, slice_get, Some}
 use Rattle.heap_model.specs.declared.label.Label.{Label}
 use Rattle.heap_model.specs.declared.state.LastFinaliser.{LastFinaliser}
 use Rattle.heap_model.specs.declared.state.Mode.TheVariants.{Sealed}
 use Rattle.heap_model.specs.declared.state.State.{State}
 use Rattle.heap_model.specs.Graph.{has_label, label_of}
-use Rattle.heap_model.specs.Reach.{HoldsRoots}
-use Rattle.heap_model.specs.Domains.{domain_at, pending_label, queues}
+use Rattle.heap_model.specs.Reach.{HoldsRoots, is_reachable}
+use Rattle.heap_model.specs.Domains.{domain_at, pending_label, queues, roots, reach}
 use Rattle.heap_model.specs.Marked.{IsMarked}
-use Rattle.cycle_laws.specs.Marks.{FieldsMarked, KeysMarked, DataMarked}
+use Rattle.cycle_laws.specs.Marks.{FieldsMarked, KeysMarked, DataMarked, IsWhole}
 use Rattle.cycle_laws.specs.Shares.{Layout, Shares, AreShares, AllOwned}
+use Rattle.heap_model.specs.declared.entry.Entry.TheVariants.{Command, Collected, Done}
+use Rattle.heap_model.specs.declared.command.Command.TheVariants.{FullMajor}
+use Rattle.heap_model.specs.Entries.{Allowed, next, is_sealed}
+use Rattle.cycle_laws.specs.Queueing.{WaitingReached}
 
 -- what was taken since the Seal is unmarked
 abbrev pub TakenUnmarked : State → (Label → Bool) → Type 0
@@ -54,3 +58,17 @@ pub record LeadsToMarked (s : State) (marked : Label → Bool) : Type 0 where
   pub fields : (l : Label) → IsTrue (marked l) → FieldsMarked s.graph marked l
   pub keys : (l : Label) → IsTrue (marked l) → KeysMarked s.graph marked l
   pub datum : (l : Label) → IsTrue (marked l) → DataMarked s.graph marked l
+
+-- what a collection leaves: each reference leads to a marked block, the entries that end it are allowed, and neither they nor a `full_major` change what is left;
+-- where the cycle was whole, a block is marked exactly where it is reachable
+pub record LeftLaw : Type 0 where
+  pub marked_reach : (s : State) (marked : Label → Bool) → IsLeft s marked → IsWhole s.graph (roots s (queues s)) marked
+      → (l : Label) → marked l ≡ is_reachable s.graph (roots s (queues s)) l
+  pub leads : (s : State) (marked : Label → Bool) → IsLeft s marked → LeadsToMarked s marked
+  pub done : (s : State) (marked : Label → Bool) → IsTrue (is_sealed s.mode) → IsLeft s marked → Allowed s Done
+  pub collected : (s : State) (marked : Label → Bool) → s.mode ≡ Sealed → IsLeft s marked → IsWhole s.graph (roots s (queues s)) marked → WaitingReached s
+      → Allowed s Collected
+  pub after_collected : (s : State) (marked : Label → Bool) → IsLeft s marked → IsLeft (next s Collected) marked
+  pub after_full_major : (s : State) (marked : Label → Bool) (d : ℕ) → IsLeft s marked → IsLeft (next s (Command d FullMajor false)) marked
+  pub collected_reach : (s : State) → reach (next s Collected) ≡ reach s
+  pub full_major_reach : (s : State) (d : ℕ) → reach (next s (Command d FullMajor false)) ≡ reach s
