@@ -18,15 +18,6 @@ use Rattle.cycle_laws.proofs.Tracing.{More, darkened_more, darkened_cases, edges
 
 -- Cover holds the marked and the new labels, is closed under old fields, and grows with the marks
 module _ (old : Graph) (marked : Label → Bool) where
-  pub cover_marked : (l : Label) → IsTrue (marked l) → InCover old marked l
-  cover_marked l is set m n c = m l is
-
-  pub cover_new : (l : Label) → IsTrue (is_new old l) → InCover old marked l
-  cover_new l is set m n c = n l is
-
-  pub cover_field : (l : Label) (i : ℕ) (x : Label) → InCover old marked l → field_at old l i ≡ Some (Block x) → InCover old marked x
-  cover_field l i x cover at set m n c = c l x i (cover set m n c) at
-
   pub cover_more : (other : Label → Bool) → More marked other → (l : Label) → InCover old marked l → InCover old other l
   cover_more other more l cover set m n c = cover set (λ x h. m x (more x h)) n c
 
@@ -53,7 +44,6 @@ field_done v c l i now x at = ⊎_elim
 -- a darkening
 pub cover_darkens : (v : Covering) → IsCovered v → (l : Label) → IsTrue (v.places l) → IsCovered (record v { marks = darkened v.marks l })
 cover_darkens v c l place = record {
-  grown = c.grown;
   same = c.same;
   scanned = λ k i x marked scanned at. ⊎_elim
       (λ here. absurd (not_true (same_label l k) (and_left (not (same_label l k)) (v.marks.scanned k) scanned) (subst (λ z. IsTrue (same_label l z)) here (same_label_refl l))))
@@ -95,7 +85,6 @@ field_listed (Some (Plain tag fields)) i x at = go fields i at
 -- a scan while all stand still
 pub cover_scans : (v : Covering) → IsCovered v → (l : Label) → FieldsMarked v.now v.marks.marked l → IsCovered (record v { marks = with_scanned v.marks l })
 cover_scans v c l fields = record {
-  grown = c.grown;
   same = c.same;
   scanned = λ k i x marked scanned at. ⊎_elim
       (λ here. field_done v c l i (λ y now. fields y (field_listed (node_at v.now l) i y now)) x (subst (λ z. field_at v.old z i ≡ Some (Block x)) (sym (same_label-true l k here)) at))

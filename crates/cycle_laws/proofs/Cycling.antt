@@ -1,6 +1,7 @@
 -- A cycle that ends in this pause: its steps and its phases.
+use Rattle.cycle_laws.proofs.LookingBack.{through_looks, through_arrives}
 use Rattle.heap_model.proofs.Collections.CutLemmas.{part_same}
-use Rattle.std.proofs.Common.{◌≡◌, inl, inr, ⊎_elim, arith, ℕ, suc, ◌<◌, Bool, true, false, not, IsTrue, List, [], ◌∷◌, ◌++◌, map, flat_map, filter_map, length, slice_get, Option, Some, refl, ap, sym, ◌∙◌, subst, eqb}
+use Rattle.std.proofs.Common.{◌≡◌, inl, inr, ⊎_elim, ℕ, suc, ◌<◌, Bool, true, false, not, IsTrue, List, [], ◌∷◌, ◌++◌, map, flat_map, filter_map, length, slice_get, Option, Some, refl, ap, sym, subst, eqb}
 use Rattle.std.specs.List.{list_all, list_any}
 use Rattle.heap_model.specs.declared.label.Label.{Label}
 use Rattle.heap_model.specs.declared.command.Command.TheVariants.{FullMajor}
@@ -310,10 +311,7 @@ module _ (n : ℕ) (s : State) (c : Cycle) where
       whole = i.whole;
       stays = i.stays;
       decide = deciding.decide_keeps s c.marks.marked c.left i.decide d p f place at is;
-      through = λ j h. ⊎_elim
-          (λ t. absurd (let was : c.left d ≡ 0 = subst (λ z. c.left z ≡ 0) t.0 (i.through j h) in omega arith))
-          (λ t. t.1 ∙ i.through j h)
-          (at_cases c.left d p j);
+      through = through_looks c.shares.arrived c.left d i.through p place;
     }
 
     pub decide_queues : (d p : ℕ) (f : Finaliser) → c.left d ≡ suc p → slice_get (domain_at s d).finals p ≡ Some f → IsTrue (not (c.marks.marked f.label))
@@ -325,10 +323,7 @@ module _ (n : ℕ) (s : State) (c : Cycle) where
         whole = λ is. deciding.whole_queues s c.marks.marked d (p ∷ []) (i.whole is);
         stays = deciding.cut_stays_grow s d (with_queued (domain_at s d) (p ∷ [])) _ refl refl i.stays;
         decide = deciding.decide_queues s c.marks.marked c.left i.decide d p f place at un inside;
-        through = λ j h. ⊎_elim
-            (λ t. absurd (let was : c.left d ≡ 0 = subst (λ z. c.left z ≡ 0) t.0 (i.through j h) in omega arith))
-            (λ t. t.1 ∙ i.through j h)
-            (at_cases c.left d p j);
+        through = through_looks c.shares.arrived c.left d i.through p place;
       },
     )
 
@@ -338,10 +333,7 @@ module _ (n : ℕ) (s : State) (c : Cycle) where
       whole = i.whole;
       stays = i.stays;
       decide = i.decide;
-      through = λ j h. ⊎_elim
-          (λ t. subst (λ z. c.left z ≡ 0) (sym t.0) none)
-          (λ t. i.through j (subst (λ b. IsTrue b) t.1 h))
-          (at_cases c.shares.arrived d true j);
+      through = through_arrives c.shares.arrived c.left d i.through none;
     }
 
     pub decide_queued : n ≡ length s.domains → AllArrived n c.shares → InPhase (Roots Second) n s (with_shares c no_shares)
@@ -440,10 +432,7 @@ module _ (n : ℕ) (s : State) (c : Cycle) where
       whole = i.whole;
       waiting = i.waiting;
       lasts = leaving.lasts_keeps s c.marks.marked c.left i.lasts d p f place at is;
-      through = λ j h. ⊎_elim
-          (λ t. absurd (let was : c.left d ≡ 0 = subst (λ z. c.left z ≡ 0) t.0 (i.through j h) in omega arith))
-          (λ t. t.1 ∙ i.through j h)
-          (at_cases c.left d p j);
+      through = through_looks c.shares.arrived c.left d i.through p place;
     }
 
     pub lasts_queues : (d p : ℕ) (f : LastFinaliser) → c.left d ≡ suc p → slice_get (domain_at s d).lasts p ≡ Some f → IsTrue (not (c.marks.marked f.label))
@@ -455,10 +444,7 @@ module _ (n : ℕ) (s : State) (c : Cycle) where
         whole = λ is. leaving.last_whole s c.marks.marked c.left i.lasts d p f place at un inside (i.whole is);
         waiting = λ is. leaving.last_waiting s c.marks.marked c.left i.lasts d p f place at un inside (i.waiting is);
         lasts = leaving.lasts_queues s c.marks.marked c.left i.lasts d p f place at un inside;
-        through = λ j h. ⊎_elim
-            (λ t. absurd (let was : c.left d ≡ 0 = subst (λ z. c.left z ≡ 0) t.0 (i.through j h) in omega arith))
-            (λ t. t.1 ∙ i.through j h)
-            (at_cases c.left d p j);
+        through = through_looks c.shares.arrived c.left d i.through p place;
       },
     )
 
@@ -468,10 +454,7 @@ module _ (n : ℕ) (s : State) (c : Cycle) where
       whole = i.whole;
       waiting = i.waiting;
       lasts = i.lasts;
-      through = λ j h. ⊎_elim
-          (λ t. subst (λ z. c.left z ≡ 0) (sym t.0) none)
-          (λ t. i.through j (subst (λ b. IsTrue b) t.1 h))
-          (at_cases c.shares.arrived d true j);
+      through = through_arrives c.shares.arrived c.left d i.through none;
     }
 
     -- the rotation of the colours

@@ -1,13 +1,14 @@
 -- Lasts, the rotation of the colours, and the entries that end a collection.
-use Rattle.std.proofs.lemmas.Option.{slice_get_within}
+use Rattle.cycle_laws.proofs.LookingBack.{LooksBack, looks_start, looks_end, place_below, looks_keeps, looks_takes}
+use Rattle.heap_model.proofs.Collections.CollectedLemmas.{reach_fresh}
+use Rattle.std.proofs.Common.{get_or}
 use Rattle.heap_model.proofs.Collections.CutLemmas.{part_same, roots_same}
 use Rattle.heap_model.proofs.Collections.MarkLemmas.{all_labels}
 use Rattle.heap_model.proofs.Graphs.ListLemmas.{set_cases_inside}
 use Rattle.heap_model.proofs.Reach.ReachLemmas.{keys_all, not_true}
 use Rattle.heap_model.specs.Domains.{no_domain}
-use Rattle.cycle_laws.proofs.Sharing.{last_or}
 use Rattle.cycle_laws.proofs.Tracing.{marked_reach}
-use Rattle.std.proofs.Common.{◌≡◌, ◌⊎◌, inl, inr, ⊎_elim, ℕ, suc, ◌<◌, ◌≤◌, arith, Bool, true, false, not, IsTrue, List, [], ◌∷◌, ◌++◌, map, flat_map, filter_map, option_to_list, length, set, slice_get, remove, Option, Some, None, refl, ap, ap₂, sym, ◌∙◌, subst}
+use Rattle.std.proofs.Common.{◌≡◌, ◌⊎◌, inl, inr, ⊎_elim, ℕ, suc, ◌<◌, arith, Bool, true, false, not, IsTrue, List, [], ◌∷◌, ◌++◌, map, flat_map, filter_map, option_to_list, length, set, slice_get, Option, Some, None, refl, ap, ap₂, sym, ◌∙◌, subst}
 use Rattle.std.specs.List.{cons_option, list_all, list_any}
 use Rattle.heap_model.specs.declared.label.Label.{Label}
 use Rattle.heap_model.specs.declared.command.Command.TheVariants.{FullMajor}
@@ -34,8 +35,7 @@ use Rattle.cycle_laws.specs.Shares.{Layout, Shares, at_domain, AllArrived}
 use Rattle.cycle_laws.specs.Queueing.{WaitingReached}
 use Rattle.cycle_laws.specs.Taking.{last_labels, InClean, InLasts, IsLeft, LeadsToMarked}
 use Rattle.cycle_laws.proofs.Tracing.{held_fields, held_data, holds_more}
-use Rattle.cycle_laws.proofs.Sharing.{at_cases}
-use Rattle.cycle_laws.proofs.DomainParts.{part_all, part_has, registration_cases, get-remove_above}
+use Rattle.cycle_laws.proofs.DomainParts.{part_all, part_has}
 use Rattle.cycle_laws.proofs.Cleaning.{part_mapped, roots_mapped_now, clean_end}
 
 -- what an ephemeron holds is one of its keys or its data
@@ -84,9 +84,12 @@ lasts_start n y s marked w i arrived = record {
   marks = i.marks;
   taken = i.taken;
   keys = clean_end n y s marked w i arrived;
-  below = λ d. let low = i.low d in omega (arith, low);
-  kept = λ d p f le e. let inside = slice_get_within (domain_at s d).lasts p f e in absurd (omega (arith, inside, le));
+  below = start.below;
+  kept = start.kept;
 }
+  where
+    start : LooksBack (λ (f : LastFinaliser). f.label) marked (λ d. (domain_at s d).lasts) (λ d. (domain_at s d).low) (λ d. length (domain_at s d).lasts)
+    start = looks_start (λ (f : LastFinaliser). f.label) marked _ _ _ (λ d. let low = i.low d in omega (arith, low)) (λ d. omega arith)
 
 one_last : (o : Option LastFinaliser) (f : LastFinaliser) → o ≡ Some f → (l : Label) → IsTrue (has_label (map (λ g. g.label) (cons_option o [])) l) → f.label ≡ l
 one_last None f e l h = cc
@@ -96,36 +99,21 @@ one_last (Some g) f e l h = ⊎_elim
     (or_cases (same_label g.label l) false h)
 
 module _ (s : State) (marked : Label → Bool) (left : ℕ → ℕ) (i : InLasts s marked left) where
+  abbrev looks : LooksBack (λ (f : LastFinaliser). f.label) marked (λ d. (domain_at s d).lasts) (λ d. (domain_at s d).low) left
+  looks = record { below = i.below; kept = i.kept }
+
   module _ (d p : ℕ) (f : LastFinaliser) (next_place : left d ≡ suc p) (at : slice_get (domain_at s d).lasts p ≡ Some f) where
     -- the domain looks at its next registration: its value is marked
     pub lasts_keeps : IsTrue (marked f.label) → InLasts s marked (at_domain left d p)
-    lasts_keeps is = record {
-      mode = i.mode;
-      marks = i.marks;
-      taken = i.taken;
-      keys = i.keys;
-      below = λ k. ⊎_elim
-          (λ t. let low = i.below d in subst (λ j. at_domain left d p k ≤ (domain_at s j).low) (sym t.0) (let e = t.1 in omega (arith, e, low, next_place)))
-          (λ t. let low = i.below k in let e = t.1 in omega (arith, e, low))
-          (at_cases left d p k);
-      kept = λ k j g le e. ⊎_elim
-          (λ t.
-          let here : slice_get (domain_at s d).lasts j ≡ Some g = subst (λ n. slice_get (domain_at s n).lasts j ≡ Some g) t.0 e in
-          let le' : p ≤ j = subst (λ n. n ≤ j) t.1 le in ⊎_elim
-          (λ above. i.kept d j g (subst (λ n. n ≤ j) (sym next_place) above) here)
-          (λ same. let is_it : f ≡ g = (let back : slice_get (domain_at s d).lasts p ≡ Some g = subst (λ n. slice_get (domain_at s d).lasts n ≡ Some g) (sym same) here in cc (at, back)) in
-          subst (λ (z : LastFinaliser). IsTrue (marked z.label)) is_it is)
-          (last_or p j (omega (arith, le'))))
-          (λ t. i.kept k j g (subst (λ n. n ≤ j) t.1 le) e)
-          (at_cases left d p k);
-    }
+    lasts_keeps is =
+        let on = looks_keeps (λ (g : LastFinaliser). g.label) marked _ _ left looks d p next_place f at is in
+        record { mode = i.mode; marks = i.marks; taken = i.taken; keys = i.keys; below = on.below; kept = on.kept }
 
     -- or it is unmarked: the entry Last is allowed
     module _ (un : IsTrue (not (marked f.label))) where
       pub last_allowed : LastAllowed s d p
       last_allowed =
-          let low = i.below d in
-          let lt : p < (domain_at s d).low = omega (arith, low, next_place) in
+          let lt : p < (domain_at s d).low = place_below (λ (g : LastFinaliser). g.label) marked _ _ left looks d p next_place in
           last_unmarked s marked d p f i.mode lt at i.marks un (λ x is. let_go s.graph marked i.marks.closed i.keys f.label x un is)
 
       module _ (inside : d < length s.domains) where
@@ -148,30 +136,15 @@ module _ (s : State) (marked : Label → Bool) (left : ℕ → ℕ) (i : InLasts
               (λ new. subst (λ z. IsTrue (not (marked z))) (one_last (slice_get (domain_at s d).lasts p) f at l new) un)
               (has-append_cases s.taken (map (λ f. f.label) (at_places (p ∷ []) (domain_at s d).lasts)) l h);
           keys = i.keys;
-          below = λ k. ⊎_elim
-              (λ t. ⊎_elim
-              (λ u. let low = ap (λ (x : DomainState). x.low) t.1 in let now = u.1 in omega (arith, low, now))
-              (λ u. absurd (u.0 t.0))
-              (at_cases left d p k))
-              (λ t. ⊎_elim
-              (λ u. absurd (t.0 u.0))
-              (λ u. let low = ap (λ (x : DomainState). x.low) t.1 in let now = u.1 in let was = i.below k in omega (arith, low, now, was))
-              (at_cases left d p k))
-              (set_cases_inside s.domains d queued_domain no_domain k inside);
-          kept = λ k j g le e. ⊎_elim
-              (λ t. ⊎_elim
-              (λ u.
-              let le' : p ≤ j = subst (λ n. n ≤ j) u.1 le in
-              let now : slice_get (remove (domain_at s d).lasts p) j ≡ Some g = ap (λ (x : DomainState). slice_get x.lasts j) (sym t.1) ∙ e in
-              i.kept d (suc j) g (omega (arith, le', next_place)) (sym (get-remove_above (domain_at s d).lasts p j le') ∙ now))
-              (λ u. absurd (u.0 t.0))
-              (at_cases left d p k))
-              (λ t. ⊎_elim
-              (λ u. absurd (t.0 u.0))
-              (λ u. i.kept k j g (subst (λ n. n ≤ j) u.1 le) (ap (λ (x : DomainState). slice_get x.lasts j) (sym t.1) ∙ e))
-              (at_cases left d p k))
-              (set_cases_inside s.domains d queued_domain no_domain k inside);
+          below = on.below;
+          kept = on.kept;
         }
+          where
+            on : LooksBack (λ (g : LastFinaliser). g.label) marked (λ k. (get_or (set s.domains d queued_domain) k no_domain).lasts) (λ k. (get_or (set s.domains d queued_domain) k no_domain).low) (at_domain left d p)
+            on = looks_takes (λ (g : LastFinaliser). g.label) marked _ _ left looks d p next_place _ _ (λ k. ⊎_elim
+                (λ t. inl (t.0, ap (λ (x : DomainState). x.lasts) t.1, ap (λ (x : DomainState). x.low) t.1))
+                (λ t. inr (t.0, ap (λ (x : DomainState). x.lasts) t.1, ap (λ (x : DomainState). x.low) t.1))
+                (set_cases_inside s.domains d queued_domain no_domain k inside))
 
         -- a whole cycle stays so
         pub last_whole : IsWhole s.graph (roots s (queues s)) marked → IsWhole s.graph (roots (next s (LastOf d p)) (queues (next s (LastOf d p)))) marked
@@ -188,10 +161,8 @@ module _ (s : State) (marked : Label → Bool) (left : ℕ → ℕ) (i : InLasts
     marks = i.marks;
     taken = i.taken;
     keys = i.keys;
-    lasts = part_all (λ x. map (λ f. f.label) x.lasts) s.domains marked (λ d lt l h.
-        let t = registration_cases (λ (f : LastFinaliser). f.label) (domain_at s d).lasts l h in
-        let none = all d lt in
-        subst (λ z. IsTrue (marked z)) t.3 (i.kept d t.0 t.1 (omega (arith, none)) t.2));
+    lasts = part_all (λ x. map (λ f. f.label) x.lasts) s.domains marked
+        (λ d lt. looks_end (λ (f : LastFinaliser). f.label) marked _ _ left looks d (all d lt));
   }
 
 -- the rotation: each reference leads to a marked block
@@ -287,10 +258,7 @@ left_reach : (s : State) (marked : Label → Bool) → IsLeft s marked → IsWho
     → (l : Label) → marked l ≡ is_reachable s.graph (roots s (queues s)) l
 left_reach s marked i = marked_reach s.graph (roots s (queues s)) marked i.marks.closed i.marks.roots
 
--- neither changes what is reachable
-pub collected_reach : (s : State) → reach (next s Collected) ≡ reach s
-collected_reach s = ap (reachable s.graph) (roots_mapped_now s freshened (λ x. refl) (λ x. refl))
-
+-- nor does a `full_major` change what is reachable
 pub asked_reach : (s : State) (d : ℕ) → reach (next s (CommandOf d FullMajor false)) ≡ reach s
 asked_reach s d = ap (reachable s.graph) (asked_roots s d)
 
@@ -302,6 +270,6 @@ left_law = record {
   collected = collected_left;
   after_collected = left_collected;
   after_full_major = left_full_major;
-  collected_reach = collected_reach;
+  collected_reach = reach_fresh;
   full_major_reach = asked_reach;
 }

@@ -26,9 +26,6 @@ module _ {A : Type 0} (f : ℕ → A) (d : ℕ) (v : A) where
       go true e = inl (eqb-true k d e, refl)
       go false e = inr ((λ same. let clash : true ≡ false = sym (eq-eqb k d same) ∙ e in cc), refl)
 
-  pub at_other : (k : ℕ) → (k ≡ d → ⊥) → at_domain f d v k ≡ f k
-  at_other k other = ⊎_elim (λ t. absurd (other t.0)) (λ t. t.1) (at_cases k)
-
 module _ (w : Shares) (d a : ℕ) where
   abbrev less : ℕ → Bool
   less b = w.seen d b && not (eqb b a)

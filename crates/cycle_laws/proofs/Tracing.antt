@@ -11,7 +11,7 @@ use Rattle.heap_model.specs.Graph.{Graph, same_label, has_label, label_of, node_
 use Rattle.heap_model.specs.Reach.{key_holds, edges_of, reachable, is_reachable, HoldsRoots, IsClosedUnder, IsClosedGraph, IsLeastClosed}
 use Rattle.heap_model.specs.Entries.{full_keys}
 use Rattle.heap_model.proofs.Graphs.GraphLemmas.{same_label-true, same_label_refl}
-use Rattle.heap_model.proofs.Reach.ReachLemmas.{or_cases, or_left, or_right, and_left, and_right, and_both, reachable_least, reach_law}
+use Rattle.heap_model.proofs.Reach.ReachLemmas.{or_cases, or_right, and_left, and_right, and_both, reachable_least, reach_law}
 use Rattle.cycle_laws.specs.Marks.{Marks, darkened, with_scanned, fields_of, data_of, FieldsMarked, KeysMarked, IsTraced, NoneGrey, DataFollows, IsWhole, MayDarken}
 
 -- more is marked
@@ -24,9 +24,6 @@ holds_more marked other more ls holds l h = more l (holds l h)
 -- the marks after a darkening
 pub darkened_more : (m : Marks) (l : Label) → More m.marked (darkened m l).marked
 darkened_more m l x h = or_right (same_label l x) (m.marked x) h
-
-pub darkened_new : (m : Marks) (l : Label) → IsTrue ((darkened m l).marked l)
-darkened_new m l = or_left (same_label l l) (m.marked l) (same_label_refl l)
 
 pub darkened_cases : (m : Marks) (l x : Label) → IsTrue ((darkened m l).marked x) → (l ≡ x) ⊎ IsTrue (m.marked x)
 darkened_cases m l x h = ⊎_elim (λ here. inl (same_label-true l x here)) (λ old. inr old) (or_cases (same_label l x) (m.marked x) h)

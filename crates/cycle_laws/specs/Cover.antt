@@ -6,7 +6,6 @@ use Rattle.heap_model.specs.declared.graph.Value.TheVariants.{Block}
 use Rattle.heap_model.specs.declared.graph.Node.{Node}
 use Rattle.heap_model.specs.declared.graph.Node.TheVariants.{Plain, Raw, Ephe}
 use Rattle.heap_model.specs.Graph.{Graph, labels, has_label, node_at}
-use Rattle.heap_model.specs.Reach.{HoldsRoots}
 use Rattle.cycle_laws.specs.Marks.{Marks}
 
 -- the value in a field of a plain block
@@ -43,7 +42,6 @@ pub record Covering : Type 0 where
   pub marks : Marks
 
 pub record IsCovered (v : Covering) : Type 0 where
-  pub grown : HoldsRoots (labels v.old) (has_label (labels v.now))
   pub same : (l : Label) (i : ℕ) → is_new v.old l ≡ false → v.overwritten l i ≡ false → field_at v.now l i ≡ field_at v.old l i
   pub scanned : (l : Label) (i : ℕ) (x : Label) → IsTrue (v.marks.marked l) → IsTrue (v.marks.scanned l) → field_at v.old l i ≡ Some (Block x) → IsTrue (v.marks.marked x)
   pub lost : (l : Label) (i : ℕ) (x : Label) → IsTrue (v.overwritten l i) → field_at v.old l i ≡ Some (Block x) → IsTrue (v.marks.marked x)

@@ -12,10 +12,6 @@ pub record Marks : Type 0 where
   pub marked : Label → Bool
   pub scanned : Label → Bool
 
--- a grey block is marked and not scanned
-abbrev pub is_grey : Marks → Label → Bool
-is_grey m l = m.marked l && not (m.scanned l)
-
 -- the marks after a block was darkened: it is grey
 abbrev pub darkened : Marks → Label → Marks
 darkened m l = record { marked = λ x. same_label l x || m.marked x; scanned = λ x. not (same_label l x) && m.scanned x }
