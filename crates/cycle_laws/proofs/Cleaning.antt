@@ -1,6 +1,5 @@
 -- From the Seal to the end of Clean: each Wipe that is made is allowed, and at the end no marked ephemeron has an unmarked key.
 use Rattle.std.proofs.lemmas.Bool.{ne_eqb}
-use Rattle.heap_model.proofs.Collections.CutLemmas.{queues_mapped}
 use Rattle.std.proofs.Common.{◌≡◌, ⊎_elim, ℕ, zero, suc, arith, Bool, true, false, cond, not, IsTrue, List, [], ◌∷◌, ◌++◌, map, flat_map, filter_map, length, set, slice_get, Option, Some, None, refl, ap, ap₂, sym, ◌∙◌, subst, eqb}
 use Rattle.std.specs.List.{cons_option, list_all, list_any}
 use Rattle.std.specs.Option.{option_map_or}
@@ -18,6 +17,7 @@ use Rattle.heap_model.specs.Reach.{key_holds, edges_of, edges_at, reachable, is_
 use Rattle.heap_model.specs.Domains.{pending_label, queues, roots, waiting}
 use Rattle.heap_model.specs.Entries.{is_rising, is_some_and, with_lasts_open, at_places, wiped_keys, wiped, with_wiped, keys_at, with_taken, full_keys, WipeAllowed, next}
 use Rattle.heap_model.specs.Marked.{IsMarked}
+use Rattle.heap_model.proofs.Collections.CutLemmas.{queues_mapped}
 use Rattle.heap_model.proofs.Graphs.GraphLemmas.{same_label-true, node_at-with_node_same, node_at-with_node_other}
 use Rattle.heap_model.proofs.Commands.FrameLemmas.{label_cases}
 use Rattle.heap_model.proofs.Collections.MarkLemmas.{wipe_unmarked}

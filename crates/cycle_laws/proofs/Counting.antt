@@ -1,23 +1,21 @@
 -- What the domains add up to is what is reachable, each block once.
 use Rattle.std.proofs.lemmas.List.Sums.{sum_by-cons}
-use Rattle.heap_model.proofs.Reach.LabelListLemmas.{tally_same, no_repeats_append, length-tally}
-use Rattle.cycle_laws.proofs.Tracing.{marked_reach}
-use Rattle.cycle_laws.proofs.Sharing.{last_or}
 use Rattle.std.proofs.Common.{◌≡◌, ⊎_elim, ℕ, zero, suc, ◌+◌, ◌<◌, ◌≤◌, arith, Bool, true, false, cond, IsTrue, List, [], ◌∷◌, ◌++◌, length, Some, refl, ap, sym, ◌∙◌, subst}
 use Rattle.std.specs.List.{sum_by}
 use Rattle.heap_model.specs.declared.label.Label.{Label}
 use Rattle.heap_model.specs.declared.state.State.{State}
 use Rattle.heap_model.specs.Graph.{Graph, has_label, has_no_repeats, words_at}
 use Rattle.heap_model.specs.Domains.{queues, roots, reach}
+use Rattle.heap_model.proofs.Reach.LabelListLemmas.{tally_same, no_repeats_append, length-tally}
 use Rattle.heap_model.proofs.Reach.ReachLemmas.{has-append_cases, has-append_left, has-append_right}
 use Rattle.heap_model.proofs.Reach.ReachSizeLemmas.{reachable-no_repeats}
 use Rattle.heap_model.proofs.Histories.TallyLemmas.{tally, tally-append}
-use Rattle.cycle_laws.specs.Counting.{CountLaw}
+use Rattle.cycle_laws.specs.Counting.{CountLaw, total, added_up, IsShareOut, InCount}
 use Rattle.cycle_laws.specs.Marks.{IsWhole}
 use Rattle.cycle_laws.specs.Shares.{Layout, OnePlaceEach, AllOwned, at_domain}
-use Rattle.cycle_laws.specs.Counting.{total, added_up, IsShareOut, InCount}
 use Rattle.cycle_laws.specs.Taking.{IsLeft}
-use Rattle.cycle_laws.proofs.Sharing.{at_cases}
+use Rattle.cycle_laws.proofs.Tracing.{marked_reach}
+use Rattle.cycle_laws.proofs.Sharing.{last_or, at_cases}
 
 -- the lists of the first domains, one after the other
 joined : (ℕ → List Label) → ℕ → List Label

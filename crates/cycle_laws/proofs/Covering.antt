@@ -1,5 +1,4 @@
 -- What is known of the marks beside running domains is kept by each move, and gives at the end that the marked blocks are closed.
-use Rattle.heap_model.proofs.Reach.ReachLemmas.{is_false, not_true}
 use Rattle.std.proofs.Common.{◌≡◌, ◌⊎◌, ⊎_elim, ℕ, zero, suc, Bool, false, not, ◌||◌, IsTrue, List, [], ◌∷◌, filter_map, slice_get, set, Option, Some, None, refl, ap, sym, ◌∙◌, subst}
 use Rattle.heap_model.specs.declared.label.Label.{Label}
 use Rattle.heap_model.specs.declared.graph.Value.{Value}
@@ -9,9 +8,9 @@ use Rattle.heap_model.specs.declared.graph.Node.TheVariants.{Plain, Raw, Ephe}
 use Rattle.heap_model.specs.Graph.{Graph, labels, has_label, same_label, label_of, node_at}
 use Rattle.heap_model.specs.Reach.{HoldsRoots, IsClosedUnder}
 use Rattle.heap_model.specs.WellFormed.{names_of}
+use Rattle.heap_model.proofs.Reach.ReachLemmas.{is_false, not_true, or_cases, or_left, or_right, and_left, and_right, true_or_false}
 use Rattle.heap_model.proofs.Graphs.GraphLemmas.{same_label-true, same_label_refl}
 use Rattle.heap_model.proofs.Histories.NumberLemmas.{node_at-no_label}
-use Rattle.heap_model.proofs.Reach.ReachLemmas.{or_cases, or_left, or_right, and_left, and_right, true_or_false}
 use Rattle.cycle_laws.specs.Marks.{darkened, with_scanned, fields_of, FieldsMarked, NoneGrey, DataFollows}
 use Rattle.cycle_laws.specs.Cover.{field_in, field_at, is_new, InCover, Covering, IsCovered}
 use Rattle.cycle_laws.proofs.Tracing.{More, darkened_more, darkened_cases, edges_hold}

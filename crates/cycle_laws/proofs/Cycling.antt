@@ -1,6 +1,4 @@
 -- A cycle that ends in this pause: its steps and its phases.
-use Rattle.cycle_laws.proofs.LookingBack.{through_looks, through_arrives}
-use Rattle.heap_model.proofs.Collections.CutLemmas.{part_same}
 use Rattle.std.proofs.Common.{◌≡◌, inl, inr, ⊎_elim, ℕ, suc, ◌<◌, Bool, true, false, not, IsTrue, List, [], ◌∷◌, ◌++◌, map, flat_map, filter_map, length, slice_get, Option, Some, refl, ap, sym, subst, eqb}
 use Rattle.std.specs.List.{list_all, list_any}
 use Rattle.heap_model.specs.declared.label.Label.{Label}
@@ -16,17 +14,19 @@ use Rattle.heap_model.specs.Graph.{has_label, label_of, node_at}
 use Rattle.heap_model.specs.Reach.{HoldsRoots, is_reachable, IsClosedUnder}
 use Rattle.heap_model.specs.Domains.{domain_at, pending_label, queues, roots}
 use Rattle.heap_model.specs.Entries.{Allowed, next, is_some_and, is_rising, is_sealed, freshened, with_queued}
+use Rattle.heap_model.proofs.Collections.CutLemmas.{part_same}
+use Rattle.heap_model.proofs.Reach.ReachLemmas.{has-append_left}
 use Rattle.cycle_laws.specs.Marks.{Marks, darkened, with_scanned, FieldsMarked, KeysMarked, DataMarked, NoneGrey, DataFollows, IsWhole}
 use Rattle.cycle_laws.specs.Shares.{Layout, OnePlaceEach, reset_shares, no_shares, at_domain, again, owing, stored_changed, sees, arrives, AllArrived, AllOwned}
 use Rattle.cycle_laws.specs.Queueing.{RootsMarked, IsDecided}
 use Rattle.cycle_laws.specs.Taking.{LeadsToMarked}
 use Rattle.cycle_laws.specs.Cycle.{Cycle, Pass, First, Second, Roots, Mark, Rounds, Decide, Clean, Lasts, Sweep, WholeFrom, Passed, IsRooted, IsUnderWay, Known, InPhase, with_shares, with_marks}
 use Rattle.cycle_laws.specs.CycleLaws.{Darkens, Arrives, DarkeningSteps, TakingSteps, PhaseSteps}
+use Rattle.cycle_laws.proofs.LookingBack.{through_looks, through_arrives}
 use Rattle.cycle_laws.proofs.Tracing.{More, holds_more, darkened_more, never, held_fields, darken_traced, darken_whole, scan_traced, closed_when}
 use Rattle.cycle_laws.proofs.Sharing.{at_cases, owned_darkened, mark_start, mark_darkens_own as shares_darken_own, mark_darkens_other as shares_darken_other, mark_scans as shares_scan, mark_stores as shares_store, mark_sees, mark_arrives as shares_arrive, mark_end, rounds_start, rounds_darkens as rounds_darken, rounds_stores as rounds_store, rounds_sees, rounds_arrives as rounds_arrive, rounds_end}
 use Rattle.cycle_laws.proofs.Covering.{cover_darkens, cover_scans, cover_closed}
 use Rattle.cycle_laws.proofs.DomainParts.{part_has, roots_end}
-use Rattle.heap_model.proofs.Reach.ReachLemmas.{has-append_left}
 use Rattle.cycle_laws.proofs.Deciding as deciding
 use Rattle.cycle_laws.proofs.Cleaning as cleaning
 use Rattle.cycle_laws.proofs.Leaving as leaving

@@ -1,7 +1,4 @@
 -- From the Cut to the end of Decide: each Queue that is made is allowed, and at the end the Seal is allowed and what waits is marked.
-use Rattle.cycle_laws.proofs.LookingBack.{LooksBack, looks_start, looks_end, place_below, looks_keeps, looks_takes}
-use Rattle.heap_model.proofs.Collections.CutLemmas.{part_same, queues_mapped, queue_grows}
-use Rattle.heap_model.proofs.Graphs.ListLemmas.{set_cases_inside}
 use Rattle.std.proofs.Common.{inr, inl, set, ◌≡◌, ⊎_elim, ℕ, zero, suc, ◌<◌, arith, Bool, true, false, not, nat_lt, IsTrue, List, [], ◌∷◌, ◌++◌, map, flat_map, filter_map, length, get_or, slice_get, Option, Some, None, refl, ap, sym, ◌∙◌, subst}
 use Rattle.std.specs.List.{cons_option}
 use Rattle.std.proofs.lemmas.Bool.{lt-ltb}
@@ -15,13 +12,15 @@ use Rattle.heap_model.specs.Graph.{same_label, has_label, label_of}
 use Rattle.heap_model.specs.Reach.{HoldsRoots, IsClosedUnder}
 use Rattle.heap_model.specs.Domains.{domain_at, with_domain, no_domain, pending_label, queues, roots, waiting}
 use Rattle.heap_model.specs.Entries.{is_some_and, with_finals_open, with_queued, queued_final, queued_beyond, QueueAllowed, next}
+use Rattle.heap_model.proofs.Collections.CutLemmas.{part_same, queues_mapped, queue_grows}
+use Rattle.heap_model.proofs.Graphs.ListLemmas.{set_cases_inside, flat_map-map}
 use Rattle.heap_model.proofs.Graphs.GraphLemmas.{same_label-true}
-use Rattle.heap_model.proofs.Graphs.ListLemmas.{flat_map-map}
 use Rattle.heap_model.proofs.Collections.MarkLemmas.{queue_unmarked, seal_marked}
 use Rattle.heap_model.proofs.Reach.ReachLemmas.{or_cases, and_both, has-append_cases, has-append_left, has-append_right, reachable_more}
 use Rattle.cycle_laws.specs.Marks.{IsWhole}
 use Rattle.cycle_laws.specs.Shares.{at_domain}
 use Rattle.cycle_laws.specs.Queueing.{InDecide, IsDecided, WaitingReached, CutStays}
+use Rattle.cycle_laws.proofs.LookingBack.{LooksBack, looks_start, looks_end, place_below, looks_keeps, looks_takes}
 use Rattle.cycle_laws.proofs.Tracing.{More, holds_more}
 use Rattle.cycle_laws.proofs.DomainParts.{part_all, beyond_grown, beyond_none}
 

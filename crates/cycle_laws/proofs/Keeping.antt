@@ -1,8 +1,5 @@
 -- After each history `kept` counts the labels that were kept.
 use Rattle.std.proofs.Math.Seq.{drop-append_seam}
-use Rattle.heap_model.proofs.Reach.LabelListLemmas.{length_within, no_repeats_append}
-use Rattle.heap_model.proofs.Reach.ReachLemmas.{never_not}
-use Rattle.heap_model.proofs.Histories.WellFormedLemmas.{labels-append}
 use Rattle.std.proofs.Common.{◌≡◌, ◌⊎◌, inl, inr, ⊎_elim, append-nil, ℕ, suc, ◌+◌, ◌*◌, ◌≤◌, arith, Bool, true, false, not, IsTrue, List, [], ◌∷◌, ◌++◌, drop, length, length-append, replicate, Option, Some, None, refl, ap, sym, ◌∙◌, subst}
 use Rattle.heap_model.specs.declared.label.Label.{Label}
 use Rattle.heap_model.specs.declared.command.Command.{Command}
@@ -18,18 +15,18 @@ use Rattle.heap_model.specs.declared.state.Sizes.{Sizes}
 use Rattle.heap_model.specs.declared.state.State.{State}
 use Rattle.heap_model.specs.Graph.{Graph, same_label, labels, has_label, has_no_repeats, node_at}
 use Rattle.heap_model.specs.Domains.{domain_at, queues, roots, reach, reserve, shared_label, opening}
-use Rattle.heap_model.specs.Commands.{new_plain, new_raw, outcome}
+use Rattle.heap_model.specs.Commands.{new_plain, new_raw, outcome, is_allocation}
 use Rattle.heap_model.specs.Entries.{wiped, with_wiped, after_run, next}
 use Rattle.heap_model.specs.History.{state_after, LegalFrom, Legal}
 use Rattle.heap_model.specs.WellFormed.{IsWellFormed, IsNumbered}
+use Rattle.heap_model.proofs.Reach.LabelListLemmas.{length_within, no_repeats_append}
+use Rattle.heap_model.proofs.Reach.ReachLemmas.{never_not, Within, or_cases, and_both, has-append_cases, has-append_left, has-append_right, reachable_least}
+use Rattle.heap_model.proofs.Histories.WellFormedLemmas.{labels-append, closed_graph, queues_named, wf_next, wf_opening}
 use Rattle.heap_model.proofs.Commands.MoveLemmas.{moved}
 use Rattle.heap_model.proofs.Graphs.GraphLemmas.{same_label-true, labels-with_node}
-use Rattle.heap_model.proofs.Reach.ReachLemmas.{Within, or_cases, and_both, has-append_cases, has-append_left, has-append_right, reachable_least}
 use Rattle.heap_model.proofs.Reach.ReachSizeLemmas.{reachable-no_repeats}
 use Rattle.heap_model.proofs.Histories.NumberLemmas.{numbered_next, numbered_opening, next_label-new}
-use Rattle.heap_model.proofs.Histories.WellFormedLemmas.{closed_graph, queues_named, wf_next, wf_opening}
 use Rattle.cycle_laws.specs.Fullness.{FullnessLaw, AllKept, is_collected, new_label, made, kept_next, kept_from, kept_labels, IsKept, AllHoldKept, IsNone, Differ}
-use Rattle.heap_model.specs.Commands.{is_allocation}
 use Rattle.cycle_laws.specs.Marks.{IsWhole}
 use Rattle.cycle_laws.proofs.Tracing.{never}
 

@@ -1,15 +1,7 @@
 -- Lasts, the rotation of the colours, and the entries that end a collection.
-use Rattle.cycle_laws.proofs.LookingBack.{LooksBack, looks_start, looks_end, place_below, looks_keeps, looks_takes}
-use Rattle.heap_model.proofs.Collections.CollectedLemmas.{reach_fresh}
-use Rattle.std.proofs.Common.{get_or}
-use Rattle.heap_model.proofs.Collections.CutLemmas.{part_same, roots_same}
-use Rattle.heap_model.proofs.Collections.MarkLemmas.{all_labels}
-use Rattle.heap_model.proofs.Graphs.ListLemmas.{set_cases_inside}
-use Rattle.heap_model.proofs.Reach.ReachLemmas.{keys_all, not_true}
-use Rattle.heap_model.specs.Domains.{no_domain}
-use Rattle.cycle_laws.proofs.Tracing.{marked_reach}
-use Rattle.std.proofs.Common.{◌≡◌, ◌⊎◌, inl, inr, ⊎_elim, ℕ, suc, ◌<◌, arith, Bool, true, false, not, IsTrue, List, [], ◌∷◌, ◌++◌, map, flat_map, filter_map, option_to_list, length, set, slice_get, Option, Some, None, refl, ap, ap₂, sym, ◌∙◌, subst}
+use Rattle.std.proofs.Common.{get_or, ◌≡◌, ◌⊎◌, inl, inr, ⊎_elim, ℕ, suc, ◌<◌, arith, Bool, true, false, not, IsTrue, List, [], ◌∷◌, ◌++◌, map, flat_map, filter_map, option_to_list, length, set, slice_get, Option, Some, None, refl, ap, ap₂, sym, ◌∙◌, subst}
 use Rattle.std.specs.List.{cons_option, list_all, list_any}
+use Rattle.heap_model.specs.Domains.{no_domain, domain_at, pending_label, queues, roots, reach, waiting, is_reachable_with}
 use Rattle.heap_model.specs.declared.label.Label.{Label}
 use Rattle.heap_model.specs.declared.command.Command.TheVariants.{FullMajor}
 use Rattle.heap_model.specs.declared.entry.Entry.TheVariants.{Command as CommandOf, Last as LastOf, Collected}
@@ -23,18 +15,19 @@ use Rattle.heap_model.specs.declared.state.Mode.TheVariants.{Sealed}
 use Rattle.heap_model.specs.declared.state.State.{State}
 use Rattle.heap_model.specs.Graph.{Graph, same_label, has_label, label_of, node_at}
 use Rattle.heap_model.specs.Reach.{reachable, is_reachable, HoldsRoots, IsClosedUnder}
-use Rattle.heap_model.specs.Domains.{domain_at, pending_label, queues, roots, reach, waiting, is_reachable_with}
 use Rattle.heap_model.specs.Entries.{with_last_queued, at_places, freshened, full_keys, ephe_holds, is_label, keys_are_live, has_live_keys, is_sealed, LastAllowed, CollectedAllowed, DoneAllowed, next}
+use Rattle.heap_model.proofs.Collections.CollectedLemmas.{reach_fresh}
+use Rattle.heap_model.proofs.Collections.CutLemmas.{part_same, roots_same}
+use Rattle.heap_model.proofs.Collections.MarkLemmas.{all_labels, last_unmarked, done_marked}
+use Rattle.heap_model.proofs.Graphs.ListLemmas.{set_cases_inside, flat_map-map}
+use Rattle.heap_model.proofs.Reach.ReachLemmas.{keys_all, not_true, or_cases, or_left, or_right, and_both, has-append_cases, has-append_left, has-append_right, reachable_least}
 use Rattle.heap_model.proofs.Graphs.GraphLemmas.{same_label-true, same_label_refl}
-use Rattle.heap_model.proofs.Collections.MarkLemmas.{last_unmarked, done_marked}
-use Rattle.heap_model.proofs.Graphs.ListLemmas.{flat_map-map}
-use Rattle.heap_model.proofs.Reach.ReachLemmas.{or_cases, or_left, or_right, and_both, has-append_cases, has-append_left, has-append_right, reachable_least}
-use Rattle.cycle_laws.specs.Taking.{LeftLaw}
+use Rattle.cycle_laws.specs.Taking.{LeftLaw, last_labels, InClean, InLasts, IsLeft, LeadsToMarked}
 use Rattle.cycle_laws.specs.Marks.{fields_of, data_of, KeysMarked, IsWhole}
 use Rattle.cycle_laws.specs.Shares.{Layout, Shares, at_domain, AllArrived}
 use Rattle.cycle_laws.specs.Queueing.{WaitingReached}
-use Rattle.cycle_laws.specs.Taking.{last_labels, InClean, InLasts, IsLeft, LeadsToMarked}
-use Rattle.cycle_laws.proofs.Tracing.{held_fields, held_data, holds_more}
+use Rattle.cycle_laws.proofs.LookingBack.{LooksBack, looks_start, looks_end, place_below, looks_keeps, looks_takes}
+use Rattle.cycle_laws.proofs.Tracing.{marked_reach, held_fields, held_data, holds_more}
 use Rattle.cycle_laws.proofs.DomainParts.{part_all, part_has}
 use Rattle.cycle_laws.proofs.Cleaning.{part_mapped, roots_mapped_now, clean_end}
 

@@ -1,19 +1,16 @@
 -- The owned pools are few: each holds a kept block, or has held one, or was just drawn.
 use Rattle.std.proofs.lemmas.Bool.{cases_eq}
-use Rattle.heap_model.proofs.Reach.LabelListLemmas.{length_within}
-use Rattle.heap_model.proofs.Reach.ReachLemmas.{never_not}
-use Rattle.heap_model.proofs.Graphs.GraphLemmas.{same_label-false}
-use Rattle.cycle_laws.proofs.Sharing.{last_or}
 use Rattle.std.proofs.Common.{◌≡◌, inl, inr, ⊎_elim, ℕ, zero, suc, ◌+◌, ◌*◌, ◌<◌, ◌≤◌, arith, Bool, true, false, cond, not, IsTrue, List, [], ◌∷◌, ◌++◌, map, length, length-append, Option, Some, None, refl, ap, sym, ◌∙◌, subst, eqb, eq-eqb, eqb-true}
 use Rattle.heap_model.specs.declared.label.Label.{Label}
 use Rattle.heap_model.specs.Graph.{same_label, has_label, has_no_repeats}
-use Rattle.heap_model.proofs.Graphs.GraphLemmas.{same_label-true, same_label_refl}
-use Rattle.heap_model.proofs.Reach.ReachLemmas.{or_cases, or_left, or_right, and_both, has-append_left, has-append_right}
+use Rattle.heap_model.proofs.Reach.LabelListLemmas.{length_within}
+use Rattle.heap_model.proofs.Reach.ReachLemmas.{never_not, or_cases, or_left, or_right, and_both, has-append_left, has-append_right}
+use Rattle.heap_model.proofs.Graphs.GraphLemmas.{same_label-false, same_label-true, same_label_refl}
 use Rattle.cycle_laws.specs.Shares.{at_domain}
 use Rattle.cycle_laws.specs.Fullness.{HoldsKept, AllHoldKept, IsNone, Differ}
 use Rattle.cycle_laws.specs.Pools.{PoolsLaw, has_pool, without_pool, with_pool, InPools, AllHaveOwner}
+use Rattle.cycle_laws.proofs.Sharing.{last_or, at_cases}
 use Rattle.cycle_laws.proofs.Tracing.{never}
-use Rattle.cycle_laws.proofs.Sharing.{at_cases}
 use Rattle.cycle_laws.proofs.Keeping.{few_pools as few_holding}
 
 pub pools_start : (n classes : ℕ) (kept : List Label) (pool_of : Label → Option ℕ) (owner : ℕ → Option ℕ) → ((p d : ℕ) → owner p ≡ Some d → (d < n) × HoldsKept kept pool_of p)

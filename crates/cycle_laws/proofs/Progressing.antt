@@ -1,7 +1,5 @@
 -- A domain goes through a block field by field, or key by key.
 use Rattle.std.proofs.lemmas.Option.{slice_get_within}
-use Rattle.heap_model.proofs.Reach.ReachLemmas.{not_true}
-use Rattle.cycle_laws.proofs.Sharing.{last_or}
 use Rattle.std.proofs.Common.{◌≡◌, ◌⊎◌, inl, inr, ⊎_elim, ℕ, zero, suc, ◌<◌, ◌≤◌, arith, Bool, true, false, not, nat_lt, ◌||◌, IsTrue, List, [], ◌∷◌, ◌++◌, filter_map, length, slice_get, Option, Some, None, refl, sym, ◌∙◌, subst, eqb, eq-eqb, eqb-true}
 use Rattle.std.specs.List.{list_all, list_any}
 use Rattle.std.proofs.lemmas.Bool.{lt-ltb}
@@ -12,10 +10,11 @@ use Rattle.heap_model.specs.declared.graph.Node.TheVariants.{Plain, Ephe}
 use Rattle.heap_model.specs.Graph.{Graph, same_label, has_label, label_of, node_at}
 use Rattle.heap_model.specs.Reach.{HoldsRoots}
 use Rattle.heap_model.specs.Entries.{is_some_and, is_rising, full_keys}
+use Rattle.heap_model.proofs.Reach.ReachLemmas.{not_true, or_cases, or_left, or_right, and_left, and_right, and_both}
 use Rattle.heap_model.proofs.Graphs.GraphLemmas.{same_label-true, same_label_refl}
-use Rattle.heap_model.proofs.Reach.ReachLemmas.{or_cases, or_left, or_right, and_left, and_right, and_both}
 use Rattle.cycle_laws.specs.Marks.{fields_of, FieldsMarked, KeysMarked}
 use Rattle.cycle_laws.specs.Progress.{ProgressLaw, FieldsDone, KeysDone, KeysFound}
+use Rattle.cycle_laws.proofs.Sharing.{last_or}
 use Rattle.cycle_laws.proofs.Cleaning.{keys_each}
 
 -- fields

@@ -1,6 +1,4 @@
 -- Where nothing is grey and the ephemerons' data follows, the marked blocks are closed; and darkening for a reason marks only what is reachable.
-use Rattle.heap_model.proofs.Reach.ReachLemmas.{not_true, not_false, keys_all, all_keys}
-use Rattle.heap_model.proofs.Graphs.GraphLemmas.{same_label-false}
 use Rattle.std.proofs.Common.{◌≡◌, ◌⊎◌, inl, inr, ⊎_elim, Bool, true, false, cond, not, IsTrue, List, [], option_to_list, Option, Some, None, refl, sym, ◌∙◌, subst}
 use Rattle.std.specs.List.{list_all}
 use Rattle.std.specs.Option.{option_map_or}
@@ -10,8 +8,8 @@ use Rattle.heap_model.specs.declared.graph.Node.TheVariants.{Plain, Raw, Ephe}
 use Rattle.heap_model.specs.Graph.{Graph, same_label, has_label, label_of, node_at}
 use Rattle.heap_model.specs.Reach.{key_holds, edges_of, reachable, is_reachable, HoldsRoots, IsClosedUnder, IsClosedGraph, IsLeastClosed}
 use Rattle.heap_model.specs.Entries.{full_keys}
-use Rattle.heap_model.proofs.Graphs.GraphLemmas.{same_label-true, same_label_refl}
-use Rattle.heap_model.proofs.Reach.ReachLemmas.{or_cases, or_right, and_left, and_right, and_both, reachable_least, reach_law}
+use Rattle.heap_model.proofs.Reach.ReachLemmas.{not_true, not_false, keys_all, all_keys, or_cases, or_right, and_left, and_right, and_both, reachable_least, reach_law}
+use Rattle.heap_model.proofs.Graphs.GraphLemmas.{same_label-false, same_label-true, same_label_refl}
 use Rattle.cycle_laws.specs.Marks.{Marks, darkened, with_scanned, fields_of, data_of, FieldsMarked, KeysMarked, IsTraced, NoneGrey, DataFollows, IsWhole, MayDarken}
 
 -- more is marked
