@@ -22,11 +22,12 @@ use Rattle.heap_model.proofs.Graphs.GraphLemmas.{same_label-true, node_at-with_n
 use Rattle.heap_model.proofs.Commands.FrameLemmas.{label_cases}
 use Rattle.heap_model.proofs.Collections.MarkLemmas.{wipe_unmarked}
 use Rattle.heap_model.proofs.Collections.WipeLemmas.{wipe_keeps_reachable, wipe_keeps_reach}
-use Rattle.heap_model.proofs.Reach.ReachLemmas.{or_cases, or_left, or_right, and_left, and_right, has-append_cases, has-append_left}
+use Rattle.heap_model.proofs.Reach.ReachLemmas.{or_cases, and_left, and_right, has-append_cases, has-append_left}
 use Rattle.cycle_laws.specs.Marks.{KeysMarked, IsWhole}
 use Rattle.cycle_laws.specs.Shares.{Layout, Shares, no_shares, sees, arrives, AllArrived, AllOwned}
 use Rattle.cycle_laws.specs.Queueing.{WaitingReached, CutStays}
 use Rattle.cycle_laws.specs.Taking.{InClean}
+use Rattle.cycle_laws.proofs.DomainParts.{listed_at, listed_cases}
 use Rattle.cycle_laws.proofs.Sharing.{shares_start, shares_sees, shares_arrives, sees_was}
 use Rattle.cycle_laws.proofs.Deciding.{mapped_at}
 
@@ -63,31 +64,6 @@ clean_start n y s marked owned marks = record {
   low = λ d. let at = mapped_at with_lasts_open refl s.domains d in ap (λ (x : DomainState). x.low) at ∙ ap (λ (x : DomainState). length x.lasts) (sym at);
 }
 
--- ephemerons that lose keys
-keys_set : (marked : Label → Bool) (keys : List (Option Label)) (p : ℕ) → HoldsRoots (filter_map (λ k. k) keys) marked → HoldsRoots (filter_map (λ k. k) (set keys p None)) marked
-keys_set marked [] p holds l h = holds l h
-keys_set marked (None ∷ keys) zero holds l h = holds l h
-keys_set marked (Some k ∷ keys) zero holds l h = holds l (or_right (same_label k l) (has_label (filter_map (λ k. k) keys) l) h)
-keys_set marked (None ∷ keys) (suc p) holds l h = keys_set marked keys p holds l h
-keys_set marked (Some k ∷ keys) (suc p) holds l h = ⊎_elim
-    (λ here. holds l (or_left (same_label k l) (has_label (filter_map (λ k. k) keys) l) here))
-    (λ later. keys_set marked keys p (λ x at. holds x (or_right (same_label k x) (has_label (filter_map (λ k. k) keys) x) at)) l later)
-    (or_cases (same_label k l) (has_label (filter_map (λ k. k) (set keys p None)) l) h)
-
-keys_wiped : (marked : Label → Bool) (keys : List (Option Label)) (places : List ℕ) → HoldsRoots (filter_map (λ k. k) keys) marked
-    → HoldsRoots (filter_map (λ k. k) (wiped_keys places keys)) marked
-keys_wiped marked keys [] holds = holds
-keys_wiped marked keys (p ∷ ps) holds = keys_set marked (wiped_keys ps keys) p (keys_wiped marked keys ps holds)
-
--- keys that are each marked
-pub keys_each : (marked : Label → Bool) (keys : List (Option Label)) → ((p : ℕ) (k : Label) → slice_get keys p ≡ Some (Some k) → IsTrue (marked k)) → HoldsRoots (filter_map (λ k. k) keys) marked
-keys_each marked [] each l h = cc
-keys_each marked (None ∷ keys) each l h = keys_each marked keys (λ p k e. each (suc p) k e) l h
-keys_each marked (Some k ∷ keys) each l h = ⊎_elim
-    (λ here. subst (λ z. IsTrue (marked z)) (same_label-true k l here) (each zero k refl))
-    (λ later. keys_each marked keys (λ p j e. each (suc p) j e) l later)
-    (or_cases (same_label k l) (has_label (filter_map (λ k. k) keys) l) h)
-
 -- a key that is left after a wipe stood there, at none of the places
 get_set_none : (keys : List (Option Label)) (q p : ℕ) (k : Label) → slice_get (set keys q None) p ≡ Some (Some k) → (slice_get keys p ≡ Some (Some k)) × (q ≡ p → ⊥)
 get_set_none [] q p k e = cc
@@ -104,6 +80,13 @@ get_wiped (q ∷ ps) keys p k e =
     let rest = get_wiped ps keys p k first.0 in
     let here : eqb q p ≡ false = ne_eqb q p first.1 in
     (rest.0, rw here rest.1)
+
+-- so keys that were marked stay so
+keys_wiped : (marked : Label → Bool) (keys : List (Option Label)) (places : List ℕ) → HoldsRoots (filter_map (λ k. k) keys) marked
+    → HoldsRoots (filter_map (λ k. k) (wiped_keys places keys)) marked
+keys_wiped marked keys places holds l h =
+    let t = listed_cases (λ o. o) (wiped_keys places keys) l h in
+    holds l (listed_at (λ o. o) keys t.0 (Some l) l (get_wiped places keys t.0 l (t.2 ∙ ap Some t.3)).0 refl)
 
 -- the labels that a wipe takes
 keys_taken : (marked : Label → Bool) (keys : List (Option Label)) (places : List ℕ)
@@ -187,7 +170,7 @@ module _ (n : ℕ) (y : Layout) (s : State) (marked : Label → Bool) (w : Share
         → KeysMarked (next s (Wipe l places)).graph marked l
     wipe_cleans others = subst (λ o. KeysMarked (after_wipe o).graph marked l) (sym node)
         (subst (λ o. HoldsRoots (full_keys o) marked) (sym (wiped_here s.graph marked l keys (wiped_keys places keys) datum node))
-        (keys_each marked (wiped_keys places keys) (λ p k e. let was = get_wiped places keys p k e in others p k was.0 was.1)))
+        (λ k h. let t = listed_cases (λ o. o) (wiped_keys places keys) k h in let was = get_wiped places keys t.0 k (t.2 ∙ ap Some t.3) in others t.0 k was.0 was.1))
 
     -- a whole cycle stays so
     pub wipe_whole : IsWhole s.graph (roots s (queues s)) marked

@@ -1,8 +1,7 @@
 -- What is known of the marks beside running domains is kept by each move, and gives at the end that the marked blocks are closed.
-use Rattle.std.proofs.Common.{◌≡◌, ◌⊎◌, ⊎_elim, ℕ, zero, suc, Bool, false, not, ◌||◌, IsTrue, List, [], ◌∷◌, filter_map, slice_get, set, Option, Some, None, refl, ap, sym, ◌∙◌, subst}
+use Rattle.std.proofs.Common.{◌≡◌, ◌⊎◌, ⊎_elim, ℕ, Bool, false, not, ◌||◌, IsTrue, List, set, Option, Some, None, refl, ap, sym, ◌∙◌, subst}
 use Rattle.heap_model.specs.declared.label.Label.{Label}
-use Rattle.heap_model.specs.declared.graph.Value.{Value}
-use Rattle.heap_model.specs.declared.graph.Value.TheVariants.{Int, Block, Nothing}
+use Rattle.heap_model.specs.declared.graph.Value.TheVariants.{Block}
 use Rattle.heap_model.specs.declared.graph.Node.{Node}
 use Rattle.heap_model.specs.declared.graph.Node.TheVariants.{Plain, Raw, Ephe}
 use Rattle.heap_model.specs.Graph.{Graph, labels, has_label, same_label, label_of, node_at}
@@ -13,6 +12,7 @@ use Rattle.heap_model.proofs.Graphs.GraphLemmas.{same_label-true, same_label_ref
 use Rattle.heap_model.proofs.Histories.NumberLemmas.{node_at-no_label}
 use Rattle.cycle_laws.specs.Marks.{darkened, with_scanned, fields_of, FieldsMarked, NoneGrey, DataFollows}
 use Rattle.cycle_laws.specs.Cover.{field_in, field_at, is_new, InCover, Covering, IsCovered}
+use Rattle.cycle_laws.proofs.DomainParts.{listed_at, listed_cases, is_block}
 use Rattle.cycle_laws.proofs.Tracing.{More, darkened_more, darkened_cases, edges_hold}
 
 -- Cover holds the marked and the new labels, is closed under old fields, and grows with the marks
@@ -67,19 +67,7 @@ pub field_listed : (o : Option Node) (i : ℕ) (x : Label) → field_in o i ≡ 
 field_listed None i x at = cc
 field_listed (Some (Raw tag fields)) i x at = cc
 field_listed (Some (Ephe keys datum)) i x at = cc
-field_listed (Some (Plain tag fields)) i x at = go fields i at
-  where
-    go : (fs : List Value) (j : ℕ) → slice_get fs j ≡ Some (Block x) → IsTrue (has_label (filter_map label_of fs) x)
-    go [] j e = cc
-    go (Int z ∷ fs) zero e = cc
-    go (Nothing ∷ fs) zero e = cc
-    go (Block y ∷ fs) zero e =
-        let same : Block y ≡ Block x = cc in
-        let label : y ≡ x = cc in
-        or_left (same_label y x) (has_label (filter_map label_of fs) x) (subst (λ z. IsTrue (same_label y z)) label (same_label_refl y))
-    go (Int z ∷ fs) (suc j) e = go fs j e
-    go (Nothing ∷ fs) (suc j) e = go fs j e
-    go (Block y ∷ fs) (suc j) e = or_right (same_label y x) (has_label (filter_map label_of fs) x) (go fs j e)
+field_listed (Some (Plain tag fields)) i x at = listed_at label_of fields i (Block x) x at refl
 
 -- a scan while all stand still
 pub cover_scans : (v : Covering) → IsCovered v → (l : Label) → FieldsMarked v.now v.marks.marked l → IsCovered (record v { marks = with_scanned v.marks l })
@@ -122,15 +110,6 @@ module _ (v : Covering) (c : IsCovered v) where
         (true_or_false (v.overwritten l i)))
         (new_or_old v.old l)
 
-    field_index : (fields : List Value) (x : Label) → IsTrue (has_label (filter_map label_of fields) x) → (i : ℕ) × (slice_get fields i ≡ Some (Block x))
-    field_index [] x h = cc
-    field_index (Int z ∷ fields) x h = let t = field_index fields x h in (suc t.0, t.1)
-    field_index (Nothing ∷ fields) x h = let t = field_index fields x h in (suc t.0, t.1)
-    field_index (Block y ∷ fields) x h = ⊎_elim
-        (λ here. (zero, ap (λ z. Some (Block z)) (same_label-true y x here)))
-        (λ later. let t = field_index fields x later in (suc t.0, t.1))
-        (or_cases (same_label y x) (has_label (filter_map label_of fields) x) h)
-
     pub cover_closed : DataFollows v.now v.marks.marked → (roots : List Label) → HoldsRoots roots v.held → HoldsRoots roots v.places
         → ((l : Label) (n : Node) → IsTrue (v.places l) → node_at v.now l ≡ Some n → HoldsRoots (names_of n) v.places)
         → HoldsRoots roots v.marks.marked × IsClosedUnder v.now v.marks.marked
@@ -142,7 +121,7 @@ module _ (v : Covering) (c : IsCovered v) where
         fields : (l : Label) → IsTrue (v.marks.marked l) → (o : Option Node) → node_at v.now l ≡ o → HoldsRoots (fields_of o) v.marks.marked
         fields l is None e x h = cc
         fields l is (Some (Plain tag fs)) e x h =
-            let t = field_index fs x h in
-            field_marked l t.0 x is (closed l (Plain tag fs) (c.placed l is) e x h) (subst (λ o. field_in o t.0 ≡ Some (Block x)) (sym e) t.1)
+            let t = listed_cases label_of fs x h in
+            field_marked l t.0 x is (closed l (Plain tag fs) (c.placed l is) e x h) (subst (λ o. field_in o t.0 ≡ Some (Block x)) (sym e) (t.2 ∙ ap Some (is_block t.1 x t.3)))
         fields l is (Some (Raw tag fs)) e x h = cc
         fields l is (Some (Ephe keys datum)) e x h = cc

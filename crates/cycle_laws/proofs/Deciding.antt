@@ -12,7 +12,7 @@ use Rattle.heap_model.specs.Graph.{same_label, has_label, label_of}
 use Rattle.heap_model.specs.Reach.{HoldsRoots, IsClosedUnder}
 use Rattle.heap_model.specs.Domains.{domain_at, with_domain, no_domain, pending_label, queues, roots, waiting}
 use Rattle.heap_model.specs.Entries.{is_some_and, with_finals_open, with_queued, queued_final, queued_beyond, QueueAllowed, next}
-use Rattle.heap_model.proofs.Collections.CutLemmas.{part_same, queues_mapped, queue_grows}
+use Rattle.heap_model.proofs.Collections.CutLemmas.{pending_labels, part_same, queues_mapped, queue_grows}
 use Rattle.heap_model.proofs.Graphs.ListLemmas.{set_cases_inside, flat_map-map}
 use Rattle.heap_model.proofs.Graphs.GraphLemmas.{same_label-true}
 use Rattle.heap_model.proofs.Collections.MarkLemmas.{queue_unmarked, seal_marked}
@@ -20,9 +20,9 @@ use Rattle.heap_model.proofs.Reach.ReachLemmas.{or_cases, and_both, has-append_c
 use Rattle.cycle_laws.specs.Marks.{IsWhole}
 use Rattle.cycle_laws.specs.Shares.{at_domain}
 use Rattle.cycle_laws.specs.Queueing.{InDecide, IsDecided, WaitingReached, CutStays}
+use Rattle.cycle_laws.proofs.DomainParts.{registers_of, part_all, beyond_grown, beyond_none}
 use Rattle.cycle_laws.proofs.LookingBack.{LooksBack, looks_start, looks_end, place_below, looks_keeps, looks_takes}
 use Rattle.cycle_laws.proofs.Tracing.{More, holds_more}
-use Rattle.cycle_laws.proofs.DomainParts.{part_all, beyond_grown, beyond_none}
 
 -- a function of the domains, after each was changed
 pub mapped_at : (g : DomainState → DomainState) → g no_domain ≡ no_domain → (xs : List DomainState) (d : ℕ) → get_or (map g xs) d no_domain ≡ g (get_or xs d no_domain)
@@ -126,24 +126,18 @@ pub cut_stays_start : (s : State) → CutStays (next s Cut)
 cut_stays_start s l h = subst (λ z. IsTrue (has_label (roots (next s Cut) z) l)) (sym (queues_mapped with_finals_open (λ x. refl) s.domains)) h
 
 module _ (s : State) (d : ℕ) (y : DomainState) (more : List Pending) (registers : y.registers ≡ (domain_at s d).registers) (queue : y.queue ≡ (domain_at s d).queue ++ more) where
-  abbrev registers_of : State → List Label
-  registers_of t = flat_map (λ x. filter_map label_of x.registers) t.domains
-
-  abbrev pending_of : List (List Pending) → List Label
-  pending_of qs = flat_map (filter_map pending_label) qs
-
   registers_same : registers_of (with_domain s d y) ≡ registers_of s
   registers_same = part_same (λ x. filter_map label_of x.registers) s.domains d y (ap (filter_map label_of) registers)
 
   -- so it is as a queue grows
   pub roots_grow : HoldsRoots (roots s (queues s)) (has_label (roots (with_domain s d y) (queues (with_domain s d y))))
   roots_grow l h = ⊎_elim
-      (λ a. has-append_left (registers_of (with_domain s d y)) (pending_of (queues (with_domain s d y))) l (subst (λ z. IsTrue (has_label z l)) (sym registers_same) a))
-      (λ b. has-append_right (registers_of (with_domain s d y)) (pending_of (queues (with_domain s d y))) l (queue_grows s.domains d y more queue l b))
-      (has-append_cases (registers_of s) (pending_of (queues s)) l h)
+      (λ a. has-append_left (registers_of (with_domain s d y)) (pending_labels (queues (with_domain s d y))) l (subst (λ z. IsTrue (has_label z l)) (sym registers_same) a))
+      (λ b. has-append_right (registers_of (with_domain s d y)) (pending_labels (queues (with_domain s d y))) l (queue_grows s.domains d y more queue l b))
+      (has-append_cases (registers_of s) (pending_labels (queues s)) l h)
 
   pub cut_roots_same : (qs : List (List Pending)) → roots (with_domain s d y) qs ≡ roots s qs
-  cut_roots_same qs = ap (λ z. z ++ pending_of qs) registers_same
+  cut_roots_same qs = ap (λ z. z ++ pending_labels qs) registers_same
 
   pub cut_stays_grow : CutStays s → CutStays (with_domain s d y)
   cut_stays_grow stays l h = roots_grow l (stays l (subst (λ z. IsTrue (has_label z l)) (cut_roots_same s.cut) h))

@@ -16,8 +16,8 @@ use Rattle.heap_model.specs.declared.state.State.{State}
 use Rattle.heap_model.specs.Graph.{Graph, same_label, has_label, label_of, node_at}
 use Rattle.heap_model.specs.Reach.{reachable, is_reachable, HoldsRoots, IsClosedUnder}
 use Rattle.heap_model.specs.Entries.{with_last_queued, at_places, freshened, full_keys, ephe_holds, is_label, keys_are_live, has_live_keys, is_sealed, LastAllowed, CollectedAllowed, DoneAllowed, next}
+use Rattle.heap_model.proofs.Collections.CutLemmas.{pending_labels, part_same, roots_same}
 use Rattle.heap_model.proofs.Collections.CollectedLemmas.{reach_fresh}
-use Rattle.heap_model.proofs.Collections.CutLemmas.{part_same, roots_same}
 use Rattle.heap_model.proofs.Collections.MarkLemmas.{all_labels, last_unmarked, done_marked}
 use Rattle.heap_model.proofs.Graphs.ListLemmas.{set_cases_inside, flat_map-map}
 use Rattle.heap_model.proofs.Reach.ReachLemmas.{keys_all, not_true, or_cases, or_left, or_right, and_both, has-append_cases, has-append_left, has-append_right, reachable_least}
@@ -26,9 +26,9 @@ use Rattle.cycle_laws.specs.Taking.{LeftLaw, last_labels, InClean, InLasts, IsLe
 use Rattle.cycle_laws.specs.Marks.{fields_of, data_of, KeysMarked, IsWhole}
 use Rattle.cycle_laws.specs.Shares.{Layout, Shares, at_domain, AllArrived}
 use Rattle.cycle_laws.specs.Queueing.{WaitingReached}
+use Rattle.cycle_laws.proofs.DomainParts.{registers_of, part_all, part_has}
 use Rattle.cycle_laws.proofs.LookingBack.{LooksBack, looks_start, looks_end, place_below, looks_keeps, looks_takes}
 use Rattle.cycle_laws.proofs.Tracing.{marked_reach, held_fields, held_data, holds_more}
-use Rattle.cycle_laws.proofs.DomainParts.{part_all, part_has}
 use Rattle.cycle_laws.proofs.Cleaning.{part_mapped, roots_mapped_now, clean_end}
 
 -- what an ephemeron holds is one of its keys or its data
@@ -159,16 +159,10 @@ module _ (s : State) (marked : Label → Bool) (left : ℕ → ℕ) (i : InLasts
   }
 
 -- the rotation: each reference leads to a marked block
-abbrev registers_all : State → List Label
-registers_all s = flat_map (λ x. filter_map label_of x.registers) s.domains
-
-abbrev pending_all : State → List Label
-pending_all s = flat_map (filter_map pending_label) (queues s)
-
 pub leads_to_marked : (s : State) (marked : Label → Bool) → IsLeft s marked → LeadsToMarked s marked
 leads_to_marked s marked i = record {
-  registers = λ d l h. i.marks.roots l (has-append_left (registers_all s) (pending_all s) l (part_has (λ x. filter_map label_of x.registers) s.domains d refl l h));
-  queue = λ d l h. i.marks.roots l (has-append_right (registers_all s) (pending_all s) l
+  registers = λ d l h. i.marks.roots l (has-append_left (registers_of s) (pending_labels (queues s)) l (part_has (λ x. filter_map label_of x.registers) s.domains d refl l h));
+  queue = λ d l h. i.marks.roots l (has-append_right (registers_of s) (pending_labels (queues s)) l
       (subst (λ z. IsTrue (has_label z l)) (sym (flat_map-map (filter_map pending_label) (λ (x : DomainState). x.queue) s.domains))
       (part_has (λ x. filter_map pending_label x.queue) s.domains d refl l h)));
   finals = λ d l h. i.marks.waiting l (part_has (λ x. map (λ f. f.label) x.finals) s.domains d refl l h);

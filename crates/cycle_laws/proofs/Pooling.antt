@@ -9,7 +9,7 @@ use Rattle.heap_model.proofs.Graphs.GraphLemmas.{same_label-false, same_label-tr
 use Rattle.cycle_laws.specs.Shares.{at_domain}
 use Rattle.cycle_laws.specs.Fullness.{HoldsKept, AllHoldKept, IsNone, Differ}
 use Rattle.cycle_laws.specs.Pools.{PoolsLaw, has_pool, without_pool, with_pool, InPools, AllHaveOwner}
-use Rattle.cycle_laws.proofs.Sharing.{last_or, at_cases}
+use Rattle.cycle_laws.proofs.Sharing.{some_same, last_or, at_cases}
 use Rattle.cycle_laws.proofs.Tracing.{never}
 use Rattle.cycle_laws.proofs.Keeping.{few_pools as few_holding}
 
@@ -129,9 +129,6 @@ module _ (n classes : ℕ) (kept : List Label) (pool_of : Label → Option ℕ) 
         (at_cases owner p (Some d) q);
   }
     where
-      some_same : (a b : ℕ) → ◌≡◌ {A = Option ℕ} (Some a) (Some b) → a ≡ b
-      some_same a b e = cc
-
       here : (q k : ℕ) → q ≡ p → d ≡ k → IsTrue (has_pool (at_domain drawn d (p ∷ drawn d) k) q)
       here q k place number = ⊎_elim
           (λ t. subst (λ z. IsTrue (has_pool z q)) (sym t.1) (or_left (eqb p q) (has_pool (drawn d) q) (eq-eqb p q (sym place))))

@@ -1,6 +1,6 @@
 -- What each move of a domain keeps of the shares of Mark and of Rounds, and what follows once all have arrived.
+use Rattle.std.proofs.Common.{Option, ◌≡◌, ◌⊎◌, inl, inr, ⊎_elim, arith, ℕ, suc, ◌<◌, Bool, true, false, cond, not, ◌&&◌, ◌||◌, IsTrue, Some, refl, sym, ◌∙◌, subst, eqb, eq-eqb, eqb-true}
 use Rattle.std.proofs.lemmas.Bool.{cases_lt, ne_eqb}
-use Rattle.std.proofs.Common.{◌≡◌, ◌⊎◌, inl, inr, ⊎_elim, arith, ℕ, suc, ◌<◌, Bool, true, false, cond, not, ◌&&◌, ◌||◌, IsTrue, Some, refl, sym, ◌∙◌, subst, eqb, eq-eqb, eqb-true}
 use Rattle.heap_model.specs.declared.label.Label.{Label}
 use Rattle.heap_model.specs.Graph.{Graph, same_label, node_at}
 use Rattle.heap_model.specs.Entries.{full_keys}
@@ -8,6 +8,10 @@ use Rattle.heap_model.proofs.Reach.ReachLemmas.{not_true, not_false, or_cases, o
 use Rattle.cycle_laws.specs.Marks.{Marks, darkened, with_scanned, data_of, KeysMarked, DataMarked, NoneGrey, DataFollows}
 use Rattle.cycle_laws.specs.Shares.{Layout, OnePlaceEach, Shares, at_domain, reset_shares, no_shares, again, owing, stored_changed, sees, arrives, IsQuiet, AllArrived, AllOwned, AreShares, InMark, InRounds}
 use Rattle.cycle_laws.proofs.Tracing.{darkened_more, darkened_cases, darkened_scanned, never, unlike, holds_more}
+
+-- what stands in two options that are equal is equal
+pub some_same : {A : Type 0} (a b : A) → ◌≡◌ {A = Option A} (Some a) (Some b) → a ≡ b
+some_same a b e = cc
 
 -- a number up to the last is below it, or the last
 pub last_or : (a b : ℕ) → a < suc b → (a < b) ⊎ (a ≡ b)
