@@ -1,8 +1,10 @@
 -- From the Seal to the end of Clean: each Wipe that is made is allowed, and at the end no marked ephemeron has an unmarked key.
+use Rattle.std.proofs.Math.ListN.{get_or-map}
 use Rattle.std.proofs.lemmas.Bool.{ne_eqb}
 use Rattle.std.proofs.Common.{◌≡◌, ⊎_elim, ℕ, zero, suc, arith, Bool, true, false, cond, not, IsTrue, List, [], ◌∷◌, ◌++◌, map, flat_map, filter_map, length, set, slice_get, Option, Some, None, refl, ap, ap₂, sym, ◌∙◌, subst, eqb}
 use Rattle.std.specs.List.{cons_option, list_all, list_any}
 use Rattle.std.specs.Option.{option_map_or}
+use Rattle.heap_model.specs.Domains.{no_domain, pending_label, queues, roots, waiting}
 use Rattle.heap_model.specs.declared.label.Label.{Label}
 use Rattle.heap_model.specs.declared.entry.Entry.TheVariants.{Seal, Wipe}
 use Rattle.heap_model.specs.declared.graph.Value.{Value}
@@ -14,7 +16,6 @@ use Rattle.heap_model.specs.declared.state.Pending.{Pending}
 use Rattle.heap_model.specs.declared.state.State.{State}
 use Rattle.heap_model.specs.Graph.{Graph, same_label, has_label, label_of, node_at, with_node}
 use Rattle.heap_model.specs.Reach.{key_holds, edges_of, edges_at, reachable, is_reachable, HoldsRoots, IsClosedUnder}
-use Rattle.heap_model.specs.Domains.{pending_label, queues, roots, waiting}
 use Rattle.heap_model.specs.Entries.{is_rising, is_some_and, with_lasts_open, at_places, wiped_keys, wiped, with_wiped, keys_at, with_taken, full_keys, WipeAllowed, next}
 use Rattle.heap_model.specs.Marked.{IsMarked}
 use Rattle.heap_model.proofs.Collections.CutLemmas.{queues_mapped}
@@ -29,7 +30,6 @@ use Rattle.cycle_laws.specs.Queueing.{WaitingReached, CutStays}
 use Rattle.cycle_laws.specs.Taking.{InClean}
 use Rattle.cycle_laws.proofs.DomainParts.{listed_at, listed_cases}
 use Rattle.cycle_laws.proofs.Sharing.{shares_start, shares_sees, shares_arrives, sees_was}
-use Rattle.cycle_laws.proofs.Deciding.{mapped_at}
 
 -- labels of one kind, after each domain was changed
 pub part_mapped : (f : DomainState → List Label) (g : DomainState → DomainState) → ((x : DomainState) → f (g x) ≡ f x) → (xs : List DomainState) → flat_map f (map g xs) ≡ flat_map f xs
@@ -61,7 +61,7 @@ clean_start n y s marked owned marks = record {
   };
   taken = λ l h. cc;
   clean = λ d a l h. cc;
-  low = λ d. let at = mapped_at with_lasts_open refl s.domains d in ap (λ (x : DomainState). x.low) at ∙ ap (λ (x : DomainState). length x.lasts) (sym at);
+  low = λ d. let at = get_or-map with_lasts_open s.domains d no_domain in ap (λ (x : DomainState). x.low) at ∙ ap (λ (x : DomainState). length x.lasts) (sym at);
 }
 
 -- a key that is left after a wipe stood there, at none of the places

@@ -1,5 +1,6 @@
 -- From the Cut to the end of Decide: each Queue that is made is allowed, and at the end the Seal is allowed and what waits is marked.
-use Rattle.std.proofs.Common.{inr, inl, set, ◌≡◌, ⊎_elim, ℕ, zero, suc, ◌<◌, arith, Bool, true, false, not, nat_lt, IsTrue, List, [], ◌∷◌, ◌++◌, map, flat_map, filter_map, length, get_or, slice_get, Option, Some, None, refl, ap, sym, ◌∙◌, subst}
+use Rattle.std.proofs.Math.ListN.{get_or-map}
+use Rattle.std.proofs.Common.{inr, inl, set, ◌≡◌, ⊎_elim, ℕ, suc, ◌<◌, arith, Bool, true, false, not, nat_lt, IsTrue, List, [], ◌∷◌, ◌++◌, map, flat_map, filter_map, length, get_or, slice_get, Option, Some, None, refl, ap, sym, ◌∙◌, subst}
 use Rattle.std.specs.List.{cons_option}
 use Rattle.std.proofs.lemmas.Bool.{lt-ltb}
 use Rattle.heap_model.specs.declared.label.Label.{Label}
@@ -23,12 +24,6 @@ use Rattle.cycle_laws.specs.Queueing.{InDecide, IsDecided, WaitingReached, CutSt
 use Rattle.cycle_laws.proofs.DomainParts.{registers_of, part_all, beyond_grown, beyond_none}
 use Rattle.cycle_laws.proofs.LookingBack.{LooksBack, looks_start, looks_end, place_below, looks_keeps, looks_takes}
 use Rattle.cycle_laws.proofs.Tracing.{More, holds_more}
-
--- a function of the domains, after each was changed
-pub mapped_at : (g : DomainState → DomainState) → g no_domain ≡ no_domain → (xs : List DomainState) (d : ℕ) → get_or (map g xs) d no_domain ≡ g (get_or xs d no_domain)
-mapped_at g none [] d = sym none
-mapped_at g none (x ∷ xs) zero = refl
-mapped_at g none (x ∷ xs) (suc d) = mapped_at g none xs d
 
 -- the one label that a Queue of one place adds to a queue
 one_label : (o : Option Finaliser) (f : Finaliser) → o ≡ Some f → (l : Label)
@@ -56,7 +51,7 @@ decide_start s marked closed holds = record {
 }
   where
     same : (d : ℕ) → domain_at (next s Cut) d ≡ with_finals_open (domain_at s d)
-    same d = mapped_at with_finals_open refl s.domains d
+    same d = get_or-map with_finals_open s.domains d no_domain
 
     start : LooksBack (λ (f : Finaliser). f.label) marked (λ d. (domain_at (next s Cut) d).finals) (λ d. (domain_at (next s Cut) d).low) (λ d. length (domain_at s d).finals)
     start = looks_start (λ (f : Finaliser). f.label) marked _ _ _
