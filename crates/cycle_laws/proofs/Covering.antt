@@ -1,4 +1,4 @@
--- What is known of the marks beside running domains is kept by each move, and gives at the end that the marked blocks are closed.
+-- What is known of a cycle that was under way is kept by a darkening and by a scan, and gives at the end that the marked blocks are closed.
 use Rattle.std.proofs.Common.{◌≡◌, ◌⊎◌, ⊎_elim, ℕ, Bool, false, not, ◌||◌, IsTrue, List, set, Option, Some, None, refl, ap, sym, ◌∙◌, subst}
 use Rattle.heap_model.specs.declared.label.Label.{Label}
 use Rattle.heap_model.specs.declared.graph.Value.TheVariants.{Block}
@@ -15,7 +15,7 @@ use Rattle.cycle_laws.specs.Cover.{field_in, field_at, is_new, InCover, Covering
 use Rattle.cycle_laws.proofs.DomainParts.{listed_at, listed_cases, is_block}
 use Rattle.cycle_laws.proofs.Tracing.{More, darkened_more, darkened_cases, edges_hold}
 
--- Cover holds the marked and the new labels, is closed under old fields, and grows with the marks
+-- what is covered stays so as more is marked
 module _ (old : Graph) (marked : Label → Bool) where
   pub cover_more : (other : Label → Bool) → More marked other → (l : Label) → InCover old marked l → InCover old other l
   cover_more other more l cover set m n c = cover set (λ x h. m x (more x h)) n c

@@ -113,7 +113,7 @@ module _ (pass : Pass) (n : ℕ) (s : State) (c : Cycle) where
       → WholeFrom (roots s (queues s)) s c.whole (darkened c.marks l).marked
   whole_darkens d k a l may whole is = darken_whole s.graph (roots s (queues s)) c.marks may.graph (whole is) l (may.may is)
 
-  -- Roots and Queued
+  -- Roots, in both passes
   pub roots_darkens : InPhase (Roots pass) n s c → (d k a : ℕ) (l : Label) → Darkens n s c d k a l → InPhase (Roots pass) n s (with_marks c (darkened c.marks l))
   roots_darkens i d k a l may = record {
     traced = darken_traced s.graph c.marks l i.traced;
@@ -256,7 +256,7 @@ module _ (pass : Pass) (n : ℕ) (s : State) (c : Cycle) where
         let t = rounds_end n c.layout s.graph c.before c.marks c.shares i.rounds arrived unchanged in
         known_closed s c.layout c.marks t.0 t.1 pass i.known
 
-  -- to Mark from Roots and Queued
+  -- to Mark from Roots, in both passes
   pub roots_mark : n ≡ length s.domains → InPhase (Roots pass) n s c → AllArrived n c.shares
       → (changed : Bool) → InPhase (Mark pass) n s (with_shares c (reset_shares changed))
   roots_mark count i arrived changed = record {
@@ -353,7 +353,7 @@ module _ (n : ℕ) (s : State) (c : Cycle) where
           marked = λ d h. cc;
         }
 
-  -- in Queued a domain has its own queue to darken: its registers were marked at the cut
+  -- in the second Roots a domain has its own queue to darken: its registers were marked at the cut
   pub queued_arrives : InPhase (Roots Second) n s c → (d : ℕ) → HoldsRoots (filter_map pending_label (domain_at s d).queue) c.marks.marked
       → InPhase (Roots Second) n s (with_shares c (arrives c.shares d))
   queued_arrives i d queue = roots_arrives Second n s c i d (record {

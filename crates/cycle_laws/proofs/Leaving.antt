@@ -54,7 +54,7 @@ ephe_names l (Some (Ephe keys datum)) h = ⊎_elim
     (λ b. inr (datum_names l datum b))
     (or_cases (list_any (is_label l) keys) (is_label l (label_of datum)) h)
 
--- all that a marked block names is marked, where the marked blocks are closed and no key of theirs is unmarked
+-- all that a marked block refers to is marked, where the marked blocks are closed and no key of theirs is unmarked
 module _ (g : Graph) (marked : Label → Bool) (closed : IsClosedUnder g marked) (keys : (l : Label) → IsTrue (marked l) → KeysMarked g marked l) where
   pub fields_left : (l : Label) → IsTrue (marked l) → HoldsRoots (fields_of (node_at g l)) marked
   fields_left l is = held_fields marked marked (node_at g l) (λ x h. closed l x is h)
