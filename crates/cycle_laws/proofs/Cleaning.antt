@@ -1,7 +1,10 @@
 -- From the Seal to the end of Clean: each Wipe that is made is allowed, and at the end no marked ephemeron has an unmarked key.
-use Rattle.std.proofs.Common.{◌≡◌, ⊎_elim, ℕ, zero, suc, arith, Bool, true, false, cond, not, IsTrue, List, [], ◌∷◌, ◌++◌, map, flat_map, filter_map, length, set, slice_get, Option, Some, None, refl, ap, ap₂, sym, ◌∙◌, subst, eqb, eqb-true}
+use Rattle.std.proofs.Math.ListN.{get_or-map}
+use Rattle.std.proofs.lemmas.Bool.{ne_eqb}
+use Rattle.std.proofs.Common.{◌≡◌, ⊎_elim, ℕ, zero, suc, arith, Bool, true, false, cond, not, IsTrue, List, [], ◌∷◌, ◌++◌, map, flat_map, filter_map, length, set, slice_get, Option, Some, None, refl, ap, ap₂, sym, ◌∙◌, subst, eqb}
 use Rattle.std.specs.List.{cons_option, list_all, list_any}
 use Rattle.std.specs.Option.{option_map_or}
+use Rattle.heap_model.specs.Domains.{no_domain, pending_label, queues, roots, waiting}
 use Rattle.heap_model.specs.declared.label.Label.{Label}
 use Rattle.heap_model.specs.declared.entry.Entry.TheVariants.{Seal, Wipe}
 use Rattle.heap_model.specs.declared.graph.Value.{Value}
@@ -13,21 +16,20 @@ use Rattle.heap_model.specs.declared.state.Pending.{Pending}
 use Rattle.heap_model.specs.declared.state.State.{State}
 use Rattle.heap_model.specs.Graph.{Graph, same_label, has_label, label_of, node_at, with_node}
 use Rattle.heap_model.specs.Reach.{key_holds, edges_of, edges_at, reachable, is_reachable, HoldsRoots, IsClosedUnder}
-use Rattle.heap_model.specs.Domains.{pending_label, queues, roots, waiting}
 use Rattle.heap_model.specs.Entries.{is_rising, is_some_and, with_lasts_open, at_places, wiped_keys, wiped, with_wiped, keys_at, with_taken, full_keys, WipeAllowed, next}
 use Rattle.heap_model.specs.Marked.{IsMarked}
+use Rattle.heap_model.proofs.Collections.CutLemmas.{queues_mapped}
 use Rattle.heap_model.proofs.Graphs.GraphLemmas.{same_label-true, node_at-with_node_same, node_at-with_node_other}
 use Rattle.heap_model.proofs.Commands.FrameLemmas.{label_cases}
 use Rattle.heap_model.proofs.Collections.MarkLemmas.{wipe_unmarked}
 use Rattle.heap_model.proofs.Collections.WipeLemmas.{wipe_keeps_reachable, wipe_keeps_reach}
-use Rattle.heap_model.proofs.Reach.ReachLemmas.{or_cases, or_left, or_right, and_left, and_right, has-append_cases, has-append_left}
-use Rattle.cycle_laws.specs.EntryLaws.{CleanLaw}
+use Rattle.heap_model.proofs.Reach.ReachLemmas.{or_cases, and_left, and_right, has-append_cases, has-append_left}
 use Rattle.cycle_laws.specs.Marks.{KeysMarked, IsWhole}
 use Rattle.cycle_laws.specs.Shares.{Layout, Shares, no_shares, sees, arrives, AllArrived, AllOwned}
 use Rattle.cycle_laws.specs.Queueing.{WaitingReached, CutStays}
 use Rattle.cycle_laws.specs.Taking.{InClean}
+use Rattle.cycle_laws.proofs.DomainParts.{listed_at, listed_cases}
 use Rattle.cycle_laws.proofs.Sharing.{shares_start, shares_sees, shares_arrives, sees_was}
-use Rattle.cycle_laws.proofs.Deciding.{mapped_at, queues_mapped}
 
 -- labels of one kind, after each domain was changed
 pub part_mapped : (f : DomainState → List Label) (g : DomainState → DomainState) → ((x : DomainState) → f (g x) ≡ f x) → (xs : List DomainState) → flat_map f (map g xs) ≡ flat_map f xs
@@ -59,33 +61,8 @@ clean_start n y s marked owned marks = record {
   };
   taken = λ l h. cc;
   clean = λ d a l h. cc;
-  low = λ d. let at = mapped_at with_lasts_open refl s.domains d in ap (λ (x : DomainState). x.low) at ∙ ap (λ (x : DomainState). length x.lasts) (sym at);
+  low = λ d. let at = get_or-map with_lasts_open s.domains d no_domain in ap (λ (x : DomainState). x.low) at ∙ ap (λ (x : DomainState). length x.lasts) (sym at);
 }
-
--- ephemerons that lose keys
-keys_set : (marked : Label → Bool) (keys : List (Option Label)) (p : ℕ) → HoldsRoots (filter_map (λ k. k) keys) marked → HoldsRoots (filter_map (λ k. k) (set keys p None)) marked
-keys_set marked [] p holds l h = holds l h
-keys_set marked (None ∷ keys) zero holds l h = holds l h
-keys_set marked (Some k ∷ keys) zero holds l h = holds l (or_right (same_label k l) (has_label (filter_map (λ k. k) keys) l) h)
-keys_set marked (None ∷ keys) (suc p) holds l h = keys_set marked keys p holds l h
-keys_set marked (Some k ∷ keys) (suc p) holds l h = ⊎_elim
-    (λ here. holds l (or_left (same_label k l) (has_label (filter_map (λ k. k) keys) l) here))
-    (λ later. keys_set marked keys p (λ x at. holds x (or_right (same_label k x) (has_label (filter_map (λ k. k) keys) x) at)) l later)
-    (or_cases (same_label k l) (has_label (filter_map (λ k. k) (set keys p None)) l) h)
-
-keys_wiped : (marked : Label → Bool) (keys : List (Option Label)) (places : List ℕ) → HoldsRoots (filter_map (λ k. k) keys) marked
-    → HoldsRoots (filter_map (λ k. k) (wiped_keys places keys)) marked
-keys_wiped marked keys [] holds = holds
-keys_wiped marked keys (p ∷ ps) holds = keys_set marked (wiped_keys ps keys) p (keys_wiped marked keys ps holds)
-
--- keys that are each marked
-pub keys_each : (marked : Label → Bool) (keys : List (Option Label)) → ((p : ℕ) (k : Label) → slice_get keys p ≡ Some (Some k) → IsTrue (marked k)) → HoldsRoots (filter_map (λ k. k) keys) marked
-keys_each marked [] each l h = cc
-keys_each marked (None ∷ keys) each l h = keys_each marked keys (λ p k e. each (suc p) k e) l h
-keys_each marked (Some k ∷ keys) each l h = ⊎_elim
-    (λ here. subst (λ z. IsTrue (marked z)) (same_label-true k l here) (each zero k refl))
-    (λ later. keys_each marked keys (λ p j e. each (suc p) j e) l later)
-    (or_cases (same_label k l) (has_label (filter_map (λ k. k) keys) l) h)
 
 -- a key that is left after a wipe stood there, at none of the places
 get_set_none : (keys : List (Option Label)) (q p : ℕ) (k : Label) → slice_get (set keys q None) p ≡ Some (Some k) → (slice_get keys p ≡ Some (Some k)) × (q ≡ p → ⊥)
@@ -95,21 +72,21 @@ get_set_none (x ∷ keys) zero (suc p) k e = (e, (λ same. absurd (omega arith))
 get_set_none (x ∷ keys) (suc q) zero k e = (e, (λ same. absurd (omega arith)))
 get_set_none (x ∷ keys) (suc q) (suc p) k e = let t = get_set_none keys q p k e in (t.0, (λ same. t.1 (omega arith)))
 
-differ : (q p : ℕ) → (q ≡ p → ⊥) → eqb q p ≡ false
-differ q p other = go (eqb q p) refl
-  where
-    go : (b : Bool) → eqb q p ≡ b → b ≡ false
-    go true e = absurd (other (eqb-true q p e))
-    go false e = refl
-
 get_wiped : (places : List ℕ) (keys : List (Option Label)) (p : ℕ) (k : Label) → slice_get (wiped_keys places keys) p ≡ Some (Some k)
     → (slice_get keys p ≡ Some (Some k)) × (list_any (λ q. eqb q p) places ≡ false)
 get_wiped [] keys p k e = (e, refl)
 get_wiped (q ∷ ps) keys p k e =
     let first = get_set_none (wiped_keys ps keys) q p k e in
     let rest = get_wiped ps keys p k first.0 in
-    let here : eqb q p ≡ false = differ q p first.1 in
+    let here : eqb q p ≡ false = ne_eqb q p first.1 in
     (rest.0, rw here rest.1)
+
+-- so keys that were marked stay so
+keys_wiped : (marked : Label → Bool) (keys : List (Option Label)) (places : List ℕ) → HoldsRoots (filter_map (λ k. k) keys) marked
+    → HoldsRoots (filter_map (λ k. k) (wiped_keys places keys)) marked
+keys_wiped marked keys places holds l h =
+    let t = listed_cases (λ o. o) (wiped_keys places keys) l h in
+    holds l (listed_at (λ o. o) keys t.0 (Some l) l (get_wiped places keys t.0 l (t.2 ∙ ap Some t.3)).0 refl)
 
 -- the labels that a wipe takes
 keys_taken : (marked : Label → Bool) (keys : List (Option Label)) (places : List ℕ)
@@ -193,7 +170,7 @@ module _ (n : ℕ) (y : Layout) (s : State) (marked : Label → Bool) (w : Share
         → KeysMarked (next s (Wipe l places)).graph marked l
     wipe_cleans others = subst (λ o. KeysMarked (after_wipe o).graph marked l) (sym node)
         (subst (λ o. HoldsRoots (full_keys o) marked) (sym (wiped_here s.graph marked l keys (wiped_keys places keys) datum node))
-        (keys_each marked (wiped_keys places keys) (λ p k e. let was = get_wiped places keys p k e in others p k was.0 was.1)))
+        (λ k h. let t = listed_cases (λ o. o) (wiped_keys places keys) k h in let was = get_wiped places keys t.0 k (t.2 ∙ ap Some t.3) in others t.0 k was.0 was.1))
 
     -- a whole cycle stays so
     pub wipe_whole : IsWhole s.graph (roots s (queues s)) marked
@@ -253,6 +230,3 @@ waiting_seal s reached l h = subst (λ z. IsTrue (is_reachable s.graph z l)) (sy
 pub cut_stays_seal : (s : State) → CutStays s → CutStays (next s Seal)
 cut_stays_seal s stays l h = subst (λ z. IsTrue (has_label z l)) (sym (roots_mapped_now s with_lasts_open (λ x. refl) (λ x. refl)))
     (stays l (subst (λ z. IsTrue (has_label z l)) (roots_mapped s with_lasts_open (λ x. refl) (λ x. refl) s.cut) h))
-
-pub clean_law : CleanLaw
-clean_law = record { start = clean_start; allowed = wipe_allowed; wiped = clean_wipes; cleans = wipe_cleans; looks = clean_sees; arrived = clean_arrives }

@@ -1,132 +1,26 @@
 -- What the domains add up to is what is reachable, each block once.
-use Rattle.std.proofs.Common.{◌≡◌, ◌⊎◌, inl, inr, ⊎_elim, ℕ, zero, suc, ◌+◌, ◌<◌, ◌≤◌, arith, Bool, true, false, cond, not, ◌||◌, IsTrue, List, [], ◌∷◌, ◌++◌, length, fold, Some, refl, ap, sym, ◌∙◌, subst}
+use Rattle.std.proofs.lemmas.List.Sums.{sum_by-cons}
+use Rattle.std.proofs.Common.{◌≡◌, ⊎_elim, ℕ, zero, suc, ◌+◌, ◌<◌, ◌≤◌, arith, Bool, true, false, cond, IsTrue, List, [], ◌∷◌, ◌++◌, length, Some, refl, ap, sym, ◌∙◌, subst}
 use Rattle.std.specs.List.{sum_by}
 use Rattle.heap_model.specs.declared.label.Label.{Label}
 use Rattle.heap_model.specs.declared.state.State.{State}
-use Rattle.heap_model.specs.Graph.{Graph, same_label, has_label, has_no_repeats, words_at}
+use Rattle.heap_model.specs.Graph.{Graph, has_label, has_no_repeats, words_at}
 use Rattle.heap_model.specs.Domains.{queues, roots, reach}
-use Rattle.heap_model.proofs.Graphs.GraphLemmas.{same_label-true, same_label_refl}
-use Rattle.heap_model.proofs.Reach.ReachLemmas.{Within, or_cases, or_left, or_right, and_left, and_right, and_both, has-append_cases, has-append_left, has-append_right, reachable_least}
+use Rattle.heap_model.proofs.Reach.LabelListLemmas.{tally_same, no_repeats_append, length-tally}
+use Rattle.heap_model.proofs.Reach.ReachLemmas.{has-append_cases, has-append_left, has-append_right}
 use Rattle.heap_model.proofs.Reach.ReachSizeLemmas.{reachable-no_repeats}
 use Rattle.heap_model.proofs.Histories.TallyLemmas.{tally, tally-append}
-use Rattle.cycle_laws.specs.EntryLaws.{CountLaw}
+use Rattle.cycle_laws.specs.Counting.{CountLaw, total, added_up, IsShareOut, InCount}
 use Rattle.cycle_laws.specs.Marks.{IsWhole}
 use Rattle.cycle_laws.specs.Shares.{Layout, OnePlaceEach, AllOwned, at_domain}
-use Rattle.cycle_laws.specs.Counting.{total, added_up, IsShareOut, InCount}
 use Rattle.cycle_laws.specs.Taking.{IsLeft}
-use Rattle.cycle_laws.proofs.Tracing.{not_true}
-use Rattle.cycle_laws.proofs.Sharing.{at_cases}
-
--- a list without one of its labels
-pub without : Label → List Label → List Label
-without x [] = []
-without x (y ∷ ys) = cond (same_label y x) ys (y ∷ without x ys)
-
-not_from : (b : Bool) → (IsTrue b → ⊥) → IsTrue (not b)
-not_from true never = absurd (never refl)
-not_from false never = refl
-
-module _ (x : Label) where
-  pub without_was : (ys : List Label) → Within (without x ys) ys
-  unfolding without
-  without_was [] l h = h
-  without_was (y ∷ ys) l h = go (same_label y x) (without_was ys l) h
-    where
-      go : (b : Bool) → (IsTrue (has_label (without x ys) l) → IsTrue (has_label ys l)) → IsTrue (has_label (cond b ys (y ∷ without x ys)) l)
-          → IsTrue (same_label y l || has_label ys l)
-      go true rest at = or_right (same_label y l) (has_label ys l) at
-      go false rest at = ⊎_elim
-          (λ here. or_left (same_label y l) (has_label ys l) here)
-          (λ later. or_right (same_label y l) (has_label ys l) (rest later))
-          (or_cases (same_label y l) (has_label (without x ys) l) at)
-
-  pub without_is : (ys : List Label) (l : Label) → IsTrue (has_label ys l) → (x ≡ l → ⊥) → IsTrue (has_label (without x ys) l)
-  unfolding without
-  without_is [] l h differ = h
-  without_is (y ∷ ys) l h differ = go (same_label y x) (λ later. without_is ys l later differ) refl
-    where
-      go : (b : Bool) → (IsTrue (has_label ys l) → IsTrue (has_label (without x ys) l)) → same_label y x ≡ b
-          → IsTrue (has_label (cond b ys (y ∷ without x ys)) l)
-      go true rest e = ⊎_elim
-          (λ here. absurd (differ (sym (same_label-true y x e) ∙ same_label-true y l here)))
-          (λ later. later)
-          (or_cases (same_label y l) (has_label ys l) h)
-      go false rest e = ⊎_elim
-          (λ here. or_left (same_label y l) (has_label (without x ys) l) here)
-          (λ later. or_right (same_label y l) (has_label (without x ys) l) (rest later))
-          (or_cases (same_label y l) (has_label ys l) h)
-
-  pub without_once : (ys : List Label) → IsTrue (has_no_repeats ys) → IsTrue (has_no_repeats (without x ys))
-  unfolding without
-  without_once [] once = refl
-  without_once (y ∷ ys) once = go (same_label y x) (without_once ys (and_right (not (has_label ys y)) (has_no_repeats ys) once))
-    where
-      go : (b : Bool) → IsTrue (has_no_repeats (without x ys)) → IsTrue (has_no_repeats (cond b ys (y ∷ without x ys)))
-      go true rest = and_right (not (has_label ys y)) (has_no_repeats ys) once
-      go false rest = and_both (not (has_label (without x ys) y)) (has_no_repeats (without x ys))
-          (not_from (has_label (without x ys) y) (λ h. not_true (has_label ys y) (and_left (not (has_label ys y)) (has_no_repeats ys) once) (without_was ys y h)))
-          rest
-
-  without_gone : (ys : List Label) → IsTrue (has_no_repeats ys) → IsTrue (has_label (without x ys) x) → ⊥
-  unfolding without
-  without_gone [] once h = let clash : false ≡ true = h in cc
-  without_gone (y ∷ ys) once h = go (same_label y x) (without_gone ys (and_right (not (has_label ys y)) (has_no_repeats ys) once)) refl h
-    where
-      go : (b : Bool) → (IsTrue (has_label (without x ys) x) → ⊥) → same_label y x ≡ b → IsTrue (has_label (cond b ys (y ∷ without x ys)) x) → ⊥
-      go true rest e at = not_true (has_label ys y) (and_left (not (has_label ys y)) (has_no_repeats ys) once)
-          (subst (λ z. IsTrue (has_label ys z)) (sym (same_label-true y x e)) at)
-      go false rest e at = ⊎_elim
-          (λ here. let clash : true ≡ false = sym here ∙ e in cc)
-          (λ later. rest later)
-          (or_cases (same_label y x) (has_label (without x ys) x) at)
-
-  module _ (f : Label → ℕ) where
-    pub tally-without_one : (ys : List Label) → IsTrue (has_label ys x) → tally f ys ≡ f x + tally f (without x ys)
-    unfolding without
-    tally-without_one [] h = cc
-    tally-without_one (y ∷ ys) h = go (same_label y x) (tally-without_one ys) refl
-      where
-        go : (b : Bool) → (IsTrue (has_label ys x) → tally f ys ≡ f x + tally f (without x ys)) → same_label y x ≡ b
-            → f y + tally f ys ≡ f x + tally f (cond b ys (y ∷ without x ys))
-        go true rest e = ap (λ z. f z + tally f ys) (same_label-true y x e)
-        go false rest e = ⊎_elim
-            (λ here. absurd (let clash : true ≡ false = sym here ∙ e in cc))
-            (λ later. let split = rest later in omega (arith, split))
-            (or_cases (same_label y x) (has_label ys x) h)
-
--- two lists of the same labels, each once, have the same sum
-pub tally_same : (f : Label → ℕ) (xs ys : List Label) → IsTrue (has_no_repeats xs) → IsTrue (has_no_repeats ys) → Within xs ys → Within ys xs → tally f xs ≡ tally f ys
-tally_same f [] [] a b to from = refl
-tally_same f [] (y ∷ ys) a b to from =
-    let clash : IsTrue (has_label [] y) = from y (or_left (same_label y y) (has_label ys y) (same_label_refl y)) in cc
-tally_same f (x ∷ xs) ys a b to from =
-    let new : IsTrue (has_label xs x) → ⊥ = not_true (has_label xs x) (and_left (not (has_label xs x)) (has_no_repeats xs) a) in
-    let here : IsTrue (has_label ys x) = to x (or_left (same_label x x) (has_label xs x) (same_label_refl x)) in
-    let rest : tally f xs ≡ tally f (without x ys) = tally_same f xs (without x ys)
-    (and_right (not (has_label xs x)) (has_no_repeats xs) a)
-    (without_once x ys b)
-    (λ l h. without_is x ys l (to l (or_right (same_label x l) (has_label xs l) h)) (λ same. new (subst (λ z. IsTrue (has_label xs z)) (sym same) h)))
-    (λ l h. ⊎_elim
-    (λ first. absurd (without_gone x ys b (subst (λ z. IsTrue (has_label (without x ys) z)) (sym (same_label-true x l first)) h)))
-    (λ later. later)
-    (or_cases (same_label x l) (has_label xs l) (from l (without_was x ys l h)))) in
-    let split = tally-without_one x f ys here in
-    omega (arith, rest, split)
+use Rattle.cycle_laws.proofs.Tracing.{marked_reach}
+use Rattle.cycle_laws.proofs.Sharing.{last_or, at_cases}
 
 -- the lists of the first domains, one after the other
 joined : (ℕ → List Label) → ℕ → List Label
 joined own zero = []
 joined own (suc n) = joined own n ++ own n
-
-pub no_repeats_append : (a b : List Label) → IsTrue (has_no_repeats a) → IsTrue (has_no_repeats b) → ((l : Label) → IsTrue (has_label a l) → IsTrue (has_label b l) → ⊥)
-    → IsTrue (has_no_repeats (a ++ b))
-no_repeats_append [] b x y apart = y
-no_repeats_append (k ∷ a) b x y apart = and_both (not (has_label (a ++ b) k)) (has_no_repeats (a ++ b))
-    (not_from (has_label (a ++ b) k) (λ h. ⊎_elim
-    (λ left. not_true (has_label a k) (and_left (not (has_label a k)) (has_no_repeats a) x) left)
-    (λ right. apart k (or_left (same_label k k) (has_label a k) (same_label_refl k)) right)
-    (has-append_cases a b k h)))
-    (no_repeats_append a b (and_right (not (has_label a k)) (has_no_repeats a) x) y (λ l h. apart l (or_right (same_label k l) (has_label a l) h)))
 
 module _ (y : Layout) (one : OnePlaceEach y) (marked : Label → Bool) (own : ℕ → List Label) (out : IsShareOut y marked own) where
   joined_was : (n : ℕ) (l : Label) → IsTrue (has_label (joined own n) l) → (d : ℕ) × (d < n) × IsTrue (has_label (own d) l)
@@ -144,12 +38,6 @@ module _ (y : Layout) (one : OnePlaceEach y) (marked : Label → Bool) (own : �
       (λ less. has-append_left (joined own n) (own n) l (joined_is n d l less h))
       (λ same. has-append_right (joined own n) (own n) l (subst (λ z. IsTrue (has_label (own z) l)) same h))
       (last_or d n lt)
-    where
-      last_or : (a b : ℕ) → a < suc b → (a < b) ⊎ (a ≡ b)
-      last_or zero zero lt = inr refl
-      last_or zero (suc b) lt = inl (omega arith)
-      last_or (suc a) zero lt = absurd (omega arith)
-      last_or (suc a) (suc b) lt = ⊎_elim (λ less. inl (omega arith)) (λ same. inr (ap suc same)) (last_or a b (omega arith))
 
   joined_once : (n : ℕ) → IsTrue (has_no_repeats (joined own n))
   unfolding joined
@@ -180,17 +68,10 @@ module _ (y : Layout) (one : OnePlaceEach y) (marked : Label → Bool) (own : �
       (λ l h. let is : IsTrue (marked l) = subst (λ b. IsTrue b) (same l) h in
       let t = owned l is in joined_is domains t.0 l t.2 (out.all t.0 t.1 l t.3 t.4 is))
 
--- sums in std's words
-fold-tally : {A : Type 0} (f : A → ℕ) (n : ℕ) (xs : List A) → fold (λ a x. a + f x) n xs ≡ n + tally f xs
-fold-tally f n [] = omega arith
-fold-tally f n (x ∷ xs) = let rest = fold-tally f (n + f x) xs in omega (arith, rest)
-
-pub sum-tally : {A : Type 0} (f : A → ℕ) (xs : List A) → sum_by f xs ≡ tally f xs
-sum-tally f xs = let e = fold-tally f 0 xs in omega (arith, e)
-
-pub length-tally : {A : Type 0} (xs : List A) → length xs ≡ tally (λ _. 1) xs
-length-tally [] = refl
-length-tally (x ∷ xs) = let rest = length-tally xs in omega (arith, rest)
+-- a sum in std's words
+sum-tally : {A : Type 0} (f : A → ℕ) (xs : List A) → sum_by f xs ≡ tally f xs
+sum-tally f [] = refl
+sum-tally f (x ∷ xs) = sum_by-cons f x xs ∙ ap (λ t. f x + t) (sum-tally f xs)
 
 pub total_same : (f g : ℕ → ℕ) → ((d : ℕ) → f d ≡ g d) → (n : ℕ) → total f n ≡ total g n
 total_same f g same zero = refl
@@ -205,13 +86,8 @@ live_counted domains y s marked own one owned out left whole = (
   total_same _ _ (λ d. sum-tally (words_at s.graph) (own d)) domains ∙ sums (words_at s.graph) ∙ sym (sum-tally (words_at s.graph) (reach s)),
 )
   where
-    both : (a b : Bool) → (IsTrue a → IsTrue b) → (IsTrue b → IsTrue a) → a ≡ b
-    both true b f g = sym (f refl)
-    both false true f g = g refl
-    both false false f g = refl
-
     same : (l : Label) → has_label (reach s) l ≡ marked l
-    same l = both (has_label (reach s) l) (marked l) (reachable_least s.graph marked left.marks.closed (roots s (queues s)) left.marks.roots l) (whole l)
+    same l = sym (marked_reach s.graph (roots s (queues s)) marked left.marks.closed left.marks.roots whole l)
 
     sums : (f : Label → ℕ) → total (λ d. tally f (own d)) domains ≡ tally f (reach s)
     sums = shared_out y one marked own out domains owned (reach s) (reachable-no_repeats s.graph (roots s (queues s))) same
@@ -237,16 +113,10 @@ adds added f d (suc n) lt new = ⊎_elim
     let val : f n ≡ f d = ap f t.0 in
     omega (arith, rest, now, was, val))
     (λ t.
-    let rest = adds added f d n (let other = t.0 in le_other d n lt other) new in
+    let rest = adds added f d n (⊎_elim (λ less. less) (λ same. absurd (t.0 (sym same))) (last_or d n lt)) new in
     let same : cond (at_domain added d true n) (f n) 0 ≡ cond (added n) (f n) 0 = ap (λ b. cond b (f n) 0) t.1 in
     omega (arith, rest, same))
     (at_cases added d true n)
-  where
-    le_other : (a b : ℕ) → a < suc b → (b ≡ a → ⊥) → a < b
-    le_other zero zero lt other = absurd (other refl)
-    le_other zero (suc b) lt other = omega arith
-    le_other (suc a) zero lt other = absurd (omega arith)
-    le_other (suc a) (suc b) lt other = let less = le_other a b (omega arith) (λ same. other (ap suc same)) in omega arith
 
 -- once all have added, all is added up
 pub added_all : (added : ℕ → Bool) (f : ℕ → ℕ) (n : ℕ) → ((d : ℕ) → d < n → IsTrue (added d)) → added_up added f n ≡ total f n

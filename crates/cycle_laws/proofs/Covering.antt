@@ -1,38 +1,26 @@
--- What is known of the marks beside running domains is kept by each move, and gives at the end that the marked blocks are closed.
-use Rattle.std.proofs.Common.{◌≡◌, ◌⊎◌, ⊎_elim, ℕ, zero, suc, Bool, true, false, not, ◌||◌, IsTrue, List, [], ◌∷◌, filter_map, slice_get, set, Option, Some, None, refl, ap, sym, ◌∙◌, subst}
+-- What is known of a cycle that was under way is kept by a darkening and by a scan, and gives at the end that the marked blocks are closed.
+use Rattle.std.proofs.Common.{◌≡◌, ◌⊎◌, ⊎_elim, ℕ, Bool, false, not, ◌||◌, IsTrue, List, set, Option, Some, None, refl, ap, sym, ◌∙◌, subst}
 use Rattle.heap_model.specs.declared.label.Label.{Label}
-use Rattle.heap_model.specs.declared.graph.Value.{Value}
-use Rattle.heap_model.specs.declared.graph.Value.TheVariants.{Int, Block, Nothing}
+use Rattle.heap_model.specs.declared.graph.Value.TheVariants.{Block}
 use Rattle.heap_model.specs.declared.graph.Node.{Node}
 use Rattle.heap_model.specs.declared.graph.Node.TheVariants.{Plain, Raw, Ephe}
 use Rattle.heap_model.specs.Graph.{Graph, labels, has_label, same_label, label_of, node_at}
 use Rattle.heap_model.specs.Reach.{HoldsRoots, IsClosedUnder}
 use Rattle.heap_model.specs.WellFormed.{names_of}
+use Rattle.heap_model.proofs.Reach.ReachLemmas.{is_false, not_true, or_cases, or_left, or_right, and_left, and_right, true_or_false}
 use Rattle.heap_model.proofs.Graphs.GraphLemmas.{same_label-true, same_label_refl}
 use Rattle.heap_model.proofs.Histories.NumberLemmas.{node_at-no_label}
-use Rattle.heap_model.proofs.Reach.ReachLemmas.{or_cases, or_left, or_right, and_left, and_right, true_or_false}
 use Rattle.cycle_laws.specs.Marks.{darkened, with_scanned, fields_of, FieldsMarked, NoneGrey, DataFollows}
 use Rattle.cycle_laws.specs.Cover.{field_in, field_at, is_new, InCover, Covering, IsCovered}
-use Rattle.cycle_laws.proofs.Tracing.{More, darkened_more, darkened_cases, not_true, edges_hold}
+use Rattle.cycle_laws.proofs.DomainParts.{listed_at, listed_cases, is_block}
+use Rattle.cycle_laws.proofs.Tracing.{More, darkened_more, darkened_cases, edges_hold}
 
--- Cover holds the marked and the new labels, is closed under old fields, and grows with the marks
+-- what is covered stays so as more is marked
 module _ (old : Graph) (marked : Label → Bool) where
-  pub cover_marked : (l : Label) → IsTrue (marked l) → InCover old marked l
-  cover_marked l is set m n c = m l is
-
-  pub cover_new : (l : Label) → IsTrue (is_new old l) → InCover old marked l
-  cover_new l is set m n c = n l is
-
-  pub cover_field : (l : Label) (i : ℕ) (x : Label) → InCover old marked l → field_at old l i ≡ Some (Block x) → InCover old marked x
-  cover_field l i x cover at set m n c = c l x i (cover set m n c) at
-
   pub cover_more : (other : Label → Bool) → More marked other → (l : Label) → InCover old marked l → InCover old other l
   cover_more other more l cover set m n c = cover set (λ x h. m x (more x h)) n c
 
 -- the fields of a graph
-not_new : (old : Graph) (l : Label) → has_label (labels old) l ≡ true → is_new old l ≡ false
-not_new old l e = ap not e
-
 new_or_old : (old : Graph) (l : Label) → IsTrue (is_new old l) ⊎ (is_new old l ≡ false)
 new_or_old old l = true_or_false (is_new old l)
 
@@ -40,10 +28,6 @@ no_old_field : (old : Graph) (l : Label) (i : ℕ) (x : Label) → IsTrue (is_ne
 no_old_field old l i x new at =
     let none : node_at old l ≡ None = node_at-no_label old l (is_false (has_label (labels old) l) new) in
     let clash : field_in None i ≡ Some (Block x) = subst (λ o. field_in o i ≡ Some (Block x)) none at in cc
-  where
-    is_false : (b : Bool) → IsTrue (not b) → b ≡ false
-    is_false true n = cc
-    is_false false n = refl
 
 -- a field whose present label is marked, or that was stored into, had a marked label
 pub field_done : (v : Covering) → IsCovered v → (l : Label) (i : ℕ) → ((x : Label) → field_at v.now l i ≡ Some (Block x) → IsTrue (v.marks.marked x))
@@ -59,7 +43,6 @@ field_done v c l i now x at = ⊎_elim
 -- a darkening
 pub cover_darkens : (v : Covering) → IsCovered v → (l : Label) → IsTrue (v.places l) → IsCovered (record v { marks = darkened v.marks l })
 cover_darkens v c l place = record {
-  grown = c.grown;
   same = c.same;
   scanned = λ k i x marked scanned at. ⊎_elim
       (λ here. absurd (not_true (same_label l k) (and_left (not (same_label l k)) (v.marks.scanned k) scanned) (subst (λ z. IsTrue (same_label l z)) here (same_label_refl l))))
@@ -84,24 +67,11 @@ pub field_listed : (o : Option Node) (i : ℕ) (x : Label) → field_in o i ≡ 
 field_listed None i x at = cc
 field_listed (Some (Raw tag fields)) i x at = cc
 field_listed (Some (Ephe keys datum)) i x at = cc
-field_listed (Some (Plain tag fields)) i x at = go fields i at
-  where
-    go : (fs : List Value) (j : ℕ) → slice_get fs j ≡ Some (Block x) → IsTrue (has_label (filter_map label_of fs) x)
-    go [] j e = cc
-    go (Int z ∷ fs) zero e = cc
-    go (Nothing ∷ fs) zero e = cc
-    go (Block y ∷ fs) zero e =
-        let same : Block y ≡ Block x = cc in
-        let label : y ≡ x = cc in
-        or_left (same_label y x) (has_label (filter_map label_of fs) x) (subst (λ z. IsTrue (same_label y z)) label (same_label_refl y))
-    go (Int z ∷ fs) (suc j) e = go fs j e
-    go (Nothing ∷ fs) (suc j) e = go fs j e
-    go (Block y ∷ fs) (suc j) e = or_right (same_label y x) (has_label (filter_map label_of fs) x) (go fs j e)
+field_listed (Some (Plain tag fields)) i x at = listed_at label_of fields i (Block x) x at refl
 
 -- a scan while all stand still
 pub cover_scans : (v : Covering) → IsCovered v → (l : Label) → FieldsMarked v.now v.marks.marked l → IsCovered (record v { marks = with_scanned v.marks l })
 cover_scans v c l fields = record {
-  grown = c.grown;
   same = c.same;
   scanned = λ k i x marked scanned at. ⊎_elim
       (λ here. field_done v c l i (λ y now. fields y (field_listed (node_at v.now l) i y now)) x (subst (λ z. field_at v.old z i ≡ Some (Block x)) (sym (same_label-true l k here)) at))
@@ -140,15 +110,6 @@ module _ (v : Covering) (c : IsCovered v) where
         (true_or_false (v.overwritten l i)))
         (new_or_old v.old l)
 
-    field_index : (fields : List Value) (x : Label) → IsTrue (has_label (filter_map label_of fields) x) → (i : ℕ) × (slice_get fields i ≡ Some (Block x))
-    field_index [] x h = cc
-    field_index (Int z ∷ fields) x h = let t = field_index fields x h in (suc t.0, t.1)
-    field_index (Nothing ∷ fields) x h = let t = field_index fields x h in (suc t.0, t.1)
-    field_index (Block y ∷ fields) x h = ⊎_elim
-        (λ here. (zero, ap (λ z. Some (Block z)) (same_label-true y x here)))
-        (λ later. let t = field_index fields x later in (suc t.0, t.1))
-        (or_cases (same_label y x) (has_label (filter_map label_of fields) x) h)
-
     pub cover_closed : DataFollows v.now v.marks.marked → (roots : List Label) → HoldsRoots roots v.held → HoldsRoots roots v.places
         → ((l : Label) (n : Node) → IsTrue (v.places l) → node_at v.now l ≡ Some n → HoldsRoots (names_of n) v.places)
         → HoldsRoots roots v.marks.marked × IsClosedUnder v.now v.marks.marked
@@ -160,7 +121,7 @@ module _ (v : Covering) (c : IsCovered v) where
         fields : (l : Label) → IsTrue (v.marks.marked l) → (o : Option Node) → node_at v.now l ≡ o → HoldsRoots (fields_of o) v.marks.marked
         fields l is None e x h = cc
         fields l is (Some (Plain tag fs)) e x h =
-            let t = field_index fs x h in
-            field_marked l t.0 x is (closed l (Plain tag fs) (c.placed l is) e x h) (subst (λ o. field_in o t.0 ≡ Some (Block x)) (sym e) t.1)
+            let t = listed_cases label_of fs x h in
+            field_marked l t.0 x is (closed l (Plain tag fs) (c.placed l is) e x h) (subst (λ o. field_in o t.0 ≡ Some (Block x)) (sym e) (t.2 ∙ ap Some (is_block t.1 x t.3)))
         fields l is (Some (Raw tag fs)) e x h = cc
         fields l is (Some (Ephe keys datum)) e x h = cc

@@ -1,5 +1,5 @@
 -- A cycle that ends in this pause: its steps and its phases.
-use Rattle.std.proofs.Common.{◌≡◌, inl, inr, ⊎_elim, arith, ℕ, suc, ◌<◌, Bool, true, false, not, IsTrue, List, [], ◌∷◌, ◌++◌, map, flat_map, filter_map, length, slice_get, Option, Some, refl, ap, sym, ◌∙◌, subst, eqb}
+use Rattle.std.proofs.Common.{◌≡◌, inl, inr, ⊎_elim, ℕ, suc, ◌<◌, Bool, true, false, not, IsTrue, List, [], ◌∷◌, ◌++◌, map, flat_map, filter_map, length, slice_get, Option, Some, refl, ap, sym, subst, eqb}
 use Rattle.std.specs.List.{list_all, list_any}
 use Rattle.heap_model.specs.declared.label.Label.{Label}
 use Rattle.heap_model.specs.declared.command.Command.TheVariants.{FullMajor}
@@ -14,17 +14,19 @@ use Rattle.heap_model.specs.Graph.{has_label, label_of, node_at}
 use Rattle.heap_model.specs.Reach.{HoldsRoots, is_reachable, IsClosedUnder}
 use Rattle.heap_model.specs.Domains.{domain_at, pending_label, queues, roots}
 use Rattle.heap_model.specs.Entries.{Allowed, next, is_some_and, is_rising, is_sealed, freshened, with_queued}
+use Rattle.heap_model.proofs.Collections.CutLemmas.{part_same}
+use Rattle.heap_model.proofs.Reach.ReachLemmas.{has-append_left}
 use Rattle.cycle_laws.specs.Marks.{Marks, darkened, with_scanned, FieldsMarked, KeysMarked, DataMarked, NoneGrey, DataFollows, IsWhole}
 use Rattle.cycle_laws.specs.Shares.{Layout, OnePlaceEach, reset_shares, no_shares, at_domain, again, owing, stored_changed, sees, arrives, AllArrived, AllOwned}
 use Rattle.cycle_laws.specs.Queueing.{RootsMarked, IsDecided}
 use Rattle.cycle_laws.specs.Taking.{LeadsToMarked}
 use Rattle.cycle_laws.specs.Cycle.{Cycle, Pass, First, Second, Roots, Mark, Rounds, Decide, Clean, Lasts, Sweep, WholeFrom, Passed, IsRooted, IsUnderWay, Known, InPhase, with_shares, with_marks}
 use Rattle.cycle_laws.specs.CycleLaws.{Darkens, Arrives, DarkeningSteps, TakingSteps, PhaseSteps}
+use Rattle.cycle_laws.proofs.LookingBack.{through_looks, through_arrives}
 use Rattle.cycle_laws.proofs.Tracing.{More, holds_more, darkened_more, never, held_fields, darken_traced, darken_whole, scan_traced, closed_when}
 use Rattle.cycle_laws.proofs.Sharing.{at_cases, owned_darkened, mark_start, mark_darkens_own as shares_darken_own, mark_darkens_other as shares_darken_other, mark_scans as shares_scan, mark_stores as shares_store, mark_sees, mark_arrives as shares_arrive, mark_end, rounds_start, rounds_darkens as rounds_darken, rounds_stores as rounds_store, rounds_sees, rounds_arrives as rounds_arrive, rounds_end}
 use Rattle.cycle_laws.proofs.Covering.{cover_darkens, cover_scans, cover_closed}
-use Rattle.cycle_laws.proofs.DomainParts.{part_has, part_same, roots_end}
-use Rattle.heap_model.proofs.Reach.ReachLemmas.{has-append_left}
+use Rattle.cycle_laws.proofs.DomainParts.{part_has, roots_end}
 use Rattle.cycle_laws.proofs.Deciding as deciding
 use Rattle.cycle_laws.proofs.Cleaning as cleaning
 use Rattle.cycle_laws.proofs.Leaving as leaving
@@ -111,7 +113,7 @@ module _ (pass : Pass) (n : ℕ) (s : State) (c : Cycle) where
       → WholeFrom (roots s (queues s)) s c.whole (darkened c.marks l).marked
   whole_darkens d k a l may whole is = darken_whole s.graph (roots s (queues s)) c.marks may.graph (whole is) l (may.may is)
 
-  -- Roots and Queued
+  -- Roots, in both passes
   pub roots_darkens : InPhase (Roots pass) n s c → (d k a : ℕ) (l : Label) → Darkens n s c d k a l → InPhase (Roots pass) n s (with_marks c (darkened c.marks l))
   roots_darkens i d k a l may = record {
     traced = darken_traced s.graph c.marks l i.traced;
@@ -254,7 +256,7 @@ module _ (pass : Pass) (n : ℕ) (s : State) (c : Cycle) where
         let t = rounds_end n c.layout s.graph c.before c.marks c.shares i.rounds arrived unchanged in
         known_closed s c.layout c.marks t.0 t.1 pass i.known
 
-  -- to Mark from Roots and Queued
+  -- to Mark from Roots, in both passes
   pub roots_mark : n ≡ length s.domains → InPhase (Roots pass) n s c → AllArrived n c.shares
       → (changed : Bool) → InPhase (Mark pass) n s (with_shares c (reset_shares changed))
   roots_mark count i arrived changed = record {
@@ -309,10 +311,7 @@ module _ (n : ℕ) (s : State) (c : Cycle) where
       whole = i.whole;
       stays = i.stays;
       decide = deciding.decide_keeps s c.marks.marked c.left i.decide d p f place at is;
-      through = λ j h. ⊎_elim
-          (λ t. absurd (let was : c.left d ≡ 0 = subst (λ z. c.left z ≡ 0) t.0 (i.through j h) in omega arith))
-          (λ t. t.1 ∙ i.through j h)
-          (at_cases c.left d p j);
+      through = through_looks c.shares.arrived c.left d i.through p place;
     }
 
     pub decide_queues : (d p : ℕ) (f : Finaliser) → c.left d ≡ suc p → slice_get (domain_at s d).finals p ≡ Some f → IsTrue (not (c.marks.marked f.label))
@@ -324,10 +323,7 @@ module _ (n : ℕ) (s : State) (c : Cycle) where
         whole = λ is. deciding.whole_queues s c.marks.marked d (p ∷ []) (i.whole is);
         stays = deciding.cut_stays_grow s d (with_queued (domain_at s d) (p ∷ [])) _ refl refl i.stays;
         decide = deciding.decide_queues s c.marks.marked c.left i.decide d p f place at un inside;
-        through = λ j h. ⊎_elim
-            (λ t. absurd (let was : c.left d ≡ 0 = subst (λ z. c.left z ≡ 0) t.0 (i.through j h) in omega arith))
-            (λ t. t.1 ∙ i.through j h)
-            (at_cases c.left d p j);
+        through = through_looks c.shares.arrived c.left d i.through p place;
       },
     )
 
@@ -337,10 +333,7 @@ module _ (n : ℕ) (s : State) (c : Cycle) where
       whole = i.whole;
       stays = i.stays;
       decide = i.decide;
-      through = λ j h. ⊎_elim
-          (λ t. subst (λ z. c.left z ≡ 0) (sym t.0) none)
-          (λ t. i.through j (subst (λ b. IsTrue b) t.1 h))
-          (at_cases c.shares.arrived d true j);
+      through = through_arrives c.shares.arrived c.left d i.through none;
     }
 
     pub decide_queued : n ≡ length s.domains → AllArrived n c.shares → InPhase (Roots Second) n s (with_shares c no_shares)
@@ -360,7 +353,7 @@ module _ (n : ℕ) (s : State) (c : Cycle) where
           marked = λ d h. cc;
         }
 
-  -- in Queued a domain has its own queue to darken: its registers were marked at the cut
+  -- in the second Roots a domain has its own queue to darken: its registers were marked at the cut
   pub queued_arrives : InPhase (Roots Second) n s c → (d : ℕ) → HoldsRoots (filter_map pending_label (domain_at s d).queue) c.marks.marked
       → InPhase (Roots Second) n s (with_shares c (arrives c.shares d))
   queued_arrives i d queue = roots_arrives Second n s c i d (record {
@@ -439,10 +432,7 @@ module _ (n : ℕ) (s : State) (c : Cycle) where
       whole = i.whole;
       waiting = i.waiting;
       lasts = leaving.lasts_keeps s c.marks.marked c.left i.lasts d p f place at is;
-      through = λ j h. ⊎_elim
-          (λ t. absurd (let was : c.left d ≡ 0 = subst (λ z. c.left z ≡ 0) t.0 (i.through j h) in omega arith))
-          (λ t. t.1 ∙ i.through j h)
-          (at_cases c.left d p j);
+      through = through_looks c.shares.arrived c.left d i.through p place;
     }
 
     pub lasts_queues : (d p : ℕ) (f : LastFinaliser) → c.left d ≡ suc p → slice_get (domain_at s d).lasts p ≡ Some f → IsTrue (not (c.marks.marked f.label))
@@ -454,10 +444,7 @@ module _ (n : ℕ) (s : State) (c : Cycle) where
         whole = λ is. leaving.last_whole s c.marks.marked c.left i.lasts d p f place at un inside (i.whole is);
         waiting = λ is. leaving.last_waiting s c.marks.marked c.left i.lasts d p f place at un inside (i.waiting is);
         lasts = leaving.lasts_queues s c.marks.marked c.left i.lasts d p f place at un inside;
-        through = λ j h. ⊎_elim
-            (λ t. absurd (let was : c.left d ≡ 0 = subst (λ z. c.left z ≡ 0) t.0 (i.through j h) in omega arith))
-            (λ t. t.1 ∙ i.through j h)
-            (at_cases c.left d p j);
+        through = through_looks c.shares.arrived c.left d i.through p place;
       },
     )
 
@@ -467,10 +454,7 @@ module _ (n : ℕ) (s : State) (c : Cycle) where
       whole = i.whole;
       waiting = i.waiting;
       lasts = i.lasts;
-      through = λ j h. ⊎_elim
-          (λ t. subst (λ z. c.left z ≡ 0) (sym t.0) none)
-          (λ t. i.through j (subst (λ b. IsTrue b) t.1 h))
-          (at_cases c.shares.arrived d true j);
+      through = through_arrives c.shares.arrived c.left d i.through none;
     }
 
     -- the rotation of the colours

@@ -1,5 +1,6 @@
 -- From the Cut to the end of Decide: each Queue that is made is allowed, and at the end the Seal is allowed and what waits is marked.
-use Rattle.std.proofs.Common.{◌≡◌, ◌⊎◌, inl, inr, ⊎_elim, ℕ, zero, suc, ◌<◌, ◌≤◌, arith, Bool, true, false, not, nat_lt, IsTrue, List, [], ◌∷◌, ◌++◌, map, flat_map, filter_map, length, get_or, slice_get, remove, Option, Some, None, refl, ap, ap₂, sym, ◌∙◌, subst}
+use Rattle.std.proofs.Math.ListN.{get_or-map}
+use Rattle.std.proofs.Common.{inr, inl, set, ◌≡◌, ⊎_elim, ℕ, suc, ◌<◌, arith, Bool, true, false, not, nat_lt, IsTrue, List, [], ◌∷◌, ◌++◌, map, flat_map, filter_map, length, get_or, slice_get, Option, Some, None, refl, ap, sym, ◌∙◌, subst}
 use Rattle.std.specs.List.{cons_option}
 use Rattle.std.proofs.lemmas.Bool.{lt-ltb}
 use Rattle.heap_model.specs.declared.label.Label.{Label}
@@ -12,39 +13,17 @@ use Rattle.heap_model.specs.Graph.{same_label, has_label, label_of}
 use Rattle.heap_model.specs.Reach.{HoldsRoots, IsClosedUnder}
 use Rattle.heap_model.specs.Domains.{domain_at, with_domain, no_domain, pending_label, queues, roots, waiting}
 use Rattle.heap_model.specs.Entries.{is_some_and, with_finals_open, with_queued, queued_final, queued_beyond, QueueAllowed, next}
+use Rattle.heap_model.proofs.Collections.CutLemmas.{pending_labels, part_same, queues_mapped, queue_grows}
+use Rattle.heap_model.proofs.Graphs.ListLemmas.{set_cases_inside, flat_map-map}
 use Rattle.heap_model.proofs.Graphs.GraphLemmas.{same_label-true}
-use Rattle.heap_model.proofs.Graphs.ListLemmas.{flat_map-map}
 use Rattle.heap_model.proofs.Collections.MarkLemmas.{queue_unmarked, seal_marked}
 use Rattle.heap_model.proofs.Reach.ReachLemmas.{or_cases, and_both, has-append_cases, has-append_left, has-append_right, reachable_more}
-use Rattle.cycle_laws.specs.EntryLaws.{WholeLaw, DecideLaw}
 use Rattle.cycle_laws.specs.Marks.{IsWhole}
 use Rattle.cycle_laws.specs.Shares.{at_domain}
 use Rattle.cycle_laws.specs.Queueing.{InDecide, IsDecided, WaitingReached, CutStays}
+use Rattle.cycle_laws.proofs.DomainParts.{registers_of, part_all, beyond_grown, beyond_none}
+use Rattle.cycle_laws.proofs.LookingBack.{LooksBack, looks_start, looks_end, place_below, looks_keeps, looks_takes}
 use Rattle.cycle_laws.proofs.Tracing.{More, holds_more}
-use Rattle.cycle_laws.proofs.Sharing.{at_cases}
-use Rattle.cycle_laws.proofs.DomainParts.{roots_end, part_all, part_same, set_cases, registration_cases, get-remove_above, beyond_grown, beyond_none, queues_grow}
-
--- a function of the domains, after each was changed
-pub mapped_at : (g : DomainState → DomainState) → g no_domain ≡ no_domain → (xs : List DomainState) (d : ℕ) → get_or (map g xs) d no_domain ≡ g (get_or xs d no_domain)
-mapped_at g none [] d = sym none
-mapped_at g none (x ∷ xs) zero = refl
-mapped_at g none (x ∷ xs) (suc d) = mapped_at g none xs d
-
-pub queues_mapped : (g : DomainState → DomainState) → ((x : DomainState) → (g x).queue ≡ x.queue) → (xs : List DomainState)
-    → map (λ (x : DomainState). x.queue) (map g xs) ≡ map (λ (x : DomainState). x.queue) xs
-queues_mapped g same [] = refl
-queues_mapped g same (x ∷ xs) = ap₂ (λ a b. a ∷ b) (same x) (queues_mapped g same xs)
-
-pub get_inside : {A : Type 0} (xs : List A) (p : ℕ) (x : A) → slice_get xs p ≡ Some x → p < length xs
-get_inside [] p x e = cc
-get_inside (y ∷ xs) zero x e = omega arith
-get_inside (y ∷ xs) (suc p) x e = let rest = get_inside xs p x e in omega arith
-
-pub le_cases : (p j : ℕ) → p ≤ j → (p ≡ j) ⊎ (suc p ≤ j)
-le_cases zero zero le = inl refl
-le_cases zero (suc j) le = inr (omega arith)
-le_cases (suc p) zero le = absurd (omega arith)
-le_cases (suc p) (suc j) le = ⊎_elim (λ e. inl (ap suc e)) (λ lt. inr (omega arith)) (le_cases p j (omega arith))
 
 -- the one label that a Queue of one place adds to a queue
 one_label : (o : Option Finaliser) (f : Finaliser) → o ≡ Some f → (l : Label)
@@ -63,48 +42,38 @@ decide_start s marked closed holds = record {
   roots = subst (λ z. HoldsRoots (z ++ flat_map (filter_map pending_label) (queues s)) marked)
       (sym (flat_map-map (λ (x : DomainState). filter_map label_of x.registers) with_finals_open s.domains)) holds;
   closed = closed;
-  below = λ d. let low = ap (λ (x : DomainState). x.low) (mapped_at with_finals_open refl s.domains d) in omega (arith, low);
-  kept = λ d p f le e.
-      let at : slice_get (domain_at s d).finals p ≡ Some f = ap (λ (x : DomainState). slice_get x.finals p) (sym (mapped_at with_finals_open refl s.domains d)) ∙ e in
-      let inside = get_inside (domain_at s d).finals p f at in
-      absurd (omega (arith, inside, le));
+  below = start.below;
+  kept = start.kept;
   queued = λ l h.
       let none : queued_beyond (queues (next s Cut)) (queues s) ≡ [] =
       ap (λ z. queued_beyond z (queues s)) (queues_mapped with_finals_open (λ x. refl) s.domains) ∙ beyond_none (queues s) in
       let clash : IsTrue (has_label [] l) = subst (λ z. IsTrue (has_label z l)) none h in cc;
 }
+  where
+    same : (d : ℕ) → domain_at (next s Cut) d ≡ with_finals_open (domain_at s d)
+    same d = get_or-map with_finals_open s.domains d no_domain
+
+    start : LooksBack (λ (f : Finaliser). f.label) marked (λ d. (domain_at (next s Cut) d).finals) (λ d. (domain_at (next s Cut) d).low) (λ d. length (domain_at s d).finals)
+    start = looks_start (λ (f : Finaliser). f.label) marked _ _ _
+        (λ d. let low = ap (λ (x : DomainState). x.low) (same d) in omega (arith, low))
+        (λ d. let long = ap (λ (x : DomainState). length x.finals) (same d) in omega (arith, long))
 
 module _ (s : State) (marked : Label → Bool) (left : ℕ → ℕ) (i : InDecide s marked left) where
+  abbrev looks : LooksBack (λ (f : Finaliser). f.label) marked (λ d. (domain_at s d).finals) (λ d. (domain_at s d).low) left
+  looks = record { below = i.below; kept = i.kept }
+
   module _ (d p : ℕ) (f : Finaliser) (next_place : left d ≡ suc p) (at : slice_get (domain_at s d).finals p ≡ Some f) where
     -- the domain looks at its next registration: its value is marked
     pub decide_keeps : IsTrue (marked f.label) → InDecide s marked (at_domain left d p)
-    decide_keeps is = record {
-      mode = i.mode;
-      roots = i.roots;
-      closed = i.closed;
-      below = λ k. ⊎_elim
-          (λ t. let low = i.below d in subst (λ j. at_domain left d p k ≤ (domain_at s j).low) (sym t.0) (let e = t.1 in omega (arith, e, low, next_place)))
-          (λ t. let low = i.below k in let e = t.1 in omega (arith, e, low))
-          (at_cases left d p k);
-      kept = λ k j g le e. ⊎_elim
-          (λ t.
-          let here : slice_get (domain_at s d).finals j ≡ Some g = subst (λ n. slice_get (domain_at s n).finals j ≡ Some g) t.0 e in
-          let le' : p ≤ j = subst (λ n. n ≤ j) t.1 le in ⊎_elim
-          (λ same. let is_it : f ≡ g = (let back : slice_get (domain_at s d).finals p ≡ Some g = subst (λ n. slice_get (domain_at s d).finals n ≡ Some g) (sym same) here in cc (at, back)) in
-          subst (λ (z : Finaliser). IsTrue (marked z.label)) is_it is)
-          (λ above. i.kept d j g (subst (λ n. n ≤ j) (sym next_place) above) here)
-          (le_cases p j le'))
-          (λ t. i.kept k j g (subst (λ n. n ≤ j) t.1 le) e)
-          (at_cases left d p k);
-      queued = i.queued;
-    }
+    decide_keeps is =
+        let on = looks_keeps (λ (g : Finaliser). g.label) marked _ _ left looks d p next_place f at is in
+        record { mode = i.mode; roots = i.roots; closed = i.closed; below = on.below; kept = on.kept; queued = i.queued }
 
     -- or it is unmarked: the entry Queue is allowed
     module _ (un : IsTrue (not (marked f.label))) where
       pub queue_allowed : QueueAllowed s d (p ∷ [])
       queue_allowed =
-          let low = i.below d in
-          let lt : p < (domain_at s d).low = omega (arith, low, next_place) in
+          let lt : p < (domain_at s d).low = place_below (λ (g : Finaliser). g.label) marked _ _ left looks d p next_place in
           queue_unmarked s marked d (p ∷ []) i.mode refl (and_both (nat_lt p (domain_at s d).low) true (lt-ltb p (domain_at s d).low lt) refl) i.roots i.closed
           (and_both (is_some_and (λ (g : Finaliser). not (marked g.label)) (slice_get (domain_at s d).finals p)) true
           (subst (λ o. IsTrue (is_some_and (λ (g : Finaliser). not (marked g.label)) o)) (sym at) un) refl)
@@ -119,42 +88,25 @@ module _ (s : State) (marked : Label → Bool) (left : ℕ → ℕ) (i : InDecid
           roots = subst (λ z. HoldsRoots (z ++ flat_map (filter_map pending_label) s.cut) marked)
               (sym (part_same (λ x. filter_map label_of x.registers) s.domains d queued_domain refl)) i.roots;
           closed = i.closed;
-          below = λ k. ⊎_elim
-              (λ t. ⊎_elim
-              (λ u. let low = ap (λ (x : DomainState). x.low) t.1 in let now = u.1 in omega (arith, low, now))
-              (λ u. absurd (u.0 t.0))
-              (at_cases left d p k))
-              (λ t. ⊎_elim
-              (λ u. absurd (t.0 u.0))
-              (λ u. let low = ap (λ (x : DomainState). x.low) t.1 in let now = u.1 in let was = i.below k in omega (arith, low, now, was))
-              (at_cases left d p k))
-              (set_cases s.domains d queued_domain k inside);
-          kept = λ k j g le e. ⊎_elim
-              (λ t. ⊎_elim
-              (λ u.
-              let le' : p ≤ j = subst (λ n. n ≤ j) u.1 le in
-              let now : slice_get (remove (domain_at s d).finals p) j ≡ Some g = ap (λ (x : DomainState). slice_get x.finals j) (sym t.1) ∙ e in
-              i.kept d (suc j) g (omega (arith, le', next_place)) (sym (get-remove_above (domain_at s d).finals p j le') ∙ now))
-              (λ u. absurd (u.0 t.0))
-              (at_cases left d p k))
-              (λ t. ⊎_elim
-              (λ u. absurd (t.0 u.0))
-              (λ u. i.kept k j g (subst (λ n. n ≤ j) u.1 le) (ap (λ (x : DomainState). slice_get x.finals j) (sym t.1) ∙ e))
-              (at_cases left d p k))
-              (set_cases s.domains d queued_domain k inside);
+          below = on.below;
+          kept = on.kept;
           queued = λ l h. ⊎_elim
               (λ old. i.queued l old)
               (λ new. subst (λ z. IsTrue (not (marked z))) (one_label (slice_get (domain_at s d).finals p) f at l new) un)
               (beyond_grown s.domains d queued_domain (map queued_final (cons_option (slice_get (domain_at s d).finals p) [])) s.cut refl l h);
         }
+          where
+            on : LooksBack (λ (g : Finaliser). g.label) marked (λ k. (get_or (set s.domains d queued_domain) k no_domain).finals) (λ k. (get_or (set s.domains d queued_domain) k no_domain).low) (at_domain left d p)
+            on = looks_takes (λ (g : Finaliser). g.label) marked _ _ left looks d p next_place _ _ (λ k. ⊎_elim
+                (λ t. inl (t.0, ap (λ (x : DomainState). x.finals) t.1, ap (λ (x : DomainState). x.low) t.1))
+                (λ t. inr (t.0, ap (λ (x : DomainState). x.finals) t.1, ap (λ (x : DomainState). x.low) t.1))
+                (set_cases_inside s.domains d queued_domain no_domain k inside))
 
   -- where each domain has looked at all its registrations
   pub decide_end : ((d : ℕ) → d < length s.domains → left d ≡ 0) → IsDecided s marked
   decide_end all =
-      let waits : HoldsRoots (waiting s) marked = part_all (λ x. map (λ f. f.label) x.finals) s.domains marked (λ d lt l h.
-      let t = registration_cases (λ (f : Finaliser). f.label) (domain_at s d).finals l h in
-      let none = all d lt in
-      subst (λ z. IsTrue (marked z)) t.3 (i.kept d t.0 t.1 (omega (arith, none)) t.2)) in
+      let waits : HoldsRoots (waiting s) marked = part_all (λ x. map (λ f. f.label) x.finals) s.domains marked
+      (λ d lt. looks_end (λ (f : Finaliser). f.label) marked _ _ left looks d (all d lt)) in
       record {
         seal = seal_marked s marked i.mode (record { roots = i.roots; waiting = waits; closed = i.closed }) i.queued;
         waiting = waits;
@@ -169,24 +121,18 @@ pub cut_stays_start : (s : State) → CutStays (next s Cut)
 cut_stays_start s l h = subst (λ z. IsTrue (has_label (roots (next s Cut) z) l)) (sym (queues_mapped with_finals_open (λ x. refl) s.domains)) h
 
 module _ (s : State) (d : ℕ) (y : DomainState) (more : List Pending) (registers : y.registers ≡ (domain_at s d).registers) (queue : y.queue ≡ (domain_at s d).queue ++ more) where
-  abbrev registers_of : State → List Label
-  registers_of t = flat_map (λ x. filter_map label_of x.registers) t.domains
-
-  abbrev pending_of : List (List Pending) → List Label
-  pending_of qs = flat_map (filter_map pending_label) qs
-
   registers_same : registers_of (with_domain s d y) ≡ registers_of s
   registers_same = part_same (λ x. filter_map label_of x.registers) s.domains d y (ap (filter_map label_of) registers)
 
   -- so it is as a queue grows
   pub roots_grow : HoldsRoots (roots s (queues s)) (has_label (roots (with_domain s d y) (queues (with_domain s d y))))
   roots_grow l h = ⊎_elim
-      (λ a. has-append_left (registers_of (with_domain s d y)) (pending_of (queues (with_domain s d y))) l (subst (λ z. IsTrue (has_label z l)) (sym registers_same) a))
-      (λ b. has-append_right (registers_of (with_domain s d y)) (pending_of (queues (with_domain s d y))) l (queues_grow s.domains d y more queue l b))
-      (has-append_cases (registers_of s) (pending_of (queues s)) l h)
+      (λ a. has-append_left (registers_of (with_domain s d y)) (pending_labels (queues (with_domain s d y))) l (subst (λ z. IsTrue (has_label z l)) (sym registers_same) a))
+      (λ b. has-append_right (registers_of (with_domain s d y)) (pending_labels (queues (with_domain s d y))) l (queue_grows s.domains d y more queue l b))
+      (has-append_cases (registers_of s) (pending_labels (queues s)) l h)
 
   pub cut_roots_same : (qs : List (List Pending)) → roots (with_domain s d y) qs ≡ roots s qs
-  cut_roots_same qs = ap (λ z. z ++ pending_of qs) registers_same
+  cut_roots_same qs = ap (λ z. z ++ pending_labels qs) registers_same
 
   pub cut_stays_grow : CutStays s → CutStays (with_domain s d y)
   cut_stays_grow stays l h = roots_grow l (stays l (subst (λ z. IsTrue (has_label z l)) (cut_roots_same s.cut) h))
@@ -207,9 +153,3 @@ whole_end s marked i stays whole = (
   (λ l h. whole l (i.waiting l h)),
   (λ l h. reachable_more s.graph (roots s s.cut) (roots s (queues s)) stays l (whole l h)),
 )
-
-pub decide_law : DecideLaw
-decide_law = record { held = roots_end; start = decide_start; keeps = decide_keeps; allowed = queue_allowed; queued = decide_queues; end = decide_end }
-
-pub whole_law : WholeLaw
-whole_law = record { start = whole_start; queued = whole_queues; end = whole_end }

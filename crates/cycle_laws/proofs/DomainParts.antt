@@ -1,6 +1,10 @@
 -- The labels that domains have in their registers, lists and queues, domain by domain.
-use Rattle.std.proofs.Common.{◌≡◌, ◌⊎◌, inl, inr, ⊎_elim, ℕ, zero, suc, ◌<◌, ◌≤◌, arith, Bool, true, false, IsTrue, List, [], ◌∷◌, ◌++◌, map, flat_map, filter_map, length, get_or, set, slice_get, remove, drop, Some, refl, ap, sym, ◌∙◌, subst, eqb, eqb-true, eq-eqb, get_or-set_same, get_or-set_other}
+use Rattle.std.proofs.Common.{ap, ◌∙◌, Option, None, ◌≡◌, ◌⊎◌, inl, inr, ⊎_elim, ℕ, zero, suc, ◌<◌, ◌≤◌, arith, Bool, IsTrue, List, [], ◌∷◌, ◌++◌, map, flat_map, filter_map, length, get_or, set, slice_get, remove, drop, Some, refl, sym, subst}
+use Rattle.std.specs.List.{cons_option}
+use Rattle.std.proofs.Math.Seq.{drop-length}
 use Rattle.std.proofs.lemmas.List.Elements.{filter_map-append}
+use Rattle.heap_model.specs.declared.graph.Value.{Value}
+use Rattle.heap_model.specs.declared.graph.Value.TheVariants.{Int, Block, Nothing}
 use Rattle.heap_model.specs.declared.label.Label.{Label}
 use Rattle.heap_model.specs.declared.state.DomainState.{DomainState}
 use Rattle.heap_model.specs.declared.state.Pending.{Pending}
@@ -14,6 +18,7 @@ use Rattle.heap_model.proofs.Graphs.ListLemmas.{flat_map-map}
 use Rattle.heap_model.proofs.Reach.ReachLemmas.{or_cases, or_left, or_right, has-append_cases, has-append_left, has-append_right}
 use Rattle.cycle_laws.specs.Shares.{Shares, AllArrived}
 use Rattle.cycle_laws.specs.Queueing.{RootsMarked, InRoots}
+use Rattle.cycle_laws.proofs.Sharing.{some_same}
 
 -- the labels of one kind that all domains have
 module _ (f : DomainState → List Label) where
@@ -30,38 +35,47 @@ module _ (f : DomainState → List Label) where
   part_has (x ∷ xs) zero none l h = has-append_left (f x) (flat_map f xs) l h
   part_has (x ∷ xs) (suc d) none l h = has-append_right (f x) (flat_map f xs) l (part_has xs d none l h)
 
-  pub part_same : (xs : List DomainState) (d : ℕ) (y : DomainState) → f y ≡ f (get_or xs d no_domain) → flat_map f (set xs d y) ≡ flat_map f xs
-  part_same [] d y same = refl
-  part_same (x ∷ xs) zero y same = ap (λ t. t ++ flat_map f xs) same
-  part_same (x ∷ xs) (suc d) y same = ap (λ t. f x ++ t) (part_same xs d y same)
-
--- a domain that changes, and the others
-pub set_cases : (xs : List DomainState) (d : ℕ) (y : DomainState) (k : ℕ) → d < length xs
-    → ((k ≡ d) × (get_or (set xs d y) k no_domain ≡ y)) ⊎ ((k ≡ d → ⊥) × (get_or (set xs d y) k no_domain ≡ get_or xs k no_domain))
-set_cases xs d y k lt = go (eqb k d) refl
-  where
-    go : (b : Bool) → eqb k d ≡ b
-        → ((k ≡ d) × (get_or (set xs d y) k no_domain ≡ y)) ⊎ ((k ≡ d → ⊥) × (get_or (set xs d y) k no_domain ≡ get_or xs k no_domain))
-    go true e = inl (eqb-true k d e, subst (λ j. get_or (set xs d y) j no_domain ≡ y) (sym (eqb-true k d e)) (get_or-set_same xs d y no_domain lt))
-    go false e =
-        let other : k ≡ d → ⊥ = λ same. let clash : true ≡ false = sym (eq-eqb k d same) ∙ e in cc in
-        inr (other, get_or-set_other xs d k y no_domain other)
-
 -- the labels of registrations
 module _ {A : Type 0} (f : A → Label) where
-  pub registration_at : (xs : List A) (p : ℕ) (x : A) → slice_get xs p ≡ Some x → IsTrue (has_label (map f xs) (f x))
-  registration_at [] p x e = cc
-  registration_at (y ∷ xs) zero x e =
-      let same : y ≡ x = cc in
-      or_left (same_label (f y) (f x)) (has_label (map f xs) (f x)) (subst (λ z. IsTrue (same_label (f y) (f z))) same (same_label_refl (f y)))
-  registration_at (y ∷ xs) (suc p) x e = or_right (same_label (f y) (f x)) (has_label (map f xs) (f x)) (registration_at xs p x e)
-
   pub registration_cases : (xs : List A) (l : Label) → IsTrue (has_label (map f xs) l) → (p : ℕ) × (x : A) × (slice_get xs p ≡ Some x) × (f x ≡ l)
   registration_cases [] l h = cc
   registration_cases (y ∷ xs) l h = ⊎_elim
       (λ here. (zero, y, refl, same_label-true (f y) l here))
       (λ later. let t = registration_cases xs l later in (suc t.0, t.1, t.2, t.3))
       (or_cases (same_label (f y) l) (has_label (map f xs) l) h)
+
+-- the labels among the items of a list: the fields of a block that are blocks, the keys of an ephemeron that are full
+module _ {A : Type 0} (f : A → Option Label) where
+  pub listed_at : (xs : List A) (p : ℕ) (x : A) (l : Label) → slice_get xs p ≡ Some x → f x ≡ Some l → IsTrue (has_label (filter_map f xs) l)
+  listed_at [] p x l e is = cc
+  listed_at (y ∷ xs) zero x l e is = let same : y ≡ x = cc in go (f y) (ap f same ∙ is)
+    where
+      go : (o : Option Label) → o ≡ Some l → IsTrue (has_label (cons_option o (filter_map f xs)) l)
+      go None at = cc
+      go (Some k) at = or_left (same_label k l) (has_label (filter_map f xs) l) (subst (λ z. IsTrue (same_label k z)) (some_same k l at) (same_label_refl k))
+  listed_at (y ∷ xs) (suc p) x l e is = go (f y) (listed_at xs p x l e is)
+    where
+      go : (o : Option Label) → IsTrue (has_label (filter_map f xs) l) → IsTrue (has_label (cons_option o (filter_map f xs)) l)
+      go None later = later
+      go (Some k) later = or_right (same_label k l) (has_label (filter_map f xs) l) later
+
+  pub listed_cases : (xs : List A) (l : Label) → IsTrue (has_label (filter_map f xs) l) → (p : ℕ) × (x : A) × (slice_get xs p ≡ Some x) × (f x ≡ Some l)
+  listed_cases [] l h = cc
+  listed_cases (y ∷ xs) l h = go (f y) refl (λ later. let t = listed_cases xs l later in (suc t.0, t.1, t.2, t.3)) h
+    where
+      go : (o : Option Label) → f y ≡ o
+          → (IsTrue (has_label (filter_map f xs) l) → (p : ℕ) × (x : A) × (slice_get (y ∷ xs) p ≡ Some x) × (f x ≡ Some l))
+          → IsTrue (has_label (cons_option o (filter_map f xs)) l) → (p : ℕ) × (x : A) × (slice_get (y ∷ xs) p ≡ Some x) × (f x ≡ Some l)
+      go None e further at = further at
+      go (Some k) e further at = ⊎_elim
+          (λ here. (zero, y, refl, e ∙ ap Some (same_label-true k l here)))
+          further
+          (or_cases (same_label k l) (has_label (filter_map f xs) l) at)
+
+pub is_block : (v : Value) (l : Label) → label_of v ≡ Some l → v ≡ Block l
+is_block (Int z) l e = cc
+is_block (Block k) l e = ap Block (some_same k l e)
+is_block Nothing l e = cc
 
 -- what stands above a place that leaves a list
 pub get-remove_above : {A : Type 0} (xs : List A) (p j : ℕ) → p ≤ j → slice_get (remove xs p) j ≡ slice_get xs (suc j)
@@ -70,6 +84,10 @@ get-remove_above [] (suc p) j le = refl
 get-remove_above (x ∷ xs) zero j le = refl
 get-remove_above (x ∷ xs) (suc p) zero le = absurd (omega arith)
 get-remove_above (x ∷ xs) (suc p) (suc j) le = get-remove_above xs p j (omega arith)
+
+-- the labels in all registers
+abbrev pub registers_of : State → List Label
+registers_of s = flat_map (λ x. filter_map label_of x.registers) s.domains
 
 -- the roots, domain by domain
 pub roots_all : (s : State) (marked : Label → Bool) → ((d : ℕ) → d < length s.domains → RootsMarked s marked d) → HoldsRoots (roots s (queues s)) marked
@@ -117,29 +135,6 @@ beyond_grown (x ∷ xs) (suc d) y more (old ∷ olds) grown l h =
     (has-append_cases (queued_after x.queue (Some old)) now l h)
 
 -- nothing stands beyond the queues themselves
-drop_none : (ps : List Pending) → drop (length ps) ps ≡ []
-drop_none [] = refl
-drop_none (p ∷ ps) = drop_none ps
-
 pub beyond_none : (qs : List (List Pending)) → queued_beyond qs qs ≡ []
 beyond_none [] = refl
-beyond_none (q ∷ qs) = rw drop_none (beyond_none qs)
-
--- what the queues held they hold as one of them grows
-pub queues_grow : (xs : List DomainState) (d : ℕ) (y : DomainState) (more : List Pending) → y.queue ≡ (get_or xs d no_domain).queue ++ more
-    → HoldsRoots (flat_map (filter_map pending_label) (map (λ x. x.queue) xs)) (has_label (flat_map (filter_map pending_label) (map (λ x. x.queue) (set xs d y))))
-queues_grow [] d y more grown l h = h
-queues_grow (x ∷ xs) zero y more grown l h =
-    let rest : List Label = flat_map (filter_map pending_label) (map (λ x. x.queue) xs) in ⊎_elim
-    (λ here. has-append_left (filter_map pending_label y.queue) rest l
-    (let split : filter_map pending_label y.queue ≡ filter_map pending_label x.queue ++ filter_map pending_label more =
-    ap (filter_map pending_label) grown ∙ filter_map-append pending_label x.queue more in
-    subst (λ z. IsTrue (has_label z l)) (sym split) (has-append_left (filter_map pending_label x.queue) (filter_map pending_label more) l here)))
-    (λ later. has-append_right (filter_map pending_label y.queue) rest l later)
-    (has-append_cases (filter_map pending_label x.queue) rest l h)
-queues_grow (x ∷ xs) (suc d) y more grown l h =
-    let rest : List Label = flat_map (filter_map pending_label) (map (λ x. x.queue) xs) in
-    let now : List Label = flat_map (filter_map pending_label) (map (λ x. x.queue) (set xs d y)) in ⊎_elim
-    (λ here. has-append_left (filter_map pending_label x.queue) now l here)
-    (λ later. has-append_right (filter_map pending_label x.queue) now l (queues_grow xs d y more grown l later))
-    (has-append_cases (filter_map pending_label x.queue) rest l h)
+beyond_none (q ∷ qs) = rw drop-length (beyond_none qs)

@@ -1,4 +1,5 @@
 -- After each history `kept` counts the labels that were kept.
+use Rattle.std.proofs.Math.Seq.{drop-append_seam}
 use Rattle.std.proofs.Common.{◌≡◌, ◌⊎◌, inl, inr, ⊎_elim, append-nil, ℕ, suc, ◌+◌, ◌*◌, ◌≤◌, arith, Bool, true, false, not, IsTrue, List, [], ◌∷◌, ◌++◌, drop, length, length-append, replicate, Option, Some, None, refl, ap, sym, ◌∙◌, subst}
 use Rattle.heap_model.specs.declared.label.Label.{Label}
 use Rattle.heap_model.specs.declared.command.Command.{Command}
@@ -14,21 +15,20 @@ use Rattle.heap_model.specs.declared.state.Sizes.{Sizes}
 use Rattle.heap_model.specs.declared.state.State.{State}
 use Rattle.heap_model.specs.Graph.{Graph, same_label, labels, has_label, has_no_repeats, node_at}
 use Rattle.heap_model.specs.Domains.{domain_at, queues, roots, reach, reserve, shared_label, opening}
-use Rattle.heap_model.specs.Commands.{new_plain, new_raw, outcome}
+use Rattle.heap_model.specs.Commands.{new_plain, new_raw, outcome, is_allocation}
 use Rattle.heap_model.specs.Entries.{wiped, with_wiped, after_run, next}
 use Rattle.heap_model.specs.History.{state_after, LegalFrom, Legal}
 use Rattle.heap_model.specs.WellFormed.{IsWellFormed, IsNumbered}
+use Rattle.heap_model.proofs.Reach.LabelListLemmas.{length_within, no_repeats_append}
+use Rattle.heap_model.proofs.Reach.ReachLemmas.{never_not, Within, or_cases, and_both, has-append_cases, has-append_left, has-append_right, reachable_least}
+use Rattle.heap_model.proofs.Histories.WellFormedLemmas.{labels-append, closed_graph, queues_named, wf_next, wf_opening}
 use Rattle.heap_model.proofs.Commands.MoveLemmas.{moved}
-use Rattle.heap_model.proofs.Graphs.GraphLemmas.{same_label-true, same_label_refl, labels-with_node}
-use Rattle.heap_model.proofs.Reach.ReachLemmas.{Within, or_cases, or_left, or_right, and_left, and_right, and_both, has-append_cases, has-append_left, has-append_right, reachable_least}
+use Rattle.heap_model.proofs.Graphs.GraphLemmas.{same_label-true, labels-with_node}
 use Rattle.heap_model.proofs.Reach.ReachSizeLemmas.{reachable-no_repeats}
 use Rattle.heap_model.proofs.Histories.NumberLemmas.{numbered_next, numbered_opening, next_label-new}
-use Rattle.heap_model.proofs.Histories.WellFormedLemmas.{closed_graph, queues_named, wf_next, wf_opening}
 use Rattle.cycle_laws.specs.Fullness.{FullnessLaw, AllKept, is_collected, new_label, made, kept_next, kept_from, kept_labels, IsKept, AllHoldKept, IsNone, Differ}
-use Rattle.heap_model.specs.Commands.{is_allocation}
 use Rattle.cycle_laws.specs.Marks.{IsWhole}
-use Rattle.cycle_laws.proofs.Tracing.{not_true, never}
-use Rattle.cycle_laws.proofs.Counting.{without, without_is, tally-without_one, length-tally, no_repeats_append}
+use Rattle.cycle_laws.proofs.Tracing.{never}
 
 -- the labels stay, or one comes to them
 pub record Same (s t : State) : Type 0 where
@@ -50,10 +50,6 @@ grown_same s t u given count grown = ⊎_elim
     (λ one. inr (record { label = one.label; given = given ∙ one.given; count = count ∙ one.count; new = one.new }))
     grown
 
-labels-append : (g : Graph) (l : Label) (n : Node) → labels (g ++ (l, n) ∷ []) ≡ labels g ++ l ∷ []
-labels-append [] l n = refl
-labels-append (e ∷ g) l n = ap (λ t. e.0 ∷ t) (labels-append g l n)
-
 -- an entry but Collected leaves the labels, or makes one
 module _ (s : State) (numbered : IsNumbered s) where
   grown_outcome : (d : ℕ) (c : Command) → Grown s (outcome s d c).state
@@ -63,7 +59,7 @@ module _ (s : State) (numbered : IsNumbered s) where
     written = λ l old new at found same named full. inl (record { given = labels-with_node s.graph l new; count = refl });
     made = λ is dst n named full. inr (record {
       label = new_label s d;
-      given = labels-append s.graph (new_label s d) n;
+      given = labels-append s.graph ((new_label s d, n) ∷ []);
       count = refl;
       new = next_label-new s numbered d;
     });
@@ -81,17 +77,13 @@ module _ (s : State) (numbered : IsNumbered s) where
   grown_run d (Last number ∷ rest) = inl (record { given = refl; count = refl })
 
 -- what comes to the labels is what an entry made
-drop_all : (ls : List Label) (more : List Label) → drop (length ls) (ls ++ more) ≡ more
-drop_all [] more = refl
-drop_all (l ∷ ls) more = drop_all ls more
-
 length-labels : (g : Graph) → length (labels g) ≡ length g
 length-labels [] = refl
 length-labels (e ∷ g) = ap suc (length-labels g)
 
 drop_grown : (s t : State) (more : List Label) → labels t.graph ≡ labels s.graph ++ more → drop (length s.graph) (labels t.graph) ≡ more
 drop_grown s t more given =
-    ap (λ n. drop n (labels t.graph)) (sym (length-labels s.graph)) ∙ (ap (drop (length (labels s.graph))) given ∙ drop_all (labels s.graph) more)
+    ap (λ n. drop n (labels t.graph)) (sym (length-labels s.graph)) ∙ (ap (drop (length (labels s.graph))) given ∙ drop-append_seam (labels s.graph) more)
 
 kept_grown : (s t : State) (kept : List Label) → IsKept s kept → Grown s t → IsKept t (kept ++ drop (length s.graph) (labels t.graph))
 kept_grown s t kept i grown = ⊎_elim
@@ -157,18 +149,6 @@ kept_from-push s kept (f ∷ h) e = kept_from-push (next s f) (kept_next s f kep
 pub kept_push : (z : Sizes) (h : List Entry) (e : Entry) → kept_labels z (h ++ e ∷ []) ≡ kept_next (state_after (opening z) h) e (kept_labels z h)
 kept_push z h e = kept_from-push (opening z) (shared_label ∷ []) h e
 
--- a list of labels within another is no longer
-pub length_within : (xs ys : List Label) → IsTrue (has_no_repeats xs) → Within xs ys → length xs ≤ length ys
-length_within [] ys once within = omega arith
-length_within (x ∷ xs) ys once within =
-    let split = tally-without_one x (λ _. 1) ys (within x (or_left (same_label x x) (has_label xs x) (same_label_refl x))) in
-    let rest = length_within xs (without x ys) (and_right (not (has_label xs x)) (has_no_repeats xs) once)
-    (λ l h. without_is x ys l (within l (or_right (same_label x l) (has_label xs l) h))
-    (λ same. not_true (has_label xs x) (and_left (not (has_label xs x)) (has_no_repeats xs) once) (subst (λ z. IsTrue (has_label xs z)) (sym same) h))) in
-    let all = length-tally ys in
-    let less = length-tally (without x ys) in
-    omega (arith, split, rest, all, less)
-
 -- different pools hold different labels
 module _ (kept : List Label) (pool_of : Label → Option ℕ) where
   witnesses : (ps : List ℕ) → AllHoldKept kept pool_of ps → List Label
@@ -191,15 +171,11 @@ module _ (kept : List Label) (pool_of : Label → Option ℕ) where
       (λ later. other_pools ps all.1 p none.1 l at later)
       (or_cases (same_label all.0.0 l) (has_label (witnesses ps all.1) l) h)
 
-  refuses : (b : Bool) → (IsTrue b → ⊥) → IsTrue (not b)
-  refuses true f = absurd (f refl)
-  refuses false f = refl
-
   witnesses_once : (ps : List ℕ) (all : AllHoldKept kept pool_of ps) → Differ ps → IsTrue (has_no_repeats (witnesses ps all))
   unfolding witnesses
   witnesses_once [] all differ = refl
   witnesses_once (p ∷ ps) all differ = and_both (not (has_label (witnesses ps all.1) all.0.0)) (has_no_repeats (witnesses ps all.1))
-      (refuses (has_label (witnesses ps all.1) all.0.0) (other_pools ps all.1 p differ.0 all.0.0 all.0.2))
+      (never_not (has_label (witnesses ps all.1) all.0.0) (other_pools ps all.1 p differ.0 all.0.0 all.0.2))
       (witnesses_once ps all.1 differ.1)
 
   witnesses_length : (ps : List ℕ) (all : AllHoldKept kept pool_of ps) → length (witnesses ps all) ≡ length ps
@@ -230,13 +206,13 @@ all_kept_stays s e held kept other all l h = has-append_left kept (made s e) l (
 
 pub makes_label : (s : State) (d : ℕ) (c : Command) (kept : List Label) → is_allocation c ≡ true → kept_next s (CommandOf d c false) kept ≡ kept ++ new_label s d ∷ []
 makes_label s d (Alloc dst tag fields) kept is =
-    ap (λ z. kept ++ z) (drop_grown s (next s (CommandOf d (Alloc dst tag fields) false)) (new_label s d ∷ []) (labels-append s.graph (new_label s d) (new_plain tag fields)))
+    ap (λ z. kept ++ z) (drop_grown s (next s (CommandOf d (Alloc dst tag fields) false)) (new_label s d ∷ []) (labels-append s.graph ((new_label s d, new_plain tag fields) ∷ [])))
 makes_label s d (AllocMaj dst tag fields) kept is =
-    ap (λ z. kept ++ z) (drop_grown s (next s (CommandOf d (AllocMaj dst tag fields) false)) (new_label s d ∷ []) (labels-append s.graph (new_label s d) (new_plain tag fields)))
+    ap (λ z. kept ++ z) (drop_grown s (next s (CommandOf d (AllocMaj dst tag fields) false)) (new_label s d ∷ []) (labels-append s.graph ((new_label s d, new_plain tag fields) ∷ [])))
 makes_label s d (NewRaw dst tag fields) kept is =
-    ap (λ z. kept ++ z) (drop_grown s (next s (CommandOf d (NewRaw dst tag fields) false)) (new_label s d ∷ []) (labels-append s.graph (new_label s d) (new_raw tag fields)))
+    ap (λ z. kept ++ z) (drop_grown s (next s (CommandOf d (NewRaw dst tag fields) false)) (new_label s d ∷ []) (labels-append s.graph ((new_label s d, new_raw tag fields) ∷ [])))
 makes_label s d (NewEphe dst keys) kept is =
-    ap (λ z. kept ++ z) (drop_grown s (next s (CommandOf d (NewEphe dst keys) false)) (new_label s d ∷ []) (labels-append s.graph (new_label s d) (Ephe (replicate keys None) Nothing)))
+    ap (λ z. kept ++ z) (drop_grown s (next s (CommandOf d (NewEphe dst keys) false)) (new_label s d ∷ []) (labels-append s.graph ((new_label s d, Ephe (replicate keys None) Nothing) ∷ [])))
 makes_label s d c kept is = cc
 
 pub all_kept_collected : (s : State) (held marked : Label → Bool) (kept : List Label) → ((l : Label) → IsTrue (held l) → IsTrue (marked l))

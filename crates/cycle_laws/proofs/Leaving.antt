@@ -1,7 +1,7 @@
 -- Lasts, the rotation of the colours, and the entries that end a collection.
-use Rattle.std.proofs.Common.{◌≡◌, ◌⊎◌, inl, inr, ⊎_elim, append-nil, ℕ, suc, ◌<◌, ◌≤◌, arith, Bool, true, false, not, IsTrue, List, [], ◌∷◌, ◌++◌, map, flat_map, filter_map, option_to_list, length, set, slice_get, remove, Option, Some, None, refl, ap, ap₂, sym, ◌∙◌, subst}
+use Rattle.std.proofs.Common.{get_or, ◌≡◌, ◌⊎◌, inl, inr, ⊎_elim, ℕ, suc, ◌<◌, arith, Bool, true, false, not, IsTrue, List, [], ◌∷◌, ◌++◌, map, flat_map, filter_map, option_to_list, length, set, slice_get, Option, Some, None, refl, ap, ap₂, sym, ◌∙◌, subst}
 use Rattle.std.specs.List.{cons_option, list_all, list_any}
-use Rattle.std.proofs.lemmas.List.Elements.{filter_map-append}
+use Rattle.heap_model.specs.Domains.{no_domain, domain_at, pending_label, queues, roots, reach, waiting, is_reachable_with}
 use Rattle.heap_model.specs.declared.label.Label.{Label}
 use Rattle.heap_model.specs.declared.command.Command.TheVariants.{FullMajor}
 use Rattle.heap_model.specs.declared.entry.Entry.TheVariants.{Command as CommandOf, Last as LastOf, Collected}
@@ -15,21 +15,20 @@ use Rattle.heap_model.specs.declared.state.Mode.TheVariants.{Sealed}
 use Rattle.heap_model.specs.declared.state.State.{State}
 use Rattle.heap_model.specs.Graph.{Graph, same_label, has_label, label_of, node_at}
 use Rattle.heap_model.specs.Reach.{reachable, is_reachable, HoldsRoots, IsClosedUnder}
-use Rattle.heap_model.specs.Domains.{domain_at, pending_label, queues, roots, reach, waiting, is_reachable_with}
-use Rattle.heap_model.specs.Entries.{with_last_queued, queued_last, at_places, freshened, full_keys, ephe_holds, is_label, keys_are_live, has_live_keys, is_sealed, LastAllowed, CollectedAllowed, DoneAllowed, next}
+use Rattle.heap_model.specs.Entries.{with_last_queued, at_places, freshened, full_keys, ephe_holds, is_label, keys_are_live, has_live_keys, is_sealed, LastAllowed, CollectedAllowed, DoneAllowed, next}
+use Rattle.heap_model.proofs.Collections.CutLemmas.{pending_labels, part_same, roots_same}
+use Rattle.heap_model.proofs.Collections.CollectedLemmas.{reach_fresh}
+use Rattle.heap_model.proofs.Collections.MarkLemmas.{all_labels, last_unmarked, done_marked}
+use Rattle.heap_model.proofs.Graphs.ListLemmas.{set_cases_inside, flat_map-map}
+use Rattle.heap_model.proofs.Reach.ReachLemmas.{keys_all, not_true, or_cases, or_left, or_right, and_both, has-append_cases, has-append_left, has-append_right, reachable_least}
 use Rattle.heap_model.proofs.Graphs.GraphLemmas.{same_label-true, same_label_refl}
-use Rattle.heap_model.proofs.Collections.MarkLemmas.{last_unmarked, done_marked}
-use Rattle.heap_model.proofs.Graphs.ListLemmas.{flat_map-map}
-use Rattle.heap_model.proofs.Reach.ReachLemmas.{or_cases, or_left, or_right, and_both, has-append_cases, has-append_left, has-append_right, reachable_least}
-use Rattle.cycle_laws.specs.EntryLaws.{LeftLaw, LastsLaw}
+use Rattle.cycle_laws.specs.Taking.{LeftLaw, last_labels, InClean, InLasts, IsLeft, LeadsToMarked}
 use Rattle.cycle_laws.specs.Marks.{fields_of, data_of, KeysMarked, IsWhole}
 use Rattle.cycle_laws.specs.Shares.{Layout, Shares, at_domain, AllArrived}
 use Rattle.cycle_laws.specs.Queueing.{WaitingReached}
-use Rattle.cycle_laws.specs.Taking.{last_labels, InClean, InLasts, IsLeft, LeadsToMarked}
-use Rattle.cycle_laws.proofs.Tracing.{held_fields, held_data, keys_all, not_true, holds_more}
-use Rattle.cycle_laws.proofs.Sharing.{at_cases}
-use Rattle.cycle_laws.proofs.DomainParts.{part_all, part_has, part_same, set_cases, registration_cases, get-remove_above}
-use Rattle.cycle_laws.proofs.Deciding.{get_inside, le_cases}
+use Rattle.cycle_laws.proofs.DomainParts.{registers_of, part_all, part_has}
+use Rattle.cycle_laws.proofs.LookingBack.{LooksBack, looks_start, looks_end, place_below, looks_keeps, looks_takes}
+use Rattle.cycle_laws.proofs.Tracing.{marked_reach, held_fields, held_data, holds_more}
 use Rattle.cycle_laws.proofs.Cleaning.{part_mapped, roots_mapped_now, clean_end}
 
 -- what an ephemeron holds is one of its keys or its data
@@ -55,7 +54,7 @@ ephe_names l (Some (Ephe keys datum)) h = ⊎_elim
     (λ b. inr (datum_names l datum b))
     (or_cases (list_any (is_label l) keys) (is_label l (label_of datum)) h)
 
--- all that a marked block names is marked, where the marked blocks are closed and no key of theirs is unmarked
+-- all that a marked block refers to is marked, where the marked blocks are closed and no key of theirs is unmarked
 module _ (g : Graph) (marked : Label → Bool) (closed : IsClosedUnder g marked) (keys : (l : Label) → IsTrue (marked l) → KeysMarked g marked l) where
   pub fields_left : (l : Label) → IsTrue (marked l) → HoldsRoots (fields_of (node_at g l)) marked
   fields_left l is = held_fields marked marked (node_at g l) (λ x h. closed l x is h)
@@ -78,13 +77,12 @@ lasts_start n y s marked w i arrived = record {
   marks = i.marks;
   taken = i.taken;
   keys = clean_end n y s marked w i arrived;
-  below = λ d. let low = i.low d in omega (arith, low);
-  kept = λ d p f le e. let inside = get_inside (domain_at s d).lasts p f e in absurd (omega (arith, inside, le));
+  below = start.below;
+  kept = start.kept;
 }
-
-no_labels : (xs : List LastFinaliser) → filter_map pending_label (map queued_last xs) ≡ []
-no_labels [] = refl
-no_labels (x ∷ xs) = no_labels xs
+  where
+    start : LooksBack (λ (f : LastFinaliser). f.label) marked (λ d. (domain_at s d).lasts) (λ d. (domain_at s d).low) (λ d. length (domain_at s d).lasts)
+    start = looks_start (λ (f : LastFinaliser). f.label) marked _ _ _ (λ d. let low = i.low d in omega (arith, low)) (λ d. omega arith)
 
 one_last : (o : Option LastFinaliser) (f : LastFinaliser) → o ≡ Some f → (l : Label) → IsTrue (has_label (map (λ g. g.label) (cons_option o [])) l) → f.label ≡ l
 one_last None f e l h = cc
@@ -94,52 +92,26 @@ one_last (Some g) f e l h = ⊎_elim
     (or_cases (same_label g.label l) false h)
 
 module _ (s : State) (marked : Label → Bool) (left : ℕ → ℕ) (i : InLasts s marked left) where
+  abbrev looks : LooksBack (λ (f : LastFinaliser). f.label) marked (λ d. (domain_at s d).lasts) (λ d. (domain_at s d).low) left
+  looks = record { below = i.below; kept = i.kept }
+
   module _ (d p : ℕ) (f : LastFinaliser) (next_place : left d ≡ suc p) (at : slice_get (domain_at s d).lasts p ≡ Some f) where
     -- the domain looks at its next registration: its value is marked
     pub lasts_keeps : IsTrue (marked f.label) → InLasts s marked (at_domain left d p)
-    lasts_keeps is = record {
-      mode = i.mode;
-      marks = i.marks;
-      taken = i.taken;
-      keys = i.keys;
-      below = λ k. ⊎_elim
-          (λ t. let low = i.below d in subst (λ j. at_domain left d p k ≤ (domain_at s j).low) (sym t.0) (let e = t.1 in omega (arith, e, low, next_place)))
-          (λ t. let low = i.below k in let e = t.1 in omega (arith, e, low))
-          (at_cases left d p k);
-      kept = λ k j g le e. ⊎_elim
-          (λ t.
-          let here : slice_get (domain_at s d).lasts j ≡ Some g = subst (λ n. slice_get (domain_at s n).lasts j ≡ Some g) t.0 e in
-          let le' : p ≤ j = subst (λ n. n ≤ j) t.1 le in ⊎_elim
-          (λ same. let is_it : f ≡ g = (let back : slice_get (domain_at s d).lasts p ≡ Some g = subst (λ n. slice_get (domain_at s d).lasts n ≡ Some g) (sym same) here in cc (at, back)) in
-          subst (λ (z : LastFinaliser). IsTrue (marked z.label)) is_it is)
-          (λ above. i.kept d j g (subst (λ n. n ≤ j) (sym next_place) above) here)
-          (le_cases p j le'))
-          (λ t. i.kept k j g (subst (λ n. n ≤ j) t.1 le) e)
-          (at_cases left d p k);
-    }
+    lasts_keeps is =
+        let on = looks_keeps (λ (g : LastFinaliser). g.label) marked _ _ left looks d p next_place f at is in
+        record { mode = i.mode; marks = i.marks; taken = i.taken; keys = i.keys; below = on.below; kept = on.kept }
 
     -- or it is unmarked: the entry Last is allowed
     module _ (un : IsTrue (not (marked f.label))) where
       pub last_allowed : LastAllowed s d p
       last_allowed =
-          let low = i.below d in
-          let lt : p < (domain_at s d).low = omega (arith, low, next_place) in
+          let lt : p < (domain_at s d).low = place_below (λ (g : LastFinaliser). g.label) marked _ _ left looks d p next_place in
           last_unmarked s marked d p f i.mode lt at i.marks un (λ x is. let_go s.graph marked i.marks.closed i.keys f.label x un is)
 
       module _ (inside : d < length s.domains) where
         abbrev queued_domain : DomainState
         queued_domain = with_last_queued (domain_at s d) p
-
-        queue_same : filter_map pending_label queued_domain.queue ≡ filter_map pending_label (domain_at s d).queue
-        queue_same = filter_map-append pending_label (domain_at s d).queue _
-            ∙ ap (λ t. filter_map pending_label (domain_at s d).queue ++ t) (no_labels (at_places (p ∷ []) (domain_at s d).lasts))
-            ∙ append-nil (filter_map pending_label (domain_at s d).queue)
-
-        roots_same : roots (next s (LastOf d p)) (queues (next s (LastOf d p))) ≡ roots s (queues s)
-        roots_same = ap₂ (λ a b. a ++ b) (part_same (λ x. filter_map label_of x.registers) s.domains d queued_domain refl)
-            (flat_map-map (filter_map pending_label) (λ (x : DomainState). x.queue) (set s.domains d queued_domain)
-            ∙ part_same (λ x. filter_map pending_label x.queue) s.domains d queued_domain queue_same
-            ∙ sym (flat_map-map (filter_map pending_label) (λ (x : DomainState). x.queue) s.domains))
 
         waiting_same : waiting (next s (LastOf d p)) ≡ waiting s
         waiting_same = part_same (λ x. map (λ f. f.label) x.finals) s.domains d queued_domain refl
@@ -148,7 +120,7 @@ module _ (s : State) (marked : Label → Bool) (left : ℕ → ℕ) (i : InLasts
         lasts_queues = record {
           mode = i.mode;
           marks = record {
-            roots = subst (λ z. HoldsRoots z marked) (sym roots_same) i.marks.roots;
+            roots = subst (λ z. HoldsRoots z marked) (sym (roots_same s d p)) i.marks.roots;
             waiting = subst (λ z. HoldsRoots z marked) (sym waiting_same) i.marks.waiting;
             closed = i.marks.closed;
           };
@@ -157,34 +129,19 @@ module _ (s : State) (marked : Label → Bool) (left : ℕ → ℕ) (i : InLasts
               (λ new. subst (λ z. IsTrue (not (marked z))) (one_last (slice_get (domain_at s d).lasts p) f at l new) un)
               (has-append_cases s.taken (map (λ f. f.label) (at_places (p ∷ []) (domain_at s d).lasts)) l h);
           keys = i.keys;
-          below = λ k. ⊎_elim
-              (λ t. ⊎_elim
-              (λ u. let low = ap (λ (x : DomainState). x.low) t.1 in let now = u.1 in omega (arith, low, now))
-              (λ u. absurd (u.0 t.0))
-              (at_cases left d p k))
-              (λ t. ⊎_elim
-              (λ u. absurd (t.0 u.0))
-              (λ u. let low = ap (λ (x : DomainState). x.low) t.1 in let now = u.1 in let was = i.below k in omega (arith, low, now, was))
-              (at_cases left d p k))
-              (set_cases s.domains d queued_domain k inside);
-          kept = λ k j g le e. ⊎_elim
-              (λ t. ⊎_elim
-              (λ u.
-              let le' : p ≤ j = subst (λ n. n ≤ j) u.1 le in
-              let now : slice_get (remove (domain_at s d).lasts p) j ≡ Some g = ap (λ (x : DomainState). slice_get x.lasts j) (sym t.1) ∙ e in
-              i.kept d (suc j) g (omega (arith, le', next_place)) (sym (get-remove_above (domain_at s d).lasts p j le') ∙ now))
-              (λ u. absurd (u.0 t.0))
-              (at_cases left d p k))
-              (λ t. ⊎_elim
-              (λ u. absurd (t.0 u.0))
-              (λ u. i.kept k j g (subst (λ n. n ≤ j) u.1 le) (ap (λ (x : DomainState). slice_get x.lasts j) (sym t.1) ∙ e))
-              (at_cases left d p k))
-              (set_cases s.domains d queued_domain k inside);
+          below = on.below;
+          kept = on.kept;
         }
+          where
+            on : LooksBack (λ (g : LastFinaliser). g.label) marked (λ k. (get_or (set s.domains d queued_domain) k no_domain).lasts) (λ k. (get_or (set s.domains d queued_domain) k no_domain).low) (at_domain left d p)
+            on = looks_takes (λ (g : LastFinaliser). g.label) marked _ _ left looks d p next_place _ _ (λ k. ⊎_elim
+                (λ t. inl (t.0, ap (λ (x : DomainState). x.lasts) t.1, ap (λ (x : DomainState). x.low) t.1))
+                (λ t. inr (t.0, ap (λ (x : DomainState). x.lasts) t.1, ap (λ (x : DomainState). x.low) t.1))
+                (set_cases_inside s.domains d queued_domain no_domain k inside))
 
         -- a whole cycle stays so
         pub last_whole : IsWhole s.graph (roots s (queues s)) marked → IsWhole s.graph (roots (next s (LastOf d p)) (queues (next s (LastOf d p)))) marked
-        last_whole whole = subst (λ z. IsWhole s.graph z marked) (sym roots_same) whole
+        last_whole whole = subst (λ z. IsWhole s.graph z marked) (sym (roots_same s d p)) whole
 
         pub last_waiting : WaitingReached s → WaitingReached (next s (LastOf d p))
         last_waiting reached l h = subst (λ z. IsTrue (is_reachable s.graph (z ++ flat_map (filter_map pending_label) s.cut) l))
@@ -197,23 +154,15 @@ module _ (s : State) (marked : Label → Bool) (left : ℕ → ℕ) (i : InLasts
     marks = i.marks;
     taken = i.taken;
     keys = i.keys;
-    lasts = part_all (λ x. map (λ f. f.label) x.lasts) s.domains marked (λ d lt l h.
-        let t = registration_cases (λ (f : LastFinaliser). f.label) (domain_at s d).lasts l h in
-        let none = all d lt in
-        subst (λ z. IsTrue (marked z)) t.3 (i.kept d t.0 t.1 (omega (arith, none)) t.2));
+    lasts = part_all (λ x. map (λ f. f.label) x.lasts) s.domains marked
+        (λ d lt. looks_end (λ (f : LastFinaliser). f.label) marked _ _ left looks d (all d lt));
   }
 
 -- the rotation: each reference leads to a marked block
-abbrev registers_all : State → List Label
-registers_all s = flat_map (λ x. filter_map label_of x.registers) s.domains
-
-abbrev pending_all : State → List Label
-pending_all s = flat_map (filter_map pending_label) (queues s)
-
 pub leads_to_marked : (s : State) (marked : Label → Bool) → IsLeft s marked → LeadsToMarked s marked
 leads_to_marked s marked i = record {
-  registers = λ d l h. i.marks.roots l (has-append_left (registers_all s) (pending_all s) l (part_has (λ x. filter_map label_of x.registers) s.domains d refl l h));
-  queue = λ d l h. i.marks.roots l (has-append_right (registers_all s) (pending_all s) l
+  registers = λ d l h. i.marks.roots l (has-append_left (registers_of s) (pending_labels (queues s)) l (part_has (λ x. filter_map label_of x.registers) s.domains d refl l h));
+  queue = λ d l h. i.marks.roots l (has-append_right (registers_of s) (pending_labels (queues s)) l
       (subst (λ z. IsTrue (has_label z l)) (sym (flat_map-map (filter_map pending_label) (λ (x : DomainState). x.queue) s.domains))
       (part_has (λ x. filter_map pending_label x.queue) s.domains d refl l h)));
   finals = λ d l h. i.marks.waiting l (part_has (λ x. map (λ f. f.label) x.finals) s.domains d refl l h);
@@ -228,12 +177,6 @@ pub done_left : (s : State) (marked : Label → Bool) → IsTrue (is_sealed s.mo
 done_left s marked mode i = done_marked s marked mode i.marks i.lasts (λ x k is h. i.keys x is k h) i.taken
 
 -- the entry Collected, in a whole cycle
-all_labels : (test : Label → Bool) (ls : List Label) → HoldsRoots ls test → IsTrue (list_all test ls)
-all_labels test [] each = refl
-all_labels test (k ∷ ls) each = and_both (test k) (list_all test ls)
-    (each k (or_left (same_label k k) (has_label ls k) (same_label_refl k)))
-    (all_labels test ls (λ l h. each l (or_right (same_label k l) (has_label ls l) h)))
-
 all_lasts : (test : Label → Bool) (xs : List LastFinaliser) → HoldsRoots (map (λ f. f.label) xs) test → IsTrue (list_all (λ f. test f.label) xs)
 all_lasts test [] each = refl
 all_lasts test (x ∷ xs) each = and_both (test x.label) (list_all (λ f. test f.label) xs)
@@ -297,23 +240,23 @@ left_full_major s marked d i = record {
   lasts = subst (λ z. HoldsRoots z marked) (sym (part_same (λ x. map (λ f. f.label) x.lasts) s.domains d (asked s d) refl)) i.lasts;
 }
 
--- neither changes what is reachable
-pub collected_reach : (s : State) → reach (next s Collected) ≡ reach s
-collected_reach s = ap (reachable s.graph) (roots_mapped_now s freshened (λ x. refl) (λ x. refl))
+-- where the cycle was whole, what is marked is what is reachable
+left_reach : (s : State) (marked : Label → Bool) → IsLeft s marked → IsWhole s.graph (roots s (queues s)) marked
+    → (l : Label) → marked l ≡ is_reachable s.graph (roots s (queues s)) l
+left_reach s marked i = marked_reach s.graph (roots s (queues s)) marked i.marks.closed i.marks.roots
 
+-- nor does a `full_major` change what is reachable
 pub asked_reach : (s : State) (d : ℕ) → reach (next s (CommandOf d FullMajor false)) ≡ reach s
 asked_reach s d = ap (reachable s.graph) (asked_roots s d)
 
-pub lasts_law : LastsLaw
-lasts_law = record { start = lasts_start; keeps = lasts_keeps; allowed = last_allowed; queued = lasts_queues; end = lasts_end }
-
 pub left_law : LeftLaw
 left_law = record {
+  marked_reach = left_reach;
   leads = leads_to_marked;
   done = done_left;
   collected = collected_left;
   after_collected = left_collected;
   after_full_major = left_full_major;
-  collected_reach = collected_reach;
+  collected_reach = reach_fresh;
   full_major_reach = asked_reach;
 }

@@ -1,6 +1,7 @@
 pub mod Tracing
 pub mod Sharing
 pub mod DomainParts
+pub mod LookingBack
 pub mod Deciding
 pub mod Cleaning
 pub mod Leaving

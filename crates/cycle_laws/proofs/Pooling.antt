@@ -1,15 +1,17 @@
 -- The owned pools are few: each holds a kept block, or has held one, or was just drawn.
-use Rattle.std.proofs.Common.{◌≡◌, ◌⊎◌, inl, inr, ⊎_elim, ℕ, zero, suc, ◌+◌, ◌*◌, ◌<◌, ◌≤◌, arith, Bool, true, false, cond, not, IsTrue, List, [], ◌∷◌, ◌++◌, map, length, length-append, Option, Some, None, refl, ap, sym, ◌∙◌, subst, eqb, eq-eqb, eqb-true}
+use Rattle.std.proofs.lemmas.Bool.{cases_eq}
+use Rattle.std.proofs.Common.{◌≡◌, inl, inr, ⊎_elim, ℕ, zero, suc, ◌+◌, ◌*◌, ◌<◌, ◌≤◌, arith, Bool, true, false, cond, not, IsTrue, List, [], ◌∷◌, ◌++◌, map, length, length-append, Option, Some, None, refl, ap, sym, ◌∙◌, subst, eqb, eq-eqb, eqb-true}
 use Rattle.heap_model.specs.declared.label.Label.{Label}
 use Rattle.heap_model.specs.Graph.{same_label, has_label, has_no_repeats}
-use Rattle.heap_model.proofs.Graphs.GraphLemmas.{same_label-true, same_label_refl}
-use Rattle.heap_model.proofs.Reach.ReachLemmas.{or_cases, or_left, or_right, and_both, has-append_left, has-append_right}
+use Rattle.heap_model.proofs.Reach.LabelListLemmas.{length_within}
+use Rattle.heap_model.proofs.Reach.ReachLemmas.{never_not, or_cases, or_left, or_right, and_both, has-append_left, has-append_right}
+use Rattle.heap_model.proofs.Graphs.GraphLemmas.{same_label-false, same_label-true, same_label_refl}
 use Rattle.cycle_laws.specs.Shares.{at_domain}
 use Rattle.cycle_laws.specs.Fullness.{HoldsKept, AllHoldKept, IsNone, Differ}
 use Rattle.cycle_laws.specs.Pools.{PoolsLaw, has_pool, without_pool, with_pool, InPools, AllHaveOwner}
+use Rattle.cycle_laws.proofs.Sharing.{some_same, last_or, at_cases}
 use Rattle.cycle_laws.proofs.Tracing.{never}
-use Rattle.cycle_laws.proofs.Sharing.{at_cases}
-use Rattle.cycle_laws.proofs.Keeping.{few_pools as few_holding, length_within}
+use Rattle.cycle_laws.proofs.Keeping.{few_pools as few_holding}
 
 pub pools_start : (n classes : ℕ) (kept : List Label) (pool_of : Label → Option ℕ) (owner : ℕ → Option ℕ) → ((p d : ℕ) → owner p ≡ Some d → (d < n) × HoldsKept kept pool_of p)
     → InPools n classes kept pool_of owner (λ d. [])
@@ -64,14 +66,10 @@ not_among p (q ∷ ps) none h = ⊎_elim
     (λ later. not_among p ps none.1 later)
     (or_cases (same_label (as_label q) (as_label p)) (has_label (map as_label ps) (as_label p)) h)
 
-refuse : (b : Bool) → (IsTrue b → ⊥) → IsTrue (not b)
-refuse true f = absurd (f refl)
-refuse false f = refl
-
 once_as_labels : (ps : List ℕ) → Differ ps → IsTrue (has_no_repeats (map as_label ps))
 once_as_labels [] differ = refl
 once_as_labels (p ∷ ps) differ = and_both (not (has_label (map as_label ps) (as_label p))) (has_no_repeats (map as_label ps))
-    (refuse (has_label (map as_label ps) (as_label p)) (not_among p ps differ.0))
+    (never_not (has_label (map as_label ps) (as_label p)) (not_among p ps differ.0))
     (once_as_labels ps differ.1)
 
 -- the drawn pools of the first domains
@@ -86,12 +84,6 @@ all_drawn_has drawn (suc n) d p lt h = ⊎_elim
     (λ less. has-append_left (all_drawn drawn n) (map as_label (drawn n)) (as_label p) (all_drawn_has drawn n d p less h))
     (λ same. has-append_right (all_drawn drawn n) (map as_label (drawn n)) (as_label p) (has_as_label (drawn n) p (subst (λ z. IsTrue (has_pool (drawn z) p)) same h)))
     (last_or d n lt)
-  where
-    last_or : (a b : ℕ) → a < suc b → (a < b) ⊎ (a ≡ b)
-    last_or zero zero lt = inr refl
-    last_or zero (suc b) lt = inl (omega arith)
-    last_or (suc a) zero lt = absurd (omega arith)
-    last_or (suc a) (suc b) lt = ⊎_elim (λ less. inl (omega arith)) (λ same. inr (ap suc same)) (last_or a b (omega arith))
 
 all_drawn_length : (drawn : ℕ → List ℕ) (classes n : ℕ) → ((d : ℕ) → length (drawn d) ≤ classes) → length (all_drawn drawn n) ≤ n * classes
 unfolding all_drawn
@@ -137,9 +129,6 @@ module _ (n classes : ℕ) (kept : List Label) (pool_of : Label → Option ℕ) 
         (at_cases owner p (Some d) q);
   }
     where
-      some_same : (a b : ℕ) → ◌≡◌ {A = Option ℕ} (Some a) (Some b) → a ≡ b
-      some_same a b e = cc
-
       here : (q k : ℕ) → q ≡ p → d ≡ k → IsTrue (has_pool (at_domain drawn d (p ∷ drawn d) k) q)
       here q k place number = ⊎_elim
           (λ t. subst (λ z. IsTrue (has_pool z q)) (sym t.1) (or_left (eqb p q) (has_pool (drawn d) q) (eq-eqb p q (sym place))))
@@ -152,83 +141,51 @@ module _ (n classes : ℕ) (kept : List Label) (pool_of : Label → Option ℕ) 
           (λ t. subst (λ z. IsTrue (has_pool z q)) (sym t.1) h)
           (at_cases drawn d (p ∷ drawn d) k)
 
-  -- a new label's block comes into a pool
+  -- a block comes into a pool, which then is a drawn one no more
+  fills : (kept_now : List Label) (d p : ℕ) (l : Label) → IsTrue (has_label kept_now l) → ((q : ℕ) → HoldsKept kept pool_of q → HoldsKept kept_now (with_pool pool_of l p) q)
+      → InPools n classes kept_now (with_pool pool_of l p) owner (at_domain drawn d (without_pool p (drawn d)))
+  fills kept_now d p l is_kept still = record {
+    few = λ k. ⊎_elim
+        (λ t. let now : length (at_domain drawn d (without_pool p (drawn d)) k) ≡ length (without_pool p (drawn d)) = ap length t.1 in
+        let less = without_length p (drawn d) in let le = i.few d in omega (arith, now, less, le))
+        (λ t. let was : length (at_domain drawn d (without_pool p (drawn d)) k) ≡ length (drawn k) = ap length t.1 in let le = i.few k in omega (arith, was, le))
+        (at_cases drawn d (without_pool p (drawn d)) k);
+    inside = i.inside;
+    holds = λ q k own. ⊎_elim
+        (λ same. inr (l, is_kept, new_pool ∙ ap Some (sym same)))
+        (λ other. ⊎_elim (λ drawn_one. inl (fresh q k other drawn_one)) (λ kept_one. inr (still q kept_one)) (i.holds q k own))
+        (cases_eq q p);
+  }
+    where
+      new_pool : with_pool pool_of l p l ≡ Some p
+      new_pool = ap (λ b. cond b (Some p) (pool_of l)) (same_label_refl l)
+
+      fresh : (q k : ℕ) → (q ≡ p → ⊥) → IsTrue (has_pool (drawn k) q) → IsTrue (has_pool (at_domain drawn d (without_pool p (drawn d)) k) q)
+      fresh q k other h = ⊎_elim
+          (λ t. subst (λ z. IsTrue (has_pool z q)) (sym t.1) (without_others p q (drawn d) other (subst (λ z. IsTrue (has_pool (drawn z) q)) t.0 h)))
+          (λ t. subst (λ z. IsTrue (has_pool z q)) (sym t.1) h)
+          (at_cases drawn d (without_pool p (drawn d)) k)
+
+  -- a label that had another pool, or was none of the kept, isn't this one
+  other_pool : (p : ℕ) (l x : Label) → (l ≡ x → ⊥) → with_pool pool_of l p x ≡ pool_of x
+  other_pool p l x other = ap (λ b. cond b (Some p) (pool_of x)) (same_label-false l x other)
+
+  -- the block of a new label, and the copy of a young one
   pub pools_fills : (d p : ℕ) (l : Label) → owner p ≡ Some d → has_label kept l ≡ false
       → InPools n classes (kept ++ l ∷ []) (with_pool pool_of l p) owner (at_domain drawn d (without_pool p (drawn d)))
-  pools_fills d p l at new = record {
-    few = λ k. ⊎_elim
-        (λ t. let now : length (at_domain drawn d (without_pool p (drawn d)) k) ≡ length (without_pool p (drawn d)) = ap length t.1 in
-        let less = without_length p (drawn d) in let le = i.few d in omega (arith, now, less, le))
-        (λ t. let was : length (at_domain drawn d (without_pool p (drawn d)) k) ≡ length (drawn k) = ap length t.1 in let le = i.few k in omega (arith, was, le))
-        (at_cases drawn d (without_pool p (drawn d)) k);
-    inside = i.inside;
-    holds = λ q k own. place (eqb q p) refl k own;
-  }
-    where
-      new_pool : with_pool pool_of l p l ≡ Some p
-      new_pool = ap (λ b. cond b (Some p) (pool_of l)) (same_label_refl l)
+  pools_fills d p l at new = fills (kept ++ l ∷ []) d p l (has-append_right kept (l ∷ []) l (or_left (same_label l l) false (same_label_refl l))) (λ q t. (
+    t.0,
+    has-append_left kept (l ∷ []) t.0 t.1,
+    other_pool p l t.0 (λ same. never (has_label kept l) new (subst (λ z. IsTrue (has_label kept z)) (sym same) t.1)) ∙ t.2,
+  ))
 
-      old_pool : (x : Label) → IsTrue (has_label kept x) → with_pool pool_of l p x ≡ pool_of x
-      old_pool x h = go (same_label l x) refl
-        where
-          go : (b : Bool) → same_label l x ≡ b → cond b (Some p) (pool_of x) ≡ pool_of x
-          go true e = absurd (never (has_label kept l) new (subst (λ z. IsTrue (has_label kept z)) (sym (same_label-true l x e)) h))
-          go false e = refl
-
-      keeps : (q : ℕ) → HoldsKept kept pool_of q → HoldsKept (kept ++ l ∷ []) (with_pool pool_of l p) q
-      keeps q t = (t.0, has-append_left kept (l ∷ []) t.0 t.1, old_pool t.0 t.1 ∙ t.2)
-
-      fresh : (q k : ℕ) → (q ≡ p → ⊥) → IsTrue (has_pool (drawn k) q) → IsTrue (has_pool (at_domain drawn d (without_pool p (drawn d)) k) q)
-      fresh q k other h = ⊎_elim
-          (λ t. subst (λ z. IsTrue (has_pool z q)) (sym t.1) (without_others p q (drawn d) other (subst (λ z. IsTrue (has_pool (drawn z) q)) t.0 h)))
-          (λ t. subst (λ z. IsTrue (has_pool z q)) (sym t.1) h)
-          (at_cases drawn d (without_pool p (drawn d)) k)
-
-      place : {q : ℕ} (b : Bool) → eqb q p ≡ b → (k : ℕ) → owner q ≡ Some k
-          → IsTrue (has_pool (at_domain drawn d (without_pool p (drawn d)) k) q) ⊎ HoldsKept (kept ++ l ∷ []) (with_pool pool_of l p) q
-      place {q = q} true e k own = inr (l, has-append_right kept (l ∷ []) l (or_left (same_label l l) false (same_label_refl l)), new_pool ∙ ap Some (sym (eqb-true q p e)))
-      place {q = q} false e k own = ⊎_elim
-          (λ drawn_one. inl (fresh q k (λ same. let clash : true ≡ false = sym (eq-eqb q p same) ∙ e in cc) drawn_one))
-          (λ kept_one. inr (keeps q kept_one))
-          (i.holds q k own)
-
-  -- the copy of a young block comes into a pool
   pub pools_copies : (d p : ℕ) (l : Label) → owner p ≡ Some d → IsTrue (has_label kept l) → pool_of l ≡ None
       → InPools n classes kept (with_pool pool_of l p) owner (at_domain drawn d (without_pool p (drawn d)))
-  pools_copies d p l at is_kept young = record {
-    few = λ k. ⊎_elim
-        (λ t. let now : length (at_domain drawn d (without_pool p (drawn d)) k) ≡ length (without_pool p (drawn d)) = ap length t.1 in
-        let less = without_length p (drawn d) in let le = i.few d in omega (arith, now, less, le))
-        (λ t. let was : length (at_domain drawn d (without_pool p (drawn d)) k) ≡ length (drawn k) = ap length t.1 in let le = i.few k in omega (arith, was, le))
-        (at_cases drawn d (without_pool p (drawn d)) k);
-    inside = i.inside;
-    holds = λ q k own. place (eqb q p) refl k own;
-  }
-    where
-      new_pool : with_pool pool_of l p l ≡ Some p
-      new_pool = ap (λ b. cond b (Some p) (pool_of l)) (same_label_refl l)
-
-      old_pool : (x : Label) (q : ℕ) → pool_of x ≡ Some q → with_pool pool_of l p x ≡ Some q
-      old_pool x q has = go (same_label l x) refl
-        where
-          go : (b : Bool) → same_label l x ≡ b → cond b (Some p) (pool_of x) ≡ Some q
-          go true e = absurd (let there : pool_of l ≡ Some q = subst (λ z. pool_of z ≡ Some q) (sym (same_label-true l x e)) has in
-              let clash : ◌≡◌ {A = Option ℕ} None (Some q) = sym young ∙ there in cc)
-          go false e = has
-
-      fresh : (q k : ℕ) → (q ≡ p → ⊥) → IsTrue (has_pool (drawn k) q) → IsTrue (has_pool (at_domain drawn d (without_pool p (drawn d)) k) q)
-      fresh q k other h = ⊎_elim
-          (λ t. subst (λ z. IsTrue (has_pool z q)) (sym t.1) (without_others p q (drawn d) other (subst (λ z. IsTrue (has_pool (drawn z) q)) t.0 h)))
-          (λ t. subst (λ z. IsTrue (has_pool z q)) (sym t.1) h)
-          (at_cases drawn d (without_pool p (drawn d)) k)
-
-      place : {q : ℕ} (b : Bool) → eqb q p ≡ b → (k : ℕ) → owner q ≡ Some k
-          → IsTrue (has_pool (at_domain drawn d (without_pool p (drawn d)) k) q) ⊎ HoldsKept kept (with_pool pool_of l p) q
-      place {q = q} true e k own = inr (l, is_kept, new_pool ∙ ap Some (sym (eqb-true q p e)))
-      place {q = q} false e k own = ⊎_elim
-          (λ drawn_one. inl (fresh q k (λ same. let clash : true ≡ false = sym (eq-eqb q p same) ∙ e in cc) drawn_one))
-          (λ kept_one. inr (kept_one.0, kept_one.1, old_pool kept_one.0 q kept_one.2))
-          (i.holds q k own)
+  pools_copies d p l at is_kept young = fills kept d p l is_kept (λ q t. (
+    t.0,
+    t.1,
+    other_pool p l t.0 (λ same. let clash : ◌≡◌ {A = Option ℕ} None (Some q) = sym young ∙ ap pool_of same ∙ t.2 in cc) ∙ t.2,
+  ))
 
   split : (pools : List ℕ) → Differ pools → AllHaveOwner owner pools → Split kept pool_of drawn n pools
   split [] differ all = record {

@@ -1,28 +1,20 @@
 -- A domain goes through a block field by field, or key by key.
-use Rattle.std.proofs.Common.{◌≡◌, ◌⊎◌, inl, inr, ⊎_elim, ℕ, zero, suc, ◌<◌, ◌≤◌, arith, Bool, true, false, not, nat_lt, ◌||◌, IsTrue, List, [], ◌∷◌, ◌++◌, filter_map, length, slice_get, Option, Some, None, refl, ap, sym, ◌∙◌, subst, eqb, eq-eqb, eqb-true}
+use Rattle.std.proofs.Common.{ap, ◌≡◌, ◌⊎◌, inl, inr, ⊎_elim, ℕ, suc, ◌<◌, ◌≤◌, arith, Bool, true, false, not, nat_lt, ◌||◌, IsTrue, List, [], ◌∷◌, ◌++◌, length, slice_get, Option, Some, refl, sym, ◌∙◌, subst, eqb, eq-eqb, eqb-true}
+use Rattle.std.proofs.lemmas.Option.{slice_get_within}
 use Rattle.std.specs.List.{list_all, list_any}
 use Rattle.std.proofs.lemmas.Bool.{lt-ltb}
 use Rattle.heap_model.specs.declared.label.Label.{Label}
 use Rattle.heap_model.specs.declared.graph.Value.{Value}
-use Rattle.heap_model.specs.declared.graph.Value.TheVariants.{Int, Block, Nothing}
+use Rattle.heap_model.specs.declared.graph.Value.TheVariants.{Block}
 use Rattle.heap_model.specs.declared.graph.Node.TheVariants.{Plain, Ephe}
-use Rattle.heap_model.specs.Graph.{Graph, same_label, has_label, label_of, node_at}
+use Rattle.heap_model.specs.Graph.{Graph, label_of, node_at}
 use Rattle.heap_model.specs.Reach.{HoldsRoots}
 use Rattle.heap_model.specs.Entries.{is_some_and, is_rising, full_keys}
-use Rattle.heap_model.proofs.Graphs.GraphLemmas.{same_label-true, same_label_refl}
-use Rattle.heap_model.proofs.Reach.ReachLemmas.{or_cases, or_left, or_right, and_left, and_right, and_both}
+use Rattle.heap_model.proofs.Reach.ReachLemmas.{not_true, or_cases, or_left, or_right, and_left, and_right, and_both}
 use Rattle.cycle_laws.specs.Marks.{fields_of, FieldsMarked, KeysMarked}
 use Rattle.cycle_laws.specs.Progress.{ProgressLaw, FieldsDone, KeysDone, KeysFound}
-use Rattle.cycle_laws.proofs.Tracing.{not_true}
-use Rattle.cycle_laws.proofs.Deciding.{get_inside}
-use Rattle.cycle_laws.proofs.Cleaning.{keys_each}
-
--- a place up to i is one below it, or i itself
-last_or : (p i : ℕ) → p < suc i → (p < i) ⊎ (p ≡ i)
-last_or zero zero lt = inr refl
-last_or zero (suc i) lt = inl (omega arith)
-last_or (suc p) zero lt = absurd (omega arith)
-last_or (suc p) (suc i) lt = ⊎_elim (λ less. inl (omega arith)) (λ same. inr (ap suc same)) (last_or p i (omega arith))
+use Rattle.cycle_laws.proofs.DomainParts.{listed_at, listed_cases, is_block}
+use Rattle.cycle_laws.proofs.Sharing.{last_or}
 
 -- fields
 pub fields_start : (marked : Label → Bool) (fields : List Value) → FieldsDone marked fields 0
@@ -35,19 +27,11 @@ fields_next marked fields i done here p x lt at = ⊎_elim
     (λ same. here x (subst (λ j. slice_get fields j ≡ Some (Block x)) same at))
     (last_or p i lt)
 
-fields_each : (marked : Label → Bool) (fields : List Value) → ((p : ℕ) (x : Label) → slice_get fields p ≡ Some (Block x) → IsTrue (marked x)) → HoldsRoots (filter_map label_of fields) marked
-fields_each marked [] each l h = cc
-fields_each marked (Int z ∷ fields) each l h = fields_each marked fields (λ p x e. each (suc p) x e) l h
-fields_each marked (Nothing ∷ fields) each l h = fields_each marked fields (λ p x e. each (suc p) x e) l h
-fields_each marked (Block y ∷ fields) each l h = ⊎_elim
-    (λ here. subst (λ z. IsTrue (marked z)) (same_label-true y l here) (each zero y refl))
-    (λ later. fields_each marked fields (λ p x e. each (suc p) x e) l later)
-    (or_cases (same_label y l) (has_label (filter_map label_of fields) l) h)
-
 pub fields_end : (g : Graph) (marked : Label → Bool) (l : Label) (tag : ℕ) (fields : List Value) (i : ℕ) → node_at g l ≡ Some (Plain tag fields)
     → FieldsDone marked fields i → length fields ≤ i → FieldsMarked g marked l
 fields_end g marked l tag fields i node done all = subst (λ o. HoldsRoots (fields_of o) marked) (sym node)
-    (fields_each marked fields (λ p x e. let inside = get_inside fields p (Block x) e in done p x (omega (arith, inside, all)) e))
+    (λ x h. let t = listed_cases label_of fields x h in let inside = slice_get_within fields t.0 t.1 t.2 in
+    done t.0 x (omega (arith, inside, all)) (t.2 ∙ ap Some (is_block t.1 x t.3)))
 
 -- keys
 pub keys_start : (marked : Label → Bool) (keys : List (Option Label)) → KeysDone marked keys 0
@@ -63,22 +47,13 @@ keys_next marked keys i done here p k lt at = ⊎_elim
 pub keys_end : (g : Graph) (marked : Label → Bool) (l : Label) (keys : List (Option Label)) (datum : Value) (i : ℕ) → node_at g l ≡ Some (Ephe keys datum)
     → KeysDone marked keys i → length keys ≤ i → KeysMarked g marked l
 keys_end g marked l keys datum i node done all = subst (λ o. HoldsRoots (full_keys o) marked) (sym node)
-    (keys_each marked keys (λ p k e. let inside = get_inside keys p (Some k) e in done p k (omega (arith, inside, all)) e))
-
-key_listed : (keys : List (Option Label)) (p : ℕ) (k : Label) → slice_get keys p ≡ Some (Some k) → IsTrue (has_label (filter_map (λ j. j) keys) k)
-key_listed [] p k e = cc
-key_listed (None ∷ keys) zero k e = cc
-key_listed (Some j ∷ keys) zero k e =
-    let inner : ◌≡◌ {A = Option Label} (Some j) (Some k) = cc in
-    let same : j ≡ k = cc in
-    or_left (same_label j k) (has_label (filter_map (λ j. j) keys) k) (subst (λ z. IsTrue (same_label j z)) same (same_label_refl j))
-key_listed (None ∷ keys) (suc p) k e = key_listed keys p k e
-key_listed (Some j ∷ keys) (suc p) k e = or_right (same_label j k) (has_label (filter_map (λ j. j) keys) k) (key_listed keys p k e)
+    (λ k h. let t = listed_cases (λ o. o) keys k h in let inside = slice_get_within keys t.0 t.1 t.2 in
+    done t.0 k (omega (arith, inside, all)) (t.2 ∙ ap Some t.3))
 
 pub keys_fail : (g : Graph) (marked : Label → Bool) (l : Label) (keys : List (Option Label)) (datum : Value) (p : ℕ) (k : Label) → node_at g l ≡ Some (Ephe keys datum)
     → slice_get keys p ≡ Some (Some k) → IsTrue (not (marked k)) → KeysMarked g marked l → ⊥
 keys_fail g marked l keys datum p k node at un all =
-    not_true (marked k) un (subst (λ o. HoldsRoots (full_keys o) marked) node all k (key_listed keys p k at))
+    not_true (marked k) un (subst (λ o. HoldsRoots (full_keys o) marked) node all k (listed_at (λ o. o) keys p (Some k) k at refl))
 
 -- unmarked keys
 pub found_start : (marked : Label → Bool) (keys : List (Option Label)) → KeysFound marked keys 0 []
@@ -151,7 +126,7 @@ found_takes marked keys i places found k at un = record {
 
 pub found_end : (marked : Label → Bool) (keys : List (Option Label)) (i : ℕ) (places : List ℕ) → KeysFound marked keys i places → length keys ≤ i
     → (p : ℕ) (k : Label) → slice_get keys p ≡ Some (Some k) → list_any (λ q. eqb q p) places ≡ false → IsTrue (marked k)
-found_end marked keys i places found all p k at none = let inside = get_inside keys p (Some k) at in found.others p k (omega (arith, inside, all)) at none
+found_end marked keys i places found all p k at none = let inside = slice_get_within keys p (Some k) at in found.others p k (omega (arith, inside, all)) at none
 
 pub progress_law : ProgressLaw
 progress_law = record {

@@ -1,13 +1,21 @@
 -- What each move of a domain keeps of the shares of Mark and of Rounds, and what follows once all have arrived.
-use Rattle.std.proofs.Common.{◌≡◌, ◌⊎◌, inl, inr, ⊎_elim, ℕ, ◌<◌, Bool, true, false, cond, not, ◌&&◌, ◌||◌, IsTrue, Some, refl, sym, ◌∙◌, subst, eqb, eq-eqb, eqb-true}
+use Rattle.std.proofs.Common.{Option, ◌≡◌, ◌⊎◌, inl, inr, ⊎_elim, arith, ℕ, suc, ◌<◌, Bool, true, false, cond, not, ◌&&◌, ◌||◌, IsTrue, Some, refl, sym, ◌∙◌, subst, eqb, eq-eqb, eqb-true}
+use Rattle.std.proofs.lemmas.Bool.{cases_lt, ne_eqb}
 use Rattle.heap_model.specs.declared.label.Label.{Label}
 use Rattle.heap_model.specs.Graph.{Graph, same_label, node_at}
 use Rattle.heap_model.specs.Entries.{full_keys}
-use Rattle.heap_model.proofs.Reach.ReachLemmas.{or_cases, or_right, and_left, and_right, and_both}
+use Rattle.heap_model.proofs.Reach.ReachLemmas.{not_true, not_false, or_cases, or_right, and_left, and_right, and_both}
 use Rattle.cycle_laws.specs.Marks.{Marks, darkened, with_scanned, data_of, KeysMarked, DataMarked, NoneGrey, DataFollows}
 use Rattle.cycle_laws.specs.Shares.{Layout, OnePlaceEach, Shares, at_domain, reset_shares, no_shares, again, owing, stored_changed, sees, arrives, IsQuiet, AllArrived, AllOwned, AreShares, InMark, InRounds}
-use Rattle.cycle_laws.specs.Laws.{MarkLaw, RoundsLaw}
-use Rattle.cycle_laws.proofs.Tracing.{darkened_more, darkened_cases, darkened_scanned, not_true, never, unlike, holds_more}
+use Rattle.cycle_laws.proofs.Tracing.{darkened_more, darkened_cases, darkened_scanned, never, unlike, holds_more}
+
+-- what stands in two options that are equal is equal
+pub some_same : {A : Type 0} (a b : A) → ◌≡◌ {A = Option A} (Some a) (Some b) → a ≡ b
+some_same a b e = cc
+
+-- a number up to the last is below it, or the last
+pub last_or : (a b : ℕ) → a < suc b → (a < b) ⊎ (a ≡ b)
+last_or a b lt = ⊎_elim (λ less. inl less) (λ more. inr (omega (arith, lt, more))) (cases_lt a b)
 
 -- a function with another value at one domain
 module _ {A : Type 0} (f : ℕ → A) (d : ℕ) (v : A) where
@@ -20,16 +28,6 @@ module _ {A : Type 0} (f : ℕ → A) (d : ℕ) (v : A) where
       go : (b : Bool) → eqb k d ≡ b → ((k ≡ d) × (cond b v (f k) ≡ v)) ⊎ ((k ≡ d → ⊥) × (cond b v (f k) ≡ f k))
       go true e = inl (eqb-true k d e, refl)
       go false e = inr ((λ same. let clash : true ≡ false = sym (eq-eqb k d same) ∙ e in cc), refl)
-
-  pub at_other : (k : ℕ) → (k ≡ d → ⊥) → at_domain f d v k ≡ f k
-  at_other k other = ⊎_elim (λ t. absurd (other t.0)) (λ t. t.1) (at_cases k)
-
-not_place : (a b : ℕ) → (a ≡ b → ⊥) → IsTrue (not (eqb b a))
-not_place a b differ = go (eqb b a) refl
-  where
-    go : (t : Bool) → eqb b a ≡ t → IsTrue (not t)
-    go true e = absurd (differ (sym (eqb-true b a e)))
-    go false e = refl
 
 module _ (w : Shares) (d a : ℕ) where
   abbrev less : ℕ → Bool
@@ -50,7 +48,7 @@ module _ (w : Shares) (d a : ℕ) where
   again_is : (k b : ℕ) → IsTrue (w.seen k b) → (k ≡ d → a ≡ b → ⊥) → IsTrue ((again w d a).seen k b)
   again_is k b h differ = ⊎_elim
       (λ t. subst (λ (z : ℕ → Bool). IsTrue (z b)) (sym t.1)
-      (and_both (w.seen d b) (not (eqb b a)) (subst (λ j. IsTrue (w.seen j b)) t.0 h) (not_place a b (differ t.0))))
+      (and_both (w.seen d b) (not (eqb b a)) (subst (λ j. IsTrue (w.seen j b)) t.0 h) (not_false (eqb b a) (ne_eqb b a (λ same. differ t.0 (sym same))))))
       (λ t. subst (λ (z : ℕ → Bool). IsTrue (z b)) (sym t.1) h)
       (at_cases w.seen d less k)
 
@@ -272,25 +270,3 @@ module _ (n : ℕ) (y : Layout) where
               i.data_marked t.0 t.1 l (i.shares.all t.0 t.1 (arrived t.0 t.2) t.4) t.3 (i.same quiet l marked)
               (holds_more m.marked before (i.same quiet) (full_keys (node_at g l)) keys)),
         )
-
-pub mark_law : MarkLaw
-mark_law = record {
-  start = mark_start;
-  darkens_own = mark_darkens_own;
-  darkens_other = mark_darkens_other;
-  scans = mark_scans;
-  stores = mark_stores;
-  looks = mark_sees;
-  arrived = mark_arrives;
-  end = mark_end;
-}
-
-pub rounds_law : RoundsLaw
-rounds_law = record {
-  start = rounds_start;
-  darkens = rounds_darkens;
-  stores = rounds_stores;
-  looks = rounds_sees;
-  arrived = rounds_arrives;
-  end = rounds_end;
-}

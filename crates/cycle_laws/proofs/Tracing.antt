@@ -1,5 +1,5 @@
 -- Where nothing is grey and the ephemerons' data follows, the marked blocks are closed; and darkening for a reason marks only what is reachable.
-use Rattle.std.proofs.Common.{◌≡◌, ◌⊎◌, inl, inr, ⊎_elim, Bool, true, false, cond, not, IsTrue, List, [], ◌∷◌, filter_map, option_to_list, Option, Some, None, refl, sym, ◌∙◌, ap, subst}
+use Rattle.std.proofs.Common.{◌≡◌, ◌⊎◌, inl, inr, ⊎_elim, Bool, true, false, cond, not, IsTrue, List, [], option_to_list, Option, Some, None, refl, sym, ◌∙◌, subst}
 use Rattle.std.specs.List.{list_all}
 use Rattle.std.specs.Option.{option_map_or}
 use Rattle.heap_model.specs.declared.label.Label.{Label}
@@ -8,9 +8,8 @@ use Rattle.heap_model.specs.declared.graph.Node.TheVariants.{Plain, Raw, Ephe}
 use Rattle.heap_model.specs.Graph.{Graph, same_label, has_label, label_of, node_at}
 use Rattle.heap_model.specs.Reach.{key_holds, edges_of, reachable, is_reachable, HoldsRoots, IsClosedUnder, IsClosedGraph, IsLeastClosed}
 use Rattle.heap_model.specs.Entries.{full_keys}
-use Rattle.heap_model.proofs.Graphs.GraphLemmas.{same_label-true, same_label_refl}
-use Rattle.heap_model.proofs.Reach.ReachLemmas.{or_cases, or_left, or_right, and_left, and_right, and_both, reachable_least, reach_law}
-use Rattle.cycle_laws.specs.Laws.{MarkingLaw}
+use Rattle.heap_model.proofs.Reach.ReachLemmas.{not_true, not_false, keys_all, all_keys, or_cases, or_right, and_left, and_right, and_both, reachable_least, reach_law}
+use Rattle.heap_model.proofs.Graphs.GraphLemmas.{same_label-false, same_label-true, same_label_refl}
 use Rattle.cycle_laws.specs.Marks.{Marks, darkened, with_scanned, fields_of, data_of, FieldsMarked, KeysMarked, IsTraced, NoneGrey, DataFollows, IsWhole, MayDarken}
 
 -- more is marked
@@ -24,50 +23,17 @@ holds_more marked other more ls holds l h = more l (holds l h)
 pub darkened_more : (m : Marks) (l : Label) → More m.marked (darkened m l).marked
 darkened_more m l x h = or_right (same_label l x) (m.marked x) h
 
-pub darkened_new : (m : Marks) (l : Label) → IsTrue ((darkened m l).marked l)
-darkened_new m l = or_left (same_label l l) (m.marked l) (same_label_refl l)
-
 pub darkened_cases : (m : Marks) (l x : Label) → IsTrue ((darkened m l).marked x) → (l ≡ x) ⊎ IsTrue (m.marked x)
 darkened_cases m l x h = ⊎_elim (λ here. inl (same_label-true l x here)) (λ old. inr old) (or_cases (same_label l x) (m.marked x) h)
-
-pub not_same : (l x : Label) → (l ≡ x → ⊥) → IsTrue (not (same_label l x))
-not_same l x differ = go (same_label l x) refl
-  where
-    go : (b : Bool) → same_label l x ≡ b → IsTrue (not b)
-    go true e = absurd (differ (same_label-true l x e))
-    go false e = refl
-
-pub not_true : (b : Bool) → IsTrue (not b) → IsTrue b → ⊥
-not_true true n h = let clash : false ≡ true = n in cc
-not_true false n h = let clash : false ≡ true = h in cc
 
 pub never : (b : Bool) → b ≡ false → IsTrue b → ⊥
 never b e h = let clash : false ≡ true = sym e ∙ h in cc
 
-pub is_not : (b : Bool) → b ≡ false → IsTrue (not b)
-is_not b e = ap not e
-
 pub darkened_scanned : (m : Marks) (l x : Label) → (l ≡ x → ⊥) → IsTrue (m.scanned x) → IsTrue ((darkened m l).scanned x)
-darkened_scanned m l x differ h = and_both (not (same_label l x)) (m.scanned x) (not_same l x differ) h
+darkened_scanned m l x differ h = and_both (not (same_label l x)) (m.scanned x) (not_false (same_label l x) (same_label-false l x differ)) h
 
 pub unlike : (marked : Label → Bool) (l x : Label) → marked l ≡ false → IsTrue (marked x) → l ≡ x → ⊥
 unlike marked l x un h same = never (marked l) un (subst (λ z. IsTrue (marked z)) (sym same) h)
-
--- full keys that are all marked, as a test of each and as a list
-pub keys_all : (alive : Label → Bool) (keys : List (Option Label)) → HoldsRoots (filter_map (λ k. k) keys) alive → IsTrue (list_all (key_holds alive) keys)
-keys_all alive [] h = refl
-keys_all alive (None ∷ keys) h = keys_all alive keys h
-keys_all alive (Some k ∷ keys) h = and_both (alive k) (list_all (key_holds alive) keys)
-    (h k (or_left (same_label k k) (has_label (filter_map (λ k. k) keys) k) (same_label_refl k)))
-    (keys_all alive keys (λ l at. h l (or_right (same_label k l) (has_label (filter_map (λ k. k) keys) l) at)))
-
-pub all_keys : (alive : Label → Bool) (keys : List (Option Label)) → IsTrue (list_all (key_holds alive) keys) → HoldsRoots (filter_map (λ k. k) keys) alive
-all_keys alive [] h l at = cc
-all_keys alive (None ∷ keys) h l at = all_keys alive keys h l at
-all_keys alive (Some k ∷ keys) h l at = ⊎_elim
-    (λ here. subst (λ z. IsTrue (alive z)) (same_label-true k l here) (and_left (alive k) (list_all (key_holds alive) keys) h))
-    (λ later. all_keys alive keys (and_right (alive k) (list_all (key_holds alive) keys) h) l later)
-    (or_cases (same_label k l) (has_label (filter_map (λ k. k) keys) l) at)
 
 -- what a node keeps alive: its fields, or its data where its keys are alive
 module _ (alive other : Label → Bool) where
@@ -149,6 +115,3 @@ marked_reach g roots marked closed holds whole l = go (marked l) (is_reachable g
     go true b f g = sym (f refl)
     go false true f g = g refl
     go false false f g = refl
-
-pub marking_law : MarkingLaw
-marking_law = record { darken_traced = darken_traced; scan_traced = scan_traced; darken_whole = darken_whole; closed = closed_when; reach = marked_reach }

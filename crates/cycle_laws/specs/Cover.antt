@@ -1,4 +1,4 @@
--- A cycle that goes on beside running domains: what is known of the marks, by the graph that stood when its roots had been darkened.
+-- A cycle that was under way while domains ran: what is known of its marks, by the graph that stood when its roots had been darkened.
 use Rattle.std.specs.Prelude.{◌≡◌, ℕ, Bool, false, not, IsTrue, slice_get, Option, Some, None}
 use Rattle.heap_model.specs.declared.label.Label.{Label}
 use Rattle.heap_model.specs.declared.graph.Value.{Value}
@@ -6,35 +6,34 @@ use Rattle.heap_model.specs.declared.graph.Value.TheVariants.{Block}
 use Rattle.heap_model.specs.declared.graph.Node.{Node}
 use Rattle.heap_model.specs.declared.graph.Node.TheVariants.{Plain, Raw, Ephe}
 use Rattle.heap_model.specs.Graph.{Graph, labels, has_label, node_at}
-use Rattle.heap_model.specs.Reach.{HoldsRoots}
 use Rattle.cycle_laws.specs.Marks.{Marks}
 
--- the value in a field of a plain block
+-- the value in a field that a scan follows
 abbrev pub field_in : Option Node → ℕ → Option Value
 field_in (Some (Plain tag fields)) i = slice_get fields i
 field_in (Some (Raw tag fields)) i = None
 field_in (Some (Ephe keys datum)) i = None
 field_in None i = None
 
+-- the value in a field of the block with a label
 abbrev pub field_at : Graph → Label → ℕ → Option Value
 field_at g l i = field_in (node_at g l) i
 
--- a label is new that the old graph lacks
+-- whether a block was made since the roots were darkened
 abbrev pub is_new : Graph → Label → Bool
 is_new old l = not (has_label (labels old) l)
 
--- Cover: the least set that holds the marked and the new labels and is closed under the fields of the old graph
+-- a label is in the least set that holds the marked and the new ones and all that the fields of the old graph lead to from there
 abbrev pub InCover : Graph → (Label → Bool) → Label → Type 0
 InCover old marked l = (set : Label → Bool) → ((x : Label) → IsTrue (marked x) → IsTrue (set x)) → ((x : Label) → IsTrue (is_new old x) → IsTrue (set x))
     → ((x y : Label) (i : ℕ) → IsTrue (set x) → field_at old x i ≡ Some (Block y) → IsTrue (set y)) → IsTrue (set l)
 
--- the data of which it speaks
+-- what is looked at: two graphs, what the domains hold, and the marks
 pub record Covering : Type 0 where
-  -- the graph at the end of Roots, and the present one
+  -- the graph when the roots had been darkened, and the present one
   pub old : Graph
   pub now : Graph
-  -- the labels in registers and queues, but for a register whose value a weak read has still to darken, and what was queued since the
-  -- Cut until Queued has ended
+  -- the labels in registers and queues, but for a register whose value a weak read has still to darken
   pub held : Label → Bool
   -- which fields were stored into since then
   pub overwritten : Label → ℕ → Bool
@@ -42,8 +41,8 @@ pub record Covering : Type 0 where
   pub places : Label → Bool
   pub marks : Marks
 
+-- what domains hold is covered, what they overwrote was marked first, and what was scanned led to marked blocks in the old graph
 pub record IsCovered (v : Covering) : Type 0 where
-  pub grown : HoldsRoots (labels v.old) (has_label (labels v.now))
   pub same : (l : Label) (i : ℕ) → is_new v.old l ≡ false → v.overwritten l i ≡ false → field_at v.now l i ≡ field_at v.old l i
   pub scanned : (l : Label) (i : ℕ) (x : Label) → IsTrue (v.marks.marked l) → IsTrue (v.marks.scanned l) → field_at v.old l i ≡ Some (Block x) → IsTrue (v.marks.marked x)
   pub lost : (l : Label) (i : ℕ) (x : Label) → IsTrue (v.overwritten l i) → field_at v.old l i ≡ Some (Block x) → IsTrue (v.marks.marked x)

@@ -3,8 +3,6 @@ pub mod Shares
 pub mod Queueing
 pub mod Taking
 pub mod Counting
-pub mod Laws
-pub mod EntryLaws
 pub mod Cycle
 pub mod CycleLaws
 pub mod Fullness

@@ -7,42 +7,38 @@ use Rattle.heap_model.specs.Graph.{Graph, same_label, has_label, label_of, node_
 use Rattle.heap_model.specs.Reach.{HoldsRoots, is_reachable}
 use Rattle.heap_model.specs.Entries.{full_keys}
 
--- the marks of a cycle, by label: which blocks have the colour of the marked, and which have the scanned mark
+-- the marks of a cycle, by label: which blocks have the colour of the marked, and which of these have the scanned mark
 pub record Marks : Type 0 where
   pub marked : Label → Bool
   pub scanned : Label → Bool
 
--- a grey block is marked and not scanned
-abbrev pub is_grey : Marks → Label → Bool
-is_grey m l = m.marked l && not (m.scanned l)
-
--- the marks after a block was darkened: it is grey
+-- the marks after a block was darkened: it is marked, and has yet to be scanned
 abbrev pub darkened : Marks → Label → Marks
 darkened m l = record { marked = λ x. same_label l x || m.marked x; scanned = λ x. not (same_label l x) && m.scanned x }
 
--- the marks after a block was scanned
+-- the marks after a block was scanned: all that it refers to has been darkened
 abbrev pub with_scanned : Marks → Label → Marks
 with_scanned m l = record m { scanned = λ x. same_label l x || m.scanned x }
 
--- the labels in the fields of a plain block
+-- the labels in the fields that a scan follows: those of a plain block
 abbrev pub fields_of : Option Node → List Label
 fields_of (Some (Plain tag fields)) = filter_map label_of fields
 fields_of (Some (Raw tag fields)) = []
 fields_of (Some (Ephe keys datum)) = []
 fields_of None = []
 
--- the label in the data of an ephemeron
+-- the label in the data of an ephemeron, which is followed once its keys are marked
 abbrev pub data_of : Option Node → List Label
 data_of (Some (Ephe keys datum)) = option_to_list (label_of datum)
 data_of (Some (Plain tag fields)) = []
 data_of (Some (Raw tag fields)) = []
 data_of None = []
 
--- all that a plain block's fields refer to is marked
+-- all that a scan of the block follows is marked
 abbrev pub FieldsMarked : Graph → (Label → Bool) → Label → Type 0
 FieldsMarked g marked l = HoldsRoots (fields_of (node_at g l)) marked
 
--- each full key of an ephemeron is marked
+-- each full key of an ephemeron is marked, as its data asks before it is followed
 abbrev pub KeysMarked : Graph → (Label → Bool) → Label → Type 0
 KeysMarked g marked l = HoldsRoots (full_keys (node_at g l)) marked
 
@@ -54,7 +50,7 @@ DataMarked g marked l = HoldsRoots (data_of (node_at g l)) marked
 abbrev pub IsTraced : Graph → Marks → Type 0
 IsTraced g m = (l : Label) → IsTrue (m.marked l) → IsTrue (m.scanned l) → FieldsMarked g m.marked l
 
--- no block is grey
+-- no block is grey: each that is marked has been scanned
 abbrev pub NoneGrey : Marks → Type 0
 NoneGrey m = (l : Label) → IsTrue (m.marked l) → IsTrue (m.scanned l)
 
@@ -62,7 +58,7 @@ NoneGrey m = (l : Label) → IsTrue (m.marked l) → IsTrue (m.scanned l)
 abbrev pub DataFollows : Graph → (Label → Bool) → Type 0
 DataFollows g marked = (l : Label) → IsTrue (marked l) → KeysMarked g marked l → DataMarked g marked l
 
--- nothing is marked but what is reachable: so it is in a cycle that begins and ends in one pause
+-- nothing is marked but what is reachable: so it is in a whole cycle, which begins and ends in one pause
 abbrev pub IsWhole : Graph → List Label → (Label → Bool) → Type 0
 IsWhole g roots marked = (l : Label) → IsTrue (marked l) → IsTrue (is_reachable g roots l)
 

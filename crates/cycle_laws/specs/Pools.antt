@@ -15,11 +15,11 @@ abbrev pub without_pool : ℕ → List ℕ → List ℕ
 without_pool p [] = []
 without_pool p (q ∷ ps) = cond (q == p) (without_pool p ps) (q ∷ without_pool p ps)
 
--- the pool of one label more
+-- the same with the pool in which one more label's block lies
 abbrev pub with_pool : (Label → Option ℕ) → Label → ℕ → Label → Option ℕ
 with_pool pool_of l p x = cond (same_label l x) (Some p) (pool_of x)
 
--- each pool that a domain owns holds a kept block, or has held one, but for the drawn ones, which are no more than the classes
+-- each pool that a domain owns holds a kept block, or has held one, but for those that it has drawn and not filled, at most one for each class
 pub record InPools (n classes : ℕ) (kept : List Label) (pool_of : Label → Option ℕ) (owner : ℕ → Option ℕ) (drawn : ℕ → List ℕ) : Type 0 where
   pub few : (d : ℕ) → length (drawn d) ≤ classes
   pub inside : (p d : ℕ) → owner p ≡ Some d → d < n
@@ -30,6 +30,7 @@ abbrev pub AllHaveOwner : (ℕ → Option ℕ) → List ℕ → Type 0
 AllHaveOwner owner [] = Unit {0}
 AllHaveOwner owner (p ∷ ps) = ((d : ℕ) × (owner p ≡ Some d)) × AllHaveOwner owner ps
 
+-- how pools are drawn and filled between two complete collections, and how many of them are owned
 pub record PoolsLaw : Type 0 where
   -- after a complete collection has given back the pools in which nothing is left
   pub start : (n classes : ℕ) (kept : List Label) (pool_of : Label → Option ℕ) (owner : ℕ → Option ℕ) → ((p d : ℕ) → owner p ≡ Some d → (d < n) × HoldsKept kept pool_of p)

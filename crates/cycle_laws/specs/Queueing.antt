@@ -1,4 +1,4 @@
--- Roots, Decide and Queued: whose registers and queues are marked, and which registrations of `finalise` are decided.
+-- Roots and Decide: whose registers and queues are marked, and which registrations of `finalise` are queued.
 use Rattle.std.specs.Prelude.{◌≡◌, ℕ, ◌≤◌, Bool, not, IsTrue, filter_map, slice_get, Some}
 use Rattle.heap_model.specs.declared.label.Label.{Label}
 use Rattle.heap_model.specs.declared.state.Finaliser.{Finaliser}
@@ -10,17 +10,16 @@ use Rattle.heap_model.specs.Domains.{domain_at, pending_label, queues, roots, wa
 use Rattle.heap_model.specs.Entries.{queued_beyond, SealAllowed}
 use Rattle.cycle_laws.specs.Shares.{Shares}
 
--- what a domain's registers and its queue hold is marked
+-- a domain's roots are marked: what its registers and its queue hold
 pub record RootsMarked (s : State) (marked : Label → Bool) (d : ℕ) : Type 0 where
   pub registers : HoldsRoots (filter_map label_of (domain_at s d).registers) marked
   pub queue : HoldsRoots (filter_map pending_label (domain_at s d).queue) marked
 
--- Roots and Queued: so it is of each domain that has arrived
+-- in Roots: the roots of each domain that has arrived are marked
 abbrev pub InRoots : State → (Label → Bool) → Shares → Type 0
 InRoots s marked w = (d : ℕ) → IsTrue (w.arrived d) → RootsMarked s marked d
 
--- Decide: the marked blocks are closed and hold the roots of the cut; each domain goes through its registrations from the last to the
--- first, and has so many left to look at; what it has left behind in the list is marked, and what was queued is not
+-- in Decide: the marked blocks are closed and hold the roots of the cut; each domain looks at its registrations from the last to the first, of those behind it the ones that stay have marked values, and the queued ones unmarked values
 pub record InDecide (s : State) (marked : Label → Bool) (left : ℕ → ℕ) : Type 0 where
   pub mode : s.mode ≡ CutMode
   pub roots : HoldsRoots (roots s s.cut) marked
@@ -29,15 +28,15 @@ pub record InDecide (s : State) (marked : Label → Bool) (left : ℕ → ℕ) :
   pub kept : (d p : ℕ) (f : Finaliser) → left d ≤ p → slice_get (domain_at s d).finals p ≡ Some f → IsTrue (marked f.label)
   pub queued : (l : Label) → IsTrue (has_label (queued_beyond (queues s) s.cut) l) → IsTrue (not (marked l))
 
--- from the end of Decide to the Seal: the Seal is allowed, and what waits is marked
+-- after Decide: a Seal is allowed, and the values of the registrations that stay are marked
 pub record IsDecided (s : State) (marked : Label → Bool) : Type 0 where
   pub seal : SealAllowed s
   pub waiting : HoldsRoots (waiting s) marked
 
--- what waits was reachable at the cut: so it is in a cycle that begins and ends in one pause
+-- the values of the registrations that stay were reachable at the cut: so it is in a whole cycle, and a Collected asks it
 abbrev pub WaitingReached : State → Type 0
 WaitingReached s = HoldsRoots (waiting s) (is_reachable_with s s.cut)
 
--- the roots of the cut are roots still
+-- the roots of the cut are roots still: queues have only grown
 abbrev pub CutStays : State → Type 0
 CutStays s = HoldsRoots (roots s s.cut) (has_label (roots s (queues s)))

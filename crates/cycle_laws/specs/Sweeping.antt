@@ -2,14 +2,13 @@
 use Rattle.std.specs.Prelude.{◌≡◌, ℕ, ◌<◌, Bool, true, false, ◌||◌, ◌==◌, IsTrue, Option, Some}
 use Rattle.cycle_laws.specs.Shares.{at_domain}
 
--- how far the domains are: at which places a domain has looked, and who has arrived. `owner_at` tells the domain in whose pool a place lies, and
--- `garbage_at` whether the head there has the colour of garbage
+-- how far the domains are: where each has looked, and who has arrived; `owner_at` names the domain in whose pool a place lies, and `garbage_at` says whether the head there has the colour of garbage
 pub record InSweep (n : ℕ) (owner_at : ℕ → Option ℕ) (garbage_at : ℕ → Bool) (looked : ℕ → ℕ → Bool) (arrived : ℕ → Bool) : Type 0 where
   pub owned : (a : ℕ) → IsTrue (garbage_at a) → (d : ℕ) × (d < n) × (owner_at a ≡ Some d)
   pub clean : (d a : ℕ) → IsTrue (looked d a) → garbage_at a ≡ false
   pub all : (d a : ℕ) → IsTrue (arrived d) → owner_at a ≡ Some d → IsTrue (looked d a)
 
--- each step keeps this, and where all have arrived there is no garbage
+-- to free a place, to look at one where no garbage is, and to arrive keep this; and once all have arrived there is no garbage
 pub record SweepLaw : Type 0 where
   pub start : (n : ℕ) (owner_at : ℕ → Option ℕ) (garbage_at : ℕ → Bool) → ((a : ℕ) → IsTrue (garbage_at a) → (d : ℕ) × (d < n) × (owner_at a ≡ Some d))
       → InSweep n owner_at garbage_at (λ d a. false) (λ d. false)

@@ -1,88 +1,58 @@
 //! Laws of a collection. Each function's contract is one law, and it does nothing else.
+ghost use Rattle.cycle_laws.specs.Counting.{CountLaw};
 ghost use Rattle.cycle_laws.specs.CycleLaws.{DarkeningSteps, PhaseSteps, TakingSteps};
-ghost use Rattle.cycle_laws.specs.EntryLaws.{CleanLaw, CountLaw, DecideLaw, LastsLaw, LeftLaw, WholeLaw};
 ghost use Rattle.cycle_laws.specs.Fullness.{FullnessLaw};
-ghost use Rattle.cycle_laws.specs.Laws.{MarkLaw, MarkingLaw, RoundsLaw};
 ghost use Rattle.cycle_laws.specs.Pools.{PoolsLaw};
 ghost use Rattle.cycle_laws.specs.Progress.{ProgressLaw};
 ghost use Rattle.cycle_laws.specs.Sweeping.{SweepLaw};
+ghost use Rattle.cycle_laws.specs.Taking.{LeftLaw};
 
-/// What is darkened for a reason is reachable, and at the end of a cycle the marked blocks are the reachable ones.
-pub fn law_marking()
-    ensures { MarkingLaw }
-{}
-
-/// Each move in Mark keeps what the domains know, and at the end no block is grey.
-pub fn law_mark()
-    ensures { MarkLaw }
-{}
-
-/// Each move in Rounds keeps what the domains know, and at the end the data of marked ephemerons follows their keys.
-pub fn law_rounds()
-    ensures { RoundsLaw }
-{}
-
-/// Each Queue that is made in Decide is allowed, and at its end the Seal is allowed.
-pub fn law_decide()
-    ensures { DecideLaw }
-{}
-
-/// What waits at the end of Decide was reachable at the cut, where the cycle is whole.
-pub fn law_whole()
-    ensures { WholeLaw }
-{}
-
-/// Each Wipe that is made in Clean is allowed, and at its end no marked ephemeron has an unmarked key.
-pub fn law_clean()
-    ensures { CleanLaw }
-{}
-
-/// Each Last that is made in Lasts is allowed, and at its end all that is left is marked.
-pub fn law_lasts()
-    ensures { LastsLaw }
-{}
-
-/// All that is left leads to marked blocks, and the entries that end a collection are allowed.
-pub fn law_left()
-    ensures { LeftLaw }
-{}
-
-/// A cycle that begins and ends in one pause: darkening, scanning and the changed word.
-pub fn law_cycle_darkens()
+/// Each darkening, each scan, each store of the changed word, each look at an own place and each arrival keeps what holds
+/// in its phase: in `Roots`, in `Mark` and in `Rounds`.
+pub fn phases_are_kept()
     ensures { DarkeningSteps }
 {}
 
-/// A cycle that begins and ends in one pause: the entries of Decide, Clean and Lasts.
-pub fn law_cycle_takes()
+/// In `Decide`, `Clean` and `Lasts` each `Queue`, `Wipe` and `Last` that is made for what is unmarked is allowed, and keeps
+/// what holds in its phase.
+pub fn entries_are_allowed()
     ensures { TakingSteps }
 {}
 
-/// A cycle that begins and ends in one pause: the ways from one phase to the next.
-pub fn law_cycle_goes_on()
+/// Where all domains have arrived, what holds in a phase gives what holds at the start of the next, and the `Cut`, the
+/// `Seal`, the `Collected` and the `Done` between them are allowed.
+pub fn phases_follow()
     ensures { PhaseSteps }
 {}
 
-/// What the domains add up in Sweep is what `full_major` answers.
-pub fn law_count()
-    ensures { CountLaw }
+/// Once `Lasts` has ended each reference leads to a marked block, so the unmarked blocks may go; and where the cycle marked
+/// nothing but what is reachable, a block is marked exactly where it is reachable.
+pub fn rest_is_marked()
+    ensures { LeftLaw }
 {}
 
-/// `kept` counts the labels that are kept, and the pools run out only when these are many.
-pub fn law_fullness()
-    ensures { FullnessLaw }
-{}
-
-/// Where each domain has freed the garbage in its pools, none is left.
-pub fn law_sweep()
+/// Where each domain has freed the garbage in its pools and arrived, no block has the colour of garbage.
+pub fn garbage_is_freed()
     ensures { SweepLaw }
 {}
 
-/// A domain goes through a block field by field, or key by key.
-pub fn law_progress()
-    ensures { ProgressLaw }
+/// Where each domain has added the blocks and the words that are marked in its pools, the sums are what `full_major` answers.
+pub fn live_words_are_counted()
+    ensures { CountLaw }
 {}
 
-/// The owned pools are no more than the kept labels and the classes of all domains.
-pub fn law_pools()
+/// Whatever the history, `kept` counts the kept labels, each once; and where no more pools are free than the reserve,
+/// these are many: an allocation may be answered `full`.
+pub fn full_when_much_is_kept()
+    ensures { FullnessLaw }
+{}
+
+/// While domains draw pools and fill them, the owned pools are no more than the kept labels and the classes of all domains.
+pub fn pools_hold_kept_blocks()
     ensures { PoolsLaw }
+{}
+
+/// A domain that looks at a block field by field, or key by key, knows at its end of all of them.
+pub fn scans_advance()
+    ensures { ProgressLaw }
 {}
