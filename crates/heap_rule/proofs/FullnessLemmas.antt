@@ -1,17 +1,16 @@
 -- Fullness through the steps: as entries come, as blocks cease to live, and from phase to phase.
-use Rattle.std.proofs.Common.{◌≡◌, ℕ, ◌+◌, ◌*◌, ◌<◌, ◌⊎◌, Bool, true, false, IsTrue, List, [], ◌∷◌, ◌++◌, Option, Some, None, sym, ap, ◌∙◌, subst, inl, inr, ⊎_elim, refl}
+use Rattle.std.proofs.Common.{◌≡◌, ℕ, false, IsTrue, List, [], ◌∷◌, ◌++◌, Option, Some, sym, ap, ◌∙◌, subst, inl, inr, ⊎_elim, refl}
 use Rattle.heap_model.specs.declared.entry.Entry.{Entry}
-use Rattle.heap_model.specs.declared.entry.Entry.TheVariants.{Command as CommandOf, End}
+use Rattle.heap_model.specs.declared.entry.Entry.TheVariants.{Command as CommandOf}
 use Rattle.heap_model.specs.declared.graph.Node.{Node}
 use Rattle.heap_model.specs.declared.label.Label.{Label}
 use Rattle.heap_model.specs.declared.state.State as model
-use Rattle.heap_model.specs.Graph.{Graph, has_label, same_label, node_at}
+use Rattle.heap_model.specs.Graph.{has_label, node_at}
 use Rattle.heap_model.specs.Domains.{opening}
-use Rattle.heap_model.specs.Entries.{next}
 use Rattle.heap_model.specs.History.{state_after}
 use Rattle.heap_model.proofs.Commands.FrameLemmas.{grew_next}
 use Rattle.heap_model.proofs.Histories.HistoryLemmas.{state_after-push}
-use Rattle.cycle_laws.specs.Fullness.{kept_labels, kept_next, is_collected, HoldsKept}
+use Rattle.cycle_laws.specs.Fullness.{kept_labels, is_collected, HoldsKept}
 use Rattle.cycle_laws.proofs.Keeping.{all_kept_stays, kept_push}
 use Rattle.heap_rule.specs.declared.config.Config.{Config}
 use Rattle.heap_rule.specs.declared.phase.Kind.{Kind}

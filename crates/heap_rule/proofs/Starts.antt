@@ -37,7 +37,7 @@ use Rattle.cycle_laws.specs.Cycle.{First}
 use Rattle.cycle_laws.specs.Shares.{no_shares}
 use Rattle.heap_model.specs.Graph.{has_label, same_label, node_at}
 use Rattle.heap_model.proofs.Graphs.GraphLemmas.{same_label-true}
-use Rattle.heap_rule.specs.Fullness.{Homes, Fullness}
+use Rattle.heap_rule.specs.Fullness.{Homes}
 use Rattle.heap_model.specs.declared.label.Label.{Label}
 
 abbrev shared_place : Place
