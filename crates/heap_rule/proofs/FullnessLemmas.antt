@@ -16,10 +16,11 @@ use Rattle.heap_rule.specs.declared.config.Config.{Config}
 use Rattle.heap_rule.specs.declared.phase.Kind.{Kind}
 use Rattle.heap_rule.specs.declared.phase.Kind.TheVariants.{Answer}
 use Rattle.heap_rule.specs.Limits.{sizes_in}
-use Rattle.heap_rule.specs.Places.{Place, Live}
-use Rattle.heap_rule.specs.Pools.{Holder}
+use Rattle.heap_rule.specs.Places.{Live}
+use Rattle.heap_rule.specs.Pools.{Holder, place_in}
 use Rattle.heap_rule.specs.Fullness.{Homes, Fullness}
 use Rattle.heap_rule.proofs.Keeps.{IsCommand}
+use Rattle.heap_rule.proofs.Again.{Back}
 
 -- a kept label stays kept
 pub kept_stays : (k : Config) (log : List Entry) (e : Entry) (l : Label) → is_collected e ≡ false → IsTrue (has_label (kept_labels (sizes_in k) log) l) → IsTrue (has_label (kept_labels (sizes_in k) (log ++ e ∷ [])) l)
@@ -46,13 +47,13 @@ full_stays k log live holder fresh homes kind e other f = record {
   drawn = f.drawn;
 }
 
--- blocks cease to live
-pub full_less : (k : Config) (log : List Entry) (live live' : Live) (holder : ℕ → Holder) (fresh : ℕ → ℕ → Option ℕ) (homes : Homes) (kind : Kind) → ((a : ℕ) (p : Place) → live' a ≡ Some p → live a ≡ Some p)
+-- what lives lived before, as the same block
+pub full_back : (k : Config) (log : List Entry) (live live' : Live) (holder : ℕ → Holder) (fresh : ℕ → ℕ → Option ℕ) (homes : Homes) (kind : Kind) → Back live live'
     → Fullness k log live holder fresh homes kind → Fullness k log live' holder fresh homes kind
-full_less k log live live' holder fresh homes kind was f = record {
-  kept = λ a p lives. f.kept a p (was a p lives);
-  low = λ q d c slot p is inside lives. f.low q d c slot p is inside (was _ p lives);
-  young = λ a p lives. f.young a p (was a p lives);
+full_back k log live live' holder fresh homes kind back f = record {
+  kept = λ a p lives. let w = back a p lives in subst (λ (l : Label). IsTrue (has_label (kept_labels (sizes_in k) log) l)) w.label (f.kept a w.place w.lives);
+  low = λ q d c slot p is inside lives. let w = back (place_in q c slot) p lives in ap homes (sym w.label) ∙ f.low q d c slot w.place is inside w.lives;
+  young = λ a p lives young bare. let w = back a p lives in ap homes (sym w.label) ∙ f.young a w.place w.lives young (w.forward ∙ bare);
   made = f.made;
   owned = f.owned;
   drawn = f.drawn;

@@ -77,12 +77,12 @@ module _ (k : Config) (s : Words) (r : Rule k s) (id : ℕ) (hist : List Entry) 
   past_entry : (a : ℕ) (e : Entry) → HeadEntry x a e → (n tag : ℕ) (b : Lives k s r id hist x at (subject e) a) → b.place.shape ≡ PlainShape n tag → n ≤ place_of e → Enters k s r id hist x at acts e x.own.registers (Replied BadIndex)
   past_entry a (Command j (Load dst src i) false) may n tag b is past =
       let p = plain_at k s r id hist x at src a b n tag is in
-      subst (λ (m : ℕ). Enters k s r id hist x at acts (Command m (Load dst src i) false) x.own.registers (Replied BadIndex)) (sym may.0) (enters_command k s r id hist x at acts now.graph (Load dst src i) (may_begin k s r id hist x at acts) x.own.registers _ (theirs)
+      subst (λ (m : ℕ). Enters k s r id hist x at acts (Command m (Load dst src i) false) x.own.registers (Replied BadIndex)) (sym may.0) (enters_command k s r id hist x at acts now.graph (Load dst src i) tt (may_begin k s r id hist x at acts) x.own.registers _ (theirs)
       (stand)
       (leaves_load_past now d dst src i p.label p.tag p.fields p.held p.node (let l = p.size in omega arith)))
   past_entry a (Command j (Store block i item) false) may n tag b is past =
       let p = plain_at k s r id hist x at block a b n tag is in
-      subst (λ (m : ℕ). Enters k s r id hist x at acts (Command m (Store block i item) false) x.own.registers (Replied BadIndex)) (sym may.0) (enters_command k s r id hist x at acts now.graph (Store block i item) (may_begin k s r id hist x at acts) x.own.registers _ (theirs)
+      subst (λ (m : ℕ). Enters k s r id hist x at acts (Command m (Store block i item) false) x.own.registers (Replied BadIndex)) (sym may.0) (enters_command k s r id hist x at acts now.graph (Store block i item) tt (may_begin k s r id hist x at acts) x.own.registers _ (theirs)
       (stand)
       (leaves_store_past now d block i item p.label p.tag p.fields p.held p.node (let l = p.size in omega arith)
       (not_nothing r.account.live (value_at x.own.registers item) (register now d item) may.3 (stand.each item may.2))))
@@ -93,13 +93,13 @@ module _ (k : Config) (s : Words) (r : Rule k s) (id : ℕ) (hist : List Entry) 
   kind_entry a (Command j (Load dst src i) false) may keys b is =
       let f = found_at k s r id hist x at src a b in
       let p = ephe_of f.node keys (f.shape ∙ is) in
-      subst (λ (m : ℕ). Enters k s r id hist x at acts (Command m (Load dst src i) false) x.own.registers (Replied BadType)) (sym may.0) (enters_command k s r id hist x at acts now.graph (Load dst src i) (may_begin k s r id hist x at acts) x.own.registers _ (theirs)
+      subst (λ (m : ℕ). Enters k s r id hist x at acts (Command m (Load dst src i) false) x.own.registers (Replied BadType)) (sym may.0) (enters_command k s r id hist x at acts now.graph (Load dst src i) tt (may_begin k s r id hist x at acts) x.own.registers _ (theirs)
       (stand)
       (leaves_load_kind now d dst src i b.place.label p.0 p.1 b.held (f.there ∙ ap Some p.2)))
   kind_entry a (Command j (Store block i item) false) may keys b is =
       let f = found_at k s r id hist x at block a b in
       let p = ephe_of f.node keys (f.shape ∙ is) in
-      subst (λ (m : ℕ). Enters k s r id hist x at acts (Command m (Store block i item) false) x.own.registers (Replied BadType)) (sym may.0) (enters_command k s r id hist x at acts now.graph (Store block i item) (may_begin k s r id hist x at acts) x.own.registers _ (theirs)
+      subst (λ (m : ℕ). Enters k s r id hist x at acts (Command m (Store block i item) false) x.own.registers (Replied BadType)) (sym may.0) (enters_command k s r id hist x at acts now.graph (Store block i item) tt (may_begin k s r id hist x at acts) x.own.registers _ (theirs)
       (stand)
       (leaves_store_kind now d block i item b.place.label p.0 p.1 b.held (f.there ∙ ap Some p.2)))
   kind_entry a _ may keys b is = absurd may

@@ -245,7 +245,7 @@ field_stores k slots id word hist x a new remembers block i item changes place m
     let still : x.seen.copying ≡ nothing_copied = quiet k s r id hist x at may.acts.runs in
     let far : (z : DomainView) → Area k r.account.live z → Making k s.words z → Making k words z =
     (λ z area making. making_beside k s.words (f.address + 2 + i) new z (λ j fits same. live_word_far k r.account.live f.address (2 + i) f.place z f.lives inside area j fits (same ∙ (let h : f.address + 2 + i ≡ f.address + (2 + i) = omega arith in h))) making) in
-    let o : EntersTo k s r id hist x at may.acts graph e regs (Replied Done) = enters_command k s r id hist x at may.acts graph (Store block i item) (may_begin k s r id hist x at may.acts) regs _ (domain_at now d).registers
+    let o : EntersTo k s r id hist x at may.acts graph e regs (Replied Done) = enters_command k s r id hist x at may.acts graph (Store block i item) tt (may_begin k s r id hist x at may.acts) regs _ (domain_at now d).registers
     (subst (λ (l : List Value). AllStand r.account.live l (domain_at now d).registers) (sym (ap registers_of may.same)) stand)
     (leaves_store now d block i item f.place.label f.tag f.fields v f.value f.held f.node f.there refl (not_nothing r.account.live w v may.full (stand.each item may.from))) in
     let controls : Controls k r.account s.words words = controls_kept k s r id hist x at words (control_set k s.words (f.address + 2 + i) new (omega arith)) in
