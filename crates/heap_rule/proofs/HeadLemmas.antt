@@ -1,8 +1,10 @@
 -- Heads of blocks, whatever their colour.
-use Rattle.std.proofs.Common.{◌≡◌, ℕ, ◌<◌, Bool, ◌∙◌, None}
+use Rattle.std.proofs.Common.{◌≡◌, ℕ, ◌<◌, Bool, ◌∙◌, None, cond, true, false}
 use Rattle.heap_model.specs.Fronts.{Shape, PlainShape, RawShape, EpheShape}
 use Rattle.heap_words.specs.Heads.{IsPackableHead}
-use Rattle.heap_rule.specs.Places.{Place, Paint, IsHead, IsPackableShape, head_of}
+use Rattle.heap_rule.specs.Places.{Place, Paint, IsHead, IsPackableShape, head_of, colour_in}
+use Rattle.heap_model.specs.declared.label.Label.{Label}
+use Rattle.heap_words.specs.ColourWords.{IsPermutation}
 
 -- the head of a block stays where its word does
 pub head_at : {word word' : ℕ} (paint : Paint) (p : Place) → word' ≡ word → IsHead paint p word → IsHead paint p word'
@@ -12,3 +14,9 @@ pub packable_head : (shape : Shape) (colour : ℕ) (scanned : Bool) → colour <
 packable_head (PlainShape size tag) colour scanned few p = (p.0, p.1, p.2, few)
 packable_head (RawShape size tag) colour scanned few p = (p.0, p.1, p.2, few)
 packable_head (EpheShape keys) colour scanned few p = (p.0, p.1, few)
+
+pub colour_small : (paint : Paint) (l : Label) → IsPermutation paint.colours → colour_in paint l < 3
+colour_small paint l meanings = small (paint.marks.marked l) where
+  small : (b : Bool) → cond b paint.colours.marked paint.colours.unmarked < 3
+  small true = meanings.marked_fits
+  small false = meanings.unmarked_fits

@@ -32,7 +32,7 @@ use Rattle.heap_rule.specs.Standing.{Acts}
 use Rattle.steps_run.specs.Ticks.{is_quiet, TickCommand, TickEntry, TickMay, command_answer, tick_answer, TickTold}
 use Rattle.heap_rule.proofs.ChangeLemmas.{registers_of}
 use Rattle.heap_rule.proofs.Values.{AllStand, stand_set, no_label, stands_nothing}
-use Rattle.heap_rule.proofs.Keeps.{Words, IsCommand, unmoved}
+use Rattle.heap_rule.proofs.Keeps.{Words, IsCommand, unmoved, run_calm}
 use Rattle.heap_rule.proofs.Entering.{running, inside_state, registers_stand, Enters, entered_view, enters_rule, enters, enters_command, may_begin}
 
 -- the mode and the queue fit an allocation
@@ -58,7 +58,7 @@ module _ (k : Config) (s : Words) (r : Rule k s) (id : ℕ) (hist : List Entry) 
   theirs = (domain_at now d).registers
 
   calm : IsCalm now
-  calm = r.whole.calm
+  calm = run_calm k s r id hist x at acts.runs
 
   stand : AllStand r.account.live x.own.registers theirs
   stand = registers_stand k s r id hist x at acts
@@ -99,6 +99,7 @@ module _ (k : Config) (s : Words) (r : Rule k s) (id : ℕ) (hist : List Entry) 
   entries (Command j c false) may = subst (λ (n : ℕ). Enters k s r id hist x at acts (Command n c false) regs (Replied (command_answer c))) (sym may.0) (commands c may.1)
   entries (Command j c true) may = subst (λ (n : ℕ). Enters k s r id hist x at acts (Command n c true) regs (tick_answer (Command n c true))) (sym may.0) record {
     alone = λ i other. ne_eqb d i (λ e. other (sym e));
+    plain = tt;
     allowed = record { running = running k s r id hist x at acts; fits = fits_allocation now d c may.1 calm.mode (calm.queues d); full_fits = may.1 };
     calm = calm_command now d c true calm;
     theirs = theirs;
