@@ -99,6 +99,7 @@ pub record IsHead (paint : Paint) (p : Place) (word : ℕ) : Type 0 where
 pub record IsNewHead (known : Option Colours) (shape : Shape) (word : ℕ) : Type 0 where
   pub colours : Colours
   pub known_is : known ≡ Some colours
+  pub fits : colours.unmarked < 3
   pub packs : HeadIs None shape colours.unmarked false word
 
 -- a head of this shape can be packed, whatever its colour
