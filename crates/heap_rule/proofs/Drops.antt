@@ -119,6 +119,7 @@ module _ (k : Config) (paint : Paint) (live : Live) (graph : Graph) (words : Lis
         there = f.there;
         shape = f.shape;
         head = f.head;
+        blank = f.blank;
         label = f.label;
         old = f.old;
         values = λ i v h got.

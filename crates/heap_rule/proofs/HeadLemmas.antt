@@ -8,7 +8,7 @@ use Rattle.heap_words.specs.ColourWords.{IsPermutation}
 use Rattle.heap_words.specs.declared.colours.Colours.{Colours}
 
 -- the head of a block stays where its word does
-pub head_at : {word word' : ℕ} (paint : Paint) (p : Place) → word' ≡ word → IsHead paint p word → IsHead paint p word'
+abbrev pub head_at : {word word' : ℕ} (paint : Paint) (p : Place) → word' ≡ word → IsHead paint p word → IsHead paint p word'
 head_at paint p same h = record { scanned = h.scanned; packs = same ∙ h.packs; tells = h.tells }
 
 pub packable_head : (shape : Shape) (colour : ℕ) (scanned : Bool) → colour < 3 → IsPackableShape shape → IsPackableHead (head_of None shape colour scanned)
@@ -23,7 +23,7 @@ colour_small paint l meanings = small (paint.marks.marked l) where
   small false = meanings.unmarked_fits
 
 -- the head of a new block is that of an unmarked one
-pub new_head : (paint : Paint) (p : Place) (known : Option Colours) (word : ℕ) → p.forward ≡ None → paint.marks.marked p.label ≡ false → ((c : Colours) → known ≡ Some c → c ≡ paint.colours) → IsNewHead known p.shape word → IsHead paint p word
+abbrev pub new_head : (paint : Paint) (p : Place) (known : Option Colours) (word : ℕ) → p.forward ≡ None → paint.marks.marked p.label ≡ false → ((c : Colours) → known ≡ Some c → c ≡ paint.colours) → IsNewHead known p.shape word → IsHead paint p word
 new_head paint p known word bare unmarked means h = record {
   scanned = false;
   packs = subst (λ (m : Option ℕ × ℕ). HeadIs m.0 p.shape m.1 false word) (λ i. (sym bare i, sym colour i)) h.packs;

@@ -177,6 +177,7 @@ module _ (k : Config) (limits : IsWithinLimits (sizes_in k)) (words : List ℕ) 
     there = refl;
     shape = refl;
     head = record { scanned = false; packs = opens.head; tells = λ is. cc };
+    blank = λ _. refl;
     label = opens.label;
     values = λ i v _ e. let t = zero_field 16 i v e in record {
       value = IntWord (pos 0);

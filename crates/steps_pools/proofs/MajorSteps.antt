@@ -212,6 +212,7 @@ module _ (k : Config) (s : Words) (r : Rule k s) (id : ℕ) (hist : List Entry) 
     there = node_at-append_new now.graph L (new_plain tag n) fresh;
     shape = ap (λ (m : ℕ). PlainShape m tag) (length-replicate n (Int (pos 0)));
     head = head_at r.account.cycling.paint born_place (get_or-set_same s.words (before_heap k + A) new 0 spot) (new_head r.account.cycling.paint born_place x.seen.share.colours new refl ((between_here k s r id hist x at Run tt may.acts.runs).unmarked L) g.sharing.telling.colours may.head);
+    blank = λ _. refl;
     label = stays k r.account.tenancy s.words A new (A + 1) (λ o. omega arith)
         ∙ (ap (at_address k s.words) (let o : A + 1 ≡ A + 1 + 0 = omega arith in o) ∙ made_at 0 (label_word d (x.own.serial + 1)) refl);
     values = λ i v _ got. let t = zero_values n i v got in record {

@@ -116,6 +116,7 @@ module _ (k : Config) (paint : Paint) (live : Live) (graph : Graph) (words : Lis
     there = node_at-with_node_same graph p.label stored_node (Plain tag fields) node;
     shape = ap (λ n. PlainShape n tag) (length-set fields i v) ∙ (sym (ap shape_of node_is) ∙ here.shape);
     head = let h = here.head in record { scanned = h.scanned; packs = get_or-set_other words spot (before_heap k + a) new 0 (λ e. omega arith) ∙ h.packs; tells = h.tells };
+    blank = here.blank;
     label = get_or-set_other words spot (before_heap k + (a + 1)) new 0 (λ e. omega arith) ∙ here.label;
     values = λ j w has got. ⊎_elim
         (λ (t : (j ≡ i) × (v ≡ w)). record {
