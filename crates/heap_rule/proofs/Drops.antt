@@ -32,7 +32,7 @@ use Rattle.heap_rule.proofs.Lots.{number_cases}
 use Rattle.heap_rule.proofs.Beside.{extent_of}
 use Rattle.heap_rule.proofs.Classes.{slot_inside, size_least}
 use Rattle.heap_rule.proofs.Lists.{got_below}
-use Rattle.heap_rule.proofs.Keeps.{Words, my_good, remakes, knows_front, room_unused, copies_settled, no_owing, nothing_known}
+use Rattle.heap_rule.proofs.Keeps.{Words, my_good, remakes, knows_front, room_unused, copies_settled, no_owing, no_copied, nothing_known}
 use Rattle.heap_rule.proofs.Controls.{Move, Untouched, found_untouched, making_untouched, pools_untouched, grid_untouched, hunter_untouched, resting_untouched, low_untouched, cycle_untouched, pools_stock, grid_stock, moved_to}
 
 abbrev Side : Config → ℕ → Type 0
@@ -152,6 +152,7 @@ module _ (k : Config) (live : Live) (graph : Graph) (words : List ℕ) (found : 
   drop_owes x y number none remembered o = record {
     quiet = inl none;
     knows = subst (λ (c : Copying). More (known c.met) live') (sym none) (nothing_known live');
+    copied = λ a c has. absurd (no_copied y.seen.copying a c none has);
     owed = λ i w got. absurd (no_owing y.seen.copying i w none got);
     once = λ i j w q got _ _. absurd (no_owing y.seen.copying i w none got);
     listed = λ c p d e owed _. absurd (free.no_debt c p d (was_low k live c p e).1 owed);

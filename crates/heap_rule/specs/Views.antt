@@ -69,7 +69,7 @@ opening_view k d = record {
     prepared = replicate class_count None;
     pending = record { items = []; room = pending_room k };
   };
-  seen = record { front = []; made = []; stage = In Run; notes = []; hunt = Rests; free = None; listing = None; copying = record { met = []; pending = [] }; remembered = [] };
+  seen = record { front = []; made = []; stage = In Run; notes = []; hunt = Rests; free = None; listing = None; copying = record { met = []; pending = []; copied = [] }; remembered = [] };
 }
 
 -- n domains from d on
