@@ -4,6 +4,7 @@ use Rattle.heap_model.specs.declared.label.Label.{Label}
 use Rattle.heap_model.specs.declared.graph.Value as model
 use Rattle.heap_model.specs.declared.graph.Node.{Node}
 use Rattle.heap_model.specs.declared.state.State as states
+use Rattle.heap_model.specs.Domains.{register}
 use Rattle.heap_model.specs.Graph.{node_at}
 use Rattle.heap_model.specs.Fronts.{Shape, PlainShape, RawShape, EpheShape}
 use Rattle.heap_words.specs.declared.value.Value.{Value}
@@ -13,6 +14,7 @@ use Rattle.heap_words.specs.declared.head.Head.TheVariants.{Forward}
 use Rattle.heap_words.specs.Heads.{IsPackableHead, head_word}
 use Rattle.heap_words.specs.Labels.{label_word}
 use Rattle.heap_rule.specs.declared.config.Config.{Config}
+use Rattle.heap_rule.specs.declared.view.Copied.{Copied}
 use Rattle.heap_rule.specs.declared.view.Form.{Form}
 use Rattle.heap_rule.specs.declared.view.Form.TheVariants.{Plain, Ephe}
 use Rattle.heap_rule.specs.declared.view.Met.{Met}
@@ -20,11 +22,11 @@ use Rattle.heap_rule.specs.declared.view.Owing.{Owing}
 use Rattle.heap_rule.specs.declared.view.DomainView.{DomainView}
 use Rattle.heap_rule.specs.declared.phase.Kind.TheVariants.{Promote, Reset}
 use Rattle.heap_rule.specs.declared.phase.Stage.TheVariants.{In}
-use Rattle.heap_rule.specs.Layout.{base_of}
-use Rattle.heap_rule.specs.Places.{Place, Live, extent, values_of, unmarked, head_of, IsNewHead, IsBuilt, Fits, Stands, IsOldAt, IsOldWord, Lasts, More}
+use Rattle.heap_rule.specs.Layout.{base_of, at_address}
+use Rattle.heap_rule.specs.Places.{Place, Live, extent, values_of, unmarked, head_of, IsNewHead, IsBuilt, Fits, Stands, IsOldAt, IsOldWord, Lasts, More, Settled}
 use Rattle.heap_rule.specs.Changes.{value_at}
-use Rattle.heap_rule.specs.Copies.{known}
-use Rattle.heap_rule.specs.Rule.{state_of}
+use Rattle.heap_rule.specs.Copies.{HasCopy, HoldsOld, known}
+use Rattle.heap_rule.specs.Rule.{state_of, AllFound}
 use Rattle.heap_rule.specs.Standing.{IsAt, IsInHeap, with_registers}
 use Rattle.heap_rule.specs.Token.{Holds}
 
@@ -45,6 +47,13 @@ with_met x met = record x { seen = record x.seen { copying = record x.seen.copyi
 abbrev pub meeting : DomainView → Met → DomainView
 meeting x m = with_met x (m ∷ x.seen.copying.met)
 
+-- and with other copies known, and with one more of a young block
+abbrev pub with_copied : DomainView → List Copied → DomainView
+with_copied x copied = record x { seen = record x.seen { copying = record x.seen.copying { copied = copied } } }
+
+abbrev pub learning : DomainView → ℕ → ℕ → DomainView
+learning x young copy = with_copied x (record { copy = copy; source = young } ∷ x.seen.copying.copied)
+
 -- what the domain has met
 abbrev pub Knows : DomainView → Live
 Knows x = known x.seen.copying.met
@@ -63,16 +72,17 @@ pub record StaysThere (at : ℕ) (place : Place) (x : DomainView) (found : ℕ) 
   pub head : IsNewHead place.shape found
   pub view : y ≡ meeting x (met_of at place)
 
--- the block forwards: its copy is met too
+-- the block forwards: its copy is met too, and known as its copy
 pub record Forwards (k : Config) (at : ℕ) (place : Place) (x : DomainView) (found : ℕ) (y : DomainView) : Type 0 where
   pub copy : ℕ
   pub word : found ≡ head_word (Forward copy)
   pub young : k.pools * 4096 < at
   pub old : IsOldAt k copy
   pub inside : IsInHeap k copy
-  pub view : y ≡ meeting (meeting x (met_of at place)) (met_of copy place)
+  pub view : y ≡ learning (meeting (meeting x (met_of at place)) (met_of copy place)) at copy
   pub there : Lasts (Knows y) copy place
 
+-- and where a copy of the block was known, the head forwards to that copy
 pub record HeadMet (k : Config) (at : ℕ) (x : DomainView) (found : ℕ) (y : DomainView) : Type 0 where
   pub place : Place
   pub built : IsBuilt place.shape
@@ -81,6 +91,7 @@ pub record HeadMet (k : Config) (at : ℕ) (x : DomainView) (found : ℕ) (y : D
   pub more : More (Knows x) (Knows y)
   pub fit : AllFit k y
   pub told : StaysThere at place x found y ⊎ Forwards k at place x found y
+  pub once : (copy : ℕ) → HasCopy x at copy → found ≡ head_word (Forward copy)
 
 -- a load of the label of a block that was met
 pub record LabelMay (x : DomainView) (at source : ℕ) : Type 0 where
@@ -236,6 +247,16 @@ pub record RewriteTold (at : ℕ) (x : DomainView) (new : ℕ) (y : DomainView) 
   pub first : x.seen.remembered ≡ at ∷ rest
   pub view : y ≡ recalling x rest
 
+-- No young block is left. At the addresses at which blocks live, the words are the nodes of the graph after the domain's front, which is the whole history then. Each of these blocks lies in a pool; none of its values, and no register of the domain, is an address of a minor area; and what they lead to lives too
+pub record NoneYoung (k : Config) (x : DomainView) (words : List ℕ) : Type 0 where
+  pub live : Live
+  pub found : AllFound k live (state_of k x.seen.front).graph words
+  pub settled : Settled live
+  pub pools : (a : ℕ) (p : Place) → live a ≡ Some p → IsOldAt k a
+  pub values : (a : ℕ) (p : Place) (i : ℕ) → live a ≡ Some p → i + 2 < extent p.shape → IsOldWord k (at_address k words (a + 2 + i))
+  pub stands : (r : ℕ) → r < 16 → Stands live (value_at x.own.registers r) (register (state_of k x.seen.front) x.own.number r)
+  pub registers : HoldsOld k x
+
 -- in Reset the own minor area is free again, and the list of remembered fields is empty
 pub record ResetMay (k : Config) (x : DomainView) (at : ℕ) : Type 0 where
   pub stage : x.seen.stage ≡ In Reset
@@ -247,5 +268,15 @@ pub record ResetMay (k : Config) (x : DomainView) (at : ℕ) : Type 0 where
 abbrev pub reset_view : DomainView → DomainView
 reset_view x = record x { own = record x.own { used = 0; remembered = record { items = []; room = x.own.remembered.room + length x.own.remembered.items } } }
 
-abbrev pub ResetTold : DomainView → ℕ → DomainView → Type 0
-ResetTold x found y = y ≡ reset_view x
+-- at this step the young blocks are gone
+pub record ResetTold (k : Config) (x : DomainView) (new : ℕ) (y : DomainView) : Type 0 where
+  pub view : y ≡ reset_view x
+  pub words : List ℕ
+  pub none_young : NoneYoung k x words
+
+-- a load of a word of the heap in Reset: it is one of the words at this step, at which the young blocks are gone
+pub record ResetSeen (k : Config) (at : ℕ) (x : DomainView) (found : ℕ) (y : DomainView) : Type 0 where
+  pub view : y ≡ x
+  pub words : List ℕ
+  pub there : found ≡ at_address k words at
+  pub none_young : NoneYoung k x words
