@@ -21,7 +21,7 @@ use Rattle.promote_claim.specs.Heads.{IsHeadFor}
 use Rattle.promote_claim.specs.Working.{IsPair, Works, Tied, owed_from, with_claims, Grown, Forwarded, StandsFor}
 use Rattle.promote_claim.specs.Filling.{FilledTo, Progress}
 use Rattle.promote_claim.proofs.Meeting.{grown_met, head_grown, met_value_inside, owed_append}
-use Rattle.promote_claim.proofs.Valuing.{old_word}
+use Rattle.steps_promote.proofs.Resets.{old_word}
 
 module _ {A : Type 0} where
   drop_suc : (l : List A) (i : ℕ) (a : A) → slice_get l i ≡ Some a → drop i l ≡ a ∷ drop (suc i) l
@@ -100,7 +100,7 @@ module _ (k : Config) (i : ℕ) (c : Copied) (x : DomainView) where
     -- claims leave how far it is filled
     pub progress_claims : (y z : DomainView) → Progress k i c size n x y → Grown k y z → Progress k i c size n x z
     progress_claims y z p g =
-        let m = g.more c.copy p.place p.met in
+        let m = g.learns.more c.copy p.place p.met in
         let few : i + 1 ≤ length y.own.pending.items = (let b = get_below y.own.pending.items i c p.item in omega arith) in record {
           view = claims_twice x y z p.view g.view;
           works = g.works;
@@ -158,10 +158,10 @@ module _ (k : Config) (i : ℕ) (c : Copied) (x : DomainView) where
             fill_may =
                 let q = progress_forwarded in
                 let front : y2.seen.front ≡ y.seen.front = ap (λ (z : DomainView). z.seen.front) fw.grown.view ∙ ap (λ (z : DomainView). z.seen.front) told.view in
-                let m = fw.grown.more c.copy (value_grown.more c.copy p.place p.met).place (value_grown.more c.copy p.place p.met).lives in
+                let m = fw.grown.learns.more c.copy (value_grown.learns.more c.copy p.place p.met).place (value_grown.learns.more c.copy p.place p.met).lives in
                 let there : q.place ≡ m.place = some_same q.place m.place (sym q.met ∙ m.lives) in
                 let from : told.place ≡ pair.same.from = some_same told.place pair.same.from (sym told.met ∙ pair.same.here) in
-                let label : told.place.label ≡ q.place.label = ap (λ (o : Place). o.label) from ∙ (sym pair.same.label ∙ (ap (λ (o : Place). o.label) to_is ∙ (sym (value_grown.more c.copy p.place p.met).label ∙ (sym m.label ∙ ap (λ (o : Place). o.label) (sym there))))) in record {
+                let label : told.place.label ≡ q.place.label = ap (λ (o : Place). o.label) from ∙ (sym pair.same.label ∙ (ap (λ (o : Place). o.label) to_is ∙ (sym (value_grown.learns.more c.copy p.place p.met).label ∙ (sym m.label ∙ ap (λ (o : Place). o.label) (sym there))))) in record {
                   stage = q.works.stage;
                   first = record { copy = c.copy; source = c.source; filled = n };
                   rest = owed_from (drop (i + 1) y2.own.pending.items);

@@ -16,7 +16,7 @@ use Rattle.steps_promote.specs.Promotion.{Knows, recalling, HasValueAt, MoveTold
 use Rattle.promote_claim.specs.Working.{Works, Tied, with_claims, Grown, Claimed, Forwarded}
 use Rattle.promote_claim.specs.Roots.{Moved, with_rewrites, Rewritten}
 use Rattle.promote_claim.proofs.Meeting.{grown_met, grown_twice, lasts_more}
-use Rattle.promote_claim.proofs.Valuing.{old_word}
+use Rattle.steps_promote.proofs.Resets.{old_word}
 use Rattle.promote_claim.proofs.Fills.{tied_grown}
 
 -- the register gets the copy's address
@@ -69,7 +69,7 @@ module _ (k : Config) (x y : DomainView) (at word : ℕ) (w : Works k x) (t : Ti
         index = told.index;
         is = told.is;
         inside = told.inside;
-        here = lasts_more (Knows y) (Knows z) told.block told.place fw.grown.more told.here;
+        here = lasts_more (Knows y) (Knows z) told.block told.place fw.grown.learns.more told.here;
         value = new;
         packs = refl;
         held = told.held;
