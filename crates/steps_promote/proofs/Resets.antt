@@ -6,7 +6,7 @@ use lib.ListN.{get_elem?}
 use Rattle.heap_model.specs.declared.entry.Entry.{Entry}
 use Rattle.heap_model.specs.declared.graph.Value as graph_value
 use Rattle.heap_model.specs.declared.graph.Value.TheVariants.{Int as IntOf, Block, Nothing as NothingOf}
-use Rattle.heap_model.specs.Domains.{register}
+use Rattle.heap_model.specs.Domains.{class_count, register}
 use Rattle.heap_words.specs.declared.value.Value.{Value}
 use Rattle.heap_words.specs.declared.value.Value.TheVariants.{Int, Ref, Nothing}
 use Rattle.heap_words.specs.Values.{IsPackable, value_word}
@@ -16,8 +16,9 @@ use Rattle.heap_rule.specs.declared.view.DomainView.{DomainView}
 use Rattle.heap_rule.specs.declared.phase.Kind.TheVariants.{Run, Reset}
 use Rattle.heap_rule.specs.declared.phase.Stage.{Stage}
 use Rattle.heap_rule.specs.declared.phase.Stage.TheVariants.{In}
-use Rattle.heap_rule.specs.Layout.{before_heap, base_of}
+use Rattle.heap_rule.specs.Layout.{before_heap, base_of, at_address}
 use Rattle.heap_rule.specs.Places.{Debt, Place, Live, extent, values_of, HasValue, Stands, IsOldAt, IsOldWord, Settled}
+use Rattle.heap_rule.specs.Pools.{Holder, nobody, drawn, owned, owner_word, place_in}
 use Rattle.heap_rule.specs.Phases.{Pause, AtStage, Staged, IsInPause}
 use Rattle.heap_rule.specs.Changes.{value_at}
 use Rattle.heap_rule.specs.Copies.{Promoting, Resetting, IsOldValue}
@@ -55,6 +56,17 @@ all_old k live (Ref a) (IntOf n) pools stands = absurd stands
 all_old k live (Ref a) (Block l) pools stands = pools a stands.0 stands.1
 all_old k live (Ref a) NothingOf pools stands = absurd stands
 
+-- who owns a pool, by its owner word
+owner_is : (h : Holder) (d c : ℕ) → c < class_count → ((e b : ℕ) → h ≡ owned e b → b < class_count) → owner_word h ≡ owner_word (owned d c) → h ≡ owned d c
+owner_is nobody d c few low e = absurd (let f : 0 ≡ 16 * d + c + 1 = e in omega arith)
+owner_is (drawn z) d c few low e = absurd (let f : 0 ≡ 16 * d + c + 1 = e in omega arith)
+owner_is (owned z b) d c few low e =
+    let f : 16 * z + b + 1 ≡ 16 * d + c + 1 = e in
+    let l : b < 6 = low z b refl in
+    let m : c < 6 = few in
+    let s : z ≡ d = omega arith in
+    let t : b ≡ c = omega arith in λ i. owned (s i) (t i)
+
 -- in Reset no young block is left
 none_young : (k : Config) (s : Words) (r : Rule k s) (id : ℕ) (hist : List Entry) (x : DomainView) → get_elem? s.views id ≡ some (one k hist x) → x.seen.stage ≡ In Reset → NoneYoung k x s.words
 none_young k s r id hist x at resets =
@@ -68,6 +80,12 @@ none_young k s r id hist x at resets =
       found = subst (λ (log : List Entry). AllFound k live (state_of k log).graph s.words) front r.whole.found;
       settled = settled;
       pools = pools;
+      places = λ q d c slot below few word inside taken.
+          let holder = owner_is (r.account.tenancy.holder q) d c few (λ e b is. (r.whole.pools.owned_by q e b is).2) (sym (r.whole.pools.owners q below) ∙ word) in
+          ⊎_elim (λ (free : at_address k s.words (place_in q c slot) ≡ 0). absurd (taken free))
+          (λ z. ⊎_elim (λ (there : (p : Place) × (live (place_in q c slot) ≡ Some p)). there)
+          (λ (prepared : r.account.tenancy.prepared (place_in q c slot) ≡ Some d). absurd (promote_rests r.account.pause (r.whole.drawers.prepared (place_in q c slot) d prepared).1 t)) z)
+          (r.whole.grid.places q d c slot holder inside);
       values = λ a p i lives below.
           let f = r.whole.found a p lives in
           let n : ℕ = length (values_of f.node) in

@@ -1,10 +1,10 @@
 -- What the steps ask and tell by which young blocks are copied: loads at which blocks are met, stores to copies, and the roots ("Retrofitting Parallelism onto OCaml", section 3.2).
-use Rattle.std.specs.Prelude.{◌≡◌, ℕ, ◌+◌, ◌*◌, ◌<◌, ◌≤◌, ◌⊎◌, List, [], ◌∷◌, length, slice_get, slice_set, Some, None, false}
+use Rattle.std.specs.Prelude.{◌≡◌, ◌≢◌, ℕ, ◌+◌, ◌*◌, ◌<◌, ◌≤◌, ◌⊎◌, List, [], ◌∷◌, length, slice_get, slice_set, Some, None, false}
 use Rattle.heap_model.specs.declared.label.Label.{Label}
 use Rattle.heap_model.specs.declared.graph.Value as model
 use Rattle.heap_model.specs.declared.graph.Node.{Node}
 use Rattle.heap_model.specs.declared.state.State as states
-use Rattle.heap_model.specs.Domains.{register}
+use Rattle.heap_model.specs.Domains.{class_count, register}
 use Rattle.heap_model.specs.Graph.{node_at}
 use Rattle.heap_model.specs.Fronts.{Shape, PlainShape, RawShape, EpheShape}
 use Rattle.heap_words.specs.declared.value.Value.{Value}
@@ -22,9 +22,10 @@ use Rattle.heap_rule.specs.declared.view.Owing.{Owing}
 use Rattle.heap_rule.specs.declared.view.DomainView.{DomainView}
 use Rattle.heap_rule.specs.declared.phase.Kind.TheVariants.{Promote, Reset}
 use Rattle.heap_rule.specs.declared.phase.Stage.TheVariants.{In}
-use Rattle.heap_rule.specs.Layout.{base_of, at_address}
+use Rattle.heap_rule.specs.Layout.{base_of, at_address, owner_of}
 use Rattle.heap_rule.specs.Places.{Place, Live, extent, values_of, unmarked, head_of, IsNewHead, IsBuilt, Fits, Stands, IsOldAt, IsOldWord, Lasts, More, Settled}
 use Rattle.heap_rule.specs.Changes.{value_at}
+use Rattle.heap_rule.specs.Pools.{owned, owner_word, blocks_of, place_in}
 use Rattle.heap_rule.specs.Copies.{HasCopy, HoldsOld, known}
 use Rattle.heap_rule.specs.Rule.{state_of, AllFound}
 use Rattle.heap_rule.specs.Standing.{IsAt, IsInHeap, with_registers}
@@ -247,12 +248,13 @@ pub record RewriteTold (at : ℕ) (x : DomainView) (new : ℕ) (y : DomainView) 
   pub first : x.seen.remembered ≡ at ∷ rest
   pub view : y ≡ recalling x rest
 
--- No young block is left. At the addresses at which blocks live, the words are the nodes of the graph after the domain's front, which is the whole history then. Each of these blocks lies in a pool; none of its values, and no register of the domain, is an address of a minor area; and what they lead to lives too
+-- No young block is left. At the addresses at which blocks live, the words are the nodes of the graph after the domain's front, which is the whole history then. Each of these blocks lies in a pool, and at each place of a pool that a domain owns one of them lives, or the head says Free. None of their values, and no register of the domain, is an address of a minor area, and what they lead to lives too
 pub record NoneYoung (k : Config) (x : DomainView) (words : List ℕ) : Type 0 where
   pub live : Live
   pub found : AllFound k live (state_of k x.seen.front).graph words
   pub settled : Settled live
   pub pools : (a : ℕ) (p : Place) → live a ≡ Some p → IsOldAt k a
+  pub places : (pool d class slot : ℕ) → pool < k.pools → class < class_count → owner_of k words pool ≡ owner_word (owned d class) → slot < blocks_of class → at_address k words (place_in pool class slot) ≢ 0 → (p : Place) × (live (place_in pool class slot) ≡ Some p)
   pub values : (a : ℕ) (p : Place) (i : ℕ) → live a ≡ Some p → i + 2 < extent p.shape → IsOldWord k (at_address k words (a + 2 + i))
   pub stands : (r : ℕ) → r < 16 → Stands live (value_at x.own.registers r) (register (state_of k x.seen.front) x.own.number r)
   pub registers : HoldsOld k x
