@@ -7,6 +7,7 @@ use Rattle.heap_model.specs.declared.entry.Entry.{Entry}
 use Rattle.heap_model.specs.declared.graph.Value as graph_value
 use Rattle.heap_model.specs.declared.graph.Value.TheVariants.{Int as IntOf, Block, Nothing as NothingOf}
 use Rattle.heap_model.specs.Domains.{class_count, register}
+use Rattle.heap_model.specs.Graph.{node_at}
 use Rattle.heap_words.specs.declared.value.Value.{Value}
 use Rattle.heap_words.specs.declared.value.Value.TheVariants.{Int, Ref, Nothing}
 use Rattle.heap_words.specs.Values.{IsPackable, value_word}
@@ -23,7 +24,7 @@ use Rattle.heap_rule.specs.Phases.{Pause, AtStage, Staged, IsInPause}
 use Rattle.heap_rule.specs.Changes.{value_at}
 use Rattle.heap_rule.specs.Copies.{Promoting, Resetting, IsOldValue}
 use Rattle.heap_rule.specs.Raw.{MayStep, MayStore, CanLeave, Closes}
-use Rattle.heap_rule.specs.Rule.{state_of, AllFound, Rule}
+use Rattle.heap_rule.specs.Rule.{state_of, Rule}
 use Rattle.heap_rule.specs.Token.{OwnFits}
 use Rattle.heap_rule.specs.Views.{one}
 use Rattle.steps_promote.specs.Promotion.{ResetMay, NoneYoung, reset_view, ResetTold, ResetSeen}
@@ -77,23 +78,29 @@ none_young k s r id hist x at resets =
     let settled : Settled live = ⊎_elim (λ (h : Settled live). h) (λ (h : Promoting r.account.pause). absurd (promote_rests r.account.pause h t)) r.whole.settled in
     let front : r.account.log ≡ x.seen.front = sym (g.still (subst IsInPause (sym resets) tt)) in record {
       live = live;
-      found = subst (λ (log : List Entry). AllFound k live (state_of k log).graph s.words) front r.whole.found;
-      settled = settled;
       pools = pools;
+      nodes = λ a p lives.
+          let f = r.whole.found a p lives in
+          let has : (i : ℕ) → HasValue p.owed i = (λ i. subst (λ (o : Option Debt). HasValue o i) (sym (settled a p lives).no_debt) tt) in
+          let n : ℕ = length (values_of f.node) in
+          let size : extent p.shape ≡ n + 2 = ap extent (sym f.shape) ∙ extent_of f.node in record {
+            node = f.node;
+            there = subst (λ (log : List Entry). node_at (state_of k log).graph p.label ≡ Some f.node) front f.there;
+            shape = f.shape;
+            label = f.label;
+            values = λ i v got. f.values i v (has i) got;
+            old = λ i below.
+                let z : ℕ = extent p.shape in let h : i + 2 < z = below in let y : z ≡ n + 2 = size in
+                let v = got_there (values_of f.node) i (let u : i < n = omega arith in u) in
+                let w = f.values i v.0 (has i) v.1 in
+                subst (IsOldWord k) (sym w.packs) (old_word k w.value (packable k r.limits live r.whole.placed w.value v.0 w.stands) (all_old k live w.value v.0 pools w.stands));
+          };
       places = λ q d c slot below few word inside taken.
           let holder = owner_is (r.account.tenancy.holder q) d c few (λ e b is. (r.whole.pools.owned_by q e b is).2) (sym (r.whole.pools.owners q below) ∙ word) in
           ⊎_elim (λ (free : at_address k s.words (place_in q c slot) ≡ 0). absurd (taken free))
           (λ z. ⊎_elim (λ (there : (p : Place) × (live (place_in q c slot) ≡ Some p)). there)
           (λ (prepared : r.account.tenancy.prepared (place_in q c slot) ≡ Some d). absurd (promote_rests r.account.pause (r.whole.drawers.prepared (place_in q c slot) d prepared).1 t)) z)
           (r.whole.grid.places q d c slot holder inside);
-      values = λ a p i lives below.
-          let f = r.whole.found a p lives in
-          let n : ℕ = length (values_of f.node) in
-          let size : extent p.shape ≡ n + 2 = ap extent (sym f.shape) ∙ extent_of f.node in
-          let z : ℕ = extent p.shape in let h : i + 2 < z = below in let y : z ≡ n + 2 = size in
-          let v = got_there (values_of f.node) i (let u : i < n = omega arith in u) in
-          let w = f.values i v.0 (subst (λ (o : Option Debt). HasValue o i) (sym (settled a p lives).no_debt) tt) v.1 in
-          subst (IsOldWord k) (sym w.packs) (old_word k w.value (packable k r.limits live r.whole.placed w.value v.0 w.stands) (all_old k live w.value v.0 pools w.stands));
       stands = λ q few. subst (λ (log : List Entry). Stands live (value_at x.own.registers q) (register (state_of k log) x.own.number q)) front (g.stood.each q few);
       registers = λ q few. all_old k live (value_at x.own.registers q) (register (state_of k r.account.log) x.own.number q) pools (g.stood.each q few);
     }

@@ -5,8 +5,8 @@ use Rattle.heap_model.specs.declared.graph.Value as model
 use Rattle.heap_model.specs.declared.graph.Node.{Node}
 use Rattle.heap_model.specs.declared.state.State as states
 use Rattle.heap_model.specs.Domains.{class_count, register}
-use Rattle.heap_model.specs.Graph.{node_at}
-use Rattle.heap_model.specs.Fronts.{Shape, PlainShape, RawShape, EpheShape}
+use Rattle.heap_model.specs.Graph.{Graph, node_at}
+use Rattle.heap_model.specs.Fronts.{Shape, PlainShape, RawShape, EpheShape, shape_of}
 use Rattle.heap_words.specs.declared.value.Value.{Value}
 use Rattle.heap_words.specs.declared.value.Value.TheVariants.{Ref}
 use Rattle.heap_words.specs.Values.{IsPackable, value_word}
@@ -23,11 +23,11 @@ use Rattle.heap_rule.specs.declared.view.DomainView.{DomainView}
 use Rattle.heap_rule.specs.declared.phase.Kind.TheVariants.{Promote, Reset}
 use Rattle.heap_rule.specs.declared.phase.Stage.TheVariants.{In}
 use Rattle.heap_rule.specs.Layout.{base_of, at_address, owner_of}
-use Rattle.heap_rule.specs.Places.{Place, Live, extent, values_of, unmarked, head_of, IsNewHead, IsBuilt, Fits, Stands, IsOldAt, IsOldWord, Lasts, More, Settled}
+use Rattle.heap_rule.specs.Places.{Place, Live, extent, values_of, unmarked, head_of, IsNewHead, IsBuilt, Fits, Stands, IsOldAt, IsOldWord, Lasts, More, WordStands}
 use Rattle.heap_rule.specs.Changes.{value_at}
 use Rattle.heap_rule.specs.Pools.{owned, owner_word, blocks_of, place_in}
 use Rattle.heap_rule.specs.Copies.{HasCopy, HoldsOld, known}
-use Rattle.heap_rule.specs.Rule.{state_of, AllFound}
+use Rattle.heap_rule.specs.Rule.{state_of}
 use Rattle.heap_rule.specs.Standing.{IsAt, IsInHeap, with_registers}
 use Rattle.heap_rule.specs.Token.{Holds}
 
@@ -248,14 +248,21 @@ pub record RewriteTold (at : ℕ) (x : DomainView) (new : ℕ) (y : DomainView) 
   pub first : x.seen.remembered ≡ at ∷ rest
   pub view : y ≡ recalling x rest
 
--- No young block is left. At the addresses at which blocks live, the words are the nodes of the graph after the domain's front, which is the whole history then. Each of these blocks lies in a pool, and at each place of a pool that a domain owns one of them lives, or the head says Free. None of their values, and no register of the domain, is an address of a minor area, and what they lead to lives too
+-- the words at an address are the node of the block that lives there. Each value's word stands for the value of the node, so what it leads to lives too, and none is an address of a minor area
+pub record HasNode (k : Config) (live : Live) (graph : Graph) (words : List ℕ) (a : ℕ) (p : Place) : Type 0 where
+  pub node : Node
+  pub there : node_at graph p.label ≡ Some node
+  pub shape : shape_of node ≡ p.shape
+  pub label : at_address k words (a + 1) ≡ label_word p.label.domain p.label.serial
+  pub values : (i : ℕ) (v : model.Value) → slice_get (values_of node) i ≡ Some v → WordStands live (at_address k words (a + 2 + i)) v
+  pub old : (i : ℕ) → i + 2 < extent p.shape → IsOldWord k (at_address k words (a + 2 + i))
+
+-- No young block is left. Each block that lives at an address lies in a pool, and is a node of the graph after the domain's front, which is the whole history then. At each place of a pool that a domain owns a block lives, or the head says Free. What the domain's registers lead to lives, and no field of a block and no register of the domain has an address of a minor area
 pub record NoneYoung (k : Config) (x : DomainView) (words : List ℕ) : Type 0 where
   pub live : Live
-  pub found : AllFound k live (state_of k x.seen.front).graph words
-  pub settled : Settled live
   pub pools : (a : ℕ) (p : Place) → live a ≡ Some p → IsOldAt k a
+  pub nodes : (a : ℕ) (p : Place) → live a ≡ Some p → HasNode k live (state_of k x.seen.front).graph words a p
   pub places : (pool d class slot : ℕ) → pool < k.pools → class < class_count → owner_of k words pool ≡ owner_word (owned d class) → slot < blocks_of class → at_address k words (place_in pool class slot) ≢ 0 → (p : Place) × (live (place_in pool class slot) ≡ Some p)
-  pub values : (a : ℕ) (p : Place) (i : ℕ) → live a ≡ Some p → i + 2 < extent p.shape → IsOldWord k (at_address k words (a + 2 + i))
   pub stands : (r : ℕ) → r < 16 → Stands live (value_at x.own.registers r) (register (state_of k x.seen.front) x.own.number r)
   pub registers : HoldsOld k x
 
