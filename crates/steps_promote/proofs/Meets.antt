@@ -1,5 +1,5 @@
 -- Loads at which a domain that copies meets blocks.
-use Rattle.std.proofs.Common.{◌≡◌, ◌≢◌, ℕ, ◌+◌, ◌*◌, ◌<◌, ◌≤◌, cond, eq-eqb, ne_eqb, Bool, false, List, ◌∷◌, length, get_or, set, slice_get, Option, Some, None, sym, refl, ap, ◌∙◌, subst, inl, inr, ⊎_elim, arith}
+use Rattle.std.proofs.Common.{◌≡◌, ◌≢◌, ℕ, ◌+◌, ◌*◌, ◌<◌, ◌≤◌, cond, eq-eqb, ne_eqb, Bool, List, ◌∷◌, length, get_or, set, slice_get, Option, Some, None, sym, refl, ap, ◌∙◌, subst, inl, inr, ⊎_elim, arith}
 use mathlib.Core.Logic.{dite}
 use native.Mathlib.Decide.{ℕ_discrete}
 use mathlib.Core.Option.{some}
@@ -14,21 +14,24 @@ use Rattle.heap_model.specs.Graph.{node_at}
 use Rattle.heap_model.specs.Fronts.{Shape, PlainShape, RawShape, EpheShape}
 use Rattle.heap_words.specs.declared.value.Value.{Value}
 use Rattle.heap_words.specs.declared.value.Value.TheVariants.{Int as IntWord, Ref, Nothing as NothingWord}
+use Rattle.heap_words.specs.declared.head.Head.TheVariants.{Forward}
+use Rattle.heap_words.specs.Heads.{head_word}
 use Rattle.heap_words.specs.Labels.{label_word}
 use Rattle.heap_rule.specs.declared.config.Config.{Config}
+use Rattle.heap_rule.specs.declared.view.Copied.{Copied}
 use Rattle.heap_rule.specs.declared.view.Met.{Met}
 use Rattle.heap_rule.specs.declared.view.DomainView.{DomainView}
 use Rattle.heap_rule.specs.declared.phase.Kind.TheVariants.{Promote}
 use Rattle.heap_rule.specs.declared.phase.Stage.TheVariants.{In}
 use Rattle.heap_rule.specs.Layout.{heap_words, before_heap, at_address}
-use Rattle.heap_rule.specs.Places.{Debt, Place, Live, extent, values_of, unmarked, HeadIs, HasValue, IsBuilt, Stands, Lasts, More}
+use Rattle.heap_rule.specs.Places.{Debt, Place, Live, extent, values_of, HeadIs, colour_in, HasValue, IsBuilt, Stands, Lasts, More}
 use Rattle.heap_rule.specs.Phases.{IsInPause}
-use Rattle.heap_rule.specs.Copies.{met_place, shape_of_form, known}
+use Rattle.heap_rule.specs.Copies.{ListsCopy, HasCopy, IsCopied, met_place, shape_of_form, known}
 use Rattle.heap_rule.specs.Raw.{MayStep}
 use Rattle.heap_rule.specs.Rule.{state_of, Rule}
 use Rattle.heap_rule.specs.Views.{one}
 use Rattle.heap_rule.specs.Standing.{IsAt}
-use Rattle.steps_promote.specs.Promotion.{form_of, met_of, with_met, meeting, Knows, HeadMay, StaysThere, Forwards, HeadMet, LabelMay, LabelMet, HasValueAt, ValueMay, ValueMet, RecallMay, Recalled}
+use Rattle.steps_promote.specs.Promotion.{form_of, met_of, with_met, meeting, with_copied, learning, Knows, HeadMay, StaysThere, Forwards, HeadMet, LabelMay, LabelMet, HasValueAt, ValueMay, ValueMet, RecallMay, Recalled}
 use Rattle.heap_rule.proofs.Again.{met_fits}
 use Rattle.heap_rule.proofs.Beside.{extent_of}
 use Rattle.heap_rule.proofs.Blocks.{lives_at}
@@ -36,8 +39,10 @@ use Rattle.heap_rule.proofs.Values.{address_of, packable}
 use Rattle.heap_rule.proofs.Lists.{got_there}
 use Rattle.heap_rule.proofs.Drops.{debt_cases}
 use Rattle.heap_rule.proofs.Lots.{number_cases}
-use Rattle.heap_rule.proofs.Keeps.{Words, my_good, control_same, hunter_as, unmoved, more_same, stands_more}
+use Rattle.heap_rule.proofs.Keeps.{Words, my_good, control_same, hunter_as, unmoved, more_same, stands_more, between_here}
 use Rattle.steps_promote.proofs.Remaking.{promotes_again, stood_same}
+use Rattle.heap_rule.proofs.HeadLemmas.{packable_head, colour_small}
+use Rattle.heap_words.specs.declared.colours.Colours.{Colours}
 
 pub form_shape : (s : Shape) → IsBuilt s → shape_of_form (form_of s) ≡ s
 form_shape (PlainShape size tag) built = refl
@@ -93,13 +98,16 @@ module _ (k : Config) (s : Words) (r : Rule k s) (id : ℕ) (hist : List Entry) 
   knows : More (Knows x) live
   knows = (my_good k s r id hist x at).owes.knows
 
-  -- a load at which blocks are met
-  pub meets_rule : (met : List Met) → More (known met) live → Rule k record { words = s.words; homes = s.homes; views = set s.views id (one k hist (with_met x met)) }
-  meets_rule met more =
+  -- a load at which blocks are met, and copies of blocks
+  pub meets_copies : (met : List Met) (copied : List Copied) → More (known met) live → ((a c : ℕ) → ListsCopy copied a c → IsCopied live a c) → Rule k record { words = s.words; homes = s.homes; views = set s.views id (one k hist (with_copied (with_met x met) copied)) }
+  meets_copies met copied more lists =
       let g = my_good k s r id hist x at in
-      let y : DomainView = with_met x met in
+      let y : DomainView = with_copied (with_met x met) copied in
       let o = g.owes in
-      promotes_again k s r id hist x at promotes y s.words live r.account.tenancy record {
+      promotes_again k s r id hist x at promotes y s.words live r.account.tenancy r.account.homes record {
+        share = refl;
+        full = r.whole.full;
+        garbage = λ a. refl;
         number = refl;
         arrivals = refl;
         stage = refl;
@@ -126,6 +134,7 @@ module _ (k : Config) (s : Words) (r : Rule k s) (id : ℕ) (hist : List Entry) 
         owes = record {
           quiet = inr promotes;
           knows = more;
+          copied = lists;
           owed = λ i w got. let t = o.owed i w got in record { place = t.place; lives = t.lives; debt = t.debt };
           once = o.once;
           listed = o.listed;
@@ -137,6 +146,13 @@ module _ (k : Config) (s : Words) (r : Rule k s) (id : ℕ) (hist : List Entry) 
         hunters = λ z _ h. h;
         owe = λ z _ w. w;
       }
+
+  pub meets_rule : (met : List Met) → More (known met) live → Rule k record { words = s.words; homes = s.homes; views = set s.views id (one k hist (with_met x met)) }
+  meets_rule met more = meets_copies met x.seen.copying.copied more (my_good k s r id hist x at).owes.copied
+
+  -- where a copy is known, the head forwards to it
+  forwards_to : (a c : ℕ) → HasCopy x a c → at_address k s.words a ≡ head_word (Forward c)
+  forwards_to a c has = let u = (my_good k s r id hist x at).owes.copied a c has in subst (λ (o : Option ℕ). HeadIs o u.place.shape unmarked false (at_address k s.words a)) u.forwards (r.whole.found a u.place u.lives).head
 
   -- what lives at the address of a head load
   source : (a : ℕ) → HeadMay x a → (p : Place) × (live a ≡ Some p)
@@ -173,7 +189,19 @@ module _ (k : Config) (s : Words) (r : Rule k s) (id : ℕ) (hist : List Entry) 
           here = known_met a p ms (built a p lives);
           more = grows1;
           fit = met_fits k (known (m ∷ ms)) live more1 r.whole.placed;
-          told = inl record { head = subst (λ (o : Option ℕ). HeadIs o p.shape unmarked false (at_address k s.words a)) none f.head; view = refl };
+          told = let paint = r.account.cycling.paint in let colour : ℕ = colour_in paint p.label in
+              let bare : HeadIs None p.shape colour f.head.scanned (at_address k s.words a) = subst (λ (o : Option ℕ). HeadIs o p.shape colour f.head.scanned (at_address k s.words a)) none f.head.packs in inl record {
+            head = record { colour = colour; scanned = f.head.scanned; packable = packable_head p.shape colour f.head.scanned (colour_small paint p.label r.whole.cycle.meanings) packs; packs = bare };
+            new = λ young c known. let means : c ≡ paint.colours = (my_good k s r id hist x at).sharing.telling.colours c known in record {
+              colours = c;
+              known_is = known;
+              fits = subst (λ (z : Colours). z.unmarked < 3) (sym means) r.whole.cycle.meanings.unmarked_fits;
+              packs = subst (λ (m : ℕ × Bool). HeadIs None p.shape m.0 m.1 (at_address k s.words a))
+                  (λ i. ((ap (λ (b : Bool). cond b paint.colours.marked paint.colours.unmarked) ((between_here k s r id hist x at Promote tt promotes).unmarked p.label) ∙ ap (λ (z : Colours). z.unmarked) (sym means)) i, f.blank young i)) bare;
+            };
+            view = refl;
+          };
+          once = forwards_to a;
         };
       })
       (λ (t : (c : ℕ) × (p.forward ≡ Some c)).
@@ -183,8 +211,11 @@ module _ (k : Config) (s : Words) (r : Rule k s) (id : ℕ) (hist : List Entry) 
       let its : Lasts live c (met_place n) = record { place = l.place; lives = l.lives; label = l.label; shape = l.shape ∙ sym (form_shape p.shape (built a p lives)) } in
       let fits = address_of k c l.place (r.whole.placed.fits c l.place l.lives) in
       record {
-        after = meeting (meeting x m) n;
-        rule = meets_rule (n ∷ m ∷ ms) (knows_more live n (m ∷ ms) more1 its);
+        after = learning (meeting (meeting x m) n) a c;
+        rule = meets_copies (n ∷ m ∷ ms) (record { copy = c; source = a } ∷ x.seen.copying.copied) (knows_more live n (m ∷ ms) more1 its)
+            (λ b d. ⊎_elim
+            (λ (h : (a ≡ b) × (c ≡ d)). record { place = p; lives = ap live (sym h.0) ∙ lives; forwards = t.1 ∙ ap Some h.1 })
+            (λ (h : HasCopy x b d). (my_good k s r id hist x at).owes.copied b d h));
         told = record {
           place = p;
           built = built a p lives;
@@ -194,13 +225,14 @@ module _ (k : Config) (s : Words) (r : Rule k s) (id : ℕ) (hist : List Entry) 
           fit = met_fits k (known (n ∷ m ∷ ms)) live (knows_more live n (m ∷ ms) more1 its) r.whole.placed;
           told = inr record {
             copy = c;
-            word = subst (λ (o : Option ℕ). HeadIs o p.shape unmarked false (at_address k s.words a)) t.1 f.head;
+            word = subst (λ (o : Option ℕ). HeadIs o p.shape (colour_in r.account.cycling.paint p.label) f.head.scanned (at_address k s.words a)) t.1 f.head.packs;
             young = l.young;
             old = l.old;
             inside = (fits.0, let w : ℕ = heap_words k in let h : c + 2 ≤ w = fits.1 in let e : c ≤ w = omega arith in e);
             view = refl;
             there = known_met c p (m ∷ ms) (built a p lives);
           };
+          once = forwards_to a;
         };
       })
       (number_cases p.forward)
@@ -356,7 +388,7 @@ label_may k x word a b place may fits slots id hist s r _ at _ =
 
 -- what they tell leaves the plain data
 pub head_met_own : (k : Config) (a : ℕ) (x : DomainView) (found : ℕ) (y : DomainView) → HeadMet k a x found y → y.own ≡ x.own
-head_met_own k a x found y told = ⊎_elim (λ (t : StaysThere a told.place x found y). ap (λ (z : DomainView). z.own) t.view) (λ (t : Forwards k a told.place x found y). ap (λ (z : DomainView). z.own) t.view) told.told
+head_met_own k a x found y told = ⊎_elim (λ (t : StaysThere k a told.place x found y). ap (λ (z : DomainView). z.own) t.view) (λ (t : Forwards k a told.place x found y). ap (λ (z : DomainView). z.own) t.view) told.told
 
 pub head_met_front : (k : Config) (a : ℕ) (x : DomainView) (found : ℕ) (y : DomainView) → HeadMet k a x found y → y.seen.front ≡ x.seen.front
-head_met_front k a x found y told = ⊎_elim (λ (t : StaysThere a told.place x found y). ap (λ (z : DomainView). z.seen.front) t.view) (λ (t : Forwards k a told.place x found y). ap (λ (z : DomainView). z.seen.front) t.view) told.told
+head_met_front k a x found y told = ⊎_elim (λ (t : StaysThere k a told.place x found y). ap (λ (z : DomainView). z.seen.front) t.view) (λ (t : Forwards k a told.place x found y). ap (λ (z : DomainView). z.seen.front) t.view) told.told

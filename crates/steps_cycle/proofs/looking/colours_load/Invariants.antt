@@ -1,0 +1,5 @@
+use Rattle.steps_cycle.specs.Looks.{ColoursTold}
+use Rattle.steps_cycle.proofs.looking.colours_load.Given as goal
+
+abbrev pub ghosts-raw_load : goal.ghosts-raw_load
+ghosts-raw_load a = record { tells = ColoursTold }

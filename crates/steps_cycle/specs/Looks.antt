@@ -1,0 +1,26 @@
+-- What a load of the colours asks and tells.
+use Rattle.std.specs.Prelude.{◌≡◌, ℕ, Some}
+use Rattle.heap_words.specs.declared.colours.Colours.{Colours}
+use Rattle.heap_words.specs.ColourWords.{IsPermutation, colours_word}
+use Rattle.heap_rule.specs.declared.phase.Stage.{Stage}
+use Rattle.heap_rule.specs.declared.phase.Stage.TheVariants.{In, Leads, Led, Gone}
+use Rattle.heap_rule.specs.declared.view.DomainView.{DomainView}
+use Rattle.heap_rule.specs.declared.view.Share.{Share}
+
+-- the domain with other knowledge of the phase
+abbrev pub with_share : DomainView → Share → DomainView
+with_share x share = record x { seen = record x.seen { share = share } }
+
+-- who may look at the colours: a domain that acts in an even phase, and domain 0 in an odd one
+abbrev pub MayLook : ℕ → Stage → Type 0
+MayLook d (In kind) = Unit {0}
+MayLook d (Leads kind) = d ≡ 0
+MayLook d (Led kind) = d ≡ 0
+MayLook d (Gone kind) = ⊥
+
+-- the word has the meanings of the colours
+pub record ColoursTold (x : DomainView) (found : ℕ) (y : DomainView) : Type 0 where
+  pub colours : Colours
+  pub meanings : IsPermutation colours
+  pub word : found ≡ colours_word colours
+  pub view : y ≡ with_share x (record x.seen.share { colours = Some colours })

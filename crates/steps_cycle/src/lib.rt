@@ -1,0 +1,7 @@
+//! The step calls of a collection of the major heap: each makes one step on the words by which
+//! blocks are marked. docs/RULE.md says how to add one.
+#![tactic(auto)]
+
+mod looking;
+
+pub use looking::colours_load;
