@@ -1,6 +1,8 @@
 pub mod Plain
 pub mod PlainHistories
+mod Layouts
 mod Arriving
+mod Finishing
 mod Naming
 mod Arrivals
 pub mod PauseSteps

@@ -1,11 +1,11 @@
 -- What the steps of a pause ask and tell.
-use Rattle.std.specs.Prelude.{◌≡◌, ◌≢◌, ℕ, ◌+◌, ◌*◌, ◌^◌, ◌<◌, ◌≤◌, ◌⊎◌, true, List, [], ◌∷◌, ◌++◌, length, Some, None}
+use Rattle.std.specs.Prelude.{◌≡◌, ◌≢◌, ℕ, ◌+◌, ◌*◌, ◌^◌, ◌<◌, ◌≤◌, ◌⊎◌, true, List, [], ◌∷◌, ◌++◌, length, Some, None, IsTrue, false, ◌==◌}
 use Rattle.heap_model.specs.Domains.{class_count}
 use Rattle.heap_model.specs.declared.entry.Entry.TheVariants.{End}
 use Rattle.heap_model.specs.declared.reply.Applied.TheVariants.{Silent}
 use Rattle.heap_model.specs.History.{Legal}
 use Rattle.heap_model.specs.Fronts.{IsFrontOf}
-use Rattle.heap_words.specs.declared.value.Value.TheVariants.{Nothing}
+use Rattle.heap_words.specs.declared.value.Value.TheVariants.{Nothing, Ref}
 use Rattle.heap_rule.specs.declared.change.Change.{Change}
 use Rattle.heap_rule.specs.declared.change.Change.TheVariants.{Clear}
 use Rattle.heap_rule.specs.declared.change.Part.TheVariants.{Register}
@@ -26,9 +26,11 @@ use Rattle.heap_rule.specs.Phases.{code, Follows, Comes, IsEven, IsOdd, last_not
 use Rattle.heap_rule.specs.Pools.{prepared_at}
 use Rattle.heap_rule.specs.Copies.{nothing_copied, HoldsOld}
 use Rattle.heap_rule.specs.Standing.{Entered}
-use Rattle.heap_rule.specs.declared.phase.Kind.TheVariants.{Run, Promote, Reset}
+use Rattle.heap_rule.specs.declared.phase.Kind.TheVariants.{Run, Promote, Reset, Roots, Mark, Rounds, Clean, Sweep}
 use Rattle.heap_rule.specs.Cycles.{HasNoCycle}
 use Rattle.heap_rule.specs.Views.{fresh_share}
+use Rattle.std.specs.List.{list_any}
+use Rattle.heap_rule.specs.Changes.{value_at}
 
 -- the domain with one note more, and all else as it was
 abbrev pub noted : DomainView → Note → DomainView
@@ -60,10 +62,20 @@ ArrivesFrom d (Leads kind) = d ≢ 0
 ArrivesFrom d (Led kind) = Unit {0}
 ArrivesFrom d (Gone kind) = ⊥
 
--- what a domain has done of a phase in which it arrives. From those of a collection of the major heap nobody arrives yet
-abbrev pub HasDone : Config → DomainView → Stage → Type 0
-HasDone k x (In kind) = HasNoCycle kind
-HasDone k x _ = Unit {0}
+-- a domain that arrives from here has looked at own places, and may have darkened a block
+abbrev pub Traces : Stage → Type 0
+Traces stage = (stage ≡ In Mark) ⊎ ((stage ≡ In Rounds) ⊎ (stage ≡ In Clean))
+
+-- What a domain has done of a phase of a collection in which it arrives. Of a phase without one, and of those in which finalisers are queued or answers given, nothing is asked: no finaliser is registered, and no ephemeron made, yet
+pub record HasDone (k : Config) (x : DomainView) : Type 0 where
+  -- it has marked what its registers hold
+  pub rooted : x.seen.stage ≡ In Roots → (r a : ℕ) → r < 16 → value_at x.own.registers r ≡ Ref a → IsTrue (list_any (λ q. q == r) x.seen.share.roots)
+  -- it owes no store of the changed word
+  pub told : Traces x.seen.stage → x.seen.share.owes ≡ false
+  -- it has been at each own place
+  pub walked : (x.seen.stage ≡ In Mark) ⊎ (x.seen.stage ≡ In Sweep) → k.pools ≤ x.seen.share.walk.pool
+  -- it has added what it has counted
+  pub added : x.seen.stage ≡ In Sweep → (x.seen.share.added_blocks ≡ true) × (x.seen.share.added_words ≡ true)
 
 -- A domain arrives while it takes no block and makes none. Where it leaves Promote it owes no copy a value, has looked through all its remembered fields, holds no address of a minor area and has no place prepared. Where it leaves Reset its minor area is empty
 pub record ArriveMay (k : Config) (x : DomainView) : Type 0 where
@@ -76,7 +88,7 @@ pub record ArriveMay (k : Config) (x : DomainView) : Type 0 where
   pub holds_old : x.seen.stage ≡ In Promote → HoldsOld k x
   pub unprepared : x.seen.stage ≡ In Promote → (c : ℕ) → c < class_count → prepared_at x.own.prepared c ≡ None
   pub emptied : x.seen.stage ≡ In Reset → x.own.used ≡ 0
-  pub done : HasDone k x x.seen.stage
+  pub done : HasDone k x
 
 -- a list that has forgotten its items, and has room for as many more
 abbrev pub forgotten : Bounded Copied → Bounded Copied
