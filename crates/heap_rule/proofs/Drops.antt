@@ -33,7 +33,7 @@ use Rattle.heap_rule.proofs.Beside.{extent_of}
 use Rattle.heap_rule.proofs.Classes.{slot_inside, size_least}
 use Rattle.heap_rule.proofs.Lists.{got_below}
 use Rattle.heap_rule.proofs.Keeps.{Words, my_good, remakes, knows_front, room_unused, copies_settled, no_owing, nothing_known, no_copied}
-use Rattle.heap_rule.proofs.Controls.{Move, Untouched, found_untouched, making_untouched, pools_untouched, grid_untouched, hunter_untouched, resting_untouched, low_untouched, pools_stock, grid_stock, moved_to, cycle_untouched}
+use Rattle.heap_rule.proofs.Controls.{Move, Untouched, found_untouched, making_untouched, pools_untouched, grid_untouched, hunter_untouched, resting_untouched, low_untouched, pools_stock, grid_stock, moved_to}
 use Rattle.heap_rule.specs.Cycles.{Cycling, Cycled}
 use Rattle.heap_rule.proofs.FullnessLemmas.{full_back, full_kind}
 use Rattle.heap_rule.specs.declared.phase.Kind.{Kind}

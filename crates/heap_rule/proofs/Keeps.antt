@@ -1,7 +1,7 @@
 -- What all kinds of step share: what a domain knows at its seat, and that the rule holds again where the whole, the own domain and each other one meet it.
 use Rattle.std.proofs.lemmas.Option.{slice_get_within}
 use Rattle.heap_rule.specs.declared.phase.Kind.{Kind}
-use Rattle.std.proofs.Common.{zero-le, slice_get, inl, inr, ⊎_elim, None, ◌≡◌, ◌≢◌, ℕ, zero, suc, ◌+◌, ◌*◌, ◌<◌, ◌≤◌, false, List, [], ◌∷◌, ◌++◌, length, get_or, set, Some, sym, refl, ap, ◌∙◌, subst, arith, length-set, get_or-set_other, append_assoc, ◌⊎◌, Option, true, IsTrue, Bool}
+use Rattle.std.proofs.Common.{zero-le, slice_get, inl, inr, ⊎_elim, None, ◌≡◌, ◌≢◌, ℕ, zero, suc, ◌+◌, ◌*◌, ◌<◌, ◌≤◌, false, List, [], ◌∷◌, ◌++◌, length, get_or, set, Some, sym, refl, ap, ◌∙◌, subst, arith, length-set, get_or-set_other, append_assoc, ◌⊎◌, Option, true, IsTrue}
 use mathlib.Core.Logic.{dite}
 use native.Mathlib.Decide.{ℕ_discrete}
 use mathlib.Core.Option.{some}
@@ -34,7 +34,7 @@ use Rattle.heap_rule.specs.Layout.{before_heap, barrier, plan, ended_word, liste
 use Rattle.heap_rule.specs.declared.view.Copying.{Copying}
 use Rattle.heap_rule.specs.declared.view.Owing.{Owing}
 use Rattle.heap_rule.specs.Places.{Debt, Place, Live, Stands, Placed, Spread, Settled, More, extent}
-use Rattle.heap_rule.specs.Copies.{nothing_copied, known, Owes, IsField, Recalls, Copies, Promoting, IsOldValue, Rooted, ListsCopy, Resetting}
+use Rattle.heap_rule.specs.Copies.{nothing_copied, known, Owes, IsField, Recalls, Copies, Promoting, IsOldValue, Rooted, ListsCopy}
 use Rattle.heap_rule.specs.Changes.{value_at}
 use Rattle.heap_rule.specs.Views.{EachView, AllDomains, IsSeated, Knows, one}
 use Rattle.heap_rule.specs.declared.phase.Kind.TheVariants.{Run, Promote}

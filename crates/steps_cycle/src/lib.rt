@@ -2,6 +2,8 @@
 //! blocks are marked. docs/RULE.md says how to add one.
 #![tactic(auto)]
 
+mod colours;
 mod looking;
 
+pub use colours::colours_now;
 pub use looking::colours_load;
