@@ -33,7 +33,7 @@ use Rattle.heap_rule.proofs.PauseFacts.{not_both}
 use Rattle.heap_rule.proofs.Sharings.{SameCycle}
 use Rattle.heap_rule.specs.Cycles.{Cycling, Told, HasNoCycle, owner_at}
 use Rattle.heap_rule.specs.Layout.{at_address}
-use Rattle.heap_rule.specs.Views.{fresh_share}
+use Rattle.heap_rule.specs.Views.{voided}
 use Rattle.heap_rule.proofs.Controls.{cycle_untouched, heap_untouched}
 use Rattle.steps_pauses.proofs.Arriving.{arrived_cycle, told_arrived, told_turned, cycle_gone, cycle_dropped, sharing_gone, sharing_else, sharing_between}
 use Rattle.steps_pauses.specs.Pauses.{kind_in, ArrivesFrom, ArriveMay, forgotten, arrived_view, Arrived}
@@ -183,7 +183,7 @@ module _ (k : Config) (s : Words) (r : Rule k s) (id : ℕ) (hist : List Entry) 
     free = None;
     listing = None;
     copying = nothing_copied;
-    share = fresh_share;
+    share = voided x.seen.share;
   }
 
   abbrev y : DomainView

@@ -19,7 +19,7 @@ use Rattle.heap_rule.specs.Phases.{Pause, AtStage, flag}
 use Rattle.heap_rule.specs.Places.{Live}
 use Rattle.heap_rule.specs.Pools.{Stock, Tenancy, Holder}
 use Rattle.heap_rule.specs.Rule.{Account, Good, Sharing, state_of}
-use Rattle.heap_rule.specs.Views.{fresh_share}
+use Rattle.heap_rule.specs.Views.{voided}
 use Rattle.heap_rule.proofs.Sharings.{SameCycle, facts_between, between_facts, facts_words, leading_words, idle_beside, adds_nothing, cycle_between, knows_words}
 use Rattle.steps_pauses.specs.Pauses.{ArrivesFrom}
 
@@ -79,24 +79,24 @@ adds_else (Led kind) holder live c d z share other a = a
 adds_else (Gone kind) holder live c d z share other a = a
 
 leading_gone : (st : Stage) (holder : ℕ → Holder) (c : Cycling) (words : List ℕ) (d z : ℕ) (stage : Stage) (share : Share) → Leading c words z stage share → Leading (arrived_cycle st holder c d) words z stage share
-leading_gone (In kind) holder c words d z stage share l = record { changed = l.changed; found_blocks = l.found_blocks; found_words = l.found_words; rotated = l.rotated; turned = l.turned }
+leading_gone (In kind) holder c words d z stage share l = record { changed = l.changed; found_blocks = l.found_blocks; found_words = l.found_words; rotated = l.rotated; turned = l.turned; pass = l.pass }
 leading_gone (Leads kind) holder c words d z stage share l = l
 leading_gone (Led kind) holder c words d z stage share l = l
 leading_gone (Gone kind) holder c words d z stage share l = l
 
 module _ (k : Config) (t : Pause) (kind : Kind) (owner : ℕ → Option ℕ) (means : Colours) (w : Shares) (d arrivals : ℕ) (told : Told k t kind w) (below : d < k.domains) where
   -- in an odd phase the domain has either arrived in the one before, or has done nothing in the next
-  odd_telling : (j : ℕ) → t.phase ≡ j * 2 + 1 → Telling means w d fresh_share
-  odd_telling j odd = ⊎_elim
+  odd_telling : (share : Share) (j : ℕ) → t.phase ≡ j * 2 + 1 → Telling means w d (voided share)
+  odd_telling share j odd = ⊎_elim
       (λ (e : t.led ≡ true). let start = (told.led j odd e).1 d in record { owes = λ _. start.paid; seen = λ _. start.blind; fresh = λ _. refl; forgotten = λ _ _. refl; colours = λ c f. cc })
       (λ (e : t.led ≡ false). let gone : w.arrived d ≡ true = (told.odd j odd e).1 d below in record { owes = λ f. absurd (clash (w.arrived d) gone f); seen = λ f. absurd (clash (w.arrived d) gone f); fresh = λ _. refl; forgotten = λ _ _. refl; colours = λ c f. cc })
       (either_bool t.led)
 
-  pub telling_gone : (st : Stage) → ArrivesFrom d st → AtStage t d arrivals st → Telling means (arrived_in st owner w d) d fresh_share
-  telling_gone (In kd) from at = let gone : (arrives w d).arrived d ≡ true = at_same w.arrived d true in record { owes = λ f. absurd (clash ((arrives w d).arrived d) gone f); seen = λ f. absurd (clash ((arrives w d).arrived d) gone f); fresh = λ _. refl; forgotten = λ _ _. refl; colours = λ c f. cc }
-  telling_gone (Leads kd) from at = odd_telling at.1.0 at.1.1
-  telling_gone (Led kd) from at = odd_telling at.1.0 at.1.1
-  telling_gone (Gone kd) from at = absurd from
+  pub telling_gone : (share : Share) (st : Stage) → ArrivesFrom d st → AtStage t d arrivals st → Telling means (arrived_in st owner w d) d (voided share)
+  telling_gone share (In kd) from at = let gone : (arrives w d).arrived d ≡ true = at_same w.arrived d true in record { owes = λ f. absurd (clash ((arrives w d).arrived d) gone f); seen = λ f. absurd (clash ((arrives w d).arrived d) gone f); fresh = λ _. refl; forgotten = λ _ _. refl; colours = λ c f. cc }
+  telling_gone share (Leads kd) from at = odd_telling share at.1.0 at.1.1
+  telling_gone share (Led kd) from at = odd_telling share at.1.0 at.1.1
+  telling_gone share (Gone kd) from at = absurd from
 
   module _ (arrived' : ℕ → ℕ) (up : arrived' d ≡ t.phase + 1) (else_is : (j : ℕ) → j ≢ d → arrived' j ≡ t.arrived j) where
     even_not_odd : (i j : ℕ) → t.phase ≡ i * 2 → t.phase ≡ j * 2 + 1 → ⊥
@@ -172,8 +172,8 @@ facts_stock Decide k s live t stock c words f = f
 facts_stock Queued k s live t stock c words f = f
 facts_stock Clean k s live t stock c words f = f
 facts_stock Lasts k s live t stock c words f = record { facts = f.facts; unchanged = f.unchanged; stays = f.stays; turned = λ is. let r = f.turned is in record { all_marked = r.all_marked; unmarked = r.unmarked; owned = r.owned } }
-facts_stock Sweep k s live t stock c words f = record { swept = f.swept; sweep = f.sweep; all_counted = f.all_counted }
-facts_stock Answer k s live t stock c words f = record { swept = f.swept; clean = f.clean; all_counted = f.all_counted }
+facts_stock Sweep k s live t stock c words f = record { mode = f.mode; swept = f.swept; sweep = f.sweep; all_counted = f.all_counted }
+facts_stock Answer k s live t stock c words f = record { swept = f.swept; clean = f.clean; all_counted = f.all_counted; held = f.held }
 
 -- all that the rule says of the collection holds where the facts do
 pub cycle_gone : (st : Stage) (holder : ℕ → Holder) (k : Config) (s : model.State) (live : Live) (p p' : Pause) (t : Tenancy) (stock : Stock) (c : Cycling) (words words' : List ℕ) (d : ℕ) → SameCycle words words' → ((a : ℕ) → at_address k words' a ≡ at_address k words a)
@@ -193,34 +193,35 @@ idle_odd : (st : Stage) (share : Share) (Known : Type 0) → (IsCollecting st �
 idle_odd st share Known odd n = ⊎_elim (λ (h : IsIdle share). h) (λ (h : IsCollecting st × Known). absurd (odd h.0)) n
 
 -- who has arrived has nothing to add
-nothing_more : (live : Live) (c : Cycling) (d : ℕ) → ((c.kind ≡ Sweep) → c.shares.arrived d ≡ false → (c.counts.blocks d ≡ false) × (c.counts.words d ≡ false)) → Adds live c d fresh_share
-nothing_more live c d none = record { blocks = λ e f. (none e f).0; words = λ e f. (none e f).1; own = λ e f g. cc }
+nothing_more : (live : Live) (c : Cycling) (d : ℕ) (share : Share) → ((c.kind ≡ Sweep) → c.shares.arrived d ≡ false → (c.counts.blocks d ≡ false) × (c.counts.words d ≡ false)) → Adds live c d (voided share)
+nothing_more live c d share none = record { blocks = λ e f. (none e f).0; words = λ e f. (none e f).1; own = λ e f g. cc }
 
-idle_adds : (live : Live) (c : Cycling) (d : ℕ) (share : Share) → IsIdle share → Adds live c d share → Adds live c d fresh_share
-idle_adds live c d share idle a = nothing_more live c d (λ e f. (a.blocks e f ∙ ap (λ (z : Share). z.added_blocks) idle, a.words e f ∙ ap (λ (z : Share). z.added_words) idle))
+idle_adds : (live : Live) (c : Cycling) (d : ℕ) (share : Share) → IsIdle share → Adds live c d share → Adds live c d (voided share)
+idle_adds live c d share idle a = nothing_more live c d share (λ e f. (a.blocks e f ∙ ap (λ (z : Share). z.added_blocks) idle, a.words e f ∙ ap (λ (z : Share). z.added_words) idle))
 
-adds_gone : (st : Stage) (holder : ℕ → Holder) (live : Live) (c : Cycling) (d : ℕ) (share : Share) (Known : Type 0) → IsIdle share ⊎ (IsCollecting st × Known) → Adds live c d share → Adds live (arrived_cycle st holder c d) d fresh_share
-adds_gone (In kind) holder live c d share Known n a = nothing_more live (arrived_cycle (In kind) holder c d) d (λ e f. absurd (clash ((arrives c.shares d).arrived d) (at_same c.shares.arrived d true) f))
+adds_gone : (st : Stage) (holder : ℕ → Holder) (live : Live) (c : Cycling) (d : ℕ) (share : Share) (Known : Type 0) → IsIdle share ⊎ (IsCollecting st × Known) → Adds live c d share → Adds live (arrived_cycle st holder c d) d (voided share)
+adds_gone (In kind) holder live c d share Known n a = nothing_more live (arrived_cycle (In kind) holder c d) d share (λ e f. absurd (clash ((arrives c.shares d).arrived d) (at_same c.shares.arrived d true) f))
 adds_gone (Leads kind) holder live c d share Known n a = idle_adds live c d share (idle_odd (Leads kind) share Known (λ l. l) n) a
 adds_gone (Led kind) holder live c d share Known n a = idle_adds live c d share (idle_odd (Led kind) share Known (λ l. l) n) a
 adds_gone (Gone kind) holder live c d share Known n a = idle_adds live c d share (idle_odd (Gone kind) share Known (λ l. l) n) a
 
 -- nor has it loaded a control word
-leading_fresh : (st stage : Stage) (holder : ℕ → Holder) (c : Cycling) (words words' : List ℕ) (d : ℕ) (share : Share) → ArrivesFrom d st → Leading c words d st share → Leading (arrived_cycle st holder c d) words' d stage fresh_share
+leading_fresh : (st stage : Stage) (holder : ℕ → Holder) (c : Cycling) (words words' : List ℕ) (d : ℕ) (share : Share) → ArrivesFrom d st → Leading c words d st share → Leading (arrived_cycle st holder c d) words' d stage (voided share)
 leading_fresh st stage holder c words words' d share from l = record {
   changed = λ v e. cc;
   found_blocks = λ v e. cc;
   found_words = λ v e. cc;
   rotated = λ first lasts. l.rotated first lasts ∙ ⊎_elim (λ (e : share.rotated ≡ true). absurd ((subst (ArrivesFrom d) (l.turned e) from) first)) (λ e. e) (either_bool share.rotated);
   turned = λ e. cc;
+  pass = l.pass;
 }
 
 -- what the rule says of the share of the domain that has arrived
 pub sharing_gone : (k : Config) (all : Account) (words words' : List ℕ) (x : DomainView) (p' : Pause) (live' : Live) (t' : Tenancy) (stage : Stage) → x.own.number < k.domains → ArrivesFrom x.own.number x.seen.stage → AtStage all.pause x.own.number x.own.arrivals x.seen.stage
     → Told k all.pause all.cycling.kind all.cycling.shares → Good k all words x
-    → Sharing k (record all { pause = p'; live = live'; tenancy = t'; cycling = arrived_cycle x.seen.stage all.tenancy.holder all.cycling x.own.number }) words' x.own.number x.own.registers stage fresh_share
+    → Sharing k (record all { pause = p'; live = live'; tenancy = t'; cycling = arrived_cycle x.seen.stage all.tenancy.holder all.cycling x.own.number }) words' x.own.number x.own.registers stage (voided x.seen.share)
 sharing_gone k all words words' x p' live' t' stage below from at told g = let a = adds_gone x.seen.stage all.tenancy.holder all.live all.cycling x.own.number x.seen.share (Knowing k all.live all.tenancy.holder (state_of k all.log).graph all.cycling.paint.marks words x.own.number x.own.registers x.seen.share) g.sharing.knows g.sharing.adds in record {
-  telling = telling_gone k all.pause all.cycling.kind (owner_at all.tenancy.holder) all.cycling.paint.colours all.cycling.shares x.own.number x.own.arrivals told below x.seen.stage from at;
+  telling = telling_gone k all.pause all.cycling.kind (owner_at all.tenancy.holder) all.cycling.paint.colours all.cycling.shares x.own.number x.own.arrivals told below x.seen.share x.seen.stage from at;
   leading = leading_fresh x.seen.stage stage all.tenancy.holder all.cycling words words' x.own.number x.seen.share from g.sharing.leading;
   knows = inl refl;
   adds = record { blocks = a.blocks; words = a.words; own = λ e f h. cc };
@@ -261,3 +262,21 @@ cycle_dropped st holder k s live live' p p' t t' c words words' d none garbage s
       told = told;
       leaves = record { none = z.leaves.none; dead = z.leaves.dead; head = z.leaves.head };
     }
+
+-- a look at the barrier leaves what a domain knows that has arrived
+pub sharing_looked : (k : Config) (all : Account) (words : List ℕ) (x : DomainView) (last : Kind) (stage : Stage) → x.seen.stage ≡ Gone last → Good k all words x → Sharing k all words x.own.number x.own.registers stage x.seen.share
+sharing_looked k all words x last stage gone g = let l = subst (λ (st : Stage). Leading all.cycling words x.own.number st x.seen.share) gone g.sharing.leading in record {
+  telling = g.sharing.telling;
+  leading = record {
+    changed = λ v e. absurd (l.changed v e).1;
+    found_blocks = λ v e. absurd (apart (l.found_blocks v e).0);
+    found_words = λ v e. absurd (apart (l.found_words v e).0);
+    rotated = l.rotated;
+    turned = λ e. absurd (let h : Gone last ≡ Leads Lasts = l.turned e in cc);
+    pass = l.pass;
+  };
+  knows = inl (⊎_elim (λ (h : IsIdle x.seen.share). h) (λ (h : IsCollecting x.seen.stage × Knowing k all.live all.tenancy.holder (state_of k all.log).graph all.cycling.paint.marks words x.own.number x.own.registers x.seen.share). absurd (subst IsCollecting gone h.0)) g.sharing.knows);
+  adds = g.sharing.adds;
+} where
+  apart : (⊥ ⊎ (Gone last ≡ In Answer)) → ⊥
+  apart h = ⊎_elim (λ (a : ⊥). a) (λ (e : Gone last ≡ In Answer). let f : Gone last ≡ In Answer = e in cc) h

@@ -34,7 +34,7 @@ use Rattle.heap_rule.specs.declared.phase.Stage.TheVariants.{In, Leads, Led, Gon
 use Rattle.heap_rule.specs.declared.view.DomainView.{DomainView}
 use Rattle.heap_rule.specs.declared.view.Share.{Share}
 use Rattle.heap_rule.specs.Changes.{value_at}
-use Rattle.heap_rule.specs.Cycles.{Cycling, Facts, IsBetween, IsSwept, Knowing, IsCollecting, IsIdle, cycle_of, owner_at, seen_by, layout_of, swept_of, IsPlain}
+use Rattle.heap_rule.specs.Cycles.{Cycling, Facts, IsBetween, IsSwept, Knowing, IsCollecting, IsIdle, cycle_of, owner_at, seen_by, layout_of, swept_of, IsPlain, HoldsBlock}
 use Rattle.heap_rule.specs.Limits.{sizes_in}
 use Rattle.heap_rule.specs.Phases.{AtStage}
 use Rattle.heap_rule.specs.Places.{Place, Live, Stands}
@@ -119,6 +119,11 @@ module _ (k : Config) (s : Words) (r : Rule k s) (id : ℕ) (hist : List Entry) 
   been q class slot is inside low = ⊎_elim
       (λ (h : IsIdle x.seen.share). absurd (none_before q slot (subst (IsBefore q slot) (ap (λ (y : Share). y.walk) h) low)))
       (λ (h : IsCollecting x.seen.stage × Known). h.1.walked q class slot is inside low) good.sharing.knows
+
+  has_block : (q class : ℕ) → t.holder q ≡ owned d class → q < x.seen.share.held → HoldsBlock r.account.live q class
+  has_block q class is low = ⊎_elim
+      (λ (h : IsIdle x.seen.share). absurd (let none : x.seen.share.held ≡ 0 = ap (λ (y : Share). y.held) h in let w : ℕ = x.seen.share.held in let z : w ≡ 0 = none in let l : q < w = low in omega arith))
+      (λ (h : IsCollecting x.seen.stage × Known). h.1.held q class is low) good.sharing.knows
 
   rooted : (n a : ℕ) (p : Place) → IsTrue (list_any (λ q. q == n) x.seen.share.roots) → value_at x.own.registers n ≡ Ref a → r.account.live a ≡ Some p → IsTrue (c.paint.marks.marked p.label)
   rooted n a p among is lives = ⊎_elim
@@ -259,6 +264,7 @@ module _ (k : Config) (s : Words) (r : Rule k s) (id : ℕ) (hist : List Entry) 
       turned = λ yes_is. let z = f.turned yes_is in record { all_marked = z.all_marked; unmarked = z.unmarked; owned = z.owned };
     }
     facts_in Sweep here is f = record {
+      mode = f.mode;
       swept = swept_in Sweep f.swept;
       sweep = sweep_law.arrives k.domains owner t.garbage c.shares.seen c.shares.arrived f.sweep d (all_seen (done.walked (inr here)));
       all_counted = λ e gone. ⊎_elim
@@ -266,7 +272,15 @@ module _ (k : Config) (s : Words) (r : Rule k s) (id : ℕ) (hist : List Entry) 
           (λ z. f.all_counted e (sym z.1 ∙ gone))
           (at_cases c.shares.arrived d true e);
     }
-    facts_in Answer here is f = record { swept = swept_in Answer f.swept; clean = f.clean; all_counted = f.all_counted }
+    facts_in Answer here is f = record {
+      swept = swept_in Answer f.swept;
+      clean = f.clean;
+      all_counted = f.all_counted;
+      held = λ q e class gone owns. ⊎_elim
+          (λ z. has_block q class (owns ∙ ap (λ (n : ℕ). owned n class) z.0) (let p : ℕ = k.pools in let w : ℕ = x.seen.share.held in let far : p ≤ w = done.held here in let low : q < p = (r.whole.pools.owned_by q e class owns).0 in let h : q < w = omega arith in h))
+          (λ z. f.held q e class (sym z.1 ∙ gone) owns)
+          (at_cases c.shares.arrived d true e);
+    }
 
   -- who acts in an even phase hasn't arrived in it
   waits_in : (kd : Kind) → x.seen.stage ≡ In kd → c.shares.arrived d ≡ false

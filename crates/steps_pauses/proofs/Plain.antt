@@ -15,7 +15,7 @@ use Rattle.steps_pauses.specs.Pauses.{ArriveMay, forgotten, Arrived, LookTold, C
 use Rattle.heap_rule.proofs.Closes.{front_same}
 use Rattle.heap_model.specs.Fronts.{IsFrontOf}
 use Rattle.heap_rule.specs.declared.phase.Kind.{Kind}
-use Rattle.heap_rule.specs.declared.phase.Kind.TheVariants.{Roots, Mark, Rounds, Clean, Sweep}
+use Rattle.heap_rule.specs.declared.phase.Kind.TheVariants.{Roots, Mark, Rounds, Clean, Sweep, Answer}
 use Rattle.heap_rule.specs.declared.phase.Stage.TheVariants.{In}
 use Rattle.heap_rule.specs.Cycles.{IsCollecting, HasNoCycle}
 
@@ -57,5 +57,6 @@ nothing_due k x none =
       rooted = λ here. absurd (apart Roots (λ h. h) here);
       told = λ here. absurd (⊎_elim (apart Mark (λ h. h)) (λ more. ⊎_elim (apart Rounds (λ h. h)) (apart Clean (λ h. h)) more) here);
       walked = λ here. absurd (⊎_elim (apart Mark (λ h. h)) (apart Sweep (λ h. h)) here);
+      held = λ here. absurd (apart Answer (λ h. h) here);
       added = λ here. absurd (apart Sweep (λ h. h) here);
     }
