@@ -1,5 +1,5 @@
 -- Heads that differ in colour and scanned mark alone.
-use Rattle.std.proofs.Common.{◌≡◌, ◌≢◌, ℕ, ◌<◌, ◌||◌, Bool, true, false, cond, None, refl, sym, ap, ◌∙◌}
+use Rattle.std.proofs.Common.{◌≡◌, ◌≢◌, ℕ, ◌<◌, ◌||◌, IsTrue, Bool, true, false, cond, None, refl, sym, ap, ◌∙◌}
 use Rattle.heap_model.specs.declared.label.Label.{Label}
 use Rattle.heap_model.specs.Fronts.{Shape, PlainShape, RawShape, EpheShape}
 use Rattle.heap_words.specs.declared.colours.Colours.{Colours}
@@ -41,10 +41,23 @@ unmarked_by c true p e = absurd (p.marked_differs e)
 unmarked_by c false p e = refl
 
 -- the head of a block as running domains have it
-pub bare_head : (paint : Paint) (p : Place) (word : ℕ) → IsBare p → IsPermutation paint.colours → IsPackableShape p.shape → (h : IsHead paint p word) → IsHeadOf p.shape word
+pub record BareHead (paint : Paint) (p : Place) (word : ℕ) : Type 0 where
+  pub head : IsHeadOf p.shape word
+  pub colour : head.colour ≡ colour_in paint p.label
+  pub tells : IsTrue (paint.marks.marked p.label) → head.scanned ≡ paint.marks.scanned p.label
+
+pub bare_head : (paint : Paint) (p : Place) (word : ℕ) → IsBare p → IsPermutation paint.colours → IsPackableShape p.shape → IsHead paint p word → BareHead paint p word
 bare_head paint p word bare meanings packs h = record {
-  colour = colour_in paint p.label;
-  scanned = h.scanned;
-  packable = packable_head p.shape (colour_in paint p.label) h.scanned (colour_fits paint.colours (paint.marks.marked p.label) meanings) packs;
-  packs = h.packs ∙ ap (λ o. head_word (head_of o p.shape (colour_in paint p.label) h.scanned)) bare.no_forward;
+  head = record {
+    colour = colour_in paint p.label;
+    scanned = h.scanned;
+    packable = packable_head p.shape (colour_in paint p.label) h.scanned (colour_fits paint.colours (paint.marks.marked p.label) meanings) packs;
+    packs = h.packs ∙ ap (λ o. head_word (head_of o p.shape (colour_in paint p.label) h.scanned)) bare.no_forward;
+  };
+  colour = refl;
+  tells = h.tells;
 }
+
+-- the colours of the marked and of the unmarked
+pub coloured : (paint : Paint) (p : Place) (b : Bool) → paint.marks.marked p.label ≡ b → colour_in paint p.label ≡ cond b paint.colours.marked paint.colours.unmarked
+coloured paint p b e = ap (λ (z : Bool). cond z paint.colours.marked paint.colours.unmarked) e

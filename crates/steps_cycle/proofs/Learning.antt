@@ -247,7 +247,7 @@ module _ (k : Config) (s : Words) (r : Rule k s) (id : ℕ) (hist : List Entry) 
     pub even : IsEven r.account.pause.phase
     even = (here.1.0, here.1.1)
 
-    waits : c.shares.arrived d ≡ false
+    pub waits : c.shares.arrived d ≡ false
     waits = waits_in in_kind.kind in_kind.stage
 
     not_promoting : Promoting r.account.pause → ⊥
@@ -269,6 +269,15 @@ module _ (k : Config) (s : Words) (r : Rule k s) (id : ℕ) (hist : List Entry) 
         beside : (kind : Kind) → HasNoCycle kind → z.seen.stage ≡ In kind → ⊥
         beside kind none e = in_kind.under_way (subst HasNoCycle (sym (agree r.account.pause d z.own.number x.own.arrivals z.own.arrivals (In in_kind.kind) (In kind) here (subst (AtStage r.account.pause z.own.number z.own.arrivals) e staged.stage))) none)
 
+    -- what it knows of blocks then
+    pub record Knows (m' : Marks) (words' : List ℕ) (h : Held) : Type 0 where
+      pub glimpse : (g : Glimpse) (p : Place) → h.glimpse ≡ Some g → live g.address ≡ Some p → (at_address k words' g.address ≡ g.word) ⊎ IsTrue (m'.marked p.label)
+      pub scan : Scans live now.graph m' h.scan
+      pub walked : (q e slot : ℕ) → holder q ≡ owned d e → slot < blocks_of e → IsBefore q slot h.walk → IsTrue (seen_by h.sights (place_in q e slot))
+      pub tenure : (t : Tenure) → h.tenure ≡ Some t → holder t.pool ≡ owned d t.class
+      pub rooted : (n a : ℕ) (p : Place) → IsTrue (list_any (λ q. q == n) h.roots) → value_at x.own.registers n ≡ Ref a → live a ≡ Some p → IsTrue (m'.marked p.label)
+      pub marked : (a : ℕ) → IsTrue (seen_by h.marked a) → IsMarkedAt live m'.marked a
+
     -- What it owes of a collection, whatever it writes: what is marked, the changed word, who owes and what was seen may change, and what the domain knows
     pub record Learns (m' : Marks) (changed : Bool) (owes : ℕ → Bool) (seen : ℕ → ℕ → Bool) (h : Held) (words' : List ℕ) : Type 0 where
       pub armed_same : armed words' ≡ armed s.words
@@ -283,12 +292,7 @@ module _ (k : Config) (s : Words) (r : Rule k s) (id : ℕ) (hist : List Entry) 
       pub others : (z : ℕ) → z ≢ d → (owes z ≡ c.shares.owes z) × (seen z ≡ c.shares.seen z)
       pub owes_is : owes d ≡ h.owes
       pub seen_is : seen d ≡ seen_by h.sights
-      pub glimpse : (g : Glimpse) (p : Place) → h.glimpse ≡ Some g → live g.address ≡ Some p → (at_address k words' g.address ≡ g.word) ⊎ IsTrue (m'.marked p.label)
-      pub scan : Scans live now.graph m' h.scan
-      pub walked : (q e slot : ℕ) → holder q ≡ owned d e → slot < blocks_of e → IsBefore q slot h.walk → IsTrue (seen_by h.sights (place_in q e slot))
-      pub tenure : (t : Tenure) → h.tenure ≡ Some t → holder t.pool ≡ owned d t.class
-      pub rooted : (n a : ℕ) (p : Place) → IsTrue (list_any (λ q. q == n) h.roots) → value_at x.own.registers n ≡ Ref a → live a ≡ Some p → IsTrue (m'.marked p.label)
-      pub marked : (a : ℕ) → IsTrue (seen_by h.marked a) → IsMarkedAt live m'.marked a
+      pub knows : Knows m' words' h
 
     module _ (m' : Marks) (changed : Bool) (owes : ℕ → Bool) (seen : ℕ → ℕ → Bool) (h : Held) (words' : List ℕ) (o : Learns m' changed owes seen h words') where
       abbrev c' : Cycling
@@ -338,12 +342,12 @@ module _ (k : Config) (s : Words) (r : Rule k s) (id : ℕ) (hist : List Entry) 
             };
             leading = record { changed = l.changed; found_blocks = l.found_blocks; found_words = l.found_words; rotated = l.rotated; turned = l.turned };
             knows = inr (collecting, record {
-              glimpse = o.glimpse;
-              scan = o.scan;
-              walked = o.walked;
-              tenure = o.tenure;
-              rooted = o.rooted;
-              marked = o.marked;
+              glimpse = o.knows.glimpse;
+              scan = o.knows.scan;
+              walked = o.knows.walked;
+              tenure = o.knows.tenure;
+              rooted = o.knows.rooted;
+              marked = o.knows.marked;
               tally = record { once = y.once; own = y.own; lives = y.lives; all = y.all; words = y.words };
             });
             adds = record { blocks = g.sharing.adds.blocks; words = g.sharing.adds.words; own = g.sharing.adds.own };
@@ -365,3 +369,21 @@ module _ (k : Config) (s : Words) (r : Rule k s) (id : ℕ) (hist : List Entry) 
             g.sharing.knows;
         adds = record { blocks = g.sharing.adds.blocks; words = g.sharing.adds.words; own = g.sharing.adds.own };
       }
+
+    -- a step that leaves the words, what is marked and how far all are
+    pub knows_more : (h : Held) → sh.owes ≡ h.owes → seen_by sh.sights ≡ seen_by h.sights → Knows m s.words h → Rule k record { words = s.words; homes = s.homes; views = set s.views id (one k hist (with_share x (holding sh h))) }
+    knows_more h owes sights n = let t = (my_good k s r id hist x at).sharing.telling in learns (holding sh h) (sharing' m c.shares.changed c.shares.owes c.shares.seen h s.words record {
+      armed_same = refl;
+      colours_same = refl;
+      blocks_same = refl;
+      words_same = refl;
+      changed_is = r.whole.cycle.changed_is;
+      facts = r.whole.cycle.facts;
+      dead = λ b none. refl;
+      heads = λ b p lives. inl refl;
+      more = λ l is. is;
+      others = λ z other. (refl, refl);
+      owes_is = t.owes waits ∙ owes;
+      seen_is = t.seen waits ∙ sights;
+      knows = n;
+    })

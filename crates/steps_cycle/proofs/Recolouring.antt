@@ -1,5 +1,5 @@
 -- The head of a live block gets another colour, or the scanned mark.
-use Rattle.std.proofs.Common.{◌≡◌, ◌≢◌, ℕ, ◌+◌, ◌*◌, ◌<◌, ◌≤◌, ◌⊎◌, Bool, false, cond, IsTrue, List, length, get_or, set, Some, Option, unwrap_or, sym, refl, ap, ◌∙◌, subst, inl, inr, ⊎_elim, arith, length-set, get_or-set_same, get_or-set_other}
+use Rattle.std.proofs.Common.{◌≡◌, ◌≢◌, ℕ, ◌+◌, ◌*◌, ◌<◌, ◌≤◌, ◌⊎◌, Bool, false, cond, IsTrue, List, length, get_or, set, Some, Option, unwrap_or, sym, refl, ap, ◌∙◌, subst, inl, inr, ⊎_elim, arith, length-set, get_or-set_same, get_or-set_other, None}
 use mathlib.Core.Logic.{dite}
 use native.Mathlib.Decide.{ℕ_discrete}
 use mathlib.Core.Option.{some}
@@ -18,7 +18,7 @@ use Rattle.heap_rule.specs.Layout.{before_heap, heap_words, at_address, listed, 
 use Rattle.heap_rule.specs.Places.{Place, Paint, extent, head_of, Found, IsHead, IsOldWord, colour_in}
 use Rattle.heap_rule.specs.Phases.{AtStage, Staged, last_note}
 use Rattle.heap_rule.specs.Pools.{Grid, Hunter, Hunts, DrawsFor, IsSpare, Latest, Takes, limit_of, place_in}
-use Rattle.heap_rule.specs.Cycles.{Cycling, IsCollecting}
+use Rattle.heap_rule.specs.Cycles.{Cycling, IsCollecting, Knowing, Facts, seen_by}
 use Rattle.heap_rule.specs.Rule.{AllFound, Area, Good, Making, Rule, state_of}
 use Rattle.heap_rule.specs.Views.{one}
 use Rattle.heap_rule.proofs.HeadLemmas.{head_at}
@@ -28,11 +28,25 @@ use Rattle.heap_rule.proofs.PauseFacts.{agree}
 use Rattle.heap_rule.proofs.Values.{extent_large}
 use Rattle.heap_rule.proofs.Keeps.{Words, mine, my_good, more_same, remakes, knows_front, control_set, controls_kept, opened_words, owes_as, resting_as, resting_lists, room_words, hunter_as}
 use Rattle.steps_cycle.specs.Looks.{with_share}
-use Rattle.steps_cycle.proofs.Learning.{Held, Learns, cycle', held, holding, sharing', sharings', bare, rests_here}
+use Rattle.steps_cycle.proofs.Learning.{Held, Learns, cycle', held, holding, sharing', sharings', bare, rests_here, knowing_on, known, Knows, waits}
+use Rattle.cycle_laws.proofs.Tracing.{More}
 
 module _ (k : Config) (s : Words) (r : Rule k s) (id : ℕ) (hist : List Entry) (x : DomainView) (at : get_elem? s.views id ≡ some (one k hist x)) (collecting : IsCollecting x.seen.stage) where
   abbrev paint : Paint
   paint = r.account.cycling.paint
+
+  -- the block at an address is marked afterwards: what the domain knows of blocks it knows when the head is written
+  module _ (a : ℕ) (p : Place) (new : ℕ) (m' : Marks) (lives : r.account.live a ≡ Some p) (marked : IsTrue (m'.marked p.label)) where
+    head_stays : (b : ℕ) → b ≢ a → at_address k (set s.words (before_heap k + a) new) b ≡ at_address k s.words b
+    head_stays b differ = get_or-set_other s.words (before_heap k + a) (before_heap k + b) new 0 (λ e. differ (omega arith))
+
+    heads_stay : (b : ℕ) (q : Place) → r.account.live b ≡ Some q → (at_address k (set s.words (before_heap k + a) new) b ≡ at_address k s.words b) ⊎ IsTrue (m'.marked q.label)
+    heads_stay b q there = dite (ℕ_discrete b a)
+        (λ here. let same : p ≡ q = ap (λ (z : Option Place). unwrap_or z p) (sym lives ∙ (ap r.account.live (sym here) ∙ there)) in inr (subst (λ (z : Place). IsTrue (m'.marked z.label)) same marked))
+        (λ other. inl (head_stays b other))
+
+    pub known_still : More paint.marks.marked m'.marked → Knowing k r.account.live r.account.tenancy.holder (state_of k r.account.log).graph m' (set s.words (before_heap k + a) new) x.own.number x.own.registers x.seen.share
+    known_still more = knowing_on k s r id hist x at m' (set s.words (before_heap k + a) new) heads_stay more x.own.number x.own.registers x.seen.share (known k s r id hist x at)
 
   -- What it owes that the head of the block at an address is written
   pub record Recolours (a : ℕ) (p : Place) (new : ℕ) (m' : Marks) (owes : ℕ → Bool) (h : Held) : Type 0 where
@@ -40,7 +54,12 @@ module _ (k : Config) (s : Words) (r : Rule k s) (id : ℕ) (hist : List Entry) 
     pub here : IsHead (record paint { marks = m' }) p new
     pub elsewhere : (l : Label) → p.label ≢ l → (m'.marked l ≡ paint.marks.marked l) × (m'.scanned l ≡ paint.marks.scanned l)
     pub marked : IsTrue (m'.marked p.label)
-    pub learns : Learns k s r id hist x at collecting m' r.account.cycling.shares.changed owes r.account.cycling.shares.seen h (set s.words (before_heap k + a) new)
+    pub more : More paint.marks.marked m'.marked
+    pub facts : Facts r.account.cycling.kind k (state_of k r.account.log) r.account.live r.account.tenancy (record r.account.cycling { paint = record paint { marks = m' }; shares = record r.account.cycling.shares { owes = owes } }) (set s.words (before_heap k + a) new)
+    pub others : (z : ℕ) → z ≢ x.own.number → owes z ≡ r.account.cycling.shares.owes z
+    pub owes_is : owes x.own.number ≡ h.owes
+    pub sights : seen_by x.seen.share.sights ≡ seen_by h.sights
+    pub knows : Knows k s r id hist x at collecting m' (set s.words (before_heap k + a) new) h
 
   module _ (a : ℕ) (p : Place) (new : ℕ) (m' : Marks) (owes : ℕ → Bool) (h : Held) (o : Recolours a p new m' owes h) where
     abbrev words' : List ℕ
@@ -63,6 +82,26 @@ module _ (k : Config) (s : Words) (r : Rule k s) (id : ℕ) (hist : List Entry) 
 
     here_is : at_address k words' a ≡ new
     here_is = get_or-set_same s.words (before_heap k + a) new 0 spot
+
+    control : (i : ℕ) → i ≤ before_heap k → get_or words' i 0 ≡ get_or s.words i 0
+    control = control_set k s.words a new low
+
+    learnt : Learns k s r id hist x at collecting m' r.account.cycling.shares.changed owes r.account.cycling.shares.seen h words'
+    learnt = record {
+      armed_same = control 4 (omega arith);
+      colours_same = control 5 (omega arith);
+      blocks_same = control 9 (omega arith);
+      words_same = control 10 (omega arith);
+      changed_is = control 3 (omega arith) ∙ r.whole.cycle.changed_is;
+      facts = o.facts;
+      dead = λ b none. stays b (λ same. let clash : ◌≡◌ {A = Option Place} None (Some p) = sym none ∙ (ap r.account.live same ∙ o.lives) in cc);
+      heads = heads_stay a p new m' o.lives o.marked;
+      more = o.more;
+      others = λ z other. (o.others z other, refl);
+      owes_is = o.owes_is;
+      seen_is = (my_good k s r id hist x at).sharing.telling.seen (waits k s r id hist x at collecting) ∙ o.sights;
+      knows = o.knows;
+    }
 
     was_full : at_address k s.words a ≢ 0
     was_full = head_full k paint r.account.live (state_of k r.account.log).graph s.words a p (r.whole.found a p o.lives)
@@ -126,7 +165,7 @@ module _ (k : Config) (s : Words) (r : Rule k s) (id : ℕ) (hist : List Entry) 
     hunter' z rests h = record {
       hunt = subst (Hunts k r.account.tenancy words' z.own.number) (sym rests) tt;
       drawn_alone = h.drawn_alone;
-      free = λ f e. subst (λ (m : ℕ × ℕ). (m.0 ≤ f + m.1) × (m.0 ≤ f + limit_of k m.0) × (f ≤ m.0)) (λ i. (sym (control_set k s.words a new low 6 (omega arith)) i, sym (control_set k s.words a new low 7 (omega arith)) i)) (h.free f e);
+      free = λ f e. subst (λ (m : ℕ × ℕ). (m.0 ≤ f + m.1) × (m.0 ≤ f + limit_of k m.0) × (f ≤ m.0)) (λ i. (sym (control 6 (omega arith)) i, sym (control 7 (omega arith)) i)) (h.free f e);
       taken = λ q c slot is inside before. full_stays (place_in q c slot) (h.taken q c slot is inside before);
       holds = h.holds;
       prepared = h.prepared;
@@ -146,10 +185,10 @@ module _ (k : Config) (s : Words) (r : Rule k s) (id : ℕ) (hist : List Entry) 
     recolours =
         let g = my_good k s r id hist x at in
         let y : DomainView = with_share x (holding x.seen.share h) in
-        let controls = controls_kept k s r id hist x at words' (control_set k s.words a new low) in
+        let controls = controls_kept k s r id hist x at words' control in
         let own_making = makes x g.area g.making in
         let own_hunter = hunter' x (rests_here k s r id hist x at collecting x g.staged g.resting) g.hunter in
-        let own_sharing = sharing' k s r id hist x at collecting m' r.account.cycling.shares.changed owes r.account.cycling.shares.seen h words' o.learns in
+        let own_sharing = sharing' k s r id hist x at collecting m' r.account.cycling.shares.changed owes r.account.cycling.shares.seen h words' learnt in
         remakes k s r id hist x at y (record r.account { cycling = c' }) words'
         record {
           wide = length-set s.words (before_heap k + a) new ∙ r.whole.wide;
@@ -175,7 +214,7 @@ module _ (k : Config) (s : Words) (r : Rule k s) (id : ℕ) (hist : List Entry) 
           unused = r.whole.unused;
           opened = opened_words k r.account.live s.words words' controls.listed_young r.whole.opened;
           drawable = controls.drawable;
-          cycle = cycle' k s r id hist x at collecting m' r.account.cycling.shares.changed owes r.account.cycling.shares.seen h words' o.learns;
+          cycle = cycle' k s r id hist x at collecting m' r.account.cycling.shares.changed owes r.account.cycling.shares.seen h words' learnt;
         }
         (knows_front k s r id hist x at y refl (mine k s r id hist x at).front)
         record {
@@ -204,5 +243,5 @@ module _ (k : Config) (s : Words) (r : Rule k s) (id : ℕ) (hist : List Entry) 
           owes = h'.owes;
           rooted = h'.rooted;
           set_back = λ b. controls.set_back z h'.staged b (h'.set_back b);
-          sharing = sharings' k s r id hist x at collecting m' r.account.cycling.shares.changed owes r.account.cycling.shares.seen h words' o.learns z other h';
+          sharing = sharings' k s r id hist x at collecting m' r.account.cycling.shares.changed owes r.account.cycling.shares.seen h words' learnt z other h';
         })

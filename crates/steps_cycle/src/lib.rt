@@ -3,5 +3,7 @@
 #![tactic(auto)]
 
 mod looking;
+mod marking;
 
 pub use looking::colours_load;
+pub use marking::{darken_exchange, glimpse_load};
