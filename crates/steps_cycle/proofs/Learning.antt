@@ -29,7 +29,7 @@ use Rattle.heap_rule.specs.Pools.{Holder, IsBefore, IsLeading, blocks_of, owned,
 use Rattle.heap_rule.specs.Cycles.{Adds, Cycled, Cycling, Facts, HasNoCycle, IsCollecting, IsIdle, IsMarkedAt, Knowing, KnowsBlocks, Leading, Scans, Tallied, Telling, Told, seen_by, Scanned}
 use Rattle.heap_rule.specs.Rule.{Account, Good, Rule, Sharing, state_of}
 use Rattle.heap_rule.specs.Views.{one}
-use Rattle.heap_rule.proofs.Controls.{Move, Untouched, counts_untouched, hunter_untouched, low_untouched, moved_to, no_move, reserved_untouched, resting_untouched, turns, untouched_same}
+use Rattle.heap_rule.proofs.Controls.{Move, Untouched, counts_untouched, heap_untouched, hunter_untouched, low_untouched, moved_to, no_move, reserved_untouched, resting_untouched, turns, untouched_same}
 use Rattle.heap_rule.proofs.Holders.{stock_self}
 use Rattle.heap_rule.proofs.Keeps.{Words, hunter_as, mine, my_good, owes_as, phases_words, room_words}
 use Rattle.heap_rule.proofs.PauseFacts.{kind_differs, not_both, agree}
@@ -250,7 +250,7 @@ module _ (k : Config) (s : Words) (r : Rule k s) (id : ℕ) (hist : List Entry) 
     pub waits : c.shares.arrived d ≡ false
     waits = waits_in in_kind.kind in_kind.stage
 
-    not_promoting : Promoting r.account.pause → ⊥
+    pub not_promoting : Promoting r.account.pause → ⊥
     not_promoting p = let e : Promote ≡ in_kind.kind = kind_differs r.account.pause p.0 here.1.0 r.account.pause.phase Promote in_kind.kind p.1 here.1.1 p.2 here.1.2 in in_kind.under_way (subst HasNoCycle e tt)
 
     -- each block is as running domains have it, and lies in a pool
@@ -387,3 +387,34 @@ module _ (k : Config) (s : Words) (r : Rule k s) (id : ℕ) (hist : List Entry) 
       seen_is = t.seen waits ∙ sights;
       knows = n;
     })
+
+    -- and one that leaves the heap's words and what is marked
+    pub shifts_more : (changed : Bool) (owes : ℕ → Bool) (seen : ℕ → ℕ → Bool) (h : Held) (words' : List ℕ) → Untouched s.words words' → get_or words' 0 0 ≡ get_or s.words 0 0 → get_or words' 1 0 ≡ get_or s.words 1 0 → get_or words' 2 0 ≡ get_or s.words 2 0
+        → changed_word words' ≡ flag changed → Facts c.kind k now live r.account.tenancy (record c { shares = record c.shares { changed = changed; owes = owes; seen = seen } }) words'
+        → ((z : ℕ) → z ≢ d → (owes z ≡ c.shares.owes z) × (seen z ≡ c.shares.seen z)) → owes d ≡ h.owes → seen d ≡ seen_by h.sights → Knows m words' h
+        → get_or words' 8 0 ≡ get_or s.words 8 0 → Rule k record { words = words'; homes = s.homes; views = set s.views id (one k hist (with_share x (holding sh h))) }
+    shifts_more changed owes seen h words' u want_same barrier_same plan_same changed_is facts others owes_is seen_is knows ended_same =
+        let o : Learns m changed owes seen h words' = record {
+          armed_same = u.1 4 (omega arith) (λ e. omega arith);
+          colours_same = u.1 5 (omega arith) (λ e. omega arith);
+          blocks_same = u.1 9 (omega arith) (λ e. omega arith);
+          words_same = u.1 10 (omega arith) (λ e. omega arith);
+          changed_is = changed_is;
+          facts = facts;
+          dead = λ b none. heap_untouched k s.words words' u b;
+          heads = λ b p lives. inl (heap_untouched k s.words words' u b);
+          more = λ l is. is;
+          others = others;
+          owes_is = owes_is;
+          seen_is = seen_is;
+          knows = knows;
+        } in shifts (holding sh h) (record c.shares { changed = changed; owes = owes; seen = seen }) words' record {
+          untouched = u;
+          want_same = want_same;
+          barrier_same = barrier_same;
+          plan_same = plan_same;
+          ended_same = ended_same;
+          cycle = cycle' m changed owes seen h words' o;
+          sharing = sharing' m changed owes seen h words' o;
+          sharings = sharings' m changed owes seen h words' o;
+        }

@@ -6,3 +6,4 @@ pub mod Targets
 pub mod LookSteps
 pub mod GlimpseSteps
 pub mod DarkenSteps
+pub mod WalkSteps

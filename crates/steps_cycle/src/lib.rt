@@ -4,6 +4,8 @@
 
 mod looking;
 mod marking;
+mod walking;
 
 pub use looking::colours_load;
 pub use marking::{darken_exchange, glimpse_load};
+pub use walking::{grey_load, mark_load, own_load};
