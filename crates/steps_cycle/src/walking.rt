@@ -3,27 +3,9 @@ ghost use Rattle.heap_rule.specs.Standing.{IsInHeap};
 ghost use Rattle.heap_rule.specs.Token.{IsIn};
 ghost use Rattle.steps_cycle.specs.Marking.{GreyMay, GreyTold, MarkMay, MarkTold, OwnMay, OwnTold};
 
-use heap_rule::{Change, Domain, Heap, Own, Writing, raw_load};
+use crate::looking::Looking;
+use heap_rule::{Domain, Heap, raw_load};
 use std::marker::Brand;
-
-// The token's own data stays as it is. The place is there for the pick alone.
-#[derive(Clone, Copy)]
-struct Walking {
-    at: u32,
-    pool: u32,
-    class: u32,
-    slot: u32,
-}
-
-impl Writing for Walking {
-    ghost use Rattle.heap_rule.specs.Raw.{CanLeave, Leaves};
-
-    ghost can = { λ _ _ _ own. CanLeave own };
-
-    ghost writes = { λ _ _ _ own after. Leaves own after };
-
-    fn write(&self, _found: u64, _changes: &[Change], _own: &mut Own) {}
-}
 
 /// A load of the owner of the next pool through which the domain walks, in a phase of a collection.
 /// Where it is the domain's own its class is known then, and else the walk goes to the pool behind it.
@@ -35,13 +17,13 @@ pub fn own_load(heap: &Heap, dom: &mut Domain, at: u32, pool: u32) -> u64
     ensures told { OwnTold pool dom.old.view result dom.new.view }
 {
     let _limits = heap.config();
-    let writing = Walking {
+    let writing = Looking {
         at,
         pool,
         class: 0,
         slot: 0,
     };
-    raw_load::<Brand, Walking>(heap, dom, at as usize, &writing, &[])
+    raw_load::<Brand, Looking>(heap, dom, at as usize, &writing, &[])
 }
 
 /// A load of the head at the next place of an own pool, in Mark. Where no block is grey there the
@@ -55,13 +37,13 @@ pub fn mark_load(heap: &Heap, dom: &mut Domain, at: u32, pool: u32, class: u32, 
     ensures told { MarkTold at pool class slot dom.old.view result dom.new.view }
 {
     let index = heap.index_of(at);
-    let writing = Walking {
+    let writing = Looking {
         at,
         pool,
         class,
         slot,
     };
-    raw_load::<Brand, Walking>(heap, dom, index, &writing, &[])
+    raw_load::<Brand, Looking>(heap, dom, index, &writing, &[])
 }
 
 /// A load of the head of a block that the domain knows to be marked, in Mark, whosever pool it lies
@@ -74,11 +56,11 @@ pub fn grey_load(heap: &Heap, dom: &mut Domain, at: u32) -> u64
     ensures told { GreyTold at dom.old.view result dom.new.view }
 {
     let index = heap.index_of(at);
-    let writing = Walking {
+    let writing = Looking {
         at,
         pool: 0,
         class: 0,
         slot: 0,
     };
-    raw_load::<Brand, Walking>(heap, dom, index, &writing, &[])
+    raw_load::<Brand, Looking>(heap, dom, index, &writing, &[])
 }
