@@ -36,6 +36,7 @@ found_beside k paint live live' graph graph' words at new b q more f there far =
       there = there;
       shape = f.shape;
       head = head_at paint q (ap (λ (i : ℕ). get_or (set words (base + at) new) (base + i) 0) (let g : b ≡ b + 0 = omega arith in g) ∙ (stays 0 (omega arith) ∙ ap (λ (i : ℕ). get_or words (base + i) 0) (let g : b + 0 ≡ b = omega arith in g))) f.head;
+      blank = f.blank;
       label = stays 1 (omega arith) ∙ f.label;
       values = λ i v has got.
           let below : i < n = got_below (values_of f.node) i v got in

@@ -44,6 +44,7 @@ found_untouched k paint live graph words words' u found a p lives = let f = foun
   there = f.there;
   shape = f.shape;
   head = head_at paint p (u.1 (before_heap k + a) (omega arith) (λ e. away a e)) f.head;
+  blank = f.blank;
   label = u.1 (before_heap k + (a + 1)) (omega arith) (λ e. away (a + 1) e) ∙ f.label;
   values = λ i v has e. let w = f.values i v has e in record { value = w.value; packs = u.1 (before_heap k + (a + 2 + i)) (omega arith) (λ e. away (a + 2 + i) e) ∙ w.packs; stands = w.stands };
   old = λ low i inside has none. subst (IsOldWord k) (sym (u.1 (before_heap k + (a + 2 + i)) (omega arith) (λ e. away (a + 2 + i) e))) (f.old low i inside has none);

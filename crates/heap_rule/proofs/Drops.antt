@@ -35,7 +35,7 @@ use Rattle.heap_rule.proofs.Lists.{got_below}
 use Rattle.heap_rule.proofs.Keeps.{Words, my_good, remakes, knows_front, room_unused, copies_settled, no_owing, nothing_known}
 use Rattle.heap_rule.proofs.Controls.{Move, Untouched, found_untouched, making_untouched, pools_untouched, grid_untouched, hunter_untouched, resting_untouched, low_untouched, pools_stock, grid_stock, moved_to}
 use Rattle.heap_rule.specs.Cycles.{Cycling, Cycled}
-use Rattle.heap_rule.proofs.FullnessLemmas.{full_less, full_kind}
+use Rattle.heap_rule.proofs.FullnessLemmas.{full_back, full_kind}
 use Rattle.heap_rule.specs.declared.phase.Kind.{Kind}
 use Rattle.heap_rule.specs.declared.phase.Kind.TheVariants.{Answer}
 
@@ -119,6 +119,7 @@ module _ (k : Config) (paint : Paint) (live : Live) (graph : Graph) (words : Lis
         there = f.there;
         shape = f.shape;
         head = f.head;
+        blank = f.blank;
         label = f.label;
         old = f.old;
         values = λ i v h got.
@@ -242,7 +243,7 @@ module _ (k : Config) (s : Words) (r : Rule k s) (id : ℕ) (hist : List Entry) 
         wide = o.untouched.0 ∙ r.whole.wide;
         legal = r.whole.legal;
         plain = r.whole.plain;
-        full = full_less k r.account.log live0 live1 t.holder t.fresh r.account.homes c'.kind (λ a p e. (was_low k live0 a p e).1) (full_kind k r.account.log live0 t.holder t.fresh r.account.homes r.account.cycling.kind c'.kind (subst (λ (kind : Kind). (kind ≡ Answer → ⊥) → r.account.cycling.kind ≡ Answer → ⊥) (sym o.kind) (λ h. h)) r.whole.full);
+        full = full_back k r.account.log live0 live1 t.holder t.fresh r.account.homes c'.kind back (full_kind k r.account.log live0 t.holder t.fresh r.account.homes r.account.cycling.kind c'.kind (subst (λ (kind : Kind). (kind ≡ Answer → ⊥) → r.account.cycling.kind ≡ Answer → ⊥) (sym o.kind) (λ h. h)) r.whole.full);
         queues = r.whole.queues;
         found = subst (λ (p : Paint). AllFound k p live1 graph words') (sym o.paint) (drop_found k paint0 live0 graph words' found0 r.whole.copies o.free);
         placed = placed_back k live0 live1 back r.whole.placed;

@@ -36,7 +36,6 @@ use Rattle.heap_rule.proofs.Values.{AllStand, holds}
 use Rattle.heap_rule.proofs.Keeps.{Words, IsCommand, mine, my_good, own, control_same, controls_kept, appends, legal_entry, hunter_as, more_same, owes_as, recalls_same, run_settled, run_calm}
 use Rattle.heap_rule.specs.Cycles.{IsPlainCommand, IsPlainEntry}
 use Rattle.heap_rule.proofs.FullnessLemmas.{full_stays, command_collects}
-use Rattle.heap_rule.specs.Fullness.{Fullness}
 
 module _ (k : Config) (s : Words) (r : Rule k s) (id : ℕ) (hist : List Entry) (x : DomainView) (at : get_elem? s.views id ≡ some (one k hist x)) (acts : Acts k x) where
   abbrev now : model.State

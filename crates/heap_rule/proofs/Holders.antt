@@ -43,6 +43,7 @@ found_heap k paint live graph words words' same placed found a p lives =
       there = f.there;
       shape = f.shape;
       head = head_at paint p (same a low) f.head;
+      blank = f.blank;
       label = same (a + 1) (omega arith) ∙ f.label;
       values = λ i v has got. let w = f.values i v has got in record { value = w.value; packs = same (a + 2 + i) (omega arith) ∙ w.packs; stands = w.stands };
       old = λ under i inside has none. subst (IsOldWord k) (sym (same (a + 2 + i) (omega arith))) (f.old under i inside has none);

@@ -1,7 +1,7 @@
 -- What all kinds of step share: what a domain knows at its seat, and that the rule holds again where the whole, the own domain and each other one meet it.
 use Rattle.std.proofs.lemmas.Option.{slice_get_within}
 use Rattle.heap_rule.specs.declared.phase.Kind.{Kind}
-use Rattle.std.proofs.Common.{zero-le, slice_get, inl, inr, ⊎_elim, None, ◌≡◌, ◌≢◌, ℕ, zero, suc, ◌+◌, ◌*◌, ◌<◌, ◌≤◌, false, List, [], ◌∷◌, ◌++◌, length, get_or, set, Some, sym, refl, ap, ◌∙◌, subst, arith, length-set, get_or-set_other, append_assoc, ◌⊎◌, Option}
+use Rattle.std.proofs.Common.{zero-le, slice_get, inl, inr, ⊎_elim, None, ◌≡◌, ◌≢◌, ℕ, zero, suc, ◌+◌, ◌*◌, ◌<◌, ◌≤◌, false, List, [], ◌∷◌, ◌++◌, length, get_or, set, Some, sym, refl, ap, ◌∙◌, subst, arith, length-set, get_or-set_other, append_assoc, ◌⊎◌, Option, true, IsTrue, Bool}
 use mathlib.Core.Logic.{dite}
 use native.Mathlib.Decide.{ℕ_discrete}
 use mathlib.Core.Option.{some}
@@ -535,6 +535,10 @@ module _ (k : Config) (s : Words) (r : Rule k s) (id : ℕ) (hist : List Entry) 
     knows = inl (idle_beside k r.account.live r.account.tenancy.holder now.graph r.account.cycling.paint.marks s.words r.account.pause x z kind none is my_good.staged g.staged g.sharing.knows);
     adds = adds_nothing all'.live all'.cycling z.own.number z.seen.share (subst (λ (c : Cycling). HasNoCycle c.kind) (sym cycling) (no_cycle_here kind none is));
   }
+
+  -- there is no garbage then
+  pub no_garbage_here : (kind : Kind) → HasNoCycle kind → x.seen.stage ≡ In kind → (a : ℕ) → IsTrue (r.account.tenancy.garbage a) → ⊥
+  no_garbage_here kind none is a garbage = let e : false ≡ true = sym (r.whole.cycle.leaves.none (between_here kind none is).unrotated a) ∙ garbage in cc
 
   -- no collector's entry is open while a domain runs
   pub run_calm : x.seen.stage ≡ In Run → IsCalm now

@@ -7,12 +7,12 @@ pub mod PauseFacts
 pub mod HeadLemmas
 pub mod Sharings
 pub mod Keeps
-pub mod FullnessLemmas
 pub mod Classes
 pub mod Counting
 pub mod Looks
 pub mod Lots
 pub mod Again
+pub mod FullnessLemmas
 pub mod Holders
 pub mod Entering
 pub mod Controls

@@ -75,4 +75,3 @@ promote_rests t a p = ⊎_elim
     (λ (h : (j : ℕ) × (t.phase ≡ j * 2 + 1) × (t.kinds j ≢ Run)). not_both t.phase (a.0, a.1) (h.0, h.1))
     (λ (g : (j : ℕ) × (t.phase ≡ j * 2) × IsEmptying (t.kinds j)). g.2.1 (ap t.kinds (half_same g.0 a.0 t.phase g.1 a.1) ∙ a.2))
     p
-

@@ -94,7 +94,7 @@ swept_words k s live holder c words words' same f = let n = f.counted in record 
   counted = record { first = n.first; once = n.once; owned = n.owned; all = n.all; blocks_are = same.blocks_same ∙ n.blocks_are; words_are = same.words_same ∙ n.words_are };
 }
 
-facts_words : (kind : Kind) (k : Config) (s : model.State) (live : Live) (t : Tenancy) (c : Cycling) (words words' : List ℕ) → SameCycle words words' → Facts kind k s live t c words → Facts kind k s live t c words'
+pub facts_words : (kind : Kind) (k : Config) (s : model.State) (live : Live) (t : Tenancy) (c : Cycling) (words words' : List ℕ) → SameCycle words words' → Facts kind k s live t c words → Facts kind k s live t c words'
 facts_words Run k s live t c words words' same f = f
 facts_words Promote k s live t c words words' same f = f
 facts_words Reset k s live t c words words' same f = f

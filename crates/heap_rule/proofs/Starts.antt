@@ -37,7 +37,7 @@ use Rattle.cycle_laws.specs.Cycle.{First}
 use Rattle.cycle_laws.specs.Shares.{no_shares}
 use Rattle.heap_model.specs.Graph.{has_label, same_label, node_at}
 use Rattle.heap_model.proofs.Graphs.GraphLemmas.{same_label-true}
-use Rattle.heap_rule.specs.Fullness.{Homes, Fullness}
+use Rattle.heap_rule.specs.Fullness.{Homes}
 use Rattle.heap_model.specs.declared.label.Label.{Label}
 
 abbrev shared_place : Place
@@ -177,6 +177,7 @@ module _ (k : Config) (limits : IsWithinLimits (sizes_in k)) (words : List ℕ) 
     there = refl;
     shape = refl;
     head = record { scanned = false; packs = opens.head; tells = λ is. cc };
+    blank = λ _. refl;
     label = opens.label;
     values = λ i v _ e. let t = zero_field 16 i v e in record {
       value = IntWord (pos 0);

@@ -27,7 +27,7 @@ use Rattle.heap_rule.specs.declared.config.Config.{Config}
 use Rattle.heap_rule.specs.declared.phase.Kind.{Kind}
 use Rattle.heap_rule.specs.declared.phase.Kind.TheVariants.{Run, Promote, Reset, Roots, Mark, Rounds, Decide, Queued, Clean, Lasts, Sweep, Answer}
 use Rattle.heap_rule.specs.declared.phase.Stage.{Stage}
-use Rattle.heap_rule.specs.declared.phase.Stage.TheVariants.{In}
+use Rattle.heap_rule.specs.declared.phase.Stage.TheVariants.{In, Leads}
 use Rattle.heap_rule.specs.declared.view.Glimpse.{Glimpse}
 use Rattle.heap_rule.specs.declared.view.Scan.{Scan}
 use Rattle.heap_rule.specs.declared.view.Scan.TheVariants.{Idle, Reads, Holds}
@@ -238,7 +238,7 @@ pub record Leading (c : Cycling) (words : List ℕ) (d : ℕ) (stage : Stage) (s
   pub found_blocks : (v : ℕ) → share.blocks ≡ Some v → (IsLeading stage ⊎ (stage ≡ In Answer)) × (live_blocks words ≡ v)
   pub found_words : (v : ℕ) → share.words ≡ Some v → (IsLeading stage ⊎ (stage ≡ In Answer)) × (live_words words ≡ v)
   pub rotated : d ≡ 0 → c.kind ≡ Lasts → c.rotated ≡ share.rotated
-  pub turned : share.rotated ≡ true → IsLeading stage
+  pub turned : share.rotated ≡ true → stage ≡ Leads Lasts
 
 -- how far a domain is in a block: its first fields are done
 pub record Scanned (live : Live) (graph : Graph) (marks : Marks) (block done size head : ℕ) : Type 0 where
@@ -317,4 +317,3 @@ IsCollecting _ = ⊥
 -- whoever doesn't is at no block
 abbrev pub KnowsBlocks : Config → Live → (ℕ → Holder) → Graph → Marks → List ℕ → ℕ → List held.Value → Stage → Share → Type 0
 KnowsBlocks k live holder graph marks words d registers stage share = IsIdle share ⊎ (IsCollecting stage × Knowing k live holder graph marks words d registers share)
-

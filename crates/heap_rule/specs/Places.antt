@@ -99,6 +99,7 @@ pub record IsHead (paint : Paint) (p : Place) (word : ℕ) : Type 0 where
 pub record IsNewHead (known : Option Colours) (shape : Shape) (word : ℕ) : Type 0 where
   pub colours : Colours
   pub known_is : known ≡ Some colours
+  pub fits : colours.unmarked < 3
   pub packs : HeadIs None shape colours.unmarked false word
 
 -- a head of this shape can be packed, whatever its colour
@@ -158,6 +159,7 @@ pub record Found (k : Config) (paint : Paint) (live : Live) (graph : Graph) (wor
   pub there : node_at graph p.label ≡ Some node
   pub shape : shape_of node ≡ p.shape
   pub head : IsHead paint p (at_address k words a)
+  pub blank : k.pools * 4096 < a → head.scanned ≡ false
   pub label : at_address k words (a + 1) ≡ label_word p.label.domain p.label.serial
   pub values : (i : ℕ) (v : Value) → HasValue p.owed i → slice_get (values_of node) i ≡ Some v → WordStands live (at_address k words (a + 2 + i)) v
   pub old : IsOldAt k a → (i : ℕ) → i + 2 < extent p.shape → HasValue p.owed i → p.named i ≡ None → IsOldWord k (at_address k words (a + 2 + i))

@@ -1,16 +1,16 @@
 -- Domain 0 may name the next kind once it has taken the wishes back, where the domains run next.
-use Rattle.std.proofs.Common.{◌≡◌, ℕ, List, ◌++◌, Some, true, length, sym, refl, ap, ◌∙◌, subst}
+use Rattle.std.proofs.Common.{◌≡◌, ℕ, List, ◌++◌, Some, true, length, sym, refl, ap, ◌∙◌, subst, ◌+◌, ◌-◌, ◌≤◌, arith, suc}
 use Rattle.std.proofs.lemmas.List.{append-nil}
 use Rattle.heap_rule.specs.declared.config.Config.{Config}
 use Rattle.heap_rule.specs.declared.view.DomainView.{DomainView}
 use Rattle.heap_rule.specs.declared.phase.Kind.{Kind}
-use Rattle.heap_rule.specs.declared.phase.Kind.TheVariants.{Run, Promote, Reset}
+use Rattle.heap_rule.specs.declared.phase.Kind.TheVariants.{Run, Promote, Reset, Roots, Mark, Rounds, Decide, Queued, Clean, Lasts, Sweep, Answer}
 use Rattle.heap_rule.specs.declared.phase.Note.{Note}
 use Rattle.heap_rule.specs.declared.phase.Note.TheVariants.{Cleared, SetBack}
 use Rattle.heap_rule.specs.declared.phase.Stage.TheVariants.{Leads}
 use Rattle.heap_rule.specs.Phases.{code, kind_at, Follows, last_note}
 use Rattle.heap_rule.proofs.Controls.{last_note_end}
-use Rattle.steps_pauses.specs.Pauses.{kind_in, LeadMay}
+use Rattle.steps_pauses.specs.Pauses.{kind_in, LeadMay, MayFollow}
 use Rattle.steps_pools.specs.Listings.{HasList, free_pools}
 use Rattle.safepoint.specs.Looks.{cleared}
 
@@ -19,6 +19,19 @@ pub kind_of_code : (kind : Kind) → kind_at (code kind) ≡ kind
 kind_of_code Run = refl
 kind_of_code Promote = refl
 kind_of_code Reset = refl
+kind_of_code Roots = refl
+kind_of_code Mark = refl
+kind_of_code Rounds = refl
+kind_of_code Decide = refl
+kind_of_code Queued = refl
+kind_of_code Clean = refl
+kind_of_code Lasts = refl
+kind_of_code Sweep = refl
+kind_of_code Answer = refl
+
+-- all words from 11 on are taken for the last kind
+pub kind_above : (word : ℕ) → 11 ≤ word → kind_at word ≡ Answer
+kind_above word above = ap kind_at (let e : word ≡ suc (suc (suc (suc (suc (suc (suc (suc (suc (suc (suc (word - 11))))))))))) = omega arith in e)
 
 -- the last note says that the wishes were taken back
 took : (notes : List Note) (next : Kind) → next ≡ Run → last_note (notes ++ cleared next) ≡ Some Cleared
@@ -28,15 +41,16 @@ took notes next runs = subst (λ (kind : Kind). last_note (notes ++ cleared kind
 back : (notes : List Note) (next : Kind) → next ≡ Promote → last_note notes ≡ Some SetBack → last_note (notes ++ cleared next) ≡ Some SetBack
 back notes next copies last = subst (λ (kind : Kind). last_note (notes ++ cleared kind) ≡ Some SetBack) (sym copies) (ap last_note (append-nil notes) ∙ last)
 
-pub lead_may : (k : Config) (x y : DomainView) (word : ℕ) (next : Kind) → x.own.number ≡ 0 → x.seen.stage ≡ Leads (kind_in x.seen.stage) → Follows (kind_in x.seen.stage) next → word ≡ code next → (next ≡ Run → HasList k x) → (next ≡ Promote → last_note x.seen.notes ≡ Some SetBack)
+pub lead_may : (k : Config) (x y : DomainView) (word : ℕ) (next : Kind) → x.own.number ≡ 0 → x.seen.stage ≡ Leads (kind_in x.seen.stage) → Follows (kind_in x.seen.stage) next → MayFollow (kind_in x.seen.stage) next → word ≡ code next → (next ≡ Run → HasList k x) → (next ≡ Promote → last_note x.seen.notes ≡ Some SetBack)
     → y ≡ record x { seen = record x.seen { notes = x.seen.notes ++ cleared next } } → LeadMay y word (kind_at word)
-lead_may k x y word next first leads follows is list set_back view =
+lead_may k x y word next first leads follows may is list set_back view =
     let kind : kind_at word ≡ next = ap kind_at is ∙ kind_of_code next in
     subst (λ (z : DomainView). LeadMay z word (kind_at word)) (sym view) (record {
       leads = first;
       last = kind_in x.seen.stage;
       stage = leads;
       follows = subst (Follows (kind_in x.seen.stage)) (sym kind) follows;
+      may = subst (MayFollow (kind_in x.seen.stage)) (sym kind) may;
       word = is ∙ ap code (sym kind);
       took_back = λ runs. took x.seen.notes next (sym kind ∙ runs);
       rewound = λ runs. let l = list (sym kind ∙ runs) in (record { owners = l.owners; names = free_pools l.owners; rewound = true; listed = length (free_pools l.owners) }, l.listing, refl);

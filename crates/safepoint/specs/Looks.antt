@@ -16,6 +16,7 @@ use Rattle.safepoint.specs.declared.answer.Look.{Look}
 use Rattle.safepoint.specs.declared.answer.Look.TheVariants.{Next, Lead, NotAll}
 use Rattle.safepoint.specs.declared.answer.Want as wish
 use Rattle.safepoint.specs.declared.answer.Want.TheVariants.{Minor, Cycle, Finish, Full}
+use Rattle.heap_rule.specs.Views.{fresh_share}
 
 -- the bit of a wish
 abbrev pub bit_of : wish.Want → ℕ
@@ -41,9 +42,8 @@ LookAnswers k x y Lead = Passed k x y × (y.seen.stage ≡ Leads (kind_in x.seen
 -- what domain 0 notes when it leads to a phase of this kind
 abbrev pub cleared : Kind → List Note
 cleared Run = Cleared ∷ []
-cleared Promote = []
-cleared Reset = []
+cleared _ = []
 
 -- domain 0 has named the next kind
 abbrev pub led_view : DomainView → Kind → DomainView
-led_view x next = record x { seen = record x.seen { stage = Led next; notes = x.seen.notes ++ cleared next } }
+led_view x next = record x { seen = record x.seen { stage = Led next; share = fresh_share; notes = x.seen.notes ++ cleared next } }

@@ -4,8 +4,9 @@ ghost use Rattle.heap_rule.specs.declared.phase.Kind as kinds;
 ghost use Rattle.heap_rule.specs.declared.phase.Kind.TheVariants.{Run, Promote};
 ghost use Rattle.heap_rule.specs.declared.phase.Stage.TheVariants.{In, Leads};
 ghost use Rattle.heap_rule.specs.declared.phase.Note.TheVariants as note;
-ghost use Rattle.heap_rule.specs.Phases.{code, Follows, last_note};
-ghost use Rattle.steps_pauses.specs.Pauses.{IsGone, ArriveMay, ClearMay, kind_in, noted, arrived_view};
+ghost use Rattle.heap_rule.specs.Phases.{code, kind_at, Follows, last_note};
+ghost use Rattle.heap_rule.specs.Cycles.{HasNoCycle};
+ghost use Rattle.steps_pauses.specs.Pauses.{IsGone, ArriveMay, ClearMay, MayFollow, kind_in, noted, arrived_view};
 ghost use Rattle.heap_rule.specs.Token.{IsIn};
 ghost use Rattle.safepoint.specs.Looks.{bit_of, cleared, led_view, LookAnswers};
 ghost use Rattle.steps_pools.specs.Listings.{HasList};
@@ -22,30 +23,51 @@ fn word_of(kind: Kind) -> u64
         Kind::Run => 0,
         Kind::Promote => 1,
         Kind::Reset => 2,
+        Kind::Roots => 3,
+        Kind::Mark => 4,
+        Kind::Rounds => 5,
+        Kind::Decide => 6,
+        Kind::Queued => 7,
+        Kind::Clean => 8,
+        Kind::Lasts => 9,
+        Kind::Sweep => 10,
+        Kind::Answer => 11,
     }
 }
 
 // The kind of a plan word.
 fn kind_of(word: u64) -> Kind
-    ensures { (k : kinds.Kind) → word ≡ code k → result ≡ k }
+    ensures { result ≡ kind_at word }
 {
-    if word == 0 {
-        return Kind::Run;
+    match word {
+        0 => Kind::Run,
+        1 => Kind::Promote,
+        2 => Kind::Reset,
+        3 => Kind::Roots,
+        4 => Kind::Mark,
+        5 => Kind::Rounds,
+        6 => Kind::Decide,
+        7 => Kind::Queued,
+        8 => Kind::Clean,
+        9 => Kind::Lasts,
+        10 => Kind::Sweep,
+        _ => Kind::Answer,
     }
-    if word == 1 {
-        return Kind::Promote;
-    }
-    Kind::Reset
 }
 
-/// The kind that comes after this one.
+/// A kind that may come after this one. Without a collection of the major heap none begins.
 pub fn follower(kind: Kind) -> Kind
-    ensures { Follows kind result }
+    ensures follows { Follows kind result }
+    ensures none { HasNoCycle kind → HasNoCycle result }
 {
     match kind {
         Kind::Run => Kind::Promote,
         Kind::Promote => Kind::Reset,
-        Kind::Reset => Kind::Run,
+        Kind::Reset | Kind::Sweep | Kind::Answer => Kind::Run,
+        Kind::Roots | Kind::Mark | Kind::Rounds | Kind::Queued => Kind::Mark,
+        Kind::Decide => Kind::Queued,
+        Kind::Clean => Kind::Lasts,
+        Kind::Lasts => Kind::Sweep,
     }
 }
 
@@ -121,7 +143,7 @@ fn clear_for(heap: &Heap, dom: &mut Domain, next: Kind)
 {
     match next {
         Kind::Run => want_clear(heap, dom),
-        Kind::Promote | Kind::Reset => (),
+        _ => (),
     }
 }
 
@@ -133,6 +155,7 @@ pub fn lead(heap: &Heap, dom: &mut Domain, next: Kind)
     requires leads { dom.old.view.own.number ≡ 0 }
     requires odd { dom.old.view.seen.stage ≡ Leads (kind_in dom.old.view.seen.stage) }
     requires follows { Follows (kind_in dom.old.view.seen.stage) next }
+    requires may { MayFollow (kind_in dom.old.view.seen.stage) next }
     requires list { next ≡ Run → HasList heap.now.config dom.old.view }
     requires set_back { next ≡ Promote → last_note dom.old.view.seen.notes ≡ Some note.SetBack }
     ensures here { IsIn dom.new heap.now }

@@ -1,5 +1,5 @@
 -- The making of a block in the own minor area keeps the rule.
-use Rattle.std.proofs.Common.{◌≡◌, ◌≢◌, ℕ, suc, ◌+◌, ◌*◌, ◌^◌, ◌<◌, ◌≤◌, ◌⊎◌, Bool, true, false, nat_le, if◌then◌else◌, leb-true, ne_eqb, List, zero, [], ◌∷◌, ◌++◌, length, get_or, set, replicate, slice_get, pos, Option, Some, None, sym, refl, ap, ◌∙◌, subst, inl, inr, ⊎_elim, arith, length-set, get_or-set_same, get_or-set_other, lt_of_not-le}
+use Rattle.std.proofs.Common.{◌≡◌, ◌≢◌, ℕ, suc, ◌+◌, ◌*◌, ◌^◌, ◌<◌, ◌≤◌, ◌⊎◌, Bool, true, false, nat_le, if◌then◌else◌, leb-true, ne_eqb, List, [], ◌∷◌, ◌++◌, length, get_or, set, replicate, slice_get, pos, Option, Some, None, sym, refl, ap, ◌∙◌, subst, inl, inr, ⊎_elim, arith, length-set, get_or-set_same, get_or-set_other, lt_of_not-le, IsTrue}
 use Rattle.std.proofs.lemmas.List.{length-replicate}
 use Rattle.std.proofs.lemmas.Int.{ints}
 use Rattle.std.proofs.lemmas.Bool.Decides.{nat_tests}
@@ -18,11 +18,11 @@ use Rattle.heap_model.specs.declared.graph.Value as graph_value
 use Rattle.heap_model.specs.declared.graph.Value.TheVariants.{Int, Block, Nothing}
 use Rattle.heap_model.specs.declared.graph.Node.{Node}
 use Rattle.heap_model.specs.declared.state.State as model
-use Rattle.heap_model.specs.Graph.{Graph, node_at}
+use Rattle.heap_model.specs.Graph.{Graph, node_at, has_label}
 use Rattle.heap_model.specs.Domains.{domain_at, reserve}
 use Rattle.heap_model.specs.Commands.{new_plain}
 use Rattle.heap_model.specs.Entries.{next}
-use Rattle.heap_model.specs.Fronts.{PlainShape}
+use Rattle.heap_model.specs.Fronts.{PlainShape, IsCalm}
 use Rattle.heap_model.proofs.Graphs.GraphLemmas.{node_at-append_old, node_at-append_new}
 use Rattle.heap_model.proofs.Histories.NumberLemmas.{next_label_after}
 use Rattle.heap_model.proofs.Commands.FrameLemmas.{calm_command}
@@ -37,7 +37,7 @@ use Rattle.heap_rule.specs.declared.view.DomainView.{DomainView}
 use Rattle.heap_rule.specs.Limits.{sizes_in}
 use Rattle.heap_rule.specs.Layout.{heap_words, before_heap, base_of, at_address, table_words, listed}
 use Rattle.size_classes.specs.declared.TheConstants.{SIZES}
-use Rattle.heap_rule.specs.Places.{unmarked, IsHeadOf, Place, Live, extent, least_size, class_words, HasClass, span, Stands, Found, Fits, Placed, Spread, Settled, More}
+use Rattle.heap_rule.specs.Places.{IsHeadOf, Place, Live, extent, least_size, class_words, HasClass, span, Stands, Found, Fits, Placed, Spread, Settled, More}
 use Rattle.heap_rule.specs.Copies.{Recalls}
 use Rattle.heap_rule.specs.Room.{Opened}
 use Rattle.heap_rule.specs.Changes.{value_at, changed, FitChanges}
@@ -51,10 +51,18 @@ use Rattle.heap_rule.proofs.Lists.{got_end, got_below}
 use Rattle.heap_rule.proofs.Sizes.{area_below, area_inside}
 use Rattle.heap_rule.proofs.ChangeLemmas.{changed_only, registers_of}
 use Rattle.heap_rule.proofs.Values.{AllStand, stand_set, holds}
-use Rattle.heap_rule.proofs.Keeps.{Words, more_same, mine, my_good, control_set, controls_kept, hunter_as, appends, writes, legal_entry, owes_run, opened_words, quiet, run_settled}
+use Rattle.heap_rule.proofs.Keeps.{Words, more_same, mine, my_good, control_set, controls_kept, hunter_as, appends, writes, legal_entry, owes_run, opened_words, quiet, run_settled, cycle_here, sharing_here, sharings_here, between_here, run_calm, cycle_control}
 use Rattle.heap_rule.proofs.Entering.{running, inside_state, registers_stand}
 use Rattle.heap_rule.proofs.Beside.{found_beside, making_beside, area_word_far}
 use Rattle.heap_rule.proofs.Born.{zero_word, zero_values, all_more, live', born, more, old, is_new, placed_born, settled_born, recalls_born, naming_born, spread_born, opened_born, classes_born}
+use Rattle.heap_rule.proofs.Sharings.{SameCycle}
+use Rattle.heap_rule.proofs.HeadLemmas.{head_at, new_head}
+use Rattle.heap_rule.proofs.FullnessLemmas.{full_young, full_stays, homeless, new_kept}
+use Rattle.heap_rule.specs.Fullness.{Fullness}
+use Rattle.cycle_laws.specs.Fullness.{kept_labels}
+use Rattle.heap_rule.specs.Pools.{Tenancy}
+use Rattle.heap_rule.specs.declared.phase.Kind.{Kind}
+use Rattle.heap_rule.specs.declared.phase.Kind.TheVariants.{Run}
 
 -- the blocks lie beside the free part of an area
 free_far : (k : Config) (live : Live) (x : DomainView) (at : ℕ) → Area k live x → base_of k x.own.number + x.own.used ≤ at → at < base_of k x.own.number + k.minor_words
@@ -85,6 +93,8 @@ inits k slots id word hist x a new changes place may s r _ at _ =
     let wide : length s.words ≡ table_words k = r.whole.wide in
     let spot : before_heap k + a < length s.words = (let w : ℕ = heap_words k in let b : ℕ = before_heap k in let l : length s.words ≡ 1 + b + w = wide in let i : base + minor ≤ w + 1 = inside in omega arith) in
     let beside : (d : ℕ) → Beside k r.account.tenancy s.words d a = area_beside k r.account.tenancy s.words a new r.whole.pools (let p : ℕ = x.own.number * minor in let e : k.pools * 4096 < a = omega arith in e) in
+    let now : model.State = state_of k r.account.log in
+    let same : SameCycle s.words ws = cycle_control k s.words ws (control_set k s.words a new (omega arith)) in
     let rule : Rule k record { words = ws; homes = s.homes; views = set s.views id (one k hist y) } = writes k s r id hist x at y ws record {
       number = refl;
       hunt = refl;
@@ -100,7 +110,7 @@ inits k slots id word hist x a new changes place may s r _ at _ =
       arrivals = refl;
       wide = length-set s.words (before_heap k + a) new;
       controls = controls_kept k s r id hist x at (set s.words (before_heap k + a) new) (control_set k s.words a new (omega arith));
-      found = λ b q lives. let f = r.whole.found b q lives in found_beside k r.account.live r.account.live (state_of k r.account.log).graph (state_of k r.account.log).graph s.words a new b q (more_same r.account.live) f f.there (free_far k r.account.live x a g.area low high b q lives);
+      found = λ b q lives. let f = r.whole.found b q lives in found_beside k r.account.cycling.paint r.account.live r.account.live (state_of k r.account.log).graph (state_of k r.account.log).graph s.words a new b q (more_same r.account.live) f f.there (free_far k r.account.live x a g.area low high b q lives);
       stood = record { wide = g.stood.wide; each = g.stood.each; serial = g.stood.serial };
       area = record { room = g.area.room; free = g.area.free; classes = g.area.classes };
       making = record {
@@ -114,6 +124,9 @@ inits k slots id word hist x a new changes place may s r _ at _ =
       grid = grid_beside k r.account.tenancy s.words a new r.account.live r.account.live r.whole.pools beside (more_same r.account.live) (λ b q h _. h) r.whole.grid;
       hunter = hunter_as k r.account.tenancy ws x y refl refl refl refl refl refl (hunter_beside k r.account.tenancy s.words a new r.whole.pools x (beside x.own.number) g.hunter);
       hunters = λ z _ g. hunter_beside k r.account.tenancy s.words a new r.whole.pools z (beside z.own.number) g.hunter;
+      cycle = cycle_here k s r id hist x at Run tt may.runs now r.account.live r.account.tenancy ws refl (λ m. refl) same;
+      sharing = sharing_here k s r id hist x at Run tt may.runs r.account ws y refl same refl refl refl;
+      sharings = λ z _ g. sharings_here k s r id hist x at Run tt may.runs r.account ws refl same z g;
     } in (
       one k hist y,
       keeps,
@@ -207,7 +220,7 @@ module _ (k : Config) (s : Words) (r : Rule k s) (id : ℕ) (hist : List Entry) 
     classed = some_class (n + 2) (omega arith) (let f = may.few_fields in omega arith);
     low = let y : ℕ = d * k.minor_words in let z : ℕ = k.pools * 4096 in let o : 1 ≤ z + y + 1 + x.own.used = omega arith in o;
     high = let h = high in let i = inside in let b : ℕ = base_of k d in let w : ℕ = heap_words k in let p : b + k.minor_words ≤ w + 1 = i in let o : A + (n + 2) ≤ w + 1 = omega arith in o;
-    head = (may.some_field, (let f = may.few_fields in omega arith), may.tag_fits, omega arith);
+    head = (may.some_field, (let f = may.few_fields in omega arith), may.tag_fits);
     label = ((let b = (mine k s r id hist x at).inside in let c = r.limits.domains in omega arith), may.serial);
   }
 
@@ -255,12 +268,13 @@ module _ (k : Config) (s : Words) (r : Rule k s) (id : ℕ) (hist : List Entry) 
   spot : before_heap k + A < length s.words
   spot = let h = high in let i = inside in let b : ℕ = base_of k d in let w : ℕ = heap_words k in let p : b + k.minor_words ≤ w + 1 = i in let c : ℕ = before_heap k in let l : length s.words ≡ 1 + c + w = r.whole.wide in omega arith
 
-  born_found : Found k live1 grown ws A born_place
+  born_found : Found k r.account.cycling.paint live1 grown ws A born_place
   born_found = record {
     node = new_plain tag n;
     there = node_at-append_new now.graph L (new_plain tag n) fresh;
     shape = ap (λ (m : ℕ). PlainShape m tag) (length-replicate n (Int (pos 0)));
-    head = get_or-set_same s.words (before_heap k + A) new 0 spot ∙ may.head;
+    head = head_at r.account.cycling.paint born_place (get_or-set_same s.words (before_heap k + A) new 0 spot) (new_head r.account.cycling.paint born_place x.seen.share.colours new refl ((between_here k s r id hist x at Run tt may.acts.runs).unmarked L) g.sharing.telling.colours may.head);
+    blank = λ _. refl;
     label = get_or-set_other s.words (before_heap k + A) (before_heap k + (A + 1)) new 0 (λ o. omega arith)
         ∙ (ap (λ (i : ℕ). get_or s.words (before_heap k + i) 0) (let o : A + 1 ≡ A + 1 + 0 = omega arith in o) ∙ made_at 0 (label_word d (x.own.serial + 1)) refl);
     values = λ i v _ got. let t = zero_values n i v got in record {
@@ -272,13 +286,13 @@ module _ (k : Config) (s : Words) (r : Rule k s) (id : ℕ) (hist : List Entry) 
     old = λ low i _ _ _. absurd (let y : ℕ = d * k.minor_words in let l : k.pools * 4096 + y + 1 + x.own.used ≤ k.pools * 4096 = low in omega arith);
   }
 
-  found1 : AllFound k live1 grown ws
+  found1 : AllFound k r.account.cycling.paint live1 grown ws
   found1 b q lives = dite (ℕ_discrete b A)
-      (λ same. subst (λ (y : ℕ × Place). Found k live1 grown ws y.0 y.1) (λ i. (sym same i, is_new k r.account.live A born_place (omega arith) away r.whole.placed b q same lives i)) born_found)
+      (λ same. subst (λ (y : ℕ × Place). Found k r.account.cycling.paint live1 grown ws y.0 y.1) (λ i. (sym same i, is_new k r.account.live A born_place (omega arith) away r.whole.placed b q same lives i)) born_found)
       (λ other.
       let before : r.account.live b ≡ Some q = old k r.account.live A born_place (omega arith) away r.whole.placed b q other lives in
       let f = r.whole.found b q before in
-      found_beside k r.account.live live1 now.graph grown s.words A new b q grows f (node_at-append_old now.graph (L, new_plain tag n) q.label f.node f.there)
+      found_beside k r.account.cycling.paint r.account.live live1 now.graph grown s.words A new b q grows f (node_at-append_old now.graph (L, new_plain tag n) q.label f.node f.there)
       (free_far k r.account.live x A g.area (omega arith) (let h = high in let base : ℕ = base_of k d in omega arith) b q before))
 
   abbrev regs : List Value
@@ -343,21 +357,39 @@ module _ (k : Config) (s : Words) (r : Rule k s) (id : ℕ) (hist : List Entry) 
         (λ gt. inr (let f : base + minor ≤ mine_base = area_below k i d (lt_of_not-le gt) in let y : base + minor ≤ A = omega arith in y)));
   }
 
+  -- the new block is kept, and has no home yet
+  full1 : Fullness k (r.account.log ++ e ∷ []) live1 r.account.tenancy.holder r.account.tenancy.fresh r.account.homes r.account.cycling.kind
+  full1 =
+      let t : Tenancy = r.account.tenancy in
+      let kind : Kind = r.account.cycling.kind in
+      full_young k t s.words (r.account.log ++ e ∷ []) r.account.live live1 r.account.homes kind A L r.whole.pools (let p : ℕ = d * k.minor_words in let q : k.pools * 4096 < A = omega arith in q)
+      (λ b q other lives. old k r.account.live A born_place (omega arith) away r.whole.placed b q other lives)
+      (λ q lives. ap (λ (z : Place). z.label) (sym (is_new k r.account.live A born_place (omega arith) away r.whole.placed A q refl lives)))
+      (homeless k r.account.log r.account.live t.holder t.fresh r.account.homes kind L fresh r.whole.full)
+      (subst (λ (l : Label). IsTrue (has_label (kept_labels (sizes_in k) (r.account.log ++ e ∷ [])) l)) (sym label_is) (new_kept k r.account.log d (Alloc dst tag n) refl))
+      (full_stays k r.account.log r.account.live t.holder t.fresh r.account.homes kind e refl r.whole.full)
+
+  calm : IsCalm now
+  calm = run_calm k s r id hist x at may.acts.runs
+
   alloc_rule : Rule k record { words = ws; homes = s.homes; views = set s.views id (one k hist after) }
-  alloc_rule = appends k s r id hist x at e after ws live1 record {
+  alloc_rule = appends k s r id hist x at e after ws live1 r.account.homes record {
+    plain = tt;
+    full = full1;
+    share = refl;
     alone = λ m other. ne_eqb d m (λ o. other (sym o));
     command = tt;
     runs = may.acts.runs;
     stage = refl;
     listing = refl;
-    allowed = record { running = running k s r id hist x at may.acts; fits = (r.whole.calm.mode, r.whole.calm.queues d); full_fits = tt };
-    calm = calm_command now d (Alloc dst tag n) false r.whole.calm;
+    allowed = record { running = running k s r id hist x at may.acts; fits = (calm.mode, calm.queues d); full_fits = tt };
+    calm = calm_command now d (Alloc dst tag n) false calm;
     number = refl;
     front = refl;
     arrivals = refl;
     wide = length-set s.words (before_heap k + A) new;
     controls = controls_kept k s r id hist x at ws (control_set k s.words A new (fits_born.low));
-    found = subst (λ (z : Graph). AllFound k live1 z ws) (sym leaves.graph_is) found1;
+    found = subst (λ (z : Graph). AllFound k r.account.cycling.paint live1 z ws) (sym leaves.graph_is) found1;
     placed = placed1;
     spread = spread1;
     opened = opened1;
@@ -380,7 +412,7 @@ module _ (k : Config) (s : Words) (r : Rule k s) (id : ℕ) (hist : List Entry) 
   alloc_told : AllocTold k e changes x after
   alloc_told = record {
     answers = answers_push (sizes_in k) d r.account.log x.seen.front e (Replied (BlockReply L)) (mine k s r id hist x at).front
-        (legal_entry k s r id hist x at e record { running = running k s r id hist x at may.acts; fits = (r.whole.calm.mode, r.whole.calm.queues d); full_fits = tt }) leaves.replies;
+        (legal_entry k s r id hist x at e record { running = running k s r id hist x at may.acts; fits = (calm.mode, calm.queues d); full_fits = tt }) leaves.replies;
     view = λ i. record {
       own = record (sym (changed_only NothingWord changes x.own) i) { used = x.own.used + class_words (n + 2); serial = x.own.serial + 1 };
       seen = after.seen;
@@ -419,5 +451,5 @@ pub record AllocFacts (k : Config) (x : DomainView) (new : ℕ) (e : Entry) : Ty
 
 pub alloc_facts : (k : Config) (x : DomainView) (a new : ℕ) (changes : List Change) (e : Entry) → AllocEntry k x a new changes e → AllocFacts k x new e
 alloc_facts k x a new changes (Command j (Alloc dst tag n) false) may =
-    record { tag = tag; head = record { colour = unmarked; scanned = false; packable = (may.some_field, (let f = may.few_fields in omega arith), may.tag_fits, omega arith); packs = may.head }; few = may.few_fields; room = may.room; serial = may.serial }
+    record { tag = tag; head = let h = may.head in record { colour = h.colours.unmarked; scanned = false; packable = (may.some_field, (let f = may.few_fields in omega arith), may.tag_fits, h.fits); packs = h.packs }; few = may.few_fields; room = may.room; serial = may.serial }
 alloc_facts k x a new changes _ may = absurd may

@@ -12,23 +12,30 @@ use Rattle.heap_rule.specs.declared.config.Config.{Config}
 use Rattle.heap_rule.specs.declared.view.Copying.{Copying}
 use Rattle.heap_rule.specs.declared.view.DomainView.{DomainView}
 use Rattle.heap_rule.specs.declared.phase.Kind.{Kind}
-use Rattle.heap_rule.specs.declared.phase.Kind.TheVariants.{Run, Promote, Reset}
+use Rattle.heap_rule.specs.declared.phase.Kind.TheVariants.{Run, Promote}
 use Rattle.heap_rule.specs.declared.phase.Stage.{Stage}
 use Rattle.heap_rule.specs.declared.phase.Stage.TheVariants.{In, Leads, Led, Gone}
 use Rattle.heap_rule.specs.Layout.{heap_words, before_heap, barrier, plan, ended_word, want, listed, cursor, listed_pool}
 use Rattle.heap_rule.specs.Limits.{sizes_in}
 use Rattle.heap_rule.specs.Places.{Place, Live, Settled}
-use Rattle.heap_rule.specs.Copies.{nothing_copied, Promoting, Cleared as Clears, AllCleared, Emptied, Rooted}
+use Rattle.heap_rule.specs.Copies.{nothing_copied, Promoting, Cleared as Clears, AllCleared, Emptied, Rooted, IsEmptying}
 use Rattle.heap_rule.specs.Phases.{code, Follows, sum_of, IsEven, IsOdd, Pause, Phases, LeftOdd, AtStage, Staged, Unwished}
-use Rattle.heap_rule.specs.Pools.{Stock, Tenancy, nobody, drawn, drawn_in, place_in, limit_of, Reserved, Drawers, Hunts}
+use Rattle.heap_rule.specs.Pools.{Stock, Tenancy, nobody, drawn, drawn_in, place_in, limit_of, Reserved, Drawers, Hunts, no_stock}
 use Rattle.heap_rule.specs.Room.{spent_stock, drawn_in_all, Room, IsUnused, Drawable}
 use Rattle.heap_rule.specs.Rule.{Good, Rule}
 use Rattle.heap_rule.specs.Views.{one, Tells}
 use Rattle.heap_rule.proofs.Update.{over, over_here, over_else}
 use Rattle.heap_rule.proofs.Lists.{no_item}
 use Rattle.heap_rule.proofs.Controls.{Untouched, counts_untouched, low_untouched, reserved_untouched, pools_untouched, hunter_untouched, sum_one, all_up, parity, Move, moved_to, turns}
-use Rattle.heap_rule.proofs.Drops.{drops}
-use Rattle.heap_rule.proofs.Keeps.{Words, mine, my_good, not_both, quiet_in, owes_rests, room_unused}
+use Rattle.heap_rule.proofs.Drops.{drops, dropped}
+use Rattle.heap_rule.proofs.Keeps.{Words, mine, my_good, now, no_cycle_here, quiet_in, owes_rests, room_unused}
+use Rattle.heap_rule.proofs.PauseFacts.{not_both}
+use Rattle.heap_rule.proofs.Sharings.{SameCycle}
+use Rattle.heap_rule.specs.Cycles.{Cycling, Told, HasNoCycle}
+use Rattle.heap_rule.specs.Layout.{at_address}
+use Rattle.heap_rule.specs.Views.{fresh_share}
+use Rattle.heap_rule.proofs.Controls.{cycle_untouched, heap_untouched}
+use Rattle.steps_pauses.proofs.Arriving.{arrived_cycle, told_arrived, told_turned, facts_gone, cycle_gone, cycle_dropped, sharing_gone, sharing_else, sharing_between}
 use Rattle.steps_pauses.specs.Pauses.{kind_in, ArrivesFrom, ArriveMay, forgotten, arrived_view, Arrived}
 
 -- who may arrive acts in the phase
@@ -60,11 +67,11 @@ has_led t d arrivals (Led kd) first j e from at = at.3
 has_led t d arrivals (Gone kd) first j e from at = absurd from
 
 -- who is one ahead has arrived, and what it knows of the kinds stays
-ahead : (t t' : Pause) (d arrivals : ℕ) (st : Stage) → arrivals ≡ t.phase + 1 → ((j : ℕ) → t'.kinds j ≡ t.kinds j) → AtStage t d arrivals st → AtStage t' d arrivals st
-ahead t t' d arrivals (In kd) up same at = absurd (let e : arrivals ≡ t.phase = at.0 in omega arith)
-ahead t t' d arrivals (Leads kd) up same at = absurd (let e : arrivals ≡ t.phase = at.0 in omega arith)
-ahead t t' d arrivals (Led kd) up same at = absurd (let e : arrivals ≡ t.phase = at.0 in omega arith)
-ahead t t' d arrivals (Gone kd) up same at = (λ j e. same j ∙ at.0 j e, λ even. let l = at.1 even in (l.0, l.1, λ first. same (l.0 + 1) ∙ l.2 first, λ other. same l.0 ∙ l.3 other))
+ahead : (t t' : Pause) (d arrivals : ℕ) (st : Stage) → arrivals ≡ t.phase + 1 → ((j : ℕ) → t'.kinds j ≡ t.kinds j) → (d ≡ 0 → arrivals ≡ t'.phase → t'.led ≡ false) → AtStage t d arrivals st → AtStage t' d arrivals st
+ahead t t' d arrivals (In kd) up same named at = absurd (let e : arrivals ≡ t.phase = at.0 in omega arith)
+ahead t t' d arrivals (Leads kd) up same named at = absurd (let e : arrivals ≡ t.phase = at.0 in omega arith)
+ahead t t' d arrivals (Led kd) up same named at = absurd (let e : arrivals ≡ t.phase = at.0 in omega arith)
+ahead t t' d arrivals (Gone kd) up same named at = (λ j e. same j ∙ at.0 j e, λ even. let l = at.1 even in (l.0, l.1, λ first. same (l.0 + 1) ∙ l.2 first, λ other. same l.0 ∙ l.3 other), named)
 
 -- where only arrivals of others change
 same_stage : (t : Pause) (arrived' : ℕ → ℕ) (d arrivals : ℕ) (st : Stage) → AtStage t d arrivals st → AtStage (record t { arrived = arrived' }) d arrivals st
@@ -91,7 +98,7 @@ none_some : (q : ℕ) → ◌≡◌ {A = Option ℕ} None (Some q) → ⊥
 none_some q e = cc
 
 gone_leads : (kind last : Kind) → ◌≡◌ {A = Stage} (Gone kind) (Leads last) → ⊥
-gone_leads kind last e = cc
+gone_leads kind other e = cc
 
 -- who leaves while copies are made is in Promote
 in_promote : (t : Pause) (d arrivals : ℕ) (st : Stage) → ArrivesFrom d st → AtStage t d arrivals st → Promoting t → st ≡ In Promote
@@ -110,18 +117,16 @@ odd_before n j e = half_before j n e (λ i odd more. (i, odd))
 even_before : (n j : ℕ) → n + 1 ≡ j * 2 + 1 → n ≡ j * 2
 even_before n j e = omega arith
 
-follows_reset : (a b : Kind) → Follows a b → b ≡ Reset → a ≡ Promote
-follows_reset Run b f e = let h : Promote ≡ Reset = sym f ∙ e in cc
-follows_reset Promote b f e = refl
-follows_reset Reset b f e = let h : Run ≡ Reset = sym f ∙ e in cc
+-- they copy after they ran
+after_run : (b : Kind) → Follows Run b → b ≢ Promote → ⊥
+after_run b f other = other f
 
 run_promote : Run ≡ Promote → ⊥
 run_promote e = cc
 
 kind_promote : (kd : Kind) → (kd ≡ Promote) ⊎ (kd ≡ Promote → ⊥)
-kind_promote Run = inr run_promote
 kind_promote Promote = inl refl
-kind_promote Reset = inr (λ e. let h : Reset ≡ Promote = e in cc)
+kind_promote _ = inr (λ e. cc)
 
 promoting_or : (t : Pause) → Promoting t ⊎ (Promoting t → ⊥)
 promoting_or t = ⊎_elim
@@ -159,6 +164,10 @@ module _ (k : Config) (s : Words) (r : Rule k s) (id : ℕ) (hist : List Entry) 
   abbrev stays : Pause
   stays = record pause { arrived = arrived' }
 
+  -- the collection then
+  abbrev cycling' : Cycling
+  cycling' = arrived_cycle x.seen.stage r.account.cycling number
+
   -- what is used of the pools, with other numbers of copies in lists
   abbrev counting : (ℕ → ℕ) → Stock
   counting claims = record tenancy.stock { claims = claims }
@@ -173,6 +182,7 @@ module _ (k : Config) (s : Words) (r : Rule k s) (id : ℕ) (hist : List Entry) 
     free = None;
     listing = None;
     copying = nothing_copied;
+    share = fresh_share;
   }
 
   abbrev y : DomainView
@@ -198,6 +208,12 @@ module _ (k : Config) (s : Words) (r : Rule k s) (id : ℕ) (hist : List Entry) 
 
   untouched : Untouched s.words words'
   untouched = (length-set s.words 1 (barrier s.words + 1), (λ i low other. get_or-set_other s.words 1 i (barrier s.words + 1) 0 (λ e. omega arith)))
+
+  same_cycle : SameCycle s.words words'
+  same_cycle = cycle_untouched s.words words' untouched (get_or-set_other s.words 1 3 (barrier s.words + 1) 0 (λ e. omega arith))
+
+  same_heap : (a : ℕ) → at_address k words' a ≡ at_address k s.words a
+  same_heap = heap_untouched k s.words words' untouched
 
   endings : ended_word words' ≡ ended_word s.words
   endings = get_or-set_other s.words 1 8 (barrier s.words + 1) 0 (λ e. omega arith)
@@ -227,8 +243,13 @@ module _ (k : Config) (s : Words) (r : Rule k s) (id : ℕ) (hist : List Entry) 
       (λ same. has_led pause number x.own.arrivals x.seen.stage (sym same) j odd may.from good.staged.stage)
       (λ other. r.whole.phases.leader j odd (sym (else_is 0 other) ∙ up))
 
-  known : AtStage pause number (x.own.arrivals + 1) (Gone (kind_in x.seen.stage))
-  known = (leaves pause number x.own.arrivals x.seen.stage may.from good.staged.stage, leaves_odd pause number x.own.arrivals x.seen.stage may.from good.staged.stage)
+  known : (t : Pause) → ((j : ℕ) → t.kinds j ≡ pause.kinds j) → (number ≡ 0 → x.own.arrivals + 1 ≡ t.phase → t.led ≡ false) → AtStage t number (x.own.arrivals + 1) (Gone (kind_in x.seen.stage))
+  known t same named =
+      let odd = leaves_odd pause number x.own.arrivals x.seen.stage may.from good.staged.stage in (
+        λ j e. same j ∙ leaves pause number x.own.arrivals x.seen.stage may.from good.staged.stage j e,
+        λ even. let l = odd even in (l.0, l.1, λ first. same (l.0 + 1) ∙ l.2 first, λ other. same l.0 ∙ l.3 other),
+        named,
+      )
 
   promotes : Promoting pause → x.seen.stage ≡ In Promote
   promotes = in_promote pause number x.own.arrivals x.seen.stage may.from good.staged.stage
@@ -275,11 +296,18 @@ module _ (k : Config) (s : Words) (r : Rule k s) (id : ℕ) (hist : List Entry) 
     unused : IsUnused pause' (counting claims')
     drawable : Drawable k pause' words'
     unwished : Unwished pause' words'
+    told : Told k pause' r.account.cycling.kind cycling'.shares
     mine_is : claims' number ≡ 0
     theirs : (e : ℕ) → e ≢ number → claims' e ≡ tenancy.stock.claims e
 
   through : (pause' : Pause) (claims' : ℕ → ℕ) → Parts pause' claims' → Rule k record { words = words'; homes = s.homes; views = set s.views id (one k hist y) }
-  through pause' claims' p = turns k s r id hist x at move pause' (counting claims') words' record {
+  through pause' claims' p = turns k s r id hist x at move pause' (counting claims') cycling' r.account.homes words' record {
+    full = r.whole.full;
+    paint = refl;
+    cycle = cycle_gone x.seen.stage k (now k s r id hist x at) live pause pause' tenancy (counting claims') r.account.cycling s.words words' number same_cycle same_heap
+        (facts_gone x.seen.stage k (now k s r id hist x at) live pause tenancy r.account.cycling s.words x may.from good.staged.stage may.done r.whole.cycle.told r.whole.cycle.facts) p.told r.whole.cycle;
+    sharing = sharing_gone k r.account s.words words' x pause' live (record tenancy { stock = counting claims' }) y.seen.stage inside may.from good.staged.stage r.whole.cycle.told good;
+    sharings = λ z _ other g. sharing_else k r.account s.words words' x.seen.stage number z pause' (counting claims') other same_cycle same_heap g;
     untouched = untouched;
     front = (mine k s r id hist x at).front;
     phases = p.phases;
@@ -331,7 +359,7 @@ module _ (k : Config) (s : Words) (r : Rule k s) (id : ℕ) (hist : List Entry) 
       followed = r.whole.phases.followed;
       leader = leader_is;
     };
-    staged = record { arrivals = counted; stage = known };
+    staged = record { arrivals = counted; stage = known stays (λ _. refl) (λ _ up. absurd (let u : x.own.arrivals + 1 ≡ pause.phase = up in let v : x.own.arrivals ≡ pause.phase = here in omega arith)) };
     others = λ z below other its. record {
       arrivals = its.arrivals ∙ sym (else_is z.own.number other);
       stage = same_stage pause arrived' z.own.number z.own.arrivals z.seen.stage its.stage;
@@ -360,6 +388,7 @@ module _ (k : Config) (s : Words) (r : Rule k s) (id : ℕ) (hist : List Entry) 
       to_copy = λ j odd led copies. low_untouched k s.words words' untouched (r.whole.drawable.to_copy j odd led copies);
     };
     unwished = λ j odd led runs. want_is ∙ r.whole.unwished j odd led runs;
+    told = told_arrived k pause r.account.cycling.kind r.account.cycling.paint.colours r.account.cycling.shares number x.own.arrivals r.whole.cycle.told inside arrived' own_up else_is x.seen.stage may.from good.staged.stage;
     mine_is = mine_is;
     theirs = theirs;
   }
@@ -446,20 +475,28 @@ module _ (k : Config) (s : Words) (r : Rule k s) (id : ℕ) (hist : List Entry) 
       leader = λ j e a. absurd (let f : arrived' 0 ≡ pause.phase + 1 = ups 0 r.limits.some_domain in let g : arrived' 0 ≡ pause.phase + 1 + 1 = a in omega arith);
     }
 
+    next_told : Told k next r.account.cycling.kind cycling'.shares
+    next_told = told_turned k pause r.account.cycling.kind r.account.cycling.paint.colours r.account.cycling.shares number x.own.arrivals r.whole.cycle.told inside arrived' own_up else_is ups led_is x.seen.stage may.from good.staged.stage
+
     next_stage : (z : DomainView) → z.own.number < k.domains → z.own.number ≢ number → Staged pause z → Staged next z
     next_stage z below other its = record {
       arrivals = its.arrivals ∙ sym (else_is z.own.number other);
-      stage = ahead pause next z.own.number z.own.arrivals z.seen.stage (up_now z below other its) (λ j. refl) its.stage;
+      stage = ahead pause next z.own.number z.own.arrivals z.seen.stage (up_now z below other its) (λ j. refl) (λ _ _. refl) its.stage;
     }
 
     -- the domains leave Promote: the blocks of the minor areas are dropped
     promoted : Promoting pause → Rule k record { words = words'; homes = s.homes; views = set s.views id (one k hist y) }
-    promoted p = drops k s r id hist x at move next words' refl record {
+    promoted p = let in_promote : HasNoCycle r.account.cycling.kind = no_cycle_here k s r id hist x at Promote tt (promotes p) in drops k s r id hist x at move next cycling' words' refl record {
+      paint = refl;
+      kind = refl;
+      cycle = cycle_dropped x.seen.stage k (now k s r id hist x at) live (dropped k live) pause next tenancy (record tenancy { stock = no_stock }) r.account.cycling s.words words' number in_promote (λ a. refl) same_cycle next_told r.whole.cycle;
+      sharing = sharing_gone k r.account s.words words' x next (dropped k live) (record tenancy { stock = no_stock }) y.seen.stage inside may.from good.staged.stage r.whole.cycle.told good;
+      sharings = λ z _ other g. sharing_between k r.account s.words words' x z Promote next (dropped k live) (record tenancy { stock = no_stock }) tt (promotes p) in_promote other same_cycle good g;
       untouched = untouched;
       front = (mine k s r id hist x at).front;
       phases = next_phases;
       endings = endings;
-      staged = record { arrivals = counted; stage = known };
+      staged = record { arrivals = counted; stage = known next (λ _. refl) (λ _ _. refl) };
       still = λ paused. absurd paused;
       resting = record { hunt = λ n. may.at_rest; free = λ n. refl; lists = λ l e. cc };
       idle = refl;
@@ -510,15 +547,19 @@ module _ (k : Config) (s : Words) (r : Rule k s) (id : ℕ) (hist : List Entry) 
 
     next_emptied : (Promoting pause → ⊥) → Emptied k live next
     next_emptied elsewhere h = r.whole.emptied (⊎_elim
-        (λ (a : (i : ℕ) × (pause.phase + 1 ≡ i * 2 + 1) × (pause.kinds i ≡ Promote)). absurd (elsewhere (a.0, even_before pause.phase a.0 a.1, a.2)))
-        (λ q. ⊎_elim
-        (λ (a : (i : ℕ) × (pause.phase + 1 ≡ i * 2) × (pause.kinds i ≡ Reset)). half_before a.0 pause.phase a.1 (λ i odd more. inl (i, odd, follows_reset (pause.kinds i) (pause.kinds (i + 1)) (r.whole.phases.next_plan i odd (led_is i odd)).1 (ap pause.kinds more ∙ a.2))))
-        (λ (a : (i : ℕ) × (pause.phase + 1 ≡ i * 2 + 1) × (pause.kinds i ≡ Reset)). inr (inl (a.0, even_before pause.phase a.0 a.1, a.2))) q) h)
+        (λ (a : (i : ℕ) × (pause.phase + 1 ≡ i * 2 + 1) × (pause.kinds i ≢ Run)). let even : pause.phase ≡ a.0 * 2 = even_before pause.phase a.0 a.1 in inr (a.0, even, (a.2, λ e. elsewhere (a.0, even, e))))
+        (λ (a : (i : ℕ) × (pause.phase + 1 ≡ i * 2) × IsEmptying (pause.kinds i)). half_before a.0 pause.phase a.1 (λ i odd more. inl (
+          i,
+          odd,
+          λ runs.
+              after_run (pause.kinds (i + 1)) (subst (λ (kind : Kind). Follows kind (pause.kinds (i + 1))) runs (r.whole.phases.next_plan i odd (led_is i odd)).1) (λ e. a.2.1 (ap pause.kinds (sym more) ∙ e)),
+        )))
+        h)
 
     turned : (Promoting pause → ⊥) → Rule k record { words = words'; homes = s.homes; views = set s.views id (one k hist y) }
     turned elsewhere = through next tenancy.stock.claims record {
       phases = next_phases;
-      staged = record { arrivals = counted; stage = known };
+      staged = record { arrivals = counted; stage = known next (λ _. refl) (λ _ _. refl) };
       others = next_stage;
       settled = ⊎_elim (λ h. inl h) (λ (h : Promoting pause). absurd (elsewhere h)) r.whole.settled;
       cleared = λ h e below up. absurd (let f : arrived' e ≡ pause.phase + 1 = ups e below in let u : arrived' e ≡ pause.phase + 1 + 1 = up in omega arith);
@@ -538,6 +579,7 @@ module _ (k : Config) (s : Words) (r : Rule k s) (id : ℕ) (hist : List Entry) 
         to_copy = λ j _ led _. absurd (true≢false (sym led));
       };
       unwished = λ j odd led. absurd (true≢false (sym led));
+      told = next_told;
       mine_is = no_claims elsewhere;
       theirs = λ e _. refl;
     }

@@ -11,7 +11,6 @@ use Rattle.heap_model.specs.declared.state.State as model
 use Rattle.heap_model.specs.Graph.{Graph}
 use Rattle.heap_model.specs.Domains.{domain_at, no_domain}
 use Rattle.heap_model.specs.Entries.{next, ended}
-use Rattle.heap_model.specs.Fronts.{IsCalm}
 use Rattle.heap_model.proofs.Commands.FrameLemmas.{calm_end, keeps_next}
 use Rattle.heap_model.proofs.Commands.LeavesLemmas.{leaves_end}
 use Rattle.heap_words.specs.declared.value.Value.{Value}
@@ -24,14 +23,17 @@ use Rattle.heap_rule.specs.Changes.{value_at}
 use Rattle.heap_rule.specs.Phases.{sum_of, is_over, flag}
 use Rattle.steps_pauses.specs.Pauses.{end_changes, EndTold}
 use Rattle.heap_rule.specs.Raw.{MayStep}
-use Rattle.heap_rule.specs.Rule.{state_of, AllFound, Stood, Rule}
+use Rattle.heap_rule.specs.Rule.{state_of, AllFound, Stood, NoneQueued, Account, Rule}
 use Rattle.heap_rule.specs.Standing.{Acts}
 use Rattle.heap_rule.specs.declared.phase.Kind.TheVariants.{Run}
 use Rattle.heap_rule.specs.Views.{one, Tells}
 use Rattle.heap_rule.proofs.Values.{AllStand}
-use Rattle.heap_rule.proofs.Keeps.{mine, my_good, remakes, knows_entry, after_entry, legal_entry, phases_words, stood_other, nobody_paused, run_still, staged_as, hunter_as, running_took_back, resting_runs, resting_other, room_words, opened_words, takes_drawable, owes_as, more_same, run_promoting, run_leads}
+use Rattle.heap_rule.proofs.Keeps.{mine, my_good, remakes, knows_entry, after_entry, legal_entry, plain_push, cycle_here, between_here, sharing_here, sharings_here, phases_words, stood_other, run_still, hunter_as, running_took_back, resting_runs, resting_other, room_words, opened_words, takes_drawable, owes_as, more_same, run_leads}
+use Rattle.heap_rule.proofs.PauseFacts.{nobody_paused, staged_as, run_promoting}
+use Rattle.heap_rule.proofs.Sharings.{SameCycle}
+use Rattle.heap_rule.proofs.FullnessLemmas.{full_stays}
 use Rattle.heap_rule.proofs.Controls.{Untouched, found_untouched, making_untouched, pools_untouched, grid_untouched, hunter_untouched, cycle_untouched, reserved_untouched, counts_untouched, low_untouched, sum_one}
-use Rattle.heap_rule.proofs.Entering.{running, inside_state, registers_stand, Enters, entered_view, stood_after, enters}
+use Rattle.heap_rule.proofs.Entering.{running, inside_state, registers_stand, calm, Enters, entered_view, stood_after, enters}
 use Rattle.steps_pauses.proofs.PauseSteps.{over_few}
 
 ends : (k : Config) (slots id : ℕ) (hist : List Entry) (x : DomainView) → Acts k x
@@ -50,10 +52,12 @@ ends k slots id hist x acts s r _ at _ =
     let inside : d < length now.domains = inside_state k s r id hist x at acts in
     let goes : (domain_at now d).ended ≡ false = running k s r id hist x at acts in
     let theirs : List model_value.Value = (domain_at now d).registers in
+    let quiet_state = calm k s r id hist x at acts in
     let o : Enters k s r id hist x at acts e regs Silent = record {
       alone = λ i other. ne_eqb d i (λ q. other (sym q));
-      allowed = record { mode = r.whole.calm.mode; running = goes; queue = r.whole.calm.queues d };
-      calm = calm_end now d r.whole.calm;
+      plain = tt;
+      allowed = record { mode = quiet_state.mode; running = goes; queue = quiet_state.queues d };
+      calm = calm_end now d quiet_state;
       theirs = replicate (length theirs) Nothing;
       stand = nothings r.account.live (length theirs) stand.long;
       leaves = leaves_end now d inside;
@@ -72,12 +76,16 @@ ends k slots id hist x acts s r _ at _ =
     let same_want : want ws ≡ want s.words = get_or-set_other s.words 8 0 (w + 1) 0 (λ q. omega arith) in
     let same_counts = counts_untouched s.words ws untouched in
     let prep = making_untouched k s.words ws x untouched g.making in
-    let rule : Rule k record { words = ws; homes = s.homes; views = set s.views id (one k hist y) } = remakes k s r id hist x at y (record r.account { log = log' }) ws
+    let same : SameCycle s.words ws = cycle_untouched s.words ws untouched (get_or-set_other s.words 8 3 (w + 1) 0 (λ q. omega arith)) in
+    let all' : Account = record r.account { log = log' } in
+    let rule : Rule k record { words = ws; homes = s.homes; views = set s.views id (one k hist y) } = remakes k s r id hist x at y all' ws
     record {
       wide = untouched.0 ∙ r.whole.wide;
       legal = legal_entry k s r id hist x at e o.allowed;
-      calm = subst IsCalm (sym after) o.calm;
-      found = subst (λ (t : model.State). AllFound k r.account.live t.graph ws) (sym after) (subst (λ (graph : Graph). AllFound k r.account.live graph ws) (sym o.leaves.graph_is) (found_untouched k r.account.live now.graph s.words ws untouched r.whole.found));
+      plain = plain_push r.account.log e r.whole.plain o.plain;
+      full = full_stays k r.account.log r.account.live r.account.tenancy.holder r.account.tenancy.fresh r.account.homes r.account.cycling.kind e refl r.whole.full;
+      queues = subst NoneQueued (sym after) o.calm.queues;
+      found = let paint = r.account.cycling.paint in subst (λ (t : model.State). AllFound k paint r.account.live t.graph ws) (sym after) (subst (λ (graph : Graph). AllFound k paint r.account.live graph ws) (sym o.leaves.graph_is) (found_untouched k paint r.account.live now.graph s.words ws untouched r.whole.found));
       placed = r.whole.placed;
       spread = r.whole.spread;
       settled = r.whole.settled;
@@ -95,7 +103,7 @@ ends k slots id hist x acts s r _ at _ =
       drawable = takes_drawable k r.account.pause ws x (inl acts.runs) g.staged;
       grid = grid_untouched k r.account.tenancy r.account.live s.words ws untouched r.whole.grid;
       drawers = r.whole.drawers;
-      cycle = cycle_untouched s.words ws untouched r.whole.cycle;
+      cycle = cycle_here k s r id hist x at Run tt acts.runs (state_of k log') r.account.live r.account.tenancy ws (ap (λ (t : model.State). t.mode) after ∙ (o.calm.mode ∙ sym (between_here k s r id hist x at Run tt acts.runs).mode)) (λ a. refl) same;
     }
     (knows_entry k s r id hist x at y e o.alone refl refl)
     record {
@@ -110,6 +118,7 @@ ends k slots id hist x acts s r _ at _ =
       owes = owes_as k r.account.live x y refl refl refl refl g.owes;
       rooted = λ h. absurd (run_promoting r.account.pause x acts.runs g.staged h);
       set_back = λ back. absurd (run_leads Run (sym acts.runs ∙ back.0));
+      sharing = sharing_here k s r id hist x at Run tt acts.runs all' ws y refl same refl refl refl;
     }
     (λ z _ other h. record {
       stood = subst (λ (t : model.State). Stood r.account.live t z) (sym after) (stood_other r.account.live r.account.live now (next now e) z (keeps_next now e z.own.number (o.alone z.own.number other)) (more_same r.account.live) h.stood);
@@ -123,6 +132,7 @@ ends k slots id hist x acts s r _ at _ =
       owes = h.owes;
       rooted = h.rooted;
       set_back = λ back. low_untouched k s.words ws untouched (h.set_back back);
+      sharing = sharings_here k s r id hist x at Run tt acts.runs all' ws refl same z h;
     }) in (
       one k hist y,
       keeps,

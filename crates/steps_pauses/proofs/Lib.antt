@@ -1,4 +1,6 @@
 pub mod Plain
+mod Arriving
+mod Naming
 mod Arrivals
 pub mod PauseSteps
 pub mod EndSteps

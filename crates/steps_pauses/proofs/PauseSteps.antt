@@ -11,7 +11,7 @@ use Rattle.heap_model.proofs.Histories.FrontLemmas.{front_whole}
 use Rattle.heap_rule.specs.declared.config.Config.{Config}
 use Rattle.heap_rule.specs.declared.view.DomainView.{DomainView}
 use Rattle.heap_rule.specs.declared.phase.Kind.{Kind}
-use Rattle.heap_rule.specs.declared.phase.Kind.TheVariants.{Run, Promote, Reset}
+use Rattle.heap_rule.specs.declared.phase.Kind.TheVariants.{Run, Promote, Mark, Rounds, Decide, Clean, Sweep, Answer}
 use Rattle.heap_rule.specs.declared.phase.Stage.{Stage}
 use Rattle.heap_rule.specs.declared.phase.Stage.TheVariants.{In, Leads, Led, Gone}
 use Rattle.heap_rule.specs.declared.phase.Note.{Note}
@@ -20,23 +20,26 @@ use Rattle.heap_rule.specs.Layout.{heap_words, before_heap, barrier, plan, ended
 use Rattle.heap_rule.specs.Phases.{code, Follows, Comes, sum_of, is_over, IsEven, IsOdd, Pause, Phases, LeftOdd, AtStage, Staged, Still, IsInPause, TookBack, HasSetBack, Unwished, last_note}
 use Rattle.heap_rule.specs.Pools.{Tenancy, Takes, IsLeading, KeepsReserve}
 use Rattle.heap_rule.specs.Places.{Live}
-use Rattle.heap_rule.specs.Copies.{nothing_copied, Promoting, Resetting}
+use Rattle.heap_rule.specs.Copies.{nothing_copied, Promoting, Resetting, IsEmptying}
 use Rattle.heap_rule.specs.declared.view.Copying.{Copying}
-use Rattle.steps_pauses.specs.Pauses.{noted, kind_in, IsGone, WantTold, AskTold, ArriveMay, Arrived, LookTold, PlanTold, ClearTold, LeadMay, LeadTold, EndedTold}
+use Rattle.steps_pauses.specs.Pauses.{noted, kind_in, IsGone, WantTold, AskTold, ArriveMay, Arrived, LookTold, PlanTold, ClearTold, LeadMay, LeadTold, EndedTold, MayFollow}
 use Rattle.heap_rule.specs.Raw.{MayStep, MayStore}
 use Rattle.heap_rule.specs.Rule.{state_of, Rule}
-use Rattle.heap_rule.specs.Views.{one, Tells}
+use Rattle.heap_rule.specs.Views.{one, Tells, fresh_share}
 use Rattle.heap_rule.proofs.Update.{over, over_here, over_else}
-use Rattle.heap_rule.proofs.Controls.{Untouched, untouched_same, counts_untouched, low_untouched, reserved_untouched, hunter_untouched, resting_untouched, sum_low, parity, Move, moved_to, no_move, turns, notes_rule, last_note_end}
+use Rattle.heap_rule.proofs.Controls.{Untouched, untouched_same, counts_untouched, low_untouched, reserved_untouched, hunter_untouched, resting_untouched, sum_low, parity, Move, moved_to, no_move, turns, notes_rule, last_note_end, cycle_untouched}
 use Rattle.heap_rule.proofs.Holders.{stock_self}
 use Rattle.steps_pauses.proofs.Arrivals.{arrives}
-use Rattle.heap_rule.proofs.Keeps.{Words, mine, my_good, unmoved, nobody_paused, not_both, quiet_in, owes_rests, hunter_as, room_words}
+use Rattle.heap_rule.proofs.Keeps.{Words, mine, my_good, now, unmoved, quiet_in, owes_rests, hunter_as, room_words}
+use Rattle.heap_rule.proofs.PauseFacts.{nobody_paused, not_both}
+use Rattle.heap_rule.proofs.Sharings.{SameCycle}
+use Rattle.steps_pauses.proofs.Naming.{led_cycle, led_pause, full_led, cycle_led, sharing_led, sharings_led, sharing_looked}
 
 gone_runs : (kind : Kind) → ◌≡◌ {A = Stage} (Gone kind) (In Run) → ⊥
 gone_runs kind e = cc
 
 led_leads : (kind last : Kind) → ◌≡◌ {A = Stage} (Led kind) (Leads last) → ⊥
-led_leads kind last e = cc
+led_leads kind other e = cc
 
 gone_promotes : (kind : Kind) → ◌≡◌ {A = Stage} (Gone kind) (In Promote) → ⊥
 gone_promotes kind e = cc
@@ -84,7 +87,7 @@ noting k slots id word hist x note tells other says s r _ at _ =
       one k hist y,
       keeps,
       tt,
-      unmoved k s word (set s.views id (one k hist y)) (notes_rule k s r id hist x at y.seen.notes s.words (untouched_same s.words) r.whole.unwished (noted_otherwise s.words y x.seen.notes n refl (other (get_or s.words word 0))) (λ back. absurd (noted_elsewhere y x.seen.notes n refl (other (get_or s.words word 0)) back)) (λ z _ took. took) refl refl refl),
+      unmoved k s word (set s.views id (one k hist y)) (notes_rule k s r id hist x at y.seen.notes s.words (untouched_same s.words) refl r.whole.unwished (noted_otherwise s.words y x.seen.notes n refl (other (get_or s.words word 0))) (λ back. absurd (noted_elsewhere y x.seen.notes n refl (other (get_or s.words word 0)) back)) (λ z _ took. took) refl refl refl),
       (says s r at, refl),
     )
 
@@ -137,7 +140,12 @@ looked_at k id hist x gone s r at =
     let through : (stage : Stage) → AtStage t x.own.number a stage → ((kind : Kind) × (((stage ≡ In kind) × IsEven a) ⊎ ((stage ≡ Leads (kind_in x.seen.stage)) × IsOdd a))) → ((kind : Kind) → stage ≡ In kind → Comes x.own.number (kind_in x.seen.stage) kind) → Looks k s id hist x =
     (λ stage at' says comes. record {
       after = moved_to x (moving stage);
-      rule = turns k s r id hist x at (moving stage) t tenancy.stock s.words record {
+      rule = turns k s r id hist x at (moving stage) t tenancy.stock r.account.cycling r.account.homes s.words record {
+        full = r.whole.full;
+        paint = refl;
+        cycle = r.whole.cycle;
+        sharing = sharing_looked k r.account s.words x (kind_in x.seen.stage) stage gone g;
+        sharings = λ z _ _ h. h.sharing;
         owes = owes_rests k live x (moved_to x (moving stage)) refl quiet (ap (λ (c : Copying). c.pending) quiet) refl g.owes;
         settled = r.whole.settled;
         cleared = r.whole.cleared;
@@ -179,11 +187,11 @@ looked_at k id hist x gone s r at =
     (λ kind is. subst (Comes x.own.number (kind_in x.seen.stage)) (in_kind (t.kinds even.0) kind is) (came (subst IsEven (sym here) even) even)))
     (λ (odd : IsOdd t.phase).
     let last : t.kinds odd.0 ≡ kind_in x.seen.stage = known.0 odd.0 (here ∙ odd.1) in
-    through (Leads (kind_in x.seen.stage)) (here, (odd.0, odd.1, last)) (Run, inr (refl, subst IsOdd (sym here) odd)) (λ kind is. absurd (leads_in (kind_in x.seen.stage) kind is)))
+    through (Leads (kind_in x.seen.stage)) (here, (odd.0, odd.1, last), λ first. known.2 first here) (Run, inr (refl, subst IsOdd (sym here) odd)) (λ kind is. absurd (leads_in (kind_in x.seen.stage) kind is)))
     (parity t.phase))
     (λ not_over. record {
       after = noted x (Barrier b);
-      rule = notes_rule k s r id hist x at notes s.words (untouched_same s.words) r.whole.unwished (noted_otherwise s.words (noted x (Barrier b)) x.seen.notes (Barrier b) refl (barrier_note b)) (λ back. absurd (noted_elsewhere (noted x (Barrier b)) x.seen.notes (Barrier b) refl (barrier_note b) back)) (λ z _ took. took) refl refl refl;
+      rule = notes_rule k s r id hist x at notes s.words (untouched_same s.words) refl r.whole.unwished (noted_otherwise s.words (noted x (Barrier b)) x.seen.notes (Barrier b) refl (barrier_note b)) (λ back. absurd (noted_elsewhere (noted x (Barrier b)) x.seen.notes (Barrier b) refl (barrier_note b) back)) (λ z _ took. took) refl refl refl;
       told = record { waits = λ _. refl; begun = λ over_it. absurd (not_over over_it) };
     })
 
@@ -196,7 +204,7 @@ plans k slots id hist x s r _ at _ =
       one k hist x,
       keeps,
       tt,
-      unmoved k s 2 (set s.views id (one k hist x)) (notes_rule k s r id hist x at x.seen.notes s.words (untouched_same s.words) r.whole.unwished (my_good k s r id hist x at).took_back (λ back. back) (λ z _ took. took) refl refl refl),
+      unmoved k s 2 (set s.views id (one k hist x)) (notes_rule k s r id hist x at x.seen.notes s.words (untouched_same s.words) refl r.whole.unwished (my_good k s r id hist x at).took_back (λ back. back) (λ z _ took. took) refl refl refl),
       (record { view = refl; told = λ kind is. let f = (subst (AtStage r.account.pause x.own.number x.own.arrivals) is st.stage).1 in r.whole.phases.even_plan f.0 f.1 ∙ ap code f.2 }, refl),
     )
 
@@ -206,28 +214,27 @@ wants : (k : Config) (slots id : ℕ) (hist : List Entry) (x : DomainView) (note
     → Rule k record { words = set s.words 0 (f (get_or s.words 0 0)); homes = s.homes; views = set s.views id (one k hist (noted x note)) }
 wants k slots id hist x note f s r at unwished took_back elsewhere others =
     let new : ℕ = f (get_or s.words 0 0) in
-    notes_rule k s r id hist x at (x.seen.notes ++ note ∷ []) (set s.words 0 new) (length-set s.words 0 new, (λ i low other. get_or-set_other s.words 0 i new 0 (λ e. omega arith)))
+    notes_rule k s r id hist x at (x.seen.notes ++ note ∷ []) (set s.words 0 new) (length-set s.words 0 new, (λ i low other. get_or-set_other s.words 0 i new 0 (λ e. omega arith))) (get_or-set_other s.words 0 3 new 0 (λ e. omega arith))
     unwished took_back (λ back. absurd (elsewhere back)) others
     (get_or-set_other s.words 0 1 new 0 (λ e. omega arith)) (get_or-set_other s.words 0 2 new 0 (λ e. omega arith)) (get_or-set_other s.words 0 8 new 0 (λ e. omega arith))
 
 -- what another than domain 0 knows in an odd phase stays when the next kind is named
 others_led : (t : Pause) (j : ℕ) (next : Kind) (d arrivals : ℕ) (st : Stage) → t.phase ≡ j * 2 + 1 → d ≢ 0 → arrivals ≤ t.phase + 1 → AtStage t d arrivals st → AtStage (record t { kinds = over (j + 1) next t.kinds; led = true }) d arrivals st
 others_led t j next d arrivals (In kd) odd other few at = absurd (let i : ℕ = at.1.0 in let h : t.phase ≡ i * 2 = at.1.1 in omega arith)
-others_led t j next d arrivals (Leads kd) odd other few at = let i : ℕ = at.1.0 in let h : t.phase ≡ i * 2 + 1 = at.1.1 in (at.0, (i, h, over_else (j + 1) next t.kinds i (λ e. omega arith) ∙ at.1.2))
+others_led t j next d arrivals (Leads kd) odd other few at = let i : ℕ = at.1.0 in let h : t.phase ≡ i * 2 + 1 = at.1.1 in (at.0, (i, h, over_else (j + 1) next t.kinds i (λ e. omega arith) ∙ at.1.2), λ first. absurd (other first))
 others_led t j next d arrivals (Led kd) odd other few at = absurd (other at.2)
 others_led t j next d arrivals (Gone kd) odd other few at = (
   λ i e. over_else (j + 1) next t.kinds i (λ same. omega arith) ∙ at.0 i e,
   λ even. let l = at.1 even in (l.0, l.1, λ first. absurd (other first), λ _. over_else (j + 1) next t.kinds l.0 (λ same. let i : ℕ = l.0 in let e : arrivals ≡ i * 2 + 2 = l.1 in let g : i ≡ j + 1 = same in omega arith) ∙ l.3 other),
+  λ first. absurd (other first),
 )
 
 -- when the next kind is named it stays so that nothing lives in minor areas
 resetting_led : (t : Pause) (j : ℕ) (next : Kind) → t.phase ≡ j * 2 + 1 → Resetting (record t { kinds = over (j + 1) next t.kinds; led = true }) → Resetting t
 resetting_led t j next odd h =
     let same : (i : ℕ) → t.phase ≡ i * 2 + 1 → over (j + 1) next t.kinds i ≡ t.kinds i = (λ i e. over_else (j + 1) next t.kinds i (λ up. omega arith)) in ⊎_elim
-    (λ (a : (i : ℕ) × (t.phase ≡ i * 2 + 1) × (over (j + 1) next t.kinds i ≡ Promote)). inl (a.0, a.1, sym (same a.0 a.1) ∙ a.2))
-    (λ q. ⊎_elim
-    (λ (a : (i : ℕ) × (t.phase ≡ i * 2) × (over (j + 1) next t.kinds i ≡ Reset)). absurd (not_both t.phase (a.0, a.1) (j, odd)))
-    (λ (a : (i : ℕ) × (t.phase ≡ i * 2 + 1) × (over (j + 1) next t.kinds i ≡ Reset)). inr (inr (a.0, a.1, sym (same a.0 a.1) ∙ a.2))) q) h
+    (λ (a : (i : ℕ) × (t.phase ≡ i * 2 + 1) × (over (j + 1) next t.kinds i ≢ Run)). inl (a.0, a.1, λ e. a.2 (same a.0 a.1 ∙ e)))
+    (λ (a : (i : ℕ) × (t.phase ≡ i * 2) × IsEmptying (over (j + 1) next t.kinds i)). absurd (not_both t.phase (a.0, a.1) (j, odd))) h
 
 -- and the reserve is kept where it was
 keeps_led : (t : Pause) (j : ℕ) (next : Kind) → t.phase ≡ j * 2 + 1 → KeepsReserve (record t { kinds = over (j + 1) next t.kinds; led = true }) → KeepsReserve t
@@ -237,9 +244,15 @@ keeps_led t j next odd h = ⊎_elim
 
 -- they copy after they ran
 follows_promote : (a b : Kind) → Follows a b → b ≡ Promote → a ≡ Run
-follows_promote Run b f e = refl
-follows_promote Promote b f e = let h : Reset ≡ Promote = sym f ∙ e in cc
-follows_promote Reset b f e = let h : Run ≡ Promote = sym f ∙ e in cc
+follows_promote a b f e = from a (subst (Follows a) e f)
+  where
+    from : (a : Kind) → Follows a Promote → a ≡ Run
+    from Run f = refl
+    from Mark f = ⊎_elim (λ (e : Promote ≡ Mark). absurd (let h : Promote ≡ Mark = e in cc)) (λ (e : Promote ≡ Rounds). absurd (let h : Promote ≡ Rounds = e in cc)) f
+    from Rounds f = ⊎_elim (λ (e : Promote ≡ Mark). absurd (let h : Promote ≡ Mark = e in cc))
+        (λ q. ⊎_elim (λ (e : Promote ≡ Decide). absurd (let h : Promote ≡ Decide = e in cc)) (λ (e : Promote ≡ Clean). absurd (let h : Promote ≡ Clean = e in cc)) q) f
+    from Sweep f = ⊎_elim (λ (e : Promote ≡ Run). absurd (let h : Promote ≡ Run = e in cc)) (λ (e : Promote ≡ Answer). absurd (let h : Promote ≡ Answer = e in cc)) f
+    from _ f = cc
 
 leads : (k : Config) (slots id : ℕ) (hist : List Entry) (x : DomainView) (new : ℕ) (next : Kind) → LeadMay x new next
     → Allows (Rule k) slots id (one k hist x, []) 2 (λ _. new) (λ _. Tells (LeadTold next) (one k hist x, []) new)
@@ -248,16 +261,20 @@ leads k slots id hist x new next may s r _ at _ =
     let t : Pause = r.account.pause in
     let g = my_good k s r id hist x at in
     let ws : List ℕ = set s.words 2 new in
-    let m : Move = record (no_move x) { stage = Led next } in
+    let m : Move = record (no_move x) { stage = Led next; share = fresh_share } in
     let y : DomainView = moved_to x m in
     let tenancy : Tenancy = r.account.tenancy in
     let live : Live = r.account.live in
     let before = subst (AtStage t x.own.number x.own.arrivals) may.stage g.staged.stage in
     let j : ℕ = before.1.0 in
     let odd : t.phase ≡ j * 2 + 1 = before.1.1 in
-    let t' : Pause = record t { kinds = over (j + 1) next t.kinds; led = true } in
+    let t' : Pause = led_pause t j next in
+    let here = r.whole.cycle.told.odd j odd (before.2 may.leads) in
+    let left : r.account.cycling.kind ≡ may.last = sym here.0 ∙ before.1.2 in
+    let may_now : MayFollow r.account.cycling.kind next = subst (λ (kind : Kind). MayFollow kind next) (sym left) may.may in
     let plan' : plan ws ≡ new = get_or-set_same s.words 2 new 0 (let w : ℕ = heap_words k in let p : ℕ = before_heap k in let o : 10 ≤ p = omega arith in let l : length s.words ≡ 1 + p + w = r.whole.wide in omega arith) in
     let untouched : Untouched s.words ws = (length-set s.words 2 new, (λ i low other. get_or-set_other s.words 2 i new 0 (λ e. omega arith))) in
+    let same_cycle : SameCycle s.words ws = cycle_untouched s.words ws untouched (get_or-set_other s.words 2 3 new 0 (λ e. omega arith)) in
     let elsewhere : Promoting t → ⊥ = (λ h. not_both t.phase (h.0, h.1) (j, odd)) in
     let quiet : x.seen.copying ≡ nothing_copied = quiet_in k live x g.owes (λ e. leads_promotes may.last (sym may.stage ∙ e)) in
     let named : (i : ℕ) → t.phase ≡ i * 2 + 1 → over (j + 1) next t.kinds (i + 1) ≡ next = (λ i e. let same : i ≡ j = (let h : t.phase ≡ i * 2 + 1 = e in omega arith) in ap (λ (n : ℕ). over (j + 1) next t.kinds (n + 1)) same ∙ over_here (j + 1) next t.kinds) in
@@ -267,7 +284,12 @@ leads k slots id hist x new next may s r _ at _ =
       one k hist y,
       keeps,
       tt,
-      turns k s r id hist x at m t' tenancy.stock ws record {
+      turns k s r id hist x at m t' tenancy.stock (led_cycle next r.account.cycling) r.account.homes ws record {
+        full = full_led k r.account.log live tenancy.holder tenancy.fresh r.account.homes r.account.cycling.kind next may_now r.whole.full;
+        paint = refl;
+        cycle = cycle_led k (now k s r id hist x at) live t j tenancy r.account.cycling s.words ws next may_now odd same_cycle r.whole.cycle;
+        sharing = sharing_led k r.account ws x t' next may_now;
+        sharings = λ z below other h. sharings_led k r.account s.words ws z t' next may_now same_cycle (λ first. other (first ∙ sym may.leads)) (here.1 z.own.number below) h;
         owes = owes_rests k live x y refl quiet (ap (λ (c : Copying). c.pending) quiet) refl g.owes;
         settled = ⊎_elim (λ h. inl h) (λ (h : Promoting t). absurd (elsewhere h)) r.whole.settled;
         cleared = λ h. absurd (not_both t.phase (h.0, h.1) (j, odd));

@@ -27,6 +27,8 @@ use Rattle.heap_rule.specs.Pools.{prepared_at}
 use Rattle.heap_rule.specs.Copies.{nothing_copied, HoldsOld}
 use Rattle.heap_rule.specs.Standing.{Entered}
 use Rattle.heap_rule.specs.declared.phase.Kind.TheVariants.{Run, Promote, Reset}
+use Rattle.heap_rule.specs.Cycles.{HasNoCycle}
+use Rattle.heap_rule.specs.Views.{fresh_share}
 
 -- the domain with one note more, and all else as it was
 abbrev pub noted : DomainView → Note → DomainView
@@ -58,6 +60,11 @@ ArrivesFrom d (Leads kind) = d ≢ 0
 ArrivesFrom d (Led kind) = Unit {0}
 ArrivesFrom d (Gone kind) = ⊥
 
+-- what a domain has done of a phase in which it arrives. From those of a collection of the major heap nobody arrives yet
+abbrev pub HasDone : Config → DomainView → Stage → Type 0
+HasDone k x (In kind) = HasNoCycle kind
+HasDone k x _ = Unit {0}
+
 -- A domain arrives while it takes no block and makes none. Where it leaves Promote it owes no copy a value, has looked through all its remembered fields, holds no address of a minor area and has no place prepared. Where it leaves Reset its minor area is empty
 pub record ArriveMay (k : Config) (x : DomainView) : Type 0 where
   pub at_rest : x.seen.hunt ≡ Rests
@@ -69,16 +76,17 @@ pub record ArriveMay (k : Config) (x : DomainView) : Type 0 where
   pub holds_old : x.seen.stage ≡ In Promote → HoldsOld k x
   pub unprepared : x.seen.stage ≡ In Promote → (c : ℕ) → c < class_count → prepared_at x.own.prepared c ≡ None
   pub emptied : x.seen.stage ≡ In Reset → x.own.used ≡ 0
+  pub done : HasDone k x x.seen.stage
 
 -- a list that has forgotten its items, and has room for as many more
 abbrev pub forgotten : Bounded Copied → Bounded Copied
 forgotten l = record { items = []; room = l.room + length l.items }
 
--- the domain has arrived: its list of copies is empty, and what it knows of the blocks that it met, of how many pools are free, and of the list that it wrote, is void
+-- the domain has arrived: its list of copies is empty, and what it knows of the blocks that it met, of how many pools are free, of the list that it wrote, and of the phase, is void
 abbrev pub arrived_view : DomainView → DomainView
 arrived_view x = record {
   own = record x.own { arrivals = x.own.arrivals + 1; pending = forgotten x.own.pending };
-  seen = record x.seen { stage = Gone (kind_in x.seen.stage); free = None; listing = None; copying = nothing_copied };
+  seen = record x.seen { stage = Gone (kind_in x.seen.stage); free = None; listing = None; copying = nothing_copied; share = fresh_share };
 }
 
 abbrev pub Arrived : DomainView → ℕ → DomainView → Type 0
@@ -120,6 +128,10 @@ pub record ClearMay (x : DomainView) : Type 0 where
 abbrev pub ClearTold : DomainView → ℕ → DomainView → Type 0
 ClearTold x found y = y ≡ noted x Cleared
 
+-- what domain 0 knows as it names the next kind. No collection of the major heap goes on yet
+abbrev pub MayFollow : Kind → Kind → Type 0
+MayFollow last next = HasNoCycle last × HasNoCycle next
+
 -- domain 0 names the next kind in an odd phase, once. Before the domains run again it has just taken the wishes back, and set the cursor to 0 in this phase. Before they copy it has just set the cursor back out of the reserve
 pub record LeadMay (x : DomainView) (new : ℕ) (next : Kind) : Type 0 where
   pub leads : x.own.number ≡ 0
@@ -130,9 +142,10 @@ pub record LeadMay (x : DomainView) (new : ℕ) (next : Kind) : Type 0 where
   pub took_back : next ≡ Run → last_note x.seen.notes ≡ Some Cleared
   pub rewound : next ≡ Run → (l : Listing) × (x.seen.listing ≡ Some l) × (l.rewound ≡ true)
   pub set_back : next ≡ Promote → last_note x.seen.notes ≡ Some SetBack
+  pub may : MayFollow last next
 
 abbrev pub LeadTold : Kind → DomainView → ℕ → DomainView → Type 0
-LeadTold next x found y = y ≡ record x { seen = record x.seen { stage = Led next } }
+LeadTold next x found y = y ≡ record x { seen = record x.seen { stage = Led next; share = fresh_share } }
 
 -- what the end of a trace changes: the registers hold nothing
 abbrev pub end_changes : List Change

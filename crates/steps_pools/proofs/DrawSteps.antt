@@ -1,7 +1,7 @@
 -- The steps that take a free block of the pools keep the rule.
 use Rattle.heap_model.specs.Domains.{class_count, reserve}
 use Rattle.heap_rule.specs.Limits.{sizes_in}
-use Rattle.std.proofs.Common.{◌≡◌, ◌≢◌, ℕ, ◌+◌, ◌*◌, ◌-◌, ◌^◌, ◌%◌, ◌<◌, ◌≤◌, ◌⊎◌, List, length, get_or, set, Option, Some, None, sym, refl, ap, ◌∙◌, subst, inl, inr, ⊎_elim, arith, add-one, suc-mul, length-set, get_or-set_same, get_or-set_other}
+use Rattle.std.proofs.Common.{◌≡◌, ◌≢◌, ℕ, ◌+◌, ◌*◌, ◌-◌, ◌^◌, ◌%◌, ◌<◌, ◌≤◌, ◌⊎◌, List, length, get_or, set, Option, Some, None, sym, refl, ap, ◌∙◌, subst, inl, inr, ⊎_elim, arith, add-one, suc-mul, length-set, get_or-set_same, get_or-set_other, IsTrue}
 use mathlib.Core.Logic.{dite}
 use native.Mathlib.Decide.{ℕ_discrete}
 use mathlib.Core.Option.{some}
@@ -18,16 +18,22 @@ use Rattle.heap_rule.specs.declared.phase.Stage.TheVariants.{In}
 use Rattle.heap_rule.specs.Layout.{heap_words, table_words, at_address, listed, cursor, listed_pool, owner_of}
 use Rattle.heap_rule.specs.Views.{one}
 use Rattle.heap_rule.specs.Room.{Room, IsUnused, drawn_in_all}
-use Rattle.heap_rule.specs.Rule.{state_of, NoCycle, Rule}
+use Rattle.heap_rule.specs.Rule.{state_of, Rule}
 use Rattle.heap_rule.specs.Copies.{Promoting}
-use Rattle.heap_rule.specs.Pools.{Holder, nobody, drawn, owned, owner_word, Stock, Tenancy, Takes, Pools, KeepsReserve, IsTaking, Hunts, Hunter, Latest, DrawsFor, IsBefore, spot_at, drawn_in, hunting, hunting_free, place_in, blocks_of, limit_of}
+use Rattle.heap_rule.specs.Pools.{Holder, nobody, drawn, owned, owner_word, Stock, Tenancy, Takes, Pools, KeepsReserve, IsTaking, Hunts, Hunter, Latest, DrawsFor, IsBefore, spot_at, drawn_in, hunting, hunting_free, place_in, blocks_of, limit_of, prepared_at}
 use Rattle.heap_rule.specs.Phases.{Pause, Phases, AtStage, sum_of}
-use Rattle.steps_pools.specs.Takes.{with_hunt, found_free, HasNoDraw}
+use Rattle.steps_pools.specs.Takes.{with_hunt, found_free, HasNoDraw, NoneFree}
 use Rattle.heap_rule.proofs.Update.{over, over_here, over_else}
-use Rattle.heap_rule.proofs.Keeps.{Words, mine, my_good, phases_words, holds_again, run_promoting, promote_now, not_both, room_words}
+use Rattle.heap_rule.proofs.Keeps.{Words, mine, my_good, phases_words, holds_again, room_words, no_garbage_here, run_copying}
+use Rattle.heap_rule.proofs.PauseFacts.{run_promoting, promote_now, not_both}
 use Rattle.heap_rule.proofs.Controls.{sum_one}
-use Rattle.heap_rule.proofs.Lots.{drawn_same}
+use Rattle.heap_rule.proofs.Lots.{drawn_same, number_cases}
 use Rattle.heap_rule.proofs.Holders.{Agrees, agrees_same, agrees_set, found_agrees, making_agrees, SameStock, stock_self, same_asking, same_over, NotOf, nobody_not, drawn_not, drawn_owned, grid_heap, grid_over, free_later, hunter_agree, sum_over, sum_small}
+use Rattle.heap_rule.proofs.Sharings.{SameCycle, cycle_unmoved, takes_kind}
+use Rattle.heap_rule.specs.Fullness.{Fullness}
+use Rattle.cycle_laws.specs.Fullness.{kept_labels, HoldsKept}
+use Rattle.heap_rule.proofs.Classes.{some_block}
+use Rattle.heap_rule.specs.Places.{Place}
 
 pub some_none : (q : ℕ) → ◌≡◌ {A = Option ℕ} None (Some q) → ⊥
 some_none q e = cc
@@ -146,7 +152,9 @@ module _ (k : Config) (s : Words) (r : Rule k s) (id : ℕ) (hist : List Entry) 
     room = r.whole.room;
     unused = r.whole.unused;
     endings = refl;
-    cycle = r.whole.cycle;
+    cycle = cycle_unmoved s.words;
+    garbage = λ a. refl;
+    full = r.whole.full;
     found = r.whole.found;
     pools = pools;
     grid = r.whole.grid;
@@ -173,7 +181,9 @@ module _ (k : Config) (s : Words) (r : Rule k s) (id : ℕ) (hist : List Entry) 
     room = r.whole.room;
     unused = r.whole.unused;
     endings = refl;
-    cycle = r.whole.cycle;
+    cycle = cycle_unmoved s.words;
+    garbage = λ a. refl;
+    full = r.whole.full;
     found = r.whole.found;
     pools = pools;
     grid = r.whole.grid;
@@ -204,7 +214,9 @@ module _ (k : Config) (s : Words) (r : Rule k s) (id : ℕ) (hist : List Entry) 
         room = r.whole.room;
         unused = r.whole.unused;
         endings = refl;
-        cycle = r.whole.cycle;
+        cycle = cycle_unmoved s.words;
+    garbage = λ a. refl;
+    full = r.whole.full;
         found = r.whole.found;
         pools = record {
           few = pools.few;
@@ -269,8 +281,8 @@ module _ (k : Config) (s : Words) (r : Rule k s) (id : ℕ) (hist : List Entry) 
     phases1 : Phases k r.account.pause words1
     phases1 = phases_words k r.account.pause s.words words1 (other_word 1 (λ e. omega arith)) (other_word 2 (λ e. omega arith)) r.whole.phases
 
-    cycle1 : NoCycle words1
-    cycle1 = let p = r.whole.cycle in record { armed_is = other_word 4 (λ e. omega arith) ∙ p.armed_is; colours_are = other_word 5 (λ e. omega arith) ∙ p.colours_are }
+    cycle1 : SameCycle s.words words1
+    cycle1 = record { armed_same = other_word 4 (λ e. omega arith); colours_same = other_word 5 (λ e. omega arith); changed_same = other_word 3 (λ e. omega arith); blocks_same = other_word 9 (λ e. omega arith); words_same = other_word 10 (λ e. omega arith) }
 
     owners1 : (q : ℕ) → q < k.pools → owner_of k words1 q ≡ owner_word (t.holder q)
     owners1 q h = other_word (11 + k.pools + q) (λ e. omega arith) ∙ pools.owners q h
@@ -299,7 +311,9 @@ module _ (k : Config) (s : Words) (r : Rule k s) (id : ℕ) (hist : List Entry) 
       unused = r.whole.unused;
       endings = other_word 8 (λ e. omega arith);
       cycle = cycle1;
-      found = found_agrees k r.account.live (state_of k r.account.log).graph s.words words1 agrees r.whole.placed r.whole.found;
+      garbage = λ a. refl;
+      full = r.whole.full;
+      found = found_agrees k r.account.cycling.paint r.account.live (state_of k r.account.log).graph s.words words1 agrees r.whole.placed r.whole.found;
       pools = record {
         few = subst (λ (m : ℕ). m ≤ k.pools) (sym agrees.count) pools.few;
         inside = λ i h. subst (λ (q : ℕ). q < k.pools) (sym (names i h)) (pools.inside i (lower i h));
@@ -333,7 +347,7 @@ module _ (k : Config) (s : Words) (r : Rule k s) (id : ℕ) (hist : List Entry) 
           (let l : ℕ = limit_of k n in let p : l ≤ c = past in let g : n - l ≡ f = e in ((let a : n ≤ f + (c + 1) = omega arith in a), (let a : n ≤ f + l = omega arith in a), (let a : f ≤ n = omega arith in a)))
 
     -- it found one
-    module _ (class : ℕ) (few : class < class_count) (place_low : c < listed s.words) (free : drawn_in x.seen.hunt ≡ None) (stock : Stock) (same_claims : stock.claims ≡ t.stock.claims) where
+    module _ (class : ℕ) (few : class < class_count) (place_low : c < listed s.words) (free : drawn_in x.seen.hunt ≡ None) (none_free : NoneFree k x class) (unprepared : prepared_at x.own.prepared class ≡ None) (stock : Stock) (same_claims : stock.claims ≡ t.stock.claims) where
       abbrev pub pool : ℕ
       pool = listed_pool s.words c
 
@@ -347,7 +361,16 @@ module _ (k : Config) (s : Words) (r : Rule k s) (id : ℕ) (hist : List Entry) 
       was = pools.untaken c place_low (omega arith)
 
       abbrev t1 : Tenancy
-      t1 = record { holder = over pool (drawn me) t.holder; asking = asking'; prepared = t.prepared; stock = stock }
+      t1 = record { holder = over pool (drawn me) t.holder; asking = asking'; prepared = t.prepared; garbage = t.garbage; fresh = over me (over class (Some pool) (t.fresh me)) t.fresh; stock = stock }
+
+      fresh_here : t1.fresh me class ≡ Some pool
+      fresh_here = ap (λ (f : ℕ → Option ℕ). f class) (over_here me (over class (Some pool) (t.fresh me)) t.fresh) ∙ over_here class (Some pool) (t.fresh me)
+
+      fresh_class : (b : ℕ) → b ≢ class → t1.fresh me b ≡ t.fresh me b
+      fresh_class b other = ap (λ (f : ℕ → Option ℕ). f b) (over_here me (over class (Some pool) (t.fresh me)) t.fresh) ∙ over_else class (Some pool) (t.fresh me) b other
+
+      fresh_domain : (e b : ℕ) → e ≢ me → t1.fresh e b ≡ t.fresh e b
+      fresh_domain e b other = ap (λ (f : ℕ → Option ℕ). f b) (over_else me (over class (Some pool) (t.fresh me)) t.fresh e other)
 
       else1 : (q : ℕ) → q ≢ pool → t1.holder q ≡ t.holder q
       else1 q other = over_else pool (drawn me) t.holder q other
@@ -396,6 +419,42 @@ module _ (k : Config) (s : Words) (r : Rule k s) (id : ℕ) (hist : List Entry) 
                 (l.rest j (subst (λ (m : ℕ). m ≤ j) used from) inside));
           }
 
+      -- the pool that the domain drew last for the class has no free place any more, so a kept block lies in it
+      filled : (q : ℕ) → t.holder q ≡ owned me class → HoldsKept (kept_labels (sizes_in k) r.account.log) r.account.homes q
+      filled q is =
+          let own = pools.owned_by q me class is in
+          let inside : 0 < blocks_of class = (some_block class own.2).0 in
+          let before : IsBefore q 0 (spot_at x.own.looked class) = inl (let z : k.pools ≤ (spot_at x.own.looked class).pool = none_free in let p : q < k.pools = own.0 in omega arith) in
+          let full_head : at_address k s.words (place_in q class 0) ≢ 0 = hunter.taken q class 0 is inside before in
+          let in_kind = takes_kind x.seen.stage takes in
+          let lives : (p : Place) → r.account.live (place_in q class 0) ≡ Some p → HoldsKept (kept_labels (sizes_in k) r.account.log) r.account.homes q = (λ p e. (p.label, r.whole.full.kept (place_in q class 0) p e, r.whole.full.low q me class 0 p is inside e)) in
+          ⊎_elim (λ (z : at_address k s.words (place_in q class 0) ≡ 0). absurd (full_head z))
+          (λ z. ⊎_elim (λ (y : (p : Place) × (r.account.live (place_in q class 0) ≡ Some p)). lives y.0 y.1)
+          (λ y. ⊎_elim (λ (w : t.prepared (place_in q class 0) ≡ Some me). absurd (some_none (place_in q class 0) (sym unprepared ∙ hunter.prepared q class 0 is inside w)))
+          (λ (w : IsTrue (t.garbage (place_in q class 0))). absurd (no_garbage_here k s r id hist x at in_kind.0 in_kind.1 in_kind.2 (place_in q class 0) w)) y) z)
+          (r.whole.grid.places q me class 0 is inside)
+
+      full1 : Fullness k r.account.log r.account.live t1.holder t1.fresh r.account.homes r.account.cycling.kind
+      full1 =
+          let f = r.whole.full in
+          let was_owned : (q e b : ℕ) → t1.holder q ≡ owned e b → t.holder q ≡ owned e b = (λ q e b is. dite (ℕ_discrete q pool) (λ same. absurd (drawn_owned me e b (sym (over_here pool (drawn me) t.holder) ∙ (ap t1.holder (sym same) ∙ is)))) (λ other. sym (else1 q other) ∙ is)) in record {
+            kept = f.kept;
+            low = λ q e b slot p is. f.low q e b slot p (was_owned q e b is);
+            young = f.young;
+            made = f.made;
+            owned = λ goes q e b is. let old = was_owned q e b is in dite (ℕ_discrete e me)
+                (λ own. dite (ℕ_discrete b class)
+                (λ same. inr (filled q (subst (λ (m : ℕ × ℕ). t.holder q ≡ owned m.0 m.1) (λ i. (own i, same i)) old)))
+                (λ other. subst (λ (m : ℕ). (t1.fresh m b ≡ Some q) ⊎ HoldsKept (kept_labels (sizes_in k) r.account.log) r.account.homes q) (sym own)
+                (⊎_elim (λ (h : t.fresh me b ≡ Some q). inl (fresh_class b other ∙ h)) (λ h. inr h) (f.owned goes q me b (subst (λ (m : ℕ). t.holder q ≡ owned m b) own old)))))
+                (λ other. ⊎_elim (λ (h : t.fresh e b ≡ Some q). inl (fresh_domain e b other ∙ h)) (λ h. inr h) (f.owned goes q e b old));
+            drawn = λ q e is. dite (ℕ_discrete q pool)
+                (λ same. let who : me ≡ e = drawn_same me e (sym (over_here pool (drawn me) t.holder) ∙ (ap t1.holder (sym same) ∙ is)) in
+                (class, few, ap (λ (m : ℕ). t1.fresh m class) (sym who) ∙ (fresh_here ∙ ap Some (sym same))))
+                (λ other. let old : t.holder q ≡ drawn e = sym (else1 q other) ∙ is in let d = f.drawn q e old in
+                (d.0, d.1, fresh_domain e d.0 (λ own. nothing_drawn q (old ∙ ap drawn own)) ∙ d.2));
+          }
+
       pub draws_rule : Room k r.account.live r.account.pause stock words1 → IsUnused r.account.pause stock → ((d : ℕ) → d ≢ me → SameStock t.stock stock d)
           → (KeepsReserve r.account.pause → c < limit_of k (listed s.words)) → ((b : ℕ) → b < class_count → 0 < stock.drawn me b → (class ≡ b) ⊎ Latest k t1 words1 me b)
           → Rule k record { words = words1; homes = s.homes; views = set s.views id (one k hist (with_hunt x (Draws c pool class 0))) }
@@ -415,7 +474,9 @@ module _ (k : Config) (s : Words) (r : Rule k s) (id : ℕ) (hist : List Entry) 
         unused = unused;
         endings = other_word 8 (λ e. omega arith);
         cycle = cycle1;
-        found = found_agrees k r.account.live (state_of k r.account.log).graph s.words words1 agrees r.whole.placed r.whole.found;
+        garbage = λ a. refl;
+        full = full1;
+        found = found_agrees k r.account.cycling.paint r.account.live (state_of k r.account.log).graph s.words words1 agrees r.whole.placed r.whole.found;
         pools = pools1;
         drawers = record {
           drawn = λ q e h. dite (ℕ_discrete q pool)
@@ -424,10 +485,10 @@ module _ (k : Config) (s : Words) (r : Rule k s) (id : ℕ) (hist : List Entry) 
           prepared = r.whole.drawers.prepared;
           claims = λ d some. r.whole.drawers.claims d (subst (λ (f : ℕ → ℕ). 0 < f d) same_claims some);
         };
-        grid = grid_over t pool (drawn me) asking' stock k r.account.live s.words words1 agrees (λ d b e. (nobody_not d).not_owned b (sym was ∙ e)) (λ d b slot e inside. absurd (drawn_owned me d b e)) r.whole.grid;
+        grid = grid_over t pool (drawn me) asking' t1.fresh stock k r.account.live s.words words1 agrees (λ d b e. (nobody_not d).not_owned b (sym was ∙ e)) (λ d b slot e inside. absurd (drawn_owned me d b e)) r.whole.grid;
         makings = λ z p. making_agrees k s.words words1 z agrees p;
         hunter = record {
-          hunt = record { inside = pool_inside; listed_is = place_inside; names = agrees.list c place_inside; drawn_is = over_here pool (drawn me) t.holder; of_class = few; some = (let b : ℕ = blocks_of class in let o : 0 ≤ b = omega arith in o); free = λ j h. absurd (omega arith) };
+          hunt = record { inside = pool_inside; listed_is = place_inside; names = agrees.list c place_inside; drawn_is = over_here pool (drawn me) t.holder; fresh_is = fresh_here; of_class = few; some = (let b : ℕ = blocks_of class in let o : 0 ≤ b = omega arith in o); free = λ j h. absurd (omega arith) };
           free = λ f e. free_later k s.words words1 agrees.count cursor_grows f (hunter.free f e);
           drawn_alone = λ q e. dite (ℕ_discrete q pool) (λ same. ap Some (sym same)) (λ other. absurd (nothing_drawn q (sym (else1 q other) ∙ e)));
           taken = λ q b slot e inside low z. hunter.taken q b slot (owned_before q b e) inside low (sym (agrees.heap (place_in q b slot) (omega arith)) ∙ z);
@@ -437,7 +498,7 @@ module _ (k : Config) (s : Words) (r : Rule k s) (id : ℕ) (hist : List Entry) 
           supply = supply;
         };
         hunters = λ z other g. hunter_agree k t t1 s.words words1 agrees z cursor_grows
-            (same_over t pool (drawn me) asking' stock z.own.number (subst (λ (h : Holder). NotOf h z.own.number) (sym was) (nobody_not z.own.number)) (drawn_not me z.own.number (λ e. other (sym e))) (beside z.own.number other) (stocks z.own.number other)) g.hunter;
+            (same_over t pool (drawn me) asking' t1.fresh stock z.own.number (subst (λ (h : Holder). NotOf h z.own.number) (sym was) (nobody_not z.own.number)) (drawn_not me z.own.number (λ e. other (sym e))) (beside z.own.number other) (λ b. fresh_domain z.own.number b other) (stocks z.own.number other)) g.hunter;
       }
 
 -- while young blocks are copied, nothing is said of the reserve
@@ -491,24 +552,28 @@ module _ (k : Config) (s : Words) (r : Rule k s) (id : ℕ) (hist : List Entry) 
     pub add_late_rule : limit_of k n ≤ place → Rule k record { words = set s.words 7 (place + 1); homes = s.homes; views = set s.views id (one k hist (found_free x (n - limit_of k n) Rests)) }
     add_late_rule past = late_rule k s r id hist x at (inl runs) asking0 small0 beside0 sums0 runs n is past
 
-    module _ (class : ℕ) (few : class < class_count) (below : place < limit_of k n) where
+    module _ (class : ℕ) (few : class < class_count) (none_free : NoneFree k x class) (below : place < limit_of k n) where
+      -- a running domain has prepared no place
+      unprepared : prepared_at x.own.prepared class ≡ None
+      unprepared = ⊎_elim (λ (e : prepared_at x.own.prepared class ≡ None). e) (λ (t : (a : ℕ) × (prepared_at x.own.prepared class ≡ Some a)). absurd (run_copying r.account.pause x d runs (my_good k s r id hist x at).staged (r.whole.drawers.prepared t.0 d ((my_good k s r id hist x at).hunter.holds class t.0 few t.1).0))) (number_cases (prepared_at x.own.prepared class))
+
       place_low : place < listed s.words
       place_low = let l : ℕ = listed s.words in let e : l ≡ n = asked.0 in let m : ℕ = limit_of k n in let c : ℕ = place in let b : c < m = below in let o : c < l = omega arith in o
 
       pub add_place_inside : place < k.pools
-      add_place_inside = place_inside k s r id hist x at (inl runs) asking0 small0 beside0 sums0 class few place_low (ap drawn_in is) T.stock refl
+      add_place_inside = place_inside k s r id hist x at (inl runs) asking0 small0 beside0 sums0 class few place_low (ap drawn_in is) none_free unprepared T.stock refl
 
       pub add_pool_inside : drawn_pool < k.pools
-      add_pool_inside = pool_inside k s r id hist x at (inl runs) asking0 small0 beside0 sums0 class few place_low (ap drawn_in is) T.stock refl
+      add_pool_inside = pool_inside k s r id hist x at (inl runs) asking0 small0 beside0 sums0 class few place_low (ap drawn_in is) none_free unprepared T.stock refl
 
       pub add_draws_rule : Rule k record { words = set s.words 7 (place + 1); homes = s.homes; views = set s.views id (one k hist (with_hunt x (Draws place drawn_pool class 0))) }
-      add_draws_rule = draws_rule k s r id hist x at (inl runs) asking0 small0 beside0 sums0 class few place_low (ap drawn_in is) T.stock refl
+      add_draws_rule = draws_rule k s r id hist x at (inl runs) asking0 small0 beside0 sums0 class few place_low (ap drawn_in is) none_free unprepared T.stock refl
           (run_room k s r id hist x at (inl runs) runs (set s.words 7 (place + 1))) r.whole.unused (λ e other. stock_self T.stock e)
           (λ _. subst (λ (m : ℕ). place < limit_of k m) (sym asked.0) below)
           (λ b _ some. absurd (none_drawn k s r id hist x at (inl runs) runs b some))
 
   -- the add of a domain that copies young blocks
-  module _ (copies : x.seen.stage ≡ In Promote) (class : ℕ) (few : class < class_count) (place_low : place < listed s.words) (free : drawn_in x.seen.hunt ≡ None) (used : T.stock.drawn d class * blocks_of class ≤ T.stock.copies d class) where
+  module _ (copies : x.seen.stage ≡ In Promote) (class : ℕ) (few : class < class_count) (place_low : place < listed s.words) (free : drawn_in x.seen.hunt ≡ None) (none_free : NoneFree k x class) (unprepared : prepared_at x.own.prepared class ≡ None) (used : T.stock.drawn d class * blocks_of class ≤ T.stock.copies d class) where
     promoting : Promoting r.account.pause
     promoting = promote_now r.account.pause x copies (my_good k s r id hist x at).staged
 
@@ -581,17 +646,17 @@ module _ (k : Config) (s : Words) (r : Rule k s) (id : ℕ) (hist : List Entry) 
     copy_whole = whole_word k s r id hist x at (inr copies) T.asking r.whole.pools.one_each beside sums
 
     pub copy_place_inside : place < k.pools
-    copy_place_inside = place_inside k s r id hist x at (inr copies) T.asking r.whole.pools.one_each beside sums class few place_low free stock1 refl
+    copy_place_inside = place_inside k s r id hist x at (inr copies) T.asking r.whole.pools.one_each beside sums class few place_low free none_free unprepared stock1 refl
 
     pub copy_pool_inside : drawn_pool < k.pools
-    copy_pool_inside = pool_inside k s r id hist x at (inr copies) T.asking r.whole.pools.one_each beside sums class few place_low free stock1 refl
+    copy_pool_inside = pool_inside k s r id hist x at (inr copies) T.asking r.whole.pools.one_each beside sums class few place_low free none_free unprepared stock1 refl
 
     pub copy_draws_rule : Rule k record { words = words2; homes = s.homes; views = set s.views id (one k hist (with_hunt x (Draws place drawn_pool class 0))) }
-    copy_draws_rule = draws_rule k s r id hist x at (inr copies) T.asking r.whole.pools.one_each beside sums class few place_low free stock1 refl
+    copy_draws_rule = draws_rule k s r id hist x at (inr copies) T.asking r.whole.pools.one_each beside sums class few place_low free none_free unprepared stock1 refl
         room1 (λ rests. absurd (rests promoting)) (λ e other. record { drawn = same_domain e other; copies = refl; latest = refl; used = refl; claims = refl })
         (λ keeps. absurd (promote_keeps r.account.pause promoting keeps))
         (λ b below some. dite (ℕ_discrete b class)
         (λ same. inl (sym same))
-        (λ other. inr (latest_drawn k s r id hist x at (inr copies) T.asking r.whole.pools.one_each beside sums class few place_low free stock1 refl b refl refl (same_class b other) refl
+        (λ other. inr (latest_drawn k s r id hist x at (inr copies) T.asking r.whole.pools.one_each beside sums class few place_low free none_free unprepared stock1 refl b refl refl (same_class b other) refl
         (⊎_elim (λ (u : DrawsFor b x.seen.hunt). absurd (draws_none b x.seen.hunt free u)) (λ (l : Latest k T s.words d b). l)
         ((my_good k s r id hist x at).hunter.supply b below (subst (λ (m : ℕ). 0 < m) (same_class b other) some))))))

@@ -17,7 +17,7 @@ use Rattle.heap_rule.specs.declared.view.DomainView.{DomainView}
 use Rattle.heap_rule.specs.declared.view.Hunt.TheVariants.{Rests}
 use Rattle.heap_rule.specs.declared.view.Listing.{Listing}
 use Rattle.heap_rule.specs.declared.view.View.{View}
-use Rattle.heap_rule.specs.Layout.{heap_words, before_heap, table_words, listed, cursor, listed_pool, owner_of}
+use Rattle.heap_rule.specs.Layout.{heap_words, before_heap, table_words, listed, cursor, listed_pool, owner_of, at_address}
 use Rattle.heap_rule.specs.Places.{Place}
 use Rattle.heap_rule.specs.Copies.{Promoting}
 use Rattle.heap_rule.specs.Room.{Drawable}
@@ -27,12 +27,14 @@ use Rattle.heap_rule.specs.Raw.{MayStep, MayStore}
 use Rattle.heap_rule.specs.Rule.{state_of, Good, Rule}
 use Rattle.heap_rule.specs.Views.{one}
 use Rattle.heap_rule.proofs.Holders.{SameHeap, found_heap, making_heap, grid_heap, sum_small}
-use Rattle.heap_rule.proofs.Keeps.{Words, mine, my_good, remakes, looks, knows_front, phases_words, room_words, opened_words, hunter_as, owes_as, takes_even, not_both, unmoved}
-use Rattle.heap_rule.proofs.Controls.{last_note_end}
+use Rattle.heap_rule.proofs.Keeps.{Words, mine, my_good, remakes, looks, knows_front, phases_words, room_words, opened_words, hunter_as, owes_as, takes_even, unmoved}
+use Rattle.heap_rule.proofs.PauseFacts.{not_both}
+use Rattle.heap_rule.proofs.Controls.{last_note_end, sharing_words}
 use Rattle.heap_rule.proofs.Lists.{got_below, got_end}
 use Rattle.steps_pools.specs.Listings.{with_listing, further, relisted, found_owner, named, set_back, listed_as, no_listing, IsLeader, IsOpener, CountedTold, HasCounted, noted_set_back, CursorLookTold, CursorCutTold, Empties, EmptiedTold, LookMay, LookedTold, NameMay, NamedTold, SetBackTold, CloseMay, ListedAsTold, free_pools}
 use Rattle.steps_pools.proofs.FreePools.{IsFree, free_there, free_once}
 use Rattle.steps_pools.proofs.DrawSteps.{draws_none, latest_words}
+use Rattle.heap_rule.proofs.Sharings.{SameCycle, cycle_words}
 
 none_some : (f : ℕ) → ◌≡◌ {A = Option ℕ} None (Some f) → ⊥
 none_some f e = cc
@@ -95,8 +97,8 @@ module _ (k : Config) (s : Words) (r : Rule k s) (id : ℕ) (hist : List Entry) 
   -- what such a step owes
   pub record Relists (listing : Option Listing) (notes : List Note) (words' : List ℕ) : Type 0 where
     pub wide : length words' ≡ length s.words
-    pub heap : SameHeap k s.words words'
-    pub control : (i : ℕ) → (i < 6) ⊎ (i ≡ 8) → get_or words' i 0 ≡ get_or s.words i 0
+    pub every : (a : ℕ) → at_address k words' a ≡ at_address k s.words a
+    pub control : (i : ℕ) → (i < 6) ⊎ ((8 ≤ i) × (i ≤ 10)) → get_or words' i 0 ≡ get_or s.words i 0
     pub pools : Pools k t words'
     pub lists : (l : Listing) → listing ≡ Some l → Lists k words' x.own.number x.seen.stage l
     pub listed_young : (a : ℕ) (q : Place) → r.account.live a ≡ Some q → k.pools * 4096 < a → listed words' ≡ listed s.words
@@ -109,15 +111,19 @@ module _ (k : Config) (s : Words) (r : Rule k s) (id : ℕ) (hist : List Entry) 
   pub relists : (listing : Option Listing) (notes : List Note) (words' : List ℕ) → Relists listing notes words' → Rule k record { words = words'; homes = s.homes; views = set s.views id (one k hist (listing_notes x listing notes)) }
   relists listing notes words' o =
       let y : DomainView = listing_notes x listing notes in
-      let making = making_heap k s.words words' x o.heap good.making in
+      let heap : SameHeap k s.words words' = (λ a _. o.every a) in
+      let same : SameCycle s.words words' = record { armed_same = o.control 4 (inl (omega arith)); colours_same = o.control 5 (inl (omega arith)); changed_same = o.control 3 (inl (omega arith)); blocks_same = o.control 9 (inr (omega arith, omega arith)); words_same = o.control 10 (inr (omega arith, omega arith)) } in
+      let making = making_heap k s.words words' x heap good.making in
       let own_stays : Takes x.seen.stage → ⊥ = nobody_takes x good.staged in
-      let h = rests_hunter k t s.words words' x o.heap (good.resting.hunt own_stays) (good.resting.free (λ e. own_stays (inl e))) good.hunter in
+      let h = rests_hunter k t s.words words' x heap (good.resting.hunt own_stays) (good.resting.free (λ e. own_stays (inl e))) good.hunter in
       remakes k s r id hist x at y r.account words'
       record {
         wide = o.wide ∙ r.whole.wide;
         legal = r.whole.legal;
-        calm = r.whole.calm;
-        found = found_heap k r.account.live (state_of k r.account.log).graph s.words words' o.heap r.whole.placed r.whole.found;
+        plain = r.whole.plain;
+        full = r.whole.full;
+        queues = r.whole.queues;
+        found = found_heap k r.account.cycling.paint r.account.live (state_of k r.account.log).graph s.words words' heap r.whole.placed r.whole.found;
         placed = r.whole.placed;
         spread = r.whole.spread;
         settled = r.whole.settled;
@@ -126,16 +132,16 @@ module _ (k : Config) (s : Words) (r : Rule k s) (id : ℕ) (hist : List Entry) 
         emptied = r.whole.emptied;
         phases = phases_words k pause s.words words' (o.control 1 (inl (omega arith))) (o.control 2 (inl (omega arith))) r.whole.phases;
         unwished = λ j odd led runs. o.control 0 (inl (omega arith)) ∙ r.whole.unwished j odd led runs;
-        endings = o.control 8 (inr refl) ∙ r.whole.endings;
+        endings = o.control 8 (inr (omega arith, omega arith)) ∙ r.whole.endings;
         pools = o.pools;
         reserved = o.reserved;
-        grid = grid_heap k t r.account.live s.words words' o.heap r.whole.grid;
+        grid = grid_heap k t r.account.live s.words words' heap r.whole.grid;
         drawers = r.whole.drawers;
         room = room_words k r.account.live pause t.stock s.words words' (λ p. absurd (not_promoting p)) r.whole.room;
         unused = r.whole.unused;
         opened = opened_words k r.account.live s.words words' o.listed_young r.whole.opened;
         drawable = o.drawable;
-        cycle = let c = r.whole.cycle in record { armed_is = o.control 4 (inl (omega arith)) ∙ c.armed_is; colours_are = o.control 5 (inl (omega arith)) ∙ c.colours_are };
+        cycle = cycle_words k (state_of k r.account.log) r.account.live pause t r.account.cycling s.words words' same o.every r.whole.cycle;
       }
       (knows_front k s r id hist x at y refl (mine k s r id hist x at).front)
       record {
@@ -150,19 +156,21 @@ module _ (k : Config) (s : Words) (r : Rule k s) (id : ℕ) (hist : List Entry) 
         owes = owes_as k r.account.live x y refl refl refl refl good.owes;
         rooted = good.rooted;
         set_back = λ h. o.set_back h.0 h.1;
+        sharing = sharing_words k r.account r.account s.words words' x refl refl refl refl same o.every good.sharing;
       }
       (λ z _ other g. record {
         stood = g.stood;
         area = g.area;
-        making = making_heap k s.words words' z o.heap g.making;
+        making = making_heap k s.words words' z heap g.making;
         staged = g.staged;
         still = g.still;
-        hunter = let stays : Takes z.seen.stage → ⊥ = nobody_takes z g.staged in rests_hunter k t s.words words' z o.heap (g.resting.hunt stays) (g.resting.free (λ e. stays (inl e))) g.hunter;
+        hunter = let stays : Takes z.seen.stage → ⊥ = nobody_takes z g.staged in rests_hunter k t s.words words' z heap (g.resting.hunt stays) (g.resting.free (λ e. stays (inl e))) g.hunter;
         resting = record { hunt = g.resting.hunt; free = g.resting.free; lists = λ l e. absurd (other ((g.resting.lists l e).first ∙ sym first)) };
         took_back = λ kind leads last. o.control 0 (inl (omega arith)) ∙ g.took_back kind leads last;
         owes = g.owes;
         rooted = g.rooted;
         set_back = λ h. o.others_set_back z g.staged h (g.set_back h);
+        sharing = sharing_words k r.account r.account s.words words' z refl refl refl refl same o.every g.sharing;
       })
 
 -- one of these words is written
@@ -186,15 +194,17 @@ module _ (k : Config) (s : Words) (r : Rule k s) where
     beside i a b out = elsewhere i (λ e. ⊎_elim (λ (f : j ≡ 6). a (e ∙ f)) (λ (f : (j ≡ 7) ⊎ ((11 ≤ j) × (j < 11 + k.pools))). ⊎_elim (λ (g : j ≡ 7). b (e ∙ g))
         (λ (g : (11 ≤ j) × (j < 11 + k.pools)). let l : 11 ≤ j = g.0 in let u : j < 11 + k.pools = g.1 in let is : i ≡ j = e in ⊎_elim (λ (o : i < 11). omega arith) (λ (o : 11 + k.pools ≤ i). omega arith) out) f) of_list)
 
-    pub heap : SameHeap k s.words ws
-    heap a low = beside (before_heap k + a) (λ e. let l : 1 ≤ a = low in let f : 10 + 2 * k.pools + a ≡ 6 = e in omega arith) (λ e. let l : 1 ≤ a = low in let f : 10 + 2 * k.pools + a ≡ 7 = e in omega arith) (inr (let l : 1 ≤ a = low in omega arith))
+    pub every : (a : ℕ) → at_address k ws a ≡ at_address k s.words a
+    every a = elsewhere (before_heap k + a) (λ e. let f : 10 + 2 * k.pools + a ≡ j = e in
+        ⊎_elim (λ (g : j ≡ 6). omega arith) (λ (g : (j ≡ 7) ⊎ ((11 ≤ j) × (j < 11 + k.pools))). ⊎_elim (λ (h : j ≡ 7). omega arith) (λ (h : (11 ≤ j) × (j < 11 + k.pools)). let l : 11 ≤ j = h.0 in let u : j < 11 + k.pools = h.1 in omega arith) g) of_list)
 
     pub owners_same : (q : ℕ) → owner_of k ws q ≡ owner_of k s.words q
     owners_same q = beside (11 + k.pools + q) (λ e. omega arith) (λ e. omega arith) (inr (omega arith))
 
     -- what stays beside them
-    pub control : (i : ℕ) → (i < 6) ⊎ (i ≡ 8) → get_or ws i 0 ≡ get_or s.words i 0
-    control i low = ⊎_elim (λ (b : i < 6). beside i (λ e. omega arith) (λ e. omega arith) (inl (omega arith))) (λ (b : i ≡ 8). beside i (λ e. omega arith) (λ e. omega arith) (inl (omega arith))) low
+    pub control : (i : ℕ) → (i < 6) ⊎ ((8 ≤ i) × (i ≤ 10)) → get_or ws i 0 ≡ get_or s.words i 0
+    control i low = ⊎_elim (λ (b : i < 6). beside i (λ e. omega arith) (λ e. omega arith) (inl (omega arith)))
+        (λ (b : (8 ≤ i) × (i ≤ 10)). let l : 8 ≤ i = b.0 in let u : i ≤ 10 = b.1 in beside i (λ e. omega arith) (λ e. omega arith) (inl (omega arith))) low
 
     -- where no pool is listed, the list may be anything
     pub emptied : listed ws ≡ 0 → cursor ws ≤ cursor s.words → Pools k r.account.tenancy ws
@@ -223,12 +233,12 @@ module _ (k : Config) (s : Words) (r : Rule k s) (id : ℕ) (hist : List Entry) 
   kind_is : (j : ℕ) → r.account.pause.phase ≡ j * 2 + 1 → r.account.pause.kinds j ≡ Reset
   kind_is j odd = kind_here k s r id hist x at Reset leader.first leader.stage j odd
 
-  -- nothing lives in minor areas
-  nothing_young : (a : ℕ) (q : Place) → r.account.live a ≡ Some q → k.pools * 4096 < a → ⊥
-  nothing_young a q lives young = let o : a ≤ k.pools * 4096 = r.whole.emptied (inr (inr (half k s r id hist x at Reset leader.first leader.stage))) a q lives in omega arith
-
   reset_run : ◌≡◌ {A = Kind} Reset Run → ⊥
   reset_run e = cc
+
+  -- nothing lives in minor areas
+  nothing_young : (a : ℕ) (q : Place) → r.account.live a ≡ Some q → k.pools * 4096 < a → ⊥
+  nothing_young a q lives young = let o : a ≤ k.pools * 4096 = r.whole.emptied (inl (let h = half k s r id hist x at Reset leader.first leader.stage in (h.0, h.1, λ e. reset_run (sym h.2 ∙ e)))) a q lives in omega arith
 
   run_promote : ◌≡◌ {A = Kind} Run Promote → ⊥
   run_promote e = cc
@@ -251,11 +261,11 @@ module _ (k : Config) (s : Words) (r : Rule k s) (id : ℕ) (hist : List Entry) 
   }
 
   -- a store of one of these words, or a load
-  relists_reset : (listing : Option Listing) (words' : List ℕ) → length words' ≡ length s.words → SameHeap k s.words words' → ((i : ℕ) → (i < 6) ⊎ (i ≡ 8) → get_or words' i 0 ≡ get_or s.words i 0) → Pools k T words' → ((l : Listing) → listing ≡ Some l → Lists k words' x.own.number x.seen.stage l) → (cursor s.words ≡ 0 → cursor words' ≡ 0)
+  relists_reset : (listing : Option Listing) (words' : List ℕ) → length words' ≡ length s.words → ((a : ℕ) → at_address k words' a ≡ at_address k s.words a) → ((i : ℕ) → (i < 6) ⊎ ((8 ≤ i) × (i ≤ 10)) → get_or words' i 0 ≡ get_or s.words i 0) → Pools k T words' → ((l : Listing) → listing ≡ Some l → Lists k words' x.own.number x.seen.stage l) → (cursor s.words ≡ 0 → cursor words' ≡ 0)
       → Rule k record { words = words'; homes = s.homes; views = set s.views id (one k hist (with_listing x listing)) }
-  relists_reset listing words' wide heap control pools lists low = relists k s r id hist x at Reset leader.first leader.stage listing x.seen.notes words' record {
+  relists_reset listing words' wide every control pools lists low = relists k s r id hist x at Reset leader.first leader.stage listing x.seen.notes words' record {
     wide = wide;
-    heap = heap;
+    every = every;
     control = control;
     pools = pools;
     lists = lists;
@@ -272,7 +282,7 @@ module _ (k : Config) (s : Words) (r : Rule k s) (id : ℕ) (hist : List Entry) 
     ws0 = set s.words j new
 
     pub stores : (listing : Option Listing) → Pools k T ws0 → ((l : Listing) → listing ≡ Some l → Lists k ws0 x.own.number x.seen.stage l) → (cursor s.words ≡ 0 → cursor ws0 ≡ 0) → Rule k record { words = ws0; homes = s.homes; views = set s.views id (one k hist (with_listing x listing)) }
-    stores listing pools lists low = relists_reset listing ws0 (length-set s.words j new) (heap k s r j new of_list) (control k s r j new of_list) pools lists low
+    stores listing pools lists low = relists_reset listing ws0 (length-set s.words j new) (every k s r j new of_list) (control k s r j new of_list) pools lists low
 
   leads_now : IsLeading x.seen.stage
   leads_now = subst IsLeading (sym leader.stage) tt
@@ -300,7 +310,7 @@ module _ (k : Config) (s : Words) (r : Rule k s) (id : ℕ) (hist : List Entry) 
 
     -- one owner word more is found
     pub finds_rule : length l.owners < k.pools → Rule k record { words = s.words; homes = s.homes; views = set s.views id (one k hist (with_listing x (Some (found_owner (owner_of k s.words (length l.owners)) l)))) }
-    finds_rule inside = let word : ℕ = owner_of k s.words (length l.owners) in let after : Listing = found_owner word l in relists_reset (Some after) s.words refl (λ a low. refl) (λ i low. refl) r.whole.pools (λ m e. subst (Lists k s.words x.own.number x.seen.stage) (some_list after m e) record {
+    finds_rule inside = let word : ℕ = owner_of k s.words (length l.owners) in let after : Listing = found_owner word l in relists_reset (Some after) s.words refl (λ a. refl) (λ i low. refl) r.whole.pools (λ m e. subst (Lists k s.words x.own.number x.seen.stage) (some_list after m e) record {
       first = known.first;
       leads = known.leads;
       few = (subst (λ (n : ℕ). n ≤ k.pools) (sym (length-append l.owners (word ∷ []))) (let n : ℕ = length l.owners in let i : n < k.pools = inside in let o : n + 1 ≤ k.pools = omega arith in o), known.few.1);
@@ -435,7 +445,7 @@ module _ (k : Config) (s : Words) (r : Rule k s) (id : ℕ) (hist : List Entry) 
   pub counts_rule : Rule k record { words = s.words; homes = s.homes; views = set s.views id (one k hist (with_listing x (Some (listed_as (listed s.words) no_listing)))) }
   counts_rule = let l : Listing = listed_as (listed s.words) no_listing in relists k s r id hist x at Run opener.first opener.stage (Some l) x.seen.notes s.words record {
     wide = refl;
-    heap = λ a low. refl;
+    every = λ a. refl;
     control = λ i low. refl;
     pools = r.whole.pools;
     lists = λ m e. subst (Lists k s.words x.own.number x.seen.stage) (some_list l m e) record {
@@ -463,7 +473,7 @@ module _ (k : Config) (s : Words) (r : Rule k s) (id : ℕ) (hist : List Entry) 
     pub low_rule : cursor s.words ≤ limit_of k l.listed → Rule k record { words = s.words; homes = s.homes; views = set s.views id (one k hist (noted_set_back x)) }
     low_rule low = relists k s r id hist x at Run opener.first opener.stage x.seen.listing (x.seen.notes ++ SetBack ∷ []) s.words record {
       wide = refl;
-      heap = λ a low. refl;
+      every = λ a. refl;
       control = λ i low. refl;
       pools = r.whole.pools;
       lists = good_opener.resting.lists;
@@ -509,7 +519,7 @@ module _ (k : Config) (s : Words) (r : Rule k s) (id : ℕ) (hist : List Entry) 
           let pools = r.whole.pools in
           relists k s r id hist x at Run opener.first opener.stage x.seen.listing (x.seen.notes ++ SetBack ∷ []) ws7 record {
             wide = length-set s.words 7 limit;
-            heap = heap k s r 7 limit of_seven;
+            every = every k s r 7 limit of_seven;
             control = control k s r 7 limit of_seven;
             pools = record {
               few = subst (λ (n : ℕ). n ≤ k.pools) (sym listed_same) pools.few;

@@ -1,5 +1,5 @@
 -- The making of a block at a free place of an own pool keeps the rule.
-use Rattle.std.proofs.Common.{◌≡◌, ◌≢◌, ℕ, zero, suc, ◌+◌, ◌*◌, ◌^◌, ◌<◌, ◌≤◌, ◌⊎◌, false, ne_eqb, List, [], ◌∷◌, ◌++◌, length, get_or, set, replicate, slice_get, pos, Option, Some, None, sym, refl, ap, ◌∙◌, subst, inl, inr, ⊎_elim, arith, length-set, get_or-set_same}
+use Rattle.std.proofs.Common.{◌≡◌, ◌≢◌, ℕ, zero, suc, ◌+◌, ◌*◌, ◌^◌, ◌<◌, ◌≤◌, ◌⊎◌, false, ne_eqb, List, [], ◌∷◌, ◌++◌, length, get_or, set, replicate, slice_get, pos, Option, Some, None, sym, refl, ap, ◌∙◌, subst, inl, inr, ⊎_elim, arith, length-set, get_or-set_same, IsTrue}
 use Rattle.std.proofs.lemmas.List.{length-replicate}
 use Rattle.std.proofs.lemmas.Int.{ints}
 use mathlib.Core.Logic.{dite}
@@ -17,11 +17,11 @@ use Rattle.heap_model.specs.declared.graph.Value as graph_value
 use Rattle.heap_model.specs.declared.graph.Value.TheVariants.{Int, Block, Nothing}
 use Rattle.heap_model.specs.declared.graph.Node.{Node}
 use Rattle.heap_model.specs.declared.state.State as model
-use Rattle.heap_model.specs.Graph.{Graph, node_at}
+use Rattle.heap_model.specs.Graph.{Graph, node_at, has_label}
 use Rattle.heap_model.specs.Domains.{domain_at}
 use Rattle.heap_model.specs.Commands.{new_plain}
 use Rattle.heap_model.specs.Entries.{next}
-use Rattle.heap_model.specs.Fronts.{PlainShape}
+use Rattle.heap_model.specs.Fronts.{PlainShape, IsCalm}
 use Rattle.heap_model.proofs.Graphs.GraphLemmas.{node_at-append_old, node_at-append_new}
 use Rattle.heap_model.proofs.Histories.NumberLemmas.{next_label_after}
 use Rattle.heap_model.proofs.Commands.FrameLemmas.{calm_command}
@@ -42,12 +42,12 @@ use Rattle.heap_rule.specs.Changes.{value_at, changed, FitChanges}
 use Rattle.heap_rule.specs.Views.{one, Tells}
 use Rattle.heap_rule.specs.Raw.{MayStore}
 use Rattle.heap_rule.specs.Rule.{state_of, AllFound, Stood, Area, Making, Good, Rule}
-use Rattle.heap_rule.specs.Pools.{Grid, Lot, Hunter, Filling, drawn_in, place_in, size_of}
+use Rattle.heap_rule.specs.Pools.{Grid, Lot, Hunter, Filling, drawn_in, place_in, size_of, Tenancy}
 use Rattle.heap_rule.specs.Token.{next_label}
 use Rattle.steps_pools.specs.Takes.{MajorMay, MajorEntry, MajorTold}
 use Rattle.heap_rule.proofs.ChangeLemmas.{changed_only, registers_of}
 use Rattle.heap_rule.proofs.Values.{AllStand, stand_set, holds}
-use Rattle.heap_rule.proofs.Keeps.{Words, mine, my_good, control_set, controls_kept, appends, legal_entry, owes_run, quiet, run_settled, opened_words}
+use Rattle.heap_rule.proofs.Keeps.{Words, mine, my_good, control_set, controls_kept, appends, legal_entry, owes_run, quiet, run_settled, opened_words, between_here, run_calm, after_entry}
 use Rattle.heap_rule.proofs.Entering.{running, inside_state, registers_stand}
 use Rattle.heap_rule.proofs.Beside.{found_beside, making_beside}
 use Rattle.heap_rule.proofs.Born.{zero_word, zero_values, all_more, live', born, more, old, is_new, placed_born, settled_born, recalls_born, naming_born, spread_born, opened_born, classes_born}
@@ -55,6 +55,13 @@ use Rattle.heap_rule.proofs.Lots.{hunter_beside, stays, head_some, place_cases}
 use Rattle.heap_rule.proofs.Holders.{free_later}
 use Rattle.steps_pools.proofs.DrawSteps.{none_drawn}
 use Rattle.steps_pools.proofs.WalkSteps.{filling, live_far, others_beside, equal_le, lot_top}
+use Rattle.heap_rule.proofs.HeadLemmas.{head_at, new_head}
+use Rattle.heap_rule.proofs.FullnessLemmas.{full_filled, full_stays, homeless, new_kept}
+use Rattle.heap_rule.specs.Fullness.{Homes, Fullness}
+use Rattle.cycle_laws.specs.Pools.{with_pool}
+use Rattle.cycle_laws.specs.Fullness.{kept_labels}
+use Rattle.heap_rule.specs.declared.phase.Kind.{Kind}
+use Rattle.heap_rule.specs.declared.phase.Kind.TheVariants.{Run}
 
 zero_there : (n i : ℕ) → i < n → slice_get (replicate n zero_word) i ≡ Some zero_word
 zero_there zero i h = absurd (omega arith)
@@ -160,7 +167,7 @@ module _ (k : Config) (s : Words) (r : Rule k s) (id : ℕ) (hist : List Entry) 
     classed = has_class;
     low = omega arith;
     high = let h = in_pools in let b : ℕ = A in let t : b + (n + 2) ≤ k.pools * 4096 + 1 = h in let w : ℕ = k.domains * k.minor_words in let o : b + (n + 2) ≤ k.pools * 4096 + w + 1 = omega arith in o;
-    head = (may.some_field, (let f = may.few_fields in omega arith), may.tag_fits, omega arith);
+    head = (may.some_field, (let f = may.few_fields in omega arith), may.tag_fits);
     label = ((let b = (mine k s r id hist x at).inside in let c = r.limits.domains in omega arith), may.serial);
   }
 
@@ -199,12 +206,13 @@ module _ (k : Config) (s : Words) (r : Rule k s) (id : ℕ) (hist : List Entry) 
   spot : before_heap k + A < length s.words
   spot = let h = in_pools in let b : ℕ = A in let t : b + (n + 2) ≤ k.pools * 4096 + 1 = h in let w : ℕ = k.domains * k.minor_words in let wide : length s.words ≡ table_words k = r.whole.wide in let o : before_heap k + b < length s.words = omega arith in o
 
-  born_found : Found k live1 grown ws A born_place
+  born_found : Found k r.account.cycling.paint live1 grown ws A born_place
   born_found = record {
     node = new_plain tag n;
     there = node_at-append_new now.graph L (new_plain tag n) fresh;
     shape = ap (λ (m : ℕ). PlainShape m tag) (length-replicate n (Int (pos 0)));
-    head = get_or-set_same s.words (before_heap k + A) new 0 spot ∙ may.head;
+    head = head_at r.account.cycling.paint born_place (get_or-set_same s.words (before_heap k + A) new 0 spot) (new_head r.account.cycling.paint born_place x.seen.share.colours new refl ((between_here k s r id hist x at Run tt may.acts.runs).unmarked L) g.sharing.telling.colours may.head);
+    blank = λ _. refl;
     label = stays k r.account.tenancy s.words A new (A + 1) (λ o. omega arith)
         ∙ (ap (at_address k s.words) (let o : A + 1 ≡ A + 1 + 0 = omega arith in o) ∙ made_at 0 (label_word d (x.own.serial + 1)) refl);
     values = λ i v _ got. let t = zero_values n i v got in record {
@@ -222,12 +230,12 @@ module _ (k : Config) (s : Words) (r : Rule k s) (id : ℕ) (hist : List Entry) 
   far b q lives z inside same = let m : ℕ = extent q.shape in let p : ℕ = A in let i : z < m = inside in let o : b + z ≡ p = same in
       ⊎_elim (λ (t : b + m ≤ p). omega arith) (λ (t : p + (n + 2) ≤ b). omega arith) (away b q lives)
 
-  found1 : AllFound k live1 grown ws
+  found1 : AllFound k r.account.cycling.paint live1 grown ws
   found1 b q lives = dite (ℕ_discrete b A)
-      (λ same. subst (λ (y : ℕ × Place). Found k live1 grown ws y.0 y.1) (λ i. (sym same i, is_born b q same lives i)) born_found)
+      (λ same. subst (λ (y : ℕ × Place). Found k r.account.cycling.paint live1 grown ws y.0 y.1) (λ i. (sym same i, is_born b q same lives i)) born_found)
       (λ other.
       let f = r.whole.found b q (before b q other lives) in
-      found_beside k r.account.live live1 now.graph grown s.words A new b q grows f (node_at-append_old now.graph (L, new_plain tag n) q.label f.node f.there) (far b q (before b q other lives)))
+      found_beside k r.account.cycling.paint r.account.live live1 now.graph grown s.words A new b q grows f (node_at-append_old now.graph (L, new_plain tag n) q.label f.node f.there) (far b q (before b q other lives)))
 
   abbrev regs : List Value
   regs = (changed NothingWord changes x.own).registers
@@ -288,7 +296,7 @@ module _ (k : Config) (s : Words) (r : Rule k s) (id : ℕ) (hist : List Entry) 
         (λ same. inr (inl (born_place, ap live1 same ∙ lives_now)))
         (λ other. ⊎_elim
         (λ (z : at_address k s.words (place_in q c i) ≡ 0). inl (stays k r.account.tenancy s.words A new (place_in q c i) other ∙ z))
-        (λ z. inr (⊎_elim (λ (z : (p : Place) × (r.account.live (place_in q c i) ≡ Some p)). inl (let m = grows (place_in q c i) z.0 z.1 in (m.place, m.lives))) (λ (z : r.account.tenancy.prepared (place_in q c i) ≡ Some m). inr z) z)) (r.whole.grid.places q m c i owned_is below));
+        (λ z. inr (⊎_elim (λ (z : (p : Place) × (r.account.live (place_in q c i) ≡ Some p)). inl (let m = grows (place_in q c i) z.0 z.1 in (m.place, m.lives))) (λ z. inr z) z)) (r.whole.grid.places q m c i owned_is below));
     spares = λ b m is. let spare = r.whole.grid.spares b m is in record {
       own = spare.own;
       head = λ z. spare.head (sym (stays k r.account.tenancy s.words A new b (spare_far b m is)) ∙ z);
@@ -302,7 +310,7 @@ module _ (k : Config) (s : Words) (r : Rule k s) (id : ℕ) (hist : List Entry) 
   -- the new head isn't Free
   head_new : at_address k ws A ≢ 0
   head_new z = let h : at_address k ws A ≡ new = get_or-set_same s.words (before_heap k + A) new 0 spot in
-      absurd (head_some (PlainShape n tag) (sym may.head ∙ (sym h ∙ z)))
+      absurd (head_some (PlainShape n tag) may.head.colours.unmarked false (sym may.head.packs ∙ (sym h ∙ z)))
 
   hunter1 : Hunter k r.account.tenancy ws after
   hunter1 = record {
@@ -318,11 +326,37 @@ module _ (k : Config) (s : Words) (r : Rule k s) (id : ℕ) (hist : List Entry) 
     supply = λ c _ some. absurd (none_drawn k s r id hist x at (inl may.acts.runs) may.acts.runs c some);
   }
 
+  calm : IsCalm now
+  calm = run_calm k s r id hist x at may.acts.runs
+
+  -- the pool is the home of the new block, which is kept
+  abbrev homes1 : Homes
+  homes1 = with_pool r.account.homes L pool
+
+  full1 : Fullness k (r.account.log ++ e ∷ []) live1 r.account.tenancy.holder r.account.tenancy.fresh homes1 r.account.cycling.kind
+  full1 =
+      let t : Tenancy = r.account.tenancy in
+      let kind : Kind = r.account.cycling.kind in
+      full_filled k t s.words (r.account.log ++ e ∷ []) r.account.live live1 r.account.homes kind A L r.whole.pools
+      (d, record { pool = pool; class = class; slot = slot; owned_is = F.own_is; inside = F.inside; begins = refl })
+      (λ b q other lives. record { place = q; lives = before b q other lives; label = refl; bare = λ h. h })
+      (λ q lives. ap (λ (z : Place). z.label) (sym (is_born A q refl lives)))
+      (λ b q other lives _ same. fresh_label b q (before b q other lives) same)
+      (λ b q lives _. (settled1 b q lives).no_forward)
+      (homeless k r.account.log r.account.live t.holder t.fresh r.account.homes kind L fresh r.whole.full)
+      (new_plain tag n)
+      (ap (λ (z : model.State). node_at z.graph L) (after_entry k s r id hist x at e) ∙ (ap (λ (z : Graph). node_at z L) leaves.graph_is ∙ node_at-append_new now.graph L (new_plain tag n) fresh))
+      (subst (λ (l : Label). IsTrue (has_label (kept_labels (sizes_in k) (r.account.log ++ e ∷ [])) l)) (sym label_is) (new_kept k r.account.log d (AllocMaj dst tag n) refl))
+      (full_stays k r.account.log r.account.live t.holder t.fresh r.account.homes kind e refl r.whole.full)
+
   major_rule : Rule k record { words = ws; homes = s.homes; views = set s.views id (one k hist after) }
-  major_rule = appends k s r id hist x at e after ws live1 record {
+  major_rule = appends k s r id hist x at e after ws live1 homes1 record {
+    plain = tt;
+    full = full1;
+    share = refl;
     alone = λ m other. ne_eqb d m (λ o. other (sym o));
-    allowed = record { running = running k s r id hist x at may.acts; fits = (r.whole.calm.mode, r.whole.calm.queues d); full_fits = tt };
-    calm = calm_command now d (AllocMaj dst tag n) false r.whole.calm;
+    allowed = record { running = running k s r id hist x at may.acts; fits = (calm.mode, calm.queues d); full_fits = tt };
+    calm = calm_command now d (AllocMaj dst tag n) false calm;
     command = tt;
     runs = may.acts.runs;
     stage = refl;
@@ -332,7 +366,7 @@ module _ (k : Config) (s : Words) (r : Rule k s) (id : ℕ) (hist : List Entry) 
     arrivals = refl;
     wide = length-set s.words (before_heap k + A) new;
     controls = controls_kept k s r id hist x at ws (control_set k s.words A new fits_born.low);
-    found = subst (λ (z : Graph). AllFound k live1 z ws) (sym leaves.graph_is) found1;
+    found = subst (λ (z : Graph). AllFound k r.account.cycling.paint live1 z ws) (sym leaves.graph_is) found1;
     placed = placed1;
     spread = spread1;
     opened = opened_born k r.account.live A born_place (omega arith) away r.whole.placed ws (λ young. absurd (not_young young)) (opened_words k r.account.live s.words ws (λ _ _ _ _. control_set k s.words A new fits_born.low 6 (omega arith)) r.whole.opened);
@@ -356,7 +390,7 @@ module _ (k : Config) (s : Words) (r : Rule k s) (id : ℕ) (hist : List Entry) 
   major_told : MajorTold k e changes x after
   major_told = record {
     answers = answers_push (sizes_in k) d r.account.log x.seen.front e (Replied (BlockReply L)) (mine k s r id hist x at).front
-        (legal_entry k s r id hist x at e record { running = running k s r id hist x at may.acts; fits = (r.whole.calm.mode, r.whole.calm.queues d); full_fits = tt }) leaves.replies;
+        (legal_entry k s r id hist x at e record { running = running k s r id hist x at may.acts; fits = (calm.mode, calm.queues d); full_fits = tt }) leaves.replies;
     view = λ i. record { own = record (sym (changed_only NothingWord changes x.own) i) { serial = x.own.serial + 1 }; seen = after.seen };
     holds = holds k r.limits live1 placed1 (next now e) after stood1;
   }

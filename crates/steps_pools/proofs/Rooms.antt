@@ -13,7 +13,8 @@ use Rattle.heap_rule.specs.Views.{one}
 use Rattle.heap_rule.specs.Rule.{Rule}
 use Rattle.heap_rule.specs.Pools.{Tenancy, Pools, Hunter, Latest, DrawsFor, drawn_in, spot_at, prepared_at, place_in, blocks_of}
 use Rattle.steps_pools.specs.Takes.{NoneFree, CopyDrawMay}
-use Rattle.heap_rule.proofs.Keeps.{Words, mine, my_good, promote_now}
+use Rattle.heap_rule.proofs.Keeps.{Words, mine, my_good}
+use Rattle.heap_rule.proofs.PauseFacts.{promote_now}
 use Rattle.heap_rule.proofs.Counting.{room_left}
 use Rattle.steps_pools.proofs.DrawSteps.{draws_none, some_none}
 

@@ -17,7 +17,7 @@ use Rattle.heap_rule.specs.Views.{one, Tells}
 use Rattle.heap_rule.specs.Raw.{MayStep, MayStore}
 use Rattle.heap_rule.specs.Rule.{Rule}
 use Rattle.heap_rule.specs.Pools.{Takes, owned, owner_word, Hunts, drawn_in, place_in, blocks_of, limit_of}
-use Rattle.steps_pools.specs.Takes.{with_hunt, found_free, looked_to, HasNoDraw, ListedTold, CursorTold, CursorAddTold, CopyDrawMay, CopyDrawTold, ListMay, ListTold, ClearMay, ClearTold, OwnedTold, FillTold, cleared_more, OwnerMay, OwnerLoadMay, OwnerTold, PlaceMay, PlaceTold, FillMay, filled}
+use Rattle.steps_pools.specs.Takes.{with_hunt, found_free, looked_to, HasNoDraw, ListedTold, CursorTold, CursorAddTold, CopyDrawMay, CopyDrawTold, ListMay, ListTold, ClearMay, ClearTold, OwnedTold, FillTold, cleared_more, OwnerMay, OwnerLoadMay, OwnerTold, PlaceMay, PlaceTold, FillMay, filled, NoneFree}
 use Rattle.heap_rule.proofs.Keeps.{unmoved, looks, mine, my_good}
 use Rattle.steps_pools.proofs.DrawSteps.{hunter, listed_rule, asks_rule, rests_rule, below_bounds, past_bounds, add_whole, add_late_rule, add_draws_rule, add_place_inside, add_pool_inside, copy_whole, copy_draws_rule, copy_place_inside, copy_pool_inside}
 use Rattle.steps_pools.proofs.Rooms.{all_used, pool_left}
@@ -58,8 +58,8 @@ looks_free k slots id hist x runs count hunt s r _ at _ = dite (dec_le (limit_of
 pub free_may : (k : Config) (x : DomainView) (runs : x.seen.stage ≡ In Run) (count : ℕ) → x.seen.hunt ≡ Counts count → MayStep k x 7 (λ n. n) (CursorTold k count Rests)
 free_may k x runs count hunt fits slots id h = looks_free k slots id h x runs count hunt
 
-cursor_adds : (k : Config) (slots id : ℕ) (hist : List Entry) (x : DomainView) (runs : x.seen.stage ≡ In Run) (count class : ℕ) → x.seen.hunt ≡ Asks count → class < class_count → Allows (Rule k) slots id (one k hist x, []) 7 (λ n. (n + 1) % 2 ^ 64) (Tells (CursorAddTold k count class) (one k hist x, []))
-cursor_adds k slots id hist x runs count class hunt few s r _ at _ =
+cursor_adds : (k : Config) (slots id : ℕ) (hist : List Entry) (x : DomainView) (runs : x.seen.stage ≡ In Run) (count class : ℕ) → x.seen.hunt ≡ Asks count → class < class_count → NoneFree k x class → Allows (Rule k) slots id (one k hist x, []) 7 (λ n. (n + 1) % 2 ^ 64) (Tells (CursorAddTold k count class) (one k hist x, []))
+cursor_adds k slots id hist x runs count class hunt few none_free s r _ at _ =
     let c : ℕ = cursor s.words in
     let same : c + 1 ≡ (c + 1) % 2 ^ 64 = sym (add_whole k s r id hist x at runs count hunt) in
     dite (dec_le (limit_of k count) c)
@@ -76,12 +76,12 @@ cursor_adds k slots id hist x runs count class hunt few s r _ at _ =
       one k hist y,
       keeps,
       tt,
-      subst (λ (n : ℕ). Rule k record { words = set s.words 7 n; homes = s.homes; views = set s.views id (one k hist y) }) same (add_draws_rule k s r id hist x at runs count hunt class few below),
-      (record { below = λ b. record { pool = listed_pool s.words c; listed_is = add_place_inside k s r id hist x at runs count hunt class few below; inside = add_pool_inside k s r id hist x at runs count hunt class few below; view = refl }; past = λ p. absurd (not_past p) }, refl),
+      subst (λ (n : ℕ). Rule k record { words = set s.words 7 n; homes = s.homes; views = set s.views id (one k hist y) }) same (add_draws_rule k s r id hist x at runs count hunt class few none_free below),
+      (record { below = λ b. record { pool = listed_pool s.words c; listed_is = add_place_inside k s r id hist x at runs count hunt class few none_free below; inside = add_pool_inside k s r id hist x at runs count hunt class few none_free below; view = refl }; past = λ p. absurd (not_past p) }, refl),
     ))
 
-pub cursor_add_may : (k : Config) (x : DomainView) (runs : x.seen.stage ≡ In Run) (count class : ℕ) → x.seen.hunt ≡ Asks count → class < class_count → MayStep k x 7 (λ n. (n + 1) % 2 ^ 64) (CursorAddTold k count class)
-cursor_add_may k x runs count class hunt few fits slots id h = cursor_adds k slots id h x runs count class hunt few
+pub cursor_add_may : (k : Config) (x : DomainView) (runs : x.seen.stage ≡ In Run) (count class : ℕ) → x.seen.hunt ≡ Asks count → class < class_count → NoneFree k x class → MayStep k x 7 (λ n. (n + 1) % 2 ^ 64) (CursorAddTold k count class)
+cursor_add_may k x runs count class hunt few none_free fits slots id h = cursor_adds k slots id h x runs count class hunt few none_free
 
 -- the add of a domain that copies young blocks
 copy_draws : (k : Config) (slots id : ℕ) (hist : List Entry) (x : DomainView) (class : ℕ) → CopyDrawMay k x class → Allows (Rule k) slots id (one k hist x, []) 7 (λ n. (n + 1) % 2 ^ 64) (Tells (CopyDrawTold k class) (one k hist x, []))
@@ -89,13 +89,13 @@ copy_draws k slots id hist x class may s r _ at _ =
     let c : ℕ = cursor s.words in
     let low : c < listed s.words = pool_left k s r id hist x at class may in
     let used = all_used k s r id hist x at class may in
-    let same : c + 1 ≡ (c + 1) % 2 ^ 64 = sym (copy_whole k s r id hist x at may.stage class may.of_class low may.at_rest used) in
+    let same : c + 1 ≡ (c + 1) % 2 ^ 64 = sym (copy_whole k s r id hist x at may.stage class may.of_class low may.at_rest may.none_free may.unprepared used) in
     let y : DomainView = with_hunt x (Draws c (listed_pool s.words c) class 0) in (
       one k hist y,
       keeps,
       tt,
-      subst (λ (n : ℕ). Rule k record { words = set s.words 7 n; homes = s.homes; views = set s.views id (one k hist y) }) same (copy_draws_rule k s r id hist x at may.stage class may.of_class low may.at_rest used),
-      (record { pool = listed_pool s.words c; listed_is = copy_place_inside k s r id hist x at may.stage class may.of_class low may.at_rest used; inside = copy_pool_inside k s r id hist x at may.stage class may.of_class low may.at_rest used; view = refl }, refl),
+      subst (λ (n : ℕ). Rule k record { words = set s.words 7 n; homes = s.homes; views = set s.views id (one k hist y) }) same (copy_draws_rule k s r id hist x at may.stage class may.of_class low may.at_rest may.none_free may.unprepared used),
+      (record { pool = listed_pool s.words c; listed_is = copy_place_inside k s r id hist x at may.stage class may.of_class low may.at_rest may.none_free may.unprepared used; inside = copy_pool_inside k s r id hist x at may.stage class may.of_class low may.at_rest may.none_free may.unprepared used; view = refl }, refl),
     )
 
 pub copy_draw_may : (k : Config) (x : DomainView) (class : ℕ) → CopyDrawMay k x class → MayStep k x 7 (λ n. (n + 1) % 2 ^ 64) (CopyDrawTold k class)

@@ -20,12 +20,13 @@ use Rattle.heap_rule.specs.Phases.{sum_of}
 use Rattle.steps_pools.specs.Takes.{with_hunt, looked_to, NoneFree}
 use Rattle.heap_rule.proofs.Update.{over, over_here, over_else}
 use Rattle.heap_rule.proofs.Lists.{got_end, got_below}
-use Rattle.heap_rule.proofs.Keeps.{Words, mine, more_same, phases_words, phases_same, cycle_same, control_set, controls_kept, pools_same, room_words, holds_again}
+use Rattle.heap_rule.proofs.Keeps.{Words, mine, more_same, phases_words, phases_same, cycle_control, control_set, controls_kept, pools_same, room_words, holds_again}
 use Rattle.heap_rule.proofs.Classes.{size_least, some_block, slot_below, slot_inside}
 use Rattle.heap_rule.proofs.Beside.{found_beside, making_beside}
 use Rattle.heap_rule.proofs.Lots.{Beside, pool_beside, hunter_beside, drawn_same, owned_same, stays, head_full}
 use Rattle.heap_rule.proofs.Holders.{Agrees, agrees_set, found_agrees, making_agrees, SameStock, same_over, drawn_not, owned_not, drawn_owned, grid_over, free_later, hunter_agree}
 use Rattle.steps_pools.proofs.DrawSteps.{hunter, next_hunter, hunter_on, knows, known_free, draws_none, latest_words, own_word, some_nat}
+use Rattle.heap_rule.specs.Fullness.{Fullness}
 
 pub equal_le : {a b : ℕ} → a ≡ b → b ≤ a
 equal_le {a} {b} e = omega arith
@@ -154,7 +155,7 @@ module _ (k : Config) (s : Words) (r : Rule k s) (id : ℕ) (hist : List Entry) 
 
   -- Free at the next place of the pool drawn
   module _ (place pool class cleared : ℕ) (is : x.seen.hunt ≡ Draws place pool class cleared) where
-    drew : Clearing k T.holder s.words d place pool class cleared
+    drew : Clearing k T.holder T.fresh s.words d place pool class cleared
     drew = subst (Hunts k T s.words d) is H.hunt
 
     others_pool : (z : DomainView) → z.own.number ≢ d → (a : ℕ) → pool * 4096 < a → a ≤ pool * 4096 + 4096 → Beside k T s.words z.own.number a
@@ -218,8 +219,10 @@ module _ (k : Config) (s : Words) (r : Rule k s) (id : ℕ) (hist : List Entry) 
         phases = phases_same k r.account.pause s.words ws (control_set k s.words A 0 (omega arith)) r.whole.phases;
         want = control_set k s.words A 0 (omega arith) 0 (omega arith);
         endings = control_set k s.words A 0 (omega arith) 8 (omega arith);
-        cycle = cycle_same k s.words ws (control_set k s.words A 0 (omega arith)) r.whole.cycle;
-        found = λ b q lives. let f = r.whole.found b q lives in found_beside k r.account.live r.account.live (state_of k r.account.log).graph (state_of k r.account.log).graph s.words A 0 b q (more_same r.account.live) f f.there (far A low high b q lives);
+        cycle = cycle_control k s.words ws (control_set k s.words A 0 (omega arith));
+        garbage = λ a. refl;
+        full = r.whole.full;
+        found = λ b q lives. let f = r.whole.found b q lives in found_beside k r.account.cycling.paint r.account.live r.account.live (state_of k r.account.log).graph (state_of k r.account.log).graph s.words A 0 b q (more_same r.account.live) f f.there (far A low high b q lives);
         pools = pools_same k T s.words ws (control_set k s.words A 0 (omega arith)) P;
         drawers = r.whole.drawers;
         grid = record {
@@ -236,6 +239,7 @@ module _ (k : Config) (s : Words) (r : Rule k s) (id : ℕ) (hist : List Entry) 
             listed_is = drew.listed_is;
             names = (let h = drew.listed_is in control_set k s.words A 0 (omega arith) (11 + place) (omega arith)) ∙ drew.names;
             drawn_is = drew.drawn_is;
+            fresh_is = drew.fresh_is;
             of_class = drew.of_class;
             some = (let e : cleared + 1 ≤ blocks_of class = omega arith in e);
             free = λ j h. dite (ℕ_discrete j cleared)
@@ -260,7 +264,7 @@ module _ (k : Config) (s : Words) (r : Rule k s) (id : ℕ) (hist : List Entry) 
 
   -- the owner of the pool drawn
   module _ (place pool class : ℕ) (is : x.seen.hunt ≡ Draws place pool class (blocks_of class)) (none_free : NoneFree k x class) (wide : length x.own.looked ≡ class_count) where
-    all_clear : Clearing k T.holder s.words d place pool class (blocks_of class)
+    all_clear : Clearing k T.holder T.fresh s.words d place pool class (blocks_of class)
     all_clear = subst (Hunts k T s.words d) is H.hunt
 
     abbrev spot_owner : ℕ
@@ -301,7 +305,7 @@ module _ (k : Config) (s : Words) (r : Rule k s) (id : ℕ) (hist : List Entry) 
     used_else c other = ap (λ (f : ℕ → ℕ). f c) (over_here d own_used T.stock.used) ∙ over_else class 0 (T.stock.used d) c other
 
     abbrev t2 : Tenancy
-    t2 = record { holder = over pool (owned d class) T.holder; asking = T.asking; prepared = T.prepared; stock = stock2 }
+    t2 = record { holder = over pool (owned d class) T.holder; asking = T.asking; prepared = T.prepared; garbage = T.garbage; fresh = T.fresh; stock = stock2 }
 
     here2 : t2.holder pool ≡ owned d class
     here2 = over_here pool (owned d class) T.holder
@@ -404,6 +408,27 @@ module _ (k : Config) (s : Words) (r : Rule k s) (id : ℕ) (hist : List Entry) 
     abbrev looked2 : List Spot
     looked2 = set x.own.looked class from_here
 
+    -- the pool is the one that the domain drew last for its class, and nothing lives in it yet
+    full2 : Fullness k r.account.log r.account.live t2.holder t2.fresh r.account.homes r.account.cycling.kind
+    full2 =
+        let f = r.whole.full in record {
+          kept = f.kept;
+          low = λ q e c slot p is inside lives. dite (ℕ_discrete q pool)
+              (λ same. let o = owned_same d e class c (sym here2 ∙ (ap t2.holder (sym same) ∙ is)) in
+              let at : place_in q c slot ≡ place_in pool class slot = (λ i. place_in (same i) (sym o.1 i) slot) in
+              absurd (head_full k r.account.cycling.paint r.account.live (state_of k r.account.log).graph s.words (place_in q c slot) p (r.whole.found (place_in q c slot) p lives)
+              (ap (at_address k s.words) at ∙ all_clear.free slot (subst (λ (m : ℕ). slot < blocks_of m) (sym o.1) inside))))
+              (λ other. f.low q e c slot p (sym (else2 q other) ∙ is) inside lives);
+          young = f.young;
+          made = f.made;
+          owned = λ goes q e c is. dite (ℕ_discrete q pool)
+              (λ same. let o = owned_same d e class c (sym here2 ∙ (ap t2.holder (sym same) ∙ is)) in inl (subst (λ (m : ℕ × ℕ). T.fresh m.0 m.1 ≡ Some q) (λ i. (o.0 i, o.1 i)) (all_clear.fresh_is ∙ ap Some (sym same))))
+              (λ other. f.owned goes q e c (sym (else2 q other) ∙ is));
+          drawn = λ q e is. dite (ℕ_discrete q pool)
+              (λ same. absurd (owned_not_drawn d class e (sym here2 ∙ (ap t2.holder (sym same) ∙ is))))
+              (λ other. f.drawn q e (sym (else2 q other) ∙ is));
+        }
+
     pub owns_rule : Rule k record { words = words2; homes = s.homes; views = set s.views id (one k hist (looked_to x class from_here (Fills pool class 0 []))) }
     owns_rule = holds_again k s r id hist x at looked2 (Fills pool class 0 []) x.seen.free words2 t2 record {
       takes = takes;
@@ -416,8 +441,10 @@ module _ (k : Config) (s : Words) (r : Rule k s) (id : ℕ) (hist : List Entry) 
       phases = phases_words k r.account.pause s.words words2 (other_word 1 (λ e. omega arith)) (other_word 2 (λ e. omega arith)) r.whole.phases;
       want = other_word 0 (λ e. omega arith);
       endings = other_word 8 (λ e. omega arith);
-      cycle = let p = r.whole.cycle in record { armed_is = other_word 4 (λ e. omega arith) ∙ p.armed_is; colours_are = other_word 5 (λ e. omega arith) ∙ p.colours_are };
-      found = found_agrees k r.account.live (state_of k r.account.log).graph s.words words2 agrees r.whole.placed r.whole.found;
+      cycle = record { armed_same = other_word 4 (λ e. omega arith); colours_same = other_word 5 (λ e. omega arith); changed_same = other_word 3 (λ e. omega arith); blocks_same = other_word 9 (λ e. omega arith); words_same = other_word 10 (λ e. omega arith) };
+      garbage = λ a. refl;
+      full = full2;
+      found = found_agrees k r.account.cycling.paint r.account.live (state_of k r.account.log).graph s.words words2 agrees r.whole.placed r.whole.found;
       pools = pools2;
       drawers = record {
         drawn = λ q e h. dite (ℕ_discrete q pool)
@@ -426,7 +453,7 @@ module _ (k : Config) (s : Words) (r : Rule k s) (id : ℕ) (hist : List Entry) 
         prepared = r.whole.drawers.prepared;
         claims = r.whole.drawers.claims;
       };
-      grid = grid_over T pool (owned d class) T.asking stock2 k r.account.live s.words words2 agrees (λ e c h. drawn_owned d e c (sym all_clear.drawn_is ∙ h))
+      grid = grid_over T pool (owned d class) T.asking T.fresh stock2 k r.account.live s.words words2 agrees (λ e c h. drawn_owned d e c (sym all_clear.drawn_is ∙ h))
           (λ e c slot h below. let o = owned_same d e class c h in
           subst (λ (m : ℕ). at_address k s.words (place_in pool m slot) ≡ 0) o.1 (all_clear.free slot (subst (λ (m : ℕ). slot < blocks_of m) (sym o.1) below))) r.whole.grid;
       makings = λ z p. making_agrees k s.words words2 z agrees p;
@@ -463,7 +490,7 @@ module _ (k : Config) (s : Words) (r : Rule k s) (id : ℕ) (hist : List Entry) 
             (λ other. latest_other c other (⊎_elim (λ (u : DrawsFor c x.seen.hunt). absurd (other (sym (subst (DrawsFor c) is u)))) (λ (l : Latest k T s.words d c). l) (H.supply c few some))));
       };
       hunters = λ z other g. hunter_agree k T t2 s.words words2 agrees z (equal_le cursor2)
-          (same_over T pool (owned d class) T.asking stock2 z.own.number (let e : d ≢ z.own.number = (λ m. other (sym m)) in record { not_drawn = λ m. (drawn_not d z.own.number e).not_drawn (sym all_clear.drawn_is ∙ m); not_owned = λ c m. drawn_owned d z.own.number c (sym all_clear.drawn_is ∙ m) }) (owned_not d class z.own.number (λ m. other (sym m))) refl (stock_still z.own.number other)) g.hunter;
+          (same_over T pool (owned d class) T.asking T.fresh stock2 z.own.number (let e : d ≢ z.own.number = (λ m. other (sym m)) in record { not_drawn = λ m. (drawn_not d z.own.number e).not_drawn (sym all_clear.drawn_is ∙ m); not_owned = λ c m. drawn_owned d z.own.number c (sym all_clear.drawn_is ∙ m) }) (owned_not d class z.own.number (λ m. other (sym m))) refl (λ c. refl) (stock_still z.own.number other)) g.hunter;
     }
 
   -- a word behind the head's of the place taken
@@ -488,7 +515,7 @@ module _ (k : Config) (s : Words) (r : Rule k s) (id : ℕ) (hist : List Entry) 
 
     -- the place isn't one of a live block
     pub not_live : (q : Place) → r.account.live (place_in pool class slot) ≡ Some q → ⊥
-    not_live q lives = head_full k r.account.live (state_of k r.account.log).graph s.words (place_in pool class slot) q (r.whole.found (place_in pool class slot) q lives) filling.free
+    not_live q lives = head_full k r.account.cycling.paint r.account.live (state_of k r.account.log).graph s.words (place_in pool class slot) q (r.whole.found (place_in pool class slot) q lives) filling.free
 
     -- live blocks lie beside the place taken
     pub live_far : (b : ℕ) (q : Place) → r.account.live b ≡ Some q → (b + extent q.shape ≤ place_in pool class slot) ⊎ (place_in pool class slot + size_of class ≤ b)
@@ -580,8 +607,10 @@ module _ (k : Config) (s : Words) (r : Rule k s) (id : ℕ) (hist : List Entry) 
         phases = phases_same k r.account.pause s.words ws3 (control_set k s.words B new (omega arith)) r.whole.phases;
         want = control_set k s.words B new (omega arith) 0 (omega arith);
         endings = control_set k s.words B new (omega arith) 8 (omega arith);
-        cycle = cycle_same k s.words ws3 (control_set k s.words B new (omega arith)) r.whole.cycle;
-        found = λ b q lives. let f = r.whole.found b q lives in found_beside k r.account.live r.account.live (state_of k r.account.log).graph (state_of k r.account.log).graph s.words B new b q (more_same r.account.live) f f.there
+        cycle = cycle_control k s.words ws3 (control_set k s.words B new (omega arith));
+        garbage = λ a. refl;
+        full = r.whole.full;
+        found = λ b q lives. let f = r.whole.found b q lives in found_beside k r.account.cycling.paint r.account.live r.account.live (state_of k r.account.log).graph (state_of k r.account.log).graph s.words B new b q (more_same r.account.live) f f.there
             (λ z inside e. let n : ℕ = extent q.shape in let p : ℕ = place_in pool class slot in let y : ℕ = size_of class in let i : z < n = inside in let same : b + z ≡ p + 1 + m = e in let f : m + 1 < y = room in
             ⊎_elim (λ (h : b + n ≤ p). omega arith) (λ (h : p + y ≤ b). omega arith) (live_far b q lives));
         pools = pools_same k T s.words ws3 (control_set k s.words B new (omega arith)) P;

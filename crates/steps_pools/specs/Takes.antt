@@ -186,7 +186,7 @@ pub record MajorMay (k : Config) (x : DomainView) (at new : ℕ) (changes : List
   pub tag_fits : tag < 256
   pub some_field : 1 ≤ fields
   pub few_fields : fields ≤ 126
-  pub head : IsNewHead (PlainShape fields tag) new
+  pub head : IsNewHead x.seen.share.colours (PlainShape fields tag) new
   pub serial : x.own.serial + 1 < 2 ^ 32
   pub goes : dst < 16
   pub written : changed Nothing changes x.own ≡ record x.own { registers = slice_set x.own.registers dst (Ref at) }

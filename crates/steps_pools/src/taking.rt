@@ -8,7 +8,7 @@ ghost use Rattle.heap_rule.specs.declared.view.Hunt.TheVariants.{Rests, Counts, 
 ghost use Rattle.heap_rule.specs.Limits.{sizes_in};
 ghost use Rattle.heap_rule.specs.Pools.{Takes, limit_of};
 ghost use Rattle.heap_rule.specs.Standing.{IsInHeap};
-ghost use Rattle.steps_pools.specs.Takes.{HasNoDraw, ListedTold, CursorTold, CursorAddTold, CopyDrawMay, CopyDrawTold, ListMay, ListTold, ClearMay, ClearTold, OwnerMay, OwnedTold, FillMay, FillTold, MajorEntry, MajorTold};
+ghost use Rattle.steps_pools.specs.Takes.{HasNoDraw, NoneFree, ListedTold, CursorTold, CursorAddTold, CopyDrawMay, CopyDrawTold, ListMay, ListTold, ClearMay, ClearTold, OwnerMay, OwnedTold, FillMay, FillTold, MajorEntry, MajorTold};
 ghost use Rattle.heap_rule.specs.Token.{IsIn};
 
 use heap_rule::{
@@ -126,6 +126,7 @@ pub fn cursor_add(heap: &Heap, dom: &mut Domain, count: u32, class: u32) -> u64
     requires here { IsIn dom.old heap.now }
     requires asks { dom.old.view.seen.hunt ≡ Asks count }
     requires class { class < class_count }
+    requires none_free { NoneFree heap.now.config dom.old.view class }
     requires runs { dom.old.view.seen.stage ≡ In Run }
     ensures here { IsIn dom.new heap.now }
     ensures told { CursorAddTold heap.now.config count class dom.old.view result dom.new.view }

@@ -1,5 +1,5 @@
 -- The claim of a young block: where its head is found as it was met, the prepared place is its copy.
-use Rattle.std.proofs.Common.{rules, nat_le, ◌≡◌, ◌≢◌, ℕ, zero, suc, ◌+◌, ◌-◌, ◌*◌, ◌^◌, ◌/◌, ◌<◌, ◌≤◌, ◌⊎◌, Bool, true, false, eqb, eq-eqb, ne_eqb, if◌then◌else◌, List, [], ◌∷◌, ◌++◌, length, get_or, set, slice_get, Option, Some, None, unwrap_or, sym, refl, ap, ◌∙◌, subst, inl, inr, ⊎_elim, arith, lt_of_not-le, length-set, get_or-set_same, get_or-set_other, suc-mul}
+use Rattle.std.proofs.Common.{rules, nat_le, ◌≡◌, ◌≢◌, ℕ, zero, suc, ◌+◌, ◌-◌, ◌*◌, ◌^◌, ◌/◌, ◌<◌, ◌≤◌, ◌⊎◌, Bool, true, false, eqb, eq-eqb, ne_eqb, if◌then◌else◌, List, [], ◌∷◌, ◌++◌, length, get_or, set, slice_get, Option, Some, None, unwrap_or, sym, refl, ap, ◌∙◌, subst, inl, inr, ⊎_elim, arith, lt_of_not-le, length-set, get_or-set_same, get_or-set_other, suc-mul, IsTrue, cond}
 use Rattle.std.proofs.Math.Nat.{mul-le-mul_left}
 use mathlib.Core.Logic.{dite}
 use native.Mathlib.Decide.{ℕ_discrete, dec_le}
@@ -28,7 +28,7 @@ use Rattle.heap_rule.specs.Copies.{met_place, known, debt_of, IsOwed, IsField, O
 use Rattle.heap_rule.specs.Layout.{heap_words, before_heap, base_of, at_address}
 use Rattle.heap_rule.specs.Limits.{sizes_in}
 use Rattle.heap_rule.specs.Phases.{sum_of}
-use Rattle.heap_rule.specs.Places.{Debt, Place, Live, extent, span, class_words, least_size, unmarked, HeadIs, IsNewHead, Found, Fits, Placed, Spread, Lasts, More, IsBuilt}
+use Rattle.heap_rule.specs.Places.{Debt, Place, Live, extent, span, class_words, least_size, HeadIs, IsNewHead, colour_in, Found, Fits, Placed, Spread, Lasts, More, IsBuilt, head_of}
 use Rattle.heap_rule.specs.Pools.{Stock, limit_of, owned, drawn_in, Tenancy, Hunts, Hunter, OwnPlace, Lot, Grid, Latest, DrawsFor, Drawers, IsCopying, place_in, size_of, blocks_of, prepared_at}
 use Rattle.heap_rule.specs.Raw.{MayStep, Closes}
 use Rattle.heap_rule.specs.Room.{count, drawn_in_all, copied_words, Room, Opened}
@@ -44,7 +44,8 @@ use Rattle.heap_rule.proofs.Classes.{size_least}
 use Rattle.heap_rule.proofs.Counting.{joined_with, joined_cases, claim_counts, claim_few, sum_le, sum_times}
 use Rattle.heap_rule.proofs.Drops.{debt_cases}
 use Rattle.heap_rule.proofs.Holders.{SameFor, agrees_same, hunter_agree}
-use Rattle.heap_rule.proofs.Keeps.{Words, mine, my_good, control_set, control_same, pools_same, opened_words, more_same, stands_more, hunter_as, promote_now, promote_here}
+use Rattle.heap_rule.proofs.Keeps.{Words, mine, my_good, control_set, control_same, pools_same, opened_words, more_same, stands_more, hunter_as, between_here}
+use Rattle.heap_rule.proofs.PauseFacts.{promote_now, promote_here}
 use Rattle.heap_rule.proofs.Lots.{area_beside, hunter_beside, number_cases, place_low}
 use Rattle.heap_rule.proofs.Update.{over, over_here, over_else}
 use Rattle.heap_rule.proofs.Values.{extent_large}
@@ -54,6 +55,12 @@ use Rattle.steps_promote.proofs.OwnPlaces.{place_sole}
 use Rattle.steps_promote.proofs.Preparing.{number_same, prepared_here, prepared_else}
 use Rattle.steps_promote.proofs.Registers.{promote_once}
 use Rattle.steps_promote.proofs.Remaking.{promotes_again, stood_same}
+use Rattle.heap_rule.proofs.HeadLemmas.{head_at, new_head}
+use Rattle.heap_rule.proofs.FullnessLemmas.{full_filled}
+use Rattle.heap_rule.specs.Fullness.{Homes, Fullness}
+use Rattle.cycle_laws.specs.Pools.{with_pool}
+use Rattle.heap_words.specs.declared.colours.Colours.{Colours}
+use Rattle.heap_rule.specs.declared.phase.Kind.TheVariants.{Promote}
 
 no_some : (a : ℕ) → ◌≡◌ {A = Option ℕ} None (Some a) → ⊥
 no_some a e = cc
@@ -114,10 +121,18 @@ one_of f j (suc n) below = dite (ℕ_discrete j n)
     (λ other. let x : ℕ = sum_of f n in let y : ℕ = f n in let z : ℕ = f j in let h : z ≤ x = one_of f j n (let o : j ≢ n = other in omega arith) in let g : z ≤ x + y = omega arith in g)
 
 -- the head of a block isn't one that forwards
-forwards_not : (shape : Shape) (word copy : ℕ) → IsNewHead shape word → word ≡ head_word (Forward copy) → ⊥
-forwards_not (PlainShape size tag) word copy h e = let f : 1 + 8 * 1 + 32 * 0 + 256 * tag + 65536 * size ≡ 3 + 2 ^ 32 * copy = sym h ∙ e in omega arith
-forwards_not (RawShape size tag) word copy h e = let f : 1 + 8 * 1 + 32 * 0 + 256 * tag + 65536 * size ≡ 3 + 2 ^ 32 * copy = sym h ∙ e in omega arith
-forwards_not (EpheShape keys) word copy h e = let f : 2 + 8 * 1 + 32 * 0 + 256 * 0 + 65536 * keys ≡ 3 + 2 ^ 32 * copy = sym h ∙ e in omega arith
+abbrev IsHeadWord : Shape → ℕ → Type 0
+IsHeadWord shape word = (colour : ℕ) × (scanned : Bool) × HeadIs None shape colour scanned word
+
+forwards_not : (shape : Shape) (word copy : ℕ) → IsHeadWord shape word → word ≡ head_word (Forward copy) → ⊥
+forwards_not shape word copy h e = coloured shape h.0 h.1 (sym h.2 ∙ e) where
+  coloured : (shape : Shape) (colour : ℕ) (scanned : Bool) → head_word (head_of None shape colour scanned) ≡ 3 + 2 ^ 32 * copy → ⊥
+  coloured (PlainShape size tag) colour true e = let f : 1 + 8 * colour + 32 * 1 + 256 * tag + 65536 * size ≡ 3 + 2 ^ 32 * copy = e in omega arith
+  coloured (PlainShape size tag) colour false e = let f : 1 + 8 * colour + 32 * 0 + 256 * tag + 65536 * size ≡ 3 + 2 ^ 32 * copy = e in omega arith
+  coloured (RawShape size tag) colour true e = let f : 1 + 8 * colour + 32 * 1 + 256 * tag + 65536 * size ≡ 3 + 2 ^ 32 * copy = e in omega arith
+  coloured (RawShape size tag) colour false e = let f : 1 + 8 * colour + 32 * 0 + 256 * tag + 65536 * size ≡ 3 + 2 ^ 32 * copy = e in omega arith
+  coloured (EpheShape keys) colour true e = let f : 2 + 8 * colour + 32 * 1 + 256 * 0 + 65536 * keys ≡ 3 + 2 ^ 32 * copy = e in omega arith
+  coloured (EpheShape keys) colour false e = let f : 2 + 8 * colour + 32 * 0 + 256 * 0 + 65536 * keys ≡ 3 + 2 ^ 32 * copy = e in omega arith
 
 -- the least class for so many words has the words that a block of them takes
 least_is : (sizes : List ℕ) (words c : ℕ) → c < length sizes → words ≤ get_or sizes c 0 → ((j : ℕ) → j < c → get_or sizes j 0 < words) → least_size sizes words ≡ get_or sizes c 0
@@ -166,7 +181,7 @@ module _ (k : Config) (s : Words) (r : Rule k s) (id : ℕ) (hist : List Entry) 
   lives : live a ≡ Some p
   lives = lasts.lives
 
-  f0 : Found k live graph s.words a p
+  f0 : Found k r.account.cycling.paint live graph s.words a p
   f0 = r.whole.found a p lives
 
   ours : Hunts k t s.words me (Heads c may.label old)
@@ -191,8 +206,15 @@ module _ (k : Config) (s : Words) (r : Rule k s) (id : ℕ) (hist : List Entry) 
   shape_is : p.shape ≡ may.place.shape
   shape_is = lasts.shape
 
-  old_head : IsNewHead p.shape old
-  old_head = subst (λ (z : Shape). IsNewHead z old) (sym shape_is) may.head
+  old_head : IsNewHead x.seen.share.colours p.shape old
+  old_head = subst (λ (z : Shape). IsNewHead x.seen.share.colours z old) (sym shape_is) may.head
+
+  -- nothing is marked while young blocks are copied, and the domain knows the colours
+  unmarked : r.account.cycling.paint.marks.marked p.label ≡ false
+  unmarked = (between_here k s r id hist x at Promote tt may.stage).unmarked p.label
+
+  known_colours : (c : Colours) → x.seen.share.colours ≡ Some c → c ≡ r.account.cycling.paint.colours
+  known_colours = (my_good k s r id hist x at).sharing.telling.colours
 
   old_at : at_address k s.words c ≡ old
   old_at = ours.3
@@ -242,7 +264,7 @@ module _ (k : Config) (s : Words) (r : Rule k s) (id : ℕ) (hist : List Entry) 
   -- the block was claimed before: its head forwards, and nothing changes but what the domain has met
   module _ (c2 : ℕ) (forward : p.forward ≡ Some c2) where
     found_forward : at_address k s.words a ≡ head_word (Forward c2)
-    found_forward = subst (λ (z : Option ℕ). HeadIs z p.shape unmarked false (at_address k s.words a)) forward f0.head
+    found_forward = subst (λ (z : Option ℕ). HeadIs z p.shape (colour_in r.account.cycling.paint p.label) f0.head.scanned (at_address k s.words a)) forward f0.head.packs
 
     lead : Leads k live a p c2
     lead = r.whole.copies.leads a p c2 lives forward
@@ -264,7 +286,10 @@ module _ (k : Config) (s : Words) (r : Rule k s) (id : ℕ) (hist : List Entry) 
         let G = my_good k s r id hist x at in
         let w = G.owes in
         let h = hunter_as k t s.words x x refl refl refl refl refl refl G.hunter in
-        promotes_again k s r id hist x at may.stage lost_view s.words live t record {
+        promotes_again k s r id hist x at may.stage lost_view s.words live t r.account.homes record {
+          share = refl;
+          full = r.whole.full;
+          garbage = λ _. refl;
           number = refl;
           arrivals = refl;
           stage = refl;
@@ -316,7 +341,7 @@ module _ (k : Config) (s : Words) (r : Rule k s) (id : ℕ) (hist : List Entry) 
     lost_told = record {
       place = may.place;
       met = may.met;
-      won = λ e. absurd (forwards_not p.shape old c2 old_head (sym e ∙ found_forward));
+      won = λ e. absurd (forwards_not p.shape old c2 (old_head.colours.unmarked, false, old_head.packs) (sym e ∙ found_forward));
       lost = λ _. record {
         copy = c2;
         word = found_forward;
@@ -405,33 +430,35 @@ module _ (k : Config) (s : Words) (r : Rule k s) (id : ℕ) (hist : List Entry) 
     c_word : (i : ℕ) → i < 2 → at_address k ws (c + i) ≡ at_address k s.words (c + i)
     c_word i h = stays (c + i) (λ e. let y : k.pools * 4096 < a = may.young in let z : ℕ = size_of class in let u : c + z ≤ k.pools * 4096 + 1 = c_top in let l : 4 ≤ z = c_large in let same : c + i ≡ a = e in omega arith)
 
-    found_c : Found k live2 graph ws c pc
+    found_c : Found k r.account.cycling.paint live2 graph ws c pc
     found_c = record {
       node = f0.node;
       there = f0.there;
       shape = f0.shape;
-      head = subst (IsNewHead p.shape) (sym (stays c (λ e. differ (sym e)) ∙ old_at)) old_head;
+      head = head_at r.account.cycling.paint pc (stays c (λ e. differ (sym e)) ∙ old_at) (new_head r.account.cycling.paint pc x.seen.share.colours old refl unmarked known_colours old_head);
+      blank = λ young. absurd (let h : c ≤ k.pools * 4096 = c_old in let y : k.pools * 4096 < c = young in omega arith);
       label = c_word 1 (omega arith) ∙ label_at;
       values = λ i v has got. absurd (let h : i < 0 = has in omega arith);
       old = λ low i within has none. absurd (let h : i < 0 = has in omega arith);
     }
 
-    found_a : Found k live2 graph ws a p2
+    found_a : Found k r.account.cycling.paint live2 graph ws a p2
     found_a = record {
       node = f0.node;
       there = f0.there;
       shape = f0.shape;
-      head = now_at ∙ may.word;
+      head = record { scanned = false; packs = now_at ∙ may.word; tells = λ is. absurd (let e : false ≡ true = sym unmarked ∙ is in cc) };
+      blank = λ _. refl;
       label = stays (a + 1) (λ e. omega arith) ∙ f0.label;
       values = λ i v has got. let w = f0.values i v has got in record { value = w.value; packs = stays (a + 2 + i) (λ e. omega arith) ∙ w.packs; stands = stands_more live live2 w.value v more2 w.stands };
       old = λ low i within has none. absurd (let y : k.pools * 4096 < a = may.young in let h : a ≤ k.pools * 4096 = low in omega arith);
     }
 
-    found2 : AllFound k live2 graph ws
+    found2 : AllFound k r.account.cycling.paint live2 graph ws
     found2 b q e = cases b q e
-        (λ same i. subst (λ (z : ℕ × Place). Found k live2 graph ws z.0 z.1) (λ j. (sym same j, i j)) found_a)
-        (λ same i. subst (λ (z : ℕ × Place). Found k live2 graph ws z.0 z.1) (λ j. (sym same j, i j)) found_c)
-        (λ na nc l. let fb = r.whole.found b q l in found_beside k live live2 graph graph s.words a new b q more2 fb fb.there
+        (λ same i. subst (λ (z : ℕ × Place). Found k r.account.cycling.paint live2 graph ws z.0 z.1) (λ j. (sym same j, i j)) found_a)
+        (λ same i. subst (λ (z : ℕ × Place). Found k r.account.cycling.paint live2 graph ws z.0 z.1) (λ j. (sym same j, i j)) found_c)
+        (λ na nc l. let fb = r.whole.found b q l in found_beside k r.account.cycling.paint live live2 graph graph s.words a new b q more2 fb fb.there
         (λ z within clash. let m : ℕ = extent q.shape in let n : ℕ = extent p.shape in let big : 3 ≤ n = extent_large p.shape (r.whole.placed.fits a p lives).head in let i : z < m = within in let h : b + z ≡ a = clash in
         ⊎_elim (λ (u : b + m ≤ a). omega arith) (λ (u : a + n ≤ b). omega arith) (r.whole.placed.apart b a q p l lives na)))
 
@@ -629,7 +656,7 @@ module _ (k : Config) (s : Words) (r : Rule k s) (id : ℕ) (hist : List Entry) 
       places = λ q d e j owned_is below. dite (ℕ_discrete (place_in q e j) c)
           (λ same. inr (inl (pc, ap live2 same ∙ here_c)))
           (λ other. ⊎_elim (λ (z : at_address k s.words (place_in q e j) ≡ 0). inl (place_stays q d e j owned_is below ∙ z))
-          (λ z. inr (⊎_elim (λ (v : (u : Place) × (live (place_in q e j) ≡ Some u)). inl (let m = more2 (place_in q e j) v.0 v.1 in (m.place, m.lives))) (λ (v : t.prepared (place_in q e j) ≡ Some d). inr (over_else c None t.prepared (place_in q e j) other ∙ v)) z))
+          (λ z. inr (⊎_elim (λ (v : (u : Place) × (live (place_in q e j) ≡ Some u)). inl (let m = more2 (place_in q e j) v.0 v.1 in (m.place, m.lives))) (λ v. inr (⊎_elim (λ (h : t.prepared (place_in q e j) ≡ Some d). inl (over_else c None t.prepared (place_in q e j) other ∙ h)) (λ (h : IsTrue (t.garbage (place_in q e j))). inr h) v)) z))
           (r.whole.grid.places q d e j owned_is below));
       spares = λ b d is.
           let u = was_prepared b d is in
@@ -650,6 +677,7 @@ module _ (k : Config) (s : Words) (r : Rule k s) (id : ℕ) (hist : List Entry) 
       asking_same = refl;
       prepared_to = λ b e. over_else c None t.prepared b (λ same. other (number_same d me (sym e ∙ (ap t.prepared same ∙ mine_is)))) ∙ e;
       prepared_from = λ b e. (was_prepared b d e).1;
+      fresh_same = λ _. refl;
       stock_same = record {
         drawn = refl;
         copies = copies_else d other;
@@ -716,6 +744,27 @@ module _ (k : Config) (s : Words) (r : Rule k s) (id : ℕ) (hist : List Entry) 
 
     abbrev copied : Copied
     copied = record { copy = c; source = a }
+
+    -- the copy's pool is the home of the block, which is kept and had none
+    abbrev homes2 : Homes
+    homes2 = with_pool r.account.homes p.label own_place.pool
+
+    full2 : Fullness k r.account.log live2 t'.holder t'.fresh homes2 r.account.cycling.kind
+    full2 =
+        let f = r.whole.full in
+        full_filled k t s.words r.account.log live live2 r.account.homes r.account.cycling.kind c p.label r.whole.pools (me, own_place)
+        (λ b q nc e. dite (ℕ_discrete b a)
+        (λ same. record { place = p; lives = ap live same ∙ lives; label = ap (λ (z : Place). z.label) (is_a b q same e); bare = λ _. bare })
+        (λ na. record { place = q; lives = was b q na nc e; label = refl; bare = λ h. h }))
+        (λ q e. ap (λ (z : Place). z.label) (sym (is_c c q refl e)))
+        (λ b q nc e none same. dite (ℕ_discrete b a)
+        (λ here. absurd (let h : ◌≡◌ {A = Option ℕ} (Some c) None = ap (λ (z : Place). z.forward) (is_a b q here e) ∙ none in cc))
+        (λ na. na (r.whole.placed.once b a q p (was b q na nc e) lives same none bare)))
+        (λ b q e low. cases b q e
+        (λ same _. absurd (let y : k.pools * 4096 < a = may.young in let h : b ≤ k.pools * 4096 = low in let m : b ≡ a = same in omega arith))
+        (λ _ i. ap (λ (z : Place). z.forward) (sym i))
+        (λ _ _ l. ⊎_elim (λ (n : q.forward ≡ None). n) (λ (n : (m : ℕ) × (q.forward ≡ Some m)). absurd (let y = (r.whole.copies.leads b q n.0 l n.1).young in let h : b ≤ k.pools * 4096 = low in omega arith)) (number_cases q.forward)))
+        (f.young a p lives may.young bare) f0.node f0.there (f.kept a p lives) f
 
     abbrev won_view : DomainView
     won_view = record {
@@ -873,7 +922,10 @@ module _ (k : Config) (s : Words) (r : Rule k s) (id : ℕ) (hist : List Entry) 
         let making = makings2 x G.area G.making in
         let control = control_set k s.words a new low_a in
         let pools = pools_same k t s.words ws control r.whole.pools in
-        promotes_again k s r id hist x at may.stage won_view ws live2 t' record {
+        promotes_again k s r id hist x at may.stage won_view ws live2 t' homes2 record {
+          share = refl;
+          full = full2;
+          garbage = λ _. refl;
           number = refl;
           arrivals = refl;
           stage = refl;
@@ -958,7 +1010,10 @@ module _ (k : Config) (s : Words) (r : Rule k s) (id : ℕ) (hist : List Entry) 
   )
 
   head_is_old : p.forward ≡ None → at_address k s.words a ≡ old
-  head_is_old bare = subst (λ (z : Option ℕ). HeadIs z p.shape unmarked false (at_address k s.words a)) bare f0.head ∙ sym old_head
+  head_is_old bare =
+      let paint = r.account.cycling.paint in
+      let colour : colour_in paint p.label ≡ old_head.colours.unmarked = ap (λ (b : Bool). cond b paint.colours.marked paint.colours.unmarked) unmarked ∙ ap (λ (c : Colours). c.unmarked) (sym (known_colours old_head.colours old_head.known_is)) in
+      subst (λ (m : Option ℕ × ℕ × Bool). HeadIs m.0 p.shape m.1 m.2 (at_address k s.words a)) (λ i. (bare i, colour i, f0.blank may.young i)) f0.head.packs ∙ sym old_head.packs
 
   pub record Outcome (found : ℕ) : Type 0 where
     pub after : DomainView
@@ -993,7 +1048,7 @@ module _ (k : Config) (s : Words) (r : Rule k s) (id : ℕ) (hist : List Entry) 
       (λ other. won_outcome bare used1 (same_used (λ same_place _. other same_place))))
       (λ (t2 : (c2 : ℕ) × (p.forward ≡ Some c2)).
       let found : ℕ = at_address k s.words a in
-      let differs : found ≢ old = (λ e. forwards_not p.shape old t2.0 old_head (sym e ∙ found_forward t2.0 t2.1)) in
+      let differs : found ≢ old = (λ e. forwards_not p.shape old t2.0 (old_head.colours.unmarked, false, old_head.packs) (sym e ∙ found_forward t2.0 t2.1)) in
       let word : either (eqb found old) new found ≡ found = ap (λ (b : Bool). either b new found) (ne_eqb found old differs) in record {
         after = lost_view t2.0 t2.1;
         rule = subst (λ (ws : List ℕ). Rule k record { words = ws; homes = s.homes; views = set s.views id (one k hist (lost_view t2.0 t2.1)) }) (sym (set-get_or s.words (before_heap k + a) 0) ∙ ap (set s.words (before_heap k + a)) (sym word)) (lost_rule t2.0 t2.1);

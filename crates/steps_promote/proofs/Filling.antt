@@ -1,5 +1,5 @@
 -- The values of a copy are stored, one after the other, and then it is owed nothing more.
-use Rattle.std.proofs.Common.{◌≡◌, ◌≢◌, ℕ, zero, suc, ◌+◌, ◌*◌, ◌<◌, ◌≤◌, false, List, ◌∷◌, length, get_or, set, slice_get, Option, Some, None, unwrap_or, sym, refl, ap, ◌∙◌, subst, inr, ⊎_elim, arith, length-set, get_or-set_same, get_or-set_other}
+use Rattle.std.proofs.Common.{◌≡◌, ◌≢◌, ℕ, zero, suc, ◌+◌, ◌*◌, ◌<◌, ◌≤◌, List, ◌∷◌, length, get_or, set, slice_get, Option, Some, None, unwrap_or, sym, refl, ap, ◌∙◌, subst, inr, ⊎_elim, arith, length-set, get_or-set_same, get_or-set_other}
 use mathlib.Core.Logic.{dite}
 use native.Mathlib.Decide.{ℕ_discrete}
 use mathlib.Core.Option.{some}
@@ -16,7 +16,7 @@ use Rattle.heap_rule.specs.declared.view.DomainView.{DomainView}
 use Rattle.heap_rule.specs.declared.phase.Kind.TheVariants.{Promote}
 use Rattle.heap_rule.specs.declared.phase.Stage.TheVariants.{In}
 use Rattle.heap_rule.specs.Layout.{heap_words, before_heap, at_address}
-use Rattle.heap_rule.specs.Places.{Debt, Place, Live, extent, values_of, unmarked, HeadIs, HasValue, Stands, Found, IsOldWord, More}
+use Rattle.heap_rule.specs.Places.{Debt, Place, Live, extent, values_of, HasValue, Stands, Found, IsOldWord, More}
 use Rattle.heap_rule.specs.Phases.{IsInPause}
 use Rattle.heap_rule.specs.Pools.{Grid, Hunter}
 use Rattle.heap_rule.specs.Copies.{known, debt_of, IsOwed, Owes, IsField, Copies, Pends, Promoting, Cleared}
@@ -189,7 +189,7 @@ module _ (k : Config) (s : Words) (r : Rule k s) (id : ℕ) (hist : List Entry) 
         behind (suc i) g = (i, g)
 
   -- the rule with what the domain is still to fill
-  pub fills_again : (pending2 : List Owing) (words' : List ℕ) → length words' ≡ length s.words → Control k s.words words' → AllFound k live2 (state_of k r.account.log).graph words' → Grid k r.account.tenancy r.account.live words'
+  pub fills_again : (pending2 : List Owing) (words' : List ℕ) → length words' ≡ length s.words → Control k s.words words' → AllFound k r.account.cycling.paint live2 (state_of k r.account.log).graph words' → Grid k r.account.tenancy r.account.live words'
       → ((z : DomainView) → Area k r.account.live z → Making k s.words z → Making k words' z) → ((z : DomainView) → Hunter k r.account.tenancy s.words z → Hunter k r.account.tenancy words' z)
       → ((i : ℕ) (v : Owing) → slice_get pending2 i ≡ Some v → IsOwed live2 x v)
       → ((i j : ℕ) (v w : Owing) → slice_get pending2 i ≡ Some v → slice_get pending2 j ≡ Some w → v.copy ≡ w.copy → i ≡ j)
@@ -199,6 +199,7 @@ module _ (k : Config) (s : Words) (r : Rule k s) (id : ℕ) (hist : List Entry) 
       let y : DomainView = with_pending x pending2 in
       let w = (my_good k s r id hist x at).owes in
       changes_again k s r id hist x at promotes c p p2 lives refl refl refl y words' record {
+        share = refl;
         own = refl;
         hunt = refl;
         stage = refl;
@@ -245,17 +246,18 @@ end_may k x word a may fits slots id hist s r _ at _ =
     let l = (my_good k s r id hist x at).owes.knows o.copy may.place may.met in
     let same_shape : p1.shape ≡ may.place.shape = ap (λ (z : Place). z.shape) (ap (λ (z : Option Place). unwrap_or z p1) (sym lives1 ∙ l.lives)) ∙ l.shape in
     let full : extent p1.shape ≤ o.filled + 2 = subst (λ (z : Shape). extent z ≤ o.filled + 2) (sym same_shape) may.full in
-    let found : AllFound k live1 graph s.words = (λ b q e. dite (ℕ_discrete b o.copy)
+    let found : AllFound k r.account.cycling.paint live1 graph s.words = (λ b q e. dite (ℕ_discrete b o.copy)
     (λ same.
     let f = r.whole.found o.copy p1 lives1 in
     let n : ℕ = length (values_of f.node) in
     let size : extent p1.shape ≡ n + 2 = ap extent (sym f.shape) ∙ extent_of f.node in
     let has : (i : ℕ) → i + 2 < extent p1.shape → HasValue p1.owed i = (λ i h. subst (λ (z : Option Debt). HasValue z i) (sym debt1) (let y : ℕ = extent p1.shape in let u : y ≤ o.filled + 2 = full in let v : i + 2 < y = h in let w : i < o.filled = omega arith in w)) in
-    subst (λ (z : ℕ × Place). Found k live1 graph s.words z.0 z.1) (λ i. (sym same i, again b q same e i)) record {
+    subst (λ (z : ℕ × Place). Found k r.account.cycling.paint live1 graph s.words z.0 z.1) (λ i. (sym same i, again b q same e i)) record {
       node = f.node;
       there = f.there;
       shape = f.shape;
-      head = f.head;
+      head = let h = f.head in record { scanned = h.scanned; packs = h.packs; tells = h.tells };
+      blank = f.blank;
       label = f.label;
       values = λ i v _ got. let w = f.values i v (has i (let y : ℕ = extent p1.shape in let u : y ≡ n + 2 = size in let t : i < n = got_below (values_of f.node) i v got in let w : i + 2 < y = omega arith in w)) got in
           record { value = w.value; packs = w.packs; stands = stands_more r.account.live live1 w.value v grows w.stands };
@@ -266,6 +268,7 @@ end_may k x word a may fits slots id hist s r _ at _ =
       there = f.there;
       shape = f.shape;
       head = f.head;
+      blank = f.blank;
       label = f.label;
       values = λ i v h got. let w = f.values i v h got in record { value = w.value; packs = w.packs; stands = stands_more r.account.live live1 w.value v grows w.stands };
       old = f.old;
@@ -331,11 +334,12 @@ fill_may k x word a new place may fits slots id hist s r _ at _ =
     let has_it = subst (λ (log : List Entry). HasValueAt (state_of k log) may.place.label n may.held) front may.has in
     let node_is : f.node ≡ has_it.node = some_node f.node has_it.node (sym f.there ∙ (ap (node_at graph) label1 ∙ has_it.there)) in
     let earlier : (i : ℕ) → i < n → HasValue p1.owed i = (λ i h. subst (λ (z : Option Debt). HasValue z i) (sym debt1) h) in
-    let here : Found k live1 graph ws c0 (record p1 { owed = Some d2 }) = record {
+    let here : Found k r.account.cycling.paint live1 graph ws c0 (record p1 { owed = Some d2 }) = record {
       node = f.node;
       there = f.there;
       shape = f.shape;
-      head = subst (HeadIs p1.forward p1.shape unmarked false) (sym (get_or-set_other s.words (before_heap k + A) (before_heap k + c0) new 0 (λ e. omega arith))) f.head;
+      head = let h = f.head in record { scanned = h.scanned; packs = get_or-set_other s.words (before_heap k + A) (before_heap k + c0) new 0 (λ e. omega arith) ∙ h.packs; tells = h.tells };
+      blank = f.blank;
       label = get_or-set_other s.words (before_heap k + A) (before_heap k + (c0 + 1)) new 0 (λ e. omega arith) ∙ f.label;
       values = λ i v has got. dite (ℕ_discrete i n)
           (λ same. record {
@@ -353,12 +357,12 @@ fill_may k x word a new place may fits slots id hist s r _ at _ =
           (λ same. subst (IsOldWord k) (sym (ap (λ (m : ℕ). get_or ws (before_heap k + (c0 + 2 + m)) 0) same ∙ get_or-set_same s.words (before_heap k + A) new 0 spot)) may.old)
           (λ other. let differ : i ≢ n = other in let h : i < n + 1 = has in subst (IsOldWord k) (sym (get_or-set_other s.words (before_heap k + A) (before_heap k + (c0 + 2 + i)) new 0 (λ e. differ (omega arith)))) (f.old under i within (earlier i (omega arith)) none));
     } in
-    let found : AllFound k live1 graph ws = (λ b q e. dite (ℕ_discrete b c0)
-    (λ same. subst (λ (z : ℕ × Place). Found k live1 graph ws z.0 z.1) (λ i. (sym same i, again b q same e i)) here)
-    (λ other. let fb = r.whole.found b q (before b q other e) in found_beside k r.account.live live1 graph graph s.words A new b q grows fb fb.there
+    let found : AllFound k r.account.cycling.paint live1 graph ws = (λ b q e. dite (ℕ_discrete b c0)
+    (λ same. subst (λ (z : ℕ × Place). Found k r.account.cycling.paint live1 graph ws z.0 z.1) (λ i. (sym same i, again b q same e i)) here)
+    (λ other. let fb = r.whole.found b q (before b q other e) in found_beside k r.account.cycling.paint r.account.live live1 graph graph s.words A new b q grows fb fb.there
     (λ z within clash. let m : ℕ = extent q.shape in let i : z < m = within in let h : b + z ≡ A = clash in
     ⊎_elim (λ (t : b + m ≤ c0). omega arith) (λ (t : c0 + ext ≤ b). omega arith) (r.whole.placed.apart b c0 q p1 (before b q other e) lives1 other)))) in
-    let head : at_address k s.words c0 ≢ 0 = head_full k r.account.live graph s.words c0 p1 f in
+    let head : at_address k s.words c0 ≢ 0 = head_full k r.account.cycling.paint r.account.live graph s.words c0 p1 f in
     let beside : (m : ℕ) → Beside k r.account.tenancy s.words m A = (λ m. subst (Beside k r.account.tenancy s.words m) (let h : c0 + (2 + n) ≡ A = omega arith in h)
     (live_beside k r.account.tenancy r.account.live s.words c0 (2 + n) p1 r.whole.pools r.whole.grid low lives1 (omega arith) (omega arith) head m)) in
     let pending2 : List Owing = record o { filled = n + 1 } ∷ rest in

@@ -1,5 +1,5 @@
 -- A prepared place is given back, and the words of one are written.
-use Rattle.std.proofs.Common.{◌≡◌, ◌≢◌, ℕ, ◌+◌, ◌*◌, ◌<◌, ◌≤◌, List, length, get_or, set, Option, Some, None, sym, refl, ap, ◌∙◌, subst, inl, inr, ⊎_elim, arith, lt_of_not-le, length-set, get_or-set_same, get_or-set_other}
+use Rattle.std.proofs.Common.{◌≡◌, ◌≢◌, ℕ, ◌+◌, ◌*◌, ◌<◌, ◌≤◌, List, length, get_or, set, Option, Some, None, sym, refl, ap, ◌∙◌, subst, inl, inr, ⊎_elim, arith, lt_of_not-le, length-set, get_or-set_same, get_or-set_other, IsTrue}
 use mathlib.Core.Logic.{dite}
 use native.Mathlib.Decide.{ℕ_discrete, dec_le}
 use mathlib.Core.Option.{some}
@@ -107,7 +107,7 @@ module _ (k : Config) (s : Words) (r : Rule k s) (id : ℕ) (hist : List Entry) 
       grid' = record {
         lots = r.whole.grid.lots;
         places = λ q d c j owned_is below. dite (ℕ_discrete (place_in q c j) a)
-            (λ same. inr (inr (ap t.prepared same ∙ (mine_is ∙ ap Some (sym (place_sole k t s.words q d c j o.pool me o.class o.slot r.whole.pools owned_is below o.owned_is o.inside (same ∙ o.begins)).1)))))
+            (λ same. inr (inr (inl (ap t.prepared same ∙ (mine_is ∙ ap Some (sym (place_sole k t s.words q d c j o.pool me o.class o.slot r.whole.pools owned_is below o.owned_is o.inside (same ∙ o.begins)).1))))))
             (λ other. ⊎_elim (λ (z : at_address k s.words (place_in q c j) ≡ 0). inl (stays q d c j owned_is below other ∙ z)) (λ z. inr z) (r.whole.grid.places q d c j owned_is below));
         spares = λ b d is. let sp = r.whole.grid.spares b d is in let own = sp.own in record {
           own = own;
@@ -149,7 +149,10 @@ module _ (k : Config) (s : Words) (r : Rule k s) (id : ℕ) (hist : List Entry) 
           let counts : (listed ws ≡ listed s.words) × (cursor ws ≡ cursor s.words) = (control 6 (omega arith), control 7 (omega arith)) in
           let making = places.makings_again k s r id hist x at a o empty i new four x G.making in
           subst (λ (z : DomainView). Rule k record { words = ws; homes = s.homes; views = set s.views id (one k hist z) }) (sym y_is)
-          (promotes_again k s r id hist x at promotes (with_hunt x hunt) ws live t record {
+          (promotes_again k s r id hist x at promotes (with_hunt x hunt) ws live t r.account.homes record {
+            share = refl;
+            full = r.whole.full;
+            garbage = λ _. refl;
             number = refl;
             arrivals = refl;
             stage = refl;
@@ -212,7 +215,7 @@ module _ (k : Config) (s : Words) (r : Rule k s) (id : ℕ) (hist : List Entry) 
       places = λ q d c j owned_is below. dite (ℕ_discrete (place_in q c j) a)
           (λ same. inl (ap (at_address k w0) same ∙ free))
           (λ other. ⊎_elim (λ (z : at_address k s.words (place_in q c j) ≡ 0). inl (stays0 q d c j owned_is below other ∙ z))
-          (λ z. inr (⊎_elim (λ (v : (p : Place) × (live (place_in q c j) ≡ Some p)). inl v) (λ (v : t.prepared (place_in q c j) ≡ Some d). inr (over_else a None t.prepared (place_in q c j) other ∙ v)) z))
+          (λ z. inr (⊎_elim (λ (v : (p : Place) × (live (place_in q c j) ≡ Some p)). inl v) (λ v. inr (⊎_elim (λ (e : t.prepared (place_in q c j) ≡ Some d). inl (over_else a None t.prepared (place_in q c j) other ∙ e)) (λ (e : IsTrue (t.garbage (place_in q c j))). inr e) v)) z))
           (r.whole.grid.places q d c j owned_is below));
       spares = λ b d is. let u = was b d is in let sp = r.whole.grid.spares b d u.1 in let own = sp.own in record {
         own = own;
@@ -230,6 +233,7 @@ module _ (k : Config) (s : Words) (r : Rule k s) (id : ℕ) (hist : List Entry) 
       asking_same = refl;
       prepared_to = λ b e. over_else a None t.prepared b (λ same. other (number_same d me (sym e ∙ (ap t.prepared same ∙ mine_is)))) ∙ e;
       prepared_from = λ b e. (was b d e).1;
+      fresh_same = λ c. refl;
       stock_same = stock_self t.stock d;
     }
 
@@ -272,7 +276,10 @@ module _ (k : Config) (s : Words) (r : Rule k s) (id : ℕ) (hist : List Entry) 
         let control0 = control 0 0 (omega arith) in
         let counts : (listed w0 ≡ listed s.words) × (cursor w0 ≡ cursor s.words) = (control0 6 (omega arith), control0 7 (omega arith)) in
         let making = places.makings_again k s r id hist x at a o empty 0 0 (omega arith) x G.making in
-        promotes_again k s r id hist x at promotes y w0 live t' record {
+        promotes_again k s r id hist x at promotes y w0 live t' r.account.homes record {
+          share = refl;
+          full = r.whole.full;
+          garbage = λ _. refl;
           number = refl;
           arrivals = refl;
           stage = refl;

@@ -1,5 +1,5 @@
 -- Loads at which a domain that copies meets blocks.
-use Rattle.std.proofs.Common.{◌≡◌, ◌≢◌, ℕ, ◌+◌, ◌*◌, ◌<◌, ◌≤◌, cond, eq-eqb, ne_eqb, Bool, false, List, ◌∷◌, length, get_or, set, slice_get, Option, Some, None, sym, refl, ap, ◌∙◌, subst, inl, inr, ⊎_elim, arith}
+use Rattle.std.proofs.Common.{◌≡◌, ◌≢◌, ℕ, ◌+◌, ◌*◌, ◌<◌, ◌≤◌, cond, eq-eqb, ne_eqb, Bool, List, ◌∷◌, length, get_or, set, slice_get, Option, Some, None, sym, refl, ap, ◌∙◌, subst, inl, inr, ⊎_elim, arith}
 use mathlib.Core.Logic.{dite}
 use native.Mathlib.Decide.{ℕ_discrete}
 use mathlib.Core.Option.{some}
@@ -21,7 +21,7 @@ use Rattle.heap_rule.specs.declared.view.DomainView.{DomainView}
 use Rattle.heap_rule.specs.declared.phase.Kind.TheVariants.{Promote}
 use Rattle.heap_rule.specs.declared.phase.Stage.TheVariants.{In}
 use Rattle.heap_rule.specs.Layout.{heap_words, before_heap, at_address}
-use Rattle.heap_rule.specs.Places.{Debt, Place, Live, extent, values_of, unmarked, HeadIs, HasValue, IsBuilt, Stands, Lasts, More}
+use Rattle.heap_rule.specs.Places.{Debt, Place, Live, extent, values_of, HeadIs, colour_in, HasValue, IsBuilt, Stands, Lasts, More}
 use Rattle.heap_rule.specs.Phases.{IsInPause}
 use Rattle.heap_rule.specs.Copies.{met_place, shape_of_form, known}
 use Rattle.heap_rule.specs.Raw.{MayStep}
@@ -36,8 +36,10 @@ use Rattle.heap_rule.proofs.Values.{address_of, packable}
 use Rattle.heap_rule.proofs.Lists.{got_there}
 use Rattle.heap_rule.proofs.Drops.{debt_cases}
 use Rattle.heap_rule.proofs.Lots.{number_cases}
-use Rattle.heap_rule.proofs.Keeps.{Words, my_good, control_same, hunter_as, unmoved, more_same, stands_more}
+use Rattle.heap_rule.proofs.Keeps.{Words, my_good, control_same, hunter_as, unmoved, more_same, stands_more, between_here}
 use Rattle.steps_promote.proofs.Remaking.{promotes_again, stood_same}
+use Rattle.heap_rule.proofs.HeadLemmas.{packable_head, colour_small}
+use Rattle.heap_words.specs.declared.colours.Colours.{Colours}
 
 pub form_shape : (s : Shape) → IsBuilt s → shape_of_form (form_of s) ≡ s
 form_shape (PlainShape size tag) built = refl
@@ -99,7 +101,10 @@ module _ (k : Config) (s : Words) (r : Rule k s) (id : ℕ) (hist : List Entry) 
       let g = my_good k s r id hist x at in
       let y : DomainView = with_met x met in
       let o = g.owes in
-      promotes_again k s r id hist x at promotes y s.words live r.account.tenancy record {
+      promotes_again k s r id hist x at promotes y s.words live r.account.tenancy r.account.homes record {
+        share = refl;
+        full = r.whole.full;
+        garbage = λ a. refl;
         number = refl;
         arrivals = refl;
         stage = refl;
@@ -173,7 +178,18 @@ module _ (k : Config) (s : Words) (r : Rule k s) (id : ℕ) (hist : List Entry) 
           here = known_met a p ms (built a p lives);
           more = grows1;
           fit = met_fits k (known (m ∷ ms)) live more1 r.whole.placed;
-          told = inl record { head = subst (λ (o : Option ℕ). HeadIs o p.shape unmarked false (at_address k s.words a)) none f.head; view = refl };
+          told = let paint = r.account.cycling.paint in let colour : ℕ = colour_in paint p.label in
+              let bare : HeadIs None p.shape colour f.head.scanned (at_address k s.words a) = subst (λ (o : Option ℕ). HeadIs o p.shape colour f.head.scanned (at_address k s.words a)) none f.head.packs in inl record {
+            head = record { colour = colour; scanned = f.head.scanned; packable = packable_head p.shape colour f.head.scanned (colour_small paint p.label r.whole.cycle.meanings) packs; packs = bare };
+            new = λ young c known. let means : c ≡ paint.colours = (my_good k s r id hist x at).sharing.telling.colours c known in record {
+              colours = c;
+              known_is = known;
+              fits = subst (λ (z : Colours). z.unmarked < 3) (sym means) r.whole.cycle.meanings.unmarked_fits;
+              packs = subst (λ (m : ℕ × Bool). HeadIs None p.shape m.0 m.1 (at_address k s.words a))
+                  (λ i. ((ap (λ (b : Bool). cond b paint.colours.marked paint.colours.unmarked) ((between_here k s r id hist x at Promote tt promotes).unmarked p.label) ∙ ap (λ (z : Colours). z.unmarked) (sym means)) i, f.blank young i)) bare;
+            };
+            view = refl;
+          };
         };
       })
       (λ (t : (c : ℕ) × (p.forward ≡ Some c)).
@@ -194,7 +210,7 @@ module _ (k : Config) (s : Words) (r : Rule k s) (id : ℕ) (hist : List Entry) 
           fit = met_fits k (known (n ∷ m ∷ ms)) live (knows_more live n (m ∷ ms) more1 its) r.whole.placed;
           told = inr record {
             copy = c;
-            word = subst (λ (o : Option ℕ). HeadIs o p.shape unmarked false (at_address k s.words a)) t.1 f.head;
+            word = subst (λ (o : Option ℕ). HeadIs o p.shape (colour_in r.account.cycling.paint p.label) f.head.scanned (at_address k s.words a)) t.1 f.head.packs;
             young = l.young;
             old = l.old;
             inside = (fits.0, let w : ℕ = heap_words k in let h : c + 2 ≤ w = fits.1 in let e : c ≤ w = omega arith in e);
@@ -356,7 +372,7 @@ label_may k x word a b place may fits slots id hist s r _ at _ =
 
 -- what they tell leaves the plain data
 pub head_met_own : (k : Config) (a : ℕ) (x : DomainView) (found : ℕ) (y : DomainView) → HeadMet k a x found y → y.own ≡ x.own
-head_met_own k a x found y told = ⊎_elim (λ (t : StaysThere a told.place x found y). ap (λ (z : DomainView). z.own) t.view) (λ (t : Forwards k a told.place x found y). ap (λ (z : DomainView). z.own) t.view) told.told
+head_met_own k a x found y told = ⊎_elim (λ (t : StaysThere k a told.place x found y). ap (λ (z : DomainView). z.own) t.view) (λ (t : Forwards k a told.place x found y). ap (λ (z : DomainView). z.own) t.view) told.told
 
 pub head_met_front : (k : Config) (a : ℕ) (x : DomainView) (found : ℕ) (y : DomainView) → HeadMet k a x found y → y.seen.front ≡ x.seen.front
-head_met_front k a x found y told = ⊎_elim (λ (t : StaysThere a told.place x found y). ap (λ (z : DomainView). z.seen.front) t.view) (λ (t : Forwards k a told.place x found y). ap (λ (z : DomainView). z.seen.front) t.view) told.told
+head_met_front k a x found y told = ⊎_elim (λ (t : StaysThere k a told.place x found y). ap (λ (z : DomainView). z.seen.front) t.view) (λ (t : Forwards k a told.place x found y). ap (λ (z : DomainView). z.seen.front) t.view) told.told

@@ -121,8 +121,8 @@ module _ (k : Config) (s : Words) (r : Rule k s) (id : ℕ) (hist : List Entry) 
     ws = set s.words (before_heap k + (a + i)) new
 
     -- so all blocks are found again
-    pub found_again : AllFound k r.account.live (state_of k r.account.log).graph ws
-    found_again b q lives = let f = r.whole.found b q lives in found_beside k r.account.live r.account.live (state_of k r.account.log).graph (state_of k r.account.log).graph s.words (a + i) new b q (more_same r.account.live) f f.there (far b q lives i small)
+    pub found_again : AllFound k r.account.cycling.paint r.account.live (state_of k r.account.log).graph ws
+    found_again b q lives = let f = r.whole.found b q lives in found_beside k r.account.cycling.paint r.account.live r.account.live (state_of k r.account.log).graph (state_of k r.account.log).graph s.words (a + i) new b q (more_same r.account.live) f f.there (far b q lives i small)
 
     -- what all domains make
     pub makings_again : (y : DomainView) → Making k s.words y → Making k ws y

@@ -23,6 +23,7 @@ use Rattle.heap_rule.proofs.Again.{Was, Back, placed_back, spread_back, opened_b
 use Rattle.heap_rule.proofs.Keeps.{Words, Control, my_good, hunter_as, pools_same, room_words, opened_words}
 use Rattle.heap_rule.proofs.Update.{over, over_here, over_else}
 use Rattle.steps_promote.proofs.Remaking.{promotes_again, stood_same}
+use Rattle.heap_rule.proofs.FullnessLemmas.{full_back}
 
 -- room stays where each block lives as it did, and forwards as it did
 pub room_forth : (k : Config) (live live' : Live) (p : Pause) (s : Stock) (words : List ℕ) → ((b : ℕ) (q : Place) → live b ≡ Some q → Was live' b q) → Back live live' → Room k live p s words → Room k live' p s words
@@ -89,10 +90,11 @@ module _ (k : Config) (s : Words) (r : Rule k s) (id : ℕ) (hist : List Entry) 
     pub front : y.seen.front ≡ x.seen.front
     pub free : y.seen.free ≡ x.seen.free
     pub listing : y.seen.listing ≡ x.seen.listing
+    pub share : y.seen.share ≡ x.seen.share
     pub made : y.seen.made ≡ x.seen.made
     pub wide : length words' ≡ length s.words
     pub control : Control k s.words words'
-    pub found : AllFound k after (state_of k r.account.log).graph words'
+    pub found : AllFound k r.account.cycling.paint after (state_of k r.account.log).graph words'
     pub copies : Copies k after
     pub cleared : AllCleared k after r.account.pause
     pub grid : Grid k r.account.tenancy before words'
@@ -112,7 +114,10 @@ module _ (k : Config) (s : Words) (r : Rule k s) (id : ℕ) (hist : List Entry) 
       let area = area_back k before after x back1 g.area in
       let making = o.makings x g.area g.making in
       let counts : (listed words' ≡ listed s.words) × (cursor words' ≡ cursor s.words) = (o.control 6 (omega arith), o.control 7 (omega arith)) in
-      promotes_again k s r id hist x at promotes y words' after t record {
+      promotes_again k s r id hist x at promotes y words' after t r.account.homes record {
+        share = o.share;
+        full = full_back k r.account.log before after t.holder t.fresh r.account.homes r.account.cycling.kind back1 r.whole.full;
+        garbage = λ _. refl;
         number = number;
         arrivals = ap (λ (z : Own). z.arrivals) o.own;
         stage = o.stage;

@@ -1,5 +1,5 @@
 -- A free place that the domain took is prepared for a copy: the first store to its head.
-use Rattle.std.proofs.Common.{◌≡◌, ◌≢◌, ℕ, ◌+◌, ◌<◌, ◌≤◌, List, length, get_or, set, Option, Some, None, sym, refl, ap, ◌∙◌, subst, inl, inr, ⊎_elim, arith, length-set, get_or-set_same, get_or-set_other}
+use Rattle.std.proofs.Common.{◌≡◌, ◌≢◌, ℕ, ◌+◌, ◌<◌, ◌≤◌, List, length, get_or, set, Option, Some, None, sym, refl, ap, ◌∙◌, subst, inl, inr, ⊎_elim, arith, length-set, get_or-set_same, get_or-set_other, IsTrue}
 use mathlib.Core.Logic.{dite}
 use native.Mathlib.Decide.{ℕ_discrete}
 use mathlib.Core.Option.{some}
@@ -24,7 +24,8 @@ use Rattle.heap_rule.specs.Views.{one}
 use Rattle.steps_promote.specs.Claims.{preparing, PrepareMay, PrepareTold}
 use Rattle.steps_promote.specs.Writes.{CanPrepare, Prepares}
 use Rattle.heap_rule.proofs.Holders.{SameFor, agrees_same, hunter_agree, stock_self}
-use Rattle.heap_rule.proofs.Keeps.{Words, my_good, control_set, pools_same, room_words, opened_words, owes_as, more_same, promote_now, promote_here}
+use Rattle.heap_rule.proofs.Keeps.{Words, my_good, control_set, pools_same, room_words, opened_words, owes_as, more_same}
+use Rattle.heap_rule.proofs.PauseFacts.{promote_now, promote_here}
 use Rattle.heap_rule.proofs.Lots.{head_full, hunter_beside, place_cases}
 use Rattle.heap_rule.proofs.Update.{over, over_here, over_else}
 use Rattle.steps_promote.proofs.OwnPlaces as places
@@ -73,7 +74,7 @@ module _ (k : Config) (s : Words) (r : Rule k s) (id : ℕ) (hist : List Entry) 
   o = record { pool = pool; class = class; slot = slot; owned_is = F.own_is; inside = F.inside; begins = may.word }
 
   empty : live a ≡ None
-  empty = ⊎_elim (λ (e : live a ≡ None). e) (λ (h : (q : Place) × (live a ≡ Some q)). absurd (head_full k live (state_of k r.account.log).graph s.words a h.0 (r.whole.found a h.0 h.1) free)) (place_cases (live a))
+  empty = ⊎_elim (λ (e : live a ≡ None). e) (λ (h : (q : Place) × (live a ≡ Some q)). absurd (head_full k r.account.cycling.paint live (state_of k r.account.log).graph s.words a h.0 (r.whole.found a h.0 h.1) free)) (place_cases (live a))
 
   -- the head is the first word
   head_at : a + 0 ≡ a
@@ -103,9 +104,9 @@ module _ (k : Config) (s : Words) (r : Rule k s) (id : ℕ) (hist : List Entry) 
     lots = r.whole.grid.lots;
     places = λ q d c j owned_is below. dite (ℕ_discrete (place_in q c j) a)
         (λ same. let one_is = place_sole k t s.words q d c j pool me class slot r.whole.pools owned_is below F.own_is F.inside (same ∙ may.word) in
-        inr (inr (ap prepared' same ∙ (over_here a (Some me) t.prepared ∙ ap Some (sym one_is.1)))))
+        inr (inr (inl (ap prepared' same ∙ (over_here a (Some me) t.prepared ∙ ap Some (sym one_is.1))))))
         (λ other. ⊎_elim (λ (z : at_address k s.words (place_in q c j) ≡ 0). inl (stays q d c j owned_is below other ∙ z))
-        (λ z. inr (⊎_elim (λ (y : (p : Place) × (live (place_in q c j) ≡ Some p)). inl y) (λ (y : t.prepared (place_in q c j) ≡ Some d). inr (over_else a (Some me) t.prepared (place_in q c j) other ∙ y)) z))
+        (λ z. inr (⊎_elim (λ (y : (p : Place) × (live (place_in q c j) ≡ Some p)). inl y) (λ y. inr (⊎_elim (λ (e : t.prepared (place_in q c j) ≡ Some d). inl (over_else a (Some me) t.prepared (place_in q c j) other ∙ e)) (λ (e : IsTrue (t.garbage (place_in q c j))). inr e) y)) z))
         (r.whole.grid.places q d c j owned_is below));
     spares = λ b d is. dite (ℕ_discrete b a)
         (λ same. let d_is : me ≡ d = number_same me d (sym (over_here a (Some me) t.prepared) ∙ (ap prepared' (sym same) ∙ is)) in
@@ -129,6 +130,7 @@ module _ (k : Config) (s : Words) (r : Rule k s) (id : ℕ) (hist : List Entry) 
     prepared_from = λ b e. dite (ℕ_discrete b a)
         (λ same. absurd (other (sym (number_same me d (sym (over_here a (Some me) t.prepared) ∙ (ap prepared' (sym same) ∙ e))))))
         (λ differs. sym (over_else a (Some me) t.prepared b differs) ∙ e);
+    fresh_same = λ c. refl;
     stock_same = stock_self t.stock d;
   }
 
@@ -209,7 +211,10 @@ module _ (k : Config) (s : Words) (r : Rule k s) (id : ℕ) (hist : List Entry) 
       let G = my_good k s r id hist x at in
       let counts : (listed ws ≡ listed s.words) × (cursor ws ≡ cursor s.words) = (control' 6 (omega arith), control' 7 (omega arith)) in
       let making = places.makings_again k s r id hist x at a o empty 0 new (omega arith) x G.making in
-      promotes_again k s r id hist x at may.stage y ws live t' record {
+      promotes_again k s r id hist x at may.stage y ws live t' r.account.homes record {
+        share = refl;
+        full = r.whole.full;
+        garbage = λ _. refl;
         number = refl;
         arrivals = refl;
         stage = refl;

@@ -68,7 +68,10 @@ module _ (k : Config) (s : Words) (r : Rule k s) (id : ℕ) (hist : List Entry) 
   moves_rule reg copy may =
       let g = my_good k s r id hist x at in
       let y : DomainView = with_registers x (set x.own.registers reg (Ref copy)) in
-      promotes_again k s r id hist x at promotes y s.words live r.account.tenancy record {
+      promotes_again k s r id hist x at promotes y s.words live r.account.tenancy r.account.homes record {
+        share = refl;
+        full = r.whole.full;
+        garbage = λ a. refl;
         number = refl;
         arrivals = refl;
         stage = refl;

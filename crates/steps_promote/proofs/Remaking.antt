@@ -1,5 +1,5 @@
 -- What all steps of copying share: the rule holds again where the places, the pools and each domain meet it.
-use Rattle.std.proofs.Common.{◌≡◌, ◌≢◌, ℕ, ◌+◌, ◌*◌, List, length, set, sym, ap, ◌∙◌, subst, inr, ⊎_elim, arith}
+use Rattle.std.proofs.Common.{◌≡◌, ◌≢◌, ℕ, ◌+◌, ◌*◌, List, length, set, sym, ap, ◌∙◌, subst, inr, ⊎_elim, arith, refl}
 use mathlib.Core.Option.{some}
 use lib.ListN.{get_elem?}
 use Rattle.heap_model.specs.declared.entry.Entry.{Entry}
@@ -19,7 +19,10 @@ use Rattle.heap_rule.specs.Pools.{Tenancy, Pools, Grid, Drawers, KeepsReserve, H
 use Rattle.heap_rule.specs.Room.{Room, Opened}
 use Rattle.heap_rule.specs.Rule.{state_of, AllFound, Stood, Area, Making, Rule}
 use Rattle.heap_rule.specs.Views.{one}
-use Rattle.heap_rule.proofs.Keeps.{Words, Control, mine, my_good, remakes, knows_front, phases_same, cycle_same, staged_as, stands_more, nobody_leads, takes_drawable, resting_takes, resting_other, promote_now, promote_here, promote_rests}
+use Rattle.heap_rule.proofs.Keeps.{Words, Control, mine, my_good, remakes, knows_front, phases_same, cycle_control, stands_more, nobody_leads, takes_drawable, resting_takes, resting_other, cycle_here, sharing_here, sharings_here}
+use Rattle.heap_rule.proofs.PauseFacts.{staged_as, promote_now, promote_here, promote_rests}
+use Rattle.heap_rule.proofs.Sharings.{SameCycle}
+use Rattle.heap_rule.specs.Fullness.{Homes, Fullness}
 
 -- while young blocks are copied the reserve may be drawn
 pub copying_keeps : (t : Pause) → Promoting t → KeepsReserve t → ⊥
@@ -45,16 +48,19 @@ module _ (k : Config) (s : Words) (r : Rule k s) (id : ℕ) (hist : List Entry) 
   takes = inr promotes
 
   -- what a step of a domain that copies owes: no entry stands, its phase and its front stay
-  pub record Promotes (y : DomainView) (words' : List ℕ) (live' : Live) (t' : Tenancy) : Type 0 where
+  pub record Promotes (y : DomainView) (words' : List ℕ) (live' : Live) (t' : Tenancy) (homes' : Homes) : Type 0 where
     pub number : y.own.number ≡ x.own.number
     pub arrivals : y.own.arrivals ≡ x.own.arrivals
     pub stage : y.seen.stage ≡ x.seen.stage
     pub front : y.seen.front ≡ x.seen.front
     pub free : y.seen.free ≡ x.seen.free
     pub listing : y.seen.listing ≡ x.seen.listing
+    pub share : y.seen.share ≡ x.seen.share
     pub wide : length words' ≡ length s.words
     pub control : Control k s.words words'
-    pub found : AllFound k live' now.graph words'
+    pub found : AllFound k r.account.cycling.paint live' now.graph words'
+    pub full : Fullness k r.account.log live' t'.holder t'.fresh homes' r.account.cycling.kind
+    pub garbage : (a : ℕ) → t'.garbage a ≡ r.account.tenancy.garbage a
     pub placed : Placed k live'
     pub spread : Spread k live'
     pub more : More r.account.live live'
@@ -75,15 +81,18 @@ module _ (k : Config) (s : Words) (r : Rule k s) (id : ℕ) (hist : List Entry) 
     pub hunters : (z : DomainView) → z.own.number ≢ x.own.number → Hunter k r.account.tenancy s.words z → Hunter k t' words' z
     pub owe : (z : DomainView) → z.own.number ≢ x.own.number → Owes k r.account.live z → Owes k live' z
 
-  pub promotes_again : (y : DomainView) (words' : List ℕ) (live' : Live) (t' : Tenancy) → Promotes y words' live' t' → Rule k record { words = words'; homes = s.homes; views = set s.views id (one k hist y) }
-  promotes_again y words' live' t' o =
+  pub promotes_again : (y : DomainView) (words' : List ℕ) (live' : Live) (t' : Tenancy) (homes' : Homes) → Promotes y words' live' t' homes' → Rule k record { words = words'; homes = s.homes; views = set s.views id (one k hist y) }
+  promotes_again y words' live' t' homes' o =
       let g = my_good k s r id hist x at in
+      let same : SameCycle s.words words' = cycle_control k s.words words' o.control in
       let here = promote_here r.account.pause x promotes g.staged in
-      remakes k s r id hist x at y (record r.account { live = live'; tenancy = t' }) words'
+      remakes k s r id hist x at y (record r.account { live = live'; tenancy = t'; homes = homes' }) words'
       record {
         wide = o.wide ∙ r.whole.wide;
         legal = r.whole.legal;
-        calm = r.whole.calm;
+        plain = r.whole.plain;
+        full = o.full;
+        queues = r.whole.queues;
         found = o.found;
         placed = o.placed;
         spread = o.spread;
@@ -102,7 +111,7 @@ module _ (k : Config) (s : Words) (r : Rule k s) (id : ℕ) (hist : List Entry) 
         unused = λ rests. absurd (rests promoting);
         opened = o.opened;
         drawable = takes_drawable k r.account.pause words' x takes g.staged;
-        cycle = cycle_same k s.words words' o.control r.whole.cycle;
+        cycle = cycle_here k s r id hist x at Promote tt promotes now live' t' words' refl o.garbage same;
       }
       (knows_front k s r id hist x at y o.number (subst (λ (l : List Entry). IsFrontOf x.own.number r.account.log l) (sym o.front) (mine k s r id hist x at).front))
       record {
@@ -117,6 +126,7 @@ module _ (k : Config) (s : Words) (r : Rule k s) (id : ℕ) (hist : List Entry) 
         owes = o.owes;
         rooted = λ _ up. absurd (let e : y.own.arrivals ≡ r.account.pause.phase + 1 = up in let f : x.own.arrivals ≡ r.account.pause.phase = here in let h : y.own.arrivals ≡ x.own.arrivals = o.arrivals in omega arith);
         set_back = λ h. absurd (nobody_leads r.account.pause x x takes g.staged g.staged (subst IsLeading (sym (sym o.stage ∙ h.0)) tt));
+        sharing = sharing_here k s r id hist x at Promote tt promotes (record r.account { live = live'; tenancy = t'; homes = homes' }) words' y refl same o.number o.stage o.share;
       }
       (λ z _ other h. record {
         stood = record { wide = h.stood.wide; each = λ q few. stands_more r.account.live live' (value_at z.own.registers q) (register now z.own.number q) o.more (h.stood.each q few); serial = h.stood.serial };
@@ -130,6 +140,7 @@ module _ (k : Config) (s : Words) (r : Rule k s) (id : ℕ) (hist : List Entry) 
         owes = o.owe z other h.owes;
         rooted = h.rooted;
         set_back = λ b. absurd (nobody_leads r.account.pause x z takes g.staged h.staged (subst IsLeading (sym b.0) tt));
+        sharing = sharings_here k s r id hist x at Promote tt promotes (record r.account { live = live'; tenancy = t'; homes = homes' }) words' refl same z h;
       })
 
   -- nothing lives elsewhere, and no word changes

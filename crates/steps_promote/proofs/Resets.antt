@@ -3,7 +3,7 @@ use Rattle.std.proofs.Common.{◌≡◌, ℕ, ◌+◌, ◌*◌, ◌<◌, ◌≤�
 use Rattle.atomic_table.specs.Table.{keeps}
 use Rattle.heap_rule.specs.declared.config.Config.{Config}
 use Rattle.heap_rule.specs.declared.view.DomainView.{DomainView}
-use Rattle.heap_rule.specs.declared.phase.Kind.TheVariants.{Run, Reset}
+use Rattle.heap_rule.specs.declared.phase.Kind.TheVariants.{Run, Reset, Promote}
 use Rattle.heap_rule.specs.declared.phase.Stage.{Stage}
 use Rattle.heap_rule.specs.declared.phase.Stage.TheVariants.{In}
 use Rattle.heap_rule.specs.Layout.{before_heap, base_of}
@@ -19,10 +19,11 @@ use Rattle.steps_promote.specs.Writes.{Resets}
 use Rattle.heap_rule.proofs.Again.{ends_low}
 use Rattle.heap_rule.proofs.Beside.{found_beside, making_beside, area_word_far}
 use Rattle.heap_rule.proofs.Lots.{Beside, area_beside, grid_beside, hunter_beside}
-use Rattle.heap_rule.proofs.Keeps.{mine, my_good, control_set, controls_kept, hunter_as, more_same, writes}
+use Rattle.heap_rule.proofs.Keeps.{mine, my_good, control_set, controls_kept, hunter_as, more_same, writes, cycle_here, sharing_here, sharings_here, cycle_control}
+use Rattle.heap_rule.proofs.Sharings.{SameCycle}
 
 reset_now : (t : Pause) (x : DomainView) → x.seen.stage ≡ In Reset → Staged t x → Resetting t
-reset_now t x is s = inr (inl (subst (AtStage t x.own.number x.own.arrivals) is s.stage).1)
+reset_now t x is s = let a = (subst (AtStage t x.own.number x.own.arrivals) is s.stage).1 in inr (a.0, a.1, ((λ e. let h : Reset ≡ Run = sym a.2 ∙ e in cc), (λ e. let h : Reset ≡ Promote = sym a.2 ∙ e in cc)))
 
 none_made : (l : List ℕ) (j w : ℕ) → l ≡ [] → slice_get l j ≡ Some w → ⊥
 none_made l j w none got = let e : ◌≡◌ {A = Option ℕ} None (Some w) = sym (ap (λ (z : List ℕ). slice_get z j) none) ∙ got in cc
@@ -41,6 +42,7 @@ reset_may k x word a new place may fits slots id hist s r _ at _ =
     let ws : List ℕ = set s.words (before_heap k + a) new in
     let y : DomainView = reset_view x in
     let beside : (d : ℕ) → Beside k r.account.tenancy s.words d a = area_beside k r.account.tenancy s.words a new r.whole.pools high in
+    let same : SameCycle s.words ws = cycle_control k s.words ws (control_set k s.words a new (omega arith)) in
     let rule : Rule k record { words = ws; homes = s.homes; views = set s.views id (one k hist y) } = writes k s r id hist x at y ws record {
       number = refl;
       front = (mine k s r id hist x at).front;
@@ -56,7 +58,7 @@ reset_may k x word a new place may fits slots id hist s r _ at _ =
       arrivals = refl;
       wide = length-set s.words (before_heap k + a) new;
       controls = controls_kept k s r id hist x at ws (control_set k s.words a new (omega arith));
-      found = λ b q lives. let f = r.whole.found b q lives in found_beside k r.account.live r.account.live (state_of k r.account.log).graph (state_of k r.account.log).graph s.words a new b q (more_same r.account.live) f f.there
+      found = λ b q lives. let f = r.whole.found b q lives in found_beside k r.account.cycling.paint r.account.live r.account.live (state_of k r.account.log).graph (state_of k r.account.log).graph s.words a new b q (more_same r.account.live) f f.there
           (λ z inside e. let n : ℕ = extent q.shape in let h : b + n ≤ base = below b q lives in let i : z < n = inside in let o : b + z ≡ a = e in omega arith);
       stood = record { wide = g.stood.wide; each = g.stood.each; serial = g.stood.serial };
       area = record { room = (let o : 0 ≤ minor = omega arith in o); free = λ b q lives. inl (let n : ℕ = extent q.shape in let h : b + n ≤ base = below b q lives in let o : b + n ≤ base + 0 = omega arith in o); classes = λ b q lives young. absurd (let low : b ≤ k.pools * 4096 = emptied b q lives in omega arith) };
@@ -65,6 +67,9 @@ reset_may k x word a new place may fits slots id hist s r _ at _ =
       grid = grid_beside k r.account.tenancy s.words a new r.account.live r.account.live r.whole.pools beside (more_same r.account.live) (λ b q h _. h) r.whole.grid;
       hunter = hunter_as k r.account.tenancy ws x y refl refl refl refl refl refl (hunter_beside k r.account.tenancy s.words a new r.whole.pools x (beside x.own.number) g.hunter);
       hunters = λ z _ h. hunter_beside k r.account.tenancy s.words a new r.whole.pools z (beside z.own.number) h.hunter;
+      cycle = cycle_here k s r id hist x at Reset tt may.stage (state_of k r.account.log) r.account.live r.account.tenancy ws refl (λ _. refl) same;
+      sharing = sharing_here k s r id hist x at Reset tt may.stage r.account ws y refl same refl refl refl;
+      sharings = λ z _ h. sharings_here k s r id hist x at Reset tt may.stage r.account ws refl same z h;
     } in (
       one k hist y,
       keeps,

@@ -1,5 +1,5 @@
 -- A remembered field gets a word that is no address of a minor area, and nobody remembers it any more.
-use Rattle.std.proofs.Common.{◌≡◌, ◌≢◌, ℕ, zero, suc, ◌+◌, ◌<◌, ◌≤◌, false, List, ◌∷◌, length, get_or, set, slice_get, Option, Some, None, sym, refl, ap, ◌∙◌, subst, ⊎_elim, arith, length-set, get_or-set_same, get_or-set_other}
+use Rattle.std.proofs.Common.{◌≡◌, ◌≢◌, ℕ, zero, suc, ◌+◌, ◌<◌, ◌≤◌, List, ◌∷◌, length, get_or, set, slice_get, Option, Some, None, sym, refl, ap, ◌∙◌, subst, ⊎_elim, arith, length-set, get_or-set_same, get_or-set_other}
 use mathlib.Core.Logic.{dite}
 use native.Mathlib.Decide.{ℕ_discrete}
 use mathlib.Core.Option.{some}
@@ -13,7 +13,7 @@ use Rattle.heap_model.specs.Fronts.{Shape}
 use Rattle.heap_rule.specs.declared.config.Config.{Config}
 use Rattle.heap_rule.specs.declared.view.DomainView.{DomainView}
 use Rattle.heap_rule.specs.Layout.{heap_words, before_heap}
-use Rattle.heap_rule.specs.Places.{Debt, Place, Live, extent, values_of, unmarked, HeadIs, Stands, Found, IsOldWord, Lasts, More}
+use Rattle.heap_rule.specs.Places.{Debt, Place, Live, extent, values_of, Stands, Found, IsOldWord, Lasts, More}
 use Rattle.heap_rule.specs.Phases.{IsInPause}
 use Rattle.heap_rule.specs.Copies.{known, debt_of, Owes, IsField, Copies, Promoting, Cleared}
 use Rattle.heap_rule.specs.Raw.{MayStore}
@@ -193,7 +193,7 @@ module _ (k : Config) (s : Words) (r : Rule k s) (id : ℕ) (hist : List Entry) 
   spot : before_heap k + A < length s.words
   spot = let fits = r.whole.placed.fits c p lives in let n : ℕ = ext in let y : i0 + 2 < n = inside in let w : ℕ = heap_words k in let h : c + n ≤ w + 1 = fits.high in let wide : length s.words ≡ 1 + before_heap k + w = r.whole.wide in let b : ℕ = before_heap k in omega arith
 
-  f0 : Found k r.account.live graph s.words c p
+  f0 : Found k r.account.cycling.paint r.account.live graph s.words c p
   f0 = r.whole.found c p lives
 
   has_it : HasValueAt (state_of k r.account.log) may.place.label i0 may.held
@@ -202,12 +202,13 @@ module _ (k : Config) (s : Words) (r : Rule k s) (id : ℕ) (hist : List Entry) 
   node_is : f0.node ≡ has_it.node
   node_is = some_node f0.node has_it.node (sym f0.there ∙ (ap (node_at graph) lasts.label ∙ has_it.there))
 
-  found_here : Found k live2 graph ws c p2
+  found_here : Found k r.account.cycling.paint live2 graph ws c p2
   found_here = record {
     node = f0.node;
     there = f0.there;
     shape = f0.shape;
-    head = subst (HeadIs p.forward p.shape unmarked false) (sym (get_or-set_other s.words (before_heap k + A) (before_heap k + c) new 0 (λ e. omega arith))) f0.head;
+    head = let h = f0.head in record { scanned = h.scanned; packs = get_or-set_other s.words (before_heap k + A) (before_heap k + c) new 0 (λ e. omega arith) ∙ h.packs; tells = h.tells };
+    blank = f0.blank;
     label = get_or-set_other s.words (before_heap k + A) (before_heap k + (c + 1)) new 0 (λ e. omega arith) ∙ f0.label;
     values = λ i v has got. dite (ℕ_discrete i i0)
         (λ same. record {
@@ -226,16 +227,16 @@ module _ (k : Config) (s : Words) (r : Rule k s) (id : ℕ) (hist : List Entry) 
         (λ other. let differ : i ≢ i0 = other in subst (IsOldWord k) (sym (get_or-set_other s.words (before_heap k + A) (before_heap k + (c + 2 + i)) new 0 (λ e. differ (omega arith)))) (f0.old under i within has (sym (over_else i0 None p.named i other) ∙ none)));
   }
 
-  found2 : AllFound k live2 graph ws
+  found2 : AllFound k r.account.cycling.paint live2 graph ws
   found2 b q e = dite (ℕ_discrete b c)
-      (λ same. subst (λ (z : ℕ × Place). Found k live2 graph ws z.0 z.1) (λ i. (sym same i, is2 b q same e i)) found_here)
-      (λ other. let fb = r.whole.found b q (was b q other e) in found_beside k r.account.live live2 graph graph s.words A new b q more fb fb.there
+      (λ same. subst (λ (z : ℕ × Place). Found k r.account.cycling.paint live2 graph ws z.0 z.1) (λ i. (sym same i, is2 b q same e i)) found_here)
+      (λ other. let fb = r.whole.found b q (was b q other e) in found_beside k r.account.cycling.paint r.account.live live2 graph graph s.words A new b q more fb fb.there
       (λ z within clash. let m : ℕ = extent q.shape in let i : z < m = within in let h : b + z ≡ A = clash in let n : ℕ = ext in let y : i0 + 2 < n = inside in
       ⊎_elim (λ (t : b + m ≤ c). omega arith) (λ (t : c + n ≤ b). omega arith) (r.whole.placed.apart b c q p (was b q other e) lives other)))
 
   beside : (m : ℕ) → Beside k r.account.tenancy s.words m A
   beside m = subst (Beside k r.account.tenancy s.words m) (let h : c + (2 + i0) ≡ A = omega arith in h)
-      (live_beside k r.account.tenancy r.account.live s.words c (2 + i0) p r.whole.pools r.whole.grid (r.whole.placed.fits c p lives).low lives (omega arith) (let n : ℕ = ext in let y : i0 + 2 < n = inside in let g : 2 + i0 < n = omega arith in g) (head_full k r.account.live graph s.words c p f0) m)
+      (live_beside k r.account.tenancy r.account.live s.words c (2 + i0) p r.whole.pools r.whole.grid (r.whole.placed.fits c p lives).low lives (omega arith) (let n : ℕ = ext in let y : i0 + 2 < n = inside in let g : 2 + i0 < n = omega arith in g) (head_full k r.account.cycling.paint r.account.live graph s.words c p f0) m)
 
   makings2 : (z : DomainView) → Area k r.account.live z → Making k s.words z → Making k ws z
   makings2 z area making = making_beside k s.words A new z (λ j fit same. live_word_far k r.account.live c (2 + i0) p z lives (let n : ℕ = ext in let y : i0 + 2 < n = inside in let g : 2 + i0 < n = omega arith in g) area j fit (same ∙ (let h : A ≡ c + (2 + i0) = omega arith in h))) making
@@ -253,6 +254,7 @@ module _ (k : Config) (s : Words) (r : Rule k s) (id : ℕ) (hist : List Entry) 
   rewrite_rule =
       let g = my_good k s r id hist x at in
       changes_again k s r id hist x at may.stage c p p2 lives refl refl refl (recalling x may.rest) ws record {
+        share = refl;
         own = refl;
         hunt = refl;
         stage = refl;

@@ -75,7 +75,7 @@ pub record ClaimMay (k : Config) (x : DomainView) (at old new class copy : ℕ) 
   pub young : k.pools * 4096 < at
   pub label : ℕ
   pub hunt : x.seen.hunt ≡ Heads copy label old
-  pub head : IsNewHead place.shape old
+  pub head : IsNewHead x.seen.share.colours place.shape old
   pub label_is : label ≡ label_word place.label.domain place.label.serial
   pub of_class : class < class_count
   pub least : IsLeastFor SIZES (extent place.shape) class

@@ -1,5 +1,5 @@
 -- What the steps ask and tell by which young blocks are copied: loads at which blocks are met, stores to copies, and the roots ("Retrofitting Parallelism onto OCaml", section 3.2).
-use Rattle.std.specs.Prelude.{◌≡◌, ℕ, ◌+◌, ◌*◌, ◌<◌, ◌≤◌, ◌⊎◌, List, [], ◌∷◌, length, slice_get, slice_set, Some, None, false}
+use Rattle.std.specs.Prelude.{◌≡◌, ℕ, ◌+◌, ◌*◌, ◌<◌, ◌≤◌, ◌⊎◌, List, [], ◌∷◌, length, slice_get, slice_set, Some}
 use Rattle.heap_model.specs.declared.label.Label.{Label}
 use Rattle.heap_model.specs.declared.graph.Value as model
 use Rattle.heap_model.specs.declared.graph.Node.{Node}
@@ -10,7 +10,7 @@ use Rattle.heap_words.specs.declared.value.Value.{Value}
 use Rattle.heap_words.specs.declared.value.Value.TheVariants.{Ref}
 use Rattle.heap_words.specs.Values.{IsPackable, value_word}
 use Rattle.heap_words.specs.declared.head.Head.TheVariants.{Forward}
-use Rattle.heap_words.specs.Heads.{IsPackableHead, head_word}
+use Rattle.heap_words.specs.Heads.{head_word}
 use Rattle.heap_words.specs.Labels.{label_word}
 use Rattle.heap_rule.specs.declared.config.Config.{Config}
 use Rattle.heap_rule.specs.declared.view.Form.{Form}
@@ -21,12 +21,13 @@ use Rattle.heap_rule.specs.declared.view.DomainView.{DomainView}
 use Rattle.heap_rule.specs.declared.phase.Kind.TheVariants.{Promote, Reset}
 use Rattle.heap_rule.specs.declared.phase.Stage.TheVariants.{In}
 use Rattle.heap_rule.specs.Layout.{base_of}
-use Rattle.heap_rule.specs.Places.{Place, Live, extent, values_of, unmarked, head_of, IsNewHead, IsBuilt, Fits, Stands, IsOldAt, IsOldWord, Lasts, More}
+use Rattle.heap_rule.specs.Places.{Place, Live, extent, values_of, IsHeadOf, IsNewHead, IsPackableShape, IsBuilt, Fits, Stands, IsOldAt, IsOldWord, Lasts, More}
 use Rattle.heap_rule.specs.Changes.{value_at}
 use Rattle.heap_rule.specs.Copies.{known}
 use Rattle.heap_rule.specs.Rule.{state_of}
 use Rattle.heap_rule.specs.Standing.{IsAt, IsInHeap, with_registers}
 use Rattle.heap_rule.specs.Token.{Holds}
+use Rattle.heap_words.specs.declared.colours.Colours.{Colours}
 
 -- the form of a shape. A raw block has that of a plain one: no step makes one yet
 abbrev pub form_of : Shape → Form
@@ -58,9 +59,10 @@ pub record HeadMay (x : DomainView) (at : ℕ) : Type 0 where
   pub stage : x.seen.stage ≡ In Promote
   pub from : ((p : Place) × (Knows x at ≡ Some p)) ⊎ ((r : ℕ) × IsAt x r at)
 
--- the block doesn't forward: its head is that of its shape
-pub record StaysThere (at : ℕ) (place : Place) (x : DomainView) (found : ℕ) (y : DomainView) : Type 0 where
-  pub head : IsNewHead place.shape found
+-- the block doesn't forward: its head is that of its shape, and one of a minor area has that of a new block, as far as the colours are known
+pub record StaysThere (k : Config) (at : ℕ) (place : Place) (x : DomainView) (found : ℕ) (y : DomainView) : Type 0 where
+  pub head : IsHeadOf place.shape found
+  pub new : k.pools * 4096 < at → (c : Colours) → x.seen.share.colours ≡ Some c → IsNewHead x.seen.share.colours place.shape found
   pub view : y ≡ meeting x (met_of at place)
 
 -- the block forwards: its copy is met too
@@ -76,11 +78,11 @@ pub record Forwards (k : Config) (at : ℕ) (place : Place) (x : DomainView) (fo
 pub record HeadMet (k : Config) (at : ℕ) (x : DomainView) (found : ℕ) (y : DomainView) : Type 0 where
   pub place : Place
   pub built : IsBuilt place.shape
-  pub packable : IsPackableHead (head_of None place.shape unmarked false)
+  pub packable : IsPackableShape place.shape
   pub here : Lasts (Knows y) at place
   pub more : More (Knows x) (Knows y)
   pub fit : AllFit k y
-  pub told : StaysThere at place x found y ⊎ Forwards k at place x found y
+  pub told : StaysThere k at place x found y ⊎ Forwards k at place x found y
 
 -- a load of the label of a block that was met
 pub record LabelMay (x : DomainView) (at source : ℕ) : Type 0 where

@@ -27,7 +27,7 @@ use Rattle.heap_words.specs.declared.value.Value.TheVariants.{Nothing as Nothing
 use Rattle.heap_rule.specs.declared.change.Change.{Change}
 use Rattle.heap_rule.specs.declared.config.Config.{Config}
 use Rattle.heap_rule.specs.declared.view.DomainView.{DomainView}
-use Rattle.heap_rule.specs.Places.{unmarked, HeadIs, IsBuilt}
+use Rattle.heap_rule.specs.Places.{HeadIs, IsBuilt, colour_in}
 use Rattle.heap_rule.specs.Layout.{before_heap, at_address}
 use Rattle.heap_rule.specs.Changes.{value_at, changed, FitChanges}
 use Rattle.heap_rule.specs.Views.{one, Tells}
@@ -37,9 +37,10 @@ use Rattle.heap_rule.specs.Standing.{Acts, IsAt, with_front}
 use Rattle.steps_run.specs.Loads.{subject, place_of, HeadEntry, HeadMay, HeadTold, HeadCase, LabelMay, LabelTold, FieldLoadMay, FieldLoadEntry, FieldRead}
 use Rattle.heap_rule.proofs.ChangeLemmas.{registers_of}
 use Rattle.heap_rule.proofs.Values.{AllStand, stand_set, not_nothing, packable, shows}
-use Rattle.heap_rule.proofs.Keeps.{after_entry, Words, IsCommand, mine, my_good, own, looks, unmoved, run_settled}
+use Rattle.heap_rule.proofs.Keeps.{after_entry, Words, IsCommand, mine, my_good, own, looks, unmoved, run_settled, run_calm}
 use Rattle.heap_rule.proofs.Entering.{running, inside_state, registers_stand, Enters, entered_view, enters_rule, enters, enters_command, may_begin}
 use Rattle.heap_rule.proofs.Blocks.{Lives, lives_at, found_at, plain_at, plain_inside, field_at, shape_at}
+use Rattle.heap_rule.proofs.HeadLemmas.{packable_head, colour_small}
 
 -- the node of an ephemeron's shape
 ephe_of : (n : Node) (keys : ℕ) → shape_of n ≡ EpheShape keys → (ks : List (Option Label)) × (datum : graph_value.Value) × (n ≡ Ephe ks datum)
@@ -68,7 +69,7 @@ module _ (k : Config) (s : Words) (r : Rule k s) (id : ℕ) (hist : List Entry) 
   theirs = (domain_at now d).registers
 
   calm : IsCalm now
-  calm = r.whole.calm
+  calm = run_calm k s r id hist x at acts.runs
 
   stand : AllStand r.account.live x.own.registers theirs
   stand = registers_stand k s r id hist x at acts
@@ -77,12 +78,12 @@ module _ (k : Config) (s : Words) (r : Rule k s) (id : ℕ) (hist : List Entry) 
   past_entry : (a : ℕ) (e : Entry) → HeadEntry x a e → (n tag : ℕ) (b : Lives k s r id hist x at (subject e) a) → b.place.shape ≡ PlainShape n tag → n ≤ place_of e → Enters k s r id hist x at acts e x.own.registers (Replied BadIndex)
   past_entry a (Command j (Load dst src i) false) may n tag b is past =
       let p = plain_at k s r id hist x at src a b n tag is in
-      subst (λ (m : ℕ). Enters k s r id hist x at acts (Command m (Load dst src i) false) x.own.registers (Replied BadIndex)) (sym may.0) (enters_command k s r id hist x at acts now.graph (Load dst src i) (may_begin k s r id hist x at acts) x.own.registers _ (theirs)
+      subst (λ (m : ℕ). Enters k s r id hist x at acts (Command m (Load dst src i) false) x.own.registers (Replied BadIndex)) (sym may.0) (enters_command k s r id hist x at acts now.graph (Load dst src i) tt (may_begin k s r id hist x at acts) x.own.registers _ (theirs)
       (stand)
       (leaves_load_past now d dst src i p.label p.tag p.fields p.held p.node (let l = p.size in omega arith)))
   past_entry a (Command j (Store block i item) false) may n tag b is past =
       let p = plain_at k s r id hist x at block a b n tag is in
-      subst (λ (m : ℕ). Enters k s r id hist x at acts (Command m (Store block i item) false) x.own.registers (Replied BadIndex)) (sym may.0) (enters_command k s r id hist x at acts now.graph (Store block i item) (may_begin k s r id hist x at acts) x.own.registers _ (theirs)
+      subst (λ (m : ℕ). Enters k s r id hist x at acts (Command m (Store block i item) false) x.own.registers (Replied BadIndex)) (sym may.0) (enters_command k s r id hist x at acts now.graph (Store block i item) tt (may_begin k s r id hist x at acts) x.own.registers _ (theirs)
       (stand)
       (leaves_store_past now d block i item p.label p.tag p.fields p.held p.node (let l = p.size in omega arith)
       (not_nothing r.account.live (value_at x.own.registers item) (register now d item) may.3 (stand.each item may.2))))
@@ -93,13 +94,13 @@ module _ (k : Config) (s : Words) (r : Rule k s) (id : ℕ) (hist : List Entry) 
   kind_entry a (Command j (Load dst src i) false) may keys b is =
       let f = found_at k s r id hist x at src a b in
       let p = ephe_of f.node keys (f.shape ∙ is) in
-      subst (λ (m : ℕ). Enters k s r id hist x at acts (Command m (Load dst src i) false) x.own.registers (Replied BadType)) (sym may.0) (enters_command k s r id hist x at acts now.graph (Load dst src i) (may_begin k s r id hist x at acts) x.own.registers _ (theirs)
+      subst (λ (m : ℕ). Enters k s r id hist x at acts (Command m (Load dst src i) false) x.own.registers (Replied BadType)) (sym may.0) (enters_command k s r id hist x at acts now.graph (Load dst src i) tt (may_begin k s r id hist x at acts) x.own.registers _ (theirs)
       (stand)
       (leaves_load_kind now d dst src i b.place.label p.0 p.1 b.held (f.there ∙ ap Some p.2)))
   kind_entry a (Command j (Store block i item) false) may keys b is =
       let f = found_at k s r id hist x at block a b in
       let p = ephe_of f.node keys (f.shape ∙ is) in
-      subst (λ (m : ℕ). Enters k s r id hist x at acts (Command m (Store block i item) false) x.own.registers (Replied BadType)) (sym may.0) (enters_command k s r id hist x at acts now.graph (Store block i item) (may_begin k s r id hist x at acts) x.own.registers _ (theirs)
+      subst (λ (m : ℕ). Enters k s r id hist x at acts (Command m (Store block i item) false) x.own.registers (Replied BadType)) (sym may.0) (enters_command k s r id hist x at acts now.graph (Store block i item) tt (may_begin k s r id hist x at acts) x.own.registers _ (theirs)
       (stand)
       (leaves_store_kind now d block i item b.place.label p.0 p.1 b.held (f.there ∙ ap Some p.2)))
   kind_entry a _ may keys b is = absurd may
@@ -151,7 +152,7 @@ heads k slots id word hist x a e place may s r _ at _ =
       (
         record {
           shape = b.place.shape;
-          head = record { colour = unmarked; scanned = false; packable = (r.whole.placed.fits a b.place b.lives).head; packs = ap (λ (i : ℕ). get_or s.words i 0) place ∙ subst (λ (f : Option ℕ). HeadIs f b.place.shape unmarked false (at_address k s.words a)) (run_settled k s r id hist x at may.acts.runs a b.place b.lives).no_forward found.head };
+          head = let paint = r.account.cycling.paint in let colour : ℕ = colour_in paint b.place.label in record { colour = colour; scanned = found.head.scanned; packable = packable_head b.place.shape colour found.head.scanned (colour_small paint b.place.label r.whole.cycle.meanings) (r.whole.placed.fits a b.place b.lives).head; packs = ap (λ (i : ℕ). get_or s.words i 0) place ∙ subst (λ (f : Option ℕ). HeadIs f b.place.shape colour found.head.scanned (at_address k s.words a)) (run_settled k s r id hist x at may.acts.runs a b.place b.lives).no_forward found.head.packs };
           told = done.told;
         },
         refl,
@@ -195,8 +196,9 @@ field_entry k s r id hist x at a dst src i changes may =
     let d : ℕ = x.own.number in
     let theirs : List graph_value.Value = (domain_at now d).registers in record {
       alone = λ m other. ne_eqb d m (λ e. other (sym e));
+      plain = tt;
       allowed = record { running = running k s r id hist x at may.acts; fits = may_begin k s r id hist x at may.acts; full_fits = tt };
-      calm = calm_command now d (Load dst src i) false r.whole.calm;
+      calm = calm_command now d (Load dst src i) false (run_calm k s r id hist x at may.acts.runs);
       theirs = set theirs dst f.value;
       stand = subst (λ (l : List Value). AllStand r.account.live l (set theirs dst f.value)) (sym (ap registers_of (may.written f.stands.value)))
           (stand_set r.account.live x.own.registers theirs dst f.stands.value f.value may.goes f.stands.stands (registers_stand k s r id hist x at may.acts));

@@ -30,7 +30,7 @@ use Rattle.heap_rule.specs.declared.view.Own.{Own}
 use Rattle.heap_rule.specs.declared.view.Copying.{Copying}
 use Rattle.heap_rule.specs.Copies.{nothing_copied, known}
 use Rattle.heap_rule.specs.Layout.{heap_words, table_words, before_heap, at_address}
-use Rattle.heap_rule.specs.Places.{unmarked, HeadIs, Place, Live, extent, values_of, Stands, WordStands, Found, Placed, IsBare, Settled, IsOldAt, IsOldWord, More}
+use Rattle.heap_rule.specs.Places.{Place, Live, Paint, extent, values_of, Stands, WordStands, Found, Placed, IsBare, Settled, IsOldAt, IsOldWord, More}
 use Rattle.heap_rule.specs.Changes.{value_at, changed}
 use Rattle.heap_rule.specs.Views.{one, Tells}
 use Rattle.heap_rule.specs.Raw.{MayStore}
@@ -47,10 +47,11 @@ use Rattle.heap_rule.proofs.Lots.{Beside, head_full, live_beside, grid_beside, h
 use Rattle.heap_rule.proofs.Entering.{registers_stand, EntersTo, stood_after, entered_view, enters, enters_command, may_begin}
 use Rattle.heap_rule.proofs.Blocks.{field_at, some_same}
 use Rattle.heap_rule.proofs.Beside.{found_beside, making_beside, live_word_far}
+use Rattle.heap_rule.proofs.FullnessLemmas.{full_back, full_stays}
 
 -- one field of one block changes, in the words and in the graph
-module _ (k : Config) (live : Live) (graph : Graph) (words : List ℕ) (a i new : ℕ) (p : Place) (tag : ℕ) (fields : List graph_value.Value) (v old : graph_value.Value)
-    (placed : Placed k live) (wide : length words ≡ table_words k) (lives : live a ≡ Some p) (found : AllFound k live graph words) (node : node_at graph p.label ≡ Some (Plain tag fields))
+module _ (k : Config) (paint : Paint) (live : Live) (graph : Graph) (words : List ℕ) (a i new : ℕ) (p : Place) (tag : ℕ) (fields : List graph_value.Value) (v old : graph_value.Value)
+    (placed : Placed k live) (wide : length words ≡ table_words k) (lives : live a ≡ Some p) (found : AllFound k paint live graph words) (node : node_at graph p.label ≡ Some (Plain tag fields))
     (there : slice_get fields i ≡ Some old) (stands : WordStands live new v) (settled : Settled live)
     (named' : ℕ → Option ℕ) (keeps : (j : ℕ) → j ≢ i → named' j ≡ p.named j) (is_old : IsOldAt k a → named' i ≡ None → IsOldWord k new) where
   abbrev spot : ℕ
@@ -93,7 +94,7 @@ module _ (k : Config) (live : Live) (graph : Graph) (words : List ℕ) (a i new 
       (λ same. inl (same, ap (λ (z : Place). z.named j) (is2 b q same lives_b) ∙ named))
       (λ other. inr (was b q other lives_b))
 
-  here : Found k live graph words a p
+  here : Found k paint live graph words a p
   here = found a p lives
 
   node_is : here.node ≡ Plain tag fields
@@ -109,12 +110,13 @@ module _ (k : Config) (live : Live) (graph : Graph) (words : List ℕ) (a i new 
   room = let f = (placed.fits a p lives).high in let n : ℕ = extent p.shape in let w : ℕ = heap_words k in let s : n ≡ length fields + 2 = size in let h : a + n ≤ w + 1 = f in let b = below in let l : length words ≡ 1 + before_heap k + w = wide in let base : ℕ = before_heap k in omega arith
 
   -- the block itself
-  stored_here : Found k live2 (with_node graph p.label stored_node) (set words spot new) a p2
+  stored_here : Found k paint live2 (with_node graph p.label stored_node) (set words spot new) a p2
   stored_here = record {
     node = stored_node;
     there = node_at-with_node_same graph p.label stored_node (Plain tag fields) node;
     shape = ap (λ n. PlainShape n tag) (length-set fields i v) ∙ (sym (ap shape_of node_is) ∙ here.shape);
-    head = subst (HeadIs p.forward p.shape unmarked false) (sym (get_or-set_other words spot (before_heap k + a) new 0 (λ e. omega arith))) here.head;
+    head = let h = here.head in record { scanned = h.scanned; packs = get_or-set_other words spot (before_heap k + a) new 0 (λ e. omega arith) ∙ h.packs; tells = h.tells };
+    blank = here.blank;
     label = get_or-set_other words spot (before_heap k + (a + 1)) new 0 (λ e. omega arith) ∙ here.label;
     values = λ j w has got. ⊎_elim
         (λ (t : (j ≡ i) × (v ≡ w)). record {
@@ -136,18 +138,18 @@ module _ (k : Config) (live : Live) (graph : Graph) (words : List ℕ) (a i new 
   }
 
   -- and every other one
-  stored_other : (b : ℕ) (q : Place) → live b ≡ Some q → b ≢ a → Found k live2 (with_node graph p.label stored_node) (set words spot new) b q
+  stored_other : (b : ℕ) (q : Place) → live b ≡ Some q → b ≢ a → Found k paint live2 (with_node graph p.label stored_node) (set words spot new) b q
   stored_other b q lives_b other =
       let f = found b q lives_b in
-      found_beside k live live2 graph (with_node graph p.label stored_node) words (a + 2 + i) new b q more2 f
+      found_beside k paint live live2 graph (with_node graph p.label stored_node) words (a + 2 + i) new b q more2 f
       (node_at-with_node_other graph p.label q.label stored_node (λ same. other (placed.once b a q p lives_b lives same (settled b q lives_b).no_forward (settled a p lives).no_forward)) ∙ f.there)
       (λ z inside e. let m : ℕ = extent q.shape in let n : ℕ = extent p.shape in let s : n ≡ length fields + 2 = size in let h = below in let lower : z < m = inside in
       ⊎_elim (λ (t : b + m ≤ a). omega arith) (λ (t : a + n ≤ b). omega arith) (placed.apart b a q p lives_b lives other))
 
-  pub stored_found : AllFound k live2 (with_node graph p.label stored_node) (set words spot new)
+  pub stored_found : AllFound k paint live2 (with_node graph p.label stored_node) (set words spot new)
   stored_found b q lives_b = dite (ℕ_discrete b a)
       (λ same. let place : p2 ≡ q = is2 b q same lives_b in
-      subst (λ (y : ℕ × Place). Found k live2 (with_node graph p.label stored_node) (set words spot new) y.0 y.1) (λ j. (sym same j, place j)) stored_here)
+      subst (λ (y : ℕ × Place). Found k paint live2 (with_node graph p.label stored_node) (set words spot new) y.0 y.1) (λ j. (sym same j, place j)) stored_here)
       (λ other. stored_other b q (was b q other lives_b) other)
 
   pub stored_inside : 2 + i < extent p.shape
@@ -231,25 +233,30 @@ field_stores k slots id word hist x a new remembers block i item changes place m
     (unremembered k r.account.live f.address new remembers (value_at x.own.registers block) w v may.exact holds may.word (stand.each item may.from)) in
     let y : DomainView = with_front (remembering remembers a (with_registers x regs)) (r.account.log ++ e ∷ []) in
     let at_is : a ≡ f.address + 2 + i = may.target.field ∙ ap (λ (n : ℕ). n + 2 + i) (sym t.1) in
-    let live1 : Live = live2 k r.account.live now.graph s.words f.address i new f.place f.tag f.fields v f.value r.whole.placed r.whole.wide f.lives r.whole.found f.node f.there stands settled c.named' c.keeps c.is_old in
-    let grows : More r.account.live live1 = more2 k r.account.live now.graph s.words f.address i new f.place f.tag f.fields v f.value r.whole.placed r.whole.wide f.lives r.whole.found f.node f.there stands settled c.named' c.keeps c.is_old in
-    let back : Back r.account.live live1 = back2 k r.account.live now.graph s.words f.address i new f.place f.tag f.fields v f.value r.whole.placed r.whole.wide f.lives r.whole.found f.node f.there stands settled c.named' c.keeps c.is_old in
-    let bare : Settled live1 = settled2 k r.account.live now.graph s.words f.address i new f.place f.tag f.fields v f.value r.whole.placed r.whole.wide f.lives r.whole.found f.node f.there stands settled c.named' c.keeps c.is_old in
-    let who : (m b j : ℕ) (q : Place) → live1 b ≡ Some q → q.named j ≡ Some m → ((b ≡ f.address) × (c.named' j ≡ Some m)) ⊎ (r.account.live b ≡ Some q) = named2 k r.account.live now.graph s.words f.address i new f.place f.tag f.fields v f.value r.whole.placed r.whole.wide f.lives r.whole.found f.node f.there stands settled c.named' c.keeps c.is_old in
+    let paint : Paint = r.account.cycling.paint in
+    let live1 : Live = live2 k paint r.account.live now.graph s.words f.address i new f.place f.tag f.fields v f.value r.whole.placed r.whole.wide f.lives r.whole.found f.node f.there stands settled c.named' c.keeps c.is_old in
+    let grows : More r.account.live live1 = more2 k paint r.account.live now.graph s.words f.address i new f.place f.tag f.fields v f.value r.whole.placed r.whole.wide f.lives r.whole.found f.node f.there stands settled c.named' c.keeps c.is_old in
+    let back : Back r.account.live live1 = back2 k paint r.account.live now.graph s.words f.address i new f.place f.tag f.fields v f.value r.whole.placed r.whole.wide f.lives r.whole.found f.node f.there stands settled c.named' c.keeps c.is_old in
+    let bare : Settled live1 = settled2 k paint r.account.live now.graph s.words f.address i new f.place f.tag f.fields v f.value r.whole.placed r.whole.wide f.lives r.whole.found f.node f.there stands settled c.named' c.keeps c.is_old in
+    let who : (m b j : ℕ) (q : Place) → live1 b ≡ Some q → q.named j ≡ Some m → ((b ≡ f.address) × (c.named' j ≡ Some m)) ⊎ (r.account.live b ≡ Some q) = named2 k paint r.account.live now.graph s.words f.address i new f.place f.tag f.fields v f.value r.whole.placed r.whole.wide f.lives r.whole.found f.node f.there stands settled c.named' c.keeps c.is_old in
     let g = my_good k s r id hist x at in
     let low : 1 ≤ f.address = (r.whole.placed.fits f.address f.place f.lives).low in
-    let inside : 2 + i < extent f.place.shape = stored_inside k r.account.live now.graph s.words f.address i new f.place f.tag f.fields v f.value r.whole.placed r.whole.wide f.lives r.whole.found f.node f.there stands settled c.named' c.keeps c.is_old in
-    let head : at_address k s.words f.address ≢ 0 = head_full k r.account.live now.graph s.words f.address f.place (r.whole.found f.address f.place f.lives) in
+    let inside : 2 + i < extent f.place.shape = stored_inside k paint r.account.live now.graph s.words f.address i new f.place f.tag f.fields v f.value r.whole.placed r.whole.wide f.lives r.whole.found f.node f.there stands settled c.named' c.keeps c.is_old in
+    let head : at_address k s.words f.address ≢ 0 = head_full k paint r.account.live now.graph s.words f.address f.place (r.whole.found f.address f.place f.lives) in
     let beside : (m : ℕ) → Beside k r.account.tenancy s.words m (f.address + 2 + i) = (λ m. subst (Beside k r.account.tenancy s.words m) (let h : f.address + (2 + i) ≡ f.address + 2 + i = omega arith in h)
     (live_beside k r.account.tenancy r.account.live s.words f.address (2 + i) f.place r.whole.pools r.whole.grid low f.lives (omega arith) inside head m)) in
     let still : x.seen.copying ≡ nothing_copied = quiet k s r id hist x at may.acts.runs in
     let far : (z : DomainView) → Area k r.account.live z → Making k s.words z → Making k words z =
     (λ z area making. making_beside k s.words (f.address + 2 + i) new z (λ j fits same. live_word_far k r.account.live f.address (2 + i) f.place z f.lives inside area j fits (same ∙ (let h : f.address + 2 + i ≡ f.address + (2 + i) = omega arith in h))) making) in
-    let o : EntersTo k s r id hist x at may.acts graph e regs (Replied Done) = enters_command k s r id hist x at may.acts graph (Store block i item) (may_begin k s r id hist x at may.acts) regs _ (domain_at now d).registers
+    let o : EntersTo k s r id hist x at may.acts graph e regs (Replied Done) = enters_command k s r id hist x at may.acts graph (Store block i item) tt (may_begin k s r id hist x at may.acts) regs _ (domain_at now d).registers
     (subst (λ (l : List Value). AllStand r.account.live l (domain_at now d).registers) (sym (ap registers_of may.same)) stand)
     (leaves_store now d block i item f.place.label f.tag f.fields v f.value f.held f.node f.there refl (not_nothing r.account.live w v may.full (stand.each item may.from))) in
     let controls : Controls k r.account s.words words = controls_kept k s r id hist x at words (control_set k s.words (f.address + 2 + i) new (omega arith)) in
-    let rule : Rule k record { words = words; homes = s.homes; views = set s.views id (one k hist y) } = appends k s r id hist x at e y words live1 record {
+    let rule : Rule k record { words = words; homes = s.homes; views = set s.views id (one k hist y) } = appends k s r id hist x at e y words live1 r.account.homes record {
+      plain = tt;
+      full = full_back k (r.account.log ++ e ∷ []) r.account.live live1 r.account.tenancy.holder r.account.tenancy.fresh r.account.homes r.account.cycling.kind back
+          (full_stays k r.account.log r.account.live r.account.tenancy.holder r.account.tenancy.fresh r.account.homes r.account.cycling.kind e refl r.whole.full);
+      share = refl;
       alone = o.alone;
       command = tt;
       runs = may.acts.runs;
@@ -262,7 +269,7 @@ field_stores k slots id word hist x a new remembers block i item changes place m
       arrivals = refl;
       wide = length-set s.words (before_heap k + (f.address + 2 + i)) new;
       controls = controls;
-      found = subst (λ (z : Graph). AllFound k live1 z words) (sym o.leaves.graph_is) (stored_found k r.account.live now.graph s.words f.address i new f.place f.tag f.fields v f.value r.whole.placed r.whole.wide f.lives r.whole.found f.node f.there stands settled c.named' c.keeps c.is_old);
+      found = subst (λ (z : Graph). AllFound k paint live1 z words) (sym o.leaves.graph_is) (stored_found k paint r.account.live now.graph s.words f.address i new f.place f.tag f.fields v f.value r.whole.placed r.whole.wide f.lives r.whole.found f.node f.there stands settled c.named' c.keeps c.is_old);
       placed = placed_back k r.account.live live1 back r.whole.placed;
       spread = spread_back k r.account.live live1 back r.whole.spread;
       opened = opened_back k r.account.live live1 words back (opened_words k r.account.live s.words words controls.listed_young r.whole.opened);

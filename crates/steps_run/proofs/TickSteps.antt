@@ -32,7 +32,7 @@ use Rattle.heap_rule.specs.Standing.{Acts}
 use Rattle.steps_run.specs.Ticks.{is_quiet, TickCommand, TickEntry, TickMay, command_answer, tick_answer, TickTold}
 use Rattle.heap_rule.proofs.ChangeLemmas.{registers_of}
 use Rattle.heap_rule.proofs.Values.{AllStand, stand_set, no_label, stands_nothing}
-use Rattle.heap_rule.proofs.Keeps.{Words, IsCommand, unmoved}
+use Rattle.heap_rule.proofs.Keeps.{Words, IsCommand, unmoved, run_calm}
 use Rattle.heap_rule.proofs.Entering.{running, inside_state, registers_stand, Enters, entered_view, enters_rule, enters, enters_command, may_begin}
 
 -- the mode and the queue fit an allocation
@@ -58,7 +58,7 @@ module _ (k : Config) (s : Words) (r : Rule k s) (id : ℕ) (hist : List Entry) 
   theirs = (domain_at now d).registers
 
   calm : IsCalm now
-  calm = r.whole.calm
+  calm = run_calm k s r id hist x at acts.runs
 
   stand : AllStand r.account.live x.own.registers theirs
   stand = registers_stand k s r id hist x at acts
@@ -68,26 +68,26 @@ module _ (k : Config) (s : Words) (r : Rule k s) (id : ℕ) (hist : List Entry) 
 
   -- a register command: the changed registers stand for those that it leaves
   commands : (c : model_command.Command) → TickCommand x changes c → Enters k s r id hist x at acts (Command d c false) regs (Replied (command_answer c))
-  commands (PutInt dst z) may = enters_command k s r id hist x at acts now.graph (PutInt dst z) (may_begin k s r id hist x at acts) regs _ (set theirs dst (Int z))
+  commands (PutInt dst z) may = enters_command k s r id hist x at acts now.graph (PutInt dst z) tt (may_begin k s r id hist x at acts) regs _ (set theirs dst (Int z))
       (subst (λ (l : List Value). AllStand r.account.live l (set theirs dst (Int z))) (sym (ap registers_of may.2)) (stand_set r.account.live x.own.registers theirs dst (IntWord z) (Int z) may.0 (refl, may.1) stand))
       (leaves_put now d inside dst z)
-  commands (Copy dst src) may = enters_command k s r id hist x at acts now.graph (Copy dst src) (may_begin k s r id hist x at acts) regs _ (set theirs dst (register now d src))
+  commands (Copy dst src) may = enters_command k s r id hist x at acts now.graph (Copy dst src) tt (may_begin k s r id hist x at acts) regs _ (set theirs dst (register now d src))
       (subst (λ (l : List Value). AllStand r.account.live l (set theirs dst (register now d src))) (sym (ap registers_of may.2))
       (stand_set r.account.live x.own.registers theirs dst (value_at x.own.registers src) (register now d src) may.0 (stand.each src may.1) stand))
       (leaves_copy now d inside dst src)
-  commands (Forget dst) may = enters_command k s r id hist x at acts now.graph (Forget dst) (may_begin k s r id hist x at acts) regs _ (set theirs dst Nothing)
+  commands (Forget dst) may = enters_command k s r id hist x at acts now.graph (Forget dst) tt (may_begin k s r id hist x at acts) regs _ (set theirs dst Nothing)
       (subst (λ (l : List Value). AllStand r.account.live l (set theirs dst Nothing)) (sym (ap registers_of may.1)) (stand_set r.account.live x.own.registers theirs dst NothingWord Nothing may.0 tt stand))
       (leaves_forget now d inside dst)
-  commands Poll may = enters_command k s r id hist x at acts now.graph Poll (may_begin k s r id hist x at acts) regs _ (theirs)
+  commands Poll may = enters_command k s r id hist x at acts now.graph Poll tt (may_begin k s r id hist x at acts) regs _ (theirs)
       (subst (λ (l : List Value). AllStand r.account.live l theirs) (sym (ap registers_of may)) stand)
       (leaves_poll now d)
-  commands Minor may = enters_command k s r id hist x at acts now.graph Minor (may_begin k s r id hist x at acts) regs _ (theirs)
+  commands Minor may = enters_command k s r id hist x at acts now.graph Minor tt (may_begin k s r id hist x at acts) regs _ (theirs)
       (subst (λ (l : List Value). AllStand r.account.live l theirs) (sym (ap registers_of may)) stand)
       (leaves_minor now d)
-  commands (Load dst src i) may = enters_command k s r id hist x at acts now.graph (Load dst src i) (may_begin k s r id hist x at acts) regs _ (theirs)
+  commands (Load dst src i) may = enters_command k s r id hist x at acts now.graph (Load dst src i) tt (may_begin k s r id hist x at acts) regs _ (theirs)
       (subst (λ (l : List Value). AllStand r.account.live l theirs) (sym (ap registers_of may.2)) stand)
       (leaves_load_type now d dst src i (no_label r.account.live (value_at x.own.registers src) (register now d src) may.1 (stand.each src may.0)))
-  commands (Store block i item) may = enters_command k s r id hist x at acts now.graph (Store block i item) (may_begin k s r id hist x at acts) regs _ (theirs)
+  commands (Store block i item) may = enters_command k s r id hist x at acts now.graph (Store block i item) tt (may_begin k s r id hist x at acts) regs _ (theirs)
       (subst (λ (l : List Value). AllStand r.account.live l theirs) (sym (ap registers_of may.3)) stand)
       (⊎_elim
       (λ (n : IsNoBlock (value_at x.own.registers block)). leaves_store_type now d block i item (no_label r.account.live (value_at x.own.registers block) (register now d block) n (stand.each block may.0)))
@@ -99,6 +99,7 @@ module _ (k : Config) (s : Words) (r : Rule k s) (id : ℕ) (hist : List Entry) 
   entries (Command j c false) may = subst (λ (n : ℕ). Enters k s r id hist x at acts (Command n c false) regs (Replied (command_answer c))) (sym may.0) (commands c may.1)
   entries (Command j c true) may = subst (λ (n : ℕ). Enters k s r id hist x at acts (Command n c true) regs (tick_answer (Command n c true))) (sym may.0) record {
     alone = λ i other. ne_eqb d i (λ e. other (sym e));
+    plain = tt;
     allowed = record { running = running k s r id hist x at acts; fits = fits_allocation now d c may.1 calm.mode (calm.queues d); full_fits = may.1 };
     calm = calm_command now d c true calm;
     theirs = theirs;

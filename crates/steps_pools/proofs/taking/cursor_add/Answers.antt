@@ -5,7 +5,7 @@ use Rattle.steps_pools.proofs.TakeSteps.{cursor_add_may}
 use Rattle.steps_pools.proofs.taking.cursor_add.Goals as goal
 
 pub raw_add-requires-clause-may : goal.raw_add-requires-clause-may
-raw_add-requires-clause-may c = cursor_add_may c.args.heap.now.config c.args.dom.now.view c.requires.runs c.args.count c.args.class c.requires.asks c.requires.class
+raw_add-requires-clause-may c = cursor_add_may c.args.heap.now.config c.args.dom.now.view c.requires.runs c.args.count c.args.class c.requires.asks c.requires.class c.requires.none_free
 
 pub raw_add-requires-clause-closes : goal.raw_add-requires-clause-closes
 raw_add-requires-clause-closes c = λ found. leaves_closes c.args.heap.now.config c.args.dom.now.view found (CursorAddTold c.args.heap.now.config c.args.count c.args.class) (cursor_add_own c.args.heap.now.config c.args.count c.args.class c.args.dom.now.view found) (cursor_add_front c.args.heap.now.config c.args.count c.args.class c.args.dom.now.view found)

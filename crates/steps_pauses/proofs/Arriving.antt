@@ -1,0 +1,261 @@
+-- A collection of the major heap where a domain arrives.
+use Rattle.std.proofs.Common.{◌≡◌, ◌≢◌, ℕ, ◌+◌, ◌*◌, ◌<◌, ◌⊎◌, Bool, true, false, true≢false, List, sym, refl, ap, ◌∙◌, subst, inl, inr, ⊎_elim, arith}
+use mathlib.Core.Logic.{dite}
+use native.Mathlib.Decide.{ℕ_discrete}
+use Rattle.heap_model.specs.declared.state.State as model
+use Rattle.heap_words.specs.declared.colours.Colours.{Colours}
+use Rattle.cycle_laws.specs.Shares.{Shares, at_domain, arrives}
+use Rattle.cycle_laws.proofs.Sharing.{at_same, at_cases}
+use Rattle.heap_rule.specs.declared.config.Config.{Config}
+use Rattle.heap_rule.specs.declared.phase.Kind.{Kind}
+use Rattle.heap_rule.specs.declared.phase.Kind.TheVariants.{Run, Promote, Reset, Roots, Mark, Rounds, Decide, Queued, Clean, Lasts, Sweep, Answer}
+use Rattle.heap_rule.specs.declared.phase.Stage.{Stage}
+use Rattle.heap_rule.specs.declared.phase.Stage.TheVariants.{In, Leads, Led, Gone}
+use Rattle.heap_rule.specs.declared.view.DomainView.{DomainView}
+use Rattle.heap_rule.specs.declared.view.Share.{Share}
+use Rattle.heap_rule.specs.Cycles.{Cycling, Cycled, Facts, ArrivedAs, Told, Telling, Leading, IsCollecting, IsIdle, Adds, HasNoCycle, Knowing}
+use Rattle.heap_rule.specs.Layout.{at_address}
+use Rattle.heap_rule.specs.Phases.{Pause, AtStage, flag}
+use Rattle.heap_rule.specs.Places.{Live}
+use Rattle.heap_rule.specs.Pools.{Stock, Tenancy}
+use Rattle.heap_rule.specs.Rule.{Account, Good, Sharing, state_of}
+use Rattle.heap_rule.specs.Views.{fresh_share}
+use Rattle.heap_rule.proofs.Sharings.{SameCycle, facts_between, between_facts, facts_words, leading_words, idle_beside, adds_nothing, cycle_between, knows_words}
+use Rattle.steps_pauses.specs.Pauses.{ArrivesFrom, HasDone}
+
+-- who arrives in an even phase has done its share of it. In an odd one that changes nothing
+abbrev pub arrived_in : Stage → Shares → ℕ → Shares
+arrived_in (In kind) w d = arrives w d
+arrived_in _ w d = w
+
+-- the collection then
+abbrev pub arrived_cycle : Stage → Cycling → ℕ → Cycling
+arrived_cycle st c d = record c { shares = arrived_in st c.shares d }
+
+pub same_changed : (st : Stage) (w : Shares) (d : ℕ) → (arrived_in st w d).changed ≡ w.changed
+same_changed (In kind) w d = refl
+same_changed (Leads kind) w d = refl
+same_changed (Led kind) w d = refl
+same_changed (Gone kind) w d = refl
+
+pub either_bool : (b : Bool) → (b ≡ true) ⊎ (b ≡ false)
+either_bool true = inl refl
+either_bool false = inr refl
+
+-- a function with another value at one domain is as it was elsewhere
+at_other : {A : Type 0} → (f : ℕ → A) (d : ℕ) (v : A) (k : ℕ) → k ≢ d → at_domain f d v k ≡ f k
+at_other f d v k other = ⊎_elim (λ h. absurd (other h.0)) (λ h. h.1) (at_cases f d v k)
+
+clash : (b : Bool) → b ≡ true → b ≡ false → ⊥
+clash b e f = true≢false (sym e ∙ f)
+
+-- others tell as before
+pub telling_else : (st : Stage) (means : Colours) (w : Shares) (d z : ℕ) (share : Share) → z ≢ d → Telling means w z share → Telling means (arrived_in st w d) z share
+telling_else (In kind) means w d z share other t = let same = at_other w.arrived d true z other in record { owes = λ e. t.owes (sym same ∙ e); seen = λ e. t.seen (sym same ∙ e); fresh = λ e. t.fresh (sym same ∙ e); forgotten = λ e. t.forgotten (sym same ∙ e); colours = t.colours }
+telling_else (Leads kind) means w d z share other t = t
+telling_else (Led kind) means w d z share other t = t
+telling_else (Gone kind) means w d z share other t = t
+
+adds_else : (st : Stage) (live : Live) (c : Cycling) (d z : ℕ) (share : Share) → z ≢ d → Adds live c z share → Adds live (arrived_cycle st c d) z share
+adds_else (In kind) live c d z share other a = let same = at_other c.shares.arrived d true z other in record { blocks = λ e f. a.blocks e (sym same ∙ f); words = λ e f. a.words e (sym same ∙ f); own = λ e f. a.own e (sym same ∙ f) }
+adds_else (Leads kind) live c d z share other a = a
+adds_else (Led kind) live c d z share other a = a
+adds_else (Gone kind) live c d z share other a = a
+
+leading_gone : (st : Stage) (c : Cycling) (words : List ℕ) (d z : ℕ) (stage : Stage) (share : Share) → Leading c words z stage share → Leading (arrived_cycle st c d) words z stage share
+leading_gone (In kind) c words d z stage share l = record { changed = l.changed; found_blocks = l.found_blocks; found_words = l.found_words; rotated = l.rotated; turned = l.turned }
+leading_gone (Leads kind) c words d z stage share l = l
+leading_gone (Led kind) c words d z stage share l = l
+leading_gone (Gone kind) c words d z stage share l = l
+
+module _ (k : Config) (t : Pause) (kind : Kind) (means : Colours) (w : Shares) (d arrivals : ℕ) (told : Told k t kind w) (below : d < k.domains) where
+  -- in an odd phase the domain has either arrived in the one before, or has done nothing in the next
+  odd_telling : (j : ℕ) → t.phase ≡ j * 2 + 1 → Telling means w d fresh_share
+  odd_telling j odd = ⊎_elim
+      (λ (e : t.led ≡ true). let start = (told.led j odd e).1 d in record { owes = λ _. start.paid; seen = λ _. start.blind; fresh = λ _. refl; forgotten = λ _ _. refl; colours = λ c f. cc })
+      (λ (e : t.led ≡ false). let gone : w.arrived d ≡ true = (told.odd j odd e).1 d below in record { owes = λ f. absurd (clash (w.arrived d) gone f); seen = λ f. absurd (clash (w.arrived d) gone f); fresh = λ _. refl; forgotten = λ _ _. refl; colours = λ c f. cc })
+      (either_bool t.led)
+
+  pub telling_gone : (st : Stage) → ArrivesFrom d st → AtStage t d arrivals st → Telling means (arrived_in st w d) d fresh_share
+  telling_gone (In kd) from at = let gone : (arrives w d).arrived d ≡ true = at_same w.arrived d true in record { owes = λ f. absurd (clash ((arrives w d).arrived d) gone f); seen = λ f. absurd (clash ((arrives w d).arrived d) gone f); fresh = λ _. refl; forgotten = λ _ _. refl; colours = λ c f. cc }
+  telling_gone (Leads kd) from at = odd_telling at.1.0 at.1.1
+  telling_gone (Led kd) from at = odd_telling at.1.0 at.1.1
+  telling_gone (Gone kd) from at = absurd from
+
+  module _ (arrived' : ℕ → ℕ) (up : arrived' d ≡ t.phase + 1) (else_is : (j : ℕ) → j ≢ d → arrived' j ≡ t.arrived j) where
+    even_not_odd : (i j : ℕ) → t.phase ≡ i * 2 → t.phase ≡ j * 2 + 1 → ⊥
+    even_not_odd i j e f = omega arith
+
+    even_part : (j : ℕ) → t.phase ≡ j * 2 → (i : ℕ) → i < k.domains → ArrivedAs (record t { arrived = arrived' }) (arrives w d) i
+    even_part j e i inside = dite (ℕ_discrete i d)
+        (λ same. record {
+          waits = λ f. absurd (let u : arrived' d ≡ t.phase + 1 = up in let v : arrived' d ≡ t.phase = ap arrived' (sym same) ∙ f in omega arith);
+          gone = λ f. ap (arrives w d).arrived same ∙ at_same w.arrived d true;
+        })
+        (λ other. let o = (told.even j e).1 i inside in let keeps = at_other w.arrived d true i other in record {
+          waits = λ f. keeps ∙ o.waits (sym (else_is i other) ∙ f);
+          gone = λ f. keeps ∙ o.gone (sym (else_is i other) ∙ f);
+        })
+
+    -- the phase goes on
+    pub told_arrived : (st : Stage) → ArrivesFrom d st → AtStage t d arrivals st → Told k (record t { arrived = arrived' }) kind (arrived_in st w d)
+    told_arrived (In kd) from at = record {
+      even = λ j e. ((told.even j e).0, even_part j e);
+      odd = λ j e f. absurd (even_not_odd at.1.0 j at.1.1 e);
+      led = λ j e f. absurd (even_not_odd at.1.0 j at.1.1 e);
+    }
+    told_arrived (Leads kd) from at = record { even = λ j e. absurd (even_not_odd j at.1.0 e at.1.1); odd = told.odd; led = told.led }
+    told_arrived (Led kd) from at = record { even = λ j e. absurd (even_not_odd j at.1.0 e at.1.1); odd = told.odd; led = told.led }
+    told_arrived (Gone kd) from at = absurd from
+
+    -- the next phase begins
+    module _ (ups : (j : ℕ) → j < k.domains → arrived' j ≡ t.phase + 1) (named : (i : ℕ) → t.phase ≡ i * 2 + 1 → t.led ≡ true) where
+      abbrev next_phase : Pause
+      next_phase = record { arrived = arrived'; phase = t.phase + 1; kinds = t.kinds; led = false }
+
+      odd_turned : (i : ℕ) → t.phase ≡ i * 2 + 1 → Told k next_phase kind w
+      odd_turned i odd = let o = told.led i odd (named i odd) in record {
+        even = λ j e.
+            let same : i + 1 ≡ j = (let f : t.phase + 1 ≡ j * 2 = e in omega arith) in (
+              ap t.kinds (sym same) ∙ o.0,
+              λ n inside. record { waits = λ f. (o.1 n).waits; gone = λ f. absurd (let u : arrived' n ≡ t.phase + 1 = ups n inside in let v : arrived' n ≡ t.phase + 1 + 1 = f in omega arith) },
+            );
+        odd = λ j e f. absurd (let g : t.phase + 1 ≡ j * 2 + 1 = e in omega arith);
+        led = λ j e f. absurd (true≢false (sym f));
+      }
+
+      pub told_turned : (st : Stage) → ArrivesFrom d st → AtStage t d arrivals st → Told k next_phase kind (arrived_in st w d)
+      told_turned (In kd) from at = record {
+        even = λ j e. absurd (let i : ℕ = at.1.0 in let h : t.phase ≡ i * 2 = at.1.1 in let g : t.phase + 1 ≡ j * 2 = e in omega arith);
+        odd = λ j e f.
+            let half : t.phase ≡ j * 2 = (let g : t.phase + 1 ≡ j * 2 + 1 = e in omega arith) in (
+              (told.even j half).0,
+              λ n inside. dite (ℕ_discrete n d)
+                  (λ same. ap (arrives w d).arrived same ∙ at_same w.arrived d true)
+                  (λ other. at_other w.arrived d true n other ∙ ((told.even j half).1 n inside).gone (sym (else_is n other) ∙ ups n inside)),
+            );
+        led = λ j e f. absurd (true≢false (sym f));
+      }
+      told_turned (Leads kd) from at = odd_turned at.1.0 at.1.1
+      told_turned (Led kd) from at = odd_turned at.1.0 at.1.1
+      told_turned (Gone kd) from at = absurd from
+
+-- in an even phase the facts of its kind hold
+pub kind_acts : (k : Config) (t : Pause) (kind : Kind) (w : Shares) (d arrivals : ℕ) (kd : Kind) → AtStage t d arrivals (In kd) → Told k t kind w → kind ≡ kd
+kind_acts k t kind w d arrivals kd at told = sym (told.even at.1.0 at.1.1).0 ∙ at.1.2
+
+-- what a domain has used of the pools is no matter of a collection
+facts_stock : (kind : Kind) (k : Config) (s : model.State) (live : Live) (t : Tenancy) (stock : Stock) (c : Cycling) (words : List ℕ) → Facts kind k s live t c words → Facts kind k s live (record t { stock = stock }) c words
+facts_stock Run k s live t stock c words f = f
+facts_stock Promote k s live t stock c words f = f
+facts_stock Reset k s live t stock c words f = f
+facts_stock Roots k s live t stock c words f = f
+facts_stock Mark k s live t stock c words f = f
+facts_stock Rounds k s live t stock c words f = f
+facts_stock Decide k s live t stock c words f = f
+facts_stock Queued k s live t stock c words f = f
+facts_stock Clean k s live t stock c words f = f
+facts_stock Lasts k s live t stock c words f = f
+facts_stock Sweep k s live t stock c words f = record { swept = f.swept; sweep = f.sweep; all_counted = f.all_counted }
+facts_stock Answer k s live t stock c words f = record { swept = f.swept; clean = f.clean; all_counted = f.all_counted }
+
+-- the facts hold when the domain has arrived
+facts_in : (kd : Kind) (k : Config) (s : model.State) (live : Live) (t : Tenancy) (c : Cycling) (words : List ℕ) (d : ℕ) → HasNoCycle kd → Facts kd k s live t c words → Facts kd k s live t (arrived_cycle (In kd) c d) words
+facts_in kd k s live t c words d none f = let b = facts_between kd k s live t c words none f in
+    between_facts kd k s live t (arrived_cycle (In kd) c d) words none record { mode = b.mode; unmarked = b.unmarked; unchanged = b.unchanged; unrotated = b.unrotated }
+
+pub facts_gone : (st : Stage) (k : Config) (s : model.State) (live : Live) (p : Pause) (t : Tenancy) (c : Cycling) (words : List ℕ) (x : DomainView) → ArrivesFrom x.own.number st → AtStage p x.own.number x.own.arrivals st → HasDone k x st → Told k p c.kind c.shares
+    → Facts c.kind k s live t c words → Facts c.kind k s live t (arrived_cycle st c x.own.number) words
+facts_gone (In kd) k s live p t c words x from at done told f =
+    let is : c.kind ≡ kd = kind_acts k p c.kind c.shares x.own.number x.own.arrivals kd at told in
+    subst (λ (kind : Kind). Facts kind k s live t (arrived_cycle (In kd) c x.own.number) words) (sym is) (facts_in kd k s live t c words x.own.number done (subst (λ (kind : Kind). Facts kind k s live t c words) is f))
+facts_gone (Leads kd) k s live p t c words x from at done told f = f
+facts_gone (Led kd) k s live p t c words x from at done told f = f
+facts_gone (Gone kd) k s live p t c words x from at done told f = absurd from
+
+-- and so does all that the rule says of the collection
+pub cycle_gone : (st : Stage) (k : Config) (s : model.State) (live : Live) (p p' : Pause) (t : Tenancy) (stock : Stock) (c : Cycling) (words words' : List ℕ) (d : ℕ) → SameCycle words words' → ((a : ℕ) → at_address k words' a ≡ at_address k words a)
+    → Facts c.kind k s live t (arrived_cycle st c d) words → Told k p' c.kind (arrived_in st c.shares d) → Cycled k s live p t c words → Cycled k s live p' (record t { stock = stock }) (arrived_cycle st c d) words'
+cycle_gone st k s live p p' t stock c words words' d same heap facts told y = let c' : Cycling = arrived_cycle st c d in record {
+  armed_is = same.armed_same ∙ y.armed_is;
+  meanings = y.meanings;
+  colours_are = same.colours_same ∙ y.colours_are;
+  changed_is = same.changed_same ∙ (y.changed_is ∙ ap flag (sym (same_changed st c.shares d)));
+  facts = facts_words c.kind k s live (record t { stock = stock }) c' words words' same (facts_stock c.kind k s live t stock c' words facts);
+  told = told;
+  leaves = record { none = y.leaves.none; dead = y.leaves.dead; head = λ a is. let h = y.leaves.head a is in (h.0, h.1, heap a ∙ h.2) };
+}
+
+-- in an odd phase nobody is at a block
+idle_odd : (st : Stage) (share : Share) (Known : Type 0) → (IsCollecting st → ⊥) → IsIdle share ⊎ (IsCollecting st × Known) → IsIdle share
+idle_odd st share Known odd n = ⊎_elim (λ (h : IsIdle share). h) (λ (h : IsCollecting st × Known). absurd (odd h.0)) n
+
+-- who has arrived has nothing to add
+nothing_more : (live : Live) (c : Cycling) (d : ℕ) → ((c.kind ≡ Sweep) → c.shares.arrived d ≡ false → (c.counts.blocks d ≡ false) × (c.counts.words d ≡ false)) → Adds live c d fresh_share
+nothing_more live c d none = record { blocks = λ e f. (none e f).0; words = λ e f. (none e f).1; own = λ e f g. cc }
+
+idle_adds : (live : Live) (c : Cycling) (d : ℕ) (share : Share) → IsIdle share → Adds live c d share → Adds live c d fresh_share
+idle_adds live c d share idle a = nothing_more live c d (λ e f. (a.blocks e f ∙ ap (λ (z : Share). z.added_blocks) idle, a.words e f ∙ ap (λ (z : Share). z.added_words) idle))
+
+adds_gone : (st : Stage) (live : Live) (c : Cycling) (d : ℕ) (share : Share) (Known : Type 0) → IsIdle share ⊎ (IsCollecting st × Known) → Adds live c d share → Adds live (arrived_cycle st c d) d fresh_share
+adds_gone (In kind) live c d share Known n a = nothing_more live (arrived_cycle (In kind) c d) d (λ e f. absurd (clash ((arrives c.shares d).arrived d) (at_same c.shares.arrived d true) f))
+adds_gone (Leads kind) live c d share Known n a = idle_adds live c d share (idle_odd (Leads kind) share Known (λ l. l) n) a
+adds_gone (Led kind) live c d share Known n a = idle_adds live c d share (idle_odd (Led kind) share Known (λ l. l) n) a
+adds_gone (Gone kind) live c d share Known n a = idle_adds live c d share (idle_odd (Gone kind) share Known (λ l. l) n) a
+
+-- nor has it loaded a control word
+leading_fresh : (st stage : Stage) (c : Cycling) (words words' : List ℕ) (d : ℕ) (share : Share) → ArrivesFrom d st → Leading c words d st share → Leading (arrived_cycle st c d) words' d stage fresh_share
+leading_fresh st stage c words words' d share from l = record {
+  changed = λ v e. cc;
+  found_blocks = λ v e. cc;
+  found_words = λ v e. cc;
+  rotated = λ first lasts. l.rotated first lasts ∙ ⊎_elim (λ (e : share.rotated ≡ true). absurd ((subst (ArrivesFrom d) (l.turned e) from) first)) (λ e. e) (either_bool share.rotated);
+  turned = λ e. cc;
+}
+
+-- what the rule says of the share of the domain that has arrived
+pub sharing_gone : (k : Config) (all : Account) (words words' : List ℕ) (x : DomainView) (p' : Pause) (live' : Live) (t' : Tenancy) (stage : Stage) → x.own.number < k.domains → ArrivesFrom x.own.number x.seen.stage → AtStage all.pause x.own.number x.own.arrivals x.seen.stage
+    → Told k all.pause all.cycling.kind all.cycling.shares → Good k all words x
+    → Sharing k (record all { pause = p'; live = live'; tenancy = t'; cycling = arrived_cycle x.seen.stage all.cycling x.own.number }) words' x.own.number x.own.registers stage fresh_share
+sharing_gone k all words words' x p' live' t' stage below from at told g = let a = adds_gone x.seen.stage all.live all.cycling x.own.number x.seen.share (Knowing k all.live all.tenancy.holder (state_of k all.log).graph all.cycling.paint.marks words x.own.number x.own.registers x.seen.share) g.sharing.knows g.sharing.adds in record {
+  telling = telling_gone k all.pause all.cycling.kind all.cycling.paint.colours all.cycling.shares x.own.number x.own.arrivals told below x.seen.stage from at;
+  leading = leading_fresh x.seen.stage stage all.cycling words words' x.own.number x.seen.share from g.sharing.leading;
+  knows = inl refl;
+  adds = record { blocks = a.blocks; words = a.words; own = λ e f h. cc };
+}
+
+-- and of another's
+pub sharing_else : (k : Config) (all : Account) (words words' : List ℕ) (st : Stage) (d : ℕ) (z : DomainView) (p' : Pause) (stock : Stock) → z.own.number ≢ d → SameCycle words words' → ((a : ℕ) → at_address k words' a ≡ at_address k words a) → Good k all words z
+    → Sharing k (record all { pause = p'; tenancy = record all.tenancy { stock = stock }; cycling = arrived_cycle st all.cycling d }) words' z.own.number z.own.registers z.seen.stage z.seen.share
+sharing_else k all words words' st d z p' stock other same heap g = record {
+  telling = telling_else st all.cycling.paint.colours all.cycling.shares d z.own.number z.seen.share other g.sharing.telling;
+  leading = leading_gone st all.cycling words' d z.own.number z.seen.stage z.seen.share (leading_words all.cycling words words' z.own.number z.seen.stage z.seen.share same g.sharing.leading);
+  knows = knows_words k all.live all.tenancy.holder (state_of k all.log).graph all.cycling.paint.marks words words' z.own.number z.own.registers z.seen.stage z.seen.share heap g.sharing.knows;
+  adds = adds_else st all.live all.cycling d z.own.number z.seen.share other g.sharing.adds;
+}
+
+-- also where blocks cease to live, outside a collection
+pub sharing_between : (k : Config) (all : Account) (words words' : List ℕ) (x z : DomainView) (kind : Kind) (p' : Pause) (live' : Live) (t' : Tenancy) → HasNoCycle kind → x.seen.stage ≡ In kind → HasNoCycle all.cycling.kind → z.own.number ≢ x.own.number → SameCycle words words' → Good k all words x → Good k all words z
+    → Sharing k (record all { pause = p'; live = live'; tenancy = t'; cycling = arrived_cycle x.seen.stage all.cycling x.own.number }) words' z.own.number z.own.registers z.seen.stage z.seen.share
+sharing_between k all words words' x z kind p' live' t' none is none' other same gx g = record {
+  telling = telling_else x.seen.stage all.cycling.paint.colours all.cycling.shares x.own.number z.own.number z.seen.share other g.sharing.telling;
+  leading = leading_gone x.seen.stage all.cycling words' x.own.number z.own.number z.seen.stage z.seen.share (leading_words all.cycling words words' z.own.number z.seen.stage z.seen.share same g.sharing.leading);
+  knows = inl (idle_beside k all.live all.tenancy.holder (state_of k all.log).graph all.cycling.paint.marks words all.pause x z kind none is gx.staged g.staged g.sharing.knows);
+  adds = adds_nothing live' (arrived_cycle x.seen.stage all.cycling x.own.number) z.own.number z.seen.share none';
+}
+
+-- and what it says of the collection
+pub cycle_dropped : (st : Stage) (k : Config) (s : model.State) (live live' : Live) (p p' : Pause) (t t' : Tenancy) (c : Cycling) (words words' : List ℕ) (d : ℕ) → HasNoCycle c.kind → ((a : ℕ) → t'.garbage a ≡ t.garbage a) → SameCycle words words'
+    → Told k p' c.kind (arrived_in st c.shares d) → Cycled k s live p t c words → Cycled k s live' p' t' (arrived_cycle st c d) words'
+cycle_dropped st k s live live' p p' t t' c words words' d none garbage same told y =
+    let z = cycle_between k s s live live' p t t' c words words' none refl garbage same y in
+    let b = facts_between c.kind k s live' t' c words' none z.facts in
+    let c' : Cycling = arrived_cycle st c d in record {
+      armed_is = z.armed_is;
+      meanings = z.meanings;
+      colours_are = z.colours_are;
+      changed_is = z.changed_is ∙ ap flag (sym (same_changed st c.shares d));
+      facts = between_facts c.kind k s live' t' c' words' none record { mode = b.mode; unmarked = b.unmarked; unchanged = same_changed st c.shares d ∙ b.unchanged; unrotated = b.unrotated };
+      told = told;
+      leaves = record { none = z.leaves.none; dead = z.leaves.dead; head = z.leaves.head };
+    }
