@@ -42,7 +42,7 @@ use Rattle.steps_cycle.specs.Marking.{DarkenMay, DarkenTold, IsDarkening, Reason
 use Rattle.steps_cycle.proofs.Colouring.{BareHead, Recolourable, bare_head, coloured, unmarked_by, words_same}
 use Rattle.steps_cycle.proofs.GlimpseSteps.{goes_on, share_closes}
 use Rattle.steps_cycle.proofs.Layouts.{label_there, owner_of_place}
-use Rattle.steps_cycle.proofs.Learning.{Learns, at_other, at_same, bare, held, kind_here, known, knowing_on, low, waits_in}
+use Rattle.steps_cycle.proofs.Learning.{Learns, at_other, at_same, bare, held, kind_here, known, knowing_on, lies_old, waits_in}
 use Rattle.steps_cycle.proofs.Recolouring.{Recolours, known_still, recolours}
 use Rattle.steps_cycle.proofs.Targets.{Target, moved_knows, target}
 
@@ -143,7 +143,7 @@ module _ (k : Config) (s : Words) (r : Rule k s) (id : ℕ) (hist : List Entry) 
 
     darkens : (owner : ℕ) × Darkens k.domains now cyc d owner a p.label
     darkens =
-        let old_at : a ≤ k.pools * 4096 = low k s r id hist x at collecting a p aim.lives in
+        let old_at : a ≤ k.pools * 4096 = lies_old k s r id hist x at collecting a p aim.lives in
         let l = r.whole.grid.lots a p aim.lives old_at in
         let by = r.whole.pools.owned_by l.pool l.domain l.class l.owned_is in (
           l.domain,

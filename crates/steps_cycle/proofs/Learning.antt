@@ -257,8 +257,8 @@ module _ (k : Config) (s : Words) (r : Rule k s) (id : ℕ) (hist : List Entry) 
     pub bare : (a : ℕ) (p : Place) → live a ≡ Some p → IsBare p
     bare a p lives = ⊎_elim (λ settled. settled a p lives) (λ (t : Promoting r.account.pause). absurd (not_promoting t)) r.whole.settled
 
-    pub low : (a : ℕ) (p : Place) → live a ≡ Some p → IsOldAt k a
-    low a p lives =
+    pub lies_old : (a : ℕ) (p : Place) → live a ≡ Some p → IsOldAt k a
+    lies_old a p lives =
         let not_kind : (kind : Kind) → HasNoCycle kind → r.account.pause.kinds here.1.0 ≡ kind → ⊥ = (λ kind none e. in_kind.under_way (subst HasNoCycle (sym e ∙ here.1.2) none)) in
         r.whole.emptied (inr (here.1.0, here.1.1, (λ e. not_kind Run tt e, λ e. not_kind Promote tt e))) a p lives
 

@@ -7,3 +7,4 @@ pub mod LookSteps
 pub mod GlimpseSteps
 pub mod DarkenSteps
 pub mod WalkSteps
+pub mod ScanSteps

@@ -28,7 +28,7 @@ use Rattle.heap_rule.proofs.PauseFacts.{agree}
 use Rattle.heap_rule.proofs.Values.{extent_large}
 use Rattle.heap_rule.proofs.Keeps.{Words, mine, my_good, more_same, remakes, knows_front, control_set, controls_kept, opened_words, owes_as, resting_as, resting_lists, room_words, hunter_as}
 use Rattle.steps_cycle.specs.Looks.{with_share}
-use Rattle.steps_cycle.proofs.Learning.{Held, Learns, cycle', held, holding, sharing', sharings', bare, rests_here, knowing_on, known, Knows, waits}
+use Rattle.steps_cycle.proofs.Learning.{Held, Learns, cycle', held, holding, sharing', sharings', bare, rests_here, knowing_on, known, Knows, waits, lies_old}
 use Rattle.cycle_laws.proofs.Tracing.{More}
 
 module _ (k : Config) (s : Words) (r : Rule k s) (id : ℕ) (hist : List Entry) (x : DomainView) (at : get_elem? s.views id ≡ some (one k hist x)) (collecting : IsCollecting x.seen.stage) where
@@ -123,12 +123,16 @@ module _ (k : Config) (s : Words) (r : Rule k s) (id : ℕ) (hist : List Entry) 
       tells = λ is. t.tells (subst (λ (b : Bool). IsTrue b) e.0 is) ∙ sym e.1;
     }
 
+    never_young : (b : ℕ) (q : Place) → r.account.live b ≡ Some q → k.pools * 4096 < b → ⊥
+    never_young b q lives young = let u : b ≤ k.pools * 4096 = lies_old k s r id hist x at collecting b q lives in omega arith
+
     found_here : Found k paint' r.account.live (state_of k r.account.log).graph words' a p
     found_here = let f = r.whole.found a p o.lives in record {
       node = f.node;
       there = f.there;
       shape = f.shape;
       head = head_at paint' p here_is o.here;
+      blank = λ young. absurd (never_young a p o.lives young);
       label = stays (a + 1) (λ e. omega arith) ∙ f.label;
       values = λ i v has got. let w = f.values i v has got in record { value = w.value; packs = stays (a + 2 + i) (λ e. omega arith) ∙ w.packs; stands = w.stands };
       old = λ under i inside has none. subst (IsOldWord k) (sym (stays (a + 2 + i) (λ e. omega arith))) (f.old under i inside has none);
@@ -148,6 +152,7 @@ module _ (k : Config) (s : Words) (r : Rule k s) (id : ℕ) (hist : List Entry) 
           there = g.there;
           shape = g.shape;
           head = retint q (at_address k words' b) differ g.head;
+          blank = λ young. absurd (never_young b q lives young);
           label = g.label;
           values = g.values;
           old = g.old;
