@@ -1,13 +1,11 @@
 -- Heads that differ in colour and scanned mark alone.
-use Rattle.std.proofs.Common.{◌≡◌, ◌≢◌, ℕ, ◌<◌, ◌||◌, IsTrue, Bool, true, false, cond, None, refl, sym, ap, ◌∙◌}
-use Rattle.heap_model.specs.declared.label.Label.{Label}
+use Rattle.std.proofs.Common.{◌≡◌, ℕ, ◌<◌, IsTrue, Bool, true, false, cond, None, refl, sym, ap, ◌∙◌}
 use Rattle.heap_model.specs.Fronts.{Shape, PlainShape, RawShape, EpheShape}
 use Rattle.heap_words.specs.declared.colours.Colours.{Colours}
 use Rattle.heap_words.specs.ColourWords.{IsPermutation}
-use Rattle.heap_words.specs.declared.head.Head.{Head}
-use Rattle.heap_words.specs.Heads.{IsPackableHead, head_word}
+use Rattle.heap_words.specs.Heads.{head_word}
 use Rattle.heap_words.proofs.WordLemmas.{head_word-injective}
-use Rattle.heap_rule.specs.Places.{Place, Paint, HeadIs, IsBare, IsHead, IsHeadOf, colour_in, head_of, IsPackableShape}
+use Rattle.heap_rule.specs.Places.{Place, Paint, IsBare, IsHead, IsHeadOf, colour_in, head_of, IsPackableShape}
 use Rattle.heap_rule.proofs.HeadLemmas.{packable_head}
 
 -- equal heads are of one colour, and equal in every other one

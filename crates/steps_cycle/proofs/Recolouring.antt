@@ -1,5 +1,5 @@
 -- The head of a live block gets another colour, or the scanned mark.
-use Rattle.std.proofs.Common.{◌≡◌, ◌≢◌, ℕ, ◌+◌, ◌*◌, ◌<◌, ◌≤◌, ◌⊎◌, Bool, false, cond, IsTrue, List, length, get_or, set, Some, Option, unwrap_or, sym, refl, ap, ◌∙◌, subst, inl, inr, ⊎_elim, arith, length-set, get_or-set_same, get_or-set_other, None}
+use Rattle.std.proofs.Common.{◌≡◌, ◌≢◌, ℕ, ◌+◌, ◌*◌, ◌<◌, ◌≤◌, ◌⊎◌, Bool, cond, IsTrue, List, length, get_or, set, Some, Option, unwrap_or, sym, refl, ap, ◌∙◌, subst, inl, inr, ⊎_elim, arith, length-set, get_or-set_same, get_or-set_other, None}
 use mathlib.Core.Logic.{dite}
 use native.Mathlib.Decide.{ℕ_discrete}
 use mathlib.Core.Option.{some}
@@ -10,25 +10,21 @@ use Rattle.heap_words.specs.Heads.{head_word}
 use Rattle.heap_words.specs.declared.colours.Colours.{Colours}
 use Rattle.cycle_laws.specs.Marks.{Marks}
 use Rattle.heap_rule.specs.declared.config.Config.{Config}
-use Rattle.heap_rule.specs.declared.phase.Stage.{Stage}
-use Rattle.heap_rule.specs.declared.view.Hunt.{Hunt}
 use Rattle.heap_rule.specs.declared.view.Hunt.TheVariants.{Rests}
 use Rattle.heap_rule.specs.declared.view.DomainView.{DomainView}
-use Rattle.heap_rule.specs.Layout.{before_heap, heap_words, at_address, listed, cursor}
+use Rattle.heap_rule.specs.Layout.{before_heap, heap_words, at_address}
 use Rattle.heap_rule.specs.Places.{Place, Paint, extent, head_of, Found, IsHead, IsOldWord, colour_in}
-use Rattle.heap_rule.specs.Phases.{AtStage, Staged, last_note}
-use Rattle.heap_rule.specs.Pools.{Grid, Hunter, Hunts, DrawsFor, IsSpare, Latest, Takes, limit_of, place_in}
+use Rattle.heap_rule.specs.Pools.{Grid, Hunter, Hunts, DrawsFor, Latest, limit_of, place_in}
 use Rattle.heap_rule.specs.Cycles.{Cycling, IsCollecting, Knowing, Facts, seen_by}
-use Rattle.heap_rule.specs.Rule.{AllFound, Area, Good, Making, Rule, state_of}
+use Rattle.heap_rule.specs.Rule.{AllFound, Area, Making, Rule, state_of}
 use Rattle.heap_rule.specs.Views.{one}
 use Rattle.heap_rule.proofs.HeadLemmas.{head_at}
 use Rattle.heap_rule.proofs.Beside.{found_beside, making_beside, live_word_far}
 use Rattle.heap_rule.proofs.Lots.{head_full, head_some}
-use Rattle.heap_rule.proofs.PauseFacts.{agree}
 use Rattle.heap_rule.proofs.Values.{extent_large}
 use Rattle.heap_rule.proofs.Keeps.{Words, mine, my_good, more_same, remakes, knows_front, control_set, controls_kept, opened_words, owes_as, resting_as, resting_lists, room_words, hunter_as}
 use Rattle.steps_cycle.specs.Looks.{with_share}
-use Rattle.steps_cycle.proofs.Learning.{Held, Learns, cycle', held, holding, sharing', sharings', bare, rests_here, knowing_on, known, Knows, waits, lies_old}
+use Rattle.steps_cycle.proofs.Learning.{Held, Learns, cycle', holding, sharing', sharings', bare, rests_here, knowing_on, known, Knows, waits, lies_old}
 use Rattle.cycle_laws.proofs.Tracing.{More}
 
 module _ (k : Config) (s : Words) (r : Rule k s) (id : ℕ) (hist : List Entry) (x : DomainView) (at : get_elem? s.views id ≡ some (one k hist x)) (collecting : IsCollecting x.seen.stage) where
@@ -147,7 +143,7 @@ module _ (k : Config) (s : Words) (r : Rule k s) (id : ℕ) (hist : List Entry) 
         let differ : p.label ≢ q.label = (λ e. other (sym (r.whole.placed.once a b p q o.lives lives e (bare k s r id hist x at collecting a p o.lives).no_forward (bare k s r id hist x at collecting b q lives).no_forward))) in
         let f = r.whole.found b q lives in
         let g = found_beside k paint r.account.live r.account.live (state_of k r.account.log).graph (state_of k r.account.log).graph s.words a new b q (more_same r.account.live) f f.there (λ z inside e. let n : ℕ = extent p.shape in let m : ℕ = extent q.shape in let i : z < m = inside in let l : 3 ≤ n = extent_large p.shape (r.whole.placed.fits a p o.lives).head in let h : b + z ≡ a = e in
-            ⊎_elim (λ (t : b + m ≤ a). omega arith) (λ (t : a + n ≤ b). omega arith) (r.whole.placed.apart b a q p lives o.lives other)) in record {
+        ⊎_elim (λ (t : b + m ≤ a). omega arith) (λ (t : a + n ≤ b). omega arith) (r.whole.placed.apart b a q p lives o.lives other)) in record {
           node = g.node;
           there = g.there;
           shape = g.shape;

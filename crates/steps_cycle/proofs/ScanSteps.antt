@@ -1,5 +1,5 @@
 -- A marked block is scanned, and the changed word is stored.
-use Rattle.std.proofs.Common.{◌≡◌, ◌≢◌, ℕ, suc, ◌+◌, ◌*◌, ◌<◌, ◌≤◌, ◌⊎◌, ◌||◌, Bool, true, false, cond, IsTrue, List, [], length, get_or, set, slice_get, Some, Option, None, sym, refl, ap, ◌∙◌, subst, inl, inr, ⊎_elim, arith, add-one, length-set, get_or-set_same, get_or-set_other}
+use Rattle.std.proofs.Common.{◌≡◌, ◌≢◌, ℕ, ◌+◌, ◌<◌, ◌≤◌, ◌||◌, Bool, true, false, cond, List, [], length, get_or, set, slice_get, Some, Option, None, sym, refl, ap, ◌∙◌, subst, inl, inr, ⊎_elim, arith, add-one, length-set, get_or-set_same, get_or-set_other}
 use mathlib.Core.Option.{some}
 use lib.ListN.{get_elem?}
 use Rattle.atomic_table.specs.Table.{keeps}
@@ -10,7 +10,7 @@ use Rattle.heap_model.specs.declared.graph.Value.TheVariants.{Int, Block, Nothin
 use Rattle.heap_model.specs.declared.graph.Node.{Node}
 use Rattle.heap_model.specs.declared.graph.Node.TheVariants.{Plain}
 use Rattle.heap_model.specs.declared.state.State as model
-use Rattle.heap_model.specs.Graph.{Graph, same_label, node_at}
+use Rattle.heap_model.specs.Graph.{Graph, node_at}
 use Rattle.heap_model.specs.Reach.{HoldsRoots}
 use Rattle.heap_model.proofs.Graphs.GraphLemmas.{same_label_refl, same_label-false}
 use Rattle.heap_words.specs.declared.colours.Colours.{Colours}
@@ -27,14 +27,13 @@ use Rattle.heap_rule.specs.declared.phase.Kind.{Kind}
 use Rattle.heap_rule.specs.declared.phase.Kind.TheVariants.{Run, Promote, Reset, Roots, Mark, Rounds, Decide, Queued, Clean, Lasts, Sweep, Answer}
 use Rattle.heap_rule.specs.declared.view.DomainView.{DomainView}
 use Rattle.heap_rule.specs.declared.view.Scan.{Scan}
-use Rattle.heap_rule.specs.declared.view.Scan.TheVariants.{Idle, Reads, Holds}
+use Rattle.heap_rule.specs.declared.view.Scan.TheVariants.{Idle, Reads}
 use Rattle.heap_rule.specs.declared.view.Share.{Share}
 use Rattle.heap_rule.specs.Layout.{before_heap, heap_words, at_address}
 use Rattle.heap_rule.specs.Places.{Debt, HasValue, Live, Place, Stands, WordStands, colour_in, head_of, values_of}
 use Rattle.heap_rule.specs.Cycles.{Cycling, Facts, HasNoCycle, IsCollecting, Knowing, Refers, Scanned, Scans, cycle_of}
 use Rattle.heap_rule.specs.Raw.{CanLeave, Closes, Leaves, MayStep, MayStore}
 use Rattle.heap_rule.specs.Rule.{Rule, state_of}
-use Rattle.heap_rule.specs.Token.{IsAddress}
 use Rattle.heap_rule.specs.Views.{one}
 use Rattle.heap_rule.proofs.Blocks.{some_same}
 use Rattle.heap_rule.proofs.Controls.{Untouched}
@@ -112,9 +111,9 @@ module _ (k : Config) (s : Words) (r : Rule k s) (id : ℕ) (hist : List Entry) 
     stands =
         let found = r.whole.found may.block f.place f.lives in
         let plain : node_at now.graph f.place.label ≡ Some (Plain f.tag f.fields) = ⊎_elim
-            (λ (e : node_at now.graph f.place.label ≡ Some (Plain f.tag f.fields)). e)
-            (λ (e : (f.fields ≡ []) × (fields_of (node_at now.graph f.place.label) ≡ [])). absurd (let none : length f.fields ≡ 0 = ap (λ (z : List Value). length z) e.0 in let n : ℕ = length f.fields in let z : n ≡ 0 = none in let y : n ≡ may.size = f.size_is in let h = may.more in omega arith))
-            f.node in
+        (λ (e : node_at now.graph f.place.label ≡ Some (Plain f.tag f.fields)). e)
+        (λ (e : (f.fields ≡ []) × (fields_of (node_at now.graph f.place.label) ≡ [])). absurd (let none : length f.fields ≡ 0 = ap (λ (z : List Value). length z) e.0 in let n : ℕ = length f.fields in let z : n ≡ 0 = none in let y : n ≡ may.size = f.size_is in let h = may.more in omega arith))
+        f.node in
         let is : found.node ≡ Plain f.tag f.fields = some_same found.node (Plain f.tag f.fields) (sym found.there ∙ plain) in
         found.values may.done field.0 (subst (λ (o : Option Debt). HasValue o may.done) (sym (bare k s r id hist x at (in_mark may.stage) may.block f.place f.lives).no_debt) tt) (ap (λ (n : Node). slice_get (values_of n) may.done) is ∙ field.1)
 

@@ -1,5 +1,5 @@
 -- A domain walks through its own pools, and looks at the heads there.
-use Rattle.std.proofs.Common.{◌≡◌, ◌≢◌, ℕ, suc, ◌+◌, ◌*◌, ◌<◌, ◌≤◌, ◌⊎◌, ◌==◌, ◌||◌, Bool, true, false, true≢false, cond, IsTrue, eq-eqb, List, [], ◌∷◌, length, get_or, set, Some, Option, None, sym, refl, ap, ◌∙◌, subst, inl, inr, ⊎_elim, arith, lt_of_not-le}
+use Rattle.std.proofs.Common.{◌≡◌, ◌≢◌, ℕ, ◌+◌, ◌*◌, ◌<◌, ◌≤◌, ◌⊎◌, ◌==◌, ◌||◌, Bool, true, false, true≢false, cond, IsTrue, eq-eqb, List, [], ◌∷◌, length, get_or, set, Some, Option, None, sym, refl, ap, ◌∙◌, subst, inl, inr, ⊎_elim, arith, lt_of_not-le}
 use Rattle.std.proofs.lemmas.Bool.{le-leb, lt-leb}
 use mathlib.Core.Logic.{dite}
 use native.Mathlib.Decide.{ℕ_discrete, dec_le}
@@ -25,10 +25,9 @@ use Rattle.heap_rule.specs.declared.phase.Kind.{Kind}
 use Rattle.heap_rule.specs.declared.phase.Kind.TheVariants.{Mark}
 use Rattle.heap_rule.specs.declared.view.DomainView.{DomainView}
 use Rattle.heap_rule.specs.declared.view.Share.{Share}
-use Rattle.heap_rule.specs.declared.view.Spot.{Spot}
 use Rattle.heap_rule.specs.declared.view.Tenure.{Tenure}
 use Rattle.heap_rule.specs.Layout.{before_heap, at_address, owner_of}
-use Rattle.heap_rule.specs.Places.{IsBuilt, IsHeadOf, Live, Place}
+use Rattle.heap_rule.specs.Places.{IsBuilt, Live, Place}
 use Rattle.heap_rule.specs.Pools.{Holder, IsBefore, blocks_of, drawn, nobody, owned, owner_word, place_in}
 use Rattle.heap_rule.specs.Cycles.{Cycling, Facts, IsCollecting, Knowing, Scanned, cycle_of, seen_by}
 use Rattle.heap_rule.specs.Raw.{CanLeave, Closes, Leaves, MayStep}
@@ -67,18 +66,18 @@ next_behind pool class slot more = ap (λ (b : Bool). cond b (record { pool = po
 before_behind : (pool class slot q i : ℕ) → (q ≡ pool → i < blocks_of class) → IsBefore q i (behind pool class slot) → ((q ≡ pool) × (i ≡ slot)) ⊎ IsBefore q i (record { pool = pool; slot = slot })
 before_behind pool class slot q i inside before =
     let here : q ≡ pool → i < slot + 1 → ((q ≡ pool) × (i ≡ slot)) ⊎ IsBefore q i (record { pool = pool; slot = slot }) =
-        (λ same low. dite (ℕ_discrete i slot) (λ eq. inl (same, eq)) (λ other. inr (inr (same, (let n : i ≢ slot = other in let l : i < slot + 1 = low in let z : i < slot = omega arith in z))))) in
+    (λ same low. dite (ℕ_discrete i slot) (λ eq. inl (same, eq)) (λ other. inr (inr (same, (let n : i ≢ slot = other in let l : i < slot + 1 = low in let z : i < slot = omega arith in z))))) in
     dite (dec_le (blocks_of class) (slot + 1))
     (λ last. ⊎_elim
-        (λ (h : q < pool + 1). dite (ℕ_discrete q pool)
-            (λ same. here same (let b : ℕ = blocks_of class in let l : b ≤ slot + 1 = last in let g : i < b = inside same in omega arith))
-            (λ other. inr (inl (let n : q ≢ pool = other in let z : q < pool = omega arith in z))))
-        (λ (h : (q ≡ pool + 1) × (i < 0)). absurd (let l = h.1 in omega arith))
-        (subst (IsBefore q i) (last_behind pool class slot last) before))
+    (λ (h : q < pool + 1). dite (ℕ_discrete q pool)
+    (λ same. here same (let b : ℕ = blocks_of class in let l : b ≤ slot + 1 = last in let g : i < b = inside same in omega arith))
+    (λ other. inr (inl (let n : q ≢ pool = other in let z : q < pool = omega arith in z))))
+    (λ (h : (q ≡ pool + 1) × (i < 0)). absurd (let l = h.1 in omega arith))
+    (subst (IsBefore q i) (last_behind pool class slot last) before))
     (λ more. ⊎_elim
-        (λ (h : q < pool). inr (inl h))
-        (λ (h : (q ≡ pool) × (i < slot + 1)). here h.0 h.1)
-        (subst (IsBefore q i) (next_behind pool class slot (lt_of_not-le more)) before))
+    (λ (h : q < pool). inr (inl h))
+    (λ (h : (q ≡ pool) × (i < slot + 1)). here h.0 h.1)
+    (subst (IsBefore q i) (next_behind pool class slot (lt_of_not-le more)) before))
 
 module _ (k : Config) (s : Words) (r : Rule k s) (id : ℕ) (hist : List Entry) (x : DomainView) (at : get_elem? s.views id ≡ some (one k hist x)) where
   abbrev now : model.State
@@ -156,7 +155,7 @@ module _ (k : Config) (s : Words) (r : Rule k s) (id : ℕ) (hist : List Entry) 
     owner_told (owned n class) e = dite (ℕ_discrete n d)
         (λ same. owns class (e ∙ ap (λ (i : ℕ). owned i class) same))
         (λ other. passes (λ b f. other (owned_same n d class b (sym e ∙ f)).0)
-            (λ b few f. let z : owner ≡ 16 * n + class + 1 = is_owner ∙ ap owner_word e in let small : class < class_count = (r.whole.pools.owned_by pool n class e).2 in let w : ℕ = owner in let g : w ≡ 16 * d + b + 1 = f in let h : w ≡ 16 * n + class + 1 = z in other (omega arith)))
+        (λ b few f. let z : owner ≡ 16 * n + class + 1 = is_owner ∙ ap owner_word e in let small : class < class_count = (r.whole.pools.owned_by pool n class e).2 in let w : ℕ = owner in let g : w ≡ 16 * d + b + 1 = f in let h : w ≡ 16 * n + class + 1 = z in other (omega arith)))
 
   -- in Mark, a look at the head of a block
   module _ (colours : Colours) (knows : sh.colours ≡ Some colours) (collecting : IsCollecting x.seen.stage) (a : ℕ) (p : Place) (lives : live a ≡ Some p) where
@@ -174,9 +173,9 @@ module _ (k : Config) (s : Words) (r : Rule k s) (id : ℕ) (hist : List Entry) 
     seen_head = ⊎_elim
         (λ (is : m.marked p.label ≡ true).
         let marked : there.head.colour ≡ colours.marked = there.colour ∙ (coloured c.paint p true is ∙ sym (ap (λ (z : Colours). z.marked) means)) in ⊎_elim
-            (λ (done : m.scanned p.label ≡ true). inl (record { shape = p.shape; head = there.head; colour = inr (marked, there.tells is ∙ done) }, λ _. done))
-            (λ (left : m.scanned p.label ≡ false). inr (is, record { built = (r.whole.placed.fits a p lives).built; head = there.head; colour = marked; unscanned = there.tells is ∙ left }))
-            (either_bool (m.scanned p.label)))
+        (λ (done : m.scanned p.label ≡ true). inl (record { shape = p.shape; head = there.head; colour = inr (marked, there.tells is ∙ done) }, λ _. done))
+        (λ (left : m.scanned p.label ≡ false). inr (is, record { built = (r.whole.placed.fits a p lives).built; head = there.head; colour = marked; unscanned = there.tells is ∙ left }))
+        (either_bool (m.scanned p.label)))
         (λ (not_yet : m.marked p.label ≡ false). inl (record { shape = p.shape; head = there.head; colour = inl (there.colour ∙ (coloured c.paint p false not_yet ∙ sym (ap (λ (z : Colours). z.unmarked) means))) }, λ is. absurd (true≢false (sym is ∙ not_yet))))
         (either_bool (m.marked p.label))
 
@@ -243,11 +242,12 @@ module _ (k : Config) (s : Words) (r : Rule k s) (id : ℕ) (hist : List Entry) 
         let t = (my_good k s r id hist x at).sharing.telling in
         let waits : c.shares.arrived d ≡ false = waits_in k s r id hist x at Mark may.stage in
         shifts_more k s r id hist x at collecting c.shares.changed c.shares.owes seen' (held saw) s.words (untouched_same s.words) refl refl refl r.whole.cycle.changed_is
-        (subst (λ (kind : Kind). Facts kind k now live r.account.tenancy (record c { shares = record c.shares { seen = seen' } }) s.words) (sym kind_is)
-            (darkening_steps.mark_looks c.pass k.domains now (cycle_of k live holder c) facts.0 d a
-            (ap (λ (b : ℕ). (cycle_of k live holder c).layout.owner b) may.word ∙ owner_of_place holder pool d class slot few is_own may.inside)
-            (λ l e is. let u = labelled k live a l e in subst (λ (z : Label). IsTrue (m.scanned z)) u.label (quiet u.place u.lives (subst (λ (z : Label). IsTrue (m.marked z)) (sym u.label) is))),
-            facts.1))
+        (subst (λ (kind : Kind). Facts kind k now live r.account.tenancy (record c { shares = record c.shares { seen = seen' } }) s.words) (sym kind_is) (
+          darkening_steps.mark_looks c.pass k.domains now (cycle_of k live holder c) facts.0 d a
+              (ap (λ (b : ℕ). (cycle_of k live holder c).layout.owner b) may.word ∙ owner_of_place holder pool d class slot few is_own may.inside)
+              (λ l e is. let u = labelled k live a l e in subst (λ (z : Label). IsTrue (m.scanned z)) u.label (quiet u.place u.lives (subst (λ (z : Label). IsTrue (m.marked z)) (sym u.label) is))),
+          facts.1,
+        ))
         (λ z other. (refl, at_other c.shares.seen d (λ b. b == a || c.shares.seen d b) z other))
         (t.owes waits)
         (at_same c.shares.seen d (λ b. b == a || c.shares.seen d b) ∙ ap (λ (f : ℕ → Bool). λ (b : ℕ). b == a || f b) (t.seen waits))
@@ -272,8 +272,10 @@ module _ (k : Config) (s : Words) (r : Rule k s) (id : ℕ) (hist : List Entry) 
     look_live p lives = ⊎_elim
         (λ h. (
           with_share x saw,
-          (saw_rule (λ q e. let same : Some q ≡ Some p = sym e ∙ lives in let is : q ≡ p = cc in subst (λ (z : Place). IsTrue (m.marked z.label) → IsTrue (m.scanned z.label)) (sym is) h.1),
-          record { colours = may.colours; known = may.known; told = inl (inr h.0, refl) }),
+          (
+            saw_rule (λ q e. let same : Some q ≡ Some p = sym e ∙ lives in let is : q ≡ p = cc in subst (λ (z : Place). IsTrue (m.marked z.label) → IsTrue (m.scanned z.label)) (sym is) h.1),
+            record { colours = may.colours; known = may.known; told = inl (inr h.0, refl) },
+          ),
         ))
         (λ h. (
           with_share x (begun a p.shape found sh),
@@ -286,15 +288,15 @@ module _ (k : Config) (s : Words) (r : Rule k s) (id : ℕ) (hist : List Entry) 
     looks_at None e =
         let b : ℕ = place_in pool class slot in
         let free : found ≡ 0 = ap (at_address k s.words) may.word ∙ ⊎_elim
-            (λ (z : at_address k s.words b ≡ 0). z)
-            (λ z. absurd (⊎_elim
-                (λ (u : (p : Place) × (live b ≡ Some p)). place_clash u.0 (sym e ∙ (ap live may.word ∙ u.1)))
-                (λ u. ⊎_elim
-                    (λ (f : r.account.tenancy.prepared b ≡ Some d). not_promoting k s r id hist x at collecting (r.whole.drawers.prepared b d f).1)
-                    (λ (f : IsTrue (r.account.tenancy.garbage b)). true≢false (sym f ∙ r.whole.cycle.leaves.none facts.1 b))
-                    u)
-                z))
-            (r.whole.grid.places pool d class slot is_own may.inside) in (
+        (λ (z : at_address k s.words b ≡ 0). z)
+        (λ z. absurd (⊎_elim
+        (λ (u : (p : Place) × (live b ≡ Some p)). place_clash u.0 (sym e ∙ (ap live may.word ∙ u.1)))
+        (λ u. ⊎_elim
+        (λ (f : r.account.tenancy.prepared b ≡ Some d). not_promoting k s r id hist x at collecting (r.whole.drawers.prepared b d f).1)
+        (λ (f : IsTrue (r.account.tenancy.garbage b)). true≢false (sym f ∙ r.whole.cycle.leaves.none facts.1 b))
+        u)
+        z))
+        (r.whole.grid.places pool d class slot is_own may.inside) in (
           with_share x saw,
           (saw_rule (λ q f. absurd (place_clash q (sym e ∙ f))), record { colours = may.colours; known = may.known; told = inl (inl free, refl) }),
         )
@@ -305,8 +307,11 @@ module _ (k : Config) (s : Words) (r : Rule k s) (id : ℕ) (hist : List Entry) 
     grey_looks =
         let t = kn.marked a may.marked in
         let collecting : IsCollecting x.seen.stage = subst IsCollecting (sym may.stage) (λ none. none) in ⊎_elim
-        (λ h. (x, knows_more k s r id hist x at collecting (held sh) refl refl record { glimpse = kn.glimpse; scan = kn.scan; walked = kn.walked; tenure = kn.tenure; rooted = kn.rooted; marked = kn.marked },
-          record { colours = may.colours; known = may.known; told = inl (h.0, refl) }))
+        (λ h. (
+          x,
+          knows_more k s r id hist x at collecting (held sh) refl refl record { glimpse = kn.glimpse; scan = kn.scan; walked = kn.walked; tenure = kn.tenure; rooted = kn.rooted; marked = kn.marked },
+          record { colours = may.colours; known = may.known; told = inl (h.0, refl) },
+        ))
         (λ h. (with_share x (begun a t.0.shape (at_address k s.words a) sh), begins_rule may.colours may.known collecting a t.0 t.1 t.2, record { colours = may.colours; known = may.known; told = inr (t.0.shape, h.1, refl) }))
         (seen_head may.colours may.known collecting a t.0 t.1)
 

@@ -1,4 +1,3 @@
-use Rattle.heap_rule.proofs.Closes.{front_same, leaves_closes}
 use Rattle.steps_cycle.proofs.GlimpseSteps.{glimpse_may, glimpse_closes}
 use Rattle.steps_cycle.proofs.marking.glimpse_load.Goals as goal
 
