@@ -31,14 +31,14 @@ use Rattle.heap_rule.specs.Limits.{sizes_in}
 use Rattle.heap_rule.specs.Layout.{before_heap, at_address}
 use Rattle.heap_rule.specs.Places.{IsHeadOf, Place, colour_in, head_of}
 use Rattle.heap_rule.specs.Cycles.{Cycling, Facts, HasNoCycle, IsCollecting, cycle_of}
-use Rattle.heap_rule.specs.Raw.{CanLeave, Closes, Leaves, MayStep}
+use Rattle.heap_rule.specs.Raw.{MayStep}
 use Rattle.heap_rule.specs.Rule.{Rule, state_of}
 use Rattle.heap_rule.specs.Views.{one}
 use Rattle.heap_rule.proofs.Keeps.{Words, mine, my_good, unmoved}
 use Rattle.steps_cycle.specs.Looks.{with_share}
 use Rattle.steps_cycle.specs.Marking.{DarkenMay, DarkenTold, IsDarkening, Reason, moved_on, owes_on}
 use Rattle.steps_cycle.proofs.Colouring.{BareHead, Recolourable, bare_head, unmarked_by, words_same}
-use Rattle.steps_cycle.proofs.GlimpseSteps.{goes_on, share_closes}
+use Rattle.steps_cycle.proofs.GlimpseSteps.{goes_on}
 use Rattle.steps_cycle.proofs.Layouts.{label_there, owner_of_place}
 use Rattle.steps_cycle.proofs.Learning.{at_other, at_same, bare, held, kind_here, known, lies_old, waits_in}
 use Rattle.steps_cycle.proofs.Recolouring.{Recolours, known_still, recolours}
@@ -235,8 +235,3 @@ darken_may k x word a old new reason place may fits slots id hist s r _ at _ =
       subst (λ (n : ℕ). Rule k record { words = set s.words word n; homes = s.homes; views = set s.views id (one k hist y) }) stays (unmoved k s word (set s.views id (one k hist y)) (lost_rule k s r id hist x at a old new reason may (λ e. lost (found_is ∙ e)))),
       (record { kind = may.kind; stage = may.stage; won = λ e. absurd (lost e); lost = λ _. refl }, refl),
     ))
-
-pub darken_closes : (k : Config) (x : DomainView) (found a old : ℕ) (reason : Reason) → Closes k x found (DarkenTold old a reason) CanLeave Leaves
-darken_closes k x found a old reason = share_closes k x found (DarkenTold old a reason) (λ y t. dite (ℕ_discrete found old)
-    (λ e. (record (moved_on reason a x.seen.share) { owes = owes_on t.kind x.seen.share.owes }, t.won e))
-    (λ e. (moved_on reason a x.seen.share, t.lost e)))

@@ -1,3 +1,4 @@
+pub mod Plain
 pub mod Colouring
 pub mod Layouts
 pub mod Learning

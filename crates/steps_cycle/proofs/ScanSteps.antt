@@ -32,7 +32,7 @@ use Rattle.heap_rule.specs.declared.view.Share.{Share}
 use Rattle.heap_rule.specs.Layout.{before_heap, heap_words, at_address}
 use Rattle.heap_rule.specs.Places.{Debt, HasValue, Live, Place, Stands, WordStands, colour_in, head_of, values_of}
 use Rattle.heap_rule.specs.Cycles.{Cycling, Facts, HasNoCycle, IsCollecting, Knowing, Refers, Scanned, Scans, cycle_of}
-use Rattle.heap_rule.specs.Raw.{CanLeave, Closes, Leaves, MayStep, MayStore}
+use Rattle.heap_rule.specs.Raw.{MayStep, MayStore}
 use Rattle.heap_rule.specs.Rule.{Rule, state_of}
 use Rattle.heap_rule.specs.Views.{one}
 use Rattle.heap_rule.proofs.Blocks.{some_same}
@@ -43,7 +43,6 @@ use Rattle.heap_rule.proofs.Values.{address_of, packable, stands_block}
 use Rattle.steps_cycle.specs.Looks.{with_share}
 use Rattle.steps_cycle.specs.Marking.{ChangedMay, ChangedTold, IsChanging, ScanMay, ScanTold, ScannedMay, ScannedTold, scanned_on}
 use Rattle.steps_cycle.proofs.Colouring.{words_same, Recolourable}
-use Rattle.steps_cycle.proofs.GlimpseSteps.{share_closes}
 use Rattle.steps_cycle.proofs.Learning.{at_other, at_same, bare, held, kind_here, knows_more, known, shifts_more, waits_in}
 use Rattle.steps_cycle.proofs.Recolouring.{Recolours, known_still, recolours}
 use Rattle.heap_rule.specs.declared.phase.Stage.TheVariants.{In}
@@ -263,21 +262,12 @@ scan_may k x word a place may fits slots id hist s r _ at _ =
     let y : DomainView = with_share x (share' k s r id hist x at a may) in
     (one k hist y, keeps, tt, unmoved k s word (set s.views id (one k hist y)) (scan_rule k s r id hist x at a may), (subst (λ (n : ℕ). ScanTold k x (get_or s.words n 0) y) (sym place) (scan_told k s r id hist x at a may), refl))
 
-pub scan_closes : (k : Config) (x : DomainView) (found : ℕ) → Closes k x found (ScanTold k) CanLeave Leaves
-scan_closes k x found = share_closes k x found (ScanTold k) (λ y t. (record x.seen.share { scan = scanned_on x.seen.share.scan t.value }, t.view))
-
 pub scanned_may : (k : Config) (x : DomainView) (word a new : ℕ) → word ≡ before_heap k + a → ScannedMay x a new → MayStore k x word new ScannedTold
 scanned_may k x word a new place may fits slots id hist s r _ at _ =
     let y : DomainView = with_share x (record x.seen.share { scan = Idle }) in
     (one k hist y, keeps, tt, subst (λ (n : ℕ). Rule k record { words = set s.words n new; homes = s.homes; views = set s.views id (one k hist y) }) (sym place) (scanned_rule k s r id hist x at a new may), (refl, refl))
 
-pub scanned_closes : (k : Config) (x : DomainView) (new : ℕ) → Closes k x new ScannedTold CanLeave Leaves
-scanned_closes k x new = share_closes k x new ScannedTold (λ y t. (record x.seen.share { scan = Idle }, t))
-
 pub changed_may : (k : Config) (x : DomainView) → ChangedMay x → MayStore k x 3 1 ChangedTold
 changed_may k x may fits slots id hist s r _ at _ =
     let y : DomainView = with_share x (record x.seen.share { owes = false }) in
     (one k hist y, keeps, tt, stored_rule k s r id hist x at may, (refl, refl))
-
-pub changed_closes : (k : Config) (x : DomainView) → Closes k x 1 ChangedTold CanLeave Leaves
-changed_closes k x = share_closes k x 1 ChangedTold (λ y t. (record x.seen.share { owes = false }, t))

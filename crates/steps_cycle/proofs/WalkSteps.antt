@@ -1,6 +1,6 @@
 -- A domain walks through its own pools, and looks at the heads there.
 use Rattle.std.proofs.Common.{◌≡◌, ◌≢◌, ℕ, ◌+◌, ◌*◌, ◌<◌, ◌≤◌, ◌⊎◌, ◌==◌, ◌||◌, Bool, true, false, true≢false, cond, IsTrue, eq-eqb, List, [], ◌∷◌, length, get_or, set, Some, Option, None, sym, refl, ap, ◌∙◌, subst, inl, inr, ⊎_elim, arith, lt_of_not-le}
-use Rattle.std.proofs.lemmas.Bool.{le-leb, lt-leb}
+use Rattle.std.proofs.lemmas.Bool.{le-leb, lt-leb, cases_Bool}
 use mathlib.Core.Logic.{dite}
 use native.Mathlib.Decide.{ℕ_discrete, dec_le}
 use mathlib.Core.Option.{some}
@@ -30,7 +30,7 @@ use Rattle.heap_rule.specs.Layout.{before_heap, at_address, owner_of}
 use Rattle.heap_rule.specs.Places.{IsBuilt, Live, Place}
 use Rattle.heap_rule.specs.Pools.{Holder, IsBefore, blocks_of, drawn, nobody, owned, owner_word, place_in}
 use Rattle.heap_rule.specs.Cycles.{Cycling, Facts, IsCollecting, Knowing, Scanned, cycle_of, seen_by}
-use Rattle.heap_rule.specs.Raw.{CanLeave, Closes, Leaves, MayStep}
+use Rattle.heap_rule.specs.Raw.{MayStep}
 use Rattle.heap_rule.specs.Rule.{Rule, state_of}
 use Rattle.heap_rule.specs.Views.{one}
 use Rattle.heap_rule.proofs.Controls.{untouched_same}
@@ -39,7 +39,6 @@ use Rattle.heap_rule.proofs.Lots.{owned_same}
 use Rattle.steps_cycle.specs.Looks.{with_share}
 use Rattle.steps_cycle.specs.Marking.{GreyMay, GreyTold, IsGrey, IsNotGrey, MarkMay, MarkTold, OwnMay, OwnTold, begun, behind, fields_in}
 use Rattle.steps_cycle.proofs.Colouring.{BareHead, bare_head, coloured}
-use Rattle.steps_cycle.proofs.GlimpseSteps.{either_bool, share_closes}
 use Rattle.steps_cycle.proofs.Layouts.{labelled, owner_of_place}
 use Rattle.steps_cycle.proofs.Learning.{at_other, at_same, bare, held, kind_here, knows_more, known, not_promoting, shifts_more, waits_in}
 
@@ -175,9 +174,9 @@ module _ (k : Config) (s : Words) (r : Rule k s) (id : ℕ) (hist : List Entry) 
         let marked : there.head.colour ≡ colours.marked = there.colour ∙ (coloured c.paint p true is ∙ sym (ap (λ (z : Colours). z.marked) means)) in ⊎_elim
         (λ (done : m.scanned p.label ≡ true). inl (record { shape = p.shape; head = there.head; colour = inr (marked, there.tells is ∙ done) }, λ _. done))
         (λ (left : m.scanned p.label ≡ false). inr (is, record { built = (r.whole.placed.fits a p lives).built; head = there.head; colour = marked; unscanned = there.tells is ∙ left }))
-        (either_bool (m.scanned p.label)))
+        (cases_Bool (m.scanned p.label)))
         (λ (not_yet : m.marked p.label ≡ false). inl (record { shape = p.shape; head = there.head; colour = inl (there.colour ∙ (coloured c.paint p false not_yet ∙ sym (ap (λ (z : Colours). z.unmarked) means))) }, λ is. absurd (true≢false (sym is ∙ not_yet))))
-        (either_bool (m.marked p.label))
+        (cases_Bool (m.marked p.label))
 
     -- the scan of a grey block begins
     begins : IsTrue (m.marked p.label) → (shape : Shape) → p.shape ≡ shape → IsBuilt shape → Scanned live now.graph m a 0 (fields_in shape) head
@@ -320,21 +319,12 @@ own_may k x word pool may fits slots id hist s r _ at _ =
     let o = owner_told k s r id hist x at word pool may (r.account.tenancy.holder pool) refl in
     (one k hist o.0, keeps, tt, unmoved k s word (set s.views id (one k hist o.0)) o.1, (subst (λ (n : ℕ). OwnTold pool x (get_or s.words n 0) o.0) (sym may.word) o.2, refl))
 
-pub own_closes : (k : Config) (x : DomainView) (found pool : ℕ) → Closes k x found (OwnTold pool) CanLeave Leaves
-own_closes k x found pool = share_closes k x found (OwnTold pool) (λ y t. ⊎_elim (λ u. (record x.seen.share { tenure = Some (record { pool = pool; class = u.0 }) }, u.3)) (λ u. (record x.seen.share { walk = record { pool = pool + 1; slot = 0 } }, u.1)) t.told)
-
 pub mark_may : (k : Config) (x : DomainView) (word a pool class slot : ℕ) → word ≡ before_heap k + a → MarkMay x a pool class slot → MayStep k x word (λ n. n) (MarkTold a pool class slot)
 mark_may k x word a pool class slot place may fits slots id hist s r _ at _ =
     let o = looks_at k s r id hist x at a pool class slot may (r.account.live a) refl in
     (one k hist o.0, keeps, tt, unmoved k s word (set s.views id (one k hist o.0)) o.1.0, (subst (λ (n : ℕ). MarkTold a pool class slot x (get_or s.words n 0) o.0) (sym place) o.1.1, refl))
 
-pub mark_closes : (k : Config) (x : DomainView) (found a pool class slot : ℕ) → Closes k x found (MarkTold a pool class slot) CanLeave Leaves
-mark_closes k x found a pool class slot = share_closes k x found (MarkTold a pool class slot) (λ y t. ⊎_elim (λ u. (record x.seen.share { sights = a ∷ x.seen.share.sights; walk = behind pool class slot }, u.1)) (λ u. (begun a u.0 found x.seen.share, u.2)) t.told)
-
 pub grey_may : (k : Config) (x : DomainView) (word a : ℕ) → word ≡ before_heap k + a → GreyMay x a → MayStep k x word (λ n. n) (GreyTold a)
 grey_may k x word a place may fits slots id hist s r _ at _ =
     let o = grey_looks k s r id hist x at a may in
     (one k hist o.0, keeps, tt, unmoved k s word (set s.views id (one k hist o.0)) o.1, (subst (λ (n : ℕ). GreyTold a x (get_or s.words n 0) o.0) (sym place) o.2, refl))
-
-pub grey_closes : (k : Config) (x : DomainView) (found a : ℕ) → Closes k x found (GreyTold a) CanLeave Leaves
-grey_closes k x found a = share_closes k x found (GreyTold a) (λ y t. ⊎_elim (λ u. (x.seen.share, u.1)) (λ u. (begun a u.0 found x.seen.share, u.2)) t.told)

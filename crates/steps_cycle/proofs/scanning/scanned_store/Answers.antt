@@ -1,4 +1,5 @@
-use Rattle.steps_cycle.proofs.ScanSteps.{scanned_may, scanned_closes}
+use Rattle.steps_cycle.proofs.Plain.{scanned_closes}
+use Rattle.steps_cycle.proofs.ScanSteps.{scanned_may}
 use Rattle.steps_cycle.proofs.scanning.scanned_store.Goals as goal
 
 pub raw_store-requires-clause-may : goal.raw_store-requires-clause-may
