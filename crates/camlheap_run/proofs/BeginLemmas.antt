@@ -1,46 +1,24 @@
 -- The start of a heap: each domain may begin its section.
-use Rattle.std.proofs.Common.{◌≡◌, ℕ, zero, suc, ◌+◌, ◌<◌, ◌≤◌, Bool, true, false, List, [], length, map, replicate, refl, ap, ◌∙◌, arith, Some, None}
+use Rattle.std.proofs.Common.{◌≡◌, ℕ, zero, suc, ◌+◌, ◌<◌, ◌≤◌, Bool, true, false, List, [], length, map, refl, ap, ◌∙◌, arith, Some, None}
 use Rattle.std.specs.Prelude.{Option, cond, not, ◌&&◌, nat_le, slice_get, slice_index_or}
 use Rattle.std.proofs.lemmas.Bool.Decides.{nat_tests}
 use Rattle.std.specs.List.{AllByRecursion}
 use Rattle.heap_model.specs.declared.command.Command.{Command}
-use Rattle.heap_model.specs.Domains.{opening_domain, no_domain, fits_domains}
+use Rattle.heap_model.specs.Domains.{fits_domains}
 use Rattle.heap_rule.specs.declared.config.Config.{Config}
 use Rattle.heap_rule.specs.Limits.{sizes_in, first_outside, first_of}
 use Rattle.heap_rule.specs.Opening.{opening_token, opening_tokens}
 use Rattle.heap_rule.specs.Token.{SharedHeap}
-use Rattle.domain_turns.specs.Runs.{CanBegin}
 use Rattle.camlheap_run.specs.Running.{HasSection, opened}
+use Rattle.domain_turns.proofs.Beginning.{opening_begins}
 use Rattle.camlheap_run.proofs.SectionLemmas.{IsFine}
-
-not_ended : (n d : ℕ) → d < n → (slice_index_or (replicate n opening_domain) d no_domain).ended ≡ false
-not_ended zero d h = absurd (omega arith)
-not_ended (suc n) zero h = refl
-not_ended (suc n) (suc d) h = not_ended n d (omega arith)
-
-can_begin : (h : SharedHeap) (k : Config) (d : ℕ) (cs : List Command) → d < k.domains → IsFine cs → CanBegin (opening_token h.table k d) cs
-can_begin h k d cs inside fine = record {
-  acts = record { goes_on = not_ended k.domains d inside; runs = refl };
-  idle = refl;
-  at_rest = refl;
-  no_commands = refl;
-  no_replies = refl;
-  few = fine.few;
-  fit = fine.fit;
-  labels = omega arith;
-  even = refl;
-  remembers = refl;
-  quiet = refl;
-  no_copies = refl;
-  unprepared = refl;
-}
 
 -- each of these domains has a section, and may begin it
 pub have_sections : (h : SharedHeap) (k : Config) (script : List (List Command)) (from n : ℕ) → from + n ≤ k.domains → length script ≡ k.domains → ((d : ℕ) → IsFine (slice_index_or script d []))
     → AllByRecursion (HasSection script) (opening_tokens h.table k from n)
 have_sections h k script from zero few long fine = tt
 have_sections h k script from (suc n) few long fine = (
-  record { inside = omega arith; begins = can_begin h k from (slice_index_or script from []) (omega arith) (fine from) },
+  record { inside = omega arith; begins = opening_begins h k from (slice_index_or script from []) (omega arith) (fine from).few (fine from).fit },
   have_sections h k script (from + 1) n (omega arith) long fine,
 )
 

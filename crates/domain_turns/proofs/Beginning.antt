@@ -1,12 +1,14 @@
 -- How a domain stands before its first command.
-use Rattle.std.proofs.Common.{◌≡◌, ◌∙◌, ℕ, ◌/◌, ◌%◌, zero, suc, List, Option, None, replicate, ap, refl, arith}
+use Rattle.std.proofs.Common.{◌≡◌, ◌∙◌, ℕ, ◌/◌, ◌%◌, ◌<◌, ◌≤◌, zero, suc, false, length, List, Option, None, replicate, ap, refl, arith}
 use Rattle.std.specs.Prelude.{slice_index_or}
 use Rattle.heap_model.specs.declared.command.Command.{Command}
-use Rattle.heap_model.specs.Domains.{class_count}
+use Rattle.heap_model.specs.Domains.{class_count, opening_domain, no_domain}
+use Rattle.heap_rule.specs.declared.config.Config.{Config}
+use Rattle.heap_rule.specs.Opening.{opening_token}
 use Rattle.heap_rule.specs.Phases.{IsEven}
 use Rattle.heap_rule.specs.Pools.{prepared_at}
-use Rattle.heap_rule.specs.Token.{Token}
-use Rattle.domain_turns.specs.Runs.{CanBegin, IsBetween}
+use Rattle.heap_rule.specs.Token.{Token, SharedHeap}
+use Rattle.domain_turns.specs.Runs.{AllFit, CanBegin, IsBetween}
 
 nothing_prepared : (n class : ℕ) → ◌≡◌ {A = Option ℕ} (slice_index_or (replicate n None) class None) None
 nothing_prepared zero class = refl
@@ -24,4 +26,27 @@ begins_between t cs can = record {
   remembers = λ _. can.remembers;
   collected = λ _ served. cc;
   has_left = λ known left. cc;
+}
+
+not_ended : (n d : ℕ) → d < n → (slice_index_or (replicate n opening_domain) d no_domain).ended ≡ false
+not_ended zero d h = absurd (omega arith)
+not_ended (suc n) zero h = refl
+not_ended (suc n) (suc d) h = not_ended n d (omega arith)
+
+-- a domain of a heap that has just started may begin commands that fit
+pub opening_begins : (h : SharedHeap) (k : Config) (d : ℕ) (cs : List Command) → d < k.domains → length cs ≤ 200000 → AllFit cs → CanBegin (opening_token h.table k d) cs
+opening_begins h k d cs inside few fit = record {
+  acts = record { goes_on = not_ended k.domains d inside; runs = refl };
+  idle = refl;
+  at_rest = refl;
+  no_commands = refl;
+  no_replies = refl;
+  few = few;
+  fit = fit;
+  labels = omega arith;
+  even = refl;
+  remembers = refl;
+  quiet = refl;
+  no_copies = refl;
+  unprepared = refl;
 }

@@ -84,7 +84,7 @@ even_leaves k x b y Promote p stage l =
       front = ap (λ (z : DomainView). z.seen.front) v;
     })
     l.view (ap (λ (z : DomainView). kind_in z.seen.stage) v ∙ ap kind_in stage)
-even_leaves k x b y Reset p stage l = begun_leaves k x b y (reset_view b) Reset p (record { number = refl; serial = refl; arrivals = refl; made = refl; hunt = λ at_rest. at_rest; front = refl }) l (ap kind_in stage)
+even_leaves k x b y Reset p stage l = begun_leaves k x b y (reset_view b) Reset p (record { number = refl; serial = refl; arrivals = refl; made = refl; hunt = λ at_rest. at_rest; front = refl }) l.view (ap kind_in stage)
 
 pub passes_leaves : (k : Config) (x y : DomainView) (last kind : Kind) → Passes k x y last kind → Leaves x y kind
 passes_leaves k x y last kind p = ⊎_elim

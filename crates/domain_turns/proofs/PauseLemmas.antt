@@ -114,7 +114,7 @@ reset_past k x p = record {
 pub even_past : (k : Config) (kind : Kind) (x y : DomainView) → LeavesEven k kind x y → IsReady k kind x → IsPast k kind y
 even_past k Run x y l r = absurd l
 even_past k Promote x y l r = promote_past k x y l
-even_past k Reset x y l r = subst (IsPast k Reset) (sym l) (reset_past k x (reset_ready k x r))
+even_past k Reset x y l r = subst (IsPast k Reset) (sym l.view) (reset_past k x (reset_ready k x r))
 
 -- who has arrived is quiet
 pub arrived_quiet : (x y : DomainView) → y ≡ arrived_view x → Unprepared x → IsQuiet y
@@ -123,4 +123,4 @@ arrived_quiet x y is none = subst IsQuiet (sym is) (record { quiet = refl; no_co
 pub even_quiet : (k : Config) (kind : Kind) (x y : DomainView) → LeavesEven k kind x y → IsQuiet x → IsQuiet y
 even_quiet k Run x y l q = absurd l
 even_quiet k Promote x y l q = arrived_quiet l.done y l.view l.shared.unprepared
-even_quiet k Reset x y l q = arrived_quiet (reset_view x) y l q.unprepared
+even_quiet k Reset x y l q = arrived_quiet (reset_view x) y l.view q.unprepared

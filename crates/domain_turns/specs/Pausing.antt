@@ -1,5 +1,5 @@
 -- What a domain has, remembers and holds as it goes through the phases of a pause.
-use Rattle.std.specs.Prelude.{◌≡◌, ◌≢◌, ◌⊎◌, ◌++◌, List, [], ◌∷◌}
+use Rattle.std.specs.Prelude.{◌≡◌, ◌≢◌, ◌⊎◌, ◌++◌, ℕ, List, [], ◌∷◌}
 use Rattle.heap_rule.specs.declared.config.Config.{Config}
 use Rattle.heap_rule.specs.declared.view.DomainView.{DomainView}
 use Rattle.heap_rule.specs.declared.phase.Kind.{Kind}
@@ -11,7 +11,7 @@ use Rattle.heap_rule.specs.Phases.{Follows, IsEven, IsOdd}
 use Rattle.heap_rule.specs.Running.{RemembersAll}
 use Rattle.steps_pauses.specs.Pauses.{arrived_view}
 use Rattle.steps_pools.specs.Listings.{with_listing}
-use Rattle.steps_promote.specs.Promotion.{reset_view}
+use Rattle.steps_promote.specs.Promotion.{NoneYoung, reset_view}
 use Rattle.promote_claim.specs.Sharing.{Unprepared, Shared}
 
 -- no block was met, no copy is listed, and no place is prepared for one
@@ -59,15 +59,17 @@ pub record LeavesPromote (k : Config) (x y : DomainView) : Type 0 where
   pub shared : Shared k x done
   pub view : y ≡ arrived_view done
 
--- the domain emptied its minor area in Reset, and arrived
-abbrev pub LeavesReset : DomainView → DomainView → Type 0
-LeavesReset x y = y ≡ arrived_view (reset_view x)
+-- the domain emptied its minor area in Reset, where no young block was left, and arrived
+pub record LeavesReset (k : Config) (x y : DomainView) : Type 0 where
+  pub view : y ≡ arrived_view (reset_view x)
+  pub words : List ℕ
+  pub none_young : NoneYoung k x words
 
 -- what a domain does in an even phase of a pause
 abbrev pub LeavesEven : Config → Kind → DomainView → DomainView → Type 0
 LeavesEven k Run x y = ⊥
 LeavesEven k Promote x y = LeavesPromote k x y
-LeavesEven k Reset x y = LeavesReset x y
+LeavesEven k Reset x y = LeavesReset k x y
 
 -- what a pause leaves of a domain: its minor area is empty, it remembers no field, and no register holds an address of a minor area
 pub record IsCollected (k : Config) (x : DomainView) : Type 0 where

@@ -18,6 +18,8 @@ use Rattle.heap_rule.specs.declared.view.Own.{Own}
 use Rattle.heap_rule.specs.declared.view.Spot.{Spot}
 use Rattle.remembered_set.specs.Bounded.{Bounded}
 use Rattle.heap_rule.specs.Places.{class_words}
+use Rattle.heap_rule.specs.Changes.{value_at}
+use Rattle.field_access.specs.Remembered.{PutsYoung, field_of, one_more}
 use Rattle.heap_rule.specs.Limits.{sizes_in}
 use Rattle.heap_rule.specs.Running.{Runs, Stays}
 use Rattle.steps_pools.specs.Takes.{NoneFree}
@@ -109,6 +111,13 @@ abbrev pub remembered_by : Command → Own → Own → Bounded ℕ
 remembered_by (Store block index item) old new = new.remembered
 remembered_by _ old new = old.remembered
 
+-- what exactly: a store that puts a block of a minor area into a block of a pool adds the address of the field behind the others, and no other command adds one
+abbrev pub Remembers : Config → Own → Own → Command → Reply → Type 0
+Remembers k old new (Store block index item) r =
+    (PutsYoung k r (value_at old.registers block) (value_at old.registers item) → new.remembered ≡ one_more (field_of (value_at old.registers block) index) old.remembered)
+    × ((PutsYoung k r (value_at old.registers block) (value_at old.registers item) → ⊥) → new.remembered ≡ old.remembered)
+Remembers k old new _ r = new.remembered ≡ old.remembered
+
 -- what the domain then owns: the registers are those that the entry left, and all but what is named is as it was
 abbrev pub own_after : Token → Token → Command → Reply → Own
 own_after old new c r = record old.view.own {
@@ -126,3 +135,4 @@ pub record Tried (h : SharedHeap) (old new : Token) (c : Command) (r : Reply) : 
   pub heap : (new.table ≡ old.table) × (new.config ≡ old.config)
   pub stays : Stays old.view new.view
   pub own : new.view.own ≡ own_after old new c r
+  pub remembers : Remembers h.config old.view.own new.view.own c r

@@ -96,7 +96,7 @@ fn leave_reset(heap: &Heap, dom: &mut Domain)
     requires few { dom.old.view.own.arrivals < 2 ^ 60 }
     requires looked_through { dom.old.view.seen.remembered ≡ [] }
     ensures here { IsIn dom.new heap.now }
-    ensures leaves { LeavesReset dom.old.view dom.new.view }
+    ensures leaves { LeavesReset heap.now.config dom.old.view dom.new.view }
 {
     reset(heap, dom);
     arrive(heap, dom);

@@ -32,7 +32,7 @@ use Rattle.heap_rule.proofs.Lots.{number_cases}
 use Rattle.heap_rule.proofs.Beside.{extent_of}
 use Rattle.heap_rule.proofs.Classes.{slot_inside, size_least}
 use Rattle.heap_rule.proofs.Lists.{got_below}
-use Rattle.heap_rule.proofs.Keeps.{Words, my_good, remakes, knows_front, room_unused, copies_settled, no_owing, nothing_known}
+use Rattle.heap_rule.proofs.Keeps.{Words, my_good, remakes, knows_front, room_unused, copies_settled, no_owing, nothing_known, no_copied}
 use Rattle.heap_rule.proofs.Controls.{Move, Untouched, found_untouched, making_untouched, pools_untouched, grid_untouched, hunter_untouched, resting_untouched, low_untouched, pools_stock, grid_stock, moved_to}
 use Rattle.heap_rule.specs.Cycles.{Cycling, Cycled}
 use Rattle.heap_rule.proofs.FullnessLemmas.{full_back, full_kind}
@@ -157,6 +157,7 @@ module _ (k : Config) (paint : Paint) (live : Live) (graph : Graph) (words : Lis
   drop_owes x y number none remembered o = record {
     quiet = inl none;
     knows = subst (λ (c : Copying). More (known c.met) live') (sym none) (nothing_known live');
+    copied = λ a c has. absurd (no_copied y.seen.copying a c none has);
     owed = λ i w got. absurd (no_owing y.seen.copying i w none got);
     once = λ i j w q got _ _. absurd (no_owing y.seen.copying i w none got);
     listed = λ c p d e owed _. absurd (free.no_debt c p d (was_low k live c p e).1 owed);

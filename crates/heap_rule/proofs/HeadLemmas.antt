@@ -1,5 +1,5 @@
 -- Heads of blocks, whatever their colour.
-use Rattle.std.proofs.Common.{◌≡◌, ℕ, ◌<◌, Bool, ◌∙◌, None, cond, true, false, Option, sym, ap, subst, Some, IsTrue}
+use Rattle.std.proofs.Common.{◌≡◌, ℕ, ◌<◌, Bool, ◌∙◌, None, cond, true, false, Option, sym, ap, subst, Some}
 use Rattle.heap_model.specs.Fronts.{Shape, PlainShape, RawShape, EpheShape}
 use Rattle.heap_words.specs.Heads.{IsPackableHead}
 use Rattle.heap_rule.specs.Places.{Place, Paint, IsHead, IsPackableShape, head_of, colour_in, IsNewHead, HeadIs}

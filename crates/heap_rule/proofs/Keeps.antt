@@ -1,7 +1,7 @@
 -- What all kinds of step share: what a domain knows at its seat, and that the rule holds again where the whole, the own domain and each other one meet it.
 use Rattle.std.proofs.lemmas.Option.{slice_get_within}
 use Rattle.heap_rule.specs.declared.phase.Kind.{Kind}
-use Rattle.std.proofs.Common.{zero-le, slice_get, inl, inr, ⊎_elim, None, ◌≡◌, ◌≢◌, ℕ, zero, suc, ◌+◌, ◌*◌, ◌<◌, ◌≤◌, false, List, [], ◌∷◌, ◌++◌, length, get_or, set, Some, sym, refl, ap, ◌∙◌, subst, arith, length-set, get_or-set_other, append_assoc, ◌⊎◌, Option, true, IsTrue, Bool}
+use Rattle.std.proofs.Common.{zero-le, slice_get, inl, inr, ⊎_elim, None, ◌≡◌, ◌≢◌, ℕ, zero, suc, ◌+◌, ◌*◌, ◌<◌, ◌≤◌, false, List, [], ◌∷◌, ◌++◌, length, get_or, set, Some, sym, refl, ap, ◌∙◌, subst, arith, length-set, get_or-set_other, append_assoc, ◌⊎◌, Option, true, IsTrue}
 use mathlib.Core.Logic.{dite}
 use native.Mathlib.Decide.{ℕ_discrete}
 use mathlib.Core.Option.{some}
@@ -34,7 +34,7 @@ use Rattle.heap_rule.specs.Layout.{before_heap, barrier, plan, ended_word, liste
 use Rattle.heap_rule.specs.declared.view.Copying.{Copying}
 use Rattle.heap_rule.specs.declared.view.Owing.{Owing}
 use Rattle.heap_rule.specs.Places.{Debt, Place, Live, Stands, Placed, Spread, Settled, More, extent}
-use Rattle.heap_rule.specs.Copies.{nothing_copied, known, Owes, IsField, Recalls, Copies, Promoting, IsOldValue, Rooted}
+use Rattle.heap_rule.specs.Copies.{nothing_copied, known, Owes, IsField, Recalls, Copies, Promoting, IsOldValue, Rooted, ListsCopy}
 use Rattle.heap_rule.specs.Changes.{value_at}
 use Rattle.heap_rule.specs.Views.{EachView, AllDomains, IsSeated, Knows, one}
 use Rattle.heap_rule.specs.declared.phase.Kind.TheVariants.{Run, Promote}
@@ -71,6 +71,9 @@ no_debt live settled c p d lives owed = let e : ◌≡◌ {A = Option Debt} None
 pub no_owing : (c : Copying) (i : ℕ) (o : Owing) → c ≡ nothing_copied → slice_get c.pending i ≡ Some o → ⊥
 no_owing c i o none got = let e : ◌≡◌ {A = Option Owing} None (Some o) = sym (ap (λ (z : Copying). slice_get z.pending i) none) ∙ got in cc
 
+pub no_copied : (c : Copying) (a d : ℕ) → c ≡ nothing_copied → ListsCopy c.copied a d → ⊥
+no_copied c a d none has = subst (λ (z : Copying). ListsCopy z.copied a d) none has
+
 pub nothing_known : (live : Live) → More (known []) live
 nothing_known live a p e = let f : ◌≡◌ {A = Option Place} None (Some p) = e in cc
 
@@ -94,6 +97,7 @@ pub owes_run : (k : Config) (live live' : Live) (z y : DomainView) → Settled l
 owes_run k live live' z y settled none number remembered more recalls o = record {
   quiet = inl none;
   knows = subst (λ (c : Copying). More (known c.met) live') (sym none) (nothing_known live');
+  copied = λ a c has. absurd (no_copied y.seen.copying a c none has);
   owed = λ i o got. absurd (no_owing y.seen.copying i o none got);
   once = λ i j o q got _ _. absurd (no_owing y.seen.copying i o none got);
   listed = λ c p d lives owed _. absurd (no_debt live' settled c p d lives owed);
@@ -108,6 +112,7 @@ owes_as k live x y number copying stage remembered o = record {
   fields = λ j at got. o.fields j at (ap (λ (l : List ℕ). slice_get l j) (sym remembered) ∙ got);
   quiet = ⊎_elim (λ (h : x.seen.copying ≡ nothing_copied). inl (copying ∙ h)) (λ (h : x.seen.stage ≡ In Promote). inr (stage ∙ h)) o.quiet;
   knows = subst (λ (c : Copying). More (known c.met) live) (sym copying) o.knows;
+  copied = λ a c has. o.copied a c (subst (λ (z : Copying). ListsCopy z.copied a c) copying has);
   owed = λ i w got. let t = o.owed i w (ap (λ (c : Copying). slice_get c.pending i) (sym copying) ∙ got) in record { place = t.place; lives = t.lives; debt = t.debt ∙ ap (λ (n : ℕ). Some (record { source = w.source; domain = n; filled = w.filled })) (sym number) };
   once = λ i j w q got got'. o.once i j w q (ap (λ (c : Copying). slice_get c.pending i) (sym copying) ∙ got) (ap (λ (c : Copying). slice_get c.pending j) (sym copying) ∙ got');
   listed = λ c p d lives owed mine. let t = o.listed c p d lives owed (mine ∙ number) in (t.0, ap (λ (z : Copying). slice_get z.pending t.0) copying ∙ t.1);
@@ -118,6 +123,7 @@ pub owes_rests : (k : Config) (live : Live) (x y : DomainView) → y.own.number 
 owes_rests k live x y number none idle remembered o = record {
   quiet = inl none;
   knows = subst (λ (c : Copying). More (known c.met) live) (sym none) (nothing_known live);
+  copied = λ a c has. absurd (no_copied y.seen.copying a c none has);
   owed = λ i w got. absurd (no_owing y.seen.copying i w none got);
   once = λ i j w q got _ _. absurd (no_owing y.seen.copying i w none got);
   listed = λ c p d lives owed mine. let t = o.listed c p d lives owed (mine ∙ number) in absurd (no_item x.seen.copying.pending t.0 _ idle t.1);

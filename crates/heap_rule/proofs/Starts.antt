@@ -211,6 +211,7 @@ module _ (k : Config) (limits : IsWithinLimits (sizes_in k)) (words : List ℕ) 
   first_owes d = record {
     quiet = inl refl;
     knows = λ a p e. let f : ◌≡◌ {A = Option Place} None (Some p) = e in cc;
+    copied = λ a c has. absurd has;
     owed = λ i o e. cc;
     once = λ i j o q e f g. cc;
     listed = λ c p debt lives owed _. absurd (let e : ◌≡◌ {A = Option Debt} None (Some debt) = sym (only_settled c p lives).no_debt ∙ owed in cc);

@@ -5,6 +5,7 @@ use Rattle.heap_rule.specs.declared.view.Form.{Form}
 use Rattle.heap_rule.specs.declared.view.Form.TheVariants.{Plain, Ephe}
 use Rattle.heap_rule.specs.declared.view.Met.{Met}
 use Rattle.heap_rule.specs.declared.view.Owing.{Owing}
+use Rattle.heap_rule.specs.declared.view.Copied.{Copied}
 use Rattle.heap_rule.specs.declared.view.Copying.{Copying}
 use Rattle.heap_rule.specs.declared.view.DomainView.{DomainView}
 use Rattle.heap_rule.specs.declared.phase.Kind.{Kind}
@@ -19,7 +20,7 @@ use Rattle.heap_rule.specs.Places.{Debt, Place, Live, More, extent, IsOldAt}
 
 -- no block was met, and no copy is to be filled
 abbrev pub nothing_copied : Copying
-nothing_copied = record { met = []; pending = [] }
+nothing_copied = record { met = []; pending = []; copied = [] }
 
 abbrev pub shape_of_form : Form → Shape
 shape_of_form (Plain size tag) = PlainShape size tag
@@ -43,6 +44,21 @@ pub record IsOwed (live : Live) (x : DomainView) (o : Owing) : Type 0 where
   pub lives : live o.copy ≡ Some place
   pub debt : place.owed ≡ Some (debt_of x o)
 
+-- this copy of the block at an address is one of the list
+abbrev pub ListsCopy : List Copied → ℕ → ℕ → Type 0
+ListsCopy [] a c = ⊥
+ListsCopy (d ∷ ds) a c = ((d.source ≡ a) × (d.copy ≡ c)) ⊎ ListsCopy ds a c
+
+-- the domain knows that the block at an address has this copy
+abbrev pub HasCopy : DomainView → ℕ → ℕ → Type 0
+HasCopy x a c = ListsCopy x.seen.copying.copied a c
+
+-- the head of the block at an address forwards to this copy
+pub record IsCopied (live : Live) (a c : ℕ) : Type 0 where
+  pub place : Place
+  pub lives : live a ≡ Some place
+  pub forwards : place.forward ≡ Some c
+
 -- an address is that of a value of a filled block in a pool
 pub record IsField (k : Config) (live : Live) (at : ℕ) : Type 0 where
   pub block : ℕ
@@ -54,10 +70,11 @@ pub record IsField (k : Config) (live : Live) (at : ℕ) : Type 0 where
   pub old : IsOldAt k block
   pub filled : place.owed ≡ None
 
--- all that the rule says of one domain's copies: it met and owes nothing but in Promote, the blocks that it met live, the copies that it owes values are those in its list, each once, and its list of remembered fields has those that it is said to remember
+-- all that the rule says of one domain's copies: it met and owes nothing but in Promote, the blocks that it met live, those of which it knows a copy forward to it, the copies that it owes values are those in its list, each once, and its list of remembered fields has those that it is said to remember
 pub record Owes (k : Config) (live : Live) (x : DomainView) : Type 0 where
   pub quiet : (x.seen.copying ≡ nothing_copied) ⊎ (x.seen.stage ≡ In Promote)
   pub knows : More (known x.seen.copying.met) live
+  pub copied : (a c : ℕ) → HasCopy x a c → IsCopied live a c
   pub owed : (i : ℕ) (o : Owing) → slice_get x.seen.copying.pending i ≡ Some o → IsOwed live x o
   pub once : (i j : ℕ) (o q : Owing) → slice_get x.seen.copying.pending i ≡ Some o → slice_get x.seen.copying.pending j ≡ Some q → o.copy ≡ q.copy → i ≡ j
   pub listed : (c : ℕ) (p : Place) (d : Debt) → live c ≡ Some p → p.owed ≡ Some d → d.domain ≡ x.own.number → (i : ℕ) × (slice_get x.seen.copying.pending i ≡ Some (record { copy = c; source = d.source; filled = d.filled }))

@@ -75,7 +75,7 @@ opening_view k d = record {
     prepared = replicate class_count None;
     pending = record { items = []; room = pending_room k };
   };
-  seen = record { front = []; made = []; stage = In Run; notes = []; hunt = Rests; free = None; listing = None; copying = record { met = []; pending = [] }; remembered = []; share = fresh_share };
+  seen = record { front = []; made = []; stage = In Run; notes = []; hunt = Rests; free = None; listing = None; copying = record { met = []; pending = []; copied = [] }; remembered = []; share = fresh_share };
 }
 
 -- n domains from d on

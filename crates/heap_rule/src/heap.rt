@@ -7,6 +7,7 @@ ghost use Rattle.heap_rule.specs.Limits.{sizes_in, first_outside};
 ghost use Rattle.heap_rule.specs.Opening.{opening_token, opening_tokens};
 ghost use Rattle.heap_rule.specs.Ending.{AllIn, AllBegin};
 ghost use Rattle.heap_rule.specs.Views.{first_view};
+ghost use Rattle.heap_rule.specs.Meeting.{SameCopies};
 ghost use Rattle.heap_rule.specs.Phases.{Agree};
 ghost use Rattle.heap_rule.specs.Token.{IsIn};
 
@@ -162,10 +163,12 @@ impl Heap {
 impl Heap {
     /// Brings two domains together for a moment. Both come back as they were, and each act where the
     /// other may: while one is in a phase of a pause the other doesn't run, and two that are in even
-    /// phases, and haven't arrived there, are in phases of one kind.
+    /// phases, and haven't arrived there, are in phases of one kind. While they copy young blocks, no
+    /// block has two copies: where both know of one, it is the same.
     pub fn meet(&self, a: Domain, b: Domain) -> (Domain, Domain)
         requires here { IsIn a self.now × IsIn b self.now }
         ensures agree { Agree a.view.seen.stage b.view.seen.stage }
+        ensures copies { SameCopies a.view a.view × SameCopies a.view b.view × SameCopies b.view b.view }
         ensures same { (result.0 ≡ a) × (result.1 ≡ b) }
     {
         let Domain {

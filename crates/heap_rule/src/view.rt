@@ -130,6 +130,8 @@ pub struct Owing {
 pub struct Copying {
     pub met: LinkedList<Met>,
     pub pending: LinkedList<Owing>,
+    /// The young blocks of which it knows a copy, its own or another domain's.
+    pub copied: LinkedList<Copied>,
 }
 
 /// A head that a domain found.

@@ -20,8 +20,8 @@ use Rattle.steps_promote.specs.Promotion.{Knows, with_pending, StaysThere, Forwa
 use Rattle.promote_claim.specs.Heads.{IsHeadFor}
 use Rattle.promote_claim.specs.Working.{IsPair, Works, Tied, owed_from, with_claims, Grown, Forwarded, StandsFor}
 use Rattle.promote_claim.specs.Filling.{FilledTo, Progress}
-use Rattle.promote_claim.proofs.Meeting.{grown_met, head_grown, met_value_inside, owed_append}
-use Rattle.promote_claim.proofs.Valuing.{old_word}
+use Rattle.promote_claim.proofs.Meeting.{grown_met, head_grown, learns_twice, met_value_inside, owed_append}
+use Rattle.steps_promote.proofs.Resets.{old_word}
 
 module _ {A : Type 0} where
   drop_suc : (l : List A) (i : ℕ) (a : A) → slice_get l i ≡ Some a → drop i l ≡ a ∷ drop (suc i) l
@@ -84,6 +84,7 @@ module _ (k : Config) (i : ℕ) (c : Copied) (x : DomainView) where
       let same : extent l.place.shape ≡ extent told.place.shape = ap extent l.shape in record {
         view = g.view;
         works = g.works;
+        learns = g.learns;
         item = here;
         pending = tied_grown k i x y few t g ∙ ap owed_from (drop_item y.own.pending.items i c here);
         place = l.place;
@@ -100,10 +101,11 @@ module _ (k : Config) (i : ℕ) (c : Copied) (x : DomainView) where
     -- claims leave how far it is filled
     pub progress_claims : (y z : DomainView) → Progress k i c size n x y → Grown k y z → Progress k i c size n x z
     progress_claims y z p g =
-        let m = g.more c.copy p.place p.met in
+        let m = g.learns.more c.copy p.place p.met in
         let few : i + 1 ≤ length y.own.pending.items = (let b = get_below y.own.pending.items i c p.item in omega arith) in record {
           view = claims_twice x y z p.view g.view;
           works = g.works;
+          learns = learns_twice x y z p.learns g.learns;
           item = ap (λ (l : List Copied). slice_get l i) g.items ∙ get_append y.own.pending.items g.made i c p.item;
           pending = g.owed ∙ (ap (λ l. l ++ owed_from g.made) p.pending ∙ ap (λ l. record { copy = c.copy; source = c.source; filled = n } ∷ l)
               (sym (owed_append (drop (i + 1) y.own.pending.items) g.made) ∙ ap owed_from (sym (drop_append y.own.pending.items g.made (i + 1) few) ∙ ap (drop (i + 1)) (sym g.items))));
@@ -158,10 +160,10 @@ module _ (k : Config) (i : ℕ) (c : Copied) (x : DomainView) where
             fill_may =
                 let q = progress_forwarded in
                 let front : y2.seen.front ≡ y.seen.front = ap (λ (z : DomainView). z.seen.front) fw.grown.view ∙ ap (λ (z : DomainView). z.seen.front) told.view in
-                let m = fw.grown.more c.copy (value_grown.more c.copy p.place p.met).place (value_grown.more c.copy p.place p.met).lives in
+                let m = fw.grown.learns.more c.copy (value_grown.learns.more c.copy p.place p.met).place (value_grown.learns.more c.copy p.place p.met).lives in
                 let there : q.place ≡ m.place = some_same q.place m.place (sym q.met ∙ m.lives) in
                 let from : told.place ≡ pair.same.from = some_same told.place pair.same.from (sym told.met ∙ pair.same.here) in
-                let label : told.place.label ≡ q.place.label = ap (λ (o : Place). o.label) from ∙ (sym pair.same.label ∙ (ap (λ (o : Place). o.label) to_is ∙ (sym (value_grown.more c.copy p.place p.met).label ∙ (sym m.label ∙ ap (λ (o : Place). o.label) (sym there))))) in record {
+                let label : told.place.label ≡ q.place.label = ap (λ (o : Place). o.label) from ∙ (sym pair.same.label ∙ (ap (λ (o : Place). o.label) to_is ∙ (sym (value_grown.learns.more c.copy p.place p.met).label ∙ (sym m.label ∙ ap (λ (o : Place). o.label) (sym there))))) in record {
                   stage = q.works.stage;
                   first = record { copy = c.copy; source = c.source; filled = n };
                   rest = owed_from (drop (i + 1) y2.own.pending.items);
@@ -189,6 +191,7 @@ module _ (k : Config) (i : ℕ) (c : Copied) (x : DomainView) where
           subst (λ (v : DomainView). Progress k i c size (n + 1) x v) (sym e) record {
             view = whole;
             works = works_pending l;
+            learns = record { more = p.learns.more; copies = p.learns.copies };
             item = p.item;
             pending = refl;
             place = p.place;
@@ -208,6 +211,7 @@ module _ (k : Config) (i : ℕ) (c : Copied) (x : DomainView) where
           subst (FilledTo k (i + 1) x) (sym e) record {
             view = claims_twice x y (with_pending y l) p.view refl;
             works = record { stage = w.stage; at_rest = w.at_rest; fit = w.fit; placed = w.placed; pairs = λ j b got. let o = w.pairs j b got in record { young = o.young; old = o.old; same = o.same } };
+            learns = record { more = p.learns.more; copies = p.learns.copies };
             tied = refl;
             some = (let b = get_below y.own.pending.items i c p.item in let g : i + 1 ≤ length y.own.pending.items = omega arith in g);
           }

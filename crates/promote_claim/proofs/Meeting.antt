@@ -1,5 +1,5 @@
 -- What a domain that copies knows after it has met a block.
-use Rattle.std.proofs.Common.{◌≡◌, ℕ, ◌+◌, ◌*◌, ◌^◌, ◌<◌, ◌≤◌, cond, eq-eqb, Bool, false, List, [], ◌∷◌, ◌++◌, append-nil, append_assoc, slice_get, Option, Some, None, sym, refl, ap, ◌∙◌, subst, ⊎_elim, arith}
+use Rattle.std.proofs.Common.{◌≡◌, ℕ, ◌+◌, ◌*◌, ◌^◌, ◌<◌, ◌≤◌, cond, eq-eqb, Bool, false, List, [], ◌∷◌, ◌++◌, append-nil, append_assoc, slice_get, Option, Some, None, sym, refl, ap, ◌∙◌, subst, inl, inr, ⊎_elim, arith}
 use Rattle.heap_model.specs.Domains.{IsWithinLimits}
 use Rattle.heap_model.specs.Fronts.{Shape, PlainShape, RawShape, EpheShape}
 use Rattle.heap_words.specs.declared.head.Head.TheVariants.{Forward}
@@ -10,16 +10,16 @@ use Rattle.heap_rule.specs.declared.config.Config.{Config}
 use Rattle.heap_rule.specs.declared.view.Copied.{Copied}
 use Rattle.heap_rule.specs.declared.view.Met.{Met}
 use Rattle.heap_rule.specs.declared.view.DomainView.{DomainView}
-use Rattle.heap_rule.specs.Copies.{met_place, shape_of_form, known}
+use Rattle.heap_rule.specs.Copies.{ListsCopy, HasCopy, met_place, shape_of_form, known}
 use Rattle.heap_rule.specs.Limits.{sizes_in}
 use Rattle.heap_rule.specs.Layout.{heap_words}
 use Rattle.heap_rule.specs.Places.{Place, Live, extent, unmarked, head_of, IsBuilt, IsNewHead, IsOldAt, Lasts, More}
 use Rattle.heap_rule.specs.Pools.{prepared_at}
 use Rattle.heap_rule.specs.Standing.{IsInHeap}
 use Rattle.heap_rule.proofs.Values.{address_of}
-use Rattle.steps_promote.specs.Promotion.{form_of, met_of, with_met, AllFit, Knows, StaysThere, Forwards, HeadMet}
+use Rattle.steps_promote.specs.Promotion.{form_of, met_of, with_met, with_copied, AllFit, Knows, StaysThere, Forwards, HeadMet}
 use Rattle.promote_claim.specs.Heads.{IsForward, forward_word, IsHeadFor}
-use Rattle.promote_claim.specs.Working.{SameBlock, IsPair, Works, owed_from, with_claims, Grown, IsMetWith, Claimed}
+use Rattle.promote_claim.specs.Working.{SameBlock, IsPair, Works, owed_from, with_claims, Learns, Grown, IsMetWith, Claimed}
 
 pub form_shape : (s : Shape) → IsBuilt s → shape_of_form (form_of s) ≡ s
 form_shape (PlainShape size tag) built = refl
@@ -72,11 +72,18 @@ pub met_value_inside : (k : Config) (x : DomainView) (a i : ℕ) (p : Place) →
 met_value_inside k x a i p fit e below = let f = fit a p e in let w : ℕ = heap_words k in let l : 1 ≤ a = f.low in let n : ℕ = extent p.shape in let h : a + n ≤ w + 1 = f.high in let b : i + 2 < n = below in
     (let g : 1 ≤ a + 2 + i = omega arith in g, let g : a + 2 + i ≤ w = omega arith in g)
 
-pub met_view : (x y : DomainView) (met : List Met) → y ≡ with_met x met → y ≡ with_met x y.seen.copying.met
-met_view x y met e = e ∙ ap (with_met x) (sym (ap (λ (z : DomainView). z.seen.copying.met) e))
+pub learns_same : (x : DomainView) → Learns x x
+learns_same x = record { more = more_same (Knows x); copies = λ a c has. has }
 
--- a block was met, and nothing else has changed
-module _ (k : Config) (x y : DomainView) (e : y ≡ with_met x y.seen.copying.met) (more : More (Knows x) (Knows y)) (fit : AllFit k y) (w : Works k x) where
+pub learns_twice : (x y z : DomainView) → Learns x y → Learns y z → Learns x z
+learns_twice x y z f g = record { more = more_twice (Knows x) (Knows y) (Knows z) f.more g.more; copies = λ a c has. g.copies a c (f.copies a c has) }
+
+-- the domain with other blocks met, and other copies known
+abbrev met_with_copies : DomainView → List Met → List Copied → DomainView
+met_with_copies x met copied = with_copied (with_met x met) copied
+
+-- blocks were met, and nothing else has changed
+module _ (k : Config) (x y : DomainView) (met : List Met) (copied : List Copied) (e : y ≡ met_with_copies x met copied) (more : More (Knows x) (Knows y)) (copies : (a c : ℕ) → HasCopy x a c → ListsCopy copied a c) (fit : AllFit k y) (w : Works k x) where
   pub works_on : Works k y
   works_on = record {
     stage = ap (λ (z : DomainView). z.seen.stage) e ∙ w.stage;
@@ -86,29 +93,33 @@ module _ (k : Config) (x y : DomainView) (e : y ≡ with_met x y.seen.copying.me
     pairs = λ i c got. pair_more k x y c more (w.pairs i c (ap (λ (z : DomainView). slice_get z.own.pending.items i) (sym e) ∙ got));
   }
 
-  pub grown_met : Grown k x y
-  grown_met = record {
+  pub grown_with : Grown k x y
+  grown_with = record {
     view = e ∙ ap (with_claims x) (sym e);
     works = works_on;
-    more = more;
+    learns = record { more = more; copies = λ a c has. subst (λ (z : DomainView). HasCopy z a c) (sym e) (copies a c has) };
     made = [];
     items = ap (λ (z : DomainView). z.own.pending.items) e ∙ sym (append-nil x.own.pending.items);
     owed = ap (λ (z : DomainView). z.seen.copying.pending) e ∙ sym (append-nil x.seen.copying.pending);
   }
+
+-- where no copy was found
+pub grown_met : (k : Config) (x y : DomainView) → y ≡ with_met x y.seen.copying.met → More (Knows x) (Knows y) → AllFit k y → Works k x → Grown k x y
+grown_met k x y e more fit w = grown_with k x y y.seen.copying.met x.seen.copying.copied e more (λ a c has. has) fit w
 
 pub owed_append : (a b : List Copied) → owed_from (a ++ b) ≡ owed_from a ++ owed_from b
 owed_append [] b = refl
 owed_append (c ∷ cs) b = ap (λ l. record { copy = c.copy; source = c.source; filled = 0 } ∷ l) (owed_append cs b)
 
 pub grown_none : (k : Config) (x : DomainView) → Works k x → Grown k x x
-grown_none k x w = record { view = refl; works = w; more = more_same (Knows x); made = []; items = sym (append-nil x.own.pending.items); owed = sym (append-nil x.seen.copying.pending) }
+grown_none k x w = record { view = refl; works = w; learns = learns_same x; made = []; items = sym (append-nil x.own.pending.items); owed = sym (append-nil x.seen.copying.pending) }
 
 -- claims one behind the other
 pub grown_twice : (k : Config) (x y z : DomainView) → Grown k x y → Grown k y z → Grown k x z
 grown_twice k x y z a b = record {
   view = b.view ∙ ap (λ (v : DomainView). with_claims v z) a.view;
   works = b.works;
-  more = more_twice (Knows x) (Knows y) (Knows z) a.more b.more;
+  learns = learns_twice x y z a.learns b.learns;
   made = a.made ++ b.made;
   items = b.items ∙ (ap (λ (l : List Copied). l ++ b.made) a.items ∙ append_assoc x.own.pending.items a.made b.made);
   owed = b.owed ∙ (ap (λ l. l ++ owed_from b.made) a.owed ∙ (append_assoc x.seen.copying.pending (owed_from a.made) (owed_from b.made) ∙ ap (λ l. x.seen.copying.pending ++ l) (sym (owed_append a.made b.made))));
@@ -128,13 +139,11 @@ forward_same a b e = let h : 3 + 2 ^ 32 * a ≡ 3 + 2 ^ 32 * b = e in omega arit
 
 -- the head of a block that was met
 module _ (k : Config) (at : ℕ) (x : DomainView) (word : ℕ) (y : DomainView) (told : HeadMet k at x word y) (limits : IsWithinLimits (sizes_in k)) where
-  head_view : y ≡ with_met x y.seen.copying.met
-  head_view = ⊎_elim (λ (t : StaysThere at told.place x word y). met_view x y (met_of at told.place ∷ x.seen.copying.met) t.view)
-      (λ (t : Forwards k at told.place x word y). met_view x y (met_of t.copy told.place ∷ met_of at told.place ∷ x.seen.copying.met) t.view)
-      told.told
-
   pub head_grown : Works k x → Grown k x y
-  head_grown w = grown_met k x y head_view told.more told.fit w
+  head_grown w = ⊎_elim
+      (λ (t : StaysThere at told.place x word y). grown_with k x y (met_of at told.place ∷ x.seen.copying.met) x.seen.copying.copied t.view told.more (λ a c has. has) told.fit w)
+      (λ (t : Forwards k at told.place x word y). grown_with k x y (met_of t.copy told.place ∷ met_of at told.place ∷ x.seen.copying.met) (record { copy = t.copy; source = at } ∷ x.seen.copying.copied) t.view told.more (λ a c has. inr has) told.fit w)
+      told.told
 
   -- where the head forwards, the copy was met
   pub head_claimed : (copy : ℕ) → Works k x → IsForward copy × (forward_word copy ≡ word) → Claimed k at x y copy
@@ -144,6 +153,7 @@ module _ (k : Config) (at : ℕ) (x : DomainView) (word : ℕ) (y : DomainView) 
       subst (Claimed k at x y) (forward_same t.copy copy (sym t.word ∙ sym leads.1)) record {
         grown = head_grown w;
         old = t.old;
+        copied = subst (λ (z : DomainView). HasCopy z at t.copy) (sym t.view) (inl (refl, refl));
         same = same_lasts (Knows y) at t.copy told.place told.here t.there;
       })
       told.told
@@ -162,4 +172,4 @@ pub head_for : (k : Config) (x : DomainView) (a word : ℕ) → AllFit k x → (
 head_for k x a word fit m = let f = fit a m.place m.met in record { built = f.built; packable = f.head; head = m.head }
 
 pub claimed_after : (k : Config) (a c : ℕ) (x y z : DomainView) → Grown k x y → Claimed k a y z c → Claimed k a x z c
-claimed_after k a c x y z g t = record { grown = grown_twice k x y z g t.grown; old = t.old; same = t.same }
+claimed_after k a c x y z g t = record { grown = grown_twice k x y z g t.grown; old = t.old; copied = t.copied; same = t.same }

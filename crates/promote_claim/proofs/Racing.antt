@@ -1,5 +1,5 @@
 -- The claim of a block that was met.
-use Rattle.std.proofs.Common.{◌≡◌, ◌≢◌, ℕ, ◌+◌, ◌*◌, ◌<◌, ◌≤◌, List, [], ◌∷◌, ◌++◌, length, append-nil, set, slice_get, Option, Some, None, sym, ap, ◌∙◌, subst, ⊎_elim, arith, get_or-set_other}
+use Rattle.std.proofs.Common.{◌≡◌, ◌≢◌, ℕ, ◌+◌, ◌*◌, ◌<◌, ◌≤◌, List, [], ◌∷◌, ◌++◌, length, append-nil, set, slice_get, Option, Some, None, inl, inr, refl, sym, ap, ◌∙◌, subst, ⊎_elim, arith, get_or-set_other}
 use mathlib.Core.Logic.{dite}
 use native.Mathlib.Decide.{ℕ_discrete}
 use Rattle.heap_model.specs.Domains.{class_count, IsWithinLimits}
@@ -10,7 +10,7 @@ use Rattle.heap_rule.specs.declared.view.Copied.{Copied}
 use Rattle.heap_rule.specs.declared.view.Copying.{Copying}
 use Rattle.heap_rule.specs.declared.view.Hunt.TheVariants.{Rests, Heads}
 use Rattle.heap_rule.specs.declared.view.DomainView.{DomainView}
-use Rattle.heap_rule.specs.Copies.{met_place, known}
+use Rattle.heap_rule.specs.Copies.{ListsCopy, HasCopy, met_place, known}
 use Rattle.heap_rule.specs.Limits.{sizes_in}
 use Rattle.heap_rule.specs.Places.{Place, Live, IsBuilt, IsOldAt, More}
 use Rattle.heap_rule.specs.Pools.{prepared_at}
@@ -50,15 +50,20 @@ module _ (k : Config) (young word class copy : ℕ) (x p y : DomainView) (few : 
       shape = form_shape told.place.shape (subst (λ (q : Place). IsBuilt q.shape) (sym told_place) (w.fit young m.place m.met).built) ∙ ap (λ (q : Place). q.shape) told_place;
     }
 
+    -- one copy more is known
+    now_copied : (c : ℕ) → z.seen.copying.copied ≡ record { copy = c; source = young } ∷ x.seen.copying.copied → (a d : ℕ) → ListsCopy (record { copy = c; source = young } ∷ x.seen.copying.copied) a d → HasCopy z a d
+    now_copied c e a d has = subst (λ (l : List Copied). ListsCopy l a d) (sym e) has
+
     pub claim_lost : (c : ℕ) → found ≢ word → IsForward c × (forward_word c ≡ found) → Claimed k young x z c
     claim_lost c miss leads =
         let l = told.lost miss in
         let same : l.copy ≡ c = forward_same l.copy c (sym l.word ∙ sym leads.1) in
-        let e = l.view ∙ ap (λ (v : DomainView). record v { seen = record v.seen { hunt = Rests; copying = record v.seen.copying { met = met_of l.copy told.place ∷ v.seen.copying.met } } }) (wrote.view ∙ ap (λ (v : DomainView). with_hunt v (Heads copy (label_word wrote.place.label.domain wrote.place.label.serial) word)) ready.view) in
+        let e = l.view ∙ ap (λ (v : DomainView). record v { seen = record v.seen { hunt = Rests; copying = record v.seen.copying { met = met_of l.copy told.place ∷ v.seen.copying.met; copied = record { copy = l.copy; source = young } ∷ v.seen.copying.copied } } }) (wrote.view ∙ ap (λ (v : DomainView). with_hunt v (Heads copy (label_word wrote.place.label.domain wrote.place.label.serial) word)) ready.view) in
         let copying = ap (λ (v : DomainView). v.seen.copying) e in
         let pending : z.seen.copying.pending ≡ x.seen.copying.pending = ap (λ (c : Copying). c.pending) copying ∙ ap (λ (c : Copying). c.pending) ready.copying in
         let items : z.own.pending.items ≡ x.own.pending.items = ap (λ (v : DomainView). v.own.pending.items) e ∙ ap (λ b. b.items) ready.pending in
         let hunt : z.seen.hunt ≡ Rests = ap (λ (v : DomainView). v.seen.hunt) e in
+        let found_copies : z.seen.copying.copied ≡ record { copy = l.copy; source = young } ∷ x.seen.copying.copied = ap (λ (c : Copying). c.copied) copying ∙ ap (λ (c : Copying). record { copy = l.copy; source = young } ∷ c.copied) ready.copying in
         subst (Claimed k young x z) same record {
           grown = record {
             view = e ∙ ap (with_claims x) (sym e);
@@ -69,12 +74,13 @@ module _ (k : Config) (young word class copy : ℕ) (x p y : DomainView) (few : 
               placed = λ b a below is. ready.works.placed b a below (sym (ap (λ (v : DomainView). prepared_at v.own.prepared b) e) ∙ is);
               pairs = λ i b got. pair_more k x z b more_now (w.pairs i b (ap (λ (l : List Copied). slice_get l i) (sym items) ∙ got));
             };
-            more = more_now;
+            learns = record { more = more_now; copies = λ a d has. now_copied l.copy found_copies a d (inr has) };
             made = [];
             items = items ∙ sym (append-nil x.own.pending.items);
             owed = pending ∙ sym (append-nil x.seen.copying.pending);
           };
           old = l.old;
+          copied = now_copied l.copy found_copies young l.copy (inl (refl, refl));
           same = met_at l.copy (ap (λ (v : DomainView). Knows v l.copy) l.view ∙ known_here (met_of l.copy told.place) y.seen.copying.met);
         }
 
@@ -86,10 +92,11 @@ module _ (k : Config) (young word class copy : ℕ) (x p y : DomainView) (few : 
     claim_won hit =
         let l = told.won hit in
         let owing : Copied = record { copy = copy; source = young } in
-        let e = l.view ∙ ap (λ (v : DomainView). record { own = preparing (pushed v.own copy young) class None; seen = record v.seen { hunt = Rests; copying = record { met = met_of copy told.place ∷ v.seen.copying.met; pending = v.seen.copying.pending ++ record { copy = copy; source = young; filled = 0 } ∷ [] } } })
+        let e = l.view ∙ ap (λ (v : DomainView). record { own = preparing (pushed v.own copy young) class None; seen = record v.seen { hunt = Rests; copying = record { met = met_of copy told.place ∷ v.seen.copying.met; pending = v.seen.copying.pending ++ record { copy = copy; source = young; filled = 0 } ∷ []; copied = record { copy = copy; source = young } ∷ v.seen.copying.copied } } })
         (wrote.view ∙ ap (λ (v : DomainView). with_hunt v (Heads copy (label_word wrote.place.label.domain wrote.place.label.serial) word)) ready.view) in
         let items : z.own.pending.items ≡ x.own.pending.items ++ owing ∷ [] = ap (λ (v : DomainView). v.own.pending.items) e ∙ ap (λ b. b.items ++ owing ∷ []) ready.pending in
         let pending : z.seen.copying.pending ≡ x.seen.copying.pending ++ record { copy = copy; source = young; filled = 0 } ∷ [] = ap (λ (v : DomainView). v.seen.copying.pending) e ∙ ap (λ (c : Copying). c.pending ++ record { copy = copy; source = young; filled = 0 } ∷ []) ready.copying in
+        let made_copies : z.seen.copying.copied ≡ owing ∷ x.seen.copying.copied = ap (λ (v : DomainView). v.seen.copying.copied) e ∙ ap (λ (c : Copying). owing ∷ c.copied) ready.copying in
         let same : SameBlock (Knows z) young copy = met_at copy (ap (λ (v : DomainView). Knows v copy) l.view ∙ known_here (met_of copy told.place) y.seen.copying.met) in
         let is_old : IsOldAt k copy = (let h = (place_old k class copy few (ready.works.placed class copy few ready.here)).1 in let g : copy + 3 ≤ k.pools * 4096 = h in let f : copy ≤ k.pools * 4096 = omega arith in f) in record {
           grown = record {
@@ -106,11 +113,12 @@ module _ (k : Config) (young word class copy : ℕ) (x p y : DomainView) (few : 
                   (λ (t : (i ≡ length x.own.pending.items) × (owing ≡ b)). subst (IsPair k z) t.1 record { young = is_young; old = is_old; same = same })
                   (got_end x.own.pending.items owing b i (ap (λ (l : List Copied). slice_get l i) (sym items) ∙ got));
             };
-            more = more_now;
+            learns = record { more = more_now; copies = λ a d has. now_copied copy made_copies a d (inr has) };
             made = owing ∷ [];
             items = items;
             owed = pending;
           };
           old = is_old;
+          copied = now_copied copy made_copies young copy (inl (refl, refl));
           same = same;
         }

@@ -1,5 +1,5 @@
 -- What becomes of the roots.
-use Rattle.std.proofs.Common.{◌≡◌, ℕ, ◌<◌, List, ◌∷◌, length, drop, set, sym, refl, ap, ◌∙◌, subst, arith, length-set, get_or-set_same, get_or-set_other}
+use Rattle.std.proofs.Common.{◌≡◌, ℕ, ◌*◌, ◌<◌, ◌≤◌, List, ◌∷◌, length, drop, set, sym, refl, ap, ◌∙◌, subst, arith, length-set, get_or-set_same, get_or-set_other}
 use Rattle.heap_model.specs.declared.entry.Entry.{Entry}
 use Rattle.heap_words.specs.declared.value.Value.{Value}
 use Rattle.heap_words.specs.declared.value.Value.TheVariants.{Ref, Nothing}
@@ -8,19 +8,26 @@ use Rattle.heap_words.proofs.WordLemmas.{value_word-injective}
 use Rattle.heap_rule.specs.declared.config.Config.{Config}
 use Rattle.heap_rule.specs.declared.view.DomainView.{DomainView}
 use Rattle.heap_rule.specs.Changes.{value_at}
-use Rattle.heap_rule.specs.Copies.{IsOldValue}
+use Rattle.heap_rule.specs.Copies.{HasCopy, IsOldValue}
 use Rattle.heap_rule.specs.Places.{Stands}
 use Rattle.heap_rule.specs.Rule.{state_of}
 use Rattle.heap_rule.specs.Standing.{with_registers}
 use Rattle.steps_promote.specs.Promotion.{Knows, recalling, HasValueAt, MoveTold, Recalled, RewriteMay, RewriteTold}
-use Rattle.promote_claim.specs.Working.{Works, Tied, with_claims, Grown, Claimed, Forwarded}
-use Rattle.promote_claim.specs.Roots.{Moved, with_rewrites, Rewritten}
-use Rattle.promote_claim.proofs.Meeting.{grown_met, grown_twice, lasts_more}
-use Rattle.promote_claim.proofs.Valuing.{old_word}
+use Rattle.promote_claim.specs.Working.{SameBlock, Works, Tied, with_claims, Learns, Grown, Claimed, Forwarded}
+use Rattle.promote_claim.specs.Roots.{Becomes, Moved, with_rewrites, Rewritten}
+use Rattle.promote_claim.proofs.Meeting.{grown_met, grown_twice, lasts_more, same_more}
+use Rattle.steps_promote.proofs.Resets.{old_word}
 use Rattle.promote_claim.proofs.Fills.{tied_grown}
 
+-- what has become of a value stays so when more is known
+pub becomes_on : (k : Config) (x y : DomainView) (held new : Value) → Learns x y → Becomes k x held new → Becomes k y held new
+becomes_on k x y held new l b = record {
+  stays = b.stays;
+  moves = λ a is young. let m = b.moves a is young in record { copy = m.copy; is = m.is; old = m.old; copied = l.copies a m.copy m.copied; same = same_more (Knows x) (Knows y) a m.copy l.more m.same };
+}
+
 -- the register gets the copy's address
-module _ (k : Config) (x y : DomainView) (r a c : ℕ) (w : Works k x) (t : Tied 0 x) (few : r < 16) (holds : value_at x.own.registers r ≡ Ref a) (claimed : Claimed k a x y c) where
+module _ (k : Config) (x y : DomainView) (r a c : ℕ) (w : Works k x) (t : Tied 0 x) (few : r < 16) (young : k.pools * 4096 < a) (holds : value_at x.own.registers r ≡ Ref a) (claimed : Claimed k a x y c) where
   registers_same : y.own.registers ≡ x.own.registers
   registers_same = ap (λ (z : DomainView). z.own.registers) claimed.grown.view
 
@@ -32,11 +39,23 @@ module _ (k : Config) (x y : DomainView) (r a c : ℕ) (w : Works k x) (t : Tied
       let long : length y.own.registers ≡ 16 = sym (length-set y.own.registers r (Ref c)) ∙ (sym (ap (λ (v : DomainView). length v.own.registers) told.view) ∙ told.holds.wide) in
       let v = claimed.grown.works in
       let n : ℕ = length y.own.registers in
+      let is : value_at R r ≡ Ref c = get_or-set_same y.own.registers r (Ref c) Nothing (let h : n ≡ 16 = long in let g : r < n = omega arith in g) in
       subst (Moved k r x) (sym e) record {
         view = refl;
+        learns = record { more = claimed.grown.learns.more; copies = claimed.grown.learns.copies };
+        becomes = record {
+          stays = λ old. absurd (let h : a ≤ k.pools * 4096 = subst (IsOldValue k) holds old in omega arith);
+          moves = λ b same _. let f : Ref b ≡ Ref a = sym same ∙ holds in let g : b ≡ a = cc in record {
+            copy = c;
+            is = is;
+            old = claimed.old;
+            copied = subst (λ (n : ℕ). HasCopy y n c) (sym g) claimed.copied;
+            same = subst (λ (n : ℕ). SameBlock (Knows y) n c) (sym g) claimed.same;
+          };
+        };
         works = record { stage = w.stage; at_rest = v.at_rest; fit = v.fit; placed = v.placed; pairs = λ j b got. let o = v.pairs j b got in record { young = o.young; old = o.old; same = o.same } };
         tied = tied_grown k 0 x y (omega arith) t claimed.grown;
-        old = subst (IsOldValue k) (sym (get_or-set_same y.own.registers r (Ref c) Nothing (let h : n ≡ 16 = long in let g : r < n = omega arith in g))) claimed.old;
+        old = subst (IsOldValue k) (sym is) claimed.old;
         others = λ j other. get_or-set_other y.own.registers r j (Ref c) Nothing other ∙ ap (λ (l : List Value). value_at l j) registers_same;
       }
 
@@ -69,7 +88,7 @@ module _ (k : Config) (x y : DomainView) (at word : ℕ) (w : Works k x) (t : Ti
         index = told.index;
         is = told.is;
         inside = told.inside;
-        here = lasts_more (Knows y) (Knows z) told.block told.place fw.grown.more told.here;
+        here = lasts_more (Knows y) (Knows z) told.block told.place fw.grown.learns.more told.here;
         value = new;
         packs = refl;
         held = told.held;
@@ -88,6 +107,7 @@ module _ (k : Config) (x y : DomainView) (at word : ℕ) (w : Works k x) (t : Ti
           subst (Rewritten k x) (sym e) record {
             view = refl;
             works = record { stage = w.stage; at_rest = o.at_rest; fit = o.fit; placed = o.placed; pairs = λ j b got. let p = o.pairs j b got in record { young = p.young; old = p.old; same = p.same } };
+            learns = record { more = g.learns.more; copies = g.learns.copies };
             tied = tied_grown k 0 x z (omega arith) t g;
             forgotten = refl;
           }

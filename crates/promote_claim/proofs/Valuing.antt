@@ -1,17 +1,13 @@
 -- What the value of a root or of a copied block becomes.
-use Rattle.std.proofs.Common.{◌≡◌, ℕ, ◌*◌, ◌≤◌, Some, sym, ap, ◌∙◌, inl, inr, arith}
-use Rattle.std.proofs.lemmas.Int.{ints}
+use Rattle.std.proofs.Common.{◌≡◌, ℕ, Some, sym, ap, ◌∙◌, inl}
 use Rattle.heap_model.specs.Domains.{IsWithinLimits}
 use Rattle.heap_model.specs.declared.graph.Value as model
 use Rattle.heap_model.specs.declared.graph.Value.TheVariants.{Int as IntOf, Block, Nothing as NothingOf}
-use Rattle.heap_words.specs.declared.value.Value.{Value}
-use Rattle.heap_words.specs.declared.value.Value.TheVariants.{Int, Ref, Nothing}
-use Rattle.heap_words.specs.Values.{IsPackable, value_word}
+use Rattle.heap_words.specs.declared.value.Value.TheVariants.{Ref}
 use Rattle.heap_rule.specs.declared.config.Config.{Config}
 use Rattle.heap_rule.specs.declared.view.DomainView.{DomainView}
-use Rattle.heap_rule.specs.Copies.{IsOldValue}
 use Rattle.heap_rule.specs.Limits.{sizes_in}
-use Rattle.heap_rule.specs.Places.{Place, Live, Stands, IsOldWord, More}
+use Rattle.heap_rule.specs.Places.{Place, Live, Stands, More}
 use Rattle.heap_rule.specs.Standing.{IsInHeap}
 use Rattle.steps_promote.specs.Promotion.{Knows, HeadMay}
 use Rattle.promote_claim.specs.Working.{SameBlock, Works, Claimed, Forwarded, StandsFor}
@@ -44,13 +40,7 @@ same_stands live live' a c (Block l) more same s =
 pub ref_forwarded : (k : Config) (x y : DomainView) (a c : ℕ) → IsWithinLimits (sizes_in k) → Claimed k a x y c → Forwarded k (Ref a) x y (Ref c)
 ref_forwarded k x y a c limits t = record {
   grown = t.grown;
-  stands = λ held s. same_stands (Knows x) (Knows y) a c held t.grown.more t.same s;
+  stands = λ held s. same_stands (Knows x) (Knows y) a c held t.grown.learns.more t.same s;
   packable = ((t.grown.works.fit c t.same.to t.same.there).low, old_small k c limits t.old);
   old = t.old;
 }
-
--- the word of such a value
-pub old_word : (k : Config) (v : Value) → IsPackable v → IsOldValue k v → IsOldWord k (value_word v)
-old_word k (Int z) fits old = inl (omega (arith, ints))
-old_word k (Ref a) fits old = inr (let o : a ≤ k.pools * 4096 = old in let g : 2 * a ≤ 2 * (k.pools * 4096) = omega arith in g)
-old_word k Nothing fits old = inr (omega arith)

@@ -5,12 +5,13 @@ use Rattle.heap_rule.specs.declared.view.Copied.{Copied}
 use Rattle.heap_rule.specs.declared.view.DomainView.{DomainView}
 use Rattle.heap_rule.specs.Places.{Place, extent}
 use Rattle.steps_promote.specs.Promotion.{Knows}
-use Rattle.promote_claim.specs.Working.{Works, Tied, owed_from, with_claims}
+use Rattle.promote_claim.specs.Working.{Works, Tied, Learns, owed_from, with_claims}
 
 -- the copies up to the i-th are filled
 pub record FilledTo (k : Config) (i : ℕ) (x y : DomainView) : Type 0 where
   pub view : y ≡ with_claims x y
   pub works : Works k y
+  pub learns : Learns x y
   pub tied : Tied i y
   pub some : i ≤ length y.own.pending.items
 
@@ -18,12 +19,14 @@ pub record FilledTo (k : Config) (i : ℕ) (x y : DomainView) : Type 0 where
 pub record AllFilled (k : Config) (x y : DomainView) : Type 0 where
   pub view : y ≡ with_claims x y
   pub works : Works k y
+  pub learns : Learns x y
   pub paid : y.seen.copying.pending ≡ []
 
 -- the i-th copy, of a block of so many values, has its first values
 pub record Progress (k : Config) (i : ℕ) (c : Copied) (size filled : ℕ) (x y : DomainView) : Type 0 where
   pub view : y ≡ with_claims x y
   pub works : Works k y
+  pub learns : Learns x y
   pub item : slice_get y.own.pending.items i ≡ Some c
   pub pending : y.seen.copying.pending ≡ record { copy = c.copy; source = c.source; filled = filled } ∷ owed_from (drop (i + 1) y.own.pending.items)
   pub place : Place

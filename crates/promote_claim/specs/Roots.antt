@@ -1,10 +1,14 @@
 -- What becomes of the roots: the registers, and the fields that a domain remembers.
-use Rattle.std.specs.Prelude.{◌≡◌, ◌≢◌, ℕ, [], drop}
+use Rattle.std.specs.Prelude.{◌≡◌, ◌≢◌, ℕ, ◌*◌, ◌<◌, [], drop}
+use Rattle.heap_words.specs.declared.value.Value.{Value}
+use Rattle.heap_words.specs.declared.value.Value.TheVariants.{Ref}
 use Rattle.heap_rule.specs.declared.config.Config.{Config}
 use Rattle.heap_rule.specs.declared.view.DomainView.{DomainView}
 use Rattle.heap_rule.specs.Changes.{value_at}
-use Rattle.heap_rule.specs.Copies.{IsOldValue, HoldsOld}
-use Rattle.promote_claim.specs.Working.{Works, Tied}
+use Rattle.heap_rule.specs.Copies.{HasCopy, IsOldValue, HoldsOld}
+use Rattle.heap_rule.specs.Places.{IsOldAt}
+use Rattle.steps_promote.specs.Promotion.{Knows}
+use Rattle.promote_claim.specs.Working.{SameBlock, Works, Tied, Learns}
 
 -- the domain with what claims change, and its registers, as another has them
 abbrev pub with_moves : DomainView → DomainView → DomainView
@@ -13,20 +17,37 @@ with_moves x y = record {
   seen = record x.seen { hunt = y.seen.hunt; copying = y.seen.copying };
 }
 
+-- the address of a young block has become that of the block's copy in a pool
+pub record MovedTo (k : Config) (y : DomainView) (young : ℕ) (new : Value) : Type 0 where
+  pub copy : ℕ
+  pub is : new ≡ Ref copy
+  pub old : IsOldAt k copy
+  pub copied : HasCopy y young copy
+  pub same : SameBlock (Knows y) young copy
+
+-- what becomes of a value: it stands for the same as before. Only the address of a young block changes
+pub record Becomes (k : Config) (y : DomainView) (held new : Value) : Type 0 where
+  pub stays : IsOldValue k held → new ≡ held
+  pub moves : (a : ℕ) → held ≡ Ref a → k.pools * 4096 < a → MovedTo k y a new
+
 -- a register holds no address of a minor area, and the others hold what they held
 pub record Moved (k : Config) (register : ℕ) (x y : DomainView) : Type 0 where
   pub view : y ≡ with_moves x y
   pub works : Works k y
+  pub learns : Learns x y
   pub tied : Tied 0 y
   pub old : IsOldValue k (value_at y.own.registers register)
+  pub becomes : Becomes k y (value_at x.own.registers register) (value_at y.own.registers register)
   pub others : (r : ℕ) → r ≢ register → value_at y.own.registers r ≡ value_at x.own.registers r
 
 -- no register holds one
 pub record AllMoved (k : Config) (x y : DomainView) : Type 0 where
   pub view : y ≡ with_moves x y
   pub works : Works k y
+  pub learns : Learns x y
   pub tied : Tied 0 y
   pub old : HoldsOld k y
+  pub becomes : (r : ℕ) → r < 16 → Becomes k y (value_at x.own.registers r) (value_at y.own.registers r)
 
 -- the domain with what claims change, and the fields that are still to be looked through, as another has them
 abbrev pub with_rewrites : DomainView → DomainView → DomainView
@@ -39,6 +60,7 @@ with_rewrites x y = record {
 pub record Rewritten (k : Config) (x y : DomainView) : Type 0 where
   pub view : y ≡ with_rewrites x y
   pub works : Works k y
+  pub learns : Learns x y
   pub tied : Tied 0 y
   pub forgotten : y.seen.remembered ≡ drop 1 x.seen.remembered
 
@@ -46,5 +68,6 @@ pub record Rewritten (k : Config) (x y : DomainView) : Type 0 where
 pub record AllRewritten (k : Config) (x y : DomainView) : Type 0 where
   pub view : y ≡ with_rewrites x y
   pub works : Works k y
+  pub learns : Learns x y
   pub tied : Tied 0 y
   pub looked_through : y.seen.remembered ≡ []

@@ -4,8 +4,10 @@ use Rattle.heap_model.specs.Domains.{class_count}
 use Rattle.heap_rule.specs.declared.config.Config.{Config}
 use Rattle.heap_rule.specs.declared.view.DomainView.{DomainView}
 use Rattle.heap_rule.specs.declared.view.Hunt.TheVariants.{Rests}
+use Rattle.heap_rule.specs.Changes.{value_at}
 use Rattle.heap_rule.specs.Copies.{HoldsOld}
 use Rattle.heap_rule.specs.Pools.{prepared_at}
+use Rattle.promote_claim.specs.Roots.{Becomes}
 use Rattle.promote_claim.specs.Working.{with_claims}
 
 -- no place is prepared for a copy
@@ -26,11 +28,12 @@ with_share x y = record {
   seen = record x.seen { hunt = y.seen.hunt; copying = y.seen.copying; remembered = y.seen.remembered };
 }
 
--- the domain owes no copy a value, has looked through all its remembered fields, holds no address of a minor area, and has no place prepared: it may arrive. All else is as it was
+-- the domain owes no copy a value, has looked through all its remembered fields, holds no address of a minor area, and has no place prepared: it may arrive. Each register stands for what it stood for. All else is as it was
 pub record Shared (k : Config) (x y : DomainView) : Type 0 where
   pub view : y ≡ with_share x y
   pub at_rest : y.seen.hunt ≡ Rests
   pub paid : y.seen.copying.pending ≡ []
   pub looked_through : y.seen.remembered ≡ []
   pub holds_old : HoldsOld k y
+  pub registers : (r : ℕ) → r < 16 → Becomes k y (value_at x.own.registers r) (value_at y.own.registers r)
   pub unprepared : Unprepared y

@@ -12,7 +12,7 @@ use Rattle.heap_rule.specs.declared.view.Hunt.TheVariants.{Rests, Heads}
 use Rattle.heap_rule.specs.declared.view.Owing.{Owing}
 use Rattle.heap_rule.specs.declared.phase.Kind.TheVariants.{Promote}
 use Rattle.heap_rule.specs.declared.phase.Stage.TheVariants.{In}
-use Rattle.heap_rule.specs.Copies.{IsOldValue}
+use Rattle.heap_rule.specs.Copies.{HasCopy, IsOldValue}
 use Rattle.heap_rule.specs.Places.{Place, Live, IsNewHead, IsOldAt, Stands, More}
 use Rattle.heap_rule.specs.Pools.{blocks_of, place_in, prepared_at}
 use Rattle.steps_promote.specs.Claims.{with_hunt}
@@ -73,11 +73,16 @@ with_claims x y = record {
   seen = record x.seen { hunt = y.seen.hunt; copying = y.seen.copying };
 }
 
--- claims: the copies that were made stand at the end of both lists, and what was met stays met
+-- what one view knows another knows too: the blocks that were met, and which block has which copy
+pub record Learns (x y : DomainView) : Type 0 where
+  pub more : More (Knows x) (Knows y)
+  pub copies : (a c : ℕ) → HasCopy x a c → HasCopy y a c
+
+-- claims: the copies that were made stand at the end of both lists, and what was known stays known
 pub record Grown (k : Config) (x y : DomainView) : Type 0 where
   pub view : y ≡ with_claims x y
   pub works : Works k y
-  pub more : More (Knows x) (Knows y)
+  pub learns : Learns x y
   pub made : List Copied
   pub items : y.own.pending.items ≡ x.own.pending.items ++ made
   pub owed : y.seen.copying.pending ≡ x.seen.copying.pending ++ owed_from made
@@ -88,10 +93,11 @@ pub record IsMetWith (x : DomainView) (a word : ℕ) : Type 0 where
   pub met : Knows x a ≡ Some place
   pub head : IsNewHead place.shape word
 
--- the block at an address has a copy in a pool, which was met
+-- the block at an address has a copy in a pool, which was met. The block's head forwards to this copy, and to no other while the domain copies: whoever knows of a copy of the block knows of this one
 pub record Claimed (k : Config) (a : ℕ) (x y : DomainView) (c : ℕ) : Type 0 where
   pub grown : Grown k x y
   pub old : IsOldAt k c
+  pub copied : HasCopy y a c
   pub same : SameBlock (Knows y) a c
 
 -- a place is prepared for a class, and nothing else has changed

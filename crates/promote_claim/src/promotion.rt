@@ -35,7 +35,9 @@ fn give_back(heap: &Heap, dom: &mut Domain)
 /// A domain's share of a phase in which the domains copy young blocks: all that its registers and its
 /// remembered fields lead to is copied, as far as no other domain copies it. Afterwards no register
 /// and none of these fields has an address of a minor area, each copy that the domain made has all
-/// its values, none of which is such an address, and no place is prepared: the domain may arrive.
+/// its values, none of which is such an address, and no place is prepared: the domain may arrive. Each
+/// register stands for what it stood for: where it held the address of a young block it holds that of
+/// the block's copy.
 ///
 /// Nothing has been copied or prepared before, and the fields to be looked through are those of the
 /// domain's list.

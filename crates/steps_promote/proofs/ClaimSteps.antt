@@ -24,7 +24,7 @@ use Rattle.heap_rule.specs.declared.view.Hunt.TheVariants.{Rests, Heads}
 use Rattle.heap_rule.specs.declared.view.Met.{Met}
 use Rattle.heap_rule.specs.declared.view.Owing.{Owing}
 use Rattle.heap_rule.specs.declared.view.DomainView.{DomainView}
-use Rattle.heap_rule.specs.Copies.{met_place, known, debt_of, IsOwed, IsField, Owes, Copies, Leads, Promoting, Cleared}
+use Rattle.heap_rule.specs.Copies.{met_place, known, debt_of, HasCopy, IsCopied, IsOwed, IsField, Owes, Copies, Leads, Promoting, Cleared}
 use Rattle.heap_rule.specs.Layout.{heap_words, before_heap, base_of, at_address}
 use Rattle.heap_rule.specs.Limits.{sizes_in}
 use Rattle.heap_rule.specs.Phases.{sum_of}
@@ -279,7 +279,7 @@ module _ (k : Config) (s : Words) (r : Rule k s) (id : ℕ) (hist : List Entry) 
     its = record { place = lead.place; lives = lead.lives; label = lead.label ∙ lasts.label; shape = lead.shape ∙ (shape_is ∙ sym (form_shape may.place.shape built)) }
 
     abbrev lost_view : DomainView
-    lost_view = record x { seen = record x.seen { hunt = Rests; copying = record x.seen.copying { met = met1 } } }
+    lost_view = record x { seen = record x.seen { hunt = Rests; copying = record x.seen.copying { met = met1; copied = record { copy = c2; source = a } ∷ x.seen.copying.copied } } }
 
     lost_rule : Rule k record { words = s.words; homes = s.homes; views = set s.views id (one k hist lost_view) }
     lost_rule =
@@ -325,6 +325,7 @@ module _ (k : Config) (s : Words) (r : Rule k s) (id : ℕ) (hist : List Entry) 
           owes = record {
             quiet = inr may.stage;
             knows = knows_more live (met_of c2 may.place) x.seen.copying.met w.knows its;
+            copied = λ b d. ⊎_elim (λ (h : (a ≡ b) × (c2 ≡ d)). record { place = p; lives = ap live (sym h.0) ∙ lives; forwards = forward ∙ ap Some h.1 }) (λ (h : HasCopy x b d). w.copied b d h);
             owed = λ i v got. let z = w.owed i v got in record { place = z.place; lives = z.lives; debt = z.debt };
             once = w.once;
             listed = w.listed;
@@ -769,7 +770,7 @@ module _ (k : Config) (s : Words) (r : Rule k s) (id : ℕ) (hist : List Entry) 
     abbrev won_view : DomainView
     won_view = record {
       own = preparing (pushed x.own c a) class None;
-      seen = record x.seen { hunt = Rests; copying = record { met = met_of c may.place ∷ x.seen.copying.met; pending = x.seen.copying.pending ++ owing ∷ [] } };
+      seen = record x.seen { hunt = Rests; copying = record { met = met_of c may.place ∷ x.seen.copying.met; pending = x.seen.copying.pending ++ owing ∷ []; copied = copied ∷ x.seen.copying.copied } };
     }
 
     -- of the pool drawn last one place more is used, if the copy is there
@@ -826,6 +827,9 @@ module _ (k : Config) (s : Words) (r : Rule k s) (id : ℕ) (hist : List Entry) 
     knows_again : (g : Live) → More g live → More g live2
     knows_again g known_there b q e = let l = known_there b q e in let m = more2 b l.place l.lives in record { place = m.place; lives = m.lives; label = m.label ∙ l.label; shape = m.shape ∙ l.shape }
 
+    copied_again : (b d : ℕ) → IsCopied live b d → IsCopied live2 b d
+    copied_again b d u = record { place = u.place; lives = elsewhere b (λ same. no_some d (sym bare ∙ (ap (λ (z : Place). z.forward) (was_a b u.place same u.lives) ∙ u.forwards))) (not_there b u.place u.lives) ∙ u.lives; forwards = u.forwards }
+
     field2 : (at : ℕ) → IsField k live at → IsField k live2 at
     field2 spot_at_field fl = record {
       block = fl.block;
@@ -856,6 +860,7 @@ module _ (k : Config) (s : Words) (r : Rule k s) (id : ℕ) (hist : List Entry) 
     owe2 z other w = record {
       quiet = w.quiet;
       knows = knows_again (known z.seen.copying.met) w.knows;
+      copied = λ b d has. copied_again b d (w.copied b d has);
       owed = λ i v got. owed_else z v (w.owed i v got);
       once = w.once;
       listed = λ b q d e owed its. cases b q e
@@ -873,6 +878,7 @@ module _ (k : Config) (s : Words) (r : Rule k s) (id : ℕ) (hist : List Entry) 
     owes2 = let w = (my_good k s r id hist x at).owes in let l : List Owing = x.seen.copying.pending in record {
       quiet = inr may.stage;
       knows = knows_more live2 (met_of c may.place) x.seen.copying.met (knows_again (known x.seen.copying.met) w.knows) met_lasts;
+      copied = λ b d. ⊎_elim (λ (h : (a ≡ b) × (c ≡ d)). record { place = p2; lives = ap live2 (sym h.0) ∙ here_a; forwards = ap Some h.1 }) (λ (h : HasCopy x b d). copied_again b d (w.copied b d h));
       owed = λ i v got. ⊎_elim
           (λ (h : slice_get l i ≡ Some v). let u = owed_else x v (w.owed i v h) in record { place = u.place; lives = u.lives; debt = u.debt })
           (λ (h : (i ≡ length l) × (Some owing ≡ Some v)). let v_is = owing_same owing v h.1 in record { place = pc; lives = ap (λ (u : Owing). live2 u.copy) (sym v_is) ∙ here_c; debt = ap (λ (u : Owing). Some (record { source = u.source; domain = me; filled = u.filled })) v_is })

@@ -19,7 +19,7 @@ use Rattle.heap_rule.specs.Layout.{heap_words, before_heap, at_address}
 use Rattle.heap_rule.specs.Places.{Debt, Place, Live, extent, values_of, HasValue, Stands, Found, IsOldWord, More}
 use Rattle.heap_rule.specs.Phases.{IsInPause}
 use Rattle.heap_rule.specs.Pools.{Grid, Hunter}
-use Rattle.heap_rule.specs.Copies.{known, debt_of, IsOwed, Owes, IsField, Copies, Pends, Promoting, Cleared}
+use Rattle.heap_rule.specs.Copies.{IsCopied, known, debt_of, IsOwed, Owes, IsField, Copies, Pends, Promoting, Cleared}
 use Rattle.heap_rule.specs.Raw.{MayStep, MayStore}
 use Rattle.heap_rule.specs.Rule.{state_of, AllFound, Area, Making, Rule}
 use Rattle.heap_rule.specs.Views.{one}
@@ -76,6 +76,9 @@ module _ (k : Config) (s : Words) (r : Rule k s) (id : ℕ) (hist : List Entry) 
 
   pub forth : (b : ℕ) (q : Place) → r.account.live b ≡ Some q → Was live2 b q
   forth = places.forth r.account.live c p p2 lives refl refl refl
+
+  pub copied_again : (a d : ℕ) → IsCopied r.account.live a d → IsCopied live2 a d
+  copied_again = places.copied_again r.account.live c p p2 lives refl refl refl
 
   pub back : Back r.account.live live2
   back = places.back r.account.live c p p2 lives refl refl refl
@@ -152,6 +155,7 @@ module _ (k : Config) (s : Words) (r : Rule k s) (id : ℕ) (hist : List Entry) 
   all_owe2 z differs w = record {
     quiet = w.quiet;
     knows = λ a q e. let l = w.knows a q e in let m = more a l.place l.lives in record { place = m.place; lives = m.lives; label = m.label ∙ l.label; shape = m.shape ∙ l.shape };
+    copied = λ a d has. copied_again a d (w.copied a d has);
     owed = λ i v got. let t = w.owed i v got in record {
       place = t.place;
       lives = over_else c (Some p2) r.account.live v.copy (λ same. differs (ap (λ (b : Debt). b.domain) (debt_same (debt_of z v) (debt_of x o) (sym t.debt ∙ (ap (λ (y : Place). y.owed) (sym (is1 v.copy t.place same t.lives)) ∙ debt))))) ∙ t.lives;
@@ -218,6 +222,7 @@ module _ (k : Config) (s : Words) (r : Rule k s) (id : ℕ) (hist : List Entry) 
         owes = record {
           quiet = inr promotes;
           knows = λ a q e. let l = w.knows a q e in let m = more a l.place l.lives in record { place = m.place; lives = m.lives; label = m.label ∙ l.label; shape = m.shape ∙ l.shape };
+          copied = λ a d has. copied_again a d (w.copied a d has);
           owed = λ i v got. let t = owed i v got in record { place = t.place; lives = t.lives; debt = t.debt };
           once = once;
           listed = listed;

@@ -14,8 +14,11 @@ use Rattle.heap_model.specs.Graph.{node_at}
 use Rattle.heap_model.specs.Fronts.{Shape, PlainShape, RawShape, EpheShape}
 use Rattle.heap_words.specs.declared.value.Value.{Value}
 use Rattle.heap_words.specs.declared.value.Value.TheVariants.{Int as IntWord, Ref, Nothing as NothingWord}
+use Rattle.heap_words.specs.declared.head.Head.TheVariants.{Forward}
+use Rattle.heap_words.specs.Heads.{head_word}
 use Rattle.heap_words.specs.Labels.{label_word}
 use Rattle.heap_rule.specs.declared.config.Config.{Config}
+use Rattle.heap_rule.specs.declared.view.Copied.{Copied}
 use Rattle.heap_rule.specs.declared.view.Met.{Met}
 use Rattle.heap_rule.specs.declared.view.DomainView.{DomainView}
 use Rattle.heap_rule.specs.declared.phase.Kind.TheVariants.{Promote}
@@ -23,12 +26,12 @@ use Rattle.heap_rule.specs.declared.phase.Stage.TheVariants.{In}
 use Rattle.heap_rule.specs.Layout.{heap_words, before_heap, at_address}
 use Rattle.heap_rule.specs.Places.{Debt, Place, Live, extent, values_of, HeadIs, colour_in, HasValue, IsBuilt, Stands, Lasts, More}
 use Rattle.heap_rule.specs.Phases.{IsInPause}
-use Rattle.heap_rule.specs.Copies.{met_place, shape_of_form, known}
+use Rattle.heap_rule.specs.Copies.{ListsCopy, HasCopy, IsCopied, met_place, shape_of_form, known}
 use Rattle.heap_rule.specs.Raw.{MayStep}
 use Rattle.heap_rule.specs.Rule.{state_of, Rule}
 use Rattle.heap_rule.specs.Views.{one}
 use Rattle.heap_rule.specs.Standing.{IsAt}
-use Rattle.steps_promote.specs.Promotion.{form_of, met_of, with_met, meeting, Knows, HeadMay, StaysThere, Forwards, HeadMet, LabelMay, LabelMet, HasValueAt, ValueMay, ValueMet, RecallMay, Recalled}
+use Rattle.steps_promote.specs.Promotion.{form_of, met_of, with_met, meeting, with_copied, learning, Knows, HeadMay, StaysThere, Forwards, HeadMet, LabelMay, LabelMet, HasValueAt, ValueMay, ValueMet, RecallMay, Recalled}
 use Rattle.heap_rule.proofs.Again.{met_fits}
 use Rattle.heap_rule.proofs.Beside.{extent_of}
 use Rattle.heap_rule.proofs.Blocks.{lives_at}
@@ -95,11 +98,11 @@ module _ (k : Config) (s : Words) (r : Rule k s) (id : ℕ) (hist : List Entry) 
   knows : More (Knows x) live
   knows = (my_good k s r id hist x at).owes.knows
 
-  -- a load at which blocks are met
-  pub meets_rule : (met : List Met) → More (known met) live → Rule k record { words = s.words; homes = s.homes; views = set s.views id (one k hist (with_met x met)) }
-  meets_rule met more =
+  -- a load at which blocks are met, and copies of blocks
+  pub meets_copies : (met : List Met) (copied : List Copied) → More (known met) live → ((a c : ℕ) → ListsCopy copied a c → IsCopied live a c) → Rule k record { words = s.words; homes = s.homes; views = set s.views id (one k hist (with_copied (with_met x met) copied)) }
+  meets_copies met copied more lists =
       let g = my_good k s r id hist x at in
-      let y : DomainView = with_met x met in
+      let y : DomainView = with_copied (with_met x met) copied in
       let o = g.owes in
       promotes_again k s r id hist x at promotes y s.words live r.account.tenancy r.account.homes record {
         share = refl;
@@ -131,6 +134,7 @@ module _ (k : Config) (s : Words) (r : Rule k s) (id : ℕ) (hist : List Entry) 
         owes = record {
           quiet = inr promotes;
           knows = more;
+          copied = lists;
           owed = λ i w got. let t = o.owed i w got in record { place = t.place; lives = t.lives; debt = t.debt };
           once = o.once;
           listed = o.listed;
@@ -142,6 +146,13 @@ module _ (k : Config) (s : Words) (r : Rule k s) (id : ℕ) (hist : List Entry) 
         hunters = λ z _ h. h;
         owe = λ z _ w. w;
       }
+
+  pub meets_rule : (met : List Met) → More (known met) live → Rule k record { words = s.words; homes = s.homes; views = set s.views id (one k hist (with_met x met)) }
+  meets_rule met more = meets_copies met x.seen.copying.copied more (my_good k s r id hist x at).owes.copied
+
+  -- where a copy is known, the head forwards to it
+  forwards_to : (a c : ℕ) → HasCopy x a c → at_address k s.words a ≡ head_word (Forward c)
+  forwards_to a c has = let u = (my_good k s r id hist x at).owes.copied a c has in let h = (r.whole.found a u.place u.lives).head in subst (λ (o : Option ℕ). HeadIs o u.place.shape (colour_in r.account.cycling.paint u.place.label) h.scanned (at_address k s.words a)) u.forwards h.packs
 
   -- what lives at the address of a head load
   source : (a : ℕ) → HeadMay x a → (p : Place) × (live a ≡ Some p)
@@ -190,6 +201,7 @@ module _ (k : Config) (s : Words) (r : Rule k s) (id : ℕ) (hist : List Entry) 
             };
             view = refl;
           };
+          once = forwards_to a;
         };
       })
       (λ (t : (c : ℕ) × (p.forward ≡ Some c)).
@@ -199,8 +211,11 @@ module _ (k : Config) (s : Words) (r : Rule k s) (id : ℕ) (hist : List Entry) 
       let its : Lasts live c (met_place n) = record { place = l.place; lives = l.lives; label = l.label; shape = l.shape ∙ sym (form_shape p.shape (built a p lives)) } in
       let fits = address_of k c l.place (r.whole.placed.fits c l.place l.lives) in
       record {
-        after = meeting (meeting x m) n;
-        rule = meets_rule (n ∷ m ∷ ms) (knows_more live n (m ∷ ms) more1 its);
+        after = learning (meeting (meeting x m) n) a c;
+        rule = meets_copies (n ∷ m ∷ ms) (record { copy = c; source = a } ∷ x.seen.copying.copied) (knows_more live n (m ∷ ms) more1 its)
+            (λ b d. ⊎_elim
+            (λ (h : (a ≡ b) × (c ≡ d)). record { place = p; lives = ap live (sym h.0) ∙ lives; forwards = t.1 ∙ ap Some h.1 })
+            (λ (h : HasCopy x b d). (my_good k s r id hist x at).owes.copied b d h));
         told = record {
           place = p;
           built = built a p lives;
@@ -217,6 +232,7 @@ module _ (k : Config) (s : Words) (r : Rule k s) (id : ℕ) (hist : List Entry) 
             view = refl;
             there = known_met c p (m ∷ ms) (built a p lives);
           };
+          once = forwards_to a;
         };
       })
       (number_cases p.forward)

@@ -11,7 +11,7 @@ use Rattle.heap_rule.specs.declared.view.DomainView.{DomainView}
 use Rattle.heap_rule.specs.declared.view.Own.{Own}
 use Rattle.heap_rule.specs.declared.phase.Kind.TheVariants.{Promote}
 use Rattle.heap_rule.specs.declared.phase.Stage.TheVariants.{In}
-use Rattle.heap_rule.specs.Copies.{Owes, Copies, AllCleared}
+use Rattle.heap_rule.specs.Copies.{IsCopied, Owes, Copies, AllCleared}
 use Rattle.heap_rule.specs.Layout.{base_of, at_address, listed, cursor}
 use Rattle.heap_rule.specs.Phases.{Pause}
 use Rattle.heap_rule.specs.Places.{Place, Live, span, More}
@@ -65,6 +65,9 @@ module _ (live : Live) (c : ℕ) (p p2 : Place) (lives : live c ≡ Some p) (lab
   forth b q e = dite (ℕ_discrete b c)
       (λ same. let i = is1 b q same e in record { place = p2; lives = ap live2 same ∙ here2; label = label ∙ ap (λ (z : Place). z.label) i; shape = shape ∙ ap (λ (z : Place). z.shape) i; forward = forward ∙ ap (λ (z : Place). z.forward) i })
       (λ other. record { place = q; lives = over_else c (Some p2) live b other ∙ e; label = refl; shape = refl; forward = refl })
+
+  pub copied_again : (a d : ℕ) → IsCopied live a d → IsCopied live2 a d
+  copied_again a d u = let w = forth a u.place u.lives in record { place = w.place; lives = w.lives; forwards = w.forward ∙ u.forwards }
 
   pub back : Back live live2
   back b q e = dite (ℕ_discrete b c)

@@ -1,25 +1,42 @@
 -- In Reset a domain's minor area is free again.
-use Rattle.std.proofs.Common.{◌≡◌, ℕ, ◌+◌, ◌*◌, ◌<◌, ◌≤◌, List, [], set, slice_get, Some, None, Option, sym, refl, ap, ◌∙◌, inl, inr, subst, arith, length-set}
+use Rattle.std.proofs.Common.{◌≡◌, ℕ, ◌+◌, ◌*◌, ◌<◌, ◌≤◌, List, [], set, slice_get, get_or, length, Some, None, Option, sym, refl, ap, ◌∙◌, inl, inr, ⊎_elim, subst, arith, length-set, IsTrue}
+use Rattle.std.proofs.lemmas.Int.{ints}
+use mathlib.Core.Option.{some}
+use lib.ListN.{get_elem?}
+use Rattle.heap_model.specs.declared.entry.Entry.{Entry}
+use Rattle.heap_model.specs.declared.graph.Value as graph_value
+use Rattle.heap_model.specs.declared.graph.Value.TheVariants.{Int as IntOf, Block, Nothing as NothingOf}
+use Rattle.heap_model.specs.Domains.{class_count, register}
+use Rattle.heap_model.specs.Graph.{node_at}
+use Rattle.heap_words.specs.declared.value.Value.{Value}
+use Rattle.heap_words.specs.declared.value.Value.TheVariants.{Int, Ref, Nothing}
+use Rattle.heap_words.specs.Values.{IsPackable, value_word}
 use Rattle.atomic_table.specs.Table.{keeps}
 use Rattle.heap_rule.specs.declared.config.Config.{Config}
 use Rattle.heap_rule.specs.declared.view.DomainView.{DomainView}
 use Rattle.heap_rule.specs.declared.phase.Kind.TheVariants.{Run, Reset, Promote}
 use Rattle.heap_rule.specs.declared.phase.Stage.{Stage}
 use Rattle.heap_rule.specs.declared.phase.Stage.TheVariants.{In}
-use Rattle.heap_rule.specs.Layout.{before_heap, base_of}
-use Rattle.heap_rule.specs.Places.{Place, extent}
-use Rattle.heap_rule.specs.Phases.{Pause, AtStage, Staged}
-use Rattle.heap_rule.specs.Copies.{Resetting}
-use Rattle.heap_rule.specs.Raw.{MayStore, CanLeave, Closes}
+use Rattle.heap_rule.specs.Layout.{before_heap, base_of, at_address}
+use Rattle.heap_rule.specs.Places.{Debt, Place, Live, extent, values_of, HasValue, Stands, IsOldAt, IsOldWord, Settled}
+use Rattle.heap_rule.specs.Pools.{Holder, nobody, drawn, owned, owner_word, place_in}
+use Rattle.heap_rule.specs.Phases.{Pause, AtStage, Staged, IsInPause}
+use Rattle.heap_rule.specs.Changes.{value_at}
+use Rattle.heap_rule.specs.Copies.{Promoting, Resetting, IsOldValue}
+use Rattle.heap_rule.specs.Raw.{MayStep, MayStore, CanLeave, Closes}
 use Rattle.heap_rule.specs.Rule.{state_of, Rule}
 use Rattle.heap_rule.specs.Token.{OwnFits}
 use Rattle.heap_rule.specs.Views.{one}
-use Rattle.steps_promote.specs.Promotion.{ResetMay, reset_view, ResetTold}
+use Rattle.steps_promote.specs.Promotion.{ResetMay, NoneYoung, reset_view, ResetTold, ResetSeen}
 use Rattle.steps_promote.specs.Writes.{Resets}
 use Rattle.heap_rule.proofs.Again.{ends_low}
-use Rattle.heap_rule.proofs.Beside.{found_beside, making_beside, area_word_far}
+use Rattle.heap_rule.proofs.Beside.{extent_of, found_beside, making_beside, area_word_far}
+use Rattle.heap_rule.proofs.Ends.{same_views}
+use Rattle.heap_rule.proofs.Lists.{got_there}
+use Rattle.heap_rule.proofs.Values.{packable}
 use Rattle.heap_rule.proofs.Lots.{Beside, area_beside, grid_beside, hunter_beside}
-use Rattle.heap_rule.proofs.Keeps.{mine, my_good, control_set, controls_kept, hunter_as, more_same, writes, cycle_here, sharing_here, sharings_here, cycle_control}
+use Rattle.heap_rule.proofs.Keeps.{mine, my_good, control_set, controls_kept, hunter_as, more_same, writes, cycle_here, sharing_here, sharings_here, cycle_control, Words, unmoved, no_garbage_here}
+use Rattle.heap_rule.proofs.PauseFacts.{promote_rests}
 use Rattle.heap_rule.proofs.Sharings.{SameCycle}
 
 reset_now : (t : Pause) (x : DomainView) → x.seen.stage ≡ In Reset → Staged t x → Resetting t
@@ -28,7 +45,79 @@ reset_now t x is s = let a = (subst (AtStage t x.own.number x.own.arrivals) is s
 none_made : (l : List ℕ) (j w : ℕ) → l ≡ [] → slice_get l j ≡ Some w → ⊥
 none_made l j w none got = let e : ◌≡◌ {A = Option ℕ} None (Some w) = sym (ap (λ (z : List ℕ). slice_get z j) none) ∙ got in cc
 
-pub reset_may : (k : Config) (x : DomainView) (word a new : ℕ) → word ≡ before_heap k + a → ResetMay k x a → MayStore k x word new ResetTold
+-- the word of a value that is no address of a minor area
+pub old_word : (k : Config) (v : Value) → IsPackable v → IsOldValue k v → IsOldWord k (value_word v)
+old_word k (Int z) fits old = inl (omega (arith, ints))
+old_word k (Ref a) fits old = inr (let o : a ≤ k.pools * 4096 = old in let g : 2 * a ≤ 2 * (k.pools * 4096) = omega arith in g)
+old_word k Nothing fits old = inr (omega arith)
+
+-- where all that lives is in the pools, what stands for a value is no address of a minor area
+all_old : (k : Config) (live : Live) (v : Value) (g : graph_value.Value) → ((a : ℕ) (p : Place) → live a ≡ Some p → IsOldAt k a) → Stands live v g → IsOldValue k v
+all_old k live (Int z) g pools stands = tt
+all_old k live Nothing g pools stands = tt
+all_old k live (Ref a) (IntOf n) pools stands = absurd stands
+all_old k live (Ref a) (Block l) pools stands = pools a stands.0 stands.1
+all_old k live (Ref a) NothingOf pools stands = absurd stands
+
+-- who owns a pool, by its owner word
+owner_is : (h : Holder) (d c : ℕ) → c < class_count → ((e b : ℕ) → h ≡ owned e b → b < class_count) → owner_word h ≡ owner_word (owned d c) → h ≡ owned d c
+owner_is nobody d c few low e = absurd (let f : 0 ≡ 16 * d + c + 1 = e in omega arith)
+owner_is (drawn z) d c few low e = absurd (let f : 0 ≡ 16 * d + c + 1 = e in omega arith)
+owner_is (owned z b) d c few low e =
+    let f : 16 * z + b + 1 ≡ 16 * d + c + 1 = e in
+    let l : b < 6 = low z b refl in
+    let m : c < 6 = few in
+    let s : z ≡ d = omega arith in
+    let t : b ≡ c = omega arith in λ i. owned (s i) (t i)
+
+-- in Reset no young block is left
+none_young : (k : Config) (s : Words) (r : Rule k s) (id : ℕ) (hist : List Entry) (x : DomainView) → get_elem? s.views id ≡ some (one k hist x) → x.seen.stage ≡ In Reset → NoneYoung k x s.words
+none_young k s r id hist x at resets =
+    let g = my_good k s r id hist x at in
+    let t = reset_now r.account.pause x resets g.staged in
+    let live : Live = r.account.live in
+    let pools : (a : ℕ) (p : Place) → live a ≡ Some p → IsOldAt k a = r.whole.emptied t in
+    let settled : Settled live = ⊎_elim (λ (h : Settled live). h) (λ (h : Promoting r.account.pause). absurd (promote_rests r.account.pause h t)) r.whole.settled in
+    let front : r.account.log ≡ x.seen.front = sym (g.still (subst IsInPause (sym resets) tt)) in record {
+      live = live;
+      pools = pools;
+      nodes = λ a p lives.
+          let f = r.whole.found a p lives in
+          let has : (i : ℕ) → HasValue p.owed i = (λ i. subst (λ (o : Option Debt). HasValue o i) (sym (settled a p lives).no_debt) tt) in
+          let n : ℕ = length (values_of f.node) in
+          let size : extent p.shape ≡ n + 2 = ap extent (sym f.shape) ∙ extent_of f.node in record {
+            node = f.node;
+            there = subst (λ (log : List Entry). node_at (state_of k log).graph p.label ≡ Some f.node) front f.there;
+            shape = f.shape;
+            label = f.label;
+            values = λ i v got. f.values i v (has i) got;
+            old = λ i below.
+                let z : ℕ = extent p.shape in let h : i + 2 < z = below in let y : z ≡ n + 2 = size in
+                let v = got_there (values_of f.node) i (let u : i < n = omega arith in u) in
+                let w = f.values i v.0 (has i) v.1 in
+                subst (IsOldWord k) (sym w.packs) (old_word k w.value (packable k r.limits live r.whole.placed w.value v.0 w.stands) (all_old k live w.value v.0 pools w.stands));
+          };
+      places = λ q d c slot below few word inside taken.
+          let holder = owner_is (r.account.tenancy.holder q) d c few (λ e b is. (r.whole.pools.owned_by q e b is).2) (sym (r.whole.pools.owners q below) ∙ word) in
+          ⊎_elim (λ (free : at_address k s.words (place_in q c slot) ≡ 0). absurd (taken free))
+          (λ z. ⊎_elim (λ (there : (p : Place) × (live (place_in q c slot) ≡ Some p)). there)
+          (λ y. ⊎_elim (λ (prepared : r.account.tenancy.prepared (place_in q c slot) ≡ Some d). absurd (promote_rests r.account.pause (r.whole.drawers.prepared (place_in q c slot) d prepared).1 t))
+          (λ (garbage : IsTrue (r.account.tenancy.garbage (place_in q c slot))). absurd (no_garbage_here k s r id hist x at Reset tt resets (place_in q c slot) garbage)) y) z)
+          (r.whole.grid.places q d c slot holder inside);
+      stands = λ q few. subst (λ (log : List Entry). Stands live (value_at x.own.registers q) (register (state_of k log) x.own.number q)) front (g.stood.each q few);
+      registers = λ q few. all_old k live (value_at x.own.registers q) (register (state_of k r.account.log) x.own.number q) pools (g.stood.each q few);
+    }
+
+pub seen_may : (k : Config) (x : DomainView) (word a : ℕ) → word ≡ before_heap k + a → x.seen.stage ≡ In Reset → MayStep k x word (λ n. n) (ResetSeen k a)
+seen_may k x word a place resets fits slots id hist s r _ at _ = (
+  one k hist x,
+  keeps,
+  tt,
+  unmoved k s word (set s.views id (one k hist x)) (same_views k s r id (one k hist x) at),
+  (record { view = refl; words = s.words; there = ap (λ (n : ℕ). get_or s.words n 0) place; none_young = none_young k s r id hist x at resets }, refl),
+)
+
+pub reset_may : (k : Config) (x : DomainView) (word a new : ℕ) → word ≡ before_heap k + a → ResetMay k x a → MayStore k x word new (ResetTold k)
 reset_may k x word a new place may fits slots id hist s r _ at _ =
     let g = my_good k s r id hist x at in
     let base : ℕ = base_of k x.own.number in
@@ -75,14 +164,14 @@ reset_may k x word a new place may fits slots id hist s r _ at _ =
       keeps,
       tt,
       subst (λ (n : ℕ). Rule k record { words = set s.words n new; homes = s.homes; views = set s.views id (one k hist y) }) (sym place) rule,
-      (refl, refl),
+      (record { view = refl; words = s.words; none_young = none_young k s r id hist x at may.stage }, refl),
     )
 
 -- it closes where the area's use and the list were set back
-pub reset_closes : (k : Config) (x : DomainView) (found a : ℕ) → ResetMay k x a → Closes k x found ResetTold CanLeave Resets
-reset_closes k x found a may y fits told = let own = ap (λ (z : DomainView). z.own) told in record {
+pub reset_closes : (k : Config) (x : DomainView) (found a : ℕ) → ResetMay k x a → Closes k x found (ResetTold k) CanLeave Resets
+reset_closes k x found a may y fits told = let own = ap (λ (z : DomainView). z.own) told.view in record {
   can_write = tt;
   written = λ after wrote. own ∙ sym wrote;
-  fits = subst (λ (z : DomainView). OwnFits k z.own) (sym told) record { number = fits.number; used = omega arith; registers = fits.registers; looked = fits.looked; remembered = λ i b e. cc; prepared = fits.prepared; pending = fits.pending };
+  fits = subst (λ (z : DomainView). OwnFits k z.own) (sym told.view) record { number = fits.number; used = omega arith; registers = fits.registers; looked = fits.looked; remembered = λ i b e. cc; prepared = fits.prepared; pending = fits.pending };
   once = λ runs. absurd (let e : ◌≡◌ {A = Stage} (In Reset) (In Run) = sym may.stage ∙ runs in cc);
 }

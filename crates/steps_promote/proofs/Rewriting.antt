@@ -15,7 +15,7 @@ use Rattle.heap_rule.specs.declared.view.DomainView.{DomainView}
 use Rattle.heap_rule.specs.Layout.{heap_words, before_heap}
 use Rattle.heap_rule.specs.Places.{Debt, Place, Live, extent, values_of, Stands, Found, IsOldWord, Lasts, More}
 use Rattle.heap_rule.specs.Phases.{IsInPause}
-use Rattle.heap_rule.specs.Copies.{known, debt_of, Owes, IsField, Copies, Promoting, Cleared}
+use Rattle.heap_rule.specs.Copies.{IsCopied, known, debt_of, Owes, IsField, Copies, Promoting, Cleared}
 use Rattle.heap_rule.specs.Raw.{MayStore}
 use Rattle.heap_rule.specs.Rule.{state_of, AllFound, Area, Making, Rule}
 use Rattle.heap_rule.specs.Views.{one}
@@ -79,6 +79,9 @@ module _ (k : Config) (s : Words) (r : Rule k s) (id : ℕ) (hist : List Entry) 
 
   forth : (b : ℕ) (q : Place) → r.account.live b ≡ Some q → Was live2 b q
   forth = places.forth r.account.live c p p2 lives refl refl refl
+
+  copied_again : (b d : ℕ) → IsCopied r.account.live b d → IsCopied live2 b d
+  copied_again = places.copied_again r.account.live c p p2 lives refl refl refl
 
   more : More r.account.live live2
   more = places.more r.account.live c p p2 lives refl refl refl
@@ -152,6 +155,7 @@ module _ (k : Config) (s : Words) (r : Rule k s) (id : ℕ) (hist : List Entry) 
   owes2 z w remembered recalled fields = record {
     quiet = w.quiet;
     knows = λ b q e. let l = w.knows b q e in let m = more b l.place l.lives in record { place = m.place; lives = m.lives; label = m.label ∙ l.label; shape = m.shape ∙ l.shape };
+    copied = λ b d has. copied_again b d (w.copied b d has);
     owed = λ i v got. let t = w.owed i v got in let u = owed_again v.copy t.place (Some (debt_of z v)) t.lives t.debt in record { place = u.0; lives = u.1; debt = u.2 };
     once = w.once;
     listed = λ b q d e owed its. let y = before b q e in w.listed b y.place d y.lived (y.owed ∙ owed) its;

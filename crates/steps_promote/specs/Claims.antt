@@ -91,22 +91,22 @@ pub record ClaimWon (at class copy : ℕ) (place : Place) (x y : DomainView) : T
   pub room : 1 ≤ x.own.pending.room
   pub view : y ≡ record {
     own = preparing (pushed x.own copy at) class None;
-    seen = record x.seen { hunt = Rests; copying = record { met = met_of copy place ∷ x.seen.copying.met; pending = x.seen.copying.pending ++ record { copy = copy; source = at; filled = 0 } ∷ [] } };
+    seen = record x.seen { hunt = Rests; copying = record { met = met_of copy place ∷ x.seen.copying.met; pending = x.seen.copying.pending ++ record { copy = copy; source = at; filled = 0 } ∷ []; copied = record { copy = copy; source = at } ∷ x.seen.copying.copied } };
   }
 
 -- another domain claimed it: its copy is met, and the prepared place is kept
-pub record ClaimLost (k : Config) (place : Place) (x : DomainView) (found : ℕ) (y : DomainView) : Type 0 where
+pub record ClaimLost (k : Config) (at : ℕ) (place : Place) (x : DomainView) (found : ℕ) (y : DomainView) : Type 0 where
   pub copy : ℕ
   pub word : found ≡ head_word (Forward copy)
   pub old : IsOldAt k copy
   pub inside : IsInHeap k copy
-  pub view : y ≡ record x { seen = record x.seen { hunt = Rests; copying = record x.seen.copying { met = met_of copy place ∷ x.seen.copying.met } } }
+  pub view : y ≡ record x { seen = record x.seen { hunt = Rests; copying = record x.seen.copying { met = met_of copy place ∷ x.seen.copying.met; copied = record { copy = copy; source = at } ∷ x.seen.copying.copied } } }
 
 pub record ClaimTold (k : Config) (at old class copy : ℕ) (x : DomainView) (found : ℕ) (y : DomainView) : Type 0 where
   pub place : Place
   pub met : Knows x at ≡ Some place
   pub won : found ≡ old → ClaimWon at class copy place x y
-  pub lost : found ≢ old → ClaimLost k place x found y
+  pub lost : found ≢ old → ClaimLost k at place x found y
   pub more : More (Knows x) (Knows y)
   pub fit : AllFit k y
 

@@ -1,11 +1,12 @@
 -- What the steps ask and tell by which young blocks are copied: loads at which blocks are met, stores to copies, and the roots ("Retrofitting Parallelism onto OCaml", section 3.2).
-use Rattle.std.specs.Prelude.{◌≡◌, ℕ, ◌+◌, ◌*◌, ◌<◌, ◌≤◌, ◌⊎◌, List, [], ◌∷◌, length, slice_get, slice_set, Some}
+use Rattle.std.specs.Prelude.{◌≡◌, ℕ, ◌+◌, ◌*◌, ◌<◌, ◌≤◌, ◌⊎◌, List, [], ◌∷◌, length, slice_get, slice_set, Some, ◌≢◌}
 use Rattle.heap_model.specs.declared.label.Label.{Label}
 use Rattle.heap_model.specs.declared.graph.Value as model
 use Rattle.heap_model.specs.declared.graph.Node.{Node}
 use Rattle.heap_model.specs.declared.state.State as states
-use Rattle.heap_model.specs.Graph.{node_at}
-use Rattle.heap_model.specs.Fronts.{Shape, PlainShape, RawShape, EpheShape}
+use Rattle.heap_model.specs.Domains.{class_count, register}
+use Rattle.heap_model.specs.Graph.{Graph, node_at}
+use Rattle.heap_model.specs.Fronts.{Shape, PlainShape, RawShape, EpheShape, shape_of}
 use Rattle.heap_words.specs.declared.value.Value.{Value}
 use Rattle.heap_words.specs.declared.value.Value.TheVariants.{Ref}
 use Rattle.heap_words.specs.Values.{IsPackable, value_word}
@@ -13,6 +14,7 @@ use Rattle.heap_words.specs.declared.head.Head.TheVariants.{Forward}
 use Rattle.heap_words.specs.Heads.{head_word}
 use Rattle.heap_words.specs.Labels.{label_word}
 use Rattle.heap_rule.specs.declared.config.Config.{Config}
+use Rattle.heap_rule.specs.declared.view.Copied.{Copied}
 use Rattle.heap_rule.specs.declared.view.Form.{Form}
 use Rattle.heap_rule.specs.declared.view.Form.TheVariants.{Plain, Ephe}
 use Rattle.heap_rule.specs.declared.view.Met.{Met}
@@ -20,10 +22,11 @@ use Rattle.heap_rule.specs.declared.view.Owing.{Owing}
 use Rattle.heap_rule.specs.declared.view.DomainView.{DomainView}
 use Rattle.heap_rule.specs.declared.phase.Kind.TheVariants.{Promote, Reset}
 use Rattle.heap_rule.specs.declared.phase.Stage.TheVariants.{In}
-use Rattle.heap_rule.specs.Layout.{base_of}
-use Rattle.heap_rule.specs.Places.{Place, Live, extent, values_of, IsHeadOf, IsNewHead, IsPackableShape, IsBuilt, Fits, Stands, IsOldAt, IsOldWord, Lasts, More}
+use Rattle.heap_rule.specs.Layout.{base_of, at_address, owner_of}
+use Rattle.heap_rule.specs.Places.{Place, Live, extent, values_of, IsHeadOf, IsNewHead, IsPackableShape, IsBuilt, Fits, Stands, IsOldAt, IsOldWord, Lasts, More, WordStands}
 use Rattle.heap_rule.specs.Changes.{value_at}
-use Rattle.heap_rule.specs.Copies.{known}
+use Rattle.heap_rule.specs.Pools.{owned, owner_word, blocks_of, place_in}
+use Rattle.heap_rule.specs.Copies.{HasCopy, HoldsOld, known}
 use Rattle.heap_rule.specs.Rule.{state_of}
 use Rattle.heap_rule.specs.Standing.{IsAt, IsInHeap, with_registers}
 use Rattle.heap_rule.specs.Token.{Holds}
@@ -46,6 +49,13 @@ with_met x met = record x { seen = record x.seen { copying = record x.seen.copyi
 abbrev pub meeting : DomainView → Met → DomainView
 meeting x m = with_met x (m ∷ x.seen.copying.met)
 
+-- and with other copies known, and with one more of a young block
+abbrev pub with_copied : DomainView → List Copied → DomainView
+with_copied x copied = record x { seen = record x.seen { copying = record x.seen.copying { copied = copied } } }
+
+abbrev pub learning : DomainView → ℕ → ℕ → DomainView
+learning x young copy = with_copied x (record { copy = copy; source = young } ∷ x.seen.copying.copied)
+
 -- what the domain has met
 abbrev pub Knows : DomainView → Live
 Knows x = known x.seen.copying.met
@@ -65,16 +75,17 @@ pub record StaysThere (k : Config) (at : ℕ) (place : Place) (x : DomainView) (
   pub new : k.pools * 4096 < at → (c : Colours) → x.seen.share.colours ≡ Some c → IsNewHead x.seen.share.colours place.shape found
   pub view : y ≡ meeting x (met_of at place)
 
--- the block forwards: its copy is met too
+-- the block forwards: its copy is met too, and known as its copy
 pub record Forwards (k : Config) (at : ℕ) (place : Place) (x : DomainView) (found : ℕ) (y : DomainView) : Type 0 where
   pub copy : ℕ
   pub word : found ≡ head_word (Forward copy)
   pub young : k.pools * 4096 < at
   pub old : IsOldAt k copy
   pub inside : IsInHeap k copy
-  pub view : y ≡ meeting (meeting x (met_of at place)) (met_of copy place)
+  pub view : y ≡ learning (meeting (meeting x (met_of at place)) (met_of copy place)) at copy
   pub there : Lasts (Knows y) copy place
 
+-- and where a copy of the block was known, the head forwards to that copy
 pub record HeadMet (k : Config) (at : ℕ) (x : DomainView) (found : ℕ) (y : DomainView) : Type 0 where
   pub place : Place
   pub built : IsBuilt place.shape
@@ -83,6 +94,7 @@ pub record HeadMet (k : Config) (at : ℕ) (x : DomainView) (found : ℕ) (y : D
   pub more : More (Knows x) (Knows y)
   pub fit : AllFit k y
   pub told : StaysThere k at place x found y ⊎ Forwards k at place x found y
+  pub once : (copy : ℕ) → HasCopy x at copy → found ≡ head_word (Forward copy)
 
 -- a load of the label of a block that was met
 pub record LabelMay (x : DomainView) (at source : ℕ) : Type 0 where
@@ -238,6 +250,24 @@ pub record RewriteTold (at : ℕ) (x : DomainView) (new : ℕ) (y : DomainView) 
   pub first : x.seen.remembered ≡ at ∷ rest
   pub view : y ≡ recalling x rest
 
+-- the words at an address are the node of the block that lives there. Each value's word stands for the value of the node, so what it leads to lives too, and none is an address of a minor area
+pub record HasNode (k : Config) (live : Live) (graph : Graph) (words : List ℕ) (a : ℕ) (p : Place) : Type 0 where
+  pub node : Node
+  pub there : node_at graph p.label ≡ Some node
+  pub shape : shape_of node ≡ p.shape
+  pub label : at_address k words (a + 1) ≡ label_word p.label.domain p.label.serial
+  pub values : (i : ℕ) (v : model.Value) → slice_get (values_of node) i ≡ Some v → WordStands live (at_address k words (a + 2 + i)) v
+  pub old : (i : ℕ) → i + 2 < extent p.shape → IsOldWord k (at_address k words (a + 2 + i))
+
+-- No young block is left. Each block that lives at an address lies in a pool, and is a node of the graph after the domain's front, which is the whole history then. At each place of a pool that a domain owns a block lives, or the head says Free. What the domain's registers lead to lives, and no field of a block and no register of the domain has an address of a minor area
+pub record NoneYoung (k : Config) (x : DomainView) (words : List ℕ) : Type 0 where
+  pub live : Live
+  pub pools : (a : ℕ) (p : Place) → live a ≡ Some p → IsOldAt k a
+  pub nodes : (a : ℕ) (p : Place) → live a ≡ Some p → HasNode k live (state_of k x.seen.front).graph words a p
+  pub places : (pool d class slot : ℕ) → pool < k.pools → class < class_count → owner_of k words pool ≡ owner_word (owned d class) → slot < blocks_of class → at_address k words (place_in pool class slot) ≢ 0 → (p : Place) × (live (place_in pool class slot) ≡ Some p)
+  pub stands : (r : ℕ) → r < 16 → Stands live (value_at x.own.registers r) (register (state_of k x.seen.front) x.own.number r)
+  pub registers : HoldsOld k x
+
 -- in Reset the own minor area is free again, and the list of remembered fields is empty
 pub record ResetMay (k : Config) (x : DomainView) (at : ℕ) : Type 0 where
   pub stage : x.seen.stage ≡ In Reset
@@ -249,5 +279,15 @@ pub record ResetMay (k : Config) (x : DomainView) (at : ℕ) : Type 0 where
 abbrev pub reset_view : DomainView → DomainView
 reset_view x = record x { own = record x.own { used = 0; remembered = record { items = []; room = x.own.remembered.room + length x.own.remembered.items } } }
 
-abbrev pub ResetTold : DomainView → ℕ → DomainView → Type 0
-ResetTold x found y = y ≡ reset_view x
+-- at this step the young blocks are gone
+pub record ResetTold (k : Config) (x : DomainView) (new : ℕ) (y : DomainView) : Type 0 where
+  pub view : y ≡ reset_view x
+  pub words : List ℕ
+  pub none_young : NoneYoung k x words
+
+-- a load of a word of the heap in Reset: it is one of the words at this step, at which the young blocks are gone
+pub record ResetSeen (k : Config) (at : ℕ) (x : DomainView) (found : ℕ) (y : DomainView) : Type 0 where
+  pub view : y ≡ x
+  pub words : List ℕ
+  pub there : found ≡ at_address k words at
+  pub none_young : NoneYoung k x words

@@ -1,7 +1,10 @@
 //! Loads at which young blocks are met, stores to copies, and the roots.
+ghost use Rattle.std.specs.Prelude.{◌≡◌};
+ghost use Rattle.heap_rule.specs.declared.phase.Kind.TheVariants.{Reset};
+ghost use Rattle.heap_rule.specs.declared.phase.Stage.TheVariants.{In};
 ghost use Rattle.heap_rule.specs.Standing.{IsInHeap};
 ghost use Rattle.heap_rule.specs.Token.{IsIn};
-ghost use Rattle.steps_promote.specs.Promotion.{FillMay, FillTold, FilledMay, FilledTold, HeadMay, HeadMet, LabelMay, LabelMet, MoveMay, MoveTold, RecallMay, Recalled, ResetMay, ResetTold, RewriteMay, RewriteTold, ValueMay, ValueMet};
+ghost use Rattle.steps_promote.specs.Promotion.{FillMay, FillTold, FilledMay, FilledTold, HeadMay, HeadMet, LabelMay, LabelMet, MoveMay, MoveTold, RecallMay, Recalled, ResetMay, ResetSeen, ResetTold, RewriteMay, RewriteTold, ValueMay, ValueMet};
 
 use heap_rule::{Change, Domain, Heap, Leaving, Own, Writing, raw_load, raw_store};
 use heap_words::Value;
@@ -182,8 +185,22 @@ pub fn area_reset(heap: &Heap, dom: &mut Domain, at: u32)
     requires inside { IsInHeap heap.now.config at }
     requires may { ResetMay heap.now.config dom.old.view at }
     ensures here { IsIn dom.new heap.now }
-    ensures told { ResetTold dom.old.view 0 dom.new.view }
+    ensures told { ResetTold heap.now.config dom.old.view 0 dom.new.view }
 {
     let index = heap.index_of(at);
     raw_store::<Brand, Resetting>(heap, dom, index, 0, &Resetting, &[]);
+}
+
+/// In Reset no young block is left: no field of any block, and no register of the domain, has an
+/// address of a minor area. A load of any word of the heap, which is at `at`, at which this holds.
+/// Answers the word.
+pub fn reset_load(heap: &Heap, dom: &mut Domain, at: u32) -> u64
+    requires here { IsIn dom.old heap.now }
+    requires inside { IsInHeap heap.now.config at }
+    requires stage { dom.old.view.seen.stage ≡ In Reset }
+    ensures here { IsIn dom.new heap.now }
+    ensures told { ResetSeen heap.now.config at dom.old.view result dom.new.view }
+{
+    let index = heap.index_of(at);
+    raw_load::<Brand, Meeting>(heap, dom, index, &Meeting { at, place: 0 }, &[])
 }

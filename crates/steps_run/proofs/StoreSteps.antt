@@ -40,7 +40,7 @@ use Rattle.steps_run.specs.Stores.{IsOldBlock, IsYoungBlock, MustRemember, with_
 use Rattle.heap_rule.proofs.Lists.{got_set, got_below, got_end}
 use Rattle.heap_rule.proofs.ChangeLemmas.{changed_only, registers_of}
 use Rattle.heap_rule.proofs.Values.{AllStand, not_nothing}
-use Rattle.heap_rule.proofs.Keeps.{mine, my_good, control_set, controls_kept, hunter_as, appends, Controls, more_same, stands_more, quiet, no_owing, no_debt, nothing_known, field_again, run_settled, opened_words}
+use Rattle.heap_rule.proofs.Keeps.{mine, my_good, control_set, controls_kept, hunter_as, appends, Controls, more_same, stands_more, quiet, no_owing, no_copied, no_debt, nothing_known, field_again, run_settled, opened_words}
 use Rattle.heap_rule.proofs.Again.{Back, placed_back, area_back, spread_back, opened_back, grid_back}
 use Rattle.heap_rule.proofs.Update.{over, over_here, over_else}
 use Rattle.heap_rule.proofs.Lots.{Beside, head_full, live_beside, grid_beside, hunter_beside}
@@ -278,6 +278,7 @@ field_stores k slots id word hist x a new remembers block i item changes place m
       owes = record {
         quiet = inl still;
         knows = subst (λ (z : Copying). More (known z.met) live1) (sym still) (nothing_known live1);
+        copied = λ b q has. absurd (no_copied x.seen.copying b q still has);
         owed = λ j q got. absurd (no_owing x.seen.copying j q still got);
         once = λ j m q u got _ _. absurd (no_owing x.seen.copying j q still got);
         listed = λ b q debt lives owed _. absurd (no_debt live1 bare b q debt lives owed);

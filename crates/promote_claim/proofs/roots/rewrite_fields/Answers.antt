@@ -1,6 +1,7 @@
 use Rattle.std.proofs.Common.{◌≡◌, ℕ, ◌+◌, List, drop, Some, slice_get, sym, ap, ◌∙◌}
 use Rattle.heap_rule.specs.declared.view.DomainView.{DomainView}
 use Rattle.promote_claim.proofs.Fills.{drop_item}
+use Rattle.promote_claim.proofs.Meeting.{learns_twice}
 use Rattle.promote_claim.proofs.Rooting.{rewrites_twice}
 use Rattle.promote_claim.proofs.roots.rewrite_fields.Goals as goal
 
@@ -20,6 +21,7 @@ loop-i-preserved c =
       here = c.rewrite_field.ensures.here;
       view = rewrites_twice c.args.dom.now.view c.loop-i.dom.view c.rewrite_field.new.dom.view c.loop-i.invariant.view r.view;
       works = r.works;
+      learns = learns_twice c.args.dom.now.view c.loop-i.dom.view c.rewrite_field.new.dom.view c.loop-i.invariant.learns r.learns;
       tied = r.tied;
       left = r.forgotten ∙ ap (drop 1) (c.loop-i.invariant.left ∙ drop_item items i c.remembered_at-at.result here);
     }
