@@ -189,7 +189,7 @@ module _ (k : Config) (s : Words) (r : Rule k s) (id : ℕ) (hist : List Entry) 
     abbrev share' : Share
     share' = record (moved_on reason a x.seen.share) { owes = owes_on may.kind x.seen.share.owes }
 
-    recoloured : Recolours k s r id hist x at collecting a p new m' (owing_on may.kind c.shares.owes d) (held share')
+    recoloured : Recolours k s r id hist x at collecting a p new m' (owing_on may.kind c.shares.owes d) c.shares.seen (held share')
     recoloured = let cs : Colours = c.paint.colours in record {
       lives = aim.lives;
       here = record {
@@ -203,14 +203,14 @@ module _ (k : Config) (s : Words) (r : Rule k s) (id : ℕ) (hist : List Entry) 
       marked = is_dark;
       more = darkened_more m p.label;
       facts = subst (λ (kind : Kind). Facts kind k now r.account.live r.account.tenancy (c' may.kind) words') (sym kind_is) (dark_facts may.kind may.darkening (subst (λ (kind : Kind). Facts kind k now r.account.live r.account.tenancy c s.words) kind_is r.whole.cycle.facts));
-      others = owing_others may.kind c.shares.owes d;
+      others = λ z other. (owing_others may.kind c.shares.owes d z other, refl);
       owes_is = owing_own may.kind c.shares.owes d x.seen.share.owes ((my_good k s r id hist x at).sharing.telling.owes (waits_in k s r id hist x at may.kind may.stage));
-      sights = refl;
+      seen_is = (my_good k s r id hist x at).sharing.telling.seen (waits_in k s r id hist x at may.kind may.stage);
       knows = moved_knows k s r id hist x at collecting a p aim.lives m' words' is_dark (known_still k s r id hist x at collecting a p new m' aim.lives is_dark (darkened_more m p.label)) reason may.reason_is (owes_on may.kind x.seen.share.owes);
     }
 
     won_rule : Rule k record { words = words'; homes = s.homes; views = set s.views id (one k hist (with_share x share')) }
-    won_rule = recolours k s r id hist x at collecting a p new m' (owing_on may.kind c.shares.owes d) (held share') recoloured
+    won_rule = recolours k s r id hist x at collecting a p new m' (owing_on may.kind c.shares.owes d) c.shares.seen (held share') recoloured
 
 pub darken_may : (k : Config) (x : DomainView) (word a old new : ℕ) (reason : Reason) → word ≡ before_heap k + a → DarkenMay x a old new reason → MayStep k x word (λ n. either (n == old) new n) (DarkenTold old a reason)
 darken_may k x word a old new reason place may fits slots id hist s r _ at _ =

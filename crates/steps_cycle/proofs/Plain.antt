@@ -9,7 +9,7 @@ use Rattle.heap_rule.specs.declared.view.Share.{Share}
 use Rattle.heap_rule.specs.Raw.{CanLeave, Closes, Leaves}
 use Rattle.heap_rule.proofs.Closes.{front_same, leaves_closes}
 use Rattle.steps_cycle.specs.Looks.{ColoursTold, with_share}
-use Rattle.steps_cycle.specs.Marking.{ChangedTold, DarkenTold, GlimpseTold, GreyTold, MarkTold, OwnTold, Reason, ScanTold, ScannedTold, begun, behind, moved_on, owes_on, scanned_on}
+use Rattle.steps_cycle.specs.Marking.{ChangedTold, DarkenTold, GlimpseTold, GreyTold, MarkTold, OwnTold, Reason, ScanTold, ScannedTold, begun, behind, moved_on, owes_on, scanned_on, Site, sights_on, walk_on}
 
 -- a step that tells of the share alone
 pub share_closes : (k : Config) (x : DomainView) (found : ℕ) (tells : DomainView → ℕ → DomainView → Type 0) → ((y : DomainView) → tells x found y → (share : Share) × (y ≡ with_share x share)) → Closes k x found tells CanLeave Leaves
@@ -38,8 +38,8 @@ grey_closes k x found a = share_closes k x found (GreyTold a) (λ y t. ⊎_elim 
 pub scan_closes : (k : Config) (x : DomainView) (found : ℕ) → Closes k x found (ScanTold k) CanLeave Leaves
 scan_closes k x found = share_closes k x found (ScanTold k) (λ y t. (record x.seen.share { scan = scanned_on x.seen.share.scan t.value }, t.view))
 
-pub scanned_closes : (k : Config) (x : DomainView) (new : ℕ) → Closes k x new ScannedTold CanLeave Leaves
-scanned_closes k x new = share_closes k x new ScannedTold (λ y t. (record x.seen.share { scan = Idle }, t))
+pub scanned_closes : (k : Config) (x : DomainView) (new a : ℕ) (site : Site) → Closes k x new (ScannedTold a site) CanLeave Leaves
+scanned_closes k x new a site = share_closes k x new (ScannedTold a site) (λ y t. (record x.seen.share { scan = Idle; sights = sights_on site a x.seen.share.sights; walk = walk_on site x.seen.share.walk }, t))
 
 pub changed_closes : (k : Config) (x : DomainView) → Closes k x 1 ChangedTold CanLeave Leaves
 changed_closes k x = share_closes k x 1 ChangedTold (λ y t. (record x.seen.share { owes = false }, t))

@@ -28,7 +28,7 @@ use Rattle.heap_rule.specs.declared.view.Share.{Share}
 use Rattle.heap_rule.specs.declared.view.Tenure.{Tenure}
 use Rattle.heap_rule.specs.Layout.{before_heap, at_address, owner_of}
 use Rattle.heap_rule.specs.Places.{IsBuilt, Live, Place}
-use Rattle.heap_rule.specs.Pools.{Holder, IsBefore, blocks_of, drawn, nobody, owned, owner_word, place_in}
+use Rattle.heap_rule.specs.Pools.{Holder, IsBefore, IsPlace, blocks_of, drawn, nobody, owned, owner_word, place_in}
 use Rattle.heap_rule.specs.Cycles.{Cycling, Facts, IsCollecting, Knowing, Scanned, cycle_of, seen_by}
 use Rattle.heap_rule.specs.Raw.{MayStep}
 use Rattle.heap_rule.specs.Rule.{Rule, state_of}
@@ -37,7 +37,7 @@ use Rattle.heap_rule.proofs.Controls.{untouched_same}
 use Rattle.heap_rule.proofs.Keeps.{Words, my_good, unmoved}
 use Rattle.heap_rule.proofs.Lots.{owned_same}
 use Rattle.steps_cycle.specs.Looks.{with_share}
-use Rattle.steps_cycle.specs.Marking.{GreyMay, GreyTold, IsGrey, IsNotGrey, MarkMay, MarkTold, OwnMay, OwnTold, begun, behind, fields_in}
+use Rattle.steps_cycle.specs.Marking.{GreyMay, GreyTold, IsGrey, IsNotGrey, IsNext, MarkMay, MarkTold, OwnMay, OwnTold, begun, behind, fields_in}
 use Rattle.steps_cycle.proofs.Colouring.{BareHead, bare_head, coloured}
 use Rattle.steps_cycle.proofs.Layouts.{labelled, owner_of_place}
 use Rattle.steps_cycle.proofs.Learning.{at_other, at_same, bare, held, kind_here, knows_more, known, not_promoting, shifts_more, waits_in}
@@ -209,7 +209,36 @@ module _ (k : Config) (s : Words) (r : Rule k s) (id : ℕ) (hist : List Entry) 
       marked = kn.marked;
     }
 
-  -- the head at the next place of an own pool
+  -- the next place of the walk, in an own pool
+  module _ (a pool class slot : ℕ) (place : IsNext x a pool class slot) where
+    own_pool : holder pool ≡ owned d class
+    own_pool = kn.tenure (record { pool = pool; class = class }) place.own
+
+    pub own_place : (cycle_of k live holder c).layout.owner a ≡ Some d
+    own_place = ap (λ (b : ℕ). (cycle_of k live holder c).layout.owner b) place.begins ∙ owner_of_place holder pool d class slot (r.whole.pools.owned_by pool d class own_pool).2 own_pool place.inside
+
+    -- what is there
+    pub place_there : IsPlace k r.account.tenancy live s.words d a
+    place_there = subst (IsPlace k r.account.tenancy live s.words d) (sym place.begins) (r.whole.grid.places pool d class slot own_pool place.inside)
+
+    -- once it is seen, the walk goes on
+    abbrev pub seen_next : ℕ → ℕ → Bool
+    seen_next = at_domain c.shares.seen d (λ b. b == a || c.shares.seen d b)
+
+    pub next_is : c.shares.arrived d ≡ false → seen_next d ≡ seen_by (a ∷ sh.sights)
+    next_is waits = at_same c.shares.seen d (λ b. b == a || c.shares.seen d b) ∙ ap (λ (f : ℕ → Bool). λ (b : ℕ). b == a || f b) ((my_good k s r id hist x at).sharing.telling.seen waits)
+
+    pub next_other : (z : ℕ) → z ≢ d → seen_next z ≡ c.shares.seen z
+    next_other z other = at_other c.shares.seen d (λ b. b == a || c.shares.seen d b) z other
+
+    pub next_walked : (q e i : ℕ) → holder q ≡ owned d e → i < blocks_of e → IsBefore q i (behind pool class slot) → IsTrue (seen_by (a ∷ sh.sights) (place_in q e i))
+    next_walked q e i is inside before =
+        let class_is : q ≡ pool → e ≡ class = (λ same. (owned_same d d e class (sym is ∙ (ap holder same ∙ own_pool))).1) in ⊎_elim
+        (λ (h : (q ≡ pool) × (i ≡ slot)). or_left (place_in q e i == a) (seen_by sh.sights (place_in q e i)) (eq-eqb (place_in q e i) a (ap (λ (z : ℕ × ℕ × ℕ). place_in z.0 z.1 z.2) (λ j. (h.0 j, class_is h.0 j, h.1 j)) ∙ sym place.begins)))
+        (λ (h : IsBefore q i (record { pool = pool; slot = slot })). or_right (place_in q e i == a) (seen_by sh.sights (place_in q e i)) (kn.walked q e i is inside (subst (IsBefore q i) (sym place.next) h)))
+        (before_behind pool class slot q i (λ same. subst (λ (z : ℕ). i < blocks_of z) (class_is same) inside) before)
+
+  -- the head there
   module _ (a pool class slot : ℕ) (may : MarkMay x a pool class slot) where
     abbrev found : ℕ
     found = at_address k s.words a
@@ -217,20 +246,11 @@ module _ (k : Config) (s : Words) (r : Rule k s) (id : ℕ) (hist : List Entry) 
     collecting : IsCollecting x.seen.stage
     collecting = subst IsCollecting (sym may.stage) (λ none. none)
 
-    is_own : holder pool ≡ owned d class
-    is_own = kn.tenure (record { pool = pool; class = class }) may.own
-
-    few : class < class_count
-    few = (r.whole.pools.owned_by pool d class is_own).2
-
     kind_is : c.kind ≡ Mark
     kind_is = kind_here k s r id hist x at Mark may.stage
 
     facts : Facts Mark k now live r.account.tenancy c s.words
     facts = subst (λ (kind : Kind). Facts kind k now live r.account.tenancy c s.words) kind_is r.whole.cycle.facts
-
-    abbrev seen' : ℕ → ℕ → Bool
-    seen' = at_domain c.shares.seen d (λ b. b == a || c.shares.seen d b)
 
     abbrev saw : Share
     saw = record sh { sights = a ∷ sh.sights; walk = behind pool class slot }
@@ -240,28 +260,16 @@ module _ (k : Config) (s : Words) (r : Rule k s) (id : ℕ) (hist : List Entry) 
     saw_rule quiet =
         let t = (my_good k s r id hist x at).sharing.telling in
         let waits : c.shares.arrived d ≡ false = waits_in k s r id hist x at Mark may.stage in
-        shifts_more k s r id hist x at collecting c.shares.changed c.shares.owes seen' (held saw) s.words (untouched_same s.words) refl refl refl r.whole.cycle.changed_is
-        (subst (λ (kind : Kind). Facts kind k now live r.account.tenancy (record c { shares = record c.shares { seen = seen' } }) s.words) (sym kind_is) (
-          darkening_steps.mark_looks c.pass k.domains now (cycle_of k live holder c) facts.0 d a
-              (ap (λ (b : ℕ). (cycle_of k live holder c).layout.owner b) may.word ∙ owner_of_place holder pool d class slot few is_own may.inside)
+        shifts_more k s r id hist x at collecting c.shares.changed c.shares.owes (seen_next a pool class slot may.place) (held saw) s.words (untouched_same s.words) refl refl refl r.whole.cycle.changed_is
+        (subst (λ (kind : Kind). Facts kind k now live r.account.tenancy (record c { shares = record c.shares { seen = seen_next a pool class slot may.place } }) s.words) (sym kind_is) (
+          darkening_steps.mark_looks c.pass k.domains now (cycle_of k live holder c) facts.0 d a (own_place a pool class slot may.place)
               (λ l e is. let u = labelled k live a l e in subst (λ (z : Label). IsTrue (m.scanned z)) u.label (quiet u.place u.lives (subst (λ (z : Label). IsTrue (m.marked z)) (sym u.label) is))),
           facts.1,
         ))
-        (λ z other. (refl, at_other c.shares.seen d (λ b. b == a || c.shares.seen d b) z other))
+        (λ z other. (refl, next_other a pool class slot may.place z other))
         (t.owes waits)
-        (at_same c.shares.seen d (λ b. b == a || c.shares.seen d b) ∙ ap (λ (f : ℕ → Bool). λ (b : ℕ). b == a || f b) (t.seen waits))
-        record {
-          glimpse = kn.glimpse;
-          scan = kn.scan;
-          walked = λ q e i is inside before.
-              let class_is : q ≡ pool → e ≡ class = (λ same. (owned_same d d e class (sym is ∙ (ap holder same ∙ is_own))).1) in ⊎_elim
-              (λ (h : (q ≡ pool) × (i ≡ slot)). or_left (place_in q e i == a) (seen_by sh.sights (place_in q e i)) (eq-eqb (place_in q e i) a (ap (λ (z : ℕ × ℕ × ℕ). place_in z.0 z.1 z.2) (λ j. (h.0 j, class_is h.0 j, h.1 j)) ∙ sym may.word)))
-              (λ (h : IsBefore q i (record { pool = pool; slot = slot })). or_right (place_in q e i == a) (seen_by sh.sights (place_in q e i)) (kn.walked q e i is inside (subst (IsBefore q i) (sym may.next) h)))
-              (before_behind pool class slot q i (λ same. subst (λ (z : ℕ). i < blocks_of z) (class_is same) inside) before);
-          tenure = kn.tenure;
-          rooted = kn.rooted;
-          marked = kn.marked;
-        }
+        (next_is a pool class slot may.place waits)
+        record { glimpse = kn.glimpse; scan = kn.scan; walked = next_walked a pool class slot may.place; tenure = kn.tenure; rooted = kn.rooted; marked = kn.marked }
         refl
 
     abbrev Looked : DomainView → Type 0
@@ -285,17 +293,16 @@ module _ (k : Config) (s : Words) (r : Rule k s) (id : ℕ) (hist : List Entry) 
     pub looks_at : (o : Option Place) → live a ≡ o → (y : DomainView) × Looked y
     looks_at (Some p) e = look_live p e
     looks_at None e =
-        let b : ℕ = place_in pool class slot in
-        let free : found ≡ 0 = ap (at_address k s.words) may.word ∙ ⊎_elim
-        (λ (z : at_address k s.words b ≡ 0). z)
+        let free : found ≡ 0 = ⊎_elim
+        (λ (z : found ≡ 0). z)
         (λ z. absurd (⊎_elim
-        (λ (u : (p : Place) × (live b ≡ Some p)). place_clash u.0 (sym e ∙ (ap live may.word ∙ u.1)))
+        (λ (u : (p : Place) × (live a ≡ Some p)). place_clash u.0 (sym e ∙ u.1))
         (λ u. ⊎_elim
-        (λ (f : r.account.tenancy.prepared b ≡ Some d). not_promoting k s r id hist x at collecting (r.whole.drawers.prepared b d f).1)
-        (λ (f : IsTrue (r.account.tenancy.garbage b)). true≢false (sym f ∙ r.whole.cycle.leaves.none facts.1 b))
+        (λ (f : r.account.tenancy.prepared a ≡ Some d). not_promoting k s r id hist x at collecting (r.whole.drawers.prepared a d f).1)
+        (λ (f : IsTrue (r.account.tenancy.garbage a)). true≢false (sym f ∙ r.whole.cycle.leaves.none facts.1 a))
         u)
         z))
-        (r.whole.grid.places pool d class slot is_own may.inside) in (
+        (place_there a pool class slot may.place) in (
           with_share x saw,
           (saw_rule (λ q f. absurd (place_clash q (sym e ∙ f))), record { colours = may.colours; known = may.known; told = inl (inl free, refl) }),
         )

@@ -118,13 +118,17 @@ pub record OwnTold (pool : ℕ) (x : DomainView) (found : ℕ) (y : DomainView) 
 abbrev pub behind : ℕ → ℕ → ℕ → Spot
 behind pool class slot = if nat_le (blocks_of class) (slot + 1) then record { pool = pool + 1; slot = 0 } else record { pool = pool; slot = slot + 1 }
 
--- in Mark, a load of the head at the next place of an own pool
-pub record MarkMay (x : DomainView) (at pool class slot : ℕ) : Type 0 where
-  pub stage : x.seen.stage ≡ In Mark
+-- the address is that of the next place of the walk, in an own pool
+pub record IsNext (x : DomainView) (at pool class slot : ℕ) : Type 0 where
   pub own : x.seen.share.tenure ≡ Some (record { pool = pool; class = class })
   pub inside : slot < blocks_of class
-  pub word : at ≡ place_in pool class slot
+  pub begins : at ≡ place_in pool class slot
   pub next : x.seen.share.walk ≡ record { pool = pool; slot = slot }
+
+-- in Mark, a load of the head at that place
+pub record MarkMay (x : DomainView) (at pool class slot : ℕ) : Type 0 where
+  pub stage : x.seen.stage ≡ In Mark
+  pub place : IsNext x at pool class slot
   pub colours : Colours
   pub known : x.seen.share.colours ≡ Some colours
 
@@ -196,8 +200,25 @@ pub record ScanTold (k : Config) (x : DomainView) (found : ℕ) (y : DomainView)
   pub inside : (a : ℕ) → value ≡ Ref a → IsAddress k a
   pub view : y ≡ with_share x (record x.seen.share { scan = scanned_on x.seen.share.scan value })
 
+-- where a block lies that was scanned: anywhere, or at the next place of the walk, which goes on then
+pub data Site : Type 0 where
+  Anywhere : Site
+  Next : ℕ → ℕ → ℕ → Site
+
+abbrev pub LiesAt : Site → DomainView → ℕ → Type 0
+LiesAt Anywhere x at = Unit {0}
+LiesAt (Next pool class slot) x at = IsNext x at pool class slot
+
+abbrev pub sights_on : Site → ℕ → List ℕ → List ℕ
+sights_on Anywhere at sights = sights
+sights_on (Next pool class slot) at sights = at ∷ sights
+
+abbrev pub walk_on : Site → Spot → Spot
+walk_on Anywhere walk = walk
+walk_on (Next pool class slot) walk = behind pool class slot
+
 -- in Mark, the head of the block that is scanned gets the scanned mark, where all its fields are done
-pub record ScannedMay (x : DomainView) (at new : ℕ) : Type 0 where
+pub record ScannedMay (x : DomainView) (at new : ℕ) (site : Site) : Type 0 where
   pub stage : x.seen.stage ≡ In Mark
   pub size : ℕ
   pub word : ℕ
@@ -207,9 +228,10 @@ pub record ScannedMay (x : DomainView) (at new : ℕ) : Type 0 where
   pub shape : Shape
   pub head : IsHeadOf shape word
   pub marks : HeadIs None shape colours.marked true new
+  pub lies : LiesAt site x at
 
-abbrev pub ScannedTold : DomainView → ℕ → DomainView → Type 0
-ScannedTold x found y = y ≡ with_share x (record x.seen.share { scan = Idle })
+abbrev pub ScannedTold : ℕ → Site → DomainView → ℕ → DomainView → Type 0
+ScannedTold at site x found y = y ≡ with_share x (record x.seen.share { scan = Idle; sights = sights_on site at x.seen.share.sights; walk = walk_on site x.seen.share.walk })
 
 -- in Mark and in Rounds, 1 is stored in the changed word
 pub record ChangedMay (x : DomainView) : Type 0 where
