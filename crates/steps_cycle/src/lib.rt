@@ -4,6 +4,12 @@
 
 mod colours;
 mod looking;
+mod marking;
+mod scanning;
+mod walking;
 
 pub use colours::colours_now;
 pub use looking::colours_load;
+pub use marking::{darken_exchange, glimpse_load};
+pub use scanning::{changed_store, scan_load, scanned_store};
+pub use walking::{grey_load, mark_load, own_load};
