@@ -154,8 +154,8 @@ module _ (k : Config) (log : List Entry) (live : Live) (t : Tenancy) (c : Cyclin
     abbrev Goes : Kind → Kind → Type 0
     Goes last next = Ready last next c words → Facts last k s live t c words → Fullness k log live t.holder t.fresh homes last → Way last next
 
-    between : IsBetween s c → (last next : Kind) → rotated_in next c.rotated ≡ false → IsBetween s (led_cycle last next s c)
-    between b last next unrotated = record { mode = b.mode; unmarked = b.unmarked; unchanged = b.unchanged; unrotated = unrotated }
+    between : IsBetween s c → (before next : Kind) → rotated_in next c.rotated ≡ false → IsBetween s (led_cycle before next s c)
+    between b before next unrotated = record { mode = b.mode; unmarked = b.unmarked; unchanged = b.unchanged; unrotated = unrotated }
 
     -- shares that begin anew with a changed word of 0
     quietly : (P : laws.Cycle → Type 0) (last next : Kind) → c.shares.changed ≡ false → P (record (cycle_of k live t.holder (led_cycle last next s c)) { shares = no_shares }) → P (cycle_of k live t.holder (led_cycle last next s c))
@@ -342,6 +342,17 @@ module _ (k : Config) (log : List Entry) (live : Live) (t : Tenancy) (c : Cyclin
         unturned = λ e. cc;
         uncounted = λ e. cc;
       };
+    }
+
+    -- a collection begins, where the domains don't run next. No kind follows so yet
+    pub begins : Goes Reset Roots
+    begins r f full = record {
+      allowed = λ e is. absurd (no_entry e is);
+      facts = (quietly (laws.InPhase (laws.Roots laws.First) k.domains s) Reset Roots f.unchanged (phase_steps.begins k.domains s cyc f.mode f.unmarked), record { unchanged = f.unchanged; unrotated = f.unrotated });
+      full = full_kind k log live t.holder t.fresh homes Reset Roots (λ _ e. cc) full;
+      clean = λ e a. none e a;
+      unturned = λ e. cc;
+      uncounted = λ e. cc;
     }
 
     pub led_way : (last next : Kind) → Follows last next → Ready last next c words → Facts last k s live t c words → Fullness k log live t.holder t.fresh homes last → Way last next
