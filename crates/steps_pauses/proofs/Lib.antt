@@ -1,6 +1,11 @@
-pub mod Plain
+pub mod PlainHistories
+mod Layouts
 mod Arriving
+mod Finishing
 mod Naming
+mod CollectorEntries
+mod Leading
 mod Arrivals
+pub mod Plain
 pub mod PauseSteps
 pub mod EndSteps
