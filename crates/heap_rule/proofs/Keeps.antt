@@ -211,13 +211,6 @@ run_leads kind e = cc
 pub running_took_back : (words : List ℕ) (y : DomainView) → y.seen.stage ≡ In Run → TookBack words y
 running_took_back words y runs kind leads last = absurd (run_leads kind (sym runs ∙ leads))
 
--- who leads is in a pause
-pub leads_paused : (stage : Stage) → IsLeading stage → IsInPause stage
-leads_paused (In kind) leads = absurd leads
-leads_paused (Leads kind) leads = tt
-leads_paused (Led kind) leads = tt
-leads_paused (Gone kind) leads = absurd leads
-
 -- a domain that takes blocks leads no pause
 takes_leads : (stage : Stage) → Takes stage → IsLeading stage → ⊥
 takes_leads stage takes leads = ⊎_elim (λ (h : stage ≡ In Run). subst IsLeading h leads) (λ (h : stage ≡ In Promote). subst IsLeading h leads) takes

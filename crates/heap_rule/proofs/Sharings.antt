@@ -90,6 +90,7 @@ swept_words k s live holder c words words' same f = let n = f.counted in record 
   facts = f.facts;
   rotated = f.rotated;
   all_marked = f.all_marked;
+  unmarked = f.unmarked;
   unchanged = f.unchanged;
   counted = record { first = n.first; once = n.once; owned = n.owned; all = n.all; blocks_are = same.blocks_same ∙ n.blocks_are; words_are = same.words_same ∙ n.words_are };
 }

@@ -84,7 +84,7 @@ pub record Cycling : Type 0 where
   pub pass : laws.Pass
   pub paint : Paint
   pub shares : Shares
-  -- what was marked when the present Rounds began
+  -- what was marked when the present Rounds began, or when the marking ended
   pub before : Label → Bool
   -- how many registrations a domain has left to look at
   pub left : ℕ → ℕ
@@ -117,6 +117,10 @@ layout_of k live holder = record { live = label_at k live; owner = owner_at hold
 abbrev pub cycle_of : Config → Live → (ℕ → Holder) → Cycling → laws.Cycle
 cycle_of k live holder c = record { whole = c.whole; marks = c.paint.marks; layout = layout_of k live holder; shares = c.shares; before = c.before; left = c.left }
 
+-- and from the rotation on, when what was marked is unmarked again
+abbrev pub swept_of : Config → Live → (ℕ → Holder) → Cycling → laws.Cycle
+swept_of k live holder c = record (cycle_of k live holder c) { marks = record { marked = c.before; scanned = c.before } }
+
 -- between two collections nothing is marked, and no collector's entry is open
 pub record IsBetween (s : model.State) (c : Cycling) : Type 0 where
   pub mode : s.mode ≡ Open
@@ -142,13 +146,24 @@ pub record Counted (n : ℕ) (y : Layout) (g : Graph) (marked : Label → Bool) 
 abbrev pub AllMarked : Live → (Label → Bool) → Type 0
 AllMarked live marked = (a : ℕ) (p : Place) → live a ≡ Some p → IsTrue (marked p.label)
 
+-- garbage lies in the pools of domains
+abbrev pub GarbageOwned : ℕ → (ℕ → Option ℕ) → (ℕ → Bool) → Type 0
+GarbageOwned n owner garbage = (a : ℕ) → IsTrue (garbage a) → (d : ℕ) × (d < n) × (owner a ≡ Some d)
+
+-- the colours were rotated: what was marked is unmarked, and nothing else lives
+pub record IsRotated (k : Config) (live : Live) (t : Tenancy) (c : Cycling) : Type 0 where
+  pub all_marked : AllMarked live c.before
+  pub unmarked : (l : Label) → c.paint.marks.marked l ≡ false
+  pub owned : GarbageOwned k.domains (owner_at t.holder) t.garbage
+
 -- what holds from the rotation on: all that lives was marked, and the live words are what was counted
 pub record IsSwept (k : Config) (s : model.State) (live : Live) (holder : ℕ → Holder) (c : Cycling) (words : List ℕ) : Type 0 where
-  pub facts : laws.InPhase laws.Sweep k.domains s (cycle_of k live holder c)
+  pub facts : laws.InPhase laws.Sweep k.domains s (swept_of k live holder c)
   pub rotated : IsTrue c.rotated
-  pub all_marked : AllMarked live c.paint.marks.marked
+  pub all_marked : AllMarked live c.before
+  pub unmarked : (l : Label) → c.paint.marks.marked l ≡ false
   pub unchanged : c.shares.changed ≡ false
-  pub counted : Counted k.domains (layout_of k live holder) s.graph c.paint.marks.marked c.counts words
+  pub counted : Counted k.domains (layout_of k live holder) s.graph c.before c.counts words
 
 -- while blocks are freed and counted, whoever has arrived has been at all its places, and has added what it counted
 pub record Sweeping (k : Config) (s : model.State) (live : Live) (t : Tenancy) (c : Cycling) (words : List ℕ) : Type 0 where
@@ -162,6 +177,13 @@ pub record Answering (k : Config) (s : model.State) (live : Live) (t : Tenancy) 
   pub clean : (a : ℕ) → t.garbage a ≡ false
   pub all_counted : (d : ℕ) → d < k.domains → IsTrue (c.counts.words d)
 
+-- while last finalisers are queued what is marked is what was marked before, until the colours are rotated
+pub record Leaving (k : Config) (s : model.State) (live : Live) (t : Tenancy) (c : Cycling) : Type 0 where
+  pub facts : laws.InPhase laws.Lasts k.domains s (swept_of k live t.holder c)
+  pub unchanged : c.shares.changed ≡ false
+  pub stays : c.rotated ≡ false → (l : Label) → c.paint.marks.marked l ≡ c.before l
+  pub turned : IsTrue c.rotated → IsRotated k live t c
+
 -- what holds in a phase of a kind
 abbrev pub Facts : Kind → Config → model.State → Live → Tenancy → Cycling → List ℕ → Type 0
 Facts Run k s live t c words = IsBetween s c
@@ -173,7 +195,7 @@ Facts Rounds k s live t c words = laws.InPhase (laws.Rounds c.pass) k.domains s 
 Facts Decide k s live t c words = laws.InPhase laws.Decide k.domains s (cycle_of k live t.holder c) × IsPlain c
 Facts Queued k s live t c words = laws.InPhase (laws.Roots laws.Second) k.domains s (cycle_of k live t.holder c) × IsPlain c
 Facts Clean k s live t c words = laws.InPhase laws.Clean k.domains s (cycle_of k live t.holder c) × IsPlain c
-Facts Lasts k s live t c words = laws.InPhase laws.Lasts k.domains s (cycle_of k live t.holder c) × (c.shares.changed ≡ false) × (IsTrue c.rotated → AllMarked live c.paint.marks.marked)
+Facts Lasts k s live t c words = Leaving k s live t c
 Facts Sweep k s live t c words = Sweeping k s live t c words
 Facts Answer k s live t c words = Answering k s live t c words
 

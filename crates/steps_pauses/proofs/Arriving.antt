@@ -155,7 +155,7 @@ facts_stock Rounds k s live t stock c words f = f
 facts_stock Decide k s live t stock c words f = f
 facts_stock Queued k s live t stock c words f = f
 facts_stock Clean k s live t stock c words f = f
-facts_stock Lasts k s live t stock c words f = f
+facts_stock Lasts k s live t stock c words f = record { facts = f.facts; unchanged = f.unchanged; stays = f.stays; turned = λ is. let r = f.turned is in record { all_marked = r.all_marked; unmarked = r.unmarked; owned = r.owned } }
 facts_stock Sweep k s live t stock c words f = record { swept = f.swept; sweep = f.sweep; all_counted = f.all_counted }
 facts_stock Answer k s live t stock c words f = record { swept = f.swept; clean = f.clean; all_counted = f.all_counted }
 

@@ -1,4 +1,5 @@
 pub mod Plain
+pub mod PlainHistories
 mod Arriving
 mod Naming
 mod Arrivals

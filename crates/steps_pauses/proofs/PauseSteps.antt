@@ -30,8 +30,8 @@ use Rattle.heap_rule.proofs.Update.{over, over_here, over_else}
 use Rattle.heap_rule.proofs.Controls.{Untouched, untouched_same, counts_untouched, low_untouched, reserved_untouched, hunter_untouched, resting_untouched, sum_low, parity, Move, moved_to, no_move, turns, notes_rule, last_note_end, cycle_untouched}
 use Rattle.heap_rule.proofs.Holders.{stock_self}
 use Rattle.steps_pauses.proofs.Arrivals.{arrives}
-use Rattle.heap_rule.proofs.Keeps.{Words, mine, my_good, now, unmoved, quiet_in, owes_rests, hunter_as, room_words}
-use Rattle.heap_rule.proofs.PauseFacts.{nobody_paused, not_both}
+use Rattle.heap_rule.proofs.Keeps.{Words, mine, my_good, now, unmoved, nobody_leads, quiet_in, owes_rests, hunter_as, room_words}
+use Rattle.heap_rule.proofs.PauseFacts.{not_both}
 use Rattle.heap_rule.proofs.Sharings.{SameCycle}
 use Rattle.steps_pauses.proofs.Naming.{led_cycle, led_pause, full_led, cycle_led, sharing_led, sharings_led, sharing_looked}
 
@@ -311,7 +311,7 @@ leads k slots id hist x new next may s r _ at _ =
         untouched = untouched;
         front = (mine k s r id hist x at).front;
         endings = get_or-set_other s.words 2 8 new 0 (λ e. omega arith);
-        still = λ _. g.still (subst IsInPause (sym may.stage) tt);
+        still = λ paused. absurd paused;
         drawers = record {
           drawn = λ q e h. let u = (r.whole.drawers.drawn q e h).1 in absurd (not_both t.phase (u.0, u.1) (j, odd));
           prepared = λ q e h. absurd (elsewhere (r.whole.drawers.prepared q e h).1);
@@ -379,7 +379,7 @@ ask_may k x bits runs fits slots id h s r _ at _ =
           (λ j odd. absurd (not_both r.account.pause.phase (even.0, even.1) (j, odd)))
           (noted_otherwise (set s.words 0 (bit_or (get_or s.words 0 0) bits)) (noted x (Asked bits)) x.seen.notes (Asked bits) refl (asked_note bits))
           (noted_elsewhere (noted x (Asked bits)) x.seen.notes (Asked bits) refl (asked_note bits))
-          (λ z its took kind leads last. absurd (nobody_paused r.account.pause x z runs staged its (subst IsInPause (sym leads) tt))),
+          (λ z its took kind leads last. absurd (nobody_leads r.account.pause x z (inl runs) staged its (subst IsLeading (sym leads) tt))),
       (refl, refl),
     )
 
