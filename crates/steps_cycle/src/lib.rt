@@ -3,5 +3,11 @@
 #![tactic(auto)]
 
 mod looking;
+mod marking;
+mod scanning;
+mod walking;
 
 pub use looking::colours_load;
+pub use marking::{darken_exchange, glimpse_load};
+pub use scanning::{changed_store, scan_load, scanned_store};
+pub use walking::{grey_load, mark_load, own_load};

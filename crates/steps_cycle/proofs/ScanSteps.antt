@@ -1,0 +1,284 @@
+-- A marked block is scanned, and the changed word is stored.
+use Rattle.std.proofs.Common.{◌≡◌, ◌≢◌, ℕ, suc, ◌+◌, ◌*◌, ◌<◌, ◌≤◌, ◌⊎◌, ◌||◌, Bool, true, false, cond, IsTrue, List, [], length, get_or, set, slice_get, Some, Option, None, sym, refl, ap, ◌∙◌, subst, inl, inr, ⊎_elim, arith, add-one, length-set, get_or-set_same, get_or-set_other}
+use mathlib.Core.Option.{some}
+use lib.ListN.{get_elem?}
+use Rattle.atomic_table.specs.Table.{keeps}
+use Rattle.heap_model.specs.declared.entry.Entry.{Entry}
+use Rattle.heap_model.specs.declared.label.Label.{Label}
+use Rattle.heap_model.specs.declared.graph.Value.{Value}
+use Rattle.heap_model.specs.declared.graph.Value.TheVariants.{Int, Block, Nothing}
+use Rattle.heap_model.specs.declared.graph.Node.{Node}
+use Rattle.heap_model.specs.declared.graph.Node.TheVariants.{Plain}
+use Rattle.heap_model.specs.declared.state.State as model
+use Rattle.heap_model.specs.Graph.{Graph, same_label, node_at}
+use Rattle.heap_model.specs.Reach.{HoldsRoots}
+use Rattle.heap_model.proofs.Graphs.GraphLemmas.{same_label_refl, same_label-false}
+use Rattle.heap_words.specs.declared.colours.Colours.{Colours}
+use Rattle.heap_words.specs.declared.value.Value as held_value
+use Rattle.heap_words.specs.declared.value.Value.TheVariants.{Int as IntWord, Ref, Nothing as NothingWord}
+use Rattle.heap_words.specs.Heads.{head_word}
+use Rattle.cycle_laws.specs.Marks.{Marks, with_scanned, fields_of, FieldsMarked}
+use Rattle.cycle_laws.specs.Progress.{FieldsDone}
+use Rattle.cycle_laws.specs.Shares.{at_domain}
+use Rattle.cycle_laws.proofs.Cycling.{darkening_steps}
+use Rattle.cycle_laws.proofs.Progressing.{fields_next, fields_end}
+use Rattle.heap_rule.specs.declared.config.Config.{Config}
+use Rattle.heap_rule.specs.declared.phase.Kind.{Kind}
+use Rattle.heap_rule.specs.declared.phase.Kind.TheVariants.{Run, Promote, Reset, Roots, Mark, Rounds, Decide, Queued, Clean, Lasts, Sweep, Answer}
+use Rattle.heap_rule.specs.declared.view.DomainView.{DomainView}
+use Rattle.heap_rule.specs.declared.view.Scan.{Scan}
+use Rattle.heap_rule.specs.declared.view.Scan.TheVariants.{Idle, Reads, Holds}
+use Rattle.heap_rule.specs.declared.view.Share.{Share}
+use Rattle.heap_rule.specs.Layout.{before_heap, heap_words, at_address}
+use Rattle.heap_rule.specs.Places.{Debt, HasValue, Live, Place, Stands, WordStands, colour_in, head_of, values_of}
+use Rattle.heap_rule.specs.Cycles.{Cycling, Facts, HasNoCycle, IsCollecting, Knowing, Refers, Scanned, Scans, cycle_of}
+use Rattle.heap_rule.specs.Raw.{CanLeave, Closes, Leaves, MayStep, MayStore}
+use Rattle.heap_rule.specs.Rule.{Rule, state_of}
+use Rattle.heap_rule.specs.Token.{IsAddress}
+use Rattle.heap_rule.specs.Views.{one}
+use Rattle.heap_rule.proofs.Blocks.{some_same}
+use Rattle.heap_rule.proofs.Controls.{Untouched}
+use Rattle.heap_rule.proofs.Keeps.{Words, my_good, unmoved}
+use Rattle.heap_rule.proofs.Lists.{got_there}
+use Rattle.heap_rule.proofs.Values.{address_of, packable, stands_block}
+use Rattle.steps_cycle.specs.Looks.{with_share}
+use Rattle.steps_cycle.specs.Marking.{ChangedMay, ChangedTold, IsChanging, ScanMay, ScanTold, ScannedMay, ScannedTold, scanned_on}
+use Rattle.steps_cycle.proofs.Colouring.{words_same, Recolourable}
+use Rattle.steps_cycle.proofs.GlimpseSteps.{share_closes}
+use Rattle.steps_cycle.proofs.Learning.{at_other, at_same, bare, held, kind_here, knows_more, known, shifts_more, waits_in}
+use Rattle.steps_cycle.proofs.Recolouring.{Recolours, known_still, recolours}
+use Rattle.heap_rule.specs.declared.phase.Stage.TheVariants.{In}
+
+-- the value in the next field was read
+module _ (live : Live) (graph : Graph) (m : Marks) (block done size head : ℕ) (f : Scanned live graph m block done size head) (v : Value) (there : slice_get f.fields done ≡ Some v) where
+  -- a value that is no reference is no block
+  further : ((x : Label) → v ≡ Block x → ⊥) → Scanned live graph m block (done + 1) size head
+  further no_block = record {
+    place = f.place;
+    lives = f.lives;
+    marked = f.marked;
+    tag = f.tag;
+    fields = f.fields;
+    node = f.node;
+    head_is = f.head_is;
+    size_is = f.size_is;
+    through = subst (FieldsDone m.marked f.fields) (sym (add-one done)) (fields_next m.marked f.fields done f.through (λ x e. absurd (no_block x (let same : Some v ≡ Some (Block x) = sym there ∙ e in cc))));
+  }
+
+  read_on : (w : held_value.Value) → Stands live w v → Scans live graph m (scanned_on (Reads block done size head) w)
+  read_on (IntWord z) st = further (λ x e. subst (Stands live (IntWord z)) e st)
+  read_on NothingWord st = further (λ x e. subst (Stands live NothingWord) e st)
+  read_on (Ref a) st = go v refl st
+    where
+      go : (u : Value) → v ≡ u → Stands live (Ref a) u → Refers live graph m block done size head a
+      go (Int z) e s = absurd s
+      go Nothing e s = absurd s
+      go (Block l) e s = record { reads = f; target = s.0; there = s.1; holds = there ∙ ap Some (e ∙ ap Block (sym s.2)) }
+
+module _ (k : Config) (s : Words) (r : Rule k s) (id : ℕ) (hist : List Entry) (x : DomainView) (at : get_elem? s.views id ≡ some (one k hist x)) where
+  abbrev now : model.State
+  now = state_of k r.account.log
+
+  abbrev live : Live
+  live = r.account.live
+
+  abbrev c : Cycling
+  c = r.account.cycling
+
+  abbrev m : Marks
+  m = c.paint.marks
+
+  abbrev d : ℕ
+  d = x.own.number
+
+  abbrev sh : Share
+  sh = x.seen.share
+
+  kn : Knowing k live r.account.tenancy.holder now.graph m s.words d x.own.registers sh
+  kn = known k s r id hist x at
+
+  in_mark : x.seen.stage ≡ In Mark → IsCollecting x.seen.stage
+  in_mark is = subst IsCollecting (sym is) (λ none. none)
+
+  -- the next field
+  module _ (a : ℕ) (may : ScanMay x a) where
+    f : Scanned live now.graph m may.block may.done may.size may.head
+    f = subst (Scans live now.graph m) may.scan kn.scan
+
+    field : (v : Value) × (slice_get f.fields may.done ≡ Some v)
+    field = got_there f.fields may.done (let n : ℕ = length f.fields in let e : n ≡ may.size = f.size_is in let h = may.more in omega arith)
+
+    stands : WordStands live (at_address k s.words (may.block + 2 + may.done)) field.0
+    stands =
+        let found = r.whole.found may.block f.place f.lives in
+        let plain : node_at now.graph f.place.label ≡ Some (Plain f.tag f.fields) = ⊎_elim
+            (λ (e : node_at now.graph f.place.label ≡ Some (Plain f.tag f.fields)). e)
+            (λ (e : (f.fields ≡ []) × (fields_of (node_at now.graph f.place.label) ≡ [])). absurd (let none : length f.fields ≡ 0 = ap (λ (z : List Value). length z) e.0 in let n : ℕ = length f.fields in let z : n ≡ 0 = none in let y : n ≡ may.size = f.size_is in let h = may.more in omega arith))
+            f.node in
+        let is : found.node ≡ Plain f.tag f.fields = some_same found.node (Plain f.tag f.fields) (sym found.there ∙ plain) in
+        found.values may.done field.0 (subst (λ (o : Option Debt). HasValue o may.done) (sym (bare k s r id hist x at (in_mark may.stage) may.block f.place f.lives).no_debt) tt) (ap (λ (n : Node). slice_get (values_of n) may.done) is ∙ field.1)
+
+    share' : Share
+    share' = record sh { scan = scanned_on sh.scan stands.value }
+
+    scan_rule : Rule k record { words = s.words; homes = s.homes; views = set s.views id (one k hist (with_share x share')) }
+    unfolding share'
+    scan_rule = knows_more k s r id hist x at (in_mark may.stage) (held share') refl refl record {
+      glimpse = kn.glimpse;
+      scan = subst (λ (z : Scan). Scans live now.graph m (scanned_on z stands.value)) (sym may.scan) (read_on live now.graph m may.block may.done may.size may.head f field.0 field.1 stands.value stands.stands);
+      walked = kn.walked;
+      tenure = kn.tenure;
+      rooted = kn.rooted;
+      marked = kn.marked;
+    }
+
+    scan_told : ScanTold k x (at_address k s.words a) (with_share x share')
+    unfolding share'
+    scan_told = record {
+      value = stands.value;
+      packable = packable k r.limits live r.whole.placed stands.value field.0 stands.stands;
+      word = ap (at_address k s.words) may.word ∙ stands.packs;
+      inside = λ b is. let t = stands_block live b field.0 (subst (λ (z : held_value.Value). Stands live z field.0) is stands.stands) in address_of k b t.1 (r.whole.placed.fits b t.1 t.3);
+      view = refl;
+    }
+
+  -- all fields are done
+  module _ (a new : ℕ) (may : ScannedMay x a new) where
+    g : Scanned live now.graph m a may.size may.size may.word
+    g = subst (Scans live now.graph m) may.scan kn.scan
+
+    abbrev p : Place
+    p = g.place
+
+    abbrev m' : Marks
+    m' = with_scanned m p.label
+
+    means : may.colours ≡ c.paint.colours
+    means = (my_good k s r id hist x at).sharing.telling.colours may.colours may.known
+
+    same : Recolourable p.shape may.shape g.head_is.colour may.head.colour g.head_is.scanned may.head.scanned
+    same = words_same p.shape may.shape may.word g.head_is may.head
+
+    fields_marked : FieldsMarked now.graph m.marked p.label
+    fields_marked = ⊎_elim
+        (λ (q : node_at now.graph p.label ≡ Some (Plain g.tag g.fields)). fields_end now.graph m.marked p.label g.tag g.fields may.size q g.through (let n : ℕ = length g.fields in let h : n ≡ may.size = g.size_is in omega arith))
+        (λ (q : (g.fields ≡ []) × (fields_of (node_at now.graph p.label) ≡ [])). subst (λ (z : List Label). HoldsRoots z m.marked) (sym q.1) (λ l h. cc))
+        g.node
+
+    abbrev idle : Share
+    idle = record sh { scan = Idle }
+
+    recoloured : Recolours k s r id hist x at (in_mark may.stage) a p new m' c.shares.owes (held idle)
+    recoloured =
+        let cs : Colours = c.paint.colours in
+        let is : m.marked p.label ≡ true = g.marked in
+        let kind_is : c.kind ≡ Mark = kind_here k s r id hist x at Mark may.stage in
+        let facts : Facts Mark k now live r.account.tenancy c s.words = subst (λ (kind : Kind). Facts kind k now live r.account.tenancy c s.words) kind_is r.whole.cycle.facts in
+        let n = known_still k s r id hist x at (in_mark may.stage) a p new m' g.lives g.marked (λ l h. h) in record {
+          lives = g.lives;
+          here = record {
+            scanned = true;
+            packs = may.marks ∙ (ap (λ (z : Colours). head_word (head_of None may.shape z.marked true)) means ∙ (ap head_word (sym (same.again cs.marked true))
+                ∙ (sym (ap (λ (b : Bool). head_word (head_of None p.shape (cond b cs.marked cs.unmarked) true)) is)
+                ∙ sym (ap (λ (o : Option ℕ). head_word (head_of o p.shape (colour_in (record c.paint { marks = m' }) p.label) true)) (bare k s r id hist x at (in_mark may.stage) a p g.lives).no_forward))));
+            tells = λ _. sym (ap (λ (b : Bool). b || m.scanned p.label) (same_label_refl p.label));
+          };
+          elsewhere = λ l differ. (refl, ap (λ (b : Bool). b || m.scanned l) (same_label-false p.label l differ));
+          marked = g.marked;
+          more = λ l h. h;
+          facts = subst (λ (kind : Kind). Facts kind k now live r.account.tenancy (record c { paint = record c.paint { marks = m' } }) (set s.words (before_heap k + a) new)) (sym kind_is)
+              (darkening_steps.mark_scans c.pass k.domains now (cycle_of k live r.account.tenancy.holder c) facts.0 p.label fields_marked, facts.1);
+          others = λ z other. refl;
+          owes_is = (my_good k s r id hist x at).sharing.telling.owes (waits_in k s r id hist x at Mark may.stage);
+          sights = refl;
+          knows = record { glimpse = n.glimpse; scan = tt; walked = n.walked; tenure = n.tenure; rooted = n.rooted; marked = n.marked };
+        }
+
+    scanned_rule : Rule k record { words = set s.words (before_heap k + a) new; homes = s.homes; views = set s.views id (one k hist (with_share x idle)) }
+    scanned_rule = recolours k s r id hist x at (in_mark may.stage) a p new m' c.shares.owes (held idle) recoloured
+
+  -- the changed word
+  module _ (may : ChangedMay x) where
+    changing : (kind : Kind) → IsChanging kind → HasNoCycle kind → ⊥
+    changing Run n none = n
+    changing Promote n none = n
+    changing Reset n none = n
+    changing Roots n none = n
+    changing Mark n none = none
+    changing Rounds n none = none
+    changing Decide n none = n
+    changing Queued n none = n
+    changing Clean n none = n
+    changing Lasts n none = n
+    changing Sweep n none = n
+    changing Answer n none = n
+
+    abbrev words1 : List ℕ
+    words1 = set s.words 3 1
+
+    abbrev owes1 : ℕ → Bool
+    owes1 = at_domain c.shares.owes d false
+
+    stored_facts : (kind : Kind) → IsChanging kind → Facts kind k now live r.account.tenancy c s.words → Facts kind k now live r.account.tenancy (record c { shares = record c.shares { changed = true; owes = owes1 } }) words1
+    stored_facts Run n f = absurd n
+    stored_facts Promote n f = absurd n
+    stored_facts Reset n f = absurd n
+    stored_facts Roots n f = absurd n
+    stored_facts Mark n f = (darkening_steps.mark_stores c.pass k.domains now (cycle_of k live r.account.tenancy.holder c) f.0 d, f.1)
+    stored_facts Rounds n f = (darkening_steps.rounds_stores c.pass k.domains now (cycle_of k live r.account.tenancy.holder c) f.0 d, f.1)
+    stored_facts Decide n f = absurd n
+    stored_facts Queued n f = absurd n
+    stored_facts Clean n f = absurd n
+    stored_facts Lasts n f = absurd n
+    stored_facts Sweep n f = absurd n
+    stored_facts Answer n f = absurd n
+
+    abbrev paid : Share
+    paid = record sh { owes = false }
+
+    stored_rule : Rule k record { words = words1; homes = s.homes; views = set s.views id (one k hist (with_share x paid)) }
+    stored_rule =
+        let kind_is : c.kind ≡ may.kind = kind_here k s r id hist x at may.kind may.stage in
+        let collecting : IsCollecting x.seen.stage = subst IsCollecting (sym may.stage) (changing may.kind may.changing) in
+        let other : (i : ℕ) → i ≢ 3 → get_or words1 i 0 ≡ get_or s.words i 0 = (λ i differ. get_or-set_other s.words 3 i 1 0 differ) in
+        let spot : 3 < length s.words = (let w : ℕ = heap_words k in let b : ℕ = before_heap k in let e : length s.words ≡ 1 + b + w = r.whole.wide in let o : 10 ≤ b = omega arith in omega arith) in
+        let u : Untouched s.words words1 = (length-set s.words 3 1, λ i low not_ended. other i (λ e. omega arith)) in
+        shifts_more k s r id hist x at collecting true owes1 c.shares.seen (held paid) words1 u (other 0 (λ e. omega arith)) (other 1 (λ e. omega arith)) (other 2 (λ e. omega arith))
+        (get_or-set_same s.words 3 1 0 spot)
+        (subst (λ (kind : Kind). Facts kind k now live r.account.tenancy (record c { shares = record c.shares { changed = true; owes = owes1 } }) words1) (sym kind_is) (stored_facts may.kind may.changing (subst (λ (kind : Kind). Facts kind k now live r.account.tenancy c s.words) kind_is r.whole.cycle.facts)))
+        (λ z differ. (at_other c.shares.owes d false z differ, refl))
+        (at_same c.shares.owes d false)
+        ((my_good k s r id hist x at).sharing.telling.seen (waits_in k s r id hist x at may.kind may.stage))
+        record {
+          glimpse = λ g q e lives. ⊎_elim (λ (same : at_address k s.words g.address ≡ g.word). inl (other (before_heap k + g.address) (λ e. omega arith) ∙ same)) (λ is. inr is) (kn.glimpse g q e lives);
+          scan = kn.scan;
+          walked = kn.walked;
+          tenure = kn.tenure;
+          rooted = kn.rooted;
+          marked = kn.marked;
+        }
+        (other 8 (λ e. omega arith))
+
+pub scan_may : (k : Config) (x : DomainView) (word a : ℕ) → word ≡ before_heap k + a → ScanMay x a → MayStep k x word (λ n. n) (ScanTold k)
+scan_may k x word a place may fits slots id hist s r _ at _ =
+    let y : DomainView = with_share x (share' k s r id hist x at a may) in
+    (one k hist y, keeps, tt, unmoved k s word (set s.views id (one k hist y)) (scan_rule k s r id hist x at a may), (subst (λ (n : ℕ). ScanTold k x (get_or s.words n 0) y) (sym place) (scan_told k s r id hist x at a may), refl))
+
+pub scan_closes : (k : Config) (x : DomainView) (found : ℕ) → Closes k x found (ScanTold k) CanLeave Leaves
+scan_closes k x found = share_closes k x found (ScanTold k) (λ y t. (record x.seen.share { scan = scanned_on x.seen.share.scan t.value }, t.view))
+
+pub scanned_may : (k : Config) (x : DomainView) (word a new : ℕ) → word ≡ before_heap k + a → ScannedMay x a new → MayStore k x word new ScannedTold
+scanned_may k x word a new place may fits slots id hist s r _ at _ =
+    let y : DomainView = with_share x (record x.seen.share { scan = Idle }) in
+    (one k hist y, keeps, tt, subst (λ (n : ℕ). Rule k record { words = set s.words n new; homes = s.homes; views = set s.views id (one k hist y) }) (sym place) (scanned_rule k s r id hist x at a new may), (refl, refl))
+
+pub scanned_closes : (k : Config) (x : DomainView) (new : ℕ) → Closes k x new ScannedTold CanLeave Leaves
+scanned_closes k x new = share_closes k x new ScannedTold (λ y t. (record x.seen.share { scan = Idle }, t))
+
+pub changed_may : (k : Config) (x : DomainView) → ChangedMay x → MayStore k x 3 1 ChangedTold
+changed_may k x may fits slots id hist s r _ at _ =
+    let y : DomainView = with_share x (record x.seen.share { owes = false }) in
+    (one k hist y, keeps, tt, stored_rule k s r id hist x at may, (refl, refl))
+
+pub changed_closes : (k : Config) (x : DomainView) → Closes k x 1 ChangedTold CanLeave Leaves
+changed_closes k x = share_closes k x 1 ChangedTold (λ y t. (record x.seen.share { owes = false }, t))

@@ -1,0 +1,221 @@
+-- What the steps of marking ask and tell.
+use Rattle.std.specs.Prelude.{◌≡◌, ◌≢◌, ℕ, ◌+◌, ◌<◌, ◌⊎◌, nat_le, if◌then◌else◌, Bool, true, false, IsTrue, List, ◌∷◌, Some, None}
+use Rattle.heap_model.specs.Domains.{class_count}
+use Rattle.heap_model.specs.Fronts.{Shape, PlainShape, RawShape, EpheShape}
+use Rattle.heap_words.specs.declared.colours.Colours.{Colours}
+use Rattle.heap_words.specs.declared.value.Value.{Value}
+use Rattle.heap_words.specs.declared.value.Value.TheVariants.{Int, Ref, Nothing}
+use Rattle.heap_words.specs.Values.{IsPackable, value_word}
+use Rattle.heap_rule.specs.declared.config.Config.{Config}
+use Rattle.heap_rule.specs.declared.phase.Kind.{Kind}
+use Rattle.heap_rule.specs.declared.phase.Kind.TheVariants.{Roots, Mark, Rounds, Queued}
+use Rattle.heap_rule.specs.declared.phase.Stage.TheVariants.{In}
+use Rattle.heap_rule.specs.declared.view.DomainView.{DomainView}
+use Rattle.heap_rule.specs.declared.view.Scan.{Scan}
+use Rattle.heap_rule.specs.declared.view.Scan.TheVariants.{Idle, Reads, Holds}
+use Rattle.heap_rule.specs.declared.view.Share.{Share}
+use Rattle.heap_rule.specs.declared.view.Spot.{Spot}
+use Rattle.heap_rule.specs.Cycles.{IsCollecting, seen_by}
+use Rattle.heap_rule.specs.Places.{HeadIs, IsBuilt, IsHeadOf}
+use Rattle.heap_rule.specs.Pools.{blocks_of, owned, owner_word, place_in}
+use Rattle.heap_rule.specs.Standing.{IsAt}
+use Rattle.heap_rule.specs.Token.{IsAddress}
+use Rattle.steps_cycle.specs.Looks.{with_share}
+
+-- in phases of these kinds blocks are darkened so far
+abbrev pub IsDarkening : Kind → Type 0
+IsDarkening Roots = Unit {0}
+IsDarkening Mark = Unit {0}
+IsDarkening Queued = Unit {0}
+IsDarkening _ = ⊥
+
+-- in these kinds the changed word is stored
+abbrev pub IsChanging : Kind → Type 0
+IsChanging Mark = Unit {0}
+IsChanging Rounds = Unit {0}
+IsChanging _ = ⊥
+
+-- why a block is marked: a register refers to it, or the next field of the block that is scanned
+pub data Reason : Type 0 where
+  Register : ℕ → Reason
+  Field : Reason
+
+abbrev pub Warrants : Reason → DomainView → ℕ → Type 0
+Warrants (Register r) x at = IsAt x r at
+Warrants Field x at = (block : ℕ) × (done : ℕ) × (size : ℕ) × (head : ℕ) × (x.seen.share.scan ≡ Holds block done size head at)
+
+-- once the block is marked the domain is done with the register, or with the field
+abbrev pub roots_on : Reason → List ℕ → List ℕ
+roots_on (Register r) roots = r ∷ roots
+roots_on Field roots = roots
+
+abbrev pub next_scan : Scan → Scan
+next_scan (Holds block done size head address) = Reads block (done + 1) size head
+next_scan other = other
+
+abbrev pub scan_on : Reason → Scan → Scan
+scan_on (Register r) scan = scan
+scan_on Field scan = next_scan scan
+
+abbrev pub moved_on : Reason → ℕ → Share → Share
+moved_on reason at share = record share { glimpse = None; scan = scan_on reason share.scan; roots = roots_on reason share.roots; marked = at ∷ share.marked }
+
+-- a domain that does its share of a collection loads the head of a block that there is a reason to mark
+pub record GlimpseMay (x : DomainView) (at : ℕ) (reason : Reason) : Type 0 where
+  pub collects : IsCollecting x.seen.stage
+  pub colours : Colours
+  pub known : x.seen.share.colours ≡ Some colours
+  pub reason_is : Warrants reason x at
+
+-- the block is unmarked, and the domain has found this head; or it is marked, and the domain goes on
+pub record GlimpseTold (at : ℕ) (reason : Reason) (x : DomainView) (found : ℕ) (y : DomainView) : Type 0 where
+  pub colours : Colours
+  pub known : x.seen.share.colours ≡ Some colours
+  pub shape : Shape
+  pub head : IsHeadOf shape found
+  pub told : ((head.colour ≡ colours.unmarked) × (y ≡ with_share x (record x.seen.share { glimpse = Some (record { address = at; word = found }) })))
+      ⊎ ((head.colour ≡ colours.marked) × (y ≡ with_share x (moved_on reason at x.seen.share)))
+
+-- the head of the unmarked block that the domain found last is exchanged for one that is marked and unscanned
+pub record DarkenMay (x : DomainView) (at old new : ℕ) (reason : Reason) : Type 0 where
+  pub kind : Kind
+  pub stage : x.seen.stage ≡ In kind
+  pub darkening : IsDarkening kind
+  pub colours : Colours
+  pub known : x.seen.share.colours ≡ Some colours
+  pub found : x.seen.share.glimpse ≡ Some (record { address = at; word = old })
+  pub shape : Shape
+  pub head : IsHeadOf shape old
+  pub unmarked : head.colour ≡ colours.unmarked
+  pub marks : HeadIs None shape colours.marked false new
+  pub reason_is : Warrants reason x at
+
+-- whoever darkens a block in Mark owes a store of the changed word
+abbrev pub owes_on : Kind → Bool → Bool
+owes_on Mark owes = true
+owes_on _ owes = owes
+
+-- where the head was the one that was found the block is darkened, and else somebody else has darkened it
+pub record DarkenTold (old at : ℕ) (reason : Reason) (x : DomainView) (found : ℕ) (y : DomainView) : Type 0 where
+  pub kind : Kind
+  pub stage : x.seen.stage ≡ In kind
+  pub won : found ≡ old → y ≡ with_share x (record (moved_on reason at x.seen.share) { owes = owes_on kind x.seen.share.owes })
+  pub lost : found ≢ old → y ≡ with_share x (moved_on reason at x.seen.share)
+
+-- a load of the owner of the next pool through which the domain walks
+pub record OwnMay (k : Config) (x : DomainView) (at pool : ℕ) : Type 0 where
+  pub collects : IsCollecting x.seen.stage
+  pub inside : pool < k.pools
+  pub word : at ≡ 11 + k.pools + pool
+  pub next : x.seen.share.walk ≡ record { pool = pool; slot = 0 }
+
+-- the pool is the domain's own, for blocks of a class, or the walk goes to the next one
+pub record OwnTold (pool : ℕ) (x : DomainView) (found : ℕ) (y : DomainView) : Type 0 where
+  pub told : ((class : ℕ) × (class < class_count) × (found ≡ owner_word (owned x.own.number class)) × (y ≡ with_share x (record x.seen.share { tenure = Some (record { pool = pool; class = class }) })))
+      ⊎ (((class : ℕ) → class < class_count → found ≢ owner_word (owned x.own.number class)) × (y ≡ with_share x (record x.seen.share { walk = record { pool = pool + 1; slot = 0 } })))
+
+-- the place behind one, in the next pool behind the last
+abbrev pub behind : ℕ → ℕ → ℕ → Spot
+behind pool class slot = if nat_le (blocks_of class) (slot + 1) then record { pool = pool + 1; slot = 0 } else record { pool = pool; slot = slot + 1 }
+
+-- in Mark, a load of the head at the next place of an own pool
+pub record MarkMay (x : DomainView) (at pool class slot : ℕ) : Type 0 where
+  pub stage : x.seen.stage ≡ In Mark
+  pub own : x.seen.share.tenure ≡ Some (record { pool = pool; class = class })
+  pub inside : slot < blocks_of class
+  pub word : at ≡ place_in pool class slot
+  pub next : x.seen.share.walk ≡ record { pool = pool; slot = slot }
+  pub colours : Colours
+  pub known : x.seen.share.colours ≡ Some colours
+
+-- how many fields of a block a scan follows
+abbrev pub fields_in : Shape → ℕ
+fields_in (PlainShape size tag) = size
+fields_in (RawShape size tag) = 0
+fields_in (EpheShape keys) = 0
+
+-- the scan of a block begins
+abbrev pub begun : ℕ → Shape → ℕ → Share → Share
+begun at shape head share = record share { scan = Reads at 0 (fields_in shape) head }
+
+-- a block is marked and not scanned
+pub record IsGrey (colours : Colours) (shape : Shape) (word : ℕ) : Type 0 where
+  pub built : IsBuilt shape
+  pub head : IsHeadOf shape word
+  pub colour : head.colour ≡ colours.marked
+  pub unscanned : head.scanned ≡ false
+
+-- a block is unmarked, or scanned
+pub record IsNotGrey (colours : Colours) (word : ℕ) : Type 0 where
+  pub shape : Shape
+  pub head : IsHeadOf shape word
+  pub colour : (head.colour ≡ colours.unmarked) ⊎ ((head.colour ≡ colours.marked) × (head.scanned ≡ true))
+
+-- no block is grey there, and the domain has seen the place; or one is, and its scan begins
+pub record MarkTold (at pool class slot : ℕ) (x : DomainView) (found : ℕ) (y : DomainView) : Type 0 where
+  pub colours : Colours
+  pub known : x.seen.share.colours ≡ Some colours
+  pub told : (((found ≡ 0) ⊎ IsNotGrey colours found) × (y ≡ with_share x (record x.seen.share { sights = at ∷ x.seen.share.sights; walk = behind pool class slot })))
+      ⊎ ((shape : Shape) × IsGrey colours shape found × (y ≡ with_share x (begun at shape found x.seen.share)))
+
+-- in Mark, a load of the head of a block that is known to be marked
+pub record GreyMay (x : DomainView) (at : ℕ) : Type 0 where
+  pub stage : x.seen.stage ≡ In Mark
+  pub marked : IsTrue (seen_by x.seen.share.marked at)
+  pub colours : Colours
+  pub known : x.seen.share.colours ≡ Some colours
+
+-- it is scanned, or its scan begins
+pub record GreyTold (at : ℕ) (x : DomainView) (found : ℕ) (y : DomainView) : Type 0 where
+  pub colours : Colours
+  pub known : x.seen.share.colours ≡ Some colours
+  pub told : (IsNotGrey colours found × (y ≡ x)) ⊎ ((shape : Shape) × IsGrey colours shape found × (y ≡ with_share x (begun at shape found x.seen.share)))
+
+-- in Mark, a load of the next field of the block that is scanned
+pub record ScanMay (x : DomainView) (at : ℕ) : Type 0 where
+  pub stage : x.seen.stage ≡ In Mark
+  pub block : ℕ
+  pub done : ℕ
+  pub size : ℕ
+  pub head : ℕ
+  pub scan : x.seen.share.scan ≡ Reads block done size head
+  pub more : done < size
+  pub word : at ≡ block + 2 + done
+
+-- it refers to a block, or the field is done
+abbrev pub scanned_on : Scan → Value → Scan
+scanned_on (Reads block done size head) (Ref address) = Holds block done size head address
+scanned_on (Reads block done size head) (Int z) = Reads block (done + 1) size head
+scanned_on (Reads block done size head) Nothing = Reads block (done + 1) size head
+scanned_on other value = other
+
+pub record ScanTold (k : Config) (x : DomainView) (found : ℕ) (y : DomainView) : Type 0 where
+  pub value : Value
+  pub packable : IsPackable value
+  pub word : found ≡ value_word value
+  pub inside : (a : ℕ) → value ≡ Ref a → IsAddress k a
+  pub view : y ≡ with_share x (record x.seen.share { scan = scanned_on x.seen.share.scan value })
+
+-- in Mark, the head of the block that is scanned gets the scanned mark, where all its fields are done
+pub record ScannedMay (x : DomainView) (at new : ℕ) : Type 0 where
+  pub stage : x.seen.stage ≡ In Mark
+  pub size : ℕ
+  pub word : ℕ
+  pub scan : x.seen.share.scan ≡ Reads at size size word
+  pub colours : Colours
+  pub known : x.seen.share.colours ≡ Some colours
+  pub shape : Shape
+  pub head : IsHeadOf shape word
+  pub marks : HeadIs None shape colours.marked true new
+
+abbrev pub ScannedTold : DomainView → ℕ → DomainView → Type 0
+ScannedTold x found y = y ≡ with_share x (record x.seen.share { scan = Idle })
+
+-- in Mark and in Rounds, 1 is stored in the changed word
+pub record ChangedMay (x : DomainView) : Type 0 where
+  pub kind : Kind
+  pub stage : x.seen.stage ≡ In kind
+  pub changing : IsChanging kind
+
+abbrev pub ChangedTold : DomainView → ℕ → DomainView → Type 0
+ChangedTold x found y = y ≡ with_share x (record x.seen.share { owes = false })
