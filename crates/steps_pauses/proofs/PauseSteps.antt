@@ -294,8 +294,8 @@ leads k slots id hist x new next may s r _ at _ =
         settled = ⊎_elim (λ h. inl h) (λ (h : Promoting t). absurd (elsewhere h)) r.whole.settled;
         cleared = λ h. absurd (not_both t.phase (h.0, h.1) (j, odd));
         emptied = λ h. r.whole.emptied (resetting_led t j next odd h);
-        rooted = λ h. absurd (not_both t.phase (h.0, h.1) (j, odd));
-        roots = λ z _ _ _ _ h. absurd (not_both t.phase (h.0, h.1) (j, odd));
+        rooted = (λ h. absurd (not_both t.phase (h.0, h.1) (j, odd)), ⊎_elim (λ h. absurd (not_both t.phase (h.0.0, h.0.1) (j, odd))) (λ h. g.rooted.1 (inr (resetting_led t j next odd h))));
+        roots = λ z _ _ _ old. (λ h. absurd (not_both t.phase (h.0, h.1) (j, odd)), ⊎_elim (λ h. absurd (not_both t.phase (h.0.0, h.0.1) (j, odd))) (λ h. old.1 (inr (resetting_led t j next odd h))));
         reserved = λ keeps i below above. reserved_untouched k t tenancy s.words ws untouched r.whole.pools r.whole.reserved (keeps_led t j next odd keeps) i below above;
         room = record { fills = room.fills; fit = room.fit; claims = room.claims; listed_copies = room.listed_copies; left = λ h. absurd (not_both t.phase (h.0, h.1) (j, odd)) };
         unused = λ _. r.whole.unused elsewhere;

@@ -1,5 +1,5 @@
 -- After a history whose entries register no finaliser and make no ephemeron nothing waits to be queued, and each block is a plain one.
-use Rattle.std.proofs.Common.{◌≡◌, ℕ, zero, suc, ◌⊎◌, true, false, List, [], ◌∷◌, ◌++◌, length, map, replicate, get_or, set, Option, Some, None, sym, refl, ap, ◌∙◌, subst, ⊎_elim}
+use Rattle.std.proofs.Common.{◌≡◌, ℕ, zero, suc, true, false, List, [], ◌∷◌, ◌++◌, length, map, replicate, get_or, set, Option, Some, None, sym, refl, ap, ◌∙◌, subst, ⊎_elim}
 use Rattle.heap_model.specs.declared.label.Label.{Label}
 use Rattle.heap_model.specs.declared.command.Command.{Command}
 use Rattle.heap_model.specs.declared.command.Command.TheVariants.{PutInt, Copy, Forget, Alloc, AllocMaj, Load, Store, Poll, Minor, Major, FullMajor}
@@ -11,9 +11,9 @@ use Rattle.heap_model.specs.declared.state.DomainState.{DomainState}
 use Rattle.heap_model.specs.declared.state.Sizes.{Sizes}
 use Rattle.heap_model.specs.declared.state.State.{State}
 use Rattle.heap_model.specs.Commands.{outcome, after_command, new_plain, allocated, is_allocation}
-use Rattle.heap_model.specs.Domains.{domain_at, no_domain, opening, opening_domain, with_domain, shared_label, shared_node}
+use Rattle.heap_model.specs.Domains.{no_domain, opening, opening_domain, shared_label, shared_node}
 use Rattle.heap_model.specs.Entries.{next}
-use Rattle.heap_model.specs.Fronts.{Shape, PlainShape, RawShape, EpheShape, shape_of}
+use Rattle.heap_model.specs.Fronts.{PlainShape, RawShape, EpheShape, shape_of}
 use Rattle.heap_model.specs.Graph.{Graph, node_at, with_node}
 use Rattle.heap_model.specs.History.{state_after}
 use Rattle.heap_model.proofs.Commands.FrameLemmas.{part_set}
