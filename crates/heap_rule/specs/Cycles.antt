@@ -257,8 +257,8 @@ pub record Telling (means : Colours) (w : Shares) (d : ℕ) (share : Share) : Ty
 -- what a domain has loaded and done at the control words of a collection
 pub record Leading (c : Cycling) (words : List ℕ) (d : ℕ) (stage : Stage) (share : Share) : Type 0 where
   pub changed : (v : ℕ) → share.changed ≡ Some v → (d ≡ 0) × IsLeading stage × (v ≡ flag c.shares.changed)
-  pub found_blocks : (v : ℕ) → share.blocks ≡ Some v → (IsLeading stage ⊎ (stage ≡ In Answer)) × (live_blocks words ≡ v)
-  pub found_words : (v : ℕ) → share.words ≡ Some v → (IsLeading stage ⊎ (stage ≡ In Answer)) × (live_words words ≡ v)
+  pub found_blocks : (v : ℕ) → share.blocks ≡ Some v → (((d ≡ 0) × IsLeading stage) ⊎ (stage ≡ In Answer)) × (live_blocks words ≡ v)
+  pub found_words : (v : ℕ) → share.words ≡ Some v → (((d ≡ 0) × IsLeading stage) ⊎ (stage ≡ In Answer)) × (live_words words ≡ v)
   pub rotated : d ≡ 0 → c.kind ≡ Lasts → c.rotated ≡ share.rotated
   pub turned : share.rotated ≡ true → stage ≡ Leads Lasts
 

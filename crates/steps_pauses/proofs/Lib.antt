@@ -1,5 +1,4 @@
 pub mod Plain
-pub mod PlainHistories
 mod Arriving
 mod Naming
 mod Arrivals

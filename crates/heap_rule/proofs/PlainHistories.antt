@@ -37,7 +37,8 @@ pub record IsUnregistered (x : DomainState) : Type 0 where
 abbrev pub AllUnregistered : List DomainState → Type 0
 AllUnregistered xs = (d : ℕ) → IsUnregistered (get_or xs d no_domain)
 
-pub record IsPlainState (s : State) : Type 0 where
+pub record IsPlainState (z : Sizes) (s : State) : Type 0 where
+  pub sizes : s.sizes ≡ z
   pub nodes : PlainNodes s.graph
   pub work : AllUnregistered s.domains
 
@@ -69,24 +70,25 @@ unregistered_map f keeps (x ∷ xs) all zero = keeps x (all 0)
 unregistered_map f keeps (x ∷ xs) all (suc k) = unregistered_map f keeps xs (λ j. all (suc j)) k
 
 -- a command but an allocation and a registration
-module _ (s : State) (d : ℕ) (p : IsPlainState s) where
-  others : (c : Command) → is_allocation c ≡ false → registers_one c ≡ false → IsPlainState (outcome s d c).state
-  others c makes registers = moved IsPlainState s d c (record {
+module _ (z : Sizes) (s : State) (d : ℕ) (p : IsPlainState z s) where
+  others : (c : Command) → is_allocation c ≡ false → registers_one c ≡ false → IsPlainState z (outcome s d c).state
+  others c makes registers = moved (IsPlainState z) s d c (record {
     same = p;
-    held = λ r v named. record { nodes = p.nodes; work = unregistered_set s.domains d _ refl refl refl p.work };
-    written = λ l old new at found same named full. record { nodes = plain_written s.graph l old new found same p.nodes; work = p.work };
+    held = λ r v named. record { sizes = p.sizes; nodes = p.nodes; work = unregistered_set s.domains d _ refl refl refl p.work };
+    written = λ l old new at found same named full. record { sizes = p.sizes; nodes = plain_written s.graph l old new found same p.nodes; work = p.work };
     made = λ is dst n named full. absurd (let clash : true ≡ false = sym is ∙ makes in cc);
     registered = λ is f named. absurd (let clash : true ≡ false = sym is ∙ registers in cc);
     registered_last = λ is f named. absurd (let clash : true ≡ false = sym is ∙ registers in cc);
   })
 
-  allocates : (dst tag fields : ℕ) → IsPlainState (allocated s d dst (new_plain tag fields)).state
+  allocates : (dst tag fields : ℕ) → IsPlainState z (allocated s d dst (new_plain tag fields)).state
   allocates dst tag fields = record {
+    sizes = p.sizes;
     nodes = plain_made s.graph _ tt p.nodes;
     work = unregistered_set _ d _ refl refl refl (unregistered_set s.domains d _ refl refl refl p.work);
   }
 
-  plain_outcome : (c : Command) → IsPlainCommand c → IsPlainState (outcome s d c).state
+  plain_outcome : (c : Command) → IsPlainCommand c → IsPlainState z (outcome s d c).state
   plain_outcome (PutInt dst z) plain = others (PutInt dst z) refl refl
   plain_outcome (Copy dst src) plain = others (Copy dst src) refl refl
   plain_outcome (Forget dst) plain = others (Forget dst) refl refl
@@ -100,8 +102,8 @@ module _ (s : State) (d : ℕ) (p : IsPlainState s) where
   plain_outcome FullMajor plain = p
   plain_outcome _ plain = absurd plain
 
-plain_after_command : (t : State) (d : ℕ) → IsPlainState t → IsPlainState (after_command t d)
-plain_after_command t d p = record { nodes = p.nodes; work = unregistered_set t.domains d _ refl refl refl p.work }
+plain_after_command : (z : Sizes) (t : State) (d : ℕ) → IsPlainState z t → IsPlainState z (after_command t d)
+plain_after_command z t d p = record { sizes = p.sizes; nodes = p.nodes; work = unregistered_set t.domains d _ refl refl refl p.work }
 
 ended_domain : (xs : List DomainState) (d : ℕ) (x : DomainState) → IsUnregistered x → AllUnregistered xs → AllUnregistered (set xs d x)
 ended_domain [] d x is all k = all k
@@ -110,22 +112,23 @@ ended_domain (y ∷ ys) zero x is all (suc k) = all (suc k)
 ended_domain (y ∷ ys) (suc d) x is all zero = all zero
 ended_domain (y ∷ ys) (suc d) x is all (suc k) = ended_domain ys d x is (λ j. all (suc j)) k
 
-pub plain_next : (s : State) (e : Entry) → IsPlainEntry e → IsPlainState s → IsPlainState (next s e)
-plain_next s (CommandOf d c true) plain p = plain_after_command s d p
-plain_next s (CommandOf d c false) plain p = plain_after_command (outcome s d c).state d (plain_outcome s d p c plain)
-plain_next s (End d) plain p = record { nodes = p.nodes; work = ended_domain s.domains d _ (record { finals = refl; lasts = refl; low = (p.work d).low }) p.work }
-plain_next s Cut plain p = record { nodes = p.nodes; work = unregistered_map _ (λ x u. record { finals = u.finals; lasts = u.lasts; low = ap length u.finals }) s.domains p.work }
-plain_next s Seal plain p = record { nodes = p.nodes; work = unregistered_map _ (λ x u. record { finals = u.finals; lasts = u.lasts; low = ap length u.lasts }) s.domains p.work }
-plain_next s Collected plain p = record { nodes = p.nodes; work = unregistered_map _ (λ x u. record { finals = u.finals; lasts = u.lasts; low = u.low }) s.domains p.work }
-plain_next s Done plain p = record { nodes = p.nodes; work = p.work }
-plain_next s _ plain p = absurd plain
+pub plain_next : (z : Sizes) (s : State) (e : Entry) → IsPlainEntry e → IsPlainState z s → IsPlainState z (next s e)
+plain_next z s (CommandOf d c true) plain p = plain_after_command z s d p
+plain_next z s (CommandOf d c false) plain p = plain_after_command z (outcome s d c).state d (plain_outcome z s d p c plain)
+plain_next z s (End d) plain p = record { sizes = p.sizes; nodes = p.nodes; work = ended_domain s.domains d _ (record { finals = refl; lasts = refl; low = (p.work d).low }) p.work }
+plain_next z s Cut plain p = record { sizes = p.sizes; nodes = p.nodes; work = unregistered_map _ (λ x u. record { finals = u.finals; lasts = u.lasts; low = ap length u.finals }) s.domains p.work }
+plain_next z s Seal plain p = record { sizes = p.sizes; nodes = p.nodes; work = unregistered_map _ (λ x u. record { finals = u.finals; lasts = u.lasts; low = ap length u.lasts }) s.domains p.work }
+plain_next z s Collected plain p = record { sizes = p.sizes; nodes = p.nodes; work = unregistered_map _ (λ x u. record { finals = u.finals; lasts = u.lasts; low = u.low }) s.domains p.work }
+plain_next z s Done plain p = record { sizes = p.sizes; nodes = p.nodes; work = p.work }
+plain_next z s _ plain p = absurd plain
 
-pub plain_state : (s : State) (h : List Entry) → AllPlain h → IsPlainState s → IsPlainState (state_after s h)
-plain_state s [] all p = p
-plain_state s (e ∷ h) all p = plain_state (next s e) h all.1 (plain_next s e all.0 p)
+pub plain_state : (z : Sizes) (s : State) (h : List Entry) → AllPlain h → IsPlainState z s → IsPlainState z (state_after s h)
+plain_state z s [] all p = p
+plain_state z s (e ∷ h) all p = plain_state z (next s e) h all.1 (plain_next z s e all.0 p)
 
-pub plain_opening : (z : Sizes) → IsPlainState (opening z)
+pub plain_opening : (z : Sizes) → IsPlainState z (opening z)
 plain_opening z = record {
+  sizes = refl;
   nodes = λ l n is. plain_made [] (shared_label, shared_node) tt (λ k m e. absurd (let f : ◌≡◌ {A = Option Node} None (Some m) = e in cc)) l n is;
   work = unregistered_all z.domains;
 } where
