@@ -1,0 +1,3 @@
+pub mod Reaping
+pub mod Rotating
+pub mod TurnSteps
