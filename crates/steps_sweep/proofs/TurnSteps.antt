@@ -210,7 +210,7 @@ module _ (k : Config) (s : Words) (r : Rule k s) (id : ℕ) (hist : List Entry) 
       let w = dead_was c.before live a is in
       let h = (r.whole.found a w.0 w.1).head in
       let cs : Colours = c.paint.colours in (
-        w.0.shape,
+        (w.0.shape, (r.whole.placed.fits a w.0 w.1).head),
         h.scanned,
         heap a (r.whole.placed.fits a w.0 w.1).low
             ∙ (h.packs ∙ (ap (λ (o : Option ℕ). head_word (head_of o w.0.shape (cond (c.paint.marks.marked w.0.label) cs.marked cs.unmarked) h.scanned)) (bare a w.0 w.1).no_forward

@@ -2,6 +2,8 @@
 //! freed, and what lives is counted. docs/RULE.md says how to add one.
 #![tactic(auto)]
 
+mod freeing;
 mod turning;
 
+pub use freeing::{free_store, sweep_load};
 pub use turning::colours_store;
