@@ -373,7 +373,10 @@ module _ (k : Config) (limits : IsWithinLimits (sizes_in k)) (words : List ℕ) 
           staged = record { arrivals = refl; stage = (refl, (0, refl, refl)) };
           still = λ paused. absurd paused;
           owes = first_owes x;
-          rooted = λ h. absurd (let e : Run ≡ Promote = h.2 in cc);
+          rooted = (
+            λ h. absurd (let e : Run ≡ Promote = h.2 in cc),
+            ⊎_elim (λ h. absurd (let e : Run ≡ Promote = h.0.2 in cc)) (λ h. absurd (⊎_elim (λ (odd : (j : ℕ) × (0 ≡ j * 2 + 1) × _). let e = odd.1 in omega arith) (λ even. even.2.0 refl) h)),
+          );
           hunter = record {
             hunt = tt;
             free = λ f e. absurd (no_free f e);

@@ -36,7 +36,7 @@ use Rattle.heap_rule.specs.declared.view.Tenure.{Tenure}
 use Rattle.heap_rule.specs.Changes.{value_at}
 use Rattle.heap_rule.specs.Layout.{at_address, armed, colours, changed_word, live_blocks, live_words}
 use Rattle.heap_rule.specs.Phases.{Pause, flag}
-use Rattle.heap_rule.specs.Places.{Place, Live, Paint, extent, HeadIs, IsHeadOf}
+use Rattle.heap_rule.specs.Places.{Place, Live, Paint, extent, HeadIs, IsHeadOf, IsPackableShape}
 use Rattle.heap_rule.specs.Pools.{Tenancy, Holder, nobody, drawn, owned, size_of, blocks_of, place_in, IsBefore, IsLeading}
 use Rattle.heap_rule.specs.Views.{fresh_share}
 
@@ -224,7 +224,7 @@ pub record Told (k : Config) (p : Pause) (kind : Kind) (w : Shares) : Type 0 whe
 
 -- the head of an unmarked block is there still, under the colour that means garbage after the rotation
 abbrev pub IsGarbageHead : Paint → ℕ → Type 0
-IsGarbageHead paint word = (shape : Shape) × (scanned : Bool) × HeadIs None shape paint.colours.garbage scanned word
+IsGarbageHead paint word = (shape : (q : Shape) × IsPackableShape q) × (scanned : Bool) × HeadIs None shape.0 paint.colours.garbage scanned word
 
 -- garbage is no block that lives, and there is none before the rotation
 pub record Leaves (k : Config) (live : Live) (garbage : ℕ → Bool) (c : Cycling) (words : List ℕ) : Type 0 where
@@ -267,8 +267,8 @@ pass_of true = laws.Second
 -- what a domain has loaded and done at the control words of a collection
 pub record Leading (c : Cycling) (words : List ℕ) (d : ℕ) (stage : Stage) (share : Share) : Type 0 where
   pub changed : (v : ℕ) → share.changed ≡ Some v → (d ≡ 0) × IsLeading stage × (v ≡ flag c.shares.changed)
-  pub found_blocks : (v : ℕ) → share.blocks ≡ Some v → (IsLeading stage ⊎ (stage ≡ In Answer)) × (live_blocks words ≡ v)
-  pub found_words : (v : ℕ) → share.words ≡ Some v → (IsLeading stage ⊎ (stage ≡ In Answer)) × (live_words words ≡ v)
+  pub found_blocks : (v : ℕ) → share.blocks ≡ Some v → (((d ≡ 0) × IsLeading stage) ⊎ (stage ≡ In Answer)) × (live_blocks words ≡ v)
+  pub found_words : (v : ℕ) → share.words ≡ Some v → (((d ≡ 0) × IsLeading stage) ⊎ (stage ≡ In Answer)) × (live_words words ≡ v)
   pub rotated : d ≡ 0 → c.kind ≡ Lasts → c.rotated ≡ share.rotated
   pub turned : share.rotated ≡ true → stage ≡ Leads Lasts
   pub pass : d ≡ 0 → c.pass ≡ pass_of share.cut

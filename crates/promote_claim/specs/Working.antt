@@ -106,6 +106,7 @@ pub record Prepared (k : Config) (class : ℕ) (x y : DomainView) (a : ℕ) : Ty
   pub works : Works k y
   pub copying : y.seen.copying ≡ x.seen.copying
   pub pending : y.own.pending ≡ x.own.pending
+  pub colours : y.seen.share.colours ≡ x.seen.share.colours
   pub here : prepared_at y.own.prepared class ≡ Some a
 
 -- a value stands for another than before, which is no address of a minor area

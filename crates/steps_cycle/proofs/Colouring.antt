@@ -56,6 +56,13 @@ bare_head paint p word bare meanings packs h = record {
   tells = h.tells;
 }
 
--- the colours of the marked and of the unmarked
-pub coloured : (paint : Paint) (p : Place) (b : Bool) → paint.marks.marked p.label ≡ b → colour_in paint p.label ≡ cond b paint.colours.marked paint.colours.unmarked
+-- its colour tells whether it is marked
+coloured : (paint : Paint) (p : Place) (b : Bool) → paint.marks.marked p.label ≡ b → colour_in paint p.label ≡ cond b paint.colours.marked paint.colours.unmarked
 coloured paint p b e = ap (λ (z : Bool). cond z paint.colours.marked paint.colours.unmarked) e
+
+module _ (paint : Paint) (p : Place) (word : ℕ) (colours : Colours) (means : colours ≡ paint.colours) (there : BareHead paint p word) where
+  pub marked_colour : paint.marks.marked p.label ≡ true → there.head.colour ≡ colours.marked
+  marked_colour e = there.colour ∙ (coloured paint p true e ∙ sym (ap (λ (z : Colours). z.marked) means))
+
+  pub unmarked_colour : paint.marks.marked p.label ≡ false → there.head.colour ≡ colours.unmarked
+  unmarked_colour e = there.colour ∙ (coloured paint p false e ∙ sym (ap (λ (z : Colours). z.unmarked) means))

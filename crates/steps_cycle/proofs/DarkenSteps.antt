@@ -130,11 +130,11 @@ module _ (k : Config) (s : Words) (r : Rule k s) (id : ℕ) (hist : List Entry) 
 
   -- the head that was found is that of an unmarked block
   module _ (won : at_address k s.words a ≡ old) where
-    same : Recolourable p.shape may.shape there.head.colour may.head.colour there.head.scanned may.head.scanned
-    same = words_same p.shape may.shape (at_address k s.words a) there.head (subst (IsHeadOf may.shape) (sym won) may.head)
+    same : Recolourable p.shape may.unmarked.shape there.head.colour may.unmarked.head.colour there.head.scanned may.unmarked.head.scanned
+    same = words_same p.shape may.unmarked.shape (at_address k s.words a) there.head (subst (IsHeadOf may.unmarked.shape) (sym won) may.unmarked.head)
 
     unmarked : m.marked p.label ≡ false
-    unmarked = unmarked_by c.paint.colours (m.marked p.label) r.whole.cycle.meanings (sym there.colour ∙ (same.colour ∙ (may.unmarked ∙ ap (λ (z : Colours). z.unmarked) means)))
+    unmarked = unmarked_by c.paint.colours (m.marked p.label) r.whole.cycle.meanings (sym there.colour ∙ (same.colour ∙ (may.unmarked.colour ∙ ap (λ (z : Colours). z.unmarked) means)))
 
     closed : IsClosedGraph now.graph (roots now (queues now))
     closed = let wf : IsWellFormed now = wf_after (opening (sizes_in k)) r.account.log (wf_opening (sizes_in k)) in closed_graph now wf (queues now) (queues_named now.graph now.domains (λ j. (wf.domains j).queue))
@@ -194,7 +194,7 @@ module _ (k : Config) (s : Words) (r : Rule k s) (id : ℕ) (hist : List Entry) 
       lives = aim.lives;
       here = record {
         scanned = false;
-        packs = may.marks ∙ (ap (λ (z : Colours). head_word (head_of None may.shape z.marked false)) means ∙ (ap head_word (sym (same.again cs.marked false))
+        packs = may.marks ∙ (ap (λ (z : Colours). head_word (head_of None may.unmarked.shape z.marked false)) means ∙ (ap head_word (sym (same.again cs.marked false))
             ∙ (sym (ap (λ (b : Bool). head_word (head_of None p.shape (cond b cs.marked cs.unmarked) false)) is_dark)
             ∙ sym (ap (λ (o : Option ℕ). head_word (head_of o p.shape (colour_in (record c.paint { marks = m' }) p.label) false)) (bare k s r id hist x at collecting a p aim.lives).no_forward))));
         tells = λ _. sym (ap (λ (b : Bool). not b && m.scanned p.label) (same_label_refl p.label));

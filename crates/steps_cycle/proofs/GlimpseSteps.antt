@@ -1,10 +1,9 @@
 -- A load of the head of a block that there is a reason to mark keeps the rule.
-use Rattle.std.proofs.Common.{◌≡◌, ℕ, ◌+◌, true, false, IsTrue, List, get_or, set, Some, sym, refl, ap, ◌∙◌, subst, inl, inr, ⊎_elim}
+use Rattle.std.proofs.Common.{◌≡◌, ℕ, ◌+◌, true, false, IsTrue, List, get_or, set, Some, sym, refl, subst, inl, inr, ⊎_elim}
 use mathlib.Core.Option.{some}
 use lib.ListN.{get_elem?}
 use Rattle.atomic_table.specs.Table.{keeps}
 use Rattle.heap_model.specs.declared.entry.Entry.{Entry}
-use Rattle.heap_words.specs.declared.colours.Colours.{Colours}
 use Rattle.heap_rule.specs.declared.config.Config.{Config}
 use Rattle.heap_rule.specs.declared.view.DomainView.{DomainView}
 use Rattle.heap_rule.specs.declared.view.Glimpse.{Glimpse}
@@ -18,7 +17,7 @@ use Rattle.heap_rule.specs.Views.{one}
 use Rattle.heap_rule.proofs.Keeps.{Words, my_good, unmoved}
 use Rattle.steps_cycle.specs.Looks.{with_share}
 use Rattle.steps_cycle.specs.Marking.{GlimpseMay, GlimpseTold, Reason, Warrants, moved_on}
-use Rattle.steps_cycle.proofs.Colouring.{BareHead, bare_head, coloured}
+use Rattle.steps_cycle.proofs.Colouring.{BareHead, bare_head, marked_colour, unmarked_colour}
 use Rattle.steps_cycle.proofs.Learning.{bare, held, knows_more, known}
 use Rattle.steps_cycle.proofs.Targets.{Target, moved_knows, target}
 use Rattle.std.proofs.lemmas.Bool.{cases_Bool}
@@ -59,7 +58,7 @@ module _ (k : Config) (s : Words) (r : Rule k s) (id : ℕ) (hist : List Entry) 
         (λ (e : c.paint.marks.marked aim.place.label ≡ true). (
           with_share x (moved_on reason a sh),
           goes_on may.collects reason a may.reason_is aim.place aim.lives e,
-          record { colours = may.colours; known = may.known; shape = aim.place.shape; head = there.head; told = inr (there.colour ∙ coloured c.paint aim.place true e ∙ sym (ap (λ (z : Colours). z.marked) means), refl) },
+          record { colours = may.colours; known = may.known; told = inr (record { shape = aim.place.shape; head = there.head; colour = marked_colour c.paint aim.place found may.colours means there e }, refl) },
         ))
         (λ (e : c.paint.marks.marked aim.place.label ≡ false).
         let n = known k s r id hist x at in
@@ -73,7 +72,7 @@ module _ (k : Config) (s : Words) (r : Rule k s) (id : ℕ) (hist : List Entry) 
             rooted = n.rooted;
             marked = n.marked;
           },
-          record { colours = may.colours; known = may.known; shape = aim.place.shape; head = there.head; told = inl (there.colour ∙ coloured c.paint aim.place false e ∙ sym (ap (λ (z : Colours). z.unmarked) means), refl) },
+          record { colours = may.colours; known = may.known; told = inl (record { shape = aim.place.shape; head = there.head; colour = unmarked_colour c.paint aim.place found may.colours means there e }, refl) },
         ))
         (cases_Bool (c.paint.marks.marked aim.place.label))
 

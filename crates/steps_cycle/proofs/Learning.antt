@@ -96,7 +96,7 @@ scans_more live graph m m' more Idle f = tt
 scans_more live graph m m' more (Reads block done size head) f = scanned_more live graph m m' more block done size head f
 scans_more live graph m m' more (Holds block done size head address) f = record { reads = scanned_more live graph m m' more block done size head f.reads; target = f.target; there = f.there; holds = f.holds }
 
-none_before : (q slot : ℕ) → IsBefore q slot (record { pool = 0; slot = 0 }) → ⊥
+pub none_before : (q slot : ℕ) → IsBefore q slot (record { pool = 0; slot = 0 }) → ⊥
 none_before q slot low = ⊎_elim (λ (h : q < 0). omega arith) (λ (h : (q ≡ 0) × (slot < 0)). let l = h.1 in omega arith) low
 
 module _ (k : Config) (s : Words) (r : Rule k s) (id : ℕ) (hist : List Entry) (x : DomainView) (at : get_elem? s.views id ≡ some (one k hist x)) where

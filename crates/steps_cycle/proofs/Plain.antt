@@ -31,10 +31,10 @@ pub own_closes : (k : Config) (x : DomainView) (found pool : ℕ) → Closes k x
 own_closes k x found pool = share_closes k x found (OwnTold pool) (λ y t. ⊎_elim (λ u. (record x.seen.share { tenure = Some (record { pool = pool; class = u.0 }) }, u.3)) (λ u. (record x.seen.share { walk = record { pool = pool + 1; slot = 0 } }, u.1)) t.told)
 
 pub mark_closes : (k : Config) (x : DomainView) (found a pool class slot : ℕ) → Closes k x found (MarkTold a pool class slot) CanLeave Leaves
-mark_closes k x found a pool class slot = share_closes k x found (MarkTold a pool class slot) (λ y t. ⊎_elim (λ u. (record x.seen.share { sights = a ∷ x.seen.share.sights; walk = behind pool class slot }, u.1)) (λ u. (begun a u.0 found x.seen.share, u.2)) t.told)
+mark_closes k x found a pool class slot = share_closes k x found (MarkTold a pool class slot) (λ y t. ⊎_elim (λ u. (record x.seen.share { sights = a ∷ x.seen.share.sights; walk = behind pool class slot }, u.1)) (λ u. (begun a u.0.block.shape found x.seen.share, u.1)) t.told)
 
 pub grey_closes : (k : Config) (x : DomainView) (found a : ℕ) → Closes k x found (GreyTold a) CanLeave Leaves
-grey_closes k x found a = share_closes k x found (GreyTold a) (λ y t. ⊎_elim (λ u. (x.seen.share, u.1)) (λ u. (begun a u.0 found x.seen.share, u.2)) t.told)
+grey_closes k x found a = share_closes k x found (GreyTold a) (λ y t. ⊎_elim (λ u. (x.seen.share, u.1)) (λ u. (begun a u.0.block.shape found x.seen.share, u.1)) t.told)
 
 pub scan_closes : (k : Config) (x : DomainView) (found : ℕ) → Closes k x found (ScanTold k) CanLeave Leaves
 scan_closes k x found = share_closes k x found (ScanTold k) (λ y t. (record x.seen.share { scan = scanned_on x.seen.share.scan t.value }, t.view))

@@ -37,8 +37,8 @@ use Rattle.heap_rule.proofs.Controls.{untouched_same}
 use Rattle.heap_rule.proofs.Keeps.{Words, my_good, unmoved}
 use Rattle.heap_rule.proofs.Lots.{owned_same}
 use Rattle.steps_cycle.specs.Looks.{with_share}
-use Rattle.steps_cycle.specs.Marking.{GreyMay, GreyTold, IsGrey, IsNotGrey, IsNext, MarkMay, MarkTold, OwnMay, OwnTold, begun, behind, fields_in}
-use Rattle.steps_cycle.proofs.Colouring.{BareHead, bare_head, coloured}
+use Rattle.steps_cycle.specs.Marking.{GreyMay, GreyTold, IsGrey, IsScanned, IsUnmarked, IsNext, MarkMay, MarkTold, OwnMay, OwnTold, begun, behind, fields_in}
+use Rattle.steps_cycle.proofs.Colouring.{BareHead, bare_head, marked_colour, unmarked_colour}
 use Rattle.steps_cycle.proofs.Layouts.{labelled, owner_of_place}
 use Rattle.steps_cycle.proofs.Learning.{at_other, at_same, bare, held, kind_here, knows_more, known, not_promoting, shifts_more, waits_in}
 
@@ -62,7 +62,7 @@ next_behind : (pool class slot : ℕ) → slot + 1 < blocks_of class → behind 
 next_behind pool class slot more = ap (λ (b : Bool). cond b (record { pool = pool + 1; slot = 0 }) (record { pool = pool; slot = slot + 1 })) (lt-leb (blocks_of class) (slot + 1) more)
 
 -- a place before it is this one, or was before this one
-before_behind : (pool class slot q i : ℕ) → (q ≡ pool → i < blocks_of class) → IsBefore q i (behind pool class slot) → ((q ≡ pool) × (i ≡ slot)) ⊎ IsBefore q i (record { pool = pool; slot = slot })
+pub before_behind : (pool class slot q i : ℕ) → (q ≡ pool → i < blocks_of class) → IsBefore q i (behind pool class slot) → ((q ≡ pool) × (i ≡ slot)) ⊎ IsBefore q i (record { pool = pool; slot = slot })
 before_behind pool class slot q i inside before =
     let here : q ≡ pool → i < slot + 1 → ((q ≡ pool) × (i ≡ slot)) ⊎ IsBefore q i (record { pool = pool; slot = slot }) =
     (λ same low. dite (ℕ_discrete i slot) (λ eq. inl (same, eq)) (λ other. inr (inr (same, (let n : i ≢ slot = other in let l : i < slot + 1 = low in let z : i < slot = omega arith in z))))) in
@@ -167,16 +167,15 @@ module _ (k : Config) (s : Words) (r : Rule k s) (id : ℕ) (hist : List Entry) 
     means : colours ≡ c.paint.colours
     means = (my_good k s r id hist x at).sharing.telling.colours colours knows
 
-    -- the block isn't grey, or it is
-    pub seen_head : (IsNotGrey colours head × (IsTrue (m.marked p.label) → IsTrue (m.scanned p.label))) ⊎ (IsTrue (m.marked p.label) × IsGrey colours p.shape head)
-    seen_head = ⊎_elim
-        (λ (is : m.marked p.label ≡ true).
-        let marked : there.head.colour ≡ colours.marked = there.colour ∙ (coloured c.paint p true is ∙ sym (ap (λ (z : Colours). z.marked) means)) in ⊎_elim
-        (λ (done : m.scanned p.label ≡ true). inl (record { shape = p.shape; head = there.head; colour = inr (marked, there.tells is ∙ done) }, λ _. done))
-        (λ (left : m.scanned p.label ≡ false). inr (is, record { built = (r.whole.placed.fits a p lives).built; head = there.head; colour = marked; unscanned = there.tells is ∙ left }))
-        (cases_Bool (m.scanned p.label)))
-        (λ (not_yet : m.marked p.label ≡ false). inl (record { shape = p.shape; head = there.head; colour = inl (there.colour ∙ (coloured c.paint p false not_yet ∙ sym (ap (λ (z : Colours). z.unmarked) means))) }, λ is. absurd (true≢false (sym is ∙ not_yet))))
-        (cases_Bool (m.marked p.label))
+    -- a marked block is scanned, or grey
+    pub marked_cases : m.marked p.label ≡ true → (IsScanned colours head × (m.scanned p.label ≡ true)) ⊎ ((grey : IsGrey colours head) × (grey.block.shape ≡ p.shape))
+    marked_cases is = ⊎_elim
+        (λ (done : m.scanned p.label ≡ true). inl (record { block = record { shape = p.shape; head = there.head; colour = marked_colour c.paint p head colours means there is }; scanned = there.tells is ∙ done }, done))
+        (λ (left : m.scanned p.label ≡ false). inr (record { block = record { shape = p.shape; head = there.head; colour = marked_colour c.paint p head colours means there is }; built = (r.whole.placed.fits a p lives).built; unscanned = there.tells is ∙ left }, refl))
+        (cases_Bool (m.scanned p.label))
+
+    pub unmarked_case : m.marked p.label ≡ false → IsUnmarked colours head
+    unmarked_case e = record { shape = p.shape; head = there.head; colour = unmarked_colour c.paint p head colours means there e }
 
     -- the scan of a grey block begins
     begins : IsTrue (m.marked p.label) → (shape : Shape) → p.shape ≡ shape → IsBuilt shape → Scanned live now.graph m a 0 (fields_in shape) head
@@ -275,20 +274,29 @@ module _ (k : Config) (s : Words) (r : Rule k s) (id : ℕ) (hist : List Entry) 
     abbrev Looked : DomainView → Type 0
     Looked y = After y × MarkTold a pool class slot x found y
 
+    seen_live : (p : Place) → live a ≡ Some p → (IsTrue (m.marked p.label) → IsTrue (m.scanned p.label)) → IsUnmarked may.colours found ⊎ IsScanned may.colours found → (y : DomainView) × Looked y
+    seen_live p lives quiet why = (
+      with_share x saw,
+      (
+        saw_rule (λ q e. let same : Some q ≡ Some p = sym e ∙ lives in let is : q ≡ p = cc in subst (λ (z : Place). IsTrue (m.marked z.label) → IsTrue (m.scanned z.label)) (sym is) quiet),
+        record { colours = may.colours; known = may.known; told = inl (inr why, refl) },
+      ),
+    )
+
     look_live : (p : Place) → live a ≡ Some p → (y : DomainView) × Looked y
     look_live p lives = ⊎_elim
-        (λ h. (
-          with_share x saw,
-          (
-            saw_rule (λ q e. let same : Some q ≡ Some p = sym e ∙ lives in let is : q ≡ p = cc in subst (λ (z : Place). IsTrue (m.marked z.label) → IsTrue (m.scanned z.label)) (sym is) h.1),
-            record { colours = may.colours; known = may.known; told = inl (inr h.0, refl) },
-          ),
-        ))
+        (λ (is : m.marked p.label ≡ true). ⊎_elim
+        (λ h. seen_live p lives (λ _. h.1) (inr h.0))
         (λ h. (
           with_share x (begun a p.shape found sh),
-          (begins_rule may.colours may.known collecting a p lives h.0, record { colours = may.colours; known = may.known; told = inr (p.shape, h.1, refl) }),
+          (
+            begins_rule may.colours may.known collecting a p lives is,
+            record { colours = may.colours; known = may.known; told = inr (h.0, ap (λ (z : Shape). with_share x (begun a z found sh)) (sym h.1)) },
+          ),
         ))
-        (seen_head may.colours may.known collecting a p lives)
+        (marked_cases may.colours may.known collecting a p lives is))
+        (λ (e : m.marked p.label ≡ false). seen_live p lives (λ is. absurd (true≢false (sym is ∙ e))) (inl (unmarked_case may.colours may.known collecting a p lives e)))
+        (cases_Bool (m.marked p.label))
 
     pub looks_at : (o : Option Place) → live a ≡ o → (y : DomainView) × Looked y
     looks_at (Some p) e = look_live p e
@@ -318,8 +326,12 @@ module _ (k : Config) (s : Words) (r : Rule k s) (id : ℕ) (hist : List Entry) 
           knows_more k s r id hist x at collecting (held sh) refl refl record { glimpse = kn.glimpse; scan = kn.scan; walked = kn.walked; tenure = kn.tenure; rooted = kn.rooted; marked = kn.marked },
           record { colours = may.colours; known = may.known; told = inl (h.0, refl) },
         ))
-        (λ h. (with_share x (begun a t.0.shape (at_address k s.words a) sh), begins_rule may.colours may.known collecting a t.0 t.1 t.2, record { colours = may.colours; known = may.known; told = inr (t.0.shape, h.1, refl) }))
-        (seen_head may.colours may.known collecting a t.0 t.1)
+        (λ h. (
+          with_share x (begun a t.0.shape (at_address k s.words a) sh),
+          begins_rule may.colours may.known collecting a t.0 t.1 t.2,
+          record { colours = may.colours; known = may.known; told = inr (h.0, ap (λ (z : Shape). with_share x (begun a z (at_address k s.words a) sh)) (sym h.1)) },
+        ))
+        (marked_cases may.colours may.known collecting a t.0 t.1 t.2)
 
 pub own_may : (k : Config) (x : DomainView) (word pool : ℕ) → OwnMay k x word pool → MayStep k x word (λ n. n) (OwnTold pool)
 own_may k x word pool may fits slots id hist s r _ at _ =

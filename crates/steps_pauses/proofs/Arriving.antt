@@ -278,5 +278,5 @@ sharing_looked k all words x last stage gone g = let l = subst (λ (st : Stage).
   knows = inl (⊎_elim (λ (h : IsIdle x.seen.share). h) (λ (h : IsCollecting x.seen.stage × Knowing k all.live all.tenancy.holder (state_of k all.log).graph all.cycling.paint.marks words x.own.number x.own.registers x.seen.share). absurd (subst IsCollecting gone h.0)) g.sharing.knows);
   adds = g.sharing.adds;
 } where
-  apart : (⊥ ⊎ (Gone last ≡ In Answer)) → ⊥
-  apart h = ⊎_elim (λ (a : ⊥). a) (λ (e : Gone last ≡ In Answer). let f : Gone last ≡ In Answer = e in cc) h
+  apart : (((x.own.number ≡ 0) × ⊥) ⊎ (Gone last ≡ In Answer)) → ⊥
+  apart h = ⊎_elim (λ (a : (x.own.number ≡ 0) × ⊥). a.1) (λ (e : Gone last ≡ In Answer). let f : Gone last ≡ In Answer = e in cc) h

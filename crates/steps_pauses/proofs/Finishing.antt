@@ -45,7 +45,7 @@ use Rattle.heap_rule.proofs.Keeps.{Words, mine, my_good, now}
 use Rattle.steps_pauses.specs.Pauses.{ArrivesFrom, HasDone}
 use Rattle.steps_pauses.proofs.Arriving.{is_owner, arrived_cycle, kind_acts}
 use Rattle.steps_pauses.proofs.Layouts.{own_place}
-use Rattle.steps_pauses.proofs.PlainHistories.{IsPlainNode, IsPlainState, plain_state, plain_opening}
+use Rattle.heap_rule.proofs.PlainHistories.{IsPlainNode, IsPlainState, plain_state, plain_opening}
 use Rattle.heap_model.specs.Entries.{full_keys}
 use Rattle.heap_model.specs.declared.state.Sizes.{Sizes}
 use Rattle.std.proofs.lemmas.Option.{slice_get_within, get_or_from_slice_get}

@@ -34,7 +34,7 @@ use Rattle.heap_rule.proofs.Update.{over, over_here, over_else}
 use Rattle.steps_pauses.specs.Pauses.{kind_in, entry_of, cut_in, MayFollow, LeadMay, LeadTold}
 use Rattle.steps_pauses.proofs.CollectorEntries.{OfCollector, entry_of_collector, keeps_left, queue_left, graph_left, plain_logged, front_then, after_logged, legal_logged, knows_logged, seen_then}
 use Rattle.steps_pauses.proofs.Naming.{left_by, logged, pass_in, led_cycle, Ready, Way, led_way}
-use Rattle.steps_pauses.proofs.PlainHistories.{IsPlainState, plain_state, plain_opening}
+use Rattle.heap_rule.proofs.PlainHistories.{IsPlainState, plain_state, plain_opening}
 use Rattle.heap_rule.specs.Fullness.{Fullness}
 use Rattle.heap_model.specs.History.{Legal}
 
@@ -374,7 +374,7 @@ module _ (k : Config) (s : Words) (r : Rule k s) (id : ℕ) (hist : List Entry) 
         };
         took_back = λ kind leads _. absurd (led_leads next kind leads);
         owes = owes_rests k live x y refl quiet (ap (λ (u : Copying). u.pending) quiet) refl good.owes;
-        rooted = λ h. absurd (no_even (h.0, h.1));
+        rooted = (λ h. absurd (no_even (h.0, h.1)), ⊎_elim (λ h. absurd (no_even (h.0.0, h.0.1))) (λ h. good.rooted.1 (inr (resetting_led t j next odd h))));
         set_back = λ back. absurd (led_leads next Run back.0);
         sharing = sharing_led;
       }
@@ -391,7 +391,7 @@ module _ (k : Config) (s : Words) (r : Rule k s) (id : ℕ) (hist : List Entry) 
         resting = resting_untouched k s.words ws z untouched h.resting;
         took_back = λ kind leads took. want_is ∙ h.took_back kind leads took;
         owes = h.owes;
-        rooted = λ h. absurd (no_even (h.0, h.1));
+        rooted = (λ w. absurd (no_even (w.0, w.1)), ⊎_elim (λ w. absurd (no_even (w.0.0, w.0.1))) (λ w. h.rooted.1 (inr (resetting_led t j next odd w))));
         set_back = λ back. low_untouched k s.words ws untouched (h.set_back back);
         sharing = sharings_led z below other h;
       })

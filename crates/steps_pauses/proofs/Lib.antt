@@ -1,5 +1,5 @@
-pub mod PlainHistories
 mod Layouts
+pub mod Plain
 mod Arriving
 mod Finishing
 mod Naming
