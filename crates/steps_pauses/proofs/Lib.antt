@@ -1,5 +1,4 @@
 mod Layouts
-pub mod Plain
 mod Arriving
 mod Finishing
 mod Naming
