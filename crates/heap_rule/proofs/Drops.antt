@@ -212,6 +212,8 @@ module _ (k : Config) (s : Words) (r : Rule k s) (id : ℕ) (hist : List Entry) 
     pub gone : HasSetBack y → ⊥
     pub own_old : HoldsOld k x
     pub all_old : (z : DomainView) → z.own.number < k.domains → z.own.number ≢ x.own.number → Staged r.account.pause z → Rooted k r.account.pause z → HoldsOld k z
+    pub own_forgot : x.seen.remembered ≡ []
+    pub all_forgot : (z : DomainView) → z.own.number < k.domains → z.own.number ≢ x.own.number → Staged r.account.pause z → Rooted k r.account.pause z → z.seen.remembered ≡ []
     pub all_quiet : (z : DomainView) → z.own.number < k.domains → z.own.number ≢ x.own.number → Staged r.account.pause z → Owes k r.account.live z → z.seen.copying ≡ nothing_copied
 
   pub drops : (m : Move) (pause' : Pause) (c' : Cycling) (words' : List ℕ) → m.copying ≡ nothing_copied → let y : DomainView = moved_to x m in Drops y pause' c' words'
@@ -289,7 +291,7 @@ module _ (k : Config) (s : Words) (r : Rule k s) (id : ℕ) (hist : List Entry) 
         resting = o.resting;
         took_back = o.took_back;
         owes = drop_owes k paint0 live0 graph words' found0 r.whole.copies o.free x y refl quiet refl g.owes;
-        rooted = λ h. absurd (o.over h);
+        rooted = (λ h. absurd (o.over h), λ _. o.own_forgot);
         set_back = λ h. absurd (o.gone h);
         sharing = o.sharing;
       }
@@ -312,7 +314,7 @@ module _ (k : Config) (s : Words) (r : Rule k s) (id : ℕ) (hist : List Entry) 
         resting = resting_untouched k s.words words' z o.untouched h.resting;
         took_back = o.others_took_back z h.staged h.took_back;
         owes = drop_owes k paint0 live0 graph words' found0 r.whole.copies o.free z z refl (o.all_quiet z below other h.staged h.owes) refl h.owes;
-        rooted = λ h. absurd (o.over h);
+        rooted = (λ h. absurd (o.over h), λ _. o.all_forgot z below other h.staged h.rooted);
         set_back = λ b. low_untouched k s.words words' o.untouched (h.set_back b);
         sharing = o.sharings z below other h;
       })

@@ -34,7 +34,7 @@ use Rattle.heap_rule.specs.Layout.{before_heap, barrier, plan, ended_word, liste
 use Rattle.heap_rule.specs.declared.view.Copying.{Copying}
 use Rattle.heap_rule.specs.declared.view.Owing.{Owing}
 use Rattle.heap_rule.specs.Places.{Debt, Place, Live, Stands, Placed, Spread, Settled, More, extent}
-use Rattle.heap_rule.specs.Copies.{nothing_copied, known, Owes, IsField, Recalls, Copies, Promoting, IsOldValue, Rooted, ListsCopy}
+use Rattle.heap_rule.specs.Copies.{nothing_copied, known, Owes, IsField, Recalls, Copies, Promoting, IsOldValue, Rooted, ListsCopy, Resetting, IsEmptying}
 use Rattle.heap_rule.specs.Changes.{value_at}
 use Rattle.heap_rule.specs.Views.{EachView, AllDomains, IsSeated, Knows, one}
 use Rattle.heap_rule.specs.declared.phase.Kind.TheVariants.{Run, Promote}
@@ -43,7 +43,7 @@ use Rattle.heap_rule.specs.declared.phase.Stage.TheVariants.{In, Leads, Led, Gon
 use Rattle.heap_rule.specs.Phases.{Pause, Phases, sum_of, IsEven, AtStage, Staged, IsInPause, Still, Agree, flag, is_over, TookBack, HasSetBack, last_note}
 use Rattle.heap_rule.specs.Rule.{state_of, AllFound, Stood, Area, Making, Account, Good, Sharing, NoneQueued, Whole, Rule}
 use Rattle.heap_rule.specs.Cycles.{Cycling, Cycled, Telling, Leading, HasNoCycle, IsBetween, IsIdle, AllPlain, IsPlainEntry}
-use Rattle.heap_rule.proofs.PauseFacts.{not_both, agree, nobody_paused, staged_as, run_promoting, run_resetting}
+use Rattle.heap_rule.proofs.PauseFacts.{not_both, agree, nobody_paused, staged_as, run_promoting, run_resetting, kind_differs}
 use Rattle.heap_rule.proofs.Sharings.{SameCycle, kind_now, cycle_between, facts_between, leading_words, leading_as, telling_as, idle_in, idle_beside, takes_kind, adds_nothing}
 use Rattle.heap_rule.specs.Room.{spent_stock, count, drawn_in_all, copied_words, Room, IsUnused, Opened, Drawable}
 use Rattle.heap_model.specs.Domains.{class_count, reserve}
@@ -190,8 +190,11 @@ pub sum_same : (f g : ℕ → ℕ) (n : ℕ) → ((d : ℕ) → d < n → g d �
 sum_same f g zero each = refl
 sum_same f g (suc n) each = let a = sum_same f g n (λ d h. each d (omega arith)) in let b = each n (omega arith) in λ i. a i + b i
 
-pub rooted_as : (k : Config) (t : Pause) (x y : DomainView) → y.own.registers ≡ x.own.registers → y.own.arrivals ≡ x.own.arrivals → Rooted k t x → Rooted k t y
-rooted_as k t x y registers arrivals r p up q few = subst (λ (l : List words.Value). IsOldValue k (value_at l q)) (sym registers) (r p (sym arrivals ∙ up) q few)
+pub rooted_as : (k : Config) (t : Pause) (x y : DomainView) → y.own.registers ≡ x.own.registers → y.own.arrivals ≡ x.own.arrivals → y.seen.remembered ≡ x.seen.remembered → Rooted k t x → Rooted k t y
+rooted_as k t x y registers arrivals remembered r = (
+  λ p up q few. subst (λ (l : List words.Value). IsOldValue k (value_at l q)) (sym registers) (r.0 p (sym arrivals ∙ up) q few),
+  λ past. remembered ∙ r.1 (⊎_elim (λ (h : Promoting t × (y.own.arrivals ≡ t.phase + 1)). inl (h.0, sym arrivals ∙ h.1)) (λ (h : Resetting t). inr h) past),
+)
 
 -- where nothing forwards
 pub copies_settled : (k : Config) (live : Live) → Settled live → ((b : ℕ) (q : Place) (i d : ℕ) → live b ≡ Some q → q.named i ≡ Some d → (d < k.domains) × (i + 2 < extent q.shape)) → Copies k live
@@ -210,13 +213,6 @@ run_leads kind e = cc
 
 pub running_took_back : (words : List ℕ) (y : DomainView) → y.seen.stage ≡ In Run → TookBack words y
 running_took_back words y runs kind leads last = absurd (run_leads kind (sym runs ∙ leads))
-
--- who leads is in a pause
-pub leads_paused : (stage : Stage) → IsLeading stage → IsInPause stage
-leads_paused (In kind) leads = absurd leads
-leads_paused (Leads kind) leads = tt
-leads_paused (Led kind) leads = tt
-leads_paused (Gone kind) leads = absurd leads
 
 -- a domain that takes blocks leads no pause
 takes_leads : (stage : Stage) → Takes stage → IsLeading stage → ⊥
@@ -266,6 +262,18 @@ resting_other k t words words' x z takes sx sz r = record {
 }
 
 -- nobody copies while a domain runs
+-- while a domain runs none is past Promote
+pub run_rooted : (k : Config) (t : Pause) (x z : DomainView) → x.seen.stage ≡ In Run → Staged t x → Rooted k t z
+run_rooted k t x z runs s = (
+  λ p. absurd (run_promoting t x runs s p),
+  ⊎_elim (λ (h : Promoting t × (z.own.arrivals ≡ t.phase + 1)). absurd (run_promoting t x runs s h.0)) (λ (h : Resetting t). absurd (⊎_elim
+      (λ (odd : (j : ℕ) × (t.phase ≡ j * 2 + 1) × (t.kinds j ≢ Run)). not_both t.phase (here.0, here.1) (odd.0, odd.1))
+      (λ (even : (j : ℕ) × (t.phase ≡ j * 2) × IsEmptying (t.kinds j)). even.2.0 (kind_differs t even.0 here.0 t.phase (t.kinds even.0) Run even.1 here.1 refl here.2))
+      h)),
+) where
+  here : (j : ℕ) × (t.phase ≡ j * 2) × (t.kinds j ≡ Run)
+  here = (subst (AtStage t x.own.number x.own.arrivals) runs s.stage).1
+
 pub run_copying : (t : Pause) (x : DomainView) (d : ℕ) → x.seen.stage ≡ In Run → Staged t x → IsCopying t d → ⊥
 run_copying t x d runs s c = run_promoting t x runs s c.1
 
@@ -617,7 +625,7 @@ module _ (k : Config) (s : Words) (r : Rule k s) (id : ℕ) (hist : List Entry) 
         cycle = cycle_here Run tt o.runs (state_of k log') live' r.account.tenancy words' (ap (λ (t : model.State). t.mode) after ∙ (o.calm.mode ∙ sym (between_here Run tt o.runs).mode)) (λ a. refl) o.controls.cycle;
       }
       (knows_entry y e o.alone o.number o.front)
-      record { stood = subst (λ (t : model.State). Stood live' t y) (sym after) o.stood; area = o.area; making = o.making; staged = staged_as r.account.pause x y o.number o.arrivals o.stage my_good.staged; still = run_still log' y (o.stage ∙ o.runs); hunter = o.hunter; resting = resting_runs k s.words words' x y o.runs (o.stage ∙ o.runs) o.listing my_good.resting; took_back = running_took_back words' y (o.stage ∙ o.runs); owes = o.owes; rooted = λ h. absurd (run_promoting r.account.pause x o.runs my_good.staged h); set_back = λ h. absurd (run_leads Run (sym (o.stage ∙ o.runs) ∙ h.0)); sharing = sharing_here Run tt o.runs (record r.account { log = log'; live = live'; homes = homes' }) words' y refl o.controls.cycle o.number o.stage o.share }
+      record { stood = subst (λ (t : model.State). Stood live' t y) (sym after) o.stood; area = o.area; making = o.making; staged = staged_as r.account.pause x y o.number o.arrivals o.stage my_good.staged; still = run_still log' y (o.stage ∙ o.runs); hunter = o.hunter; resting = resting_runs k s.words words' x y o.runs (o.stage ∙ o.runs) o.listing my_good.resting; took_back = running_took_back words' y (o.stage ∙ o.runs); owes = o.owes; rooted = run_rooted k r.account.pause x y o.runs my_good.staged; set_back = λ h. absurd (run_leads Run (sym (o.stage ∙ o.runs) ∙ h.0)); sharing = sharing_here Run tt o.runs (record r.account { log = log'; live = live'; homes = homes' }) words' y refl o.controls.cycle o.number o.stage o.share }
       (λ z _ other g. record {
         stood = subst (λ (t : model.State). Stood live' t z) (sym after) (stood_other r.account.live live' now (next now e) z (keeps_next now e z.own.number (o.alone z.own.number other)) o.more g.stood);
         area = o.areas z other g.area;
@@ -629,7 +637,7 @@ module _ (k : Config) (s : Words) (r : Rule k s) (id : ℕ) (hist : List Entry) 
         took_back = λ kind leads last. o.controls.want ∙ g.took_back kind leads last;
         set_back = λ h. o.controls.set_back z g.staged h (g.set_back h);
         owes = owes_run k r.account.live live' z z o.settled (quiet_in k r.account.live z g.owes (λ e. nobody_paused r.account.pause x z o.runs my_good.staged g.staged (subst IsInPause (sym e) tt))) refl refl o.more (o.recalls z.own.number other) g.owes;
-        rooted = λ h. absurd (run_promoting r.account.pause x o.runs my_good.staged h);
+        rooted = run_rooted k r.account.pause x z o.runs my_good.staged;
         sharing = sharings_here Run tt o.runs (record r.account { log = log'; live = live'; homes = homes' }) words' refl o.controls.cycle z g;
       })
 
@@ -691,7 +699,7 @@ module _ (k : Config) (s : Words) (r : Rule k s) (id : ℕ) (hist : List Entry) 
         cycle = o.cycle;
       }
       (knows_front y o.number o.front)
-      record { stood = o.stood; area = o.area; making = o.making; staged = staged_as r.account.pause x y o.number o.arrivals o.stage my_good.staged; still = o.still; hunter = o.hunter; resting = resting_as k words' x y o.number o.stage o.hunt o.free o.listing (resting_lists k s.words words' x o.controls.lists my_good.resting); took_back = λ kind leads last. o.controls.want ∙ my_good.took_back kind (sym o.stage ∙ leads) (sym (ap last_note o.notes) ∙ last); owes = owes_as k r.account.live x y o.number o.copying o.stage o.remembered my_good.owes; rooted = rooted_as k r.account.pause x y o.registers o.arrivals my_good.rooted; set_back = λ h. o.controls.set_back x my_good.staged (sym o.stage ∙ h.0, sym (ap last_note o.notes) ∙ h.1) (my_good.set_back (sym o.stage ∙ h.0, sym (ap last_note o.notes) ∙ h.1)); sharing = o.sharing }
+      record { stood = o.stood; area = o.area; making = o.making; staged = staged_as r.account.pause x y o.number o.arrivals o.stage my_good.staged; still = o.still; hunter = o.hunter; resting = resting_as k words' x y o.number o.stage o.hunt o.free o.listing (resting_lists k s.words words' x o.controls.lists my_good.resting); took_back = λ kind leads last. o.controls.want ∙ my_good.took_back kind (sym o.stage ∙ leads) (sym (ap last_note o.notes) ∙ last); owes = owes_as k r.account.live x y o.number o.copying o.stage o.remembered my_good.owes; rooted = rooted_as k r.account.pause x y o.registers o.arrivals o.remembered my_good.rooted; set_back = λ h. o.controls.set_back x my_good.staged (sym o.stage ∙ h.0, sym (ap last_note o.notes) ∙ h.1) (my_good.set_back (sym o.stage ∙ h.0, sym (ap last_note o.notes) ∙ h.1)); sharing = o.sharing }
       (λ z _ other g. record { stood = g.stood; area = g.area; making = o.makings z other g.area g.making; staged = g.staged; still = g.still; hunter = o.hunters z other g; resting = resting_lists k s.words words' z o.controls.lists g.resting; took_back = λ kind leads last. o.controls.want ∙ g.took_back kind leads last; owes = g.owes; rooted = g.rooted; set_back = λ h. o.controls.set_back z g.staged h (g.set_back h); sharing = o.sharings z other g })
 
   -- a step that leaves all but the front, which is then some front of the history

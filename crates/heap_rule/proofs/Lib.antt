@@ -30,3 +30,4 @@ pub mod Closes
 pub mod Plain
 pub mod Acting
 pub mod Calls
+pub mod PlainHistories

@@ -36,8 +36,8 @@ agree t d e a b (Gone u) y p q = tt
 -- who runs excludes that anyone is in a phase of a pause
 run_alone : (y : Stage) → Agree (In Run) y → IsInPause y → ⊥
 run_alone (In v) a p = subst (λ (kind : Kind). IsInPause (In kind)) (sym a) p
-run_alone (Leads v) a p = a
-run_alone (Led v) a p = a
+run_alone (Leads v) a p = p
+run_alone (Led v) a p = p
 run_alone (Gone v) a p = p
 
 pub nobody_paused : (t : Pause) (x z : DomainView) → x.seen.stage ≡ In Run → Staged t x → Staged t z → IsInPause z.seen.stage → ⊥

@@ -147,6 +147,10 @@ IsOldValue k _ = Unit {0}
 abbrev pub HoldsOld : Config → DomainView → Type 0
 HoldsOld k x = (r : ℕ) → r < 16 → IsOldValue k (value_at x.own.registers r)
 
--- whoever has arrived from Promote holds no address of a minor area
+-- a domain is past Promote in this pause
+abbrev pub IsPast : Pause → DomainView → Type 0
+IsPast t x = (Promoting t × (x.own.arrivals ≡ t.phase + 1)) ⊎ Resetting t
+
+-- whoever has arrived from Promote holds no address of a minor area, and remembers no field until the domains run again
 abbrev pub Rooted : Config → Pause → DomainView → Type 0
-Rooted k t x = Promoting t → x.own.arrivals ≡ t.phase + 1 → HoldsOld k x
+Rooted k t x = (Promoting t → x.own.arrivals ≡ t.phase + 1 → HoldsOld k x) × (IsPast t x → x.seen.remembered ≡ [])

@@ -107,15 +107,13 @@ pub record Staged (t : Pause) (x : DomainView) : Type 0 where
   pub arrivals : x.own.arrivals ≡ t.arrived x.own.number
   pub stage : AtStage t x.own.number x.own.arrivals x.seen.stage
 
--- the domain acts in a phase of a pause
+-- the domain acts in an even phase of a pause
 abbrev pub IsInPause : Stage → Type 0
 IsInPause (In Run) = ⊥
 IsInPause (In _) = Unit {0}
-IsInPause (Leads _) = Unit {0}
-IsInPause (Led _) = Unit {0}
-IsInPause (Gone _) = ⊥
+IsInPause _ = ⊥
 
--- then no entry is appended
+-- then no entry is appended. In an odd phase the collector's entries are, as the next kind is named
 abbrev pub Still : List Entry → DomainView → Type 0
 Still log x = IsInPause x.seen.stage → x.seen.front ≡ log
 

@@ -36,6 +36,12 @@ pub const LISTED: usize = 6;
 /// The index of the word that says how many of them were asked for.
 pub const CURSOR: usize = 7;
 
+/// The index of the word that says how many blocks a collection has left.
+pub const LIVE_BLOCKS: usize = 9;
+
+/// The index of the word that says how many words they have.
+pub const LIVE_WORDS: usize = 10;
+
 /// The index of the first word of the list of free pools.
 pub(crate) const LIST: usize = 11;
 

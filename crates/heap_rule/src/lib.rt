@@ -16,7 +16,9 @@ pub use change::{Change, Item, Part, Reading, make_changes, read_as};
 pub use config::{Config, StartFault};
 pub use domain::Domain;
 pub use heap::{Ended, Heap};
-pub use layout::{BARRIER, CHANGED, COLOURS, CURSOR, ENDED, LISTED, PLAN, WANT};
+pub use layout::{
+    BARRIER, CHANGED, COLOURS, CURSOR, ENDED, LISTED, LIVE_BLOCKS, LIVE_WORDS, PLAN, WANT,
+};
 pub use phase::{Kind, Note, Stage};
 pub use raw::{Changing, Leaving, Writing, raw_add, raw_exchange, raw_load, raw_or, raw_store};
 pub use rule::Told;

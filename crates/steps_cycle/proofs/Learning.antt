@@ -96,7 +96,7 @@ scans_more live graph m m' more Idle f = tt
 scans_more live graph m m' more (Reads block done size head) f = scanned_more live graph m m' more block done size head f
 scans_more live graph m m' more (Holds block done size head address) f = record { reads = scanned_more live graph m m' more block done size head f.reads; target = f.target; there = f.there; holds = f.holds }
 
-none_before : (q slot : ℕ) → IsBefore q slot (record { pool = 0; slot = 0 }) → ⊥
+pub none_before : (q slot : ℕ) → IsBefore q slot (record { pool = 0; slot = 0 }) → ⊥
 none_before q slot low = ⊎_elim (λ (h : q < 0). omega arith) (λ (h : (q ≡ 0) × (slot < 0)). let l = h.1 in omega arith) low
 
 module _ (k : Config) (s : Words) (r : Rule k s) (id : ℕ) (hist : List Entry) (x : DomainView) (at : get_elem? s.views id ≡ some (one k hist x)) where
@@ -219,6 +219,7 @@ module _ (k : Config) (s : Words) (r : Rule k s) (id : ℕ) (hist : List Entry) 
           all = λ q c slot p is inside low lives. absurd (none_before q slot low);
           words = refl;
         };
+        held = λ q e is low. absurd (let l : q < 0 = low in omega arith);
       }
 
   -- what a domain knows of blocks it knows where more is marked, and where the heads of the others stay
@@ -235,6 +236,7 @@ module _ (k : Config) (s : Words) (r : Rule k s) (id : ℕ) (hist : List Entry) 
     rooted = λ i b q is f lives. more q.label (n.rooted i b q is f lives);
     marked = λ a is. let t = n.marked a is in (t.0, t.1, more t.0.label t.2);
     tally = n.tally;
+    held = n.held;
   }
 
   module _ (collecting : IsCollecting x.seen.stage) where
@@ -326,6 +328,7 @@ module _ (k : Config) (s : Words) (r : Rule k s) (id : ℕ) (hist : List Entry) 
         found_words = λ v e. let f = l.found_words v e in (f.0, o.words_same ∙ f.1);
         rotated = l.rotated;
         turned = l.turned;
+        pass = l.pass;
       }
 
       pub sharing' : Sharing k all' words' d x.own.registers x.seen.stage (holding sh h)
@@ -340,7 +343,7 @@ module _ (k : Config) (s : Words) (r : Rule k s) (id : ℕ) (hist : List Entry) 
               forgotten = λ up. absurd (true≢false (sym up ∙ waits));
               colours = g.sharing.telling.colours;
             };
-            leading = record { changed = l.changed; found_blocks = l.found_blocks; found_words = l.found_words; rotated = l.rotated; turned = l.turned };
+            leading = record { changed = l.changed; found_blocks = l.found_blocks; found_words = l.found_words; rotated = l.rotated; turned = l.turned; pass = l.pass };
             knows = inr (
               collecting,
               record {
@@ -351,6 +354,7 @@ module _ (k : Config) (s : Words) (r : Rule k s) (id : ℕ) (hist : List Entry) 
                 rooted = o.knows.rooted;
                 marked = o.knows.marked;
                 tally = record { once = y.once; own = y.own; lives = y.lives; all = y.all; words = y.words };
+                held = known.held;
               },
             );
             adds = record { blocks = g.sharing.adds.blocks; words = g.sharing.adds.words; own = g.sharing.adds.own };

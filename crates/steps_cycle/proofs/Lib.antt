@@ -9,3 +9,4 @@ pub mod GlimpseSteps
 pub mod DarkenSteps
 pub mod WalkSteps
 pub mod ScanSteps
+pub mod ChangedSteps

@@ -1,5 +1,5 @@
 -- What the steps of a collection tell of a token's own data: it stays.
-use Rattle.std.proofs.Common.{◌≡◌, ℕ, ◌∷◌, Some, ap, ⊎_elim, ◌+◌, false}
+use Rattle.std.proofs.Common.{◌≡◌, ℕ, ◌∷◌, Some, ap, ⊎_elim, ◌+◌, false, None}
 use mathlib.Core.Logic.{dite}
 use native.Mathlib.Decide.{ℕ_discrete}
 use Rattle.heap_rule.specs.declared.config.Config.{Config}
@@ -10,6 +10,7 @@ use Rattle.heap_rule.specs.Raw.{CanLeave, Closes, Leaves}
 use Rattle.heap_rule.proofs.Closes.{front_same, leaves_closes}
 use Rattle.steps_cycle.specs.Looks.{ColoursTold, with_share}
 use Rattle.steps_cycle.specs.Marking.{ChangedTold, DarkenTold, GlimpseTold, GreyTold, MarkTold, OwnTold, Reason, ScanTold, ScannedTold, begun, behind, moved_on, owes_on, scanned_on, Site, sights_on, walk_on}
+use Rattle.steps_cycle.specs.Changed.{FindTold, ForgetTold}
 
 -- a step that tells of the share alone
 pub share_closes : (k : Config) (x : DomainView) (found : ℕ) (tells : DomainView → ℕ → DomainView → Type 0) → ((y : DomainView) → tells x found y → (share : Share) × (y ≡ with_share x share)) → Closes k x found tells CanLeave Leaves
@@ -43,3 +44,9 @@ scanned_closes k x new a site = share_closes k x new (ScannedTold a site) (λ y 
 
 pub changed_closes : (k : Config) (x : DomainView) → Closes k x 1 ChangedTold CanLeave Leaves
 changed_closes k x = share_closes k x 1 ChangedTold (λ y t. (record x.seen.share { owes = false }, t))
+
+pub find_closes : (k : Config) (x : DomainView) (found : ℕ) → Closes k x found FindTold CanLeave Leaves
+find_closes k x found = share_closes k x found FindTold (λ y t. (record x.seen.share { changed = Some found }, t))
+
+pub forget_closes : (k : Config) (x : DomainView) → Closes k x 0 ForgetTold CanLeave Leaves
+forget_closes k x = share_closes k x 0 ForgetTold (λ y t. (record x.seen.share { changed = None }, t))

@@ -62,7 +62,7 @@ next_behind : (pool class slot : ℕ) → slot + 1 < blocks_of class → behind 
 next_behind pool class slot more = ap (λ (b : Bool). cond b (record { pool = pool + 1; slot = 0 }) (record { pool = pool; slot = slot + 1 })) (lt-leb (blocks_of class) (slot + 1) more)
 
 -- a place before it is this one, or was before this one
-before_behind : (pool class slot q i : ℕ) → (q ≡ pool → i < blocks_of class) → IsBefore q i (behind pool class slot) → ((q ≡ pool) × (i ≡ slot)) ⊎ IsBefore q i (record { pool = pool; slot = slot })
+pub before_behind : (pool class slot q i : ℕ) → (q ≡ pool → i < blocks_of class) → IsBefore q i (behind pool class slot) → ((q ≡ pool) × (i ≡ slot)) ⊎ IsBefore q i (record { pool = pool; slot = slot })
 before_behind pool class slot q i inside before =
     let here : q ≡ pool → i < slot + 1 → ((q ≡ pool) × (i ≡ slot)) ⊎ IsBefore q i (record { pool = pool; slot = slot }) =
     (λ same low. dite (ℕ_discrete i slot) (λ eq. inl (same, eq)) (λ other. inr (inr (same, (let n : i ≢ slot = other in let l : i < slot + 1 = low in let z : i < slot = omega arith in z))))) in

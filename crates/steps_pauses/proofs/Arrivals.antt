@@ -18,7 +18,7 @@ use Rattle.heap_rule.specs.declared.phase.Stage.TheVariants.{In, Leads, Led, Gon
 use Rattle.heap_rule.specs.Layout.{heap_words, before_heap, barrier, plan, ended_word, want, listed, cursor, listed_pool}
 use Rattle.heap_rule.specs.Limits.{sizes_in}
 use Rattle.heap_rule.specs.Places.{Place, Live, Settled}
-use Rattle.heap_rule.specs.Copies.{nothing_copied, Promoting, Cleared as Clears, AllCleared, Emptied, Rooted, IsEmptying}
+use Rattle.heap_rule.specs.Copies.{nothing_copied, Promoting, Cleared as Clears, AllCleared, Emptied, Rooted, IsEmptying, Resetting}
 use Rattle.heap_rule.specs.Phases.{code, Follows, sum_of, IsEven, IsOdd, Pause, Phases, LeftOdd, AtStage, Staged, Unwished}
 use Rattle.heap_rule.specs.Pools.{Stock, Tenancy, nobody, drawn, drawn_in, place_in, limit_of, Reserved, Drawers, Hunts, no_stock}
 use Rattle.heap_rule.specs.Room.{spent_stock, drawn_in_all, Room, IsUnused, Drawable}
@@ -31,12 +31,13 @@ use Rattle.heap_rule.proofs.Drops.{drops, dropped}
 use Rattle.heap_rule.proofs.Keeps.{Words, mine, my_good, now, no_cycle_here, quiet_in, owes_rests, room_unused}
 use Rattle.heap_rule.proofs.PauseFacts.{not_both}
 use Rattle.heap_rule.proofs.Sharings.{SameCycle}
-use Rattle.heap_rule.specs.Cycles.{Cycling, Told, HasNoCycle}
+use Rattle.heap_rule.specs.Cycles.{Cycling, Told, HasNoCycle, owner_at}
 use Rattle.heap_rule.specs.Layout.{at_address}
-use Rattle.heap_rule.specs.Views.{fresh_share}
+use Rattle.heap_rule.specs.Views.{voided}
 use Rattle.heap_rule.proofs.Controls.{cycle_untouched, heap_untouched}
-use Rattle.steps_pauses.proofs.Arriving.{arrived_cycle, told_arrived, told_turned, facts_gone, cycle_gone, cycle_dropped, sharing_gone, sharing_else, sharing_between}
+use Rattle.steps_pauses.proofs.Arriving.{arrived_cycle, told_arrived, told_turned, cycle_gone, cycle_dropped, sharing_gone, sharing_else, sharing_between}
 use Rattle.steps_pauses.specs.Pauses.{kind_in, ArrivesFrom, ArriveMay, forgotten, arrived_view, Arrived}
+use Rattle.steps_pauses.proofs.Finishing.{facts_gone}
 
 -- who may arrive acts in the phase
 acting : (t : Pause) (d arrivals : ℕ) (st : Stage) → ArrivesFrom d st → AtStage t d arrivals st → arrivals ≡ t.phase
@@ -166,7 +167,7 @@ module _ (k : Config) (s : Words) (r : Rule k s) (id : ℕ) (hist : List Entry) 
 
   -- the collection then
   abbrev cycling' : Cycling
-  cycling' = arrived_cycle x.seen.stage r.account.cycling number
+  cycling' = arrived_cycle x.seen.stage tenancy.holder r.account.cycling number
 
   -- what is used of the pools, with other numbers of copies in lists
   abbrev counting : (ℕ → ℕ) → Stock
@@ -182,7 +183,7 @@ module _ (k : Config) (s : Words) (r : Rule k s) (id : ℕ) (hist : List Entry) 
     free = None;
     listing = None;
     copying = nothing_copied;
-    share = fresh_share;
+    share = voided x.seen.share;
   }
 
   abbrev y : DomainView
@@ -304,8 +305,8 @@ module _ (k : Config) (s : Words) (r : Rule k s) (id : ℕ) (hist : List Entry) 
   through pause' claims' p = turns k s r id hist x at move pause' (counting claims') cycling' r.account.homes words' record {
     full = r.whole.full;
     paint = refl;
-    cycle = cycle_gone x.seen.stage k (now k s r id hist x at) live pause pause' tenancy (counting claims') r.account.cycling s.words words' number same_cycle same_heap
-        (facts_gone x.seen.stage k (now k s r id hist x at) live pause tenancy r.account.cycling s.words x may.from good.staged.stage may.done r.whole.cycle.told r.whole.cycle.facts) p.told r.whole.cycle;
+    cycle = cycle_gone x.seen.stage tenancy.holder k (now k s r id hist x at) live pause pause' tenancy (counting claims') r.account.cycling s.words words' number same_cycle same_heap
+        (facts_gone k s r id hist x at may.done x.seen.stage refl may.from) p.told r.whole.cycle;
     sharing = sharing_gone k r.account s.words words' x pause' live (record tenancy { stock = counting claims' }) y.seen.stage inside may.from good.staged.stage r.whole.cycle.told good;
     sharings = λ z _ other g. sharing_else k r.account s.words words' x.seen.stage number z pause' (counting claims') other same_cycle same_heap g;
     untouched = untouched;
@@ -367,7 +368,7 @@ module _ (k : Config) (s : Words) (r : Rule k s) (id : ℕ) (hist : List Entry) 
     settled = r.whole.settled;
     cleared = all_cleared;
     emptied = r.whole.emptied;
-    rooted = λ p up. may.holds_old (promotes p);
+    rooted = (λ p up. may.holds_old (promotes p), ⊎_elim (λ p. may.looked_through (promotes p.0)) (λ h. good.rooted.1 (inr h)));
     roots = λ z _ _ _ old. old;
     reserved = reserved_untouched k pause tenancy s.words words' untouched r.whole.pools r.whole.reserved;
     drawers = record {
@@ -388,7 +389,7 @@ module _ (k : Config) (s : Words) (r : Rule k s) (id : ℕ) (hist : List Entry) 
       to_copy = λ j odd led copies. low_untouched k s.words words' untouched (r.whole.drawable.to_copy j odd led copies);
     };
     unwished = λ j odd led runs. want_is ∙ r.whole.unwished j odd led runs;
-    told = told_arrived k pause r.account.cycling.kind r.account.cycling.paint.colours r.account.cycling.shares number x.own.arrivals r.whole.cycle.told inside arrived' own_up else_is x.seen.stage may.from good.staged.stage;
+    told = told_arrived k pause r.account.cycling.kind (owner_at tenancy.holder) r.account.cycling.paint.colours r.account.cycling.shares number x.own.arrivals r.whole.cycle.told inside arrived' own_up else_is x.seen.stage may.from good.staged.stage;
     mine_is = mine_is;
     theirs = theirs;
   }
@@ -476,7 +477,7 @@ module _ (k : Config) (s : Words) (r : Rule k s) (id : ℕ) (hist : List Entry) 
     }
 
     next_told : Told k next r.account.cycling.kind cycling'.shares
-    next_told = told_turned k pause r.account.cycling.kind r.account.cycling.paint.colours r.account.cycling.shares number x.own.arrivals r.whole.cycle.told inside arrived' own_up else_is ups led_is x.seen.stage may.from good.staged.stage
+    next_told = told_turned k pause r.account.cycling.kind (owner_at tenancy.holder) r.account.cycling.paint.colours r.account.cycling.shares number x.own.arrivals r.whole.cycle.told inside arrived' own_up else_is ups led_is x.seen.stage may.from good.staged.stage
 
     next_stage : (z : DomainView) → z.own.number < k.domains → z.own.number ≢ number → Staged pause z → Staged next z
     next_stage z below other its = record {
@@ -489,7 +490,7 @@ module _ (k : Config) (s : Words) (r : Rule k s) (id : ℕ) (hist : List Entry) 
     promoted p = let in_promote : HasNoCycle r.account.cycling.kind = no_cycle_here k s r id hist x at Promote tt (promotes p) in drops k s r id hist x at move next cycling' words' refl record {
       paint = refl;
       kind = refl;
-      cycle = cycle_dropped x.seen.stage k (now k s r id hist x at) live (dropped k live) pause next tenancy (record tenancy { stock = no_stock }) r.account.cycling s.words words' number in_promote (λ a. refl) same_cycle next_told r.whole.cycle;
+      cycle = cycle_dropped x.seen.stage tenancy.holder k (now k s r id hist x at) live (dropped k live) pause next tenancy (record tenancy { stock = no_stock }) r.account.cycling s.words words' number in_promote (λ a. refl) same_cycle next_told r.whole.cycle;
       sharing = sharing_gone k r.account s.words words' x next (dropped k live) (record tenancy { stock = no_stock }) y.seen.stage inside may.from good.staged.stage r.whole.cycle.told good;
       sharings = λ z _ other g. sharing_between k r.account s.words words' x z Promote next (dropped k live) (record tenancy { stock = no_stock }) tt (promotes p) in_promote other same_cycle good g;
       untouched = untouched;
@@ -520,7 +521,9 @@ module _ (k : Config) (s : Words) (r : Rule k s) (id : ℕ) (hist : List Entry) 
       others_took_back = λ z _ took kind leads last. want_is ∙ took kind leads last;
       gone = λ h. gone_leads (kind_in x.seen.stage) Run h.0;
       own_old = may.holds_old (promotes p);
-      all_old = λ z below other its old. old p (up_now z below other its);
+      all_old = λ z below other its old. old.0 p (up_now z below other its);
+      own_forgot = may.looked_through (promotes p);
+      all_forgot = λ z below other its old. old.1 (inl (p, up_now z below other its));
       all_quiet = λ z below other its owes. quiet_in k live z owes (λ e. up_not_in pause z.own.number z.own.arrivals z.seen.stage (up_now z below other its) e its.stage);
     }
 
@@ -545,8 +548,8 @@ module _ (k : Config) (s : Words) (r : Rule k s) (id : ℕ) (hist : List Entry) 
         left_over : (c n m z w : ℕ) → c ≤ n - z → z ≤ m → n ≡ m → c + z ≤ n + w
         left_over c n m z w low opened same = omega arith
 
-    next_emptied : (Promoting pause → ⊥) → Emptied k live next
-    next_emptied elsewhere h = r.whole.emptied (⊎_elim
+    was_resetting : (Promoting pause → ⊥) → Resetting next → Resetting pause
+    was_resetting elsewhere h = ⊎_elim
         (λ (a : (i : ℕ) × (pause.phase + 1 ≡ i * 2 + 1) × (pause.kinds i ≢ Run)). let even : pause.phase ≡ a.0 * 2 = even_before pause.phase a.0 a.1 in inr (a.0, even, (a.2, λ e. elsewhere (a.0, even, e))))
         (λ (a : (i : ℕ) × (pause.phase + 1 ≡ i * 2) × IsEmptying (pause.kinds i)). half_before a.0 pause.phase a.1 (λ i odd more. inl (
           i,
@@ -554,7 +557,17 @@ module _ (k : Config) (s : Words) (r : Rule k s) (id : ℕ) (hist : List Entry) 
           λ runs.
               after_run (pause.kinds (i + 1)) (subst (λ (kind : Kind). Follows kind (pause.kinds (i + 1))) runs (r.whole.phases.next_plan i odd (led_is i odd)).1) (λ e. a.2.1 (ap pause.kinds (sym more) ∙ e)),
         )))
-        h)
+        h
+
+    next_emptied : (Promoting pause → ⊥) → Emptied k live next
+    next_emptied elsewhere h = r.whole.emptied (was_resetting elsewhere h)
+
+    -- nobody has arrived in the phase that begins
+    own_waits : x.own.arrivals + 1 ≡ pause.phase + 1 + 1 → ⊥
+    own_waits up = let u : x.own.arrivals + 1 ≡ pause.phase + 1 + 1 = up in let f : x.own.arrivals + 1 ≡ pause.phase + 1 = counted ∙ ups number inside in omega arith
+
+    other_waits : (z : DomainView) → z.own.number < k.domains → z.own.number ≢ number → Staged pause z → z.own.arrivals ≡ pause.phase + 1 + 1 → ⊥
+    other_waits z below other its up = let u : z.own.arrivals ≡ pause.phase + 1 + 1 = up in let f : z.own.arrivals ≡ pause.phase + 1 = up_now z below other its in omega arith
 
     turned : (Promoting pause → ⊥) → Rule k record { words = words'; homes = s.homes; views = set s.views id (one k hist y) }
     turned elsewhere = through next tenancy.stock.claims record {
@@ -564,8 +577,8 @@ module _ (k : Config) (s : Words) (r : Rule k s) (id : ℕ) (hist : List Entry) 
       settled = ⊎_elim (λ h. inl h) (λ (h : Promoting pause). absurd (elsewhere h)) r.whole.settled;
       cleared = λ h e below up. absurd (let f : arrived' e ≡ pause.phase + 1 = ups e below in let u : arrived' e ≡ pause.phase + 1 + 1 = up in omega arith);
       emptied = next_emptied elsewhere;
-      rooted = λ h up. absurd (let u : x.own.arrivals + 1 ≡ pause.phase + 1 + 1 = up in let f : x.own.arrivals + 1 ≡ pause.phase + 1 = counted ∙ ups number inside in omega arith);
-      roots = λ z below other its _ h up. absurd (let u : z.own.arrivals ≡ pause.phase + 1 + 1 = up in let f : z.own.arrivals ≡ pause.phase + 1 = up_now z below other its in omega arith);
+      rooted = (λ h up. absurd (own_waits up), ⊎_elim (λ h. absurd (own_waits h.1)) (λ h. good.rooted.1 (inr (was_resetting elsewhere h))));
+      roots = λ z below other its old. (λ h up. absurd (other_waits z below other its up), ⊎_elim (λ h. absurd (other_waits z below other its h.1)) (λ h. old.1 (inr (was_resetting elsewhere h))));
       reserved = next_reserved;
       drawers = record {
         drawn = λ q e held. absurd (none_drawn q e held);

@@ -28,8 +28,8 @@ use Rattle.heap_rule.specs.Standing.{Acts}
 use Rattle.heap_rule.specs.declared.phase.Kind.TheVariants.{Run}
 use Rattle.heap_rule.specs.Views.{one, Tells}
 use Rattle.heap_rule.proofs.Values.{AllStand}
-use Rattle.heap_rule.proofs.Keeps.{mine, my_good, remakes, knows_entry, after_entry, legal_entry, plain_push, cycle_here, between_here, sharing_here, sharings_here, phases_words, stood_other, run_still, hunter_as, running_took_back, resting_runs, resting_other, room_words, opened_words, takes_drawable, owes_as, more_same, run_leads}
-use Rattle.heap_rule.proofs.PauseFacts.{nobody_paused, staged_as, run_promoting}
+use Rattle.heap_rule.proofs.Keeps.{mine, my_good, remakes, knows_entry, after_entry, legal_entry, plain_push, cycle_here, between_here, sharing_here, sharings_here, phases_words, stood_other, run_still, hunter_as, running_took_back, resting_runs, resting_other, room_words, opened_words, takes_drawable, owes_as, more_same, run_leads, run_rooted}
+use Rattle.heap_rule.proofs.PauseFacts.{nobody_paused, staged_as}
 use Rattle.heap_rule.proofs.Sharings.{SameCycle}
 use Rattle.heap_rule.proofs.FullnessLemmas.{full_stays}
 use Rattle.heap_rule.proofs.Controls.{Untouched, found_untouched, making_untouched, pools_untouched, grid_untouched, hunter_untouched, cycle_untouched, reserved_untouched, counts_untouched, low_untouched, sum_one}
@@ -116,7 +116,7 @@ ends k slots id hist x acts s r _ at _ =
       resting = resting_runs k s.words ws x y acts.runs acts.runs refl g.resting;
       took_back = running_took_back ws y acts.runs;
       owes = owes_as k r.account.live x y refl refl refl refl g.owes;
-      rooted = λ h. absurd (run_promoting r.account.pause x acts.runs g.staged h);
+      rooted = run_rooted k r.account.pause x y acts.runs g.staged;
       set_back = λ back. absurd (run_leads Run (sym acts.runs ∙ back.0));
       sharing = sharing_here k s r id hist x at Run tt acts.runs all' ws y refl same refl refl refl;
     }

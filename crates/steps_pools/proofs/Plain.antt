@@ -80,7 +80,7 @@ looks_set k own class spot l low small = record {
 }
 
 -- and the token's own data fits again
-looking_fits : (k : Config) (x y : DomainView) (class : ℕ) (spot : Spot) → OwnFits k x.own → y.own ≡ looking x.own class spot → spot.pool ≤ k.pools → spot.slot < blocks_of class → OwnFits k y.own
+pub looking_fits : (k : Config) (x y : DomainView) (class : ℕ) (spot : Spot) → OwnFits k x.own → y.own ≡ looking x.own class spot → spot.pool ≤ k.pools → spot.slot < blocks_of class → OwnFits k y.own
 looking_fits k x y class spot fits is low small = subst (OwnFits k) (sym is) record { number = fits.number; used = fits.used; registers = fits.registers; looked = looks_set k x.own class spot fits.looked low small; remembered = fits.remembered; prepared = fits.prepared; pending = fits.pending }
 
 -- the pools are few

@@ -86,6 +86,7 @@ module _ (k : Config) (s : Words) (r : Rule k s) (id : ℕ) (hist : List Entry) 
       let g = my_good k s r id hist x at in
       let same : SameCycle s.words words' = cycle_control k s.words words' o.control in
       let here = promote_here r.account.pause x promotes g.staged in
+      let waits : y.own.arrivals ≡ r.account.pause.phase + 1 → ⊥ = (λ up. let e : y.own.arrivals ≡ r.account.pause.phase + 1 = up in let f : x.own.arrivals ≡ r.account.pause.phase = here in let h : y.own.arrivals ≡ x.own.arrivals = o.arrivals in omega arith) in
       remakes k s r id hist x at y (record r.account { live = live'; tenancy = t'; homes = homes' }) words'
       record {
         wide = o.wide ∙ r.whole.wide;
@@ -124,7 +125,7 @@ module _ (k : Config) (s : Words) (r : Rule k s) (id : ℕ) (hist : List Entry) 
         resting = resting_takes k s.words words' x y takes (subst Takes (sym o.stage) takes) (λ n. o.free ∙ g.resting.free (λ e. n (o.stage ∙ e))) o.listing g.resting;
         took_back = λ kind leads last. absurd (nobody_leads r.account.pause x x takes g.staged g.staged (subst IsLeading (sym (sym o.stage ∙ leads)) tt));
         owes = o.owes;
-        rooted = λ _ up. absurd (let e : y.own.arrivals ≡ r.account.pause.phase + 1 = up in let f : x.own.arrivals ≡ r.account.pause.phase = here in let h : y.own.arrivals ≡ x.own.arrivals = o.arrivals in omega arith);
+        rooted = (λ _ up. absurd (waits up), ⊎_elim (λ h. absurd (waits h.1)) (λ h. absurd (promote_rests r.account.pause promoting h)));
         set_back = λ h. absurd (nobody_leads r.account.pause x x takes g.staged g.staged (subst IsLeading (sym (sym o.stage ∙ h.0)) tt));
         sharing = sharing_here k s r id hist x at Promote tt promotes (record r.account { live = live'; tenancy = t'; homes = homes' }) words' y refl same o.number o.stage o.share;
       }

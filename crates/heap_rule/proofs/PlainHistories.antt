@@ -1,0 +1,138 @@
+-- After a history whose entries register no finaliser and make no ephemeron nothing waits to be queued, and each block is a plain one.
+use Rattle.std.proofs.Common.{◌≡◌, ℕ, zero, suc, true, false, List, [], ◌∷◌, ◌++◌, length, map, replicate, get_or, set, Option, Some, None, sym, refl, ap, ◌∙◌, subst, ⊎_elim}
+use Rattle.heap_model.specs.declared.label.Label.{Label}
+use Rattle.heap_model.specs.declared.command.Command.{Command}
+use Rattle.heap_model.specs.declared.command.Command.TheVariants.{PutInt, Copy, Forget, Alloc, AllocMaj, Load, Store, Poll, Minor, Major, FullMajor}
+use Rattle.heap_model.specs.declared.entry.Entry.{Entry}
+use Rattle.heap_model.specs.declared.entry.Entry.TheVariants.{Command as CommandOf, End, Cut, Seal, Collected, Done}
+use Rattle.heap_model.specs.declared.graph.Node.{Node}
+use Rattle.heap_model.specs.declared.graph.Node.TheVariants.{Plain, Raw, Ephe}
+use Rattle.heap_model.specs.declared.state.DomainState.{DomainState}
+use Rattle.heap_model.specs.declared.state.Sizes.{Sizes}
+use Rattle.heap_model.specs.declared.state.State.{State}
+use Rattle.heap_model.specs.Commands.{outcome, after_command, new_plain, allocated, is_allocation}
+use Rattle.heap_model.specs.Domains.{no_domain, opening, opening_domain, shared_label, shared_node}
+use Rattle.heap_model.specs.Entries.{next}
+use Rattle.heap_model.specs.Fronts.{PlainShape, RawShape, EpheShape, shape_of}
+use Rattle.heap_model.specs.Graph.{Graph, node_at, with_node}
+use Rattle.heap_model.specs.History.{state_after}
+use Rattle.heap_model.proofs.Commands.FrameLemmas.{part_set}
+use Rattle.heap_model.proofs.Commands.MoveLemmas.{moved, registers_one}
+use Rattle.heap_model.proofs.Graphs.GraphLemmas.{node_at-with_node_cases, node_at-append_cases}
+use Rattle.heap_rule.specs.Cycles.{IsPlainCommand, IsPlainEntry, AllPlain}
+
+abbrev pub IsPlainNode : Node → Type 0
+IsPlainNode (Plain tag fields) = Unit {0}
+IsPlainNode _ = ⊥
+
+abbrev pub PlainNodes : Graph → Type 0
+PlainNodes g = (l : Label) (n : Node) → node_at g l ≡ Some n → IsPlainNode n
+
+-- no registration waits
+pub record IsUnregistered (x : DomainState) : Type 0 where
+  pub finals : x.finals ≡ []
+  pub lasts : x.lasts ≡ []
+  pub low : x.low ≡ 0
+
+abbrev pub AllUnregistered : List DomainState → Type 0
+AllUnregistered xs = (d : ℕ) → IsUnregistered (get_or xs d no_domain)
+
+pub record IsPlainState (z : Sizes) (s : State) : Type 0 where
+  pub sizes : s.sizes ≡ z
+  pub nodes : PlainNodes s.graph
+  pub work : AllUnregistered s.domains
+
+-- the nodes
+same_shape : (old new : Node) → shape_of new ≡ shape_of old → IsPlainNode old → IsPlainNode new
+same_shape (Plain t f) (Plain u g) e p = tt
+same_shape (Plain t f) (Raw u g) e p = absurd (let h : RawShape (length g) u ≡ PlainShape (length f) t = e in cc)
+same_shape (Plain t f) (Ephe keys datum) e p = absurd (let h : EpheShape (length keys) ≡ PlainShape (length f) t = e in cc)
+same_shape (Raw t f) new e p = absurd p
+same_shape (Ephe keys datum) new e p = absurd p
+
+plain_written : (g : Graph) (l : Label) (old new : Node) → node_at g l ≡ Some old → shape_of new ≡ shape_of old → PlainNodes g → PlainNodes (with_node g l new)
+plain_written g l old new found same p k n is = ⊎_elim (λ (e : n ≡ new). subst IsPlainNode (sym e) (same_shape old new same (p l old found))) (λ (e : node_at g k ≡ Some n). p k n e) (node_at-with_node_cases g l k new n is)
+
+plain_made : (g : Graph) (e : Label × Node) → IsPlainNode e.1 → PlainNodes g → PlainNodes (g ++ e ∷ [])
+plain_made g e new p k n is = ⊎_elim (λ (f : n ≡ e.1). subst IsPlainNode (sym f) new) (λ (f : node_at g k ≡ Some n). p k n f) (node_at-append_cases g e k n is)
+
+-- the registrations
+unregistered_set : (xs : List DomainState) (d : ℕ) (x : DomainState) → x.finals ≡ (get_or xs d no_domain).finals → x.lasts ≡ (get_or xs d no_domain).lasts → x.low ≡ (get_or xs d no_domain).low → AllUnregistered xs → AllUnregistered (set xs d x)
+unregistered_set xs d x finals lasts low all k = record {
+  finals = part_set (λ y. y.finals) xs d x finals k ∙ (all k).finals;
+  lasts = part_set (λ y. y.lasts) xs d x lasts k ∙ (all k).lasts;
+  low = part_set (λ y. y.low) xs d x low k ∙ (all k).low;
+}
+
+unregistered_map : (f : DomainState → DomainState) → ((x : DomainState) → IsUnregistered x → IsUnregistered (f x)) → (xs : List DomainState) → AllUnregistered xs → AllUnregistered (map f xs)
+unregistered_map f keeps [] all k = all k
+unregistered_map f keeps (x ∷ xs) all zero = keeps x (all 0)
+unregistered_map f keeps (x ∷ xs) all (suc k) = unregistered_map f keeps xs (λ j. all (suc j)) k
+
+-- a command but an allocation and a registration
+module _ (z : Sizes) (s : State) (d : ℕ) (p : IsPlainState z s) where
+  others : (c : Command) → is_allocation c ≡ false → registers_one c ≡ false → IsPlainState z (outcome s d c).state
+  others c makes registers = moved (IsPlainState z) s d c (record {
+    same = p;
+    held = λ r v named. record { sizes = p.sizes; nodes = p.nodes; work = unregistered_set s.domains d _ refl refl refl p.work };
+    written = λ l old new at found same named full. record { sizes = p.sizes; nodes = plain_written s.graph l old new found same p.nodes; work = p.work };
+    made = λ is dst n named full. absurd (let clash : true ≡ false = sym is ∙ makes in cc);
+    registered = λ is f named. absurd (let clash : true ≡ false = sym is ∙ registers in cc);
+    registered_last = λ is f named. absurd (let clash : true ≡ false = sym is ∙ registers in cc);
+  })
+
+  allocates : (dst tag fields : ℕ) → IsPlainState z (allocated s d dst (new_plain tag fields)).state
+  allocates dst tag fields = record {
+    sizes = p.sizes;
+    nodes = plain_made s.graph _ tt p.nodes;
+    work = unregistered_set _ d _ refl refl refl (unregistered_set s.domains d _ refl refl refl p.work);
+  }
+
+  plain_outcome : (c : Command) → IsPlainCommand c → IsPlainState z (outcome s d c).state
+  plain_outcome (PutInt dst z) plain = others (PutInt dst z) refl refl
+  plain_outcome (Copy dst src) plain = others (Copy dst src) refl refl
+  plain_outcome (Forget dst) plain = others (Forget dst) refl refl
+  plain_outcome (Alloc dst tag fields) plain = allocates dst tag fields
+  plain_outcome (AllocMaj dst tag fields) plain = allocates dst tag fields
+  plain_outcome (Load dst src i) plain = others (Load dst src i) refl refl
+  plain_outcome (Store block i item) plain = others (Store block i item) refl refl
+  plain_outcome Poll plain = p
+  plain_outcome Minor plain = p
+  plain_outcome Major plain = p
+  plain_outcome FullMajor plain = p
+  plain_outcome _ plain = absurd plain
+
+plain_after_command : (z : Sizes) (t : State) (d : ℕ) → IsPlainState z t → IsPlainState z (after_command t d)
+plain_after_command z t d p = record { sizes = p.sizes; nodes = p.nodes; work = unregistered_set t.domains d _ refl refl refl p.work }
+
+ended_domain : (xs : List DomainState) (d : ℕ) (x : DomainState) → IsUnregistered x → AllUnregistered xs → AllUnregistered (set xs d x)
+ended_domain [] d x is all k = all k
+ended_domain (y ∷ ys) zero x is all zero = is
+ended_domain (y ∷ ys) zero x is all (suc k) = all (suc k)
+ended_domain (y ∷ ys) (suc d) x is all zero = all zero
+ended_domain (y ∷ ys) (suc d) x is all (suc k) = ended_domain ys d x is (λ j. all (suc j)) k
+
+pub plain_next : (z : Sizes) (s : State) (e : Entry) → IsPlainEntry e → IsPlainState z s → IsPlainState z (next s e)
+plain_next z s (CommandOf d c true) plain p = plain_after_command z s d p
+plain_next z s (CommandOf d c false) plain p = plain_after_command z (outcome s d c).state d (plain_outcome z s d p c plain)
+plain_next z s (End d) plain p = record { sizes = p.sizes; nodes = p.nodes; work = ended_domain s.domains d _ (record { finals = refl; lasts = refl; low = (p.work d).low }) p.work }
+plain_next z s Cut plain p = record { sizes = p.sizes; nodes = p.nodes; work = unregistered_map _ (λ x u. record { finals = u.finals; lasts = u.lasts; low = ap length u.finals }) s.domains p.work }
+plain_next z s Seal plain p = record { sizes = p.sizes; nodes = p.nodes; work = unregistered_map _ (λ x u. record { finals = u.finals; lasts = u.lasts; low = ap length u.lasts }) s.domains p.work }
+plain_next z s Collected plain p = record { sizes = p.sizes; nodes = p.nodes; work = unregistered_map _ (λ x u. record { finals = u.finals; lasts = u.lasts; low = u.low }) s.domains p.work }
+plain_next z s Done plain p = record { sizes = p.sizes; nodes = p.nodes; work = p.work }
+plain_next z s _ plain p = absurd plain
+
+pub plain_state : (z : Sizes) (s : State) (h : List Entry) → AllPlain h → IsPlainState z s → IsPlainState z (state_after s h)
+plain_state z s [] all p = p
+plain_state z s (e ∷ h) all p = plain_state z (next s e) h all.1 (plain_next z s e all.0 p)
+
+pub plain_opening : (z : Sizes) → IsPlainState z (opening z)
+plain_opening z = record {
+  sizes = refl;
+  nodes = λ l n is. plain_made [] (shared_label, shared_node) tt (λ k m e. absurd (let f : ◌≡◌ {A = Option Node} None (Some m) = e in cc)) l n is;
+  work = unregistered_all z.domains;
+} where
+  unregistered_all : (n : ℕ) → AllUnregistered (replicate n opening_domain)
+  unregistered_all zero k = record { finals = refl; lasts = refl; low = refl }
+  unregistered_all (suc n) zero = record { finals = refl; lasts = refl; low = refl }
+  unregistered_all (suc n) (suc k) = unregistered_all n k

@@ -1,0 +1,6 @@
+pub mod Reaping
+pub mod Rotating
+pub mod SweepSteps
+pub mod Swept
+pub mod TurnSteps
+pub mod FreeSteps

@@ -1,0 +1,9 @@
+//! The step calls of the end of a collection of the major heap: the colours are rotated, garbage is
+//! freed, and what lives is counted. docs/RULE.md says how to add one.
+#![tactic(auto)]
+
+mod freeing;
+mod turning;
+
+pub use freeing::{free_store, sweep_load};
+pub use turning::colours_store;
