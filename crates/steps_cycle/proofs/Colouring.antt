@@ -29,7 +29,7 @@ heads_same (EpheShape n) (EpheShape m) c e u v same = record { colour = cc; scan
 pub words_same : (a b : Shape) (word : ℕ) (x : IsHeadOf a word) (y : IsHeadOf b word) → Recolourable a b x.colour y.colour x.scanned y.scanned
 words_same a b word x y = heads_same a b x.colour y.colour x.scanned y.scanned (head_word-injective (head_of None a x.colour x.scanned) (head_of None b y.colour y.scanned) x.packable y.packable (sym x.packs ∙ y.packs))
 
-pub colour_fits : (c : Colours) (b : Bool) → IsPermutation c → cond b c.marked c.unmarked < 3
+colour_fits : (c : Colours) (b : Bool) → IsPermutation c → cond b c.marked c.unmarked < 3
 colour_fits c true p = p.marked_fits
 colour_fits c false p = p.unmarked_fits
 
