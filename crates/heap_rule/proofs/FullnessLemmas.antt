@@ -156,8 +156,8 @@ full_filled k t words log live live' homes kind A l pools own came here alone ba
       owned = λ goes q d c is. ⊎_elim (λ (h : t.fresh d c ≡ Some q). inl h) (λ (h : HoldsKept (kept_labels (sizes_in k) log) homes q). inr (h.0, h.1, home_else h.0 (λ e. let bad : ◌≡◌ {A = Option ℕ} None (Some q) = sym none ∙ (ap homes e ∙ h.2) in cc) ∙ h.2)) (f.owned goes q d c is);
       drawn = f.drawn;
     } where
-  home_here : with_pool homes l (own.1).pool l ≡ Some (own.1).pool
-  home_here = ap (λ (b : Bool). cond b (Some (own.1).pool) (homes l)) (same_label_refl l)
+      home_here : with_pool homes l (own.1).pool l ≡ Some (own.1).pool
+      home_here = ap (λ (b : Bool). cond b (Some (own.1).pool) (homes l)) (same_label_refl l)
 
-  home_else : (x : Label) → (l ≡ x → ⊥) → with_pool homes l (own.1).pool x ≡ homes x
-  home_else x other = ap (λ (b : Bool). cond b (Some (own.1).pool) (homes x)) (same_label-false l x other)
+      home_else : (x : Label) → (l ≡ x → ⊥) → with_pool homes l (own.1).pool x ≡ homes x
+      home_else x other = ap (λ (b : Bool). cond b (Some (own.1).pool) (homes x)) (same_label-false l x other)

@@ -106,8 +106,8 @@ facts_words Decide k s live t c words words' same f = f
 facts_words Queued k s live t c words words' same f = f
 facts_words Clean k s live t c words words' same f = f
 facts_words Lasts k s live t c words words' same f = f
-facts_words Sweep k s live t c words words' same f = record { swept = swept_words k s live t.holder c words words' same f.swept; sweep = f.sweep; all_counted = f.all_counted }
-facts_words Answer k s live t c words words' same f = record { swept = swept_words k s live t.holder c words words' same f.swept; clean = f.clean; all_counted = f.all_counted }
+facts_words Sweep k s live t c words words' same f = record { mode = f.mode; swept = swept_words k s live t.holder c words words' same f.swept; sweep = f.sweep; all_counted = f.all_counted }
+facts_words Answer k s live t c words words' same f = record { swept = swept_words k s live t.holder c words words' same f.swept; clean = f.clean; all_counted = f.all_counted; held = f.held }
 
 -- a step that leaves the words of a collection and the heads of garbage
 pub cycle_words : (k : Config) (s : model.State) (live : Live) (p : Pause) (t : Tenancy) (c : Cycling) (words words' : List ℕ) → SameCycle words words' → ((a : ℕ) → at_address k words' a ≡ at_address k words a)
@@ -130,6 +130,7 @@ leading_words c words words' d stage share same l = record {
   found_words = λ v e. let h = l.found_words v e in (h.0, same.words_same ∙ h.1);
   rotated = l.rotated;
   turned = l.turned;
+  pass = l.pass;
 }
 
 pub knowing_words : (k : Config) (live : Live) (holder : ℕ → Holder) (graph : Graph) (marks : Marks) (words words' : List ℕ) (d : ℕ) (registers : List Value) (share : Share) → ((a : ℕ) → at_address k words' a ≡ at_address k words a)
@@ -142,6 +143,7 @@ knowing_words k live holder graph marks words words' d registers share heap n = 
   rooted = n.rooted;
   marked = n.marked;
   tally = n.tally;
+  held = n.held;
 }
 
 pub knows_words : (k : Config) (live : Live) (holder : ℕ → Holder) (graph : Graph) (marks : Marks) (words words' : List ℕ) (d : ℕ) (registers : List Value) (stage : Stage) (share : Share) → ((a : ℕ) → at_address k words' a ≡ at_address k words a)

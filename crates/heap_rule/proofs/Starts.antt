@@ -165,7 +165,7 @@ first_made l q e = same_label-true shared_label l (go (same_label shared_label l
 
 -- no collection has begun
 abbrev first_cycle : Cycling
-first_cycle = record { kind = Run; whole = true; pass = First; paint = record { colours = first_colours; marks = record { marked = λ _. false; scanned = λ _. false } }; shares = no_shares; before = λ _. false; left = λ _. 0; rotated = false; counts = record { own = λ _. []; blocks = λ _. false; words = λ _. false } }
+first_cycle = record { kind = Run; pass = First; paint = record { colours = first_colours; marks = record { marked = λ _. false; scanned = λ _. false } }; shares = no_shares; before = λ _. false; left = λ _. 0; rotated = false; counts = record { own = λ _. []; blocks = λ _. false; words = λ _. false } }
 
 module _ (k : Config) (limits : IsWithinLimits (sizes_in k)) (words : List ℕ) (opens : IsOpening k words) where
   abbrev s0 : model.State
@@ -392,7 +392,7 @@ module _ (k : Config) (limits : IsWithinLimits (sizes_in k)) (words : List ℕ) 
           set_back = λ h. absurd (run_leads Run h.0);
           sharing = record {
             telling = record { owes = λ _. refl; seen = λ _. refl; fresh = λ e. cc; forgotten = λ e. cc; colours = λ c e. cc };
-            leading = record { changed = λ v e. cc; found_blocks = λ v e. cc; found_words = λ v e. cc; rotated = λ _ e. refl; turned = λ e. cc };
+            leading = record { changed = λ v e. cc; found_blocks = λ v e. cc; found_words = λ v e. cc; rotated = λ _ e. refl; turned = λ e. cc; pass = λ _. refl };
             knows = inl refl;
             adds = record { blocks = λ e _. refl; words = λ e _. refl; own = λ e _ f. cc };
           };

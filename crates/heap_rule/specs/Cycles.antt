@@ -10,7 +10,7 @@ use Rattle.heap_model.specs.declared.graph.Value.{Value}
 use Rattle.heap_model.specs.declared.graph.Value.TheVariants.{Block}
 use Rattle.heap_model.specs.declared.graph.Node.TheVariants.{Plain}
 use Rattle.heap_model.specs.declared.state.State as model
-use Rattle.heap_model.specs.declared.state.Mode.TheVariants.{Open}
+use Rattle.heap_model.specs.declared.state.Mode.TheVariants.{Open, Sealed}
 use Rattle.heap_model.specs.Graph.{Graph, node_at, has_label, has_no_repeats, words_at}
 use Rattle.heap_model.specs.Fronts.{Shape}
 use Rattle.cycle_laws.specs.Counting.{added_up}
@@ -79,8 +79,7 @@ pub record Counts : Type 0 where
 -- what exists of a collection in proofs alone, with the kind of the phase whose facts hold now
 pub record Cycling : Type 0 where
   pub kind : Kind
-  -- whether it began in this pause, and whether it is past its Cut
-  pub whole : Bool
+  -- whether it is past its Cut
   pub pass : laws.Pass
   pub paint : Paint
   pub shares : Shares
@@ -113,9 +112,9 @@ owner_at holder (suc a) = starts_in (holder (a / 4096)) (a % 4096)
 abbrev pub layout_of : Config → Live → (ℕ → Holder) → Layout
 layout_of k live holder = record { live = label_at k live; owner = owner_at holder }
 
--- the collection as its laws have it
+-- the collection as its laws have it: it began in this pause
 abbrev pub cycle_of : Config → Live → (ℕ → Holder) → Cycling → laws.Cycle
-cycle_of k live holder c = record { whole = c.whole; marks = c.paint.marks; layout = layout_of k live holder; shares = c.shares; before = c.before; left = c.left }
+cycle_of k live holder c = record { whole = true; marks = c.paint.marks; layout = layout_of k live holder; shares = c.shares; before = c.before; left = c.left }
 
 -- and from the rotation on, when what was marked is unmarked again
 abbrev pub swept_of : Config → Live → (ℕ → Holder) → Cycling → laws.Cycle
@@ -167,15 +166,21 @@ pub record IsSwept (k : Config) (s : model.State) (live : Live) (holder : ℕ �
 
 -- while blocks are freed and counted, whoever has arrived has been at all its places, and has added what it counted
 pub record Sweeping (k : Config) (s : model.State) (live : Live) (t : Tenancy) (c : Cycling) (words : List ℕ) : Type 0 where
+  pub mode : s.mode ≡ Sealed
   pub swept : IsSwept k s live t.holder c words
   pub sweep : InSweep k.domains (owner_at t.holder) t.garbage c.shares.seen c.shares.arrived
   pub all_counted : (d : ℕ) → IsTrue (c.shares.arrived d) → IsTrue (c.counts.words d)
 
--- where a collection is answered no garbage is left, and all have counted
+-- a pool of a class holds a block
+abbrev pub HoldsBlock : Live → ℕ → ℕ → Type 0
+HoldsBlock live q c = (slot : ℕ) × (slot < blocks_of c) × ((p : Place) × (live (place_in q c slot) ≡ Some p))
+
+-- where a collection is answered no garbage is left, all have counted, and each pool of a domain that has arrived holds a block
 pub record Answering (k : Config) (s : model.State) (live : Live) (t : Tenancy) (c : Cycling) (words : List ℕ) : Type 0 where
   pub swept : IsSwept k s live t.holder c words
   pub clean : (a : ℕ) → t.garbage a ≡ false
   pub all_counted : (d : ℕ) → d < k.domains → IsTrue (c.counts.words d)
+  pub held : (q d class : ℕ) → IsTrue (c.shares.arrived d) → t.holder q ≡ owned d class → HoldsBlock live q class
 
 -- while last finalisers are queued what is marked is what was marked before, until the colours are rotated
 pub record Leaving (k : Config) (s : model.State) (live : Live) (t : Tenancy) (c : Cycling) : Type 0 where
@@ -244,7 +249,7 @@ seen_by (a ∷ rest) b = b == a || seen_by rest b
 
 -- who is at no block knows of the colours and the control words alone
 abbrev pub IsIdle : Share → Type 0
-IsIdle share = share ≡ record fresh_share { colours = share.colours; changed = share.changed; blocks = share.blocks; words = share.words; rotated = share.rotated }
+IsIdle share = share ≡ record fresh_share { colours = share.colours; changed = share.changed; blocks = share.blocks; words = share.words; rotated = share.rotated; cut = share.cut }
 
 -- Cycle, of one domain: until it arrives its view tells its share, and then it has forgotten it. Domain 0 alone knows of the colours in an odd phase
 pub record Telling (means : Colours) (w : Shares) (d : ℕ) (share : Share) : Type 0 where
@@ -254,6 +259,11 @@ pub record Telling (means : Colours) (w : Shares) (d : ℕ) (share : Share) : Ty
   pub forgotten : w.arrived d ≡ true → d ≢ 0 → share.colours ≡ None
   pub colours : (known : Colours) → share.colours ≡ Some known → known ≡ means
 
+-- the pass of a collection, by whether the cut is made
+abbrev pub pass_of : Bool → laws.Pass
+pass_of false = laws.First
+pass_of true = laws.Second
+
 -- what a domain has loaded and done at the control words of a collection
 pub record Leading (c : Cycling) (words : List ℕ) (d : ℕ) (stage : Stage) (share : Share) : Type 0 where
   pub changed : (v : ℕ) → share.changed ≡ Some v → (d ≡ 0) × IsLeading stage × (v ≡ flag c.shares.changed)
@@ -261,6 +271,7 @@ pub record Leading (c : Cycling) (words : List ℕ) (d : ℕ) (stage : Stage) (s
   pub found_words : (v : ℕ) → share.words ≡ Some v → (((d ≡ 0) × IsLeading stage) ⊎ (stage ≡ In Answer)) × (live_words words ≡ v)
   pub rotated : d ≡ 0 → c.kind ≡ Lasts → c.rotated ≡ share.rotated
   pub turned : share.rotated ≡ true → stage ≡ Leads Lasts
+  pub pass : d ≡ 0 → c.pass ≡ pass_of share.cut
 
 -- how far a domain is in a block: its first fields are done
 pub record Scanned (live : Live) (graph : Graph) (marks : Marks) (block done size head : ℕ) : Type 0 where
@@ -307,8 +318,8 @@ pub record Tallied (k : Config) (live : Live) (holder : ℕ → Holder) (d : ℕ
   pub words : share.tally_words ≡ sum_by (λ a. extent_in (live a)) share.tally
 
 -- What a domain knows of blocks in a phase: the head that it found is still there, or its block was marked since; it has been at its own
--- places as far as it has walked; the blocks of the registers and of the list that it has looked at are marked; and what it has
--- counted is its own
+-- places as far as it has walked; the blocks of the registers and of the list that it has looked at are marked; what it has
+-- counted is its own; and the own pools as far as it has looked hold blocks
 pub record Knowing (k : Config) (live : Live) (holder : ℕ → Holder) (graph : Graph) (marks : Marks) (words : List ℕ) (d : ℕ) (registers : List held.Value) (share : Share) : Type 0 where
   pub glimpse : (g : Glimpse) (p : Place) → share.glimpse ≡ Some g → live g.address ≡ Some p → (at_address k words g.address ≡ g.word) ⊎ IsTrue (marks.marked p.label)
   pub scan : Scans live graph marks share.scan
@@ -317,6 +328,7 @@ pub record Knowing (k : Config) (live : Live) (holder : ℕ → Holder) (graph :
   pub rooted : (r a : ℕ) (p : Place) → IsTrue (list_any (λ q. q == r) share.roots) → value_at registers r ≡ Ref a → live a ≡ Some p → IsTrue (marks.marked p.label)
   pub marked : (a : ℕ) → IsTrue (seen_by share.marked a) → IsMarkedAt live marks.marked a
   pub tally : Tallied k live holder d share
+  pub held : (q class : ℕ) → holder q ≡ owned d class → q < share.held → HoldsBlock live q class
 
 -- what a domain has added to the live words is what it has counted
 pub record Adds (live : Live) (c : Cycling) (d : ℕ) (share : Share) : Type 0 where

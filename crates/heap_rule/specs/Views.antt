@@ -59,7 +59,11 @@ pending_room k = k.domains * k.minor_words / 4
 
 -- what a domain knows of a phase in which it has done nothing
 abbrev pub fresh_share : Share
-fresh_share = record { colours = None; changed = None; blocks = None; words = None; rotated = false; owes = false; sights = []; glimpse = None; scan = Idle; walk = record { pool = 0; slot = 0 }; tenure = None; roots = []; marked = []; tally = []; tallied = record { pool = 0; slot = 0 }; tally_words = 0; added_blocks = false; added_words = false }
+fresh_share = record { colours = None; changed = None; blocks = None; words = None; rotated = false; owes = false; sights = []; glimpse = None; scan = Idle; walk = record { pool = 0; slot = 0 }; tenure = None; roots = []; marked = []; tally = []; tallied = record { pool = 0; slot = 0 }; tally_words = 0; added_blocks = false; added_words = false; held = 0; cut = false }
+
+-- and of the next, of which it has forgotten the last
+abbrev pub voided : Share → Share
+voided share = record fresh_share { cut = share.cut }
 
 -- a domain at the start: register 0 holds the shared block, which is at the address 1
 abbrev pub opening_view : Config → ℕ → DomainView

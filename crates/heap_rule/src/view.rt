@@ -167,7 +167,7 @@ pub enum Scan {
     },
 }
 
-/// What a domain knows of the present phase. It forgets all of it when it arrives.
+/// What a domain knows of the present phase. It forgets all of it but the cut when it arrives.
 pub struct Share {
     /// The meanings of the colours, once it has loaded them.
     pub colours: Option<Colours>,
@@ -201,6 +201,10 @@ pub struct Share {
     /// Whether it has added them to the live blocks, and to the live words.
     pub added_blocks: bool,
     pub added_words: bool,
+    /// The own pools before this one hold blocks.
+    pub held: u32,
+    /// Whether domain 0 has made the cut of this collection.
+    pub cut: bool,
 }
 
 /// What contracts alone know of a domain.

@@ -1,5 +1,5 @@
 //! The allocation of a young block.
-ghost use Rattle.std.specs.Prelude.{◌≡◌, ◌+◌, ◌^◌, ◌<◌, ◌≤◌, slice_set, IfOk, IfErr, OnOk, OnErr};
+ghost use Rattle.std.specs.Prelude.{◌≡◌, ◌+◌, ◌^◌, ◌<◌, ◌≤◌, slice_set, Some, IfOk, IfErr, OnOk, OnErr};
 ghost use Rattle.heap_model.specs.declared.command.Command.TheVariants.{Alloc};
 ghost use Rattle.heap_model.specs.declared.entry.Entry.{Entry};
 ghost use Rattle.heap_model.specs.declared.reply.Reply.TheVariants.{Block};
@@ -17,18 +17,23 @@ ghost use Rattle.minor_area.specs.Area.{Grows, HasRoom, FoundFree, Needs};
 use crate::Need;
 use heap_model::label::Label;
 use heap_rule::{Change, Domain, Heap, Item, Part};
-use heap_words::{Head, Value, pack_head, pack_label, pack_value};
+use heap_words::{Colours, Head, Value, pack_head, pack_label, pack_value};
 use size_classes::reserve;
+use steps_cycle::colours_now;
 use steps_making::{init_store, words_of_class};
 use steps_pools::{draw_limit, free_load, listed_load};
 
-// The colour of a block that is allocated while no collection is under way: unmarked.
-const UNMARKED: u8 = 1;
-
 // Writes a block for which there is room, in its area and in the pools: its label, its fields, each
-// the integer 0, and its head last.
+// the integer 0, and its head last, which is unmarked by the colours that the domain knows.
 #[tactic(auto, unfolding(heap_rule::specs::Places::class_words))]
-fn write_block(heap: &Heap, dom: &mut Domain, dst: u8, tag: u8, fields: u16) -> Label
+fn write_block(
+    heap: &Heap,
+    dom: &mut Domain,
+    dst: u8,
+    tag: u8,
+    fields: u16,
+    colours: &Colours,
+) -> Label
     ghost entry: { Entry }
     requires entry { entry ≡ own_entry dom.old (Alloc dst tag fields) }
     requires runs { Runs heap.now dom.old }
@@ -38,6 +43,8 @@ fn write_block(heap: &Heap, dom: &mut Domain, dst: u8, tag: u8, fields: u16) -> 
     requires serial { dom.old.view.own.serial + 1 < 2 ^ 32 }
     requires room { dom.old.view.own.used + class_words (fields + 2) ≤ heap.now.config.minor_words }
     requires opened { IsOpen heap.now.config dom.old.view }
+    requires known { dom.old.view.seen.share.colours ≡ Some colours.now }
+    requires unmarked { colours.now.unmarked < 3 }
     ensures did { Did heap.now dom.old dom.new (Alloc dst tag fields) (Block result) }
     ensures grows { Grows dom.old dom.new (class_words (fields + 2)) }
     ensures free { dom.new.view.seen.free ≡ dom.old.view.seen.free }
@@ -63,7 +70,7 @@ fn write_block(heap: &Heap, dom: &mut Domain, dst: u8, tag: u8, fields: u16) -> 
     let head = Head::Plain {
         size: fields,
         tag,
-        colour: UNMARKED,
+        colour: colours.unmarked,
         scanned: false,
     };
     let holds = Change::Set {
@@ -131,5 +138,6 @@ pub fn alloc_young(
     if free < reserve(config.domains, config.minor_words) {
         return Err(Need::Closed { free });
     }
-    Ok(write_block(heap, dom, dst, tag, fields))
+    let colours = colours_now(heap, dom);
+    Ok(write_block(heap, dom, dst, tag, fields, &colours))
 }

@@ -1,5 +1,5 @@
 -- What a domain that copies knows after it has met a block.
-use Rattle.std.proofs.Common.{◌≡◌, ℕ, ◌+◌, ◌*◌, ◌^◌, ◌<◌, ◌≤◌, cond, eq-eqb, Bool, false, List, [], ◌∷◌, ◌++◌, append-nil, append_assoc, slice_get, Option, Some, None, sym, refl, ap, ◌∙◌, subst, inl, inr, ⊎_elim, arith}
+use Rattle.std.proofs.Common.{◌≡◌, ℕ, ◌+◌, ◌*◌, ◌^◌, ◌<◌, ◌≤◌, cond, eq-eqb, Bool, false, List, [], ◌∷◌, ◌++◌, append-nil, append_assoc, slice_get, Option, Some, None, sym, refl, ap, ◌∙◌, subst, inl, inr, ⊎_elim, arith, ◌⊎◌}
 use Rattle.heap_model.specs.Domains.{IsWithinLimits}
 use Rattle.heap_model.specs.Fronts.{Shape, PlainShape, RawShape, EpheShape}
 use Rattle.heap_words.specs.declared.head.Head.TheVariants.{Forward}
@@ -13,13 +13,16 @@ use Rattle.heap_rule.specs.declared.view.DomainView.{DomainView}
 use Rattle.heap_rule.specs.Copies.{ListsCopy, HasCopy, met_place, shape_of_form, known}
 use Rattle.heap_rule.specs.Limits.{sizes_in}
 use Rattle.heap_rule.specs.Layout.{heap_words}
-use Rattle.heap_rule.specs.Places.{Place, Live, extent, unmarked, head_of, IsBuilt, IsNewHead, IsOldAt, Lasts, More}
+use Rattle.heap_rule.specs.Places.{Place, Live, extent, head_of, IsBuilt, IsNewHead, IsOldAt, Lasts, More, IsHeadOf}
 use Rattle.heap_rule.specs.Pools.{prepared_at}
-use Rattle.heap_rule.specs.Standing.{IsInHeap}
+use Rattle.heap_rule.specs.Standing.{IsInHeap, IsAt}
 use Rattle.heap_rule.proofs.Values.{address_of}
-use Rattle.steps_promote.specs.Promotion.{form_of, met_of, with_met, with_copied, AllFit, Knows, StaysThere, Forwards, HeadMet}
+use Rattle.steps_promote.specs.Promotion.{form_of, met_of, with_met, with_copied, AllFit, Knows, StaysThere, Forwards, HeadMet, HeadMay}
 use Rattle.promote_claim.specs.Heads.{IsForward, forward_word, IsHeadFor}
 use Rattle.promote_claim.specs.Working.{SameBlock, IsPair, Works, owed_from, with_claims, Learns, Grown, IsMetWith, Claimed}
+use Rattle.steps_cycle.specs.Looks.{knowing_colours}
+use Rattle.heap_words.specs.declared.colours.Colours.{Colours}
+use Rattle.heap_rule.proofs.HeadLemmas.{packable_head}
 
 pub form_shape : (s : Shape) → IsBuilt s → shape_of_form (form_of s) ≡ s
 form_shape (PlainShape size tag) built = refl
@@ -114,6 +117,26 @@ owed_append (c ∷ cs) b = ap (λ l. record { copy = c.copy; source = c.source; 
 pub grown_none : (k : Config) (x : DomainView) → Works k x → Grown k x x
 grown_none k x w = record { view = refl; works = w; learns = learns_same x; made = []; items = sym (append-nil x.own.pending.items); owed = sym (append-nil x.seen.copying.pending) }
 
+-- the domain knows the colours, and nothing else has changed
+pub grown_colours : (k : Config) (x y : DomainView) (c : Colours) → y ≡ knowing_colours x c → Works k x → Grown k x y
+grown_colours k x y c e w = record {
+  view = e ∙ ap (with_claims x) (sym e);
+  works = record {
+    stage = ap (λ (z : DomainView). z.seen.stage) e ∙ w.stage;
+    at_rest = ap (λ (z : DomainView). z.seen.hunt) e ∙ w.at_rest;
+    fit = subst (λ (z : DomainView). AllFit k z) (sym e) w.fit;
+    placed = λ class a few is. w.placed class a few (ap (λ (z : DomainView). prepared_at z.own.prepared class) (sym e) ∙ is);
+    pairs = λ i m got. let p = w.pairs i m (ap (λ (z : DomainView). slice_get z.own.pending.items i) (sym e) ∙ got) in record { young = p.young; old = p.old; same = subst (λ (z : DomainView). SameBlock (Knows z) m.source m.copy) (sym e) p.same };
+  };
+  learns = subst (λ (z : DomainView). Learns x z) (sym e) (let l = learns_same x in record { more = l.more; copies = l.copies });
+  made = [];
+  items = ap (λ (z : DomainView). z.own.pending.items) e ∙ sym (append-nil x.own.pending.items);
+  owed = ap (λ (z : DomainView). z.seen.copying.pending) e ∙ sym (append-nil x.seen.copying.pending);
+}
+
+pub head_may_colours : (x y : DomainView) (c : Colours) (a : ℕ) → y ≡ knowing_colours x c → HeadMay x a → HeadMay y a
+head_may_colours x y c a e may = subst (λ (z : DomainView). HeadMay z a) (sym e) record { stage = may.stage; from = ⊎_elim (λ (t : (p : Place) × (Knows x a ≡ Some p)). inl t) (λ (t : (r : ℕ) × IsAt x r a). inr (t.0, record { few = t.1.few; holds = t.1.holds })) may.from }
+
 -- claims one behind the other
 pub grown_twice : (k : Config) (x y z : DomainView) → Grown k x y → Grown k y z → Grown k x z
 grown_twice k x y z a b = record {
@@ -126,13 +149,13 @@ grown_twice k x y z a b = record {
 }
 
 -- the head of a block that stays isn't one that forwards
-pub stays_put : (s : Shape) (c : ℕ) → head_of None s unmarked false ≡ Forward c → ⊥
-stays_put (PlainShape size tag) c e = cc
-stays_put (RawShape size tag) c e = cc
-stays_put (EpheShape keys) c e = cc
+pub stays_put : (s : Shape) (colour : ℕ) (scanned : Bool) (c : ℕ) → head_of None s colour scanned ≡ Forward c → ⊥
+stays_put (PlainShape size tag) colour scanned c e = cc
+stays_put (RawShape size tag) colour scanned c e = cc
+stays_put (EpheShape keys) colour scanned c e = cc
 
-pub never_forward : (s : Shape) (word c : ℕ) → IsPackableHead (head_of None s unmarked false) → IsNewHead s word → IsForward c → forward_word c ≡ word → ⊥
-never_forward s word c fits head forward is = stays_put s c (head_word-injective (head_of None s unmarked false) (Forward c) fits forward (sym head ∙ sym is))
+pub never_forward : (s : Shape) (word c : ℕ) → IsHeadOf s word → IsForward c → forward_word c ≡ word → ⊥
+never_forward s word c head forward is = stays_put s head.colour head.scanned c (head_word-injective (head_of None s head.colour head.scanned) (Forward c) head.packable forward (sym head.packs ∙ sym is))
 
 pub forward_same : (a b : ℕ) → forward_word a ≡ forward_word b → a ≡ b
 forward_same a b e = let h : 3 + 2 ^ 32 * a ≡ 3 + 2 ^ 32 * b = e in omega arith
@@ -141,14 +164,14 @@ forward_same a b e = let h : 3 + 2 ^ 32 * a ≡ 3 + 2 ^ 32 * b = e in omega arit
 module _ (k : Config) (at : ℕ) (x : DomainView) (word : ℕ) (y : DomainView) (told : HeadMet k at x word y) (limits : IsWithinLimits (sizes_in k)) where
   pub head_grown : Works k x → Grown k x y
   head_grown w = ⊎_elim
-      (λ (t : StaysThere at told.place x word y). grown_with k x y (met_of at told.place ∷ x.seen.copying.met) x.seen.copying.copied t.view told.more (λ a c has. has) told.fit w)
+      (λ (t : StaysThere k at told.place x word y). grown_with k x y (met_of at told.place ∷ x.seen.copying.met) x.seen.copying.copied t.view told.more (λ a c has. has) told.fit w)
       (λ (t : Forwards k at told.place x word y). grown_with k x y (met_of t.copy told.place ∷ met_of at told.place ∷ x.seen.copying.met) (record { copy = t.copy; source = at } ∷ x.seen.copying.copied) t.view told.more (λ a c has. inr has) told.fit w)
       told.told
 
   -- where the head forwards, the copy was met
   pub head_claimed : (copy : ℕ) → Works k x → IsForward copy × (forward_word copy ≡ word) → Claimed k at x y copy
   head_claimed copy w leads = ⊎_elim
-      (λ (t : StaysThere at told.place x word y). absurd (never_forward told.place.shape word copy told.packable t.head leads.0 leads.1))
+      (λ (t : StaysThere k at told.place x word y). absurd (never_forward told.place.shape word copy t.head leads.0 leads.1))
       (λ (t : Forwards k at told.place x word y).
       subst (Claimed k at x y) (forward_same t.copy copy (sym t.word ∙ sym leads.1)) record {
         grown = head_grown w;
@@ -159,17 +182,21 @@ module _ (k : Config) (at : ℕ) (x : DomainView) (word : ℕ) (y : DomainView) 
       told.told
 
   -- where it doesn't, it is that of a block of its shape
-  pub head_stays : Unpacks IsForward forward_word word None → StaysThere at told.place x word y
-  head_stays none = ⊎_elim (λ (t : StaysThere at told.place x word y). t)
+  pub head_stays : Unpacks IsForward forward_word word None → StaysThere k at told.place x word y
+  head_stays none = ⊎_elim (λ (t : StaysThere k at told.place x word y). t)
       (λ (t : Forwards k at told.place x word y). absurd (let e : ◌≡◌ {A = Option ℕ} None (Some t.copy) = none.only t.copy (t.inside.0, old_small k t.copy limits t.old) (sym t.word) in cc))
       told.told
 
-  pub met_with : Unpacks IsForward forward_word word None → IsMetWith y at word
-  met_with none = let l = told.here in record { place = l.place; met = l.lives; head = subst (λ (s : Shape). IsNewHead s word) (sym l.shape) (head_stays none).head }
+  pub met_with : k.pools * 4096 < at → (c : Colours) × (x.seen.share.colours ≡ Some c) → Unpacks IsForward forward_word word None → IsMetWith y at word
+  met_with young known none = let l = told.here in let s = head_stays none in record {
+    place = l.place;
+    met = l.lives;
+    head = subst (λ (z : Option Colours × Shape). IsNewHead z.0 z.1 word) (λ i. (sym (ap (λ (z : DomainView). z.seen.share.colours) s.view) i, sym l.shape i)) (s.new young known.0 known.1);
+  }
 
 -- the head of a block that was met says how large it is
 pub head_for : (k : Config) (x : DomainView) (a word : ℕ) → AllFit k x → (m : IsMetWith x a word) → IsHeadFor m.place.shape word
-head_for k x a word fit m = let f = fit a m.place m.met in record { built = f.built; packable = f.head; head = m.head }
+head_for k x a word fit m = let f = fit a m.place m.met in let h = m.head in record { built = f.built; head = record { colour = h.colours.unmarked; scanned = false; packable = packable_head m.place.shape h.colours.unmarked false h.fits f.head; packs = h.packs } }
 
 pub claimed_after : (k : Config) (a c : ℕ) (x y z : DomainView) → Grown k x y → Claimed k a y z c → Claimed k a x z c
 claimed_after k a c x y z g t = record { grown = grown_twice k x y z g t.grown; old = t.old; copied = t.copied; same = t.same }

@@ -1,9 +1,9 @@
 -- What the word of a head says of its block.
-use Rattle.std.specs.Prelude.{ℕ, false, None}
+use Rattle.std.specs.Prelude.{ℕ}
 use Rattle.heap_model.specs.Fronts.{Shape}
 use Rattle.heap_words.specs.declared.head.Head.TheVariants.{Forward}
 use Rattle.heap_words.specs.Heads.{IsPackableHead, head_word}
-use Rattle.heap_rule.specs.Places.{unmarked, head_of, IsBuilt, IsNewHead}
+use Rattle.heap_rule.specs.Places.{IsBuilt, IsHeadOf}
 
 -- the head of a block that forwards to an address
 abbrev pub IsForward : ℕ → Type 0
@@ -16,5 +16,4 @@ forward_word copy = head_word (Forward copy)
 -- the word is the head of a block of a shape, which doesn't forward
 pub record IsHeadFor (shape : Shape) (word : ℕ) : Type 0 where
   pub built : IsBuilt shape
-  pub packable : IsPackableHead (head_of None shape unmarked false)
-  pub head : IsNewHead shape word
+  pub head : IsHeadOf shape word

@@ -8,11 +8,22 @@ use Rattle.heap_rule.specs.Changes.{value_at}
 use Rattle.heap_rule.specs.Copies.{HoldsOld}
 use Rattle.heap_rule.specs.Pools.{prepared_at}
 use Rattle.promote_claim.specs.Roots.{Becomes}
-use Rattle.promote_claim.specs.Working.{with_claims}
+use Rattle.promote_claim.specs.Working.{with_claims, AllPlaced}
+use Rattle.heap_rule.specs.declared.phase.Kind.TheVariants.{Promote}
+use Rattle.heap_rule.specs.declared.phase.Stage.TheVariants.{In}
 
 -- no place is prepared for a copy
 abbrev pub Unprepared : DomainView → Type 0
 Unprepared x = (class : ℕ) → class < class_count → prepared_at x.own.prepared class ≡ None
+
+-- a domain that has begun to give its places back
+pub record Gives (k : Config) (class : ℕ) (x y : DomainView) : Type 0 where
+  pub view : y ≡ with_claims x y
+  pub stage : y.seen.stage ≡ In Promote
+  pub at_rest : y.seen.hunt ≡ Rests
+  pub copying : y.seen.copying ≡ x.seen.copying
+  pub placed : AllPlaced k y
+  pub none : (c : ℕ) → c < class → prepared_at y.own.prepared c ≡ None
 
 -- the places that were prepared are given back
 pub record GaveBack (x y : DomainView) : Type 0 where
@@ -25,7 +36,7 @@ pub record GaveBack (x y : DomainView) : Type 0 where
 abbrev pub with_share : DomainView → DomainView → DomainView
 with_share x y = record {
   own = record x.own { registers = y.own.registers; looked = y.own.looked; prepared = y.own.prepared; pending = y.own.pending };
-  seen = record x.seen { hunt = y.seen.hunt; copying = y.seen.copying; remembered = y.seen.remembered };
+  seen = record x.seen { hunt = y.seen.hunt; copying = y.seen.copying; remembered = y.seen.remembered; share = record x.seen.share { colours = y.seen.share.colours } };
 }
 
 -- the domain owes no copy a value, has looked through all its remembered fields, holds no address of a minor area, and has no place prepared: it may arrive. Each register stands for what it stood for. All else is as it was

@@ -1,6 +1,7 @@
 //! The claim of a young block.
 ghost use Rattle.std.specs.Prelude.{◌≡◌, ◌*◌, ◌<◌, ℕ, Some};
 ghost use Rattle.heap_model.specs.Domains.{class_count};
+ghost use Rattle.heap_words.specs.declared.colours.Colours.{Colours};
 ghost use Rattle.heap_words.specs.Values.{IsPackable};
 ghost use Rattle.heap_rule.specs.Pools.{prepared_at};
 ghost use Rattle.heap_rule.specs.Standing.{IsInHeap};
@@ -15,6 +16,7 @@ use heap_rule::{Domain, Heap};
 use heap_words::{Head, Value, pack_head};
 use size_classes::POOL_WORDS;
 use size_pools::take_for_copy;
+use steps_cycle::colours_now;
 use steps_promote::{
     claim_exchange, prepare_head, prepare_label, prepare_store, young_head_load, young_label_load,
 };
@@ -81,6 +83,25 @@ fn claim_as(heap: &Heap, dom: &mut Domain, young: u32, word: u64) -> u32
     other
 }
 
+// Claims a young block, whose domain knows the colours.
+fn claim_met(heap: &Heap, dom: &mut Domain, young: u32) -> u32
+    requires here { IsIn dom.old heap.now }
+    requires works { Works heap.now.config dom.old.view }
+    requires inside { IsInHeap heap.now.config young }
+    requires met { HeadMay dom.old.view young }
+    requires young { heap.now.config.pools * 4096 < young }
+    requires colours { (c : Colours) × (dom.old.view.seen.share.colours ≡ Some c) }
+    ensures here { IsIn dom.new heap.now }
+    ensures claimed { Claimed heap.now.config young dom.old.view dom.new.view result }
+{
+    let _limits = heap.config();
+    let word = young_head_load(heap, dom, young);
+    if let Some(copy) = copy_of(word) {
+        return copy;
+    }
+    claim_as(heap, dom, young, word)
+}
+
 /// Claims a young block that was met, or that a register holds, in a phase in which domains copy.
 /// Answers the address of the block's copy: that of another domain's where another has claimed the
 /// block. What the domain prepared for it is then kept for its next claim of the size class. The
@@ -96,12 +117,8 @@ pub fn claim(heap: &Heap, dom: &mut Domain, young: u32) -> u32
     ensures here { IsIn dom.new heap.now }
     ensures claimed { Claimed heap.now.config young dom.old.view dom.new.view result }
 {
-    let _limits = heap.config();
-    let word = young_head_load(heap, dom, young);
-    if let Some(copy) = copy_of(word) {
-        return copy;
-    }
-    claim_as(heap, dom, young, word)
+    let _colours = colours_now(heap, dom);
+    claim_met(heap, dom, young)
 }
 
 // What a value of a root or of a copied block becomes: one that stands for the same, and is no

@@ -1,12 +1,13 @@
 //! A domain's share of a collection.
-ghost use Rattle.std.specs.Prelude.{◌≡◌, []};
+ghost use Rattle.std.specs.Prelude.{◌≡◌, ◌<◌, ◌+◌, []};
+ghost use Rattle.heap_model.specs.Domains.{class_count};
 ghost use Rattle.heap_rule.specs.declared.phase.Kind.TheVariants.{Promote};
 ghost use Rattle.heap_rule.specs.declared.phase.Stage.TheVariants.{In};
 ghost use Rattle.heap_rule.specs.declared.view.Hunt.TheVariants.{Rests};
 ghost use Rattle.heap_rule.specs.Copies.{nothing_copied};
 ghost use Rattle.heap_rule.specs.Running.{RemembersAll};
 ghost use Rattle.heap_rule.specs.Token.{IsIn};
-ghost use Rattle.promote_claim.specs.Sharing.{Unprepared, GaveBack, Shared};
+ghost use Rattle.promote_claim.specs.Sharing.{Unprepared, Gives, GaveBack, Shared};
 ghost use Rattle.promote_claim.specs.Working.{Works};
 
 use crate::filling::fill_all;
@@ -16,6 +17,22 @@ use heap_rule::{Domain, Heap};
 use size_classes::CLASS_COUNT;
 use steps_promote::free_store;
 
+// Gives the place back that was prepared for a class, if there is one.
+fn release(heap: &Heap, dom: &mut Domain, class: u32)
+    requires here { IsIn dom.old heap.now }
+    requires class { class < class_count }
+    requires gives { Gives heap.now.config class dom.old.view dom.old.view }
+    ensures here { IsIn dom.new heap.now }
+    ensures gives { Gives heap.now.config (class + 1) dom.old.view dom.new.view }
+{
+    let _limits = heap.config();
+    let Some(at) = dom.prepared(class) else {
+        return;
+    };
+    let spot = spot_in(at, class);
+    free_store(heap, dom, at, spot.pool, class, spot.slot);
+}
+
 // Gives the places back that were prepared for claims which another domain won.
 fn give_back(heap: &Heap, dom: &mut Domain)
     requires here { IsIn dom.old heap.now }
@@ -23,12 +40,8 @@ fn give_back(heap: &Heap, dom: &mut Domain)
     ensures here { IsIn dom.new heap.now }
     ensures gave { GaveBack dom.old.view dom.new.view }
 {
-    let _limits = heap.config();
     for class in 0..CLASS_COUNT as u32 {
-        if let Some(at) = dom.prepared(class) {
-            let spot = spot_in(at, class);
-            free_store(heap, dom, at, spot.pool, class, spot.slot);
-        }
+        release(heap, dom, class);
     }
 }
 

@@ -1,5 +1,5 @@
 -- Domain 0 may name the next kind once it has taken the wishes back, where the domains run next.
-use Rattle.std.proofs.Common.{◌≡◌, ℕ, List, ◌++◌, Some, true, length, sym, refl, ap, ◌∙◌, subst, ◌+◌, ◌-◌, ◌≤◌, arith, suc}
+use Rattle.std.proofs.Common.{◌≡◌, ℕ, List, ◌++◌, Some, true, length, sym, refl, ap, ◌∙◌, subst, ◌-◌, ◌≤◌, arith, suc}
 use Rattle.std.proofs.lemmas.List.{append-nil}
 use Rattle.heap_rule.specs.declared.config.Config.{Config}
 use Rattle.heap_rule.specs.declared.view.DomainView.{DomainView}
@@ -10,9 +10,9 @@ use Rattle.heap_rule.specs.declared.phase.Note.TheVariants.{Cleared, SetBack}
 use Rattle.heap_rule.specs.declared.phase.Stage.TheVariants.{Leads}
 use Rattle.heap_rule.specs.Phases.{code, kind_at, Follows, last_note}
 use Rattle.heap_rule.proofs.Controls.{last_note_end}
-use Rattle.steps_pauses.specs.Pauses.{kind_in, LeadMay, MayFollow}
+use Rattle.steps_pauses.specs.Pauses.{kind_in, LeadMay, MayFollow, LeadTold}
 use Rattle.steps_pools.specs.Listings.{HasList, free_pools}
-use Rattle.safepoint.specs.Looks.{cleared}
+use Rattle.safepoint.specs.Looks.{cleared, LedTo}
 
 -- the kind of a kind's word
 pub kind_of_code : (kind : Kind) → kind_at (code kind) ≡ kind
@@ -41,7 +41,7 @@ took notes next runs = subst (λ (kind : Kind). last_note (notes ++ cleared kind
 back : (notes : List Note) (next : Kind) → next ≡ Promote → last_note notes ≡ Some SetBack → last_note (notes ++ cleared next) ≡ Some SetBack
 back notes next copies last = subst (λ (kind : Kind). last_note (notes ++ cleared kind) ≡ Some SetBack) (sym copies) (ap last_note (append-nil notes) ∙ last)
 
-pub lead_may : (k : Config) (x y : DomainView) (word : ℕ) (next : Kind) → x.own.number ≡ 0 → x.seen.stage ≡ Leads (kind_in x.seen.stage) → Follows (kind_in x.seen.stage) next → MayFollow (kind_in x.seen.stage) next → word ≡ code next → (next ≡ Run → HasList k x) → (next ≡ Promote → last_note x.seen.notes ≡ Some SetBack)
+pub lead_may : (k : Config) (x y : DomainView) (word : ℕ) (next : Kind) → x.own.number ≡ 0 → x.seen.stage ≡ Leads (kind_in x.seen.stage) → Follows (kind_in x.seen.stage) next → MayFollow x.seen.share (kind_in x.seen.stage) next → word ≡ code next → (next ≡ Run → HasList k x) → (next ≡ Promote → last_note x.seen.notes ≡ Some SetBack)
     → y ≡ record x { seen = record x.seen { notes = x.seen.notes ++ cleared next } } → LeadMay y word (kind_at word)
 lead_may k x y word next first leads follows may is list set_back view =
     let kind : kind_at word ≡ next = ap kind_at is ∙ kind_of_code next in
@@ -50,9 +50,20 @@ lead_may k x y word next first leads follows may is list set_back view =
       last = kind_in x.seen.stage;
       stage = leads;
       follows = subst (Follows (kind_in x.seen.stage)) (sym kind) follows;
-      may = subst (MayFollow (kind_in x.seen.stage)) (sym kind) may;
+      may = subst (MayFollow x.seen.share (kind_in x.seen.stage)) (sym kind) may;
       word = is ∙ ap code (sym kind);
       took_back = λ runs. took x.seen.notes next (sym kind ∙ runs);
       rewound = λ runs. let l = list (sym kind ∙ runs) in (record { owners = l.owners; names = free_pools l.owners; rewound = true; listed = length (free_pools l.owners) }, l.listing, refl);
       set_back = λ copies. let is = sym kind ∙ copies in back x.seen.notes next is (set_back is);
     })
+
+-- and what it then has done
+pub led_to : (k : Config) (x y z : DomainView) (word : ℕ) (next : Kind) → word ≡ code next → y ≡ record x { seen = record x.seen { notes = x.seen.notes ++ cleared next } } → LeadTold k (kind_at word) y word z → LedTo k next x z
+led_to k x y z word next is view told =
+    let kind : kind_at word ≡ next = ap kind_at is ∙ kind_of_code next in
+    let t = subst (λ (u : DomainView × Kind). LeadTold k u.1 u.0 word z) (λ i. (view i, kind i)) told in record {
+      seen = t.seen;
+      stays = t.stays;
+      made = λ e stands. let m = t.made e stands in record { before = m.before; front = m.front; seen = m.seen; legal = m.legal };
+      view = t.view;
+    }

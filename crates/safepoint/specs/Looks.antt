@@ -1,22 +1,23 @@
 -- What a look answers, and what domain 0 does when it leads.
-use Rattle.std.specs.Prelude.{◌≡◌, ◌*◌, ◌<◌, ◌≤◌, ℕ, List, [], ◌∷◌, ◌++◌}
+use Rattle.std.specs.Prelude.{◌≡◌, ◌*◌, ◌<◌, ◌≤◌, ℕ, List, [], ◌∷◌, ◌++◌, Some, None}
 use Rattle.heap_model.specs.History.{Legal}
 use Rattle.heap_model.specs.Fronts.{IsFrontOf}
 use Rattle.heap_rule.specs.declared.config.Config.{Config}
 use Rattle.heap_rule.specs.declared.view.DomainView.{DomainView}
 use Rattle.heap_rule.specs.declared.phase.Kind.{Kind}
-use Rattle.heap_rule.specs.declared.phase.Kind.TheVariants.{Run, Promote, Reset}
+use Rattle.heap_rule.specs.declared.phase.Kind.TheVariants.{Run}
 use Rattle.heap_rule.specs.declared.phase.Stage.TheVariants.{In, Leads, Led}
 use Rattle.heap_rule.specs.declared.phase.Note.{Note}
 use Rattle.heap_rule.specs.declared.phase.Note.TheVariants.{Barrier, Cleared}
 use Rattle.heap_rule.specs.Limits.{sizes_in}
 use Rattle.heap_rule.specs.Phases.{Comes, IsEven, IsOdd}
-use Rattle.steps_pauses.specs.Pauses.{noted, kind_in}
+use Rattle.steps_pauses.specs.Pauses.{noted, kind_in, entry_of, cut_in, EndsWith}
 use Rattle.safepoint.specs.declared.answer.Look.{Look}
 use Rattle.safepoint.specs.declared.answer.Look.TheVariants.{Next, Lead, NotAll}
 use Rattle.safepoint.specs.declared.answer.Want as wish
 use Rattle.safepoint.specs.declared.answer.Want.TheVariants.{Minor, Cycle, Finish, Full}
 use Rattle.heap_rule.specs.Views.{fresh_share}
+use Rattle.heap_model.specs.declared.entry.Entry.{Entry}
 
 -- the bit of a wish
 abbrev pub bit_of : wish.Want → ℕ
@@ -44,6 +45,9 @@ abbrev pub cleared : Kind → List Note
 cleared Run = Cleared ∷ []
 cleared _ = []
 
--- domain 0 has named the next kind
-abbrev pub led_view : DomainView → Kind → DomainView
-led_view x next = record x { seen = record x.seen { stage = Led next; share = fresh_share; notes = x.seen.notes ++ cleared next } }
+-- domain 0 has named the next kind, and the collector's entry stands, if there is one
+pub record LedTo (k : Config) (next : Kind) (x y : DomainView) : Type 0 where
+  pub seen : IsFrontOf x.own.number y.seen.front x.seen.front
+  pub stays : entry_of (kind_in x.seen.stage) next ≡ None → y.seen.front ≡ x.seen.front
+  pub made : (e : Entry) → entry_of (kind_in x.seen.stage) next ≡ Some e → EndsWith k x y e
+  pub view : y ≡ record x { seen = record x.seen { front = y.seen.front; stage = Led next; share = record fresh_share { cut = cut_in (kind_in x.seen.stage) x.seen.share.cut }; notes = x.seen.notes ++ cleared next } }

@@ -8,7 +8,7 @@ ghost use Rattle.heap_rule.specs.Phases.{code, kind_at, Follows, last_note};
 ghost use Rattle.heap_rule.specs.Cycles.{HasNoCycle};
 ghost use Rattle.steps_pauses.specs.Pauses.{IsGone, ArriveMay, ClearMay, MayFollow, kind_in, noted, arrived_view};
 ghost use Rattle.heap_rule.specs.Token.{IsIn};
-ghost use Rattle.safepoint.specs.Looks.{bit_of, cleared, led_view, LookAnswers};
+ghost use Rattle.safepoint.specs.Looks.{bit_of, cleared, LedTo, LookAnswers};
 ghost use Rattle.steps_pools.specs.Listings.{HasList};
 
 use crate::answer::{Look, Want, Wants};
@@ -149,17 +149,17 @@ fn clear_for(heap: &Heap, dom: &mut Domain, next: Kind)
 
 /// Domain 0 says in an odd phase which phase comes next. Before domains run again no wish is left, and
 /// the list of free pools has been written anew in this phase. Before they copy the cursor was just set
-/// back out of the reserve.
+/// back out of the reserve. Where the next kind asks for an entry of the collector it stands then.
 pub fn lead(heap: &Heap, dom: &mut Domain, next: Kind)
     requires here { IsIn dom.old heap.now }
     requires leads { dom.old.view.own.number ≡ 0 }
     requires odd { dom.old.view.seen.stage ≡ Leads (kind_in dom.old.view.seen.stage) }
     requires follows { Follows (kind_in dom.old.view.seen.stage) next }
-    requires may { MayFollow (kind_in dom.old.view.seen.stage) next }
+    requires may { MayFollow dom.old.view.seen.share (kind_in dom.old.view.seen.stage) next }
     requires list { next ≡ Run → HasList heap.now.config dom.old.view }
     requires set_back { next ≡ Promote → last_note dom.old.view.seen.notes ≡ Some note.SetBack }
     ensures here { IsIn dom.new heap.now }
-    ensures view { dom.new.view ≡ led_view dom.old.view next }
+    ensures led { LedTo heap.now.config next dom.old.view dom.new.view }
 {
     clear_for(heap, dom, next);
     plan_store(heap, dom, word_of(next));

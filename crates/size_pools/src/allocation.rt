@@ -1,6 +1,6 @@
 //! The allocation of a block in the major heap.
 ghost use Rattle.heap_model.specs.Domains.{class_count};
-ghost use Rattle.std.specs.Prelude.{◌≡◌, ◌+◌, ◌^◌, ◌<◌, ◌≤◌, ℕ, slice_set, [], IfOk, IfErr, OnOk, OnErr};
+ghost use Rattle.std.specs.Prelude.{◌≡◌, ◌+◌, ◌^◌, ◌<◌, ◌≤◌, ℕ, slice_set, [], Some, IfOk, IfErr, OnOk, OnErr};
 ghost use Rattle.heap_model.specs.declared.command.Command.TheVariants.{AllocMaj};
 ghost use Rattle.heap_model.specs.declared.entry.Entry.{Entry};
 ghost use Rattle.heap_model.specs.declared.reply.Reply.TheVariants.{Block};
@@ -17,15 +17,22 @@ use crate::no_pool::NoPool;
 use crate::taking::take;
 use heap_model::label::Label;
 use heap_rule::{Change, Domain, Heap, Item, Part};
-use heap_words::{Head, Value, pack_head, pack_label, pack_value};
+use heap_words::{Colours, Head, Value, pack_head, pack_label, pack_value};
 use size_classes::heap_classes;
+use steps_cycle::colours_now;
 use steps_pools::{fill_store, head_store};
 
-// The colour of a block that is allocated while no collection is under way: unmarked.
-const UNMARKED: u8 = 1;
-
-// Writes a block at the place that is taken: its label, its fields, each the integer 0, and its head last.
-fn write_block(heap: &Heap, dom: &mut Domain, at: u32, dst: u8, tag: u8, fields: u16) -> Label
+// Writes a block at the place that is taken: its label, its fields, each the integer 0, and its head
+// last, which is unmarked by the colours that the domain knows.
+fn write_unmarked(
+    heap: &Heap,
+    dom: &mut Domain,
+    at: u32,
+    dst: u8,
+    tag: u8,
+    fields: u16,
+    colours: &Colours,
+) -> Label
     ghost entry: { Entry }
     requires entry { entry ≡ own_entry dom.old (AllocMaj dst tag fields) }
     requires runs { IsBusy heap.now dom.old }
@@ -34,6 +41,8 @@ fn write_block(heap: &Heap, dom: &mut Domain, at: u32, dst: u8, tag: u8, fields:
     requires tag { tag ≤ 245 }
     requires fields { (1 ≤ fields) × (fields ≤ 126) }
     requires serial { dom.old.view.own.serial + 1 < 2 ^ 32 }
+    requires known { dom.old.view.seen.share.colours ≡ Some colours.now }
+    requires unmarked { colours.now.unmarked < 3 }
     ensures did { Did heap.now dom.old dom.new (AllocMaj dst tag fields) (Block result) }
     ensures grows { Grows dom.old dom.new }
     ensures free { dom.new.view.seen.free ≡ dom.old.view.seen.free }
@@ -52,7 +61,7 @@ fn write_block(heap: &Heap, dom: &mut Domain, at: u32, dst: u8, tag: u8, fields:
     let head = Head::Plain {
         size: fields,
         tag,
-        colour: UNMARKED,
+        colour: colours.unmarked,
         scanned: false,
     };
     let holds = Change::Set {
@@ -66,6 +75,26 @@ fn write_block(heap: &Heap, dom: &mut Domain, at: u32, dst: u8, tag: u8, fields:
     };
     head_store(heap, dom, at, pack_head(head), &[holds]);
     label
+}
+
+// The same, by the colours that this call loads.
+fn write_block(heap: &Heap, dom: &mut Domain, at: u32, dst: u8, tag: u8, fields: u16) -> Label
+    ghost entry: { Entry }
+    requires entry { entry ≡ own_entry dom.old (AllocMaj dst tag fields) }
+    requires runs { IsBusy heap.now dom.old }
+    requires room { IsRoom heap.now.config dom.old.view at fields }
+    requires dst { dst < 16 }
+    requires tag { tag ≤ 245 }
+    requires fields { (1 ≤ fields) × (fields ≤ 126) }
+    requires serial { dom.old.view.own.serial + 1 < 2 ^ 32 }
+    ensures did { Did heap.now dom.old dom.new (AllocMaj dst tag fields) (Block result) }
+    ensures grows { Grows dom.old dom.new }
+    ensures free { dom.new.view.seen.free ≡ dom.old.view.seen.free }
+    ensures registers { dom.new.view.own.registers ≡ slice_set dom.old.view.own.registers dst (Ref at) }
+    ensures holds { Holds heap.now.config dom.new.view.own.registers }
+{
+    let colours = colours_now(heap, dom);
+    write_unmarked(heap, dom, at, dst, tag, fields, &colours)
 }
 
 // The size class of a block with so many fields.

@@ -25,6 +25,7 @@ fn draw_pool(heap: &Heap, dom: &mut Domain, class: u32) -> Result<u32, NoPool>
     requires here { IsIn dom.old heap.now }
     requires class { class < class_count }
     requires at_rest { HasNoDraw dom.old.view }
+    requires none_free { NoneFree heap.now.config dom.old.view class }
     requires runs { dom.old.view.seen.stage ≡ In Run }
     ensures here { IsIn dom.new heap.now }
     ensures drew { IfOk result (λ place. DrewPool heap.now.config place class dom.old.view dom.new.view) }

@@ -1,13 +1,11 @@
 -- Heads that differ in colour and scanned mark alone.
-use Rattle.std.proofs.Common.{◌≡◌, ◌≢◌, ℕ, ◌<◌, ◌||◌, IsTrue, Bool, true, false, cond, None, refl, sym, ap, ◌∙◌}
-use Rattle.heap_model.specs.declared.label.Label.{Label}
+use Rattle.std.proofs.Common.{◌≡◌, ℕ, ◌<◌, IsTrue, Bool, true, false, cond, None, refl, sym, ap, ◌∙◌}
 use Rattle.heap_model.specs.Fronts.{Shape, PlainShape, RawShape, EpheShape}
 use Rattle.heap_words.specs.declared.colours.Colours.{Colours}
 use Rattle.heap_words.specs.ColourWords.{IsPermutation}
-use Rattle.heap_words.specs.declared.head.Head.{Head}
-use Rattle.heap_words.specs.Heads.{IsPackableHead, head_word}
+use Rattle.heap_words.specs.Heads.{head_word}
 use Rattle.heap_words.proofs.WordLemmas.{head_word-injective}
-use Rattle.heap_rule.specs.Places.{Place, Paint, HeadIs, IsBare, IsHead, IsHeadOf, colour_in, head_of, IsPackableShape}
+use Rattle.heap_rule.specs.Places.{Place, Paint, IsBare, IsHead, IsHeadOf, colour_in, head_of, IsPackableShape}
 use Rattle.heap_rule.proofs.HeadLemmas.{packable_head}
 
 -- equal heads are of one colour, and equal in every other one
@@ -58,6 +56,13 @@ bare_head paint p word bare meanings packs h = record {
   tells = h.tells;
 }
 
--- the colours of the marked and of the unmarked
-pub coloured : (paint : Paint) (p : Place) (b : Bool) → paint.marks.marked p.label ≡ b → colour_in paint p.label ≡ cond b paint.colours.marked paint.colours.unmarked
+-- its colour tells whether it is marked
+coloured : (paint : Paint) (p : Place) (b : Bool) → paint.marks.marked p.label ≡ b → colour_in paint p.label ≡ cond b paint.colours.marked paint.colours.unmarked
 coloured paint p b e = ap (λ (z : Bool). cond z paint.colours.marked paint.colours.unmarked) e
+
+module _ (paint : Paint) (p : Place) (word : ℕ) (colours : Colours) (means : colours ≡ paint.colours) (there : BareHead paint p word) where
+  pub marked_colour : paint.marks.marked p.label ≡ true → there.head.colour ≡ colours.marked
+  marked_colour e = there.colour ∙ (coloured paint p true e ∙ sym (ap (λ (z : Colours). z.marked) means))
+
+  pub unmarked_colour : paint.marks.marked p.label ≡ false → there.head.colour ≡ colours.unmarked
+  unmarked_colour e = there.colour ∙ (coloured paint p false e ∙ sym (ap (λ (z : Colours). z.unmarked) means))

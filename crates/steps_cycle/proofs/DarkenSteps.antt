@@ -1,5 +1,5 @@
 -- A block is darkened.
-use Rattle.std.proofs.Common.{◌≡◌, ◌≢◌, ℕ, ◌+◌, ◌*◌, ◌<◌, ◌≤◌, ◌⊎◌, ◌==◌, ◌&&◌, ◌||◌, not, Bool, true, false, cond, IsTrue, eq-eqb, ne_eqb, List, get_or, set, Option, Some, None, sym, refl, ap, ◌∙◌, subst, inl, inr, ⊎_elim, arith}
+use Rattle.std.proofs.Common.{◌≡◌, ◌≢◌, ℕ, ◌+◌, ◌*◌, ◌≤◌, ◌==◌, ◌&&◌, ◌||◌, not, Bool, true, false, cond, IsTrue, eq-eqb, ne_eqb, List, get_or, set, Option, None, sym, refl, ap, ◌∙◌, subst, ⊎_elim}
 use mathlib.Core.Logic.{dite}
 use native.Mathlib.Decide.{ℕ_discrete}
 use mathlib.Core.Option.{some}
@@ -7,7 +7,6 @@ use lib.ListN.{get_elem?}
 use prog.Atomic.{either}
 use Rattle.atomic_table.specs.Table.{keeps}
 use Rattle.heap_model.specs.declared.entry.Entry.{Entry}
-use Rattle.heap_model.specs.declared.label.Label.{Label}
 use Rattle.heap_model.specs.declared.state.State as model
 use Rattle.heap_model.specs.Graph.{same_label}
 use Rattle.heap_model.specs.Reach.{IsClosedGraph}
@@ -26,23 +25,22 @@ use Rattle.cycle_laws.proofs.Cycling.{darkening_steps}
 use Rattle.heap_rule.specs.declared.config.Config.{Config}
 use Rattle.heap_rule.specs.declared.phase.Kind.{Kind}
 use Rattle.heap_rule.specs.declared.phase.Kind.TheVariants.{Run, Promote, Reset, Roots, Mark, Rounds, Decide, Queued, Clean, Lasts, Sweep, Answer}
-use Rattle.heap_rule.specs.declared.phase.Stage.TheVariants.{In}
 use Rattle.heap_rule.specs.declared.view.DomainView.{DomainView}
 use Rattle.heap_rule.specs.declared.view.Share.{Share}
 use Rattle.heap_rule.specs.Limits.{sizes_in}
 use Rattle.heap_rule.specs.Layout.{before_heap, at_address}
-use Rattle.heap_rule.specs.Places.{IsHead, IsHeadOf, Place, colour_in, head_of}
-use Rattle.heap_rule.specs.Cycles.{Cycling, Facts, HasNoCycle, IsCollecting, IsPlain, cycle_of}
-use Rattle.heap_rule.specs.Raw.{CanLeave, Closes, Leaves, MayStep}
+use Rattle.heap_rule.specs.Places.{IsHeadOf, Place, colour_in, head_of}
+use Rattle.heap_rule.specs.Cycles.{Cycling, Facts, HasNoCycle, IsCollecting, cycle_of}
+use Rattle.heap_rule.specs.Raw.{MayStep}
 use Rattle.heap_rule.specs.Rule.{Rule, state_of}
 use Rattle.heap_rule.specs.Views.{one}
 use Rattle.heap_rule.proofs.Keeps.{Words, mine, my_good, unmoved}
 use Rattle.steps_cycle.specs.Looks.{with_share}
 use Rattle.steps_cycle.specs.Marking.{DarkenMay, DarkenTold, IsDarkening, Reason, moved_on, owes_on}
-use Rattle.steps_cycle.proofs.Colouring.{BareHead, Recolourable, bare_head, coloured, unmarked_by, words_same}
-use Rattle.steps_cycle.proofs.GlimpseSteps.{goes_on, share_closes}
+use Rattle.steps_cycle.proofs.Colouring.{BareHead, Recolourable, bare_head, unmarked_by, words_same}
+use Rattle.steps_cycle.proofs.GlimpseSteps.{goes_on}
 use Rattle.steps_cycle.proofs.Layouts.{label_there, owner_of_place}
-use Rattle.steps_cycle.proofs.Learning.{Learns, at_other, at_same, bare, held, kind_here, known, knowing_on, lies_old, waits_in}
+use Rattle.steps_cycle.proofs.Learning.{at_other, at_same, bare, held, kind_here, known, lies_old, waits_in}
 use Rattle.steps_cycle.proofs.Recolouring.{Recolours, known_still, recolours}
 use Rattle.steps_cycle.proofs.Targets.{Target, moved_knows, target}
 
@@ -132,11 +130,11 @@ module _ (k : Config) (s : Words) (r : Rule k s) (id : ℕ) (hist : List Entry) 
 
   -- the head that was found is that of an unmarked block
   module _ (won : at_address k s.words a ≡ old) where
-    same : Recolourable p.shape may.shape there.head.colour may.head.colour there.head.scanned may.head.scanned
-    same = words_same p.shape may.shape (at_address k s.words a) there.head (subst (IsHeadOf may.shape) (sym won) may.head)
+    same : Recolourable p.shape may.unmarked.shape there.head.colour may.unmarked.head.colour there.head.scanned may.unmarked.head.scanned
+    same = words_same p.shape may.unmarked.shape (at_address k s.words a) there.head (subst (IsHeadOf may.unmarked.shape) (sym won) may.unmarked.head)
 
     unmarked : m.marked p.label ≡ false
-    unmarked = unmarked_by c.paint.colours (m.marked p.label) r.whole.cycle.meanings (sym there.colour ∙ (same.colour ∙ (may.unmarked ∙ ap (λ (z : Colours). z.unmarked) means)))
+    unmarked = unmarked_by c.paint.colours (m.marked p.label) r.whole.cycle.meanings (sym there.colour ∙ (same.colour ∙ (may.unmarked.colour ∙ ap (λ (z : Colours). z.unmarked) means)))
 
     closed : IsClosedGraph now.graph (roots now (queues now))
     closed = let wf : IsWellFormed now = wf_after (opening (sizes_in k)) r.account.log (wf_opening (sizes_in k)) in closed_graph now wf (queues now) (queues_named now.graph now.domains (λ j. (wf.domains j).queue))
@@ -191,12 +189,12 @@ module _ (k : Config) (s : Words) (r : Rule k s) (id : ℕ) (hist : List Entry) 
     abbrev share' : Share
     share' = record (moved_on reason a x.seen.share) { owes = owes_on may.kind x.seen.share.owes }
 
-    recoloured : Recolours k s r id hist x at collecting a p new m' (owing_on may.kind c.shares.owes d) (held share')
+    recoloured : Recolours k s r id hist x at collecting a p new m' (owing_on may.kind c.shares.owes d) c.shares.seen (held share')
     recoloured = let cs : Colours = c.paint.colours in record {
       lives = aim.lives;
       here = record {
         scanned = false;
-        packs = may.marks ∙ (ap (λ (z : Colours). head_word (head_of None may.shape z.marked false)) means ∙ (ap head_word (sym (same.again cs.marked false))
+        packs = may.marks ∙ (ap (λ (z : Colours). head_word (head_of None may.unmarked.shape z.marked false)) means ∙ (ap head_word (sym (same.again cs.marked false))
             ∙ (sym (ap (λ (b : Bool). head_word (head_of None p.shape (cond b cs.marked cs.unmarked) false)) is_dark)
             ∙ sym (ap (λ (o : Option ℕ). head_word (head_of o p.shape (colour_in (record c.paint { marks = m' }) p.label) false)) (bare k s r id hist x at collecting a p aim.lives).no_forward))));
         tells = λ _. sym (ap (λ (b : Bool). not b && m.scanned p.label) (same_label_refl p.label));
@@ -205,40 +203,35 @@ module _ (k : Config) (s : Words) (r : Rule k s) (id : ℕ) (hist : List Entry) 
       marked = is_dark;
       more = darkened_more m p.label;
       facts = subst (λ (kind : Kind). Facts kind k now r.account.live r.account.tenancy (c' may.kind) words') (sym kind_is) (dark_facts may.kind may.darkening (subst (λ (kind : Kind). Facts kind k now r.account.live r.account.tenancy c s.words) kind_is r.whole.cycle.facts));
-      others = owing_others may.kind c.shares.owes d;
+      others = λ z other. (owing_others may.kind c.shares.owes d z other, refl);
       owes_is = owing_own may.kind c.shares.owes d x.seen.share.owes ((my_good k s r id hist x at).sharing.telling.owes (waits_in k s r id hist x at may.kind may.stage));
-      sights = refl;
+      seen_is = (my_good k s r id hist x at).sharing.telling.seen (waits_in k s r id hist x at may.kind may.stage);
       knows = moved_knows k s r id hist x at collecting a p aim.lives m' words' is_dark (known_still k s r id hist x at collecting a p new m' aim.lives is_dark (darkened_more m p.label)) reason may.reason_is (owes_on may.kind x.seen.share.owes);
     }
 
     won_rule : Rule k record { words = words'; homes = s.homes; views = set s.views id (one k hist (with_share x share')) }
-    won_rule = recolours k s r id hist x at collecting a p new m' (owing_on may.kind c.shares.owes d) (held share') recoloured
+    won_rule = recolours k s r id hist x at collecting a p new m' (owing_on may.kind c.shares.owes d) c.shares.seen (held share') recoloured
 
 pub darken_may : (k : Config) (x : DomainView) (word a old new : ℕ) (reason : Reason) → word ≡ before_heap k + a → DarkenMay x a old new reason → MayStep k x word (λ n. either (n == old) new n) (DarkenTold old a reason)
 darken_may k x word a old new reason place may fits slots id hist s r _ at _ =
     let found : ℕ = get_or s.words word 0 in
     let found_is : found ≡ at_address k s.words a = ap (λ (n : ℕ). get_or s.words n 0) place in
     dite (ℕ_discrete found old)
-        (λ won.
-            let y : DomainView = with_share x (record (moved_on reason a x.seen.share) { owes = owes_on may.kind x.seen.share.owes }) in
-            let becomes : new ≡ either (found == old) new found = sym (ap (λ (b : Bool). either b new found) (eq-eqb found old won)) in (
-              one k hist y,
-              keeps,
-              tt,
-              subst (λ (n : ℕ × ℕ). Rule k record { words = set s.words n.0 n.1; homes = s.homes; views = set s.views id (one k hist y) }) (λ i. (sym place i, becomes i)) (won_rule k s r id hist x at a old new reason may (sym found_is ∙ won)),
-              (record { kind = may.kind; stage = may.stage; won = λ _. refl; lost = λ e. absurd (e won) }, refl),
-            ))
-        (λ lost.
-            let y : DomainView = with_share x (moved_on reason a x.seen.share) in
-            let stays : found ≡ either (found == old) new found = sym (ap (λ (b : Bool). either b new found) (ne_eqb found old lost)) in (
-              one k hist y,
-              keeps,
-              tt,
-              subst (λ (n : ℕ). Rule k record { words = set s.words word n; homes = s.homes; views = set s.views id (one k hist y) }) stays (unmoved k s word (set s.views id (one k hist y)) (lost_rule k s r id hist x at a old new reason may (λ e. lost (found_is ∙ e)))),
-              (record { kind = may.kind; stage = may.stage; won = λ e. absurd (lost e); lost = λ _. refl }, refl),
-            ))
-
-pub darken_closes : (k : Config) (x : DomainView) (found a old : ℕ) (reason : Reason) → Closes k x found (DarkenTold old a reason) CanLeave Leaves
-darken_closes k x found a old reason = share_closes k x found (DarkenTold old a reason) (λ y t. dite (ℕ_discrete found old)
-    (λ e. (record (moved_on reason a x.seen.share) { owes = owes_on t.kind x.seen.share.owes }, t.won e))
-    (λ e. (moved_on reason a x.seen.share, t.lost e)))
+    (λ won.
+    let y : DomainView = with_share x (record (moved_on reason a x.seen.share) { owes = owes_on may.kind x.seen.share.owes }) in
+    let becomes : new ≡ either (found == old) new found = sym (ap (λ (b : Bool). either b new found) (eq-eqb found old won)) in (
+      one k hist y,
+      keeps,
+      tt,
+      subst (λ (n : ℕ × ℕ). Rule k record { words = set s.words n.0 n.1; homes = s.homes; views = set s.views id (one k hist y) }) (λ i. (sym place i, becomes i)) (won_rule k s r id hist x at a old new reason may (sym found_is ∙ won)),
+      (record { kind = may.kind; stage = may.stage; won = λ _. refl; lost = λ e. absurd (e won) }, refl),
+    ))
+    (λ lost.
+    let y : DomainView = with_share x (moved_on reason a x.seen.share) in
+    let stays : found ≡ either (found == old) new found = sym (ap (λ (b : Bool). either b new found) (ne_eqb found old lost)) in (
+      one k hist y,
+      keeps,
+      tt,
+      subst (λ (n : ℕ). Rule k record { words = set s.words word n; homes = s.homes; views = set s.views id (one k hist y) }) stays (unmoved k s word (set s.views id (one k hist y)) (lost_rule k s r id hist x at a old new reason may (λ e. lost (found_is ∙ e)))),
+      (record { kind = may.kind; stage = may.stage; won = λ e. absurd (lost e); lost = λ _. refl }, refl),
+    ))

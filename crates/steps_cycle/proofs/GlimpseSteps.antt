@@ -1,31 +1,26 @@
 -- A load of the head of a block that there is a reason to mark keeps the rule.
-use Rattle.std.proofs.Common.{◌≡◌, ◌≢◌, ℕ, ◌+◌, ◌⊎◌, Bool, true, false, cond, IsTrue, List, get_or, set, Some, Option, sym, refl, ap, ◌∙◌, subst, inl, inr, ⊎_elim}
+use Rattle.std.proofs.Common.{◌≡◌, ℕ, ◌+◌, true, false, IsTrue, List, get_or, set, Some, sym, refl, subst, inl, inr, ⊎_elim}
 use mathlib.Core.Option.{some}
 use lib.ListN.{get_elem?}
 use Rattle.atomic_table.specs.Table.{keeps}
 use Rattle.heap_model.specs.declared.entry.Entry.{Entry}
-use Rattle.heap_words.specs.declared.colours.Colours.{Colours}
 use Rattle.heap_rule.specs.declared.config.Config.{Config}
 use Rattle.heap_rule.specs.declared.view.DomainView.{DomainView}
 use Rattle.heap_rule.specs.declared.view.Glimpse.{Glimpse}
 use Rattle.heap_rule.specs.declared.view.Share.{Share}
 use Rattle.heap_rule.specs.Layout.{before_heap, at_address}
-use Rattle.heap_rule.specs.Places.{IsHeadOf, Place, colour_in}
+use Rattle.heap_rule.specs.Places.{Place}
 use Rattle.heap_rule.specs.Cycles.{Cycling, IsCollecting}
-use Rattle.heap_rule.specs.Raw.{CanLeave, Closes, Leaves, MayStep}
+use Rattle.heap_rule.specs.Raw.{MayStep}
 use Rattle.heap_rule.specs.Rule.{Rule}
 use Rattle.heap_rule.specs.Views.{one}
-use Rattle.heap_rule.proofs.Closes.{front_same, leaves_closes}
 use Rattle.heap_rule.proofs.Keeps.{Words, my_good, unmoved}
 use Rattle.steps_cycle.specs.Looks.{with_share}
 use Rattle.steps_cycle.specs.Marking.{GlimpseMay, GlimpseTold, Reason, Warrants, moved_on}
-use Rattle.steps_cycle.proofs.Colouring.{BareHead, bare_head, coloured}
+use Rattle.steps_cycle.proofs.Colouring.{BareHead, bare_head, marked_colour, unmarked_colour}
 use Rattle.steps_cycle.proofs.Learning.{bare, held, knows_more, known}
 use Rattle.steps_cycle.proofs.Targets.{Target, moved_knows, target}
-
-pub either_bool : (b : Bool) → (b ≡ true) ⊎ (b ≡ false)
-either_bool true = inl refl
-either_bool false = inr refl
+use Rattle.std.proofs.lemmas.Bool.{cases_Bool}
 
 glimpse_same : (g h : Glimpse) → Some g ≡ Some h → g ≡ h
 glimpse_same g h e = cc
@@ -63,7 +58,7 @@ module _ (k : Config) (s : Words) (r : Rule k s) (id : ℕ) (hist : List Entry) 
         (λ (e : c.paint.marks.marked aim.place.label ≡ true). (
           with_share x (moved_on reason a sh),
           goes_on may.collects reason a may.reason_is aim.place aim.lives e,
-          record { colours = may.colours; known = may.known; shape = aim.place.shape; head = there.head; told = inr (there.colour ∙ coloured c.paint aim.place true e ∙ sym (ap (λ (z : Colours). z.marked) means), refl) },
+          record { colours = may.colours; known = may.known; told = inr (record { shape = aim.place.shape; head = there.head; colour = marked_colour c.paint aim.place found may.colours means there e }, refl) },
         ))
         (λ (e : c.paint.marks.marked aim.place.label ≡ false).
         let n = known k s r id hist x at in
@@ -77,18 +72,11 @@ module _ (k : Config) (s : Words) (r : Rule k s) (id : ℕ) (hist : List Entry) 
             rooted = n.rooted;
             marked = n.marked;
           },
-          record { colours = may.colours; known = may.known; shape = aim.place.shape; head = there.head; told = inl (there.colour ∙ coloured c.paint aim.place false e ∙ sym (ap (λ (z : Colours). z.unmarked) means), refl) },
+          record { colours = may.colours; known = may.known; told = inl (record { shape = aim.place.shape; head = there.head; colour = unmarked_colour c.paint aim.place found may.colours means there e }, refl) },
         ))
-        (either_bool (c.paint.marks.marked aim.place.label))
+        (cases_Bool (c.paint.marks.marked aim.place.label))
 
 pub glimpse_may : (k : Config) (x : DomainView) (word a : ℕ) (reason : Reason) → word ≡ before_heap k + a → GlimpseMay x a reason → MayStep k x word (λ n. n) (GlimpseTold a reason)
 glimpse_may k x word a reason place may fits slots id hist s r _ at _ =
     let o = glimpses k s r id hist x at a reason may in
     (one k hist o.0, keeps, tt, unmoved k s word (set s.views id (one k hist o.0)) o.1, (subst (λ (n : ℕ). GlimpseTold a reason x (get_or s.words n 0) o.0) (sym place) o.2, refl))
-
--- the token's own data stays
-pub share_closes : (k : Config) (x : DomainView) (found : ℕ) (tells : DomainView → ℕ → DomainView → Type 0) → ((y : DomainView) → tells x found y → (share : Share) × (y ≡ with_share x share)) → Closes k x found tells CanLeave Leaves
-share_closes k x found tells says = leaves_closes k x found tells (λ y told. ap (λ (z : DomainView). z.own) (says y told).1) (λ y told. front_same x y (ap (λ (z : DomainView). z.seen.front) (says y told).1))
-
-pub glimpse_closes : (k : Config) (x : DomainView) (found a : ℕ) (reason : Reason) → Closes k x found (GlimpseTold a reason) CanLeave Leaves
-glimpse_closes k x found a reason = share_closes k x found (GlimpseTold a reason) (λ y t. ⊎_elim (λ u. (record x.seen.share { glimpse = Some (record { address = a; word = found }) }, u.1)) (λ u. (moved_on reason a x.seen.share, u.1)) t.told)

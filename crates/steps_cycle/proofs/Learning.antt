@@ -1,5 +1,5 @@
 -- A step of a collection changes what its domain knows of the phase, and perhaps what is marked, what was changed and how far all are.
-use Rattle.std.proofs.Common.{◌≡◌, ◌≢◌, ℕ, ◌+◌, ◌*◌, ◌<◌, ◌≤◌, ◌⊎◌, ◌==◌, Bool, true, false, true≢false, cond, IsTrue, eq-eqb, ne_eqb, List, get_or, set, Option, Some, None, sym, refl, ap, ◌∙◌, subst, inl, inr, ⊎_elim, arith}
+use Rattle.std.proofs.Common.{◌≡◌, ◌≢◌, ℕ, ◌<◌, ◌⊎◌, ◌==◌, Bool, false, true≢false, cond, IsTrue, eq-eqb, ne_eqb, List, get_or, set, Option, Some, None, sym, refl, ap, ◌∙◌, subst, inl, inr, ⊎_elim, arith}
 use Rattle.std.specs.List.{list_any}
 use mathlib.Core.Option.{some}
 use lib.ListN.{get_elem?}
@@ -24,9 +24,9 @@ use Rattle.heap_rule.specs.Changes.{value_at}
 use Rattle.heap_rule.specs.Layout.{at_address, armed, colours, changed_word, live_blocks, live_words}
 use Rattle.heap_rule.specs.Phases.{AtStage, IsEven, Pause, Staged, flag}
 use Rattle.heap_rule.specs.Places.{IsBare, IsOldAt, Live, Place}
-use Rattle.heap_rule.specs.Copies.{Promoting, Resetting}
+use Rattle.heap_rule.specs.Copies.{Promoting}
 use Rattle.heap_rule.specs.Pools.{Holder, IsBefore, IsLeading, blocks_of, owned, place_in, Resting}
-use Rattle.heap_rule.specs.Cycles.{Adds, Cycled, Cycling, Facts, HasNoCycle, IsCollecting, IsIdle, IsMarkedAt, Knowing, KnowsBlocks, Leading, Scans, Tallied, Telling, Told, seen_by, Scanned}
+use Rattle.heap_rule.specs.Cycles.{Cycled, Cycling, Facts, HasNoCycle, IsCollecting, IsIdle, IsMarkedAt, Knowing, Leading, Scans, Told, seen_by, Scanned}
 use Rattle.heap_rule.specs.Rule.{Account, Good, Rule, Sharing, state_of}
 use Rattle.heap_rule.specs.Views.{one}
 use Rattle.heap_rule.proofs.Controls.{Move, Untouched, counts_untouched, heap_untouched, hunter_untouched, low_untouched, moved_to, no_move, reserved_untouched, resting_untouched, turns, untouched_same}
@@ -219,6 +219,7 @@ module _ (k : Config) (s : Words) (r : Rule k s) (id : ℕ) (hist : List Entry) 
           all = λ q c slot p is inside low lives. absurd (none_before q slot low);
           words = refl;
         };
+        held = λ q e is low. absurd (let l : q < 0 = low in omega arith);
       }
 
   -- what a domain knows of blocks it knows where more is marked, and where the heads of the others stay
@@ -235,6 +236,7 @@ module _ (k : Config) (s : Words) (r : Rule k s) (id : ℕ) (hist : List Entry) 
     rooted = λ i b q is f lives. more q.label (n.rooted i b q is f lives);
     marked = λ a is. let t = n.marked a is in (t.0, t.1, more t.0.label t.2);
     tally = n.tally;
+    held = n.held;
   }
 
   module _ (collecting : IsCollecting x.seen.stage) where
@@ -326,6 +328,7 @@ module _ (k : Config) (s : Words) (r : Rule k s) (id : ℕ) (hist : List Entry) 
         found_words = λ v e. let f = l.found_words v e in (f.0, o.words_same ∙ f.1);
         rotated = l.rotated;
         turned = l.turned;
+        pass = l.pass;
       }
 
       pub sharing' : Sharing k all' words' d x.own.registers x.seen.stage (holding sh h)
@@ -340,16 +343,20 @@ module _ (k : Config) (s : Words) (r : Rule k s) (id : ℕ) (hist : List Entry) 
               forgotten = λ up. absurd (true≢false (sym up ∙ waits));
               colours = g.sharing.telling.colours;
             };
-            leading = record { changed = l.changed; found_blocks = l.found_blocks; found_words = l.found_words; rotated = l.rotated; turned = l.turned };
-            knows = inr (collecting, record {
-              glimpse = o.knows.glimpse;
-              scan = o.knows.scan;
-              walked = o.knows.walked;
-              tenure = o.knows.tenure;
-              rooted = o.knows.rooted;
-              marked = o.knows.marked;
-              tally = record { once = y.once; own = y.own; lives = y.lives; all = y.all; words = y.words };
-            });
+            leading = record { changed = l.changed; found_blocks = l.found_blocks; found_words = l.found_words; rotated = l.rotated; turned = l.turned; pass = l.pass };
+            knows = inr (
+              collecting,
+              record {
+                glimpse = o.knows.glimpse;
+                scan = o.knows.scan;
+                walked = o.knows.walked;
+                tenure = o.knows.tenure;
+                rooted = o.knows.rooted;
+                marked = o.knows.marked;
+                tally = record { once = y.once; own = y.own; lives = y.lives; all = y.all; words = y.words };
+                held = known.held;
+              },
+            );
             adds = record { blocks = g.sharing.adds.blocks; words = g.sharing.adds.words; own = g.sharing.adds.own };
           }
 

@@ -1,3 +1,4 @@
+pub mod Plain
 pub mod Colouring
 pub mod Layouts
 pub mod Learning
@@ -8,3 +9,4 @@ pub mod GlimpseSteps
 pub mod DarkenSteps
 pub mod WalkSteps
 pub mod ScanSteps
+pub mod ChangedSteps

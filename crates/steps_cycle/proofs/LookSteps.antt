@@ -40,7 +40,7 @@ module _ (k : Config) (s : Words) (r : Rule k s) (id : ℕ) (hist : List Entry) 
       forgotten = λ up other. absurd (first x.seen.stage refl may up other);
       colours = λ known e. let same : Some c.paint.colours ≡ Some known = e in cc;
     };
-    leading = record { changed = sh.leading.changed; found_blocks = sh.leading.found_blocks; found_words = sh.leading.found_words; rotated = sh.leading.rotated; turned = sh.leading.turned };
+    leading = record { changed = sh.leading.changed; found_blocks = sh.leading.found_blocks; found_words = sh.leading.found_words; rotated = sh.leading.rotated; turned = sh.leading.turned; pass = sh.leading.pass };
     knows = ⊎_elim
         (λ (q : IsIdle x.seen.share). inl (ap (λ (z : Share). record z { colours = Some c.paint.colours }) q))
         (λ (n : IsCollecting x.seen.stage × Knowing k r.account.live r.account.tenancy.holder (state_of k r.account.log).graph c.paint.marks s.words x.own.number x.own.registers x.seen.share). inr (
@@ -53,6 +53,7 @@ module _ (k : Config) (s : Words) (r : Rule k s) (id : ℕ) (hist : List Entry) 
             rooted = n.1.rooted;
             marked = n.1.marked;
             tally = record { once = n.1.tally.once; own = n.1.tally.own; lives = n.1.tally.lives; all = n.1.tally.all; words = n.1.tally.words };
+            held = n.1.held;
           },
         ))
         sh.knows;

@@ -1,5 +1,5 @@
 -- The head of a live block gets another colour, or the scanned mark.
-use Rattle.std.proofs.Common.{◌≡◌, ◌≢◌, ℕ, ◌+◌, ◌*◌, ◌<◌, ◌≤◌, ◌⊎◌, Bool, false, cond, IsTrue, List, length, get_or, set, Some, Option, unwrap_or, sym, refl, ap, ◌∙◌, subst, inl, inr, ⊎_elim, arith, length-set, get_or-set_same, get_or-set_other, None}
+use Rattle.std.proofs.Common.{◌≡◌, ◌≢◌, ℕ, ◌+◌, ◌*◌, ◌<◌, ◌≤◌, ◌⊎◌, Bool, cond, IsTrue, List, length, get_or, set, Some, Option, unwrap_or, sym, refl, ap, ◌∙◌, subst, inl, inr, ⊎_elim, arith, length-set, get_or-set_same, get_or-set_other, None}
 use mathlib.Core.Logic.{dite}
 use native.Mathlib.Decide.{ℕ_discrete}
 use mathlib.Core.Option.{some}
@@ -10,25 +10,21 @@ use Rattle.heap_words.specs.Heads.{head_word}
 use Rattle.heap_words.specs.declared.colours.Colours.{Colours}
 use Rattle.cycle_laws.specs.Marks.{Marks}
 use Rattle.heap_rule.specs.declared.config.Config.{Config}
-use Rattle.heap_rule.specs.declared.phase.Stage.{Stage}
-use Rattle.heap_rule.specs.declared.view.Hunt.{Hunt}
 use Rattle.heap_rule.specs.declared.view.Hunt.TheVariants.{Rests}
 use Rattle.heap_rule.specs.declared.view.DomainView.{DomainView}
-use Rattle.heap_rule.specs.Layout.{before_heap, heap_words, at_address, listed, cursor}
+use Rattle.heap_rule.specs.Layout.{before_heap, heap_words, at_address}
 use Rattle.heap_rule.specs.Places.{Place, Paint, extent, head_of, Found, IsHead, IsOldWord, colour_in}
-use Rattle.heap_rule.specs.Phases.{AtStage, Staged, last_note}
-use Rattle.heap_rule.specs.Pools.{Grid, Hunter, Hunts, DrawsFor, IsSpare, Latest, Takes, limit_of, place_in}
+use Rattle.heap_rule.specs.Pools.{Grid, Hunter, Hunts, DrawsFor, Latest, limit_of, place_in}
 use Rattle.heap_rule.specs.Cycles.{Cycling, IsCollecting, Knowing, Facts, seen_by}
-use Rattle.heap_rule.specs.Rule.{AllFound, Area, Good, Making, Rule, state_of}
+use Rattle.heap_rule.specs.Rule.{AllFound, Area, Making, Rule, state_of}
 use Rattle.heap_rule.specs.Views.{one}
 use Rattle.heap_rule.proofs.HeadLemmas.{head_at}
 use Rattle.heap_rule.proofs.Beside.{found_beside, making_beside, live_word_far}
 use Rattle.heap_rule.proofs.Lots.{head_full, head_some}
-use Rattle.heap_rule.proofs.PauseFacts.{agree}
 use Rattle.heap_rule.proofs.Values.{extent_large}
 use Rattle.heap_rule.proofs.Keeps.{Words, mine, my_good, more_same, remakes, knows_front, control_set, controls_kept, opened_words, owes_as, resting_as, resting_lists, room_words, hunter_as}
 use Rattle.steps_cycle.specs.Looks.{with_share}
-use Rattle.steps_cycle.proofs.Learning.{Held, Learns, cycle', held, holding, sharing', sharings', bare, rests_here, knowing_on, known, Knows, waits, lies_old}
+use Rattle.steps_cycle.proofs.Learning.{Held, Learns, cycle', holding, sharing', sharings', bare, rests_here, knowing_on, known, Knows, lies_old}
 use Rattle.cycle_laws.proofs.Tracing.{More}
 
 module _ (k : Config) (s : Words) (r : Rule k s) (id : ℕ) (hist : List Entry) (x : DomainView) (at : get_elem? s.views id ≡ some (one k hist x)) (collecting : IsCollecting x.seen.stage) where
@@ -49,19 +45,19 @@ module _ (k : Config) (s : Words) (r : Rule k s) (id : ℕ) (hist : List Entry) 
     known_still more = knowing_on k s r id hist x at m' (set s.words (before_heap k + a) new) heads_stay more x.own.number x.own.registers x.seen.share (known k s r id hist x at)
 
   -- What it owes that the head of the block at an address is written
-  pub record Recolours (a : ℕ) (p : Place) (new : ℕ) (m' : Marks) (owes : ℕ → Bool) (h : Held) : Type 0 where
+  pub record Recolours (a : ℕ) (p : Place) (new : ℕ) (m' : Marks) (owes : ℕ → Bool) (seen : ℕ → ℕ → Bool) (h : Held) : Type 0 where
     pub lives : r.account.live a ≡ Some p
     pub here : IsHead (record paint { marks = m' }) p new
     pub elsewhere : (l : Label) → p.label ≢ l → (m'.marked l ≡ paint.marks.marked l) × (m'.scanned l ≡ paint.marks.scanned l)
     pub marked : IsTrue (m'.marked p.label)
     pub more : More paint.marks.marked m'.marked
-    pub facts : Facts r.account.cycling.kind k (state_of k r.account.log) r.account.live r.account.tenancy (record r.account.cycling { paint = record paint { marks = m' }; shares = record r.account.cycling.shares { owes = owes } }) (set s.words (before_heap k + a) new)
-    pub others : (z : ℕ) → z ≢ x.own.number → owes z ≡ r.account.cycling.shares.owes z
+    pub facts : Facts r.account.cycling.kind k (state_of k r.account.log) r.account.live r.account.tenancy (record r.account.cycling { paint = record paint { marks = m' }; shares = record r.account.cycling.shares { owes = owes; seen = seen } }) (set s.words (before_heap k + a) new)
+    pub others : (z : ℕ) → z ≢ x.own.number → (owes z ≡ r.account.cycling.shares.owes z) × (seen z ≡ r.account.cycling.shares.seen z)
     pub owes_is : owes x.own.number ≡ h.owes
-    pub sights : seen_by x.seen.share.sights ≡ seen_by h.sights
+    pub seen_is : seen x.own.number ≡ seen_by h.sights
     pub knows : Knows k s r id hist x at collecting m' (set s.words (before_heap k + a) new) h
 
-  module _ (a : ℕ) (p : Place) (new : ℕ) (m' : Marks) (owes : ℕ → Bool) (h : Held) (o : Recolours a p new m' owes h) where
+  module _ (a : ℕ) (p : Place) (new : ℕ) (m' : Marks) (owes : ℕ → Bool) (seen : ℕ → ℕ → Bool) (h : Held) (o : Recolours a p new m' owes seen h) where
     abbrev words' : List ℕ
     words' = set s.words (before_heap k + a) new
 
@@ -69,7 +65,7 @@ module _ (k : Config) (s : Words) (r : Rule k s) (id : ℕ) (hist : List Entry) 
     paint' = record paint { marks = m' }
 
     abbrev c' : Cycling
-    c' = record r.account.cycling { paint = paint'; shares = record r.account.cycling.shares { owes = owes } }
+    c' = record r.account.cycling { paint = paint'; shares = record r.account.cycling.shares { owes = owes; seen = seen } }
 
     low : 1 ≤ a
     low = (r.whole.placed.fits a p o.lives).low
@@ -86,7 +82,7 @@ module _ (k : Config) (s : Words) (r : Rule k s) (id : ℕ) (hist : List Entry) 
     control : (i : ℕ) → i ≤ before_heap k → get_or words' i 0 ≡ get_or s.words i 0
     control = control_set k s.words a new low
 
-    learnt : Learns k s r id hist x at collecting m' r.account.cycling.shares.changed owes r.account.cycling.shares.seen h words'
+    learnt : Learns k s r id hist x at collecting m' r.account.cycling.shares.changed owes seen h words'
     learnt = record {
       armed_same = control 4 (omega arith);
       colours_same = control 5 (omega arith);
@@ -97,9 +93,9 @@ module _ (k : Config) (s : Words) (r : Rule k s) (id : ℕ) (hist : List Entry) 
       dead = λ b none. stays b (λ same. let clash : ◌≡◌ {A = Option Place} None (Some p) = sym none ∙ (ap r.account.live same ∙ o.lives) in cc);
       heads = heads_stay a p new m' o.lives o.marked;
       more = o.more;
-      others = λ z other. (o.others z other, refl);
+      others = o.others;
       owes_is = o.owes_is;
-      seen_is = (my_good k s r id hist x at).sharing.telling.seen (waits k s r id hist x at collecting) ∙ o.sights;
+      seen_is = o.seen_is;
       knows = o.knows;
     }
 
@@ -147,7 +143,7 @@ module _ (k : Config) (s : Words) (r : Rule k s) (id : ℕ) (hist : List Entry) 
         let differ : p.label ≢ q.label = (λ e. other (sym (r.whole.placed.once a b p q o.lives lives e (bare k s r id hist x at collecting a p o.lives).no_forward (bare k s r id hist x at collecting b q lives).no_forward))) in
         let f = r.whole.found b q lives in
         let g = found_beside k paint r.account.live r.account.live (state_of k r.account.log).graph (state_of k r.account.log).graph s.words a new b q (more_same r.account.live) f f.there (λ z inside e. let n : ℕ = extent p.shape in let m : ℕ = extent q.shape in let i : z < m = inside in let l : 3 ≤ n = extent_large p.shape (r.whole.placed.fits a p o.lives).head in let h : b + z ≡ a = e in
-            ⊎_elim (λ (t : b + m ≤ a). omega arith) (λ (t : a + n ≤ b). omega arith) (r.whole.placed.apart b a q p lives o.lives other)) in record {
+        ⊎_elim (λ (t : b + m ≤ a). omega arith) (λ (t : a + n ≤ b). omega arith) (r.whole.placed.apart b a q p lives o.lives other)) in record {
           node = g.node;
           there = g.there;
           shape = g.shape;
@@ -193,7 +189,7 @@ module _ (k : Config) (s : Words) (r : Rule k s) (id : ℕ) (hist : List Entry) 
         let controls = controls_kept k s r id hist x at words' control in
         let own_making = makes x g.area g.making in
         let own_hunter = hunter' x (rests_here k s r id hist x at collecting x g.staged g.resting) g.hunter in
-        let own_sharing = sharing' k s r id hist x at collecting m' r.account.cycling.shares.changed owes r.account.cycling.shares.seen h words' learnt in
+        let own_sharing = sharing' k s r id hist x at collecting m' r.account.cycling.shares.changed owes seen h words' learnt in
         remakes k s r id hist x at y (record r.account { cycling = c' }) words'
         record {
           wide = length-set s.words (before_heap k + a) new ∙ r.whole.wide;
@@ -219,7 +215,7 @@ module _ (k : Config) (s : Words) (r : Rule k s) (id : ℕ) (hist : List Entry) 
           unused = r.whole.unused;
           opened = opened_words k r.account.live s.words words' controls.listed_young r.whole.opened;
           drawable = controls.drawable;
-          cycle = cycle' k s r id hist x at collecting m' r.account.cycling.shares.changed owes r.account.cycling.shares.seen h words' learnt;
+          cycle = cycle' k s r id hist x at collecting m' r.account.cycling.shares.changed owes seen h words' learnt;
         }
         (knows_front k s r id hist x at y refl (mine k s r id hist x at).front)
         record {
@@ -248,5 +244,5 @@ module _ (k : Config) (s : Words) (r : Rule k s) (id : ℕ) (hist : List Entry) 
           owes = h'.owes;
           rooted = h'.rooted;
           set_back = λ b. controls.set_back z h'.staged b (h'.set_back b);
-          sharing = sharings' k s r id hist x at collecting m' r.account.cycling.shares.changed owes r.account.cycling.shares.seen h words' learnt z other h';
+          sharing = sharings' k s r id hist x at collecting m' r.account.cycling.shares.changed owes seen h words' learnt z other h';
         })

@@ -1,5 +1,5 @@
 -- A marked block is scanned, and the changed word is stored.
-use Rattle.std.proofs.Common.{◌≡◌, ◌≢◌, ℕ, suc, ◌+◌, ◌*◌, ◌<◌, ◌≤◌, ◌⊎◌, ◌||◌, Bool, true, false, cond, IsTrue, List, [], length, get_or, set, slice_get, Some, Option, None, sym, refl, ap, ◌∙◌, subst, inl, inr, ⊎_elim, arith, add-one, length-set, get_or-set_same, get_or-set_other}
+use Rattle.std.proofs.Common.{◌≡◌, ◌≢◌, ℕ, ◌+◌, ◌<◌, ◌≤◌, ◌||◌, Bool, true, false, cond, List, [], length, get_or, set, slice_get, Some, Option, None, sym, refl, ap, ◌∙◌, subst, inl, inr, ⊎_elim, arith, add-one, length-set, get_or-set_same, get_or-set_other, unwrap_or, IsTrue}
 use mathlib.Core.Option.{some}
 use lib.ListN.{get_elem?}
 use Rattle.atomic_table.specs.Table.{keeps}
@@ -10,7 +10,7 @@ use Rattle.heap_model.specs.declared.graph.Value.TheVariants.{Int, Block, Nothin
 use Rattle.heap_model.specs.declared.graph.Node.{Node}
 use Rattle.heap_model.specs.declared.graph.Node.TheVariants.{Plain}
 use Rattle.heap_model.specs.declared.state.State as model
-use Rattle.heap_model.specs.Graph.{Graph, same_label, node_at}
+use Rattle.heap_model.specs.Graph.{Graph, node_at}
 use Rattle.heap_model.specs.Reach.{HoldsRoots}
 use Rattle.heap_model.proofs.Graphs.GraphLemmas.{same_label_refl, same_label-false}
 use Rattle.heap_words.specs.declared.colours.Colours.{Colours}
@@ -27,14 +27,13 @@ use Rattle.heap_rule.specs.declared.phase.Kind.{Kind}
 use Rattle.heap_rule.specs.declared.phase.Kind.TheVariants.{Run, Promote, Reset, Roots, Mark, Rounds, Decide, Queued, Clean, Lasts, Sweep, Answer}
 use Rattle.heap_rule.specs.declared.view.DomainView.{DomainView}
 use Rattle.heap_rule.specs.declared.view.Scan.{Scan}
-use Rattle.heap_rule.specs.declared.view.Scan.TheVariants.{Idle, Reads, Holds}
+use Rattle.heap_rule.specs.declared.view.Scan.TheVariants.{Idle, Reads}
 use Rattle.heap_rule.specs.declared.view.Share.{Share}
 use Rattle.heap_rule.specs.Layout.{before_heap, heap_words, at_address}
 use Rattle.heap_rule.specs.Places.{Debt, HasValue, Live, Place, Stands, WordStands, colour_in, head_of, values_of}
-use Rattle.heap_rule.specs.Cycles.{Cycling, Facts, HasNoCycle, IsCollecting, Knowing, Refers, Scanned, Scans, cycle_of}
-use Rattle.heap_rule.specs.Raw.{CanLeave, Closes, Leaves, MayStep, MayStore}
+use Rattle.heap_rule.specs.Cycles.{Cycling, Facts, HasNoCycle, IsCollecting, Knowing, Refers, Scanned, Scans, cycle_of, seen_by}
+use Rattle.heap_rule.specs.Raw.{MayStep, MayStore}
 use Rattle.heap_rule.specs.Rule.{Rule, state_of}
-use Rattle.heap_rule.specs.Token.{IsAddress}
 use Rattle.heap_rule.specs.Views.{one}
 use Rattle.heap_rule.proofs.Blocks.{some_same}
 use Rattle.heap_rule.proofs.Controls.{Untouched}
@@ -42,12 +41,14 @@ use Rattle.heap_rule.proofs.Keeps.{Words, my_good, unmoved}
 use Rattle.heap_rule.proofs.Lists.{got_there}
 use Rattle.heap_rule.proofs.Values.{address_of, packable, stands_block}
 use Rattle.steps_cycle.specs.Looks.{with_share}
-use Rattle.steps_cycle.specs.Marking.{ChangedMay, ChangedTold, IsChanging, ScanMay, ScanTold, ScannedMay, ScannedTold, scanned_on}
+use Rattle.steps_cycle.specs.Marking.{ChangedMay, ChangedTold, IsChanging, ScanMay, ScanTold, ScannedMay, ScannedTold, scanned_on, Site, Anywhere, Next, LiesAt, sights_on, walk_on}
 use Rattle.steps_cycle.proofs.Colouring.{words_same, Recolourable}
-use Rattle.steps_cycle.proofs.GlimpseSteps.{share_closes}
 use Rattle.steps_cycle.proofs.Learning.{at_other, at_same, bare, held, kind_here, knows_more, known, shifts_more, waits_in}
 use Rattle.steps_cycle.proofs.Recolouring.{Recolours, known_still, recolours}
 use Rattle.heap_rule.specs.declared.phase.Stage.TheVariants.{In}
+use Rattle.steps_cycle.proofs.WalkSteps.{own_place, seen_next, next_is, next_other, next_walked}
+use Rattle.steps_cycle.proofs.Layouts.{labelled}
+use Rattle.heap_rule.specs.Pools.{owned, blocks_of, IsBefore, place_in}
 
 -- the value in the next field was read
 module _ (live : Live) (graph : Graph) (m : Marks) (block done size head : ℕ) (f : Scanned live graph m block done size head) (v : Value) (there : slice_get f.fields done ≡ Some v) where
@@ -112,9 +113,9 @@ module _ (k : Config) (s : Words) (r : Rule k s) (id : ℕ) (hist : List Entry) 
     stands =
         let found = r.whole.found may.block f.place f.lives in
         let plain : node_at now.graph f.place.label ≡ Some (Plain f.tag f.fields) = ⊎_elim
-            (λ (e : node_at now.graph f.place.label ≡ Some (Plain f.tag f.fields)). e)
-            (λ (e : (f.fields ≡ []) × (fields_of (node_at now.graph f.place.label) ≡ [])). absurd (let none : length f.fields ≡ 0 = ap (λ (z : List Value). length z) e.0 in let n : ℕ = length f.fields in let z : n ≡ 0 = none in let y : n ≡ may.size = f.size_is in let h = may.more in omega arith))
-            f.node in
+        (λ (e : node_at now.graph f.place.label ≡ Some (Plain f.tag f.fields)). e)
+        (λ (e : (f.fields ≡ []) × (fields_of (node_at now.graph f.place.label) ≡ [])). absurd (let none : length f.fields ≡ 0 = ap (λ (z : List Value). length z) e.0 in let n : ℕ = length f.fields in let z : n ≡ 0 = none in let y : n ≡ may.size = f.size_is in let h = may.more in omega arith))
+        f.node in
         let is : found.node ≡ Plain f.tag f.fields = some_same found.node (Plain f.tag f.fields) (sym found.there ∙ plain) in
         found.values may.done field.0 (subst (λ (o : Option Debt). HasValue o may.done) (sym (bare k s r id hist x at (in_mark may.stage) may.block f.place f.lives).no_debt) tt) (ap (λ (n : Node). slice_get (values_of n) may.done) is ∙ field.1)
 
@@ -143,7 +144,7 @@ module _ (k : Config) (s : Words) (r : Rule k s) (id : ℕ) (hist : List Entry) 
     }
 
   -- all fields are done
-  module _ (a new : ℕ) (may : ScannedMay x a new) where
+  module _ (a new : ℕ) (site : Site) (may : ScannedMay x a new site) where
     g : Scanned live now.graph m a may.size may.size may.word
     g = subst (Scans live now.graph m) may.scan kn.scan
 
@@ -165,15 +166,54 @@ module _ (k : Config) (s : Words) (r : Rule k s) (id : ℕ) (hist : List Entry) 
         (λ (q : (g.fields ≡ []) × (fields_of (node_at now.graph p.label) ≡ [])). subst (λ (z : List Label). HoldsRoots z m.marked) (sym q.1) (λ l h. cc))
         g.node
 
-    abbrev idle : Share
-    idle = record sh { scan = Idle }
+    waits : c.shares.arrived d ≡ false
+    waits = waits_in k s r id hist x at Mark may.stage
 
-    recoloured : Recolours k s r id hist x at (in_mark may.stage) a p new m' c.shares.owes (held idle)
+    kind_is : c.kind ≡ Mark
+    kind_is = kind_here k s r id hist x at Mark may.stage
+
+    abbrev scanned_words : List ℕ
+    scanned_words = set s.words (before_heap k + a) new
+
+    abbrev done : Share
+    done = record sh { scan = Idle; sights = sights_on site a sh.sights; walk = walk_on site sh.walk }
+
+    abbrev seen_on : (t : Site) → LiesAt t x a → ℕ → ℕ → Bool
+    seen_on Anywhere lies = c.shares.seen
+    seen_on (Next pool class slot) lies = seen_next k s r id hist x at a pool class slot lies
+
+    is_scanned : m'.scanned p.label ≡ true
+    is_scanned = ap (λ (b : Bool). b || m.scanned p.label) (same_label_refl p.label)
+
+    -- where the place is the next of the walk, no block is grey there any more
+    scanned_facts : (t : Site) (lies : LiesAt t x a) → Facts Mark k now live r.account.tenancy c s.words
+        → Facts Mark k now live r.account.tenancy (record c { paint = record c.paint { marks = m' }; shares = record c.shares { seen = seen_on t lies } }) scanned_words
+    scanned_facts Anywhere lies f = (darkening_steps.mark_scans c.pass k.domains now (cycle_of k live r.account.tenancy.holder c) f.0 p.label fields_marked, f.1)
+    scanned_facts (Next pool class slot) lies f =
+        let c1 : Cycling = record c { paint = record c.paint { marks = m' } } in (
+          darkening_steps.mark_looks c.pass k.domains now (cycle_of k live r.account.tenancy.holder c1) (darkening_steps.mark_scans c.pass k.domains now (cycle_of k live r.account.tenancy.holder c) f.0 p.label fields_marked) d a
+              (own_place k s r id hist x at a pool class slot lies)
+              (λ l e is. let u = labelled k live a l e in let same : p ≡ u.place = ap (λ (o : Option Place). unwrap_or o p) (sym g.lives ∙ u.lives) in
+              subst (λ (z : Label). IsTrue (m'.scanned z)) (ap (λ (z : Place). z.label) same ∙ u.label) is_scanned),
+          f.1,
+        )
+
+    seen_others : (t : Site) (lies : LiesAt t x a) (z : ℕ) → z ≢ d → seen_on t lies z ≡ c.shares.seen z
+    seen_others Anywhere lies z other = refl
+    seen_others (Next pool class slot) lies z other = next_other k s r id hist x at a pool class slot lies z other
+
+    seen_here : (t : Site) (lies : LiesAt t x a) → seen_on t lies d ≡ seen_by (sights_on t a sh.sights)
+    seen_here Anywhere lies = (my_good k s r id hist x at).sharing.telling.seen waits
+    seen_here (Next pool class slot) lies = next_is k s r id hist x at a pool class slot lies waits
+
+    walked_on : (t : Site) (lies : LiesAt t x a) (q e i : ℕ) → r.account.tenancy.holder q ≡ owned d e → i < blocks_of e → IsBefore q i (walk_on t sh.walk) → IsTrue (seen_by (sights_on t a sh.sights) (place_in q e i))
+    walked_on Anywhere lies = kn.walked
+    walked_on (Next pool class slot) lies = next_walked k s r id hist x at a pool class slot lies
+
+    recoloured : Recolours k s r id hist x at (in_mark may.stage) a p new m' c.shares.owes (seen_on site may.lies) (held done)
     recoloured =
         let cs : Colours = c.paint.colours in
         let is : m.marked p.label ≡ true = g.marked in
-        let kind_is : c.kind ≡ Mark = kind_here k s r id hist x at Mark may.stage in
-        let facts : Facts Mark k now live r.account.tenancy c s.words = subst (λ (kind : Kind). Facts kind k now live r.account.tenancy c s.words) kind_is r.whole.cycle.facts in
         let n = known_still k s r id hist x at (in_mark may.stage) a p new m' g.lives g.marked (λ l h. h) in record {
           lives = g.lives;
           here = record {
@@ -181,21 +221,21 @@ module _ (k : Config) (s : Words) (r : Rule k s) (id : ℕ) (hist : List Entry) 
             packs = may.marks ∙ (ap (λ (z : Colours). head_word (head_of None may.shape z.marked true)) means ∙ (ap head_word (sym (same.again cs.marked true))
                 ∙ (sym (ap (λ (b : Bool). head_word (head_of None p.shape (cond b cs.marked cs.unmarked) true)) is)
                 ∙ sym (ap (λ (o : Option ℕ). head_word (head_of o p.shape (colour_in (record c.paint { marks = m' }) p.label) true)) (bare k s r id hist x at (in_mark may.stage) a p g.lives).no_forward))));
-            tells = λ _. sym (ap (λ (b : Bool). b || m.scanned p.label) (same_label_refl p.label));
+            tells = λ _. sym is_scanned;
           };
           elsewhere = λ l differ. (refl, ap (λ (b : Bool). b || m.scanned l) (same_label-false p.label l differ));
           marked = g.marked;
           more = λ l h. h;
-          facts = subst (λ (kind : Kind). Facts kind k now live r.account.tenancy (record c { paint = record c.paint { marks = m' } }) (set s.words (before_heap k + a) new)) (sym kind_is)
-              (darkening_steps.mark_scans c.pass k.domains now (cycle_of k live r.account.tenancy.holder c) facts.0 p.label fields_marked, facts.1);
-          others = λ z other. refl;
-          owes_is = (my_good k s r id hist x at).sharing.telling.owes (waits_in k s r id hist x at Mark may.stage);
-          sights = refl;
-          knows = record { glimpse = n.glimpse; scan = tt; walked = n.walked; tenure = n.tenure; rooted = n.rooted; marked = n.marked };
+          facts = subst (λ (kind : Kind). Facts kind k now live r.account.tenancy (record c { paint = record c.paint { marks = m' }; shares = record c.shares { seen = seen_on site may.lies } }) scanned_words) (sym kind_is)
+              (scanned_facts site may.lies (subst (λ (kind : Kind). Facts kind k now live r.account.tenancy c s.words) kind_is r.whole.cycle.facts));
+          others = λ z other. (refl, seen_others site may.lies z other);
+          owes_is = (my_good k s r id hist x at).sharing.telling.owes waits;
+          seen_is = seen_here site may.lies;
+          knows = record { glimpse = n.glimpse; scan = tt; walked = walked_on site may.lies; tenure = n.tenure; rooted = n.rooted; marked = n.marked };
         }
 
-    scanned_rule : Rule k record { words = set s.words (before_heap k + a) new; homes = s.homes; views = set s.views id (one k hist (with_share x idle)) }
-    scanned_rule = recolours k s r id hist x at (in_mark may.stage) a p new m' c.shares.owes (held idle) recoloured
+    scanned_rule : Rule k record { words = scanned_words; homes = s.homes; views = set s.views id (one k hist (with_share x done)) }
+    scanned_rule = recolours k s r id hist x at (in_mark may.stage) a p new m' c.shares.owes (seen_on site may.lies) (held done) recoloured
 
   -- the changed word
   module _ (may : ChangedMay x) where
@@ -264,21 +304,12 @@ scan_may k x word a place may fits slots id hist s r _ at _ =
     let y : DomainView = with_share x (share' k s r id hist x at a may) in
     (one k hist y, keeps, tt, unmoved k s word (set s.views id (one k hist y)) (scan_rule k s r id hist x at a may), (subst (λ (n : ℕ). ScanTold k x (get_or s.words n 0) y) (sym place) (scan_told k s r id hist x at a may), refl))
 
-pub scan_closes : (k : Config) (x : DomainView) (found : ℕ) → Closes k x found (ScanTold k) CanLeave Leaves
-scan_closes k x found = share_closes k x found (ScanTold k) (λ y t. (record x.seen.share { scan = scanned_on x.seen.share.scan t.value }, t.view))
-
-pub scanned_may : (k : Config) (x : DomainView) (word a new : ℕ) → word ≡ before_heap k + a → ScannedMay x a new → MayStore k x word new ScannedTold
-scanned_may k x word a new place may fits slots id hist s r _ at _ =
-    let y : DomainView = with_share x (record x.seen.share { scan = Idle }) in
-    (one k hist y, keeps, tt, subst (λ (n : ℕ). Rule k record { words = set s.words n new; homes = s.homes; views = set s.views id (one k hist y) }) (sym place) (scanned_rule k s r id hist x at a new may), (refl, refl))
-
-pub scanned_closes : (k : Config) (x : DomainView) (new : ℕ) → Closes k x new ScannedTold CanLeave Leaves
-scanned_closes k x new = share_closes k x new ScannedTold (λ y t. (record x.seen.share { scan = Idle }, t))
+pub scanned_may : (k : Config) (x : DomainView) (word a new : ℕ) (site : Site) → word ≡ before_heap k + a → ScannedMay x a new site → MayStore k x word new (ScannedTold a site)
+scanned_may k x word a new site place may fits slots id hist s r _ at _ =
+    let y : DomainView = with_share x (record x.seen.share { scan = Idle; sights = sights_on site a x.seen.share.sights; walk = walk_on site x.seen.share.walk }) in
+    (one k hist y, keeps, tt, subst (λ (n : ℕ). Rule k record { words = set s.words n new; homes = s.homes; views = set s.views id (one k hist y) }) (sym place) (scanned_rule k s r id hist x at a new site may), (refl, refl))
 
 pub changed_may : (k : Config) (x : DomainView) → ChangedMay x → MayStore k x 3 1 ChangedTold
 changed_may k x may fits slots id hist s r _ at _ =
     let y : DomainView = with_share x (record x.seen.share { owes = false }) in
     (one k hist y, keeps, tt, stored_rule k s r id hist x at may, (refl, refl))
-
-pub changed_closes : (k : Config) (x : DomainView) → Closes k x 1 ChangedTold CanLeave Leaves
-changed_closes k x = share_closes k x 1 ChangedTold (λ y t. (record x.seen.share { owes = false }, t))

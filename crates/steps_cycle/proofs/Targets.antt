@@ -1,8 +1,6 @@
 -- The block that there is a reason to mark, and what the domain knows once it is marked.
-use Rattle.std.proofs.Common.{◌≡◌, ◌≢◌, ℕ, zero, suc, ◌+◌, ◌<◌, ◌⊎◌, ◌==◌, ◌||◌, Bool, true, false, true≢false, IsTrue, eqb-true, ne_eqb, List, [], ◌∷◌, filter_map, flat_map, get_or, slice_get, Option, Some, None, unwrap_or, sym, refl, ap, ◌∙◌, subst, inl, inr, ⊎_elim, arith, add-one}
+use Rattle.std.proofs.Common.{◌≡◌, ℕ, zero, suc, ◌+◌, ◌==◌, ◌||◌, Bool, true, false, IsTrue, eqb-true, List, [], ◌∷◌, filter_map, flat_map, get_or, slice_get, Option, Some, unwrap_or, sym, refl, ap, ◌∙◌, subst, inl, inr, ⊎_elim, add-one}
 use Rattle.std.specs.List.{list_any}
-use mathlib.Core.Logic.{dite}
-use native.Mathlib.Decide.{ℕ_discrete}
 use mathlib.Core.Option.{some}
 use lib.ListN.{get_elem?}
 use Rattle.heap_model.specs.declared.entry.Entry.{Entry}
@@ -13,11 +11,10 @@ use Rattle.heap_model.specs.declared.graph.Node.{Node}
 use Rattle.heap_model.specs.declared.graph.Node.TheVariants.{Plain}
 use Rattle.heap_model.specs.declared.state.DomainState.{DomainState}
 use Rattle.heap_model.specs.declared.state.State as model
-use Rattle.heap_model.specs.Graph.{Graph, same_label, has_label, label_of, node_at}
+use Rattle.heap_model.specs.Graph.{same_label, has_label, label_of, node_at}
 use Rattle.heap_model.specs.Domains.{domain_at, pending_label, queues, roots}
 use Rattle.heap_model.proofs.Graphs.GraphLemmas.{same_label_refl}
 use Rattle.heap_model.proofs.Reach.ReachLemmas.{has-append_left, or_left, or_right}
-use Rattle.heap_words.specs.declared.value.Value as words
 use Rattle.heap_words.specs.declared.value.Value.TheVariants.{Ref}
 use Rattle.cycle_laws.specs.Marks.{Marks, fields_of, MayDarken}
 use Rattle.cycle_laws.specs.Progress.{FieldsDone}
@@ -25,10 +22,8 @@ use Rattle.cycle_laws.proofs.DomainParts.{part_has, listed_at}
 use Rattle.cycle_laws.proofs.Progressing.{fields_next}
 use Rattle.heap_rule.specs.declared.config.Config.{Config}
 use Rattle.heap_rule.specs.declared.view.DomainView.{DomainView}
-use Rattle.heap_rule.specs.declared.view.Glimpse.{Glimpse}
 use Rattle.heap_rule.specs.declared.view.Scan.{Scan}
-use Rattle.heap_rule.specs.declared.view.Scan.TheVariants.{Idle, Reads, Holds}
-use Rattle.heap_rule.specs.declared.view.Share.{Share}
+use Rattle.heap_rule.specs.declared.view.Scan.TheVariants.{Holds}
 use Rattle.heap_rule.specs.Changes.{value_at}
 use Rattle.heap_rule.specs.Places.{Place, Live}
 use Rattle.heap_rule.specs.Cycles.{Cycling, IsCollecting, IsMarkedAt, Knowing, Refers, Scans, seen_by}
@@ -37,7 +32,7 @@ use Rattle.heap_rule.specs.Views.{one}
 use Rattle.heap_rule.proofs.Blocks.{lives_at}
 use Rattle.heap_rule.proofs.Keeps.{Words}
 use Rattle.steps_cycle.specs.Marking.{Reason, Register, Field, Warrants, moved_on, next_scan, scan_on, roots_on}
-use Rattle.steps_cycle.proofs.Learning.{Held, Knows, held, known}
+use Rattle.steps_cycle.proofs.Learning.{Knows, held, known}
 
 -- the label in a register, and in a field, is among those of its list
 held_named : (l : Label) (vs : List Value) (n : ℕ) → get_or vs n Nothing ≡ Block l → IsTrue (has_label (filter_map label_of vs) l)
@@ -86,10 +81,14 @@ module _ (k : Config) (s : Words) (r : Rule k s) (id : ℕ) (hist : List Entry) 
       let n : Refers live now.graph c.paint.marks w.0 w.1 w.2 w.3 a = subst (Scans live now.graph c.paint.marks) w.4 (known k s r id hist x at).scan in record {
         place = n.target;
         lives = n.there;
-        may = inr (inl (n.reads.place.label, n.reads.marked, ⊎_elim
-            (λ (e : node_at now.graph n.reads.place.label ≡ Some (Plain n.reads.tag n.reads.fields)). subst (λ (z : Option Node). IsTrue (has_label (fields_of z) n.target.label)) (sym e) (field_named n.target.label n.reads.fields w.1 n.holds))
-            (λ (e : (n.reads.fields ≡ []) × (fields_of (node_at now.graph n.reads.place.label) ≡ [])). absurd (no_field n.target.label w.1 (subst (λ (z : List Value). slice_get z w.1 ≡ Some (Block n.target.label)) e.0 n.holds)))
-            n.reads.node));
+        may = inr (inl (
+          n.reads.place.label,
+          n.reads.marked,
+          ⊎_elim
+              (λ (e : node_at now.graph n.reads.place.label ≡ Some (Plain n.reads.tag n.reads.fields)). subst (λ (z : Option Node). IsTrue (has_label (fields_of z) n.target.label)) (sym e) (field_named n.target.label n.reads.fields w.1 n.holds))
+              (λ (e : (n.reads.fields ≡ []) × (fields_of (node_at now.graph n.reads.place.label) ≡ [])). absurd (no_field n.target.label w.1 (subst (λ (z : List Value). slice_get z w.1 ≡ Some (Block n.target.label)) e.0 n.holds)))
+              n.reads.node,
+        ));
       }
 
   -- once the block is marked the domain goes on
@@ -103,7 +102,7 @@ module _ (k : Config) (s : Words) (r : Rule k s) (id : ℕ) (hist : List Entry) 
         let t : Refers live now.graph m' block done size head a = subst (Scans live now.graph m') is f in
         let there : p ≡ t.target = same_place t.target t.there in
         let on : FieldsDone m'.marked t.reads.fields (done + 1) = subst (FieldsDone m'.marked t.reads.fields) (sym (add-one done)) (fields_next m'.marked t.reads.fields done t.reads.through
-            (λ y e. let one_field : Some (Block t.target.label) ≡ Some (Block y) = sym t.holds ∙ e in let label : t.target.label ≡ y = cc in subst (λ (z : Label). IsTrue (m'.marked z)) (ap (λ (z : Place). z.label) there ∙ label) marked)) in
+        (λ y e. let one_field : Some (Block t.target.label) ≡ Some (Block y) = sym t.holds ∙ e in let label : t.target.label ≡ y = cc in subst (λ (z : Label). IsTrue (m'.marked z)) (ap (λ (z : Place). z.label) there ∙ label) marked)) in
         subst (λ (z : Scan). Scans live now.graph m' (next_scan z)) (sym is) record { head_is = t.reads.head_is; size_is = t.reads.size_is; place = t.reads.place; lives = t.reads.lives; marked = t.reads.marked; tag = t.reads.tag; fields = t.reads.fields; node = t.reads.node; through = on }
 
     scan_moved : (reason : Reason) → Warrants reason x a → Scans live now.graph m' (scan_on reason x.seen.share.scan)

@@ -1,6 +1,6 @@
 -- A domain walks through its own pools, and looks at the heads there.
-use Rattle.std.proofs.Common.{◌≡◌, ◌≢◌, ℕ, suc, ◌+◌, ◌*◌, ◌<◌, ◌≤◌, ◌⊎◌, ◌==◌, ◌||◌, Bool, true, false, true≢false, cond, IsTrue, eq-eqb, List, [], ◌∷◌, length, get_or, set, Some, Option, None, sym, refl, ap, ◌∙◌, subst, inl, inr, ⊎_elim, arith, lt_of_not-le}
-use Rattle.std.proofs.lemmas.Bool.{le-leb, lt-leb}
+use Rattle.std.proofs.Common.{◌≡◌, ◌≢◌, ℕ, ◌+◌, ◌*◌, ◌<◌, ◌≤◌, ◌⊎◌, ◌==◌, ◌||◌, Bool, true, false, true≢false, cond, IsTrue, eq-eqb, List, [], ◌∷◌, length, get_or, set, Some, Option, None, sym, refl, ap, ◌∙◌, subst, inl, inr, ⊎_elim, arith, lt_of_not-le}
+use Rattle.std.proofs.lemmas.Bool.{le-leb, lt-leb, cases_Bool}
 use mathlib.Core.Logic.{dite}
 use native.Mathlib.Decide.{ℕ_discrete, dec_le}
 use mathlib.Core.Option.{some}
@@ -25,22 +25,20 @@ use Rattle.heap_rule.specs.declared.phase.Kind.{Kind}
 use Rattle.heap_rule.specs.declared.phase.Kind.TheVariants.{Mark}
 use Rattle.heap_rule.specs.declared.view.DomainView.{DomainView}
 use Rattle.heap_rule.specs.declared.view.Share.{Share}
-use Rattle.heap_rule.specs.declared.view.Spot.{Spot}
 use Rattle.heap_rule.specs.declared.view.Tenure.{Tenure}
 use Rattle.heap_rule.specs.Layout.{before_heap, at_address, owner_of}
-use Rattle.heap_rule.specs.Places.{IsBuilt, IsHeadOf, Live, Place}
-use Rattle.heap_rule.specs.Pools.{Holder, IsBefore, blocks_of, drawn, nobody, owned, owner_word, place_in}
+use Rattle.heap_rule.specs.Places.{IsBuilt, Live, Place}
+use Rattle.heap_rule.specs.Pools.{Holder, IsBefore, IsPlace, blocks_of, drawn, nobody, owned, owner_word, place_in}
 use Rattle.heap_rule.specs.Cycles.{Cycling, Facts, IsCollecting, Knowing, Scanned, cycle_of, seen_by}
-use Rattle.heap_rule.specs.Raw.{CanLeave, Closes, Leaves, MayStep}
+use Rattle.heap_rule.specs.Raw.{MayStep}
 use Rattle.heap_rule.specs.Rule.{Rule, state_of}
 use Rattle.heap_rule.specs.Views.{one}
 use Rattle.heap_rule.proofs.Controls.{untouched_same}
 use Rattle.heap_rule.proofs.Keeps.{Words, my_good, unmoved}
 use Rattle.heap_rule.proofs.Lots.{owned_same}
 use Rattle.steps_cycle.specs.Looks.{with_share}
-use Rattle.steps_cycle.specs.Marking.{GreyMay, GreyTold, IsGrey, IsNotGrey, MarkMay, MarkTold, OwnMay, OwnTold, begun, behind, fields_in}
-use Rattle.steps_cycle.proofs.Colouring.{BareHead, bare_head, coloured}
-use Rattle.steps_cycle.proofs.GlimpseSteps.{either_bool, share_closes}
+use Rattle.steps_cycle.specs.Marking.{GreyMay, GreyTold, IsGrey, IsScanned, IsUnmarked, IsNext, MarkMay, MarkTold, OwnMay, OwnTold, begun, behind, fields_in}
+use Rattle.steps_cycle.proofs.Colouring.{BareHead, bare_head, marked_colour, unmarked_colour}
 use Rattle.steps_cycle.proofs.Layouts.{labelled, owner_of_place}
 use Rattle.steps_cycle.proofs.Learning.{at_other, at_same, bare, held, kind_here, knows_more, known, not_promoting, shifts_more, waits_in}
 
@@ -67,18 +65,18 @@ next_behind pool class slot more = ap (λ (b : Bool). cond b (record { pool = po
 pub before_behind : (pool class slot q i : ℕ) → (q ≡ pool → i < blocks_of class) → IsBefore q i (behind pool class slot) → ((q ≡ pool) × (i ≡ slot)) ⊎ IsBefore q i (record { pool = pool; slot = slot })
 before_behind pool class slot q i inside before =
     let here : q ≡ pool → i < slot + 1 → ((q ≡ pool) × (i ≡ slot)) ⊎ IsBefore q i (record { pool = pool; slot = slot }) =
-        (λ same low. dite (ℕ_discrete i slot) (λ eq. inl (same, eq)) (λ other. inr (inr (same, (let n : i ≢ slot = other in let l : i < slot + 1 = low in let z : i < slot = omega arith in z))))) in
+    (λ same low. dite (ℕ_discrete i slot) (λ eq. inl (same, eq)) (λ other. inr (inr (same, (let n : i ≢ slot = other in let l : i < slot + 1 = low in let z : i < slot = omega arith in z))))) in
     dite (dec_le (blocks_of class) (slot + 1))
     (λ last. ⊎_elim
-        (λ (h : q < pool + 1). dite (ℕ_discrete q pool)
-            (λ same. here same (let b : ℕ = blocks_of class in let l : b ≤ slot + 1 = last in let g : i < b = inside same in omega arith))
-            (λ other. inr (inl (let n : q ≢ pool = other in let z : q < pool = omega arith in z))))
-        (λ (h : (q ≡ pool + 1) × (i < 0)). absurd (let l = h.1 in omega arith))
-        (subst (IsBefore q i) (last_behind pool class slot last) before))
+    (λ (h : q < pool + 1). dite (ℕ_discrete q pool)
+    (λ same. here same (let b : ℕ = blocks_of class in let l : b ≤ slot + 1 = last in let g : i < b = inside same in omega arith))
+    (λ other. inr (inl (let n : q ≢ pool = other in let z : q < pool = omega arith in z))))
+    (λ (h : (q ≡ pool + 1) × (i < 0)). absurd (let l = h.1 in omega arith))
+    (subst (IsBefore q i) (last_behind pool class slot last) before))
     (λ more. ⊎_elim
-        (λ (h : q < pool). inr (inl h))
-        (λ (h : (q ≡ pool) × (i < slot + 1)). here h.0 h.1)
-        (subst (IsBefore q i) (next_behind pool class slot (lt_of_not-le more)) before))
+    (λ (h : q < pool). inr (inl h))
+    (λ (h : (q ≡ pool) × (i < slot + 1)). here h.0 h.1)
+    (subst (IsBefore q i) (next_behind pool class slot (lt_of_not-le more)) before))
 
 module _ (k : Config) (s : Words) (r : Rule k s) (id : ℕ) (hist : List Entry) (x : DomainView) (at : get_elem? s.views id ≡ some (one k hist x)) where
   abbrev now : model.State
@@ -156,7 +154,7 @@ module _ (k : Config) (s : Words) (r : Rule k s) (id : ℕ) (hist : List Entry) 
     owner_told (owned n class) e = dite (ℕ_discrete n d)
         (λ same. owns class (e ∙ ap (λ (i : ℕ). owned i class) same))
         (λ other. passes (λ b f. other (owned_same n d class b (sym e ∙ f)).0)
-            (λ b few f. let z : owner ≡ 16 * n + class + 1 = is_owner ∙ ap owner_word e in let small : class < class_count = (r.whole.pools.owned_by pool n class e).2 in let w : ℕ = owner in let g : w ≡ 16 * d + b + 1 = f in let h : w ≡ 16 * n + class + 1 = z in other (omega arith)))
+        (λ b few f. let z : owner ≡ 16 * n + class + 1 = is_owner ∙ ap owner_word e in let small : class < class_count = (r.whole.pools.owned_by pool n class e).2 in let w : ℕ = owner in let g : w ≡ 16 * d + b + 1 = f in let h : w ≡ 16 * n + class + 1 = z in other (omega arith)))
 
   -- in Mark, a look at the head of a block
   module _ (colours : Colours) (knows : sh.colours ≡ Some colours) (collecting : IsCollecting x.seen.stage) (a : ℕ) (p : Place) (lives : live a ≡ Some p) where
@@ -169,16 +167,15 @@ module _ (k : Config) (s : Words) (r : Rule k s) (id : ℕ) (hist : List Entry) 
     means : colours ≡ c.paint.colours
     means = (my_good k s r id hist x at).sharing.telling.colours colours knows
 
-    -- the block isn't grey, or it is
-    pub seen_head : (IsNotGrey colours head × (IsTrue (m.marked p.label) → IsTrue (m.scanned p.label))) ⊎ (IsTrue (m.marked p.label) × IsGrey colours p.shape head)
-    seen_head = ⊎_elim
-        (λ (is : m.marked p.label ≡ true).
-        let marked : there.head.colour ≡ colours.marked = there.colour ∙ (coloured c.paint p true is ∙ sym (ap (λ (z : Colours). z.marked) means)) in ⊎_elim
-            (λ (done : m.scanned p.label ≡ true). inl (record { shape = p.shape; head = there.head; colour = inr (marked, there.tells is ∙ done) }, λ _. done))
-            (λ (left : m.scanned p.label ≡ false). inr (is, record { built = (r.whole.placed.fits a p lives).built; head = there.head; colour = marked; unscanned = there.tells is ∙ left }))
-            (either_bool (m.scanned p.label)))
-        (λ (not_yet : m.marked p.label ≡ false). inl (record { shape = p.shape; head = there.head; colour = inl (there.colour ∙ (coloured c.paint p false not_yet ∙ sym (ap (λ (z : Colours). z.unmarked) means))) }, λ is. absurd (true≢false (sym is ∙ not_yet))))
-        (either_bool (m.marked p.label))
+    -- a marked block is scanned, or grey
+    pub marked_cases : m.marked p.label ≡ true → (IsScanned colours head × (m.scanned p.label ≡ true)) ⊎ ((grey : IsGrey colours head) × (grey.block.shape ≡ p.shape))
+    marked_cases is = ⊎_elim
+        (λ (done : m.scanned p.label ≡ true). inl (record { block = record { shape = p.shape; head = there.head; colour = marked_colour c.paint p head colours means there is }; scanned = there.tells is ∙ done }, done))
+        (λ (left : m.scanned p.label ≡ false). inr (record { block = record { shape = p.shape; head = there.head; colour = marked_colour c.paint p head colours means there is }; built = (r.whole.placed.fits a p lives).built; unscanned = there.tells is ∙ left }, refl))
+        (cases_Bool (m.scanned p.label))
+
+    pub unmarked_case : m.marked p.label ≡ false → IsUnmarked colours head
+    unmarked_case e = record { shape = p.shape; head = there.head; colour = unmarked_colour c.paint p head colours means there e }
 
     -- the scan of a grey block begins
     begins : IsTrue (m.marked p.label) → (shape : Shape) → p.shape ≡ shape → IsBuilt shape → Scanned live now.graph m a 0 (fields_in shape) head
@@ -211,7 +208,36 @@ module _ (k : Config) (s : Words) (r : Rule k s) (id : ℕ) (hist : List Entry) 
       marked = kn.marked;
     }
 
-  -- the head at the next place of an own pool
+  -- the next place of the walk, in an own pool
+  module _ (a pool class slot : ℕ) (place : IsNext x a pool class slot) where
+    own_pool : holder pool ≡ owned d class
+    own_pool = kn.tenure (record { pool = pool; class = class }) place.own
+
+    pub own_place : (cycle_of k live holder c).layout.owner a ≡ Some d
+    own_place = ap (λ (b : ℕ). (cycle_of k live holder c).layout.owner b) place.begins ∙ owner_of_place holder pool d class slot (r.whole.pools.owned_by pool d class own_pool).2 own_pool place.inside
+
+    -- what is there
+    pub place_there : IsPlace k r.account.tenancy live s.words d a
+    place_there = subst (IsPlace k r.account.tenancy live s.words d) (sym place.begins) (r.whole.grid.places pool d class slot own_pool place.inside)
+
+    -- once it is seen, the walk goes on
+    abbrev pub seen_next : ℕ → ℕ → Bool
+    seen_next = at_domain c.shares.seen d (λ b. b == a || c.shares.seen d b)
+
+    pub next_is : c.shares.arrived d ≡ false → seen_next d ≡ seen_by (a ∷ sh.sights)
+    next_is waits = at_same c.shares.seen d (λ b. b == a || c.shares.seen d b) ∙ ap (λ (f : ℕ → Bool). λ (b : ℕ). b == a || f b) ((my_good k s r id hist x at).sharing.telling.seen waits)
+
+    pub next_other : (z : ℕ) → z ≢ d → seen_next z ≡ c.shares.seen z
+    next_other z other = at_other c.shares.seen d (λ b. b == a || c.shares.seen d b) z other
+
+    pub next_walked : (q e i : ℕ) → holder q ≡ owned d e → i < blocks_of e → IsBefore q i (behind pool class slot) → IsTrue (seen_by (a ∷ sh.sights) (place_in q e i))
+    next_walked q e i is inside before =
+        let class_is : q ≡ pool → e ≡ class = (λ same. (owned_same d d e class (sym is ∙ (ap holder same ∙ own_pool))).1) in ⊎_elim
+        (λ (h : (q ≡ pool) × (i ≡ slot)). or_left (place_in q e i == a) (seen_by sh.sights (place_in q e i)) (eq-eqb (place_in q e i) a (ap (λ (z : ℕ × ℕ × ℕ). place_in z.0 z.1 z.2) (λ j. (h.0 j, class_is h.0 j, h.1 j)) ∙ sym place.begins)))
+        (λ (h : IsBefore q i (record { pool = pool; slot = slot })). or_right (place_in q e i == a) (seen_by sh.sights (place_in q e i)) (kn.walked q e i is inside (subst (IsBefore q i) (sym place.next) h)))
+        (before_behind pool class slot q i (λ same. subst (λ (z : ℕ). i < blocks_of z) (class_is same) inside) before)
+
+  -- the head there
   module _ (a pool class slot : ℕ) (may : MarkMay x a pool class slot) where
     abbrev found : ℕ
     found = at_address k s.words a
@@ -219,20 +245,11 @@ module _ (k : Config) (s : Words) (r : Rule k s) (id : ℕ) (hist : List Entry) 
     collecting : IsCollecting x.seen.stage
     collecting = subst IsCollecting (sym may.stage) (λ none. none)
 
-    is_own : holder pool ≡ owned d class
-    is_own = kn.tenure (record { pool = pool; class = class }) may.own
-
-    few : class < class_count
-    few = (r.whole.pools.owned_by pool d class is_own).2
-
     kind_is : c.kind ≡ Mark
     kind_is = kind_here k s r id hist x at Mark may.stage
 
     facts : Facts Mark k now live r.account.tenancy c s.words
     facts = subst (λ (kind : Kind). Facts kind k now live r.account.tenancy c s.words) kind_is r.whole.cycle.facts
-
-    abbrev seen' : ℕ → ℕ → Bool
-    seen' = at_domain c.shares.seen d (λ b. b == a || c.shares.seen d b)
 
     abbrev saw : Share
     saw = record sh { sights = a ∷ sh.sights; walk = behind pool class slot }
@@ -242,59 +259,58 @@ module _ (k : Config) (s : Words) (r : Rule k s) (id : ℕ) (hist : List Entry) 
     saw_rule quiet =
         let t = (my_good k s r id hist x at).sharing.telling in
         let waits : c.shares.arrived d ≡ false = waits_in k s r id hist x at Mark may.stage in
-        shifts_more k s r id hist x at collecting c.shares.changed c.shares.owes seen' (held saw) s.words (untouched_same s.words) refl refl refl r.whole.cycle.changed_is
-        (subst (λ (kind : Kind). Facts kind k now live r.account.tenancy (record c { shares = record c.shares { seen = seen' } }) s.words) (sym kind_is)
-            (darkening_steps.mark_looks c.pass k.domains now (cycle_of k live holder c) facts.0 d a
-            (ap (λ (b : ℕ). (cycle_of k live holder c).layout.owner b) may.word ∙ owner_of_place holder pool d class slot few is_own may.inside)
-            (λ l e is. let u = labelled k live a l e in subst (λ (z : Label). IsTrue (m.scanned z)) u.label (quiet u.place u.lives (subst (λ (z : Label). IsTrue (m.marked z)) (sym u.label) is))),
-            facts.1))
-        (λ z other. (refl, at_other c.shares.seen d (λ b. b == a || c.shares.seen d b) z other))
+        shifts_more k s r id hist x at collecting c.shares.changed c.shares.owes (seen_next a pool class slot may.place) (held saw) s.words (untouched_same s.words) refl refl refl r.whole.cycle.changed_is
+        (subst (λ (kind : Kind). Facts kind k now live r.account.tenancy (record c { shares = record c.shares { seen = seen_next a pool class slot may.place } }) s.words) (sym kind_is) (
+          darkening_steps.mark_looks c.pass k.domains now (cycle_of k live holder c) facts.0 d a (own_place a pool class slot may.place)
+              (λ l e is. let u = labelled k live a l e in subst (λ (z : Label). IsTrue (m.scanned z)) u.label (quiet u.place u.lives (subst (λ (z : Label). IsTrue (m.marked z)) (sym u.label) is))),
+          facts.1,
+        ))
+        (λ z other. (refl, next_other a pool class slot may.place z other))
         (t.owes waits)
-        (at_same c.shares.seen d (λ b. b == a || c.shares.seen d b) ∙ ap (λ (f : ℕ → Bool). λ (b : ℕ). b == a || f b) (t.seen waits))
-        record {
-          glimpse = kn.glimpse;
-          scan = kn.scan;
-          walked = λ q e i is inside before.
-              let class_is : q ≡ pool → e ≡ class = (λ same. (owned_same d d e class (sym is ∙ (ap holder same ∙ is_own))).1) in ⊎_elim
-              (λ (h : (q ≡ pool) × (i ≡ slot)). or_left (place_in q e i == a) (seen_by sh.sights (place_in q e i)) (eq-eqb (place_in q e i) a (ap (λ (z : ℕ × ℕ × ℕ). place_in z.0 z.1 z.2) (λ j. (h.0 j, class_is h.0 j, h.1 j)) ∙ sym may.word)))
-              (λ (h : IsBefore q i (record { pool = pool; slot = slot })). or_right (place_in q e i == a) (seen_by sh.sights (place_in q e i)) (kn.walked q e i is inside (subst (IsBefore q i) (sym may.next) h)))
-              (before_behind pool class slot q i (λ same. subst (λ (z : ℕ). i < blocks_of z) (class_is same) inside) before);
-          tenure = kn.tenure;
-          rooted = kn.rooted;
-          marked = kn.marked;
-        }
+        (next_is a pool class slot may.place waits)
+        record { glimpse = kn.glimpse; scan = kn.scan; walked = next_walked a pool class slot may.place; tenure = kn.tenure; rooted = kn.rooted; marked = kn.marked }
         refl
 
     abbrev Looked : DomainView → Type 0
     Looked y = After y × MarkTold a pool class slot x found y
 
+    seen_live : (p : Place) → live a ≡ Some p → (IsTrue (m.marked p.label) → IsTrue (m.scanned p.label)) → IsUnmarked may.colours found ⊎ IsScanned may.colours found → (y : DomainView) × Looked y
+    seen_live p lives quiet why = (
+      with_share x saw,
+      (
+        saw_rule (λ q e. let same : Some q ≡ Some p = sym e ∙ lives in let is : q ≡ p = cc in subst (λ (z : Place). IsTrue (m.marked z.label) → IsTrue (m.scanned z.label)) (sym is) quiet),
+        record { colours = may.colours; known = may.known; told = inl (inr why, refl) },
+      ),
+    )
+
     look_live : (p : Place) → live a ≡ Some p → (y : DomainView) × Looked y
     look_live p lives = ⊎_elim
-        (λ h. (
-          with_share x saw,
-          (saw_rule (λ q e. let same : Some q ≡ Some p = sym e ∙ lives in let is : q ≡ p = cc in subst (λ (z : Place). IsTrue (m.marked z.label) → IsTrue (m.scanned z.label)) (sym is) h.1),
-          record { colours = may.colours; known = may.known; told = inl (inr h.0, refl) }),
-        ))
+        (λ (is : m.marked p.label ≡ true). ⊎_elim
+        (λ h. seen_live p lives (λ _. h.1) (inr h.0))
         (λ h. (
           with_share x (begun a p.shape found sh),
-          (begins_rule may.colours may.known collecting a p lives h.0, record { colours = may.colours; known = may.known; told = inr (p.shape, h.1, refl) }),
+          (
+            begins_rule may.colours may.known collecting a p lives is,
+            record { colours = may.colours; known = may.known; told = inr (h.0, ap (λ (z : Shape). with_share x (begun a z found sh)) (sym h.1)) },
+          ),
         ))
-        (seen_head may.colours may.known collecting a p lives)
+        (marked_cases may.colours may.known collecting a p lives is))
+        (λ (e : m.marked p.label ≡ false). seen_live p lives (λ is. absurd (true≢false (sym is ∙ e))) (inl (unmarked_case may.colours may.known collecting a p lives e)))
+        (cases_Bool (m.marked p.label))
 
     pub looks_at : (o : Option Place) → live a ≡ o → (y : DomainView) × Looked y
     looks_at (Some p) e = look_live p e
     looks_at None e =
-        let b : ℕ = place_in pool class slot in
-        let free : found ≡ 0 = ap (at_address k s.words) may.word ∙ ⊎_elim
-            (λ (z : at_address k s.words b ≡ 0). z)
-            (λ z. absurd (⊎_elim
-                (λ (u : (p : Place) × (live b ≡ Some p)). place_clash u.0 (sym e ∙ (ap live may.word ∙ u.1)))
-                (λ u. ⊎_elim
-                    (λ (f : r.account.tenancy.prepared b ≡ Some d). not_promoting k s r id hist x at collecting (r.whole.drawers.prepared b d f).1)
-                    (λ (f : IsTrue (r.account.tenancy.garbage b)). true≢false (sym f ∙ r.whole.cycle.leaves.none facts.1 b))
-                    u)
-                z))
-            (r.whole.grid.places pool d class slot is_own may.inside) in (
+        let free : found ≡ 0 = ⊎_elim
+        (λ (z : found ≡ 0). z)
+        (λ z. absurd (⊎_elim
+        (λ (u : (p : Place) × (live a ≡ Some p)). place_clash u.0 (sym e ∙ u.1))
+        (λ u. ⊎_elim
+        (λ (f : r.account.tenancy.prepared a ≡ Some d). not_promoting k s r id hist x at collecting (r.whole.drawers.prepared a d f).1)
+        (λ (f : IsTrue (r.account.tenancy.garbage a)). true≢false (sym f ∙ r.whole.cycle.leaves.none facts.1 a))
+        u)
+        z))
+        (place_there a pool class slot may.place) in (
           with_share x saw,
           (saw_rule (λ q f. absurd (place_clash q (sym e ∙ f))), record { colours = may.colours; known = may.known; told = inl (inl free, refl) }),
         )
@@ -305,31 +321,29 @@ module _ (k : Config) (s : Words) (r : Rule k s) (id : ℕ) (hist : List Entry) 
     grey_looks =
         let t = kn.marked a may.marked in
         let collecting : IsCollecting x.seen.stage = subst IsCollecting (sym may.stage) (λ none. none) in ⊎_elim
-        (λ h. (x, knows_more k s r id hist x at collecting (held sh) refl refl record { glimpse = kn.glimpse; scan = kn.scan; walked = kn.walked; tenure = kn.tenure; rooted = kn.rooted; marked = kn.marked },
-          record { colours = may.colours; known = may.known; told = inl (h.0, refl) }))
-        (λ h. (with_share x (begun a t.0.shape (at_address k s.words a) sh), begins_rule may.colours may.known collecting a t.0 t.1 t.2, record { colours = may.colours; known = may.known; told = inr (t.0.shape, h.1, refl) }))
-        (seen_head may.colours may.known collecting a t.0 t.1)
+        (λ h. (
+          x,
+          knows_more k s r id hist x at collecting (held sh) refl refl record { glimpse = kn.glimpse; scan = kn.scan; walked = kn.walked; tenure = kn.tenure; rooted = kn.rooted; marked = kn.marked },
+          record { colours = may.colours; known = may.known; told = inl (h.0, refl) },
+        ))
+        (λ h. (
+          with_share x (begun a t.0.shape (at_address k s.words a) sh),
+          begins_rule may.colours may.known collecting a t.0 t.1 t.2,
+          record { colours = may.colours; known = may.known; told = inr (h.0, ap (λ (z : Shape). with_share x (begun a z (at_address k s.words a) sh)) (sym h.1)) },
+        ))
+        (marked_cases may.colours may.known collecting a t.0 t.1 t.2)
 
 pub own_may : (k : Config) (x : DomainView) (word pool : ℕ) → OwnMay k x word pool → MayStep k x word (λ n. n) (OwnTold pool)
 own_may k x word pool may fits slots id hist s r _ at _ =
     let o = owner_told k s r id hist x at word pool may (r.account.tenancy.holder pool) refl in
     (one k hist o.0, keeps, tt, unmoved k s word (set s.views id (one k hist o.0)) o.1, (subst (λ (n : ℕ). OwnTold pool x (get_or s.words n 0) o.0) (sym may.word) o.2, refl))
 
-pub own_closes : (k : Config) (x : DomainView) (found pool : ℕ) → Closes k x found (OwnTold pool) CanLeave Leaves
-own_closes k x found pool = share_closes k x found (OwnTold pool) (λ y t. ⊎_elim (λ u. (record x.seen.share { tenure = Some (record { pool = pool; class = u.0 }) }, u.3)) (λ u. (record x.seen.share { walk = record { pool = pool + 1; slot = 0 } }, u.1)) t.told)
-
 pub mark_may : (k : Config) (x : DomainView) (word a pool class slot : ℕ) → word ≡ before_heap k + a → MarkMay x a pool class slot → MayStep k x word (λ n. n) (MarkTold a pool class slot)
 mark_may k x word a pool class slot place may fits slots id hist s r _ at _ =
     let o = looks_at k s r id hist x at a pool class slot may (r.account.live a) refl in
     (one k hist o.0, keeps, tt, unmoved k s word (set s.views id (one k hist o.0)) o.1.0, (subst (λ (n : ℕ). MarkTold a pool class slot x (get_or s.words n 0) o.0) (sym place) o.1.1, refl))
 
-pub mark_closes : (k : Config) (x : DomainView) (found a pool class slot : ℕ) → Closes k x found (MarkTold a pool class slot) CanLeave Leaves
-mark_closes k x found a pool class slot = share_closes k x found (MarkTold a pool class slot) (λ y t. ⊎_elim (λ u. (record x.seen.share { sights = a ∷ x.seen.share.sights; walk = behind pool class slot }, u.1)) (λ u. (begun a u.0 found x.seen.share, u.2)) t.told)
-
 pub grey_may : (k : Config) (x : DomainView) (word a : ℕ) → word ≡ before_heap k + a → GreyMay x a → MayStep k x word (λ n. n) (GreyTold a)
 grey_may k x word a place may fits slots id hist s r _ at _ =
     let o = grey_looks k s r id hist x at a may in
     (one k hist o.0, keeps, tt, unmoved k s word (set s.views id (one k hist o.0)) o.1, (subst (λ (n : ℕ). GreyTold a x (get_or s.words n 0) o.0) (sym place) o.2, refl))
-
-pub grey_closes : (k : Config) (x : DomainView) (found a : ℕ) → Closes k x found (GreyTold a) CanLeave Leaves
-grey_closes k x found a = share_closes k x found (GreyTold a) (λ y t. ⊎_elim (λ u. (x.seen.share, u.1)) (λ u. (begun a u.0 found x.seen.share, u.2)) t.told)

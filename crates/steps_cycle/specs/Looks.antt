@@ -11,6 +11,10 @@ use Rattle.heap_rule.specs.declared.view.Share.{Share}
 abbrev pub with_share : DomainView → Share → DomainView
 with_share x share = record x { seen = record x.seen { share = share } }
 
+-- it knows the colours
+abbrev pub knowing_colours : DomainView → Colours → DomainView
+knowing_colours x colours = with_share x (record x.seen.share { colours = Some colours })
+
 -- who may look at the colours: a domain that acts in an even phase, and domain 0 in an odd one
 abbrev pub MayLook : ℕ → Stage → Type 0
 MayLook d (In kind) = Unit {0}
@@ -23,4 +27,4 @@ pub record ColoursTold (x : DomainView) (found : ℕ) (y : DomainView) : Type 0 
   pub colours : Colours
   pub meanings : IsPermutation colours
   pub word : found ≡ colours_word colours
-  pub view : y ≡ with_share x (record x.seen.share { colours = Some colours })
+  pub view : y ≡ knowing_colours x colours

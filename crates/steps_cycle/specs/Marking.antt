@@ -35,6 +35,27 @@ IsChanging Mark = Unit {0}
 IsChanging Rounds = Unit {0}
 IsChanging _ = ⊥
 
+-- the word is the head of an unmarked block, of a marked one, and of one that is scanned
+pub record IsUnmarked (colours : Colours) (word : ℕ) : Type 0 where
+  pub shape : Shape
+  pub head : IsHeadOf shape word
+  pub colour : head.colour ≡ colours.unmarked
+
+pub record IsMarked (colours : Colours) (word : ℕ) : Type 0 where
+  pub shape : Shape
+  pub head : IsHeadOf shape word
+  pub colour : head.colour ≡ colours.marked
+
+pub record IsScanned (colours : Colours) (word : ℕ) : Type 0 where
+  pub block : IsMarked colours word
+  pub scanned : block.head.scanned ≡ true
+
+-- and of one that is grey: it is marked and not scanned
+pub record IsGrey (colours : Colours) (word : ℕ) : Type 0 where
+  pub block : IsMarked colours word
+  pub built : IsBuilt block.shape
+  pub unscanned : block.head.scanned ≡ false
+
 -- why a block is marked: a register refers to it, or the next field of the block that is scanned
 pub data Reason : Type 0 where
   Register : ℕ → Reason
@@ -71,10 +92,8 @@ pub record GlimpseMay (x : DomainView) (at : ℕ) (reason : Reason) : Type 0 whe
 pub record GlimpseTold (at : ℕ) (reason : Reason) (x : DomainView) (found : ℕ) (y : DomainView) : Type 0 where
   pub colours : Colours
   pub known : x.seen.share.colours ≡ Some colours
-  pub shape : Shape
-  pub head : IsHeadOf shape found
-  pub told : ((head.colour ≡ colours.unmarked) × (y ≡ with_share x (record x.seen.share { glimpse = Some (record { address = at; word = found }) })))
-      ⊎ ((head.colour ≡ colours.marked) × (y ≡ with_share x (moved_on reason at x.seen.share)))
+  pub told : (IsUnmarked colours found × (y ≡ with_share x (record x.seen.share { glimpse = Some (record { address = at; word = found }) })))
+      ⊎ (IsMarked colours found × (y ≡ with_share x (moved_on reason at x.seen.share)))
 
 -- the head of the unmarked block that the domain found last is exchanged for one that is marked and unscanned
 pub record DarkenMay (x : DomainView) (at old new : ℕ) (reason : Reason) : Type 0 where
@@ -84,10 +103,8 @@ pub record DarkenMay (x : DomainView) (at old new : ℕ) (reason : Reason) : Typ
   pub colours : Colours
   pub known : x.seen.share.colours ≡ Some colours
   pub found : x.seen.share.glimpse ≡ Some (record { address = at; word = old })
-  pub shape : Shape
-  pub head : IsHeadOf shape old
-  pub unmarked : head.colour ≡ colours.unmarked
-  pub marks : HeadIs None shape colours.marked false new
+  pub unmarked : IsUnmarked colours old
+  pub marks : HeadIs None unmarked.shape colours.marked false new
   pub reason_is : Warrants reason x at
 
 -- whoever darkens a block in Mark owes a store of the changed word
@@ -118,13 +135,17 @@ pub record OwnTold (pool : ℕ) (x : DomainView) (found : ℕ) (y : DomainView) 
 abbrev pub behind : ℕ → ℕ → ℕ → Spot
 behind pool class slot = if nat_le (blocks_of class) (slot + 1) then record { pool = pool + 1; slot = 0 } else record { pool = pool; slot = slot + 1 }
 
--- in Mark, a load of the head at the next place of an own pool
-pub record MarkMay (x : DomainView) (at pool class slot : ℕ) : Type 0 where
-  pub stage : x.seen.stage ≡ In Mark
+-- the address is that of the next place of the walk, in an own pool
+pub record IsNext (x : DomainView) (at pool class slot : ℕ) : Type 0 where
   pub own : x.seen.share.tenure ≡ Some (record { pool = pool; class = class })
   pub inside : slot < blocks_of class
-  pub word : at ≡ place_in pool class slot
+  pub begins : at ≡ place_in pool class slot
   pub next : x.seen.share.walk ≡ record { pool = pool; slot = slot }
+
+-- in Mark, a load of the head at that place
+pub record MarkMay (x : DomainView) (at pool class slot : ℕ) : Type 0 where
+  pub stage : x.seen.stage ≡ In Mark
+  pub place : IsNext x at pool class slot
   pub colours : Colours
   pub known : x.seen.share.colours ≡ Some colours
 
@@ -138,25 +159,12 @@ fields_in (EpheShape keys) = 0
 abbrev pub begun : ℕ → Shape → ℕ → Share → Share
 begun at shape head share = record share { scan = Reads at 0 (fields_in shape) head }
 
--- a block is marked and not scanned
-pub record IsGrey (colours : Colours) (shape : Shape) (word : ℕ) : Type 0 where
-  pub built : IsBuilt shape
-  pub head : IsHeadOf shape word
-  pub colour : head.colour ≡ colours.marked
-  pub unscanned : head.scanned ≡ false
-
--- a block is unmarked, or scanned
-pub record IsNotGrey (colours : Colours) (word : ℕ) : Type 0 where
-  pub shape : Shape
-  pub head : IsHeadOf shape word
-  pub colour : (head.colour ≡ colours.unmarked) ⊎ ((head.colour ≡ colours.marked) × (head.scanned ≡ true))
-
 -- no block is grey there, and the domain has seen the place; or one is, and its scan begins
 pub record MarkTold (at pool class slot : ℕ) (x : DomainView) (found : ℕ) (y : DomainView) : Type 0 where
   pub colours : Colours
   pub known : x.seen.share.colours ≡ Some colours
-  pub told : (((found ≡ 0) ⊎ IsNotGrey colours found) × (y ≡ with_share x (record x.seen.share { sights = at ∷ x.seen.share.sights; walk = behind pool class slot })))
-      ⊎ ((shape : Shape) × IsGrey colours shape found × (y ≡ with_share x (begun at shape found x.seen.share)))
+  pub told : (((found ≡ 0) ⊎ (IsUnmarked colours found ⊎ IsScanned colours found)) × (y ≡ with_share x (record x.seen.share { sights = at ∷ x.seen.share.sights; walk = behind pool class slot })))
+      ⊎ ((grey : IsGrey colours found) × (y ≡ with_share x (begun at grey.block.shape found x.seen.share)))
 
 -- in Mark, a load of the head of a block that is known to be marked
 pub record GreyMay (x : DomainView) (at : ℕ) : Type 0 where
@@ -169,7 +177,7 @@ pub record GreyMay (x : DomainView) (at : ℕ) : Type 0 where
 pub record GreyTold (at : ℕ) (x : DomainView) (found : ℕ) (y : DomainView) : Type 0 where
   pub colours : Colours
   pub known : x.seen.share.colours ≡ Some colours
-  pub told : (IsNotGrey colours found × (y ≡ x)) ⊎ ((shape : Shape) × IsGrey colours shape found × (y ≡ with_share x (begun at shape found x.seen.share)))
+  pub told : (IsScanned colours found × (y ≡ x)) ⊎ ((grey : IsGrey colours found) × (y ≡ with_share x (begun at grey.block.shape found x.seen.share)))
 
 -- in Mark, a load of the next field of the block that is scanned
 pub record ScanMay (x : DomainView) (at : ℕ) : Type 0 where
@@ -196,8 +204,25 @@ pub record ScanTold (k : Config) (x : DomainView) (found : ℕ) (y : DomainView)
   pub inside : (a : ℕ) → value ≡ Ref a → IsAddress k a
   pub view : y ≡ with_share x (record x.seen.share { scan = scanned_on x.seen.share.scan value })
 
+-- where a block lies that was scanned: anywhere, or at the next place of the walk, which goes on then
+pub data Site : Type 0 where
+  Anywhere : Site
+  Next : ℕ → ℕ → ℕ → Site
+
+abbrev pub LiesAt : Site → DomainView → ℕ → Type 0
+LiesAt Anywhere x at = Unit {0}
+LiesAt (Next pool class slot) x at = IsNext x at pool class slot
+
+abbrev pub sights_on : Site → ℕ → List ℕ → List ℕ
+sights_on Anywhere at sights = sights
+sights_on (Next pool class slot) at sights = at ∷ sights
+
+abbrev pub walk_on : Site → Spot → Spot
+walk_on Anywhere walk = walk
+walk_on (Next pool class slot) walk = behind pool class slot
+
 -- in Mark, the head of the block that is scanned gets the scanned mark, where all its fields are done
-pub record ScannedMay (x : DomainView) (at new : ℕ) : Type 0 where
+pub record ScannedMay (x : DomainView) (at new : ℕ) (site : Site) : Type 0 where
   pub stage : x.seen.stage ≡ In Mark
   pub size : ℕ
   pub word : ℕ
@@ -207,9 +232,10 @@ pub record ScannedMay (x : DomainView) (at new : ℕ) : Type 0 where
   pub shape : Shape
   pub head : IsHeadOf shape word
   pub marks : HeadIs None shape colours.marked true new
+  pub lies : LiesAt site x at
 
-abbrev pub ScannedTold : DomainView → ℕ → DomainView → Type 0
-ScannedTold x found y = y ≡ with_share x (record x.seen.share { scan = Idle })
+abbrev pub ScannedTold : ℕ → Site → DomainView → ℕ → DomainView → Type 0
+ScannedTold at site x found y = y ≡ with_share x (record x.seen.share { scan = Idle; sights = sights_on site at x.seen.share.sights; walk = walk_on site x.seen.share.walk })
 
 -- in Mark and in Rounds, 1 is stored in the changed word
 pub record ChangedMay (x : DomainView) : Type 0 where

@@ -2,11 +2,15 @@
 //! blocks are marked. docs/RULE.md says how to add one.
 #![tactic(auto)]
 
+mod changed;
+mod colours;
 mod looking;
 mod marking;
 mod scanning;
 mod walking;
 
+pub use changed::{changed_clear, changed_load};
+pub use colours::colours_now;
 pub use looking::colours_load;
 pub use marking::{darken_exchange, glimpse_load};
 pub use scanning::{changed_store, scan_load, scanned_store};

@@ -27,8 +27,8 @@ pub fn own_load(heap: &Heap, dom: &mut Domain, at: u32, pool: u32) -> u64
 }
 
 /// A load of the head at the next place of an own pool, in Mark. Where no block is grey there the
-/// walk goes to the place behind it, and else the scan of the block begins: the domain looks at the
-/// place again when the block is scanned. `at` is the place's address. Answers the head's word.
+/// walk goes to the place behind it, and else the scan of the block begins, after which the walk goes
+/// on. `at` is the place's address. Answers the head's word.
 pub fn mark_load(heap: &Heap, dom: &mut Domain, at: u32, pool: u32, class: u32, slot: u32) -> u64
     requires here { IsIn dom.old heap.now }
     requires inside { IsInHeap heap.now.config at }

@@ -31,12 +31,13 @@ use Rattle.heap_rule.proofs.Drops.{drops, dropped}
 use Rattle.heap_rule.proofs.Keeps.{Words, mine, my_good, now, no_cycle_here, quiet_in, owes_rests, room_unused}
 use Rattle.heap_rule.proofs.PauseFacts.{not_both}
 use Rattle.heap_rule.proofs.Sharings.{SameCycle}
-use Rattle.heap_rule.specs.Cycles.{Cycling, Told, HasNoCycle}
+use Rattle.heap_rule.specs.Cycles.{Cycling, Told, HasNoCycle, owner_at}
 use Rattle.heap_rule.specs.Layout.{at_address}
-use Rattle.heap_rule.specs.Views.{fresh_share}
+use Rattle.heap_rule.specs.Views.{voided}
 use Rattle.heap_rule.proofs.Controls.{cycle_untouched, heap_untouched}
-use Rattle.steps_pauses.proofs.Arriving.{arrived_cycle, told_arrived, told_turned, facts_gone, cycle_gone, cycle_dropped, sharing_gone, sharing_else, sharing_between}
+use Rattle.steps_pauses.proofs.Arriving.{arrived_cycle, told_arrived, told_turned, cycle_gone, cycle_dropped, sharing_gone, sharing_else, sharing_between}
 use Rattle.steps_pauses.specs.Pauses.{kind_in, ArrivesFrom, ArriveMay, forgotten, arrived_view, Arrived}
+use Rattle.steps_pauses.proofs.Finishing.{facts_gone}
 
 -- who may arrive acts in the phase
 acting : (t : Pause) (d arrivals : ℕ) (st : Stage) → ArrivesFrom d st → AtStage t d arrivals st → arrivals ≡ t.phase
@@ -166,7 +167,7 @@ module _ (k : Config) (s : Words) (r : Rule k s) (id : ℕ) (hist : List Entry) 
 
   -- the collection then
   abbrev cycling' : Cycling
-  cycling' = arrived_cycle x.seen.stage r.account.cycling number
+  cycling' = arrived_cycle x.seen.stage tenancy.holder r.account.cycling number
 
   -- what is used of the pools, with other numbers of copies in lists
   abbrev counting : (ℕ → ℕ) → Stock
@@ -182,7 +183,7 @@ module _ (k : Config) (s : Words) (r : Rule k s) (id : ℕ) (hist : List Entry) 
     free = None;
     listing = None;
     copying = nothing_copied;
-    share = fresh_share;
+    share = voided x.seen.share;
   }
 
   abbrev y : DomainView
@@ -304,8 +305,8 @@ module _ (k : Config) (s : Words) (r : Rule k s) (id : ℕ) (hist : List Entry) 
   through pause' claims' p = turns k s r id hist x at move pause' (counting claims') cycling' r.account.homes words' record {
     full = r.whole.full;
     paint = refl;
-    cycle = cycle_gone x.seen.stage k (now k s r id hist x at) live pause pause' tenancy (counting claims') r.account.cycling s.words words' number same_cycle same_heap
-        (facts_gone x.seen.stage k (now k s r id hist x at) live pause tenancy r.account.cycling s.words x may.from good.staged.stage may.done r.whole.cycle.told r.whole.cycle.facts) p.told r.whole.cycle;
+    cycle = cycle_gone x.seen.stage tenancy.holder k (now k s r id hist x at) live pause pause' tenancy (counting claims') r.account.cycling s.words words' number same_cycle same_heap
+        (facts_gone k s r id hist x at may.done x.seen.stage refl may.from) p.told r.whole.cycle;
     sharing = sharing_gone k r.account s.words words' x pause' live (record tenancy { stock = counting claims' }) y.seen.stage inside may.from good.staged.stage r.whole.cycle.told good;
     sharings = λ z _ other g. sharing_else k r.account s.words words' x.seen.stage number z pause' (counting claims') other same_cycle same_heap g;
     untouched = untouched;
@@ -388,7 +389,7 @@ module _ (k : Config) (s : Words) (r : Rule k s) (id : ℕ) (hist : List Entry) 
       to_copy = λ j odd led copies. low_untouched k s.words words' untouched (r.whole.drawable.to_copy j odd led copies);
     };
     unwished = λ j odd led runs. want_is ∙ r.whole.unwished j odd led runs;
-    told = told_arrived k pause r.account.cycling.kind r.account.cycling.paint.colours r.account.cycling.shares number x.own.arrivals r.whole.cycle.told inside arrived' own_up else_is x.seen.stage may.from good.staged.stage;
+    told = told_arrived k pause r.account.cycling.kind (owner_at tenancy.holder) r.account.cycling.paint.colours r.account.cycling.shares number x.own.arrivals r.whole.cycle.told inside arrived' own_up else_is x.seen.stage may.from good.staged.stage;
     mine_is = mine_is;
     theirs = theirs;
   }
@@ -476,7 +477,7 @@ module _ (k : Config) (s : Words) (r : Rule k s) (id : ℕ) (hist : List Entry) 
     }
 
     next_told : Told k next r.account.cycling.kind cycling'.shares
-    next_told = told_turned k pause r.account.cycling.kind r.account.cycling.paint.colours r.account.cycling.shares number x.own.arrivals r.whole.cycle.told inside arrived' own_up else_is ups led_is x.seen.stage may.from good.staged.stage
+    next_told = told_turned k pause r.account.cycling.kind (owner_at tenancy.holder) r.account.cycling.paint.colours r.account.cycling.shares number x.own.arrivals r.whole.cycle.told inside arrived' own_up else_is ups led_is x.seen.stage may.from good.staged.stage
 
     next_stage : (z : DomainView) → z.own.number < k.domains → z.own.number ≢ number → Staged pause z → Staged next z
     next_stage z below other its = record {
@@ -489,7 +490,7 @@ module _ (k : Config) (s : Words) (r : Rule k s) (id : ℕ) (hist : List Entry) 
     promoted p = let in_promote : HasNoCycle r.account.cycling.kind = no_cycle_here k s r id hist x at Promote tt (promotes p) in drops k s r id hist x at move next cycling' words' refl record {
       paint = refl;
       kind = refl;
-      cycle = cycle_dropped x.seen.stage k (now k s r id hist x at) live (dropped k live) pause next tenancy (record tenancy { stock = no_stock }) r.account.cycling s.words words' number in_promote (λ a. refl) same_cycle next_told r.whole.cycle;
+      cycle = cycle_dropped x.seen.stage tenancy.holder k (now k s r id hist x at) live (dropped k live) pause next tenancy (record tenancy { stock = no_stock }) r.account.cycling s.words words' number in_promote (λ a. refl) same_cycle next_told r.whole.cycle;
       sharing = sharing_gone k r.account s.words words' x next (dropped k live) (record tenancy { stock = no_stock }) y.seen.stage inside may.from good.staged.stage r.whole.cycle.told good;
       sharings = λ z _ other g. sharing_between k r.account s.words words' x z Promote next (dropped k live) (record tenancy { stock = no_stock }) tt (promotes p) in_promote other same_cycle good g;
       untouched = untouched;

@@ -1,5 +1,5 @@
 -- A collection of the major heap where a domain arrives.
-use Rattle.std.proofs.Common.{◌≡◌, ◌≢◌, ℕ, ◌+◌, ◌*◌, ◌<◌, ◌⊎◌, Bool, true, false, true≢false, List, sym, refl, ap, ◌∙◌, subst, inl, inr, ⊎_elim, arith}
+use Rattle.std.proofs.Common.{◌≡◌, ◌≢◌, ℕ, ◌+◌, ◌*◌, ◌<◌, ◌⊎◌, Bool, true, false, true≢false, List, sym, refl, ap, ◌∙◌, subst, inl, inr, ⊎_elim, arith, ◌==◌, Option, Some, None}
 use mathlib.Core.Logic.{dite}
 use native.Mathlib.Decide.{ℕ_discrete}
 use Rattle.heap_model.specs.declared.state.State as model
@@ -13,81 +13,97 @@ use Rattle.heap_rule.specs.declared.phase.Stage.{Stage}
 use Rattle.heap_rule.specs.declared.phase.Stage.TheVariants.{In, Leads, Led, Gone}
 use Rattle.heap_rule.specs.declared.view.DomainView.{DomainView}
 use Rattle.heap_rule.specs.declared.view.Share.{Share}
-use Rattle.heap_rule.specs.Cycles.{Cycling, Cycled, Facts, ArrivedAs, Told, Telling, Leading, IsCollecting, IsIdle, Adds, HasNoCycle, Knowing}
+use Rattle.heap_rule.specs.Cycles.{Cycling, Cycled, Facts, ArrivedAs, Told, Telling, Leading, IsCollecting, IsIdle, Adds, HasNoCycle, Knowing, owner_at}
 use Rattle.heap_rule.specs.Layout.{at_address}
 use Rattle.heap_rule.specs.Phases.{Pause, AtStage, flag}
 use Rattle.heap_rule.specs.Places.{Live}
-use Rattle.heap_rule.specs.Pools.{Stock, Tenancy}
+use Rattle.heap_rule.specs.Pools.{Stock, Tenancy, Holder}
 use Rattle.heap_rule.specs.Rule.{Account, Good, Sharing, state_of}
-use Rattle.heap_rule.specs.Views.{fresh_share}
+use Rattle.heap_rule.specs.Views.{voided}
 use Rattle.heap_rule.proofs.Sharings.{SameCycle, facts_between, between_facts, facts_words, leading_words, idle_beside, adds_nothing, cycle_between, knows_words}
-use Rattle.steps_pauses.specs.Pauses.{ArrivesFrom, HasDone}
-
--- who arrives in an even phase has done its share of it. In an odd one that changes nothing
-abbrev pub arrived_in : Stage → Shares → ℕ → Shares
-arrived_in (In kind) w d = arrives w d
-arrived_in _ w d = w
-
--- the collection then
-abbrev pub arrived_cycle : Stage → Cycling → ℕ → Cycling
-arrived_cycle st c d = record c { shares = arrived_in st c.shares d }
-
-pub same_changed : (st : Stage) (w : Shares) (d : ℕ) → (arrived_in st w d).changed ≡ w.changed
-same_changed (In kind) w d = refl
-same_changed (Leads kind) w d = refl
-same_changed (Led kind) w d = refl
-same_changed (Gone kind) w d = refl
-
-pub either_bool : (b : Bool) → (b ≡ true) ⊎ (b ≡ false)
-either_bool true = inl refl
-either_bool false = inr refl
+use Rattle.steps_pauses.specs.Pauses.{ArrivesFrom}
 
 -- a function with another value at one domain is as it was elsewhere
 at_other : {A : Type 0} → (f : ℕ → A) (d : ℕ) (v : A) (k : ℕ) → k ≢ d → at_domain f d v k ≡ f k
 at_other f d v k other = ⊎_elim (λ h. absurd (other h.0)) (λ h. h.1) (at_cases f d v k)
 
+-- whether a place is the domain's
+abbrev pub is_owner : Option ℕ → ℕ → Bool
+is_owner None d = false
+is_owner (Some e) d = e == d
+
+-- a domain has been at each own place where it had to look at ephemerons alone, of which there are none
+abbrev pub looks_at : Kind → (ℕ → Option ℕ) → (ℕ → ℕ → Bool) → ℕ → ℕ → ℕ → Bool
+looks_at Rounds owner seen d = at_domain seen d (λ a. is_owner (owner a) d)
+looks_at Clean owner seen d = at_domain seen d (λ a. is_owner (owner a) d)
+looks_at _ owner seen d = seen
+
+-- who arrives in an even phase has done its share of it. In an odd one that changes nothing
+abbrev pub arrived_in : Stage → (ℕ → Option ℕ) → Shares → ℕ → Shares
+arrived_in (In kind) owner w d = arrives (record w { seen = looks_at kind owner w.seen d }) d
+arrived_in _ owner w d = w
+
+-- the collection then
+abbrev pub arrived_cycle : Stage → (ℕ → Holder) → Cycling → ℕ → Cycling
+arrived_cycle st holder c d = record c { shares = arrived_in st (owner_at holder) c.shares d }
+
+looks_else : (kind : Kind) (owner : ℕ → Option ℕ) (seen : ℕ → ℕ → Bool) (d z : ℕ) → z ≢ d → looks_at kind owner seen d z ≡ seen z
+looks_else Rounds owner seen d z other = at_other seen d (λ a. is_owner (owner a) d) z other
+looks_else Clean owner seen d z other = at_other seen d (λ a. is_owner (owner a) d) z other
+looks_else _ owner seen d z other = refl
+
+pub same_changed : (st : Stage) (owner : ℕ → Option ℕ) (w : Shares) (d : ℕ) → (arrived_in st owner w d).changed ≡ w.changed
+same_changed (In kind) owner w d = refl
+same_changed (Leads kind) owner w d = refl
+same_changed (Led kind) owner w d = refl
+same_changed (Gone kind) owner w d = refl
+
+pub either_bool : (b : Bool) → (b ≡ true) ⊎ (b ≡ false)
+either_bool true = inl refl
+either_bool false = inr refl
+
 clash : (b : Bool) → b ≡ true → b ≡ false → ⊥
 clash b e f = true≢false (sym e ∙ f)
 
 -- others tell as before
-pub telling_else : (st : Stage) (means : Colours) (w : Shares) (d z : ℕ) (share : Share) → z ≢ d → Telling means w z share → Telling means (arrived_in st w d) z share
-telling_else (In kind) means w d z share other t = let same = at_other w.arrived d true z other in record { owes = λ e. t.owes (sym same ∙ e); seen = λ e. t.seen (sym same ∙ e); fresh = λ e. t.fresh (sym same ∙ e); forgotten = λ e. t.forgotten (sym same ∙ e); colours = t.colours }
-telling_else (Leads kind) means w d z share other t = t
-telling_else (Led kind) means w d z share other t = t
-telling_else (Gone kind) means w d z share other t = t
+pub telling_else : (st : Stage) (owner : ℕ → Option ℕ) (means : Colours) (w : Shares) (d z : ℕ) (share : Share) → z ≢ d → Telling means w z share → Telling means (arrived_in st owner w d) z share
+telling_else (In kind) owner means w d z share other t = let same = at_other w.arrived d true z other in record { owes = λ e. t.owes (sym same ∙ e); seen = λ e. looks_else kind owner w.seen d z other ∙ t.seen (sym same ∙ e); fresh = λ e. t.fresh (sym same ∙ e); forgotten = λ e. t.forgotten (sym same ∙ e); colours = t.colours }
+telling_else (Leads kind) owner means w d z share other t = t
+telling_else (Led kind) owner means w d z share other t = t
+telling_else (Gone kind) owner means w d z share other t = t
 
-adds_else : (st : Stage) (live : Live) (c : Cycling) (d z : ℕ) (share : Share) → z ≢ d → Adds live c z share → Adds live (arrived_cycle st c d) z share
-adds_else (In kind) live c d z share other a = let same = at_other c.shares.arrived d true z other in record { blocks = λ e f. a.blocks e (sym same ∙ f); words = λ e f. a.words e (sym same ∙ f); own = λ e f. a.own e (sym same ∙ f) }
-adds_else (Leads kind) live c d z share other a = a
-adds_else (Led kind) live c d z share other a = a
-adds_else (Gone kind) live c d z share other a = a
+adds_else : (st : Stage) (holder : ℕ → Holder) (live : Live) (c : Cycling) (d z : ℕ) (share : Share) → z ≢ d → Adds live c z share → Adds live (arrived_cycle st holder c d) z share
+adds_else (In kind) holder live c d z share other a = let same = at_other c.shares.arrived d true z other in record { blocks = λ e f. a.blocks e (sym same ∙ f); words = λ e f. a.words e (sym same ∙ f); own = λ e f. a.own e (sym same ∙ f) }
+adds_else (Leads kind) holder live c d z share other a = a
+adds_else (Led kind) holder live c d z share other a = a
+adds_else (Gone kind) holder live c d z share other a = a
 
-leading_gone : (st : Stage) (c : Cycling) (words : List ℕ) (d z : ℕ) (stage : Stage) (share : Share) → Leading c words z stage share → Leading (arrived_cycle st c d) words z stage share
-leading_gone (In kind) c words d z stage share l = record { changed = l.changed; found_blocks = l.found_blocks; found_words = l.found_words; rotated = l.rotated; turned = l.turned }
-leading_gone (Leads kind) c words d z stage share l = l
-leading_gone (Led kind) c words d z stage share l = l
-leading_gone (Gone kind) c words d z stage share l = l
+leading_gone : (st : Stage) (holder : ℕ → Holder) (c : Cycling) (words : List ℕ) (d z : ℕ) (stage : Stage) (share : Share) → Leading c words z stage share → Leading (arrived_cycle st holder c d) words z stage share
+leading_gone (In kind) holder c words d z stage share l = record { changed = l.changed; found_blocks = l.found_blocks; found_words = l.found_words; rotated = l.rotated; turned = l.turned; pass = l.pass }
+leading_gone (Leads kind) holder c words d z stage share l = l
+leading_gone (Led kind) holder c words d z stage share l = l
+leading_gone (Gone kind) holder c words d z stage share l = l
 
-module _ (k : Config) (t : Pause) (kind : Kind) (means : Colours) (w : Shares) (d arrivals : ℕ) (told : Told k t kind w) (below : d < k.domains) where
+module _ (k : Config) (t : Pause) (kind : Kind) (owner : ℕ → Option ℕ) (means : Colours) (w : Shares) (d arrivals : ℕ) (told : Told k t kind w) (below : d < k.domains) where
   -- in an odd phase the domain has either arrived in the one before, or has done nothing in the next
-  odd_telling : (j : ℕ) → t.phase ≡ j * 2 + 1 → Telling means w d fresh_share
-  odd_telling j odd = ⊎_elim
+  odd_telling : (share : Share) (j : ℕ) → t.phase ≡ j * 2 + 1 → Telling means w d (voided share)
+  odd_telling share j odd = ⊎_elim
       (λ (e : t.led ≡ true). let start = (told.led j odd e).1 d in record { owes = λ _. start.paid; seen = λ _. start.blind; fresh = λ _. refl; forgotten = λ _ _. refl; colours = λ c f. cc })
       (λ (e : t.led ≡ false). let gone : w.arrived d ≡ true = (told.odd j odd e).1 d below in record { owes = λ f. absurd (clash (w.arrived d) gone f); seen = λ f. absurd (clash (w.arrived d) gone f); fresh = λ _. refl; forgotten = λ _ _. refl; colours = λ c f. cc })
       (either_bool t.led)
 
-  pub telling_gone : (st : Stage) → ArrivesFrom d st → AtStage t d arrivals st → Telling means (arrived_in st w d) d fresh_share
-  telling_gone (In kd) from at = let gone : (arrives w d).arrived d ≡ true = at_same w.arrived d true in record { owes = λ f. absurd (clash ((arrives w d).arrived d) gone f); seen = λ f. absurd (clash ((arrives w d).arrived d) gone f); fresh = λ _. refl; forgotten = λ _ _. refl; colours = λ c f. cc }
-  telling_gone (Leads kd) from at = odd_telling at.1.0 at.1.1
-  telling_gone (Led kd) from at = odd_telling at.1.0 at.1.1
-  telling_gone (Gone kd) from at = absurd from
+  pub telling_gone : (share : Share) (st : Stage) → ArrivesFrom d st → AtStage t d arrivals st → Telling means (arrived_in st owner w d) d (voided share)
+  telling_gone share (In kd) from at = let gone : (arrives w d).arrived d ≡ true = at_same w.arrived d true in record { owes = λ f. absurd (clash ((arrives w d).arrived d) gone f); seen = λ f. absurd (clash ((arrives w d).arrived d) gone f); fresh = λ _. refl; forgotten = λ _ _. refl; colours = λ c f. cc }
+  telling_gone share (Leads kd) from at = odd_telling share at.1.0 at.1.1
+  telling_gone share (Led kd) from at = odd_telling share at.1.0 at.1.1
+  telling_gone share (Gone kd) from at = absurd from
 
   module _ (arrived' : ℕ → ℕ) (up : arrived' d ≡ t.phase + 1) (else_is : (j : ℕ) → j ≢ d → arrived' j ≡ t.arrived j) where
     even_not_odd : (i j : ℕ) → t.phase ≡ i * 2 → t.phase ≡ j * 2 + 1 → ⊥
     even_not_odd i j e f = omega arith
 
-    even_part : (j : ℕ) → t.phase ≡ j * 2 → (i : ℕ) → i < k.domains → ArrivedAs (record t { arrived = arrived' }) (arrives w d) i
-    even_part j e i inside = dite (ℕ_discrete i d)
+    even_part : (kd : Kind) (j : ℕ) → t.phase ≡ j * 2 → (i : ℕ) → i < k.domains → ArrivedAs (record t { arrived = arrived' }) (arrived_in (In kd) owner w d) i
+    even_part kd j e i inside = dite (ℕ_discrete i d)
         (λ same. record {
           waits = λ f. absurd (let u : arrived' d ≡ t.phase + 1 = up in let v : arrived' d ≡ t.phase = ap arrived' (sym same) ∙ f in omega arith);
           gone = λ f. ap (arrives w d).arrived same ∙ at_same w.arrived d true;
@@ -98,9 +114,9 @@ module _ (k : Config) (t : Pause) (kind : Kind) (means : Colours) (w : Shares) (
         })
 
     -- the phase goes on
-    pub told_arrived : (st : Stage) → ArrivesFrom d st → AtStage t d arrivals st → Told k (record t { arrived = arrived' }) kind (arrived_in st w d)
+    pub told_arrived : (st : Stage) → ArrivesFrom d st → AtStage t d arrivals st → Told k (record t { arrived = arrived' }) kind (arrived_in st owner w d)
     told_arrived (In kd) from at = record {
-      even = λ j e. ((told.even j e).0, even_part j e);
+      even = λ j e. ((told.even j e).0, even_part kd j e);
       odd = λ j e f. absurd (even_not_odd at.1.0 j at.1.1 e);
       led = λ j e f. absurd (even_not_odd at.1.0 j at.1.1 e);
     }
@@ -124,7 +140,7 @@ module _ (k : Config) (t : Pause) (kind : Kind) (means : Colours) (w : Shares) (
         led = λ j e f. absurd (true≢false (sym f));
       }
 
-      pub told_turned : (st : Stage) → ArrivesFrom d st → AtStage t d arrivals st → Told k next_phase kind (arrived_in st w d)
+      pub told_turned : (st : Stage) → ArrivesFrom d st → AtStage t d arrivals st → Told k next_phase kind (arrived_in st owner w d)
       told_turned (In kd) from at = record {
         even = λ j e. absurd (let i : ℕ = at.1.0 in let h : t.phase ≡ i * 2 = at.1.1 in let g : t.phase + 1 ≡ j * 2 = e in omega arith);
         odd = λ j e f.
@@ -156,31 +172,17 @@ facts_stock Decide k s live t stock c words f = f
 facts_stock Queued k s live t stock c words f = f
 facts_stock Clean k s live t stock c words f = f
 facts_stock Lasts k s live t stock c words f = record { facts = f.facts; unchanged = f.unchanged; stays = f.stays; turned = λ is. let r = f.turned is in record { all_marked = r.all_marked; unmarked = r.unmarked; owned = r.owned } }
-facts_stock Sweep k s live t stock c words f = record { swept = f.swept; sweep = f.sweep; all_counted = f.all_counted }
-facts_stock Answer k s live t stock c words f = record { swept = f.swept; clean = f.clean; all_counted = f.all_counted }
+facts_stock Sweep k s live t stock c words f = record { mode = f.mode; swept = f.swept; sweep = f.sweep; all_counted = f.all_counted }
+facts_stock Answer k s live t stock c words f = record { swept = f.swept; clean = f.clean; all_counted = f.all_counted; held = f.held }
 
--- the facts hold when the domain has arrived
-facts_in : (kd : Kind) (k : Config) (s : model.State) (live : Live) (t : Tenancy) (c : Cycling) (words : List ℕ) (d : ℕ) → HasNoCycle kd → Facts kd k s live t c words → Facts kd k s live t (arrived_cycle (In kd) c d) words
-facts_in kd k s live t c words d none f = let b = facts_between kd k s live t c words none f in
-    between_facts kd k s live t (arrived_cycle (In kd) c d) words none record { mode = b.mode; unmarked = b.unmarked; unchanged = b.unchanged; unrotated = b.unrotated }
-
-pub facts_gone : (st : Stage) (k : Config) (s : model.State) (live : Live) (p : Pause) (t : Tenancy) (c : Cycling) (words : List ℕ) (x : DomainView) → ArrivesFrom x.own.number st → AtStage p x.own.number x.own.arrivals st → HasDone k x st → Told k p c.kind c.shares
-    → Facts c.kind k s live t c words → Facts c.kind k s live t (arrived_cycle st c x.own.number) words
-facts_gone (In kd) k s live p t c words x from at done told f =
-    let is : c.kind ≡ kd = kind_acts k p c.kind c.shares x.own.number x.own.arrivals kd at told in
-    subst (λ (kind : Kind). Facts kind k s live t (arrived_cycle (In kd) c x.own.number) words) (sym is) (facts_in kd k s live t c words x.own.number done (subst (λ (kind : Kind). Facts kind k s live t c words) is f))
-facts_gone (Leads kd) k s live p t c words x from at done told f = f
-facts_gone (Led kd) k s live p t c words x from at done told f = f
-facts_gone (Gone kd) k s live p t c words x from at done told f = absurd from
-
--- and so does all that the rule says of the collection
-pub cycle_gone : (st : Stage) (k : Config) (s : model.State) (live : Live) (p p' : Pause) (t : Tenancy) (stock : Stock) (c : Cycling) (words words' : List ℕ) (d : ℕ) → SameCycle words words' → ((a : ℕ) → at_address k words' a ≡ at_address k words a)
-    → Facts c.kind k s live t (arrived_cycle st c d) words → Told k p' c.kind (arrived_in st c.shares d) → Cycled k s live p t c words → Cycled k s live p' (record t { stock = stock }) (arrived_cycle st c d) words'
-cycle_gone st k s live p p' t stock c words words' d same heap facts told y = let c' : Cycling = arrived_cycle st c d in record {
+-- all that the rule says of the collection holds where the facts do
+pub cycle_gone : (st : Stage) (holder : ℕ → Holder) (k : Config) (s : model.State) (live : Live) (p p' : Pause) (t : Tenancy) (stock : Stock) (c : Cycling) (words words' : List ℕ) (d : ℕ) → SameCycle words words' → ((a : ℕ) → at_address k words' a ≡ at_address k words a)
+    → Facts c.kind k s live t (arrived_cycle st holder c d) words → Told k p' c.kind (arrived_in st (owner_at holder) c.shares d) → Cycled k s live p t c words → Cycled k s live p' (record t { stock = stock }) (arrived_cycle st holder c d) words'
+cycle_gone st holder k s live p p' t stock c words words' d same heap facts told y = let c' : Cycling = arrived_cycle st holder c d in record {
   armed_is = same.armed_same ∙ y.armed_is;
   meanings = y.meanings;
   colours_are = same.colours_same ∙ y.colours_are;
-  changed_is = same.changed_same ∙ (y.changed_is ∙ ap flag (sym (same_changed st c.shares d)));
+  changed_is = same.changed_same ∙ (y.changed_is ∙ ap flag (sym (same_changed st (owner_at holder) c.shares d)));
   facts = facts_words c.kind k s live (record t { stock = stock }) c' words words' same (facts_stock c.kind k s live t stock c' words facts);
   told = told;
   leaves = record { none = y.leaves.none; dead = y.leaves.dead; head = λ a is. let h = y.leaves.head a is in (h.0, h.1, heap a ∙ h.2) };
@@ -191,71 +193,90 @@ idle_odd : (st : Stage) (share : Share) (Known : Type 0) → (IsCollecting st �
 idle_odd st share Known odd n = ⊎_elim (λ (h : IsIdle share). h) (λ (h : IsCollecting st × Known). absurd (odd h.0)) n
 
 -- who has arrived has nothing to add
-nothing_more : (live : Live) (c : Cycling) (d : ℕ) → ((c.kind ≡ Sweep) → c.shares.arrived d ≡ false → (c.counts.blocks d ≡ false) × (c.counts.words d ≡ false)) → Adds live c d fresh_share
-nothing_more live c d none = record { blocks = λ e f. (none e f).0; words = λ e f. (none e f).1; own = λ e f g. cc }
+nothing_more : (live : Live) (c : Cycling) (d : ℕ) (share : Share) → ((c.kind ≡ Sweep) → c.shares.arrived d ≡ false → (c.counts.blocks d ≡ false) × (c.counts.words d ≡ false)) → Adds live c d (voided share)
+nothing_more live c d share none = record { blocks = λ e f. (none e f).0; words = λ e f. (none e f).1; own = λ e f g. cc }
 
-idle_adds : (live : Live) (c : Cycling) (d : ℕ) (share : Share) → IsIdle share → Adds live c d share → Adds live c d fresh_share
-idle_adds live c d share idle a = nothing_more live c d (λ e f. (a.blocks e f ∙ ap (λ (z : Share). z.added_blocks) idle, a.words e f ∙ ap (λ (z : Share). z.added_words) idle))
+idle_adds : (live : Live) (c : Cycling) (d : ℕ) (share : Share) → IsIdle share → Adds live c d share → Adds live c d (voided share)
+idle_adds live c d share idle a = nothing_more live c d share (λ e f. (a.blocks e f ∙ ap (λ (z : Share). z.added_blocks) idle, a.words e f ∙ ap (λ (z : Share). z.added_words) idle))
 
-adds_gone : (st : Stage) (live : Live) (c : Cycling) (d : ℕ) (share : Share) (Known : Type 0) → IsIdle share ⊎ (IsCollecting st × Known) → Adds live c d share → Adds live (arrived_cycle st c d) d fresh_share
-adds_gone (In kind) live c d share Known n a = nothing_more live (arrived_cycle (In kind) c d) d (λ e f. absurd (clash ((arrives c.shares d).arrived d) (at_same c.shares.arrived d true) f))
-adds_gone (Leads kind) live c d share Known n a = idle_adds live c d share (idle_odd (Leads kind) share Known (λ l. l) n) a
-adds_gone (Led kind) live c d share Known n a = idle_adds live c d share (idle_odd (Led kind) share Known (λ l. l) n) a
-adds_gone (Gone kind) live c d share Known n a = idle_adds live c d share (idle_odd (Gone kind) share Known (λ l. l) n) a
+adds_gone : (st : Stage) (holder : ℕ → Holder) (live : Live) (c : Cycling) (d : ℕ) (share : Share) (Known : Type 0) → IsIdle share ⊎ (IsCollecting st × Known) → Adds live c d share → Adds live (arrived_cycle st holder c d) d (voided share)
+adds_gone (In kind) holder live c d share Known n a = nothing_more live (arrived_cycle (In kind) holder c d) d share (λ e f. absurd (clash ((arrives c.shares d).arrived d) (at_same c.shares.arrived d true) f))
+adds_gone (Leads kind) holder live c d share Known n a = idle_adds live c d share (idle_odd (Leads kind) share Known (λ l. l) n) a
+adds_gone (Led kind) holder live c d share Known n a = idle_adds live c d share (idle_odd (Led kind) share Known (λ l. l) n) a
+adds_gone (Gone kind) holder live c d share Known n a = idle_adds live c d share (idle_odd (Gone kind) share Known (λ l. l) n) a
 
 -- nor has it loaded a control word
-leading_fresh : (st stage : Stage) (c : Cycling) (words words' : List ℕ) (d : ℕ) (share : Share) → ArrivesFrom d st → Leading c words d st share → Leading (arrived_cycle st c d) words' d stage fresh_share
-leading_fresh st stage c words words' d share from l = record {
+leading_fresh : (st stage : Stage) (holder : ℕ → Holder) (c : Cycling) (words words' : List ℕ) (d : ℕ) (share : Share) → ArrivesFrom d st → Leading c words d st share → Leading (arrived_cycle st holder c d) words' d stage (voided share)
+leading_fresh st stage holder c words words' d share from l = record {
   changed = λ v e. cc;
   found_blocks = λ v e. cc;
   found_words = λ v e. cc;
   rotated = λ first lasts. l.rotated first lasts ∙ ⊎_elim (λ (e : share.rotated ≡ true). absurd ((subst (ArrivesFrom d) (l.turned e) from) first)) (λ e. e) (either_bool share.rotated);
   turned = λ e. cc;
+  pass = l.pass;
 }
 
 -- what the rule says of the share of the domain that has arrived
 pub sharing_gone : (k : Config) (all : Account) (words words' : List ℕ) (x : DomainView) (p' : Pause) (live' : Live) (t' : Tenancy) (stage : Stage) → x.own.number < k.domains → ArrivesFrom x.own.number x.seen.stage → AtStage all.pause x.own.number x.own.arrivals x.seen.stage
     → Told k all.pause all.cycling.kind all.cycling.shares → Good k all words x
-    → Sharing k (record all { pause = p'; live = live'; tenancy = t'; cycling = arrived_cycle x.seen.stage all.cycling x.own.number }) words' x.own.number x.own.registers stage fresh_share
-sharing_gone k all words words' x p' live' t' stage below from at told g = let a = adds_gone x.seen.stage all.live all.cycling x.own.number x.seen.share (Knowing k all.live all.tenancy.holder (state_of k all.log).graph all.cycling.paint.marks words x.own.number x.own.registers x.seen.share) g.sharing.knows g.sharing.adds in record {
-  telling = telling_gone k all.pause all.cycling.kind all.cycling.paint.colours all.cycling.shares x.own.number x.own.arrivals told below x.seen.stage from at;
-  leading = leading_fresh x.seen.stage stage all.cycling words words' x.own.number x.seen.share from g.sharing.leading;
+    → Sharing k (record all { pause = p'; live = live'; tenancy = t'; cycling = arrived_cycle x.seen.stage all.tenancy.holder all.cycling x.own.number }) words' x.own.number x.own.registers stage (voided x.seen.share)
+sharing_gone k all words words' x p' live' t' stage below from at told g = let a = adds_gone x.seen.stage all.tenancy.holder all.live all.cycling x.own.number x.seen.share (Knowing k all.live all.tenancy.holder (state_of k all.log).graph all.cycling.paint.marks words x.own.number x.own.registers x.seen.share) g.sharing.knows g.sharing.adds in record {
+  telling = telling_gone k all.pause all.cycling.kind (owner_at all.tenancy.holder) all.cycling.paint.colours all.cycling.shares x.own.number x.own.arrivals told below x.seen.share x.seen.stage from at;
+  leading = leading_fresh x.seen.stage stage all.tenancy.holder all.cycling words words' x.own.number x.seen.share from g.sharing.leading;
   knows = inl refl;
   adds = record { blocks = a.blocks; words = a.words; own = λ e f h. cc };
 }
 
 -- and of another's
 pub sharing_else : (k : Config) (all : Account) (words words' : List ℕ) (st : Stage) (d : ℕ) (z : DomainView) (p' : Pause) (stock : Stock) → z.own.number ≢ d → SameCycle words words' → ((a : ℕ) → at_address k words' a ≡ at_address k words a) → Good k all words z
-    → Sharing k (record all { pause = p'; tenancy = record all.tenancy { stock = stock }; cycling = arrived_cycle st all.cycling d }) words' z.own.number z.own.registers z.seen.stage z.seen.share
+    → Sharing k (record all { pause = p'; tenancy = record all.tenancy { stock = stock }; cycling = arrived_cycle st all.tenancy.holder all.cycling d }) words' z.own.number z.own.registers z.seen.stage z.seen.share
 sharing_else k all words words' st d z p' stock other same heap g = record {
-  telling = telling_else st all.cycling.paint.colours all.cycling.shares d z.own.number z.seen.share other g.sharing.telling;
-  leading = leading_gone st all.cycling words' d z.own.number z.seen.stage z.seen.share (leading_words all.cycling words words' z.own.number z.seen.stage z.seen.share same g.sharing.leading);
+  telling = telling_else st (owner_at all.tenancy.holder) all.cycling.paint.colours all.cycling.shares d z.own.number z.seen.share other g.sharing.telling;
+  leading = leading_gone st all.tenancy.holder all.cycling words' d z.own.number z.seen.stage z.seen.share (leading_words all.cycling words words' z.own.number z.seen.stage z.seen.share same g.sharing.leading);
   knows = knows_words k all.live all.tenancy.holder (state_of k all.log).graph all.cycling.paint.marks words words' z.own.number z.own.registers z.seen.stage z.seen.share heap g.sharing.knows;
-  adds = adds_else st all.live all.cycling d z.own.number z.seen.share other g.sharing.adds;
+  adds = adds_else st all.tenancy.holder all.live all.cycling d z.own.number z.seen.share other g.sharing.adds;
 }
 
 -- also where blocks cease to live, outside a collection
 pub sharing_between : (k : Config) (all : Account) (words words' : List ℕ) (x z : DomainView) (kind : Kind) (p' : Pause) (live' : Live) (t' : Tenancy) → HasNoCycle kind → x.seen.stage ≡ In kind → HasNoCycle all.cycling.kind → z.own.number ≢ x.own.number → SameCycle words words' → Good k all words x → Good k all words z
-    → Sharing k (record all { pause = p'; live = live'; tenancy = t'; cycling = arrived_cycle x.seen.stage all.cycling x.own.number }) words' z.own.number z.own.registers z.seen.stage z.seen.share
+    → Sharing k (record all { pause = p'; live = live'; tenancy = t'; cycling = arrived_cycle x.seen.stage all.tenancy.holder all.cycling x.own.number }) words' z.own.number z.own.registers z.seen.stage z.seen.share
 sharing_between k all words words' x z kind p' live' t' none is none' other same gx g = record {
-  telling = telling_else x.seen.stage all.cycling.paint.colours all.cycling.shares x.own.number z.own.number z.seen.share other g.sharing.telling;
-  leading = leading_gone x.seen.stage all.cycling words' x.own.number z.own.number z.seen.stage z.seen.share (leading_words all.cycling words words' z.own.number z.seen.stage z.seen.share same g.sharing.leading);
+  telling = telling_else x.seen.stage (owner_at all.tenancy.holder) all.cycling.paint.colours all.cycling.shares x.own.number z.own.number z.seen.share other g.sharing.telling;
+  leading = leading_gone x.seen.stage all.tenancy.holder all.cycling words' x.own.number z.own.number z.seen.stage z.seen.share (leading_words all.cycling words words' z.own.number z.seen.stage z.seen.share same g.sharing.leading);
   knows = inl (idle_beside k all.live all.tenancy.holder (state_of k all.log).graph all.cycling.paint.marks words all.pause x z kind none is gx.staged g.staged g.sharing.knows);
-  adds = adds_nothing live' (arrived_cycle x.seen.stage all.cycling x.own.number) z.own.number z.seen.share none';
+  adds = adds_nothing live' (arrived_cycle x.seen.stage all.tenancy.holder all.cycling x.own.number) z.own.number z.seen.share none';
 }
 
 -- and what it says of the collection
-pub cycle_dropped : (st : Stage) (k : Config) (s : model.State) (live live' : Live) (p p' : Pause) (t t' : Tenancy) (c : Cycling) (words words' : List ℕ) (d : ℕ) → HasNoCycle c.kind → ((a : ℕ) → t'.garbage a ≡ t.garbage a) → SameCycle words words'
-    → Told k p' c.kind (arrived_in st c.shares d) → Cycled k s live p t c words → Cycled k s live' p' t' (arrived_cycle st c d) words'
-cycle_dropped st k s live live' p p' t t' c words words' d none garbage same told y =
+pub cycle_dropped : (st : Stage) (holder : ℕ → Holder) (k : Config) (s : model.State) (live live' : Live) (p p' : Pause) (t t' : Tenancy) (c : Cycling) (words words' : List ℕ) (d : ℕ) → HasNoCycle c.kind → ((a : ℕ) → t'.garbage a ≡ t.garbage a) → SameCycle words words'
+    → Told k p' c.kind (arrived_in st (owner_at holder) c.shares d) → Cycled k s live p t c words → Cycled k s live' p' t' (arrived_cycle st holder c d) words'
+cycle_dropped st holder k s live live' p p' t t' c words words' d none garbage same told y =
     let z = cycle_between k s s live live' p t t' c words words' none refl garbage same y in
     let b = facts_between c.kind k s live' t' c words' none z.facts in
-    let c' : Cycling = arrived_cycle st c d in record {
+    let c' : Cycling = arrived_cycle st holder c d in record {
       armed_is = z.armed_is;
       meanings = z.meanings;
       colours_are = z.colours_are;
-      changed_is = z.changed_is ∙ ap flag (sym (same_changed st c.shares d));
-      facts = between_facts c.kind k s live' t' c' words' none record { mode = b.mode; unmarked = b.unmarked; unchanged = same_changed st c.shares d ∙ b.unchanged; unrotated = b.unrotated };
+      changed_is = z.changed_is ∙ ap flag (sym (same_changed st (owner_at holder) c.shares d));
+      facts = between_facts c.kind k s live' t' c' words' none record { mode = b.mode; unmarked = b.unmarked; unchanged = same_changed st (owner_at holder) c.shares d ∙ b.unchanged; unrotated = b.unrotated };
       told = told;
       leaves = record { none = z.leaves.none; dead = z.leaves.dead; head = z.leaves.head };
     }
+
+-- a look at the barrier leaves what a domain knows that has arrived
+pub sharing_looked : (k : Config) (all : Account) (words : List ℕ) (x : DomainView) (last : Kind) (stage : Stage) → x.seen.stage ≡ Gone last → Good k all words x → Sharing k all words x.own.number x.own.registers stage x.seen.share
+sharing_looked k all words x last stage gone g = let l = subst (λ (st : Stage). Leading all.cycling words x.own.number st x.seen.share) gone g.sharing.leading in record {
+  telling = g.sharing.telling;
+  leading = record {
+    changed = λ v e. absurd (l.changed v e).1;
+    found_blocks = λ v e. absurd (apart (l.found_blocks v e).0);
+    found_words = λ v e. absurd (apart (l.found_words v e).0);
+    rotated = l.rotated;
+    turned = λ e. absurd (let h : Gone last ≡ Leads Lasts = l.turned e in cc);
+    pass = l.pass;
+  };
+  knows = inl (⊎_elim (λ (h : IsIdle x.seen.share). h) (λ (h : IsCollecting x.seen.stage × Knowing k all.live all.tenancy.holder (state_of k all.log).graph all.cycling.paint.marks words x.own.number x.own.registers x.seen.share). absurd (subst IsCollecting gone h.0)) g.sharing.knows);
+  adds = g.sharing.adds;
+} where
+  apart : (((x.own.number ≡ 0) × ⊥) ⊎ (Gone last ≡ In Answer)) → ⊥
+  apart h = ⊎_elim (λ (a : (x.own.number ≡ 0) × ⊥). a.1) (λ (e : Gone last ≡ In Answer). let f : Gone last ≡ In Answer = e in cc) h

@@ -1,6 +1,11 @@
+mod Layouts
 pub mod Plain
 mod Arriving
+mod Finishing
 mod Naming
+mod CollectorEntries
+mod Leading
 mod Arrivals
+pub mod Plain
 pub mod PauseSteps
 pub mod EndSteps

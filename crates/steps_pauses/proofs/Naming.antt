@@ -1,109 +1,348 @@
--- A collection of the major heap where domain 0 names the next kind of phase.
-use Rattle.std.proofs.Common.{◌≡◌, ◌≢◌, ℕ, ◌+◌, ◌*◌, ◌⊎◌, true, true≢false, List, Option, sym, refl, ap, ◌∙◌, subst, inl, ⊎_elim, arith}
+-- The ways from one kind of phase to the next: the facts of the next phase hold where domain 0 names it.
+use Rattle.std.proofs.Common.{◌≡◌, ℕ, zero, suc, ◌+◌, ◌<◌, ◌⊎◌, Bool, true, false, IsTrue, List, [], ◌∷◌, ◌++◌, length, Option, Some, None, sym, refl, ◌∙◌, subst, inl, inr, ⊎_elim}
 use Rattle.heap_model.specs.declared.entry.Entry.{Entry}
+use Rattle.heap_model.specs.declared.entry.Entry.TheVariants.{Cut, Seal, Collected, Done}
+use Rattle.heap_model.specs.declared.label.Label.{Label}
 use Rattle.heap_model.specs.declared.state.State as model
-use Rattle.cycle_laws.specs.Shares.{reset_shares}
+use Rattle.heap_model.specs.Domains.{domain_at}
+use Rattle.heap_model.specs.Entries.{Allowed, next as state_next}
+use Rattle.heap_model.specs.Graph.{has_label}
+use Rattle.cycle_laws.specs.Counting.{total}
+use Rattle.cycle_laws.specs.Cycle as laws
+use Rattle.cycle_laws.specs.Fullness.{kept_labels}
+use Rattle.cycle_laws.specs.Shares.{AllArrived, no_shares, reset_shares}
+use Rattle.cycle_laws.proofs.Cycling.{phase_steps}
+use Rattle.cycle_laws.proofs.Keeping.{fullness_law, kept_push}
+use Rattle.cycle_laws.proofs.Sweep.{sweep_law}
 use Rattle.heap_rule.specs.declared.config.Config.{Config}
 use Rattle.heap_rule.specs.declared.phase.Kind.{Kind}
-use Rattle.heap_rule.specs.declared.phase.Kind.TheVariants.{Lasts, Answer}
-use Rattle.heap_rule.specs.declared.phase.Stage.{Stage}
-use Rattle.heap_rule.specs.declared.phase.Stage.TheVariants.{In, Leads, Led, Gone}
-use Rattle.heap_rule.specs.declared.view.DomainView.{DomainView}
-use Rattle.heap_rule.specs.declared.view.Share.{Share}
-use Rattle.heap_rule.specs.Cycles.{Cycling, Cycled, Told, Leading, HasNoCycle, IsCollecting, IsIdle, Knowing, seen_by}
+use Rattle.heap_rule.specs.declared.phase.Kind.TheVariants.{Run, Promote, Reset, Roots, Mark, Rounds, Decide, Queued, Clean, Lasts, Sweep, Answer}
+use Rattle.heap_rule.specs.Cycles.{Cycling, Counts, Facts, IsBetween, cycle_of, swept_of, owner_at}
 use Rattle.heap_rule.specs.Fullness.{Homes, Fullness}
-use Rattle.heap_rule.specs.Phases.{Pause}
+use Rattle.heap_rule.specs.Layout.{live_blocks, live_words}
+use Rattle.heap_rule.specs.Limits.{sizes_in}
+use Rattle.heap_rule.specs.Phases.{Follows}
 use Rattle.heap_rule.specs.Places.{Live}
-use Rattle.heap_rule.specs.Pools.{Holder, Tenancy}
-use Rattle.heap_rule.specs.Rule.{Account, Good, Sharing, state_of}
-use Rattle.heap_rule.specs.Views.{fresh_share}
-use Rattle.heap_rule.proofs.Update.{over, over_here}
-use Rattle.heap_rule.proofs.FullnessLemmas.{full_kind}
-use Rattle.heap_rule.proofs.Sharings.{SameCycle, facts_between, between_facts, cycle_between}
-use Rattle.steps_pauses.specs.Pauses.{MayFollow}
+use Rattle.heap_rule.specs.Pools.{Tenancy, owned}
+use Rattle.heap_rule.specs.Rule.{state_of}
+use Rattle.heap_rule.proofs.FullnessLemmas.{full_kind, full_stays, made_stays}
+use Rattle.steps_pauses.specs.Pauses.{entry_of}
 
--- the collection in the phase of this kind: nothing of it is done
-abbrev pub led_cycle : Kind → Cycling → Cycling
-led_cycle next c = record c { kind = next; shares = reset_shares c.shares.changed }
+-- the state after an entry, if there is one, and the history
+abbrev pub left_by : model.State → Option Entry → model.State
+left_by s None = s
+left_by s (Some e) = state_next s e
 
--- the pauses then
-abbrev pub led_pause : Pause → ℕ → Kind → Pause
-led_pause p j next = record p { kinds = over (j + 1) next p.kinds; led = true }
+abbrev pub logged : List Entry → Option Entry → List Entry
+logged log None = log
+logged log (Some e) = log ++ e ∷ []
 
-pub told_led : (k : Config) (p : Pause) (j : ℕ) (next : Kind) (changed : _) → p.phase ≡ j * 2 + 1 → Told k (led_pause p j next) next (reset_shares changed)
-told_led k p j next changed odd = record {
-  even = λ i e. absurd (let f : p.phase ≡ i * 2 = e in let g : p.phase ≡ j * 2 + 1 = odd in omega arith);
-  odd = λ i e f. absurd (true≢false f);
-  led = λ i e _. let same : i ≡ j = (let f : p.phase ≡ i * 2 + 1 = e in let g : p.phase ≡ j * 2 + 1 = odd in omega arith) in (ap (λ (n : ℕ). over (j + 1) next p.kinds (n + 1)) same ∙ over_here (j + 1) next p.kinds, λ d. record { waits = refl; paid = refl; blind = refl });
+-- which pass it is after a phase
+abbrev pub pass_in : Kind → laws.Pass → laws.Pass
+pass_in Roots pass = laws.First
+pass_in Queued pass = laws.Second
+pass_in _ pass = pass
+
+-- what was marked before, as a phase begins
+abbrev before_in : Kind → Cycling → Label → Bool
+before_in Rounds c = c.paint.marks.marked
+before_in Lasts c = c.paint.marks.marked
+before_in _ c = c.before
+
+-- how many registrations are left to look at
+abbrev left_in : Kind → model.State → (ℕ → ℕ) → ℕ → ℕ
+left_in Decide s left = λ d. length (domain_at s d).finals
+left_in Lasts s left = λ d. length (domain_at s d).lasts
+left_in _ s left = left
+
+-- whether the colours are rotated
+abbrev rotated_in : Kind → Bool → Bool
+rotated_in Run rotated = false
+rotated_in _ rotated = rotated
+
+-- who has counted
+abbrev counts_in : Kind → Counts → Counts
+counts_in Sweep counts = record { own = λ _. []; blocks = λ _. false; words = λ _. false }
+counts_in _ counts = counts
+
+-- the collection as a phase begins: nothing of it is done. The changed word stays: domain 0 may set it back afterwards
+abbrev pub led_cycle : Kind → Kind → model.State → Cycling → Cycling
+led_cycle last next s c = record {
+  kind = next;
+  pass = pass_in last c.pass;
+  paint = c.paint;
+  shares = reset_shares c.shares.changed;
+  before = before_in next c;
+  left = left_in next s c.left;
+  rotated = rotated_in next c.rotated;
+  counts = counts_in next c.counts;
 }
 
-no_answer : (kind : Kind) → HasNoCycle kind → kind ≡ Answer → ⊥
-no_answer kind none is = subst HasNoCycle is none
+-- what is said of each way from kind to kind
+record Ways (P : Kind → Kind → Type 0) : Type 0 where
+  copies : P Run Promote
+  empties : P Promote Reset
+  runs : P Reset Run
+  roots : P Roots Mark
+  again : P Mark Mark
+  rounds : P Mark Rounds
+  back : P Rounds Mark
+  cut : P Rounds Decide
+  seal : P Rounds Clean
+  queued : P Decide Queued
+  second : P Queued Mark
+  lasts : P Clean Lasts
+  sweep : P Lasts Sweep
+  collected : P Sweep Answer
+  done : P Sweep Run
+  answered : P Answer Run
 
-pub full_led : (k : Config) (log : List Entry) (live : Live) (holder : ℕ → Holder) (fresh : ℕ → ℕ → Option ℕ) (homes : Homes) (last next : Kind) → MayFollow last next → Fullness k log live holder fresh homes last → Fullness k log live holder fresh homes next
-full_led k log live holder fresh homes last next may f = full_kind k log live holder fresh homes last next (λ _. no_answer last may.0) f
+each_way : (P : Kind → Kind → Type 0) → Ways P → (last next : Kind) → Follows last next → P last next
+each_way P w Run next f = subst (P Run) (sym f) w.copies
+each_way P w Promote next f = subst (P Promote) (sym f) w.empties
+each_way P w Reset next f = subst (P Reset) (sym f) w.runs
+each_way P w Roots next f = subst (P Roots) (sym f) w.roots
+each_way P w Mark next f = ⊎_elim (λ (e : next ≡ Mark). subst (P Mark) (sym e) w.again) (λ (e : next ≡ Rounds). subst (P Mark) (sym e) w.rounds) f
+each_way P w Rounds next f = ⊎_elim (λ (e : next ≡ Mark). subst (P Rounds) (sym e) w.back)
+    (λ q. ⊎_elim (λ (e : next ≡ Decide). subst (P Rounds) (sym e) w.cut) (λ (e : next ≡ Clean). subst (P Rounds) (sym e) w.seal) q) f
+each_way P w Decide next f = subst (P Decide) (sym f) w.queued
+each_way P w Queued next f = subst (P Queued) (sym f) w.second
+each_way P w Clean next f = subst (P Clean) (sym f) w.lasts
+each_way P w Lasts next f = subst (P Lasts) (sym f) w.sweep
+each_way P w Sweep next f = ⊎_elim (λ (e : next ≡ Run). subst (P Sweep) (sym e) w.done) (λ (e : next ≡ Answer). subst (P Sweep) (sym e) w.collected) f
+each_way P w Answer next f = subst (P Answer) (sym f) w.answered
 
-pub cycle_led : (k : Config) (s : model.State) (live : Live) (p : Pause) (j : ℕ) (t : Tenancy) (c : Cycling) (words words' : List ℕ) (next : Kind) → MayFollow c.kind next → p.phase ≡ j * 2 + 1 → SameCycle words words'
-    → Cycled k s live p t c words → Cycled k s live (led_pause p j next) t (led_cycle next c) words'
-cycle_led k s live p j t c words words' next may odd same y =
-    let z = cycle_between k s s live live p t t c words words' may.0 refl (λ a. refl) same y in
-    let b = facts_between c.kind k s live t c words' may.0 z.facts in record {
-      armed_is = z.armed_is;
-      meanings = z.meanings;
-      colours_are = z.colours_are;
-      changed_is = z.changed_is;
-      facts = between_facts next k s live t (led_cycle next c) words' may.1 record { mode = b.mode; unmarked = b.unmarked; unchanged = b.unchanged; unrotated = b.unrotated };
-      told = told_led k p j next c.shares.changed odd;
-      leaves = record { none = z.leaves.none; dead = z.leaves.dead; head = z.leaves.head };
+no_entry : (e : Entry) → ◌≡◌ {A = Option Entry} None (Some e) → ⊥
+no_entry e is = cc
+
+the_entry : (P : Entry → Type 0) (d e : Entry) → Some d ≡ Some e → P d → P e
+the_entry P d e is p = let same : d ≡ e = cc in subst P same p
+
+total_none : (n : ℕ) → total (λ d. 0) n ≡ 0
+total_none zero = refl
+total_none (suc n) = let h : total (λ d. 0) n ≡ 0 = total_none n in λ i. h i + 0
+
+-- what domain 0 knows of the phase that ends
+pub record Ready (last next : Kind) (c : Cycling) (words : List ℕ) : Type 0 where
+  pub quiet : (next ≡ Rounds) ⊎ ((next ≡ Decide) ⊎ (next ≡ Clean)) → c.shares.changed ≡ false
+  pub first : next ≡ Decide → c.pass ≡ laws.First
+  pub second : next ≡ Clean → c.pass ≡ laws.Second
+  pub rotated : last ≡ Lasts → IsTrue c.rotated
+  pub no_blocks : last ≡ Lasts → live_blocks words ≡ 0
+  pub no_words : last ≡ Lasts → live_words words ≡ 0
+
+module _ (k : Config) (log : List Entry) (live : Live) (t : Tenancy) (c : Cycling) (homes : Homes) (words : List ℕ) where
+  abbrev s : model.State
+  s = state_of k log
+
+  abbrev cyc : laws.Cycle
+  cyc = cycle_of k live t.holder c
+
+  abbrev swept : laws.Cycle
+  swept = swept_of k live t.holder c
+
+  -- what holds of a way: the entry is allowed, and the facts of the next phase hold behind it
+  pub record Way (last next : Kind) : Type 0 where
+    pub allowed : (e : Entry) → entry_of last next ≡ Some e → Allowed s e
+    pub facts : Facts next k (left_by s (entry_of last next)) live t (led_cycle last next s c) words
+    pub full : Fullness k (logged log (entry_of last next)) live t.holder t.fresh homes next
+    pub clean : (led_cycle last next s c).rotated ≡ false → (a : ℕ) → t.garbage a ≡ false
+    pub unturned : next ≡ Lasts → (led_cycle last next s c).rotated ≡ false
+    pub uncounted : next ≡ Sweep → (d : ℕ) → ((led_cycle last next s c).counts.blocks d ≡ false) × ((led_cycle last next s c).counts.words d ≡ false)
+
+  module _ (none : c.rotated ≡ false → (a : ℕ) → t.garbage a ≡ false) (all : AllArrived k.domains c.shares) (count : k.domains ≡ length s.domains) (owners : (q d class : ℕ) → t.holder q ≡ owned d class → d < k.domains) where
+    abbrev Goes : Kind → Kind → Type 0
+    Goes last next = Ready last next c words → Facts last k s live t c words → Fullness k log live t.holder t.fresh homes last → Way last next
+
+    between : IsBetween s c → (last next : Kind) → rotated_in next c.rotated ≡ false → IsBetween s (led_cycle last next s c)
+    between b last next unrotated = record { mode = b.mode; unmarked = b.unmarked; unchanged = b.unchanged; unrotated = unrotated }
+
+    -- shares that begin anew with a changed word of 0
+    quietly : (P : laws.Cycle → Type 0) (last next : Kind) → c.shares.changed ≡ false → P (record (cycle_of k live t.holder (led_cycle last next s c)) { shares = no_shares }) → P (cycle_of k live t.holder (led_cycle last next s c))
+    quietly P last next unchanged p = subst (λ (b : Bool). P (record (cycle_of k live t.holder (led_cycle last next s c)) { shares = reset_shares b })) (sym unchanged) p
+
+    ways : Ways Goes
+    ways = record {
+      copies = λ r f full. record {
+        allowed = λ e is. absurd (no_entry e is);
+        facts = between f Run Promote f.unrotated;
+        full = full_kind k log live t.holder t.fresh homes Run Promote (λ _ e. cc) full;
+        clean = λ e a. none e a;
+        unturned = λ e. cc;
+        uncounted = λ e. cc;
+      };
+      empties = λ r f full. record {
+        allowed = λ e is. absurd (no_entry e is);
+        facts = between f Promote Reset f.unrotated;
+        full = full_kind k log live t.holder t.fresh homes Promote Reset (λ _ e. cc) full;
+        clean = λ e a. none e a;
+        unturned = λ e. cc;
+        uncounted = λ e. cc;
+      };
+      runs = λ r f full. record {
+        allowed = λ e is. absurd (no_entry e is);
+        facts = between f Reset Run refl;
+        full = full_kind k log live t.holder t.fresh homes Reset Run (λ _ e. cc) full;
+        clean = λ _ a. none f.unrotated a;
+        unturned = λ e. cc;
+        uncounted = λ e. cc;
+      };
+      roots = λ r f full. record {
+        allowed = λ e is. absurd (no_entry e is);
+        facts = (phase_steps.roots_mark laws.First k.domains s cyc count f.0 all c.shares.changed, f.1.unrotated);
+        full = full_kind k log live t.holder t.fresh homes Roots Mark (λ _ e. cc) full;
+        clean = λ e a. none e a;
+        unturned = λ e. cc;
+        uncounted = λ e. cc;
+      };
+      again = λ r f full. record {
+        allowed = λ e is. absurd (no_entry e is);
+        facts = (phase_steps.mark_mark c.pass k.domains s cyc f.0 c.shares.changed, f.1);
+        full = full_kind k log live t.holder t.fresh homes Mark Mark (λ _ e. cc) full;
+        clean = λ e a. none e a;
+        unturned = λ e. cc;
+        uncounted = λ e. cc;
+      };
+      rounds = λ r f full. record {
+        allowed = λ e is. absurd (no_entry e is);
+        facts = (quietly (laws.InPhase (laws.Rounds c.pass) k.domains s) Mark Rounds (r.quiet (inl refl)) (phase_steps.mark_rounds c.pass k.domains s cyc f.0 all (r.quiet (inl refl))), f.1);
+        full = full_kind k log live t.holder t.fresh homes Mark Rounds (λ _ e. cc) full;
+        clean = λ e a. none e a;
+        unturned = λ e. cc;
+        uncounted = λ e. cc;
+      };
+      back = λ r f full. record {
+        allowed = λ e is. absurd (no_entry e is);
+        facts = (phase_steps.rounds_mark c.pass k.domains s cyc f.0 c.shares.changed, f.1);
+        full = full_kind k log live t.holder t.fresh homes Rounds Mark (λ _ e. cc) full;
+        clean = λ e a. none e a;
+        unturned = λ e. cc;
+        uncounted = λ e. cc;
+      };
+      cut = λ r f full. let quiet = r.quiet (inr (inl refl)) in let row = phase_steps.rounds_decide k.domains s cyc (subst (λ (pass : laws.Pass). laws.InPhase (laws.Rounds pass) k.domains s cyc) (r.first refl) f.0) all quiet in record {
+        allowed = λ e is. the_entry (Allowed s) Cut e is row.0;
+        facts = (quietly (laws.InPhase laws.Decide k.domains (state_next s Cut)) Rounds Decide quiet row.1, record { unchanged = quiet; unrotated = f.1 });
+        full = full_kind k (log ++ Cut ∷ []) live t.holder t.fresh homes Rounds Decide (λ _ e. cc) (full_stays k log live t.holder t.fresh homes Rounds Cut refl full);
+        clean = λ e a. none e a;
+        unturned = λ e. cc;
+        uncounted = λ e. cc;
+      };
+      seal = λ r f full. let quiet = r.quiet (inr (inr refl)) in let row = phase_steps.rounds_clean k.domains s cyc (subst (λ (pass : laws.Pass). laws.InPhase (laws.Rounds pass) k.domains s cyc) (r.second refl) f.0) all quiet in record {
+        allowed = λ e is. the_entry (Allowed s) Seal e is row.0;
+        facts = (quietly (laws.InPhase laws.Clean k.domains (state_next s Seal)) Rounds Clean quiet row.1, record { unchanged = quiet; unrotated = f.1 });
+        full = full_kind k (log ++ Seal ∷ []) live t.holder t.fresh homes Rounds Clean (λ _ e. cc) (full_stays k log live t.holder t.fresh homes Rounds Seal refl full);
+        clean = λ e a. none e a;
+        unturned = λ e. cc;
+        uncounted = λ e. cc;
+      };
+      queued = λ r f full. record {
+        allowed = λ e is. absurd (no_entry e is);
+        facts = (quietly (laws.InPhase (laws.Roots laws.Second) k.domains s) Decide Queued f.1.unchanged (phase_steps.decide_queued k.domains s cyc count f.0 all), record { unchanged = f.1.unchanged; unrotated = f.1.unrotated });
+        full = full_kind k log live t.holder t.fresh homes Decide Queued (λ _ e. cc) full;
+        clean = λ e a. none e a;
+        unturned = λ e. cc;
+        uncounted = λ e. cc;
+      };
+      second = λ r f full. record {
+        allowed = λ e is. absurd (no_entry e is);
+        facts = (phase_steps.roots_mark laws.Second k.domains s cyc count f.0 all c.shares.changed, f.1.unrotated);
+        full = full_kind k log live t.holder t.fresh homes Queued Mark (λ _ e. cc) full;
+        clean = λ e a. none e a;
+        unturned = λ e. cc;
+        uncounted = λ e. cc;
+      };
+      lasts = λ r f full. let row = phase_steps.clean_lasts k.domains s cyc f.0 all in record {
+        allowed = λ e is. absurd (no_entry e is);
+        facts = record {
+          facts = record { owned = row.owned; whole = row.whole; waiting = row.waiting; lasts = row.lasts; through = λ d is. cc };
+          unchanged = f.1.unchanged;
+          stays = λ _ l. refl;
+          turned = λ is. absurd (let clash : true ≡ false = sym is ∙ f.1.unrotated in cc);
+        };
+        full = full_kind k log live t.holder t.fresh homes Clean Lasts (λ _ e. cc) full;
+        clean = λ e a. none e a;
+        unturned = λ _. f.1.unrotated;
+        uncounted = λ e. cc;
+      };
+      sweep = λ r f full. let turned = f.turned (r.rotated refl) in let row = phase_steps.lasts_sweep k.domains s swept count f.facts all in let g = row.1 in record {
+        allowed = λ e is. absurd (no_entry e is);
+        facts = record {
+          mode = f.facts.lasts.mode;
+          swept = record {
+            facts = record { sealed = g.sealed; owned = g.owned; whole = g.whole; waiting = g.waiting; kept = g.kept };
+            rotated = r.rotated refl;
+            all_marked = turned.all_marked;
+            unmarked = turned.unmarked;
+            unchanged = f.unchanged;
+            counted = record {
+              first = λ d is. cc;
+              once = λ d is. cc;
+              owned = λ d l is. cc;
+              all = λ d a l is. cc;
+              blocks_are = r.no_blocks refl ∙ sym (total_none k.domains);
+              words_are = r.no_words refl ∙ sym (total_none k.domains);
+            };
+          };
+          sweep = sweep_law.start k.domains (owner_at t.holder) t.garbage turned.owned;
+          all_counted = λ d is. cc;
+        };
+        full = full_kind k log live t.holder t.fresh homes Lasts Sweep (λ _ e. cc) full;
+        clean = λ e a. none e a;
+        unturned = λ e. cc;
+        uncounted = λ _ d. (refl, refl);
+      };
+      collected = λ r f full. let row = phase_steps.sweep_collected k.domains s swept refl f.mode f.swept.facts in let g = row.1 in record {
+        allowed = λ e is. the_entry (Allowed s) Collected e is row.0;
+        facts = record {
+          swept = record {
+            facts = record { sealed = g.sealed; owned = g.owned; whole = g.whole; waiting = g.waiting; kept = g.kept };
+            rotated = f.swept.rotated;
+            all_marked = f.swept.all_marked;
+            unmarked = f.swept.unmarked;
+            unchanged = f.swept.unchanged;
+            counted = f.swept.counted;
+          };
+          clean = sweep_law.end k.domains (owner_at t.holder) t.garbage c.shares.seen c.shares.arrived f.sweep all;
+          all_counted = λ d below. f.all_counted d (all d below);
+          held = λ q d class is. cc;
+        };
+        full = record {
+          kept = λ a p lives. subst (λ (kept : List Label). IsTrue (has_label kept p.label)) (sym (kept_push (sizes_in k) log Collected))
+              (fullness_law.collected s c.before c.before (kept_labels (sizes_in k) log) (λ l is. is) (f.swept.facts.whole refl) p.label (f.swept.all_marked a p lives));
+          low = full.low;
+          young = full.young;
+          made = made_stays k log Collected homes full.made;
+          owned = λ goes. absurd (goes refl);
+          drawn = full.drawn;
+        };
+        clean = λ e a. none e a;
+        unturned = λ e. cc;
+        uncounted = λ e. cc;
+      };
+      done = λ r f full. record {
+        allowed = λ e is. the_entry (Allowed s) Done e is (phase_steps.sweep_done k.domains s swept f.swept.facts);
+        facts = record { mode = refl; unmarked = f.swept.unmarked; unchanged = f.swept.unchanged; unrotated = refl };
+        full = full_kind k (log ++ Done ∷ []) live t.holder t.fresh homes Sweep Run (λ _ e. cc) (full_stays k log live t.holder t.fresh homes Sweep Done refl full);
+        clean = λ _. sweep_law.end k.domains (owner_at t.holder) t.garbage c.shares.seen c.shares.arrived f.sweep all;
+        unturned = λ e. cc;
+        uncounted = λ e. cc;
+      };
+      answered = λ r f full. let kept = full_stays k log live t.holder t.fresh homes Answer Done refl full in record {
+        allowed = λ e is. the_entry (Allowed s) Done e is (phase_steps.sweep_done k.domains s swept f.swept.facts);
+        facts = record { mode = refl; unmarked = f.swept.unmarked; unchanged = f.swept.unchanged; unrotated = refl };
+        full = record {
+          kept = kept.kept;
+          low = kept.low;
+          young = kept.young;
+          made = kept.made;
+          owned = λ _ q d class is. let h = f.held q d class (all d (owners q d class is)) is in inr (h.2.0.label, kept.kept _ h.2.0 h.2.1, kept.low q d class h.0 h.2.0 is h.1 h.2.1);
+          drawn = kept.drawn;
+        };
+        clean = λ _. f.clean;
+        unturned = λ e. cc;
+        uncounted = λ e. cc;
+      };
     }
 
--- what the rule says of the share of domain 0 then
-pub sharing_led : (k : Config) (all : Account) (words : List ℕ) (x : DomainView) (p' : Pause) (next : Kind) → MayFollow all.cycling.kind next → Sharing k (record all { pause = p'; cycling = led_cycle next all.cycling }) words x.own.number x.own.registers (Led next) fresh_share
-sharing_led k all words x p' next may = record {
-  telling = record { owes = λ _. refl; seen = λ _. refl; fresh = λ _. refl; forgotten = λ _ _. refl; colours = λ c f. cc };
-  leading = record { changed = λ v e. cc; found_blocks = λ v e. cc; found_words = λ v e. cc; rotated = λ _ e. absurd (subst HasNoCycle e may.1); turned = λ e. cc };
-  knows = inl refl;
-  adds = record { blocks = λ e _. absurd (subst HasNoCycle e may.1); words = λ e _. absurd (subst HasNoCycle e may.1); own = λ e _ _. absurd (subst HasNoCycle e may.1) };
-}
-
--- and of that of another, who has arrived from the phase before
-pub sharings_led : (k : Config) (all : Account) (words words' : List ℕ) (z : DomainView) (p' : Pause) (next : Kind) → MayFollow all.cycling.kind next → SameCycle words words' → z.own.number ≢ 0 → all.cycling.shares.arrived z.own.number ≡ true → Good k all words z
-    → Sharing k (record all { pause = p'; cycling = led_cycle next all.cycling }) words' z.own.number z.own.registers z.seen.stage z.seen.share
-sharings_led k all words words' z p' next may same other gone g =
-    let t = g.sharing.telling in
-    let l = g.sharing.leading in
-    let idle : IsIdle z.seen.share = t.fresh gone in record {
-      telling = record {
-        owes = λ _. sym (ap (λ (h : Share). h.owes) idle);
-        seen = λ _. sym (ap (λ (h : Share). seen_by h.sights) idle);
-        fresh = λ _. idle;
-        forgotten = λ _ _. t.forgotten gone other;
-        colours = t.colours;
-      };
-      leading = record {
-        changed = λ v e. absurd (other (l.changed v e).0);
-        found_blocks = λ v e. let h = l.found_blocks v e in (h.0, same.blocks_same ∙ h.1);
-        found_words = λ v e. let h = l.found_words v e in (h.0, same.words_same ∙ h.1);
-        rotated = λ first _. absurd (other first);
-        turned = l.turned;
-      };
-      knows = inl idle;
-      adds = record { blocks = λ e _. absurd (subst HasNoCycle e may.1); words = λ e _. absurd (subst HasNoCycle e may.1); own = λ e _ _. absurd (subst HasNoCycle e may.1) };
-    }
-
--- a look at the barrier leaves what a domain knows that has arrived
-pub sharing_looked : (k : Config) (all : Account) (words : List ℕ) (x : DomainView) (last : Kind) (stage : Stage) → x.seen.stage ≡ Gone last → Good k all words x → Sharing k all words x.own.number x.own.registers stage x.seen.share
-sharing_looked k all words x last stage gone g = let l = subst (λ (st : Stage). Leading all.cycling words x.own.number st x.seen.share) gone g.sharing.leading in record {
-  telling = g.sharing.telling;
-  leading = record {
-    changed = λ v e. absurd (l.changed v e).1;
-    found_blocks = λ v e. absurd (apart (l.found_blocks v e).0);
-    found_words = λ v e. absurd (apart (l.found_words v e).0);
-    rotated = l.rotated;
-    turned = λ e. absurd (let h : Gone last ≡ Leads Lasts = l.turned e in cc);
-  };
-  knows = inl (⊎_elim (λ (h : IsIdle x.seen.share). h) (λ (h : IsCollecting x.seen.stage × Knowing k all.live all.tenancy.holder (state_of k all.log).graph all.cycling.paint.marks words x.own.number x.own.registers x.seen.share). absurd (subst IsCollecting gone h.0)) g.sharing.knows);
-  adds = g.sharing.adds;
-} where
-  apart : (((x.own.number ≡ 0) × ⊥) ⊎ (Gone last ≡ In Answer)) → ⊥
-  apart h = ⊎_elim (λ (a : (x.own.number ≡ 0) × ⊥). a.1) (λ (e : Gone last ≡ In Answer). let f : Gone last ≡ In Answer = e in cc) h
+    pub led_way : (last next : Kind) → Follows last next → Ready last next c words → Facts last k s live t c words → Fullness k log live t.holder t.fresh homes last → Way last next
+    led_way last next follows = each_way Goes ways last next follows

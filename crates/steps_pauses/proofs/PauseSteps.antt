@@ -11,29 +11,28 @@ use Rattle.heap_model.proofs.Histories.FrontLemmas.{front_whole}
 use Rattle.heap_rule.specs.declared.config.Config.{Config}
 use Rattle.heap_rule.specs.declared.view.DomainView.{DomainView}
 use Rattle.heap_rule.specs.declared.phase.Kind.{Kind}
-use Rattle.heap_rule.specs.declared.phase.Kind.TheVariants.{Run, Promote, Mark, Rounds, Decide, Clean, Sweep, Answer}
+use Rattle.heap_rule.specs.declared.phase.Kind.TheVariants.{Run, Promote}
 use Rattle.heap_rule.specs.declared.phase.Stage.{Stage}
 use Rattle.heap_rule.specs.declared.phase.Stage.TheVariants.{In, Leads, Led, Gone}
 use Rattle.heap_rule.specs.declared.phase.Note.{Note}
 use Rattle.heap_rule.specs.declared.phase.Note.TheVariants.{Want, Asked, Barrier, Ended, Cleared, SetBack}
-use Rattle.heap_rule.specs.Layout.{heap_words, before_heap, barrier, plan, ended_word, want}
+use Rattle.heap_rule.specs.Layout.{heap_words, before_heap, barrier, ended_word, want}
 use Rattle.heap_rule.specs.Phases.{code, Follows, Comes, sum_of, is_over, IsEven, IsOdd, Pause, Phases, LeftOdd, AtStage, Staged, Still, IsInPause, TookBack, HasSetBack, Unwished, last_note}
-use Rattle.heap_rule.specs.Pools.{Tenancy, Takes, IsLeading, KeepsReserve}
+use Rattle.heap_rule.specs.Pools.{Tenancy, IsLeading}
 use Rattle.heap_rule.specs.Places.{Live}
-use Rattle.heap_rule.specs.Copies.{nothing_copied, Promoting, Resetting, IsEmptying}
+use Rattle.heap_rule.specs.Copies.{nothing_copied}
 use Rattle.heap_rule.specs.declared.view.Copying.{Copying}
-use Rattle.steps_pauses.specs.Pauses.{noted, kind_in, IsGone, WantTold, AskTold, ArriveMay, Arrived, LookTold, PlanTold, ClearTold, LeadMay, LeadTold, EndedTold, MayFollow}
+use Rattle.steps_pauses.specs.Pauses.{noted, kind_in, IsGone, WantTold, AskTold, ArriveMay, Arrived, LookTold, PlanTold, ClearTold, LeadMay, LeadTold, EndedTold}
 use Rattle.heap_rule.specs.Raw.{MayStep, MayStore}
 use Rattle.heap_rule.specs.Rule.{state_of, Rule}
-use Rattle.heap_rule.specs.Views.{one, Tells, fresh_share}
-use Rattle.heap_rule.proofs.Update.{over, over_here, over_else}
-use Rattle.heap_rule.proofs.Controls.{Untouched, untouched_same, counts_untouched, low_untouched, reserved_untouched, hunter_untouched, resting_untouched, sum_low, parity, Move, moved_to, no_move, turns, notes_rule, last_note_end, cycle_untouched}
+use Rattle.heap_rule.specs.Views.{one, Tells}
+use Rattle.heap_rule.proofs.Controls.{untouched_same, sum_low, parity, Move, moved_to, no_move, turns, notes_rule, last_note_end}
 use Rattle.heap_rule.proofs.Holders.{stock_self}
 use Rattle.steps_pauses.proofs.Arrivals.{arrives}
-use Rattle.heap_rule.proofs.Keeps.{Words, mine, my_good, now, unmoved, nobody_leads, quiet_in, owes_rests, hunter_as, room_words}
+use Rattle.heap_rule.proofs.Keeps.{Words, mine, my_good, unmoved, nobody_leads, quiet_in, owes_rests, hunter_as}
 use Rattle.heap_rule.proofs.PauseFacts.{not_both}
-use Rattle.heap_rule.proofs.Sharings.{SameCycle}
-use Rattle.steps_pauses.proofs.Naming.{led_cycle, led_pause, full_led, cycle_led, sharing_led, sharings_led, sharing_looked}
+use Rattle.steps_pauses.proofs.Leading.{led_rule, led_told}
+use Rattle.steps_pauses.proofs.Arriving.{sharing_looked}
 
 gone_runs : (kind : Kind) → ◌≡◌ {A = Stage} (Gone kind) (In Run) → ⊥
 gone_runs kind e = cc
@@ -218,137 +217,9 @@ wants k slots id hist x note f s r at unwished took_back elsewhere others =
     unwished took_back (λ back. absurd (elsewhere back)) others
     (get_or-set_other s.words 0 1 new 0 (λ e. omega arith)) (get_or-set_other s.words 0 2 new 0 (λ e. omega arith)) (get_or-set_other s.words 0 8 new 0 (λ e. omega arith))
 
--- what another than domain 0 knows in an odd phase stays when the next kind is named
-others_led : (t : Pause) (j : ℕ) (next : Kind) (d arrivals : ℕ) (st : Stage) → t.phase ≡ j * 2 + 1 → d ≢ 0 → arrivals ≤ t.phase + 1 → AtStage t d arrivals st → AtStage (record t { kinds = over (j + 1) next t.kinds; led = true }) d arrivals st
-others_led t j next d arrivals (In kd) odd other few at = absurd (let i : ℕ = at.1.0 in let h : t.phase ≡ i * 2 = at.1.1 in omega arith)
-others_led t j next d arrivals (Leads kd) odd other few at = let i : ℕ = at.1.0 in let h : t.phase ≡ i * 2 + 1 = at.1.1 in (at.0, (i, h, over_else (j + 1) next t.kinds i (λ e. omega arith) ∙ at.1.2), λ first. absurd (other first))
-others_led t j next d arrivals (Led kd) odd other few at = absurd (other at.2)
-others_led t j next d arrivals (Gone kd) odd other few at = (
-  λ i e. over_else (j + 1) next t.kinds i (λ same. omega arith) ∙ at.0 i e,
-  λ even. let l = at.1 even in (l.0, l.1, λ first. absurd (other first), λ _. over_else (j + 1) next t.kinds l.0 (λ same. let i : ℕ = l.0 in let e : arrivals ≡ i * 2 + 2 = l.1 in let g : i ≡ j + 1 = same in omega arith) ∙ l.3 other),
-  λ first. absurd (other first),
-)
-
--- when the next kind is named it stays so that nothing lives in minor areas
-resetting_led : (t : Pause) (j : ℕ) (next : Kind) → t.phase ≡ j * 2 + 1 → Resetting (record t { kinds = over (j + 1) next t.kinds; led = true }) → Resetting t
-resetting_led t j next odd h =
-    let same : (i : ℕ) → t.phase ≡ i * 2 + 1 → over (j + 1) next t.kinds i ≡ t.kinds i = (λ i e. over_else (j + 1) next t.kinds i (λ up. omega arith)) in ⊎_elim
-    (λ (a : (i : ℕ) × (t.phase ≡ i * 2 + 1) × (over (j + 1) next t.kinds i ≢ Run)). inl (a.0, a.1, λ e. a.2 (same a.0 a.1 ∙ e)))
-    (λ (a : (i : ℕ) × (t.phase ≡ i * 2) × IsEmptying (over (j + 1) next t.kinds i)). absurd (not_both t.phase (a.0, a.1) (j, odd))) h
-
--- and the reserve is kept where it was
-keeps_led : (t : Pause) (j : ℕ) (next : Kind) → t.phase ≡ j * 2 + 1 → KeepsReserve (record t { kinds = over (j + 1) next t.kinds; led = true }) → KeepsReserve t
-keeps_led t j next odd h = ⊎_elim
-    (λ (even : t.phase ≡ h.0 * 2). absurd (not_both t.phase (h.0, even) (j, odd)))
-    (λ (up : t.phase ≡ h.0 * 2 + 1). (h.0, inr up, sym (over_else (j + 1) next t.kinds h.0 (λ e. let i : ℕ = h.0 in let f : t.phase ≡ i * 2 + 1 = up in let g : i ≡ j + 1 = e in omega arith)) ∙ h.2)) h.1
-
--- they copy after they ran
-follows_promote : (a b : Kind) → Follows a b → b ≡ Promote → a ≡ Run
-follows_promote a b f e = from a (subst (Follows a) e f)
-  where
-    from : (a : Kind) → Follows a Promote → a ≡ Run
-    from Run f = refl
-    from Mark f = ⊎_elim (λ (e : Promote ≡ Mark). absurd (let h : Promote ≡ Mark = e in cc)) (λ (e : Promote ≡ Rounds). absurd (let h : Promote ≡ Rounds = e in cc)) f
-    from Rounds f = ⊎_elim (λ (e : Promote ≡ Mark). absurd (let h : Promote ≡ Mark = e in cc))
-        (λ q. ⊎_elim (λ (e : Promote ≡ Decide). absurd (let h : Promote ≡ Decide = e in cc)) (λ (e : Promote ≡ Clean). absurd (let h : Promote ≡ Clean = e in cc)) q) f
-    from Sweep f = ⊎_elim (λ (e : Promote ≡ Run). absurd (let h : Promote ≡ Run = e in cc)) (λ (e : Promote ≡ Answer). absurd (let h : Promote ≡ Answer = e in cc)) f
-    from _ f = cc
-
 leads : (k : Config) (slots id : ℕ) (hist : List Entry) (x : DomainView) (new : ℕ) (next : Kind) → LeadMay x new next
-    → Allows (Rule k) slots id (one k hist x, []) 2 (λ _. new) (λ _. Tells (LeadTold next) (one k hist x, []) new)
-leads k slots id hist x new next may s r _ at _ =
-    let P = r.whole.phases in
-    let t : Pause = r.account.pause in
-    let g = my_good k s r id hist x at in
-    let ws : List ℕ = set s.words 2 new in
-    let m : Move = record (no_move x) { stage = Led next; share = fresh_share } in
-    let y : DomainView = moved_to x m in
-    let tenancy : Tenancy = r.account.tenancy in
-    let live : Live = r.account.live in
-    let before = subst (AtStage t x.own.number x.own.arrivals) may.stage g.staged.stage in
-    let j : ℕ = before.1.0 in
-    let odd : t.phase ≡ j * 2 + 1 = before.1.1 in
-    let t' : Pause = led_pause t j next in
-    let here = r.whole.cycle.told.odd j odd (before.2 may.leads) in
-    let left : r.account.cycling.kind ≡ may.last = sym here.0 ∙ before.1.2 in
-    let may_now : MayFollow r.account.cycling.kind next = subst (λ (kind : Kind). MayFollow kind next) (sym left) may.may in
-    let plan' : plan ws ≡ new = get_or-set_same s.words 2 new 0 (let w : ℕ = heap_words k in let p : ℕ = before_heap k in let o : 10 ≤ p = omega arith in let l : length s.words ≡ 1 + p + w = r.whole.wide in omega arith) in
-    let untouched : Untouched s.words ws = (length-set s.words 2 new, (λ i low other. get_or-set_other s.words 2 i new 0 (λ e. omega arith))) in
-    let same_cycle : SameCycle s.words ws = cycle_untouched s.words ws untouched (get_or-set_other s.words 2 3 new 0 (λ e. omega arith)) in
-    let elsewhere : Promoting t → ⊥ = (λ h. not_both t.phase (h.0, h.1) (j, odd)) in
-    let quiet : x.seen.copying ≡ nothing_copied = quiet_in k live x g.owes (λ e. leads_promotes may.last (sym may.stage ∙ e)) in
-    let named : (i : ℕ) → t.phase ≡ i * 2 + 1 → over (j + 1) next t.kinds (i + 1) ≡ next = (λ i e. let same : i ≡ j = (let h : t.phase ≡ i * 2 + 1 = e in omega arith) in ap (λ (n : ℕ). over (j + 1) next t.kinds (n + 1)) same ∙ over_here (j + 1) next t.kinds) in
-    let room = room_words k live t tenancy.stock s.words ws (λ _. counts_untouched s.words ws untouched) r.whole.room in
-    let same_want : want ws ≡ want s.words = get_or-set_other s.words 2 0 new 0 (λ e. omega arith) in
-    let barrier' : barrier ws ≡ barrier s.words = get_or-set_other s.words 2 1 new 0 (λ e. omega arith) in (
-      one k hist y,
-      keeps,
-      tt,
-      turns k s r id hist x at m t' tenancy.stock (led_cycle next r.account.cycling) r.account.homes ws record {
-        full = full_led k r.account.log live tenancy.holder tenancy.fresh r.account.homes r.account.cycling.kind next may_now r.whole.full;
-        paint = refl;
-        cycle = cycle_led k (now k s r id hist x at) live t j tenancy r.account.cycling s.words ws next may_now odd same_cycle r.whole.cycle;
-        sharing = sharing_led k r.account ws x t' next may_now;
-        sharings = λ z below other h. sharings_led k r.account s.words ws z t' next may_now same_cycle (λ first. other (first ∙ sym may.leads)) (here.1 z.own.number below) h;
-        owes = owes_rests k live x y refl quiet (ap (λ (c : Copying). c.pending) quiet) refl g.owes;
-        settled = ⊎_elim (λ h. inl h) (λ (h : Promoting t). absurd (elsewhere h)) r.whole.settled;
-        cleared = λ h. absurd (not_both t.phase (h.0, h.1) (j, odd));
-        emptied = λ h. r.whole.emptied (resetting_led t j next odd h);
-        rooted = (λ h. absurd (not_both t.phase (h.0, h.1) (j, odd)), ⊎_elim (λ h. absurd (not_both t.phase (h.0.0, h.0.1) (j, odd))) (λ h. g.rooted.1 (inr (resetting_led t j next odd h))));
-        roots = λ z _ _ _ old. (λ h. absurd (not_both t.phase (h.0, h.1) (j, odd)), ⊎_elim (λ h. absurd (not_both t.phase (h.0.0, h.0.1) (j, odd))) (λ h. old.1 (inr (resetting_led t j next odd h))));
-        reserved = λ keeps i below above. reserved_untouched k t tenancy s.words ws untouched r.whole.pools r.whole.reserved (keeps_led t j next odd keeps) i below above;
-        room = record { fills = room.fills; fit = room.fit; claims = room.claims; listed_copies = room.listed_copies; left = λ h. absurd (not_both t.phase (h.0, h.1) (j, odd)) };
-        unused = λ _. r.whole.unused elsewhere;
-        drawable = record {
-          to_run = λ i e l runs. let w = may.rewound (sym (named i e) ∙ runs) in ((resting_untouched k s.words ws x untouched g.resting).lists w.0 w.1).rewinds w.2;
-          to_copy = λ i e l copies.
-              let is : next ≡ Promote = sym (named i e) ∙ copies in
-              low_untouched k s.words ws untouched (g.set_back (may.stage ∙ ap Leads (follows_promote may.last next may.follows is), may.set_back is));
-        };
-        hunter = hunter_as k tenancy ws x y refl refl refl refl refl refl (hunter_untouched k tenancy s.words ws x untouched g.hunter);
-        stocks = λ e _. stock_self tenancy.stock e;
-        set_back = λ back. absurd (led_leads next Run back.0);
-        untouched = untouched;
-        front = (mine k s r id hist x at).front;
-        endings = get_or-set_other s.words 2 8 new 0 (λ e. omega arith);
-        still = λ paused. absurd paused;
-        drawers = record {
-          drawn = λ q e h. let u = (r.whole.drawers.drawn q e h).1 in absurd (not_both t.phase (u.0, u.1) (j, odd));
-          prepared = λ q e h. absurd (elsewhere (r.whole.drawers.prepared q e h).1);
-          claims = λ e h. absurd (elsewhere (r.whole.drawers.claims e h).1);
-        };
-        free = λ f e. e;
-        resting = let rest = resting_untouched k s.words ws x untouched g.resting in let stays : x.seen.stage ≢ In Run = (λ e. leads_runs may.last (sym may.stage ∙ e)) in let not_taking : Takes x.seen.stage → ⊥ = (λ takes. ⊎_elim stays (λ e. leads_promotes may.last (sym may.stage ∙ e)) takes) in record {
-          hunt = λ n. rest.hunt not_taking;
-          free = λ n. rest.free stays;
-          lists = λ l e. let z = rest.lists l e in record { first = z.first; leads = tt; few = z.few; owners = z.owners; names = z.names; count = z.count; rewinds = z.rewinds };
-        };
-        phases = record {
-          sum = barrier' ∙ P.sum;
-          begun = subst (λ (n : ℕ). t.phase * k.domains ≤ n) (sym barrier') P.begun;
-          unfinished = subst (λ (n : ℕ). n < (t.phase + 1) * k.domains) (sym barrier') P.unfinished;
-          each = P.each;
-          even_plan = λ i e. absurd (let h : t.phase ≡ i * 2 = e in omega arith);
-          next_plan = λ i e l.
-              let same : i ≡ j = (let h : t.phase ≡ i * 2 + 1 = e in omega arith) in
-              subst (λ (n : ℕ). (plan ws ≡ code (over (j + 1) next t.kinds (n + 1))) × Follows (over (j + 1) next t.kinds n) (over (j + 1) next t.kinds (n + 1))) (sym same) (
-                plan' ∙ (may.word ∙ ap code (sym (over_here (j + 1) next t.kinds))),
-                subst (λ (z : Kind × Kind). Follows z.0 z.1) (λ c. (sym (over_else (j + 1) next t.kinds j (λ f. omega arith) ∙ before.1.2) c, sym (over_here (j + 1) next t.kinds) c)) may.follows,
-              );
-          followed = λ i e. absurd (let h : t.phase ≡ i * 2 + 2 = e in omega arith);
-          leader = λ i e a. refl;
-        };
-        staged = record { arrivals = g.staged.arrivals; stage = (before.0, (j, odd, over_here (j + 1) next t.kinds), may.leads, refl) };
-        unwished = λ i e l runs. same_want ∙ g.took_back may.last may.stage (may.took_back (sym (named i e) ∙ runs));
-        took_back = λ kind leads last. absurd (led_leads next kind leads);
-        others_took_back = λ z _ took kind leads last. same_want ∙ took kind leads last;
-        others = λ z below other its. record {
-          arrivals = its.arrivals;
-          stage = others_led t j next z.own.number z.own.arrivals z.seen.stage odd (λ first. other (first ∙ sym may.leads)) (subst (λ (n : ℕ). n ≤ t.phase + 1) (sym its.arrivals) (P.each z.own.number below).1) its.stage;
-        };
-      },
-      (refl, refl),
-    )
+    → Allows (Rule k) slots id (one k hist x, []) 2 (λ _. new) (λ _. Tells (LeadTold k next) (one k hist x, []) new)
+leads k slots id hist x new next may s r _ at _ = (_, keeps, tt, led_rule k s r id hist x at new next may, (led_told k s r id hist x at new next may, refl))
 
 -- at most all traces have ended
 pub over_few : (k : Config) (s : Words) → Rule k s → ended_word s.words ≤ k.domains
@@ -402,5 +273,5 @@ look_may k x gone fits slots id h = lookings k slots id h x gone
 pub plan_may : (k : Config) (x : DomainView) → MayStep k x 2 (λ n. n) PlanTold
 plan_may k x fits slots id h = plans k slots id h x
 
-pub lead_may : (k : Config) (x : DomainView) (new : ℕ) (next : Kind) → LeadMay x new next → MayStore k x 2 new (LeadTold next)
+pub lead_may : (k : Config) (x : DomainView) (new : ℕ) (next : Kind) → LeadMay x new next → MayStore k x 2 new (LeadTold k next)
 lead_may k x new next may fits slots id h = leads k slots id h x new next may

@@ -1,5 +1,5 @@
 -- What the steps of a pause tell of a token's own data.
-use Rattle.std.proofs.Common.{◌≡◌, ◌+◌, ◌*◌, ◌^◌, ◌<◌, lit<, ℕ, sym, ap, ◌∙◌, subst, arith, lt_of_not-le, inl, length}
+use Rattle.std.proofs.Common.{◌≡◌, ◌+◌, ◌*◌, ◌^◌, ◌<◌, lit<, ℕ, sym, ap, ◌∙◌, subst, arith, lt_of_not-le, inl, length, ⊎_elim, None, refl}
 use mathlib.Core.Logic.{dite}
 use native.Mathlib.Decide.{dec_le}
 use Rattle.heap_model.specs.declared.entry.Entry.TheVariants.{End}
@@ -11,9 +11,14 @@ use Rattle.heap_rule.specs.declared.view.DomainView.{DomainView}
 use Rattle.heap_rule.specs.Raw.{CanChange, Changes, Closes}
 use Rattle.heap_rule.specs.Token.{OwnFits}
 use Rattle.heap_rule.proofs.Plain.{entered_closes}
-use Rattle.steps_pauses.specs.Pauses.{ArriveMay, forgotten, Arrived, LookTold, CanArrive, CountsArrival, EndTold, end_changes}
+use Rattle.steps_pauses.specs.Pauses.{ArriveMay, forgotten, Arrived, LookTold, CanArrive, CountsArrival, EndTold, end_changes, HasDone, MayFollow, entry_of}
 use Rattle.heap_rule.proofs.Closes.{front_same}
 use Rattle.heap_model.specs.Fronts.{IsFrontOf}
+use Rattle.heap_rule.specs.declared.phase.Kind.{Kind}
+use Rattle.heap_rule.specs.declared.phase.Kind.TheVariants.{Roots, Mark, Rounds, Clean, Sweep, Answer, Run, Promote, Reset, Decide, Lasts}
+use Rattle.heap_rule.specs.declared.phase.Stage.TheVariants.{In}
+use Rattle.heap_rule.specs.Cycles.{IsCollecting, HasNoCycle}
+use Rattle.heap_rule.specs.declared.view.Share.{Share}
 
 -- a look at the barrier leaves the token's own data
 pub look_own : (k : Config) (x : DomainView) (found : ℕ) (y : DomainView) → LookTold k x found y → y.own ≡ x.own
@@ -45,3 +50,32 @@ arrived_closes k x found may y fits told =
 -- the end of a trace empties the registers
 pub end_closes : (k : Config) (x : DomainView) (found : ℕ) → Closes k x found (EndTold k) (λ own. CanChange Unread found end_changes) (λ own after. Changes Unread found end_changes own after)
 end_closes k x found y fits told = entered_closes k x found (End x.own.number) Silent end_changes (lit< tt, tt) y fits told
+
+-- a domain that is in no phase of a collection has nothing of one to do
+pub nothing_due : (k : Config) (x : DomainView) → (IsCollecting x.seen.stage → ⊥) → HasDone k x
+nothing_due k x none =
+    let apart : (kind : Kind) → (HasNoCycle kind → ⊥) → x.seen.stage ≡ In kind → ⊥ = (λ kind is here. none (subst IsCollecting (sym here) is)) in record {
+      rooted = λ here. absurd (apart Roots (λ h. h) here);
+      told = λ here. absurd (⊎_elim (apart Mark (λ h. h)) (λ more. ⊎_elim (apart Rounds (λ h. h)) (apart Clean (λ h. h)) more) here);
+      walked = λ here. absurd (⊎_elim (apart Mark (λ h. h)) (apart Sweep (λ h. h)) here);
+      held = λ here. absurd (apart Answer (λ h. h) here);
+      added = λ here. absurd (apart Sweep (λ h. h) here);
+    }
+
+-- nor does domain 0 need to know anything of one where none goes on, and no entry stands then
+pub free_follow : (share : Share) (last next : Kind) → HasNoCycle last → HasNoCycle next → MayFollow share last next
+free_follow share last next before after =
+    let apart : (kind : Kind) → (HasNoCycle kind → ⊥) → next ≡ kind → ⊥ = (λ kind none is. none (subst HasNoCycle is after)) in
+    let left : last ≡ Lasts → ⊥ = (λ is. subst HasNoCycle is before) in record {
+      unchanged = λ h. absurd (⊎_elim (apart Rounds (λ u. u)) (λ q. ⊎_elim (apart Decide (λ u. u)) (apart Clean (λ u. u)) q) h);
+      first = λ h. absurd (apart Decide (λ u. u) h);
+      second = λ h. absurd (apart Clean (λ u. u) h);
+      rotated = λ h. absurd (left h);
+      set_back = λ h. absurd (left h);
+    }
+
+pub no_entry_stands : (last next : Kind) → HasNoCycle last → entry_of last next ≡ None
+no_entry_stands Run next none = refl
+no_entry_stands Promote next none = refl
+no_entry_stands Reset next none = refl
+no_entry_stands _ next none = absurd none

@@ -1,11 +1,11 @@
 -- What the steps of a pause ask and tell.
-use Rattle.std.specs.Prelude.{◌≡◌, ◌≢◌, ℕ, ◌+◌, ◌*◌, ◌^◌, ◌<◌, ◌≤◌, ◌⊎◌, true, List, [], ◌∷◌, ◌++◌, length, Some, None}
+use Rattle.std.specs.Prelude.{◌≡◌, ◌≢◌, ℕ, ◌+◌, ◌*◌, ◌^◌, ◌<◌, ◌≤◌, ◌⊎◌, true, List, [], ◌∷◌, ◌++◌, length, Some, None, IsTrue, false, ◌==◌, Bool, Option}
 use Rattle.heap_model.specs.Domains.{class_count}
-use Rattle.heap_model.specs.declared.entry.Entry.TheVariants.{End}
+use Rattle.heap_model.specs.declared.entry.Entry.TheVariants.{End, Cut, Seal, Collected, Done}
 use Rattle.heap_model.specs.declared.reply.Applied.TheVariants.{Silent}
 use Rattle.heap_model.specs.History.{Legal}
 use Rattle.heap_model.specs.Fronts.{IsFrontOf}
-use Rattle.heap_words.specs.declared.value.Value.TheVariants.{Nothing}
+use Rattle.heap_words.specs.declared.value.Value.TheVariants.{Nothing, Ref}
 use Rattle.heap_rule.specs.declared.change.Change.{Change}
 use Rattle.heap_rule.specs.declared.change.Change.TheVariants.{Clear}
 use Rattle.heap_rule.specs.declared.change.Part.TheVariants.{Register}
@@ -26,9 +26,12 @@ use Rattle.heap_rule.specs.Phases.{code, Follows, Comes, IsEven, IsOdd, last_not
 use Rattle.heap_rule.specs.Pools.{prepared_at}
 use Rattle.heap_rule.specs.Copies.{nothing_copied, HoldsOld}
 use Rattle.heap_rule.specs.Standing.{Entered}
-use Rattle.heap_rule.specs.declared.phase.Kind.TheVariants.{Run, Promote, Reset}
-use Rattle.heap_rule.specs.Cycles.{HasNoCycle}
-use Rattle.heap_rule.specs.Views.{fresh_share}
+use Rattle.heap_rule.specs.declared.phase.Kind.TheVariants.{Run, Promote, Reset, Roots, Mark, Rounds, Clean, Sweep, Answer, Decide, Queued, Lasts}
+use Rattle.heap_rule.specs.Views.{fresh_share, voided}
+use Rattle.std.specs.List.{list_any}
+use Rattle.heap_rule.specs.Changes.{value_at}
+use Rattle.heap_model.specs.declared.entry.Entry.{Entry}
+use Rattle.heap_rule.specs.declared.view.Share.{Share}
 
 -- the domain with one note more, and all else as it was
 abbrev pub noted : DomainView → Note → DomainView
@@ -60,10 +63,22 @@ ArrivesFrom d (Leads kind) = d ≢ 0
 ArrivesFrom d (Led kind) = Unit {0}
 ArrivesFrom d (Gone kind) = ⊥
 
--- what a domain has done of a phase in which it arrives. From those of a collection of the major heap nobody arrives yet
-abbrev pub HasDone : Config → DomainView → Stage → Type 0
-HasDone k x (In kind) = HasNoCycle kind
-HasDone k x _ = Unit {0}
+-- a domain that arrives from here has looked at own places, and may have darkened a block
+abbrev pub Traces : Stage → Type 0
+Traces stage = (stage ≡ In Mark) ⊎ ((stage ≡ In Rounds) ⊎ (stage ≡ In Clean))
+
+-- What a domain has done of a phase of a collection in which it arrives. Of a phase without one, and of those in which finalisers are queued, nothing is asked: no finaliser is registered, and no ephemeron made, yet
+pub record HasDone (k : Config) (x : DomainView) : Type 0 where
+  -- it has marked what its registers hold
+  pub rooted : x.seen.stage ≡ In Roots → (r a : ℕ) → r < 16 → value_at x.own.registers r ≡ Ref a → IsTrue (list_any (λ q. q == r) x.seen.share.roots)
+  -- it owes no store of the changed word
+  pub told : Traces x.seen.stage → x.seen.share.owes ≡ false
+  -- it has been at each own place
+  pub walked : (x.seen.stage ≡ In Mark) ⊎ (x.seen.stage ≡ In Sweep) → k.pools ≤ x.seen.share.walk.pool
+  -- its pools hold blocks
+  pub held : x.seen.stage ≡ In Answer → k.pools ≤ x.seen.share.held
+  -- it has added what it has counted
+  pub added : x.seen.stage ≡ In Sweep → (x.seen.share.added_blocks ≡ true) × (x.seen.share.added_words ≡ true)
 
 -- A domain arrives while it takes no block and makes none. Where it leaves Promote it owes no copy a value, has looked through all its remembered fields, holds no address of a minor area and has no place prepared. Where it leaves Reset its minor area is empty
 pub record ArriveMay (k : Config) (x : DomainView) : Type 0 where
@@ -76,17 +91,17 @@ pub record ArriveMay (k : Config) (x : DomainView) : Type 0 where
   pub holds_old : x.seen.stage ≡ In Promote → HoldsOld k x
   pub unprepared : x.seen.stage ≡ In Promote → (c : ℕ) → c < class_count → prepared_at x.own.prepared c ≡ None
   pub emptied : x.seen.stage ≡ In Reset → x.own.used ≡ 0
-  pub done : HasDone k x x.seen.stage
+  pub done : HasDone k x
 
 -- a list that has forgotten its items, and has room for as many more
 abbrev pub forgotten : Bounded Copied → Bounded Copied
 forgotten l = record { items = []; room = l.room + length l.items }
 
--- the domain has arrived: its list of copies is empty, and what it knows of the blocks that it met, of how many pools are free, of the list that it wrote, and of the phase, is void
+-- the domain has arrived: its list of copies is empty, and what it knows of the blocks that it met, of how many pools are free, of the list that it wrote, and of the phase but for the cut, is void
 abbrev pub arrived_view : DomainView → DomainView
 arrived_view x = record {
   own = record x.own { arrivals = x.own.arrivals + 1; pending = forgotten x.own.pending };
-  seen = record x.seen { stage = Gone (kind_in x.seen.stage); free = None; listing = None; copying = nothing_copied; share = fresh_share };
+  seen = record x.seen { stage = Gone (kind_in x.seen.stage); free = None; listing = None; copying = nothing_copied; share = voided x.seen.share };
 }
 
 abbrev pub Arrived : DomainView → ℕ → DomainView → Type 0
@@ -128,9 +143,28 @@ pub record ClearMay (x : DomainView) : Type 0 where
 abbrev pub ClearTold : DomainView → ℕ → DomainView → Type 0
 ClearTold x found y = y ≡ noted x Cleared
 
--- what domain 0 knows as it names the next kind. No collection of the major heap goes on yet
-abbrev pub MayFollow : Kind → Kind → Type 0
-MayFollow last next = HasNoCycle last × HasNoCycle next
+-- the collector's entry that stands where a kind is named after another
+abbrev pub entry_of : Kind → Kind → Option Entry
+entry_of Rounds Decide = Some Cut
+entry_of Rounds Clean = Some Seal
+entry_of Sweep Answer = Some Collected
+entry_of Sweep Run = Some Done
+entry_of Answer Run = Some Done
+entry_of _ _ = None
+
+-- whether the cut of the collection is made
+abbrev pub cut_in : Kind → Bool → Bool
+cut_in Roots cut = false
+cut_in Queued cut = true
+cut_in _ cut = cut
+
+-- What domain 0 knows as it names the next kind. It leaves the marking when it has found that nothing was changed, to one side before the cut is made, to the other after it. Blocks are freed once it has rotated the colours, and set the live words back
+pub record MayFollow (share : Share) (last next : Kind) : Type 0 where
+  pub unchanged : (next ≡ Rounds) ⊎ ((next ≡ Decide) ⊎ (next ≡ Clean)) → share.changed ≡ Some 0
+  pub first : next ≡ Decide → share.cut ≡ false
+  pub second : next ≡ Clean → share.cut ≡ true
+  pub rotated : last ≡ Lasts → share.rotated ≡ true
+  pub set_back : last ≡ Lasts → (share.blocks ≡ Some 0) × (share.words ≡ Some 0)
 
 -- domain 0 names the next kind in an odd phase, once. Before the domains run again it has just taken the wishes back, and set the cursor to 0 in this phase. Before they copy it has just set the cursor back out of the reserve
 pub record LeadMay (x : DomainView) (new : ℕ) (next : Kind) : Type 0 where
@@ -142,10 +176,21 @@ pub record LeadMay (x : DomainView) (new : ℕ) (next : Kind) : Type 0 where
   pub took_back : next ≡ Run → last_note x.seen.notes ≡ Some Cleared
   pub rewound : next ≡ Run → (l : Listing) × (x.seen.listing ≡ Some l) × (l.rewound ≡ true)
   pub set_back : next ≡ Promote → last_note x.seen.notes ≡ Some SetBack
-  pub may : MayFollow last next
+  pub may : MayFollow x.seen.share last next
 
-abbrev pub LeadTold : Kind → DomainView → ℕ → DomainView → Type 0
-LeadTold next x found y = y ≡ record x { seen = record x.seen { stage = Led next; share = fresh_share } }
+-- an entry stands at the step: the front ends with it
+pub record EndsWith (k : Config) (x y : DomainView) (e : Entry) : Type 0 where
+  pub before : List Entry
+  pub front : y.seen.front ≡ before ++ e ∷ []
+  pub seen : IsFrontOf x.own.number before x.seen.front
+  pub legal : Legal (sizes_in k) y.seen.front
+
+-- what domain 0 knew of the phase is void, and the collector's entry stands, if there is one
+pub record LeadTold (k : Config) (next : Kind) (x : DomainView) (found : ℕ) (y : DomainView) : Type 0 where
+  pub seen : IsFrontOf x.own.number y.seen.front x.seen.front
+  pub stays : entry_of (kind_in x.seen.stage) next ≡ None → y.seen.front ≡ x.seen.front
+  pub made : (e : Entry) → entry_of (kind_in x.seen.stage) next ≡ Some e → EndsWith k x y e
+  pub view : y ≡ record x { seen = record x.seen { front = y.seen.front; stage = Led next; share = record fresh_share { cut = cut_in (kind_in x.seen.stage) x.seen.share.cut } } }
 
 -- what the end of a trace changes: the registers hold nothing
 abbrev pub end_changes : List Change

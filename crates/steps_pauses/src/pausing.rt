@@ -94,7 +94,7 @@ pub fn plan_store(heap: &Heap, dom: &mut Domain, new: u64)
     requires here { IsIn dom.old heap.now }
     requires may { LeadMay dom.old.view new (kind_at new) }
     ensures here { IsIn dom.new heap.now }
-    ensures told { LeadTold (kind_at new) dom.old.view new dom.new.view }
+    ensures told { LeadTold heap.now.config (kind_at new) dom.old.view new dom.new.view }
 {
     raw_store::<Brand, Leaving>(heap, dom, PLAN, new, &Leaving, &[]);
 }

@@ -152,7 +152,7 @@ module _ (k : Config) (s : Words) (r : Rule k s) (id : ℕ) (hist : List Entry) 
 
   -- where a copy is known, the head forwards to it
   forwards_to : (a c : ℕ) → HasCopy x a c → at_address k s.words a ≡ head_word (Forward c)
-  forwards_to a c has = let u = (my_good k s r id hist x at).owes.copied a c has in subst (λ (o : Option ℕ). HeadIs o u.place.shape unmarked false (at_address k s.words a)) u.forwards (r.whole.found a u.place u.lives).head
+  forwards_to a c has = let u = (my_good k s r id hist x at).owes.copied a c has in let h = (r.whole.found a u.place u.lives).head in subst (λ (o : Option ℕ). HeadIs o u.place.shape (colour_in r.account.cycling.paint u.place.label) h.scanned (at_address k s.words a)) u.forwards h.packs
 
   -- what lives at the address of a head load
   source : (a : ℕ) → HeadMay x a → (p : Place) × (live a ≡ Some p)

@@ -1,5 +1,5 @@
 -- In Reset a domain's minor area is free again.
-use Rattle.std.proofs.Common.{◌≡◌, ℕ, ◌+◌, ◌*◌, ◌<◌, ◌≤◌, List, [], set, slice_get, get_or, length, Some, None, Option, sym, refl, ap, ◌∙◌, inl, inr, ⊎_elim, subst, arith, length-set}
+use Rattle.std.proofs.Common.{◌≡◌, ℕ, ◌+◌, ◌*◌, ◌<◌, ◌≤◌, List, [], set, slice_get, get_or, length, Some, None, Option, sym, refl, ap, ◌∙◌, inl, inr, ⊎_elim, subst, arith, length-set, IsTrue}
 use Rattle.std.proofs.lemmas.Int.{ints}
 use mathlib.Core.Option.{some}
 use lib.ListN.{get_elem?}
@@ -35,7 +35,7 @@ use Rattle.heap_rule.proofs.Ends.{same_views}
 use Rattle.heap_rule.proofs.Lists.{got_there}
 use Rattle.heap_rule.proofs.Values.{packable}
 use Rattle.heap_rule.proofs.Lots.{Beside, area_beside, grid_beside, hunter_beside}
-use Rattle.heap_rule.proofs.Keeps.{mine, my_good, control_set, controls_kept, hunter_as, more_same, writes, cycle_here, sharing_here, sharings_here, cycle_control, Words, unmoved}
+use Rattle.heap_rule.proofs.Keeps.{mine, my_good, control_set, controls_kept, hunter_as, more_same, writes, cycle_here, sharing_here, sharings_here, cycle_control, Words, unmoved, no_garbage_here}
 use Rattle.heap_rule.proofs.PauseFacts.{promote_rests}
 use Rattle.heap_rule.proofs.Sharings.{SameCycle}
 
@@ -101,7 +101,8 @@ none_young k s r id hist x at resets =
           let holder = owner_is (r.account.tenancy.holder q) d c few (λ e b is. (r.whole.pools.owned_by q e b is).2) (sym (r.whole.pools.owners q below) ∙ word) in
           ⊎_elim (λ (free : at_address k s.words (place_in q c slot) ≡ 0). absurd (taken free))
           (λ z. ⊎_elim (λ (there : (p : Place) × (live (place_in q c slot) ≡ Some p)). there)
-          (λ (prepared : r.account.tenancy.prepared (place_in q c slot) ≡ Some d). absurd (promote_rests r.account.pause (r.whole.drawers.prepared (place_in q c slot) d prepared).1 t)) z)
+          (λ y. ⊎_elim (λ (prepared : r.account.tenancy.prepared (place_in q c slot) ≡ Some d). absurd (promote_rests r.account.pause (r.whole.drawers.prepared (place_in q c slot) d prepared).1 t))
+          (λ (garbage : IsTrue (r.account.tenancy.garbage (place_in q c slot))). absurd (no_garbage_here k s r id hist x at Reset tt resets (place_in q c slot) garbage)) y) z)
           (r.whole.grid.places q d c slot holder inside);
       stands = λ q few. subst (λ (log : List Entry). Stands live (value_at x.own.registers q) (register (state_of k log) x.own.number q)) front (g.stood.each q few);
       registers = λ q few. all_old k live (value_at x.own.registers q) (register (state_of k r.account.log) x.own.number q) pools (g.stood.each q few);

@@ -1,5 +1,5 @@
 -- What the steps ask and tell by which young blocks are copied: loads at which blocks are met, stores to copies, and the roots ("Retrofitting Parallelism onto OCaml", section 3.2).
-use Rattle.std.specs.Prelude.{◌≡◌, ℕ, ◌+◌, ◌*◌, ◌<◌, ◌≤◌, ◌⊎◌, List, [], ◌∷◌, length, slice_get, slice_set, Some, ◌≢◌, None, false}
+use Rattle.std.specs.Prelude.{◌≡◌, ℕ, ◌+◌, ◌*◌, ◌<◌, ◌≤◌, ◌⊎◌, List, [], ◌∷◌, length, slice_get, slice_set, Some, ◌≢◌}
 use Rattle.heap_model.specs.declared.label.Label.{Label}
 use Rattle.heap_model.specs.declared.graph.Value as model
 use Rattle.heap_model.specs.declared.graph.Node.{Node}
@@ -23,7 +23,7 @@ use Rattle.heap_rule.specs.declared.view.DomainView.{DomainView}
 use Rattle.heap_rule.specs.declared.phase.Kind.TheVariants.{Promote, Reset}
 use Rattle.heap_rule.specs.declared.phase.Stage.TheVariants.{In}
 use Rattle.heap_rule.specs.Layout.{base_of, at_address, owner_of}
-use Rattle.heap_rule.specs.Places.{Place, Live, extent, values_of, IsHeadOf, IsNewHead, IsPackableShape, IsBuilt, Fits, Stands, IsOldAt, IsOldWord, Lasts, More, unmarked, head_of, WordStands}
+use Rattle.heap_rule.specs.Places.{Place, Live, extent, values_of, IsHeadOf, IsNewHead, IsPackableShape, IsBuilt, Fits, Stands, IsOldAt, IsOldWord, Lasts, More, WordStands}
 use Rattle.heap_rule.specs.Changes.{value_at}
 use Rattle.heap_rule.specs.Pools.{owned, owner_word, blocks_of, place_in}
 use Rattle.heap_rule.specs.Copies.{HasCopy, HoldsOld, known}

@@ -1,13 +1,21 @@
 use Rattle.std.proofs.Common.{ℕ, ◌+◌, ◌*◌, ◌≤◌, Option, true≢false, sym, subst, ◌∙◌, arith}
 use Rattle.heap_words.specs.Unpacked.{Unpacks}
 use Rattle.promote_claim.specs.Heads.{IsForward, forward_word}
-use Rattle.promote_claim.proofs.Meeting.{head_for, old_small}
+use Rattle.promote_claim.proofs.Meeting.{head_for, old_small, met_inside}
 use Rattle.promote_claim.proofs.Preparing.{place_old}
 use Rattle.promote_claim.proofs.Racing.{claim_won, claim_lost, lost_leads}
 use Rattle.promote_claim.proofs.claiming.claim_as.Goals as goal
+use Rattle.heap_rule.specs.Places.{HasClass}
 
 pub words_of-requires : goal.words_of-requires
 words_of-requires c = let m = c.requires.met in (m.place.shape, head_for c.args.heap.now.config c.args.dom.now.view c.args.young c.args.word c.requires.works.fit m)
+
+pub class_for-class-requires : goal.class_for-class-requires
+class_for-class-requires c = let m = c.requires.met in let w = c.requires.works.fit in
+    subst HasClass (sym (c.words_of.ensures m.place.shape (head_for c.args.heap.now.config c.args.dom.now.view c.args.young c.args.word w m))) (w c.args.young m.place m.met).classed
+
+pub claim_exchange-found-requires-clause-inside : goal.claim_exchange-found-requires-clause-inside
+claim_exchange-found-requires-clause-inside c = let m = c.requires.met in met_inside c.args.heap.now.config c.args.dom.now.view c.args.young m.place c.requires.works.fit m.met
 
 pub pack_head-new-requires : goal.pack_head-new-requires
 pack_head-new-requires c =

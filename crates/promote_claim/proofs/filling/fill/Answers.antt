@@ -67,3 +67,7 @@ loop-place-preserved c = record {
 pub returns-clause-filled : goal.returns-clause-filled
 returns-clause-filled c =
     ended c.args.heap.now.config c.args.i c.pending_at-copy.result c.args.dom.now.view (c.words_of-size.result - 2) c.loop-place.place c.loop-place.dom.view c.loop-place.invariant.progress c.copy_end.result c.copy_end.new.dom.view c.copy_end.ensures.told
+
+pub young_field_load-word-requires-clause-inside : goal.young_field_load-word-requires-clause-inside
+young_field_load-word-requires-clause-inside c =
+    source_inside c.args.heap.now.config c.args.i c.pending_at-copy.result c.args.dom.now.view (c.words_of-size.result - 2) c.loop-place.place c.loop-place.dom.view c.loop-place.invariant.progress c.loop-place-test.true

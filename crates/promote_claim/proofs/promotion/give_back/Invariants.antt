@@ -1,5 +1,5 @@
 use Rattle.heap_rule.specs.Token.{IsIn}
-use Rattle.promote_claim.proofs.Giving.{Gives}
+use Rattle.promote_claim.specs.Sharing.{Gives}
 use Rattle.promote_claim.proofs.promotion.give_back.Given as goal
 
 abbrev pub invariant-loop-class : goal.invariant-loop-class

@@ -1,12 +1,9 @@
-use Rattle.std.proofs.Common.{ap}
-use Rattle.heap_rule.specs.declared.view.DomainView.{DomainView}
-use Rattle.heap_rule.proofs.Closes.{front_same, leaves_closes}
-use Rattle.steps_cycle.specs.Looks.{ColoursTold}
 use Rattle.steps_cycle.proofs.LookSteps.{colours_may}
+use Rattle.steps_cycle.proofs.Plain.{colours_closes}
 use Rattle.steps_cycle.proofs.looking.colours_load.Goals as goal
 
 pub raw_load-requires-clause-may : goal.raw_load-requires-clause-may
 raw_load-requires-clause-may c = colours_may c.args.heap.now.config c.args.dom.now.view c.requires.acts
 
 pub raw_load-requires-clause-closes : goal.raw_load-requires-clause-closes
-raw_load-requires-clause-closes c = λ found. leaves_closes c.args.heap.now.config c.args.dom.now.view found ColoursTold (λ y told. ap (λ (z : DomainView). z.own) told.view) (λ y told. front_same c.args.dom.now.view y (ap (λ (z : DomainView). z.seen.front) told.view))
+raw_load-requires-clause-closes c = λ found. colours_closes c.args.heap.now.config c.args.dom.now.view found

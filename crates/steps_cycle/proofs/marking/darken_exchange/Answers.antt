@@ -1,4 +1,5 @@
-use Rattle.steps_cycle.proofs.DarkenSteps.{darken_may, darken_closes}
+use Rattle.steps_cycle.proofs.Plain.{darken_closes}
+use Rattle.steps_cycle.proofs.DarkenSteps.{darken_may}
 use Rattle.steps_cycle.proofs.marking.darken_exchange.Goals as goal
 
 pub raw_exchange-requires-clause-may : goal.raw_exchange-requires-clause-may

@@ -1,5 +1,5 @@
-use Rattle.heap_rule.proofs.Closes.{front_same, leaves_closes}
-use Rattle.steps_cycle.proofs.GlimpseSteps.{glimpse_may, glimpse_closes}
+use Rattle.steps_cycle.proofs.Plain.{glimpse_closes}
+use Rattle.steps_cycle.proofs.GlimpseSteps.{glimpse_may}
 use Rattle.steps_cycle.proofs.marking.glimpse_load.Goals as goal
 
 pub raw_load-requires-clause-may : goal.raw_load-requires-clause-may

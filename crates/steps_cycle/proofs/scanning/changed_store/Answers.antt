@@ -1,4 +1,5 @@
-use Rattle.steps_cycle.proofs.ScanSteps.{changed_may, changed_closes}
+use Rattle.steps_cycle.proofs.Plain.{changed_closes}
+use Rattle.steps_cycle.proofs.ScanSteps.{changed_may}
 use Rattle.steps_cycle.proofs.scanning.changed_store.Goals as goal
 
 pub raw_store-requires-clause-may : goal.raw_store-requires-clause-may

@@ -1,4 +1,5 @@
-use Rattle.steps_cycle.proofs.ScanSteps.{scan_may, scan_closes}
+use Rattle.steps_cycle.proofs.Plain.{scan_closes}
+use Rattle.steps_cycle.proofs.ScanSteps.{scan_may}
 use Rattle.steps_cycle.proofs.scanning.scan_load.Goals as goal
 
 pub raw_load-requires-clause-may : goal.raw_load-requires-clause-may

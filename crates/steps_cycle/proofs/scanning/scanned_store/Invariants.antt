@@ -2,4 +2,4 @@ use Rattle.steps_cycle.specs.Marking.{ScannedTold}
 use Rattle.steps_cycle.proofs.scanning.scanned_store.Given as goal
 
 abbrev pub ghosts-raw_store : goal.ghosts-raw_store
-ghosts-raw_store a = record { tells = ScannedTold }
+ghosts-raw_store g a = record { tells = ScannedTold a.writing.now.at g.site }

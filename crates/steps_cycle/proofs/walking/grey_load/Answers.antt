@@ -1,4 +1,5 @@
-use Rattle.steps_cycle.proofs.WalkSteps.{grey_may, grey_closes}
+use Rattle.steps_cycle.proofs.Plain.{grey_closes}
+use Rattle.steps_cycle.proofs.WalkSteps.{grey_may}
 use Rattle.steps_cycle.proofs.walking.grey_load.Goals as goal
 
 pub raw_load-requires-clause-may : goal.raw_load-requires-clause-may

@@ -1,4 +1,5 @@
-use Rattle.steps_cycle.proofs.WalkSteps.{mark_may, mark_closes}
+use Rattle.steps_cycle.proofs.Plain.{mark_closes}
+use Rattle.steps_cycle.proofs.WalkSteps.{mark_may}
 use Rattle.steps_cycle.proofs.walking.mark_load.Goals as goal
 
 pub raw_load-requires-clause-may : goal.raw_load-requires-clause-may

@@ -1,4 +1,5 @@
-use Rattle.steps_cycle.proofs.WalkSteps.{own_may, own_closes}
+use Rattle.steps_cycle.proofs.Plain.{own_closes}
+use Rattle.steps_cycle.proofs.WalkSteps.{own_may}
 use Rattle.steps_cycle.proofs.walking.own_load.Goals as goal
 
 pub raw_load-requires-clause-may : goal.raw_load-requires-clause-may

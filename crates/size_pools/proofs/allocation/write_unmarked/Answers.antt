@@ -7,7 +7,7 @@ use Rattle.heap_rule.specs.declared.change.Change.TheVariants.{Set}
 use Rattle.heap_rule.specs.declared.view.Hunt.TheVariants.{Fills}
 use Rattle.steps_pools.specs.Takes.{with_hunt, MajorEntry}
 use Rattle.size_pools.proofs.Writing.{room_inside, major_may, major_did}
-use Rattle.size_pools.proofs.allocation.write_block.Goals as goal
+use Rattle.size_pools.proofs.allocation.write_unmarked.Goals as goal
 
 pub overflow_add-at : goal.overflow_add-at
 overflow_add-at g c =
@@ -104,7 +104,7 @@ head_store-requires g c =
       (
         (low, (let h : a ≤ p * 4096 + w = omega arith in h)),
         subst (λ (e : Entry). MajorEntry c.args.heap.now.config c.loop-i.dom.view c.args.at c.pack_head.result (Set Register c.from.result (record { value = Ref c.args.at; number = 0; more = 0 }) ∷ []) e) (sym c.requires.0)
-            (major_may c.args.heap.now c.args.dom.now c.loop-i.dom.view c.args.at c.pack_head.result c.args.dst c.from.result c.args.tag c.args.fields c.requires.1.0 r view c.from.ensures rest.0 rest.1.0 rest.1.1.0.0 rest.1.1.0.1 rest.1.1.1 c.pack_head.ensures),
+            (major_may c.args.heap.now c.args.dom.now c.loop-i.dom.view c.args.at c.pack_head.result c.args.dst c.from.result c.args.tag c.args.fields c.requires.1.0 r view c.from.ensures rest.0 rest.1.0 rest.1.1.0.0 rest.1.1.0.1 rest.1.1.1.0 record { colours = c.args.colours.now; known_is = rest.1.1.1.1.0; fits = rest.1.1.1.1.1; packs = c.pack_head.ensures }),
       ),
     )
 

@@ -1,0 +1,120 @@
+-- What the collector's entries leave: the blocks, and each domain's registers and queue.
+use Rattle.std.proofs.Common.{◌≡◌, ℕ, false, List, [], ◌∷◌, ◌++◌, map, get_or, set, zero, suc, Option, Some, None, sym, refl, ◌∙◌, subst}
+use mathlib.Core.Option.{some}
+use lib.ListN.{get_elem?}
+use Rattle.heap_model.specs.declared.entry.Entry.{Entry}
+use Rattle.heap_model.specs.declared.entry.Entry.TheVariants.{Cut, Seal, Collected, Done}
+use Rattle.heap_model.specs.declared.state.DomainState.{DomainState}
+use Rattle.heap_model.specs.declared.state.State as model
+use Rattle.heap_model.specs.Domains.{domain_at, no_domain}
+use Rattle.heap_model.specs.Entries.{Allowed, next as state_next}
+use Rattle.heap_model.specs.Fronts.{IsFrontOf, KeepsDomain}
+use Rattle.heap_model.specs.History.{Legal, is_entry_of}
+use Rattle.heap_model.proofs.Commands.FrameLemmas.{keeps_next}
+use Rattle.heap_model.proofs.Histories.FrontLemmas.{front_push, front_whole}
+use Rattle.heap_rule.specs.declared.config.Config.{Config}
+use Rattle.heap_rule.specs.declared.phase.Kind.{Kind}
+use Rattle.heap_rule.specs.declared.phase.Kind.TheVariants.{Run, Rounds, Decide, Clean, Sweep, Answer}
+use Rattle.heap_rule.specs.declared.view.DomainView.{DomainView}
+use Rattle.heap_rule.specs.Cycles.{AllPlain}
+use Rattle.heap_rule.specs.Limits.{sizes_in}
+use Rattle.heap_rule.specs.Rule.{NoneQueued, Rule, state_of}
+use Rattle.heap_rule.specs.Views.{EachView, Knows, one}
+use Rattle.heap_rule.proofs.Keeps.{Words, mine, now, plain_push, knows_front, knows_entry, after_entry, legal_entry}
+use Rattle.steps_pauses.specs.Pauses.{entry_of}
+use Rattle.steps_pauses.proofs.Naming.{left_by, logged}
+
+-- the entries that stand where a kind is named
+abbrev pub IsOfCollector : Entry → Type 0
+IsOfCollector Cut = Unit {0}
+IsOfCollector Seal = Unit {0}
+IsOfCollector Collected = Unit {0}
+IsOfCollector Done = Unit {0}
+IsOfCollector _ = ⊥
+
+abbrev pub OfCollector : Option Entry → Type 0
+OfCollector None = Unit {0}
+OfCollector (Some e) = IsOfCollector e
+
+pub entry_of_collector : (last next : Kind) → OfCollector (entry_of last next)
+entry_of_collector Rounds Decide = tt
+entry_of_collector Rounds Clean = tt
+entry_of_collector Sweep Answer = tt
+entry_of_collector Sweep Run = tt
+entry_of_collector Answer Run = tt
+entry_of_collector _ _ = tt
+
+-- they are no domain's
+alone : (e : Entry) → IsOfCollector e → (d : ℕ) → is_entry_of d e ≡ false
+alone Cut is d = refl
+alone Seal is d = refl
+alone Collected is d = refl
+alone Done is d = refl
+alone _ is d = absurd is
+
+queue_map : (f : DomainState → DomainState) → ((x : DomainState) → (f x).queue ≡ x.queue) → (xs : List DomainState) (d : ℕ) → (get_or (map f xs) d no_domain).queue ≡ (get_or xs d no_domain).queue
+queue_map f same [] d = refl
+queue_map f same (x ∷ xs) zero = same x
+queue_map f same (x ∷ xs) (suc d) = queue_map f same xs d
+
+queue_next : (s : model.State) (e : Entry) → IsOfCollector e → (d : ℕ) → (domain_at (state_next s e) d).queue ≡ (domain_at s d).queue
+queue_next s Cut is d = queue_map _ (λ x. refl) s.domains d
+queue_next s Seal is d = queue_map _ (λ x. refl) s.domains d
+queue_next s Collected is d = queue_map _ (λ x. refl) s.domains d
+queue_next s Done is d = refl
+queue_next s _ is d = absurd is
+
+graph_next : (s : model.State) (e : Entry) → IsOfCollector e → (state_next s e).graph ≡ s.graph
+graph_next s Cut is = refl
+graph_next s Seal is = refl
+graph_next s Collected is = refl
+graph_next s Done is = refl
+graph_next s _ is = absurd is
+
+plain_entry : (log : List Entry) (e : Entry) → IsOfCollector e → AllPlain log → AllPlain (log ++ e ∷ [])
+plain_entry log Cut is all = plain_push log Cut all tt
+plain_entry log Seal is all = plain_push log Seal all tt
+plain_entry log Collected is all = plain_push log Collected all tt
+plain_entry log Done is all = plain_push log Done all tt
+plain_entry log _ is all = absurd is
+
+pub keeps_left : (s : model.State) (o : Option Entry) → OfCollector o → (d : ℕ) → KeepsDomain s (left_by s o) d
+keeps_left s None is d = record { registers = refl; serial = refl; ended = refl }
+keeps_left s (Some e) is d = keeps_next s e d (alone e is d)
+
+pub queue_left : (s : model.State) (o : Option Entry) → OfCollector o → NoneQueued s → NoneQueued (left_by s o)
+queue_left s None is none d = none d
+queue_left s (Some e) is none d = queue_next s e is d ∙ none d
+
+pub graph_left : (s : model.State) (o : Option Entry) → OfCollector o → (left_by s o).graph ≡ s.graph
+graph_left s None is = refl
+graph_left s (Some e) is = graph_next s e is
+
+pub plain_logged : (log : List Entry) (o : Option Entry) → OfCollector o → AllPlain log → AllPlain (logged log o)
+plain_logged log None is all = all
+plain_logged log (Some e) is all = plain_entry log e is all
+
+-- the own front then
+abbrev pub front_then : List Entry → List Entry → Option Entry → List Entry
+front_then front log None = front
+front_then front log (Some e) = log ++ e ∷ []
+
+module _ (k : Config) (s : Words) (r : Rule k s) (id : ℕ) (hist : List Entry) (x : DomainView) (at : get_elem? s.views id ≡ some (one k hist x)) where
+  pub after_logged : (o : Option Entry) → state_of k (logged r.account.log o) ≡ left_by (now k s r id hist x at) o
+  after_logged None = refl
+  after_logged (Some e) = after_entry k s r id hist x at e
+
+  pub legal_logged : (o : Option Entry) → ((e : Entry) → o ≡ Some e → Allowed (now k s r id hist x at) e) → Legal (sizes_in k) (logged r.account.log o)
+  legal_logged None allowed = r.whole.legal
+  legal_logged (Some e) allowed = legal_entry k s r id hist x at e (allowed e refl)
+
+  -- what the seats know
+  pub knows_logged : (o : Option Entry) → OfCollector o → (y : DomainView) → y.own.number ≡ x.own.number → y.seen.front ≡ front_then x.seen.front r.account.log o
+      → EachView (Knows k (logged r.account.log o) r.seat) (set s.views id (one k hist y))
+  knows_logged None is y number front = knows_front k s r id hist x at y number (subst (IsFrontOf x.own.number r.account.log) (sym front) (mine k s r id hist x at).front)
+  knows_logged (Some e) is y number front = knows_entry k s r id hist x at y e (λ d _. alone e is d) number front
+
+  -- the front grows by entries that are no domain's
+  pub seen_then : (o : Option Entry) → OfCollector o → IsFrontOf x.own.number (front_then x.seen.front r.account.log o) x.seen.front
+  seen_then None is = front_whole x.own.number x.seen.front
+  seen_then (Some e) is = front_push x.own.number r.account.log x.seen.front e (alone e is x.own.number) (mine k s r id hist x at).front

@@ -1,0 +1,298 @@
+-- The facts of a phase hold when a domain that has done its share has arrived.
+use Rattle.std.proofs.Common.{◌≡◌, ℕ, ◌<◌, ◌≤◌, ◌==◌, Bool, true, false, IsTrue, List, [], length, get_or, filter_map, Option, Some, None, sym, refl, ap, ◌∙◌, subst, inl, inr, ⊎_elim, arith, eq-eqb, eqb-true}
+use Rattle.std.specs.List.{list_any}
+use mathlib.Core.Option.{some}
+use lib.ListN.{get_elem?}
+use Rattle.heap_model.specs.declared.entry.Entry.{Entry}
+use Rattle.heap_model.specs.declared.label.Label.{Label}
+use Rattle.heap_model.specs.declared.graph.Value.{Value}
+use Rattle.heap_model.specs.declared.graph.Value.TheVariants.{Int, Block, Nothing}
+use Rattle.heap_model.specs.declared.graph.Node.{Node}
+use Rattle.heap_model.specs.declared.graph.Node.TheVariants.{Plain}
+use Rattle.heap_model.specs.declared.state.Pending.{Pending}
+use Rattle.heap_model.specs.declared.state.State as model
+use Rattle.heap_model.specs.Domains.{domain_at, pending_label, opening, IsShaped}
+use Rattle.heap_model.specs.Graph.{node_at, has_label, label_of}
+use Rattle.heap_model.specs.Reach.{HoldsRoots}
+use Rattle.heap_model.proofs.Histories.ShapeAfterLemmas.{shaped-history}
+use Rattle.heap_words.specs.declared.value.Value as held
+use Rattle.heap_words.specs.declared.value.Value.TheVariants.{Int as IntWord, Ref, Nothing as NothingWord}
+use Rattle.cycle_laws.specs.Cycle as laws
+use Rattle.cycle_laws.specs.CycleLaws.{Arrives}
+use Rattle.cycle_laws.specs.Marks.{data_of}
+use Rattle.cycle_laws.specs.Queueing.{RootsMarked}
+use Rattle.cycle_laws.specs.Shares.{Shares, at_domain, AreShares}
+use Rattle.cycle_laws.proofs.Cycling.{darkening_steps, taking_steps}
+use Rattle.cycle_laws.proofs.DomainParts.{listed_cases}
+use Rattle.cycle_laws.proofs.Sharing.{at_cases, at_same}
+use Rattle.cycle_laws.proofs.Sweep.{sweep_law}
+use Rattle.heap_rule.specs.declared.config.Config.{Config}
+use Rattle.heap_rule.specs.declared.phase.Kind.{Kind}
+use Rattle.heap_rule.specs.declared.phase.Kind.TheVariants.{Run, Promote, Reset, Roots, Mark, Rounds, Decide, Queued, Clean, Lasts, Sweep, Answer}
+use Rattle.heap_rule.specs.declared.phase.Stage.{Stage}
+use Rattle.heap_rule.specs.declared.phase.Stage.TheVariants.{In, Leads, Led, Gone}
+use Rattle.heap_rule.specs.declared.view.DomainView.{DomainView}
+use Rattle.heap_rule.specs.declared.view.Share.{Share}
+use Rattle.heap_rule.specs.Changes.{value_at}
+use Rattle.heap_rule.specs.Cycles.{Cycling, Facts, IsBetween, IsSwept, Knowing, IsCollecting, IsIdle, cycle_of, owner_at, seen_by, layout_of, swept_of, IsPlain, HoldsBlock}
+use Rattle.heap_rule.specs.Limits.{sizes_in}
+use Rattle.heap_rule.specs.Phases.{AtStage}
+use Rattle.heap_rule.specs.Places.{Place, Live, Stands}
+use Rattle.heap_rule.specs.Pools.{Tenancy, owned, blocks_of, place_in, IsBefore}
+use Rattle.heap_rule.specs.Rule.{Good, Rule}
+use Rattle.heap_rule.specs.Views.{one}
+use Rattle.heap_rule.proofs.Keeps.{Words, mine, my_good, now}
+use Rattle.steps_pauses.specs.Pauses.{ArrivesFrom, HasDone}
+use Rattle.steps_pauses.proofs.Arriving.{is_owner, arrived_cycle, kind_acts}
+use Rattle.steps_pauses.proofs.Layouts.{own_place}
+use Rattle.heap_rule.proofs.PlainHistories.{IsPlainNode, IsPlainState, plain_state, plain_opening}
+use Rattle.heap_model.specs.Entries.{full_keys}
+use Rattle.heap_model.specs.declared.state.Sizes.{Sizes}
+use Rattle.std.proofs.lemmas.Option.{slice_get_within, get_or_from_slice_get}
+
+-- a plain block has no keys and no data
+plain_data : (o : Option Node) → ((n : Node) → o ≡ Some n → IsPlainNode n) → (marked : Label → Bool) → HoldsRoots (data_of o) marked
+plain_data None plain marked l is = cc
+plain_data (Some (Plain tag fields)) plain marked l is = cc
+plain_data (Some n) plain marked l is = absurd (plain n refl)
+
+plain_keys : (o : Option Node) → ((n : Node) → o ≡ Some n → IsPlainNode n) → (marked : Label → Bool) → HoldsRoots (full_keys o) marked
+plain_keys None plain marked l is = cc
+plain_keys (Some (Plain tag fields)) plain marked l is = cc
+plain_keys (Some n) plain marked l is = absurd (plain n refl)
+
+-- an owner that is the domain
+owner_is : (o : Option ℕ) (d : ℕ) → IsTrue (is_owner o d) → o ≡ Some d
+owner_is None d is = cc
+owner_is (Some e) d is = ap Some (eqb-true e d is)
+
+is_own : (o : Option ℕ) (d : ℕ) → o ≡ Some d → IsTrue (is_owner o d)
+is_own o d is = subst (λ (p : Option ℕ). IsTrue (is_owner p d)) (sym is) (eq-eqb d d refl)
+
+is_block : (v : Value) (l : Label) → label_of v ≡ Some l → v ≡ Block l
+is_block (Int z) l e = absurd (let h : ◌≡◌ {A = Option Label} None (Some l) = e in cc)
+is_block (Block m) l e = ap Block (let h : Some m ≡ Some l = e in let g : m ≡ l = cc in g)
+is_block Nothing l e = absurd (let h : ◌≡◌ {A = Option Label} None (Some l) = e in cc)
+
+held_by : (live : Live) (l : Label) (v : held.Value) → Stands live v (Block l) → (a : ℕ) × (p : Place) × (v ≡ Ref a) × (live a ≡ Some p) × (p.label ≡ l)
+held_by live l (IntWord z) st = absurd st
+held_by live l (Ref a) st = (a, st.0, refl, st.1, st.2)
+held_by live l NothingWord st = absurd st
+
+none_before : (q slot : ℕ) → IsBefore q slot (record { pool = 0; slot = 0 }) → ⊥
+none_before q slot low = ⊎_elim (λ (h : q < 0). omega arith) (λ (h : (q ≡ 0) × (slot < 0)). let l = h.1 in omega arith) low
+
+module _ (k : Config) (s : Words) (r : Rule k s) (id : ℕ) (hist : List Entry) (x : DomainView) (at : get_elem? s.views id ≡ some (one k hist x)) (done : HasDone k x) where
+  abbrev state : model.State
+  state = now k s r id hist x at
+
+  abbrev d : ℕ
+  d = x.own.number
+
+  abbrev c : Cycling
+  c = r.account.cycling
+
+  abbrev t : Tenancy
+  t = r.account.tenancy
+
+  abbrev owner : ℕ → Option ℕ
+  owner = owner_at t.holder
+
+  good : Good k r.account s.words x
+  good = my_good k s r id hist x at
+
+  shaped : IsShaped state
+  shaped = shaped-history (sizes_in k) r.account.log r.limits
+
+  plain : IsPlainState (sizes_in k) state
+  plain = plain_state (sizes_in k) (opening (sizes_in k)) r.account.log r.whole.plain (plain_opening (sizes_in k))
+
+  -- each domain of the heap is one of the state's
+  counted : length state.domains ≡ k.domains
+  counted = shaped.domain_count ∙ ap (λ (z : Sizes). z.domains) plain.sizes
+
+  -- what it knows of own places and of its registers, also where that is nothing
+  abbrev Known : Type 0
+  Known = Knowing k r.account.live t.holder state.graph c.paint.marks s.words d x.own.registers x.seen.share
+
+  been : (q class slot : ℕ) → t.holder q ≡ owned d class → slot < blocks_of class → IsBefore q slot x.seen.share.walk → IsTrue (seen_by x.seen.share.sights (place_in q class slot))
+  been q class slot is inside low = ⊎_elim
+      (λ (h : IsIdle x.seen.share). absurd (none_before q slot (subst (IsBefore q slot) (ap (λ (y : Share). y.walk) h) low)))
+      (λ (h : IsCollecting x.seen.stage × Known). h.1.walked q class slot is inside low) good.sharing.knows
+
+  has_block : (q class : ℕ) → t.holder q ≡ owned d class → q < x.seen.share.held → HoldsBlock r.account.live q class
+  has_block q class is low = ⊎_elim
+      (λ (h : IsIdle x.seen.share). absurd (let none : x.seen.share.held ≡ 0 = ap (λ (y : Share). y.held) h in let w : ℕ = x.seen.share.held in let z : w ≡ 0 = none in let l : q < w = low in omega arith))
+      (λ (h : IsCollecting x.seen.stage × Known). h.1.held q class is low) good.sharing.knows
+
+  rooted : (n a : ℕ) (p : Place) → IsTrue (list_any (λ q. q == n) x.seen.share.roots) → value_at x.own.registers n ≡ Ref a → r.account.live a ≡ Some p → IsTrue (c.paint.marks.marked p.label)
+  rooted n a p among is lives = ⊎_elim
+      (λ (h : IsIdle x.seen.share). let none : IsTrue (list_any (λ q. q == n) []) = subst (λ (l : List ℕ). IsTrue (list_any (λ q. q == n) l)) (ap (λ (y : Share). y.roots) h) among in cc)
+      (λ (h : IsCollecting x.seen.stage × Known). h.1.rooted n a p among is lives) good.sharing.knows
+
+  no_queue : (marked : Label → Bool) → HoldsRoots (filter_map pending_label (domain_at state d).queue) marked
+  no_queue marked l is = let h : IsTrue (has_label [] l) = subst (λ (q : List Pending). IsTrue (has_label (filter_map pending_label q) l)) (r.whole.queues d) is in cc
+
+  -- its registers' blocks are marked, and its queue is empty
+  roots_done : x.seen.stage ≡ In Roots → RootsMarked state c.paint.marks.marked d
+  roots_done here = record {
+    registers = λ l is.
+        let m = listed_cases {A = Value} label_of (domain_at state d).registers l is in
+        let n : ℕ = m.0 in
+        let low : n < length (domain_at state d).registers = slice_get_within (domain_at state d).registers m.0 m.1 m.2 in
+        let wide : length (domain_at state d).registers ≡ 16 = shaped.register_count d (subst (λ (z : ℕ). d < z) (sym counted) (mine k s r id hist x at).inside) in
+        let few : n < 16 = omega arith in
+        let value : get_or (domain_at state d).registers m.0 Nothing ≡ Block l = get_or_from_slice_get (domain_at state d).registers m.0 m.1 Nothing m.2 ∙ is_block m.1 l m.3 in
+        let b = held_by r.account.live l (value_at x.own.registers m.0) (subst (Stands r.account.live (value_at x.own.registers m.0)) value (good.stood.each m.0 few)) in
+        subst (λ (z : Label). IsTrue (c.paint.marks.marked z)) b.4 (rooted m.0 b.0 b.1 (done.rooted here m.0 b.0 few b.2) b.2 b.3);
+    queue = no_queue c.paint.marks.marked;
+  }
+
+  module _ (waits : c.shares.arrived d ≡ false) where
+    paid : x.seen.share.owes ≡ false → c.shares.owes d ≡ false
+    paid none = good.sharing.telling.owes waits ∙ none
+
+    -- it has seen all own places
+    all_seen : k.pools ≤ x.seen.share.walk.pool → (a : ℕ) → owner a ≡ Some d → IsTrue (c.shares.seen d a)
+    all_seen through a is =
+        let o = own_place t.holder (λ q e class h. (r.whole.pools.owned_by q e class h).2) d a is in
+        let low : o.pool < k.pools = (r.whole.pools.owned_by o.pool d o.class o.owned_is).0 in
+        let w : ℕ = x.seen.share.walk.pool in
+        let p : ℕ = o.pool in
+        let m : ℕ = k.pools in
+        let before : p < w = (let l : p < m = low in let h : m ≤ w = through in omega arith) in
+        let seen : IsTrue (seen_by x.seen.share.sights a) = subst (λ (b : ℕ). IsTrue (seen_by x.seen.share.sights b)) (sym o.begins) (been o.pool o.class o.slot o.owned_is o.inside (inl before)) in
+        subst (λ (f : ℕ → Bool). IsTrue (f a)) (sym (good.sharing.telling.seen waits)) seen
+
+    -- the domain has arrived
+    abbrev after : Kind → Cycling
+    after kind = arrived_cycle (In kind) t.holder c d
+
+    done_arrives : x.seen.share.owes ≡ false → k.pools ≤ x.seen.share.walk.pool → Arrives (cycle_of k r.account.live t.holder c) d
+    done_arrives none through = record { paid = paid none; all = all_seen through }
+
+    -- where there is nothing to look at it has seen all own places
+    abbrev all_own : Shares
+    all_own = record c.shares { seen = at_domain c.shares.seen d (λ a. is_owner (owner a) d) }
+
+    own_seen : (a : ℕ) → owner a ≡ Some d → IsTrue (all_own.seen d a)
+    own_seen a is = subst (λ (f : ℕ → Bool). IsTrue (f a)) (sym (at_same c.shares.seen d (λ b. is_owner (owner b) d))) (is_own (owner a) d is)
+
+    shares_own : AreShares (layout_of k r.account.live t.holder) c.shares → AreShares (layout_of k r.account.live t.holder) all_own
+    shares_own w = record {
+      own = λ e a is. ⊎_elim
+          (λ z. subst (λ (n : ℕ). owner a ≡ Some n) (sym z.0) (owner_is (owner a) d (subst (λ (f : ℕ → Bool). IsTrue (f a)) z.1 is)))
+          (λ z. w.own e a (subst (λ (f : ℕ → Bool). IsTrue (f a)) z.1 is))
+          (at_cases c.shares.seen d (λ b. is_owner (owner b) d) e);
+      paid = w.paid;
+      all = λ e a gone is. ⊎_elim
+          (λ z. subst (λ (f : ℕ → Bool). IsTrue (f a)) (sym z.1) (is_own (owner a) d (subst (λ (n : ℕ). owner a ≡ Some n) z.0 is)))
+          (λ z. subst (λ (f : ℕ → Bool). IsTrue (f a)) (sym z.1) (w.all e a gone is))
+          (at_cases c.shares.seen d (λ b. is_owner (owner b) d) e);
+    }
+
+    abbrev cyc : laws.Cycle
+    cyc = cycle_of k r.account.live t.holder c
+
+    abbrev seeing : laws.Cycle
+    seeing = laws.with_shares cyc all_own
+
+    sees_rounds : laws.InPhase (laws.Rounds c.pass) k.domains state cyc → laws.InPhase (laws.Rounds c.pass) k.domains state seeing
+    sees_rounds f = let i = f.rounds in record {
+      known = f.known;
+      whole = f.whole;
+      passed = f.passed;
+      rounds = record {
+        shares = shares_own i.shares;
+        owned = i.owned;
+        stays = i.stays;
+        scanned = i.scanned;
+        same = λ q. i.same (record { unchanged = q.unchanged; paid = q.paid });
+        data_marked = λ e a l _ _ _ _. plain_data (node_at state.graph l) (plain.nodes l) c.paint.marks.marked;
+      };
+    }
+
+    sees_clean : laws.InPhase laws.Clean k.domains state cyc → laws.InPhase laws.Clean k.domains state seeing
+    sees_clean f = let i = f.clean in record {
+      whole = f.whole;
+      waiting = f.waiting;
+      stays = f.stays;
+      clean = record {
+        mode = i.mode;
+        shares = shares_own i.shares;
+        owned = i.owned;
+        marks = i.marks;
+        taken = i.taken;
+        clean = λ e a l _ _ _. plain_keys (node_at state.graph l) (plain.nodes l) c.paint.marks.marked;
+        low = i.low;
+      };
+    }
+
+    none_left : (left : ℕ) → left ≤ (domain_at state d).low → left ≡ 0
+    none_left left below = let m : ℕ = (domain_at state d).low in let z : m ≡ 0 = (plain.work d).low in let h : left ≤ m = below in omega arith
+
+    swept_in : (kd : Kind) → IsSwept k state r.account.live t.holder c s.words → IsSwept k state r.account.live t.holder (after kd) s.words
+    swept_in kd f = let g = f.facts in record {
+      facts = record { sealed = g.sealed; owned = g.owned; whole = g.whole; waiting = g.waiting; kept = g.kept };
+      rotated = f.rotated;
+      all_marked = f.all_marked;
+      unmarked = f.unmarked;
+      unchanged = f.unchanged;
+      counted = f.counted;
+    }
+
+    between_in : IsBetween state c → (kd : Kind) → IsBetween state (after kd)
+    between_in b kd = record { mode = b.mode; unmarked = b.unmarked; unchanged = b.unchanged; unrotated = b.unrotated }
+
+    plain_in : IsPlain c → (kd : Kind) → IsPlain (after kd)
+    plain_in f kd = record { unchanged = f.unchanged; unrotated = f.unrotated }
+
+    facts_in : (kd : Kind) → x.seen.stage ≡ In kd → c.kind ≡ kd → Facts kd k state r.account.live t c s.words → Facts kd k state r.account.live t (after kd) s.words
+    facts_in Run here is f = between_in f Run
+    facts_in Promote here is f = between_in f Promote
+    facts_in Reset here is f = between_in f Reset
+    facts_in Roots here is f = (darkening_steps.roots_arrives laws.First k.domains state cyc f.0 d (roots_done here), plain_in f.1 Roots)
+    facts_in Mark here is f = (darkening_steps.mark_arrives c.pass k.domains state cyc f.0 d (done_arrives (done.told (inl here)) (done.walked (inl here))), f.1)
+    facts_in Rounds here is f = (darkening_steps.rounds_arrives c.pass k.domains state seeing (sees_rounds f.0) d (record { paid = paid (done.told (inr (inl here))); all = own_seen }), f.1)
+    facts_in Decide here is f = (taking_steps.decide_arrives k.domains state cyc f.0 d (none_left (c.left d) (f.0.decide.below d)), plain_in f.1 Decide)
+    facts_in Queued here is f = (darkening_steps.queued_arrives k.domains state cyc f.0 d (no_queue c.paint.marks.marked), plain_in f.1 Queued)
+    facts_in Clean here is f = (taking_steps.clean_arrives k.domains state seeing (sees_clean f.0) d (record { paid = paid (done.told (inr (inr here))); all = own_seen }), plain_in f.1 Clean)
+    facts_in Lasts here is f = record {
+      facts = taking_steps.lasts_arrives k.domains state (swept_of k r.account.live t.holder c) f.facts d (none_left (c.left d) (f.facts.lasts.below d));
+      unchanged = f.unchanged;
+      stays = f.stays;
+      turned = λ yes_is. let z = f.turned yes_is in record { all_marked = z.all_marked; unmarked = z.unmarked; owned = z.owned };
+    }
+    facts_in Sweep here is f = record {
+      mode = f.mode;
+      swept = swept_in Sweep f.swept;
+      sweep = sweep_law.arrives k.domains owner t.garbage c.shares.seen c.shares.arrived f.sweep d (all_seen (done.walked (inr here)));
+      all_counted = λ e gone. ⊎_elim
+          (λ z. subst (λ (n : ℕ). IsTrue (c.counts.words n)) (sym z.0) (good.sharing.adds.words is waits ∙ (done.added here).1))
+          (λ z. f.all_counted e (sym z.1 ∙ gone))
+          (at_cases c.shares.arrived d true e);
+    }
+    facts_in Answer here is f = record {
+      swept = swept_in Answer f.swept;
+      clean = f.clean;
+      all_counted = f.all_counted;
+      held = λ q e class gone owns. ⊎_elim
+          (λ z. has_block q class (owns ∙ ap (λ (n : ℕ). owned n class) z.0) (let p : ℕ = k.pools in let w : ℕ = x.seen.share.held in let far : p ≤ w = done.held here in let low : q < p = (r.whole.pools.owned_by q e class owns).0 in let h : q < w = omega arith in h))
+          (λ z. f.held q e class (sym z.1 ∙ gone) owns)
+          (at_cases c.shares.arrived d true e);
+    }
+
+  -- who acts in an even phase hasn't arrived in it
+  waits_in : (kd : Kind) → x.seen.stage ≡ In kd → c.shares.arrived d ≡ false
+  waits_in kd here =
+      let a = subst (AtStage r.account.pause d x.own.arrivals) here good.staged.stage in
+      ((r.whole.cycle.told.even a.1.0 a.1.1).1 d (mine k s r id hist x at).inside).waits (sym good.staged.arrivals ∙ a.0)
+
+  pub facts_gone : (st : Stage) → x.seen.stage ≡ st → ArrivesFrom d st → Facts c.kind k state r.account.live t (arrived_cycle st t.holder c d) s.words
+  facts_gone (In kd) here from =
+      let is : c.kind ≡ kd = kind_acts k r.account.pause c.kind c.shares d x.own.arrivals kd (subst (AtStage r.account.pause d x.own.arrivals) here good.staged.stage) r.whole.cycle.told in
+      subst (λ (kind : Kind). Facts kind k state r.account.live t (arrived_cycle (In kd) t.holder c d) s.words) (sym is)
+      (facts_in (waits_in kd here) kd here is (subst (λ (kind : Kind). Facts kind k state r.account.live t c s.words) is r.whole.cycle.facts))
+  facts_gone (Leads kd) here from = r.whole.cycle.facts
+  facts_gone (Led kd) here from = r.whole.cycle.facts
+  facts_gone (Gone kd) here from = absurd from
