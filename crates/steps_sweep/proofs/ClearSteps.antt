@@ -21,7 +21,7 @@ use Rattle.heap_rule.specs.Views.{one}
 use Rattle.heap_rule.proofs.Keeps.{Words, my_good}
 use Rattle.heap_rule.proofs.PauseFacts.{not_both}
 use Rattle.steps_cycle.specs.Looks.{with_share}
-use Rattle.steps_cycle.proofs.GlimpseSteps.{share_closes}
+use Rattle.steps_cycle.proofs.Plain.{share_closes}
 use Rattle.steps_sweep.specs.Turning.{BlocksCleared, ClearMay, WordsCleared}
 use Rattle.steps_sweep.proofs.Recounting.{IsCount, heap, here, low, other, recounted, recounts}
 use Rattle.heap_rule.proofs.Sharings.{knows_words}
@@ -79,6 +79,7 @@ module _ (k : Config) (s : Words) (r : Rule k s) (id : ℕ) (hist : List Entry) 
       found_words = λ v e. absurd (no_answer z g differs (h.leading.found_words v e).0);
       rotated = h.leading.rotated;
       turned = h.leading.turned;
+      pass = h.leading.pass;
     };
     knows = knows_words k r.account.live r.account.tenancy.holder now.graph c.paint.marks s.words words' z.own.number z.own.registers z.seen.stage z.seen.share (heap k s r id hist x at i 0 is) h.knows;
     adds = h.adds;
@@ -115,6 +116,7 @@ module _ (k : Config) (s : Words) (r : Rule k s) (id : ℕ) (hist : List Entry) 
           found_words = λ v e. (inl (may.first, leads), words_are v e);
           rotated = g.leading.rotated;
           turned = g.leading.turned;
+          pass = g.leading.pass;
         };
         knows = inl idle';
         adds = record { blocks = λ e _. absurd (no_sweep e); words = λ e _. absurd (no_sweep e); own = λ e _ _. absurd (no_sweep e) };
