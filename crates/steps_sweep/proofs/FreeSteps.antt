@@ -235,6 +235,7 @@ module _ (k : Config) (s : Words) (r : Rule k s) (id : ℕ) (hist : List Entry) 
     colours_are = control 5 (omega arith) ∙ z.colours_are;
     changed_is = control 3 (omega arith) ∙ z.changed_is;
     facts = subst (λ (kind : Kind). Facts kind k now r.account.live t' c' words') (sym (kind_is k s r id hist x at a pool class slot may.look)) record {
+      mode = f.mode;
       swept = swept_on k now r.account.live t.holder c w' s.words words' refl (control 9 (omega arith)) (control 10 (omega arith)) f.swept;
       sweep = sweep_law.looks k.domains (owner_at t.holder) garbage' c.shares.seen c.shares.arrived (sweep_law.frees k.domains (owner_at t.holder) t.garbage c.shares.seen c.shares.arrived f.sweep a) d a (at_same t.garbage a false);
       all_counted = f.all_counted;
@@ -262,6 +263,7 @@ module _ (k : Config) (s : Words) (r : Rule k s) (id : ℕ) (hist : List Entry) 
     found_words = λ v e. let g = l.found_words v e in (g.0, control 10 (omega arith) ∙ g.1);
     rotated = l.rotated;
     turned = l.turned;
+    pass = l.pass;
   }
 
   heads : (b : ℕ) (p : Place) → r.account.live b ≡ Some p → (at_address k words' b ≡ at_address k s.words b) ⊎ IsTrue (c.paint.marks.marked p.label)
@@ -282,7 +284,7 @@ module _ (k : Config) (s : Words) (r : Rule k s) (id : ℕ) (hist : List Entry) 
           forgotten = λ up. absurd (true≢false (sym up ∙ is_waiting));
           colours = g.telling.colours;
         };
-        leading = record { changed = l.changed; found_blocks = l.found_blocks; found_words = l.found_words; rotated = l.rotated; turned = l.turned };
+        leading = record { changed = l.changed; found_blocks = l.found_blocks; found_words = l.found_words; rotated = l.rotated; turned = l.turned; pass = l.pass };
         knows = inr (
           here_collects,
           record {
@@ -292,6 +294,7 @@ module _ (k : Config) (s : Words) (r : Rule k s) (id : ℕ) (hist : List Entry) 
             tenure = kn.tenure;
             rooted = kn.rooted;
             marked = kn.marked;
+            held = kn.held;
             tally = record { once = n.once; own = n.own; lives = n.lives; all = n.all; words = n.words };
           },
         );

@@ -4,3 +4,5 @@ pub mod SweepSteps
 pub mod Swept
 pub mod TurnSteps
 pub mod FreeSteps
+pub mod Recounting
+pub mod ClearSteps

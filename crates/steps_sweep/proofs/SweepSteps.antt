@@ -20,7 +20,8 @@ use Rattle.heap_rule.specs.Views.{one}
 use Rattle.heap_rule.proofs.Controls.{untouched_same}
 use Rattle.heap_rule.proofs.Keeps.{Words, my_good, unmoved}
 use Rattle.steps_cycle.specs.Looks.{with_share}
-use Rattle.steps_cycle.proofs.GlimpseSteps.{either_bool, share_closes}
+use Rattle.std.proofs.lemmas.Bool.{cases_Bool}
+use Rattle.steps_cycle.proofs.Plain.{share_closes}
 use Rattle.steps_cycle.proofs.Learning.{at_other, at_same, held, knows_more, known, shifts_more, waits_in}
 use Rattle.steps_sweep.specs.Freeing.{SweepMay, SweepTold, passed}
 use Rattle.steps_sweep.proofs.Swept.{clean_head, collecting, dead_colour, facts, kind_is, seen', swept_on, walked}
@@ -55,6 +56,7 @@ module _ (k : Config) (s : Words) (r : Rule k s) (id : ℕ) (hist : List Entry) 
       let waits : c.shares.arrived d ≡ false = waits_in k s r id hist x at Sweep may.stage in
       let f = facts k s r id hist x at a pool class slot may in
       let later : Sweeping k (state_of k r.account.log) r.account.live r.account.tenancy (record c { shares = record c.shares { seen = seen1 } }) s.words = record {
+        mode = f.mode;
         swept = swept_on k (state_of k r.account.log) r.account.live r.account.tenancy.holder c (record c.shares { seen = seen1 }) s.words s.words refl refl refl f.swept;
         sweep = sweep_law.looks k.domains (owner_at r.account.tenancy.holder) r.account.tenancy.garbage c.shares.seen c.shares.arrived f.sweep d a clean;
         all_counted = f.all_counted;
@@ -86,7 +88,7 @@ module _ (k : Config) (s : Words) (r : Rule k s) (id : ℕ) (hist : List Entry) 
   sweeps = ⊎_elim
       (λ (is : r.account.tenancy.garbage a ≡ true). (with_share x glimpsed, finds is, record { colours = may.colours; known = may.known; told = inr (dead_colour k s r id hist x at a pool class slot may is, refl) }))
       (λ (clean : r.account.tenancy.garbage a ≡ false). (with_share x (passed a pool class slot sh), passes clean, record { colours = may.colours; known = may.known; told = inl (clean_head k s r id hist x at a pool class slot may clean, refl) }))
-      (either_bool (r.account.tenancy.garbage a))
+      (cases_Bool (r.account.tenancy.garbage a))
 
 pub sweep_may : (k : Config) (x : DomainView) (word a pool class slot : ℕ) → word ≡ before_heap k + a → SweepMay x a pool class slot → MayStep k x word (λ n. n) (SweepTold a pool class slot)
 sweep_may k x word a pool class slot place may fits slots id hist s r _ at _ =

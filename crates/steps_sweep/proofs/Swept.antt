@@ -20,7 +20,7 @@ use Rattle.heap_rule.specs.Views.{one}
 use Rattle.heap_rule.proofs.HeadLemmas.{packable_head}
 use Rattle.heap_rule.proofs.Keeps.{Words, my_good}
 use Rattle.heap_rule.proofs.Lots.{owned_same, place_cases}
-use Rattle.steps_cycle.proofs.Colouring.{BareHead, bare_head, coloured}
+use Rattle.steps_cycle.proofs.Colouring.{BareHead, bare_head, unmarked_colour}
 use Rattle.steps_cycle.proofs.Learning.{bare, kind_here, known, not_promoting}
 use Rattle.steps_cycle.proofs.WalkSteps.{before_behind}
 use Rattle.steps_sweep.specs.Freeing.{IsColoured, SweepMay, passed}
@@ -76,7 +76,7 @@ module _ (k : Config) (s : Words) (r : Rule k s) (id : ℕ) (hist : List Entry) 
   live_head p lives = bare_head c.paint p (at_address k s.words a) (bare k s r id hist x at collecting a p lives) r.whole.cycle.meanings (r.whole.placed.fits a p lives).head (r.whole.found a p lives).head
 
   pub live_colour : (p : Place) (lives : live a ≡ Some p) → (live_head p lives).head.colour ≡ may.colours.unmarked
-  live_colour p lives = (live_head p lives).colour ∙ (coloured c.paint p false (facts.swept.unmarked p.label) ∙ sym (ap (λ (z : Colours). z.unmarked) means))
+  live_colour p lives = unmarked_colour c.paint p (at_address k s.words a) may.colours means (live_head p lives) (facts.swept.unmarked p.label)
 
   -- and garbage that of garbage
   pub dead_colour : IsTrue (t.garbage a) → IsColoured may.colours.garbage (at_address k s.words a)

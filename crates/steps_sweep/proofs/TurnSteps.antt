@@ -46,7 +46,7 @@ use Rattle.heap_rule.proofs.Keeps.{Words, hunter_as, my_good}
 use Rattle.heap_rule.proofs.PauseFacts.{not_both}
 use Rattle.heap_rule.proofs.PlainHistories.{IsPlainState, plain_opening, plain_state}
 use Rattle.steps_cycle.specs.Looks.{with_share}
-use Rattle.steps_cycle.proofs.GlimpseSteps.{share_closes}
+use Rattle.steps_cycle.proofs.Plain.{share_closes}
 use Rattle.steps_cycle.proofs.Layouts.{label_there, labelled, owner_of_place}
 use Rattle.steps_sweep.specs.Turning.{TurnMay, TurnTold}
 use Rattle.steps_sweep.proofs.Reaping.{reaped_to, reaps}
@@ -273,6 +273,7 @@ module _ (k : Config) (s : Words) (r : Rule k s) (id : ℕ) (hist : List Entry) 
       found_words = λ v e. let h = g.leading.found_words v e in (h.0, other 10 (λ f. omega arith) ∙ h.1);
       rotated = λ _ _. refl;
       turned = λ _. may.stage;
+      pass = g.leading.pass;
     };
     knows = inl idle';
     adds = record { blocks = λ e _. absurd (no_sweep e); words = λ e _. absurd (no_sweep e); own = λ e _ _. absurd (no_sweep e) };
@@ -296,6 +297,7 @@ module _ (k : Config) (s : Words) (r : Rule k s) (id : ℕ) (hist : List Entry) 
           found_words = λ v e. let f = g.leading.found_words v e in (f.0, other 10 (λ q. omega arith) ∙ f.1);
           rotated = λ first. absurd (not_first first);
           turned = g.leading.turned;
+          pass = g.leading.pass;
         };
         knows = inl (g.telling.fresh gone);
         adds = record { blocks = λ e _. absurd (no_sweep e); words = λ e _. absurd (no_sweep e); own = λ e _ _. absurd (no_sweep e) };

@@ -21,3 +21,14 @@ pub record TurnTold (x : DomainView) (found : ℕ) (y : DomainView) : Type 0 whe
   pub colours : Colours
   pub known : x.seen.share.colours ≡ Some colours
   pub view : y ≡ with_share x (record x.seen.share { colours = Some (rotated colours); rotated = true })
+
+-- domain 0 leads after Lasts, and clears a word of what lives
+pub record ClearMay (x : DomainView) : Type 0 where
+  pub first : x.own.number ≡ 0
+  pub stage : x.seen.stage ≡ Leads Lasts
+
+abbrev pub BlocksCleared : DomainView → ℕ → DomainView → Type 0
+BlocksCleared x found y = y ≡ with_share x (record x.seen.share { blocks = Some 0 })
+
+abbrev pub WordsCleared : DomainView → ℕ → DomainView → Type 0
+WordsCleared x found y = y ≡ with_share x (record x.seen.share { words = Some 0 })

@@ -6,4 +6,4 @@ mod freeing;
 mod turning;
 
 pub use freeing::{free_store, sweep_load};
-pub use turning::colours_store;
+pub use turning::{blocks_clear, colours_store, words_clear};
