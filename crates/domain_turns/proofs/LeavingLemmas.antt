@@ -13,10 +13,10 @@ use Rattle.heap_rule.specs.Phases.{Follows, Comes, IsEven, IsOdd}
 use Rattle.steps_pauses.specs.Pauses.{kind_in, arrived_view, noted}
 use Rattle.steps_promote.specs.Promotion.{reset_view}
 use Rattle.heap_rule.specs.Token.{Token, SharedHeap, IsIn}
-use Rattle.safepoint.specs.Looks.{Passed, led_view}
+use Rattle.safepoint.specs.Looks.{Passed}
 use Rattle.domain_turns.specs.declared.passing.Past.{Past}
 use Rattle.domain_turns.specs.declared.passing.Past.TheVariants.{Waits, Arrived, Runs}
-use Rattle.domain_turns.specs.Pausing.{IsQuiet, IsPast, HasLeft, LeavesEven, opened_view}
+use Rattle.domain_turns.specs.Pausing.{IsQuiet, IsPast, HasLeft, LeavesEven, opened_view, led_view}
 use Rattle.domain_turns.specs.Runs.{IsBetween, Passes, LeavesOdd}
 use Rattle.domain_turns.specs.Past.{PassAnswers, left_after}
 use Rattle.domain_turns.proofs.Moving.{Moves, still_moves, view_moves}
@@ -71,7 +71,6 @@ same_self : (b : DomainView) → Same b b
 same_self b = record { number = refl; serial = refl; arrivals = refl; made = refl; hunt = λ at_rest. at_rest; front = refl }
 
 even_leaves : (k : Config) (x b y : DomainView) (kind : Kind) → Passed k x b → b.seen.stage ≡ In kind → LeavesEven k kind b y → Leaves x y kind
-even_leaves k x b y Run p stage l = absurd l
 even_leaves k x b y Promote p stage l =
     let v = l.shared.view in
     begun_leaves k x b y l.done Promote p
@@ -85,6 +84,7 @@ even_leaves k x b y Promote p stage l =
     })
     l.view (ap (λ (z : DomainView). kind_in z.seen.stage) v ∙ ap kind_in stage)
 even_leaves k x b y Reset p stage l = begun_leaves k x b y (reset_view b) Reset p (record { number = refl; serial = refl; arrivals = refl; made = refl; hunt = λ at_rest. at_rest; front = refl }) l.view (ap kind_in stage)
+even_leaves k x b y _ p stage l = absurd l
 
 pub passes_leaves : (k : Config) (x y : DomainView) (last kind : Kind) → Passes k x y last kind → Leaves x y kind
 passes_leaves k x y last kind p = ⊎_elim
@@ -156,8 +156,8 @@ passed_between h old new (Waits b) last asked a i is says =
       collected = λ none. cc;
       has_left = λ known e. subst (λ (kind : Kind). HasLeft new.config kind new.view) (some_injective last known e)
           (subst (λ (z : Config × DomainView). HasLeft z.0 last z.1) (λ j. (sym (i.1 ∙ sym a.1) j, sym says.1 j)) (let l : HasLeft old.config last (noted old.view (Barrier b)) = record {
-            past = λ either. let p = left.past either in record { remembers = p.remembers; looked_through = p.looked_through; holds_old = p.holds_old; emptied = p.emptied; forgotten = p.forgotten };
-            ready = λ even first. let r = left.ready even first in let p = r.past in record { before = r.before; follows = r.follows; past = record { remembers = p.remembers; looked_through = p.looked_through; holds_old = p.holds_old; emptied = p.emptied; forgotten = p.forgotten } };
+            past = λ either. let p = left.past either in record { outside = p.outside; remembers = p.remembers; looked_through = p.looked_through; holds_old = p.holds_old; emptied = p.emptied; forgotten = p.forgotten };
+            ready = λ even first. let r = left.ready even first in let p = r.past in record { before = r.before; follows = r.follows; past = record { outside = p.outside; remembers = p.remembers; looked_through = p.looked_through; holds_old = p.holds_old; emptied = p.emptied; forgotten = p.forgotten } };
           } in l));
     }
 passed_between h old new (Arrived kind) last asked a i is says = record {

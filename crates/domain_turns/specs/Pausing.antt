@@ -9,7 +9,11 @@ use Rattle.heap_rule.specs.declared.phase.Note.TheVariants.{SetBack}
 use Rattle.heap_rule.specs.Copies.{nothing_copied, HoldsOld}
 use Rattle.heap_rule.specs.Phases.{Follows, IsEven, IsOdd}
 use Rattle.heap_rule.specs.Running.{RemembersAll}
-use Rattle.steps_pauses.specs.Pauses.{arrived_view}
+use Rattle.heap_rule.specs.declared.phase.Stage.TheVariants.{Led}
+use Rattle.heap_rule.specs.Cycles.{HasNoCycle}
+use Rattle.heap_rule.specs.Views.{fresh_share}
+use Rattle.steps_pauses.specs.Pauses.{arrived_view, cut_in, kind_in}
+use Rattle.safepoint.specs.Looks.{cleared}
 use Rattle.steps_pools.specs.Listings.{with_listing}
 use Rattle.steps_promote.specs.Promotion.{NoneYoung, reset_view}
 use Rattle.promote_claim.specs.Sharing.{Unprepared, Shared}
@@ -20,8 +24,9 @@ pub record IsQuiet (x : DomainView) : Type 0 where
   pub no_copies : x.own.pending.items ≡ []
   pub unprepared : Unprepared x
 
--- the domain has gone through an even phase of this kind. After Run it remembers the fields of its list, and after the others none, and no register holds an address of a minor area. After Reset its minor area and its list are empty
+-- the domain has gone through an even phase of this kind, in which no collection of the major heap went on. After Run it remembers the fields of its list, and after the others none, and no register holds an address of a minor area. After Reset its minor area and its list are empty
 pub record IsPast (k : Config) (kind : Kind) (x : DomainView) : Type 0 where
+  pub outside : HasNoCycle kind
   pub remembers : kind ≡ Run → RemembersAll x
   pub looked_through : kind ≢ Run → x.seen.remembered ≡ []
   pub holds_old : kind ≢ Run → HoldsOld k x
@@ -43,11 +48,15 @@ pub record HasLeft (k : Config) (known : Kind) (x : DomainView) : Type 0 where
 abbrev pub opened : Kind → List Note
 opened Run = []
 opened Promote = SetBack ∷ []
-opened Reset = []
+opened _ = []
 
 -- domain 0 is ready to name the kind
 abbrev pub opened_view : DomainView → Kind → DomainView
 opened_view x kind = record x { seen = record x.seen { notes = x.seen.notes ++ opened kind } }
+
+-- domain 0 has named the kind. No entry of the collector stands then
+abbrev pub led_view : DomainView → Kind → DomainView
+led_view x kind = record x { seen = record x.seen { stage = Led kind; share = record fresh_share { cut = cut_in (kind_in x.seen.stage) x.seen.share.cut }; notes = x.seen.notes ++ cleared kind } }
 
 -- it holds all that it held, and knows all but the list of free pools as before
 abbrev pub Opens : DomainView → DomainView → Kind → Type 0
@@ -65,11 +74,11 @@ pub record LeavesReset (k : Config) (x y : DomainView) : Type 0 where
   pub words : List ℕ
   pub none_young : NoneYoung k x words
 
--- what a domain does in an even phase of a pause
+-- what a domain does in an even phase of a pause without a collection of the major heap
 abbrev pub LeavesEven : Config → Kind → DomainView → DomainView → Type 0
-LeavesEven k Run x y = ⊥
 LeavesEven k Promote x y = LeavesPromote k x y
 LeavesEven k Reset x y = LeavesReset k x y
+LeavesEven k _ x y = ⊥
 
 -- what a pause leaves of a domain: its minor area is empty, it remembers no field, and no register holds an address of a minor area
 pub record IsCollected (k : Config) (x : DomainView) : Type 0 where

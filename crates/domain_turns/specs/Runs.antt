@@ -25,7 +25,7 @@ use Rattle.heap_rule.specs.Copies.{nothing_copied}
 use Rattle.heap_rule.specs.Running.{RemembersAll}
 use Rattle.steps_pauses.specs.Pauses.{noted, arrived_view}
 use Rattle.heap_rule.specs.Rule.{state_of}
-use Rattle.safepoint.specs.Looks.{Passed, led_view}
+use Rattle.safepoint.specs.Looks.{Passed}
 use Rattle.domain_turns.specs.declared.turned.Turned.{Turned}
 use Rattle.domain_turns.specs.declared.turned.Turned.TheVariants.{Did, Waiting, Idle}
 use Rattle.domain_turns.specs.declared.turned.Turned.TheVariants.{Ended as Over}
@@ -33,7 +33,7 @@ use Rattle.heap_rule.specs.declared.view.Hunt.TheVariants.{Rests as AtRest}
 use Rattle.heap_rule.specs.Limits.{sizes_in}
 use Rattle.heap_rule.specs.Standing.{Acts}
 use Rattle.heap_rule.specs.Token.{Token, SharedHeap, IsIn}
-use Rattle.domain_turns.specs.Pausing.{IsQuiet, HasLeft, LeavesEven, IsCollected, opened_view}
+use Rattle.domain_turns.specs.Pausing.{IsQuiet, HasLeft, LeavesEven, IsCollected, opened_view, led_view}
 use Rattle.domain_turns.specs.Tries.{FitsHeap, NeedsMinor, Tried}
 
 -- a run: the domain's token, its commands, the place of the next one, its replies, whether its trace has ended, where the domain has arrived from which kind of phase, and how often it had arrived when it asked for a pause for the next command

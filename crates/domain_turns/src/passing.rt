@@ -4,6 +4,7 @@ ghost use Rattle.heap_rule.specs.declared.phase.Kind.TheVariants.{Run, Promote, 
 ghost use Rattle.heap_rule.specs.declared.phase.Note.TheVariants.{SetBack};
 ghost use Rattle.heap_rule.specs.declared.phase.Stage.TheVariants.{In, Gone, Leads};
 ghost use Rattle.heap_rule.specs.declared.view.Hunt.TheVariants.{Rests};
+ghost use Rattle.heap_rule.specs.Cycles.{HasNoCycle};
 ghost use Rattle.heap_rule.specs.Phases.{last_note};
 ghost use Rattle.heap_rule.specs.Running.{RemembersAll};
 ghost use Rattle.heap_rule.specs.Token.{IsIn};
@@ -44,7 +45,7 @@ fn open(heap: &Heap, dom: &mut Domain, next: Kind)
     match next {
         Kind::Run => write_list(heap, dom),
         Kind::Promote => set_cursor_back(heap, dom),
-        Kind::Reset => (),
+        _ => (),
     }
 }
 
@@ -56,6 +57,7 @@ fn leave_odd(heap: &Heap, dom: &mut Domain, last: Kind) -> Kind
     requires at_rest { dom.old.view.seen.hunt ≡ Rests }
     requires idle { dom.old.view.seen.made ≡ [] }
     requires few { dom.old.view.own.arrivals < 2 ^ 60 }
+    requires outside { HasNoCycle last }
     ensures here { IsIn dom.new heap.now }
     ensures leaves { LeavesOdd dom.old.view dom.new.view last result }
 {
@@ -127,6 +129,7 @@ pub(crate) fn pass(heap: &Heap, dom: &mut Domain, last: Kind) -> Past
             leave_reset(heap, dom);
             Past::Arrived(Kind::Reset)
         }
+        Look::Next(_) => unreachable!(),
     }
 }
 
