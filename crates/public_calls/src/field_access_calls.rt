@@ -1,21 +1,13 @@
 //! The calls on registers and fields.
+use crate::fixtures::one_domain;
 use field_access::{copy, forget, load, put_int, store};
 use heap_model::reply::Reply;
-use heap_rule::{Config, Heap};
 use std::test::Fail;
 
 // On the shared block: a store, a load of it, and each refusal.
 #[test]
 fn one_domain_on_the_shared_block(rt: HostRuntime) -> Result<(), Fail> {
-    let config = Config {
-        domains: 1,
-        minor_words: 4096,
-        pools: 14,
-        finals: 0,
-        ephes: 0,
-    };
-    let (heap, mut domains) = Heap::start(rt.alloc(), config)?;
-    let mut dom = domains.pop().ok_or("no domain")?;
+    let (heap, mut dom) = one_domain(rt.alloc())?;
     assert_eq!(rt; put_int(&heap, &mut dom, 1, 7), Reply::Done);
     assert!(rt; dom.remembered_room() >= 1);
     assert_eq!(rt; store(&heap, &mut dom, 0, 15, 1), Reply::Done);

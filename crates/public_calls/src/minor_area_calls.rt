@@ -2,9 +2,10 @@
 ghost use Rattle.std.specs.Prelude.{◌+◌, ◌^◌, ◌<◌, ◌≤◌};
 ghost use Rattle.heap_rule.specs.Running.{Runs};
 
+use crate::fixtures::one_domain;
 use field_access::store;
 use heap_model::reply::Reply;
-use heap_rule::{Config, Domain, Heap};
+use heap_rule::{Domain, Heap};
 use minor_area::{Need, alloc_young};
 use std::test::Fail;
 
@@ -23,15 +24,7 @@ fn allocate(heap: &Heap, dom: &mut Domain, blocks: u32) -> Result<(), Need>
 
 #[test]
 fn a_minor_area_fills(rt: HostRuntime) -> Result<(), Fail> {
-    let config = Config {
-        domains: 1,
-        minor_words: 4096,
-        pools: 14,
-        finals: 0,
-        ephes: 0,
-    };
-    let (heap, mut domains) = Heap::start(rt.alloc(), config)?;
-    let mut dom = domains.pop().ok_or("no domain")?;
+    let (heap, mut dom) = one_domain(rt.alloc())?;
     assert_eq!(rt; allocate(&heap, &mut dom, 32), Ok(()));
     assert_eq!(rt; dom.area_used(), 4096);
     let last = dom.register(1);
@@ -47,15 +40,7 @@ fn a_minor_area_fills(rt: HostRuntime) -> Result<(), Fail> {
 // one that gets the shared block nor the young block's own.
 #[test]
 fn a_young_block_in_the_shared_block(rt: HostRuntime) -> Result<(), Fail> {
-    let config = Config {
-        domains: 1,
-        minor_words: 4096,
-        pools: 14,
-        finals: 0,
-        ephes: 0,
-    };
-    let (heap, mut domains) = Heap::start(rt.alloc(), config)?;
-    let mut dom = domains.pop().ok_or("no domain")?;
+    let (heap, mut dom) = one_domain(rt.alloc())?;
     if alloc_young(&heap, &mut dom, 1, 0, 2).is_err() {
         return Err("no block")?;
     }
@@ -89,15 +74,7 @@ fn fill_remembered(heap: &Heap, dom: &mut Domain) -> u32
 
 #[test]
 fn a_remembered_set_fills(rt: HostRuntime) -> Result<(), Fail> {
-    let config = Config {
-        domains: 1,
-        minor_words: 4096,
-        pools: 14,
-        finals: 0,
-        ephes: 0,
-    };
-    let (heap, mut domains) = Heap::start(rt.alloc(), config)?;
-    let mut dom = domains.pop().ok_or("no domain")?;
+    let (heap, mut dom) = one_domain(rt.alloc())?;
     if alloc_young(&heap, &mut dom, 1, 0, 2).is_err() {
         return Err("no block")?;
     }

@@ -1,19 +1,12 @@
 //! The steps of a pause, for two domains in turn.
-use heap_rule::{Config, Heap, Kind};
+use crate::fixtures::{TWO_DOMAINS, started};
+use heap_rule::Kind;
 use safepoint::{Look, Want, arrive, ask, follower, look, wants};
 use std::test::Fail;
 
-const TWO_DOMAINS: Config = Config {
-    domains: 2,
-    minor_words: 4096,
-    pools: 27,
-    finals: 0,
-    ephes: 0,
-};
-
 #[test]
 fn a_wish_is_found_and_the_last_arrival_ends_the_phase(rt: HostRuntime) -> Result<(), Fail> {
-    let (heap, mut domains) = Heap::start(rt.alloc(), TWO_DOMAINS)?;
+    let (heap, mut domains) = started(rt.alloc(), TWO_DOMAINS)?;
     let mut second = domains.pop().ok_or("no domain")?;
     let mut first = domains.pop().ok_or("no domain")?;
     assert_eq!(rt; wants(&heap, &mut first).bits, 0);
