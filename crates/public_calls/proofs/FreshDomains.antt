@@ -1,13 +1,17 @@
 -- What holds of each domain of a heap that has just started.
-use Rattle.std.proofs.Common.{◌≡◌, ℕ, zero, suc, ◌+◌, ◌-◌, ◌<◌, ◌≤◌, false, List, [], length, replicate, refl, sym, subst, arith}
-use Rattle.std.specs.Prelude.{slice_index_or, slice_get}
+use Rattle.std.proofs.Common.{◌≡◌, ℕ, zero, suc, ◌+◌, ◌-◌, ◌<◌, ◌≤◌, false, List, [], length, replicate, refl, sym, ap, ◌∙◌, subst, arith}
+use Rattle.std.specs.Prelude.{slice_index_or}
 use Rattle.std.specs.List.{All, AllByRecursion}
 use Rattle.std.proofs.lemmas.List.Elements.{All-from_recursion}
 use Rattle.heap_model.specs.declared.command.Command.{Command}
 use Rattle.heap_model.specs.Domains.{opening_domain, no_domain}
 use Rattle.heap_rule.specs.declared.config.Config.{Config}
 use Rattle.heap_rule.specs.Opening.{opening_token, opening_tokens}
-use Rattle.heap_rule.specs.Token.{Token, SharedHeap}
+use Rattle.heap_rule.specs.Running.{Runs, RemembersAll}
+use Rattle.heap_rule.specs.Standing.{Acts}
+use Rattle.heap_rule.specs.Token.{Token, SharedHeap, IsIn}
+use Rattle.heap_rule.specs.declared.phase.Note.{Note}
+use Rattle.heap_rule.specs.declared.view.DomainView.{DomainView}
 use Rattle.domain_turns.specs.Runs.{CanBegin, AllFit}
 use Rattle.public_calls.specs.Fresh.{IsFresh}
 
@@ -74,3 +78,16 @@ begins t cs b few fit = record {
   no_copies = b.no_copies;
   unprepared = b.unprepared;
 }
+
+-- a domain that has noted something runs on
+pub noted_runs : (h : SharedHeap) (t u : Token) (notes : List Note) → Runs h t → IsIn u h → u.view ≡ record t.view { seen = record t.view.seen { notes = notes } } → Runs h u
+noted_runs h t u notes r here is =
+    let same : t.config ≡ u.config = r.here.1 ∙ sym here.1 in
+    let acts : Acts t.config u.view = subst (Acts t.config) (sym is) (record { goes_on = r.acts.goes_on; runs = r.acts.runs }) in
+    record {
+      here = here;
+      acts = subst (λ (k : Config). Acts k u.view) same acts;
+      idle = ap (λ (x : DomainView). x.seen.made) is ∙ r.idle;
+      at_rest = ap (λ (x : DomainView). x.seen.hunt) is ∙ r.at_rest;
+      remembers = subst RemembersAll (sym is) r.remembers;
+    }

@@ -1,5 +1,5 @@
 //! Traces from their first command to their end.
-use crate::fixtures::{ONE_DOMAIN, Play, TWO_DOMAINS};
+use crate::fixtures::{ONE_DOMAIN, Play, Shown, TWO_DOMAINS, same};
 use domain_turns::Turned;
 use heap_model::command::Command;
 use heap_model::label::Label;
@@ -39,18 +39,18 @@ const REPLIES: [Reply; 4] = [
 #[test]
 fn a_trace_runs_to_its_end(rt: HostRuntime) -> Result<(), Fail> {
     let mut play = Play::start(rt.alloc(), ONE_DOMAIN, &[REPLIED.as_slice()])?;
-    assert!(rt; play.all_did(0, 4));
-    assert!(rt; !play.run(0)?.has_ended());
-    assert_eq!(rt; play.turn(0), Some(Turned::Did));
-    assert_eq!(rt; play.turn(0), Some(Turned::Ended));
+    same(&rt, play.all_did(0, 4), true);
+    same(&rt, play.has_ended(0), false);
+    same(&rt, play.turn(0), Some(Turned::Did));
+    same(&rt, play.turn(0), Some(Turned::Ended));
     let run = play.into_first()?;
-    assert_eq!(rt; run.next(), 4);
-    assert_eq!(rt; run.replies(), REPLIES.as_slice());
-    assert_eq!(rt; run.domain().labels_made(), 1);
+    same(&rt, run.next(), 4);
+    same(&rt, run.replies(), REPLIES.as_slice());
+    same(&rt, run.domain().labels_made(), 1);
     if !run.has_ended() {
         return Err(Fail::from("the trace hasn't ended"));
     }
-    assert_eq!(rt; run.into_domain().number(), 0);
+    same(&rt, run.into_domain().number(), 0);
     Ok(())
 }
 
@@ -73,23 +73,47 @@ const MOVING: [Command; 4] = [
     },
 ];
 
+// So many turns that do something, and what the domain shows then. The block is made and written to; the domain asks,
+// goes through the phases and makes the entry of `minor`; and the field is loaded.
+const MOVED: [(u32, Shown); 3] = [
+    (
+        2,
+        Shown {
+            arrivals: 0,
+            used: 4,
+            remembered: 0,
+            registers: [Value::Ref(1), Value::Ref(14 * 4096 + 1), Value::Nothing],
+        },
+    ),
+    (
+        8,
+        Shown {
+            arrivals: 6,
+            used: 0,
+            remembered: 0,
+            registers: [Value::Ref(1), Value::Ref(4097), Value::Nothing],
+        },
+    ),
+    (
+        1,
+        Shown {
+            arrivals: 6,
+            used: 0,
+            remembered: 0,
+            registers: [Value::Ref(1), Value::Ref(4097), Value::Ref(1)],
+        },
+    ),
+];
+
 // After the pause the register leads to a block of a pool, which has the field that the young one had.
 #[test]
 fn a_pause_moves_a_young_block_into_a_pool(rt: HostRuntime) -> Result<(), Fail> {
     let mut play = Play::start(rt.alloc(), ONE_DOMAIN, &[MOVING.as_slice()])?;
-    assert!(rt; play.all_did(0, 2));
-    assert_eq!(rt;
-        play.run(0)?.domain().register(1),
-        Value::Ref(14 * 4096 + 1)
-    );
-    assert_eq!(rt; play.run(0)?.domain().area_used(), 4);
-    // It asks, goes through the phases, and makes the entry of `minor`.
-    assert!(rt; play.all_did(0, 8));
-    assert_eq!(rt; play.run(0)?.next(), 3);
-    assert_eq!(rt; play.run(0)?.domain().area_used(), 0);
-    assert_eq!(rt; play.run(0)?.domain().register(1), Value::Ref(4097));
-    assert!(rt; play.all_did(0, 1));
-    assert_eq!(rt; play.run(0)?.domain().register(2), Value::Ref(1));
+    for (turns, shown) in &MOVED {
+        same(&rt, play.all_did(0, *turns), true);
+        same(&rt, play.shown(0), Some(*shown));
+    }
+    same(&rt, play.into_first()?.next(), 4);
     Ok(())
 }
 
@@ -134,10 +158,11 @@ fn a_pause_takes_all_domains_with_it(rt: HostRuntime) -> Result<(), Fail> {
     let lists = [[Command::Minor].as_slice(), &[Command::Poll]];
     let mut play = Play::start(rt.alloc(), TWO_DOMAINS, &lists)?;
     for (domain, answer) in &PAUSE {
-        assert_eq!(rt; play.turn(*domain), Some(*answer), "domain {domain}");
+        same(&rt, play.turn(*domain), Some(*answer));
     }
-    assert_eq!(rt; play.run(0)?.domain().arrivals(), 6);
-    assert_eq!(rt; play.run(0)?.replies(), [Reply::Done].as_slice());
+    let asking = play.into_first()?;
+    same(&rt, asking.domain().arrivals(), 6);
+    same(&rt, asking.replies(), [Reply::Done].as_slice());
     Ok(())
 }
 
@@ -160,12 +185,54 @@ const MAKING: [Command; 4] = [
     },
 ];
 
-const SHARING: [Command; 2] = [
+// It has commands left when the other has loaded the field.
+const SHARING: [Command; 6] = [
     Command::Poll,
     Command::Load {
         dst: 1,
         src: 0,
         index: 3,
+    },
+    Command::Poll,
+    Command::Poll,
+    Command::Poll,
+    Command::Poll,
+];
+
+const SHARED: Value = Value::Ref(1);
+
+const YOUNG: Value = Value::Ref(27 * 4096 + 1);
+
+const COPY: Value = Value::Ref(4097);
+
+// What the two show before the pause, and what once the first has loaded the field after it.
+const BEFORE: [Shown; 2] = [
+    Shown {
+        arrivals: 0,
+        used: 4,
+        remembered: 1,
+        registers: [SHARED, YOUNG, Value::Nothing],
+    },
+    Shown {
+        arrivals: 0,
+        used: 0,
+        remembered: 0,
+        registers: [SHARED, YOUNG, Value::Nothing],
+    },
+];
+
+const AFTER: [Shown; 2] = [
+    Shown {
+        arrivals: 6,
+        used: 0,
+        remembered: 0,
+        registers: [SHARED, COPY, COPY],
+    },
+    Shown {
+        arrivals: 6,
+        used: 0,
+        remembered: 0,
+        registers: [SHARED, COPY, Value::Nothing],
     },
 ];
 
@@ -176,16 +243,18 @@ fn two_domains_claim_one_block(rt: HostRuntime) -> Result<(), Fail> {
     let lists = [MAKING.as_slice(), SHARING.as_slice()];
     let mut play = Play::start(rt.alloc(), TWO_DOMAINS, &lists)?;
     play.take_turns(2);
-    let young = play.run(0)?.domain().register(1);
-    assert_eq!(rt; play.run(1)?.domain().register(1), young);
-    assert_eq!(rt; play.run(0)?.domain().remembered_len(), 1);
+    same(
+        &rt,
+        [play.shown(0), play.shown(1)],
+        [Some(BEFORE[0]), Some(BEFORE[1])],
+    );
+    play.take_turns_until(4);
+    same(
+        &rt,
+        [play.shown(0), play.shown(1)],
+        [Some(AFTER[0]), Some(AFTER[1])],
+    );
     play.take_turns(40);
-    assert!(rt; play.run(0)?.has_ended() && play.run(1)?.has_ended());
-    let making = play.run(0)?.domain();
-    let copy = making.register(1);
-    assert!(rt; copy != young);
-    assert_eq!(rt; making.register(2), copy);
-    assert_eq!(rt; (making.area_used(), making.remembered_len()), (0, 0));
-    assert_eq!(rt; play.run(1)?.domain().register(1), copy);
+    same(&rt, (play.has_ended(0), play.has_ended(1)), (true, true));
     Ok(())
 }

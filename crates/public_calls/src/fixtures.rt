@@ -1,20 +1,32 @@
 //! Heaps that have just started, with what the tests need to know of their domains.
-ghost use Rattle.std.specs.Prelude.{◌≡◌, ◌≤◌, All, IfOk, [], true, length};
+ghost use Rattle.std.specs.Prelude.{◌≡◌, ◌≤◌, ◌<◌, All, IfOk, [], true, length};
 ghost use Rattle.std.specs.List.{AllByRecursion};
 ghost use Rattle.domain_turns.specs.Runs.{CanBegin};
 ghost use Rattle.domain_turns.specs.Tries.{FitsHeap};
+ghost use Rattle.heap_rule.specs.Running.{Runs};
 ghost use Rattle.heap_rule.specs.Token.{IsIn};
 ghost use Rattle.public_calls.specs.Fresh.{IsFresh};
 
 use domain_turns::{DomainRun, Turned, turn};
+use field_access::store;
 use heap_model::command::Command;
+use heap_model::reply::Reply;
 use heap_rule::{Config, Domain, Heap, StartFault};
+use heap_words::Value;
 use outer_io::Gate;
 use std::alloc::Global;
+use std::fmt::Debug;
+use std::process::Abort;
 use std::sync::Wait;
 use std::test::Fail;
 use std::thread::Threads;
 use thread_drive::drive;
+
+/// Stops the test where the two aren't the same. A test that calls it is proved much faster than one with as many
+/// `assert_eq!`.
+pub(crate) fn same<T: Copy + Debug + PartialEq>(rt: &impl Abort, got: T, wanted: T) {
+    assert_eq!(rt; got, wanted);
+}
 
 pub(crate) const ONE_DOMAIN: Config = Config {
     domains: 1,
@@ -49,6 +61,40 @@ pub(crate) fn one_domain(alloc: Global) -> Result<(Heap, Domain), Fail>
         return Err(Fail::from("no domain"));
     };
     Ok((heap, domain))
+}
+
+/// A heap of two domains, and these domains.
+pub(crate) fn two_domains(alloc: Global) -> Result<(Heap, Domain, Domain), Fail>
+    ensures first { IfOk result (λ r. IsFresh r.0 r.1) }
+    ensures second { IfOk result (λ r. IsFresh r.0 r.2) }
+{
+    let (heap, mut domains) = started(alloc, TWO_DOMAINS)?;
+    let Some(second) = domains.pop() else {
+        return Err(Fail::from("no domain"));
+    };
+    let Some(first) = domains.pop() else {
+        return Err(Fail::from("no domain"));
+    };
+    Ok((heap, first, second))
+}
+
+/// A store by a domain that can remember one more field.
+pub(crate) fn stored(
+    heap: &Heap,
+    dom: &mut Domain,
+    block: u8,
+    index: u16,
+    item: u8,
+) -> Option<Reply>
+    requires runs { Runs heap.now dom.old }
+    requires block { block < 16 }
+    requires item { item < 16 }
+    ensures runs { Runs heap.now dom.new }
+{
+    if dom.remembered_room() < 1 {
+        return None;
+    }
+    Some(store(heap, dom, block, index, item))
 }
 
 // Whether it is a command that the tests use, with its numbers in their ranges.
@@ -111,6 +157,26 @@ fn runs_of(
     Ok(runs)
 }
 
+/// What a domain's token shows: its arrivals, the words used of its minor area, how many fields it remembers, and
+/// three of its registers.
+#[derive(Clone, Copy, Debug, PartialEq)]
+pub(crate) struct Shown {
+    pub arrivals: u64,
+    pub used: u32,
+    pub remembered: usize,
+    pub registers: [Value; 3],
+}
+
+/// What this token shows.
+pub(crate) fn shown_of(domain: &Domain) -> Shown {
+    Shown {
+        arrivals: domain.arrivals(),
+        used: domain.area_used(),
+        remembered: domain.remembered_len(),
+        registers: [domain.register(0), domain.register(1), domain.register(2)],
+    }
+}
+
 // So often a domain arrives in no test.
 const MOST: u64 = 1_000_000;
 
@@ -130,9 +196,18 @@ impl Play {
         Ok(Play { heap, runs })
     }
 
-    /// The run of a domain.
-    pub(crate) fn run(&self, domain: usize) -> Result<&DomainRun, Fail> {
-        Ok(self.runs.get(domain).ok_or("no run")?)
+    /// What the token of a domain shows.
+    pub(crate) fn shown(&self, domain: usize) -> Option<Shown> {
+        let run = self.runs.get(domain)?;
+        Some(shown_of(run.domain()))
+    }
+
+    /// Whether the trace of a domain has ended.
+    pub(crate) fn has_ended(&self, domain: usize) -> bool {
+        match self.runs.get(domain) {
+            Some(run) => run.has_ended(),
+            None => false,
+        }
     }
 
     /// A turn of a domain that may still arrive.
@@ -158,6 +233,24 @@ impl Play {
             for domain in 0..self.runs.len() {
                 self.turn(domain);
             }
+        }
+    }
+
+    /// Turns of each domain, one after the other, until domain 0 has made so many commands.
+    pub(crate) fn take_turns_until(&mut self, commands: usize) {
+        for _ in 0..100u32 {
+            if self.commands_made() >= commands {
+                return;
+            }
+            self.take_turns(1);
+        }
+    }
+
+    // How many commands domain 0 has made.
+    fn commands_made(&self) -> usize {
+        match self.runs.first() {
+            Some(run) => run.next(),
+            None => 0,
         }
     }
 

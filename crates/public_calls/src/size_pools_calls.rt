@@ -3,7 +3,7 @@ ghost use Rattle.std.specs.Prelude.{All, ◌≡◌, ◌+◌, ◌^◌, ◌<◌, �
 ghost use Rattle.heap_rule.specs.Running.{Runs};
 ghost use Rattle.public_calls.specs.Fresh.{IsFresh};
 
-use crate::fixtures::{one_domain, started};
+use crate::fixtures::{one_domain, same, started};
 use heap_model::label::Label;
 use heap_rule::{Config, Domain, Heap};
 use heap_words::Value;
@@ -41,11 +41,19 @@ fn allocate(heap: &Heap, dom: &mut Domain, fields: u16, blocks: u32) -> Result<(
 #[test]
 fn the_pools_fill(rt: HostRuntime) -> Result<(), Fail> {
     let (heap, mut dom) = one_domain(rt.alloc())?;
-    assert_eq!(rt; allocate(&heap, &mut dom, 126, 192), Ok(()));
+    same(&rt, allocate(&heap, &mut dom, 126, 192), Ok(()));
     let labels = dom.labels_made();
-    assert_eq!(rt; allocate(&heap, &mut dom, 126, 1), Err(NoPool { free: 7 }));
-    assert_eq!(rt; dom.labels_made(), labels);
-    assert_eq!(rt; allocate(&heap, &mut dom, 126, 1), Err(NoPool { free: 7 }));
+    same(
+        &rt,
+        allocate(&heap, &mut dom, 126, 1),
+        Err(NoPool { free: 7 }),
+    );
+    same(&rt, dom.labels_made(), labels);
+    same(
+        &rt,
+        allocate(&heap, &mut dom, 126, 1),
+        Err(NoPool { free: 7 }),
+    );
     Ok(())
 }
 
@@ -53,12 +61,12 @@ fn the_pools_fill(rt: HostRuntime) -> Result<(), Fail> {
 #[test]
 fn a_pool_of_small_blocks_fills(rt: HostRuntime) -> Result<(), Fail> {
     let (heap, mut dom) = one_domain(rt.alloc())?;
-    assert_eq!(rt; allocate(&heap, &mut dom, 2, 1), Ok(()));
-    assert_eq!(rt; dom.register(1), Value::Ref(4097));
-    assert_eq!(rt; allocate(&heap, &mut dom, 2, 1023), Ok(()));
-    assert_eq!(rt; dom.register(1), Value::Ref(8189));
-    assert_eq!(rt; allocate(&heap, &mut dom, 1, 1), Ok(()));
-    assert_eq!(rt; dom.register(1), Value::Ref(8193));
+    same(&rt, allocate(&heap, &mut dom, 2, 1), Ok(()));
+    same(&rt, dom.register(1), Value::Ref(4097));
+    same(&rt, allocate(&heap, &mut dom, 2, 1023), Ok(()));
+    same(&rt, dom.register(1), Value::Ref(8189));
+    same(&rt, allocate(&heap, &mut dom, 1, 1), Ok(()));
+    same(&rt, dom.register(1), Value::Ref(8193));
     Ok(())
 }
 
@@ -166,15 +174,20 @@ fn eight_domains_draw_pools_at_once(rt: HostRuntime) -> Result<(), Fail> {
     let mut owners = vec![in alloc; None; 200]?;
     let mut places = vec![in alloc; false; 6400]?;
     for drawer in drawers.iter() {
-        assert_eq!(rt; drawer.free, Some(56));
-        assert!(rt; drawer.labelled);
+        same(&rt, drawer.free, Some(56));
         let number = drawer.dom.number();
-        assert!(rt; mark(&drawer.blocks, number, &mut owners, &mut places));
+        let apart = mark(&drawer.blocks, number, &mut owners, &mut places);
+        same(&rt, (drawer.labelled, apart), (true, true));
     }
-    assert_eq!(rt;
+    same(
+        &rt,
         owners.iter().filter(|owner| owner.is_some()).count(),
-        DRAWN
+        DRAWN,
     );
-    assert_eq!(rt; places.iter().filter(|taken| **taken).count(), DRAWN * 32);
+    same(
+        &rt,
+        places.iter().filter(|taken| **taken).count(),
+        DRAWN * 32,
+    );
     Ok(())
 }

@@ -1,5 +1,5 @@
 //! Runs driven in threads.
-use crate::fixtures::{ONE_DOMAIN, Play, TWO_DOMAINS};
+use crate::fixtures::{ONE_DOMAIN, Play, TWO_DOMAINS, same};
 use heap_model::command::Command;
 use heap_model::reply::Reply;
 use outer_io::{Gate, NoGate};
@@ -52,8 +52,8 @@ fn two_calls_meet(rt: HostRuntime) -> Result<(), Fail> {
         met: AtomicU32::new(0),
     };
     let runs = play.driven(&rt, &gate);
-    assert_eq!(rt; runs.len(), 2);
-    assert_eq!(rt; gate.met.load(Ordering::SeqCst), 2);
+    same(&rt, runs.len(), 2);
+    same(&rt, gate.met.load(Ordering::SeqCst), 2);
     Ok(())
 }
 
@@ -68,11 +68,14 @@ fn runs_come_back_in_order_with_their_replies(rt: HostRuntime) -> Result<(), Fai
     let play = Play::start(rt.alloc(), TWO_DOMAINS, &[put.as_slice(), &load])?;
     let runs = play.driven(&rt, &NoGate);
     let all = [[Reply::Done, Reply::Done].as_slice(), &[Reply::BadIndex]];
-    assert_eq!(rt; runs.len(), 2);
-    for (d, run) in runs.iter().enumerate() {
-        assert_eq!(rt; run.domain().number() as usize, d);
-        assert!(rt; run.has_ended());
-        assert_eq!(rt; run.replies(), all[d]);
+    same(&rt, runs.len(), 2);
+    for ((number, run), replies) in (0..2u32).zip(runs.iter()).zip(&all) {
+        same(
+            &rt,
+            (run.domain().number(), run.has_ended()),
+            (number, true),
+        );
+        same(&rt, run.replies(), *replies);
     }
     Ok(())
 }
@@ -110,8 +113,8 @@ fn a_gate_hears_of_each_command(rt: HostRuntime) -> Result<(), Fail> {
         calls: AtomicU32::new(0),
     };
     let runs = play.driven(&rt, &gate);
-    assert_eq!(rt; runs.len(), 1);
-    assert_eq!(rt; gate.calls.load(Ordering::SeqCst), 123_456);
+    same(&rt, runs.len(), 1);
+    same(&rt, gate.calls.load(Ordering::SeqCst), 123_456);
     Ok(())
 }
 
@@ -125,11 +128,10 @@ fn collections_stop_all_domains(rt: HostRuntime) -> Result<(), Fail> {
         [Reply::Done, Reply::Done, Reply::Done].as_slice(),
         &[Reply::Done],
     ];
-    assert_eq!(rt; runs.len(), 2);
-    for (d, run) in runs.iter().enumerate() {
-        assert!(rt; run.has_ended());
-        assert_eq!(rt; run.replies(), all[d]);
-        assert_eq!(rt; run.domain().arrivals(), 18);
+    same(&rt, runs.len(), 2);
+    for (run, replies) in runs.iter().zip(&all) {
+        same(&rt, (run.has_ended(), run.domain().arrivals()), (true, 18));
+        same(&rt, run.replies(), *replies);
     }
     Ok(())
 }
