@@ -1,5 +1,5 @@
 //! Collections of many young blocks.
-use crate::program::run_plain;
+use crate::program::runs_to;
 use std::test::Fail;
 
 const WORDS: &str = "run --domains 1 --minor 4096 --pools 14";
@@ -17,10 +17,7 @@ fn a_full_minor_area_is_collected(rt: HostRuntime) -> Result<(), Fail> {
     }
     script.push_str("load 2 1 125\n")?;
     prints.push_str("int 0\n")?;
-    let given = run_plain(&rt, alloc, WORDS, script.as_str())?;
-    assert_eq!(rt; given.number, 0);
-    assert_eq!(rt; given.written.as_slice(), prints.as_bytes());
-    Ok(())
+    Ok(runs_to(&rt, alloc, WORDS, &script, &prints)?)
 }
 
 // Each block of a chain leads to the one before. After a collection the chain leads on to its first block.
@@ -41,10 +38,7 @@ fn a_chain_of_500_blocks_is_copied(rt: HostRuntime) -> Result<(), Fail> {
     }
     script.push_str("load 1 1 0\n")?;
     prints.push_str("int 0\n")?;
-    let given = run_plain(&rt, alloc, WORDS, script.as_str())?;
-    assert_eq!(rt; given.number, 0);
-    assert_eq!(rt; given.written.as_slice(), prints.as_bytes());
-    Ok(())
+    Ok(runs_to(&rt, alloc, WORDS, &script, &prints)?)
 }
 
 // A domain remembers at most 4096 fields. A collection comes before the store of one more.
@@ -59,8 +53,5 @@ fn a_full_remembered_set_is_collected(rt: HostRuntime) -> Result<(), Fail> {
     }
     script.push_str("load 2 0 3\n")?;
     prints.push_str("blk 0:1\n")?;
-    let given = run_plain(&rt, alloc, WORDS, script.as_str())?;
-    assert_eq!(rt; given.number, 0);
-    assert_eq!(rt; given.written.as_slice(), prints.as_bytes());
-    Ok(())
+    Ok(runs_to(&rt, alloc, WORDS, &script, &prints)?)
 }

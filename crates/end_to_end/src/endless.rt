@@ -46,9 +46,10 @@ fn reading_stops_one_byte_past_the_limit(rt: HostRuntime) -> Result<(), Fail> {
             Status::Script(ScriptFault::TooLong { bytes: 16_777_217 })
         )
     );
-    assert_eq!(rt; source.given, 16_777_217);
-    assert_eq!(rt; source.largest, 4096);
-    assert_eq!(rt; source.last, 1);
+    assert_eq!(rt;
+        (source.given, source.largest, source.last),
+        (16_777_217, 4096, 1)
+    );
     assert_eq!(rt; sink.bytes().len(), 0);
     Ok(())
 }

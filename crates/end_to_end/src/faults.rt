@@ -1,5 +1,5 @@
 //! Reads and writes that fail or are short.
-use crate::program::{PLAIN, PLAIN_PRINTS, run_program, sink, source};
+use crate::program::{PLAIN, PLAIN_PRINTS, is_given, run_program, sink, source};
 use std::test::Fail;
 
 #[test]
@@ -13,9 +13,7 @@ fn each_read_fails_in_turn(rt: HostRuntime) -> Result<(), Fail> {
             source(alloc, PLAIN, 16, &[failing])?,
             sink(alloc, 4096, &[])?,
         )?;
-        assert_eq!(rt; given.number, 3, "read {failing}");
-        assert_eq!(rt; given.line.as_slice(), b"read fault\n".as_slice());
-        assert_eq!(rt; given.written.len(), 0, "read {failing}");
+        is_given(&rt, &given, 3, "read fault\n", "");
     }
     Ok(())
 }
@@ -42,13 +40,7 @@ fn each_write_fails_in_turn(rt: HostRuntime) -> Result<(), Fail> {
             source(alloc, PLAIN, 4096, &[])?,
             sink(alloc, piece.max(1), &[failing])?,
         )?;
-        assert_eq!(rt; given.number, 4, "write {failing} in pieces of {piece}");
-        assert_eq!(rt; given.line.as_slice(), b"write fault\n".as_slice());
-        assert_eq!(rt;
-            given.written.as_slice(),
-            written.as_bytes(),
-            "write {failing} in pieces of {piece}"
-        );
+        is_given(&rt, &given, 4, "write fault\n", written);
     }
     Ok(())
 }
@@ -65,12 +57,7 @@ fn the_size_of_pieces_changes_nothing(rt: HostRuntime) -> Result<(), Fail> {
             source(alloc, PLAIN, piece, &[])?,
             sink(alloc, piece, &[])?,
         )?;
-        assert_eq!(rt; given.number, 0, "pieces of {piece}");
-        assert_eq!(rt;
-            given.written.as_slice(),
-            PLAIN_PRINTS.as_bytes(),
-            "pieces of {piece}"
-        );
+        is_given(&rt, &given, 0, "", PLAIN_PRINTS);
     }
     Ok(())
 }

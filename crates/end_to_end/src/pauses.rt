@@ -1,5 +1,5 @@
 //! Domains that stop together for minor collections, and go on together.
-use crate::program::{Output, run_plain};
+use crate::program::{Output, is_given, run_plain};
 use std::alloc::{AllocError, Global};
 use std::sync::atomic::{AtomicU32, Ordering};
 use std::sync::{Arc, Wait};
@@ -73,12 +73,7 @@ fn pauses_end(rt: HostRuntime) -> Result<(), Fail> {
         for _ in 0..3 {
             let Row { script, prints } = row_of(rt.alloc(), domains)?;
             let given = run_in_time(rt, rt.alloc(), domains, script)?;
-            assert_eq!(rt; given.number, 0, "{domains} domains");
-            assert_eq!(rt;
-                given.written.as_slice(),
-                prints.as_bytes(),
-                "{domains} domains"
-            );
+            is_given(&rt, &given, 0, "", &prints);
         }
     }
     Ok(())

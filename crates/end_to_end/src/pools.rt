@@ -1,5 +1,5 @@
 //! Pools that are drawn before and after a pause.
-use crate::program::run_plain;
+use crate::program::runs_to;
 use std::test::Fail;
 
 // Of 14 pools six can be drawn, with 32 blocks of 128 words each. Each pause lists the pools that are
@@ -20,8 +20,5 @@ fn a_pause_lists_the_pools_that_are_left(rt: HostRuntime) -> Result<(), Fail> {
     script.push_str("allocmaj 1 0 126\n")?;
     prints.push_str("full\n")?;
     let words = "run --domains 1 --minor 4096 --pools 14";
-    let given = run_plain(&rt, alloc, words, script.as_str())?;
-    assert_eq!(rt; given.number, 0);
-    assert_eq!(rt; given.written.as_slice(), prints.as_bytes());
-    Ok(())
+    Ok(runs_to(&rt, alloc, words, &script, &prints)?)
 }

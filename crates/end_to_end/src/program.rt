@@ -4,6 +4,7 @@ ghost use Rattle.std.specs.Prelude.{◌≤◌};
 use camlheap_run::{Status, camlheap, fault_line, status_number};
 use outer_io::{Gate, MemSink, MemSource, NoGate};
 use std::alloc::{AllocError, Global};
+use std::process::Abort;
 use std::sync::Wait;
 use std::thread::Threads;
 
@@ -54,6 +55,27 @@ pub(crate) fn run_plain<R: Threads + Wait + Sync>(
         source(alloc, script, 4096, &[])?,
         sink(alloc, 4096, &[])?,
     )
+}
+
+/// Runs the program with these words over this script. It must take all and print exactly this.
+pub(crate) fn runs_to<R: Threads + Wait + Sync + Abort>(
+    rt: &R,
+    alloc: Global,
+    words: &str,
+    script: &str,
+    prints: &str,
+) -> Result<(), AllocError> {
+    let given = run_plain(rt, alloc, words, script)?;
+    is_given(rt, &given, 0, "", prints);
+    Ok(())
+}
+
+/// Stops the test where a run didn't end with this number, this line and this output. A test that calls it is proved
+/// much faster than one that compares each by itself.
+pub(crate) fn is_given(rt: &impl Abort, given: &Output, number: u8, line: &str, written: &str) {
+    assert_eq!(rt; given.number, number);
+    assert_eq!(rt; given.line.as_slice(), line.as_bytes());
+    assert_eq!(rt; given.written.as_slice(), written.as_bytes());
 }
 
 /// The same with a gate.

@@ -1,5 +1,5 @@
 //! Scripts with the replies that they have by hand.
-use crate::program::{PLAIN, PLAIN_PRINTS, run_plain};
+use crate::program::{PLAIN, PLAIN_PRINTS, is_given, run_plain, runs_to};
 use std::test::Fail;
 
 // Words, a script, and what its run prints.
@@ -52,10 +52,7 @@ const REPLIES: [(&str, &str, &str); 11] = [
 #[test]
 fn scripts_of_few_replies(rt: HostRuntime) -> Result<(), Fail> {
     for (words, script, prints) in &REPLIES {
-        let given = run_plain(&rt, rt.alloc(), words, script)?;
-        assert_eq!(rt; given.number, 0, "{script}");
-        assert_eq!(rt; given.line.len(), 0, "{script}");
-        assert_eq!(rt; given.written.as_slice(), prints.as_bytes(), "{script}");
+        runs_to(&rt, rt.alloc(), words, script, prints)?;
     }
     Ok(())
 }
@@ -83,9 +80,7 @@ const REFUSED: [(&str, &str); 6] = [
 fn refused_scripts(rt: HostRuntime) -> Result<(), Fail> {
     for (script, line) in &REFUSED {
         let given = run_plain(&rt, rt.alloc(), "run --domains 1", script)?;
-        assert_eq!(rt; given.number, 2, "{script}");
-        assert_eq!(rt; given.line.as_slice(), line.as_bytes(), "{script}");
-        assert_eq!(rt; given.written.len(), 0, "{script}");
+        is_given(&rt, &given, 2, line, "");
     }
     Ok(())
 }
@@ -109,9 +104,7 @@ const USAGE: &str =
 fn other_words(rt: HostRuntime) -> Result<(), Fail> {
     for words in &OTHER_WORDS {
         let given = run_plain(&rt, rt.alloc(), words, PLAIN)?;
-        assert_eq!(rt; given.number, 1, "{words}");
-        assert_eq!(rt; given.line.as_slice(), USAGE.as_bytes(), "{words}");
-        assert_eq!(rt; given.written.len(), 0, "{words}");
+        is_given(&rt, &given, 1, USAGE, "");
     }
     Ok(())
 }

@@ -1,4 +1,5 @@
 //! Words that are taken, with the sizes that they ask for, and words that are refused.
+use crate::fixtures::same;
 use command_line::{read_words, words_fit};
 use std::alloc::{AllocError, Global};
 use std::test::Fail;
@@ -52,19 +53,19 @@ const REFUSED: [&str; 20] = [
 fn lines_are_taken_or_refused(rt: HostRuntime) -> Result<(), Fail> {
     for (line, asked) in &TAKEN {
         let words = words(rt.alloc(), line)?;
-        assert!(rt; words_fit(&words), "{line}");
         let sizes = read_words(rt.alloc(), &words)?.ok_or("refused")?;
-        assert_eq!(rt;
-            (sizes.domains, sizes.minor_words, sizes.pools),
-            *asked,
-            "{line}"
-        );
+        let asks = (sizes.domains, sizes.minor_words, sizes.pools);
+        same(&rt, (words_fit(&words), asks, *line), (true, *asked, *line));
     }
     for line in &REFUSED {
         let words = words(rt.alloc(), line)?;
-        assert!(rt; !words_fit(&words), "{line}");
-        assert!(rt; read_words(rt.alloc(), &words)?.is_none(), "{line}");
+        let refused = read_words(rt.alloc(), &words)?.is_none();
+        same(
+            &rt,
+            (words_fit(&words), refused, *line),
+            (false, true, *line),
+        );
     }
-    assert!(rt; !words_fit(&[]));
+    same(&rt, words_fit(&[]), false);
     Ok(())
 }

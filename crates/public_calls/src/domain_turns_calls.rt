@@ -1,96 +1,57 @@
 //! Traces from their first command to their end.
-ghost use Rattle.heap_rule.specs.Token.{IsIn};
-
-use domain_turns::{DomainRun, Turned, turn};
+use crate::fixtures::{ONE_DOMAIN, Play, Shown, TWO_DOMAINS, same};
+use domain_turns::Turned;
 use heap_model::command::Command;
 use heap_model::label::Label;
 use heap_model::reply::Reply;
-use heap_rule::{Config, Heap};
 use heap_words::Value;
 use std::test::Fail;
 
-const ONE_DOMAIN: Config = Config {
-    domains: 1,
-    minor_words: 4096,
-    pools: 14,
-    finals: 0,
-    ephes: 0,
-};
+const REPLIED: [Command; 4] = [
+    Command::Alloc {
+        dst: 1,
+        tag: 0,
+        fields: 2,
+    },
+    Command::Store {
+        block: 0,
+        index: 3,
+        item: 1,
+    },
+    Command::Load {
+        dst: 2,
+        src: 0,
+        index: 16,
+    },
+    Command::Poll,
+];
 
-// So often a domain arrives in no test.
-const MOST: u64 = 1_000_000;
-
-// A turn, where the domain may still arrive.
-fn turned(heap: &Heap, run: &mut DomainRun) -> Option<Turned>
-    requires { IsIn run.old.token heap.now }
-    ensures { IsIn run.new.token heap.now }
-{
-    if run.domain().arrivals() >= MOST {
-        return None;
-    }
-    Some(turn(heap, run))
-}
+const REPLIES: [Reply; 4] = [
+    Reply::Block(Label {
+        domain: 0,
+        serial: 1,
+    }),
+    Reply::Done,
+    Reply::BadIndex,
+    Reply::Done,
+];
 
 #[test]
 fn a_trace_runs_to_its_end(rt: HostRuntime) -> Result<(), Fail> {
-    let (heap, mut domains) = Heap::start(rt.alloc(), ONE_DOMAIN)?;
-    let domain = domains.pop().ok_or("no domain")?;
-    let commands = vec![in rt.alloc();
-        Command::Alloc {
-            dst: 1,
-            tag: 0,
-            fields: 2
-        },
-        Command::Store {
-            block: 0,
-            index: 3,
-            item: 1
-        },
-        Command::Load {
-            dst: 2,
-            src: 0,
-            index: 16
-        },
-        Command::Poll,
-    ]?;
-    let mut run = DomainRun::make(rt.alloc(), domain, commands)?;
-    assert_eq!(rt; turned(&heap, &mut run), Some(Turned::Did));
-    assert_eq!(rt; turned(&heap, &mut run), Some(Turned::Did));
-    assert_eq!(rt; turned(&heap, &mut run), Some(Turned::Did));
-    assert_eq!(rt; turned(&heap, &mut run), Some(Turned::Did));
-    assert!(rt; !run.has_ended());
-    assert_eq!(rt; turned(&heap, &mut run), Some(Turned::Did));
-    assert_eq!(rt; turned(&heap, &mut run), Some(Turned::Ended));
-    assert_eq!(rt; run.next(), 4);
-    let first = Label {
-        domain: 0,
-        serial: 1,
-    };
-    let replies = [
-        Reply::Block(first),
-        Reply::Done,
-        Reply::BadIndex,
-        Reply::Done,
-    ];
-    assert_eq!(rt; run.replies(), replies.as_slice());
-    assert_eq!(rt; run.domain().labels_made(), 1);
+    let mut play = Play::start(rt.alloc(), ONE_DOMAIN, &[REPLIED.as_slice()])?;
+    same(&rt, play.all_did(0, 4), true);
+    same(&rt, play.has_ended(0), false);
+    same(&rt, play.turn(0), Some(Turned::Did));
+    same(&rt, play.turn(0), Some(Turned::Ended));
+    let run = play.into_first()?;
+    same(&rt, run.next(), 4);
+    same(&rt, run.replies(), REPLIES.as_slice());
+    same(&rt, run.domain().labels_made(), 1);
     if !run.has_ended() {
         return Err(Fail::from("the trace hasn't ended"));
     }
-    assert_eq!(rt; run.into_domain().number(), 0);
+    same(&rt, run.into_domain().number(), 0);
     Ok(())
-}
-
-// So many turns: whether each did something.
-fn all_did(heap: &Heap, run: &mut DomainRun, turns: u32) -> bool
-    requires { IsIn run.old.token heap.now }
-    ensures { IsIn run.new.token heap.now }
-{
-    let mut right = true;
-    for _taken in 0..turns {
-        right = turned(heap, run) == Some(Turned::Did) && right;
-    }
-    right
 }
 
 const MOVING: [Command; 4] = [
@@ -112,103 +73,97 @@ const MOVING: [Command; 4] = [
     },
 ];
 
+// So many turns that do something, and what the domain shows then. The block is made and written to; the domain asks,
+// goes through the phases and makes the entry of `minor`; and the field is loaded.
+const MOVED: [(u32, Shown); 3] = [
+    (
+        2,
+        Shown {
+            arrivals: 0,
+            used: 4,
+            remembered: 0,
+            registers: [Value::Ref(1), Value::Ref(14 * 4096 + 1), Value::Nothing],
+        },
+    ),
+    (
+        8,
+        Shown {
+            arrivals: 6,
+            used: 0,
+            remembered: 0,
+            registers: [Value::Ref(1), Value::Ref(4097), Value::Nothing],
+        },
+    ),
+    (
+        1,
+        Shown {
+            arrivals: 6,
+            used: 0,
+            remembered: 0,
+            registers: [Value::Ref(1), Value::Ref(4097), Value::Ref(1)],
+        },
+    ),
+];
+
 // After the pause the register leads to a block of a pool, which has the field that the young one had.
 #[test]
 fn a_pause_moves_a_young_block_into_a_pool(rt: HostRuntime) -> Result<(), Fail> {
-    let alloc = rt.alloc();
-    let (heap, mut domains) = Heap::start(alloc, ONE_DOMAIN)?;
-    let domain = domains.pop().ok_or("no domain")?;
-    let mut run = DomainRun::make(alloc, domain, Vec::from_slice(alloc, &MOVING)?)?;
-    assert!(rt; all_did(&heap, &mut run, 2));
-    assert_eq!(rt; run.domain().register(1), Value::Ref(14 * 4096 + 1));
-    assert_eq!(rt; run.domain().area_used(), 4);
-    // It asks, goes through the phases, and makes the entry of `minor`.
-    assert!(rt; all_did(&heap, &mut run, 8));
-    assert_eq!(rt; run.next(), 3);
-    assert_eq!(rt; run.domain().area_used(), 0);
-    assert_eq!(rt; run.domain().register(1), Value::Ref(4097));
-    assert!(rt; all_did(&heap, &mut run, 1));
-    assert_eq!(rt; run.domain().register(2), Value::Ref(1));
+    let mut play = Play::start(rt.alloc(), ONE_DOMAIN, &[MOVING.as_slice()])?;
+    for (turns, shown) in &MOVED {
+        same(&rt, play.all_did(0, *turns), true);
+        same(&rt, play.shown(0), Some(*shown));
+    }
+    same(&rt, play.into_first()?.next(), 4);
     Ok(())
 }
 
-const TWO_DOMAINS: Config = Config {
-    domains: 2,
-    minor_words: 4096,
-    pools: 27,
-    finals: 0,
-    ephes: 0,
-};
-
-// One domain goes through a phase and waits, and then the other goes through it.
-fn go_through(heap: &Heap, idle: &mut DomainRun, asking: &mut DomainRun) -> [Option<Turned>; 3]
-    requires idle { IsIn idle.old.token heap.now }
-    requires asking { IsIn asking.old.token heap.now }
-    ensures idle { IsIn idle.new.token heap.now }
-    ensures asking { IsIn asking.new.token heap.now }
-{
-    let passed = turned(heap, idle);
-    let waits = turned(heap, idle);
-    let last = turned(heap, asking);
-    [passed, waits, last]
-}
-
-// Both go through the phases 1 to 5: whether each turn answered as it must.
-fn go_through_all(heap: &Heap, idle: &mut DomainRun, asking: &mut DomainRun) -> bool
-    requires idle { IsIn idle.old.token heap.now }
-    requires asking { IsIn asking.old.token heap.now }
-    ensures idle { IsIn idle.new.token heap.now }
-    ensures asking { IsIn asking.new.token heap.now }
-{
-    let mut right = true;
-    for end in [3, 5, 7, 9, 11] {
-        let answers = go_through(heap, idle, asking);
-        let waits = Some(Turned::Waiting(end));
-        right = right && answers == [Some(Turned::Did), waits, Some(Turned::Did)];
-    }
-    right
-}
+// The answers of these domains' turns, in order.
+const PAUSE: [(usize, Turned); 28] = [
+    // The second ends its trace, and is idle.
+    (1, Turned::Did),
+    (1, Turned::Did),
+    (1, Turned::Idle { ended: 1 }),
+    // The first asks, and arrives in phase 0.
+    (0, Turned::Did),
+    (0, Turned::Did),
+    (0, Turned::Waiting(1)),
+    // The idle one arrives too, and both go through the phases 1 to 5.
+    (1, Turned::Did),
+    (1, Turned::Did),
+    (1, Turned::Waiting(3)),
+    (0, Turned::Did),
+    (1, Turned::Did),
+    (1, Turned::Waiting(5)),
+    (0, Turned::Did),
+    (1, Turned::Did),
+    (1, Turned::Waiting(7)),
+    (0, Turned::Did),
+    (1, Turned::Did),
+    (1, Turned::Waiting(9)),
+    (0, Turned::Did),
+    (1, Turned::Did),
+    (1, Turned::Waiting(11)),
+    (0, Turned::Did),
+    // In phase 6 all run. The wish was served, and the entry of `minor` is made.
+    (1, Turned::Idle { ended: 1 }),
+    (0, Turned::Did),
+    (0, Turned::Did),
+    (0, Turned::Ended),
+    (1, Turned::Ended),
+    (1, Turned::Ended),
+];
 
 #[test]
 fn a_pause_takes_all_domains_with_it(rt: HostRuntime) -> Result<(), Fail> {
-    let (heap, mut domains) = Heap::start(rt.alloc(), TWO_DOMAINS)?;
-    let second = domains.pop().ok_or("no domain")?;
-    let first = domains.pop().ok_or("no domain")?;
-    let mut asking = DomainRun::make(rt.alloc(), first, vec![in rt.alloc(); Command::Minor]?)?;
-    let mut idle = DomainRun::make(rt.alloc(), second, vec![in rt.alloc(); Command::Poll]?)?;
-    // The second ends its trace, and is idle.
-    assert_eq!(rt; turned(&heap, &mut idle), Some(Turned::Did));
-    assert_eq!(rt; turned(&heap, &mut idle), Some(Turned::Did));
-    assert_eq!(rt; turned(&heap, &mut idle), Some(Turned::Idle { ended: 1 }));
-    // The first asks, and arrives in phase 0.
-    assert_eq!(rt; turned(&heap, &mut asking), Some(Turned::Did));
-    assert_eq!(rt; turned(&heap, &mut asking), Some(Turned::Did));
-    assert_eq!(rt; turned(&heap, &mut asking), Some(Turned::Waiting(1)));
-    // The idle one arrives too, and all go through the phases 1 to 5.
-    assert_eq!(rt; turned(&heap, &mut idle), Some(Turned::Did));
-    assert!(rt; go_through_all(&heap, &mut idle, &mut asking));
-    // In phase 6 all run. The wish was served, and the entry of `minor` is made.
-    assert_eq!(rt; turned(&heap, &mut idle), Some(Turned::Idle { ended: 1 }));
-    assert_eq!(rt; turned(&heap, &mut asking), Some(Turned::Did));
-    assert_eq!(rt; asking.domain().arrivals(), 6);
-    assert_eq!(rt; asking.replies(), [Reply::Done].as_slice());
-    assert_eq!(rt; turned(&heap, &mut asking), Some(Turned::Did));
-    assert_eq!(rt; turned(&heap, &mut asking), Some(Turned::Ended));
-    assert_eq!(rt; turned(&heap, &mut idle), Some(Turned::Ended));
-    Ok(())
-}
-
-// Both go on by turns, each so often.
-fn take_turns(heap: &Heap, first: &mut DomainRun, second: &mut DomainRun, turns: u32)
-    requires first { IsIn first.old.token heap.now }
-    requires second { IsIn second.old.token heap.now }
-    ensures first { IsIn first.new.token heap.now }
-    ensures second { IsIn second.new.token heap.now }
-{
-    for _taken in 0..turns {
-        turned(heap, first);
-        turned(heap, second);
+    let lists = [[Command::Minor].as_slice(), &[Command::Poll]];
+    let mut play = Play::start(rt.alloc(), TWO_DOMAINS, &lists)?;
+    for (domain, answer) in &PAUSE {
+        same(&rt, play.turn(*domain), Some(*answer));
     }
+    let asking = play.into_first()?;
+    same(&rt, asking.domain().arrivals(), 6);
+    same(&rt, asking.replies(), [Reply::Done].as_slice());
+    Ok(())
 }
 
 const MAKING: [Command; 4] = [
@@ -230,12 +185,54 @@ const MAKING: [Command; 4] = [
     },
 ];
 
-const SHARING: [Command; 2] = [
+// It has commands left when the other has loaded the field.
+const SHARING: [Command; 6] = [
     Command::Poll,
     Command::Load {
         dst: 1,
         src: 0,
         index: 3,
+    },
+    Command::Poll,
+    Command::Poll,
+    Command::Poll,
+    Command::Poll,
+];
+
+const SHARED: Value = Value::Ref(1);
+
+const YOUNG: Value = Value::Ref(27 * 4096 + 1);
+
+const COPY: Value = Value::Ref(4097);
+
+// What the two show before the pause, and what once the first has loaded the field after it.
+const BEFORE: [Shown; 2] = [
+    Shown {
+        arrivals: 0,
+        used: 4,
+        remembered: 1,
+        registers: [SHARED, YOUNG, Value::Nothing],
+    },
+    Shown {
+        arrivals: 0,
+        used: 0,
+        remembered: 0,
+        registers: [SHARED, YOUNG, Value::Nothing],
+    },
+];
+
+const AFTER: [Shown; 2] = [
+    Shown {
+        arrivals: 6,
+        used: 0,
+        remembered: 0,
+        registers: [SHARED, COPY, COPY],
+    },
+    Shown {
+        arrivals: 6,
+        used: 0,
+        remembered: 0,
+        registers: [SHARED, COPY, Value::Nothing],
     },
 ];
 
@@ -243,23 +240,21 @@ const SHARING: [Command; 2] = [
 // domains claim it, and go on with one copy of it.
 #[test]
 fn two_domains_claim_one_block(rt: HostRuntime) -> Result<(), Fail> {
-    let alloc = rt.alloc();
-    let (heap, mut domains) = Heap::start(alloc, TWO_DOMAINS)?;
-    let second = domains.pop().ok_or("no domain")?;
-    let first = domains.pop().ok_or("no domain")?;
-    let mut making = DomainRun::make(alloc, first, Vec::from_slice(alloc, &MAKING)?)?;
-    let mut sharing = DomainRun::make(alloc, second, Vec::from_slice(alloc, &SHARING)?)?;
-    take_turns(&heap, &mut making, &mut sharing, 2);
-    let young = making.domain().register(1);
-    assert_eq!(rt; sharing.domain().register(1), young);
-    assert_eq!(rt; making.domain().remembered_len(), 1);
-    take_turns(&heap, &mut making, &mut sharing, 40);
-    assert!(rt; making.has_ended() && sharing.has_ended());
-    let copy = making.domain().register(1);
-    assert!(rt; copy != young);
-    assert_eq!(rt; making.domain().register(2), copy);
-    assert_eq!(rt; sharing.domain().register(1), copy);
-    assert_eq!(rt; making.domain().area_used(), 0);
-    assert_eq!(rt; making.domain().remembered_len(), 0);
+    let lists = [MAKING.as_slice(), SHARING.as_slice()];
+    let mut play = Play::start(rt.alloc(), TWO_DOMAINS, &lists)?;
+    play.take_turns(2);
+    same(
+        &rt,
+        [play.shown(0), play.shown(1)],
+        [Some(BEFORE[0]), Some(BEFORE[1])],
+    );
+    play.take_turns_until(4);
+    same(
+        &rt,
+        [play.shown(0), play.shown(1)],
+        [Some(AFTER[0]), Some(AFTER[1])],
+    );
+    play.take_turns(40);
+    same(&rt, (play.has_ended(0), play.has_ended(1)), (true, true));
     Ok(())
 }

@@ -1,4 +1,5 @@
 //! The start and the end of a heap, and what a domain tells of itself.
+use crate::fixtures::same;
 use heap_rule::{Config, Heap, Part, StartFault};
 use heap_words::Value;
 use std::test::Fail;
@@ -68,9 +69,9 @@ const OUTSIDE: [(Config, u32); 8] = [
 #[test]
 fn faults_have_their_texts(rt: HostRuntime) -> Result<(), Fail> {
     let field = format!(in rt.alloc(); "{}", StartFault::Config(2))?;
-    assert_eq!(rt; field.as_str(), "config field 2");
+    same(&rt, field.as_str(), "config field 2");
     let memory = format!(in rt.alloc(); "{}", StartFault::Memory)?;
-    assert_eq!(rt; memory.as_str(), "out of memory");
+    same(&rt, memory.as_str(), "out of memory");
     Ok(())
 }
 
@@ -78,26 +79,26 @@ fn faults_have_their_texts(rt: HostRuntime) -> Result<(), Fail> {
 fn a_field_outside_its_limit_is_named(rt: HostRuntime) {
     for (config, field) in &OUTSIDE {
         let fault = Heap::start(rt.alloc(), *config).err();
-        assert_eq!(rt; fault, Some(StartFault::Config(*field)));
+        same(&rt, fault, Some(StartFault::Config(*field)));
     }
 }
 
 #[test]
 fn a_heap_starts_and_stops(rt: HostRuntime) -> Result<(), Fail> {
     let (heap, domains) = Heap::start(rt.alloc(), SMALL)?;
-    assert_eq!(rt; domains.len(), 2);
+    same(&rt, domains.len(), 2);
     let domain = &domains[1];
-    assert_eq!(rt; domain.number(), 1);
-    assert_eq!(rt; domain.register(0), Value::Ref(1));
-    assert_eq!(rt; domain.register(15), Value::Nothing);
-    assert_eq!(rt; domain.queued(), 0);
-    assert_eq!(rt; domain.finals_room(), 10);
-    assert_eq!(rt; domain.ephes_room(), 20);
-    assert_eq!(rt; domain.area_used(), 0);
-    assert_eq!(rt; domain.arrivals(), 0);
-    assert_eq!(rt; domain.labels_made(), 0);
-    assert_eq!(rt; domain.part_len(Part::Register), 16);
-    assert_eq!(rt; domain.part_at(Part::Register, 0).value, Value::Ref(1));
+    same(&rt, domain.number(), 1);
+    same(&rt, domain.register(0), Value::Ref(1));
+    same(&rt, domain.register(15), Value::Nothing);
+    same(&rt, domain.queued(), 0);
+    same(&rt, domain.finals_room(), 10);
+    same(&rt, domain.ephes_room(), 20);
+    same(&rt, domain.area_used(), 0);
+    same(&rt, domain.arrivals(), 0);
+    same(&rt, domain.labels_made(), 0);
+    same(&rt, domain.part_len(Part::Register), 16);
+    same(&rt, domain.part_at(Part::Register, 0).value, Value::Ref(1));
     let ended = heap.stop(domains);
     ended.is_legal();
     Ok(())

@@ -1,4 +1,5 @@
 //! Worked scripts and reply lines.
+use crate::fixtures::same;
 use heap_model::command::Command;
 use heap_model::label::Label;
 use heap_model::reply::Reply;
@@ -63,9 +64,9 @@ const SCRIPTS: [(u32, usize, &[u8]); 9] = [
 fn scripts_are_printed_back(rt: HostRuntime) -> Result<(), Fail> {
     for (domains, written, bytes) in &SCRIPTS {
         let script = read_script(rt.alloc(), *domains, bytes)?;
-        assert_eq!(rt; script.sections(), *domains as usize);
+        same(&rt, script.sections(), *domains as usize);
         let again = printed(rt.alloc(), &script, *written)?;
-        assert!(rt; again.as_slice() == *bytes, "at {bytes:?}");
+        same(&rt, again.as_slice(), *bytes);
     }
     Ok(())
 }
@@ -89,7 +90,7 @@ fn commands_are_read(rt: HostRuntime) -> Result<(), Fail> {
             Command::PutInt { dst: 3, value: -7 },
         ]
     );
-    assert!(rt; are_read, "the commands of the section");
+    same(&rt, are_read, true);
     Ok(())
 }
 
@@ -166,7 +167,7 @@ const FAULTS: [(u32, &[u8], ScriptFault); 33] = [
 fn first_faults(rt: HostRuntime) -> Result<(), Fail> {
     for (domains, bytes, fault) in &FAULTS {
         let read = read_script(rt.alloc(), *domains, bytes);
-        assert_eq!(rt; read.err(), Some(*fault), "at {bytes:?}");
+        same(&rt, (read.err(), *bytes), (Some(*fault), *bytes));
     }
     Ok(())
 }
@@ -182,12 +183,12 @@ fn too_many_commands(rt: HostRuntime) -> Result<(), Fail> {
     for (last, fault) in faults {
         let bytes = many_lines(rt.alloc(), 200_000, last)?;
         let read = read_script(rt.alloc(), 2, bytes.as_slice());
-        assert_eq!(rt; read.err(), Some(fault), "at {last:?}");
+        same(&rt, read.err(), Some(fault));
     }
     let bytes = many_lines(rt.alloc(), 200_000, b"")?;
     let script = read_script(rt.alloc(), 1, bytes.as_slice())?;
     assert_eq!(rt; script.sections(), 1);
-    assert_eq!(rt; script.section(0).len(), 200_000);
+    same(&rt, script.section(0).len(), 200_000);
     Ok(())
 }
 
@@ -203,7 +204,7 @@ fn too_many_bytes(rt: HostRuntime) -> Result<(), Fail> {
     ] {
         let bytes = line_feeds(rt.alloc(), count)?;
         let read = read_script(rt.alloc(), 1, bytes.as_slice());
-        assert_eq!(rt; read.err(), Some(fault), "at {count}");
+        same(&rt, read.err(), Some(fault));
     }
     Ok(())
 }
@@ -256,7 +257,7 @@ fn reply_lines(rt: HostRuntime) -> Result<(), Fail> {
     for (reply, text) in &REPLIES {
         let mut line: Line = [1; 64];
         let len = print_reply(reply, &mut line);
-        assert!(rt; &line[..len] == *text, "at {text:?}");
+        same(&rt, &line[..len], *text);
     }
     Ok(())
 }

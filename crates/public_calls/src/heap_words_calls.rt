@@ -1,4 +1,5 @@
 //! Words worked out by hand, and the words that nothing packs to.
+use crate::fixtures::same;
 use heap_words::{
     Colours, Head, Value, pack_colours, pack_head, pack_label, pack_value, rotate, unpack_colours,
     unpack_head, unpack_label, unpack_value,
@@ -79,23 +80,23 @@ const NO_COLOURS: [u64; 5] = [0, 20, 39, 57, 100];
 fn values_have_their_words(rt: HostRuntime) {
     for (value, word) in &VALUES {
         let unpacked = unpack_value(*word);
-        assert_eq!(rt; unpacked, Some(*value));
-        assert_eq!(rt; unpacked.map(|value| pack_value(value)), Some(*word));
+        same(&rt, unpacked, Some(*value));
+        same(&rt, unpacked.map(|value| pack_value(value)), Some(*word));
     }
-    assert_eq!(rt; unpack_value(0x1_ffff_fffe), Some(Value::Ref(u32::MAX)));
-    assert_eq!(rt; unpack_value(0x2_0000_0000), None);
-    assert_eq!(rt; unpack_value(0xffff_ffff_ffff_fffe), None);
+    same(&rt, unpack_value(0x1_ffff_fffe), Some(Value::Ref(u32::MAX)));
+    same(&rt, unpack_value(0x2_0000_0000), None);
+    same(&rt, unpack_value(0xffff_ffff_ffff_fffe), None);
 }
 
 #[test]
 fn heads_have_their_words(rt: HostRuntime) {
     for (head, word) in &HEADS {
         let unpacked = unpack_head(*word);
-        assert_eq!(rt; unpacked, Some(*head));
-        assert_eq!(rt; unpacked.map(|head| pack_head(head)), Some(*word));
+        same(&rt, unpacked, Some(*head));
+        same(&rt, unpacked.map(|head| pack_head(head)), Some(*word));
     }
     for word in &NO_HEADS {
-        assert_eq!(rt; unpack_head(*word), None);
+        same(&rt, unpack_head(*word), None);
     }
 }
 
@@ -106,27 +107,28 @@ fn colours_have_their_words(rt: HostRuntime) {
         unmarked: 1,
         garbage: 2,
     };
-    assert_eq!(rt; pack_colours(opening), 36);
-    assert_eq!(rt; unpack_colours(36), Some(opening));
+    same(&rt, pack_colours(opening), 36);
+    same(&rt, unpack_colours(36), Some(opening));
     let turned = rotate(opening);
-    assert_eq!(rt;
+    same(
+        &rt,
         turned,
         Colours {
             marked: 2,
             unmarked: 0,
-            garbage: 1
-        }
+            garbage: 1,
+        },
     );
-    assert_eq!(rt; pack_colours(turned), 18);
+    same(&rt, pack_colours(turned), 18);
     for word in &NO_COLOURS {
-        assert_eq!(rt; unpack_colours(*word), None);
+        same(&rt, unpack_colours(*word), None);
     }
 }
 
 #[test]
 fn labels_have_their_words(rt: HostRuntime) {
-    assert_eq!(rt; pack_label(3, 9), 75);
-    assert_eq!(rt; unpack_label(75), Some((3, 9)));
-    assert_eq!(rt; unpack_label(0x7_ffff_ffff), Some((7, u32::MAX)));
-    assert_eq!(rt; unpack_label(0x8_0000_0000), None);
+    same(&rt, pack_label(3, 9), 75);
+    same(&rt, unpack_label(75), Some((3, 9)));
+    same(&rt, unpack_label(0x7_ffff_ffff), Some((7, u32::MAX)));
+    same(&rt, unpack_label(0x8_0000_0000), None);
 }

@@ -10,6 +10,8 @@ mod domain_turns_calls;
 #[cfg(test)]
 mod field_access_calls;
 #[cfg(test)]
+mod fixtures;
+#[cfg(test)]
 mod heap_rule_calls;
 #[cfg(test)]
 mod heap_text_calls;

@@ -2,9 +2,9 @@
 ghost use Rattle.std.specs.Prelude.{◌+◌, ◌^◌, ◌<◌, ◌≤◌};
 ghost use Rattle.heap_rule.specs.Running.{Runs};
 
-use field_access::store;
+use crate::fixtures::{one_domain, same, shown_of, stored};
 use heap_model::reply::Reply;
-use heap_rule::{Config, Domain, Heap};
+use heap_rule::{Domain, Heap};
 use minor_area::{Need, alloc_young};
 use std::test::Fail;
 
@@ -23,23 +23,14 @@ fn allocate(heap: &Heap, dom: &mut Domain, blocks: u32) -> Result<(), Need>
 
 #[test]
 fn a_minor_area_fills(rt: HostRuntime) -> Result<(), Fail> {
-    let config = Config {
-        domains: 1,
-        minor_words: 4096,
-        pools: 14,
-        finals: 0,
-        ephes: 0,
-    };
-    let (heap, mut domains) = Heap::start(rt.alloc(), config)?;
-    let mut dom = domains.pop().ok_or("no domain")?;
-    assert_eq!(rt; allocate(&heap, &mut dom, 32), Ok(()));
-    assert_eq!(rt; dom.area_used(), 4096);
-    let last = dom.register(1);
+    let (heap, mut dom) = one_domain(rt.alloc())?;
+    same(&rt, allocate(&heap, &mut dom, 32), Ok(()));
+    let last = shown_of(&dom);
+    same(&rt, last.used, 4096);
     let full = alloc_young(&heap, &mut dom, 1, 0, 126);
-    assert_eq!(rt; full, Err(Need::AreaFull { used: 4096 }));
-    assert_eq!(rt; dom.area_used(), 4096);
-    assert_eq!(rt; dom.labels_made(), 32);
-    assert_eq!(rt; dom.register(1), last);
+    same(&rt, full, Err(Need::AreaFull { used: 4096 }));
+    same(&rt, shown_of(&dom), last);
+    same(&rt, dom.labels_made(), 32);
     Ok(())
 }
 
@@ -47,28 +38,19 @@ fn a_minor_area_fills(rt: HostRuntime) -> Result<(), Fail> {
 // one that gets the shared block nor the young block's own.
 #[test]
 fn a_young_block_in_the_shared_block(rt: HostRuntime) -> Result<(), Fail> {
-    let config = Config {
-        domains: 1,
-        minor_words: 4096,
-        pools: 14,
-        finals: 0,
-        ephes: 0,
-    };
-    let (heap, mut domains) = Heap::start(rt.alloc(), config)?;
-    let mut dom = domains.pop().ok_or("no domain")?;
+    let (heap, mut dom) = one_domain(rt.alloc())?;
     if alloc_young(&heap, &mut dom, 1, 0, 2).is_err() {
         return Err("no block")?;
     }
     let room = dom.remembered_room();
-    assert!(rt; room >= 1);
-    assert_eq!(rt; store(&heap, &mut dom, 0, 15, 1), Reply::Done);
-    assert!(rt; dom.remembered_room() >= 1);
-    assert_eq!(rt; store(&heap, &mut dom, 0, 3, 0), Reply::Done);
-    assert!(rt; dom.remembered_room() >= 1);
-    assert_eq!(rt; store(&heap, &mut dom, 1, 1, 1), Reply::Done);
-    assert_eq!(rt; dom.remembered_len(), 1);
-    assert_eq!(rt; dom.remembered_at(0), 18);
-    assert_eq!(rt; dom.remembered_room() + 1, room);
+    same(&rt, stored(&heap, &mut dom, 0, 15, 1), Some(Reply::Done));
+    same(&rt, stored(&heap, &mut dom, 0, 3, 0), Some(Reply::Done));
+    same(&rt, stored(&heap, &mut dom, 1, 1, 1), Some(Reply::Done));
+    if dom.remembered_len() != 1 {
+        return Err(Fail::from("not one field is remembered"));
+    }
+    same(&rt, dom.remembered_at(0), 18);
+    same(&rt, dom.remembered_room().saturating_add(1), room);
     Ok(())
 }
 
@@ -78,30 +60,25 @@ fn fill_remembered(heap: &Heap, dom: &mut Domain) -> u32
     requires { Runs heap.now dom.old }
     ensures { Runs heap.now dom.new }
 {
-    for stored in 0..10_000u32 {
-        if dom.remembered_room() == 0 {
-            return stored;
+    for made in 0..10_000u32 {
+        if stored(heap, dom, 0, 3, 1).is_none() {
+            return made;
         }
-        store(heap, dom, 0, 3, 1);
     }
     10_000
 }
 
 #[test]
 fn a_remembered_set_fills(rt: HostRuntime) -> Result<(), Fail> {
-    let config = Config {
-        domains: 1,
-        minor_words: 4096,
-        pools: 14,
-        finals: 0,
-        ephes: 0,
-    };
-    let (heap, mut domains) = Heap::start(rt.alloc(), config)?;
-    let mut dom = domains.pop().ok_or("no domain")?;
+    let (heap, mut dom) = one_domain(rt.alloc())?;
     if alloc_young(&heap, &mut dom, 1, 0, 2).is_err() {
         return Err("no block")?;
     }
-    assert_eq!(rt; fill_remembered(&heap, &mut dom), 4096);
-    assert_eq!(rt; (dom.remembered_len(), dom.remembered_room()), (4096, 0));
+    same(&rt, fill_remembered(&heap, &mut dom), 4096);
+    same(
+        &rt,
+        (dom.remembered_len(), dom.remembered_room()),
+        (4096, 0),
+    );
     Ok(())
 }

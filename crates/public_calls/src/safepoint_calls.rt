@@ -1,30 +1,48 @@
 //! The steps of a pause, for two domains in turn.
-use heap_rule::{Config, Heap, Kind};
+ghost use Rattle.heap_rule.specs.Running.{Runs};
+
+use crate::fixtures::{same, two_domains};
+use heap_rule::{Domain, Heap, Kind};
 use safepoint::{Look, Want, arrive, ask, follower, look, wants};
 use std::test::Fail;
 
-const TWO_DOMAINS: Config = Config {
-    domains: 2,
-    minor_words: 4096,
-    pools: 27,
-    finals: 0,
-    ephes: 0,
-};
+// The wishes so far.
+fn wanted(heap: &Heap, dom: &mut Domain) -> u64
+    requires { Runs heap.now dom.old }
+    ensures { Runs heap.now dom.new }
+{
+    wants(heap, dom).bits
+}
+
+// The domain asks for a pause.
+fn asked(heap: &Heap, dom: &mut Domain, want: Want)
+    requires { Runs heap.now dom.old }
+    ensures { Runs heap.now dom.new }
+{
+    ask(heap, dom, want);
+}
+
+// The domain arrives, and looks.
+fn arrived(heap: &Heap, dom: &mut Domain) -> Option<Look>
+    requires { Runs heap.now dom.old }
+{
+    if dom.arrivals() >= 1_000_000 {
+        return None;
+    }
+    arrive(heap, dom);
+    Some(look(heap, dom))
+}
 
 #[test]
 fn a_wish_is_found_and_the_last_arrival_ends_the_phase(rt: HostRuntime) -> Result<(), Fail> {
-    let (heap, mut domains) = Heap::start(rt.alloc(), TWO_DOMAINS)?;
-    let mut second = domains.pop().ok_or("no domain")?;
-    let mut first = domains.pop().ok_or("no domain")?;
-    assert_eq!(rt; wants(&heap, &mut first).bits, 0);
-    ask(&heap, &mut second, Want::Minor);
-    ask(&heap, &mut second, Want::Full);
-    assert_eq!(rt; wants(&heap, &mut first).bits, 9);
-    arrive(&heap, &mut first);
-    assert_eq!(rt; look(&heap, &mut first), Look::NotAll(1));
-    arrive(&heap, &mut second);
-    assert_eq!(rt; look(&heap, &mut second), Look::Lead);
-    assert_eq!(rt; (first.arrivals(), second.arrivals()), (1, 1));
+    let (heap, mut first, mut second) = two_domains(rt.alloc())?;
+    same(&rt, wanted(&heap, &mut first), 0);
+    asked(&heap, &mut second, Want::Minor);
+    asked(&heap, &mut second, Want::Full);
+    same(&rt, wanted(&heap, &mut first), 9);
+    same(&rt, arrived(&heap, &mut first), Some(Look::NotAll(1)));
+    same(&rt, arrived(&heap, &mut second), Some(Look::Lead));
+    same(&rt, (first.arrivals(), second.arrivals()), (1, 1));
     Ok(())
 }
 
@@ -32,7 +50,7 @@ fn a_wish_is_found_and_the_last_arrival_ends_the_phase(rt: HostRuntime) -> Resul
 fn the_kinds_go_round(rt: HostRuntime) -> Result<(), Fail> {
     let kinds = [Kind::Run, Kind::Promote, Kind::Reset, Kind::Run];
     for (kind, next) in kinds.iter().zip(&kinds[1..]) {
-        assert_eq!(rt; follower(*kind), *next);
+        same(&rt, follower(*kind), *next);
     }
     Ok(())
 }

@@ -1,4 +1,5 @@
 //! The heap's table of six sizes, and a table of nine.
+use crate::fixtures::same;
 use size_classes::{Classes, heap_classes, reserve};
 use std::process::Abort;
 
@@ -25,9 +26,9 @@ const NINE: Classes<9> = Classes {
 
 fn check<const C: usize>(rt: &impl Abort, classes: &Classes<C>) {
     for (words, class, size) in &ROWS {
-        assert_eq!(rt; classes.class_of(*words), Some(*class));
+        same(&rt, classes.class_of(*words), Some(*class));
         if *class < C {
-            assert_eq!(rt; classes.words_of(*class), *size);
+            same(&rt, classes.words_of(*class), *size);
         }
     }
 }
@@ -36,17 +37,17 @@ fn check<const C: usize>(rt: &impl Abort, classes: &Classes<C>) {
 fn each_size_has_its_class(rt: HostRuntime) {
     let six = heap_classes();
     check(&rt, &six);
-    assert_eq!(rt; six.class_of(129), None);
+    same(&rt, six.class_of(129), None);
     check(&rt, &NINE);
-    assert_eq!(rt; NINE.class_of(129), Some(6));
-    assert_eq!(rt; NINE.class_of(1024), Some(8));
-    assert_eq!(rt; NINE.class_of(1025), None);
-    assert_eq!(rt; NINE.words_of(7), 512);
+    same(&rt, NINE.class_of(129), Some(6));
+    same(&rt, NINE.class_of(1024), Some(8));
+    same(&rt, NINE.class_of(1025), None);
+    same(&rt, NINE.words_of(7), 512);
 }
 
 #[test]
 fn reserve_covers_minor_areas(rt: HostRuntime) {
-    assert_eq!(rt; reserve(1, 4096), 7);
-    assert_eq!(rt; reserve(2, 32768), 28);
-    assert_eq!(rt; reserve(8, 65536), 176);
+    same(&rt, reserve(1, 4096), 7);
+    same(&rt, reserve(2, 32768), 28);
+    same(&rt, reserve(8, 65536), 176);
 }

@@ -1,7 +1,9 @@
 //! Pools that fill, of one domain and of eight at once.
 ghost use Rattle.std.specs.Prelude.{All, ◌≡◌, ◌+◌, ◌^◌, ◌<◌, ◌≤◌};
 ghost use Rattle.heap_rule.specs.Running.{Runs};
+ghost use Rattle.public_calls.specs.Fresh.{IsFresh};
 
+use crate::fixtures::{one_domain, same, started};
 use heap_model::label::Label;
 use heap_rule::{Config, Domain, Heap};
 use heap_words::Value;
@@ -9,14 +11,6 @@ use size_pools::{NoPool, alloc_major};
 use std::alloc::{AllocError, Global};
 use std::test::Fail;
 use std::thread::for_each_mut;
-
-const SMALL: Config = Config {
-    domains: 1,
-    minor_words: 4096,
-    pools: 14,
-    finals: 0,
-    ephes: 0,
-};
 
 // The reserve is 56 pools, so the domains can draw 143 of the 199 that are listed.
 const EIGHT: Config = Config {
@@ -46,27 +40,33 @@ fn allocate(heap: &Heap, dom: &mut Domain, fields: u16, blocks: u32) -> Result<(
 // 192 blocks of 128 words fit the 6 pools that the reserve leaves, and the 193rd doesn't.
 #[test]
 fn the_pools_fill(rt: HostRuntime) -> Result<(), Fail> {
-    let (heap, mut domains) = Heap::start(rt.alloc(), SMALL)?;
-    let mut dom = domains.pop().ok_or("no domain")?;
-    assert_eq!(rt; allocate(&heap, &mut dom, 126, 192), Ok(()));
+    let (heap, mut dom) = one_domain(rt.alloc())?;
+    same(&rt, allocate(&heap, &mut dom, 126, 192), Ok(()));
     let labels = dom.labels_made();
-    assert_eq!(rt; allocate(&heap, &mut dom, 126, 1), Err(NoPool { free: 7 }));
-    assert_eq!(rt; dom.labels_made(), labels);
-    assert_eq!(rt; allocate(&heap, &mut dom, 126, 1), Err(NoPool { free: 7 }));
+    same(
+        &rt,
+        allocate(&heap, &mut dom, 126, 1),
+        Err(NoPool { free: 7 }),
+    );
+    same(&rt, dom.labels_made(), labels);
+    same(
+        &rt,
+        allocate(&heap, &mut dom, 126, 1),
+        Err(NoPool { free: 7 }),
+    );
     Ok(())
 }
 
 // The 1024 places of a pool of the least class lie side by side, and the next block is in another pool.
 #[test]
 fn a_pool_of_small_blocks_fills(rt: HostRuntime) -> Result<(), Fail> {
-    let (heap, mut domains) = Heap::start(rt.alloc(), SMALL)?;
-    let mut dom = domains.pop().ok_or("no domain")?;
-    assert_eq!(rt; allocate(&heap, &mut dom, 2, 1), Ok(()));
-    assert_eq!(rt; dom.register(1), Value::Ref(4097));
-    assert_eq!(rt; allocate(&heap, &mut dom, 2, 1023), Ok(()));
-    assert_eq!(rt; dom.register(1), Value::Ref(8189));
-    assert_eq!(rt; allocate(&heap, &mut dom, 1, 1), Ok(()));
-    assert_eq!(rt; dom.register(1), Value::Ref(8193));
+    let (heap, mut dom) = one_domain(rt.alloc())?;
+    same(&rt, allocate(&heap, &mut dom, 2, 1), Ok(()));
+    same(&rt, dom.register(1), Value::Ref(4097));
+    same(&rt, allocate(&heap, &mut dom, 2, 1023), Ok(()));
+    same(&rt, dom.register(1), Value::Ref(8189));
+    same(&rt, allocate(&heap, &mut dom, 1, 1), Ok(()));
+    same(&rt, dom.register(1), Value::Ref(8193));
     Ok(())
 }
 
@@ -139,7 +139,7 @@ fn drawers_of<'h>(
     heap: &'h Heap,
     domains: Vec<Domain>,
 ) -> Result<Vec<Drawer<'h>>, AllocError>
-    requires { All (λ d. Runs heap.now d) domains.items }
+    requires { All (IsFresh heap.now) domains.items }
 {
     let mut domains = domains;
     let mut drawers = Vec::new(alloc);
@@ -163,7 +163,7 @@ fn drawers_of<'h>(
 #[test]
 fn eight_domains_draw_pools_at_once(rt: HostRuntime) -> Result<(), Fail> {
     let alloc = rt.alloc();
-    let (heap, domains) = Heap::start(alloc, EIGHT)?;
+    let (heap, domains) = started(alloc, EIGHT)?;
     let mut drawers = drawers_of(alloc, &heap, domains)?;
     for_each_mut(
         &rt,
@@ -174,15 +174,20 @@ fn eight_domains_draw_pools_at_once(rt: HostRuntime) -> Result<(), Fail> {
     let mut owners = vec![in alloc; None; 200]?;
     let mut places = vec![in alloc; false; 6400]?;
     for drawer in drawers.iter() {
-        assert_eq!(rt; drawer.free, Some(56));
-        assert!(rt; drawer.labelled);
+        same(&rt, drawer.free, Some(56));
         let number = drawer.dom.number();
-        assert!(rt; mark(&drawer.blocks, number, &mut owners, &mut places));
+        let apart = mark(&drawer.blocks, number, &mut owners, &mut places);
+        same(&rt, (drawer.labelled, apart), (true, true));
     }
-    assert_eq!(rt;
+    same(
+        &rt,
         owners.iter().filter(|owner| owner.is_some()).count(),
-        DRAWN
+        DRAWN,
     );
-    assert_eq!(rt; places.iter().filter(|taken| **taken).count(), DRAWN * 32);
+    same(
+        &rt,
+        places.iter().filter(|taken| **taken).count(),
+        DRAWN * 32,
+    );
     Ok(())
 }

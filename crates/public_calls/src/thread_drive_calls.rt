@@ -1,31 +1,13 @@
 //! Runs driven in threads.
-use domain_turns::DomainRun;
+use crate::fixtures::{ONE_DOMAIN, Play, TWO_DOMAINS, same};
 use heap_model::command::Command;
 use heap_model::reply::Reply;
-use heap_rule::{Config, Heap};
 use outer_io::{Gate, NoGate};
 use std::sync::atomic::{AtomicU32, Ordering};
 use std::test::Fail;
-use thread_drive::drive;
 
 // How often a domain looks for the other one.
 const LOOKS: u32 = 1_000_000_000;
-
-const ONE: Config = Config {
-    domains: 1,
-    minor_words: 4096,
-    pools: 14,
-    finals: 0,
-    ephes: 0,
-};
-
-const TWO: Config = Config {
-    domains: 2,
-    minor_words: 4096,
-    pools: 27,
-    finals: 0,
-    ephes: 0,
-};
 
 // Whether each of two domains has come to its first command, and how many have seen the other there.
 #[derive(Drop)]
@@ -62,46 +44,38 @@ impl Gate for Meeting {
 
 #[test]
 fn two_calls_meet(rt: HostRuntime) -> Result<(), Fail> {
-    let (heap, mut domains) = Heap::start(rt.alloc(), TWO)?;
-    let second = domains.pop().ok_or("no domain")?;
-    let first = domains.pop().ok_or("no domain")?;
-    let first = DomainRun::make(rt.alloc(), first, vec![in rt.alloc(); Command::Poll]?)?;
-    let second = DomainRun::make(rt.alloc(), second, vec![in rt.alloc(); Command::Poll]?)?;
+    let one = [Command::Poll];
+    let play = Play::start(rt.alloc(), TWO_DOMAINS, &[one.as_slice(), &one])?;
     let gate = Meeting {
         first: AtomicU32::new(0),
         second: AtomicU32::new(0),
         met: AtomicU32::new(0),
     };
-    let runs = vec![in rt.alloc(); first, second]?;
-    let runs = drive(&rt, &heap, runs, &gate);
-    assert_eq!(rt; runs.len(), 2);
-    assert_eq!(rt; gate.met.load(Ordering::SeqCst), 2);
+    let runs = play.driven(&rt, &gate);
+    same(&rt, runs.len(), 2);
+    same(&rt, gate.met.load(Ordering::SeqCst), 2);
     Ok(())
 }
 
 #[test]
 fn runs_come_back_in_order_with_their_replies(rt: HostRuntime) -> Result<(), Fail> {
-    let (heap, mut domains) = Heap::start(rt.alloc(), TWO)?;
-    let second = domains.pop().ok_or("no domain")?;
-    let first = domains.pop().ok_or("no domain")?;
-    let put = vec![in rt.alloc(); Command::PutInt { dst: 1, value: 7 }, Command::Poll]?;
-    let load = vec![in rt.alloc();
-        Command::Load {
-            dst: 1,
-            src: 0,
-            index: 16
-        },
-    ]?;
-    let first = DomainRun::make(rt.alloc(), first, put)?;
-    let second = DomainRun::make(rt.alloc(), second, load)?;
-    let runs = vec![in rt.alloc(); first, second]?;
-    let runs = drive(&rt, &heap, runs, &NoGate);
+    let put = [Command::PutInt { dst: 1, value: 7 }, Command::Poll];
+    let load = [Command::Load {
+        dst: 1,
+        src: 0,
+        index: 16,
+    }];
+    let play = Play::start(rt.alloc(), TWO_DOMAINS, &[put.as_slice(), &load])?;
+    let runs = play.driven(&rt, &NoGate);
     let all = [[Reply::Done, Reply::Done].as_slice(), &[Reply::BadIndex]];
-    assert_eq!(rt; runs.len(), 2);
-    for (d, run) in runs.iter().enumerate() {
-        assert_eq!(rt; run.domain().number() as usize, d);
-        assert!(rt; run.has_ended());
-        assert_eq!(rt; run.replies(), all[d]);
+    same(&rt, runs.len(), 2);
+    for ((number, run), replies) in (0..2u32).zip(runs.iter()).zip(&all) {
+        same(
+            &rt,
+            (run.domain().number(), run.has_ended()),
+            (number, true),
+        );
+        same(&rt, run.replies(), *replies);
     }
     Ok(())
 }
@@ -133,38 +107,31 @@ impl Gate for Heard {
 // A command may take several turns, and the gate is told of it once.
 #[test]
 fn a_gate_hears_of_each_command(rt: HostRuntime) -> Result<(), Fail> {
-    let (heap, mut domains) = Heap::start(rt.alloc(), ONE)?;
-    let domain = domains.pop().ok_or("no domain")?;
-    let commands = vec![in rt.alloc(); Command::Poll, Command::Minor, Command::Poll]?;
-    let run = DomainRun::make(rt.alloc(), domain, commands)?;
+    let commands = [Command::Poll, Command::Minor, Command::Poll];
+    let play = Play::start(rt.alloc(), ONE_DOMAIN, &[commands.as_slice()])?;
     let gate = Heard {
         calls: AtomicU32::new(0),
     };
-    let runs = drive(&rt, &heap, vec![in rt.alloc(); run]?, &gate);
-    assert_eq!(rt; runs.len(), 1);
-    assert_eq!(rt; gate.calls.load(Ordering::SeqCst), 123_456);
+    let runs = play.driven(&rt, &gate);
+    same(&rt, runs.len(), 1);
+    same(&rt, gate.calls.load(Ordering::SeqCst), 123_456);
     Ok(())
 }
 
 #[test]
 fn collections_stop_all_domains(rt: HostRuntime) -> Result<(), Fail> {
-    let (heap, mut domains) = Heap::start(rt.alloc(), TWO)?;
-    let second = domains.pop().ok_or("no domain")?;
-    let first = domains.pop().ok_or("no domain")?;
-    let three = vec![in rt.alloc(); Command::Minor, Command::Minor, Command::Minor]?;
-    let put = vec![in rt.alloc(); Command::PutInt { dst: 1, value: 1 }]?;
-    let first = DomainRun::make(rt.alloc(), first, three)?;
-    let second = DomainRun::make(rt.alloc(), second, put)?;
-    let runs = drive(&rt, &heap, vec![in rt.alloc(); first, second]?, &NoGate);
+    let three = [Command::Minor, Command::Minor, Command::Minor];
+    let put = [Command::PutInt { dst: 1, value: 7 }];
+    let play = Play::start(rt.alloc(), TWO_DOMAINS, &[three.as_slice(), &put])?;
+    let runs = play.driven(&rt, &NoGate);
     let all = [
         [Reply::Done, Reply::Done, Reply::Done].as_slice(),
         &[Reply::Done],
     ];
-    assert_eq!(rt; runs.len(), 2);
-    for (d, run) in runs.iter().enumerate() {
-        assert!(rt; run.has_ended());
-        assert_eq!(rt; run.replies(), all[d]);
-        assert_eq!(rt; run.domain().arrivals(), 18);
+    same(&rt, runs.len(), 2);
+    for (run, replies) in runs.iter().zip(&all) {
+        same(&rt, (run.has_ended(), run.domain().arrivals()), (true, 18));
+        same(&rt, run.replies(), *replies);
     }
     Ok(())
 }

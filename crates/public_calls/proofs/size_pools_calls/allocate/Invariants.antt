@@ -1,4 +1,4 @@
-use Rattle.std.proofs.Common.{◌≡◌, ◌+◌, ◌≤◌}
+use Rattle.std.proofs.Common.{◌+◌, ◌≤◌}
 use Rattle.heap_rule.specs.Running.{Runs}
 use Rattle.public_calls.proofs.size_pools_calls.allocate.Given as goal
 

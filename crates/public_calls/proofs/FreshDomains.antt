@@ -1,0 +1,93 @@
+-- What holds of each domain of a heap that has just started.
+use Rattle.std.proofs.Common.{◌≡◌, ℕ, zero, suc, ◌+◌, ◌<◌, ◌≤◌, false, List, [], length, replicate, refl, sym, ap, ◌∙◌, subst, arith}
+use Rattle.std.specs.Prelude.{slice_index_or}
+use Rattle.std.specs.List.{All, AllByRecursion}
+use Rattle.std.proofs.lemmas.List.Elements.{All-from_recursion}
+use Rattle.heap_model.specs.declared.command.Command.{Command}
+use Rattle.heap_model.specs.Domains.{opening_domain, no_domain}
+use Rattle.heap_rule.specs.declared.config.Config.{Config}
+use Rattle.heap_rule.specs.Opening.{opening_token, opening_tokens}
+use Rattle.heap_rule.specs.Running.{Runs, RemembersAll}
+use Rattle.heap_rule.specs.Standing.{Acts}
+use Rattle.heap_rule.specs.Token.{Token, SharedHeap, IsIn}
+use Rattle.heap_rule.specs.declared.phase.Note.{Note}
+use Rattle.heap_rule.specs.declared.view.DomainView.{DomainView}
+use Rattle.domain_turns.specs.Runs.{CanBegin, AllFit}
+use Rattle.public_calls.specs.Fresh.{IsFresh}
+
+not_ended : (n d : ℕ) → d < n → (slice_index_or (replicate n opening_domain) d no_domain).ended ≡ false
+not_ended zero d h = absurd (omega arith)
+not_ended (suc n) zero h = refl
+not_ended (suc n) (suc d) h = not_ended n d (omega arith)
+
+none_fits : AllFit []
+none_fits i c at = cc
+
+is_fresh : (h : SharedHeap) (d : ℕ) → d < h.config.domains → IsFresh h (opening_token h.table h.config d)
+is_fresh h d inside = record {
+  runs = record {
+    here = (refl, refl);
+    acts = record { goes_on = not_ended h.config.domains d inside; runs = refl };
+    idle = refl;
+    at_rest = refl;
+    remembers = refl;
+  };
+  begins = record {
+    acts = record { goes_on = not_ended h.config.domains d inside; runs = refl };
+    idle = refl;
+    at_rest = refl;
+    no_commands = refl;
+    no_replies = refl;
+    few = omega arith;
+    fit = none_fits;
+    labels = omega arith;
+    even = refl;
+    remembers = refl;
+    quiet = refl;
+    no_copies = refl;
+    unprepared = refl;
+  };
+  unlabelled = refl;
+  nowhere = refl;
+}
+
+those_from : (h : SharedHeap) (from n : ℕ) → from + n ≤ h.config.domains → AllByRecursion (IsFresh h) (opening_tokens h.table h.config from n)
+those_from h from zero few = tt
+those_from h from (suc n) few = (is_fresh h from (omega arith), those_from h (from + 1) n (omega arith))
+
+-- all domains of a heap that has just started are fresh
+pub all_fresh : (h : SharedHeap) (k : Config) (domains : List Token) → h.config ≡ k → domains ≡ opening_tokens h.table k 0 k.domains → All (IsFresh h) domains
+all_fresh h k domains config are =
+    let same : domains ≡ opening_tokens h.table h.config 0 h.config.domains = subst (λ (c : Config). domains ≡ opening_tokens h.table c 0 c.domains) (sym config) are in
+    subst (All (IsFresh h)) (sym same) (All-from_recursion (IsFresh h) (opening_tokens h.table h.config 0 h.config.domains) (those_from h 0 h.config.domains (omega arith)))
+
+-- a domain that may begin no commands may begin others that fit
+pub begins : (t : Token) (cs : List Command) → CanBegin t [] → length cs ≤ 200000 → AllFit cs → CanBegin t cs
+begins t cs b few fit = record {
+  acts = b.acts;
+  idle = b.idle;
+  at_rest = b.at_rest;
+  no_commands = b.no_commands;
+  no_replies = b.no_replies;
+  few = few;
+  fit = fit;
+  labels = b.labels;
+  even = b.even;
+  remembers = b.remembers;
+  quiet = b.quiet;
+  no_copies = b.no_copies;
+  unprepared = b.unprepared;
+}
+
+-- a domain that has noted something runs on
+pub noted_runs : (h : SharedHeap) (t u : Token) (notes : List Note) → Runs h t → IsIn u h → u.view ≡ record t.view { seen = record t.view.seen { notes = notes } } → Runs h u
+noted_runs h t u notes r here is =
+    let same : t.config ≡ u.config = r.here.1 ∙ sym here.1 in
+    let acts : Acts t.config u.view = subst (Acts t.config) (sym is) (record { goes_on = r.acts.goes_on; runs = r.acts.runs }) in
+    record {
+      here = here;
+      acts = subst (λ (k : Config). Acts k u.view) same acts;
+      idle = ap (λ (x : DomainView). x.seen.made) is ∙ r.idle;
+      at_rest = ap (λ (x : DomainView). x.seen.hunt) is ∙ r.at_rest;
+      remembers = subst RemembersAll (sym is) r.remembers;
+    }

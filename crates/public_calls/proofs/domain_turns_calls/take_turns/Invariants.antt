@@ -1,5 +1,0 @@
-use Rattle.heap_rule.specs.Token.{IsIn}
-use Rattle.public_calls.proofs.domain_turns_calls.take_turns.Given as goal
-
-abbrev pub invariant-loop-taken : goal.invariant-loop-taken
-invariant-loop-taken l = IsIn l.first.token l.heap × IsIn l.second.token l.heap

@@ -1,0 +1,275 @@
+//! Heaps that have just started, with what the tests need to know of their domains.
+ghost use Rattle.std.specs.Prelude.{◌≡◌, ◌≤◌, ◌<◌, All, IfOk, [], true, length};
+ghost use Rattle.std.specs.List.{AllByRecursion};
+ghost use Rattle.domain_turns.specs.Runs.{CanBegin};
+ghost use Rattle.domain_turns.specs.Tries.{FitsHeap};
+ghost use Rattle.heap_rule.specs.Running.{Runs};
+ghost use Rattle.heap_rule.specs.Token.{IsIn};
+ghost use Rattle.public_calls.specs.Fresh.{IsFresh};
+
+use domain_turns::{DomainRun, Turned, turn};
+use field_access::store;
+use heap_model::command::Command;
+use heap_model::reply::Reply;
+use heap_rule::{Config, Domain, Heap, StartFault};
+use heap_words::Value;
+use outer_io::Gate;
+use std::alloc::Global;
+use std::fmt::Debug;
+use std::process::Abort;
+use std::sync::Wait;
+use std::test::Fail;
+use std::thread::Threads;
+use thread_drive::drive;
+
+/// Stops the test where the two aren't the same. A test that calls it is proved much faster than one with as many
+/// `assert_eq!`.
+pub(crate) fn same<T: Copy + Debug + PartialEq>(rt: &impl Abort, got: T, wanted: T) {
+    assert_eq!(rt; got, wanted);
+}
+
+pub(crate) const ONE_DOMAIN: Config = Config {
+    domains: 1,
+    minor_words: 4096,
+    pools: 14,
+    finals: 0,
+    ephes: 0,
+};
+
+pub(crate) const TWO_DOMAINS: Config = Config {
+    domains: 2,
+    minor_words: 4096,
+    pools: 27,
+    finals: 0,
+    ephes: 0,
+};
+
+/// A heap, and its domains in order.
+pub(crate) fn started(alloc: Global, config: Config) -> Result<(Heap, Vec<Domain>), StartFault>
+    ensures { IfOk result (λ r. All (IsFresh r.0) r.1.items) }
+{
+    let (heap, domains) = Heap::start(alloc, config)?;
+    Ok((heap, domains))
+}
+
+/// A heap of one domain, and this domain.
+pub(crate) fn one_domain(alloc: Global) -> Result<(Heap, Domain), Fail>
+    ensures { IfOk result (λ r. IsFresh r.0 r.1) }
+{
+    let (heap, mut domains) = started(alloc, ONE_DOMAIN)?;
+    let Some(domain) = domains.pop() else {
+        return Err(Fail::from("no domain"));
+    };
+    Ok((heap, domain))
+}
+
+/// A heap of two domains, and these domains.
+pub(crate) fn two_domains(alloc: Global) -> Result<(Heap, Domain, Domain), Fail>
+    ensures first { IfOk result (λ r. IsFresh r.0 r.1) }
+    ensures second { IfOk result (λ r. IsFresh r.0 r.2) }
+{
+    let (heap, mut domains) = started(alloc, TWO_DOMAINS)?;
+    let Some(second) = domains.pop() else {
+        return Err(Fail::from("no domain"));
+    };
+    let Some(first) = domains.pop() else {
+        return Err(Fail::from("no domain"));
+    };
+    Ok((heap, first, second))
+}
+
+/// A store by a domain that can remember one more field.
+pub(crate) fn stored(
+    heap: &Heap,
+    dom: &mut Domain,
+    block: u8,
+    index: u16,
+    item: u8,
+) -> Option<Reply>
+    requires runs { Runs heap.now dom.old }
+    requires block { block < 16 }
+    requires item { item < 16 }
+    ensures runs { Runs heap.now dom.new }
+{
+    if dom.remembered_room() < 1 {
+        return None;
+    }
+    Some(store(heap, dom, block, index, item))
+}
+
+// Whether it is a command that the tests use, with its numbers in their ranges.
+fn fits(command: &Command) -> bool
+    ensures { result ≡ true → FitsHeap command.now }
+{
+    match *command {
+        Command::Alloc { dst, tag, fields } => dst < 16
+            && tag <= 245
+            && 1 <= fields
+            && fields <= 126,
+        Command::PutInt { dst, value } => dst < 16 && value == 7,
+        Command::Load { dst, src, .. } => dst < 16 && src < 16,
+        Command::Store { block, item, .. } => block < 16 && item < 16,
+        Command::Poll | Command::Minor => true,
+        _ => false,
+    }
+}
+
+// Whether a run may have these commands.
+fn all_fit(commands: &[Command]) -> bool
+    ensures few { result ≡ true → length commands.now ≤ 200000 }
+    ensures fit { result ≡ true → All FitsHeap commands.now }
+{
+    for command in commands {
+        if !fits(command) {
+            return false;
+        }
+    }
+    commands.len() <= 200_000
+}
+
+// A run of a domain that has just started.
+fn begun(alloc: Global, domain: Domain, commands: &[Command]) -> Result<DomainRun, Fail>
+    requires { CanBegin domain [] }
+    ensures { IfOk result (λ r. r.token ≡ domain) }
+{
+    if !all_fit(commands) {
+        return Err(Fail::from("a command that doesn't fit"));
+    }
+    let commands = Vec::from_slice(alloc, commands)?;
+    Ok(DomainRun::make(alloc, domain, commands)?)
+}
+
+// A run for each of these domains, with the list of commands at its place.
+fn runs_of(
+    alloc: Global,
+    heap: &Heap,
+    domains: Vec<Domain>,
+    lists: &[&[Command]],
+) -> Result<Vec<DomainRun>, Fail>
+    requires { AllByRecursion (IsFresh heap.now) domains.items }
+    ensures { IfOk result (λ runs. All (λ r. IsIn r.token heap.now) runs.items) }
+{
+    let mut runs = Vec::new(alloc);
+    'domains: for domain in domains {
+        let commands = lists.get(runs.len()).ok_or("no commands")?;
+        runs.push(begun(alloc, domain, commands)?)?;
+    }
+    Ok(runs)
+}
+
+/// What a domain's token shows: its arrivals, the words used of its minor area, how many fields it remembers, and
+/// three of its registers.
+#[derive(Clone, Copy, Debug, PartialEq)]
+pub(crate) struct Shown {
+    pub arrivals: u64,
+    pub used: u32,
+    pub remembered: usize,
+    pub registers: [Value; 3],
+}
+
+/// What this token shows.
+pub(crate) fn shown_of(domain: &Domain) -> Shown {
+    Shown {
+        arrivals: domain.arrivals(),
+        used: domain.area_used(),
+        remembered: domain.remembered_len(),
+        registers: [domain.register(0), domain.register(1), domain.register(2)],
+    }
+}
+
+// So often a domain arrives in no test.
+const MOST: u64 = 1_000_000;
+
+/// A heap with a run for each of its domains.
+#[derive(Drop)]
+pub(crate) struct Play {
+    pub heap: Heap,
+    pub runs: Vec<DomainRun>,
+    ghost here: { All (λ r. IsIn r.token heap) runs.items },
+}
+
+impl Play {
+    /// Starts a heap whose domains have these commands, a list for each.
+    pub(crate) fn start(alloc: Global, config: Config, lists: &[&[Command]]) -> Result<Play, Fail> {
+        let (heap, domains) = started(alloc, config)?;
+        let runs = runs_of(alloc, &heap, domains, lists)?;
+        Ok(Play { heap, runs })
+    }
+
+    /// What the token of a domain shows.
+    pub(crate) fn shown(&self, domain: usize) -> Option<Shown> {
+        let run = self.runs.get(domain)?;
+        Some(shown_of(run.domain()))
+    }
+
+    /// Whether the trace of a domain has ended.
+    pub(crate) fn has_ended(&self, domain: usize) -> bool {
+        match self.runs.get(domain) {
+            Some(run) => run.has_ended(),
+            None => false,
+        }
+    }
+
+    /// A turn of a domain that may still arrive.
+    pub(crate) fn turn(&mut self, domain: usize) -> Option<Turned> {
+        if domain >= self.runs.len() || self.runs[domain].domain().arrivals() >= MOST {
+            return None;
+        }
+        Some(turn(&self.heap, &mut self.runs[domain]))
+    }
+
+    /// So many turns of a domain: whether each did something.
+    pub(crate) fn all_did(&mut self, domain: usize, turns: u32) -> bool {
+        let mut right = true;
+        for _ in 0..turns {
+            right = self.turn(domain) == Some(Turned::Did) && right;
+        }
+        right
+    }
+
+    /// So many turns of each domain, one after the other.
+    pub(crate) fn take_turns(&mut self, turns: u32) {
+        for _ in 0..turns {
+            for domain in 0..self.runs.len() {
+                self.turn(domain);
+            }
+        }
+    }
+
+    /// Turns of each domain, one after the other, until domain 0 has made so many commands.
+    pub(crate) fn take_turns_until(&mut self, commands: usize) {
+        for _ in 0..100u32 {
+            if self.commands_made() >= commands {
+                return;
+            }
+            self.take_turns(1);
+        }
+    }
+
+    // How many commands domain 0 has made.
+    fn commands_made(&self) -> usize {
+        match self.runs.first() {
+            Some(run) => run.next(),
+            None => 0,
+        }
+    }
+
+    /// The run of domain 0.
+    pub(crate) fn into_first(self) -> Result<DomainRun, Fail> {
+        let Play { heap: _, mut runs } = self;
+        if runs.is_empty() {
+            return Err(Fail::from("no run"));
+        }
+        Ok(runs.swap_remove(0))
+    }
+
+    /// The runs, driven to their ends in threads.
+    pub(crate) fn driven<R: Threads + Wait + Sync, G: Gate + Sync>(
+        self,
+        rt: &R,
+        gate: &G,
+    ) -> Vec<DomainRun> {
+        let Play { heap, runs } = self;
+        drive(rt, &heap, runs, gate)
+    }
+}
