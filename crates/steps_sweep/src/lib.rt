@@ -3,7 +3,9 @@
 #![tactic(auto)]
 
 mod freeing;
+mod tallying;
 mod turning;
 
 pub use freeing::{free_store, sweep_load};
+pub use tallying::{blocks_add, tally_load, tally_own_load, words_add};
 pub use turning::{blocks_clear, colours_store, words_clear};
