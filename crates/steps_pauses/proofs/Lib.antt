@@ -1,4 +1,3 @@
-mod Layouts
 pub mod Plain
 mod Arriving
 mod Finishing
