@@ -1,4 +1,3 @@
-pub mod Plain
 mod Arriving
 mod Finishing
 mod Naming
