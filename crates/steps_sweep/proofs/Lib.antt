@@ -9,3 +9,4 @@ pub mod ClearSteps
 pub mod TallySteps
 pub mod Tallies
 pub mod AddSteps
+pub mod HoldSteps

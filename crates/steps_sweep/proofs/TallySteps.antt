@@ -36,7 +36,7 @@ use Rattle.steps_sweep.specs.Tallying.{TallyMay, TallyOwnMay, TallyOwnTold, Tall
 use Rattle.steps_sweep.proofs.Swept.{empty_free, sweep_facts, sweeping}
 use Rattle.std.proofs.lemmas.List.Sums.{sum_by-cons}
 
-tenure_same : (g h : Tenure) → Some g ≡ Some h → g ≡ h
+pub tenure_same : (g h : Tenure) → Some g ≡ Some h → g ≡ h
 tenure_same g h e = cc
 
 nobody_clash : (d c : ℕ) → ◌≡◌ {A = Holder} nobody (owned d c) → ⊥
@@ -85,6 +85,18 @@ one_place q class i j p e few few' inside inside' same_class same =
           (λ low. let l : i ≤ j = low in let g : u + m ≤ w = slot_below class i j (omega arith) in omega arith)
           (λ high. let g : w + m ≤ u = slot_below class j i (lt_of_not-le high) in omega arith))),
     )
+
+-- a pool is a domain's own, for blocks of a class, or its owner word is another
+pub whose : (k : Config) (s : Words) (r : Rule k s) (d pool : ℕ) → pool < k.pools → (h : Holder) → r.account.tenancy.holder pool ≡ h → ((class : ℕ) × (r.account.tenancy.holder pool ≡ owned d class) × (class < class_count) × (owner_of k s.words pool ≡ owner_word (owned d class)))
+    ⊎ (((class : ℕ) → r.account.tenancy.holder pool ≢ owned d class) × ((class : ℕ) → class < class_count → owner_of k s.words pool ≢ owner_word (owned d class)))
+whose k s r d pool inside nobody e = inr (λ class f. nobody_clash d class (sym e ∙ f), λ class few f. let z : owner_of k s.words pool ≡ 0 = r.whole.pools.owners pool inside ∙ ap owner_word e in let w : ℕ = owner_of k s.words pool in let g : w ≡ 16 * d + class + 1 = f in let h : w ≡ 0 = z in omega arith)
+whose k s r d pool inside (drawn n) e = inr (λ class f. drawn_clash n d class (sym e ∙ f), λ class few f. let z : owner_of k s.words pool ≡ 0 = r.whole.pools.owners pool inside ∙ ap owner_word e in let w : ℕ = owner_of k s.words pool in let g : w ≡ 16 * d + class + 1 = f in let h : w ≡ 0 = z in omega arith)
+whose k s r d pool inside (owned n class) e =
+    let is : owner_of k s.words pool ≡ owner_word (owned n class) = r.whole.pools.owners pool inside ∙ ap owner_word e in
+    let small : class < class_count = (r.whole.pools.owned_by pool n class e).2 in
+    dite (ℕ_discrete n d)
+    (λ same. inl (class, e ∙ ap (λ (i : ℕ). owned i class) same, small, is ∙ ap (λ (i : ℕ). owner_word (owned i class)) same))
+    (λ other. inr (λ b f. other (owned_same n d class b (sym e ∙ f)).0, λ b few f. let w : ℕ = owner_of k s.words pool in let g : w ≡ 16 * d + b + 1 = f in let h : w ≡ 16 * n + class + 1 = is in other (omega arith)))
 
 module _ (k : Config) (s : Words) (r : Rule k s) (id : ℕ) (hist : List Entry) (x : DomainView) (at : get_elem? s.views id ≡ some (one k hist x)) (stage : x.seen.stage ≡ In Sweep) (counts : x.seen.share.added_blocks ≡ false) where
   abbrev now : model.State
@@ -160,13 +172,8 @@ module _ (k : Config) (s : Words) (r : Rule k s) (id : ℕ) (hist : List Entry) 
       record { told = inl (class, (r.whole.pools.owned_by pool d class is).2, is_owner ∙ ap owner_word is, refl) },
     )
 
-    pub tally_owner : (h : Holder) → holder pool ≡ h → (y : DomainView) × After y × TallyOwnTold pool x owner y
-    tally_owner nobody e = passes (λ class f. nobody_clash d class (sym e ∙ f)) (λ class few f. let z : owner ≡ 0 = is_owner ∙ ap owner_word e in let w : ℕ = owner in let g : w ≡ 16 * d + class + 1 = f in let h : w ≡ 0 = z in omega arith)
-    tally_owner (drawn n) e = passes (λ class f. drawn_clash n d class (sym e ∙ f)) (λ class few f. let z : owner ≡ 0 = is_owner ∙ ap owner_word e in let w : ℕ = owner in let g : w ≡ 16 * d + class + 1 = f in let h : w ≡ 0 = z in omega arith)
-    tally_owner (owned n class) e = dite (ℕ_discrete n d)
-        (λ same. owns class (e ∙ ap (λ (i : ℕ). owned i class) same))
-        (λ other. passes (λ b f. other (owned_same n d class b (sym e ∙ f)).0)
-        (λ b few f. let z : owner ≡ 16 * n + class + 1 = is_owner ∙ ap owner_word e in let small : class < class_count = (r.whole.pools.owned_by pool n class e).2 in let w : ℕ = owner in let g : w ≡ 16 * d + b + 1 = f in let h : w ≡ 16 * n + class + 1 = z in other (omega arith)))
+    pub tally_owner : (y : DomainView) × After y × TallyOwnTold pool x owner y
+    tally_owner = ⊎_elim (λ u. owns u.0 u.1) (λ u. passes u.0 u.1) (whose k s r d pool may.inside (holder pool) refl)
 
   -- the head at the next place
   module _ (a pool class slot : ℕ) (may : TallyMay x a pool class slot) where
@@ -269,7 +276,7 @@ module _ (k : Config) (s : Words) (r : Rule k s) (id : ℕ) (hist : List Entry) 
 
 pub tally_own_may : (k : Config) (x : DomainView) (word pool : ℕ) → TallyOwnMay k x word pool → MayStep k x word (λ n. n) (TallyOwnTold pool)
 tally_own_may k x word pool may fits slots id hist s r _ at _ =
-    let o = tally_owner k s r id hist x at may.stage may.counts word pool may (r.account.tenancy.holder pool) refl in
+    let o = tally_owner k s r id hist x at may.stage may.counts word pool may in
     (one k hist o.0, keeps, tt, unmoved k s word (set s.views id (one k hist o.0)) o.1, (subst (λ (n : ℕ). TallyOwnTold pool x (get_or s.words n 0) o.0) (sym may.word) o.2, refl))
 
 pub tally_own_closes : (k : Config) (x : DomainView) (found pool : ℕ) → Closes k x found (TallyOwnTold pool) CanLeave Leaves
