@@ -31,3 +31,4 @@ pub mod Plain
 pub mod Acting
 pub mod Calls
 pub mod PlainHistories
+pub mod OwnPlaces

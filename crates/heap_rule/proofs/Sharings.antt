@@ -92,7 +92,7 @@ swept_words k s live holder c words words' same f = let n = f.counted in record 
   all_marked = f.all_marked;
   unmarked = f.unmarked;
   unchanged = f.unchanged;
-  counted = record { first = n.first; once = n.once; owned = n.owned; all = n.all; blocks_are = same.blocks_same ∙ n.blocks_are; words_are = same.words_same ∙ n.words_are };
+  counted = record { first = n.first; once = n.once; owned = n.owned; all = n.all; few = n.few; light = n.light; blocks_are = same.blocks_same ∙ n.blocks_are; words_are = same.words_same ∙ n.words_are };
 }
 
 pub facts_words : (kind : Kind) (k : Config) (s : model.State) (live : Live) (t : Tenancy) (c : Cycling) (words words' : List ℕ) → SameCycle words words' → Facts kind k s live t c words → Facts kind k s live t c words'

@@ -1,5 +1,5 @@
 -- A collection of the major heap in the rule: what is marked, how far the domains are, and what each of them knows in a phase of it.
-use Rattle.std.specs.Prelude.{◌≡◌, ◌≢◌, ℕ, zero, suc, ◌+◌, ◌*◌, ◌/◌, ◌%◌, ◌<◌, ◌⊎◌, ◌==◌, ◌||◌, nat_le, filter_map, Bool, true, false, cond, IsTrue, List, [], ◌∷◌, length, slice_get, sum_by, Option, Some, None}
+use Rattle.std.specs.Prelude.{◌≡◌, ◌≢◌, ℕ, zero, suc, ◌+◌, ◌*◌, ◌/◌, ◌%◌, ◌<◌, ◌⊎◌, ◌==◌, ◌||◌, nat_le, filter_map, Bool, true, false, cond, IsTrue, List, [], ◌∷◌, length, slice_get, sum_by, Option, Some, None, ◌^◌}
 use Rattle.std.specs.List.{list_any}
 use Rattle.heap_model.specs.declared.label.Label.{Label}
 use Rattle.heap_model.specs.declared.command.Command.{Command}
@@ -132,12 +132,14 @@ pub record IsPlain (c : Cycling) : Type 0 where
   pub unchanged : c.shares.changed ≡ false
   pub unrotated : c.rotated ≡ false
 
--- the live words are what those domains have added that have counted: each its own blocks, each once
+-- the live words are what those domains have added that have counted: each its own blocks, each once, and so few that the sums never wrap
 pub record Counted (n : ℕ) (y : Layout) (g : Graph) (marked : Label → Bool) (c : Counts) (words : List ℕ) : Type 0 where
   pub first : (d : ℕ) → IsTrue (c.words d) → IsTrue (c.blocks d)
   pub once : (d : ℕ) → IsTrue (c.blocks d) → IsTrue (has_no_repeats (c.own d))
   pub owned : (d : ℕ) (l : Label) → IsTrue (c.blocks d) → IsTrue (has_label (c.own d) l) → (a : ℕ) × (y.live a ≡ Some l) × (y.owner a ≡ Some d) × IsTrue (marked l)
   pub all : (d a : ℕ) (l : Label) → IsTrue (c.blocks d) → y.live a ≡ Some l → y.owner a ≡ Some d → IsTrue (marked l) → IsTrue (has_label (c.own d) l)
+  pub few : (d : ℕ) → IsTrue (c.blocks d) → length (c.own d) < 2 ^ 40
+  pub light : (d : ℕ) → IsTrue (c.words d) → sum_by (words_at g) (c.own d) < 2 ^ 40
   pub blocks_are : live_blocks words ≡ added_up c.blocks (λ d. length (c.own d)) n
   pub words_are : live_words words ≡ added_up c.words (λ d. sum_by (words_at g) (c.own d)) n
 
@@ -312,7 +314,7 @@ IsMarkedAt live marked a = (p : Place) × (live a ≡ Some p) × IsTrue (marked 
 -- the own blocks that a domain has counted: each once, all up to a place of the pools, and so many words
 pub record Tallied (k : Config) (live : Live) (holder : ℕ → Holder) (d : ℕ) (share : Share) : Type 0 where
   pub once : (i j a : ℕ) → slice_get share.tally i ≡ Some a → slice_get share.tally j ≡ Some a → i ≡ j
-  pub own : (a : ℕ) → IsTrue (seen_by share.tally a) → (q : ℕ) × (c : ℕ) × (slot : ℕ) × (holder q ≡ owned d c) × (slot < blocks_of c) × (a ≡ place_in q c slot)
+  pub own : (a : ℕ) → IsTrue (seen_by share.tally a) → (q : ℕ) × (c : ℕ) × (slot : ℕ) × (holder q ≡ owned d c) × (slot < blocks_of c) × IsBefore q slot share.tallied × (a ≡ place_in q c slot)
   pub lives : (a : ℕ) → IsTrue (seen_by share.tally a) → (p : Place) × (live a ≡ Some p)
   pub all : (q c slot : ℕ) (p : Place) → holder q ≡ owned d c → slot < blocks_of c → IsBefore q slot share.tallied → live (place_in q c slot) ≡ Some p → IsTrue (seen_by share.tally (place_in q c slot))
   pub words : share.tally_words ≡ sum_by (λ a. extent_in (live a)) share.tally

@@ -55,10 +55,10 @@ place_clash : (p : Place) → ◌≡◌ {A = Option Place} None (Some p) → ⊥
 place_clash p e = cc
 
 -- the place behind the one looked at
-last_behind : (pool class slot : ℕ) → blocks_of class ≤ slot + 1 → behind pool class slot ≡ record { pool = pool + 1; slot = 0 }
+pub last_behind : (pool class slot : ℕ) → blocks_of class ≤ slot + 1 → behind pool class slot ≡ record { pool = pool + 1; slot = 0 }
 last_behind pool class slot last = ap (λ (b : Bool). cond b (record { pool = pool + 1; slot = 0 }) (record { pool = pool; slot = slot + 1 })) (le-leb (blocks_of class) (slot + 1) last)
 
-next_behind : (pool class slot : ℕ) → slot + 1 < blocks_of class → behind pool class slot ≡ record { pool = pool; slot = slot + 1 }
+pub next_behind : (pool class slot : ℕ) → slot + 1 < blocks_of class → behind pool class slot ≡ record { pool = pool; slot = slot + 1 }
 next_behind pool class slot more = ap (λ (b : Bool). cond b (record { pool = pool + 1; slot = 0 }) (record { pool = pool; slot = slot + 1 })) (lt-leb (blocks_of class) (slot + 1) more)
 
 -- a place before it is this one, or was before this one

@@ -44,7 +44,7 @@ use Rattle.heap_rule.specs.Views.{one}
 use Rattle.heap_rule.proofs.Keeps.{Words, mine, my_good, now}
 use Rattle.steps_pauses.specs.Pauses.{ArrivesFrom, HasDone}
 use Rattle.steps_pauses.proofs.Arriving.{is_owner, arrived_cycle, kind_acts}
-use Rattle.steps_pauses.proofs.Layouts.{own_place}
+use Rattle.heap_rule.proofs.OwnPlaces.{own_place}
 use Rattle.heap_rule.proofs.PlainHistories.{IsPlainNode, IsPlainState, plain_state, plain_opening}
 use Rattle.heap_model.specs.Entries.{full_keys}
 use Rattle.heap_model.specs.declared.state.Sizes.{Sizes}

@@ -279,6 +279,8 @@ module _ (k : Config) (log : List Entry) (live : Live) (t : Tenancy) (c : Cyclin
               once = λ d is. cc;
               owned = λ d l is. cc;
               all = λ d a l is. cc;
+              few = λ d is. cc;
+              light = λ d is. cc;
               blocks_are = r.no_blocks refl ∙ sym (total_none k.domains);
               words_are = r.no_words refl ∙ sym (total_none k.domains);
             };

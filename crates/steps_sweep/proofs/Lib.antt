@@ -6,3 +6,7 @@ pub mod TurnSteps
 pub mod FreeSteps
 pub mod Recounting
 pub mod ClearSteps
+pub mod TallySteps
+pub mod Tallies
+pub mod AddSteps
+pub mod HoldSteps

@@ -24,6 +24,7 @@ use Rattle.steps_cycle.proofs.Colouring.{BareHead, bare_head, unmarked_colour}
 use Rattle.steps_cycle.proofs.Learning.{bare, kind_here, known, not_promoting}
 use Rattle.steps_cycle.proofs.WalkSteps.{before_behind}
 use Rattle.steps_sweep.specs.Freeing.{IsColoured, SweepMay, passed}
+use Rattle.heap_rule.specs.declared.phase.Stage.TheVariants.{In}
 
 -- it holds where the domains are further on and other words changed
 pub swept_on : (k : Config) (s : model.State) (live : Live) (holder : ℕ → Holder) (c : Cycling) (w : Shares) (words words' : List ℕ) → w.changed ≡ c.shares.changed → live_blocks words' ≡ live_blocks words → live_words words' ≡ live_words words
@@ -34,8 +35,28 @@ swept_on k s live holder c w words words' changed blocks count i = record {
   all_marked = i.all_marked;
   unmarked = i.unmarked;
   unchanged = changed ∙ i.unchanged;
-  counted = let n = i.counted in record { first = n.first; once = n.once; owned = n.owned; all = n.all; blocks_are = blocks ∙ n.blocks_are; words_are = count ∙ n.words_are };
+  counted = let n = i.counted in record { first = n.first; once = n.once; owned = n.owned; all = n.all; few = n.few; light = n.light; blocks_are = blocks ∙ n.blocks_are; words_are = count ∙ n.words_are };
 }
+
+-- an own place at which neither a block nor garbage lies is free
+module _ (k : Config) (s : Words) (r : Rule k s) (id : ℕ) (hist : List Entry) (x : DomainView) (at : get_elem? s.views id ≡ some (one k hist x)) (stage : x.seen.stage ≡ In Sweep) where
+  pub sweeping : IsCollecting x.seen.stage
+  sweeping = subst IsCollecting (sym stage) (λ none. none)
+
+  pub sweep_facts : Sweeping k (state_of k r.account.log) r.account.live r.account.tenancy r.account.cycling s.words
+  sweep_facts = subst (λ (kind : Kind). Facts kind k (state_of k r.account.log) r.account.live r.account.tenancy r.account.cycling s.words) (kind_here k s r id hist x at Sweep stage) r.whole.cycle.facts
+
+  pub empty_free : (a pool class slot : ℕ) → r.account.tenancy.holder pool ≡ owned x.own.number class → slot < blocks_of class → a ≡ place_in pool class slot → r.account.live a ≡ None → r.account.tenancy.garbage a ≡ false → at_address k s.words a ≡ 0
+  empty_free a pool class slot own inside begins none clean = let b : ℕ = place_in pool class slot in ap (at_address k s.words) begins ∙ ⊎_elim
+      (λ (z : at_address k s.words b ≡ 0). z)
+      (λ z. absurd (⊎_elim
+      (λ (u : (p : Place) × (r.account.live b ≡ Some p)). let clash : ◌≡◌ {A = Option Place} None (Some u.0) = sym none ∙ (ap r.account.live begins ∙ u.1) in cc)
+      (λ u. ⊎_elim
+      (λ (f : r.account.tenancy.prepared b ≡ Some x.own.number). not_promoting k s r id hist x at sweeping (r.whole.drawers.prepared b x.own.number f).1)
+      (λ (f : IsTrue (r.account.tenancy.garbage b)). true≢false (sym f ∙ (ap r.account.tenancy.garbage (sym begins) ∙ clean)))
+      u)
+      z))
+      (r.whole.grid.places pool x.own.number class slot own inside)
 
 module _ (k : Config) (s : Words) (r : Rule k s) (id : ℕ) (hist : List Entry) (x : DomainView) (at : get_elem? s.views id ≡ some (one k hist x)) (a pool class slot : ℕ) (may : SweepMay x a pool class slot) where
   abbrev now : model.State
@@ -54,7 +75,7 @@ module _ (k : Config) (s : Words) (r : Rule k s) (id : ℕ) (hist : List Entry) 
   d = x.own.number
 
   pub collecting : IsCollecting x.seen.stage
-  collecting = subst IsCollecting (sym may.stage) (λ none. none)
+  collecting = sweeping k s r id hist x at may.stage
 
   kn : Knowing k live t.holder now.graph c.paint.marks s.words d x.own.registers x.seen.share
   kn = known k s r id hist x at
@@ -66,7 +87,7 @@ module _ (k : Config) (s : Words) (r : Rule k s) (id : ℕ) (hist : List Entry) 
   kind_is = kind_here k s r id hist x at Sweep may.stage
 
   pub facts : Sweeping k now live t c s.words
-  facts = subst (λ (kind : Kind). Facts kind k now live t c s.words) kind_is r.whole.cycle.facts
+  facts = sweep_facts k s r id hist x at may.stage
 
   pub means : may.colours ≡ c.paint.colours
   means = (my_good k s r id hist x at).sharing.telling.colours may.colours may.known
@@ -89,21 +110,9 @@ module _ (k : Config) (s : Words) (r : Rule k s) (id : ℕ) (hist : List Entry) 
   -- where no garbage is the place is free, or a block lives there
   pub clean_head : t.garbage a ≡ false → (at_address k s.words a ≡ 0) ⊎ IsColoured may.colours.unmarked (at_address k s.words a)
   clean_head clean = ⊎_elim
-      (λ (none : live a ≡ None). inl (ap (at_address k s.words) may.word ∙ ⊎_elim
-      (λ (z : at_address k s.words b ≡ 0). z)
-      (λ z. absurd (⊎_elim
-      (λ (u : (p : Place) × (live b ≡ Some p)). let clash : ◌≡◌ {A = Option Place} None (Some u.0) = sym none ∙ (ap live may.word ∙ u.1) in cc)
-      (λ u. ⊎_elim
-      (λ (f : t.prepared b ≡ Some d). not_promoting k s r id hist x at collecting (r.whole.drawers.prepared b d f).1)
-      (λ (f : IsTrue (t.garbage b)). true≢false (sym f ∙ (ap t.garbage (sym may.word) ∙ clean)))
-      u)
-      z))
-      (r.whole.grid.places pool d class slot is_own may.inside)))
+      (λ (none : live a ≡ None). inl (empty_free k s r id hist x at may.stage a pool class slot is_own may.inside may.word none clean))
       (λ (q : (p : Place) × (live a ≡ Some p)). inr (record { shape = q.0.shape; head = (live_head q.0 q.1).head; colour_is = live_colour q.0 q.1 }))
       (place_cases (live a))
-    where
-      b : ℕ
-      b = place_in pool class slot
 
   abbrev pub seen' : ℕ → ℕ → Bool
   seen' = at_domain c.shares.seen d (λ b. b == a || c.shares.seen d b)

@@ -10,11 +10,11 @@ use std::marker::Brand;
 
 // The token's own data stays as it is. The place is there for the pick alone.
 #[derive(Clone, Copy)]
-struct Seeking {
-    at: u32,
-    pool: u32,
-    class: u32,
-    slot: u32,
+pub(crate) struct Seeking {
+    pub(crate) at: u32,
+    pub(crate) pool: u32,
+    pub(crate) class: u32,
+    pub(crate) slot: u32,
 }
 
 impl Writing for Seeking {

@@ -3,7 +3,11 @@
 #![tactic(auto)]
 
 mod freeing;
+mod holding;
+mod tallying;
 mod turning;
 
 pub use freeing::{free_store, sweep_load};
+pub use holding::{held_load, held_own_load};
+pub use tallying::{blocks_add, tally_load, tally_own_load, words_add};
 pub use turning::{blocks_clear, colours_store, words_clear};

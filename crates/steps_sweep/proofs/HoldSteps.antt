@@ -1,0 +1,135 @@
+-- A domain finds that its pools hold blocks.
+use Rattle.std.proofs.Common.{◌≡◌, ◌≢◌, ℕ, ◌+◌, ◌<◌, false, true≢false, IsTrue, List, get_or, set, Some, Option, sym, refl, ap, ◌∙◌, subst, inl, inr, ⊎_elim, arith}
+use mathlib.Core.Logic.{dite}
+use native.Mathlib.Decide.{ℕ_discrete}
+use mathlib.Core.Option.{some}
+use lib.ListN.{get_elem?}
+use Rattle.atomic_table.specs.Table.{keeps}
+use Rattle.heap_model.specs.declared.entry.Entry.{Entry}
+use Rattle.heap_model.specs.declared.state.State as model
+use Rattle.heap_rule.specs.declared.config.Config.{Config}
+use Rattle.heap_rule.specs.declared.phase.Kind.{Kind}
+use Rattle.heap_rule.specs.declared.phase.Kind.TheVariants.{Answer}
+use Rattle.heap_rule.specs.declared.phase.Stage.TheVariants.{In}
+use Rattle.heap_rule.specs.declared.view.DomainView.{DomainView}
+use Rattle.heap_rule.specs.declared.view.Share.{Share}
+use Rattle.heap_rule.specs.declared.view.Tenure.{Tenure}
+use Rattle.heap_rule.specs.Cycles.{Answering, Cycling, Facts, HoldsBlock, IsCollecting, Knowing}
+use Rattle.heap_rule.specs.Layout.{at_address, before_heap, owner_of}
+use Rattle.heap_rule.specs.Places.{Live, Place}
+use Rattle.heap_rule.specs.Pools.{Holder, owned, place_in}
+use Rattle.heap_rule.specs.Raw.{CanLeave, Closes, Leaves, MayStep}
+use Rattle.heap_rule.specs.Rule.{Rule, state_of}
+use Rattle.heap_rule.specs.Views.{one}
+use Rattle.heap_rule.proofs.Keeps.{Words, my_good, unmoved}
+use Rattle.heap_rule.proofs.Lots.{owned_same}
+use Rattle.steps_cycle.specs.Looks.{with_share}
+use Rattle.steps_cycle.proofs.Learning.{kind_here, known, learns, not_promoting, waits_in}
+use Rattle.steps_cycle.proofs.Plain.{share_closes}
+use Rattle.steps_sweep.specs.Holding.{HeldMay, HeldOwnMay, HeldOwnTold, HeldTold}
+use Rattle.steps_sweep.proofs.TallySteps.{tenure_same, whose}
+
+module _ (k : Config) (s : Words) (r : Rule k s) (id : ℕ) (hist : List Entry) (x : DomainView) (at : get_elem? s.views id ≡ some (one k hist x)) (stage : x.seen.stage ≡ In Answer) where
+  abbrev now : model.State
+  now = state_of k r.account.log
+
+  abbrev live : Live
+  live = r.account.live
+
+  abbrev holder : ℕ → Holder
+  holder = r.account.tenancy.holder
+
+  abbrev c : Cycling
+  c = r.account.cycling
+
+  abbrev d : ℕ
+  d = x.own.number
+
+  abbrev sh : Share
+  sh = x.seen.share
+
+  abbrev After : DomainView → Type 0
+  After y = Rule k record { words = s.words; homes = s.homes; views = set s.views id (one k hist y) }
+
+  kn : Knowing k live holder now.graph c.paint.marks s.words d x.own.registers sh
+  kn = known k s r id hist x at
+
+  collecting : IsCollecting x.seen.stage
+  collecting = subst IsCollecting (sym stage) (λ none. none)
+
+  facts : Answering k now live r.account.tenancy c s.words
+  facts = subst (λ (kind : Kind). Facts kind k now live r.account.tenancy c s.words) (kind_here k s r id hist x at Answer stage) r.whole.cycle.facts
+
+  holds : (tenure : Option Tenure) (held : ℕ) → ((u : Tenure) → tenure ≡ Some u → holder u.pool ≡ owned d u.class) → ((q class : ℕ) → holder q ≡ owned d class → q < held → HoldsBlock live q class)
+      → After (with_share x (record sh { tenure = tenure; held = held }))
+  holds tenure held own all =
+      let g = (my_good k s r id hist x at).sharing in
+      let n = kn.tally in
+      let waits : c.shares.arrived d ≡ false = waits_in k s r id hist x at Answer stage in learns k s r id hist x at (record sh { tenure = tenure; held = held }) record {
+        telling = record { owes = g.telling.owes; seen = g.telling.seen; fresh = λ up. absurd (true≢false (sym up ∙ waits)); forgotten = λ up. absurd (true≢false (sym up ∙ waits)); colours = g.telling.colours };
+        leading = record { changed = g.leading.changed; found_blocks = g.leading.found_blocks; found_words = g.leading.found_words; rotated = g.leading.rotated; turned = g.leading.turned; pass = g.leading.pass };
+        knows = inr (
+          collecting,
+          record { glimpse = kn.glimpse; scan = kn.scan; walked = kn.walked; tenure = own; rooted = kn.rooted; marked = kn.marked; tally = record { once = n.once; own = n.own; lives = n.lives; all = n.all; words = n.words }; held = all },
+        );
+        adds = record { blocks = g.adds.blocks; words = g.adds.words; own = g.adds.own };
+      }
+
+  -- one pool more is looked at
+  one_more : (pool : ℕ) → sh.held ≡ pool → ((class : ℕ) → holder pool ≡ owned d class → HoldsBlock live pool class) → After (with_share x (record sh { held = pool + 1 }))
+  one_more pool next here = holds sh.tenure (pool + 1) kn.tenure (λ q class is low. dite (ℕ_discrete q pool)
+      (λ same. subst (λ (z : ℕ). HoldsBlock live z class) (sym same) (here class (ap holder (sym same) ∙ is)))
+      (λ other. kn.held q class is (let m : ℕ = sh.held in let e : m ≡ pool = next in let l : q < pool + 1 = low in let n : q ≢ pool = other in let g : q < m = omega arith in g)))
+
+  pub owner_held : (word pool : ℕ) → HeldOwnMay k x word pool → (y : DomainView) × After y × HeldOwnTold pool x (owner_of k s.words pool) y
+  owner_held word pool may = ⊎_elim
+      (λ u. (
+        with_share x (record sh { tenure = Some (record { pool = pool; class = u.0 }) }),
+        holds (Some (record { pool = pool; class = u.0 })) sh.held (λ v e. subst (λ (z : Tenure). holder z.pool ≡ owned d z.class) (tenure_same (record { pool = pool; class = u.0 }) v e) u.1) kn.held,
+        record { told = inl (u.0, u.2, u.3, refl) },
+      ))
+      (λ u. (with_share x (record sh { held = pool + 1 }), one_more pool may.next (λ class is. absurd (u.0 class is)), record { told = inr (u.1, refl) }))
+      (whose k s r d pool may.inside (holder pool) refl)
+
+  pub held_at : (a pool class slot : ℕ) → HeldMay x a pool class slot → (y : DomainView) × After y × HeldTold pool x (at_address k s.words a) y
+  held_at a pool class slot may =
+      let own : holder pool ≡ owned d class = kn.tenure (record { pool = pool; class = class }) may.own in
+      let b : ℕ = place_in pool class slot in
+      dite (ℕ_discrete (at_address k s.words a) 0)
+      (λ free. (with_share x sh, holds sh.tenure sh.held kn.tenure kn.held, record { told = inl (free, refl) }))
+      (λ full. (
+        with_share x (record sh { held = pool + 1 }),
+        one_more pool may.next (λ e is.
+            let same : e ≡ class = (owned_same d d e class (sym is ∙ own)).1 in
+            subst (HoldsBlock live pool) (sym same) (
+              slot,
+              may.inside,
+              ⊎_elim
+                  (λ (z : at_address k s.words b ≡ 0). absurd (full (ap (at_address k s.words) may.word ∙ z)))
+                  (λ z. ⊎_elim
+                  (λ (u : (p : Place) × (live b ≡ Some p)). u)
+                  (λ u. absurd (⊎_elim
+                  (λ (f : r.account.tenancy.prepared b ≡ Some d). not_promoting k s r id hist x at collecting (r.whole.drawers.prepared b d f).1)
+                  (λ (f : IsTrue (r.account.tenancy.garbage b)). true≢false (sym f ∙ facts.clean b))
+                  u))
+                  z)
+                  (r.whole.grid.places pool d class slot own may.inside),
+            )),
+        record { told = inr (full, refl) },
+      ))
+
+pub held_own_may : (k : Config) (x : DomainView) (word pool : ℕ) → HeldOwnMay k x word pool → MayStep k x word (λ n. n) (HeldOwnTold pool)
+held_own_may k x word pool may fits slots id hist s r _ at _ =
+    let o = owner_held k s r id hist x at may.stage word pool may in
+    (one k hist o.0, keeps, tt, unmoved k s word (set s.views id (one k hist o.0)) o.1, (subst (λ (n : ℕ). HeldOwnTold pool x (get_or s.words n 0) o.0) (sym may.word) o.2, refl))
+
+pub held_own_closes : (k : Config) (x : DomainView) (found pool : ℕ) → Closes k x found (HeldOwnTold pool) CanLeave Leaves
+held_own_closes k x found pool = share_closes k x found (HeldOwnTold pool) (λ y t. ⊎_elim (λ u. (record x.seen.share { tenure = Some (record { pool = pool; class = u.0 }) }, u.3)) (λ u. (record x.seen.share { held = pool + 1 }, u.1)) t.told)
+
+pub held_may : (k : Config) (x : DomainView) (word a pool class slot : ℕ) → word ≡ before_heap k + a → HeldMay x a pool class slot → MayStep k x word (λ n. n) (HeldTold pool)
+held_may k x word a pool class slot place may fits slots id hist s r _ at _ =
+    let o = held_at k s r id hist x at may.stage a pool class slot may in
+    (one k hist o.0, keeps, tt, unmoved k s word (set s.views id (one k hist o.0)) o.1, (subst (λ (n : ℕ). HeldTold pool x (get_or s.words n 0) o.0) (sym place) o.2, refl))
+
+pub held_closes : (k : Config) (x : DomainView) (found pool : ℕ) → Closes k x found (HeldTold pool) CanLeave Leaves
+held_closes k x found pool = share_closes k x found (HeldTold pool) (λ y t. ⊎_elim (λ u. (x.seen.share, u.1)) (λ u. (record x.seen.share { held = pool + 1 }, u.1)) t.told)
