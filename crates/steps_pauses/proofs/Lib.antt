@@ -1,4 +1,3 @@
-mod Layouts
 mod Arriving
 mod Finishing
 mod Naming

@@ -215,8 +215,8 @@ module _ (k : Config) (s : Words) (r : Rule k s) (id : ℕ) (hist : List Entry) 
         unused = r.whole.unused;
         endings = refl;
         cycle = cycle_unmoved s.words;
-    garbage = λ a. refl;
-    full = r.whole.full;
+        garbage = λ a. refl;
+        full = r.whole.full;
         found = r.whole.found;
         pools = record {
           few = pools.few;

@@ -191,16 +191,16 @@ module _ (k : Config) (s : Words) (r : Rule k s) (id : ℕ) (hist : List Entry) 
           fit = met_fits k (known (m ∷ ms)) live more1 r.whole.placed;
           told = let paint = r.account.cycling.paint in let colour : ℕ = colour_in paint p.label in
               let bare : HeadIs None p.shape colour f.head.scanned (at_address k s.words a) = subst (λ (o : Option ℕ). HeadIs o p.shape colour f.head.scanned (at_address k s.words a)) none f.head.packs in inl record {
-            head = record { colour = colour; scanned = f.head.scanned; packable = packable_head p.shape colour f.head.scanned (colour_small paint p.label r.whole.cycle.meanings) packs; packs = bare };
-            new = λ young c known. let means : c ≡ paint.colours = (my_good k s r id hist x at).sharing.telling.colours c known in record {
-              colours = c;
-              known_is = known;
-              fits = subst (λ (z : Colours). z.unmarked < 3) (sym means) r.whole.cycle.meanings.unmarked_fits;
-              packs = subst (λ (m : ℕ × Bool). HeadIs None p.shape m.0 m.1 (at_address k s.words a))
-                  (λ i. ((ap (λ (b : Bool). cond b paint.colours.marked paint.colours.unmarked) ((between_here k s r id hist x at Promote tt promotes).unmarked p.label) ∙ ap (λ (z : Colours). z.unmarked) (sym means)) i, f.blank young i)) bare;
-            };
-            view = refl;
-          };
+                head = record { colour = colour; scanned = f.head.scanned; packable = packable_head p.shape colour f.head.scanned (colour_small paint p.label r.whole.cycle.meanings) packs; packs = bare };
+                new = λ young c known. let means : c ≡ paint.colours = (my_good k s r id hist x at).sharing.telling.colours c known in record {
+                  colours = c;
+                  known_is = known;
+                  fits = subst (λ (z : Colours). z.unmarked < 3) (sym means) r.whole.cycle.meanings.unmarked_fits;
+                  packs = subst (λ (m : ℕ × Bool). HeadIs None p.shape m.0 m.1 (at_address k s.words a))
+                      (λ i. ((ap (λ (b : Bool). cond b paint.colours.marked paint.colours.unmarked) ((between_here k s r id hist x at Promote tt promotes).unmarked p.label) ∙ ap (λ (z : Colours). z.unmarked) (sym means)) i, f.blank young i)) bare;
+                };
+                view = refl;
+              };
           once = forwards_to a;
         };
       })
