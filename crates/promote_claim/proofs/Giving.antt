@@ -4,12 +4,9 @@ use Rattle.heap_model.specs.Domains.{class_count}
 use Rattle.heap_rule.specs.declared.config.Config.{Config}
 use Rattle.heap_rule.specs.declared.view.Spot.{Spot}
 use Rattle.heap_rule.specs.declared.view.DomainView.{DomainView}
-use Rattle.heap_rule.specs.declared.view.Hunt.TheVariants.{Rests}
-use Rattle.heap_rule.specs.declared.phase.Kind.TheVariants.{Promote}
-use Rattle.heap_rule.specs.declared.phase.Stage.TheVariants.{In}
 use Rattle.heap_rule.specs.Pools.{prepared_at, spot_at, IsBefore}
 use Rattle.steps_promote.specs.Claims.{FreeMay, freed, FreedTold}
-use Rattle.promote_claim.specs.Working.{AllPlaced, with_claims}
+use Rattle.promote_claim.specs.Working.{with_claims}
 use Rattle.promote_claim.specs.Sharing.{Gives}
 use mathlib.Core.Logic.{dite}
 use native.Mathlib.Decide.{ℕ_discrete, dec_le}

@@ -1,9 +1,8 @@
 -- What a domain that copies knows after it has met a block.
-use Rattle.std.proofs.Common.{◌≡◌, ℕ, ◌+◌, ◌*◌, ◌^◌, ◌<◌, ◌≤◌, cond, eq-eqb, Bool, false, List, [], ◌∷◌, ◌++◌, append-nil, append_assoc, slice_get, Option, Some, None, sym, refl, ap, ◌∙◌, subst, inl, inr, ⊎_elim, arith, ◌⊎◌}
+use Rattle.std.proofs.Common.{◌≡◌, ℕ, ◌+◌, ◌*◌, ◌^◌, ◌<◌, ◌≤◌, cond, eq-eqb, Bool, false, List, [], ◌∷◌, ◌++◌, append-nil, append_assoc, slice_get, Option, Some, None, sym, refl, ap, ◌∙◌, subst, inl, inr, ⊎_elim, arith}
 use Rattle.heap_model.specs.Domains.{IsWithinLimits}
 use Rattle.heap_model.specs.Fronts.{Shape, PlainShape, RawShape, EpheShape}
 use Rattle.heap_words.specs.declared.head.Head.TheVariants.{Forward}
-use Rattle.heap_words.specs.Heads.{IsPackableHead}
 use Rattle.heap_words.specs.Unpacked.{Unpacks}
 use Rattle.heap_words.proofs.WordLemmas.{head_word-injective}
 use Rattle.heap_rule.specs.declared.config.Config.{Config}
