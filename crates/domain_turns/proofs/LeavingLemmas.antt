@@ -4,7 +4,7 @@ use Rattle.heap_model.specs.declared.entry.Entry.{Entry}
 use Rattle.heap_model.specs.Fronts.{IsFrontOf}
 use Rattle.heap_rule.specs.declared.config.Config.{Config}
 use Rattle.heap_rule.specs.declared.phase.Kind.{Kind}
-use Rattle.heap_rule.specs.declared.phase.Kind.TheVariants.{Run, Promote, Reset}
+use Rattle.heap_rule.specs.declared.phase.Kind.TheVariants.{Promote, Reset}
 use Rattle.heap_rule.specs.declared.phase.Note.TheVariants.{Barrier}
 use Rattle.heap_rule.specs.declared.phase.Stage.TheVariants.{In, Leads, Gone}
 use Rattle.heap_rule.specs.declared.view.Hunt.TheVariants.{Rests}
