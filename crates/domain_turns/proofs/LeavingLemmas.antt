@@ -132,10 +132,10 @@ passes_quiet k x y last kind p quiet =
     odd.2)
     p.share
 
-pub passed_moves : (h : SharedHeap) (old new : Token) (last : Kind) (past : Past) → IsIn old h → IsIn new h → PassAnswers h.config old.view new.view last past → Moves old new
-passed_moves h old new last (Waits b) a i says = still_moves h old new _ a i says.1 refl refl refl refl refl
-passed_moves h old new last (Arrived kind) a i says =
-    let l = passes_leaves h.config old.view new.view last kind says in
+pub passed_moves : (h : SharedHeap) (old new : Token) (before : Kind) (past : Past) → IsIn old h → IsIn new h → PassAnswers h.config old.view new.view before past → Moves old new
+passed_moves h old new before (Waits b) a i says = still_moves h old new _ a i says.1 refl refl refl refl refl
+passed_moves h old new before (Arrived kind) a i says =
+    let l = passes_leaves h.config old.view new.view before kind says in
     record {
       config = i.1 ∙ sym a.1;
       number = l.number;
@@ -144,31 +144,31 @@ passed_moves h old new last (Arrived kind) a i says =
       hunt = l.hunt;
       front = l.front;
     }
-passed_moves h old new last Runs a i says = view_moves h old new _ a i says.0.view refl refl refl refl says.0.seen
+passed_moves h old new before Runs a i says = view_moves h old new _ a i says.0.view refl refl refl refl says.0.seen
 
-pub passed_between : (h : SharedHeap) (old new : Token) (past : Past) (last : Kind) (asked : Option ℕ) → IsIn old h → IsIn new h → IsBetween (Some last) asked old → PassAnswers h.config old.view new.view last past → IsBetween (left_after past last) asked new
-passed_between h old new (Waits b) last asked a i is says =
-    let left = is.has_left last refl in record {
+pub passed_between : (h : SharedHeap) (old new : Token) (past : Past) (before : Kind) (asked : Option ℕ) → IsIn old h → IsIn new h → IsBetween (Some before) asked old → PassAnswers h.config old.view new.view before past → IsBetween (left_after past before) asked new
+passed_between h old new (Waits b) before asked a i is says =
+    let left = is.has_left before refl in record {
       stands = ap (λ (x : DomainView). x.seen.stage) says.1 ∙ is.stands;
       quiet = quiet_as old.view new.view (ap (λ (x : DomainView). x.seen.copying) says.1) (ap (λ (x : DomainView). x.own.pending) says.1) (ap (λ (x : DomainView). x.own.prepared) says.1) is.quiet;
       even = λ none. cc;
       remembers = λ none. cc;
       collected = λ none. cc;
-      has_left = λ known e. subst (λ (kind : Kind). HasLeft new.config kind new.view) (some_injective last known e)
-          (subst (λ (z : Config × DomainView). HasLeft z.0 last z.1) (λ j. (sym (i.1 ∙ sym a.1) j, sym says.1 j)) (let l : HasLeft old.config last (noted old.view (Barrier b)) = record {
+      has_left = λ known e. subst (λ (kind : Kind). HasLeft new.config kind new.view) (some_injective before known e)
+          (subst (λ (z : Config × DomainView). HasLeft z.0 before z.1) (λ j. (sym (i.1 ∙ sym a.1) j, sym says.1 j)) (let l : HasLeft old.config before (noted old.view (Barrier b)) = record {
             past = λ either. let p = left.past either in record { outside = p.outside; remembers = p.remembers; looked_through = p.looked_through; holds_old = p.holds_old; emptied = p.emptied; forgotten = p.forgotten };
             ready = λ even first. let r = left.ready even first in let p = r.past in record { before = r.before; follows = r.follows; past = record { outside = p.outside; remembers = p.remembers; looked_through = p.looked_through; holds_old = p.holds_old; emptied = p.emptied; forgotten = p.forgotten } };
           } in l));
     }
-passed_between h old new (Arrived kind) last asked a i is says = record {
-  stands = (passes_leaves h.config old.view new.view last kind says).stage;
-  quiet = passes_quiet h.config old.view new.view last kind says is.quiet;
+passed_between h old new (Arrived kind) before asked a i is says = record {
+  stands = (passes_leaves h.config old.view new.view before kind says).stage;
+  quiet = passes_quiet h.config old.view new.view before kind says is.quiet;
   even = λ none. cc;
   remembers = λ none. cc;
   collected = λ none. cc;
-  has_left = λ known e. subst (λ (c : Kind). HasLeft new.config c new.view) (some_injective kind known e) (subst (λ (k : Config). HasLeft k kind new.view) (sym i.1) (passes_past h.config old.view new.view last kind says (subst (λ (k : Config). HasLeft k last old.view) a.1 (is.has_left last refl))));
+  has_left = λ known e. subst (λ (c : Kind). HasLeft new.config c new.view) (some_injective kind known e) (subst (λ (k : Config). HasLeft k kind new.view) (sym i.1) (passes_past h.config old.view new.view before kind says (subst (λ (k : Config). HasLeft k before old.view) a.1 (is.has_left before refl))));
 }
-passed_between h old new Runs last asked a i is says = record {
+passed_between h old new Runs before asked a i is says = record {
   stands = says.1;
   quiet = looked_quiet h.config old.view new.view says.0 is.quiet;
   even = λ _. subst IsEven (sym (ap (λ (x : DomainView). x.own.arrivals) says.0.view)) says.2;

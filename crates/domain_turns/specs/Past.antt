@@ -15,17 +15,17 @@ use Rattle.heap_rule.specs.Phases.{IsEven}
 use Rattle.domain_turns.specs.Pausing.{IsCollected}
 use Rattle.domain_turns.specs.Runs.{RunView, Passes, GoesBy, Waits as RunWaits, Resumes}
 
--- what a look at the barrier came to, for a domain that arrived from a phase whose last even kind is `last`
+-- what a look at the barrier came to, for a domain that arrived from a phase whose last even kind is `known`
 abbrev pub PassAnswers : Config → DomainView → DomainView → Kind → Past → Type 0
-PassAnswers k x y last (Waits b) = (b < x.own.arrivals * k.domains) × (y ≡ noted x (Barrier b))
-PassAnswers k x y last (Arrived kind) = Passes k x y last kind
-PassAnswers k x y last Runs = Passed k x y × (y.seen.stage ≡ In Run) × IsEven x.own.arrivals × IsCollected k y
+PassAnswers k x y known (Waits b) = (b < x.own.arrivals * k.domains) × (y ≡ noted x (Barrier b))
+PassAnswers k x y known (Arrived kind) = Passes k x y known kind
+PassAnswers k x y known Runs = Passed k x y × (y.seen.stage ≡ In Run) × IsEven x.own.arrivals × IsCollected k y
 
 -- the kind of the last even phase that it then knows of
 abbrev pub left_after : Past → Kind → Option Kind
-left_after (Waits b) last = Some last
-left_after (Arrived kind) last = Some kind
-left_after Runs last = None
+left_after (Waits b) known = Some known
+left_after (Arrived kind) known = Some kind
+left_after Runs known = None
 
 -- the same of its run
 abbrev pub PastAnswers : SharedHeap → RunView → RunView → Past → Type 0
