@@ -1,0 +1,34 @@
+-- The scan of fields.
+use Rattle.std.proofs.Common.{◌≡◌, ℕ, ◌+◌, ◌<◌, Bool, Some, sym, refl, ap, subst, ◌∙◌}
+use Rattle.heap_words.specs.declared.colours.Colours.{Colours}
+use Rattle.heap_words.specs.declared.value.Value.{Value}
+use Rattle.heap_words.specs.declared.value.Value.TheVariants.{Ref}
+use Rattle.heap_words.specs.Values.{IsPackable, value_word}
+use Rattle.heap_words.proofs.WordLemmas.{value_word-injective}
+use Rattle.heap_rule.specs.declared.config.Config.{Config}
+use Rattle.heap_rule.specs.declared.phase.Kind.TheVariants.{Mark}
+use Rattle.heap_rule.specs.declared.phase.Stage.TheVariants.{In}
+use Rattle.heap_rule.specs.declared.view.DomainView.{DomainView}
+use Rattle.heap_rule.specs.declared.view.Scan.TheVariants.{Holds, Reads}
+use Rattle.heap_rule.specs.Token.{IsAddress}
+use Rattle.steps_cycle.specs.Looks.{with_share}
+use Rattle.steps_cycle.specs.Marking.{Field, ScanMay, ScanTold, scanned_on}
+use Rattle.mark_slices.specs.Shares.{Darkens, fields_to, scanning}
+
+-- the value that was read is the one that was told
+pub value_is : (k : Config) (x y : DomainView) (word : ℕ) (v : Value) → ScanTold k x word y → IsPackable v × (value_word v ≡ word) → (u : Value) × (u ≡ v) × (y ≡ with_share x (record x.seen.share { scan = scanned_on x.seen.share.scan u })) × ((a : ℕ) → u ≡ Ref a → IsAddress k a)
+value_is k x y word v t r = (t.value, value_word-injective t.value v t.packable r.0 (sym t.word ∙ sym r.1), t.view, t.inside)
+
+-- the field refers to a block, which is to be marked
+pub field_darkens : (k : Config) (x y : DomainView) (at word a : ℕ) (v : Value) (colours : Colours) → ScanMay x at → x.seen.share.colours ≡ Some colours → ScanTold k x word y → IsPackable v × (value_word v ≡ word) → v ≡ Ref a → IsAddress k a × Darkens colours a Field y
+field_darkens k x y at word a v colours may known t r is =
+    let u = value_is k x y word v t r in
+    let e : u.0 ≡ Ref a = u.1 ∙ is in
+    let s : scanned_on x.seen.share.scan u.0 ≡ Holds may.block may.done may.size may.head a = (λ i. scanned_on (may.scan i) (e i)) in (
+      u.3 a e,
+      subst (Darkens colours a Field) (sym u.2) record { kind = Mark; stage = may.stage; darkening = tt; known = known; reason_is = (may.block, may.done, may.size, may.head, s) },
+    )
+
+-- the next field may be loaded
+pub fields_may : (x v : DomainView) (won : Bool) (i block size head : ℕ) → x.seen.stage ≡ In Mark → x.seen.share.scan ≡ Reads block 0 size head → v ≡ with_share x (scanning x.seen.share v.seen.share (fields_to i x.seen.share.scan) won) → i < size → ScanMay v (block + 2 + i)
+fields_may x v won i block size head stage begun view more = record { stage = ap (λ (z : DomainView). z.seen.stage) view ∙ stage; block = block; done = i; size = size; head = head; scan = ap (λ (z : DomainView). z.seen.share.scan) view ∙ ap (fields_to i) begun; more = more; word = refl }

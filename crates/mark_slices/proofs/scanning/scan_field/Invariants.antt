@@ -1,0 +1,5 @@
+use Rattle.steps_cycle.specs.Marking.{Field}
+use Rattle.mark_slices.proofs.scanning.scan_field.Given as goal
+
+abbrev pub ghost-darken : goal.ghost-darken
+ghost-darken a = Field

@@ -1,0 +1,102 @@
+-- What becomes of a domain's view while it marks blocks ("Retrofitting Parallelism onto OCaml", section 3.2).
+use Rattle.std.specs.Prelude.{◌≡◌, ◌≢◌, ℕ, ◌+◌, ◌<◌, ◌==◌, Bool, true, false, IsTrue, cond, if◌then◌else◌, nat_le, Some}
+use Rattle.std.specs.List.{list_any}
+use Rattle.heap_model.specs.Domains.{class_count}
+use Rattle.heap_words.specs.declared.colours.Colours.{Colours}
+use Rattle.heap_words.specs.declared.value.Value.TheVariants.{Ref}
+use Rattle.heap_rule.specs.declared.config.Config.{Config}
+use Rattle.heap_rule.specs.declared.phase.Kind.{Kind}
+use Rattle.heap_rule.specs.declared.phase.Kind.TheVariants.{Mark}
+use Rattle.heap_rule.specs.declared.phase.Stage.{Stage}
+use Rattle.heap_rule.specs.declared.phase.Stage.TheVariants.{In}
+use Rattle.heap_rule.specs.declared.view.DomainView.{DomainView}
+use Rattle.heap_rule.specs.declared.view.Scan.{Scan}
+use Rattle.heap_rule.specs.declared.view.Scan.TheVariants.{Idle, Reads}
+use Rattle.heap_rule.specs.declared.view.Share.{Share}
+use Rattle.heap_rule.specs.declared.view.Spot.{Spot}
+use Rattle.heap_rule.specs.Changes.{value_at}
+use Rattle.heap_rule.specs.Pools.{blocks_of, owned, owner_word}
+use Rattle.steps_cycle.specs.Looks.{with_share}
+use Rattle.steps_cycle.specs.Marking.{IsDarkening, Reason, Warrants, moved_on, owes_on}
+
+-- the domain is in a phase in which blocks are darkened, knows the colours, and has a reason to mark the block
+pub record Darkens (colours : Colours) (at : ℕ) (reason : Reason) (x : DomainView) : Type 0 where
+  pub kind : Kind
+  pub stage : x.seen.stage ≡ In kind
+  pub darkening : IsDarkening kind
+  pub known : x.seen.share.colours ≡ Some colours
+  pub reason_is : Warrants reason x at
+
+-- whether a domain owes a store of the changed word, when it has come to a block that it was to mark, and has darkened it or not
+abbrev pub owes_after : Stage → Bool → Bool → Bool
+owes_after (In kind) won owes = cond won (owes_on kind owes) owes
+owes_after _ won owes = owes
+
+-- the domain is done with the reason, and knows that the block is marked
+abbrev pub darkened : Reason → ℕ → Bool → DomainView → DomainView
+darkened reason at won x = with_share x (record (moved_on reason at x.seen.share) { owes = owes_after x.seen.stage won x.seen.share.owes })
+
+-- a register is among those whose blocks are marked
+abbrev pub IsRoot : DomainView → ℕ → Type 0
+IsRoot x r = IsTrue (list_any (λ q. q == r) x.seen.share.roots)
+
+-- the domain with what it knows of the colours, of the head that it found last, and of the blocks that are marked as another has it
+abbrev pub with_roots : DomainView → DomainView → DomainView
+with_roots x y = with_share x (record x.seen.share { colours = y.seen.share.colours; glimpse = y.seen.share.glimpse; roots = y.seen.share.roots; marked = y.seen.share.marked })
+
+-- the domain is done with a register, and with those with which it was before
+pub record Rooted (register : ℕ) (x y : DomainView) : Type 0 where
+  pub view : y ≡ with_roots x y
+  pub colours : y.seen.share.colours ≡ x.seen.share.colours
+  pub done : (a : ℕ) → value_at x.own.registers register ≡ Ref a → IsRoot y register
+  pub before : (r : ℕ) → IsRoot x r → IsRoot y r
+
+-- it is done with each register that holds a reference, and nothing else has changed
+pub record AllRooted (x y : DomainView) : Type 0 where
+  pub view : y ≡ with_roots x y
+  pub done : (r a : ℕ) → r < 16 → value_at y.own.registers r ≡ Ref a → IsRoot y r
+
+-- how far a scan is: one field further, and at so many fields
+abbrev pub field_on : Scan → Scan
+field_on (Reads block done size head) = Reads block (done + 1) size head
+field_on other = other
+
+abbrev pub fields_to : ℕ → Scan → Scan
+fields_to i (Reads block done size head) = Reads block i size head
+fields_to i other = other
+
+-- what a domain knows after fields were scanned, by what another knows: who has darkened a block owes a store of the changed word
+abbrev pub scanning : Share → Share → Scan → Bool → Share
+scanning s t scan won = record s { glimpse = t.glimpse; scan = scan; marked = t.marked; owes = cond won true s.owes }
+
+-- a domain in a phase in which blocks are marked knows the colours, and is at no block
+pub record Marks (colours : Colours) (x : DomainView) : Type 0 where
+  pub stage : x.seen.stage ≡ In Mark
+  pub known : x.seen.share.colours ≡ Some colours
+  pub idle : x.seen.share.scan ≡ Idle
+
+-- where a walk through a pool is when it has been at so many of its places: at the next one, or in the next pool
+abbrev pub spot_from : ℕ → ℕ → ℕ → Spot
+spot_from pool class seen = if nat_le (blocks_of class) seen then record { pool = pool + 1; slot = 0 } else record { pool = pool; slot = seen }
+
+-- the walk has come to a place, and the domain has darkened a block or not: then it owes a store of the changed word
+pub record Walked (walk : Spot) (won : Bool) (x y : DomainView) : Type 0 where
+  pub view : y ≡ with_share x (record x.seen.share { glimpse = y.seen.share.glimpse; marked = y.seen.share.marked; owes = cond won true x.seen.share.owes; sights = y.seen.share.sights; walk = walk; tenure = y.seen.share.tenure })
+
+-- the domain with what it knows of the colours, of blocks and of its places as another has it
+abbrev pub with_marks : DomainView → DomainView → DomainView
+with_marks x y = with_share x (record x.seen.share { colours = y.seen.share.colours; glimpse = y.seen.share.glimpse; marked = y.seen.share.marked; sights = y.seen.share.sights; walk = y.seen.share.walk; tenure = y.seen.share.tenure })
+
+-- the domain has been at each place of its own pools, and owes no store of the changed word. Nothing else has changed
+pub record AllWalked (k : Config) (x y : DomainView) : Type 0 where
+  pub view : y ≡ with_marks x y
+  pub walked : y.seen.share.walk ≡ record { pool = k.pools; slot = 0 }
+  pub told : y.seen.share.owes ≡ false
+
+-- an owner's word names none of the domain's classes, or one of them
+abbrev pub IsNotOf : ℕ → ℕ → Type 0
+IsNotOf d word = (class : ℕ) → class < class_count → word ≢ owner_word (owned d class)
+
+pub record IsOfClass (d word class : ℕ) : Type 0 where
+  pub below : class < class_count
+  pub is : word ≡ owner_word (owned d class)

@@ -1,0 +1,30 @@
+//! The marking of a block.
+ghost use Rattle.std.specs.Prelude.{◌≡◌};
+ghost use Rattle.heap_words.specs.ColourWords.{IsPermutation};
+ghost use Rattle.heap_rule.specs.Standing.{IsInHeap};
+ghost use Rattle.heap_rule.specs.Token.{IsIn};
+ghost use Rattle.steps_cycle.specs.Marking.{Reason};
+ghost use Rattle.mark_slices.specs.Shares.{Darkens, darkened};
+
+use crate::heads::darkened;
+use heap_rule::{Domain, Heap};
+use heap_words::Colours;
+use steps_cycle::{darken_exchange, glimpse_load};
+
+// Marks the block at `at`, for which there is a reason. Answers whether this domain has marked it,
+// and not another before.
+pub(crate) fn darken(heap: &Heap, dom: &mut Domain, at: u32, colours: Colours) -> bool
+    ghost reason: { Reason }
+    requires here { IsIn dom.old heap.now }
+    requires inside { IsInHeap heap.now.config at }
+    requires meanings { IsPermutation colours }
+    requires darkens { Darkens colours at reason dom.old.view }
+    ensures here { IsIn dom.new heap.now }
+    ensures darkened { dom.new.view ≡ darkened reason at result dom.old.view }
+{
+    let word = glimpse_load(heap, dom, at);
+    let Some(new) = darkened(word, colours) else {
+        return false;
+    };
+    darken_exchange(heap, dom, at, word, new) == word
+}

@@ -1,0 +1,15 @@
+//! A domain's share of the phases in which the blocks of the major heap are marked: it marks what its
+//! registers refer to, and scans the marked blocks of its own pools.
+//!
+//! No call takes a lock or memory ("Retrofitting Parallelism onto OCaml", section 3.2).
+#![tactic(auto)]
+
+mod darkening;
+mod heads;
+mod places;
+mod roots;
+mod rounds;
+mod scanning;
+
+pub use roots::start_roots;
+pub use rounds::mark_round;

@@ -1,0 +1,76 @@
+//! The marked blocks of one own pool.
+ghost use Rattle.std.specs.Prelude.{◌≡◌, ◌<◌, ◌+◌, Some};
+ghost use Rattle.heap_model.specs.Domains.{class_count};
+ghost use Rattle.heap_words.specs.ColourWords.{IsPermutation};
+ghost use Rattle.heap_rule.specs.Pools.{blocks_of};
+ghost use Rattle.heap_rule.specs.Token.{IsIn};
+ghost use Rattle.steps_cycle.specs.Marking.{Next, Site, behind};
+ghost use Rattle.mark_slices.specs.Shares.{Marks, Walked};
+
+use crate::heads::scan_of;
+use crate::scanning::scan_fields;
+use heap_rule::{Domain, Heap};
+use heap_words::Colours;
+use steps_cycle::{mark_load, scanned_store};
+use steps_pools::{class_blocks, place_address};
+
+// Looks at the next place of the walk, in an own pool, and scans the block there if it is grey. Answers
+// whether the domain has marked a block.
+fn mark_place(
+    heap: &Heap,
+    dom: &mut Domain,
+    pool: u32,
+    class: u32,
+    slot: u32,
+    colours: Colours,
+) -> bool
+    ghost site: { Site }
+    requires here { IsIn dom.old heap.now }
+    requires marks { Marks colours dom.old.view }
+    requires meanings { IsPermutation colours }
+    requires pool { pool < heap.now.config.pools }
+    requires class { class < class_count }
+    requires slot { slot < blocks_of class }
+    requires own { dom.old.view.seen.share.tenure ≡ Some (record { pool = pool; class = class }) }
+    requires next { dom.old.view.seen.share.walk ≡ record { pool = pool; slot = slot } }
+    requires site { site ≡ Next pool class slot }
+    ensures here { IsIn dom.new heap.now }
+    ensures walked { Walked (behind pool class slot) result dom.old.view dom.new.view }
+    ensures own { dom.new.view.seen.share.tenure ≡ dom.old.view.seen.share.tenure }
+{
+    let _limits = heap.config();
+    let at = place_address(pool, class, slot);
+    let word = mark_load(heap, dom, at, pool, class, slot);
+    let Some(block) = scan_of(word, colours) else {
+        return false;
+    };
+    let darkened = scan_fields(heap, dom, at, block.fields, colours);
+    scanned_store(heap, dom, at, block.scanned);
+    darkened
+}
+
+// The same at all places of the pool.
+pub(crate) fn mark_pool(
+    heap: &Heap,
+    dom: &mut Domain,
+    pool: u32,
+    class: u32,
+    colours: Colours,
+) -> bool
+    requires here { IsIn dom.old heap.now }
+    requires marks { Marks colours dom.old.view }
+    requires meanings { IsPermutation colours }
+    requires pool { pool < heap.now.config.pools }
+    requires class { class < class_count }
+    requires own { dom.old.view.seen.share.tenure ≡ Some (record { pool = pool; class = class }) }
+    requires next { dom.old.view.seen.share.walk ≡ record { pool = pool; slot = 0 } }
+    ensures here { IsIn dom.new heap.now }
+    ensures walked { Walked (record { pool = pool + 1; slot = 0 }) result dom.old.view dom.new.view }
+{
+    let _limits = heap.config();
+    let mut darkened = false;
+    for slot in 0..class_blocks(class) {
+        darkened |= mark_place(heap, dom, pool, class, slot, colours);
+    }
+    darkened
+}

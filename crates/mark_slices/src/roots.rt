@@ -1,0 +1,48 @@
+//! What the registers of a domain refer to is marked.
+ghost use Rattle.std.specs.Prelude.{◌≡◌, ◌<◌, Some};
+ghost use Rattle.heap_words.specs.ColourWords.{IsPermutation};
+ghost use Rattle.heap_rule.specs.declared.phase.Kind.TheVariants.{Roots};
+ghost use Rattle.heap_rule.specs.declared.phase.Stage.TheVariants.{In};
+ghost use Rattle.heap_rule.specs.Token.{IsIn};
+ghost use Rattle.steps_cycle.specs.Marking.{Reason, Register};
+ghost use Rattle.mark_slices.specs.Shares.{Rooted, AllRooted};
+
+use crate::darkening::darken;
+use heap_rule::{Domain, Heap};
+use heap_words::{Colours, Value};
+use steps_cycle::colours_now;
+
+// Marks the block that a register refers to, if it refers to one.
+fn mark_root(heap: &Heap, dom: &mut Domain, register: u8, colours: Colours)
+    ghost reason: { Reason }
+    requires here { IsIn dom.old heap.now }
+    requires stage { dom.old.view.seen.stage ≡ In Roots }
+    requires known { dom.old.view.seen.share.colours ≡ Some colours }
+    requires meanings { IsPermutation colours }
+    requires register { register < 16 }
+    requires names { reason ≡ Register register }
+    ensures here { IsIn dom.new heap.now }
+    ensures rooted { Rooted register dom.old.view dom.new.view }
+{
+    if let Value::Ref(at) = dom.register(register) {
+        darken(heap, dom, at, colours);
+    }
+}
+
+/// A domain's share of the phase with which a collection of the major heap begins: each block that one
+/// of its registers refers to is marked. Afterwards the domain is done with all these registers, as is
+/// asked of it where it arrives. What it knows of the colours and of blocks is all that has changed.
+///
+/// The registers are the roots here: a program of commands has no stack ("Retrofitting Parallelism
+/// onto OCaml", section 3.2).
+pub fn start_roots(heap: &Heap, dom: &mut Domain)
+    requires here { IsIn dom.old heap.now }
+    requires stage { dom.old.view.seen.stage ≡ In Roots }
+    ensures here { IsIn dom.new heap.now }
+    ensures rooted { AllRooted dom.old.view dom.new.view }
+{
+    let colours = colours_now(heap, dom);
+    for register in 0..16 {
+        mark_root(heap, dom, register, colours);
+    }
+}
