@@ -1,0 +1,4 @@
+pub mod Colours
+pub mod Sweepings
+pub mod Counts
+pub mod Looks
