@@ -1,12 +1,12 @@
 -- The colour in the word of a head.
-use Rattle.std.proofs.Common.{◌≡◌, ◌≢◌, ◌∙◌, ℕ, ◌+◌, ◌/◌, ◌%◌, ◌<◌, Bool, List, Some, IfSome, Option, refl, sym, ap, subst, arith}
+use Rattle.std.proofs.Common.{◌≡◌, ◌≢◌, ◌∙◌, ℕ, ◌/◌, ◌%◌, Bool, Some, IfSome, Option, refl, sym, ap, subst, arith}
 use Rattle.heap_model.specs.Fronts.{Shape, PlainShape, RawShape, EpheShape}
 use Rattle.heap_words.specs.declared.head.Head.{Head}
 use Rattle.heap_words.specs.declared.head.Head.TheVariants.{Plain, Ephe}
 use Rattle.heap_words.specs.Heads.{IsPackableHead, head_word}
 use Rattle.heap_words.specs.Unpacked.{Unpacks}
 use Rattle.heap_words.proofs.HeadLemmas.{block_word-colour, block_word-kind}
-use Rattle.heap_rule.specs.Places.{IsHeadOf, head_of}
+use Rattle.heap_rule.specs.Places.{IsHeadOf}
 use Rattle.steps_sweep.specs.Freeing.{IsColoured}
 
 -- a block's kind and colour stand in its head

@@ -1,17 +1,18 @@
 -- Steps of sweeping one behind the other.
-use Rattle.std.proofs.Common.{◌≡◌, ◌≢◌, ◌∙◌, ℕ, zero, suc, ◌+◌, ◌<◌, ◌≤◌, ◌⊎◌, List, [], ◌∷◌, ◌++◌, set, get_or, Some, None, Option, refl, ap, sym, subst, inl, inr, ⊎_elim, arith}
+use Rattle.std.proofs.Common.{◌≡◌, ◌∙◌, ℕ, zero, suc, ◌<◌, ◌⊎◌, List, [], ◌∷◌, ◌++◌, set, get_or, Some, Option, refl, ap, sym, subst, inl, inr, ⊎_elim, arith}
+use Rattle.std.proofs.lemmas.List.Elements.{All-append, All-push}
+use Rattle.heap_model.specs.Domains.{class_count}
 use Rattle.heap_words.specs.declared.colours.Colours.{Colours}
-use Rattle.heap_words.specs.ColourWords.{IsPermutation}
 use Rattle.heap_rule.specs.declared.config.Config.{Config}
 use Rattle.heap_rule.specs.declared.view.DomainView.{DomainView}
 use Rattle.heap_rule.specs.declared.view.Spot.{Spot}
 use Rattle.heap_rule.specs.declared.view.Tenure.{Tenure}
-use Rattle.heap_rule.specs.Pools.{blocks_of, place_in, spot_at}
-use Rattle.steps_cycle.specs.Looks.{with_share, knowing_colours}
-use Rattle.steps_cycle.specs.Marking.{IsNext, behind}
-use Rattle.steps_sweep.specs.Freeing.{IsColoured, SweepMay, SweepTold, FreeMay, FreeTold, freed, passed}
-use Rattle.sweeper.specs.Sweeping.{IsSweeping, LooksAgain, LeavesNone, Sweeps, SweptPlace, SweptPool, Visited, with_sweep}
-use Rattle.sweeper.specs.Walks.{all_places, places_of}
+use Rattle.heap_rule.specs.Pools.{blocks_of, place_in}
+use Rattle.steps_cycle.specs.Looks.{with_share}
+use Rattle.steps_cycle.specs.Marking.{IsNext}
+use Rattle.steps_sweep.specs.Freeing.{IsColoured, SweepTold, FreeMay, FreeTold, freed, passed}
+use Rattle.sweeper.specs.Sweeping.{IsSweeping, LooksAgain, Sweeps, SweptPlace, Visited, with_sweep}
+use Rattle.sweeper.specs.Walks.{IsPool, all_places, places_of}
 use Rattle.sweeper.proofs.Colours.{no_colour, one_colour}
 
 -- an item of a list of which one was set
@@ -89,9 +90,9 @@ all_both : (later earlier : List Tenure) (rest : List ℕ) → all_places later 
 all_both [] earlier rest = refl
 all_both (t ∷ ts) earlier rest = ap (places_of t.pool t.class (blocks_of t.class)) (all_both ts earlier rest)
 
-pub visited_twice : (x y z : DomainView) → Visited x y → Visited y z → Visited x z
-visited_twice x y z a b = record { own = b.own ++ a.own; sights = b.sights ∙ (ap (all_places b.own) a.sights ∙ all_both b.own a.own x.seen.share.sights) }
+pub visited_twice : (k : Config) (x y z : DomainView) → Visited k x y → Visited k y z → Visited k x z
+visited_twice k x y z a b = record { own = b.own ++ a.own; real = All-append (IsPool k) b.own a.own b.real a.real; sights = b.sights ∙ (ap (all_places b.own) a.sights ∙ all_both b.own a.own x.seen.share.sights) }
 
 -- all places of one pool
-pub visited_pool : (pool class n : ℕ) (x y : DomainView) → n ≡ blocks_of class → y.seen.share.sights ≡ places_of pool class n x.seen.share.sights → Visited x y
-visited_pool pool class n x y all e = record { own = record { pool = pool; class = class } ∷ []; sights = e ∙ ap (λ (m : ℕ). places_of pool class m x.seen.share.sights) all }
+pub visited_pool : (k : Config) (pool class n : ℕ) (x y : DomainView) → pool < k.pools → class < class_count → n ≡ blocks_of class → y.seen.share.sights ≡ places_of pool class n x.seen.share.sights → Visited k x y
+visited_pool k pool class n x y inside few all e = record { own = record { pool = pool; class = class } ∷ []; real = All-push (IsPool k) [] (record { pool = pool; class = class }) (λ i d below. absurd (omega arith)) (inside, few); sights = e ∙ ap (λ (m : ℕ). places_of pool class m x.seen.share.sights) all }

@@ -60,7 +60,12 @@ pub record CountedAll (k : Config) (x y : DomainView) : Type 0 where
   pub view : y ≡ with_count x y
   pub whole : k.pools ≤ y.seen.share.tallied.pool
 
--- and has added how many blocks that is, and how many words these have
+-- the domain with what it has counted added to the live words
+abbrev pub adding : DomainView → DomainView
+adding x = record x { seen = record x.seen { share = record x.seen.share { added_blocks = true; added_words = true } } }
+
+-- and has added how many blocks that is and how many words these have, each once
 pub record Counted (k : Config) (x y : DomainView) : Type 0 where
-  pub view : y ≡ record (with_count x y) { seen = record (with_count x y).seen { share = record (with_count x y).seen.share { added_blocks = true; added_words = true } } }
+  pub view : y ≡ adding (with_count x y)
   pub whole : k.pools ≤ y.seen.share.tallied.pool
+  pub added : (y.seen.share.added_blocks ≡ true) × (y.seen.share.added_words ≡ true)

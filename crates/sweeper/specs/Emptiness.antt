@@ -11,7 +11,7 @@ abbrev pub with_looks : DomainView → DomainView → DomainView
 with_looks x y = record x { seen = record x.seen { share = record x.seen.share { tenure = y.seen.share.tenure; held = y.seen.share.held } } }
 
 -- in Answer, the next pool is the domain's own
-pub record IsAtPool (x : DomainView) (pool class : ℕ) : Type 0 where
+pub record LooksIn (x : DomainView) (pool class : ℕ) : Type 0 where
   pub stage : x.seen.stage ≡ In Answer
   pub own : x.seen.share.tenure ≡ Some (record { pool = pool; class = class })
   pub next : x.seen.share.held ≡ pool

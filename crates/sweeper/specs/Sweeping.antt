@@ -1,6 +1,5 @@
 -- What a domain has done that has swept own pools.
-use Rattle.std.specs.Prelude.{◌≡◌, ℕ, ◌+◌, ◌<◌, ◌≤◌, ◌⊎◌, List, ◌∷◌, Some, None}
-use Rattle.heap_model.specs.Domains.{class_count}
+use Rattle.std.specs.Prelude.{All, ◌≡◌, ℕ, ◌+◌, ◌≤◌, ◌⊎◌, List, ◌∷◌, Some, None}
 use Rattle.heap_words.specs.declared.colours.Colours.{Colours}
 use Rattle.heap_words.specs.ColourWords.{IsPermutation}
 use Rattle.heap_rule.specs.declared.config.Config.{Config}
@@ -8,9 +7,9 @@ use Rattle.heap_rule.specs.declared.phase.Kind.TheVariants.{Sweep}
 use Rattle.heap_rule.specs.declared.phase.Stage.TheVariants.{In}
 use Rattle.heap_rule.specs.declared.view.DomainView.{DomainView}
 use Rattle.heap_rule.specs.declared.view.Tenure.{Tenure}
-use Rattle.heap_rule.specs.Pools.{blocks_of, place_in, spot_at}
+use Rattle.heap_rule.specs.Pools.{place_in, spot_at}
 use Rattle.steps_cycle.specs.Marking.{behind}
-use Rattle.sweeper.specs.Walks.{all_places}
+use Rattle.sweeper.specs.Walks.{IsPool, all_places}
 
 -- in Sweep, and knowing the colours
 pub record IsSweeping (colours : Colours) (x : DomainView) : Type 0 where
@@ -18,8 +17,8 @@ pub record IsSweeping (colours : Colours) (x : DomainView) : Type 0 where
   pub known : x.seen.share.colours ≡ Some colours
   pub meanings : IsPermutation colours
 
--- the next place is the first of a pool, which is the domain's own
-pub record IsIn (x : DomainView) (pool class : ℕ) : Type 0 where
+-- the next place to be swept is the first of a pool, which is the domain's own
+pub record SweepsIn (x : DomainView) (pool class : ℕ) : Type 0 where
   pub own : x.seen.share.tenure ≡ Some (record { pool = pool; class = class })
   pub next : x.seen.share.walk ≡ record { pool = pool; slot = 0 }
 
@@ -53,15 +52,16 @@ pub record SweptPlace (pool class slot : ℕ) (x y : DomainView) : Type 0 where
   pub sights : y.seen.share.sights ≡ place_in pool class slot ∷ x.seen.share.sights
 
 -- it has been at all places of some own pools, and at no others
-pub record Visited (x y : DomainView) : Type 0 where
+pub record Visited (k : Config) (x y : DomainView) : Type 0 where
   pub own : List Tenure
+  pub real : All (IsPool k) own
   pub sights : y.seen.share.sights ≡ all_places own x.seen.share.sights
 
 -- it is done with a pool
-pub record SweptPool (pool : ℕ) (x y : DomainView) : Type 0 where
+pub record SweptPool (k : Config) (pool : ℕ) (x y : DomainView) : Type 0 where
   pub sweeps : Sweeps x y
   pub walk : y.seen.share.walk ≡ record { pool = pool + 1; slot = 0 }
-  pub visited : Visited x y
+  pub visited : Visited k x y
 
 -- it is done with all pools
 pub record Swept (k : Config) (x y : DomainView) : Type 0 where
@@ -69,4 +69,4 @@ pub record Swept (k : Config) (x y : DomainView) : Type 0 where
   pub looked : LooksAgain x y
   pub idle : LeavesNone x y
   pub walked : k.pools ≤ y.seen.share.walk.pool
-  pub visited : Visited x y
+  pub visited : Visited k x y

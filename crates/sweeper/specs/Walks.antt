@@ -1,7 +1,13 @@
 -- Places of pools, as a walk comes to them.
-use Rattle.std.specs.Prelude.{ℕ, zero, suc, List, [], ◌∷◌}
+use Rattle.std.specs.Prelude.{ℕ, zero, suc, ◌<◌, List, [], ◌∷◌}
+use Rattle.heap_model.specs.Domains.{class_count}
+use Rattle.heap_rule.specs.declared.config.Config.{Config}
 use Rattle.heap_rule.specs.declared.view.Tenure.{Tenure}
 use Rattle.heap_rule.specs.Pools.{blocks_of, place_in}
+
+-- a pool of the heap, for blocks of a class
+abbrev pub IsPool : Config → Tenure → Type 0
+IsPool k t = (t.pool < k.pools) × (t.class < class_count)
 
 -- the first places of a pool, before others in a list
 abbrev pub places_of : ℕ → ℕ → ℕ → List ℕ → List ℕ

@@ -4,7 +4,7 @@ ghost use Rattle.heap_model.specs.Domains.{class_count};
 ghost use Rattle.heap_rule.specs.declared.phase.Kind.TheVariants.{Answer};
 ghost use Rattle.heap_rule.specs.declared.phase.Stage.TheVariants.{In};
 ghost use Rattle.heap_rule.specs.Token.{IsIn};
-ghost use Rattle.sweeper.specs.Emptiness.{IsAtPool, HasPassed, FoundEmpty, with_looks};
+ghost use Rattle.sweeper.specs.Emptiness.{LooksIn, HasPassed, FoundEmpty, with_looks};
 
 use crate::owners::{OWNERS, own_class};
 use heap_rule::{Domain, Heap};
@@ -16,7 +16,7 @@ fn holds_block(heap: &Heap, dom: &mut Domain, pool: u32, class: u32) -> bool
     requires here { IsIn dom.old heap.now }
     requires inside { pool < heap.now.config.pools }
     requires class { class < class_count }
-    requires next { IsAtPool dom.old.view pool class }
+    requires next { LooksIn dom.old.view pool class }
     ensures here { IsIn dom.new heap.now }
     ensures holds { result ≡ true → HasPassed pool dom.old.view dom.new.view }
     ensures none { result ≡ false → dom.new.view ≡ dom.old.view }

@@ -6,7 +6,7 @@ ghost use Rattle.heap_rule.specs.declared.phase.Stage.TheVariants.{In};
 ghost use Rattle.heap_rule.specs.Pools.{blocks_of, place_in};
 ghost use Rattle.heap_rule.specs.Token.{IsIn};
 ghost use Rattle.steps_cycle.specs.Marking.{IsNext};
-ghost use Rattle.sweeper.specs.Sweeping.{IsSweeping, IsIn as IsInPool, SweptPlace, SweptPool, Swept};
+ghost use Rattle.sweeper.specs.Sweeping.{IsSweeping, SweepsIn, SweptPlace, SweptPool, Swept};
 
 use crate::owners::{OWNERS, own_class};
 use crate::words::has_colour;
@@ -40,9 +40,9 @@ fn sweep_places(heap: &Heap, dom: &mut Domain, pool: u32, class: u32, colours: &
     requires inside { pool < heap.now.config.pools }
     requires class { class < class_count }
     requires sweeps { IsSweeping colours.now dom.old.view }
-    requires next { IsInPool dom.old.view pool class }
+    requires next { SweepsIn dom.old.view pool class }
     ensures here { IsIn dom.new heap.now }
-    ensures swept { SweptPool pool dom.old.view dom.new.view }
+    ensures swept { SweptPool heap.now.config pool dom.old.view dom.new.view }
 {
     for slot in 0..class_blocks(class) {
         sweep_place(heap, dom, pool, class, slot, colours);
@@ -56,7 +56,7 @@ fn sweep_pool(heap: &Heap, dom: &mut Domain, pool: u32, colours: &Colours)
     requires sweeps { IsSweeping colours.now dom.old.view }
     requires next { dom.old.view.seen.share.walk ≡ record { pool = pool; slot = 0 } }
     ensures here { IsIn dom.new heap.now }
-    ensures swept { SweptPool pool dom.old.view dom.new.view }
+    ensures swept { SweptPool heap.now.config pool dom.old.view dom.new.view }
 {
     let at = OWNERS + heap.config().pools + pool;
     let word = own_load(heap, dom, at, pool);

@@ -9,5 +9,5 @@ loop-pool-preserved c = let s = c.sweep_pool.ensures.swept in record {
   idle = λ e. s.sweeps.idle (c.loop-pool.invariant.idle e);
   sweeps = sweeping_on c.colours_now-colours.result c.loop-pool.dom.view c.sweep_pool.new.dom.view s.sweeps c.loop-pool.invariant.sweeps;
   next = s.walk;
-  visited = visited_twice c.args.dom.now.view c.loop-pool.dom.view c.sweep_pool.new.dom.view c.loop-pool.invariant.visited s.visited;
+  visited = visited_twice c.args.heap.now.config c.args.dom.now.view c.loop-pool.dom.view c.sweep_pool.new.dom.view c.loop-pool.invariant.visited s.visited;
 }

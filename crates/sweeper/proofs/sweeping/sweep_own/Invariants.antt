@@ -11,5 +11,5 @@ invariant-loop-pool l = record {
   idle : LeavesNone l.fn.dom.view l.dom.view;
   sweeps : IsSweeping l.colours l.dom.view;
   next : l.dom.view.seen.share.walk ≡ record { pool = l.pool; slot = 0 };
-  visited : Visited l.fn.dom.view l.dom.view;
+  visited : Visited l.heap.config l.fn.dom.view l.dom.view;
 }

@@ -1,4 +1,4 @@
-use Rattle.sweeper.proofs.Sweepings.{free_ready, swept_freed, swept_clean}
+use Rattle.sweeper.proofs.Sweepings.{free_ready}
 use Rattle.sweeper.proofs.sweeping.sweep_place.Goals as goal
 
 pub free_store-requires-clause-may : goal.free_store-requires-clause-may

@@ -1,4 +1,4 @@
-use Rattle.std.proofs.Common.{◌≡◌, ◌∙◌, ℕ, Some, ap, sym, subst}
+use Rattle.std.proofs.Common.{◌∙◌, ℕ, Some, ap, subst}
 use Rattle.std.proofs.lemmas.Bool.{eqb-true, eq-eqb}
 use Rattle.heap_words.specs.declared.head.Head.{Head}
 use Rattle.steps_sweep.specs.Freeing.{IsColoured}
