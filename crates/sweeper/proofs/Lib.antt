@@ -1,4 +1,2 @@
 pub mod Colours
 pub mod Sweepings
-pub mod Counts
-pub mod Looks

@@ -1,5 +1,5 @@
 //! The walk, where a collection is answered, by which a domain finds that its pools hold blocks.
-ghost use Rattle.std.specs.Prelude.{◌≡◌, ◌+◌, ◌<◌, ◌≤◌, true, false, MatchOption};
+ghost use Rattle.std.specs.Prelude.{◌≡◌, ◌<◌, ◌≤◌, true, false, MatchOption};
 ghost use Rattle.heap_model.specs.Domains.{class_count};
 ghost use Rattle.heap_rule.specs.declared.phase.Kind.TheVariants.{Answer};
 ghost use Rattle.heap_rule.specs.declared.phase.Stage.TheVariants.{In};

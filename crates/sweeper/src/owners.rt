@@ -1,5 +1,5 @@
 //! Who owns a pool.
-ghost use Rattle.std.specs.Prelude.{◌≢◌, ◌≡◌, ◌+◌, ◌*◌, ◌<◌, ℕ, MatchOption};
+ghost use Rattle.std.specs.Prelude.{◌≢◌, ◌≡◌, ◌<◌, ℕ, MatchOption};
 ghost use Rattle.heap_model.specs.Domains.{class_count};
 ghost use Rattle.heap_rule.specs.Pools.{owned, owner_word as word_of};
 

@@ -3,7 +3,7 @@ ghost use Rattle.std.specs.Prelude.{◌≡◌, ◌<◌};
 ghost use Rattle.heap_model.specs.Domains.{class_count};
 ghost use Rattle.heap_rule.specs.declared.phase.Kind.TheVariants.{Sweep};
 ghost use Rattle.heap_rule.specs.declared.phase.Stage.TheVariants.{In};
-ghost use Rattle.heap_rule.specs.Pools.{blocks_of, place_in};
+ghost use Rattle.heap_rule.specs.Pools.{place_in};
 ghost use Rattle.heap_rule.specs.Token.{IsIn};
 ghost use Rattle.steps_cycle.specs.Marking.{IsNext};
 ghost use Rattle.sweeper.specs.Sweeping.{IsSweeping, SweepsIn, SweptPlace, SweptPool, Swept};

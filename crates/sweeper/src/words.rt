@@ -1,5 +1,5 @@
 //! What the word of a head says of its block.
-ghost use Rattle.std.specs.Prelude.{◌≡◌, ◌↔◌, ◌<◌, ◌≤◌, true};
+ghost use Rattle.std.specs.Prelude.{◌≡◌, ◌↔◌, ◌≤◌, true};
 ghost use Rattle.heap_model.specs.Fronts.{Shape};
 ghost use Rattle.heap_rule.specs.Places.{extent, IsHeadOf};
 ghost use Rattle.steps_sweep.specs.Freeing.{IsColoured};
