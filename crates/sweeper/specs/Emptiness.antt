@@ -1,5 +1,5 @@
 -- What a domain knows that has looked whether its pools hold blocks.
-use Rattle.std.specs.Prelude.{◌≡◌, ℕ, ◌+◌, ◌<◌, Some}
+use Rattle.std.specs.Prelude.{◌≡◌, ℕ, ◌<◌, Some}
 use Rattle.heap_model.specs.Domains.{class_count}
 use Rattle.heap_rule.specs.declared.config.Config.{Config}
 use Rattle.heap_rule.specs.declared.phase.Kind.TheVariants.{Answer}
@@ -16,14 +16,8 @@ pub record LooksIn (x : DomainView) (pool class : ℕ) : Type 0 where
   pub own : x.seen.share.tenure ≡ Some (record { pool = pool; class = class })
   pub next : x.seen.share.held ≡ pool
 
--- the pool isn't the domain's, or it holds a block: the next one is behind it
-pub record HasPassed (pool : ℕ) (x y : DomainView) : Type 0 where
-  pub view : y ≡ with_looks x y
-  pub next : y.seen.share.held ≡ pool + 1
-
--- the domain has come to a pool of its own, and not past it: it found no block there
-pub record FoundEmpty (k : Config) (pool : ℕ) (x y : DomainView) : Type 0 where
-  pub view : y ≡ with_looks x y
+-- the domain has come to a pool of its own, and not past it, since it found no block there
+pub record FoundEmpty (k : Config) (pool : ℕ) (y : DomainView) : Type 0 where
   pub inside : pool < k.pools
   pub class : ℕ
   pub few : class < class_count

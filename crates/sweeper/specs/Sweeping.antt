@@ -11,7 +11,7 @@ use Rattle.heap_rule.specs.Pools.{place_in, spot_at}
 use Rattle.steps_cycle.specs.Marking.{behind}
 use Rattle.sweeper.specs.Walks.{IsPool, all_places}
 
--- in Sweep, and knowing the colours
+-- the domain is in Sweep, and knows these colours
 pub record IsSweeping (colours : Colours) (x : DomainView) : Type 0 where
   pub stage : x.seen.stage ≡ In Sweep
   pub known : x.seen.share.colours ≡ Some colours
@@ -29,11 +29,11 @@ with_sweep x y = record x {
   seen = record x.seen { share = record x.seen.share { colours = y.seen.share.colours; sights = y.seen.share.sights; glimpse = y.seen.share.glimpse; walk = y.seen.share.walk; tenure = y.seen.share.tenure } };
 }
 
--- of each class its own places may be free from the same place on as before, or any of them
+-- the next search for a free place of a class begins where it would have begun before, or at the first pool
 abbrev pub LooksAgain : DomainView → DomainView → Type 0
 LooksAgain x y = (class : ℕ) → (spot_at y.own.looked class ≡ spot_at x.own.looked class) ⊎ (spot_at y.own.looked class ≡ record { pool = 0; slot = 0 })
 
--- no head of garbage waits to be freed that didn't before
+-- where no head of garbage waited to be freed, none does
 abbrev pub LeavesNone : DomainView → DomainView → Type 0
 LeavesNone x y = x.seen.share.glimpse ≡ None → y.seen.share.glimpse ≡ None
 
@@ -51,7 +51,7 @@ pub record SweptPlace (pool class slot : ℕ) (x y : DomainView) : Type 0 where
   pub walk : y.seen.share.walk ≡ behind pool class slot
   pub sights : y.seen.share.sights ≡ place_in pool class slot ∷ x.seen.share.sights
 
--- it has been at all places of some own pools, and at no others
+-- it has been at all places of these pools, its own, and at no others
 pub record Visited (k : Config) (x y : DomainView) : Type 0 where
   pub own : List Tenure
   pub real : All (IsPool k) own

@@ -1,10 +1,10 @@
 //! The walk, where a collection is answered, by which a domain finds that its pools hold blocks.
-ghost use Rattle.std.specs.Prelude.{◌≡◌, ◌<◌, ◌≤◌, true, false, MatchOption};
+ghost use Rattle.std.specs.Prelude.{◌≡◌, ◌+◌, ◌<◌, ◌≤◌, true, false, MatchOption};
 ghost use Rattle.heap_model.specs.Domains.{class_count};
 ghost use Rattle.heap_rule.specs.declared.phase.Kind.TheVariants.{Answer};
 ghost use Rattle.heap_rule.specs.declared.phase.Stage.TheVariants.{In};
 ghost use Rattle.heap_rule.specs.Token.{IsIn};
-ghost use Rattle.sweeper.specs.Emptiness.{LooksIn, HasPassed, FoundEmpty, with_looks};
+ghost use Rattle.sweeper.specs.Emptiness.{LooksIn, FoundEmpty, with_looks};
 
 use crate::owners::{OWNERS, own_class};
 use heap_rule::{Domain, Heap};
@@ -18,7 +18,8 @@ fn holds_block(heap: &Heap, dom: &mut Domain, pool: u32, class: u32) -> bool
     requires class { class < class_count }
     requires next { LooksIn dom.old.view pool class }
     ensures here { IsIn dom.new heap.now }
-    ensures holds { result ≡ true → HasPassed pool dom.old.view dom.new.view }
+    ensures same { dom.new.view ≡ with_looks dom.old.view dom.new.view }
+    ensures holds { result ≡ true → dom.new.view.seen.share.held ≡ pool + 1 }
     ensures none { result ≡ false → dom.new.view ≡ dom.old.view }
 {
     let _limits = heap.config();
@@ -38,8 +39,9 @@ fn passes(heap: &Heap, dom: &mut Domain, pool: u32) -> bool
     requires stage { dom.old.view.seen.stage ≡ In Answer }
     requires next { dom.old.view.seen.share.held ≡ pool }
     ensures here { IsIn dom.new heap.now }
-    ensures passed { result ≡ true → HasPassed pool dom.old.view dom.new.view }
-    ensures empty { result ≡ false → FoundEmpty heap.now.config pool dom.old.view dom.new.view }
+    ensures same { dom.new.view ≡ with_looks dom.old.view dom.new.view }
+    ensures passed { result ≡ true → dom.new.view.seen.share.held ≡ pool + 1 }
+    ensures empty { result ≡ false → FoundEmpty heap.now.config pool dom.new.view }
 {
     let at = OWNERS + heap.config().pools + pool;
     let word = held_own_load(heap, dom, at, pool);
@@ -58,7 +60,7 @@ pub fn find_empty(heap: &Heap, dom: &mut Domain) -> Option<u32>
     requires first { dom.old.view.seen.share.held ≡ 0 }
     ensures here { IsIn dom.new heap.now }
     ensures same { dom.new.view ≡ with_looks dom.old.view dom.new.view }
-    ensures held { MatchOption result (heap.now.config.pools ≤ dom.new.view.seen.share.held) (λ pool. FoundEmpty heap.now.config pool dom.old.view dom.new.view) }
+    ensures held { MatchOption result (heap.now.config.pools ≤ dom.new.view.seen.share.held) (λ pool. FoundEmpty heap.now.config pool dom.new.view) }
 {
     let pools = heap.config().pools;
     for pool in 0..pools {
