@@ -1,0 +1,71 @@
+-- What a domain has done that has counted what lives in its own pools.
+use Rattle.std.specs.Prelude.{◌≡◌, ℕ, ◌+◌, ◌*◌, ◌<◌, ◌≤◌, true, false, [], length, Some}
+use Rattle.heap_rule.specs.declared.config.Config.{Config}
+use Rattle.heap_rule.specs.declared.phase.Kind.TheVariants.{Sweep}
+use Rattle.heap_rule.specs.declared.phase.Stage.TheVariants.{In}
+use Rattle.heap_rule.specs.declared.view.DomainView.{DomainView}
+use Rattle.heap_rule.specs.Pools.{blocks_of}
+use Rattle.steps_cycle.specs.Marking.{behind}
+use Rattle.sweeper.specs.declared.counting.Tally.{Tally}
+
+-- in Sweep, the domain has swept its pools, and adds nothing yet
+pub record IsCounting (k : Config) (x : DomainView) : Type 0 where
+  pub stage : x.seen.stage ≡ In Sweep
+  pub swept : k.pools ≤ x.seen.share.walk.pool
+  pub not_yet : x.seen.share.added_blocks ≡ false
+
+-- it has counted nothing in this phase
+pub record HasCountedNothing (x : DomainView) : Type 0 where
+  pub blocks : x.seen.share.tally ≡ []
+  pub words : x.seen.share.tally_words ≡ 0
+  pub next : x.seen.share.tallied ≡ record { pool = 0; slot = 0 }
+  pub blocks_not_added : x.seen.share.added_blocks ≡ false
+  pub words_not_added : x.seen.share.added_words ≡ false
+
+-- these are the sums of what it has counted, at so many places at most
+pub record IsTally (t : Tally) (places : ℕ) (x : DomainView) : Type 0 where
+  pub blocks : t.blocks ≡ length x.seen.share.tally
+  pub words : t.words ≡ x.seen.share.tally_words
+  pub few : t.blocks ≤ places
+  pub light : t.words ≤ places * 1024
+
+-- the next place to be counted is this one, in an own pool
+pub record CountsAt (x : DomainView) (pool class slot : ℕ) : Type 0 where
+  pub own : x.seen.share.tenure ≡ Some (record { pool = pool; class = class })
+  pub inside : slot < blocks_of class
+  pub next : x.seen.share.tallied ≡ record { pool = pool; slot = slot }
+
+-- it is the first of an own pool
+pub record CountsIn (x : DomainView) (pool class : ℕ) : Type 0 where
+  pub own : x.seen.share.tenure ≡ Some (record { pool = pool; class = class })
+  pub next : x.seen.share.tallied ≡ record { pool = pool; slot = 0 }
+
+-- the domain with what counting changes as another has it
+abbrev pub with_count : DomainView → DomainView → DomainView
+with_count x y = record x { seen = record x.seen { share = record x.seen.share { tenure = y.seen.share.tenure; tally = y.seen.share.tally; tallied = y.seen.share.tallied; tally_words = y.seen.share.tally_words } } }
+
+-- it has counted what lives at a place
+pub record CountedPlace (pool class slot : ℕ) (x y : DomainView) : Type 0 where
+  pub view : y ≡ with_count x y
+  pub tenure : y.seen.share.tenure ≡ x.seen.share.tenure
+  pub next : y.seen.share.tallied ≡ behind pool class slot
+
+-- in a pool
+pub record CountedPool (pool : ℕ) (x y : DomainView) : Type 0 where
+  pub view : y ≡ with_count x y
+  pub next : y.seen.share.tallied ≡ record { pool = pool + 1; slot = 0 }
+
+-- in all pools
+pub record CountedAll (k : Config) (x y : DomainView) : Type 0 where
+  pub view : y ≡ with_count x y
+  pub whole : k.pools ≤ y.seen.share.tallied.pool
+
+-- the domain with what it has counted added to the live words
+abbrev pub adding : DomainView → DomainView
+adding x = record x { seen = record x.seen { share = record x.seen.share { added_blocks = true; added_words = true } } }
+
+-- and has added how many blocks that is and how many words these have, each once
+pub record Counted (k : Config) (x y : DomainView) : Type 0 where
+  pub view : y ≡ adding (with_count x y)
+  pub whole : k.pools ≤ y.seen.share.tallied.pool
+  pub added : (y.seen.share.added_blocks ≡ true) × (y.seen.share.added_words ≡ true)

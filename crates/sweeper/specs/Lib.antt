@@ -1,0 +1,4 @@
+pub mod Walks
+pub mod Sweeping
+pub mod Counting
+pub mod Emptiness

@@ -1,0 +1,16 @@
+//! A domain's share of the end of a collection of the major heap: what is garbage in its own pools is
+//! freed, and what lives there is counted.
+//!
+//! Each domain sweeps its own pools, with no lock and no memory ("Retrofitting Parallelism onto
+//! OCaml", section 3.2).
+#![tactic(auto)]
+
+mod counting;
+mod holding;
+mod owners;
+mod sweeping;
+mod words;
+
+pub use counting::count_own;
+pub use holding::find_empty;
+pub use sweeping::sweep_own;
