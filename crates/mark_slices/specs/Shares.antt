@@ -100,7 +100,7 @@ pub record Marks (colours : Colours) (x : DomainView) : Type 0 where
 abbrev pub spot_from : ℕ → ℕ → ℕ → Spot
 spot_from pool class seen = if nat_le (blocks_of class) seen then record { pool = pool + 1; slot = 0 } else record { pool = pool; slot = seen }
 
--- the walk has come to a place, and the domain has darkened a block or not: then it owes a store of the changed word
+-- the walk has come to a place. Where the domain has darkened a block it owes a store of the changed word
 pub record Walked (walk : Spot) (won : Bool) (x y : DomainView) : Type 0 where
   pub view : y ≡ with_share x (record x.seen.share { glimpse = y.seen.share.glimpse; marked = y.seen.share.marked; owes = cond won true x.seen.share.owes; sights = y.seen.share.sights; walk = walk; tenure = y.seen.share.tenure })
 

@@ -27,7 +27,6 @@ fn follow(heap: &Heap, dom: &mut Domain, at: u32, colours: Colours, hints: &mut 
     ensures noted { Noted heap.now.config dom.new.view.seen.share.marked hints.new.items }
     ensures long { IsAsLong hints.old hints.new }
 {
-    let _limits = heap.config();
     let word = grey_load(heap, dom, at);
     let Some(block) = scan_of(word, colours) else {
         return false;

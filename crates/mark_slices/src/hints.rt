@@ -8,8 +8,9 @@ use heap_rule::Config;
 use remembered_set::BoundedList;
 use size_classes::POOL_WORDS;
 
-/// The addresses of blocks that a domain has darkened and not yet looked at again. Where there is no
-/// room for one more the address is let go: the block is grey, and a later walk finds it.
+/// The addresses of blocks that a domain has darkened and not yet looked at again. `Hints::make` takes
+/// all their memory. Where there is no room for one more the address is let go: the block stays grey, and
+/// a later walk finds it.
 pub type Hints = BoundedList<u32>;
 
 // Notes a block that was darkened, if there is room and it lies in a pool.

@@ -75,7 +75,6 @@ pub(crate) fn mark_pool(
     ensures none { hints.new.items ≡ [] }
     ensures long { IsAsLong hints.old hints.new }
 {
-    let _limits = heap.config();
     let mut darkened = false;
     for slot in 0..class_blocks(class) {
         darkened |= mark_place(heap, dom, pool, class, slot, colours, hints);

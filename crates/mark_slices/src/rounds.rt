@@ -54,12 +54,14 @@ fn visit_pool(heap: &Heap, dom: &mut Domain, pool: u32, colours: Colours, hints:
 }
 
 /// A domain's share of a phase in which blocks are marked: it looks at each place of its own pools once,
-/// in order, and scans each grey block that it finds there: what the block's fields refer to is marked,
-/// whosever pool it lies in, and then the block's head says that it is scanned. The blocks that it has
-/// marked itself it scans at once, as far as `hints` has room. Where the domain has
-/// marked a block it says so in the changed word, since whoever has that block may have passed its
+/// in order, and scans each grey block that it finds there. What the block's fields refer to is marked,
+/// whosever pool it lies in, and then the block's head says that it is scanned. Where the domain has
+/// marked a block it stores so in the changed word, since whoever has that block may have passed its
 /// place. Afterwards it has been at each own place and owes no store of the changed word, as is asked of
 /// it where it arrives. What it knows of the colours and of blocks is all that has changed.
+///
+/// Behind each place the blocks that it has marked itself are scanned at once, wherever they lie, as far
+/// as `hints` has room. What is let go for want of room a later walk finds.
 ///
 /// Domains mark in parallel, and go on until a whole phase changes nothing ("Retrofitting Parallelism
 /// onto OCaml", section 3.2).
