@@ -2,18 +2,19 @@
 use Rattle.std.proofs.Common.{◌≡◌, ℕ, ◌+◌, ◌<◌, Bool, Some, sym, refl, ap, subst, ◌∙◌}
 use Rattle.heap_words.specs.declared.colours.Colours.{Colours}
 use Rattle.heap_words.specs.declared.value.Value.{Value}
-use Rattle.heap_words.specs.declared.value.Value.TheVariants.{Ref}
+use Rattle.heap_words.specs.declared.value.Value.TheVariants.{Int, Ref, Nothing}
 use Rattle.heap_words.specs.Values.{IsPackable, value_word}
 use Rattle.heap_words.proofs.WordLemmas.{value_word-injective}
 use Rattle.heap_rule.specs.declared.config.Config.{Config}
 use Rattle.heap_rule.specs.declared.phase.Kind.TheVariants.{Mark}
 use Rattle.heap_rule.specs.declared.phase.Stage.TheVariants.{In}
 use Rattle.heap_rule.specs.declared.view.DomainView.{DomainView}
+use Rattle.heap_rule.specs.declared.view.Scan.{Scan}
 use Rattle.heap_rule.specs.declared.view.Scan.TheVariants.{Holds, Reads}
 use Rattle.heap_rule.specs.Token.{IsAddress}
 use Rattle.steps_cycle.specs.Looks.{with_share}
 use Rattle.steps_cycle.specs.Marking.{Field, ScanMay, ScanTold, scanned_on}
-use Rattle.mark_slices.specs.Shares.{Darkens, fields_to, scanning}
+use Rattle.mark_slices.specs.Shares.{Darkens, field_on, fields_to, scanning}
 
 -- the value that was read is the one that was told
 pub value_is : (k : Config) (x y : DomainView) (word : ℕ) (v : Value) → ScanTold k x word y → IsPackable v × (value_word v ≡ word) → (u : Value) × (u ≡ v) × (y ≡ with_share x (record x.seen.share { scan = scanned_on x.seen.share.scan u })) × ((a : ℕ) → u ≡ Ref a → IsAddress k a)
@@ -32,3 +33,14 @@ field_darkens k x y at word a v colours may known t r is =
 -- the next field may be loaded
 pub fields_may : (x v : DomainView) (won : Bool) (i block size head : ℕ) → x.seen.stage ≡ In Mark → x.seen.share.scan ≡ Reads block 0 size head → v ≡ with_share x (scanning x.seen.share v.seen.share (fields_to i x.seen.share.scan) won) → i < size → ScanMay v (block + 2 + i)
 fields_may x v won i block size head stage begun view more = record { stage = ap (λ (z : DomainView). z.seen.stage) view ∙ stage; block = block; done = i; size = size; head = head; scan = ap (λ (z : DomainView). z.seen.share.scan) view ∙ ap (fields_to i) begun; more = more; word = refl }
+
+passed_on : (x : DomainView) (at : ℕ) (v : Value) → ScanMay x at → ((a : ℕ) → v ≡ Ref a → ⊥) → scanned_on x.seen.share.scan v ≡ field_on x.seen.share.scan
+passed_on x at (Ref a) may other = absurd (other a refl)
+passed_on x at (Int z) may other = (λ i. scanned_on (may.scan i) (Int z)) ∙ sym (ap field_on may.scan)
+passed_on x at Nothing may other = (λ i. scanned_on (may.scan i) Nothing) ∙ sym (ap field_on may.scan)
+
+-- the field refers to no block, and is done
+pub field_passed : (k : Config) (x y : DomainView) (at word : ℕ) (v : Value) → ScanMay x at → ScanTold k x word y → IsPackable v × (value_word v ≡ word) → ((a : ℕ) → v ≡ Ref a → ⊥) → y ≡ with_share x (record x.seen.share { scan = field_on x.seen.share.scan })
+field_passed k x y at word v may t r other =
+    let u = value_is k x y word v t r in
+    u.2 ∙ ap (λ (s : Scan). with_share x (record x.seen.share { scan = s })) (ap (scanned_on x.seen.share.scan) u.1 ∙ passed_on x at v may other)

@@ -1,3 +1,4 @@
 pub mod Exchanges
 pub mod Fields
 pub mod Visits
+pub mod Notes

@@ -1,20 +1,22 @@
 -- A place of the walk, and those behind it.
-use Rattle.std.proofs.Common.{◌≡◌, ℕ, ◌<◌, ◌⊎◌, Bool, false, true≢false, ◌∷◌, Some, None, ⊎_elim, sym, refl, ap, subst, ◌∙◌}
+use Rattle.std.proofs.Common.{◌≡◌, ℕ, ◌⊎◌, Bool, false, true≢false, ◌∷◌, Some, None, ⊎_elim, inr, List, sym, refl, ap, subst, ◌∙◌}
 use Rattle.heap_model.specs.Fronts.{Shape, PlainShape, RawShape, EpheShape}
 use Rattle.heap_words.specs.declared.colours.Colours.{Colours}
 use Rattle.heap_words.specs.declared.head.Head.{Head}
 use Rattle.heap_words.specs.declared.head.Head.TheVariants.{Free, Plain, Ephe}
 use Rattle.heap_words.specs.ColourWords.{IsPermutation}
 use Rattle.heap_words.proofs.WordLemmas.{head_word-injective}
+use Rattle.heap_rule.specs.declared.phase.Kind.TheVariants.{Mark}
+use Rattle.heap_rule.specs.declared.phase.Stage.TheVariants.{In}
+use Rattle.heap_rule.specs.declared.config.Config.{Config}
 use Rattle.heap_rule.specs.declared.view.DomainView.{DomainView}
 use Rattle.heap_rule.specs.declared.view.Scan.{Scan}
 use Rattle.heap_rule.specs.declared.view.Scan.TheVariants.{Idle, Reads}
 use Rattle.heap_rule.specs.Places.{IsBuilt, head_of}
-use Rattle.heap_rule.specs.Pools.{blocks_of, place_in}
 use Rattle.steps_cycle.specs.Looks.{with_share}
-use Rattle.steps_cycle.specs.Marking.{IsGrey, IsScanned, IsUnmarked, MarkTold, Next, ScannedMay, ScannedTold, Site, begun, behind, fields_in}
+use Rattle.steps_cycle.specs.Marking.{Anywhere, GreyTold, IsGrey, IsScanned, IsUnmarked, LiesAt, MarkTold, Next, ScannedMay, ScannedTold, Site, begun, behind, fields_in, sights_on, walk_on}
 use Rattle.mark_slices.specs.Heads.{IsScanOf}
-use Rattle.mark_slices.specs.Shares.{Marks, Walked, fields_to, scanning}
+use Rattle.mark_slices.specs.Shares.{Begun, Marks, Noted, ScannedAt, Walked, fields_to, scanning}
 use Rattle.mark_slices.proofs.Exchanges.{not_both, one_head, one_meaning}
 
 abbrev fields_of : Head → ℕ
@@ -58,42 +60,88 @@ not_passed colours word p g o =
     q)
     o
 
--- the block at the next place is grey, and is scanned
-module _ (x y : DomainView) (colours : Colours) (at pool class slot word fields new : ℕ) (p : IsPermutation colours) (m : Marks colours x) (t : MarkTold at pool class slot x word y) (s : IsScanOf colours word fields new) where
-  begins : y ≡ with_share x (record x.seen.share { scan = Reads at 0 fields word })
-  begins =
-      let same : t.colours ≡ colours = one_meaning x.seen.share.colours colours t.colours m.known t.known in
-      ⊎_elim
-      (λ (q : ((word ≡ 0) ⊎ (IsUnmarked t.colours word ⊎ IsScanned t.colours word)) × (y ≡ with_share x (record x.seen.share { sights = at ∷ x.seen.share.sights; walk = behind pool class slot }))).
-      absurd (not_passed colours word p s.grey (subst (λ (c : Colours). (word ≡ 0) ⊎ (IsUnmarked c word ⊎ IsScanned c word)) same q.0)))
-      (λ (q : (grey : IsGrey t.colours word) × (y ≡ with_share x (begun at grey.block.shape word x.seen.share))).
-      q.1 ∙ ap (λ (n : ℕ). with_share x (record x.seen.share { scan = Reads at 0 n word })) (one_count t.colours word q.0 (subst (λ (c : Colours). IsGrey c word) (sym same) s.grey) ∙ carried t.colours same ∙ sym s.count))
-      t.told
-    where
-      carried : (c : Colours) (e : c ≡ colours) → fields_in (subst (λ (d : Colours). IsGrey d word) (sym e) s.grey).block.shape ≡ fields_in s.grey.block.shape
-      carried c e = refl
+-- the scan of a grey block begins
+begins_of : (x y : DomainView) (colours c : Colours) (at word fields new : ℕ) → IsScanOf colours word fields new → c ≡ colours → (grey : IsGrey c word) × (y ≡ with_share x (begun at grey.block.shape word x.seen.share)) → y ≡ with_share x (record x.seen.share { scan = Reads at 0 fields word })
+begins_of x y colours c at word fields new s same q =
+    q.1 ∙ ap (λ (n : ℕ). with_share x (record x.seen.share { scan = Reads at 0 n word })) (one_count c word q.0 (subst (λ (d : Colours). IsGrey d word) (sym same) s.grey) ∙ carried ∙ sym s.count)
+  where
+    carried : fields_in (subst (λ (d : Colours). IsGrey d word) (sym same) s.grey).block.shape ≡ fields_in s.grey.block.shape
+    carried = refl
 
-  module _ (v : DomainView) (won : Bool) (e : v ≡ with_share y (scanning y.seen.share v.seen.share (fields_to fields y.seen.share.scan) won)) where
-    scanned_view : v ≡ with_share x (scanning x.seen.share v.seen.share (Reads at fields fields word) won)
-    scanned_view = e ∙ ap (λ (u : DomainView). with_share u (scanning u.seen.share v.seen.share (fields_to fields u.seen.share.scan) won)) begins
+-- at the next place of the walk
+pub mark_begins : (x y : DomainView) (colours : Colours) (at pool class slot word fields new : ℕ) → IsPermutation colours → Marks colours x → MarkTold at pool class slot x word y → IsScanOf colours word fields new → y ≡ with_share x (record x.seen.share { scan = Reads at 0 fields word })
+mark_begins x y colours at pool class slot word fields new p m t s =
+    let same : t.colours ≡ colours = one_meaning x.seen.share.colours colours t.colours m.known t.known in
+    ⊎_elim
+    (λ (q : ((word ≡ 0) ⊎ (IsUnmarked t.colours word ⊎ IsScanned t.colours word)) × (y ≡ with_share x (record x.seen.share { sights = at ∷ x.seen.share.sights; walk = behind pool class slot }))).
+    absurd (not_passed colours word p s.grey (subst (λ (c : Colours). (word ≡ 0) ⊎ (IsUnmarked c word ⊎ IsScanned c word)) same q.0)))
+    (λ (q : (grey : IsGrey t.colours word) × (y ≡ with_share x (begun at grey.block.shape word x.seen.share))). begins_of x y colours t.colours at word fields new s same q)
+    t.told
 
-    pub scanned_may : (site : Site) → site ≡ Next pool class slot → x.seen.share.tenure ≡ Some (record { pool = pool; class = class }) → slot < blocks_of class → at ≡ place_in pool class slot → x.seen.share.walk ≡ record { pool = pool; slot = slot } → ScannedMay v at new site
-    scanned_may site is own inside place next = subst (ScannedMay v at new) (sym is) record {
-      stage = ap (λ (z : DomainView). z.seen.stage) scanned_view ∙ m.stage;
-      size = fields;
-      word = word;
-      scan = ap (λ (z : DomainView). z.seen.share.scan) scanned_view;
-      colours = colours;
-      known = ap (λ (z : DomainView). z.seen.share.colours) scanned_view ∙ m.known;
-      shape = s.grey.block.shape;
-      head = s.grey.block.head;
-      marks = s.marks;
-      lies = record { own = ap (λ (z : DomainView). z.seen.share.tenure) scanned_view ∙ own; inside = inside; begins = place; next = ap (λ (z : DomainView). z.seen.share.walk) scanned_view ∙ next };
-    }
+-- and anywhere
+pub grey_begins : (x y : DomainView) (colours : Colours) (at word fields new : ℕ) → IsPermutation colours → Marks colours x → GreyTold at x word y → IsScanOf colours word fields new → y ≡ with_share x (record x.seen.share { scan = Reads at 0 fields word })
+grey_begins x y colours at word fields new p m t s =
+    let same : t.colours ≡ colours = one_meaning x.seen.share.colours colours t.colours m.known t.known in
+    ⊎_elim
+    (λ (q : IsScanned t.colours word × (y ≡ x)). absurd (not_passed colours word p s.grey (inr (inr (subst (λ (c : Colours). IsScanned c word) same q.0)))))
+    (λ (q : (grey : IsGrey t.colours word) × (y ≡ with_share x (begun at grey.block.shape word x.seen.share))). begins_of x y colours t.colours at word fields new s same q)
+    t.told
 
-    pub place_walked : (z : DomainView) (site : Site) → site ≡ Next pool class slot → ScannedTold at site v new z → Walked (behind pool class slot) won x z
-    place_walked z site is told =
-        let a : z ≡ with_share v (record v.seen.share { scan = Idle; sights = at ∷ v.seen.share.sights; walk = behind pool class slot }) = subst (λ (q : Site). ScannedTold at q v new z) is told in
-        let b : z ≡ with_share x (record (scanning x.seen.share v.seen.share Idle won) { sights = at ∷ x.seen.share.sights; walk = behind pool class slot }) = a ∙ ap (λ (u : DomainView). with_share u (record u.seen.share { scan = Idle; sights = at ∷ u.seen.share.sights; walk = behind pool class slot })) scanned_view in
-        let c : z ≡ with_share x (record (scanning x.seen.share v.seen.share x.seen.share.scan won) { sights = at ∷ x.seen.share.sights; walk = behind pool class slot }) = b ∙ ap (λ (n : Scan). with_share x (record (scanning x.seen.share v.seen.share n won) { sights = at ∷ x.seen.share.sights; walk = behind pool class slot })) (sym m.idle) in
-        subst (Walked (behind pool class slot) won x) (sym c) record { view = refl }
+-- the block still lies where it lay when its fields are scanned
+lies_still : (site : Site) (y v : DomainView) (at : ℕ) → v.seen.share.tenure ≡ y.seen.share.tenure → v.seen.share.walk ≡ y.seen.share.walk → LiesAt site y at → LiesAt site v at
+lies_still Anywhere y v at own next l = tt
+lies_still (Next pool class slot) y v at own next l = record { own = own ∙ l.own; inside = l.inside; begins = l.begins; next = next ∙ l.next }
+
+-- its fields are scanned, and its head may be stored
+module _ (y v : DomainView) (at fields new : ℕ) (won : Bool) (site : Site) (e : v ≡ with_share y (scanning y.seen.share v.seen.share (fields_to fields y.seen.share.scan) won)) where
+  pub block_may : (colours : Colours) → y.seen.stage ≡ In Mark → y.seen.share.colours ≡ Some colours → Begun colours at fields new y → LiesAt site y at → ScannedMay v at new site
+  block_may colours stage known b l = record {
+    stage = ap (λ (u : DomainView). u.seen.stage) e ∙ stage;
+    size = fields;
+    word = b.word;
+    scan = ap (λ (u : DomainView). u.seen.share.scan) e ∙ ap (fields_to fields) b.scan;
+    colours = colours;
+    known = ap (λ (u : DomainView). u.seen.share.colours) e ∙ known;
+    shape = b.grey.grey.block.shape;
+    head = b.grey.grey.block.head;
+    marks = b.grey.marks;
+    lies = lies_still site y v at (ap (λ (u : DomainView). u.seen.share.tenure) e) (ap (λ (u : DomainView). u.seen.share.walk) e) l;
+  }
+
+  pub block_done : (z : DomainView) → ScannedTold at site v new z → ScannedAt site at won y z
+  block_done z told = subst (ScannedAt site at won y) (sym (told ∙ ap (λ (u : DomainView). with_share u (record u.seen.share { scan = Idle; sights = sights_on site at u.seen.share.sights; walk = walk_on site u.seen.share.walk })) e)) refl
+
+-- the block was grey, and is scanned
+module _ (x y : DomainView) (colours : Colours) (at word fields new : ℕ) (m : Marks colours x) (s : IsScanOf colours word fields new) (e : y ≡ with_share x (record x.seen.share { scan = Reads at 0 fields word })) where
+  pub ready : (k : Config) (site : Site) (items : List ℕ) → LiesAt site x at → Noted k x.seen.share.marked items → (y.seen.stage ≡ In Mark) × (y.seen.share.colours ≡ Some colours) × Begun colours at fields new y × LiesAt site y at × Noted k y.seen.share.marked items
+  ready k site items l n = (
+    ap (λ (u : DomainView). u.seen.stage) e ∙ m.stage,
+    ap (λ (u : DomainView). u.seen.share.colours) e ∙ m.known,
+    record { word = word; scan = ap (λ (u : DomainView). u.seen.share.scan) e; grey = s },
+    lies_still site x y at (ap (λ (u : DomainView). u.seen.share.tenure) e) (ap (λ (u : DomainView). u.seen.share.walk) e) l,
+    subst (λ (l : List ℕ). Noted k l items) (sym (ap (λ (u : DomainView). u.seen.share.marked) e)) n,
+  )
+
+  module _ (z : DomainView) (won : Bool) (site : Site) (d : ScannedAt site at won y z) where
+    scanned_view : z ≡ with_share x (record (scanning x.seen.share z.seen.share x.seen.share.scan won) { sights = sights_on site at x.seen.share.sights; walk = walk_on site x.seen.share.walk })
+    scanned_view = d ∙ ap (λ (u : DomainView). with_share u (record (scanning u.seen.share z.seen.share Idle won) { sights = sights_on site at u.seen.share.sights; walk = walk_on site u.seen.share.walk })) e
+        ∙ ap (λ (n : Scan). with_share x (record (scanning x.seen.share z.seen.share n won) { sights = sights_on site at x.seen.share.sights; walk = walk_on site x.seen.share.walk })) (sym m.idle)
+
+    pub site_walked : Walked (walk_on site x.seen.share.walk) won x z
+    site_walked = subst (Walked (walk_on site x.seen.share.walk) won x) (sym scanned_view) record { view = refl }
+
+    pub tenure_stays : z.seen.share.tenure ≡ x.seen.share.tenure
+    tenure_stays = ap (λ (u : DomainView). u.seen.share.tenure) scanned_view
+
+-- a look leaves what is known to be marked
+pub mark_stays : (x y : DomainView) (at pool class slot word : ℕ) → MarkTold at pool class slot x word y → y.seen.share.marked ≡ x.seen.share.marked
+mark_stays x y at pool class slot word t = ⊎_elim
+    (λ (q : ((word ≡ 0) ⊎ (IsUnmarked t.colours word ⊎ IsScanned t.colours word)) × (y ≡ with_share x (record x.seen.share { sights = at ∷ x.seen.share.sights; walk = behind pool class slot }))). ap (λ (u : DomainView). u.seen.share.marked) q.1)
+    (λ (q : (grey : IsGrey t.colours word) × (y ≡ with_share x (begun at grey.block.shape word x.seen.share))). ap (λ (u : DomainView). u.seen.share.marked) q.1)
+    t.told
+
+pub grey_stays : (x y : DomainView) (at word : ℕ) → GreyTold at x word y → y.seen.share.marked ≡ x.seen.share.marked
+grey_stays x y at word t = ⊎_elim
+    (λ (q : IsScanned t.colours word × (y ≡ x)). ap (λ (u : DomainView). u.seen.share.marked) q.1)
+    (λ (q : (grey : IsGrey t.colours word) × (y ≡ with_share x (begun at grey.block.shape word x.seen.share))). ap (λ (u : DomainView). u.seen.share.marked) q.1)
+    t.told

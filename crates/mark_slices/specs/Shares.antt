@@ -1,9 +1,10 @@
 -- What becomes of a domain's view while it marks blocks ("Retrofitting Parallelism onto OCaml", section 3.2).
-use Rattle.std.specs.Prelude.{◌≡◌, ◌≢◌, ℕ, ◌+◌, ◌<◌, ◌==◌, Bool, true, false, IsTrue, cond, if◌then◌else◌, nat_le, Some}
+use Rattle.std.specs.Prelude.{◌≡◌, ◌≢◌, ℕ, ◌+◌, ◌*◌, ◌<◌, ◌≤◌, ◌==◌, Bool, true, false, IsTrue, cond, if◌then◌else◌, nat_le, Some, List, length, slice_get}
 use Rattle.std.specs.List.{list_any}
 use Rattle.heap_model.specs.Domains.{class_count}
 use Rattle.heap_words.specs.declared.colours.Colours.{Colours}
 use Rattle.heap_words.specs.declared.value.Value.TheVariants.{Ref}
+use Rattle.remembered_set.specs.Bounded.{Bounded}
 use Rattle.heap_rule.specs.declared.config.Config.{Config}
 use Rattle.heap_rule.specs.declared.phase.Kind.{Kind}
 use Rattle.heap_rule.specs.declared.phase.Kind.TheVariants.{Mark}
@@ -15,9 +16,11 @@ use Rattle.heap_rule.specs.declared.view.Scan.TheVariants.{Idle, Reads}
 use Rattle.heap_rule.specs.declared.view.Share.{Share}
 use Rattle.heap_rule.specs.declared.view.Spot.{Spot}
 use Rattle.heap_rule.specs.Changes.{value_at}
+use Rattle.heap_rule.specs.Cycles.{seen_by}
 use Rattle.heap_rule.specs.Pools.{blocks_of, owned, owner_word}
 use Rattle.steps_cycle.specs.Looks.{with_share}
-use Rattle.steps_cycle.specs.Marking.{IsDarkening, Reason, Warrants, moved_on, owes_on}
+use Rattle.steps_cycle.specs.Marking.{IsDarkening, Reason, Site, Warrants, moved_on, owes_on, sights_on, walk_on}
+use Rattle.mark_slices.specs.Heads.{IsScanOf}
 
 -- the domain is in a phase in which blocks are darkened, knows the colours, and has a reason to mark the block
 pub record Darkens (colours : Colours) (at : ℕ) (reason : Reason) (x : DomainView) : Type 0 where
@@ -69,6 +72,24 @@ fields_to i other = other
 abbrev pub scanning : Share → Share → Scan → Bool → Share
 scanning s t scan won = record s { glimpse = t.glimpse; scan = scan; marked = t.marked; owes = cond won true s.owes }
 
+-- a grey block's scan has begun: so many of its fields are to be scanned, and then its head is to be this word
+pub record Begun (colours : Colours) (at fields new : ℕ) (x : DomainView) : Type 0 where
+  pub word : ℕ
+  pub scan : x.seen.share.scan ≡ Reads at 0 fields word
+  pub grey : IsScanOf colours word fields new
+
+-- it has ended, and who has darkened a block owes a store of the changed word
+abbrev pub ScannedAt : Site → ℕ → Bool → DomainView → DomainView → Type 0
+ScannedAt site at won x y = y ≡ with_share x (record (scanning x.seen.share y.seen.share Idle won) { sights = sights_on site at x.seen.share.sights; walk = walk_on site x.seen.share.walk })
+
+-- the addresses of blocks of the pools, each of which is known to be marked
+abbrev pub Noted : Config → List ℕ → List ℕ → Type 0
+Noted k marked items = (i a : ℕ) → slice_get items i ≡ Some a → (1 ≤ a) × (a ≤ k.pools * 4096) × IsTrue (seen_by marked a)
+
+-- a list takes as many items in all as another
+abbrev pub IsAsLong : Bounded ℕ → Bounded ℕ → Type 0
+IsAsLong l m = m.room + length m.items ≡ l.room + length l.items
+
 -- a domain in a phase in which blocks are marked knows the colours, and is at no block
 pub record Marks (colours : Colours) (x : DomainView) : Type 0 where
   pub stage : x.seen.stage ≡ In Mark
@@ -79,7 +100,7 @@ pub record Marks (colours : Colours) (x : DomainView) : Type 0 where
 abbrev pub spot_from : ℕ → ℕ → ℕ → Spot
 spot_from pool class seen = if nat_le (blocks_of class) seen then record { pool = pool + 1; slot = 0 } else record { pool = pool; slot = seen }
 
--- the walk has come to a place, and the domain has darkened a block or not: then it owes a store of the changed word
+-- the walk has come to a place. Where the domain has darkened a block it owes a store of the changed word
 pub record Walked (walk : Spot) (won : Bool) (x y : DomainView) : Type 0 where
   pub view : y ≡ with_share x (record x.seen.share { glimpse = y.seen.share.glimpse; marked = y.seen.share.marked; owes = cond won true x.seen.share.owes; sights = y.seen.share.sights; walk = walk; tenure = y.seen.share.tenure })
 

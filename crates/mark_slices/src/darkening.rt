@@ -6,7 +6,7 @@ ghost use Rattle.heap_rule.specs.Token.{IsIn};
 ghost use Rattle.steps_cycle.specs.Marking.{Reason};
 ghost use Rattle.mark_slices.specs.Shares.{Darkens, darkened};
 
-use crate::heads::darkened;
+use crate::heads::darkened_head;
 use heap_rule::{Domain, Heap};
 use heap_words::Colours;
 use steps_cycle::{darken_exchange, glimpse_load};
@@ -23,7 +23,7 @@ pub(crate) fn darken(heap: &Heap, dom: &mut Domain, at: u32, colours: Colours) -
     ensures darkened { dom.new.view ≡ darkened reason at result dom.old.view }
 {
     let word = glimpse_load(heap, dom, at);
-    let Some(new) = darkened(word, colours) else {
+    let Some(new) = darkened_head(word, colours) else {
         return false;
     };
     darken_exchange(heap, dom, at, word, new) == word

@@ -7,7 +7,7 @@ ghost use Rattle.mark_slices.specs.Heads.{IsDarkened, IsScanOf};
 use heap_words::{Colours, Head, pack_head, unpack_head};
 
 // The head by which an unmarked block is marked and not scanned.
-pub(crate) fn darkened(word: u64, colours: Colours) -> Option<u64>
+pub(crate) fn darkened_head(word: u64, colours: Colours) -> Option<u64>
     requires { IsPermutation colours }
     ensures { MatchOption result (IsUnmarked colours word → ⊥) (IsDarkened colours word) }
 {

@@ -5,11 +5,14 @@
 #![tactic(auto)]
 
 mod darkening;
+mod following;
 mod heads;
+mod hints;
 mod places;
 mod roots;
 mod rounds;
 mod scanning;
 
+pub use hints::Hints;
 pub use roots::start_roots;
 pub use rounds::mark_round;

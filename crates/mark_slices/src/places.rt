@@ -1,17 +1,19 @@
 //! The marked blocks of one own pool.
-ghost use Rattle.std.specs.Prelude.{◌≡◌, ◌<◌, ◌+◌, Some};
+ghost use Rattle.std.specs.Prelude.{◌≡◌, ◌<◌, ◌+◌, Some, []};
 ghost use Rattle.heap_model.specs.Domains.{class_count};
 ghost use Rattle.heap_words.specs.ColourWords.{IsPermutation};
 ghost use Rattle.heap_rule.specs.Pools.{blocks_of};
 ghost use Rattle.heap_rule.specs.Token.{IsIn};
 ghost use Rattle.steps_cycle.specs.Marking.{Next, Site, behind};
-ghost use Rattle.mark_slices.specs.Shares.{Marks, Walked};
+ghost use Rattle.mark_slices.specs.Shares.{IsAsLong, Marks, Noted, Walked};
 
+use crate::following::follow_all;
 use crate::heads::scan_of;
-use crate::scanning::scan_fields;
+use crate::hints::Hints;
+use crate::scanning::scan_block;
 use heap_rule::{Domain, Heap};
 use heap_words::Colours;
-use steps_cycle::{mark_load, scanned_store};
+use steps_cycle::mark_load;
 use steps_pools::{class_blocks, place_address};
 
 // Looks at the next place of the walk, in an own pool, and scans the block there if it is grey. Answers
@@ -23,6 +25,7 @@ fn mark_place(
     class: u32,
     slot: u32,
     colours: Colours,
+    hints: &mut Hints,
 ) -> bool
     ghost site: { Site }
     requires here { IsIn dom.old heap.now }
@@ -34,9 +37,12 @@ fn mark_place(
     requires own { dom.old.view.seen.share.tenure ≡ Some (record { pool = pool; class = class }) }
     requires next { dom.old.view.seen.share.walk ≡ record { pool = pool; slot = slot } }
     requires site { site ≡ Next pool class slot }
+    requires noted { Noted heap.now.config dom.old.view.seen.share.marked hints.old.items }
     ensures here { IsIn dom.new heap.now }
     ensures walked { Walked (behind pool class slot) result dom.old.view dom.new.view }
     ensures own { dom.new.view.seen.share.tenure ≡ dom.old.view.seen.share.tenure }
+    ensures noted { Noted heap.now.config dom.new.view.seen.share.marked hints.new.items }
+    ensures long { IsAsLong hints.old hints.new }
 {
     let _limits = heap.config();
     let at = place_address(pool, class, slot);
@@ -44,18 +50,17 @@ fn mark_place(
     let Some(block) = scan_of(word, colours) else {
         return false;
     };
-    let darkened = scan_fields(heap, dom, at, block.fields, colours);
-    scanned_store(heap, dom, at, block.scanned);
-    darkened
+    scan_block(heap, dom, at, block, colours, hints)
 }
 
-// The same at all places of the pool.
+// The same at all places of the pool. What was darkened is followed after each.
 pub(crate) fn mark_pool(
     heap: &Heap,
     dom: &mut Domain,
     pool: u32,
     class: u32,
     colours: Colours,
+    hints: &mut Hints,
 ) -> bool
     requires here { IsIn dom.old heap.now }
     requires marks { Marks colours dom.old.view }
@@ -64,13 +69,16 @@ pub(crate) fn mark_pool(
     requires class { class < class_count }
     requires own { dom.old.view.seen.share.tenure ≡ Some (record { pool = pool; class = class }) }
     requires next { dom.old.view.seen.share.walk ≡ record { pool = pool; slot = 0 } }
+    requires none { hints.old.items ≡ [] }
     ensures here { IsIn dom.new heap.now }
     ensures walked { Walked (record { pool = pool + 1; slot = 0 }) result dom.old.view dom.new.view }
+    ensures none { hints.new.items ≡ [] }
+    ensures long { IsAsLong hints.old hints.new }
 {
-    let _limits = heap.config();
     let mut darkened = false;
     for slot in 0..class_blocks(class) {
-        darkened |= mark_place(heap, dom, pool, class, slot, colours);
+        darkened |= mark_place(heap, dom, pool, class, slot, colours, hints);
+        darkened |= follow_all(heap, dom, colours, hints);
     }
     darkened
 }

@@ -1,5 +1,5 @@
 //! The marked blocks of all own pools.
-ghost use Rattle.std.specs.Prelude.{◌≡◌, ◌≢◌, ◌<◌, ◌+◌, ℕ, MatchOption, false};
+ghost use Rattle.std.specs.Prelude.{◌≡◌, ◌≢◌, ◌<◌, ◌+◌, ℕ, MatchOption, false, []};
 ghost use Rattle.heap_model.specs.Domains.{class_count};
 ghost use Rattle.heap_words.specs.ColourWords.{IsPermutation};
 ghost use Rattle.heap_rule.specs.declared.phase.Kind.TheVariants.{Mark};
@@ -7,8 +7,9 @@ ghost use Rattle.heap_rule.specs.declared.phase.Stage.TheVariants.{In};
 ghost use Rattle.heap_rule.specs.declared.view.Scan.TheVariants.{Idle};
 ghost use Rattle.heap_rule.specs.Pools.{owned, owner_word};
 ghost use Rattle.heap_rule.specs.Token.{IsIn};
-ghost use Rattle.mark_slices.specs.Shares.{IsNotOf, IsOfClass, Marks, Walked, AllWalked};
+ghost use Rattle.mark_slices.specs.Shares.{IsAsLong, IsNotOf, IsOfClass, Marks, Walked, AllWalked};
 
+use crate::hints::Hints;
 use crate::places::mark_pool;
 use heap_rule::{Domain, Heap};
 use heap_words::Colours;
@@ -32,46 +33,54 @@ fn class_of(word: u64, domain: u32) -> Option<u32>
 
 // Looks at the next pool of the walk, and if it is an own one scans its grey blocks. Answers whether
 // the domain has marked a block.
-fn visit_pool(heap: &Heap, dom: &mut Domain, pool: u32, colours: Colours) -> bool
+fn visit_pool(heap: &Heap, dom: &mut Domain, pool: u32, colours: Colours, hints: &mut Hints) -> bool
     requires here { IsIn dom.old heap.now }
     requires marks { Marks colours dom.old.view }
     requires meanings { IsPermutation colours }
     requires pool { pool < heap.now.config.pools }
     requires next { dom.old.view.seen.share.walk ≡ record { pool = pool; slot = 0 } }
+    requires none { hints.old.items ≡ [] }
     ensures here { IsIn dom.new heap.now }
     ensures walked { Walked (record { pool = pool + 1; slot = 0 }) result dom.old.view dom.new.view }
+    ensures none { hints.new.items ≡ [] }
+    ensures long { IsAsLong hints.old hints.new }
 {
     let pools = heap.config().pools;
     let word = own_load(heap, dom, OWNERS + pools + pool, pool);
     match class_of(word, dom.number()) {
-        Some(class) => mark_pool(heap, dom, pool, class, colours),
+        Some(class) => mark_pool(heap, dom, pool, class, colours, hints),
         None => false,
     }
 }
 
 /// A domain's share of a phase in which blocks are marked: it looks at each place of its own pools once,
-/// in order, and scans each grey block that it finds there: what the block's fields refer to is marked,
+/// in order, and scans each grey block that it finds there. What the block's fields refer to is marked,
 /// whosever pool it lies in, and then the block's head says that it is scanned. Where the domain has
-/// marked a block it says so in the changed word, since whoever has that block may have passed its
+/// marked a block it stores so in the changed word, since whoever has that block may have passed its
 /// place. Afterwards it has been at each own place and owes no store of the changed word, as is asked of
 /// it where it arrives. What it knows of the colours and of blocks is all that has changed.
 ///
+/// Behind each place the blocks that it has marked itself are scanned at once, wherever they lie, as far
+/// as `hints` has room. What is let go for want of room a later walk finds.
+///
 /// Domains mark in parallel, and go on until a whole phase changes nothing ("Retrofitting Parallelism
 /// onto OCaml", section 3.2).
-pub fn mark_round(heap: &Heap, dom: &mut Domain)
+pub fn mark_round(heap: &Heap, dom: &mut Domain, hints: &mut Hints)
     requires here { IsIn dom.old heap.now }
     requires stage { dom.old.view.seen.stage ≡ In Mark }
     requires begins { dom.old.view.seen.share.walk ≡ record { pool = 0; slot = 0 } }
     requires idle { dom.old.view.seen.share.scan ≡ Idle }
     requires told { dom.old.view.seen.share.owes ≡ false }
+    requires none { hints.old.items ≡ [] }
     ensures here { IsIn dom.new heap.now }
     ensures walked { AllWalked heap.now.config dom.old.view dom.new.view }
+    ensures hints { hints.new ≡ hints.old }
 {
     let pools = heap.config().pools;
     let colours = colours_now(heap, dom);
     let mut darkened = false;
     for pool in 0..pools {
-        darkened |= visit_pool(heap, dom, pool, colours);
+        darkened |= visit_pool(heap, dom, pool, colours, hints);
     }
     if darkened {
         changed_store(heap, dom);

@@ -1,5 +1,5 @@
 //! The scan of a marked block.
-ghost use Rattle.std.specs.Prelude.{◌≡◌, ◌+◌, ◌≤◌, ℕ, Some};
+ghost use Rattle.std.specs.Prelude.{◌≡◌, ◌+◌, ◌*◌, ◌≤◌, ℕ, Some};
 ghost use Rattle.heap_words.specs.ColourWords.{IsPermutation};
 ghost use Rattle.heap_rule.specs.declared.phase.Kind.TheVariants.{Mark};
 ghost use Rattle.heap_rule.specs.declared.phase.Stage.TheVariants.{In};
@@ -8,40 +8,51 @@ ghost use Rattle.heap_rule.specs.Layout.{heap_words};
 ghost use Rattle.heap_rule.specs.Standing.{IsInHeap};
 ghost use Rattle.heap_rule.specs.Token.{IsIn};
 ghost use Rattle.steps_cycle.specs.Looks.{with_share};
-ghost use Rattle.steps_cycle.specs.Marking.{ScanMay};
-ghost use Rattle.mark_slices.specs.Shares.{field_on, fields_to, scanning};
+ghost use Rattle.steps_cycle.specs.Marking.{LiesAt, ScanMay, Site};
+ghost use Rattle.mark_slices.specs.Shares.{Begun, IsAsLong, Noted, ScannedAt, field_on, fields_to, scanning};
 
 use crate::darkening::darken;
+use crate::heads::ToScan;
+use crate::hints::{Hints, note};
 use heap_rule::{Domain, Heap, Reading, read_as};
 use heap_words::{Colours, Value};
-use steps_cycle::scan_load;
+use steps_cycle::{scan_load, scanned_store};
 
 // Marks the block that the next field refers to, which is at `at`, if it refers to one. Answers whether
 // this domain has marked it.
-fn scan_field(heap: &Heap, dom: &mut Domain, at: u32, colours: Colours) -> bool
+fn scan_field(heap: &Heap, dom: &mut Domain, at: u32, colours: Colours, hints: &mut Hints) -> bool
     requires here { IsIn dom.old heap.now }
     requires known { dom.old.view.seen.share.colours ≡ Some colours }
     requires meanings { IsPermutation colours }
     requires inside { IsInHeap heap.now.config at }
     requires may { ScanMay dom.old.view at }
+    requires noted { Noted heap.now.config dom.old.view.seen.share.marked hints.old.items }
     ensures here { IsIn dom.new heap.now }
     ensures scanned { dom.new.view ≡ with_share dom.old.view (scanning dom.old.view.seen.share dom.new.view.seen.share (field_on dom.old.view.seen.share.scan) result) }
+    ensures noted { Noted heap.now.config dom.new.view.seen.share.marked hints.new.items }
+    ensures long { IsAsLong hints.old hints.new }
 {
+    let limits = heap.config();
     let word = scan_load(heap, dom, at);
-    match read_as(Reading::AsValue, word) {
-        Value::Ref(address) => darken(heap, dom, address, colours),
-        _ => false,
+    let Value::Ref(address) = read_as(Reading::AsValue, word) else {
+        return false;
+    };
+    let won = darken(heap, dom, address, colours);
+    if won {
+        note(hints, address, &limits);
     }
+    won
 }
 
 // Marks all blocks that the fields of a block refer to, whose scan has begun. Answers whether this
 // domain has marked one of them.
-pub(crate) fn scan_fields(
+fn scan_fields(
     heap: &Heap,
     dom: &mut Domain,
     block: u32,
     size: u32,
     colours: Colours,
+    hints: &mut Hints,
 ) -> bool
     requires here { IsIn dom.old heap.now }
     requires stage { dom.old.view.seen.stage ≡ In Mark }
@@ -49,13 +60,46 @@ pub(crate) fn scan_fields(
     requires meanings { IsPermutation colours }
     requires inside { block + size + 1 ≤ heap_words heap.now.config }
     requires begun { (head : ℕ) × (dom.old.view.seen.share.scan ≡ Reads block 0 size head) }
+    requires noted { Noted heap.now.config dom.old.view.seen.share.marked hints.old.items }
     ensures here { IsIn dom.new heap.now }
     ensures scanned { dom.new.view ≡ with_share dom.old.view (scanning dom.old.view.seen.share dom.new.view.seen.share (fields_to size dom.old.view.seen.share.scan) result) }
+    ensures noted { Noted heap.now.config dom.new.view.seen.share.marked hints.new.items }
+    ensures long { IsAsLong hints.old hints.new }
 {
     let _limits = heap.config();
     let mut darkened = false;
     for i in 0..size {
-        darkened |= scan_field(heap, dom, block + 2 + i, colours);
+        darkened |= scan_field(heap, dom, block + 2 + i, colours, hints);
     }
+    darkened
+}
+
+// Scans a block of a pool whose scan has begun, and then says in its head that it is scanned. Answers
+// whether this domain has marked a block.
+pub(crate) fn scan_block(
+    heap: &Heap,
+    dom: &mut Domain,
+    at: u32,
+    block: ToScan,
+    colours: Colours,
+    hints: &mut Hints,
+) -> bool
+    ghost site: { Site }
+    requires here { IsIn dom.old heap.now }
+    requires stage { dom.old.view.seen.stage ≡ In Mark }
+    requires known { dom.old.view.seen.share.colours ≡ Some colours }
+    requires meanings { IsPermutation colours }
+    requires inside { (1 ≤ at) × (at ≤ heap.now.config.pools * 4096) }
+    requires begun { Begun colours at block.fields block.scanned dom.old.view }
+    requires lies { LiesAt site dom.old.view at }
+    requires noted { Noted heap.now.config dom.old.view.seen.share.marked hints.old.items }
+    ensures here { IsIn dom.new heap.now }
+    ensures scanned { ScannedAt site at result dom.old.view dom.new.view }
+    ensures noted { Noted heap.now.config dom.new.view.seen.share.marked hints.new.items }
+    ensures long { IsAsLong hints.old hints.new }
+{
+    let _limits = heap.config();
+    let darkened = scan_fields(heap, dom, at, block.fields, colours, hints);
+    scanned_store(heap, dom, at, block.scanned);
     darkened
 }

@@ -1,26 +1,25 @@
-use Rattle.std.proofs.Common.{ℕ, ◌+◌, ◌*◌, ◌<◌, ◌≤◌, arith}
-use Rattle.mark_slices.proofs.Visits.{scanned_may, place_walked}
+use Rattle.std.proofs.Common.{ℕ, List, ◌+◌, ◌*◌, ◌<◌, ◌≤◌, arith, sym, subst}
+use Rattle.steps_cycle.specs.Marking.{LiesAt, Site}
+use Rattle.mark_slices.specs.Shares.{Noted}
+use Rattle.mark_slices.proofs.Visits.{mark_begins, mark_stays, ready}
 use Rattle.mark_slices.proofs.places.mark_place.Goals as goal
 
-pub scanned_store-requires : goal.scanned_store-requires
-scanned_store-requires g c =
+pub returns-in_default-clause-noted : goal.returns-in_default-clause-noted
+returns-in_default-clause-noted g c = subst (λ (l : List ℕ). Noted c.args.heap.now.config l c.args.hints.now.items) (sym (mark_stays c.args.dom.now.view c.mark_load-word.new.dom.view c.place_address-at.result c.args.pool c.args.class c.args.slot c.mark_load-word.result c.mark_load-word.ensures.told)) c.requires.1.1.1.1.1.1.1.1.1
+
+pub scan_block-requires : goal.scan_block-requires
+scan_block-requires g c =
     let k = c.args.heap.now.config in
+    let x = c.args.dom.now.view in
+    let y = c.mark_load-word.new.dom.view in
+    let b = c.in-Some.block in
     let q = c.requires.1 in
     let at : ℕ = c.place_address-at.result in
     let n : ℕ = c.args.pool in
     let few : n < k.pools = q.1.1.0 in
     let low : n * 4096 < at = c.place_address-at.ensures.inside.0 in
-    let high : at ≤ n * 4096 + 4096 = c.place_address-at.ensures.inside.1 in (
-      c.scan_fields-darkened.ensures.here,
-      (
-        (omega arith, omega arith),
-        scanned_may c.args.dom.now.view c.mark_load-word.new.dom.view c.args.colours at c.args.pool c.args.class c.args.slot c.mark_load-word.result c.in-Some.block.fields c.in-Some.block.scanned q.1.0 q.0 c.mark_load-word.ensures.told c.in-Some.ensures
-            c.scan_fields-darkened.new.dom.view c.scan_fields-darkened.result c.scan_fields-darkened.ensures.scanned g.site q.1.1.1.1.1.1.1 q.1.1.1.1.1.0 q.1.1.1.1.0 c.place_address-at.ensures.value q.1.1.1.1.1.1.0,
-      ),
-    )
-
-pub returns-clause-walked : goal.returns-clause-walked
-returns-clause-walked g c =
-    let q = c.requires.1 in
-    place_walked c.args.dom.now.view c.mark_load-word.new.dom.view c.args.colours c.place_address-at.result c.args.pool c.args.class c.args.slot c.mark_load-word.result c.in-Some.block.fields c.in-Some.block.scanned q.1.0 q.0 c.mark_load-word.ensures.told c.in-Some.ensures
-    c.scan_fields-darkened.new.dom.view c.scan_fields-darkened.result c.scan_fields-darkened.ensures.scanned c.scanned_store.new.dom.view g.site q.1.1.1.1.1.1.1 c.scanned_store.ensures.told
+    let high : at ≤ n * 4096 + 4096 = c.place_address-at.ensures.inside.1 in
+    let e = mark_begins x y c.args.colours at n c.args.class c.args.slot c.mark_load-word.result b.fields b.scanned q.1.0 q.0 c.mark_load-word.ensures.told c.in-Some.ensures in
+    let l : LiesAt g.site x at = subst (λ (s : Site). LiesAt s x at) (sym q.1.1.1.1.1.1.1.0) record { own = q.1.1.1.1.1.0; inside = q.1.1.1.1.0; begins = c.place_address-at.ensures.value; next = q.1.1.1.1.1.1.0 } in
+    let r = ready x y c.args.colours at c.mark_load-word.result b.fields b.scanned q.0 c.in-Some.ensures e k g.site c.args.hints.now.items l q.1.1.1.1.1.1.1.1 in
+    (c.mark_load-word.ensures.here, (r.0, (r.1, (q.1.0, ((omega arith, omega arith), (r.2, (r.3, r.4)))))))

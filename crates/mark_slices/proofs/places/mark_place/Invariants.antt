@@ -1,4 +1,4 @@
 use Rattle.mark_slices.proofs.places.mark_place.Given as goal
 
-abbrev pub ghost-scanned_store : goal.ghost-scanned_store
-ghost-scanned_store g a = g.site
+abbrev pub ghost-scan_block : goal.ghost-scan_block
+ghost-scan_block g a = g.site

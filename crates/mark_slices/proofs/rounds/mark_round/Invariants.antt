@@ -1,6 +1,7 @@
+use Rattle.std.proofs.Common.{◌≡◌, []}
 use Rattle.heap_rule.specs.Token.{IsIn}
 use Rattle.steps_cycle.specs.Looks.{knowing_colours}
-use Rattle.mark_slices.specs.Shares.{Marks, Walked}
+use Rattle.mark_slices.specs.Shares.{IsAsLong, Marks, Walked}
 use Rattle.mark_slices.proofs.rounds.mark_round.Given as goal
 
 abbrev pub invariant-loop-pool : goal.invariant-loop-pool
@@ -8,4 +9,6 @@ invariant-loop-pool l = record {
   here : IsIn l.dom l.heap;
   marks : Marks l.colours l.dom.view;
   walked : Walked (record { pool = l.pool; slot = 0 }) l.darkened (knowing_colours l.fn.dom.view l.colours) l.dom.view;
+  none : l.hints.items ≡ [];
+  long : IsAsLong l.fn.hints l.hints;
 }

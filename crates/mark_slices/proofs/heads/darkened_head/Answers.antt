@@ -1,6 +1,6 @@
 use Rattle.heap_model.specs.Fronts.{PlainShape, EpheShape}
 use Rattle.mark_slices.proofs.Exchanges.{read_head}
-use Rattle.mark_slices.proofs.heads.darkened.Goals as goal
+use Rattle.mark_slices.proofs.heads.darkened_head.Goals as goal
 
 pub returns-in-Some-Plain : goal.returns-in-Some-Plain
 returns-in-Some-Plain c = let h = c.in-Some-Plain in record {

@@ -1,0 +1,16 @@
+-- Blocks that are noted.
+use Rattle.std.proofs.Common.{◌≡◌, ℕ, ◌*◌, ◌≤◌, ◌==◌, eq-eqb, IsTrue, List, [], ◌∷◌, ◌++◌, slice_get, Some, ⊎_elim, refl, subst, length}
+use Rattle.heap_model.proofs.Reach.ReachLemmas.{or_left, or_right}
+use Rattle.heap_rule.specs.declared.config.Config.{Config}
+use Rattle.heap_rule.specs.Cycles.{seen_by}
+use Rattle.heap_rule.proofs.Lists.{got_end}
+use Rattle.mark_slices.specs.Shares.{Noted}
+
+pub noted_more : (k : Config) (marked items : List ℕ) (a : ℕ) → Noted k marked items → Noted k (a ∷ marked) items
+noted_more k marked items a n = λ i b got. let f = n i b got in (f.0, f.1, or_right (b == a) (seen_by marked b) f.2)
+
+pub noted_push : (k : Config) (marked items : List ℕ) (a : ℕ) → 1 ≤ a → a ≤ k.pools * 4096 → Noted k marked items → Noted k (a ∷ marked) (items ++ a ∷ [])
+noted_push k marked items a low high n = λ i b got. ⊎_elim
+    (λ (old : slice_get items i ≡ Some b). noted_more k marked items a n i b old)
+    (λ (e : (i ≡ length items) × (a ≡ b)). subst (λ (c : ℕ). (1 ≤ c) × (c ≤ k.pools * 4096) × IsTrue (seen_by (a ∷ marked) c)) e.1 (low, high, or_left (a == a) (seen_by marked a) (eq-eqb a a refl)))
+    (got_end items a b i got)

@@ -1,0 +1,5 @@
+use Rattle.steps_cycle.specs.Marking.{Anywhere}
+use Rattle.mark_slices.proofs.following.follow.Given as goal
+
+abbrev pub ghost-scan_block : goal.ghost-scan_block
+ghost-scan_block a = Anywhere

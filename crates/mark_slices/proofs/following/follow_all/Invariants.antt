@@ -1,0 +1,17 @@
+use Rattle.std.proofs.Common.{◌≡◌, ◌+◌, ◌-◌, length}
+use Rattle.heap_rule.specs.Token.{IsIn}
+use Rattle.mark_slices.specs.Shares.{IsAsLong, Marks, Noted, Walked}
+use Rattle.mark_slices.proofs.following.follow_all.Given as goal
+
+abbrev pub invariant-loop-i : goal.invariant-loop-i
+invariant-loop-i l = record {
+  here : IsIn l.dom l.heap;
+  marks : Marks l.colours l.dom.view;
+  walked : Walked l.fn.dom.view.seen.share.walk l.darkened l.fn.dom.view l.dom.view;
+  own : l.dom.view.seen.share.tenure ≡ l.fn.dom.view.seen.share.tenure;
+  noted : Noted l.heap.config l.dom.view.seen.share.marked l.hints.items;
+  long : IsAsLong l.fn.hints l.hints;
+}
+
+abbrev pub decreases-loop-i : goal.decreases-loop-i
+decreases-loop-i l = l.fn.hints.room + length l.fn.hints.items - l.i

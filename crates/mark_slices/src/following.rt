@@ -1,0 +1,58 @@
+//! The scan of blocks that the domain has darkened itself.
+ghost use Rattle.std.specs.Prelude.{◌≡◌, ◌*◌, ◌≤◌, IsTrue, []};
+ghost use Rattle.heap_words.specs.ColourWords.{IsPermutation};
+ghost use Rattle.heap_rule.specs.Cycles.{seen_by};
+ghost use Rattle.heap_rule.specs.Token.{IsIn};
+ghost use Rattle.mark_slices.specs.Shares.{IsAsLong, Marks, Noted, Walked};
+
+use crate::heads::scan_of;
+use crate::hints::Hints;
+use crate::scanning::scan_block;
+use heap_rule::{Domain, Heap};
+use heap_words::Colours;
+use steps_cycle::grey_load;
+
+// Scans a block of a pool that is known to be marked, if it is grey. Answers whether the domain has
+// marked a block.
+fn follow(heap: &Heap, dom: &mut Domain, at: u32, colours: Colours, hints: &mut Hints) -> bool
+    requires here { IsIn dom.old heap.now }
+    requires marks { Marks colours dom.old.view }
+    requires meanings { IsPermutation colours }
+    requires inside { (1 ≤ at) × (at ≤ heap.now.config.pools * 4096) }
+    requires marked { IsTrue (seen_by dom.old.view.seen.share.marked at) }
+    requires noted { Noted heap.now.config dom.old.view.seen.share.marked hints.old.items }
+    ensures here { IsIn dom.new heap.now }
+    ensures walked { Walked dom.old.view.seen.share.walk result dom.old.view dom.new.view }
+    ensures own { dom.new.view.seen.share.tenure ≡ dom.old.view.seen.share.tenure }
+    ensures noted { Noted heap.now.config dom.new.view.seen.share.marked hints.new.items }
+    ensures long { IsAsLong hints.old hints.new }
+{
+    let word = grey_load(heap, dom, at);
+    let Some(block) = scan_of(word, colours) else {
+        return false;
+    };
+    scan_block(heap, dom, at, block, colours, hints)
+}
+
+// The same for all blocks that are noted, those too that are noted meanwhile. Then none is noted.
+pub(crate) fn follow_all(heap: &Heap, dom: &mut Domain, colours: Colours, hints: &mut Hints) -> bool
+    requires here { IsIn dom.old heap.now }
+    requires marks { Marks colours dom.old.view }
+    requires meanings { IsPermutation colours }
+    requires noted { Noted heap.now.config dom.old.view.seen.share.marked hints.old.items }
+    ensures here { IsIn dom.new heap.now }
+    ensures walked { Walked dom.old.view.seen.share.walk result dom.old.view dom.new.view }
+    ensures own { dom.new.view.seen.share.tenure ≡ dom.old.view.seen.share.tenure }
+    ensures none { hints.new.items ≡ [] }
+    ensures long { IsAsLong hints.old hints.new }
+{
+    let mut darkened = false;
+    let mut i = 0;
+    while i < hints.len() {
+        let at = hints.get(i);
+        darkened |= follow(heap, dom, at, colours, hints);
+        i += 1;
+    }
+    hints.clear();
+    darkened
+}
