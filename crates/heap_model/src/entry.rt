@@ -18,7 +18,8 @@ pub enum Entry {
     Command {
         domain: u32,
         command: Command,
-        /// Whether the reply is `Full`, and no block is made. Only an allocation may have it.
+        /// Whether the reply is `Full`, and no block is made. Only an allocation may have it, after a complete
+        /// collection since the domain's last command, and where so many blocks are kept that the pools may be used up.
         full: bool,
     },
     /// A domain's trace ends: its registers hold nothing from then on, and its registrations are dropped and never run.

@@ -24,7 +24,7 @@ pub enum Reply {
     Yes,
     /// `no`: the key or the data that was checked is empty, or the field held something else and stays.
     No,
-    /// `full`: no room was found, and the allocation made no block.
+    /// `full`: no room was found after a complete collection, and the allocation made no block.
     Full,
     /// `live`: how many blocks the registers and the queues reach, and the sum of their words: the fields and 2 for a
     /// plain or raw block, the keys and 3 for an ephemeron. The words by which its class is larger are not counted.

@@ -90,7 +90,18 @@ fn answer(step: Step) -> Result<Applied, ApplyFault> {
 
 // Plays a row on a new heap of one domain.
 pub(crate) fn play(rt: &impl Abort, alloc: Global, row: &[Step]) -> Result<(), Fail> {
-    let mut heap = SlowHeap::make(alloc, 1, 512, 32768, 6)?;
+    follow(rt, alloc, SlowHeap::make(alloc, 1, 512, 32768, 6)?, row)
+}
+
+// Plays a row on a new heap of one domain that has 22 pools, one more than promotion, the classes and the shared
+// block may need.
+pub(crate) fn play_small(rt: &impl Abort, alloc: Global, row: &[Step]) -> Result<(), Fail> {
+    follow(rt, alloc, SlowHeap::make(alloc, 1, 22, 32768, 6)?, row)
+}
+
+// Plays a row on a heap.
+fn follow(rt: &impl Abort, alloc: Global, heap: SlowHeap, row: &[Step]) -> Result<(), Fail> {
+    let mut heap = heap;
     for (at, step) in row.iter().enumerate() {
         let entry = entry(alloc, *step)?;
         let in_range = heap.is_in_range(&entry);

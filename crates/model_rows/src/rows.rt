@@ -1,6 +1,6 @@
 // Rows with the replies that they have by hand.
 use crate::play::Step::*;
-use crate::play::{Step, block, play};
+use crate::play::{Step, block, play, play_small};
 use heap_model::command::Command;
 use heap_model::command::Command::*;
 use heap_model::reply::Reply;
@@ -57,12 +57,34 @@ fn plain_blocks(rt: HostRuntime) -> Result<(), Fail> {
         load(2, 0, 16, Reply::BadIndex),
         load(2, 0, 15, Reply::Int(0)),
         store(0, 0, 9, Reply::BadType),
-        Fills(alloc(1)),
-        Refuses(Poll, true),
         End,
         Refuses(Poll, false),
     ];
     play(&rt, rt.alloc(), &row)
+}
+
+// Once two blocks are kept, an allocation is answered `full`: after a complete collection, until the domain's next command.
+#[test]
+fn used_up_pools(rt: HostRuntime) -> Result<(), Fail> {
+    let row = [
+        Refuses(alloc(1), true),
+        Cut,
+        Seal,
+        Collected,
+        Done,
+        Refuses(alloc(1), true),
+        new(alloc(1), 1),
+        Refuses(alloc(2), true),
+        Cut,
+        Seal,
+        Collected,
+        Done,
+        Refuses(Poll, true),
+        Fills(alloc(2)),
+        Refuses(alloc(2), true),
+        new(alloc(2), 2),
+    ];
+    play_small(&rt, rt.alloc(), &row)
 }
 
 #[test]

@@ -1,7 +1,7 @@
 //! The entries of commands.
-ghost use Rattle.std.specs.Prelude.{◌≡◌, ◌<◌, length, IfOk, OnOk, OnErr, IsTrue, ◌↔◌};
-ghost use Rattle.heap_model.specs.Domains.{IsShaped};
-ghost use Rattle.heap_model.specs.Commands.{FitsMode, is_allocation as allocates, CommandAllowed, after_command as command_made, outcome};
+ghost use Rattle.std.specs.Prelude.{◌≡◌, ◌+◌, ◌*◌, ◌<◌, ◌≤◌, length, IfOk, OnOk, OnErr, IsTrue, ◌↔◌};
+ghost use Rattle.heap_model.specs.Domains.{reserve, IsShaped, IsWithinLimits};
+ghost use Rattle.heap_model.specs.Commands.{FitsMode, MayBeFull, is_allocation as allocates, CommandAllowed, after_command as command_made, outcome};
 ghost use Rattle.heap_model.specs.Entries.{HasNextSerial};
 ghost use Rattle.slow_heap.specs.Follows.{Follows};
 
@@ -51,10 +51,32 @@ pub(crate) fn command_entry(
 // Whether the entry of a command is allowed.
 fn is_command_allowed(state: &State, d: usize, c: &Command, full: bool) -> bool
     requires domain { d < length state.now.domains }
+    requires shaped { IsShaped state.now }
     ensures { IsTrue result ↔ CommandAllowed state.now d c.now full }
 {
     let domains = &state.domains;
-    !domains.items[d].ended && fits_mode(state, d, c) && (!full || is_allocation(c))
+    !domains.items[d].ended && fits_mode(state, d, c) && (!full || may_be_full(state, d, c))
+}
+
+// Whether a domain may answer a command with `full`.
+fn may_be_full(state: &State, d: usize, c: &Command) -> bool
+    requires domain { d < length state.now.domains }
+    requires shaped { IsShaped state.now }
+    ensures { IsTrue result ↔ MayBeFull state.now d c.now }
+{
+    let domains = &state.domains;
+    is_allocation(c) && domains.items[d].fresh && is_kept_enough(state)
+}
+
+// Whether so many blocks are kept that the pools may be used up.
+fn is_kept_enough(state: &State) -> bool
+    requires { IsWithinLimits state.now.sizes }
+    ensures { IsTrue result ↔ state.now.sizes.pools ≤ state.now.kept + reserve state.now.sizes + state.now.sizes.classes * state.now.sizes.domains }
+{
+    let sizes = &state.sizes;
+    let reserve = sizes.domains * (sizes.minor_words / 4096 + sizes.classes);
+    let begun = sizes.classes * sizes.domains;
+    u64::from(sizes.pools - reserve - begun) <= state.kept
 }
 
 // Whether the mode and the domain's queue allow a command. The four that stand for several others are never allowed.
