@@ -1,34 +1,39 @@
 -- What a domain that has arrived does in a turn.
-use Rattle.std.specs.Prelude.{◌≡◌, ◌*◌, ◌<◌, Option, Some, None}
+use Rattle.std.specs.Prelude.{◌≡◌, ◌*◌, ◌<◌, Bool, true, false, Option, Some, None}
 use Rattle.heap_rule.specs.declared.config.Config.{Config}
 use Rattle.heap_rule.specs.declared.view.DomainView.{DomainView}
 use Rattle.heap_rule.specs.declared.phase.Kind.{Kind}
 use Rattle.heap_rule.specs.declared.phase.Stage.TheVariants.{In}
-use Rattle.heap_rule.specs.declared.phase.Kind.TheVariants.{Run}
+use Rattle.heap_rule.specs.declared.phase.Kind.TheVariants.{Run, Answer}
 use Rattle.heap_rule.specs.declared.phase.Note.TheVariants.{Barrier}
-use Rattle.steps_pauses.specs.Pauses.{noted}
+use Rattle.heap_rule.specs.Phases.{IsEven}
 use Rattle.heap_rule.specs.Token.{SharedHeap}
+use Rattle.steps_pauses.specs.Pauses.{noted}
 use Rattle.safepoint.specs.Looks.{Passed}
 use Rattle.domain_turns.specs.declared.passing.Past.{Past}
-use Rattle.domain_turns.specs.declared.passing.Past.TheVariants.{Waits, Arrived, Runs}
-use Rattle.heap_rule.specs.Phases.{IsEven}
-use Rattle.domain_turns.specs.Pausing.{IsCollected}
-use Rattle.domain_turns.specs.Runs.{RunView, Passes, GoesBy, Waits as RunWaits, Resumes}
+use Rattle.domain_turns.specs.declared.passing.Past.TheVariants.{Waits, Arrived, Answered, Runs}
+use Rattle.domain_turns.specs.Pausing.{IsCollected, GivesBack, AnswersLive}
+use Rattle.domain_turns.specs.Runs.{RunView, Passes, GoesBy, IsAnswered, SeesAnswer, Waits as RunWaits, Resumes}
 
--- what a look at the barrier came to, for a domain that arrived from a phase whose last even kind is `known`
-abbrev pub PassAnswers : Config → DomainView → DomainView → Kind → Past → Type 0
-PassAnswers k x y known (Waits b) = (b < x.own.arrivals * k.domains) × (y ≡ noted x (Barrier b))
-PassAnswers k x y known (Arrived kind) = Passes k x y known kind
-PassAnswers k x y known Runs = Passed k x y × (y.seen.stage ≡ In Run) × IsEven x.own.arrivals × IsCollected k y
+-- what a look at the barrier came to, for a domain that arrived from a phase whose last even kind is `known`, and waits for the answer of a `full_major` or doesn't
+abbrev pub PassAnswers : Config → DomainView → DomainView → Kind → Bool → Past → Type 0
+PassAnswers k x y known live (Waits b) = (b < x.own.arrivals * k.domains) × (y ≡ noted x (Barrier b))
+PassAnswers k x y known live (Arrived kind) = Passes k x y known kind
+PassAnswers k x y known live (Answered None) = (live ≡ false) × GivesBack k x y
+PassAnswers k x y known live (Answered (Some reply)) = (live ≡ true) × AnswersLive k x y reply
+PassAnswers k x y known live Runs = Passed k x y × (y.seen.stage ≡ In Run) × IsEven x.own.arrivals × IsCollected k y
 
 -- the kind of the last even phase that it then knows of
 abbrev pub left_after : Past → Kind → Option Kind
 left_after (Waits b) known = Some known
 left_after (Arrived kind) known = Some kind
+left_after (Answered reply) known = Some Answer
 left_after Runs known = None
 
 -- the same of its run
 abbrev pub PastAnswers : SharedHeap → RunView → RunView → Past → Type 0
 PastAnswers h old new (Waits b) = RunWaits h old new b
 PastAnswers h old new (Arrived kind) = GoesBy h old new
+PastAnswers h old new (Answered None) = SeesAnswer h old new
+PastAnswers h old new (Answered (Some reply)) = IsAnswered h old new
 PastAnswers h old new Runs = Resumes h old new

@@ -1,22 +1,33 @@
 -- What a domain has, remembers and holds as it goes through the phases of a pause.
-use Rattle.std.specs.Prelude.{◌≡◌, ◌≢◌, ◌⊎◌, ◌++◌, ℕ, List, [], ◌∷◌}
+use Rattle.std.specs.Prelude.{◌≡◌, ◌≢◌, ◌⊎◌, Bool, true, false, ℕ, List, [], Option, Some, None}
+use Rattle.heap_model.specs.declared.entry.Entry.{Entry}
+use Rattle.heap_model.specs.declared.entry.Entry.TheVariants.{Command as CommandOf}
+use Rattle.heap_model.specs.declared.command.Command.TheVariants.{FullMajor}
+use Rattle.heap_model.specs.declared.reply.Reply.{Reply}
+use Rattle.heap_model.specs.declared.reply.Reply.TheVariants.{Live}
+use Rattle.heap_model.specs.declared.reply.Applied.TheVariants.{Replied}
+use Rattle.heap_model.specs.declared.state.Mode.TheVariants.{Answer as Answered}
+use Rattle.heap_model.specs.Fronts.{Answers}
 use Rattle.heap_rule.specs.declared.config.Config.{Config}
 use Rattle.heap_rule.specs.declared.view.DomainView.{DomainView}
 use Rattle.heap_rule.specs.declared.phase.Kind.{Kind}
-use Rattle.heap_rule.specs.declared.phase.Kind.TheVariants.{Run, Promote, Reset}
-use Rattle.heap_rule.specs.declared.phase.Note.{Note}
-use Rattle.heap_rule.specs.declared.phase.Note.TheVariants.{SetBack}
-use Rattle.heap_rule.specs.Copies.{nothing_copied, HoldsOld}
+use Rattle.heap_rule.specs.declared.phase.Kind.TheVariants.{Run, Promote, Reset, Mark, Rounds, Sweep, Answer}
+use Rattle.heap_rule.specs.declared.phase.Stage.TheVariants.{In}
+use Rattle.heap_rule.specs.Copies.{nothing_copied, HoldsOld, IsEmptying}
+use Rattle.heap_rule.specs.Limits.{sizes_in}
 use Rattle.heap_rule.specs.Phases.{Follows, IsEven, IsOdd}
+use Rattle.heap_rule.specs.Rule.{state_of}
 use Rattle.heap_rule.specs.Running.{RemembersAll}
-use Rattle.heap_rule.specs.declared.phase.Stage.TheVariants.{Led}
-use Rattle.heap_rule.specs.Cycles.{HasNoCycle}
-use Rattle.heap_rule.specs.Views.{fresh_share}
-use Rattle.steps_pauses.specs.Pauses.{arrived_view, cut_in, kind_in}
-use Rattle.safepoint.specs.Looks.{cleared}
-use Rattle.steps_pools.specs.Listings.{with_listing}
+use Rattle.heap_rule.specs.Standing.{with_front}
+use Rattle.heap_rule.specs.Views.{voided}
+use Rattle.steps_pauses.specs.Pauses.{arrived_view}
+use Rattle.safepoint.specs.Looks.{Passed}
 use Rattle.steps_promote.specs.Promotion.{NoneYoung, reset_view}
 use Rattle.promote_claim.specs.Sharing.{Unprepared, Shared}
+use Rattle.steps_cycle.specs.Looks.{with_share}
+use Rattle.cycle_phases.specs.Sharing.{SharesIn}
+use Rattle.cycle_phases.specs.Leading.{LeadsOn}
+use Rattle.domain_turns.specs.Tries.{IsFresh}
 
 -- no block was met, no copy is listed, and no place is prepared for one
 pub record IsQuiet (x : DomainView) : Type 0 where
@@ -24,43 +35,41 @@ pub record IsQuiet (x : DomainView) : Type 0 where
   pub no_copies : x.own.pending.items ≡ []
   pub unprepared : Unprepared x
 
--- the domain has gone through an even phase of this kind, in which no collection of the major heap went on. After Run it remembers the fields of its list, and after the others none, and no register holds an address of a minor area. After Reset its minor area and its list are empty
+-- where a collection may have been answered since, the domain has made no entry since it was
+abbrev pub KnowsAnswer : Config → DomainView → Type 0
+KnowsAnswer k x = (state_of k x.seen.front).mode ≡ Answered → IsFresh k x
+
+-- the domain has gone through an even phase of this kind. After Run it remembers the fields of its list, and after the others none, and no register holds an address of a minor area. After Reset its minor area and its list are empty. It has forgotten what it knew of the phase
 pub record IsPast (k : Config) (kind : Kind) (x : DomainView) : Type 0 where
-  pub outside : HasNoCycle kind
   pub remembers : kind ≡ Run → RemembersAll x
   pub looked_through : kind ≢ Run → x.seen.remembered ≡ []
   pub holds_old : kind ≢ Run → HoldsOld k x
-  pub emptied : kind ≡ Reset → x.own.used ≡ 0
-  pub forgotten : kind ≡ Reset → x.own.remembered.items ≡ []
+  pub emptied : IsEmptying kind → x.own.used ≡ 0
+  pub forgotten : IsEmptying kind → x.own.remembered.items ≡ []
+  pub void : x.seen.share ≡ voided x.seen.share
+  pub answer : kind ≡ Sweep → KnowsAnswer k x
 
 -- the domain has gone through the phase before one of this kind
 pub record IsReady (k : Config) (kind : Kind) (x : DomainView) : Type 0 where
   pub before : Kind
   pub follows : Follows before kind
   pub past : IsPast k before x
+  pub fresh : kind ≡ Answer → IsFresh k x
 
 -- the domain has arrived, and knew this kind when it did: it has gone through a phase of this kind, or, where domain 0 has named the kind, through the one before
 pub record HasLeft (k : Config) (known : Kind) (x : DomainView) : Type 0 where
   pub past : IsOdd x.own.arrivals ⊎ (x.own.number ≢ 0) → IsPast k known x
   pub ready : IsEven x.own.arrivals → x.own.number ≡ 0 → IsReady k known x
 
--- what domain 0 notes before it names a kind
-abbrev pub opened : Kind → List Note
-opened Run = []
-opened Promote = SetBack ∷ []
-opened _ = []
+-- in these phases domain 0 goes by whether the collection's cut is made
+abbrev pub IsMarking : Kind → Type 0
+IsMarking Mark = Unit {0}
+IsMarking Rounds = Unit {0}
+IsMarking _ = ⊥
 
--- domain 0 is ready to name the kind
-abbrev pub opened_view : DomainView → Kind → DomainView
-opened_view x kind = record x { seen = record x.seen { notes = x.seen.notes ++ opened kind } }
-
--- domain 0 has named the kind. No entry of the collector stands then
-abbrev pub led_view : DomainView → Kind → DomainView
-led_view x kind = record x { seen = record x.seen { stage = Led kind; share = record fresh_share { cut = cut_in (kind_in x.seen.stage) x.seen.share.cut }; notes = x.seen.notes ++ cleared kind } }
-
--- it holds all that it held, and knows all but the list of free pools as before
-abbrev pub Opens : DomainView → DomainView → Kind → Type 0
-Opens x y kind = y ≡ with_listing (opened_view x kind) y.seen.listing
+-- domain 0 knows it
+abbrev pub KnowsCut : Kind → Bool → DomainView → Type 0
+KnowsCut known cut x = IsMarking known → x.own.number ≡ 0 → cut ≡ x.seen.share.cut
 
 -- the domain did its share of Promote, and arrived
 pub record LeavesPromote (k : Config) (x y : DomainView) : Type 0 where
@@ -74,11 +83,56 @@ pub record LeavesReset (k : Config) (x y : DomainView) : Type 0 where
   pub words : List ℕ
   pub none_young : NoneYoung k x words
 
--- what a domain does in an even phase of a pause without a collection of the major heap
+-- what a domain does in an even phase of a pause in which no collection is answered
 abbrev pub LeavesEven : Config → Kind → DomainView → DomainView → Type 0
+LeavesEven k Run x y = ⊥
 LeavesEven k Promote x y = LeavesPromote k x y
 LeavesEven k Reset x y = LeavesReset k x y
-LeavesEven k _ x y = ⊥
+LeavesEven k Answer x y = ⊥
+LeavesEven k kind x y = SharesIn kind x y
+
+-- how a domain leaves an odd phase: domain 0 finds which kind comes next, and names it
+abbrev pub LeavesOdd : Config → DomainView → DomainView → Kind → Kind → Type 0
+LeavesOdd k x y last kind = ((x.own.number ≡ 0) × LeadsOn k x y last kind) ⊎ ((x.own.number ≢ 0) × (kind ≡ last) × (y ≡ arrived_view x))
+
+-- a look found that the phase has begun in which a collection is answered
+pub record ComesToAnswer (k : Config) (x begun : DomainView) : Type 0 where
+  pub passed : Passed k x begun
+  pub stage : begun.seen.stage ≡ In Answer
+  pub even : IsEven x.own.arrivals
+  pub ready : IsReady k Answer begun
+
+-- the domain gave back its pools in which nothing is left, and arrived
+pub record GivesBack (k : Config) (x y : DomainView) : Type 0 where
+  pub begun : DomainView
+  pub comes : ComesToAnswer k x begun
+  pub view : y ≡ arrived_view begun
+
+-- the domain made the entry of its `full_major`, and the reply tells what lives
+pub record LivesAs (k : Config) (x y : DomainView) (reply : Reply) : Type 0 where
+  pub blocks : ℕ
+  pub words : ℕ
+  pub reply_is : reply ≡ Live blocks words
+  pub answers : Answers (sizes_in k) x.own.number x.seen.front y.seen.front (CommandOf x.own.number FullMajor false) (Replied reply)
+  pub view : y ≡ with_share (with_front x y.seen.front) y.seen.share
+  pub cut : y.seen.share ≡ record x.seen.share { blocks = y.seen.share.blocks; words = y.seen.share.words }
+
+-- and then it arrived, if it waited for one, or it arrived at once
+abbrev pub AnswersFrom : Config → DomainView → DomainView → Bool → Option Reply → Type 0
+AnswersFrom k x y live None = (live ≡ false) × (y ≡ arrived_view x)
+AnswersFrom k x y live (Some reply) = (live ≡ true) × ((between : DomainView) × LivesAs k x between reply × (y ≡ arrived_view (with_front x between.seen.front)))
+
+-- before that it made the entry of its `full_major`, with its minor area empty: the reply tells what lives
+pub record AnswersLive (k : Config) (x y : DomainView) (reply : Reply) : Type 0 where
+  pub begun : DomainView
+  pub comes : ComesToAnswer k x begun
+  pub emptied : begun.own.used ≡ 0
+  pub blocks : ℕ
+  pub words : ℕ
+  pub reply_is : reply ≡ Live blocks words
+  pub front : List Entry
+  pub answers : Answers (sizes_in k) x.own.number begun.seen.front front (CommandOf x.own.number FullMajor false) (Replied reply)
+  pub view : y ≡ arrived_view (with_front begun front)
 
 -- what a pause leaves of a domain: its minor area is empty, it remembers no field, and no register holds an address of a minor area
 pub record IsCollected (k : Config) (x : DomainView) : Type 0 where

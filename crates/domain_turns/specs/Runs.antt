@@ -11,11 +11,11 @@ use Rattle.heap_model.specs.Fronts.{Answers}
 use Rattle.heap_words.specs.declared.value.Value.{Value}
 use Rattle.heap_words.specs.declared.value.Value.TheVariants.{Nothing}
 use Rattle.heap_model.specs.Domains.{class_count, domain_at}
-use Rattle.heap_model.specs.declared.command.Command.TheVariants.{Minor}
+use Rattle.heap_model.specs.declared.command.Command.TheVariants.{Minor, Major, FullMajor}
 use Rattle.heap_rule.specs.declared.config.Config.{Config}
 use Rattle.heap_rule.specs.declared.view.DomainView.{DomainView}
 use Rattle.heap_rule.specs.declared.phase.Kind.{Kind}
-use Rattle.heap_rule.specs.declared.phase.Kind.TheVariants.{Run}
+use Rattle.heap_rule.specs.declared.phase.Kind.TheVariants.{Run, Answer}
 use Rattle.heap_rule.specs.declared.phase.Stage.{Stage}
 use Rattle.heap_rule.specs.declared.phase.Stage.TheVariants.{In, Leads, Gone}
 use Rattle.heap_rule.specs.declared.phase.Note.{Note}
@@ -23,9 +23,10 @@ use Rattle.heap_rule.specs.declared.phase.Note.TheVariants.{Want, Asked, Barrier
 use Rattle.heap_rule.specs.Phases.{IsEven, IsOdd, Follows, Comes}
 use Rattle.heap_rule.specs.Copies.{nothing_copied}
 use Rattle.heap_rule.specs.Running.{RemembersAll}
-use Rattle.steps_pauses.specs.Pauses.{noted, arrived_view}
+use Rattle.steps_pauses.specs.Pauses.{noted, arrived_view, cut_in}
 use Rattle.heap_rule.specs.Rule.{state_of}
-use Rattle.safepoint.specs.Looks.{Passed}
+use Rattle.safepoint.specs.Looks.{Passed, bit_of}
+use Rattle.safepoint.specs.declared.answer.Want.TheVariants.{Full}
 use Rattle.domain_turns.specs.declared.turned.Turned.{Turned}
 use Rattle.domain_turns.specs.declared.turned.Turned.TheVariants.{Did, Waiting, Idle}
 use Rattle.domain_turns.specs.declared.turned.Turned.TheVariants.{Ended as Over}
@@ -33,10 +34,10 @@ use Rattle.heap_rule.specs.declared.view.Hunt.TheVariants.{Rests as AtRest}
 use Rattle.heap_rule.specs.Limits.{sizes_in}
 use Rattle.heap_rule.specs.Standing.{Acts}
 use Rattle.heap_rule.specs.Token.{Token, SharedHeap, IsIn}
-use Rattle.domain_turns.specs.Pausing.{IsQuiet, HasLeft, LeavesEven, IsCollected, opened_view, led_view}
-use Rattle.domain_turns.specs.Tries.{FitsHeap, NeedsMinor, Tried}
+use Rattle.domain_turns.specs.Pausing.{IsQuiet, HasLeft, KnowsCut, LeavesEven, LeavesOdd, GivesBack, AnswersLive, IsCollected}
+use Rattle.domain_turns.specs.Tries.{FitsHeap, IsFresh, NeedsPause, Refused, Tried, wish_of}
 
--- a run: the domain's token, its commands, the place of the next one, its replies, whether its trace has ended, where the domain has arrived from which kind of phase, and how often it had arrived when it asked for a pause for the next command
+-- a run: the domain's token, its commands, the place of the next one, its replies, whether its trace has ended, where the domain has arrived from which kind of phase, how often it had arrived when it asked for a pause for the next command, whether the last pause since then was a complete collection, and, for domain 0, whether the collection under way is past its cut
 pub record RunView : Type 0 where
   pub token : Token
   pub commands : List model.Command
@@ -45,6 +46,8 @@ pub record RunView : Type 0 where
   pub ended : Bool
   pub left : Option Kind
   pub asked : Option ℕ
+  pub collected : Bool
+  pub cut : Bool
 
 -- whether an entry is the end of domain d
 abbrev pub is_end_of : ℕ → Entry → Bool
@@ -81,14 +84,16 @@ abbrev pub StandsAt : Option Kind → Stage → Type 0
 StandsAt None stage = stage ≡ In Run
 StandsAt (Some kind) stage = stage ≡ Gone kind
 
--- how a domain stands between two turns: it runs, and its minor area is empty where a pause has come since it asked for one, or it has arrived
-pub record IsBetween (left : Option Kind) (asked : Option ℕ) (t : Token) : Type 0 where
+-- how a domain stands between two turns: it runs, and its minor area is empty where a pause has come since it asked for one, or it has arrived. Where the last pause was a complete collection for the next command it has made no entry since
+pub record IsBetween (left : Option Kind) (asked : Option ℕ) (collected cut : Bool) (t : Token) : Type 0 where
   pub stands : StandsAt left t.view.seen.stage
   pub quiet : IsQuiet t.view
   pub even : left ≡ None → IsEven t.view.own.arrivals
   pub remembers : left ≡ None → RemembersAll t.view
   pub collected : left ≡ None → served_since asked t.view.own.arrivals ≡ true → t.view.own.used ≡ 0
   pub has_left : (known : Kind) → left ≡ Some known → HasLeft t.config known t.view
+  pub fresh : collected ≡ true → IsFresh t.config t.view
+  pub knows_cut : (known : Kind) → left ≡ Some known → KnowsCut known cut t.view
 
 -- what is true of a run between any two turns: the domain's commands in its front are those before the next, each once and in order, and the replies are theirs
 pub record IsRun (r : RunView) : Type 0 where
@@ -101,7 +106,7 @@ pub record IsRun (r : RunView) : Type 0 where
   pub idle : r.token.view.seen.made ≡ []
   pub at_rest : r.token.view.seen.hunt ≡ AtRest
   pub goes_on : r.ended ≡ false → (domain_at (state_of r.token.config r.token.view.seen.front) r.token.view.own.number).ended ≡ false
-  pub between : IsBetween r.left r.asked r.token
+  pub between : IsBetween r.left r.asked r.collected r.cut r.token
   pub labels : r.token.view.own.serial ≤ 4000000000 + r.next
   pub done : r.ended ≡ true → r.next ≡ length r.commands
   pub over : r.ended ≡ true → IsTrue (list_any (is_end_of r.token.view.own.number) r.token.view.seen.front)
@@ -117,27 +122,36 @@ pub record HasEnded (h : SharedHeap) (old new : Token) : Type 0 where
   pub heap : (new.table ≡ old.table) × (new.config ≡ old.config)
   pub view : new.view ≡ left_with old.view (replicate 16 Nothing) new.view.seen.front
 
--- a turn tried the command, and its reply was kept. No collection of young blocks had to come first, and a `minor` finds the minor area empty
+-- a turn tried the command, and its reply was kept. No pause had to come first, and a `minor` or a `major` finds the minor area empty
 pub record TriesCommand (h : SharedHeap) (start : Token) (old new : RunView) (c : model.Command) : Type 0 where
   pub next : slice_get old.commands old.next ≡ Some c
-  pub ready : NeedsMinor h.config start.view.own (served_since old.asked old.token.view.own.arrivals) c → ⊥
-  pub collected : c ≡ Minor → start.view.own.used ≡ 0
+  pub ready : NeedsPause h.config start.view.own (served_since old.asked old.token.view.own.arrivals) c → ⊥
+  pub emptied : (c ≡ Minor) ⊎ (c ≡ Major) → start.view.own.used ≡ 0
   pub reply : Reply
-  pub tried : Tried h start new.token c reply
-  pub run : new ≡ record old { token = new.token; next = old.next + 1; replies = old.replies ++ reply ∷ []; asked = None }
+  pub tried : Tried h start new.token c old.collected reply
+  pub run : new ≡ record old { token = new.token; next = old.next + 1; replies = old.replies ++ reply ∷ []; asked = None; collected = false }
 
 -- a turn ended the trace
 pub record EndsTrace (h : SharedHeap) (start : Token) (old new : RunView) : Type 0 where
   pub past : length old.commands ≤ old.next
   pub ended : HasEnded h start new.token
-  pub run : new ≡ record old { token = new.token; ended = true }
+  pub run : new ≡ record old { token = new.token; ended = true; collected = false }
 
--- a turn asked for a minor collection, which the next command needs first
+-- a turn asked for the pause that the next command needs first
 pub record Asks (h : SharedHeap) (start : Token) (old new : RunView) : Type 0 where
   pub command : model.Command
   pub next : slice_get old.commands old.next ≡ Some command
-  pub needs : NeedsMinor h.config start.view.own (served_since old.asked old.token.view.own.arrivals) command
-  pub run : new ≡ record old { token = record start { view = noted start.view (Asked 1) }; asked = Some old.token.view.own.arrivals }
+  pub needs : NeedsPause h.config start.view.own (served_since old.asked old.token.view.own.arrivals) command
+  pub run : new ≡ record old { token = record start { view = noted start.view (Asked (bit_of (wish_of command))) }; asked = Some old.token.view.own.arrivals }
+
+-- or the next command is an allocation that was refused in this turn, without a complete collection for it before, and the turn asked for one
+pub record AsksFull (h : SharedHeap) (start : Token) (old new : RunView) : Type 0 where
+  pub command : model.Command
+  pub next : slice_get old.commands old.next ≡ Some command
+  pub ready : NeedsPause h.config start.view.own (served_since old.asked old.token.view.own.arrivals) command → ⊥
+  pub searched : Token
+  pub refused : Refused h start searched command old.collected
+  pub run : new ≡ record old { token = record searched { view = noted searched.view (Asked (bit_of Full)) }; asked = Some old.token.view.own.arrivals }
 
 -- the token whose domain has noted one thing more
 abbrev pub noted_token : Token → Note → Token
@@ -146,6 +160,7 @@ noted_token t note = record t { view = noted t.view note }
 -- what a running domain does in a turn that found no wish
 pub data CalmDid (h : SharedHeap) (old new : RunView) : Type 0 where
   Wishes : Asks h old.token old new → CalmDid h old new
+  Refuses : AsksFull h old.token old new → CalmDid h old new
   Tries : (c : model.Command) → TriesCommand h old.token old new c → CalmDid h old new
   Ends : EndsTrace h old.token old new → CalmDid h old new
 
@@ -172,7 +187,7 @@ wanting r w = record r { token = noted_token r.token (Want w) }
 pub record Stops (old new : RunView) : Type 0 where
   pub found : ℕ
   pub wanted : found ≢ 0
-  pub run : new ≡ record old { token = record old.token { view = arrived_view (noted old.token.view (Want found)) }; left = Some Run }
+  pub run : new ≡ record old { token = record old.token { view = arrived_view (noted old.token.view (Want found)) }; left = Some Run; collected = false }
 
 -- what the turn of a running domain answers: it found a wish and arrived, or it found none
 abbrev pub RunAnswers : SharedHeap → RunView → RunView → Turned → Type 0
@@ -191,15 +206,11 @@ pub record Resumes (h : SharedHeap) (old start : RunView) : Type 0 where
 abbrev pub Starts : SharedHeap → RunView → RunView → Type 0
 Starts h old start = ((old.left ≡ None) × (start ≡ old)) ⊎ Resumes h old start
 
--- how a domain leaves an odd phase: domain 0 names the kind that comes next. It takes the wishes back where it is Run, and sets the cursor back where it is Promote
-abbrev pub LeavesOdd : DomainView → DomainView → Kind → Kind → Type 0
-LeavesOdd x y last kind = ((x.own.number ≡ 0) × Follows last kind × (y ≡ arrived_view (led_view (opened_view x kind) kind))) ⊎ ((x.own.number ≢ 0) × (kind ≡ last) × (y ≡ arrived_view x))
-
 -- a look found that all have arrived: the domain did its share of the phase that had begun, and arrived
 pub record Passes (k : Config) (x y : DomainView) (last kind : Kind) : Type 0 where
   pub begun : DomainView
   pub passed : Passed k x begun
-  pub share : (IsEven x.own.arrivals × (begun.seen.stage ≡ In kind) × Comes x.own.number last kind × LeavesEven k kind begun y) ⊎ (IsOdd x.own.arrivals × (begun.seen.stage ≡ Leads last) × LeavesOdd begun y last kind)
+  pub share : (IsEven x.own.arrivals × (begun.seen.stage ≡ In kind) × Comes x.own.number last kind × LeavesEven k kind begun y) ⊎ (IsOdd x.own.arrivals × (begun.seen.stage ≡ Leads last) × LeavesOdd k begun y last kind)
 
 -- the domain had arrived, and went through the phase that had begun since
 pub record GoesBy (h : SharedHeap) (old new : RunView) : Type 0 where
@@ -207,7 +218,29 @@ pub record GoesBy (h : SharedHeap) (old new : RunView) : Type 0 where
   pub arrived : old.left ≡ Some last
   pub kind : Kind
   pub passes : Passes h.config old.token.view new.token.view last kind
-  pub run : new ≡ record old { token = record old.token { view = new.token.view }; left = Some kind }
+  pub run : new ≡ record old { token = record old.token { view = new.token.view }; left = Some kind; cut = cut_in last old.cut }
+
+-- whether the domain has asked for a pause for the next command
+abbrev pub is_asked : Option ℕ → Bool
+is_asked None = false
+is_asked (Some at) = true
+
+-- the domain had arrived, and a collection was answered, by the reply of its next command among others: it is `full_major`
+pub record IsAnswered (h : SharedHeap) (old new : RunView) : Type 0 where
+  pub last : Kind
+  pub arrived : old.left ≡ Some last
+  pub next : slice_get old.commands old.next ≡ Some FullMajor
+  pub reply : Reply
+  pub answers : AnswersLive h.config old.token.view new.token.view reply
+  pub run : new ≡ record old { token = record old.token { view = new.token.view }; next = old.next + 1; replies = old.replies ++ reply ∷ []; left = Some Answer; asked = None; collected = false; cut = cut_in last old.cut }
+
+-- or its next command is none, and a complete collection has come for it where it had been tried
+pub record SeesAnswer (h : SharedHeap) (old new : RunView) : Type 0 where
+  pub last : Kind
+  pub arrived : old.left ≡ Some last
+  pub none : slice_get old.commands old.next ≢ Some FullMajor
+  pub gives : GivesBack h.config old.token.view new.token.view
+  pub run : new ≡ record old { token = record old.token { view = new.token.view }; left = Some Answer; collected = is_asked old.asked; cut = cut_in last old.cut }
 
 -- not all have arrived: the barrier word b, found in this turn, is below the end of the domain's turn
 pub record Waits (h : SharedHeap) (old new : RunView) (b : ℕ) : Type 0 where
@@ -218,7 +251,7 @@ pub record Waits (h : SharedHeap) (old new : RunView) (b : ℕ) : Type 0 where
 -- what a turn answers
 abbrev pub TurnAnswers : SharedHeap → RunView → RunView → Turned → Type 0
 TurnAnswers h old new (Waiting b) = Waits h old new b
-TurnAnswers h old new Did = GoesBy h old new ⊎ ((start : RunView) × Starts h old start × RunAnswers h start new Did)
+TurnAnswers h old new Did = GoesBy h old new ⊎ (IsAnswered h old new ⊎ (SeesAnswer h old new ⊎ ((start : RunView) × Starts h old start × RunAnswers h start new Did)))
 TurnAnswers h old new (Idle n) = (start : RunView) × Starts h old start × RunAnswers h start new (Idle n)
 TurnAnswers h old new Over = (start : RunView) × Starts h old start × RunAnswers h start new Over
 

@@ -1,12 +1,14 @@
 -- What the try of a command leaves.
-use Rattle.std.specs.Prelude.{◌≡◌, ℕ, ◌+◌, ◌<◌, ◌≤◌, ◌⊎◌, List, Bool, true, false}
+use Rattle.std.specs.Prelude.{◌≡◌, ℕ, ◌+◌, ◌<◌, ◌≤◌, ◌⊎◌, List, Bool, true, false, Some}
 use Rattle.heap_model.specs.declared.command.Command.{Command}
-use Rattle.heap_model.specs.declared.command.Command.TheVariants.{PutInt, Copy, Forget, Alloc, AllocMaj, Load, Store, Poll, Minor}
+use Rattle.heap_model.specs.declared.command.Command.TheVariants.{PutInt, Copy, Forget, Alloc, AllocMaj, Load, Store, Poll, Minor, Major, FullMajor}
 use Rattle.heap_model.specs.declared.entry.Entry.{Entry}
 use Rattle.heap_model.specs.declared.entry.Entry.TheVariants.{Command as CommandOf}
 use Rattle.heap_model.specs.declared.reply.Reply.{Reply}
 use Rattle.heap_model.specs.declared.reply.Reply.TheVariants.{Block}
 use Rattle.heap_model.specs.declared.reply.Applied.TheVariants.{Replied}
+use Rattle.domain_turns.specs.declared.command.Attempt.{Attempt}
+use Rattle.domain_turns.specs.declared.command.Attempt.TheVariants.{Made, Needs, NoRoom}
 use Rattle.heap_model.specs.Fronts.{Answers}
 use Rattle.heap_words.specs.declared.value.Value.TheVariants.{Int}
 use Rattle.heap_words.specs.Values.{IsPackable}
@@ -27,6 +29,14 @@ use Rattle.heap_rule.specs.Token.{Token, SharedHeap}
 use Rattle.steps_making.specs.Inits.{IsOpen}
 use Rattle.minor_area.specs.Area.{HasRoom, IsShut}
 use Rattle.size_pools.specs.Taken.{Reserved, HasPlace}
+use Rattle.heap_model.specs.Domains.{domain_at, reserve}
+use Rattle.heap_rule.specs.declared.view.Hunt.TheVariants.{Rests}
+use Rattle.heap_rule.specs.Pools.{hunting_free}
+use Rattle.heap_rule.specs.Rule.{state_of}
+use Rattle.heap_rule.specs.Token.{IsIn}
+use Rattle.safepoint.specs.declared.answer.Want.{Want}
+use Rattle.safepoint.specs.declared.answer.Want.TheVariants.{Cycle, Full}
+use Rattle.safepoint.specs.declared.answer.Want.TheVariants.{Minor as Young}
 
 -- the commands that run on the shared heap so far, with their numbers in their ranges
 abbrev pub FitsHeap : Command → Type 0
@@ -39,14 +49,24 @@ FitsHeap (Load dst src index) = (dst < 16) × (src < 16)
 FitsHeap (Store block index item) = (block < 16) × (item < 16)
 FitsHeap Poll = Unit {0}
 FitsHeap Minor = Unit {0}
+FitsHeap Major = Unit {0}
+FitsHeap FullMajor = Unit {0}
 FitsHeap _ = ⊥
 
--- a collection of young blocks must come first: no pause has served a `minor`, the minor area has no room for the young block, or the domain can't remember one more field
-abbrev pub NeedsMinor : Config → Own → Bool → Command → Type 0
-NeedsMinor k own served Minor = served ≡ false
-NeedsMinor k own served (Alloc dst tag fields) = k.minor_words < own.used + class_words (fields + 2)
-NeedsMinor k own served (Store block index item) = own.remembered.room < 1
-NeedsMinor k own served _ = ⊥
+-- a pause must come first: none has served a `minor` or a `major`, the minor area has no room for the young block, or the domain can't remember one more field. A `full_major` is answered in a pause
+abbrev pub NeedsPause : Config → Own → Bool → Command → Type 0
+NeedsPause k own served Minor = served ≡ false
+NeedsPause k own served Major = served ≡ false
+NeedsPause k own served FullMajor = Unit {0}
+NeedsPause k own served (Alloc dst tag fields) = k.minor_words < own.used + class_words (fields + 2)
+NeedsPause k own served (Store block index item) = own.remembered.room < 1
+NeedsPause k own served _ = ⊥
+
+-- and which is asked for: a collection of the major heap, a complete one, or one of young blocks
+abbrev pub wish_of : Command → Want
+wish_of Major = Cycle
+wish_of FullMajor = Full
+wish_of _ = Young
 
 -- the entry of a command that is answered `full`
 abbrev pub full_entry : Token → Command → Entry
@@ -81,11 +101,32 @@ pub record HasNoSpace (h : SharedHeap) (old new : Token) (fields : ℕ) : Type 0
   pub room : HasRoom h.config old.view fields
   pub few : IsShut h.config new.view
 
--- the entry that stands: `full` for a young block exactly where too few pools are free, and for one of the major heap exactly where no pool is to be had
-abbrev pub Stands : SharedHeap → Token → Token → Command → Reply → Type 0
-Stands h old new (Alloc dst tag fields) r = (Enters old new (Alloc dst tag fields) false r × HasSpace h old new fields) ⊎ (Enters old new (Alloc dst tag fields) true r × HasNoSpace h old new fields)
-Stands h old new (AllocMaj dst tag fields) r = (Enters old new (AllocMaj dst tag fields) false r × HasPool h.config fields old.view new.view) ⊎ (Enters old new (AllocMaj dst tag fields) true r × HasNoPool h.config fields new.view)
-Stands h old new c r = Enters old new c false r
+-- the domain has made no entry since a complete collection
+abbrev pub IsFresh : Config → DomainView → Type 0
+IsFresh k x = (domain_at (state_of k x.seen.front) x.own.number).fresh ≡ true
+
+-- the entry that stands: after a complete collection for this command an allocation is answered `full`, for a young block exactly where too few pools are free, and for one of the major heap exactly where no pool is to be had
+abbrev pub Stands : SharedHeap → Token → Token → Command → Bool → Reply → Type 0
+Stands h old new (Alloc dst tag fields) collected r =
+    (Enters old new (Alloc dst tag fields) false r × HasSpace h old new fields)
+    ⊎ (Enters old new (Alloc dst tag fields) true r × HasNoSpace h old new fields × (collected ≡ true))
+Stands h old new (AllocMaj dst tag fields) collected r =
+    (Enters old new (AllocMaj dst tag fields) false r × HasPool h.config fields old.view new.view)
+    ⊎ (Enters old new (AllocMaj dst tag fields) true r × HasNoPool h.config fields new.view × (collected ≡ true))
+Stands h old new c collected r = Enters old new c false r
+
+-- why an allocation is refused: too few pools are free, or none is to be had
+abbrev pub IsRefused : SharedHeap → Token → Token → Command → Type 0
+IsRefused h old new (Alloc dst tag fields) = HasNoSpace h old new fields
+IsRefused h old new (AllocMaj dst tag fields) = HasNoPool h.config fields new.view
+IsRefused h old new _ = ⊥
+
+-- an allocation was refused, and no complete collection came before for this command: nothing has changed but what was looked at for it
+pub record Refused (h : SharedHeap) (old new : Token) (c : Command) (collected : Bool) : Type 0 where
+  pub here : IsIn new h
+  pub refused : IsRefused h old new c
+  pub before : collected ≡ false
+  pub view : new.view ≡ hunting_free old.view new.view.own.looked Rests new.view.seen.free
 
 -- the entry of the command was made with the reply `full`
 pub record RefusesFull (h : SharedHeap) (old new : Token) (c : Command) (r : Reply) : Type 0 where
@@ -94,6 +135,16 @@ pub record RefusesFull (h : SharedHeap) (old new : Token) (c : Command) (r : Rep
   pub heap : (new.table ≡ old.table) × (new.config ≡ old.config)
   pub stays : Stays old.view new.view
   pub free : new.view.seen.free ≡ old.view.seen.free
+
+-- no more pools were found free than the reserve of promotion
+abbrev pub HasFew : Config → DomainView → Type 0
+HasFew k x = (free : ℕ) × (x.seen.free ≡ Some free) × (free ≤ reserve (sizes_in k))
+
+-- an allocation that found no room was answered `full`, or nothing has changed
+abbrev pub RefusesAs : SharedHeap → Token → Token → Command → Bool → Attempt → Type 0
+RefusesAs h old new c collected (Made r) = (collected ≡ true) × RefusesFull h old new c r × (new.view.own ≡ record old.view.own { registers = new.view.own.registers })
+RefusesAs h old new c collected (Needs want) = ⊥
+RefusesAs h old new c collected NoRoom = (collected ≡ false) × (new ≡ old)
 
 -- how many labels the command gave out: one where it is an allocation that isn't answered `full`
 abbrev pub labels_given : Command → Reply → ℕ
@@ -129,10 +180,16 @@ own_after old new c r = record old.view.own {
 }
 
 -- the entry of the command was made
-pub record Tried (h : SharedHeap) (old new : Token) (c : Command) (r : Reply) : Type 0 where
+pub record Tried (h : SharedHeap) (old new : Token) (c : Command) (collected : Bool) (r : Reply) : Type 0 where
   pub runs : Runs h new
-  pub stands : Stands h old new c r
+  pub stands : Stands h old new c collected r
   pub heap : (new.table ≡ old.table) × (new.config ≡ old.config)
   pub stays : Stays old.view new.view
   pub own : new.view.own ≡ own_after old new c r
   pub remembers : Remembers h.config old.view.own new.view.own c r
+
+-- what the try of a command came to: its reply, a wish that must be served first, or a refusal
+abbrev pub AttemptAnswers : SharedHeap → Token → Token → Command → Bool → Bool → Attempt → Type 0
+AttemptAnswers h old new c served collected (Made r) = Tried h old new c collected r × (NeedsPause h.config old.view.own served c → ⊥)
+AttemptAnswers h old new c served collected (Needs want) = (new ≡ old) × NeedsPause h.config old.view.own served c × (want ≡ wish_of c)
+AttemptAnswers h old new c served collected NoRoom = Refused h old new c collected × (NeedsPause h.config old.view.own served c → ⊥)

@@ -1,22 +1,33 @@
 //! One command on the shared heap.
-ghost use Rattle.std.specs.Prelude.{◌≡◌, ◌+◌, ◌^◌, ◌<◌, ◌≤◌, true, IfNone, IfSome, OnSome};
+ghost use Rattle.std.specs.Prelude.{◌≡◌, ◌+◌, ◌^◌, ◌<◌, ◌≤◌, Bool, true};
 ghost use Rattle.heap_model.specs.declared.command.Command as model;
 ghost use Rattle.heap_model.specs.declared.command.Command.TheVariants.{Alloc, AllocMaj};
 ghost use Rattle.heap_model.specs.Commands.{is_allocation};
 ghost use Rattle.heap_model.specs.declared.entry.Entry.{Entry};
 ghost use Rattle.heap_rule.specs.Running.{Runs, Did, ChangesRegisters, own_entry};
 ghost use Rattle.steps_run.specs.Ticks.{is_quiet};
-ghost use Rattle.heap_rule.specs.Places.{class_words};
-ghost use Rattle.minor_area.specs.Area.{HasRoom};
-ghost use Rattle.domain_turns.specs.Tries.{FitsHeap, NeedsMinor, Tried, RefusesFull, full_entry};
+ghost use Rattle.steps_run.specs.Ticks.{IsUsedUp};
+ghost use Rattle.domain_turns.specs.Tries.{AttemptAnswers, FitsHeap, HasFew, IsFresh, RefusesAs, RefusesFull, full_entry};
 
 use field_access::{copy, forget, load, put_int, store};
 use heap_model::command::Command;
 use heap_model::reply::Reply;
 use heap_rule::{Domain, Heap};
 use minor_area::{Need, alloc_young};
+use safepoint::Want;
 use size_pools::alloc_major;
 use steps_run::tick;
+
+// What the try of a command came to.
+#[derive(Drop)]
+pub(crate) enum Attempt {
+    // The entry of the command was made: its reply.
+    Made(Reply),
+    // A pause must come first, and nothing has changed: the wish for it.
+    Needs(Want),
+    // An allocation found no room, and a complete collection must come first.
+    NoRoom,
+}
 
 fn quiet_as(heap: &Heap, dom: &mut Domain, _command: &Command) -> Reply
     ghost entry: { Entry }
@@ -45,6 +56,7 @@ fn full_as(heap: &Heap, dom: &mut Domain, _command: &Command) -> Reply
     requires entry { entry ≡ full_entry dom.old _command.now }
     requires runs { Runs heap.now dom.old }
     requires allocates { is_allocation _command.now ≡ true }
+    requires used_up { IsUsedUp heap.now.config dom.old.view }
     ensures refuses { RefusesFull heap.now dom.old dom.new _command.now result }
     ensures rest { ChangesRegisters dom.old dom.new }
 {
@@ -56,77 +68,115 @@ fn full_as(heap: &Heap, dom: &mut Domain, _command: &Command) -> Reply
 fn full(heap: &Heap, dom: &mut Domain, command: &Command) -> Reply
     requires runs { Runs heap.now dom.old }
     requires allocates { is_allocation command.now ≡ true }
+    requires used_up { IsUsedUp heap.now.config dom.old.view }
     ensures refuses { RefusesFull heap.now dom.old dom.new command.now result }
     ensures rest { ChangesRegisters dom.old dom.new }
 {
     full_as(heap, dom, command)
 }
 
-// Allocates in the major heap, or makes the entry of `full` where no pool is to be had.
-fn alloc_in_pools(heap: &Heap, dom: &mut Domain, dst: u8, tag: u8, fields: u16) -> Reply
+// What becomes of an allocation that found no room: where a complete collection has come before for
+// this command it is answered `full`.
+fn refuse(heap: &Heap, dom: &mut Domain, command: &Command, collected: bool) -> Attempt
+    requires runs { Runs heap.now dom.old }
+    requires allocates { is_allocation command.now ≡ true }
+    requires few { HasFew heap.now.config dom.old.view }
+    requires fresh { collected ≡ true → IsFresh heap.now.config dom.old.view }
+    ensures refuses { RefusesAs heap.now dom.old dom.new command.now collected result }
+{
+    if collected {
+        Attempt::Made(full(heap, dom, command))
+    } else {
+        Attempt::NoRoom
+    }
+}
+
+// Allocates in the major heap, or answers that no pool is to be had.
+fn alloc_in_pools(
+    heap: &Heap,
+    dom: &mut Domain,
+    dst: u8,
+    tag: u8,
+    fields: u16,
+    collected: bool,
+) -> Attempt
     requires runs { Runs heap.now dom.old }
     requires dst { dst < 16 }
     requires tag { tag ≤ 245 }
     requires fields { (1 ≤ fields) × (fields ≤ 126) }
     requires serial { dom.old.view.own.serial + 1 < 2 ^ 32 }
-    ensures { Tried heap.now dom.old dom.new (AllocMaj dst tag fields) result }
+    requires fresh { collected ≡ true → IsFresh heap.now.config dom.old.view }
+    ensures { (served : Bool) → AttemptAnswers heap.now dom.old dom.new (AllocMaj dst tag fields) served collected result }
 {
     match alloc_major(heap, dom, dst, tag, fields) {
-        Ok(label) => Reply::Block(label),
-        Err(_none) => full(heap, dom, &Command::AllocMaj { dst, tag, fields }),
+        Ok(label) => Attempt::Made(Reply::Block(label)),
+        Err(_none) => refuse(heap, dom, &Command::AllocMaj { dst, tag, fields }, collected),
     }
 }
 
-// Allocates in the minor area, or makes the entry of `full` where too few pools are free. Nothing where
-// the area has no room.
-fn alloc_in_area(heap: &Heap, dom: &mut Domain, dst: u8, tag: u8, fields: u16) -> Option<Reply>
+// Allocates in the minor area, or answers that the area has no room, or that too few pools are free.
+fn alloc_in_area(
+    heap: &Heap,
+    dom: &mut Domain,
+    dst: u8,
+    tag: u8,
+    fields: u16,
+    collected: bool,
+) -> Attempt
     requires runs { Runs heap.now dom.old }
     requires dst { dst < 16 }
     requires tag { tag ≤ 245 }
     requires fields { (1 ≤ fields) × (fields ≤ 126) }
     requires serial { dom.old.view.own.serial + 1 < 2 ^ 32 }
-    ensures tried { IfSome result (λ reply. Tried heap.now dom.old dom.new (Alloc dst tag fields) reply) }
-    ensures ready { OnSome result (HasRoom heap.now.config dom.old.view fields) }
-    ensures full { IfNone result (heap.now.config.minor_words < dom.old.view.own.used + class_words (fields + 2)) }
-    ensures same { IfNone result (dom.new ≡ dom.old) }
+    requires fresh { collected ≡ true → IsFresh heap.now.config dom.old.view }
+    ensures { (served : Bool) → AttemptAnswers heap.now dom.old dom.new (Alloc dst tag fields) served collected result }
 {
     match alloc_young(heap, dom, dst, tag, fields) {
-        Ok(label) => Some(Reply::Block(label)),
-        Err(Need::AreaFull { .. }) => None,
-        Err(Need::Closed { .. }) => Some(full(heap, dom, &Command::Alloc { dst, tag, fields })),
+        Ok(label) => Attempt::Made(Reply::Block(label)),
+        Err(Need::AreaFull { .. }) => Attempt::Needs(Want::Minor),
+        Err(Need::Closed { .. }) => {
+            refuse(heap, dom, &Command::Alloc { dst, tag, fields }, collected)
+        }
     }
 }
 
-// Makes the entry of a command, or answers nothing where a collection of young blocks must come first:
-// then nothing changes. `served` says whether a pause has served a `minor`. A young allocation is
-// answered `full` exactly where fewer pools are free than promotion may need, and one in the major heap
-// exactly where no pool is to be had.
+// Makes the entry of a command, where no pause must come first. `served` says whether one has served a
+// `minor` or a `major`, and `collected` whether a complete collection has come since this command was
+// first tried. A young allocation is refused exactly where fewer pools are free than promotion may need,
+// and one in the major heap exactly where no pool is to be had; it is answered `full` where `collected`.
 pub(crate) fn try_command(
     heap: &Heap,
     dom: &mut Domain,
     command: &Command,
     served: bool,
-) -> Option<Reply>
+    collected: bool,
+) -> Attempt
     requires runs { Runs heap.now dom.old }
     requires fits { FitsHeap command.now }
     requires serial { dom.old.view.own.serial + 1 < 2 ^ 32 }
-    ensures tried { IfSome result (λ reply. Tried heap.now dom.old dom.new command.now reply) }
-    ensures ready { OnSome result (NeedsMinor heap.now.config dom.old.view.own served command.now → ⊥) }
-    ensures needs { IfNone result (NeedsMinor heap.now.config dom.old.view.own served command.now) }
-    ensures same { IfNone result (dom.new ≡ dom.old) }
+    requires fresh { collected ≡ true → IsFresh heap.now.config dom.old.view }
+    ensures answer { AttemptAnswers heap.now dom.old dom.new command.now served collected result }
 {
     let reply = match *command {
         Command::PutInt { dst, value } => put_int(heap, dom, dst, value),
         Command::Copy { dst, src } => copy(heap, dom, dst, src),
         Command::Forget { dst } => forget(heap, dom, dst),
         Command::Load { dst, src, index } => load(heap, dom, dst, src, index),
-        Command::Store { .. } if dom.remembered_room() == 0 => return None,
+        Command::Store { .. } if dom.remembered_room() == 0 => {
+            return Attempt::Needs(Want::Minor);
+        }
         Command::Store { block, index, item } => store(heap, dom, block, index, item),
-        Command::Alloc { dst, tag, fields } => return alloc_in_area(heap, dom, dst, tag, fields),
-        Command::AllocMaj { dst, tag, fields } => alloc_in_pools(heap, dom, dst, tag, fields),
-        Command::Minor if !served => return None,
-        Command::Poll | Command::Minor => quiet(heap, dom, command),
+        Command::Alloc { dst, tag, fields } => {
+            return alloc_in_area(heap, dom, dst, tag, fields, collected);
+        }
+        Command::AllocMaj { dst, tag, fields } => {
+            return alloc_in_pools(heap, dom, dst, tag, fields, collected);
+        }
+        Command::Minor if !served => return Attempt::Needs(Want::Minor),
+        Command::Major if !served => return Attempt::Needs(Want::Cycle),
+        Command::FullMajor => return Attempt::Needs(Want::Full),
+        Command::Poll | Command::Minor | Command::Major => quiet(heap, dom, command),
         _ => unreachable!(),
     };
-    Some(reply)
+    Attempt::Made(reply)
 }

@@ -1,23 +1,26 @@
 //! What a domain does that has arrived.
-ghost use Rattle.std.specs.Prelude.{◌≡◌, ◌<◌, ◌^◌, [], Some};
-ghost use Rattle.heap_rule.specs.declared.phase.Kind.TheVariants.{Run, Promote, Reset};
-ghost use Rattle.heap_rule.specs.declared.phase.Note.TheVariants.{SetBack};
+ghost use Rattle.std.specs.Prelude.{◌≡◌, ◌<◌, ◌^◌, [], false, true};
+ghost use Rattle.heap_model.specs.Domains.{domain_at};
+ghost use Rattle.heap_model.specs.declared.entry.Entry.{Entry};
+ghost use Rattle.heap_rule.specs.declared.phase.Kind.TheVariants.{Run, Promote, Reset, Answer};
 ghost use Rattle.heap_rule.specs.declared.phase.Stage.TheVariants.{In, Gone, Leads};
 ghost use Rattle.heap_rule.specs.declared.view.Hunt.TheVariants.{Rests};
-ghost use Rattle.heap_rule.specs.Cycles.{HasNoCycle};
-ghost use Rattle.heap_rule.specs.Phases.{last_note};
+ghost use Rattle.heap_rule.specs.Rule.{state_of};
 ghost use Rattle.heap_rule.specs.Running.{RemembersAll};
 ghost use Rattle.heap_rule.specs.Token.{IsIn};
-ghost use Rattle.steps_pools.specs.Listings.{HasList};
+ghost use Rattle.heap_rule.specs.Views.{voided};
+ghost use Rattle.steps_pauses.specs.Pauses.{arrived_view};
 ghost use Rattle.domain_turns.specs.Past.{PassAnswers, left_after};
-ghost use Rattle.domain_turns.specs.Pausing.{IsQuiet, HasLeft, Opens, LeavesPromote, LeavesReset};
-ghost use Rattle.domain_turns.specs.Runs.{LeavesOdd};
+ghost use Rattle.domain_turns.specs.Pausing.{IsQuiet, HasLeft, KnowsCut, LeavesEven, LeavesOdd, LeavesPromote, LeavesReset, IsReady, AnswersFrom, LivesAs};
 
+use cycle_phases::{give_back, lead_on, share};
+use heap_model::reply::Reply;
 use heap_rule::{Domain, Heap, Kind};
+use mark_slices::Hints;
 use minor_area::reset;
 use promote_claim::promote;
-use safepoint::{Look, arrive, follower, lead, look};
-use size_pools::{set_cursor_back, write_list};
+use safepoint::{Look, arrive, look};
+use steps_sweep::{live_blocks_load, live_words_load};
 
 // What a look at the barrier came to.
 #[derive(Drop)]
@@ -26,47 +29,27 @@ pub(crate) enum Past {
     Waits(u64),
     // The phase that had begun is done, and the domain has arrived.
     Arrived(Kind),
+    // So it has where a collection was answered. The reply is that of its `full_major`.
+    Answered(Option<Reply>),
     // The domain runs.
     Runs,
 }
 
-// Before domain 0 names the next kind: where domains run again it writes the list of free pools anew,
-// and where they copy young blocks it sets the cursor back.
-fn open(heap: &Heap, dom: &mut Domain, next: Kind)
-    requires here { IsIn dom.old heap.now }
-    requires first { dom.old.view.own.number ≡ 0 }
-    requires to_run { next ≡ Run → dom.old.view.seen.stage ≡ Leads Reset }
-    requires to_copy { next ≡ Promote → dom.old.view.seen.stage ≡ Leads Run }
-    ensures here { IsIn dom.new heap.now }
-    ensures list { next ≡ Run → HasList heap.now.config dom.new.view }
-    ensures set_back { next ≡ Promote → last_note dom.new.view.seen.notes ≡ Some SetBack }
-    ensures opens { Opens dom.old.view dom.new.view next }
-{
-    match next {
-        Kind::Run => write_list(heap, dom),
-        Kind::Promote => set_cursor_back(heap, dom),
-        _ => (),
-    }
-}
-
-// Domain 0 names the next kind, and then each domain arrives. Answers the kind of the last even phase
-// that the domain knows of.
-fn leave_odd(heap: &Heap, dom: &mut Domain, last: Kind) -> Kind
+// In an odd phase domain 0 names the kind that comes next, and then each domain arrives. Answers the kind
+// of the last even phase that the domain knows of.
+fn leave_odd(heap: &Heap, dom: &mut Domain, last: Kind, cut: bool) -> Kind
     requires here { IsIn dom.old heap.now }
     requires odd { dom.old.view.seen.stage ≡ Leads last }
     requires at_rest { dom.old.view.seen.hunt ≡ Rests }
     requires idle { dom.old.view.seen.made ≡ [] }
     requires few { dom.old.view.own.arrivals < 2 ^ 60 }
-    requires outside { HasNoCycle last }
+    requires forgot { dom.old.view.seen.share ≡ voided dom.old.view.seen.share }
+    requires cut { KnowsCut last cut dom.old.view }
     ensures here { IsIn dom.new heap.now }
-    ensures leaves { LeavesOdd dom.old.view dom.new.view last result }
+    ensures leaves { LeavesOdd heap.now.config dom.old.view dom.new.view last result }
 {
     if dom.number() == 0 {
-        let next = follower(last);
-        open(heap, dom, next);
-        lead(heap, dom, next);
-        arrive(heap, dom);
-        next
+        lead_on(heap, dom, last, cut)
     } else {
         arrive(heap, dom);
         last
@@ -104,9 +87,75 @@ fn leave_reset(heap: &Heap, dom: &mut Domain)
     arrive(heap, dom);
 }
 
+// The domain does its share of an even phase, and arrives. No collection is answered in it.
+fn leave_even(heap: &Heap, dom: &mut Domain, kind: Kind, hints: &mut Hints)
+    requires here { IsIn dom.old heap.now }
+    requires stage { dom.old.view.seen.stage ≡ In kind }
+    requires pauses { (kind ≡ Run → ⊥) × (kind ≡ Answer → ⊥) }
+    requires at_rest { dom.old.view.seen.hunt ≡ Rests }
+    requires idle { dom.old.view.seen.made ≡ [] }
+    requires few { dom.old.view.own.arrivals < 2 ^ 60 }
+    requires quiet { IsQuiet dom.old.view }
+    requires ready { IsReady heap.now.config kind dom.old.view }
+    requires none { hints.old.items ≡ [] }
+    ensures here { IsIn dom.new heap.now }
+    ensures leaves { LeavesEven heap.now.config kind dom.old.view dom.new.view }
+    ensures hints { hints.new ≡ hints.old }
+{
+    match kind {
+        Kind::Run | Kind::Answer => unreachable!(),
+        Kind::Promote => leave_promote(heap, dom),
+        Kind::Reset => leave_reset(heap, dom),
+        _ => share(heap, dom, kind, hints),
+    }
+}
+
+// Makes the entry of a `full_major`, and answers its reply.
+fn answer_live(heap: &Heap, dom: &mut Domain) -> Reply
+    requires here { IsIn dom.old heap.now }
+    requires stage { dom.old.view.seen.stage ≡ In Answer }
+    requires goes_on { (domain_at (state_of heap.now.config dom.old.view.seen.front) dom.old.view.own.number).ended ≡ false }
+    ensures here { IsIn dom.new heap.now }
+    ensures lives { LivesAs heap.now.config dom.old.view dom.new.view result }
+{
+    let blocks = live_blocks_load(heap, dom);
+    let words = live_words_load(heap, dom, blocks);
+    Reply::Live { blocks, words }
+}
+
+// Where a collection is answered: makes the entry of a `full_major` if the domain waits for one, gives
+// back the pools in which nothing is left, and arrives.
+fn answer(heap: &Heap, dom: &mut Domain, live: bool) -> Option<Reply>
+    requires here { IsIn dom.old heap.now }
+    requires stage { dom.old.view.seen.stage ≡ In Answer }
+    requires at_rest { dom.old.view.seen.hunt ≡ Rests }
+    requires idle { dom.old.view.seen.made ≡ [] }
+    requires few { dom.old.view.own.arrivals < 2 ^ 60 }
+    requires forgot { dom.old.view.seen.share ≡ voided dom.old.view.seen.share }
+    requires goes_on { live ≡ true → (domain_at (state_of heap.now.config dom.old.view.seen.front) dom.old.view.own.number).ended ≡ false }
+    ensures here { IsIn dom.new heap.now }
+    ensures answers { AnswersFrom heap.now.config dom.old.view dom.new.view live result }
+{
+    let reply = if live {
+        Some(answer_live(heap, dom))
+    } else {
+        None
+    };
+    give_back(heap, dom);
+    reply
+}
+
 // Looks at the barrier, and where all have arrived does the domain's share of the phase that has begun,
-// and arrives. Where the domains run again its minor area is empty.
-pub(crate) fn pass(heap: &Heap, dom: &mut Domain, last: Kind) -> Past
+// and arrives. Where the domains run again its minor area is empty. `live`: its next command is a
+// `full_major`, which is answered where a collection is.
+pub(crate) fn pass(
+    heap: &Heap,
+    dom: &mut Domain,
+    last: Kind,
+    cut: bool,
+    live: bool,
+    hints: &mut Hints,
+) -> Past
     requires here { IsIn dom.old heap.now }
     requires gone { dom.old.view.seen.stage ≡ Gone last }
     requires at_rest { dom.old.view.seen.hunt ≡ Rests }
@@ -114,22 +163,22 @@ pub(crate) fn pass(heap: &Heap, dom: &mut Domain, last: Kind) -> Past
     requires few { dom.old.view.own.arrivals < 2 ^ 60 }
     requires quiet { IsQuiet dom.old.view }
     requires left { HasLeft heap.now.config last dom.old.view }
+    requires cut { KnowsCut last cut dom.old.view }
+    requires goes_on { live ≡ true → (domain_at (state_of heap.now.config dom.old.view.seen.front) dom.old.view.own.number).ended ≡ false }
+    requires none { hints.old.items ≡ [] }
     ensures here { IsIn dom.new heap.now }
-    ensures answer { PassAnswers heap.now.config dom.old.view dom.new.view last result }
+    ensures answer { PassAnswers heap.now.config dom.old.view dom.new.view last live result }
+    ensures hints { hints.new ≡ hints.old }
 {
     match look(heap, dom) {
         Look::NotAll(b) => Past::Waits(b),
-        Look::Lead => Past::Arrived(leave_odd(heap, dom, last)),
+        Look::Lead => Past::Arrived(leave_odd(heap, dom, last, cut)),
         Look::Next(Kind::Run) => Past::Runs,
-        Look::Next(Kind::Promote) => {
-            leave_promote(heap, dom);
-            Past::Arrived(Kind::Promote)
+        Look::Next(Kind::Answer) => Past::Answered(answer(heap, dom, live)),
+        Look::Next(kind) => {
+            leave_even(heap, dom, kind, hints);
+            Past::Arrived(kind)
         }
-        Look::Next(Kind::Reset) => {
-            leave_reset(heap, dom);
-            Past::Arrived(Kind::Reset)
-        }
-        Look::Next(_) => unreachable!(),
     }
 }
 
@@ -140,6 +189,7 @@ pub(crate) fn left_after(past: &Past, last: Kind) -> Option<Kind>
     match past {
         Past::Waits(_) => Some(last),
         Past::Arrived(kind) => Some(*kind),
+        Past::Answered(_) => Some(Kind::Answer),
         Past::Runs => None,
     }
 }

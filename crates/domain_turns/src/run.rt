@@ -7,6 +7,7 @@ ghost use Rattle.domain_turns.specs.Runs.{CanBegin, IsRun};
 use heap_model::command::Command;
 use heap_model::reply::Reply;
 use heap_rule::{Domain, Kind};
+use mark_slices::Hints;
 use std::alloc::{AllocError, Global};
 use std::marker::Model;
 
@@ -22,28 +23,41 @@ pub struct DomainRun {
     pub(crate) left: Option<Kind>,
     // How often it had arrived when it asked for a pause for the next command.
     pub(crate) asked: Option<u64>,
+    // Whether the last pause since then was a complete collection.
+    pub(crate) collected: bool,
+    // Whether the collection under way is past its cut, for domain 0.
+    pub(crate) cut: bool,
+    // Blocks that the domain has darkened, while it marks.
+    pub(crate) hints: Hints,
 }
 
 impl Model for DomainRun {
-    ghost use Rattle.std.specs.Prelude.{◌≤◌, length, vec_capacity};
+    ghost use Rattle.std.specs.Prelude.{◌≡◌, ◌≤◌, [], length, vec_capacity};
     ghost use Rattle.domain_turns.specs.Runs.{IsRun, RunView};
 
     ghost Value = { RunView };
 
-    ghost view = { λ r. record { token = r.domain; commands = r.commands.items; next = r.next; replies = r.replies.items; ended = r.ended; left = r.left; asked = r.asked } };
+    ghost view = { λ r. record { token = r.domain; commands = r.commands.items; next = r.next; replies = r.replies.items; ended = r.ended; left = r.left; asked = r.asked; collected = r.collected; cut = r.cut } };
 
-    ghost invariant = { λ r. IsRun (record { token = r.domain; commands = r.commands.items; next = r.next; replies = r.replies.items; ended = r.ended; left = r.left; asked = r.asked }) × (length r.commands.items ≤ vec_capacity r.replies) };
+    ghost invariant = { λ r. IsRun (record { token = r.domain; commands = r.commands.items; next = r.next; replies = r.replies.items; ended = r.ended; left = r.left; asked = r.asked; collected = r.collected; cut = r.cut }) × (length r.commands.items ≤ vec_capacity r.replies) × (r.hints.items ≡ []) };
 }
 
 impl DomainRun {
     /// A run of a domain from its first command on. The domain runs and no entry of it stands in the
     /// history so far; there are at most 200,000 commands, each of a kind that runs on the shared heap
-    /// and with its numbers in their ranges; at most 4,000,000,000 labels were made. The room for the
-    /// replies is reserved here. Fails for want of memory alone, and then the domain is given up.
+    /// and with its numbers in their ranges; at most 4,000,000,000 labels were made; no block is noted in
+    /// the hints. The room for the replies is reserved here. Fails for want of memory alone, and then
+    /// the domain is given up.
     #[tactic(auto, using(crate::proofs::Beginning::begins_between))]
-    pub fn make(alloc: Global, dom: Domain, commands: Vec<Command>) -> Result<DomainRun, AllocError>
-        requires { CanBegin dom commands.items }
-        ensures { IfOk result (λ r. r ≡ record { token = dom; commands = commands.items; next = 0; replies = []; ended = false; left = None; asked = None }) }
+    pub fn make(
+        alloc: Global,
+        dom: Domain,
+        hints: Hints,
+        commands: Vec<Command>,
+    ) -> Result<DomainRun, AllocError>
+        requires begins { CanBegin dom commands.items }
+        requires none { hints.items ≡ [] }
+        ensures { IfOk result (λ r. r ≡ record { token = dom; commands = commands.items; next = 0; replies = []; ended = false; left = None; asked = None; collected = false; cut = false }) }
     {
         let replies = Vec::with_capacity(alloc, commands.len())?;
         Ok(DomainRun {
@@ -54,6 +68,9 @@ impl DomainRun {
             ended: false,
             left: None,
             asked: None,
+            collected: false,
+            cut: false,
+            hints,
         })
     }
 

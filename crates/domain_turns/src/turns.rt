@@ -37,26 +37,28 @@ fn is_served(run: &DomainRun) -> bool
     }
 }
 
-// Tries the next command of a run, and keeps its reply. Answers whether it was tried: it isn't where a
-// collection of young blocks must come first.
-fn try_next(heap: &Heap, run: &mut DomainRun, command: &Command) -> bool
+// Tries the next command of a run, and keeps its reply. Else answers which pause must come first.
+fn try_next(heap: &Heap, run: &mut DomainRun, command: &Command) -> Option<Want>
     requires here { IsIn run.old.token heap.now }
     requires running { run.old.ended ≡ false }
     requires left { run.old.left ≡ None }
     requires next { slice_get run.old.commands run.old.next ≡ Some command.now }
     ensures here { IsIn run.new.token heap.now }
-    ensures tries { result ≡ true → TriesCommand heap.now run.old.token run.old run.new command.now }
-    ensures needs { result ≡ false → NeedsMinor heap.now.config run.old.token.view.own (served_since run.old.asked run.old.token.view.own.arrivals) command.now }
-    ensures same { result ≡ false → run.new ≡ run.old }
+    ensures answer { TrialAnswers heap.now run.old run.new command.now result }
 {
     let served = is_served(run);
-    let Some(reply) = try_command(heap, &mut run.domain, command, served) else {
-        return false;
-    };
-    run.replies.push_reserved(reply);
-    run.next += 1;
-    run.asked = None;
-    true
+    let collected = run.collected;
+    match try_command(heap, &mut run.domain, command, served, collected) {
+        Attempt::Made(reply) => {
+            run.replies.push_reserved(reply);
+            run.next += 1;
+            run.asked = None;
+            run.collected = false;
+            None
+        }
+        Attempt::Needs(want) => Some(want),
+        Attempt::NoRoom => Some(Want::Full),
+    }
 }
 
 // Ends the trace of a run that has no command left.
@@ -70,6 +72,7 @@ fn end_trace(heap: &Heap, run: &mut DomainRun)
 {
     end(heap, &mut run.domain);
     run.ended = true;
+    run.collected = false;
 }
 
 // The want word.
@@ -88,22 +91,21 @@ fn stop(heap: &Heap, run: &mut DomainRun)
     requires left { run.old.left ≡ None }
     requires few { run.old.token.view.own.arrivals < 2 ^ 60 }
     ensures here { IsIn run.new.token heap.now }
-    ensures run { run.new ≡ record run.old { token = record run.old.token { view = arrived_view run.old.token.view }; left = Some Run } }
+    ensures run { run.new ≡ record run.old { token = record run.old.token { view = arrived_view run.old.token.view }; left = Some Run; collected = false } }
 {
     arrive(heap, &mut run.domain);
     run.left = Some(Kind::Run);
+    run.collected = false;
 }
 
-// Asks for a minor collection.
-fn wish(heap: &Heap, run: &mut DomainRun, _command: &Command)
+// Asks for a pause.
+fn wish(heap: &Heap, run: &mut DomainRun, want: Want)
     requires here { IsIn run.old.token heap.now }
     requires left { run.old.left ≡ None }
-    requires next { slice_get run.old.commands run.old.next ≡ Some _command.now }
-    requires needs { NeedsMinor heap.now.config run.old.token.view.own (served_since run.old.asked run.old.token.view.own.arrivals) _command.now }
     ensures here { IsIn run.new.token heap.now }
-    ensures asks { Asks heap.now run.old.token run.old run.new }
+    ensures run { run.new ≡ record run.old { token = noted_token run.old.token (note.Asked (bit_of want)); asked = Some run.old.token.view.own.arrivals } }
 {
-    ask(heap, &mut run.domain, Want::Minor);
+    ask(heap, &mut run.domain, want);
     run.asked = Some(run.domain.arrivals());
 }
 
@@ -116,8 +118,8 @@ fn attempt(heap: &Heap, run: &mut DomainRun, command: &Command)
     ensures here { IsIn run.new.token heap.now }
     ensures did { CalmDid heap.now run.old run.new }
 {
-    if !try_next(heap, run, command) {
-        wish(heap, run, command);
+    if let Some(want) = try_next(heap, run, command) {
+        wish(heap, run, want);
     }
 }
 
@@ -169,6 +171,14 @@ fn turn_running(heap: &Heap, run: &mut DomainRun) -> Turned
     go_on(heap, run)
 }
 
+// Whether the next command is a `full_major`, which is answered where a collection is.
+fn waits_for_answer(run: &DomainRun) -> bool
+    ensures yes { result ≡ true → slice_get run.now.commands run.now.next ≡ Some FullMajor }
+    ensures no { result ≡ false → slice_get run.now.commands run.now.next ≢ Some FullMajor }
+{
+    matches!(run.commands.get(run.next), Some(Command::FullMajor))
+}
+
 // What a domain that has arrived does with the phase that has begun, if one has.
 fn pass_by(heap: &Heap, run: &mut DomainRun, last: Kind) -> Past
     requires here { IsIn run.old.token heap.now }
@@ -177,8 +187,23 @@ fn pass_by(heap: &Heap, run: &mut DomainRun, last: Kind) -> Past
     ensures here { IsIn run.new.token heap.now }
     ensures answer { PastAnswers heap.now run.old run.new result }
 {
-    let past = pass(heap, &mut run.domain, last);
+    let live = waits_for_answer(run);
+    let past = pass(heap, &mut run.domain, last, run.cut, live, &mut run.hints);
     run.left = left_after(&past, last);
+    match past {
+        Past::Arrived(_) => run.cut = cut_after(last, run.cut),
+        Past::Answered(reply) => {
+            run.cut = cut_after(last, run.cut);
+            run.collected = run.asked.is_some();
+            if let Some(reply) = reply {
+                run.replies.push_reserved(reply);
+                run.next += 1;
+                run.asked = None;
+                run.collected = false;
+            }
+        }
+        Past::Waits(_) | Past::Runs => (),
+    }
     past
 }
 
@@ -196,7 +221,7 @@ fn turn_on(heap: &Heap, run: &mut DomainRun) -> Turned
     };
     match pass_by(heap, run, last) {
         Past::Waits(b) => Turned::Waiting(b),
-        Past::Arrived(_) => Turned::Did,
+        Past::Arrived(_) | Past::Answered(_) => Turned::Did,
         Past::Runs => turn_running(heap, run),
     }
 }
