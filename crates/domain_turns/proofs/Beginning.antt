@@ -18,7 +18,7 @@ nothing_prepared (suc n) (suc class) = nothing_prepared n class
 even_rest : (n : ℕ) → n % 2 ≡ 0 → IsEven n
 even_rest n rest = (n / 2, omega arith)
 
-pub begins_between : (t : Token) (cs : List Command) → CanBegin t cs → IsBetween None None t
+pub begins_between : (t : Token) (cs : List Command) → CanBegin t cs → IsBetween None None false false t
 begins_between t cs can = record {
   stands = can.acts.runs;
   quiet = record { quiet = can.quiet; no_copies = can.no_copies; unprepared = λ class _. ap (λ l. prepared_at l class) can.unprepared ∙ nothing_prepared class_count class };
@@ -26,6 +26,8 @@ begins_between t cs can = record {
   remembers = λ _. can.remembers;
   collected = λ _ served. cc;
   has_left = λ known left. cc;
+  fresh = λ e. cc;
+  knows_cut = λ known left. cc;
 }
 
 not_ended : (n d : ℕ) → d < n → (slice_index_or (replicate n opening_domain) d no_domain).ended ≡ false
@@ -36,6 +38,7 @@ not_ended (suc n) (suc d) h = not_ended n d (omega arith)
 -- a domain of a heap that has just started may begin commands that fit
 pub opening_begins : (h : SharedHeap) (k : Config) (d : ℕ) (cs : List Command) → d < k.domains → length cs ≤ 200000 → AllFit cs → CanBegin (opening_token h.table k d) cs
 opening_begins h k d cs inside few fit = record {
+  inside = inside;
   acts = record { goes_on = not_ended k.domains d inside; runs = refl };
   idle = refl;
   at_rest = refl;

@@ -7,8 +7,15 @@ use Rattle.heap_rule.specs.Token.{SharedHeap}
 use Rattle.domain_turns.specs.declared.turned.Turned.{Turned}
 use Rattle.domain_turns.specs.declared.turned.Turned.TheVariants.{Did, Waiting, Idle}
 use Rattle.domain_turns.specs.declared.turned.Turned.TheVariants.{Ended as Over}
-use Rattle.domain_turns.specs.Runs.{RunView, CalmDid, RunAnswers, TurnAnswers, Starts, Stops, Resumes, GoesBy, wanting}
-use Rattle.domain_turns.specs.Runs.CalmDid.{Wishes, Tries, Ends}
+use Rattle.domain_turns.specs.Runs.{RunView, CalmDid, RunAnswers, TurnAnswers, Starts, Stops, Resumes, GoesBy, IsAnswered, SeesAnswer, wanting}
+use Rattle.domain_turns.specs.Pausing.{ComesToAnswer}
+use Rattle.domain_turns.specs.Tries.{wish_of}
+use Rattle.heap_rule.specs.declared.config.Config.{Config}
+use Rattle.heap_rule.specs.Standing.{with_front}
+use Rattle.steps_pauses.specs.Pauses.{arrived_view}
+use Rattle.safepoint.specs.Looks.{bit_of}
+use Rattle.safepoint.specs.declared.answer.Want.TheVariants.{Full}
+use Rattle.domain_turns.specs.Runs.CalmDid.{Wishes, Refuses, Tries, Ends}
 use Rattle.domain_turns.proofs.LeavingLemmas.{passes_leaves}
 
 abbrev notes : RunView → List Note
@@ -49,13 +56,21 @@ Sign h old new (Waiting b) = Left old new (IsBarrier b)
 Sign h old new (Idle n) = Left old new (IsEnded n) × (n < h.config.domains)
 Sign h old new Over = Left old new (IsEnded h.config.domains)
 
-run_sign : (h : SharedHeap) (old new : RunView) (a : Turned) → RunAnswers h old new a → Sign h old new a
+run_-- a domain that came to a phase in which a collection is answered has arrived once more
+answer_arrives : (k : Config) (x begun y z : DomainView) → ComesToAnswer k x begun → y ≡ arrived_view z → z.own.arrivals ≡ begun.own.arrivals → y.own.arrivals ≡ x.own.arrivals + 1
+answer_arrives k x begun y z c is same = ap (λ (v : DomainView). v.own.arrivals) is ∙ ap (λ (n : ℕ). n + 1) (same ∙ ap (λ (v : DomainView). v.own.arrivals) c.passed.view)
+
+sign : (h : SharedHeap) (old new : RunView) (a : Turned) → RunAnswers h old new a → Sign h old new a
 run_sign h old new Did says = ⊎_elim
     (λ (s : Stops old new). inl (ap arrivals s.run))
     (λ (c : CalmDid h (wanting old 0) new). inr (did c)) says
   where
     did : CalmDid h (wanting old 0) new → Left old new IsOther
-    did (Wishes a) = (ap arrivals a.run, (Asked 1, (notes old ++ Want 0 ∷ []), ap notes a.run, tt))
+    did (Wishes a) = (ap arrivals a.run, (Asked (bit_of (wish_of a.command)), (notes old ++ Want 0 ∷ []), ap notes a.run, tt))
+    did (Refuses a) = (
+      ap arrivals a.run ∙ ap (λ (x : DomainView). x.own.arrivals) a.refused.view,
+      (Asked (bit_of Full), a.searched.view.seen.notes, ap notes a.run, tt),
+    )
     did (Tries c t) = (t.tried.stays.arrivals, (Want 0, notes old, t.tried.stays.notes, tt))
     did (Ends t) = (ap (λ (x : DomainView). x.own.arrivals) t.ended.view, (Want 0, notes old, ap (λ (x : DomainView). x.seen.notes) t.ended.view, tt))
 run_sign h old new (Waiting b) says = absurd says
@@ -73,10 +88,19 @@ from_start h old start new (Waiting b) same s = (s.0 ∙ same, s.1)
 from_start h old start new (Idle n) same s = ((s.0.0 ∙ same, s.0.1), s.1)
 from_start h old start new Over same s = (s.0 ∙ same, s.1)
 
+-- a domain that came to a phase in which a collection is answered has arrived once more
+answer_arrives : (k : Config) (x begun y z : DomainView) → ComesToAnswer k x begun → y ≡ arrived_view z → z.own.arrivals ≡ begun.own.arrivals → y.own.arrivals ≡ x.own.arrivals + 1
+answer_arrives k x begun y z c is same = ap (λ (v : DomainView). v.own.arrivals) is ∙ ap (λ (n : ℕ). n + 1) (same ∙ ap (λ (v : DomainView). v.own.arrivals) c.passed.view)
+
 sign : (h : SharedHeap) (old new : RunView) (a : Turned) → TurnAnswers h old new a → Sign h old new a
 sign h old new Did says = ⊎_elim
     (λ (g : GoesBy h old new). inl (passes_leaves h.config old.token.view new.token.view g.last g.kind g.passes).arrivals)
-    (λ (t : (start : RunView) × Starts h old start × RunAnswers h start new Did). from_start h old t.0 new Did (starts_same h old t.0 t.1) (run_sign h t.0 new Did t.2)) says
+    (⊎_elim
+    (λ (a : IsAnswered h old new). inl (answer_arrives h.config old.token.view a.answers.begun new.token.view (with_front a.answers.begun a.answers.front) a.answers.comes a.answers.view refl))
+    (⊎_elim
+    (λ (g : SeesAnswer h old new). inl (answer_arrives h.config old.token.view g.gives.begun new.token.view g.gives.begun g.gives.comes g.gives.view refl))
+    (λ (t : (start : RunView) × Starts h old start × RunAnswers h start new Did). from_start h old t.0 new Did (starts_same h old t.0 t.1) (run_sign h t.0 new Did t.2))))
+    says
 sign h old new (Waiting b) w = (ap arrivals w.run, (Barrier b, notes old, ap notes w.run, refl))
 sign h old new (Idle n) t = from_start h old t.0 new (Idle n) (starts_same h old t.0 t.1) (run_sign h t.0 new (Idle n) t.2)
 sign h old new Over t = from_start h old t.0 new Over (starts_same h old t.0 t.1) (run_sign h t.0 new Over t.2)

@@ -11,8 +11,10 @@ use Rattle.heap_rule.specs.Token.{SharedHeap}
 use Rattle.domain_turns.specs.declared.turned.Turned.{Turned}
 use Rattle.domain_turns.specs.declared.turned.Turned.TheVariants.{Did, Waiting, Idle}
 use Rattle.domain_turns.specs.declared.turned.Turned.TheVariants.{Ended as Over}
-use Rattle.domain_turns.specs.Runs.{RunView, CalmDid, Rests, CalmAnswers, RunAnswers, Stops, Resumes, GoesBy, wanting, GoesOn}
-use Rattle.domain_turns.specs.Runs.CalmDid.{Wishes, Tries, Ends}
+use Rattle.domain_turns.specs.Pausing.{ComesToAnswer}
+use Rattle.domain_turns.specs.Runs.{RunView, CalmDid, Rests, CalmAnswers, RunAnswers, Stops, Resumes, GoesBy, IsAnswered, SeesAnswer, wanting, GoesOn}
+use Rattle.heap_rule.specs.declared.config.Config.{Config}
+use Rattle.domain_turns.specs.Runs.CalmDid.{Wishes, Refuses, Tries, Ends}
 use Rattle.domain_turns.proofs.LeavingLemmas.{passes_leaves}
 use Rattle.domain_turns.proofs.Moving.{front_prefix}
 use Rattle.domain_turns.proofs.Turning.{stood}
@@ -29,7 +31,13 @@ calm_did h old new (Wishes a) = record {
   number = ap (λ (r : RunView). r.token.view.own.number) a.run;
   front = same_prefix _ _ (ap (λ (r : RunView). r.token.view.seen.front) a.run);
 }
-calm_did h old new (Tries c t) = record { commands = ap (λ (r : RunView). r.commands) t.run; number = ap (λ (o : Own). o.number) t.tried.own; front = answered_front _ _ _ _ _ _ (stood h old.token new.token c t.reply t.tried.stands).1 }
+calm_did h old new (Refuses a) =
+    let same : a.searched.view.seen.front ≡ old.token.view.seen.front = ap (λ (x : DomainView). x.seen.front) a.refused.view in record {
+      commands = ap (λ (r : RunView). r.commands) a.run;
+      number = ap (λ (r : RunView). r.token.view.own.number) a.run ∙ ap (λ (x : DomainView). x.own.number) a.refused.view;
+      front = same_prefix _ _ (ap (λ (r : RunView). r.token.view.seen.front) a.run ∙ same);
+    }
+calm_did h old new (Tries c t) = record { commands = ap (λ (r : RunView). r.commands) t.run; number = ap (λ (o : Own). o.number) t.tried.own; front = answered_front _ _ _ _ _ _ (stood h old.token new.token c old.collected t.reply t.tried.stands).1 }
 calm_did h old new (Ends t) = record { commands = ap (λ (r : RunView). r.commands) t.run; number = ap (λ (x : DomainView). x.own.number) t.ended.view; front = answered_front _ _ _ _ _ _ t.ended.answers }
 
 rests : (old new : RunView) (n : ℕ) → Rests old new n → GoesOn old new
@@ -84,4 +92,26 @@ gone_goes h old new g =
       commands = ap (λ (r : RunView). r.commands) g.run;
       number = l.number;
       front = front_prefix _ _ _ l.front;
+    }
+
+-- a domain that came to a phase in which a collection is answered
+answer_front : (k : Config) (x begun : DomainView) → ComesToAnswer k x begun → IsPrefix x.seen.front begun.seen.front
+answer_front k x begun c = front_prefix _ _ _ c.passed.seen
+
+pub seen_goes : (h : SharedHeap) (old new : RunView) → SeesAnswer h old new → GoesOn old new
+seen_goes h old new s = record {
+  commands = ap (λ (r : RunView). r.commands) s.run;
+  number = ap (λ (x : DomainView). x.own.number) s.gives.view ∙ ap (λ (x : DomainView). x.own.number) s.gives.comes.passed.view;
+  front = subst (IsPrefix old.token.view.seen.front) (sym (ap (λ (x : DomainView). x.seen.front) s.gives.view)) (answer_front h.config old.token.view s.gives.begun s.gives.comes);
+}
+
+pub answered_goes : (h : SharedHeap) (old new : RunView) → IsAnswered h old new → GoesOn old new
+answered_goes h old new s =
+    let a = s.answers in
+    let p = answer_front h.config old.token.view a.begun a.comes in
+    let q = answered_front _ _ _ _ _ _ a.answers in record {
+      commands = ap (λ (r : RunView). r.commands) s.run;
+      number = ap (λ (x : DomainView). x.own.number) a.view ∙ ap (λ (x : DomainView). x.own.number) a.comes.passed.view;
+      front = subst (IsPrefix old.token.view.seen.front) (sym (ap (λ (x : DomainView). x.seen.front) a.view))
+          (record { rest = p.rest ++ q.rest; appends = q.appends ∙ (ap (λ (xs : List Entry). xs ++ q.rest) p.appends ∙ append_assoc old.token.view.seen.front p.rest q.rest) });
     }

@@ -1,26 +1,39 @@
 -- What the look of a domain that has arrived leaves of its run.
-use Rattle.std.proofs.Common.{◌≡◌, ◌≢◌, ◌∙◌, ℕ, ◌+◌, List, Option, Some, refl, sym, ap, subst, inl, ⊎_elim}
+use Rattle.std.proofs.Common.{◌≡◌, ◌≢◌, ◌∙◌, ℕ, ◌+◌, ◌<◌, Bool, true, false, List, ◌∷◌, [], ◌++◌, Option, Some, None, refl, sym, ap, subst, inl, inr, ⊎_elim, absurd}
 use Rattle.heap_model.specs.declared.entry.Entry.{Entry}
+use Rattle.heap_model.specs.declared.entry.Entry.TheVariants.{Collected}
+use Rattle.heap_model.specs.declared.state.State as model
+use Rattle.heap_model.specs.declared.state.Mode.TheVariants.{Answer as AnswerMode}
+use Rattle.heap_model.specs.Domains.{opening}
 use Rattle.heap_model.specs.Fronts.{IsFrontOf}
+use Rattle.heap_model.proofs.Histories.FrontLemmas.{front_whole, front_trans}
+use Rattle.heap_model.proofs.Histories.HistoryLemmas.{state_after-push}
 use Rattle.heap_rule.specs.declared.config.Config.{Config}
 use Rattle.heap_rule.specs.declared.phase.Kind.{Kind}
-use Rattle.heap_rule.specs.declared.phase.Kind.TheVariants.{Promote, Reset}
+use Rattle.heap_rule.specs.declared.phase.Kind.TheVariants.{Run, Promote, Reset, Roots, Mark, Rounds, Decide, Queued, Clean, Lasts, Sweep, Answer}
 use Rattle.heap_rule.specs.declared.phase.Note.TheVariants.{Barrier}
 use Rattle.heap_rule.specs.declared.phase.Stage.TheVariants.{In, Leads, Gone}
 use Rattle.heap_rule.specs.declared.view.Hunt.TheVariants.{Rests}
 use Rattle.heap_rule.specs.declared.view.DomainView.{DomainView}
+use Rattle.heap_rule.specs.Limits.{sizes_in}
 use Rattle.heap_rule.specs.Phases.{Follows, Comes, IsEven, IsOdd}
-use Rattle.steps_pauses.specs.Pauses.{kind_in, arrived_view, noted}
-use Rattle.steps_promote.specs.Promotion.{reset_view}
+use Rattle.heap_rule.specs.Rule.{state_of}
+use Rattle.heap_rule.specs.Standing.{with_front}
 use Rattle.heap_rule.specs.Token.{Token, SharedHeap, IsIn}
+use Rattle.heap_rule.specs.Views.{voided}
+use Rattle.steps_pauses.specs.Pauses.{kind_in, arrived_view, noted, cut_in, entry_of, EndsWith, IsModeOf}
+use Rattle.steps_promote.specs.Promotion.{reset_view}
 use Rattle.safepoint.specs.Looks.{Passed}
+use Rattle.cycle_phases.specs.Sharing.{SharesIn, with_looked}
+use Rattle.cycle_phases.specs.Leading.{LeadsOn}
 use Rattle.domain_turns.specs.declared.passing.Past.{Past}
-use Rattle.domain_turns.specs.declared.passing.Past.TheVariants.{Waits, Arrived, Runs}
-use Rattle.domain_turns.specs.Pausing.{IsQuiet, IsPast, HasLeft, LeavesEven, opened_view, led_view}
-use Rattle.domain_turns.specs.Runs.{IsBetween, Passes, LeavesOdd}
+use Rattle.domain_turns.specs.declared.passing.Past.TheVariants.{Waits, Arrived, Answered, Runs}
+use Rattle.domain_turns.specs.Tries.{IsFresh}
+use Rattle.domain_turns.specs.Pausing.{IsQuiet, IsPast, IsReady, HasLeft, IsMarking, KnowsCut, LeavesEven, LeavesOdd, ComesToAnswer, GivesBack, AnswersLive}
+use Rattle.domain_turns.specs.Runs.{IsBetween, Passes}
 use Rattle.domain_turns.specs.Past.{PassAnswers, left_after}
 use Rattle.domain_turns.proofs.Moving.{Moves, still_moves, view_moves}
-use Rattle.domain_turns.proofs.PauseLemmas.{not_both, even_next, odd_next, past_as, quiet_as, looked_past, looked_quiet, ready_next, even_past, even_quiet, arrived_quiet}
+use Rattle.domain_turns.proofs.PauseLemmas.{not_both, even_next, odd_next, answer_on, before_answer, fresh_on, past_as, keeps_as, void_as, arrived_void, later_past, quiet_as, looked_past, looked_quiet, ready_next, even_past, even_quiet, arrived_quiet}
 
 some_injective : (a b : Kind) → ◌≡◌ {A = Option Kind} (Some a) (Some b) → a ≡ b
 some_injective a b e = cc
@@ -55,22 +68,30 @@ record Same (b z : DomainView) : Type 0 where
   arrivals : z.own.arrivals ≡ b.own.arrivals
   made : z.seen.made ≡ b.seen.made
   hunt : b.seen.hunt ≡ Rests → z.seen.hunt ≡ Rests
-  front : z.seen.front ≡ b.seen.front
+  front : IsFrontOf b.own.number z.seen.front b.seen.front
 
 begun_leaves : (k : Config) (x b y z : DomainView) (kind : Kind) → Passed k x b → Same b z → y ≡ arrived_view z → kind_in z.seen.stage ≡ kind → Leaves x y kind
-begun_leaves k x b y z kind p s is stage = arrived_leaves x y z kind is
-    (s.number ∙ ap (λ (v : DomainView). v.own.number) p.view)
+begun_leaves k x b y z kind p s is stage =
+    let number : b.own.number ≡ x.own.number = ap (λ (v : DomainView). v.own.number) p.view in arrived_leaves x y z kind is
+    (s.number ∙ number)
     (s.serial ∙ ap (λ (v : DomainView). v.own.serial) p.view)
     (s.arrivals ∙ ap (λ (v : DomainView). v.own.arrivals) p.view)
     (s.made ∙ ap (λ (v : DomainView). v.seen.made) p.view)
     (λ at_rest. s.hunt (ap (λ (v : DomainView). v.seen.hunt) p.view ∙ at_rest))
     stage
-    (subst (λ (f : List Entry). IsFrontOf x.own.number f x.seen.front) (sym s.front) p.seen)
+    (front_trans x.own.number z.seen.front b.seen.front x.seen.front (subst (λ (d : ℕ). IsFrontOf d z.seen.front b.seen.front) number s.front) p.seen)
+
+same_looked : (b y : DomainView) → Same b (with_looked b y.own.looked)
+same_looked b y = record { number = refl; serial = refl; arrivals = refl; made = refl; hunt = λ at_rest. at_rest; front = front_whole b.own.number b.seen.front }
 
 same_self : (b : DomainView) → Same b b
-same_self b = record { number = refl; serial = refl; arrivals = refl; made = refl; hunt = λ at_rest. at_rest; front = refl }
+same_self b = record { number = refl; serial = refl; arrivals = refl; made = refl; hunt = λ at_rest. at_rest; front = front_whole b.own.number b.seen.front }
+
+shares_leaves : (k : Config) (x b y : DomainView) (kind : Kind) → Passed k x b → b.seen.stage ≡ In kind → SharesIn kind b y → Leaves x y kind
+shares_leaves k x b y kind p stage l = begun_leaves k x b y (with_looked b y.own.looked) kind p (same_looked b y) l.view (ap kind_in stage)
 
 even_leaves : (k : Config) (x b y : DomainView) (kind : Kind) → Passed k x b → b.seen.stage ≡ In kind → LeavesEven k kind b y → Leaves x y kind
+even_leaves k x b y Run p stage l = absurd l
 even_leaves k x b y Promote p stage l =
     let v = l.shared.view in
     begun_leaves k x b y l.done Promote p
@@ -80,61 +101,163 @@ even_leaves k x b y Promote p stage l =
       arrivals = ap (λ (z : DomainView). z.own.arrivals) v;
       made = ap (λ (z : DomainView). z.seen.made) v;
       hunt = λ _. l.shared.at_rest;
-      front = ap (λ (z : DomainView). z.seen.front) v;
+      front = subst (λ (f : List Entry). IsFrontOf b.own.number f b.seen.front) (sym (ap (λ (z : DomainView). z.seen.front) v)) (front_whole b.own.number b.seen.front);
     })
     l.view (ap (λ (z : DomainView). kind_in z.seen.stage) v ∙ ap kind_in stage)
-even_leaves k x b y Reset p stage l = begun_leaves k x b y (reset_view b) Reset p (record { number = refl; serial = refl; arrivals = refl; made = refl; hunt = λ at_rest. at_rest; front = refl }) l.view (ap kind_in stage)
-even_leaves k x b y _ p stage l = absurd l
+even_leaves k x b y Reset p stage l = begun_leaves k x b y (reset_view b) Reset p (record { number = refl; serial = refl; arrivals = refl; made = refl; hunt = λ at_rest. at_rest; front = front_whole b.own.number b.seen.front }) l.view (ap kind_in stage)
+even_leaves k x b y Answer p stage l = absurd l
+even_leaves k x b y Roots p stage l = shares_leaves k x b y Roots p stage l
+even_leaves k x b y Mark p stage l = shares_leaves k x b y Mark p stage l
+even_leaves k x b y Rounds p stage l = shares_leaves k x b y Rounds p stage l
+even_leaves k x b y Decide p stage l = shares_leaves k x b y Decide p stage l
+even_leaves k x b y Queued p stage l = shares_leaves k x b y Queued p stage l
+even_leaves k x b y Clean p stage l = shares_leaves k x b y Clean p stage l
+even_leaves k x b y Lasts p stage l = shares_leaves k x b y Lasts p stage l
+even_leaves k x b y Sweep p stage l = shares_leaves k x b y Sweep p stage l
+
+-- the view that domain 0 arrives from when it has named a kind
+abbrev leading_view : DomainView → DomainView → Kind → Kind → DomainView
+leading_view b y last kind = record b { seen = record b.seen { front = y.seen.front; notes = y.seen.notes; stage = Led kind; share = record fresh_share { cut = cut_in last b.seen.share.cut } } }
+
+odd_leaves : (k : Config) (x b y : DomainView) (last kind : Kind) → Passed k x b → b.seen.stage ≡ Leads last → LeavesOdd k b y last kind → Leaves x y kind
+odd_leaves k x b y last kind p stage l = ⊎_elim
+    (λ (leads : (b.own.number ≡ 0) × LeadsOn k b y last kind). begun_leaves k x b y (leading_view b y last kind) kind p
+    (record { number = refl; serial = refl; arrivals = refl; made = refl; hunt = λ at_rest. at_rest; front = leads.1.seen }) leads.1.view refl)
+    (λ (follows : (b.own.number ≢ 0) × (kind ≡ last) × (y ≡ arrived_view b)). begun_leaves k x b y b kind p (same_self b) follows.2 (ap kind_in stage ∙ sym follows.1)) l
 
 pub passes_leaves : (k : Config) (x y : DomainView) (last kind : Kind) → Passes k x y last kind → Leaves x y kind
 passes_leaves k x y last kind p = ⊎_elim
-    (λ (even : IsEven x.own.arrivals × (p.begun.seen.stage ≡ In kind) × Comes x.own.number last kind × LeavesEven k kind p.begun y). even_leaves k x p.begun y kind p.passed even.1 even.3)
-    (λ (odd : IsOdd x.own.arrivals × (p.begun.seen.stage ≡ Leads last) × LeavesOdd p.begun y last kind). ⊎_elim
-    (λ (leads : (p.begun.own.number ≡ 0) × Follows last kind × (y ≡ arrived_view (led_view (opened_view p.begun kind) kind))). begun_leaves k x p.begun y (led_view (opened_view p.begun kind) kind) kind p.passed
-    (record { number = refl; serial = refl; arrivals = refl; made = refl; hunt = λ at_rest. at_rest; front = refl }) leads.2 refl)
-    (λ (follows : (p.begun.own.number ≢ 0) × (kind ≡ last) × (y ≡ arrived_view p.begun)). begun_leaves k x p.begun y p.begun kind p.passed (same_self p.begun) follows.2 (ap kind_in odd.1 ∙ sym follows.1))
-    odd.2)
+    (λ (even : IsEven x.own.arrivals × (p.begun.seen.stage ≡ In kind) × Comes x.own.number last kind × IsModeOf kind (state_of k p.begun.seen.front).mode × LeavesEven k kind p.begun y). even_leaves k x p.begun y kind p.passed even.1 even.4)
+    (λ (odd : IsOdd x.own.arrivals × (p.begun.seen.stage ≡ Leads last) × LeavesOdd k p.begun y last kind). odd_leaves k x p.begun y last kind p.passed odd.1 odd.2)
     p.share
 
+-- where Collected was appended the collection is to be answered
+collected_mode : (k : Config) (b y : DomainView) → EndsWith k b y Collected → (state_of k y.seen.front).mode ≡ AnswerMode
+collected_mode k b y ends = ap (λ (h : List Entry). (state_of k h).mode) ends.front ∙ ap (λ (s : model.State). s.mode) (state_after-push (opening (sizes_in k)) ends.before Collected)
+
+-- domain 0 has named a kind
+leads_ready : (k : Config) (b y : DomainView) (last kind : Kind) → b.own.number < k.domains → LeadsOn k b y last kind → IsPast k last b → IsReady k kind y
+leads_ready k b y last kind inside l past =
+    let number : y.own.number ≡ b.own.number = ap (λ (v : DomainView). v.own.number) l.view in
+    let knows : last ≡ Sweep → KnowsAnswer k y = λ e. answer_on k b y inside number l.seen (past.answer e) in
+    record {
+      before = last;
+      follows = l.follows;
+      past = past_as k last b y (keeps_as b y _ l.view refl refl refl refl) (arrived_void y (leading_view b y last kind) l.view) knows past;
+      fresh = λ e. let swept : last ≡ Sweep = before_answer last (subst (Follows last) e l.follows) in
+          knows swept (collected_mode k b y (l.made Collected (ap (λ (c : Kind). entry_of c kind) swept ∙ ap (entry_of Sweep) e)));
+    }
+
 -- what the domain then remembers and holds
-passes_past : (k : Config) (x y : DomainView) (last kind : Kind) → Passes k x y last kind → HasLeft k last x → HasLeft k kind y
-passes_past k x y last kind p left =
-    let l = passes_leaves k x y last kind p in ⊎_elim
-    (λ (even : IsEven x.own.arrivals × (p.begun.seen.stage ≡ In kind) × Comes x.own.number last kind × LeavesEven k kind p.begun y). record {
-      past = λ _. even_past k kind p.begun y even.3 (ready_next k last kind x p.begun left p.passed even.0 even.2);
+passes_past : (k : Config) (x y : DomainView) (last kind : Kind) → x.own.number < k.domains → Passes k x y last kind → HasLeft k last x → HasLeft k kind y
+passes_past k x y last kind inside p left =
+    let l = passes_leaves k x y last kind p in
+    let number : p.begun.own.number ≡ x.own.number = ap (λ (z : DomainView). z.own.number) p.passed.view in
+    let within : p.begun.own.number < k.domains = subst (λ (n : ℕ). n < k.domains) (sym number) inside in ⊎_elim
+    (λ (even : IsEven x.own.arrivals × (p.begun.seen.stage ≡ In kind) × Comes x.own.number last kind × IsModeOf kind (state_of k p.begun.seen.front).mode × LeavesEven k kind p.begun y). record {
+      past = λ _. even_past k kind p.begun y even.4 even.3 (ready_next k last kind x p.begun inside left p.passed even.0 even.2 even.3);
       ready = λ again _. absurd (not_both y.own.arrivals again (subst IsOdd (sym l.arrivals) (even_next x.own.arrivals even.0)));
     })
-    (λ (odd : IsOdd x.own.arrivals × (p.begun.seen.stage ≡ Leads last) × LeavesOdd p.begun y last kind).
-    let went : IsPast k last p.begun = looked_past k last x p.begun p.passed (left.past (inl odd.0)) in
-    let even : IsEven y.own.arrivals = subst IsEven (sym l.arrivals) (odd_next x.own.arrivals odd.0) in
-    let number : p.begun.own.number ≡ x.own.number = ap (λ (z : DomainView). z.own.number) p.passed.view in ⊎_elim
-    (λ (leads : (p.begun.own.number ≡ 0) × Follows last kind × (y ≡ arrived_view (led_view (opened_view p.begun kind) kind))). record {
+    (λ (odd : IsOdd x.own.arrivals × (p.begun.seen.stage ≡ Leads last) × LeavesOdd k p.begun y last kind).
+    let went : IsPast k last p.begun = looked_past k last x p.begun inside p.passed (left.past (inl odd.0)) in
+    let even : IsEven y.own.arrivals = subst IsEven (sym l.arrivals) (odd_next x.own.arrivals odd.0) in ⊎_elim
+    (λ (leads : (p.begun.own.number ≡ 0) × LeadsOn k p.begun y last kind). record {
       past = λ either. absurd (⊎_elim (λ (up : IsOdd y.own.arrivals). not_both y.own.arrivals even up) (λ (other : y.own.number ≢ 0). other (l.number ∙ (sym number ∙ leads.0))) either);
-      ready = λ _ _. record { before = last; follows = leads.1; past = left_past p.begun (led_view (opened_view p.begun kind) kind) leads.2 refl refl refl refl went };
+      ready = λ _ _. leads_ready k p.begun y last kind within leads.1 went;
     })
     (λ (follows : (p.begun.own.number ≢ 0) × (kind ≡ last) × (y ≡ arrived_view p.begun)). record {
-      past = λ _. subst (λ (c : Kind). IsPast k c y) (sym follows.1) (left_past p.begun p.begun follows.2 refl refl refl refl went);
+      past = λ _. subst (λ (c : Kind). IsPast k c y) (sym follows.1)
+          (past_as k last p.begun y (keeps_as p.begun y _ follows.2 refl refl refl refl) (arrived_void y p.begun follows.2) (λ e. subst (KnowsAnswer k) (sym follows.2) (went.answer e)) went);
       ready = λ _ first. absurd (follows.0 (number ∙ (sym l.number ∙ first)));
     })
     odd.2)
     p.share
-  where
-    left_past : (b z : DomainView) → y ≡ arrived_view z → z.seen.remembered ≡ b.seen.remembered → z.own.remembered ≡ b.own.remembered → z.own.registers ≡ b.own.registers → z.own.used ≡ b.own.used → IsPast k last b → IsPast k last y
-    left_past b z is seen own registers used went = past_as k last b y (ap (λ (v : DomainView). v.seen.remembered) is ∙ seen) (ap (λ (v : DomainView). v.own.remembered) is ∙ own) (ap (λ (v : DomainView). v.own.registers) is ∙ registers) (ap (λ (v : DomainView). v.own.used) is ∙ used) went
 
 passes_quiet : (k : Config) (x y : DomainView) (last kind : Kind) → Passes k x y last kind → IsQuiet x → IsQuiet y
 passes_quiet k x y last kind p quiet =
     let q = looked_quiet k x p.begun p.passed quiet in ⊎_elim
-    (λ (even : IsEven x.own.arrivals × (p.begun.seen.stage ≡ In kind) × Comes x.own.number last kind × LeavesEven k kind p.begun y). even_quiet k kind p.begun y even.3 q)
-    (λ (odd : IsOdd x.own.arrivals × (p.begun.seen.stage ≡ Leads last) × LeavesOdd p.begun y last kind). ⊎_elim
-    (λ (leads : (p.begun.own.number ≡ 0) × Follows last kind × (y ≡ arrived_view (led_view (opened_view p.begun kind) kind))). arrived_quiet (led_view (opened_view p.begun kind) kind) y leads.2 q.unprepared)
+    (λ (even : IsEven x.own.arrivals × (p.begun.seen.stage ≡ In kind) × Comes x.own.number last kind × IsModeOf kind (state_of k p.begun.seen.front).mode × LeavesEven k kind p.begun y). even_quiet k kind p.begun y even.4 q)
+    (λ (odd : IsOdd x.own.arrivals × (p.begun.seen.stage ≡ Leads last) × LeavesOdd k p.begun y last kind). ⊎_elim
+    (λ (leads : (p.begun.own.number ≡ 0) × LeadsOn k p.begun y last kind). arrived_quiet (leading_view p.begun y last kind) y leads.1.view q.unprepared)
     (λ (follows : (p.begun.own.number ≢ 0) × (kind ≡ last) × (y ≡ arrived_view p.begun)). arrived_quiet p.begun y follows.2 q.unprepared)
     odd.2)
     p.share
 
-pub passed_moves : (h : SharedHeap) (old new : Token) (before : Kind) (past : Past) → IsIn old h → IsIn new h → PassAnswers h.config old.view new.view before past → Moves old new
-passed_moves h old new before (Waits b) a i says = still_moves h old new _ a i says.1 refl refl refl refl refl
-passed_moves h old new before (Arrived kind) a i says =
+-- a phase of marking goes by the cut of the one before
+marks_cut : (last kind : Kind) (cut known : Bool) → Follows last kind → IsMarking kind → (IsMarking last → cut ≡ known) → cut_in last cut ≡ cut_in last known
+marks_cut Run kind cut known f is same = absurd (subst IsMarking f is)
+marks_cut Promote kind cut known f is same = absurd (subst IsMarking f is)
+marks_cut Reset kind cut known f is same = absurd (⊎_elim (λ (e : kind ≡ Run). subst IsMarking e is) (λ (e : kind ≡ Roots). subst IsMarking e is) f)
+marks_cut Roots kind cut known f is same = refl
+marks_cut Mark kind cut known f is same = same tt
+marks_cut Rounds kind cut known f is same = same tt
+marks_cut Decide kind cut known f is same = absurd (subst IsMarking f is)
+marks_cut Queued kind cut known f is same = refl
+marks_cut Clean kind cut known f is same = absurd (subst IsMarking f is)
+marks_cut Lasts kind cut known f is same = absurd (subst IsMarking f is)
+marks_cut Sweep kind cut known f is same = absurd (⊎_elim (λ (e : kind ≡ Run). subst IsMarking e is) (λ (e : kind ≡ Answer). subst IsMarking e is) f)
+marks_cut Answer kind cut known f is same = absurd (subst IsMarking f is)
+
+-- in such a phase the domain keeps what it knows of the cut
+even_cut : (k : Config) (kind : Kind) (b y : DomainView) → IsMarking kind → LeavesEven k kind b y → y.seen.share.cut ≡ b.seen.share.cut
+even_cut k Mark b y is l = ap (λ (v : DomainView). v.seen.share.cut) l.view
+even_cut k Rounds b y is l = ap (λ (v : DomainView). v.seen.share.cut) l.view
+even_cut k _ b y is l = absurd is
+
+stays_cut : (kind : Kind) (cut : Bool) → IsMarking kind → cut_in kind cut ≡ cut
+stays_cut Mark cut is = refl
+stays_cut Rounds cut is = refl
+stays_cut _ cut is = absurd is
+
+passes_cut : (k : Config) (x y : DomainView) (last kind : Kind) (cut : Bool) → Passes k x y last kind → KnowsCut last cut x → KnowsCut kind (cut_in last cut) y
+passes_cut k x y last kind cut p knows is first =
+    let l = passes_leaves k x y last kind p in
+    let zero_is : x.own.number ≡ 0 = sym l.number ∙ first in
+    let same : p.begun.seen.share.cut ≡ x.seen.share.cut = ap (λ (z : DomainView). z.seen.share.cut) p.passed.view in ⊎_elim
+    (λ (even : IsEven x.own.arrivals × (p.begun.seen.stage ≡ In kind) × Comes x.own.number last kind × IsModeOf kind (state_of k p.begun.seen.front).mode × LeavesEven k kind p.begun y).
+    let here : kind ≡ last = even.2.0 zero_is in
+    let marking : IsMarking last = subst IsMarking here is in
+    stays_cut last cut marking ∙ (knows marking zero_is ∙ sym (even_cut k kind p.begun y is even.4 ∙ same)))
+    (λ (odd : IsOdd x.own.arrivals × (p.begun.seen.stage ≡ Leads last) × LeavesOdd k p.begun y last kind). ⊎_elim
+    (λ (leads : (p.begun.own.number ≡ 0) × LeadsOn k p.begun y last kind).
+    marks_cut last kind cut p.begun.seen.share.cut leads.1.follows is (λ marking. knows marking zero_is ∙ sym same) ∙ sym (ap (λ (v : DomainView). v.seen.share.cut) leads.1.view))
+    (λ (follows : (p.begun.own.number ≢ 0) × (kind ≡ last) × (y ≡ arrived_view p.begun)). absurd (follows.0 (ap (λ (z : DomainView). z.own.number) p.passed.view ∙ zero_is)))
+    odd.2)
+    p.share
+
+-- who comes to a phase in which a collection is answered, and leaves it with this front
+answer_past : (k : Config) (x begun y : DomainView) (front : List Entry) → ComesToAnswer k x begun → y ≡ arrived_view (with_front begun front) → HasLeft k Answer y
+answer_past k x begun y front c is =
+    let arrivals : y.own.arrivals ≡ x.own.arrivals + 1 = ap (λ (v : DomainView). v.own.arrivals) is ∙ ap (λ (v : DomainView). v.own.arrivals + 1) c.passed.view in record {
+      past = λ _. later_past k Answer begun y (keeps_as begun y _ is refl refl refl refl) (arrived_void y (with_front begun front) is) (λ e. cc) (λ e. cc) (λ e. cc) (λ e. cc) c.ready;
+      ready = λ again _. absurd (not_both y.own.arrivals again (subst IsOdd (sym arrivals) (even_next x.own.arrivals c.even)));
+    }
+
+-- its run stands between two turns then
+pub answer_between : (h : SharedHeap) (x begun : DomainView) (new : Token) (front : List Entry) (asked : Option ℕ) (collected cut : Bool) → IsIn new h → IsQuiet x → ComesToAnswer h.config x begun
+    → new.view ≡ arrived_view (with_front begun front) → (collected ≡ true → IsFresh h.config new.view) → IsBetween (Some Answer) asked collected cut new
+answer_between h x begun new front asked collected cut i quiet c is fresh = record {
+  stands = ap (λ (v : DomainView). v.seen.stage) is ∙ ap Gone (ap kind_in c.stage);
+  quiet = arrived_quiet (with_front begun front) new.view is (looked_quiet h.config x begun c.passed quiet).unprepared;
+  even = λ none. cc;
+  remembers = λ none. cc;
+  collected = λ none. cc;
+  has_left = λ known e. subst (λ (kind : Kind). HasLeft new.config kind new.view) (some_injective Answer known e) (subst (λ (k : Config). HasLeft k Answer new.view) (sym i.1) (answer_past h.config x begun new.view front c is));
+  fresh = λ e. subst (λ (k : Config). IsFresh k new.view) (sym i.1) (fresh e);
+  knows_cut = λ known e marking. absurd (subst IsMarking (sym (some_injective Answer known e)) marking);
+}
+
+pub gives_moves : (h : SharedHeap) (old new : Token) → IsIn old h → IsIn new h → GivesBack h.config old.view new.view → Moves old new
+gives_moves h old new a i g =
+    let number : g.begun.own.number ≡ old.view.own.number = ap (λ (z : DomainView). z.own.number) g.comes.passed.view in
+    view_moves h old new (arrived_view g.begun) a i g.view number (ap (λ (z : DomainView). z.own.serial) g.comes.passed.view) (ap (λ (z : DomainView). z.seen.made) g.comes.passed.view) (ap (λ (z : DomainView). z.seen.hunt) g.comes.passed.view) g.comes.passed.seen
+
+pub gives_between : (h : SharedHeap) (old new : Token) (asked : Option ℕ) (collected cut : Bool) → IsIn new h → IsQuiet old.view → GivesBack h.config old.view new.view → IsBetween (Some Answer) asked collected cut new
+gives_between h old new asked collected cut i quiet g = answer_between h old.view g.begun new g.begun.seen.front asked collected cut i quiet g.comes g.view
+    (λ _. subst (IsFresh h.config) (sym g.view) (g.comes.ready.fresh refl))
+
+pub passes_moves : (h : SharedHeap) (old new : Token) (before kind : Kind) → IsIn old h → IsIn new h → Passes h.config old.view new.view before kind → Moves old new
+passes_moves h old new before kind a i says =
     let l = passes_leaves h.config old.view new.view before kind says in
     record {
       config = i.1 ∙ sym a.1;
@@ -144,35 +267,42 @@ passed_moves h old new before (Arrived kind) a i says =
       hunt = l.hunt;
       front = l.front;
     }
-passed_moves h old new before Runs a i says = view_moves h old new _ a i says.0.view refl refl refl refl says.0.seen
 
-pub passed_between : (h : SharedHeap) (old new : Token) (past : Past) (before : Kind) (asked : Option ℕ) → IsIn old h → IsIn new h → IsBetween (Some before) asked old → PassAnswers h.config old.view new.view before past → IsBetween (left_after past before) asked new
-passed_between h old new (Waits b) before asked a i is says =
-    let left = is.has_left before refl in record {
-      stands = ap (λ (x : DomainView). x.seen.stage) says.1 ∙ is.stands;
-      quiet = quiet_as old.view new.view (ap (λ (x : DomainView). x.seen.copying) says.1) (ap (λ (x : DomainView). x.own.pending) says.1) (ap (λ (x : DomainView). x.own.prepared) says.1) is.quiet;
-      even = λ none. cc;
-      remembers = λ none. cc;
-      collected = λ none. cc;
-      has_left = λ known e. subst (λ (kind : Kind). HasLeft new.config kind new.view) (some_injective before known e)
-          (subst (λ (z : Config × DomainView). HasLeft z.0 before z.1) (λ j. (sym (i.1 ∙ sym a.1) j, sym says.1 j)) (let l : HasLeft old.config before (noted old.view (Barrier b)) = record {
-            past = λ either. let p = left.past either in record { outside = p.outside; remembers = p.remembers; looked_through = p.looked_through; holds_old = p.holds_old; emptied = p.emptied; forgotten = p.forgotten };
-            ready = λ even first. let r = left.ready even first in let p = r.past in record { before = r.before; follows = r.follows; past = record { outside = p.outside; remembers = p.remembers; looked_through = p.looked_through; holds_old = p.holds_old; emptied = p.emptied; forgotten = p.forgotten } };
-          } in l));
-    }
-passed_between h old new (Arrived kind) before asked a i is says = record {
+-- a run of which nothing but the domain's view has changed stays between two turns
+pub passes_between : (h : SharedHeap) (old new : Token) (before kind : Kind) (asked : Option ℕ) (collected cut : Bool) → old.view.own.number < old.config.domains → IsIn old h → IsIn new h → IsBetween (Some before) asked collected cut old
+    → Passes h.config old.view new.view before kind → IsBetween (Some kind) asked collected (cut_in before cut) new
+passes_between h old new before kind asked collected cut inside a i is says = record {
   stands = (passes_leaves h.config old.view new.view before kind says).stage;
   quiet = passes_quiet h.config old.view new.view before kind says is.quiet;
   even = λ none. cc;
   remembers = λ none. cc;
   collected = λ none. cc;
-  has_left = λ known e. subst (λ (c : Kind). HasLeft new.config c new.view) (some_injective kind known e) (subst (λ (k : Config). HasLeft k kind new.view) (sym i.1) (passes_past h.config old.view new.view before kind says (subst (λ (k : Config). HasLeft k before old.view) a.1 (is.has_left before refl))));
+  has_left = λ known e. subst (λ (c : Kind). HasLeft new.config c new.view) (some_injective kind known e)
+      (subst (λ (k : Config). HasLeft k kind new.view) (sym i.1) (passes_past h.config old.view new.view before kind (subst (λ (k : Config). old.view.own.number < k.domains) a.1 inside) says (subst (λ (k : Config). HasLeft k before old.view) a.1 (is.has_left before refl))));
+  fresh = λ e. let l = passes_leaves h.config old.view new.view before kind says in
+      subst (λ (k : Config). IsFresh k new.view) (sym i.1) (fresh_on h.config old.view new.view l.number l.front (subst (λ (k : Config). IsFresh k old.view) a.1 (is.fresh e)));
+  knows_cut = λ known e. subst (λ (c : Kind). KnowsCut c (cut_in before cut) new.view) (some_injective kind known e) (passes_cut h.config old.view new.view before kind cut says (is.knows_cut before refl));
 }
-passed_between h old new Runs before asked a i is says = record {
-  stands = says.1;
-  quiet = looked_quiet h.config old.view new.view says.0 is.quiet;
-  even = λ _. subst IsEven (sym (ap (λ (x : DomainView). x.own.arrivals) says.0.view)) says.2;
-  remembers = λ _. says.3.looked_through ∙ sym says.3.forgotten;
-  collected = λ _ _. says.3.emptied;
-  has_left = λ known none. cc;
-}
+
+pub waits_between : (h : SharedHeap) (old new : Token) (before : Kind) (asked : Option ℕ) (collected cut : Bool) (b : ℕ) → IsIn old h → IsIn new h → IsBetween (Some before) asked collected cut old → new.view ≡ noted old.view (Barrier b)
+    → IsBetween (Some before) asked collected cut new
+waits_between h old new before asked collected cut b a i is says =
+    let config : new.config ≡ old.config = i.1 ∙ sym a.1 in record {
+      stands = ap (λ (x : DomainView). x.seen.stage) says ∙ is.stands;
+      quiet = quiet_as old.view new.view (ap (λ (x : DomainView). x.seen.copying) says) (ap (λ (x : DomainView). x.own.pending) says) (ap (λ (x : DomainView). x.own.prepared) says) is.quiet;
+      even = λ none. cc;
+      remembers = λ none. cc;
+      collected = λ none. cc;
+      has_left = λ known e. subst (λ (z : Config × DomainView). HasLeft z.0 known z.1) (λ j. (sym config j, sym says j)) (noted_left old.config known old.view b (is.has_left known e));
+      fresh = λ e. subst (λ (z : Config × DomainView). IsFresh z.0 z.1) (λ j. (sym config j, sym says j)) (is.fresh e);
+      knows_cut = λ known e. subst (KnowsCut known cut) (sym says) (is.knows_cut known e);
+    }
+  where
+    noted_past : (k : Config) (kind : Kind) (x : DomainView) (n : ℕ) → IsPast k kind x → IsPast k kind (noted x (Barrier n))
+    noted_past k kind x n p = record { remembers = p.remembers; looked_through = p.looked_through; holds_old = p.holds_old; emptied = p.emptied; forgotten = p.forgotten; void = p.void; answer = p.answer }
+
+    noted_left : (k : Config) (kind : Kind) (x : DomainView) (n : ℕ) → HasLeft k kind x → HasLeft k kind (noted x (Barrier n))
+    noted_left k kind x n left = record {
+      past = λ either. noted_past k kind x n (left.past either);
+      ready = λ even first. let r = left.ready even first in record { before = r.before; follows = r.follows; past = noted_past k r.before x n r.past; fresh = r.fresh };
+    }

@@ -1,5 +1,5 @@
 -- A run whose domain moved in the phases, and made no entry.
-use Rattle.std.proofs.Common.{◌≡◌, ◌∙◌, ℕ, ◌+◌, ◌≤◌, Bool, true, false, List, [], ◌∷◌, ◌++◌, append-nil, refl, sym, ap, subst, Option}
+use Rattle.std.proofs.Common.{◌≡◌, ◌∙◌, ℕ, ◌+◌, ◌<◌, ◌≤◌, Bool, true, false, List, [], ◌∷◌, ◌++◌, append-nil, refl, sym, ap, subst, Option}
 use Rattle.std.specs.Prelude.{IsTrue, ◌||◌}
 use Rattle.std.specs.List.{list_any}
 use Rattle.heap_model.specs.declared.entry.Entry.{Entry}
@@ -33,8 +33,8 @@ any_append p (x ∷ xs) ys is = more (p x) (list_any p xs) (list_any p (xs ++ ys
     more true b c f h = refl
     more false b c f h = f h
 
-pub moved_is_run : (r : RunView) (new : Token) (left : Option Kind) (asked : Option ℕ) → IsRun r → Moves r.token new → IsBetween left asked new → IsRun (record r { token = new; left = left; asked = asked })
-moved_is_run r new left asked is m between =
+pub moved_is_run : (r : RunView) (new : Token) (left : Option Kind) (asked : Option ℕ) (collected cut : Bool) → IsRun r → Moves r.token new → IsBetween left asked collected cut new → IsRun (record r { token = new; left = left; asked = asked; collected = collected; cut = cut })
+moved_is_run r new left asked collected cut is m between =
     let d : ℕ = r.token.view.own.number in
     let k : Config = r.token.config in
     let old : List Entry = r.token.view.seen.front in
@@ -45,6 +45,7 @@ moved_is_run r new left asked is m between =
     ap (λ (h : List Entry). replies (sizes_in k) h d) m.front.appends ∙ replies_from-append (opening (sizes_in k)) old rest d
     ∙ ap (λ t. replies (sizes_in k) old d ++ t) (replies_from-others (state_after (opening (sizes_in k)) old) rest d m.front.others) ∙ append-nil (replies (sizes_in k) old d) in
     record {
+      inside = subst (λ (z : ℕ × Config). z.0 < z.1.domains) (λ i. (sym m.number i, sym m.config i)) is.inside;
       made = ap (commands new.view.seen.front) m.number ∙ made ∙ is.made;
       answered = ap (λ (n : ℕ). replies (sizes_in new.config) new.view.seen.front n) m.number ∙ ap (λ (c : Config). replies (sizes_in c) new.view.seen.front d) m.config ∙ answered ∙ is.answered;
       each = is.each;

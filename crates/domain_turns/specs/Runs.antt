@@ -23,7 +23,7 @@ use Rattle.heap_rule.specs.declared.phase.Note.TheVariants.{Want, Asked, Barrier
 use Rattle.heap_rule.specs.Phases.{IsEven, IsOdd, Follows, Comes}
 use Rattle.heap_rule.specs.Copies.{nothing_copied}
 use Rattle.heap_rule.specs.Running.{RemembersAll}
-use Rattle.steps_pauses.specs.Pauses.{noted, arrived_view, cut_in}
+use Rattle.steps_pauses.specs.Pauses.{noted, arrived_view, cut_in, IsModeOf}
 use Rattle.heap_rule.specs.Rule.{state_of}
 use Rattle.safepoint.specs.Looks.{Passed, bit_of}
 use Rattle.safepoint.specs.declared.answer.Want.TheVariants.{Full}
@@ -65,6 +65,7 @@ served_since (Some at) arrivals = nat_lt at arrivals
 
 -- a domain that runs, without an entry so far, may begin these commands. It is in the middle of no pause and of no collection
 pub record CanBegin (t : Token) (cs : List model.Command) : Type 0 where
+  pub inside : t.view.own.number < t.config.domains
   pub acts : Acts t.config t.view
   pub idle : t.view.seen.made ≡ []
   pub at_rest : t.view.seen.hunt ≡ AtRest
@@ -97,6 +98,7 @@ pub record IsBetween (left : Option Kind) (asked : Option ℕ) (collected cut : 
 
 -- what is true of a run between any two turns: the domain's commands in its front are those before the next, each once and in order, and the replies are theirs
 pub record IsRun (r : RunView) : Type 0 where
+  pub inside : r.token.view.own.number < r.token.config.domains
   pub made : commands r.token.view.seen.front r.token.view.own.number ≡ take r.next r.commands
   pub answered : replies (sizes_in r.token.config) r.token.view.seen.front r.token.view.own.number ≡ r.replies
   pub each : length r.replies ≡ r.next
@@ -210,7 +212,7 @@ Starts h old start = ((old.left ≡ None) × (start ≡ old)) ⊎ Resumes h old 
 pub record Passes (k : Config) (x y : DomainView) (last kind : Kind) : Type 0 where
   pub begun : DomainView
   pub passed : Passed k x begun
-  pub share : (IsEven x.own.arrivals × (begun.seen.stage ≡ In kind) × Comes x.own.number last kind × LeavesEven k kind begun y) ⊎ (IsOdd x.own.arrivals × (begun.seen.stage ≡ Leads last) × LeavesOdd k begun y last kind)
+  pub share : (IsEven x.own.arrivals × (begun.seen.stage ≡ In kind) × Comes x.own.number last kind × IsModeOf kind (state_of k begun.seen.front).mode × LeavesEven k kind begun y) ⊎ (IsOdd x.own.arrivals × (begun.seen.stage ≡ Leads last) × LeavesOdd k begun y last kind)
 
 -- the domain had arrived, and went through the phase that had begun since
 pub record GoesBy (h : SharedHeap) (old new : RunView) : Type 0 where

@@ -1,5 +1,5 @@
 -- What all steps of copying share: the rule holds again where the places, the pools and each domain meet it.
-use Rattle.std.proofs.Common.{◌≡◌, ◌≢◌, ℕ, ◌+◌, ◌*◌, List, length, set, sym, ap, ◌∙◌, subst, inr, ⊎_elim, arith, refl}
+use Rattle.std.proofs.Common.{◌≡◌, ◌≢◌, ℕ, ◌+◌, ◌*◌, List, length, set, sym, ap, ◌∙◌, subst, inl, inr, ⊎_elim, arith, refl, true, ◌⊎◌}
 use mathlib.Core.Option.{some}
 use lib.ListN.{get_elem?}
 use Rattle.heap_model.specs.declared.entry.Entry.{Entry}
@@ -15,7 +15,7 @@ use Rattle.heap_rule.specs.Changes.{value_at}
 use Rattle.heap_rule.specs.Copies.{Owes, Copies, Promoting, AllCleared}
 use Rattle.heap_rule.specs.Phases.{Pause, IsInPause}
 use Rattle.heap_rule.specs.Places.{Live, Stands, Placed, Spread, More}
-use Rattle.heap_rule.specs.Pools.{Tenancy, Pools, Grid, Drawers, KeepsReserve, Hunter, Takes, IsLeading}
+use Rattle.heap_rule.specs.Pools.{Tenancy, Pools, Grid, Drawers, KeepsReserve, RunsNext, Hunter, Takes, IsLeading}
 use Rattle.heap_rule.specs.Room.{Room, Opened}
 use Rattle.heap_rule.specs.Rule.{state_of, AllFound, Stood, Area, Making, Rule}
 use Rattle.heap_rule.specs.Views.{one}
@@ -36,6 +36,13 @@ copying_keeps t p keeps = ⊎_elim
 
     clash : keeps.0 ≡ p.0 → ⊥
     clash same = let e : Run ≡ Promote = sym keeps.2 ∙ (ap t.kinds same ∙ p.2) in cc
+
+-- nor do they run next
+copying_runs : (t : Pause) → Promoting t → RunsNext t → ⊥
+copying_runs t p runs = ⊎_elim
+    (λ (even : (j : ℕ) × (t.phase ≡ j * 2) × (t.kinds j ≡ Run)). copying_keeps t p (even.0, inl even.1, even.2))
+    (λ (odd : (j : ℕ) × (t.phase ≡ j * 2 + 1) × (t.led ≡ true) × (t.kinds (j + 1) ≡ Run)). let i : ℕ = odd.0 in let j : ℕ = p.0 in let e : t.phase ≡ i * 2 + 1 = odd.1 in let f : t.phase ≡ j * 2 = p.1 in omega arith)
+    runs
 
 module _ (k : Config) (s : Words) (r : Rule k s) (id : ℕ) (hist : List Entry) (x : DomainView) (at : get_elem? s.views id ≡ some (one k hist x)) (promotes : x.seen.stage ≡ In Promote) where
   abbrev pub now : model.State
@@ -106,6 +113,7 @@ module _ (k : Config) (s : Words) (r : Rule k s) (id : ℕ) (hist : List Entry) 
         endings = o.control 8 (omega arith) ∙ r.whole.endings;
         pools = o.pools;
         reserved = λ keeps. absurd (copying_keeps r.account.pause promoting keeps);
+        covered = λ runs. absurd (copying_runs r.account.pause promoting runs);
         grid = o.grid;
         drawers = o.drawers;
         room = o.room;

@@ -98,6 +98,14 @@ none_append : (d : ℕ) (h k : List Entry) → NoneOf d h → NoneOf d k → Non
 none_append d [] k a b = b
 none_append d (e ∷ h) k a b = let parts = none_cons d e h a in rw parts.0 (none_append d h k parts.1 b)
 
+-- a front of a front
+pub front_trans : (d : ℕ) (new mid old : List Entry) → IsFrontOf d new mid → IsFrontOf d mid old → IsFrontOf d new old
+front_trans d new mid old f g = record {
+  rest = g.rest ++ f.rest;
+  appends = f.appends ∙ (ap (λ l. l ++ f.rest) g.appends ∙ append_assoc old g.rest f.rest);
+  others = none_append d g.rest f.rest g.others f.others;
+}
+
 -- an answer from a front that had grown by entries of others alone is one from the older front
 pub answers_after : (z : Sizes) (d : ℕ) (old mid new : List Entry) (e : Entry) (r : Applied) → IsFrontOf d mid old → Answers z d mid new e r → Answers z d old new e r
 answers_after z d old mid new e r f a =
