@@ -10,8 +10,18 @@ use Rattle.heap_model.specs.History.{commands, command_of, replies}
 use Rattle.heap_model.proofs.Histories.AnswerLemmas.{commands_after, replies_after}
 use Rattle.heap_rule.specs.declared.config.Config.{Config}
 use Rattle.heap_rule.specs.Limits.{sizes_in}
-use Rattle.heap_rule.specs.Token.{Token, SharedHeap}
-use Rattle.heap_model.specs.declared.command.Command.TheVariants.{PutInt, Alloc, AllocMaj}
+use Rattle.heap_rule.specs.Token.{Token, SharedHeap, IsIn}
+use Rattle.heap_model.specs.declared.command.Command.TheVariants.{PutInt, Alloc, AllocMaj, FullMajor}
+use Rattle.heap_model.specs.Domains.{domain_at}
+use Rattle.heap_model.specs.Fronts.{Answers}
+use Rattle.heap_model.proofs.Histories.AnswerLemmas.{acts_after}
+use Rattle.heap_model.proofs.Histories.FrontLemmas.{answers_after}
+use Rattle.heap_rule.specs.declared.view.Hunt.TheVariants.{Rests}
+use Rattle.heap_rule.specs.declared.phase.Kind.TheVariants.{Answer}
+use Rattle.heap_rule.specs.Rule.{state_of}
+use Rattle.steps_pauses.specs.Pauses.{cut_in, forgotten}
+use Rattle.domain_turns.specs.Pausing.{AnswersLive}
+use Rattle.domain_turns.proofs.LeavingLemmas.{answer_between}
 use Rattle.heap_rule.specs.declared.view.Own.{Own}
 use Rattle.heap_rule.specs.declared.view.DomainView.{DomainView}
 use Rattle.domain_turns.specs.Tries.{Enters, Stands, Tried, labels_given}
@@ -36,11 +46,11 @@ own : (d : ℕ) (c : model.Command) (full : Bool) → command_of d (CommandOf d 
 own d c full = ap (λ (b : Bool). cond b (c ∷ []) []) (eq-eqb d d refl)
 
 -- the entry that stands
-pub stood : (h : SharedHeap) (old new : Token) (c : model.Command) (r : Reply) → Stands h old new c r → (full : Bool) × Enters old new c full r
-stood h old new (Alloc dst tag fields) r s = ⊎_elim (λ a. (false, a.0)) (λ b. (true, b.0)) s
-stood h old new (AllocMaj dst tag fields) r s = ⊎_elim (λ a. (false, a.0)) (λ b. (true, b.0)) s
-stood h old new (PutInt dst z) r s = (false, s)
-stood h old new c r s = (false, s)
+pub stood : (h : SharedHeap) (old new : Token) (c : model.Command) (collected : Bool) (r : Reply) → Stands h old new c collected r → (full : Bool) × Enters old new c full r
+stood h old new (Alloc dst tag fields) collected r s = ⊎_elim (λ a. (false, a.0)) (λ b. (true, b.0)) s
+stood h old new (AllocMaj dst tag fields) collected r s = ⊎_elim (λ a. (false, a.0)) (λ b. (true, b.0)) s
+stood h old new (PutInt dst z) collected r s = (false, s)
+stood h old new c collected r s = (false, s)
 
 labels_few : (c : model.Command) (r : Reply) → labels_given c r ≤ 1
 labels_few (Alloc dst tag fields) (Block l) = omega arith
@@ -48,19 +58,21 @@ labels_few (AllocMaj dst tag fields) (Block l) = omega arith
 labels_few c r = omega arith
 
 -- after the try of a command the domain runs on
-tried_between : (h : SharedHeap) (old new : Token) (c : model.Command) (reply : Reply) (asked : Option ℕ) → IsBetween None asked old → Tried h old new c reply → IsBetween None None new
-tried_between h old new c reply asked is t = record {
+tried_between : (h : SharedHeap) (old new : Token) (c : model.Command) (reply : Reply) (asked : Option ℕ) (collected cut : Bool) → IsBetween None asked collected cut old → Tried h old new c collected reply → IsBetween None None false cut new
+tried_between h old new c reply asked collected cut is t = record {
   stands = t.runs.acts.runs;
   quiet = quiet_as old.view new.view t.stays.copying (ap (λ (o : Own). o.pending) t.own) (ap (λ (o : Own). o.prepared) t.own) is.quiet;
   even = λ none. subst IsEven (sym t.stays.arrivals) (is.even none);
   remembers = λ _. t.runs.remembers;
   collected = λ _ served. cc;
   has_left = λ known left. cc;
+  fresh = λ e. cc;
+  knows_cut = λ known left. cc;
 }
 
 -- after the end of the trace it runs too
-ended_between : (h : SharedHeap) (old new : Token) (asked : Option ℕ) → IsBetween None asked old → HasEnded h old new → IsBetween None asked new
-ended_between h old new asked is t =
+ended_between : (h : SharedHeap) (old new : Token) (asked : Option ℕ) (collected cut : Bool) → IsBetween None asked collected cut old → HasEnded h old new → IsBetween None asked false cut new
+ended_between h old new asked collected cut is t =
     let arrivals : new.view.own.arrivals ≡ old.view.own.arrivals = ap (λ (x : DomainView). x.own.arrivals) t.view in record {
       stands = ap (λ (x : DomainView). x.seen.stage) t.view ∙ is.stands;
       quiet = quiet_as old.view new.view (ap (λ (x : DomainView). x.seen.copying) t.view) (ap (λ (x : DomainView). x.own.pending) t.view) (ap (λ (x : DomainView). x.own.prepared) t.view) is.quiet;
@@ -68,39 +80,82 @@ ended_between h old new asked is t =
       remembers = λ none. ap (λ (x : DomainView). x.seen.remembered) t.view ∙ (is.remembers none ∙ sym (ap (λ (x : DomainView). x.own.remembered.items) t.view));
       collected = λ none served. ap (λ (x : DomainView). x.own.used) t.view ∙ is.collected none (ap (served_since asked) (sym arrivals) ∙ served);
       has_left = λ known left. cc;
+      fresh = λ e. cc;
+      knows_cut = λ known left. cc;
     }
 
-pub tried_is_run : (h : SharedHeap) (r : RunView) (new : Token) (c : model.Command) (reply : Reply) → IsRun r → r.ended ≡ false → r.left ≡ None → slice_get r.commands r.next ≡ Some c → Tried h r.token new c reply
-    → IsRun (record r { token = new; next = r.next + 1; replies = r.replies ++ reply ∷ []; asked = None })
-tried_is_run h r new c reply is running left at t =
+-- what the entry of a command leaves of its domain's token
+record HasMade (old new : Token) (c : model.Command) (full : Bool) (reply : Reply) : Type 0 where
+  config : new.config ≡ old.config
+  number : new.view.own.number ≡ old.view.own.number
+  serial : new.view.own.serial ≤ old.view.own.serial + 1
+  idle : new.view.seen.made ≡ []
+  at_rest : new.view.seen.hunt ≡ Rests
+  answers : Answers (sizes_in old.config) old.view.own.number old.view.seen.front new.view.seen.front (CommandOf old.view.own.number c full) (Replied reply)
+
+-- the entry of the next command was made, and its reply kept
+made_is_run : (r : RunView) (new : Token) (c : model.Command) (full : Bool) (reply : Reply) (left : Option Kind) (cut : Bool) → IsRun r → r.ended ≡ false → slice_get r.commands r.next ≡ Some c → HasMade r.token new c full reply → IsBetween left None false cut new
+    → IsRun (record r { token = new; next = r.next + 1; replies = r.replies ++ reply ∷ []; left = left; asked = None; collected = false; cut = cut })
+made_is_run r new c full reply left cut is running at m between =
     let d : ℕ = r.token.view.own.number in
     let z = sizes_in r.token.config in
-    let number = ap (λ (o : Own). o.number) t.own in
-    let serial : new.view.own.serial ≡ r.token.view.own.serial + labels_given c reply = ap (λ (o : Own). o.serial) t.own in
-    let few = labels_few c reply in
-    let st = stood h r.token new c reply t.stands in
-    let full : Bool = st.0 in
     let e : Entry = CommandOf d c full in
     let made : commands new.view.seen.front d ≡ take r.next r.commands ++ c ∷ [] =
-    commands_after z d r.token.view.seen.front new.view.seen.front e (Replied reply) st.1
+    commands_after z d r.token.view.seen.front new.view.seen.front e (Replied reply) m.answers
     ∙ ap (λ (cs : List model.Command). cs ++ command_of d e) is.made ∙ ap (λ (cs : List model.Command). take r.next r.commands ++ cs) (own d c full) in
     let answered : replies z new.view.seen.front d ≡ r.replies ++ reply ∷ [] =
-    replies_after z d r.token.view.seen.front new.view.seen.front e (Replied reply) (eq-eqb d d refl) st.1 ∙ ap (λ (rs : List Reply). rs ++ reply ∷ []) is.answered in
+    replies_after z d r.token.view.seen.front new.view.seen.front e (Replied reply) (eq-eqb d d refl) m.answers ∙ ap (λ (rs : List Reply). rs ++ reply ∷ []) is.answered in
     record {
-      made = ap (commands new.view.seen.front) number ∙ made ∙ sym (take_next r.commands r.next c at) ∙ ap (λ (n : ℕ). take n r.commands) (sym (add-one r.next));
-      answered = ap (λ (n : ℕ). replies (sizes_in new.config) new.view.seen.front n) number ∙ ap (λ (k : Config). replies (sizes_in k) new.view.seen.front d) t.heap.1 ∙ answered;
+      inside = subst (λ (z : ℕ × Config). z.0 < z.1.domains) (λ i. (sym m.number i, sym m.config i)) is.inside;
+      made = ap (commands new.view.seen.front) m.number ∙ made ∙ sym (take_next r.commands r.next c at) ∙ ap (λ (n : ℕ). take n r.commands) (sym (add-one r.next));
+      answered = ap (λ (n : ℕ). replies (sizes_in new.config) new.view.seen.front n) m.number ∙ ap (λ (k : Config). replies (sizes_in k) new.view.seen.front d) m.config ∙ answered;
       each = length-append r.replies (reply ∷ []) ∙ ap (λ (n : ℕ). n + 1) is.each;
       within = let below = inside r.commands r.next c at in omega arith;
       few = is.few;
       fit = is.fit;
-      idle = t.runs.idle;
-      at_rest = t.runs.at_rest;
-      goes_on = λ running. t.runs.acts.goes_on;
-      between = subst (λ (l : Option Kind). IsBetween l None new) (sym left) (tried_between h r.token new c reply r.asked (subst (λ (l : Option Kind). IsBetween l r.asked r.token) left is.between) t);
-      labels = omega (arith, is.labels, serial, few);
-      done = λ ended. cc;
-      over = λ ended. cc;
+      idle = m.idle;
+      at_rest = m.at_rest;
+      goes_on = λ _. subst (λ (z : ℕ × Config). (domain_at (state_of z.1 new.view.seen.front) z.0).ended ≡ false) (λ i. (sym m.number i, sym m.config i))
+          (acts_after z d r.token.view.seen.front new.view.seen.front c full (Replied reply) m.answers (is.goes_on running));
+      between = between;
+      labels = let few = m.serial in let l = is.labels in let n : ℕ = r.next in omega arith;
+      done = λ ended. let clash : false ≡ true = sym running ∙ ended in cc;
+      over = λ ended. let clash : false ≡ true = sym running ∙ ended in cc;
     }
+
+pub tried_is_run : (h : SharedHeap) (r : RunView) (new : Token) (c : model.Command) (reply : Reply) → IsRun r → r.ended ≡ false → r.left ≡ None → slice_get r.commands r.next ≡ Some c → Tried h r.token new c r.collected reply
+    → IsRun (record r { token = new; next = r.next + 1; replies = r.replies ++ reply ∷ []; asked = None; collected = false })
+tried_is_run h r new c reply is running left at t =
+    let st = stood h r.token new c r.collected reply t.stands in
+    let few = labels_few c reply in
+    let serial : new.view.own.serial ≡ r.token.view.own.serial + labels_given c reply = ap (λ (o : Own). o.serial) t.own in
+    made_is_run r new c st.0 reply r.left r.cut is running at
+    record { config = t.heap.1; number = ap (λ (o : Own). o.number) t.own; serial = omega (arith, serial, few); idle = t.runs.idle; at_rest = t.runs.at_rest; answers = st.1 }
+    (subst (λ (l : Option Kind). IsBetween l None false r.cut new) (sym left) (tried_between h r.token new c reply r.asked r.collected r.cut (subst (λ (l : Option Kind). IsBetween l r.asked r.collected r.cut r.token) left is.between) t))
+
+-- the same where a collection is answered by the reply of a `full_major`
+pub answered_is_run : (h : SharedHeap) (r : RunView) (new : Token) (reply : Reply) (last : Kind) → IsRun r → r.ended ≡ false → slice_get r.commands r.next ≡ Some FullMajor → IsIn r.token h → IsIn new h → AnswersLive h.config r.token.view new.view reply
+    → IsRun (record r { token = new; next = r.next + 1; replies = r.replies ++ reply ∷ []; left = Some Answer; asked = None; collected = false; cut = cut_in last r.cut })
+answered_is_run h r new reply last is running at was here a =
+    let passed = a.comes.passed.view in
+    let own : new.view.own ≡ record a.begun.own { arrivals = a.begun.own.arrivals + 1; pending = forgotten a.begun.own.pending } = ap (λ (x : DomainView). x.own) a.view in
+    let config : new.config ≡ r.token.config = here.1 ∙ sym was.1 in
+    let serial : new.view.own.serial ≡ r.token.view.own.serial = ap (λ (o : Own). o.serial) own ∙ ap (λ (x : DomainView). x.own.serial) passed in
+    let front : new.view.seen.front ≡ a.front = ap (λ (x : DomainView). x.seen.front) a.view in
+    let entry : Entry = CommandOf r.token.view.own.number FullMajor false in
+    let answers : Answers (sizes_in h.config) r.token.view.own.number r.token.view.seen.front new.view.seen.front entry (Replied reply) =
+    subst (λ (f : List Entry). Answers (sizes_in h.config) r.token.view.own.number r.token.view.seen.front f entry (Replied reply)) (sym front)
+    (answers_after (sizes_in h.config) r.token.view.own.number r.token.view.seen.front a.begun.seen.front a.front entry (Replied reply) a.comes.passed.seen a.answers) in
+    made_is_run r new FullMajor false reply (Some Answer) (cut_in last r.cut) is running at
+    record {
+      config = config;
+      number = ap (λ (o : Own). o.number) own ∙ ap (λ (x : DomainView). x.own.number) passed;
+      serial = omega (arith, serial);
+      idle = ap (λ (x : DomainView). x.seen.made) a.view ∙ (ap (λ (x : DomainView). x.seen.made) passed ∙ is.idle);
+      at_rest = ap (λ (x : DomainView). x.seen.hunt) a.view ∙ (ap (λ (x : DomainView). x.seen.hunt) passed ∙ is.at_rest);
+      answers = subst (λ (k : Config). Answers (sizes_in k) r.token.view.own.number r.token.view.seen.front new.view.seen.front entry (Replied reply)) (sym was.1) answers;
+    }
+    (answer_between h r.token.view a.begun new a.front None false (cut_in last r.cut) here is.between.quiet a.comes a.view (λ e. cc))
 
 any_last : (p : Entry → Bool) (xs : List Entry) (e : Entry) → p e ≡ true → IsTrue (list_any p (xs ++ e ∷ []))
 any_last p [] e is = rw is refl
@@ -110,7 +165,7 @@ any_last p (x ∷ xs) e is = any_more (p x) (list_any p (xs ++ e ∷ [])) (any_l
     any_more true b h = refl
     any_more false b h = h
 
-pub ended_is_run : (h : SharedHeap) (r : RunView) (new : Token) → IsRun r → r.left ≡ None → length r.commands ≤ r.next → HasEnded h r.token new → IsRun (record r { token = new; ended = true })
+pub ended_is_run : (h : SharedHeap) (r : RunView) (new : Token) → IsRun r → r.left ≡ None → length r.commands ≤ r.next → HasEnded h r.token new → IsRun (record r { token = new; ended = true; collected = false })
 ended_is_run h r new is left whole t =
     let d : ℕ = r.token.view.own.number in
     let z = sizes_in r.token.config in
@@ -121,6 +176,7 @@ ended_is_run h r new is left whole t =
     let answered : replies z new.view.seen.front d ≡ replies z r.token.view.seen.front d =
     replies_after z d r.token.view.seen.front new.view.seen.front (End d) Silent (eq-eqb d d refl) t.answers ∙ append-nil (replies z r.token.view.seen.front d) in
     record {
+      inside = subst (λ (z : ℕ × Config). z.0 < z.1.domains) (λ i. (sym number i, sym t.heap.1 i)) is.inside;
       made = ap (commands new.view.seen.front) number ∙ made ∙ is.made;
       answered = ap (λ (n : ℕ). replies (sizes_in new.config) new.view.seen.front n) number ∙ ap (λ (k : Config). replies (sizes_in k) new.view.seen.front d) t.heap.1 ∙ answered ∙ is.answered;
       each = is.each;
@@ -130,7 +186,7 @@ ended_is_run h r new is left whole t =
       idle = ap (λ (x : DomainView). x.seen.made) t.view ∙ is.idle;
       at_rest = ap (λ (x : DomainView). x.seen.hunt) t.view ∙ is.at_rest;
       goes_on = λ running. cc;
-      between = subst (λ (l : Option Kind). IsBetween l r.asked new) (sym left) (ended_between h r.token new r.asked (subst (λ (l : Option Kind). IsBetween l r.asked r.token) left is.between) t);
+      between = subst (λ (l : Option Kind). IsBetween l r.asked false r.cut new) (sym left) (ended_between h r.token new r.asked r.collected r.cut (subst (λ (l : Option Kind). IsBetween l r.asked r.collected r.cut r.token) left is.between) t);
       labels = omega (arith, is.labels, serial);
       done = λ ended. omega (arith, is.within, whole);
       over = λ ended. subst (λ (n : ℕ). IsTrue (list_any (is_end_of n) new.view.seen.front)) (sym number)
