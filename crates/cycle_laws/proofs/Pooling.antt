@@ -41,7 +41,7 @@ without_others p r (q ∷ ps) other h = go (eqb q p) refl (without_others p r ps
         (or_cases (eqb q r) (has_pool ps r) h)
 
 -- pools as labels, so that lists of them can be compared
-abbrev as_label : ℕ → Label
+abbrev pub as_label : ℕ → Label
 as_label p = record { domain = 0; serial = p }
 
 as_label_same : (p q : ℕ) → as_label p ≡ as_label q → p ≡ q

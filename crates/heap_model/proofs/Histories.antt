@@ -6,5 +6,6 @@ pub mod NumberLemmas
 pub mod ShapeAfterLemmas
 pub mod TallyLemmas
 pub mod AnswerLemmas
+pub mod FreshLemmas
 pub mod FieldLemmas
 pub mod Rows

@@ -4,7 +4,7 @@ use mathlib.Core.Option.{some}
 use lib.ListN.{get_elem?}
 use Rattle.atomic_table.specs.Table.{keeps, Allows}
 use Rattle.heap_model.specs.declared.command.Command as model_command
-use Rattle.heap_model.specs.declared.command.Command.TheVariants.{PutInt, Copy, Forget, Alloc, AllocMaj, Load, Store, Raw as NewRaw, Ephe as NewEphe, Poll, Minor}
+use Rattle.heap_model.specs.declared.command.Command.TheVariants.{PutInt, Copy, Forget, Alloc, AllocMaj, Load, Store, Raw as NewRaw, Ephe as NewEphe, Poll, Minor, Major}
 use Rattle.heap_model.specs.declared.entry.Entry.{Entry}
 use Rattle.heap_model.specs.declared.entry.Entry.TheVariants.{Command}
 use Rattle.heap_model.specs.declared.reply.Applied.TheVariants.{Replied}
@@ -17,7 +17,7 @@ use Rattle.heap_model.specs.Domains.{domain_at, register}
 use Rattle.heap_model.specs.Commands.{FitsMode, is_allocation}
 use Rattle.heap_model.specs.Fronts.{IsCalm}
 use Rattle.heap_model.proofs.Commands.FrameLemmas.{calm_command}
-use Rattle.heap_model.proofs.Commands.LeavesLemmas.{leaves_put, leaves_copy, leaves_forget, leaves_poll, leaves_full, leaves_load_type, leaves_store_type, leaves_store_nothing, leaves_minor}
+use Rattle.heap_model.proofs.Commands.LeavesLemmas.{leaves_put, leaves_copy, leaves_forget, leaves_poll, leaves_full, leaves_load_type, leaves_store_type, leaves_store_nothing, leaves_minor, leaves_major}
 use Rattle.heap_words.specs.declared.value.Value.{Value}
 use Rattle.heap_words.specs.declared.value.Value.TheVariants.{Int as IntWord, Nothing as NothingWord}
 use Rattle.heap_rule.specs.declared.change.Change.{Change}
@@ -30,6 +30,7 @@ use Rattle.heap_rule.specs.Raw.{MayStep}
 use Rattle.heap_rule.specs.Rule.{state_of, Rule}
 use Rattle.heap_rule.specs.Standing.{Acts}
 use Rattle.steps_run.specs.Ticks.{is_quiet, TickCommand, TickEntry, TickMay, command_answer, tick_answer, TickTold}
+use Rattle.steps_run.proofs.FullSteps.{may_be_full}
 use Rattle.heap_rule.proofs.ChangeLemmas.{registers_of}
 use Rattle.heap_rule.proofs.Values.{AllStand, stand_set, no_label, stands_nothing}
 use Rattle.heap_rule.proofs.Keeps.{Words, IsCommand, unmoved, run_calm}
@@ -84,6 +85,9 @@ module _ (k : Config) (s : Words) (r : Rule k s) (id : ℕ) (hist : List Entry) 
   commands Minor may = enters_command k s r id hist x at acts now.graph Minor tt (may_begin k s r id hist x at acts) regs _ (theirs)
       (subst (λ (l : List Value). AllStand r.account.live l theirs) (sym (ap registers_of may)) stand)
       (leaves_minor now d)
+  commands Major may = enters_command k s r id hist x at acts now.graph Major tt (may_begin k s r id hist x at acts) regs _ (theirs)
+      (subst (λ (l : List Value). AllStand r.account.live l theirs) (sym (ap registers_of may)) stand)
+      (leaves_major now d)
   commands (Load dst src i) may = enters_command k s r id hist x at acts now.graph (Load dst src i) tt (may_begin k s r id hist x at acts) regs _ (theirs)
       (subst (λ (l : List Value). AllStand r.account.live l theirs) (sym (ap registers_of may.2)) stand)
       (leaves_load_type now d dst src i (no_label r.account.live (value_at x.own.registers src) (register now d src) may.1 (stand.each src may.0)))
@@ -95,23 +99,23 @@ module _ (k : Config) (s : Words) (r : Rule k s) (id : ℕ) (hist : List Entry) 
       may.2)
   commands _ may = absurd may
 
-  entries : (e : Entry) → TickEntry x changes e → Enters k s r id hist x at acts e regs (tick_answer e)
+  entries : (e : Entry) → TickEntry k x changes e → Enters k s r id hist x at acts e regs (tick_answer e)
   entries (Command j c false) may = subst (λ (n : ℕ). Enters k s r id hist x at acts (Command n c false) regs (Replied (command_answer c))) (sym may.0) (commands c may.1)
   entries (Command j c true) may = subst (λ (n : ℕ). Enters k s r id hist x at acts (Command n c true) regs (tick_answer (Command n c true))) (sym may.0) record {
     alone = λ i other. ne_eqb d i (λ e. other (sym e));
     plain = tt;
-    allowed = record { running = running k s r id hist x at acts; fits = fits_allocation now d c may.1 calm.mode (calm.queues d); full_fits = may.1 };
+    allowed = record { running = running k s r id hist x at acts; fits = fits_allocation now d c may.1 calm.mode (calm.queues d); full_fits = may_be_full k s r id hist x at acts may.2 c may.1 };
     calm = calm_command now d c true calm;
     theirs = theirs;
-    stand = subst (λ (l : List Value). AllStand r.account.live l theirs) (sym (ap registers_of may.2)) stand;
+    stand = subst (λ (l : List Value). AllStand r.account.live l theirs) (sym (ap registers_of may.3)) stand;
     leaves = leaves_full now d c;
   }
   entries _ may = absurd may
 
-tick_command : (x : DomainView) (changes : List Change) (e : Entry) → TickEntry x changes e → IsCommand e
-tick_command x changes (Command j c false) may = tt
-tick_command x changes (Command j c true) may = tt
-tick_command x changes _ may = absurd may
+tick_command : (k : Config) (x : DomainView) (changes : List Change) (e : Entry) → TickEntry k x changes e → IsCommand e
+tick_command k x changes (Command j c false) may = tt
+tick_command k x changes (Command j c true) may = tt
+tick_command k x changes _ may = absurd may
 
 ticks : (k : Config) (slots id word : ℕ) (hist : List Entry) (x : DomainView) (e : Entry) (changes : List Change) → TickMay k x changes e
     → Allows (Rule k) slots id (one k hist x, []) word (λ n. n) (Tells (TickTold k e changes) (one k hist x, []))
@@ -121,7 +125,7 @@ ticks k slots id word hist x e changes may s r _ at _ =
       one k hist (entered_view k s r id hist x at may.acts e regs),
       keeps,
       tt,
-      unmoved k s word (set s.views id (one k hist (entered_view k s r id hist x at may.acts e regs))) (enters_rule k s r id hist x at may.acts e regs (tick_answer e) o (tick_command x changes e may.entry)),
+      unmoved k s word (set s.views id (one k hist (entered_view k s r id hist x at may.acts e regs))) (enters_rule k s r id hist x at may.acts e regs (tick_answer e) o (tick_command k x changes e may.entry)),
       (enters k s r id hist x at may.acts (state_of k r.account.log).graph e (tick_answer e) NothingWord changes o, refl),
     )
 
@@ -132,9 +136,11 @@ tick_may k word x e changes may fits slots id h = ticks k slots id word h x e ch
 pub quiet_may : (x : DomainView) (c : model_command.Command) → is_quiet c ≡ true → TickCommand x [] c
 quiet_may x Poll quiet = refl
 quiet_may x Minor quiet = refl
+quiet_may x Major quiet = refl
 quiet_may x _ quiet = cc
 
 pub quiet_answer : (c : model_command.Command) → is_quiet c ≡ true → command_answer c ≡ Done
 quiet_answer Poll quiet = refl
 quiet_answer Minor quiet = refl
+quiet_answer Major quiet = refl
 quiet_answer _ quiet = cc

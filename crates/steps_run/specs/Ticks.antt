@@ -1,7 +1,7 @@
--- Ticks: the entries that the registers alone decide.
-use Rattle.std.specs.Prelude.{◌≡◌, ℕ, ◌<◌, ◌⊎◌, Bool, true, false, List, slice_set}
+-- Ticks: the entries that the registers alone decide, and the answer `full`.
+use Rattle.std.specs.Prelude.{◌≡◌, ℕ, ◌<◌, ◌≤◌, ◌⊎◌, Bool, true, false, List, slice_set, Some}
 use Rattle.heap_model.specs.declared.command.Command as model
-use Rattle.heap_model.specs.declared.command.Command.TheVariants.{PutInt, Copy, Forget, Load, Store, Poll, Minor}
+use Rattle.heap_model.specs.declared.command.Command.TheVariants.{PutInt, Copy, Forget, Load, Store, Poll, Minor, Major}
 use Rattle.heap_model.specs.declared.entry.Entry.{Entry}
 use Rattle.heap_model.specs.declared.entry.Entry.TheVariants.{Command}
 use Rattle.heap_model.specs.declared.reply.Reply.{Reply}
@@ -9,14 +9,17 @@ use Rattle.heap_model.specs.declared.reply.Reply.TheVariants.{Done, BadType, Ful
 use Rattle.heap_model.specs.declared.reply.Applied.{Applied}
 use Rattle.heap_model.specs.declared.reply.Applied.TheVariants.{Replied, Silent}
 use Rattle.heap_model.specs.Commands.{is_allocation}
+use Rattle.heap_model.specs.Domains.{domain_at, reserve}
 use Rattle.heap_words.specs.declared.value.Value.{Value}
 use Rattle.heap_words.specs.declared.value.Value.TheVariants.{Int, Nothing}
 use Rattle.heap_words.specs.Values.{IsPackable}
 use Rattle.heap_rule.specs.declared.change.Change.{Change}
 use Rattle.heap_rule.specs.declared.config.Config.{Config}
 use Rattle.heap_rule.specs.declared.view.DomainView.{DomainView}
+use Rattle.heap_rule.specs.Limits.{sizes_in}
 use Rattle.heap_rule.specs.Places.{IsNoBlock}
 use Rattle.heap_rule.specs.Changes.{value_at, changed, FitChanges}
+use Rattle.heap_rule.specs.Rule.{state_of}
 use Rattle.heap_rule.specs.Standing.{Acts, LeavesOwn, Entered}
 
 -- the changes make the registers these
@@ -27,6 +30,7 @@ Makes changes x registers = changed Nothing changes x.own ≡ record x.own { reg
 abbrev pub is_quiet : model.Command → Bool
 is_quiet Poll = true
 is_quiet Minor = true
+is_quiet Major = true
 is_quiet _ = false
 
 -- a command that the registers alone decide, and what its changes do
@@ -39,18 +43,26 @@ TickCommand x changes (Store block i item) =
     (block < 16) × (item < 16) × (IsNoBlock (value_at x.own.registers block) ⊎ (value_at x.own.registers item ≡ Nothing)) × LeavesOwn changes x
 TickCommand x changes Poll = LeavesOwn changes x
 TickCommand x changes Minor = LeavesOwn changes x
+TickCommand x changes Major = LeavesOwn changes x
 TickCommand x changes _ = ⊥
 
--- an own entry that the registers alone decide: such a command, or `full` for an allocation
-abbrev pub TickEntry : DomainView → List Change → Entry → Type 0
-TickEntry x changes (Command d c false) = (d ≡ x.own.number) × TickCommand x changes c
-TickEntry x changes (Command d c true) = (d ≡ x.own.number) × (is_allocation c ≡ true) × LeavesOwn changes x
-TickEntry x changes _ = ⊥
+-- the pools are used up for a domain: a complete collection has been since its last command, and it found no more free pools than the reserve
+pub record IsUsedUp (k : Config) (x : DomainView) : Type 0 where
+  pub fresh : (domain_at (state_of k x.seen.front) x.own.number).fresh ≡ true
+  pub free : ℕ
+  pub found : x.seen.free ≡ Some free
+  pub few : free ≤ reserve (sizes_in k)
+
+-- an own entry of a tick: such a command, or `full` for an allocation where the pools are used up
+abbrev pub TickEntry : Config → DomainView → List Change → Entry → Type 0
+TickEntry k x changes (Command d c false) = (d ≡ x.own.number) × TickCommand x changes c
+TickEntry k x changes (Command d c true) = (d ≡ x.own.number) × (is_allocation c ≡ true) × IsUsedUp k x × LeavesOwn changes x
+TickEntry k x changes _ = ⊥
 
 -- what a tick asks
 pub record TickMay (k : Config) (x : DomainView) (changes : List Change) (e : Entry) : Type 0 where
   pub acts : Acts k x
-  pub entry : TickEntry x changes e
+  pub entry : TickEntry k x changes e
   pub fits : FitChanges changes
 
 -- what a tick's entry answers: its loads and stores have no block to look into

@@ -159,7 +159,7 @@ keeps_run s d (Fin number l r ∷ rest) k other =
     keeps_elsewhere s (with_register ran d r (Block l)) d k (get_or-set_other ran.domains d k _ no_domain other ∙ get_or-set_other s.domains d k _ no_domain other)
 keeps_run s d (Last number ∷ rest) k other = keeps_with_other s d _ k other
 
-not_same : (j k : ℕ) → eqb j k ≡ false → k ≢ j
+pub not_same : (j k : ℕ) → eqb j k ≡ false → k ≢ j
 not_same j k e same = let twice : true ≡ false = sym (eq-eqb j k (sym same)) ∙ e in cc
 
 -- an entry that isn't of domain k leaves its registers, its serial and whether it has ended

@@ -3,7 +3,7 @@ use Rattle.std.proofs.Common.{◌≡◌, ◌≢◌, ℕ, ◌+◌, ◌<◌, ◌�
 use Rattle.std.proofs.lemmas.Option.{slice_get_past}
 use Rattle.heap_model.specs.declared.label.Label.{Label}
 use Rattle.heap_model.specs.declared.command.Command.{Command}
-use Rattle.heap_model.specs.declared.command.Command.TheVariants.{PutInt, Copy, Forget, Alloc, Load, Store, Raw as NewRaw, Cas, Poll, Minor}
+use Rattle.heap_model.specs.declared.command.Command.TheVariants.{PutInt, Copy, Forget, Alloc, Load, Store, Raw as NewRaw, Cas, Poll, Minor, Major}
 use Rattle.heap_model.specs.declared.entry.Entry.{Entry}
 use Rattle.heap_model.specs.declared.entry.Entry.TheVariants.{Command as CommandOf, End}
 use Rattle.heap_model.specs.declared.reply.Reply.{Reply}
@@ -122,6 +122,9 @@ module _ (s : State) (d : ℕ) where
 
   pub leaves_minor : Leaves s (CommandOf d Minor false) d s.graph mine.registers mine.serial (Replied Done)
   leaves_minor = leaves_outcome Minor _ _ _ _ refl has_same
+
+  pub leaves_major : Leaves s (CommandOf d Major false) d s.graph mine.registers mine.serial (Replied Done)
+  leaves_major = leaves_outcome Major _ _ _ _ refl has_same
 
   -- the reply `full` changes nothing that the graph and the registers show
   pub leaves_full : (c : Command) → Leaves s (CommandOf d c true) d s.graph mine.registers mine.serial (Replied Full)

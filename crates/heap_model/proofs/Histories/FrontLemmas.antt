@@ -19,7 +19,7 @@ use Rattle.heap_model.proofs.Histories.HistoryLemmas.{state_after-append}
 use Rattle.heap_model.proofs.Commands.FrameLemmas.{keeps_next, grew_next, grew_same, grew_after}
 
 -- none of a list, one by one
-none_cons : (d : ℕ) (e : Entry) (h : List Entry) → NoneOf d (e ∷ h) → (is_entry_of d e ≡ false) × NoneOf d h
+pub none_cons : (d : ℕ) (e : Entry) (h : List Entry) → NoneOf d (e ∷ h) → (is_entry_of d e ≡ false) × NoneOf d h
 none_cons d e h none = let parts = and_parts (not (is_entry_of d e)) (list_all (λ x. not (is_entry_of d x)) h) none in (is_false (is_entry_of d e) parts.0, parts.1)
 
 none_push : (d : ℕ) (h : List Entry) (e : Entry) → NoneOf d h → is_entry_of d e ≡ false → NoneOf d (h ++ e ∷ [])
