@@ -229,12 +229,8 @@ is_allocation (NewRaw dst tag fields) = true
 is_allocation (NewEphe dst keys) = true
 is_allocation _ = false
 
--- when domain d may answer a command with `full`: until collections are complete before it, at each allocation. `fresh` and `kept` are kept exactly all the same, and have no effect on which entries are allowed
-abbrev pub MayBeFull : State → ℕ → Command → Type 0
-MayBeFull s d c = is_allocation c ≡ true
-
--- the stronger form, which is to take its place: only after a complete collection, since the domain's last command, that left too little
-pub record MayBeFullAfterCollection (s : State) (d : ℕ) (c : Command) : Type 0 where
+-- when domain d may answer a command with `full`: only at an allocation, after a complete collection since the domain's last command, and where so much was kept by it or made since that the pools may be used up
+pub record MayBeFull (s : State) (d : ℕ) (c : Command) : Type 0 where
   pub allocates : is_allocation c ≡ true
   pub fresh : (domain_at s d).fresh ≡ true
   pub kept_enough : s.sizes.pools ≤ s.kept + reserve s.sizes + s.sizes.classes * s.sizes.domains

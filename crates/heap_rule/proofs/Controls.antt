@@ -16,7 +16,7 @@ use Rattle.heap_rule.specs.Places.{Live, Paint, IsOldWord, Settled}
 use Rattle.heap_rule.specs.declared.view.Copying.{Copying}
 use Rattle.heap_rule.specs.Copies.{Owes, Promoting, AllCleared, Emptied, Rooted}
 use Rattle.heap_rule.specs.Phases.{Pause, Phases, sum_of, IsEven, IsOdd, Staged, Still, TookBack, HasSetBack, Unwished, last_from, last_note}
-use Rattle.heap_rule.specs.Pools.{Stock, Reserved, limit_of, Tenancy, Pools, Grid, Drawers, Resting, Hunter, Lists, Holder}
+use Rattle.heap_rule.specs.Pools.{Stock, Reserved, Covered, limit_of, Tenancy, Pools, Grid, Drawers, Resting, Hunter, Lists, Holder}
 use Rattle.heap_rule.specs.declared.view.Listing.{Listing}
 use Rattle.heap_rule.specs.Rule.{state_of, AllFound, Making, Account, Sharing, Rule, Good}
 use Rattle.heap_rule.specs.Room.{Room, IsUnused, Drawable}
@@ -25,7 +25,7 @@ use Rattle.heap_rule.specs.declared.view.Copied.{Copied}
 use Rattle.heap_rule.specs.Views.{one}
 use Rattle.heap_rule.proofs.HeadLemmas.{head_at}
 use Rattle.heap_rule.proofs.Holders.{Agrees, agrees_same, grid_heap, same_self, hunter_agree, SameStock, stock_self}
-use Rattle.heap_rule.proofs.Keeps.{Words, mine, my_good, remakes, knows_front, phases_words, pools_words, lists_same, resting_lists, owes_as, hunter_as, room_words, opened_words}
+use Rattle.heap_rule.proofs.Keeps.{Words, mine, my_good, remakes, knows_front, phases_words, pools_words, covered_words, lists_same, resting_lists, owes_as, hunter_as, room_words, opened_words}
 use Rattle.heap_rule.proofs.Sharings.{SameCycle, cycle_words, leading_words, knows_words}
 use Rattle.heap_rule.specs.declared.view.Share.{Share}
 use Rattle.heap_rule.specs.Cycles.{Cycling, Cycled, Telling, Leading, KnowsBlocks, Adds}
@@ -77,6 +77,9 @@ reserved_untouched k p t words words' u pools kept keeps i below above =
     let few : n ≤ k.pools = pools.few in
     let low : i < n = (let g : i < n' = below in omega arith) in
     ap t.holder (u.1 (11 + i) (omega arith) (λ e. omega arith)) ∙ kept keeps i low (subst (λ (m : ℕ). limit_of k m ≤ i) e above)
+
+pub covered_untouched : (k : Config) (p : Pause) (t : Tenancy) (words words' : List ℕ) → Untouched words words' → Pools k t words → Covered k p t words → Covered k p t words'
+covered_untouched k p t words words' u pools covered = covered_words k p t words words' (u.1 6 (omega arith) (λ e. omega arith)) (u.1 7 (omega arith) (λ e. omega arith)) (λ i h. u.1 (11 + i) (omega arith) (λ e. omega arith)) pools.few covered
 
 pub counts_untouched : (words words' : List ℕ) → Untouched words words' → (listed words' ≡ listed words) × (cursor words' ≡ cursor words)
 counts_untouched words words' u = (u.1 6 (omega arith) (λ e. omega arith), u.1 7 (omega arith) (λ e. omega arith))
@@ -223,6 +226,7 @@ module _ (k : Config) (s : Words) (r : Rule k s) (id : ℕ) (hist : List Entry) 
     pub rooted : Rooted k pause' y
     pub roots : (z : DomainView) → z.own.number < k.domains → z.own.number ≢ x.own.number → Staged r.account.pause z → Rooted k r.account.pause z → Rooted k pause' z
     pub reserved : Reserved k pause' r.account.tenancy words'
+    pub covered : Covered k pause' r.account.tenancy words'
     pub drawers : Drawers pause' (record r.account.tenancy { stock = stock' })
     pub room : Room k r.account.live pause' stock' words'
     pub unused : IsUnused pause' stock'
@@ -263,6 +267,7 @@ module _ (k : Config) (s : Words) (r : Rule k s) (id : ℕ) (hist : List Entry) 
         endings = o.endings ∙ r.whole.endings;
         pools = pools_stock k r.account.tenancy stock' words' pools1;
         reserved = o.reserved;
+        covered = o.covered;
         grid = grid_stock k r.account.tenancy stock' r.account.live words' grid1;
         drawers = o.drawers;
         room = o.room;
@@ -333,6 +338,7 @@ module _ (k : Config) (s : Words) (r : Rule k s) (id : ℕ) (hist : List Entry) 
         free = λ f e. e;
         resting = let rest = resting_untouched k s.words words' x u g.resting in record { hunt = rest.hunt; free = rest.free; lists = rest.lists };
         reserved = reserved_untouched k r.account.pause t s.words words' u r.whole.pools r.whole.reserved;
+        covered = covered_untouched k r.account.pause t s.words words' u r.whole.pools r.whole.covered;
         drawers = r.whole.drawers;
         room = room_words k r.account.live r.account.pause t.stock s.words words' (λ _. counts) r.whole.room;
         unused = r.whole.unused;

@@ -37,7 +37,8 @@ use Rattle.heap_rule.proofs.Controls.{Move, Untouched, found_untouched, making_u
 use Rattle.heap_rule.specs.Cycles.{Cycling, Cycled}
 use Rattle.heap_rule.proofs.FullnessLemmas.{full_back, full_kind}
 use Rattle.heap_rule.specs.declared.phase.Kind.{Kind}
-use Rattle.heap_rule.specs.declared.phase.Kind.TheVariants.{Answer}
+use Rattle.heap_rule.specs.declared.phase.Kind.TheVariants.{Run, Answer}
+use Rattle.heap_rule.proofs.PauseFacts.{not_both}
 
 abbrev Side : Config → ℕ → Type 0
 Side k a = (a ≤ k.pools * 4096) ⊎ (k.pools * 4096 < a)
@@ -260,6 +261,8 @@ module _ (k : Config) (s : Words) (r : Rule k s) (id : ℕ) (hist : List Entry) 
         endings = o.endings ∙ r.whole.endings;
         pools = pools_stock k t no_stock words' pools1;
         reserved = λ keeps. absurd (o.kept keeps);
+        covered = λ runs. absurd (⊎_elim (λ (h : (j : ℕ) × (pause'.phase ≡ j * 2) × (pause'.kinds j ≡ Run)). not_both pause'.phase (h.0, h.1) o.odd)
+            (λ (h : (j : ℕ) × (pause'.phase ≡ j * 2 + 1) × (pause'.led ≡ true) × (pause'.kinds (j + 1) ≡ Run)). let e : ◌≡◌ {A = Bool} true false = sym h.2 ∙ o.not_led in cc) runs);
         grid = grid_stock k t no_stock live1 words' grid1;
         drawers = record { drawn = λ q d e. absurd (o.at_rest q d e); prepared = λ a d e. absurd (o.unprepared a d e); claims = λ d some. absurd (let h : 0 < 0 = some in omega arith) };
         room = room_unused k live1 pause' no_stock words' o.over;

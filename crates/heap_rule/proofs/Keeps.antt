@@ -48,7 +48,7 @@ use Rattle.heap_rule.proofs.Sharings.{SameCycle, kind_now, cycle_between, facts_
 use Rattle.heap_rule.specs.Room.{spent_stock, count, drawn_in_all, copied_words, Room, IsUnused, Opened, Drawable}
 use Rattle.heap_model.specs.Domains.{class_count, reserve}
 use Rattle.heap_rule.specs.Layout.{heap_words}
-use Rattle.heap_rule.specs.Pools.{Stock, Reserved, Takes, IsCopying, Latest, DrawsFor, prepared_at, size_of, Tenancy, drawn, owned, Pools, Grid, Drawers, IsLeading, Lists, Resting, Hunts, Hunter, drawn_in, hunting_free, spot_at, IsBefore, limit_of}
+use Rattle.heap_rule.specs.Pools.{Stock, Reserved, Covered, Takes, IsCopying, Latest, DrawsFor, prepared_at, size_of, Tenancy, drawn, owned, Pools, Grid, Drawers, IsLeading, Lists, Resting, Hunts, Hunter, drawn_in, hunting_free, spot_at, IsBefore, limit_of}
 use Rattle.heap_rule.specs.Standing.{with_front}
 use Rattle.heap_rule.proofs.Lists.{views_set, domains_map, domains_with, no_item}
 use Rattle.heap_rule.specs.Fullness.{Homes, Fullness}
@@ -359,6 +359,16 @@ pools_words k t words words' counts asked list owner s =
 pub pools_same : (k : Config) (t : Tenancy) (words words' : List ℕ) → Control k words words' → Pools k t words → Pools k t words'
 pools_same k t words words' c s = pools_words k t words words' (c 6 (omega arith)) (c 7 (omega arith)) (λ i h. let g : i < k.pools = h in c (11 + i) (omega arith)) (λ q h. let g : q < k.pools = h in c (11 + k.pools + q) (omega arith)) s
 
+-- and each pool that is nobody's is listed as it was
+pub covered_words : (k : Config) (p : Pause) (t : Tenancy) (words words' : List ℕ) → listed words' ≡ listed words → cursor words' ≡ cursor words → ((i : ℕ) → i < k.pools → listed_pool words' i ≡ listed_pool words i) → listed words ≤ k.pools → Covered k p t words → Covered k p t words'
+covered_words k p t words words' counts asked list few covered runs q inside free =
+    let at = covered runs q inside free in
+    let i : ℕ = at.0 in
+    let n : ℕ = listed words in
+    let f : n ≤ k.pools = few in
+    let below : i < n = at.1 in
+    (i, subst (λ (m : ℕ). i < m) (sym counts) at.1, list i (omega arith) ∙ at.2, subst (λ (m : ℕ × ℕ). (m.0 ≤ i) ⊎ (limit_of k m.1 ≤ i)) (λ j. (sym asked j, sym counts j)) at.3)
+
 pub cycle_control : (k : Config) (words words' : List ℕ) → Control k words words' → SameCycle words words'
 cycle_control k words words' c = record { armed_same = c 4 (omega arith); colours_same = c 5 (omega arith); changed_same = c 3 (omega arith); blocks_same = c 9 (omega arith); words_same = c 10 (omega arith) }
 
@@ -371,6 +381,7 @@ pub record Controls (k : Config) (all : Account) (words words' : List ℕ) : Typ
   pub lists : (number : ℕ) (stage : Stage) (l : Listing) → Lists k words number stage l → Lists k words' number stage l
   pub cycle : SameCycle words words'
   pub reserved : Reserved k all.pause all.tenancy words'
+  pub covered : Covered k all.pause all.tenancy words'
   pub counts : Promoting all.pause → (listed words' ≡ listed words) × (cursor words' ≡ cursor words)
   pub listed_young : (a : ℕ) (q : Place) → all.live a ≡ Some q → k.pools * 4096 < a → listed words' ≡ listed words
   pub drawable : Drawable k all.pause words'
@@ -501,6 +512,7 @@ module _ (k : Config) (s : Words) (r : Rule k s) (id : ℕ) (hist : List Entry) 
         let few : n ≤ k.pools = r.whole.pools.few in
         let low : i < n = (let g : i < n' = below in omega arith) in
         ap r.account.tenancy.holder (c (11 + i) (omega arith)) ∙ r.whole.reserved keeps i low (subst (λ (m : ℕ). limit_of k m ≤ i) e above);
+    covered = covered_words k r.account.pause r.account.tenancy s.words words' (c 6 (omega arith)) (c 7 (omega arith)) (λ i h. let g : i < k.pools = h in c (11 + i) (omega arith)) r.whole.pools.few r.whole.covered;
     counts = λ _. (c 6 (omega arith), c 7 (omega arith));
     listed_young = λ _ _ _ _. c 6 (omega arith);
     drawable = record {
@@ -616,6 +628,7 @@ module _ (k : Config) (s : Words) (r : Rule k s) (id : ℕ) (hist : List Entry) 
         endings = o.controls.ended ∙ (r.whole.endings ∙ sym (ap (λ (t : model.State). sum_of (is_over t) k.domains) after ∙ sum_same (is_over now) (is_over (next now e)) k.domains (λ d _. command_over now e o.command d)));
         pools = o.controls.pools;
         reserved = o.controls.reserved;
+        covered = o.controls.covered;
         grid = o.grid;
         drawers = r.whole.drawers;
         room = subst (λ (z : Stock). Room k live' r.account.pause z words') (sym (r.whole.unused (run_promoting r.account.pause x o.runs my_good.staged))) (room_unused k live' r.account.pause r.account.tenancy.stock words' (run_promoting r.account.pause x o.runs my_good.staged));
@@ -690,6 +703,7 @@ module _ (k : Config) (s : Words) (r : Rule k s) (id : ℕ) (hist : List Entry) 
         endings = o.controls.ended ∙ r.whole.endings;
         pools = o.controls.pools;
         reserved = o.controls.reserved;
+        covered = o.controls.covered;
         grid = o.grid;
         drawers = r.whole.drawers;
         room = room_words k r.account.live r.account.pause r.account.tenancy.stock s.words words' o.controls.counts r.whole.room;
@@ -741,6 +755,7 @@ module _ (k : Config) (s : Words) (r : Rule k s) (id : ℕ) (hist : List Entry) 
     pub want : want words' ≡ want s.words
     pub listed_same : listed words' ≡ listed s.words
     pub reserved : Reserved k r.account.pause t' words'
+    pub covered : Covered k r.account.pause t' words'
     pub room : Room k r.account.live r.account.pause t'.stock words'
     pub unused : IsUnused r.account.pause t'.stock
     pub endings : ended_word words' ≡ ended_word s.words
@@ -778,6 +793,7 @@ module _ (k : Config) (s : Words) (r : Rule k s) (id : ℕ) (hist : List Entry) 
         endings = o.endings ∙ r.whole.endings;
         pools = o.pools;
         reserved = o.reserved;
+        covered = o.covered;
         grid = o.grid;
         drawers = o.drawers;
         room = o.room;

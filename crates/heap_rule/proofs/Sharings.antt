@@ -16,7 +16,7 @@ use Rattle.heap_rule.specs.declared.phase.Stage.TheVariants.{In, Leads, Led, Gon
 use Rattle.heap_rule.specs.Layout.{at_address, armed, colours, changed_word, live_blocks, live_words}
 use Rattle.heap_rule.specs.Phases.{Pause, Agree, AtStage, Staged}
 use Rattle.heap_rule.specs.Places.{Live}
-use Rattle.heap_rule.specs.Pools.{Holder, Tenancy, Takes}
+use Rattle.heap_rule.specs.Pools.{Holder, Tenancy, Takes, place_in}
 use Rattle.heap_rule.specs.Cycles.{Cycling, Cycled, Facts, IsBetween, IsSwept, Told, Leading, Telling, Knowing, KnowsBlocks, HasNoCycle, IsCollecting, IsIdle, Adds}
 use Rattle.heap_rule.proofs.PauseFacts.{agree}
 
@@ -107,7 +107,7 @@ facts_words Queued k s live t c words words' same f = f
 facts_words Clean k s live t c words words' same f = f
 facts_words Lasts k s live t c words words' same f = f
 facts_words Sweep k s live t c words words' same f = record { mode = f.mode; swept = swept_words k s live t.holder c words words' same f.swept; sweep = f.sweep; all_counted = f.all_counted }
-facts_words Answer k s live t c words words' same f = record { swept = swept_words k s live t.holder c words words' same f.swept; clean = f.clean; all_counted = f.all_counted; held = f.held }
+facts_words Answer k s live t c words words' same f = record { mode = f.mode; swept = swept_words k s live t.holder c words words' same f.swept; clean = f.clean; all_counted = f.all_counted; held = f.held }
 
 -- a step that leaves the words of a collection and the heads of garbage
 pub cycle_words : (k : Config) (s : model.State) (live : Live) (p : Pause) (t : Tenancy) (c : Cycling) (words words' : List ℕ) → SameCycle words words' → ((a : ℕ) → at_address k words' a ≡ at_address k words a)
@@ -144,6 +144,7 @@ knowing_words k live holder graph marks words words' d registers share heap n = 
   marked = n.marked;
   tally = n.tally;
   held = n.held;
+  vacant = λ class slot own inside low. heap (place_in share.held class slot) ∙ n.vacant class slot own inside low;
 }
 
 pub knows_words : (k : Config) (live : Live) (holder : ℕ → Holder) (graph : Graph) (marks : Marks) (words words' : List ℕ) (d : ℕ) (registers : List Value) (stage : Stage) (share : Share) → ((a : ℕ) → at_address k words' a ≡ at_address k words a)

@@ -331,6 +331,12 @@ module _ (k : Config) (limits : IsWithinLimits (sizes_in k)) (words : List ℕ) 
     grid = first_grid;
     reserved = λ _ i h above. let n : ℕ = listed words in let P : ℕ = k.pools in let count : n ≡ P - 1 = opens.pools.count in
         ap first_holders (opens.pools.list i (let g : i < n = h in omega arith)) ∙ holder_else (i + 1) (λ e. omega arith);
+    covered = λ _ q inside free. let n : ℕ = listed words in let P : ℕ = k.pools in let count : n ≡ P - 1 = opens.pools.count in
+        let below : q < P = inside in
+        let other : q ≢ 0 = (λ e. no_owned 0 3 (sym free ∙ (ap first_holders e ∙ holder_first))) in
+        let c : ℕ = cursor words in
+        let start : c ≡ 0 = opens.pools.asked in
+        (q - 1, (let g : q - 1 < n = omega arith in g), opens.pools.list (q - 1) (omega arith) ∙ (let g : q - 1 + 1 ≡ q = omega arith in g), inl (let g : c ≤ q - 1 = omega arith in g));
     drawers = record { drawn = λ q d e. absurd (none_drawn q d e); prepared = λ a d e. absurd (no_spare a d e); claims = λ d some. absurd (let h : 0 < 0 = some in omega arith) };
     room = room_unused k only first_pause no_stock words (λ h. let e : Run ≡ Promote = h.2 in cc);
     unused = λ _. refl;

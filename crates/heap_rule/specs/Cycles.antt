@@ -10,7 +10,7 @@ use Rattle.heap_model.specs.declared.graph.Value.{Value}
 use Rattle.heap_model.specs.declared.graph.Value.TheVariants.{Block}
 use Rattle.heap_model.specs.declared.graph.Node.TheVariants.{Plain}
 use Rattle.heap_model.specs.declared.state.State as model
-use Rattle.heap_model.specs.declared.state.Mode.TheVariants.{Open, Sealed}
+use Rattle.heap_model.specs.declared.state.Mode.TheVariants.{Open, Sealed, Answer as Answered}
 use Rattle.heap_model.specs.Graph.{Graph, node_at, has_label, has_no_repeats, words_at}
 use Rattle.heap_model.specs.Fronts.{Shape}
 use Rattle.cycle_laws.specs.Counting.{added_up}
@@ -179,6 +179,7 @@ HoldsBlock live q c = (slot : ℕ) × (slot < blocks_of c) × ((p : Place) × (l
 
 -- where a collection is answered no garbage is left, all have counted, and each pool of a domain that has arrived holds a block
 pub record Answering (k : Config) (s : model.State) (live : Live) (t : Tenancy) (c : Cycling) (words : List ℕ) : Type 0 where
+  pub mode : s.mode ≡ Answered
   pub swept : IsSwept k s live t.holder c words
   pub clean : (a : ℕ) → t.garbage a ≡ false
   pub all_counted : (d : ℕ) → d < k.domains → IsTrue (c.counts.words d)
@@ -321,7 +322,7 @@ pub record Tallied (k : Config) (live : Live) (holder : ℕ → Holder) (d : ℕ
 
 -- What a domain knows of blocks in a phase: the head that it found is still there, or its block was marked since; it has been at its own
 -- places as far as it has walked; the blocks of the registers and of the list that it has looked at are marked; what it has
--- counted is its own; and the own pools as far as it has looked hold blocks
+-- counted is its own; and the own pools as far as it has looked hold blocks, and the first places of the next one are free
 pub record Knowing (k : Config) (live : Live) (holder : ℕ → Holder) (graph : Graph) (marks : Marks) (words : List ℕ) (d : ℕ) (registers : List held.Value) (share : Share) : Type 0 where
   pub glimpse : (g : Glimpse) (p : Place) → share.glimpse ≡ Some g → live g.address ≡ Some p → (at_address k words g.address ≡ g.word) ⊎ IsTrue (marks.marked p.label)
   pub scan : Scans live graph marks share.scan
@@ -331,6 +332,7 @@ pub record Knowing (k : Config) (live : Live) (holder : ℕ → Holder) (graph :
   pub marked : (a : ℕ) → IsTrue (seen_by share.marked a) → IsMarkedAt live marks.marked a
   pub tally : Tallied k live holder d share
   pub held : (q class : ℕ) → holder q ≡ owned d class → q < share.held → HoldsBlock live q class
+  pub vacant : (class slot : ℕ) → holder share.held ≡ owned d class → slot < blocks_of class → slot < share.vacant → at_address k words (place_in share.held class slot) ≡ 0
 
 -- what a domain has added to the live words is what it has counted
 pub record Adds (live : Live) (c : Cycling) (d : ℕ) (share : Share) : Type 0 where

@@ -43,11 +43,11 @@ kind_at (suc (suc (suc (suc (suc (suc (suc (suc (suc zero))))))))) = Lasts
 kind_at (suc (suc (suc (suc (suc (suc (suc (suc (suc (suc zero)))))))))) = Sweep
 kind_at (suc (suc (suc (suc (suc (suc (suc (suc (suc (suc (suc n))))))))))) = Answer
 
--- which kind may come after which. No collection of the major heap begins yet
+-- which kind may come after which
 abbrev pub Follows : Kind → Kind → Type 0
 Follows Run next = next ≡ Promote
 Follows Promote next = next ≡ Reset
-Follows Reset next = next ≡ Run
+Follows Reset next = (next ≡ Run) ⊎ (next ≡ Roots)
 Follows Roots next = next ≡ Mark
 Follows Mark next = (next ≡ Mark) ⊎ (next ≡ Rounds)
 Follows Rounds next = (next ≡ Mark) ⊎ ((next ≡ Decide) ⊎ (next ≡ Clean))
@@ -107,13 +107,14 @@ pub record Staged (t : Pause) (x : DomainView) : Type 0 where
   pub arrivals : x.own.arrivals ≡ t.arrived x.own.number
   pub stage : AtStage t x.own.number x.own.arrivals x.seen.stage
 
--- the domain acts in an even phase of a pause
+-- the domain acts in an even phase of a pause, and not in that in which a collection is answered
 abbrev pub IsInPause : Stage → Type 0
 IsInPause (In Run) = ⊥
+IsInPause (In Answer) = ⊥
 IsInPause (In _) = Unit {0}
 IsInPause _ = ⊥
 
--- then no entry is appended. In an odd phase the collector's entries are, as the next kind is named
+-- then no entry is appended. Where a collection is answered each domain appends its own, and in an odd phase the collector's are, as the next kind is named
 abbrev pub Still : List Entry → DomainView → Type 0
 Still log x = IsInPause x.seen.stage → x.seen.front ≡ log
 

@@ -88,6 +88,14 @@ KeepsReserve p = (j : ℕ) × ((p.phase ≡ j * 2) ⊎ (p.phase ≡ j * 2 + 1)) 
 abbrev pub Reserved : Config → Pause → Tenancy → List ℕ → Type 0
 Reserved k p t words = KeepsReserve p → (i : ℕ) → i < listed words → limit_of k (listed words) ≤ i → t.holder (listed_pool words i) ≡ nobody
 
+-- the domains run, or it is named that they run next
+abbrev pub RunsNext : Pause → Type 0
+RunsNext p = ((j : ℕ) × (p.phase ≡ j * 2) × (p.kinds j ≡ Run)) ⊎ ((j : ℕ) × (p.phase ≡ j * 2 + 1) × (p.led ≡ true) × (p.kinds (j + 1) ≡ Run))
+
+-- then each pool that is nobody's is listed, behind the cursor or in the reserve
+abbrev pub Covered : Config → Pause → Tenancy → List ℕ → Type 0
+Covered k p t words = RunsNext p → (q : ℕ) → q < k.pools → t.holder q ≡ nobody → (i : ℕ) × (i < listed words) × (listed_pool words i ≡ q) × ((cursor words ≤ i) ⊎ (limit_of k (listed words) ≤ i))
+
 -- the place of a block in a pool
 pub record Lot (holder : ℕ → Holder) (a : ℕ) (p : Place) : Type 0 where
   pub pool : ℕ

@@ -17,7 +17,7 @@ use Rattle.heap_rule.specs.Layout.{table_words, base_of, at_address, barrier, pl
 use Rattle.heap_rule.specs.Places.{Place, Live, Paint, extent, Stands, Found, Placed, Spread, span, Settled}
 use Rattle.heap_rule.specs.Copies.{Owes, Copies, Promoting, AllCleared, Emptied, Rooted}
 use Rattle.heap_rule.specs.Room.{Room, IsUnused, Opened, Drawable}
-use Rattle.heap_rule.specs.Pools.{limit_of, Tenancy, Pools, Reserved, Grid, Drawers, Resting, Hunter}
+use Rattle.heap_rule.specs.Pools.{limit_of, Tenancy, Pools, Reserved, Covered, Grid, Drawers, Resting, Hunter}
 use Rattle.heap_rule.specs.Changes.{value_at}
 use Rattle.heap_rule.specs.Fullness.{Homes, Fullness}
 use Rattle.heap_rule.specs.Cycles.{Cycling, Cycled, Telling, Leading, KnowsBlocks, Adds, AllPlain}
@@ -111,6 +111,7 @@ pub record Whole (k : Config) (all : Account) (words : List ℕ) : Type 0 where
   pub endings : CountsEnded k (state_of k all.log) words
   pub pools : Pools k all.tenancy words
   pub reserved : Reserved k all.pause all.tenancy words
+  pub covered : Covered k all.pause all.tenancy words
   pub grid : Grid k all.tenancy all.live words
   pub drawers : Drawers all.pause all.tenancy
   pub room : Room k all.live all.pause all.tenancy.stock words

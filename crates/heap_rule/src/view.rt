@@ -201,8 +201,9 @@ pub struct Share {
     /// Whether it has added them to the live blocks, and to the live words.
     pub added_blocks: bool,
     pub added_words: bool,
-    /// The own pools before this one hold blocks.
+    /// The own pools before this one hold blocks, and so many places of this one are free.
     pub held: u32,
+    pub vacant: u32,
     /// Whether domain 0 has made the cut of this collection.
     pub cut: bool,
 }

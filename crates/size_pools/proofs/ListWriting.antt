@@ -1,9 +1,9 @@
 -- The list of free pools grows by one pool that is nobody's.
-use Rattle.std.proofs.Common.{◌≡◌, ◌≢◌, ℕ, ◌+◌, ◌<◌, ◌≤◌, false, List, [], ◌∷◌, ◌++◌, length, Some, refl, sym, ap, ◌∙◌, subst, arith, length-append}
+use Rattle.std.proofs.Common.{◌≡◌, ◌≢◌, ℕ, ◌+◌, ◌<◌, ◌≤◌, false, List, [], ◌∷◌, ◌++◌, length, Option, Some, None, refl, sym, ap, ◌∙◌, subst, arith, length-append}
 use Rattle.heap_rule.specs.declared.config.Config.{Config}
 use Rattle.heap_rule.specs.declared.view.DomainView.{DomainView}
 use Rattle.heap_rule.specs.declared.view.Listing.{Listing}
-use Rattle.steps_pools.specs.Listings.{with_listing, further, relisted, found_owner, named, set_back, listed_as, no_listing, noted_set_back, IsOpener, CountedTold, HasCounted, free_from, free_pools, IsLeader, EmptiedTold, LookMay, LookedTold, NameMay, NamedTold, SetBackTold, CloseMay, ListedAsTold, HasList}
+use Rattle.steps_pools.specs.Listings.{with_listing, further, relisted, found_owner, named, set_back, listed_as, no_listing, noted_set_back, IsOpener, CountedTold, HasCounted, free_from, free_pools, IsLeader, EmptiedTold, LookMay, LookedTold, NameMay, NamedTold, SetBackTold, CloseMay, ListedAsTold, HasList, IsListedCount}
 use Rattle.steps_pools.proofs.FreePools.{free_last, free_same}
 use Rattle.size_pools.specs.Listed.{HasListed, Relisted}
 use Rattle.heap_rule.specs.declared.phase.Note.TheVariants.{SetBack}
@@ -21,7 +21,7 @@ same_list : (x y : DomainView) (f : Listing → Listing) → y ≡ relisted x f 
 same_list x y f told = told ∙ ap (with_listing x) (sym (ap (λ (z : DomainView). z.seen.listing) told))
 
 leads_on : (x y : DomainView) → Relisted x y → IsLeader x → IsLeader y
-leads_on x y same leader = subst IsLeader (sym same) (let l : IsLeader (with_listing x y.seen.listing) = record { first = leader.first; stage = leader.stage } in l)
+leads_on x y same leader = subst IsLeader (sym same) (let l : IsLeader (with_listing x y.seen.listing) = record { first = leader.first; last = leader.last; stage = leader.stage; empty = leader.empty } in l)
 
 no_names : free_from 0 [] ≡ []
 unfolding free_from
@@ -88,6 +88,11 @@ module _ (k : Config) (x : DomainView) (pool count : ℕ) (h : HasListed x pool 
       listing = on_list y z (so_far (h.owners ++ found ∷ []) (free_pools h.owners)) (named pool) looked_list said ∙ ap (λ (names : List ℕ). Some (so_far (h.owners ++ found ∷ []) names)) (ap (λ (n : ℕ). free_pools h.owners ++ n ∷ []) (sym h.all) ∙ sym e);
     }
 
+-- how many are listed, where a list is known
+abbrev listed_in : Option Listing → ℕ
+listed_in None = 0
+listed_in (Some l) = l.listed
+
 -- the cursor is set back, and the pools are listed
 module _ (k : Config) (x : DomainView) (count : ℕ) (h : HasListed x k.pools count) where
   module _ (y : DomainView) (told : SetBackTold x 0 y) where
@@ -111,6 +116,10 @@ module _ (k : Config) (x : DomainView) (count : ℕ) (h : HasListed x k.pools co
       all = h.all;
       listing = on_list y z back (listed_as count) back_list said ∙ ap (λ (n : ℕ). Some (listed_as n back)) (sym h.count_is);
     }
+
+    -- so many are listed
+    pub closed_count : (z : DomainView) → ListedAsTold y count z → IsListedCount k z count
+    closed_count z said list = ap listed_in (sym (on_list y z back (listed_as count) back_list said) ∙ list.listing)
 
 -- how many pools are listed is known
 pub counted_ready : (k : Config) (x y : DomainView) (count : ℕ) → IsOpener x → CountedTold k x count y → HasCounted y count

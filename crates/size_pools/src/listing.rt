@@ -3,7 +3,7 @@ ghost use Rattle.std.specs.Prelude.{◌≡◌, ◌+◌, ◌<◌, ◌≤◌, Some
 ghost use Rattle.heap_rule.specs.declared.phase.Note.TheVariants.{SetBack};
 ghost use Rattle.heap_rule.specs.Phases.{last_note};
 ghost use Rattle.heap_rule.specs.Token.{IsIn};
-ghost use Rattle.steps_pools.specs.Listings.{IsLeader, IsOpener, HasList};
+ghost use Rattle.steps_pools.specs.Listings.{IsLeader, IsOpener, HasList, IsListedCount};
 ghost use Rattle.size_pools.specs.Listed.{HasListed, Relisted, SetsBack};
 
 use heap_rule::{Domain, Heap};
@@ -51,22 +51,25 @@ fn list_pools(heap: &Heap, dom: &mut Domain) -> u32
     count
 }
 
-/// Domain 0 writes the list of free pools anew, in the phase after Reset in which it hasn't named the
-/// next kind: the list then names exactly the pools that are nobody's, rising, and the cursor is 0. All
-/// other words, and all that the domain owns, stay as they are.
+/// Domain 0 writes the list of free pools anew, in an odd phase in which nothing lives in minor areas
+/// and it hasn't named the next kind: the list then names exactly the pools that are nobody's, rising,
+/// and the cursor is 0. All other words, and all that the domain owns, stay as they are. Answers how
+/// many pools are listed.
 ///
 /// While it writes, no pool is listed: the number of listed pools is 0 first, and set last.
-pub fn write_list(heap: &Heap, dom: &mut Domain)
+pub fn write_list(heap: &Heap, dom: &mut Domain) -> u32
     requires here { IsIn dom.old heap.now }
     requires leader { IsLeader dom.old.view }
     ensures here { IsIn dom.new heap.now }
     ensures list { HasList heap.now.config dom.new.view }
+    ensures count { IsListedCount heap.now.config dom.new.view result }
     ensures same { Relisted dom.old.view dom.new.view }
 {
     listed_clear(heap, dom);
     let count = list_pools(heap, dom);
     cursor_clear(heap, dom);
     listed_store(heap, dom, u64::from(count));
+    count
 }
 
 /// Domain 0, in the first phase of a pause in which it hasn't named the next kind, sets the cursor back

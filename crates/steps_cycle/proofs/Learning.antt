@@ -29,8 +29,9 @@ use Rattle.heap_rule.specs.Pools.{Holder, IsBefore, IsLeading, blocks_of, owned,
 use Rattle.heap_rule.specs.Cycles.{Cycled, Cycling, Facts, HasNoCycle, IsCollecting, IsIdle, IsMarkedAt, Knowing, Leading, Scans, Told, seen_by, Scanned}
 use Rattle.heap_rule.specs.Rule.{Account, Good, Rule, Sharing, state_of}
 use Rattle.heap_rule.specs.Views.{one}
-use Rattle.heap_rule.proofs.Controls.{Move, Untouched, counts_untouched, heap_untouched, hunter_untouched, low_untouched, moved_to, no_move, reserved_untouched, resting_untouched, turns, untouched_same}
+use Rattle.heap_rule.proofs.Controls.{Move, Untouched, counts_untouched, covered_untouched, heap_untouched, hunter_untouched, low_untouched, moved_to, no_move, reserved_untouched, resting_untouched, turns, untouched_same}
 use Rattle.heap_rule.proofs.Holders.{stock_self}
+use Rattle.heap_rule.proofs.Lots.{head_full, place_cases}
 use Rattle.heap_rule.proofs.Keeps.{Words, hunter_as, mine, my_good, owes_as, phases_words, room_words}
 use Rattle.heap_rule.proofs.PauseFacts.{kind_differs, not_both, agree}
 use Rattle.heap_rule.proofs.Sharings.{kind_now}
@@ -160,6 +161,7 @@ module _ (k : Config) (s : Words) (r : Rule k s) (id : ℕ) (hist : List Entry) 
         free = λ f e. e;
         resting = let rest = resting_untouched k s.words words' x o.untouched g.resting in record { hunt = rest.hunt; free = rest.free; lists = rest.lists };
         reserved = reserved_untouched k r.account.pause t s.words words' o.untouched r.whole.pools r.whole.reserved;
+        covered = covered_untouched k r.account.pause t s.words words' o.untouched r.whole.pools r.whole.covered;
         drawers = r.whole.drawers;
         room = room_words k live r.account.pause t.stock s.words words' (λ _. counts) r.whole.room;
         unused = r.whole.unused;
@@ -220,12 +222,20 @@ module _ (k : Config) (s : Words) (r : Rule k s) (id : ℕ) (hist : List Entry) 
           words = refl;
         };
         held = λ q e is low. absurd (let l : q < 0 = low in omega arith);
+        vacant = λ e slot is inside low. absurd (let l : slot < 0 = low in omega arith);
       }
 
-  -- what a domain knows of blocks it knows where more is marked, and where the heads of the others stay
-  pub knowing_on : (m' : Marks) (words' : List ℕ) → ((b : ℕ) (p : Place) → live b ≡ Some p → (at_address k words' b ≡ at_address k s.words b) ⊎ IsTrue (m'.marked p.label)) → More m.marked m'.marked
+  -- where no head of a block is Free, the words at which no block lives tell of all that are
+  pub free_on : (words' : List ℕ) → ((b : ℕ) → live b ≡ None → at_address k words' b ≡ at_address k s.words b) → (b : ℕ) → at_address k s.words b ≡ 0 → at_address k words' b ≡ 0
+  free_on words' dead b free = ⊎_elim
+      (λ (none : live b ≡ None). dead b none ∙ free)
+      (λ (t : (p : Place) × (live b ≡ Some p)). absurd (head_full k c.paint live now.graph s.words b t.0 (r.whole.found b t.0 t.1) free))
+      (place_cases (live b))
+
+  -- what a domain knows of blocks it knows where more is marked, where the heads of the others stay, and where free places stay free
+  pub knowing_on : (m' : Marks) (words' : List ℕ) → ((b : ℕ) (p : Place) → live b ≡ Some p → (at_address k words' b ≡ at_address k s.words b) ⊎ IsTrue (m'.marked p.label)) → ((b : ℕ) → at_address k s.words b ≡ 0 → at_address k words' b ≡ 0) → More m.marked m'.marked
       → (e : ℕ) (registers : List Value) (share : Share) → Knowing k live holder now.graph m s.words e registers share → Knowing k live holder now.graph m' words' e registers share
-  knowing_on m' words' heads more e registers share n = record {
+  knowing_on m' words' heads free more e registers share n = record {
     glimpse = λ g p is lives. ⊎_elim
         (λ (same : at_address k s.words g.address ≡ g.word). ⊎_elim (λ (stays : at_address k words' g.address ≡ at_address k s.words g.address). inl (stays ∙ same)) (λ (is : IsTrue (m'.marked p.label)). inr is) (heads g.address p lives))
         (λ (is : IsTrue (m.marked p.label)). inr (more p.label is))
@@ -237,6 +247,7 @@ module _ (k : Config) (s : Words) (r : Rule k s) (id : ℕ) (hist : List Entry) 
     marked = λ a is. let t = n.marked a is in (t.0, t.1, more t.0.label t.2);
     tally = n.tally;
     held = n.held;
+    vacant = λ class slot own inside low. free (place_in share.held class slot) (n.vacant class slot own inside low);
   }
 
   module _ (collecting : IsCollecting x.seen.stage) where
@@ -355,6 +366,7 @@ module _ (k : Config) (s : Words) (r : Rule k s) (id : ℕ) (hist : List Entry) 
                 marked = o.knows.marked;
                 tally = record { once = y.once; own = y.own; lives = y.lives; all = y.all; words = y.words };
                 held = known.held;
+                vacant = λ class slot own inside low. free_on words' o.dead (place_in sh.held class slot) (known.vacant class slot own inside low);
               },
             );
             adds = record { blocks = g.sharing.adds.blocks; words = g.sharing.adds.words; own = g.sharing.adds.own };
@@ -372,7 +384,7 @@ module _ (k : Config) (s : Words) (r : Rule k s) (id : ℕ) (hist : List Entry) 
         leading = leading' z z.seen.share g.staged g.sharing.leading;
         knows = ⊎_elim
             (λ (q : IsIdle z.seen.share). inl q)
-            (λ (n : IsCollecting z.seen.stage × Knowing k live holder now.graph m s.words z.own.number z.own.registers z.seen.share). inr (n.0, knowing_on m' words' o.heads o.more z.own.number z.own.registers z.seen.share n.1))
+            (λ (n : IsCollecting z.seen.stage × Knowing k live holder now.graph m s.words z.own.number z.own.registers z.seen.share). inr (n.0, knowing_on m' words' o.heads (free_on words' o.dead) o.more z.own.number z.own.registers z.seen.share n.1))
             g.sharing.knows;
         adds = record { blocks = g.sharing.adds.blocks; words = g.sharing.adds.words; own = g.sharing.adds.own };
       }

@@ -54,6 +54,7 @@ module _ (k : Config) (s : Words) (r : Rule k s) (id : ℕ) (hist : List Entry) 
             marked = n.1.marked;
             tally = record { once = n.1.tally.once; own = n.1.tally.own; lives = n.1.tally.lives; all = n.1.tally.all; words = n.1.tally.words };
             held = n.1.held;
+            vacant = n.1.vacant;
           },
         ))
         sh.knows;

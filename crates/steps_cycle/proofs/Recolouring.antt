@@ -41,8 +41,11 @@ module _ (k : Config) (s : Words) (r : Rule k s) (id : ℕ) (hist : List Entry) 
         (λ here. let same : p ≡ q = ap (λ (z : Option Place). unwrap_or z p) (sym lives ∙ (ap r.account.live (sym here) ∙ there)) in inr (subst (λ (z : Place). IsTrue (m'.marked z.label)) same marked))
         (λ other. inl (head_stays b other))
 
+    free_stay : (b : ℕ) → at_address k s.words b ≡ 0 → at_address k (set s.words (before_heap k + a) new) b ≡ 0
+    free_stay b free = head_stays b (λ same. head_full k paint r.account.live (state_of k r.account.log).graph s.words a p (r.whole.found a p lives) (ap (at_address k s.words) (sym same) ∙ free)) ∙ free
+
     pub known_still : More paint.marks.marked m'.marked → Knowing k r.account.live r.account.tenancy.holder (state_of k r.account.log).graph m' (set s.words (before_heap k + a) new) x.own.number x.own.registers x.seen.share
-    known_still more = knowing_on k s r id hist x at m' (set s.words (before_heap k + a) new) heads_stay more x.own.number x.own.registers x.seen.share (known k s r id hist x at)
+    known_still more = knowing_on k s r id hist x at m' (set s.words (before_heap k + a) new) heads_stay free_stay more x.own.number x.own.registers x.seen.share (known k s r id hist x at)
 
   -- What it owes that the head of the block at an address is written
   pub record Recolours (a : ℕ) (p : Place) (new : ℕ) (m' : Marks) (owes : ℕ → Bool) (seen : ℕ → ℕ → Bool) (h : Held) : Type 0 where
@@ -209,6 +212,7 @@ module _ (k : Config) (s : Words) (r : Rule k s) (id : ℕ) (hist : List Entry) 
           endings = controls.ended ∙ r.whole.endings;
           pools = controls.pools;
           reserved = controls.reserved;
+          covered = controls.covered;
           grid = grid';
           drawers = r.whole.drawers;
           room = room_words k r.account.live r.account.pause r.account.tenancy.stock s.words words' controls.counts r.whole.room;

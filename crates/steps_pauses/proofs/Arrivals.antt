@@ -20,13 +20,13 @@ use Rattle.heap_rule.specs.Limits.{sizes_in}
 use Rattle.heap_rule.specs.Places.{Place, Live, Settled}
 use Rattle.heap_rule.specs.Copies.{nothing_copied, Promoting, Cleared as Clears, AllCleared, Emptied, Rooted, IsEmptying, Resetting}
 use Rattle.heap_rule.specs.Phases.{code, Follows, sum_of, IsEven, IsOdd, Pause, Phases, LeftOdd, AtStage, Staged, Unwished}
-use Rattle.heap_rule.specs.Pools.{Stock, Tenancy, nobody, drawn, drawn_in, place_in, limit_of, Reserved, Drawers, Hunts, no_stock}
+use Rattle.heap_rule.specs.Pools.{Stock, Tenancy, nobody, drawn, drawn_in, place_in, limit_of, Reserved, Covered, Drawers, Hunts, no_stock}
 use Rattle.heap_rule.specs.Room.{spent_stock, drawn_in_all, Room, IsUnused, Drawable}
 use Rattle.heap_rule.specs.Rule.{Good, Rule}
 use Rattle.heap_rule.specs.Views.{one, Tells}
 use Rattle.heap_rule.proofs.Update.{over, over_here, over_else}
 use Rattle.heap_rule.proofs.Lists.{no_item}
-use Rattle.heap_rule.proofs.Controls.{Untouched, counts_untouched, low_untouched, reserved_untouched, pools_untouched, hunter_untouched, sum_one, all_up, parity, Move, moved_to, turns}
+use Rattle.heap_rule.proofs.Controls.{Untouched, counts_untouched, low_untouched, reserved_untouched, covered_untouched, pools_untouched, hunter_untouched, sum_one, all_up, parity, Move, moved_to, turns}
 use Rattle.heap_rule.proofs.Drops.{drops, dropped}
 use Rattle.heap_rule.proofs.Keeps.{Words, mine, my_good, now, no_cycle_here, quiet_in, owes_rests, room_unused}
 use Rattle.heap_rule.proofs.PauseFacts.{not_both}
@@ -281,6 +281,9 @@ module _ (k : Config) (s : Words) (r : Rule k s) (id : ℕ) (hist : List Entry) 
       none_some (place_in own.pool own.class own.slot)
       (sym (may.unprepared (promotes copies.1) own.class of_class) ∙ good.hunter.prepared own.pool own.class own.slot own.owned_is own.inside (ap tenancy.prepared (sym own.begins) ∙ is))
 
+  still_covered : Covered k pause tenancy words'
+  still_covered = covered_untouched k pause tenancy s.words words' untouched r.whole.pools r.whole.covered
+
   -- What an arrival owes, whether or not it is the last one of its phase
   record Parts (pause' : Pause) (claims' : ℕ → ℕ) : Type 0 where
     phases : Phases k pause' words'
@@ -292,6 +295,7 @@ module _ (k : Config) (s : Words) (r : Rule k s) (id : ℕ) (hist : List Entry) 
     rooted : Rooted k pause' y
     roots : (z : DomainView) → z.own.number < k.domains → z.own.number ≢ number → Staged pause z → Rooted k pause z → Rooted k pause' z
     reserved : Reserved k pause' tenancy words'
+    covered : Covered k pause' tenancy words'
     drawers : Drawers pause' (record tenancy { stock = counting claims' })
     room : Room k live pause' (counting claims') words'
     unused : IsUnused pause' (counting claims')
@@ -324,6 +328,7 @@ module _ (k : Config) (s : Words) (r : Rule k s) (id : ℕ) (hist : List Entry) 
     rooted = p.rooted;
     roots = p.roots;
     reserved = p.reserved;
+    covered = p.covered;
     drawers = p.drawers;
     room = p.room;
     unused = p.unused;
@@ -371,6 +376,7 @@ module _ (k : Config) (s : Words) (r : Rule k s) (id : ℕ) (hist : List Entry) 
     rooted = (λ p up. may.holds_old (promotes p), ⊎_elim (λ p. may.looked_through (promotes p.0)) (λ h. good.rooted.1 (inr h)));
     roots = λ z _ _ _ old. old;
     reserved = reserved_untouched k pause tenancy s.words words' untouched r.whole.pools r.whole.reserved;
+    covered = still_covered;
     drawers = record {
       drawn = λ q e held. let u = r.whole.drawers.drawn q e held in dite (ℕ_discrete e number)
           (λ same. absurd (undrawn q (held ∙ ap drawn same)))
@@ -537,6 +543,13 @@ module _ (k : Config) (s : Words) (r : Rule k s) (id : ℕ) (hist : List Entry) 
         (λ (odd : pause.phase + 1 ≡ kept.0 * 2 + 1). reserved_untouched k pause tenancy s.words words' untouched r.whole.pools r.whole.reserved (kept.0, inl (even_before pause.phase kept.0 odd), kept.2) i below above)
         kept.1
 
+    -- the domains run next where domain 0 named it
+    next_covered : Covered k next tenancy words'
+    next_covered runs = still_covered (inr (⊎_elim
+        (λ (h : (j : ℕ) × (pause.phase + 1 ≡ j * 2) × (pause.kinds j ≡ Run)). half_before {A = (i : ℕ) × (pause.phase ≡ i * 2 + 1) × (pause.led ≡ true) × (pause.kinds (i + 1) ≡ Run)} h.0 pause.phase h.1 (λ i odd more. (i, odd, led_is i odd, ap pause.kinds more ∙ h.2)))
+        (λ (h : (j : ℕ) × (pause.phase + 1 ≡ j * 2 + 1) × (false ≡ true) × (pause.kinds (j + 1) ≡ Run)). absurd (true≢false (sym h.2)))
+        runs))
+
     -- where the domains copy next all pools of the reserve are left
     next_left : Promoting next → (a : ℕ) (q : Place) → live a ≡ Some q → k.pools * 4096 < a → cursor words' + reserve (sizes_in k) ≤ listed words' + drawn_in_all k (spent_stock tenancy.stock)
     next_left p a q lives young = half_before p.0 pause.phase p.1 (λ j odd more.
@@ -580,6 +593,7 @@ module _ (k : Config) (s : Words) (r : Rule k s) (id : ℕ) (hist : List Entry) 
       rooted = (λ h up. absurd (own_waits up), ⊎_elim (λ h. absurd (own_waits h.1)) (λ h. good.rooted.1 (inr (was_resetting elsewhere h))));
       roots = λ z below other its old. (λ h up. absurd (other_waits z below other its up), ⊎_elim (λ h. absurd (other_waits z below other its h.1)) (λ h. old.1 (inr (was_resetting elsewhere h))));
       reserved = next_reserved;
+      covered = next_covered;
       drawers = record {
         drawn = λ q e held. absurd (none_drawn q e held);
         prepared = λ a e is. absurd (none_prepared a e is);

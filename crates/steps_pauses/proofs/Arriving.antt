@@ -173,7 +173,7 @@ facts_stock Queued k s live t stock c words f = f
 facts_stock Clean k s live t stock c words f = f
 facts_stock Lasts k s live t stock c words f = record { facts = f.facts; unchanged = f.unchanged; stays = f.stays; turned = λ is. let r = f.turned is in record { all_marked = r.all_marked; unmarked = r.unmarked; owned = r.owned } }
 facts_stock Sweep k s live t stock c words f = record { mode = f.mode; swept = f.swept; sweep = f.sweep; all_counted = f.all_counted }
-facts_stock Answer k s live t stock c words f = record { swept = f.swept; clean = f.clean; all_counted = f.all_counted; held = f.held }
+facts_stock Answer k s live t stock c words f = record { mode = f.mode; swept = f.swept; clean = f.clean; all_counted = f.all_counted; held = f.held }
 
 -- all that the rule says of the collection holds where the facts do
 pub cycle_gone : (st : Stage) (holder : ℕ → Holder) (k : Config) (s : model.State) (live : Live) (p p' : Pause) (t : Tenancy) (stock : Stock) (c : Cycling) (words words' : List ℕ) (d : ℕ) → SameCycle words words' → ((a : ℕ) → at_address k words' a ≡ at_address k words a)

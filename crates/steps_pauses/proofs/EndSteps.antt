@@ -32,7 +32,7 @@ use Rattle.heap_rule.proofs.Keeps.{mine, my_good, remakes, knows_entry, after_en
 use Rattle.heap_rule.proofs.PauseFacts.{nobody_paused, staged_as}
 use Rattle.heap_rule.proofs.Sharings.{SameCycle}
 use Rattle.heap_rule.proofs.FullnessLemmas.{full_stays}
-use Rattle.heap_rule.proofs.Controls.{Untouched, found_untouched, making_untouched, pools_untouched, grid_untouched, hunter_untouched, cycle_untouched, reserved_untouched, counts_untouched, low_untouched, sum_one}
+use Rattle.heap_rule.proofs.Controls.{Untouched, found_untouched, making_untouched, pools_untouched, grid_untouched, hunter_untouched, cycle_untouched, reserved_untouched, covered_untouched, counts_untouched, low_untouched, sum_one}
 use Rattle.heap_rule.proofs.Entering.{running, inside_state, registers_stand, calm, Enters, entered_view, stood_after, enters}
 use Rattle.steps_pauses.proofs.PauseSteps.{over_few}
 
@@ -97,6 +97,7 @@ ends k slots id hist x acts s r _ at _ =
       endings = counts;
       pools = pools_untouched k r.account.tenancy s.words ws untouched r.whole.pools;
       reserved = reserved_untouched k r.account.pause r.account.tenancy s.words ws untouched r.whole.pools r.whole.reserved;
+      covered = covered_untouched k r.account.pause r.account.tenancy s.words ws untouched r.whole.pools r.whole.covered;
       room = room_words k r.account.live r.account.pause r.account.tenancy.stock s.words ws (λ _. same_counts) r.whole.room;
       unused = r.whole.unused;
       opened = opened_words k r.account.live s.words ws (λ _ _ _ _. same_counts.0) r.whole.opened;

@@ -273,6 +273,7 @@ module _ (k : Config) (s : Words) (r : Rule k s) (id : ℕ) (hist : List Entry) 
           (at_cases c.shares.arrived d true e);
     }
     facts_in Answer here is f = record {
+      mode = f.mode;
       swept = swept_in Answer f.swept;
       clean = f.clean;
       all_counted = f.all_counted;

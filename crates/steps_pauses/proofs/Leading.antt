@@ -1,5 +1,6 @@
 -- Domain 0 names the next kind of phase, and the collector's entry stands, if there is one.
-use Rattle.std.proofs.Common.{◌≡◌, ◌≢◌, ℕ, ◌+◌, ◌*◌, ◌<◌, ◌≤◌, Bool, true, false, true≢false, List, length, set, Option, Some, None, sym, refl, ap, ◌∙◌, subst, inl, inr, ⊎_elim, arith, length-set, get_or-set_same, get_or-set_other}
+use Rattle.std.proofs.Common.{◌≡◌, ◌≢◌, ℕ, ◌+◌, ◌*◌, ◌<◌, ◌≤◌, ◌⊎◌, Bool, true, false, true≢false, List, length, get_or, slice_get, set, Option, Some, None, sym, refl, ap, ◌∙◌, subst, inl, inr, ⊎_elim, arith, zero-le, length-set, get_or-set_same, get_or-set_other}
+use Rattle.std.proofs.lemmas.Option.{slice_get-get_or, slice_get_within}
 use mathlib.Core.Option.{some}
 use lib.ListN.{get_elem?}
 use Rattle.heap_model.specs.declared.entry.Entry.{Entry}
@@ -11,7 +12,7 @@ use Rattle.cycle_laws.specs.Cycle as laws
 use Rattle.cycle_laws.specs.Shares.{reset_shares}
 use Rattle.heap_rule.specs.declared.config.Config.{Config}
 use Rattle.heap_rule.specs.declared.phase.Kind.{Kind}
-use Rattle.heap_rule.specs.declared.phase.Kind.TheVariants.{Run, Promote, Roots, Mark, Rounds, Decide, Queued, Clean, Sweep, Answer}
+use Rattle.heap_rule.specs.declared.phase.Kind.TheVariants.{Run, Promote, Reset, Roots, Mark, Rounds, Decide, Queued, Clean, Sweep, Answer}
 use Rattle.heap_rule.specs.declared.phase.Stage.{Stage}
 use Rattle.heap_rule.specs.declared.phase.Stage.TheVariants.{In, Leads, Led, Gone}
 use Rattle.heap_rule.specs.declared.view.Copying.{Copying}
@@ -19,11 +20,11 @@ use Rattle.heap_rule.specs.declared.view.DomainView.{DomainView}
 use Rattle.heap_rule.specs.declared.view.Share.{Share}
 use Rattle.heap_rule.specs.Copies.{nothing_copied, Promoting, Resetting, IsEmptying}
 use Rattle.heap_rule.specs.Cycles.{Cycling, Cycled, Facts, Told, IsIdle, seen_by, pass_of}
-use Rattle.heap_rule.specs.Layout.{heap_words, before_heap, barrier, plan, want}
+use Rattle.heap_rule.specs.Layout.{heap_words, before_heap, barrier, plan, want, listed, cursor, listed_pool}
 use Rattle.heap_rule.specs.Limits.{sizes_in}
 use Rattle.heap_rule.specs.Phases.{code, Follows, flag, is_over, IsEven, Pause, Phases, AtStage, IsInPause}
 use Rattle.heap_rule.specs.Places.{Live}
-use Rattle.heap_rule.specs.Pools.{Tenancy, KeepsReserve}
+use Rattle.heap_rule.specs.Pools.{Tenancy, nobody, owner_word, limit_of, KeepsReserve}
 use Rattle.heap_rule.specs.Rule.{Account, AllFound, Good, NoneQueued, Rule, Sharing, Stood, state_of}
 use Rattle.heap_rule.specs.Views.{one, fresh_share}
 use Rattle.heap_rule.proofs.Controls.{Untouched, found_untouched, making_untouched, pools_untouched, grid_untouched, counts_untouched, low_untouched, reserved_untouched, hunter_untouched, resting_untouched, cycle_untouched, heap_untouched}
@@ -31,7 +32,7 @@ use Rattle.heap_rule.proofs.Keeps.{Words, mine, my_good, now, remakes, more_same
 use Rattle.heap_rule.proofs.PauseFacts.{not_both}
 use Rattle.heap_rule.proofs.Sharings.{SameCycle, facts_words}
 use Rattle.heap_rule.proofs.Update.{over, over_here, over_else}
-use Rattle.steps_pauses.specs.Pauses.{kind_in, entry_of, cut_in, MayFollow, LeadMay, LeadTold}
+use Rattle.steps_pauses.specs.Pauses.{kind_in, entry_of, cut_in, MayFollow, NamesFree, LeadMay, LeadTold}
 use Rattle.steps_pauses.proofs.CollectorEntries.{OfCollector, entry_of_collector, keeps_left, queue_left, graph_left, plain_logged, front_then, after_logged, legal_logged, knows_logged, seen_then}
 use Rattle.steps_pauses.proofs.Naming.{left_by, logged, pass_in, led_cycle, Ready, Way, led_way}
 use Rattle.heap_rule.proofs.PlainHistories.{IsPlainState, plain_state, plain_opening}
@@ -89,6 +90,7 @@ follows_promote a b f e = from a (subst (Follows a) e f)
   where
     from : (a : Kind) → Follows a Promote → a ≡ Run
     from Run f = refl
+    from Reset f = ⊎_elim (λ (e : Promote ≡ Run). absurd (let h : Promote ≡ Run = e in cc)) (λ (e : Promote ≡ Roots). absurd (let h : Promote ≡ Roots = e in cc)) f
     from Mark f = ⊎_elim (λ (e : Promote ≡ Mark). absurd (let h : Promote ≡ Mark = e in cc)) (λ (e : Promote ≡ Rounds). absurd (let h : Promote ≡ Rounds = e in cc)) f
     from Rounds f = ⊎_elim (λ (e : Promote ≡ Mark). absurd (let h : Promote ≡ Mark = e in cc))
         (λ q. ⊎_elim (λ (e : Promote ≡ Decide). absurd (let h : Promote ≡ Decide = e in cc)) (λ (e : Promote ≡ Clean). absurd (let h : Promote ≡ Clean = e in cc)) q) f
@@ -111,7 +113,7 @@ paused_even t d arrivals (Leads kd) paused at = absurd paused
 paused_even t d arrivals (Led kd) paused at = absurd paused
 paused_even t d arrivals (Gone kd) paused at = absurd paused
 
-module _ (k : Config) (s : Words) (r : Rule k s) (id : ℕ) (hist : List Entry) (x : DomainView) (at : get_elem? s.views id ≡ some (one k hist x)) (new : ℕ) (next : Kind) (may : LeadMay x new next) where
+module _ (k : Config) (s : Words) (r : Rule k s) (id : ℕ) (hist : List Entry) (x : DomainView) (at : get_elem? s.views id ≡ some (one k hist x)) (new : ℕ) (next : Kind) (may : LeadMay k x new next) where
   abbrev state : model.State
   state = now k s r id hist x at
 
@@ -313,6 +315,17 @@ module _ (k : Config) (s : Words) (r : Rule k s) (id : ℕ) (hist : List Entry) 
   stood_left : (z : DomainView) → Stood live state z → Stood live (state_of k log') z
   stood_left z st = subst (λ (u : model.State). Stood live u z) (sym after) (stood_other live live state (left_by state o) z (keeps_left state o collector z.own.number) (more_same live) st)
 
+  -- where the list was written anew, each pool that is nobody's is listed
+  listed_free : NamesFree k x → (q : ℕ) → q < k.pools → tenancy.holder q ≡ nobody → (i : ℕ) × (i < listed ws) × (listed_pool ws i ≡ q) × ((cursor ws ≤ i) ⊎ (limit_of k (listed ws) ≤ i))
+  listed_free names q inside free =
+      let lists = (resting_untouched k s.words ws x untouched good.resting).lists names.list names.listing in
+      let word : ℕ = get_or names.list.owners q 0 in
+      let got : slice_get names.list.owners q ≡ Some word = slice_get-get_or names.list.owners q 0 (subst (λ (n : ℕ). q < n) (sym names.all) inside) in
+      let none : word ≡ 0 = sym (lists.owners q word got) ∙ ((pools_untouched k tenancy s.words ws untouched r.whole.pools).owners q inside ∙ ap owner_word free) in
+      let at = names.free q (got ∙ ap Some none) in
+      let below : at.0 < listed ws = subst (λ (n : ℕ). at.0 < n) (names.count ∙ sym lists.count) (slice_get_within names.list.names at.0 q at.1) in
+      (at.0, below, lists.names at.0 q at.1, inl (subst (λ (n : ℕ). n ≤ at.0) (sym (lists.rewinds names.rewound)) zero-le))
+
   pub led_rule : Rule k record { words = ws; homes = s.homes; views = set s.views id (one k hist y) }
   led_rule =
       let quiet : x.seen.copying ≡ nothing_copied = quiet_in k live x good.owes (λ e. leads_promotes last (sym stage_is ∙ e)) in
@@ -342,6 +355,10 @@ module _ (k : Config) (s : Words) (r : Rule k s) (id : ℕ) (hist : List Entry) 
         endings = get_or-set_other s.words 2 8 new 0 (λ e. omega arith) ∙ (r.whole.endings ∙ sym (sum_same (is_over state) (is_over (state_of k log')) k.domains (λ d _. ap flag (ap (λ (u : model.State). (domain_at u d).ended) after ∙ (keeps_left state o collector d).ended))));
         pools = pools_untouched k tenancy s.words ws untouched r.whole.pools;
         reserved = λ keeps i below above. reserved_untouched k t tenancy s.words ws untouched r.whole.pools r.whole.reserved (keeps_led t j next odd keeps) i below above;
+        covered = λ runs q inside free. ⊎_elim
+            (λ (h : (i : ℕ) × (t.phase ≡ i * 2) × (t'.kinds i ≡ Run)). absurd (no_even (h.0, h.1)))
+            (λ (h : (i : ℕ) × (t.phase ≡ i * 2 + 1) × (true ≡ true) × (t'.kinds (i + 1) ≡ Run)). listed_free (may.relisted (sym (named h.0 h.1) ∙ h.3)) q inside free)
+            runs;
         grid = grid_untouched k tenancy live s.words ws untouched r.whole.grid;
         drawers = record {
           drawn = λ q e h. let u = (r.whole.drawers.drawn q e h).1 in absurd (no_even (u.0, u.1));
@@ -352,7 +369,7 @@ module _ (k : Config) (s : Words) (r : Rule k s) (id : ℕ) (hist : List Entry) 
         unused = λ _. r.whole.unused elsewhere;
         opened = opened_words k live s.words ws (λ _ _ _ _. counts.0) r.whole.opened;
         drawable = record {
-          to_run = λ i e l runs. let w = may.rewound (sym (named i e) ∙ runs) in (rest.lists w.0 w.1).rewinds w.2;
+          to_run = λ i e l runs. let w = may.relisted (sym (named i e) ∙ runs) in (rest.lists w.list w.listing).rewinds w.rewound;
           to_copy = λ i e l copies.
               let is : next ≡ Promote = sym (named i e) ∙ copies in
               low_untouched k s.words ws untouched (good.set_back (stage_is ∙ ap Leads (follows_promote last next follows is), may.set_back is));

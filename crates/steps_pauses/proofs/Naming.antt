@@ -83,6 +83,7 @@ record Ways (P : Kind → Kind → Type 0) : Type 0 where
   copies : P Run Promote
   empties : P Promote Reset
   runs : P Reset Run
+  begins : P Reset Roots
   roots : P Roots Mark
   again : P Mark Mark
   rounds : P Mark Rounds
@@ -100,7 +101,7 @@ record Ways (P : Kind → Kind → Type 0) : Type 0 where
 each_way : (P : Kind → Kind → Type 0) → Ways P → (last next : Kind) → Follows last next → P last next
 each_way P w Run next f = subst (P Run) (sym f) w.copies
 each_way P w Promote next f = subst (P Promote) (sym f) w.empties
-each_way P w Reset next f = subst (P Reset) (sym f) w.runs
+each_way P w Reset next f = ⊎_elim (λ (e : next ≡ Run). subst (P Reset) (sym e) w.runs) (λ (e : next ≡ Roots). subst (P Reset) (sym e) w.begins) f
 each_way P w Roots next f = subst (P Roots) (sym f) w.roots
 each_way P w Mark next f = ⊎_elim (λ (e : next ≡ Mark). subst (P Mark) (sym e) w.again) (λ (e : next ≡ Rounds). subst (P Mark) (sym e) w.rounds) f
 each_way P w Rounds next f = ⊎_elim (λ (e : next ≡ Mark). subst (P Rounds) (sym e) w.back)
@@ -184,6 +185,14 @@ module _ (k : Config) (log : List Entry) (live : Live) (t : Tenancy) (c : Cyclin
         facts = between f Reset Run refl;
         full = full_kind k log live t.holder t.fresh homes Reset Run (λ _ e. cc) full;
         clean = λ _ a. none f.unrotated a;
+        unturned = λ e. cc;
+        uncounted = λ e. cc;
+      };
+      begins = λ r f full. record {
+        allowed = λ e is. absurd (no_entry e is);
+        facts = (quietly (laws.InPhase (laws.Roots laws.First) k.domains s) Reset Roots f.unchanged (phase_steps.begins k.domains s cyc f.mode f.unmarked), record { unchanged = f.unchanged; unrotated = f.unrotated });
+        full = full_kind k log live t.holder t.fresh homes Reset Roots (λ _ e. cc) full;
+        clean = λ e a. none e a;
         unturned = λ e. cc;
         uncounted = λ e. cc;
       };
@@ -296,6 +305,7 @@ module _ (k : Config) (log : List Entry) (live : Live) (t : Tenancy) (c : Cyclin
       collected = λ r f full. let row = phase_steps.sweep_collected k.domains s swept refl f.mode f.swept.facts in let g = row.1 in record {
         allowed = λ e is. the_entry (Allowed s) Collected e is row.0;
         facts = record {
+          mode = refl;
           swept = record {
             facts = record { sealed = g.sealed; owned = g.owned; whole = g.whole; waiting = g.waiting; kept = g.kept };
             rotated = f.swept.rotated;
@@ -344,17 +354,6 @@ module _ (k : Config) (log : List Entry) (live : Live) (t : Tenancy) (c : Cyclin
         unturned = λ e. cc;
         uncounted = λ e. cc;
       };
-    }
-
-    -- a collection begins, where the domains don't run next. No kind follows so yet
-    pub begins : Goes Reset Roots
-    begins r f full = record {
-      allowed = λ e is. absurd (no_entry e is);
-      facts = (quietly (laws.InPhase (laws.Roots laws.First) k.domains s) Reset Roots f.unchanged (phase_steps.begins k.domains s cyc f.mode f.unmarked), record { unchanged = f.unchanged; unrotated = f.unrotated });
-      full = full_kind k log live t.holder t.fresh homes Reset Roots (λ _ e. cc) full;
-      clean = λ e a. none e a;
-      unturned = λ e. cc;
-      uncounted = λ e. cc;
     }
 
     pub led_way : (last next : Kind) → Follows last next → Ready last next c words → Facts last k s live t c words → Fullness k log live t.holder t.fresh homes last → Way last next

@@ -7,11 +7,12 @@ use mathlib.Core.Option.{some}
 use lib.ListN.{get_elem?}
 use Rattle.atomic_table.specs.Table.{keeps, Allows}
 use Rattle.heap_model.specs.declared.entry.Entry.{Entry}
+use Rattle.heap_model.specs.declared.state.State as model
 use Rattle.heap_model.proofs.Histories.FrontLemmas.{front_whole}
 use Rattle.heap_rule.specs.declared.config.Config.{Config}
 use Rattle.heap_rule.specs.declared.view.DomainView.{DomainView}
 use Rattle.heap_rule.specs.declared.phase.Kind.{Kind}
-use Rattle.heap_rule.specs.declared.phase.Kind.TheVariants.{Run, Promote}
+use Rattle.heap_rule.specs.declared.phase.Kind.TheVariants.{Run, Promote, Reset, Sweep, Answer}
 use Rattle.heap_rule.specs.declared.phase.Stage.{Stage}
 use Rattle.heap_rule.specs.declared.phase.Stage.TheVariants.{In, Leads, Led, Gone}
 use Rattle.heap_rule.specs.declared.phase.Note.{Note}
@@ -20,9 +21,10 @@ use Rattle.heap_rule.specs.Layout.{heap_words, before_heap, barrier, ended_word,
 use Rattle.heap_rule.specs.Phases.{code, Follows, Comes, sum_of, is_over, IsEven, IsOdd, Pause, Phases, LeftOdd, AtStage, Staged, Still, IsInPause, TookBack, HasSetBack, Unwished, last_note}
 use Rattle.heap_rule.specs.Pools.{Tenancy, IsLeading}
 use Rattle.heap_rule.specs.Places.{Live}
+use Rattle.heap_rule.specs.Cycles.{Cycling, Facts}
 use Rattle.heap_rule.specs.Copies.{nothing_copied}
 use Rattle.heap_rule.specs.declared.view.Copying.{Copying}
-use Rattle.steps_pauses.specs.Pauses.{noted, kind_in, IsGone, WantTold, AskTold, ArriveMay, Arrived, LookTold, PlanTold, ClearTold, LeadMay, LeadTold, EndedTold}
+use Rattle.steps_pauses.specs.Pauses.{noted, kind_in, IsGone, IsModeOf, WantTold, AskTold, ArriveMay, Arrived, LookTold, PlanTold, ClearTold, LeadMay, LeadTold, EndedTold}
 use Rattle.heap_rule.specs.Raw.{MayStep, MayStore}
 use Rattle.heap_rule.specs.Rule.{state_of, Rule}
 use Rattle.heap_rule.specs.Views.{one, Tells}
@@ -32,7 +34,7 @@ use Rattle.steps_pauses.proofs.Arrivals.{arrives}
 use Rattle.heap_rule.proofs.Keeps.{Words, mine, my_good, unmoved, nobody_leads, quiet_in, owes_rests, hunter_as}
 use Rattle.heap_rule.proofs.PauseFacts.{not_both}
 use Rattle.steps_pauses.proofs.Leading.{led_rule, led_told}
-use Rattle.steps_pauses.proofs.Arriving.{sharing_looked}
+use Rattle.steps_pauses.proofs.Arriving.{kind_acts, sharing_looked}
 
 gone_runs : (kind : Kind) → ◌≡◌ {A = Stage} (Gone kind) (In Run) → ⊥
 gone_runs kind e = cc
@@ -102,6 +104,22 @@ in_kind a b e = cc
 leads_in : (a b : Kind) → ◌≡◌ {A = Stage} (Leads a) (In b) → ⊥
 leads_in a b e = cc
 
+-- how far the history is in a phase of a kind
+mode_of : (kind : Kind) (k : Config) (s : model.State) (live : Live) (t : Tenancy) (c : Cycling) (words : List ℕ) → Facts kind k s live t c words → IsModeOf kind s.mode
+mode_of Run k s live t c words f = f.mode
+mode_of Promote k s live t c words f = f.mode
+mode_of Reset k s live t c words f = f.mode
+mode_of Sweep k s live t c words f = f.mode
+mode_of Answer k s live t c words f = f.mode
+mode_of _ k s live t c words f = tt
+
+mode_in : (k : Config) (s : Words) (r : Rule k s) (d arrivals : ℕ) (kind : Kind) → AtStage r.account.pause d arrivals (In kind) → IsModeOf kind (state_of k r.account.log).mode
+mode_in k s r d arrivals kind at =
+    let all = r.account in
+    let state : model.State = state_of k all.log in
+    let is : all.cycling.kind ≡ kind = kind_acts k all.pause all.cycling.kind all.cycling.shares d arrivals kind at r.whole.cycle.told in
+    mode_of kind k state all.live all.tenancy all.cycling s.words (subst (λ (other : Kind). Facts other k state all.live all.tenancy all.cycling s.words) is r.whole.cycle.facts)
+
 -- the kind of the phase that has begun
 coming : (t : Pause) (d arrivals : ℕ) (last : Kind) → arrivals ≡ t.phase → LeftOdd t.kinds d arrivals last → ((j : ℕ) → t.phase ≡ j * 2 + 2 → Follows (t.kinds j) (t.kinds (j + 1))) → (even : IsEven t.phase) → Comes d last (t.kinds even.0)
 coming t d arrivals last here left followed even =
@@ -152,6 +170,7 @@ looked_at k id hist x gone s r at =
         rooted = g.rooted;
         roots = λ z _ _ _ old. old;
         reserved = r.whole.reserved;
+        covered = r.whole.covered;
         room = r.whole.room;
         unused = r.whole.unused;
         drawable = r.whole.drawable;
@@ -178,7 +197,7 @@ looked_at k id hist x gone s r at =
       };
       told = record {
         waits = λ below. absurd (let u : b < end = below in let w : end ≤ b = over_it in omega arith);
-        begun = λ _. record { seen = me.front; legal = r.whole.legal; kind = says.0; stage = says.1; comes = comes; view = refl };
+        begun = λ _. record { seen = me.front; legal = r.whole.legal; kind = says.0; stage = says.1; comes = comes; mode = λ kind is. mode_in k s r x.own.number a kind (subst (AtStage t x.own.number a) is at'); view = refl };
       };
     }) in
     ⊎_elim
@@ -217,7 +236,7 @@ wants k slots id hist x note f s r at unwished took_back elsewhere others =
     unwished took_back (λ back. absurd (elsewhere back)) others
     (get_or-set_other s.words 0 1 new 0 (λ e. omega arith)) (get_or-set_other s.words 0 2 new 0 (λ e. omega arith)) (get_or-set_other s.words 0 8 new 0 (λ e. omega arith))
 
-leads : (k : Config) (slots id : ℕ) (hist : List Entry) (x : DomainView) (new : ℕ) (next : Kind) → LeadMay x new next
+leads : (k : Config) (slots id : ℕ) (hist : List Entry) (x : DomainView) (new : ℕ) (next : Kind) → LeadMay k x new next
     → Allows (Rule k) slots id (one k hist x, []) 2 (λ _. new) (λ _. Tells (LeadTold k next) (one k hist x, []) new)
 leads k slots id hist x new next may s r _ at _ = (_, keeps, tt, led_rule k s r id hist x at new next may, (led_told k s r id hist x at new next may, refl))
 
@@ -273,5 +292,5 @@ look_may k x gone fits slots id h = lookings k slots id h x gone
 pub plan_may : (k : Config) (x : DomainView) → MayStep k x 2 (λ n. n) PlanTold
 plan_may k x fits slots id h = plans k slots id h x
 
-pub lead_may : (k : Config) (x : DomainView) (new : ℕ) (next : Kind) → LeadMay x new next → MayStore k x 2 new (LeadTold k next)
+pub lead_may : (k : Config) (x : DomainView) (new : ℕ) (next : Kind) → LeadMay k x new next → MayStore k x 2 new (LeadTold k next)
 lead_may k x new next may fits slots id h = leads k slots id h x new next may

@@ -1,8 +1,10 @@
 -- What the steps of a pause ask and tell.
-use Rattle.std.specs.Prelude.{◌≡◌, ◌≢◌, ℕ, ◌+◌, ◌*◌, ◌^◌, ◌<◌, ◌≤◌, ◌⊎◌, true, List, [], ◌∷◌, ◌++◌, length, Some, None, IsTrue, false, ◌==◌, Bool, Option}
+use Rattle.std.specs.Prelude.{◌≡◌, ◌≢◌, ℕ, ◌+◌, ◌*◌, ◌^◌, ◌<◌, ◌≤◌, ◌⊎◌, true, List, [], ◌∷◌, ◌++◌, length, slice_get, Some, None, IsTrue, false, ◌==◌, Bool, Option}
 use Rattle.heap_model.specs.Domains.{class_count}
 use Rattle.heap_model.specs.declared.entry.Entry.TheVariants.{End, Cut, Seal, Collected, Done}
 use Rattle.heap_model.specs.declared.reply.Applied.TheVariants.{Silent}
+use Rattle.heap_model.specs.declared.state.Mode.{Mode}
+use Rattle.heap_model.specs.declared.state.Mode.TheVariants.{Open, Sealed, Answer as Answered}
 use Rattle.heap_model.specs.History.{Legal}
 use Rattle.heap_model.specs.Fronts.{IsFrontOf}
 use Rattle.heap_words.specs.declared.value.Value.TheVariants.{Nothing, Ref}
@@ -25,6 +27,7 @@ use Rattle.heap_rule.specs.Limits.{sizes_in}
 use Rattle.heap_rule.specs.Phases.{code, Follows, Comes, IsEven, IsOdd, last_note}
 use Rattle.heap_rule.specs.Pools.{prepared_at}
 use Rattle.heap_rule.specs.Copies.{nothing_copied, HoldsOld}
+use Rattle.heap_rule.specs.Rule.{state_of}
 use Rattle.heap_rule.specs.Standing.{Entered}
 use Rattle.heap_rule.specs.declared.phase.Kind.TheVariants.{Run, Promote, Reset, Roots, Mark, Rounds, Clean, Sweep, Answer, Decide, Queued, Lasts}
 use Rattle.heap_rule.specs.Views.{fresh_share, voided}
@@ -115,6 +118,15 @@ CanArrive own = own.arrivals + 1 < 2 ^ 64
 abbrev pub CountsArrival : Own → Own → Type 0
 CountsArrival own after = after ≡ record own { arrivals = own.arrivals + 1; pending = forgotten own.pending }
 
+-- how far a collection has come in the history where a domain finds that a phase of this kind has begun
+abbrev pub IsModeOf : Kind → Mode → Type 0
+IsModeOf Run mode = mode ≡ Open
+IsModeOf Promote mode = mode ≡ Open
+IsModeOf Reset mode = mode ≡ Open
+IsModeOf Sweep mode = mode ≡ Sealed
+IsModeOf Answer mode = mode ≡ Answered
+IsModeOf _ mode = Unit {0}
+
 -- the phase has begun: the front is the whole history so far, and an even phase is of the kind that domain 0 named, which follows the last
 pub record Begun (k : Config) (x : DomainView) (found : ℕ) (y : DomainView) : Type 0 where
   pub seen : IsFrontOf x.own.number y.seen.front x.seen.front
@@ -122,6 +134,7 @@ pub record Begun (k : Config) (x : DomainView) (found : ℕ) (y : DomainView) : 
   pub kind : Kind
   pub stage : ((y.seen.stage ≡ In kind) × IsEven x.own.arrivals) ⊎ ((y.seen.stage ≡ Leads (kind_in x.seen.stage)) × IsOdd x.own.arrivals)
   pub comes : (next : Kind) → y.seen.stage ≡ In next → Comes x.own.number (kind_in x.seen.stage) next
+  pub mode : (next : Kind) → y.seen.stage ≡ In next → IsModeOf next (state_of k y.seen.front).mode
   pub view : y ≡ record x { seen = record x.seen { front = y.seen.front; stage = y.seen.stage; notes = x.seen.notes ++ Barrier found ∷ [] } }
 
 -- a load of the barrier word by a domain that has arrived
@@ -166,15 +179,24 @@ pub record MayFollow (share : Share) (last next : Kind) : Type 0 where
   pub rotated : last ≡ Lasts → share.rotated ≡ true
   pub set_back : last ≡ Lasts → (share.blocks ≡ Some 0) × (share.words ≡ Some 0)
 
--- domain 0 names the next kind in an odd phase, once. Before the domains run again it has just taken the wishes back, and set the cursor to 0 in this phase. Before they copy it has just set the cursor back out of the reserve
-pub record LeadMay (x : DomainView) (new : ℕ) (next : Kind) : Type 0 where
+-- domain 0 has written the list of free pools anew in this phase, from all owner words, and the cursor is 0: each pool whose owner word says nobody is listed
+pub record NamesFree (k : Config) (x : DomainView) : Type 0 where
+  pub list : Listing
+  pub listing : x.seen.listing ≡ Some list
+  pub rewound : list.rewound ≡ true
+  pub all : length list.owners ≡ k.pools
+  pub count : length list.names ≡ list.listed
+  pub free : (q : ℕ) → slice_get list.owners q ≡ Some 0 → (i : ℕ) × (slice_get list.names i ≡ Some q)
+
+-- domain 0 names the next kind in an odd phase, once. Before the domains run again it has just taken the wishes back, and in this phase it has written the list of free pools anew. Before they copy it has just set the cursor back out of the reserve
+pub record LeadMay (k : Config) (x : DomainView) (new : ℕ) (next : Kind) : Type 0 where
   pub leads : x.own.number ≡ 0
   pub last : Kind
   pub stage : x.seen.stage ≡ Leads last
   pub follows : Follows last next
   pub word : new ≡ code next
   pub took_back : next ≡ Run → last_note x.seen.notes ≡ Some Cleared
-  pub rewound : next ≡ Run → (l : Listing) × (x.seen.listing ≡ Some l) × (l.rewound ≡ true)
+  pub relisted : next ≡ Run → NamesFree k x
   pub set_back : next ≡ Promote → last_note x.seen.notes ≡ Some SetBack
   pub may : MayFollow x.seen.share last next
 

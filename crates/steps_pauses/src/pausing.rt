@@ -60,7 +60,8 @@ pub fn arrive(heap: &Heap, dom: &mut Domain)
 }
 
 /// A load of the barrier word by a domain that has arrived. Answers the word: where it isn't below the
-/// domain's arrivals times the number of domains, the next phase has begun.
+/// domain's arrivals times the number of domains, the next phase has begun. Where that is an even one,
+/// the history tells how far a collection has come.
 pub fn look(heap: &Heap, dom: &mut Domain) -> u64
     requires here { IsIn dom.old heap.now }
     requires gone { IsGone dom.old.view }
@@ -92,7 +93,7 @@ pub fn want_clear(heap: &Heap, dom: &mut Domain)
 /// Domain 0 names the kind of the next phase, in an odd phase: `new` is its word.
 pub fn plan_store(heap: &Heap, dom: &mut Domain, new: u64)
     requires here { IsIn dom.old heap.now }
-    requires may { LeadMay dom.old.view new (kind_at new) }
+    requires may { LeadMay heap.now.config dom.old.view new (kind_at new) }
     ensures here { IsIn dom.new heap.now }
     ensures told { LeadTold heap.now.config (kind_at new) dom.old.view new dom.new.view }
 {

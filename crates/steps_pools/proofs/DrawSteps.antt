@@ -149,6 +149,7 @@ module _ (k : Config) (s : Words) (r : Rule k s) (id : ℕ) (hist : List Entry) 
     want = refl;
     listed_same = refl;
     reserved = r.whole.reserved;
+    covered = r.whole.covered;
     room = r.whole.room;
     unused = r.whole.unused;
     endings = refl;
@@ -178,6 +179,7 @@ module _ (k : Config) (s : Words) (r : Rule k s) (id : ℕ) (hist : List Entry) 
     want = refl;
     listed_same = refl;
     reserved = r.whole.reserved;
+    covered = r.whole.covered;
     room = r.whole.room;
     unused = r.whole.unused;
     endings = refl;
@@ -211,6 +213,7 @@ module _ (k : Config) (s : Words) (r : Rule k s) (id : ℕ) (hist : List Entry) 
         want = refl;
         listed_same = refl;
         reserved = r.whole.reserved;
+        covered = r.whole.covered;
         room = r.whole.room;
         unused = r.whole.unused;
         endings = refl;
@@ -297,6 +300,19 @@ module _ (k : Config) (s : Words) (r : Rule k s) (id : ℕ) (hist : List Entry) 
     behind : (i : ℕ) → cursor words1 ≤ i → c < i
     behind i b = let m : ℕ = cursor words1 in let e : m ≡ c + 1 = cursor_is in let f : m ≤ i = b in let o : c < i = omega arith in o
 
+    -- a pool that was listed, and not at the cursor, still is, behind the cursor or in the reserve
+    abbrev IsListed : List ℕ → ℕ → Type 0
+    IsListed words q = (i : ℕ) × (i < listed words) × (listed_pool words i ≡ q) × ((cursor words ≤ i) ⊎ (limit_of k (listed words) ≤ i))
+
+    still_listed : (q : ℕ) → (at : IsListed s.words q) → (at.0 ≡ c → (c + 1 ≤ at.0) ⊎ (limit_of k (listed s.words) ≤ at.0)) → IsListed words1 q
+    still_listed q at here =
+        let i : ℕ = at.0 in
+        let low : i < listed words1 = subst (λ (m : ℕ). i < m) (sym agrees.count) at.1 in
+        let place : (c + 1 ≤ i) ⊎ (limit_of k (listed s.words) ≤ i) = ⊎_elim
+        (λ (h : c ≤ i). dite (ℕ_discrete i c) here (λ other. inl (let l : c ≤ i = h in let n : i ≢ c = other in let o : c + 1 ≤ i = omega arith in o)))
+        (λ (h : limit_of k (listed s.words) ≤ i). inr h) at.3 in
+        (i, low, names i low ∙ at.2, subst (λ (m : ℕ × ℕ). (m.0 ≤ i) ⊎ (limit_of k m.1 ≤ i)) (λ j. (sym cursor_is j, sym agrees.count j)) place)
+
     -- it found none
     pub late_rule : x.seen.stage ≡ In Run → (n : ℕ) → x.seen.hunt ≡ Asks n → limit_of k n ≤ c → Rule k record { words = words1; homes = s.homes; views = set s.views id (one k hist (found_free x (n - limit_of k n) Rests)) }
     late_rule runs n is past = holds_again k s r id hist x at x.own.looked Rests (Some (n - limit_of k n)) words1 (record t { asking = asking' }) record {
@@ -307,6 +323,7 @@ module _ (k : Config) (s : Words) (r : Rule k s) (id : ℕ) (hist : List Entry) 
       want = other_word 0 (λ e. omega arith);
       listed_same = agrees.count;
       reserved = λ keeps i h above. ap t.holder (names i h) ∙ r.whole.reserved keeps i (lower i h) (subst (λ (m : ℕ). limit_of k m ≤ i) agrees.count above);
+      covered = λ goes q inside free. let at = r.whole.covered goes q inside free in still_listed q at (λ here. inr (late_place at.0 here));
       room = run_room runs words1;
       unused = r.whole.unused;
       endings = other_word 8 (λ e. omega arith);
@@ -340,6 +357,11 @@ module _ (k : Config) (s : Words) (r : Rule k s) (id : ℕ) (hist : List Entry) 
       };
       hunters = λ z other g. hunter_agree k t (record t { asking = asking' }) s.words words1 agrees z cursor_grows (same_asking t asking' z.own.number (beside z.own.number other)) g.hunter;
     } where
+      late_place : (i : ℕ) → i ≡ c → limit_of k (listed s.words) ≤ i
+      late_place i here =
+          let asked : (listed s.words ≡ n) × (t.asking me ≡ 1) = subst (Hunts k t s.words me) is hunter.hunt in
+          subst (λ (m : ℕ). limit_of k m ≤ i) (sym asked.0) (let l : ℕ = limit_of k n in let p : l ≤ c = past in let e : i ≡ c = here in let o : l ≤ i = omega arith in o)
+
       late_free : (f : ℕ) → n - limit_of k n ≡ f → (listed words1 ≤ f + cursor words1) × (listed words1 ≤ f + limit_of k (listed words1)) × (f ≤ listed words1)
       late_free f e =
           let asked : (listed s.words ≡ n) × (t.asking me ≡ 1) = subst (Hunts k t s.words me) is hunter.hunt in
@@ -400,6 +422,13 @@ module _ (k : Config) (s : Words) (r : Rule k s) (id : ℕ) (hist : List Entry) 
 
       nothing_drawn : (q : ℕ) → t.holder q ≡ drawn me → ⊥
       nothing_drawn q e = some_none q (sym free ∙ hunter.drawn_alone q e)
+
+      -- a pool that is nobody's isn't this one, and was nobody's before
+      is_drawn : (q : ℕ) → t1.holder q ≡ nobody → q ≢ pool
+      is_drawn q none same = absurd (let clash : drawn me ≡ nobody = sym (over_here pool (drawn me) t.holder) ∙ (ap t1.holder (sym same) ∙ none) in cc)
+
+      nobody_was : (q : ℕ) → t1.holder q ≡ nobody → t.holder q ≡ nobody
+      nobody_was q none = sym (else1 q (is_drawn q none)) ∙ none
 
       owned_before : (q b : ℕ) → t1.holder q ≡ owned me b → t.holder q ≡ owned me b
       owned_before q b e = dite (ℕ_discrete q pool) (λ same. absurd (drawn_owned me me b (sym (over_here pool (drawn me) t.holder) ∙ (ap t1.holder (sym same) ∙ e)))) (λ other. sym (else1 q other) ∙ e)
@@ -470,6 +499,8 @@ module _ (k : Config) (s : Words) (r : Rule k s) (id : ℕ) (hist : List Entry) 
             let low : c < l = unreserved keeps in
             let high : l ≤ i = subst (λ (m : ℕ). limit_of k m ≤ i) agrees.count above in
             elsewhere i h (λ e. omega arith) ∙ r.whole.reserved keeps i (lower i h) high;
+        covered = λ goes q inside none. let at = r.whole.covered goes q inside (nobody_was q none) in
+            still_listed q at (λ here. absurd (is_drawn q none (sym at.2 ∙ ap (listed_pool s.words) here)));
         room = room;
         unused = unused;
         endings = other_word 8 (λ e. omega arith);

@@ -1,5 +1,5 @@
 -- The pools whose owner words say nobody.
-use Rattle.std.proofs.Common.{◌≡◌, ◌≢◌, ℕ, zero, suc, ◌+◌, ◌<◌, ◌≤◌, ◌==◌, if◌then◌else◌, true, false, Bool, List, [], ◌∷◌, ◌++◌, length, slice_get, Some, refl, ap, eqb-true, ne_eqb, append-nil, ◌∙◌, subst, arith}
+use Rattle.std.proofs.Common.{◌≡◌, ◌≢◌, ℕ, zero, suc, ◌+◌, ◌<◌, ◌≤◌, ◌==◌, if◌then◌else◌, true, false, Bool, List, [], ◌∷◌, ◌++◌, length, slice_get, Some, refl, ap, eqb-true, eq-eqb, ne_eqb, append-nil, ◌∙◌, subst, arith}
 use Rattle.steps_pools.specs.Listings.{free_from}
 
 -- the pool q goes before those behind it, if it is free
@@ -54,6 +54,27 @@ pub free_there : (q i p : ℕ) (ws : List ℕ) → slice_get (free_from q ws) i 
 unfolding free_from
 free_there q i p [] e = cc
 free_there q i p (w ∷ ws) e = put_free (w == 0) q i p w ws refl (λ j got. later q p w ws (free_there (q + 1) j p ws got)) e
+
+put_later : (b : Bool) (q i p : ℕ) (rest : List ℕ) → slice_get rest i ≡ Some p → (j : ℕ) × (slice_get (put b q rest) j ≡ Some p)
+put_later true q i p rest got = (suc i, got)
+put_later false q i p rest got = (i, got)
+
+put_here : (b : Bool) (q : ℕ) (rest : List ℕ) → b ≡ true → slice_get (put b q rest) 0 ≡ Some q
+put_here true q rest is = refl
+put_here false q rest is = cc
+
+-- each pool that is free is one of them
+pub free_all : (q p : ℕ) (ws : List ℕ) → slice_get ws p ≡ Some 0 → (i : ℕ) × (slice_get (free_from q ws) i ≡ Some (q + p))
+unfolding free_from
+free_all q p [] e = cc
+free_all q zero (w ∷ ws) e =
+    let none : w ≡ 0 = cc in
+    let here : q ≡ q + 0 = omega arith in
+    (0, put_here (w == 0) q (free_from (q + 1) ws) (eq-eqb w 0 none) ∙ ap Some here)
+free_all q (suc p) (w ∷ ws) e =
+    let rest = free_all (q + 1) p ws e in
+    let there : q + 1 + p ≡ q + suc p = omega arith in
+    put_later (w == 0) q rest.0 (q + suc p) (free_from (q + 1) ws) (rest.1 ∙ ap Some there)
 
 put_once : (b : Bool) (q i j p : ℕ) (ws : List ℕ) → ((m : ℕ) → slice_get (free_from (q + 1) ws) m ≡ Some p → q < p) → ((m n : ℕ) → slice_get (free_from (q + 1) ws) m ≡ Some p → slice_get (free_from (q + 1) ws) n ≡ Some p → m ≡ n)
     → slice_get (put b q (free_from (q + 1) ws)) i ≡ Some p → slice_get (put b q (free_from (q + 1) ws)) j ≡ Some p → i ≡ j

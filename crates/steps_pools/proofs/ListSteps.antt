@@ -1,5 +1,5 @@
 -- The steps by which domain 0 writes the list of free pools anew keep the rule.
-use Rattle.std.proofs.Common.{◌≡◌, ◌≢◌, ℕ, ◌+◌, ◌*◌, ◌<◌, ◌≤◌, ◌⊎◌, Bool, true, false, List, [], ◌∷◌, ◌++◌, length, get_or, set, slice_get, Option, Some, None, sym, refl, ap, ◌∙◌, subst, inl, inr, ⊎_elim, arith, length-set, length-append, get_or-set_same, get_or-set_other}
+use Rattle.std.proofs.Common.{◌≡◌, ◌≢◌, ℕ, ◌+◌, ◌*◌, ◌<◌, ◌≤◌, ◌⊎◌, Bool, true, false, true≢false, List, [], ◌∷◌, ◌++◌, length, get_or, set, slice_get, Option, Some, None, sym, refl, ap, ◌∙◌, subst, inl, inr, ⊎_elim, arith, length-set, length-append, get_or-set_same, get_or-set_other}
 use Rattle.std.proofs.lemmas.Option.{slice_get-get_or}
 use mathlib.Core.Logic.{dite}
 use native.Mathlib.Decide.{dec_le}
@@ -9,7 +9,7 @@ use Rattle.atomic_table.specs.Table.{Me, keeps}
 use Rattle.heap_model.specs.declared.entry.Entry.{Entry}
 use Rattle.heap_rule.specs.declared.config.Config.{Config}
 use Rattle.heap_rule.specs.declared.phase.Kind.{Kind}
-use Rattle.heap_rule.specs.declared.phase.Kind.TheVariants.{Run, Promote, Reset}
+use Rattle.heap_rule.specs.declared.phase.Kind.TheVariants.{Run}
 use Rattle.heap_rule.specs.declared.phase.Note.{Note}
 use Rattle.heap_rule.specs.declared.phase.Note.TheVariants.{Cleared, SetBack}
 use Rattle.heap_rule.specs.declared.phase.Stage.TheVariants.{Leads}
@@ -21,8 +21,8 @@ use Rattle.heap_rule.specs.Layout.{heap_words, before_heap, table_words, listed,
 use Rattle.heap_rule.specs.Places.{Place}
 use Rattle.heap_rule.specs.Copies.{Promoting}
 use Rattle.heap_rule.specs.Room.{Drawable}
-use Rattle.heap_rule.specs.Phases.{Pause, Follows, AtStage, Staged, IsOdd, sum_of, last_note, HasSetBack}
-use Rattle.heap_rule.specs.Pools.{Holder, nobody, drawn, owned, owner_word, Tenancy, Takes, Pools, Reserved, KeepsReserve, IsLeading, Lists, Hunts, Hunter, Latest, DrawsFor, drawn_in, limit_of, place_in}
+use Rattle.heap_rule.specs.Phases.{Pause, AtStage, Staged, IsOdd, sum_of, last_note, HasSetBack}
+use Rattle.heap_rule.specs.Pools.{Holder, nobody, drawn, owned, owner_word, Tenancy, Takes, Pools, Reserved, RunsNext, KeepsReserve, IsLeading, Lists, Hunts, Hunter, Latest, DrawsFor, drawn_in, limit_of, place_in}
 use Rattle.heap_rule.specs.Raw.{MayStep, MayStore}
 use Rattle.heap_rule.specs.Rule.{state_of, Good, Rule}
 use Rattle.heap_rule.specs.Views.{one}
@@ -84,7 +84,24 @@ module _ (k : Config) (s : Words) (r : Rule k s) (id : ℕ) (hist : List Entry) 
   pub kind_here : (j : ℕ) → pause.phase ≡ j * 2 + 1 → pause.kinds j ≡ last
   kind_here j is = let i : ℕ = half.0 in let e : pause.phase ≡ i * 2 + 1 = half.1 in let same : j ≡ i = omega arith in ap pause.kinds same ∙ half.2
 
-  -- so no domain takes blocks
+  -- nobody has named the next kind
+  pub unled : pause.led ≡ false
+  unled = (subst (AtStage pause x.own.number x.own.arrivals) stage good.staged.stage).2 first
+
+  pub not_led : pause.led ≡ true → ⊥
+  not_led led = true≢false (sym led ∙ unled)
+
+  -- so no domain runs next
+  not_next : RunsNext pause → ⊥
+  not_next runs = ⊎_elim
+      (λ (h : (j : ℕ) × (pause.phase ≡ j * 2) × (pause.kinds j ≡ Run)). not_both pause.phase (h.0, h.1) odd)
+      (λ (h : (j : ℕ) × (pause.phase ≡ j * 2 + 1) × (pause.led ≡ true) × (pause.kinds (j + 1) ≡ Run)). not_led h.2) runs
+
+  -- nothing is said of the cursor yet
+  undrawable : (words' : List ℕ) → Drawable k pause words'
+  undrawable words' = record { to_run = λ _ _ led _. absurd (not_led led); to_copy = λ _ _ led _. absurd (not_led led) }
+
+  -- and no domain takes blocks
   nobody_takes : (z : DomainView) → Staged pause z → Takes z.seen.stage → ⊥
   nobody_takes z staged takes = not_both pause.phase (takes_even pause z takes staged) odd
 
@@ -103,7 +120,6 @@ module _ (k : Config) (s : Words) (r : Rule k s) (id : ℕ) (hist : List Entry) 
     pub lists : (l : Listing) → listing ≡ Some l → Lists k words' x.own.number x.seen.stage l
     pub listed_young : (a : ℕ) (q : Place) → r.account.live a ≡ Some q → k.pools * 4096 < a → listed words' ≡ listed s.words
     pub reserved : Reserved k pause t words'
-    pub drawable : Drawable k pause words'
     pub took_back : last_note notes ≡ Some Cleared → last_note x.seen.notes ≡ Some Cleared
     pub set_back : x.seen.stage ≡ Leads Run → last_note notes ≡ Some SetBack → cursor words' ≤ limit_of k (listed words')
     pub others_set_back : (z : DomainView) → Staged pause z → HasSetBack z → cursor s.words ≤ limit_of k (listed s.words) → cursor words' ≤ limit_of k (listed words')
@@ -135,12 +151,13 @@ module _ (k : Config) (s : Words) (r : Rule k s) (id : ℕ) (hist : List Entry) 
         endings = o.control 8 (inr (omega arith, omega arith)) ∙ r.whole.endings;
         pools = o.pools;
         reserved = o.reserved;
+        covered = λ runs. absurd (not_next runs);
         grid = grid_heap k t r.account.live s.words words' heap r.whole.grid;
         drawers = r.whole.drawers;
         room = room_words k r.account.live pause t.stock s.words words' (λ p. absurd (not_promoting p)) r.whole.room;
         unused = r.whole.unused;
         opened = opened_words k r.account.live s.words words' o.listed_young r.whole.opened;
-        drawable = o.drawable;
+        drawable = undrawable words';
         cycle = cycle_words k (state_of k r.account.log) r.account.live pause t r.account.cycling s.words words' same o.every r.whole.cycle;
       }
       (knows_front k s r id hist x at y refl (mine k s r id hist x at).front)
@@ -222,7 +239,7 @@ module _ (k : Config) (s : Words) (r : Rule k s) where
           asked = let c : ℕ = cursor ws in let d : ℕ = cursor s.words in let u : ℕ = sum_of r.account.tenancy.asking k.domains in let b : d + u ≤ k.pools + k.domains = pools.asked in let l : c ≤ d = low in let o : c + u ≤ k.pools + k.domains = omega arith in o;
         }
 
--- after Reset, domain 0 may write the list
+-- while nothing lives in minor areas, domain 0 may write the list
 module _ (k : Config) (s : Words) (r : Rule k s) (id : ℕ) (hist : List Entry) (x : DomainView) (at : get_elem? s.views id ≡ some (one k hist x)) (leader : IsLeader x) where
   abbrev T : Tenancy
   T = r.account.tenancy
@@ -230,40 +247,30 @@ module _ (k : Config) (s : Words) (r : Rule k s) (id : ℕ) (hist : List Entry) 
   good_leader : Good k r.account s.words x
   good_leader = my_good k s r id hist x at
 
-  kind_is : (j : ℕ) → r.account.pause.phase ≡ j * 2 + 1 → r.account.pause.kinds j ≡ Reset
-  kind_is j odd = kind_here k s r id hist x at Reset leader.first leader.stage j odd
+  -- the phase before is one in which nothing lives there
+  before : (j : ℕ) × (r.account.pause.phase ≡ j * 2 + 1) × (r.account.pause.kinds j ≡ leader.last)
+  before = half k s r id hist x at leader.last leader.first leader.stage
 
-  reset_run : ◌≡◌ {A = Kind} Reset Run → ⊥
-  reset_run e = cc
+  not_run : (j : ℕ) → r.account.pause.phase ≡ j * 2 + 1 → r.account.pause.kinds j ≢ Run
+  not_run j odd runs = leader.empty.0 (sym (kind_here k s r id hist x at leader.last leader.first leader.stage j odd) ∙ runs)
 
-  -- nothing lives in minor areas
   nothing_young : (a : ℕ) (q : Place) → r.account.live a ≡ Some q → k.pools * 4096 < a → ⊥
-  nothing_young a q lives young = let o : a ≤ k.pools * 4096 = r.whole.emptied (inl (let h = half k s r id hist x at Reset leader.first leader.stage in (h.0, h.1, λ e. reset_run (sym h.2 ∙ e)))) a q lives in omega arith
-
-  run_promote : ◌≡◌ {A = Kind} Run Promote → ⊥
-  run_promote e = cc
+  nothing_young a q lives young = let o : a ≤ k.pools * 4096 = r.whole.emptied (inl (before.0, before.1, not_run before.0 before.1)) a q lives in omega arith
 
   -- no pools are kept
   nothing_kept : KeepsReserve r.account.pause → ⊥
   nothing_kept kept = ⊎_elim
-      (λ (h : r.account.pause.phase ≡ kept.0 * 2). not_both r.account.pause.phase (kept.0, h) (odd k s r id hist x at Reset leader.first leader.stage))
-      (λ (h : r.account.pause.phase ≡ kept.0 * 2 + 1). reset_run (sym (kind_is kept.0 h) ∙ kept.2)) kept.1
+      (λ (h : r.account.pause.phase ≡ kept.0 * 2). not_both r.account.pause.phase (kept.0, h) (before.0, before.1))
+      (λ (h : r.account.pause.phase ≡ kept.0 * 2 + 1). not_run kept.0 h kept.2) kept.1
 
   -- nobody has set the cursor back
   nobody_set_back : (z : DomainView) → Staged r.account.pause z → HasSetBack z → ⊥
-  nobody_set_back z staged h = let a = (subst (AtStage r.account.pause z.own.number z.own.arrivals) h.0 staged.stage).1 in reset_run (sym (kind_is a.0 a.1) ∙ a.2)
-
-  -- domains run next
-  drawable_reset : (words' : List ℕ) → (cursor s.words ≡ 0 → cursor words' ≡ 0) → Drawable k r.account.pause words'
-  drawable_reset words' low = record {
-    to_run = λ j odd led runs. low (r.whole.drawable.to_run j odd led runs);
-    to_copy = λ j odd led copies. absurd (run_promote (sym (subst (λ (kind : Kind). Follows kind (r.account.pause.kinds (j + 1))) (kind_is j odd) (r.whole.phases.next_plan j odd led).1) ∙ copies));
-  }
+  nobody_set_back z staged h = let a = (subst (AtStage r.account.pause z.own.number z.own.arrivals) h.0 staged.stage).1 in not_run a.0 a.1 a.2
 
   -- a store of one of these words, or a load
-  relists_reset : (listing : Option Listing) (words' : List ℕ) → length words' ≡ length s.words → ((a : ℕ) → at_address k words' a ≡ at_address k s.words a) → ((i : ℕ) → (i < 6) ⊎ ((8 ≤ i) × (i ≤ 10)) → get_or words' i 0 ≡ get_or s.words i 0) → Pools k T words' → ((l : Listing) → listing ≡ Some l → Lists k words' x.own.number x.seen.stage l) → (cursor s.words ≡ 0 → cursor words' ≡ 0)
+  relists_empty : (listing : Option Listing) (words' : List ℕ) → length words' ≡ length s.words → ((a : ℕ) → at_address k words' a ≡ at_address k s.words a) → ((i : ℕ) → (i < 6) ⊎ ((8 ≤ i) × (i ≤ 10)) → get_or words' i 0 ≡ get_or s.words i 0) → Pools k T words' → ((l : Listing) → listing ≡ Some l → Lists k words' x.own.number x.seen.stage l)
       → Rule k record { words = words'; homes = s.homes; views = set s.views id (one k hist (with_listing x listing)) }
-  relists_reset listing words' wide every control pools lists low = relists k s r id hist x at Reset leader.first leader.stage listing x.seen.notes words' record {
+  relists_empty listing words' wide every control pools lists = relists k s r id hist x at leader.last leader.first leader.stage listing x.seen.notes words' record {
     wide = wide;
     every = every;
     control = control;
@@ -271,7 +278,6 @@ module _ (k : Config) (s : Words) (r : Rule k s) (id : ℕ) (hist : List Entry) 
     lists = lists;
     listed_young = λ a q lives young. absurd (nothing_young a q lives young);
     reserved = λ keeps. absurd (nothing_kept keeps);
-    drawable = drawable_reset words' low;
     took_back = λ e. e;
     set_back = λ leads noted. absurd (nobody_set_back x good_leader.staged (leads, noted));
     others_set_back = λ z staged h. absurd (nobody_set_back z staged h);
@@ -281,8 +287,8 @@ module _ (k : Config) (s : Words) (r : Rule k s) (id : ℕ) (hist : List Entry) 
     abbrev pub ws0 : List ℕ
     ws0 = set s.words j new
 
-    pub stores : (listing : Option Listing) → Pools k T ws0 → ((l : Listing) → listing ≡ Some l → Lists k ws0 x.own.number x.seen.stage l) → (cursor s.words ≡ 0 → cursor ws0 ≡ 0) → Rule k record { words = ws0; homes = s.homes; views = set s.views id (one k hist (with_listing x listing)) }
-    stores listing pools lists low = relists_reset listing ws0 (length-set s.words j new) (every k s r j new of_list) (control k s r j new of_list) pools lists low
+    pub stores : (listing : Option Listing) → Pools k T ws0 → ((l : Listing) → listing ≡ Some l → Lists k ws0 x.own.number x.seen.stage l) → Rule k record { words = ws0; homes = s.homes; views = set s.views id (one k hist (with_listing x listing)) }
+    stores listing pools lists = relists_empty listing ws0 (length-set s.words j new) (every k s r j new of_list) (control k s r j new of_list) pools lists
 
   leads_now : IsLeading x.seen.stage
   leads_now = subst IsLeading (sym leader.stage) tt
@@ -302,7 +308,7 @@ module _ (k : Config) (s : Words) (r : Rule k s) (id : ℕ) (hist : List Entry) 
         names = λ i q got. cc;
         count = none;
         rewinds = λ b. cc;
-      }) (λ e. same ∙ e)
+      })
 
   module _ (l : Listing) (listing : x.seen.listing ≡ Some l) where
     known : Lists k s.words x.own.number x.seen.stage l
@@ -310,7 +316,7 @@ module _ (k : Config) (s : Words) (r : Rule k s) (id : ℕ) (hist : List Entry) 
 
     -- one owner word more is found
     pub finds_rule : length l.owners < k.pools → Rule k record { words = s.words; homes = s.homes; views = set s.views id (one k hist (with_listing x (Some (found_owner (owner_of k s.words (length l.owners)) l)))) }
-    finds_rule inside = let word : ℕ = owner_of k s.words (length l.owners) in let after : Listing = found_owner word l in relists_reset (Some after) s.words refl (λ a. refl) (λ i low. refl) r.whole.pools (λ m e. subst (Lists k s.words x.own.number x.seen.stage) (some_list after m e) record {
+    finds_rule inside = let word : ℕ = owner_of k s.words (length l.owners) in let after : Listing = found_owner word l in relists_empty (Some after) s.words refl (λ a. refl) (λ i low. refl) r.whole.pools (λ m e. subst (Lists k s.words x.own.number x.seen.stage) (some_list after m e) record {
       first = known.first;
       leads = known.leads;
       few = (subst (λ (n : ℕ). n ≤ k.pools) (sym (length-append l.owners (word ∷ []))) (let n : ℕ = length l.owners in let i : n < k.pools = inside in let o : n + 1 ≤ k.pools = omega arith in o), known.few.1);
@@ -318,7 +324,7 @@ module _ (k : Config) (s : Words) (r : Rule k s) (id : ℕ) (hist : List Entry) 
       names = known.names;
       count = known.count;
       rewinds = known.rewinds;
-    }) (λ e. e)
+    })
 
     module _ (empty : l.listed ≡ 0) where
       none : listed s.words ≡ 0
@@ -343,7 +349,7 @@ module _ (k : Config) (s : Words) (r : Rule k s) (id : ℕ) (hist : List Entry) 
                 (λ (g : (i ≡ length l.names) × (new ≡ q)). ap (λ (c : ℕ). get_or w1 (11 + c) 0) g.0 ∙ (here k s r j new of_list ∙ g.1)) (got_end l.names new q i got);
             count = count ∙ known.count;
             rewinds = λ b. asked ∙ known.rewinds b;
-          }) (λ e. asked ∙ e)
+          })
 
       -- the cursor is set back
       pub back_rule : Rule k record { words = set s.words 7 0; homes = s.homes; views = set s.views id (one k hist (with_listing x (Some (set_back l)))) }
@@ -361,7 +367,7 @@ module _ (k : Config) (s : Words) (r : Rule k s) (id : ℕ) (hist : List Entry) 
             names = λ i q got. elsewhere k s r 7 0 of_list (11 + i) (λ e. omega arith) ∙ known.names i q got;
             count = count ∙ known.count;
             rewinds = λ b. zero_is;
-          }) (λ e. zero_is)
+          })
 
       -- the pools that the list names are nobody's, and they are listed
       module _ (all : length l.owners ≡ k.pools) (free : l.names ≡ free_pools l.owners) where
@@ -401,7 +407,7 @@ module _ (k : Config) (s : Words) (r : Rule k s) (id : ℕ) (hist : List Entry) 
         nobodys i h =
             let q : ℕ = listed_pool w2 i in
             let word : owner_of k s.words q ≡ 0 = known.owners q 0 ((its i h).word q (omega arith)) in
-            no_owner (T.holder q) (sym (r.whole.pools.owners q (names_inside i h)) ∙ word) (λ d e. let w = (r.whole.drawers.drawn q d e).1 in not_both r.account.pause.phase (w.0, w.1) (odd k s r id hist x at Reset leader.first leader.stage))
+            no_owner (T.holder q) (sym (r.whole.pools.owners q (names_inside i h)) ∙ word) (λ d e. let w = (r.whole.drawers.drawn q d e).1 in not_both r.account.pause.phase (w.0, w.1) (before.0, before.1))
 
         pub closes_rule : Rule k record { words = w2; homes = s.homes; views = set s.views id (one k hist (with_listing x (Some (listed_as n l)))) }
         closes_rule =
@@ -424,7 +430,7 @@ module _ (k : Config) (s : Words) (r : Rule k s) (id : ℕ) (hist : List Entry) 
               names = λ i q got. elsewhere k s r 6 n of_list (11 + i) (λ e. omega arith) ∙ known.names i q got;
               count = count;
               rewinds = λ b. asked_same ∙ known.rewinds b;
-            }) (λ e. asked_same ∙ e)
+            })
 
 -- in the first phase of a pause, domain 0 may set the cursor back
 module _ (k : Config) (s : Words) (r : Rule k s) (id : ℕ) (hist : List Entry) (x : DomainView) (at : get_elem? s.views id ≡ some (one k hist x)) (opener : IsOpener x) where
@@ -459,7 +465,6 @@ module _ (k : Config) (s : Words) (r : Rule k s) (id : ℕ) (hist : List Entry) 
     };
     listed_young = λ _ _ _ _. refl;
     reserved = r.whole.reserved;
-    drawable = r.whole.drawable;
     took_back = λ e. e;
     set_back = λ leads noted. good_opener.set_back (leads, noted);
     others_set_back = λ _ _ _ low. low;
@@ -479,7 +484,6 @@ module _ (k : Config) (s : Words) (r : Rule k s) (id : ℕ) (hist : List Entry) 
       lists = good_opener.resting.lists;
       listed_young = λ _ _ _ _. refl;
       reserved = r.whole.reserved;
-      drawable = r.whole.drawable;
       took_back = λ e. absurd (wishes_kept x.seen.notes e);
       set_back = λ _ _. subst (λ (n : ℕ). cursor s.words ≤ limit_of k n) (sym counted.count) low;
       others_set_back = λ _ _ _ low. low;
@@ -510,9 +514,6 @@ module _ (k : Config) (s : Words) (r : Rule k s) (id : ℕ) (hist : List Entry) 
 
       low_now : cursor ws7 ≤ limit_of k (listed ws7)
       low_now = subst (λ (m : ℕ × ℕ). m.0 ≤ limit_of k m.1) (λ i. (sym cursor_is i, sym (listed_same ∙ counted.count) i)) (let n : ℕ = limit in let o : n ≤ n = omega arith in o)
-
-      run_promote_next : ◌≡◌ {A = Kind} Run Promote → ⊥
-      run_promote_next e = cc
 
       pub cuts_rule : Rule k record { words = ws7; homes = s.homes; views = set s.views id (one k hist (noted_set_back x)) }
       cuts_rule =
@@ -547,10 +548,6 @@ module _ (k : Config) (s : Words) (r : Rule k s) (id : ℕ) (hist : List Entry) 
             };
             listed_young = λ _ _ _ _. listed_same;
             reserved = λ still i h above. ap T0.holder (list_same i) ∙ r.whole.reserved still i (lower i h) (subst (λ (n : ℕ). limit_of k n ≤ i) listed_same above);
-            drawable = record {
-              to_run = λ j odd led runs. absurd (run_promote_next (sym runs ∙ subst (λ (kind : Kind). Follows kind (r.account.pause.kinds (j + 1))) (kind_here k s r id hist x at Run opener.first opener.stage j odd) (r.whole.phases.next_plan j odd led).1));
-              to_copy = λ _ _ _ _. low_now;
-            };
             took_back = λ e. absurd (wishes_kept x.seen.notes e);
             set_back = λ _ _. low_now;
             others_set_back = λ _ _ _ _. low_now;

@@ -20,7 +20,7 @@ use Rattle.heap_rule.specs.Phases.{sum_of}
 use Rattle.steps_pools.specs.Takes.{with_hunt, looked_to, NoneFree}
 use Rattle.heap_rule.proofs.Update.{over, over_here, over_else}
 use Rattle.heap_rule.proofs.Lists.{got_end, got_below}
-use Rattle.heap_rule.proofs.Keeps.{Words, mine, more_same, phases_words, phases_same, cycle_control, control_set, controls_kept, pools_same, room_words, holds_again}
+use Rattle.heap_rule.proofs.Keeps.{Words, mine, more_same, phases_words, phases_same, cycle_control, control_set, controls_kept, pools_same, covered_words, room_words, holds_again}
 use Rattle.heap_rule.proofs.Classes.{size_least, some_block, slot_below, slot_inside}
 use Rattle.heap_rule.proofs.Beside.{found_beside, making_beside}
 use Rattle.heap_rule.proofs.Lots.{Beside, pool_beside, hunter_beside, drawn_same, owned_same, stays, head_full}
@@ -213,6 +213,7 @@ module _ (k : Config) (s : Words) (r : Rule k s) (id : ℕ) (hist : List Entry) 
         known_free = known_free k s r id hist x at takes;
         listed_same = control_set k s.words A 0 (omega arith) 6 (omega arith);
         reserved = controls.reserved;
+        covered = controls.covered;
         room = room_words k r.account.live r.account.pause T.stock s.words ws controls.counts r.whole.room;
         unused = r.whole.unused;
         wide = length-set s.words (before_heap k + A) 0;
@@ -328,12 +329,19 @@ module _ (k : Config) (s : Words) (r : Rule k s) (id : ℕ) (hist : List Entry) 
     no_nobody : ◌≡◌ {A = Holder} (drawn d) nobody → ⊥
     no_nobody e = cc
 
+    owned_not_nobody : ◌≡◌ {A = Holder} (owned d class) nobody → ⊥
+    owned_not_nobody e = cc
+
     owned_not_drawn : (b c e : ℕ) → ◌≡◌ {A = Holder} (owned b c) (drawn e) → ⊥
     owned_not_drawn b c e h = cc
 
     -- a listed pool that is nobody's isn't this one
     nobody_still : (i : ℕ) → i < listed words2 → T.holder (listed_pool s.words i) ≡ nobody → t2.holder (listed_pool words2 i) ≡ nobody
     nobody_still i h u = ap t2.holder (names2 i h) ∙ (else2 (listed_pool s.words i) (λ e. no_nobody (sym all_clear.drawn_is ∙ (ap T.holder (sym e) ∙ u))) ∙ u)
+
+    -- and a pool that is nobody's was so before
+    nobody_was : (q : ℕ) → t2.holder q ≡ nobody → T.holder q ≡ nobody
+    nobody_was q free = sym (else2 q (λ same. owned_not_nobody (sym here2 ∙ (ap t2.holder (sym same) ∙ free)))) ∙ free
 
     owned_still : (q c : ℕ) → T.holder q ≡ owned d c → t2.holder q ≡ owned d c
     owned_still q c e = else2 q (λ same. drawn_owned d d c (sym all_clear.drawn_is ∙ (ap T.holder (sym same) ∙ e))) ∙ e
@@ -435,6 +443,7 @@ module _ (k : Config) (s : Words) (r : Rule k s) (id : ℕ) (hist : List Entry) 
       known_free = known_free k s r id hist x at takes;
       listed_same = agrees.count;
       reserved = λ keeps i h above. nobody_still i h (r.whole.reserved keeps i (lower2 i h) (subst (λ (m : ℕ). limit_of k m ≤ i) agrees.count above));
+      covered = λ goes q inside free. covered_words k r.account.pause T s.words words2 agrees.count cursor2 agrees.list P.few r.whole.covered goes q inside (nobody_was q free);
       room = room2;
       unused = unused2;
       wide = length-set s.words spot_owner signed;
@@ -601,6 +610,7 @@ module _ (k : Config) (s : Words) (r : Rule k s) (id : ℕ) (hist : List Entry) 
         known_free = known_free k s r id hist x at takes;
         listed_same = control_set k s.words B new (omega arith) 6 (omega arith);
         reserved = controls.reserved;
+        covered = controls.covered;
         room = room_words k r.account.live r.account.pause T.stock s.words ws3 controls.counts r.whole.room;
         unused = r.whole.unused;
         wide = length-set s.words (before_heap k + B) new;

@@ -1,11 +1,13 @@
 -- Steps by which domain 0 writes the list of free pools anew, in an odd phase.
 use Rattle.std.specs.Prelude.{◌≡◌, ℕ, ◌+◌, ◌<◌, ◌≤◌, ◌==◌, if◌then◌else◌, true, false, List, [], ◌∷◌, ◌++◌, length, Option, Some, None}
 use Rattle.heap_rule.specs.declared.config.Config.{Config}
-use Rattle.heap_rule.specs.declared.phase.Kind.TheVariants.{Run, Reset}
+use Rattle.heap_rule.specs.declared.phase.Kind.{Kind}
+use Rattle.heap_rule.specs.declared.phase.Kind.TheVariants.{Run}
 use Rattle.heap_rule.specs.declared.phase.Note.TheVariants.{SetBack}
 use Rattle.heap_rule.specs.declared.phase.Stage.TheVariants.{Leads}
 use Rattle.heap_rule.specs.declared.view.DomainView.{DomainView}
 use Rattle.heap_rule.specs.declared.view.Listing.{Listing}
+use Rattle.heap_rule.specs.Copies.{IsEmptying}
 use Rattle.heap_rule.specs.Pools.{limit_of}
 
 -- the pools, numbered from q on, whose owner words say nobody, rising
@@ -41,10 +43,12 @@ set_back l = record l { rewound = true }
 abbrev pub listed_as : ℕ → Listing → Listing
 listed_as count l = record l { listed = count }
 
--- domain 0 acts in the odd phase after Reset, and hasn't named the next kind
+-- domain 0 acts in an odd phase in which nothing lives in minor areas, and hasn't named the next kind
 pub record IsLeader (x : DomainView) : Type 0 where
   pub first : x.own.number ≡ 0
-  pub stage : x.seen.stage ≡ Leads Reset
+  pub last : Kind
+  pub stage : x.seen.stage ≡ Leads last
+  pub empty : IsEmptying last
 
 -- no pool is listed, no owner word is found and no place of the list is written so far
 abbrev pub no_listing : Listing
@@ -130,3 +134,7 @@ pub record HasList (k : Config) (x : DomainView) : Type 0 where
   pub owners : List ℕ
   pub all : length owners ≡ k.pools
   pub listing : x.seen.listing ≡ Some (record { owners = owners; names = free_pools owners; rewound = true; listed = length (free_pools owners) })
+
+-- the list names so many pools
+abbrev pub IsListedCount : Config → DomainView → ℕ → Type 0
+IsListedCount k x count = (list : HasList k x) → count ≡ length (free_pools list.owners)

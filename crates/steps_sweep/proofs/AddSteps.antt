@@ -162,7 +162,7 @@ module _ (k : Config) (s : Words) (r : Rule k s) (id : ℕ) (hist : List Entry) 
         };
         knows = inr (
           collecting,
-          record { glimpse = n.glimpse; scan = n.scan; walked = n.walked; tenure = n.tenure; rooted = n.rooted; marked = n.marked; tally = record { once = t.once; own = t.own; lives = t.lives; all = t.all; words = t.words }; held = n.held },
+          record { glimpse = n.glimpse; scan = n.scan; walked = n.walked; tenure = n.tenure; rooted = n.rooted; marked = n.marked; tally = record { once = t.once; own = t.own; lives = t.lives; all = t.all; words = t.words }; held = n.held; vacant = n.vacant },
         );
         adds = record { blocks = λ _ _. o.mine_blocks; words = λ _ _. o.mine_words; own = λ _ _. o.mine_own };
       };

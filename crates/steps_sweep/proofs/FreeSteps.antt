@@ -269,6 +269,9 @@ module _ (k : Config) (s : Words) (r : Rule k s) (id : ℕ) (hist : List Entry) 
   heads : (b : ℕ) (p : Place) → r.account.live b ≡ Some p → (at_address k words' b ≡ at_address k s.words b) ⊎ IsTrue (c.paint.marks.marked p.label)
   heads b p lives = inl (stays b (λ same. place_clash p (sym dead ∙ (ap r.account.live (sym same) ∙ lives))))
 
+  still_free : (b : ℕ) → at_address k s.words b ≡ 0 → at_address k words' b ≡ 0
+  still_free b free = dite (ℕ_discrete b a) (λ same. ap (at_address k words') same ∙ here_is) (λ other. stays b other ∙ free)
+
   abbrev share' : Share
   share' = record (passed a pool class slot x.seen.share) { glimpse = None }
 
@@ -295,6 +298,7 @@ module _ (k : Config) (s : Words) (r : Rule k s) (id : ℕ) (hist : List Entry) 
             rooted = kn.rooted;
             marked = kn.marked;
             held = kn.held;
+            vacant = λ cl i is inside low. still_free (place_in x.seen.share.held cl i) (kn.vacant cl i is inside low);
             tally = record { once = n.once; own = n.own; lives = n.lives; all = n.all; words = n.words };
           },
         );
@@ -307,7 +311,7 @@ module _ (k : Config) (s : Words) (r : Rule k s) (id : ℕ) (hist : List Entry) 
     leading = leading' z z.seen.share h.staged g.leading;
     knows = ⊎_elim
         (λ (q : IsIdle z.seen.share). inl q)
-        (λ (n : IsCollecting z.seen.stage × Knowing k r.account.live t.holder now.graph c.paint.marks s.words z.own.number z.own.registers z.seen.share). inr (n.0, knowing_on k s r id hist x at c.paint.marks words' heads (λ l is. is) z.own.number z.own.registers z.seen.share n.1))
+        (λ (n : IsCollecting z.seen.stage × Knowing k r.account.live t.holder now.graph c.paint.marks s.words z.own.number z.own.registers z.seen.share). inr (n.0, knowing_on k s r id hist x at c.paint.marks words' heads still_free (λ l is. is) z.own.number z.own.registers z.seen.share n.1))
         g.knows;
     adds = record { blocks = g.adds.blocks; words = g.adds.words; own = g.adds.own };
   }

@@ -25,7 +25,7 @@ use Rattle.heap_rule.specs.Rule.{Account, AllFound, Good, Making, Rule, Sharing,
 use Rattle.heap_rule.specs.Views.{one}
 use Rattle.heap_rule.proofs.Again.{Back, area_back, opened_back, placed_back, spread_back}
 use Rattle.heap_rule.proofs.FullnessLemmas.{full_back}
-use Rattle.heap_rule.proofs.Keeps.{Words, copies_settled, knows_front, lists_same, mine, my_good, no_copied, no_debt, no_owing, nothing_known, opened_words, phases_words, pools_words, quiet_in, remakes, resting_as, resting_lists, room_unused}
+use Rattle.heap_rule.proofs.Keeps.{Words, copies_settled, covered_words, knows_front, lists_same, mine, my_good, no_copied, no_debt, no_owing, nothing_known, opened_words, phases_words, pools_words, quiet_in, remakes, resting_as, resting_lists, room_unused}
 
 -- the domain with other places looked at, and with other knowledge of the phase
 abbrev pub reaped : DomainView → List Spot → Share → DomainView
@@ -150,6 +150,7 @@ module _ (k : Config) (s : Words) (r : Rule k s) (id : ℕ) (hist : List Entry) 
           endings = kept 8 (omega arith) (λ e. omega arith) ∙ r.whole.endings;
           pools = pools';
           reserved = reserved';
+          covered = covered_words k r.account.pause t s.words words' counts.0 counts.1 (λ i h. list_kept (11 + i) (omega arith) (omega arith)) r.whole.pools.few r.whole.covered;
           grid = o.grid;
           drawers = record { drawn = r.whole.drawers.drawn; prepared = r.whole.drawers.prepared; claims = r.whole.drawers.claims };
           room = subst (λ (z : Stock). Room k live' r.account.pause z words') (sym (r.whole.unused o.calm)) (room_unused k live' r.account.pause t.stock words' o.calm);

@@ -136,7 +136,7 @@ module _ (k : Config) (s : Words) (r : Rule k s) (id : ℕ) (hist : List Entry) 
           leading = record { changed = g.leading.changed; found_blocks = g.leading.found_blocks; found_words = g.leading.found_words; rotated = g.leading.rotated; turned = g.leading.turned; pass = g.leading.pass };
           knows = inr (
             sweeping k s r id hist x at stage,
-            record { glimpse = kn.glimpse; scan = kn.scan; walked = kn.walked; tenure = own; rooted = kn.rooted; marked = kn.marked; tally = counted; held = kn.held },
+            record { glimpse = kn.glimpse; scan = kn.scan; walked = kn.walked; tenure = own; rooted = kn.rooted; marked = kn.marked; tally = counted; held = kn.held; vacant = kn.vacant },
           );
           adds = record { blocks = g.adds.blocks; words = g.adds.words; own = λ _ _ done. absurd (true≢false (sym done ∙ counts)) };
         }

@@ -14,20 +14,22 @@ pub record HeldOwnMay (k : Config) (x : DomainView) (at pool : ℕ) : Type 0 whe
   pub inside : pool < k.pools
   pub word : at ≡ 11 + k.pools + pool
   pub next : x.seen.share.held ≡ pool
+  pub first : x.seen.share.vacant ≡ 0
 
 -- the pool is the domain's own, for blocks of a class, or the next pool is looked at
 pub record HeldOwnTold (pool : ℕ) (x : DomainView) (found : ℕ) (y : DomainView) : Type 0 where
   pub told : ((class : ℕ) × (class < class_count) × (found ≡ owner_word (owned x.own.number class)) × (y ≡ with_share x (record x.seen.share { tenure = Some (record { pool = pool; class = class }) })))
       ⊎ (((class : ℕ) → class < class_count → found ≢ owner_word (owned x.own.number class)) × (y ≡ with_share x (record x.seen.share { held = pool + 1 })))
 
--- a load of the head at a place of the next pool, which is the domain's own
+-- a load of the head at the next place of the next pool, which is the domain's own. The places before it were found free
 pub record HeldMay (x : DomainView) (at pool class slot : ℕ) : Type 0 where
   pub stage : x.seen.stage ≡ In Answer
   pub own : x.seen.share.tenure ≡ Some (record { pool = pool; class = class })
   pub inside : slot < blocks_of class
   pub word : at ≡ place_in pool class slot
   pub next : x.seen.share.held ≡ pool
+  pub slot_is : x.seen.share.vacant ≡ slot
 
--- where it isn't Free a block lives there, and the next pool is looked at
-pub record HeldTold (pool : ℕ) (x : DomainView) (found : ℕ) (y : DomainView) : Type 0 where
-  pub told : ((found ≡ 0) × (y ≡ with_share x x.seen.share)) ⊎ ((found ≢ 0) × (y ≡ with_share x (record x.seen.share { held = pool + 1 })))
+-- the place is free, or a block lives there and the pool behind is next
+pub record HeldTold (pool slot : ℕ) (x : DomainView) (found : ℕ) (y : DomainView) : Type 0 where
+  pub told : ((found ≡ 0) × (y ≡ with_share x (record x.seen.share { vacant = slot + 1 }))) ⊎ ((found ≢ 0) × (y ≡ with_share x (record x.seen.share { held = pool + 1; vacant = 0 })))

@@ -25,15 +25,15 @@ pub fn held_own_load(heap: &Heap, dom: &mut Domain, at: u32, pool: u32) -> u64
     raw_load::<Brand, Seeking>(heap, dom, at as usize, &writing, &[])
 }
 
-/// A load of the head at a place of the next pool, in Answer, where the pool is the domain's own. A
-/// head that isn't Free tells that the pool holds a block. `at` is the place's address. Answers the
-/// head's word.
+/// A load of the head at the next place of the next pool, in Answer, where the pool is the domain's
+/// own. Where the head is Free the place behind it is next, and else the pool holds a block, and the
+/// pool behind it is next. `at` is the place's address. Answers the head's word.
 pub fn held_load(heap: &Heap, dom: &mut Domain, at: u32, pool: u32, class: u32, slot: u32) -> u64
     requires here { IsIn dom.old heap.now }
     requires inside { IsInHeap heap.now.config at }
     requires may { HeldMay dom.old.view at pool class slot }
     ensures here { IsIn dom.new heap.now }
-    ensures told { HeldTold pool dom.old.view result dom.new.view }
+    ensures told { HeldTold pool slot dom.old.view result dom.new.view }
 {
     let index = heap.index_of(at);
     let writing = Seeking {

@@ -9,7 +9,7 @@ use Rattle.heap_model.specs.declared.reply.Reply.TheVariants.{Yes, Done as Ok, I
 use Rattle.heap_model.specs.declared.state.Sizes.{Sizes}
 use Rattle.heap_model.specs.Reach.{reachable}
 use Rattle.heap_model.specs.Domains.{opening}
-use Rattle.heap_model.specs.Commands.{MayBeFullAfterCollection}
+use Rattle.heap_model.specs.Commands.{MayBeFull}
 use Rattle.heap_model.specs.History.{state_after, Legal, replies}
 
 abbrev sizes : Sizes
@@ -271,22 +271,22 @@ small pools = record { domains = 1; pools = pools; minor_words = 4096; classes =
 abbrev collected_once : List Entry
 collected_once = Cut ∷ Seal ∷ Collected ∷ Done ∷ []
 
-full_after_collection : MayBeFullAfterCollection (state_after (opening (small 14)) collected_once) 0 (Alloc 1 0 1)
+full_after_collection : MayBeFull (state_after (opening (small 14)) collected_once) 0 (Alloc 1 0 1)
 unfolding reachable
 full_after_collection = record { allocates = refl; fresh = refl; kept_enough = let enough : 14 ≤ 14 = omega arith in enough }
 
 -- of 15 it isn't
-full_too_early : MayBeFullAfterCollection (state_after (opening (small 15)) collected_once) 0 (Alloc 1 0 1) → ⊥
+full_too_early : MayBeFull (state_after (opening (small 15)) collected_once) 0 (Alloc 1 0 1) → ⊥
 unfolding reachable
 full_too_early p = let enough : 15 ≤ 14 = p.kept_enough in absurd (omega arith)
 
 -- nor once the domain has made a command since
-full_not_fresh : MayBeFullAfterCollection (state_after (opening (small 14)) (collected_once ++ run Poll ∷ [])) 0 (Alloc 1 0 1) → ⊥
+full_not_fresh : MayBeFull (state_after (opening (small 14)) (collected_once ++ run Poll ∷ [])) 0 (Alloc 1 0 1) → ⊥
 unfolding reachable
 full_not_fresh p = let fresh : false ≡ true = p.fresh in cc
 
 -- and no other command has it
-full_no_load : MayBeFullAfterCollection (state_after (opening (small 14)) collected_once) 0 (Load 1 0 0) → ⊥
+full_no_load : MayBeFull (state_after (opening (small 14)) collected_once) 0 (Load 1 0 0) → ⊥
 unfolding reachable
 full_no_load p = let allocates : false ≡ true = p.allocates in cc
 
@@ -370,6 +370,6 @@ join_illegal : Legal sizes (run (Join 1 1) ∷ []) → ⊥
 join_illegal h = h.0.fits
 
 -- a raw block may be answered `full`
-full_raw : MayBeFullAfterCollection (state_after (opening (small 14)) collected_once) 0 (NewRaw 1 252 1)
+full_raw : MayBeFull (state_after (opening (small 14)) collected_once) 0 (NewRaw 1 252 1)
 unfolding reachable
 full_raw = record { allocates = refl; fresh = refl; kept_enough = let enough : 14 ≤ 14 = omega arith in enough }

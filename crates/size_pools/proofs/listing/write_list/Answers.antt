@@ -1,6 +1,6 @@
 use Rattle.std.proofs.Common.{ℕ, sym, subst}
 use Rattle.steps_pools.specs.Listings.{CloseMay, ListedAsTold}
-use Rattle.size_pools.proofs.ListWriting.{none_listed, close_ready, closed_list}
+use Rattle.size_pools.proofs.ListWriting.{none_listed, close_ready, closed_list, closed_count}
 use Rattle.size_pools.proofs.listing.write_list.Goals as goal
 
 pub list_pools-count-requires-clause-empty : goal.list_pools-count-requires-clause-empty
@@ -12,4 +12,8 @@ listed_store-requires-clause-may c = subst (CloseMay c.args.heap.now.config c.cu
 
 pub returns-clause-list : goal.returns-clause-list
 returns-clause-list c = closed_list c.args.heap.now.config c.list_pools-count.new.dom.view c.list_pools-count.result c.list_pools-count.ensures.listed c.cursor_clear.new.dom.view c.cursor_clear.ensures.told c.listed_store.new.dom.view
+    (subst (λ (n : ℕ). ListedAsTold c.cursor_clear.new.dom.view n c.listed_store.new.dom.view) c.from.ensures c.listed_store.ensures.told)
+
+pub returns-clause-count : goal.returns-clause-count
+returns-clause-count c = closed_count c.args.heap.now.config c.list_pools-count.new.dom.view c.list_pools-count.result c.list_pools-count.ensures.listed c.cursor_clear.new.dom.view c.cursor_clear.ensures.told c.listed_store.new.dom.view
     (subst (λ (n : ℕ). ListedAsTold c.cursor_clear.new.dom.view n c.listed_store.new.dom.view) c.from.ensures c.listed_store.ensures.told)
