@@ -13,7 +13,7 @@ use Rattle.heap_rule.specs.declared.phase.Stage.TheVariants.{Leads, Led}
 use Rattle.heap_rule.specs.Phases.{Follows, last_note}
 use Rattle.heap_rule.specs.Views.{fresh_share}
 use Rattle.steps_pauses.specs.Pauses.{EndsWith, MayFollow, arrived_view, cut_in, entry_of}
-use Rattle.steps_pools.specs.Listings.{HasList}
+use Rattle.steps_pools.specs.Listings.{HasList, IsListedCount}
 use Rattle.safepoint.specs.declared.answer.Want.TheVariants.{Cycle, Full}
 use Rattle.safepoint.specs.Looks.{cleared, is_wanted}
 
@@ -63,6 +63,7 @@ pub record Opens (k : Config) (x y : DomainView) (last kind : Kind) : Type 0 whe
   pub findings : Findings
   pub chosen : kind ≡ next_kind k last x.seen.share.cut findings
   pub found : (last ≡ Mark) ⊎ (last ≡ Rounds) → y.seen.share.changed ≡ Some findings.changed
+  pub counted : last ≡ Reset → HasList k y × IsListedCount k y findings.free
   pub may : MayFollow y.seen.share last kind
   pub list : kind ≡ Run → HasList k y
   pub set_back : kind ≡ Promote → last_note y.seen.notes ≡ Some SetBack

@@ -42,7 +42,7 @@ fn after_reset(heap: &Heap, dom: &mut Domain) -> Kind
     ensures here { IsIn dom.new heap.now }
     ensures opens { Opens heap.now.config dom.old.view dom.new.view Reset result }
 {
-    write_list(heap, dom); let free = 0;
+    let free = write_list(heap, dom);
     let found = wants(heap, dom);
     if begins(&heap.config(), found, free) {
         Kind::Roots
