@@ -1,5 +1,5 @@
 -- Domain 0 may name the next kind once it has taken the wishes back, where the domains run next.
-use Rattle.std.proofs.Common.{◌≡◌, ℕ, List, ◌++◌, Some, true, length, sym, refl, ap, ◌∙◌, subst, ◌-◌, ◌≤◌, arith, suc}
+use Rattle.std.proofs.Common.{◌≡◌, ℕ, ◌+◌, List, ◌++◌, Some, true, length, sym, refl, ap, ◌∙◌, subst, ◌-◌, ◌≤◌, arith, suc}
 use Rattle.std.proofs.lemmas.List.{append-nil}
 use Rattle.heap_rule.specs.declared.config.Config.{Config}
 use Rattle.heap_rule.specs.declared.view.DomainView.{DomainView}
@@ -12,6 +12,7 @@ use Rattle.heap_rule.specs.Phases.{code, kind_at, Follows, last_note}
 use Rattle.heap_rule.proofs.Controls.{last_note_end}
 use Rattle.steps_pauses.specs.Pauses.{kind_in, LeadMay, MayFollow, LeadTold}
 use Rattle.steps_pools.specs.Listings.{HasList, free_pools}
+use Rattle.steps_pools.proofs.FreePools.{free_all}
 use Rattle.safepoint.specs.Looks.{cleared, LedTo}
 
 -- the kind of a kind's word
@@ -42,10 +43,10 @@ back : (notes : List Note) (next : Kind) → next ≡ Promote → last_note note
 back notes next copies last = subst (λ (kind : Kind). last_note (notes ++ cleared kind) ≡ Some SetBack) (sym copies) (ap last_note (append-nil notes) ∙ last)
 
 pub lead_may : (k : Config) (x y : DomainView) (word : ℕ) (next : Kind) → x.own.number ≡ 0 → x.seen.stage ≡ Leads (kind_in x.seen.stage) → Follows (kind_in x.seen.stage) next → MayFollow x.seen.share (kind_in x.seen.stage) next → word ≡ code next → (next ≡ Run → HasList k x) → (next ≡ Promote → last_note x.seen.notes ≡ Some SetBack)
-    → y ≡ record x { seen = record x.seen { notes = x.seen.notes ++ cleared next } } → LeadMay y word (kind_at word)
+    → y ≡ record x { seen = record x.seen { notes = x.seen.notes ++ cleared next } } → LeadMay k y word (kind_at word)
 lead_may k x y word next first leads follows may is list set_back view =
     let kind : kind_at word ≡ next = ap kind_at is ∙ kind_of_code next in
-    subst (λ (z : DomainView). LeadMay z word (kind_at word)) (sym view) (record {
+    subst (λ (z : DomainView). LeadMay k z word (kind_at word)) (sym view) (record {
       leads = first;
       last = kind_in x.seen.stage;
       stage = leads;
@@ -53,7 +54,14 @@ lead_may k x y word next first leads follows may is list set_back view =
       may = subst (MayFollow x.seen.share (kind_in x.seen.stage)) (sym kind) may;
       word = is ∙ ap code (sym kind);
       took_back = λ runs. took x.seen.notes next (sym kind ∙ runs);
-      rewound = λ runs. let l = list (sym kind ∙ runs) in (record { owners = l.owners; names = free_pools l.owners; rewound = true; listed = length (free_pools l.owners) }, l.listing, refl);
+      relisted = λ runs. let l = list (sym kind ∙ runs) in record {
+        list = record { owners = l.owners; names = free_pools l.owners; rewound = true; listed = length (free_pools l.owners) };
+        listing = l.listing;
+        rewound = refl;
+        all = l.all;
+        count = refl;
+        free = λ q none. let at = free_all 0 q l.owners none in (at.0, at.1 ∙ ap Some (let e : 0 + q ≡ q = omega arith in e));
+      };
       set_back = λ copies. let is = sym kind ∙ copies in back x.seen.notes next is (set_back is);
     })
 

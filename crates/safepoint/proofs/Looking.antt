@@ -42,5 +42,5 @@ next k x y z b word kind told not_below rem plan is =
     let same : y.own.arrivals ≡ x.own.arrivals = same_arrivals k x y b told in
     ⊎_elim (λ (t : (y.seen.stage ≡ In g.kind) × IsEven x.own.arrivals).
     let found : kind ≡ g.kind = is g.kind (plan.told g.kind t.0) in
-    subst (λ (v : DomainView). LookAnswers k x v (Next kind)) (sym plan.view) (passed k x y b told not_below, t.0 ∙ sym (ap In found), t.1, g.comes kind (t.0 ∙ sym (ap In found))))
+    subst (λ (v : DomainView). LookAnswers k x v (Next kind)) (sym plan.view) (let is = t.0 ∙ sym (ap In found) in (passed k x y b told not_below, is, t.1, g.comes kind is, g.mode kind is)))
     (λ (t : (y.seen.stage ≡ Leads (kind_in x.seen.stage)) × IsOdd x.own.arrivals). absurd (let j : ℕ = t.1.0 in let e : x.own.arrivals ≡ j * 2 + 1 = t.1.1 in let r : y.own.arrivals % 2 ≢ 1 = rem in omega arith)) g.stage

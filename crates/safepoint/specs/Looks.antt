@@ -11,7 +11,8 @@ use Rattle.heap_rule.specs.declared.phase.Note.{Note}
 use Rattle.heap_rule.specs.declared.phase.Note.TheVariants.{Barrier, Cleared}
 use Rattle.heap_rule.specs.Limits.{sizes_in}
 use Rattle.heap_rule.specs.Phases.{Comes, IsEven, IsOdd}
-use Rattle.steps_pauses.specs.Pauses.{noted, kind_in, entry_of, cut_in, EndsWith}
+use Rattle.heap_rule.specs.Rule.{state_of}
+use Rattle.steps_pauses.specs.Pauses.{noted, kind_in, IsModeOf, entry_of, cut_in, EndsWith}
 use Rattle.safepoint.specs.declared.answer.Look.{Look}
 use Rattle.safepoint.specs.declared.answer.Look.TheVariants.{Next, Lead, NotAll}
 use Rattle.safepoint.specs.declared.answer.Want as wish
@@ -38,10 +39,10 @@ pub record Passed (k : Config) (x y : DomainView) : Type 0 where
   pub legal : Legal (sizes_in k) y.seen.front
   pub view : y ≡ record x { seen = record x.seen { front = y.seen.front; stage = y.seen.stage; notes = x.seen.notes ++ Barrier found ∷ [] } }
 
--- NotAll exactly where the barrier word found is below the end of the domain's turn. Next tells the kind that domain 0 named, which follows the last
+-- NotAll exactly where the barrier word found is below the end of the domain's turn. Next tells the kind that domain 0 named, which follows the last, and the history tells how far a collection is then
 abbrev pub LookAnswers : Config → DomainView → DomainView → Look → Type 0
 LookAnswers k x y (NotAll b) = (b < x.own.arrivals * k.domains) × (y ≡ noted x (Barrier b))
-LookAnswers k x y (Next kind) = Passed k x y × (y.seen.stage ≡ In kind) × IsEven x.own.arrivals × Comes x.own.number (kind_in x.seen.stage) kind
+LookAnswers k x y (Next kind) = Passed k x y × (y.seen.stage ≡ In kind) × IsEven x.own.arrivals × Comes x.own.number (kind_in x.seen.stage) kind × IsModeOf kind (state_of k y.seen.front).mode
 LookAnswers k x y Lead = Passed k x y × (y.seen.stage ≡ Leads (kind_in x.seen.stage)) × IsOdd x.own.arrivals
 
 -- what domain 0 notes when it leads to a phase of this kind

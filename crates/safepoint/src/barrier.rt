@@ -5,7 +5,6 @@ ghost use Rattle.heap_rule.specs.declared.phase.Kind.TheVariants.{Run, Promote};
 ghost use Rattle.heap_rule.specs.declared.phase.Stage.TheVariants.{In, Leads};
 ghost use Rattle.heap_rule.specs.declared.phase.Note.TheVariants as note;
 ghost use Rattle.heap_rule.specs.Phases.{code, kind_at, Follows, last_note};
-ghost use Rattle.heap_rule.specs.Cycles.{HasNoCycle};
 ghost use Rattle.steps_pauses.specs.Pauses.{IsGone, ArriveMay, ClearMay, MayFollow, kind_in, noted, arrived_view};
 ghost use Rattle.heap_rule.specs.Token.{IsIn};
 ghost use Rattle.safepoint.specs.Looks.{bit_of, cleared, is_wanted, LedTo, LookAnswers};
@@ -52,22 +51,6 @@ fn kind_of(word: u64) -> Kind
         9 => Kind::Lasts,
         10 => Kind::Sweep,
         _ => Kind::Answer,
-    }
-}
-
-/// A kind that may come after this one. Without a collection of the major heap none begins.
-pub fn follower(kind: Kind) -> Kind
-    ensures follows { Follows kind result }
-    ensures none { HasNoCycle kind → HasNoCycle result }
-{
-    match kind {
-        Kind::Run => Kind::Promote,
-        Kind::Promote => Kind::Reset,
-        Kind::Reset | Kind::Sweep | Kind::Answer => Kind::Run,
-        Kind::Roots | Kind::Mark | Kind::Rounds | Kind::Queued => Kind::Mark,
-        Kind::Decide => Kind::Queued,
-        Kind::Clean => Kind::Lasts,
-        Kind::Lasts => Kind::Sweep,
     }
 }
 
