@@ -10,3 +10,5 @@ pub mod TallySteps
 pub mod Tallies
 pub mod AddSteps
 pub mod HoldSteps
+pub mod Returned
+pub mod ReturnSteps

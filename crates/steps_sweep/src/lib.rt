@@ -4,10 +4,12 @@
 
 mod freeing;
 mod holding;
+mod returning;
 mod tallying;
 mod turning;
 
 pub use freeing::{free_store, sweep_load};
 pub use holding::{held_load, held_own_load};
+pub use returning::pool_return;
 pub use tallying::{blocks_add, tally_load, tally_own_load, words_add};
 pub use turning::{blocks_clear, colours_store, words_clear};
