@@ -1,15 +1,14 @@
 -- How domain 0 leads through a collection of the major heap.
-use Rattle.std.specs.Prelude.{◌≡◌, ◌⊎◌, ℕ, ◌*◌, ◌==◌, ◌||◌, nat_lt, if◌then◌else◌, Bool, List, [], ◌∷◌, ◌++◌, length, Some, None}
+use Rattle.std.specs.Prelude.{◌≡◌, ◌⊎◌, ℕ, ◌*◌, ◌==◌, ◌||◌, nat_lt, if◌then◌else◌, Bool, List, [], ◌∷◌, ◌++◌, Some, None}
 use Rattle.heap_model.specs.declared.entry.Entry.{Entry}
 use Rattle.heap_model.specs.Fronts.{IsFrontOf}
 use Rattle.heap_rule.specs.declared.config.Config.{Config}
 use Rattle.heap_rule.specs.declared.view.DomainView.{DomainView}
-use Rattle.heap_rule.specs.declared.view.Listing.{Listing}
 use Rattle.heap_rule.specs.declared.phase.Kind.{Kind}
 use Rattle.heap_rule.specs.declared.phase.Kind.TheVariants.{Run, Promote, Reset, Roots, Mark, Rounds, Decide, Queued, Clean, Lasts, Sweep, Answer}
 use Rattle.heap_rule.specs.declared.phase.Note.{Note}
 use Rattle.heap_rule.specs.declared.phase.Note.TheVariants.{Want, SetBack}
-use Rattle.heap_rule.specs.declared.phase.Stage.TheVariants.{Leads, Led}
+use Rattle.heap_rule.specs.declared.phase.Stage.TheVariants.{Led}
 use Rattle.heap_rule.specs.Phases.{Follows, last_note}
 use Rattle.heap_rule.specs.Views.{fresh_share}
 use Rattle.steps_pauses.specs.Pauses.{EndsWith, MayFollow, arrived_view, cut_in, entry_of}
