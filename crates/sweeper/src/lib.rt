@@ -6,11 +6,9 @@
 #![tactic(auto)]
 
 mod counting;
-mod holding;
 mod owners;
 mod sweeping;
 mod words;
 
 pub use counting::count_own;
-pub use holding::find_empty;
 pub use sweeping::sweep_own;
