@@ -26,6 +26,7 @@ use Rattle.heap_rule.specs.Running.{RemembersAll}
 use Rattle.steps_pauses.specs.Pauses.{noted, arrived_view, cut_in, IsModeOf}
 use Rattle.heap_rule.specs.Rule.{state_of}
 use Rattle.safepoint.specs.Looks.{Passed, bit_of}
+use Rattle.safepoint.specs.declared.answer.Want as wish
 use Rattle.safepoint.specs.declared.answer.Want.TheVariants.{Full}
 use Rattle.domain_turns.specs.declared.turned.Turned.{Turned}
 use Rattle.domain_turns.specs.declared.turned.Turned.TheVariants.{Did, Waiting, Idle}
@@ -154,6 +155,13 @@ pub record AsksFull (h : SharedHeap) (start : Token) (old new : RunView) : Type 
   pub searched : Token
   pub refused : Refused h start searched command old.collected
   pub run : new ≡ record old { token = record searched { view = noted searched.view (Asked (bit_of Full)) }; asked = Some old.token.view.own.arrivals }
+
+-- what the try of the next command came to: it was made, a pause that it needs must come first, or it was refused and a complete collection must
+abbrev pub TrialAnswers : SharedHeap → RunView → RunView → model.Command → Option wish.Want → Type 0
+TrialAnswers h old new c None = TriesCommand h old.token old new c
+TrialAnswers h old new c (Some want) =
+    ((new ≡ old) × NeedsPause h.config old.token.view.own (served_since old.asked old.token.view.own.arrivals) c × (want ≡ wish_of c))
+    ⊎ ((new ≡ record old { token = new.token }) × Refused h old.token new.token c old.collected × (NeedsPause h.config old.token.view.own (served_since old.asked old.token.view.own.arrivals) c → ⊥) × (want ≡ Full))
 
 -- the token whose domain has noted one thing more
 abbrev pub noted_token : Token → Note → Token
