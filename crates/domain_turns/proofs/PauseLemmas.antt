@@ -49,7 +49,7 @@ reset_run e = cc
 
 
 -- which kind lies before
-before_promote : (a : Kind) → Follows a Promote → a ≡ Run
+pub before_promote : (a : Kind) → Follows a Promote → a ≡ Run
 before_promote Run f = refl
 before_promote Promote f = let e : Promote ≡ Reset = f in cc
 before_promote Reset f = ⊎_elim (λ (e : Promote ≡ Run). cc) (λ (e : Promote ≡ Roots). cc) f
@@ -63,7 +63,7 @@ before_promote Lasts f = let e : Promote ≡ Sweep = f in cc
 before_promote Sweep f = ⊎_elim (λ (e : Promote ≡ Run). cc) (λ (e : Promote ≡ Answer). cc) f
 before_promote Answer f = let e : Promote ≡ Run = f in cc
 
-before_reset : (a : Kind) → Follows a Reset → a ≡ Promote
+pub before_reset : (a : Kind) → Follows a Reset → a ≡ Promote
 before_reset Run f = let e : Reset ≡ Promote = f in cc
 before_reset Promote f = refl
 before_reset Reset f = ⊎_elim (λ (e : Reset ≡ Run). cc) (λ (e : Reset ≡ Roots). cc) f
@@ -77,7 +77,7 @@ before_reset Lasts f = let e : Reset ≡ Sweep = f in cc
 before_reset Sweep f = ⊎_elim (λ (e : Reset ≡ Run). cc) (λ (e : Reset ≡ Answer). cc) f
 before_reset Answer f = let e : Reset ≡ Run = f in cc
 
-before_answer : (a : Kind) → Follows a Answer → a ≡ Sweep
+pub before_answer : (a : Kind) → Follows a Answer → a ≡ Sweep
 before_answer Run f = let e : Answer ≡ Promote = f in cc
 before_answer Promote f = let e : Answer ≡ Reset = f in cc
 before_answer Reset f = ⊎_elim (λ (e : Answer ≡ Run). cc) (λ (e : Answer ≡ Roots). cc) f
@@ -92,7 +92,7 @@ before_answer Sweep f = refl
 before_answer Answer f = let e : Answer ≡ Run = f in cc
 
 -- each other kind comes after one in which nothing lives in minor areas any more
-before_else : (a kind : Kind) → Follows a kind → kind ≢ Promote → kind ≢ Reset → IsEmptying a
+pub before_else : (a kind : Kind) → Follows a kind → kind ≢ Promote → kind ≢ Reset → IsEmptying a
 before_else Run kind f other _ = absurd (other f)
 before_else Promote kind f _ other = absurd (other f)
 before_else Reset kind f _ _ = (λ e. cc, λ e. cc)

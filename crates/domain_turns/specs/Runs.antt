@@ -92,7 +92,7 @@ pub record IsBetween (left : Option Kind) (asked : Option ℕ) (collected cut : 
   pub quiet : IsQuiet t.view
   pub even : left ≡ None → IsEven t.view.own.arrivals
   pub remembers : left ≡ None → RemembersAll t.view
-  pub collected : left ≡ None → served_since asked t.view.own.arrivals ≡ true → t.view.own.used ≡ 0
+  pub emptied : left ≡ None → served_since asked t.view.own.arrivals ≡ true → t.view.own.used ≡ 0
   pub has_left : (known : Kind) → left ≡ Some known → HasLeft t.config known t.view
   pub fresh : collected ≡ true → IsFresh t.config t.view
   pub knows_cut : (known : Kind) → left ≡ Some known → KnowsCut known cut t.view
