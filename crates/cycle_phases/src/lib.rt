@@ -8,4 +8,4 @@ mod opening;
 mod sharing;
 
 pub use leading::{cut_after, lead_on};
-pub use sharing::share;
+pub use sharing::{give_back, share};

@@ -1,5 +1,6 @@
 //! A domain's share of the end of a collection of the major heap: what is garbage in its own pools is
-//! freed, and what lives there is counted.
+//! freed, and what lives there is counted. Where the collection is answered the pools in which nothing
+//! is left are given back.
 //!
 //! Each domain sweeps its own pools, with no lock and no memory ("Retrofitting Parallelism onto
 //! OCaml", section 3.2).
@@ -7,8 +8,10 @@
 
 mod counting;
 mod owners;
+mod returning;
 mod sweeping;
 mod words;
 
 pub use counting::count_own;
+pub use returning::return_pools;
 pub use sweeping::sweep_own;

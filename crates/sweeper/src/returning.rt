@@ -1,0 +1,71 @@
+//! The walk, where a collection is answered, in which a domain gives back its pools in which nothing
+//! is left.
+ghost use Rattle.std.specs.Prelude.{◌≡◌, ◌+◌, ◌<◌, ◌≤◌, true, false};
+ghost use Rattle.heap_model.specs.Domains.{class_count};
+ghost use Rattle.heap_rule.specs.declared.phase.Kind.TheVariants.{Answer};
+ghost use Rattle.heap_rule.specs.declared.phase.Stage.TheVariants.{In};
+ghost use Rattle.heap_rule.specs.Token.{IsIn};
+ghost use Rattle.sweeper.specs.Emptiness.{LooksFrom, LooksIn, FoundEmpty, with_looks};
+
+use crate::owners::{OWNERS, own_class};
+use heap_rule::{Domain, Heap};
+use steps_pools::{class_blocks, place_address};
+use steps_sweep::{held_load, held_own_load, pool_return};
+
+// Whether a block lies in the next pool, which is the domain's own. Else each of its places is free.
+fn holds_block(heap: &Heap, dom: &mut Domain, pool: u32, class: u32) -> bool
+    requires here { IsIn dom.old heap.now }
+    requires inside { pool < heap.now.config.pools }
+    requires class { class < class_count }
+    requires next { LooksIn dom.old.view pool class }
+    ensures here { IsIn dom.new heap.now }
+    ensures same { dom.new.view ≡ with_looks dom.old.view dom.new.view }
+    ensures holds { result ≡ true → LooksFrom dom.new.view (pool + 1) }
+    ensures none { result ≡ false → FoundEmpty dom.new.view pool class }
+{
+    let _limits = heap.config();
+    for slot in 0..class_blocks(class) {
+        let at = place_address(pool, class, slot);
+        if held_load(heap, dom, at, pool, class, slot) != 0 {
+            return true;
+        }
+    }
+    false
+}
+
+// Gives the next pool back, if it is the domain's own and holds no block.
+fn return_pool(heap: &Heap, dom: &mut Domain, pool: u32)
+    requires here { IsIn dom.old heap.now }
+    requires inside { pool < heap.now.config.pools }
+    requires next { LooksFrom dom.old.view pool }
+    ensures here { IsIn dom.new heap.now }
+    ensures same { dom.new.view ≡ with_looks dom.old.view dom.new.view }
+    ensures passed { LooksFrom dom.new.view (pool + 1) }
+{
+    let at = OWNERS + heap.config().pools + pool;
+    let word = held_own_load(heap, dom, at, pool);
+    let Some(class) = own_class(word, dom.number()) else {
+        return;
+    };
+    if !holds_block(heap, dom, pool, class) {
+        pool_return(heap, dom, at, pool, class);
+    }
+}
+
+/// Gives back each of the domain's own pools that holds no block, in Answer: it is nobody's afterwards.
+/// The domain has looked at none before. Then each of its pools holds a block, as is asked of it where
+/// it arrives.
+pub fn return_pools(heap: &Heap, dom: &mut Domain)
+    requires here { IsIn dom.old heap.now }
+    requires stage { dom.old.view.seen.stage ≡ In Answer }
+    requires first { dom.old.view.seen.share.held ≡ 0 }
+    requires none { dom.old.view.seen.share.vacant ≡ 0 }
+    ensures here { IsIn dom.new heap.now }
+    ensures same { dom.new.view ≡ with_looks dom.old.view dom.new.view }
+    ensures done { heap.now.config.pools ≤ dom.new.view.seen.share.held }
+{
+    let pools = heap.config().pools;
+    for pool in 0..pools {
+        return_pool(heap, dom, pool);
+    }
+}
