@@ -13,13 +13,14 @@ ghost use Rattle.steps_pauses.specs.Pauses.{arrived_view};
 ghost use Rattle.domain_turns.specs.Past.{PassAnswers, left_after};
 ghost use Rattle.domain_turns.specs.Pausing.{IsQuiet, HasLeft, KnowsCut, LeavesEven, LeavesOdd, LeavesPromote, LeavesReset, IsReady, AnswersFrom, LivesAs};
 
-use cycle_phases::{lead_on, share};
+use cycle_phases::{give_back, lead_on, share};
 use heap_model::reply::Reply;
 use heap_rule::{Domain, Heap, Kind};
 use mark_slices::Hints;
 use minor_area::reset;
 use promote_claim::promote;
 use safepoint::{Look, arrive, look};
+use steps_sweep::{live_blocks_load, live_words_load};
 
 // What a look at the barrier came to.
 #[derive(Drop)]
@@ -117,7 +118,9 @@ fn answer_live(heap: &Heap, dom: &mut Domain) -> Reply
     ensures here { IsIn dom.new heap.now }
     ensures lives { LivesAs heap.now.config dom.old.view dom.new.view result }
 {
-    unreachable!()
+    let blocks = live_blocks_load(heap, dom);
+    let words = live_words_load(heap, dom, blocks);
+    Reply::Live { blocks, words }
 }
 
 // Where a collection is answered: makes the entry of a `full_major` if the domain waits for one, gives
@@ -138,7 +141,8 @@ fn answer(heap: &Heap, dom: &mut Domain, live: bool) -> Option<Reply>
     } else {
         None
     };
-    unreachable!()
+    give_back(heap, dom);
+    reply
 }
 
 // Looks at the barrier, and where all have arrived does the domain's share of the phase that has begun,
