@@ -33,16 +33,19 @@ agree t d e a b (Led u) (Led v) p q = tt
 agree t d e a b (Led u) (Gone v) p q = tt
 agree t d e a b (Gone u) y p q = tt
 
--- who runs excludes that anyone is in a phase of a pause
-run_alone : (y : Stage) → Agree (In Run) y → IsInPause y → ⊥
-run_alone (In v) a p = subst (λ (kind : Kind). IsInPause (In kind)) (sym a) p
-run_alone (Leads v) a p = p
-run_alone (Led v) a p = p
-run_alone (Gone v) a p = p
+-- a domain in a phase in which entries stand excludes that anyone is in one in which none does
+alone_in : (kind : Kind) → (IsInPause (In kind) → ⊥) → (y : Stage) → Agree (In kind) y → IsInPause y → ⊥
+alone_in kind none (In v) a p = none (subst (λ (of : Kind). IsInPause (In of)) (sym a) p)
+alone_in kind none (Leads v) a p = p
+alone_in kind none (Led v) a p = p
+alone_in kind none (Gone v) a p = p
+
+pub nobody_still : (t : Pause) (x z : DomainView) (kind : Kind) → (IsInPause (In kind) → ⊥) → x.seen.stage ≡ In kind → Staged t x → Staged t z → IsInPause z.seen.stage → ⊥
+nobody_still t x z kind none is sx sz paused =
+    alone_in kind none z.seen.stage (agree t x.own.number z.own.number x.own.arrivals z.own.arrivals (In kind) z.seen.stage (subst (AtStage t x.own.number x.own.arrivals) is sx.stage) sz.stage) paused
 
 pub nobody_paused : (t : Pause) (x z : DomainView) → x.seen.stage ≡ In Run → Staged t x → Staged t z → IsInPause z.seen.stage → ⊥
-nobody_paused t x z runs sx sz paused =
-    run_alone z.seen.stage (agree t x.own.number z.own.number x.own.arrivals z.own.arrivals (In Run) z.seen.stage (subst (AtStage t x.own.number x.own.arrivals) runs sx.stage) sz.stage) paused
+nobody_paused t x z runs sx sz paused = nobody_still t x z Run (λ p. p) runs sx sz paused
 
 -- a domain stands where it stood
 pub staged_as : (t : Pause) (x y : DomainView) → y.own.number ≡ x.own.number → y.own.arrivals ≡ x.own.arrivals → y.seen.stage ≡ x.seen.stage → Staged t x → Staged t y

@@ -1,4 +1,4 @@
--- After a history whose entries register no finaliser and make no ephemeron nothing waits to be queued, and each block is a plain one.
+-- After a history whose entries register no finaliser and make no ephemeron nothing waits to be queued, no domain owes a finaliser, and each block is a plain one.
 use Rattle.std.proofs.Common.{◌≡◌, ℕ, zero, suc, true, false, List, [], ◌∷◌, ◌++◌, length, map, replicate, get_or, set, Option, Some, None, sym, refl, ap, ◌∙◌, subst, ⊎_elim}
 use Rattle.heap_model.specs.declared.label.Label.{Label}
 use Rattle.heap_model.specs.declared.command.Command.{Command}
@@ -11,12 +11,15 @@ use Rattle.heap_model.specs.declared.state.DomainState.{DomainState}
 use Rattle.heap_model.specs.declared.state.Sizes.{Sizes}
 use Rattle.heap_model.specs.declared.state.State.{State}
 use Rattle.heap_model.specs.Commands.{outcome, after_command, new_plain, allocated, is_allocation}
-use Rattle.heap_model.specs.Domains.{no_domain, opening, opening_domain, shared_label, shared_node}
+use Rattle.heap_model.specs.Domains.{domain_at, no_domain, opening, opening_domain, shared_label, shared_node}
 use Rattle.heap_model.specs.Entries.{next}
 use Rattle.heap_model.specs.Fronts.{PlainShape, RawShape, EpheShape, shape_of}
 use Rattle.heap_model.specs.Graph.{Graph, node_at, with_node}
 use Rattle.heap_model.specs.History.{state_after}
-use Rattle.heap_model.proofs.Commands.FrameLemmas.{part_set}
+use Rattle.heap_model.proofs.Commands.FrameLemmas.{Frame, frame_command, part_map, part_set}
+use Rattle.heap_model.specs.declared.state.Pending.{Pending}
+use mathlib.Core.Logic.{dite}
+use native.Mathlib.Decide.{ℕ_discrete}
 use Rattle.heap_model.proofs.Commands.MoveLemmas.{moved, registers_one}
 use Rattle.heap_model.proofs.Graphs.GraphLemmas.{node_at-with_node_cases, node_at-append_cases}
 use Rattle.heap_rule.specs.Cycles.{IsPlainCommand, IsPlainEntry, AllPlain}
@@ -136,3 +139,51 @@ plain_opening z = record {
   unregistered_all zero k = record { finals = refl; lasts = refl; low = refl }
   unregistered_all (suc n) zero = record { finals = refl; lasts = refl; low = refl }
   unregistered_all (suc n) (suc k) = unregistered_all n k
+
+-- no domain has a finaliser to run, and none owes one
+pub record OwesNothing (x : DomainState) : Type 0 where
+  pub queue : x.queue ≡ []
+  pub due : x.due ≡ 0
+
+abbrev pub AllOweNothing : State → Type 0
+AllOweNothing s = (d : ℕ) → OwesNothing (domain_at s d)
+
+due_here : (xs : List DomainState) (d : ℕ) (x : DomainState) → x.due ≡ 0 → (get_or (set xs d x) d no_domain).due ≡ 0
+due_here [] d x none = refl
+due_here (y ∷ ys) zero x none = none
+due_here (y ∷ ys) (suc d) x none = due_here ys d x none
+
+-- after a command the domain owes what its queue holds
+nothing_command : (s t : State) (d : ℕ) → Frame d s (after_command t d) → AllOweNothing s → AllOweNothing (after_command t d)
+nothing_command s t d f all j = dite (ℕ_discrete j d)
+    (λ same.
+    let queue : (domain_at (after_command t d) d).queue ≡ [] = f.queue ∙ (all d).queue in
+    let was : (domain_at t d).queue ≡ [] = sym (part_set (λ y. y.queue) t.domains d _ refl d) ∙ queue in
+    subst (λ (n : ℕ). OwesNothing (domain_at (after_command t d) n)) (sym same) record { queue = queue; due = due_here t.domains d _ (ap (λ (l : List Pending). length l) was) })
+    (λ other. subst OwesNothing (sym (f.elsewhere j other)) (all j))
+
+nothing_map : (s : State) (g : DomainState → DomainState) → ((x : DomainState) → (g x).queue ≡ x.queue) → ((x : DomainState) → (g x).due ≡ x.due) → AllOweNothing s → (d : ℕ) → OwesNothing (get_or (map g s.domains) d no_domain)
+nothing_map s g queue due all d = record { queue = part_map (λ y. y.queue) g queue s.domains d ∙ (all d).queue; due = part_map (λ y. y.due) g due s.domains d ∙ (all d).due }
+
+nothing_next : (s : State) (e : Entry) → IsPlainEntry e → AllOweNothing s → AllOweNothing (next s e)
+nothing_next s (CommandOf d c true) plain all = nothing_command s s d (frame_command s d c true) all
+nothing_next s (CommandOf d c false) plain all = nothing_command s (outcome s d c).state d (frame_command s d c false) all
+nothing_next s (End d) plain all = λ j. record { queue = part_set (λ y. y.queue) s.domains d _ refl j ∙ (all j).queue; due = part_set (λ y. y.due) s.domains d _ refl j ∙ (all j).due }
+nothing_next s Cut plain all = nothing_map s _ (λ x. refl) (λ x. refl) all
+nothing_next s Seal plain all = nothing_map s _ (λ x. refl) (λ x. refl) all
+nothing_next s Collected plain all = nothing_map s _ (λ x. refl) (λ x. refl) all
+nothing_next s Done plain all = all
+nothing_next s _ plain all = absurd plain
+
+nothing_after : (s : State) (h : List Entry) → AllPlain h → AllOweNothing s → AllOweNothing (state_after s h)
+nothing_after s [] plain all = all
+nothing_after s (e ∷ h) plain all = nothing_after (next s e) h plain.1 (nothing_next s e plain.0 all)
+
+-- so it is after a plain history
+pub nothing_owed : (z : Sizes) (h : List Entry) → AllPlain h → AllOweNothing (state_after (opening z) h)
+nothing_owed z h plain = nothing_after (opening z) h plain (start z.domains)
+  where
+    start : (n d : ℕ) → OwesNothing (get_or (replicate n opening_domain) d no_domain)
+    start zero d = record { queue = refl; due = refl }
+    start (suc n) zero = record { queue = refl; due = refl }
+    start (suc n) (suc d) = start n d

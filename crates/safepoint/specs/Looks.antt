@@ -1,5 +1,5 @@
 -- What a look answers, and what domain 0 does when it leads.
-use Rattle.std.specs.Prelude.{◌≡◌, ◌*◌, ◌<◌, ◌≤◌, ℕ, List, [], ◌∷◌, ◌++◌, Some, None}
+use Rattle.std.specs.Prelude.{◌≡◌, ◌*◌, ◌/◌, ◌%◌, ◌==◌, ◌<◌, ◌≤◌, ℕ, Bool, List, [], ◌∷◌, ◌++◌, Some, None}
 use Rattle.heap_model.specs.History.{Legal}
 use Rattle.heap_model.specs.Fronts.{IsFrontOf}
 use Rattle.heap_rule.specs.declared.config.Config.{Config}
@@ -26,6 +26,10 @@ bit_of Minor = 1
 bit_of Cycle = 2
 bit_of Finish = 4
 bit_of Full = 8
+
+-- whether a wish is among those of a want word
+abbrev pub is_wanted : wish.Want → ℕ → Bool
+is_wanted want bits = bits / bit_of want % 2 == 1
 
 -- all have arrived: the barrier word found isn't below the end of the domain's turn, and the front is the whole history so far
 pub record Passed (k : Config) (x y : DomainView) : Type 0 where

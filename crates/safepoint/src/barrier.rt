@@ -7,7 +7,7 @@ ghost use Rattle.heap_rule.specs.declared.phase.Note.TheVariants as note;
 ghost use Rattle.heap_rule.specs.Phases.{code, kind_at, Follows, last_note};
 ghost use Rattle.steps_pauses.specs.Pauses.{IsGone, ArriveMay, ClearMay, MayFollow, kind_in, noted, arrived_view};
 ghost use Rattle.heap_rule.specs.Token.{IsIn};
-ghost use Rattle.safepoint.specs.Looks.{bit_of, cleared, LedTo, LookAnswers};
+ghost use Rattle.safepoint.specs.Looks.{bit_of, cleared, is_wanted, LedTo, LookAnswers};
 ghost use Rattle.steps_pools.specs.Listings.{HasList};
 
 use crate::answer::{Look, Want, Wants};
@@ -75,6 +75,13 @@ pub fn wants(heap: &Heap, dom: &mut Domain) -> Wants
     Wants {
         bits: want_load(heap, dom),
     }
+}
+
+/// Whether a wish is among those that were found.
+pub fn is_wanted(wants: Wants, want: Want) -> bool
+    ensures { result ≡ is_wanted want wants.bits }
+{
+    wants.bits / bit_of(want) % 2 == 1
 }
 
 /// Asks for a pause.

@@ -12,3 +12,5 @@ pub mod AddSteps
 pub mod HoldSteps
 pub mod Returned
 pub mod ReturnSteps
+pub mod LiveCounts
+pub mod AnswerSteps

@@ -2,12 +2,14 @@
 //! freed, and what lives is counted. docs/RULE.md says how to add one.
 #![tactic(auto)]
 
+mod answering;
 mod freeing;
 mod holding;
 mod returning;
 mod tallying;
 mod turning;
 
+pub use answering::{live_blocks_load, live_words_load};
 pub use freeing::{free_store, sweep_load};
 pub use holding::{held_load, held_own_load};
 pub use returning::pool_return;

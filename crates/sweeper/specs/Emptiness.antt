@@ -1,25 +1,28 @@
--- What a domain knows that has looked whether its pools hold blocks.
-use Rattle.std.specs.Prelude.{◌≡◌, ℕ, ◌<◌, Some}
-use Rattle.heap_model.specs.Domains.{class_count}
-use Rattle.heap_rule.specs.declared.config.Config.{Config}
+-- What a domain knows that looks whether its pools hold blocks, and gives the others back.
+use Rattle.std.specs.Prelude.{◌≡◌, ℕ, ◌≤◌, Some}
 use Rattle.heap_rule.specs.declared.phase.Kind.TheVariants.{Answer}
 use Rattle.heap_rule.specs.declared.phase.Stage.TheVariants.{In}
 use Rattle.heap_rule.specs.declared.view.DomainView.{DomainView}
+use Rattle.heap_rule.specs.Pools.{blocks_of}
 
 -- the domain with what these looks change as another has it
 abbrev pub with_looks : DomainView → DomainView → DomainView
-with_looks x y = record x { seen = record x.seen { share = record x.seen.share { tenure = y.seen.share.tenure; held = y.seen.share.held } } }
+with_looks x y = record x { seen = record x.seen { share = record x.seen.share { tenure = y.seen.share.tenure; held = y.seen.share.held; vacant = y.seen.share.vacant } } }
 
--- in Answer, the next pool is the domain's own
+-- in Answer, it looks at a pool next, of which it knows nothing
+pub record LooksFrom (x : DomainView) (pool : ℕ) : Type 0 where
+  pub stage : x.seen.stage ≡ In Answer
+  pub next : x.seen.share.held ≡ pool
+  pub first : x.seen.share.vacant ≡ 0
+
+-- and the pool is the domain's own
 pub record LooksIn (x : DomainView) (pool class : ℕ) : Type 0 where
+  pub own : x.seen.share.tenure ≡ Some (record { pool = pool; class = class })
+  pub from : LooksFrom x pool
+
+-- each place of the pool, which is the domain's own, was found free
+pub record FoundEmpty (x : DomainView) (pool class : ℕ) : Type 0 where
   pub stage : x.seen.stage ≡ In Answer
   pub own : x.seen.share.tenure ≡ Some (record { pool = pool; class = class })
   pub next : x.seen.share.held ≡ pool
-
--- the domain has come to a pool of its own, and not past it, since it found no block there
-pub record FoundEmpty (k : Config) (pool : ℕ) (y : DomainView) : Type 0 where
-  pub inside : pool < k.pools
-  pub class : ℕ
-  pub few : class < class_count
-  pub own : y.seen.share.tenure ≡ Some (record { pool = pool; class = class })
-  pub next : y.seen.share.held ≡ pool
+  pub all : blocks_of class ≤ x.seen.share.vacant

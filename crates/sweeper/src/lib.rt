@@ -1,16 +1,17 @@
 //! A domain's share of the end of a collection of the major heap: what is garbage in its own pools is
-//! freed, and what lives there is counted.
+//! freed, and what lives there is counted. Where the collection is answered the pools in which nothing
+//! is left are given back.
 //!
 //! Each domain sweeps its own pools, with no lock and no memory ("Retrofitting Parallelism onto
 //! OCaml", section 3.2).
 #![tactic(auto)]
 
 mod counting;
-mod holding;
 mod owners;
+mod returning;
 mod sweeping;
 mod words;
 
 pub use counting::count_own;
-pub use holding::find_empty;
+pub use returning::return_pools;
 pub use sweeping::sweep_own;

@@ -1,11 +1,11 @@
 use Rattle.std.proofs.Common.{◌≡◌}
 use Rattle.heap_rule.specs.Token.{IsIn}
-use Rattle.sweeper.specs.Emptiness.{with_looks}
-use Rattle.sweeper.proofs.holding.find_empty.Given as goal
+use Rattle.sweeper.specs.Emptiness.{LooksFrom, with_looks}
+use Rattle.sweeper.proofs.returning.return_pools.Given as goal
 
 abbrev pub invariant-loop-pool : goal.invariant-loop-pool
 invariant-loop-pool l = record {
   here : IsIn l.dom l.heap;
   view : l.dom.view ≡ with_looks l.fn.dom.view l.dom.view;
-  next : l.dom.view.seen.share.held ≡ l.pool;
+  next : LooksFrom l.dom.view l.pool;
 }

@@ -1,0 +1,11 @@
+//! A domain's share of each phase of a collection of the major heap, and how domain 0 leads through it.
+//!
+//! No call takes a lock or memory.
+#![tactic(auto)]
+
+mod leading;
+mod opening;
+mod sharing;
+
+pub use leading::{cut_after, lead_on};
+pub use sharing::{give_back, share};

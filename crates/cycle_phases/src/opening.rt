@@ -1,0 +1,153 @@
+//! What domain 0 does in an odd phase before it names the next kind.
+ghost use Rattle.std.specs.Prelude.{◌≡◌, true};
+ghost use Rattle.heap_rule.specs.declared.phase.Kind.TheVariants.{Run, Promote, Reset, Mark, Rounds, Lasts, Sweep, Answer};
+ghost use Rattle.heap_rule.specs.declared.phase.Stage.TheVariants.{Leads};
+ghost use Rattle.heap_rule.specs.Token.{IsIn};
+ghost use Rattle.heap_rule.specs.Views.{voided};
+ghost use Rattle.cycle_phases.specs.Leading.{Opens, begins as begins_by, Findings};
+
+use heap_rule::{Config, Domain, Heap, Kind};
+use heap_words::{pack_colours, rotate};
+use safepoint::{Want, Wants, is_wanted, wants};
+use size_pools::{set_cursor_back, write_list};
+use steps_cycle::{changed_load, colours_now};
+use steps_sweep::{blocks_clear, colours_store, words_clear};
+
+// Before young blocks are copied the cursor is set back.
+fn after_run(heap: &Heap, dom: &mut Domain) -> Kind
+    requires here { IsIn dom.old heap.now }
+    requires first { dom.old.view.own.number ≡ 0 }
+    requires odd { dom.old.view.seen.stage ≡ Leads Run }
+    ensures here { IsIn dom.new heap.now }
+    ensures opens { Opens heap.now.config dom.old.view dom.new.view Run result }
+{
+    set_cursor_back(heap, dom);
+    Kind::Promote
+}
+
+// Whether a collection of the major heap begins, where so many pools are listed.
+fn begins(limits: &Config, wants: Wants, free: u32) -> bool
+    ensures { result ≡ begins_by limits.now (record { wants = wants.bits; changed = 0; free = free }) }
+{
+    is_wanted(wants, Want::Cycle)
+        || is_wanted(wants, Want::Full)
+        || 2 * u64::from(free) < u64::from(limits.pools)
+}
+
+// The list of free pools is written anew, and a collection of the major heap begins or none does.
+fn after_reset(heap: &Heap, dom: &mut Domain) -> Kind
+    requires here { IsIn dom.old heap.now }
+    requires first { dom.old.view.own.number ≡ 0 }
+    requires odd { dom.old.view.seen.stage ≡ Leads Reset }
+    ensures here { IsIn dom.new heap.now }
+    ensures opens { Opens heap.now.config dom.old.view dom.new.view Reset result }
+{
+    let free = write_list(heap, dom);
+    let found = wants(heap, dom);
+    if begins(&heap.config(), found, free) {
+        Kind::Roots
+    } else {
+        Kind::Run
+    }
+}
+
+// Blocks are marked until nothing is changed in a whole phase.
+fn after_mark(heap: &Heap, dom: &mut Domain) -> Kind
+    requires here { IsIn dom.old heap.now }
+    requires first { dom.old.view.own.number ≡ 0 }
+    requires odd { dom.old.view.seen.stage ≡ Leads Mark }
+    ensures here { IsIn dom.new heap.now }
+    ensures opens { Opens heap.now.config dom.old.view dom.new.view Mark result }
+{
+    if changed_load(heap, dom) == 0 {
+        Kind::Rounds
+    } else {
+        Kind::Mark
+    }
+}
+
+// The same of ephemerons. Then the first pass of the collection ends, or the second where the cut is
+// made.
+fn after_rounds(heap: &Heap, dom: &mut Domain, cut: bool) -> Kind
+    requires here { IsIn dom.old heap.now }
+    requires first { dom.old.view.own.number ≡ 0 }
+    requires odd { dom.old.view.seen.stage ≡ Leads Rounds }
+    requires cut { cut ≡ dom.old.view.seen.share.cut }
+    ensures here { IsIn dom.new heap.now }
+    ensures opens { Opens heap.now.config dom.old.view dom.new.view Rounds result }
+{
+    if changed_load(heap, dom) != 0 {
+        return Kind::Mark;
+    }
+    if cut { Kind::Clean } else { Kind::Decide }
+}
+
+// What wasn't marked is garbage from here on, and nothing that lives is counted yet.
+fn after_lasts(heap: &Heap, dom: &mut Domain) -> Kind
+    requires here { IsIn dom.old heap.now }
+    requires first { dom.old.view.own.number ≡ 0 }
+    requires odd { dom.old.view.seen.stage ≡ Leads Lasts }
+    requires forgot { dom.old.view.seen.share ≡ voided dom.old.view.seen.share }
+    ensures here { IsIn dom.new heap.now }
+    ensures opens { Opens heap.now.config dom.old.view dom.new.view Lasts result }
+{
+    let colours = colours_now(heap, dom);
+    colours_store(heap, dom, pack_colours(rotate(colours)));
+    blocks_clear(heap, dom);
+    words_clear(heap, dom);
+    Kind::Sweep
+}
+
+// Where a complete collection is asked for it is answered. Else domains run again, and the list of
+// free pools is written anew.
+fn after_sweep(heap: &Heap, dom: &mut Domain) -> Kind
+    requires here { IsIn dom.old heap.now }
+    requires first { dom.old.view.own.number ≡ 0 }
+    requires odd { dom.old.view.seen.stage ≡ Leads Sweep }
+    ensures here { IsIn dom.new heap.now }
+    ensures opens { Opens heap.now.config dom.old.view dom.new.view Sweep result }
+{
+    if is_wanted(wants(heap, dom), Want::Full) {
+        return Kind::Answer;
+    }
+    write_list(heap, dom);
+    Kind::Run
+}
+
+// The list of free pools is written anew, with the pools that were given back.
+fn after_answer(heap: &Heap, dom: &mut Domain) -> Kind
+    requires here { IsIn dom.old heap.now }
+    requires first { dom.old.view.own.number ≡ 0 }
+    requires odd { dom.old.view.seen.stage ≡ Leads Answer }
+    ensures here { IsIn dom.new heap.now }
+    ensures opens { Opens heap.now.config dom.old.view dom.new.view Answer result }
+{
+    write_list(heap, dom);
+    Kind::Run
+}
+
+// Finds which kind comes next, and does what belongs before it.
+pub(crate) fn open(heap: &Heap, dom: &mut Domain, last: Kind, cut: bool) -> Kind
+    requires here { IsIn dom.old heap.now }
+    requires first { dom.old.view.own.number ≡ 0 }
+    requires odd { dom.old.view.seen.stage ≡ Leads last }
+    requires forgot { dom.old.view.seen.share ≡ voided dom.old.view.seen.share }
+    requires cut { last ≡ Rounds → cut ≡ dom.old.view.seen.share.cut }
+    ensures here { IsIn dom.new heap.now }
+    ensures opens { Opens heap.now.config dom.old.view dom.new.view last result }
+{
+    match last {
+        Kind::Run => after_run(heap, dom),
+        Kind::Promote => Kind::Reset,
+        Kind::Reset => after_reset(heap, dom),
+        Kind::Roots => Kind::Mark,
+        Kind::Mark => after_mark(heap, dom),
+        Kind::Rounds => after_rounds(heap, dom, cut),
+        Kind::Decide => Kind::Queued,
+        Kind::Queued => Kind::Mark,
+        Kind::Clean => Kind::Lasts,
+        Kind::Lasts => after_lasts(heap, dom),
+        Kind::Sweep => after_sweep(heap, dom),
+        Kind::Answer => after_answer(heap, dom),
+    }
+}

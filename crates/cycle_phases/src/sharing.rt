@@ -1,0 +1,85 @@
+//! What a domain does in the even phases of a collection of the major heap.
+ghost use Rattle.std.specs.Prelude.{◌≡◌, ◌<◌, ◌^◌, []};
+ghost use Rattle.heap_rule.specs.declared.phase.Kind.TheVariants.{Answer, Sweep};
+ghost use Rattle.heap_rule.specs.declared.phase.Stage.TheVariants.{In};
+ghost use Rattle.heap_rule.specs.declared.view.Hunt.TheVariants.{Rests};
+ghost use Rattle.heap_rule.specs.Token.{IsIn};
+ghost use Rattle.heap_rule.specs.Views.{voided};
+ghost use Rattle.steps_pauses.specs.Pauses.{arrived_view};
+ghost use Rattle.cycle_phases.specs.Sharing.{IsShared, SharesIn, Works};
+
+use heap_rule::{Domain, Heap, Kind};
+use mark_slices::{Hints, mark_round, start_roots};
+use safepoint::arrive;
+use sweeper::{count_own, return_pools, sweep_own};
+
+// Frees the garbage of the own pools, and counts what lives there.
+fn sweep_and_count(heap: &Heap, dom: &mut Domain)
+    requires here { IsIn dom.old heap.now }
+    requires stage { dom.old.view.seen.stage ≡ In Sweep }
+    requires forgot { dom.old.view.seen.share ≡ voided dom.old.view.seen.share }
+    ensures here { IsIn dom.new heap.now }
+    ensures works { Works heap.now.config Sweep dom.old.view dom.new.view }
+{
+    sweep_own(heap, dom);
+    count_own(heap, dom);
+}
+
+// All that is asked of the domain in the phase before it arrives.
+fn work(heap: &Heap, dom: &mut Domain, kind: Kind, hints: &mut Hints)
+    requires here { IsIn dom.old heap.now }
+    requires phase { IsShared kind }
+    requires stage { dom.old.view.seen.stage ≡ In kind }
+    requires forgot { dom.old.view.seen.share ≡ voided dom.old.view.seen.share }
+    requires none { hints.old.items ≡ [] }
+    ensures here { IsIn dom.new heap.now }
+    ensures works { Works heap.now.config kind dom.old.view dom.new.view }
+    ensures hints { hints.new ≡ hints.old }
+{
+    match kind {
+        Kind::Roots => start_roots(heap, dom),
+        Kind::Mark => mark_round(heap, dom, hints),
+        Kind::Sweep => sweep_and_count(heap, dom),
+        _ => (),
+    }
+}
+
+/// The domain does its share of an even phase of a collection of the major heap, and arrives. It has
+/// done nothing in the phase before. In Roots it marks what its registers refer to, in Mark what the
+/// marked blocks of its own pools refer to, and in Sweep it frees the garbage of its own pools and
+/// counts what lives there. In the other phases it has nothing to do: no ephemeron and no finaliser
+/// exists yet. All that it owns stays as it was but the number of its arrivals, and, where it sweeps,
+/// from where it looks for free places.
+pub fn share(heap: &Heap, dom: &mut Domain, kind: Kind, hints: &mut Hints)
+    requires here { IsIn dom.old heap.now }
+    requires phase { IsShared kind }
+    requires stage { dom.old.view.seen.stage ≡ In kind }
+    requires at_rest { dom.old.view.seen.hunt ≡ Rests }
+    requires idle { dom.old.view.seen.made ≡ [] }
+    requires few { dom.old.view.own.arrivals < 2 ^ 60 }
+    requires forgot { dom.old.view.seen.share ≡ voided dom.old.view.seen.share }
+    requires none { hints.old.items ≡ [] }
+    ensures here { IsIn dom.new heap.now }
+    ensures shares { SharesIn kind dom.old.view dom.new.view }
+    ensures hints { hints.new ≡ hints.old }
+{
+    work(heap, dom, kind, hints);
+    arrive(heap, dom);
+}
+
+/// Where a collection is answered the domain gives back its pools in which nothing is left, and
+/// arrives. It has looked at none of them in the phase before. All that it owns stays as it was but the
+/// number of its arrivals.
+pub fn give_back(heap: &Heap, dom: &mut Domain)
+    requires here { IsIn dom.old heap.now }
+    requires stage { dom.old.view.seen.stage ≡ In Answer }
+    requires at_rest { dom.old.view.seen.hunt ≡ Rests }
+    requires idle { dom.old.view.seen.made ≡ [] }
+    requires few { dom.old.view.own.arrivals < 2 ^ 60 }
+    requires forgot { dom.old.view.seen.share ≡ voided dom.old.view.seen.share }
+    ensures here { IsIn dom.new heap.now }
+    ensures view { dom.new.view ≡ arrived_view dom.old.view }
+{
+    return_pools(heap, dom);
+    arrive(heap, dom);
+}

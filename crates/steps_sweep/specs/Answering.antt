@@ -1,0 +1,29 @@
+-- What the steps ask and tell by which a domain learns what lives, where a collection is answered, and answers `full_major`.
+use Rattle.std.specs.Prelude.{◌≡◌, ℕ, false, [], Some}
+use Rattle.heap_model.specs.declared.command.Command.TheVariants.{FullMajor}
+use Rattle.heap_model.specs.declared.entry.Entry.TheVariants.{Command}
+use Rattle.heap_model.specs.declared.reply.Applied.TheVariants.{Replied}
+use Rattle.heap_model.specs.declared.reply.Reply.TheVariants.{Live}
+use Rattle.heap_model.specs.Domains.{domain_at}
+use Rattle.heap_words.specs.declared.value.Value.TheVariants.{Nothing}
+use Rattle.heap_rule.specs.declared.config.Config.{Config}
+use Rattle.heap_rule.specs.declared.phase.Kind.TheVariants.{Answer}
+use Rattle.heap_rule.specs.declared.phase.Stage.TheVariants.{In}
+use Rattle.heap_rule.specs.declared.view.DomainView.{DomainView}
+use Rattle.heap_rule.specs.Rule.{state_of}
+use Rattle.heap_rule.specs.Standing.{Entered}
+use Rattle.steps_cycle.specs.Looks.{with_share}
+
+-- the domain knows how many blocks live
+abbrev pub LiveBlocksTold : DomainView → ℕ → DomainView → Type 0
+LiveBlocksTold x found y = y ≡ with_share x (record x.seen.share { blocks = Some found })
+
+-- in Answer, a load of the live words by a domain whose trace hasn't ended, and which knows how many blocks live
+pub record LiveWordsMay (k : Config) (x : DomainView) (blocks : ℕ) : Type 0 where
+  pub stage : x.seen.stage ≡ In Answer
+  pub known : x.seen.share.blocks ≡ Some blocks
+  pub goes_on : (domain_at (state_of k x.seen.front) x.own.number).ended ≡ false
+
+-- its `full_major` is answered with these blocks and the words that are found
+abbrev pub LiveWordsTold : Config → ℕ → DomainView → ℕ → DomainView → Type 0
+LiveWordsTold k blocks x found y = Entered k (Command x.own.number FullMajor false) (Replied (Live blocks found)) Nothing [] x y
