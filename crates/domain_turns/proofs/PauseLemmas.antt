@@ -47,7 +47,6 @@ promote_run e = cc
 pub reset_run : Reset ≢ Run
 reset_run e = cc
 
-
 -- which kind lies before
 pub before_promote : (a : Kind) → Follows a Promote → a ≡ Run
 before_promote Run f = refl

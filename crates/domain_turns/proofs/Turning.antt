@@ -37,7 +37,7 @@ take_next [] n c at = cc
 take_next (x ∷ xs) zero c at = let is : x ≡ c = cc in ap (λ (y : model.Command). y ∷ []) is
 take_next (x ∷ xs) (suc n) c at = ap (λ (ys : List model.Command). x ∷ ys) (take_next xs n c at)
 
-inside : (cs : List model.Command) (n : ℕ) (c : model.Command) → slice_get cs n ≡ Some c → n < length cs
+pub inside : (cs : List model.Command) (n : ℕ) (c : model.Command) → slice_get cs n ≡ Some c → n < length cs
 inside [] n c at = cc
 inside (x ∷ xs) zero c at = omega arith
 inside (x ∷ xs) (suc n) c at = let rest = inside xs n c at in omega arith
@@ -51,6 +51,13 @@ stood h old new (Alloc dst tag fields) collected r s = ⊎_elim (λ a. (false, a
 stood h old new (AllocMaj dst tag fields) collected r s = ⊎_elim (λ a. (false, a.0)) (λ b. (true, b.0)) s
 stood h old new (PutInt dst z) collected r s = (false, s)
 stood h old new c collected r s = (false, s)
+
+-- a run that has a next command goes on
+pub next_running : (r : RunView) → IsRun r → (c : model.Command) → slice_get r.commands r.next ≡ Some c → r.ended ≡ false
+next_running r is c at = by r.ended refl where
+  by : (b : Bool) → r.ended ≡ b → r.ended ≡ false
+  by false e = e
+  by true e = absurd (let done = is.done e in let below = inside r.commands r.next c at in let n : ℕ = r.next in omega arith)
 
 labels_few : (c : model.Command) (r : Reply) → labels_given c r ≤ 1
 labels_few (Alloc dst tag fields) (Block l) = omega arith

@@ -6,7 +6,7 @@ use crate::form::{Operand, Word};
 use heap_model::command::Command;
 
 // The words of the grammar: the commands that are built.
-const BUILT: [Word; 9] = [
+const BUILT: [Word; 11] = [
     Word::Int,
     Word::Move,
     Word::Drop,
@@ -16,6 +16,8 @@ const BUILT: [Word; 9] = [
     Word::Store,
     Word::Poll,
     Word::Minor,
+    Word::Major,
+    Word::FullMajor,
 ];
 
 // The word that a row's line begins with.
