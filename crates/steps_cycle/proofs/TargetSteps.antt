@@ -6,7 +6,7 @@ use Rattle.atomic_table.specs.Table.{keeps}
 use Rattle.heap_model.specs.declared.entry.Entry.{Entry}
 use Rattle.heap_rule.specs.declared.config.Config.{Config}
 use Rattle.heap_rule.specs.declared.view.DomainView.{DomainView}
-use Rattle.heap_rule.specs.declared.view.Glimpse.{Glimpse}
+use Rattle.heap_rule.specs.declared.view.FoundHead.{FoundHead}
 use Rattle.heap_rule.specs.declared.view.Share.{Share}
 use Rattle.heap_rule.specs.Layout.{before_heap, at_address}
 use Rattle.heap_rule.specs.Places.{Place}
@@ -16,14 +16,14 @@ use Rattle.heap_rule.specs.Rule.{Rule}
 use Rattle.heap_rule.specs.Views.{one}
 use Rattle.heap_rule.proofs.Keeps.{Words, my_good, unmoved}
 use Rattle.steps_cycle.specs.Looks.{with_share}
-use Rattle.steps_cycle.specs.Marking.{GlimpseMay, GlimpseTold, Reason, Warrants, moved_on}
+use Rattle.steps_cycle.specs.Marking.{TargetMay, TargetTold, Reason, Warrants, moved_on}
 use Rattle.steps_cycle.proofs.Colouring.{BareHead, bare_head, marked_colour, unmarked_colour}
 use Rattle.steps_cycle.proofs.Learning.{bare, held, knows_more, known}
 use Rattle.steps_cycle.proofs.Targets.{Target, moved_knows, target}
 use Rattle.std.proofs.lemmas.Bool.{cases_Bool}
 
-glimpse_same : (g h : Glimpse) → Some g ≡ Some h → g ≡ h
-glimpse_same g h e = cc
+found_head_same : (g h : FoundHead) → Some g ≡ Some h → g ≡ h
+found_head_same g h e = cc
 
 module _ (k : Config) (s : Words) (r : Rule k s) (id : ℕ) (hist : List Entry) (x : DomainView) (at : get_elem? s.views id ≡ some (one k hist x)) where
   abbrev c : Cycling
@@ -40,7 +40,7 @@ module _ (k : Config) (s : Words) (r : Rule k s) (id : ℕ) (hist : List Entry) 
   goes_on collecting reason a w p lives marked = knows_more k s r id hist x at collecting (held (moved_on reason a sh)) refl refl
       (moved_knows k s r id hist x at collecting a p lives c.paint.marks s.words marked (known k s r id hist x at) reason w sh.owes)
 
-  module _ (a : ℕ) (reason : Reason) (may : GlimpseMay x a reason) where
+  module _ (a : ℕ) (reason : Reason) (may : TargetMay x a reason) where
     aim : Target k s r id hist x at a
     aim = target k s r id hist x at reason a may.reason_is
 
@@ -53,8 +53,8 @@ module _ (k : Config) (s : Words) (r : Rule k s) (id : ℕ) (hist : List Entry) 
     means : may.colours ≡ c.paint.colours
     means = (my_good k s r id hist x at).sharing.telling.colours may.colours may.known
 
-    pub glimpses : (y : DomainView) × After y × GlimpseTold a reason x found y
-    glimpses = ⊎_elim
+    pub target_told : (y : DomainView) × After y × TargetTold a reason x found y
+    target_told = ⊎_elim
         (λ (e : c.paint.marks.marked aim.place.label ≡ true). (
           with_share x (moved_on reason a sh),
           goes_on may.collects reason a may.reason_is aim.place aim.lives e,
@@ -62,13 +62,13 @@ module _ (k : Config) (s : Words) (r : Rule k s) (id : ℕ) (hist : List Entry) 
         ))
         (λ (e : c.paint.marks.marked aim.place.label ≡ false).
         let n = known k s r id hist x at in
-        let share' : Share = record sh { glimpse = Some (record { address = a; word = found }) } in (
+        let share' : Share = record sh { found_head = Some (record { address = a; word = found }) } in (
           with_share x share',
           knows_more k s r id hist x at may.collects (held share') refl refl record {
-            glimpse = λ g p q lives. let is : (record { address = a; word = found }) ≡ g = glimpse_same (record { address = a; word = found }) g q in inl (subst (λ (z : Glimpse). at_address k s.words z.address ≡ z.word) is refl);
+            found_head = λ g p q lives. let is : (record { address = a; word = found }) ≡ g = found_head_same (record { address = a; word = found }) g q in inl (subst (λ (z : FoundHead). at_address k s.words z.address ≡ z.word) is refl);
             scan = n.scan;
             walked = n.walked;
-            tenure = n.tenure;
+            own_pool = n.own_pool;
             rooted = n.rooted;
             marked = n.marked;
           },
@@ -76,7 +76,7 @@ module _ (k : Config) (s : Words) (r : Rule k s) (id : ℕ) (hist : List Entry) 
         ))
         (cases_Bool (c.paint.marks.marked aim.place.label))
 
-pub glimpse_may : (k : Config) (x : DomainView) (word a : ℕ) (reason : Reason) → word ≡ before_heap k + a → GlimpseMay x a reason → MayStep k x word (λ n. n) (GlimpseTold a reason)
-glimpse_may k x word a reason place may fits slots id hist s r _ at _ =
-    let o = glimpses k s r id hist x at a reason may in
-    (one k hist o.0, keeps, tt, unmoved k s word (set s.views id (one k hist o.0)) o.1, (subst (λ (n : ℕ). GlimpseTold a reason x (get_or s.words n 0) o.0) (sym place) o.2, refl))
+pub target_may : (k : Config) (x : DomainView) (word a : ℕ) (reason : Reason) → word ≡ before_heap k + a → TargetMay x a reason → MayStep k x word (λ n. n) (TargetTold a reason)
+target_may k x word a reason place may fits slots id hist s r _ at _ =
+    let o = target_told k s r id hist x at a reason may in
+    (one k hist o.0, keeps, tt, unmoved k s word (set s.views id (one k hist o.0)) o.1, (subst (λ (n : ℕ). TargetTold a reason x (get_or s.words n 0) o.0) (sym place) o.2, refl))

@@ -1,5 +1,5 @@
 use Rattle.steps_sweep.proofs.AddSteps.{words_add_may, words_add_closes}
-use Rattle.steps_sweep.proofs.tallying.words_add.Goals as goal
+use Rattle.steps_sweep.proofs.counting.words_add.Goals as goal
 
 pub raw_add-requires-clause-may : goal.raw_add-requires-clause-may
 raw_add-requires-clause-may c = words_add_may c.args.heap.now.config c.args.dom.now.view c.args.amount c.requires.may

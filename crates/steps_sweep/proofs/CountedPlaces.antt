@@ -12,7 +12,7 @@ use Rattle.cycle_laws.specs.Counting.{added_up}
 use Rattle.cycle_laws.proofs.DomainParts.{listed_at, listed_cases}
 use Rattle.heap_rule.specs.Cycles.{extent_in, label_in, labels_in, seen_by}
 use Rattle.heap_rule.specs.Places.{Live, Place, extent}
-use Rattle.steps_sweep.proofs.TallySteps.{among}
+use Rattle.steps_sweep.proofs.CountSteps.{among}
 use Rattle.std.proofs.lemmas.List.Sums.{sum_by-cons}
 
 label_same : (p : Place) (l : Label) → Some p.label ≡ Some l → p.label ≡ l

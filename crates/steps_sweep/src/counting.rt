@@ -1,7 +1,7 @@
 //! The count of what lives, by each domain in its own pools.
 ghost use Rattle.heap_rule.specs.Standing.{IsInHeap};
 ghost use Rattle.heap_rule.specs.Token.{IsIn};
-ghost use Rattle.steps_sweep.specs.Tallying.{BlocksAddMay, BlocksAdded, TallyMay, TallyOwnMay, TallyOwnTold, TallyTold, WordsAddMay, WordsAdded};
+ghost use Rattle.steps_sweep.specs.Counting.{BlocksAddMay, BlocksAdded, CountMay, CountOwnMay, CountOwnTold, CountTold, WordsAddMay, WordsAdded};
 
 use crate::freeing::Seeking;
 use heap_rule::{Domain, Heap, LIVE_BLOCKS, LIVE_WORDS, Leaving, raw_add, raw_load};
@@ -10,11 +10,11 @@ use std::marker::Brand;
 /// A load of the owner of the next pool through which the domain counts, in Sweep. Where it is the
 /// domain's own its class is known then, and else the count goes on in the pool behind it. `at` is
 /// the index of the owner's word. Answers the word.
-pub fn tally_own_load(heap: &Heap, dom: &mut Domain, at: u32, pool: u32) -> u64
+pub fn count_own_load(heap: &Heap, dom: &mut Domain, at: u32, pool: u32) -> u64
     requires here { IsIn dom.old heap.now }
-    requires may { TallyOwnMay heap.now.config dom.old.view at pool }
+    requires may { CountOwnMay heap.now.config dom.old.view at pool }
     ensures here { IsIn dom.new heap.now }
-    ensures told { TallyOwnTold pool dom.old.view result dom.new.view }
+    ensures told { CountOwnTold pool dom.old.view result dom.new.view }
 {
     let _limits = heap.config();
     let writing = Seeking {
@@ -28,12 +28,12 @@ pub fn tally_own_load(heap: &Heap, dom: &mut Domain, at: u32, pool: u32) -> u64
 
 /// A load of the head at the next own place at which the domain has found no garbage. A block that
 /// lives there is counted. `at` is the place's address. Answers the head's word.
-pub fn tally_load(heap: &Heap, dom: &mut Domain, at: u32, pool: u32, class: u32, slot: u32) -> u64
+pub fn count_load(heap: &Heap, dom: &mut Domain, at: u32, pool: u32, class: u32, slot: u32) -> u64
     requires here { IsIn dom.old heap.now }
     requires inside { IsInHeap heap.now.config at }
-    requires may { TallyMay dom.old.view at pool class slot }
+    requires may { CountMay dom.old.view at pool class slot }
     ensures here { IsIn dom.new heap.now }
-    ensures told { TallyTold at pool class slot dom.old.view result dom.new.view }
+    ensures told { CountTold at pool class slot dom.old.view result dom.new.view }
 {
     let index = heap.index_of(at);
     let writing = Seeking {
