@@ -1,19 +1,18 @@
 -- Until a domain makes a command, the complete collection that was is fresh for it, whatever others do.
-use Rattle.std.proofs.Common.{◌≡◌, ◌≢◌, ℕ, zero, suc, ◌<◌, arith, Bool, true, false, eqb, eq-eqb, List, [], ◌∷◌, ◌++◌, map, length, get_or, replicate, Option, Some, None, refl, ap, sym, ◌∙◌, subst, length-set, get_or-set_other}
+use Rattle.std.proofs.Common.{◌≡◌, ◌≢◌, ℕ, zero, suc, ◌<◌, arith, true, false, List, [], ◌∷◌, map, length, get_or, Option, Some, None, refl, ap, sym, ◌∙◌, subst, length-set, get_or-set_other}
 use Rattle.std.proofs.lemmas.List.{length-map, length-replicate}
 use Rattle.heap_model.specs.declared.entry.Entry.{Entry}
 use Rattle.heap_model.specs.declared.entry.Entry.TheVariants.{Command as CommandOf, End, Cut, Queue, Seal, Wipe, Last as LastOf, Collected, Done, Ran}
-use Rattle.heap_model.specs.declared.graph.Value.TheVariants.{Block}
 use Rattle.heap_model.specs.declared.graph.Node.{Node}
 use Rattle.heap_model.specs.declared.label.Label.{Label}
 use Rattle.heap_model.specs.declared.command.Command.{Command}
 use Rattle.heap_model.specs.declared.state.DomainState.{DomainState}
-use Rattle.heap_model.specs.declared.state.Mode.TheVariants.{Open, Cut as CutMode, Sealed, Answer}
+use Rattle.heap_model.specs.declared.state.Mode.TheVariants.{Answer}
 use Rattle.heap_model.specs.declared.state.Pending.{Pending}
 use Rattle.heap_model.specs.declared.state.Pending.TheVariants.{Fin, Last}
 use Rattle.heap_model.specs.declared.state.Sizes.{Sizes}
 use Rattle.heap_model.specs.declared.state.State.{State}
-use Rattle.heap_model.specs.Domains.{domain_at, with_domain, with_register, no_domain, opening, opening_domain}
+use Rattle.heap_model.specs.Domains.{domain_at, with_domain, no_domain, opening, opening_domain}
 use Rattle.heap_model.specs.Commands.{outcome}
 use Rattle.heap_model.specs.Entries.{wiped, with_wiped, with_queued, with_last_queued, with_finals_open, with_lasts_open, freshened, without_first, ended, after_run, next}
 use Rattle.heap_model.specs.Graph.{node_at}
