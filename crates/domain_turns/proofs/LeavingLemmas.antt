@@ -1,5 +1,5 @@
 -- What the look of a domain that has arrived leaves of its run.
-use Rattle.std.proofs.Common.{◌≡◌, ◌≢◌, ◌∙◌, ℕ, ◌+◌, ◌<◌, Bool, true, false, List, ◌∷◌, [], ◌++◌, Option, Some, None, refl, sym, ap, subst, inl, inr, ⊎_elim}
+use Rattle.std.proofs.Common.{◌≡◌, ◌≢◌, ◌∙◌, ℕ, ◌+◌, ◌<◌, Bool, true, List, Option, Some, refl, sym, ap, subst, inl, ⊎_elim}
 use Rattle.heap_model.specs.declared.entry.Entry.{Entry}
 use Rattle.heap_model.specs.declared.entry.Entry.TheVariants.{Collected}
 use Rattle.heap_model.specs.declared.state.State as model
@@ -20,20 +20,17 @@ use Rattle.heap_rule.specs.Phases.{Follows, Comes, IsEven, IsOdd}
 use Rattle.heap_rule.specs.Rule.{state_of}
 use Rattle.heap_rule.specs.Standing.{with_front}
 use Rattle.heap_rule.specs.Token.{Token, SharedHeap, IsIn}
-use Rattle.heap_rule.specs.Views.{voided, fresh_share}
+use Rattle.heap_rule.specs.Views.{fresh_share}
 use Rattle.steps_pauses.specs.Pauses.{kind_in, arrived_view, noted, cut_in, entry_of, EndsWith, IsModeOf}
 use Rattle.steps_promote.specs.Promotion.{reset_view}
 use Rattle.safepoint.specs.Looks.{Passed}
 use Rattle.cycle_phases.specs.Sharing.{SharesIn, with_looked}
 use Rattle.cycle_phases.specs.Leading.{LeadsOn}
-use Rattle.domain_turns.specs.declared.passing.Past.{Past}
-use Rattle.domain_turns.specs.declared.passing.Past.TheVariants.{Waits, Arrived, Answered, Runs}
 use Rattle.domain_turns.specs.Tries.{IsFresh}
-use Rattle.domain_turns.specs.Pausing.{IsQuiet, IsPast, IsReady, HasLeft, IsMarking, KnowsAnswer, KnowsCut, LeavesEven, LeavesOdd, ComesToAnswer, GivesBack, AnswersLive}
+use Rattle.domain_turns.specs.Pausing.{IsQuiet, IsPast, IsReady, HasLeft, IsMarking, KnowsAnswer, KnowsCut, LeavesEven, LeavesOdd, ComesToAnswer, GivesBack}
 use Rattle.domain_turns.specs.Runs.{IsBetween, Passes}
-use Rattle.domain_turns.specs.Past.{PassAnswers, left_after}
-use Rattle.domain_turns.proofs.Moving.{Moves, still_moves, view_moves}
-use Rattle.domain_turns.proofs.PauseLemmas.{not_both, even_next, odd_next, answer_on, before_answer, fresh_on, past_as, keeps_as, void_as, arrived_void, later_past, quiet_as, looked_past, looked_quiet, ready_next, even_past, even_quiet, arrived_quiet}
+use Rattle.domain_turns.proofs.Moving.{Moves, view_moves}
+use Rattle.domain_turns.proofs.PauseLemmas.{not_both, even_next, odd_next, answer_on, before_answer, fresh_on, past_as, keeps_as, arrived_void, later_past, quiet_as, looked_past, looked_quiet, ready_next, even_past, even_quiet, arrived_quiet}
 
 some_injective : (a b : Kind) → ◌≡◌ {A = Option Kind} (Some a) (Some b) → a ≡ b
 some_injective a b e = cc

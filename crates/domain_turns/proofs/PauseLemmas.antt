@@ -1,15 +1,13 @@
 -- What a domain keeps as it goes through the phases of a pause.
-use Rattle.std.proofs.Common.{◌≡◌, ◌≢◌, ◌∙◌, ℕ, ◌+◌, ◌*◌, ◌<◌, ◌⊎◌, Bool, false, true, List, Some, refl, sym, ap, subst, inl, inr, ⊎_elim, arith}
+use Rattle.std.proofs.Common.{◌≡◌, ◌≢◌, ◌∙◌, ℕ, ◌+◌, ◌*◌, ◌<◌, ◌⊎◌, true, List, refl, sym, ap, subst, inl, inr, ⊎_elim, arith}
 use mathlib.Core.Logic.{dite}
 use native.Mathlib.Decide.{ℕ_discrete}
 use Rattle.remembered_set.specs.Bounded.{Bounded}
-use Rattle.heap_model.specs.declared.entry.Entry.{Entry}
 use Rattle.heap_model.specs.declared.state.Mode.{Mode}
 use Rattle.heap_model.specs.declared.state.Mode.TheVariants.{Sealed, Answer as Answered}
 use Rattle.heap_model.specs.Domains.{domain_at}
 use Rattle.heap_model.specs.Fronts.{IsFrontOf}
 use Rattle.heap_model.proofs.Histories.FreshLemmas.{fresh_stays, fresh_after_answer}
-use Rattle.heap_model.proofs.Histories.FrontLemmas.{front_whole}
 use Rattle.heap_words.specs.declared.value.Value.{Value}
 use Rattle.heap_rule.specs.declared.config.Config.{Config}
 use Rattle.heap_rule.specs.declared.phase.Kind.{Kind}
@@ -23,8 +21,7 @@ use Rattle.heap_rule.specs.Phases.{Follows, Comes, IsEven, IsOdd}
 use Rattle.heap_rule.specs.Rule.{state_of}
 use Rattle.heap_rule.specs.Running.{RemembersAll}
 use Rattle.heap_rule.specs.Views.{voided}
-use Rattle.heap_rule.proofs.Controls.{parity}
-use Rattle.steps_pauses.specs.Pauses.{arrived_view, EndsWith, IsModeOf, entry_of}
+use Rattle.steps_pauses.specs.Pauses.{arrived_view, IsModeOf}
 use Rattle.steps_promote.specs.Promotion.{reset_view}
 use Rattle.promote_claim.specs.Sharing.{Unprepared}
 use Rattle.safepoint.specs.Looks.{Passed}

@@ -1,4 +1,4 @@
-use Rattle.std.proofs.Common.{◌≡◌, ◌≢◌, ℕ, ◌+◌, ◌<◌, sym, subst, ◌∙◌, arith}
+use Rattle.std.proofs.Common.{◌≡◌, ℕ, ◌+◌, ◌<◌, sym, subst, ◌∙◌, arith}
 use Rattle.heap_model.specs.declared.command.Command.{Command}
 use Rattle.domain_turns.specs.Tries.{AttemptAnswers, NeedsPause, Tried}
 use Rattle.domain_turns.proofs.command.try_command.Goals as goal

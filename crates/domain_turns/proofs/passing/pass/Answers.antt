@@ -1,11 +1,10 @@
-use Rattle.std.proofs.Common.{◌≡◌, ◌∙◌, inl, ap, subst}
+use Rattle.std.proofs.Common.{inl, ap, subst}
 use Rattle.heap_rule.specs.declared.phase.Kind.{Kind}
 use Rattle.heap_rule.specs.declared.phase.Kind.TheVariants.{Answer}
 use Rattle.heap_rule.specs.Phases.{Comes}
 use Rattle.steps_pauses.specs.Pauses.{kind_in}
 use Rattle.safepoint.specs.Looks.{LookAnswers}
 use Rattle.safepoint.specs.declared.answer.Look.TheVariants.{Next}
-use Rattle.heap_rule.specs.declared.view.DomainView.{DomainView}
 use Rattle.domain_turns.proofs.PauseLemmas.{looked_quiet, ready_next}
 use Rattle.domain_turns.proofs.PassingLemmas.{look_goes_on, comes_to, answers_pass}
 use Rattle.domain_turns.proofs.passing.pass.Goals as goal
