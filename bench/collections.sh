@@ -46,7 +46,7 @@ chains() {
         echo "domain $domain"
         chain "$2"
         if [ "$1" -gt 1 ]; then
-            repeat poll $((domain == 0 ? 8000 : 24000))
+            repeat poll $((domain == 0 ? 8000 : 23000))
         fi
         if [ "$domain" = 0 ]; then
             repeat full_major "$3"
@@ -116,7 +116,7 @@ sizes() {
             printf "%d blocks are left: a full_major takes %.3f ms, %.0f ns a block beyond the %.3f ms of an empty heap\n", b, t * 1e3, (t - none) / b * 1e9, none * 1e3
         }'
     done | tee "$work/sizes"
-    awk '{ t[NR] = $9 } END { printf "ratio of the last to the first, a block: %.2f\n", t[3] / t[1] }' "$work/sizes"
+    awk '{ t[NR] = $10 } END { printf "ratio of the last to the first, a block: %.2f\n", t[3] / t[1] }' "$work/sizes"
 }
 
 # A script of two domains that make two lists, $1 blocks in all. In one thread they go on by turns, one command each. A domain puts

@@ -302,7 +302,11 @@ fn an_empty_pool_is_given_back(rt: HostRuntime) -> Result<(), Fail> {
     let Some(shown) = play.shown(0) else {
         return Err(Fail::from("no run"));
     };
-    same(&rt, (shown.used, shown.registers), (0, [SHARED, COPY, Value::Nothing]));
+    same(
+        &rt,
+        (shown.used, shown.registers),
+        (0, [SHARED, COPY, Value::Nothing]),
+    );
     same(&rt, play.into_first()?.replies(), COUNTED.as_slice());
     Ok(())
 }
