@@ -1,24 +1,77 @@
-//! Pools that are drawn before and after a pause.
+//! Pools that fill, and pauses after which some are free again or none is.
 use crate::program::runs_to;
+use std::alloc::{AllocError, Global};
 use std::test::Fail;
 
-// Of 14 pools six can be drawn, with 32 blocks of 128 words each. Each pause lists the pools that are
-// left, so the blocks are as many as without a pause.
+// Of 14 pools six can be drawn, with 32 blocks of 128 words each.
+const WORDS: &str = "run --domains 1 --minor 4096 --pools 14";
+
+// Appends the making of the blocks with these labels, and what it prints. Each leads to the one before, and
+// registers 1 and 2 hold the last.
+fn push_chain(
+    alloc: Global,
+    script: &mut String,
+    prints: &mut String,
+    command: &str,
+    first: u32,
+    last: u32,
+) -> Result<(), AllocError> {
+    for serial in first..=last {
+        script.push_str(command)?;
+        script.push_str(" 1 0 126\nstore 1 0 2\nmove 2 1\n")?;
+        prints.push_str(&format!(in alloc; "blk 0:{serial}\nok\nok\n")?)?;
+    }
+    Ok(())
+}
+
+// Each pause lists the pools that are left, so the blocks are as many as without a pause.
 #[test]
 fn a_pause_lists_the_pools_that_are_left(rt: HostRuntime) -> Result<(), Fail> {
     let alloc = rt.alloc();
-    let mut script = String::from_str(alloc, "heap 1\ndomain 0\n")?;
-    let mut prints = String::from_str(alloc, "domain 0\n")?;
+    let mut script = String::from_str(alloc, "heap 1\ndomain 0\nint 2 0\n")?;
+    let mut prints = String::from_str(alloc, "domain 0\nok\n")?;
     for (first, last) in [(1, 64), (65, 192)] {
-        for serial in first..=last {
-            script.push_str("allocmaj 1 0 126\n")?;
-            prints.push_str(&format!(in alloc; "blk 0:{serial}\n")?)?;
-        }
+        push_chain(alloc, &mut script, &mut prints, "allocmaj", first, last)?;
         script.push_str("minor\n")?;
         prints.push_str("ok\n")?;
     }
     script.push_str("allocmaj 1 0 126\n")?;
     prints.push_str("full\n")?;
-    let words = "run --domains 1 --minor 4096 --pools 14";
-    Ok(runs_to(&rt, alloc, words, &script, &prints)?)
+    Ok(runs_to(&rt, alloc, WORDS, &script, &prints)?)
+}
+
+// An allocation is answered `full` while all blocks are kept, and finds room once they are dropped. Of young
+// blocks 32 more are made: the minor area holds those that no pool has room for.
+#[test]
+fn a_heap_is_full_while_its_blocks_are_kept(rt: HostRuntime) -> Result<(), Fail> {
+    for (command, blocks) in [("allocmaj", 192u32), ("alloc", 224)] {
+        let alloc = rt.alloc();
+        let mut script = String::from_str(alloc, "heap 1\ndomain 0\nint 2 0\n")?;
+        let mut prints = String::from_str(alloc, "domain 0\nok\n")?;
+        push_chain(alloc, &mut script, &mut prints, command, 1, blocks)?;
+        let last = format!(in alloc; "{command} 3 0 126\n")?;
+        script.push_str(&last)?;
+        script.push_str("drop 1\ndrop 2\n")?;
+        script.push_str(&last)?;
+        script.push_str("full_major\n")?;
+        let next = blocks + 1;
+        prints.push_str(&format!(in alloc; "full\nok\nok\nblk 0:{next}\nlive 2 146\n")?)?;
+        runs_to(&rt, alloc, WORDS, &script, &prints)?;
+    }
+    Ok(())
+}
+
+// Of 1000 blocks that are made and dropped no more than 192 have room at once.
+#[test]
+fn dropped_blocks_make_room(rt: HostRuntime) -> Result<(), Fail> {
+    let alloc = rt.alloc();
+    let mut script = String::from_str(alloc, "heap 1\ndomain 0\n")?;
+    let mut prints = String::from_str(alloc, "domain 0\n")?;
+    for serial in 1..=1000u32 {
+        script.push_str("allocmaj 1 0 126\n")?;
+        prints.push_str(&format!(in alloc; "blk 0:{serial}\n")?)?;
+    }
+    script.push_str("full_major\n")?;
+    prints.push_str("live 2 146\n")?;
+    Ok(runs_to(&rt, alloc, WORDS, &script, &prints)?)
 }

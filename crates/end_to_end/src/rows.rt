@@ -3,7 +3,7 @@ use crate::program::{PLAIN, PLAIN_PRINTS, is_given, run_plain, runs_to};
 use std::test::Fail;
 
 // Words, a script, and what its run prints.
-const REPLIES: [(&str, &str, &str); 11] = [
+const REPLIES: [(&str, &str, &str); 17] = [
     ("run --domains 1", PLAIN, PLAIN_PRINTS),
     ("run --domains 1", "heap 1\ndomain 0\n", "domain 0\n"),
     ("run", "heap 1\ndomain 0\n", "domain 0\ndomain 1\n"),
@@ -46,6 +46,36 @@ const REPLIES: [(&str, &str, &str); 11] = [
         "run --domains 1",
         "heap 1\ndomain 0\nalloc 1 0 2\nalloc 2 0 2\nstore 1 0 2\nstore 2 0 1\nstore 1 1 1\nminor\nload 3 1 0\nload 4 3 0\nload 5 4 1\n",
         "domain 0\nblk 0:1\nblk 0:2\nok\nok\nok\nok\nblk 0:2\nblk 0:1\nblk 0:1\n",
+    ),
+    (
+        "run --domains 1",
+        "heap 1\ndomain 0\nallocmaj 1 0 126\ndrop 1\nfull_major\nallocmaj 1 0 1\nallocmaj 2 0 1\nfull_major\n",
+        "domain 0\nblk 0:1\nok\nlive 1 18\nblk 0:2\nblk 0:3\nlive 3 24\n",
+    ),
+    (
+        "run --domains 1",
+        "heap 1\ndomain 0\nallocmaj 1 0 28\ndrop 1\nfull_major\nallocmaj 1 0 5\nfull_major\n",
+        "domain 0\nblk 0:1\nok\nlive 1 18\nblk 0:2\nlive 2 25\n",
+    ),
+    (
+        "run --domains 1",
+        "heap 1\ndomain 0\nalloc 1 0 2\nalloc 2 0 1\nstore 1 0 2\nstore 2 0 1\nstore 1 1 1\ndrop 2\nminor\nload 3 1 0\nload 4 3 0\nload 5 1 1\nfull_major\n",
+        "domain 0\nblk 0:1\nblk 0:2\nok\nok\nok\nok\nok\nblk 0:2\nblk 0:1\nblk 0:1\nlive 3 25\n",
+    ),
+    (
+        "run --domains 1",
+        "heap 1\ndomain 0\nallocmaj 1 0 1\nalloc 2 0 1\nstore 1 0 2\nint 3 9\nstore 1 0 3\ndrop 2\nminor\nload 4 1 0\nfull_major\n",
+        "domain 0\nblk 0:1\nblk 0:2\nok\nok\nok\nok\nok\nint 9\nlive 2 21\n",
+    ),
+    (
+        "run",
+        "heap 1\ndomain 0\nfull_major\ndomain 1\nfull_major\n",
+        "domain 0\nlive 1 18\ndomain 1\nlive 1 18\n",
+    ),
+    (
+        "run --domains 1",
+        "heap 1\ndomain 0\nallocmaj 1 0 126\nallocmaj 1 0 126\nallocmaj 1 0 126\ndrop 1\nmajor\nfull_major\n",
+        "domain 0\nblk 0:1\nblk 0:2\nblk 0:3\nok\nok\nlive 1 18\n",
     ),
 ];
 

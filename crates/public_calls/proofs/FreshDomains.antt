@@ -33,6 +33,7 @@ is_fresh h d inside = record {
     remembers = refl;
   };
   begins = record {
+    inside = inside;
     acts = record { goes_on = not_ended h.config.domains d inside; runs = refl };
     idle = refl;
     at_rest = refl;
@@ -64,6 +65,7 @@ all_fresh h k domains config are =
 -- a domain that may begin no commands may begin others that fit
 pub begins : (t : Token) (cs : List Command) → CanBegin t [] → length cs ≤ 200000 → AllFit cs → CanBegin t cs
 begins t cs b few fit = record {
+  inside = b.inside;
   acts = b.acts;
   idle = b.idle;
   at_rest = b.at_rest;

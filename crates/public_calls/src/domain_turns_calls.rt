@@ -4,7 +4,9 @@ use domain_turns::Turned;
 use heap_model::command::Command;
 use heap_model::label::Label;
 use heap_model::reply::Reply;
+use heap_rule::Config;
 use heap_words::Value;
+use std::alloc::{AllocError, Global};
 use std::test::Fail;
 
 const REPLIED: [Command; 4] = [
@@ -256,5 +258,147 @@ fn two_domains_claim_one_block(rt: HostRuntime) -> Result<(), Fail> {
     );
     play.take_turns(40);
     same(&rt, (play.has_ended(0), play.has_ended(1)), (true, true));
+    Ok(())
+}
+
+const DROPPING: [Command; 4] = [
+    Command::AllocMaj {
+        dst: 1,
+        tag: 0,
+        fields: 126,
+    },
+    Command::Forget { dst: 1 },
+    Command::FullMajor,
+    Command::AllocMaj {
+        dst: 1,
+        tag: 0,
+        fields: 2,
+    },
+];
+
+const COUNTED: [Reply; 4] = [
+    Reply::Block(Label {
+        domain: 0,
+        serial: 1,
+    }),
+    Reply::Done,
+    Reply::Live {
+        blocks: 1,
+        words: 18,
+    },
+    Reply::Block(Label {
+        domain: 0,
+        serial: 2,
+    }),
+];
+
+// A collection that two domains make together finds the shared block alone. The pool of the block that is
+// gone is given back, so that the next block, of another size class, lies where that one lay.
+#[test]
+fn an_empty_pool_is_given_back(rt: HostRuntime) -> Result<(), Fail> {
+    let lists = [DROPPING.as_slice(), &[Command::Poll]];
+    let mut play = Play::start(rt.alloc(), TWO_DOMAINS, &lists)?;
+    play.take_turns_until(4);
+    let Some(shown) = play.shown(0) else {
+        return Err(Fail::from("no run"));
+    };
+    same(
+        &rt,
+        (shown.used, shown.registers),
+        (0, [SHARED, COPY, Value::Nothing]),
+    );
+    same(&rt, play.into_first()?.replies(), COUNTED.as_slice());
+    Ok(())
+}
+
+// The lists of 50,000 blocks each lie in 98 pools.
+const ROOMY: Config = Config {
+    domains: 2,
+    minor_words: 4096,
+    pools: 150,
+    finals: 0,
+    ephes: 0,
+};
+
+const BLOCKS: u32 = 50_000;
+
+// How a domain begins a list: a block of one field, which a field of the shared block leads to.
+fn first_of(list: u8) -> [Command; 3] {
+    let own = list.saturating_add(1);
+    [
+        Command::AllocMaj {
+            dst: own,
+            tag: 0,
+            fields: 1,
+        },
+        Command::Store {
+            block: 0,
+            index: u16::from(list),
+            item: own,
+        },
+        Command::Poll,
+    ]
+}
+
+// How it puts a block behind the last one of a list: the field of `block` leads to that one.
+fn next_of(list: u8, block: u8, index: u16) -> [Command; 3] {
+    let own = list.saturating_add(1);
+    [
+        Command::Load {
+            dst: 3,
+            src: block,
+            index,
+        },
+        Command::AllocMaj {
+            dst: own,
+            tag: 0,
+            fields: 1,
+        },
+        Command::Store {
+            block: 3,
+            index: 0,
+            item: own,
+        },
+    ]
+}
+
+// Two domains that take turns make two lists. Each puts its blocks behind those of the other, in the one list and
+// in the other by turns.
+fn commands_of(alloc: Global, domain: u8) -> Result<Vec<Command>, AllocError> {
+    let mut commands = Vec::new(alloc);
+    let mut list = domain.min(1);
+    commands.extend_from_slice(&first_of(list))?;
+    for made in 1..BLOCKS {
+        list = 1 - list;
+        let next = match made {
+            1 => next_of(list, 0, u16::from(list)),
+            _ => next_of(list, list + 1, 0),
+        };
+        commands.extend_from_slice(&next)?;
+    }
+    if domain == 0 {
+        commands.push(Command::FullMajor)?;
+    }
+    Ok(commands)
+}
+
+// What follows each block of a list lies in the other domain's pools. Were a block found only where its pool is
+// looked through, each block would take a phase of its own.
+#[test]
+fn lists_to_and_fro_between_pools_are_marked(rt: HostRuntime) -> Result<(), Fail> {
+    let alloc = rt.alloc();
+    let (first, second) = (commands_of(alloc, 0)?, commands_of(alloc, 1)?);
+    let mut play = Play::start(alloc, ROOMY, &[first.as_slice(), &second])?;
+    play.take_turns(3 * BLOCKS + 1000);
+    same(&rt, (play.has_ended(0), play.has_ended(1)), (true, true));
+    let run = play.into_first()?;
+    same(
+        &rt,
+        run.replies().last().copied(),
+        Some(Reply::Live {
+            blocks: 100_001,
+            words: 300_018,
+        }),
+    );
     Ok(())
 }

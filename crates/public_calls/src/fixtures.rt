@@ -13,6 +13,7 @@ use heap_model::command::Command;
 use heap_model::reply::Reply;
 use heap_rule::{Config, Domain, Heap, StartFault};
 use heap_words::Value;
+use mark_slices::make_hints;
 use outer_io::Gate;
 use std::alloc::Global;
 use std::fmt::Debug;
@@ -102,14 +103,15 @@ fn fits(command: &Command) -> bool
     ensures { result ≡ true → FitsHeap command.now }
 {
     match *command {
-        Command::Alloc { dst, tag, fields } => dst < 16
+        Command::Alloc { dst, tag, fields } | Command::AllocMaj { dst, tag, fields } => dst < 16
             && tag <= 245
             && 1 <= fields
             && fields <= 126,
         Command::PutInt { dst, value } => dst < 16 && value == 7,
+        Command::Forget { dst } => dst < 16,
         Command::Load { dst, src, .. } => dst < 16 && src < 16,
         Command::Store { block, item, .. } => block < 16 && item < 16,
-        Command::Poll | Command::Minor => true,
+        Command::Poll | Command::Minor | Command::Major | Command::FullMajor => true,
         _ => false,
     }
 }
@@ -135,8 +137,9 @@ fn begun(alloc: Global, domain: Domain, commands: &[Command]) -> Result<DomainRu
     if !all_fit(commands) {
         return Err(Fail::from("a command that doesn't fit"));
     }
+    let hints = make_hints(alloc, 1)?.pop().ok_or("no hints")?;
     let commands = Vec::from_slice(alloc, commands)?;
-    Ok(DomainRun::make(alloc, domain, commands)?)
+    Ok(DomainRun::make(alloc, domain, hints, commands)?)
 }
 
 // A run for each of these domains, with the list of commands at its place.

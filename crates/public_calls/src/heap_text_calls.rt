@@ -36,7 +36,7 @@ fn many_lines(alloc: Global, copies: usize, last: &[u8]) -> Result<Vec<u8>, Allo
 }
 
 // Domains, sections that are written, and a script.
-const SCRIPTS: [(u32, usize, &[u8]); 9] = [
+const SCRIPTS: [(u32, usize, &[u8]); 10] = [
     (1, 0, b"heap 1\n"),
     (1, 1, b"heap 1\ndomain 0\n"),
     (2, 1, b"heap 1\ndomain 0\nint 0 0\n"),
@@ -53,6 +53,7 @@ const SCRIPTS: [(u32, usize, &[u8]); 9] = [
     (1, 1, b"heap 1\ndomain 0\nalloc 1 245 126\nload 2 0 1023\n"),
     (1, 1, b"heap 1\ndomain 0\nmove 1 15\ndrop 0\npoll\n"),
     (1, 1, b"heap 1\ndomain 0\nallocmaj 1 3 126\nminor\n"),
+    (1, 1, b"heap 1\ndomain 0\nmajor\nfull_major\n"),
     (
         8,
         3,
@@ -115,7 +116,7 @@ const FAULTS: [(u32, &[u8], ScriptFault); 33] = [
     (1, b"heap 1\ndomain 0\nint 1 5\r\n", Syntax { line: 3 }),
     (1, b"heap 1\ndomain 0\nallok 1 0 1\n", Syntax { line: 3 }),
     (1, b"heap 1\ndomain 0\npoll 1\n", Syntax { line: 3 }),
-    (1, b"heap 1\ndomain 0\nmajor\n", Syntax { line: 3 }),
+    (1, b"heap 1\ndomain 0\nspawn 1 1\n", Syntax { line: 3 }),
     (
         1,
         b"heap 1\ndomain 0\nint 99 99\nint\n",

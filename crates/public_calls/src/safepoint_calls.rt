@@ -2,16 +2,16 @@
 ghost use Rattle.heap_rule.specs.Running.{Runs};
 
 use crate::fixtures::{same, two_domains};
-use heap_rule::{Domain, Heap, Kind};
-use safepoint::{Look, Want, arrive, ask, follower, look, wants};
+use heap_rule::{Domain, Heap};
+use safepoint::{Look, Want, Wants, arrive, ask, is_wanted, look, wants};
 use std::test::Fail;
 
 // The wishes so far.
-fn wanted(heap: &Heap, dom: &mut Domain) -> u64
+fn wanted(heap: &Heap, dom: &mut Domain) -> Wants
     requires { Runs heap.now dom.old }
     ensures { Runs heap.now dom.new }
 {
-    wants(heap, dom).bits
+    wants(heap, dom)
 }
 
 // The domain asks for a pause.
@@ -36,21 +36,18 @@ fn arrived(heap: &Heap, dom: &mut Domain) -> Option<Look>
 #[test]
 fn a_wish_is_found_and_the_last_arrival_ends_the_phase(rt: HostRuntime) -> Result<(), Fail> {
     let (heap, mut first, mut second) = two_domains(rt.alloc())?;
-    same(&rt, wanted(&heap, &mut first), 0);
+    same(&rt, wanted(&heap, &mut first).bits, 0);
     asked(&heap, &mut second, Want::Minor);
     asked(&heap, &mut second, Want::Full);
-    same(&rt, wanted(&heap, &mut first), 9);
+    let found = wanted(&heap, &mut first);
+    same(&rt, found.bits, 9);
+    same(
+        &rt,
+        (is_wanted(found, Want::Full), is_wanted(found, Want::Cycle)),
+        (true, false),
+    );
     same(&rt, arrived(&heap, &mut first), Some(Look::NotAll(1)));
     same(&rt, arrived(&heap, &mut second), Some(Look::Lead));
     same(&rt, (first.arrivals(), second.arrivals()), (1, 1));
-    Ok(())
-}
-
-#[test]
-fn the_kinds_go_round(rt: HostRuntime) -> Result<(), Fail> {
-    let kinds = [Kind::Run, Kind::Promote, Kind::Reset, Kind::Run];
-    for (kind, next) in kinds.iter().zip(&kinds[1..]) {
-        same(&rt, follower(*kind), *next);
-    }
     Ok(())
 }
