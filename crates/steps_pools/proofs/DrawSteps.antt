@@ -34,12 +34,7 @@ use Rattle.heap_rule.specs.Fullness.{Fullness}
 use Rattle.cycle_laws.specs.Fullness.{kept_labels, HoldsKept}
 use Rattle.heap_rule.proofs.Classes.{some_block}
 use Rattle.heap_rule.specs.Places.{Place}
-
-pub some_none : (q : ℕ) → ◌≡◌ {A = Option ℕ} None (Some q) → ⊥
-some_none q e = cc
-
-pub some_nat : (p q : ℕ) → ◌≡◌ {A = Option ℕ} (Some p) (Some q) → p ≡ q
-some_nat p q e = cc
+use Rattle.std.proofs.lemmas.Option.{none-some, same_Some}
 
 -- which owner word is which holder's
 pub own_word : (h : Holder) (d c : ℕ) → c < class_count → ((e b : ℕ) → h ≡ owned e b → b < class_count) → owner_word h ≡ 16 * d + c + 1 → h ≡ owned d c
@@ -55,7 +50,7 @@ pub draws_none : (c : ℕ) (h : Hunt) → drawn_in h ≡ None → DrawsFor c h �
 draws_none c Rests none is = is
 draws_none c (Counts n) none is = is
 draws_none c (Asks n) none is = is
-draws_none c (Draws place pool class cleared) none is = some_none pool (sym none)
+draws_none c (Draws place pool class cleared) none is = none-some pool (sym none)
 draws_none c (Walks pool class) none is = is
 draws_none c (Fills pool class slot made) none is = is
 draws_none c (Labels address label) none is = is
@@ -67,7 +62,7 @@ pub hunter_on : (k : Config) (t : Tenancy) (words : List ℕ) (x : DomainView) (
     → ((f : ℕ) → free ≡ Some f → (listed words ≤ f + cursor words) × (listed words ≤ f + limit_of k (listed words)) × (f ≤ listed words)) → Hunter k t words x → Hunter k t words (hunting_free x looked h free)
 hunter_on k t words x looked h free knows none taken bounds hunter = record {
   hunt = knows;
-  drawn_alone = λ q e. absurd (some_none q (sym none ∙ hunter.drawn_alone q e));
+  drawn_alone = λ q e. absurd (none-some q (sym none ∙ hunter.drawn_alone q e));
   taken = taken;
   free = bounds;
   holds = hunter.holds;
@@ -192,7 +187,7 @@ module _ (k : Config) (s : Words) (r : Rule k s) (id : ℕ) (hist : List Entry) 
     drawers = r.whole.drawers;
     makings = λ z p. p;
     hunter = hunter_on k t s.words x x.own.looked Rests (Some f) tt (ap drawn_in is) hunter.taken
-        (λ g e. subst (BoundsFree (listed s.words) (cursor s.words)) (some_nat f g e) (subst (λ (m : ℕ). BoundsFree m (cursor s.words) f) (sym (subst (Hunts k t s.words me) is hunter.hunt)) bounds)) hunter;
+        (λ g e. subst (BoundsFree (listed s.words) (cursor s.words)) (same_Some f g e) (subst (λ (m : ℕ). BoundsFree m (cursor s.words) f) (sym (subst (Hunts k t s.words me) is hunter.hunt)) bounds)) hunter;
     hunters = λ z _ g. g.hunter;
   }
 
@@ -240,7 +235,7 @@ module _ (k : Config) (s : Words) (r : Rule k s) (id : ℕ) (hist : List Entry) 
         makings = λ z p. p;
         hunter = record {
           hunt = (counts, over_here me 1 t.asking);
-          free = λ f e. subst (BoundsFree (listed s.words) (cursor s.words)) (some_nat (n - cursor s.words) f e) (subst (λ (m : ℕ). BoundsFree m (cursor s.words) (n - cursor s.words)) (sym counts) (below_bounds n (cursor s.words) below));
+          free = λ f e. subst (BoundsFree (listed s.words) (cursor s.words)) (same_Some (n - cursor s.words) f e) (subst (λ (m : ℕ). BoundsFree m (cursor s.words) (n - cursor s.words)) (sym counts) (below_bounds n (cursor s.words) below));
           drawn_alone = λ q e. sym (ap drawn_in is) ∙ hunter.drawn_alone q e;
           taken = hunter.taken;
           holds = hunter.holds;
@@ -347,7 +342,7 @@ module _ (k : Config) (s : Words) (r : Rule k s) (id : ℕ) (hist : List Entry) 
       makings = λ z p. making_agrees k s.words words1 z agrees p;
       hunter = record {
         hunt = tt;
-        free = λ f e. late_free f (some_nat (n - limit_of k n) f e);
+        free = λ f e. late_free f (same_Some (n - limit_of k n) f e);
         drawn_alone = λ q e. sym (ap drawn_in is) ∙ hunter.drawn_alone q e;
         taken = λ q c slot is inside low e. hunter.taken q c slot is inside low (sym (agrees.heap (place_in q c slot) (omega arith)) ∙ e);
         holds = hunter.holds;
@@ -421,7 +416,7 @@ module _ (k : Config) (s : Words) (r : Rule k s) (id : ℕ) (hist : List Entry) 
       }
 
       nothing_drawn : (q : ℕ) → t.holder q ≡ drawn me → ⊥
-      nothing_drawn q e = some_none q (sym free ∙ hunter.drawn_alone q e)
+      nothing_drawn q e = none-some q (sym free ∙ hunter.drawn_alone q e)
 
       -- a pool that is nobody's isn't this one, and was nobody's before
       is_drawn : (q : ℕ) → t1.holder q ≡ nobody → q ≢ pool
@@ -459,7 +454,7 @@ module _ (k : Config) (s : Words) (r : Rule k s) (id : ℕ) (hist : List Entry) 
           let lives : (p : Place) → r.account.live (place_in q class 0) ≡ Some p → HoldsKept (kept_labels (sizes_in k) r.account.log) r.account.homes q = (λ p e. (p.label, r.whole.full.kept (place_in q class 0) p e, r.whole.full.low q me class 0 p is inside e)) in
           ⊎_elim (λ (z : at_address k s.words (place_in q class 0) ≡ 0). absurd (full_head z))
           (λ z. ⊎_elim (λ (y : (p : Place) × (r.account.live (place_in q class 0) ≡ Some p)). lives y.0 y.1)
-          (λ y. ⊎_elim (λ (w : t.prepared (place_in q class 0) ≡ Some me). absurd (some_none (place_in q class 0) (sym unprepared ∙ hunter.prepared q class 0 is inside w)))
+          (λ y. ⊎_elim (λ (w : t.prepared (place_in q class 0) ≡ Some me). absurd (none-some (place_in q class 0) (sym unprepared ∙ hunter.prepared q class 0 is inside w)))
           (λ (w : IsTrue (t.garbage (place_in q class 0))). absurd (no_garbage_here k s r id hist x at in_kind.0 in_kind.1 in_kind.2 (place_in q class 0) w)) y) z)
           (r.whole.grid.places q me class 0 is inside)
 
