@@ -566,7 +566,7 @@ module _ (k : Config) (s : Words) (r : Rule k s) (id : ℕ) (hist : List Entry) 
 
     cleared2 : Promoting r.account.pause → (d : ℕ) → d < k.domains → r.account.pause.arrived d ≡ r.account.pause.phase + 1 → Cleared live2 d
     cleared2 h d below up = let cl = r.whole.cleared h d below up in record {
-      none-some = λ b q w e owed. cases b q e
+      no_debt = λ b q w e owed. cases b q e
           (λ same i. absurd (none-some w (sym paid ∙ (ap (λ (z : Place). z.owed) i ∙ owed))))
           (λ same i. λ mine_too.
           let w_is : me ≡ d = ap (λ (z : Debt). z.domain) (same_Some debt w (ap (λ (z : Place). z.owed) i ∙ owed)) ∙ mine_too in

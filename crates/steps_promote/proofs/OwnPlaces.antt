@@ -10,7 +10,7 @@ use Rattle.heap_rule.specs.declared.config.Config.{Config}
 use Rattle.heap_rule.specs.declared.view.DomainView.{DomainView}
 use Rattle.heap_rule.specs.Layout.{before_heap, heap_words, at_address}
 use Rattle.heap_rule.specs.Places.{Place, extent}
-use Rattle.heap_rule.specs.Pools.{Holder, drawn, owned, Tenancy, Pools, OwnPlace, place_in, size_of, blocks_of}
+use Rattle.heap_rule.specs.Pools.{owned, Tenancy, Pools, OwnPlace, place_in, size_of, blocks_of}
 use Rattle.heap_rule.specs.Rule.{state_of, AllFound, Making, Rule}
 use Rattle.heap_rule.specs.Views.{one}
 use Rattle.heap_rule.proofs.Beside.{found_beside, making_beside}
