@@ -12,7 +12,7 @@ use Rattle.heap_rule.specs.Places.{Place, Live, Paint, colour_in, extent, head_o
 use Rattle.heap_model.specs.Graph.{Graph}
 use Rattle.heap_model.specs.Fronts.{Shape, PlainShape, RawShape, EpheShape}
 use Rattle.heap_words.specs.Heads.{head_word}
-use Rattle.heap_rule.specs.Pools.{Holder, drawn, owned, Tenancy, OwnPlace, IsSpare, Pools, Grid, Hunts, Hunter, Latest, DrawsFor, place_in, size_of, blocks_of, limit_of}
+use Rattle.heap_rule.specs.Pools.{DrawsFor, Grid, Holder, Hunter, Hunts, IsBefore, IsSpare, Latest, OwnPlace, Pools, Tenancy, blocks_of, drawn, limit_of, owned, place_in, size_of}
 use Rattle.heap_rule.proofs.Lists.{got_below}
 use Rattle.heap_rule.proofs.Keeps.{control_set}
 use Rattle.heap_rule.proofs.Classes.{size_least, slot_below, slot_inside}
@@ -25,6 +25,10 @@ number_cases (Some d) = inr (d, refl)
 pub place_cases : (o : Option Place) → (o ≡ None) ⊎ ((q : Place) × (o ≡ Some q))
 place_cases None = inl refl
 place_cases (Some q) = inr (q, refl)
+
+-- no place is before the first one
+pub none_before : (q slot : ℕ) → IsBefore q slot (record { pool = 0; slot = 0 }) → ⊥
+none_before q slot low = ⊎_elim (λ (h : q < 0). omega arith) (λ (h : (q ≡ 0) × (slot < 0)). let l = h.1 in omega arith) low
 
 -- the pool of one holder isn't that of another
 pub drawn_same : (d e : ℕ) → ◌≡◌ {A = Holder} (drawn d) (drawn e) → d ≡ e

@@ -42,13 +42,14 @@ use Rattle.heap_rule.proofs.Values.{address_of, packable, stands_block}
 use Rattle.steps_cycle.specs.Looks.{with_share}
 use Rattle.steps_cycle.specs.Marking.{ChangedMay, ChangedTold, IsChanging, ScanMay, ScanTold, ScannedMay, ScannedTold, scanned_on, Site, Anywhere, Next, LiesAt, places_seen_on, walk_on}
 use Rattle.steps_cycle.proofs.Colouring.{words_same, Recolourable}
-use Rattle.steps_cycle.proofs.Learning.{at_other, at_same, bare, held, kind_here, knows_more, known, shifts_more, waits_in}
+use Rattle.steps_cycle.proofs.Learning.{at_other, at_same, bare, held, kind_here, knows_more, known, shifts_more}
 use Rattle.steps_cycle.proofs.Recolouring.{Recolours, known_still, recolours}
 use Rattle.heap_rule.specs.declared.phase.Stage.TheVariants.{In}
 use Rattle.steps_cycle.proofs.WalkSteps.{own_place, seen_next, next_is, next_other, next_walked}
 use Rattle.steps_cycle.proofs.Layouts.{labelled}
 use Rattle.heap_rule.specs.Pools.{owned, blocks_of, IsBefore, place_in}
 use Rattle.std.proofs.lemmas.Option.{same_Some}
+use Rattle.heap_rule.proofs.Stages.{waits_in}
 
 -- the value in the next field was read
 module _ (live : Live) (graph : Graph) (m : Marks) (block done size head : ℕ) (f : Scanned live graph m block done size head) (v : Value) (there : slice_get f.fields done ≡ Some v) where

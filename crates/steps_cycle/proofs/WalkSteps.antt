@@ -40,8 +40,9 @@ use Rattle.steps_cycle.specs.Looks.{with_share}
 use Rattle.steps_cycle.specs.Marking.{GreyMay, GreyTold, IsGrey, IsScanned, IsUnmarked, IsNext, MarkMay, MarkTold, OwnMay, OwnTold, begun, behind, fields_in}
 use Rattle.steps_cycle.proofs.Colouring.{BareHead, bare_head, marked_colour, unmarked_colour}
 use Rattle.steps_cycle.proofs.Layouts.{labelled, owner_of_place, whose}
-use Rattle.steps_cycle.proofs.Learning.{at_other, at_same, bare, held, kind_here, knows_more, known, not_promoting, shifts_more, waits_in}
+use Rattle.steps_cycle.proofs.Learning.{at_other, at_same, bare, held, kind_here, knows_more, known, not_promoting, shifts_more}
 use Rattle.std.proofs.lemmas.Option.{none-some, same_Some}
+use Rattle.heap_rule.proofs.Stages.{waits_in}
 
 -- the place behind the one looked at
 pub last_behind : (pool class slot : ℕ) → blocks_of class ≤ slot + 1 → behind pool class slot ≡ record { pool = pool + 1; slot = 0 }

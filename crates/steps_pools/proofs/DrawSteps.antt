@@ -21,11 +21,11 @@ use Rattle.heap_rule.specs.Room.{Room, IsUnused, drawn_in_all}
 use Rattle.heap_rule.specs.Rule.{state_of, Rule}
 use Rattle.heap_rule.specs.Copies.{Promoting}
 use Rattle.heap_rule.specs.Pools.{Holder, nobody, drawn, owned, owner_word, Stock, Tenancy, Takes, Pools, KeepsReserve, IsTaking, Hunts, Hunter, Latest, DrawsFor, IsBefore, spot_at, drawn_in, hunting, hunting_free, place_in, blocks_of, limit_of, prepared_at}
-use Rattle.heap_rule.specs.Phases.{Pause, Phases, AtStage, sum_of}
+use Rattle.heap_rule.specs.Phases.{Phases, AtStage, sum_of}
 use Rattle.steps_pools.specs.Takes.{with_hunt, found_free, HasNoDraw, NoneFree}
 use Rattle.heap_rule.proofs.Update.{over, over_here, over_else}
 use Rattle.heap_rule.proofs.Keeps.{Words, mine, my_good, phases_words, holds_again, room_words, no_garbage_here, run_copying}
-use Rattle.heap_rule.proofs.PauseFacts.{run_promoting, promote_now, not_both}
+use Rattle.heap_rule.proofs.PauseFacts.{run_promoting, promote_now}
 use Rattle.heap_rule.proofs.Controls.{sum_one}
 use Rattle.heap_rule.proofs.Lots.{drawn_same, number_cases}
 use Rattle.heap_rule.proofs.Holders.{Agrees, agrees_same, agrees_set, found_agrees, making_agrees, SameStock, stock_self, same_asking, same_over, NotOf, nobody_not, drawn_not, drawn_owned, grid_heap, grid_over, free_later, hunter_agree, sum_over, sum_small}
@@ -35,6 +35,7 @@ use Rattle.cycle_laws.specs.Fullness.{kept_labels, HoldsKept}
 use Rattle.heap_rule.proofs.Classes.{some_block}
 use Rattle.heap_rule.specs.Places.{Place}
 use Rattle.std.proofs.lemmas.Option.{none-some, same_Some}
+use Rattle.heap_rule.proofs.Stages.{copying_keeps}
 
 -- which owner word is which holder's
 pub own_word : (h : Holder) (d c : ℕ) → c < class_count → ((e b : ℕ) → h ≡ owned e b → b < class_count) → owner_word h ≡ 16 * d + c + 1 → h ≡ owned d c
@@ -527,13 +528,6 @@ module _ (k : Config) (s : Words) (r : Rule k s) (id : ℕ) (hist : List Entry) 
             (same_over t pool (drawn me) asking' t1.fresh stock z.own.number (subst (λ (h : Holder). NotOf h z.own.number) (sym was) (nobody_not z.own.number)) (drawn_not me z.own.number (λ e. other (sym e))) (beside z.own.number other) (λ b. fresh_domain z.own.number b other) (stocks z.own.number other)) g.hunter;
       }
 
--- while young blocks are copied, nothing is said of the reserve
-pub promote_keeps : (p : Pause) → Promoting p → KeepsReserve p → ⊥
-promote_keeps p promoting keeps = ⊎_elim
-    (λ (h : p.phase ≡ keeps.0 * 2). let i : ℕ = promoting.0 in let j : ℕ = keeps.0 in let e : p.phase ≡ i * 2 = promoting.1 in let f : p.phase ≡ j * 2 = h in
-    let same : j ≡ i = omega arith in let clash : Run ≡ Promote = sym keeps.2 ∙ (ap p.kinds same ∙ promoting.2) in cc)
-    (λ (h : p.phase ≡ keeps.0 * 2 + 1). not_both p.phase (promoting.0, promoting.1) (keeps.0, h)) keeps.1
-
 module _ (k : Config) (s : Words) (r : Rule k s) (id : ℕ) (hist : List Entry) (x : DomainView) (at : get_elem? s.views id ≡ some (one k hist x)) where
   abbrev d : ℕ
   d = x.own.number
@@ -680,7 +674,7 @@ module _ (k : Config) (s : Words) (r : Rule k s) (id : ℕ) (hist : List Entry) 
     pub copy_draws_rule : Rule k record { words = words2; homes = s.homes; views = set s.views id (one k hist (with_hunt x (Draws place drawn_pool class 0))) }
     copy_draws_rule = draws_rule k s r id hist x at (inr copies) T.asking r.whole.pools.one_each beside sums class few place_low free none_free unprepared stock1 refl
         room1 (λ rests. absurd (rests promoting)) (λ e other. record { drawn = same_domain e other; copies = refl; latest = refl; used = refl; claims = refl })
-        (λ keeps. absurd (promote_keeps r.account.pause promoting keeps))
+        (λ keeps. absurd (copying_keeps r.account.pause promoting keeps))
         (λ b below some. dite (ℕ_discrete b class)
         (λ same. inl (sym same))
         (λ other. inr (latest_drawn k s r id hist x at (inr copies) T.asking r.whole.pools.one_each beside sums class few place_low free none_free unprepared stock1 refl b refl refl (same_class b other) refl

@@ -35,6 +35,7 @@ use Rattle.steps_pools.specs.Listings.{with_listing, further, relisted, found_ow
 use Rattle.steps_pools.proofs.FreePools.{IsFree, free_there, free_once}
 use Rattle.steps_pools.proofs.DrawSteps.{draws_none, latest_words}
 use Rattle.heap_rule.proofs.Sharings.{SameCycle, cycle_words}
+use Rattle.std.proofs.Math.Nat.{not-le_of_lt}
 
 -- a domain that takes no block and knows nothing of how many are free
 pub rests_hunter : (k : Config) (t : Tenancy) (words words' : List ℕ) (z : DomainView) → SameHeap k words words' → z.seen.hunt ≡ Rests → z.seen.free ≡ None → Hunter k t words z → Hunter k t words' z
@@ -603,13 +604,10 @@ count_may k x opener fits slots id h s r _ at _ =
     let y : DomainView = with_listing x (Some (listed_as (listed s.words) no_listing)) in
     (one k h y, keeps, tt, unmoved k s 6 (set s.views id (one k h y)) (counts_rule k s r id h x at opener), (record { few = r.whole.pools.few; view = refl }, refl))
 
-lt_not_le : {a b : ℕ} → a < b → b ≤ a → ⊥
-lt_not_le {a} {b} below past = let p : a < b = below in let q : b ≤ a = past in omega arith
-
 pub cursor_look_may : (k : Config) (x : DomainView) (count : ℕ) → HasCounted x count → MayStep k x 7 (λ n. n) (CursorLookTold k count)
 cursor_look_may k x count may fits slots id h s r _ at _ = dite (dec_le (cursor s.words) (limit_of k count))
     (λ low. let y : DomainView = noted_set_back x in
-    (one k h y, keeps, tt, unmoved k s 7 (set s.views id (one k h y)) (low_rule k s r id h x at may.opener may.list may.listing (subst (λ (n : ℕ). cursor s.words ≤ limit_of k n) (sym may.count_is) low)), (record { low = λ l. refl; high = λ b. absurd (lt_not_le b low) }, refl)))
+    (one k h y, keeps, tt, unmoved k s 7 (set s.views id (one k h y)) (low_rule k s r id h x at may.opener may.list may.listing (subst (λ (n : ℕ). cursor s.words ≤ limit_of k n) (sym may.count_is) low)), (record { low = λ l. refl; high = λ b. absurd (not-le_of_lt b low) }, refl)))
     (λ high.
     (one k h x, keeps, tt, unmoved k s 7 (set s.views id (one k h x)) (looks k s r id h x at x.seen.front (mine k s r id h x at).front (my_good k s r id h x at).still), (record { low = λ l. absurd (high l); high = λ b. refl }, refl)))
 

@@ -30,13 +30,14 @@ use Rattle.steps_cycle.specs.Looks.{with_share}
 use Rattle.steps_cycle.specs.Marking.{behind}
 use Rattle.steps_cycle.proofs.Colouring.{bare_head}
 use Rattle.steps_cycle.proofs.Layouts.{whose}
-use Rattle.steps_cycle.proofs.Learning.{bare, known, learns, waits_in}
+use Rattle.steps_cycle.proofs.Learning.{bare, known, learns}
 use Rattle.steps_cycle.proofs.Plain.{share_closes}
 use Rattle.steps_cycle.proofs.WalkSteps.{before_behind, last_behind, next_behind}
 use Rattle.steps_sweep.specs.Counting.{CountMay, CountOwnMay, CountOwnTold, CountTold}
 use Rattle.steps_sweep.proofs.Swept.{empty_free, sweep_facts, sweeping}
 use Rattle.std.proofs.lemmas.List.Sums.{sum_by-cons}
 use Rattle.std.proofs.lemmas.Option.{same_Some}
+use Rattle.heap_rule.proofs.Stages.{waits_in}
 
 -- a member of a list is among it
 pub among : (l : List ℕ) (i a : ℕ) → slice_get l i ≡ Some a → IsTrue (seen_by l a)

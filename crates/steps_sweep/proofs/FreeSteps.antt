@@ -31,12 +31,12 @@ use Rattle.heap_rule.proofs.Classes.{size_least, slot_inside, some_block}
 use Rattle.heap_rule.proofs.Closes.{front_same}
 use Rattle.heap_rule.proofs.Holders.{SameFor, agrees_same, drawn_owned, hunter_agree, stock_self}
 use Rattle.heap_rule.proofs.Keeps.{Words, control_set, more_same, my_good}
-use Rattle.heap_rule.proofs.Lots.{head_full, hunter_beside, live_beside, owned_same, place_cases, place_low, pool_beside}
+use Rattle.heap_rule.proofs.Lots.{head_full, hunter_beside, live_beside, none_before, owned_same, place_cases, place_low, pool_beside}
 use Rattle.heap_rule.proofs.PauseFacts.{not_both}
 use Rattle.steps_pools.proofs.Plain.{looking_fits}
 use Rattle.steps_pools.specs.Writes.{CanLook, LooksFrom}
 use Rattle.steps_cycle.proofs.Colouring.{words_same}
-use Rattle.steps_cycle.proofs.Learning.{at_other, at_same, even, known, knowing_on, leads_odd, none_before, not_promoting, rests_here, waits}
+use Rattle.steps_cycle.proofs.Learning.{at_other, at_same, even, known, knowing_on, leads_odd, not_promoting, rests_here, waits}
 use Rattle.steps_sweep.specs.Freeing.{FreeMay, FreeTold, freed, passed}
 use Rattle.steps_sweep.proofs.Reaping.{reaped_to, reaps}
 use Rattle.steps_sweep.proofs.Swept.{collecting, facts, is_own, kind_is, live_colour, live_head, means, seen', swept_on, walked}

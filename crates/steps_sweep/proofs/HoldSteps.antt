@@ -24,11 +24,12 @@ use Rattle.heap_rule.specs.Views.{one}
 use Rattle.heap_rule.proofs.Keeps.{Words, my_good, unmoved}
 use Rattle.heap_rule.proofs.Lots.{owned_same}
 use Rattle.steps_cycle.specs.Looks.{with_share}
-use Rattle.steps_cycle.proofs.Learning.{kind_here, known, learns, not_promoting, waits_in}
+use Rattle.steps_cycle.proofs.Learning.{kind_here, known, learns, not_promoting}
 use Rattle.steps_cycle.proofs.Plain.{share_closes}
 use Rattle.steps_sweep.specs.Holding.{HeldMay, HeldOwnMay, HeldOwnTold, HeldTold}
 use Rattle.steps_cycle.proofs.Layouts.{whose}
 use Rattle.std.proofs.lemmas.Option.{same_Some}
+use Rattle.heap_rule.proofs.Stages.{waits_in}
 
 module _ (k : Config) (s : Words) (r : Rule k s) (id : ℕ) (hist : List Entry) (x : DomainView) (at : get_elem? s.views id ≡ some (one k hist x)) (stage : x.seen.stage ≡ In Answer) where
   abbrev now : model.State

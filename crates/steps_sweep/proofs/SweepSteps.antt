@@ -22,10 +22,11 @@ use Rattle.heap_rule.proofs.Keeps.{Words, my_good, unmoved}
 use Rattle.steps_cycle.specs.Looks.{with_share}
 use Rattle.std.proofs.lemmas.Bool.{cases_Bool}
 use Rattle.steps_cycle.proofs.Plain.{share_closes}
-use Rattle.steps_cycle.proofs.Learning.{at_other, at_same, held, knows_more, known, shifts_more, waits_in}
+use Rattle.steps_cycle.proofs.Learning.{at_other, at_same, held, knows_more, known, shifts_more}
 use Rattle.steps_sweep.specs.Freeing.{SweepMay, SweepTold, passed}
 use Rattle.steps_sweep.proofs.Swept.{clean_head, collecting, dead_colour, facts, kind_is, seen', swept_on, walked}
 use Rattle.std.proofs.lemmas.Option.{same_Some}
+use Rattle.heap_rule.proofs.Stages.{waits_in}
 
 module _ (k : Config) (s : Words) (r : Rule k s) (id : ℕ) (hist : List Entry) (x : DomainView) (at : get_elem? s.views id ≡ some (one k hist x)) (a pool class slot : ℕ) (may : SweepMay x a pool class slot) where
   abbrev sh : Share
