@@ -25,12 +25,10 @@ use Rattle.heap_rule.specs.Standing.{IsAt, FieldMay}
 use Rattle.heap_rule.proofs.Lists.{got_there}
 use Rattle.heap_rule.proofs.Values.{stands_block}
 use Rattle.heap_rule.proofs.Keeps.{Words, mine, my_good}
+use Rattle.std.proofs.lemmas.Option.{same_Some}
 
 pub block_same : (a b : Label) → Block a ≡ Block b → a ≡ b
 block_same a b e = cc
-
-pub some_same : (a b : Node) → Some a ≡ Some b → a ≡ b
-some_same a b e = cc
 
 module _ (k : Config) (s : Words) (r : Rule k s) (id : ℕ) (hist : List Entry) (x : DomainView) (at : get_elem? s.views id ≡ some (one k hist x)) where
   abbrev now : model.State
@@ -90,7 +88,7 @@ module _ (k : Config) (s : Words) (r : Rule k s) (id : ℕ) (hist : List Entry) 
       let later : HoldsPlain now x.own.number reg may.size = holds_later (opening (sizes_in k)) x.own.number reg may.size r.account.log x.seen.front (mine k s r id hist x at).front may.known in
       let label : later.label ≡ b.place.label = block_same later.label b.place.label (sym later.held ∙ b.held) in
       let node : node_at now.graph b.place.label ≡ Some (Plain later.tag later.fields) = ap (node_at now.graph) (sym label) ∙ later.node in
-      let is : found.node ≡ Plain later.tag later.fields = some_same found.node (Plain later.tag later.fields) (sym found.there ∙ node) in
+      let is : found.node ≡ Plain later.tag later.fields = same_Some found.node (Plain later.tag later.fields) (sym found.there ∙ node) in
       let v = got_there later.fields i (let n : ℕ = may.size in let e : length later.fields ≡ n = later.size in let h : i < n = may.inside in omega arith) in (
         record {
           address = may.address;

@@ -13,6 +13,7 @@ use Rattle.heap_rule.specs.Phases.{Pause, sum_of}
 use Rattle.heap_rule.specs.Pools.{Stock, size_of, blocks_of}
 use Rattle.heap_rule.specs.Room.{count, drawn_in_all, copied_words, Room}
 use Rattle.heap_rule.proofs.Classes.{fill}
+use Rattle.std.proofs.lemmas.Option.{same_Some}
 
 times_plus : (a b q : ℕ) → (a + b) * q ≡ a * q + b * q
 times_plus zero b q = omega arith
@@ -189,9 +190,6 @@ joined_cases f a w x e was new = dite (dec_le a x)
 forwards_not : (p q : Place) (c : ℕ) → p.forward ≡ None → q.forward ≡ Some c → q ≡ p → ⊥
 forwards_not p q c none some same = let e : ◌≡◌ {A = Option ℕ} None (Some c) = sym none ∙ (sym (ap (λ (z : Place). z.forward) same) ∙ some) in cc
 
-some_place : (p q : Place) → ◌≡◌ {A = Option Place} (Some p) (Some q) → p ≡ q
-some_place p q e = cc
-
 module _ (k : Config) (live : Live) (pause : Pause) (s : Stock) (words : List ℕ) (room : Room k live pause s words) where
   -- the words of the blocks that were copied are words of minor areas
   pub claimed_few : count s.claimed (heap_words k + 1) ≤ k.domains * k.minor_words
@@ -223,7 +221,7 @@ module _ (k : Config) (live : Live) (pause : Pause) (s : Stock) (words : List �
         let high' : x < a + u = to in
         let low' : a ≤ x = from in
         dite (ℕ_discrete b a)
-        (λ same. forwards_not p c.place c.copy bare c.forwards (some_place c.place p (sym c.lives ∙ (ap live same ∙ lives))))
+        (λ same. forwards_not p c.place c.copy bare c.forwards (same_Some c.place p (sym c.lives ∙ (ap live same ∙ lives))))
         (λ other. dite (dec_le a b)
         (λ le. let g : a + u ≤ b = spread.apart a b p c.place lives c.lives young (let o : b ≢ a = other in omega arith) in omega arith)
         (λ gt. let g : b + v ≤ a = spread.apart b a c.place p c.lives lives c.young (lt_of_not-le gt) in omega arith)))

@@ -104,10 +104,10 @@ pub record NotOf (h : Holder) (d : ℕ) : Type 0 where
   pub not_drawn : h ≢ drawn d
   pub not_owned : (c : ℕ) → h ≢ owned d c
 
-nobody_drawn : (d : ℕ) → ◌≡◌ {A = Holder} nobody (drawn d) → ⊥
+pub nobody_drawn : (d : ℕ) → ◌≡◌ {A = Holder} nobody (drawn d) → ⊥
 nobody_drawn d e = cc
 
-nobody_owned : (d c : ℕ) → ◌≡◌ {A = Holder} nobody (owned d c) → ⊥
+pub nobody_owned : (d c : ℕ) → ◌≡◌ {A = Holder} nobody (owned d c) → ⊥
 nobody_owned d c e = cc
 
 drawn_drawn : (d e : ℕ) → d ≢ e → ◌≡◌ {A = Holder} (drawn d) (drawn e) → ⊥

@@ -7,6 +7,7 @@ pub mod PauseFacts
 pub mod HeadLemmas
 pub mod Sharings
 pub mod Keeps
+pub mod Stages
 pub mod Classes
 pub mod Counting
 pub mod Looks

@@ -12,10 +12,11 @@ use Rattle.heap_rule.specs.Places.{Place, Live, Paint, colour_in, extent, head_o
 use Rattle.heap_model.specs.Graph.{Graph}
 use Rattle.heap_model.specs.Fronts.{Shape, PlainShape, RawShape, EpheShape}
 use Rattle.heap_words.specs.Heads.{head_word}
-use Rattle.heap_rule.specs.Pools.{Holder, drawn, owned, Tenancy, OwnPlace, IsSpare, Pools, Grid, Hunts, Hunter, Latest, DrawsFor, place_in, size_of, blocks_of, limit_of}
+use Rattle.heap_rule.specs.Pools.{DrawsFor, Grid, Holder, Hunter, Hunts, IsBefore, IsSpare, Latest, OwnPlace, Pools, Tenancy, blocks_of, drawn, limit_of, owned, place_in, size_of}
 use Rattle.heap_rule.proofs.Lists.{got_below}
 use Rattle.heap_rule.proofs.Keeps.{control_set}
 use Rattle.heap_rule.proofs.Classes.{size_least, slot_below, slot_inside}
+use Rattle.heap_rule.proofs.Holders.{drawn_owned}
 
 pub number_cases : (o : Option ℕ) → (o ≡ None) ⊎ ((d : ℕ) × (o ≡ Some d))
 number_cases None = inl refl
@@ -24,6 +25,10 @@ number_cases (Some d) = inr (d, refl)
 pub place_cases : (o : Option Place) → (o ≡ None) ⊎ ((q : Place) × (o ≡ Some q))
 place_cases None = inl refl
 place_cases (Some q) = inr (q, refl)
+
+-- no place is before the first one
+pub none_before : (q slot : ℕ) → IsBefore q slot (record { pool = 0; slot = 0 }) → ⊥
+none_before q slot low = ⊎_elim (λ (h : q < 0). omega arith) (λ (h : (q ≡ 0) × (slot < 0)). let l = h.1 in omega arith) low
 
 -- the pool of one holder isn't that of another
 pub drawn_same : (d e : ℕ) → ◌≡◌ {A = Holder} (drawn d) (drawn e) → d ≡ e
@@ -187,9 +192,6 @@ head_at_some (Some copy) shape colour scanned word h e = let f : 3 + 2 ^ 32 * co
 pub head_full : (k : Config) (paint : Paint) (live : Live) (graph : Graph) (words : List ℕ) (a : ℕ) (o : Place) → Found k paint live graph words a o → at_address k words a ≢ 0
 head_full k paint live graph words a o f e = head_at_some o.forward o.shape (colour_in paint o.label) f.head.scanned (at_address k words a) f.head.packs e
 
-holder_clash : (d e c : ℕ) → ◌≡◌ {A = Holder} (drawn d) (owned e c) → ⊥
-holder_clash d e c h = cc
-
 -- the place at which a block lives isn't prepared
 pub lived_unprepared : (k : Config) (t : Tenancy) (live : Live) (words : List ℕ) (a : ℕ) (o : Place) → Grid k t live words → live a ≡ Some o → t.prepared a ≡ None
 lived_unprepared k t live words a o g lives = ⊎_elim (λ (e : t.prepared a ≡ None). e) (λ (h : (d : ℕ) × (t.prepared a ≡ Some d)). absurd (let e : ◌≡◌ {A = Option Place} None (Some o) = sym (g.spares a h.0 h.1).empty ∙ lives in cc)) (number_cases (t.prepared a))
@@ -212,7 +214,7 @@ live_beside k t live words a i o p g low lives some inside head d = dite (dec_le
       low = omega arith;
       not_drawn = λ q is. dite (dec_le q l.pool)
           (λ below. dite (ℕ_discrete q l.pool)
-          (λ same. absurd (holder_clash d l.domain l.class (sym is ∙ (ap t.holder same ∙ l.owned_is))))
+          (λ same. absurd (drawn_owned d l.domain l.class (sym is ∙ (ap t.holder same ∙ l.owned_is))))
           (λ other. inr (let b : q ≤ l.pool = below in let e : q ≢ l.pool = other in let h : q * 4096 + 4096 < a + i = omega arith in h)))
           (λ above. let b : l.pool < q = lt_of_not-le above in inl (let h : a + i ≤ q * 4096 = omega arith in h));
       not_place = λ q c slot is below_blocks.

@@ -39,6 +39,8 @@ use Rattle.heap_model.specs.Graph.{has_label, same_label, node_at}
 use Rattle.heap_model.proofs.Graphs.GraphLemmas.{same_label-true}
 use Rattle.heap_rule.specs.Fullness.{Homes}
 use Rattle.heap_model.specs.declared.label.Label.{Label}
+use Rattle.heap_rule.proofs.Holders.{drawn_owned, nobody_drawn, nobody_owned}
+use Rattle.std.proofs.lemmas.Option.{none-some}
 
 abbrev shared_place : Place
 shared_place = record { label = shared_label; shape = PlainShape 16 0; forward = None; owed = None; named = λ _. None }
@@ -71,24 +73,15 @@ holder_else : (q : ℕ) → q ≢ 0 → first_holders q ≡ nobody
 unfolding first_holders
 holder_else q other = over_else 0 (owned 0 3) (λ _. nobody) q other
 
-no_owned : (d c : ℕ) → ◌≡◌ {A = Holder} nobody (owned d c) → ⊥
-no_owned d c e = cc
-
-no_drawn : (d : ℕ) → ◌≡◌ {A = Holder} nobody (drawn d) → ⊥
-no_drawn d e = cc
-
-owned_drawn : (a b d : ℕ) → ◌≡◌ {A = Holder} (owned a b) (drawn d) → ⊥
-owned_drawn a b d e = cc
-
 holder_at : (q d c : ℕ) → first_holders q ≡ owned d c → (q ≡ 0) × (0 ≡ d) × (3 ≡ c)
 holder_at q d c e = dite (ℕ_discrete q 0)
     (λ same. let o = owned_same 0 d 3 c (sym holder_first ∙ (ap first_holders (sym same) ∙ e)) in (same, o.0, o.1))
-    (λ other. absurd (no_owned d c (sym (holder_else q other) ∙ e)))
+    (λ other. absurd (nobody_owned d c (sym (holder_else q other) ∙ e)))
 
 none_drawn : (q d : ℕ) → first_holders q ≡ drawn d → ⊥
 none_drawn q d e = dite (ℕ_discrete q 0)
-    (λ same. owned_drawn 0 3 d (sym holder_first ∙ (ap first_holders (sym same) ∙ e)))
-    (λ other. no_drawn d (sym (holder_else q other) ∙ e))
+    (λ same. drawn_owned d 0 3 (sym e ∙ (ap first_holders same ∙ holder_first)))
+    (λ other. nobody_drawn d (sym (holder_else q other) ∙ e))
 
 sum_zero : (n : ℕ) → sum_of (λ _. 0) n ≡ 0
 sum_zero zero = refl
@@ -101,9 +94,6 @@ get_zero : (n c : ℕ) → get_or (replicate n nowhere) c nowhere ≡ nowhere
 get_zero zero c = refl
 get_zero (suc n) zero = refl
 get_zero (suc n) (suc c) = get_zero n c
-
-no_free : (f : ℕ) → ◌≡◌ {A = Option ℕ} None (Some f) → ⊥
-no_free f e = cc
 
 views_later : (k : Config) (P : DomainView → Type 0) (d n : ℕ) → ((i : ℕ) → d ≤ i → i < d + n → P (opening_view k i)) → AllDomains P (opening_views k d n)
 views_later k P d zero f = tt
@@ -333,7 +323,7 @@ module _ (k : Config) (limits : IsWithinLimits (sizes_in k)) (words : List ℕ) 
         ap first_holders (opens.pools.list i (let g : i < n = h in omega arith)) ∙ holder_else (i + 1) (λ e. omega arith);
     covered = λ _ q inside free. let n : ℕ = listed words in let P : ℕ = k.pools in let count : n ≡ P - 1 = opens.pools.count in
         let below : q < P = inside in
-        let other : q ≢ 0 = (λ e. no_owned 0 3 (sym free ∙ (ap first_holders e ∙ holder_first))) in
+        let other : q ≢ 0 = (λ e. nobody_owned 0 3 (sym free ∙ (ap first_holders e ∙ holder_first))) in
         let c : ℕ = cursor words in
         let start : c ≡ 0 = opens.pools.asked in
         (q - 1, (let g : q - 1 < n = omega arith in g), opens.pools.list (q - 1) (omega arith) ∙ (let g : q - 1 + 1 ≡ q = omega arith in g), inl (let g : c ≤ q - 1 = omega arith in g));
@@ -385,7 +375,7 @@ module _ (k : Config) (limits : IsWithinLimits (sizes_in k)) (words : List ℕ) 
           );
           hunter = record {
             hunt = tt;
-            free = λ f e. absurd (no_free f e);
+            free = λ f e. absurd (none-some f e);
             drawn_alone = λ q e. absurd (none_drawn q x e);
             holds = λ c a few e. absurd (no_spare a a (sym (prepared_first class_count c) ∙ e));
             prepared = λ q c slot is inside e. absurd (no_spare (place_in q c slot) x e);

@@ -40,9 +40,10 @@ use Rattle.steps_cycle.specs.Marking.{DarkenMay, DarkenTold, IsDarkening, Reason
 use Rattle.steps_cycle.proofs.Colouring.{BareHead, Recolourable, bare_head, unmarked_by, words_same}
 use Rattle.steps_cycle.proofs.TargetSteps.{goes_on}
 use Rattle.steps_cycle.proofs.Layouts.{label_there, owner_of_place}
-use Rattle.steps_cycle.proofs.Learning.{at_other, at_same, bare, held, kind_here, known, lies_old, waits_in}
+use Rattle.steps_cycle.proofs.Learning.{at_other, at_same, bare, held, kind_here, known, lies_old}
 use Rattle.steps_cycle.proofs.Recolouring.{Recolours, known_still, recolours}
 use Rattle.steps_cycle.proofs.Targets.{Target, moved_knows, target}
+use Rattle.heap_rule.proofs.Stages.{waits_in}
 
 -- blocks are darkened in phases of a collection
 collects : (kind : Kind) → IsDarkening kind → HasNoCycle kind → ⊥

@@ -31,7 +31,7 @@ use Rattle.heap_rule.specs.Rule.{Account, Good, Rule, Sharing, state_of}
 use Rattle.heap_rule.specs.Views.{one}
 use Rattle.heap_rule.proofs.Controls.{Move, Untouched, counts_untouched, covered_untouched, heap_untouched, hunter_untouched, low_untouched, moved_to, no_move, reserved_untouched, resting_untouched, turns, untouched_same}
 use Rattle.heap_rule.proofs.Holders.{stock_self}
-use Rattle.heap_rule.proofs.Lots.{head_full, place_cases}
+use Rattle.heap_rule.proofs.Lots.{head_full, none_before, place_cases}
 use Rattle.heap_rule.proofs.Keeps.{Words, hunter_as, mine, my_good, owes_as, phases_words, room_words}
 use Rattle.heap_rule.proofs.PauseFacts.{kind_differs, not_both, agree}
 use Rattle.heap_rule.proofs.Sharings.{kind_now}
@@ -41,6 +41,7 @@ use Rattle.heap_model.specs.Graph.{Graph}
 use Rattle.heap_words.specs.declared.value.Value.{Value}
 use Rattle.heap_rule.specs.declared.view.Scan.TheVariants.{Idle, Reads, Holds}
 use Rattle.heap_rule.specs.declared.view.Hunt.TheVariants.{Rests}
+use Rattle.heap_rule.proofs.Stages.{waits_in}
 
 pub at_same : {A : Type 0} (f : ℕ → A) (d : ℕ) (v : A) → at_domain f d v d ≡ v
 at_same f d v = ap (λ (b : Bool). cond b v (f d)) (eq-eqb d d refl)
@@ -96,9 +97,6 @@ unfolding scanned_more
 scans_more live graph m m' more Idle f = tt
 scans_more live graph m m' more (Reads block done size head) f = scanned_more live graph m m' more block done size head f
 scans_more live graph m m' more (Holds block done size head address) f = record { reads = scanned_more live graph m m' more block done size head f.reads; target = f.target; there = f.there; holds = f.holds }
-
-pub none_before : (q slot : ℕ) → IsBefore q slot (record { pool = 0; slot = 0 }) → ⊥
-none_before q slot low = ⊎_elim (λ (h : q < 0). omega arith) (λ (h : (q ≡ 0) × (slot < 0)). let l = h.1 in omega arith) low
 
 module _ (k : Config) (s : Words) (r : Rule k s) (id : ℕ) (hist : List Entry) (x : DomainView) (at : get_elem? s.views id ≡ some (one k hist x)) where
   abbrev now : model.State
@@ -192,13 +190,6 @@ module _ (k : Config) (s : Words) (r : Rule k s) (id : ℕ) (hist : List Entry) 
     sharings = λ z _ h. h.sharing;
   }
 
-  -- a domain that acts in an even phase hasn't arrived
-  pub waits_in : (kind : Kind) → x.seen.stage ≡ In kind → c.shares.arrived d ≡ false
-  waits_in kind is =
-      let staged = (my_good k s r id hist x at).staged in
-      let a = subst (AtStage r.account.pause d x.own.arrivals) is staged.stage in
-      ((r.whole.cycle.told.even a.1.0 a.1.1).1 d (mine k s r id hist x at).inside).waits (sym staged.arrivals ∙ a.0)
-
   pub kind_here : (kind : Kind) → x.seen.stage ≡ In kind → c.kind ≡ kind
   kind_here kind is = kind_now k r.account.pause c x kind is (my_good k s r id hist x at).staged r.whole.cycle.told
 
@@ -261,7 +252,7 @@ module _ (k : Config) (s : Words) (r : Rule k s) (id : ℕ) (hist : List Entry) 
     even = (here.1.0, here.1.1)
 
     pub waits : c.shares.arrived d ≡ false
-    waits = waits_in in_kind.kind in_kind.stage
+    waits = waits_in k s r id hist x at in_kind.kind in_kind.stage
 
     pub not_promoting : Promoting r.account.pause → ⊥
     not_promoting p = let e : Promote ≡ in_kind.kind = kind_differs r.account.pause p.0 here.1.0 r.account.pause.phase Promote in_kind.kind p.1 here.1.1 p.2 here.1.2 in in_kind.under_way (subst HasNoCycle e tt)

@@ -15,7 +15,8 @@ use Rattle.heap_rule.specs.Rule.{Rule, Sharing, state_of}
 use Rattle.heap_rule.specs.Views.{one}
 use Rattle.heap_rule.proofs.Keeps.{Words, my_good, unmoved}
 use Rattle.steps_cycle.specs.Looks.{with_share, MayLook, ColoursTold}
-use Rattle.steps_cycle.proofs.Learning.{learns, waits_in}
+use Rattle.steps_cycle.proofs.Learning.{learns}
+use Rattle.heap_rule.proofs.Stages.{waits_in}
 
 module _ (k : Config) (s : Words) (r : Rule k s) (id : ℕ) (hist : List Entry) (x : DomainView) (at : get_elem? s.views id ≡ some (one k hist x)) where
   abbrev c : Cycling

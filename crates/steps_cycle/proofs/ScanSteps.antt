@@ -35,7 +35,6 @@ use Rattle.heap_rule.specs.Cycles.{Cycling, Facts, HasNoCycle, IsCollecting, Kno
 use Rattle.heap_rule.specs.Raw.{MayStep, MayStore}
 use Rattle.heap_rule.specs.Rule.{Rule, state_of}
 use Rattle.heap_rule.specs.Views.{one}
-use Rattle.heap_rule.proofs.Blocks.{some_same}
 use Rattle.heap_rule.proofs.Controls.{Untouched}
 use Rattle.heap_rule.proofs.Keeps.{Words, my_good, unmoved}
 use Rattle.heap_rule.proofs.Lists.{got_there}
@@ -43,12 +42,14 @@ use Rattle.heap_rule.proofs.Values.{address_of, packable, stands_block}
 use Rattle.steps_cycle.specs.Looks.{with_share}
 use Rattle.steps_cycle.specs.Marking.{ChangedMay, ChangedTold, IsChanging, ScanMay, ScanTold, ScannedMay, ScannedTold, scanned_on, Site, Anywhere, Next, LiesAt, places_seen_on, walk_on}
 use Rattle.steps_cycle.proofs.Colouring.{words_same, Recolourable}
-use Rattle.steps_cycle.proofs.Learning.{at_other, at_same, bare, held, kind_here, knows_more, known, shifts_more, waits_in}
+use Rattle.steps_cycle.proofs.Learning.{at_other, at_same, bare, held, kind_here, knows_more, known, shifts_more}
 use Rattle.steps_cycle.proofs.Recolouring.{Recolours, known_still, recolours}
 use Rattle.heap_rule.specs.declared.phase.Stage.TheVariants.{In}
 use Rattle.steps_cycle.proofs.WalkSteps.{own_place, seen_next, next_is, next_other, next_walked}
 use Rattle.steps_cycle.proofs.Layouts.{labelled}
 use Rattle.heap_rule.specs.Pools.{owned, blocks_of, IsBefore, place_in}
+use Rattle.std.proofs.lemmas.Option.{same_Some}
+use Rattle.heap_rule.proofs.Stages.{waits_in}
 
 -- the value in the next field was read
 module _ (live : Live) (graph : Graph) (m : Marks) (block done size head : ℕ) (f : Scanned live graph m block done size head) (v : Value) (there : slice_get f.fields done ≡ Some v) where
@@ -116,7 +117,7 @@ module _ (k : Config) (s : Words) (r : Rule k s) (id : ℕ) (hist : List Entry) 
         (λ (e : node_at now.graph f.place.label ≡ Some (Plain f.tag f.fields)). e)
         (λ (e : (f.fields ≡ []) × (fields_of (node_at now.graph f.place.label) ≡ [])). absurd (let none : length f.fields ≡ 0 = ap (λ (z : List Value). length z) e.0 in let n : ℕ = length f.fields in let z : n ≡ 0 = none in let y : n ≡ may.size = f.size_is in let h = may.more in omega arith))
         f.node in
-        let is : found.node ≡ Plain f.tag f.fields = some_same found.node (Plain f.tag f.fields) (sym found.there ∙ plain) in
+        let is : found.node ≡ Plain f.tag f.fields = same_Some found.node (Plain f.tag f.fields) (sym found.there ∙ plain) in
         found.values may.done field.0 (subst (λ (o : Option Debt). HasValue o may.done) (sym (bare k s r id hist x at (in_mark may.stage) may.block f.place f.lives).no_debt) tt) (ap (λ (n : Node). slice_get (values_of n) may.done) is ∙ field.1)
 
     share' : Share

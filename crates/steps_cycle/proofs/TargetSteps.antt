@@ -21,9 +21,7 @@ use Rattle.steps_cycle.proofs.Colouring.{BareHead, bare_head, marked_colour, unm
 use Rattle.steps_cycle.proofs.Learning.{bare, held, knows_more, known}
 use Rattle.steps_cycle.proofs.Targets.{Target, moved_knows, target}
 use Rattle.std.proofs.lemmas.Bool.{cases_Bool}
-
-found_head_same : (g h : FoundHead) → Some g ≡ Some h → g ≡ h
-found_head_same g h e = cc
+use Rattle.std.proofs.lemmas.Option.{same_Some}
 
 module _ (k : Config) (s : Words) (r : Rule k s) (id : ℕ) (hist : List Entry) (x : DomainView) (at : get_elem? s.views id ≡ some (one k hist x)) where
   abbrev c : Cycling
@@ -65,7 +63,7 @@ module _ (k : Config) (s : Words) (r : Rule k s) (id : ℕ) (hist : List Entry) 
         let share' : Share = record sh { found_head = Some (record { address = a; word = found }) } in (
           with_share x share',
           knows_more k s r id hist x at may.collects (held share') refl refl record {
-            found_head = λ g p q lives. let is : (record { address = a; word = found }) ≡ g = found_head_same (record { address = a; word = found }) g q in inl (subst (λ (z : FoundHead). at_address k s.words z.address ≡ z.word) is refl);
+            found_head = λ g p q lives. let is : (record { address = a; word = found }) ≡ g = same_Some (record { address = a; word = found }) g q in inl (subst (λ (z : FoundHead). at_address k s.words z.address ≡ z.word) is refl);
             scan = n.scan;
             walked = n.walked;
             own_pool = n.own_pool;

@@ -1,5 +1,5 @@
 -- A domain walks through its own pools, and looks at the heads there.
-use Rattle.std.proofs.Common.{◌≡◌, ◌≢◌, ℕ, ◌+◌, ◌*◌, ◌<◌, ◌≤◌, ◌⊎◌, ◌==◌, ◌||◌, Bool, true, false, true≢false, cond, IsTrue, eq-eqb, List, [], ◌∷◌, length, get_or, set, Some, Option, None, sym, refl, ap, ◌∙◌, subst, inl, inr, ⊎_elim, arith, lt_of_not-le}
+use Rattle.std.proofs.Common.{◌≡◌, ◌≢◌, ℕ, ◌+◌, ◌<◌, ◌≤◌, ◌⊎◌, ◌==◌, ◌||◌, Bool, true, false, true≢false, cond, IsTrue, eq-eqb, List, [], ◌∷◌, length, get_or, set, Some, Option, None, sym, refl, ap, ◌∙◌, subst, inl, inr, ⊎_elim, arith, lt_of_not-le}
 use Rattle.std.proofs.lemmas.Bool.{le-leb, lt-leb, cases_Bool}
 use mathlib.Core.Logic.{dite}
 use native.Mathlib.Decide.{ℕ_discrete, dec_le}
@@ -28,7 +28,7 @@ use Rattle.heap_rule.specs.declared.view.Share.{Share}
 use Rattle.heap_rule.specs.declared.view.OwnPool.{OwnPool}
 use Rattle.heap_rule.specs.Layout.{before_heap, at_address, owner_of}
 use Rattle.heap_rule.specs.Places.{IsBuilt, Live, Place}
-use Rattle.heap_rule.specs.Pools.{Holder, IsBefore, IsPlace, blocks_of, drawn, nobody, owned, owner_word, place_in}
+use Rattle.heap_rule.specs.Pools.{Holder, IsBefore, IsPlace, blocks_of, owned, owner_word, place_in}
 use Rattle.heap_rule.specs.Cycles.{Cycling, Facts, IsCollecting, Knowing, Scanned, cycle_of, seen_by}
 use Rattle.heap_rule.specs.Raw.{MayStep}
 use Rattle.heap_rule.specs.Rule.{Rule, state_of}
@@ -39,20 +39,10 @@ use Rattle.heap_rule.proofs.Lots.{owned_same}
 use Rattle.steps_cycle.specs.Looks.{with_share}
 use Rattle.steps_cycle.specs.Marking.{GreyMay, GreyTold, IsGrey, IsScanned, IsUnmarked, IsNext, MarkMay, MarkTold, OwnMay, OwnTold, begun, behind, fields_in}
 use Rattle.steps_cycle.proofs.Colouring.{BareHead, bare_head, marked_colour, unmarked_colour}
-use Rattle.steps_cycle.proofs.Layouts.{labelled, owner_of_place}
-use Rattle.steps_cycle.proofs.Learning.{at_other, at_same, bare, held, kind_here, knows_more, known, not_promoting, shifts_more, waits_in}
-
-own_pool_same : (g h : OwnPool) → Some g ≡ Some h → g ≡ h
-own_pool_same g h e = cc
-
-nobody_clash : (d c : ℕ) → ◌≡◌ {A = Holder} nobody (owned d c) → ⊥
-nobody_clash d c e = cc
-
-drawn_clash : (n d c : ℕ) → ◌≡◌ {A = Holder} (drawn n) (owned d c) → ⊥
-drawn_clash n d c e = cc
-
-place_clash : (p : Place) → ◌≡◌ {A = Option Place} None (Some p) → ⊥
-place_clash p e = cc
+use Rattle.steps_cycle.proofs.Layouts.{labelled, owner_of_place, whose}
+use Rattle.steps_cycle.proofs.Learning.{at_other, at_same, bare, held, kind_here, knows_more, known, not_promoting, shifts_more}
+use Rattle.std.proofs.lemmas.Option.{none-some, same_Some}
+use Rattle.heap_rule.proofs.Stages.{waits_in}
 
 -- the place behind the one looked at
 pub last_behind : (pool class slot : ℕ) → blocks_of class ≤ slot + 1 → behind pool class slot ≡ record { pool = pool + 1; slot = 0 }
@@ -141,20 +131,15 @@ module _ (k : Config) (s : Words) (r : Rule k s) (id : ℕ) (hist : List Entry) 
         found_head = kn.found_head;
         scan = kn.scan;
         walked = kn.walked;
-        own_pool = λ u e. subst (λ (z : OwnPool). holder z.pool ≡ owned d z.class) (own_pool_same (record { pool = pool; class = class }) u e) is;
+        own_pool = λ u e. subst (λ (z : OwnPool). holder z.pool ≡ owned d z.class) (same_Some (record { pool = pool; class = class }) u e) is;
         rooted = kn.rooted;
         marked = kn.marked;
       },
       record { told = inl (class, (r.whole.pools.owned_by pool d class is).2, is_owner ∙ ap owner_word is, refl) },
     )
 
-    pub owner_told : (h : Holder) → holder pool ≡ h → (y : DomainView) × After y × OwnTold pool x owner y
-    owner_told nobody e = passes (λ class f. nobody_clash d class (sym e ∙ f)) (λ class few f. let z : owner ≡ 0 = is_owner ∙ ap owner_word e in let w : ℕ = owner in let g : w ≡ 16 * d + class + 1 = f in let h : w ≡ 0 = z in omega arith)
-    owner_told (drawn n) e = passes (λ class f. drawn_clash n d class (sym e ∙ f)) (λ class few f. let z : owner ≡ 0 = is_owner ∙ ap owner_word e in let w : ℕ = owner in let g : w ≡ 16 * d + class + 1 = f in let h : w ≡ 0 = z in omega arith)
-    owner_told (owned n class) e = dite (ℕ_discrete n d)
-        (λ same. owns class (e ∙ ap (λ (i : ℕ). owned i class) same))
-        (λ other. passes (λ b f. other (owned_same n d class b (sym e ∙ f)).0)
-        (λ b few f. let z : owner ≡ 16 * n + class + 1 = is_owner ∙ ap owner_word e in let small : class < class_count = (r.whole.pools.owned_by pool n class e).2 in let w : ℕ = owner in let g : w ≡ 16 * d + b + 1 = f in let h : w ≡ 16 * n + class + 1 = z in other (omega arith)))
+    pub owner_told : (y : DomainView) × After y × OwnTold pool x owner y
+    owner_told = ⊎_elim (λ u. owns u.0 u.1) (λ u. passes u.0 u.1) (whose k s r d pool may.inside (holder pool) refl)
 
   -- in Mark, a look at the head of a block
   module _ (colours : Colours) (knows : sh.colours ≡ Some colours) (collecting : IsCollecting x.seen.stage) (a : ℕ) (p : Place) (lives : live a ≡ Some p) where
@@ -304,7 +289,7 @@ module _ (k : Config) (s : Words) (r : Rule k s) (id : ℕ) (hist : List Entry) 
         let free : found ≡ 0 = ⊎_elim
         (λ (z : found ≡ 0). z)
         (λ z. absurd (⊎_elim
-        (λ (u : (p : Place) × (live a ≡ Some p)). place_clash u.0 (sym e ∙ u.1))
+        (λ (u : (p : Place) × (live a ≡ Some p)). none-some u.0 (sym e ∙ u.1))
         (λ u. ⊎_elim
         (λ (f : r.account.tenancy.prepared a ≡ Some d). not_promoting k s r id hist x at collecting (r.whole.drawers.prepared a d f).1)
         (λ (f : IsTrue (r.account.tenancy.garbage a)). true≢false (sym f ∙ r.whole.cycle.leaves.none facts.1 a))
@@ -312,7 +297,7 @@ module _ (k : Config) (s : Words) (r : Rule k s) (id : ℕ) (hist : List Entry) 
         z))
         (place_there a pool class slot may.place) in (
           with_share x saw,
-          (saw_rule (λ q f. absurd (place_clash q (sym e ∙ f))), record { colours = may.colours; known = may.known; told = inl (inl free, refl) }),
+          (saw_rule (λ q f. absurd (none-some q (sym e ∙ f))), record { colours = may.colours; known = may.known; told = inl (inl free, refl) }),
         )
 
   -- the head of a block that is known to be marked
@@ -335,7 +320,7 @@ module _ (k : Config) (s : Words) (r : Rule k s) (id : ℕ) (hist : List Entry) 
 
 pub own_may : (k : Config) (x : DomainView) (word pool : ℕ) → OwnMay k x word pool → MayStep k x word (λ n. n) (OwnTold pool)
 own_may k x word pool may fits slots id hist s r _ at _ =
-    let o = owner_told k s r id hist x at word pool may (r.account.tenancy.holder pool) refl in
+    let o = owner_told k s r id hist x at word pool may in
     (one k hist o.0, keeps, tt, unmoved k s word (set s.views id (one k hist o.0)) o.1, (subst (λ (n : ℕ). OwnTold pool x (get_or s.words n 0) o.0) (sym may.word) o.2, refl))
 
 pub mark_may : (k : Config) (x : DomainView) (word a pool class slot : ℕ) → word ≡ before_heap k + a → MarkMay x a pool class slot → MayStep k x word (λ n. n) (MarkTold a pool class slot)

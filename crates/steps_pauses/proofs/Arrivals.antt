@@ -1,5 +1,5 @@
 -- An arrival keeps the rule.
-use Rattle.std.proofs.Common.{◌≡◌, ◌≢◌, ℕ, zero, suc, ◌+◌, ◌-◌, ◌*◌, ◌%◌, ◌^◌, ◌<◌, ◌≤◌, ◌⊎◌, List, [], true, false, Option, Some, None, length, set, sym, refl, ap, ◌∙◌, subst, inl, inr, ⊎_elim, arith, length-set, get_or-set_same, get_or-set_other, lt_of_not-le, mod-eq_of_lt, suc-mul, true≢false, add-one, zero-le}
+use Rattle.std.proofs.Common.{◌≡◌, ◌≢◌, ℕ, zero, suc, ◌+◌, ◌-◌, ◌*◌, ◌%◌, ◌^◌, ◌<◌, ◌≤◌, ◌⊎◌, List, [], true, false, Some, None, length, set, sym, refl, ap, ◌∙◌, subst, inl, inr, ⊎_elim, arith, length-set, get_or-set_same, get_or-set_other, lt_of_not-le, mod-eq_of_lt, suc-mul, true≢false, add-one, zero-le}
 use Rattle.std.proofs.Math.Nat.{mul_comm, mul-le-mul_left}
 use mathlib.Core.Logic.{dite}
 use native.Mathlib.Decide.{ℕ_discrete, dec_le}
@@ -38,6 +38,7 @@ use Rattle.heap_rule.proofs.Controls.{cycle_untouched, heap_untouched}
 use Rattle.steps_pauses.proofs.Arriving.{arrived_cycle, told_arrived, told_turned, cycle_gone, cycle_dropped, sharing_gone, sharing_else, sharing_between}
 use Rattle.steps_pauses.specs.Pauses.{kind_in, ArrivesFrom, ArriveMay, forgotten, arrived_view, Arrived}
 use Rattle.steps_pauses.proofs.Finishing.{facts_gone}
+use Rattle.std.proofs.lemmas.Option.{none-some}
 
 -- who may arrive acts in the phase
 acting : (t : Pause) (d arrivals : ℕ) (st : Stage) → ArrivesFrom d st → AtStage t d arrivals st → arrivals ≡ t.phase
@@ -94,9 +95,6 @@ turned_to t arrived' = record { arrived = arrived'; phase = t.phase + 1; kinds =
 half_before : {A : Type 0} (j n : ℕ) → n + 1 ≡ j * 2 → ((i : ℕ) → n ≡ i * 2 + 1 → i + 1 ≡ j → A) → A
 half_before zero n e f = absurd (omega arith)
 half_before (suc i) n e f = f i (omega arith) (add-one i)
-
-none_some : (q : ℕ) → ◌≡◌ {A = Option ℕ} None (Some q) → ⊥
-none_some q e = cc
 
 gone_leads : (kind last : Kind) → ◌≡◌ {A = Stage} (Gone kind) (Leads last) → ⊥
 gone_leads kind other e = cc
@@ -271,14 +269,14 @@ module _ (k : Config) (s : Words) (r : Rule k s) (id : ℕ) (hist : List Entry) 
       (λ other. r.whole.cleared p e below (sym (else_is e other) ∙ up))
 
   undrawn : (q : ℕ) → tenancy.holder q ≡ drawn number → ⊥
-  undrawn q held = none_some q (sym (ap drawn_in may.at_rest) ∙ good.hunter.drawn_alone q held)
+  undrawn q held = none-some q (sym (ap drawn_in may.at_rest) ∙ good.hunter.drawn_alone q held)
 
   unprepared : (a : ℕ) → tenancy.prepared a ≡ Some number → ⊥
   unprepared a is =
       let copies = r.whole.drawers.prepared a number is in
       let own = (r.whole.grid.spares a number is).own in
       let of_class = (r.whole.pools.owned_by own.pool number own.class own.owned_is).2 in
-      none_some (place_in own.pool own.class own.slot)
+      none-some (place_in own.pool own.class own.slot)
       (sym (may.unprepared (promotes copies.1) own.class of_class) ∙ good.hunter.prepared own.pool own.class own.slot own.owned_is own.inside (ap tenancy.prepared (sym own.begins) ∙ is))
 
   still_covered : Covered k pause tenancy words'
@@ -319,7 +317,7 @@ module _ (k : Config) (s : Words) (r : Rule k s) (id : ℕ) (hist : List Entry) 
     endings = endings;
     staged = p.staged;
     still = λ paused. absurd paused;
-    free = λ f e. absurd (none_some f e);
+    free = λ f e. absurd (none-some f e);
     resting = record { hunt = λ n. may.at_rest; free = λ n. refl; lists = λ l e. cc };
     owes = owes_rests k live x y refl refl paid refl good.owes;
     settled = p.settled;
@@ -337,7 +335,7 @@ module _ (k : Config) (s : Words) (r : Rule k s) (id : ℕ) (hist : List Entry) 
       hunt = subst (Hunts k (record tenancy { stock = counting claims' }) words' number) (sym may.at_rest) tt;
       drawn_alone = h.drawn_alone;
       taken = h.taken;
-      free = λ f e. absurd (none_some f e);
+      free = λ f e. absurd (none-some f e);
       holds = h.holds;
       prepared = h.prepared;
       claims = sym p.mine_is;
@@ -507,7 +505,7 @@ module _ (k : Config) (s : Words) (r : Rule k s) (id : ℕ) (hist : List Entry) 
       still = λ paused. absurd paused;
       resting = record { hunt = λ n. may.at_rest; free = λ n. refl; lists = λ l e. cc };
       idle = refl;
-      free_same = λ f e. absurd (none_some f e);
+      free_same = λ f e. absurd (none-some f e);
       others = next_stage;
       over = λ h. not_both pause.phase (p.0, p.1) (odd_before pause.phase h.0 h.1);
       kept = λ h. ⊎_elim

@@ -6,7 +6,7 @@ use lib.ListN.{get_elem?}
 use Rattle.heap_model.specs.declared.entry.Entry.{Entry}
 use Rattle.heap_model.specs.declared.label.Label.{Label}
 use Rattle.heap_model.specs.declared.graph.Value.{Value}
-use Rattle.heap_model.specs.declared.graph.Value.TheVariants.{Int, Block, Nothing}
+use Rattle.heap_model.specs.declared.graph.Value.TheVariants.{Block, Nothing}
 use Rattle.heap_model.specs.declared.graph.Node.{Node}
 use Rattle.heap_model.specs.declared.graph.Node.TheVariants.{Plain}
 use Rattle.heap_model.specs.declared.state.Pending.{Pending}
@@ -23,7 +23,7 @@ use Rattle.cycle_laws.specs.Marks.{data_of}
 use Rattle.cycle_laws.specs.Queueing.{RootsMarked}
 use Rattle.cycle_laws.specs.Shares.{Shares, at_domain, AreShares}
 use Rattle.cycle_laws.proofs.Cycling.{darkening_steps, taking_steps}
-use Rattle.cycle_laws.proofs.DomainParts.{listed_cases}
+use Rattle.cycle_laws.proofs.DomainParts.{is_block, listed_cases}
 use Rattle.cycle_laws.proofs.Sharing.{at_cases, at_same}
 use Rattle.cycle_laws.proofs.Sweep.{sweep_law}
 use Rattle.heap_rule.specs.declared.config.Config.{Config}
@@ -49,6 +49,8 @@ use Rattle.heap_rule.proofs.PlainHistories.{IsPlainNode, IsPlainState, plain_sta
 use Rattle.heap_model.specs.Entries.{full_keys}
 use Rattle.heap_model.specs.declared.state.Sizes.{Sizes}
 use Rattle.std.proofs.lemmas.Option.{slice_get_within, get_or_from_slice_get}
+use Rattle.heap_rule.proofs.Stages.{waits_in}
+use Rattle.heap_rule.proofs.Lots.{none_before}
 
 -- a plain block has no keys and no data
 plain_data : (o : Option Node) → ((n : Node) → o ≡ Some n → IsPlainNode n) → (marked : Label → Bool) → HoldsRoots (data_of o) marked
@@ -69,18 +71,10 @@ owner_is (Some e) d is = ap Some (eqb-true e d is)
 is_own : (o : Option ℕ) (d : ℕ) → o ≡ Some d → IsTrue (is_owner o d)
 is_own o d is = subst (λ (p : Option ℕ). IsTrue (is_owner p d)) (sym is) (eq-eqb d d refl)
 
-is_block : (v : Value) (l : Label) → label_of v ≡ Some l → v ≡ Block l
-is_block (Int z) l e = absurd (let h : ◌≡◌ {A = Option Label} None (Some l) = e in cc)
-is_block (Block m) l e = ap Block (let h : Some m ≡ Some l = e in let g : m ≡ l = cc in g)
-is_block Nothing l e = absurd (let h : ◌≡◌ {A = Option Label} None (Some l) = e in cc)
-
 held_by : (live : Live) (l : Label) (v : held.Value) → Stands live v (Block l) → (a : ℕ) × (p : Place) × (v ≡ Ref a) × (live a ≡ Some p) × (p.label ≡ l)
 held_by live l (IntWord z) st = absurd st
 held_by live l (Ref a) st = (a, st.0, refl, st.1, st.2)
 held_by live l NothingWord st = absurd st
-
-none_before : (q slot : ℕ) → IsBefore q slot (record { pool = 0; slot = 0 }) → ⊥
-none_before q slot low = ⊎_elim (λ (h : q < 0). omega arith) (λ (h : (q ≡ 0) × (slot < 0)). let l = h.1 in omega arith) low
 
 module _ (k : Config) (s : Words) (r : Rule k s) (id : ℕ) (hist : List Entry) (x : DomainView) (at : get_elem? s.views id ≡ some (one k hist x)) (done : HasDone k x) where
   abbrev state : model.State
@@ -283,17 +277,11 @@ module _ (k : Config) (s : Words) (r : Rule k s) (id : ℕ) (hist : List Entry) 
           (at_cases c.shares.arrived d true e);
     }
 
-  -- who acts in an even phase hasn't arrived in it
-  waits_in : (kd : Kind) → x.seen.stage ≡ In kd → c.shares.arrived d ≡ false
-  waits_in kd here =
-      let a = subst (AtStage r.account.pause d x.own.arrivals) here good.staged.stage in
-      ((r.whole.cycle.told.even a.1.0 a.1.1).1 d (mine k s r id hist x at).inside).waits (sym good.staged.arrivals ∙ a.0)
-
   pub facts_gone : (st : Stage) → x.seen.stage ≡ st → ArrivesFrom d st → Facts c.kind k state r.account.live t (arrived_cycle st t.holder c d) s.words
   facts_gone (In kd) here from =
       let is : c.kind ≡ kd = kind_acts k r.account.pause c.kind c.shares d x.own.arrivals kd (subst (AtStage r.account.pause d x.own.arrivals) here good.staged.stage) r.whole.cycle.told in
       subst (λ (kind : Kind). Facts kind k state r.account.live t (arrived_cycle (In kd) t.holder c d) s.words) (sym is)
-      (facts_in (waits_in kd here) kd here is (subst (λ (kind : Kind). Facts kind k state r.account.live t c s.words) is r.whole.cycle.facts))
+      (facts_in (waits_in k s r id hist x at kd here) kd here is (subst (λ (kind : Kind). Facts kind k state r.account.live t c s.words) is r.whole.cycle.facts))
   facts_gone (Leads kd) here from = r.whole.cycle.facts
   facts_gone (Led kd) here from = r.whole.cycle.facts
   facts_gone (Gone kd) here from = absurd from

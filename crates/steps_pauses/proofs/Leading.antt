@@ -97,13 +97,13 @@ follows_promote a b f e = from a (subst (Follows a) e f)
     from Sweep f = ⊎_elim (λ (e : Promote ≡ Run). absurd (let h : Promote ≡ Run = e in cc)) (λ (e : Promote ≡ Answer). absurd (let h : Promote ≡ Answer = e in cc)) f
     from _ f = cc
 
-led_leads : (kind other : Kind) → ◌≡◌ {A = Stage} (Led kind) (Leads other) → ⊥
+pub led_leads : (kind other : Kind) → ◌≡◌ {A = Stage} (Led kind) (Leads other) → ⊥
 led_leads kind other e = cc
 
-leads_promotes : (kind : Kind) → ◌≡◌ {A = Stage} (Leads kind) (In Promote) → ⊥
+pub leads_promotes : (kind : Kind) → ◌≡◌ {A = Stage} (Leads kind) (In Promote) → ⊥
 leads_promotes kind e = cc
 
-leads_runs : (kind : Kind) → ◌≡◌ {A = Stage} (Leads kind) (In Run) → ⊥
+pub leads_runs : (kind : Kind) → ◌≡◌ {A = Stage} (Leads kind) (In Run) → ⊥
 leads_runs kind e = cc
 
 -- nobody is in an even phase then

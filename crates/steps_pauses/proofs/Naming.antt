@@ -27,6 +27,7 @@ use Rattle.heap_rule.specs.Pools.{Tenancy, owned}
 use Rattle.heap_rule.specs.Rule.{state_of}
 use Rattle.heap_rule.proofs.FullnessLemmas.{full_kind, full_stays, made_stays}
 use Rattle.steps_pauses.specs.Pauses.{entry_of}
+use Rattle.std.proofs.lemmas.Option.{none-some}
 
 -- the state after an entry, if there is one, and the history
 abbrev pub left_by : model.State → Option Entry → model.State
@@ -113,9 +114,6 @@ each_way P w Lasts next f = subst (P Lasts) (sym f) w.sweep
 each_way P w Sweep next f = ⊎_elim (λ (e : next ≡ Run). subst (P Sweep) (sym e) w.done) (λ (e : next ≡ Answer). subst (P Sweep) (sym e) w.collected) f
 each_way P w Answer next f = subst (P Answer) (sym f) w.answered
 
-no_entry : (e : Entry) → ◌≡◌ {A = Option Entry} None (Some e) → ⊥
-no_entry e is = cc
-
 the_entry : (P : Entry → Type 0) (d e : Entry) → Some d ≡ Some e → P d → P e
 the_entry P d e is p = let same : d ≡ e = cc in subst P same p
 
@@ -165,7 +163,7 @@ module _ (k : Config) (log : List Entry) (live : Live) (t : Tenancy) (c : Cyclin
     ways : Ways Goes
     ways = record {
       copies = λ r f full. record {
-        allowed = λ e is. absurd (no_entry e is);
+        allowed = λ e is. absurd (none-some e is);
         facts = between f Run Promote f.unrotated;
         full = full_kind k log live t.holder t.fresh homes Run Promote (λ _ e. cc) full;
         clean = λ e a. none e a;
@@ -173,7 +171,7 @@ module _ (k : Config) (log : List Entry) (live : Live) (t : Tenancy) (c : Cyclin
         uncounted = λ e. cc;
       };
       empties = λ r f full. record {
-        allowed = λ e is. absurd (no_entry e is);
+        allowed = λ e is. absurd (none-some e is);
         facts = between f Promote Reset f.unrotated;
         full = full_kind k log live t.holder t.fresh homes Promote Reset (λ _ e. cc) full;
         clean = λ e a. none e a;
@@ -181,7 +179,7 @@ module _ (k : Config) (log : List Entry) (live : Live) (t : Tenancy) (c : Cyclin
         uncounted = λ e. cc;
       };
       runs = λ r f full. record {
-        allowed = λ e is. absurd (no_entry e is);
+        allowed = λ e is. absurd (none-some e is);
         facts = between f Reset Run refl;
         full = full_kind k log live t.holder t.fresh homes Reset Run (λ _ e. cc) full;
         clean = λ _ a. none f.unrotated a;
@@ -189,7 +187,7 @@ module _ (k : Config) (log : List Entry) (live : Live) (t : Tenancy) (c : Cyclin
         uncounted = λ e. cc;
       };
       begins = λ r f full. record {
-        allowed = λ e is. absurd (no_entry e is);
+        allowed = λ e is. absurd (none-some e is);
         facts = (quietly (laws.InPhase (laws.Roots laws.First) k.domains s) Reset Roots f.unchanged (phase_steps.begins k.domains s cyc f.mode f.unmarked), record { unchanged = f.unchanged; unrotated = f.unrotated });
         full = full_kind k log live t.holder t.fresh homes Reset Roots (λ _ e. cc) full;
         clean = λ e a. none e a;
@@ -197,7 +195,7 @@ module _ (k : Config) (log : List Entry) (live : Live) (t : Tenancy) (c : Cyclin
         uncounted = λ e. cc;
       };
       roots = λ r f full. record {
-        allowed = λ e is. absurd (no_entry e is);
+        allowed = λ e is. absurd (none-some e is);
         facts = (phase_steps.roots_mark laws.First k.domains s cyc count f.0 all c.shares.changed, f.1.unrotated);
         full = full_kind k log live t.holder t.fresh homes Roots Mark (λ _ e. cc) full;
         clean = λ e a. none e a;
@@ -205,7 +203,7 @@ module _ (k : Config) (log : List Entry) (live : Live) (t : Tenancy) (c : Cyclin
         uncounted = λ e. cc;
       };
       again = λ r f full. record {
-        allowed = λ e is. absurd (no_entry e is);
+        allowed = λ e is. absurd (none-some e is);
         facts = (phase_steps.mark_mark c.pass k.domains s cyc f.0 c.shares.changed, f.1);
         full = full_kind k log live t.holder t.fresh homes Mark Mark (λ _ e. cc) full;
         clean = λ e a. none e a;
@@ -213,7 +211,7 @@ module _ (k : Config) (log : List Entry) (live : Live) (t : Tenancy) (c : Cyclin
         uncounted = λ e. cc;
       };
       rounds = λ r f full. record {
-        allowed = λ e is. absurd (no_entry e is);
+        allowed = λ e is. absurd (none-some e is);
         facts = (quietly (laws.InPhase (laws.Rounds c.pass) k.domains s) Mark Rounds (r.quiet (inl refl)) (phase_steps.mark_rounds c.pass k.domains s cyc f.0 all (r.quiet (inl refl))), f.1);
         full = full_kind k log live t.holder t.fresh homes Mark Rounds (λ _ e. cc) full;
         clean = λ e a. none e a;
@@ -221,7 +219,7 @@ module _ (k : Config) (log : List Entry) (live : Live) (t : Tenancy) (c : Cyclin
         uncounted = λ e. cc;
       };
       back = λ r f full. record {
-        allowed = λ e is. absurd (no_entry e is);
+        allowed = λ e is. absurd (none-some e is);
         facts = (phase_steps.rounds_mark c.pass k.domains s cyc f.0 c.shares.changed, f.1);
         full = full_kind k log live t.holder t.fresh homes Rounds Mark (λ _ e. cc) full;
         clean = λ e a. none e a;
@@ -245,7 +243,7 @@ module _ (k : Config) (log : List Entry) (live : Live) (t : Tenancy) (c : Cyclin
         uncounted = λ e. cc;
       };
       queued = λ r f full. record {
-        allowed = λ e is. absurd (no_entry e is);
+        allowed = λ e is. absurd (none-some e is);
         facts = (quietly (laws.InPhase (laws.Roots laws.Second) k.domains s) Decide Queued f.1.unchanged (phase_steps.decide_queued k.domains s cyc count f.0 all), record { unchanged = f.1.unchanged; unrotated = f.1.unrotated });
         full = full_kind k log live t.holder t.fresh homes Decide Queued (λ _ e. cc) full;
         clean = λ e a. none e a;
@@ -253,7 +251,7 @@ module _ (k : Config) (log : List Entry) (live : Live) (t : Tenancy) (c : Cyclin
         uncounted = λ e. cc;
       };
       second = λ r f full. record {
-        allowed = λ e is. absurd (no_entry e is);
+        allowed = λ e is. absurd (none-some e is);
         facts = (phase_steps.roots_mark laws.Second k.domains s cyc count f.0 all c.shares.changed, f.1.unrotated);
         full = full_kind k log live t.holder t.fresh homes Queued Mark (λ _ e. cc) full;
         clean = λ e a. none e a;
@@ -261,7 +259,7 @@ module _ (k : Config) (log : List Entry) (live : Live) (t : Tenancy) (c : Cyclin
         uncounted = λ e. cc;
       };
       lasts = λ r f full. let row = phase_steps.clean_lasts k.domains s cyc f.0 all in record {
-        allowed = λ e is. absurd (no_entry e is);
+        allowed = λ e is. absurd (none-some e is);
         facts = record {
           facts = record { owned = row.owned; whole = row.whole; waiting = row.waiting; lasts = row.lasts; through = λ d is. cc };
           unchanged = f.1.unchanged;
@@ -274,7 +272,7 @@ module _ (k : Config) (log : List Entry) (live : Live) (t : Tenancy) (c : Cyclin
         uncounted = λ e. cc;
       };
       sweep = λ r f full. let turned = f.turned (r.rotated refl) in let row = phase_steps.lasts_sweep k.domains s swept count f.facts all in let g = row.1 in record {
-        allowed = λ e is. absurd (no_entry e is);
+        allowed = λ e is. absurd (none-some e is);
         facts = record {
           mode = f.facts.lasts.mode;
           swept = record {

@@ -14,7 +14,7 @@ use Rattle.heap_rule.specs.declared.view.DomainView.{DomainView}
 use Rattle.heap_rule.specs.declared.phase.Kind.{Kind}
 use Rattle.heap_rule.specs.declared.phase.Kind.TheVariants.{Run, Promote, Reset, Sweep, Answer}
 use Rattle.heap_rule.specs.declared.phase.Stage.{Stage}
-use Rattle.heap_rule.specs.declared.phase.Stage.TheVariants.{In, Leads, Led, Gone}
+use Rattle.heap_rule.specs.declared.phase.Stage.TheVariants.{In, Leads, Gone}
 use Rattle.heap_rule.specs.declared.phase.Note.{Note}
 use Rattle.heap_rule.specs.declared.phase.Note.TheVariants.{Want, Asked, Barrier, Ended, Cleared, SetBack}
 use Rattle.heap_rule.specs.Layout.{heap_words, before_heap, barrier, ended_word, want}
@@ -39,17 +39,8 @@ use Rattle.steps_pauses.proofs.Arriving.{kind_acts, sharing_looked}
 gone_runs : (kind : Kind) → ◌≡◌ {A = Stage} (Gone kind) (In Run) → ⊥
 gone_runs kind e = cc
 
-led_leads : (kind last : Kind) → ◌≡◌ {A = Stage} (Led kind) (Leads last) → ⊥
-led_leads kind other e = cc
-
 gone_promotes : (kind : Kind) → ◌≡◌ {A = Stage} (Gone kind) (In Promote) → ⊥
 gone_promotes kind e = cc
-
-leads_promotes : (kind : Kind) → ◌≡◌ {A = Stage} (Leads kind) (In Promote) → ⊥
-leads_promotes kind e = cc
-
-leads_runs : (kind : Kind) → ◌≡◌ {A = Stage} (Leads kind) (In Run) → ⊥
-leads_runs kind e = cc
 
 -- the note says neither that the wishes were taken back nor that the cursor was set back
 record IsLook (n : Note) : Type 0 where

@@ -21,11 +21,11 @@ use Rattle.heap_rule.specs.Room.{Room, IsUnused, drawn_in_all}
 use Rattle.heap_rule.specs.Rule.{state_of, Rule}
 use Rattle.heap_rule.specs.Copies.{Promoting}
 use Rattle.heap_rule.specs.Pools.{Holder, nobody, drawn, owned, owner_word, Stock, Tenancy, Takes, Pools, KeepsReserve, IsTaking, Hunts, Hunter, Latest, DrawsFor, IsBefore, spot_at, drawn_in, hunting, hunting_free, place_in, blocks_of, limit_of, prepared_at}
-use Rattle.heap_rule.specs.Phases.{Pause, Phases, AtStage, sum_of}
+use Rattle.heap_rule.specs.Phases.{Phases, AtStage, sum_of}
 use Rattle.steps_pools.specs.Takes.{with_hunt, found_free, HasNoDraw, NoneFree}
 use Rattle.heap_rule.proofs.Update.{over, over_here, over_else}
 use Rattle.heap_rule.proofs.Keeps.{Words, mine, my_good, phases_words, holds_again, room_words, no_garbage_here, run_copying}
-use Rattle.heap_rule.proofs.PauseFacts.{run_promoting, promote_now, not_both}
+use Rattle.heap_rule.proofs.PauseFacts.{run_promoting, promote_now}
 use Rattle.heap_rule.proofs.Controls.{sum_one}
 use Rattle.heap_rule.proofs.Lots.{drawn_same, number_cases}
 use Rattle.heap_rule.proofs.Holders.{Agrees, agrees_same, agrees_set, found_agrees, making_agrees, SameStock, stock_self, same_asking, same_over, NotOf, nobody_not, drawn_not, drawn_owned, grid_heap, grid_over, free_later, hunter_agree, sum_over, sum_small}
@@ -34,12 +34,8 @@ use Rattle.heap_rule.specs.Fullness.{Fullness}
 use Rattle.cycle_laws.specs.Fullness.{kept_labels, HoldsKept}
 use Rattle.heap_rule.proofs.Classes.{some_block}
 use Rattle.heap_rule.specs.Places.{Place}
-
-pub some_none : (q : ℕ) → ◌≡◌ {A = Option ℕ} None (Some q) → ⊥
-some_none q e = cc
-
-pub some_nat : (p q : ℕ) → ◌≡◌ {A = Option ℕ} (Some p) (Some q) → p ≡ q
-some_nat p q e = cc
+use Rattle.std.proofs.lemmas.Option.{none-some, same_Some}
+use Rattle.heap_rule.proofs.Stages.{copying_keeps}
 
 -- which owner word is which holder's
 pub own_word : (h : Holder) (d c : ℕ) → c < class_count → ((e b : ℕ) → h ≡ owned e b → b < class_count) → owner_word h ≡ 16 * d + c + 1 → h ≡ owned d c
@@ -55,7 +51,7 @@ pub draws_none : (c : ℕ) (h : Hunt) → drawn_in h ≡ None → DrawsFor c h �
 draws_none c Rests none is = is
 draws_none c (Counts n) none is = is
 draws_none c (Asks n) none is = is
-draws_none c (Draws place pool class cleared) none is = some_none pool (sym none)
+draws_none c (Draws place pool class cleared) none is = none-some pool (sym none)
 draws_none c (Walks pool class) none is = is
 draws_none c (Fills pool class slot made) none is = is
 draws_none c (Labels address label) none is = is
@@ -67,7 +63,7 @@ pub hunter_on : (k : Config) (t : Tenancy) (words : List ℕ) (x : DomainView) (
     → ((f : ℕ) → free ≡ Some f → (listed words ≤ f + cursor words) × (listed words ≤ f + limit_of k (listed words)) × (f ≤ listed words)) → Hunter k t words x → Hunter k t words (hunting_free x looked h free)
 hunter_on k t words x looked h free knows none taken bounds hunter = record {
   hunt = knows;
-  drawn_alone = λ q e. absurd (some_none q (sym none ∙ hunter.drawn_alone q e));
+  drawn_alone = λ q e. absurd (none-some q (sym none ∙ hunter.drawn_alone q e));
   taken = taken;
   free = bounds;
   holds = hunter.holds;
@@ -192,7 +188,7 @@ module _ (k : Config) (s : Words) (r : Rule k s) (id : ℕ) (hist : List Entry) 
     drawers = r.whole.drawers;
     makings = λ z p. p;
     hunter = hunter_on k t s.words x x.own.looked Rests (Some f) tt (ap drawn_in is) hunter.taken
-        (λ g e. subst (BoundsFree (listed s.words) (cursor s.words)) (some_nat f g e) (subst (λ (m : ℕ). BoundsFree m (cursor s.words) f) (sym (subst (Hunts k t s.words me) is hunter.hunt)) bounds)) hunter;
+        (λ g e. subst (BoundsFree (listed s.words) (cursor s.words)) (same_Some f g e) (subst (λ (m : ℕ). BoundsFree m (cursor s.words) f) (sym (subst (Hunts k t s.words me) is hunter.hunt)) bounds)) hunter;
     hunters = λ z _ g. g.hunter;
   }
 
@@ -240,7 +236,7 @@ module _ (k : Config) (s : Words) (r : Rule k s) (id : ℕ) (hist : List Entry) 
         makings = λ z p. p;
         hunter = record {
           hunt = (counts, over_here me 1 t.asking);
-          free = λ f e. subst (BoundsFree (listed s.words) (cursor s.words)) (some_nat (n - cursor s.words) f e) (subst (λ (m : ℕ). BoundsFree m (cursor s.words) (n - cursor s.words)) (sym counts) (below_bounds n (cursor s.words) below));
+          free = λ f e. subst (BoundsFree (listed s.words) (cursor s.words)) (same_Some (n - cursor s.words) f e) (subst (λ (m : ℕ). BoundsFree m (cursor s.words) (n - cursor s.words)) (sym counts) (below_bounds n (cursor s.words) below));
           drawn_alone = λ q e. sym (ap drawn_in is) ∙ hunter.drawn_alone q e;
           taken = hunter.taken;
           holds = hunter.holds;
@@ -347,7 +343,7 @@ module _ (k : Config) (s : Words) (r : Rule k s) (id : ℕ) (hist : List Entry) 
       makings = λ z p. making_agrees k s.words words1 z agrees p;
       hunter = record {
         hunt = tt;
-        free = λ f e. late_free f (some_nat (n - limit_of k n) f e);
+        free = λ f e. late_free f (same_Some (n - limit_of k n) f e);
         drawn_alone = λ q e. sym (ap drawn_in is) ∙ hunter.drawn_alone q e;
         taken = λ q c slot is inside low e. hunter.taken q c slot is inside low (sym (agrees.heap (place_in q c slot) (omega arith)) ∙ e);
         holds = hunter.holds;
@@ -421,7 +417,7 @@ module _ (k : Config) (s : Words) (r : Rule k s) (id : ℕ) (hist : List Entry) 
       }
 
       nothing_drawn : (q : ℕ) → t.holder q ≡ drawn me → ⊥
-      nothing_drawn q e = some_none q (sym free ∙ hunter.drawn_alone q e)
+      nothing_drawn q e = none-some q (sym free ∙ hunter.drawn_alone q e)
 
       -- a pool that is nobody's isn't this one, and was nobody's before
       is_drawn : (q : ℕ) → t1.holder q ≡ nobody → q ≢ pool
@@ -459,7 +455,7 @@ module _ (k : Config) (s : Words) (r : Rule k s) (id : ℕ) (hist : List Entry) 
           let lives : (p : Place) → r.account.live (place_in q class 0) ≡ Some p → HoldsKept (kept_labels (sizes_in k) r.account.log) r.account.homes q = (λ p e. (p.label, r.whole.full.kept (place_in q class 0) p e, r.whole.full.low q me class 0 p is inside e)) in
           ⊎_elim (λ (z : at_address k s.words (place_in q class 0) ≡ 0). absurd (full_head z))
           (λ z. ⊎_elim (λ (y : (p : Place) × (r.account.live (place_in q class 0) ≡ Some p)). lives y.0 y.1)
-          (λ y. ⊎_elim (λ (w : t.prepared (place_in q class 0) ≡ Some me). absurd (some_none (place_in q class 0) (sym unprepared ∙ hunter.prepared q class 0 is inside w)))
+          (λ y. ⊎_elim (λ (w : t.prepared (place_in q class 0) ≡ Some me). absurd (none-some (place_in q class 0) (sym unprepared ∙ hunter.prepared q class 0 is inside w)))
           (λ (w : IsTrue (t.garbage (place_in q class 0))). absurd (no_garbage_here k s r id hist x at in_kind.0 in_kind.1 in_kind.2 (place_in q class 0) w)) y) z)
           (r.whole.grid.places q me class 0 is inside)
 
@@ -531,13 +527,6 @@ module _ (k : Config) (s : Words) (r : Rule k s) (id : ℕ) (hist : List Entry) 
         hunters = λ z other g. hunter_agree k t t1 s.words words1 agrees z cursor_grows
             (same_over t pool (drawn me) asking' t1.fresh stock z.own.number (subst (λ (h : Holder). NotOf h z.own.number) (sym was) (nobody_not z.own.number)) (drawn_not me z.own.number (λ e. other (sym e))) (beside z.own.number other) (λ b. fresh_domain z.own.number b other) (stocks z.own.number other)) g.hunter;
       }
-
--- while young blocks are copied, nothing is said of the reserve
-pub promote_keeps : (p : Pause) → Promoting p → KeepsReserve p → ⊥
-promote_keeps p promoting keeps = ⊎_elim
-    (λ (h : p.phase ≡ keeps.0 * 2). let i : ℕ = promoting.0 in let j : ℕ = keeps.0 in let e : p.phase ≡ i * 2 = promoting.1 in let f : p.phase ≡ j * 2 = h in
-    let same : j ≡ i = omega arith in let clash : Run ≡ Promote = sym keeps.2 ∙ (ap p.kinds same ∙ promoting.2) in cc)
-    (λ (h : p.phase ≡ keeps.0 * 2 + 1). not_both p.phase (promoting.0, promoting.1) (keeps.0, h)) keeps.1
 
 module _ (k : Config) (s : Words) (r : Rule k s) (id : ℕ) (hist : List Entry) (x : DomainView) (at : get_elem? s.views id ≡ some (one k hist x)) where
   abbrev d : ℕ
@@ -685,7 +674,7 @@ module _ (k : Config) (s : Words) (r : Rule k s) (id : ℕ) (hist : List Entry) 
     pub copy_draws_rule : Rule k record { words = words2; homes = s.homes; views = set s.views id (one k hist (with_hunt x (Draws place drawn_pool class 0))) }
     copy_draws_rule = draws_rule k s r id hist x at (inr copies) T.asking r.whole.pools.one_each beside sums class few place_low free none_free unprepared stock1 refl
         room1 (λ rests. absurd (rests promoting)) (λ e other. record { drawn = same_domain e other; copies = refl; latest = refl; used = refl; claims = refl })
-        (λ keeps. absurd (promote_keeps r.account.pause promoting keeps))
+        (λ keeps. absurd (copying_keeps r.account.pause promoting keeps))
         (λ b below some. dite (ℕ_discrete b class)
         (λ same. inl (sym same))
         (λ other. inr (latest_drawn k s r id hist x at (inr copies) T.asking r.whole.pools.one_each beside sums class few place_low free none_free unprepared stock1 refl b refl refl (same_class b other) refl

@@ -1,6 +1,6 @@
 -- The steps by which domain 0 writes the list of free pools anew keep the rule.
 use Rattle.std.proofs.Common.{◌≡◌, ◌≢◌, ℕ, ◌+◌, ◌*◌, ◌<◌, ◌≤◌, ◌⊎◌, Bool, true, false, true≢false, List, [], ◌∷◌, ◌++◌, length, get_or, set, slice_get, Option, Some, None, sym, refl, ap, ◌∙◌, subst, inl, inr, ⊎_elim, arith, length-set, length-append, get_or-set_same, get_or-set_other}
-use Rattle.std.proofs.lemmas.Option.{slice_get-get_or}
+use Rattle.std.proofs.lemmas.Option.{none-some, same_Some, slice_get-get_or}
 use mathlib.Core.Logic.{dite}
 use native.Mathlib.Decide.{dec_le}
 use mathlib.Core.Option.{some}
@@ -35,12 +35,7 @@ use Rattle.steps_pools.specs.Listings.{with_listing, further, relisted, found_ow
 use Rattle.steps_pools.proofs.FreePools.{IsFree, free_there, free_once}
 use Rattle.steps_pools.proofs.DrawSteps.{draws_none, latest_words}
 use Rattle.heap_rule.proofs.Sharings.{SameCycle, cycle_words}
-
-none_some : (f : ℕ) → ◌≡◌ {A = Option ℕ} None (Some f) → ⊥
-none_some f e = cc
-
-some_list : (a b : Listing) → ◌≡◌ {A = Option Listing} (Some a) (Some b) → a ≡ b
-some_list a b e = cc
+use Rattle.std.proofs.Math.Nat.{not-le_of_lt}
 
 -- a domain that takes no block and knows nothing of how many are free
 pub rests_hunter : (k : Config) (t : Tenancy) (words words' : List ℕ) (z : DomainView) → SameHeap k words words' → z.seen.hunt ≡ Rests → z.seen.free ≡ None → Hunter k t words z → Hunter k t words' z
@@ -48,7 +43,7 @@ rests_hunter k t words words' z same rests free h = record {
   hunt = subst (Hunts k t words' z.own.number) (sym rests) tt;
   drawn_alone = h.drawn_alone;
   taken = λ q c slot is inside low e. h.taken q c slot is inside low (sym (same (place_in q c slot) (omega arith)) ∙ e);
-  free = λ f e. absurd (none_some f (sym free ∙ e));
+  free = λ f e. absurd (none-some f (sym free ∙ e));
   holds = h.holds;
   prepared = h.prepared;
   claims = h.claims;
@@ -300,7 +295,7 @@ module _ (k : Config) (s : Words) (r : Rule k s) (id : ℕ) (hist : List Entry) 
       let same : cursor (set s.words 6 0) ≡ cursor s.words = elsewhere k s r 6 0 (inl refl) 7 (λ e. omega arith) in
       let low : cursor (set s.words 6 0) ≤ cursor s.words = subst (λ (n : ℕ). n ≤ cursor s.words) (sym same) (let c : ℕ = cursor s.words in let o : c ≤ c = omega arith in o) in
       let p : ℕ = k.pools in
-      stores 6 0 (inl refl) (Some no_listing) (emptied k s r 6 0 (inl refl) none low) (λ l e. subst (Lists k (set s.words 6 0) x.own.number x.seen.stage) (some_list no_listing l e) record {
+      stores 6 0 (inl refl) (Some no_listing) (emptied k s r 6 0 (inl refl) none low) (λ l e. subst (Lists k (set s.words 6 0) x.own.number x.seen.stage) (same_Some no_listing l e) record {
         first = leader.first;
         leads = leads_now;
         few = let o : 0 ≤ p = omega arith in (o, o);
@@ -316,7 +311,7 @@ module _ (k : Config) (s : Words) (r : Rule k s) (id : ℕ) (hist : List Entry) 
 
     -- one owner word more is found
     pub finds_rule : length l.owners < k.pools → Rule k record { words = s.words; homes = s.homes; views = set s.views id (one k hist (with_listing x (Some (found_owner (owner_of k s.words (length l.owners)) l)))) }
-    finds_rule inside = let word : ℕ = owner_of k s.words (length l.owners) in let after : Listing = found_owner word l in relists_empty (Some after) s.words refl (λ a. refl) (λ i low. refl) r.whole.pools (λ m e. subst (Lists k s.words x.own.number x.seen.stage) (some_list after m e) record {
+    finds_rule inside = let word : ℕ = owner_of k s.words (length l.owners) in let after : Listing = found_owner word l in relists_empty (Some after) s.words refl (λ a. refl) (λ i low. refl) r.whole.pools (λ m e. subst (Lists k s.words x.own.number x.seen.stage) (same_Some after m e) record {
       first = known.first;
       leads = known.leads;
       few = (subst (λ (n : ℕ). n ≤ k.pools) (sym (length-append l.owners (word ∷ []))) (let n : ℕ = length l.owners in let i : n < k.pools = inside in let o : n + 1 ≤ k.pools = omega arith in o), known.few.1);
@@ -340,7 +335,7 @@ module _ (k : Config) (s : Words) (r : Rule k s) (id : ℕ) (hist : List Entry) 
           let count : listed w1 ≡ listed s.words = elsewhere k s r j new of_list 6 (λ e. omega arith) in
           let asked : cursor w1 ≡ cursor s.words = elsewhere k s r j new of_list 7 (λ e. omega arith) in
           let low : cursor w1 ≤ cursor s.words = subst (λ (c : ℕ). c ≤ cursor s.words) (sym asked) (let c : ℕ = cursor s.words in let o : c ≤ c = omega arith in o) in
-          stores j new of_list (Some (named new l)) (emptied k s r j new of_list (count ∙ none) low) (λ m e. subst (Lists k w1 x.own.number x.seen.stage) (some_list (named new l) m e) record {
+          stores j new of_list (Some (named new l)) (emptied k s r j new of_list (count ∙ none) low) (λ m e. subst (Lists k w1 x.own.number x.seen.stage) (same_Some (named new l) m e) record {
             first = known.first;
             leads = known.leads;
             few = (known.few.0, subst (λ (c : ℕ). c ≤ k.pools) (sym (length-append l.names (new ∷ []))) (let i : n < k.pools = inside in let o : n + 1 ≤ k.pools = omega arith in o));
@@ -359,7 +354,7 @@ module _ (k : Config) (s : Words) (r : Rule k s) (id : ℕ) (hist : List Entry) 
           let count : listed w1 ≡ listed s.words = elsewhere k s r 7 0 of_list 6 (λ e. omega arith) in
           let zero_is : cursor w1 ≡ 0 = here k s r 7 0 of_list in
           let low : cursor w1 ≤ cursor s.words = subst (λ (c : ℕ). c ≤ cursor s.words) (sym zero_is) (let c : ℕ = cursor s.words in let o : 0 ≤ c = omega arith in o) in
-          stores 7 0 of_list (Some (set_back l)) (emptied k s r 7 0 of_list (count ∙ none) low) (λ m e. subst (Lists k w1 x.own.number x.seen.stage) (some_list (set_back l) m e) record {
+          stores 7 0 of_list (Some (set_back l)) (emptied k s r 7 0 of_list (count ∙ none) low) (λ m e. subst (Lists k w1 x.own.number x.seen.stage) (same_Some (set_back l) m e) record {
             first = known.first;
             leads = known.leads;
             few = known.few;
@@ -422,7 +417,7 @@ module _ (k : Config) (s : Words) (r : Rule k s) (id : ℕ) (hist : List Entry) 
               drawn_by = pools.drawn_by;
               one_each = pools.one_each;
               asked = subst (λ (c : ℕ). c + sum_of T.asking k.domains ≤ k.pools + k.domains) (sym asked_same) pools.asked;
-            } (λ m e. subst (Lists k w2 x.own.number x.seen.stage) (some_list (listed_as n l) m e) record {
+            } (λ m e. subst (Lists k w2 x.own.number x.seen.stage) (same_Some (listed_as n l) m e) record {
               first = known.first;
               leads = known.leads;
               few = known.few;
@@ -454,7 +449,7 @@ module _ (k : Config) (s : Words) (r : Rule k s) (id : ℕ) (hist : List Entry) 
     every = λ a. refl;
     control = λ i low. refl;
     pools = r.whole.pools;
-    lists = λ m e. subst (Lists k s.words x.own.number x.seen.stage) (some_list l m e) record {
+    lists = λ m e. subst (Lists k s.words x.own.number x.seen.stage) (same_Some l m e) record {
       first = opener.first;
       leads = subst IsLeading (sym opener.stage) tt;
       few = (let p : ℕ = k.pools in let o : 0 ≤ p = omega arith in (o, o));
@@ -537,7 +532,7 @@ module _ (k : Config) (s : Words) (r : Rule k s) (id : ℕ) (hist : List Entry) 
                   let z : ℕ = limit in let y : z ≤ m = limit_low m in
                   let g : z + u ≤ k.pools + k.domains = omega arith in subst (λ (c : ℕ). c + u ≤ k.pools + k.domains) (sym cursor_is) g;
             };
-            lists = λ m e. let same : l ≡ m = some_list l m (sym listing ∙ e) in subst (Lists k ws7 x.own.number x.seen.stage) same record {
+            lists = λ m e. let same : l ≡ m = same_Some l m (sym listing ∙ e) in subst (Lists k ws7 x.own.number x.seen.stage) same record {
               first = counted.first;
               leads = counted.leads;
               few = counted.few;
@@ -609,13 +604,10 @@ count_may k x opener fits slots id h s r _ at _ =
     let y : DomainView = with_listing x (Some (listed_as (listed s.words) no_listing)) in
     (one k h y, keeps, tt, unmoved k s 6 (set s.views id (one k h y)) (counts_rule k s r id h x at opener), (record { few = r.whole.pools.few; view = refl }, refl))
 
-lt_not_le : {a b : ℕ} → a < b → b ≤ a → ⊥
-lt_not_le {a} {b} below past = let p : a < b = below in let q : b ≤ a = past in omega arith
-
 pub cursor_look_may : (k : Config) (x : DomainView) (count : ℕ) → HasCounted x count → MayStep k x 7 (λ n. n) (CursorLookTold k count)
 cursor_look_may k x count may fits slots id h s r _ at _ = dite (dec_le (cursor s.words) (limit_of k count))
     (λ low. let y : DomainView = noted_set_back x in
-    (one k h y, keeps, tt, unmoved k s 7 (set s.views id (one k h y)) (low_rule k s r id h x at may.opener may.list may.listing (subst (λ (n : ℕ). cursor s.words ≤ limit_of k n) (sym may.count_is) low)), (record { low = λ l. refl; high = λ b. absurd (lt_not_le b low) }, refl)))
+    (one k h y, keeps, tt, unmoved k s 7 (set s.views id (one k h y)) (low_rule k s r id h x at may.opener may.list may.listing (subst (λ (n : ℕ). cursor s.words ≤ limit_of k n) (sym may.count_is) low)), (record { low = λ l. refl; high = λ b. absurd (not-le_of_lt b low) }, refl)))
     (λ high.
     (one k h x, keeps, tt, unmoved k s 7 (set s.views id (one k h x)) (looks k s r id h x at x.seen.front (mine k s r id h x at).front (my_good k s r id h x at).still), (record { low = λ l. absurd (high l); high = λ b. refl }, refl)))
 

@@ -62,6 +62,7 @@ use Rattle.cycle_laws.specs.Pools.{with_pool}
 use Rattle.cycle_laws.specs.Fullness.{kept_labels}
 use Rattle.heap_rule.specs.declared.phase.Kind.{Kind}
 use Rattle.heap_rule.specs.declared.phase.Kind.TheVariants.{Run}
+use Rattle.std.proofs.lemmas.Option.{none-some}
 
 zero_there : (n i : ℕ) → i < n → slice_get (replicate n zero_word) i ≡ Some zero_word
 zero_there zero i h = absurd (omega arith)
@@ -284,9 +285,6 @@ module _ (k : Config) (s : Words) (r : Rule k s) (id : ℕ) (hist : List Entry) 
   spare_far : (b m : ℕ) → r.account.tenancy.prepared b ≡ Some m → b ≢ A
   spare_far b m is same = (r.whole.grid.spares b m is).head (ap (at_address k s.words) same ∙ F.free)
 
-  none_some_place : (q : Place) → ◌≡◌ {A = Option Place} None (Some q) → ⊥
-  none_some_place q e = cc
-
   grid1 : Grid k r.account.tenancy live1 ws
   grid1 = record {
     lots = λ b q lives under. dite (ℕ_discrete b A)
@@ -300,7 +298,7 @@ module _ (k : Config) (s : Words) (r : Rule k s) (id : ℕ) (hist : List Entry) 
     spares = λ b m is. let spare = r.whole.grid.spares b m is in record {
       own = spare.own;
       head = λ z. spare.head (sym (stays k r.account.tenancy s.words A new b (spare_far b m is)) ∙ z);
-      empty = ⊎_elim (λ (e : live1 b ≡ None). e) (λ (h : (q : Place) × (live1 b ≡ Some q)). absurd (none_some_place h.0 (sym spare.empty ∙ before b h.0 (spare_far b m is) h.1))) (place_cases (live1 b));
+      empty = ⊎_elim (λ (e : live1 b ≡ None). e) (λ (h : (q : Place) × (live1 b ≡ Some q)). absurd (none-some h.0 (sym spare.empty ∙ before b h.0 (spare_far b m is) h.1))) (place_cases (live1 b));
     };
   }
 

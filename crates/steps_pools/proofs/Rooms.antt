@@ -16,7 +16,8 @@ use Rattle.steps_pools.specs.Takes.{NoneFree, CopyDrawMay}
 use Rattle.heap_rule.proofs.Keeps.{Words, mine, my_good}
 use Rattle.heap_rule.proofs.PauseFacts.{promote_now}
 use Rattle.heap_rule.proofs.Counting.{room_left}
-use Rattle.steps_pools.proofs.DrawSteps.{draws_none, some_none}
+use Rattle.steps_pools.proofs.DrawSteps.{draws_none}
+use Rattle.std.proofs.lemmas.Option.{none-some}
 
 -- where no place of an own pool of the class is free or prepared, the pools drawn for the class are used up
 used_up : (k : Config) (t : Tenancy) (words : List ℕ) (x : DomainView) (class : ℕ) → Pools k t words → Hunter k t words x → class < class_count → drawn_in x.seen.hunt ≡ None → NoneFree k x class → prepared_at x.own.prepared class ≡ None
@@ -41,7 +42,7 @@ used_up k t words x class p h few free none_free unprepared =
     let seen : q < (spot_at x.own.looked class).pool = (let w : ℕ = (spot_at x.own.looked class).pool in let f : k.pools ≤ w = none_free in let o : q < w = omega arith in o) in
     absurd (⊎_elim
     (λ (z : at_address k words (place_in q class u) ≡ 0). h.taken q class u l.own_is inside (inl seen) z)
-    (λ (z : (u ≡ u) × (t.prepared (place_in q class u) ≡ Some x.own.number)). some_none (place_in q class u) (sym unprepared ∙ h.prepared q class u l.own_is inside z.1))
+    (λ (z : (u ≡ u) × (t.prepared (place_in q class u) ≡ Some x.own.number)). none-some (place_in q class u) (sym unprepared ∙ h.prepared q class u l.own_is inside z.1))
     (l.rest u (let o : u ≤ u = omega arith in o) inside))))
     (h.supply class few (lt_of_not-le some)))
 

@@ -22,6 +22,7 @@ use Rattle.heap_rule.proofs.Keeps.{unmoved, looks, mine, my_good}
 use Rattle.steps_pools.proofs.DrawSteps.{hunter, listed_rule, asks_rule, rests_rule, below_bounds, past_bounds, add_whole, add_late_rule, add_draws_rule, add_place_inside, add_pool_inside, copy_whole, copy_draws_rule, copy_place_inside, copy_pool_inside}
 use Rattle.steps_pools.proofs.Rooms.{all_used, pool_left}
 use Rattle.steps_pools.proofs.WalkSteps.{walks_rule, passes_rule, takes_rule, full_rule, last_rule, clears_rule, owns_rule, fills_rule}
+use Rattle.std.proofs.Math.Nat.{not-le_of_lt}
 
 abbrev Seat : Type 0
 Seat = Me (Unit {0}) View
@@ -34,13 +35,10 @@ listeds k slots id hist x runs free s r _ at _ =
 pub listed_may : (k : Config) (x : DomainView) (runs : x.seen.stage ≡ In Run) → HasNoDraw x → MayStep k x 6 (λ n. n) (ListedTold k)
 listed_may k x runs free fits slots id h = listeds k slots id h x runs free
 
-lt_not_le : {a b : ℕ} → a < b → b ≤ a → ⊥
-lt_not_le {a} {b} below past = let p : a < b = below in let q : b ≤ a = past in omega arith
-
 cursors : (k : Config) (slots id : ℕ) (hist : List Entry) (x : DomainView) (runs : x.seen.stage ≡ In Run) (count : ℕ) → x.seen.hunt ≡ Counts count → Allows (Rule k) slots id (one k hist x, []) 7 (λ n. n) (Tells (CursorTold k count (Asks count)) (one k hist x, []))
 cursors k slots id hist x runs count hunt s r _ at _ = dite (dec_le (limit_of k count) (cursor s.words))
     (λ past. let y : DomainView = found_free x (count - limit_of k count) Rests in
-    (one k hist y, keeps, tt, unmoved k s 7 (set s.views id (one k hist y)) (rests_rule k s r id hist x at (inl runs) runs count (count - limit_of k count) hunt (past_bounds k s r id hist x at (inl runs) count (cursor s.words) past)), (record { below = λ b. absurd (lt_not_le b past); past = λ p. refl }, refl)))
+    (one k hist y, keeps, tt, unmoved k s 7 (set s.views id (one k hist y)) (rests_rule k s r id hist x at (inl runs) runs count (count - limit_of k count) hunt (past_bounds k s r id hist x at (inl runs) count (cursor s.words) past)), (record { below = λ b. absurd (not-le_of_lt b past); past = λ p. refl }, refl)))
     (λ not_past. let below : cursor s.words < limit_of k count = lt_of_not-le not_past in let y : DomainView = found_free x (count - cursor s.words) (Asks count) in
     (one k hist y, keeps, tt, unmoved k s 7 (set s.views id (one k hist y)) (asks_rule k s r id hist x at (inl runs) runs count hunt below), (record { below = λ b. refl; past = λ p. absurd (not_past p) }, refl)))
 
@@ -51,7 +49,7 @@ cursor_may k x runs count hunt fits slots id h = cursors k slots id h x runs cou
 looks_free : (k : Config) (slots id : ℕ) (hist : List Entry) (x : DomainView) (runs : x.seen.stage ≡ In Run) (count : ℕ) → x.seen.hunt ≡ Counts count → Allows (Rule k) slots id (one k hist x, []) 7 (λ n. n) (Tells (CursorTold k count Rests) (one k hist x, []))
 looks_free k slots id hist x runs count hunt s r _ at _ = dite (dec_le (limit_of k count) (cursor s.words))
     (λ past. let y : DomainView = found_free x (count - limit_of k count) Rests in
-    (one k hist y, keeps, tt, unmoved k s 7 (set s.views id (one k hist y)) (rests_rule k s r id hist x at (inl runs) runs count (count - limit_of k count) hunt (past_bounds k s r id hist x at (inl runs) count (cursor s.words) past)), (record { below = λ b. absurd (lt_not_le b past); past = λ p. refl }, refl)))
+    (one k hist y, keeps, tt, unmoved k s 7 (set s.views id (one k hist y)) (rests_rule k s r id hist x at (inl runs) runs count (count - limit_of k count) hunt (past_bounds k s r id hist x at (inl runs) count (cursor s.words) past)), (record { below = λ b. absurd (not-le_of_lt b past); past = λ p. refl }, refl)))
     (λ not_past. let below : cursor s.words < limit_of k count = lt_of_not-le not_past in let y : DomainView = found_free x (count - cursor s.words) Rests in
     (one k hist y, keeps, tt, unmoved k s 7 (set s.views id (one k hist y)) (rests_rule k s r id hist x at (inl runs) runs count (count - cursor s.words) hunt (below_bounds k s r id hist x at (inl runs) count (cursor s.words) below)), (record { below = λ b. refl; past = λ p. absurd (not_past p) }, refl)))
 

@@ -15,7 +15,7 @@ use Rattle.heap_rule.specs.Places.{Place, Live, extent}
 use Rattle.heap_rule.specs.Room.{Room, IsUnused}
 use Rattle.heap_rule.specs.Views.{one}
 use Rattle.heap_rule.specs.Rule.{state_of, Rule}
-use Rattle.heap_rule.specs.Pools.{Holder, nobody, drawn, owned, owner_word, Stock, Tenancy, Takes, Pools, Grid, IsSpare, Hunts, Hunter, Latest, DrawsFor, Clearing, Filling, drawn_in, spot_at, IsBefore, place_in, size_of, blocks_of, limit_of}
+use Rattle.heap_rule.specs.Pools.{nobody, owned, owner_word, Stock, Tenancy, Takes, Pools, Grid, IsSpare, Hunts, Hunter, Latest, DrawsFor, Clearing, Filling, drawn_in, spot_at, IsBefore, place_in, size_of, blocks_of, limit_of}
 use Rattle.heap_rule.specs.Phases.{sum_of}
 use Rattle.steps_pools.specs.Takes.{with_hunt, looked_to, NoneFree}
 use Rattle.heap_rule.proofs.Update.{over, over_here, over_else}
@@ -24,9 +24,10 @@ use Rattle.heap_rule.proofs.Keeps.{Words, mine, more_same, phases_words, phases_
 use Rattle.heap_rule.proofs.Classes.{size_least, some_block, slot_below, slot_inside}
 use Rattle.heap_rule.proofs.Beside.{found_beside, making_beside}
 use Rattle.heap_rule.proofs.Lots.{Beside, pool_beside, hunter_beside, drawn_same, owned_same, stays, head_full}
-use Rattle.heap_rule.proofs.Holders.{Agrees, agrees_set, found_agrees, making_agrees, SameStock, same_over, drawn_not, owned_not, drawn_owned, grid_over, free_later, hunter_agree}
-use Rattle.steps_pools.proofs.DrawSteps.{hunter, next_hunter, hunter_on, knows, known_free, draws_none, latest_words, own_word, some_nat}
+use Rattle.heap_rule.proofs.Holders.{Agrees, SameStock, agrees_set, drawn_not, drawn_owned, found_agrees, free_later, grid_over, hunter_agree, making_agrees, nobody_drawn, nobody_owned, owned_not, same_over}
+use Rattle.steps_pools.proofs.DrawSteps.{hunter, next_hunter, hunter_on, knows, known_free, draws_none, latest_words, own_word}
 use Rattle.heap_rule.specs.Fullness.{Fullness}
+use Rattle.std.proofs.lemmas.Option.{same_Some}
 
 pub equal_le : {a b : ℕ} → a ≡ b → b ≤ a
 equal_le {a} {b} e = omega arith
@@ -326,22 +327,13 @@ module _ (k : Config) (s : Words) (r : Rule k s) (id : ℕ) (hist : List Entry) 
     names2 : (i : ℕ) → i < listed words2 → listed_pool words2 i ≡ listed_pool s.words i
     names2 i h = let l = lower2 i h in let m : ℕ = listed s.words in let f : m ≤ k.pools = P.few in let g : i < m = l in agrees.list i (omega arith)
 
-    no_nobody : ◌≡◌ {A = Holder} (drawn d) nobody → ⊥
-    no_nobody e = cc
-
-    owned_not_nobody : ◌≡◌ {A = Holder} (owned d class) nobody → ⊥
-    owned_not_nobody e = cc
-
-    owned_not_drawn : (b c e : ℕ) → ◌≡◌ {A = Holder} (owned b c) (drawn e) → ⊥
-    owned_not_drawn b c e h = cc
-
     -- a listed pool that is nobody's isn't this one
     nobody_still : (i : ℕ) → i < listed words2 → T.holder (listed_pool s.words i) ≡ nobody → t2.holder (listed_pool words2 i) ≡ nobody
-    nobody_still i h u = ap t2.holder (names2 i h) ∙ (else2 (listed_pool s.words i) (λ e. no_nobody (sym all_clear.drawn_is ∙ (ap T.holder (sym e) ∙ u))) ∙ u)
+    nobody_still i h u = ap t2.holder (names2 i h) ∙ (else2 (listed_pool s.words i) (λ e. nobody_drawn d (sym u ∙ (ap T.holder e ∙ all_clear.drawn_is))) ∙ u)
 
     -- and a pool that is nobody's was so before
     nobody_was : (q : ℕ) → t2.holder q ≡ nobody → T.holder q ≡ nobody
-    nobody_was q free = sym (else2 q (λ same. owned_not_nobody (sym here2 ∙ (ap t2.holder (sym same) ∙ free)))) ∙ free
+    nobody_was q free = sym (else2 q (λ same. nobody_owned d class (sym free ∙ (ap t2.holder same ∙ here2)))) ∙ free
 
     owned_still : (q c : ℕ) → T.holder q ≡ owned d c → t2.holder q ≡ owned d c
     owned_still q c e = else2 q (λ same. drawn_owned d d c (sym all_clear.drawn_is ∙ (ap T.holder (sym same) ∙ e))) ∙ e
@@ -401,7 +393,7 @@ module _ (k : Config) (s : Words) (r : Rule k s) (id : ℕ) (hist : List Entry) 
           subst (λ (m : ℕ × ℕ × ℕ). (m.0 < k.pools) × (m.1 < k.domains) × (m.2 < class_count)) (λ j. (sym same j, o.0 j, o.1 j)) (all_clear.inside, (mine k s r id hist x at).inside, all_clear.of_class))
           (λ other. P.owned_by q e c (sym (else2 q other) ∙ h));
       drawn_by = λ q e h. dite (ℕ_discrete q pool)
-          (λ same. absurd (owned_not_drawn d class e (sym here2 ∙ (ap t2.holder (sym same) ∙ h))))
+          (λ same. absurd (drawn_owned e d class (sym h ∙ (ap t2.holder same ∙ here2))))
           (λ other. P.drawn_by q e (sym (else2 q other) ∙ h));
       one_each = P.one_each;
       asked = subst (λ (m : ℕ). m + sum_of T.asking k.domains ≤ k.pools + k.domains) (sym cursor2) P.asked;
@@ -433,7 +425,7 @@ module _ (k : Config) (s : Words) (r : Rule k s) (id : ℕ) (hist : List Entry) 
               (λ same. let o = owned_same d e class c (sym here2 ∙ (ap t2.holder (sym same) ∙ is)) in inl (subst (λ (m : ℕ × ℕ). T.fresh m.0 m.1 ≡ Some q) (λ i. (o.0 i, o.1 i)) (all_clear.fresh_is ∙ ap Some (sym same))))
               (λ other. f.owned goes q e c (sym (else2 q other) ∙ is));
           drawn = λ q e is. dite (ℕ_discrete q pool)
-              (λ same. absurd (owned_not_drawn d class e (sym here2 ∙ (ap t2.holder (sym same) ∙ is))))
+              (λ same. absurd (drawn_owned e d class (sym is ∙ (ap t2.holder same ∙ here2))))
               (λ other. f.drawn q e (sym (else2 q other) ∙ is));
         }
 
@@ -457,7 +449,7 @@ module _ (k : Config) (s : Words) (r : Rule k s) (id : ℕ) (hist : List Entry) 
       pools = pools2;
       drawers = record {
         drawn = λ q e h. dite (ℕ_discrete q pool)
-            (λ same. absurd (owned_not_drawn d class e (sym here2 ∙ (ap t2.holder (sym same) ∙ h))))
+            (λ same. absurd (drawn_owned e d class (sym h ∙ (ap t2.holder same ∙ here2))))
             (λ other. r.whole.drawers.drawn q e (sym (else2 q other) ∙ h));
         prepared = r.whole.drawers.prepared;
         claims = r.whole.drawers.claims;
@@ -476,8 +468,8 @@ module _ (k : Config) (s : Words) (r : Rule k s) (id : ℕ) (hist : List Entry) 
         };
         free = λ f e. free_later k s.words words2 agrees.count (equal_le cursor2) f (H.free f e);
         drawn_alone = λ q e. absurd (dite (ℕ_discrete q pool)
-            (λ same. owned_not_drawn d class d (sym here2 ∙ (ap t2.holder (sym same) ∙ e)))
-            (λ other. other (sym (some_nat pool q (sym (ap drawn_in is) ∙ H.drawn_alone q (sym (else2 q other) ∙ e))))));
+            (λ same. drawn_owned d d class (sym e ∙ (ap t2.holder same ∙ here2)))
+            (λ other. other (sym (same_Some pool q (sym (ap drawn_in is) ∙ H.drawn_alone q (sym (else2 q other) ∙ e))))));
         taken = λ q c slot owned_is below seen z.
             let unset : at_address k s.words (place_in q c slot) ≡ 0 = sym (agrees.heap (place_in q c slot) (omega arith)) ∙ z in
             dite (ℕ_discrete q pool)

@@ -49,10 +49,10 @@ use Rattle.heap_rule.proofs.PauseFacts.{promote_now, promote_here}
 use Rattle.heap_rule.proofs.Lots.{area_beside, hunter_beside, number_cases, place_low}
 use Rattle.heap_rule.proofs.Update.{over, over_here, over_else}
 use Rattle.heap_rule.proofs.Values.{extent_large}
-use Rattle.steps_promote.proofs.Meets.{form_shape, knows_more, known_more, place_same}
+use Rattle.steps_promote.proofs.Meets.{form_shape, knows_more, known_more}
 use Rattle.steps_promote.proofs.OwnPlaces as places
 use Rattle.steps_promote.proofs.OwnPlaces.{place_sole}
-use Rattle.steps_promote.proofs.Preparing.{number_same, prepared_here, prepared_else}
+use Rattle.steps_promote.proofs.Preparing.{prepared_here, prepared_else}
 use Rattle.steps_promote.proofs.Registers.{promote_once}
 use Rattle.steps_promote.proofs.Remaking.{promotes_again, stood_same}
 use Rattle.heap_rule.proofs.HeadLemmas.{head_at, new_head}
@@ -61,21 +61,7 @@ use Rattle.heap_rule.specs.Fullness.{Homes, Fullness}
 use Rattle.cycle_laws.specs.Pools.{with_pool}
 use Rattle.heap_words.specs.declared.colours.Colours.{Colours}
 use Rattle.heap_rule.specs.declared.phase.Kind.TheVariants.{Promote}
-
-no_some : (a : ℕ) → ◌≡◌ {A = Option ℕ} None (Some a) → ⊥
-no_some a e = cc
-
-no_place : (p : Place) → ◌≡◌ {A = Option Place} None (Some p) → ⊥
-no_place p e = cc
-
-no_debt : (d : Debt) → ◌≡◌ {A = Option Debt} None (Some d) → ⊥
-no_debt d e = cc
-
-debt_same : (a b : Debt) → Some a ≡ Some b → a ≡ b
-debt_same a b e = cc
-
-owing_same : (u v : Owing) → Some u ≡ Some v → u ≡ v
-owing_same u v e = cc
+use Rattle.std.proofs.lemmas.Option.{none-some, same_Some}
 
 -- lists that grow at their end
 got_front : {A : Type 0} (l : List A) (v a : A) (i : ℕ) → slice_get l i ≡ Some a → slice_get (l ++ v ∷ []) i ≡ Some a
@@ -249,7 +235,7 @@ module _ (k : Config) (s : Words) (r : Rule k s) (id : ℕ) (hist : List Entry) 
   c_apart b q e = subst (λ (z : ℕ). (b + extent q.shape ≤ c) ⊎ (c + size_of z ≤ b)) class_is (places.apart k s r id hist x at c o empty b q e)
 
   not_there : (b : ℕ) (q : Place) → live b ≡ Some q → b ≢ c
-  not_there b q e same = no_place q (sym empty ∙ (ap live (sym same) ∙ e))
+  not_there b q e same = none-some q (sym empty ∙ (ap live (sym same) ∙ e))
 
   -- a block of a minor area is owed nothing
   paid : p.owed ≡ None
@@ -314,7 +300,7 @@ module _ (k : Config) (s : Words) (r : Rule k s) (id : ℕ) (hist : List Entry) 
           making = record { fits = G.making.fits; written = G.making.written };
           hunter = record {
             hunt = tt;
-            drawn_alone = λ q e. absurd (no_some q (ap drawn_in (sym may.hunt) ∙ h.drawn_alone q e));
+            drawn_alone = λ q e. absurd (none-some q (ap drawn_in (sym may.hunt) ∙ h.drawn_alone q e));
             taken = h.taken;
             free = h.free;
             holds = h.holds;
@@ -391,7 +377,7 @@ module _ (k : Config) (s : Words) (r : Rule k s) (id : ℕ) (hist : List Entry) 
     was b q na nc e = sym (elsewhere b na nc) ∙ e
 
     was_a : (b : ℕ) (q : Place) → b ≡ a → live b ≡ Some q → p ≡ q
-    was_a b q same e = place_same p q (sym lives ∙ (ap live (sym same) ∙ e))
+    was_a b q same e = same_Some p q (sym lives ∙ (ap live (sym same) ∙ e))
 
     -- what lives at an address in the end: the block, its copy, or what lived there
     cases : {A : Type 0} (b : ℕ) (q : Place) → live2 b ≡ Some q → (b ≡ a → p2 ≡ q → A) → (b ≡ c → pc ≡ q → A) → (b ≢ a → b ≢ c → live b ≡ Some q → A) → A
@@ -488,13 +474,13 @@ module _ (k : Config) (s : Words) (r : Rule k s) (id : ℕ) (hist : List Entry) 
           (λ same i. subst (λ (z : ℕ × Place). Fits k z.0 z.1) (λ j. (sym same j, i j)) fits_c)
           (λ na nc l. r.whole.placed.fits b q l);
       once = λ b d q u e g labels none_b none_d. cases b q e
-          (λ same i. absurd (no_some c (sym none_b ∙ ap (λ (z : Place). z.forward) (sym i))))
+          (λ same i. absurd (none-some c (sym none_b ∙ ap (λ (z : Place). z.forward) (sym i))))
           (λ same i. cases d u g
-          (λ same' i'. absurd (no_some c (sym none_d ∙ ap (λ (z : Place). z.forward) (sym i'))))
+          (λ same' i'. absurd (none-some c (sym none_d ∙ ap (λ (z : Place). z.forward) (sym i'))))
           (λ same' i'. same ∙ sym same')
           (λ na nc l. absurd (na (sym (r.whole.placed.once a d p u lives l (ap (λ (z : Place). z.label) i ∙ labels) bare none_d)))))
           (λ na nc l. cases d u g
-          (λ same' i'. absurd (no_some c (sym none_d ∙ ap (λ (z : Place). z.forward) (sym i'))))
+          (λ same' i'. absurd (none-some c (sym none_d ∙ ap (λ (z : Place). z.forward) (sym i'))))
           (λ same' i'. absurd (na (r.whole.placed.once b a q p l lives (labels ∙ ap (λ (z : Place). z.label) (sym i')) none_b bare)))
           (λ na' nc' l'. r.whole.placed.once b d q u l l' labels none_b none_d));
       apart = λ b d q u e g ne. cases b q e
@@ -532,7 +518,7 @@ module _ (k : Config) (s : Words) (r : Rule k s) (id : ℕ) (hist : List Entry) 
     copies2 = record {
       leads = λ b q d e forwards. cases b q e
           (λ same i.
-          let d_is : c ≡ d = number_same c d (ap (λ (z : Place). z.forward) i ∙ forwards) in record {
+          let d_is : c ≡ d = same_Some c d (ap (λ (z : Place). z.forward) i ∙ forwards) in record {
             young = subst (λ (n : ℕ). k.pools * 4096 < n) (sym same) may.young;
             old = subst (λ (n : ℕ). n ≤ k.pools * 4096) d_is c_old;
             filled = ap (λ (z : Place). z.owed) (sym i) ∙ paid;
@@ -542,7 +528,7 @@ module _ (k : Config) (s : Words) (r : Rule k s) (id : ℕ) (hist : List Entry) 
             shape = ap (λ (z : Place). z.shape) i;
             plain = refl;
           })
-          (λ same i. absurd (no_some d (ap (λ (z : Place). z.forward) i ∙ forwards)))
+          (λ same i. absurd (none-some d (ap (λ (z : Place). z.forward) i ∙ forwards)))
           (λ na nc l. let m = r.whole.copies.leads b q d l forwards in record {
             young = m.young;
             old = m.old;
@@ -554,9 +540,9 @@ module _ (k : Config) (s : Words) (r : Rule k s) (id : ℕ) (hist : List Entry) 
             plain = m.plain;
           });
       pends = λ b q d e owed. cases b q e
-          (λ same i. absurd (no_debt d (sym paid ∙ (ap (λ (z : Place). z.owed) i ∙ owed))))
+          (λ same i. absurd (none-some d (sym paid ∙ (ap (λ (z : Place). z.owed) i ∙ owed))))
           (λ same i.
-          let d_is : debt ≡ d = debt_same debt d (ap (λ (z : Place). z.owed) i ∙ owed) in record {
+          let d_is : debt ≡ d = same_Some debt d (ap (λ (z : Place). z.owed) i ∙ owed) in record {
             inside = subst (λ (z : Debt). z.domain < k.domains) d_is inside;
             old = subst (λ (n : ℕ). n ≤ k.pools * 4096) (sym same) c_old;
             plain = ap (λ (z : Place). z.forward) (sym i);
@@ -569,27 +555,27 @@ module _ (k : Config) (s : Words) (r : Rule k s) (id : ℕ) (hist : List Entry) 
             old = m.old;
             plain = m.plain;
             place = m.place;
-            lives = elsewhere d.source (λ same. no_some b (sym bare ∙ (ap (λ (z : Place). z.forward) (was_a d.source m.place same m.lives) ∙ m.forwards))) (not_there d.source m.place m.lives) ∙ m.lives;
+            lives = elsewhere d.source (λ same. none-some b (sym bare ∙ (ap (λ (z : Place). z.forward) (was_a d.source m.place same m.lives) ∙ m.forwards))) (not_there d.source m.place m.lives) ∙ m.lives;
             forwards = m.forwards;
           });
       naming = λ b q i d e named. cases b q e
           (λ same j. subst (λ (z : Shape). (d < k.domains) × (i + 2 < extent z)) (ap (λ (z : Place). z.shape) j) (r.whole.copies.naming a p i d lives (ap (λ (z : Place). z.named i) j ∙ named)))
-          (λ same j. absurd (no_some d (ap (λ (z : Place). z.named i) j ∙ named)))
+          (λ same j. absurd (none-some d (ap (λ (z : Place). z.named i) j ∙ named)))
           (λ na nc l. r.whole.copies.naming b q i d l named);
     }
 
     cleared2 : Promoting r.account.pause → (d : ℕ) → d < k.domains → r.account.pause.arrived d ≡ r.account.pause.phase + 1 → Cleared live2 d
     cleared2 h d below up = let cl = r.whole.cleared h d below up in record {
       no_debt = λ b q w e owed. cases b q e
-          (λ same i. absurd (no_debt w (sym paid ∙ (ap (λ (z : Place). z.owed) i ∙ owed))))
+          (λ same i. absurd (none-some w (sym paid ∙ (ap (λ (z : Place). z.owed) i ∙ owed))))
           (λ same i. λ mine_too.
-          let w_is : me ≡ d = ap (λ (z : Debt). z.domain) (debt_same debt w (ap (λ (z : Place). z.owed) i ∙ owed)) ∙ mine_too in
+          let w_is : me ≡ d = ap (λ (z : Debt). z.domain) (same_Some debt w (ap (λ (z : Place). z.owed) i ∙ owed)) ∙ mine_too in
           let up' : x.own.arrivals ≡ r.account.pause.phase + 1 = (my_good k s r id hist x at).staged.arrivals ∙ (ap r.account.pause.arrived w_is ∙ up) in
           let e' : x.own.arrivals ≡ r.account.pause.phase = here_now in omega arith)
           (λ na nc l. cl.no_debt b q w l owed);
       no_field = λ b q i e named. cases b q e
           (λ same j. cl.no_field a p i lives (ap (λ (z : Place). z.named i) j ∙ named))
-          (λ same j. no_some d (ap (λ (z : Place). z.named i) j ∙ named))
+          (λ same j. none-some d (ap (λ (z : Place). z.named i) j ∙ named))
           (λ na nc l. cl.no_field b q i l named);
     }
 
@@ -634,7 +620,7 @@ module _ (k : Config) (s : Words) (r : Rule k s) (id : ℕ) (hist : List Entry) 
 
     was_prepared : (b d : ℕ) → prepared' b ≡ Some d → (b ≢ c) × (t.prepared b ≡ Some d)
     was_prepared b d is = dite (ℕ_discrete b c)
-        (λ same. absurd (no_some d (sym (over_here c None t.prepared) ∙ (ap prepared' (sym same) ∙ is))))
+        (λ same. absurd (none-some d (sym (over_here c None t.prepared) ∙ (ap prepared' (sym same) ∙ is))))
         (λ other. (other, sym (over_else c None t.prepared b other) ∙ is))
 
     -- the places of pools keep their heads
@@ -665,7 +651,7 @@ module _ (k : Config) (s : Words) (r : Rule k s) (id : ℕ) (hist : List Entry) 
           let own = sp.own in record {
             own = own;
             head = λ e. sp.head (ap (at_address k s.words) own.begins ∙ (sym (place_stays own.pool d own.class own.slot own.owned_is own.inside) ∙ (ap (at_address k ws) (sym own.begins) ∙ e)));
-            empty = elsewhere b (λ same. no_place p (sym sp.empty ∙ (ap live same ∙ lives))) u.0 ∙ sp.empty;
+            empty = elsewhere b (λ same. none-some p (sym sp.empty ∙ (ap live same ∙ lives))) u.0 ∙ sp.empty;
           };
     }
 
@@ -676,7 +662,7 @@ module _ (k : Config) (s : Words) (r : Rule k s) (id : ℕ) (hist : List Entry) 
       owned_to = λ q e z. z;
       owned_from = λ q e z. z;
       asking_same = refl;
-      prepared_to = λ b e. over_else c None t.prepared b (λ same. other (number_same d me (sym e ∙ (ap t.prepared same ∙ mine_is)))) ∙ e;
+      prepared_to = λ b e. over_else c None t.prepared b (λ same. other (same_Some d me (sym e ∙ (ap t.prepared same ∙ mine_is)))) ∙ e;
       prepared_from = λ b e. (was_prepared b d e).1;
       fresh_same = λ _. refl;
       stock_same = record {
@@ -724,7 +710,7 @@ module _ (k : Config) (s : Words) (r : Rule k s) (id : ℕ) (hist : List Entry) 
             block = u.block;
             copy = u.copy;
             place = u.place;
-            lives = elsewhere u.block (λ same. no_some u.copy (sym bare ∙ (ap (λ (z : Place). z.forward) (was_a u.block u.place same u.lives) ∙ u.forwards))) (not_there u.block u.place u.lives) ∙ u.lives;
+            lives = elsewhere u.block (λ same. none-some u.copy (sym bare ∙ (ap (λ (z : Place). z.forward) (was_a u.block u.place same u.lives) ∙ u.forwards))) (not_there u.block u.place u.lives) ∙ u.lives;
             forwards = u.forwards;
             young = u.young;
             from = u.from;
@@ -802,11 +788,11 @@ module _ (k : Config) (s : Words) (r : Rule k s) (id : ℕ) (hist : List Entry) 
     hunter_mine : Hunter k t' ws won_view
     hunter_mine = record {
       hunt = tt;
-      drawn_alone = λ q e. absurd (no_some q (ap drawn_in (sym may.hunt) ∙ H.drawn_alone q e));
+      drawn_alone = λ q e. absurd (none-some q (ap drawn_in (sym may.hunt) ∙ H.drawn_alone q e));
       taken = λ q d j owned_is below low e. H.taken q d j owned_is below low (sym (place_stays q me d j owned_is below) ∙ e);
       free = λ n e. subst (λ (m : ℕ × ℕ). (m.0 ≤ n + m.1) × (m.0 ≤ n + limit_of k m.0) × (n ≤ m.0)) (λ i. (sym (control_set k s.words a new low_a 6 (omega arith)) i, sym (control_set k s.words a new low_a 7 (omega arith)) i)) (H.free n e);
       holds = λ d b few e. dite (ℕ_discrete d class)
-          (λ same. absurd (no_some b (sym (prepared_here x.own.prepared class None fits.prepared may.of_class) ∙ (ap (prepared_at (set x.own.prepared class None)) (sym same) ∙ e))))
+          (λ same. absurd (none-some b (sym (prepared_here x.own.prepared class None fits.prepared may.of_class) ∙ (ap (prepared_at (set x.own.prepared class None)) (sym same) ∙ e))))
           (λ other.
           let u = H.holds d b few (sym (prepared_else x.own.prepared class d None other) ∙ e) in
           let differs : b ≢ c = (λ same. other ((place_sole k t s.words u.1.0 me d u.1.1 o.pool me o.class o.slot r.whole.pools u.1.2 u.1.3 o.owned_is o.inside (sym u.1.4 ∙ (same ∙ o.begins))).2 ∙ class_is)) in
@@ -814,7 +800,7 @@ module _ (k : Config) (s : Words) (r : Rule k s) (id : ℕ) (hist : List Entry) 
       prepared = λ q d j owned_is below e.
           let u = was_prepared (place_in q d j) me e in
           let was_there = H.prepared q d j owned_is below u.1 in
-          prepared_else x.own.prepared class d None (λ same. u.0 (number_same (place_in q d j) c (sym was_there ∙ (ap (prepared_at x.own.prepared) same ∙ may.prepared)))) ∙ was_there;
+          prepared_else x.own.prepared class d None (λ same. u.0 (same_Some (place_in q d j) c (sym was_there ∙ (ap (prepared_at x.own.prepared) same ∙ may.prepared)))) ∙ was_there;
       claims = longer x.own.pending.items copied ∙ (ap (λ (n : ℕ). n + 1) H.claims ∙ sym (over_here me (t.stock.claims me + 1) t.stock.claims));
       supply = λ d few some. inr (
           let l : Latest k t s.words me d = ⊎_elim (λ (h : DrawsFor d x.seen.hunt). absurd (subst (DrawsFor d) may.hunt h)) (λ (l : Latest k t s.words me d). l) (H.supply d few some) in
@@ -828,7 +814,7 @@ module _ (k : Config) (s : Words) (r : Rule k s) (id : ℕ) (hist : List Entry) 
     knows_again g known_there b q e = let l = known_there b q e in let m = more2 b l.place l.lives in record { place = m.place; lives = m.lives; label = m.label ∙ l.label; shape = m.shape ∙ l.shape }
 
     copied_again : (b d : ℕ) → IsCopied live b d → IsCopied live2 b d
-    copied_again b d u = record { place = u.place; lives = elsewhere b (λ same. no_some d (sym bare ∙ (ap (λ (z : Place). z.forward) (was_a b u.place same u.lives) ∙ u.forwards))) (not_there b u.place u.lives) ∙ u.lives; forwards = u.forwards }
+    copied_again b d u = record { place = u.place; lives = elsewhere b (λ same. none-some d (sym bare ∙ (ap (λ (z : Place). z.forward) (was_a b u.place same u.lives) ∙ u.forwards))) (not_there b u.place u.lives) ∙ u.lives; forwards = u.forwards }
 
     field2 : (at : ℕ) → IsField k live at → IsField k live2 at
     field2 spot_at_field fl = record {
@@ -846,14 +832,14 @@ module _ (k : Config) (s : Words) (r : Rule k s) (id : ℕ) (hist : List Entry) 
     owed_else : (z : DomainView) (v : Owing) → IsOwed live z v → IsOwed live2 z v
     owed_else z v u = record {
       place = u.place;
-      lives = elsewhere v.copy (λ same. no_debt (debt_of z v) (sym paid ∙ (ap (λ (q : Place). q.owed) (was_a v.copy u.place same u.lives) ∙ u.debt))) (not_there v.copy u.place u.lives) ∙ u.lives;
+      lives = elsewhere v.copy (λ same. none-some (debt_of z v) (sym paid ∙ (ap (λ (q : Place). q.owed) (was_a v.copy u.place same u.lives) ∙ u.debt))) (not_there v.copy u.place u.lives) ∙ u.lives;
       debt = u.debt;
     }
 
     named_was : (b : ℕ) (q : Place) (i d : ℕ) → live2 b ≡ Some q → q.named i ≡ Some d → (u : Place) × (live b ≡ Some u) × (u.named i ≡ Some d)
     named_was b q i d e named = cases b q e
         (λ same j. (p, ap live same ∙ lives, ap (λ (z : Place). z.named i) j ∙ named))
-        (λ same j. absurd (no_some d (ap (λ (z : Place). z.named i) j ∙ named)))
+        (λ same j. absurd (none-some d (ap (λ (z : Place). z.named i) j ∙ named)))
         (λ na nc l. (q, l, named))
 
     owe2 : (z : DomainView) → z.own.number ≢ me → Owes k live z → Owes k live2 z
@@ -864,8 +850,8 @@ module _ (k : Config) (s : Words) (r : Rule k s) (id : ℕ) (hist : List Entry) 
       owed = λ i v got. owed_else z v (w.owed i v got);
       once = w.once;
       listed = λ b q d e owed its. cases b q e
-          (λ same i. absurd (no_debt d (sym paid ∙ (ap (λ (u : Place). u.owed) i ∙ owed))))
-          (λ same i. absurd (other (sym its ∙ sym (ap (λ (u : Debt). u.domain) (debt_same debt d (ap (λ (u : Place). u.owed) i ∙ owed))))))
+          (λ same i. absurd (none-some d (sym paid ∙ (ap (λ (u : Place). u.owed) i ∙ owed))))
+          (λ same i. absurd (other (sym its ∙ sym (ap (λ (u : Debt). u.domain) (same_Some debt d (ap (λ (u : Place). u.owed) i ∙ owed))))))
           (λ na nc l. w.listed b q d l owed its);
       recalled = λ b q i e named. let u = named_was b q i z.own.number e named in w.recalled b u.0 i u.1 u.2;
       fields = λ j at_field got. field2 at_field (w.fields j at_field got);
@@ -881,21 +867,21 @@ module _ (k : Config) (s : Words) (r : Rule k s) (id : ℕ) (hist : List Entry) 
       copied = λ b d. ⊎_elim (λ (h : (a ≡ b) × (c ≡ d)). record { place = p2; lives = ap live2 (sym h.0) ∙ here_a; forwards = ap Some h.1 }) (λ (h : HasCopy x b d). copied_again b d (w.copied b d h));
       owed = λ i v got. ⊎_elim
           (λ (h : slice_get l i ≡ Some v). let u = owed_else x v (w.owed i v h) in record { place = u.place; lives = u.lives; debt = u.debt })
-          (λ (h : (i ≡ length l) × (Some owing ≡ Some v)). let v_is = owing_same owing v h.1 in record { place = pc; lives = ap (λ (u : Owing). live2 u.copy) (sym v_is) ∙ here_c; debt = ap (λ (u : Owing). Some (record { source = u.source; domain = me; filled = u.filled })) v_is })
+          (λ (h : (i ≡ length l) × (Some owing ≡ Some v)). let v_is = same_Some owing v h.1 in record { place = pc; lives = ap (λ (u : Owing). live2 u.copy) (sym v_is) ∙ here_c; debt = ap (λ (u : Owing). Some (record { source = u.source; domain = me; filled = u.filled })) v_is })
           (got_either l owing v i got);
       once = λ i j v u got got' same. ⊎_elim
           (λ (h : slice_get l i ≡ Some v). ⊎_elim
           (λ (h' : slice_get l j ≡ Some u). w.once i j v u h h' same)
-          (λ (h' : (j ≡ length l) × (Some owing ≡ Some u)). let z = w.owed i v h in absurd (not_there v.copy z.place z.lives (same ∙ ap (λ (y : Owing). y.copy) (sym (owing_same owing u h'.1)))))
+          (λ (h' : (j ≡ length l) × (Some owing ≡ Some u)). let z = w.owed i v h in absurd (not_there v.copy z.place z.lives (same ∙ ap (λ (y : Owing). y.copy) (sym (same_Some owing u h'.1)))))
           (got_either l owing u j got'))
           (λ (h : (i ≡ length l) × (Some owing ≡ Some v)). ⊎_elim
-          (λ (h' : slice_get l j ≡ Some u). let z = w.owed j u h' in absurd (not_there u.copy z.place z.lives (sym same ∙ ap (λ (y : Owing). y.copy) (sym (owing_same owing v h.1)))))
+          (λ (h' : slice_get l j ≡ Some u). let z = w.owed j u h' in absurd (not_there u.copy z.place z.lives (sym same ∙ ap (λ (y : Owing). y.copy) (sym (same_Some owing v h.1)))))
           (λ (h' : (j ≡ length l) × (Some owing ≡ Some u)). h.0 ∙ sym h'.0)
           (got_either l owing u j got'))
           (got_either l owing v i got);
       listed = λ b q d e owed its. cases b q e
-          (λ same i. absurd (no_debt d (sym paid ∙ (ap (λ (u : Place). u.owed) i ∙ owed))))
-          (λ same i. let d_is = debt_same debt d (ap (λ (u : Place). u.owed) i ∙ owed) in (length l, got_end l owing ∙ (λ j. Some (record { copy = sym same j; source = (d_is j).source; filled = (d_is j).filled }))))
+          (λ same i. absurd (none-some d (sym paid ∙ (ap (λ (u : Place). u.owed) i ∙ owed))))
+          (λ same i. let d_is = same_Some debt d (ap (λ (u : Place). u.owed) i ∙ owed) in (length l, got_end l owing ∙ (λ j. Some (record { copy = sym same j; source = (d_is j).source; filled = (d_is j).filled }))))
           (λ na nc e'. let u = w.listed b q d e' owed its in (u.0, got_front l owing (record { copy = b; source = d.source; filled = d.filled }) u.0 u.1));
       recalled = λ b q i e named. let u = named_was b q i me e named in w.recalled b u.0 i u.1 u.2;
       fields = λ j at_field got. field2 at_field (w.fields j at_field got);
@@ -1010,7 +996,7 @@ module _ (k : Config) (s : Words) (r : Rule k s) (id : ℕ) (hist : List Entry) 
     (let u : ℕ = used1 in let g : u ≤ u + 1 = omega arith in g),
     (λ j from under. ⊎_elim (λ (z : at_address k s.words (place_in last class j) ≡ 0). z)
         (λ (z : (j ≡ used1) × (t.prepared (place_in last class j) ≡ Some me)).
-        let is : place_in last class j ≡ c = number_same (place_in last class j) c (sym (H.prepared last class j l.own_is under z.1) ∙ may.prepared) in
+        let is : place_in last class j ≡ c = same_Some (place_in last class j) c (sym (H.prepared last class j l.own_is under z.1) ∙ may.prepared) in
         absurd (other (subst (λ (n : ℕ). place_in last class n ≡ c) z.0 is) (subst (λ (n : ℕ). n < blocks_of class) z.0 under)))
         (l.rest j from under)),
   )

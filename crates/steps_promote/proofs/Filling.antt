@@ -32,12 +32,7 @@ use Rattle.heap_rule.proofs.Keeps.{Words, Control, mine, my_good, more_same, sta
 use Rattle.heap_rule.proofs.Update.{over_else}
 use Rattle.steps_promote.proofs.Places as places
 use Rattle.steps_promote.proofs.Places.{changes_again}
-
-debt_same : (a b : Debt) → Some a ≡ Some b → a ≡ b
-debt_same a b e = cc
-
-no_debt_some : (a : Debt) → ◌≡◌ {A = Option Debt} None (Some a) → ⊥
-no_debt_some a e = cc
+use Rattle.std.proofs.lemmas.Option.{none-some, same_Some}
 
 module _ (k : Config) (s : Words) (r : Rule k s) (id : ℕ) (hist : List Entry) (x : DomainView) (at : get_elem? s.views id ≡ some (one k hist x)) (promotes : x.seen.stage ≡ In Promote)
     (o : Owing) (rest : List Owing) (first : x.seen.copying.pending ≡ o ∷ rest) (owed2 : Option Debt) (of : (b : Debt) → owed2 ≡ Some b → (b.domain ≡ x.own.number) × (b.source ≡ o.source)) where
@@ -143,7 +138,7 @@ module _ (k : Config) (s : Words) (r : Rule k s) (id : ℕ) (hist : List Entry) 
     block = f.block;
     place = f.place;
     index = f.index;
-    lives = over_else c (Some p2) r.account.live f.block (λ same. no_debt_some (debt_of x o) (sym f.filled ∙ (ap (λ (z : Place). z.owed) (sym (is1 f.block f.place same f.lives)) ∙ debt))) ∙ f.lives;
+    lives = over_else c (Some p2) r.account.live f.block (λ same. none-some (debt_of x o) (sym f.filled ∙ (ap (λ (z : Place). z.owed) (sym (is1 f.block f.place same f.lives)) ∙ debt))) ∙ f.lives;
     is = f.is;
     inside = f.inside;
     old = f.old;
@@ -158,7 +153,7 @@ module _ (k : Config) (s : Words) (r : Rule k s) (id : ℕ) (hist : List Entry) 
     copied = λ a d has. copied_again a d (w.copied a d has);
     owed = λ i v got. let t = w.owed i v got in record {
       place = t.place;
-      lives = over_else c (Some p2) r.account.live v.copy (λ same. differs (ap (λ (b : Debt). b.domain) (debt_same (debt_of z v) (debt_of x o) (sym t.debt ∙ (ap (λ (y : Place). y.owed) (sym (is1 v.copy t.place same t.lives)) ∙ debt))))) ∙ t.lives;
+      lives = over_else c (Some p2) r.account.live v.copy (λ same. differs (ap (λ (b : Debt). b.domain) (same_Some (debt_of z v) (debt_of x o) (sym t.debt ∙ (ap (λ (y : Place). y.owed) (sym (is1 v.copy t.place same t.lives)) ∙ debt))))) ∙ t.lives;
       debt = t.debt;
     };
     once = w.once;
@@ -239,7 +234,7 @@ pub end_may : (k : Config) (x : DomainView) (word a : ℕ) → FilledMay x a →
 end_may k x word a may fits slots id hist s r _ at _ =
     let o : Owing = may.first in
     let rest : List Owing = may.rest in
-    let of : (b : Debt) → None ≡ Some b → (b.domain ≡ x.own.number) × (b.source ≡ o.source) = (λ b e. absurd (no_debt_some b e)) in
+    let of : (b : Debt) → None ≡ Some b → (b.domain ≡ x.own.number) × (b.source ≡ o.source) = (λ b e. absurd (none-some b e)) in
     let graph : Graph = (state_of k r.account.log).graph in
     let live1 : Live = live2 k s r id hist x at may.stage o rest may.pending None of in
     let grows : More r.account.live live1 = more k s r id hist x at may.stage o rest may.pending None of in
@@ -284,7 +279,7 @@ end_may k x word a may fits slots id hist s r _ at _ =
     (rest_owed k s r id hist x at may.stage o rest may.pending None of)
     (rest_once k s r id hist x at may.stage o rest may.pending None of)
     (λ b q d e owed its. dite (ℕ_discrete b o.copy)
-    (λ same. absurd (no_debt_some d (ap (λ (z : Place). z.owed) (again b q same e) ∙ owed)))
+    (λ same. absurd (none-some d (ap (λ (z : Place). z.owed) (again b q same e) ∙ owed)))
     (λ other. rest_listed k s r id hist x at may.stage o rest may.pending None of b q d other e owed its)) in (
       one k hist y,
       keeps,
@@ -293,14 +288,8 @@ end_may k x word a may fits slots id hist s r _ at _ =
       (record { first = o; rest = rest; pending = may.pending; view = refl }, refl),
     )
 
-some_owing : (u v : Owing) → Some u ≡ Some v → u ≡ v
-some_owing u v e = cc
-
 some_value : (u v : graph_value.Value) → Some u ≡ Some v → u ≡ v
 some_value u v e = cc
-
-some_node : (u v : Node) → Some u ≡ Some v → u ≡ v
-some_node u v e = cc
 
 abbrev next_debt : DomainView → Owing → Debt
 next_debt x o = record { source = o.source; domain = x.own.number; filled = o.filled + 1 }
@@ -312,7 +301,7 @@ fill_may k x word a new place may fits slots id hist s r _ at _ =
     let rest : List Owing = may.rest in
     let n : ℕ = o.filled in
     let d2 : Debt = next_debt x o in
-    let of : (b : Debt) → Some d2 ≡ Some b → (b.domain ≡ x.own.number) × (b.source ≡ o.source) = (λ b e. let i = debt_same d2 b e in (sym (ap (λ (z : Debt). z.domain) i), sym (ap (λ (z : Debt). z.source) i))) in
+    let of : (b : Debt) → Some d2 ≡ Some b → (b.domain ≡ x.own.number) × (b.source ≡ o.source) = (λ b e. let i = same_Some d2 b e in (sym (ap (λ (z : Debt). z.domain) i), sym (ap (λ (z : Debt). z.source) i))) in
     let graph : Graph = (state_of k r.account.log).graph in
     let live1 : Live = live2 k s r id hist x at may.stage o rest may.pending (Some d2) of in
     let grows : More r.account.live live1 = more k s r id hist x at may.stage o rest may.pending (Some d2) of in
@@ -337,7 +326,7 @@ fill_may k x word a new place may fits slots id hist s r _ at _ =
     let spot : before_heap k + A < length s.words = (let w : ℕ = heap_words k in let h : c0 + ext ≤ w + 1 = fits.high in let wide : length s.words ≡ 1 + before_heap k + w = r.whole.wide in let b : ℕ = before_heap k in omega arith) in
     let front : x.seen.front ≡ r.account.log = g.still (subst IsInPause (sym may.stage) tt) in
     let has_it = subst (λ (log : List Entry). HasValueAt (state_of k log) may.place.label n may.held) front may.has in
-    let node_is : f.node ≡ has_it.node = some_node f.node has_it.node (sym f.there ∙ (ap (node_at graph) label1 ∙ has_it.there)) in
+    let node_is : f.node ≡ has_it.node = same_Some f.node has_it.node (sym f.there ∙ (ap (node_at graph) label1 ∙ has_it.there)) in
     let earlier : (i : ℕ) → i < n → HasValue p1.owed i = (λ i h. subst (λ (z : Option Debt). HasValue z i) (sym debt1) h) in
     let here : Found k r.account.cycling.paint live1 graph ws c0 (record p1 { owed = Some d2 }) = record {
       node = f.node;
@@ -372,7 +361,7 @@ fill_may k x word a new place may fits slots id hist s r _ at _ =
     (live_beside k r.account.tenancy r.account.live s.words c0 (2 + n) p1 r.whole.pools r.whole.grid low lives1 (omega arith) (omega arith) head m)) in
     let pending2 : List Owing = record o { filled = n + 1 } ∷ rest in
     let y : DomainView = with_pending x pending2 in
-    let top : (v : Owing) → slice_get pending2 0 ≡ Some v → record o { filled = n + 1 } ≡ v = (λ v e. some_owing (record o { filled = n + 1 }) v e) in
+    let top : (v : Owing) → slice_get pending2 0 ≡ Some v → record o { filled = n + 1 } ≡ v = (λ v e. same_Some (record o { filled = n + 1 }) v e) in
     let owed1 = rest_owed k s r id hist x at may.stage o rest may.pending (Some d2) of in
     let apart1 = rest_apart k s r id hist x at may.stage o rest may.pending (Some d2) of in
     let rule : Rule k record { words = ws; homes = s.homes; views = set s.views id (one k hist y) } =
@@ -383,7 +372,7 @@ fill_may k x word a new place may fits slots id hist s r _ at _ =
     (owed_cases live1 x (record o { filled = n + 1 }) rest record { place = record p1 { owed = Some d2 }; lives = here2 k s r id hist x at may.stage o rest may.pending (Some d2) of; debt = refl } owed1)
     (once_cases (record o { filled = n + 1 }) rest (rest_once k s r id hist x at may.stage o rest may.pending (Some d2) of) apart1)
     (λ b q d e owed its. dite (ℕ_discrete b c0)
-    (λ same. let i = debt_same d2 d (ap (λ (z : Place). z.owed) (again b q same e) ∙ owed) in (0, (λ j. Some (record { copy = sym same j; source = (i j).source; filled = (i j).filled }))))
+    (λ same. let i = same_Some d2 d (ap (λ (z : Place). z.owed) (again b q same e) ∙ owed) in (0, (λ j. Some (record { copy = sym same j; source = (i j).source; filled = (i j).filled }))))
     (λ other. let t = rest_listed k s r id hist x at may.stage o rest may.pending (Some d2) of b q d other e owed its in (suc t.0, t.1))) in (
       one k hist y,
       keeps,
@@ -393,12 +382,12 @@ fill_may k x word a new place may fits slots id hist s r _ at _ =
     )
   where
     owed_cases : (live : Live) (x : DomainView) (o : Owing) (rest : List Owing) → IsOwed live x o → ((i : ℕ) (v : Owing) → slice_get rest i ≡ Some v → IsOwed live x v) → (i : ℕ) (v : Owing) → slice_get (o ∷ rest) i ≡ Some v → IsOwed live x v
-    owed_cases live x o rest mine others zero v e = subst (IsOwed live x) (some_owing o v e) mine
+    owed_cases live x o rest mine others zero v e = subst (IsOwed live x) (same_Some o v e) mine
     owed_cases live x o rest mine others (suc i) v e = others i v e
 
     once_cases : (o : Owing) (rest : List Owing) → ((i j : ℕ) (v w : Owing) → slice_get rest i ≡ Some v → slice_get rest j ≡ Some w → v.copy ≡ w.copy → i ≡ j) → ((i : ℕ) (v : Owing) → slice_get rest i ≡ Some v → v.copy ≢ o.copy)
         → (i j : ℕ) (v w : Owing) → slice_get (o ∷ rest) i ≡ Some v → slice_get (o ∷ rest) j ≡ Some w → v.copy ≡ w.copy → i ≡ j
     once_cases o rest once apart zero zero v w e f same = refl
-    once_cases o rest once apart zero (suc j) v w e f same = absurd (apart j w f (sym same ∙ ap (λ (z : Owing). z.copy) (sym (some_owing o v e))))
-    once_cases o rest once apart (suc i) zero v w e f same = absurd (apart i v e (same ∙ ap (λ (z : Owing). z.copy) (sym (some_owing o w f))))
+    once_cases o rest once apart zero (suc j) v w e f same = absurd (apart j w f (sym same ∙ ap (λ (z : Owing). z.copy) (sym (same_Some o v e))))
+    once_cases o rest once apart (suc i) zero v w e f same = absurd (apart i v e (same ∙ ap (λ (z : Owing). z.copy) (sym (same_Some o w f))))
     once_cases o rest once apart (suc i) (suc j) v w e f same = ap suc (once i j v w e f same)

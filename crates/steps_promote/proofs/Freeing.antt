@@ -30,12 +30,10 @@ use Rattle.heap_rule.proofs.Lots.{hunter_beside}
 use Rattle.heap_rule.proofs.Update.{over, over_here, over_else}
 use Rattle.steps_promote.proofs.OwnPlaces as places
 use Rattle.steps_promote.proofs.OwnPlaces.{place_sole}
-use Rattle.steps_promote.proofs.Preparing.{number_same, pools_prepared, prepared_here, prepared_else}
+use Rattle.steps_promote.proofs.Preparing.{pools_prepared, prepared_here, prepared_else}
 use Rattle.steps_promote.proofs.Registers.{promote_once}
 use Rattle.steps_promote.proofs.Remaking.{promotes_again, stood_same}
-
-no_some : (a : ℕ) → ◌≡◌ {A = Option ℕ} None (Some a) → ⊥
-no_some a e = cc
+use Rattle.std.proofs.lemmas.Option.{none-some, same_Some}
 
 -- the places of a class are looked at from another place on
 looked_here : (l : List Spot) (class : ℕ) (v : Spot) → length l ≡ class_count → class < class_count → spot_at (set l class v) class ≡ v
@@ -132,7 +130,7 @@ module _ (k : Config) (s : Words) (r : Rule k s) (id : ℕ) (hist : List Entry) 
       hunter' : Hunter k t ws (with_hunt x hunt)
       hunter' = record {
         hunt = hunts;
-        drawn_alone = λ q e. absurd (no_some q (sym draws ∙ H.drawn_alone q e));
+        drawn_alone = λ q e. absurd (none-some q (sym draws ∙ H.drawn_alone q e));
         taken = λ q c j owned_is below low e. dite (ℕ_discrete (place_in q c j) a)
             (λ same. head (ap (at_address k ws) (sym same) ∙ e))
             (λ other. H.taken q c j owned_is below low (sym (stays q me c j owned_is below other) ∙ e));
@@ -206,7 +204,7 @@ module _ (k : Config) (s : Words) (r : Rule k s) (id : ℕ) (hist : List Entry) 
 
     was : (b d : ℕ) → prepared' b ≡ Some d → (b ≢ a) × (t.prepared b ≡ Some d)
     was b d is = dite (ℕ_discrete b a)
-        (λ same. absurd (no_some d (sym (over_here a None t.prepared) ∙ (ap prepared' (sym same) ∙ is))))
+        (λ same. absurd (none-some d (sym (over_here a None t.prepared) ∙ (ap prepared' (sym same) ∙ is))))
         (λ other. (other, sym (over_else a None t.prepared b other) ∙ is))
 
     grid0 : Grid k t' live w0
@@ -231,7 +229,7 @@ module _ (k : Config) (s : Words) (r : Rule k s) (id : ℕ) (hist : List Entry) 
       owned_to = λ q c e. e;
       owned_from = λ q c e. e;
       asking_same = refl;
-      prepared_to = λ b e. over_else a None t.prepared b (λ same. other (number_same d me (sym e ∙ (ap t.prepared same ∙ mine_is)))) ∙ e;
+      prepared_to = λ b e. over_else a None t.prepared b (λ same. other (same_Some d me (sym e ∙ (ap t.prepared same ∙ mine_is)))) ∙ e;
       prepared_from = λ b e. (was b d e).1;
       fresh_same = λ c. refl;
       stock_same = stock_self t.stock d;
@@ -253,11 +251,11 @@ module _ (k : Config) (s : Words) (r : Rule k s) (id : ℕ) (hist : List Entry) 
     unfolding o
     hunter0 = record {
       hunt = subst (Hunts k t' w0 me) (sym rests) tt;
-      drawn_alone = λ q e. absurd (no_some q (sym draws ∙ H.drawn_alone q e));
+      drawn_alone = λ q e. absurd (none-some q (sym draws ∙ H.drawn_alone q e));
       taken = λ q c j owned_is below low e. let u = from q c j owned_is below low in H.taken q c j owned_is below u.0 (sym (stays0 q me c j owned_is below u.1) ∙ e);
       free = λ f e. subst (λ (m : ℕ × ℕ). (m.0 ≤ f + m.1) × (m.0 ≤ f + limit_of k m.0) × (f ≤ m.0)) (λ n. (sym (control 0 0 (omega arith) 6 (omega arith)) n, sym (control 0 0 (omega arith) 7 (omega arith)) n)) (H.free f e);
       holds = λ c b few e. dite (ℕ_discrete c c0)
-          (λ same. absurd (no_some b (sym (prepared_here x.own.prepared c0 None wide few0) ∙ (ap (prepared_at (set x.own.prepared c0 None)) (sym same) ∙ e))))
+          (λ same. absurd (none-some b (sym (prepared_here x.own.prepared c0 None wide few0) ∙ (ap (prepared_at (set x.own.prepared c0 None)) (sym same) ∙ e))))
           (λ other.
           let u = H.holds c b few (sym (prepared_else x.own.prepared c0 c None other) ∙ e) in
           let differs : b ≢ a = (λ same. other (place_sole k t s.words u.1.0 me c u.1.1 o.pool me o.class o.slot r.whole.pools u.1.2 u.1.3 o.owned_is o.inside (sym u.1.4 ∙ (same ∙ o.begins))).2) in
@@ -265,7 +263,7 @@ module _ (k : Config) (s : Words) (r : Rule k s) (id : ℕ) (hist : List Entry) 
       prepared = λ q c j owned_is below e.
           let u = was (place_in q c j) me e in
           let old = H.prepared q c j owned_is below u.1 in
-          prepared_else x.own.prepared c0 c None (λ same. u.0 (number_same (place_in q c j) a (sym old ∙ (ap (prepared_at x.own.prepared) same ∙ held)))) ∙ old;
+          prepared_else x.own.prepared c0 c None (λ same. u.0 (same_Some (place_in q c j) a (sym old ∙ (ap (prepared_at x.own.prepared) same ∙ held)))) ∙ old;
       claims = H.claims;
       supply = λ c few some. inr (latest0 c (⊎_elim (λ (h : DrawsFor c x.seen.hunt). absurd (class_none c h)) (λ (l : Latest k t s.words me c). l) (H.supply c few some)));
     }

@@ -43,6 +43,7 @@ use Rattle.heap_rule.proofs.Keeps.{Words, my_good, control_same, hunter_as, unmo
 use Rattle.steps_promote.proofs.Remaking.{promotes_again, stood_same}
 use Rattle.heap_rule.proofs.HeadLemmas.{packable_head, colour_small}
 use Rattle.heap_words.specs.declared.colours.Colours.{Colours}
+use Rattle.std.proofs.lemmas.Option.{same_Some}
 
 pub form_shape : (s : Shape) → IsBuilt s → shape_of_form (form_of s) ≡ s
 form_shape (PlainShape size tag) built = refl
@@ -55,20 +56,17 @@ known_here m ms = ap (λ (b : Bool). cond b (Some (met_place m)) (known ms m.add
 known_else : (m : Met) (ms : List Met) (a : ℕ) → a ≢ m.address → known (m ∷ ms) a ≡ known ms a
 known_else m ms a other = ap (λ (b : Bool). cond b (Some (met_place m)) (known ms a)) (ne_eqb a m.address other)
 
-pub place_same : (p q : Place) → Some p ≡ Some q → p ≡ q
-place_same p q e = cc
-
 -- one more block that lives is known
 pub knows_more : (live : Live) (m : Met) (ms : List Met) → More (known ms) live → Lasts live m.address (met_place m) → More (known (m ∷ ms)) live
 knows_more live m ms more lasts a p e = dite (ℕ_discrete a m.address)
-    (λ same. let is : met_place m ≡ p = place_same (met_place m) p (sym (known_here m ms) ∙ (ap (known (m ∷ ms)) (sym same) ∙ e)) in
+    (λ same. let is : met_place m ≡ p = same_Some (met_place m) p (sym (known_here m ms) ∙ (ap (known (m ∷ ms)) (sym same) ∙ e)) in
     record { place = lasts.place; lives = ap live same ∙ lasts.lives; label = lasts.label ∙ ap (λ (z : Place). z.label) is; shape = lasts.shape ∙ ap (λ (z : Place). z.shape) is })
     (λ other. more a p (sym (known_else m ms a other) ∙ e))
 
 -- and those known before are
 pub known_more : (live : Live) (m : Met) (ms : List Met) → More (known ms) live → Lasts live m.address (met_place m) → More (known ms) (known (m ∷ ms))
 known_more live m ms more lasts a p e = dite (ℕ_discrete a m.address)
-    (λ same. let l = more a p e in let both : lasts.place ≡ l.place = place_same lasts.place l.place (sym lasts.lives ∙ (ap live (sym same) ∙ l.lives)) in
+    (λ same. let l = more a p e in let both : lasts.place ≡ l.place = same_Some lasts.place l.place (sym lasts.lives ∙ (ap live (sym same) ∙ l.lives)) in
     record { place = met_place m; lives = ap (known (m ∷ ms)) same ∙ known_here m ms; label = sym lasts.label ∙ (ap (λ (z : Place). z.label) both ∙ l.label); shape = sym lasts.shape ∙ (ap (λ (z : Place). z.shape) both ∙ l.shape) })
     (λ other. record { place = p; lives = known_else m ms a other ∙ e; label = refl; shape = refl })
 

@@ -10,16 +10,14 @@ use Rattle.heap_rule.specs.declared.config.Config.{Config}
 use Rattle.heap_rule.specs.declared.view.DomainView.{DomainView}
 use Rattle.heap_rule.specs.Layout.{before_heap, heap_words, at_address}
 use Rattle.heap_rule.specs.Places.{Place, extent}
-use Rattle.heap_rule.specs.Pools.{Holder, drawn, owned, Tenancy, Pools, OwnPlace, place_in, size_of, blocks_of}
+use Rattle.heap_rule.specs.Pools.{owned, Tenancy, Pools, OwnPlace, place_in, size_of, blocks_of}
 use Rattle.heap_rule.specs.Rule.{state_of, AllFound, Making, Rule}
 use Rattle.heap_rule.specs.Views.{one}
 use Rattle.heap_rule.proofs.Beside.{found_beside, making_beside}
 use Rattle.heap_rule.proofs.Classes.{size_least, slot_below, slot_inside}
 use Rattle.heap_rule.proofs.Keeps.{Words, more_same}
 use Rattle.heap_rule.proofs.Lots.{Beside, pool_beside, owned_same, stays}
-
-drawn_owned : (d e c : ℕ) → ◌≡◌ {A = Holder} (drawn d) (owned e c) → ⊥
-drawn_owned d e c h = cc
+use Rattle.heap_rule.proofs.Holders.{drawn_owned}
 
 -- two places at one address are one
 pub place_sole : (k : Config) (t : Tenancy) (words : List ℕ) (q d c i pool e class slot : ℕ) → Pools k t words → t.holder q ≡ owned d c → i < blocks_of c → t.holder pool ≡ owned e class → slot < blocks_of class → place_in q c i ≡ place_in pool class slot

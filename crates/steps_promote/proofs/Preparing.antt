@@ -32,12 +32,7 @@ use Rattle.steps_promote.proofs.OwnPlaces as places
 use Rattle.steps_promote.proofs.OwnPlaces.{place_sole}
 use Rattle.steps_promote.proofs.Registers.{promote_once}
 use Rattle.steps_promote.proofs.Remaking.{promotes_again, stood_same}
-
-no_some : (a : ℕ) → ◌≡◌ {A = Option ℕ} None (Some a) → ⊥
-no_some a e = cc
-
-pub number_same : (a b : ℕ) → Some a ≡ Some b → a ≡ b
-number_same a b e = cc
+use Rattle.std.proofs.lemmas.Option.{none-some, same_Some}
 
 -- the tenancy with another domain that has prepared a place
 pub pools_prepared : (k : Config) (t : Tenancy) (prepared : ℕ → Option ℕ) (words : List ℕ) → Pools k t words → Pools k (record t { prepared = prepared }) words
@@ -109,7 +104,7 @@ module _ (k : Config) (s : Words) (r : Rule k s) (id : ℕ) (hist : List Entry) 
         (λ z. inr (⊎_elim (λ (y : (p : Place) × (live (place_in q c j) ≡ Some p)). inl y) (λ y. inr (⊎_elim (λ (e : t.prepared (place_in q c j) ≡ Some d). inl (over_else a (Some me) t.prepared (place_in q c j) other ∙ e)) (λ (e : IsTrue (t.garbage (place_in q c j))). inr e) y)) z))
         (r.whole.grid.places q d c j owned_is below));
     spares = λ b d is. dite (ℕ_discrete b a)
-        (λ same. let d_is : me ≡ d = number_same me d (sym (over_here a (Some me) t.prepared) ∙ (ap prepared' (sym same) ∙ is)) in
+        (λ same. let d_is : me ≡ d = same_Some me d (sym (over_here a (Some me) t.prepared) ∙ (ap prepared' (sym same) ∙ is)) in
         subst (λ (z : ℕ × ℕ). IsSpare k t.holder live ws z.0 z.1) (λ i. (sym same i, d_is i)) record { own = o; head = λ e. may.head (sym written ∙ e); empty = empty })
         (λ other. let sp = r.whole.grid.spares b d (sym (over_else a (Some me) t.prepared b other) ∙ is) in let own = sp.own in record {
           own = own;
@@ -128,7 +123,7 @@ module _ (k : Config) (s : Words) (r : Rule k s) (id : ℕ) (hist : List Entry) 
     asking_same = refl;
     prepared_to = λ b e. over_else a (Some me) t.prepared b (λ same. unprepared d (ap t.prepared (sym same) ∙ e)) ∙ e;
     prepared_from = λ b e. dite (ℕ_discrete b a)
-        (λ same. absurd (other (sym (number_same me d (sym (over_here a (Some me) t.prepared) ∙ (ap prepared' (sym same) ∙ e))))))
+        (λ same. absurd (other (sym (same_Some me d (sym (over_here a (Some me) t.prepared) ∙ (ap prepared' (sym same) ∙ e))))))
         (λ differs. sym (over_else a (Some me) t.prepared b differs) ∙ e);
     fresh_same = λ c. refl;
     stock_same = stock_self t.stock d;
@@ -170,19 +165,19 @@ module _ (k : Config) (s : Words) (r : Rule k s) (id : ℕ) (hist : List Entry) 
         let spot : spot_at x.own.looked c ≡ record { pool = pool; slot = slot } = ap (spot_at x.own.looked) one_is.2 ∙ may.next in
         let before : IsBefore q u (spot_at x.own.looked c) = subst (λ (z : Spot). IsBefore q u z) (sym spot) (inr (one_is.0, subst (λ (n : ℕ). u < n) one_is.3 less)) in
         absurd (⊎_elim (λ (z : at_address k s.words (place_in q c u) ≡ 0). H.taken q c u l.own_is u_below before z)
-        (λ (z : (u ≡ u) × (t.prepared (place_in q c u) ≡ Some me)). no_some (place_in q c u) (sym may.none ∙ (ap (prepared_at x.own.prepared) (sym one_is.2) ∙ H.prepared q c u l.own_is u_below z.1)))
+        (λ (z : (u ≡ u) × (t.prepared (place_in q c u) ≡ Some me)). none-some (place_in q c u) (sym may.none ∙ (ap (prepared_at x.own.prepared) (sym one_is.2) ∙ H.prepared q c u l.own_is u_below z.1)))
         (l.rest u (omega arith) u_below)))
 
   hunter' : Hunter k t' ws y
   hunter' = record {
     hunt = tt;
-    drawn_alone = λ q e. absurd (no_some q (ap drawn_in (sym may.hunt) ∙ H.drawn_alone q e));
+    drawn_alone = λ q e. absurd (none-some q (ap drawn_in (sym may.hunt) ∙ H.drawn_alone q e));
     taken = λ q c j owned_is below low e. dite (ℕ_discrete (place_in q c j) a)
         (λ same. may.head (sym written ∙ (ap (at_address k ws) (sym same) ∙ e)))
         (λ other. H.taken q c j owned_is below low (sym (stays q me c j owned_is below other) ∙ e));
     free = λ f e. subst (λ (m : ℕ × ℕ). (m.0 ≤ f + m.1) × (m.0 ≤ f + limit_of k m.0) × (f ≤ m.0)) (λ i. (sym (control' 6 (omega arith)) i, sym (control' 7 (omega arith)) i)) (H.free f e);
     holds = λ c b few e. dite (ℕ_discrete c class)
-        (λ same. let b_is : a ≡ b = number_same a b (sym (prepared_here x.own.prepared class (Some a) wide may.of_class) ∙ (ap (prepared_at (set x.own.prepared class (Some a))) (sym same) ∙ e)) in
+        (λ same. let b_is : a ≡ b = same_Some a b (sym (prepared_here x.own.prepared class (Some a) wide may.of_class) ∙ (ap (prepared_at (set x.own.prepared class (Some a))) (sym same) ∙ e)) in
         (ap prepared' (sym b_is) ∙ over_here a (Some me) t.prepared, (pool, slot, F.own_is ∙ ap (owned me) (sym same), subst (λ (z : ℕ). slot < blocks_of z) (sym same) F.inside, sym b_is ∙ (may.word ∙ ap (λ (z : ℕ). place_in pool z slot) (sym same)))))
         (λ other. let u = H.holds c b few (sym (prepared_else x.own.prepared class c (Some a) other) ∙ e) in
         (over_else a (Some me) t.prepared b (λ same. unprepared me (ap t.prepared (sym same) ∙ u.0)) ∙ u.0, u.1));
@@ -190,7 +185,7 @@ module _ (k : Config) (s : Words) (r : Rule k s) (id : ℕ) (hist : List Entry) 
         (λ same. let one_is = place_sole k t s.words q me c j pool me class slot r.whole.pools owned_is below F.own_is F.inside (same ∙ may.word) in
         ap (prepared_at (set x.own.prepared class (Some a))) one_is.2 ∙ (prepared_here x.own.prepared class (Some a) wide may.of_class ∙ ap Some (sym same)))
         (λ other. let old = H.prepared q c j owned_is below (sym (over_else a (Some me) t.prepared (place_in q c j) other) ∙ e) in
-        prepared_else x.own.prepared class c (Some a) (λ same. no_some (place_in q c j) (sym may.none ∙ (ap (prepared_at x.own.prepared) (sym same) ∙ old))) ∙ old);
+        prepared_else x.own.prepared class c (Some a) (λ same. none-some (place_in q c j) (sym may.none ∙ (ap (prepared_at x.own.prepared) (sym same) ∙ old))) ∙ old);
     claims = H.claims;
     supply = λ c few some. inr (latest' c few (⊎_elim (λ (h : DrawsFor c x.seen.hunt). absurd (subst (DrawsFor c) may.hunt h)) (λ (l : Latest k t s.words me c). l) (H.supply c few some)));
   }
@@ -199,7 +194,7 @@ module _ (k : Config) (s : Words) (r : Rule k s) (id : ℕ) (hist : List Entry) 
   drawers' = record {
     drawn = r.whole.drawers.drawn;
     prepared = λ b d is. dite (ℕ_discrete b a)
-        (λ same. subst (IsCopying r.account.pause) (number_same me d (sym (over_here a (Some me) t.prepared) ∙ (ap prepared' (sym same) ∙ is))) copying)
+        (λ same. subst (IsCopying r.account.pause) (same_Some me d (sym (over_here a (Some me) t.prepared) ∙ (ap prepared' (sym same) ∙ is))) copying)
         (λ other. r.whole.drawers.prepared b d (sym (over_else a (Some me) t.prepared b other) ∙ is));
     claims = r.whole.drawers.claims;
   } where

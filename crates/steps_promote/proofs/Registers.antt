@@ -28,8 +28,8 @@ use Rattle.steps_promote.specs.Promotion.{Knows, MoveMay, MoveTold}
 use Rattle.steps_promote.specs.Writes.{CanMove, Moves}
 use Rattle.heap_rule.proofs.Values.{stands_block, holds}
 use Rattle.heap_rule.proofs.Keeps.{Words, my_good, control_same, hunter_as, owes_as, unmoved, more_same}
-use Rattle.steps_promote.proofs.Meets.{place_same}
 use Rattle.steps_promote.proofs.Remaking.{promotes_again}
+use Rattle.std.proofs.lemmas.Option.{same_Some}
 
 module _ (k : Config) (s : Words) (r : Rule k s) (id : ℕ) (hist : List Entry) (x : DomainView) (at : get_elem? s.views id ≡ some (one k hist x)) (promotes : x.seen.stage ≡ In Promote) where
   abbrev now : model.State
@@ -48,7 +48,7 @@ module _ (k : Config) (s : Words) (r : Rule k s) (id : ℕ) (hist : List Entry) 
       let b = stands_block live may.address v (subst (λ (y : Value). Stands live y v) may.holds ((my_good k s r id hist x at).stood.each reg may.few)) in
       let l = knows may.address may.from may.met in
       let c = knows copy may.to may.there in
-      let same : b.1 ≡ l.place = place_same b.1 l.place (sym b.3 ∙ l.lives) in
+      let same : b.1 ≡ l.place = same_Some b.1 l.place (sym b.3 ∙ l.lives) in
       let label : c.place.label ≡ b.0 = c.label ∙ (may.label ∙ (sym l.label ∙ (sym (ap (λ (z : Place). z.label) same) ∙ b.4))) in
       subst (Stands live (Ref copy)) (sym b.2) (c.place, c.lives, label)
 

@@ -15,7 +15,7 @@ use Rattle.heap_rule.specs.Changes.{value_at}
 use Rattle.heap_rule.specs.Copies.{Owes, Copies, Promoting, AllCleared}
 use Rattle.heap_rule.specs.Phases.{Pause, IsInPause}
 use Rattle.heap_rule.specs.Places.{Live, Stands, Placed, Spread, More}
-use Rattle.heap_rule.specs.Pools.{Tenancy, Pools, Grid, Drawers, KeepsReserve, RunsNext, Hunter, Takes, IsLeading}
+use Rattle.heap_rule.specs.Pools.{Tenancy, Pools, Grid, Drawers, RunsNext, Hunter, Takes, IsLeading}
 use Rattle.heap_rule.specs.Room.{Room, Opened}
 use Rattle.heap_rule.specs.Rule.{state_of, AllFound, Stood, Area, Making, Rule}
 use Rattle.heap_rule.specs.Views.{one}
@@ -23,21 +23,9 @@ use Rattle.heap_rule.proofs.Keeps.{Words, Control, mine, my_good, remakes, knows
 use Rattle.heap_rule.proofs.PauseFacts.{staged_as, promote_now, promote_here, promote_rests}
 use Rattle.heap_rule.proofs.Sharings.{SameCycle}
 use Rattle.heap_rule.specs.Fullness.{Homes, Fullness}
+use Rattle.heap_rule.proofs.Stages.{copying_keeps}
 
--- while young blocks are copied the reserve may be drawn
-pub copying_keeps : (t : Pause) → Promoting t → KeepsReserve t → ⊥
-copying_keeps t p keeps = ⊎_elim
-    (λ (even : t.phase ≡ keeps.0 * 2). clash (half keeps.0 p.0 t.phase even p.1))
-    (λ (odd : t.phase ≡ keeps.0 * 2 + 1). let i : ℕ = keeps.0 in let j : ℕ = p.0 in let e : t.phase ≡ i * 2 + 1 = odd in let f : t.phase ≡ j * 2 = p.1 in omega arith)
-    keeps.1
-  where
-    half : (i j n : ℕ) → n ≡ i * 2 → n ≡ j * 2 → i ≡ j
-    half i j n e f = omega arith
-
-    clash : keeps.0 ≡ p.0 → ⊥
-    clash same = let e : Run ≡ Promote = sym keeps.2 ∙ (ap t.kinds same ∙ p.2) in cc
-
--- nor do they run next
+-- while young blocks are copied domains don't run next
 copying_runs : (t : Pause) → Promoting t → RunsNext t → ⊥
 copying_runs t p runs = ⊎_elim
     (λ (even : (j : ℕ) × (t.phase ≡ j * 2) × (t.kinds j ≡ Run)). copying_keeps t p (even.0, inl even.1, even.2))

@@ -27,18 +27,10 @@ use Rattle.heap_rule.proofs.Lots.{Beside, head_full, live_beside, grid_beside, h
 use Rattle.heap_rule.proofs.Keeps.{Words, my_good, more_same, stands_more, control_set}
 use Rattle.steps_promote.proofs.Places as places
 use Rattle.steps_promote.proofs.Places.{changes_again}
-
-some_address : (a b : ℕ) → Some a ≡ Some b → a ≡ b
-some_address a b e = cc
+use Rattle.std.proofs.lemmas.Option.{none-some, same_Some}
 
 some_value : (u v : graph_value.Value) → Some u ≡ Some v → u ≡ v
 some_value u v e = cc
-
-some_node : (u v : Node) → Some u ≡ Some v → u ≡ v
-some_node u v e = cc
-
-no_name : (d : ℕ) → ◌≡◌ {A = Option ℕ} None (Some d) → ⊥
-no_name d e = cc
 
 module _ (k : Config) (s : Words) (r : Rule k s) (id : ℕ) (hist : List Entry) (x : DomainView) (at : get_elem? s.views id ≡ some (one k hist x)) (a new : ℕ) (may : RewriteMay k x a new) where
   abbrev c : ℕ
@@ -107,7 +99,7 @@ module _ (k : Config) (s : Words) (r : Rule k s) (id : ℕ) (hist : List Entry) 
         label = ap (λ (z : Place). z.label) i;
         named = λ j d h.
             let n : named2 j ≡ Some d = ap (λ (z : Place). z.named j) i ∙ h in
-            let differs : j ≢ i0 = (λ eq. no_name d (sym (over_here i0 None p.named) ∙ (ap named2 (sym eq) ∙ n))) in
+            let differs : j ≢ i0 = (λ eq. none-some d (sym (over_here i0 None p.named) ∙ (ap named2 (sym eq) ∙ n))) in
             (sym (over_else i0 None p.named j differs) ∙ n, (λ t. differs t.1));
       })
       (λ other. record { place = q; lived = was b q other e; shape = refl; forward = refl; owed = refl; label = refl; named = λ j d h. (h, (λ t. other t.0)) })
@@ -204,7 +196,7 @@ module _ (k : Config) (s : Words) (r : Rule k s) (id : ℕ) (hist : List Entry) 
   has_it = subst (λ (log : List Entry). HasValueAt (state_of k log) may.place.label i0 may.held) ((my_good k s r id hist x at).still (subst IsInPause (sym may.stage) tt)) may.has
 
   node_is : f0.node ≡ has_it.node
-  node_is = some_node f0.node has_it.node (sym f0.there ∙ (ap (node_at graph) lasts.label ∙ has_it.there))
+  node_is = same_Some f0.node has_it.node (sym f0.there ∙ (ap (node_at graph) lasts.label ∙ has_it.there))
 
   found_here : Found k r.account.cycling.paint live2 graph ws c p2
   found_here = record {
@@ -251,7 +243,7 @@ module _ (k : Config) (s : Words) (r : Rule k s) (id : ℕ) (hist : List Entry) 
       let t = (my_good k s r id hist x at).owes.recalled b q i e named in
       behind t.0 (ap (λ (l : List ℕ). slice_get l t.0) (sym may.first) ∙ t.1) where
         behind : (j : ℕ) → slice_get (a ∷ may.rest) j ≡ Some (b + 2 + i) → (j : ℕ) × (slice_get may.rest j ≡ Some (b + 2 + i))
-        behind zero g = absurd (differs (sole b i q e (r.whole.copies.naming b q i x.own.number e named).1 (sym (some_address a (b + 2 + i) g))))
+        behind zero g = absurd (differs (sole b i q e (r.whole.copies.naming b q i x.own.number e named).1 (sym (same_Some a (b + 2 + i) g))))
         behind (suc j) g = (j, g)
 
   rewrite_rule : Rule k record { words = ws; homes = s.homes; views = set s.views id (one k hist (recalling x may.rest)) }

@@ -45,7 +45,8 @@ use Rattle.heap_rule.proofs.Again.{Back, placed_back, area_back, spread_back, op
 use Rattle.heap_rule.proofs.Update.{over, over_here, over_else}
 use Rattle.heap_rule.proofs.Lots.{Beside, head_full, live_beside, grid_beside, hunter_beside}
 use Rattle.heap_rule.proofs.Entering.{registers_stand, EntersTo, stood_after, entered_view, enters, enters_command, may_begin}
-use Rattle.heap_rule.proofs.Blocks.{field_at, some_same}
+use Rattle.heap_rule.proofs.Blocks.{field_at}
+use Rattle.std.proofs.lemmas.Option.{same_Some}
 use Rattle.heap_rule.proofs.Beside.{found_beside, making_beside, live_word_far}
 use Rattle.heap_rule.proofs.FullnessLemmas.{full_back, full_stays}
 
@@ -98,7 +99,7 @@ module _ (k : Config) (paint : Paint) (live : Live) (graph : Graph) (words : Lis
   here = found a p lives
 
   node_is : here.node ≡ Plain tag fields
-  node_is = some_same here.node (Plain tag fields) (sym here.there ∙ node)
+  node_is = same_Some here.node (Plain tag fields) (sym here.there ∙ node)
 
   below : i < length fields
   below = got_below fields i old there
@@ -166,9 +167,6 @@ record Choice (k : Config) (address new d i : ℕ) (remembers : Bool) (named : �
 not_some_none : (n : ℕ) → ◌≡◌ {A = Option ℕ} (Some n) None → ⊥
 not_some_none n e = cc
 
-same_number : (n m : ℕ) → ◌≡◌ {A = Option ℕ} (Some n) (Some m) → n ≡ m
-same_number n m e = cc
-
 choose : (k : Config) (address new d i : ℕ) (remembers : Bool) (named : ℕ → Option ℕ) → (remembers ≡ false → IsOldAt k address → IsOldWord k new) → Choice k address new d i remembers named
 choose k address new d i false named stays = record { named' = named; keeps = λ j _. refl; is_old = λ low _. stays refl low; mine = λ j e. inl e; theirs = λ e j _ h. h }
 choose k address new d i true named stays = record {
@@ -176,7 +174,7 @@ choose k address new d i true named stays = record {
   keeps = λ j other. over_else i (Some d) named j other;
   is_old = λ _ none. absurd (not_some_none d (sym (over_here i (Some d) named) ∙ none));
   mine = λ j e. dite (ℕ_discrete j i) (λ same. inr (same, refl)) (λ other. inl (sym (over_else i (Some d) named j other) ∙ e));
-  theirs = λ e j differ h. dite (ℕ_discrete j i) (λ same. absurd (differ (sym (same_number d e (sym (over_here i (Some d) named) ∙ (ap (over i (Some d) named) (sym same) ∙ h)))))) (λ other. sym (over_else i (Some d) named j other) ∙ h);
+  theirs = λ e j differ h. dite (ℕ_discrete j i) (λ same. absurd (differ (sym (same_Some d e (sym (over_here i (Some d) named) ∙ (ap (over i (Some d) named) (sym same) ∙ h)))))) (λ other. sym (over_else i (Some d) named j other) ∙ h);
 }
 
 -- the word of what is no block in a minor area

@@ -32,13 +32,14 @@ use Rattle.heap_rule.proofs.PauseFacts.{kind_differs}
 use Rattle.heap_rule.proofs.Sharings.{knowing_words}
 use Rattle.steps_cycle.specs.Looks.{with_share}
 use Rattle.steps_cycle.proofs.Layouts.{labelled, owner_of_place, label_there}
-use Rattle.steps_cycle.proofs.Learning.{at_other, at_same, bare, even, known, kind_here, leads_odd, lies_old, not_promoting, waits_in}
+use Rattle.steps_cycle.proofs.Learning.{at_other, at_same, bare, even, known, kind_here, leads_odd, lies_old, not_promoting}
 use Rattle.steps_cycle.proofs.Plain.{share_closes}
 use Rattle.steps_sweep.specs.Counting.{BlocksAddMay, BlocksAdded, WordsAddMay, WordsAdded}
 use Rattle.steps_sweep.proofs.Recounting.{IsCount, heap, here, low, other, recounted, recounts}
 use Rattle.steps_sweep.proofs.Swept.{sweep_facts, sweeping}
 use Rattle.steps_sweep.proofs.CountedPlaces.{AllLive, added_few, added_same, as_heavy, as_many, label_among, label_from, no_twice, words_of_shape}
 use Rattle.std.specs.Option.{option_map_or}
+use Rattle.heap_rule.proofs.Stages.{waits_in}
 
 -- so few are added that the sum doesn't wrap
 no_wrap : (n w amount : ℕ) → n ≤ 8 → w ≤ n * 2 ^ 40 → amount < 2 ^ 40 → w + amount < 2 ^ 64

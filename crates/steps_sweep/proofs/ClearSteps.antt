@@ -25,6 +25,7 @@ use Rattle.steps_cycle.proofs.Plain.{share_closes}
 use Rattle.steps_sweep.specs.Turning.{BlocksCleared, ClearMay, WordsCleared}
 use Rattle.steps_sweep.proofs.Recounting.{IsCount, heap, here, low, other, recounted, recounts}
 use Rattle.heap_rule.proofs.Sharings.{knows_words}
+use Rattle.std.proofs.lemmas.Option.{same_Some}
 
 module _ (k : Config) (s : Words) (r : Rule k s) (id : ℕ) (hist : List Entry) (x : DomainView) (at : get_elem? s.views id ≡ some (one k hist x)) (may : ClearMay x) (i : ℕ) (is : IsCount i) where
   abbrev c : Cycling
@@ -124,9 +125,6 @@ module _ (k : Config) (s : Words) (r : Rule k s) (id : ℕ) (hist : List Entry) 
       sharings = sharings';
     }
 
-number_same : (v w : ℕ) → Some v ≡ Some w → v ≡ w
-number_same v w e = cc
-
 pub blocks_may : (k : Config) (x : DomainView) → ClearMay x → MayStore k x 9 0 BlocksCleared
 blocks_may k x may fits slots id hist s r _ at _ =
     let y : DomainView = with_share x (record x.seen.share { blocks = Some 0 }) in
@@ -135,7 +133,7 @@ blocks_may k x may fits slots id hist s r _ at _ =
       keeps,
       tt,
       clear_rule k s r id hist x at may 9 is (Some 0) x.seen.share.words
-          (λ v e. here k s r id hist x at 9 0 is ∙ number_same 0 v e)
+          (λ v e. here k s r id hist x at 9 0 is ∙ same_Some 0 v e)
           (λ v e. other k s r id hist x at 9 0 is 10 (λ f. omega arith) ∙ ((my_good k s r id hist x at).sharing.leading.found_words v e).1),
       (refl, refl),
     )
@@ -152,7 +150,7 @@ words_may k x may fits slots id hist s r _ at _ =
       tt,
       clear_rule k s r id hist x at may 10 is x.seen.share.blocks (Some 0)
           (λ v e. other k s r id hist x at 10 0 is 9 (λ f. omega arith) ∙ ((my_good k s r id hist x at).sharing.leading.found_blocks v e).1)
-          (λ v e. here k s r id hist x at 10 0 is ∙ number_same 0 v e),
+          (λ v e. here k s r id hist x at 10 0 is ∙ same_Some 0 v e),
       (refl, refl),
     )
 

@@ -19,7 +19,7 @@ use Rattle.heap_rule.specs.declared.view.OwnPool.{OwnPool}
 use Rattle.heap_rule.specs.Cycles.{Cycling, Knowing, HasCounted, extent_in, seen_by}
 use Rattle.heap_rule.specs.Layout.{at_address, before_heap, owner_of}
 use Rattle.heap_rule.specs.Places.{Live, Place, extent}
-use Rattle.heap_rule.specs.Pools.{Holder, IsBefore, blocks_of, drawn, nobody, owned, owner_word, place_in, size_of}
+use Rattle.heap_rule.specs.Pools.{Holder, IsBefore, blocks_of, owned, owner_word, place_in, size_of}
 use Rattle.heap_rule.specs.Raw.{CanLeave, Closes, Leaves, MayStep}
 use Rattle.heap_rule.specs.Rule.{Rule, state_of}
 use Rattle.heap_rule.specs.Views.{one}
@@ -29,21 +29,15 @@ use Rattle.heap_rule.proofs.Lots.{owned_same, place_cases}
 use Rattle.steps_cycle.specs.Looks.{with_share}
 use Rattle.steps_cycle.specs.Marking.{behind}
 use Rattle.steps_cycle.proofs.Colouring.{bare_head}
-use Rattle.steps_cycle.proofs.Learning.{bare, known, learns, waits_in}
+use Rattle.steps_cycle.proofs.Layouts.{whose}
+use Rattle.steps_cycle.proofs.Learning.{bare, known, learns}
 use Rattle.steps_cycle.proofs.Plain.{share_closes}
 use Rattle.steps_cycle.proofs.WalkSteps.{before_behind, last_behind, next_behind}
 use Rattle.steps_sweep.specs.Counting.{CountMay, CountOwnMay, CountOwnTold, CountTold}
 use Rattle.steps_sweep.proofs.Swept.{empty_free, sweep_facts, sweeping}
 use Rattle.std.proofs.lemmas.List.Sums.{sum_by-cons}
-
-pub own_pool_same : (g h : OwnPool) → Some g ≡ Some h → g ≡ h
-own_pool_same g h e = cc
-
-nobody_clash : (d c : ℕ) → ◌≡◌ {A = Holder} nobody (owned d c) → ⊥
-nobody_clash d c e = cc
-
-drawn_clash : (n d c : ℕ) → ◌≡◌ {A = Holder} (drawn n) (owned d c) → ⊥
-drawn_clash n d c e = cc
+use Rattle.std.proofs.lemmas.Option.{same_Some}
+use Rattle.heap_rule.proofs.Stages.{waits_in}
 
 -- a member of a list is among it
 pub among : (l : List ℕ) (i a : ℕ) → slice_get l i ≡ Some a → IsTrue (seen_by l a)
@@ -85,18 +79,6 @@ one_place q class i j p e few few' inside inside' same_class same =
           (λ low. let l : i ≤ j = low in let g : u + m ≤ w = slot_below class i j (omega arith) in omega arith)
           (λ high. let g : w + m ≤ u = slot_below class j i (lt_of_not-le high) in omega arith))),
     )
-
--- a pool is a domain's own, for blocks of a class, or its owner word is another
-pub whose : (k : Config) (s : Words) (r : Rule k s) (d pool : ℕ) → pool < k.pools → (h : Holder) → r.account.tenancy.holder pool ≡ h → ((class : ℕ) × (r.account.tenancy.holder pool ≡ owned d class) × (class < class_count) × (owner_of k s.words pool ≡ owner_word (owned d class)))
-    ⊎ (((class : ℕ) → r.account.tenancy.holder pool ≢ owned d class) × ((class : ℕ) → class < class_count → owner_of k s.words pool ≢ owner_word (owned d class)))
-whose k s r d pool inside nobody e = inr (λ class f. nobody_clash d class (sym e ∙ f), λ class few f. let z : owner_of k s.words pool ≡ 0 = r.whole.pools.owners pool inside ∙ ap owner_word e in let w : ℕ = owner_of k s.words pool in let g : w ≡ 16 * d + class + 1 = f in let h : w ≡ 0 = z in omega arith)
-whose k s r d pool inside (drawn n) e = inr (λ class f. drawn_clash n d class (sym e ∙ f), λ class few f. let z : owner_of k s.words pool ≡ 0 = r.whole.pools.owners pool inside ∙ ap owner_word e in let w : ℕ = owner_of k s.words pool in let g : w ≡ 16 * d + class + 1 = f in let h : w ≡ 0 = z in omega arith)
-whose k s r d pool inside (owned n class) e =
-    let is : owner_of k s.words pool ≡ owner_word (owned n class) = r.whole.pools.owners pool inside ∙ ap owner_word e in
-    let small : class < class_count = (r.whole.pools.owned_by pool n class e).2 in
-    dite (ℕ_discrete n d)
-    (λ same. inl (class, e ∙ ap (λ (i : ℕ). owned i class) same, small, is ∙ ap (λ (i : ℕ). owner_word (owned i class)) same))
-    (λ other. inr (λ b f. other (owned_same n d class b (sym e ∙ f)).0, λ b few f. let w : ℕ = owner_of k s.words pool in let g : w ≡ 16 * d + b + 1 = f in let h : w ≡ 16 * n + class + 1 = is in other (omega arith)))
 
 module _ (k : Config) (s : Words) (r : Rule k s) (id : ℕ) (hist : List Entry) (x : DomainView) (at : get_elem? s.views id ≡ some (one k hist x)) (stage : x.seen.stage ≡ In Sweep) (counts : x.seen.share.added_blocks ≡ false) where
   abbrev now : model.State
@@ -167,7 +149,7 @@ module _ (k : Config) (s : Words) (r : Rule k s) (id : ℕ) (hist : List Entry) 
     owns : (class : ℕ) → holder pool ≡ owned d class → (y : DomainView) × After y × CountOwnTold pool x owner y
     owns class is = let n = kn.counted in (
       with_share x (record sh { own_pool = Some (record { pool = pool; class = class }) }),
-      counts_on (Some (record { pool = pool; class = class })) sh.counted sh.counted_to sh.counted_words (λ u e. subst (λ (z : OwnPool). holder z.pool ≡ owned d z.class) (own_pool_same (record { pool = pool; class = class }) u e) is)
+      counts_on (Some (record { pool = pool; class = class })) sh.counted sh.counted_to sh.counted_words (λ u e. subst (λ (z : OwnPool). holder z.pool ≡ owned d z.class) (same_Some (record { pool = pool; class = class }) u e) is)
           record { once = n.once; own = n.own; lives = n.lives; all = n.all; words = n.words },
       record { told = inl (class, (r.whole.pools.owned_by pool d class is).2, is_owner ∙ ap owner_word is, refl) },
     )

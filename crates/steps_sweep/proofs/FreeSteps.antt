@@ -1,5 +1,5 @@
 -- The free of garbage at an own place keeps the rule.
-use Rattle.std.proofs.Common.{◌≡◌, ◌≢◌, ℕ, ◌+◌, ◌*◌, ◌<◌, ◌≤◌, ◌⊎◌, ◌==◌, ◌||◌, Bool, false, true≢false, IsTrue, List, length, get_or, set, Some, None, Option, sym, refl, ap, ◌∙◌, subst, inl, inr, ⊎_elim, arith, length-set, get_or-set_same, get_or-set_other}
+use Rattle.std.proofs.Common.{◌≡◌, ◌≢◌, ℕ, ◌+◌, ◌*◌, ◌<◌, ◌≤◌, ◌⊎◌, ◌==◌, ◌||◌, Bool, false, true≢false, IsTrue, List, length, get_or, set, Some, None, sym, refl, ap, ◌∙◌, subst, inl, inr, ⊎_elim, arith, length-set, get_or-set_same, get_or-set_other}
 use mathlib.Core.Logic.{dite}
 use native.Mathlib.Decide.{ℕ_discrete}
 use mathlib.Core.Option.{some}
@@ -22,30 +22,25 @@ use Rattle.heap_rule.specs.Cycles.{Cycled, Cycling, Facts, IsCollecting, IsIdle,
 use Rattle.heap_rule.specs.Layout.{at_address, before_heap, heap_words}
 use Rattle.heap_rule.specs.Phases.{Staged}
 use Rattle.heap_rule.specs.Places.{Place, extent}
-use Rattle.heap_rule.specs.Pools.{Grid, Holder, Hunter, Hunts, IsBefore, OwnPlace, Stock, Tenancy, blocks_of, drawn, limit_of, owned, place_in, size_of, spot_at}
+use Rattle.heap_rule.specs.Pools.{Grid, Hunter, Hunts, IsBefore, OwnPlace, Stock, Tenancy, blocks_of, limit_of, owned, place_in, size_of, spot_at}
 use Rattle.heap_rule.specs.Raw.{Closes, MayStore}
 use Rattle.heap_rule.specs.Rule.{AllFound, Good, Making, Rule, Sharing, state_of}
 use Rattle.heap_rule.specs.Views.{one}
 use Rattle.heap_rule.proofs.Beside.{found_beside, making_beside}
 use Rattle.heap_rule.proofs.Classes.{size_least, slot_inside, some_block}
 use Rattle.heap_rule.proofs.Closes.{front_same}
-use Rattle.heap_rule.proofs.Holders.{SameFor, agrees_same, hunter_agree, stock_self}
+use Rattle.heap_rule.proofs.Holders.{SameFor, agrees_same, drawn_owned, hunter_agree, stock_self}
 use Rattle.heap_rule.proofs.Keeps.{Words, control_set, more_same, my_good}
-use Rattle.heap_rule.proofs.Lots.{head_full, hunter_beside, live_beside, owned_same, place_cases, place_low, pool_beside}
+use Rattle.heap_rule.proofs.Lots.{head_full, hunter_beside, live_beside, none_before, owned_same, place_cases, place_low, pool_beside}
 use Rattle.heap_rule.proofs.PauseFacts.{not_both}
 use Rattle.steps_pools.proofs.Plain.{looking_fits}
 use Rattle.steps_pools.specs.Writes.{CanLook, LooksFrom}
 use Rattle.steps_cycle.proofs.Colouring.{words_same}
-use Rattle.steps_cycle.proofs.Learning.{at_other, at_same, even, known, knowing_on, leads_odd, none_before, not_promoting, rests_here, waits}
+use Rattle.steps_cycle.proofs.Learning.{at_other, at_same, even, known, knowing_on, leads_odd, not_promoting, rests_here, waits}
 use Rattle.steps_sweep.specs.Freeing.{FreeMay, FreeTold, freed, passed}
 use Rattle.steps_sweep.proofs.Reaping.{reaped_to, reaps}
 use Rattle.steps_sweep.proofs.Swept.{collecting, facts, is_own, kind_is, live_colour, live_head, means, seen', swept_on, walked}
-
-drawn_clash : (n d c : ℕ) → ◌≡◌ {A = Holder} (owned d c) (drawn n) → ⊥
-drawn_clash n d c e = cc
-
-place_clash : (p : Place) → ◌≡◌ {A = Option Place} None (Some p) → ⊥
-place_clash p e = cc
+use Rattle.std.proofs.lemmas.Option.{none-some}
 
 module _ (k : Config) (s : Words) (r : Rule k s) (id : ℕ) (hist : List Entry) (x : DomainView) (at : get_elem? s.views id ≡ some (one k hist x)) (a pool class slot : ℕ) (may : FreeMay x a pool class slot) (wide : length x.own.looked ≡ class_count) where
   abbrev now : model.State
@@ -133,7 +128,7 @@ module _ (k : Config) (s : Words) (r : Rule k s) (id : ℕ) (hist : List Entry) 
   -- the place is the first word of no block, and lies in none
   far : (b : ℕ) (q : Place) → r.account.live b ≡ Some q → (z : ℕ) → z < extent q.shape → b + z ≢ a
   far b q lives z inside same = dite (ℕ_discrete z 0)
-      (λ zero. place_clash q (sym dead ∙ (ap r.account.live (let e : b + z ≡ a = same in let g : z ≡ 0 = zero in let h : a ≡ b = omega arith in h) ∙ lives)))
+      (λ zero. none-some q (sym dead ∙ (ap r.account.live (let e : b + z ≡ a = same in let g : z ≡ 0 = zero in let h : a ≡ b = omega arith in h) ∙ lives)))
       (λ behind.
       let first : 1 ≤ z = (let n : z ≢ 0 = behind in omega arith) in
       let beside = live_beside k t r.account.live s.words b z q r.whole.pools r.whole.grid (r.whole.placed.fits b q lives).low lives first inside (head_full k c.paint r.account.live now.graph s.words b q (r.whole.found b q lives)) d in
@@ -185,7 +180,7 @@ module _ (k : Config) (s : Words) (r : Rule k s) (id : ℕ) (hist : List Entry) 
   hunters : (z : DomainView) → z.own.number ≢ d → Good k r.account s.words z → Hunter k t' words' z
   hunters z other g = hunter_agree k t t' words' words' (agrees_same k words') z (omega arith) (same_for z.own.number)
       (hunter_beside k t s.words a 0 r.whole.pools z (pool_beside k t s.words pool a z.own.number r.whole.pools in_pool.0 in_pool.1
-      (λ e. drawn_clash z.own.number d class (sym own ∙ e))
+      (λ e. drawn_owned z.own.number d class (sym e ∙ own))
       (λ b e. other (sym (owned_same d z.own.number class b (sym own ∙ e)).0))) g.hunter)
 
   abbrev looked' : List Spot
@@ -267,7 +262,7 @@ module _ (k : Config) (s : Words) (r : Rule k s) (id : ℕ) (hist : List Entry) 
   }
 
   heads : (b : ℕ) (p : Place) → r.account.live b ≡ Some p → (at_address k words' b ≡ at_address k s.words b) ⊎ IsTrue (c.paint.marks.marked p.label)
-  heads b p lives = inl (stays b (λ same. place_clash p (sym dead ∙ (ap r.account.live (sym same) ∙ lives))))
+  heads b p lives = inl (stays b (λ same. none-some p (sym dead ∙ (ap r.account.live (sym same) ∙ lives))))
 
   still_free : (b : ℕ) → at_address k s.words b ≡ 0 → at_address k words' b ≡ 0
   still_free b free = dite (ℕ_discrete b a) (λ same. ap (at_address k words') same ∙ here_is) (λ other. stays b other ∙ free)

@@ -24,10 +24,12 @@ use Rattle.heap_rule.specs.Views.{one}
 use Rattle.heap_rule.proofs.Keeps.{Words, my_good, unmoved}
 use Rattle.heap_rule.proofs.Lots.{owned_same}
 use Rattle.steps_cycle.specs.Looks.{with_share}
-use Rattle.steps_cycle.proofs.Learning.{kind_here, known, learns, not_promoting, waits_in}
+use Rattle.steps_cycle.proofs.Learning.{kind_here, known, learns, not_promoting}
 use Rattle.steps_cycle.proofs.Plain.{share_closes}
 use Rattle.steps_sweep.specs.Holding.{HeldMay, HeldOwnMay, HeldOwnTold, HeldTold}
-use Rattle.steps_sweep.proofs.CountSteps.{own_pool_same, whose}
+use Rattle.steps_cycle.proofs.Layouts.{whose}
+use Rattle.std.proofs.lemmas.Option.{same_Some}
+use Rattle.heap_rule.proofs.Stages.{waits_in}
 
 module _ (k : Config) (s : Words) (r : Rule k s) (id : ℕ) (hist : List Entry) (x : DomainView) (at : get_elem? s.views id ≡ some (one k hist x)) (stage : x.seen.stage ≡ In Answer) where
   abbrev now : model.State
@@ -86,7 +88,7 @@ module _ (k : Config) (s : Words) (r : Rule k s) (id : ℕ) (hist : List Entry) 
   owner_held word pool may = ⊎_elim
       (λ u. (
         with_share x (record sh { own_pool = Some (record { pool = pool; class = u.0 }) }),
-        holds (Some (record { pool = pool; class = u.0 })) sh.held sh.vacant (λ v e. subst (λ (z : OwnPool). holder z.pool ≡ owned d z.class) (own_pool_same (record { pool = pool; class = u.0 }) v e) u.1) kn.held kn.vacant,
+        holds (Some (record { pool = pool; class = u.0 })) sh.held sh.vacant (λ v e. subst (λ (z : OwnPool). holder z.pool ≡ owned d z.class) (same_Some (record { pool = pool; class = u.0 }) v e) u.1) kn.held kn.vacant,
         record { told = inl (u.0, u.2, u.3, refl) },
       ))
       (λ u. (with_share x (record sh { held = pool + 1; vacant = 0 }), one_more pool may.next (λ class is. absurd (u.0 class is)), record { told = inr (u.1, ap (λ (n : ℕ). with_share x (record sh { held = pool + 1; vacant = n })) (sym may.first)) }))

@@ -1,5 +1,5 @@
 -- A pool in which nothing is left is nobody's: who has the others, and what lies where, stays.
-use Rattle.std.proofs.Common.{◌≡◌, ◌≢◌, ℕ, zero, suc, ◌+◌, ◌*◌, ◌/◌, ◌%◌, ◌<◌, ◌≤◌, ◌⊎◌, List, get_or, set, Some, None, Option, sym, ap, ◌∙◌, subst, inl, inr, ⊎_elim, arith, get_or-set_same, get_or-set_other, IsTrue, length, true≢false}
+use Rattle.std.proofs.Common.{◌≡◌, ◌≢◌, ℕ, zero, suc, ◌+◌, ◌*◌, ◌/◌, ◌%◌, ◌<◌, ◌≤◌, ◌⊎◌, List, get_or, set, Some, None, sym, ap, ◌∙◌, subst, inl, inr, ⊎_elim, arith, get_or-set_same, get_or-set_other, IsTrue, length, true≢false}
 use mathlib.Core.Logic.{dite}
 use native.Mathlib.Decide.{ℕ_discrete}
 use mathlib.Core.Option.{some}
@@ -29,9 +29,7 @@ use Rattle.heap_rule.proofs.Sharings.{SameCycle}
 use Rattle.steps_cycle.proofs.Layouts.{labelled}
 use Rattle.steps_cycle.proofs.Learning.{kind_here, known, lies_old, not_promoting}
 use Rattle.steps_sweep.specs.Returning.{ReturnMay}
-
-no_owner : (d : ℕ) → ◌≡◌ {A = Option ℕ} None (Some d) → ⊥
-no_owner d e = cc
+use Rattle.std.proofs.lemmas.Option.{none-some}
 
 module _ (k : Config) (s : Words) (r : Rule k s) (id : ℕ) (hist : List Entry) (x : DomainView) (at : get_elem? s.views id ≡ some (one k hist x)) (word pool class : ℕ) (may : ReturnMay k x word pool class) where
   abbrev now : model.State
@@ -189,13 +187,13 @@ module _ (k : Config) (s : Words) (r : Rule k s) (id : ℕ) (hist : List Entry) 
 
   -- the places at which blocks live belong to whom they belonged
   owner_was : (b e : ℕ) → owner_at t'.holder b ≡ Some e → owner_at T.holder b ≡ Some e
-  owner_was zero e is = absurd (no_owner e is)
+  owner_was zero e is = absurd (none-some e is)
   owner_was (suc b) e is = dite (ℕ_discrete (b / 4096) pool)
-      (λ same. absurd (no_owner e (sym (ap (λ (h : Holder). starts_in h (b % 4096)) (ap t'.holder same ∙ here')) ∙ is)))
+      (λ same. absurd (none-some e (sym (ap (λ (h : Holder). starts_in h (b % 4096)) (ap t'.holder same ∙ here')) ∙ is)))
       (λ other. ap (λ (h : Holder). starts_in h (b % 4096)) (sym (else' (b / 4096) other)) ∙ is)
 
   owner_still : (b e : ℕ) (p : Place) → live b ≡ Some p → owner_at T.holder b ≡ Some e → owner_at t'.holder b ≡ Some e
-  owner_still zero e p lives is = absurd (no_owner e is)
+  owner_still zero e p lives is = absurd (none-some e is)
   owner_still (suc b) e p lives is = ap (λ (h : Holder). starts_in h (b % 4096)) (else' (b / 4096) other) ∙ is
     where
       other : b / 4096 ≢ pool

@@ -22,12 +22,11 @@ use Rattle.heap_rule.proofs.Keeps.{Words, my_good, unmoved}
 use Rattle.steps_cycle.specs.Looks.{with_share}
 use Rattle.std.proofs.lemmas.Bool.{cases_Bool}
 use Rattle.steps_cycle.proofs.Plain.{share_closes}
-use Rattle.steps_cycle.proofs.Learning.{at_other, at_same, held, knows_more, known, shifts_more, waits_in}
+use Rattle.steps_cycle.proofs.Learning.{at_other, at_same, held, knows_more, known, shifts_more}
 use Rattle.steps_sweep.specs.Freeing.{SweepMay, SweepTold, passed}
 use Rattle.steps_sweep.proofs.Swept.{clean_head, collecting, dead_colour, facts, kind_is, seen', swept_on, walked}
-
-found_head_same : (g h : FoundHead) → Some g ≡ Some h → g ≡ h
-found_head_same g h e = cc
+use Rattle.std.proofs.lemmas.Option.{same_Some}
+use Rattle.heap_rule.proofs.Stages.{waits_in}
 
 module _ (k : Config) (s : Words) (r : Rule k s) (id : ℕ) (hist : List Entry) (x : DomainView) (at : get_elem? s.views id ≡ some (one k hist x)) (a pool class slot : ℕ) (may : SweepMay x a pool class slot) where
   abbrev sh : Share
@@ -75,7 +74,7 @@ module _ (k : Config) (s : Words) (r : Rule k s) (id : ℕ) (hist : List Entry) 
   finds : IsTrue (r.account.tenancy.garbage a) → After (with_share x head_found)
   finds is = knows_more k s r id hist x at (collecting k s r id hist x at a pool class slot may) (held head_found) refl refl record {
     found_head = λ g p e lives.
-        let same : record { address = a; word = found } ≡ g = found_head_same (record { address = a; word = found }) g e in
+        let same : record { address = a; word = found } ≡ g = same_Some (record { address = a; word = found }) g e in
         absurd (let clash : ◌≡◌ {A = Option Place} None (Some p) = sym (r.whole.cycle.leaves.dead a is) ∙ (ap (λ (z : FoundHead). r.account.live z.address) same ∙ lives) in cc);
     scan = kn.scan;
     walked = kn.walked;
