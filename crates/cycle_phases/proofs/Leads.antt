@@ -2,11 +2,13 @@
 use Rattle.std.proofs.Common.{◌≡◌, ◌∙◌, ◌++◌, ℕ, Bool, List, Some, sym, ap, subst, append_assoc}
 use Rattle.heap_model.specs.declared.entry.Entry.{Entry}
 use Rattle.heap_model.specs.Fronts.{IsFrontOf}
+use Rattle.heap_model.specs.History.{Legal}
 use Rattle.heap_rule.specs.declared.config.Config.{Config}
 use Rattle.heap_rule.specs.declared.phase.Kind.{Kind}
 use Rattle.heap_rule.specs.declared.phase.Note.{Note}
 use Rattle.heap_rule.specs.declared.phase.Stage.TheVariants.{Leads, Led}
 use Rattle.heap_rule.specs.declared.view.DomainView.{DomainView}
+use Rattle.heap_rule.specs.Limits.{sizes_in}
 use Rattle.heap_rule.specs.Views.{fresh_share}
 use Rattle.steps_pauses.specs.Pauses.{EndsWith, arrived_view, cut_in, entry_of, kind_in}
 use Rattle.safepoint.specs.Looks.{LedTo, cleared}
@@ -45,7 +47,7 @@ module _ (k : Config) (x y z v : DomainView) (last kind : Kind) (stage : x.seen.
         before = m.before;
         front = front_is ∙ m.front;
         seen = subst (λ (p : ℕ × List Entry). IsFrontOf p.0 m.before p.1) (λ i. (same_number i, same_front i)) m.seen;
-        legal = subst (λ (f : List Entry). Rattle.heap_model.specs.History.Legal (Rattle.heap_rule.specs.Limits.sizes_in k) f) (sym front_is) m.legal;
+        legal = subst (λ (f : List Entry). Legal (sizes_in k) f) (sym front_is) m.legal;
       }
 
   view_is : v ≡ arrived_view (led_with x kind v.seen.front v.seen.notes (cut_in last x.seen.share.cut))

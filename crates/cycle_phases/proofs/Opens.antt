@@ -230,10 +230,10 @@ module _ (k : Config) (x : DomainView) where
       view = opened_as x z (x.seen.notes ++ Want found ∷ []) _ y.seen.listing x.seen.share is refl;
     }
 
-    pub reset_begins : begins k wishes ≡ true → Opens k x z Reset Roots
+    pub reset_begins : begins k found free ≡ true → Opens k x z Reset Roots
     reset_begins is_so = reset_to Roots (inr refl) (ap (λ (b : Bool). if b then Roots else Run) (sym is_so)) (λ e. cc) (λ e. cc) (λ e. cc) (λ e. cc)
 
-    pub reset_runs : begins k wishes ≡ false → Opens k x z Reset Run
+    pub reset_runs : begins k found free ≡ false → Opens k x z Reset Run
     reset_runs is_not = reset_to Run (inl refl) (ap (λ (b : Bool). if b then Roots else Run) (sym is_not)) (λ e. cc) (λ e. cc) (λ e. cc) (λ e. cc)
 
   -- the wishes after Sweep

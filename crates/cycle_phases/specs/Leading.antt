@@ -23,14 +23,14 @@ pub record Findings : Type 0 where
   pub free : ℕ
 
 -- a collection of the major heap is asked for, or fewer than half of the pools are free
-abbrev pub begins : Config → Findings → Bool
-begins k f = is_wanted Cycle f.wants || (is_wanted Full f.wants || nat_lt (2 * f.free) k.pools)
+abbrev pub begins : Config → ℕ → ℕ → Bool
+begins k wants free = is_wanted Cycle wants || (is_wanted Full wants || nat_lt (2 * free) k.pools)
 
 -- which kind comes next, also by whether the cut of the collection is made
 abbrev pub next_kind : Config → Kind → Bool → Findings → Kind
 next_kind k Run is_cut f = Promote
 next_kind k Promote is_cut f = Reset
-next_kind k Reset is_cut f = if begins k f then Roots else Run
+next_kind k Reset is_cut f = if begins k f.wants f.free then Roots else Run
 next_kind k Roots is_cut f = Mark
 next_kind k Mark is_cut f = if f.changed == 0 then Rounds else Mark
 next_kind k Rounds is_cut f = if f.changed == 0 then (if is_cut then Clean else Decide) else Mark

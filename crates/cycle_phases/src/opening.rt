@@ -4,7 +4,7 @@ ghost use Rattle.heap_rule.specs.declared.phase.Kind.TheVariants.{Run, Promote, 
 ghost use Rattle.heap_rule.specs.declared.phase.Stage.TheVariants.{Leads};
 ghost use Rattle.heap_rule.specs.Token.{IsIn};
 ghost use Rattle.heap_rule.specs.Views.{voided};
-ghost use Rattle.cycle_phases.specs.Leading.{Opens, begins as begins_by, Findings};
+ghost use Rattle.cycle_phases.specs.Leading.{Opens, begins as begins_by};
 
 use heap_rule::{Config, Domain, Heap, Kind};
 use heap_words::{pack_colours, rotate};
@@ -27,7 +27,7 @@ fn after_run(heap: &Heap, dom: &mut Domain) -> Kind
 
 // Whether a collection of the major heap begins, where so many pools are listed.
 fn begins(limits: &Config, wants: Wants, free: u32) -> bool
-    ensures { result ≡ begins_by limits.now (record { wants = wants.bits; changed = 0; free = free }) }
+    ensures { result ≡ begins_by limits.now wants.bits free }
 {
     is_wanted(wants, Want::Cycle)
         || is_wanted(wants, Want::Full)

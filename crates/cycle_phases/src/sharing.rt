@@ -76,7 +76,8 @@ pub fn give_back(heap: &Heap, dom: &mut Domain)
     requires at_rest { dom.old.view.seen.hunt ≡ Rests }
     requires idle { dom.old.view.seen.made ≡ [] }
     requires few { dom.old.view.own.arrivals < 2 ^ 60 }
-    requires forgot { dom.old.view.seen.share ≡ voided dom.old.view.seen.share }
+    requires first { dom.old.view.seen.share.held ≡ 0 }
+    requires none { dom.old.view.seen.share.vacant ≡ 0 }
     ensures here { IsIn dom.new heap.now }
     ensures view { dom.new.view ≡ arrived_view dom.old.view }
 {

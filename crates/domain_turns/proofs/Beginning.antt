@@ -24,7 +24,7 @@ begins_between t cs can = record {
   quiet = record { quiet = can.quiet; no_copies = can.no_copies; unprepared = λ class _. ap (λ l. prepared_at l class) can.unprepared ∙ nothing_prepared class_count class };
   even = λ _. even_rest t.view.own.arrivals can.even;
   remembers = λ _. can.remembers;
-  collected = λ _ served. cc;
+  emptied = λ _ served. cc;
   has_left = λ known left. cc;
   fresh = λ e. cc;
   knows_cut = λ known left. cc;

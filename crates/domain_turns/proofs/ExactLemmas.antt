@@ -56,11 +56,7 @@ Sign h old new (Waiting b) = Left old new (IsBarrier b)
 Sign h old new (Idle n) = Left old new (IsEnded n) × (n < h.config.domains)
 Sign h old new Over = Left old new (IsEnded h.config.domains)
 
-run_-- a domain that came to a phase in which a collection is answered has arrived once more
-answer_arrives : (k : Config) (x begun y z : DomainView) → ComesToAnswer k x begun → y ≡ arrived_view z → z.own.arrivals ≡ begun.own.arrivals → y.own.arrivals ≡ x.own.arrivals + 1
-answer_arrives k x begun y z c is same = ap (λ (v : DomainView). v.own.arrivals) is ∙ ap (λ (n : ℕ). n + 1) (same ∙ ap (λ (v : DomainView). v.own.arrivals) c.passed.view)
-
-sign : (h : SharedHeap) (old new : RunView) (a : Turned) → RunAnswers h old new a → Sign h old new a
+run_sign : (h : SharedHeap) (old new : RunView) (a : Turned) → RunAnswers h old new a → Sign h old new a
 run_sign h old new Did says = ⊎_elim
     (λ (s : Stops old new). inl (ap arrivals s.run))
     (λ (c : CalmDid h (wanting old 0) new). inr (did c)) says

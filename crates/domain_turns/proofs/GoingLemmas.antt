@@ -1,5 +1,5 @@
 -- A turn goes on with the same run.
-use Rattle.std.proofs.Common.{◌≡◌, ◌∙◌, ℕ, List, [], ◌∷◌, ◌++◌, append-nil, append_assoc, sym, ap, subst, inr, ⊎_elim}
+use Rattle.std.proofs.Common.{◌≡◌, ◌∙◌, ℕ, List, [], ◌∷◌, ◌++◌, append-nil, append_assoc, sym, ap, subst, inr, ⊎_elim, Some, None}
 use Rattle.heap_model.specs.declared.entry.Entry.{Entry}
 use Rattle.heap_model.specs.declared.reply.Applied.{Applied}
 use Rattle.heap_model.specs.declared.state.Sizes.{Sizes}
@@ -11,6 +11,9 @@ use Rattle.heap_rule.specs.Token.{SharedHeap}
 use Rattle.domain_turns.specs.declared.turned.Turned.{Turned}
 use Rattle.domain_turns.specs.declared.turned.Turned.TheVariants.{Did, Waiting, Idle}
 use Rattle.domain_turns.specs.declared.turned.Turned.TheVariants.{Ended as Over}
+use Rattle.domain_turns.specs.declared.passing.Past.{Past}
+use Rattle.domain_turns.specs.declared.passing.Past.TheVariants.{Waits, Arrived, Answered, Runs}
+use Rattle.domain_turns.specs.Past.{PastAnswers}
 use Rattle.domain_turns.specs.Pausing.{ComesToAnswer}
 use Rattle.domain_turns.specs.Runs.{RunView, CalmDid, Rests, CalmAnswers, RunAnswers, Stops, Resumes, GoesBy, IsAnswered, SeesAnswer, wanting, GoesOn}
 use Rattle.heap_rule.specs.declared.config.Config.{Config}
@@ -115,3 +118,11 @@ answered_goes h old new s =
       front = subst (IsPrefix old.token.view.seen.front) (sym (ap (λ (x : DomainView). x.seen.front) a.view))
           (record { rest = p.rest ++ q.rest; appends = q.appends ∙ (ap (λ (xs : List Entry). xs ++ q.rest) p.appends ∙ append_assoc old.token.view.seen.front p.rest q.rest) });
     }
+
+-- whatever a look at the barrier came to
+pub past_goes : (h : SharedHeap) (old new : RunView) (past : Past) → PastAnswers h old new past → GoesOn old new
+past_goes h old new (Waits b) w = record { commands = ap (λ (r : RunView). r.commands) w.run; number = ap (λ (r : RunView). r.token.view.own.number) w.run; front = same_prefix _ _ (ap (λ (r : RunView). r.token.view.seen.front) w.run) }
+past_goes h old new (Arrived kind) g = gone_goes h old new g
+past_goes h old new (Answered None) g = seen_goes h old new g
+past_goes h old new (Answered (Some reply)) g = answered_goes h old new g
+past_goes h old new Runs r = record { commands = ap (λ (x : RunView). x.commands) r.run; number = ap (λ (x : DomainView). x.own.number) r.passed.view; front = front_prefix _ _ _ r.passed.seen }

@@ -1,5 +1,5 @@
 -- What the look of a domain that has arrived leaves of its run.
-use Rattle.std.proofs.Common.{◌≡◌, ◌≢◌, ◌∙◌, ℕ, ◌+◌, ◌<◌, Bool, true, false, List, ◌∷◌, [], ◌++◌, Option, Some, None, refl, sym, ap, subst, inl, inr, ⊎_elim, absurd}
+use Rattle.std.proofs.Common.{◌≡◌, ◌≢◌, ◌∙◌, ℕ, ◌+◌, ◌<◌, Bool, true, List, Option, Some, refl, sym, ap, subst, inl, ⊎_elim}
 use Rattle.heap_model.specs.declared.entry.Entry.{Entry}
 use Rattle.heap_model.specs.declared.entry.Entry.TheVariants.{Collected}
 use Rattle.heap_model.specs.declared.state.State as model
@@ -12,7 +12,7 @@ use Rattle.heap_rule.specs.declared.config.Config.{Config}
 use Rattle.heap_rule.specs.declared.phase.Kind.{Kind}
 use Rattle.heap_rule.specs.declared.phase.Kind.TheVariants.{Run, Promote, Reset, Roots, Mark, Rounds, Decide, Queued, Clean, Lasts, Sweep, Answer}
 use Rattle.heap_rule.specs.declared.phase.Note.TheVariants.{Barrier}
-use Rattle.heap_rule.specs.declared.phase.Stage.TheVariants.{In, Leads, Gone}
+use Rattle.heap_rule.specs.declared.phase.Stage.TheVariants.{In, Leads, Led, Gone}
 use Rattle.heap_rule.specs.declared.view.Hunt.TheVariants.{Rests}
 use Rattle.heap_rule.specs.declared.view.DomainView.{DomainView}
 use Rattle.heap_rule.specs.Limits.{sizes_in}
@@ -20,20 +20,17 @@ use Rattle.heap_rule.specs.Phases.{Follows, Comes, IsEven, IsOdd}
 use Rattle.heap_rule.specs.Rule.{state_of}
 use Rattle.heap_rule.specs.Standing.{with_front}
 use Rattle.heap_rule.specs.Token.{Token, SharedHeap, IsIn}
-use Rattle.heap_rule.specs.Views.{voided}
+use Rattle.heap_rule.specs.Views.{fresh_share}
 use Rattle.steps_pauses.specs.Pauses.{kind_in, arrived_view, noted, cut_in, entry_of, EndsWith, IsModeOf}
 use Rattle.steps_promote.specs.Promotion.{reset_view}
 use Rattle.safepoint.specs.Looks.{Passed}
 use Rattle.cycle_phases.specs.Sharing.{SharesIn, with_looked}
 use Rattle.cycle_phases.specs.Leading.{LeadsOn}
-use Rattle.domain_turns.specs.declared.passing.Past.{Past}
-use Rattle.domain_turns.specs.declared.passing.Past.TheVariants.{Waits, Arrived, Answered, Runs}
 use Rattle.domain_turns.specs.Tries.{IsFresh}
-use Rattle.domain_turns.specs.Pausing.{IsQuiet, IsPast, IsReady, HasLeft, IsMarking, KnowsCut, LeavesEven, LeavesOdd, ComesToAnswer, GivesBack, AnswersLive}
+use Rattle.domain_turns.specs.Pausing.{IsQuiet, IsPast, IsReady, HasLeft, IsMarking, KnowsAnswer, KnowsCut, LeavesEven, LeavesOdd, ComesToAnswer, GivesBack}
 use Rattle.domain_turns.specs.Runs.{IsBetween, Passes}
-use Rattle.domain_turns.specs.Past.{PassAnswers, left_after}
-use Rattle.domain_turns.proofs.Moving.{Moves, still_moves, view_moves}
-use Rattle.domain_turns.proofs.PauseLemmas.{not_both, even_next, odd_next, answer_on, before_answer, fresh_on, past_as, keeps_as, void_as, arrived_void, later_past, quiet_as, looked_past, looked_quiet, ready_next, even_past, even_quiet, arrived_quiet}
+use Rattle.domain_turns.proofs.Moving.{Moves, view_moves}
+use Rattle.domain_turns.proofs.PauseLemmas.{not_both, even_next, odd_next, answer_on, before_answer, fresh_on, past_as, keeps_as, arrived_void, later_past, quiet_as, looked_past, looked_quiet, ready_next, even_past, even_quiet, arrived_quiet}
 
 some_injective : (a b : Kind) → ◌≡◌ {A = Option Kind} (Some a) (Some b) → a ≡ b
 some_injective a b e = cc
@@ -241,7 +238,7 @@ answer_between h x begun new front asked collected cut i quiet c is fresh = reco
   quiet = arrived_quiet (with_front begun front) new.view is (looked_quiet h.config x begun c.passed quiet).unprepared;
   even = λ none. cc;
   remembers = λ none. cc;
-  collected = λ none. cc;
+  emptied = λ none. cc;
   has_left = λ known e. subst (λ (kind : Kind). HasLeft new.config kind new.view) (some_injective Answer known e) (subst (λ (k : Config). HasLeft k Answer new.view) (sym i.1) (answer_past h.config x begun new.view front c is));
   fresh = λ e. subst (λ (k : Config). IsFresh k new.view) (sym i.1) (fresh e);
   knows_cut = λ known e marking. absurd (subst IsMarking (sym (some_injective Answer known e)) marking);
@@ -276,7 +273,7 @@ passes_between h old new before kind asked collected cut inside a i is says = re
   quiet = passes_quiet h.config old.view new.view before kind says is.quiet;
   even = λ none. cc;
   remembers = λ none. cc;
-  collected = λ none. cc;
+  emptied = λ none. cc;
   has_left = λ known e. subst (λ (c : Kind). HasLeft new.config c new.view) (some_injective kind known e)
       (subst (λ (k : Config). HasLeft k kind new.view) (sym i.1) (passes_past h.config old.view new.view before kind (subst (λ (k : Config). old.view.own.number < k.domains) a.1 inside) says (subst (λ (k : Config). HasLeft k before old.view) a.1 (is.has_left before refl))));
   fresh = λ e. let l = passes_leaves h.config old.view new.view before kind says in
@@ -292,7 +289,7 @@ waits_between h old new before asked collected cut b a i is says =
       quiet = quiet_as old.view new.view (ap (λ (x : DomainView). x.seen.copying) says) (ap (λ (x : DomainView). x.own.pending) says) (ap (λ (x : DomainView). x.own.prepared) says) is.quiet;
       even = λ none. cc;
       remembers = λ none. cc;
-      collected = λ none. cc;
+      emptied = λ none. cc;
       has_left = λ known e. subst (λ (z : Config × DomainView). HasLeft z.0 known z.1) (λ j. (sym config j, sym says j)) (noted_left old.config known old.view b (is.has_left known e));
       fresh = λ e. subst (λ (z : Config × DomainView). IsFresh z.0 z.1) (λ j. (sym config j, sym says j)) (is.fresh e);
       knows_cut = λ known e. subst (KnowsCut known cut) (sym says) (is.knows_cut known e);

@@ -6,3 +6,4 @@ pub mod LeavingLemmas
 pub mod GoingLemmas
 pub mod ExactLemmas
 pub mod Turning
+pub mod PassingLemmas

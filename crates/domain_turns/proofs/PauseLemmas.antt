@@ -1,15 +1,13 @@
 -- What a domain keeps as it goes through the phases of a pause.
-use Rattle.std.proofs.Common.{◌≡◌, ◌≢◌, ◌∙◌, ℕ, ◌+◌, ◌*◌, ◌<◌, ◌⊎◌, Bool, false, true, List, Some, refl, sym, ap, subst, inl, inr, ⊎_elim, arith}
+use Rattle.std.proofs.Common.{◌≡◌, ◌≢◌, ◌∙◌, ℕ, ◌+◌, ◌*◌, ◌<◌, ◌⊎◌, true, List, refl, sym, ap, subst, inl, inr, ⊎_elim, arith}
 use mathlib.Core.Logic.{dite}
 use native.Mathlib.Decide.{ℕ_discrete}
 use Rattle.remembered_set.specs.Bounded.{Bounded}
-use Rattle.heap_model.specs.declared.entry.Entry.{Entry}
 use Rattle.heap_model.specs.declared.state.Mode.{Mode}
 use Rattle.heap_model.specs.declared.state.Mode.TheVariants.{Sealed, Answer as Answered}
 use Rattle.heap_model.specs.Domains.{domain_at}
 use Rattle.heap_model.specs.Fronts.{IsFrontOf}
 use Rattle.heap_model.proofs.Histories.FreshLemmas.{fresh_stays, fresh_after_answer}
-use Rattle.heap_model.proofs.Histories.FrontLemmas.{front_whole}
 use Rattle.heap_words.specs.declared.value.Value.{Value}
 use Rattle.heap_rule.specs.declared.config.Config.{Config}
 use Rattle.heap_rule.specs.declared.phase.Kind.{Kind}
@@ -23,8 +21,7 @@ use Rattle.heap_rule.specs.Phases.{Follows, Comes, IsEven, IsOdd}
 use Rattle.heap_rule.specs.Rule.{state_of}
 use Rattle.heap_rule.specs.Running.{RemembersAll}
 use Rattle.heap_rule.specs.Views.{voided}
-use Rattle.heap_rule.proofs.Controls.{parity}
-use Rattle.steps_pauses.specs.Pauses.{arrived_view, EndsWith, IsModeOf, entry_of}
+use Rattle.steps_pauses.specs.Pauses.{arrived_view, IsModeOf}
 use Rattle.steps_promote.specs.Promotion.{reset_view}
 use Rattle.promote_claim.specs.Sharing.{Unprepared}
 use Rattle.safepoint.specs.Looks.{Passed}
@@ -47,9 +44,8 @@ promote_run e = cc
 pub reset_run : Reset ≢ Run
 reset_run e = cc
 
-
 -- which kind lies before
-before_promote : (a : Kind) → Follows a Promote → a ≡ Run
+pub before_promote : (a : Kind) → Follows a Promote → a ≡ Run
 before_promote Run f = refl
 before_promote Promote f = let e : Promote ≡ Reset = f in cc
 before_promote Reset f = ⊎_elim (λ (e : Promote ≡ Run). cc) (λ (e : Promote ≡ Roots). cc) f
@@ -63,7 +59,7 @@ before_promote Lasts f = let e : Promote ≡ Sweep = f in cc
 before_promote Sweep f = ⊎_elim (λ (e : Promote ≡ Run). cc) (λ (e : Promote ≡ Answer). cc) f
 before_promote Answer f = let e : Promote ≡ Run = f in cc
 
-before_reset : (a : Kind) → Follows a Reset → a ≡ Promote
+pub before_reset : (a : Kind) → Follows a Reset → a ≡ Promote
 before_reset Run f = let e : Reset ≡ Promote = f in cc
 before_reset Promote f = refl
 before_reset Reset f = ⊎_elim (λ (e : Reset ≡ Run). cc) (λ (e : Reset ≡ Roots). cc) f
@@ -77,7 +73,7 @@ before_reset Lasts f = let e : Reset ≡ Sweep = f in cc
 before_reset Sweep f = ⊎_elim (λ (e : Reset ≡ Run). cc) (λ (e : Reset ≡ Answer). cc) f
 before_reset Answer f = let e : Reset ≡ Run = f in cc
 
-before_answer : (a : Kind) → Follows a Answer → a ≡ Sweep
+pub before_answer : (a : Kind) → Follows a Answer → a ≡ Sweep
 before_answer Run f = let e : Answer ≡ Promote = f in cc
 before_answer Promote f = let e : Answer ≡ Reset = f in cc
 before_answer Reset f = ⊎_elim (λ (e : Answer ≡ Run). cc) (λ (e : Answer ≡ Roots). cc) f
@@ -92,7 +88,7 @@ before_answer Sweep f = refl
 before_answer Answer f = let e : Answer ≡ Run = f in cc
 
 -- each other kind comes after one in which nothing lives in minor areas any more
-before_else : (a kind : Kind) → Follows a kind → kind ≢ Promote → kind ≢ Reset → IsEmptying a
+pub before_else : (a kind : Kind) → Follows a kind → kind ≢ Promote → kind ≢ Reset → IsEmptying a
 before_else Run kind f other _ = absurd (other f)
 before_else Promote kind f _ other = absurd (other f)
 before_else Reset kind f _ _ = (λ e. cc, λ e. cc)

@@ -37,7 +37,7 @@ take_next [] n c at = cc
 take_next (x ∷ xs) zero c at = let is : x ≡ c = cc in ap (λ (y : model.Command). y ∷ []) is
 take_next (x ∷ xs) (suc n) c at = ap (λ (ys : List model.Command). x ∷ ys) (take_next xs n c at)
 
-inside : (cs : List model.Command) (n : ℕ) (c : model.Command) → slice_get cs n ≡ Some c → n < length cs
+pub inside : (cs : List model.Command) (n : ℕ) (c : model.Command) → slice_get cs n ≡ Some c → n < length cs
 inside [] n c at = cc
 inside (x ∷ xs) zero c at = omega arith
 inside (x ∷ xs) (suc n) c at = let rest = inside xs n c at in omega arith
@@ -52,6 +52,13 @@ stood h old new (AllocMaj dst tag fields) collected r s = ⊎_elim (λ a. (false
 stood h old new (PutInt dst z) collected r s = (false, s)
 stood h old new c collected r s = (false, s)
 
+-- a run that has a next command goes on
+pub next_running : (r : RunView) → IsRun r → (c : model.Command) → slice_get r.commands r.next ≡ Some c → r.ended ≡ false
+next_running r is c at = by r.ended refl where
+  by : (b : Bool) → r.ended ≡ b → r.ended ≡ false
+  by false e = e
+  by true e = absurd (let done = is.done e in let below = inside r.commands r.next c at in let n : ℕ = r.next in omega arith)
+
 labels_few : (c : model.Command) (r : Reply) → labels_given c r ≤ 1
 labels_few (Alloc dst tag fields) (Block l) = omega arith
 labels_few (AllocMaj dst tag fields) (Block l) = omega arith
@@ -64,7 +71,7 @@ tried_between h old new c reply asked collected cut is t = record {
   quiet = quiet_as old.view new.view t.stays.copying (ap (λ (o : Own). o.pending) t.own) (ap (λ (o : Own). o.prepared) t.own) is.quiet;
   even = λ none. subst IsEven (sym t.stays.arrivals) (is.even none);
   remembers = λ _. t.runs.remembers;
-  collected = λ _ served. cc;
+  emptied = λ _ served. cc;
   has_left = λ known left. cc;
   fresh = λ e. cc;
   knows_cut = λ known left. cc;
@@ -78,7 +85,7 @@ ended_between h old new asked collected cut is t =
       quiet = quiet_as old.view new.view (ap (λ (x : DomainView). x.seen.copying) t.view) (ap (λ (x : DomainView). x.own.pending) t.view) (ap (λ (x : DomainView). x.own.prepared) t.view) is.quiet;
       even = λ none. subst IsEven (sym arrivals) (is.even none);
       remembers = λ none. ap (λ (x : DomainView). x.seen.remembered) t.view ∙ (is.remembers none ∙ sym (ap (λ (x : DomainView). x.own.remembered.items) t.view));
-      collected = λ none served. ap (λ (x : DomainView). x.own.used) t.view ∙ is.collected none (ap (served_since asked) (sym arrivals) ∙ served);
+      emptied = λ none served. ap (λ (x : DomainView). x.own.used) t.view ∙ is.emptied none (ap (served_since asked) (sym arrivals) ∙ served);
       has_left = λ known left. cc;
       fresh = λ e. cc;
       knows_cut = λ known left. cc;

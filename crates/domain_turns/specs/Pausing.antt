@@ -114,8 +114,7 @@ pub record LivesAs (k : Config) (x y : DomainView) (reply : Reply) : Type 0 wher
   pub words : ℕ
   pub reply_is : reply ≡ Live blocks words
   pub answers : Answers (sizes_in k) x.own.number x.seen.front y.seen.front (CommandOf x.own.number FullMajor false) (Replied reply)
-  pub view : y ≡ with_share (with_front x y.seen.front) y.seen.share
-  pub cut : y.seen.share ≡ record x.seen.share { blocks = y.seen.share.blocks; words = y.seen.share.words }
+  pub view : y ≡ with_share (with_front x y.seen.front) (record x.seen.share { blocks = Some blocks })
 
 -- and then it arrived, if it waited for one, or it arrived at once
 abbrev pub AnswersFrom : Config → DomainView → DomainView → Bool → Option Reply → Type 0

@@ -20,12 +20,13 @@ use Rattle.heap_rule.specs.declared.phase.Stage.{Stage}
 use Rattle.heap_rule.specs.declared.phase.Stage.TheVariants.{In, Leads, Gone}
 use Rattle.heap_rule.specs.declared.phase.Note.{Note}
 use Rattle.heap_rule.specs.declared.phase.Note.TheVariants.{Want, Asked, Barrier, Ended}
-use Rattle.heap_rule.specs.Phases.{IsEven, IsOdd, Follows, Comes}
+use Rattle.heap_rule.specs.Phases.{IsEven, IsOdd, Comes}
 use Rattle.heap_rule.specs.Copies.{nothing_copied}
 use Rattle.heap_rule.specs.Running.{RemembersAll}
 use Rattle.steps_pauses.specs.Pauses.{noted, arrived_view, cut_in, IsModeOf}
 use Rattle.heap_rule.specs.Rule.{state_of}
 use Rattle.safepoint.specs.Looks.{Passed, bit_of}
+use Rattle.safepoint.specs.declared.answer.Want as wish
 use Rattle.safepoint.specs.declared.answer.Want.TheVariants.{Full}
 use Rattle.domain_turns.specs.declared.turned.Turned.{Turned}
 use Rattle.domain_turns.specs.declared.turned.Turned.TheVariants.{Did, Waiting, Idle}
@@ -91,7 +92,7 @@ pub record IsBetween (left : Option Kind) (asked : Option ℕ) (collected cut : 
   pub quiet : IsQuiet t.view
   pub even : left ≡ None → IsEven t.view.own.arrivals
   pub remembers : left ≡ None → RemembersAll t.view
-  pub collected : left ≡ None → served_since asked t.view.own.arrivals ≡ true → t.view.own.used ≡ 0
+  pub emptied : left ≡ None → served_since asked t.view.own.arrivals ≡ true → t.view.own.used ≡ 0
   pub has_left : (known : Kind) → left ≡ Some known → HasLeft t.config known t.view
   pub fresh : collected ≡ true → IsFresh t.config t.view
   pub knows_cut : (known : Kind) → left ≡ Some known → KnowsCut known cut t.view
@@ -154,6 +155,13 @@ pub record AsksFull (h : SharedHeap) (start : Token) (old new : RunView) : Type 
   pub searched : Token
   pub refused : Refused h start searched command old.collected
   pub run : new ≡ record old { token = record searched { view = noted searched.view (Asked (bit_of Full)) }; asked = Some old.token.view.own.arrivals }
+
+-- what the try of the next command came to: it was made, a pause that it needs must come first, or it was refused and a complete collection must
+abbrev pub TrialAnswers : SharedHeap → RunView → RunView → model.Command → Option wish.Want → Type 0
+TrialAnswers h old new c None = TriesCommand h old.token old new c
+TrialAnswers h old new c (Some want) =
+    ((new ≡ old) × NeedsPause h.config old.token.view.own (served_since old.asked old.token.view.own.arrivals) c × (want ≡ wish_of c))
+    ⊎ ((new ≡ record old { token = new.token }) × Refused h old.token new.token c old.collected × (NeedsPause h.config old.token.view.own (served_since old.asked old.token.view.own.arrivals) c → ⊥) × (want ≡ Full))
 
 -- the token whose domain has noted one thing more
 abbrev pub noted_token : Token → Note → Token

@@ -110,7 +110,12 @@ fn alloc_in_pools(
 {
     match alloc_major(heap, dom, dst, tag, fields) {
         Ok(label) => Attempt::Made(Reply::Block(label)),
-        Err(_none) => refuse(heap, dom, &Command::AllocMaj { dst, tag, fields }, collected),
+        Err(_none) => refuse(
+            heap,
+            dom,
+            &Command::AllocMaj { dst, tag, fields },
+            collected,
+        ),
     }
 }
 

@@ -157,6 +157,7 @@ pub(crate) fn pass(
     hints: &mut Hints,
 ) -> Past
     requires here { IsIn dom.old heap.now }
+    requires inside { dom.old.view.own.number < heap.now.config.domains }
     requires gone { dom.old.view.seen.stage ≡ Gone last }
     requires at_rest { dom.old.view.seen.hunt ≡ Rests }
     requires idle { dom.old.view.seen.made ≡ [] }

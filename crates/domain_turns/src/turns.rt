@@ -5,15 +5,17 @@ ghost use Rattle.heap_rule.specs.declared.phase.Kind.TheVariants.{Run};
 ghost use Rattle.steps_pauses.specs.Pauses.{noted, arrived_view};
 ghost use Rattle.heap_rule.specs.Running.{Runs};
 ghost use Rattle.heap_rule.specs.Token.{IsIn};
-ghost use Rattle.domain_turns.specs.Runs.{HasEnded, EndsTrace, TriesCommand, RunAnswers, TurnAnswers, RestAnswers, CalmAnswers, Asks, GoesOn, CalmDid, served_since, noted_token};
-ghost use Rattle.domain_turns.specs.Tries.{NeedsMinor};
+ghost use Rattle.heap_model.specs.declared.command.Command.TheVariants.{FullMajor};
+ghost use Rattle.safepoint.specs.Looks.{bit_of};
+ghost use Rattle.domain_turns.specs.Runs.{HasEnded, EndsTrace, RunAnswers, TurnAnswers, RestAnswers, CalmAnswers, GoesOn, CalmDid, TrialAnswers, served_since, noted_token};
 ghost use Rattle.domain_turns.specs.Past.{PastAnswers};
 ghost use Rattle.domain_turns.specs.declared.turned.Turned as turned;
 
-use crate::command::try_command;
+use crate::command::{Attempt, try_command};
 use crate::passing::{Past, left_after, pass};
 use crate::run::DomainRun;
 use crate::turned::Turned;
+use cycle_phases::cut_after;
 use heap_model::command::Command;
 use heap_rule::{Domain, Heap, Kind};
 use safepoint::{Want, arrive, ask, wants};
@@ -227,14 +229,18 @@ fn turn_on(heap: &Heap, run: &mut DomainRun) -> Turned
 }
 
 /// Takes a domain one step further: tries its next command, does its share of the phase that has
-/// begun, arrives, asks for a pause, or ends its trace. It arrives at most once, and never waits. An
-/// allocation is answered `full` exactly where fewer pools are free than promotion may need for a young
-/// block, or where no pool is to be had for a block of the major heap.
+/// begun, arrives, asks for a pause, or ends its trace. It arrives at most once, and never waits.
 ///
-/// It asks for a collection of young blocks, and tries the command in another turn, exactly where the
-/// next command is `minor` and no pause has served it, where it allocates a young block for which the
-/// minor area has no room, or where it stores and no more field can be remembered. A domain that runs
-/// again after a pause has an empty minor area, remembers no field, and holds no address of a minor area.
+/// It asks for a collection of young blocks exactly where the next command is `minor` and no pause has
+/// served it, where it allocates a young block for which the minor area has no room, or where it stores
+/// and no more field can be remembered; for one of the major heap where it is `major` and no pause has
+/// served it; and for a complete one where it is `full_major`, or where it is an allocation that is
+/// refused in this turn. One for a young block is refused exactly where fewer pools are free than
+/// promotion may need, and one for the major heap exactly where no pool is to be had. It is answered
+/// `full` instead where a complete collection has come since it was first tried, and no pause after that.
+///
+/// A `full_major` is answered in the pause, as the collection is. A domain that runs again after a pause
+/// has an empty minor area, remembers no field, and holds no address of a minor area.
 pub fn turn(heap: &Heap, run: &mut DomainRun) -> Turned
     requires here { IsIn run.old.token heap.now }
     requires few { run.old.token.view.own.arrivals < 2 ^ 60 }

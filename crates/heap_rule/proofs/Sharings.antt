@@ -136,13 +136,13 @@ leading_words c words words' d stage share same l = record {
 pub knowing_words : (k : Config) (live : Live) (holder : ℕ → Holder) (graph : Graph) (marks : Marks) (words words' : List ℕ) (d : ℕ) (registers : List Value) (share : Share) → ((a : ℕ) → at_address k words' a ≡ at_address k words a)
     → Knowing k live holder graph marks words d registers share → Knowing k live holder graph marks words' d registers share
 knowing_words k live holder graph marks words words' d registers share heap n = record {
-  glimpse = λ g p e lives. ⊎_elim (λ (h : at_address k words g.address ≡ g.word). inl (heap g.address ∙ h)) (λ h. inr h) (n.glimpse g p e lives);
+  found_head = λ g p e lives. ⊎_elim (λ (h : at_address k words g.address ≡ g.word). inl (heap g.address ∙ h)) (λ h. inr h) (n.found_head g p e lives);
   scan = n.scan;
   walked = n.walked;
-  tenure = n.tenure;
+  own_pool = n.own_pool;
   rooted = n.rooted;
   marked = n.marked;
-  tally = n.tally;
+  counted = n.counted;
   held = n.held;
   vacant = λ class slot own inside low. heap (place_in share.held class slot) ∙ n.vacant class slot own inside low;
 }

@@ -28,11 +28,11 @@ use Rattle.heap_rule.specs.declared.phase.Kind.{Kind}
 use Rattle.heap_rule.specs.declared.phase.Kind.TheVariants.{Run, Promote, Reset, Roots, Mark, Rounds, Decide, Queued, Clean, Lasts, Sweep, Answer}
 use Rattle.heap_rule.specs.declared.phase.Stage.{Stage}
 use Rattle.heap_rule.specs.declared.phase.Stage.TheVariants.{In, Leads}
-use Rattle.heap_rule.specs.declared.view.Glimpse.{Glimpse}
+use Rattle.heap_rule.specs.declared.view.FoundHead.{FoundHead}
 use Rattle.heap_rule.specs.declared.view.Scan.{Scan}
 use Rattle.heap_rule.specs.declared.view.Scan.TheVariants.{Idle, Reads, Holds}
 use Rattle.heap_rule.specs.declared.view.Share.{Share}
-use Rattle.heap_rule.specs.declared.view.Tenure.{Tenure}
+use Rattle.heap_rule.specs.declared.view.OwnPool.{OwnPool}
 use Rattle.heap_rule.specs.Changes.{value_at}
 use Rattle.heap_rule.specs.Layout.{at_address, armed, colours, changed_word, live_blocks, live_words}
 use Rattle.heap_rule.specs.Phases.{Pause, flag}
@@ -257,7 +257,7 @@ IsIdle share = share ≡ record fresh_share { colours = share.colours; changed =
 -- Cycle, of one domain: until it arrives its view tells its share, and then it has forgotten it. Domain 0 alone knows of the colours in an odd phase
 pub record Telling (means : Colours) (w : Shares) (d : ℕ) (share : Share) : Type 0 where
   pub owes : w.arrived d ≡ false → w.owes d ≡ share.owes
-  pub seen : w.arrived d ≡ false → w.seen d ≡ seen_by share.sights
+  pub seen : w.arrived d ≡ false → w.seen d ≡ seen_by share.places_seen
   pub fresh : w.arrived d ≡ true → IsIdle share
   pub forgotten : w.arrived d ≡ true → d ≢ 0 → share.colours ≡ None
   pub colours : (known : Colours) → share.colours ≡ Some known → known ≡ means
@@ -313,24 +313,24 @@ abbrev pub IsMarkedAt : Live → (Label → Bool) → ℕ → Type 0
 IsMarkedAt live marked a = (p : Place) × (live a ≡ Some p) × IsTrue (marked p.label)
 
 -- the own blocks that a domain has counted: each once, all up to a place of the pools, and so many words
-pub record Tallied (k : Config) (live : Live) (holder : ℕ → Holder) (d : ℕ) (share : Share) : Type 0 where
-  pub once : (i j a : ℕ) → slice_get share.tally i ≡ Some a → slice_get share.tally j ≡ Some a → i ≡ j
-  pub own : (a : ℕ) → IsTrue (seen_by share.tally a) → (q : ℕ) × (c : ℕ) × (slot : ℕ) × (holder q ≡ owned d c) × (slot < blocks_of c) × IsBefore q slot share.tallied × (a ≡ place_in q c slot)
-  pub lives : (a : ℕ) → IsTrue (seen_by share.tally a) → (p : Place) × (live a ≡ Some p)
-  pub all : (q c slot : ℕ) (p : Place) → holder q ≡ owned d c → slot < blocks_of c → IsBefore q slot share.tallied → live (place_in q c slot) ≡ Some p → IsTrue (seen_by share.tally (place_in q c slot))
-  pub words : share.tally_words ≡ sum_by (λ a. extent_in (live a)) share.tally
+pub record HasCounted (k : Config) (live : Live) (holder : ℕ → Holder) (d : ℕ) (share : Share) : Type 0 where
+  pub once : (i j a : ℕ) → slice_get share.counted i ≡ Some a → slice_get share.counted j ≡ Some a → i ≡ j
+  pub own : (a : ℕ) → IsTrue (seen_by share.counted a) → (q : ℕ) × (c : ℕ) × (slot : ℕ) × (holder q ≡ owned d c) × (slot < blocks_of c) × IsBefore q slot share.counted_to × (a ≡ place_in q c slot)
+  pub lives : (a : ℕ) → IsTrue (seen_by share.counted a) → (p : Place) × (live a ≡ Some p)
+  pub all : (q c slot : ℕ) (p : Place) → holder q ≡ owned d c → slot < blocks_of c → IsBefore q slot share.counted_to → live (place_in q c slot) ≡ Some p → IsTrue (seen_by share.counted (place_in q c slot))
+  pub words : share.counted_words ≡ sum_by (λ a. extent_in (live a)) share.counted
 
 -- What a domain knows of blocks in a phase: the head that it found is still there, or its block was marked since; it has been at its own
 -- places as far as it has walked; the blocks of the registers and of the list that it has looked at are marked; what it has
 -- counted is its own; and the own pools as far as it has looked hold blocks, and the first places of the next one are free
 pub record Knowing (k : Config) (live : Live) (holder : ℕ → Holder) (graph : Graph) (marks : Marks) (words : List ℕ) (d : ℕ) (registers : List held.Value) (share : Share) : Type 0 where
-  pub glimpse : (g : Glimpse) (p : Place) → share.glimpse ≡ Some g → live g.address ≡ Some p → (at_address k words g.address ≡ g.word) ⊎ IsTrue (marks.marked p.label)
+  pub found_head : (g : FoundHead) (p : Place) → share.found_head ≡ Some g → live g.address ≡ Some p → (at_address k words g.address ≡ g.word) ⊎ IsTrue (marks.marked p.label)
   pub scan : Scans live graph marks share.scan
-  pub walked : (q c slot : ℕ) → holder q ≡ owned d c → slot < blocks_of c → IsBefore q slot share.walk → IsTrue (seen_by share.sights (place_in q c slot))
-  pub tenure : (t : Tenure) → share.tenure ≡ Some t → holder t.pool ≡ owned d t.class
+  pub walked : (q c slot : ℕ) → holder q ≡ owned d c → slot < blocks_of c → IsBefore q slot share.walk → IsTrue (seen_by share.places_seen (place_in q c slot))
+  pub own_pool : (t : OwnPool) → share.own_pool ≡ Some t → holder t.pool ≡ owned d t.class
   pub rooted : (r a : ℕ) (p : Place) → IsTrue (list_any (λ q. q == r) share.roots) → value_at registers r ≡ Ref a → live a ≡ Some p → IsTrue (marks.marked p.label)
   pub marked : (a : ℕ) → IsTrue (seen_by share.marked a) → IsMarkedAt live marks.marked a
-  pub tally : Tallied k live holder d share
+  pub counted : HasCounted k live holder d share
   pub held : (q class : ℕ) → holder q ≡ owned d class → q < share.held → HoldsBlock live q class
   pub vacant : (class slot : ℕ) → holder share.held ≡ owned d class → slot < blocks_of class → slot < share.vacant → at_address k words (place_in share.held class slot) ≡ 0
 
@@ -338,7 +338,7 @@ pub record Knowing (k : Config) (live : Live) (holder : ℕ → Holder) (graph :
 pub record Adds (live : Live) (c : Cycling) (d : ℕ) (share : Share) : Type 0 where
   pub blocks : c.kind ≡ Sweep → c.shares.arrived d ≡ false → c.counts.blocks d ≡ share.added_blocks
   pub words : c.kind ≡ Sweep → c.shares.arrived d ≡ false → c.counts.words d ≡ share.added_words
-  pub own : c.kind ≡ Sweep → c.shares.arrived d ≡ false → share.added_blocks ≡ true → c.counts.own d ≡ labels_in live share.tally
+  pub own : c.kind ≡ Sweep → c.shares.arrived d ≡ false → share.added_blocks ≡ true → c.counts.own d ≡ labels_in live share.counted
 
 -- no collection of the major heap is under way in a phase of this kind
 abbrev pub HasNoCycle : Kind → Type 0

@@ -135,13 +135,13 @@ pub struct Copying {
 }
 
 /// A head that a domain found.
-pub struct Glimpse {
+pub struct FoundHead {
     pub address: u32,
     pub word: u64,
 }
 
 /// A pool, and the class of its blocks.
-pub struct Tenure {
+pub struct OwnPool {
     pub pool: u32,
     pub class: u32,
 }
@@ -182,22 +182,22 @@ pub struct Share {
     /// Whether it has still to store that it darkened a block.
     pub owes: bool,
     /// The own places at which it has found what the phase asks.
-    pub sights: LinkedList<u32>,
+    pub places_seen: LinkedList<u32>,
     /// The head that it found last.
-    pub glimpse: Option<Glimpse>,
+    pub found_head: Option<FoundHead>,
     pub scan: Scan,
     /// The place of the pools before which it has been at each own place.
     pub walk: Spot,
     /// A pool that is its own.
-    pub tenure: Option<Tenure>,
+    pub own_pool: Option<OwnPool>,
     /// The registers whose blocks are marked.
     pub roots: LinkedList<u8>,
     /// Blocks that are marked.
     pub marked: LinkedList<u32>,
     /// The own blocks that it has counted, up to this place of the pools, and the words that they have.
-    pub tally: LinkedList<u32>,
-    pub tallied: Spot,
-    pub tally_words: u64,
+    pub counted: LinkedList<u32>,
+    pub counted_to: Spot,
+    pub counted_words: u64,
     /// Whether it has added them to the live blocks, and to the live words.
     pub added_blocks: bool,
     pub added_words: bool,

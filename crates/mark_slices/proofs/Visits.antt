@@ -14,7 +14,7 @@ use Rattle.heap_rule.specs.declared.view.Scan.{Scan}
 use Rattle.heap_rule.specs.declared.view.Scan.TheVariants.{Idle, Reads}
 use Rattle.heap_rule.specs.Places.{IsBuilt, head_of}
 use Rattle.steps_cycle.specs.Looks.{with_share}
-use Rattle.steps_cycle.specs.Marking.{Anywhere, GreyTold, IsGrey, IsScanned, IsUnmarked, LiesAt, MarkTold, Next, ScannedMay, ScannedTold, Site, begun, behind, fields_in, sights_on, walk_on}
+use Rattle.steps_cycle.specs.Marking.{Anywhere, GreyTold, IsGrey, IsScanned, IsUnmarked, LiesAt, MarkTold, Next, ScannedMay, ScannedTold, Site, begun, behind, fields_in, places_seen_on, walk_on}
 use Rattle.mark_slices.specs.Heads.{IsScanOf}
 use Rattle.mark_slices.specs.Shares.{Begun, Marks, Noted, ScannedAt, Walked, fields_to, scanning}
 use Rattle.mark_slices.proofs.Exchanges.{not_both, one_head, one_meaning}
@@ -73,7 +73,7 @@ pub mark_begins : (x y : DomainView) (colours : Colours) (at pool class slot wor
 mark_begins x y colours at pool class slot word fields new p m t s =
     let same : t.colours ≡ colours = one_meaning x.seen.share.colours colours t.colours m.known t.known in
     ⊎_elim
-    (λ (q : ((word ≡ 0) ⊎ (IsUnmarked t.colours word ⊎ IsScanned t.colours word)) × (y ≡ with_share x (record x.seen.share { sights = at ∷ x.seen.share.sights; walk = behind pool class slot }))).
+    (λ (q : ((word ≡ 0) ⊎ (IsUnmarked t.colours word ⊎ IsScanned t.colours word)) × (y ≡ with_share x (record x.seen.share { places_seen = at ∷ x.seen.share.places_seen; walk = behind pool class slot }))).
     absurd (not_passed colours word p s.grey (subst (λ (c : Colours). (word ≡ 0) ⊎ (IsUnmarked c word ⊎ IsScanned c word)) same q.0)))
     (λ (q : (grey : IsGrey t.colours word) × (y ≡ with_share x (begun at grey.block.shape word x.seen.share))). begins_of x y colours t.colours at word fields new s same q)
     t.told
@@ -88,7 +88,7 @@ grey_begins x y colours at word fields new p m t s =
     t.told
 
 -- the block still lies where it lay when its fields are scanned
-lies_still : (site : Site) (y v : DomainView) (at : ℕ) → v.seen.share.tenure ≡ y.seen.share.tenure → v.seen.share.walk ≡ y.seen.share.walk → LiesAt site y at → LiesAt site v at
+lies_still : (site : Site) (y v : DomainView) (at : ℕ) → v.seen.share.own_pool ≡ y.seen.share.own_pool → v.seen.share.walk ≡ y.seen.share.walk → LiesAt site y at → LiesAt site v at
 lies_still Anywhere y v at own next l = tt
 lies_still (Next pool class slot) y v at own next l = record { own = own ∙ l.own; inside = l.inside; begins = l.begins; next = next ∙ l.next }
 
@@ -105,11 +105,11 @@ module _ (y v : DomainView) (at fields new : ℕ) (won : Bool) (site : Site) (e 
     shape = b.grey.grey.block.shape;
     head = b.grey.grey.block.head;
     marks = b.grey.marks;
-    lies = lies_still site y v at (ap (λ (u : DomainView). u.seen.share.tenure) e) (ap (λ (u : DomainView). u.seen.share.walk) e) l;
+    lies = lies_still site y v at (ap (λ (u : DomainView). u.seen.share.own_pool) e) (ap (λ (u : DomainView). u.seen.share.walk) e) l;
   }
 
   pub block_done : (z : DomainView) → ScannedTold at site v new z → ScannedAt site at won y z
-  block_done z told = subst (ScannedAt site at won y) (sym (told ∙ ap (λ (u : DomainView). with_share u (record u.seen.share { scan = Idle; sights = sights_on site at u.seen.share.sights; walk = walk_on site u.seen.share.walk })) e)) refl
+  block_done z told = subst (ScannedAt site at won y) (sym (told ∙ ap (λ (u : DomainView). with_share u (record u.seen.share { scan = Idle; places_seen = places_seen_on site at u.seen.share.places_seen; walk = walk_on site u.seen.share.walk })) e)) refl
 
 -- the block was grey, and is scanned
 module _ (x y : DomainView) (colours : Colours) (at word fields new : ℕ) (m : Marks colours x) (s : IsScanOf colours word fields new) (e : y ≡ with_share x (record x.seen.share { scan = Reads at 0 fields word })) where
@@ -118,25 +118,25 @@ module _ (x y : DomainView) (colours : Colours) (at word fields new : ℕ) (m : 
     ap (λ (u : DomainView). u.seen.stage) e ∙ m.stage,
     ap (λ (u : DomainView). u.seen.share.colours) e ∙ m.known,
     record { word = word; scan = ap (λ (u : DomainView). u.seen.share.scan) e; grey = s },
-    lies_still site x y at (ap (λ (u : DomainView). u.seen.share.tenure) e) (ap (λ (u : DomainView). u.seen.share.walk) e) l,
+    lies_still site x y at (ap (λ (u : DomainView). u.seen.share.own_pool) e) (ap (λ (u : DomainView). u.seen.share.walk) e) l,
     subst (λ (l : List ℕ). Noted k l items) (sym (ap (λ (u : DomainView). u.seen.share.marked) e)) n,
   )
 
   module _ (z : DomainView) (won : Bool) (site : Site) (d : ScannedAt site at won y z) where
-    scanned_view : z ≡ with_share x (record (scanning x.seen.share z.seen.share x.seen.share.scan won) { sights = sights_on site at x.seen.share.sights; walk = walk_on site x.seen.share.walk })
-    scanned_view = d ∙ ap (λ (u : DomainView). with_share u (record (scanning u.seen.share z.seen.share Idle won) { sights = sights_on site at u.seen.share.sights; walk = walk_on site u.seen.share.walk })) e
-        ∙ ap (λ (n : Scan). with_share x (record (scanning x.seen.share z.seen.share n won) { sights = sights_on site at x.seen.share.sights; walk = walk_on site x.seen.share.walk })) (sym m.idle)
+    scanned_view : z ≡ with_share x (record (scanning x.seen.share z.seen.share x.seen.share.scan won) { places_seen = places_seen_on site at x.seen.share.places_seen; walk = walk_on site x.seen.share.walk })
+    scanned_view = d ∙ ap (λ (u : DomainView). with_share u (record (scanning u.seen.share z.seen.share Idle won) { places_seen = places_seen_on site at u.seen.share.places_seen; walk = walk_on site u.seen.share.walk })) e
+        ∙ ap (λ (n : Scan). with_share x (record (scanning x.seen.share z.seen.share n won) { places_seen = places_seen_on site at x.seen.share.places_seen; walk = walk_on site x.seen.share.walk })) (sym m.idle)
 
     pub site_walked : Walked (walk_on site x.seen.share.walk) won x z
     site_walked = subst (Walked (walk_on site x.seen.share.walk) won x) (sym scanned_view) record { view = refl }
 
-    pub tenure_stays : z.seen.share.tenure ≡ x.seen.share.tenure
-    tenure_stays = ap (λ (u : DomainView). u.seen.share.tenure) scanned_view
+    pub own_pool_stays : z.seen.share.own_pool ≡ x.seen.share.own_pool
+    own_pool_stays = ap (λ (u : DomainView). u.seen.share.own_pool) scanned_view
 
 -- a look leaves what is known to be marked
 pub mark_stays : (x y : DomainView) (at pool class slot word : ℕ) → MarkTold at pool class slot x word y → y.seen.share.marked ≡ x.seen.share.marked
 mark_stays x y at pool class slot word t = ⊎_elim
-    (λ (q : ((word ≡ 0) ⊎ (IsUnmarked t.colours word ⊎ IsScanned t.colours word)) × (y ≡ with_share x (record x.seen.share { sights = at ∷ x.seen.share.sights; walk = behind pool class slot }))). ap (λ (u : DomainView). u.seen.share.marked) q.1)
+    (λ (q : ((word ≡ 0) ⊎ (IsUnmarked t.colours word ⊎ IsScanned t.colours word)) × (y ≡ with_share x (record x.seen.share { places_seen = at ∷ x.seen.share.places_seen; walk = behind pool class slot }))). ap (λ (u : DomainView). u.seen.share.marked) q.1)
     (λ (q : (grey : IsGrey t.colours word) × (y ≡ with_share x (begun at grey.block.shape word x.seen.share))). ap (λ (u : DomainView). u.seen.share.marked) q.1)
     t.told
 

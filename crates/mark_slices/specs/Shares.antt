@@ -19,7 +19,7 @@ use Rattle.heap_rule.specs.Changes.{value_at}
 use Rattle.heap_rule.specs.Cycles.{seen_by}
 use Rattle.heap_rule.specs.Pools.{blocks_of, owned, owner_word}
 use Rattle.steps_cycle.specs.Looks.{with_share}
-use Rattle.steps_cycle.specs.Marking.{IsDarkening, Reason, Site, Warrants, moved_on, owes_on, sights_on, walk_on}
+use Rattle.steps_cycle.specs.Marking.{IsDarkening, Reason, Site, Warrants, moved_on, owes_on, places_seen_on, walk_on}
 use Rattle.mark_slices.specs.declared.hints.TheConstants.{HINTS_ROOM}
 use Rattle.mark_slices.specs.Heads.{IsScanOf}
 
@@ -46,7 +46,7 @@ IsRoot x r = IsTrue (list_any (λ q. q == r) x.seen.share.roots)
 
 -- the domain with what it knows of the colours, of the head that it found last, and of the blocks that are marked as another has it
 abbrev pub with_roots : DomainView → DomainView → DomainView
-with_roots x y = with_share x (record x.seen.share { colours = y.seen.share.colours; glimpse = y.seen.share.glimpse; roots = y.seen.share.roots; marked = y.seen.share.marked })
+with_roots x y = with_share x (record x.seen.share { colours = y.seen.share.colours; found_head = y.seen.share.found_head; roots = y.seen.share.roots; marked = y.seen.share.marked })
 
 -- the domain is done with a register, and with those with which it was before
 pub record Rooted (register : ℕ) (x y : DomainView) : Type 0 where
@@ -71,7 +71,7 @@ fields_to i other = other
 
 -- what a domain knows after fields were scanned, by what another knows: who has darkened a block owes a store of the changed word
 abbrev pub scanning : Share → Share → Scan → Bool → Share
-scanning s t scan won = record s { glimpse = t.glimpse; scan = scan; marked = t.marked; owes = cond won true s.owes }
+scanning s t scan won = record s { found_head = t.found_head; scan = scan; marked = t.marked; owes = cond won true s.owes }
 
 -- a grey block's scan has begun: so many of its fields are to be scanned, and then its head is to be this word
 pub record Begun (colours : Colours) (at fields new : ℕ) (x : DomainView) : Type 0 where
@@ -81,7 +81,7 @@ pub record Begun (colours : Colours) (at fields new : ℕ) (x : DomainView) : Ty
 
 -- it has ended, and who has darkened a block owes a store of the changed word
 abbrev pub ScannedAt : Site → ℕ → Bool → DomainView → DomainView → Type 0
-ScannedAt site at won x y = y ≡ with_share x (record (scanning x.seen.share y.seen.share Idle won) { sights = sights_on site at x.seen.share.sights; walk = walk_on site x.seen.share.walk })
+ScannedAt site at won x y = y ≡ with_share x (record (scanning x.seen.share y.seen.share Idle won) { places_seen = places_seen_on site at x.seen.share.places_seen; walk = walk_on site x.seen.share.walk })
 
 -- the addresses of blocks of the pools, each of which is known to be marked
 abbrev pub Noted : Config → List ℕ → List ℕ → Type 0
@@ -107,11 +107,11 @@ spot_from pool class seen = if nat_le (blocks_of class) seen then record { pool 
 
 -- the walk has come to a place. Where the domain has darkened a block it owes a store of the changed word
 pub record Walked (walk : Spot) (won : Bool) (x y : DomainView) : Type 0 where
-  pub view : y ≡ with_share x (record x.seen.share { glimpse = y.seen.share.glimpse; marked = y.seen.share.marked; owes = cond won true x.seen.share.owes; sights = y.seen.share.sights; walk = walk; tenure = y.seen.share.tenure })
+  pub view : y ≡ with_share x (record x.seen.share { found_head = y.seen.share.found_head; marked = y.seen.share.marked; owes = cond won true x.seen.share.owes; places_seen = y.seen.share.places_seen; walk = walk; own_pool = y.seen.share.own_pool })
 
 -- the domain with what it knows of the colours, of blocks and of its places as another has it
 abbrev pub with_marks : DomainView → DomainView → DomainView
-with_marks x y = with_share x (record x.seen.share { colours = y.seen.share.colours; glimpse = y.seen.share.glimpse; marked = y.seen.share.marked; sights = y.seen.share.sights; walk = y.seen.share.walk; tenure = y.seen.share.tenure })
+with_marks x y = with_share x (record x.seen.share { colours = y.seen.share.colours; found_head = y.seen.share.found_head; marked = y.seen.share.marked; places_seen = y.seen.share.places_seen; walk = y.seen.share.walk; own_pool = y.seen.share.own_pool })
 
 -- the domain has been at each place of its own pools, and owes no store of the changed word. Nothing else has changed
 pub record AllWalked (k : Config) (x y : DomainView) : Type 0 where

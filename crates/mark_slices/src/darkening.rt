@@ -9,7 +9,7 @@ ghost use Rattle.mark_slices.specs.Shares.{Darkens, darkened};
 use crate::heads::darkened_head;
 use heap_rule::{Domain, Heap};
 use heap_words::Colours;
-use steps_cycle::{darken_exchange, glimpse_load};
+use steps_cycle::{darken_exchange, target_load};
 
 // Marks the block at `at`, for which there is a reason. Answers whether this domain has marked it,
 // and not another before.
@@ -22,7 +22,7 @@ pub(crate) fn darken(heap: &Heap, dom: &mut Domain, at: u32, colours: Colours) -
     ensures here { IsIn dom.new heap.now }
     ensures darkened { dom.new.view ≡ darkened reason at result dom.old.view }
 {
-    let word = glimpse_load(heap, dom, at);
+    let word = target_load(heap, dom, at);
     let Some(new) = darkened_head(word, colours) else {
         return false;
     };

@@ -23,7 +23,7 @@ fn follow(heap: &Heap, dom: &mut Domain, at: u32, colours: Colours, hints: &mut 
     requires noted { Noted heap.now.config dom.old.view.seen.share.marked hints.old.items }
     ensures here { IsIn dom.new heap.now }
     ensures walked { Walked dom.old.view.seen.share.walk result dom.old.view dom.new.view }
-    ensures own { dom.new.view.seen.share.tenure ≡ dom.old.view.seen.share.tenure }
+    ensures own { dom.new.view.seen.share.own_pool ≡ dom.old.view.seen.share.own_pool }
     ensures noted { Noted heap.now.config dom.new.view.seen.share.marked hints.new.items }
     ensures long { IsAsLong hints.old hints.new }
 {
@@ -42,7 +42,7 @@ pub(crate) fn follow_all(heap: &Heap, dom: &mut Domain, colours: Colours, hints:
     requires noted { Noted heap.now.config dom.old.view.seen.share.marked hints.old.items }
     ensures here { IsIn dom.new heap.now }
     ensures walked { Walked dom.old.view.seen.share.walk result dom.old.view dom.new.view }
-    ensures own { dom.new.view.seen.share.tenure ≡ dom.old.view.seen.share.tenure }
+    ensures own { dom.new.view.seen.share.own_pool ≡ dom.old.view.seen.share.own_pool }
     ensures none { hints.new.items ≡ [] }
     ensures long { IsAsLong hints.old hints.new }
 {

@@ -34,13 +34,13 @@ fn mark_place(
     requires pool { pool < heap.now.config.pools }
     requires class { class < class_count }
     requires slot { slot < blocks_of class }
-    requires own { dom.old.view.seen.share.tenure ≡ Some (record { pool = pool; class = class }) }
+    requires own { dom.old.view.seen.share.own_pool ≡ Some (record { pool = pool; class = class }) }
     requires next { dom.old.view.seen.share.walk ≡ record { pool = pool; slot = slot } }
     requires site { site ≡ Next pool class slot }
     requires noted { Noted heap.now.config dom.old.view.seen.share.marked hints.old.items }
     ensures here { IsIn dom.new heap.now }
     ensures walked { Walked (behind pool class slot) result dom.old.view dom.new.view }
-    ensures own { dom.new.view.seen.share.tenure ≡ dom.old.view.seen.share.tenure }
+    ensures own { dom.new.view.seen.share.own_pool ≡ dom.old.view.seen.share.own_pool }
     ensures noted { Noted heap.now.config dom.new.view.seen.share.marked hints.new.items }
     ensures long { IsAsLong hints.old hints.new }
 {
@@ -67,7 +67,7 @@ pub(crate) fn mark_pool(
     requires meanings { IsPermutation colours }
     requires pool { pool < heap.now.config.pools }
     requires class { class < class_count }
-    requires own { dom.old.view.seen.share.tenure ≡ Some (record { pool = pool; class = class }) }
+    requires own { dom.old.view.seen.share.own_pool ≡ Some (record { pool = pool; class = class }) }
     requires next { dom.old.view.seen.share.walk ≡ record { pool = pool; slot = 0 } }
     requires none { hints.old.items ≡ [] }
     ensures here { IsIn dom.new heap.now }

@@ -6,9 +6,9 @@ use heap_rule::Kind;
 pub enum Want {
     /// A minor collection.
     Minor,
-    /// The start of a cycle of marking.
+    /// A collection of the major heap.
     Cycle,
-    /// The end of a cycle under way.
+    /// The end of a collection that is under way beside running domains. Nobody asks for it yet.
     Finish,
     /// A complete collection.
     Full,

@@ -38,7 +38,7 @@ use Rattle.heap_rule.proofs.Keeps.{Words, mine, my_good, unmoved}
 use Rattle.steps_cycle.specs.Looks.{with_share}
 use Rattle.steps_cycle.specs.Marking.{DarkenMay, DarkenTold, IsDarkening, Reason, moved_on, owes_on}
 use Rattle.steps_cycle.proofs.Colouring.{BareHead, Recolourable, bare_head, unmarked_by, words_same}
-use Rattle.steps_cycle.proofs.GlimpseSteps.{goes_on}
+use Rattle.steps_cycle.proofs.TargetSteps.{goes_on}
 use Rattle.steps_cycle.proofs.Layouts.{label_there, owner_of_place}
 use Rattle.steps_cycle.proofs.Learning.{at_other, at_same, bare, held, kind_here, known, lies_old, waits_in}
 use Rattle.steps_cycle.proofs.Recolouring.{Recolours, known_still, recolours}
@@ -126,7 +126,7 @@ module _ (k : Config) (s : Words) (r : Rule k s) (id : ℕ) (hist : List Entry) 
   -- where another head is found somebody has darkened the block
   lost_rule : at_address k s.words a ≢ old → Rule k record { words = s.words; homes = s.homes; views = set s.views id (one k hist (with_share x (moved_on reason a x.seen.share))) }
   lost_rule differ = goes_on k s r id hist x at collecting reason a may.reason_is p aim.lives
-      (⊎_elim (λ (e : at_address k s.words a ≡ old). absurd (differ e)) (λ (e : IsTrue (m.marked p.label)). e) ((known k s r id hist x at).glimpse (record { address = a; word = old }) p may.found aim.lives))
+      (⊎_elim (λ (e : at_address k s.words a ≡ old). absurd (differ e)) (λ (e : IsTrue (m.marked p.label)). e) ((known k s r id hist x at).found_head (record { address = a; word = old }) p may.found aim.lives))
 
   -- the head that was found is that of an unmarked block
   module _ (won : at_address k s.words a ≡ old) where

@@ -15,11 +15,11 @@ use Rattle.heap_rule.specs.declared.phase.Kind.TheVariants.{Run, Promote}
 use Rattle.heap_rule.specs.declared.phase.Stage.{Stage}
 use Rattle.heap_rule.specs.declared.phase.Stage.TheVariants.{In, Leads, Led, Gone}
 use Rattle.heap_rule.specs.declared.view.DomainView.{DomainView}
-use Rattle.heap_rule.specs.declared.view.Glimpse.{Glimpse}
+use Rattle.heap_rule.specs.declared.view.FoundHead.{FoundHead}
 use Rattle.heap_rule.specs.declared.view.Scan.{Scan}
 use Rattle.heap_rule.specs.declared.view.Share.{Share}
 use Rattle.heap_rule.specs.declared.view.Spot.{Spot}
-use Rattle.heap_rule.specs.declared.view.Tenure.{Tenure}
+use Rattle.heap_rule.specs.declared.view.OwnPool.{OwnPool}
 use Rattle.heap_rule.specs.Changes.{value_at}
 use Rattle.heap_rule.specs.Layout.{at_address, armed, colours, changed_word, live_blocks, live_words}
 use Rattle.heap_rule.specs.Phases.{AtStage, IsEven, Pause, Staged, flag}
@@ -73,19 +73,19 @@ collects x is = go x.seen.stage refl is
 -- what a domain knows of blocks in a phase, but for what it has counted
 pub record Held : Type 0 where
   pub owes : Bool
-  pub sights : List ℕ
-  pub glimpse : Option Glimpse
+  pub places_seen : List ℕ
+  pub found_head : Option FoundHead
   pub scan : Scan
   pub walk : Spot
-  pub tenure : Option Tenure
+  pub own_pool : Option OwnPool
   pub roots : List ℕ
   pub marked : List ℕ
 
 abbrev pub held : Share → Held
-held share = record { owes = share.owes; sights = share.sights; glimpse = share.glimpse; scan = share.scan; walk = share.walk; tenure = share.tenure; roots = share.roots; marked = share.marked }
+held share = record { owes = share.owes; places_seen = share.places_seen; found_head = share.found_head; scan = share.scan; walk = share.walk; own_pool = share.own_pool; roots = share.roots; marked = share.marked }
 
 abbrev pub holding : Share → Held → Share
-holding share h = record share { owes = h.owes; sights = h.sights; glimpse = h.glimpse; scan = h.scan; walk = h.walk; tenure = h.tenure; roots = h.roots; marked = h.marked }
+holding share h = record share { owes = h.owes; places_seen = h.places_seen; found_head = h.found_head; scan = h.scan; walk = h.walk; own_pool = h.own_pool; roots = h.roots; marked = h.marked }
 
 -- scans go on where more is marked
 scanned_more : (live : Live) (graph : Graph) (m m' : Marks) → More m.marked m'.marked → (block done size head : ℕ) → Scanned live graph m block done size head → Scanned live graph m' block done size head
@@ -208,13 +208,13 @@ module _ (k : Config) (s : Words) (r : Rule k s) (id : ℕ) (hist : List Entry) 
     where
       idle_known : IsIdle sh → Knowing k live holder now.graph m s.words d x.own.registers sh
       idle_known q = subst (Knowing k live holder now.graph m s.words d x.own.registers) (sym q) record {
-        glimpse = λ g p e lives. cc;
+        found_head = λ g p e lives. cc;
         scan = tt;
         walked = λ p c slot is inside low. absurd (none_before p slot low);
-        tenure = λ t e. cc;
+        own_pool = λ t e. cc;
         rooted = λ n a p is e lives. cc;
         marked = λ a is. cc;
-        tally = record {
+        counted = record {
           once = λ i j a e f. cc;
           own = λ a is. cc;
           lives = λ a is. cc;
@@ -236,16 +236,16 @@ module _ (k : Config) (s : Words) (r : Rule k s) (id : ℕ) (hist : List Entry) 
   pub knowing_on : (m' : Marks) (words' : List ℕ) → ((b : ℕ) (p : Place) → live b ≡ Some p → (at_address k words' b ≡ at_address k s.words b) ⊎ IsTrue (m'.marked p.label)) → ((b : ℕ) → at_address k s.words b ≡ 0 → at_address k words' b ≡ 0) → More m.marked m'.marked
       → (e : ℕ) (registers : List Value) (share : Share) → Knowing k live holder now.graph m s.words e registers share → Knowing k live holder now.graph m' words' e registers share
   knowing_on m' words' heads free more e registers share n = record {
-    glimpse = λ g p is lives. ⊎_elim
+    found_head = λ g p is lives. ⊎_elim
         (λ (same : at_address k s.words g.address ≡ g.word). ⊎_elim (λ (stays : at_address k words' g.address ≡ at_address k s.words g.address). inl (stays ∙ same)) (λ (is : IsTrue (m'.marked p.label)). inr is) (heads g.address p lives))
         (λ (is : IsTrue (m.marked p.label)). inr (more p.label is))
-        (n.glimpse g p is lives);
+        (n.found_head g p is lives);
     scan = scans_more live now.graph m m' more share.scan n.scan;
     walked = n.walked;
-    tenure = n.tenure;
+    own_pool = n.own_pool;
     rooted = λ i b q is f lives. more q.label (n.rooted i b q is f lives);
     marked = λ a is. let t = n.marked a is in (t.0, t.1, more t.0.label t.2);
-    tally = n.tally;
+    counted = n.counted;
     held = n.held;
     vacant = λ class slot own inside low. free (place_in share.held class slot) (n.vacant class slot own inside low);
   }
@@ -284,10 +284,10 @@ module _ (k : Config) (s : Words) (r : Rule k s) (id : ℕ) (hist : List Entry) 
 
     -- what it knows of blocks then
     pub record Knows (m' : Marks) (words' : List ℕ) (h : Held) : Type 0 where
-      pub glimpse : (g : Glimpse) (p : Place) → h.glimpse ≡ Some g → live g.address ≡ Some p → (at_address k words' g.address ≡ g.word) ⊎ IsTrue (m'.marked p.label)
+      pub found_head : (g : FoundHead) (p : Place) → h.found_head ≡ Some g → live g.address ≡ Some p → (at_address k words' g.address ≡ g.word) ⊎ IsTrue (m'.marked p.label)
       pub scan : Scans live now.graph m' h.scan
-      pub walked : (q e slot : ℕ) → holder q ≡ owned d e → slot < blocks_of e → IsBefore q slot h.walk → IsTrue (seen_by h.sights (place_in q e slot))
-      pub tenure : (t : Tenure) → h.tenure ≡ Some t → holder t.pool ≡ owned d t.class
+      pub walked : (q e slot : ℕ) → holder q ≡ owned d e → slot < blocks_of e → IsBefore q slot h.walk → IsTrue (seen_by h.places_seen (place_in q e slot))
+      pub own_pool : (t : OwnPool) → h.own_pool ≡ Some t → holder t.pool ≡ owned d t.class
       pub rooted : (n a : ℕ) (p : Place) → IsTrue (list_any (λ q. q == n) h.roots) → value_at x.own.registers n ≡ Ref a → live a ≡ Some p → IsTrue (m'.marked p.label)
       pub marked : (a : ℕ) → IsTrue (seen_by h.marked a) → IsMarkedAt live m'.marked a
 
@@ -304,7 +304,7 @@ module _ (k : Config) (s : Words) (r : Rule k s) (id : ℕ) (hist : List Entry) 
       pub more : (l : Label) → IsTrue (m.marked l) → IsTrue (m'.marked l)
       pub others : (z : ℕ) → z ≢ d → (owes z ≡ c.shares.owes z) × (seen z ≡ c.shares.seen z)
       pub owes_is : owes d ≡ h.owes
-      pub seen_is : seen d ≡ seen_by h.sights
+      pub seen_is : seen d ≡ seen_by h.places_seen
       pub knows : Knows m' words' h
 
     module _ (m' : Marks) (changed : Bool) (owes : ℕ → Bool) (seen : ℕ → ℕ → Bool) (h : Held) (words' : List ℕ) (o : Learns m' changed owes seen h words') where
@@ -346,7 +346,7 @@ module _ (k : Config) (s : Words) (r : Rule k s) (id : ℕ) (hist : List Entry) 
       sharing' =
           let g = my_good k s r id hist x at in
           let l = leading' x sh g.staged g.sharing.leading in
-          let y = known.tally in record {
+          let y = known.counted in record {
             telling = record {
               owes = λ _. o.owes_is;
               seen = λ _. o.seen_is;
@@ -358,13 +358,13 @@ module _ (k : Config) (s : Words) (r : Rule k s) (id : ℕ) (hist : List Entry) 
             knows = inr (
               collecting,
               record {
-                glimpse = o.knows.glimpse;
+                found_head = o.knows.found_head;
                 scan = o.knows.scan;
                 walked = o.knows.walked;
-                tenure = o.knows.tenure;
+                own_pool = o.knows.own_pool;
                 rooted = o.knows.rooted;
                 marked = o.knows.marked;
-                tally = record { once = y.once; own = y.own; lives = y.lives; all = y.all; words = y.words };
+                counted = record { once = y.once; own = y.own; lives = y.lives; all = y.all; words = y.words };
                 held = known.held;
                 vacant = λ class slot own inside low. free_on words' o.dead (place_in sh.held class slot) (known.vacant class slot own inside low);
               },
@@ -390,8 +390,8 @@ module _ (k : Config) (s : Words) (r : Rule k s) (id : ℕ) (hist : List Entry) 
       }
 
     -- a step that leaves the words, what is marked and how far all are
-    pub knows_more : (h : Held) → sh.owes ≡ h.owes → seen_by sh.sights ≡ seen_by h.sights → Knows m s.words h → Rule k record { words = s.words; homes = s.homes; views = set s.views id (one k hist (with_share x (holding sh h))) }
-    knows_more h owes sights n = let t = (my_good k s r id hist x at).sharing.telling in learns (holding sh h) (sharing' m c.shares.changed c.shares.owes c.shares.seen h s.words record {
+    pub knows_more : (h : Held) → sh.owes ≡ h.owes → seen_by sh.places_seen ≡ seen_by h.places_seen → Knows m s.words h → Rule k record { words = s.words; homes = s.homes; views = set s.views id (one k hist (with_share x (holding sh h))) }
+    knows_more h owes places_seen n = let t = (my_good k s r id hist x at).sharing.telling in learns (holding sh h) (sharing' m c.shares.changed c.shares.owes c.shares.seen h s.words record {
       armed_same = refl;
       colours_same = refl;
       blocks_same = refl;
@@ -403,14 +403,14 @@ module _ (k : Config) (s : Words) (r : Rule k s) (id : ℕ) (hist : List Entry) 
       more = λ l is. is;
       others = λ z other. (refl, refl);
       owes_is = t.owes waits ∙ owes;
-      seen_is = t.seen waits ∙ sights;
+      seen_is = t.seen waits ∙ places_seen;
       knows = n;
     })
 
     -- and one that leaves the heap's words and what is marked
     pub shifts_more : (changed : Bool) (owes : ℕ → Bool) (seen : ℕ → ℕ → Bool) (h : Held) (words' : List ℕ) → Untouched s.words words' → get_or words' 0 0 ≡ get_or s.words 0 0 → get_or words' 1 0 ≡ get_or s.words 1 0 → get_or words' 2 0 ≡ get_or s.words 2 0
         → changed_word words' ≡ flag changed → Facts c.kind k now live r.account.tenancy (record c { shares = record c.shares { changed = changed; owes = owes; seen = seen } }) words'
-        → ((z : ℕ) → z ≢ d → (owes z ≡ c.shares.owes z) × (seen z ≡ c.shares.seen z)) → owes d ≡ h.owes → seen d ≡ seen_by h.sights → Knows m words' h
+        → ((z : ℕ) → z ≢ d → (owes z ≡ c.shares.owes z) × (seen z ≡ c.shares.seen z)) → owes d ≡ h.owes → seen d ≡ seen_by h.places_seen → Knows m words' h
         → get_or words' 8 0 ≡ get_or s.words 8 0 → Rule k record { words = words'; homes = s.homes; views = set s.views id (one k hist (with_share x (holding sh h))) }
     shifts_more changed owes seen h words' u want_same barrier_same plan_same changed_is facts others owes_is seen_is knows ended_same =
         let o : Learns m changed owes seen h words' = record {

@@ -5,7 +5,7 @@ pub mod Learning
 pub mod Recolouring
 pub mod Targets
 pub mod LookSteps
-pub mod GlimpseSteps
+pub mod TargetSteps
 pub mod DarkenSteps
 pub mod WalkSteps
 pub mod ScanSteps

@@ -46,13 +46,13 @@ module _ (k : Config) (s : Words) (r : Rule k s) (id : ℕ) (hist : List Entry) 
         (λ (n : IsCollecting x.seen.stage × Knowing k r.account.live r.account.tenancy.holder (state_of k r.account.log).graph c.paint.marks s.words x.own.number x.own.registers x.seen.share). inr (
           n.0,
           record {
-            glimpse = n.1.glimpse;
+            found_head = n.1.found_head;
             scan = n.1.scan;
             walked = n.1.walked;
-            tenure = n.1.tenure;
+            own_pool = n.1.own_pool;
             rooted = n.1.rooted;
             marked = n.1.marked;
-            tally = record { once = n.1.tally.once; own = n.1.tally.own; lives = n.1.tally.lives; all = n.1.tally.all; words = n.1.tally.words };
+            counted = record { once = n.1.counted.once; own = n.1.counted.own; lives = n.1.counted.lives; all = n.1.counted.all; words = n.1.counted.words };
             held = n.1.held;
             vacant = n.1.vacant;
           },

@@ -9,7 +9,7 @@ use Rattle.heap_rule.specs.declared.view.Share.{Share}
 use Rattle.heap_rule.specs.Raw.{CanLeave, Closes, Leaves}
 use Rattle.heap_rule.proofs.Closes.{front_same, leaves_closes}
 use Rattle.steps_cycle.specs.Looks.{ColoursTold, with_share}
-use Rattle.steps_cycle.specs.Marking.{ChangedTold, DarkenTold, GlimpseTold, GreyTold, MarkTold, OwnTold, Reason, ScanTold, ScannedTold, begun, behind, moved_on, owes_on, scanned_on, Site, sights_on, walk_on}
+use Rattle.steps_cycle.specs.Marking.{ChangedTold, DarkenTold, TargetTold, GreyTold, MarkTold, OwnTold, Reason, ScanTold, ScannedTold, begun, behind, moved_on, owes_on, scanned_on, Site, places_seen_on, walk_on}
 use Rattle.steps_cycle.specs.Changed.{FindTold, ForgetTold}
 
 -- a step that tells of the share alone
@@ -19,8 +19,8 @@ share_closes k x found tells says = leaves_closes k x found tells (λ y told. ap
 pub colours_closes : (k : Config) (x : DomainView) (found : ℕ) → Closes k x found ColoursTold CanLeave Leaves
 colours_closes k x found = share_closes k x found ColoursTold (λ y t. (record x.seen.share { colours = Some t.colours }, t.view))
 
-pub glimpse_closes : (k : Config) (x : DomainView) (found a : ℕ) (reason : Reason) → Closes k x found (GlimpseTold a reason) CanLeave Leaves
-glimpse_closes k x found a reason = share_closes k x found (GlimpseTold a reason) (λ y t. ⊎_elim (λ u. (record x.seen.share { glimpse = Some (record { address = a; word = found }) }, u.1)) (λ u. (moved_on reason a x.seen.share, u.1)) t.told)
+pub target_closes : (k : Config) (x : DomainView) (found a : ℕ) (reason : Reason) → Closes k x found (TargetTold a reason) CanLeave Leaves
+target_closes k x found a reason = share_closes k x found (TargetTold a reason) (λ y t. ⊎_elim (λ u. (record x.seen.share { found_head = Some (record { address = a; word = found }) }, u.1)) (λ u. (moved_on reason a x.seen.share, u.1)) t.told)
 
 pub darken_closes : (k : Config) (x : DomainView) (found a old : ℕ) (reason : Reason) → Closes k x found (DarkenTold old a reason) CanLeave Leaves
 darken_closes k x found a old reason = share_closes k x found (DarkenTold old a reason) (λ y t. dite (ℕ_discrete found old)
@@ -28,10 +28,10 @@ darken_closes k x found a old reason = share_closes k x found (DarkenTold old a 
     (λ e. (moved_on reason a x.seen.share, t.lost e)))
 
 pub own_closes : (k : Config) (x : DomainView) (found pool : ℕ) → Closes k x found (OwnTold pool) CanLeave Leaves
-own_closes k x found pool = share_closes k x found (OwnTold pool) (λ y t. ⊎_elim (λ u. (record x.seen.share { tenure = Some (record { pool = pool; class = u.0 }) }, u.3)) (λ u. (record x.seen.share { walk = record { pool = pool + 1; slot = 0 } }, u.1)) t.told)
+own_closes k x found pool = share_closes k x found (OwnTold pool) (λ y t. ⊎_elim (λ u. (record x.seen.share { own_pool = Some (record { pool = pool; class = u.0 }) }, u.3)) (λ u. (record x.seen.share { walk = record { pool = pool + 1; slot = 0 } }, u.1)) t.told)
 
 pub mark_closes : (k : Config) (x : DomainView) (found a pool class slot : ℕ) → Closes k x found (MarkTold a pool class slot) CanLeave Leaves
-mark_closes k x found a pool class slot = share_closes k x found (MarkTold a pool class slot) (λ y t. ⊎_elim (λ u. (record x.seen.share { sights = a ∷ x.seen.share.sights; walk = behind pool class slot }, u.1)) (λ u. (begun a u.0.block.shape found x.seen.share, u.1)) t.told)
+mark_closes k x found a pool class slot = share_closes k x found (MarkTold a pool class slot) (λ y t. ⊎_elim (λ u. (record x.seen.share { places_seen = a ∷ x.seen.share.places_seen; walk = behind pool class slot }, u.1)) (λ u. (begun a u.0.block.shape found x.seen.share, u.1)) t.told)
 
 pub grey_closes : (k : Config) (x : DomainView) (found a : ℕ) → Closes k x found (GreyTold a) CanLeave Leaves
 grey_closes k x found a = share_closes k x found (GreyTold a) (λ y t. ⊎_elim (λ u. (x.seen.share, u.1)) (λ u. (begun a u.0.block.shape found x.seen.share, u.1)) t.told)
@@ -40,7 +40,7 @@ pub scan_closes : (k : Config) (x : DomainView) (found : ℕ) → Closes k x fou
 scan_closes k x found = share_closes k x found (ScanTold k) (λ y t. (record x.seen.share { scan = scanned_on x.seen.share.scan t.value }, t.view))
 
 pub scanned_closes : (k : Config) (x : DomainView) (new a : ℕ) (site : Site) → Closes k x new (ScannedTold a site) CanLeave Leaves
-scanned_closes k x new a site = share_closes k x new (ScannedTold a site) (λ y t. (record x.seen.share { scan = Idle; sights = sights_on site a x.seen.share.sights; walk = walk_on site x.seen.share.walk }, t))
+scanned_closes k x new a site = share_closes k x new (ScannedTold a site) (λ y t. (record x.seen.share { scan = Idle; places_seen = places_seen_on site a x.seen.share.places_seen; walk = walk_on site x.seen.share.walk }, t))
 
 pub changed_closes : (k : Config) (x : DomainView) → Closes k x 1 ChangedTold CanLeave Leaves
 changed_closes k x = share_closes k x 1 ChangedTold (λ y t. (record x.seen.share { owes = false }, t))

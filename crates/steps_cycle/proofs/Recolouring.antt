@@ -57,7 +57,7 @@ module _ (k : Config) (s : Words) (r : Rule k s) (id : ℕ) (hist : List Entry) 
     pub facts : Facts r.account.cycling.kind k (state_of k r.account.log) r.account.live r.account.tenancy (record r.account.cycling { paint = record paint { marks = m' }; shares = record r.account.cycling.shares { owes = owes; seen = seen } }) (set s.words (before_heap k + a) new)
     pub others : (z : ℕ) → z ≢ x.own.number → (owes z ≡ r.account.cycling.shares.owes z) × (seen z ≡ r.account.cycling.shares.seen z)
     pub owes_is : owes x.own.number ≡ h.owes
-    pub seen_is : seen x.own.number ≡ seen_by h.sights
+    pub seen_is : seen x.own.number ≡ seen_by h.places_seen
     pub knows : Knows k s r id hist x at collecting m' (set s.words (before_heap k + a) new) h
 
   module _ (a : ℕ) (p : Place) (new : ℕ) (m' : Marks) (owes : ℕ → Bool) (seen : ℕ → ℕ → Bool) (h : Held) (o : Recolours a p new m' owes seen h) where

@@ -41,7 +41,7 @@ use Rattle.heap_rule.proofs.Keeps.{Words, my_good, unmoved}
 use Rattle.heap_rule.proofs.Lists.{got_there}
 use Rattle.heap_rule.proofs.Values.{address_of, packable, stands_block}
 use Rattle.steps_cycle.specs.Looks.{with_share}
-use Rattle.steps_cycle.specs.Marking.{ChangedMay, ChangedTold, IsChanging, ScanMay, ScanTold, ScannedMay, ScannedTold, scanned_on, Site, Anywhere, Next, LiesAt, sights_on, walk_on}
+use Rattle.steps_cycle.specs.Marking.{ChangedMay, ChangedTold, IsChanging, ScanMay, ScanTold, ScannedMay, ScannedTold, scanned_on, Site, Anywhere, Next, LiesAt, places_seen_on, walk_on}
 use Rattle.steps_cycle.proofs.Colouring.{words_same, Recolourable}
 use Rattle.steps_cycle.proofs.Learning.{at_other, at_same, bare, held, kind_here, knows_more, known, shifts_more, waits_in}
 use Rattle.steps_cycle.proofs.Recolouring.{Recolours, known_still, recolours}
@@ -125,10 +125,10 @@ module _ (k : Config) (s : Words) (r : Rule k s) (id : ℕ) (hist : List Entry) 
     scan_rule : Rule k record { words = s.words; homes = s.homes; views = set s.views id (one k hist (with_share x share')) }
     unfolding share'
     scan_rule = knows_more k s r id hist x at (in_mark may.stage) (held share') refl refl record {
-      glimpse = kn.glimpse;
+      found_head = kn.found_head;
       scan = subst (λ (z : Scan). Scans live now.graph m (scanned_on z stands.value)) (sym may.scan) (read_on live now.graph m may.block may.done may.size may.head f field.0 field.1 stands.value stands.stands);
       walked = kn.walked;
-      tenure = kn.tenure;
+      own_pool = kn.own_pool;
       rooted = kn.rooted;
       marked = kn.marked;
     }
@@ -176,7 +176,7 @@ module _ (k : Config) (s : Words) (r : Rule k s) (id : ℕ) (hist : List Entry) 
     scanned_words = set s.words (before_heap k + a) new
 
     abbrev done : Share
-    done = record sh { scan = Idle; sights = sights_on site a sh.sights; walk = walk_on site sh.walk }
+    done = record sh { scan = Idle; places_seen = places_seen_on site a sh.places_seen; walk = walk_on site sh.walk }
 
     abbrev seen_on : (t : Site) → LiesAt t x a → ℕ → ℕ → Bool
     seen_on Anywhere lies = c.shares.seen
@@ -202,11 +202,11 @@ module _ (k : Config) (s : Words) (r : Rule k s) (id : ℕ) (hist : List Entry) 
     seen_others Anywhere lies z other = refl
     seen_others (Next pool class slot) lies z other = next_other k s r id hist x at a pool class slot lies z other
 
-    seen_here : (t : Site) (lies : LiesAt t x a) → seen_on t lies d ≡ seen_by (sights_on t a sh.sights)
+    seen_here : (t : Site) (lies : LiesAt t x a) → seen_on t lies d ≡ seen_by (places_seen_on t a sh.places_seen)
     seen_here Anywhere lies = (my_good k s r id hist x at).sharing.telling.seen waits
     seen_here (Next pool class slot) lies = next_is k s r id hist x at a pool class slot lies waits
 
-    walked_on : (t : Site) (lies : LiesAt t x a) (q e i : ℕ) → r.account.tenancy.holder q ≡ owned d e → i < blocks_of e → IsBefore q i (walk_on t sh.walk) → IsTrue (seen_by (sights_on t a sh.sights) (place_in q e i))
+    walked_on : (t : Site) (lies : LiesAt t x a) (q e i : ℕ) → r.account.tenancy.holder q ≡ owned d e → i < blocks_of e → IsBefore q i (walk_on t sh.walk) → IsTrue (seen_by (places_seen_on t a sh.places_seen) (place_in q e i))
     walked_on Anywhere lies = kn.walked
     walked_on (Next pool class slot) lies = next_walked k s r id hist x at a pool class slot lies
 
@@ -231,7 +231,7 @@ module _ (k : Config) (s : Words) (r : Rule k s) (id : ℕ) (hist : List Entry) 
           others = λ z other. (refl, seen_others site may.lies z other);
           owes_is = (my_good k s r id hist x at).sharing.telling.owes waits;
           seen_is = seen_here site may.lies;
-          knows = record { glimpse = n.glimpse; scan = tt; walked = walked_on site may.lies; tenure = n.tenure; rooted = n.rooted; marked = n.marked };
+          knows = record { found_head = n.found_head; scan = tt; walked = walked_on site may.lies; own_pool = n.own_pool; rooted = n.rooted; marked = n.marked };
         }
 
     scanned_rule : Rule k record { words = scanned_words; homes = s.homes; views = set s.views id (one k hist (with_share x done)) }
@@ -290,10 +290,10 @@ module _ (k : Config) (s : Words) (r : Rule k s) (id : ℕ) (hist : List Entry) 
         (at_same c.shares.owes d false)
         ((my_good k s r id hist x at).sharing.telling.seen (waits_in k s r id hist x at may.kind may.stage))
         record {
-          glimpse = λ g q e lives. ⊎_elim (λ (same : at_address k s.words g.address ≡ g.word). inl (other (before_heap k + g.address) (λ e. omega arith) ∙ same)) (λ is. inr is) (kn.glimpse g q e lives);
+          found_head = λ g q e lives. ⊎_elim (λ (same : at_address k s.words g.address ≡ g.word). inl (other (before_heap k + g.address) (λ e. omega arith) ∙ same)) (λ is. inr is) (kn.found_head g q e lives);
           scan = kn.scan;
           walked = kn.walked;
-          tenure = kn.tenure;
+          own_pool = kn.own_pool;
           rooted = kn.rooted;
           marked = kn.marked;
         }
@@ -306,7 +306,7 @@ scan_may k x word a place may fits slots id hist s r _ at _ =
 
 pub scanned_may : (k : Config) (x : DomainView) (word a new : ℕ) (site : Site) → word ≡ before_heap k + a → ScannedMay x a new site → MayStore k x word new (ScannedTold a site)
 scanned_may k x word a new site place may fits slots id hist s r _ at _ =
-    let y : DomainView = with_share x (record x.seen.share { scan = Idle; sights = sights_on site a x.seen.share.sights; walk = walk_on site x.seen.share.walk }) in
+    let y : DomainView = with_share x (record x.seen.share { scan = Idle; places_seen = places_seen_on site a x.seen.share.places_seen; walk = walk_on site x.seen.share.walk }) in
     (one k hist y, keeps, tt, subst (λ (n : ℕ). Rule k record { words = set s.words n new; homes = s.homes; views = set s.views id (one k hist y) }) (sym place) (scanned_rule k s r id hist x at a new site may), (refl, refl))
 
 pub changed_may : (k : Config) (x : DomainView) → ChangedMay x → MayStore k x 3 1 ChangedTold

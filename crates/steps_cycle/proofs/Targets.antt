@@ -129,10 +129,10 @@ module _ (k : Config) (s : Words) (r : Rule k s) (id : ℕ) (hist : List Entry) 
 
     pub moved_knows : (reason : Reason) → Warrants reason x a → (owes : Bool) → Knows k s r id hist x at collecting m' words' (record (held (moved_on reason a x.seen.share)) { owes = owes })
     moved_knows reason w owes = record {
-      glimpse = λ g q e there. cc;
+      found_head = λ g q e there. cc;
       scan = scan_moved reason w;
       walked = n.walked;
-      tenure = n.tenure;
+      own_pool = n.own_pool;
       rooted = rooted_moved reason w;
       marked = marked_moved;
     }

@@ -25,7 +25,7 @@ use Rattle.heap_rule.specs.declared.phase.Kind.{Kind}
 use Rattle.heap_rule.specs.declared.phase.Kind.TheVariants.{Mark}
 use Rattle.heap_rule.specs.declared.view.DomainView.{DomainView}
 use Rattle.heap_rule.specs.declared.view.Share.{Share}
-use Rattle.heap_rule.specs.declared.view.Tenure.{Tenure}
+use Rattle.heap_rule.specs.declared.view.OwnPool.{OwnPool}
 use Rattle.heap_rule.specs.Layout.{before_heap, at_address, owner_of}
 use Rattle.heap_rule.specs.Places.{IsBuilt, Live, Place}
 use Rattle.heap_rule.specs.Pools.{Holder, IsBefore, IsPlace, blocks_of, drawn, nobody, owned, owner_word, place_in}
@@ -42,8 +42,8 @@ use Rattle.steps_cycle.proofs.Colouring.{BareHead, bare_head, marked_colour, unm
 use Rattle.steps_cycle.proofs.Layouts.{labelled, owner_of_place}
 use Rattle.steps_cycle.proofs.Learning.{at_other, at_same, bare, held, kind_here, knows_more, known, not_promoting, shifts_more, waits_in}
 
-tenure_same : (g h : Tenure) → Some g ≡ Some h → g ≡ h
-tenure_same g h e = cc
+own_pool_same : (g h : OwnPool) → Some g ≡ Some h → g ≡ h
+own_pool_same g h e = cc
 
 nobody_clash : (d c : ℕ) → ◌≡◌ {A = Holder} nobody (owned d c) → ⊥
 nobody_clash d c e = cc
@@ -122,12 +122,12 @@ module _ (k : Config) (s : Words) (r : Rule k s) (id : ℕ) (hist : List Entry) 
     passes none differs = (
       with_share x passed,
       knows_more k s r id hist x at may.collects (held passed) refl refl record {
-        glimpse = kn.glimpse;
+        found_head = kn.found_head;
         scan = kn.scan;
         walked = λ q e slot is inside before. dite (ℕ_discrete q pool)
             (λ same. absurd (none e (ap holder (sym same) ∙ is)))
             (λ other. kn.walked q e slot is inside (subst (IsBefore q slot) (sym may.next) (⊎_elim (λ (h : q < pool + 1). inl (let n : q ≢ pool = other in let g : q < pool = omega arith in g)) (λ (h : (q ≡ pool + 1) × (slot < 0)). absurd (let l = h.1 in omega arith)) before)));
-        tenure = kn.tenure;
+        own_pool = kn.own_pool;
         rooted = kn.rooted;
         marked = kn.marked;
       },
@@ -135,13 +135,13 @@ module _ (k : Config) (s : Words) (r : Rule k s) (id : ℕ) (hist : List Entry) 
     )
 
     owns : (class : ℕ) → holder pool ≡ owned d class → (y : DomainView) × After y × OwnTold pool x owner y
-    owns class is = let share' : Share = record sh { tenure = Some (record { pool = pool; class = class }) } in (
+    owns class is = let share' : Share = record sh { own_pool = Some (record { pool = pool; class = class }) } in (
       with_share x share',
       knows_more k s r id hist x at may.collects (held share') refl refl record {
-        glimpse = kn.glimpse;
+        found_head = kn.found_head;
         scan = kn.scan;
         walked = kn.walked;
-        tenure = λ u e. subst (λ (z : Tenure). holder z.pool ≡ owned d z.class) (tenure_same (record { pool = pool; class = class }) u e) is;
+        own_pool = λ u e. subst (λ (z : OwnPool). holder z.pool ≡ owned d z.class) (own_pool_same (record { pool = pool; class = class }) u e) is;
         rooted = kn.rooted;
         marked = kn.marked;
       },
@@ -200,41 +200,41 @@ module _ (k : Config) (s : Words) (r : Rule k s) (id : ℕ) (hist : List Entry) 
 
     pub begins_rule : IsTrue (m.marked p.label) → After (with_share x (begun a p.shape head sh))
     begins_rule marked = knows_more k s r id hist x at collecting (held (begun a p.shape head sh)) refl refl record {
-      glimpse = kn.glimpse;
+      found_head = kn.found_head;
       scan = begins marked p.shape refl (r.whole.placed.fits a p lives).built;
       walked = kn.walked;
-      tenure = kn.tenure;
+      own_pool = kn.own_pool;
       rooted = kn.rooted;
       marked = kn.marked;
     }
 
   -- the next place of the walk, in an own pool
   module _ (a pool class slot : ℕ) (place : IsNext x a pool class slot) where
-    own_pool : holder pool ≡ owned d class
-    own_pool = kn.tenure (record { pool = pool; class = class }) place.own
+    pool_is_own : holder pool ≡ owned d class
+    pool_is_own = kn.own_pool (record { pool = pool; class = class }) place.own
 
     pub own_place : (cycle_of k live holder c).layout.owner a ≡ Some d
-    own_place = ap (λ (b : ℕ). (cycle_of k live holder c).layout.owner b) place.begins ∙ owner_of_place holder pool d class slot (r.whole.pools.owned_by pool d class own_pool).2 own_pool place.inside
+    own_place = ap (λ (b : ℕ). (cycle_of k live holder c).layout.owner b) place.begins ∙ owner_of_place holder pool d class slot (r.whole.pools.owned_by pool d class pool_is_own).2 pool_is_own place.inside
 
     -- what is there
     pub place_there : IsPlace k r.account.tenancy live s.words d a
-    place_there = subst (IsPlace k r.account.tenancy live s.words d) (sym place.begins) (r.whole.grid.places pool d class slot own_pool place.inside)
+    place_there = subst (IsPlace k r.account.tenancy live s.words d) (sym place.begins) (r.whole.grid.places pool d class slot pool_is_own place.inside)
 
     -- once it is seen, the walk goes on
     abbrev pub seen_next : ℕ → ℕ → Bool
     seen_next = at_domain c.shares.seen d (λ b. b == a || c.shares.seen d b)
 
-    pub next_is : c.shares.arrived d ≡ false → seen_next d ≡ seen_by (a ∷ sh.sights)
+    pub next_is : c.shares.arrived d ≡ false → seen_next d ≡ seen_by (a ∷ sh.places_seen)
     next_is waits = at_same c.shares.seen d (λ b. b == a || c.shares.seen d b) ∙ ap (λ (f : ℕ → Bool). λ (b : ℕ). b == a || f b) ((my_good k s r id hist x at).sharing.telling.seen waits)
 
     pub next_other : (z : ℕ) → z ≢ d → seen_next z ≡ c.shares.seen z
     next_other z other = at_other c.shares.seen d (λ b. b == a || c.shares.seen d b) z other
 
-    pub next_walked : (q e i : ℕ) → holder q ≡ owned d e → i < blocks_of e → IsBefore q i (behind pool class slot) → IsTrue (seen_by (a ∷ sh.sights) (place_in q e i))
+    pub next_walked : (q e i : ℕ) → holder q ≡ owned d e → i < blocks_of e → IsBefore q i (behind pool class slot) → IsTrue (seen_by (a ∷ sh.places_seen) (place_in q e i))
     next_walked q e i is inside before =
-        let class_is : q ≡ pool → e ≡ class = (λ same. (owned_same d d e class (sym is ∙ (ap holder same ∙ own_pool))).1) in ⊎_elim
-        (λ (h : (q ≡ pool) × (i ≡ slot)). or_left (place_in q e i == a) (seen_by sh.sights (place_in q e i)) (eq-eqb (place_in q e i) a (ap (λ (z : ℕ × ℕ × ℕ). place_in z.0 z.1 z.2) (λ j. (h.0 j, class_is h.0 j, h.1 j)) ∙ sym place.begins)))
-        (λ (h : IsBefore q i (record { pool = pool; slot = slot })). or_right (place_in q e i == a) (seen_by sh.sights (place_in q e i)) (kn.walked q e i is inside (subst (IsBefore q i) (sym place.next) h)))
+        let class_is : q ≡ pool → e ≡ class = (λ same. (owned_same d d e class (sym is ∙ (ap holder same ∙ pool_is_own))).1) in ⊎_elim
+        (λ (h : (q ≡ pool) × (i ≡ slot)). or_left (place_in q e i == a) (seen_by sh.places_seen (place_in q e i)) (eq-eqb (place_in q e i) a (ap (λ (z : ℕ × ℕ × ℕ). place_in z.0 z.1 z.2) (λ j. (h.0 j, class_is h.0 j, h.1 j)) ∙ sym place.begins)))
+        (λ (h : IsBefore q i (record { pool = pool; slot = slot })). or_right (place_in q e i == a) (seen_by sh.places_seen (place_in q e i)) (kn.walked q e i is inside (subst (IsBefore q i) (sym place.next) h)))
         (before_behind pool class slot q i (λ same. subst (λ (z : ℕ). i < blocks_of z) (class_is same) inside) before)
 
   -- the head there
@@ -252,7 +252,7 @@ module _ (k : Config) (s : Words) (r : Rule k s) (id : ℕ) (hist : List Entry) 
     facts = subst (λ (kind : Kind). Facts kind k now live r.account.tenancy c s.words) kind_is r.whole.cycle.facts
 
     abbrev saw : Share
-    saw = record sh { sights = a ∷ sh.sights; walk = behind pool class slot }
+    saw = record sh { places_seen = a ∷ sh.places_seen; walk = behind pool class slot }
 
     -- no block there is grey
     saw_rule : ((p : Place) → live a ≡ Some p → IsTrue (m.marked p.label) → IsTrue (m.scanned p.label)) → After (with_share x saw)
@@ -268,7 +268,7 @@ module _ (k : Config) (s : Words) (r : Rule k s) (id : ℕ) (hist : List Entry) 
         (λ z other. (refl, next_other a pool class slot may.place z other))
         (t.owes waits)
         (next_is a pool class slot may.place waits)
-        record { glimpse = kn.glimpse; scan = kn.scan; walked = next_walked a pool class slot may.place; tenure = kn.tenure; rooted = kn.rooted; marked = kn.marked }
+        record { found_head = kn.found_head; scan = kn.scan; walked = next_walked a pool class slot may.place; own_pool = kn.own_pool; rooted = kn.rooted; marked = kn.marked }
         refl
 
     abbrev Looked : DomainView → Type 0
@@ -323,7 +323,7 @@ module _ (k : Config) (s : Words) (r : Rule k s) (id : ℕ) (hist : List Entry) 
         let collecting : IsCollecting x.seen.stage = subst IsCollecting (sym may.stage) (λ none. none) in ⊎_elim
         (λ h. (
           x,
-          knows_more k s r id hist x at collecting (held sh) refl refl record { glimpse = kn.glimpse; scan = kn.scan; walked = kn.walked; tenure = kn.tenure; rooted = kn.rooted; marked = kn.marked },
+          knows_more k s r id hist x at collecting (held sh) refl refl record { found_head = kn.found_head; scan = kn.scan; walked = kn.walked; own_pool = kn.own_pool; rooted = kn.rooted; marked = kn.marked },
           record { colours = may.colours; known = may.known; told = inl (h.0, refl) },
         ))
         (λ h. (

@@ -79,20 +79,20 @@ scan_on (Register r) scan = scan
 scan_on Field scan = next_scan scan
 
 abbrev pub moved_on : Reason → ℕ → Share → Share
-moved_on reason at share = record share { glimpse = None; scan = scan_on reason share.scan; roots = roots_on reason share.roots; marked = at ∷ share.marked }
+moved_on reason at share = record share { found_head = None; scan = scan_on reason share.scan; roots = roots_on reason share.roots; marked = at ∷ share.marked }
 
 -- a domain that does its share of a collection loads the head of a block that there is a reason to mark
-pub record GlimpseMay (x : DomainView) (at : ℕ) (reason : Reason) : Type 0 where
+pub record TargetMay (x : DomainView) (at : ℕ) (reason : Reason) : Type 0 where
   pub collects : IsCollecting x.seen.stage
   pub colours : Colours
   pub known : x.seen.share.colours ≡ Some colours
   pub reason_is : Warrants reason x at
 
 -- the block is unmarked, and the domain has found this head; or it is marked, and the domain goes on
-pub record GlimpseTold (at : ℕ) (reason : Reason) (x : DomainView) (found : ℕ) (y : DomainView) : Type 0 where
+pub record TargetTold (at : ℕ) (reason : Reason) (x : DomainView) (found : ℕ) (y : DomainView) : Type 0 where
   pub colours : Colours
   pub known : x.seen.share.colours ≡ Some colours
-  pub told : (IsUnmarked colours found × (y ≡ with_share x (record x.seen.share { glimpse = Some (record { address = at; word = found }) })))
+  pub told : (IsUnmarked colours found × (y ≡ with_share x (record x.seen.share { found_head = Some (record { address = at; word = found }) })))
       ⊎ (IsMarked colours found × (y ≡ with_share x (moved_on reason at x.seen.share)))
 
 -- the head of the unmarked block that the domain found last is exchanged for one that is marked and unscanned
@@ -102,7 +102,7 @@ pub record DarkenMay (x : DomainView) (at old new : ℕ) (reason : Reason) : Typ
   pub darkening : IsDarkening kind
   pub colours : Colours
   pub known : x.seen.share.colours ≡ Some colours
-  pub found : x.seen.share.glimpse ≡ Some (record { address = at; word = old })
+  pub found : x.seen.share.found_head ≡ Some (record { address = at; word = old })
   pub unmarked : IsUnmarked colours old
   pub marks : HeadIs None unmarked.shape colours.marked false new
   pub reason_is : Warrants reason x at
@@ -128,7 +128,7 @@ pub record OwnMay (k : Config) (x : DomainView) (at pool : ℕ) : Type 0 where
 
 -- the pool is the domain's own, for blocks of a class, or the walk goes to the next one
 pub record OwnTold (pool : ℕ) (x : DomainView) (found : ℕ) (y : DomainView) : Type 0 where
-  pub told : ((class : ℕ) × (class < class_count) × (found ≡ owner_word (owned x.own.number class)) × (y ≡ with_share x (record x.seen.share { tenure = Some (record { pool = pool; class = class }) })))
+  pub told : ((class : ℕ) × (class < class_count) × (found ≡ owner_word (owned x.own.number class)) × (y ≡ with_share x (record x.seen.share { own_pool = Some (record { pool = pool; class = class }) })))
       ⊎ (((class : ℕ) → class < class_count → found ≢ owner_word (owned x.own.number class)) × (y ≡ with_share x (record x.seen.share { walk = record { pool = pool + 1; slot = 0 } })))
 
 -- the place behind one, in the next pool behind the last
@@ -137,7 +137,7 @@ behind pool class slot = if nat_le (blocks_of class) (slot + 1) then record { po
 
 -- the address is that of the next place of the walk, in an own pool
 pub record IsNext (x : DomainView) (at pool class slot : ℕ) : Type 0 where
-  pub own : x.seen.share.tenure ≡ Some (record { pool = pool; class = class })
+  pub own : x.seen.share.own_pool ≡ Some (record { pool = pool; class = class })
   pub inside : slot < blocks_of class
   pub begins : at ≡ place_in pool class slot
   pub next : x.seen.share.walk ≡ record { pool = pool; slot = slot }
@@ -163,7 +163,7 @@ begun at shape head share = record share { scan = Reads at 0 (fields_in shape) h
 pub record MarkTold (at pool class slot : ℕ) (x : DomainView) (found : ℕ) (y : DomainView) : Type 0 where
   pub colours : Colours
   pub known : x.seen.share.colours ≡ Some colours
-  pub told : (((found ≡ 0) ⊎ (IsUnmarked colours found ⊎ IsScanned colours found)) × (y ≡ with_share x (record x.seen.share { sights = at ∷ x.seen.share.sights; walk = behind pool class slot })))
+  pub told : (((found ≡ 0) ⊎ (IsUnmarked colours found ⊎ IsScanned colours found)) × (y ≡ with_share x (record x.seen.share { places_seen = at ∷ x.seen.share.places_seen; walk = behind pool class slot })))
       ⊎ ((grey : IsGrey colours found) × (y ≡ with_share x (begun at grey.block.shape found x.seen.share)))
 
 -- in Mark, a load of the head of a block that is known to be marked
@@ -213,9 +213,9 @@ abbrev pub LiesAt : Site → DomainView → ℕ → Type 0
 LiesAt Anywhere x at = Unit {0}
 LiesAt (Next pool class slot) x at = IsNext x at pool class slot
 
-abbrev pub sights_on : Site → ℕ → List ℕ → List ℕ
-sights_on Anywhere at sights = sights
-sights_on (Next pool class slot) at sights = at ∷ sights
+abbrev pub places_seen_on : Site → ℕ → List ℕ → List ℕ
+places_seen_on Anywhere at places_seen = places_seen
+places_seen_on (Next pool class slot) at places_seen = at ∷ places_seen
 
 abbrev pub walk_on : Site → Spot → Spot
 walk_on Anywhere walk = walk
@@ -235,7 +235,7 @@ pub record ScannedMay (x : DomainView) (at new : ℕ) (site : Site) : Type 0 whe
   pub lies : LiesAt site x at
 
 abbrev pub ScannedTold : ℕ → Site → DomainView → ℕ → DomainView → Type 0
-ScannedTold at site x found y = y ≡ with_share x (record x.seen.share { scan = Idle; sights = sights_on site at x.seen.share.sights; walk = walk_on site x.seen.share.walk })
+ScannedTold at site x found y = y ≡ with_share x (record x.seen.share { scan = Idle; places_seen = places_seen_on site at x.seen.share.places_seen; walk = walk_on site x.seen.share.walk })
 
 -- in Mark and in Rounds, 1 is stored in the changed word
 pub record ChangedMay (x : DomainView) : Type 0 where

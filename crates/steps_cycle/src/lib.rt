@@ -12,6 +12,6 @@ mod walking;
 pub use changed::{changed_clear, changed_load};
 pub use colours::colours_now;
 pub use looking::colours_load;
-pub use marking::{darken_exchange, glimpse_load};
+pub use marking::{darken_exchange, target_load};
 pub use scanning::{changed_store, scan_load, scanned_store};
 pub use walking::{grey_load, mark_load, own_load};

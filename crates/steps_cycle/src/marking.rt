@@ -1,7 +1,7 @@
 //! The steps at which blocks are marked.
 ghost use Rattle.heap_rule.specs.Standing.{IsInHeap};
 ghost use Rattle.heap_rule.specs.Token.{IsIn};
-ghost use Rattle.steps_cycle.specs.Marking.{DarkenMay, DarkenTold, GlimpseMay, GlimpseTold, Reason};
+ghost use Rattle.steps_cycle.specs.Marking.{DarkenMay, DarkenTold, TargetMay, TargetTold, Reason};
 
 use crate::looking::Looking;
 use heap_rule::{Domain, Heap, raw_exchange, raw_load};
@@ -10,13 +10,13 @@ use std::marker::Brand;
 /// A load of the head of a block that a register refers to, or the next field of the block that the
 /// domain scans. Where the block is marked the domain is done with the register, or with the field.
 /// `at` is the block's address. Answers the head's word.
-pub fn glimpse_load(heap: &Heap, dom: &mut Domain, at: u32) -> u64
+pub fn target_load(heap: &Heap, dom: &mut Domain, at: u32) -> u64
     ghost reason: { Reason }
     requires here { IsIn dom.old heap.now }
     requires inside { IsInHeap heap.now.config at }
-    requires may { GlimpseMay dom.old.view at reason }
+    requires may { TargetMay dom.old.view at reason }
     ensures here { IsIn dom.new heap.now }
-    ensures told { GlimpseTold at reason dom.old.view result dom.new.view }
+    ensures told { TargetTold at reason dom.old.view result dom.new.view }
 {
     let index = heap.index_of(at);
     let writing = Looking {

@@ -115,7 +115,7 @@ module _ (k : Config) (s : Words) (r : Rule k s) (id : ℕ) (hist : List Entry) 
   abbrev Known : Type 0
   Known = Knowing k r.account.live t.holder state.graph c.paint.marks s.words d x.own.registers x.seen.share
 
-  been : (q class slot : ℕ) → t.holder q ≡ owned d class → slot < blocks_of class → IsBefore q slot x.seen.share.walk → IsTrue (seen_by x.seen.share.sights (place_in q class slot))
+  been : (q class slot : ℕ) → t.holder q ≡ owned d class → slot < blocks_of class → IsBefore q slot x.seen.share.walk → IsTrue (seen_by x.seen.share.places_seen (place_in q class slot))
   been q class slot is inside low = ⊎_elim
       (λ (h : IsIdle x.seen.share). absurd (none_before q slot (subst (IsBefore q slot) (ap (λ (y : Share). y.walk) h) low)))
       (λ (h : IsCollecting x.seen.stage × Known). h.1.walked q class slot is inside low) good.sharing.knows
@@ -161,7 +161,7 @@ module _ (k : Config) (s : Words) (r : Rule k s) (id : ℕ) (hist : List Entry) 
         let p : ℕ = o.pool in
         let m : ℕ = k.pools in
         let before : p < w = (let l : p < m = low in let h : m ≤ w = through in omega arith) in
-        let seen : IsTrue (seen_by x.seen.share.sights a) = subst (λ (b : ℕ). IsTrue (seen_by x.seen.share.sights b)) (sym o.begins) (been o.pool o.class o.slot o.owned_is o.inside (inl before)) in
+        let seen : IsTrue (seen_by x.seen.share.places_seen a) = subst (λ (b : ℕ). IsTrue (seen_by x.seen.share.places_seen b)) (sym o.begins) (been o.pool o.class o.slot o.owned_is o.inside (inl before)) in
         subst (λ (f : ℕ → Bool). IsTrue (f a)) (sym (good.sharing.telling.seen waits)) seen
 
     -- the domain has arrived

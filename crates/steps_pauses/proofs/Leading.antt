@@ -291,7 +291,7 @@ module _ (k : Config) (s : Words) (r : Rule k s) (id : ℕ) (hist : List Entry) 
       let idle : IsIdle z.seen.share = tells.fresh gone in record {
         telling = record {
           owes = λ _. sym (ap (λ (u : Share). u.owes) idle);
-          seen = λ _. sym (ap (λ (u : Share). seen_by u.sights) idle);
+          seen = λ _. sym (ap (λ (u : Share). seen_by u.places_seen) idle);
           fresh = λ _. idle;
           forgotten = λ _ _. tells.forgotten gone apart;
           colours = tells.colours;

@@ -1,5 +1,5 @@
 -- What all steps of copying share: the rule holds again where the places, the pools and each domain meet it.
-use Rattle.std.proofs.Common.{◌≡◌, ◌≢◌, ℕ, ◌+◌, ◌*◌, List, length, set, sym, ap, ◌∙◌, subst, inl, inr, ⊎_elim, arith, refl, true, ◌⊎◌}
+use Rattle.std.proofs.Common.{◌≡◌, ◌≢◌, ℕ, ◌+◌, ◌*◌, List, length, set, sym, ap, ◌∙◌, subst, inl, inr, ⊎_elim, arith, refl, true}
 use mathlib.Core.Option.{some}
 use lib.ListN.{get_elem?}
 use Rattle.heap_model.specs.declared.entry.Entry.{Entry}

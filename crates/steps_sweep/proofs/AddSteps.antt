@@ -34,10 +34,10 @@ use Rattle.steps_cycle.specs.Looks.{with_share}
 use Rattle.steps_cycle.proofs.Layouts.{labelled, owner_of_place, label_there}
 use Rattle.steps_cycle.proofs.Learning.{at_other, at_same, bare, even, known, kind_here, leads_odd, lies_old, not_promoting, waits_in}
 use Rattle.steps_cycle.proofs.Plain.{share_closes}
-use Rattle.steps_sweep.specs.Tallying.{BlocksAddMay, BlocksAdded, WordsAddMay, WordsAdded}
+use Rattle.steps_sweep.specs.Counting.{BlocksAddMay, BlocksAdded, WordsAddMay, WordsAdded}
 use Rattle.steps_sweep.proofs.Recounting.{IsCount, heap, here, low, other, recounted, recounts}
 use Rattle.steps_sweep.proofs.Swept.{sweep_facts, sweeping}
-use Rattle.steps_sweep.proofs.Tallies.{AllLive, added_few, added_same, as_heavy, as_many, label_among, label_from, no_twice, words_of_shape}
+use Rattle.steps_sweep.proofs.CountedPlaces.{AllLive, added_few, added_same, as_heavy, as_many, label_among, label_from, no_twice, words_of_shape}
 use Rattle.std.specs.Option.{option_map_or}
 
 -- so few are added that the sum doesn't wrap
@@ -106,7 +106,7 @@ module _ (k : Config) (s : Words) (r : Rule k s) (id : ℕ) (hist : List Entry) 
       grows : (e : ℕ) → IsTrue (c.counts.words e) → IsTrue (counts'.words e)
       mine_blocks : counts'.blocks d ≡ blocks
       mine_words : counts'.words d ≡ words
-      mine_own : blocks ≡ true → counts'.own d ≡ labels_in live sh.tally
+      mine_own : blocks ≡ true → counts'.own d ≡ labels_in live sh.counted
       others : (e : ℕ) → e ≢ d → (counts'.blocks e ≡ c.counts.blocks e) × (counts'.words e ≡ c.counts.words e) × (counts'.own e ≡ c.counts.own e)
 
     no_leader : (z : DomainView) → Good k r.account s.words z → ((z.own.number ≡ 0) × IsLeading z.seen.stage) ⊎ (z.seen.stage ≡ In Answer) → ⊥
@@ -145,7 +145,7 @@ module _ (k : Config) (s : Words) (r : Rule k s) (id : ℕ) (hist : List Entry) 
     }
 
     adding_rule : Adding → Rule k record { words = words'; homes = s.homes; views = set s.views id (one k hist (with_share x share')) }
-    adding_rule o = let g = good.sharing in let n = knowing_words k live holder now.graph c.paint.marks s.words words' d x.own.registers sh (heap k s r id hist x at i v is) kn in let t = n.tally in recounts k s r id hist x at i v is share' c' record {
+    adding_rule o = let g = good.sharing in let n = knowing_words k live holder now.graph c.paint.marks s.words words' d x.own.registers sh (heap k s r id hist x at i v is) kn in let t = n.counted in recounts k s r id hist x at i v is share' c' record {
       calm = not_promoting k s r id hist x at collecting;
       kind = refl;
       paint = refl;
@@ -162,7 +162,7 @@ module _ (k : Config) (s : Words) (r : Rule k s) (id : ℕ) (hist : List Entry) 
         };
         knows = inr (
           collecting,
-          record { glimpse = n.glimpse; scan = n.scan; walked = n.walked; tenure = n.tenure; rooted = n.rooted; marked = n.marked; tally = record { once = t.once; own = t.own; lives = t.lives; all = t.all; words = t.words }; held = n.held; vacant = n.vacant },
+          record { found_head = n.found_head; scan = n.scan; walked = n.walked; own_pool = n.own_pool; rooted = n.rooted; marked = n.marked; counted = record { once = t.once; own = t.own; lives = t.lives; all = t.all; words = t.words }; held = n.held; vacant = n.vacant },
         );
         adds = record { blocks = λ _ _. o.mine_blocks; words = λ _ _. o.mine_words; own = λ _ _. o.mine_own };
       };
@@ -189,10 +189,10 @@ module _ (k : Config) (s : Words) (r : Rule k s) (id : ℕ) (hist : List Entry) 
   n = f.swept.counted
 
   abbrev tl : List Label
-  tl = labels_in live sh.tally
+  tl = labels_in live sh.counted
 
-  lives : AllLive live sh.tally
-  lives = kn.tally.lives
+  lives : AllLive live sh.counted
+  lives = kn.counted.lives
 
   -- the words of what it has counted
   weigh : (a : ℕ) (p : Place) → live a ≡ Some p → words_at now.graph p.label ≡ extent p.shape
@@ -225,7 +225,7 @@ module _ (k : Config) (s : Words) (r : Rule k s) (id : ℕ) (hist : List Entry) 
     was e differs is = sym (at_other c.counts.blocks d true e differs) ∙ is
 
     amount_is : length tl ≡ amount
-    amount_is = as_many live sh.tally lives ∙ sym may.counted
+    amount_is = as_many live sh.counted lives ∙ sym may.counted
 
     sum_was : added_up c.counts.blocks (λ e. length (own' e)) k.domains ≡ live_blocks s.words
     sum_was = added_same c.counts.blocks (λ e. length (own' e)) (λ e. length (c.counts.own e)) (λ e is. ap (λ (l : List Label). length l) (same_own e (added e is))) k.domains ∙ sym n.blocks_are
@@ -248,7 +248,7 @@ module _ (k : Config) (s : Words) (r : Rule k s) (id : ℕ) (hist : List Entry) 
           (λ same. ap blocks' same ∙ at_same c.counts.blocks d true)
           (λ differs. at_other c.counts.blocks d true e differs ∙ n.first e is);
       once = λ e is. dite (ℕ_discrete e d)
-          (λ same. subst (λ (l : List Label). IsTrue (has_no_repeats l)) (sym (ap own' same ∙ own_here)) (no_twice live apart sh.tally kn.tally.once lives))
+          (λ same. subst (λ (l : List Label). IsTrue (has_no_repeats l)) (sym (ap own' same ∙ own_here)) (no_twice live apart sh.counted kn.counted.once lives))
           (λ differs. subst (λ (l : List Label). IsTrue (has_no_repeats l)) (sym (same_own e differs)) (n.once e (was e differs is)));
       owned = λ e l is has. dite (ℕ_discrete e d)
           (λ same. own_owned e same l (subst (λ (o : List Label). IsTrue (has_label o l)) (ap own' same ∙ own_here) has))
@@ -268,8 +268,8 @@ module _ (k : Config) (s : Words) (r : Rule k s) (id : ℕ) (hist : List Entry) 
 
       own_owned : (e : ℕ) → e ≡ d → (l : Label) → IsTrue (has_label tl l) → (a : ℕ) × ((layout_of k live holder).live a ≡ Some l) × ((layout_of k live holder).owner a ≡ Some e) × IsTrue (c.before l)
       own_owned e same l has =
-          let u = label_from live sh.tally l has in
-          let o = kn.tally.own u.0 u.2 in (
+          let u = label_from live sh.counted l has in
+          let o = kn.counted.own u.0 u.2 in (
             u.0,
             label_there k live u.0 u.1 u.3 (lies_old k s r id hist x at collecting u.0 u.1 u.3) ∙ ap Some u.4,
             ap (layout_of k live holder).owner o.6 ∙ (owner_of_place holder o.0 d o.1 o.2 (r.whole.pools.owned_by o.0 d o.1 o.3).2 o.3 o.4 ∙ ap Some (sym same)),
@@ -281,9 +281,9 @@ module _ (k : Config) (s : Words) (r : Rule k s) (id : ℕ) (hist : List Entry) 
           let u = labelled k live a l there in
           let o = own_place holder (λ q e b h. (r.whole.pools.owned_by q e b h).2) d a owner in
           let low : o.pool < k.pools = (r.whole.pools.owned_by o.pool d o.class o.owned_is).0 in
-          let before : o.pool < sh.tallied.pool = (let q : ℕ = o.pool in let m : ℕ = k.pools in let w : ℕ = sh.tallied.pool in let g : q < m = low in let h : m ≤ w = may.whole in omega arith) in
-          let counted : IsTrue (seen_by sh.tally (place_in o.pool o.class o.slot)) = kn.tally.all o.pool o.class o.slot u.place o.owned_is o.inside (inl before) (ap live (sym o.begins) ∙ u.lives) in
-          subst (λ (z : Label). IsTrue (has_label tl z)) u.label (label_among live sh.tally a u.place (subst (λ (b : ℕ). IsTrue (seen_by sh.tally b)) (sym o.begins) counted) u.lives)
+          let before : o.pool < sh.counted_to.pool = (let q : ℕ = o.pool in let m : ℕ = k.pools in let w : ℕ = sh.counted_to.pool in let g : q < m = low in let h : m ≤ w = may.whole in omega arith) in
+          let is_counted : IsTrue (seen_by sh.counted (place_in o.pool o.class o.slot)) = kn.counted.all o.pool o.class o.slot u.place o.owned_is o.inside (inl before) (ap live (sym o.begins) ∙ u.lives) in
+          subst (λ (z : Label). IsTrue (has_label tl z)) u.label (label_among live sh.counted a u.place (subst (λ (b : ℕ). IsTrue (seen_by sh.counted b)) (sym o.begins) is_counted) u.lives)
 
       sums : live_blocks s.words + amount ≡ added_up c.counts.blocks (λ e. length (own' e)) k.domains + length (own' d)
       sums =
@@ -319,7 +319,7 @@ module _ (k : Config) (s : Words) (r : Rule k s) (id : ℕ) (hist : List Entry) 
     own_is = good.sharing.adds.own kind_is waits may.blocks
 
     heavy : sum_by (words_at now.graph) (c.counts.own d) ≡ amount
-    heavy = ap (sum_by (words_at now.graph)) own_is ∙ (as_heavy live now.graph weigh sh.tally lives ∙ (sym kn.tally.words ∙ sym may.counted))
+    heavy = ap (sum_by (words_at now.graph)) own_is ∙ (as_heavy live now.graph weigh sh.counted lives ∙ (sym kn.counted.words ∙ sym may.counted))
 
     abbrev total : ℕ
     total = (live_words s.words + amount) % 2 ^ 64

@@ -77,14 +77,14 @@ module _ (k : Config) (s : Words) (r : Rule k s) (id : ℕ) (hist : List Entry) 
   blocks_rule : Rule k record { words = s.words; homes = s.homes; views = set s.views id (one k hist (with_share x counted)) }
   blocks_rule =
       let g = good.sharing in
-      let n = kn.tally in
+      let n = kn.counted in
       let collects = answers k s r id hist x at stage in
       let up = waits k s r id hist x at collects in learns k s r id hist x at counted record {
         telling = record { owes = g.telling.owes; seen = g.telling.seen; fresh = λ gone. absurd (true≢false (sym gone ∙ up)); forgotten = λ gone. absurd (true≢false (sym gone ∙ up)); colours = g.telling.colours };
         leading = record { changed = g.leading.changed; found_blocks = λ v e. (inr stage, (let same : Some (live_blocks s.words) ≡ Some v = e in cc)); found_words = g.leading.found_words; rotated = g.leading.rotated; turned = g.leading.turned; pass = g.leading.pass };
         knows = inr (
           collects,
-          record { glimpse = kn.glimpse; scan = kn.scan; walked = kn.walked; tenure = kn.tenure; rooted = kn.rooted; marked = kn.marked; tally = record { once = n.once; own = n.own; lives = n.lives; all = n.all; words = n.words }; held = kn.held; vacant = kn.vacant },
+          record { found_head = kn.found_head; scan = kn.scan; walked = kn.walked; own_pool = kn.own_pool; rooted = kn.rooted; marked = kn.marked; counted = record { once = n.once; own = n.own; lives = n.lives; all = n.all; words = n.words }; held = kn.held; vacant = kn.vacant },
         );
         adds = record { blocks = g.adds.blocks; words = g.adds.words; own = g.adds.own };
       }

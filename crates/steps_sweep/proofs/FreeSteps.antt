@@ -105,7 +105,7 @@ module _ (k : Config) (s : Words) (r : Rule k s) (id : ℕ) (hist : List Entry) 
       (λ (e : r.account.live a ≡ None). e)
       (λ (q : (p : Place) × (r.account.live a ≡ Some p)).
       let p : Place = q.0 in
-      let there : at_address k s.words a ≡ may.word = ⊎_elim (λ (e : at_address k s.words a ≡ may.word). e) (λ (is : IsTrue (c.paint.marks.marked p.label)). absurd (true≢false (sym is ∙ f.swept.unmarked p.label))) (kn.glimpse (record { address = a; word = may.word }) p may.found q.1) in
+      let there : at_address k s.words a ≡ may.word = ⊎_elim (λ (e : at_address k s.words a ≡ may.word). e) (λ (is : IsTrue (c.paint.marks.marked p.label)). absurd (true≢false (sym is ∙ f.swept.unmarked p.label))) (kn.found_head (record { address = a; word = may.word }) p may.found q.1) in
       let head = live_head k s r id hist x at a pool class slot may.look p q.1 in
       let same = words_same p.shape may.garbage.shape (at_address k s.words a) head.head (record { colour = may.garbage.head.colour; scanned = may.garbage.head.scanned; packable = may.garbage.head.packable; packs = there ∙ may.garbage.head.packs }) in
       let here = means k s r id hist x at a pool class slot may.look in
@@ -273,13 +273,13 @@ module _ (k : Config) (s : Words) (r : Rule k s) (id : ℕ) (hist : List Entry) 
   still_free b free = dite (ℕ_discrete b a) (λ same. ap (at_address k words') same ∙ here_is) (λ other. stays b other ∙ free)
 
   abbrev share' : Share
-  share' = record (passed a pool class slot x.seen.share) { glimpse = None }
+  share' = record (passed a pool class slot x.seen.share) { found_head = None }
 
   sharing' : Sharing k (reaped_to k s r id hist x at r.account.live garbage' c') words' d x.own.registers x.seen.stage share'
   sharing' =
       let g = good.sharing in
       let l = leading' x x.seen.share good.staged g.leading in
-      let n = kn.tally in record {
+      let n = kn.counted in record {
         telling = record {
           owes = g.telling.owes;
           seen = λ _. at_same c.shares.seen d (λ b. b == a || c.shares.seen d b) ∙ ap (λ (h : ℕ → Bool). λ (b : ℕ). b == a || h b) (g.telling.seen is_waiting);
@@ -291,15 +291,15 @@ module _ (k : Config) (s : Words) (r : Rule k s) (id : ℕ) (hist : List Entry) 
         knows = inr (
           here_collects,
           record {
-            glimpse = λ q p e. cc;
+            found_head = λ q p e. cc;
             scan = kn.scan;
             walked = walked k s r id hist x at a pool class slot may.look;
-            tenure = kn.tenure;
+            own_pool = kn.own_pool;
             rooted = kn.rooted;
             marked = kn.marked;
             held = kn.held;
             vacant = λ cl i is inside low. still_free (place_in x.seen.share.held cl i) (kn.vacant cl i is inside low);
-            tally = record { once = n.once; own = n.own; lives = n.lives; all = n.all; words = n.words };
+            counted = record { once = n.once; own = n.own; lives = n.lives; all = n.all; words = n.words };
           },
         );
         adds = record { blocks = g.adds.blocks; words = g.adds.words; own = g.adds.own };

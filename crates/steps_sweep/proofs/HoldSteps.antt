@@ -13,7 +13,7 @@ use Rattle.heap_rule.specs.declared.phase.Kind.TheVariants.{Answer}
 use Rattle.heap_rule.specs.declared.phase.Stage.TheVariants.{In}
 use Rattle.heap_rule.specs.declared.view.DomainView.{DomainView}
 use Rattle.heap_rule.specs.declared.view.Share.{Share}
-use Rattle.heap_rule.specs.declared.view.Tenure.{Tenure}
+use Rattle.heap_rule.specs.declared.view.OwnPool.{OwnPool}
 use Rattle.heap_rule.specs.Cycles.{Answering, Cycling, Facts, HoldsBlock, IsCollecting, Knowing}
 use Rattle.heap_rule.specs.Layout.{at_address, before_heap, owner_of}
 use Rattle.heap_rule.specs.Places.{Live, Place}
@@ -27,7 +27,7 @@ use Rattle.steps_cycle.specs.Looks.{with_share}
 use Rattle.steps_cycle.proofs.Learning.{kind_here, known, learns, not_promoting, waits_in}
 use Rattle.steps_cycle.proofs.Plain.{share_closes}
 use Rattle.steps_sweep.specs.Holding.{HeldMay, HeldOwnMay, HeldOwnTold, HeldTold}
-use Rattle.steps_sweep.proofs.TallySteps.{tenure_same, whose}
+use Rattle.steps_sweep.proofs.CountSteps.{own_pool_same, whose}
 
 module _ (k : Config) (s : Words) (r : Rule k s) (id : ℕ) (hist : List Entry) (x : DomainView) (at : get_elem? s.views id ≡ some (one k hist x)) (stage : x.seen.stage ≡ In Answer) where
   abbrev now : model.State
@@ -60,24 +60,24 @@ module _ (k : Config) (s : Words) (r : Rule k s) (id : ℕ) (hist : List Entry) 
   facts : Answering k now live r.account.tenancy c s.words
   facts = subst (λ (kind : Kind). Facts kind k now live r.account.tenancy c s.words) (kind_here k s r id hist x at Answer stage) r.whole.cycle.facts
 
-  holds : (tenure : Option Tenure) (held vacant : ℕ) → ((u : Tenure) → tenure ≡ Some u → holder u.pool ≡ owned d u.class) → ((q class : ℕ) → holder q ≡ owned d class → q < held → HoldsBlock live q class)
-      → ((class slot : ℕ) → holder held ≡ owned d class → slot < blocks_of class → slot < vacant → at_address k s.words (place_in held class slot) ≡ 0) → After (with_share x (record sh { tenure = tenure; held = held; vacant = vacant }))
-  holds tenure held vacant own all free =
+  holds : (own_pool : Option OwnPool) (held vacant : ℕ) → ((u : OwnPool) → own_pool ≡ Some u → holder u.pool ≡ owned d u.class) → ((q class : ℕ) → holder q ≡ owned d class → q < held → HoldsBlock live q class)
+      → ((class slot : ℕ) → holder held ≡ owned d class → slot < blocks_of class → slot < vacant → at_address k s.words (place_in held class slot) ≡ 0) → After (with_share x (record sh { own_pool = own_pool; held = held; vacant = vacant }))
+  holds own_pool held vacant own all free =
       let g = (my_good k s r id hist x at).sharing in
-      let n = kn.tally in
-      let waits : c.shares.arrived d ≡ false = waits_in k s r id hist x at Answer stage in learns k s r id hist x at (record sh { tenure = tenure; held = held; vacant = vacant }) record {
+      let n = kn.counted in
+      let waits : c.shares.arrived d ≡ false = waits_in k s r id hist x at Answer stage in learns k s r id hist x at (record sh { own_pool = own_pool; held = held; vacant = vacant }) record {
         telling = record { owes = g.telling.owes; seen = g.telling.seen; fresh = λ up. absurd (true≢false (sym up ∙ waits)); forgotten = λ up. absurd (true≢false (sym up ∙ waits)); colours = g.telling.colours };
         leading = record { changed = g.leading.changed; found_blocks = g.leading.found_blocks; found_words = g.leading.found_words; rotated = g.leading.rotated; turned = g.leading.turned; pass = g.leading.pass };
         knows = inr (
           collecting,
-          record { glimpse = kn.glimpse; scan = kn.scan; walked = kn.walked; tenure = own; rooted = kn.rooted; marked = kn.marked; tally = record { once = n.once; own = n.own; lives = n.lives; all = n.all; words = n.words }; held = all; vacant = free },
+          record { found_head = kn.found_head; scan = kn.scan; walked = kn.walked; own_pool = own; rooted = kn.rooted; marked = kn.marked; counted = record { once = n.once; own = n.own; lives = n.lives; all = n.all; words = n.words }; held = all; vacant = free },
         );
         adds = record { blocks = g.adds.blocks; words = g.adds.words; own = g.adds.own };
       }
 
   -- one pool more is looked at
   one_more : (pool : ℕ) → sh.held ≡ pool → ((class : ℕ) → holder pool ≡ owned d class → HoldsBlock live pool class) → After (with_share x (record sh { held = pool + 1; vacant = 0 }))
-  one_more pool next here = holds sh.tenure (pool + 1) 0 kn.tenure (λ q class is low. dite (ℕ_discrete q pool)
+  one_more pool next here = holds sh.own_pool (pool + 1) 0 kn.own_pool (λ q class is low. dite (ℕ_discrete q pool)
       (λ same. subst (λ (z : ℕ). HoldsBlock live z class) (sym same) (here class (ap holder (sym same) ∙ is)))
       (λ other. kn.held q class is (let m : ℕ = sh.held in let e : m ≡ pool = next in let l : q < pool + 1 = low in let n : q ≢ pool = other in let g : q < m = omega arith in g)))
       (λ class slot is inside low. absurd (let l : slot < 0 = low in omega arith))
@@ -85,8 +85,8 @@ module _ (k : Config) (s : Words) (r : Rule k s) (id : ℕ) (hist : List Entry) 
   pub owner_held : (word pool : ℕ) → HeldOwnMay k x word pool → (y : DomainView) × After y × HeldOwnTold pool x (owner_of k s.words pool) y
   owner_held word pool may = ⊎_elim
       (λ u. (
-        with_share x (record sh { tenure = Some (record { pool = pool; class = u.0 }) }),
-        holds (Some (record { pool = pool; class = u.0 })) sh.held sh.vacant (λ v e. subst (λ (z : Tenure). holder z.pool ≡ owned d z.class) (tenure_same (record { pool = pool; class = u.0 }) v e) u.1) kn.held kn.vacant,
+        with_share x (record sh { own_pool = Some (record { pool = pool; class = u.0 }) }),
+        holds (Some (record { pool = pool; class = u.0 })) sh.held sh.vacant (λ v e. subst (λ (z : OwnPool). holder z.pool ≡ owned d z.class) (own_pool_same (record { pool = pool; class = u.0 }) v e) u.1) kn.held kn.vacant,
         record { told = inl (u.0, u.2, u.3, refl) },
       ))
       (λ u. (with_share x (record sh { held = pool + 1; vacant = 0 }), one_more pool may.next (λ class is. absurd (u.0 class is)), record { told = inr (u.1, ap (λ (n : ℕ). with_share x (record sh { held = pool + 1; vacant = n })) (sym may.first)) }))
@@ -94,12 +94,12 @@ module _ (k : Config) (s : Words) (r : Rule k s) (id : ℕ) (hist : List Entry) 
 
   pub held_at : (a pool class slot : ℕ) → HeldMay x a pool class slot → (y : DomainView) × After y × HeldTold pool slot x (at_address k s.words a) y
   held_at a pool class slot may =
-      let own : holder pool ≡ owned d class = kn.tenure (record { pool = pool; class = class }) may.own in
+      let own : holder pool ≡ owned d class = kn.own_pool (record { pool = pool; class = class }) may.own in
       let b : ℕ = place_in pool class slot in
       dite (ℕ_discrete (at_address k s.words a) 0)
       (λ free. (
         with_share x (record sh { vacant = slot + 1 }),
-        holds sh.tenure sh.held (slot + 1) kn.tenure kn.held (λ e i is inside low. dite (ℕ_discrete i slot)
+        holds sh.own_pool sh.held (slot + 1) kn.own_pool kn.held (λ e i is inside low. dite (ℕ_discrete i slot)
             (λ same.
             let class_is : class ≡ e = (owned_same d d class e (sym own ∙ (ap holder (sym may.next) ∙ is))).1 in
             subst (λ (z : ℕ × ℕ × ℕ). at_address k s.words (place_in z.0 z.1 z.2) ≡ 0) (λ j. (sym may.next j, class_is j, sym same j)) (ap (at_address k s.words) (sym may.word) ∙ free))
@@ -133,7 +133,7 @@ held_own_may k x word pool may fits slots id hist s r _ at _ =
     (one k hist o.0, keeps, tt, unmoved k s word (set s.views id (one k hist o.0)) o.1, (subst (λ (n : ℕ). HeldOwnTold pool x (get_or s.words n 0) o.0) (sym may.word) o.2, refl))
 
 pub held_own_closes : (k : Config) (x : DomainView) (found pool : ℕ) → Closes k x found (HeldOwnTold pool) CanLeave Leaves
-held_own_closes k x found pool = share_closes k x found (HeldOwnTold pool) (λ y t. ⊎_elim (λ u. (record x.seen.share { tenure = Some (record { pool = pool; class = u.0 }) }, u.3)) (λ u. (record x.seen.share { held = pool + 1 }, u.1)) t.told)
+held_own_closes k x found pool = share_closes k x found (HeldOwnTold pool) (λ y t. ⊎_elim (λ u. (record x.seen.share { own_pool = Some (record { pool = pool; class = u.0 }) }, u.3)) (λ u. (record x.seen.share { held = pool + 1 }, u.1)) t.told)
 
 pub held_may : (k : Config) (x : DomainView) (word a pool class slot : ℕ) → word ≡ before_heap k + a → HeldMay x a pool class slot → MayStep k x word (λ n. n) (HeldTold pool slot)
 held_may k x word a pool class slot place may fits slots id hist s r _ at _ =

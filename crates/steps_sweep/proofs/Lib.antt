@@ -6,8 +6,8 @@ pub mod TurnSteps
 pub mod FreeSteps
 pub mod Recounting
 pub mod ClearSteps
-pub mod TallySteps
-pub mod Tallies
+pub mod CountSteps
+pub mod CountedPlaces
 pub mod AddSteps
 pub mod HoldSteps
 pub mod Returned

@@ -187,8 +187,8 @@ module _ (k : Config) (s : Words) (r : Rule k s) (id : ℕ) (hist : List Entry) 
 
 pub return_may : (k : Config) (x : DomainView) (word pool class : ℕ) → ReturnMay k x word pool class → MayStore k x word 0 (ReturnTold pool)
 return_may k x word pool class may fits slots id hist s r _ at _ =
-    let y : DomainView = with_share x (record x.seen.share { tenure = None; held = pool + 1; vacant = 0 }) in
+    let y : DomainView = with_share x (record x.seen.share { own_pool = None; held = pool + 1; vacant = 0 }) in
     (one k hist y, keeps, tt, subst (λ (n : ℕ). Rule k record { words = set s.words n 0; homes = s.homes; views = set s.views id (one k hist y) }) (sym may.word) (return_rule k s r id hist x at word pool class may), (refl, refl))
 
 pub return_closes : (k : Config) (x : DomainView) (pool : ℕ) → Closes k x 0 (ReturnTold pool) CanLeave Leaves
-return_closes k x pool = share_closes k x 0 (ReturnTold pool) (λ y t. (record x.seen.share { tenure = None; held = pool + 1; vacant = 0 }, t))
+return_closes k x pool = share_closes k x 0 (ReturnTold pool) (λ y t. (record x.seen.share { own_pool = None; held = pool + 1; vacant = 0 }, t))

@@ -12,7 +12,7 @@ use Rattle.heap_rule.specs.declared.phase.Kind.TheVariants.{Answer}
 use Rattle.heap_rule.specs.declared.view.DomainView.{DomainView}
 use Rattle.heap_rule.specs.declared.view.Share.{Share}
 use Rattle.heap_rule.specs.Copies.{Promoting}
-use Rattle.heap_rule.specs.Cycles.{Answering, Cycling, Cycled, Facts, IsCollecting, Knowing, Tallied, owner_at, starts_in}
+use Rattle.heap_rule.specs.Cycles.{Answering, Cycling, Cycled, Facts, IsCollecting, Knowing, HasCounted, owner_at, starts_in}
 use Rattle.heap_rule.specs.Fullness.{Fullness}
 use Rattle.heap_rule.specs.Layout.{at_address, heap_words, listed, cursor, listed_pool, owner_of, table_words}
 use Rattle.heap_rule.specs.Phases.{sum_of}
@@ -65,7 +65,7 @@ module _ (k : Config) (s : Words) (r : Rule k s) (id : ℕ) (hist : List Entry) 
   facts = subst (λ (kind : Kind). Facts kind k now live T c s.words) kind_is r.whole.cycle.facts
 
   pub is_own : T.holder pool ≡ owned d class
-  is_own = kn.tenure (record { pool = pool; class = class }) may.own
+  is_own = kn.own_pool (record { pool = pool; class = class }) may.own
 
   free : (slot : ℕ) → slot < blocks_of class → at_address k s.words (place_in pool class slot) ≡ 0
   free slot inside = subst (λ (q : ℕ). at_address k s.words (place_in q class slot) ≡ 0) may.next
@@ -248,8 +248,8 @@ module _ (k : Config) (s : Words) (r : Rule k s) (id : ℕ) (hist : List Entry) 
   }
 
   -- what domains have counted is theirs still
-  pub tally_on : (e : ℕ) (share : Share) → Tallied k live T.holder e share → Tallied k live t'.holder e share
-  tally_on e share u = record {
+  pub counted_on : (e : ℕ) (share : Share) → HasCounted k live T.holder e share → HasCounted k live t'.holder e share
+  counted_on e share u = record {
     once = u.once;
     own = λ a is. let o = u.own a is in let l = u.lives a is in (o.0, o.1, o.2, else' o.0 (no_block o.0 e o.1 o.2 l.0 o.3 o.4 (ap live (sym o.6) ∙ l.1)) ∙ o.3, o.4, o.5, o.6);
     lives = u.lives;
@@ -257,35 +257,35 @@ module _ (k : Config) (s : Words) (r : Rule k s) (id : ℕ) (hist : List Entry) 
     words = u.words;
   }
 
-  glimpsed : (a found : ℕ) (p : Place) → live a ≡ Some p → (at_address k s.words a ≡ found) ⊎ IsTrue (c.paint.marks.marked p.label) → (at_address k words' a ≡ found) ⊎ IsTrue (c.paint.marks.marked p.label)
-  glimpsed a found p lives u = ⊎_elim (λ (same : at_address k s.words a ≡ found). inl (agrees.heap a (r.whole.placed.fits a p lives).low ∙ same)) (λ (is : IsTrue (c.paint.marks.marked p.label)). inr is) u
+  head_stays : (a found : ℕ) (p : Place) → live a ≡ Some p → (at_address k s.words a ≡ found) ⊎ IsTrue (c.paint.marks.marked p.label) → (at_address k words' a ≡ found) ⊎ IsTrue (c.paint.marks.marked p.label)
+  head_stays a found p lives u = ⊎_elim (λ (same : at_address k s.words a ≡ found). inl (agrees.heap a (r.whole.placed.fits a p lives).low ∙ same)) (λ (is : IsTrue (c.paint.marks.marked p.label)). inr is) u
 
   pub knowing_other : (z : DomainView) → z.own.number ≢ d → Knowing k live T.holder now.graph c.paint.marks s.words z.own.number z.own.registers z.seen.share
       → Knowing k live t'.holder now.graph c.paint.marks words' z.own.number z.own.registers z.seen.share
   knowing_other z other u = let e : ℕ = z.own.number in let share : Share = z.seen.share in record {
-    glimpse = λ g p is lives. glimpsed g.address g.word p lives (u.glimpse g p is lives);
+    found_head = λ g p is lives. head_stays g.address g.word p lives (u.found_head g p is lives);
     scan = u.scan;
     walked = λ q cl slot is inside before. u.walked q cl slot (owned_was q e cl is).1 inside before;
-    tenure = λ v is. owned_still v.pool e v.class other (u.tenure v is);
+    own_pool = λ v is. owned_still v.pool e v.class other (u.own_pool v is);
     rooted = u.rooted;
     marked = u.marked;
-    tally = tally_on e share u.tally;
+    counted = counted_on e share u.counted;
     held = λ q cl is low. u.held q cl (owned_was q e cl is).1 low;
     vacant = λ cl slot is inside low. agrees.heap (place_in share.held cl slot) (omega arith) ∙ u.vacant cl slot (owned_was share.held e cl is).1 inside low;
   }
 
   abbrev pub share' : Share
-  share' = record sh { tenure = None; held = pool + 1; vacant = 0 }
+  share' = record sh { own_pool = None; held = pool + 1; vacant = 0 }
 
   pub knowing_own : Knowing k live t'.holder now.graph c.paint.marks words' d x.own.registers share'
-  knowing_own = let y = tally_on d sh kn.tally in record {
-    glimpse = λ g p is lives. glimpsed g.address g.word p lives (kn.glimpse g p is lives);
+  knowing_own = let y = counted_on d sh kn.counted in record {
+    found_head = λ g p is lives. head_stays g.address g.word p lives (kn.found_head g p is lives);
     scan = kn.scan;
     walked = λ q cl slot is inside before. kn.walked q cl slot (owned_was q d cl is).1 inside before;
-    tenure = λ v e. cc;
+    own_pool = λ v e. cc;
     rooted = kn.rooted;
     marked = kn.marked;
-    tally = record { once = y.once; own = y.own; lives = y.lives; all = y.all; words = y.words };
+    counted = record { once = y.once; own = y.own; lives = y.lives; all = y.all; words = y.words };
     held = λ q cl is low. let w = owned_was q d cl is in kn.held q cl w.1 (let m : ℕ = sh.held in let e : m ≡ pool = may.next in let l : q < pool + 1 = low in let n : q ≢ pool = w.0 in let g : q < m = omega arith in g);
     vacant = λ cl slot is inside low. absurd (let l : slot < 0 = low in omega arith);
   }

@@ -9,7 +9,7 @@ use Rattle.heap_rule.specs.declared.config.Config.{Config}
 use Rattle.heap_rule.specs.declared.phase.Kind.{Kind}
 use Rattle.heap_rule.specs.declared.phase.Kind.TheVariants.{Sweep}
 use Rattle.heap_rule.specs.declared.view.DomainView.{DomainView}
-use Rattle.heap_rule.specs.declared.view.Glimpse.{Glimpse}
+use Rattle.heap_rule.specs.declared.view.FoundHead.{FoundHead}
 use Rattle.heap_rule.specs.declared.view.Share.{Share}
 use Rattle.heap_rule.specs.Cycles.{Facts, Knowing, Sweeping, owner_at}
 use Rattle.heap_rule.specs.Layout.{at_address, before_heap}
@@ -26,8 +26,8 @@ use Rattle.steps_cycle.proofs.Learning.{at_other, at_same, held, knows_more, kno
 use Rattle.steps_sweep.specs.Freeing.{SweepMay, SweepTold, passed}
 use Rattle.steps_sweep.proofs.Swept.{clean_head, collecting, dead_colour, facts, kind_is, seen', swept_on, walked}
 
-glimpse_same : (g h : Glimpse) → Some g ≡ Some h → g ≡ h
-glimpse_same g h e = cc
+found_head_same : (g h : FoundHead) → Some g ≡ Some h → g ≡ h
+found_head_same g h e = cc
 
 module _ (k : Config) (s : Words) (r : Rule k s) (id : ℕ) (hist : List Entry) (x : DomainView) (at : get_elem? s.views id ≡ some (one k hist x)) (a pool class slot : ℕ) (may : SweepMay x a pool class slot) where
   abbrev sh : Share
@@ -66,27 +66,27 @@ module _ (k : Config) (s : Words) (r : Rule k s) (id : ℕ) (hist : List Entry) 
       (λ z other. (refl, at_other c.shares.seen d (λ b. b == a || c.shares.seen d b) z other))
       (t.owes waits)
       (at_same c.shares.seen d (λ b. b == a || c.shares.seen d b) ∙ ap (λ (g : ℕ → Bool). λ (b : ℕ). b == a || g b) (t.seen waits))
-      record { glimpse = kn.glimpse; scan = kn.scan; walked = walked k s r id hist x at a pool class slot may; tenure = kn.tenure; rooted = kn.rooted; marked = kn.marked }
+      record { found_head = kn.found_head; scan = kn.scan; walked = walked k s r id hist x at a pool class slot may; own_pool = kn.own_pool; rooted = kn.rooted; marked = kn.marked }
       refl
 
-  abbrev glimpsed : Share
-  glimpsed = record sh { glimpse = Some (record { address = a; word = found }) }
+  abbrev head_found : Share
+  head_found = record sh { found_head = Some (record { address = a; word = found }) }
 
-  finds : IsTrue (r.account.tenancy.garbage a) → After (with_share x glimpsed)
-  finds is = knows_more k s r id hist x at (collecting k s r id hist x at a pool class slot may) (held glimpsed) refl refl record {
-    glimpse = λ g p e lives.
-        let same : record { address = a; word = found } ≡ g = glimpse_same (record { address = a; word = found }) g e in
-        absurd (let clash : ◌≡◌ {A = Option Place} None (Some p) = sym (r.whole.cycle.leaves.dead a is) ∙ (ap (λ (z : Glimpse). r.account.live z.address) same ∙ lives) in cc);
+  finds : IsTrue (r.account.tenancy.garbage a) → After (with_share x head_found)
+  finds is = knows_more k s r id hist x at (collecting k s r id hist x at a pool class slot may) (held head_found) refl refl record {
+    found_head = λ g p e lives.
+        let same : record { address = a; word = found } ≡ g = found_head_same (record { address = a; word = found }) g e in
+        absurd (let clash : ◌≡◌ {A = Option Place} None (Some p) = sym (r.whole.cycle.leaves.dead a is) ∙ (ap (λ (z : FoundHead). r.account.live z.address) same ∙ lives) in cc);
     scan = kn.scan;
     walked = kn.walked;
-    tenure = kn.tenure;
+    own_pool = kn.own_pool;
     rooted = kn.rooted;
     marked = kn.marked;
   }
 
   pub sweeps : (y : DomainView) × After y × SweepTold a pool class slot x found y
   sweeps = ⊎_elim
-      (λ (is : r.account.tenancy.garbage a ≡ true). (with_share x glimpsed, finds is, record { colours = may.colours; known = may.known; told = inr (dead_colour k s r id hist x at a pool class slot may is, refl) }))
+      (λ (is : r.account.tenancy.garbage a ≡ true). (with_share x head_found, finds is, record { colours = may.colours; known = may.known; told = inr (dead_colour k s r id hist x at a pool class slot may is, refl) }))
       (λ (clean : r.account.tenancy.garbage a ≡ false). (with_share x (passed a pool class slot sh), passes clean, record { colours = may.colours; known = may.known; told = inl (clean_head k s r id hist x at a pool class slot may clean, refl) }))
       (cases_Bool (r.account.tenancy.garbage a))
 
@@ -96,4 +96,4 @@ sweep_may k x word a pool class slot place may fits slots id hist s r _ at _ =
     (one k hist o.0, keeps, tt, unmoved k s word (set s.views id (one k hist o.0)) o.1, (subst (λ (n : ℕ). SweepTold a pool class slot x (get_or s.words n 0) o.0) (sym place) o.2, refl))
 
 pub sweep_closes : (k : Config) (x : DomainView) (found a pool class slot : ℕ) → Closes k x found (SweepTold a pool class slot) CanLeave Leaves
-sweep_closes k x found a pool class slot = share_closes k x found (SweepTold a pool class slot) (λ y t. ⊎_elim (λ u. (passed a pool class slot x.seen.share, u.1)) (λ u. (record x.seen.share { glimpse = Some (record { address = a; word = found }) }, u.1)) t.told)
+sweep_closes k x found a pool class slot = share_closes k x found (SweepTold a pool class slot) (λ y t. ⊎_elim (λ u. (passed a pool class slot x.seen.share, u.1)) (λ u. (record x.seen.share { found_head = Some (record { address = a; word = found }) }, u.1)) t.told)

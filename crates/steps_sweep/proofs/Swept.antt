@@ -81,7 +81,7 @@ module _ (k : Config) (s : Words) (r : Rule k s) (id : ℕ) (hist : List Entry) 
   kn = known k s r id hist x at
 
   pub is_own : t.holder pool ≡ owned d class
-  is_own = kn.tenure (record { pool = pool; class = class }) may.own
+  is_own = kn.own_pool (record { pool = pool; class = class }) may.own
 
   pub kind_is : c.kind ≡ Sweep
   kind_is = kind_here k s r id hist x at Sweep may.stage
@@ -118,9 +118,9 @@ module _ (k : Config) (s : Words) (r : Rule k s) (id : ℕ) (hist : List Entry) 
   seen' = at_domain c.shares.seen d (λ b. b == a || c.shares.seen d b)
 
   -- each own place before the one behind has been seen
-  pub walked : (q e i : ℕ) → t.holder q ≡ owned d e → i < blocks_of e → IsBefore q i (passed a pool class slot x.seen.share).walk → IsTrue (seen_by (a ∷ x.seen.share.sights) (place_in q e i))
+  pub walked : (q e i : ℕ) → t.holder q ≡ owned d e → i < blocks_of e → IsBefore q i (passed a pool class slot x.seen.share).walk → IsTrue (seen_by (a ∷ x.seen.share.places_seen) (place_in q e i))
   walked q e i is inside before =
       let class_is : q ≡ pool → e ≡ class = (λ same. (owned_same d d e class (sym is ∙ (ap t.holder same ∙ is_own))).1) in ⊎_elim
-      (λ (h : (q ≡ pool) × (i ≡ slot)). or_left (place_in q e i == a) (seen_by x.seen.share.sights (place_in q e i)) (eq-eqb (place_in q e i) a (ap (λ (z : ℕ × ℕ × ℕ). place_in z.0 z.1 z.2) (λ j. (h.0 j, class_is h.0 j, h.1 j)) ∙ sym may.word)))
-      (λ (h : IsBefore q i (record { pool = pool; slot = slot })). or_right (place_in q e i == a) (seen_by x.seen.share.sights (place_in q e i)) (kn.walked q e i is inside (subst (IsBefore q i) (sym may.next) h)))
+      (λ (h : (q ≡ pool) × (i ≡ slot)). or_left (place_in q e i == a) (seen_by x.seen.share.places_seen (place_in q e i)) (eq-eqb (place_in q e i) a (ap (λ (z : ℕ × ℕ × ℕ). place_in z.0 z.1 z.2) (λ j. (h.0 j, class_is h.0 j, h.1 j)) ∙ sym may.word)))
+      (λ (h : IsBefore q i (record { pool = pool; slot = slot })). or_right (place_in q e i == a) (seen_by x.seen.share.places_seen (place_in q e i)) (kn.walked q e i is inside (subst (IsBefore q i) (sym may.next) h)))
       (before_behind pool class slot q i (λ same. subst (λ (z : ℕ). i < blocks_of z) (class_is same) inside) before)

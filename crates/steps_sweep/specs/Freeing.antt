@@ -20,7 +20,7 @@ pub record IsColoured (colour word : ℕ) : Type 0 where
 -- in Sweep, a load of the head at the next place of an own pool
 pub record SweepMay (x : DomainView) (at pool class slot : ℕ) : Type 0 where
   pub stage : x.seen.stage ≡ In Sweep
-  pub own : x.seen.share.tenure ≡ Some (record { pool = pool; class = class })
+  pub own : x.seen.share.own_pool ≡ Some (record { pool = pool; class = class })
   pub inside : slot < blocks_of class
   pub word : at ≡ place_in pool class slot
   pub next : x.seen.share.walk ≡ record { pool = pool; slot = slot }
@@ -29,27 +29,27 @@ pub record SweepMay (x : DomainView) (at pool class slot : ℕ) : Type 0 where
 
 -- the domain has been at the place, and its walk goes on behind it
 abbrev pub passed : ℕ → ℕ → ℕ → ℕ → Share → Share
-passed at pool class slot share = record share { sights = at ∷ share.sights; walk = behind pool class slot }
+passed at pool class slot share = record share { places_seen = at ∷ share.places_seen; walk = behind pool class slot }
 
 -- no garbage is there, and the walk goes on; or the domain has found garbage
 pub record SweepTold (at pool class slot : ℕ) (x : DomainView) (found : ℕ) (y : DomainView) : Type 0 where
   pub colours : Colours
   pub known : x.seen.share.colours ≡ Some colours
   pub told : (((found ≡ 0) ⊎ IsColoured colours.unmarked found) × (y ≡ with_share x (passed at pool class slot x.seen.share)))
-      ⊎ (IsColoured colours.garbage found × (y ≡ with_share x (record x.seen.share { glimpse = Some (record { address = at; word = found }) })))
+      ⊎ (IsColoured colours.garbage found × (y ≡ with_share x (record x.seen.share { found_head = Some (record { address = at; word = found }) })))
 
 -- the garbage that the domain has found at the next place is freed
 pub record FreeMay (x : DomainView) (at pool class slot : ℕ) : Type 0 where
   pub look : SweepMay x at pool class slot
   pub word : ℕ
-  pub found : x.seen.share.glimpse ≡ Some (record { address = at; word = word })
+  pub found : x.seen.share.found_head ≡ Some (record { address = at; word = word })
   pub garbage : IsColoured look.colours.garbage word
 
 -- the walk goes on, and all places of own pools of the class may be free
 abbrev pub freed : ℕ → ℕ → ℕ → ℕ → DomainView → DomainView
 freed at pool class slot x = record x {
   own = record x.own { looked = slice_set x.own.looked class (record { pool = 0; slot = 0 }) };
-  seen = record x.seen { share = record (passed at pool class slot x.seen.share) { glimpse = None } };
+  seen = record x.seen { share = record (passed at pool class slot x.seen.share) { found_head = None } };
 }
 
 abbrev pub FreeTold : ℕ → ℕ → ℕ → ℕ → DomainView → ℕ → DomainView → Type 0

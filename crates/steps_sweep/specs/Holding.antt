@@ -18,13 +18,13 @@ pub record HeldOwnMay (k : Config) (x : DomainView) (at pool : ℕ) : Type 0 whe
 
 -- the pool is the domain's own, for blocks of a class, or the next pool is looked at
 pub record HeldOwnTold (pool : ℕ) (x : DomainView) (found : ℕ) (y : DomainView) : Type 0 where
-  pub told : ((class : ℕ) × (class < class_count) × (found ≡ owner_word (owned x.own.number class)) × (y ≡ with_share x (record x.seen.share { tenure = Some (record { pool = pool; class = class }) })))
+  pub told : ((class : ℕ) × (class < class_count) × (found ≡ owner_word (owned x.own.number class)) × (y ≡ with_share x (record x.seen.share { own_pool = Some (record { pool = pool; class = class }) })))
       ⊎ (((class : ℕ) → class < class_count → found ≢ owner_word (owned x.own.number class)) × (y ≡ with_share x (record x.seen.share { held = pool + 1 })))
 
 -- a load of the head at the next place of the next pool, which is the domain's own. The places before it were found free
 pub record HeldMay (x : DomainView) (at pool class slot : ℕ) : Type 0 where
   pub stage : x.seen.stage ≡ In Answer
-  pub own : x.seen.share.tenure ≡ Some (record { pool = pool; class = class })
+  pub own : x.seen.share.own_pool ≡ Some (record { pool = pool; class = class })
   pub inside : slot < blocks_of class
   pub word : at ≡ place_in pool class slot
   pub next : x.seen.share.held ≡ pool

@@ -10,7 +10,7 @@ use Rattle.steps_cycle.specs.Looks.{with_share}
 -- in Answer, a store to the owner's word of the next pool, which is the domain's own, and each of whose places was found free
 pub record ReturnMay (k : Config) (x : DomainView) (at pool class : ℕ) : Type 0 where
   pub stage : x.seen.stage ≡ In Answer
-  pub own : x.seen.share.tenure ≡ Some (record { pool = pool; class = class })
+  pub own : x.seen.share.own_pool ≡ Some (record { pool = pool; class = class })
   pub next : x.seen.share.held ≡ pool
   pub all : blocks_of class ≤ x.seen.share.vacant
   pub inside : pool < k.pools
@@ -18,4 +18,4 @@ pub record ReturnMay (k : Config) (x : DomainView) (at pool class : ℕ) : Type 
 
 -- the pool is the domain's no more, and the pool behind it is next
 abbrev pub ReturnTold : ℕ → DomainView → ℕ → DomainView → Type 0
-ReturnTold pool x found y = y ≡ with_share x (record x.seen.share { tenure = None; held = pool + 1; vacant = 0 })
+ReturnTold pool x found y = y ≡ with_share x (record x.seen.share { own_pool = None; held = pool + 1; vacant = 0 })

@@ -3,15 +3,15 @@
 #![tactic(auto)]
 
 mod answering;
+mod counting;
 mod freeing;
 mod holding;
 mod returning;
-mod tallying;
 mod turning;
 
 pub use answering::{live_blocks_load, live_words_load};
+pub use counting::{blocks_add, count_load, count_own_load, words_add};
 pub use freeing::{free_store, sweep_load};
 pub use holding::{held_load, held_own_load};
 pub use returning::pool_return;
-pub use tallying::{blocks_add, tally_load, tally_own_load, words_add};
 pub use turning::{blocks_clear, colours_store, words_clear};

@@ -5,7 +5,7 @@ use Rattle.heap_model.specs.Domains.{class_count}
 use Rattle.heap_words.specs.declared.colours.Colours.{Colours}
 use Rattle.heap_rule.specs.declared.config.Config.{Config}
 use Rattle.heap_rule.specs.declared.view.DomainView.{DomainView}
-use Rattle.heap_rule.specs.declared.view.Tenure.{Tenure}
+use Rattle.heap_rule.specs.declared.view.OwnPool.{OwnPool}
 use Rattle.heap_rule.specs.Pools.{blocks_of, place_in}
 use Rattle.steps_cycle.specs.Looks.{with_share}
 use Rattle.steps_cycle.specs.Marking.{IsNext}
@@ -29,14 +29,14 @@ sweeping_on c x y s w = record { stage = ap (λ (v : DomainView). v.seen.stage) 
 
 -- a head of garbage was found, and it is to be freed
 module _ (colours : Colours) (pool class slot at found : ℕ) (x v : DomainView) (w : IsSweeping colours x) (next : IsNext x (place_in pool class slot) pool class slot) (here : at ≡ place_in pool class slot) (told : SweepTold at pool class slot x found v) (garbage : IsColoured colours.garbage found) where
-  abbrev glimpsing : DomainView
-  glimpsing = with_share x (record x.seen.share { glimpse = Some (record { address = at; word = found }) })
+  abbrev finding_head : DomainView
+  finding_head = with_share x (record x.seen.share { found_head = Some (record { address = at; word = found }) })
 
   unmarked_is : told.colours.unmarked ≡ colours.unmarked
   unmarked_is = ap (λ (c : Colours). c.unmarked) (same_colours told.colours colours (sym told.known ∙ w.known))
 
-  glimpsed : v ≡ glimpsing
-  glimpsed = ⊎_elim
+  head_found : v ≡ finding_head
+  head_found = ⊎_elim
       (λ clean. absurd (⊎_elim
       (λ (z : found ≡ 0). no_colour colours.garbage found garbage z)
       (λ (u : IsColoured told.colours.unmarked found). w.meanings.unmarked_differs (sym unmarked_is ∙ one_colour told.colours.unmarked colours.garbage found u garbage))
@@ -45,7 +45,7 @@ module _ (colours : Colours) (pool class slot at found : ℕ) (x v : DomainView)
       told.told
 
   pub free_ready : FreeMay v at pool class slot
-  free_ready = subst (λ (y : DomainView). FreeMay y at pool class slot) (sym glimpsed) (record {
+  free_ready = subst (λ (y : DomainView). FreeMay y at pool class slot) (sym head_found) (record {
     look = record { stage = w.stage; own = next.own; inside = next.inside; word = here; next = next.next; colours = colours; known = w.known };
     word = found;
     found = refl;
@@ -53,13 +53,13 @@ module _ (colours : Colours) (pool class slot at found : ℕ) (x v : DomainView)
   })
 
 -- all places of some pools, and then of others
-all_both : (later earlier : List Tenure) (rest : List ℕ) → all_places later (all_places earlier rest) ≡ all_places (later ++ earlier) rest
+all_both : (later earlier : List OwnPool) (rest : List ℕ) → all_places later (all_places earlier rest) ≡ all_places (later ++ earlier) rest
 all_both [] earlier rest = refl
 all_both (t ∷ ts) earlier rest = ap (places_of t.pool t.class (blocks_of t.class)) (all_both ts earlier rest)
 
 pub visited_twice : (k : Config) (x y z : DomainView) → Visited k x y → Visited k y z → Visited k x z
-visited_twice k x y z a b = record { own = b.own ++ a.own; real = All-append (IsPool k) b.own a.own b.real a.real; sights = b.sights ∙ (ap (all_places b.own) a.sights ∙ all_both b.own a.own x.seen.share.sights) }
+visited_twice k x y z a b = record { own = b.own ++ a.own; real = All-append (IsPool k) b.own a.own b.real a.real; places_seen = b.places_seen ∙ (ap (all_places b.own) a.places_seen ∙ all_both b.own a.own x.seen.share.places_seen) }
 
 -- all places of one pool
-pub visited_pool : (k : Config) (pool class n : ℕ) (x y : DomainView) → pool < k.pools → class < class_count → n ≡ blocks_of class → y.seen.share.sights ≡ places_of pool class n x.seen.share.sights → Visited k x y
-visited_pool k pool class n x y inside few all e = record { own = record { pool = pool; class = class } ∷ []; real = All-push (IsPool k) [] (record { pool = pool; class = class }) (λ i d below. absurd (omega arith)) (inside, few); sights = e ∙ ap (λ (m : ℕ). places_of pool class m x.seen.share.sights) all }
+pub visited_pool : (k : Config) (pool class n : ℕ) (x y : DomainView) → pool < k.pools → class < class_count → n ≡ blocks_of class → y.seen.share.places_seen ≡ places_of pool class n x.seen.share.places_seen → Visited k x y
+visited_pool k pool class n x y inside few all e = record { own = record { pool = pool; class = class } ∷ []; real = All-push (IsPool k) [] (record { pool = pool; class = class }) (λ i d below. absurd (omega arith)) (inside, few); places_seen = e ∙ ap (λ (m : ℕ). places_of pool class m x.seen.share.places_seen) all }

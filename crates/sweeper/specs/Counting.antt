@@ -6,7 +6,7 @@ use Rattle.heap_rule.specs.declared.phase.Stage.TheVariants.{In}
 use Rattle.heap_rule.specs.declared.view.DomainView.{DomainView}
 use Rattle.heap_rule.specs.Pools.{blocks_of}
 use Rattle.steps_cycle.specs.Marking.{behind}
-use Rattle.sweeper.specs.declared.counting.Tally.{Tally}
+use Rattle.sweeper.specs.declared.counting.LiveCount.{LiveCount}
 
 -- in Sweep, the domain has swept its pools, and adds nothing yet
 pub record IsCounting (k : Config) (x : DomainView) : Type 0 where
@@ -16,49 +16,49 @@ pub record IsCounting (k : Config) (x : DomainView) : Type 0 where
 
 -- it has counted nothing in this phase
 pub record HasCountedNothing (x : DomainView) : Type 0 where
-  pub blocks : x.seen.share.tally ≡ []
-  pub words : x.seen.share.tally_words ≡ 0
-  pub next : x.seen.share.tallied ≡ record { pool = 0; slot = 0 }
+  pub blocks : x.seen.share.counted ≡ []
+  pub words : x.seen.share.counted_words ≡ 0
+  pub next : x.seen.share.counted_to ≡ record { pool = 0; slot = 0 }
   pub blocks_not_added : x.seen.share.added_blocks ≡ false
   pub words_not_added : x.seen.share.added_words ≡ false
 
 -- these are the sums of what it has counted, at so many places at most
-pub record IsTally (t : Tally) (places : ℕ) (x : DomainView) : Type 0 where
-  pub blocks : t.blocks ≡ length x.seen.share.tally
-  pub words : t.words ≡ x.seen.share.tally_words
+pub record IsLiveCount (t : LiveCount) (places : ℕ) (x : DomainView) : Type 0 where
+  pub blocks : t.blocks ≡ length x.seen.share.counted
+  pub words : t.words ≡ x.seen.share.counted_words
   pub few : t.blocks ≤ places
   pub light : t.words ≤ places * 1024
 
 -- the next place to be counted is this one, in an own pool
 pub record CountsAt (x : DomainView) (pool class slot : ℕ) : Type 0 where
-  pub own : x.seen.share.tenure ≡ Some (record { pool = pool; class = class })
+  pub own : x.seen.share.own_pool ≡ Some (record { pool = pool; class = class })
   pub inside : slot < blocks_of class
-  pub next : x.seen.share.tallied ≡ record { pool = pool; slot = slot }
+  pub next : x.seen.share.counted_to ≡ record { pool = pool; slot = slot }
 
 -- it is the first of an own pool
 pub record CountsIn (x : DomainView) (pool class : ℕ) : Type 0 where
-  pub own : x.seen.share.tenure ≡ Some (record { pool = pool; class = class })
-  pub next : x.seen.share.tallied ≡ record { pool = pool; slot = 0 }
+  pub own : x.seen.share.own_pool ≡ Some (record { pool = pool; class = class })
+  pub next : x.seen.share.counted_to ≡ record { pool = pool; slot = 0 }
 
 -- the domain with what counting changes as another has it
 abbrev pub with_count : DomainView → DomainView → DomainView
-with_count x y = record x { seen = record x.seen { share = record x.seen.share { tenure = y.seen.share.tenure; tally = y.seen.share.tally; tallied = y.seen.share.tallied; tally_words = y.seen.share.tally_words } } }
+with_count x y = record x { seen = record x.seen { share = record x.seen.share { own_pool = y.seen.share.own_pool; counted = y.seen.share.counted; counted_to = y.seen.share.counted_to; counted_words = y.seen.share.counted_words } } }
 
 -- it has counted what lives at a place
 pub record CountedPlace (pool class slot : ℕ) (x y : DomainView) : Type 0 where
   pub view : y ≡ with_count x y
-  pub tenure : y.seen.share.tenure ≡ x.seen.share.tenure
-  pub next : y.seen.share.tallied ≡ behind pool class slot
+  pub own_pool : y.seen.share.own_pool ≡ x.seen.share.own_pool
+  pub next : y.seen.share.counted_to ≡ behind pool class slot
 
 -- in a pool
 pub record CountedPool (pool : ℕ) (x y : DomainView) : Type 0 where
   pub view : y ≡ with_count x y
-  pub next : y.seen.share.tallied ≡ record { pool = pool + 1; slot = 0 }
+  pub next : y.seen.share.counted_to ≡ record { pool = pool + 1; slot = 0 }
 
 -- in all pools
 pub record CountedAll (k : Config) (x y : DomainView) : Type 0 where
   pub view : y ≡ with_count x y
-  pub whole : k.pools ≤ y.seen.share.tallied.pool
+  pub whole : k.pools ≤ y.seen.share.counted_to.pool
 
 -- the domain with what it has counted added to the live words
 abbrev pub adding : DomainView → DomainView
@@ -67,5 +67,5 @@ adding x = record x { seen = record x.seen { share = record x.seen.share { added
 -- and has added how many blocks that is and how many words these have, each once
 pub record Counted (k : Config) (x y : DomainView) : Type 0 where
   pub view : y ≡ adding (with_count x y)
-  pub whole : k.pools ≤ y.seen.share.tallied.pool
+  pub whole : k.pools ≤ y.seen.share.counted_to.pool
   pub added : (y.seen.share.added_blocks ≡ true) × (y.seen.share.added_words ≡ true)

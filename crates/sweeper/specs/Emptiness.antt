@@ -7,7 +7,7 @@ use Rattle.heap_rule.specs.Pools.{blocks_of}
 
 -- the domain with what these looks change as another has it
 abbrev pub with_looks : DomainView → DomainView → DomainView
-with_looks x y = record x { seen = record x.seen { share = record x.seen.share { tenure = y.seen.share.tenure; held = y.seen.share.held; vacant = y.seen.share.vacant } } }
+with_looks x y = record x { seen = record x.seen { share = record x.seen.share { own_pool = y.seen.share.own_pool; held = y.seen.share.held; vacant = y.seen.share.vacant } } }
 
 -- in Answer, it looks at a pool next, of which it knows nothing
 pub record LooksFrom (x : DomainView) (pool : ℕ) : Type 0 where
@@ -17,12 +17,12 @@ pub record LooksFrom (x : DomainView) (pool : ℕ) : Type 0 where
 
 -- and the pool is the domain's own
 pub record LooksIn (x : DomainView) (pool class : ℕ) : Type 0 where
-  pub own : x.seen.share.tenure ≡ Some (record { pool = pool; class = class })
+  pub own : x.seen.share.own_pool ≡ Some (record { pool = pool; class = class })
   pub from : LooksFrom x pool
 
 -- each place of the pool, which is the domain's own, was found free
 pub record FoundEmpty (x : DomainView) (pool class : ℕ) : Type 0 where
   pub stage : x.seen.stage ≡ In Answer
-  pub own : x.seen.share.tenure ≡ Some (record { pool = pool; class = class })
+  pub own : x.seen.share.own_pool ≡ Some (record { pool = pool; class = class })
   pub next : x.seen.share.held ≡ pool
   pub all : blocks_of class ≤ x.seen.share.vacant

@@ -4,17 +4,17 @@ ghost use Rattle.heap_model.specs.Domains.{class_count};
 ghost use Rattle.heap_rule.specs.declared.phase.Kind.TheVariants.{Sweep};
 ghost use Rattle.heap_rule.specs.declared.phase.Stage.TheVariants.{In};
 ghost use Rattle.heap_rule.specs.Token.{IsIn};
-ghost use Rattle.sweeper.specs.Counting.{CountedPlace, CountedPool, CountedAll, Counted, CountsIn, CountsAt, HasCountedNothing, IsCounting, IsTally};
+ghost use Rattle.sweeper.specs.Counting.{CountedPlace, CountedPool, CountedAll, Counted, CountsIn, CountsAt, HasCountedNothing, IsCounting, IsLiveCount};
 
 use crate::owners::{OWNERS, own_class};
 use crate::words::words_of;
 use heap_rule::{Domain, Heap};
 use steps_pools::{class_blocks, place_address};
-use steps_sweep::{blocks_add, tally_load, tally_own_load, words_add};
+use steps_sweep::{blocks_add, count_load, count_own_load, words_add};
 
 // What has been counted so far.
 #[derive(Clone, Copy)]
-pub(crate) struct Tally {
+pub(crate) struct LiveCount {
     pub(crate) blocks: u64,
     pub(crate) words: u64,
 }
@@ -26,43 +26,43 @@ fn count_place(
     pool: u32,
     class: u32,
     slot: u32,
-    tally: Tally,
-) -> Tally
+    count: LiveCount,
+) -> LiveCount
     requires here { IsIn dom.old heap.now }
     requires inside { pool < heap.now.config.pools }
     requires class { class < class_count }
     requires counts { IsCounting heap.now.config dom.old.view }
     requires next { CountsAt dom.old.view pool class slot }
-    requires tally { IsTally tally (pool * 1024 + slot) dom.old.view }
+    requires count { IsLiveCount count (pool * 1024 + slot) dom.old.view }
     ensures here { IsIn dom.new heap.now }
     ensures counted { CountedPlace pool class slot dom.old.view dom.new.view }
-    ensures tally { IsTally result (pool * 1024 + slot + 1) dom.new.view }
+    ensures count { IsLiveCount result (pool * 1024 + slot + 1) dom.new.view }
 {
     let _limits = heap.config();
     let at = place_address(pool, class, slot);
-    let word = tally_load(heap, dom, at, pool, class, slot);
+    let word = count_load(heap, dom, at, pool, class, slot);
     if word == 0 {
-        return tally;
+        return count;
     }
-    Tally {
-        blocks: tally.blocks + 1,
-        words: tally.words + words_of(word),
+    LiveCount {
+        blocks: count.blocks + 1,
+        words: count.words + words_of(word),
     }
 }
 
 // Counts what lives in the next pool, which is the domain's own.
-fn count_places(heap: &Heap, dom: &mut Domain, pool: u32, class: u32, tally: Tally) -> Tally
+fn count_places(heap: &Heap, dom: &mut Domain, pool: u32, class: u32, count: LiveCount) -> LiveCount
     requires here { IsIn dom.old heap.now }
     requires inside { pool < heap.now.config.pools }
     requires class { class < class_count }
     requires counts { IsCounting heap.now.config dom.old.view }
     requires next { CountsIn dom.old.view pool class }
-    requires tally { IsTally tally (pool * 1024) dom.old.view }
+    requires count { IsLiveCount count (pool * 1024) dom.old.view }
     ensures here { IsIn dom.new heap.now }
     ensures counted { CountedPool pool dom.old.view dom.new.view }
-    ensures tally { IsTally result ((pool + 1) * 1024) dom.new.view }
+    ensures count { IsLiveCount result ((pool + 1) * 1024) dom.new.view }
 {
-    let mut sum = tally;
+    let mut sum = count;
     for slot in 0..class_blocks(class) {
         sum = count_place(heap, dom, pool, class, slot, sum);
     }
@@ -70,35 +70,35 @@ fn count_places(heap: &Heap, dom: &mut Domain, pool: u32, class: u32, tally: Tal
 }
 
 // Counts what lives in the next pool, if it is the domain's own.
-fn count_pool(heap: &Heap, dom: &mut Domain, pool: u32, tally: Tally) -> Tally
+fn count_pool(heap: &Heap, dom: &mut Domain, pool: u32, count: LiveCount) -> LiveCount
     requires here { IsIn dom.old heap.now }
     requires inside { pool < heap.now.config.pools }
     requires counts { IsCounting heap.now.config dom.old.view }
-    requires next { dom.old.view.seen.share.tallied ≡ record { pool = pool; slot = 0 } }
-    requires tally { IsTally tally (pool * 1024) dom.old.view }
+    requires next { dom.old.view.seen.share.counted_to ≡ record { pool = pool; slot = 0 } }
+    requires count { IsLiveCount count (pool * 1024) dom.old.view }
     ensures here { IsIn dom.new heap.now }
     ensures counted { CountedPool pool dom.old.view dom.new.view }
-    ensures tally { IsTally result ((pool + 1) * 1024) dom.new.view }
+    ensures count { IsLiveCount result ((pool + 1) * 1024) dom.new.view }
 {
     let at = OWNERS + heap.config().pools + pool;
-    let word = tally_own_load(heap, dom, at, pool);
+    let word = count_own_load(heap, dom, at, pool);
     let Some(class) = own_class(word, dom.number()) else {
-        return tally;
+        return count;
     };
-    count_places(heap, dom, pool, class, tally)
+    count_places(heap, dom, pool, class, count)
 }
 
 // Counts what lives in all own pools.
-fn count_pools(heap: &Heap, dom: &mut Domain) -> Tally
+fn count_pools(heap: &Heap, dom: &mut Domain) -> LiveCount
     requires here { IsIn dom.old heap.now }
     requires counts { IsCounting heap.now.config dom.old.view }
     requires nothing { HasCountedNothing dom.old.view }
     ensures here { IsIn dom.new heap.now }
     ensures counted { CountedAll heap.now.config dom.old.view dom.new.view }
-    ensures tally { IsTally result (heap.now.config.pools * 1024) dom.new.view }
+    ensures count { IsLiveCount result (heap.now.config.pools * 1024) dom.new.view }
 {
     let pools = heap.config().pools;
-    let mut sum = Tally {
+    let mut sum = LiveCount {
         blocks: 0,
         words: 0,
     };

@@ -12,10 +12,10 @@ pub returns-then-begins-clause-opens : goal.returns-then-begins-clause-opens
 returns-then-begins-clause-opens c =
     let k : Config = c.args.heap.now.config in
     reset_begins k c.args.dom.now.view c.write_list-free.new.dom.view c.wants-found.new.dom.view c.wants-found.result.bits c.write_list-free.result c.write_list-free.ensures.same c.write_list-free.ensures.list c.write_list-free.ensures.count c.wants-found.ensures.view
-    (ap (λ (l : Config). begins l (record { wants = c.wants-found.result.bits; changed = 0; free = c.write_list-free.result })) (sym c.config.ensures.value) ∙ (sym c.begins.ensures ∙ c.if-begins.true))
+    (ap (λ (l : Config). begins l c.wants-found.result.bits c.write_list-free.result) (sym c.config.ensures.value) ∙ (sym c.begins.ensures ∙ c.if-begins.true))
 
 pub returns-else-begins-clause-opens : goal.returns-else-begins-clause-opens
 returns-else-begins-clause-opens c =
     let k : Config = c.args.heap.now.config in
     reset_runs k c.args.dom.now.view c.write_list-free.new.dom.view c.wants-found.new.dom.view c.wants-found.result.bits c.write_list-free.result c.write_list-free.ensures.same c.write_list-free.ensures.list c.write_list-free.ensures.count c.wants-found.ensures.view
-    (ap (λ (l : Config). begins l (record { wants = c.wants-found.result.bits; changed = 0; free = c.write_list-free.result })) (sym c.config.ensures.value) ∙ (sym c.begins.ensures ∙ c.if-begins.false))
+    (ap (λ (l : Config). begins l c.wants-found.result.bits c.write_list-free.result) (sym c.config.ensures.value) ∙ (sym c.begins.ensures ∙ c.if-begins.false))

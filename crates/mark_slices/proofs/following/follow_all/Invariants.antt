@@ -8,7 +8,7 @@ invariant-loop-i l = record {
   here : IsIn l.dom l.heap;
   marks : Marks l.colours l.dom.view;
   walked : Walked l.fn.dom.view.seen.share.walk l.darkened l.fn.dom.view l.dom.view;
-  own : l.dom.view.seen.share.tenure ≡ l.fn.dom.view.seen.share.tenure;
+  own : l.dom.view.seen.share.own_pool ≡ l.fn.dom.view.seen.share.own_pool;
   noted : Noted l.heap.config l.dom.view.seen.share.marked l.hints.items;
   long : IsAsLong l.fn.hints l.hints;
 }

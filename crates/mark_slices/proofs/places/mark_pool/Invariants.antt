@@ -12,7 +12,7 @@ invariant-loop-slot l = record {
   here : IsIn l.dom l.heap;
   marks : Marks l.colours l.dom.view;
   walked : Walked (spot_from l.pool l.class l.slot) l.darkened l.fn.dom.view l.dom.view;
-  own : l.dom.view.seen.share.tenure ≡ l.fn.dom.view.seen.share.tenure;
+  own : l.dom.view.seen.share.own_pool ≡ l.fn.dom.view.seen.share.own_pool;
   none : l.hints.items ≡ [];
   long : IsAsLong l.fn.hints l.hints;
 }

@@ -14,5 +14,5 @@ returns-clause-swept c =
     let end : i ≡ b = omega arith in record {
       sweeps = c.loop-slot.invariant.sweeps;
       walk = c.loop-slot.invariant.done (omega arith);
-      visited = visited_pool c.args.heap.now.config c.args.pool c.args.class i c.args.dom.now.view c.loop-slot.dom.view c.requires.inside c.requires.class end c.loop-slot.invariant.sights;
+      visited = visited_pool c.args.heap.now.config c.args.pool c.args.class i c.args.dom.now.view c.loop-slot.dom.view c.requires.inside c.requires.class end c.loop-slot.invariant.places_seen;
     }

@@ -9,8 +9,8 @@ abbrev pub invariant-loop-slot : goal.invariant-loop-slot
 invariant-loop-slot l = record {
   here : IsIn l.dom l.heap;
   sweeps : Sweeps l.fn.dom.view l.dom.view;
-  tenure : l.dom.view.seen.share.tenure ≡ l.fn.dom.view.seen.share.tenure;
+  own_pool : l.dom.view.seen.share.own_pool ≡ l.fn.dom.view.seen.share.own_pool;
   more : l.slot < blocks_of l.class → l.dom.view.seen.share.walk ≡ record { pool = l.pool; slot = l.slot };
   done : blocks_of l.class ≤ l.slot → l.dom.view.seen.share.walk ≡ record { pool = l.pool + 1; slot = 0 };
-  sights : l.dom.view.seen.share.sights ≡ places_of l.pool l.class l.slot l.fn.dom.view.seen.share.sights;
+  places_seen : l.dom.view.seen.share.places_seen ≡ places_of l.pool l.class l.slot l.fn.dom.view.seen.share.places_seen;
 }

@@ -1,0 +1,83 @@
+-- What the pass through a phase is of a run.
+use Rattle.std.proofs.Common.{◌≡◌, ◌∙◌, ℕ, ◌<◌, Bool, false, Option, Some, None, refl, sym, ap, subst}
+use Rattle.heap_model.specs.declared.command.Command.TheVariants.{FullMajor}
+use Rattle.heap_model.specs.declared.entry.Entry.TheVariants.{Command as CommandOf}
+use Rattle.heap_model.specs.declared.reply.Reply.{Reply}
+use Rattle.heap_model.specs.declared.reply.Applied.TheVariants.{Replied}
+use Rattle.heap_model.specs.Domains.{domain_at, opening}
+use Rattle.heap_model.specs.Fronts.{Answers}
+use Rattle.heap_model.proofs.Histories.FrontLemmas.{keeps_front}
+use Rattle.heap_rule.specs.declared.config.Config.{Config}
+use Rattle.heap_rule.specs.declared.phase.Kind.{Kind}
+use Rattle.heap_rule.specs.declared.phase.Kind.TheVariants.{Run, Answer}
+use Rattle.heap_rule.specs.declared.phase.Note.TheVariants.{Barrier}
+use Rattle.heap_rule.specs.declared.phase.Stage.TheVariants.{In}
+use Rattle.heap_rule.specs.declared.view.DomainView.{DomainView}
+use Rattle.heap_rule.specs.Limits.{sizes_in}
+use Rattle.heap_rule.specs.Phases.{Comes, IsEven}
+use Rattle.heap_rule.specs.Rule.{state_of}
+use Rattle.heap_rule.specs.Token.{Token, SharedHeap, IsIn}
+use Rattle.steps_pauses.specs.Pauses.{noted, cut_in, IsModeOf}
+use Rattle.safepoint.specs.Looks.{Passed}
+use Rattle.domain_turns.specs.declared.passing.Past.TheVariants.{Answered}
+use Rattle.domain_turns.specs.Pausing.{HasLeft, IsCollected, ComesToAnswer, GivesBack, AnswersFrom}
+use Rattle.domain_turns.specs.Past.{PassAnswers}
+use Rattle.domain_turns.specs.Runs.{RunView, IsRun, IsBetween, Passes}
+use Rattle.domain_turns.proofs.Moving.{moved_is_run, still_moves, view_moves}
+use Rattle.domain_turns.proofs.PauseLemmas.{before_else, fresh_on, ready_next, looked_quiet}
+use Rattle.domain_turns.proofs.LeavingLemmas.{passes_moves, passes_between, gives_moves, gives_between, waits_between}
+
+-- a look found that the phase has begun in which a collection is answered
+pub comes_to : (k : Config) (known : Kind) (x y : DomainView) → x.own.number < k.domains → HasLeft k known x → Passed k x y → y.seen.stage ≡ In Answer → IsEven x.own.arrivals → Comes x.own.number known Answer → IsModeOf Answer (state_of k y.seen.front).mode → ComesToAnswer k x y
+comes_to k known x y inside left p stage even comes mode = record { passed = p; stage = stage; even = even; ready = ready_next k known Answer x y inside left p even comes mode }
+
+-- what it then did
+pub answers_pass : (k : Config) (x begun y : DomainView) (known : Kind) (live : Bool) (o : Option Reply) → ComesToAnswer k x begun → AnswersFrom k begun y live o → PassAnswers k x y known live (Answered o)
+answers_pass k x begun y known live None c a = (a.0, record { begun = begun; comes = c; view = a.1 })
+answers_pass k x begun y known live (Some reply) c a =
+    let l = a.1.1 in
+    let number : begun.own.number ≡ x.own.number = ap (λ (v : DomainView). v.own.number) c.passed.view in (
+      a.0,
+      record {
+        begun = begun;
+        comes = c;
+        emptied = c.ready.past.emptied (before_else c.ready.before Answer c.ready.follows (λ e. cc) (λ e. cc));
+        blocks = l.blocks;
+        words = l.words;
+        reply_is = l.reply_is;
+        front = a.1.0.seen.front;
+        answers = subst (λ (d : ℕ). Answers (sizes_in k) d begun.seen.front a.1.0.seen.front (CommandOf d FullMajor false) (Replied reply)) number l.answers;
+        view = a.1.2;
+      },
+    )
+
+-- who goes on still does after a look
+pub look_goes_on : (k : Config) (x y : DomainView) → Passed k x y → (domain_at (state_of k x.seen.front) x.own.number).ended ≡ false → (domain_at (state_of k y.seen.front) y.own.number).ended ≡ false
+look_goes_on k x y p goes = subst (λ (d : ℕ). (domain_at (state_of k y.seen.front) d).ended ≡ false) (sym (ap (λ (v : DomainView). v.own.number) p.view)) ((keeps_front (opening (sizes_in k)) x.own.number y.seen.front x.seen.front p.seen).ended ∙ goes)
+
+-- the run stands between two turns
+between_of : (r : RunView) (last : Kind) → IsRun r → r.left ≡ Some last → IsBetween (Some last) r.asked r.collected r.cut r.token
+between_of r last is left = subst (λ (l : Option Kind). IsBetween l r.asked r.collected r.cut r.token) left is.between
+
+pub arrived_is_run : (h : SharedHeap) (r : RunView) (new : Token) (last kind : Kind) → IsRun r → r.left ≡ Some last → IsIn r.token h → IsIn new h → Passes h.config r.token.view new.view last kind → IsRun (record r { token = new; left = Some kind; cut = cut_in last r.cut })
+arrived_is_run h r new last kind is left was here p = moved_is_run r new (Some kind) r.asked r.collected (cut_in last r.cut) is (passes_moves h r.token new last kind was here p) (passes_between h r.token new last kind r.asked r.collected r.cut is.inside was here (between_of r last is left) p)
+
+pub gives_is_run : (h : SharedHeap) (r : RunView) (new : Token) (last : Kind) (collected : Bool) → IsRun r → IsIn r.token h → IsIn new h → GivesBack h.config r.token.view new.view → IsRun (record r { token = new; left = Some Answer; collected = collected; cut = cut_in last r.cut })
+gives_is_run h r new last collected is was here g = moved_is_run r new (Some Answer) r.asked collected (cut_in last r.cut) is (gives_moves h r.token new was here g) (gives_between h r.token new r.asked collected (cut_in last r.cut) here is.between.quiet g)
+
+pub waits_is_run : (h : SharedHeap) (r : RunView) (new : Token) (last : Kind) (b : ℕ) → IsRun r → r.left ≡ Some last → IsIn r.token h → IsIn new h → new.view ≡ noted r.token.view (Barrier b) → IsRun (record r { token = new; left = Some last })
+waits_is_run h r new last b is left was here says = moved_is_run r new (Some last) r.asked r.collected r.cut is (still_moves h r.token new _ was here says refl refl refl refl refl) (waits_between h r.token new last r.asked r.collected r.cut b was here (between_of r last is left) says)
+
+-- and the domain runs again after a pause
+pub runs_is_run : (h : SharedHeap) (r : RunView) (new : Token) → IsRun r → IsIn r.token h → IsIn new h → Passed h.config r.token.view new.view → new.view.seen.stage ≡ In Run → IsEven r.token.view.own.arrivals → IsCollected h.config new.view → IsRun (record r { token = new; left = None })
+runs_is_run h r new is was here p stage even c = moved_is_run r new None r.asked r.collected r.cut is (view_moves h r.token new _ was here p.view refl refl refl refl p.seen) record {
+  stands = stage;
+  quiet = looked_quiet h.config r.token.view new.view p is.between.quiet;
+  even = λ _. subst IsEven (sym (ap (λ (x : DomainView). x.own.arrivals) p.view)) even;
+  remembers = λ _. c.looked_through ∙ sym c.forgotten;
+  emptied = λ _ _. c.emptied;
+  has_left = λ known none. cc;
+  fresh = λ e. subst (λ (k : Config). Rattle.domain_turns.specs.Tries.IsFresh k new.view) (sym here.1)
+      (fresh_on h.config r.token.view new.view (ap (λ (x : DomainView). x.own.number) p.view) p.seen (subst (λ (k : Config). Rattle.domain_turns.specs.Tries.IsFresh k r.token.view) was.1 (is.between.fresh e)));
+  knows_cut = λ known none. cc;
+}
