@@ -1,5 +1,5 @@
 //! Starts a heap, with a run for each of its domains. All memory of a run is taken here.
-ghost use Rattle.std.specs.Prelude.{◌≡◌, None, All, [], map, length, IfOk};
+ghost use Rattle.std.specs.Prelude.{◌≡◌, None, map, IfOk};
 ghost use Rattle.std.specs.List.{AllByRecursion};
 ghost use Rattle.heap_rule.specs.Limits.{first_outside, sizes_in};
 ghost use Rattle.camlheap_run.specs.Reading.{IsSpelled};
@@ -9,7 +9,7 @@ use domain_turns::DomainRun;
 use heap_model::state::Sizes;
 use heap_rule::{Config, Domain, Heap, StartFault};
 use heap_text::Script;
-use mark_slices::{Hints, make_hints};
+use mark_slices::{HINTS_ROOM, Hints};
 use std::alloc::{AllocError, Global};
 
 /// A heap with a run for each domain, none of which has made a command yet.
@@ -36,26 +36,21 @@ pub(crate) fn config_of(sizes: &Sizes) -> Config
     }
 }
 
-// A run of each domain's section, in the order of the domains, each with hints of its own.
+// A run of each domain's section, in the order of the domains, each with room for hints of its own.
 fn runs_of(
     alloc: Global,
     domains: Vec<Domain>,
-    mut hints: Vec<Hints>,
     script: &Script,
 ) -> Result<Vec<DomainRun>, AllocError>
-    requires sections { AllByRecursion (HasSection script.now) domains.items }
-    requires each { length hints.items ≡ length domains.items }
-    requires none { All (λ own. own.items ≡ []) hints.items }
+    requires { AllByRecursion (HasSection script.now) domains.items }
     ensures { IfOk result (λ runs. runs.items ≡ map (opened script.now) domains.items) }
 {
     let mut runs = Vec::new(alloc);
     'domains: for domain in domains {
-        let Some(own) = hints.pop() else {
-            unreachable!()
-        };
         let section = script.section(domain.number() as usize);
         let commands = Vec::from_slice(alloc, section)?;
-        runs.push(DomainRun::make(alloc, domain, own, commands)?)?;
+        let hints = Hints::make(alloc, HINTS_ROOM)?;
+        runs.push(DomainRun::make(alloc, domain, hints, commands)?)?;
     }
     Ok(runs)
 }
@@ -72,7 +67,6 @@ pub(crate) fn begin(alloc: Global, config: Config, script: &Script) -> Result<Be
         Err(StartFault::Config(_)) => unreachable!(),
     };
     let room = Vec::with_capacity(alloc, domains.len())?;
-    let hints = make_hints(alloc, config.domains)?;
-    let runs = runs_of(alloc, domains, hints, script)?;
+    let runs = runs_of(alloc, domains, script)?;
     Ok(Begun { heap, runs, room })
 }

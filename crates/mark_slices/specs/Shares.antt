@@ -1,5 +1,5 @@
 -- What becomes of a domain's view while it marks blocks ("Retrofitting Parallelism onto OCaml", section 3.2).
-use Rattle.std.specs.Prelude.{◌≡◌, ◌≢◌, ℕ, ◌+◌, ◌*◌, ◌<◌, ◌≤◌, ◌==◌, Bool, true, false, IsTrue, cond, if◌then◌else◌, nat_le, Some, List, [], length, slice_get}
+use Rattle.std.specs.Prelude.{◌≡◌, ◌≢◌, ℕ, ◌+◌, ◌*◌, ◌<◌, ◌≤◌, ◌==◌, Bool, true, false, IsTrue, cond, if◌then◌else◌, nat_le, Some, List, length, slice_get}
 use Rattle.std.specs.List.{list_any}
 use Rattle.heap_model.specs.Domains.{class_count}
 use Rattle.heap_words.specs.declared.colours.Colours.{Colours}
@@ -20,7 +20,7 @@ use Rattle.heap_rule.specs.Cycles.{seen_by}
 use Rattle.heap_rule.specs.Pools.{blocks_of, owned, owner_word}
 use Rattle.steps_cycle.specs.Looks.{with_share}
 use Rattle.steps_cycle.specs.Marking.{IsDarkening, Reason, Site, Warrants, moved_on, owes_on, places_seen_on, walk_on}
-use Rattle.mark_slices.specs.declared.hints.TheConstants.{HINTS_ROOM}
+
 use Rattle.mark_slices.specs.Heads.{IsScanOf}
 
 -- the domain is in a phase in which blocks are darkened, knows the colours, and has a reason to mark the block
@@ -87,9 +87,6 @@ ScannedAt site at won x y = y ≡ with_share x (record (scanning x.seen.share y.
 abbrev pub Noted : Config → List ℕ → List ℕ → Type 0
 Noted k marked items = (i a : ℕ) → slice_get items i ≡ Some a → (1 ≤ a) × (a ≤ k.pools * 4096) × IsTrue (seen_by marked a)
 
--- a list without an address, and with all its room
-abbrev pub no_hints : Bounded ℕ
-no_hints = record { items = []; room = HINTS_ROOM }
 
 -- a list takes as many items in all as another
 abbrev pub IsAsLong : Bounded ℕ → Bounded ℕ → Type 0

@@ -1,33 +1,20 @@
 //! The blocks that a domain has darkened, and is to scan next.
-ghost use Rattle.std.specs.Prelude.{ℕ, ◌≡◌, ◌≤◌, ◌∷◌, List, replicate, IfOk};
+ghost use Rattle.std.specs.Prelude.{ℕ, ◌≡◌, ◌≤◌, ◌∷◌, List};
 ghost use Rattle.heap_model.specs.Domains.{IsWithinLimits};
 ghost use Rattle.heap_rule.specs.Limits.{sizes_in};
-ghost use Rattle.mark_slices.specs.Shares.{IsAsLong, Noted, no_hints};
+ghost use Rattle.mark_slices.specs.Shares.{IsAsLong, Noted};
 
 use heap_rule::Config;
 use remembered_set::BoundedList;
 use size_classes::POOL_WORDS;
-use std::alloc::{AllocError, Global};
 
 /// How many addresses of blocks a domain can note.
 pub const HINTS_ROOM: usize = 4096;
 
-/// The addresses of blocks that a domain has darkened and not yet looked at again. `make_hints` takes
+/// The addresses of blocks that a domain has darkened and not yet looked at again. `Hints::make` takes
 /// all their memory. Where there is no room for one more the address is let go: the block stays grey, and
 /// a later walk finds it.
 pub type Hints = BoundedList<u32>;
-
-/// For each domain a list with no address in it, and with all its room, whose memory is taken here.
-/// Fails for want of memory alone.
-pub fn make_hints(alloc: Global, domains: u32) -> Result<Vec<Hints>, AllocError>
-    ensures { IfOk result (λ hints. hints.items ≡ replicate domains no_hints) }
-{
-    let mut hints = Vec::new(alloc);
-    for _ in 0..domains {
-        hints.push(BoundedList::make(alloc, HINTS_ROOM)?)?;
-    }
-    Ok(hints)
-}
 
 // Notes a block that was darkened, if there is room and it lies in a pool.
 pub(crate) fn note(hints: &mut Hints, at: u32, limits: &Config)

@@ -13,6 +13,6 @@ mod roots;
 mod rounds;
 mod scanning;
 
-pub use hints::{HINTS_ROOM, Hints, make_hints};
+pub use hints::{HINTS_ROOM, Hints};
 pub use roots::start_roots;
 pub use rounds::mark_round;

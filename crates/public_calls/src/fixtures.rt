@@ -13,7 +13,7 @@ use heap_model::command::Command;
 use heap_model::reply::Reply;
 use heap_rule::{Config, Domain, Heap, StartFault};
 use heap_words::Value;
-use mark_slices::make_hints;
+use mark_slices::{HINTS_ROOM, Hints};
 use outer_io::Gate;
 use std::alloc::Global;
 use std::fmt::Debug;
@@ -137,7 +137,7 @@ fn begun(alloc: Global, domain: Domain, commands: &[Command]) -> Result<DomainRu
     if !all_fit(commands) {
         return Err(Fail::from("a command that doesn't fit"));
     }
-    let hints = make_hints(alloc, 1)?.pop().ok_or("no hints")?;
+    let hints = Hints::make(alloc, HINTS_ROOM)?;
     let commands = Vec::from_slice(alloc, commands)?;
     Ok(DomainRun::make(alloc, domain, hints, commands)?)
 }

@@ -18,8 +18,6 @@ mod heap_text_calls;
 #[cfg(test)]
 mod heap_words_calls;
 #[cfg(test)]
-mod mark_slices_calls;
-#[cfg(test)]
 mod minor_area_calls;
 #[cfg(test)]
 mod outer_io_calls;
