@@ -4,7 +4,8 @@
 # claims nothing.
 # With the word `stress` it times nothing: 1 to 8 domains store young blocks into a block that all have and load those of the
 # others, 200,000 commands in all with the smallest areas, 20 times each, with threads and without. Each output is checked, and
-# the runs that hang or print something wrong are counted. It ends with 1 where there is one.
+# the runs that hang or print something wrong are counted. It ends with 1 where there is one. With the words `stress major` the
+# domains ask for collections of the major heap in place of minor ones.
 set -euo pipefail
 shopt -s inherit_errexit
 top=$(cd "$(dirname "${BASH_SOURCE[0]}")/.." && pwd)
@@ -123,8 +124,9 @@ live() {
 
 # The stress: $1 domains. In each round a domain stores a block of two equal integers into its field of the common block, loads
 # another domain's block and its integers, stores a block that leads to this one, and loads another such block and what it leads to.
+# It asks for the collection $2 twice.
 sharing() {
-    awk -v domains="$1" 'BEGIN {
+    awk -v domains="$1" -v collection="$2" 'BEGIN {
         print "heap 1"
         rounds = int(200000 / domains / 22)
         for (d = 0; d < domains; d++) {
@@ -133,9 +135,9 @@ sharing() {
                 n = d * 1000000 + i
                 e = (d + i) % domains
                 f = (d + 3 * i + 1) % domains
-                print "alloc 1 0 2\nint 2 " n "\nstore 1 0 2\nstore 1 1 2\nstore 0 " d " 1\nminor"
+                print "alloc 1 0 2\nint 2 " n "\nstore 1 0 2\nstore 1 1 2\nstore 0 " d " 1\n" collection
                 print "load 3 0 " e "\nload 4 3 0\nload 5 3 1"
-                print "alloc 6 0 2\nstore 6 0 3\nstore 6 1 1\nstore 0 " 8 + d " 6\nminor"
+                print "alloc 6 0 2\nstore 6 0 3\nstore 6 1 1\nstore 0 " 8 + d " 6\n" collection
                 print "load 7 0 " 8 + f "\nload 8 7 0\nload 9 8 0\nload 10 8 1"
                 print "alloc 11 0 126\ndrop 11\nalloc 11 0 126\ndrop 11"
             }
@@ -211,7 +213,7 @@ outcome() {
 
 stress() {
     for domains in ${DOMAINS:-1 2 3 4 5 6 7 8}; do
-        sharing "$domains" >"$work/stress"
+        sharing "$domains" "$1" >"$work/stress"
         for limit in none 1 2; do
             for _ in $(seq "${RUNS:-20}"); do
                 outcome "$limit" "$domains"
@@ -223,7 +225,7 @@ stress() {
 
 echo "processors: $(nproc), load: $(cut -d' ' -f1 /proc/loadavg)"
 if [ "${1:-}" = stress ]; then
-    stress
+    stress "${2:-minor}"
     exit
 fi
 words
