@@ -76,14 +76,15 @@ polls() {
     }'
 }
 
-# 48,000 blocks of 128 words are made and copied, by all domains together. In threads: how many words a second, the making of the
+# 32,000 blocks of 128 words are made and copied, by all domains together; they take fewer than half of the pools, so that no
+# collection of the major heap begins. In threads: how many words a second, the making of the
 # blocks included; what a run of as many polls takes is taken off. In one thread, where no domain waits for another: what copying
 # takes of a pause. For that a run in which all blocks are dropped before each collection is taken off; a domain asks once in a
 # round, and what a pause takes in which nothing is copied is told by a script of pauses alone.
 words() {
     local domains rounds
     for domains in 1 2 4; do
-        rounds=$((96 / domains))
+        rounds=$((64 / domains))
         chains "$domains" 500 "$rounds" kept >"$work/kept"
         chains "$domains" 500 "$rounds" dropped >"$work/dropped"
         polls "$domains" $((rounds * 1504)) >"$work/polls"
@@ -93,8 +94,8 @@ words() {
             -v alone="$(seconds "$domains" "$work/kept" alone)" -v dropped="$(seconds "$domains" "$work/dropped" alone)" \
             -v pauses="$(seconds "$domains" "$work/pauses" alone)" -v none="$(seconds "$domains" "$work/none" alone)" 'BEGIN {
             copying = alone - dropped
-            pausing = 96 * (pauses - none) / 5000
-            printf "domains %d: %.0f million words made and copied a second; in one thread copying takes %.0f ns a block, %.1f %% of the pauses\n", d, 48000 * 128 / (kept - polls) / 1e6, copying / 48000 * 1e9, 100 * copying / (copying + pausing)
+            pausing = 64 * (pauses - none) / 5000
+            printf "domains %d: %.0f million words made and copied a second; in one thread copying takes %.0f ns a block, %.1f %% of the pauses\n", d, 32000 * 128 / (kept - polls) / 1e6, copying / 32000 * 1e9, 100 * copying / (copying + pausing)
         }'
     done
 }
