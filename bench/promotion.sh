@@ -76,11 +76,11 @@ polls() {
     }'
 }
 
-# 32,000 blocks of 128 words are made and copied, by all domains together; they take fewer than half of the pools, so that no
-# collection of the major heap begins. In threads: how many words a second, the making of the
-# blocks included; what a run of as many polls takes is taken off. In one thread, where no domain waits for another: what copying
-# takes of a pause. For that a run in which all blocks are dropped before each collection is taken off; a domain asks once in a
-# round, and what a pause takes in which nothing is copied is told by a script of pauses alone.
+# 32,000 blocks of 128 words are made and copied, by all domains together. They take fewer than half of the pools, so that no
+# collection of the major heap begins. In threads: how many words a second, the making of the blocks included; what a run of as
+# many polls takes is taken off. In one thread, where no domain waits for another: what copying takes of a pause. For that a run
+# in which all blocks are dropped before each collection is taken off; a domain asks once in a round, and what a pause takes in
+# which nothing is copied is told by a script of pauses alone.
 words() {
     local domains rounds
     for domains in 1 2 4; do
