@@ -362,17 +362,22 @@ fn next_of(list: u8, block: u8, index: u16) -> [Command; 3] {
     ]
 }
 
+// The list that isn't this one.
+fn other(list: u8) -> u8 {
+    if list == 0 { 1 } else { 0 }
+}
+
 // Two domains that take turns make two lists. Each puts its blocks behind those of the other, in the one list and
 // in the other by turns.
 fn commands_of(alloc: Global, domain: u8) -> Result<Vec<Command>, AllocError> {
     let mut commands = Vec::new(alloc);
-    let mut list = domain.min(1);
+    let mut list = domain;
     commands.extend_from_slice(&first_of(list))?;
     for made in 1..BLOCKS {
-        list = 1 - list;
+        list = other(list);
         let next = match made {
             1 => next_of(list, 0, u16::from(list)),
-            _ => next_of(list, list + 1, 0),
+            _ => next_of(list, list.saturating_add(1), 0),
         };
         commands.extend_from_slice(&next)?;
     }
