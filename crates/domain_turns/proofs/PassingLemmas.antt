@@ -56,8 +56,8 @@ pub look_goes_on : (k : Config) (x y : DomainView) → Passed k x y → (domain_
 look_goes_on k x y p goes = subst (λ (d : ℕ). (domain_at (state_of k y.seen.front) d).ended ≡ false) (sym (ap (λ (v : DomainView). v.own.number) p.view)) ((keeps_front (opening (sizes_in k)) x.own.number y.seen.front x.seen.front p.seen).ended ∙ goes)
 
 -- the run stands between two turns
-between_of : (r : RunView) (last : Kind) → IsRun r → r.left ≡ Some last → IsBetween (Some last) r.asked r.collected r.cut r.token
-between_of r last is left = subst (λ (l : Option Kind). IsBetween l r.asked r.collected r.cut r.token) left is.between
+between_of : (r : RunView) (known : Kind) → IsRun r → r.left ≡ Some known → IsBetween (Some known) r.asked r.collected r.cut r.token
+between_of r known is left = subst (λ (l : Option Kind). IsBetween l r.asked r.collected r.cut r.token) left is.between
 
 pub arrived_is_run : (h : SharedHeap) (r : RunView) (new : Token) (last kind : Kind) → IsRun r → r.left ≡ Some last → IsIn r.token h → IsIn new h → Passes h.config r.token.view new.view last kind → IsRun (record r { token = new; left = Some kind; cut = cut_in last r.cut })
 arrived_is_run h r new last kind is left was here p = moved_is_run r new (Some kind) r.asked r.collected (cut_in last r.cut) is (passes_moves h r.token new last kind was here p) (passes_between h r.token new last kind r.asked r.collected r.cut is.inside was here (between_of r last is left) p)

@@ -20,7 +20,6 @@ use Rattle.heap_rule.specs.Cycles.{seen_by}
 use Rattle.heap_rule.specs.Pools.{blocks_of, owned, owner_word}
 use Rattle.steps_cycle.specs.Looks.{with_share}
 use Rattle.steps_cycle.specs.Marking.{IsDarkening, Reason, Site, Warrants, moved_on, owes_on, places_seen_on, walk_on}
-
 use Rattle.mark_slices.specs.Heads.{IsScanOf}
 
 -- the domain is in a phase in which blocks are darkened, knows the colours, and has a reason to mark the block
@@ -86,7 +85,6 @@ ScannedAt site at won x y = y ≡ with_share x (record (scanning x.seen.share y.
 -- the addresses of blocks of the pools, each of which is known to be marked
 abbrev pub Noted : Config → List ℕ → List ℕ → Type 0
 Noted k marked items = (i a : ℕ) → slice_get items i ≡ Some a → (1 ≤ a) × (a ≤ k.pools * 4096) × IsTrue (seen_by marked a)
-
 
 -- a list takes as many items in all as another
 abbrev pub IsAsLong : Bounded ℕ → Bounded ℕ → Type 0

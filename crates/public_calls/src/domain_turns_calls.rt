@@ -311,6 +311,20 @@ fn an_empty_pool_is_given_back(rt: HostRuntime) -> Result<(), Fail> {
     Ok(())
 }
 
+// How often a domain arrives while it makes one of these commands: two times for each even phase.
+const ARRIVALS: [(Command, u64); 2] = [(Command::Minor, 6), (Command::Major, 26)];
+
+// A `major` makes a collection of the major heap, of ten more phases than those of a `minor`.
+#[test]
+fn a_major_collects_the_major_heap(rt: HostRuntime) -> Result<(), Fail> {
+    for (command, arrivals) in &ARRIVALS {
+        let mut play = Play::start(rt.alloc(), ONE_DOMAIN, &[[*command].as_slice()])?;
+        play.take_turns_until(1);
+        same(&rt, play.into_first()?.domain().arrivals(), *arrivals);
+    }
+    Ok(())
+}
+
 // The lists of 50,000 blocks each lie in 98 pools.
 const ROOMY: Config = Config {
     domains: 2,
@@ -388,7 +402,7 @@ fn commands_of(alloc: Global, domain: u8) -> Result<Vec<Command>, AllocError> {
 }
 
 // What follows each block of a list lies in the other domain's pools. Were a block found only where its pool is
-// looked through, each block would take a phase of its own.
+// looked through, each block would take a phase of its own; but at most four phases mark them all.
 #[test]
 fn lists_to_and_fro_between_pools_are_marked(rt: HostRuntime) -> Result<(), Fail> {
     let alloc = rt.alloc();
@@ -397,6 +411,8 @@ fn lists_to_and_fro_between_pools_are_marked(rt: HostRuntime) -> Result<(), Fail
     play.take_turns(3 * BLOCKS + 1000);
     same(&rt, (play.has_ended(0), play.has_ended(1)), (true, true));
     let run = play.into_first()?;
+    // A complete collection has twelve phases, an odd one behind each, besides those in which blocks are marked.
+    same(&rt, run.domain().arrivals() <= 2 * (12 + 4), true);
     same(
         &rt,
         run.replies().last().copied(),
