@@ -1,5 +1,5 @@
 -- Blocks that are noted.
-use Rattle.std.proofs.Common.{◌≡◌, ℕ, ◌*◌, ◌≤◌, ◌==◌, eq-eqb, IsTrue, List, [], ◌∷◌, ◌++◌, slice_get, Some, ⊎_elim, refl, subst, length}
+use Rattle.std.proofs.Common.{◌≡◌, ℕ, zero, suc, ◌*◌, ◌≤◌, ◌==◌, eq-eqb, IsTrue, List, [], ◌∷◌, ◌++◌, slice_get, Some, ⊎_elim, refl, subst, length}
 use Rattle.heap_model.proofs.Reach.ReachLemmas.{or_left, or_right}
 use Rattle.heap_rule.specs.declared.config.Config.{Config}
 use Rattle.heap_rule.specs.Cycles.{seen_by}
@@ -14,3 +14,19 @@ noted_push k marked items a low high n = λ i b got. ⊎_elim
     (λ (old : slice_get items i ≡ Some b). noted_more k marked items a n i b old)
     (λ (e : (i ≡ length items) × (a ≡ b)). subst (λ (c : ℕ). (1 ≤ c) × (c ≤ k.pools * 4096) × IsTrue (seen_by (a ∷ marked) c)) e.1 (low, high, or_left (a == a) (seen_by marked a) (eq-eqb a a refl)))
     (got_end items a b i got)
+
+-- the last of some blocks, and those before it
+pub noted_last : (k : Config) (marked items : List ℕ) (a : ℕ) → Noted k marked (items ++ a ∷ []) → (1 ≤ a) × (a ≤ k.pools * 4096) × IsTrue (seen_by marked a)
+noted_last k marked items a n = n (length items) a (got_last items)
+  where
+    got_last : (l : List ℕ) → slice_get (l ++ a ∷ []) (length l) ≡ Some a
+    got_last [] = refl
+    got_last (x ∷ xs) = got_last xs
+
+pub noted_less : (k : Config) (marked items : List ℕ) (a : ℕ) → Noted k marked (items ++ a ∷ []) → Noted k marked items
+noted_less k marked items a n = λ i b got. n i b (got_more items i got)
+  where
+    got_more : (l : List ℕ) (i : ℕ) {b : ℕ} → slice_get l i ≡ Some b → slice_get (l ++ a ∷ []) i ≡ Some b
+    got_more [] i e = cc
+    got_more (x ∷ xs) zero e = e
+    got_more (x ∷ xs) (suc i) e = got_more xs i e

@@ -34,7 +34,12 @@ fn follow(heap: &Heap, dom: &mut Domain, at: u32, colours: Colours, hints: &mut 
     scan_block(heap, dom, at, block, colours, hints)
 }
 
-// The same for all blocks that are noted, those too that are noted meanwhile. Then none is noted.
+// As many blocks as a pool has room for.
+const POOL_BLOCKS: u32 = 1024;
+
+// The same for all blocks that are noted, those too that are noted meanwhile, the last one first. Then
+// none is noted. The domain marks each block at most once, so it never comes to more than the pools
+// have room for.
 pub(crate) fn follow_all(heap: &Heap, dom: &mut Domain, colours: Colours, hints: &mut Hints) -> bool
     requires here { IsIn dom.old heap.now }
     requires marks { Marks colours dom.old.view }
@@ -47,11 +52,11 @@ pub(crate) fn follow_all(heap: &Heap, dom: &mut Domain, colours: Colours, hints:
     ensures long { IsAsLong hints.old hints.new }
 {
     let mut darkened = false;
-    let mut i = 0;
-    while i < hints.len() {
-        let at = hints.get(i);
+    for _ in 0..heap.config().pools * POOL_BLOCKS {
+        let Some(at) = hints.pop() else {
+            return darkened;
+        };
         darkened |= follow(heap, dom, at, colours, hints);
-        i += 1;
     }
     hints.clear();
     darkened

@@ -1,10 +1,10 @@
-use Rattle.std.proofs.Common.{◌≡◌, ◌+◌, ◌-◌, length}
+use Rattle.std.proofs.Common.{◌≡◌}
 use Rattle.heap_rule.specs.Token.{IsIn}
 use Rattle.mark_slices.specs.Shares.{IsAsLong, Marks, Noted, Walked}
 use Rattle.mark_slices.proofs.following.follow_all.Given as goal
 
-abbrev pub invariant-loop-i : goal.invariant-loop-i
-invariant-loop-i l = record {
+abbrev pub invariant-loop : goal.invariant-loop
+invariant-loop l = record {
   here : IsIn l.dom l.heap;
   marks : Marks l.colours l.dom.view;
   walked : Walked l.fn.dom.view.seen.share.walk l.darkened l.fn.dom.view l.dom.view;
@@ -12,6 +12,3 @@ invariant-loop-i l = record {
   noted : Noted l.heap.config l.dom.view.seen.share.marked l.hints.items;
   long : IsAsLong l.fn.hints l.hints;
 }
-
-abbrev pub decreases-loop-i : goal.decreases-loop-i
-decreases-loop-i l = l.fn.hints.room + length l.fn.hints.items - l.i
