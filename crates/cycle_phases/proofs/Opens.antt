@@ -16,13 +16,11 @@ use Rattle.heap_rule.specs.declared.view.Share.{Share}
 use Rattle.heap_rule.specs.Copies.{IsEmptying}
 use Rattle.heap_rule.specs.Phases.{Follows, last_note}
 use Rattle.steps_pauses.specs.Pauses.{MayFollow, noted}
-use Rattle.steps_pools.specs.Listings.{HasList, IsLeader, IsListedCount, with_listing}
+use Rattle.steps_pools.specs.Listings.{HasList, IsLeader, IsListedCount}
 use Rattle.steps_cycle.specs.Changed.{FindTold}
 use Rattle.steps_cycle.specs.Looks.{knowing_colours, with_share}
 use Rattle.steps_sweep.specs.Turning.{BlocksCleared, TurnTold, WordsCleared}
 use Rattle.size_pools.specs.Listed.{Relisted, SetsBack}
-use Rattle.safepoint.specs.declared.answer.Want.TheVariants.{Full}
-use Rattle.safepoint.specs.Looks.{is_wanted}
 use Rattle.cycle_phases.specs.Leading.{Findings, Opens, begins, next_kind, noted_before, opened_view}
 
 -- the domain with other notes, another list in the making, and other knowledge of the phase
@@ -98,6 +96,9 @@ module _ (k : Config) (x : DomainView) where
 
   pub clean_opens : Opens k x x Clean Lasts
   clean_opens = goes k x Clean Lasts ((λ e. cc), (λ e. cc), (λ e. cc), λ e. cc) ((λ e. cc), (λ e. cc), (λ e. cc), (λ e. cc), λ e. cc) refl refl refl
+
+  pub sweep_opens : Opens k x x Sweep Answer
+  sweep_opens = goes k x Sweep Answer ((λ e. cc), (λ e. cc), (λ e. cc), λ e. cc) ((λ e. cc), (λ e. cc), (λ e. cc), (λ e. cc), λ e. cc) (inr refl) refl refl
 
   -- before Promote the cursor is set back
   pub run_opens : (y : DomainView) → last_note y.seen.notes ≡ Some SetBack → SetsBack x y → Opens k x y Run Promote
@@ -235,39 +236,6 @@ module _ (k : Config) (x : DomainView) where
 
     pub reset_runs : begins k found free ≡ false → Opens k x z Reset Run
     reset_runs is_not = reset_to Run (inl refl) (ap (λ (b : Bool). if b then Roots else Run) (sym is_not)) (λ e. cc) (λ e. cc) (λ e. cc) (λ e. cc)
-
-  -- the wishes after Sweep
-  abbrev wished : ℕ → Findings
-  wished found = record { wants = found; changed = 0; free = 0 }
-
-  pub sweep_answers : (y : DomainView) (found : ℕ) → y ≡ noted x (Want found) → is_wanted Full found ≡ true → Opens k x y Sweep Answer
-  sweep_answers y found told is_so = record {
-    follows = inr refl;
-    findings = wished found;
-    chosen = ap (λ (b : Bool). if b then Answer else Run) (sym is_so);
-    found = ⊎_elim (λ (e : Sweep ≡ Mark). cc) (λ (e : Sweep ≡ Rounds). cc);
-    counted = λ e. cc;
-    may = asks_nothing y.seen.share Sweep Answer (λ e. cc) (λ e. cc) (λ e. cc) (λ e. cc);
-    list = λ e. cc;
-    set_back = λ e. cc;
-    cut_is = ap (λ (v : DomainView). v.seen.share.cut) told;
-    view = opened_as x y (x.seen.notes ++ Want found ∷ []) _ x.seen.listing x.seen.share told refl;
-  }
-
-  pub sweep_runs : (y z : DomainView) (found : ℕ) → y ≡ noted x (Want found) → is_wanted Full found ≡ false → Relisted y z → HasList k z → Opens k x z Sweep Run
-  sweep_runs y z found told is_not same list =
-      let is : z ≡ opened x (x.seen.notes ++ Want found ∷ []) z.seen.listing x.seen.share = same ∙ ap (λ (v : DomainView). with_listing v z.seen.listing) told in record {
-        follows = inl refl;
-        findings = wished found;
-        chosen = ap (λ (b : Bool). if b then Answer else Run) (sym is_not);
-        found = ⊎_elim (λ (e : Sweep ≡ Mark). cc) (λ (e : Sweep ≡ Rounds). cc);
-        counted = λ e. cc;
-        may = asks_nothing z.seen.share Sweep Run (λ e. cc) (λ e. cc) (λ e. cc) (λ e. cc);
-        list = λ _. list;
-        set_back = λ e. cc;
-        cut_is = ap (λ (v : DomainView). v.seen.share.cut) is;
-        view = opened_as x z (x.seen.notes ++ Want found ∷ []) _ z.seen.listing x.seen.share is refl;
-      }
 
   pub answer_runs : (z : DomainView) → Relisted x z → HasList k z → Opens k x z Answer Run
   answer_runs z same list = record {

@@ -38,14 +38,13 @@ next_kind k Decide is_cut f = Queued
 next_kind k Queued is_cut f = Mark
 next_kind k Clean is_cut f = Lasts
 next_kind k Lasts is_cut f = Sweep
-next_kind k Sweep is_cut f = if is_wanted Full f.wants then Answer else Run
+next_kind k Sweep is_cut f = Answer
 next_kind k Answer is_cut f = Run
 
 -- what domain 0 notes before it names the next kind
 abbrev pub noted_before : Kind → Findings → List Note
 noted_before Run f = SetBack ∷ []
 noted_before Reset f = Want f.wants ∷ []
-noted_before Sweep f = Want f.wants ∷ []
 noted_before _ f = []
 
 -- and all that it notes before it arrives

@@ -52,9 +52,9 @@ fn name(heap: &Heap, dom: &mut Domain, next: Kind)
 /// it, and arrives. Answers the kind.
 ///
 /// After Reset a collection of the major heap begins where one is asked for, or where fewer than half
-/// of the pools are free. Blocks are marked until nothing is changed in a whole phase. After Sweep the
-/// collection is answered where a complete one is asked for. In Rounds `cut` says whether the cut of
-/// the collection is made.
+/// of the pools are free. Blocks are marked until nothing is changed in a whole phase. Each collection
+/// is a complete one, which is answered after Sweep. In Rounds `cut` says whether the cut of the
+/// collection is made.
 pub fn lead_on(heap: &Heap, dom: &mut Domain, last: Kind, cut: bool) -> Kind
     requires here { IsIn dom.old heap.now }
     requires first { dom.old.view.own.number ≡ 0 }

@@ -98,22 +98,6 @@ fn after_lasts(heap: &Heap, dom: &mut Domain) -> Kind
     Kind::Sweep
 }
 
-// Where a complete collection is asked for it is answered. Else domains run again, and the list of
-// free pools is written anew.
-fn after_sweep(heap: &Heap, dom: &mut Domain) -> Kind
-    requires here { IsIn dom.old heap.now }
-    requires first { dom.old.view.own.number ≡ 0 }
-    requires odd { dom.old.view.seen.stage ≡ Leads Sweep }
-    ensures here { IsIn dom.new heap.now }
-    ensures opens { Opens heap.now.config dom.old.view dom.new.view Sweep result }
-{
-    if is_wanted(wants(heap, dom), Want::Full) {
-        return Kind::Answer;
-    }
-    write_list(heap, dom);
-    Kind::Run
-}
-
 // The list of free pools is written anew, with the pools that were given back.
 fn after_answer(heap: &Heap, dom: &mut Domain) -> Kind
     requires here { IsIn dom.old heap.now }
@@ -147,7 +131,7 @@ pub(crate) fn open(heap: &Heap, dom: &mut Domain, last: Kind, cut: bool) -> Kind
         Kind::Queued => Kind::Mark,
         Kind::Clean => Kind::Lasts,
         Kind::Lasts => after_lasts(heap, dom),
-        Kind::Sweep => after_sweep(heap, dom),
+        Kind::Sweep => Kind::Answer,
         Kind::Answer => after_answer(heap, dom),
     }
 }

@@ -312,9 +312,9 @@ fn an_empty_pool_is_given_back(rt: HostRuntime) -> Result<(), Fail> {
 }
 
 // How often a domain arrives while it makes one of these commands: two times for each even phase.
-const ARRIVALS: [(Command, u64); 2] = [(Command::Minor, 6), (Command::Major, 26)];
+const ARRIVALS: [(Command, u64); 2] = [(Command::Minor, 6), (Command::Major, 28)];
 
-// A `major` makes a collection of the major heap, of ten more phases than those of a `minor`.
+// A `major` makes a collection of the major heap, of eleven more phases than those of a `minor`.
 #[test]
 fn a_major_collects_the_major_heap(rt: HostRuntime) -> Result<(), Fail> {
     for (command, arrivals) in &ARRIVALS {
