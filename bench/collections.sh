@@ -19,7 +19,7 @@ runs=${RUNS:-7}
 # Seconds of one run with $1 domains of the script $2, the least of several: in threads, or where $3 is `alone` in one thread, which
 # turns all domains. Each `full_major` of domain 0 but those before the last $4 must find $5 blocks; other runs don't count.
 seconds() {
-    local run=("$work/camlheap" run --domains "$1" --minor 4096 --pools 2048)
+    local run=("$work/camlheap" run --domains "$1" --minor 4096 --pools 300)
     if [ "${3:-}" = alone ]; then
         run=(limited 1 "${run[@]}")
     fi
@@ -37,18 +37,17 @@ chain() {
     awk -v blocks="$1" 'BEGIN { for (k = 0; k < blocks; k++) { r = 1 + k % 2; print "allocmaj " r " 0 1\nstore " r " 0 " 3 - r } }'
 }
 
-# A script of $1 domains that each make a chain of $2 blocks. Domain 0 then asks for $3 complete collections. The others go on with
-# commands that do nothing, so that their registers hold their chains meanwhile, and it waits a little until these are made.
+# A script of $1 domains that each make a chain of $2 blocks, which a field of the common block leads to in the end. Domain 0 waits
+# a while, until the others are done, and then asks for $3 complete collections.
 chains() {
     local domain
     echo "heap 1"
     for ((domain = 0; domain < $1; domain++)); do
         echo "domain $domain"
         chain "$2"
-        if [ "$1" -gt 1 ]; then
-            repeat poll $((domain == 0 ? 8000 : 23000))
-        fi
+        if [ "$2" -gt 0 ]; then echo "store 0 $domain $((1 + ($2 - 1) % 2))"; fi
         if [ "$domain" = 0 ]; then
+            if [ "$1" -gt 1 ]; then repeat poll 70000; fi
             repeat full_major "$3"
         fi
     done
@@ -58,14 +57,14 @@ repeat() {
     awk -v line="$1" -v times="$2" 'BEGIN { for (k = 0; k < times; k++) print line }'
 }
 
-# Seconds of one `full_major`: what a run of 21 takes beyond a run of one. $1 domains each hold a chain of $2 blocks.
+# Seconds of one `full_major`: what a run of 181 takes beyond a run of one. $1 domains each hold a chain of $2 blocks.
 collection() {
     local one many left=$(($1 * $2 + 1))
     chains "$1" "$2" 1 >"$work/one"
-    chains "$1" "$2" 21 >"$work/many"
+    chains "$1" "$2" 181 >"$work/many"
     one=$(seconds "$1" "$work/one" "${3:-}" 1 "$left")
-    many=$(seconds "$1" "$work/many" "${3:-}" 21 "$left")
-    awk -v one="$one" -v many="$many" 'BEGIN { print one == "none" || many == "none" ? "none" : (many - one) / 20 }'
+    many=$(seconds "$1" "$work/many" "${3:-}" 181 "$left")
+    awk -v one="$one" -v many="$many" 'BEGIN { print one == "none" || many == "none" ? "none" : (many - one) / 180 }'
 }
 
 marking() {
@@ -144,11 +143,11 @@ lists() {
 turns() {
     local one many
     lists 66600 1 >"$work/one"
-    lists 66600 21 >"$work/many"
+    lists 66600 181 >"$work/many"
     one=$(seconds 2 "$work/one" alone 1 66601)
-    many=$(seconds 2 "$work/many" alone 21 66601)
+    many=$(seconds 2 "$work/many" alone 181 66601)
     awk -v one="$one" -v many="$many" -v chain="$(collection 1 66600 alone)" 'BEGIN {
-        printf "66600 blocks in lists by turns in two domains'\'' pools: %.2f ms, in a chain of one domain: %.2f ms\n", (many - one) / 20 * 1e3, chain * 1e3
+        printf "66600 blocks in lists by turns in two domains'\'' pools: %.2f ms, in a chain of one domain: %.2f ms\n", (many - one) / 180 * 1e3, chain * 1e3
     }'
 }
 
