@@ -5,6 +5,7 @@ use Rattle.heap_model.specs.Fronts.{Shape}
 use Rattle.heap_words.specs.Labels.{IsPackableLabel}
 use Rattle.heap_rule.specs.declared.config.Config.{Config}
 use Rattle.heap_rule.specs.declared.view.DomainView.{DomainView}
+use Rattle.heap_rule.specs.Ephemerons.{IsEpheAt}
 use Rattle.heap_rule.specs.Layout.{heap_words, base_of, at_address}
 use Rattle.heap_rule.specs.Places.{Place, Live, extent, span, Spread, HasClass, IsPackableShape, IsBuilt, Fits, Placed, More}
 use Rattle.heap_rule.specs.Pools.{Holder, Tenancy, Lot, Pools, Grid, place_in, size_of}
@@ -24,6 +25,10 @@ pub record Was (live : Live) (b : ℕ) (q : Place) : Type 0 where
 abbrev pub Back : Live → Live → Type 0
 Back live live' = (b : ℕ) (q : Place) → live' b ≡ Some q → Was live b q
 
+-- an ephemeron that was there
+pub ephe_back : (live live' : Live) → Back live live' → (a : ℕ) → IsEpheAt live' a → IsEpheAt live a
+ephe_back live live' back a e = let w = back a e.place e.lives in record { place = w.place; lives = w.lives; keys = e.keys; shape = w.shape ∙ e.shape }
+
 pub fits_back : (k : Config) (b : ℕ) (p q : Place) → p.label ≡ q.label → p.shape ≡ q.shape → Fits k b p → Fits k b q
 fits_back k b p q label shape f = record {
   low = f.low;
@@ -32,6 +37,7 @@ fits_back k b p q label shape f = record {
   classed = subst (λ (s : Shape). HasClass (extent s)) shape f.classed;
   head = subst IsPackableShape shape f.head;
   label = subst (λ (l : Label). IsPackableLabel (l.domain, l.serial)) label f.label;
+  pooled = λ keys is. f.pooled keys (shape ∙ is);
 }
 
 -- what was met lies in the heap

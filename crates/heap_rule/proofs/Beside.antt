@@ -1,4 +1,5 @@
 -- A word is written: what lies beside it stays.
+use Rattle.heap_rule.proofs.EphemeronLemmas.{values_without}
 use Rattle.std.proofs.Common.{◌≡◌, ◌≢◌, ℕ, ◌+◌, ◌<◌, ◌≤◌, List, length, get_or, set, Some, sym, refl, ap, ◌∙◌, subst, ⊎_elim, arith, get_or-set_other, lt_of_not-le}
 use Rattle.std.proofs.lemmas.List.{length-map}
 use mathlib.Core.Logic.{dite}
@@ -11,7 +12,7 @@ use Rattle.heap_model.specs.Fronts.{shape_of}
 use Rattle.heap_rule.specs.declared.config.Config.{Config}
 use Rattle.heap_rule.specs.declared.view.DomainView.{DomainView}
 use Rattle.heap_rule.specs.Layout.{before_heap, base_of}
-use Rattle.heap_rule.specs.Places.{Place, Live, Paint, extent, values_of, Found, More, IsOldWord}
+use Rattle.heap_rule.specs.Places.{Place, Live, Paint, extent, values_of, Found, More, IsOldWord, without_keys}
 use Rattle.heap_rule.specs.Rule.{Area, Making}
 use Rattle.heap_rule.proofs.HeadLemmas.{head_at}
 use Rattle.heap_rule.proofs.Lists.{got_below}
@@ -39,7 +40,10 @@ found_beside k paint live live' graph graph' words at new b q more f there far =
       blank = f.blank;
       label = stays 1 (omega arith) ∙ f.label;
       values = λ i v has got.
-          let below : i < n = got_below (values_of f.node) i v got in
+          let m : ℕ = length (values_of (without_keys (paint.emptied q.label) f.node)) in
+          let same : m ≡ n = values_without (paint.emptied q.label) f.node in
+          let under : i < m = got_below (values_of (without_keys (paint.emptied q.label) f.node)) i v got in
+          let below : i < n = omega arith in
           let w = f.values i v has got in record {
             value = w.value;
             packs = ap (λ (j : ℕ). get_or (set words (base + at) new) (base + j) 0) (let g : b + 2 + i ≡ b + (2 + i) = omega arith in g)

@@ -1,5 +1,6 @@
 -- The block in a register: in the words, and in the graph.
-use Rattle.std.proofs.Common.{Option, ◌≡◌, ℕ, ◌+◌, ◌<◌, ◌≤◌, List, length, slice_get, Some, sym, refl, ap, ◌∙◌, subst, arith}
+use Rattle.heap_rule.proofs.EphemeronLemmas.{found_value}
+use Rattle.std.proofs.Common.{Option, ◌≡◌, ℕ, ◌+◌, ◌<◌, ◌≤◌, List, length, slice_get, Some, sym, refl, ap, ◌∙◌, subst, arith, []}
 use mathlib.Core.Option.{some}
 use lib.ListN.{get_elem?}
 use Rattle.heap_model.specs.declared.label.Label.{Label}
@@ -81,8 +82,8 @@ module _ (k : Config) (s : Words) (r : Rule k s) (id : ℕ) (hist : List Entry) 
     pub there : slice_get fields i ≡ Some value
     pub stands : WordStands r.account.live (at_address k s.words (address + 2 + i)) value
 
-  pub field_at : Settled r.account.live → (word reg i : ℕ) (may : FieldMay k x word reg i) → (f : Field reg i) × (f.address ≡ may.address)
-  field_at settled word reg i may =
+  pub field_at : Settled r.account.live → ((l : Label) → r.account.cycling.paint.emptied l ≡ []) → (word reg i : ℕ) (may : FieldMay k x word reg i) → (f : Field reg i) × (f.address ≡ may.address)
+  field_at settled whole word reg i may =
       let b = lives_at reg may.address may.block in
       let found = found_at reg may.address b in
       let later : HoldsPlain now x.own.number reg may.size = holds_later (opening (sizes_in k)) x.own.number reg may.size r.account.log x.seen.front (mine k s r id hist x at).front may.known in
@@ -100,7 +101,7 @@ module _ (k : Config) (s : Words) (r : Rule k s) (id : ℕ) (hist : List Entry) 
           node = node;
           value = v.0;
           there = v.1;
-          stands = found.values i v.0 (subst (λ (o : Option Debt). HasValue o i) (sym (settled may.address b.place b.lives).no_debt) tt) (ap (λ (n : Node). slice_get (values_of n) i) is ∙ v.1);
+          stands = found_value k r.account.cycling.paint r.account.live now.graph s.words may.address b.place found (whole b.place.label) i v.0 (subst (λ (o : Option Debt). HasValue o i) (sym (settled may.address b.place b.lives).no_debt) tt) (ap (λ (n : Node). slice_get (values_of n) i) is ∙ v.1);
         },
         refl,
       )

@@ -1,5 +1,6 @@
 -- Steps on the control words of the phases: the other words stay, and so does what they stand for.
-use Rattle.std.proofs.Common.{◌≡◌, ◌≢◌, ℕ, zero, suc, ◌+◌, ◌*◌, ◌<◌, ◌≤◌, ◌⊎◌, List, length, get_or, set, Some, sym, refl, ap, ◌∙◌, subst, arith, ⊎_elim, inl, inr, suc-mul, zero-le, None, Option, ◌++◌, ◌∷◌, []}
+use Rattle.heap_rule.specs.Ephemerons.{Looks}
+use Rattle.std.proofs.Common.{◌≡◌, ◌≢◌, ℕ, zero, suc, ◌+◌, ◌*◌, ◌<◌, ◌≤◌, ◌⊎◌, List, length, get_or, set, Some, sym, refl, ap, ◌∙◌, subst, arith, ⊎_elim, inl, inr, suc-mul, zero-le, None, Option, ◌++◌, ◌∷◌, [], Bool}
 use mathlib.Core.Logic.{dite}
 use native.Mathlib.Decide.{ℕ_discrete}
 use mathlib.Core.Option.{some}
@@ -107,14 +108,16 @@ cycle_untouched words words' u changed = record {
 }
 
 -- all that the rule says of a domain's share stays where nothing of a collection moves
-pub sharing_words : (k : Config) (all all' : Account) (words words' : List ℕ) (z : DomainView) → all'.log ≡ all.log → all'.live ≡ all.live → all'.tenancy.holder ≡ all.tenancy.holder → all'.cycling ≡ all.cycling
-    → SameCycle words words' → ((a : ℕ) → at_address k words' a ≡ at_address k words a) → Sharing k all words z.own.number z.own.registers z.seen.stage z.seen.share → Sharing k all' words' z.own.number z.own.registers z.seen.stage z.seen.share
-sharing_words k all all' words words' z log live holder cycling same heap sh = record {
+pub sharing_words : (k : Config) (all all' : Account) (words words' : List ℕ) (z : DomainView) → all'.log ≡ all.log → all'.live ≡ all.live → all'.tenancy.holder ≡ all.tenancy.holder → all'.tenancy.garbage ≡ all.tenancy.garbage → all'.cycling ≡ all.cycling
+    → SameCycle words words' → ((a : ℕ) → at_address k words' a ≡ at_address k words a) → Sharing k all words z.own.number z.own.registers z.own.ephemerons.items z.seen.stage z.seen.share → Sharing k all' words' z.own.number z.own.registers z.own.ephemerons.items z.seen.stage z.seen.share
+sharing_words k all all' words words' z log live holder garbage cycling same heap sh = record {
   telling = subst (λ (c : Cycling). Telling c.paint.colours c.shares z.own.number z.seen.share) (sym cycling) sh.telling;
   leading = subst (λ (c : Cycling). Leading c words' z.own.number z.seen.stage z.seen.share) (sym cycling) (leading_words all.cycling words words' z.own.number z.seen.stage z.seen.share same sh.leading);
   knows = subst (λ (m : List Entry × Live × (ℕ → Holder) × Cycling). KnowsBlocks k m.1 m.2 (state_of k m.0).graph m.3.paint.marks words' z.own.number z.own.registers z.seen.stage z.seen.share)
       (λ i. (sym log i, sym live i, sym holder i, sym cycling i)) (knows_words k all.live all.tenancy.holder (state_of k all.log).graph all.cycling.paint.marks words words' z.own.number z.own.registers z.seen.stage z.seen.share heap sh.knows);
   adds = subst (λ (m : Live × Cycling). Adds m.0 m.1 z.own.number z.seen.share) (λ i. (sym live i, sym cycling i)) sh.adds;
+  looks = subst (λ (m : List Entry × Live × (ℕ → Holder) × (ℕ → Bool) × Cycling). Looks m.1 m.2 m.3 (state_of k m.0).graph m.4.paint.marks m.4.paint.emptied z.own.number z.own.ephemerons.items z.seen.stage z.seen.share)
+      (λ i. (sym log i, sym live i, sym holder i, sym garbage i, sym cycling i)) sh.looks;
 }
 
 -- the heap's words stay
@@ -208,9 +211,9 @@ module _ (k : Config) (s : Words) (r : Rule k s) (id : ℕ) (hist : List Entry) 
     pub full : Fullness k r.account.log r.account.live r.account.tenancy.holder r.account.tenancy.fresh homes' c'.kind
     pub paint : c'.paint ≡ r.account.cycling.paint
     pub cycle : Cycled k (state_of k r.account.log) r.account.live pause' (record r.account.tenancy { stock = stock' }) c' words'
-    pub sharing : Sharing k (turned pause' (record r.account.tenancy { stock = stock' }) c' homes') words' y.own.number y.own.registers y.seen.stage y.seen.share
+    pub sharing : Sharing k (turned pause' (record r.account.tenancy { stock = stock' }) c' homes') words' y.own.number y.own.registers y.own.ephemerons.items y.seen.stage y.seen.share
     pub sharings : (z : DomainView) → z.own.number < k.domains → z.own.number ≢ x.own.number → Good k r.account s.words z
-        → Sharing k (turned pause' (record r.account.tenancy { stock = stock' }) c' homes') words' z.own.number z.own.registers z.seen.stage z.seen.share
+        → Sharing k (turned pause' (record r.account.tenancy { stock = stock' }) c' homes') words' z.own.number z.own.registers z.own.ephemerons.items z.seen.stage z.seen.share
     pub untouched : Untouched s.words words'
     pub front : IsFrontOf x.own.number r.account.log y.seen.front
     pub phases : Phases k pause' words'
@@ -290,6 +293,7 @@ module _ (k : Config) (s : Words) (r : Rule k s) (id : ℕ) (hist : List Entry) 
         rooted = o.rooted;
         set_back = o.set_back;
         sharing = o.sharing;
+        listed = g.listed;
       }
       (λ z below other h. record {
         stood = h.stood;
@@ -304,6 +308,7 @@ module _ (k : Config) (s : Words) (r : Rule k s) (id : ℕ) (hist : List Entry) 
         rooted = o.roots z below other h.staged h.rooted;
         set_back = λ b. low_untouched k s.words words' o.untouched (h.set_back b);
         sharing = o.sharings z below other h;
+        listed = h.listed;
       })
 
   -- a step that leaves where all stand, and the front
@@ -321,8 +326,8 @@ module _ (k : Config) (s : Words) (r : Rule k s) (id : ℕ) (hist : List Entry) 
         full = r.whole.full;
         paint = refl;
         cycle = cycle_words k (state_of k r.account.log) r.account.live r.account.pause t r.account.cycling s.words words' same heap r.whole.cycle;
-        sharing = sharing_words k r.account r.account s.words words' x refl refl refl refl same heap g.sharing;
-        sharings = λ z _ _ h. sharing_words k r.account r.account s.words words' z refl refl refl refl same heap h.sharing;
+        sharing = sharing_words k r.account r.account s.words words' x refl refl refl refl refl same heap g.sharing;
+        sharings = λ z _ _ h. sharing_words k r.account r.account s.words words' z refl refl refl refl refl same heap h.sharing;
         owes = owes_as k r.account.live x y refl refl refl refl g.owes;
         settled = r.whole.settled;
         cleared = r.whole.cleared;

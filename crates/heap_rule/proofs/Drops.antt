@@ -1,4 +1,7 @@
 -- At the end of Promote the blocks of the minor areas are dropped.
+use Rattle.heap_rule.specs.Ephemerons.{Listed}
+use Rattle.heap_rule.proofs.Again.{ephe_back}
+use Rattle.heap_rule.proofs.EphemeronLemmas.{values_without, listed_on}
 use Rattle.std.proofs.Common.{[], Bool, true, false, ◌≡◌, ◌≢◌, ℕ, ◌+◌, ◌*◌, ◌%◌, ◌<◌, ◌≤◌, ◌⊎◌, List, length, set, slice_get, Option, Some, None, sym, refl, ap, ◌∙◌, subst, inl, inr, ⊎_elim, arith, lt_of_not-le}
 use mathlib.Core.Logic.{dite}
 use native.Mathlib.Decide.{dec_le}
@@ -20,7 +23,7 @@ use Rattle.heap_rule.specs.declared.view.Hunt.{Hunt}
 use Rattle.heap_rule.specs.declared.view.Hunt.TheVariants.{Rests, Counts, Asks, Draws, Walks, Fills, Labels, Heads}
 use Rattle.heap_rule.specs.declared.view.DomainView.{DomainView}
 use Rattle.heap_rule.specs.Layout.{at_address, ended_word}
-use Rattle.heap_rule.specs.Places.{Debt, Place, Live, extent, values_of, Stands, HasValue, IsOldAt, IsOldWord, Settled, More, Paint}
+use Rattle.heap_rule.specs.Places.{Debt, Place, Live, extent, values_of, Stands, HasValue, IsOldAt, IsOldWord, Settled, More, Paint, without_keys}
 use Rattle.heap_rule.specs.Changes.{value_at}
 use Rattle.heap_rule.specs.Copies.{nothing_copied, known, Owes, Copies, Promoting, IsOldValue, HoldsOld, Rooted}
 use Rattle.heap_rule.specs.Phases.{Pause, Phases, IsOdd, Staged, Still, TookBack, HasSetBack, Unwished}
@@ -127,7 +130,10 @@ module _ (k : Config) (paint : Paint) (live : Live) (graph : Graph) (words : Lis
             let s = f.values i v h got in
             let n : ℕ = length (values_of f.node) in
             let size : extent q.shape ≡ n + 2 = ap extent (sym f.shape) ∙ extent_of f.node in
-            let below : i < n = got_below (values_of f.node) i v got in
+            let m : ℕ = length (values_of (without_keys (paint.emptied q.label) f.node)) in
+            let same : m ≡ n = values_without (paint.emptied q.label) f.node in
+            let under : i < m = got_below (values_of (without_keys (paint.emptied q.label) f.node)) i v got in
+            let below : i < n = omega arith in
             let z : ℕ = extent q.shape in let y : z ≡ n + 2 = size in
             let is_old : IsOldWord k (at_address k words (b + 2 + i)) = f.old w.0 i (let g : i + 2 < z = omega arith in g) h (unnamed b q i w.1) in
             record { value = s.value; packs = s.packs; stands = stands_old k live s.value v (word_old k (at_address k words (b + 2 + i)) s.value s.packs is_old) s.stands };
@@ -187,8 +193,8 @@ module _ (k : Config) (s : Words) (r : Rule k s) (id : ℕ) (hist : List Entry) 
     pub paint : c'.paint ≡ r.account.cycling.paint
     pub kind : c'.kind ≡ r.account.cycling.kind
     pub cycle : Cycled k (state_of k r.account.log) (dropped k r.account.live) pause' (record r.account.tenancy { stock = no_stock }) c' words'
-    pub sharing : Sharing k (dropped_to pause' c') words' y.own.number y.own.registers y.seen.stage y.seen.share
-    pub sharings : (z : DomainView) → z.own.number < k.domains → z.own.number ≢ x.own.number → Good k r.account s.words z → Sharing k (dropped_to pause' c') words' z.own.number z.own.registers z.seen.stage z.seen.share
+    pub sharing : Sharing k (dropped_to pause' c') words' y.own.number y.own.registers y.own.ephemerons.items y.seen.stage y.seen.share
+    pub sharings : (z : DomainView) → z.own.number < k.domains → z.own.number ≢ x.own.number → Good k r.account s.words z → Sharing k (dropped_to pause' c') words' z.own.number z.own.registers z.own.ephemerons.items z.seen.stage z.seen.share
     pub untouched : Untouched s.words words'
     pub front : IsFrontOf x.own.number r.account.log y.seen.front
     pub phases : Phases k pause' words'
@@ -239,6 +245,9 @@ module _ (k : Config) (s : Words) (r : Rule k s) (id : ℕ) (hist : List Entry) 
       }) in
       let pools1 = pools_untouched k t s.words words' o.untouched r.whole.pools in
       let grid1 = drop_grid k paint0 live0 graph words' found0 r.whole.copies o.free t pools1 (grid_untouched k t live0 s.words words' o.untouched r.whole.grid) in
+      let listed_low : (z : DomainView) → Good k r.account s.words z → Listed live1 t.holder t.garbage z.own.number z.own.ephemerons.items = (λ z h.
+          listed_on live0 live1 t.holder t.holder t.garbage t.garbage z.own.number z.own.ephemerons.items (λ q c e. e) (λ q c e. e) (ephe_back live0 live1 back)
+          (λ a e. inl (record { place = e.place; lives = kept_low k live0 a e.place e.lives ((r.whole.placed.fits a e.place e.lives).pooled e.keys e.shape); keys = e.keys; shape = e.shape })) (λ a e. e) h.listed) in
       let mine_stood = stood_low x o.own_old g.stood in
       let mine_area = area_back k live0 live1 x back g.area in
       let mine_hunter = hunter_untouched k t s.words words' x o.untouched g.hunter in
@@ -297,6 +306,7 @@ module _ (k : Config) (s : Words) (r : Rule k s) (id : ℕ) (hist : List Entry) 
         rooted = (λ h. absurd (o.over h), λ _. o.own_forgot);
         set_back = λ h. absurd (o.gone h);
         sharing = o.sharing;
+        listed = listed_low x g;
       }
       (λ z below other h. let zh = hunter_untouched k t s.words words' z o.untouched h.hunter in record {
         stood = stood_low z (o.all_old z below other h.staged h.rooted) h.stood;
@@ -320,4 +330,5 @@ module _ (k : Config) (s : Words) (r : Rule k s) (id : ℕ) (hist : List Entry) 
         rooted = (λ h. absurd (o.over h), λ _. o.all_forgot z below other h.staged h.rooted);
         set_back = λ b. low_untouched k s.words words' o.untouched (h.set_back b);
         sharing = o.sharings z below other h;
+        listed = listed_low z h;
       })

@@ -141,6 +141,8 @@ module _ (k : Config) (s : Words) (r : Rule k s) (id : ℕ) (hist : List Entry) 
     grid = r.whole.grid;
     hunter = hunter_as k r.account.tenancy s.words x (entered_view e registers) refl refl refl refl refl refl g.hunter;
     hunters = λ z _ g. g.hunter;
+    listed = record { all = g.listed.all; own = g.listed.own; lives = g.listed.lives };
+    listeds = λ z _ h. h.listed;
   }
 
   pub enters : (graph : Graph) (e : Entry) (answer : Applied) (read : Value) (changes : List Change) → EntersTo graph e ((changed read changes x.own).registers) answer → Entered k e answer read changes x (entered_view e ((changed read changes x.own).registers))

@@ -1,4 +1,6 @@
 -- What all kinds of step share: what a domain knows at its seat, and that the rule holds again where the whole, the own domain and each other one meet it.
+use Rattle.remembered_set.specs.Bounded.{Bounded}
+use Rattle.heap_model.specs.declared.label.Label.{Label}
 use Rattle.std.proofs.lemmas.Option.{slice_get_within}
 use Rattle.heap_rule.specs.declared.phase.Kind.{Kind}
 use Rattle.std.proofs.Common.{zero-le, slice_get, inl, inr, ⊎_elim, None, ◌≡◌, ◌≢◌, ℕ, zero, suc, ◌+◌, ◌*◌, ◌<◌, ◌≤◌, false, List, [], ◌∷◌, ◌++◌, length, get_or, set, Some, sym, refl, ap, ◌∙◌, subst, arith, length-set, get_or-set_other, append_assoc, ◌⊎◌, Option, true, IsTrue}
@@ -50,6 +52,8 @@ use Rattle.heap_model.specs.Domains.{class_count, reserve}
 use Rattle.heap_rule.specs.Layout.{heap_words}
 use Rattle.heap_rule.specs.Pools.{Stock, Reserved, Covered, Takes, IsCopying, Latest, DrawsFor, prepared_at, size_of, Tenancy, drawn, owned, Pools, Grid, Drawers, IsLeading, Lists, Resting, Hunts, Hunter, drawn_in, hunting_free, spot_at, IsBefore, limit_of}
 use Rattle.heap_rule.specs.Standing.{with_front}
+use Rattle.heap_rule.specs.Ephemerons.{IsEpheAt, Listed}
+use Rattle.heap_rule.proofs.EphemeronLemmas.{looks_idle, none_misses, listed_on, listed_as, ephe_more}
 use Rattle.heap_rule.proofs.Lists.{views_set, domains_map, domains_with, no_item}
 use Rattle.heap_rule.specs.Fullness.{Homes, Fullness}
 
@@ -540,26 +544,39 @@ module _ (k : Config) (s : Words) (r : Rule k s) (id : ℕ) (hist : List Entry) 
       → Cycled k after live' r.account.pause t' r.account.cycling words'
   cycle_here kind none is after live' t' words' mode garbage same = cycle_between k now after r.account.live live' r.account.pause r.account.tenancy t' r.account.cycling s.words words' (no_cycle_here kind none is) mode garbage same r.whole.cycle
 
+  -- no block misses keys then
+  pub whole_here : (kind : Kind) → HasNoCycle kind → x.seen.stage ≡ In kind → (l : Label) → r.account.cycling.paint.emptied l ≡ []
+  whole_here kind none is l = none_misses r.account.live r.account.tenancy.holder r.account.cycling (no_cycle_here kind none is) r.whole.cycle.whole l
+
+  -- the lists of ephemerons fit where none comes to live and none dies
+  pub listed_here : (live' : Live) → ((a : ℕ) → IsEpheAt live' a → IsEpheAt r.account.live a) → More r.account.live live' → (z : DomainView) → Good k r.account s.words z → Listed live' r.account.tenancy.holder r.account.tenancy.garbage z.own.number z.own.ephemerons.items
+  listed_here live' was more z g = listed_on r.account.live live' r.account.tenancy.holder r.account.tenancy.holder r.account.tenancy.garbage r.account.tenancy.garbage z.own.number z.own.ephemerons.items (λ q c e. e) (λ q c e. e) was (λ a e. inl (ephe_more r.account.live live' more a e)) (λ a e. e) g.listed
+
   pub idle_here : (kind : Kind) → HasNoCycle kind → x.seen.stage ≡ In kind → IsIdle x.seen.share
   idle_here kind none is = idle_in k r.account.live r.account.tenancy.holder now.graph r.account.cycling.paint.marks s.words x kind none is my_good.sharing.knows
 
   pub sharing_here : (kind : Kind) → HasNoCycle kind → x.seen.stage ≡ In kind → (all' : Account) (words' : List ℕ) (y : DomainView) → all'.cycling ≡ r.account.cycling → SameCycle s.words words'
-      → y.own.number ≡ x.own.number → y.seen.stage ≡ x.seen.stage → y.seen.share ≡ x.seen.share → Sharing k all' words' y.own.number y.own.registers y.seen.stage y.seen.share
+      → y.own.number ≡ x.own.number → y.seen.stage ≡ x.seen.stage → y.seen.share ≡ x.seen.share → Sharing k all' words' y.own.number y.own.registers y.own.ephemerons.items y.seen.stage y.seen.share
   sharing_here kind none is all' words' y cycling same number stage share = record {
     telling = subst (λ (c : Cycling). Telling c.paint.colours c.shares y.own.number y.seen.share) (sym cycling) (telling_as r.account.cycling.paint.colours r.account.cycling.shares x.own.number y.own.number x.seen.share y.seen.share number share my_good.sharing.telling);
     leading = subst (λ (c : Cycling). Leading c words' y.own.number y.seen.stage y.seen.share) (sym cycling)
         (leading_as r.account.cycling words' x.own.number y.own.number x.seen.stage y.seen.stage x.seen.share y.seen.share number stage share (leading_words r.account.cycling s.words words' x.own.number x.seen.stage x.seen.share same my_good.sharing.leading));
     knows = inl (subst IsIdle (sym share) (idle_here kind none is));
     adds = adds_nothing all'.live all'.cycling y.own.number y.seen.share (subst (λ (c : Cycling). HasNoCycle c.kind) (sym cycling) (no_cycle_here kind none is));
+    looks = looks_idle all'.live all'.tenancy.holder all'.tenancy.garbage (state_of k all'.log).graph all'.cycling.paint.marks all'.cycling.paint.emptied y.own.number y.own.ephemerons.items y.seen.stage y.seen.share (subst IsIdle (sym share) (idle_here kind none is))
+        (subst (λ (c : Cycling). (l : Label) → c.paint.emptied l ≡ []) (sym cycling) (whole_here kind none is));
   }
 
   pub sharings_here : (kind : Kind) → HasNoCycle kind → x.seen.stage ≡ In kind → (all' : Account) (words' : List ℕ) → all'.cycling ≡ r.account.cycling → SameCycle s.words words'
-      → (z : DomainView) → Good k r.account s.words z → Sharing k all' words' z.own.number z.own.registers z.seen.stage z.seen.share
+      → (z : DomainView) → Good k r.account s.words z → Sharing k all' words' z.own.number z.own.registers z.own.ephemerons.items z.seen.stage z.seen.share
   sharings_here kind none is all' words' cycling same z g = record {
     telling = subst (λ (c : Cycling). Telling c.paint.colours c.shares z.own.number z.seen.share) (sym cycling) g.sharing.telling;
     leading = subst (λ (c : Cycling). Leading c words' z.own.number z.seen.stage z.seen.share) (sym cycling) (leading_words r.account.cycling s.words words' z.own.number z.seen.stage z.seen.share same g.sharing.leading);
     knows = inl (idle_beside k r.account.live r.account.tenancy.holder now.graph r.account.cycling.paint.marks s.words r.account.pause x z kind none is my_good.staged g.staged g.sharing.knows);
     adds = adds_nothing all'.live all'.cycling z.own.number z.seen.share (subst (λ (c : Cycling). HasNoCycle c.kind) (sym cycling) (no_cycle_here kind none is));
+    looks = looks_idle all'.live all'.tenancy.holder all'.tenancy.garbage (state_of k all'.log).graph all'.cycling.paint.marks all'.cycling.paint.emptied z.own.number z.own.ephemerons.items z.seen.stage z.seen.share
+        (idle_beside k r.account.live r.account.tenancy.holder now.graph r.account.cycling.paint.marks s.words r.account.pause x z kind none is my_good.staged g.staged g.sharing.knows)
+        (subst (λ (c : Cycling). (l : Label) → c.paint.emptied l ≡ []) (sym cycling) (whole_here kind none is));
   }
 
   -- there is no garbage then
@@ -604,6 +621,8 @@ module _ (k : Config) (s : Words) (r : Rule k s) (id : ℕ) (hist : List Entry) 
     pub grid : Grid k r.account.tenancy live' words'
     pub hunter : Hunter k r.account.tenancy words' y
     pub hunters : (z : DomainView) → z.own.number ≢ x.own.number → Good k r.account s.words z → Hunter k r.account.tenancy words' z
+    pub listed : Listed live' r.account.tenancy.holder r.account.tenancy.garbage y.own.number y.own.ephemerons.items
+    pub listeds : (z : DomainView) → z.own.number ≢ x.own.number → Good k r.account s.words z → Listed live' r.account.tenancy.holder r.account.tenancy.garbage z.own.number z.own.ephemerons.items
 
   pub appends : (e : Entry) (y : DomainView) (words' : List ℕ) (live' : Live) (homes' : Homes) → Appends e y words' live' homes' → Rule k record { words = words'; homes = s.homes; views = set s.views id (one k hist y) }
   appends e y words' live' homes' o =
@@ -638,7 +657,7 @@ module _ (k : Config) (s : Words) (r : Rule k s) (id : ℕ) (hist : List Entry) 
         cycle = cycle_here Run tt o.runs (state_of k log') live' r.account.tenancy words' (ap (λ (t : model.State). t.mode) after ∙ (o.calm.mode ∙ sym (between_here Run tt o.runs).mode)) (λ a. refl) o.controls.cycle;
       }
       (knows_entry y e o.alone o.number o.front)
-      record { stood = subst (λ (t : model.State). Stood live' t y) (sym after) o.stood; area = o.area; making = o.making; staged = staged_as r.account.pause x y o.number o.arrivals o.stage my_good.staged; still = run_still log' y (o.stage ∙ o.runs); hunter = o.hunter; resting = resting_runs k s.words words' x y o.runs (o.stage ∙ o.runs) o.listing my_good.resting; took_back = running_took_back words' y (o.stage ∙ o.runs); owes = o.owes; rooted = run_rooted k r.account.pause x y o.runs my_good.staged; set_back = λ h. absurd (run_leads Run (sym (o.stage ∙ o.runs) ∙ h.0)); sharing = sharing_here Run tt o.runs (record r.account { log = log'; live = live'; homes = homes' }) words' y refl o.controls.cycle o.number o.stage o.share }
+      record { stood = subst (λ (t : model.State). Stood live' t y) (sym after) o.stood; area = o.area; making = o.making; staged = staged_as r.account.pause x y o.number o.arrivals o.stage my_good.staged; still = run_still log' y (o.stage ∙ o.runs); hunter = o.hunter; resting = resting_runs k s.words words' x y o.runs (o.stage ∙ o.runs) o.listing my_good.resting; took_back = running_took_back words' y (o.stage ∙ o.runs); owes = o.owes; rooted = run_rooted k r.account.pause x y o.runs my_good.staged; set_back = λ h. absurd (run_leads Run (sym (o.stage ∙ o.runs) ∙ h.0)); sharing = sharing_here Run tt o.runs (record r.account { log = log'; live = live'; homes = homes' }) words' y refl o.controls.cycle o.number o.stage o.share; listed = o.listed }
       (λ z _ other g. record {
         stood = subst (λ (t : model.State). Stood live' t z) (sym after) (stood_other r.account.live live' now (next now e) z (keeps_next now e z.own.number (o.alone z.own.number other)) o.more g.stood);
         area = o.areas z other g.area;
@@ -652,6 +671,7 @@ module _ (k : Config) (s : Words) (r : Rule k s) (id : ℕ) (hist : List Entry) 
         owes = owes_run k r.account.live live' z z o.settled (quiet_in k r.account.live z g.owes (λ e. nobody_paused r.account.pause x z o.runs my_good.staged g.staged (subst IsInPause (sym e) tt))) refl refl o.more (o.recalls z.own.number other) g.owes;
         rooted = run_rooted k r.account.pause x z o.runs my_good.staged;
         sharing = sharings_here Run tt o.runs (record r.account { log = log'; live = live'; homes = homes' }) words' refl o.controls.cycle z g;
+        listed = o.listeds z other g;
       })
 
   -- What a step owes at which no entry stands and nothing comes to live or moves
@@ -668,6 +688,7 @@ module _ (k : Config) (s : Words) (r : Rule k s) (id : ℕ) (hist : List Entry) 
     pub remembered : y.seen.remembered ≡ x.seen.remembered
     pub registers : y.own.registers ≡ x.own.registers
     pub arrivals : y.own.arrivals ≡ x.own.arrivals
+    pub ephemerons : y.own.ephemerons ≡ x.own.ephemerons
     pub wide : length words' ≡ length s.words
     pub controls : Controls k r.account s.words words'
     pub found : AllFound k r.account.cycling.paint r.account.live now.graph words'
@@ -679,8 +700,8 @@ module _ (k : Config) (s : Words) (r : Rule k s) (id : ℕ) (hist : List Entry) 
     pub hunter : Hunter k r.account.tenancy words' y
     pub hunters : (z : DomainView) → z.own.number ≢ x.own.number → Good k r.account s.words z → Hunter k r.account.tenancy words' z
     pub cycle : Cycled k now r.account.live r.account.pause r.account.tenancy r.account.cycling words'
-    pub sharing : Sharing k r.account words' y.own.number y.own.registers y.seen.stage y.seen.share
-    pub sharings : (z : DomainView) → z.own.number ≢ x.own.number → Good k r.account s.words z → Sharing k r.account words' z.own.number z.own.registers z.seen.stage z.seen.share
+    pub sharing : Sharing k r.account words' y.own.number y.own.registers y.own.ephemerons.items y.seen.stage y.seen.share
+    pub sharings : (z : DomainView) → z.own.number ≢ x.own.number → Good k r.account s.words z → Sharing k r.account words' z.own.number z.own.registers z.own.ephemerons.items z.seen.stage z.seen.share
 
   pub writes : (y : DomainView) (words' : List ℕ) → Writes y words' → Rule k record { words = words'; homes = s.homes; views = set s.views id (one k hist y) }
   writes y words' o =
@@ -713,8 +734,8 @@ module _ (k : Config) (s : Words) (r : Rule k s) (id : ℕ) (hist : List Entry) 
         cycle = o.cycle;
       }
       (knows_front y o.number o.front)
-      record { stood = o.stood; area = o.area; making = o.making; staged = staged_as r.account.pause x y o.number o.arrivals o.stage my_good.staged; still = o.still; hunter = o.hunter; resting = resting_as k words' x y o.number o.stage o.hunt o.free o.listing (resting_lists k s.words words' x o.controls.lists my_good.resting); took_back = λ kind leads last. o.controls.want ∙ my_good.took_back kind (sym o.stage ∙ leads) (sym (ap last_note o.notes) ∙ last); owes = owes_as k r.account.live x y o.number o.copying o.stage o.remembered my_good.owes; rooted = rooted_as k r.account.pause x y o.registers o.arrivals o.remembered my_good.rooted; set_back = λ h. o.controls.set_back x my_good.staged (sym o.stage ∙ h.0, sym (ap last_note o.notes) ∙ h.1) (my_good.set_back (sym o.stage ∙ h.0, sym (ap last_note o.notes) ∙ h.1)); sharing = o.sharing }
-      (λ z _ other g. record { stood = g.stood; area = g.area; making = o.makings z other g.area g.making; staged = g.staged; still = g.still; hunter = o.hunters z other g; resting = resting_lists k s.words words' z o.controls.lists g.resting; took_back = λ kind leads last. o.controls.want ∙ g.took_back kind leads last; owes = g.owes; rooted = g.rooted; set_back = λ h. o.controls.set_back z g.staged h (g.set_back h); sharing = o.sharings z other g })
+      record { stood = o.stood; area = o.area; making = o.making; staged = staged_as r.account.pause x y o.number o.arrivals o.stage my_good.staged; still = o.still; hunter = o.hunter; resting = resting_as k words' x y o.number o.stage o.hunt o.free o.listing (resting_lists k s.words words' x o.controls.lists my_good.resting); took_back = λ kind leads last. o.controls.want ∙ my_good.took_back kind (sym o.stage ∙ leads) (sym (ap last_note o.notes) ∙ last); owes = owes_as k r.account.live x y o.number o.copying o.stage o.remembered my_good.owes; rooted = rooted_as k r.account.pause x y o.registers o.arrivals o.remembered my_good.rooted; set_back = λ h. o.controls.set_back x my_good.staged (sym o.stage ∙ h.0, sym (ap last_note o.notes) ∙ h.1) (my_good.set_back (sym o.stage ∙ h.0, sym (ap last_note o.notes) ∙ h.1)); sharing = o.sharing; listed = listed_as r.account.live r.account.tenancy.holder r.account.tenancy.garbage x.own.number y.own.number x.own.ephemerons.items y.own.ephemerons.items o.number (ap (λ (b : Bounded ℕ). b.items) o.ephemerons) my_good.listed }
+      (λ z _ other g. record { stood = g.stood; area = g.area; making = o.makings z other g.area g.making; staged = g.staged; still = g.still; hunter = o.hunters z other g; resting = resting_lists k s.words words' z o.controls.lists g.resting; took_back = λ kind leads last. o.controls.want ∙ g.took_back kind leads last; owes = g.owes; rooted = g.rooted; set_back = λ h. o.controls.set_back z g.staged h (g.set_back h); sharing = o.sharings z other g; listed = g.listed })
 
   -- a step that leaves all but the front, which is then some front of the history
   pub looks : (front : List Entry) → IsFrontOf x.own.number r.account.log front → (IsInPause x.seen.stage → front ≡ r.account.log) → Rule k record { words = s.words; homes = s.homes; views = set s.views id (one k hist (with_front x front)) }
@@ -731,6 +752,7 @@ module _ (k : Config) (s : Words) (r : Rule k s) (id : ℕ) (hist : List Entry) 
     remembered = refl;
     registers = refl;
     arrivals = refl;
+    ephemerons = refl;
     wide = refl;
     controls = controls_kept s.words (control_same k s.words);
     found = r.whole.found;
@@ -769,6 +791,7 @@ module _ (k : Config) (s : Words) (r : Rule k s) (id : ℕ) (hist : List Entry) 
     pub makings : (z : DomainView) → Making k s.words z → Making k words' z
     pub hunter : Hunter k t' words' (hunting_free x looked hunt free)
     pub hunters : (z : DomainView) → z.own.number ≢ x.own.number → Good k r.account s.words z → Hunter k t' words' z
+    pub listeds : (z : DomainView) → Good k r.account s.words z → Listed r.account.live t'.holder t'.garbage z.own.number z.own.ephemerons.items
 
   pub holds_again : (looked : List Spot) (hunt : Hunt) (free : Option ℕ) (words' : List ℕ) (t' : Tenancy) → Holds looked hunt free words' t' → Rule k record { words = words'; homes = s.homes; views = set s.views id (one k hist (hunting_free x looked hunt free)) }
   holds_again looked hunt free words' t' o =
@@ -816,8 +839,9 @@ module _ (k : Config) (s : Words) (r : Rule k s) (id : ℕ) (hist : List Entry) 
         rooted = my_good.rooted;
         set_back = λ h. absurd (takes_leads x.seen.stage o.takes (subst IsLeading (sym h.0) tt));
         sharing = sharing_here in_kind.0 in_kind.1 in_kind.2 (record r.account { tenancy = t' }) words' (hunting_free x looked hunt free) refl o.cycle refl refl refl;
+        listed = let l = o.listeds x my_good in record { all = l.all; own = l.own; lives = l.lives };
       }
-      (λ z _ other g. record { stood = g.stood; area = g.area; making = o.makings z g.making; staged = g.staged; still = g.still; hunter = o.hunters z other g; resting = resting_other k r.account.pause s.words words' x z o.takes my_good.staged g.staged g.resting; took_back = λ kind leads last. o.want ∙ g.took_back kind leads last; owes = g.owes; rooted = g.rooted; set_back = λ h. absurd (nobody_leads r.account.pause x z o.takes my_good.staged g.staged (subst IsLeading (sym h.0) tt)); sharing = sharings_here in_kind.0 in_kind.1 in_kind.2 (record r.account { tenancy = t' }) words' refl o.cycle z g })
+      (λ z _ other g. record { stood = g.stood; area = g.area; making = o.makings z g.making; staged = g.staged; still = g.still; hunter = o.hunters z other g; resting = resting_other k r.account.pause s.words words' x z o.takes my_good.staged g.staged g.resting; took_back = λ kind leads last. o.want ∙ g.took_back kind leads last; owes = g.owes; rooted = g.rooted; set_back = λ h. absurd (nobody_leads r.account.pause x z o.takes my_good.staged g.staged (subst IsLeading (sym h.0) tt)); sharing = sharings_here in_kind.0 in_kind.1 in_kind.2 (record r.account { tenancy = t' }) words' refl o.cycle z g; listed = o.listeds z g })
 
 -- a load leaves the words as they were
 pub unmoved : (k : Config) (s : Words) (at : ℕ) (views : List View) → Rule k record { words = s.words; homes = s.homes; views = views }

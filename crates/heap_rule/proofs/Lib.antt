@@ -5,6 +5,7 @@ pub mod Sizes
 pub mod Values
 pub mod PauseFacts
 pub mod HeadLemmas
+pub mod EphemeronLemmas
 pub mod Sharings
 pub mod Keeps
 pub mod Stages

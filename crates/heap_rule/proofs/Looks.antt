@@ -74,5 +74,6 @@ first_seat k n own me is e limits inside = subst (λ (m : Own × Me (Unit {0}) V
     remembered = λ i a e. absurd (no_item [] i a refl e);
     prepared = refl;
     pending = omega arith;
+    ephemerons = λ i a e. absurd (no_item [] i a refl e);
   };
 }

@@ -26,6 +26,7 @@ fits_changed k own own' read changes is fits holds =
       remembered = subst (λ (o : Own). AllInHeap k o.remembered.items) (sym only) fits.remembered;
       prepared = ap (λ (o : Own). length o.prepared) only ∙ fits.prepared;
       pending = ap (λ (o : Own). o.pending.room + length o.pending.items) only ∙ fits.pending;
+      ephemerons = subst (λ (o : Own). AllInHeap k o.ephemerons.items) (sym only) fits.ephemerons;
     }
 
 pub entered_own : (k : Config) (e : Entry) (answer : Applied) (read : Value) (changes : List Change) (x y : DomainView) → Entered k e answer read changes x y → y.own ≡ changed read changes x.own

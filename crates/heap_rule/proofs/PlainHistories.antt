@@ -1,35 +1,27 @@
--- After a history whose entries register no finaliser and make no ephemeron nothing waits to be queued, no domain owes a finaliser, and each block is a plain one.
-use Rattle.std.proofs.Common.{◌≡◌, ℕ, zero, suc, true, false, List, [], ◌∷◌, ◌++◌, length, map, replicate, get_or, set, Option, Some, None, sym, refl, ap, ◌∙◌, subst, ⊎_elim}
+-- After a history whose entries register no finaliser nothing waits to be queued, and no domain owes a finaliser.
+use Rattle.std.proofs.Common.{◌≡◌, ℕ, zero, suc, true, false, List, [], ◌∷◌, length, map, replicate, get_or, set, Option, Some, None, sym, refl, ap, ◌∙◌, subst}
 use Rattle.heap_model.specs.declared.label.Label.{Label}
 use Rattle.heap_model.specs.declared.command.Command.{Command}
-use Rattle.heap_model.specs.declared.command.Command.TheVariants.{PutInt, Copy, Forget, Alloc, AllocMaj, Load, Store, Poll, Minor, Major, FullMajor}
+use Rattle.heap_model.specs.declared.command.Command.TheVariants.{PutInt, Copy, Forget, Alloc, AllocMaj, Load, Store, Ephe as NewEphe, SetKey, UnsetKey, GetKey, CheckKey, SetData, UnsetData, GetData, CheckData, Poll, Minor, Major, FullMajor}
 use Rattle.heap_model.specs.declared.entry.Entry.{Entry}
-use Rattle.heap_model.specs.declared.entry.Entry.TheVariants.{Command as CommandOf, End, Cut, Seal, Collected, Done}
+use Rattle.heap_model.specs.declared.entry.Entry.TheVariants.{Command as CommandOf, End, Cut, Seal, Wipe, Collected, Done}
 use Rattle.heap_model.specs.declared.graph.Node.{Node}
-use Rattle.heap_model.specs.declared.graph.Node.TheVariants.{Plain, Raw, Ephe}
+use Rattle.heap_model.specs.declared.graph.Node.TheVariants.{Ephe}
 use Rattle.heap_model.specs.declared.state.DomainState.{DomainState}
 use Rattle.heap_model.specs.declared.state.Sizes.{Sizes}
 use Rattle.heap_model.specs.declared.state.State.{State}
 use Rattle.heap_model.specs.Commands.{outcome, after_command, new_plain, allocated, is_allocation}
-use Rattle.heap_model.specs.Domains.{domain_at, no_domain, opening, opening_domain, shared_label, shared_node}
-use Rattle.heap_model.specs.Entries.{next}
-use Rattle.heap_model.specs.Fronts.{PlainShape, RawShape, EpheShape, shape_of}
-use Rattle.heap_model.specs.Graph.{Graph, node_at, with_node}
+use Rattle.heap_model.specs.declared.graph.Value.TheVariants.{Nothing}
+use Rattle.heap_model.specs.Domains.{domain_at, no_domain, opening, opening_domain}
+use Rattle.heap_model.specs.Entries.{next, wiped, with_wiped}
+use Rattle.heap_model.specs.Graph.{node_at}
 use Rattle.heap_model.specs.History.{state_after}
 use Rattle.heap_model.proofs.Commands.FrameLemmas.{Frame, frame_command, part_map, part_set}
 use Rattle.heap_model.specs.declared.state.Pending.{Pending}
 use mathlib.Core.Logic.{dite}
 use native.Mathlib.Decide.{ℕ_discrete}
 use Rattle.heap_model.proofs.Commands.MoveLemmas.{moved, registers_one}
-use Rattle.heap_model.proofs.Graphs.GraphLemmas.{node_at-with_node_cases, node_at-append_cases}
 use Rattle.heap_rule.specs.Cycles.{IsPlainCommand, IsPlainEntry, AllPlain}
-
-abbrev pub IsPlainNode : Node → Type 0
-IsPlainNode (Plain tag fields) = Unit {0}
-IsPlainNode _ = ⊥
-
-abbrev pub PlainNodes : Graph → Type 0
-PlainNodes g = (l : Label) (n : Node) → node_at g l ≡ Some n → IsPlainNode n
 
 -- no registration waits
 pub record IsUnregistered (x : DomainState) : Type 0 where
@@ -42,22 +34,7 @@ AllUnregistered xs = (d : ℕ) → IsUnregistered (get_or xs d no_domain)
 
 pub record IsPlainState (z : Sizes) (s : State) : Type 0 where
   pub sizes : s.sizes ≡ z
-  pub nodes : PlainNodes s.graph
   pub work : AllUnregistered s.domains
-
--- the nodes
-same_shape : (old new : Node) → shape_of new ≡ shape_of old → IsPlainNode old → IsPlainNode new
-same_shape (Plain t f) (Plain u g) e p = tt
-same_shape (Plain t f) (Raw u g) e p = absurd (let h : RawShape (length g) u ≡ PlainShape (length f) t = e in cc)
-same_shape (Plain t f) (Ephe keys datum) e p = absurd (let h : EpheShape (length keys) ≡ PlainShape (length f) t = e in cc)
-same_shape (Raw t f) new e p = absurd p
-same_shape (Ephe keys datum) new e p = absurd p
-
-plain_written : (g : Graph) (l : Label) (old new : Node) → node_at g l ≡ Some old → shape_of new ≡ shape_of old → PlainNodes g → PlainNodes (with_node g l new)
-plain_written g l old new found same p k n is = ⊎_elim (λ (e : n ≡ new). subst IsPlainNode (sym e) (same_shape old new same (p l old found))) (λ (e : node_at g k ≡ Some n). p k n e) (node_at-with_node_cases g l k new n is)
-
-plain_made : (g : Graph) (e : Label × Node) → IsPlainNode e.1 → PlainNodes g → PlainNodes (g ++ e ∷ [])
-plain_made g e new p k n is = ⊎_elim (λ (f : n ≡ e.1). subst IsPlainNode (sym f) new) (λ (f : node_at g k ≡ Some n). p k n f) (node_at-append_cases g e k n is)
 
 -- the registrations
 unregistered_set : (xs : List DomainState) (d : ℕ) (x : DomainState) → x.finals ≡ (get_or xs d no_domain).finals → x.lasts ≡ (get_or xs d no_domain).lasts → x.low ≡ (get_or xs d no_domain).low → AllUnregistered xs → AllUnregistered (set xs d x)
@@ -77,17 +54,16 @@ module _ (z : Sizes) (s : State) (d : ℕ) (p : IsPlainState z s) where
   others : (c : Command) → is_allocation c ≡ false → registers_one c ≡ false → IsPlainState z (outcome s d c).state
   others c makes registers = moved (IsPlainState z) s d c (record {
     same = p;
-    held = λ r v named. record { sizes = p.sizes; nodes = p.nodes; work = unregistered_set s.domains d _ refl refl refl p.work };
-    written = λ l old new at found same named full. record { sizes = p.sizes; nodes = plain_written s.graph l old new found same p.nodes; work = p.work };
+    held = λ r v named. record { sizes = p.sizes; work = unregistered_set s.domains d _ refl refl refl p.work };
+    written = λ l old new at found same named full. record { sizes = p.sizes; work = p.work };
     made = λ is dst n named full. absurd (let clash : true ≡ false = sym is ∙ makes in cc);
     registered = λ is f named. absurd (let clash : true ≡ false = sym is ∙ registers in cc);
     registered_last = λ is f named. absurd (let clash : true ≡ false = sym is ∙ registers in cc);
   })
 
-  allocates : (dst tag fields : ℕ) → IsPlainState z (allocated s d dst (new_plain tag fields)).state
-  allocates dst tag fields = record {
+  allocates : (dst : ℕ) (n : Node) → IsPlainState z (allocated s d dst n).state
+  allocates dst n = record {
     sizes = p.sizes;
-    nodes = plain_made s.graph _ tt p.nodes;
     work = unregistered_set _ d _ refl refl refl (unregistered_set s.domains d _ refl refl refl p.work);
   }
 
@@ -95,10 +71,19 @@ module _ (z : Sizes) (s : State) (d : ℕ) (p : IsPlainState z s) where
   plain_outcome (PutInt dst z) plain = others (PutInt dst z) refl refl
   plain_outcome (Copy dst src) plain = others (Copy dst src) refl refl
   plain_outcome (Forget dst) plain = others (Forget dst) refl refl
-  plain_outcome (Alloc dst tag fields) plain = allocates dst tag fields
-  plain_outcome (AllocMaj dst tag fields) plain = allocates dst tag fields
+  plain_outcome (Alloc dst tag fields) plain = allocates dst (new_plain tag fields)
+  plain_outcome (AllocMaj dst tag fields) plain = allocates dst (new_plain tag fields)
   plain_outcome (Load dst src i) plain = others (Load dst src i) refl refl
   plain_outcome (Store block i item) plain = others (Store block i item) refl refl
+  plain_outcome (NewEphe dst keys) plain = allocates dst (Ephe (replicate keys None) Nothing)
+  plain_outcome (SetKey ephe i item) plain = others (SetKey ephe i item) refl refl
+  plain_outcome (UnsetKey ephe i) plain = others (UnsetKey ephe i) refl refl
+  plain_outcome (GetKey dst ephe i) plain = others (GetKey dst ephe i) refl refl
+  plain_outcome (CheckKey ephe i) plain = others (CheckKey ephe i) refl refl
+  plain_outcome (SetData ephe item) plain = others (SetData ephe item) refl refl
+  plain_outcome (UnsetData ephe) plain = others (UnsetData ephe) refl refl
+  plain_outcome (GetData dst ephe) plain = others (GetData dst ephe) refl refl
+  plain_outcome (CheckData ephe) plain = others (CheckData ephe) refl refl
   plain_outcome Poll plain = p
   plain_outcome Minor plain = p
   plain_outcome Major plain = p
@@ -106,7 +91,7 @@ module _ (z : Sizes) (s : State) (d : ℕ) (p : IsPlainState z s) where
   plain_outcome _ plain = absurd plain
 
 plain_after_command : (z : Sizes) (t : State) (d : ℕ) → IsPlainState z t → IsPlainState z (after_command t d)
-plain_after_command z t d p = record { sizes = p.sizes; nodes = p.nodes; work = unregistered_set t.domains d _ refl refl refl p.work }
+plain_after_command z t d p = record { sizes = p.sizes; work = unregistered_set t.domains d _ refl refl refl p.work }
 
 ended_domain : (xs : List DomainState) (d : ℕ) (x : DomainState) → IsUnregistered x → AllUnregistered xs → AllUnregistered (set xs d x)
 ended_domain [] d x is all k = all k
@@ -115,14 +100,20 @@ ended_domain (y ∷ ys) zero x is all (suc k) = all (suc k)
 ended_domain (y ∷ ys) (suc d) x is all zero = all zero
 ended_domain (y ∷ ys) (suc d) x is all (suc k) = ended_domain ys d x is (λ j. all (suc j)) k
 
+-- a Wipe changes the graph alone
+wiped_same : (s : State) (l : Label) (o : Option Node) → ((with_wiped s l o).sizes ≡ s.sizes) × ((with_wiped s l o).domains ≡ s.domains)
+wiped_same s l None = (refl, refl)
+wiped_same s l (Some n) = (refl, refl)
+
 pub plain_next : (z : Sizes) (s : State) (e : Entry) → IsPlainEntry e → IsPlainState z s → IsPlainState z (next s e)
 plain_next z s (CommandOf d c true) plain p = plain_after_command z s d p
 plain_next z s (CommandOf d c false) plain p = plain_after_command z (outcome s d c).state d (plain_outcome z s d p c plain)
-plain_next z s (End d) plain p = record { sizes = p.sizes; nodes = p.nodes; work = ended_domain s.domains d _ (record { finals = refl; lasts = refl; low = (p.work d).low }) p.work }
-plain_next z s Cut plain p = record { sizes = p.sizes; nodes = p.nodes; work = unregistered_map _ (λ x u. record { finals = u.finals; lasts = u.lasts; low = ap length u.finals }) s.domains p.work }
-plain_next z s Seal plain p = record { sizes = p.sizes; nodes = p.nodes; work = unregistered_map _ (λ x u. record { finals = u.finals; lasts = u.lasts; low = ap length u.lasts }) s.domains p.work }
-plain_next z s Collected plain p = record { sizes = p.sizes; nodes = p.nodes; work = unregistered_map _ (λ x u. record { finals = u.finals; lasts = u.lasts; low = u.low }) s.domains p.work }
-plain_next z s Done plain p = record { sizes = p.sizes; nodes = p.nodes; work = p.work }
+plain_next z s (End d) plain p = record { sizes = p.sizes; work = ended_domain s.domains d _ (record { finals = refl; lasts = refl; low = (p.work d).low }) p.work }
+plain_next z s Cut plain p = record { sizes = p.sizes; work = unregistered_map _ (λ x u. record { finals = u.finals; lasts = u.lasts; low = ap length u.finals }) s.domains p.work }
+plain_next z s Seal plain p = record { sizes = p.sizes; work = unregistered_map _ (λ x u. record { finals = u.finals; lasts = u.lasts; low = ap length u.lasts }) s.domains p.work }
+plain_next z s (Wipe l keys) plain p = let same = wiped_same s l (wiped keys (node_at s.graph l)) in record { sizes = same.0 ∙ p.sizes; work = subst AllUnregistered (sym same.1) p.work }
+plain_next z s Collected plain p = record { sizes = p.sizes; work = unregistered_map _ (λ x u. record { finals = u.finals; lasts = u.lasts; low = u.low }) s.domains p.work }
+plain_next z s Done plain p = record { sizes = p.sizes; work = p.work }
 plain_next z s _ plain p = absurd plain
 
 pub plain_state : (z : Sizes) (s : State) (h : List Entry) → AllPlain h → IsPlainState z s → IsPlainState z (state_after s h)
@@ -132,7 +123,6 @@ plain_state z s (e ∷ h) all p = plain_state z (next s e) h all.1 (plain_next z
 pub plain_opening : (z : Sizes) → IsPlainState z (opening z)
 plain_opening z = record {
   sizes = refl;
-  nodes = λ l n is. plain_made [] (shared_label, shared_node) tt (λ k m e. absurd (let f : ◌≡◌ {A = Option Node} None (Some m) = e in cc)) l n is;
   work = unregistered_all z.domains;
 } where
   unregistered_all : (n : ℕ) → AllUnregistered (replicate n opening_domain)
@@ -171,6 +161,7 @@ nothing_next s (CommandOf d c false) plain all = nothing_command s (outcome s d 
 nothing_next s (End d) plain all = λ j. record { queue = part_set (λ y. y.queue) s.domains d _ refl j ∙ (all j).queue; due = part_set (λ y. y.due) s.domains d _ refl j ∙ (all j).due }
 nothing_next s Cut plain all = nothing_map s _ (λ x. refl) (λ x. refl) all
 nothing_next s Seal plain all = nothing_map s _ (λ x. refl) (λ x. refl) all
+nothing_next s (Wipe l keys) plain all = let same = wiped_same s l (wiped keys (node_at s.graph l)) in subst (λ (xs : List DomainState). (d : ℕ) → OwesNothing (get_or xs d no_domain)) (sym same.1) all
 nothing_next s Collected plain all = nothing_map s _ (λ x. refl) (λ x. refl) all
 nothing_next s Done plain all = all
 nothing_next s _ plain all = absurd plain

@@ -19,6 +19,7 @@ use Rattle.heap_rule.specs.Places.{Live}
 use Rattle.heap_rule.specs.Pools.{Holder, Tenancy, Takes, place_in}
 use Rattle.heap_rule.specs.Cycles.{Cycling, Cycled, Facts, IsBetween, IsSwept, Told, Leading, Telling, Knowing, KnowsBlocks, HasNoCycle, IsCollecting, IsIdle, Adds}
 use Rattle.heap_rule.proofs.PauseFacts.{agree}
+use Rattle.heap_rule.proofs.EphemeronLemmas.{none_misses}
 
 -- the words of a collection stay: whether one is under way, the colours, what was changed, and the live words
 pub record SameCycle (words words' : List ℕ) : Type 0 where
@@ -82,6 +83,7 @@ cycle_between k s s' live live' p t t' c words words' none mode garbage same y =
         dead = λ a is. absurd (no_garbage a is);
         head = λ a is. absurd (no_garbage a is);
       };
+      whole = λ l. inl (none_misses live t.holder c none y.whole l);
     }
 
 -- the live words are counted as before
@@ -120,6 +122,7 @@ cycle_words k s live p t c words words' same heap y = record {
   facts = facts_words c.kind k s live t c words words' same y.facts;
   told = y.told;
   leaves = record { none = y.leaves.none; dead = y.leaves.dead; head = λ a is. let h = y.leaves.head a is in (h.0, h.1, heap a ∙ h.2) };
+  whole = y.whole;
 }
 
 -- what a domain has loaded of these words it knows still

@@ -12,7 +12,7 @@ use Rattle.heap_model.specs.declared.state.DomainState.{DomainState}
 use Rattle.heap_model.specs.declared.state.State as model
 use Rattle.heap_model.specs.Domains.{class_count, IsWithinLimits, domain_at, register, no_domain, opening_domain, shared_label, shared_node}
 use Rattle.heap_model.specs.Domains as states
-use Rattle.heap_model.specs.Fronts.{PlainShape}
+use Rattle.heap_model.specs.Fronts.{PlainShape, EpheShape}
 use Rattle.heap_words.specs.declared.value.Value.TheVariants.{Int as IntWord, Ref, Nothing as NothingWord}
 use Rattle.heap_rule.specs.declared.config.Config.{Config}
 use Rattle.heap_rule.specs.declared.view.DomainView.{DomainView}
@@ -155,7 +155,7 @@ first_made l q e = same_label-true shared_label l (go (same_label shared_label l
 
 -- no collection has begun
 abbrev first_cycle : Cycling
-first_cycle = record { kind = Run; pass = First; paint = record { colours = first_colours; marks = record { marked = λ _. false; scanned = λ _. false } }; shares = no_shares; before = λ _. false; left = λ _. 0; rotated = false; counts = record { own = λ _. []; blocks = λ _. false; words = λ _. false } }
+first_cycle = record { kind = Run; pass = First; paint = record { colours = first_colours; marks = record { marked = λ _. false; scanned = λ _. false }; emptied = λ _. [] }; shares = no_shares; before = λ _. false; left = λ _. 0; rotated = false; counts = record { own = λ _. []; blocks = λ _. false; words = λ _. false } }
 
 module _ (k : Config) (limits : IsWithinLimits (sizes_in k)) (words : List ℕ) (opens : IsOpening k words) where
   abbrev s0 : model.State
@@ -178,7 +178,7 @@ module _ (k : Config) (limits : IsWithinLimits (sizes_in k)) (words : List ℕ) 
   }
 
   fits : Fits k 1 shared_place
-  fits = record { built = tt; classed = (3, omega arith, omega arith); low = omega arith; high = (let h = heap_large k limits in let x : ℕ = heap_words k in let y : 4096 ≤ x = h in let z : 1 + 18 ≤ x + 1 = omega arith in z); head = (omega arith, omega arith, omega arith); label = (omega arith, lit< tt) }
+  fits = record { built = tt; classed = (3, omega arith, omega arith); low = omega arith; high = (let h = heap_large k limits in let x : ℕ = heap_words k in let y : 4096 ≤ x = h in let z : 1 + 18 ≤ x + 1 = omega arith in z); head = (omega arith, omega arith, omega arith); label = (omega arith, lit< tt); pooled = λ keys e. absurd (let h : PlainShape 16 0 ≡ EpheShape keys = e in cc) }
 
   placed : Placed k only
   placed = record {
@@ -344,6 +344,7 @@ module _ (k : Config) (limits : IsWithinLimits (sizes_in k)) (words : List ℕ) 
         led = λ j e f. absurd (let h : 0 ≡ j * 2 + 1 = e in omega arith);
       };
       leaves = record { none = λ _ a. refl; dead = λ a is. absurd (let e : false ≡ true = is in cc); head = λ a is. absurd (let e : false ≡ true = is in cc) };
+      whole = λ l. inl refl;
     };
   }
 
@@ -391,6 +392,12 @@ module _ (k : Config) (limits : IsWithinLimits (sizes_in k)) (words : List ℕ) 
             leading = record { changed = λ v e. cc; found_blocks = λ v e. cc; found_words = λ v e. cc; rotated = λ _ e. refl; turned = λ e. cc; pass = λ _. refl };
             knows = inl refl;
             adds = record { blocks = λ e _. refl; words = λ e _. refl; own = λ e _ f. cc };
+            looks = record { at_own = λ a e. cc; pruned = λ i a low got. absurd (let h : i < 0 = low in omega arith); cleans = λ w e. cc; emptied_is = λ a p own lives. refl };
+          };
+          listed = record {
+            all = λ q c slot is inside e. absurd (let t = only_at (place_in q c slot) e.place e.lives in let h : PlainShape 16 0 ≡ EpheShape e.keys = ap (λ (p : Place). p.shape) t.1 ∙ e.shape in cc);
+            own = λ a is. absurd (let e : false ≡ true = is in cc);
+            lives = λ a is. absurd (let e : false ≡ true = is in cc);
           };
         }));
       }

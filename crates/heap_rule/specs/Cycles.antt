@@ -3,12 +3,12 @@ use Rattle.std.specs.Prelude.{◌≡◌, ◌≢◌, ℕ, zero, suc, ◌+◌, ◌
 use Rattle.std.specs.List.{list_any}
 use Rattle.heap_model.specs.declared.label.Label.{Label}
 use Rattle.heap_model.specs.declared.command.Command.{Command}
-use Rattle.heap_model.specs.declared.command.Command.TheVariants.{PutInt, Copy, Forget, Alloc, AllocMaj, Load, Store, Poll, Minor, Major, FullMajor}
+use Rattle.heap_model.specs.declared.command.Command.TheVariants.{PutInt, Copy, Forget, Alloc, AllocMaj, Load, Store, Ephe as NewEphe, SetKey, UnsetKey, GetKey, CheckKey, SetData, UnsetData, GetData, CheckData, Poll, Minor, Major, FullMajor}
 use Rattle.heap_model.specs.declared.entry.Entry.{Entry}
-use Rattle.heap_model.specs.declared.entry.Entry.TheVariants.{Command as CommandOf, End, Cut, Seal, Collected, Done}
+use Rattle.heap_model.specs.declared.entry.Entry.TheVariants.{Command as CommandOf, End, Cut, Seal, Wipe, Collected, Done}
 use Rattle.heap_model.specs.declared.graph.Value.{Value}
 use Rattle.heap_model.specs.declared.graph.Value.TheVariants.{Block}
-use Rattle.heap_model.specs.declared.graph.Node.TheVariants.{Plain}
+use Rattle.heap_model.specs.declared.graph.Node.TheVariants.{Plain, Ephe}
 use Rattle.heap_model.specs.declared.state.State as model
 use Rattle.heap_model.specs.declared.state.Mode.TheVariants.{Open, Sealed, Answer as Answered}
 use Rattle.heap_model.specs.Graph.{Graph, node_at, has_label, has_no_repeats, words_at}
@@ -16,7 +16,7 @@ use Rattle.heap_model.specs.Fronts.{Shape}
 use Rattle.cycle_laws.specs.Counting.{added_up}
 use Rattle.cycle_laws.specs.Cycle as laws
 use Rattle.cycle_laws.specs.Marks.{Marks, fields_of}
-use Rattle.cycle_laws.specs.Progress.{FieldsDone}
+use Rattle.cycle_laws.specs.Progress.{FieldsDone, KeysDone}
 use Rattle.cycle_laws.specs.Shares.{Layout, Shares, AllArrived}
 use Rattle.cycle_laws.specs.Sweeping.{InSweep}
 use Rattle.heap_words.specs.declared.colours.Colours.{Colours}
@@ -30,17 +30,17 @@ use Rattle.heap_rule.specs.declared.phase.Stage.{Stage}
 use Rattle.heap_rule.specs.declared.phase.Stage.TheVariants.{In, Leads}
 use Rattle.heap_rule.specs.declared.view.FoundHead.{FoundHead}
 use Rattle.heap_rule.specs.declared.view.Scan.{Scan}
-use Rattle.heap_rule.specs.declared.view.Scan.TheVariants.{Idle, Reads, Holds}
+use Rattle.heap_rule.specs.declared.view.Scan.TheVariants.{Idle, Reads, Holds, Keys, Key, Datum}
 use Rattle.heap_rule.specs.declared.view.Share.{Share}
 use Rattle.heap_rule.specs.declared.view.OwnPool.{OwnPool}
 use Rattle.heap_rule.specs.Changes.{value_at}
 use Rattle.heap_rule.specs.Layout.{at_address, armed, colours, changed_word, live_blocks, live_words}
 use Rattle.heap_rule.specs.Phases.{Pause, flag}
 use Rattle.heap_rule.specs.Places.{Place, Live, Paint, extent, HeadIs, IsHeadOf, IsPackableShape}
-use Rattle.heap_rule.specs.Pools.{Tenancy, Holder, nobody, drawn, owned, size_of, blocks_of, place_in, IsBefore, IsLeading}
+use Rattle.heap_rule.specs.Pools.{Tenancy, Holder, OwnPlace, nobody, drawn, owned, size_of, blocks_of, place_in, IsBefore, IsLeading}
 use Rattle.heap_rule.specs.Views.{fresh_share}
 
--- the commands so far: none registers a finaliser, and none makes an ephemeron or a raw block
+-- the commands so far: none registers a finaliser, and none makes a raw block
 abbrev pub IsPlainCommand : Command → Type 0
 IsPlainCommand (PutInt dst z) = Unit {0}
 IsPlainCommand (Copy dst src) = Unit {0}
@@ -49,19 +49,29 @@ IsPlainCommand (Alloc dst tag fields) = Unit {0}
 IsPlainCommand (AllocMaj dst tag fields) = Unit {0}
 IsPlainCommand (Load dst src i) = Unit {0}
 IsPlainCommand (Store block i item) = Unit {0}
+IsPlainCommand (NewEphe dst keys) = Unit {0}
+IsPlainCommand (SetKey ephe i item) = Unit {0}
+IsPlainCommand (UnsetKey ephe i) = Unit {0}
+IsPlainCommand (GetKey dst ephe i) = Unit {0}
+IsPlainCommand (CheckKey ephe i) = Unit {0}
+IsPlainCommand (SetData ephe item) = Unit {0}
+IsPlainCommand (UnsetData ephe) = Unit {0}
+IsPlainCommand (GetData dst ephe) = Unit {0}
+IsPlainCommand (CheckData ephe) = Unit {0}
 IsPlainCommand Poll = Unit {0}
 IsPlainCommand Minor = Unit {0}
 IsPlainCommand Major = Unit {0}
 IsPlainCommand FullMajor = Unit {0}
 IsPlainCommand _ = ⊥
 
--- and the entries: nothing is queued, emptied or run
+-- and the entries: nothing is queued or run
 abbrev pub IsPlainEntry : Entry → Type 0
 IsPlainEntry (CommandOf d c true) = Unit {0}
 IsPlainEntry (CommandOf d c false) = IsPlainCommand c
 IsPlainEntry (End d) = Unit {0}
 IsPlainEntry Cut = Unit {0}
 IsPlainEntry Seal = Unit {0}
+IsPlainEntry (Wipe l keys) = Unit {0}
 IsPlainEntry Collected = Unit {0}
 IsPlainEntry Done = Unit {0}
 IsPlainEntry _ = ⊥
@@ -235,6 +245,21 @@ pub record Leaves (k : Config) (live : Live) (garbage : ℕ → Bool) (c : Cycli
   pub dead : (a : ℕ) → IsTrue (garbage a) → live a ≡ None
   pub head : (a : ℕ) → IsTrue (garbage a) → IsGarbageHead c.paint (at_address k words a)
 
+-- Clean has emptied keys of the block with this label, and not yet its datum: it lies in a pool of a domain that hasn't arrived
+pub record MissesKeys (live : Live) (holder : ℕ → Holder) (c : Cycling) (l : Label) : Type 0 where
+  pub clean : c.kind ≡ Clean
+  pub domain : ℕ
+  pub waits : c.shares.arrived domain ≡ false
+  pub address : ℕ
+  pub own : OwnPlace holder address domain
+  pub place : Place
+  pub lives : live address ≡ Some place
+  pub label : place.label ≡ l
+
+-- no other block misses keys
+abbrev pub AllWhole : Live → (ℕ → Holder) → Cycling → Type 0
+AllWhole live holder c = (l : Label) → (c.paint.emptied l ≡ []) ⊎ MissesKeys live holder c l
+
 -- Cycle: the control words tell it, and the facts of the phase hold
 pub record Cycled (k : Config) (s : model.State) (live : Live) (p : Pause) (t : Tenancy) (c : Cycling) (words : List ℕ) : Type 0 where
   pub armed_is : armed words ≡ 0
@@ -244,6 +269,7 @@ pub record Cycled (k : Config) (s : model.State) (live : Live) (p : Pause) (t : 
   pub facts : Facts c.kind k s live t c words
   pub told : Told k p c.kind c.shares
   pub leaves : Leaves k live t.garbage c words
+  pub whole : AllWhole live t.holder c
 
 -- whether a domain has been at a place
 abbrev pub seen_by : List ℕ → ℕ → Bool
@@ -295,10 +321,44 @@ pub record Refers (live : Live) (graph : Graph) (marks : Marks) (block done size
   pub there : live address ≡ Some target
   pub holds : slice_get reads.fields done ≡ Some (Block target.label)
 
+-- how far a domain is in the keys of a marked ephemeron: of the first of them those that are full are marked
+pub record KeysAt (live : Live) (graph : Graph) (marks : Marks) (block done count : ℕ) : Type 0 where
+  pub place : Place
+  pub lives : live block ≡ Some place
+  pub marked : IsTrue (marks.marked place.label)
+  pub keys : List (Option Label)
+  pub datum : Value
+  pub node : node_at graph place.label ≡ Some (Ephe keys datum)
+  pub count_is : length keys ≡ count
+  pub through : KeysDone marks.marked keys done
+
+-- and the next refers to the block at an address
+pub record KeyAt (live : Live) (graph : Graph) (marks : Marks) (block done count address : ℕ) : Type 0 where
+  pub reads : KeysAt live graph marks block done count
+  pub target : Place
+  pub there : live address ≡ Some target
+  pub holds : slice_get reads.keys done ≡ Some (Some target.label)
+
+-- all are marked that are full, and the datum refers to the block at an address
+pub record DatumAt (live : Live) (graph : Graph) (marks : Marks) (block address : ℕ) : Type 0 where
+  pub place : Place
+  pub lives : live block ≡ Some place
+  pub marked : IsTrue (marks.marked place.label)
+  pub keys : List (Option Label)
+  pub datum : Value
+  pub node : node_at graph place.label ≡ Some (Ephe keys datum)
+  pub through : KeysDone marks.marked keys (length keys)
+  pub target : Place
+  pub there : live address ≡ Some target
+  pub holds : datum ≡ Block target.label
+
 abbrev pub Scans : Live → Graph → Marks → Scan → Type 0
 Scans live graph marks Idle = Unit {0}
 Scans live graph marks (Reads block done size head) = Scanned live graph marks block done size head
 Scans live graph marks (Holds block done size head address) = Refers live graph marks block done size head address
+Scans live graph marks (Keys block done count) = KeysAt live graph marks block done count
+Scans live graph marks (Key block done count address) = KeyAt live graph marks block done count address
+Scans live graph marks (Datum block address) = DatumAt live graph marks block address
 
 -- the words of a block and its label, where one lives
 abbrev pub extent_in : Option Place → ℕ

@@ -19,3 +19,4 @@ pub mod Ending
 pub mod Standing
 pub mod Raw
 pub mod Running
+pub mod Ephemerons

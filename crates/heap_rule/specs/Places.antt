@@ -9,6 +9,7 @@ use Rattle.heap_model.specs.declared.graph.Node.TheVariants.{Plain, Raw, Ephe}
 use Rattle.heap_model.specs.Graph.{Graph, node_at}
 use Rattle.cycle_laws.specs.Marks.{Marks}
 use Rattle.heap_model.specs.Commands.{key_value}
+use Rattle.heap_model.specs.Entries.{wiped_keys}
 use Rattle.heap_model.specs.Fronts.{Shape, PlainShape, RawShape, EpheShape, shape_of}
 use Rattle.heap_words.specs.declared.value.Value as words
 use Rattle.heap_words.specs.declared.value.Value.TheVariants.{Int as IntWord, Ref, Nothing as NothingWord}
@@ -80,10 +81,18 @@ head_of (Some copy) shape colour scanned = Forward copy
 abbrev pub HeadIs : Option ℕ → Shape → ℕ → Bool → ℕ → Type 0
 HeadIs forward shape colour scanned word = word ≡ head_word (head_of forward shape colour scanned)
 
--- the meanings of the colours, and which blocks a cycle has marked and scanned ("Retrofitting Parallelism onto OCaml", section 3.2)
+-- the meanings of the colours, which blocks a cycle has marked and scanned ("Retrofitting Parallelism onto OCaml", section 3.2), and the keys of an ephemeron that a collection has emptied while its datum is still there
 pub record Paint : Type 0 where
   pub colours : Colours
   pub marks : Marks
+  pub emptied : Label → List ℕ
+
+-- a node without the keys at these places
+abbrev pub without_keys : List ℕ → Node → Node
+without_keys [] n = n
+without_keys (i ∷ is) (Ephe keys datum) = Ephe (wiped_keys (i ∷ is) keys) datum
+without_keys (i ∷ is) (Plain tag fields) = Plain tag fields
+without_keys (i ∷ is) (Raw tag fields) = Raw tag fields
 
 -- the colour of a block: it is marked, or unmarked
 abbrev pub colour_in : Paint → Label → ℕ
@@ -153,7 +162,7 @@ IsOldAt k a = a ≤ k.pools * 4096
 abbrev pub IsOldWord : Config → ℕ → Type 0
 IsOldWord k word = (word % 2 ≡ 1) ⊎ (word ≤ 2 * (k.pools * 4096))
 
--- the words at an address are the node of the block that lives there, as far as it is filled
+-- the words at an address are the node of the block that lives there, as far as it is filled, without the keys that a collection has emptied
 pub record Found (k : Config) (paint : Paint) (live : Live) (graph : Graph) (words : List ℕ) (a : ℕ) (p : Place) : Type 0 where
   pub node : Node
   pub there : node_at graph p.label ≡ Some node
@@ -161,7 +170,7 @@ pub record Found (k : Config) (paint : Paint) (live : Live) (graph : Graph) (wor
   pub head : IsHead paint p (at_address k words a)
   pub blank : k.pools * 4096 < a → head.scanned ≡ false
   pub label : at_address k words (a + 1) ≡ label_word p.label.domain p.label.serial
-  pub values : (i : ℕ) (v : Value) → HasValue p.owed i → slice_get (values_of node) i ≡ Some v → WordStands live (at_address k words (a + 2 + i)) v
+  pub values : (i : ℕ) (v : Value) → HasValue p.owed i → slice_get (values_of (without_keys (paint.emptied p.label) node)) i ≡ Some v → WordStands live (at_address k words (a + 2 + i)) v
   pub old : IsOldAt k a → (i : ℕ) → i + 2 < extent p.shape → HasValue p.owed i → p.named i ≡ None → IsOldWord k (at_address k words (a + 2 + i))
 
 -- no step makes a raw block yet
@@ -173,7 +182,7 @@ IsBuilt _ = Unit {0}
 abbrev pub HasClass : ℕ → Type 0
 HasClass words = (class : ℕ) × (class < length SIZES) × (words ≤ slice_index SIZES class)
 
--- the block at an address lies in the heap, a size class has room for it, and its head and its label can be packed
+-- the block at an address lies in the heap, a size class has room for it, and its head and its label can be packed. An ephemeron lies in a pool
 pub record Fits (k : Config) (a : ℕ) (p : Place) : Type 0 where
   pub built : IsBuilt p.shape
   pub low : 1 ≤ a
@@ -181,6 +190,7 @@ pub record Fits (k : Config) (a : ℕ) (p : Place) : Type 0 where
   pub classed : HasClass (extent p.shape)
   pub head : IsPackableShape p.shape
   pub label : IsPackableLabel (p.label.domain, p.label.serial)
+  pub pooled : (keys : ℕ) → p.shape ≡ EpheShape keys → IsOldAt k a
 
 -- how blocks lie: each fits, no two that don't forward have one label, and no two share a word
 pub record Placed (k : Config) (live : Live) : Type 0 where

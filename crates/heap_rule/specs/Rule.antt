@@ -21,6 +21,7 @@ use Rattle.heap_rule.specs.Pools.{limit_of, Tenancy, Pools, Reserved, Covered, G
 use Rattle.heap_rule.specs.Changes.{value_at}
 use Rattle.heap_rule.specs.Fullness.{Homes, Fullness}
 use Rattle.heap_rule.specs.Cycles.{Cycling, Cycled, Telling, Leading, KnowsBlocks, Adds, AllPlain}
+use Rattle.heap_rule.specs.Ephemerons.{Listed, Looks}
 use Rattle.heap_rule.specs.Phases.{Pause, Phases, Staged, Still, TookBack, HasSetBack, Unwished, CountsEnded}
 use Rattle.heap_rule.specs.Views.{EachView, EachDomain, Knows}
 
@@ -59,11 +60,12 @@ pub record Account : Type 0 where
   pub homes : Homes
 
 -- what the rule says of one domain's share of a collection
-pub record Sharing (k : Config) (all : Account) (words : List ℕ) (d : ℕ) (registers : List Value) (stage : Stage) (share : Share) : Type 0 where
+pub record Sharing (k : Config) (all : Account) (words : List ℕ) (d : ℕ) (registers : List Value) (items : List ℕ) (stage : Stage) (share : Share) : Type 0 where
   pub telling : Telling all.cycling.paint.colours all.cycling.shares d share
   pub leading : Leading all.cycling words d stage share
   pub knows : KnowsBlocks k all.live all.tenancy.holder (state_of k all.log).graph all.cycling.paint.marks words d registers stage share
   pub adds : Adds all.live all.cycling d share
+  pub looks : Looks all.live all.tenancy.holder all.tenancy.garbage (state_of k all.log).graph all.cycling.paint.marks all.cycling.paint.emptied d items stage share
 
 -- all that the rule says of one domain
 pub record Good (k : Config) (all : Account) (words : List ℕ) (x : DomainView) : Type 0 where
@@ -78,7 +80,8 @@ pub record Good (k : Config) (all : Account) (words : List ℕ) (x : DomainView)
   pub owes : Owes k all.live x
   pub rooted : Rooted k all.pause x
   pub set_back : HasSetBack x → cursor words ≤ limit_of k (listed words)
-  pub sharing : Sharing k all words x.own.number x.own.registers x.seen.stage x.seen.share
+  pub sharing : Sharing k all words x.own.number x.own.registers x.own.ephemerons.items x.seen.stage x.seen.share
+  pub listed : Listed all.live all.tenancy.holder all.tenancy.garbage x.own.number x.own.ephemerons.items
 
 -- at the start no domain asks for a collection, none has arrived anywhere, and no trace has ended
 pub record Rested (words : List ℕ) : Type 0 where

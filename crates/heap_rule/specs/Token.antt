@@ -61,6 +61,7 @@ pub record OwnFits (k : Config) (own : Own) : Type 0 where
   pub remembered : AllInHeap k own.remembered.items
   pub prepared : length own.prepared ≡ class_count
   pub pending : own.pending.room + length own.pending.items ≡ pending_room k
+  pub ephemerons : AllInHeap k own.ephemerons.items
 
 -- the seat, at a heap of these numbers, stands for this domain alone
 pub record IsSeatOf (k : Config) (x : DomainView) (me : Me (Unit {0}) View) : Type 0 where

@@ -59,7 +59,7 @@ pending_room k = k.domains * k.minor_words / 4
 
 -- what a domain knows of a phase in which it has done nothing
 abbrev pub fresh_share : Share
-fresh_share = record { colours = None; changed = None; blocks = None; words = None; rotated = false; owes = false; places_seen = []; found_head = None; scan = Idle; walk = record { pool = 0; slot = 0 }; own_pool = None; roots = []; marked = []; counted = []; counted_to = record { pool = 0; slot = 0 }; counted_words = 0; added_blocks = false; added_words = false; held = 0; vacant = 0; cut = false }
+fresh_share = record { colours = None; changed = None; blocks = None; words = None; rotated = false; owes = false; places_seen = []; found_head = None; scan = Idle; walk = record { pool = 0; slot = 0 }; own_pool = None; roots = []; marked = []; counted = []; counted_to = record { pool = 0; slot = 0 }; counted_words = 0; added_blocks = false; added_words = false; held = 0; vacant = 0; cleaning = None; pruned = 0; cut = false }
 
 -- and of the next, of which it has forgotten the last
 abbrev pub voided : Share → Share
@@ -78,6 +78,7 @@ opening_view k d = record {
     remembered = record { items = []; room = REMEMBERED_ROOM };
     prepared = replicate class_count None;
     pending = record { items = []; room = pending_room k };
+    ephemerons = record { items = []; room = k.ephes };
   };
   seen = record { front = []; made = []; stage = In Run; notes = []; hunt = Rests; free = None; listing = None; copying = record { met = []; pending = []; copied = [] }; remembered = []; share = fresh_share };
 }

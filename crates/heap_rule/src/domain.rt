@@ -61,6 +61,7 @@ impl Domain {
         let remembered = Remembered::make(alloc, REMEMBERED_ROOM)?;
         let area_words = config.domains as usize * config.minor_words as usize;
         let pending = BoundedList::make(alloc, area_words / 4)?;
+        let ephemerons = BoundedList::make(alloc, config.ephes as usize)?;
         Ok(Domain {
             seat,
             config: *config,
@@ -74,6 +75,7 @@ impl Domain {
                 remembered,
                 prepared: [None; CLASS_COUNT],
                 pending,
+                ephemerons,
             },
         })
     }
@@ -198,11 +200,28 @@ impl Domain {
         self.config.finals as usize
     }
 
-    /// How many more ephemerons fit.
+    /// How many more ephemerons fit into the domain's list.
     pub fn ephes_room(&self) -> usize
-        ensures { result + length (items_of Part.Ephe self.now.view.own) ≡ self.now.config.ephes }
+        ensures { result ≡ self.now.view.own.ephemerons.room }
     {
-        self.config.ephes as usize
+        self.own.ephemerons.room()
+    }
+
+    /// How many ephemerons are listed: those in the domain's own pools, and those that a sweep has
+    /// still to free.
+    pub fn ephemerons_len(&self) -> usize
+        ensures { result ≡ length self.now.view.own.ephemerons.items }
+    {
+        self.own.ephemerons.len()
+    }
+
+    /// The address of the `i`-th of them.
+    pub fn ephemeron_at(&self, i: usize) -> u32
+        requires { i < length self.now.view.own.ephemerons.items }
+        ensures item { Some result ≡ slice_get self.now.view.own.ephemerons.items i }
+        ensures inside { IsInHeap self.now.config result }
+    {
+        self.own.ephemerons.get(i)
     }
 
     /// The length of a list of the token. The list of young blocks isn't lent.

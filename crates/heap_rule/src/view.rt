@@ -97,6 +97,8 @@ pub struct Own {
     pub prepared: [Option<u32>; CLASS_COUNT],
     /// The copies that the domain has made in this collection.
     pub pending: BoundedList<Copied>,
+    /// The ephemerons in the domain's own pools, and those that a sweep has still to free.
+    pub ephemerons: BoundedList<u32>,
 }
 
 /// A copy of a young block, and the block's address.
@@ -146,7 +148,7 @@ pub struct OwnPool {
     pub class: u32,
 }
 
-/// How far a domain is in a block that it scans.
+/// How far a domain is in a block that it scans, or in an ephemeron whose keys it looks at.
 pub enum Scan {
     /// It scans none.
     Idle,
@@ -165,6 +167,47 @@ pub enum Scan {
         head: u64,
         address: u32,
     },
+    /// The block is an ephemeron with so many keys. Of the first of them those that are full are
+    /// marked.
+    Keys {
+        block: u32,
+        done: u32,
+        count: u32,
+    },
+    /// So are they, and the next key refers to the block at this address.
+    Key {
+        block: u32,
+        done: u32,
+        count: u32,
+        address: u32,
+    },
+    /// All its full keys are marked, and its datum refers to the block at this address.
+    Datum {
+        block: u32,
+        address: u32,
+    },
+}
+
+/// What a domain that empties keys knows of the next one.
+pub enum NextKey {
+    Unknown,
+    /// It refers to the block at this address.
+    Refers {
+        address: u32,
+    },
+    /// It is full, and its block isn't marked.
+    Dead,
+}
+
+/// How far a domain is in an ephemeron of which it empties the keys that aren't marked.
+pub struct Cleaning {
+    pub block: u32,
+    /// So many keys it has looked at.
+    pub done: u32,
+    pub count: u32,
+    /// Those of them that it has emptied.
+    pub emptied: LinkedList<u32>,
+    pub next: NextKey,
 }
 
 /// What a domain knows of the present phase. It forgets all of it but the cut when it arrives.
@@ -204,6 +247,10 @@ pub struct Share {
     /// The own pools before this one hold blocks, and so many places of this one are free.
     pub held: u32,
     pub vacant: u32,
+    /// The ephemeron of which it empties keys.
+    pub cleaning: Option<Cleaning>,
+    /// So many of its listed ephemerons are no garbage.
+    pub pruned: u32,
     /// Whether domain 0 has made the cut of this collection.
     pub cut: bool,
 }

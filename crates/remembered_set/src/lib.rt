@@ -1,6 +1,7 @@
 //! Lists with room that is reserved at the start, among them the remembered set of a domain.
 #![tactic(auto)]
 
+ghost use Rattle.std.specs.List.{swap_remove};
 ghost use Rattle.std.specs.Prelude.{◌≡◌, ◌<◌, ◌≤◌, ◌+◌, ◌-◌, ◌++◌, ◌∷◌, [], IfOk, Some, length, slice_get};
 
 use std::alloc::{AllocError, Global};
@@ -67,6 +68,16 @@ impl<T: Copy> BoundedList<T> {
         ensures room { self.new.room + 1 ≡ self.old.room }
     {
         self.items.push_reserved(item);
+    }
+
+    /// Takes the `i`-th item out. The last one takes its place, and there is room for one more.
+    pub fn swap_remove(&mut self, i: usize) -> T
+        requires { i < length self.old.items }
+        ensures item { Some result ≡ slice_get self.old.items i }
+        ensures items { self.new.items ≡ swap_remove self.old.items i result }
+        ensures room { self.new.room ≡ self.old.room + 1 }
+    {
+        self.items.swap_remove(i)
     }
 
     /// Forgets all items, which makes room for as many more.

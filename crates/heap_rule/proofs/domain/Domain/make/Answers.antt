@@ -8,7 +8,8 @@ pub invariant_of-result : goal.invariant_of-result
 invariant_of-result c =
     let k = c.args.config.now in
     let opening : Own = (opening_view k c.args.number).own in
-    let own : Own = record opening { remembered = c.in_ok-remembered.remembered; pending = c.in_ok-pending.pending } in
+    let own : Own = record opening { remembered = c.in_ok-remembered.remembered; pending = c.in_ok-pending.pending; ephemerons = c.in_ok-ephemerons.ephemerons } in
     let remembered = empty_list c.in_ok-remembered.remembered REMEMBERED_ROOM c.in_ok-remembered.ensures.empty c.in_ok-remembered.ensures.room in
     let pending = empty_list c.in_ok-pending.pending (pending_room k) c.in_ok-pending.ensures.empty c.in_ok-pending.ensures.room in
-    first_seat k c.args.number own c.args.seat.me (λ i. record opening { remembered = remembered i; pending = pending i }) c.requires.seat c.requires.limits c.requires.inside
+    let ephemerons = empty_list c.in_ok-ephemerons.ephemerons k.ephes c.in_ok-ephemerons.ensures.empty c.in_ok-ephemerons.ensures.room in
+    first_seat k c.args.number own c.args.seat.me (λ i. record opening { remembered = remembered i; pending = pending i; ephemerons = ephemerons i }) c.requires.seat c.requires.limits c.requires.inside
