@@ -22,7 +22,7 @@ use Rattle.heap_model.specs.Graph.{Graph, node_at, has_label}
 use Rattle.heap_model.specs.Domains.{domain_at, reserve}
 use Rattle.heap_model.specs.Commands.{new_plain}
 use Rattle.heap_model.specs.Entries.{next}
-use Rattle.heap_model.specs.Fronts.{PlainShape, IsCalm}
+use Rattle.heap_model.specs.Fronts.{PlainShape, EpheShape, IsCalm}
 use Rattle.heap_model.proofs.Graphs.GraphLemmas.{node_at-append_old, node_at-append_new}
 use Rattle.heap_model.proofs.Histories.NumberLemmas.{next_label_after}
 use Rattle.heap_model.proofs.Commands.FrameLemmas.{calm_command}
@@ -37,7 +37,8 @@ use Rattle.heap_rule.specs.declared.view.DomainView.{DomainView}
 use Rattle.heap_rule.specs.Limits.{sizes_in}
 use Rattle.heap_rule.specs.Layout.{heap_words, before_heap, base_of, at_address, table_words, listed}
 use Rattle.size_classes.specs.declared.TheConstants.{SIZES}
-use Rattle.heap_rule.specs.Places.{IsHeadOf, Place, Live, extent, least_size, class_words, HasClass, span, Stands, Found, Fits, Placed, Spread, Settled, More}
+use Rattle.heap_rule.specs.Ephemerons.{IsEpheAt}
+use Rattle.heap_rule.specs.Places.{values_of, without_keys, IsHeadOf, Place, Live, extent, least_size, class_words, HasClass, span, Stands, Found, Fits, Placed, Spread, Settled, More}
 use Rattle.heap_rule.specs.Copies.{Recalls}
 use Rattle.heap_rule.specs.Room.{Opened}
 use Rattle.heap_rule.specs.Changes.{value_at, changed, FitChanges}
@@ -51,7 +52,7 @@ use Rattle.heap_rule.proofs.Lists.{got_end, got_below}
 use Rattle.heap_rule.proofs.Sizes.{area_below, area_inside}
 use Rattle.heap_rule.proofs.ChangeLemmas.{changed_only, registers_of}
 use Rattle.heap_rule.proofs.Values.{AllStand, stand_set, holds}
-use Rattle.heap_rule.proofs.Keeps.{Words, more_same, mine, my_good, control_set, controls_kept, hunter_as, appends, writes, legal_entry, owes_run, opened_words, quiet, run_settled, cycle_here, sharing_here, sharings_here, between_here, run_calm, cycle_control}
+use Rattle.heap_rule.proofs.Keeps.{whole_here, listed_here, Words, more_same, mine, my_good, control_set, controls_kept, hunter_as, appends, writes, legal_entry, owes_run, opened_words, quiet, run_settled, cycle_here, sharing_here, sharings_here, between_here, run_calm, cycle_control}
 use Rattle.heap_rule.proofs.Entering.{running, inside_state, registers_stand}
 use Rattle.heap_rule.proofs.Beside.{found_beside, making_beside, area_word_far}
 use Rattle.heap_rule.proofs.Born.{zero_word, zero_values, all_more, live', born, more, old, is_new, placed_born, settled_born, recalls_born, naming_born, spread_born, opened_born, classes_born}
@@ -108,6 +109,7 @@ inits k slots id word hist x a new changes place may s r _ at _ =
       remembered = refl;
       registers = refl;
       arrivals = refl;
+      ephemerons = refl;
       wide = length-set s.words (before_heap k + a) new;
       controls = controls_kept k s r id hist x at (set s.words (before_heap k + a) new) (control_set k s.words a new (omega arith));
       found = λ b q lives. let f = r.whole.found b q lives in found_beside k r.account.cycling.paint r.account.live r.account.live (state_of k r.account.log).graph (state_of k r.account.log).graph s.words a new b q (more_same r.account.live) f f.there (free_far k r.account.live x a g.area low high b q lives);
@@ -222,6 +224,7 @@ module _ (k : Config) (s : Words) (r : Rule k s) (id : ℕ) (hist : List Entry) 
     high = let h = high in let i = inside in let b : ℕ = base_of k d in let w : ℕ = heap_words k in let p : b + k.minor_words ≤ w + 1 = i in let o : A + (n + 2) ≤ w + 1 = omega arith in o;
     head = (may.some_field, (let f = may.few_fields in omega arith), may.tag_fits);
     label = ((let b = (mine k s r id hist x at).inside in let c = r.limits.domains in omega arith), may.serial);
+    pooled = λ keys is. absurd (let e : PlainShape n tag ≡ EpheShape keys = is in cc);
   }
 
   grows : More r.account.live live1
@@ -277,7 +280,7 @@ module _ (k : Config) (s : Words) (r : Rule k s) (id : ℕ) (hist : List Entry) 
     blank = λ _. refl;
     label = get_or-set_other s.words (before_heap k + A) (before_heap k + (A + 1)) new 0 (λ o. omega arith)
         ∙ (ap (λ (i : ℕ). get_or s.words (before_heap k + i) 0) (let o : A + 1 ≡ A + 1 + 0 = omega arith in o) ∙ made_at 0 (label_word d (x.own.serial + 1)) refl);
-    values = λ i v _ got. let t = zero_values n i v got in record {
+    values = λ i v _ got. let t = zero_values n i v (ap (λ (keys : List ℕ). slice_get (values_of (without_keys keys (new_plain tag n))) i) (sym (whole_here k s r id hist x at Run tt may.acts.runs L)) ∙ got) in record {
       value = IntWord (pos 0);
       packs = get_or-set_other s.words (before_heap k + A) (before_heap k + (A + 2 + i)) new 0 (λ o. omega arith)
           ∙ (ap (λ (j : ℕ). get_or s.words (before_heap k + j) 0) (let o : A + 2 + i ≡ A + 1 + suc i = omega arith in o) ∙ made_at (suc i) zero_word t.1);
@@ -369,6 +372,12 @@ module _ (k : Config) (s : Words) (r : Rule k s) (id : ℕ) (hist : List Entry) 
       (subst (λ (l : Label). IsTrue (has_label (kept_labels (sizes_in k) (r.account.log ++ e ∷ [])) l)) (sym label_is) (new_kept k r.account.log d (Alloc dst tag n) refl))
       (full_stays k r.account.log r.account.live t.holder t.fresh r.account.homes kind e refl r.whole.full)
 
+  -- the new block is no ephemeron
+  no_ephe : (b : ℕ) → IsEpheAt live1 b → IsEpheAt r.account.live b
+  no_ephe b o = dite (ℕ_discrete b A)
+      (λ same. absurd (let clash : PlainShape n tag ≡ EpheShape o.keys = ap (λ (z : Place). z.shape) (is_new k r.account.live A born_place (omega arith) away r.whole.placed b o.place same o.lives) ∙ o.shape in cc))
+      (λ other. record { place = o.place; lives = old k r.account.live A born_place (omega arith) away r.whole.placed b o.place other o.lives; keys = o.keys; shape = o.shape })
+
   calm : IsCalm now
   calm = run_calm k s r id hist x at may.acts.runs
 
@@ -407,6 +416,8 @@ module _ (k : Config) (s : Words) (r : Rule k s) (id : ℕ) (hist : List Entry) 
         (λ b q lives low. old k r.account.live A born_place (omega arith) away r.whole.placed b q (λ same. let p : ℕ = d * k.minor_words in let l : b ≤ k.pools * 4096 = low in let h : b ≡ A = same in omega arith) lives) r.whole.grid;
     hunter = hunter_as k r.account.tenancy ws x after refl refl refl refl refl refl (hunter_beside k r.account.tenancy s.words A new r.whole.pools x (beside d) g.hunter);
     hunters = λ z _ g. hunter_beside k r.account.tenancy s.words A new r.whole.pools z (beside z.own.number) g.hunter;
+    listed = let l = listed_here k s r id hist x at live1 no_ephe grows x g in record { all = l.all; own = l.own; lives = l.lives };
+    listeds = λ z _ o. listed_here k s r id hist x at live1 no_ephe grows z o;
   }
 
   alloc_told : AllocTold k e changes x after

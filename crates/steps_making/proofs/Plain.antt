@@ -57,6 +57,7 @@ alloc_closes k x new words e changes fits class room small serial y p told =
         remembered = subst (λ (o : Own). AllInHeap k o.remembered.items) (sym rest) p.remembered;
         prepared = ap (λ (o : Own). length o.prepared) rest ∙ p.prepared;
         pending = ap (λ (o : Own). o.pending.room + length o.pending.items) rest ∙ p.pending;
+        ephemerons = subst (λ (o : Own). AllInHeap k o.ephemerons.items) (sym rest) p.ephemerons;
       };
       once = λ _. inr (record { entry = e; answer = Replied (Block (next_label x)); answers = told.answers });
     }

@@ -27,6 +27,7 @@ use Rattle.heap_rule.proofs.Update.{over, over_here, over_else}
 use Rattle.heap_rule.proofs.Keeps.{Words, mine, my_good, phases_words, holds_again, room_words, no_garbage_here, run_copying}
 use Rattle.heap_rule.proofs.PauseFacts.{run_promoting, promote_now}
 use Rattle.heap_rule.proofs.Controls.{sum_one}
+use Rattle.heap_rule.proofs.EphemeronLemmas.{listed_on}
 use Rattle.heap_rule.proofs.Lots.{drawn_same, number_cases}
 use Rattle.heap_rule.proofs.Holders.{Agrees, agrees_same, agrees_set, found_agrees, making_agrees, SameStock, stock_self, same_asking, same_over, NotOf, nobody_not, drawn_not, drawn_owned, grid_heap, grid_over, free_later, hunter_agree, sum_over, sum_small}
 use Rattle.heap_rule.proofs.Sharings.{SameCycle, cycle_unmoved, takes_kind}
@@ -151,6 +152,7 @@ module _ (k : Config) (s : Words) (r : Rule k s) (id : ℕ) (hist : List Entry) 
     endings = refl;
     cycle = cycle_unmoved s.words;
     garbage = λ a. refl;
+    listeds = λ z g. let l = g.listed in record { all = l.all; own = l.own; lives = l.lives };
     full = r.whole.full;
     found = r.whole.found;
     pools = pools;
@@ -181,6 +183,7 @@ module _ (k : Config) (s : Words) (r : Rule k s) (id : ℕ) (hist : List Entry) 
     endings = refl;
     cycle = cycle_unmoved s.words;
     garbage = λ a. refl;
+    listeds = λ z g. let l = g.listed in record { all = l.all; own = l.own; lives = l.lives };
     full = r.whole.full;
     found = r.whole.found;
     pools = pools;
@@ -215,6 +218,7 @@ module _ (k : Config) (s : Words) (r : Rule k s) (id : ℕ) (hist : List Entry) 
         endings = refl;
         cycle = cycle_unmoved s.words;
         garbage = λ a. refl;
+        listeds = λ z g. let l = g.listed in record { all = l.all; own = l.own; lives = l.lives };
         full = r.whole.full;
         found = r.whole.found;
         pools = record {
@@ -325,6 +329,7 @@ module _ (k : Config) (s : Words) (r : Rule k s) (id : ℕ) (hist : List Entry) 
       endings = other_word 8 (λ e. omega arith);
       cycle = cycle1;
       garbage = λ a. refl;
+      listeds = λ z g. let l = g.listed in record { all = l.all; own = l.own; lives = l.lives };
       full = r.whole.full;
       found = found_agrees k r.account.cycling.paint r.account.live (state_of k r.account.log).graph s.words words1 agrees r.whole.placed r.whole.found;
       pools = record {
@@ -502,6 +507,10 @@ module _ (k : Config) (s : Words) (r : Rule k s) (id : ℕ) (hist : List Entry) 
         endings = other_word 8 (λ e. omega arith);
         cycle = cycle1;
         garbage = λ a. refl;
+        listeds = λ z g. listed_on r.account.live r.account.live t.holder t1.holder t.garbage t1.garbage z.own.number z.own.ephemerons.items
+            (λ q b is. dite (ℕ_discrete q pool) (λ same. absurd (drawn_owned me z.own.number b (sym (over_here pool (drawn me) t.holder) ∙ (ap t1.holder (sym same) ∙ is)))) (λ other. sym (else1 q other) ∙ is))
+            (λ q b is. else1 q (λ same. (nobody_not z.own.number).not_owned b (sym was ∙ (ap t.holder (sym same) ∙ is))) ∙ is)
+            (λ a e. e) (λ a e. inl e) (λ a e. e) g.listed;
         full = full1;
         found = found_agrees k r.account.cycling.paint r.account.live (state_of k r.account.log).graph s.words words1 agrees r.whole.placed r.whole.found;
         pools = pools1;

@@ -4,5 +4,6 @@ pub mod WalkSteps
 pub mod Rooms
 pub mod TakeSteps
 pub mod MajorSteps
+pub mod NewBlocks
 pub mod FreePools
 pub mod ListSteps

@@ -1,5 +1,5 @@
 -- What the steps on pools tell of a token's own data.
-use Rattle.std.proofs.Common.{◌≡◌, ◌+◌, ◌^◌, ◌<◌, ◌≤◌, ℕ, List, length, set, sym, ap, ◌∙◌, subst, arith, lt_of_not-le, length-set, get_or-set_same, get_or-set_other, inl, inr}
+use Rattle.std.proofs.Common.{◌≡◌, ◌+◌, ◌^◌, ◌<◌, ◌≤◌, ℕ, zero, suc, List, [], ◌∷◌, ◌++◌, length, set, sym, ap, ◌∙◌, subst, arith, lt_of_not-le, length-set, get_or-set_same, get_or-set_other, inl, inr}
 use mathlib.Core.Logic.{dite}
 use native.Mathlib.Decide.{dec_le, ℕ_discrete}
 use Rattle.heap_model.specs.Domains.{class_count, IsWithinLimits}
@@ -21,6 +21,8 @@ use Rattle.heap_rule.proofs.ChangeLemmas.{changed_only}
 use Rattle.heap_rule.proofs.Classes.{some_block}
 use Rattle.steps_pools.specs.Takes.{CursorTold, CursorAddTold, OwnedTold, OwnerTold, PlaceTold, MajorTold}
 use Rattle.steps_pools.specs.Listings.{CursorLookTold}
+use Rattle.steps_pools.specs.Ephemerons.{with_ephemeron, EpheTold, CanList, ListsEphemeron}
+use Rattle.heap_rule.specs.Standing.{IsInHeap}
 use Rattle.steps_pools.specs.Writes.{looking, CanLook, LooksFrom, PassesPool, PassesPlace, CanLabel, Labels}
 use Rattle.heap_rule.proofs.Closes.{front_same}
 use Rattle.heap_model.specs.Fronts.{IsFrontOf}
@@ -81,7 +83,7 @@ looks_set k own class spot l low small = record {
 
 -- and the token's own data fits again
 pub looking_fits : (k : Config) (x y : DomainView) (class : ℕ) (spot : Spot) → OwnFits k x.own → y.own ≡ looking x.own class spot → spot.pool ≤ k.pools → spot.slot < blocks_of class → OwnFits k y.own
-looking_fits k x y class spot fits is low small = subst (OwnFits k) (sym is) record { number = fits.number; used = fits.used; registers = fits.registers; looked = looks_set k x.own class spot fits.looked low small; remembered = fits.remembered; prepared = fits.prepared; pending = fits.pending }
+looking_fits k x y class spot fits is low small = subst (OwnFits k) (sym is) record { number = fits.number; used = fits.used; registers = fits.registers; looked = looks_set k x.own class spot fits.looked low small; remembered = fits.remembered; prepared = fits.prepared; pending = fits.pending; ephemerons = fits.ephemerons }
 
 -- the pools are few
 few_pools : (k : Config) (pool : ℕ) → IsWithinLimits (sizes_in k) → pool < k.pools → pool < 2048
@@ -154,6 +156,36 @@ major_closes k x new e changes fit serial y fits told =
         remembered = subst (λ (o : Own). AllInHeap k o.remembered.items) (sym rest) fits.remembered;
         prepared = ap (λ (o : Own). length o.prepared) rest ∙ fits.prepared;
         pending = ap (λ (o : Own). o.pending.room + length o.pending.items) rest ∙ fits.pending;
+        ephemerons = subst (λ (o : Own). AllInHeap k o.ephemerons.items) (sym rest) fits.ephemerons;
+      };
+      once = λ _. inr (record { entry = e; answer = Replied (Block (next_label x)); answers = told.answers });
+    }
+
+-- one more address of the heap
+in_heap_more : (k : Config) (at : ℕ) (l : List ℕ) → IsInHeap k at → AllInHeap k l → AllInHeap k (l ++ at ∷ [])
+in_heap_more k at [] inside all zero a e = subst (IsInHeap k) (let same : at ≡ a = cc in same) inside
+in_heap_more k at [] inside all (suc i) a e = cc
+in_heap_more k at (x ∷ l) inside all zero a e = all 0 a e
+in_heap_more k at (x ∷ l) inside all (suc i) a e = in_heap_more k at l inside (λ j b got. all (suc j) b got) i a e
+
+-- the head of an ephemeron makes the changes, counts the label and lists the ephemeron
+pub ephe_closes : (k : Config) (x : DomainView) (at new : ℕ) (e : Entry) (changes : List Change) → IsInHeap k at → CanList changes x.own
+    → Closes k x new (λ y _ z. EpheTold k e at changes y z) (CanList changes) (ListsEphemeron at changes)
+ephe_closes k x at new e changes inside can y fits told =
+    let own = ap (λ (z : DomainView). z.own) told.view in
+    let rest : y.own ≡ record x.own { registers = (changed Nothing changes x.own).registers; serial = x.own.serial + 1; ephemerons = with_ephemeron at x.own.ephemerons } =
+        own ∙ ap (λ (o : Own). record o { serial = x.own.serial + 1; ephemerons = with_ephemeron at x.own.ephemerons }) (changed_only Nothing changes x.own) in record {
+      can_write = can;
+      written = λ after is. own ∙ sym is;
+      fits = record {
+        number = subst (λ (o : Own). o.number < k.domains) (sym rest) fits.number;
+        used = subst (λ (o : Own). o.used ≤ k.minor_words) (sym rest) fits.used;
+        registers = told.holds;
+        looked = subst (λ (o : Own). LooksWithin k o.looked) (sym rest) fits.looked;
+        remembered = subst (λ (o : Own). AllInHeap k o.remembered.items) (sym rest) fits.remembered;
+        prepared = ap (λ (o : Own). length o.prepared) rest ∙ fits.prepared;
+        pending = ap (λ (o : Own). o.pending.room + length o.pending.items) rest ∙ fits.pending;
+        ephemerons = subst (λ (o : Own). AllInHeap k o.ephemerons.items) (sym rest) (in_heap_more k at x.own.ephemerons.items inside fits.ephemerons);
       };
       once = λ _. inr (record { entry = e; answer = Replied (Block (next_label x)); answers = told.answers });
     }

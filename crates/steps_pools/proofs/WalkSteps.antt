@@ -23,6 +23,9 @@ use Rattle.heap_rule.proofs.Lists.{got_end, got_below}
 use Rattle.heap_rule.proofs.Keeps.{Words, mine, more_same, phases_words, phases_same, cycle_control, control_set, controls_kept, pools_same, covered_words, room_words, holds_again}
 use Rattle.heap_rule.proofs.Classes.{size_least, some_block, slot_below, slot_inside}
 use Rattle.heap_rule.proofs.Beside.{found_beside, making_beside}
+use Rattle.heap_rule.proofs.EphemeronLemmas.{own_place_on}
+use Rattle.heap_rule.specs.Ephemerons.{Listed}
+use Rattle.heap_rule.specs.Rule.{Good}
 use Rattle.heap_rule.proofs.Lots.{Beside, pool_beside, hunter_beside, drawn_same, owned_same, stays, head_full}
 use Rattle.heap_rule.proofs.Holders.{Agrees, SameStock, agrees_set, drawn_not, drawn_owned, found_agrees, free_later, grid_over, hunter_agree, making_agrees, nobody_drawn, nobody_owned, owned_not, same_over}
 use Rattle.steps_pools.proofs.DrawSteps.{hunter, next_hunter, hunter_on, knows, known_free, draws_none, latest_words, own_word}
@@ -223,6 +226,7 @@ module _ (k : Config) (s : Words) (r : Rule k s) (id : ℕ) (hist : List Entry) 
         endings = control_set k s.words A 0 (omega arith) 8 (omega arith);
         cycle = cycle_control k s.words ws (control_set k s.words A 0 (omega arith));
         garbage = λ a. refl;
+        listeds = λ z g. g.listed;
         full = r.whole.full;
         found = λ b q lives. let f = r.whole.found b q lives in found_beside k r.account.cycling.paint r.account.live r.account.live (state_of k r.account.log).graph (state_of k r.account.log).graph s.words A 0 b q (more_same r.account.live) f f.there (far A low high b q lives);
         pools = pools_same k T s.words ws (control_set k s.words A 0 (omega arith)) P;
@@ -429,6 +433,19 @@ module _ (k : Config) (s : Words) (r : Rule k s) (id : ℕ) (hist : List Entry) 
               (λ other. f.drawn q e (sym (else2 q other) ∙ is));
         }
 
+    -- no ephemeron lives in it
+    listeds2 : (z : DomainView) → Good k r.account s.words z → Listed r.account.live t2.holder t2.garbage z.own.number z.own.ephemerons.items
+    listeds2 z g = record {
+      all = λ q c slot is inside e. dite (ℕ_discrete q pool)
+          (λ same. let o = owned_same d z.own.number class c (sym here2 ∙ (ap t2.holder (sym same) ∙ is)) in
+          let at : place_in q c slot ≡ place_in pool class slot = (λ i. place_in (same i) (sym o.1 i) slot) in
+          absurd (head_full k r.account.cycling.paint r.account.live (state_of k r.account.log).graph s.words (place_in q c slot) e.place (r.whole.found (place_in q c slot) e.place e.lives)
+          (ap (at_address k s.words) at ∙ all_clear.free slot (subst (λ (m : ℕ). slot < blocks_of m) (sym o.1) inside))))
+          (λ other. g.listed.all q c slot (sym (else2 q other) ∙ is) inside e);
+      own = λ a is. own_place_on T.holder t2.holder a z.own.number (λ q c h. else2 q (λ same. drawn_owned d z.own.number c (sym all_clear.drawn_is ∙ (ap T.holder (sym same) ∙ h))) ∙ h) (g.listed.own a is);
+      lives = g.listed.lives;
+    }
+
     pub owns_rule : Rule k record { words = words2; homes = s.homes; views = set s.views id (one k hist (looked_to x class from_here (Fills pool class 0 []))) }
     owns_rule = holds_again k s r id hist x at looked2 (Fills pool class 0 []) x.seen.free words2 t2 record {
       takes = takes;
@@ -444,6 +461,7 @@ module _ (k : Config) (s : Words) (r : Rule k s) (id : ℕ) (hist : List Entry) 
       endings = other_word 8 (λ e. omega arith);
       cycle = record { armed_same = other_word 4 (λ e. omega arith); colours_same = other_word 5 (λ e. omega arith); changed_same = other_word 3 (λ e. omega arith); blocks_same = other_word 9 (λ e. omega arith); words_same = other_word 10 (λ e. omega arith) };
       garbage = λ a. refl;
+      listeds = listeds2;
       full = full2;
       found = found_agrees k r.account.cycling.paint r.account.live (state_of k r.account.log).graph s.words words2 agrees r.whole.placed r.whole.found;
       pools = pools2;
@@ -611,6 +629,7 @@ module _ (k : Config) (s : Words) (r : Rule k s) (id : ℕ) (hist : List Entry) 
         endings = control_set k s.words B new (omega arith) 8 (omega arith);
         cycle = cycle_control k s.words ws3 (control_set k s.words B new (omega arith));
         garbage = λ a. refl;
+        listeds = λ z g. g.listed;
         full = r.whole.full;
         found = λ b q lives. let f = r.whole.found b q lives in found_beside k r.account.cycling.paint r.account.live r.account.live (state_of k r.account.log).graph (state_of k r.account.log).graph s.words B new b q (more_same r.account.live) f f.there
             (λ z inside e. let n : ℕ = extent q.shape in let p : ℕ = place_in pool class slot in let y : ℕ = size_of class in let i : z < n = inside in let same : b + z ≡ p + 1 + m = e in let f : m + 1 < y = room in

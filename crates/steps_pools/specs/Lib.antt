@@ -1,3 +1,4 @@
+pub mod Ephemerons
 pub mod Takes
 pub mod Writes
 pub mod Listings

@@ -12,7 +12,7 @@ pub use listing::{
     owner_look,
 };
 pub use taking::{
-    clear_store, copy_draw, cursor_add, cursor_load, draw_limit, fill_store, free_load, head_store,
-    list_load, listed_load, owner_store,
+    clear_store, copy_draw, cursor_add, cursor_load, draw_limit, ephe_store, fill_store, free_load,
+    head_store, list_load, listed_load, owner_store,
 };
 pub use walking::{class_blocks, class_size, owner_load, owner_word, place_address, place_load};

@@ -10,6 +10,7 @@ ghost use Rattle.heap_rule.specs.Pools.{Takes, limit_of};
 ghost use Rattle.heap_rule.specs.Standing.{IsInHeap};
 ghost use Rattle.steps_pools.specs.Takes.{HasNoDraw, NoneFree, ListedTold, CursorTold, CursorAddTold, CopyDrawMay, CopyDrawTold, ListMay, ListTold, ClearMay, ClearTold, OwnerMay, OwnedTold, FillMay, FillTold, MajorEntry, MajorTold};
 ghost use Rattle.heap_rule.specs.Token.{IsIn};
+ghost use Rattle.steps_pools.specs.Ephemerons.{EpheEntry, EpheTold};
 
 use heap_rule::{
     CURSOR, Change, Domain, Heap, LISTED, Leaving, Own, Spot, Writing, make_changes, raw_add,
@@ -73,6 +74,28 @@ impl Writing for Labelling {
         let serial = own.serial + 1;
         make_changes(own, Value::Nothing, changes);
         own.serial = serial;
+    }
+}
+
+// The changes are made in the registers, a label is counted, and the ephemeron at the address is
+// listed.
+#[derive(Clone, Copy)]
+struct Listing {
+    at: u32,
+}
+
+impl Writing for Listing {
+    ghost use Rattle.steps_pools.specs.Ephemerons.{CanList, ListsEphemeron};
+
+    ghost can = { λ _ _ changes own. CanList changes own };
+
+    ghost writes = { λ s _ changes own after. ListsEphemeron s.at changes own after };
+
+    fn write(&self, _found: u64, changes: &[Change], own: &mut Own) {
+        let serial = own.serial + 1;
+        make_changes(own, Value::Nothing, changes);
+        own.serial = serial;
+        own.ephemerons.push(self.at);
     }
 }
 
@@ -216,4 +239,19 @@ pub fn head_store(heap: &Heap, dom: &mut Domain, at: u32, new: u64, changes: &[C
 {
     let index = heap.index_of(at);
     raw_store::<Brand, Labelling>(heap, dom, index, new, &Labelling, changes);
+}
+
+/// The store of the head of an ephemeron at the place taken, at which the ephemeron comes to live,
+/// the domain lists it, and the entry of its allocation stands. The words behind the label are those
+/// of an empty datum and of empty keys.
+pub fn ephe_store(heap: &Heap, dom: &mut Domain, at: u32, new: u64, changes: &[Change])
+    ghost entry: { Entry }
+    requires here { IsIn dom.old heap.now }
+    requires inside { IsInHeap heap.now.config at }
+    requires may { EpheEntry heap.now.config dom.old.view at new changes.now entry }
+    ensures here { IsIn dom.new heap.now }
+    ensures told { EpheTold heap.now.config entry at changes.now dom.old.view dom.new.view }
+{
+    let index = heap.index_of(at);
+    raw_store::<Brand, Listing>(heap, dom, index, new, &Listing { at }, changes);
 }
