@@ -1,10 +1,10 @@
 -- What the commands on ephemerons answer and leave, by what the register of the ephemeron holds.
-use Rattle.std.proofs.Common.{◌≡◌, ◌≢◌, ℕ, ◌<◌, false, length, set, option_and_then, option_map, Option, Some, refl, ap, ◌∙◌, get_or-set_same}
+use Rattle.std.proofs.Common.{◌≡◌, ◌≢◌, ℕ, ◌<◌, false, length, set, option_and_then, option_map, Option, Some, refl, ap, ◌∙◌, get_or-set_same, None}
 use Rattle.heap_model.specs.declared.label.Label.{Label}
 use Rattle.heap_model.specs.declared.command.Command.{Command}
 use Rattle.heap_model.specs.declared.entry.Entry.TheVariants.{Command as CommandOf}
 use Rattle.heap_model.specs.declared.reply.Reply.{Reply}
-use Rattle.heap_model.specs.declared.reply.Reply.TheVariants.{Done}
+use Rattle.heap_model.specs.declared.reply.Reply.TheVariants.{Done, BadType}
 use Rattle.heap_model.specs.declared.reply.Applied.TheVariants.{Replied}
 use Rattle.heap_model.specs.declared.graph.Value.{Value}
 use Rattle.heap_model.specs.declared.graph.Value.TheVariants.{Int, Block, Nothing}
@@ -13,7 +13,7 @@ use Rattle.heap_model.specs.declared.state.DomainState.{DomainState}
 use Rattle.heap_model.specs.declared.state.State.{State}
 use Rattle.heap_model.specs.Graph.{node_at, with_node, block_at, label_of}
 use Rattle.heap_model.specs.Domains.{domain_at, with_block, register, no_domain}
-use Rattle.heap_model.specs.Commands.{Outcome, only_replies, shown, block_in, read_into, done_with, at_ephe, datum_set, datum_stored, outcome}
+use Rattle.heap_model.specs.Commands.{Outcome, only_replies, shown, block_in, read_into, done_with, at_ephe, key_set, key_stored, datum_set, datum_stored, outcome}
 use Rattle.heap_model.proofs.Commands.FrameLemmas.{part_set}
 use Rattle.heap_model.proofs.Commands.LeavesLemmas.{Leaves}
 
@@ -22,6 +22,16 @@ pub some_stored : (s : State) (b : Option (Label × Node)) (v : Value) → v ≢
 some_stored s b (Int z) some = refl
 some_stored s b (Block l) some = refl
 some_stored s b Nothing some = absurd (some refl)
+
+-- nothing is set where there is no block
+pub no_key_stored : (s : State) (i : ℕ) (key : Option Label) (b : Option (Label × Node)) → b ≡ None → key_stored s i key b ≡ only_replies s BadType
+no_key_stored s i None b none = refl
+no_key_stored s i (Some k) b none = ap (λ o. at_ephe s o (key_set s i (Some k))) none
+
+pub no_datum_stored : (s : State) (v : Value) (b : Option (Label × Node)) → b ≡ None → datum_stored s b v ≡ only_replies s BadType
+no_datum_stored s (Int z) b none = ap (λ o. at_ephe s o (datum_set s (Int z))) none
+no_datum_stored s (Block l) b none = ap (λ o. at_ephe s o (datum_set s (Block l))) none
+no_datum_stored s Nothing b none = refl
 
 module _ (s : State) (d : ℕ) where
   abbrev mine : DomainState
