@@ -2,4 +2,6 @@ pub mod Plain
 pub mod FullSteps
 pub mod TickSteps
 pub mod LoadSteps
+pub mod ValueSteps
 pub mod StoreSteps
+pub mod EphemeronEntries

@@ -26,6 +26,7 @@ use Rattle.heap_words.specs.declared.value.Value.{Value}
 use Rattle.heap_words.specs.declared.value.Value.TheVariants.{Nothing as NothingWord}
 use Rattle.heap_rule.specs.declared.change.Change.{Change}
 use Rattle.heap_rule.specs.declared.config.Config.{Config}
+use Rattle.heap_rule.specs.declared.phase.Kind.TheVariants.{Run}
 use Rattle.heap_rule.specs.declared.view.DomainView.{DomainView}
 use Rattle.heap_rule.specs.Places.{HeadIs, IsBuilt, colour_in}
 use Rattle.heap_rule.specs.Layout.{before_heap, at_address}
@@ -37,7 +38,7 @@ use Rattle.heap_rule.specs.Standing.{Acts, IsAt, with_front}
 use Rattle.steps_run.specs.Loads.{subject, place_of, HeadEntry, HeadMay, HeadTold, HeadCase, LabelMay, LabelTold, FieldLoadMay, FieldLoadEntry, FieldRead}
 use Rattle.heap_rule.proofs.ChangeLemmas.{registers_of}
 use Rattle.heap_rule.proofs.Values.{AllStand, stand_set, not_nothing, packable, shows}
-use Rattle.heap_rule.proofs.Keeps.{after_entry, Words, IsCommand, mine, my_good, own, looks, unmoved, run_settled, run_calm}
+use Rattle.heap_rule.proofs.Keeps.{after_entry, Words, IsCommand, mine, my_good, own, looks, unmoved, run_settled, run_calm, whole_here}
 use Rattle.heap_rule.proofs.Entering.{running, inside_state, registers_stand, Enters, entered_view, enters_rule, enters, enters_command, may_begin}
 use Rattle.heap_rule.proofs.Blocks.{Lives, lives_at, found_at, plain_at, plain_inside, field_at, shape_at}
 use Rattle.heap_rule.proofs.HeadLemmas.{packable_head, colour_small}
@@ -188,10 +189,10 @@ label_load_may k word x a reg place may fits slots id h = labels k slots id word
 
 -- the entry of a load that finds its field
 field_entry : (k : Config) (s : Words) (r : Rule k s) (id : ℕ) (hist : List Entry) (x : DomainView) (at : get_elem? s.views id ≡ some (one k hist x)) (a dst src i : ℕ) (changes : List Change)
-    (may : FieldLoadMay k x a changes x.own.number dst src i) → let f = (field_at k s r id hist x at (run_settled k s r id hist x at may.acts.runs) a src i may.reads).0 in
+    (may : FieldLoadMay k x a changes x.own.number dst src i) → let f = (field_at k s r id hist x at (run_settled k s r id hist x at may.acts.runs) (whole_here k s r id hist x at Run tt may.acts.runs) a src i may.reads).0 in
     Enters k s r id hist x at may.acts (Command x.own.number (Load dst src i) false) ((changed f.stands.value changes x.own).registers) (Replied (shown f.value))
 field_entry k s r id hist x at a dst src i changes may =
-    let f = (field_at k s r id hist x at (run_settled k s r id hist x at may.acts.runs) a src i may.reads).0 in
+    let f = (field_at k s r id hist x at (run_settled k s r id hist x at may.acts.runs) (whole_here k s r id hist x at Run tt may.acts.runs) a src i may.reads).0 in
     let now : model.State = state_of k r.account.log in
     let d : ℕ = x.own.number in
     let theirs : List graph_value.Value = (domain_at now d).registers in record {
@@ -207,10 +208,10 @@ field_entry k s r id hist x at a dst src i changes may =
 
 -- the register that the load writes then holds the field
 register_after : (k : Config) (s : Words) (r : Rule k s) (id : ℕ) (hist : List Entry) (x : DomainView) (at : get_elem? s.views id ≡ some (one k hist x)) (a dst src i : ℕ) (changes : List Change)
-    (may : FieldLoadMay k x a changes x.own.number dst src i) → register (state_of k (r.account.log ++ Command x.own.number (Load dst src i) false ∷ [])) x.own.number dst ≡ (field_at k s r id hist x at (run_settled k s r id hist x at may.acts.runs) a src i may.reads).0.value
+    (may : FieldLoadMay k x a changes x.own.number dst src i) → register (state_of k (r.account.log ++ Command x.own.number (Load dst src i) false ∷ [])) x.own.number dst ≡ (field_at k s r id hist x at (run_settled k s r id hist x at may.acts.runs) (whole_here k s r id hist x at Run tt may.acts.runs) a src i may.reads).0.value
 unfolding field_entry
 register_after k s r id hist x at a dst src i changes may =
-    let f = (field_at k s r id hist x at (run_settled k s r id hist x at may.acts.runs) a src i may.reads).0 in
+    let f = (field_at k s r id hist x at (run_settled k s r id hist x at may.acts.runs) (whole_here k s r id hist x at Run tt may.acts.runs) a src i may.reads).0 in
     let e : Entry = Command x.own.number (Load dst src i) false in
     let o = field_entry k s r id hist x at a dst src i changes may in
     let theirs : List graph_value.Value = (domain_at (state_of k r.account.log) x.own.number).registers in
@@ -222,7 +223,7 @@ field_loads : (k : Config) (slots id word : ℕ) (hist : List Entry) (x : Domain
     → let e : Entry = Command x.own.number (Load dst src i) false in Allows (Rule k) slots id (one k hist x, []) word (λ n. n) (Tells (FieldRead k e changes) (one k hist x, []))
 field_loads k slots id word hist x a dst src i changes place may s r _ at _ =
     let e : Entry = Command x.own.number (Load dst src i) false in
-    let t = field_at k s r id hist x at (run_settled k s r id hist x at may.acts.runs) a src i may.reads in
+    let t = field_at k s r id hist x at (run_settled k s r id hist x at may.acts.runs) (whole_here k s r id hist x at Run tt may.acts.runs) a src i may.reads in
     let f = t.0 in
     let o = field_entry k s r id hist x at a dst src i changes may in
     let regs : List Value = (changed f.stands.value changes x.own).registers in

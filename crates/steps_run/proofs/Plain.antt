@@ -63,6 +63,7 @@ store_closes k x at new remembers e changes inside can y p told =
         remembered = subst (λ (o : Own). AllInHeap k o.remembered.items) (sym rest) (field_in_heap k remembers at x.own.remembered.items inside p.remembered);
         prepared = ap (λ (o : Own). length o.prepared) rest ∙ p.prepared;
         pending = ap (λ (o : Own). o.pending.room + length o.pending.items) rest ∙ p.pending;
+        ephemerons = subst (λ (o : Own). AllInHeap k o.ephemerons.items) (sym rest) p.ephemerons;
       };
       once = λ _. inr (record { entry = e; answer = Replied Done; answers = told.answers });
     }

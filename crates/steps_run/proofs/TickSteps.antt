@@ -1,23 +1,24 @@
 -- A tick keeps the rule.
-use Rattle.std.proofs.Common.{◌≡◌, ℕ, ◌<◌, true, false, ne_eqb, List, [], length, set, sym, ap, refl, subst, ⊎_elim}
+use Rattle.std.proofs.Common.{◌≡◌, ℕ, ◌<◌, true, false, ne_eqb, List, [], length, set, slice_get, is_some, Option, None, sym, ap, refl, subst, ⊎_elim}
+use Rattle.heap_model.specs.declared.label.Label.{Label}
 use mathlib.Core.Option.{some}
 use lib.ListN.{get_elem?}
 use Rattle.atomic_table.specs.Table.{keeps, Allows}
 use Rattle.heap_model.specs.declared.command.Command as model_command
-use Rattle.heap_model.specs.declared.command.Command.TheVariants.{PutInt, Copy, Forget, Alloc, AllocMaj, Load, Store, Raw as NewRaw, Ephe as NewEphe, Poll, Minor, Major}
+use Rattle.heap_model.specs.declared.command.Command.TheVariants.{PutInt, Copy, Forget, Alloc, AllocMaj, Load, Store, Raw as NewRaw, Ephe as NewEphe, SetKey, UnsetKey, GetKey, CheckKey, SetData, UnsetData, GetData, CheckData, Poll, Minor, Major}
 use Rattle.heap_model.specs.declared.entry.Entry.{Entry}
 use Rattle.heap_model.specs.declared.entry.Entry.TheVariants.{Command}
 use Rattle.heap_model.specs.declared.reply.Applied.TheVariants.{Replied}
-use Rattle.heap_model.specs.declared.reply.Reply.TheVariants.{Done}
+use Rattle.heap_model.specs.declared.reply.Reply.TheVariants.{Done, BadType}
 use Rattle.heap_model.specs.declared.graph.Value as model_value
 use Rattle.heap_model.specs.declared.graph.Value.TheVariants.{Int, Nothing}
 use Rattle.heap_model.specs.declared.state.Mode.TheVariants.{Open}
 use Rattle.heap_model.specs.declared.state.State as model
-use Rattle.heap_model.specs.Domains.{domain_at, register}
-use Rattle.heap_model.specs.Commands.{FitsMode, is_allocation}
+use Rattle.heap_model.specs.Domains.{domain_at, register, label_in}
+use Rattle.heap_model.specs.Commands.{FitsMode, is_allocation, outcome, only_replies, block_in, at_ephe, key_set, key_stored, datum_set, datum_stored, in_bounds, read_into, tells, key_value, is_full_value}
 use Rattle.heap_model.specs.Fronts.{IsCalm}
 use Rattle.heap_model.proofs.Commands.FrameLemmas.{calm_command}
-use Rattle.heap_model.proofs.Commands.LeavesLemmas.{leaves_put, leaves_copy, leaves_forget, leaves_poll, leaves_full, leaves_load_type, leaves_store_type, leaves_store_nothing, leaves_minor, leaves_major}
+use Rattle.heap_model.proofs.Commands.LeavesLemmas.{leaves_put, leaves_copy, leaves_forget, leaves_poll, leaves_full, leaves_load_type, leaves_store_type, leaves_store_nothing, leaves_minor, leaves_major, no_block}
 use Rattle.heap_words.specs.declared.value.Value.{Value}
 use Rattle.heap_words.specs.declared.value.Value.TheVariants.{Int as IntWord, Nothing as NothingWord}
 use Rattle.heap_rule.specs.declared.change.Change.{Change}
@@ -28,9 +29,11 @@ use Rattle.heap_rule.specs.Changes.{value_at, changed}
 use Rattle.heap_rule.specs.Views.{one, Tells}
 use Rattle.heap_rule.specs.Raw.{MayStep}
 use Rattle.heap_rule.specs.Rule.{state_of, Rule}
+use Rattle.heap_rule.specs.Cycles.{IsPlainCommand}
 use Rattle.heap_rule.specs.Standing.{Acts}
 use Rattle.steps_run.specs.Ticks.{is_quiet, TickCommand, TickEntry, TickMay, command_answer, tick_answer, TickTold}
 use Rattle.steps_run.proofs.FullSteps.{may_be_full}
+use Rattle.steps_run.proofs.EphemeronEntries.{leaves_reply, no_key_stored, no_datum_stored}
 use Rattle.heap_rule.proofs.ChangeLemmas.{registers_of}
 use Rattle.heap_rule.proofs.Values.{AllStand, stand_set, no_label, stands_nothing}
 use Rattle.heap_rule.proofs.Keeps.{Words, IsCommand, unmoved, run_calm}
@@ -67,6 +70,14 @@ module _ (k : Config) (s : Words) (r : Rule k s) (id : ℕ) (hist : List Entry) 
   inside : d < length now.domains
   inside = inside_state k s r id hist x at acts
 
+  -- a register that holds no block
+  empty : (q : ℕ) → q < 16 → IsNoBlock (value_at x.own.registers q) → label_in now d q ≡ None
+  empty q few none = no_label r.account.live (value_at x.own.registers q) (register now d q) none (stand.each q few)
+
+  -- a command that is refused as there is no ephemeron to look into
+  no_ephemeron : (c : model_command.Command) → IsPlainCommand c → FitsMode now d c → changed NothingWord changes x.own ≡ x.own → outcome now d c ≡ only_replies now BadType → Enters k s r id hist x at acts (Command d c false) regs (Replied BadType)
+  no_ephemeron c plain fits same is = enters_command k s r id hist x at acts now.graph c plain fits regs _ theirs (subst (λ (l : List Value). AllStand r.account.live l theirs) (sym (ap registers_of same)) stand) (leaves_reply now d c BadType is)
+
   -- a register command: the changed registers stand for those that it leaves
   commands : (c : model_command.Command) → TickCommand x changes c → Enters k s r id hist x at acts (Command d c false) regs (Replied (command_answer c))
   commands (PutInt dst z) may = enters_command k s r id hist x at acts now.graph (PutInt dst z) tt (may_begin k s r id hist x at acts) regs _ (set theirs dst (Int z))
@@ -97,6 +108,22 @@ module _ (k : Config) (s : Words) (r : Rule k s) (id : ℕ) (hist : List Entry) 
       (λ (n : IsNoBlock (value_at x.own.registers block)). leaves_store_type now d block i item (no_label r.account.live (value_at x.own.registers block) (register now d block) n (stand.each block may.0)))
       (λ (e : value_at x.own.registers item ≡ NothingWord). leaves_store_nothing now d block i item (stands_nothing r.account.live (register now d item) (subst (λ (v : Value). Stands r.account.live v (register now d item)) e (stand.each item may.1))))
       may.2)
+  commands (SetKey ephe i item) may = no_ephemeron (SetKey ephe i item) tt (may_begin k s r id hist x at acts) may.3 (⊎_elim
+      (λ (n : IsNoBlock (value_at x.own.registers ephe)). no_key_stored now i (label_in now d item) (block_in now d ephe) (no_block now d ephe (empty ephe may.0 n)))
+      (λ (n : IsNoBlock (value_at x.own.registers item)). ap (λ (o : Option Label). key_stored now i o (block_in now d ephe)) (empty item may.1 n))
+      may.2)
+  commands (UnsetKey ephe i) may = no_ephemeron (UnsetKey ephe i) tt (may_begin k s r id hist x at acts) may.1 (ap (λ b. at_ephe now b (key_set now i None)) (no_block now d ephe (empty ephe may.0.0 may.0.1)))
+  commands (GetKey dst ephe i) may = no_ephemeron (GetKey dst ephe i) tt (may_begin k s r id hist x at acts) may.1
+      (ap (λ b. at_ephe now b (λ l keys datum. in_bounds now (slice_get keys i) (λ o. read_into now d dst (key_value o)))) (no_block now d ephe (empty ephe may.0.0 may.0.1)))
+  commands (CheckKey ephe i) may = no_ephemeron (CheckKey ephe i) tt (may_begin k s r id hist x at acts) may.1
+      (ap (λ b. at_ephe now b (λ l keys datum. in_bounds now (slice_get keys i) (λ o. tells now (is_some o)))) (no_block now d ephe (empty ephe may.0.0 may.0.1)))
+  commands (SetData ephe item) may = no_ephemeron (SetData ephe item) tt (may_begin k s r id hist x at acts) may.3 (⊎_elim
+      (λ (n : IsNoBlock (value_at x.own.registers ephe)). no_datum_stored now (register now d item) (block_in now d ephe) (no_block now d ephe (empty ephe may.0 n)))
+      (λ (e : value_at x.own.registers item ≡ NothingWord). ap (datum_stored now (block_in now d ephe)) (stands_nothing r.account.live (register now d item) (subst (λ (v : Value). Stands r.account.live v (register now d item)) e (stand.each item may.1))))
+      may.2)
+  commands (UnsetData ephe) may = no_ephemeron (UnsetData ephe) tt (may_begin k s r id hist x at acts) may.1 (ap (λ b. at_ephe now b (datum_set now Nothing)) (no_block now d ephe (empty ephe may.0.0 may.0.1)))
+  commands (GetData dst ephe) may = no_ephemeron (GetData dst ephe) tt (may_begin k s r id hist x at acts) may.1 (ap (λ b. at_ephe now b (λ l keys datum. read_into now d dst datum)) (no_block now d ephe (empty ephe may.0.0 may.0.1)))
+  commands (CheckData ephe) may = no_ephemeron (CheckData ephe) tt (may_begin k s r id hist x at acts) may.1 (ap (λ b. at_ephe now b (λ l keys datum. tells now (is_full_value datum))) (no_block now d ephe (empty ephe may.0.0 may.0.1)))
   commands _ may = absurd may
 
   entries : (e : Entry) → TickEntry k x changes e → Enters k s r id hist x at acts e regs (tick_answer e)

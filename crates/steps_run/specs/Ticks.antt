@@ -1,7 +1,7 @@
 -- Ticks: the entries that the registers alone decide, and the answer `full`.
 use Rattle.std.specs.Prelude.{◌≡◌, ℕ, ◌<◌, ◌≤◌, ◌⊎◌, Bool, true, false, List, slice_set, Some}
 use Rattle.heap_model.specs.declared.command.Command as model
-use Rattle.heap_model.specs.declared.command.Command.TheVariants.{PutInt, Copy, Forget, Load, Store, Poll, Minor, Major}
+use Rattle.heap_model.specs.declared.command.Command.TheVariants.{PutInt, Copy, Forget, Load, Store, SetKey, UnsetKey, GetKey, CheckKey, SetData, UnsetData, GetData, CheckData, Poll, Minor, Major}
 use Rattle.heap_model.specs.declared.entry.Entry.{Entry}
 use Rattle.heap_model.specs.declared.entry.Entry.TheVariants.{Command}
 use Rattle.heap_model.specs.declared.reply.Reply.{Reply}
@@ -33,6 +33,10 @@ is_quiet Minor = true
 is_quiet Major = true
 is_quiet _ = false
 
+-- the register holds no block
+abbrev pub HoldsNoBlock : DomainView → ℕ → Type 0
+HoldsNoBlock x r = (r < 16) × IsNoBlock (value_at x.own.registers r)
+
 -- a command that the registers alone decide, and what its changes do
 abbrev pub TickCommand : DomainView → List Change → model.Command → Type 0
 TickCommand x changes (PutInt dst z) = (dst < 16) × IsPackable (Int z) × Makes changes x (slice_set x.own.registers dst (Int z))
@@ -41,6 +45,16 @@ TickCommand x changes (Forget dst) = (dst < 16) × Makes changes x (slice_set x.
 TickCommand x changes (Load dst src i) = (src < 16) × IsNoBlock (value_at x.own.registers src) × LeavesOwn changes x
 TickCommand x changes (Store block i item) =
     (block < 16) × (item < 16) × (IsNoBlock (value_at x.own.registers block) ⊎ (value_at x.own.registers item ≡ Nothing)) × LeavesOwn changes x
+TickCommand x changes (SetKey ephe i item) =
+    (ephe < 16) × (item < 16) × (IsNoBlock (value_at x.own.registers ephe) ⊎ IsNoBlock (value_at x.own.registers item)) × LeavesOwn changes x
+TickCommand x changes (UnsetKey ephe i) = HoldsNoBlock x ephe × LeavesOwn changes x
+TickCommand x changes (GetKey dst ephe i) = HoldsNoBlock x ephe × LeavesOwn changes x
+TickCommand x changes (CheckKey ephe i) = HoldsNoBlock x ephe × LeavesOwn changes x
+TickCommand x changes (SetData ephe item) =
+    (ephe < 16) × (item < 16) × (IsNoBlock (value_at x.own.registers ephe) ⊎ (value_at x.own.registers item ≡ Nothing)) × LeavesOwn changes x
+TickCommand x changes (UnsetData ephe) = HoldsNoBlock x ephe × LeavesOwn changes x
+TickCommand x changes (GetData dst ephe) = HoldsNoBlock x ephe × LeavesOwn changes x
+TickCommand x changes (CheckData ephe) = HoldsNoBlock x ephe × LeavesOwn changes x
 TickCommand x changes Poll = LeavesOwn changes x
 TickCommand x changes Minor = LeavesOwn changes x
 TickCommand x changes Major = LeavesOwn changes x
@@ -65,10 +79,18 @@ pub record TickMay (k : Config) (x : DomainView) (changes : List Change) (e : En
   pub entry : TickEntry k x changes e
   pub fits : FitChanges changes
 
--- what a tick's entry answers: its loads and stores have no block to look into
+-- what a tick's entry answers: its loads and stores have no block to look into, or nothing to store
 abbrev pub command_answer : model.Command → Reply
 command_answer (Load dst src i) = BadType
 command_answer (Store block i item) = BadType
+command_answer (SetKey ephe i item) = BadType
+command_answer (UnsetKey ephe i) = BadType
+command_answer (GetKey dst ephe i) = BadType
+command_answer (CheckKey ephe i) = BadType
+command_answer (SetData ephe item) = BadType
+command_answer (UnsetData ephe) = BadType
+command_answer (GetData dst ephe) = BadType
+command_answer (CheckData ephe) = BadType
 command_answer _ = Done
 
 abbrev pub tick_answer : Entry → Applied
