@@ -1,5 +1,5 @@
 -- Domain 0 finds the changed word, and sets it back, in an odd phase.
-use Rattle.std.proofs.Common.{◌≡◌, ◌≢◌, ℕ, ◌+◌, false, List, set, length, length-set, get_or-set_same, get_or-set_other, Some, None, sym, refl, ap, ◌∙◌, subst, inl, ⊎_elim, arith, true≢false, ◌≤◌}
+use Rattle.std.proofs.Common.{◌≡◌, ◌≢◌, ℕ, ◌+◌, false, List, set, length, length-set, get_or-set_same, get_or-set_other, Some, None, sym, refl, ap, ◌∙◌, subst, inl, ⊎_elim, arith, true≢false, ◌≤◌, [], inr}
 use mathlib.Core.Option.{some}
 use lib.ListN.{get_elem?}
 use Rattle.atomic_table.specs.Table.{keeps}
@@ -14,7 +14,7 @@ use Rattle.heap_rule.specs.declared.phase.Stage.{Stage}
 use Rattle.heap_rule.specs.declared.phase.Stage.TheVariants.{In, Leads, Led, Gone}
 use Rattle.heap_rule.specs.declared.view.DomainView.{DomainView}
 use Rattle.heap_rule.specs.declared.view.Share.{Share}
-use Rattle.heap_rule.specs.Cycles.{Cycled, Cycling, Facts, IsCollecting, IsIdle, IsStart, Knowing, cycle_of}
+use Rattle.heap_rule.specs.Cycles.{Cycled, Cycling, Facts, IsCollecting, IsIdle, IsStart, Knowing, cycle_of, MissesKeys}
 use Rattle.heap_rule.specs.Layout.{before_heap, changed_word, heap_words}
 use Rattle.heap_rule.specs.Phases.{AtStage}
 use Rattle.heap_rule.specs.Pools.{IsLeading}
@@ -55,7 +55,7 @@ module _ (k : Config) (s : Words) (r : Rule k s) (id : ℕ) (hist : List Entry) 
     abbrev found : Share
     found = record x.seen.share { changed = Some (changed_word s.words) }
 
-    found_sharing : Sharing k r.account s.words x.own.number x.own.registers x.seen.stage found
+    found_sharing : Sharing k r.account s.words x.own.number x.own.registers x.own.ephemerons.items x.seen.stage found
     found_sharing = let t = good.sharing.telling in let l = good.sharing.leading in let a = good.sharing.adds in record {
       telling = record { owes = t.owes; seen = t.seen; fresh = λ up. ap (λ (z : Share). record z { changed = Some (changed_word s.words) }) (t.fresh up); forgotten = t.forgotten; colours = t.colours };
       leading = record {
@@ -68,6 +68,7 @@ module _ (k : Config) (s : Words) (r : Rule k s) (id : ℕ) (hist : List Entry) 
       };
       knows = inl (ap (λ (z : Share). record z { changed = Some (changed_word s.words) }) (idle (Leads may.last) may.stage tt));
       adds = record { blocks = a.blocks; words = a.words; own = a.own };
+      looks = let u = good.sharing.looks in record { at_own = u.at_own; pruned = u.pruned; cleans = u.cleans; emptied_is = u.emptied_is };
     }
 
     pub find_rule : Rule k record { words = s.words; homes = s.homes; views = set s.views id (one k hist (with_share x found)) }
@@ -116,9 +117,13 @@ module _ (k : Config) (s : Words) (r : Rule k s) (id : ℕ) (hist : List Entry) 
         led = λ j e f. ((y.told.led j e f).0, λ d. record { waits = refl; paid = refl; blind = refl });
       };
       leaves = record { none = y.leaves.none; dead = y.leaves.dead; head = λ a is. let h = y.leaves.head a is in (h.0, h.1, heap_untouched k s.words ws untouched a ∙ h.2) };
+      whole = λ l. ⊎_elim
+          (λ (e : c.paint.emptied l ≡ []). inl e)
+          (λ (h : MissesKeys r.account.live r.account.tenancy.holder c l). inr record { clean = h.clean; domain = h.domain; waits = refl; address = h.address; own = h.own; place = h.place; lives = h.lives; label = h.label })
+          (y.whole l);
     }
 
-    own_sharing : Sharing k (record r.account { cycling = c' }) ws x.own.number x.own.registers x.seen.stage forgets
+    own_sharing : Sharing k (record r.account { cycling = c' }) ws x.own.number x.own.registers x.own.ephemerons.items x.seen.stage forgets
     own_sharing = let t = good.sharing.telling in let l = good.sharing.leading in let a = good.sharing.adds in let start = told.1 x.own.number in record {
       telling = record {
         owes = λ _. sym start.paid ∙ t.owes start.waits;
@@ -137,9 +142,10 @@ module _ (k : Config) (s : Words) (r : Rule k s) (id : ℕ) (hist : List Entry) 
       };
       knows = inl (ap (λ (z : Share). record z { changed = None }) (idle (Led Mark) may.stage tt));
       adds = record { blocks = λ e _. a.blocks e start.waits; words = λ e _. a.words e start.waits; own = λ e _. a.own e start.waits };
+      looks = let u = good.sharing.looks in record { at_own = u.at_own; pruned = u.pruned; cleans = u.cleans; emptied_is = u.emptied_is };
     }
 
-    others_sharing : (z : DomainView) → z.own.number ≢ x.own.number → Good k r.account s.words z → Sharing k (record r.account { cycling = c' }) ws z.own.number z.own.registers z.seen.stage z.seen.share
+    others_sharing : (z : DomainView) → z.own.number ≢ x.own.number → Good k r.account s.words z → Sharing k (record r.account { cycling = c' }) ws z.own.number z.own.registers z.own.ephemerons.items z.seen.stage z.seen.share
     others_sharing z other g = let t = g.sharing.telling in let l = g.sharing.leading in let a = g.sharing.adds in let start = told.1 z.own.number in record {
       telling = record {
         owes = λ _. sym start.paid ∙ t.owes start.waits;
@@ -158,6 +164,7 @@ module _ (k : Config) (s : Words) (r : Rule k s) (id : ℕ) (hist : List Entry) 
       };
       knows = knows_words k r.account.live r.account.tenancy.holder state.graph c.paint.marks s.words ws z.own.number z.own.registers z.seen.stage z.seen.share (heap_untouched k s.words ws untouched) g.sharing.knows;
       adds = record { blocks = λ e _. a.blocks e start.waits; words = λ e _. a.words e start.waits; own = λ e _. a.own e start.waits };
+      looks = g.sharing.looks;
     }
 
     pub forget_rule : Rule k record { words = ws; homes = s.homes; views = set s.views id (one k hist (with_share x forgets)) }

@@ -36,14 +36,15 @@ use Rattle.heap_rule.specs.Rule.{Rule, state_of}
 use Rattle.heap_rule.specs.Views.{one}
 use Rattle.heap_rule.proofs.Keeps.{Words, mine, my_good, unmoved}
 use Rattle.steps_cycle.specs.Looks.{with_share}
-use Rattle.steps_cycle.specs.Marking.{DarkenMay, DarkenTold, IsDarkening, Reason, moved_on, owes_on}
+use Rattle.steps_cycle.specs.Marking.{DarkenMay, DarkenTold, IsDarkening, Reason, Register, Field, OfDatum, Warrants, moved_on, owes_on}
 use Rattle.steps_cycle.proofs.Colouring.{BareHead, Recolourable, bare_head, unmarked_by, words_same}
 use Rattle.steps_cycle.proofs.TargetSteps.{goes_on}
 use Rattle.steps_cycle.proofs.Layouts.{label_there, owner_of_place}
 use Rattle.steps_cycle.proofs.Learning.{at_other, at_same, bare, held, kind_here, known, lies_old}
 use Rattle.steps_cycle.proofs.Recolouring.{Recolours, known_still, recolours}
-use Rattle.steps_cycle.proofs.Targets.{Target, moved_knows, target}
+use Rattle.steps_cycle.proofs.Targets.{Target, datum_facts, moved_knows, sees_on, sees_others, sees_own, target}
 use Rattle.heap_rule.proofs.Stages.{waits_in}
+use Rattle.heap_rule.specs.declared.phase.Stage.TheVariants.{In}
 
 -- blocks are darkened in phases of a collection
 collects : (kind : Kind) → IsDarkening kind → HasNoCycle kind → ⊥
@@ -52,7 +53,7 @@ collects Promote n none = n
 collects Reset n none = n
 collects Roots n none = none
 collects Mark n none = none
-collects Rounds n none = n
+collects Rounds n none = none
 collects Decide n none = n
 collects Queued n none = none
 collects Clean n none = n
@@ -63,6 +64,7 @@ collects Answer n none = n
 -- who owes a store of the changed word then
 abbrev owing_on : Kind → (ℕ → Bool) → ℕ → ℕ → Bool
 owing_on Mark owes d = at_domain owes d true
+owing_on Rounds owes d = at_domain owes d true
 owing_on _ owes d = owes
 
 owing_others : (kind : Kind) (owes : ℕ → Bool) (d z : ℕ) → z ≢ d → owing_on kind owes d z ≡ owes z
@@ -71,7 +73,7 @@ owing_others Promote owes d z other = refl
 owing_others Reset owes d z other = refl
 owing_others Roots owes d z other = refl
 owing_others Mark owes d z other = at_other owes d true z other
-owing_others Rounds owes d z other = refl
+owing_others Rounds owes d z other = at_other owes d true z other
 owing_others Decide owes d z other = refl
 owing_others Queued owes d z other = refl
 owing_others Clean owes d z other = refl
@@ -85,7 +87,7 @@ owing_own Promote owes d own e = e
 owing_own Reset owes d own e = e
 owing_own Roots owes d own e = e
 owing_own Mark owes d own e = at_same owes d true
-owing_own Rounds owes d own e = e
+owing_own Rounds owes d own e = at_same owes d true
 owing_own Decide owes d own e = e
 owing_own Queued owes d own e = e
 owing_own Clean owes d own e = e
@@ -173,7 +175,7 @@ module _ (k : Config) (s : Words) (r : Rule k s) (id : ℕ) (hist : List Entry) 
     dark_facts Reset n f = absurd n
     dark_facts Roots n f = (darkening_steps.roots_darkens laws.First k.domains now cyc f.0 d darkens.0 a p.label darkens.1, record { unchanged = f.1.unchanged; unrotated = f.1.unrotated })
     dark_facts Mark n f = (darkening_steps.mark_darkens_other c.pass k.domains now cyc f.0 d darkens.0 a p.label darkens.1, f.1)
-    dark_facts Rounds n f = absurd n
+    dark_facts Rounds n f = (darkening_steps.rounds_darkens c.pass k.domains now cyc f.0 d darkens.0 a p.label darkens.1, f.1)
     dark_facts Decide n f = absurd n
     dark_facts Queued n f = (darkening_steps.roots_darkens laws.Second k.domains now cyc f.0 d darkens.0 a p.label darkens.1, record { unchanged = f.1.unchanged; unrotated = f.1.unrotated })
     dark_facts Clean n f = absurd n
@@ -187,10 +189,26 @@ module _ (k : Config) (s : Words) (r : Rule k s) (id : ℕ) (hist : List Entry) 
     kind_is : c.kind ≡ may.kind
     kind_is = kind_here k s r id hist x at may.kind may.stage
 
+    -- and where the datum of an ephemeron is marked the domain has seen that
+    abbrev saw : (u : Reason) → Warrants u x a → Cycling
+    saw u w = record c { paint = record c.paint { marks = m' }; shares = record c.shares { owes = owing_on may.kind c.shares.owes d; seen = sees_on k s r id hist x at u a w } }
+
+    seen_facts : (u : Reason) (w : Warrants u x a) → Facts may.kind k now r.account.live r.account.tenancy (c' may.kind) words' → Facts may.kind k now r.account.live r.account.tenancy (saw u w) words'
+    seen_facts (Register n) w f = f
+    seen_facts Field w f = f
+    seen_facts OfDatum w f =
+        let one_stage : In may.kind ≡ In Rounds = sym may.stage ∙ w.1 in
+        let in_rounds : may.kind ≡ Rounds = cc in
+        subst (λ (kind : Kind). Facts kind k now r.account.live r.account.tenancy (saw OfDatum w) words') (sym in_rounds)
+        (datum_facts k s r id hist x at a w p aim.lives (c' may.kind) words' is_dark (subst (λ (kind : Kind). Facts kind k now r.account.live r.account.tenancy (c' may.kind) words') in_rounds f) w.0 w.2)
+
+    not_clean : c.kind ≡ Clean → m' ≡ m
+    not_clean e = absurd (subst IsDarkening (sym kind_is ∙ e) may.darkening)
+
     abbrev share' : Share
     share' = record (moved_on reason a x.seen.share) { owes = owes_on may.kind x.seen.share.owes }
 
-    recoloured : Recolours k s r id hist x at collecting a p new m' (owing_on may.kind c.shares.owes d) c.shares.seen (held share')
+    recoloured : Recolours k s r id hist x at collecting a p new m' (owing_on may.kind c.shares.owes d) (sees_on k s r id hist x at reason a may.reason_is) (held share')
     recoloured = let cs : Colours = c.paint.colours in record {
       lives = aim.lives;
       here = record {
@@ -203,15 +221,17 @@ module _ (k : Config) (s : Words) (r : Rule k s) (id : ℕ) (hist : List Entry) 
       elsewhere = λ l differ. let e : same_label p.label l ≡ false = same_label-false p.label l differ in (ap (λ (b : Bool). b || m.marked l) e, ap (λ (b : Bool). not b && m.scanned l) e);
       marked = is_dark;
       more = darkened_more m p.label;
-      facts = subst (λ (kind : Kind). Facts kind k now r.account.live r.account.tenancy (c' may.kind) words') (sym kind_is) (dark_facts may.kind may.darkening (subst (λ (kind : Kind). Facts kind k now r.account.live r.account.tenancy c s.words) kind_is r.whole.cycle.facts));
-      others = λ z other. (owing_others may.kind c.shares.owes d z other, refl);
+      still = not_clean;
+      facts = subst (λ (kind : Kind). Facts kind k now r.account.live r.account.tenancy (saw reason may.reason_is) words') (sym kind_is)
+          (seen_facts reason may.reason_is (dark_facts may.kind may.darkening (subst (λ (kind : Kind). Facts kind k now r.account.live r.account.tenancy c s.words) kind_is r.whole.cycle.facts)));
+      others = λ z other. (owing_others may.kind c.shares.owes d z other, sees_others k s r id hist x at reason a may.reason_is z other);
       owes_is = owing_own may.kind c.shares.owes d x.seen.share.owes ((my_good k s r id hist x at).sharing.telling.owes (waits_in k s r id hist x at may.kind may.stage));
-      seen_is = (my_good k s r id hist x at).sharing.telling.seen (waits_in k s r id hist x at may.kind may.stage);
-      knows = moved_knows k s r id hist x at collecting a p aim.lives m' words' is_dark (known_still k s r id hist x at collecting a p new m' aim.lives is_dark (darkened_more m p.label)) reason may.reason_is (owes_on may.kind x.seen.share.owes);
+      seen_is = sees_own k s r id hist x at reason a may.reason_is ((my_good k s r id hist x at).sharing.telling.seen (waits_in k s r id hist x at may.kind may.stage));
+      knows = moved_knows k s r id hist x at collecting a p aim.lives m' words' is_dark not_clean (known_still k s r id hist x at collecting a p new m' aim.lives is_dark (darkened_more m p.label)) reason may.reason_is (owes_on may.kind x.seen.share.owes);
     }
 
     won_rule : Rule k record { words = words'; homes = s.homes; views = set s.views id (one k hist (with_share x share')) }
-    won_rule = recolours k s r id hist x at collecting a p new m' (owing_on may.kind c.shares.owes d) c.shares.seen (held share') recoloured
+    won_rule = recolours k s r id hist x at collecting a p new m' (owing_on may.kind c.shares.owes d) (sees_on k s r id hist x at reason a may.reason_is) (held share') recoloured
 
 pub darken_may : (k : Config) (x : DomainView) (word a old new : ℕ) (reason : Reason) → word ≡ before_heap k + a → DarkenMay x a old new reason → MayStep k x word (λ n. either (n == old) new n) (DarkenTold old a reason)
 darken_may k x word a old new reason place may fits slots id hist s r _ at _ =

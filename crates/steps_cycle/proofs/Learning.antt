@@ -1,5 +1,5 @@
 -- A step of a collection changes what its domain knows of the phase, and perhaps what is marked, what was changed and how far all are.
-use Rattle.std.proofs.Common.{◌≡◌, ◌≢◌, ℕ, ◌<◌, ◌⊎◌, ◌==◌, Bool, false, true≢false, cond, IsTrue, eq-eqb, ne_eqb, List, get_or, set, Option, Some, None, sym, refl, ap, ◌∙◌, subst, inl, inr, ⊎_elim, arith}
+use Rattle.std.proofs.Common.{◌≡◌, ◌≢◌, ℕ, ◌<◌, ◌⊎◌, ◌==◌, Bool, false, true≢false, cond, IsTrue, eq-eqb, ne_eqb, List, get_or, set, Option, Some, None, sym, refl, ap, ◌∙◌, subst, inl, inr, ⊎_elim, arith, []}
 use Rattle.std.specs.List.{list_any}
 use mathlib.Core.Option.{some}
 use lib.ListN.{get_elem?}
@@ -11,7 +11,7 @@ use Rattle.cycle_laws.specs.Shares.{Shares, at_domain}
 use Rattle.heap_words.specs.declared.value.Value.TheVariants.{Ref}
 use Rattle.heap_rule.specs.declared.config.Config.{Config}
 use Rattle.heap_rule.specs.declared.phase.Kind.{Kind}
-use Rattle.heap_rule.specs.declared.phase.Kind.TheVariants.{Run, Promote}
+use Rattle.heap_rule.specs.declared.phase.Kind.TheVariants.{Run, Promote, Clean}
 use Rattle.heap_rule.specs.declared.phase.Stage.{Stage}
 use Rattle.heap_rule.specs.declared.phase.Stage.TheVariants.{In, Leads, Led, Gone}
 use Rattle.heap_rule.specs.declared.view.DomainView.{DomainView}
@@ -25,8 +25,8 @@ use Rattle.heap_rule.specs.Layout.{at_address, armed, colours, changed_word, liv
 use Rattle.heap_rule.specs.Phases.{AtStage, IsEven, Pause, Staged, flag}
 use Rattle.heap_rule.specs.Places.{IsBare, IsOldAt, Live, Place}
 use Rattle.heap_rule.specs.Copies.{Promoting}
-use Rattle.heap_rule.specs.Pools.{Holder, IsBefore, IsLeading, blocks_of, owned, place_in, Resting}
-use Rattle.heap_rule.specs.Cycles.{Cycled, Cycling, Facts, HasNoCycle, IsCollecting, IsIdle, IsMarkedAt, Knowing, Leading, Scans, Told, seen_by, Scanned}
+use Rattle.heap_rule.specs.Pools.{Holder, IsBefore, IsLeading, blocks_of, owned, place_in, Resting, OwnPlace}
+use Rattle.heap_rule.specs.Cycles.{Cycled, Cycling, Facts, HasNoCycle, IsCollecting, IsIdle, IsMarkedAt, Knowing, Leading, Scans, Told, seen_by, Scanned, MissesKeys, KeysAt}
 use Rattle.heap_rule.specs.Rule.{Account, Good, Rule, Sharing, state_of}
 use Rattle.heap_rule.specs.Views.{one}
 use Rattle.heap_rule.proofs.Controls.{Move, Untouched, counts_untouched, covered_untouched, heap_untouched, hunter_untouched, low_untouched, moved_to, no_move, reserved_untouched, resting_untouched, turns, untouched_same}
@@ -39,9 +39,11 @@ use Rattle.steps_cycle.specs.Looks.{with_share}
 use Rattle.cycle_laws.proofs.Tracing.{More}
 use Rattle.heap_model.specs.Graph.{Graph}
 use Rattle.heap_words.specs.declared.value.Value.{Value}
-use Rattle.heap_rule.specs.declared.view.Scan.TheVariants.{Idle, Reads, Holds}
+use Rattle.heap_rule.specs.declared.view.Scan.TheVariants.{Idle, Reads, Holds, Keys, Key, Datum}
 use Rattle.heap_rule.specs.declared.view.Hunt.TheVariants.{Rests}
 use Rattle.heap_rule.proofs.Stages.{waits_in}
+use Rattle.heap_rule.specs.declared.view.Cleaning.{Cleaning}
+use Rattle.heap_rule.specs.Ephemerons.{ephemeron_of, Looks, emptied_at, Cleans}
 
 pub at_same : {A : Type 0} (f : ℕ → A) (d : ℕ) (v : A) → at_domain f d v d ≡ v
 at_same f d v = ap (λ (b : Bool). cond b v (f d)) (eq-eqb d d refl)
@@ -81,22 +83,44 @@ pub record Held : Type 0 where
   pub own_pool : Option OwnPool
   pub roots : List ℕ
   pub marked : List ℕ
+  pub cleaning : Option Cleaning
 
 abbrev pub held : Share → Held
-held share = record { owes = share.owes; places_seen = share.places_seen; found_head = share.found_head; scan = share.scan; walk = share.walk; own_pool = share.own_pool; roots = share.roots; marked = share.marked }
+held share = record { owes = share.owes; places_seen = share.places_seen; found_head = share.found_head; scan = share.scan; walk = share.walk; own_pool = share.own_pool; roots = share.roots; marked = share.marked; cleaning = share.cleaning }
 
 abbrev pub holding : Share → Held → Share
-holding share h = record share { owes = h.owes; places_seen = h.places_seen; found_head = h.found_head; scan = h.scan; walk = h.walk; own_pool = h.own_pool; roots = h.roots; marked = h.marked }
+holding share h = record share { owes = h.owes; places_seen = h.places_seen; found_head = h.found_head; scan = h.scan; walk = h.walk; own_pool = h.own_pool; roots = h.roots; marked = h.marked; cleaning = h.cleaning }
 
 -- scans go on where more is marked
 scanned_more : (live : Live) (graph : Graph) (m m' : Marks) → More m.marked m'.marked → (block done size head : ℕ) → Scanned live graph m block done size head → Scanned live graph m' block done size head
 scanned_more live graph m m' more block done size head f = record { place = f.place; lives = f.lives; marked = more f.place.label f.marked; tag = f.tag; fields = f.fields; node = f.node; head_is = f.head_is; size_is = f.size_is; through = λ p x low there. more x (f.through p x low there) }
 
+keys_more : (live : Live) (graph : Graph) (m m' : Marks) → More m.marked m'.marked → (block done count : ℕ) → KeysAt live graph m block done count → KeysAt live graph m' block done count
+keys_more live graph m m' more block done count f = record { place = f.place; lives = f.lives; marked = more f.place.label f.marked; keys = f.keys; datum = f.datum; node = f.node; count_is = f.count_is; through = λ p x low there. more x (f.through p x low there) }
+
 scans_more : (live : Live) (graph : Graph) (m m' : Marks) → More m.marked m'.marked → (scan : Scan) → Scans live graph m scan → Scans live graph m' scan
-unfolding scanned_more
+unfolding scanned_more keys_more
 scans_more live graph m m' more Idle f = tt
 scans_more live graph m m' more (Reads block done size head) f = scanned_more live graph m m' more block done size head f
 scans_more live graph m m' more (Holds block done size head address) f = record { reads = scanned_more live graph m m' more block done size head f.reads; target = f.target; there = f.there; holds = f.holds }
+scans_more live graph m m' more (Keys block done count) f = keys_more live graph m m' more block done count f
+scans_more live graph m m' more (Key block done count address) f = record { reads = keys_more live graph m m' more block done count f.reads; target = f.target; there = f.there; holds = f.holds }
+scans_more live graph m m' more (Datum block address) f = record {
+  place = f.place;
+  lives = f.lives;
+  marked = more f.place.label f.marked;
+  keys = f.keys;
+  datum = f.datum;
+  node = f.node;
+  through = λ p x low there. more x (f.through p x low there);
+  target = f.target;
+  there = f.there;
+  holds = f.holds;
+}
+
+-- an ephemeron is cleaned on where the marks stay
+cleans_same : (live : Live) (graph : Graph) (m m' : Marks) (stage : Stage) (items : List ℕ) (w : Cleaning) → m' ≡ m → Cleans live graph m stage items w → Cleans live graph m' stage items w
+cleans_same live graph m m' stage items w same f = subst (λ (z : Marks). Cleans live graph z stage items w) (sym same) f
 
 module _ (k : Config) (s : Words) (r : Rule k s) (id : ℕ) (hist : List Entry) (x : DomainView) (at : get_elem? s.views id ≡ some (one k hist x)) where
   abbrev now : model.State
@@ -128,9 +152,9 @@ module _ (k : Config) (s : Words) (r : Rule k s) (id : ℕ) (hist : List Entry) 
     pub plan_same : get_or words' 2 0 ≡ get_or s.words 2 0
     pub ended_same : get_or words' 8 0 ≡ get_or s.words 8 0
     pub cycle : Cycled k now live r.account.pause r.account.tenancy (record c { shares = w' }) words'
-    pub sharing : Sharing k (record r.account { cycling = record c { shares = w' } }) words' d x.own.registers x.seen.stage share'
+    pub sharing : Sharing k (record r.account { cycling = record c { shares = w' } }) words' d x.own.registers x.own.ephemerons.items x.seen.stage share'
     pub sharings : (z : DomainView) → z.own.number ≢ d → Good k r.account s.words z
-        → Sharing k (record r.account { cycling = record c { shares = w' } }) words' z.own.number z.own.registers z.seen.stage z.seen.share
+        → Sharing k (record r.account { cycling = record c { shares = w' } }) words' z.own.number z.own.registers z.own.ephemerons.items z.seen.stage z.seen.share
 
   pub shifts : (share' : Share) (w' : Shares) (words' : List ℕ) → Shifts share' w' words' → Rule k record { words = words'; homes = s.homes; views = set s.views id (one k hist (with_share x share')) }
   shifts share' w' words' o =
@@ -177,7 +201,7 @@ module _ (k : Config) (s : Words) (r : Rule k s) (id : ℕ) (hist : List Entry) 
       }
 
   -- and one that changes what its domain knows alone
-  pub learns : (share' : Share) → Sharing k r.account s.words d x.own.registers x.seen.stage share'
+  pub learns : (share' : Share) → Sharing k r.account s.words d x.own.registers x.own.ephemerons.items x.seen.stage share'
       → Rule k record { words = s.words; homes = s.homes; views = set s.views id (one k hist (with_share x share')) }
   learns share' sharing = shifts share' c.shares s.words record {
     untouched = untouched_same s.words;
@@ -192,6 +216,20 @@ module _ (k : Config) (s : Words) (r : Rule k s) (id : ℕ) (hist : List Entry) 
 
   pub kind_here : (kind : Kind) → x.seen.stage ≡ In kind → c.kind ≡ kind
   kind_here kind is = kind_now k r.account.pause c x kind is (my_good k s r id hist x at).staged r.whole.cycle.told
+
+  -- but where keys are emptied no block misses any
+  pub whole_in : (c.kind ≡ Clean → ⊥) → (l : Label) → c.paint.emptied l ≡ []
+  whole_in not_clean l = ⊎_elim (λ (h : c.paint.emptied l ≡ []). h) (λ (h : MissesKeys live holder c l). absurd (not_clean h.clean)) (r.whole.cycle.whole l)
+
+  -- how far a domain is with its ephemerons where the marks that a cleaning speaks of stay
+  looks_on : (m' : Marks) → (c.kind ≡ Clean → m' ≡ m) → (z : DomainView) → Staged r.account.pause z → Looks live holder r.account.tenancy.garbage now.graph m c.paint.emptied z.own.number z.own.ephemerons.items z.seen.stage z.seen.share
+      → Looks live holder r.account.tenancy.garbage now.graph m' c.paint.emptied z.own.number z.own.ephemerons.items z.seen.stage z.seen.share
+  looks_on m' still z staged l = record {
+    at_own = l.at_own;
+    pruned = l.pruned;
+    cleans = λ w e. let f = l.cleans w e in cleans_same live now.graph m m' z.seen.stage z.own.ephemerons.items w (still (kind_now k r.account.pause c z Clean f.stage_is staged r.whole.cycle.told)) f;
+    emptied_is = l.emptied_is;
+  }
 
   -- what it knows, also where that is nothing
   pub known : Knowing k live holder now.graph m s.words d x.own.registers sh
@@ -273,6 +311,12 @@ module _ (k : Config) (s : Words) (r : Rule k s) (id : ℕ) (hist : List Entry) 
         beside : (kind : Kind) → HasNoCycle kind → z.seen.stage ≡ In kind → ⊥
         beside kind none e = in_kind.under_way (subst HasNoCycle (sym (agree r.account.pause d z.own.number x.own.arrivals z.own.arrivals (In in_kind.kind) (In kind) here (subst (AtStage r.account.pause z.own.number z.own.arrivals) e staged.stage))) none)
 
+    -- how far it is with its ephemerons then
+    pub record Looking (m' : Marks) (h : Held) : Type 0 where
+      pub at_own : (a : ℕ) → ephemeron_of h.scan ≡ Some a → IsTrue (seen_by x.own.ephemerons.items a)
+      pub cleans : (w : Cleaning) → h.cleaning ≡ Some w → Cleans live now.graph m' x.seen.stage x.own.ephemerons.items w
+      pub emptied_is : (a : ℕ) (p : Place) → OwnPlace holder a d → live a ≡ Some p → c.paint.emptied p.label ≡ emptied_at h.cleaning a
+
     -- what it knows of blocks then
     pub record Knows (m' : Marks) (words' : List ℕ) (h : Held) : Type 0 where
       pub found_head : (g : FoundHead) (p : Place) → h.found_head ≡ Some g → live g.address ≡ Some p → (at_address k words' g.address ≡ g.word) ⊎ IsTrue (m'.marked p.label)
@@ -281,6 +325,18 @@ module _ (k : Config) (s : Words) (r : Rule k s) (id : ℕ) (hist : List Entry) 
       pub own_pool : (t : OwnPool) → h.own_pool ≡ Some t → holder t.pool ≡ owned d t.class
       pub rooted : (n a : ℕ) (p : Place) → IsTrue (list_any (λ q. q == n) h.roots) → value_at x.own.registers n ≡ Ref a → live a ≡ Some p → IsTrue (m'.marked p.label)
       pub marked : (a : ℕ) → IsTrue (seen_by h.marked a) → IsMarkedAt live m'.marked a
+      pub looking : Looking m' h
+
+    -- where it scans on, and cleans what it cleaned
+    pub looks_still : (m' : Marks) (h : Held) → (c.kind ≡ Clean → m' ≡ m) → h.cleaning ≡ sh.cleaning → ((a : ℕ) → ephemeron_of h.scan ≡ Some a → IsTrue (seen_by x.own.ephemerons.items a)) → Looking m' h
+    looks_still m' h still same at_own = let g = my_good k s r id hist x at in let l = looks_on m' still x g.staged g.sharing.looks in record {
+      at_own = at_own;
+      cleans = λ w e. l.cleans w (sym same ∙ e);
+      emptied_is = λ a p own lives. l.emptied_is a p own lives ∙ sym (ap (λ (o : Option Cleaning). emptied_at o a) same);
+    }
+
+    pub looks_same : (h : Held) → h.scan ≡ sh.scan → h.cleaning ≡ sh.cleaning → Looking m h
+    looks_same h scan same = looks_still m h (λ _. refl) same (λ a e. (my_good k s r id hist x at).sharing.looks.at_own a (ap ephemeron_of (sym scan) ∙ e))
 
     -- What it owes of a collection, whatever it writes: what is marked, the changed word, who owes and what was seen may change, and what the domain knows
     pub record Learns (m' : Marks) (changed : Bool) (owes : ℕ → Bool) (seen : ℕ → ℕ → Bool) (h : Held) (words' : List ℕ) : Type 0 where
@@ -293,6 +349,7 @@ module _ (k : Config) (s : Words) (r : Rule k s) (id : ℕ) (hist : List Entry) 
       pub dead : (b : ℕ) → live b ≡ None → at_address k words' b ≡ at_address k s.words b
       pub heads : (b : ℕ) (p : Place) → live b ≡ Some p → (at_address k words' b ≡ at_address k s.words b) ⊎ IsTrue (m'.marked p.label)
       pub more : (l : Label) → IsTrue (m.marked l) → IsTrue (m'.marked l)
+      pub still : c.kind ≡ Clean → m' ≡ m
       pub others : (z : ℕ) → z ≢ d → (owes z ≡ c.shares.owes z) × (seen z ≡ c.shares.seen z)
       pub owes_is : owes d ≡ h.owes
       pub seen_is : seen d ≡ seen_by h.places_seen
@@ -321,6 +378,10 @@ module _ (k : Config) (s : Words) (r : Rule k s) (id : ℕ) (hist : List Entry) 
         facts = o.facts;
         told = told';
         leaves = record { none = y.leaves.none; dead = y.leaves.dead; head = λ a is. let g = y.leaves.head a is in (g.0, g.1, o.dead a (y.leaves.dead a is) ∙ g.2) };
+        whole = λ l. ⊎_elim
+            (λ (e : c.paint.emptied l ≡ []). inl e)
+            (λ (h : MissesKeys live holder c l). inr record { clean = h.clean; domain = h.domain; waits = h.waits; address = h.address; own = h.own; place = h.place; lives = h.lives; label = h.label })
+            (y.whole l);
       }
 
       leading' : (z : DomainView) (share : Share) → Staged r.account.pause z → Leading c s.words z.own.number z.seen.stage share → Leading c' words' z.own.number z.seen.stage share
@@ -333,7 +394,7 @@ module _ (k : Config) (s : Words) (r : Rule k s) (id : ℕ) (hist : List Entry) 
         pass = l.pass;
       }
 
-      pub sharing' : Sharing k all' words' d x.own.registers x.seen.stage (holding sh h)
+      pub sharing' : Sharing k all' words' d x.own.registers x.own.ephemerons.items x.seen.stage (holding sh h)
       sharing' =
           let g = my_good k s r id hist x at in
           let l = leading' x sh g.staged g.sharing.leading in
@@ -361,9 +422,10 @@ module _ (k : Config) (s : Words) (r : Rule k s) (id : ℕ) (hist : List Entry) 
               },
             );
             adds = record { blocks = g.sharing.adds.blocks; words = g.sharing.adds.words; own = g.sharing.adds.own };
+            looks = record { at_own = o.knows.looking.at_own; pruned = g.sharing.looks.pruned; cleans = o.knows.looking.cleans; emptied_is = o.knows.looking.emptied_is };
           }
 
-      pub sharings' : (z : DomainView) → z.own.number ≢ d → Good k r.account s.words z → Sharing k all' words' z.own.number z.own.registers z.seen.stage z.seen.share
+      pub sharings' : (z : DomainView) → z.own.number ≢ d → Good k r.account s.words z → Sharing k all' words' z.own.number z.own.registers z.own.ephemerons.items z.seen.stage z.seen.share
       sharings' z other g = let t = g.sharing.telling in record {
         telling = record {
           owes = λ up. (o.others z.own.number other).0 ∙ t.owes up;
@@ -378,6 +440,7 @@ module _ (k : Config) (s : Words) (r : Rule k s) (id : ℕ) (hist : List Entry) 
             (λ (n : IsCollecting z.seen.stage × Knowing k live holder now.graph m s.words z.own.number z.own.registers z.seen.share). inr (n.0, knowing_on m' words' o.heads (free_on words' o.dead) o.more z.own.number z.own.registers z.seen.share n.1))
             g.sharing.knows;
         adds = record { blocks = g.sharing.adds.blocks; words = g.sharing.adds.words; own = g.sharing.adds.own };
+        looks = looks_on m' o.still z g.staged g.sharing.looks;
       }
 
     -- a step that leaves the words, what is marked and how far all are
@@ -392,6 +455,7 @@ module _ (k : Config) (s : Words) (r : Rule k s) (id : ℕ) (hist : List Entry) 
       dead = λ b none. refl;
       heads = λ b p lives. inl refl;
       more = λ l is. is;
+      still = λ _. refl;
       others = λ z other. (refl, refl);
       owes_is = t.owes waits ∙ owes;
       seen_is = t.seen waits ∙ places_seen;
@@ -414,6 +478,7 @@ module _ (k : Config) (s : Words) (r : Rule k s) (id : ℕ) (hist : List Entry) 
           dead = λ b none. heap_untouched k s.words words' u b;
           heads = λ b p lives. inl (heap_untouched k s.words words' u b);
           more = λ l is. is;
+          still = λ _. refl;
           others = others;
           owes_is = owes_is;
           seen_is = seen_is;

@@ -26,6 +26,7 @@ use Rattle.heap_rule.proofs.Keeps.{Words, mine, my_good, more_same, remakes, kno
 use Rattle.steps_cycle.specs.Looks.{with_share}
 use Rattle.steps_cycle.proofs.Learning.{Held, Learns, cycle', holding, sharing', sharings', bare, rests_here, knowing_on, known, Knows, lies_old}
 use Rattle.cycle_laws.proofs.Tracing.{More}
+use Rattle.heap_rule.specs.declared.phase.Kind.TheVariants.{Clean}
 
 module _ (k : Config) (s : Words) (r : Rule k s) (id : ℕ) (hist : List Entry) (x : DomainView) (at : get_elem? s.views id ≡ some (one k hist x)) (collecting : IsCollecting x.seen.stage) where
   abbrev paint : Paint
@@ -54,6 +55,7 @@ module _ (k : Config) (s : Words) (r : Rule k s) (id : ℕ) (hist : List Entry) 
     pub elsewhere : (l : Label) → p.label ≢ l → (m'.marked l ≡ paint.marks.marked l) × (m'.scanned l ≡ paint.marks.scanned l)
     pub marked : IsTrue (m'.marked p.label)
     pub more : More paint.marks.marked m'.marked
+    pub still : r.account.cycling.kind ≡ Clean → m' ≡ paint.marks
     pub facts : Facts r.account.cycling.kind k (state_of k r.account.log) r.account.live r.account.tenancy (record r.account.cycling { paint = record paint { marks = m' }; shares = record r.account.cycling.shares { owes = owes; seen = seen } }) (set s.words (before_heap k + a) new)
     pub others : (z : ℕ) → z ≢ x.own.number → (owes z ≡ r.account.cycling.shares.owes z) × (seen z ≡ r.account.cycling.shares.seen z)
     pub owes_is : owes x.own.number ≡ h.owes
@@ -96,6 +98,7 @@ module _ (k : Config) (s : Words) (r : Rule k s) (id : ℕ) (hist : List Entry) 
       dead = λ b none. stays b (λ same. let clash : ◌≡◌ {A = Option Place} None (Some p) = sym none ∙ (ap r.account.live same ∙ o.lives) in cc);
       heads = heads_stay a p new m' o.lives o.marked;
       more = o.more;
+      still = o.still;
       others = o.others;
       owes_is = o.owes_is;
       seen_is = o.seen_is;
@@ -235,6 +238,7 @@ module _ (k : Config) (s : Words) (r : Rule k s) (id : ℕ) (hist : List Entry) 
           rooted = g.rooted;
           set_back = λ b. controls.set_back x g.staged b (g.set_back b);
           sharing = own_sharing;
+          listed = g.listed;
         }
         (λ z _ other h'. record {
           stood = h'.stood;
@@ -249,4 +253,5 @@ module _ (k : Config) (s : Words) (r : Rule k s) (id : ℕ) (hist : List Entry) 
           rooted = h'.rooted;
           set_back = λ b. controls.set_back z h'.staged b (h'.set_back b);
           sharing = sharings' k s r id hist x at collecting m' r.account.cycling.shares.changed owes seen h words' learnt z other h';
+          listed = h'.listed;
         })

@@ -42,14 +42,16 @@ use Rattle.heap_rule.proofs.Values.{address_of, packable, stands_block}
 use Rattle.steps_cycle.specs.Looks.{with_share}
 use Rattle.steps_cycle.specs.Marking.{ChangedMay, ChangedTold, IsChanging, ScanMay, ScanTold, ScannedMay, ScannedTold, scanned_on, Site, Anywhere, Next, LiesAt, places_seen_on, walk_on}
 use Rattle.steps_cycle.proofs.Colouring.{words_same, Recolourable}
-use Rattle.steps_cycle.proofs.Learning.{at_other, at_same, bare, held, kind_here, knows_more, known, shifts_more}
+use Rattle.steps_cycle.proofs.Learning.{at_other, at_same, bare, held, kind_here, knows_more, known, looks_same, looks_still, shifts_more, whole_in}
 use Rattle.steps_cycle.proofs.Recolouring.{Recolours, known_still, recolours}
 use Rattle.heap_rule.specs.declared.phase.Stage.TheVariants.{In}
 use Rattle.steps_cycle.proofs.WalkSteps.{own_place, seen_next, next_is, next_other, next_walked}
 use Rattle.steps_cycle.proofs.Layouts.{labelled}
 use Rattle.heap_rule.specs.Pools.{owned, blocks_of, IsBefore, place_in}
-use Rattle.std.proofs.lemmas.Option.{same_Some}
+use Rattle.std.proofs.lemmas.Option.{none-some, same_Some}
 use Rattle.heap_rule.proofs.Stages.{waits_in}
+use Rattle.heap_rule.specs.Ephemerons.{ephemeron_of}
+use Rattle.heap_rule.proofs.EphemeronLemmas.{found_value}
 
 -- the value in the next field was read
 module _ (live : Live) (graph : Graph) (m : Marks) (block done size head : ℕ) (f : Scanned live graph m block done size head) (v : Value) (there : slice_get f.fields done ≡ Some v) where
@@ -76,6 +78,15 @@ module _ (live : Live) (graph : Graph) (m : Marks) (block done size head : ℕ) 
       go (Int z) e s = absurd s
       go Nothing e s = absurd s
       go (Block l) e s = record { reads = f; target = s.0; there = s.1; holds = there ∙ ap Some (e ∙ ap Block (sym s.2)) }
+
+-- a scan comes to no ephemeron's keys
+no_ephemeron : (scan : Scan) (block done size head : ℕ) (w : held_value.Value) → scan ≡ Reads block done size head → ephemeron_of (scanned_on scan w) ≡ None
+no_ephemeron scan block done size head w is = ap (λ (z : Scan). ephemeron_of (scanned_on z w)) is ∙ go w
+  where
+    go : (v : held_value.Value) → ephemeron_of (scanned_on (Reads block done size head) v) ≡ None
+    go (IntWord z) = refl
+    go (Ref a) = refl
+    go NothingWord = refl
 
 module _ (k : Config) (s : Words) (r : Rule k s) (id : ℕ) (hist : List Entry) (x : DomainView) (at : get_elem? s.views id ≡ some (one k hist x)) where
   abbrev now : model.State
@@ -110,6 +121,9 @@ module _ (k : Config) (s : Words) (r : Rule k s) (id : ℕ) (hist : List Entry) 
     field : (v : Value) × (slice_get f.fields may.done ≡ Some v)
     field = got_there f.fields may.done (let n : ℕ = length f.fields in let e : n ≡ may.size = f.size_is in let h = may.more in omega arith)
 
+    not_clean : c.kind ≡ Clean → ⊥
+    not_clean e = let clash : Mark ≡ Clean = sym (kind_here k s r id hist x at Mark may.stage) ∙ e in cc
+
     stands : WordStands live (at_address k s.words (may.block + 2 + may.done)) field.0
     stands =
         let found = r.whole.found may.block f.place f.lives in
@@ -118,7 +132,7 @@ module _ (k : Config) (s : Words) (r : Rule k s) (id : ℕ) (hist : List Entry) 
         (λ (e : (f.fields ≡ []) × (fields_of (node_at now.graph f.place.label) ≡ [])). absurd (let none : length f.fields ≡ 0 = ap (λ (z : List Value). length z) e.0 in let n : ℕ = length f.fields in let z : n ≡ 0 = none in let y : n ≡ may.size = f.size_is in let h = may.more in omega arith))
         f.node in
         let is : found.node ≡ Plain f.tag f.fields = same_Some found.node (Plain f.tag f.fields) (sym found.there ∙ plain) in
-        found.values may.done field.0 (subst (λ (o : Option Debt). HasValue o may.done) (sym (bare k s r id hist x at (in_mark may.stage) may.block f.place f.lives).no_debt) tt) (ap (λ (n : Node). slice_get (values_of n) may.done) is ∙ field.1)
+        found_value k c.paint live now.graph s.words may.block f.place found (whole_in k s r id hist x at not_clean f.place.label) may.done field.0 (subst (λ (o : Option Debt). HasValue o may.done) (sym (bare k s r id hist x at (in_mark may.stage) may.block f.place f.lives).no_debt) tt) (ap (λ (n : Node). slice_get (values_of n) may.done) is ∙ field.1)
 
     share' : Share
     share' = record sh { scan = scanned_on sh.scan stands.value }
@@ -132,6 +146,7 @@ module _ (k : Config) (s : Words) (r : Rule k s) (id : ℕ) (hist : List Entry) 
       own_pool = kn.own_pool;
       rooted = kn.rooted;
       marked = kn.marked;
+      looking = looks_still k s r id hist x at (in_mark may.stage) m (held share') (λ _. refl) refl (λ b e. absurd (none-some b (sym (no_ephemeron sh.scan may.block may.done may.size may.head stands.value may.scan) ∙ e)));
     }
 
     scan_told : ScanTold k x (at_address k s.words a) (with_share x share')
@@ -227,12 +242,13 @@ module _ (k : Config) (s : Words) (r : Rule k s) (id : ℕ) (hist : List Entry) 
           elsewhere = λ l differ. (refl, ap (λ (b : Bool). b || m.scanned l) (same_label-false p.label l differ));
           marked = g.marked;
           more = λ l h. h;
+          still = λ e. absurd (let clash : Mark ≡ Clean = sym kind_is ∙ e in cc);
           facts = subst (λ (kind : Kind). Facts kind k now live r.account.tenancy (record c { paint = record c.paint { marks = m' }; shares = record c.shares { seen = seen_on site may.lies } }) scanned_words) (sym kind_is)
               (scanned_facts site may.lies (subst (λ (kind : Kind). Facts kind k now live r.account.tenancy c s.words) kind_is r.whole.cycle.facts));
           others = λ z other. (refl, seen_others site may.lies z other);
           owes_is = (my_good k s r id hist x at).sharing.telling.owes waits;
           seen_is = seen_here site may.lies;
-          knows = record { found_head = n.found_head; scan = tt; walked = walked_on site may.lies; own_pool = n.own_pool; rooted = n.rooted; marked = n.marked };
+          knows = record { found_head = n.found_head; scan = tt; walked = walked_on site may.lies; own_pool = n.own_pool; rooted = n.rooted; marked = n.marked; looking = looks_still k s r id hist x at (in_mark may.stage) m' (held done) (λ e. absurd (let clash : Mark ≡ Clean = sym kind_is ∙ e in cc)) refl (λ b e. absurd (none-some b e)) };
         }
 
     scanned_rule : Rule k record { words = scanned_words; homes = s.homes; views = set s.views id (one k hist (with_share x done)) }
@@ -297,6 +313,7 @@ module _ (k : Config) (s : Words) (r : Rule k s) (id : ℕ) (hist : List Entry) 
           own_pool = kn.own_pool;
           rooted = kn.rooted;
           marked = kn.marked;
+          looking = looks_same k s r id hist x at collecting (held paid) refl refl;
         }
         (other 8 (λ e. omega arith))
 

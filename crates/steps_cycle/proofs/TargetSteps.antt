@@ -10,18 +10,21 @@ use Rattle.heap_rule.specs.declared.view.FoundHead.{FoundHead}
 use Rattle.heap_rule.specs.declared.view.Share.{Share}
 use Rattle.heap_rule.specs.Layout.{before_heap, at_address}
 use Rattle.heap_rule.specs.Places.{Place}
-use Rattle.heap_rule.specs.Cycles.{Cycling, IsCollecting}
+use Rattle.heap_rule.specs.Cycles.{Cycling, IsCollecting, Facts}
 use Rattle.heap_rule.specs.Raw.{MayStep}
-use Rattle.heap_rule.specs.Rule.{Rule}
+use Rattle.heap_rule.specs.Rule.{Rule, state_of}
 use Rattle.heap_rule.specs.Views.{one}
 use Rattle.heap_rule.proofs.Keeps.{Words, my_good, unmoved}
 use Rattle.steps_cycle.specs.Looks.{with_share}
-use Rattle.steps_cycle.specs.Marking.{TargetMay, TargetTold, Reason, Warrants, moved_on}
+use Rattle.steps_cycle.specs.Marking.{TargetMay, TargetTold, Reason, Register, Field, OfDatum, Warrants, moved_on}
 use Rattle.steps_cycle.proofs.Colouring.{BareHead, bare_head, marked_colour, unmarked_colour}
-use Rattle.steps_cycle.proofs.Learning.{bare, held, knows_more, known}
-use Rattle.steps_cycle.proofs.Targets.{Target, moved_knows, target}
+use Rattle.steps_cycle.proofs.Learning.{bare, held, kind_here, knows_more, known, looks_same, shifts_more, waits}
+use Rattle.steps_cycle.proofs.Targets.{Target, datum_facts, moved_knows, sees_on, sees_others, sees_own, target}
 use Rattle.std.proofs.lemmas.Bool.{cases_Bool}
 use Rattle.std.proofs.lemmas.Option.{same_Some}
+use Rattle.heap_rule.proofs.Controls.{untouched_same}
+use Rattle.heap_rule.specs.declared.phase.Kind.TheVariants.{Rounds}
+use Rattle.heap_rule.specs.declared.phase.Kind.{Kind}
 
 module _ (k : Config) (s : Words) (r : Rule k s) (id : ℕ) (hist : List Entry) (x : DomainView) (at : get_elem? s.views id ≡ some (one k hist x)) where
   abbrev c : Cycling
@@ -33,10 +36,28 @@ module _ (k : Config) (s : Words) (r : Rule k s) (id : ℕ) (hist : List Entry) 
   abbrev After : DomainView → Type 0
   After y = Rule k record { words = s.words; homes = s.homes; views = set s.views id (one k hist y) }
 
+  -- the facts of the phase, where a domain is done with what it had to mark
+  facts_on : (reason : Reason) (a : ℕ) (w : Warrants reason x a) (p : Place) → r.account.live a ≡ Some p → IsTrue (c.paint.marks.marked p.label)
+      → Facts c.kind k (state_of k r.account.log) r.account.live r.account.tenancy (record c { shares = record c.shares { seen = sees_on k s r id hist x at reason a w } }) s.words
+  facts_on (Register n) a w p lives marked = r.whole.cycle.facts
+  facts_on Field a w p lives marked = r.whole.cycle.facts
+  facts_on OfDatum a w p lives marked =
+      let kind_is : c.kind ≡ Rounds = kind_here k s r id hist x at Rounds w.1 in
+      subst (λ (kind : Kind). Facts kind k (state_of k r.account.log) r.account.live r.account.tenancy (record c { shares = record c.shares { seen = sees_on k s r id hist x at OfDatum a w } }) s.words) (sym kind_is)
+      (datum_facts k s r id hist x at a w p lives c s.words marked (subst (λ (kind : Kind). Facts kind k (state_of k r.account.log) r.account.live r.account.tenancy c s.words) kind_is r.whole.cycle.facts) w.0 w.2)
+
   -- a block that is known to be marked: the domain goes on
   pub goes_on : (collecting : IsCollecting x.seen.stage) (reason : Reason) (a : ℕ) → Warrants reason x a → (p : Place) → r.account.live a ≡ Some p → IsTrue (c.paint.marks.marked p.label) → After (with_share x (moved_on reason a sh))
-  goes_on collecting reason a w p lives marked = knows_more k s r id hist x at collecting (held (moved_on reason a sh)) refl refl
-      (moved_knows k s r id hist x at collecting a p lives c.paint.marks s.words marked (known k s r id hist x at) reason w sh.owes)
+  goes_on collecting reason a w p lives marked =
+      let t = (my_good k s r id hist x at).sharing.telling in
+      let not_arrived : c.shares.arrived x.own.number ≡ false = waits k s r id hist x at collecting in
+      shifts_more k s r id hist x at collecting c.shares.changed c.shares.owes (sees_on k s r id hist x at reason a w) (held (moved_on reason a sh)) s.words (untouched_same s.words) refl refl refl r.whole.cycle.changed_is
+      (facts_on reason a w p lives marked)
+      (λ z other. (refl, sees_others k s r id hist x at reason a w z other))
+      (t.owes not_arrived)
+      (sees_own k s r id hist x at reason a w (t.seen not_arrived))
+      (moved_knows k s r id hist x at collecting a p lives c.paint.marks s.words marked (λ _. refl) (known k s r id hist x at) reason w sh.owes)
+      refl
 
   module _ (a : ℕ) (reason : Reason) (may : TargetMay x a reason) where
     aim : Target k s r id hist x at a
@@ -69,6 +90,7 @@ module _ (k : Config) (s : Words) (r : Rule k s) (id : ℕ) (hist : List Entry) 
             own_pool = n.own_pool;
             rooted = n.rooted;
             marked = n.marked;
+            looking = looks_same k s r id hist x at may.collects (held share') refl refl;
           },
           record { colours = may.colours; known = may.known; told = inl (record { shape = aim.place.shape; head = there.head; colour = unmarked_colour c.paint aim.place found may.colours means there e }, refl) },
         ))

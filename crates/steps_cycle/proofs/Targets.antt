@@ -1,5 +1,5 @@
 -- The block that there is a reason to mark, and what the domain knows once it is marked.
-use Rattle.std.proofs.Common.{◌≡◌, ℕ, zero, suc, ◌+◌, ◌==◌, ◌||◌, Bool, true, false, IsTrue, eqb-true, List, [], ◌∷◌, filter_map, flat_map, get_or, slice_get, Option, Some, unwrap_or, sym, refl, ap, ◌∙◌, subst, inl, inr, ⊎_elim, add-one}
+use Rattle.std.proofs.Common.{◌≡◌, ℕ, zero, suc, ◌+◌, ◌==◌, ◌||◌, Bool, true, false, IsTrue, eqb-true, List, [], ◌∷◌, filter_map, flat_map, get_or, slice_get, Option, Some, unwrap_or, sym, refl, ap, ◌∙◌, subst, inl, inr, ⊎_elim, add-one, option_to_list, ◌≢◌, ◌<◌, length, ◌≤◌, arith}
 use Rattle.std.specs.List.{list_any}
 use mathlib.Core.Option.{some}
 use lib.ListN.{get_elem?}
@@ -13,26 +13,34 @@ use Rattle.heap_model.specs.declared.state.DomainState.{DomainState}
 use Rattle.heap_model.specs.declared.state.State as model
 use Rattle.heap_model.specs.Graph.{same_label, has_label, label_of, node_at}
 use Rattle.heap_model.specs.Domains.{domain_at, pending_label, queues, roots}
-use Rattle.heap_model.proofs.Graphs.GraphLemmas.{same_label_refl}
-use Rattle.heap_model.proofs.Reach.ReachLemmas.{has-append_left, or_left, or_right}
+use Rattle.heap_model.proofs.Graphs.GraphLemmas.{same_label_refl, same_label-true}
+use Rattle.heap_model.proofs.Reach.ReachLemmas.{has-append_left, or_cases, or_left, or_right}
 use Rattle.heap_words.specs.declared.value.Value.TheVariants.{Ref}
-use Rattle.cycle_laws.specs.Marks.{Marks, fields_of, MayDarken}
+use Rattle.cycle_laws.specs.Marks.{Marks, fields_of, MayDarken, DataMarked, data_of}
 use Rattle.cycle_laws.specs.Progress.{FieldsDone}
+use Rattle.cycle_laws.proofs.Cycling.{darkening_steps}
 use Rattle.cycle_laws.proofs.DomainParts.{part_has, listed_at}
-use Rattle.cycle_laws.proofs.Progressing.{fields_next}
+use Rattle.cycle_laws.proofs.Progressing.{fields_next, keys_end}
 use Rattle.heap_rule.specs.declared.config.Config.{Config}
 use Rattle.heap_rule.specs.declared.view.DomainView.{DomainView}
 use Rattle.heap_rule.specs.declared.view.Scan.{Scan}
-use Rattle.heap_rule.specs.declared.view.Scan.TheVariants.{Holds}
+use Rattle.heap_rule.specs.declared.view.Scan.TheVariants.{Idle, Reads, Holds, Keys, Key, Datum}
 use Rattle.heap_rule.specs.Changes.{value_at}
 use Rattle.heap_rule.specs.Places.{Place, Live}
-use Rattle.heap_rule.specs.Cycles.{Cycling, IsCollecting, IsMarkedAt, Knowing, Refers, Scans, seen_by}
+use Rattle.heap_rule.specs.Cycles.{Cycling, IsCollecting, IsMarkedAt, Knowing, Refers, Scans, seen_by, Facts, DatumAt, cycle_of}
 use Rattle.heap_rule.specs.Rule.{Rule, state_of}
 use Rattle.heap_rule.specs.Views.{one}
 use Rattle.heap_rule.proofs.Blocks.{lives_at}
-use Rattle.heap_rule.proofs.Keeps.{Words}
-use Rattle.steps_cycle.specs.Marking.{Reason, Register, Field, Warrants, moved_on, next_scan, scan_on, roots_on}
-use Rattle.steps_cycle.proofs.Learning.{Knows, held, known}
+use Rattle.heap_rule.proofs.Keeps.{Words, my_good}
+use Rattle.steps_cycle.specs.Marking.{Reason, Register, Field, OfDatum, Warrants, moved_on, next_scan, scan_on, roots_on, seen_on, seen_through}
+use Rattle.steps_cycle.proofs.Learning.{Knows, held, known, at_same, at_other, looks_still}
+use Rattle.steps_cycle.proofs.Layouts.{labelled, owner_of_place}
+use Rattle.std.proofs.lemmas.Option.{none-some}
+use Rattle.heap_rule.specs.declared.phase.Kind.TheVariants.{Clean, Rounds}
+use Rattle.heap_model.specs.Reach.{HoldsRoots}
+use Rattle.cycle_laws.specs.Shares.{at_domain}
+use Rattle.heap_rule.specs.Ephemerons.{ephemeron_of}
+use Rattle.heap_rule.specs.Pools.{owned, blocks_of, IsBefore, place_in}
 
 -- the label in a register, and in a field, is among those of its list
 held_named : (l : Label) (vs : List Value) (n : ℕ) → get_or vs n Nothing ≡ Block l → IsTrue (has_label (filter_map label_of vs) l)
@@ -50,6 +58,15 @@ no_values = []
 
 no_field : (l : Label) (i : ℕ) → slice_get no_values i ≡ Some (Block l) → ⊥
 no_field l i e = cc
+
+datum_named : (l : Label) (datum : Value) → datum ≡ Block l → IsTrue (has_label (option_to_list (label_of datum)) l)
+datum_named l datum e = subst (λ (v : Value). IsTrue (has_label (option_to_list (label_of v)) l)) (sym e) (or_left (same_label l l) false (same_label_refl l))
+
+datum_holds : (marked : Label → Bool) (l : Label) (datum : Value) → datum ≡ Block l → IsTrue (marked l) → HoldsRoots (option_to_list (label_of datum)) marked
+datum_holds marked l datum e is = subst (λ (v : Value). HoldsRoots (option_to_list (label_of v)) marked) (sym e) (λ y has. ⊎_elim
+    (λ (h : IsTrue (same_label l y)). subst (λ (z : Label). IsTrue (marked z)) (same_label-true l y h) is)
+    (λ (h : IsTrue false). absurd (let clash : false ≡ true = h in cc))
+    (or_cases (same_label l y) false has))
 
 same_number : (a b : ℕ) → Ref a ≡ Ref b → a ≡ b
 same_number a b e = cc
@@ -90,9 +107,57 @@ module _ (k : Config) (s : Words) (r : Rule k s) (id : ℕ) (hist : List Entry) 
               n.reads.node,
         ));
       }
+  target OfDatum a w =
+      let n : DatumAt live now.graph c.paint.marks w.0 a = subst (Scans live now.graph c.paint.marks) w.2 (known k s r id hist x at).scan in record {
+        place = n.target;
+        lives = n.there;
+        may = inr (inr (
+          n.place.label,
+          n.marked,
+          keys_end now.graph c.paint.marks.marked n.place.label n.keys n.datum (length n.keys) n.node n.through (let z : ℕ = length n.keys in let e : z ≤ z = omega arith in e),
+          subst (λ (z : Option Node). IsTrue (has_label (data_of z) n.target.label)) (sym n.node) (datum_named n.target.label n.datum n.holds),
+        ));
+      }
+
+  -- what a domain has seen once it is done with what it had to mark
+  abbrev pub sees_on : (reason : Reason) (a : ℕ) → Warrants reason x a → ℕ → ℕ → Bool
+  sees_on (Register n) a w = c.shares.seen
+  sees_on Field a w = c.shares.seen
+  sees_on OfDatum a w = at_domain c.shares.seen x.own.number (λ b. b == w.0 || c.shares.seen x.own.number b)
+
+  pub sees_others : (reason : Reason) (a : ℕ) (w : Warrants reason x a) (z : ℕ) → z ≢ x.own.number → sees_on reason a w z ≡ c.shares.seen z
+  sees_others (Register n) a w z other = refl
+  sees_others Field a w z other = refl
+  sees_others OfDatum a w z other = at_other c.shares.seen x.own.number (λ b. b == w.0 || c.shares.seen x.own.number b) z other
+
+  pub sees_own : (reason : Reason) (a : ℕ) (w : Warrants reason x a) → c.shares.seen x.own.number ≡ seen_by x.seen.share.places_seen → sees_on reason a w x.own.number ≡ seen_by (seen_on reason x.seen.share.scan x.seen.share.places_seen)
+  sees_own (Register n) a w seen = seen
+  sees_own Field a w seen = seen
+  sees_own OfDatum a w seen = at_same c.shares.seen x.own.number (λ b. b == w.0 || c.shares.seen x.own.number b)
+      ∙ (ap (λ (f : ℕ → Bool). λ (b : ℕ). b == w.0 || f b) seen ∙ ap (λ (z : Scan). seen_by (seen_through z x.seen.share.places_seen)) (sym w.2))
+
+  -- the ephemeron whose keys a domain looks at lies in its own pools
+  pub own_ephemeron : (a : ℕ) → ephemeron_of x.seen.share.scan ≡ Some a → (cycle_of k live r.account.tenancy.holder c).layout.owner a ≡ Some x.own.number
+  own_ephemeron a is =
+      let g = my_good k s r id hist x at in
+      let o = g.listed.own a (g.sharing.looks.at_own a is) in
+      ap (λ (b : ℕ). (cycle_of k live r.account.tenancy.holder c).layout.owner b) o.begins ∙ owner_of_place r.account.tenancy.holder o.pool x.own.number o.class o.slot (r.whole.pools.owned_by o.pool x.own.number o.class o.owned_is).2 o.owned_is o.inside
+
+  -- and once its datum is marked the domain has seen it
+  pub datum_facts : (a : ℕ) → Warrants OfDatum x a → (p : Place) → live a ≡ Some p → (c1 : Cycling) (words' : List ℕ) → IsTrue (c1.paint.marks.marked p.label) → Facts Rounds k now live r.account.tenancy c1 words'
+      → (block : ℕ) → x.seen.share.scan ≡ Datum block a → Facts Rounds k now live r.account.tenancy (record c1 { shares = record c1.shares { seen = at_domain c1.shares.seen x.own.number (λ b. b == block || c1.shares.seen x.own.number b) } }) words'
+  datum_facts a w p lives c1 words' marked f block is =
+      let n : DatumAt live now.graph c.paint.marks block a = subst (Scans live now.graph c.paint.marks) is (known k s r id hist x at).scan in
+      let same : p ≡ n.target = ap (λ (z : Option Place). unwrap_or z p) (sym lives ∙ n.there) in
+      let target : IsTrue (c1.paint.marks.marked n.target.label) = subst (λ (z : Place). IsTrue (c1.paint.marks.marked z.label)) same marked in
+      let follows : DataMarked now.graph c1.paint.marks.marked n.place.label = subst (λ (z : Option Node). HoldsRoots (data_of z) c1.paint.marks.marked) (sym n.node) (datum_holds c1.paint.marks.marked n.target.label n.datum n.holds target) in (
+        darkening_steps.rounds_looks c1.pass k.domains now (cycle_of k live r.account.tenancy.holder c1) f.0 x.own.number block (own_ephemeron block (ap ephemeron_of is))
+            (λ l there _ _. let u = labelled k live block l there in let here : n.place ≡ u.place = ap (λ (z : Option Place). unwrap_or z n.place) (sym n.lives ∙ u.lives) in subst (DataMarked now.graph c1.paint.marks.marked) (ap (λ (z : Place). z.label) here ∙ u.label) follows),
+        f.1,
+      )
 
   -- once the block is marked the domain goes on
-  module _ (collecting : IsCollecting x.seen.stage) (a : ℕ) (p : Place) (lives : live a ≡ Some p) (m' : Marks) (words' : List ℕ) (marked : IsTrue (m'.marked p.label))
+  module _ (collecting : IsCollecting x.seen.stage) (a : ℕ) (p : Place) (lives : live a ≡ Some p) (m' : Marks) (words' : List ℕ) (marked : IsTrue (m'.marked p.label)) (still : c.kind ≡ Clean → m' ≡ c.paint.marks)
       (n : Knowing k live r.account.tenancy.holder now.graph m' words' x.own.number x.own.registers x.seen.share) where
     same_place : (q : Place) → live a ≡ Some q → p ≡ q
     same_place q e = ap (λ (z : Option Place). unwrap_or z p) (sym lives ∙ e)
@@ -108,6 +173,26 @@ module _ (k : Config) (s : Words) (r : Rule k s) (id : ℕ) (hist : List Entry) 
     scan_moved : (reason : Reason) → Warrants reason x a → Scans live now.graph m' (scan_on reason x.seen.share.scan)
     scan_moved (Register i) w = n.scan
     scan_moved Field w = field_on x.seen.share.scan w.0 w.1 w.2 w.3 w.4 n.scan
+    scan_moved OfDatum w = tt
+
+    -- no step of a scan comes to an ephemeron's keys
+    next_at_own : (scan : Scan) (b : ℕ) → ephemeron_of (next_scan scan) ≡ Some b → ephemeron_of scan ≡ Some b
+    next_at_own Idle b e = e
+    next_at_own (Reads block done size head) b e = e
+    next_at_own (Holds block done size head address) b e = e
+    next_at_own (Keys block done count) b e = e
+    next_at_own (Key block done count address) b e = e
+    next_at_own (Datum block address) b e = e
+
+    at_own_moved : (reason : Reason) (b : ℕ) → ephemeron_of (scan_on reason x.seen.share.scan) ≡ Some b → IsTrue (seen_by x.own.ephemerons.items b)
+    at_own_moved (Register i) b e = (my_good k s r id hist x at).sharing.looks.at_own b e
+    at_own_moved Field b e = (my_good k s r id hist x at).sharing.looks.at_own b (next_at_own x.seen.share.scan b e)
+    at_own_moved OfDatum b e = absurd (none-some b e)
+
+    walked_moved : (reason : Reason) → Warrants reason x a → (q e slot : ℕ) → r.account.tenancy.holder q ≡ owned x.own.number e → slot < blocks_of e → IsBefore q slot x.seen.share.walk → IsTrue (seen_by (seen_on reason x.seen.share.scan x.seen.share.places_seen) (place_in q e slot))
+    walked_moved (Register i) w q e slot is inside low = n.walked q e slot is inside low
+    walked_moved Field w q e slot is inside low = n.walked q e slot is inside low
+    walked_moved OfDatum w q e slot is inside low = subst (λ (z : Scan). IsTrue (seen_by (seen_through z x.seen.share.places_seen) (place_in q e slot))) (sym w.2) (or_right (place_in q e slot == w.0) (seen_by x.seen.share.places_seen (place_in q e slot)) (n.walked q e slot is inside low))
 
     rooted_moved : (reason : Reason) → Warrants reason x a → (i b : ℕ) (q : Place) → IsTrue (list_any (λ z. z == i) (roots_on reason x.seen.share.roots)) → value_at x.own.registers i ≡ Ref b → live b ≡ Some q → IsTrue (m'.marked q.label)
     rooted_moved (Register j) w i b q is e there = go (j == i) refl is
@@ -119,6 +204,7 @@ module _ (k : Config) (s : Words) (r : Rule k s) (id : ℕ) (hist : List Entry) 
             subst (λ (z : Place). IsTrue (m'.marked z.label)) (same_place q (ap live address ∙ there)) marked
         go false eq is = n.rooted i b q is e there
     rooted_moved Field w i b q is e there = n.rooted i b q is e there
+    rooted_moved OfDatum w i b q is e there = n.rooted i b q is e there
 
     marked_moved : (b : ℕ) → IsTrue (seen_by (a ∷ x.seen.share.marked) b) → IsMarkedAt live m'.marked b
     marked_moved b is = go (b == a) refl is
@@ -131,8 +217,9 @@ module _ (k : Config) (s : Words) (r : Rule k s) (id : ℕ) (hist : List Entry) 
     moved_knows reason w owes = record {
       found_head = λ g q e there. cc;
       scan = scan_moved reason w;
-      walked = n.walked;
+      walked = walked_moved reason w;
       own_pool = n.own_pool;
       rooted = rooted_moved reason w;
       marked = marked_moved;
+      looking = looks_still k s r id hist x at collecting m' (record (held (moved_on reason a x.seen.share)) { owes = owes }) still refl (at_own_moved reason);
     }

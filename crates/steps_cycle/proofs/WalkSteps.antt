@@ -40,7 +40,7 @@ use Rattle.steps_cycle.specs.Looks.{with_share}
 use Rattle.steps_cycle.specs.Marking.{GreyMay, GreyTold, IsGrey, IsScanned, IsUnmarked, IsNext, MarkMay, MarkTold, OwnMay, OwnTold, begun, behind, fields_in}
 use Rattle.steps_cycle.proofs.Colouring.{BareHead, bare_head, marked_colour, unmarked_colour}
 use Rattle.steps_cycle.proofs.Layouts.{labelled, owner_of_place, whose}
-use Rattle.steps_cycle.proofs.Learning.{at_other, at_same, bare, held, kind_here, knows_more, known, not_promoting, shifts_more}
+use Rattle.steps_cycle.proofs.Learning.{at_other, at_same, bare, held, kind_here, knows_more, known, looks_same, looks_still, not_promoting, shifts_more}
 use Rattle.std.proofs.lemmas.Option.{none-some, same_Some}
 use Rattle.heap_rule.proofs.Stages.{waits_in}
 
@@ -120,6 +120,7 @@ module _ (k : Config) (s : Words) (r : Rule k s) (id : ℕ) (hist : List Entry) 
         own_pool = kn.own_pool;
         rooted = kn.rooted;
         marked = kn.marked;
+        looking = looks_same k s r id hist x at may.collects (held passed) refl refl;
       },
       record { told = inr (differs, refl) },
     )
@@ -134,6 +135,7 @@ module _ (k : Config) (s : Words) (r : Rule k s) (id : ℕ) (hist : List Entry) 
         own_pool = λ u e. subst (λ (z : OwnPool). holder z.pool ≡ owned d z.class) (same_Some (record { pool = pool; class = class }) u e) is;
         rooted = kn.rooted;
         marked = kn.marked;
+        looking = looks_same k s r id hist x at may.collects (held share') refl refl;
       },
       record { told = inl (class, (r.whole.pools.owned_by pool d class is).2, is_owner ∙ ap owner_word is, refl) },
     )
@@ -191,6 +193,7 @@ module _ (k : Config) (s : Words) (r : Rule k s) (id : ℕ) (hist : List Entry) 
       own_pool = kn.own_pool;
       rooted = kn.rooted;
       marked = kn.marked;
+      looking = looks_still k s r id hist x at collecting m (held (begun a p.shape head sh)) (λ _. refl) refl (λ b e. absurd (none-some b e));
     }
 
   -- the next place of the walk, in an own pool
@@ -253,7 +256,7 @@ module _ (k : Config) (s : Words) (r : Rule k s) (id : ℕ) (hist : List Entry) 
         (λ z other. (refl, next_other a pool class slot may.place z other))
         (t.owes waits)
         (next_is a pool class slot may.place waits)
-        record { found_head = kn.found_head; scan = kn.scan; walked = next_walked a pool class slot may.place; own_pool = kn.own_pool; rooted = kn.rooted; marked = kn.marked }
+        record { found_head = kn.found_head; scan = kn.scan; walked = next_walked a pool class slot may.place; own_pool = kn.own_pool; rooted = kn.rooted; marked = kn.marked; looking = looks_same k s r id hist x at collecting (held saw) refl refl }
         refl
 
     abbrev Looked : DomainView → Type 0
@@ -308,7 +311,7 @@ module _ (k : Config) (s : Words) (r : Rule k s) (id : ℕ) (hist : List Entry) 
         let collecting : IsCollecting x.seen.stage = subst IsCollecting (sym may.stage) (λ none. none) in ⊎_elim
         (λ h. (
           x,
-          knows_more k s r id hist x at collecting (held sh) refl refl record { found_head = kn.found_head; scan = kn.scan; walked = kn.walked; own_pool = kn.own_pool; rooted = kn.rooted; marked = kn.marked },
+          knows_more k s r id hist x at collecting (held sh) refl refl record { found_head = kn.found_head; scan = kn.scan; walked = kn.walked; own_pool = kn.own_pool; rooted = kn.rooted; marked = kn.marked; looking = looks_same k s r id hist x at collecting (held sh) refl refl },
           record { colours = may.colours; known = may.known; told = inl (h.0, refl) },
         ))
         (λ h. (

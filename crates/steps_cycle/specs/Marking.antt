@@ -12,7 +12,7 @@ use Rattle.heap_rule.specs.declared.phase.Kind.TheVariants.{Roots, Mark, Rounds,
 use Rattle.heap_rule.specs.declared.phase.Stage.TheVariants.{In}
 use Rattle.heap_rule.specs.declared.view.DomainView.{DomainView}
 use Rattle.heap_rule.specs.declared.view.Scan.{Scan}
-use Rattle.heap_rule.specs.declared.view.Scan.TheVariants.{Idle, Reads, Holds}
+use Rattle.heap_rule.specs.declared.view.Scan.TheVariants.{Idle, Reads, Holds, Keys, Key, Datum}
 use Rattle.heap_rule.specs.declared.view.Share.{Share}
 use Rattle.heap_rule.specs.declared.view.Spot.{Spot}
 use Rattle.heap_rule.specs.Cycles.{IsCollecting, seen_by}
@@ -22,10 +22,11 @@ use Rattle.heap_rule.specs.Standing.{IsAt}
 use Rattle.heap_rule.specs.Token.{IsAddress}
 use Rattle.steps_cycle.specs.Looks.{with_share}
 
--- in phases of these kinds blocks are darkened so far
+-- in phases of these kinds blocks are darkened
 abbrev pub IsDarkening : Kind → Type 0
 IsDarkening Roots = Unit {0}
 IsDarkening Mark = Unit {0}
+IsDarkening Rounds = Unit {0}
 IsDarkening Queued = Unit {0}
 IsDarkening _ = ⊥
 
@@ -56,19 +57,22 @@ pub record IsGrey (colours : Colours) (word : ℕ) : Type 0 where
   pub built : IsBuilt block.shape
   pub unscanned : block.head.scanned ≡ false
 
--- why a block is marked: a register refers to it, or the next field of the block that is scanned
+-- why a block is marked: a register refers to it, or the next field of the block that is scanned, or the datum of a marked ephemeron whose full keys are marked
 pub data Reason : Type 0 where
   Register : ℕ → Reason
   Field : Reason
+  OfDatum : Reason
 
 abbrev pub Warrants : Reason → DomainView → ℕ → Type 0
 Warrants (Register r) x at = IsAt x r at
 Warrants Field x at = (block : ℕ) × (done : ℕ) × (size : ℕ) × (head : ℕ) × (x.seen.share.scan ≡ Holds block done size head at)
+Warrants OfDatum x at = (block : ℕ) × (x.seen.stage ≡ In Rounds) × (x.seen.share.scan ≡ Datum block at)
 
--- once the block is marked the domain is done with the register, or with the field
+-- once the block is marked the domain is done with the register, or with the field, or with the ephemeron
 abbrev pub roots_on : Reason → List ℕ → List ℕ
 roots_on (Register r) roots = r ∷ roots
 roots_on Field roots = roots
+roots_on OfDatum roots = roots
 
 abbrev pub next_scan : Scan → Scan
 next_scan (Holds block done size head address) = Reads block (done + 1) size head
@@ -77,9 +81,22 @@ next_scan other = other
 abbrev pub scan_on : Reason → Scan → Scan
 scan_on (Register r) scan = scan
 scan_on Field scan = next_scan scan
+scan_on OfDatum scan = Idle
+
+-- the ephemeron whose keys a domain looks at is seen
+abbrev pub seen_through : Scan → List ℕ → List ℕ
+seen_through (Keys block done count) places_seen = block ∷ places_seen
+seen_through (Key block done count address) places_seen = block ∷ places_seen
+seen_through (Datum block address) places_seen = block ∷ places_seen
+seen_through other places_seen = places_seen
+
+abbrev pub seen_on : Reason → Scan → List ℕ → List ℕ
+seen_on (Register r) scan places_seen = places_seen
+seen_on Field scan places_seen = places_seen
+seen_on OfDatum scan places_seen = seen_through scan places_seen
 
 abbrev pub moved_on : Reason → ℕ → Share → Share
-moved_on reason at share = record share { found_head = None; scan = scan_on reason share.scan; roots = roots_on reason share.roots; marked = at ∷ share.marked }
+moved_on reason at share = record share { found_head = None; scan = scan_on reason share.scan; places_seen = seen_on reason share.scan share.places_seen; roots = roots_on reason share.roots; marked = at ∷ share.marked }
 
 -- a domain that does its share of a collection loads the head of a block that there is a reason to mark
 pub record TargetMay (x : DomainView) (at : ℕ) (reason : Reason) : Type 0 where
@@ -107,9 +124,10 @@ pub record DarkenMay (x : DomainView) (at old new : ℕ) (reason : Reason) : Typ
   pub marks : HeadIs None unmarked.shape colours.marked false new
   pub reason_is : Warrants reason x at
 
--- whoever darkens a block in Mark owes a store of the changed word
+-- whoever darkens a block in Mark or in Rounds owes a store of the changed word
 abbrev pub owes_on : Kind → Bool → Bool
 owes_on Mark owes = true
+owes_on Rounds owes = true
 owes_on _ owes = owes
 
 -- where the head was the one that was found the block is darkened, and else somebody else has darkened it
