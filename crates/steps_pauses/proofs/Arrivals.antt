@@ -20,7 +20,7 @@ use Rattle.heap_rule.specs.Limits.{sizes_in}
 use Rattle.heap_rule.specs.Places.{Place, Live, Settled}
 use Rattle.heap_rule.specs.Copies.{nothing_copied, Promoting, Cleared as Clears, AllCleared, Emptied, Rooted, IsEmptying, Resetting}
 use Rattle.heap_rule.specs.Phases.{code, Follows, sum_of, IsEven, IsOdd, Pause, Phases, LeftOdd, AtStage, Staged, Unwished}
-use Rattle.heap_rule.specs.Pools.{Stock, Tenancy, nobody, drawn, drawn_in, place_in, limit_of, Reserved, Covered, Drawers, Hunts, no_stock}
+use Rattle.heap_rule.specs.Pools.{OwnPlace, Stock, Tenancy, nobody, drawn, drawn_in, place_in, limit_of, Reserved, Covered, Drawers, Hunts, no_stock}
 use Rattle.heap_rule.specs.Room.{spent_stock, drawn_in_all, Room, IsUnused, Drawable}
 use Rattle.heap_rule.specs.Rule.{Good, Rule}
 use Rattle.heap_rule.specs.Views.{one, Tells}
@@ -28,14 +28,14 @@ use Rattle.heap_rule.proofs.Update.{over, over_here, over_else}
 use Rattle.heap_rule.proofs.Lists.{no_item}
 use Rattle.heap_rule.proofs.Controls.{Untouched, counts_untouched, low_untouched, reserved_untouched, covered_untouched, pools_untouched, hunter_untouched, sum_one, all_up, parity, Move, moved_to, turns}
 use Rattle.heap_rule.proofs.Drops.{drops, dropped}
-use Rattle.heap_rule.proofs.Keeps.{Words, mine, my_good, now, no_cycle_here, quiet_in, owes_rests, room_unused}
+use Rattle.heap_rule.proofs.Keeps.{Words, mine, my_good, now, no_cycle_here, whole_here, quiet_in, owes_rests, room_unused}
 use Rattle.heap_rule.proofs.PauseFacts.{not_both}
 use Rattle.heap_rule.proofs.Sharings.{SameCycle}
 use Rattle.heap_rule.specs.Cycles.{Cycling, Told, HasNoCycle, owner_at}
 use Rattle.heap_rule.specs.Layout.{at_address}
 use Rattle.heap_rule.specs.Views.{voided}
 use Rattle.heap_rule.proofs.Controls.{cycle_untouched, heap_untouched}
-use Rattle.steps_pauses.proofs.Arriving.{arrived_cycle, told_arrived, told_turned, cycle_gone, cycle_dropped, sharing_gone, sharing_else, sharing_between}
+use Rattle.steps_pauses.proofs.Arriving.{arrived_cycle, told_arrived, told_turned, cycle_gone, cycle_dropped, whole_gone, own_whole, sharing_gone, sharing_else, sharing_between}
 use Rattle.steps_pauses.specs.Pauses.{kind_in, ArrivesFrom, ArriveMay, forgotten, arrived_view, Arrived}
 use Rattle.steps_pauses.proofs.Finishing.{facts_gone}
 use Rattle.std.proofs.lemmas.Option.{none-some}
@@ -190,6 +190,9 @@ module _ (k : Config) (s : Words) (r : Rule k s) (id : ℕ) (hist : List Entry) 
   good : Good k r.account s.words x
   good = my_good k s r id hist x at
 
+  my_whole : (a : ℕ) (q : Place) → OwnPlace tenancy.holder a number → live a ≡ Some q → r.account.cycling.paint.emptied q.label ≡ []
+  my_whole = own_whole k r.account s.words x may.done.cleaned good
+
   inside : number < k.domains
   inside = (mine k s r id hist x at).inside
 
@@ -308,8 +311,8 @@ module _ (k : Config) (s : Words) (r : Rule k s) (id : ℕ) (hist : List Entry) 
     full = r.whole.full;
     paint = refl;
     cycle = cycle_gone x.seen.stage tenancy.holder k (now k s r id hist x at) live pause pause' tenancy (counting claims') r.account.cycling s.words words' number same_cycle same_heap
-        (facts_gone k s r id hist x at may.done x.seen.stage refl may.from) p.told r.whole.cycle;
-    sharing = sharing_gone k r.account s.words words' x pause' live (record tenancy { stock = counting claims' }) y.seen.stage inside may.from good.staged.stage r.whole.cycle.told good;
+        (facts_gone k s r id hist x at may.done x.seen.stage refl may.from) p.told (whole_gone x.seen.stage tenancy.holder live r.account.cycling number my_whole r.whole.cycle.whole) r.whole.cycle;
+    sharing = sharing_gone k r.account s.words words' x pause' live (record tenancy { stock = counting claims' }) y.seen.stage inside may.from good.staged.stage r.whole.cycle.told my_whole good;
     sharings = λ z _ other g. sharing_else k r.account s.words words' x.seen.stage number z pause' (counting claims') other same_cycle same_heap g;
     untouched = untouched;
     front = (mine k s r id hist x at).front;
@@ -491,12 +494,12 @@ module _ (k : Config) (s : Words) (r : Rule k s) (id : ℕ) (hist : List Entry) 
 
     -- the domains leave Promote: the blocks of the minor areas are dropped
     promoted : Promoting pause → Rule k record { words = words'; homes = s.homes; views = set s.views id (one k hist y) }
-    promoted p = let in_promote : HasNoCycle r.account.cycling.kind = no_cycle_here k s r id hist x at Promote tt (promotes p) in drops k s r id hist x at move next cycling' words' refl record {
+    promoted p = let in_promote : HasNoCycle r.account.cycling.kind = no_cycle_here k s r id hist x at Promote tt (promotes p) in let whole = whole_here k s r id hist x at Promote tt (promotes p) in drops k s r id hist x at move next cycling' words' refl record {
       paint = refl;
       kind = refl;
       cycle = cycle_dropped x.seen.stage tenancy.holder k (now k s r id hist x at) live (dropped k live) pause next tenancy (record tenancy { stock = no_stock }) r.account.cycling s.words words' number in_promote (λ a. refl) same_cycle next_told r.whole.cycle;
-      sharing = sharing_gone k r.account s.words words' x next (dropped k live) (record tenancy { stock = no_stock }) y.seen.stage inside may.from good.staged.stage r.whole.cycle.told good;
-      sharings = λ z _ other g. sharing_between k r.account s.words words' x z Promote next (dropped k live) (record tenancy { stock = no_stock }) tt (promotes p) in_promote other same_cycle good g;
+      sharing = sharing_gone k r.account s.words words' x next (dropped k live) (record tenancy { stock = no_stock }) y.seen.stage inside may.from good.staged.stage r.whole.cycle.told (λ a q own lives. whole q.label) good;
+      sharings = λ z _ other g. sharing_between k r.account s.words words' x z Promote next (dropped k live) (record tenancy { stock = no_stock }) tt (promotes p) in_promote whole other same_cycle good g;
       untouched = untouched;
       front = (mine k s r id hist x at).front;
       phases = next_phases;

@@ -1,5 +1,5 @@
 -- A collection of the major heap where a domain arrives.
-use Rattle.std.proofs.Common.{◌≡◌, ◌≢◌, ℕ, ◌+◌, ◌*◌, ◌<◌, ◌⊎◌, Bool, true, false, true≢false, List, sym, refl, ap, ◌∙◌, subst, inl, inr, ⊎_elim, arith, ◌==◌, Option, Some, None}
+use Rattle.std.proofs.Common.{◌≡◌, ◌≢◌, ℕ, ◌+◌, ◌*◌, ◌<◌, ◌⊎◌, Bool, true, false, true≢false, List, [], sym, refl, ap, ◌∙◌, subst, inl, inr, ⊎_elim, arith, ◌==◌, Option, Some, None}
 use mathlib.Core.Logic.{dite}
 use native.Mathlib.Decide.{ℕ_discrete}
 use Rattle.heap_model.specs.declared.state.State as model
@@ -13,11 +13,15 @@ use Rattle.heap_rule.specs.declared.phase.Stage.{Stage}
 use Rattle.heap_rule.specs.declared.phase.Stage.TheVariants.{In, Leads, Led, Gone}
 use Rattle.heap_rule.specs.declared.view.DomainView.{DomainView}
 use Rattle.heap_rule.specs.declared.view.Share.{Share}
-use Rattle.heap_rule.specs.Cycles.{Cycling, Cycled, Facts, ArrivedAs, Told, Telling, Leading, IsCollecting, IsIdle, Adds, HasNoCycle, Knowing, owner_at}
+use Rattle.heap_rule.specs.declared.view.Cleaning.{Cleaning}
+use Rattle.heap_rule.specs.Ephemerons.{emptied_at}
+use Rattle.heap_rule.proofs.EphemeronLemmas.{looks_idle, none_misses}
+use Rattle.heap_model.specs.declared.label.Label.{Label}
+use Rattle.heap_rule.specs.Cycles.{AllWhole, MissesKeys, Cycling, Cycled, Facts, ArrivedAs, Told, Telling, Leading, IsCollecting, IsIdle, Adds, HasNoCycle, Knowing, owner_at}
 use Rattle.heap_rule.specs.Layout.{at_address}
 use Rattle.heap_rule.specs.Phases.{Pause, AtStage, flag}
-use Rattle.heap_rule.specs.Places.{Live}
-use Rattle.heap_rule.specs.Pools.{Stock, Tenancy, Holder}
+use Rattle.heap_rule.specs.Places.{Place, Live}
+use Rattle.heap_rule.specs.Pools.{OwnPlace, Stock, Tenancy, Holder, owned}
 use Rattle.heap_rule.specs.Rule.{Account, Good, Sharing, state_of}
 use Rattle.heap_rule.specs.Views.{voided}
 use Rattle.heap_rule.proofs.Sharings.{SameCycle, facts_between, between_facts, facts_words, leading_words, idle_beside, adds_nothing, cycle_between, knows_words}
@@ -32,7 +36,7 @@ abbrev pub is_owner : Option ℕ → ℕ → Bool
 is_owner None d = false
 is_owner (Some e) d = e == d
 
--- a domain has been at each own place where it had to look at ephemerons alone, of which there are none
+-- a domain that had to look at ephemerons alone has then been at each own place
 abbrev pub looks_at : Kind → (ℕ → Option ℕ) → (ℕ → ℕ → Bool) → ℕ → ℕ → ℕ → Bool
 looks_at Rounds owner seen d = at_domain seen d (λ a. is_owner (owner a) d)
 looks_at Clean owner seen d = at_domain seen d (λ a. is_owner (owner a) d)
@@ -177,8 +181,8 @@ facts_stock Answer k s live t stock c words f = record { mode = f.mode; swept = 
 
 -- all that the rule says of the collection holds where the facts do
 pub cycle_gone : (st : Stage) (holder : ℕ → Holder) (k : Config) (s : model.State) (live : Live) (p p' : Pause) (t : Tenancy) (stock : Stock) (c : Cycling) (words words' : List ℕ) (d : ℕ) → SameCycle words words' → ((a : ℕ) → at_address k words' a ≡ at_address k words a)
-    → Facts c.kind k s live t (arrived_cycle st holder c d) words → Told k p' c.kind (arrived_in st (owner_at holder) c.shares d) → Cycled k s live p t c words → Cycled k s live p' (record t { stock = stock }) (arrived_cycle st holder c d) words'
-cycle_gone st holder k s live p p' t stock c words words' d same heap facts told y = let c' : Cycling = arrived_cycle st holder c d in record {
+    → Facts c.kind k s live t (arrived_cycle st holder c d) words → Told k p' c.kind (arrived_in st (owner_at holder) c.shares d) → AllWhole live t.holder (arrived_cycle st holder c d) → Cycled k s live p t c words → Cycled k s live p' (record t { stock = stock }) (arrived_cycle st holder c d) words'
+cycle_gone st holder k s live p p' t stock c words words' d same heap facts told whole y = let c' : Cycling = arrived_cycle st holder c d in record {
   armed_is = same.armed_same ∙ y.armed_is;
   meanings = y.meanings;
   colours_are = same.colours_same ∙ y.colours_are;
@@ -186,7 +190,37 @@ cycle_gone st holder k s live p p' t stock c words words' d same heap facts told
   facts = facts_words c.kind k s live (record t { stock = stock }) c' words words' same (facts_stock c.kind k s live t stock c' words facts);
   told = told;
   leaves = record { none = y.leaves.none; dead = y.leaves.dead; head = λ a is. let h = y.leaves.head a is in (h.0, h.1, heap a ∙ h.2) };
+  whole = whole;
 }
+
+-- no block misses keys for good: whoever has arrived has emptied what it looked at
+pub whole_gone : (st : Stage) (holder : ℕ → Holder) (live : Live) (c : Cycling) (d : ℕ) → ((a : ℕ) (p : Place) → OwnPlace holder a d → live a ≡ Some p → c.paint.emptied p.label ≡ []) → AllWhole live holder c → AllWhole live holder (arrived_cycle st holder c d)
+whole_gone (In kind) holder live c d none whole l = ⊎_elim (λ (h : c.paint.emptied l ≡ []). inl h)
+    (λ (m : MissesKeys live holder c l). dite (ℕ_discrete m.domain d)
+    (λ same. inl (sym (ap c.paint.emptied m.label) ∙ none m.address m.place (subst (OwnPlace holder m.address) same m.own) m.lives))
+    (λ other. inr (record { clean = m.clean; domain = m.domain; waits = at_other c.shares.arrived d true m.domain other ∙ m.waits; address = m.address; own = m.own; place = m.place; lives = m.lives; label = m.label })))
+    (whole l)
+whole_gone (Leads kind) holder live c d none whole l = whole l
+whole_gone (Led kind) holder live c d none whole l = whole l
+whole_gone (Gone kind) holder live c d none whole l = whole l
+
+-- where all have arrived no block misses keys
+pub whole_all : (live : Live) (holder : ℕ → Holder) (c : Cycling) → ((q d class : ℕ) → holder q ≡ owned d class → c.shares.arrived d ≡ true) → AllWhole live holder c → (l : Label) → c.paint.emptied l ≡ []
+whole_all live holder c gone whole l = ⊎_elim (λ (h : c.paint.emptied l ≡ []). h)
+    (λ (m : MissesKeys live holder c l). absurd (clash (c.shares.arrived m.domain) (gone m.own.pool m.domain m.own.class m.own.owned_is) m.waits))
+    (whole l)
+
+-- who arrives empties the keys of no ephemeron, so that no block of its pools misses keys
+module _ (k : Config) (all : Account) (words : List ℕ) (x : DomainView) (cleaned : x.seen.stage ≡ In Clean → x.seen.share.cleaning ≡ None) (g : Good k all words x) where
+  none_cleaned : x.seen.share.cleaning ≡ None
+  none_cleaned = go x.seen.share.cleaning refl
+    where
+      go : (o : Option Cleaning) → x.seen.share.cleaning ≡ o → x.seen.share.cleaning ≡ None
+      go None e = e
+      go (Some w) e = cleaned (g.sharing.looks.cleans w e).stage_is
+
+  pub own_whole : (a : ℕ) (p : Place) → OwnPlace all.tenancy.holder a x.own.number → all.live a ≡ Some p → all.cycling.paint.emptied p.label ≡ []
+  own_whole a p own lives = g.sharing.looks.emptied_is a p own lives ∙ ap (λ (o : Option Cleaning). emptied_at o a) none_cleaned
 
 -- in an odd phase nobody is at a block
 idle_odd : (st : Stage) (share : Share) (Known : Type 0) → (IsCollecting st → ⊥) → IsIdle share ⊎ (IsCollecting st × Known) → IsIdle share
@@ -218,33 +252,36 @@ leading_fresh st stage holder c words words' d share from l = record {
 
 -- what the rule says of the share of the domain that has arrived
 pub sharing_gone : (k : Config) (all : Account) (words words' : List ℕ) (x : DomainView) (p' : Pause) (live' : Live) (t' : Tenancy) (stage : Stage) → x.own.number < k.domains → ArrivesFrom x.own.number x.seen.stage → AtStage all.pause x.own.number x.own.arrivals x.seen.stage
-    → Told k all.pause all.cycling.kind all.cycling.shares → Good k all words x
-    → Sharing k (record all { pause = p'; live = live'; tenancy = t'; cycling = arrived_cycle x.seen.stage all.tenancy.holder all.cycling x.own.number }) words' x.own.number x.own.registers stage (voided x.seen.share)
-sharing_gone k all words words' x p' live' t' stage below from at told g = let a = adds_gone x.seen.stage all.tenancy.holder all.live all.cycling x.own.number x.seen.share (Knowing k all.live all.tenancy.holder (state_of k all.log).graph all.cycling.paint.marks words x.own.number x.own.registers x.seen.share) g.sharing.knows g.sharing.adds in record {
+    → Told k all.pause all.cycling.kind all.cycling.shares → ((a : ℕ) (p : Place) → OwnPlace t'.holder a x.own.number → live' a ≡ Some p → all.cycling.paint.emptied p.label ≡ []) → Good k all words x
+    → Sharing k (record all { pause = p'; live = live'; tenancy = t'; cycling = arrived_cycle x.seen.stage all.tenancy.holder all.cycling x.own.number }) words' x.own.number x.own.registers x.own.ephemerons.items stage (voided x.seen.share)
+sharing_gone k all words words' x p' live' t' stage below from at told whole g = let a = adds_gone x.seen.stage all.tenancy.holder all.live all.cycling x.own.number x.seen.share (Knowing k all.live all.tenancy.holder (state_of k all.log).graph all.cycling.paint.marks words x.own.number x.own.registers x.seen.share) g.sharing.knows g.sharing.adds in record {
   telling = telling_gone k all.pause all.cycling.kind (owner_at all.tenancy.holder) all.cycling.paint.colours all.cycling.shares x.own.number x.own.arrivals told below x.seen.share x.seen.stage from at;
   leading = leading_fresh x.seen.stage stage all.tenancy.holder all.cycling words words' x.own.number x.seen.share from g.sharing.leading;
   knows = inl refl;
   adds = record { blocks = a.blocks; words = a.words; own = λ e f h. cc };
+  looks = record { at_own = λ b e. cc; pruned = λ i b low got. absurd (let h : i < 0 = low in omega arith); cleans = λ w e. cc; emptied_is = whole };
 }
 
 -- and of another's
 pub sharing_else : (k : Config) (all : Account) (words words' : List ℕ) (st : Stage) (d : ℕ) (z : DomainView) (p' : Pause) (stock : Stock) → z.own.number ≢ d → SameCycle words words' → ((a : ℕ) → at_address k words' a ≡ at_address k words a) → Good k all words z
-    → Sharing k (record all { pause = p'; tenancy = record all.tenancy { stock = stock }; cycling = arrived_cycle st all.tenancy.holder all.cycling d }) words' z.own.number z.own.registers z.seen.stage z.seen.share
+    → Sharing k (record all { pause = p'; tenancy = record all.tenancy { stock = stock }; cycling = arrived_cycle st all.tenancy.holder all.cycling d }) words' z.own.number z.own.registers z.own.ephemerons.items z.seen.stage z.seen.share
 sharing_else k all words words' st d z p' stock other same heap g = record {
   telling = telling_else st (owner_at all.tenancy.holder) all.cycling.paint.colours all.cycling.shares d z.own.number z.seen.share other g.sharing.telling;
   leading = leading_gone st all.tenancy.holder all.cycling words' d z.own.number z.seen.stage z.seen.share (leading_words all.cycling words words' z.own.number z.seen.stage z.seen.share same g.sharing.leading);
   knows = knows_words k all.live all.tenancy.holder (state_of k all.log).graph all.cycling.paint.marks words words' z.own.number z.own.registers z.seen.stage z.seen.share heap g.sharing.knows;
   adds = adds_else st all.tenancy.holder all.live all.cycling d z.own.number z.seen.share other g.sharing.adds;
+  looks = g.sharing.looks;
 }
 
 -- also where blocks cease to live, outside a collection
-pub sharing_between : (k : Config) (all : Account) (words words' : List ℕ) (x z : DomainView) (kind : Kind) (p' : Pause) (live' : Live) (t' : Tenancy) → HasNoCycle kind → x.seen.stage ≡ In kind → HasNoCycle all.cycling.kind → z.own.number ≢ x.own.number → SameCycle words words' → Good k all words x → Good k all words z
-    → Sharing k (record all { pause = p'; live = live'; tenancy = t'; cycling = arrived_cycle x.seen.stage all.tenancy.holder all.cycling x.own.number }) words' z.own.number z.own.registers z.seen.stage z.seen.share
-sharing_between k all words words' x z kind p' live' t' none is none' other same gx g = record {
+pub sharing_between : (k : Config) (all : Account) (words words' : List ℕ) (x z : DomainView) (kind : Kind) (p' : Pause) (live' : Live) (t' : Tenancy) → HasNoCycle kind → x.seen.stage ≡ In kind → HasNoCycle all.cycling.kind → ((l : Label) → all.cycling.paint.emptied l ≡ []) → z.own.number ≢ x.own.number → SameCycle words words' → Good k all words x → Good k all words z
+    → Sharing k (record all { pause = p'; live = live'; tenancy = t'; cycling = arrived_cycle x.seen.stage all.tenancy.holder all.cycling x.own.number }) words' z.own.number z.own.registers z.own.ephemerons.items z.seen.stage z.seen.share
+sharing_between k all words words' x z kind p' live' t' none is none' whole other same gx g = let idle = idle_beside k all.live all.tenancy.holder (state_of k all.log).graph all.cycling.paint.marks words all.pause x z kind none is gx.staged g.staged g.sharing.knows in record {
   telling = telling_else x.seen.stage (owner_at all.tenancy.holder) all.cycling.paint.colours all.cycling.shares x.own.number z.own.number z.seen.share other g.sharing.telling;
   leading = leading_gone x.seen.stage all.tenancy.holder all.cycling words' x.own.number z.own.number z.seen.stage z.seen.share (leading_words all.cycling words words' z.own.number z.seen.stage z.seen.share same g.sharing.leading);
-  knows = inl (idle_beside k all.live all.tenancy.holder (state_of k all.log).graph all.cycling.paint.marks words all.pause x z kind none is gx.staged g.staged g.sharing.knows);
+  knows = inl idle;
   adds = adds_nothing live' (arrived_cycle x.seen.stage all.tenancy.holder all.cycling x.own.number) z.own.number z.seen.share none';
+  looks = looks_idle live' t'.holder t'.garbage (state_of k all.log).graph all.cycling.paint.marks all.cycling.paint.emptied z.own.number z.own.ephemerons.items z.seen.stage z.seen.share idle whole;
 }
 
 -- and what it says of the collection
@@ -261,10 +298,11 @@ cycle_dropped st holder k s live live' p p' t t' c words words' d none garbage s
       facts = between_facts c.kind k s live' t' c' words' none record { mode = b.mode; unmarked = b.unmarked; unchanged = same_changed st (owner_at holder) c.shares d ∙ b.unchanged; unrotated = b.unrotated };
       told = told;
       leaves = record { none = z.leaves.none; dead = z.leaves.dead; head = z.leaves.head };
+      whole = λ l. inl (none_misses live' t'.holder c none z.whole l);
     }
 
 -- a look at the barrier leaves what a domain knows that has arrived
-pub sharing_looked : (k : Config) (all : Account) (words : List ℕ) (x : DomainView) (last : Kind) (stage : Stage) → x.seen.stage ≡ Gone last → Good k all words x → Sharing k all words x.own.number x.own.registers stage x.seen.share
+pub sharing_looked : (k : Config) (all : Account) (words : List ℕ) (x : DomainView) (last : Kind) (stage : Stage) → x.seen.stage ≡ Gone last → Good k all words x → Sharing k all words x.own.number x.own.registers x.own.ephemerons.items stage x.seen.share
 sharing_looked k all words x last stage gone g = let l = subst (λ (st : Stage). Leading all.cycling words x.own.number st x.seen.share) gone g.sharing.leading in record {
   telling = g.sharing.telling;
   leading = record {
@@ -277,6 +315,12 @@ sharing_looked k all words x last stage gone g = let l = subst (λ (st : Stage).
   };
   knows = inl (⊎_elim (λ (h : IsIdle x.seen.share). h) (λ (h : IsCollecting x.seen.stage × Knowing k all.live all.tenancy.holder (state_of k all.log).graph all.cycling.paint.marks words x.own.number x.own.registers x.seen.share). absurd (subst IsCollecting gone h.0)) g.sharing.knows);
   adds = g.sharing.adds;
+  looks = record {
+    at_own = g.sharing.looks.at_own;
+    pruned = g.sharing.looks.pruned;
+    cleans = λ w e. absurd (let h : Gone last ≡ In Clean = sym gone ∙ (g.sharing.looks.cleans w e).stage_is in cc);
+    emptied_is = g.sharing.looks.emptied_is;
+  };
 } where
   apart : (((x.own.number ≡ 0) × ⊥) ⊎ (Gone last ≡ In Answer)) → ⊥
   apart h = ⊎_elim (λ (a : (x.own.number ≡ 0) × ⊥). a.1) (λ (e : Gone last ≡ In Answer). let f : Gone last ≡ In Answer = e in cc) h

@@ -120,6 +120,7 @@ ends k slots id hist x acts s r _ at _ =
       rooted = run_rooted k r.account.pause x y acts.runs g.staged;
       set_back = λ back. absurd (run_leads Run (sym acts.runs ∙ back.0));
       sharing = sharing_here k s r id hist x at Run tt acts.runs all' ws y refl same refl refl refl;
+      listed = record { all = g.listed.all; own = g.listed.own; lives = g.listed.lives };
     }
     (λ z _ other h. record {
       stood = subst (λ (t : model.State). Stood r.account.live t z) (sym after) (stood_other r.account.live r.account.live now (next now e) z (keeps_next now e z.own.number (o.alone z.own.number other)) (more_same r.account.live) h.stood);
@@ -134,6 +135,7 @@ ends k slots id hist x acts s r _ at _ =
       rooted = h.rooted;
       set_back = λ back. low_untouched k s.words ws untouched (h.set_back back);
       sharing = sharings_here k s r id hist x at Run tt acts.runs all' ws refl same z h;
+      listed = h.listed;
     }) in (
       one k hist y,
       keeps,

@@ -1,6 +1,7 @@
 -- The facts of a phase hold when a domain that has done its share has arrived.
-use Rattle.std.proofs.Common.{◌≡◌, ℕ, ◌<◌, ◌≤◌, ◌==◌, Bool, true, false, IsTrue, List, [], length, get_or, filter_map, Option, Some, None, sym, refl, ap, ◌∙◌, subst, inl, inr, ⊎_elim, arith, eq-eqb, eqb-true}
+use Rattle.std.proofs.Common.{cond, ◌⊎◌, ◌*◌, ◌≡◌, ℕ, ◌<◌, ◌≤◌, ◌==◌, Bool, true, false, IsTrue, List, [], length, get_or, filter_map, Option, Some, None, sym, refl, ap, ◌∙◌, subst, inl, inr, ⊎_elim, arith, eq-eqb, eqb-true}
 use Rattle.std.specs.List.{list_any}
+use Rattle.std.specs.Prelude.{nat_le}
 use mathlib.Core.Option.{some}
 use lib.ListN.{get_elem?}
 use Rattle.heap_model.specs.declared.entry.Entry.{Entry}
@@ -8,7 +9,8 @@ use Rattle.heap_model.specs.declared.label.Label.{Label}
 use Rattle.heap_model.specs.declared.graph.Value.{Value}
 use Rattle.heap_model.specs.declared.graph.Value.TheVariants.{Block, Nothing}
 use Rattle.heap_model.specs.declared.graph.Node.{Node}
-use Rattle.heap_model.specs.declared.graph.Node.TheVariants.{Plain}
+use Rattle.heap_model.specs.declared.graph.Node.TheVariants.{Plain, Raw, Ephe}
+use Rattle.heap_model.specs.Fronts.{EpheShape, shape_of}
 use Rattle.heap_model.specs.declared.state.Pending.{Pending}
 use Rattle.heap_model.specs.declared.state.State as model
 use Rattle.heap_model.specs.Domains.{domain_at, pending_label, opening, IsShaped}
@@ -34,7 +36,7 @@ use Rattle.heap_rule.specs.declared.phase.Stage.TheVariants.{In, Leads, Led, Gon
 use Rattle.heap_rule.specs.declared.view.DomainView.{DomainView}
 use Rattle.heap_rule.specs.declared.view.Share.{Share}
 use Rattle.heap_rule.specs.Changes.{value_at}
-use Rattle.heap_rule.specs.Cycles.{Cycling, Facts, IsBetween, IsSwept, Knowing, IsCollecting, IsIdle, cycle_of, owner_at, seen_by, layout_of, swept_of, IsPlain, HoldsBlock}
+use Rattle.heap_rule.specs.Cycles.{Cycling, Facts, IsBetween, IsSwept, Knowing, IsCollecting, IsIdle, cycle_of, owner_at, seen_by, label_in, label_at, layout_of, swept_of, IsPlain, HoldsBlock}
 use Rattle.heap_rule.specs.Limits.{sizes_in}
 use Rattle.heap_rule.specs.Phases.{AtStage}
 use Rattle.heap_rule.specs.Places.{Place, Live, Stands}
@@ -45,23 +47,37 @@ use Rattle.heap_rule.proofs.Keeps.{Words, mine, my_good, now}
 use Rattle.steps_pauses.specs.Pauses.{ArrivesFrom, HasDone}
 use Rattle.steps_pauses.proofs.Arriving.{is_owner, arrived_cycle, kind_acts}
 use Rattle.heap_rule.proofs.OwnPlaces.{own_place}
-use Rattle.heap_rule.proofs.PlainHistories.{IsPlainNode, IsPlainState, plain_state, plain_opening}
+use Rattle.heap_rule.proofs.PlainHistories.{IsPlainState, plain_state, plain_opening}
 use Rattle.heap_model.specs.Entries.{full_keys}
 use Rattle.heap_model.specs.declared.state.Sizes.{Sizes}
-use Rattle.std.proofs.lemmas.Option.{slice_get_within, get_or_from_slice_get}
+use Rattle.std.proofs.lemmas.Option.{none-some, slice_get_within, get_or_from_slice_get}
 use Rattle.heap_rule.proofs.Stages.{waits_in}
 use Rattle.heap_rule.proofs.Lots.{none_before}
 
--- a plain block has no keys and no data
-plain_data : (o : Option Node) → ((n : Node) → o ≡ Some n → IsPlainNode n) → (marked : Label → Bool) → HoldsRoots (data_of o) marked
-plain_data None plain marked l is = cc
-plain_data (Some (Plain tag fields)) plain marked l is = cc
-plain_data (Some n) plain marked l is = absurd (plain n refl)
+-- a block that is no ephemeron has neither keys nor a datum
+record IsBare (o : Option Node) : Type 0 where
+  data_is : data_of o ≡ []
+  keys_are : full_keys o ≡ []
 
-plain_keys : (o : Option Node) → ((n : Node) → o ≡ Some n → IsPlainNode n) → (marked : Label → Bool) → HoldsRoots (full_keys o) marked
-plain_keys None plain marked l is = cc
-plain_keys (Some (Plain tag fields)) plain marked l is = cc
-plain_keys (Some n) plain marked l is = absurd (plain n refl)
+bare_or : (n : Node) → IsBare (Some n) ⊎ ((keys : ℕ) × (shape_of n ≡ EpheShape keys))
+bare_or (Plain tag fields) = inl (record { data_is = refl; keys_are = refl })
+bare_or (Raw tag fields) = inl (record { data_is = refl; keys_are = refl })
+bare_or (Ephe keys datum) = inr (length keys, refl)
+
+none_held : (ls : List Label) (marked : Label → Bool) → ls ≡ [] → HoldsRoots ls marked
+none_held ls marked none = subst (λ (z : List Label). HoldsRoots z marked) (sym none) (λ l is. cc)
+
+-- the block with a label at a place
+there : (k : Config) (live : Live) (a : ℕ) (l : Label) → label_at k live a ≡ Some l → (p : Place) × (live a ≡ Some p) × (p.label ≡ l)
+there k live a l is = go (nat_le a (k.pools * 4096)) is
+  where
+    inner : (o : Option Place) → live a ≡ o → label_in o ≡ Some l → (p : Place) × (live a ≡ Some p) × (p.label ≡ l)
+    inner None e f = absurd (none-some l f)
+    inner (Some p) e f = (p, e, (let g : Some p.label ≡ Some l = f in cc))
+
+    go : (b : Bool) → cond b (label_in (live a)) None ≡ Some l → (p : Place) × (live a ≡ Some p) × (p.label ≡ l)
+    go true f = inner (live a) refl f
+    go false f = absurd (none-some l f)
 
 -- an owner that is the domain
 owner_is : (o : Option ℕ) (d : ℕ) → IsTrue (is_owner o d) → o ≡ Some d
@@ -185,14 +201,40 @@ module _ (k : Config) (s : Words) (r : Rule k s) (id : ℕ) (hist : List Entry) 
           (at_cases c.shares.seen d (λ b. is_owner (owner b) d) e);
     }
 
+    -- it has looked at each ephemeron of its pools, and any other block has no keys and no datum
+    looked_at : (x.seen.stage ≡ In Rounds) ⊎ (x.seen.stage ≡ In Clean) → (a : ℕ) (l : Label) → owner a ≡ Some d → label_at k r.account.live a ≡ Some l → IsTrue (c.shares.seen d a) ⊎ IsBare (node_at state.graph l)
+    looked_at here a l is labelled =
+        let o = own_place t.holder (λ q e class h. (r.whole.pools.owned_by q e class h).2) d a is in
+        let b = there k r.account.live a l labelled in
+        let found = r.whole.found a b.0 b.1 in
+        ⊎_elim
+        (λ (bare : IsBare (Some found.node)). inr (subst IsBare (sym found.there ∙ ap (node_at state.graph) b.2) bare))
+        (λ (e : (keys : ℕ) × (shape_of found.node ≡ EpheShape keys)).
+        let begins : (z : ℕ) → IsTrue (seen_by x.own.ephemerons.items z) → IsTrue (seen_by x.seen.share.places_seen z) = done.looked here in
+        let at_place : r.account.live (place_in o.pool o.class o.slot) ≡ Some b.0 = ap r.account.live (sym o.begins) ∙ b.1 in
+        let in_list : IsTrue (seen_by x.own.ephemerons.items (place_in o.pool o.class o.slot)) = good.listed.all o.pool o.class o.slot o.owned_is o.inside (record { place = b.0; lives = at_place; keys = e.0; shape = sym found.shape ∙ e.1 }) in
+        let seen : IsTrue (seen_by x.seen.share.places_seen a) = subst (λ (z : ℕ). IsTrue (seen_by x.seen.share.places_seen z)) (sym o.begins) (begins (place_in o.pool o.class o.slot) in_list) in
+        inl (subst (λ (f : ℕ → Bool). IsTrue (f a)) (sym (good.sharing.telling.seen waits)) seen))
+        (bare_or found.node)
+
+    -- what a look at own ephemerons tells of each own block
+    told_own : (P : Label → Type 0) → ((l : Label) → IsBare (node_at state.graph l) → P l) → (e a : ℕ) (l : Label) → (x.seen.stage ≡ In Rounds) ⊎ (x.seen.stage ≡ In Clean) → IsTrue (all_own.seen e a) → label_at k r.account.live a ≡ Some l
+        → (IsTrue (c.shares.seen e a) → P l) → P l
+    told_own P bare e a l here is labelled old = ⊎_elim
+        (λ z.
+        let own : owner a ≡ Some d = owner_is (owner a) d (subst (λ (f : ℕ → Bool). IsTrue (f a)) z.1 is) in
+        ⊎_elim (λ (h : IsTrue (c.shares.seen d a)). old (subst (λ (n : ℕ). IsTrue (c.shares.seen n a)) (sym z.0) h)) (λ (h : IsBare (node_at state.graph l)). bare l h) (looked_at here a l own labelled))
+        (λ z. old (subst (λ (f : ℕ → Bool). IsTrue (f a)) z.1 is))
+        (at_cases c.shares.seen d (λ b. is_owner (owner b) d) e)
+
     abbrev cyc : laws.Cycle
     cyc = cycle_of k r.account.live t.holder c
 
     abbrev seeing : laws.Cycle
     seeing = laws.with_shares cyc all_own
 
-    sees_rounds : laws.InPhase (laws.Rounds c.pass) k.domains state cyc → laws.InPhase (laws.Rounds c.pass) k.domains state seeing
-    sees_rounds f = let i = f.rounds in record {
+    sees_rounds : x.seen.stage ≡ In Rounds → laws.InPhase (laws.Rounds c.pass) k.domains state cyc → laws.InPhase (laws.Rounds c.pass) k.domains state seeing
+    sees_rounds here f = let i = f.rounds in record {
       known = f.known;
       whole = f.whole;
       passed = f.passed;
@@ -202,12 +244,12 @@ module _ (k : Config) (s : Words) (r : Rule k s) (id : ℕ) (hist : List Entry) 
         stays = i.stays;
         scanned = i.scanned;
         same = λ q. i.same (record { unchanged = q.unchanged; paid = q.paid });
-        data_marked = λ e a l _ _ _ _. plain_data (node_at state.graph l) (plain.nodes l) c.paint.marks.marked;
+        data_marked = λ e a l seen is before keys. told_own (λ m. HoldsRoots (data_of (node_at state.graph m)) c.paint.marks.marked) (λ m bare. none_held (data_of (node_at state.graph m)) c.paint.marks.marked bare.data_is) e a l (inl here) seen is (λ h. i.data_marked e a l h is before keys);
       };
     }
 
-    sees_clean : laws.InPhase laws.Clean k.domains state cyc → laws.InPhase laws.Clean k.domains state seeing
-    sees_clean f = let i = f.clean in record {
+    sees_clean : x.seen.stage ≡ In Clean → laws.InPhase laws.Clean k.domains state cyc → laws.InPhase laws.Clean k.domains state seeing
+    sees_clean here f = let i = f.clean in record {
       whole = f.whole;
       waiting = f.waiting;
       stays = f.stays;
@@ -217,7 +259,7 @@ module _ (k : Config) (s : Words) (r : Rule k s) (id : ℕ) (hist : List Entry) 
         owned = i.owned;
         marks = i.marks;
         taken = i.taken;
-        clean = λ e a l _ _ _. plain_keys (node_at state.graph l) (plain.nodes l) c.paint.marks.marked;
+        clean = λ e a l seen is marked. told_own (λ m. HoldsRoots (full_keys (node_at state.graph m)) c.paint.marks.marked) (λ m bare. none_held (full_keys (node_at state.graph m)) c.paint.marks.marked bare.keys_are) e a l (inr here) seen is (λ h. i.clean e a l h is marked);
         low = i.low;
       };
     }
@@ -247,10 +289,10 @@ module _ (k : Config) (s : Words) (r : Rule k s) (id : ℕ) (hist : List Entry) 
     facts_in Reset here is f = between_in f Reset
     facts_in Roots here is f = (darkening_steps.roots_arrives laws.First k.domains state cyc f.0 d (roots_done here), plain_in f.1 Roots)
     facts_in Mark here is f = (darkening_steps.mark_arrives c.pass k.domains state cyc f.0 d (done_arrives (done.told (inl here)) (done.walked (inl here))), f.1)
-    facts_in Rounds here is f = (darkening_steps.rounds_arrives c.pass k.domains state seeing (sees_rounds f.0) d (record { paid = paid (done.told (inr (inl here))); all = own_seen }), f.1)
+    facts_in Rounds here is f = (darkening_steps.rounds_arrives c.pass k.domains state seeing (sees_rounds here f.0) d (record { paid = paid (done.told (inr (inl here))); all = own_seen }), f.1)
     facts_in Decide here is f = (taking_steps.decide_arrives k.domains state cyc f.0 d (none_left (c.left d) (f.0.decide.below d)), plain_in f.1 Decide)
     facts_in Queued here is f = (darkening_steps.queued_arrives k.domains state cyc f.0 d (no_queue c.paint.marks.marked), plain_in f.1 Queued)
-    facts_in Clean here is f = (taking_steps.clean_arrives k.domains state seeing (sees_clean f.0) d (record { paid = paid (done.told (inr (inr here))); all = own_seen }), plain_in f.1 Clean)
+    facts_in Clean here is f = (taking_steps.clean_arrives k.domains state seeing (sees_clean here f.0) d (record { paid = paid (done.told (inr (inr here))); all = own_seen }), plain_in f.1 Clean)
     facts_in Lasts here is f = record {
       facts = taking_steps.lasts_arrives k.domains state (swept_of k r.account.live t.holder c) f.facts d (none_left (c.left d) (f.facts.lasts.below d));
       unchanged = f.unchanged;

@@ -1,5 +1,5 @@
 -- Domain 0 names the next kind of phase, and the collector's entry stands, if there is one.
-use Rattle.std.proofs.Common.{◌≡◌, ◌≢◌, ℕ, ◌+◌, ◌*◌, ◌<◌, ◌≤◌, ◌⊎◌, Bool, true, false, true≢false, List, length, get_or, slice_get, set, Option, Some, None, sym, refl, ap, ◌∙◌, subst, inl, inr, ⊎_elim, arith, zero-le, length-set, get_or-set_same, get_or-set_other}
+use Rattle.std.proofs.Common.{◌≡◌, ◌≢◌, ℕ, ◌+◌, ◌*◌, ◌<◌, ◌≤◌, ◌⊎◌, Bool, true, false, true≢false, List, [], length, get_or, slice_get, set, Option, Some, None, sym, refl, ap, ◌∙◌, subst, inl, inr, ⊎_elim, arith, zero-le, length-set, get_or-set_same, get_or-set_other}
 use Rattle.std.proofs.lemmas.Option.{slice_get-get_or, slice_get_within}
 use mathlib.Core.Option.{some}
 use lib.ListN.{get_elem?}
@@ -32,6 +32,9 @@ use Rattle.heap_rule.proofs.Keeps.{Words, mine, my_good, now, remakes, more_same
 use Rattle.heap_rule.proofs.PauseFacts.{not_both}
 use Rattle.heap_rule.proofs.Sharings.{SameCycle, facts_words}
 use Rattle.heap_rule.proofs.Update.{over, over_here, over_else}
+use Rattle.heap_model.specs.declared.label.Label.{Label}
+use Rattle.heap_rule.proofs.EphemeronLemmas.{looks_idle}
+use Rattle.steps_pauses.proofs.Arriving.{whole_all}
 use Rattle.steps_pauses.specs.Pauses.{kind_in, entry_of, cut_in, MayFollow, NamesFree, LeadMay, LeadTold}
 use Rattle.steps_pauses.proofs.CollectorEntries.{OfCollector, entry_of_collector, keeps_left, queue_left, graph_left, plain_logged, front_then, after_logged, legal_logged, knows_logged, seen_then}
 use Rattle.steps_pauses.proofs.Naming.{left_by, logged, pass_in, led_cycle, Ready, Way, led_way}
@@ -200,6 +203,10 @@ module _ (k : Config) (s : Words) (r : Rule k s) (id : ℕ) (hist : List Entry) 
     no_words = λ h. (l.found_words 0 (knows.set_back h).1).1;
   }
 
+  -- so no block misses keys
+  whole : (l : Label) → c.paint.emptied l ≡ []
+  whole = whole_all live tenancy.holder c (λ q d class is. ended_kind.1 d (r.whole.pools.owned_by q d class is).1) r.whole.cycle.whole
+
   way : Way k r.account.log live tenancy c r.account.homes s.words last next
   way = led_way k r.account.log live tenancy c r.account.homes s.words r.whole.cycle.leaves.none ended_kind.1 counted (λ q d class is. (r.whole.pools.owned_by q d class is).1) last next follows ready facts
       (subst (λ (kind : Kind). Fullness k r.account.log live tenancy.holder tenancy.fresh r.account.homes kind) kind_is r.whole.full)
@@ -264,9 +271,10 @@ module _ (k : Config) (s : Words) (r : Rule k s) (id : ℕ) (hist : List Entry) 
       dead = w.leaves.dead;
       head = λ a is. let h = w.leaves.head a is in (h.0, h.1, heap_untouched k s.words ws untouched a ∙ h.2);
     };
+    whole = λ l. inl (whole l);
   }
 
-  sharing_led : Sharing k account' ws y.own.number y.own.registers y.seen.stage y.seen.share
+  sharing_led : Sharing k account' ws y.own.number y.own.registers y.own.ephemerons.items y.seen.stage y.seen.share
   sharing_led = record {
     telling = record { owes = λ _. refl; seen = λ _. refl; fresh = λ _. refl; forgotten = λ _ _. refl; colours = λ v e. cc };
     leading = record {
@@ -279,10 +287,11 @@ module _ (k : Config) (s : Words) (r : Rule k s) (id : ℕ) (hist : List Entry) 
     };
     knows = inl refl;
     adds = record { blocks = λ e _. (way.uncounted e x.own.number).0; words = λ e _. (way.uncounted e x.own.number).1; own = λ _ _ e. cc };
+    looks = looks_idle live tenancy.holder tenancy.garbage (state_of k log').graph c.paint.marks c.paint.emptied y.own.number y.own.ephemerons.items y.seen.stage y.seen.share refl whole;
   }
 
   -- whoever else has arrived has forgotten what it knew
-  sharings_led : (z : DomainView) → z.own.number < k.domains → z.own.number ≢ x.own.number → Good k r.account s.words z → Sharing k account' ws z.own.number z.own.registers z.seen.stage z.seen.share
+  sharings_led : (z : DomainView) → z.own.number < k.domains → z.own.number ≢ x.own.number → Good k r.account s.words z → Sharing k account' ws z.own.number z.own.registers z.own.ephemerons.items z.seen.stage z.seen.share
   sharings_led z below other h =
       let tells = h.sharing.telling in
       let l = h.sharing.leading in
@@ -310,6 +319,7 @@ module _ (k : Config) (s : Words) (r : Rule k s) (id : ℕ) (hist : List Entry) 
           words = λ e _. (way.uncounted e z.own.number).1 ∙ sym (ap (λ (u : Share). u.added_words) idle);
           own = λ _ _ e. absurd (true≢false (sym e ∙ ap (λ (u : Share). u.added_blocks) idle));
         };
+        looks = looks_idle live tenancy.holder tenancy.garbage (state_of k log').graph c.paint.marks c.paint.emptied z.own.number z.own.ephemerons.items z.seen.stage z.seen.share idle whole;
       }
 
   stood_left : (z : DomainView) → Stood live state z → Stood live (state_of k log') z
@@ -394,6 +404,7 @@ module _ (k : Config) (s : Words) (r : Rule k s) (id : ℕ) (hist : List Entry) 
         rooted = (λ h. absurd (no_even (h.0, h.1)), ⊎_elim (λ h. absurd (no_even (h.0.0, h.0.1))) (λ h. good.rooted.1 (inr (resetting_led t j next odd h))));
         set_back = λ back. absurd (led_leads next Run back.0);
         sharing = sharing_led;
+        listed = record { all = good.listed.all; own = good.listed.own; lives = good.listed.lives };
       }
       (λ z below other h. record {
         stood = stood_left z h.stood;
@@ -411,6 +422,7 @@ module _ (k : Config) (s : Words) (r : Rule k s) (id : ℕ) (hist : List Entry) 
         rooted = (λ w. absurd (no_even (w.0, w.1)), ⊎_elim (λ w. absurd (no_even (w.0.0, w.0.1))) (λ w. h.rooted.1 (inr (resetting_led t j next odd w))));
         set_back = λ back. low_untouched k s.words ws untouched (h.set_back back);
         sharing = sharings_led z below other h;
+        listed = h.listed;
       })
 
   -- what is told of it

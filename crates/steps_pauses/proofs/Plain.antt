@@ -43,7 +43,7 @@ arrived_closes k x found may y fits told =
     let few : n < 2 ^ 60 = may.few in record {
       can_write = let g : n + 1 < 2 ^ 64 = omega arith in g;
       written = λ after is. own ∙ sym is;
-      fits = subst (OwnFits k) (sym own) record { number = fits.number; used = fits.used; registers = fits.registers; looked = fits.looked; remembered = fits.remembered; prepared = fits.prepared; pending = no_more (x.own.pending.room + length x.own.pending.items) ∙ fits.pending };
+      fits = subst (OwnFits k) (sym own) record { number = fits.number; used = fits.used; registers = fits.registers; looked = fits.looked; remembered = fits.remembered; prepared = fits.prepared; pending = no_more (x.own.pending.room + length x.own.pending.items) ∙ fits.pending; ephemerons = fits.ephemerons };
       once = λ _. inl (record { front = front_same x y (ap (λ (z : DomainView). z.seen.front) told); registers = ap (λ (o : Own). o.registers) own; used = ap (λ (o : Own). o.used) own; serial = ap (λ (o : Own). o.serial) own });
     }
 
@@ -58,6 +58,8 @@ nothing_due k x none =
       rooted = λ here. absurd (apart Roots (λ h. h) here);
       told = λ here. absurd (⊎_elim (apart Mark (λ h. h)) (λ more. ⊎_elim (apart Rounds (λ h. h)) (apart Clean (λ h. h)) more) here);
       walked = λ here. absurd (⊎_elim (apart Mark (λ h. h)) (apart Sweep (λ h. h)) here);
+      looked = λ here. absurd (⊎_elim (apart Rounds (λ h. h)) (apart Clean (λ h. h)) here);
+      cleaned = λ here. absurd (apart Clean (λ h. h) here);
       held = λ here. absurd (apart Answer (λ h. h) here);
       added = λ here. absurd (apart Sweep (λ h. h) here);
     }

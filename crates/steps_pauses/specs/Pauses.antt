@@ -33,6 +33,7 @@ use Rattle.heap_rule.specs.declared.phase.Kind.TheVariants.{Run, Promote, Reset,
 use Rattle.heap_rule.specs.Views.{fresh_share, voided}
 use Rattle.std.specs.List.{list_any}
 use Rattle.heap_rule.specs.Changes.{value_at}
+use Rattle.heap_rule.specs.Cycles.{seen_by}
 use Rattle.heap_model.specs.declared.entry.Entry.{Entry}
 use Rattle.heap_rule.specs.declared.view.Share.{Share}
 
@@ -70,7 +71,7 @@ ArrivesFrom d (Gone kind) = ⊥
 abbrev pub Traces : Stage → Type 0
 Traces stage = (stage ≡ In Mark) ⊎ ((stage ≡ In Rounds) ⊎ (stage ≡ In Clean))
 
--- What a domain has done of a phase of a collection in which it arrives. Of a phase without one, and of those in which finalisers are queued, nothing is asked: no finaliser is registered, and no ephemeron made, yet
+-- What a domain has done of a phase of a collection in which it arrives. Of a phase without one, and of those in which finalisers are queued, nothing is asked: no finaliser is registered yet
 pub record HasDone (k : Config) (x : DomainView) : Type 0 where
   -- it has marked what its registers hold
   pub rooted : x.seen.stage ≡ In Roots → (r a : ℕ) → r < 16 → value_at x.own.registers r ≡ Ref a → IsTrue (list_any (λ q. q == r) x.seen.share.roots)
@@ -78,6 +79,10 @@ pub record HasDone (k : Config) (x : DomainView) : Type 0 where
   pub told : Traces x.seen.stage → x.seen.share.owes ≡ false
   -- it has been at each own place
   pub walked : (x.seen.stage ≡ In Mark) ⊎ (x.seen.stage ≡ In Sweep) → k.pools ≤ x.seen.share.walk.pool
+  -- it has been at each ephemeron of its list
+  pub looked : (x.seen.stage ≡ In Rounds) ⊎ (x.seen.stage ≡ In Clean) → (a : ℕ) → IsTrue (seen_by x.own.ephemerons.items a) → IsTrue (seen_by x.seen.share.places_seen a)
+  -- it empties the keys of none
+  pub cleaned : x.seen.stage ≡ In Clean → x.seen.share.cleaning ≡ None
   -- its pools hold blocks
   pub held : x.seen.stage ≡ In Answer → k.pools ≤ x.seen.share.held
   -- it has added what it has counted

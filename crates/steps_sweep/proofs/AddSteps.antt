@@ -14,7 +14,7 @@ use Rattle.cycle_laws.specs.Shares.{at_domain}
 use Rattle.cycle_laws.proofs.Counting.{adds}
 use Rattle.heap_rule.specs.declared.config.Config.{Config}
 use Rattle.heap_rule.specs.declared.phase.Kind.{Kind}
-use Rattle.heap_rule.specs.declared.phase.Kind.TheVariants.{Sweep, Answer}
+use Rattle.heap_rule.specs.declared.phase.Kind.TheVariants.{Sweep, Clean, Answer}
 use Rattle.heap_rule.specs.declared.phase.Stage.TheVariants.{In}
 use Rattle.heap_rule.specs.declared.view.DomainView.{DomainView}
 use Rattle.heap_rule.specs.declared.view.Share.{Share}
@@ -32,7 +32,7 @@ use Rattle.heap_rule.proofs.PauseFacts.{kind_differs}
 use Rattle.heap_rule.proofs.Sharings.{knowing_words}
 use Rattle.steps_cycle.specs.Looks.{with_share}
 use Rattle.steps_cycle.proofs.Layouts.{labelled, owner_of_place, label_there}
-use Rattle.steps_cycle.proofs.Learning.{at_other, at_same, bare, even, known, kind_here, leads_odd, lies_old, not_promoting}
+use Rattle.steps_cycle.proofs.Learning.{at_other, at_same, bare, even, known, kind_here, leads_odd, lies_old, not_promoting, whole_in}
 use Rattle.steps_cycle.proofs.Plain.{share_closes}
 use Rattle.steps_sweep.specs.Counting.{BlocksAddMay, BlocksAdded, WordsAddMay, WordsAdded}
 use Rattle.steps_sweep.proofs.Recounting.{IsCount, heap, here, low, other, recounted, recounts}
@@ -143,6 +143,7 @@ module _ (k : Config) (s : Words) (r : Rule k s) (id : ℕ) (hist : List Entry) 
       facts = subst (λ (kind : Kind). Facts kind k now live r.account.tenancy c' words') (sym kind_is) (swept' o);
       told = y.told;
       leaves = record { none = y.leaves.none; dead = y.leaves.dead; head = λ a dead. let h = y.leaves.head a dead in (h.0, h.1, heap k s r id hist x at i v is a ∙ h.2) };
+      whole = λ l. inl (whole_in k s r id hist x at (λ e. let same : Sweep ≡ Clean = sym kind_is ∙ e in cc) l);
     }
 
     adding_rule : Adding → Rule k record { words = words'; homes = s.homes; views = set s.views id (one k hist (with_share x share')) }
@@ -166,6 +167,7 @@ module _ (k : Config) (s : Words) (r : Rule k s) (id : ℕ) (hist : List Entry) 
           record { found_head = n.found_head; scan = n.scan; walked = n.walked; own_pool = n.own_pool; rooted = n.rooted; marked = n.marked; counted = record { once = t.once; own = t.own; lives = t.lives; all = t.all; words = t.words }; held = n.held; vacant = n.vacant },
         );
         adds = record { blocks = λ _ _. o.mine_blocks; words = λ _ _. o.mine_words; own = λ _ _. o.mine_own };
+        looks = record { at_own = g.looks.at_own; pruned = g.looks.pruned; cleans = g.looks.cleans; emptied_is = g.looks.emptied_is };
       };
       sharings = λ z _ differs h. let q = h.sharing in let e = o.others z.own.number differs in record {
         telling = q.telling;
@@ -182,6 +184,7 @@ module _ (k : Config) (s : Words) (r : Rule k s) (id : ℕ) (hist : List Entry) 
             (λ (u : IsCollecting z.seen.stage × Knowing k live holder now.graph c.paint.marks s.words z.own.number z.own.registers z.seen.share). inr (u.0, knowing_words k live holder now.graph c.paint.marks s.words words' z.own.number z.own.registers z.seen.share (heap k s r id hist x at i v is) u.1))
             q.knows;
         adds = record { blocks = λ a b. e.0 ∙ q.adds.blocks a b; words = λ a b. e.1 ∙ q.adds.words a b; own = λ a b y. e.2 ∙ q.adds.own a b y };
+        looks = q.looks;
       };
     }
 

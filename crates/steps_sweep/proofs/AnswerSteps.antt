@@ -24,6 +24,7 @@ use Rattle.heap_rule.specs.declared.phase.Stage.TheVariants.{In}
 use Rattle.heap_rule.specs.declared.view.DomainView.{DomainView}
 use Rattle.heap_rule.specs.declared.view.Share.{Share}
 use Rattle.heap_rule.specs.Cycles.{Cycled, Cycling, Facts, KnowsBlocks, Knowing, swept_of}
+use Rattle.heap_rule.specs.Ephemerons.{Looks}
 use Rattle.heap_rule.specs.Layout.{live_blocks, live_words}
 use Rattle.heap_rule.specs.Limits.{sizes_in}
 use Rattle.heap_rule.specs.Phases.{CountsEnded, IsInPause, flag, is_over, sum_of}
@@ -87,6 +88,7 @@ module _ (k : Config) (s : Words) (r : Rule k s) (id : ℕ) (hist : List Entry) 
           record { found_head = kn.found_head; scan = kn.scan; walked = kn.walked; own_pool = kn.own_pool; rooted = kn.rooted; marked = kn.marked; counted = record { once = n.once; own = n.own; lives = n.lives; all = n.all; words = n.words }; held = kn.held; vacant = kn.vacant },
         );
         adds = record { blocks = g.adds.blocks; words = g.adds.words; own = g.adds.own };
+        looks = record { at_own = g.looks.at_own; pruned = g.looks.pruned; cleans = g.looks.cleans; emptied_is = g.looks.emptied_is };
       }
 
   -- the entry of `full_major`
@@ -136,17 +138,19 @@ module _ (k : Config) (s : Words) (r : Rule k s) (id : ℕ) (hist : List Entry) 
     };
     told = z.told;
     leaves = z.leaves;
+    whole = z.whole;
   }
 
   stands_still : (z : DomainView) → Stood live now z → Stood live (state_of k log') z
   stands_still z st = subst (λ (t : model.State). Stood live t z) (sym after) (stood_other live live now (next now e) z (keeps_all z.own.number) (more_same live) st)
 
-  sharing' : (z : DomainView) → Sharing k r.account s.words z.own.number z.own.registers z.seen.stage z.seen.share → Sharing k all' s.words z.own.number z.own.registers z.seen.stage z.seen.share
+  sharing' : (z : DomainView) → Sharing k r.account s.words z.own.number z.own.registers z.own.ephemerons.items z.seen.stage z.seen.share → Sharing k all' s.words z.own.number z.own.registers z.own.ephemerons.items z.seen.stage z.seen.share
   sharing' z g = record {
     telling = g.telling;
     leading = g.leading;
     knows = subst (λ (graph : Graph). KnowsBlocks k live T.holder graph c.paint.marks s.words z.own.number z.own.registers z.seen.stage z.seen.share) (sym graph_after) g.knows;
     adds = g.adds;
+    looks = subst (λ (graph : Graph). Looks live T.holder T.garbage graph c.paint.marks c.paint.emptied z.own.number z.own.ephemerons.items z.seen.stage z.seen.share) (sym graph_after) g.looks;
   }
 
   answered : Allowed now e → Rule k record { words = s.words; homes = s.homes; views = set s.views id (one k hist y) }
@@ -196,6 +200,7 @@ module _ (k : Config) (s : Words) (r : Rule k s) (id : ℕ) (hist : List Entry) 
         rooted = g.rooted;
         set_back = g.set_back;
         sharing = own_sharing;
+        listed = record { all = g.listed.all; own = g.listed.own; lives = g.listed.lives };
       }
       (λ z _ other h. record {
         stood = stands_still z h.stood;
@@ -210,6 +215,7 @@ module _ (k : Config) (s : Words) (r : Rule k s) (id : ℕ) (hist : List Entry) 
         rooted = h.rooted;
         set_back = h.set_back;
         sharing = sharing' z h.sharing;
+        listed = h.listed;
       })
 
   module _ (blocks : ℕ) (may : LiveWordsMay k x blocks) where

@@ -34,16 +34,11 @@ use Rattle.steps_cycle.proofs.Learning.{bare, known, learns}
 use Rattle.steps_cycle.proofs.Plain.{share_closes}
 use Rattle.steps_cycle.proofs.WalkSteps.{before_behind, last_behind, next_behind}
 use Rattle.steps_sweep.specs.Counting.{CountMay, CountOwnMay, CountOwnTold, CountTold}
+use Rattle.steps_sweep.proofs.Removals.{among}
 use Rattle.steps_sweep.proofs.Swept.{empty_free, sweep_facts, sweeping}
 use Rattle.std.proofs.lemmas.List.Sums.{sum_by-cons}
 use Rattle.std.proofs.lemmas.Option.{same_Some}
 use Rattle.heap_rule.proofs.Stages.{waits_in}
-
--- a member of a list is among it
-pub among : (l : List ℕ) (i a : ℕ) → slice_get l i ≡ Some a → IsTrue (seen_by l a)
-among [] i a e = cc
-among (b ∷ l) zero a e = let same : Some b ≡ Some a = e in let is : a ≡ b = cc in or_left (a == b) (seen_by l a) (eq-eqb a b is)
-among (b ∷ l) (suc i) a e = or_right (a == b) (seen_by l a) (among l i a e)
 
 -- what was before a place is before the one behind it, and so is the place
 later_behind : (pool class slot q i : ℕ) → IsBefore q i (record { pool = pool; slot = slot }) → IsBefore q i (behind pool class slot)
@@ -121,6 +116,7 @@ module _ (k : Config) (s : Words) (r : Rule k s) (id : ℕ) (hist : List Entry) 
             record { found_head = kn.found_head; scan = kn.scan; walked = kn.walked; own_pool = own; rooted = kn.rooted; marked = kn.marked; counted = counted; held = kn.held; vacant = kn.vacant },
           );
           adds = record { blocks = g.adds.blocks; words = g.adds.words; own = λ _ _ done. absurd (true≢false (sym done ∙ counts)) };
+          looks = record { at_own = g.looks.at_own; pruned = g.looks.pruned; cleans = g.looks.cleans; emptied_is = g.looks.emptied_is };
         }
 
   -- the owner of the next pool

@@ -12,18 +12,11 @@ use Rattle.cycle_laws.specs.Counting.{added_up}
 use Rattle.cycle_laws.proofs.DomainParts.{listed_at, listed_cases}
 use Rattle.heap_rule.specs.Cycles.{extent_in, label_in, labels_in, seen_by}
 use Rattle.heap_rule.specs.Places.{Live, Place, extent}
-use Rattle.steps_sweep.proofs.CountSteps.{among}
+use Rattle.steps_sweep.proofs.Removals.{among, seen_at}
 use Rattle.std.proofs.lemmas.List.Sums.{sum_by-cons}
 
 label_same : (p : Place) (l : Label) → Some p.label ≡ Some l → p.label ≡ l
 label_same p l e = cc
-
-seen_at : (l : List ℕ) (a : ℕ) → IsTrue (seen_by l a) → (i : ℕ) × (slice_get l i ≡ Some a)
-seen_at [] a is = cc
-seen_at (b ∷ l) a is = ⊎_elim
-    (λ (here : IsTrue (a == b)). (zero, ap Some (sym (eqb-true a b here))))
-    (λ (later : IsTrue (seen_by l a)). let t = seen_at l a later in (suc t.0, t.1))
-    (or_cases (a == b) (seen_by l a) is)
 
 module _ (live : Live) where
   -- a counted label is that of a block that lives at a counted place

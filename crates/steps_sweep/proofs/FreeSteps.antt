@@ -8,17 +8,18 @@ use Rattle.atomic_table.specs.Table.{keeps}
 use Rattle.heap_model.specs.declared.entry.Entry.{Entry}
 use Rattle.heap_model.specs.declared.state.State as model
 use Rattle.heap_model.specs.Domains.{class_count}
-use Rattle.heap_words.specs.declared.colours.Colours.{Colours}
 use Rattle.cycle_laws.specs.Shares.{Shares, at_domain}
 use Rattle.cycle_laws.proofs.Sweep.{sweep_law}
 use Rattle.heap_rule.specs.declared.config.Config.{Config}
 use Rattle.heap_rule.specs.declared.phase.Kind.{Kind}
+use Rattle.heap_rule.specs.declared.phase.Kind.TheVariants.{Sweep, Clean}
 use Rattle.heap_rule.specs.declared.view.DomainView.{DomainView}
 use Rattle.heap_rule.specs.declared.view.Own.{Own}
 use Rattle.heap_rule.specs.declared.view.Share.{Share}
 use Rattle.heap_rule.specs.declared.view.Spot.{Spot}
 use Rattle.heap_rule.specs.Copies.{Promoting}
-use Rattle.heap_rule.specs.Cycles.{Cycled, Cycling, Facts, IsCollecting, IsIdle, Knowing, Leading, Sweeping, owner_at}
+use Rattle.heap_rule.specs.Cycles.{Cycled, Cycling, Facts, IsCollecting, IsIdle, Knowing, Leading, Sweeping, owner_at, seen_by}
+use Rattle.heap_rule.specs.Ephemerons.{IsEpheAt, Listed}
 use Rattle.heap_rule.specs.Layout.{at_address, before_heap, heap_words}
 use Rattle.heap_rule.specs.Phases.{Staged}
 use Rattle.heap_rule.specs.Places.{Place, extent}
@@ -35,12 +36,13 @@ use Rattle.heap_rule.proofs.Lots.{head_full, hunter_beside, live_beside, none_be
 use Rattle.heap_rule.proofs.PauseFacts.{not_both}
 use Rattle.steps_pools.proofs.Plain.{looking_fits}
 use Rattle.steps_pools.specs.Writes.{CanLook, LooksFrom}
-use Rattle.steps_cycle.proofs.Colouring.{words_same}
-use Rattle.steps_cycle.proofs.Learning.{at_other, at_same, even, known, knowing_on, leads_odd, not_promoting, rests_here, waits}
-use Rattle.steps_sweep.specs.Freeing.{FreeMay, FreeTold, freed, passed}
+use Rattle.steps_cycle.proofs.Learning.{at_other, at_same, even, known, knowing_on, leads_odd, not_promoting, rests_here, waits, whole_in}
+use Rattle.steps_sweep.specs.Freeing.{IsColoured, FreeMay, FreeTold, freed, passed}
 use Rattle.steps_sweep.proofs.Reaping.{reaped_to, reaps}
-use Rattle.steps_sweep.proofs.Swept.{collecting, facts, is_own, kind_is, live_colour, live_head, means, seen', swept_on, walked}
-use Rattle.std.proofs.lemmas.Option.{none-some}
+use Rattle.steps_sweep.proofs.Removals.{seen_at}
+use Rattle.steps_sweep.proofs.Owning.{one_owner}
+use Rattle.steps_sweep.proofs.Swept.{collecting, facts, is_own, kind_is, live_not_dead, seen', swept_on, walked}
+use Rattle.std.proofs.lemmas.Option.{none-some, slice_get_within}
 
 module _ (k : Config) (s : Words) (r : Rule k s) (id : ℕ) (hist : List Entry) (x : DomainView) (at : get_elem? s.views id ≡ some (one k hist x)) (a pool class slot : ℕ) (may : FreeMay x a pool class slot) (wide : length x.own.looked ≡ class_count) where
   abbrev now : model.State
@@ -101,10 +103,7 @@ module _ (k : Config) (s : Words) (r : Rule k s) (id : ℕ) (hist : List Entry) 
       (λ (q : (p : Place) × (r.account.live a ≡ Some p)).
       let p : Place = q.0 in
       let there : at_address k s.words a ≡ may.word = ⊎_elim (λ (e : at_address k s.words a ≡ may.word). e) (λ (is : IsTrue (c.paint.marks.marked p.label)). absurd (true≢false (sym is ∙ f.swept.unmarked p.label))) (kn.found_head (record { address = a; word = may.word }) p may.found q.1) in
-      let head = live_head k s r id hist x at a pool class slot may.look p q.1 in
-      let same = words_same p.shape may.garbage.shape (at_address k s.words a) head.head (record { colour = may.garbage.head.colour; scanned = may.garbage.head.scanned; packable = may.garbage.head.packable; packs = there ∙ may.garbage.head.packs }) in
-      let here = means k s r id hist x at a pool class slot may.look in
-      absurd (r.whole.cycle.meanings.unmarked_differs (ap (λ (z : Colours). z.unmarked) (sym here) ∙ (sym (live_colour k s r id hist x at a pool class slot may.look p q.1) ∙ (same.colour ∙ (may.garbage.colour_is ∙ ap (λ (z : Colours). z.garbage) here))))))
+      absurd (live_not_dead k s r id hist x at may.look.stage may.look.colours may.look.known a p q.1 (subst (IsColoured may.look.colours.garbage) (sym there) may.garbage)))
       (place_cases (r.account.live a))
 
   place : OwnPlace t.holder a d
@@ -161,6 +160,39 @@ module _ (k : Config) (s : Words) (r : Rule k s) (id : ℕ) (hist : List Entry) 
         (r.whole.grid.places q e cl i is inside));
     spares = λ b e is. absurd (no_prepared b e is);
   }
+
+  -- nothing else that was garbage is none
+  still_dead : (b : ℕ) → b ≢ a → IsTrue (t.garbage b) → IsTrue (garbage' b)
+  still_dead b other is = at_other t.garbage a false b other ∙ is
+
+  still_clean : (b : ℕ) → t.garbage b ≡ false → garbage' b ≡ false
+  still_clean b clean = dite (ℕ_discrete b a) (λ same. ap garbage' same ∙ at_same t.garbage a false) (λ other. at_other t.garbage a false b other ∙ clean)
+
+  -- and no ephemeron that is listed was there
+  listed_else : (e : ℕ) (items : List ℕ) → (IsTrue (seen_by items a) → IsTrue (t.garbage a) → ⊥) → Listed r.account.live t.holder t.garbage e items → Listed r.account.live t.holder garbage' e items
+  listed_else e items apart l = record {
+    all = l.all;
+    own = l.own;
+    lives = λ b is. ⊎_elim
+        (λ (h : IsEpheAt r.account.live b). inl h)
+        (λ (h : IsTrue (t.garbage b)). inr (still_dead b (λ same. apart (subst (λ (n : ℕ). IsTrue (seen_by items n)) same is) (subst (λ (n : ℕ). IsTrue (t.garbage n)) same h)) h))
+        (l.lives b is);
+  }
+
+  listed_own : Listed r.account.live t.holder garbage' d x.own.ephemerons.items
+  listed_own = listed_else d x.own.ephemerons.items
+      (λ is bad.
+      let p = seen_at x.own.ephemerons.items a is in
+      let i : ℕ = p.0 in
+      let n : ℕ = length x.own.ephemerons.items in
+      let m : ℕ = x.seen.share.pruned in
+      let low : i < n = slice_get_within x.own.ephemerons.items p.0 a p.1 in
+      let far : n ≤ m = may.pruned in
+      true≢false (sym bad ∙ good.sharing.looks.pruned i a (let g : i < m = omega arith in g) p.1))
+      good.listed
+
+  listeds : (z : DomainView) → z.own.number ≢ d → Good k r.account s.words z → Listed r.account.live t.holder garbage' z.own.number z.own.ephemerons.items
+  listeds z other g = listed_else z.own.number z.own.ephemerons.items (λ is bad. other (one_owner k t s.words r.whole.pools a z.own.number d (g.listed.own a is) place)) g.listed
 
   makings : (z : DomainView) → Good k r.account s.words z → Making k words' z
   makings z g = making_beside k s.words a 0 z (λ j fits same. let m : ℕ = z.own.number * k.minor_words in let n : ℕ = k.pools * 4096 in let h : a ≤ n = old in let e : n + m + 1 + z.own.used + 1 + j ≡ a = same in omega arith) g.making
@@ -245,6 +277,7 @@ module _ (k : Config) (s : Words) (r : Rule k s) (id : ℕ) (hist : List Entry) 
       dead = λ b is. z.leaves.dead b (was b is).1;
       head = λ b is. let w = was b is in let h = z.leaves.head b w.1 in (h.0, h.1, stays b w.0 ∙ h.2);
     };
+    whole = λ l. inl (whole_in k s r id hist x at (λ e. let same : Sweep ≡ Clean = sym (kind_is k s r id hist x at a pool class slot may.look) ∙ e in cc) l);
   } where
     was : (b : ℕ) → IsTrue (garbage' b) → (b ≢ a) × IsTrue (t.garbage b)
     was b is = dite (ℕ_discrete b a)
@@ -270,7 +303,7 @@ module _ (k : Config) (s : Words) (r : Rule k s) (id : ℕ) (hist : List Entry) 
   abbrev share' : Share
   share' = record (passed a pool class slot x.seen.share) { found_head = None }
 
-  sharing' : Sharing k (reaped_to k s r id hist x at r.account.live garbage' c') words' d x.own.registers x.seen.stage share'
+  sharing' : Sharing k (reaped_to k s r id hist x at r.account.live garbage' c') words' d x.own.registers x.own.ephemerons.items x.seen.stage share'
   sharing' =
       let g = good.sharing in
       let l = leading' x x.seen.share good.staged g.leading in
@@ -298,9 +331,10 @@ module _ (k : Config) (s : Words) (r : Rule k s) (id : ℕ) (hist : List Entry) 
           },
         );
         adds = record { blocks = g.adds.blocks; words = g.adds.words; own = g.adds.own };
+        looks = record { at_own = g.looks.at_own; pruned = λ i b few got. still_clean b (g.looks.pruned i b few got); cleans = g.looks.cleans; emptied_is = g.looks.emptied_is };
       }
 
-  sharings' : (z : DomainView) → z.own.number < k.domains → z.own.number ≢ d → Good k r.account s.words z → Sharing k (reaped_to k s r id hist x at r.account.live garbage' c') words' z.own.number z.own.registers z.seen.stage z.seen.share
+  sharings' : (z : DomainView) → z.own.number < k.domains → z.own.number ≢ d → Good k r.account s.words z → Sharing k (reaped_to k s r id hist x at r.account.live garbage' c') words' z.own.number z.own.registers z.own.ephemerons.items z.seen.stage z.seen.share
   sharings' z below other h = let g = h.sharing in record {
     telling = record { owes = g.telling.owes; seen = λ up. at_other c.shares.seen d (λ b. b == a || c.shares.seen d b) z.own.number other ∙ g.telling.seen up; fresh = g.telling.fresh; forgotten = g.telling.forgotten; colours = g.telling.colours };
     leading = leading' z z.seen.share h.staged g.leading;
@@ -309,10 +343,11 @@ module _ (k : Config) (s : Words) (r : Rule k s) (id : ℕ) (hist : List Entry) 
         (λ (n : IsCollecting z.seen.stage × Knowing k r.account.live t.holder now.graph c.paint.marks s.words z.own.number z.own.registers z.seen.share). inr (n.0, knowing_on k s r id hist x at c.paint.marks words' heads still_free (λ l is. is) z.own.number z.own.registers z.seen.share n.1))
         g.knows;
     adds = record { blocks = g.adds.blocks; words = g.adds.words; own = g.adds.own };
+    looks = record { at_own = g.looks.at_own; pruned = λ i b few got. still_clean b (g.looks.pruned i b few got); cleans = g.looks.cleans; emptied_is = g.looks.emptied_is };
   }
 
   pub free_rule : Rule k record { words = words'; homes = s.homes; views = set s.views id (one k hist y) }
-  free_rule = reaps k s r id hist x at looked' share' r.account.live garbage' c' words' record {
+  free_rule = reaps k s r id hist x at looked' x.own.ephemerons share' r.account.live garbage' c' words' record {
     wide = length-set s.words (before_heap k + a) 0;
     control = λ i below _ _ _. control i below;
     calm = calm;
@@ -328,6 +363,8 @@ module _ (k : Config) (s : Words) (r : Rule k s) (id : ℕ) (hist : List Entry) 
     cycle = cycle';
     sharing = sharing';
     sharings = sharings';
+    listed_own = listed_own;
+    listeds = listeds;
   }
 
 pub free_may : (k : Config) (x : DomainView) (word a pool class slot : ℕ) → word ≡ before_heap k + a → FreeMay x a pool class slot → MayStore k x word 0 (FreeTold a pool class slot)

@@ -1,9 +1,13 @@
+pub mod Removals
+pub mod Owning
 pub mod Reaping
 pub mod Rotating
 pub mod SweepSteps
 pub mod Swept
 pub mod TurnSteps
 pub mod FreeSteps
+pub mod HeadColours
+pub mod PruneSteps
 pub mod Recounting
 pub mod ClearSteps
 pub mod CountSteps

@@ -22,7 +22,7 @@ use Rattle.steps_cycle.specs.Looks.{with_share}
 use Rattle.steps_cycle.proofs.Learning.{even, leads_odd, rests_here, waits}
 use Rattle.steps_cycle.proofs.Plain.{share_closes}
 use Rattle.steps_sweep.specs.Returning.{ReturnMay, ReturnTold}
-use Rattle.steps_sweep.proofs.Returned.{agrees, calm, collecting, cycle', drawers', drawn_was, full', grid', is_own, knowing_other, knowing_own, no_prepared, other_word, owned_was, pools', reserved', same_cursor, same_cycle, share', t', words'}
+use Rattle.steps_sweep.proofs.Returned.{agrees, calm, collecting, cycle', drawers', drawn_was, full', grid', is_own, knowing_other, knowing_own, listed', no_prepared, other_word, own_was, owned_was, pools', reserved', same_cursor, same_cycle, share', t', words'}
 
 module _ (k : Config) (s : Words) (r : Rule k s) (id : ℕ) (hist : List Entry) (x : DomainView) (at : get_elem? s.views id ≡ some (one k hist x)) (word pool class : ℕ) (may : ReturnMay k x word pool class) where
   abbrev T : Tenancy
@@ -99,7 +99,7 @@ module _ (k : Config) (s : Words) (r : Rule k s) (id : ℕ) (hist : List Entry) 
   hunters z differs g = hunter_agree k T after s.words ws (agrees k s r id hist x at word pool class may) z grows
       (same_over T pool _ T.asking T.fresh T.stock z.own.number (subst (λ (h : Holder). NotOf h z.own.number) (sym (is_own k s r id hist x at word pool class may)) (owned_not d class z.own.number (λ e. differs (sym e)))) (nobody_not z.own.number) refl (λ b. refl) (stock_self T.stock z.own.number)) g.hunter
 
-  sharing' : Sharing k all' ws d x.own.registers x.seen.stage y.seen.share
+  sharing' : Sharing k all' ws d x.own.registers x.own.ephemerons.items x.seen.stage y.seen.share
   sharing' =
       let g = good.sharing in
       let l = leading_words c s.words ws d x.seen.stage x.seen.share (same_cycle k s r id hist x at word pool class may) g.leading in
@@ -108,9 +108,10 @@ module _ (k : Config) (s : Words) (r : Rule k s) (id : ℕ) (hist : List Entry) 
         leading = record { changed = l.changed; found_blocks = l.found_blocks; found_words = l.found_words; rotated = l.rotated; turned = l.turned; pass = l.pass };
         knows = inr (collects, knowing_own k s r id hist x at word pool class may);
         adds = record { blocks = g.adds.blocks; words = g.adds.words; own = g.adds.own };
+        looks = record { at_own = g.looks.at_own; pruned = g.looks.pruned; cleans = g.looks.cleans; emptied_is = λ a p own lives. g.looks.emptied_is a p (own_was k s r id hist x at word pool class may a d own) lives };
       }
 
-  sharings' : (z : DomainView) → z.own.number ≢ d → Good k r.account s.words z → Sharing k all' ws z.own.number z.own.registers z.seen.stage z.seen.share
+  sharings' : (z : DomainView) → z.own.number ≢ d → Good k r.account s.words z → Sharing k all' ws z.own.number z.own.registers z.own.ephemerons.items z.seen.stage z.seen.share
   sharings' z differs h = let g = h.sharing in record {
     telling = g.telling;
     leading = leading_words c s.words ws z.own.number z.seen.stage z.seen.share (same_cycle k s r id hist x at word pool class may) g.leading;
@@ -119,6 +120,7 @@ module _ (k : Config) (s : Words) (r : Rule k s) (id : ℕ) (hist : List Entry) 
         (λ (u : IsCollecting z.seen.stage × Knowing k r.account.live T.holder (state_of k r.account.log).graph c.paint.marks s.words z.own.number z.own.registers z.seen.share). inr (u.0, knowing_other k s r id hist x at word pool class may z differs u.1))
         g.knows;
     adds = g.adds;
+    looks = record { at_own = g.looks.at_own; pruned = g.looks.pruned; cleans = g.looks.cleans; emptied_is = λ a p own lives. g.looks.emptied_is a p (own_was k s r id hist x at word pool class may a z.own.number own) lives };
   }
 
   return_rule : Rule k record { words = ws; homes = s.homes; views = set s.views id (one k hist y) }
@@ -169,6 +171,7 @@ module _ (k : Config) (s : Words) (r : Rule k s) (id : ℕ) (hist : List Entry) 
         rooted = g.rooted;
         set_back = λ b. low_kept (g.set_back b);
         sharing = sharing';
+        listed = let l = listed' k s r id hist x at word pool class may d x.own.ephemerons.items g.listed in record { all = l.all; own = l.own; lives = l.lives };
       }
       (λ z _ differs h. record {
         stood = h.stood;
@@ -183,6 +186,7 @@ module _ (k : Config) (s : Words) (r : Rule k s) (id : ℕ) (hist : List Entry) 
         rooted = h.rooted;
         set_back = λ b. low_kept (h.set_back b);
         sharing = sharings' z differs h;
+        listed = listed' k s r id hist x at word pool class may z.own.number z.own.ephemerons.items h.listed;
       })
 
 pub return_may : (k : Config) (x : DomainView) (word pool class : ℕ) → ReturnMay k x word pool class → MayStore k x word 0 (ReturnTold pool)

@@ -8,7 +8,7 @@ use Rattle.heap_model.specs.declared.entry.Entry.{Entry}
 use Rattle.heap_model.specs.declared.state.State as model
 use Rattle.heap_rule.specs.declared.config.Config.{Config}
 use Rattle.heap_rule.specs.declared.phase.Kind.{Kind}
-use Rattle.heap_rule.specs.declared.phase.Kind.TheVariants.{Answer}
+use Rattle.heap_rule.specs.declared.phase.Kind.TheVariants.{Answer, Clean}
 use Rattle.heap_rule.specs.declared.view.DomainView.{DomainView}
 use Rattle.heap_rule.specs.declared.view.Share.{Share}
 use Rattle.heap_rule.specs.Copies.{Promoting}
@@ -17,7 +17,7 @@ use Rattle.heap_rule.specs.Fullness.{Fullness}
 use Rattle.heap_rule.specs.Layout.{at_address, heap_words, listed, cursor, listed_pool, owner_of, table_words}
 use Rattle.heap_rule.specs.Phases.{sum_of}
 use Rattle.heap_rule.specs.Places.{Live, Place}
-use Rattle.heap_rule.specs.Pools.{Drawers, Grid, Holder, Pools, Reserved, Tenancy, blocks_of, drawn, limit_of, nobody, owned, owner_word, place_in, size_of}
+use Rattle.heap_rule.specs.Pools.{Drawers, Grid, Holder, OwnPlace, Pools, Reserved, Tenancy, blocks_of, drawn, limit_of, nobody, owned, owner_word, place_in, size_of}
 use Rattle.heap_rule.specs.Rule.{Rule, state_of}
 use Rattle.heap_rule.specs.Views.{one}
 use Rattle.heap_rule.proofs.Classes.{size_least, slot_inside}
@@ -27,7 +27,8 @@ use Rattle.heap_rule.proofs.Lots.{head_full, owned_same}
 use Rattle.heap_rule.proofs.Update.{over, over_else, over_here}
 use Rattle.heap_rule.proofs.Sharings.{SameCycle}
 use Rattle.steps_cycle.proofs.Layouts.{labelled}
-use Rattle.steps_cycle.proofs.Learning.{kind_here, known, lies_old, not_promoting}
+use Rattle.heap_rule.specs.Ephemerons.{IsEpheAt, Listed}
+use Rattle.steps_cycle.proofs.Learning.{kind_here, known, lies_old, not_promoting, whole_in}
 use Rattle.steps_sweep.specs.Returning.{ReturnMay}
 use Rattle.std.proofs.lemmas.Option.{none-some}
 
@@ -172,6 +173,20 @@ module _ (k : Config) (s : Words) (r : Rule k s) (id : ℕ) (hist : List Entry) 
     spares = λ b e is. absurd (no_prepared b e is);
   }
 
+  -- the places of listed ephemerons are their domains' still
+  pub own_was : (b e : ℕ) → OwnPlace t'.holder b e → OwnPlace T.holder b e
+  own_was b e o = record { pool = o.pool; class = o.class; slot = o.slot; owned_is = (owned_was o.pool e o.class o.owned_is).1; inside = o.inside; begins = o.begins }
+
+  pub listed' : (e : ℕ) (items : List ℕ) → Listed live T.holder T.garbage e items → Listed live t'.holder T.garbage e items
+  listed' e items l = record {
+    all = λ q cl slot is inside here. l.all q cl slot (owned_was q e cl is).1 inside here;
+    own = λ b is. let o = l.own b is in ⊎_elim
+        (λ (h : IsEpheAt live b). record { pool = o.pool; class = o.class; slot = o.slot; owned_is = else' o.pool (no_block o.pool e o.class o.slot h.place o.owned_is o.inside (ap live (sym o.begins) ∙ h.lives)) ∙ o.owned_is; inside = o.inside; begins = o.begins })
+        (λ (h : IsTrue (T.garbage b)). absurd (true≢false (sym h ∙ facts.clean b)))
+        (l.lives b is);
+    lives = l.lives;
+  }
+
   pub drawers' : Drawers r.account.pause t'
   drawers' = let w = r.whole.drawers in record { drawn = λ q e is. w.drawn q e (drawn_was q e is); prepared = w.prepared; claims = w.claims }
 
@@ -243,6 +258,7 @@ module _ (k : Config) (s : Words) (r : Rule k s) (id : ℕ) (hist : List Entry) 
     facts = subst (λ (kind : Kind). Facts kind k now live t' c words') (sym kind_is) answering';
     told = y.told;
     leaves = record { none = y.leaves.none; dead = y.leaves.dead; head = λ a is. absurd (true≢false (sym is ∙ facts.clean a)) };
+    whole = λ l. inl (whole_in k s r id hist x at (λ e. let same : Answer ≡ Clean = sym kind_is ∙ e in cc) l);
   }
 
   -- what domains have counted is theirs still

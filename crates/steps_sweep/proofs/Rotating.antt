@@ -27,7 +27,7 @@ left_garbage marked live a = dead_of marked (live a)
 
 -- then nothing is marked
 abbrev pub rotated_paint : Paint → Paint
-rotated_paint paint = record { colours = rotated paint.colours; marks = record { marked = λ l. false; scanned = λ l. false } }
+rotated_paint paint = record { colours = rotated paint.colours; marks = record { marked = λ l. false; scanned = λ l. false }; emptied = paint.emptied }
 
 pub rotated_fits : (c : Colours) → IsPermutation c → IsPermutation (rotated c)
 rotated_fits c p = record { marked_fits = p.garbage_fits; unmarked_fits = p.marked_fits; garbage_fits = p.unmarked_fits; marked_differs = p.garbage_differs; unmarked_differs = p.marked_differs; garbage_differs = p.unmarked_differs }

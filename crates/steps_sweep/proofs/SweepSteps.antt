@@ -22,9 +22,9 @@ use Rattle.heap_rule.proofs.Keeps.{Words, my_good, unmoved}
 use Rattle.steps_cycle.specs.Looks.{with_share}
 use Rattle.std.proofs.lemmas.Bool.{cases_Bool}
 use Rattle.steps_cycle.proofs.Plain.{share_closes}
-use Rattle.steps_cycle.proofs.Learning.{at_other, at_same, held, knows_more, known, shifts_more}
+use Rattle.steps_cycle.proofs.Learning.{at_other, at_same, held, knows_more, known, looks_same, shifts_more}
 use Rattle.steps_sweep.specs.Freeing.{SweepMay, SweepTold, passed}
-use Rattle.steps_sweep.proofs.Swept.{clean_head, collecting, dead_colour, facts, kind_is, seen', swept_on, walked}
+use Rattle.steps_sweep.proofs.Swept.{clean_head, collecting, colour_of_dead, facts, kind_is, seen', swept_on, walked}
 use Rattle.std.proofs.lemmas.Option.{same_Some}
 use Rattle.heap_rule.proofs.Stages.{waits_in}
 
@@ -65,7 +65,7 @@ module _ (k : Config) (s : Words) (r : Rule k s) (id : ℕ) (hist : List Entry) 
       (λ z other. (refl, at_other c.shares.seen d (λ b. b == a || c.shares.seen d b) z other))
       (t.owes waits)
       (at_same c.shares.seen d (λ b. b == a || c.shares.seen d b) ∙ ap (λ (g : ℕ → Bool). λ (b : ℕ). b == a || g b) (t.seen waits))
-      record { found_head = kn.found_head; scan = kn.scan; walked = walked k s r id hist x at a pool class slot may; own_pool = kn.own_pool; rooted = kn.rooted; marked = kn.marked }
+      record { found_head = kn.found_head; scan = kn.scan; walked = walked k s r id hist x at a pool class slot may; own_pool = kn.own_pool; rooted = kn.rooted; marked = kn.marked; looking = looks_same k s r id hist x at (collecting k s r id hist x at a pool class slot may) (held (passed a pool class slot sh)) refl refl }
       refl
 
   abbrev head_found : Share
@@ -81,11 +81,12 @@ module _ (k : Config) (s : Words) (r : Rule k s) (id : ℕ) (hist : List Entry) 
     own_pool = kn.own_pool;
     rooted = kn.rooted;
     marked = kn.marked;
+    looking = looks_same k s r id hist x at (collecting k s r id hist x at a pool class slot may) (held head_found) refl refl;
   }
 
   pub sweeps : (y : DomainView) × After y × SweepTold a pool class slot x found y
   sweeps = ⊎_elim
-      (λ (is : r.account.tenancy.garbage a ≡ true). (with_share x head_found, finds is, record { colours = may.colours; known = may.known; told = inr (dead_colour k s r id hist x at a pool class slot may is, refl) }))
+      (λ (is : r.account.tenancy.garbage a ≡ true). (with_share x head_found, finds is, record { colours = may.colours; known = may.known; told = inr (colour_of_dead k s r id hist x at may.stage may.colours may.known a is, refl) }))
       (λ (clean : r.account.tenancy.garbage a ≡ false). (with_share x (passed a pool class slot sh), passes clean, record { colours = may.colours; known = may.known; told = inl (clean_head k s r id hist x at a pool class slot may clean, refl) }))
       (cases_Bool (r.account.tenancy.garbage a))
 

@@ -24,6 +24,7 @@ use Rattle.steps_cycle.proofs.Colouring.{BareHead, bare_head, unmarked_colour}
 use Rattle.steps_cycle.proofs.Learning.{bare, kind_here, known, not_promoting}
 use Rattle.steps_cycle.proofs.WalkSteps.{before_behind}
 use Rattle.steps_sweep.specs.Freeing.{IsColoured, SweepMay, passed}
+use Rattle.steps_sweep.proofs.HeadColours.{one_colour}
 use Rattle.heap_rule.specs.declared.phase.Stage.TheVariants.{In}
 
 -- it holds where the domains are further on and other words changed
@@ -58,6 +59,33 @@ module _ (k : Config) (s : Words) (r : Rule k s) (id : ℕ) (hist : List Entry) 
       z))
       (r.whole.grid.places pool x.own.number class slot own inside)
 
+  -- the colours that the domain knows are those of the heads
+  module _ (colours : Colours) (knows : x.seen.share.colours ≡ Some colours) (a : ℕ) where
+    means_here : colours ≡ r.account.cycling.paint.colours
+    means_here = (my_good k s r id hist x at).sharing.telling.colours colours knows
+
+    -- what lives there has the colour of the unmarked
+    pub head_of_live : (p : Place) → r.account.live a ≡ Some p → BareHead r.account.cycling.paint p (at_address k s.words a)
+    head_of_live p lives = bare_head r.account.cycling.paint p (at_address k s.words a) (bare k s r id hist x at sweeping a p lives) r.whole.cycle.meanings (r.whole.placed.fits a p lives).head (r.whole.found a p lives).head
+
+    pub colour_of_live : (p : Place) (lives : r.account.live a ≡ Some p) → (head_of_live p lives).head.colour ≡ colours.unmarked
+    colour_of_live p lives = unmarked_colour r.account.cycling.paint p (at_address k s.words a) colours means_here (head_of_live p lives) (sweep_facts.swept.unmarked p.label)
+
+    -- and garbage that of garbage
+    pub colour_of_dead : IsTrue (r.account.tenancy.garbage a) → IsColoured colours.garbage (at_address k s.words a)
+    colour_of_dead is = let h = r.whole.cycle.leaves.head a is in let c = r.account.cycling.paint.colours in record {
+      shape = h.0.0;
+      head = record { colour = c.garbage; scanned = h.1; packable = packable_head h.0.0 c.garbage h.1 r.whole.cycle.meanings.garbage_fits h.0.1; packs = h.2 };
+      colour_is = sym (ap (λ (z : Colours). z.garbage) means_here);
+    }
+
+    -- these differ
+    pub live_not_dead : (p : Place) → r.account.live a ≡ Some p → IsColoured colours.garbage (at_address k s.words a) → ⊥
+    live_not_dead p lives dead =
+        let unmarked : IsColoured colours.unmarked (at_address k s.words a) = record { shape = p.shape; head = (head_of_live p lives).head; colour_is = colour_of_live p lives } in
+        let same : colours.unmarked ≡ colours.garbage = one_colour colours.unmarked colours.garbage (at_address k s.words a) unmarked dead in
+        r.whole.cycle.meanings.unmarked_differs (ap (λ (z : Colours). z.unmarked) (sym means_here) ∙ (same ∙ ap (λ (z : Colours). z.garbage) means_here))
+
 module _ (k : Config) (s : Words) (r : Rule k s) (id : ℕ) (hist : List Entry) (x : DomainView) (at : get_elem? s.views id ≡ some (one k hist x)) (a pool class slot : ℕ) (may : SweepMay x a pool class slot) where
   abbrev now : model.State
   now = state_of k r.account.log
@@ -89,29 +117,11 @@ module _ (k : Config) (s : Words) (r : Rule k s) (id : ℕ) (hist : List Entry) 
   pub facts : Sweeping k now live t c s.words
   facts = sweep_facts k s r id hist x at may.stage
 
-  pub means : may.colours ≡ c.paint.colours
-  means = (my_good k s r id hist x at).sharing.telling.colours may.colours may.known
-
-  -- what lives there has the colour of the unmarked
-  pub live_head : (p : Place) → live a ≡ Some p → BareHead c.paint p (at_address k s.words a)
-  live_head p lives = bare_head c.paint p (at_address k s.words a) (bare k s r id hist x at collecting a p lives) r.whole.cycle.meanings (r.whole.placed.fits a p lives).head (r.whole.found a p lives).head
-
-  pub live_colour : (p : Place) (lives : live a ≡ Some p) → (live_head p lives).head.colour ≡ may.colours.unmarked
-  live_colour p lives = unmarked_colour c.paint p (at_address k s.words a) may.colours means (live_head p lives) (facts.swept.unmarked p.label)
-
-  -- and garbage that of garbage
-  pub dead_colour : IsTrue (t.garbage a) → IsColoured may.colours.garbage (at_address k s.words a)
-  dead_colour is = let h = r.whole.cycle.leaves.head a is in record {
-    shape = h.0.0;
-    head = record { colour = c.paint.colours.garbage; scanned = h.1; packable = packable_head h.0.0 c.paint.colours.garbage h.1 r.whole.cycle.meanings.garbage_fits h.0.1; packs = h.2 };
-    colour_is = sym (ap (λ (z : Colours). z.garbage) means);
-  }
-
   -- where no garbage is the place is free, or a block lives there
   pub clean_head : t.garbage a ≡ false → (at_address k s.words a ≡ 0) ⊎ IsColoured may.colours.unmarked (at_address k s.words a)
   clean_head clean = ⊎_elim
       (λ (none : live a ≡ None). inl (empty_free k s r id hist x at may.stage a pool class slot is_own may.inside may.word none clean))
-      (λ (q : (p : Place) × (live a ≡ Some p)). inr (record { shape = q.0.shape; head = (live_head q.0 q.1).head; colour_is = live_colour q.0 q.1 }))
+      (λ (q : (p : Place) × (live a ≡ Some p)). inr (record { shape = q.0.shape; head = (head_of_live k s r id hist x at may.stage may.colours may.known a q.0 q.1).head; colour_is = colour_of_live k s r id hist x at may.stage may.colours may.known a q.0 q.1 }))
       (place_cases (live a))
 
   abbrev pub seen' : ℕ → ℕ → Bool

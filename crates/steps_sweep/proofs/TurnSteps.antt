@@ -1,31 +1,36 @@
 -- The rotation of the colours keeps the rule.
-use Rattle.std.proofs.Common.{◌≡◌, ◌≢◌, ℕ, ◌+◌, ◌<◌, ◌≤◌, Bool, true, false, true≢false, cond, IsTrue, List, length, get_or, set, slice_get, filter_map, Some, None, Option, unwrap_or, sym, refl, ap, ◌∙◌, subst, inl, inr, ⊎_elim, arith, length-set, get_or-set_same, get_or-set_other}
-use Rattle.std.proofs.lemmas.Option.{unwrap_or-slice_get}
+use Rattle.std.proofs.Common.{◌≡◌, ◌≢◌, ℕ, zero, suc, ◌+◌, ◌<◌, ◌≤◌, Bool, true, false, true≢false, cond, IsTrue, List, [], ◌∷◌, map, option_to_list, length, get_or, set, slice_get, filter_map, Some, None, Option, unwrap_or, sym, refl, ap, ◌∙◌, subst, inl, inr, ⊎_elim, arith, length-set, get_or-set_same, get_or-set_other}
+use Rattle.std.proofs.lemmas.Option.{none-some, same_Some, unwrap_or-slice_get}
 use mathlib.Core.Option.{some}
 use lib.ListN.{get_elem?}
 use Rattle.atomic_table.specs.Table.{keeps}
 use Rattle.heap_model.specs.declared.entry.Entry.{Entry}
 use Rattle.heap_model.specs.declared.label.Label.{Label}
 use Rattle.heap_model.specs.declared.graph.Node.{Node}
-use Rattle.heap_model.specs.declared.graph.Node.TheVariants.{Plain}
+use Rattle.heap_model.specs.declared.graph.Node.TheVariants.{Plain, Raw, Ephe}
 use Rattle.heap_model.specs.declared.graph.Value.{Value}
 use Rattle.heap_model.specs.declared.graph.Value.TheVariants.{Block, Nothing}
 use Rattle.heap_model.specs.declared.state.Sizes.{Sizes}
 use Rattle.heap_model.specs.declared.state.State as model
 use Rattle.heap_model.specs.Domains.{domain_at, opening, register}
-use Rattle.heap_model.specs.Graph.{has_label, label_of, node_at}
+use Rattle.heap_model.specs.Commands.{key_value}
+use Rattle.heap_model.specs.Entries.{full_keys}
+use Rattle.heap_model.specs.Fronts.{shape_of}
+use Rattle.heap_model.specs.Graph.{has_label, label_of, node_at, same_label}
+use Rattle.heap_model.proofs.Graphs.GraphLemmas.{same_label_refl}
+use Rattle.heap_model.proofs.Reach.ReachLemmas.{or_left}
 use Rattle.heap_model.proofs.Histories.ShapeAfterLemmas.{shaped-history}
 use Rattle.heap_words.specs.ColourWords.{colours_word, rotated}
 use Rattle.heap_words.specs.Heads.{head_word}
 use Rattle.heap_words.specs.declared.colours.Colours.{Colours}
-use Rattle.cycle_laws.specs.Marks.{fields_of}
+use Rattle.cycle_laws.specs.Marks.{data_of, fields_of}
 use Rattle.cycle_laws.specs.Shares.{AllArrived, AllOwned}
 use Rattle.cycle_laws.specs.Taking.{LeadsToMarked}
 use Rattle.cycle_laws.proofs.Cycling.{phase_steps}
 use Rattle.cycle_laws.proofs.DomainParts.{listed_at}
 use Rattle.heap_rule.specs.declared.config.Config.{Config}
 use Rattle.heap_rule.specs.declared.phase.Kind.{Kind}
-use Rattle.heap_rule.specs.declared.phase.Kind.TheVariants.{Run, Lasts, Sweep}
+use Rattle.heap_rule.specs.declared.phase.Kind.TheVariants.{Run, Clean, Lasts, Sweep}
 use Rattle.heap_rule.specs.declared.phase.Stage.TheVariants.{Leads}
 use Rattle.heap_rule.specs.declared.view.DomainView.{DomainView}
 use Rattle.heap_rule.specs.declared.view.Share.{Share}
@@ -35,17 +40,20 @@ use Rattle.heap_rule.specs.Cycles.{Cycled, Cycling, Facts, IsCollecting, IsGarba
 use Rattle.heap_rule.specs.Layout.{at_address, before_heap, heap_words}
 use Rattle.heap_rule.specs.Limits.{sizes_in}
 use Rattle.heap_rule.specs.Phases.{AtStage}
-use Rattle.heap_rule.specs.Places.{IsBare, IsOldAt, Live, Place, head_of, values_of}
+use Rattle.heap_rule.specs.Places.{IsBare, IsBuilt, IsOldAt, Live, Place, head_of, values_of, without_keys}
 use Rattle.heap_rule.specs.Pools.{Grid, Hunter, Tenancy, place_in}
 use Rattle.heap_rule.specs.Raw.{CanLeave, Closes, Leaves, MayStore}
 use Rattle.heap_rule.specs.Rule.{AllFound, Good, Rule, Sharing, Stood, state_of}
 use Rattle.heap_rule.specs.Views.{one}
-use Rattle.heap_rule.proofs.Again.{Back, lots_back}
+use Rattle.heap_rule.specs.Ephemerons.{Listed}
+use Rattle.heap_rule.proofs.EphemeronLemmas.{listed_on, looks_idle}
+use Rattle.heap_rule.proofs.Again.{Back, ephe_back, lots_back}
 use Rattle.heap_rule.proofs.Holders.{Agrees, SameFor, SameHeap, agrees_set, found_heap, hunter_agree, making_heap, stock_self}
 use Rattle.heap_rule.proofs.Keeps.{Words, hunter_as, my_good}
 use Rattle.heap_rule.proofs.PauseFacts.{not_both}
 use Rattle.heap_rule.proofs.PlainHistories.{IsPlainState, plain_opening, plain_state}
 use Rattle.steps_cycle.specs.Looks.{with_share}
+use Rattle.steps_cycle.proofs.Learning.{whole_in}
 use Rattle.steps_cycle.proofs.Plain.{share_closes}
 use Rattle.steps_cycle.proofs.Layouts.{label_there, labelled, owner_of_place}
 use Rattle.steps_sweep.specs.Turning.{TurnMay, TurnTold}
@@ -60,6 +68,16 @@ held_at xs i l e = go (slice_get xs i) refl (unwrap_or-slice_get xs i Nothing �
     go : (o : Option Value) → slice_get xs i ≡ o → unwrap_or o Nothing ≡ Block l → IsTrue (has_label (filter_map label_of xs) l)
     go None f g = absurd (let clash : Nothing ≡ Block l = g in cc)
     go (Some v) f g = listed_at label_of xs i v l f (ap label_of g)
+
+label_here : (l : Label) → IsTrue (has_label (option_to_list (Some l)) l)
+label_here l = or_left (same_label l l) (has_label [] l) (same_label_refl l)
+
+-- a block among the values of keys is a key
+key_at : (keys : List (Option Label)) (j : ℕ) (y : Label) → slice_get (map key_value keys) j ≡ Some (Block y) → slice_get keys j ≡ Some (Some y)
+key_at [] j y e = absurd (none-some (Block y) e)
+key_at (None ∷ keys) zero y e = absurd (let clash : Nothing ≡ Block y = same_Some Nothing (Block y) e in cc)
+key_at (Some l ∷ keys) zero y e = let same : Block l ≡ Block y = same_Some (Block l) (Block y) e in let is : l ≡ y = cc in ap (λ (z : Label). Some (Some z)) is
+key_at (key ∷ keys) (suc j) y e = key_at keys j y e
 
 module _ (k : Config) (s : Words) (r : Rule k s) (id : ℕ) (hist : List Entry) (x : DomainView) (at : get_elem? s.views id ≡ some (one k hist x)) (new : ℕ) (may : TurnMay x new) where
   abbrev now : model.State
@@ -141,9 +159,18 @@ module _ (k : Config) (s : Words) (r : Rule k s) (id : ℕ) (hist : List Entry) 
   back b q lives = record { place = q; lives = (kept_was c.before live b q lives).0; label = refl; shape = refl; forward = refl }
 
   -- what a marked block refers to is marked
-  leads_field : (l : Label) → IsTrue (c.before l) → (n : Node) → node_at now.graph l ≡ Some n → (i : ℕ) (y : Label) → slice_get (values_of n) i ≡ Some (Block y) → IsTrue (c.before y)
-  leads_field l is (Plain tag fields) there i y got = leads.fields l is y (subst (λ (o : Option Node). IsTrue (has_label (fields_of o) y)) (sym there) (listed_at label_of fields i (Block y) y got refl))
-  leads_field l is n there i y got = absurd (plain.nodes l n there)
+  leads_field : (l : Label) → IsTrue (c.before l) → (n : Node) → node_at now.graph l ≡ Some n → IsBuilt (shape_of n) → (i : ℕ) (y : Label) → slice_get (values_of n) i ≡ Some (Block y) → IsTrue (c.before y)
+  leads_field l is (Plain tag fields) there built i y got = leads.fields l is y (subst (λ (o : Option Node). IsTrue (has_label (fields_of o) y)) (sym there) (listed_at label_of fields i (Block y) y got refl))
+  leads_field l is (Raw tag fields) there built i y got = absurd built
+  leads_field l is (Ephe keys datum) there built zero y got = let same : datum ≡ Block y = same_Some datum (Block y) got in leads.datum l is y (subst (λ (o : Option Node). IsTrue (has_label (data_of o) y)) (sym there) (subst (λ (v : Value). IsTrue (has_label (option_to_list (label_of v)) y)) (sym same) (label_here y)))
+  leads_field l is (Ephe keys datum) there built (suc j) y got = leads.keys l is y (subst (λ (o : Option Node). IsTrue (has_label (full_keys o) y)) (sym there) (listed_at (λ o. o) keys j (Some y) y (key_at keys j y got) refl))
+
+  -- no block misses keys
+  whole : (l : Label) → c.paint.emptied l ≡ []
+  whole = whole_in k s r id hist x at (λ e. let same : Lasts ≡ Clean = sym kind_is ∙ e in cc)
+
+  whole_value : (n : Node) (l : Label) (i : ℕ) (v : Value) → slice_get (values_of (without_keys (c.paint.emptied l) n)) i ≡ Some v → slice_get (values_of n) i ≡ Some v
+  whole_value n l i v got = ap (λ (keys : List ℕ). slice_get (values_of (without_keys keys n)) i) (sym (whole l)) ∙ got
 
   found' : AllFound k (rotated_paint c.paint) live' now.graph words'
   found' a p lives =
@@ -160,7 +187,7 @@ module _ (k : Config) (s : Words) (r : Rule k s) (id : ℕ) (hist : List Entry) 
         };
         blank = f.blank;
         label = f.label;
-        values = λ i v has got. let w = f.values i v has got in record { value = w.value; packs = w.packs; stands = stands_left c.before live w.value v (λ l e. leads_field p.label was.1 f.node f.there i l (got ∙ ap Some e)) w.stands };
+        values = λ i v has got. let w = f.values i v has got in record { value = w.value; packs = w.packs; stands = stands_left c.before live w.value v (λ l e. leads_field p.label was.1 f.node f.there (subst IsBuilt (sym f.shape) (r.whole.placed.fits a p was.0).built) i l (whole_value f.node p.label i v got ∙ ap Some e)) w.stands };
         old = f.old;
       }
 
@@ -244,6 +271,7 @@ module _ (k : Config) (s : Words) (r : Rule k s) (id : ℕ) (hist : List Entry) 
     facts = subst (λ (kind : Kind). Facts kind k now live' t' c' words') (sym kind_is) facts';
     told = y.told;
     leaves = record { none = λ e. absurd (true≢false e); dead = dead_gone c.before live; head = garbage_head };
+    whole = λ l. inl (whole l);
   }
 
   abbrev share' : Share
@@ -258,7 +286,7 @@ module _ (k : Config) (s : Words) (r : Rule k s) (id : ℕ) (hist : List Entry) 
   no_sweep : c.kind ≡ Sweep → ⊥
   no_sweep e = let f : Lasts ≡ Sweep = sym kind_is ∙ e in cc
 
-  sharing' : Sharing k (reaped_to k s r id hist x at live' garbage' c') words' d x.own.registers x.seen.stage share'
+  sharing' : Sharing k (reaped_to k s r id hist x at live' garbage' c') words' d x.own.registers x.own.ephemerons.items x.seen.stage share'
   sharing' = let g = good.sharing in record {
     telling = record {
       owes = g.telling.owes;
@@ -277,9 +305,10 @@ module _ (k : Config) (s : Words) (r : Rule k s) (id : ℕ) (hist : List Entry) 
     };
     knows = inl idle';
     adds = record { blocks = λ e _. absurd (no_sweep e); words = λ e _. absurd (no_sweep e); own = λ e _ _. absurd (no_sweep e) };
+    looks = looks_idle live' t.holder garbage' now.graph c'.paint.marks c.paint.emptied d x.own.ephemerons.items x.seen.stage share' idle' whole;
   }
 
-  sharings' : (z : DomainView) → z.own.number < k.domains → z.own.number ≢ d → Good k r.account s.words z → Sharing k (reaped_to k s r id hist x at live' garbage' c') words' z.own.number z.own.registers z.seen.stage z.seen.share
+  sharings' : (z : DomainView) → z.own.number < k.domains → z.own.number ≢ d → Good k r.account s.words z → Sharing k (reaped_to k s r id hist x at live' garbage' c') words' z.own.number z.own.registers z.own.ephemerons.items z.seen.stage z.seen.share
   sharings' z below differs h =
       let g = h.sharing in
       let gone = told.1 z.own.number below in
@@ -301,10 +330,21 @@ module _ (k : Config) (s : Words) (r : Rule k s) (id : ℕ) (hist : List Entry) 
         };
         knows = inl (g.telling.fresh gone);
         adds = record { blocks = λ e _. absurd (no_sweep e); words = λ e _. absurd (no_sweep e); own = λ e _ _. absurd (no_sweep e) };
+        looks = looks_idle live' t.holder garbage' now.graph c'.paint.marks c.paint.emptied z.own.number z.own.ephemerons.items z.seen.stage z.seen.share (g.telling.fresh gone) whole;
       }
 
+  -- a listed ephemeron lives on, or it is garbage
+  listed' : (z : DomainView) → Good k r.account s.words z → Listed live' t.holder garbage' z.own.number z.own.ephemerons.items
+  listed' z g = listed_on live live' t.holder t.holder t.garbage garbage' z.own.number z.own.ephemerons.items (λ q class e. e) (λ q class e. e) (ephe_back live live' back)
+      (λ a e. ⊎_elim
+      (λ (q : (p : Place) × (live' a ≡ Some p)). inl (record { place = q.0; lives = q.1; keys = e.keys; shape = ap (λ (p : Place). p.shape) (same_Some q.0 e.place (sym (kept_was c.before live a q.0 q.1).0 ∙ e.lives)) ∙ e.shape }))
+      (λ (h : IsTrue (garbage' a)). inr h)
+      (kept_or_dead c.before live a e.place e.lives))
+      (λ a is. absurd (true≢false (sym is ∙ r.whole.cycle.leaves.none unrotated a)))
+      g.listed
+
   pub turn_rule : Rule k record { words = words'; homes = s.homes; views = set s.views id (one k hist (with_share x share')) }
-  turn_rule = reaps k s r id hist x at x.own.looked share' live' garbage' c' words' record {
+  turn_rule = reaps k s r id hist x at x.own.looked x.own.ephemerons share' live' garbage' c' words' record {
     wide = length-set s.words 5 new;
     control = λ i _ differ _ _. other i differ;
     calm = calm;
@@ -320,6 +360,8 @@ module _ (k : Config) (s : Words) (r : Rule k s) (id : ℕ) (hist : List Entry) 
     cycle = cycle';
     sharing = sharing';
     sharings = sharings';
+    listed_own = listed' x good;
+    listeds = λ z _ g. listed' z g;
   }
 
 pub turn_may : (k : Config) (x : DomainView) (new : ℕ) → TurnMay x new → MayStore k x 5 new TurnTold

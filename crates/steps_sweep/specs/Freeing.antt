@@ -1,5 +1,5 @@
 -- What the steps that free garbage ask and tell.
-use Rattle.std.specs.Prelude.{◌≡◌, ℕ, ◌<◌, ◌⊎◌, ◌∷◌, slice_set, Some, None}
+use Rattle.std.specs.Prelude.{◌≡◌, ℕ, ◌<◌, ◌≤◌, ◌⊎◌, ◌∷◌, length, slice_set, Some, None}
 use Rattle.heap_model.specs.Fronts.{Shape}
 use Rattle.heap_words.specs.declared.colours.Colours.{Colours}
 use Rattle.heap_rule.specs.declared.phase.Kind.TheVariants.{Sweep}
@@ -38,12 +38,13 @@ pub record SweepTold (at pool class slot : ℕ) (x : DomainView) (found : ℕ) (
   pub told : (((found ≡ 0) ⊎ IsColoured colours.unmarked found) × (y ≡ with_share x (passed at pool class slot x.seen.share)))
       ⊎ (IsColoured colours.garbage found × (y ≡ with_share x (record x.seen.share { found_head = Some (record { address = at; word = found }) })))
 
--- the garbage that the domain has found at the next place is freed
+-- the garbage that the domain has found at the next place is freed. No listed ephemeron is garbage any more
 pub record FreeMay (x : DomainView) (at pool class slot : ℕ) : Type 0 where
   pub look : SweepMay x at pool class slot
   pub word : ℕ
   pub found : x.seen.share.found_head ≡ Some (record { address = at; word = word })
   pub garbage : IsColoured look.colours.garbage word
+  pub pruned : length x.own.ephemerons.items ≤ x.seen.share.pruned
 
 -- the walk goes on, and all places of own pools of the class may be free
 abbrev pub freed : ℕ → ℕ → ℕ → ℕ → DomainView → DomainView

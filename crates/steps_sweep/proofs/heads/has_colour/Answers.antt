@@ -2,8 +2,8 @@ use Rattle.std.proofs.Common.{◌∙◌, ℕ, Some, ap, subst}
 use Rattle.std.proofs.lemmas.Bool.{eqb-true, eq-eqb}
 use Rattle.heap_words.specs.declared.head.Head.{Head}
 use Rattle.steps_sweep.specs.Freeing.{IsColoured}
-use Rattle.sweeper.proofs.Colours.{one_colour, plain_coloured, ephe_coloured}
-use Rattle.sweeper.proofs.words.has_colour.Goals as goal
+use Rattle.steps_sweep.proofs.HeadColours.{one_colour, plain_coloured, ephe_coloured}
+use Rattle.steps_sweep.proofs.heads.has_colour.Goals as goal
 
 pub returns-in-Some-Plain : goal.returns-in-Some-Plain
 returns-in-Some-Plain c =

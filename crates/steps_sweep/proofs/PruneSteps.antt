@@ -1,0 +1,231 @@
+-- A look at the head of a listed ephemeron in Sweep keeps the rule.
+use Rattle.std.proofs.Common.{◌≡◌, ◌≢◌, ℕ, ◌+◌, ◌<◌, ◌≤◌, ◌⊎◌, false, true≢false, IsTrue, List, get_or, set, slice_get, Option, Some, None, sym, refl, ap, ◌∙◌, subst, inl, inr, ⊎_elim, arith, lt_of_not-le}
+use Rattle.std.proofs.lemmas.Bool.{cases_Bool}
+use Rattle.std.proofs.lemmas.Option.{same_Some}
+use mathlib.Core.Logic.{dite}
+use native.Mathlib.Decide.{ℕ_discrete, dec_le}
+use mathlib.Core.Option.{some}
+use lib.ListN.{get_elem?}
+use Rattle.atomic_table.specs.Table.{keeps}
+use Rattle.remembered_set.specs.Bounded.{Bounded}
+use Rattle.heap_model.specs.declared.entry.Entry.{Entry}
+use Rattle.heap_model.specs.declared.state.State as model
+use Rattle.heap_rule.specs.declared.config.Config.{Config}
+use Rattle.heap_rule.specs.declared.phase.Kind.TheVariants.{Sweep, Clean}
+use Rattle.heap_rule.specs.declared.phase.Stage.TheVariants.{In}
+use Rattle.heap_rule.specs.declared.view.DomainView.{DomainView}
+use Rattle.heap_rule.specs.declared.view.Own.{Own}
+use Rattle.heap_rule.specs.declared.view.Share.{Share}
+use Rattle.heap_rule.specs.Cycles.{Cycling, IsCollecting, Knowing, seen_by}
+use Rattle.heap_rule.specs.Ephemerons.{IsEpheAt, Listed}
+use Rattle.heap_rule.specs.Layout.{at_address, before_heap}
+use Rattle.heap_rule.specs.Places.{Live, Place}
+use Rattle.heap_rule.specs.Pools.{Tenancy}
+use Rattle.heap_rule.specs.Raw.{Closes, MayStep}
+use Rattle.heap_rule.specs.Rule.{Good, Rule, Sharing, state_of}
+use Rattle.heap_rule.specs.Token.{AllInHeap, OwnFits}
+use Rattle.heap_rule.specs.Views.{one}
+use Rattle.heap_rule.proofs.Closes.{front_same}
+use Rattle.heap_rule.proofs.Keeps.{Words, hunter_as, my_good, unmoved}
+use Rattle.heap_rule.proofs.Stages.{waits_in}
+use Rattle.steps_cycle.specs.Looks.{with_share}
+use Rattle.steps_cycle.proofs.Learning.{known, learns, not_promoting}
+use Rattle.steps_sweep.specs.Freeing.{IsColoured}
+use Rattle.steps_sweep.specs.Pruning.{CanPrune, PruneMay, PruneTold, Prunes, unlisted}
+use Rattle.steps_sweep.proofs.Owning.{looked_lives}
+use Rattle.steps_sweep.proofs.Reaping.{reaped_to, reaps}
+use Rattle.steps_sweep.proofs.Removals.{among, before, still_among, was, was_among}
+use Rattle.steps_sweep.proofs.Swept.{colour_of_dead, live_not_dead, sweeping}
+
+module _ (k : Config) (s : Words) (r : Rule k s) (id : ℕ) (hist : List Entry) (x : DomainView) (at : get_elem? s.views id ≡ some (one k hist x)) (a i garbage : ℕ) (may : PruneMay x a i garbage) where
+  abbrev now : model.State
+  now = state_of k r.account.log
+
+  abbrev live : Live
+  live = r.account.live
+
+  abbrev t : Tenancy
+  t = r.account.tenancy
+
+  abbrev c : Cycling
+  c = r.account.cycling
+
+  abbrev d : ℕ
+  d = x.own.number
+
+  abbrev sh : Share
+  sh = x.seen.share
+
+  abbrev items : List ℕ
+  items = x.own.ephemerons.items
+
+  abbrev found : ℕ
+  found = at_address k s.words a
+
+  abbrev After : DomainView → Type 0
+  After y = Rule k record { words = s.words; homes = s.homes; views = set s.views id (one k hist y) }
+
+  good : Good k r.account s.words x
+  good = my_good k s r id hist x at
+
+  collecting : IsCollecting x.seen.stage
+  collecting = sweeping k s r id hist x at may.stage
+
+  kn : Knowing k live t.holder now.graph c.paint.marks s.words d x.own.registers sh
+  kn = known k s r id hist x at
+
+  waits : c.shares.arrived d ≡ false
+  waits = waits_in k s r id hist x at Sweep may.stage
+
+  -- the ephemeron lives: none up to it is garbage
+  abbrev passed : Share
+  passed = record sh { pruned = i + 1 }
+
+  clean : IsEpheAt live a → t.garbage a ≡ false
+  clean e = ⊎_elim
+      (λ (is : IsTrue (t.garbage a)). absurd (let clash : ◌≡◌ {A = Option Place} None (Some e.place) = sym (r.whole.cycle.leaves.dead a is) ∙ e.lives in cc))
+      (λ (is : t.garbage a ≡ false). is)
+      (cases_Bool (t.garbage a))
+
+  none_dead : IsEpheAt live a → (j b : ℕ) → j < i + 1 → slice_get items j ≡ Some b → t.garbage b ≡ false
+  none_dead e j b low got = dite (ℕ_discrete j i)
+      (λ same. let here : b ≡ a = same_Some b a (sym got ∙ (ap (slice_get items) same ∙ may.listed)) in ap t.garbage here ∙ clean e)
+      (λ other. good.sharing.looks.pruned j b (let m : ℕ = sh.pruned in let f : i ≤ m = may.next in let n : j ≢ i = other in let l : j < i + 1 = low in let g : j < m = omega arith in g) got)
+
+  passes : IsEpheAt live a → After (with_share x passed)
+  passes e = let g = good.sharing in let n = kn.counted in learns k s r id hist x at passed record {
+    telling = record { owes = g.telling.owes; seen = g.telling.seen; fresh = λ up. absurd (true≢false (sym up ∙ waits)); forgotten = λ up. absurd (true≢false (sym up ∙ waits)); colours = g.telling.colours };
+    leading = record { changed = g.leading.changed; found_blocks = g.leading.found_blocks; found_words = g.leading.found_words; rotated = g.leading.rotated; turned = g.leading.turned; pass = g.leading.pass };
+    knows = inr (
+      collecting,
+      record { found_head = kn.found_head; scan = kn.scan; walked = kn.walked; own_pool = kn.own_pool; rooted = kn.rooted; marked = kn.marked; counted = record { once = n.once; own = n.own; lives = n.lives; all = n.all; words = n.words }; held = kn.held; vacant = kn.vacant },
+    );
+    adds = record { blocks = g.adds.blocks; words = g.adds.words; own = g.adds.own };
+    looks = record { at_own = g.looks.at_own; pruned = none_dead e; cleans = g.looks.cleans; emptied_is = g.looks.emptied_is };
+  }
+
+  -- it is garbage: it is listed no more
+  abbrev shorter : Bounded ℕ
+  shorter = (unlisted a i x.own).ephemerons
+
+  abbrev y : DomainView
+  y = record x { own = unlisted a i x.own }
+
+  module _ (dead : IsTrue (t.garbage a)) where
+    none : live a ≡ None
+    none = r.whole.cycle.leaves.dead a dead
+
+    -- whatever lives is another one
+    apart : (b : ℕ) (p : Place) → live b ≡ Some p → b ≢ a
+    apart b p lives same = let clash : ◌≡◌ {A = Option Place} None (Some p) = sym none ∙ (ap live (sym same) ∙ lives) in cc
+
+    listed_own : Listed live t.holder t.garbage d shorter.items
+    listed_own = let l = good.listed in record {
+      all = λ q class slot is inside e. still_among items i a may.listed _ (apart _ e.place e.lives) (l.all q class slot is inside e);
+      own = λ b is. l.own b (was_among items i a may.listed b is);
+      lives = λ b is. l.lives b (was_among items i a may.listed b is);
+    }
+
+    -- none of those before it is garbage, so that it is the first that is
+    not_before : i < sh.pruned → ⊥
+    not_before low = true≢false (sym dead ∙ good.sharing.looks.pruned i a low may.listed)
+
+    sharing' : Sharing k (reaped_to k s r id hist x at live t.garbage c) s.words d x.own.registers shorter.items x.seen.stage sh
+    sharing' = let g = good.sharing in record {
+      telling = g.telling;
+      leading = g.leading;
+      knows = g.knows;
+      adds = g.adds;
+      looks = record {
+        at_own = λ b e. let w = looked_lives live now.graph c.paint.marks sh.scan kn.scan b e in still_among items i a may.listed b (apart b w.0 w.1) (g.looks.at_own b e);
+        pruned = λ j b low got. g.looks.pruned j b low (sym (before items i a may.listed j (dite (dec_le i j) (λ far. absurd (not_before (let m : ℕ = sh.pruned in let l : j < m = low in let f : i ≤ j = far in let h : i < m = omega arith in h))) (λ near. lt_of_not-le near))) ∙ got);
+        cleans = λ w e. absurd (let same : In Sweep ≡ In Clean = sym may.stage ∙ (g.looks.cleans w e).stage_is in cc);
+        emptied_is = g.looks.emptied_is;
+      };
+    }
+
+    removes : After y
+    removes = reaps k s r id hist x at x.own.looked shorter sh live t.garbage c s.words record {
+      wide = refl;
+      control = λ j _ _ _ _. refl;
+      calm = not_promoting k s r id hist x at collecting;
+      kind = refl;
+      subset = λ b p lives. lives;
+      stood = λ z st. st;
+      fields = λ z _ g. g.owes.fields;
+      found = r.whole.found;
+      grid = r.whole.grid;
+      makings = λ z g. g.making;
+      hunter = hunter_as k t s.words x y refl refl refl refl refl refl good.hunter;
+      hunters = λ z _ g. g.hunter;
+      cycle = r.whole.cycle;
+      sharing = sharing';
+      sharings = λ z _ _ g. g.sharing;
+      listed_own = listed_own;
+      listeds = λ z _ g. g.listed;
+    }
+
+  means : garbage ≡ may.colours.garbage
+  means = may.means
+
+  pub prunes : (z : DomainView) × After z × PruneTold a i garbage x found z
+  prunes = ⊎_elim
+      (λ (e : IsEpheAt live a). (
+        with_share x passed,
+        passes e,
+        record { told = inl (λ is. live_not_dead k s r id hist x at may.stage may.colours may.known a e.place e.lives (subst (λ (n : ℕ). IsColoured n found) means is), refl) },
+      ))
+      (λ (dead : IsTrue (t.garbage a)). (
+        y,
+        removes dead,
+        record { told = inr (subst (λ (n : ℕ). IsColoured n found) (sym means) (colour_of_dead k s r id hist x at may.stage may.colours may.known a dead), refl) },
+      ))
+      (good.listed.lives a (among items i a may.listed))
+
+pub prune_may : (k : Config) (x : DomainView) (word a i garbage : ℕ) → word ≡ before_heap k + a → PruneMay x a i garbage → MayStep k x word (λ n. n) (PruneTold a i garbage)
+prune_may k x word a i garbage place may fits slots id hist s r _ at _ =
+    let o = prunes k s r id hist x at a i garbage may in
+    (one k hist o.0, keeps, tt, unmoved k s word (set s.views id (one k hist o.0)) o.1, (subst (λ (n : ℕ). PruneTold a i garbage x (get_or s.words n 0) o.0) (sym place) o.2, refl))
+
+-- what the step tells of the list is what is made of it
+module _ (k : Config) (x : DomainView) (found a i garbage : ℕ) (may : PruneMay x a i garbage) where
+  still_fits : OwnFits k x.own → OwnFits k (unlisted a i x.own)
+  still_fits fits = record {
+    number = fits.number;
+    used = fits.used;
+    registers = fits.registers;
+    looked = fits.looked;
+    remembered = fits.remembered;
+    prepared = fits.prepared;
+    pending = fits.pending;
+    ephemerons = λ j b got. let w = was x.own.ephemerons.items i a may.listed j b got in fits.ephemerons w.0 b w.1;
+  }
+
+  written : (y : DomainView) → PruneTold a i garbage x found y → (after : Own) → Prunes a i garbage found x.own after → y.own ≡ after
+  written y told after is = ⊎_elim
+      (λ (u : (IsColoured garbage found → ⊥) × (y ≡ with_share x (record x.seen.share { pruned = i + 1 }))). ⊎_elim
+      (λ (w : (IsColoured garbage found → ⊥) × (after ≡ x.own)). ap (λ (z : DomainView). z.own) u.1 ∙ sym w.1)
+      (λ (w : IsColoured garbage found × (after ≡ unlisted a i x.own)). absurd (u.0 w.0))
+      is)
+      (λ (u : IsColoured garbage found × (y ≡ record x { own = unlisted a i x.own })). ⊎_elim
+      (λ (w : (IsColoured garbage found → ⊥) × (after ≡ x.own)). absurd (w.0 u.0))
+      (λ (w : IsColoured garbage found × (after ≡ unlisted a i x.own)). ap (λ (z : DomainView). z.own) u.1 ∙ sym w.1)
+      is)
+      told.told
+
+  own_or : (y : DomainView) → PruneTold a i garbage x found y → ((y.own ≡ x.own) ⊎ (y.own ≡ unlisted a i x.own)) × (y.seen.front ≡ x.seen.front)
+  own_or y told = ⊎_elim
+      (λ (u : (IsColoured garbage found → ⊥) × (y ≡ with_share x (record x.seen.share { pruned = i + 1 }))). (inl (ap (λ (z : DomainView). z.own) u.1), ap (λ (z : DomainView). z.seen.front) u.1))
+      (λ (u : IsColoured garbage found × (y ≡ record x { own = unlisted a i x.own })). (inr (ap (λ (z : DomainView). z.own) u.1), ap (λ (z : DomainView). z.seen.front) u.1))
+      told.told
+
+  pub prune_closes : Closes k x found (PruneTold a i garbage) (CanPrune a i) (Prunes a i garbage found)
+  prune_closes y fits told = let o = own_or y told in record {
+    can_write = may.listed;
+    written = written y told;
+    fits = ⊎_elim (λ (e : y.own ≡ x.own). subst (OwnFits k) (sym e) fits) (λ (e : y.own ≡ unlisted a i x.own). subst (OwnFits k) (sym e) (still_fits fits)) o.0;
+    once = λ _. inl (⊎_elim
+        (λ (e : y.own ≡ x.own). record { front = front_same x y o.1; registers = ap (λ (z : Own). z.registers) e; used = ap (λ (z : Own). z.used) e; serial = ap (λ (z : Own). z.serial) e })
+        (λ (e : y.own ≡ unlisted a i x.own). record { front = front_same x y o.1; registers = ap (λ (z : Own). z.registers) e; used = ap (λ (z : Own). z.used) e; serial = ap (λ (z : Own). z.serial) e })
+        o.0);
+  }
