@@ -2,9 +2,13 @@
 #![tactic(auto)]
 
 #[cfg(test)]
+mod chains;
+#[cfg(test)]
 mod collections;
 #[cfg(test)]
 mod endless;
+#[cfg(test)]
+mod ephemerons;
 #[cfg(test)]
 mod faults;
 #[cfg(test)]

@@ -6,7 +6,7 @@ use crate::form::{Operand, Word};
 use heap_model::command::Command;
 
 // The words of the grammar: the commands that are built.
-const BUILT: [Word; 11] = [
+const BUILT: [Word; 20] = [
     Word::Int,
     Word::Move,
     Word::Drop,
@@ -14,6 +14,15 @@ const BUILT: [Word; 11] = [
     Word::AllocMaj,
     Word::Load,
     Word::Store,
+    Word::Ephe,
+    Word::SetKey,
+    Word::UnsetKey,
+    Word::GetKey,
+    Word::CheckKey,
+    Word::SetData,
+    Word::UnsetData,
+    Word::GetData,
+    Word::CheckData,
     Word::Poll,
     Word::Minor,
     Word::Major,
