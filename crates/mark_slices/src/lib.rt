@@ -13,6 +13,7 @@ mod roots;
 mod rounds;
 mod scanning;
 
+pub use darkening::darken;
 pub use hints::{HINTS_ROOM, Hints};
 pub use roots::start_roots;
 pub use rounds::mark_round;
