@@ -1,5 +1,5 @@
 -- Loads of the heads of ephemerons keep the rule.
-use Rattle.std.proofs.Common.{◌≡◌, ◌≢◌, ℕ, ◌+◌, ◌<◌, ◌≤◌, ◌⊎◌, inl, inr, ⊎_elim, false, List, [], ◌∷◌, length, get_or, set, Option, Some, None, sym, refl, ap, ◌∙◌, subst, arith, lt_of_not-le}
+use Rattle.std.proofs.Common.{◌≡◌, ℕ, ◌+◌, ◌<◌, ◌≤◌, ◌⊎◌, inl, inr, ⊎_elim, false, List, [], get_or, set, Option, Some, None, sym, refl, ap, ◌∙◌, subst, arith, lt_of_not-le}
 use mathlib.Core.Logic.{dite}
 use native.Mathlib.Decide.{dec_le}
 use mathlib.Core.Option.{some}
@@ -15,7 +15,7 @@ use Rattle.heap_model.specs.declared.reply.Applied.{Applied}
 use Rattle.heap_model.specs.declared.reply.Applied.TheVariants.{Replied}
 use Rattle.heap_model.specs.declared.reply.Reply.TheVariants.{BadType, BadIndex}
 use Rattle.heap_model.specs.declared.graph.Value as graph_value
-use Rattle.heap_model.specs.declared.graph.Value.TheVariants.{Block, Nothing}
+use Rattle.heap_model.specs.declared.graph.Value.TheVariants.{Block}
 use Rattle.heap_model.specs.declared.graph.Node.TheVariants.{Plain, Ephe}
 use Rattle.heap_model.specs.declared.state.State as model
 use Rattle.heap_model.specs.Domains.{register, domain_at}
@@ -39,7 +39,7 @@ use Rattle.heap_rule.proofs.Entering.{registers_stand, Enters, entered_view, ent
 use Rattle.heap_rule.proofs.Blocks.{Lives, lives_at, found_at, plain_at, shape_at}
 use Rattle.heap_rule.proofs.HeadLemmas.{packable_head, colour_small}
 use Rattle.steps_run.proofs.EphemeronEntries.{leaves_reply, block_is}
-use Rattle.steps_ephemerons.specs.Heads.{ephemeron_in, key_in, IsBlockValue, HasItem, HasKey, LacksKey, EpheHeadEntry, EpheHeadMay, EpheHeadTold, EpheHeadCase, KeysTold, subject}
+use Rattle.steps_ephemerons.specs.Heads.{ephemeron_in, key_in, IsBlockValue, HasItem, HasKey, LacksKey, EpheHeadEntry, EpheHeadMay, EpheHeadTold, EpheHeadCase, subject}
 use Rattle.steps_ephemerons.proofs.Outcomes.{plain_item, fits_item, Brings, plain_outcome, past_outcome}
 use Rattle.steps_ephemerons.proofs.Finding.{ephe_of}
 

@@ -1,12 +1,11 @@
 -- What a command on an ephemeron answers and leaves: one law for each case.
-use Rattle.std.proofs.Common.{◌≡◌, ◌≢◌, ℕ, suc, ◌+◌, ◌<◌, ◌≤◌, false, List, [], ◌∷◌, length, map, set, slice_get, is_some, Option, Some, None, sym, refl, ap, ◌∙◌}
-use Rattle.std.proofs.lemmas.List.{map-set}
+use Rattle.std.proofs.Common.{◌≡◌, ◌≢◌, ℕ, ◌<◌, false, List, [], length, set, slice_get, is_some, Option, Some, None, sym, refl, ap, ◌∙◌}
 use Rattle.std.proofs.lemmas.Option.{slice_get_past}
 use Rattle.heap_model.specs.declared.label.Label.{Label}
 use Rattle.heap_model.specs.declared.command.Command.{Command}
 use Rattle.heap_model.specs.declared.command.Command.TheVariants.{SetKey, UnsetKey, GetKey, CheckKey, SetData, UnsetData, GetData, CheckData}
 use Rattle.heap_model.specs.declared.entry.Entry.TheVariants.{Command as CommandOf}
-use Rattle.heap_model.specs.declared.reply.Reply.TheVariants.{Done, BadType, BadIndex}
+use Rattle.heap_model.specs.declared.reply.Reply.TheVariants.{BadType, BadIndex}
 use Rattle.heap_model.specs.declared.reply.Applied.TheVariants.{Replied}
 use Rattle.heap_model.specs.declared.graph.Value.{Value}
 use Rattle.heap_model.specs.declared.graph.Value.TheVariants.{Int, Block, Nothing}
@@ -21,7 +20,7 @@ use Rattle.heap_model.proofs.Commands.LeavesLemmas.{Leaves}
 use Rattle.heap_rule.specs.Cycles.{IsPlainCommand}
 use Rattle.heap_rule.specs.declared.view.DomainView.{DomainView}
 use Rattle.steps_run.proofs.EphemeronEntries.{some_stored, leaves_reply, leaves_read}
-use Rattle.steps_ephemerons.specs.Heads.{ephemeron_in, key_in, HasItem, HasKey, LacksKey}
+use Rattle.steps_ephemerons.specs.Heads.{ephemeron_in, key_in, HasItem, LacksKey}
 use Rattle.steps_ephemerons.specs.Loads.{IsLook, target_in, full_reply, look_reply}
 
 -- what the datum or the key that is named holds

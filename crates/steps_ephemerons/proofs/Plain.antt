@@ -1,5 +1,5 @@
 -- What the step calls tell of a token's plain data: it is what their changes make of it.
-use Rattle.std.proofs.Common.{◌≡◌, ◌⊎◌, ⊎_elim, inl, ℕ, List, [], sym, ap, ◌∙◌, subst}
+use Rattle.std.proofs.Common.{◌≡◌, ⊎_elim, inl, ℕ, List, [], sym, ap, ◌∙◌}
 use Rattle.heap_model.specs.declared.entry.Entry.{Entry}
 use Rattle.heap_model.specs.declared.reply.Applied.TheVariants.{Replied}
 use Rattle.heap_model.specs.declared.reply.Reply.TheVariants.{BadType, BadIndex}
@@ -8,7 +8,7 @@ use Rattle.heap_words.specs.declared.value.Value.{Value}
 use Rattle.heap_words.specs.declared.value.Value.TheVariants.{Nothing}
 use Rattle.heap_words.proofs.WordLemmas.{value_word-injective}
 use Rattle.heap_rule.specs.declared.change.Change.{Change}
-use Rattle.heap_rule.specs.declared.change.Reading.TheVariants.{Unread, AsValue}
+use Rattle.heap_rule.specs.declared.change.Reading.TheVariants.{AsValue}
 use Rattle.heap_rule.specs.declared.config.Config.{Config}
 use Rattle.heap_rule.specs.declared.view.Own.{Own}
 use Rattle.heap_rule.specs.declared.view.DomainView.{DomainView}

@@ -1,5 +1,5 @@
 -- Loads of keys and data keep the rule.
-use Rattle.std.proofs.Common.{◌≡◌, ℕ, ◌+◌, ◌<◌, false, List, [], ◌∷◌, ◌++◌, length, get_or, set, Option, Some, None, sym, refl, ap, ◌∙◌, subst, arith, get_or-set_same}
+use Rattle.std.proofs.Common.{◌≡◌, ℕ, ◌+◌, false, List, [], ◌∷◌, ◌++◌, length, get_or, set, Option, Some, None, sym, refl, ap, ◌∙◌, subst, arith, get_or-set_same}
 use mathlib.Core.Option.{some}
 use lib.ListN.{get_elem?}
 use Rattle.atomic_table.specs.Table.{keeps, Allows}
@@ -12,7 +12,6 @@ use Rattle.heap_model.specs.declared.graph.Value as graph_value
 use Rattle.heap_model.specs.declared.graph.Value.TheVariants.{Nothing}
 use Rattle.heap_model.specs.declared.graph.Node.TheVariants.{Ephe}
 use Rattle.heap_model.specs.declared.state.State as model
-use Rattle.heap_model.specs.Commands.{key_value}
 use Rattle.heap_model.specs.Domains.{domain_at}
 use Rattle.heap_words.specs.declared.value.Value.{Value}
 use Rattle.heap_rule.specs.declared.change.Change.{Change}
@@ -25,7 +24,6 @@ use Rattle.heap_rule.specs.Changes.{changed, FitChanges}
 use Rattle.heap_rule.specs.Views.{one, Tells}
 use Rattle.heap_rule.specs.Raw.{MayStep}
 use Rattle.heap_rule.specs.Rule.{state_of, Rule}
-use Rattle.heap_rule.specs.Standing.{Acts}
 use Rattle.heap_rule.proofs.ChangeLemmas.{registers_of}
 use Rattle.heap_rule.proofs.Values.{AllStand, stand_set, packable, shows}
 use Rattle.heap_rule.proofs.Keeps.{after_entry, Words, unmoved, run_settled, whole_here}

@@ -1,5 +1,5 @@
 -- Stores to keys and data keep the rule.
-use Rattle.std.proofs.Common.{◌≡◌, ℕ, ◌+◌, Bool, false, List, [], length, Option, Some, None, sym, refl, ap, ◌∙◌, subst}
+use Rattle.std.proofs.Common.{◌≡◌, ℕ, ◌+◌, Bool, false, List, [], Option, Some, None, sym, refl, ap, ◌∙◌, subst}
 use mathlib.Core.Option.{some}
 use lib.ListN.{get_elem?}
 use Rattle.atomic_table.specs.Table.{Allows}
@@ -15,14 +15,12 @@ use Rattle.heap_model.specs.declared.state.State as model
 use Rattle.heap_model.specs.Graph.{label_of}
 use Rattle.heap_model.specs.Commands.{key_value, outcome, done_with, block_in}
 use Rattle.heap_model.specs.Domains.{register, with_block, label_in}
-use Rattle.heap_words.specs.declared.value.Value.{Value}
 use Rattle.heap_rule.specs.declared.change.Change.{Change}
 use Rattle.heap_rule.specs.declared.config.Config.{Config}
 use Rattle.heap_rule.specs.declared.phase.Kind.TheVariants.{Run}
 use Rattle.heap_rule.specs.declared.view.DomainView.{DomainView}
 use Rattle.heap_rule.specs.Layout.{before_heap}
 use Rattle.heap_rule.specs.Places.{Stands}
-use Rattle.heap_rule.specs.Changes.{value_at}
 use Rattle.heap_rule.specs.Views.{one, Tells}
 use Rattle.heap_rule.specs.Raw.{MayStore}
 use Rattle.heap_rule.specs.Rule.{state_of, Rule}
@@ -35,7 +33,7 @@ use Rattle.steps_run.proofs.ValueSteps.{ValueStore, value_stores}
 use Rattle.steps_ephemerons.specs.Heads.{ephemeron_in, key_in, HasItem}
 use Rattle.steps_ephemerons.specs.Stores.{stored_value, WeakStoreMay, KeyStoreEntry, DataStoreEntry}
 use Rattle.steps_ephemerons.proofs.Outcomes.{Held, stored_node, plain_item, fits_item, set_outcome, datum_outcome}
-use Rattle.steps_ephemerons.proofs.Finding.{WeakFound, weak_at, index_of, FitsKey, stored_values, stored_shape, value_below}
+use Rattle.steps_ephemerons.proofs.Finding.{weak_at, index_of, FitsKey, stored_values, stored_shape, value_below}
 use Rattle.steps_ephemerons.proofs.HeadSteps.{brings}
 
 -- a command that stores to an ephemeron

@@ -54,6 +54,6 @@ pub fn data_store(
     ensures told { StoreTold heap.now.config entry at remembers changes.now dom.old.view dom.new.view }
 {
     let index = heap.index_of(at);
-    let writing = Storing { at, remembers };
-    raw_store::<Brand, Storing>(heap, dom, index, new, &writing, changes);
+    let stores = Storing { at, remembers };
+    raw_store::<Brand, Storing>(heap, dom, index, new, &stores, changes);
 }
