@@ -27,7 +27,7 @@ use Rattle.steps_run.specs.Loads.{place_of, HeadCase, HeadTold, LabelTold, Field
 use Rattle.steps_run.specs.Ticks.{tick_answer, TickTold}
 
 -- a load that leaves the plain data, and has no changes
-kept : (k : Config) (x y : DomainView) (found : ℕ) (changes : List Change) → changes ≡ [] → OwnFits k x.own → y.own ≡ x.own → StepsOnce k x y → Written k x y (λ own. CanChange Unread found changes) (λ own after. Changes Unread found changes own after)
+pub kept : (k : Config) (x y : DomainView) (found : ℕ) (changes : List Change) → changes ≡ [] → OwnFits k x.own → y.own ≡ x.own → StepsOnce k x y → Written k x y (λ own. CanChange Unread found changes) (λ own after. Changes Unread found changes own after)
 kept k x y found changes empty p same once =
     let fits : FitChanges changes = subst FitChanges (sym empty) tt in
     let own : y.own ≡ changed Nothing changes x.own = same ∙ ap (λ (cs : List Change). changed Nothing cs x.own) (sym empty) in

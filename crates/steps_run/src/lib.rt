@@ -7,5 +7,5 @@ mod storing;
 mod ticking;
 
 pub use loading::{field_load, head_load, label_load};
-pub use storing::field_store;
+pub use storing::{Storing, field_store};
 pub use ticking::tick;

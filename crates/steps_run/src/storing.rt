@@ -8,11 +8,12 @@ use heap_rule::{Change, Domain, Heap, Own, Writing, make_changes, raw_store};
 use heap_words::Value;
 use std::marker::Brand;
 
-// The changes are made, and the field at the address is remembered where it is to be.
+/// What a store does besides: the changes are made, and the address of its word is remembered where
+/// it is to be.
 #[derive(Clone, Copy)]
-struct Storing {
-    at: u32,
-    remembers: bool,
+pub struct Storing {
+    pub at: u32,
+    pub remembers: bool,
 }
 
 impl Writing for Storing {

@@ -1,0 +1,6 @@
+pub mod Outcomes
+pub mod Finding
+pub mod HeadSteps
+pub mod WeakLoadSteps
+pub mod WeakStoreSteps
+pub mod Plain
