@@ -1,5 +1,5 @@
 -- The labels of the blocks that a domain has counted, and their words; and sums of what domains have added.
-use Rattle.std.proofs.Common.{◌≡◌, ℕ, zero, suc, ◌+◌, ◌*◌, ◌<◌, ◌≤◌, ◌==◌, ◌&&◌, Bool, true, false, not, cond, IsTrue, eq-eqb, eqb-true, List, [], ◌∷◌, length, slice_get, sum_by, Some, None, Option, sym, refl, ap, ◌∙◌, subst, ⊎_elim, arith, suc-mul}
+use Rattle.std.proofs.Common.{◌≡◌, ℕ, zero, suc, ◌+◌, ◌*◌, ◌<◌, ◌≤◌, ◌==◌, ◌&&◌, Bool, true, false, not, cond, IsTrue, eq-eqb, List, [], ◌∷◌, length, slice_get, sum_by, Some, None, Option, sym, refl, ap, ◌∙◌, subst, ⊎_elim, arith, suc-mul}
 use Rattle.std.specs.List.{cons_option}
 use Rattle.std.proofs.lemmas.Bool.{cases_Bool}
 use Rattle.heap_model.specs.declared.label.Label.{Label}
@@ -7,7 +7,7 @@ use Rattle.heap_model.specs.declared.graph.Node.{Node}
 use Rattle.heap_model.specs.declared.graph.Node.TheVariants.{Plain, Raw, Ephe}
 use Rattle.heap_model.specs.Fronts.{shape_of}
 use Rattle.heap_model.specs.Graph.{Graph, has_label, has_no_repeats, words_at, words_of}
-use Rattle.heap_model.proofs.Reach.ReachLemmas.{or_cases, or_left, or_right}
+use Rattle.heap_model.proofs.Reach.ReachLemmas.{or_left, or_right}
 use Rattle.cycle_laws.specs.Counting.{added_up}
 use Rattle.cycle_laws.proofs.DomainParts.{listed_at, listed_cases}
 use Rattle.heap_rule.specs.Cycles.{extent_in, label_in, labels_in, seen_by}

@@ -1,5 +1,5 @@
 -- Whose the places of listed ephemerons are, and that an ephemeron at which a domain looks lives.
-use Rattle.std.proofs.Common.{◌≡◌, ℕ, List, Option, Some, sym, ap, ◌∙◌}
+use Rattle.std.proofs.Common.{◌≡◌, ℕ, List, Some, sym, ap, ◌∙◌}
 use Rattle.std.proofs.lemmas.Option.{none-some, same_Some}
 use Rattle.heap_model.specs.Graph.{Graph}
 use Rattle.cycle_laws.specs.Marks.{Marks}

@@ -16,14 +16,14 @@ use Rattle.heap_rule.specs.declared.phase.Stage.TheVariants.{In}
 use Rattle.heap_rule.specs.declared.view.DomainView.{DomainView}
 use Rattle.heap_rule.specs.declared.view.Own.{Own}
 use Rattle.heap_rule.specs.declared.view.Share.{Share}
-use Rattle.heap_rule.specs.Cycles.{Cycling, IsCollecting, Knowing, seen_by}
+use Rattle.heap_rule.specs.Cycles.{Cycling, IsCollecting, Knowing}
 use Rattle.heap_rule.specs.Ephemerons.{IsEpheAt, Listed}
 use Rattle.heap_rule.specs.Layout.{at_address, before_heap}
 use Rattle.heap_rule.specs.Places.{Live, Place}
 use Rattle.heap_rule.specs.Pools.{Tenancy}
 use Rattle.heap_rule.specs.Raw.{Closes, MayStep}
 use Rattle.heap_rule.specs.Rule.{Good, Rule, Sharing, state_of}
-use Rattle.heap_rule.specs.Token.{AllInHeap, OwnFits}
+use Rattle.heap_rule.specs.Token.{OwnFits}
 use Rattle.heap_rule.specs.Views.{one}
 use Rattle.heap_rule.proofs.Closes.{front_same}
 use Rattle.heap_rule.proofs.Keeps.{Words, hunter_as, my_good, unmoved}
