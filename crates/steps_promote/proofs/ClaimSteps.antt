@@ -33,6 +33,7 @@ use Rattle.heap_rule.specs.Pools.{Stock, limit_of, owned, drawn_in, Tenancy, Hun
 use Rattle.heap_rule.specs.Raw.{MayStep, Closes}
 use Rattle.heap_rule.specs.Room.{count, drawn_in_all, copied_words, Room, Opened}
 use Rattle.heap_rule.specs.Rule.{state_of, AllFound, Area, Making, Rule}
+use Rattle.heap_rule.specs.Ephemerons.{IsEpheAt}
 use Rattle.heap_rule.specs.Token.{OwnFits}
 use Rattle.heap_rule.specs.Views.{one}
 use Rattle.steps_promote.specs.Claims.{preparing, pushed, ClaimMay, ClaimTold}
@@ -276,6 +277,9 @@ module _ (k : Config) (s : Words) (r : Rule k s) (id : ℕ) (hist : List Entry) 
           share = refl;
           full = r.whole.full;
           garbage = λ _. refl;
+          holders = λ q. refl;
+          ephemerons = refl;
+          no_more = λ a e. e;
           number = refl;
           arrivals = refl;
           stage = refl;
@@ -457,7 +461,15 @@ module _ (k : Config) (s : Words) (r : Rule k s) (id : ℕ) (hist : List Entry) 
       high = (let n : ℕ = extent p.shape in let y : ℕ = size_of class in let h : n ≤ y = size_fits in let u : c + y ≤ k.pools * 4096 + 1 = c_top in let m : ℕ = k.domains * k.minor_words in let g : c + n ≤ k.pools * 4096 + m + 1 = omega arith in g);
       head = fs.head;
       label = fs.label;
+      pooled = λ _ _. c_old;
     }
+
+    -- a young block is no ephemeron, so its copy is none
+    no_more2 : (b : ℕ) → IsEpheAt live2 b → IsEpheAt live b
+    no_more2 b o = cases b o.place o.lives
+        (λ same i. record { place = p; lives = ap live same ∙ lives; keys = o.keys; shape = ap (λ (z : Place). z.shape) i ∙ o.shape })
+        (λ same i. absurd (let h : a ≤ k.pools * 4096 = (r.whole.placed.fits a p lives).pooled o.keys (ap (λ (z : Place). z.shape) i ∙ o.shape) in let y : k.pools * 4096 < a = may.young in omega arith))
+        (λ na nc l. record { place = o.place; lives = l; keys = o.keys; shape = o.shape })
 
     -- the copy keeps off every other block
     apart_c : (b : ℕ) (q : Place) → live b ≡ Some q → (c + extent p.shape ≤ b) ⊎ (b + extent q.shape ≤ c)
@@ -470,7 +482,7 @@ module _ (k : Config) (s : Words) (r : Rule k s) (id : ℕ) (hist : List Entry) 
     placed2 : Placed k live2
     placed2 = record {
       fits = λ b q e. cases b q e
-          (λ same i. subst (λ (z : ℕ × Place). Fits k z.0 z.1) (λ j. (sym same j, i j)) (let fs = r.whole.placed.fits a p lives in record { built = fs.built; classed = fs.classed; low = fs.low; high = fs.high; head = fs.head; label = fs.label }))
+          (λ same i. subst (λ (z : ℕ × Place). Fits k z.0 z.1) (λ j. (sym same j, i j)) (let fs = r.whole.placed.fits a p lives in record { built = fs.built; classed = fs.classed; low = fs.low; high = fs.high; head = fs.head; label = fs.label; pooled = fs.pooled }))
           (λ same i. subst (λ (z : ℕ × Place). Fits k z.0 z.1) (λ j. (sym same j, i j)) fits_c)
           (λ na nc l. r.whole.placed.fits b q l);
       once = λ b d q u e g labels none_b none_d. cases b q e
@@ -918,6 +930,9 @@ module _ (k : Config) (s : Words) (r : Rule k s) (id : ℕ) (hist : List Entry) 
           share = refl;
           full = full2;
           garbage = λ _. refl;
+          holders = λ q. refl;
+          ephemerons = refl;
+          no_more = no_more2;
           number = refl;
           arrivals = refl;
           stage = refl;
@@ -1075,6 +1090,7 @@ claim_closes k x found a old new class c may y fits told = dite (ℕ_discrete fo
         prepared = length-set x.own.prepared class None ∙ fits.prepared;
         pending = (let n : ℕ = length x.own.pending.items in let e : ℕ = x.own.pending.room in let h : 1 ≤ e = w.room in
             ap (λ (m : ℕ). e - 1 + m) (longer x.own.pending.items (record { copy = c; source = a })) ∙ ((let g : e - 1 + (n + 1) ≡ e + n = omega arith in g) ∙ fits.pending));
+        ephemerons = fits.ephemerons;
       };
       once = promote_once k x y may.stage;
     })

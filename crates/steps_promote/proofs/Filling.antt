@@ -1,4 +1,6 @@
 -- The values of a copy are stored, one after the other, and then it is owed nothing more.
+use Rattle.heap_rule.specs.Places.{without_keys}
+use Rattle.heap_rule.proofs.Keeps.{whole_here}
 use Rattle.std.proofs.Common.{◌≡◌, ◌≢◌, ℕ, zero, suc, ◌+◌, ◌*◌, ◌<◌, ◌≤◌, List, ◌∷◌, length, get_or, set, slice_get, Option, Some, None, unwrap_or, sym, refl, ap, ◌∙◌, subst, inr, ⊎_elim, arith, length-set, get_or-set_same, get_or-set_other}
 use mathlib.Core.Logic.{dite}
 use native.Mathlib.Decide.{ℕ_discrete}
@@ -259,7 +261,7 @@ end_may k x word a may fits slots id hist s r _ at _ =
       head = let h = f.head in record { scanned = h.scanned; packs = h.packs; tells = h.tells };
       blank = f.blank;
       label = f.label;
-      values = λ i v _ got. let w = f.values i v (has i (let y : ℕ = extent p1.shape in let u : y ≡ n + 2 = size in let t : i < n = got_below (values_of f.node) i v got in let w : i + 2 < y = omega arith in w)) got in
+      values = λ i v _ got. let there = ap (λ (keys : List ℕ). slice_get (values_of (without_keys keys f.node)) i) (sym (whole_here k s r id hist x at Promote tt may.stage p1.label)) ∙ got in let w = f.values i v (has i (let y : ℕ = extent p1.shape in let u : y ≡ n + 2 = size in let t : i < n = got_below (values_of f.node) i v there in let w : i + 2 < y = omega arith in w)) got in
           record { value = w.value; packs = w.packs; stands = stands_more r.account.live live1 w.value v grows w.stands };
       old = λ low i inside _ none. f.old low i inside (has i inside) none;
     })
@@ -339,7 +341,7 @@ fill_may k x word a new place may fits slots id hist s r _ at _ =
           (λ same. record {
             value = may.value;
             packs = ap (λ (m : ℕ). get_or ws (before_heap k + (c0 + 2 + m)) 0) same ∙ (get_or-set_same s.words (before_heap k + A) new 0 spot ∙ may.packs);
-            stands = subst (Stands live1 may.value) (some_value may.held v (sym has_it.is ∙ (ap (λ (z : Node). slice_get (values_of z) n) (sym node_is) ∙ (ap (slice_get (values_of f.node)) (sym same) ∙ got))))
+            stands = subst (Stands live1 may.value) (some_value may.held v (sym has_it.is ∙ (ap (λ (z : Node). slice_get (values_of z) n) (sym node_is) ∙ (ap (slice_get (values_of f.node)) (sym same) ∙ (ap (λ (keys : List ℕ). slice_get (values_of (without_keys keys f.node)) i) (sym (whole_here k s r id hist x at Promote tt may.stage p1.label)) ∙ got)))))
                 (stands_more r.account.live live1 may.value may.held grows (stands_more (known x.seen.copying.met) r.account.live may.value may.held g.owes.knows may.stands));
           })
           (λ other. let differ : i ≢ n = other in let h : i < n + 1 = has in let w = f.values i v (earlier i (omega arith)) got in record {

@@ -151,6 +151,9 @@ module _ (k : Config) (s : Words) (r : Rule k s) (id : ℕ) (hist : List Entry) 
             share = refl;
             full = r.whole.full;
             garbage = λ _. refl;
+            holders = λ q. refl;
+            ephemerons = refl;
+            no_more = λ a e. e;
             number = refl;
             arrivals = refl;
             stage = refl;
@@ -278,6 +281,9 @@ module _ (k : Config) (s : Words) (r : Rule k s) (id : ℕ) (hist : List Entry) 
           share = refl;
           full = r.whole.full;
           garbage = λ _. refl;
+          holders = λ q. refl;
+          ephemerons = refl;
+          no_more = λ a e. e;
           number = refl;
           arrivals = refl;
           stage = refl;
@@ -455,12 +461,13 @@ free_closes k x a pool class slot inside may y fits told =
         remembered = fits.remembered;
         prepared = length-set x.own.prepared class None ∙ fits.prepared;
         pending = fits.pending;
+        ephemerons = fits.ephemerons;
       };
       once = promote_once k x y may.stage;
     })
     (λ (not_before : Before → ⊥). let own : y.own ≡ preparing x.own class None = ap (λ (z : DomainView). z.own) (told.later not_before) in record {
       can_write = may.of_class;
       written = λ after wrote. own ∙ sym (wrote.later not_before);
-      fits = subst (OwnFits k) (sym own) record { number = fits.number; used = fits.used; registers = fits.registers; looked = fits.looked; remembered = fits.remembered; prepared = length-set x.own.prepared class None ∙ fits.prepared; pending = fits.pending };
+      fits = subst (OwnFits k) (sym own) record { number = fits.number; used = fits.used; registers = fits.registers; looked = fits.looked; remembered = fits.remembered; prepared = length-set x.own.prepared class None ∙ fits.prepared; pending = fits.pending; ephemerons = fits.ephemerons };
       once = promote_once k x y may.stage;
     })

@@ -1,4 +1,6 @@
 -- Loads at which a domain that copies meets blocks.
+use Rattle.heap_rule.proofs.EphemeronLemmas.{found_value}
+use Rattle.heap_rule.proofs.Keeps.{whole_here}
 use Rattle.std.proofs.Common.{◌≡◌, ◌≢◌, ℕ, ◌+◌, ◌*◌, ◌<◌, ◌≤◌, cond, eq-eqb, ne_eqb, Bool, List, ◌∷◌, length, get_or, set, slice_get, Option, Some, None, sym, refl, ap, ◌∙◌, subst, inl, inr, ⊎_elim, arith}
 use mathlib.Core.Logic.{dite}
 use native.Mathlib.Decide.{ℕ_discrete}
@@ -106,6 +108,9 @@ module _ (k : Config) (s : Words) (r : Rule k s) (id : ℕ) (hist : List Entry) 
         share = refl;
         full = r.whole.full;
         garbage = λ a. refl;
+        holders = λ q. refl;
+        ephemerons = refl;
+        no_more = λ a e. e;
         number = refl;
         arrivals = refl;
         stage = refl;
@@ -278,7 +283,7 @@ module _ (k : Config) (s : Words) (r : Rule k s) (id : ℕ) (hist : List Entry) 
       let z : ℕ = extent p.shape in let z' : ℕ = extent may.place.shape in let zz : z ≡ z' = ap extent l.shape in
       let h : i + 2 < z' = may.below in let y : z ≡ n + 2 = size in
       let v = got_there (values_of f.node) i (let g : i < n = omega arith in g) in
-      let w = f.values i v.0 (subst (λ (o : Option Debt). HasValue o i) (sym paid) tt) v.1 in
+      let w = found_value k r.account.cycling.paint live now.graph s.words b p f (whole_here k s r id hist x at Promote tt promotes p.label) i v.0 (subst (λ (o : Option Debt). HasValue o i) (sym paid) tt) v.1 in
       let m = meets_value w.value v.0 w.stands in
       let front : x.seen.front ≡ r.account.log = (my_good k s r id hist x at).still (subst IsInPause (sym promotes) tt) in
       record {
@@ -313,7 +318,7 @@ module _ (k : Config) (s : Words) (r : Rule k s) (id : ℕ) (hist : List Entry) 
       let size : extent p.shape ≡ n + 2 = ap extent (sym f.shape) ∙ extent_of f.node in
       let z : ℕ = extent p.shape in let h : u.index + 2 < z = u.inside in let y : z ≡ n + 2 = size in
       let v = got_there (values_of f.node) u.index (let g : u.index < n = omega arith in g) in
-      let w = f.values u.index v.0 (subst (λ (o : Option Debt). HasValue o u.index) (sym u.filled) tt) v.1 in
+      let w = found_value k r.account.cycling.paint live now.graph s.words u.block p f (whole_here k s r id hist x at Promote tt promotes p.label) u.index v.0 (subst (λ (o : Option Debt). HasValue o u.index) (sym u.filled) tt) v.1 in
       let m = meets_value w.value v.0 w.stands in
       let b : Met = met_of u.block p in
       let lasts : Lasts live u.block (met_place b) = lasts_met live u.block p (built u.block p u.lives) u.lives in

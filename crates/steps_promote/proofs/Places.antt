@@ -1,4 +1,5 @@
 -- One block's place changes in what it is owed or in which of its values are remembered: its label, its shape and its forwarding stay.
+use Rattle.heap_rule.proofs.Again.{ephe_back}
 use Rattle.std.proofs.Common.{◌≡◌, ◌≢◌, ℕ, ◌+◌, ◌<◌, List, length, set, slice_get, Option, Some, unwrap_or, sym, refl, ap, ◌∙◌, subst, arith}
 use mathlib.Core.Logic.{dite}
 use native.Mathlib.Decide.{ℕ_discrete}
@@ -121,6 +122,9 @@ module _ (k : Config) (s : Words) (r : Rule k s) (id : ℕ) (hist : List Entry) 
         share = o.share;
         full = full_back k r.account.log before after t.holder t.fresh r.account.homes r.account.cycling.kind back1 r.whole.full;
         garbage = λ _. refl;
+        holders = λ q. refl;
+        ephemerons = ap (λ (z : Own). z.ephemerons.items) o.own;
+        no_more = ephe_back before after back1;
         number = number;
         arrivals = ap (λ (z : Own). z.arrivals) o.own;
         stage = o.stage;

@@ -210,6 +210,9 @@ module _ (k : Config) (s : Words) (r : Rule k s) (id : ℕ) (hist : List Entry) 
         share = refl;
         full = r.whole.full;
         garbage = λ _. refl;
+        holders = λ q. refl;
+        ephemerons = refl;
+        no_more = λ a e. e;
         number = refl;
         arrivals = refl;
         stage = refl;
@@ -256,7 +259,7 @@ pub prepared_closes : (k : Config) (x y : DomainView) (class : ℕ) (v : Option 
 prepared_closes k x y class v can writes promotes allowed wrote fits own = record {
   can_write = allowed;
   written = wrote;
-  fits = subst (OwnFits k) (sym own) record { number = fits.number; used = fits.used; registers = fits.registers; looked = fits.looked; remembered = fits.remembered; prepared = length-set x.own.prepared class v ∙ fits.prepared; pending = fits.pending };
+  fits = subst (OwnFits k) (sym own) record { number = fits.number; used = fits.used; registers = fits.registers; looked = fits.looked; remembered = fits.remembered; prepared = length-set x.own.prepared class v ∙ fits.prepared; pending = fits.pending; ephemerons = fits.ephemerons };
   once = promote_once k x y promotes;
 }
 

@@ -72,6 +72,9 @@ module _ (k : Config) (s : Words) (r : Rule k s) (id : ℕ) (hist : List Entry) 
         share = refl;
         full = r.whole.full;
         garbage = λ a. refl;
+        holders = λ q. refl;
+        ephemerons = refl;
+        no_more = λ a e. e;
         number = refl;
         arrivals = refl;
         stage = refl;
@@ -133,6 +136,7 @@ move_closes k x found reg copy may y fits told =
         remembered = subst (λ (o : Own). AllInHeap k o.remembered.items) (sym own) fits.remembered;
         prepared = ap (λ (o : Own). length o.prepared) own ∙ fits.prepared;
         pending = ap (λ (o : Own). o.pending.room + length o.pending.items) own ∙ fits.pending;
+        ephemerons = subst (λ (o : Own). AllInHeap k o.ephemerons.items) (sym own) fits.ephemerons;
       };
       once = promote_once k x y may.stage;
     }

@@ -21,6 +21,9 @@ use Rattle.heap_rule.specs.Rule.{state_of, AllFound, Stood, Area, Making, Rule}
 use Rattle.heap_rule.specs.Views.{one}
 use Rattle.heap_rule.proofs.Keeps.{Words, Control, mine, my_good, remakes, knows_front, phases_same, cycle_control, stands_more, nobody_leads, takes_drawable, resting_takes, resting_other, cycle_here, sharing_here, sharings_here}
 use Rattle.heap_rule.proofs.PauseFacts.{staged_as, promote_now, promote_here, promote_rests}
+use Rattle.heap_rule.specs.Ephemerons.{IsEpheAt, Listed}
+use Rattle.heap_rule.specs.Rule.{Good}
+use Rattle.heap_rule.proofs.EphemeronLemmas.{listed_as, listed_on, ephe_more}
 use Rattle.heap_rule.proofs.Sharings.{SameCycle}
 use Rattle.heap_rule.specs.Fullness.{Homes, Fullness}
 use Rattle.heap_rule.proofs.Stages.{copying_keeps}
@@ -56,6 +59,9 @@ module _ (k : Config) (s : Words) (r : Rule k s) (id : ℕ) (hist : List Entry) 
     pub found : AllFound k r.account.cycling.paint live' now.graph words'
     pub full : Fullness k r.account.log live' t'.holder t'.fresh homes' r.account.cycling.kind
     pub garbage : (a : ℕ) → t'.garbage a ≡ r.account.tenancy.garbage a
+    pub holders : (q : ℕ) → t'.holder q ≡ r.account.tenancy.holder q
+    pub ephemerons : y.own.ephemerons.items ≡ x.own.ephemerons.items
+    pub no_more : (a : ℕ) → IsEpheAt live' a → IsEpheAt r.account.live a
     pub placed : Placed k live'
     pub spread : Spread k live'
     pub more : More r.account.live live'
@@ -82,6 +88,9 @@ module _ (k : Config) (s : Words) (r : Rule k s) (id : ℕ) (hist : List Entry) 
       let same : SameCycle s.words words' = cycle_control k s.words words' o.control in
       let here = promote_here r.account.pause x promotes g.staged in
       let waits : y.own.arrivals ≡ r.account.pause.phase + 1 → ⊥ = (λ up. let e : y.own.arrivals ≡ r.account.pause.phase + 1 = up in let f : x.own.arrivals ≡ r.account.pause.phase = here in let h : y.own.arrivals ≡ x.own.arrivals = o.arrivals in omega arith) in
+      let listeds : (z : DomainView) → Good k r.account s.words z → Listed live' t'.holder t'.garbage z.own.number z.own.ephemerons.items =
+          (λ z h. listed_on r.account.live live' r.account.tenancy.holder t'.holder r.account.tenancy.garbage t'.garbage z.own.number z.own.ephemerons.items (λ q c e. sym (o.holders q) ∙ e) (λ q c e. o.holders q ∙ e) o.no_more
+          (λ a e. inl (ephe_more r.account.live live' o.more a e)) (λ a e. o.garbage a ∙ e) h.listed) in
       remakes k s r id hist x at y (record r.account { live = live'; tenancy = t'; homes = homes' }) words'
       record {
         wide = o.wide ∙ r.whole.wide;
@@ -124,6 +133,7 @@ module _ (k : Config) (s : Words) (r : Rule k s) (id : ℕ) (hist : List Entry) 
         rooted = (λ _ up. absurd (waits up), ⊎_elim (λ h. absurd (waits h.1)) (λ h. absurd (promote_rests r.account.pause promoting h)));
         set_back = λ h. absurd (nobody_leads r.account.pause x x takes g.staged g.staged (subst IsLeading (sym (sym o.stage ∙ h.0)) tt));
         sharing = sharing_here k s r id hist x at Promote tt promotes (record r.account { live = live'; tenancy = t'; homes = homes' }) words' y refl same o.number o.stage o.share;
+        listed = listed_as live' t'.holder t'.garbage x.own.number y.own.number x.own.ephemerons.items y.own.ephemerons.items o.number o.ephemerons (listeds x g);
       }
       (λ z _ other h. record {
         stood = record { wide = h.stood.wide; each = λ q few. stands_more r.account.live live' (value_at z.own.registers q) (register now z.own.number q) o.more (h.stood.each q few); serial = h.stood.serial };
@@ -138,6 +148,7 @@ module _ (k : Config) (s : Words) (r : Rule k s) (id : ℕ) (hist : List Entry) 
         rooted = h.rooted;
         set_back = λ b. absurd (nobody_leads r.account.pause x z takes g.staged h.staged (subst IsLeading (sym b.0) tt));
         sharing = sharings_here k s r id hist x at Promote tt promotes (record r.account { live = live'; tenancy = t'; homes = homes' }) words' refl same z h;
+        listed = listeds z h;
       })
 
   -- nothing lives elsewhere, and no word changes

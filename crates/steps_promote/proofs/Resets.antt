@@ -1,4 +1,6 @@
 -- In Reset a domain's minor area is free again.
+use Rattle.heap_rule.proofs.EphemeronLemmas.{found_value}
+use Rattle.heap_rule.proofs.Keeps.{whole_here}
 use Rattle.std.proofs.Common.{◌≡◌, ℕ, ◌+◌, ◌*◌, ◌<◌, ◌≤◌, List, [], set, slice_get, get_or, length, Some, None, Option, sym, refl, ap, ◌∙◌, inl, inr, ⊎_elim, subst, arith, length-set, IsTrue}
 use Rattle.std.proofs.lemmas.Int.{ints}
 use mathlib.Core.Option.{some}
@@ -18,7 +20,7 @@ use Rattle.heap_rule.specs.declared.phase.Kind.TheVariants.{Run, Reset, Promote}
 use Rattle.heap_rule.specs.declared.phase.Stage.{Stage}
 use Rattle.heap_rule.specs.declared.phase.Stage.TheVariants.{In}
 use Rattle.heap_rule.specs.Layout.{before_heap, base_of, at_address}
-use Rattle.heap_rule.specs.Places.{Debt, Place, Live, extent, values_of, HasValue, Stands, IsOldAt, IsOldWord, Settled}
+use Rattle.heap_rule.specs.Places.{Debt, Place, Live, extent, values_of, HasValue, Stands, IsOldAt, IsOldWord, Settled, WordStands}
 use Rattle.heap_rule.specs.Pools.{Holder, nobody, drawn, owned, owner_word, place_in}
 use Rattle.heap_rule.specs.Phases.{Pause, AtStage, Staged, IsInPause}
 use Rattle.heap_rule.specs.Changes.{value_at}
@@ -84,17 +86,19 @@ none_young k s r id hist x at resets =
       nodes = λ a p lives.
           let f = r.whole.found a p lives in
           let has : (i : ℕ) → HasValue p.owed i = (λ i. subst (λ (o : Option Debt). HasValue o i) (sym (settled a p lives).no_debt) tt) in
+          let value_there : (i : ℕ) (v : graph_value.Value) → slice_get (values_of f.node) i ≡ Some v → WordStands live (at_address k s.words (a + 2 + i)) v =
+              (λ i v got. found_value k r.account.cycling.paint live (state_of k r.account.log).graph s.words a p f (whole_here k s r id hist x at Reset tt resets p.label) i v (has i) got) in
           let n : ℕ = length (values_of f.node) in
           let size : extent p.shape ≡ n + 2 = ap extent (sym f.shape) ∙ extent_of f.node in record {
             node = f.node;
             there = subst (λ (log : List Entry). node_at (state_of k log).graph p.label ≡ Some f.node) front f.there;
             shape = f.shape;
             label = f.label;
-            values = λ i v got. f.values i v (has i) got;
+            values = λ i v got. value_there i v got;
             old = λ i below.
                 let z : ℕ = extent p.shape in let h : i + 2 < z = below in let y : z ≡ n + 2 = size in
                 let v = got_there (values_of f.node) i (let u : i < n = omega arith in u) in
-                let w = f.values i v.0 (has i) v.1 in
+                let w = value_there i v.0 v.1 in
                 subst (IsOldWord k) (sym w.packs) (old_word k w.value (packable k r.limits live r.whole.placed w.value v.0 w.stands) (all_old k live w.value v.0 pools w.stands));
           };
       places = λ q d c slot below few word inside taken.
@@ -145,6 +149,7 @@ reset_may k x word a new place may fits slots id hist s r _ at _ =
       remembered = refl;
       registers = refl;
       arrivals = refl;
+      ephemerons = refl;
       wide = length-set s.words (before_heap k + a) new;
       controls = controls_kept k s r id hist x at ws (control_set k s.words a new (omega arith));
       found = λ b q lives. let f = r.whole.found b q lives in found_beside k r.account.cycling.paint r.account.live r.account.live (state_of k r.account.log).graph (state_of k r.account.log).graph s.words a new b q (more_same r.account.live) f f.there
@@ -172,6 +177,6 @@ pub reset_closes : (k : Config) (x : DomainView) (found a : ℕ) → ResetMay k 
 reset_closes k x found a may y fits told = let own = ap (λ (z : DomainView). z.own) told.view in record {
   can_write = tt;
   written = λ after wrote. own ∙ sym wrote;
-  fits = subst (λ (z : DomainView). OwnFits k z.own) (sym told.view) record { number = fits.number; used = omega arith; registers = fits.registers; looked = fits.looked; remembered = λ i b e. cc; prepared = fits.prepared; pending = fits.pending };
+  fits = subst (λ (z : DomainView). OwnFits k z.own) (sym told.view) record { number = fits.number; used = omega arith; registers = fits.registers; looked = fits.looked; remembered = λ i b e. cc; prepared = fits.prepared; pending = fits.pending; ephemerons = fits.ephemerons };
   once = λ runs. absurd (let e : ◌≡◌ {A = Stage} (In Reset) (In Run) = sym may.stage ∙ runs in cc);
 }

@@ -1,4 +1,7 @@
 -- A remembered field gets a word that is no address of a minor area, and nobody remembers it any more.
+use Rattle.heap_rule.specs.declared.phase.Kind.TheVariants.{Promote}
+use Rattle.heap_rule.specs.Places.{without_keys}
+use Rattle.heap_rule.proofs.Keeps.{whole_here}
 use Rattle.std.proofs.Common.{◌≡◌, ◌≢◌, ℕ, zero, suc, ◌+◌, ◌<◌, ◌≤◌, List, ◌∷◌, length, get_or, set, slice_get, Option, Some, None, sym, refl, ap, ◌∙◌, subst, ⊎_elim, arith, length-set, get_or-set_same, get_or-set_other}
 use mathlib.Core.Logic.{dite}
 use native.Mathlib.Decide.{ℕ_discrete}
@@ -210,7 +213,7 @@ module _ (k : Config) (s : Words) (r : Rule k s) (id : ℕ) (hist : List Entry) 
         (λ same. record {
           value = may.value;
           packs = ap (λ (m : ℕ). get_or ws (before_heap k + (c + 2 + m)) 0) same ∙ (get_or-set_same s.words (before_heap k + A) new 0 spot ∙ may.packs);
-          stands = subst (Stands live2 may.value) (some_value may.held v (sym has_it.is ∙ (ap (λ (z : Node). slice_get (values_of z) i0) (sym node_is) ∙ (ap (slice_get (values_of f0.node)) (sym same) ∙ got))))
+          stands = subst (Stands live2 may.value) (some_value may.held v (sym has_it.is ∙ (ap (λ (z : Node). slice_get (values_of z) i0) (sym node_is) ∙ (ap (slice_get (values_of f0.node)) (sym same) ∙ (ap (λ (keys : List ℕ). slice_get (values_of (without_keys keys f0.node)) i) (sym (whole_here k s r id hist x at Promote tt may.stage p2.label)) ∙ got)))))
               (stands_more r.account.live live2 may.value may.held more (stands_more (known x.seen.copying.met) r.account.live may.value may.held (my_good k s r id hist x at).owes.knows may.stands));
         })
         (λ other. let differ : i ≢ i0 = other in let w = f0.values i v has got in record {
