@@ -7,8 +7,8 @@ use Rattle.steps_rounds.specs.Rounding.{DatumTold, EphemeronTold, KeyLookTold, K
 use Rattle.steps_cycle.proofs.Plain.{share_closes}
 use Rattle.heap_rule.specs.declared.view.Scan.TheVariants.{Keys}
 
-pub ephemeron_closes : (k : Config) (x : DomainView) (found a : ℕ) → Closes k x found (EphemeronTold a) CanLeave Leaves
-ephemeron_closes k x found a = share_closes k x found (EphemeronTold a) (λ y t. ⊎_elim (λ u. (place_seen a x.seen.share, u.1)) (λ u. (record x.seen.share { scan = Keys a 0 u.0 }, u.2)) t.told)
+pub ephemeron_closes : (k : Config) (x : DomainView) (found a : ℕ) → Closes k x found (EphemeronTold k a) CanLeave Leaves
+ephemeron_closes k x found a = share_closes k x found (EphemeronTold k a) (λ y t. ⊎_elim (λ u. (place_seen a x.seen.share, u.1)) (λ u. (record x.seen.share { scan = Keys a 0 u.0 }, u.3)) t.told)
 
 pub key_closes : (k : Config) (x : DomainView) (found : ℕ) → Closes k x found (KeyTold k) CanLeave Leaves
 key_closes k x found = share_closes k x found (KeyTold k) (λ y t. (record x.seen.share { scan = key_on x.seen.share.scan t.value }, t.view))

@@ -30,7 +30,7 @@ pub fn ephemeron_load(heap: &Heap, dom: &mut Domain, at: u32) -> u64
     requires inside { IsInHeap heap.now.config at }
     requires may { EphemeronMay dom.old.view at }
     ensures here { IsIn dom.new heap.now }
-    ensures told { EphemeronTold at dom.old.view result dom.new.view }
+    ensures told { EphemeronTold heap.now.config at dom.old.view result dom.new.view }
 {
     let index = heap.index_of(at);
     raw_load::<Brand, LookingAt>(heap, dom, index, &LookingAt { at }, &[])
