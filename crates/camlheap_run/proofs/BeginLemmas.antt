@@ -1,4 +1,5 @@
 -- The start of a heap: each domain may begin its section.
+use Rattle.std.proofs.Math.Nat.{le-max_left, le-max_right}
 use Rattle.std.proofs.Common.{◌≡◌, ℕ, zero, suc, ◌+◌, ◌<◌, ◌≤◌, Bool, true, false, List, [], length, map, refl, ap, ◌∙◌, arith, Some, None}
 use Rattle.std.specs.Prelude.{Option, cond, not, ◌&&◌, nat_le, slice_get, slice_index_or}
 use Rattle.std.proofs.lemmas.Bool.Decides.{nat_tests}
@@ -17,8 +18,8 @@ use Rattle.camlheap_run.proofs.SectionLemmas.{IsFine}
 -- no section makes more ephemerons than the one that makes most
 pub section_in : (script : List (List Command)) (d : ℕ) → ephemerons_in (slice_index_or script d []) ≤ most_in script
 section_in [] d = omega arith
-section_in (cs ∷ sections) zero = let a : ℕ = ephemerons_in cs in let b : ℕ = most_in sections in omega (arith, max-le_left a b)
-section_in (cs ∷ sections) (suc d) = let e : ℕ = ephemerons_in (slice_index_or sections d []) in let b : ℕ = most_in sections in let h : e ≤ b = section_in sections d in let a : ℕ = ephemerons_in cs in omega (arith, max-le_right a b)
+section_in (cs ∷ sections) zero = let a : ℕ = ephemerons_in cs in let b : ℕ = most_in sections in omega (arith, le-max_left a b)
+section_in (cs ∷ sections) (suc d) = let e : ℕ = ephemerons_in (slice_index_or sections d []) in let b : ℕ = most_in sections in let h : e ≤ b = section_in sections d in let a : ℕ = ephemerons_in cs in omega (arith, le-max_right a b)
 
 -- each of these domains has a section, and may begin it
 pub have_sections : (h : SharedHeap) (k : Config) (script : List (List Command)) (from n : ℕ) → from + n ≤ k.domains → length script ≡ k.domains → ((d : ℕ) → IsFine (slice_index_or script d [])) → most_in script ≤ k.ephes
