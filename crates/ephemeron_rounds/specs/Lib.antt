@@ -1,0 +1,4 @@
+pub mod Found
+pub mod Items
+pub mod Naming
+pub mod Words
