@@ -20,7 +20,6 @@ use Rattle.heap_model.specs.Entries.{Allowed, is_rising, next, wiped, wiped_keys
 use Rattle.heap_model.specs.Fronts.{KeepsDomain}
 use Rattle.heap_model.proofs.Commands.FrameLemmas.{keeps_next}
 use Rattle.heap_model.proofs.Graphs.GraphLemmas.{node_at-with_node_other, node_at-with_node_same, same_label_refl, same_label-false}
-use Rattle.heap_model.proofs.Histories.FrontLemmas.{front_push}
 use Rattle.heap_model.proofs.Reach.ReachLemmas.{or_right}
 use Rattle.heap_model.specs.Graph.{same_label}
 use Rattle.cycle_laws.specs.Marks.{KeysMarked, Marks}
@@ -30,6 +29,7 @@ use Rattle.cycle_laws.proofs.Cycling.{taking_steps}
 use Rattle.cycle_laws.proofs.Progressing.{found_end, found_takes}
 use Rattle.heap_rule.specs.declared.config.Config.{Config}
 use Rattle.heap_rule.specs.declared.phase.Kind.TheVariants.{Clean}
+use Rattle.heap_rule.specs.declared.phase.Stage.TheVariants.{In}
 use Rattle.heap_rule.specs.declared.view.Cleaning.{Cleaning}
 use Rattle.heap_rule.specs.declared.view.DomainView.{DomainView}
 use Rattle.heap_rule.specs.declared.view.NextKey.{NextKey}
@@ -51,7 +51,7 @@ use Rattle.heap_rule.proofs.Lists.{got_below}
 use Rattle.steps_cycle.specs.Looks.{with_share}
 use Rattle.steps_cycle.proofs.Learning.{at_other, at_same, known, waits}
 use Rattle.steps_rounds.proofs.Listings.{one_label, owner_listed, sees_at}
-use Rattle.steps_clean.specs.Wiping.{DatumMay, DatumTold, KeyMay, KeyTold, emptied_keys, key_emptied, key_wiped, seen_cleaned}
+use Rattle.steps_clean.specs.Wiping.{WipeDataMay, WipeDataTold, WipeKeyMay, WipeKeyTold, key_wiped, wiped_through}
 use Rattle.steps_clean.proofs.Emptying.{Empties, cleans, collecting, empties, emptied_is, facts}
 
 -- the keys at these places are emptied, whatever order
@@ -106,6 +106,10 @@ emptied_none w a other = sym (ap (λ (b : Bool). cond b w.emptied []) (ne_eqb a 
 emptied_there : (w : Cleaning) → emptied_at (Some w) w.block ≡ w.emptied
 emptied_there w = ap (λ (b : Bool). cond b w.emptied []) (eq-eqb w.block w.block refl)
 
+rises : (places : List ℕ) → places ≢ [] → ((p : ℕ) (ps : List ℕ) → places ≡ p ∷ ps → IsTrue (is_rising places)) → IsTrue (is_rising places)
+rises [] many each = absurd (many refl)
+rises (p ∷ ps) many each = each p ps refl
+
 -- the next key refers to a block that isn't marked
 pub record IsDead (marks : Marks) (keys : List (Option Label)) (done : ℕ) : Type 0 where
   pub label : Label
@@ -137,13 +141,20 @@ module _ (k : Config) (s : Words) (r : Rule k s) (id : ℕ) (hist : List Entry) 
   abbrev sh : Share
   sh = x.seen.share
 
+  -- who cleans is in Clean
+  cleans_stage : (v : Cleaning) → sh.cleaning ≡ Some v → x.seen.stage ≡ In Clean
+  cleans_stage v is = ((my_good k s r id hist x at).sharing.looks.cleans v is).stage_is
+
   -- the next key is emptied
-  module _ (a : ℕ) (may : KeyMay x a) where
+  module _ (a : ℕ) (may : WipeKeyMay x a) where
     abbrev w : Cleaning
     w = may.cleaning
 
+    in_clean : x.seen.stage ≡ In Clean
+    in_clean = cleans_stage w may.cleans
+
     abbrev e : Cleans live now.graph m x.seen.stage x.own.ephemerons.items w
-    e = cleans k s r id hist x at may.stage w may.known
+    e = cleans k s r id hist x at in_clean w may.cleans
 
     abbrev l : Label
     l = e.place.label
@@ -152,7 +163,7 @@ module _ (k : Config) (s : Words) (r : Rule k s) (id : ℕ) (hist : List Entry) 
     dead = is_dead live m e.keys w.done w.next may.dead e.next
 
     missing : c.paint.emptied l ≡ w.emptied
-    missing = emptied_is k s r id hist x at may.stage w may.known
+    missing = emptied_is k s r id hist x at in_clean w may.cleans
 
     abbrev emptied' : Label → List ℕ
     emptied' = at_label c.paint.emptied l (w.emptied ++ w.done ∷ [])
@@ -178,8 +189,8 @@ module _ (k : Config) (s : Words) (r : Rule k s) (id : ℕ) (hist : List Entry) 
       next = tt;
     }
 
-    emptied_key : Empties k s r id hist x at may.stage w may.known (suc w.done) e.keys e.datum r.account.log emptied' c.shares.seen x.seen.front (Some (key_wiped w)) sh.places_seen sh.scan
-    emptied_key = let f = facts k s r id hist x at may.stage w may.known in let t = (my_good k s r id hist x at).sharing in record {
+    emptied_key : Empties k s r id hist x at in_clean w may.cleans (suc w.done) e.keys e.datum r.account.log emptied' c.shares.seen x.seen.front (Some (key_wiped w)) sh.places_seen sh.scan
+    emptied_key = let f = facts k s r id hist x at in_clean w may.cleans in let t = (my_good k s r id hist x at).sharing in record {
       below = let n : ℕ = length e.keys in let i : w.done < n = got_below e.keys w.done (Some dead.label) dead.full in let h : length (map key_value e.keys) ≡ n = length-map e.keys key_value in omega arith;
       there = e.node;
       elsewhere = λ z other. refl;
@@ -193,26 +204,29 @@ module _ (k : Config) (s : Words) (r : Rule k s) (id : ℕ) (hist : List Entry) 
       keeps = λ z. record { registers = refl; serial = refl; ended = refl };
       facts = (f.0, record { unchanged = f.1.unchanged; unrotated = f.1.unrotated });
       seen_others = λ z other. refl;
-      seen_is = t.telling.seen (waits k s r id hist x at (collecting k s r id hist x at may.stage w may.known));
+      seen_is = t.telling.seen (waits k s r id hist x at (collecting k s r id hist x at in_clean w may.cleans));
       walked = λ b is. is;
       scans = (known k s r id hist x at).scan;
       at_own = t.looks.at_own;
       cleans_on = cleans_more;
       emptied_here = label_here c.paint.emptied l (w.emptied ++ w.done ∷ []) ∙ sym (emptied_there (key_wiped w));
-      emptied_there = λ b other. emptied_beside w (key_wiped w) b refl other ∙ sym (ap (λ (o : Option Cleaning). emptied_at o b) may.known);
+      emptied_there = λ b other. emptied_beside w (key_wiped w) b refl other ∙ sym (ap (λ (o : Option Cleaning). emptied_at o b) may.cleans);
       knows = knows_front k s r id hist x at (with_front (with_share x (record sh { cleaning = Some (key_wiped w) })) x.seen.front) refl (mine k s r id hist x at).front;
     }
 
     key_rule : Rule k record { words = set s.words (before_heap k + (w.block + 2 + suc w.done)) 0; homes = s.homes; views = set s.views id (one k hist (with_share x (record sh { cleaning = Some (key_wiped w) }))) }
-    key_rule = empties k s r id hist x at may.stage w may.known (suc w.done) e.keys e.datum r.account.log emptied' c.shares.seen x.seen.front (Some (key_wiped w)) sh.places_seen sh.scan emptied_key
+    key_rule = empties k s r id hist x at in_clean w may.cleans (suc w.done) e.keys e.datum r.account.log emptied' c.shares.seen x.seen.front (Some (key_wiped w)) sh.places_seen sh.scan emptied_key
 
   -- and the datum, at which the Wipe stands
-  module _ (a : ℕ) (may : DatumMay x a) where
+  module _ (a : ℕ) (may : WipeDataMay x a) where
     abbrev w2 : Cleaning
     w2 = may.cleaning
 
+    in_clean2 : x.seen.stage ≡ In Clean
+    in_clean2 = cleans_stage w2 may.cleans
+
     abbrev e2 : Cleans live now.graph m x.seen.stage x.own.ephemerons.items w2
-    e2 = cleans k s r id hist x at may.stage w2 may.known
+    e2 = cleans k s r id hist x at in_clean2 w2 may.cleans
 
     abbrev l2 : Label
     l2 = e2.place.label
@@ -227,13 +241,13 @@ module _ (k : Config) (s : Words) (r : Rule k s) (id : ℕ) (hist : List Entry) 
     wiped_node = Ephe (wiped_keys w2.emptied e2.keys) Nothing
 
     missing2 : c.paint.emptied l2 ≡ w2.emptied
-    missing2 = emptied_is k s r id hist x at may.stage w2 may.known
+    missing2 = emptied_is k s r id hist x at in_clean2 w2 may.cleans
 
     f2 : Facts Clean k now live T c s.words
-    f2 = facts k s r id hist x at may.stage w2 may.known
+    f2 = facts k s r id hist x at in_clean2 w2 may.cleans
 
     rising : IsTrue (is_rising w2.emptied)
-    rising = e2.through.rising may.first may.rest may.some
+    rising = rises w2.emptied may.some e2.through.rising
 
     others : (p : ℕ) (z : Label) → slice_get e2.keys p ≡ Some (Some z) → list_any (λ q. q == p) w2.emptied ≡ false → IsTrue (m.marked z)
     others = found_end m.marked e2.keys w2.done w2.emptied e2.through (let n : ℕ = length e2.keys in let b : n ≡ w2.count = e2.count_is in let h : w2.done ≡ w2.count = may.all in omega arith)
@@ -283,12 +297,12 @@ module _ (k : Config) (s : Words) (r : Rule k s) (id : ℕ) (hist : List Entry) 
         ∙ sym (ap (λ (ks : List ℕ). set (values_of (without_keys ks (Ephe e2.keys e2.datum))) 0 Nothing) missing2 ∙ ap (λ (vs : List Value). set vs 0 Nothing) (values_are w2.emptied e2.keys e2.datum))
 
     abbrev y2 : DomainView
-    y2 = with_front (with_share x (record sh { cleaning = None; places_seen = w2.block ∷ sh.places_seen; scan = Idle })) log'
+    y2 = with_front (with_share x (wiped_through w2.block sh)) log'
 
-    emptied_datum : Empties k s r id hist x at may.stage w2 may.known 0 (wiped_keys w2.emptied e2.keys) Nothing log' emptied2 seen2 log' None (w2.block ∷ sh.places_seen) Idle
+    emptied_datum : Empties k s r id hist x at in_clean2 w2 may.cleans 0 (wiped_keys w2.emptied e2.keys) Nothing log' emptied2 seen2 log' None (w2.block ∷ sh.places_seen) Idle
     emptied_datum =
         let t = (my_good k s r id hist x at).sharing in
-        let up : c.shares.arrived d ≡ false = waits k s r id hist x at (collecting k s r id hist x at may.stage w2 may.known) in record {
+        let up : c.shares.arrived d ≡ false = waits k s r id hist x at (collecting k s r id hist x at in_clean2 w2 may.cleans) in record {
           below = omega arith;
           there = there;
           elsewhere = elsewhere;
@@ -307,25 +321,26 @@ module _ (k : Config) (s : Words) (r : Rule k s) (id : ℕ) (hist : List Entry) 
           at_own = λ b is. absurd (none-some b is);
           cleans_on = λ v is. absurd (none-some v is);
           emptied_here = label_here c.paint.emptied l2 [];
-          emptied_there = λ b other. emptied_none w2 b other ∙ sym (ap (λ (o : Option Cleaning). emptied_at o b) may.known);
+          emptied_there = λ b other. emptied_none w2 b other ∙ sym (ap (λ (o : Option Cleaning). emptied_at o b) may.cleans);
           knows = knows_entry k s r id hist x at y2 wipe (λ z _. refl) refl refl;
         }
 
     datum_rule : Rule k record { words = words2; homes = s.homes; views = set s.views id (one k hist y2) }
-    datum_rule = empties k s r id hist x at may.stage w2 may.known 0 (wiped_keys w2.emptied e2.keys) Nothing log' emptied2 seen2 log' None (w2.block ∷ sh.places_seen) Idle emptied_datum
+    datum_rule = empties k s r id hist x at in_clean2 w2 may.cleans 0 (wiped_keys w2.emptied e2.keys) Nothing log' emptied2 seen2 log' None (w2.block ∷ sh.places_seen) Idle emptied_datum
 
-    datum_told : DatumTold k x 0 y2
-    datum_told = let front = (mine k s r id hist x at).front in record {
+    datum_told : WipeDataTold k x 0 y2
+    datum_told = record {
+      cleaning = w2;
+      cleans = may.cleans;
       label = l2;
       before = r.account.log;
-      front = ap (λ (o : Option Cleaning). r.account.log ++ Wipe l2 (emptied_keys o) ∷ []) (sym may.known);
-      between = front;
-      seen = front_push d r.account.log x.seen.front wipe refl front;
+      front = refl;
+      seen = (mine k s r id hist x at).front;
       legal = legal_entry k s r id hist x at wipe allowed.0;
-      view = ap (λ (o : Option Cleaning). with_front (with_share x (record sh { cleaning = None; places_seen = seen_cleaned o sh.places_seen; scan = Idle })) log') (sym may.known);
+      view = refl;
     }
 
-pub key_may : (k : Config) (x : DomainView) (word a : ℕ) → word ≡ before_heap k + a → KeyMay x a → MayStore k x word 0 KeyTold
+pub key_may : (k : Config) (x : DomainView) (word a : ℕ) → word ≡ before_heap k + a → WipeKeyMay x a → MayStore k x word 0 WipeKeyTold
 key_may k x word a place may fits slots id hist s r _ at _ =
     let w : Cleaning = may.cleaning in
     let y : DomainView = with_share x (record x.seen.share { cleaning = Some (key_wiped w) }) in
@@ -336,10 +351,10 @@ key_may k x word a place may fits slots id hist s r _ at _ =
       keeps,
       tt,
       subst (λ (i : ℕ). Rule k record { words = set s.words i 0; homes = s.homes; views = set s.views id (one k hist y) }) here (key_rule k s r id hist x at a may),
-      (ap (λ (o : Option Cleaning). with_share x (record x.seen.share { cleaning = key_emptied o })) (sym may.known), refl),
+      (record { cleaning = w; cleans = may.cleans; view = refl }, refl),
     )
 
-pub datum_may : (k : Config) (x : DomainView) (word a : ℕ) → word ≡ before_heap k + a → DatumMay x a → MayStore k x word 0 (DatumTold k)
+pub datum_may : (k : Config) (x : DomainView) (word a : ℕ) → word ≡ before_heap k + a → WipeDataMay x a → MayStore k x word 0 (WipeDataTold k)
 datum_may k x word a place may fits slots id hist s r _ at _ =
     let w : Cleaning = may.cleaning in
     let n : ℕ = before_heap k + (w.block + 2 + 0) in

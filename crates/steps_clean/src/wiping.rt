@@ -1,7 +1,7 @@
 //! The stores that empty keys and data of ephemerons, in Clean.
 ghost use Rattle.heap_rule.specs.Standing.{IsInHeap};
 ghost use Rattle.heap_rule.specs.Token.{IsIn};
-ghost use Rattle.steps_clean.specs.Wiping.{DatumMay, DatumTold, KeyMay, KeyTold};
+ghost use Rattle.steps_clean.specs.Wiping.{WipeDataMay, WipeDataTold, WipeKeyMay, WipeKeyTold};
 
 use heap_rule::{Domain, Heap, Leaving, raw_store};
 use std::marker::Brand;
@@ -14,9 +14,9 @@ const NOTHING: u64 = 0;
 pub fn wipe_key(heap: &Heap, dom: &mut Domain, at: u32)
     requires here { IsIn dom.old heap.now }
     requires inside { IsInHeap heap.now.config at }
-    requires may { KeyMay dom.old.view at }
+    requires may { WipeKeyMay dom.old.view at }
     ensures here { IsIn dom.new heap.now }
-    ensures told { KeyTold dom.old.view 0 dom.new.view }
+    ensures told { WipeKeyTold dom.old.view 0 dom.new.view }
 {
     let key_index = heap.index_of(at);
     raw_store::<Brand, Leaving>(heap, dom, key_index, NOTHING, &Leaving, &[]);
@@ -28,9 +28,9 @@ pub fn wipe_key(heap: &Heap, dom: &mut Domain, at: u32)
 pub fn wipe_data(heap: &Heap, dom: &mut Domain, at: u32)
     requires here { IsIn dom.old heap.now }
     requires inside { IsInHeap heap.now.config at }
-    requires may { DatumMay dom.old.view at }
+    requires may { WipeDataMay dom.old.view at }
     ensures here { IsIn dom.new heap.now }
-    ensures told { DatumTold heap.now.config dom.old.view 0 dom.new.view }
+    ensures told { WipeDataTold heap.now.config dom.old.view 0 dom.new.view }
 {
     let datum_index = heap.index_of(at);
     raw_store::<Brand, Leaving>(heap, dom, datum_index, NOTHING, &Leaving, &[]);
