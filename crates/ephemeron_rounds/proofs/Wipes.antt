@@ -1,5 +1,5 @@
 -- The cleaning of an ephemeron: its keys and its datum.
-use Rattle.std.proofs.Common.{◌≡◌, ◌≢◌, ℕ, zero, suc, ◌+◌, ◌<◌, ◌≤◌, ◌⊎◌, ◌||◌, Bool, true, false, cond, MatchBool, List, [], ◌∷◌, ◌++◌, Option, Some, None, ⊎_elim, sym, refl, ap, subst, ◌∙◌}
+use Rattle.std.proofs.Common.{◌≡◌, ◌≢◌, ℕ, ◌+◌, ◌<◌, ◌≤◌, ◌⊎◌, ◌||◌, Bool, true, false, cond, MatchBool, List, [], ◌∷◌, ◌++◌, Option, Some, None, ⊎_elim, sym, refl, ap, subst, ◌∙◌}
 use Rattle.std.proofs.lemmas.Option.{same_Some}
 use Rattle.heap_words.specs.declared.colours.Colours.{Colours}
 use Rattle.heap_words.specs.declared.value.Value.{Value}
@@ -14,7 +14,6 @@ use Rattle.heap_rule.specs.declared.config.Config.{Config}
 use Rattle.heap_rule.specs.declared.view.Cleaning.{Cleaning}
 use Rattle.heap_rule.specs.declared.view.DomainView.{DomainView}
 use Rattle.heap_rule.specs.declared.view.NextKey.TheVariants.{Unknown, Refers, Dead}
-use Rattle.heap_rule.specs.declared.view.Scan.{Scan}
 use Rattle.heap_rule.specs.declared.view.Scan.TheVariants.{Idle}
 use Rattle.heap_rule.specs.Layout.{heap_words}
 use Rattle.heap_rule.specs.Standing.{with_front}
@@ -23,7 +22,7 @@ use Rattle.heap_rule.proofs.Closes.{front_same}
 use Rattle.steps_cycle.specs.Looks.{with_share}
 use Rattle.steps_cycle.specs.Marking.{IsMarked, IsUnmarked}
 use Rattle.steps_rounds.specs.Rounding.{IsMarkedEphemeron, place_seen}
-use Rattle.steps_rounds.specs.Emptying.{CleanEndMay, CleanEndTold, CleanKeyMay, CleanKeyTold, CleanLookMay, CleanLookTold, CleanTold, cleaning_from, cleaning_on, key_passed, key_read}
+use Rattle.steps_rounds.specs.Emptying.{CleanEndMay, CleanKeyMay, CleanKeyTold, CleanLookMay, CleanLookTold, CleanTold, cleaning_from, cleaning_on, key_passed, key_read}
 use Rattle.steps_clean.specs.Wiping.{WipeDataMay, WipeDataTold, WipeKeyMay, WipeKeyTold, key_wiped, wiped_through}
 use Rattle.mark_slices.proofs.Exchanges.{not_both, one_meaning}
 use Rattle.ephemeron_rounds.specs.Emptied.{Cleaned, KeyCleaned, KeysCleaned}
@@ -85,7 +84,7 @@ module _ (k : Config) (x y : DomainView) (at word : ℕ) (v : Value) (may : Clea
           go l = subst (λ (n : Cleaning). (IsMarked colours head × (z ≡ with_cleaning x (key_passed n))) ⊎ (IsUnmarked colours head × (z ≡ with_cleaning x (record n { next = Dead }))))
               (one_cleaning (Some (record w { next = Refers a })) (record w { next = Refers a }) l.cleaning refl l.cleans)
               (subst (λ (c : Colours). (IsMarked c head × (z ≡ with_cleaning x (key_passed l.cleaning))) ⊎ (IsUnmarked c head × (z ≡ with_cleaning x (record l.cleaning { next = Dead }))))
-                  (one_meaning x.seen.share.colours colours l.colours known l.known) l.told)
+              (one_meaning x.seen.share.colours colours l.colours known l.known) l.told)
 
       -- the block is marked
       pub marked_stays : IsPermutation colours → IsMarked colours head → KeyCleaned false x z
@@ -136,11 +135,14 @@ module _ (x y : DomainView) (at keys i : ℕ) (before : Bool) (t : KeysCleaned a
       some_on true false s = s
       some_on false true s = some_left t.emptied i
       some_on false false s = s
+
       done_on : (c : Bool) → cond c (key_wiped so_far) (key_passed so_far) ≡ record so_far { done = i + 1; emptied = cond c (t.emptied ++ i ∷ []) t.emptied }
       done_on true = refl
       done_on false = refl
+
       is : n.cleaning ≡ so_far
       is = one_cleaning y.seen.share.cleaning so_far n.cleaning (ap (λ (u : DomainView). u.seen.share.cleaning) t.view) n.cleans
+
       whole : z ≡ with_cleaning x (record so_far { done = i + 1; emptied = cond won (t.emptied ++ i ∷ []) t.emptied })
       whole = n.view ∙ ap (λ (m : Cleaning). with_cleaning y (cond won (key_wiped m) (key_passed m))) is ∙ ap (with_cleaning y) (done_on won)
           ∙ ap (λ (u : DomainView). with_cleaning u (record so_far { done = i + 1; emptied = cond won (t.emptied ++ i ∷ []) t.emptied })) t.view
