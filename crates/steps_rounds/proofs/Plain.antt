@@ -1,0 +1,20 @@
+-- What the looks at ephemerons tell of a token's own data: it stays.
+use Rattle.std.proofs.Common.{ℕ, ⊎_elim}
+use Rattle.heap_rule.specs.declared.config.Config.{Config}
+use Rattle.heap_rule.specs.declared.view.DomainView.{DomainView}
+use Rattle.heap_rule.specs.Raw.{Closes, CanLeave, Leaves}
+use Rattle.steps_rounds.specs.Rounding.{DatumTold, EphemeronTold, KeyLookTold, KeyTold, datum_on, key_on, next_key, place_seen, looked_through}
+use Rattle.steps_cycle.proofs.Plain.{share_closes}
+use Rattle.heap_rule.specs.declared.view.Scan.TheVariants.{Keys}
+
+pub ephemeron_closes : (k : Config) (x : DomainView) (found a : ℕ) → Closes k x found (EphemeronTold k a) CanLeave Leaves
+ephemeron_closes k x found a = share_closes k x found (EphemeronTold k a) (λ y t. ⊎_elim (λ u. (place_seen a x.seen.share, u.1)) (λ u. (record x.seen.share { scan = Keys a 0 u.0 }, u.3)) t.told)
+
+pub key_closes : (k : Config) (x : DomainView) (found : ℕ) → Closes k x found (KeyTold k) CanLeave Leaves
+key_closes k x found = share_closes k x found (KeyTold k) (λ y t. (record x.seen.share { scan = key_on x.seen.share.scan t.value }, t.view))
+
+pub key_look_closes : (k : Config) (x : DomainView) (found : ℕ) → Closes k x found KeyLookTold CanLeave Leaves
+key_look_closes k x found = share_closes k x found KeyLookTold (λ y t. ⊎_elim (λ u. (record x.seen.share { scan = next_key x.seen.share.scan }, u.1)) (λ u. (looked_through x.seen.share, u.1)) t.told)
+
+pub datum_closes : (k : Config) (x : DomainView) (found : ℕ) → Closes k x found (DatumTold k) CanLeave Leaves
+datum_closes k x found = share_closes k x found (DatumTold k) (λ y t. (datum_on x.seen.share t.value, t.view))
