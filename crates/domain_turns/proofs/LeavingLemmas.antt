@@ -27,7 +27,7 @@ use Rattle.safepoint.specs.Looks.{Passed}
 use Rattle.cycle_phases.specs.Sharing.{SharesIn, with_looked}
 use Rattle.cycle_phases.specs.Leading.{LeadsOn}
 use Rattle.domain_turns.specs.Tries.{IsFresh}
-use Rattle.domain_turns.specs.Pausing.{IsQuiet, IsPast, IsReady, HasLeft, IsMarking, KnowsAnswer, KnowsCut, LeavesEven, LeavesOdd, ComesToAnswer, GivesBack}
+use Rattle.domain_turns.specs.Pausing.{IsQuiet, IsPast, IsReady, HasLeft, IsMarking, KnowsAnswer, KnowsCut, LeavesEven, LeavesOdd, ComesToAnswer, GivesBack, knowing_blocks}
 use Rattle.domain_turns.specs.Runs.{IsBetween, Passes}
 use Rattle.domain_turns.proofs.Moving.{Moves, view_moves}
 use Rattle.domain_turns.proofs.PauseLemmas.{not_both, even_next, odd_next, answer_on, before_answer, fresh_on, past_as, keeps_as, arrived_void, later_past, quiet_as, looked_past, looked_quiet, ready_next, even_past, even_quiet, arrived_quiet}
@@ -244,13 +244,13 @@ answer_between h x begun new front asked collected cut i quiet c is fresh = reco
   knows_cut = λ known e marking. absurd (subst IsMarking (sym (some_injective Answer known e)) marking);
 }
 
-pub gives_moves : (h : SharedHeap) (old new : Token) → IsIn old h → IsIn new h → GivesBack h.config old.view new.view → Moves old new
-gives_moves h old new a i g =
+pub gives_moves : (h : SharedHeap) (old new : Token) (blocks : ℕ) → IsIn old h → IsIn new h → GivesBack h.config old.view new.view blocks → Moves old new
+gives_moves h old new blocks a i g =
     let number : g.begun.own.number ≡ old.view.own.number = ap (λ (z : DomainView). z.own.number) g.comes.passed.view in
-    view_moves h old new (arrived_view g.begun) a i g.view number (ap (λ (z : DomainView). z.own.serial) g.comes.passed.view) (ap (λ (z : DomainView). z.seen.made) g.comes.passed.view) (ap (λ (z : DomainView). z.seen.hunt) g.comes.passed.view) g.comes.passed.seen
+    view_moves h old new (arrived_view (knowing_blocks g.begun blocks)) a i g.view number (ap (λ (z : DomainView). z.own.serial) g.comes.passed.view) (ap (λ (z : DomainView). z.seen.made) g.comes.passed.view) (ap (λ (z : DomainView). z.seen.hunt) g.comes.passed.view) g.comes.passed.seen
 
-pub gives_between : (h : SharedHeap) (old new : Token) (asked : Option ℕ) (collected cut : Bool) → IsIn new h → IsQuiet old.view → GivesBack h.config old.view new.view → IsBetween (Some Answer) asked collected cut new
-gives_between h old new asked collected cut i quiet g = answer_between h old.view g.begun new g.begun.seen.front asked collected cut i quiet g.comes g.view
+pub gives_between : (h : SharedHeap) (old new : Token) (blocks : ℕ) (asked : Option ℕ) (collected cut : Bool) → IsIn new h → IsQuiet old.view → GivesBack h.config old.view new.view blocks → IsBetween (Some Answer) asked collected cut new
+gives_between h old new blocks asked collected cut i quiet g = answer_between h old.view g.begun new g.begun.seen.front asked collected cut i quiet g.comes g.view
     (λ _. subst (IsFresh h.config) (sym g.view) (g.comes.ready.fresh refl))
 
 pub passes_moves : (h : SharedHeap) (old new : Token) (before kind : Kind) → IsIn old h → IsIn new h → Passes h.config old.view new.view before kind → Moves old new

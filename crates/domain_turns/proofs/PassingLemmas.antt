@@ -17,7 +17,7 @@ use Rattle.heap_rule.specs.Limits.{sizes_in}
 use Rattle.heap_rule.specs.Phases.{Comes, IsEven}
 use Rattle.heap_rule.specs.Rule.{state_of}
 use Rattle.heap_rule.specs.Token.{Token, SharedHeap, IsIn}
-use Rattle.steps_pauses.specs.Pauses.{noted, cut_in, IsModeOf}
+use Rattle.steps_pauses.specs.Pauses.{arrived_view, noted, cut_in, IsModeOf}
 use Rattle.safepoint.specs.Looks.{Passed}
 use Rattle.domain_turns.specs.declared.passing.Past.TheVariants.{Answered}
 use Rattle.domain_turns.specs.Pausing.{HasLeft, IsCollected, ComesToAnswer, GivesBack, AnswersFrom}
@@ -32,9 +32,9 @@ pub comes_to : (k : Config) (known : Kind) (x y : DomainView) → x.own.number <
 comes_to k known x y inside left p stage even comes mode = record { passed = p; stage = stage; even = even; ready = ready_next k known Answer x y inside left p even comes mode }
 
 -- what it then did
-pub answers_pass : (k : Config) (x begun y : DomainView) (known : Kind) (live : Bool) (o : Option Reply) → ComesToAnswer k x begun → AnswersFrom k begun y live o → PassAnswers k x y known live (Answered o)
-answers_pass k x begun y known live None c a = (a.0, record { begun = begun; comes = c; view = a.1 })
-answers_pass k x begun y known live (Some reply) c a =
+pub answers_pass : (k : Config) (x begun y : DomainView) (known : Kind) (live : Bool) (blocks : ℕ) (o : Option Reply) → ComesToAnswer k x begun → AnswersFrom k begun y live blocks o → PassAnswers k x y known live (Answered blocks o)
+answers_pass k x begun y known live blocks None c a = (a.0, record { begun = begun; comes = c; view = a.1 })
+answers_pass k x begun y known live blocks (Some reply) c a =
     let l = a.1.1 in
     let number : begun.own.number ≡ x.own.number = ap (λ (v : DomainView). v.own.number) c.passed.view in (
       a.0,
@@ -42,12 +42,12 @@ answers_pass k x begun y known live (Some reply) c a =
         begun = begun;
         comes = c;
         emptied = c.ready.past.emptied (before_else c.ready.before Answer c.ready.follows (λ e. cc) (λ e. cc));
-        blocks = l.blocks;
+        blocks = blocks;
         words = l.words;
         reply_is = l.reply_is;
         front = a.1.0.seen.front;
         answers = subst (λ (d : ℕ). Answers (sizes_in k) d begun.seen.front a.1.0.seen.front (CommandOf d FullMajor false) (Replied reply)) number l.answers;
-        view = a.1.2;
+        view = a.1.2 ∙ ap arrived_view l.view;
       },
     )
 
@@ -62,8 +62,8 @@ between_of r known is left = subst (λ (l : Option Kind). IsBetween l r.asked r.
 pub arrived_is_run : (h : SharedHeap) (r : RunView) (new : Token) (last kind : Kind) → IsRun r → r.left ≡ Some last → IsIn r.token h → IsIn new h → Passes h.config r.token.view new.view last kind → IsRun (record r { token = new; left = Some kind; cut = cut_in last r.cut })
 arrived_is_run h r new last kind is left was here p = moved_is_run r new (Some kind) r.asked r.collected (cut_in last r.cut) is (passes_moves h r.token new last kind was here p) (passes_between h r.token new last kind r.asked r.collected r.cut is.inside was here (between_of r last is left) p)
 
-pub gives_is_run : (h : SharedHeap) (r : RunView) (new : Token) (last : Kind) (collected : Bool) → IsRun r → IsIn r.token h → IsIn new h → GivesBack h.config r.token.view new.view → IsRun (record r { token = new; left = Some Answer; collected = collected; cut = cut_in last r.cut })
-gives_is_run h r new last collected is was here g = moved_is_run r new (Some Answer) r.asked collected (cut_in last r.cut) is (gives_moves h r.token new was here g) (gives_between h r.token new r.asked collected (cut_in last r.cut) here is.between.quiet g)
+pub gives_is_run : (h : SharedHeap) (r : RunView) (new : Token) (last : Kind) (blocks : ℕ) (collected : Bool) → IsRun r → IsIn r.token h → IsIn new h → GivesBack h.config r.token.view new.view blocks → IsRun (record r { token = new; left = Some Answer; collected = collected; cut = cut_in last r.cut })
+gives_is_run h r new last blocks collected is was here g = moved_is_run r new (Some Answer) r.asked collected (cut_in last r.cut) is (gives_moves h r.token new blocks was here g) (gives_between h r.token new blocks r.asked collected (cut_in last r.cut) here is.between.quiet g)
 
 pub waits_is_run : (h : SharedHeap) (r : RunView) (new : Token) (last : Kind) (b : ℕ) → IsRun r → r.left ≡ Some last → IsIn r.token h → IsIn new h → new.view ≡ noted r.token.view (Barrier b) → IsRun (record r { token = new; left = Some last })
 waits_is_run h r new last b is left was here says = moved_is_run r new (Some last) r.asked r.collected r.cut is (still_moves h r.token new _ was here says refl refl refl refl refl) (waits_between h r.token new last r.asked r.collected r.cut b was here (between_of r last is left) says)

@@ -19,21 +19,21 @@ use Rattle.domain_turns.specs.Runs.{RunView, Passes, GoesBy, IsAnswered, SeesAns
 abbrev pub PassAnswers : Config → DomainView → DomainView → Kind → Bool → Past → Type 0
 PassAnswers k x y known live (Waits b) = (b < x.own.arrivals * k.domains) × (y ≡ noted x (Barrier b))
 PassAnswers k x y known live (Arrived kind) = Passes k x y known kind
-PassAnswers k x y known live (Answered None) = (live ≡ false) × GivesBack k x y
-PassAnswers k x y known live (Answered (Some reply)) = (live ≡ true) × AnswersLive k x y reply
+PassAnswers k x y known live (Answered blocks None) = (live ≡ false) × GivesBack k x y blocks
+PassAnswers k x y known live (Answered blocks (Some reply)) = (live ≡ true) × AnswersLive k x y reply
 PassAnswers k x y known live Runs = Passed k x y × (y.seen.stage ≡ In Run) × IsEven x.own.arrivals × IsCollected k y
 
 -- the kind of the last even phase that it then knows of
 abbrev pub left_after : Past → Kind → Option Kind
 left_after (Waits b) known = Some known
 left_after (Arrived kind) known = Some kind
-left_after (Answered reply) known = Some Answer
+left_after (Answered blocks reply) known = Some Answer
 left_after Runs known = None
 
 -- the same of its run
 abbrev pub PastAnswers : SharedHeap → RunView → RunView → Past → Type 0
 PastAnswers h old new (Waits b) = RunWaits h old new b
 PastAnswers h old new (Arrived kind) = GoesBy h old new
-PastAnswers h old new (Answered None) = SeesAnswer h old new
-PastAnswers h old new (Answered (Some reply)) = IsAnswered h old new
+PastAnswers h old new (Answered blocks None) = SeesAnswer h old new blocks
+PastAnswers h old new (Answered blocks (Some reply)) = IsAnswered h old new
 PastAnswers h old new Runs = Resumes h old new

@@ -102,24 +102,27 @@ pub record ComesToAnswer (k : Config) (x begun : DomainView) : Type 0 where
   pub even : IsEven x.own.arrivals
   pub ready : IsReady k Answer begun
 
--- the domain gave back its pools in which nothing is left, and arrived
-pub record GivesBack (k : Config) (x y : DomainView) : Type 0 where
+-- the domain has found how many blocks live
+abbrev pub knowing_blocks : DomainView → ℕ → DomainView
+knowing_blocks x blocks = with_share x (record x.seen.share { blocks = Some blocks })
+
+-- the domain found that so many blocks live, gave back its pools in which nothing is left, and arrived
+pub record GivesBack (k : Config) (x y : DomainView) (blocks : ℕ) : Type 0 where
   pub begun : DomainView
   pub comes : ComesToAnswer k x begun
-  pub view : y ≡ arrived_view begun
+  pub view : y ≡ arrived_view (knowing_blocks begun blocks)
 
--- the domain made the entry of its `full_major`, and the reply tells what lives
-pub record LivesAs (k : Config) (x y : DomainView) (reply : Reply) : Type 0 where
-  pub blocks : ℕ
+-- the domain made the entry of its `full_major` where so many blocks live, and the reply tells what lives
+pub record LivesAs (k : Config) (x y : DomainView) (blocks : ℕ) (reply : Reply) : Type 0 where
   pub words : ℕ
   pub reply_is : reply ≡ Live blocks words
   pub answers : Answers (sizes_in k) x.own.number x.seen.front y.seen.front (CommandOf x.own.number FullMajor false) (Replied reply)
-  pub view : y ≡ with_share (with_front x y.seen.front) (record x.seen.share { blocks = Some blocks })
+  pub view : y ≡ with_front x y.seen.front
 
--- and then it arrived, if it waited for one, or it arrived at once
-abbrev pub AnswersFrom : Config → DomainView → DomainView → Bool → Option Reply → Type 0
-AnswersFrom k x y live None = (live ≡ false) × (y ≡ arrived_view x)
-AnswersFrom k x y live (Some reply) = (live ≡ true) × ((between : DomainView) × LivesAs k x between reply × (y ≡ arrived_view (with_front x between.seen.front)))
+-- and then it arrived, if it waited for one, or it arrived at once. Before it had found that so many blocks live
+abbrev pub AnswersFrom : Config → DomainView → DomainView → Bool → ℕ → Option Reply → Type 0
+AnswersFrom k x y live blocks None = (live ≡ false) × (y ≡ arrived_view (knowing_blocks x blocks))
+AnswersFrom k x y live blocks (Some reply) = (live ≡ true) × ((between : DomainView) × LivesAs k (knowing_blocks x blocks) between blocks reply × (y ≡ arrived_view between))
 
 -- before that it made the entry of its `full_major`, with its minor area empty: the reply tells what lives
 pub record AnswersLive (k : Config) (x y : DomainView) (reply : Reply) : Type 0 where

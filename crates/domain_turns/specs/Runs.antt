@@ -1,5 +1,5 @@
 -- A domain's trace on the shared heap, and what a turn does to it.
-use Rattle.std.specs.Prelude.{◌≡◌, ◌≢◌, ◌==◌, ℕ, ◌+◌, ◌*◌, ◌%◌, ◌<◌, ◌≤◌, ◌⊎◌, nat_lt, Option, None, Bool, true, false, List, [], ◌∷◌, ◌++◌, length, take, replicate, slice_get, Some, IsTrue}
+use Rattle.std.specs.Prelude.{◌≡◌, ◌≢◌, ◌==◌, ◌&&◌, ℕ, ◌+◌, ◌*◌, ◌%◌, ◌<◌, ◌≤◌, ◌⊎◌, nat_lt, nat_le, Option, None, Bool, true, false, List, [], ◌∷◌, ◌++◌, length, take, replicate, slice_get, Some, IsTrue}
 use Rattle.std.specs.List.{list_any}
 use Rattle.heap_model.specs.declared.command.Command as model
 use Rattle.heap_model.specs.declared.entry.Entry.{Entry}
@@ -10,7 +10,7 @@ use Rattle.heap_model.specs.History.{IsPrefix, commands, replies}
 use Rattle.heap_model.specs.Fronts.{Answers}
 use Rattle.heap_words.specs.declared.value.Value.{Value}
 use Rattle.heap_words.specs.declared.value.Value.TheVariants.{Nothing}
-use Rattle.heap_model.specs.Domains.{class_count, domain_at}
+use Rattle.heap_model.specs.Domains.{class_count, domain_at, reserve}
 use Rattle.heap_model.specs.declared.command.Command.TheVariants.{Minor, Major, FullMajor}
 use Rattle.heap_rule.specs.declared.config.Config.{Config}
 use Rattle.heap_rule.specs.declared.view.DomainView.{DomainView}
@@ -38,7 +38,7 @@ use Rattle.heap_rule.specs.Token.{Token, SharedHeap, IsIn}
 use Rattle.domain_turns.specs.Pausing.{IsQuiet, HasLeft, KnowsCut, LeavesEven, LeavesOdd, GivesBack, AnswersLive, IsCollected}
 use Rattle.domain_turns.specs.Tries.{FitsHeap, IsFresh, NeedsPause, Refused, Tried, wish_of}
 
--- a run: the domain's token, its commands, the place of the next one, its replies, whether its trace has ended, where the domain has arrived from which kind of phase, how often it had arrived when it asked for a pause for the next command, whether the last pause since then was a complete collection, and, for domain 0, whether the collection under way is past its cut
+-- a run: the domain's token, its commands, the place of the next one, its replies, whether its trace has ended, where the domain has arrived from which kind of phase, how often it had arrived when it asked for a pause for the next command, whether the last pause since then was a complete collection that left so many blocks that they may use up the pools, and, for domain 0, whether the collection under way is past its cut
 pub record RunView : Type 0 where
   pub token : Token
   pub commands : List model.Command
@@ -147,7 +147,7 @@ pub record Asks (h : SharedHeap) (start : Token) (old new : RunView) : Type 0 wh
   pub needs : NeedsPause h.config start.view.own (served_since old.asked old.token.view.own.arrivals) command
   pub run : new ≡ record old { token = record start { view = noted start.view (Asked (bit_of (wish_of command))) }; asked = Some old.token.view.own.arrivals }
 
--- or the next command is an allocation that was refused in this turn, without a complete collection for it before, and the turn asked for one
+-- or the next command is an allocation that was refused in this turn, without a complete collection for it before that left much, and the turn asked for one
 pub record AsksFull (h : SharedHeap) (start : Token) (old new : RunView) : Type 0 where
   pub command : model.Command
   pub next : slice_get old.commands old.next ≡ Some command
@@ -244,13 +244,17 @@ pub record IsAnswered (h : SharedHeap) (old new : RunView) : Type 0 where
   pub answers : AnswersLive h.config old.token.view new.token.view reply
   pub run : new ≡ record old { token = record old.token { view = new.token.view }; next = old.next + 1; replies = old.replies ++ reply ∷ []; left = Some Answer; asked = None; collected = false; cut = cut_in last old.cut }
 
--- or its next command is none, and a complete collection has come for it where it had been tried
-pub record SeesAnswer (h : SharedHeap) (old new : RunView) : Type 0 where
+-- whether so many blocks may use up the pools: where each has one to itself, no more pools are free than the reserve of promotion
+abbrev pub may_use_up : Config → ℕ → Bool
+may_use_up k blocks = nat_le k.pools (blocks + reserve (sizes_in k))
+
+-- or its next command is none. A complete collection has come for it where it had been tried, and counts where it left so many blocks that they may use up the pools
+pub record SeesAnswer (h : SharedHeap) (old new : RunView) (blocks : ℕ) : Type 0 where
   pub last : Kind
   pub arrived : old.left ≡ Some last
   pub none : slice_get old.commands old.next ≢ Some FullMajor
-  pub gives : GivesBack h.config old.token.view new.token.view
-  pub run : new ≡ record old { token = record old.token { view = new.token.view }; left = Some Answer; collected = is_asked old.asked; cut = cut_in last old.cut }
+  pub gives : GivesBack h.config old.token.view new.token.view blocks
+  pub run : new ≡ record old { token = record old.token { view = new.token.view }; left = Some Answer; collected = is_asked old.asked && may_use_up h.config blocks; cut = cut_in last old.cut }
 
 -- not all have arrived: the barrier word b, found in this turn, is below the end of the domain's turn
 pub record Waits (h : SharedHeap) (old new : RunView) (b : ℕ) : Type 0 where
@@ -261,7 +265,7 @@ pub record Waits (h : SharedHeap) (old new : RunView) (b : ℕ) : Type 0 where
 -- what a turn answers
 abbrev pub TurnAnswers : SharedHeap → RunView → RunView → Turned → Type 0
 TurnAnswers h old new (Waiting b) = Waits h old new b
-TurnAnswers h old new Did = GoesBy h old new ⊎ (IsAnswered h old new ⊎ (SeesAnswer h old new ⊎ ((start : RunView) × Starts h old start × RunAnswers h start new Did)))
+TurnAnswers h old new Did = GoesBy h old new ⊎ (IsAnswered h old new ⊎ (((blocks : ℕ) × SeesAnswer h old new blocks) ⊎ ((start : RunView) × Starts h old start × RunAnswers h start new Did)))
 TurnAnswers h old new (Idle n) = (start : RunView) × Starts h old start × RunAnswers h start new (Idle n)
 TurnAnswers h old new Over = (start : RunView) × Starts h old start × RunAnswers h start new Over
 

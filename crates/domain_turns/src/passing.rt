@@ -29,8 +29,9 @@ pub(crate) enum Past {
     Waits(u64),
     // The phase that had begun is done, and the domain has arrived.
     Arrived(Kind),
-    // So it has where a collection was answered. The reply is that of its `full_major`.
-    Answered(Option<Reply>),
+    // So it has where a collection was answered: how many blocks that left, and the reply of its
+    // `full_major`.
+    Answered { blocks: u64, reply: Option<Reply> },
     // The domain runs.
     Runs,
 }
@@ -110,22 +111,22 @@ fn leave_even(heap: &Heap, dom: &mut Domain, kind: Kind, hints: &mut Hints)
     }
 }
 
-// Makes the entry of a `full_major`, and answers its reply.
-fn answer_live(heap: &Heap, dom: &mut Domain) -> Reply
+// Makes the entry of a `full_major`, where so many blocks live, and answers its reply.
+fn answer_live(heap: &Heap, dom: &mut Domain, blocks: u64) -> Reply
     requires here { IsIn dom.old heap.now }
     requires stage { dom.old.view.seen.stage ≡ In Answer }
+    requires known { dom.old.view.seen.share.blocks ≡ Some blocks }
     requires goes_on { (domain_at (state_of heap.now.config dom.old.view.seen.front) dom.old.view.own.number).ended ≡ false }
     ensures here { IsIn dom.new heap.now }
-    ensures lives { LivesAs heap.now.config dom.old.view dom.new.view result }
+    ensures lives { LivesAs heap.now.config dom.old.view dom.new.view blocks result }
 {
-    let blocks = live_blocks_load(heap, dom);
     let words = live_words_load(heap, dom, blocks);
     Reply::Live { blocks, words }
 }
 
 // Where a collection is answered: makes the entry of a `full_major` if the domain waits for one, gives
-// back the pools in which nothing is left, and arrives.
-fn answer(heap: &Heap, dom: &mut Domain, live: bool) -> Option<Reply>
+// back the pools in which nothing is left, and arrives. Answers how many blocks live, and the reply.
+fn answer(heap: &Heap, dom: &mut Domain, live: bool) -> (u64, Option<Reply>)
     requires here { IsIn dom.old heap.now }
     requires stage { dom.old.view.seen.stage ≡ In Answer }
     requires at_rest { dom.old.view.seen.hunt ≡ Rests }
@@ -134,15 +135,16 @@ fn answer(heap: &Heap, dom: &mut Domain, live: bool) -> Option<Reply>
     requires forgot { dom.old.view.seen.share ≡ voided dom.old.view.seen.share }
     requires goes_on { live ≡ true → (domain_at (state_of heap.now.config dom.old.view.seen.front) dom.old.view.own.number).ended ≡ false }
     ensures here { IsIn dom.new heap.now }
-    ensures answers { AnswersFrom heap.now.config dom.old.view dom.new.view live result }
+    ensures answers { AnswersFrom heap.now.config dom.old.view dom.new.view live result.0 result.1 }
 {
+    let blocks = live_blocks_load(heap, dom);
     let reply = if live {
-        Some(answer_live(heap, dom))
+        Some(answer_live(heap, dom, blocks))
     } else {
         None
     };
     give_back(heap, dom);
-    reply
+    (blocks, reply)
 }
 
 // Looks at the barrier, and where all have arrived does the domain's share of the phase that has begun,
@@ -175,7 +177,10 @@ pub(crate) fn pass(
         Look::NotAll(b) => Past::Waits(b),
         Look::Lead => Past::Arrived(leave_odd(heap, dom, last, cut)),
         Look::Next(Kind::Run) => Past::Runs,
-        Look::Next(Kind::Answer) => Past::Answered(answer(heap, dom, live)),
+        Look::Next(Kind::Answer) => {
+            let (blocks, reply) = answer(heap, dom, live);
+            Past::Answered { blocks, reply }
+        }
         Look::Next(kind) => {
             leave_even(heap, dom, kind, hints);
             Past::Arrived(kind)
@@ -190,7 +195,7 @@ pub(crate) fn left_after(past: &Past, last: Kind) -> Option<Kind>
     match past {
         Past::Waits(_) => Some(last),
         Past::Arrived(kind) => Some(*kind),
-        Past::Answered(_) => Some(Kind::Answer),
+        Past::Answered { .. } => Some(Kind::Answer),
         Past::Runs => None,
     }
 }

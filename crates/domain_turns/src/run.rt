@@ -23,7 +23,8 @@ pub struct DomainRun {
     pub(crate) left: Option<Kind>,
     // How often it had arrived when it asked for a pause for the next command.
     pub(crate) asked: Option<u64>,
-    // Whether the last pause since then was a complete collection.
+    // Whether the last pause since then was a complete collection that left so many blocks that they
+    // may use up the pools.
     pub(crate) collected: bool,
     // Whether the collection under way is past its cut, for domain 0.
     pub(crate) cut: bool,

@@ -1,5 +1,5 @@
 //! Turns.
-ghost use Rattle.std.specs.Prelude.{◌≡◌, ◌≢◌, ◌≤◌, ◌<◌, ◌^◌, true, false, length, slice_get, Some, None};
+ghost use Rattle.std.specs.Prelude.{◌≡◌, ◌≢◌, ◌≤◌, ◌<◌, ◌^◌, ◌&&◌, true, false, length, slice_get, Some, None};
 ghost use Rattle.heap_rule.specs.declared.phase.Note.TheVariants as note;
 ghost use Rattle.heap_rule.specs.declared.phase.Kind.TheVariants.{Run};
 ghost use Rattle.steps_pauses.specs.Pauses.{noted, arrived_view};
@@ -7,7 +7,7 @@ ghost use Rattle.heap_rule.specs.Running.{Runs};
 ghost use Rattle.heap_rule.specs.Token.{IsIn};
 ghost use Rattle.heap_model.specs.declared.command.Command.TheVariants.{FullMajor};
 ghost use Rattle.safepoint.specs.Looks.{bit_of};
-ghost use Rattle.domain_turns.specs.Runs.{HasEnded, EndsTrace, RunAnswers, TurnAnswers, RestAnswers, CalmAnswers, GoesOn, CalmDid, TrialAnswers, served_since, noted_token};
+ghost use Rattle.domain_turns.specs.Runs.{HasEnded, EndsTrace, RunAnswers, TurnAnswers, RestAnswers, CalmAnswers, GoesOn, CalmDid, TrialAnswers, is_asked, may_use_up, served_since, noted_token};
 ghost use Rattle.domain_turns.specs.Past.{PastAnswers};
 ghost use Rattle.domain_turns.specs.declared.turned.Turned as turned;
 
@@ -19,6 +19,7 @@ use cycle_phases::cut_after;
 use heap_model::command::Command;
 use heap_rule::{Domain, Heap, Kind};
 use safepoint::{Want, arrive, ask, wants};
+use size_classes::reserve;
 use steps_pauses::{ended_add, ended_load};
 
 // Makes the entry of the end of a trace. The registers hold nothing then.
@@ -181,6 +182,23 @@ fn waits_for_answer(run: &DomainRun) -> bool
     matches!(run.commands.get(run.next), Some(Command::FullMajor))
 }
 
+// Whether so many blocks may use up the pools: where each has one to itself, no more are free than the
+// reserve of promotion.
+fn may_use_up(heap: &Heap, blocks: u64) -> bool
+    ensures { result ≡ may_use_up heap.now.config blocks }
+{
+    let config = heap.config();
+    u64::from(config.pools - reserve(config.domains, config.minor_words)) <= blocks
+}
+
+// Whether a complete collection that left so many blocks lets the next command be answered `full`.
+// `asked` says whether the domain had asked for a pause for it, and when.
+fn lets_refuse(heap: &Heap, asked: Option<u64>, blocks: u64) -> bool
+    ensures { result ≡ (is_asked asked && may_use_up heap.now.config blocks) }
+{
+    asked.is_some() && may_use_up(heap, blocks)
+}
+
 // What a domain that has arrived does with the phase that has begun, if one has.
 fn pass_by(heap: &Heap, run: &mut DomainRun, last: Kind) -> Past
     requires here { IsIn run.old.token heap.now }
@@ -194,9 +212,9 @@ fn pass_by(heap: &Heap, run: &mut DomainRun, last: Kind) -> Past
     run.left = left_after(&past, last);
     match past {
         Past::Arrived(_) => run.cut = cut_after(last, run.cut),
-        Past::Answered(reply) => {
+        Past::Answered { blocks, reply } => {
             run.cut = cut_after(last, run.cut);
-            run.collected = run.asked.is_some();
+            run.collected = lets_refuse(heap, run.asked, blocks);
             if let Some(reply) = reply {
                 run.replies.push_reserved(reply);
                 run.next += 1;
@@ -223,7 +241,7 @@ fn turn_on(heap: &Heap, run: &mut DomainRun) -> Turned
     };
     match pass_by(heap, run, last) {
         Past::Waits(b) => Turned::Waiting(b),
-        Past::Arrived(_) | Past::Answered(_) => Turned::Did,
+        Past::Arrived(_) | Past::Answered { .. } => Turned::Did,
         Past::Runs => turn_running(heap, run),
     }
 }
@@ -237,7 +255,8 @@ fn turn_on(heap: &Heap, run: &mut DomainRun) -> Turned
 /// served it; and for a complete one where it is `full_major`, or where it is an allocation that is
 /// refused in this turn. One for a young block is refused exactly where fewer pools are free than
 /// promotion may need, and one for the major heap exactly where no pool is to be had. It is answered
-/// `full` instead where a complete collection has come since it was first tried, and no pause after that.
+/// `full` instead where a complete collection has come since it was first tried, no pause after that, and
+/// that collection left so many blocks that they may use up the pools.
 ///
 /// A `full_major` is answered in the pause, as the collection is. A domain that runs again after a pause
 /// has an empty minor area, remembers no field, and holds no address of a minor area.

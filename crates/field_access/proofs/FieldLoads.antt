@@ -10,7 +10,7 @@ use Rattle.heap_model.specs.declared.reply.Applied.TheVariants.{Replied}
 use Rattle.heap_model.specs.Commands.{shown}
 use Rattle.heap_model.specs.Domains.{domain_at, register, IsWithinLimits}
 use Rattle.heap_model.specs.Fronts.{Answers}
-use Rattle.heap_rule.specs.Standing.{Acts}
+use Rattle.heap_rule.specs.Standing.{Acts, Entered}
 use Rattle.heap_rule.proofs.Acting.{looked_acts}
 use Rattle.heap_words.specs.declared.value.Value.{Value}
 use Rattle.heap_words.specs.declared.value.Value.TheVariants.{Int, Ref, Nothing}
@@ -23,16 +23,14 @@ use Rattle.heap_rule.specs.Rule.{state_of}
 use Rattle.steps_run.specs.Loads.{FieldRead, Measured}
 use Rattle.heap_rule.specs.Places.{Shows}
 use Rattle.heap_rule.specs.Token.{Token, SharedHeap, IsIn, IsAddress}
-use Rattle.heap_rule.specs.Running.{Runs, Did}
-use Rattle.heap_rule.specs.Running.{own_entry}
-use Rattle.heap_rule.proofs.Calls.{front_stays, look_stays, stays_trans, answered_did}
-use Rattle.heap_model.proofs.Histories.FrontLemmas.{answers_after}
+use Rattle.heap_rule.specs.Running.{Runs, Did, own_entry}
+use Rattle.field_access.proofs.Doing.{looked_did}
 use Rattle.field_access.specs.Registers.{LoadsInto}
 use Rattle.field_access.proofs.Loading.{loaded}
 use Rattle.heap_rule.proofs.Plain.{entered_rest}
 
 -- the register holds what the reply shows
-shown_into : (k : Config) (dst : ℕ) (before after : List Value) (v : Value) (held : model.Value) → Shows v held → ((a : ℕ) → v ≡ Ref a → IsAddress k a) → after ≡ set before dst v → LoadsInto k dst (shown held) before after
+pub shown_into : (k : Config) (dst : ℕ) (before after : List Value) (v : Value) (held : model.Value) → Shows v held → ((a : ℕ) → v ≡ Ref a → IsAddress k a) → after ≡ set before dst v → LoadsInto k dst (shown held) before after
 shown_into k dst before after (Int z) (IntValue n) shows there written = written ∙ ap (λ (i : ℤ). set before dst (Int i)) shows
 shown_into k dst before after (Ref a) (Block l) shows there written = (a, there a refl, written)
 shown_into k dst before after Nothing NothingValue shows there written = written
@@ -78,13 +76,8 @@ module _ (h : SharedHeap) (old : Token) (y z : DomainView) (e : Entry) (dst src 
   pub load_did : (w : Token) (r : Reply) → IsIn w h → w.view ≡ z → r ≡ shown (register (state_of h.config z.seen.front) z.own.number dst) → Did h old w (Load dst src i) r
   load_did w r here same reply =
       let replies : r ≡ shown read.held = reply ∙ ap (λ (n : ℕ). shown (register (state_of h.config z.seen.front) n dst)) after_number ∙ ap shown held_after in
-      let whole = answers_after (sizes_in h.config) old.view.own.number old.view.seen.front y.seen.front z.seen.front _ _ m.looked.seen answers_is in
-      answered_did h old w (Load dst src i) r runs here (ap (λ (x : DomainView). x.own.number) same ∙ after_number)
-      (ap (λ (x : DomainView). x.seen.hunt) same ∙ ap (λ (x : DomainView). x.seen.hunt) (entered_rest _ _ _ _ _ _ _ read.entered) ∙ ap (λ (x : DomainView). x.seen.hunt) m.looked.view ∙ runs.at_rest)
-      (ap (λ (x : DomainView). x.seen.made) same ∙ ap (λ (x : DomainView). x.seen.made) (entered_rest _ _ _ _ _ _ _ read.entered) ∙ ap (λ (x : DomainView). x.seen.made) m.looked.view ∙ runs.idle)
-      (stays_trans old.view y w.view (look_stays old.view y _ m.looked.view) (front_stays y w.view _ _ (same ∙ (entered_rest _ _ _ _ _ _ _ read.entered))))
-      (subst (λ (x : DomainView). Answers (sizes_in h.config) old.view.own.number old.view.seen.front x.seen.front (own_entry old (Load dst src i)) (Replied r)) (sym same)
-      (subst (λ (q : Reply). Answers (sizes_in h.config) old.view.own.number old.view.seen.front z.seen.front (own_entry old (Load dst src i)) (Replied q)) (sym replies) whole))
+      subst (λ (q : Reply). Did h old w (Load dst src i) q) (sym replies)
+      (looked_did h old w y (Load dst src i) e (shown read.held) read.value (Read dst ∷ []) is runs here m.looked (subst (λ (x : DomainView). Entered h.config e (Replied (shown read.held)) read.value (Read dst ∷ []) y x) (sym same) read.entered))
 
   pub loads_into : (w : Token) (r : Reply) → w.view ≡ z → r ≡ shown (register (state_of h.config z.seen.front) z.own.number dst) → LoadsInto h.config dst r old.view.own.registers w.view.own.registers
   loads_into w r same reply =

@@ -51,8 +51,10 @@ fn label_of_word(word: u64) -> Label
     Label { domain, serial }
 }
 
-// The reply that shows what a register holds. The place of the register is told to the label load.
-fn shown_register(heap: &Heap, dom: &mut Domain, r: u8) -> Reply
+/// The reply that shows what a register holds: `int` with an integer, `blk` with the label of a
+/// block, or `none`. The register is below 16, and the domain knows that its trace gave it this
+/// value. Nothing changes.
+pub fn shown_register(heap: &Heap, dom: &mut Domain, r: u8) -> Reply
     ghost register: { ℕ }
     requires register { register ≡ r }
     requires here { IsIn dom.old heap.now }
@@ -115,8 +117,9 @@ pub fn load(heap: &Heap, dom: &mut Domain, dst: u8, src: u8, index: u16) -> Repl
     load_as(heap, dom, dst, src, index)
 }
 
-// Whether a field of the block at an address must be remembered once it gets the value.
-fn must_remember(heap: &Heap, block: u32, value: Value) -> bool
+/// Whether a word of the block at an address must be remembered once it gets the value: the block
+/// lies in a pool, and the value is a block in a minor area.
+pub fn must_remember(heap: &Heap, block: u32, value: Value) -> bool
     ensures { (result ≡ true) ↔ MustRemember heap.now.config (Ref block) value }
 {
     let config = heap.config();

@@ -7,5 +7,5 @@
 mod fields;
 mod registers;
 
-pub use fields::{load, store};
+pub use fields::{load, must_remember, shown_register, store};
 pub use registers::{copy, forget, put_int};

@@ -1,12 +1,12 @@
 -- The looks at an ephemeron in Rounds keep the rule.
-use Rattle.std.proofs.Common.{◌≡◌, ℕ, Bool, IsTrue, ◌+◌, List, true, false, length, get_or, set, slice_get, Some, Option, None, sym, refl, ap, ◌∙◌, subst, inl, inr, ⊎_elim, arith, add-one, true≢false, ◌∷◌, suc, option_to_list, not}
+use Rattle.std.proofs.Common.{◌≡◌, ◌≤◌, ℕ, Bool, IsTrue, ◌+◌, List, true, false, length, get_or, set, slice_get, Some, Option, None, sym, refl, ap, ◌∙◌, subst, inl, inr, ⊎_elim, arith, add-one, true≢false, ◌∷◌, suc, option_to_list, not}
 use mathlib.Core.Option.{some}
 use lib.ListN.{get_elem?}
 use Rattle.heap_rule.specs.declared.config.Config.{Config}
 use Rattle.heap_rule.specs.declared.view.DomainView.{DomainView}
 use Rattle.heap_rule.proofs.Keeps.{Words, my_good, unmoved}
 use Rattle.heap_rule.specs.Rule.{Rule, state_of}
-use Rattle.heap_rule.specs.Layout.{before_heap, at_address}
+use Rattle.heap_rule.specs.Layout.{before_heap, at_address, heap_words}
 use Rattle.steps_rounds.specs.Rounding.{DatumMay, EphemeronMay, KeyLookMay, KeyMay, DatumTold, EphemeronTold, KeyLookTold, KeyTold, datum_on, key_on, looked_through, datum_of, next_key, place_seen}
 use Rattle.heap_model.specs.declared.entry.Entry.{Entry}
 use Rattle.heap_rule.specs.Raw.{MayStep}
@@ -26,7 +26,7 @@ use Rattle.heap_rule.specs.declared.phase.Kind.{Kind}
 use Rattle.heap_rule.specs.declared.phase.Kind.TheVariants.{Rounds, Clean}
 use Rattle.heap_rule.specs.declared.view.Scan.{Scan}
 use Rattle.heap_rule.specs.declared.view.Share.{Share}
-use Rattle.heap_rule.specs.Places.{Live, Place, Stands, WordStands, IsNoBlock}
+use Rattle.heap_rule.specs.Places.{Live, Place, Stands, WordStands, IsNoBlock, extent}
 use Rattle.heap_rule.specs.Cycles.{Cycling, Facts, IsCollecting, Knowing, Scans, cycle_of, seen_by, KeysAt, KeyAt}
 use Rattle.heap_rule.proofs.Lists.{got_there}
 use Rattle.heap_rule.proofs.Values.{address_of, packable, stands_block, no_label}
@@ -172,12 +172,19 @@ module _ (k : Config) (s : Words) (r : Rule k s) (id : ℕ) (hist : List Entry) 
       through = keys_start m.marked n.0;
     }
 
-    pub ephemeron_told : (y : DomainView) × After y × EphemeronTold a x (at_address k s.words a) y
+    inside : a + ephe.keys + 2 ≤ heap_words k
+    inside =
+        let e : extent p.shape ≡ ephe.keys + 3 = ap extent ephe.shape in
+        let n : ℕ = extent p.shape in
+        let high : a + n ≤ heap_words k + 1 = (r.whole.placed.fits a p ephe.lives).high in
+        omega arith
+
+    pub ephemeron_told : (y : DomainView) × After y × EphemeronTold k a x (at_address k s.words a) y
     ephemeron_told = ⊎_elim
         (λ (e : m.marked p.label ≡ true). let b = is_marked may.colours may.known a p ephe.lives e in (
           with_share x (record sh { scan = Keys a 0 ephe.keys }),
           goes_rule (Keys a 0 ephe.keys) (begins e) (λ b is. let same : a ≡ b = same_Some a b is in subst (λ (z : ℕ). IsTrue (seen_by x.own.ephemerons.items z)) same may.listed),
-          record { colours = may.colours; known = may.known; told = inr (ephe.keys, record { block = b.0; shape = b.1 ∙ ephe.shape }, refl) },
+          record { colours = may.colours; known = may.known; told = inr (ephe.keys, record { block = b.0; shape = b.1 ∙ ephe.shape }, inside, refl) },
         ))
         (λ (e : m.marked p.label ≡ false). (
           with_share x (place_seen a sh),
@@ -342,10 +349,10 @@ module _ (k : Config) (s : Words) (r : Rule k s) (id : ℕ) (hist : List Entry) 
       view = refl;
     }
 
-pub ephemeron_may : (k : Config) (x : DomainView) (word a : ℕ) → word ≡ before_heap k + a → EphemeronMay x a → MayStep k x word (λ n. n) (EphemeronTold a)
+pub ephemeron_may : (k : Config) (x : DomainView) (word a : ℕ) → word ≡ before_heap k + a → EphemeronMay x a → MayStep k x word (λ n. n) (EphemeronTold k a)
 ephemeron_may k x word a place may fits slots id hist s r _ at _ =
     let o = ephemeron_told k s r id hist x at may.stage a may in
-    (one k hist o.0, keeps, tt, unmoved k s word (set s.views id (one k hist o.0)) o.1, (subst (λ (n : ℕ). EphemeronTold a x (get_or s.words n 0) o.0) (sym place) o.2, refl))
+    (one k hist o.0, keeps, tt, unmoved k s word (set s.views id (one k hist o.0)) o.1, (subst (λ (n : ℕ). EphemeronTold k a x (get_or s.words n 0) o.0) (sym place) o.2, refl))
 
 pub key_may : (k : Config) (x : DomainView) (word a : ℕ) → word ≡ before_heap k + a → KeyMay x a → MayStep k x word (λ n. n) (KeyTold k)
 key_may k x word a place may fits slots id hist s r _ at _ =

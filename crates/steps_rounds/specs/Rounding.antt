@@ -1,5 +1,5 @@
 -- What the looks at ephemerons in Rounds ask and tell.
-use Rattle.std.specs.Prelude.{◌≡◌, ℕ, ◌+◌, ◌<◌, ◌⊎◌, IsTrue, ◌∷◌, Some}
+use Rattle.std.specs.Prelude.{◌≡◌, ℕ, ◌+◌, ◌<◌, ◌≤◌, ◌⊎◌, IsTrue, ◌∷◌, Some}
 use Rattle.heap_model.specs.Fronts.{EpheShape}
 use Rattle.heap_words.specs.declared.colours.Colours.{Colours}
 use Rattle.heap_words.specs.declared.value.Value.{Value}
@@ -13,6 +13,7 @@ use Rattle.heap_rule.specs.declared.view.Scan.{Scan}
 use Rattle.heap_rule.specs.declared.view.Scan.TheVariants.{Idle, Keys, Key, Datum}
 use Rattle.heap_rule.specs.declared.view.Share.{Share}
 use Rattle.heap_rule.specs.Cycles.{seen_by}
+use Rattle.heap_rule.specs.Layout.{heap_words}
 use Rattle.heap_rule.specs.Token.{IsAddress}
 use Rattle.steps_cycle.specs.Looks.{with_share}
 use Rattle.steps_cycle.specs.Marking.{IsMarked, IsUnmarked, seen_through}
@@ -37,12 +38,12 @@ pub record EphemeronMay (x : DomainView) (at : ℕ) : Type 0 where
   pub colours : Colours
   pub known : x.seen.share.colours ≡ Some colours
 
--- it isn't marked, and the domain has seen its place; or it is, and the look at its keys begins
-pub record EphemeronTold (at : ℕ) (x : DomainView) (found : ℕ) (y : DomainView) : Type 0 where
+-- it isn't marked, and the domain has seen its place; or it is, its keys lie in the heap, and the look at them begins
+pub record EphemeronTold (k : Config) (at : ℕ) (x : DomainView) (found : ℕ) (y : DomainView) : Type 0 where
   pub colours : Colours
   pub known : x.seen.share.colours ≡ Some colours
   pub told : (IsUnmarked colours found × (y ≡ with_share x (place_seen at x.seen.share)))
-      ⊎ ((keys : ℕ) × IsMarkedEphemeron colours found keys × (y ≡ with_share x (record x.seen.share { scan = Keys at 0 keys })))
+      ⊎ ((keys : ℕ) × IsMarkedEphemeron colours found keys × (at + keys + 2 ≤ heap_words k) × (y ≡ with_share x (record x.seen.share { scan = Keys at 0 keys })))
 
 -- in Rounds, a load of the next key of a marked ephemeron
 pub record KeyMay (x : DomainView) (at : ℕ) : Type 0 where

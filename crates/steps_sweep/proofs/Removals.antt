@@ -38,7 +38,7 @@ module _ (l : List ℕ) (i at : ℕ) (there : slice_get l i ≡ Some at) where
   inside : i < length l
   inside = slice_get_within l i at there
 
-  shorter : length removed ≡ n
+  pub shorter : length removed ≡ n
   shorter = length-take-le n moved (let m : ℕ = length l in let e : length moved ≡ m = length-set l i last in omega arith)
 
   -- a place of the shorter list

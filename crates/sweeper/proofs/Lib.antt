@@ -1,2 +1,2 @@
-pub mod Colours
+pub mod Prunings
 pub mod Sweepings

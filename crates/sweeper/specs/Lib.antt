@@ -1,4 +1,5 @@
 pub mod Walks
+pub mod Pruning
 pub mod Sweeping
 pub mod Counting
 pub mod Emptiness

@@ -9,13 +9,15 @@ use Rattle.heap_rule.specs.declared.view.DomainView.{DomainView}
 use Rattle.heap_rule.specs.declared.view.OwnPool.{OwnPool}
 use Rattle.heap_rule.specs.Pools.{place_in, spot_at}
 use Rattle.steps_cycle.specs.Marking.{behind}
+use Rattle.sweeper.specs.Pruning.{IsPruned, Shortens, with_pruned}
 use Rattle.sweeper.specs.Walks.{IsPool, all_places}
 
--- the domain is in Sweep, and knows these colours
+-- the domain is in Sweep, knows these colours, and has pruned its list of ephemerons
 pub record IsSweeping (colours : Colours) (x : DomainView) : Type 0 where
   pub stage : x.seen.stage ≡ In Sweep
   pub known : x.seen.share.colours ≡ Some colours
   pub meanings : IsPermutation colours
+  pub pruned : IsPruned x
 
 -- the next place to be swept is the first of a pool, which is the domain's own
 pub record SweepsIn (x : DomainView) (pool class : ℕ) : Type 0 where
@@ -63,9 +65,11 @@ pub record SweptPool (k : Config) (pool : ℕ) (x y : DomainView) : Type 0 where
   pub walk : y.seen.share.walk ≡ record { pool = pool + 1; slot = 0 }
   pub visited : Visited k x y
 
--- it is done with all pools
+-- it is done with its list of ephemerons and with all pools
 pub record Swept (k : Config) (x y : DomainView) : Type 0 where
-  pub view : y ≡ with_sweep x y
+  pub view : y ≡ with_pruned (with_sweep x y) y
+  pub shortens : Shortens x y
+  pub pruned : IsPruned y
   pub looked : LooksAgain x y
   pub idle : LeavesNone x y
   pub walked : k.pools ≤ y.seen.share.walk.pool

@@ -1,5 +1,5 @@
 //! A domain's share of the end of a collection of the major heap: what is garbage in its own pools is
-//! freed, and what lives there is counted. Where the collection is answered the pools in which nothing
+//! freed, once no garbage is on its list of ephemerons, and what lives there is counted. Where the collection is answered the pools in which nothing
 //! is left are given back.
 //!
 //! Each domain sweeps its own pools, with no lock and no memory ("Retrofitting Parallelism onto
@@ -8,6 +8,7 @@
 
 mod counting;
 mod owners;
+mod pruning;
 mod returning;
 mod sweeping;
 mod words;

@@ -9,12 +9,12 @@ ghost use Rattle.steps_cycle.specs.Marking.{IsNext};
 ghost use Rattle.sweeper.specs.Sweeping.{IsSweeping, SweepsIn, SweptPlace, SweptPool, Swept};
 
 use crate::owners::{OWNERS, own_class};
-use crate::words::has_colour;
+use crate::pruning::prune_list;
 use heap_rule::{Domain, Heap};
 use heap_words::Colours;
 use steps_cycle::{colours_now, own_load};
 use steps_pools::{class_blocks, place_address};
-use steps_sweep::{free_store, sweep_load};
+use steps_sweep::{free_store, has_colour, sweep_load};
 
 // Looks at the next place, and frees the garbage that lies there.
 fn sweep_place(heap: &Heap, dom: &mut Domain, pool: u32, class: u32, slot: u32, colours: &Colours)
@@ -68,7 +68,8 @@ fn sweep_pool(heap: &Heap, dom: &mut Domain, pool: u32, colours: &Colours)
 
 /// Frees all garbage in the domain's own pools, in Sweep. Afterwards the domain has been at each place
 /// of these pools, and none has garbage: it may count what lives there, and as far as sweeping goes it
-/// may arrive. Nothing has been walked over in this phase before.
+/// may arrive. Nothing has been walked over in this phase before. No ephemeron is on the domain's list
+/// then but those that live: before any place is freed, what is garbage is taken off it.
 ///
 /// Blocks of the colour that means garbage are freed, and no others ("Retrofitting Parallelism onto
 /// OCaml", section 3.2).
@@ -80,6 +81,7 @@ pub fn sweep_own(heap: &Heap, dom: &mut Domain)
     ensures swept { Swept heap.now.config dom.old.view dom.new.view }
 {
     let colours = colours_now(heap, dom);
+    prune_list(heap, dom, colours.garbage);
     let pools = heap.config().pools;
     for pool in 0..pools {
         sweep_pool(heap, dom, pool, &colours);

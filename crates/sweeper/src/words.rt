@@ -1,21 +1,9 @@
 //! What the word of a head says of its block.
-ghost use Rattle.std.specs.Prelude.{◌≡◌, ◌↔◌, ◌≤◌, true};
+ghost use Rattle.std.specs.Prelude.{◌≡◌, ◌≤◌};
 ghost use Rattle.heap_model.specs.Fronts.{Shape};
 ghost use Rattle.heap_rule.specs.Places.{extent, IsHeadOf};
-ghost use Rattle.steps_sweep.specs.Freeing.{IsColoured};
 
 use heap_words::{Head, unpack_head};
-
-// Whether the word is the head of a block of this colour.
-pub(crate) fn has_colour(word: u64, wanted: u8) -> bool
-    ensures { (result ≡ true) ↔ IsColoured wanted word }
-{
-    match unpack_head(word) {
-        Some(Head::Plain { colour, .. }) => colour == wanted,
-        Some(Head::Ephe { colour, .. }) => colour == wanted,
-        _ => false,
-    }
-}
 
 // The words of the block whose head this is, its head and its label among them.
 pub(crate) fn words_of(word: u64) -> u64

@@ -9,8 +9,8 @@ use Rattle.domain_turns.proofs.PauseLemmas.{looked_quiet, ready_next}
 use Rattle.domain_turns.proofs.PassingLemmas.{look_goes_on, comes_to, answers_pass}
 use Rattle.domain_turns.proofs.passing.pass.Goals as goal
 
-pub answer-requires-clause-goes_on : goal.answer-requires-clause-goes_on
-answer-requires-clause-goes_on c = λ live. look_goes_on _ _ _ c.in-Next-Answer.ensures.answer.0 (c.requires.goes_on live)
+pub answer-blocks-requires-clause-goes_on : goal.answer-blocks-requires-clause-goes_on
+answer-blocks-requires-clause-goes_on c = λ live. look_goes_on _ _ _ c.in-Next-Answer.ensures.answer.0 (c.requires.goes_on live)
 
 pub leave_even-requires-clause-quiet : goal.leave_even-requires-clause-quiet
 leave_even-requires-clause-quiet c = looked_quiet _ _ _ c.in-Next.ensures.answer.0 c.requires.quiet
@@ -21,7 +21,7 @@ leave_even-requires-clause-ready c = let a = c.in-Next.ensures.answer in ready_n
 pub returns-in-Next-Answer-clause-answer : goal.returns-in-Next-Answer-clause-answer
 returns-in-Next-Answer-clause-answer c =
     let a = subst (λ (kind : Kind). LookAnswers c.args.heap.now.config c.args.dom.now.view c.look.new.dom.view (Next kind)) c.in-Next-Answer.field-0-is c.in-Next-Answer.ensures.answer in
-    answers_pass _ _ _ _ c.args.last c.args.live c.answer.result (comes_to _ c.args.last _ _ c.requires.inside c.requires.left a.0 a.1 a.2 (subst (λ (l : Kind). Comes c.args.dom.now.view.own.number l Answer) (ap kind_in c.requires.gone) a.3) a.4) c.answer.ensures.answers
+    answers_pass _ _ _ _ c.args.last c.args.live c.answer-blocks.result.0 c.answer-blocks.result.1 (comes_to _ c.args.last _ _ c.requires.inside c.requires.left a.0 a.1 a.2 (subst (λ (l : Kind). Comes c.args.dom.now.view.own.number l Answer) (ap kind_in c.requires.gone) a.3) a.4) c.answer-blocks.ensures.answers
 
 pub returns-in-Next-clause-answer : goal.returns-in-Next-clause-answer
 returns-in-Next-clause-answer c =

@@ -50,10 +50,10 @@ invariant_of-run-in_default c =
     let here : IsIn r.token c.args.heap.now = subst (λ (x : RunView). IsIn x.token c.args.heap.now) (sym c.run.view_is) c.requires.here in
     let left : r.left ≡ Some c.args.last = subst (λ (x : RunView). x.left ≡ Some c.args.last) (sym c.run.view_is) c.requires.left in
     let none : c.in-Answered.reply ≡ None = c.in_default.is in
-    let says = subst (λ (p : Past). PassAnswers c.args.heap.now.config r.token.view c.pass-past.new.dom.view c.args.last c.waits_for_answer-live.result p) (c.in-Answered.is ∙ ap Answered none) c.pass-past.ensures.answer in
-    let is = gives_is_run c.args.heap.now r c.pass-past.new.dom c.args.last c.is_some-run-inside.result c.run.invariant.0 here c.pass-past.ensures.here says.1 in
+    let says = subst (λ (p : Past). PassAnswers c.args.heap.now.config r.token.view c.pass-past.new.dom.view c.args.last c.waits_for_answer-live.result p) (c.in-Answered.is ∙ ap (Answered c.in-Answered.blocks) none) c.pass-past.ensures.answer in
+    let is = gives_is_run c.args.heap.now r c.pass-past.new.dom c.args.last c.in-Answered.blocks c.lets_refuse-run-inside.result c.run.invariant.0 here c.pass-past.ensures.here says.1 in
     let gone = c.left_after-run-inside.ensures ∙ ap (λ (p : Past). left_after p c.args.last) c.in-Answered.is in (
-      subst (λ (z : Option Kind × Bool). IsRun (record r { token = c.pass-past.new.dom; left = z.0; collected = c.is_some-run-inside.result; cut = z.1 })) (λ i. (sym gone i, sym c.cut_after-run-inside-in-Answered.ensures i)) is,
+      subst (λ (z : Option Kind × Bool). IsRun (record r { token = c.pass-past.new.dom; left = z.0; collected = c.lets_refuse-run-inside.result; cut = z.1 })) (λ i. (sym gone i, sym c.cut_after-run-inside-in-Answered.ensures i)) is,
       c.run.invariant.1,
       ap (λ (b : Bounded ℕ). b.items) c.pass-past.ensures.hints ∙ c.run.invariant.2,
     )
@@ -63,7 +63,7 @@ invariant_of-run-in-Some c =
     let r : RunView = record { token = c.run.inside.domain; commands = c.run.inside.commands.items; next = c.run.inside.next; replies = c.run.inside.replies.items; ended = c.run.inside.ended; left = c.run.inside.left; asked = c.run.inside.asked; collected = c.run.inside.collected; cut = c.run.inside.cut } in
     let here : IsIn r.token c.args.heap.now = subst (λ (x : RunView). IsIn x.token c.args.heap.now) (sym c.run.view_is) c.requires.here in
     let left : r.left ≡ Some c.args.last = subst (λ (x : RunView). x.left ≡ Some c.args.last) (sym c.run.view_is) c.requires.left in
-    let says = subst (λ (p : Past). PassAnswers c.args.heap.now.config r.token.view c.pass-past.new.dom.view c.args.last c.waits_for_answer-live.result p) (c.in-Answered.is ∙ ap Answered c.in-Some.is) c.pass-past.ensures.answer in
+    let says = subst (λ (p : Past). PassAnswers c.args.heap.now.config r.token.view c.pass-past.new.dom.view c.args.last c.waits_for_answer-live.result p) (c.in-Answered.is ∙ ap (Answered c.in-Answered.blocks) c.in-Some.is) c.pass-past.ensures.answer in
     let at : slice_get r.commands r.next ≡ Some FullMajor = subst (λ (x : RunView). slice_get x.commands x.next ≡ Some FullMajor) (sym c.run.view_is) (c.waits_for_answer-live.ensures.yes says.0) in
     let is = answered_is_run c.args.heap.now r c.pass-past.new.dom c.in-Some.reply c.args.last c.run.invariant.0 (next_running r c.run.invariant.0 FullMajor at) at here c.pass-past.ensures.here says.1 in
     let gone = c.left_after-run-inside.ensures ∙ ap (λ (p : Past). left_after p c.args.last) c.in-Answered.is in
