@@ -25,20 +25,12 @@ use Rattle.heap_rule.specs.Token.{Token, SharedHeap, IsIn}
 use Rattle.heap_rule.proofs.Acting.{looked_acts}
 use Rattle.heap_rule.proofs.Plain.{entered_rest}
 use Rattle.heap_rule.proofs.Sizes.{heap_small}
-use Rattle.steps_ephemerons.specs.Heads.{ephemeron_in, key_in, HasItem, HasKey}
+use Rattle.steps_ephemerons.specs.Heads.{ephemeron_in, key_in, HasKey}
 use Rattle.steps_ephemerons.specs.Loads.{word_of, IsLook, Puts, WeakMay, WeakLoadMay, WeakRead, Gets, full_reply, look_reply, target_in}
 use Rattle.field_access.specs.Registers.{LoadsInto}
 use Rattle.field_access.proofs.Doing.{looked_did}
 use Rattle.field_access.proofs.FieldLoads.{shown_into}
 use Rattle.ephemeron_rounds.specs.Found.{Found}
-
--- a command that only looks sets nothing
-pub look_item : (x : DomainView) (c : Command) → IsLook c → HasItem x c
-look_item x (GetKey dst ephe i) looks = tt
-look_item x (CheckKey ephe i) looks = tt
-look_item x (GetData dst ephe) looks = tt
-look_item x (CheckData ephe) looks = tt
-look_item x _ looks = absurd looks
 
 -- what it answers, by whether it puts the word into a register
 get_reply : (c : Command) (held : model.Value) (dst : ℕ) → IsLook c → target_in c ≡ Some dst → look_reply c held ≡ shown held
@@ -55,6 +47,7 @@ check_reply (GetData dst ephe) held looks into = cc
 check_reply (CheckData ephe) held looks into = refl
 check_reply _ held looks into = absurd looks
 
+-- the words of an ephemeron whose keys lie in the heap lie there too
 word_inside : (k : Config) (a keys : ℕ) (key : Option ℕ) → a + keys + 2 ≤ heap_words k → HasKey key keys → IsInHeap k (word_of key a)
 word_inside k a keys None inside has = let w : ℕ = heap_words k in let i : a + keys + 2 ≤ w = inside in (omega arith, omega arith)
 word_inside k a keys (Some n) inside has = let w : ℕ = heap_words k in let i : a + keys + 2 ≤ w = inside in let below : n < keys = has in (omega arith, omega arith)

@@ -18,8 +18,7 @@ use Rattle.steps_ephemerons.specs.Loads.{word_of}
 use Rattle.steps_ephemerons.specs.Stores.{stored_value, WeakStoreMay, KeyStoreEntry, DataStoreEntry}
 use Rattle.field_access.proofs.FieldStores.{stored_did}
 use Rattle.ephemeron_rounds.specs.Found.{Found}
-use Rattle.ephemeron_rounds.specs.Items.{IsChange, FitsItem, item_in, value_of}
-use Rattle.ephemeron_rounds.specs.Naming.{NamesRegisters}
+use Rattle.ephemeron_rounds.specs.Items.{IsChange, item_in, value_of}
 use Rattle.ephemeron_rounds.proofs.WeakLoads.{found_own, found_entry, found_acts, found_may}
 
 -- a command that names a key sets one
@@ -51,14 +50,7 @@ pub room_there : (k : Config) (block value : Value) (registers : List Value) (it
 room_there k block value registers None room is there must = absurd (subst (λ (v : Value). IsYoungBlock k v) is must.1)
 room_there k block value registers (Some r) room is there must = there
 
--- a command whose item fits has what it sets
-pub item_fits : (x : DomainView) (c : Command) → NamesRegisters c → IsChange c → FitsItem (key_in c) (item_in c) (value_of x.own.registers (item_in c)) → HasItem x c
-item_fits x (SetKey ephe i item) names changes fits = (names.1, fits)
-item_fits x (UnsetKey ephe i) names changes fits = tt
-item_fits x (SetData ephe item) names changes fits = (names.1, fits)
-item_fits x (UnsetData ephe) names changes fits = tt
-item_fits x _ names changes fits = absurd changes
-
+-- a look leaves the item
 item_stays : (x y : DomainView) (c : Command) → y.own ≡ x.own → IsChange c → HasItem x c → HasItem y c
 item_stays x y (SetKey ephe i item) same changes has = (has.0, subst (λ (o : Own). IsBlockValue (value_at o.registers item)) (sym same) has.1)
 item_stays x y (UnsetKey ephe i) same changes has = tt

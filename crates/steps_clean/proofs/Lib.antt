@@ -1,3 +1,5 @@
+pub mod EmptiedKeys
 pub mod Emptying
-pub mod WipeSteps
+pub mod KeySteps
+pub mod DatumSteps
 pub mod Plain

@@ -1,5 +1,5 @@
 -- What the stores in Clean tell of a token's own data: it stays.
-use Rattle.std.proofs.Common.{sym, refl, ap, subst, Some, List}
+use Rattle.std.proofs.Common.{sym, refl, ap, subst, List}
 use Rattle.heap_model.specs.declared.entry.Entry.{Entry}
 use Rattle.heap_model.specs.declared.entry.Entry.TheVariants.{Wipe}
 use Rattle.heap_model.specs.Fronts.{IsFrontOf}
@@ -9,10 +9,11 @@ use Rattle.heap_rule.specs.declared.view.DomainView.{DomainView}
 use Rattle.heap_rule.specs.Raw.{CanLeave, Closes, Leaves}
 use Rattle.heap_rule.proofs.Closes.{leaves_closes}
 use Rattle.steps_cycle.proofs.Plain.{share_closes}
+use Rattle.steps_rounds.specs.Emptying.{cleaning_on}
 use Rattle.steps_clean.specs.Wiping.{WipeDataTold, WipeKeyTold, key_wiped}
 
 pub key_closes : (k : Config) (x : DomainView) → Closes k x 0 WipeKeyTold CanLeave Leaves
-key_closes k x = share_closes k x 0 WipeKeyTold (λ y t. (record x.seen.share { cleaning = Some (key_wiped t.cleaning) }, t.view))
+key_closes k x = share_closes k x 0 WipeKeyTold (λ y t. (cleaning_on (key_wiped t.cleaning) x.seen.share, t.view))
 
 -- a Wipe is no domain's entry
 pub datum_closes : (k : Config) (x : DomainView) → Closes k x 0 (WipeDataTold k) CanLeave Leaves

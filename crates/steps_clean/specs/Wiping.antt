@@ -1,5 +1,5 @@
 -- What the stores ask and tell by which keys of ephemerons are emptied, in Clean.
-use Rattle.std.specs.Prelude.{◌≡◌, ◌≢◌, ℕ, ◌+◌, List, [], ◌∷◌, ◌++◌, Some, None}
+use Rattle.std.specs.Prelude.{◌≡◌, ◌≢◌, ℕ, ◌+◌, List, [], ◌∷◌, ◌++◌, Some}
 use Rattle.heap_model.specs.declared.entry.Entry.{Entry}
 use Rattle.heap_model.specs.declared.entry.Entry.TheVariants.{Wipe}
 use Rattle.heap_model.specs.declared.label.Label.{Label}
@@ -14,6 +14,7 @@ use Rattle.heap_rule.specs.declared.view.Share.{Share}
 use Rattle.heap_rule.specs.Limits.{sizes_in}
 use Rattle.heap_rule.specs.Standing.{with_front}
 use Rattle.steps_cycle.specs.Looks.{with_share}
+use Rattle.steps_rounds.specs.Emptying.{cleaned, cleaning_on}
 
 -- a store of nothing in the next key of the ephemeron that the domain cleans, which is full and whose block isn't marked
 pub record WipeKeyMay (x : DomainView) (at : ℕ) : Type 0 where
@@ -29,7 +30,7 @@ key_wiped w = record w { done = w.done + 1; emptied = w.emptied ++ w.done ∷ []
 pub record WipeKeyTold (x : DomainView) (new : ℕ) (y : DomainView) : Type 0 where
   pub cleaning : Cleaning
   pub cleans : x.seen.share.cleaning ≡ Some cleaning
-  pub view : y ≡ with_share x (record x.seen.share { cleaning = Some (key_wiped cleaning) })
+  pub view : y ≡ with_share x (cleaning_on (key_wiped cleaning) x.seen.share)
 
 -- a store of nothing in the datum of the ephemeron that the domain cleans, of which it has looked at all keys and emptied some
 pub record WipeDataMay (x : DomainView) (at : ℕ) : Type 0 where
@@ -41,7 +42,7 @@ pub record WipeDataMay (x : DomainView) (at : ℕ) : Type 0 where
 
 -- the domain is done with an ephemeron that it cleaned, and is in no block
 abbrev pub wiped_through : ℕ → Share → Share
-wiped_through at share = record share { places_seen = at ∷ share.places_seen; cleaning = None; scan = Idle }
+wiped_through at share = record (cleaned at share) { scan = Idle }
 
 -- the Wipe of the keys that were emptied stands at the step: the front ends with it
 pub record WipeDataTold (k : Config) (x : DomainView) (new : ℕ) (y : DomainView) : Type 0 where

@@ -1,5 +1,5 @@
 use Rattle.steps_clean.proofs.Plain.{datum_closes}
-use Rattle.steps_clean.proofs.WipeSteps.{datum_may}
+use Rattle.steps_clean.proofs.DatumSteps.{datum_may}
 use Rattle.steps_clean.proofs.wiping.wipe_data.Goals as goal
 
 pub raw_store-requires-clause-may : goal.raw_store-requires-clause-may

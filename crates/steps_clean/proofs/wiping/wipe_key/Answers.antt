@@ -1,5 +1,5 @@
 use Rattle.steps_clean.proofs.Plain.{key_closes}
-use Rattle.steps_clean.proofs.WipeSteps.{key_may}
+use Rattle.steps_clean.proofs.KeySteps.{key_may}
 use Rattle.steps_clean.proofs.wiping.wipe_key.Goals as goal
 
 pub raw_store-requires-clause-may : goal.raw_store-requires-clause-may
