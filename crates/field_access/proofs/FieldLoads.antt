@@ -30,7 +30,7 @@ use Rattle.field_access.proofs.Loading.{loaded}
 use Rattle.heap_rule.proofs.Plain.{entered_rest}
 
 -- the register holds what the reply shows
-shown_into : (k : Config) (dst : ℕ) (before after : List Value) (v : Value) (held : model.Value) → Shows v held → ((a : ℕ) → v ≡ Ref a → IsAddress k a) → after ≡ set before dst v → LoadsInto k dst (shown held) before after
+pub shown_into : (k : Config) (dst : ℕ) (before after : List Value) (v : Value) (held : model.Value) → Shows v held → ((a : ℕ) → v ≡ Ref a → IsAddress k a) → after ≡ set before dst v → LoadsInto k dst (shown held) before after
 shown_into k dst before after (Int z) (IntValue n) shows there written = written ∙ ap (λ (i : ℤ). set before dst (Int i)) shows
 shown_into k dst before after (Ref a) (Block l) shows there written = (a, there a refl, written)
 shown_into k dst before after Nothing NothingValue shows there written = written

@@ -1,0 +1,5 @@
+pub mod KeyCounts
+pub mod Picks
+pub mod Refusals
+pub mod WeakLoads
+pub mod WeakStores

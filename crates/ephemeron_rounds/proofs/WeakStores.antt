@@ -1,0 +1,107 @@
+-- Stores to the words of an ephemeron that was found.
+use Rattle.std.proofs.Common.{◌≡◌, ◌≢◌, ◌↔◌, ◌∙◌, ℕ, ◌<◌, ◌≤◌, Bool, true, false, List, [], Option, Some, None, refl, sym, ap, subst}
+use Rattle.heap_model.specs.declared.command.Command.{Command}
+use Rattle.heap_model.specs.declared.command.Command.TheVariants.{SetKey, UnsetKey, GetKey, CheckKey, SetData, UnsetData, GetData, CheckData}
+use Rattle.heap_model.specs.declared.reply.Reply.TheVariants.{Done}
+use Rattle.heap_words.specs.declared.value.Value.{Value}
+use Rattle.heap_words.specs.declared.value.Value.TheVariants.{Ref, Nothing}
+use Rattle.heap_words.specs.Values.{value_word}
+use Rattle.heap_rule.specs.declared.config.Config.{Config}
+use Rattle.heap_rule.specs.declared.view.DomainView.{DomainView}
+use Rattle.heap_rule.specs.declared.view.Own.{Own}
+use Rattle.heap_rule.specs.Changes.{value_at}
+use Rattle.heap_rule.specs.Running.{Runs, Did, own_entry}
+use Rattle.heap_rule.specs.Token.{Token, SharedHeap, IsIn}
+use Rattle.remembered_set.specs.Bounded.{Bounded}
+use Rattle.steps_run.specs.Stores.{MustRemember, StoreTold, remembering_own}
+use Rattle.steps_ephemerons.specs.Heads.{ephemeron_in, key_in, IsBlockValue, HasItem}
+use Rattle.steps_ephemerons.specs.Loads.{word_of}
+use Rattle.steps_ephemerons.specs.Stores.{stored_value, WeakStoreMay, KeyStoreEntry, DataStoreEntry}
+use Rattle.field_access.specs.Remembered.{ChangesRemembered, PutsYoung, one_more}
+use Rattle.field_access.proofs.FieldStores.{stored_did}
+use Rattle.ephemeron_rounds.specs.Found.{Found}
+use Rattle.ephemeron_rounds.specs.Items.{IsChange, FitsItem, item_in, value_of}
+use Rattle.ephemeron_rounds.specs.Naming.{NamesRegisters}
+use Rattle.ephemeron_rounds.specs.Words.{word_in}
+use Rattle.ephemeron_rounds.proofs.WeakLoads.{found_own, found_entry, found_acts, found_may}
+
+-- a command that names a key sets one
+pub key_entry : (k : Config) (t : Token) (at new : ℕ) (remembers : Bool) (c : Command) (i : ℕ) → IsChange c → key_in c ≡ Some i → WeakStoreMay k t.view at new remembers [] t.view.own.number c → KeyStoreEntry k t.view at new remembers [] (own_entry t c)
+key_entry k t at new remembers (SetKey ephe n item) i changes key may = may
+key_entry k t at new remembers (UnsetKey ephe n) i changes key may = may
+key_entry k t at new remembers (SetData ephe item) i changes key may = cc
+key_entry k t at new remembers (UnsetData ephe) i changes key may = cc
+key_entry k t at new remembers _ i changes key may = absurd changes
+
+-- and one that names none sets the datum
+pub data_entry : (k : Config) (t : Token) (at new : ℕ) (remembers : Bool) (c : Command) → IsChange c → key_in c ≡ None → WeakStoreMay k t.view at new remembers [] t.view.own.number c → DataStoreEntry k t.view at new remembers [] (own_entry t c)
+data_entry k t at new remembers (SetKey ephe n item) changes key may = cc
+data_entry k t at new remembers (UnsetKey ephe n) changes key may = cc
+data_entry k t at new remembers (SetData ephe item) changes key may = may
+data_entry k t at new remembers (UnsetData ephe) changes key may = may
+data_entry k t at new remembers _ changes key may = absurd changes
+
+-- what a command stores is what its item's register holds
+pub stored_item : (x : DomainView) (c : Command) → IsChange c → stored_value x c ≡ value_of x.own.registers (item_in c)
+stored_item x (SetKey ephe i item) changes = refl
+stored_item x (UnsetKey ephe i) changes = refl
+stored_item x (SetData ephe item) changes = refl
+stored_item x (UnsetData ephe) changes = refl
+stored_item x _ changes = absurd changes
+
+-- the register of the item is one of the 16
+pub item_few : (c : Command) → NamesRegisters c → IsChange c → (r : ℕ) → item_in c ≡ Some r → r < 16
+item_few (SetKey ephe i item) names changes r is = let same : item ≡ r = cc in subst (λ (n : ℕ). n < 16) same names.1
+item_few (UnsetKey ephe i) names changes r is = cc
+item_few (SetData ephe item) names changes r is = let same : item ≡ r = cc in subst (λ (n : ℕ). n < 16) same names.1
+item_few (UnsetData ephe) names changes r is = cc
+item_few _ names changes r is = absurd changes
+
+-- a command whose item fits has what it sets
+pub item_fits : (x : DomainView) (c : Command) → NamesRegisters c → IsChange c → FitsItem (key_in c) (item_in c) (value_of x.own.registers (item_in c)) → HasItem x c
+item_fits x (SetKey ephe i item) names changes fits = (names.1, fits)
+item_fits x (UnsetKey ephe i) names changes fits = tt
+item_fits x (SetData ephe item) names changes fits = (names.1, fits)
+item_fits x (UnsetData ephe) names changes fits = tt
+item_fits x _ names changes fits = absurd changes
+
+item_stays : (x y : DomainView) (c : Command) → y.own ≡ x.own → IsChange c → HasItem x c → HasItem y c
+item_stays x y (SetKey ephe i item) same changes has = (has.0, subst (λ (o : Own). IsBlockValue (value_at o.registers item)) (sym same) has.1)
+item_stays x y (UnsetKey ephe i) same changes has = tt
+item_stays x y (SetData ephe item) same changes has = (has.0, subst (λ (o : Own). value_at o.registers item ≢ Nothing) (sym same) has.1)
+item_stays x y (UnsetData ephe) same changes has = tt
+item_stays x y _ same changes has = absurd changes
+
+module _ (h : SharedHeap) (old y : Token) (c : Command) (a : ℕ) (runs : Runs h old) (f : Found h old y c a) (changes : IsChange c) (value : Value) (is : value ≡ value_of old.view.own.registers (item_in c))
+    (remembers : Bool) (exact : (remembers ≡ true) ↔ MustRemember h.config (Ref a) value) where
+  stored_is : stored_value y.view c ≡ value
+  stored_is = stored_item y.view c changes ∙ ap (λ (o : Own). value_of o.registers (item_in c)) (found_own h old y c a runs f) ∙ sym is
+
+  -- a store of it may be made
+  pub store_may : (new : ℕ) → new ≡ value_word value → (remembers ≡ true → 1 ≤ old.view.own.remembered.room) → WeakStoreMay h.config y.view (word_of (key_in c) a) new remembers [] y.view.own.number c
+  store_may new word room = record {
+    own = refl;
+    acts = found_acts h old y c a runs f;
+    target = found_may h old y c a runs f;
+    item = item_stays old.view y.view c (found_own h old y c a runs f) changes f.item;
+    word = word ∙ ap value_word (sym stored_is);
+    exact = subst (λ (v : Value). (remembers ≡ true) ↔ MustRemember h.config (value_at y.view.own.registers (ephemeron_in c)) v) (sym stored_is)
+        (subst (λ (v : Value). (remembers ≡ true) ↔ MustRemember h.config v value) (sym (ap (λ (o : Own). value_at o.registers (ephemeron_in c)) (found_own h old y c a runs f) ∙ f.block.holds)) exact);
+    room = λ yes. subst (λ (o : Own). 1 ≤ o.remembered.room) (sym (found_own h old y c a runs f)) (room yes);
+    same = refl;
+    fits = tt;
+  }
+
+  module _ (z : Token) (told : StoreTold h.config (own_entry y c) (word_of (key_in c) a) remembers [] y.view z.view) where
+    -- and makes the call of its command
+    pub store_did : IsIn z h → Did h old z c Done
+    store_did here = stored_did h old z y.view c (own_entry y c) (word_of (key_in c) a) remembers [] (found_entry h old y c a runs f) runs here f.counted.looked told
+
+    stored_own : z.view.own ≡ remembering_own remembers (word_of (key_in c) a) old.view.own
+    stored_own = ap (λ (x : DomainView). x.own) told.view ∙ ap (λ (o : Own). remembering_own remembers (word_of (key_in c) a) o) (found_own h old y c a runs f)
+
+    pub store_rest : ChangesRemembered old z
+    store_rest = record { own = stored_own ∙ ap (λ (b : Bounded ℕ). record old.view.own { remembered = b }) (sym (ap (λ (o : Own). o.remembered) stored_own)) }
+
+    pub store_registers : z.view.own.registers ≡ old.view.own.registers
+    store_registers = ap (λ (o : Own). o.registers) stored_own

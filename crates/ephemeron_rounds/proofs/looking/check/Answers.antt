@@ -1,0 +1,7 @@
+use Rattle.ephemeron_rounds.proofs.looking.check.Goals as goal
+
+pub weak_load-requires : goal.weak_load-requires
+weak_load-requires g c = ?
+
+pub returns-clause-did : goal.returns-clause-did
+returns-clause-did g c = ?

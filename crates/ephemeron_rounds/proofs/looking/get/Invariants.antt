@@ -1,0 +1,11 @@
+use Rattle.heap_rule.specs.Running.{own_entry}
+use Rattle.ephemeron_rounds.proofs.looking.get.Given as goal
+
+abbrev pub ghost-find : goal.ghost-find
+ghost-find g a = g.command
+
+abbrev pub ghost-weak_load : goal.ghost-weak_load
+ghost-weak_load g a = own_entry a.dom.now g.command
+
+abbrev pub ghost-shown_register : goal.ghost-shown_register
+ghost-shown_register g a = a.r
