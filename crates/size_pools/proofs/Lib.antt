@@ -1,3 +1,4 @@
 pub mod Searching
 pub mod Writing
 pub mod ListWriting
+pub mod Creating

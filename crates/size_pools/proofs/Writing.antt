@@ -1,5 +1,6 @@
 -- The writing of a block at a free place of an own pool.
-use Rattle.heap_model.specs.Domains.{class_count}
+use Rattle.remembered_set.specs.Bounded.{Bounded}
+use Rattle.heap_model.specs.Domains.{class_count, IsWithinLimits}
 use Rattle.std.proofs.Common.{◌≡◌, ◌≢◌, ◌∙◌, ℕ, ◌+◌, ◌*◌, ◌^◌, ◌<◌, ◌≤◌, List, [], ◌∷◌, false, replicate, slice_set, inl, inr, ⊎_elim, refl, ap, sym, subst, arith, lt_of_not-le}
 use Rattle.heap_model.specs.declared.label.Label.{Label}
 use Rattle.heap_model.specs.declared.command.Command.{Command as CommandType}
@@ -13,6 +14,7 @@ use Rattle.heap_model.specs.declared.reply.Reply.{Reply}
 use Rattle.heap_model.specs.declared.reply.Reply.TheVariants.{Block}
 use Rattle.heap_model.specs.declared.reply.Applied.TheVariants.{Replied}
 use Rattle.heap_model.specs.Fronts.{PlainShape, Answers}
+use Rattle.heap_words.specs.declared.value.Value.{Value}
 use Rattle.heap_words.specs.declared.value.Value.TheVariants.{Ref}
 use Rattle.heap_words.specs.Labels.{label_word}
 use Rattle.heap_rule.specs.declared.change.Part.TheVariants.{Register}
@@ -21,13 +23,13 @@ use Rattle.heap_rule.specs.declared.change.Change.TheVariants.{Set}
 use Rattle.heap_rule.specs.declared.config.Config.{Config}
 use Rattle.heap_rule.specs.declared.view.DomainView.{DomainView}
 use Rattle.heap_rule.specs.declared.view.Hunt.{Hunt}
-use Rattle.heap_rule.specs.declared.view.Hunt.TheVariants.{Fills}
+use Rattle.heap_rule.specs.declared.view.Hunt.TheVariants.{Rests, Fills}
 use Rattle.heap_rule.specs.Token.{next_label}
 use Rattle.heap_rule.specs.Limits.{sizes_in}
 use Rattle.heap_rule.specs.Places.{IsNewHead}
 use Rattle.heap_rule.specs.Pools.{size_of, hunting_free}
 use Rattle.heap_rule.specs.Running.{RemembersAll, Runs, Did, own_entry}
-use Rattle.heap_rule.specs.Standing.{Acts}
+use Rattle.heap_rule.specs.Standing.{Acts, IsInHeap}
 use Rattle.steps_pools.specs.Takes.{with_hunt, MajorMay, MajorTold}
 use Rattle.heap_rule.specs.Token.{Token, SharedHeap, IsIn}
 use Rattle.heap_rule.proofs.Calls.{acting_did}
@@ -38,16 +40,41 @@ use Rattle.size_classes.specs.declared.TheConstants.{SIZES}
 use Rattle.steps_pools.proofs.Plain.{major_rest}
 
 -- the block's words lie in the pools
-pub room_inside : (k : Config) (x : DomainView) (a n : ℕ) → IsRoom k x a n → (1 ≤ a) × (a + n + 1 ≤ k.pools * 4096)
+pub room_inside : (k : Config) (x : DomainView) (a n : ℕ) → IsRoom k x a n → (1 ≤ a) × (a + n ≤ k.pools * 4096 + 1)
 room_inside k x a n r =
     let z : ℕ = size_of r.class in
     let s : ℕ = r.slot * size_of r.class in
     let top : s + z ≤ 4096 = slot_inside r.class r.slot r.of_class r.below in
-    let room : n + 2 ≤ z = r.room in
+    let room : n ≤ z = r.room in
     let is : a ≡ r.pool * 4096 + s + 1 = r.address in
     let i : r.pool < k.pools = r.inside in (omega arith, omega arith)
 
-pub major_may : (h : SharedHeap) (old : Token) (x : DomainView) (a new dst place tag n : ℕ) (runs : IsBusy h old) (r : IsRoom h.config old.view a n)
+-- each of them in the heap, at an address of 32 bits
+pub word_inside : (k : Config) (x : DomainView) (a n i : ℕ) → IsWithinLimits (sizes_in k) → IsRoom k x a n → i < n → IsInHeap k (a + i) × (a + i < 2 ^ 32)
+word_inside k x a n i limits r below =
+    let b = room_inside k x a n r in
+    let p : ℕ = k.pools in
+    let w : ℕ = k.domains * k.minor_words in
+    let few : p ≤ 2048 = limits.pools in
+    let low : 1 ≤ a = b.0 in
+    let high : a + n ≤ p * 4096 + 1 = b.1 in
+    let under : i < n = below in
+    ((omega arith, (let h : a + i ≤ p * 4096 + w = omega arith in h)), (let h : a + i < 2 ^ 32 = omega arith in h))
+
+-- and so is the head
+pub head_inside : (k : Config) (x : DomainView) (a n : ℕ) → 1 ≤ n → IsRoom k x a n → IsInHeap k a
+head_inside k x a n some_word r =
+    let b = room_inside k x a n r in
+    let p : ℕ = k.pools in
+    let w : ℕ = k.domains * k.minor_words in
+    let l : 1 ≤ n = some_word in
+    let high : a + n ≤ p * 4096 + 1 = b.1 in (b.0, (let h : a ≤ p * 4096 + w = omega arith in h))
+
+-- a busy domain acts by the heap's numbers
+pub busy_acts : (h : SharedHeap) (old : Token) → IsBusy h old → Acts h.config old.view
+busy_acts h old runs = let a : Acts h.config old.view = subst (λ (k : Config). Acts k old.view) runs.here.1 runs.acts in record { goes_on = a.goes_on; runs = a.runs }
+
+pub major_may : (h : SharedHeap) (old : Token) (x : DomainView) (a new dst place tag n : ℕ) (runs : IsBusy h old) (r : IsRoom h.config old.view a (n + 2))
     → x ≡ with_hunt old.view (Fills r.pool r.class r.slot (label_word old.view.own.number (old.view.own.serial + 1) ∷ replicate n 1)) → place ≡ dst → dst < 16 → tag ≤ 245 → 1 ≤ n → n ≤ 126 → old.view.own.serial + 1 < 2 ^ 32
     → IsNewHead old.view.seen.share.colours (PlainShape n tag) new → MajorMay h.config x a new (Set Register place (record { value = Ref a; number = 0; more = 0 }) ∷ []) old.view.own.number dst tag n
 major_may h old x a new dst place tag n runs r is same few small some fits serial head =
@@ -56,7 +83,7 @@ major_may h old x a new dst place tag n runs r is same few small some fits seria
       class = r.class;
       slot = r.slot;
       own = refl;
-      acts = let a : Acts h.config old.view = subst (λ (k : Config). Acts k old.view) runs.here.1 runs.acts in record { goes_on = a.goes_on; runs = a.runs };
+      acts = let a = busy_acts h old runs in record { goes_on = a.goes_on; runs = a.runs };
       hunt = refl;
       word = r.address;
       tag_fits = omega arith;
@@ -69,21 +96,28 @@ major_may h old x a new dst place tag n runs r is same few small some fits seria
       fits = (few, tt);
     }
 
+-- the store of the head of a new block makes the command
+pub made_did : (h : SharedHeap) (old new : Token) (mid : DomainView) (e : Entry) (c : CommandType) (l : Label) (hunt : Hunt) (registers : List Value) (serial : ℕ) (ephemerons : Bounded ℕ) → e ≡ own_entry old c → IsBusy h old → IsIn new h
+    → mid ≡ with_hunt old.view hunt
+    → new.view ≡ record { own = record mid.own { registers = registers; serial = serial; ephemerons = ephemerons }; seen = record mid.seen { front = new.view.seen.front; hunt = Rests } }
+    → Answers (sizes_in h.config) mid.own.number mid.seen.front new.view.seen.front e (Replied (Block (next_label mid))) → l ≡ next_label old.view → Did h old new c (Block l)
+made_did h old new mid e c l hunt registers serial ephemerons is runs here view rest answers label =
+    let mine = subst (λ (x : DomainView). Answers (sizes_in h.config) x.own.number x.seen.front new.view.seen.front e (Replied (Block (next_label x)))) view answers in
+    acting_did h old new c (Block l) runs.here runs.acts runs.remembers here (ap (λ (x : DomainView). x.own.number) rest ∙ ap (λ (x : DomainView). x.own.number) view) (ap (λ (x : DomainView). x.seen.hunt) rest) (ap (λ (x : DomainView). x.seen.made) rest ∙ (ap (λ (x : DomainView). x.seen.made) view ∙ runs.idle))
+    (record {
+      arrivals = ap (λ (x : DomainView). x.own.arrivals) rest ∙ ap (λ (x : DomainView). x.own.arrivals) view;
+      stage = ap (λ (x : DomainView). x.seen.stage) rest ∙ ap (λ (x : DomainView). x.seen.stage) view;
+      notes = ap (λ (x : DomainView). x.seen.notes) rest ∙ ap (λ (x : DomainView). x.seen.notes) view;
+      copying = ap (λ (x : DomainView). x.seen.copying) rest ∙ ap (λ (x : DomainView). x.seen.copying) view;
+      remembers = λ all. ap (λ (x : DomainView). x.seen.remembered) rest ∙ (ap (λ (x : DomainView). x.seen.remembered) view ∙ (all ∙ sym (ap (λ (x : DomainView). x.own.remembered.items) rest ∙ ap (λ (x : DomainView). x.own.remembered.items) view)));
+    })
+    (subst (λ (x : Entry). Answers (sizes_in h.config) old.view.own.number old.view.seen.front new.view.seen.front x (Replied (Block l))) is
+    (subst (λ (m : Label). Answers (sizes_in h.config) old.view.own.number old.view.seen.front new.view.seen.front e (Replied (Block m))) (sym label) mine))
+
 pub major_did : (h : SharedHeap) (old new : Token) (mid : DomainView) (e : Entry) (dst tag n : ℕ) (l : Label) (hunt : Hunt) (changes : List Change) → e ≡ own_entry old (AllocMaj dst tag n) → IsBusy h old → IsIn new h
     → mid ≡ with_hunt old.view hunt → MajorTold h.config e changes mid new.view → l ≡ next_label old.view → Did h old new (AllocMaj dst tag n) (Block l)
 major_did h old new mid e dst tag n l hunt changes is runs here view told label =
-    let answers = subst (λ (x : DomainView). Answers (sizes_in h.config) x.own.number x.seen.front new.view.seen.front e (Replied (Block (next_label x)))) view told.answers in
-    let number : new.view.own.number ≡ old.view.own.number = ap (λ (x : DomainView). x.own.number) (major_rest _ _ _ _ _ told) ∙ ap (λ (x : DomainView). x.own.number) view in
-    acting_did h old new (AllocMaj dst tag n) (Block l) runs.here runs.acts runs.remembers here number (ap (λ (x : DomainView). x.seen.hunt) (major_rest _ _ _ _ _ told)) (ap (λ (x : DomainView). x.seen.made) (major_rest _ _ _ _ _ told) ∙ (ap (λ (x : DomainView). x.seen.made) view ∙ runs.idle))
-    (record {
-      arrivals = ap (λ (x : DomainView). x.own.arrivals) (major_rest _ _ _ _ _ told) ∙ ap (λ (x : DomainView). x.own.arrivals) view;
-      stage = ap (λ (x : DomainView). x.seen.stage) (major_rest _ _ _ _ _ told) ∙ ap (λ (x : DomainView). x.seen.stage) view;
-      notes = ap (λ (x : DomainView). x.seen.notes) (major_rest _ _ _ _ _ told) ∙ ap (λ (x : DomainView). x.seen.notes) view;
-      copying = ap (λ (x : DomainView). x.seen.copying) (major_rest _ _ _ _ _ told) ∙ ap (λ (x : DomainView). x.seen.copying) view;
-      remembers = λ all. ap (λ (x : DomainView). x.seen.remembered) (major_rest _ _ _ _ _ told) ∙ (ap (λ (x : DomainView). x.seen.remembered) view ∙ (all ∙ sym (ap (λ (x : DomainView). x.own.remembered.items) (major_rest _ _ _ _ _ told) ∙ ap (λ (x : DomainView). x.own.remembered.items) view)));
-    })
-    (subst (λ (x : Entry). Answers (sizes_in h.config) old.view.own.number old.view.seen.front new.view.seen.front x (Replied (Block l))) is
-    (subst (λ (m : Label). Answers (sizes_in h.config) old.view.own.number old.view.seen.front new.view.seen.front e (Replied (Block m))) (sym label) answers))
+    made_did h old new mid e (AllocMaj dst tag n) l hunt _ _ _ is runs here view (major_rest _ _ _ _ _ told) told.answers label
 
 -- a search leaves the remembered fields
 hunted_remembers : (x y : DomainView) (hunt : Hunt) → Hunted x y hunt → RemembersAll x → RemembersAll y
@@ -122,7 +156,7 @@ hunted_grows old mid new hunt view g = record {
   looks = sym (ap (λ (o : Own). o.looked) g.own)
 
 -- the place taken has room
-pub took_room : (k : Config) (class a n : ℕ) (x y : DomainView) → class < class_count → IsLeastFor SIZES (n + 2) class → Took k class a x y → IsRoom k y a n
+pub took_room : (k : Config) (class a n : ℕ) (x y : DomainView) → class < class_count → IsLeastFor SIZES n class → Took k class a x y → IsRoom k y a n
 took_room k class a n x y few least t = record {
   pool = t.pool;
   class = class;
@@ -132,11 +166,11 @@ took_room k class a n x y few least t = record {
   of_class = few;
   below = t.below;
   address = t.address;
-  room = subst (λ (m : ℕ). n + 2 ≤ m) (size_is class) least.fits;
+  room = subst (λ (m : ℕ). n ≤ m) (size_is class) least.fits;
 }
 
 -- the register holds its address
-pub took_puts : (k : Config) (class a n dst : ℕ) (old mid new : Token) → IsLeastFor SIZES (n + 2) class → Took k class a old.view mid.view → new.view.own.registers ≡ slice_set mid.view.own.registers dst (Ref a) → PutsPlace k dst n old new
+pub took_puts : (k : Config) (class a n dst : ℕ) (old mid new : Token) → IsLeastFor SIZES n class → Took k class a old.view mid.view → new.view.own.registers ≡ slice_set mid.view.own.registers dst (Ref a) → PutsPlace k dst n old new
 took_puts k class a n dst old mid new least t registers = record {
   pool = t.pool;
   class = class;

@@ -1,7 +1,8 @@
 -- What a domain knows of the pools after a search for a free place.
-use Rattle.std.specs.Prelude.{◌≡◌, ℕ, ◌+◌, ◌<◌, ◌≤◌, ◌⊎◌, slice_set, [], Some}
+use Rattle.std.specs.Prelude.{◌≡◌, ℕ, ◌+◌, ◌<◌, ◌≤◌, ◌⊎◌, slice_set, replicate, [], ◌∷◌, Some}
 use Rattle.heap_model.specs.Domains.{class_count, reserve}
 use Rattle.heap_words.specs.declared.value.Value.TheVariants.{Ref}
+use Rattle.heap_words.specs.Labels.{label_word}
 use Rattle.size_classes.specs.Table.{IsLeastFor}
 use Rattle.size_classes.specs.declared.TheConstants.{SIZES}
 use Rattle.heap_rule.specs.Limits.{sizes_in}
@@ -13,7 +14,7 @@ use Rattle.heap_rule.specs.Pools.{size_of, blocks_of, place_in, spot_at, hunting
 use Rattle.heap_rule.specs.Token.{Token, SharedHeap, IsIn}
 use Rattle.heap_rule.specs.Running.{RemembersAll}
 use Rattle.heap_rule.specs.Standing.{Acts}
-use Rattle.steps_pools.specs.Takes.{HasNoDraw, NoneFree}
+use Rattle.steps_pools.specs.Takes.{HasNoDraw, NoneFree, with_hunt}
 
 -- all but what the domain knows of pools is as before
 abbrev pub Hunted : DomainView → DomainView → Hunt → Type 0
@@ -87,8 +88,8 @@ pub record IsBusy (h : SharedHeap) (t : Token) : Type 0 where
   pub idle : t.view.seen.made ≡ []
   pub remembers : RemembersAll t.view
 
--- a free place of an own pool is taken at this address, with room for a block of so many fields
-pub record IsRoom (k : Config) (x : DomainView) (a fields : ℕ) : Type 0 where
+-- a free place of an own pool is taken at this address, with room for a block of so many words
+pub record IsRoom (k : Config) (x : DomainView) (a words : ℕ) : Type 0 where
   pub pool : ℕ
   pub class : ℕ
   pub slot : ℕ
@@ -97,7 +98,11 @@ pub record IsRoom (k : Config) (x : DomainView) (a fields : ℕ) : Type 0 where
   pub of_class : class < class_count
   pub below : slot < blocks_of class
   pub address : a ≡ place_in pool class slot
-  pub room : fields + 2 ≤ size_of class
+  pub room : words ≤ size_of class
+
+-- of the block at the place taken the words behind the head are written: the next label, and so many times this word
+abbrev pub HasWords : ℕ → ℕ → DomainView → DomainView → Type 0
+HasWords word count x y = (pool class slot : ℕ) → x.seen.hunt ≡ Fills pool class slot [] → y ≡ with_hunt x (Fills pool class slot (label_word x.own.number (x.own.serial + 1) ∷ replicate count word))
 
 -- besides its registers, the token has given out one label more, and takes no block
 pub record Grows (old new : Token) : Type 0 where
@@ -109,12 +114,12 @@ pub record GrowsBy (old new : Token) : Type 0 where
   pub own : new.view.own ≡ record old.view.own { registers = new.view.own.registers; serial = old.view.own.serial + 1; looked = new.view.own.looked }
   pub at_rest : new.view.seen.hunt ≡ Rests
 
--- register dst holds the address of a place of a pool, of the class for so many fields, and the other registers are as before
-pub record PutsPlace (k : Config) (dst fields : ℕ) (old new : Token) : Type 0 where
+-- register dst holds the address of a place of a pool, of the class for so many words, and the other registers are as before
+pub record PutsPlace (k : Config) (dst words : ℕ) (old new : Token) : Type 0 where
   pub pool : ℕ
   pub class : ℕ
   pub slot : ℕ
   pub inside : pool < k.pools
-  pub least : IsLeastFor SIZES (fields + 2) class
+  pub least : IsLeastFor SIZES words class
   pub below : slot < blocks_of class
   pub registers : new.view.own.registers ≡ slice_set old.view.own.registers dst (Ref (place_in pool class slot))

@@ -1,11 +1,10 @@
 //! The allocation of a block in the major heap.
-ghost use Rattle.heap_model.specs.Domains.{class_count};
-ghost use Rattle.std.specs.Prelude.{◌≡◌, ◌+◌, ◌^◌, ◌<◌, ◌≤◌, ℕ, slice_set, [], Some, IfOk, IfErr, OnOk, OnErr};
+ghost use Rattle.std.specs.Prelude.{◌≡◌, ◌+◌, ◌^◌, ◌<◌, ◌≤◌, ℕ, slice_set, Some, IfOk, IfErr, OnOk, OnErr};
 ghost use Rattle.heap_model.specs.declared.command.Command.TheVariants.{AllocMaj};
 ghost use Rattle.heap_model.specs.declared.entry.Entry.{Entry};
 ghost use Rattle.heap_model.specs.declared.reply.Reply.TheVariants.{Block};
 ghost use Rattle.heap_words.specs.declared.value.Value.TheVariants.{Ref};
-ghost use Rattle.heap_rule.specs.declared.view.Hunt.TheVariants.{Rests, Fills};
+ghost use Rattle.heap_rule.specs.declared.view.Hunt.TheVariants.{Rests};
 ghost use Rattle.heap_rule.specs.Running.{Runs, Did, own_entry};
 ghost use Rattle.steps_pools.specs.Takes.{NoneFree};
 ghost use Rattle.heap_rule.specs.Token.{Holds, IsIn};
@@ -15,12 +14,12 @@ ghost use Rattle.size_pools.specs.Taken.{Hunted, Reserved, HasPlace, IsBusy, IsR
 
 use crate::no_pool::NoPool;
 use crate::taking::take;
+use crate::words::{class_for, write_words};
 use heap_model::label::Label;
 use heap_rule::{Change, Domain, Heap, Item, Part};
-use heap_words::{Colours, Head, Value, pack_head, pack_label, pack_value};
-use size_classes::heap_classes;
+use heap_words::{Colours, Head, Value, pack_head, pack_value};
 use steps_cycle::colours_now;
-use steps_pools::{fill_store, head_store};
+use steps_pools::head_store;
 
 // Writes a block at the place that is taken: its label, its fields, each the integer 0, and its head
 // last, which is unmarked by the colours that the domain knows.
@@ -36,7 +35,7 @@ fn write_unmarked(
     ghost entry: { Entry }
     requires entry { entry ≡ own_entry dom.old (AllocMaj dst tag fields) }
     requires runs { IsBusy heap.now dom.old }
-    requires room { IsRoom heap.now.config dom.old.view at fields }
+    requires room { IsRoom heap.now.config dom.old.view at (fields + 2) }
     requires dst { dst < 16 }
     requires tag { tag ≤ 245 }
     requires fields { (1 ≤ fields) × (fields ≤ 126) }
@@ -50,14 +49,8 @@ fn write_unmarked(
     ensures holds { Holds heap.now.config dom.new.view.own.registers }
 {
     let _limits = heap.config();
-    let label = Label {
-        domain: dom.number(),
-        serial: dom.labels_made() + 1,
-    };
-    fill_store(heap, dom, at + 1, pack_label(label.domain, label.serial));
-    for i in 0..u32::from(fields) {
-        fill_store(heap, dom, at + 2 + i, pack_value(Value::Int(0)));
-    }
+    let zero = pack_value(Value::Int(0));
+    let label = write_words(heap, dom, at, zero, u32::from(fields));
     let head = Head::Plain {
         size: fields,
         tag,
@@ -82,7 +75,7 @@ fn write_block(heap: &Heap, dom: &mut Domain, at: u32, dst: u8, tag: u8, fields:
     ghost entry: { Entry }
     requires entry { entry ≡ own_entry dom.old (AllocMaj dst tag fields) }
     requires runs { IsBusy heap.now dom.old }
-    requires room { IsRoom heap.now.config dom.old.view at fields }
+    requires room { IsRoom heap.now.config dom.old.view at (fields + 2) }
     requires dst { dst < 16 }
     requires tag { tag ≤ 245 }
     requires fields { (1 ≤ fields) × (fields ≤ 126) }
@@ -95,18 +88,6 @@ fn write_block(heap: &Heap, dom: &mut Domain, at: u32, dst: u8, tag: u8, fields:
 {
     let colours = colours_now(heap, dom);
     write_unmarked(heap, dom, at, dst, tag, fields, &colours)
-}
-
-// The size class of a block with so many fields.
-fn class_for(fields: u16) -> u32
-    requires { fields ≤ 126 }
-    ensures class { result < class_count }
-    ensures least { IsLeastFor SIZES (fields + 2) result }
-{
-    let Some(class) = heap_classes().class_of(usize::from(fields) + 2) else {
-        unreachable!()
-    };
-    class as u32
 }
 
 /// Allocates a plain block of `fields` fields, each the integer 0, in the major heap, and puts it
@@ -130,14 +111,14 @@ pub fn alloc_major(
     requires serial { dom.old.view.own.serial + 1 < 2 ^ 32 }
     ensures did { IfOk result (λ l. Did heap.now dom.old dom.new (AllocMaj dst tag fields) (Block l)) }
     ensures grows { OnOk result (GrowsBy dom.old dom.new) }
-    ensures registers { OnOk result (PutsPlace heap.now.config dst fields dom.old dom.new) }
+    ensures registers { OnOk result (PutsPlace heap.now.config dst (fields + 2) dom.old dom.new) }
     ensures has_place { OnOk result ((class : ℕ) → IsLeastFor SIZES (fields + 2) class → HasPlace heap.now.config class dom.old.view dom.new.view) }
     ensures reserved { IfErr result (λ n. Reserved heap.now.config n.free dom.new.view) }
     ensures none_free { OnErr result ((class : ℕ) → IsLeastFor SIZES (fields + 2) class → NoneFree heap.now.config dom.new.view class) }
     ensures same { OnErr result (Hunted dom.old.view dom.new.view Rests) }
     ensures here { IsIn dom.new heap.now }
 {
-    let class = class_for(fields);
+    let class = class_for(usize::from(fields) + 2);
     let at = take(heap, dom, class)?;
     Ok(write_block(heap, dom, at, dst, tag, fields))
 }

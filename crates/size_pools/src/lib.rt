@@ -5,12 +5,16 @@
 
 mod allocation;
 mod draw;
+mod ephemerons;
 mod listing;
 mod no_pool;
 mod search;
 mod taking;
+mod words;
 
 pub use allocation::alloc_major;
+pub use ephemerons::create;
 pub use listing::{set_cursor_back, write_list};
 pub use no_pool::NoPool;
 pub use taking::{take, take_for_copy};
+pub use words::{class_for, write_words};

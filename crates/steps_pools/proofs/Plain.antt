@@ -168,13 +168,19 @@ in_heap_more k at [] inside all (suc i) a e = cc
 in_heap_more k at (x ∷ l) inside all zero a e = all 0 a e
 in_heap_more k at (x ∷ l) inside all (suc i) a e = in_heap_more k at l inside (λ j b got. all (suc j) b got) i a e
 
+-- the domain after the head of an ephemeron, by its registers
+pub ephe_rest : (k : Config) (e : Entry) (at : ℕ) (changes : List Change) (x y : DomainView) → EpheTold k e at changes x y → y ≡ record {
+  own = record x.own { registers = (changed Nothing changes x.own).registers; serial = x.own.serial + 1; ephemerons = with_ephemeron at x.own.ephemerons };
+  seen = record x.seen { front = y.seen.front; hunt = Rests };
+}
+ephe_rest k e at changes x y told = told.view ∙ ap (λ (own : Own). record { own = record own { serial = x.own.serial + 1; ephemerons = with_ephemeron at x.own.ephemerons }; seen = record x.seen { front = y.seen.front; hunt = Rests } }) (changed_only Nothing changes x.own)
+
 -- the head of an ephemeron makes the changes, counts the label and lists the ephemeron
 pub ephe_closes : (k : Config) (x : DomainView) (at new : ℕ) (e : Entry) (changes : List Change) → IsInHeap k at → CanList changes x.own
     → Closes k x new (λ y _ z. EpheTold k e at changes y z) (CanList changes) (ListsEphemeron at changes)
 ephe_closes k x at new e changes inside can y fits told =
     let own = ap (λ (z : DomainView). z.own) told.view in
-    let rest : y.own ≡ record x.own { registers = (changed Nothing changes x.own).registers; serial = x.own.serial + 1; ephemerons = with_ephemeron at x.own.ephemerons } =
-        own ∙ ap (λ (o : Own). record o { serial = x.own.serial + 1; ephemerons = with_ephemeron at x.own.ephemerons }) (changed_only Nothing changes x.own) in record {
+    let rest = ap (λ (z : DomainView). z.own) (ephe_rest k e at changes x y told) in record {
       can_write = can;
       written = λ after is. own ∙ sym is;
       fits = record {

@@ -1,0 +1,117 @@
+//! The allocation of an ephemeron.
+ghost use Rattle.std.specs.Prelude.{◌≡◌, ◌+◌, ◌^◌, ◌<◌, ◌≤◌, ℕ, slice_set, Some, IfOk, IfErr, OnOk, OnErr};
+ghost use Rattle.heap_model.specs.declared.command.Command.TheVariants.{Ephe};
+ghost use Rattle.heap_model.specs.declared.entry.Entry.{Entry};
+ghost use Rattle.heap_model.specs.declared.reply.Reply.TheVariants.{Block};
+ghost use Rattle.heap_words.specs.declared.value.Value.TheVariants.{Ref};
+ghost use Rattle.heap_rule.specs.declared.view.Hunt.TheVariants.{Rests};
+ghost use Rattle.heap_rule.specs.Running.{Runs, Did, own_entry};
+ghost use Rattle.steps_pools.specs.Takes.{NoneFree};
+ghost use Rattle.heap_rule.specs.Token.{Holds, IsIn};
+ghost use Rattle.size_classes.specs.Table.{IsLeastFor};
+ghost use Rattle.size_classes.specs.declared.TheConstants.{SIZES};
+ghost use Rattle.size_pools.specs.Created.{Lists, ListsHeld};
+ghost use Rattle.size_pools.specs.Taken.{Hunted, Reserved, HasPlace, IsBusy, IsRoom, PutsPlace};
+
+use crate::no_pool::NoPool;
+use crate::taking::take;
+use crate::words::{class_for, write_words};
+use heap_model::label::Label;
+use heap_rule::{Change, Domain, Heap, Item, Part};
+use heap_words::{Colours, Head, Value, pack_head, pack_value};
+use steps_cycle::colours_now;
+use steps_pools::ephe_store;
+
+// Writes an ephemeron at the place that is taken: its label, its datum and its keys, which are empty,
+// and its head last, which is unmarked by the colours that the domain knows.
+fn write_unmarked(
+    heap: &Heap,
+    dom: &mut Domain,
+    at: u32,
+    dst: u8,
+    keys: u16,
+    colours: &Colours,
+) -> Label
+    ghost entry: { Entry }
+    requires entry { entry ≡ own_entry dom.old (Ephe dst keys) }
+    requires runs { IsBusy heap.now dom.old }
+    requires room { IsRoom heap.now.config dom.old.view at (keys + 3) }
+    requires dst { dst < 16 }
+    requires keys { (1 ≤ keys) × (keys ≤ 8) }
+    requires list { 1 ≤ dom.old.view.own.ephemerons.room }
+    requires serial { dom.old.view.own.serial + 1 < 2 ^ 32 }
+    requires known { dom.old.view.seen.share.colours ≡ Some colours.now }
+    requires unmarked { colours.now.unmarked < 3 }
+    ensures did { Did heap.now dom.old dom.new (Ephe dst keys) (Block result) }
+    ensures lists { Lists at dom.old dom.new }
+    ensures free { dom.new.view.seen.free ≡ dom.old.view.seen.free }
+    ensures registers { dom.new.view.own.registers ≡ slice_set dom.old.view.own.registers dst (Ref at) }
+    ensures holds { Holds heap.now.config dom.new.view.own.registers }
+{
+    let _limits = heap.config();
+    let empty = pack_value(Value::Nothing);
+    let label = write_words(heap, dom, at, empty, u32::from(keys) + 1);
+    let head = Head::Ephe {
+        keys,
+        colour: colours.unmarked,
+        scanned: false,
+    };
+    let holds = Change::Set {
+        part: Part::Register,
+        place: u32::from(dst),
+        item: Item {
+            value: Value::Ref(at),
+            number: 0,
+            more: 0,
+        },
+    };
+    ephe_store(heap, dom, at, pack_head(head), &[holds]);
+    label
+}
+
+// The same, by the colours that this call loads.
+fn write_ephemeron(heap: &Heap, dom: &mut Domain, at: u32, dst: u8, keys: u16) -> Label
+    ghost entry: { Entry }
+    requires entry { entry ≡ own_entry dom.old (Ephe dst keys) }
+    requires runs { IsBusy heap.now dom.old }
+    requires room { IsRoom heap.now.config dom.old.view at (keys + 3) }
+    requires dst { dst < 16 }
+    requires keys { (1 ≤ keys) × (keys ≤ 8) }
+    requires list { 1 ≤ dom.old.view.own.ephemerons.room }
+    requires serial { dom.old.view.own.serial + 1 < 2 ^ 32 }
+    ensures did { Did heap.now dom.old dom.new (Ephe dst keys) (Block result) }
+    ensures lists { Lists at dom.old dom.new }
+    ensures free { dom.new.view.seen.free ≡ dom.old.view.seen.free }
+    ensures registers { dom.new.view.own.registers ≡ slice_set dom.old.view.own.registers dst (Ref at) }
+    ensures holds { Holds heap.now.config dom.new.view.own.registers }
+{
+    let colours = colours_now(heap, dom);
+    write_unmarked(heap, dom, at, dst, keys, &colours)
+}
+
+/// Makes an ephemeron of `keys` keys, which are empty as its datum is, in the major heap, puts it into
+/// register `dst`, and lists it. Registers are below 16, keys 1 to 8, the domain's list has room for
+/// one more ephemeron, and fewer than 4,294,967,295 labels were made.
+///
+/// `NoPool` exactly where no own pool of the ephemeron's class has a free block and the number of
+/// pools that were free at that step is at most the reserve of promotion. Then no entry stands, and
+/// nothing changes but the places that were looked at.
+pub fn create(heap: &Heap, dom: &mut Domain, dst: u8, keys: u16) -> Result<Label, NoPool>
+    requires runs { Runs heap.now dom.old }
+    requires dst { dst < 16 }
+    requires keys { (1 ≤ keys) × (keys ≤ 8) }
+    requires list { 1 ≤ dom.old.view.own.ephemerons.room }
+    requires serial { dom.old.view.own.serial + 1 < 2 ^ 32 }
+    ensures did { IfOk result (λ l. Did heap.now dom.old dom.new (Ephe dst keys) (Block l)) }
+    ensures lists { OnOk result (ListsHeld dst dom.old dom.new) }
+    ensures registers { OnOk result (PutsPlace heap.now.config dst (keys + 3) dom.old dom.new) }
+    ensures has_place { OnOk result ((class : ℕ) → IsLeastFor SIZES (keys + 3) class → HasPlace heap.now.config class dom.old.view dom.new.view) }
+    ensures reserved { IfErr result (λ n. Reserved heap.now.config n.free dom.new.view) }
+    ensures none_free { OnErr result ((class : ℕ) → IsLeastFor SIZES (keys + 3) class → NoneFree heap.now.config dom.new.view class) }
+    ensures same { OnErr result (Hunted dom.old.view dom.new.view Rests) }
+    ensures here { IsIn dom.new heap.now }
+{
+    let class = class_for(usize::from(keys) + 3);
+    let at = take(heap, dom, class)?;
+    Ok(write_ephemeron(heap, dom, at, dst, keys))
+}
