@@ -113,6 +113,10 @@ store_waits h t (SetKey ephe index item) served collected stores few = (refl, fe
 store_waits h t (SetData ephe item) served collected stores few = (refl, few, refl)
 store_waits h t _ served collected stores few = absurd stores
 
+-- where it isn't so one more can be remembered
+pub some_room : (n room : ℕ) → n ≡ room → (n ≡ 0 → ⊥) → 1 ≤ room
+some_room n room is some = omega arith
+
 no_room : (room : ℕ) → 1 ≤ room → room < 1 → ⊥
 no_room room some few = omega arith
 

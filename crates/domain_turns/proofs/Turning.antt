@@ -65,6 +65,10 @@ next_running r is c at = by r.ended refl where
   by false e = e
   by true e = absurd (let done = is.done e in let below = inside r.commands r.next c at in let n : ℕ = r.next in omega arith)
 
+-- there is room for the reply of the next command
+pub reply_fits : (r : RunView) → IsRun r → (c : model.Command) → slice_get r.commands r.next ≡ Some c → (capacity : ℕ) → length r.commands ≤ capacity → length r.replies < capacity
+reply_fits r is c at capacity room = let each : length r.replies ≡ r.next = is.each in let below : r.next < length r.commands = inside r.commands r.next c at in omega arith
+
 labels_few : (c : model.Command) (r : Reply) → labels_given c r ≤ 1
 labels_few (Alloc dst tag fields) (Block l) = omega arith
 labels_few (AllocMaj dst tag fields) (Block l) = omega arith
@@ -76,6 +80,9 @@ room_left : (c : model.Command) (r : Reply) (old new : Own) (n : ℕ) → epheme
 room_left (Ephe dst keys) (Block l) old new n fits = omega arith
 room_left (Ephe dst keys) r old new n fits = omega arith
 room_left c r old new n fits = omega arith
+
+none_more : (n room : ℕ) → 0 + n ≤ room → n ≤ room
+none_more n room fits = omega arith
 
 -- the domain has room for an ephemeron that the next command makes
 pub next_room : (r : RunView) → IsRun r → (c : model.Command) → slice_get r.commands r.next ≡ Some c → ephemerons_of c ≤ r.token.view.own.ephemerons.room
@@ -182,7 +189,7 @@ answered_is_run h r new reply last is running at was here a =
       config = config;
       number = ap (λ (o : Own). o.number) own ∙ ap (λ (x : DomainView). x.own.number) passed;
       serial = omega (arith, serial);
-      room = λ n fits. subst (λ (o : Own). n ≤ o.ephemerons.room) (sym own) (subst (λ (x : DomainView). n ≤ x.own.ephemerons.room) (sym passed) fits);
+      room = λ n fits. subst (λ (o : Own). n ≤ o.ephemerons.room) (sym own) (subst (λ (x : DomainView). n ≤ x.own.ephemerons.room) (sym passed) (none_more n r.token.view.own.ephemerons.room fits));
       idle = ap (λ (x : DomainView). x.seen.made) a.view ∙ (ap (λ (x : DomainView). x.seen.made) passed ∙ is.idle);
       at_rest = ap (λ (x : DomainView). x.seen.hunt) a.view ∙ (ap (λ (x : DomainView). x.seen.hunt) passed ∙ is.at_rest);
       answers = subst (λ (k : Config). Answers (sizes_in k) r.token.view.own.number r.token.view.seen.front new.view.seen.front entry (Replied reply)) (sym was.1) answers;
