@@ -8,7 +8,7 @@ use Rattle.std.proofs.lemmas.Int.{ints}
 use Rattle.std.proofs.lemmas.Bool.{and_parts as both}
 use Rattle.heap_model.specs.declared.command.Command.{Command}
 use Rattle.heap_model.specs.declared.command.Command.TheVariants.{PutInt, Copy, Forget, Alloc, AllocMaj, Load, Store, Raw, Cas, Ephe, SetKey, UnsetKey, GetKey, CheckKey, SetData, UnsetData, GetData, CheckData, Finalise, FinaliseLast, Poll, Minor, Major, FullMajor, Spawn, Argument, PutResult, Join}
-use Rattle.heap_text.specs.declared.form.Operand.TheVariants.{Register, Tag, FieldCount, Index, Integer}
+use Rattle.heap_text.specs.declared.form.Operand.TheVariants.{Register, Tag, FieldCount, KeyCount, Index, Integer}
 use Rattle.heap_text.specs.Forms.{is_writable, fits}
 use Rattle.heap_text.proofs.ScriptLemmas.{total-cons}
 use Rattle.domain_turns.specs.Tries.{FitsHeap}
@@ -54,15 +54,26 @@ writable_fits (Store block index item) w =
 writable_fits Poll w = tt
 writable_fits (Raw dst tag fields) w = cc
 writable_fits (Cas block index expected item) w = cc
-writable_fits (Ephe dst keys) w = cc
-writable_fits (SetKey ephe index item) w = cc
-writable_fits (UnsetKey ephe index) w = cc
-writable_fits (GetKey dst ephe index) w = cc
-writable_fits (CheckKey ephe index) w = cc
-writable_fits (SetData ephe item) w = cc
-writable_fits (UnsetData ephe) w = cc
-writable_fits (GetData dst ephe) w = cc
-writable_fits (CheckData ephe) w = cc
+writable_fits (Ephe dst keys) w =
+    let p = both (fits Register (pos dst)) (fits KeyCount (pos keys) && true) w in
+    let f = in_range 1 8 keys (both (fits KeyCount (pos keys)) true p.1).0 in (register_fits dst p.0, f.0, f.1)
+writable_fits (SetKey ephe index item) w =
+    let p = both (fits Register (pos ephe)) (fits Index (pos index) && (fits Register (pos item) && true)) w in
+    let q = both (fits Index (pos index)) (fits Register (pos item) && true) p.1 in
+    (register_fits ephe p.0, register_fits item (both (fits Register (pos item)) true q.1).0)
+writable_fits (UnsetKey ephe index) w = register_fits ephe (both (fits Register (pos ephe)) (fits Index (pos index) && true) w).0
+writable_fits (GetKey dst ephe index) w =
+    let p = both (fits Register (pos dst)) (fits Register (pos ephe) && (fits Index (pos index) && true)) w in
+    (register_fits dst p.0, register_fits ephe (both (fits Register (pos ephe)) (fits Index (pos index) && true) p.1).0)
+writable_fits (CheckKey ephe index) w = register_fits ephe (both (fits Register (pos ephe)) (fits Index (pos index) && true) w).0
+writable_fits (SetData ephe item) w =
+    let p = both (fits Register (pos ephe)) (fits Register (pos item) && true) w in
+    (register_fits ephe p.0, register_fits item (both (fits Register (pos item)) true p.1).0)
+writable_fits (UnsetData ephe) w = register_fits ephe (both (fits Register (pos ephe)) true w).0
+writable_fits (GetData dst ephe) w =
+    let p = both (fits Register (pos dst)) (fits Register (pos ephe) && true) w in
+    (register_fits dst p.0, register_fits ephe (both (fits Register (pos ephe)) true p.1).0)
+writable_fits (CheckData ephe) w = register_fits ephe (both (fits Register (pos ephe)) true w).0
 writable_fits (Finalise item number dst) w = cc
 writable_fits (FinaliseLast item number) w = cc
 writable_fits Minor w = tt

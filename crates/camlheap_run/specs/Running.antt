@@ -1,5 +1,5 @@
 -- The runs of a script's sections on one heap, from its start to its end.
-use Rattle.std.specs.Prelude.{◌≡◌, ◌<◌, ◌≤◌, true, false, List, [], map, length, slice_index_or, vec_capacity, None}
+use Rattle.std.specs.Prelude.{◌≡◌, ℕ, ◌<◌, ◌≤◌, max, true, false, List, [], ◌∷◌, map, length, slice_index_or, vec_capacity, None}
 use Rattle.std.specs.List.{AllByRecursion}
 use Rattle.heap_model.specs.declared.command.Command.{Command}
 use Rattle.heap_model.specs.declared.state.Sizes.{Sizes}
@@ -10,13 +10,18 @@ use Rattle.heap_rule.specs.Limits.{sizes_in}
 use Rattle.heap_rule.specs.Opening.{opening_tokens}
 use Rattle.heap_rule.specs.Token.{Token, SharedHeap, IsIn}
 use Rattle.heap_rule.specs.Ending.{Past, AllBegin}
-use Rattle.domain_turns.specs.Runs.{RunView, IsRun, CanBegin}
+use Rattle.domain_turns.specs.Runs.{RunView, IsRun, CanBegin, ephemerons_in}
 use Rattle.camlheap_run.specs.declared.begin.Begun.{Begun}
 
 -- sizes that the words of a run may ask for
 pub record AreRunSizes (z : Sizes) : Type 0 where
   pub limits : first_outside z ≡ None
   pub classes : z.classes ≡ class_count
+
+-- the most ephemerons that a section's commands make
+abbrev pub most_in : List (List Command) → ℕ
+most_in [] = 0
+most_in (cs ∷ sections) = max (ephemerons_in cs) (most_in sections)
 
 -- the commands of a domain: those of its section
 abbrev pub section_of : List (List Command) → Token → List Command

@@ -1,11 +1,13 @@
 //! Starts a heap, with a run for each of its domains. All memory of a run is taken here.
-ghost use Rattle.std.specs.Prelude.{◌≡◌, None, map, IfOk};
+ghost use Rattle.std.specs.Prelude.{◌≡◌, ◌≤◌, None, map, IfOk};
 ghost use Rattle.std.specs.List.{AllByRecursion};
 ghost use Rattle.heap_rule.specs.Limits.{first_outside, sizes_in};
 ghost use Rattle.camlheap_run.specs.Reading.{IsSpelled};
-ghost use Rattle.camlheap_run.specs.Running.{AreRunSizes, HasSection, IsBegun, opened};
+ghost use Rattle.camlheap_run.specs.Running.{AreRunSizes, HasSection, IsBegun, most_in, opened};
+ghost use Rattle.domain_turns.specs.Runs.{ephemerons_in};
 
 use domain_turns::DomainRun;
+use heap_model::command::Command;
 use heap_model::state::Sizes;
 use heap_rule::{Config, Domain, Heap, StartFault};
 use heap_text::Script;
@@ -21,18 +23,42 @@ pub(crate) struct Begun {
     pub(crate) room: Vec<Domain>,
 }
 
-// How large the heap is. No command of the grammar needs room for finalisers or ephemerons yet.
-pub(crate) fn config_of(sizes: &Sizes) -> Config
-    requires { AreRunSizes sizes.now }
+// How many ephemerons the commands of a section make, if none is answered `full`.
+fn ephemerons_of(section: &[Command]) -> usize
+    ensures { result ≡ ephemerons_in section.now }
+{
+    section
+        .iter()
+        .filter(|command| matches!(**command, Command::Ephe { .. }))
+        .count()
+}
+
+// The most that a section makes.
+fn most_ephemerons(script: &Script) -> usize
+    ensures { result ≡ most_in script.now }
+{
+    let mut most = 0;
+    for i in 0..script.sections() {
+        most = most.max(ephemerons_of(script.section(i)));
+    }
+    most
+}
+
+// How large the heap is: each domain has room for as many ephemerons as the section makes that makes
+// most. No command of the grammar needs room for finalisers yet.
+pub(crate) fn config_of(sizes: &Sizes, script: &Script) -> Config
+    requires sizes { AreRunSizes sizes.now }
+    requires script { IsSpelled sizes.now.domains script.now }
     ensures sizes { sizes_in result ≡ sizes.now }
     ensures limits { first_outside result ≡ None }
+    ensures ephemerons { result.ephes ≡ most_in script.now }
 {
     Config {
         domains: sizes.domains,
         minor_words: sizes.minor_words,
         pools: sizes.pools,
         finals: 0,
-        ephes: 0,
+        ephes: most_ephemerons(script) as u32,
     }
 }
 
@@ -59,6 +85,7 @@ fn runs_of(
 pub(crate) fn begin(alloc: Global, config: Config, script: &Script) -> Result<Begun, AllocError>
     requires limits { first_outside config ≡ None }
     requires script { IsSpelled config.domains script.now }
+    requires room { most_in script.now ≤ config.ephes }
     ensures { IfOk result (IsBegun config script.now) }
 {
     let (heap, domains) = match Heap::start(alloc, config) {

@@ -38,7 +38,7 @@ pub(crate) fn run<R: Threads + Wait + Sync, K: Sink, G: Gate + Sync>(
     ensures quiet { result ≡ Status.Memory → out.new ≡ out.old }
     ensures answers { IsRunAnswer result }
 {
-    let Begun { heap, runs, room } = match begin(alloc, config_of(sizes), script) {
+    let Begun { heap, runs, room } = match begin(alloc, config_of(sizes, script), script) {
         Ok(begun) => begun,
         Err(AllocError) => return Status::Memory,
     };

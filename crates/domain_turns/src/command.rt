@@ -28,7 +28,7 @@ pub(crate) enum Attempt {
     Made(Reply),
     // A pause must come first, and nothing has changed: the wish for it.
     Needs(Want),
-    // An allocation found no room, and a complete collection must come first, or one more.
+    // An allocation found no room, and a complete collection, or one more, must come first.
     NoRoom,
 }
 
@@ -78,8 +78,8 @@ fn full(heap: &Heap, dom: &mut Domain, command: &Command) -> Reply
     full_as(heap, dom, command)
 }
 
-// What becomes of an allocation that found no room: where a complete collection has come before for
-// this command, and left much, it is answered `full`.
+// What becomes of an allocation that found no room: where a complete collection that left much has come
+// before for this command it is answered `full`.
 fn refuse(heap: &Heap, dom: &mut Domain, command: &Command, collected: bool) -> Attempt
     requires runs { Runs heap.now dom.old }
     requires allocates { is_allocation command.now ≡ true }
@@ -219,9 +219,9 @@ fn try_call(heap: &Heap, dom: &mut Domain, command: &Command) -> Attempt
 
 // Makes the entry of a command, where no pause must come first. `served` says whether one has served a
 // `minor` or a `major`, and `collected` whether a complete collection has come since this command was
-// first tried, and left so many blocks that they may use up the pools. A young allocation is refused exactly
-// where fewer pools are free than promotion may need, and one in the major heap, which also that of an
-// ephemeron is, exactly where no pool is to be had; it is answered `full` where `collected`.
+// first tried, and left so many blocks that they may use up the pools. A young allocation is refused
+// exactly where fewer pools are free than promotion may need, and one in the major heap, as also that of
+// an ephemeron is, exactly where no pool is to be had; it is answered `full` where `collected`.
 pub(crate) fn try_command(
     heap: &Heap,
     dom: &mut Domain,

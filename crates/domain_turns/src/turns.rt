@@ -182,7 +182,8 @@ fn waits_for_answer(run: &DomainRun) -> bool
     matches!(run.commands.get(run.next), Some(Command::FullMajor))
 }
 
-// Whether so many blocks may use up the pools.
+// Whether so many blocks may use up the pools: where each has one to itself, no more are free than the
+// reserve of promotion.
 fn may_use_up(heap: &Heap, blocks: u64) -> bool
     ensures { result ≡ may_use_up heap.now.config blocks }
 {

@@ -168,7 +168,11 @@ fn push_first(alloc: Global, play: &mut Play, chain: Chain) -> Result<(), AllocE
     play.push("poll\n", "ok\n")?;
     push_makers(alloc, play, chain, 0)?;
     push_links(alloc, play, chain)?;
-    let live = format!(in alloc; "ok\nok\nok\nlive {} {}\n", 2 * length + 3, 7 * length + 149)?;
+    let live = format!(in alloc;
+        "ok\nok\nok\nlive {} {}\n",
+        2 * length + 3,
+        7 * length + 149
+    )?;
     play.push("drop 3\ndrop 4\ndrop 5\nfull_major\n", &live)?;
     push_checks(alloc, play, chain, "yes\n")?;
     let live = format!(in alloc; "ok\nok\nlive {} {}\n", length + 2, 4 * length + 146)?;

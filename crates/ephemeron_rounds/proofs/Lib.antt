@@ -3,3 +3,5 @@ pub mod Picks
 pub mod Refusals
 pub mod WeakLoads
 pub mod WeakStores
+pub mod Keys
+pub mod Passes

@@ -1,7 +1,7 @@
 -- Stores to the words of an ephemeron that was found.
-use Rattle.std.proofs.Common.{◌≡◌, ◌≢◌, ◌↔◌, ◌∙◌, ℕ, ◌<◌, ◌≤◌, Bool, true, false, List, [], Option, Some, None, refl, sym, ap, subst}
+use Rattle.std.proofs.Common.{◌≡◌, ◌≢◌, ◌↔◌, ◌∙◌, ℕ, ◌≤◌, Bool, true, List, [], Option, Some, None, IfSome, refl, sym, ap, subst}
 use Rattle.heap_model.specs.declared.command.Command.{Command}
-use Rattle.heap_model.specs.declared.command.Command.TheVariants.{SetKey, UnsetKey, GetKey, CheckKey, SetData, UnsetData, GetData, CheckData}
+use Rattle.heap_model.specs.declared.command.Command.TheVariants.{SetKey, UnsetKey, SetData, UnsetData}
 use Rattle.heap_model.specs.declared.reply.Reply.TheVariants.{Done}
 use Rattle.heap_words.specs.declared.value.Value.{Value}
 use Rattle.heap_words.specs.declared.value.Value.TheVariants.{Ref, Nothing}
@@ -12,17 +12,13 @@ use Rattle.heap_rule.specs.declared.view.Own.{Own}
 use Rattle.heap_rule.specs.Changes.{value_at}
 use Rattle.heap_rule.specs.Running.{Runs, Did, own_entry}
 use Rattle.heap_rule.specs.Token.{Token, SharedHeap, IsIn}
-use Rattle.remembered_set.specs.Bounded.{Bounded}
-use Rattle.steps_run.specs.Stores.{MustRemember, StoreTold, remembering_own}
+use Rattle.steps_run.specs.Stores.{IsYoungBlock, MustRemember, StoreTold}
 use Rattle.steps_ephemerons.specs.Heads.{ephemeron_in, key_in, IsBlockValue, HasItem}
 use Rattle.steps_ephemerons.specs.Loads.{word_of}
 use Rattle.steps_ephemerons.specs.Stores.{stored_value, WeakStoreMay, KeyStoreEntry, DataStoreEntry}
-use Rattle.field_access.specs.Remembered.{ChangesRemembered, PutsYoung, one_more}
 use Rattle.field_access.proofs.FieldStores.{stored_did}
 use Rattle.ephemeron_rounds.specs.Found.{Found}
-use Rattle.ephemeron_rounds.specs.Items.{IsChange, FitsItem, item_in, value_of}
-use Rattle.ephemeron_rounds.specs.Naming.{NamesRegisters}
-use Rattle.ephemeron_rounds.specs.Words.{word_in}
+use Rattle.ephemeron_rounds.specs.Items.{IsChange, item_in, value_of}
 use Rattle.ephemeron_rounds.proofs.WeakLoads.{found_own, found_entry, found_acts, found_may}
 
 -- a command that names a key sets one
@@ -49,22 +45,12 @@ stored_item x (SetData ephe item) changes = refl
 stored_item x (UnsetData ephe) changes = refl
 stored_item x _ changes = absurd changes
 
--- the register of the item is one of the 16
-pub item_few : (c : Command) → NamesRegisters c → IsChange c → (r : ℕ) → item_in c ≡ Some r → r < 16
-item_few (SetKey ephe i item) names changes r is = let same : item ≡ r = cc in subst (λ (n : ℕ). n < 16) same names.1
-item_few (UnsetKey ephe i) names changes r is = cc
-item_few (SetData ephe item) names changes r is = let same : item ≡ r = cc in subst (λ (n : ℕ). n < 16) same names.1
-item_few (UnsetData ephe) names changes r is = cc
-item_few _ names changes r is = absurd changes
+-- nothing is remembered where nothing is set
+pub room_there : (k : Config) (block value : Value) (registers : List Value) (item : Option ℕ) (room : ℕ) → value ≡ value_of registers item → IfSome item (λ r. 1 ≤ room) → MustRemember k block value → 1 ≤ room
+room_there k block value registers None room is there must = absurd (subst (λ (v : Value). IsYoungBlock k v) is must.1)
+room_there k block value registers (Some r) room is there must = there
 
--- a command whose item fits has what it sets
-pub item_fits : (x : DomainView) (c : Command) → NamesRegisters c → IsChange c → FitsItem (key_in c) (item_in c) (value_of x.own.registers (item_in c)) → HasItem x c
-item_fits x (SetKey ephe i item) names changes fits = (names.1, fits)
-item_fits x (UnsetKey ephe i) names changes fits = tt
-item_fits x (SetData ephe item) names changes fits = (names.1, fits)
-item_fits x (UnsetData ephe) names changes fits = tt
-item_fits x _ names changes fits = absurd changes
-
+-- a look leaves the item
 item_stays : (x y : DomainView) (c : Command) → y.own ≡ x.own → IsChange c → HasItem x c → HasItem y c
 item_stays x y (SetKey ephe i item) same changes has = (has.0, subst (λ (o : Own). IsBlockValue (value_at o.registers item)) (sym same) has.1)
 item_stays x y (UnsetKey ephe i) same changes has = tt
@@ -92,16 +78,6 @@ module _ (h : SharedHeap) (old y : Token) (c : Command) (a : ℕ) (runs : Runs h
     fits = tt;
   }
 
-  module _ (z : Token) (told : StoreTold h.config (own_entry y c) (word_of (key_in c) a) remembers [] y.view z.view) where
-    -- and makes the call of its command
-    pub store_did : IsIn z h → Did h old z c Done
-    store_did here = stored_did h old z y.view c (own_entry y c) (word_of (key_in c) a) remembers [] (found_entry h old y c a runs f) runs here f.counted.looked told
-
-    stored_own : z.view.own ≡ remembering_own remembers (word_of (key_in c) a) old.view.own
-    stored_own = ap (λ (x : DomainView). x.own) told.view ∙ ap (λ (o : Own). remembering_own remembers (word_of (key_in c) a) o) (found_own h old y c a runs f)
-
-    pub store_rest : ChangesRemembered old z
-    store_rest = record { own = stored_own ∙ ap (λ (b : Bounded ℕ). record old.view.own { remembered = b }) (sym (ap (λ (o : Own). o.remembered) stored_own)) }
-
-    pub store_registers : z.view.own.registers ≡ old.view.own.registers
-    store_registers = ap (λ (o : Own). o.registers) stored_own
+  -- and makes the call of its command
+  pub store_did : (z : Token) → IsIn z h → StoreTold h.config (own_entry y c) (word_of (key_in c) a) remembers [] y.view z.view → Did h old z c Done
+  store_did z here told = stored_did h old z y.view c (own_entry y c) (word_of (key_in c) a) remembers [] (found_entry h old y c a runs f) runs here f.counted.looked told

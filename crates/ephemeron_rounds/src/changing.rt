@@ -24,7 +24,14 @@ use heap_words::{Value, pack_value};
 use steps_ephemerons::{data_store, key_store};
 
 // A store to the word that a command names, with its entry.
-fn store_word(heap: &Heap, dom: &mut Domain, block: u32, key: Option<u16>, word: u64, remembers: bool)
+fn store_word(
+    heap: &Heap,
+    dom: &mut Domain,
+    block: u32,
+    key: Option<u16>,
+    word: u64,
+    remembers: bool,
+)
     ghost command: { Command }
     requires here { IsIn dom.old heap.now }
     requires small { block < 2 ^ 24 }

@@ -1,5 +1,6 @@
-//! The commands on the keys and the data of ephemerons. Each makes one entry of the history, and its
-//! reply is the one that the object graph gives at that entry.
+//! The commands on the keys and the data of ephemerons, and a domain's share of the phases of a
+//! collection of the major heap in which ephemerons are looked at. Each command makes one entry of the
+//! history, and its reply is the one that the object graph gives at that entry.
 //!
 //! An ephemeron has keys, which are blocks or empty, and a datum, which is any value or empty. The
 //! keys aren't held by it, and its datum only while all its full keys are held elsewhere (the OCaml
@@ -10,7 +11,10 @@
 
 mod changing;
 mod finding;
+mod heads;
 mod looking;
+mod rounds;
 
 pub use changing::{set_data, set_key, unset_data, unset_key};
 pub use looking::{check_data, check_key, get_data, get_key};
+pub use rounds::round;

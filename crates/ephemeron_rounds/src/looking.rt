@@ -37,7 +37,12 @@ fn get(heap: &Heap, dom: &mut Domain, dst: u8, ephe: u8, key: Option<u16>) -> Re
         Ok(block) => block,
         Err(refusal) => return refusal,
     };
-    weak_load(heap, dom, word_at(block, key), &[Change::Read { register: dst }]);
+    weak_load(
+        heap,
+        dom,
+        word_at(block, key),
+        &[Change::Read { register: dst }],
+    );
     shown_register(heap, dom, dst)
 }
 

@@ -246,8 +246,8 @@ module _ (k : Config) (s : Words) (r : Rule k s) (id : ℕ) (hist : List Entry) 
       let pools1 = pools_untouched k t s.words words' o.untouched r.whole.pools in
       let grid1 = drop_grid k paint0 live0 graph words' found0 r.whole.copies o.free t pools1 (grid_untouched k t live0 s.words words' o.untouched r.whole.grid) in
       let listed_low : (z : DomainView) → Good k r.account s.words z → Listed live1 t.holder t.garbage z.own.number z.own.ephemerons.items = (λ z h.
-          listed_on live0 live1 t.holder t.holder t.garbage t.garbage z.own.number z.own.ephemerons.items (λ q c e. e) (λ q c e. e) (ephe_back live0 live1 back)
-          (λ a e. inl (record { place = e.place; lives = kept_low k live0 a e.place e.lives ((r.whole.placed.fits a e.place e.lives).pooled e.keys e.shape); keys = e.keys; shape = e.shape })) (λ a e. e) h.listed) in
+      listed_on live0 live1 t.holder t.holder t.garbage t.garbage z.own.number z.own.ephemerons.items (λ q c e. e) (λ q c e. e) (ephe_back live0 live1 back)
+      (λ a e. inl (record { place = e.place; lives = kept_low k live0 a e.place e.lives ((r.whole.placed.fits a e.place e.lives).pooled e.keys e.shape); keys = e.keys; shape = e.shape })) (λ a e. e) h.listed) in
       let mine_stood = stood_low x o.own_old g.stood in
       let mine_area = area_back k live0 live1 x back g.area in
       let mine_hunter = hunter_untouched k t s.words words' x o.untouched g.hunter in

@@ -192,9 +192,7 @@ pub enum Scan {
 pub enum NextKey {
     Unknown,
     /// It refers to the block at this address.
-    Refers {
-        address: u32,
-    },
+    Refers { address: u32 },
     /// It is full, and its block isn't marked.
     Dead,
 }

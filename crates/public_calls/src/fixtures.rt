@@ -1,8 +1,8 @@
 //! Heaps that have just started, with what the tests need to know of their domains.
 ghost use Rattle.std.specs.Prelude.{◌≡◌, ◌≤◌, ◌<◌, All, IfOk, [], true, length};
 ghost use Rattle.std.specs.List.{AllByRecursion};
-ghost use Rattle.domain_turns.specs.Runs.{CanBegin};
-ghost use Rattle.domain_turns.specs.Tries.{FitsHeap};
+ghost use Rattle.domain_turns.specs.Runs.{CanBegin, ephemerons_in};
+ghost use Rattle.domain_turns.specs.Tries.{FitsHeap, ephemerons_of};
 ghost use Rattle.heap_rule.specs.Running.{Runs};
 ghost use Rattle.heap_rule.specs.Token.{IsIn};
 ghost use Rattle.public_calls.specs.Fresh.{IsFresh};
@@ -34,7 +34,7 @@ pub(crate) const ONE_DOMAIN: Config = Config {
     minor_words: 4096,
     pools: 14,
     finals: 0,
-    ephes: 0,
+    ephes: 1,
 };
 
 pub(crate) const TWO_DOMAINS: Config = Config {
@@ -100,7 +100,8 @@ pub(crate) fn stored(
 
 // Whether it is a command that the tests use, with its numbers in their ranges.
 fn fits(command: &Command) -> bool
-    ensures { result ≡ true → FitsHeap command.now }
+    ensures fits { result ≡ true → FitsHeap command.now }
+    ensures none { result ≡ true → ephemerons_of command.now ≡ 0 }
 {
     match *command {
         Command::Alloc { dst, tag, fields } | Command::AllocMaj { dst, tag, fields } => dst < 16
@@ -120,6 +121,7 @@ fn fits(command: &Command) -> bool
 fn all_fit(commands: &[Command]) -> bool
     ensures few { result ≡ true → length commands.now ≤ 200000 }
     ensures fit { result ≡ true → All FitsHeap commands.now }
+    ensures none { result ≡ true → ephemerons_in commands.now ≡ 0 }
 {
     for command in commands {
         if !fits(command) {

@@ -8,6 +8,8 @@ mod decimals_calls;
 #[cfg(test)]
 mod domain_turns_calls;
 #[cfg(test)]
+mod ephemeron_calls;
+#[cfg(test)]
 mod field_access_calls;
 #[cfg(test)]
 mod fixtures;

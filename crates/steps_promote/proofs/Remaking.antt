@@ -89,8 +89,8 @@ module _ (k : Config) (s : Words) (r : Rule k s) (id : ℕ) (hist : List Entry) 
       let here = promote_here r.account.pause x promotes g.staged in
       let waits : y.own.arrivals ≡ r.account.pause.phase + 1 → ⊥ = (λ up. let e : y.own.arrivals ≡ r.account.pause.phase + 1 = up in let f : x.own.arrivals ≡ r.account.pause.phase = here in let h : y.own.arrivals ≡ x.own.arrivals = o.arrivals in omega arith) in
       let listeds : (z : DomainView) → Good k r.account s.words z → Listed live' t'.holder t'.garbage z.own.number z.own.ephemerons.items =
-          (λ z h. listed_on r.account.live live' r.account.tenancy.holder t'.holder r.account.tenancy.garbage t'.garbage z.own.number z.own.ephemerons.items (λ q c e. sym (o.holders q) ∙ e) (λ q c e. o.holders q ∙ e) o.no_more
-          (λ a e. inl (ephe_more r.account.live live' o.more a e)) (λ a e. o.garbage a ∙ e) h.listed) in
+      (λ z h. listed_on r.account.live live' r.account.tenancy.holder t'.holder r.account.tenancy.garbage t'.garbage z.own.number z.own.ephemerons.items (λ q c e. sym (o.holders q) ∙ e) (λ q c e. o.holders q ∙ e) o.no_more
+      (λ a e. inl (ephe_more r.account.live live' o.more a e)) (λ a e. o.garbage a ∙ e) h.listed) in
       remakes k s r id hist x at y (record r.account { live = live'; tenancy = t'; homes = homes' }) words'
       record {
         wide = o.wide ∙ r.whole.wide;

@@ -87,7 +87,7 @@ none_young k s r id hist x at resets =
           let f = r.whole.found a p lives in
           let has : (i : ℕ) → HasValue p.owed i = (λ i. subst (λ (o : Option Debt). HasValue o i) (sym (settled a p lives).no_debt) tt) in
           let value_there : (i : ℕ) (v : graph_value.Value) → slice_get (values_of f.node) i ≡ Some v → WordStands live (at_address k s.words (a + 2 + i)) v =
-              (λ i v got. found_value k r.account.cycling.paint live (state_of k r.account.log).graph s.words a p f (whole_here k s r id hist x at Reset tt resets p.label) i v (has i) got) in
+          (λ i v got. found_value k r.account.cycling.paint live (state_of k r.account.log).graph s.words a p f (whole_here k s r id hist x at Reset tt resets p.label) i v (has i) got) in
           let n : ℕ = length (values_of f.node) in
           let size : extent p.shape ≡ n + 2 = ap extent (sym f.shape) ∙ extent_of f.node in record {
             node = f.node;

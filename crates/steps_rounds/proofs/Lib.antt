@@ -1,3 +1,5 @@
 pub mod Listings
 pub mod RoundSteps
+pub mod Keys
+pub mod CleanSteps
 pub mod Plain

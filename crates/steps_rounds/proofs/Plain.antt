@@ -6,6 +6,8 @@ use Rattle.heap_rule.specs.Raw.{Closes, CanLeave, Leaves}
 use Rattle.steps_rounds.specs.Rounding.{DatumTold, EphemeronTold, KeyLookTold, KeyTold, datum_on, key_on, next_key, place_seen, looked_through}
 use Rattle.steps_cycle.proofs.Plain.{share_closes}
 use Rattle.heap_rule.specs.declared.view.Scan.TheVariants.{Keys}
+use Rattle.steps_rounds.specs.Emptying.{CleanEndTold, CleanKeyTold, CleanLookTold, CleanTold, cleaned, cleaning_on, cleaning_from, key_passed, key_read}
+use Rattle.heap_rule.specs.declared.view.NextKey.TheVariants.{Dead}
 
 pub ephemeron_closes : (k : Config) (x : DomainView) (found a : ℕ) → Closes k x found (EphemeronTold k a) CanLeave Leaves
 ephemeron_closes k x found a = share_closes k x found (EphemeronTold k a) (λ y t. ⊎_elim (λ u. (place_seen a x.seen.share, u.1)) (λ u. (record x.seen.share { scan = Keys a 0 u.0 }, u.3)) t.told)
@@ -18,3 +20,15 @@ key_look_closes k x found = share_closes k x found KeyLookTold (λ y t. ⊎_elim
 
 pub datum_closes : (k : Config) (x : DomainView) (found : ℕ) → Closes k x found (DatumTold k) CanLeave Leaves
 datum_closes k x found = share_closes k x found (DatumTold k) (λ y t. (datum_on x.seen.share t.value, t.view))
+
+pub clean_closes : (k : Config) (x : DomainView) (found a : ℕ) → Closes k x found (CleanTold k a) CanLeave Leaves
+clean_closes k x found a = share_closes k x found (CleanTold k a) (λ y t. ⊎_elim (λ u. (place_seen a x.seen.share, u.1)) (λ u. (cleaning_on (cleaning_from a u.0) x.seen.share, u.3)) t.told)
+
+pub clean_key_closes : (k : Config) (x : DomainView) (found : ℕ) → Closes k x found (CleanKeyTold k) CanLeave Leaves
+clean_key_closes k x found = share_closes k x found (CleanKeyTold k) (λ y t. (cleaning_on (key_read t.value t.cleaning) x.seen.share, t.view))
+
+pub clean_look_closes : (k : Config) (x : DomainView) (found : ℕ) → Closes k x found CleanLookTold CanLeave Leaves
+clean_look_closes k x found = share_closes k x found CleanLookTold (λ y t. ⊎_elim (λ u. (cleaning_on (key_passed t.cleaning) x.seen.share, u.1)) (λ u. (cleaning_on (record t.cleaning { next = Dead }) x.seen.share, u.1)) t.told)
+
+pub clean_end_closes : (k : Config) (x : DomainView) (found : ℕ) → Closes k x found CleanEndTold CanLeave Leaves
+clean_end_closes k x found = share_closes k x found CleanEndTold (λ y t. (cleaned t.cleaning.block x.seen.share, t.view))

@@ -3,24 +3,9 @@ ghost use Rattle.heap_rule.specs.Standing.{IsInHeap};
 ghost use Rattle.heap_rule.specs.Token.{IsIn};
 ghost use Rattle.steps_rounds.specs.Rounding.{DatumMay, DatumTold, EphemeronMay, EphemeronTold, KeyLookMay, KeyLookTold, KeyMay, KeyTold};
 
-use heap_rule::{Change, Domain, Heap, Leaving, Own, Writing, raw_load};
+use crate::looking::LookingAt;
+use heap_rule::{Domain, Heap, Leaving, raw_load};
 use std::marker::Brand;
-
-// The token's own data stays as it is. The address is there for the pick alone.
-#[derive(Clone, Copy)]
-struct LookingAt {
-    at: u32,
-}
-
-impl Writing for LookingAt {
-    ghost use Rattle.heap_rule.specs.Raw.{CanLeave, Leaves};
-
-    ghost can = { λ _ _ _ own. CanLeave own };
-
-    ghost writes = { λ _ _ _ own after. Leaves own after };
-
-    fn write(&self, _found: u64, _changes: &[Change], _own: &mut Own) {}
-}
 
 /// A load of the head of a listed ephemeron, in Rounds. Where it isn't marked nothing is to be done
 /// for it in this phase, and else the look at its keys begins. `at` is its address. Answers the head's

@@ -27,6 +27,7 @@ module _ (garbage at i found : ℕ) (x y z : DomainView) (so : PrunedTo garbage 
           let q : ℕ = y.own.ephemerons.room in
           let g : q + 1 + n ≡ q + m = omega arith in
           g ∙ so.shortens.room;
+      no_less = let q : ℕ = y.own.ephemerons.room in let p : ℕ = x.own.ephemerons.room in let h : p ≤ q = so.shortens.no_less in let g : p ≤ q + 1 = omega arith in g;
     };
     prunes = record { stage = so.prunes.stage; colours = so.prunes.colours; known = so.prunes.known; means = so.prunes.means };
     so_far = so.so_far;

@@ -38,6 +38,7 @@ pub shorter_still : (x y z : DomainView) → Shortens x y → z.own.ephemerons �
 shorter_still x y z s same = record {
   among = subst (λ (b : Bounded ℕ). (a : ℕ) → IsTrue (seen_by b.items a) → IsTrue (seen_by x.own.ephemerons.items a)) (sym same) s.among;
   room = subst (λ (b : Bounded ℕ). b.room + length b.items ≡ x.own.ephemerons.room + length x.own.ephemerons.items) (sym same) s.room;
+  no_less = subst (λ (b : Bounded ℕ). x.own.ephemerons.room ≤ b.room) (sym same) s.no_less;
 }
 
 -- the domain sweeps still

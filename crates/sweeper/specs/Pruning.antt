@@ -20,10 +20,11 @@ with_pruned x y = record x {
   seen = record x.seen { share = record x.seen.share { pruned = y.seen.share.pruned } };
 }
 
--- what is listed was listed before, and there is room for as many as were taken off the list
+-- what is listed was listed before, and there is room for as many more as were taken off the list
 pub record Shortens (x y : DomainView) : Type 0 where
   pub among : (a : ℕ) → IsTrue (seen_by y.own.ephemerons.items a) → IsTrue (seen_by x.own.ephemerons.items a)
   pub room : y.own.ephemerons.room + length y.own.ephemerons.items ≡ x.own.ephemerons.room + length x.own.ephemerons.items
+  pub no_less : x.own.ephemerons.room ≤ y.own.ephemerons.room
 
 -- the list is pruned: no listed ephemeron is garbage
 abbrev pub IsPruned : DomainView → Type 0

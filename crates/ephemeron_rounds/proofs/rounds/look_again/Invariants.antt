@@ -1,0 +1,9 @@
+use Rattle.heap_rule.specs.Token.{IsIn}
+use Rattle.ephemeron_rounds.specs.Looking.{Looked}
+use Rattle.ephemeron_rounds.proofs.rounds.look_again.Given as goal
+
+abbrev pub invariant-loop : goal.invariant-loop
+invariant-loop l = record {
+  here : IsIn l.dom l.heap;
+  looked : Looked l.fn.dom.view l.dom.view;
+}

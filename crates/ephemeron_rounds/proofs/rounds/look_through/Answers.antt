@@ -1,0 +1,13 @@
+use Rattle.std.proofs.Common.{arith, sym}
+use Rattle.ephemeron_rounds.proofs.Passes.{among, sees_listed}
+use Rattle.ephemeron_rounds.proofs.rounds.look_through.Goals as goal
+
+pub look_at-darkened-requires-clause-listed : goal.look_at-darkened-requires-clause-listed
+look_at-darkened-requires-clause-listed c = among c.loop-i.dom.view.own.ephemerons.items c.loop-i.i c.ephemeron_at-at.result (sym c.ephemeron_at-at.ensures.item)
+
+pub returns-clause-passed : goal.returns-clause-passed
+returns-clause-passed c = record {
+  looked = c.loop-i.invariant.looked;
+  owes = c.loop-i.invariant.owes;
+  all = sees_listed c.args.dom.now.view c.loop-i.dom.view c.loop-i.invariant.looked (λ j less a got. c.loop-i.invariant.all j (omega arith) a got);
+}

@@ -1,0 +1,5 @@
+use Rattle.steps_cycle.specs.Marking.{OfDatum}
+use Rattle.ephemeron_rounds.proofs.rounds.mark_datum.Given as goal
+
+abbrev pub ghost-darken : goal.ghost-darken
+ghost-darken a = OfDatum

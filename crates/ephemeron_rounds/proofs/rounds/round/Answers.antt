@@ -1,0 +1,11 @@
+use Rattle.std.proofs.Common.{ap, ◌∙◌}
+use Rattle.heap_rule.specs.declared.phase.Kind.TheVariants.{Rounds}
+use Rattle.heap_rule.specs.declared.view.DomainView.{DomainView}
+use Rattle.ephemeron_rounds.proofs.rounds.round.Goals as goal
+
+pub changed_store-requires-clause-may : goal.changed_store-requires-clause-may
+changed_store-requires-clause-may c = record {
+  kind = Rounds;
+  stage = ap (λ (u : DomainView). u.seen.stage) c.look_again.ensures.looked.view ∙ ap (λ (u : DomainView). u.seen.stage) c.look_through.ensures.passed.looked.view ∙ ap (λ (u : DomainView). u.seen.stage) c.colours_now-colours.ensures.knows ∙ c.requires.stage;
+  changing = tt;
+}

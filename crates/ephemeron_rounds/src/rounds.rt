@@ -1,0 +1,159 @@
+//! The data of marked ephemerons are marked, where all their full keys are.
+ghost use Rattle.std.specs.Prelude.{◌≡◌, ℕ, ◌+◌, ◌≤◌, Some, IsTrue, false};
+ghost use Rattle.heap_words.specs.ColourWords.{IsPermutation};
+ghost use Rattle.heap_rule.specs.declared.phase.Kind.TheVariants.{Rounds};
+ghost use Rattle.heap_rule.specs.declared.phase.Stage.TheVariants.{In};
+ghost use Rattle.heap_rule.specs.declared.view.Scan.TheVariants.{Idle, Keys};
+ghost use Rattle.heap_rule.specs.Cycles.{seen_by};
+ghost use Rattle.heap_rule.specs.Layout.{heap_words};
+ghost use Rattle.heap_rule.specs.Standing.{IsInHeap};
+ghost use Rattle.heap_rule.specs.Token.{IsIn};
+ghost use Rattle.steps_cycle.specs.Looks.{with_share};
+ghost use Rattle.steps_rounds.specs.Rounding.{KeyMay};
+ghost use Rattle.ephemeron_rounds.specs.Looking.{AllLooked, Darkening, Looked, Passed, Through, after_key, after_keys};
+
+use crate::heads::{is_marked, marked_keys};
+use heap_rule::{Domain, Heap, Reading, read_as};
+use heap_words::{Colours, Value};
+use mark_slices::darken;
+use steps_cycle::{changed_store, colours_now};
+use steps_rounds::{datum_load, ephemeron_load, key_load, key_look};
+
+// Looks at the next key, which is at `at`. Answers whether it is empty or its block is marked.
+fn key_is_marked(heap: &Heap, dom: &mut Domain, at: u32, colours: Colours) -> bool
+    requires here { IsIn dom.old heap.now }
+    requires darkening { Darkening colours dom.old.view }
+    requires meanings { IsPermutation colours }
+    requires inside { IsInHeap heap.now.config at }
+    requires may { KeyMay dom.old.view at }
+    ensures here { IsIn dom.new heap.now }
+    ensures looked { dom.new.view ≡ with_share dom.old.view (after_key result dom.old.view.seen.share) }
+{
+    let word = key_load(heap, dom, at);
+    let Value::Ref(address) = read_as(Reading::AsValue, word) else {
+        return true;
+    };
+    let head = key_look(heap, dom, address);
+    is_marked(head, colours)
+}
+
+// Looks at the keys of a marked ephemeron in order, up to the first full one whose block isn't marked.
+// Answers whether there is none.
+fn keys_are_marked(heap: &Heap, dom: &mut Domain, at: u32, keys: u32, colours: Colours) -> bool
+    requires here { IsIn dom.old heap.now }
+    requires darkening { Darkening colours dom.old.view }
+    requires meanings { IsPermutation colours }
+    requires low { 1 ≤ at }
+    requires high { at + keys + 2 ≤ heap_words heap.now.config }
+    requires begins { dom.old.view.seen.share.scan ≡ Keys at 0 keys }
+    ensures here { IsIn dom.new heap.now }
+    ensures looked { dom.new.view ≡ with_share dom.old.view (after_keys result at keys dom.old.view.seen.share) }
+{
+    let _limits = heap.config();
+    for i in 0..keys {
+        if !key_is_marked(heap, dom, at + 3 + i, colours) {
+            return false;
+        }
+    }
+    true
+}
+
+// Marks the block that the datum of an ephemeron refers to, if it refers to one. All full keys of the
+// ephemeron are marked. Answers whether this domain has marked the block.
+fn mark_datum(heap: &Heap, dom: &mut Domain, at: u32, colours: Colours) -> bool
+    requires here { IsIn dom.old heap.now }
+    requires darkening { Darkening colours dom.old.view }
+    requires meanings { IsPermutation colours }
+    requires low { 1 ≤ at }
+    requires high { at + 2 ≤ heap_words heap.now.config }
+    requires done { (count : ℕ) × (dom.old.view.seen.share.scan ≡ Keys at count count) }
+    ensures here { IsIn dom.new heap.now }
+    ensures through { Through at result dom.old.view dom.new.view }
+{
+    let _limits = heap.config();
+    let word = datum_load(heap, dom, at + 2);
+    let Value::Ref(address) = read_as(Reading::AsValue, word) else {
+        return false;
+    };
+    darken(heap, dom, address, colours)
+}
+
+// Looks at a listed ephemeron, and marks what its datum refers to where it is to be marked: the
+// ephemeron is, and so are all its full keys. Answers whether this domain has marked a block.
+fn look_at(heap: &Heap, dom: &mut Domain, at: u32, colours: Colours) -> bool
+    requires here { IsIn dom.old heap.now }
+    requires darkening { Darkening colours dom.old.view }
+    requires meanings { IsPermutation colours }
+    requires idle { dom.old.view.seen.share.scan ≡ Idle }
+    requires inside { IsInHeap heap.now.config at }
+    requires listed { IsTrue (seen_by dom.old.view.own.ephemerons.items at) }
+    ensures here { IsIn dom.new heap.now }
+    ensures through { Through at result dom.old.view dom.new.view }
+{
+    let word = ephemeron_load(heap, dom, at);
+    let Some(keys) = marked_keys(word, colours) else {
+        return false;
+    };
+    if !keys_are_marked(heap, dom, at, keys, colours) {
+        return false;
+    }
+    mark_datum(heap, dom, at, colours)
+}
+
+// Looks at each listed ephemeron once. Answers whether this domain has marked a block.
+fn look_through(heap: &Heap, dom: &mut Domain, colours: Colours) -> bool
+    requires here { IsIn dom.old heap.now }
+    requires darkening { Darkening colours dom.old.view }
+    requires meanings { IsPermutation colours }
+    requires idle { dom.old.view.seen.share.scan ≡ Idle }
+    ensures here { IsIn dom.new heap.now }
+    ensures passed { Passed result dom.old.view dom.new.view }
+{
+    let mut darkened = false;
+    for i in 0..dom.ephemerons_len() {
+        let at = dom.ephemeron_at(i);
+        darkened |= look_at(heap, dom, at, colours);
+    }
+    darkened
+}
+
+// The same again, as long as a block is marked, and at most as often as there are ephemerons: each of
+// their data is marked once.
+fn look_again(heap: &Heap, dom: &mut Domain, colours: Colours)
+    requires here { IsIn dom.old heap.now }
+    requires darkening { Darkening colours dom.old.view }
+    requires meanings { IsPermutation colours }
+    requires idle { dom.old.view.seen.share.scan ≡ Idle }
+    ensures here { IsIn dom.new heap.now }
+    ensures looked { Looked dom.old.view dom.new.view }
+{
+    for _ in 0..dom.ephemerons_len() {
+        if !look_through(heap, dom, colours) {
+            return;
+        }
+    }
+}
+
+/// A domain's share of a phase in which the data of ephemerons are marked: it looks at each listed
+/// ephemeron, and where the ephemeron and all its full keys are marked, it marks what the datum refers
+/// to. It does so again as long as that marks a block, since the block may be a key of another
+/// ephemeron, or one itself. Where it has marked a block it stores so in the changed word. Afterwards it
+/// has been at each listed ephemeron and still owes no store of the changed word, as is asked of it where it
+/// arrives. What it knows of the colours and of blocks is all that has changed.
+///
+/// A datum that was marked is scanned when blocks are marked again ("Retrofitting Parallelism onto
+/// OCaml", section 3.2.3).
+pub fn round(heap: &Heap, dom: &mut Domain)
+    requires here { IsIn dom.old heap.now }
+    requires stage { dom.old.view.seen.stage ≡ In Rounds }
+    requires idle { dom.old.view.seen.share.scan ≡ Idle }
+    requires told { dom.old.view.seen.share.owes ≡ false }
+    ensures here { IsIn dom.new heap.now }
+    ensures looked { AllLooked dom.old.view dom.new.view }
+{
+    let colours = colours_now(heap, dom);
+    if look_through(heap, dom, colours) {
+        look_again(heap, dom, colours);
+        changed_store(heap, dom);
+    }
+}

@@ -1,0 +1,5 @@
+pub mod EmptiedKeys
+pub mod Emptying
+pub mod KeySteps
+pub mod DatumSteps
+pub mod Plain
