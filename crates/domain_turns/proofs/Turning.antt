@@ -65,10 +65,6 @@ next_running r is c at = by r.ended refl where
   by false e = e
   by true e = absurd (let done = is.done e in let below = inside r.commands r.next c at in let n : ℕ = r.next in omega arith)
 
--- there is room for the reply of the next command
-pub reply_fits : (r : RunView) → IsRun r → (c : model.Command) → slice_get r.commands r.next ≡ Some c → (capacity : ℕ) → length r.commands ≤ capacity → length r.replies < capacity
-reply_fits r is c at capacity room = let each : length r.replies ≡ r.next = is.each in let below : r.next < length r.commands = inside r.commands r.next c at in omega arith
-
 labels_few : (c : model.Command) (r : Reply) → labels_given c r ≤ 1
 labels_few (Alloc dst tag fields) (Block l) = omega arith
 labels_few (AllocMaj dst tag fields) (Block l) = omega arith

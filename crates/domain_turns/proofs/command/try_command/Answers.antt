@@ -8,3 +8,12 @@ returns-in-Alloc c = record { answer = subst (λ (command : Command). AttemptAns
 
 pub returns-in-AllocMaj : goal.returns-in-AllocMaj
 returns-in-AllocMaj c = record { answer = subst (λ (command : Command). AttemptAnswers c.args.heap.now c.args.dom.now c.alloc_in_pools.new.dom command c.args.served c.args.collected c.alloc_in_pools.result) (sym c.in-AllocMaj.is) (c.alloc_in_pools.ensures c.args.served) }
+
+pub returns-in-Ephe : goal.returns-in-Ephe
+returns-in-Ephe c = record { answer = subst (λ (command : Command). AttemptAnswers c.args.heap.now c.args.dom.now c.create_in_pools.new.dom command c.args.served c.args.collected c.create_in_pools.result) (sym c.in-Ephe.is) (c.create_in_pools.ensures c.args.served) }
+
+pub returns-in-Store : goal.returns-in-Store
+returns-in-Store c = record { answer = c.try_store.ensures c.args.served c.args.collected }
+
+pub returns-in_default : goal.returns-in_default
+returns-in_default c = record { answer = c.try_call.ensures c.args.served c.args.collected }
