@@ -8,7 +8,7 @@ use Rattle.heap_rule.specs.Opening.{opening_token}
 use Rattle.heap_rule.specs.Phases.{IsEven}
 use Rattle.heap_rule.specs.Pools.{prepared_at}
 use Rattle.heap_rule.specs.Token.{Token, SharedHeap}
-use Rattle.domain_turns.specs.Runs.{AllFit, CanBegin, IsBetween}
+use Rattle.domain_turns.specs.Runs.{AllFit, CanBegin, IsBetween, ephemerons_in}
 
 nothing_prepared : (n class : ℕ) → ◌≡◌ {A = Option ℕ} (slice_index_or (replicate n None) class None) None
 nothing_prepared zero class = refl
@@ -35,9 +35,9 @@ not_ended zero d h = absurd (omega arith)
 not_ended (suc n) zero h = refl
 not_ended (suc n) (suc d) h = not_ended n d (omega arith)
 
--- a domain of a heap that has just started may begin commands that fit
-pub opening_begins : (h : SharedHeap) (k : Config) (d : ℕ) (cs : List Command) → d < k.domains → length cs ≤ 200000 → AllFit cs → CanBegin (opening_token h.table k d) cs
-opening_begins h k d cs inside few fit = record {
+-- a domain of a heap that has just started may begin commands that fit, and for whose ephemerons there is room
+pub opening_begins : (h : SharedHeap) (k : Config) (d : ℕ) (cs : List Command) → d < k.domains → length cs ≤ 200000 → AllFit cs → ephemerons_in cs ≤ k.ephes → CanBegin (opening_token h.table k d) cs
+opening_begins h k d cs inside few fit room = record {
   inside = inside;
   acts = record { goes_on = not_ended k.domains d inside; runs = refl };
   idle = refl;
@@ -46,6 +46,7 @@ opening_begins h k d cs inside few fit = record {
   no_replies = refl;
   few = few;
   fit = fit;
+  room = room;
   labels = omega arith;
   even = refl;
   remembers = refl;

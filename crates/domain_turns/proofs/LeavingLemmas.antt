@@ -1,5 +1,5 @@
 -- What the look of a domain that has arrived leaves of its run.
-use Rattle.std.proofs.Common.{◌≡◌, ◌≢◌, ◌∙◌, ℕ, ◌+◌, ◌<◌, Bool, true, List, Option, Some, refl, sym, ap, subst, inl, ⊎_elim}
+use Rattle.std.proofs.Common.{◌≡◌, ◌≢◌, ◌∙◌, ℕ, ◌+◌, ◌<◌, ◌≤◌, Bool, true, List, Option, Some, refl, sym, ap, subst, inl, ⊎_elim, arith}
 use Rattle.heap_model.specs.declared.entry.Entry.{Entry}
 use Rattle.heap_model.specs.declared.entry.Entry.TheVariants.{Collected}
 use Rattle.heap_model.specs.declared.state.State as model
@@ -24,7 +24,7 @@ use Rattle.heap_rule.specs.Views.{fresh_share}
 use Rattle.steps_pauses.specs.Pauses.{kind_in, arrived_view, noted, cut_in, entry_of, EndsWith, IsModeOf}
 use Rattle.steps_promote.specs.Promotion.{reset_view}
 use Rattle.safepoint.specs.Looks.{Passed}
-use Rattle.cycle_phases.specs.Sharing.{SharesIn, with_looked}
+use Rattle.cycle_phases.specs.Sharing.{SharesIn, with_shared}
 use Rattle.cycle_phases.specs.Leading.{LeadsOn}
 use Rattle.domain_turns.specs.Tries.{IsFresh}
 use Rattle.domain_turns.specs.Pausing.{IsQuiet, IsPast, IsReady, HasLeft, IsMarking, KnowsAnswer, KnowsCut, LeavesEven, LeavesOdd, ComesToAnswer, GivesBack, knowing_blocks}
@@ -39,6 +39,7 @@ some_injective a b e = cc
 pub record Leaves (x y : DomainView) (kind : Kind) : Type 0 where
   pub number : y.own.number ≡ x.own.number
   pub serial : y.own.serial ≡ x.own.serial
+  pub room : x.own.ephemerons.room ≤ y.own.ephemerons.room
   pub arrivals : y.own.arrivals ≡ x.own.arrivals + 1
   pub made : y.seen.made ≡ x.seen.made
   pub hunt : x.seen.hunt ≡ Rests → y.seen.hunt ≡ Rests
@@ -46,11 +47,12 @@ pub record Leaves (x y : DomainView) (kind : Kind) : Type 0 where
   pub front : IsFrontOf x.own.number y.seen.front x.seen.front
 
 -- it arrived from a view that has all but what its share changed
-arrived_leaves : (x y z : DomainView) (kind : Kind) → y ≡ arrived_view z → z.own.number ≡ x.own.number → z.own.serial ≡ x.own.serial → z.own.arrivals ≡ x.own.arrivals → z.seen.made ≡ x.seen.made → (x.seen.hunt ≡ Rests → z.seen.hunt ≡ Rests)
+arrived_leaves : (x y z : DomainView) (kind : Kind) → y ≡ arrived_view z → z.own.number ≡ x.own.number → z.own.serial ≡ x.own.serial → x.own.ephemerons.room ≤ z.own.ephemerons.room → z.own.arrivals ≡ x.own.arrivals → z.seen.made ≡ x.seen.made → (x.seen.hunt ≡ Rests → z.seen.hunt ≡ Rests)
     → kind_in z.seen.stage ≡ kind → IsFrontOf x.own.number z.seen.front x.seen.front → Leaves x y kind
-arrived_leaves x y z kind is number serial arrivals made hunt stage front = record {
+arrived_leaves x y z kind is number serial room arrivals made hunt stage front = record {
   number = ap (λ (v : DomainView). v.own.number) is ∙ number;
   serial = ap (λ (v : DomainView). v.own.serial) is ∙ serial;
+  room = subst (λ (v : DomainView). x.own.ephemerons.room ≤ v.own.ephemerons.room) (sym is) room;
   arrivals = ap (λ (v : DomainView). v.own.arrivals) is ∙ ap (λ (n : ℕ). n + 1) arrivals;
   made = ap (λ (v : DomainView). v.seen.made) is ∙ made;
   hunt = λ at_rest. ap (λ (v : DomainView). v.seen.hunt) is ∙ hunt at_rest;
@@ -58,10 +60,14 @@ arrived_leaves x y z kind is number serial arrivals made hunt stage front = reco
   front = subst (λ (f : List Entry). IsFrontOf x.own.number f x.seen.front) (sym (ap (λ (v : DomainView). v.seen.front) is)) front;
 }
 
+no_less : (n : ℕ) → n ≤ n
+no_less n = omega arith
+
 -- a view that is the one at the begin of the phase, but for what a share changes
 record Same (b z : DomainView) : Type 0 where
   number : z.own.number ≡ b.own.number
   serial : z.own.serial ≡ b.own.serial
+  room : b.own.ephemerons.room ≤ z.own.ephemerons.room
   arrivals : z.own.arrivals ≡ b.own.arrivals
   made : z.seen.made ≡ b.seen.made
   hunt : b.seen.hunt ≡ Rests → z.seen.hunt ≡ Rests
@@ -72,20 +78,19 @@ begun_leaves k x b y z kind p s is stage =
     let number : b.own.number ≡ x.own.number = ap (λ (v : DomainView). v.own.number) p.view in arrived_leaves x y z kind is
     (s.number ∙ number)
     (s.serial ∙ ap (λ (v : DomainView). v.own.serial) p.view)
+    (subst (λ (n : ℕ). n ≤ z.own.ephemerons.room) (ap (λ (v : DomainView). v.own.ephemerons.room) p.view) s.room)
     (s.arrivals ∙ ap (λ (v : DomainView). v.own.arrivals) p.view)
     (s.made ∙ ap (λ (v : DomainView). v.seen.made) p.view)
     (λ at_rest. s.hunt (ap (λ (v : DomainView). v.seen.hunt) p.view ∙ at_rest))
     stage
     (front_trans x.own.number z.seen.front b.seen.front x.seen.front (subst (λ (d : ℕ). IsFrontOf d z.seen.front b.seen.front) number s.front) p.seen)
 
-same_looked : (b y : DomainView) → Same b (with_looked b y.own.looked)
-same_looked b y = record { number = refl; serial = refl; arrivals = refl; made = refl; hunt = λ at_rest. at_rest; front = front_whole b.own.number b.seen.front }
-
 same_self : (b : DomainView) → Same b b
-same_self b = record { number = refl; serial = refl; arrivals = refl; made = refl; hunt = λ at_rest. at_rest; front = front_whole b.own.number b.seen.front }
+same_self b = record { number = refl; serial = refl; room = no_less b.own.ephemerons.room; arrivals = refl; made = refl; hunt = λ at_rest. at_rest; front = front_whole b.own.number b.seen.front }
 
 shares_leaves : (k : Config) (x b y : DomainView) (kind : Kind) → Passed k x b → b.seen.stage ≡ In kind → SharesIn kind b y → Leaves x y kind
-shares_leaves k x b y kind p stage l = begun_leaves k x b y (with_looked b y.own.looked) kind p (same_looked b y) l.view (ap kind_in stage)
+shares_leaves k x b y kind p stage l =
+    begun_leaves k x b y (with_shared b y) kind p (record { number = refl; serial = refl; room = l.room; arrivals = refl; made = refl; hunt = λ at_rest. at_rest; front = l.front }) l.view (ap kind_in stage)
 
 even_leaves : (k : Config) (x b y : DomainView) (kind : Kind) → Passed k x b → b.seen.stage ≡ In kind → LeavesEven k kind b y → Leaves x y kind
 even_leaves k x b y Run p stage l = absurd l
@@ -95,13 +100,14 @@ even_leaves k x b y Promote p stage l =
     (record {
       number = ap (λ (z : DomainView). z.own.number) v;
       serial = ap (λ (z : DomainView). z.own.serial) v;
+      room = subst (λ (z : DomainView). b.own.ephemerons.room ≤ z.own.ephemerons.room) (sym v) (no_less b.own.ephemerons.room);
       arrivals = ap (λ (z : DomainView). z.own.arrivals) v;
       made = ap (λ (z : DomainView). z.seen.made) v;
       hunt = λ _. l.shared.at_rest;
       front = subst (λ (f : List Entry). IsFrontOf b.own.number f b.seen.front) (sym (ap (λ (z : DomainView). z.seen.front) v)) (front_whole b.own.number b.seen.front);
     })
     l.view (ap (λ (z : DomainView). kind_in z.seen.stage) v ∙ ap kind_in stage)
-even_leaves k x b y Reset p stage l = begun_leaves k x b y (reset_view b) Reset p (record { number = refl; serial = refl; arrivals = refl; made = refl; hunt = λ at_rest. at_rest; front = front_whole b.own.number b.seen.front }) l.view (ap kind_in stage)
+even_leaves k x b y Reset p stage l = begun_leaves k x b y (reset_view b) Reset p (record { number = refl; serial = refl; room = no_less b.own.ephemerons.room; arrivals = refl; made = refl; hunt = λ at_rest. at_rest; front = front_whole b.own.number b.seen.front }) l.view (ap kind_in stage)
 even_leaves k x b y Answer p stage l = absurd l
 even_leaves k x b y Roots p stage l = shares_leaves k x b y Roots p stage l
 even_leaves k x b y Mark p stage l = shares_leaves k x b y Mark p stage l
@@ -119,7 +125,7 @@ leading_view b y last kind = record b { seen = record b.seen { front = y.seen.fr
 odd_leaves : (k : Config) (x b y : DomainView) (last kind : Kind) → Passed k x b → b.seen.stage ≡ Leads last → LeavesOdd k b y last kind → Leaves x y kind
 odd_leaves k x b y last kind p stage l = ⊎_elim
     (λ (leads : (b.own.number ≡ 0) × LeadsOn k b y last kind). begun_leaves k x b y (leading_view b y last kind) kind p
-    (record { number = refl; serial = refl; arrivals = refl; made = refl; hunt = λ at_rest. at_rest; front = leads.1.seen }) leads.1.view refl)
+    (record { number = refl; serial = refl; room = no_less b.own.ephemerons.room; arrivals = refl; made = refl; hunt = λ at_rest. at_rest; front = leads.1.seen }) leads.1.view refl)
     (λ (follows : (b.own.number ≢ 0) × (kind ≡ last) × (y ≡ arrived_view b)). begun_leaves k x b y b kind p (same_self b) follows.2 (ap kind_in stage ∙ sym follows.1)) l
 
 pub passes_leaves : (k : Config) (x y : DomainView) (last kind : Kind) → Passes k x y last kind → Leaves x y kind
@@ -247,7 +253,7 @@ answer_between h x begun new front asked collected cut i quiet c is fresh = reco
 pub gives_moves : (h : SharedHeap) (old new : Token) (blocks : ℕ) → IsIn old h → IsIn new h → GivesBack h.config old.view new.view blocks → Moves old new
 gives_moves h old new blocks a i g =
     let number : g.begun.own.number ≡ old.view.own.number = ap (λ (z : DomainView). z.own.number) g.comes.passed.view in
-    view_moves h old new (arrived_view (knowing_blocks g.begun blocks)) a i g.view number (ap (λ (z : DomainView). z.own.serial) g.comes.passed.view) (ap (λ (z : DomainView). z.seen.made) g.comes.passed.view) (ap (λ (z : DomainView). z.seen.hunt) g.comes.passed.view) g.comes.passed.seen
+    view_moves h old new (arrived_view (knowing_blocks g.begun blocks)) a i g.view number (ap (λ (z : DomainView). z.own.serial) g.comes.passed.view) (ap (λ (z : DomainView). z.own.ephemerons) g.comes.passed.view) (ap (λ (z : DomainView). z.seen.made) g.comes.passed.view) (ap (λ (z : DomainView). z.seen.hunt) g.comes.passed.view) g.comes.passed.seen
 
 pub gives_between : (h : SharedHeap) (old new : Token) (blocks : ℕ) (asked : Option ℕ) (collected cut : Bool) → IsIn new h → IsQuiet old.view → GivesBack h.config old.view new.view blocks → IsBetween (Some Answer) asked collected cut new
 gives_between h old new blocks asked collected cut i quiet g = answer_between h old.view g.begun new g.begun.seen.front asked collected cut i quiet g.comes g.view
@@ -260,6 +266,7 @@ passes_moves h old new before kind a i says =
       config = i.1 ∙ sym a.1;
       number = l.number;
       serial = l.serial;
+      room = l.room;
       made = l.made;
       hunt = l.hunt;
       front = l.front;

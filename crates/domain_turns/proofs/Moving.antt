@@ -1,5 +1,5 @@
 -- A run whose domain moved in the phases, and made no entry.
-use Rattle.std.proofs.Common.{◌≡◌, ◌∙◌, ℕ, ◌+◌, ◌<◌, ◌≤◌, Bool, true, false, List, [], ◌∷◌, ◌++◌, append-nil, refl, sym, ap, subst, Option}
+use Rattle.std.proofs.Common.{◌≡◌, ◌∙◌, ℕ, ◌+◌, ◌<◌, ◌≤◌, Bool, true, false, List, [], ◌∷◌, ◌++◌, append-nil, refl, sym, ap, subst, Option, arith, drop}
 use Rattle.std.specs.Prelude.{IsTrue, ◌||◌}
 use Rattle.std.specs.List.{list_any}
 use Rattle.heap_model.specs.declared.entry.Entry.{Entry}
@@ -14,13 +14,15 @@ use Rattle.heap_rule.specs.declared.view.DomainView.{DomainView}
 use Rattle.heap_rule.specs.Limits.{sizes_in}
 use Rattle.heap_rule.specs.Token.{Token, SharedHeap, IsIn}
 use Rattle.heap_rule.specs.declared.view.Hunt.TheVariants.{Rests}
-use Rattle.domain_turns.specs.Runs.{RunView, IsRun, IsBetween, is_end_of}
+use Rattle.domain_turns.specs.Runs.{RunView, IsRun, IsBetween, ephemerons_in, is_end_of}
+use Rattle.remembered_set.specs.Bounded.{Bounded}
 
--- the domain made no entry, and has the labels and the block in the making that it had
+-- the domain made no entry, has the labels and the block in the making that it had, and room for as many ephemerons or more
 pub record Moves (old new : Token) : Type 0 where
   pub config : new.config ≡ old.config
   pub number : new.view.own.number ≡ old.view.own.number
   pub serial : new.view.own.serial ≡ old.view.own.serial
+  pub room : old.view.own.ephemerons.room ≤ new.view.own.ephemerons.room
   pub made : new.view.seen.made ≡ old.view.seen.made
   pub hunt : old.view.seen.hunt ≡ Rests → new.view.seen.hunt ≡ Rests
   pub front : IsFrontOf old.view.own.number new.view.seen.front old.view.seen.front
@@ -32,6 +34,12 @@ any_append p (x ∷ xs) ys is = more (p x) (list_any p xs) (list_any p (xs ++ ys
     more : (a b c : Bool) → (IsTrue b → IsTrue c) → IsTrue (a || b) → IsTrue (a || c)
     more true b c f h = refl
     more false b c f h = f h
+
+at_most : (a b c : ℕ) → a ≤ b → b ≤ c → a ≤ c
+at_most a b c ab bc = omega arith
+
+same_room : (a b : Bounded ℕ) → b ≡ a → a.room ≤ b.room
+same_room a b is = let rooms : b.room ≡ a.room = ap (λ (l : Bounded ℕ). l.room) is in omega arith
 
 pub moved_is_run : (r : RunView) (new : Token) (left : Option Kind) (asked : Option ℕ) (collected cut : Bool) → IsRun r → Moves r.token new → IsBetween left asked collected cut new → IsRun (record r { token = new; left = left; asked = asked; collected = collected; cut = cut })
 moved_is_run r new left asked collected cut is m between =
@@ -52,6 +60,7 @@ moved_is_run r new left asked collected cut is m between =
       within = is.within;
       few = is.few;
       fit = is.fit;
+      room = at_most (ephemerons_in (drop r.next r.commands)) r.token.view.own.ephemerons.room new.view.own.ephemerons.room is.room m.room;
       idle = m.made ∙ is.idle;
       at_rest = m.hunt is.at_rest;
       goes_on = λ running. subst (λ (x : ℕ × Config). (Rattle.heap_model.specs.Domains.domain_at (state_after (opening (sizes_in x.1)) new.view.seen.front) x.0).ended ≡ false) (λ i. (sym m.number i, sym m.config i))
@@ -69,22 +78,23 @@ token_is h old new view a b is = λ i. record { table = (b.0 ∙ sym a.0) i; con
 same_front : (d : ℕ) (front : List Entry) → IsFrontOf d front front
 same_front d front = record { rest = []; appends = sym (append-nil front); others = refl }
 
--- the domain moved to a view with the same number, labels and block in the making
-pub view_moves : (h : SharedHeap) (old new : Token) (y : DomainView) → IsIn old h → IsIn new h → new.view ≡ y → y.own.number ≡ old.view.own.number → y.own.serial ≡ old.view.own.serial → y.seen.made ≡ old.view.seen.made → y.seen.hunt ≡ old.view.seen.hunt
+-- the domain moved to a view with the same number, labels, listed ephemerons and block in the making
+pub view_moves : (h : SharedHeap) (old new : Token) (y : DomainView) → IsIn old h → IsIn new h → new.view ≡ y → y.own.number ≡ old.view.own.number → y.own.serial ≡ old.view.own.serial → y.own.ephemerons ≡ old.view.own.ephemerons → y.seen.made ≡ old.view.seen.made → y.seen.hunt ≡ old.view.seen.hunt
     → IsFrontOf old.view.own.number y.seen.front old.view.seen.front → Moves old new
-view_moves h old new y a b is number serial made hunt front = record {
+view_moves h old new y a b is number serial listed made hunt front = record {
   config = b.1 ∙ sym a.1;
   number = ap (λ (z : DomainView). z.own.number) is ∙ number;
   serial = ap (λ (z : DomainView). z.own.serial) is ∙ serial;
+  room = same_room old.view.own.ephemerons new.view.own.ephemerons (ap (λ (z : DomainView). z.own.ephemerons) is ∙ listed);
   made = ap (λ (z : DomainView). z.seen.made) is ∙ made;
   hunt = λ at_rest. ap (λ (z : DomainView). z.seen.hunt) is ∙ (hunt ∙ at_rest);
   front = subst (λ (z : DomainView). IsFrontOf old.view.own.number z.seen.front old.view.seen.front) (sym is) front;
 }
 
 -- and has the same front
-pub still_moves : (h : SharedHeap) (old new : Token) (y : DomainView) → IsIn old h → IsIn new h → new.view ≡ y → y.own.number ≡ old.view.own.number → y.own.serial ≡ old.view.own.serial → y.seen.made ≡ old.view.seen.made → y.seen.hunt ≡ old.view.seen.hunt
+pub still_moves : (h : SharedHeap) (old new : Token) (y : DomainView) → IsIn old h → IsIn new h → new.view ≡ y → y.own.number ≡ old.view.own.number → y.own.serial ≡ old.view.own.serial → y.own.ephemerons ≡ old.view.own.ephemerons → y.seen.made ≡ old.view.seen.made → y.seen.hunt ≡ old.view.seen.hunt
     → y.seen.front ≡ old.view.seen.front → Moves old new
-still_moves h old new y a b is number serial made hunt front = view_moves h old new y a b is number serial made hunt (subst (λ (f : List Entry). IsFrontOf old.view.own.number f old.view.seen.front) (sym front) (same_front old.view.own.number old.view.seen.front))
+still_moves h old new y a b is number serial listed made hunt front = view_moves h old new y a b is number serial listed made hunt (subst (λ (f : List Entry). IsFrontOf old.view.own.number f old.view.seen.front) (sym front) (same_front old.view.own.number old.view.seen.front))
 
 pub front_prefix : (d : ℕ) (new old : List Entry) → IsFrontOf d new old → IsPrefix old new
 front_prefix d new old f = record { rest = f.rest; appends = f.appends }

@@ -66,11 +66,11 @@ pub gives_is_run : (h : SharedHeap) (r : RunView) (new : Token) (last : Kind) (b
 gives_is_run h r new last blocks collected is was here g = moved_is_run r new (Some Answer) r.asked collected (cut_in last r.cut) is (gives_moves h r.token new blocks was here g) (gives_between h r.token new blocks r.asked collected (cut_in last r.cut) here is.between.quiet g)
 
 pub waits_is_run : (h : SharedHeap) (r : RunView) (new : Token) (last : Kind) (b : ℕ) → IsRun r → r.left ≡ Some last → IsIn r.token h → IsIn new h → new.view ≡ noted r.token.view (Barrier b) → IsRun (record r { token = new; left = Some last })
-waits_is_run h r new last b is left was here says = moved_is_run r new (Some last) r.asked r.collected r.cut is (still_moves h r.token new _ was here says refl refl refl refl refl) (waits_between h r.token new last r.asked r.collected r.cut b was here (between_of r last is left) says)
+waits_is_run h r new last b is left was here says = moved_is_run r new (Some last) r.asked r.collected r.cut is (still_moves h r.token new _ was here says refl refl refl refl refl refl) (waits_between h r.token new last r.asked r.collected r.cut b was here (between_of r last is left) says)
 
 -- and the domain runs again after a pause
 pub runs_is_run : (h : SharedHeap) (r : RunView) (new : Token) → IsRun r → IsIn r.token h → IsIn new h → Passed h.config r.token.view new.view → new.view.seen.stage ≡ In Run → IsEven r.token.view.own.arrivals → IsCollected h.config new.view → IsRun (record r { token = new; left = None })
-runs_is_run h r new is was here p stage even c = moved_is_run r new None r.asked r.collected r.cut is (view_moves h r.token new _ was here p.view refl refl refl refl p.seen) record {
+runs_is_run h r new is was here p stage even c = moved_is_run r new None r.asked r.collected r.cut is (view_moves h r.token new _ was here p.view refl refl refl refl refl p.seen) record {
   stands = stage;
   quiet = looked_quiet h.config r.token.view new.view p is.between.quiet;
   even = λ _. subst IsEven (sym (ap (λ (x : DomainView). x.own.arrivals) p.view)) even;

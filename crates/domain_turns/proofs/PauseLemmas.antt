@@ -3,6 +3,7 @@ use Rattle.std.proofs.Common.{◌≡◌, ◌≢◌, ◌∙◌, ℕ, ◌+◌, ◌
 use mathlib.Core.Logic.{dite}
 use native.Mathlib.Decide.{ℕ_discrete}
 use Rattle.remembered_set.specs.Bounded.{Bounded}
+use Rattle.heap_model.specs.declared.entry.Entry.{Entry}
 use Rattle.heap_model.specs.declared.state.Mode.{Mode}
 use Rattle.heap_model.specs.declared.state.Mode.TheVariants.{Sealed, Answer as Answered}
 use Rattle.heap_model.specs.Domains.{domain_at}
@@ -25,7 +26,7 @@ use Rattle.steps_pauses.specs.Pauses.{arrived_view, IsModeOf}
 use Rattle.steps_promote.specs.Promotion.{reset_view}
 use Rattle.promote_claim.specs.Sharing.{Unprepared}
 use Rattle.safepoint.specs.Looks.{Passed}
-use Rattle.cycle_phases.specs.Sharing.{SharesIn, with_looked}
+use Rattle.cycle_phases.specs.Sharing.{SharesIn, with_shared}
 use Rattle.domain_turns.specs.Tries.{IsFresh}
 use Rattle.domain_turns.specs.Pausing.{IsQuiet, IsPast, IsReady, HasLeft, KnowsAnswer, LeavesPromote, LeavesEven, IsCollected}
 
@@ -43,6 +44,9 @@ promote_run e = cc
 
 pub reset_run : Reset ≢ Run
 reset_run e = cc
+
+sweep_clean : Sweep ≢ Clean
+sweep_clean e = cc
 
 -- which kind lies before
 pub before_promote : (a : Kind) → Follows a Promote → a ≡ Run
@@ -234,9 +238,9 @@ later_past k kind x y s void promotes resets runs answer r =
 
 shares_past : (k : Config) (kind : Kind) (x y : DomainView) → SharesIn kind x y → kind ≢ Promote → kind ≢ Reset → kind ≢ Run → IsModeOf kind (state_of k x.seen.front).mode → IsReady k kind x → IsPast k kind y
 shares_past k kind x y l promotes resets runs mode r =
-    later_past k kind x y (keeps_as x y _ l.view refl refl refl refl) (arrived_void y (with_looked x y.own.looked) l.view) promotes resets runs
+    later_past k kind x y (keeps_as x y _ l.view refl refl refl refl) (arrived_void y (with_shared x y) l.view) promotes resets runs
     (λ is mode'. absurd (let m : (state_of k x.seen.front).mode ≡ Sealed = subst (λ (c : Kind). IsModeOf c (state_of k x.seen.front).mode) is mode in
-    let m' : (state_of k x.seen.front).mode ≡ Answered = ap (λ (v : DomainView). (state_of k v.seen.front).mode) (sym l.view) ∙ mode' in
+    let m' : (state_of k x.seen.front).mode ≡ Answered = ap (λ (front : List Entry). (state_of k front).mode) (sym (l.stays (λ (e : kind ≡ Clean). sweep_clean (sym is ∙ e)))) ∙ mode' in
     let clash : Sealed ≡ Answered = sym m ∙ m' in cc)) r
 
 pub even_past : (k : Config) (kind : Kind) (x y : DomainView) → LeavesEven k kind x y → IsModeOf kind (state_of k x.seen.front).mode → IsReady k kind x → IsPast k kind y
@@ -262,11 +266,11 @@ even_quiet k Run x y l q = absurd l
 even_quiet k Promote x y l q = arrived_quiet l.done y l.view l.shared.unprepared
 even_quiet k Reset x y l q = arrived_quiet (reset_view x) y l.view q.unprepared
 even_quiet k Answer x y l q = absurd l
-even_quiet k Roots x y l q = arrived_quiet (with_looked x y.own.looked) y l.view q.unprepared
-even_quiet k Mark x y l q = arrived_quiet (with_looked x y.own.looked) y l.view q.unprepared
-even_quiet k Rounds x y l q = arrived_quiet (with_looked x y.own.looked) y l.view q.unprepared
-even_quiet k Decide x y l q = arrived_quiet (with_looked x y.own.looked) y l.view q.unprepared
-even_quiet k Queued x y l q = arrived_quiet (with_looked x y.own.looked) y l.view q.unprepared
-even_quiet k Clean x y l q = arrived_quiet (with_looked x y.own.looked) y l.view q.unprepared
-even_quiet k Lasts x y l q = arrived_quiet (with_looked x y.own.looked) y l.view q.unprepared
-even_quiet k Sweep x y l q = arrived_quiet (with_looked x y.own.looked) y l.view q.unprepared
+even_quiet k Roots x y l q = arrived_quiet (with_shared x y) y l.view q.unprepared
+even_quiet k Mark x y l q = arrived_quiet (with_shared x y) y l.view q.unprepared
+even_quiet k Rounds x y l q = arrived_quiet (with_shared x y) y l.view q.unprepared
+even_quiet k Decide x y l q = arrived_quiet (with_shared x y) y l.view q.unprepared
+even_quiet k Queued x y l q = arrived_quiet (with_shared x y) y l.view q.unprepared
+even_quiet k Clean x y l q = arrived_quiet (with_shared x y) y l.view q.unprepared
+even_quiet k Lasts x y l q = arrived_quiet (with_shared x y) y l.view q.unprepared
+even_quiet k Sweep x y l q = arrived_quiet (with_shared x y) y l.view q.unprepared

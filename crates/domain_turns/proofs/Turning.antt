@@ -1,5 +1,5 @@
 -- A turn keeps what is true of a run.
-use Rattle.std.proofs.Common.{◌≡◌, ◌∙◌, ℕ, zero, suc, ◌+◌, ◌<◌, ◌≤◌, Bool, true, false, List, [], ◌∷◌, ◌++◌, length, take, slice_get, Some, None, Option, refl, sym, ap, subst, arith, length-append, append-nil, eq-eqb, add-one, ⊎_elim}
+use Rattle.std.proofs.Common.{◌≡◌, ◌∙◌, ℕ, zero, suc, ◌+◌, ◌<◌, ◌≤◌, Bool, true, false, List, [], ◌∷◌, ◌++◌, length, take, drop, slice_get, Some, None, Option, refl, sym, ap, subst, arith, length-append, append-nil, eq-eqb, add-one, ⊎_elim}
 use Rattle.heap_model.specs.declared.command.Command as model
 use Rattle.heap_model.specs.declared.entry.Entry.{Entry}
 use Rattle.heap_model.specs.declared.entry.Entry.TheVariants.{Command as CommandOf, End}
@@ -11,7 +11,7 @@ use Rattle.heap_model.proofs.Histories.AnswerLemmas.{commands_after, replies_aft
 use Rattle.heap_rule.specs.declared.config.Config.{Config}
 use Rattle.heap_rule.specs.Limits.{sizes_in}
 use Rattle.heap_rule.specs.Token.{Token, SharedHeap, IsIn}
-use Rattle.heap_model.specs.declared.command.Command.TheVariants.{PutInt, Alloc, AllocMaj, FullMajor}
+use Rattle.heap_model.specs.declared.command.Command.TheVariants.{PutInt, Alloc, AllocMaj, Ephe, FullMajor}
 use Rattle.heap_model.specs.Domains.{domain_at}
 use Rattle.heap_model.specs.Fronts.{Answers}
 use Rattle.heap_model.proofs.Histories.AnswerLemmas.{acts_after}
@@ -24,10 +24,10 @@ use Rattle.domain_turns.specs.Pausing.{AnswersLive}
 use Rattle.domain_turns.proofs.LeavingLemmas.{answer_between}
 use Rattle.heap_rule.specs.declared.view.Own.{Own}
 use Rattle.heap_rule.specs.declared.view.DomainView.{DomainView}
-use Rattle.domain_turns.specs.Tries.{Enters, Stands, Tried, labels_given}
+use Rattle.domain_turns.specs.Tries.{Enters, Stands, Tried, ephemerons_of, labels_given, listed_by}
 use Rattle.heap_rule.specs.declared.phase.Kind.{Kind}
 use Rattle.heap_rule.specs.Phases.{IsEven}
-use Rattle.domain_turns.specs.Runs.{RunView, IsBetween, IsRun, HasEnded, is_end_of, served_since}
+use Rattle.domain_turns.specs.Runs.{RunView, IsBetween, IsRun, HasEnded, ephemerons_in, is_end_of, served_since}
 use Rattle.domain_turns.proofs.PauseLemmas.{quiet_as}
 use Rattle.std.specs.List.{list_any}
 use Rattle.std.specs.Prelude.{cond, IsTrue, ◌||◌}
@@ -36,6 +36,11 @@ take_next : (cs : List model.Command) (n : ℕ) (c : model.Command) → slice_ge
 take_next [] n c at = cc
 take_next (x ∷ xs) zero c at = let is : x ≡ c = cc in ap (λ (y : model.Command). y ∷ []) is
 take_next (x ∷ xs) (suc n) c at = ap (λ (ys : List model.Command). x ∷ ys) (take_next xs n c at)
+
+drop_next : (cs : List model.Command) (n : ℕ) (c : model.Command) → slice_get cs n ≡ Some c → ephemerons_in (drop n cs) ≡ ephemerons_of c + ephemerons_in (drop (suc n) cs)
+drop_next [] n c at = cc
+drop_next (x ∷ xs) zero c at = let is : x ≡ c = cc in ap (λ (y : model.Command). ephemerons_of y + ephemerons_in xs) is
+drop_next (x ∷ xs) (suc n) c at = drop_next xs n c at
 
 pub inside : (cs : List model.Command) (n : ℕ) (c : model.Command) → slice_get cs n ≡ Some c → n < length cs
 inside [] n c at = cc
@@ -49,6 +54,7 @@ own d c full = ap (λ (b : Bool). cond b (c ∷ []) []) (eq-eqb d d refl)
 pub stood : (h : SharedHeap) (old new : Token) (c : model.Command) (collected : Bool) (r : Reply) → Stands h old new c collected r → (full : Bool) × Enters old new c full r
 stood h old new (Alloc dst tag fields) collected r s = ⊎_elim (λ a. (false, a.0)) (λ b. (true, b.0)) s
 stood h old new (AllocMaj dst tag fields) collected r s = ⊎_elim (λ a. (false, a.0)) (λ b. (true, b.0)) s
+stood h old new (Ephe dst keys) collected r s = ⊎_elim (λ a. (false, a.0)) (λ b. (true, b.0)) s
 stood h old new (PutInt dst z) collected r s = (false, s)
 stood h old new c collected r s = (false, s)
 
@@ -62,7 +68,25 @@ next_running r is c at = by r.ended refl where
 labels_few : (c : model.Command) (r : Reply) → labels_given c r ≤ 1
 labels_few (Alloc dst tag fields) (Block l) = omega arith
 labels_few (AllocMaj dst tag fields) (Block l) = omega arith
+labels_few (Ephe dst keys) (Block l) = omega arith
 labels_few c r = omega arith
+
+-- a command leaves room for as many ephemerons as there was room for besides its own
+room_left : (c : model.Command) (r : Reply) (old new : Own) (n : ℕ) → ephemerons_of c + n ≤ old.ephemerons.room → n ≤ (listed_by c r old new).room
+room_left (Ephe dst keys) (Block l) old new n fits = omega arith
+room_left (Ephe dst keys) r old new n fits = omega arith
+room_left c r old new n fits = omega arith
+
+none_more : (n room : ℕ) → 0 + n ≤ room → n ≤ room
+none_more n room fits = omega arith
+
+-- the domain has room for an ephemeron that the next command makes
+pub next_room : (r : RunView) → IsRun r → (c : model.Command) → slice_get r.commands r.next ≡ Some c → ephemerons_of c ≤ r.token.view.own.ephemerons.room
+next_room r is c at =
+    let all = drop_next r.commands r.next c at in
+    let room = is.room in
+    let rest : ℕ = ephemerons_in (drop (suc r.next) r.commands) in
+    omega arith
 
 -- after the try of a command the domain runs on
 tried_between : (h : SharedHeap) (old new : Token) (c : model.Command) (reply : Reply) (asked : Option ℕ) (collected cut : Bool) → IsBetween None asked collected cut old → Tried h old new c collected reply → IsBetween None None false cut new
@@ -96,6 +120,7 @@ record HasMade (old new : Token) (c : model.Command) (full : Bool) (reply : Repl
   config : new.config ≡ old.config
   number : new.view.own.number ≡ old.view.own.number
   serial : new.view.own.serial ≤ old.view.own.serial + 1
+  room : (n : ℕ) → ephemerons_of c + n ≤ old.view.own.ephemerons.room → n ≤ new.view.own.ephemerons.room
   idle : new.view.seen.made ≡ []
   at_rest : new.view.seen.hunt ≡ Rests
   answers : Answers (sizes_in old.config) old.view.own.number old.view.seen.front new.view.seen.front (CommandOf old.view.own.number c full) (Replied reply)
@@ -120,6 +145,8 @@ made_is_run r new c full reply left cut is running at m between =
       within = let below = inside r.commands r.next c at in omega arith;
       few = is.few;
       fit = is.fit;
+      room = subst (λ (n : ℕ). ephemerons_in (drop n r.commands) ≤ new.view.own.ephemerons.room) (sym (add-one r.next))
+          (m.room (ephemerons_in (drop (suc r.next) r.commands)) (subst (λ (n : ℕ). n ≤ r.token.view.own.ephemerons.room) (drop_next r.commands r.next c at) is.room));
       idle = m.idle;
       at_rest = m.at_rest;
       goes_on = λ _. subst (λ (z : ℕ × Config). (domain_at (state_of z.1 new.view.seen.front) z.0).ended ≡ false) (λ i. (sym m.number i, sym m.config i))
@@ -137,7 +164,7 @@ tried_is_run h r new c reply is running left at t =
     let few = labels_few c reply in
     let serial : new.view.own.serial ≡ r.token.view.own.serial + labels_given c reply = ap (λ (o : Own). o.serial) t.own in
     made_is_run r new c st.0 reply r.left r.cut is running at
-    record { config = t.heap.1; number = ap (λ (o : Own). o.number) t.own; serial = omega (arith, serial, few); idle = t.runs.idle; at_rest = t.runs.at_rest; answers = st.1 }
+    record { config = t.heap.1; number = ap (λ (o : Own). o.number) t.own; serial = omega (arith, serial, few); room = λ n fits. subst (λ (o : Own). n ≤ o.ephemerons.room) (sym t.own) (room_left c reply r.token.view.own new.view.own n fits); idle = t.runs.idle; at_rest = t.runs.at_rest; answers = st.1 }
     (subst (λ (l : Option Kind). IsBetween l None false r.cut new) (sym left) (tried_between h r.token new c reply r.asked r.collected r.cut (subst (λ (l : Option Kind). IsBetween l r.asked r.collected r.cut r.token) left is.between) t))
 
 -- the same where a collection is answered by the reply of a `full_major`
@@ -158,6 +185,7 @@ answered_is_run h r new reply last is running at was here a =
       config = config;
       number = ap (λ (o : Own). o.number) own ∙ ap (λ (x : DomainView). x.own.number) passed;
       serial = omega (arith, serial);
+      room = λ n fits. subst (λ (o : Own). n ≤ o.ephemerons.room) (sym own) (subst (λ (x : DomainView). n ≤ x.own.ephemerons.room) (sym passed) (none_more n r.token.view.own.ephemerons.room fits));
       idle = ap (λ (x : DomainView). x.seen.made) a.view ∙ (ap (λ (x : DomainView). x.seen.made) passed ∙ is.idle);
       at_rest = ap (λ (x : DomainView). x.seen.hunt) a.view ∙ (ap (λ (x : DomainView). x.seen.hunt) passed ∙ is.at_rest);
       answers = subst (λ (k : Config). Answers (sizes_in k) r.token.view.own.number r.token.view.seen.front new.view.seen.front entry (Replied reply)) (sym was.1) answers;
@@ -190,6 +218,7 @@ ended_is_run h r new is left whole t =
       within = is.within;
       few = is.few;
       fit = is.fit;
+      room = subst (λ (x : DomainView). ephemerons_in (drop r.next r.commands) ≤ x.own.ephemerons.room) (sym t.view) is.room;
       idle = ap (λ (x : DomainView). x.seen.made) t.view ∙ is.idle;
       at_rest = ap (λ (x : DomainView). x.seen.hunt) t.view ∙ is.at_rest;
       goes_on = λ running. cc;

@@ -1,5 +1,5 @@
 -- A domain's trace on the shared heap, and what a turn does to it.
-use Rattle.std.specs.Prelude.{◌≡◌, ◌≢◌, ◌==◌, ◌&&◌, ℕ, ◌+◌, ◌*◌, ◌%◌, ◌<◌, ◌≤◌, ◌⊎◌, nat_lt, nat_le, Option, None, Bool, true, false, List, [], ◌∷◌, ◌++◌, length, take, replicate, slice_get, Some, IsTrue}
+use Rattle.std.specs.Prelude.{◌≡◌, ◌≢◌, ◌==◌, ◌&&◌, ℕ, ◌+◌, ◌*◌, ◌%◌, ◌<◌, ◌≤◌, ◌⊎◌, nat_lt, nat_le, Option, None, Bool, true, false, List, [], ◌∷◌, ◌++◌, length, take, drop, replicate, slice_get, Some, IsTrue}
 use Rattle.std.specs.List.{list_any}
 use Rattle.heap_model.specs.declared.command.Command as model
 use Rattle.heap_model.specs.declared.entry.Entry.{Entry}
@@ -36,7 +36,7 @@ use Rattle.heap_rule.specs.Limits.{sizes_in}
 use Rattle.heap_rule.specs.Standing.{Acts}
 use Rattle.heap_rule.specs.Token.{Token, SharedHeap, IsIn}
 use Rattle.domain_turns.specs.Pausing.{IsQuiet, HasLeft, KnowsCut, LeavesEven, LeavesOdd, GivesBack, AnswersLive, IsCollected}
-use Rattle.domain_turns.specs.Tries.{FitsHeap, IsFresh, NeedsPause, Refused, Tried, wish_of}
+use Rattle.domain_turns.specs.Tries.{FitsHeap, IsFresh, NeedsPause, Refused, Tried, ephemerons_of, wish_of}
 
 -- a run: the domain's token, its commands, the place of the next one, its replies, whether its trace has ended, where the domain has arrived from which kind of phase, how often it had arrived when it asked for a pause for the next command, whether the last pause since then was a complete collection that left so many blocks that they may use up the pools, and, for domain 0, whether the collection under way is past its cut
 pub record RunView : Type 0 where
@@ -59,12 +59,17 @@ is_end_of d _ = false
 abbrev pub AllFit : List model.Command → Type 0
 AllFit cs = (i : ℕ) (c : model.Command) → slice_get cs i ≡ Some c → FitsHeap c
 
+-- how many ephemerons the commands make, if none is answered `full`
+abbrev pub ephemerons_in : List model.Command → ℕ
+ephemerons_in [] = 0
+ephemerons_in (c ∷ cs) = ephemerons_of c + ephemerons_in cs
+
 -- a pause began and ended since the domain asked: it has arrived since
 abbrev pub served_since : Option ℕ → ℕ → Bool
 served_since None arrivals = false
 served_since (Some at) arrivals = nat_lt at arrivals
 
--- a domain that runs, without an entry so far, may begin these commands. It is in the middle of no pause and of no collection
+-- a domain that runs, without an entry so far, may begin these commands. It has room for the ephemerons that they make, and is in the middle of no pause and of no collection
 pub record CanBegin (t : Token) (cs : List model.Command) : Type 0 where
   pub inside : t.view.own.number < t.config.domains
   pub acts : Acts t.config t.view
@@ -74,6 +79,7 @@ pub record CanBegin (t : Token) (cs : List model.Command) : Type 0 where
   pub no_replies : replies (sizes_in t.config) t.view.seen.front t.view.own.number ≡ []
   pub few : length cs ≤ 200000
   pub fit : AllFit cs
+  pub room : ephemerons_in cs ≤ t.view.own.ephemerons.room
   pub labels : t.view.own.serial ≤ 4000000000
   pub even : t.view.own.arrivals % 2 ≡ 0
   pub remembers : RemembersAll t.view
@@ -97,7 +103,7 @@ pub record IsBetween (left : Option Kind) (asked : Option ℕ) (collected cut : 
   pub fresh : collected ≡ true → IsFresh t.config t.view
   pub knows_cut : (known : Kind) → left ≡ Some known → KnowsCut known cut t.view
 
--- what is true of a run between any two turns: the domain's commands in its front are those before the next, each once and in order, and the replies are theirs
+-- what is true of a run between any two turns: the domain's commands in its front are those before the next, each once and in order, and the replies are theirs. It has room for the ephemerons that the others make
 pub record IsRun (r : RunView) : Type 0 where
   pub inside : r.token.view.own.number < r.token.config.domains
   pub made : commands r.token.view.seen.front r.token.view.own.number ≡ take r.next r.commands
@@ -106,6 +112,7 @@ pub record IsRun (r : RunView) : Type 0 where
   pub within : r.next ≤ length r.commands
   pub few : length r.commands ≤ 200000
   pub fit : AllFit r.commands
+  pub room : ephemerons_in (drop r.next r.commands) ≤ r.token.view.own.ephemerons.room
   pub idle : r.token.view.seen.made ≡ []
   pub at_rest : r.token.view.seen.hunt ≡ AtRest
   pub goes_on : r.ended ≡ false → (domain_at (state_of r.token.config r.token.view.seen.front) r.token.view.own.number).ended ≡ false

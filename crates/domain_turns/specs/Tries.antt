@@ -1,7 +1,7 @@
 -- What the try of a command leaves.
-use Rattle.std.specs.Prelude.{◌≡◌, ℕ, ◌+◌, ◌<◌, ◌≤◌, ◌⊎◌, List, Bool, true, false, Some}
+use Rattle.std.specs.Prelude.{◌≡◌, ℕ, ◌+◌, ◌<◌, ◌≤◌, ◌⊎◌, List, Bool, true, false, Some, None}
 use Rattle.heap_model.specs.declared.command.Command.{Command}
-use Rattle.heap_model.specs.declared.command.Command.TheVariants.{PutInt, Copy, Forget, Alloc, AllocMaj, Load, Store, Poll, Minor, Major, FullMajor}
+use Rattle.heap_model.specs.declared.command.Command.TheVariants.{PutInt, Copy, Forget, Alloc, AllocMaj, Load, Store, Ephe, SetKey, UnsetKey, GetKey, CheckKey, SetData, UnsetData, GetData, CheckData, Poll, Minor, Major, FullMajor}
 use Rattle.heap_model.specs.declared.entry.Entry.{Entry}
 use Rattle.heap_model.specs.declared.entry.Entry.TheVariants.{Command as CommandOf}
 use Rattle.heap_model.specs.declared.reply.Reply.{Reply}
@@ -10,7 +10,8 @@ use Rattle.heap_model.specs.declared.reply.Applied.TheVariants.{Replied}
 use Rattle.domain_turns.specs.declared.command.Attempt.{Attempt}
 use Rattle.domain_turns.specs.declared.command.Attempt.TheVariants.{Made, Needs, NoRoom}
 use Rattle.heap_model.specs.Fronts.{Answers}
-use Rattle.heap_words.specs.declared.value.Value.TheVariants.{Int}
+use Rattle.heap_words.specs.declared.value.Value.{Value}
+use Rattle.heap_words.specs.declared.value.Value.TheVariants.{Int, Ref}
 use Rattle.heap_words.specs.Values.{IsPackable}
 use Rattle.size_classes.specs.Table.{IsLeastFor}
 use Rattle.size_classes.specs.declared.TheConstants.{SIZES}
@@ -22,6 +23,8 @@ use Rattle.remembered_set.specs.Bounded.{Bounded}
 use Rattle.heap_rule.specs.Places.{class_words}
 use Rattle.heap_rule.specs.Changes.{value_at}
 use Rattle.field_access.specs.Remembered.{PutsYoung, field_of, one_more}
+use Rattle.ephemeron_rounds.specs.Words.{word_in}
+use Rattle.steps_pools.specs.Ephemerons.{with_ephemeron}
 use Rattle.heap_rule.specs.Limits.{sizes_in}
 use Rattle.heap_rule.specs.Running.{Runs, Stays}
 use Rattle.steps_pools.specs.Takes.{NoneFree}
@@ -47,19 +50,56 @@ FitsHeap (Alloc dst tag fields) = (dst < 16) × (tag ≤ 245) × (1 ≤ fields) 
 FitsHeap (AllocMaj dst tag fields) = (dst < 16) × (tag ≤ 245) × (1 ≤ fields) × (fields ≤ 126)
 FitsHeap (Load dst src index) = (dst < 16) × (src < 16)
 FitsHeap (Store block index item) = (block < 16) × (item < 16)
+FitsHeap (Ephe dst keys) = (dst < 16) × (1 ≤ keys) × (keys ≤ 8)
+FitsHeap (SetKey ephe index item) = (ephe < 16) × (item < 16)
+FitsHeap (UnsetKey ephe index) = ephe < 16
+FitsHeap (GetKey dst ephe index) = (dst < 16) × (ephe < 16)
+FitsHeap (CheckKey ephe index) = ephe < 16
+FitsHeap (SetData ephe item) = (ephe < 16) × (item < 16)
+FitsHeap (UnsetData ephe) = ephe < 16
+FitsHeap (GetData dst ephe) = (dst < 16) × (ephe < 16)
+FitsHeap (CheckData ephe) = ephe < 16
 FitsHeap Poll = Unit {0}
 FitsHeap Minor = Unit {0}
 FitsHeap Major = Unit {0}
 FitsHeap FullMajor = Unit {0}
 FitsHeap _ = ⊥
 
--- a pause must come first: none has served a `minor` or a `major`, the minor area has no room for the young block, or the domain can't remember one more field. A `full_major` is answered in a pause
+-- how many ephemerons the command makes, if it isn't answered `full`
+abbrev pub ephemerons_of : Command → ℕ
+ephemerons_of (Ephe dst keys) = 1
+ephemerons_of _ = 0
+
+-- a store, after which the domain may have to remember one word more
+abbrev pub IsStore : Command → Type 0
+IsStore (Store block index item) = Unit {0}
+IsStore (SetKey ephe index item) = Unit {0}
+IsStore (SetData ephe item) = Unit {0}
+IsStore _ = ⊥
+
+-- a command for which no pause must come first, and that changes registers at most of what its domain owns
+abbrev pub IsPlainCall : Command → Type 0
+IsPlainCall (PutInt dst value) = Unit {0}
+IsPlainCall (Copy dst src) = Unit {0}
+IsPlainCall (Forget dst) = Unit {0}
+IsPlainCall (Load dst src index) = Unit {0}
+IsPlainCall (UnsetKey ephe index) = Unit {0}
+IsPlainCall (GetKey dst ephe index) = Unit {0}
+IsPlainCall (CheckKey ephe index) = Unit {0}
+IsPlainCall (UnsetData ephe) = Unit {0}
+IsPlainCall (GetData dst ephe) = Unit {0}
+IsPlainCall (CheckData ephe) = Unit {0}
+IsPlainCall _ = ⊥
+
+-- a pause must come first: none has served a `minor` or a `major`, the minor area has no room for the young block, or the domain can't remember one word more. A `full_major` is answered in a pause
 abbrev pub NeedsPause : Config → Own → Bool → Command → Type 0
 NeedsPause k own served Minor = served ≡ false
 NeedsPause k own served Major = served ≡ false
 NeedsPause k own served FullMajor = Unit {0}
 NeedsPause k own served (Alloc dst tag fields) = k.minor_words < own.used + class_words (fields + 2)
 NeedsPause k own served (Store block index item) = own.remembered.room < 1
+NeedsPause k own served (SetKey ephe index item) = own.remembered.room < 1
+NeedsPause k own served (SetData ephe item) = own.remembered.room < 1
 NeedsPause k own served _ = ⊥
 
 -- and which is asked for: a collection of the major heap, a complete one, or one of young blocks
@@ -81,15 +121,15 @@ words_taken _ _ = 0
 abbrev pub Enters : Token → Token → Command → Bool → Reply → Type 0
 Enters old new c full r = Answers (sizes_in old.config) old.view.own.number old.view.seen.front new.view.seen.front (CommandOf old.view.own.number c full) (Replied r)
 
--- no own pool has a free block for so many fields, and the pools that were found free are no more than the reserve of promotion
-pub record HasNoPool (k : Config) (fields : ℕ) (y : DomainView) : Type 0 where
+-- no own pool has a free place for a block of so many words, and the pools that were found free are no more than the reserve of promotion
+pub record HasNoPool (k : Config) (words : ℕ) (y : DomainView) : Type 0 where
   pub free : ℕ
   pub reserved : Reserved k free y
-  pub none_free : (class : ℕ) → IsLeastFor SIZES (fields + 2) class → NoneFree k y class
+  pub none_free : (class : ℕ) → IsLeastFor SIZES words class → NoneFree k y class
 
--- a place for so many fields was found in an own pool, or more pools were found free than the reserve of promotion
+-- a place for a block of so many words was found in an own pool, or more pools were found free than the reserve of promotion
 abbrev pub HasPool : Config → ℕ → DomainView → DomainView → Type 0
-HasPool k fields x y = (class : ℕ) → IsLeastFor SIZES (fields + 2) class → HasPlace k class x y
+HasPool k words x y = (class : ℕ) → IsLeastFor SIZES words class → HasPlace k class x y
 
 -- the minor area has room for a block of so many fields, and as many pools were found free as promotion may need
 pub record HasSpace (h : SharedHeap) (old new : Token) (fields : ℕ) : Type 0 where
@@ -111,14 +151,18 @@ Stands h old new (Alloc dst tag fields) collected r =
     (Enters old new (Alloc dst tag fields) false r × HasSpace h old new fields)
     ⊎ (Enters old new (Alloc dst tag fields) true r × HasNoSpace h old new fields × (collected ≡ true))
 Stands h old new (AllocMaj dst tag fields) collected r =
-    (Enters old new (AllocMaj dst tag fields) false r × HasPool h.config fields old.view new.view)
-    ⊎ (Enters old new (AllocMaj dst tag fields) true r × HasNoPool h.config fields new.view × (collected ≡ true))
+    (Enters old new (AllocMaj dst tag fields) false r × HasPool h.config (fields + 2) old.view new.view)
+    ⊎ (Enters old new (AllocMaj dst tag fields) true r × HasNoPool h.config (fields + 2) new.view × (collected ≡ true))
+Stands h old new (Ephe dst keys) collected r =
+    (Enters old new (Ephe dst keys) false r × HasPool h.config (keys + 3) old.view new.view)
+    ⊎ (Enters old new (Ephe dst keys) true r × HasNoPool h.config (keys + 3) new.view × (collected ≡ true))
 Stands h old new c collected r = Enters old new c false r
 
 -- why an allocation is refused: too few pools are free, or none is to be had
 abbrev pub IsRefused : SharedHeap → Token → Token → Command → Type 0
 IsRefused h old new (Alloc dst tag fields) = HasNoSpace h old new fields
-IsRefused h old new (AllocMaj dst tag fields) = HasNoPool h.config fields new.view
+IsRefused h old new (AllocMaj dst tag fields) = HasNoPool h.config (fields + 2) new.view
+IsRefused h old new (Ephe dst keys) = HasNoPool h.config (keys + 3) new.view
 IsRefused h old new _ = ⊥
 
 -- an allocation was refused, and no complete collection came before for this command: nothing has changed but what was looked at for it
@@ -150,24 +194,44 @@ RefusesAs h old new c collected NoRoom = (collected ≡ false) × (new ≡ old)
 abbrev pub labels_given : Command → Reply → ℕ
 labels_given (Alloc dst tag fields) (Block l) = 1
 labels_given (AllocMaj dst tag fields) (Block l) = 1
+labels_given (Ephe dst keys) (Block l) = 1
 labels_given _ _ = 0
 
 -- how far the places of each size class were then looked at: an allocation in the major heap may look at more of them
 abbrev pub looked_by : Command → Own → Own → List Spot
 looked_by (AllocMaj dst tag fields) old new = new.looked
+looked_by (Ephe dst keys) old new = new.looked
 looked_by _ old new = old.looked
 
--- which fields the domain then remembers: a store may add one
+-- which words the domain then remembers: a store may add one
 abbrev pub remembered_by : Command → Own → Own → Bounded ℕ
 remembered_by (Store block index item) old new = new.remembered
+remembered_by (SetKey ephe index item) old new = new.remembered
+remembered_by (SetData ephe item) old new = new.remembered
 remembered_by _ old new = old.remembered
 
--- what exactly: a store that puts a block of a minor area into a block of a pool adds the address of the field behind the others, and no other command adds one
-abbrev pub Remembers : Config → Own → Own → Command → Reply → Type 0
-Remembers k old new (Store block index item) r =
-    (PutsYoung k r (value_at old.registers block) (value_at old.registers item) → new.remembered ≡ one_more (field_of (value_at old.registers block) index) old.remembered)
+-- what exactly: a store that puts a block of a minor area into a block of a pool adds the address of the word, behind the others, and else none is added
+abbrev pub RemembersWord : Config → Own → Own → ℕ → ℕ → ℕ → Reply → Type 0
+RemembersWord k old new block item at r =
+    (PutsYoung k r (value_at old.registers block) (value_at old.registers item) → new.remembered ≡ one_more at old.remembered)
     × ((PutsYoung k r (value_at old.registers block) (value_at old.registers item) → ⊥) → new.remembered ≡ old.remembered)
+
+-- no other command adds one
+abbrev pub Remembers : Config → Own → Own → Command → Reply → Type 0
+Remembers k old new (Store block index item) r = RemembersWord k old new block item (field_of (value_at old.registers block) index) r
+Remembers k old new (SetKey ephe index item) r = RemembersWord k old new ephe item (word_in (value_at old.registers ephe) (Some index)) r
+Remembers k old new (SetData ephe item) r = RemembersWord k old new ephe item (word_in (value_at old.registers ephe) None) r
 Remembers k old new _ r = new.remembered ≡ old.remembered
+
+-- the address of the block that the value is
+abbrev pub address_of : Value → ℕ
+address_of (Ref a) = a
+address_of _ = 0
+
+-- which ephemerons the domain then lists: one that was made is listed behind the others, by the address that its register holds
+abbrev pub listed_by : Command → Reply → Own → Own → Bounded ℕ
+listed_by (Ephe dst keys) (Block l) old new = with_ephemeron (address_of (value_at new.registers dst)) old.ephemerons
+listed_by _ _ old new = old.ephemerons
 
 -- what the domain then owns: the registers are those that the entry left, and all but what is named is as it was
 abbrev pub own_after : Token → Token → Command → Reply → Own
@@ -177,6 +241,7 @@ own_after old new c r = record old.view.own {
   serial = old.view.own.serial + labels_given c r;
   looked = looked_by c old.view.own new.view.own;
   remembered = remembered_by c old.view.own new.view.own;
+  ephemerons = listed_by c r old.view.own new.view.own;
 }
 
 -- the entry of the command was made

@@ -1,21 +1,24 @@
 //! One command on the shared heap.
 ghost use Rattle.std.specs.Prelude.{◌≡◌, ◌+◌, ◌^◌, ◌<◌, ◌≤◌, Bool, true};
 ghost use Rattle.heap_model.specs.declared.command.Command as model;
-ghost use Rattle.heap_model.specs.declared.command.Command.TheVariants.{Alloc, AllocMaj};
+ghost use Rattle.heap_model.specs.declared.command.Command.TheVariants.{Alloc, AllocMaj, Ephe};
 ghost use Rattle.heap_model.specs.Commands.{is_allocation};
 ghost use Rattle.heap_model.specs.declared.entry.Entry.{Entry};
 ghost use Rattle.heap_rule.specs.Running.{Runs, Did, ChangesRegisters, own_entry};
 ghost use Rattle.steps_run.specs.Ticks.{is_quiet};
 ghost use Rattle.steps_run.specs.Ticks.{IsUsedUp};
-ghost use Rattle.domain_turns.specs.Tries.{AttemptAnswers, FitsHeap, HasFew, IsFresh, RefusesAs, RefusesFull, full_entry};
+ghost use Rattle.domain_turns.specs.Tries.{AttemptAnswers, FitsHeap, HasFew, IsFresh, IsPlainCall, IsStore, RefusesAs, RefusesFull, ephemerons_of, full_entry};
 
+use ephemeron_rounds::{
+    check_data, check_key, get_data, get_key, set_data, set_key, unset_data, unset_key,
+};
 use field_access::{copy, forget, load, put_int, store};
 use heap_model::command::Command;
 use heap_model::reply::Reply;
 use heap_rule::{Domain, Heap};
 use minor_area::{Need, alloc_young};
 use safepoint::Want;
-use size_pools::alloc_major;
+use size_pools::{alloc_major, create};
 use steps_run::tick;
 
 // What the try of a command came to.
@@ -119,6 +122,22 @@ fn alloc_in_pools(
     }
 }
 
+// Makes an ephemeron in the major heap, or answers that no pool is to be had.
+fn create_in_pools(heap: &Heap, dom: &mut Domain, dst: u8, keys: u16, collected: bool) -> Attempt
+    requires runs { Runs heap.now dom.old }
+    requires dst { dst < 16 }
+    requires keys { (1 ≤ keys) × (keys ≤ 8) }
+    requires room { 1 ≤ dom.old.view.own.ephemerons.room }
+    requires serial { dom.old.view.own.serial + 1 < 2 ^ 32 }
+    requires fresh { collected ≡ true → IsFresh heap.now.config dom.old.view }
+    ensures { (served : Bool) → AttemptAnswers heap.now dom.old dom.new (Ephe dst keys) served collected result }
+{
+    match create(heap, dom, dst, keys) {
+        Ok(label) => Attempt::Made(Reply::Block(label)),
+        Err(_none) => refuse(heap, dom, &Command::Ephe { dst, keys }, collected),
+    }
+}
+
 // Allocates in the minor area, or answers that the area has no room, or that too few pools are free.
 fn alloc_in_area(
     heap: &Heap,
@@ -145,11 +164,64 @@ fn alloc_in_area(
     }
 }
 
+// Makes the entry of a store, where one more word can be remembered.
+fn try_store(heap: &Heap, dom: &mut Domain, command: &Command) -> Attempt
+    requires runs { Runs heap.now dom.old }
+    requires fits { FitsHeap command.now }
+    requires stores { IsStore command.now }
+    ensures { (served collected : Bool) → AttemptAnswers heap.now dom.old dom.new command.now served collected result }
+{
+    if dom.remembered_room() == 0 {
+        return Attempt::Needs(Want::Minor);
+    }
+    let reply = match *command {
+        Command::Store { block, index, item } => store(heap, dom, block, index, item),
+        Command::SetKey { ephe, index, item } => set_key(heap, dom, ephe, index, item),
+        Command::SetData { ephe, item } => set_data(heap, dom, ephe, item),
+        _ => unreachable!(),
+    };
+    Attempt::Made(reply)
+}
+
+// Makes the entry of a command for which no pause must come first, and that changes registers at most of
+// what the domain owns.
+fn call(heap: &Heap, dom: &mut Domain, command: &Command) -> Reply
+    requires runs { Runs heap.now dom.old }
+    requires fits { FitsHeap command.now }
+    requires plain { IsPlainCall command.now }
+    ensures did { Did heap.now dom.old dom.new command.now result }
+    ensures rest { ChangesRegisters dom.old dom.new }
+{
+    match *command {
+        Command::PutInt { dst, value } => put_int(heap, dom, dst, value),
+        Command::Copy { dst, src } => copy(heap, dom, dst, src),
+        Command::Forget { dst } => forget(heap, dom, dst),
+        Command::Load { dst, src, index } => load(heap, dom, dst, src, index),
+        Command::UnsetKey { ephe, index } => unset_key(heap, dom, ephe, index),
+        Command::GetKey { dst, ephe, index } => get_key(heap, dom, dst, ephe, index),
+        Command::CheckKey { ephe, index } => check_key(heap, dom, ephe, index),
+        Command::UnsetData { ephe } => unset_data(heap, dom, ephe),
+        Command::GetData { dst, ephe } => get_data(heap, dom, dst, ephe),
+        Command::CheckData { ephe } => check_data(heap, dom, ephe),
+        _ => unreachable!(),
+    }
+}
+
+// Makes such an entry, and answers its reply.
+fn try_call(heap: &Heap, dom: &mut Domain, command: &Command) -> Attempt
+    requires runs { Runs heap.now dom.old }
+    requires fits { FitsHeap command.now }
+    requires plain { IsPlainCall command.now }
+    ensures { (served collected : Bool) → AttemptAnswers heap.now dom.old dom.new command.now served collected result }
+{
+    Attempt::Made(call(heap, dom, command))
+}
+
 // Makes the entry of a command, where no pause must come first. `served` says whether one has served a
 // `minor` or a `major`, and `collected` whether a complete collection has come since this command was
 // first tried, and left so many blocks that they may use up the pools. A young allocation is refused
-// exactly where fewer pools are free than promotion may need, and one in the major heap exactly where no
-// pool is to be had; it is answered `full` where `collected`.
+// exactly where fewer pools are free than promotion may need, and one in the major heap, as also that of
+// an ephemeron is, exactly where no pool is to be had; it is answered `full` where `collected`.
 pub(crate) fn try_command(
     heap: &Heap,
     dom: &mut Domain,
@@ -159,30 +231,28 @@ pub(crate) fn try_command(
 ) -> Attempt
     requires runs { Runs heap.now dom.old }
     requires fits { FitsHeap command.now }
+    requires room { ephemerons_of command.now ≤ dom.old.view.own.ephemerons.room }
     requires serial { dom.old.view.own.serial + 1 < 2 ^ 32 }
     requires fresh { collected ≡ true → IsFresh heap.now.config dom.old.view }
     ensures answer { AttemptAnswers heap.now dom.old dom.new command.now served collected result }
 {
-    let reply = match *command {
-        Command::PutInt { dst, value } => put_int(heap, dom, dst, value),
-        Command::Copy { dst, src } => copy(heap, dom, dst, src),
-        Command::Forget { dst } => forget(heap, dom, dst),
-        Command::Load { dst, src, index } => load(heap, dom, dst, src, index),
-        Command::Store { .. } if dom.remembered_room() == 0 => {
-            return Attempt::Needs(Want::Minor);
-        }
-        Command::Store { block, index, item } => store(heap, dom, block, index, item),
+    match *command {
         Command::Alloc { dst, tag, fields } => {
-            return alloc_in_area(heap, dom, dst, tag, fields, collected);
+            alloc_in_area(heap, dom, dst, tag, fields, collected)
         }
         Command::AllocMaj { dst, tag, fields } => {
-            return alloc_in_pools(heap, dom, dst, tag, fields, collected);
+            alloc_in_pools(heap, dom, dst, tag, fields, collected)
+        }
+        Command::Ephe { dst, keys } => create_in_pools(heap, dom, dst, keys, collected),
+        Command::Store { .. } | Command::SetKey { .. } | Command::SetData { .. } => {
+            try_store(heap, dom, command)
         }
         Command::Minor if !served => return Attempt::Needs(Want::Minor),
         Command::Major if !served => return Attempt::Needs(Want::Cycle),
-        Command::FullMajor => return Attempt::Needs(Want::Full),
-        Command::Poll | Command::Minor | Command::Major => quiet(heap, dom, command),
-        _ => unreachable!(),
-    };
-    Attempt::Made(reply)
+        Command::FullMajor => Attempt::Needs(Want::Full),
+        Command::Poll | Command::Minor | Command::Major => {
+            Attempt::Made(quiet(heap, dom, command))
+        }
+        _ => try_call(heap, dom, command),
+    }
 }

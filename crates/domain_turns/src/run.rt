@@ -46,8 +46,8 @@ impl Model for DomainRun {
 impl DomainRun {
     /// A run of a domain from its first command on. The domain runs and no entry of it stands in the
     /// history so far; there are at most 200,000 commands, each of a kind that runs on the shared heap
-    /// and with its numbers in their ranges; at most 4,000,000,000 labels were made; no block is noted in
-    /// the hints. The room for the replies is reserved here. Fails for want of memory alone, and then
+    /// and with its numbers in their ranges; the domain has room for as many ephemerons as they make; at
+    /// most 4,000,000,000 labels were made; no block is noted in the hints. The room for the replies is reserved here. Fails for want of memory alone, and then
     /// the domain is given up.
     #[tactic(auto, using(crate::proofs::Beginning::begins_between))]
     pub fn make(

@@ -251,7 +251,7 @@ fn turn_on(heap: &Heap, run: &mut DomainRun) -> Turned
 ///
 /// It asks for a collection of young blocks exactly where the next command is `minor` and no pause has
 /// served it, where it allocates a young block for which the minor area has no room, or where it stores
-/// and no more field can be remembered; for one of the major heap where it is `major` and no pause has
+/// and no more word can be remembered; for one of the major heap where it is `major` and no pause has
 /// served it; and for a complete one where it is `full_major`, or where it is an allocation that is
 /// refused in this turn. One for a young block is refused exactly where fewer pools are free than
 /// promotion may need, and one for the major heap exactly where no pool is to be had. It is answered

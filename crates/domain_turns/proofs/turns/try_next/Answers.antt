@@ -2,8 +2,13 @@ use Rattle.std.proofs.Common.{◌≡◌, false, ◌+◌, ◌≤◌, List, Some, 
 use Rattle.std.specs.Prelude.{vec_capacity}
 use Rattle.heap_model.specs.declared.reply.Reply.{Reply}
 use Rattle.domain_turns.specs.Runs.{RunView, IsRun}
-use Rattle.domain_turns.proofs.Turning.{tried_is_run}
+use Rattle.domain_turns.proofs.Turning.{tried_is_run, next_room}
 use Rattle.domain_turns.proofs.turns.try_next.Goals as goal
+
+pub try_command-requires-clause-room : goal.try_command-requires-clause-room
+try_command-requires-clause-room c =
+    let r : RunView = record { token = c.run.inside.domain; commands = c.run.inside.commands.items; next = c.run.inside.next; replies = c.run.inside.replies.items; ended = c.run.inside.ended; left = c.run.inside.left; asked = c.run.inside.asked; collected = c.run.inside.collected; cut = c.run.inside.cut } in
+    next_room r c.run.invariant.0 c.args.command.now (subst (λ (x : RunView). slice_get x.commands x.next ≡ Some c.args.command.now) (sym c.run.view_is) c.requires.next)
 
 pub invariant_of-run : goal.invariant_of-run
 invariant_of-run c =
