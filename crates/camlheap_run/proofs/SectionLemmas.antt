@@ -3,17 +3,23 @@ use Rattle.std.proofs.Common.{◌≡◌, ℕ, zero, suc, ◌-◌, ◌<◌, ◌�
 use Rattle.std.specs.Prelude.{◌&&◌, int_le, slice_index_or, sum_by}
 use Rattle.std.specs.List.{list_all}
 use Rattle.std.proofs.lemmas.List.{length-replicate}
+use Rattle.std.proofs.Math.Nat.{max-le}
+use Rattle.std.specs.Prelude.{Bool, false, not, nat_le, Option, Some, None, if◌then◌else◌}
+use Rattle.heap_rule.specs.declared.config.Config.{Config}
+use Rattle.heap_rule.specs.Limits.{first_of, first_outside, outside_rooms, sizes_in}
+use Rattle.heap_model.specs.Domains.{first_outside as outside_sizes}
 use Rattle.std.proofs.lemmas.Bool.Decides.{nat_tests}
 use Rattle.std.proofs.lemmas.Int.{ints}
 use Rattle.std.proofs.lemmas.Bool.{and_parts as both}
 use Rattle.heap_model.specs.declared.command.Command.{Command}
 use Rattle.heap_model.specs.declared.command.Command.TheVariants.{PutInt, Copy, Forget, Alloc, AllocMaj, Load, Store, Raw, Cas, Ephe, SetKey, UnsetKey, GetKey, CheckKey, SetData, UnsetData, GetData, CheckData, Finalise, FinaliseLast, Poll, Minor, Major, FullMajor, Spawn, Argument, PutResult, Join}
 use Rattle.heap_text.specs.declared.form.Operand.TheVariants.{Register, Tag, FieldCount, KeyCount, Index, Integer}
+use Rattle.domain_turns.specs.Tries.{FitsHeap, ephemerons_of}
+use Rattle.domain_turns.specs.Runs.{AllFit, ephemerons_in}
+use Rattle.camlheap_run.specs.Reading.{IsSpelled}
+use Rattle.camlheap_run.specs.Running.{most_in}
 use Rattle.heap_text.specs.Forms.{is_writable, fits}
 use Rattle.heap_text.proofs.ScriptLemmas.{total-cons}
-use Rattle.domain_turns.specs.Tries.{FitsHeap}
-use Rattle.domain_turns.specs.Runs.{AllFit}
-use Rattle.camlheap_run.specs.Reading.{IsSpelled}
 
 -- a number in a range that begins at 0 or later
 in_range : (low high n : ℕ) → (int_le (pos low) (pos n) && int_le (pos n) (pos high)) ≡ true → (low ≤ n) × (n ≤ high)
@@ -134,3 +140,70 @@ spelled_length domains script spelled =
     let few = s.is_written.few_sections in
     let more : length (replicate (domains - length s.written) no_commands) ≡ domains - length s.written = length-replicate (domains - length s.written) [] in
     ap length s.script_is ∙ length-append s.written (replicate (domains - length s.written) []) ∙ (omega (arith, more, few))
+
+-- a section makes at most as many ephemerons as it has commands
+one_at_most : (c : Command) → ephemerons_of c ≤ 1
+one_at_most (PutInt dst value) = omega arith
+one_at_most (Copy dst src) = omega arith
+one_at_most (Forget dst) = omega arith
+one_at_most (Alloc dst tag fields) = omega arith
+one_at_most (AllocMaj dst tag fields) = omega arith
+one_at_most (Load dst src index) = omega arith
+one_at_most (Store block index item) = omega arith
+one_at_most (Raw dst tag fields) = omega arith
+one_at_most (Cas block index expected item) = omega arith
+one_at_most (Ephe dst keys) = omega arith
+one_at_most (SetKey ephe index item) = omega arith
+one_at_most (UnsetKey ephe index) = omega arith
+one_at_most (GetKey dst ephe index) = omega arith
+one_at_most (CheckKey ephe index) = omega arith
+one_at_most (SetData ephe item) = omega arith
+one_at_most (UnsetData ephe) = omega arith
+one_at_most (GetData dst ephe) = omega arith
+one_at_most (CheckData ephe) = omega arith
+one_at_most (Finalise item number dst) = omega arith
+one_at_most (FinaliseLast item number) = omega arith
+one_at_most Poll = omega arith
+one_at_most Minor = omega arith
+one_at_most Major = omega arith
+one_at_most FullMajor = omega arith
+one_at_most (Spawn section item) = omega arith
+one_at_most (Argument dst) = omega arith
+one_at_most (PutResult item) = omega arith
+one_at_most (Join dst section) = omega arith
+
+as_many_at_most : (cs : List Command) → ephemerons_in cs ≤ length cs
+as_many_at_most [] = omega arith
+as_many_at_most (c ∷ cs) =
+    let one : ephemerons_of c ≤ 1 = one_at_most c in
+    let rest : ephemerons_in cs ≤ length cs = as_many_at_most cs in
+    omega arith
+
+-- no section makes more ephemerons than a heap may have room for
+pub most_few : (script : List (List Command)) → ((d : ℕ) → IsFine (slice_index_or script d [])) → most_in script ≤ 200000
+most_few [] fine = omega arith
+most_few (cs ∷ sections) fine =
+    let a : ℕ = ephemerons_in cs in
+    let b : ℕ = most_in sections in
+    let first : ephemerons_in cs ≤ length cs = as_many_at_most cs in
+    let few : length cs ≤ 200000 = (fine 0).few in
+    let rest : b ≤ 200000 = most_few sections (λ d. fine (suc d)) in
+    let f : a ≤ 200000 = omega arith in
+    max-le f rest
+
+abbrev of_two : Bool → Bool → Option ℕ
+of_two a b = if not a then Some 4 else (if not b then Some 5 else None)
+
+room_fits : (a b : Bool) → a ≡ true → b ≡ true → of_two a b ≡ None
+room_fits true true first second = refl
+room_fits false b first second = cc
+room_fits true false first second = cc
+
+at_most : (n : ℕ) → n ≤ 200000 → nat_le n 200000 ≡ true
+at_most n few = grind (arith, nat_tests)
+
+-- a heap of fitting sizes without finalisers, with room for as many ephemerons as a section makes
+pub rooms_fit : (k : Config) → outside_sizes (sizes_in k) ≡ None → k.finals ≡ 0 → k.ephes ≤ 200000 → first_outside k ≡ None
+rooms_fit k sizes none few =
+    let finals : k.finals ≤ 200000 = omega (arith, none) in
+    ap (λ (o : Option ℕ). first_of o (outside_rooms k)) sizes ∙ room_fits (nat_le k.finals 200000) (nat_le k.ephes 200000) (at_most k.finals finals) (at_most k.ephes few)

@@ -27,10 +27,13 @@ pub(crate) struct Begun {
 fn ephemerons_of(section: &[Command]) -> usize
     ensures { result ≡ ephemerons_in section.now }
 {
-    section
-        .iter()
-        .filter(|command| matches!(**command, Command::Ephe { .. }))
-        .count()
+    let mut many = 0;
+    'commands: for command in section {
+        if matches!(*command, Command::Ephe { .. }) {
+            many += 1;
+        }
+    }
+    many
 }
 
 // The most that a section makes.
@@ -38,7 +41,7 @@ fn most_ephemerons(script: &Script) -> usize
     ensures { result ≡ most_in script.now }
 {
     let mut most = 0;
-    for i in 0..script.sections() {
+    'sections: for i in 0..script.sections() {
         most = most.max(ephemerons_of(script.section(i)));
     }
     most

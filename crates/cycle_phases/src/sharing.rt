@@ -8,6 +8,7 @@ ghost use Rattle.heap_rule.specs.Views.{voided};
 ghost use Rattle.steps_pauses.specs.Pauses.{arrived_view};
 ghost use Rattle.cycle_phases.specs.Sharing.{IsShared, SharesIn, Works};
 
+use ephemeron_rounds::{clean, round};
 use heap_rule::{Domain, Heap, Kind};
 use mark_slices::{Hints, mark_round, start_roots};
 use safepoint::arrive;
@@ -39,6 +40,8 @@ fn work(heap: &Heap, dom: &mut Domain, kind: Kind, hints: &mut Hints)
     match kind {
         Kind::Roots => start_roots(heap, dom),
         Kind::Mark => mark_round(heap, dom, hints),
+        Kind::Rounds => round(heap, dom),
+        Kind::Clean => clean(heap, dom),
         Kind::Sweep => sweep_and_count(heap, dom),
         _ => (),
     }
@@ -46,10 +49,13 @@ fn work(heap: &Heap, dom: &mut Domain, kind: Kind, hints: &mut Hints)
 
 /// The domain does its share of an even phase of a collection of the major heap, and arrives. It has
 /// done nothing in the phase before. In Roots it marks what its registers refer to, in Mark what the
-/// marked blocks of its own pools refer to, and in Sweep it frees the garbage of its own pools and
-/// counts what lives there. In the other phases it has nothing to do: no ephemeron and no finaliser
-/// exists yet. All that it owns stays as it was but the number of its arrivals, and, where it sweeps,
-/// from where it looks for free places.
+/// marked blocks of its own pools refer to, and in Rounds the data of its marked ephemerons whose full
+/// keys are all marked. In Clean it empties the keys that aren't marked of its marked ephemerons, and
+/// their data. In Sweep it frees the garbage of its own pools, which it takes off its list of ephemerons
+/// first, and counts what lives there. In the other phases it has nothing to do: no finaliser exists
+/// yet. All that it owns stays as it was but the number of its arrivals, and, where it sweeps, from where
+/// it looks for free places, and its list of ephemerons, in which there is room for no fewer. Its front
+/// stays but where keys are emptied, and grows there by no entry of its own.
 pub fn share(heap: &Heap, dom: &mut Domain, kind: Kind, hints: &mut Hints)
     requires here { IsIn dom.old heap.now }
     requires phase { IsShared kind }

@@ -26,7 +26,7 @@ abbrev pub with_scan : DomainView → Scan → DomainView
 with_scan x scan = with_share x (record x.seen.share { scan = scan })
 
 -- the value that was read is the one that was told
-one_value : (word : ℕ) (u v : Value) → IsPackable u → word ≡ value_word u → IsPackable v × (value_word v ≡ word) → u ≡ v
+pub one_value : (word : ℕ) (u v : Value) → IsPackable u → word ≡ value_word u → IsPackable v × (value_word v ≡ word) → u ≡ v
 one_value word u v p e r = value_word-injective u v p r.0 (sym e ∙ sym r.1)
 
 -- the next key

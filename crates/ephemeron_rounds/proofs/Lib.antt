@@ -5,3 +5,4 @@ pub mod WeakLoads
 pub mod WeakStores
 pub mod Keys
 pub mod Passes
+pub mod Wipes

@@ -4,7 +4,7 @@ use Rattle.heap_model.proofs.Reach.ReachLemmas.{or_cases, or_left, or_right}
 use Rattle.heap_rule.specs.declared.view.DomainView.{DomainView}
 use Rattle.heap_rule.specs.Cycles.{seen_by}
 use Rattle.std.proofs.lemmas.Option.{slice_get_within}
-use Rattle.ephemeron_rounds.specs.Looking.{Looked, SeesListed}
+use Rattle.ephemeron_rounds.specs.Looking.{SeesListed}
 
 -- an item of a list is among its items
 pub among : (l : List ℕ) (i a : ℕ) → slice_get l i ≡ Some a → IsTrue (seen_by l a)
@@ -25,8 +25,8 @@ abbrev pub SeesBelow : ℕ → DomainView → DomainView → Type 0
 SeesBelow i x y = (j : ℕ) → j < i → (a : ℕ) → slice_get x.own.ephemerons.items j ≡ Some a → IsTrue (seen_by y.seen.share.places_seen a)
 
 -- all of the list are seen
-pub sees_listed : (x y : DomainView) → Looked x y → SeesBelow (length x.own.ephemerons.items) x y → SeesListed y
-sees_listed x y l all a is =
+pub sees_listed : (x y : DomainView) → y.own.ephemerons.items ≡ x.own.ephemerons.items → SeesBelow (length x.own.ephemerons.items) x y → SeesListed y
+sees_listed x y same all a is =
     let t = item_of y.own.ephemerons.items a is in
-    let got : slice_get x.own.ephemerons.items t.0 ≡ Some a = ap (λ (l : List ℕ). slice_get l t.0) (sym (ap (λ (u : DomainView). u.own.ephemerons.items) l.view)) ∙ t.1 in
+    let got : slice_get x.own.ephemerons.items t.0 ≡ Some a = ap (λ (l : List ℕ). slice_get l t.0) (sym same) ∙ t.1 in
     all t.0 (slice_get_within x.own.ephemerons.items t.0 a got) a got

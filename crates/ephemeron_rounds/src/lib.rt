@@ -10,11 +10,13 @@
 #![tactic(auto)]
 
 mod changing;
+mod cleaning;
 mod finding;
 mod heads;
 mod looking;
 mod rounds;
 
 pub use changing::{set_data, set_key, unset_data, unset_key};
+pub use cleaning::clean;
 pub use looking::{check_data, check_key, get_data, get_key};
 pub use rounds::round;

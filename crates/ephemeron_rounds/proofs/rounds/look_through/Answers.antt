@@ -1,4 +1,5 @@
-use Rattle.std.proofs.Common.{arith, sym}
+use Rattle.std.proofs.Common.{ap, arith, sym}
+use Rattle.heap_rule.specs.declared.view.DomainView.{DomainView}
 use Rattle.ephemeron_rounds.proofs.Passes.{among, sees_listed}
 use Rattle.ephemeron_rounds.proofs.rounds.look_through.Goals as goal
 
@@ -9,5 +10,5 @@ pub returns-clause-passed : goal.returns-clause-passed
 returns-clause-passed c = record {
   looked = c.loop-i.invariant.looked;
   owes = c.loop-i.invariant.owes;
-  all = sees_listed c.args.dom.now.view c.loop-i.dom.view c.loop-i.invariant.looked (λ j less a got. c.loop-i.invariant.all j (omega arith) a got);
+  all = sees_listed c.args.dom.now.view c.loop-i.dom.view (ap (λ (u : DomainView). u.own.ephemerons.items) c.loop-i.invariant.looked.view) (λ j less a got. c.loop-i.invariant.all j (omega arith) a got);
 }

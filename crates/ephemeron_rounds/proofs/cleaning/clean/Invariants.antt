@@ -1,0 +1,15 @@
+use Rattle.std.proofs.Common.{◌≡◌, Some}
+use Rattle.heap_model.specs.Fronts.{IsFrontOf}
+use Rattle.heap_rule.specs.Token.{IsIn}
+use Rattle.ephemeron_rounds.specs.Emptied.{with_places}
+use Rattle.ephemeron_rounds.proofs.Passes.{SeesBelow}
+use Rattle.ephemeron_rounds.proofs.cleaning.clean.Given as goal
+
+abbrev pub invariant-loop-i : goal.invariant-loop-i
+invariant-loop-i l = record {
+  here : IsIn l.dom l.heap;
+  known : l.dom.view.seen.share.colours ≡ Some l.colours;
+  seen : IsFrontOf l.fn.dom.view.own.number l.dom.view.seen.front l.fn.dom.view.seen.front;
+  view : l.dom.view ≡ with_places l.fn.dom.view l.dom.view;
+  below : SeesBelow l.i l.fn.dom.view l.dom.view;
+}
