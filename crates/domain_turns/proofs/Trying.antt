@@ -1,7 +1,7 @@
 -- What the try of a command leaves, by what was called.
-use Rattle.std.proofs.Common.{◌≡◌, ◌∙◌, ℕ, ◌+◌, ◌<◌, ◌≤◌, Bool, true, false, List, refl, sym, ap, subst, arith}
+use Rattle.std.proofs.Common.{◌≡◌, ◌∙◌, ℕ, ◌+◌, ◌<◌, ◌≤◌, Bool, true, List, sym, ap, subst, arith}
 use Rattle.heap_model.specs.declared.command.Command.{Command}
-use Rattle.heap_model.specs.declared.command.Command.TheVariants.{Alloc, AllocMaj, Ephe, Store, SetKey, SetData, Minor, Major, FullMajor}
+use Rattle.heap_model.specs.declared.command.Command.TheVariants.{Store, SetKey, SetData}
 use Rattle.heap_model.specs.declared.entry.Entry.{Entry}
 use Rattle.heap_model.specs.declared.reply.Reply.{Reply}
 use Rattle.heap_model.specs.declared.reply.Applied.{Applied}
@@ -14,13 +14,12 @@ use Rattle.heap_rule.specs.declared.view.DomainView.{DomainView}
 use Rattle.heap_rule.specs.declared.view.Own.{Own}
 use Rattle.heap_rule.specs.Limits.{sizes_in}
 use Rattle.heap_rule.specs.Standing.{Entered}
-use Rattle.heap_rule.specs.Running.{Runs, Did, ChangesRegisters}
+use Rattle.heap_rule.specs.Running.{Runs, Did}
 use Rattle.heap_rule.specs.Token.{Token, SharedHeap, IsIn}
 use Rattle.heap_rule.proofs.Calls.{front_stays, answered_runs}
 use Rattle.field_access.specs.Remembered.{ChangesRemembered}
-use Rattle.safepoint.specs.declared.answer.Want.TheVariants.{Minor as Young}
-use Rattle.domain_turns.specs.declared.command.Attempt.TheVariants.{Made, Needs}
-use Rattle.domain_turns.specs.Tries.{AttemptAnswers, Enters, IsPlainCall, IsStore, NeedsPause, RefusesFull, Remembers, Stands, Tried, full_entry, own_after}
+use Rattle.domain_turns.specs.declared.command.Attempt.TheVariants.{Made}
+use Rattle.domain_turns.specs.Tries.{AttemptAnswers, IsStore, RefusesFull, Remembers, full_entry}
 use Rattle.heap_rule.proofs.Plain.{entered_rest}
 
 -- the entry of `full` stood at a tick
@@ -39,16 +38,7 @@ refuses h old new c e r a read changes is answer runs here entered =
       free = ap (λ (x : DomainView). x.seen.free) (entered_rest _ _ _ _ _ _ _ entered);
     }
 
--- what a domain owns whose registers have changed
-registers_own : (old new : Own) → new ≡ record old { registers = new.registers } → new ≡ record old { registers = new.registers; used = old.used + 0; serial = old.serial + 0 }
-registers_own old new is =
-    let used : ℕ = old.used in
-    let serial : ℕ = old.serial in
-    let same_used : used ≡ used + 0 = omega arith in
-    let same_serial : serial ≡ serial + 0 = omega arith in
-    is ∙ (λ i. record old { registers = new.registers; used = same_used i; serial = same_serial i })
-
--- and one that remembers other words
+-- what a domain owns that remembers other words
 remembered_own : (old new : Own) → new ≡ record old { remembered = new.remembered } → new.registers ≡ old.registers → new ≡ record old { registers = new.registers; used = old.used + 0; serial = old.serial + 0; remembered = new.remembered }
 remembered_own old new is registers =
     let used : ℕ = old.used in
@@ -57,63 +47,7 @@ remembered_own old new is registers =
     let same_serial : serial ≡ serial + 0 = omega arith in
     is ∙ (λ i. record old { registers = sym registers i; used = same_used i; serial = same_serial i; remembered = new.remembered })
 
--- a command that left alone what its domain owns
-pub same_changes : (old new : Token) → new.view.own ≡ old.view.own → ChangesRegisters old new
-same_changes old new is = record { own = subst (λ (o : Own). o ≡ record old.view.own { registers = o.registers }) (sym is) refl }
-
-call_stands : (h : SharedHeap) (old new : Token) (c : Command) (collected : Bool) (r : Reply) → IsPlainCall c → Enters old new c false r → Stands h old new c collected r
-call_stands h old new (Alloc dst tag fields) collected r plain e = absurd plain
-call_stands h old new (AllocMaj dst tag fields) collected r plain e = absurd plain
-call_stands h old new (Ephe dst keys) collected r plain e = absurd plain
-call_stands h old new c collected r plain e = e
-
-call_own : (old new : Token) (c : Command) (r : Reply) → IsPlainCall c → ChangesRegisters old new → new.view.own ≡ own_after old new c r
-call_own old new (Alloc dst tag fields) r plain changes = absurd plain
-call_own old new (AllocMaj dst tag fields) r plain changes = absurd plain
-call_own old new (Ephe dst keys) r plain changes = absurd plain
-call_own old new (Store block index item) r plain changes = absurd plain
-call_own old new (SetKey ephe index item) r plain changes = absurd plain
-call_own old new (SetData ephe item) r plain changes = absurd plain
-call_own old new c r plain changes = registers_own old.view.own new.view.own changes.own
-
-call_remembers : (k : Config) (old new : Own) (c : Command) (r : Reply) → IsPlainCall c → new.remembered ≡ old.remembered → Remembers k old new c r
-call_remembers k old new (Store block index item) r plain is = absurd plain
-call_remembers k old new (SetKey ephe index item) r plain is = absurd plain
-call_remembers k old new (SetData ephe item) r plain is = absurd plain
-call_remembers k old new c r plain is = is
-
-call_ready : (k : Config) (own : Own) (served : Bool) (c : Command) → IsPlainCall c → NeedsPause k own served c → ⊥
-call_ready k own served (Alloc dst tag fields) plain needs = absurd plain
-call_ready k own served (Store block index item) plain needs = absurd plain
-call_ready k own served (SetKey ephe index item) plain needs = absurd plain
-call_ready k own served (SetData ephe item) plain needs = absurd plain
-call_ready k own served Minor plain needs = absurd plain
-call_ready k own served Major plain needs = absurd plain
-call_ready k own served FullMajor plain needs = absurd plain
-call_ready k own served c plain needs = needs
-
--- the entry was made of a command that changes registers at most
-pub call_answers : (h : SharedHeap) (old new : Token) (c : Command) (served collected : Bool) (r : Reply) → IsPlainCall c → Did h old new c r → ChangesRegisters old new → AttemptAnswers h old new c served collected (Made r)
-call_answers h old new c served collected r plain did changes = (
-  record {
-    runs = did.runs;
-    stands = call_stands h old new c collected r plain did.answers;
-    heap = did.heap;
-    stays = did.stays;
-    own = call_own old new c r plain changes;
-    remembers = call_remembers h.config old.view.own new.view.own c r plain (ap (λ (o : Own). o.remembered) changes.own);
-  },
-  call_ready h.config old.view.own served c plain,
-)
-
--- a store for which no word more can be remembered
-pub store_waits : (h : SharedHeap) (t : Token) (c : Command) (served collected : Bool) → IsStore c → t.view.own.remembered.room < 1 → AttemptAnswers h t t c served collected (Needs Young)
-store_waits h t (Store block index item) served collected stores few = (refl, few, refl)
-store_waits h t (SetKey ephe index item) served collected stores few = (refl, few, refl)
-store_waits h t (SetData ephe item) served collected stores few = (refl, few, refl)
-store_waits h t _ served collected stores few = absurd stores
-
--- where it isn't so one more can be remembered
+-- where the room that was found isn't 0 there is some
 pub some_room : (n room : ℕ) → n ≡ room → (n ≡ 0 → ⊥) → 1 ≤ room
 some_room n room is some = omega arith
 
