@@ -1,5 +1,5 @@
 -- What holds of each domain of a heap that has just started.
-use Rattle.std.proofs.Common.{◌≡◌, ℕ, zero, suc, ◌+◌, ◌<◌, ◌≤◌, false, List, [], length, replicate, refl, sym, ap, ◌∙◌, subst, arith}
+use Rattle.std.proofs.Common.{◌≡◌, ℕ, zero, suc, ◌+◌, ◌<◌, ◌≤◌, false, List, [], ◌∷◌, length, replicate, refl, sym, ap, ◌∙◌, subst, arith}
 use Rattle.std.specs.Prelude.{slice_index_or}
 use Rattle.std.specs.List.{All, AllByRecursion}
 use Rattle.std.proofs.lemmas.List.Elements.{All-from_recursion}
@@ -12,7 +12,9 @@ use Rattle.heap_rule.specs.Standing.{Acts}
 use Rattle.heap_rule.specs.Token.{Token, SharedHeap, IsIn}
 use Rattle.heap_rule.specs.declared.phase.Note.{Note}
 use Rattle.heap_rule.specs.declared.view.DomainView.{DomainView}
-use Rattle.domain_turns.specs.Runs.{CanBegin, AllFit}
+use Rattle.domain_turns.specs.Runs.{CanBegin, AllFit, ephemerons_in}
+use Rattle.domain_turns.specs.Tries.{ephemerons_of}
+use Rattle.public_calls.specs.Fresh.{MakesNoEphemeron}
 use Rattle.public_calls.specs.Fresh.{IsFresh}
 
 not_ended : (n d : ℕ) → d < n → (slice_index_or (replicate n opening_domain) d no_domain).ended ≡ false
@@ -41,6 +43,7 @@ is_fresh h d inside = record {
     no_replies = refl;
     few = omega arith;
     fit = none_fits;
+    room = omega arith;
     labels = omega arith;
     even = refl;
     remembers = refl;
@@ -62,9 +65,17 @@ all_fresh h k domains config are =
     let same : domains ≡ opening_tokens h.table h.config 0 h.config.domains = subst (λ (c : Config). domains ≡ opening_tokens h.table c 0 c.domains) (sym config) are in
     subst (All (IsFresh h)) (sym same) (All-from_recursion (IsFresh h) (opening_tokens h.table h.config 0 h.config.domains) (those_from h 0 h.config.domains (omega arith)))
 
+-- these commands make no ephemeron
+pub none_made : (cs : List Command) → All MakesNoEphemeron cs → ephemerons_in cs ≡ 0
+none_made [] all = refl
+none_made (c ∷ cs) all =
+    let first : ephemerons_of c ≡ 0 = (all 0 c refl).1 in
+    let rest : ephemerons_in cs ≡ 0 = none_made cs (λ i d at. all (suc i) d at) in
+    omega (arith, first, rest)
+
 -- a domain that may begin no commands may begin others that fit
-pub begins : (t : Token) (cs : List Command) → CanBegin t [] → length cs ≤ 200000 → AllFit cs → CanBegin t cs
-begins t cs b few fit = record {
+pub begins : (t : Token) (cs : List Command) → CanBegin t [] → length cs ≤ 200000 → AllFit cs → ephemerons_in cs ≡ 0 → CanBegin t cs
+begins t cs b few fit none = record {
   inside = b.inside;
   acts = b.acts;
   idle = b.idle;
@@ -73,6 +84,7 @@ begins t cs b few fit = record {
   no_replies = b.no_replies;
   few = few;
   fit = fit;
+  room = omega (arith, none);
   labels = b.labels;
   even = b.even;
   remembers = b.remembers;
