@@ -1,6 +1,6 @@
 -- The start of a heap: each domain may begin its section.
 use Rattle.std.proofs.Math.Nat.{le-max_left, le-max_right}
-use Rattle.std.proofs.Common.{◌≡◌, ℕ, zero, suc, ◌+◌, ◌<◌, ◌≤◌, Bool, true, false, List, [], length, map, refl, ap, ◌∙◌, arith, Some, None}
+use Rattle.std.proofs.Common.{◌≡◌, ℕ, zero, suc, ◌+◌, ◌<◌, ◌≤◌, Bool, true, false, List, [], ◌∷◌, length, map, refl, ap, ◌∙◌, arith, Some, None}
 use Rattle.std.specs.Prelude.{Option, cond, not, ◌&&◌, nat_le, slice_get, slice_index_or}
 use Rattle.std.proofs.lemmas.Bool.Decides.{nat_tests}
 use Rattle.std.specs.List.{AllByRecursion}
@@ -18,15 +18,23 @@ use Rattle.camlheap_run.proofs.SectionLemmas.{IsFine}
 -- no section makes more ephemerons than the one that makes most
 pub section_in : (script : List (List Command)) (d : ℕ) → ephemerons_in (slice_index_or script d []) ≤ most_in script
 section_in [] d = omega arith
-section_in (cs ∷ sections) zero = let a : ℕ = ephemerons_in cs in let b : ℕ = most_in sections in omega (arith, le-max_left a b)
-section_in (cs ∷ sections) (suc d) = let e : ℕ = ephemerons_in (slice_index_or sections d []) in let b : ℕ = most_in sections in let h : e ≤ b = section_in sections d in let a : ℕ = ephemerons_in cs in omega (arith, le-max_right a b)
+section_in (cs ∷ sections) zero = le-max_left (ephemerons_in cs) (most_in sections)
+section_in (cs ∷ sections) (suc d) =
+    let most : ℕ = most_in (cs ∷ sections) in
+    let rest : ℕ = most_in sections in
+    let inside : ephemerons_in (slice_index_or sections d []) ≤ rest = section_in sections d in
+    let more : rest ≤ most = le-max_right (ephemerons_in cs) (most_in sections) in
+    omega (arith, inside, more)
 
 -- each of these domains has a section, and may begin it
 pub have_sections : (h : SharedHeap) (k : Config) (script : List (List Command)) (from n : ℕ) → from + n ≤ k.domains → length script ≡ k.domains → ((d : ℕ) → IsFine (slice_index_or script d [])) → most_in script ≤ k.ephes
     → AllByRecursion (HasSection script) (opening_tokens h.table k from n)
 have_sections h k script from zero few long fine room = tt
 have_sections h k script from (suc n) few long fine room = (
-  record { inside = omega arith; begins = opening_begins h k from (slice_index_or script from []) (omega arith) (fine from).few (fine from).fit (let a : ephemerons_in (slice_index_or script from []) ≤ most_in script = section_in script from in let m : ℕ = most_in script in let b : m ≤ k.ephes = room in omega arith) },
+  record {
+    inside = omega arith;
+    begins = opening_begins h k from (slice_index_or script from []) (omega arith) (fine from).few (fine from).fit (omega (arith, section_in script from, room));
+  },
   have_sections h k script (from + 1) n (omega arith) long fine room,
 )
 
