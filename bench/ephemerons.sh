@@ -56,7 +56,7 @@ chain() {
     }'
 }
 
-for count in 1000 10000 80000; do
+for count in 1000 10000 99000; do
     halves "$count" 1 minor >"$work/minor"
     halves "$count" 1 full_major >"$work/first"
     halves "$count" 41 full_major >"$work/many"
