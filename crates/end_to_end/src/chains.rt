@@ -3,8 +3,11 @@
 use crate::program::{is_given, run_with_gate, sink, source};
 use outer_io::Gate;
 use std::alloc::{AllocError, Global};
+use std::process::Abort;
+use std::sync::Wait;
 use std::sync::atomic::{AtomicUsize, Ordering};
 use std::test::Fail;
+use std::thread::Threads;
 
 // How often a domain looks whether it may go on.
 const LOOKS: u32 = 1_000_000_000;
@@ -210,10 +213,13 @@ fn commands_of_others(chain: Chain) -> usize
 }
 
 // The whole chain lives while its first key does, and no key and no data of it any longer.
-fn lives_with_its_first_key(rt: &HostRuntime, chain: Chain) -> Result<(), AllocError>
+fn lives_with_its_first_key<R: Threads + Wait + Sync + Abort>(
+    rt: &R,
+    alloc: Global,
+    chain: Chain,
+) -> Result<(), AllocError>
     requires { (1 ≤ chain.domains) × (chain.domains ≤ 8) × (chain.length ≤ 64) }
 {
-    let alloc = rt.alloc();
     let play = play_of(alloc, chain)?;
     let gate = Staged {
         theirs: commands_of_others(chain),
@@ -238,7 +244,7 @@ fn chains_live_with_their_first_key(rt: HostRuntime) -> Result<(), Fail> {
                     domains,
                     order,
                 };
-                lives_with_its_first_key(&rt, chain)?;
+                lives_with_its_first_key(&rt, rt.alloc(), chain)?;
             }
         }
     }
