@@ -1,5 +1,7 @@
 //! Chains of ephemerons: the data of each is the key of the next, whichever domain made them and in
 //! which order.
+ghost use Rattle.std.specs.Prelude.{◌<◌, ◌≤◌};
+
 use crate::program::{is_given, run_with_gate, sink, source};
 use outer_io::Gate;
 use std::alloc::{AllocError, Global};

@@ -2,7 +2,7 @@
 use Rattle.std.proofs.Common.{◌≡◌, ℕ, zero, suc, ◌+◌, ◌<◌, ◌≤◌, false, List, [], ◌∷◌, length, replicate, refl, sym, ap, ◌∙◌, subst, arith}
 use Rattle.std.specs.Prelude.{slice_index_or}
 use Rattle.std.specs.List.{All, AllByRecursion}
-use Rattle.std.proofs.lemmas.List.Elements.{All-from_recursion}
+use Rattle.std.proofs.lemmas.List.Elements.{All-from_recursion, recursion_from_All}
 use Rattle.heap_model.specs.declared.command.Command.{Command}
 use Rattle.heap_model.specs.Domains.{opening_domain, no_domain}
 use Rattle.heap_rule.specs.declared.config.Config.{Config}
@@ -65,13 +65,16 @@ all_fresh h k domains config are =
     let same : domains ≡ opening_tokens h.table h.config 0 h.config.domains = subst (λ (c : Config). domains ≡ opening_tokens h.table c 0 c.domains) (sym config) are in
     subst (All (IsFresh h)) (sym same) (All-from_recursion (IsFresh h) (opening_tokens h.table h.config 0 h.config.domains) (those_from h 0 h.config.domains (omega arith)))
 
+none_made_in : (cs : List Command) → AllByRecursion MakesNoEphemeron cs → ephemerons_in cs ≡ 0
+none_made_in [] all = refl
+none_made_in (c ∷ cs) all =
+    let first : ephemerons_of c ≡ 0 = all.0.1 in
+    let rest : ephemerons_in cs ≡ 0 = none_made_in cs all.1 in
+    omega (arith, first, rest)
+
 -- these commands make no ephemeron
 pub none_made : (cs : List Command) → All MakesNoEphemeron cs → ephemerons_in cs ≡ 0
-none_made [] all = refl
-none_made (c ∷ cs) all =
-    let first : ephemerons_of c ≡ 0 = (all 0 c refl).1 in
-    let rest : ephemerons_in cs ≡ 0 = none_made cs (λ i d at. all (suc i) d at) in
-    omega (arith, first, rest)
+none_made cs all = none_made_in cs (recursion_from_All MakesNoEphemeron cs all)
 
 -- a domain that may begin no commands may begin others that fit
 pub begins : (t : Token) (cs : List Command) → CanBegin t [] → length cs ≤ 200000 → AllFit cs → ephemerons_in cs ≡ 0 → CanBegin t cs
