@@ -21,19 +21,23 @@ seconds() {
     done | awk '{ t = $2 - $1; if (NR == 1 || t < least) least = t } END { print NR ? least : "none" }'
 }
 
-# A script that makes $1 ephemerons whose key is the common block. Each second one is dropped at once; each other one is the data
-# of the next. Then come $2 collections of the kind $3, and a complete one.
+# A script that makes $1 ephemerons of one key. Each second one is dropped at once; the key of each other one is the common
+# block, and a field of a block keeps it, 125 in each, which the last field links. Then come $2 complete
+# collections, and at last the command $3.
 halves() {
-    awk -v count="$1" -v times="$2" -v kind="$3" 'BEGIN {
+    awk -v count="$1" -v times="$2" -v last="$3" 'BEGIN {
         print "heap 1\ndomain 0"
         for (k = 0; k < count / 2; k++) {
-            r = 1 + k % 2
-            print "ephe 3 1\nephe " r " 1\nset_key " r " 0 0"
-            if (k > 0) print "set_data " r " " 3 - r
+            if (k % 125 == 0) {
+                print "allocmaj 4 0 126"
+                if (k > 0) print "store 4 125 1"
+                print "move 1 4"
+            }
+            print "ephe 3 1\nephe 2 1\nset_key 2 0 0\nstore 1 " k % 125 " 2"
         }
-        print "drop 3\ndrop " 3 - r
-        for (k = 0; k < times; k++) print kind
-        print "full_major"
+        print "drop 2\ndrop 3\ndrop 4"
+        for (k = 0; k < times; k++) print "full_major"
+        print last
     }'
 }
 
@@ -57,11 +61,12 @@ chain() {
 }
 
 for count in 1000 10000 99000; do
-    halves "$count" 1 minor >"$work/minor"
-    halves "$count" 1 full_major >"$work/first"
-    halves "$count" 41 full_major >"$work/many"
-    last="live $((count / 2 + 1)) $((count / 2 * 4 + 18))"
-    awk -v n="$count" -v minor="$(seconds "$work/minor" "$last")" -v first="$(seconds "$work/first" "$last")" -v many="$(seconds "$work/many" "$last")" 'BEGIN {
+    halves "$count" 0 minor >"$work/minor"
+    halves "$count" 0 full_major >"$work/first"
+    halves "$count" 40 full_major >"$work/many"
+    blocks=$(((count / 2 + 124) / 125))
+    last="live $((count / 2 + 1 + blocks)) $((count / 2 * 4 + 18 + 128 * blocks))"
+    awk -v n="$count" -v minor="$(seconds "$work/minor" ok)" -v first="$(seconds "$work/first" "$last")" -v many="$(seconds "$work/many" "$last")" 'BEGIN {
         printf "%d ephemerons, half of them dead: the first full_major takes %.2f ms more than a minor collection, each later one %.3f ms, %.0f ns for each that is left\n", n, (first - minor) * 1e3, (many - first) / 40 * 1e3, (many - first) / 40 / (n / 2) * 1e9
     }'
 done
