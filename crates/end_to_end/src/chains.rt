@@ -235,7 +235,7 @@ fn lives_with_its_first_key<R: Threads + Wait + Sync + Abort>(
 
 #[test]
 fn chains_live_with_their_first_key(rt: HostRuntime) -> Result<(), Fail> {
-    for length in [2, 64] {
+    for length in [2, 3, 8, 17, 64] {
         for domains in [1, 2, 8] {
             for order in [Order::Rising, Order::Falling, Order::Mixed] {
                 let chain = Chain {
