@@ -19,6 +19,7 @@ use Rattle.heap_rule.specs.Copies.{Owes, Promoting, AllCleared, Emptied, Rooted}
 use Rattle.heap_rule.specs.Phases.{Pause, Phases, sum_of, IsEven, IsOdd, Staged, Still, TookBack, HasSetBack, Unwished, last_from, last_note}
 use Rattle.heap_rule.specs.Pools.{Stock, Reserved, Covered, limit_of, Tenancy, Pools, Grid, Drawers, Resting, Hunter, Lists, Holder}
 use Rattle.heap_rule.specs.declared.view.Listing.{Listing}
+use Rattle.heap_rule.specs.Deciding.{Deciding}
 use Rattle.heap_rule.specs.Rule.{state_of, AllFound, Making, Account, Sharing, Rule, Good}
 use Rattle.heap_rule.specs.Room.{Room, IsUnused, Drawable}
 use Rattle.remembered_set.specs.Bounded.{Bounded}
@@ -109,7 +110,7 @@ cycle_untouched words words' u changed = record {
 
 -- all that the rule says of a domain's share stays where nothing of a collection moves
 pub sharing_words : (k : Config) (all all' : Account) (words words' : List ℕ) (z : DomainView) → all'.log ≡ all.log → all'.live ≡ all.live → all'.tenancy.holder ≡ all.tenancy.holder → all'.tenancy.garbage ≡ all.tenancy.garbage → all'.cycling ≡ all.cycling
-    → SameCycle words words' → ((a : ℕ) → at_address k words' a ≡ at_address k words a) → Sharing k all words z.own.number z.own.registers z.own.ephemerons.items z.seen.stage z.seen.share → Sharing k all' words' z.own.number z.own.registers z.own.ephemerons.items z.seen.stage z.seen.share
+    → SameCycle words words' → ((a : ℕ) → at_address k words' a ≡ at_address k words a) → Sharing k all words z.own.number z.own.registers z.own.finalisers z.own.ephemerons.items z.seen.stage z.seen.share → Sharing k all' words' z.own.number z.own.registers z.own.finalisers z.own.ephemerons.items z.seen.stage z.seen.share
 sharing_words k all all' words words' z log live holder garbage cycling same heap sh = record {
   telling = subst (λ (c : Cycling). Telling c.paint.colours c.shares z.own.number z.seen.share) (sym cycling) sh.telling;
   leading = subst (λ (c : Cycling). Leading c words' z.own.number z.seen.stage z.seen.share) (sym cycling) (leading_words all.cycling words words' z.own.number z.seen.stage z.seen.share same sh.leading);
@@ -118,6 +119,7 @@ sharing_words k all all' words words' z log live holder garbage cycling same hea
   adds = subst (λ (m : Live × Cycling). Adds m.0 m.1 z.own.number z.seen.share) (λ i. (sym live i, sym cycling i)) sh.adds;
   looks = subst (λ (m : List Entry × Live × (ℕ → Holder) × (ℕ → Bool) × Cycling). Looks m.1 m.2 m.3 (state_of k m.0).graph m.4.paint.marks m.4.paint.emptied z.own.number z.own.ephemerons.items z.seen.stage z.seen.share)
       (λ i. (sym log i, sym live i, sym holder i, sym garbage i, sym cycling i)) sh.looks;
+  deciding = subst (λ (m : Live × Cycling). Deciding m.0 m.1.kind m.1.left m.1.shares.arrived m.1.paint.marks.marked z.own.number z.own.finalisers z.seen.share.kept z.seen.share.waiting) (λ i. (sym live i, sym cycling i)) sh.deciding;
 }
 
 -- the heap's words stay
@@ -211,9 +213,9 @@ module _ (k : Config) (s : Words) (r : Rule k s) (id : ℕ) (hist : List Entry) 
     pub full : Fullness k r.account.log r.account.live r.account.tenancy.holder r.account.tenancy.fresh homes' c'.kind
     pub paint : c'.paint ≡ r.account.cycling.paint
     pub cycle : Cycled k (state_of k r.account.log) r.account.live pause' (record r.account.tenancy { stock = stock' }) c' words'
-    pub sharing : Sharing k (turned pause' (record r.account.tenancy { stock = stock' }) c' homes') words' y.own.number y.own.registers y.own.ephemerons.items y.seen.stage y.seen.share
+    pub sharing : Sharing k (turned pause' (record r.account.tenancy { stock = stock' }) c' homes') words' y.own.number y.own.registers y.own.finalisers y.own.ephemerons.items y.seen.stage y.seen.share
     pub sharings : (z : DomainView) → z.own.number < k.domains → z.own.number ≢ x.own.number → Good k r.account s.words z
-        → Sharing k (turned pause' (record r.account.tenancy { stock = stock' }) c' homes') words' z.own.number z.own.registers z.own.ephemerons.items z.seen.stage z.seen.share
+        → Sharing k (turned pause' (record r.account.tenancy { stock = stock' }) c' homes') words' z.own.number z.own.registers z.own.finalisers z.own.ephemerons.items z.seen.stage z.seen.share
     pub untouched : Untouched s.words words'
     pub front : IsFrontOf x.own.number r.account.log y.seen.front
     pub phases : Phases k pause' words'
@@ -255,9 +257,7 @@ module _ (k : Config) (s : Words) (r : Rule k s) (id : ℕ) (hist : List Entry) 
       record {
         wide = o.untouched.0 ∙ r.whole.wide;
         legal = r.whole.legal;
-        plain = r.whole.plain;
         full = o.full;
-        queues = r.whole.queues;
         found = subst (λ (paint : Paint). AllFound k paint r.account.live (state_of k r.account.log).graph words') (sym o.paint) (found_untouched k r.account.cycling.paint r.account.live (state_of k r.account.log).graph s.words words' o.untouched r.whole.found);
         placed = r.whole.placed;
         spread = r.whole.spread;
@@ -281,7 +281,7 @@ module _ (k : Config) (s : Words) (r : Rule k s) (id : ℕ) (hist : List Entry) 
       }
       (knows_front k s r id hist x at y refl o.front)
       record {
-        stood = record { wide = g.stood.wide; each = g.stood.each; serial = g.stood.serial };
+        stood = record { wide = g.stood.wide; each = g.stood.each; serial = g.stood.serial; enrolled = g.stood.enrolled };
         area = record { room = g.area.room; free = g.area.free; classes = g.area.classes };
         making = record { fits = p.fits; written = p.written };
         staged = o.staged;

@@ -28,6 +28,10 @@ use Rattle.heap_rule.specs.Changes.{value_at}
 use Rattle.heap_rule.specs.Copies.{nothing_copied, known, Owes, Copies, Promoting, IsOldValue, HoldsOld, Rooted}
 use Rattle.heap_rule.specs.Phases.{Pause, Phases, IsOdd, Staged, Still, TookBack, HasSetBack, Unwished}
 use Rattle.heap_rule.specs.Pools.{no_stock, drawn, Stock, Hunts, KeepsReserve, Resting, Tenancy, Pools, Grid, place_in, size_of}
+use Rattle.heap_rule.specs.declared.view.Finalisers.{Finalisers}
+use Rattle.heap_rule.specs.Finalisers.{RefersOld, Enrolled}
+use Rattle.heap_rule.proofs.FinaliserLemmas.{enrolled_at}
+use Rattle.heap_model.specs.declared.state.State as model
 use Rattle.heap_rule.specs.Rule.{state_of, AllFound, Stood, Rule, Account, Sharing, Good}
 use Rattle.heap_rule.specs.Views.{one}
 use Rattle.heap_rule.proofs.Again.{Back, placed_back, spread_back, area_back, none_back}
@@ -83,6 +87,10 @@ stands_old k live (Ref a) Nothing old s = s
 stands_old k live NothingWord (Int v) old s = s
 stands_old k live NothingWord (Block l) old s = s
 stands_old k live NothingWord Nothing old s = s
+
+-- what lists of finalisers refer to in the pools
+enrolled_old : (k : Config) (live : Live) (s : model.State) (d : ℕ) (fs : Finalisers) → RefersOld k fs → Enrolled live s d fs → Enrolled (dropped k live) s d fs
+enrolled_old k live s d fs old e = enrolled_at live (dropped k live) s d fs (λ h a l at _ lives. (lives.0, kept_low k live a lives.0 lives.1 (old h a at), lives.2)) e
 
 pub word_old : (k : Config) (w : ℕ) (v : words.Value) → w ≡ value_word v → IsOldWord k w → IsOldValue k v
 word_old k w (IntWord z) e o = tt
@@ -193,8 +201,8 @@ module _ (k : Config) (s : Words) (r : Rule k s) (id : ℕ) (hist : List Entry) 
     pub paint : c'.paint ≡ r.account.cycling.paint
     pub kind : c'.kind ≡ r.account.cycling.kind
     pub cycle : Cycled k (state_of k r.account.log) (dropped k r.account.live) pause' (record r.account.tenancy { stock = no_stock }) c' words'
-    pub sharing : Sharing k (dropped_to pause' c') words' y.own.number y.own.registers y.own.ephemerons.items y.seen.stage y.seen.share
-    pub sharings : (z : DomainView) → z.own.number < k.domains → z.own.number ≢ x.own.number → Good k r.account s.words z → Sharing k (dropped_to pause' c') words' z.own.number z.own.registers z.own.ephemerons.items z.seen.stage z.seen.share
+    pub sharing : Sharing k (dropped_to pause' c') words' y.own.number y.own.registers y.own.finalisers y.own.ephemerons.items y.seen.stage y.seen.share
+    pub sharings : (z : DomainView) → z.own.number < k.domains → z.own.number ≢ x.own.number → Good k r.account s.words z → Sharing k (dropped_to pause' c') words' z.own.number z.own.registers z.own.finalisers z.own.ephemerons.items z.seen.stage z.seen.share
     pub untouched : Untouched s.words words'
     pub front : IsFrontOf x.own.number r.account.log y.seen.front
     pub phases : Phases k pause' words'
@@ -240,8 +248,9 @@ module _ (k : Config) (s : Words) (r : Rule k s) (id : ℕ) (hist : List Entry) 
       let back : Back live0 live1 = drop_back k paint0 live0 graph words' found0 r.whole.copies o.free in
       let stood_low : (z : DomainView) → HoldsOld k z → Stood live0 (state_of k r.account.log) z → Stood live1 (state_of k r.account.log) z = (λ z old st. record {
         wide = st.wide;
-        each = λ q few. stands_old k live0 (value_at z.own.registers q) (register (state_of k r.account.log) z.own.number q) (old q few) (st.each q few);
+        each = λ q few. stands_old k live0 (value_at z.own.registers q) (register (state_of k r.account.log) z.own.number q) (old.0 q few) (st.each q few);
         serial = st.serial;
+        enrolled = enrolled_old k live0 (state_of k r.account.log) z.own.number z.own.finalisers old.1 st.enrolled;
       }) in
       let pools1 = pools_untouched k t s.words words' o.untouched r.whole.pools in
       let grid1 = drop_grid k paint0 live0 graph words' found0 r.whole.copies o.free t pools1 (grid_untouched k t live0 s.words words' o.untouched r.whole.grid) in
@@ -255,9 +264,7 @@ module _ (k : Config) (s : Words) (r : Rule k s) (id : ℕ) (hist : List Entry) 
       record {
         wide = o.untouched.0 ∙ r.whole.wide;
         legal = r.whole.legal;
-        plain = r.whole.plain;
         full = full_back k r.account.log live0 live1 t.holder t.fresh r.account.homes c'.kind back (full_kind k r.account.log live0 t.holder t.fresh r.account.homes r.account.cycling.kind c'.kind (subst (λ (kind : Kind). (kind ≡ Answer → ⊥) → r.account.cycling.kind ≡ Answer → ⊥) (sym o.kind) (λ h. h)) r.whole.full);
-        queues = r.whole.queues;
         found = subst (λ (p : Paint). AllFound k p live1 graph words') (sym o.paint) (drop_found k paint0 live0 graph words' found0 r.whole.copies o.free);
         placed = placed_back k live0 live1 back r.whole.placed;
         spread = spread_back k live0 live1 back r.whole.spread;
@@ -285,7 +292,7 @@ module _ (k : Config) (s : Words) (r : Rule k s) (id : ℕ) (hist : List Entry) 
       }
       (knows_front k s r id hist x at y refl o.front)
       record {
-        stood = record { wide = mine_stood.wide; each = mine_stood.each; serial = mine_stood.serial };
+        stood = record { wide = mine_stood.wide; each = mine_stood.each; serial = mine_stood.serial; enrolled = mine_stood.enrolled };
         area = record { room = mine_area.room; free = mine_area.free; classes = mine_area.classes };
         making = record { fits = p.fits; written = p.written };
         staged = o.staged;

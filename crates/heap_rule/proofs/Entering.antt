@@ -1,5 +1,5 @@
 -- An own entry that changes registers and no word of the heap.
-use Rattle.std.proofs.Common.{◌≡◌, ◌≢◌, ℕ, ◌<◌, false, List, [], ◌∷◌, ◌++◌, length, get_or, set, sym, refl, ap, ◌∙◌, subst, ne_eqb}
+use Rattle.std.proofs.Common.{◌≡◌, ◌≢◌, ℕ, ◌<◌, Bool, false, List, [], ◌∷◌, ◌++◌, length, get_or, set, sym, refl, ap, ◌∙◌, subst, ne_eqb}
 use mathlib.Core.Option.{some}
 use lib.ListN.{get_elem?}
 use Rattle.heap_model.specs.declared.command.Command.{Command}
@@ -15,9 +15,8 @@ use Rattle.heap_model.specs.Commands.{FitsMode}
 use Rattle.heap_model.specs.Domains.{domain_at, IsShaped}
 use Rattle.heap_model.specs.Entries.{Allowed, next}
 use Rattle.heap_model.specs.History.{is_entry_of}
-use Rattle.heap_model.specs.Fronts.{IsCalm}
 use Rattle.heap_model.proofs.Histories.ShapeAfterLemmas.{shaped-history}
-use Rattle.heap_model.proofs.Commands.FrameLemmas.{inside_running, calm_command}
+use Rattle.heap_model.proofs.Commands.FrameLemmas.{inside_running, frame_command}
 use Rattle.heap_model.proofs.Histories.FrontLemmas.{answers_push}
 use Rattle.heap_model.proofs.Commands.LeavesLemmas.{Leaves}
 use Rattle.heap_words.specs.declared.value.Value.{Value}
@@ -33,9 +32,12 @@ use Rattle.heap_rule.specs.Rule.{state_of, AllFound, Stood, Rule}
 use Rattle.heap_rule.specs.Standing.{Acts, Entered, with_front, with_own, with_registers}
 use Rattle.heap_rule.proofs.ChangeLemmas.{changed_only}
 use Rattle.heap_rule.proofs.Values.{AllStand, holds}
-use Rattle.heap_rule.proofs.Keeps.{Words, IsCommand, mine, my_good, own, control_same, controls_kept, appends, legal_entry, hunter_as, more_same, owes_as, recalls_same, run_settled, run_calm}
-use Rattle.heap_rule.specs.Cycles.{IsPlainCommand, IsPlainEntry}
-use Rattle.heap_rule.proofs.FullnessLemmas.{full_stays, command_collects}
+use Rattle.heap_rule.proofs.Keeps.{Words, IsOfTrace, mine, my_good, own, control_same, controls_kept, appends, legal_entry, hunter_as, more_same, owes_as, recalls_same, run_settled, run_open}
+use Rattle.heap_model.proofs.Commands.MoveLemmas.{registers_one}
+use Rattle.heap_rule.specs.declared.view.Finalisers.{Finalisers}
+use Rattle.heap_rule.specs.Finalisers.{Enrolled, StandsWaiting}
+use Rattle.heap_rule.proofs.FinaliserLemmas.{KeepsWork, enrolled_as, paired_none, work_command}
+use Rattle.heap_rule.proofs.FullnessLemmas.{full_stays, trace_collects}
 
 module _ (k : Config) (s : Words) (r : Rule k s) (id : ℕ) (hist : List Entry) (x : DomainView) (at : get_elem? s.views id ≡ some (one k hist x)) (acts : Acts k x) where
   abbrev now : model.State
@@ -63,9 +65,9 @@ module _ (k : Config) (s : Words) (r : Rule k s) (id : ℕ) (hist : List Entry) 
   -- What an own entry owes that leaves this graph: the registers then stand for those that it leaves
   pub record EntersTo (graph : Graph) (e : Entry) (registers : List Value) (answer : Applied) : Type 0 where
     pub alone : (d : ℕ) → d ≢ x.own.number → is_entry_of d e ≡ false
-    pub plain : IsPlainEntry e
     pub allowed : Allowed now e
-    pub calm : IsCalm (next now e)
+    pub is_open : (next now e).mode ≡ Open
+    pub work : KeepsWork now (next now e) x.own.number
     pub theirs : List model_value.Value
     pub stand : AllStand r.account.live registers theirs
     pub leaves : Leaves now e x.own.number graph theirs (domain_at now x.own.number).serial answer
@@ -75,50 +77,55 @@ module _ (k : Config) (s : Words) (r : Rule k s) (id : ℕ) (hist : List Entry) 
   Enters e registers answer = EntersTo now.graph e registers answer
 
   -- no collector's entry is open
-  pub calm : IsCalm now
-  calm = run_calm k s r id hist x at acts.runs
+  pub now_open : now.mode ≡ Open
+  now_open = run_open k s r id hist x at acts.runs
 
   -- the mode is open, and the own queue is empty: what every command but `full_major` waits for
   pub may_begin : (now.mode ≡ Open) × ((domain_at now x.own.number).queue ≡ [])
-  may_begin = (calm.mode, calm.queues x.own.number)
+  may_begin = (now_open, paired_none (StandsWaiting r.account.live) x.own.finalisers.queue.items (domain_at now x.own.number).queue acts.unqueued (my_good k s r id hist x at).stood.enrolled.queue)
+
+  -- a command leaves the mode as it was
+  pub open_after : (c : Command) (full : Bool) → (next now (CommandOf x.own.number c full)).mode ≡ Open
+  open_after c full = (frame_command now x.own.number c full).mode ∙ now_open
 
   -- the entry of a command that may begin
-  pub enters_command : (graph : Graph) (c : Command) → IsPlainCommand c → FitsMode now x.own.number c → (registers : List Value) (answer : Applied) (theirs : List model_value.Value) → AllStand r.account.live registers theirs
+  pub enters_command : (graph : Graph) (c : Command) → registers_one c ≡ false → FitsMode now x.own.number c → (registers : List Value) (answer : Applied) (theirs : List model_value.Value) → AllStand r.account.live registers theirs
       → Leaves now (CommandOf x.own.number c false) x.own.number graph theirs (domain_at now x.own.number).serial answer → EntersTo graph (CommandOf x.own.number c false) registers answer
-  enters_command graph c plain fits registers answer theirs stand leaves = record {
+  enters_command graph c unregistering fits registers answer theirs stand leaves = record {
     alone = λ m other. ne_eqb x.own.number m (λ e. other (sym e));
-    plain = plain;
     allowed = record { running = running; fits = fits; full_fits = tt };
-    calm = calm_command now x.own.number c false calm;
+    is_open = open_after c false;
+    work = work_command now x.own.number c false unregistering;
     theirs = theirs;
     stand = stand;
     leaves = leaves;
   }
 
-  pub stood_after : (graph : Graph) (e : Entry) (registers : List Value) (answer : Applied) (y : DomainView) → y.own.number ≡ x.own.number → y.own.registers ≡ registers → y.own.serial ≡ x.own.serial → EntersTo graph e registers answer
+  pub stood_after : (graph : Graph) (e : Entry) (registers : List Value) (answer : Applied) (y : DomainView) → y.own.number ≡ x.own.number → y.own.registers ≡ registers → y.own.serial ≡ x.own.serial → y.own.finalisers ≡ x.own.finalisers → EntersTo graph e registers answer
       → Stood r.account.live (next now e) y
-  stood_after graph e registers answer y number regs serial o = record {
+  stood_after graph e registers answer y number regs serial finalisers o = record {
     wide = ap length regs ∙ o.stand.wide;
     each = λ q few. subst (λ (z : List Value × ℕ). Stands r.account.live (value_at z.0 q) (get_or (domain_at (next now e) z.1).registers q Nothing)) (λ i. (sym regs i, sym number i))
         (subst (λ (l : List model_value.Value). Stands r.account.live (value_at registers q) (get_or l q Nothing)) (sym o.leaves.registers_are) (o.stand.each q few));
     serial = serial ∙ ((my_good k s r id hist x at).stood.serial ∙ (sym o.leaves.serial_is ∙ ap (λ (n : ℕ). (domain_at (next now e) n).serial) (sym number)));
+    enrolled = subst (λ (z : ℕ × Finalisers). Enrolled r.account.live (next now e) z.0 z.1) (λ i. (sym number i, sym finalisers i))
+        (enrolled_as r.account.live now (next now e) x.own.number x.own.finalisers o.work (my_good k s r id hist x at).stood.enrolled);
   }
 
   abbrev pub entered_view : Entry → List Value → DomainView
   entered_view e registers = with_front (with_registers x registers) (r.account.log ++ e ∷ [])
 
-  pub enters_rule : (e : Entry) (registers : List Value) (answer : Applied) → Enters e registers answer → IsCommand e → Rule k record { words = s.words; homes = s.homes; views = set s.views id (one k hist (entered_view e registers)) }
-  enters_rule e registers answer o command = let g = my_good k s r id hist x at in appends k s r id hist x at e (entered_view e registers) s.words r.account.live r.account.homes record {
-    full = full_stays k r.account.log r.account.live r.account.tenancy.holder r.account.tenancy.fresh r.account.homes r.account.cycling.kind e (command_collects e command) r.whole.full;
+  pub enters_rule : (e : Entry) (registers : List Value) (answer : Applied) → Enters e registers answer → IsOfTrace e → Rule k record { words = s.words; homes = s.homes; views = set s.views id (one k hist (entered_view e registers)) }
+  enters_rule e registers answer o of_trace = let g = my_good k s r id hist x at in appends k s r id hist x at e (entered_view e registers) s.words r.account.live r.account.homes record {
+    full = full_stays k r.account.log r.account.live r.account.tenancy.holder r.account.tenancy.fresh r.account.homes r.account.cycling.kind e (trace_collects e of_trace) r.whole.full;
     alone = o.alone;
-    command = command;
-    plain = o.plain;
+    of_trace = of_trace;
     runs = acts.runs;
     stage = refl;
     listing = refl;
     share = refl;
     allowed = o.allowed;
-    calm = o.calm;
+    is_open = o.is_open;
     number = refl;
     front = refl;
     arrivals = refl;
@@ -133,7 +140,7 @@ module _ (k : Config) (s : Words) (r : Rule k s) (id : ℕ) (hist : List Entry) 
     recalls = λ d _. recalls_same d r.account.live;
     naming = r.whole.copies.naming;
     more = more_same r.account.live;
-    stood = stood_after now.graph e registers answer (entered_view e registers) refl refl refl o;
+    stood = stood_after now.graph e registers answer (entered_view e registers) refl refl refl refl o;
     area = record { room = g.area.room; free = g.area.free; classes = g.area.classes };
     making = record { fits = g.making.fits; written = g.making.written };
     areas = λ z _ h. h;
@@ -149,5 +156,5 @@ module _ (k : Config) (s : Words) (r : Rule k s) (id : ℕ) (hist : List Entry) 
   enters graph e answer read changes o = let y : DomainView = entered_view e ((changed read changes x.own).registers) in record {
     answers = answers_push (sizes_in k) x.own.number r.account.log x.seen.front e answer (mine k s r id hist x at).front (legal_entry k s r id hist x at e o.allowed) o.leaves.replies;
     view = ap (λ (own : Own). with_front (with_own x own) y.seen.front) (sym (changed_only read changes x.own));
-    holds = holds k r.limits r.account.live r.whole.placed (next now e) y (stood_after graph e ((changed read changes x.own).registers) answer y refl refl refl o);
+    holds = holds k r.limits r.account.live r.whole.placed (next now e) y (stood_after graph e ((changed read changes x.own).registers) answer y refl refl refl refl o);
   }

@@ -1,7 +1,7 @@
 -- Fullness through the steps: as entries come, as blocks cease to live, and from phase to phase.
 use Rattle.std.proofs.Common.{◌≡◌, ℕ, false, IsTrue, List, [], ◌∷◌, ◌++◌, Option, Some, sym, ap, ◌∙◌, subst, inl, inr, ⊎_elim, refl, ◌≢◌, ◌≤◌, ◌||◌, cond, arith, ◌⊎◌, true, None, ◌*◌, ◌+◌, ◌<◌, Bool}
 use Rattle.heap_model.specs.declared.entry.Entry.{Entry}
-use Rattle.heap_model.specs.declared.entry.Entry.TheVariants.{Command as CommandOf}
+use Rattle.heap_model.specs.declared.entry.Entry.TheVariants.{Command as CommandOf, Ran}
 use Rattle.heap_model.specs.declared.graph.Node.{Node}
 use Rattle.heap_model.specs.declared.label.Label.{Label}
 use Rattle.heap_model.specs.declared.state.State as model
@@ -19,7 +19,7 @@ use Rattle.heap_rule.specs.Limits.{sizes_in}
 use Rattle.heap_rule.specs.Places.{Live, Place}
 use Rattle.heap_rule.specs.Pools.{Holder, place_in, Tenancy, Pools, OwnPlace, size_of}
 use Rattle.heap_rule.specs.Fullness.{Homes, Fullness}
-use Rattle.heap_rule.proofs.Keeps.{IsCommand}
+use Rattle.heap_rule.proofs.Keeps.{IsOfTrace}
 use Rattle.heap_rule.proofs.Again.{Back}
 use mathlib.Core.Logic.{dite}
 use native.Mathlib.Decide.{ℕ_discrete}
@@ -73,10 +73,11 @@ pub full_kind : (k : Config) (log : List Entry) (live : Live) (holder : ℕ → 
     → Fullness k log live holder fresh homes kind → Fullness k log live holder fresh homes kind'
 full_kind k log live holder fresh homes kind kind' goes f = record { kept = f.kept; low = f.low; young = f.young; made = f.made; owned = λ h. f.owned (goes h); drawn = f.drawn }
 
--- a command collects nothing
-pub command_collects : (e : Entry) → IsCommand e → is_collected e ≡ false
-command_collects (CommandOf d c full) is = refl
-command_collects _ is = absurd is
+-- neither a command nor the run of a finaliser collects anything
+pub trace_collects : (e : Entry) → IsOfTrace e → is_collected e ≡ false
+trace_collects (CommandOf d c full) is = refl
+trace_collects (Ran d) is = refl
+trace_collects _ is = absurd is
 
 label_discrete : (l x : Label) → (l ≡ x) ⊎ (l ≡ x → ⊥)
 label_discrete l x = go (same_label l x) refl where

@@ -15,13 +15,13 @@ use Rattle.heap_model.specs.declared.graph.Value.TheVariants.{Int, Block, Nothin
 use Rattle.heap_words.specs.declared.value.Value as words
 use Rattle.heap_words.specs.declared.value.Value.TheVariants.{Int as IntWord, Ref, Nothing as NothingWord}
 use Rattle.heap_model.specs.declared.entry.Entry.{Entry}
-use Rattle.heap_model.specs.declared.entry.Entry.TheVariants.{Command as CommandOf}
+use Rattle.heap_model.specs.declared.entry.Entry.TheVariants.{Command as CommandOf, Ran}
 use Rattle.heap_model.specs.declared.state.DomainState.{DomainState}
 use Rattle.heap_model.specs.declared.state.State as model
 use Rattle.heap_model.specs.Domains.{domain_at, register, opening}
 use Rattle.heap_model.specs.Entries.{Allowed, next}
 use Rattle.heap_model.specs.History.{IsPrefix, Legal, is_entry_of}
-use Rattle.heap_model.specs.Fronts.{IsCalm, IsFrontOf, KeepsDomain, Shape}
+use Rattle.heap_model.specs.Fronts.{IsFrontOf, KeepsDomain, Shape}
 use Rattle.heap_model.proofs.Histories.HistoryLemmas.{legal_push, state_after-push}
 use Rattle.heap_model.proofs.Commands.FrameLemmas.{keeps_next, frame_command}
 use Rattle.heap_model.proofs.Histories.FrontLemmas.{front_whole, front_push, keeps_front}
@@ -43,8 +43,8 @@ use Rattle.heap_rule.specs.declared.phase.Kind.TheVariants.{Run, Promote}
 use Rattle.heap_rule.specs.declared.phase.Stage.{Stage}
 use Rattle.heap_rule.specs.declared.phase.Stage.TheVariants.{In, Leads, Led, Gone}
 use Rattle.heap_rule.specs.Phases.{Pause, Phases, sum_of, IsEven, AtStage, Staged, IsInPause, Still, Agree, flag, is_over, TookBack, HasSetBack, last_note}
-use Rattle.heap_rule.specs.Rule.{state_of, AllFound, Stood, Area, Making, Account, Good, Sharing, NoneQueued, Whole, Rule}
-use Rattle.heap_rule.specs.Cycles.{Cycling, Cycled, Telling, Leading, HasNoCycle, IsBetween, IsIdle, AllPlain, IsPlainEntry}
+use Rattle.heap_rule.specs.Rule.{state_of, AllFound, Stood, Area, Making, Account, Good, Sharing, Whole, Rule}
+use Rattle.heap_rule.specs.Cycles.{Cycling, Cycled, Telling, Leading, HasNoCycle, IsBetween, IsIdle}
 use Rattle.heap_rule.proofs.PauseFacts.{not_both, agree, nobody_paused, staged_as, run_promoting, run_resetting, kind_differs}
 use Rattle.heap_rule.proofs.Sharings.{SameCycle, kind_now, cycle_between, facts_between, leading_words, leading_as, telling_as, idle_in, idle_beside, takes_kind, adds_nothing}
 use Rattle.heap_rule.specs.Room.{spent_stock, count, drawn_in_all, copied_words, Room, IsUnused, Opened, Drawable}
@@ -53,17 +53,15 @@ use Rattle.heap_rule.specs.Layout.{heap_words}
 use Rattle.heap_rule.specs.Pools.{Stock, Reserved, Covered, Takes, IsCopying, Latest, DrawsFor, prepared_at, size_of, Tenancy, drawn, owned, Pools, Grid, Drawers, IsLeading, Lists, Resting, Hunts, Hunter, drawn_in, hunting_free, spot_at, IsBefore, limit_of}
 use Rattle.heap_rule.specs.Standing.{with_front}
 use Rattle.heap_rule.specs.Ephemerons.{IsEpheAt, Listed}
+use Rattle.heap_rule.specs.Finalisers.{RefersOld}
+use Rattle.heap_model.specs.declared.state.Mode.TheVariants.{Open}
+use Rattle.heap_rule.proofs.FinaliserLemmas.{KeepsWork, QueuesNothing, enrolled_as, enrolled_more, work_next, deciding_none, run_ended}
 use Rattle.heap_rule.proofs.EphemeronLemmas.{looks_idle, none_misses, listed_on, listed_as, ephe_more}
 use Rattle.heap_rule.proofs.Lists.{views_set, domains_map, domains_with, no_item}
 use Rattle.heap_rule.specs.Fullness.{Homes, Fullness}
 
 abbrev pub Words : Type 0
 Words = State (Unit {0}) View
-
--- one more entry
-pub plain_push : (h : List Entry) (e : Entry) → AllPlain h → IsPlainEntry e → AllPlain (h ++ e ∷ [])
-plain_push [] e all p = (p, tt)
-plain_push (x ∷ h) e all p = (all.0, plain_push h e all.1 p)
 
 pub more_same : (live : Live) → More live live
 more_same live a p lives = record { place = p; lives = lives; label = refl; shape = refl }
@@ -178,25 +176,35 @@ phases_words k t words words' b c s = record {
 pub phases_same : (k : Config) (t : Pause) (words words' : List ℕ) → Control k words words' → Phases k t words → Phases k t words'
 phases_same k t words words' c s = phases_words k t words words' (c 1 (omega arith)) (c 2 (omega arith)) s
 
--- an entry of a domain that is a command
-abbrev pub IsCommand : Entry → Type 0
-IsCommand (CommandOf d c full) = Unit {0}
-IsCommand _ = ⊥
+-- an entry that a domain makes as it runs: a command, or the run of a finaliser
+abbrev pub IsOfTrace : Entry → Type 0
+IsOfTrace (CommandOf d c full) = Unit {0}
+IsOfTrace (Ran d) = Unit {0}
+IsOfTrace _ = ⊥
 
--- a command ends no trace
-pub command_over : (s : model.State) (e : Entry) → IsCommand e → (d : ℕ) → is_over (next s e) d ≡ is_over s d
-command_over s (CommandOf j c full) is d = let f = frame_command s j c full in dite (ℕ_discrete d j)
+trace_queues : (e : Entry) → IsOfTrace e → QueuesNothing e
+trace_queues (CommandOf d c full) is = tt
+trace_queues (Ran d) is = tt
+trace_queues _ is = absurd is
+
+-- it ends no trace
+pub trace_over : (s : model.State) (e : Entry) → IsOfTrace e → (d : ℕ) → is_over (next s e) d ≡ is_over s d
+trace_over s (Ran j) is d = ap flag (run_ended s j (domain_at s j).queue d)
+trace_over s (CommandOf j c full) is d = let f = frame_command s j c full in dite (ℕ_discrete d j)
     (λ (same : d ≡ j). ap flag (ap (λ (n : ℕ). (domain_at (next s (CommandOf j c full)) n).ended) same ∙ (f.ended ∙ ap (λ (n : ℕ). (domain_at s n).ended) (sym same))))
     (λ (other : d ≢ j). ap (λ (z : DomainState). flag z.ended) (f.elsewhere d other))
-command_over s _ is d = absurd is
+trace_over s _ is d = absurd is
 
 pub sum_same : (f g : ℕ → ℕ) (n : ℕ) → ((d : ℕ) → d < n → g d ≡ f d) → sum_of g n ≡ sum_of f n
 sum_same f g zero each = refl
 sum_same f g (suc n) each = let a = sum_same f g n (λ d h. each d (omega arith)) in let b = each n (omega arith) in λ i. a i + b i
 
-pub rooted_as : (k : Config) (t : Pause) (x y : DomainView) → y.own.registers ≡ x.own.registers → y.own.arrivals ≡ x.own.arrivals → y.seen.remembered ≡ x.seen.remembered → Rooted k t x → Rooted k t y
-rooted_as k t x y registers arrivals remembered r = (
-  λ p up q few. subst (λ (l : List words.Value). IsOldValue k (value_at l q)) (sym registers) (r.0 p (sym arrivals ∙ up) q few),
+pub rooted_as : (k : Config) (t : Pause) (x y : DomainView) → y.own.registers ≡ x.own.registers → y.own.finalisers ≡ x.own.finalisers → y.own.arrivals ≡ x.own.arrivals → y.seen.remembered ≡ x.seen.remembered → Rooted k t x → Rooted k t y
+rooted_as k t x y registers finalisers arrivals remembered r = (
+  λ p up. let old = r.0 p (sym arrivals ∙ up) in (
+    λ q few. subst (λ (l : List words.Value). IsOldValue k (value_at l q)) (sym registers) (old.0 q few),
+    subst (RefersOld k) (sym finalisers) old.1,
+  ),
   λ past. remembered ∙ r.1 (⊎_elim (λ (h : Promoting t × (y.own.arrivals ≡ t.phase + 1)). inl (h.0, sym arrivals ∙ h.1)) (λ (h : Resetting t). inr h) past),
 )
 
@@ -406,11 +414,12 @@ hunter_as k t words x y number hunt looked free prepared pending h = record {
 }
 
 -- another domain's registers and serial stand for what they stood for
-pub stood_other : (live live' : Live) (s t : model.State) (x : DomainView) → KeepsDomain s t x.own.number → More live live' → Stood live s x → Stood live' t x
-stood_other live live' s t x keeps more st = record {
+pub stood_other : (live live' : Live) (s t : model.State) (x : DomainView) → KeepsDomain s t x.own.number → KeepsWork s t x.own.number → More live live' → Stood live s x → Stood live' t x
+stood_other live live' s t x keeps work more st = record {
   wide = st.wide;
   each = λ r few. subst (Stands live' (value_at x.own.registers r)) (sym (ap (λ (xs : List Value). get_or xs r Nothing) keeps.registers)) (stands_more live live' (value_at x.own.registers r) (register s x.own.number r) more (st.each r few));
   serial = st.serial ∙ sym keeps.serial;
+  enrolled = enrolled_more live live' t x.own.number x.own.finalisers more (enrolled_as live s t x.own.number x.own.finalisers work st.enrolled);
 }
 
 module _ (k : Config) (s : Words) (r : Rule k s) (id : ℕ) (hist : List Entry) (x : DomainView) (at : get_elem? s.views id ≡ some (one k hist x)) where
@@ -556,7 +565,7 @@ module _ (k : Config) (s : Words) (r : Rule k s) (id : ℕ) (hist : List Entry) 
   idle_here kind none is = idle_in k r.account.live r.account.tenancy.holder now.graph r.account.cycling.paint.marks s.words x kind none is my_good.sharing.knows
 
   pub sharing_here : (kind : Kind) → HasNoCycle kind → x.seen.stage ≡ In kind → (all' : Account) (words' : List ℕ) (y : DomainView) → all'.cycling ≡ r.account.cycling → SameCycle s.words words'
-      → y.own.number ≡ x.own.number → y.seen.stage ≡ x.seen.stage → y.seen.share ≡ x.seen.share → Sharing k all' words' y.own.number y.own.registers y.own.ephemerons.items y.seen.stage y.seen.share
+      → y.own.number ≡ x.own.number → y.seen.stage ≡ x.seen.stage → y.seen.share ≡ x.seen.share → Sharing k all' words' y.own.number y.own.registers y.own.finalisers y.own.ephemerons.items y.seen.stage y.seen.share
   sharing_here kind none is all' words' y cycling same number stage share = record {
     telling = subst (λ (c : Cycling). Telling c.paint.colours c.shares y.own.number y.seen.share) (sym cycling) (telling_as r.account.cycling.paint.colours r.account.cycling.shares x.own.number y.own.number x.seen.share y.seen.share number share my_good.sharing.telling);
     leading = subst (λ (c : Cycling). Leading c words' y.own.number y.seen.stage y.seen.share) (sym cycling)
@@ -565,10 +574,11 @@ module _ (k : Config) (s : Words) (r : Rule k s) (id : ℕ) (hist : List Entry) 
     adds = adds_nothing all'.live all'.cycling y.own.number y.seen.share (subst (λ (c : Cycling). HasNoCycle c.kind) (sym cycling) (no_cycle_here kind none is));
     looks = looks_idle all'.live all'.tenancy.holder all'.tenancy.garbage (state_of k all'.log).graph all'.cycling.paint.marks all'.cycling.paint.emptied y.own.number y.own.ephemerons.items y.seen.stage y.seen.share (subst IsIdle (sym share) (idle_here kind none is))
         (subst (λ (c : Cycling). (l : Label) → c.paint.emptied l ≡ []) (sym cycling) (whole_here kind none is));
+    deciding = deciding_none all'.live all'.cycling.kind all'.cycling.left all'.cycling.shares.arrived all'.cycling.paint.marks.marked y.own.number y.own.finalisers y.seen.share.kept y.seen.share.waiting (subst (λ (c : Cycling). HasNoCycle c.kind) (sym cycling) (no_cycle_here kind none is));
   }
 
   pub sharings_here : (kind : Kind) → HasNoCycle kind → x.seen.stage ≡ In kind → (all' : Account) (words' : List ℕ) → all'.cycling ≡ r.account.cycling → SameCycle s.words words'
-      → (z : DomainView) → Good k r.account s.words z → Sharing k all' words' z.own.number z.own.registers z.own.ephemerons.items z.seen.stage z.seen.share
+      → (z : DomainView) → Good k r.account s.words z → Sharing k all' words' z.own.number z.own.registers z.own.finalisers z.own.ephemerons.items z.seen.stage z.seen.share
   sharings_here kind none is all' words' cycling same z g = record {
     telling = subst (λ (c : Cycling). Telling c.paint.colours c.shares z.own.number z.seen.share) (sym cycling) g.sharing.telling;
     leading = subst (λ (c : Cycling). Leading c words' z.own.number z.seen.stage z.seen.share) (sym cycling) (leading_words r.account.cycling s.words words' z.own.number z.seen.stage z.seen.share same g.sharing.leading);
@@ -577,6 +587,7 @@ module _ (k : Config) (s : Words) (r : Rule k s) (id : ℕ) (hist : List Entry) 
     looks = looks_idle all'.live all'.tenancy.holder all'.tenancy.garbage (state_of k all'.log).graph all'.cycling.paint.marks all'.cycling.paint.emptied z.own.number z.own.ephemerons.items z.seen.stage z.seen.share
         (idle_beside k r.account.live r.account.tenancy.holder now.graph r.account.cycling.paint.marks s.words r.account.pause x z kind none is my_good.staged g.staged g.sharing.knows)
         (subst (λ (c : Cycling). (l : Label) → c.paint.emptied l ≡ []) (sym cycling) (whole_here kind none is));
+    deciding = deciding_none all'.live all'.cycling.kind all'.cycling.left all'.cycling.shares.arrived all'.cycling.paint.marks.marked z.own.number z.own.finalisers z.seen.share.kept z.seen.share.waiting (subst (λ (c : Cycling). HasNoCycle c.kind) (sym cycling) (no_cycle_here kind none is));
   }
 
   -- there is no garbage then
@@ -584,21 +595,20 @@ module _ (k : Config) (s : Words) (r : Rule k s) (id : ℕ) (hist : List Entry) 
   no_garbage_here kind none is a garbage = let e : false ≡ true = sym (r.whole.cycle.leaves.none (between_here kind none is).unrotated a) ∙ garbage in cc
 
   -- no collector's entry is open while a domain runs
-  pub run_calm : x.seen.stage ≡ In Run → IsCalm now
-  run_calm runs = record { mode = (between_here Run tt runs).mode; queues = r.whole.queues }
+  pub run_open : x.seen.stage ≡ In Run → now.mode ≡ Open
+  run_open runs = (between_here Run tt runs).mode
 
   -- What a step owes at which an own entry stands, whatever it does to the words
   pub record Appends (e : Entry) (y : DomainView) (words' : List ℕ) (live' : Live) (homes' : Homes) : Type 0 where
     pub alone : (d : ℕ) → d ≢ x.own.number → is_entry_of d e ≡ false
-    pub command : IsCommand e
-    pub plain : IsPlainEntry e
+    pub of_trace : IsOfTrace e
     pub full : Fullness k (r.account.log ++ e ∷ []) live' r.account.tenancy.holder r.account.tenancy.fresh homes' r.account.cycling.kind
     pub runs : x.seen.stage ≡ In Run
     pub stage : y.seen.stage ≡ x.seen.stage
     pub listing : y.seen.listing ≡ x.seen.listing
     pub share : y.seen.share ≡ x.seen.share
     pub allowed : Allowed now e
-    pub calm : IsCalm (next now e)
+    pub is_open : (next now e).mode ≡ Open
     pub number : y.own.number ≡ x.own.number
     pub front : y.seen.front ≡ r.account.log ++ e ∷ []
     pub arrivals : y.own.arrivals ≡ x.own.arrivals
@@ -632,9 +642,7 @@ module _ (k : Config) (s : Words) (r : Rule k s) (id : ℕ) (hist : List Entry) 
       record {
         wide = o.wide ∙ r.whole.wide;
         legal = legal_entry e o.allowed;
-        plain = plain_push r.account.log e r.whole.plain o.plain;
         full = o.full;
-        queues = subst NoneQueued (sym after) o.calm.queues;
         found = subst (λ (t : model.State). AllFound k r.account.cycling.paint live' t.graph words') (sym after) o.found;
         placed = o.placed;
         spread = o.spread;
@@ -644,7 +652,7 @@ module _ (k : Config) (s : Words) (r : Rule k s) (id : ℕ) (hist : List Entry) 
         emptied = λ h. absurd (run_resetting r.account.pause x o.runs my_good.staged h);
         phases = o.controls.phases;
         unwished = λ j odd led runs. o.controls.want ∙ r.whole.unwished j odd led runs;
-        endings = o.controls.ended ∙ (r.whole.endings ∙ sym (ap (λ (t : model.State). sum_of (is_over t) k.domains) after ∙ sum_same (is_over now) (is_over (next now e)) k.domains (λ d _. command_over now e o.command d)));
+        endings = o.controls.ended ∙ (r.whole.endings ∙ sym (ap (λ (t : model.State). sum_of (is_over t) k.domains) after ∙ sum_same (is_over now) (is_over (next now e)) k.domains (λ d _. trace_over now e o.of_trace d)));
         pools = o.controls.pools;
         reserved = o.controls.reserved;
         covered = o.controls.covered;
@@ -654,12 +662,12 @@ module _ (k : Config) (s : Words) (r : Rule k s) (id : ℕ) (hist : List Entry) 
         unused = r.whole.unused;
         opened = o.opened;
         drawable = o.controls.drawable;
-        cycle = cycle_here Run tt o.runs (state_of k log') live' r.account.tenancy words' (ap (λ (t : model.State). t.mode) after ∙ (o.calm.mode ∙ sym (between_here Run tt o.runs).mode)) (λ a. refl) o.controls.cycle;
+        cycle = cycle_here Run tt o.runs (state_of k log') live' r.account.tenancy words' (ap (λ (t : model.State). t.mode) after ∙ (o.is_open ∙ sym (between_here Run tt o.runs).mode)) (λ a. refl) o.controls.cycle;
       }
       (knows_entry y e o.alone o.number o.front)
       record { stood = subst (λ (t : model.State). Stood live' t y) (sym after) o.stood; area = o.area; making = o.making; staged = staged_as r.account.pause x y o.number o.arrivals o.stage my_good.staged; still = run_still log' y (o.stage ∙ o.runs); hunter = o.hunter; resting = resting_runs k s.words words' x y o.runs (o.stage ∙ o.runs) o.listing my_good.resting; took_back = running_took_back words' y (o.stage ∙ o.runs); owes = o.owes; rooted = run_rooted k r.account.pause x y o.runs my_good.staged; set_back = λ h. absurd (run_leads Run (sym (o.stage ∙ o.runs) ∙ h.0)); sharing = sharing_here Run tt o.runs (record r.account { log = log'; live = live'; homes = homes' }) words' y refl o.controls.cycle o.number o.stage o.share; listed = o.listed }
       (λ z _ other g. record {
-        stood = subst (λ (t : model.State). Stood live' t z) (sym after) (stood_other r.account.live live' now (next now e) z (keeps_next now e z.own.number (o.alone z.own.number other)) o.more g.stood);
+        stood = subst (λ (t : model.State). Stood live' t z) (sym after) (stood_other r.account.live live' now (next now e) z (keeps_next now e z.own.number (o.alone z.own.number other)) (work_next now e z.own.number (o.alone z.own.number other) (trace_queues e o.of_trace)) o.more g.stood);
         area = o.areas z other g.area;
         making = o.makings z other g.area g.making;
         staged = g.staged;
@@ -689,6 +697,7 @@ module _ (k : Config) (s : Words) (r : Rule k s) (id : ℕ) (hist : List Entry) 
     pub registers : y.own.registers ≡ x.own.registers
     pub arrivals : y.own.arrivals ≡ x.own.arrivals
     pub ephemerons : y.own.ephemerons ≡ x.own.ephemerons
+    pub finalisers : y.own.finalisers ≡ x.own.finalisers
     pub wide : length words' ≡ length s.words
     pub controls : Controls k r.account s.words words'
     pub found : AllFound k r.account.cycling.paint r.account.live now.graph words'
@@ -700,8 +709,8 @@ module _ (k : Config) (s : Words) (r : Rule k s) (id : ℕ) (hist : List Entry) 
     pub hunter : Hunter k r.account.tenancy words' y
     pub hunters : (z : DomainView) → z.own.number ≢ x.own.number → Good k r.account s.words z → Hunter k r.account.tenancy words' z
     pub cycle : Cycled k now r.account.live r.account.pause r.account.tenancy r.account.cycling words'
-    pub sharing : Sharing k r.account words' y.own.number y.own.registers y.own.ephemerons.items y.seen.stage y.seen.share
-    pub sharings : (z : DomainView) → z.own.number ≢ x.own.number → Good k r.account s.words z → Sharing k r.account words' z.own.number z.own.registers z.own.ephemerons.items z.seen.stage z.seen.share
+    pub sharing : Sharing k r.account words' y.own.number y.own.registers y.own.finalisers y.own.ephemerons.items y.seen.stage y.seen.share
+    pub sharings : (z : DomainView) → z.own.number ≢ x.own.number → Good k r.account s.words z → Sharing k r.account words' z.own.number z.own.registers z.own.finalisers z.own.ephemerons.items z.seen.stage z.seen.share
 
   pub writes : (y : DomainView) (words' : List ℕ) → Writes y words' → Rule k record { words = words'; homes = s.homes; views = set s.views id (one k hist y) }
   writes y words' o =
@@ -709,9 +718,7 @@ module _ (k : Config) (s : Words) (r : Rule k s) (id : ℕ) (hist : List Entry) 
       record {
         wide = o.wide ∙ r.whole.wide;
         legal = r.whole.legal;
-        plain = r.whole.plain;
         full = r.whole.full;
-        queues = r.whole.queues;
         found = o.found;
         placed = r.whole.placed;
         spread = r.whole.spread;
@@ -734,7 +741,7 @@ module _ (k : Config) (s : Words) (r : Rule k s) (id : ℕ) (hist : List Entry) 
         cycle = o.cycle;
       }
       (knows_front y o.number o.front)
-      record { stood = o.stood; area = o.area; making = o.making; staged = staged_as r.account.pause x y o.number o.arrivals o.stage my_good.staged; still = o.still; hunter = o.hunter; resting = resting_as k words' x y o.number o.stage o.hunt o.free o.listing (resting_lists k s.words words' x o.controls.lists my_good.resting); took_back = λ kind leads last. o.controls.want ∙ my_good.took_back kind (sym o.stage ∙ leads) (sym (ap last_note o.notes) ∙ last); owes = owes_as k r.account.live x y o.number o.copying o.stage o.remembered my_good.owes; rooted = rooted_as k r.account.pause x y o.registers o.arrivals o.remembered my_good.rooted; set_back = λ h. o.controls.set_back x my_good.staged (sym o.stage ∙ h.0, sym (ap last_note o.notes) ∙ h.1) (my_good.set_back (sym o.stage ∙ h.0, sym (ap last_note o.notes) ∙ h.1)); sharing = o.sharing; listed = listed_as r.account.live r.account.tenancy.holder r.account.tenancy.garbage x.own.number y.own.number x.own.ephemerons.items y.own.ephemerons.items o.number (ap (λ (b : Bounded ℕ). b.items) o.ephemerons) my_good.listed }
+      record { stood = o.stood; area = o.area; making = o.making; staged = staged_as r.account.pause x y o.number o.arrivals o.stage my_good.staged; still = o.still; hunter = o.hunter; resting = resting_as k words' x y o.number o.stage o.hunt o.free o.listing (resting_lists k s.words words' x o.controls.lists my_good.resting); took_back = λ kind leads last. o.controls.want ∙ my_good.took_back kind (sym o.stage ∙ leads) (sym (ap last_note o.notes) ∙ last); owes = owes_as k r.account.live x y o.number o.copying o.stage o.remembered my_good.owes; rooted = rooted_as k r.account.pause x y o.registers o.finalisers o.arrivals o.remembered my_good.rooted; set_back = λ h. o.controls.set_back x my_good.staged (sym o.stage ∙ h.0, sym (ap last_note o.notes) ∙ h.1) (my_good.set_back (sym o.stage ∙ h.0, sym (ap last_note o.notes) ∙ h.1)); sharing = o.sharing; listed = listed_as r.account.live r.account.tenancy.holder r.account.tenancy.garbage x.own.number y.own.number x.own.ephemerons.items y.own.ephemerons.items o.number (ap (λ (b : Bounded ℕ). b.items) o.ephemerons) my_good.listed }
       (λ z _ other g. record { stood = g.stood; area = g.area; making = o.makings z other g.area g.making; staged = g.staged; still = g.still; hunter = o.hunters z other g; resting = resting_lists k s.words words' z o.controls.lists g.resting; took_back = λ kind leads last. o.controls.want ∙ g.took_back kind leads last; owes = g.owes; rooted = g.rooted; set_back = λ h. o.controls.set_back z g.staged h (g.set_back h); sharing = o.sharings z other g; listed = g.listed })
 
   -- a step that leaves all but the front, which is then some front of the history
@@ -753,10 +760,11 @@ module _ (k : Config) (s : Words) (r : Rule k s) (id : ℕ) (hist : List Entry) 
     registers = refl;
     arrivals = refl;
     ephemerons = refl;
+    finalisers = refl;
     wide = refl;
     controls = controls_kept s.words (control_same k s.words);
     found = r.whole.found;
-    stood = record { wide = my_good.stood.wide; each = my_good.stood.each; serial = my_good.stood.serial };
+    stood = record { wide = my_good.stood.wide; each = my_good.stood.each; serial = my_good.stood.serial; enrolled = my_good.stood.enrolled };
     area = record { room = my_good.area.room; free = my_good.area.free; classes = my_good.area.classes };
     making = record { fits = my_good.making.fits; written = my_good.making.written };
     makings = λ z _ _ p. p;
@@ -801,9 +809,7 @@ module _ (k : Config) (s : Words) (r : Rule k s) (id : ℕ) (hist : List Entry) 
       record {
         wide = o.wide ∙ r.whole.wide;
         legal = r.whole.legal;
-        plain = r.whole.plain;
         full = o.full;
-        queues = r.whole.queues;
         found = o.found;
         placed = r.whole.placed;
         spread = r.whole.spread;
@@ -827,7 +833,7 @@ module _ (k : Config) (s : Words) (r : Rule k s) (id : ℕ) (hist : List Entry) 
       }
       (knows_front (hunting_free x looked hunt free) refl mine.front)
       record {
-        stood = record { wide = my_good.stood.wide; each = my_good.stood.each; serial = my_good.stood.serial };
+        stood = record { wide = my_good.stood.wide; each = my_good.stood.each; serial = my_good.stood.serial; enrolled = my_good.stood.enrolled };
         area = record { room = my_good.area.room; free = my_good.area.free; classes = my_good.area.classes };
         making = record { fits = own_making.fits; written = own_making.written };
         staged = record { arrivals = my_good.staged.arrivals; stage = my_good.staged.stage };

@@ -6,6 +6,7 @@ pub mod Values
 pub mod PauseFacts
 pub mod HeadLemmas
 pub mod EphemeronLemmas
+pub mod FinaliserLemmas
 pub mod Sharings
 pub mod Keeps
 pub mod Stages
@@ -32,5 +33,4 @@ pub mod Closes
 pub mod Plain
 pub mod Acting
 pub mod Calls
-pub mod PlainHistories
 pub mod OwnPlaces

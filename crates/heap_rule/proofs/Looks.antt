@@ -1,5 +1,5 @@
 -- A domain at the start has looked at no place of the pools.
-use Rattle.std.proofs.Common.{◌≡◌, ◌∙◌, ℕ, zero, suc, ◌+◌, ◌<◌, ◌≤◌, lit<, List, [], ◌∷◌, get_or, replicate, sym, refl, subst, arith}
+use Rattle.std.proofs.Common.{◌≡◌, ◌∙◌, ℕ, zero, suc, ◌+◌, ◌<◌, ◌≤◌, lit<, List, [], ◌∷◌, get_or, replicate, Some, zero-le, sym, refl, subst, arith}
 use Rattle.atomic_table.specs.Table.{Me}
 use Rattle.heap_model.specs.Domains.{class_count, IsWithinLimits}
 use Rattle.heap_words.specs.declared.value.Value.{Value}
@@ -14,7 +14,11 @@ use Rattle.heap_rule.specs.Limits.{sizes_in}
 use Rattle.heap_rule.specs.Token.{IsAddress, LooksWithin, IsSeatOf}
 use Rattle.remembered_set.specs.Bounded.{Bounded}
 use Rattle.heap_rule.specs.declared.view.Own.{Own}
-use Rattle.heap_rule.specs.Views.{one, domain_in, opening_view}
+use Rattle.heap_rule.specs.Finalisers.{FinalisersFit, held_at}
+use Rattle.heap_rule.specs.declared.view.Held.{Held}
+use Rattle.heap_rule.specs.declared.view.Held.TheVariants.{Final, Last, Queue}
+use Rattle.heap_rule.specs.declared.view.Waiting.TheVariants.{Fin}
+use Rattle.heap_rule.specs.Views.{one, domain_in, no_finalisers, opening_view}
 use Rattle.heap_rule.specs.declared.view.View.{View}
 use Rattle.heap_rule.proofs.Classes.{some_block}
 use Rattle.heap_rule.proofs.Lists.{no_item}
@@ -61,6 +65,23 @@ first_inside k limits (suc r) a e = absurd (no_ref a (sym (nothing_at 15 r) ∙ 
 pub empty_list : {T : Type 0} (b : Bounded T) (room : ℕ) → b.items ≡ [] → b.room ≡ room → b ≡ record { items = []; room = room }
 empty_list b room none free = λ i. record { items = none i; room = free i }
 
+-- nothing is registered
+none_held : (room : ℕ) (h : Held) (a : ℕ) → held_at (no_finalisers room) h ≡ Some a → ⊥
+none_held room (Final i) a e = cc
+none_held room (Last i) a e = cc
+none_held room (Queue i) a e = cc
+
+fit_first : (k : Config) → FinalisersFit k (no_finalisers k.finals)
+fit_first k = record {
+  few = zero-le;
+  finals_room = omega arith;
+  lasts_room = omega arith;
+  queue_room = omega arith;
+  inside = λ h a e. absurd (none_held k.finals h a e);
+  registers = λ i r e. absurd (no_item [] i r refl e);
+  queued_registers = λ i a n r e. absurd (no_item [] i (Fin a n r) refl e);
+}
+
 pub first_seat : (k : Config) (n : ℕ) (own : Own) (me : Me (Unit {0}) View) → own ≡ (opening_view k n).own → me ≡ (one k [] (opening_view k n), []) → IsWithinLimits (sizes_in k) → n < k.domains
     → IsSeatOf k (record { own = own; seen = (domain_in me.0.domains).seen }) me
 first_seat k n own me is e limits inside = subst (λ (m : Own × Me (Unit {0}) View). IsSeatOf k (record { own = m.0; seen = (domain_in m.1.0.domains).seen }) m.1) (λ i. (sym is i, sym e i)) record {
@@ -75,5 +96,6 @@ first_seat k n own me is e limits inside = subst (λ (m : Own × Me (Unit {0}) V
     prepared = refl;
     pending = omega arith;
     ephemerons = λ i a e. absurd (no_item [] i a refl e);
+    finalisers = fit_first k;
   };
 }

@@ -24,8 +24,9 @@ use Rattle.heap_rule.specs.Places.{Place, Live, extent, Stands, Found, Fits, Pla
 use Rattle.heap_rule.specs.Changes.{value_at}
 use Rattle.heap_rule.specs.declared.phase.Kind.TheVariants.{Run, Promote}
 use Rattle.heap_rule.specs.Phases.{Pause, sum_of, is_over, flag}
+use Rattle.heap_rule.proofs.FinaliserLemmas.{enrolled_none, deciding_none}
 use Rattle.heap_rule.proofs.Keeps.{sum_same, run_leads, copies_settled, room_unused}
-use Rattle.heap_rule.specs.Views.{EachView, AllDomains, Distinct, IsSeated, Knows, opening_view, opening_views, first_view}
+use Rattle.heap_rule.specs.Views.{no_finalisers, EachView, AllDomains, Distinct, IsSeated, Knows, opening_view, opening_views, first_view}
 use Rattle.heap_rule.specs.Rule.{Stood, Area, Account, Good, Whole, Rule}
 use Rattle.heap_rule.specs.Pools.{no_stock, IsPlace, Holder, nobody, drawn, owned, owner_word, Tenancy, Pools, Lot, Grid, place_in, size_of, blocks_of, IsBefore}
 use Rattle.heap_rule.proofs.Lots.{owned_same}
@@ -120,10 +121,6 @@ replicated zero d h = absurd (omega arith)
 replicated (suc n) zero h = refl
 replicated (suc n) (suc d) h = replicated n d (omega arith)
 
-queues_empty : (n d : ℕ) → (get_or (replicate n opening_domain) d no_domain).queue ≡ []
-queues_empty zero d = refl
-queues_empty (suc n) zero = refl
-queues_empty (suc n) (suc d) = queues_empty n d
 
 zero_field : (n i : ℕ) (v : Value) → slice_get (replicate n (Int (pos 0))) i ≡ Some v → (i < n) × (v ≡ Int (pos 0))
 zero_field zero i v e = cc
@@ -214,6 +211,7 @@ module _ (k : Config) (limits : IsWithinLimits (sizes_in k)) (words : List ℕ) 
     wide = refl;
     each = λ r few. subst (λ (x : DomainState). Stands only (value_at (Ref 1 ∷ replicate 15 NothingWord) r) (get_or x.registers r Nothing)) (sym is) (each r);
     serial = ap (λ (x : DomainState). x.serial) (sym is);
+    enrolled = enrolled_none only s0 d (no_finalisers k.finals) refl refl refl (ap (λ (x : DomainState). x.finals) is) (ap (λ (x : DomainState). x.lasts) is) (ap (λ (x : DomainState). x.queue) is);
   } where
     nothings : (n r : ℕ) → Stands only (value_at (replicate n NothingWord) r) (get_or (replicate n Nothing) r Nothing)
     nothings zero r = tt
@@ -288,7 +286,6 @@ module _ (k : Config) (limits : IsWithinLimits (sizes_in k)) (words : List ℕ) 
   whole = record {
     wide = opens.wide;
     legal = tt;
-    plain = tt;
     full = record {
       kept = λ a p e. let t = only_at a p e in subst (λ (l : Label). IsTrue (has_label (shared_label ∷ []) l)) (ap (λ (q : Place). q.label) t.1) refl;
       low = λ q d c slot p is inside e. let t = only_at (place_in q c slot) p e in let o = holder_at q d c is in subst (λ (l : Label). first_homes l ≡ Some q) (ap (λ (z : Place). z.label) t.1) (first_home ∙ ap Some (sym o.0));
@@ -297,7 +294,6 @@ module _ (k : Config) (limits : IsWithinLimits (sizes_in k)) (words : List ℕ) 
       owned = λ _ q d c is. let o = holder_at q d c is in inr (shared_label, refl, first_home ∙ ap Some (sym o.0));
       drawn = λ q d e. absurd (none_drawn q d e);
     };
-    queues = queues_empty k.domains;
     found = λ a p e. let t = only_at a p e in subst (λ (x : ℕ × Place). Found k first_cycle.paint only s0.graph words x.0 x.1) (λ i. (sym t.0 i, t.1 i)) found;
     placed = placed;
     spread = record { apart = λ a b p q e f young. absurd (only_old a p e young); inside = λ a p e young. absurd (only_old a p e young) };
@@ -393,6 +389,7 @@ module _ (k : Config) (limits : IsWithinLimits (sizes_in k)) (words : List ℕ) 
             knows = inl refl;
             adds = record { blocks = λ e _. refl; words = λ e _. refl; own = λ e _ f. cc };
             looks = record { at_own = λ a e. cc; pruned = λ i a low got. absurd (let h : i < 0 = low in omega arith); cleans = λ w e. cc; emptied_is = λ a p own lives. refl };
+            deciding = deciding_none only Run (λ _. 0) (λ _. false) (λ _. false) x (no_finalisers k.finals) 0 [] tt;
           };
           listed = record {
             all = λ q c slot is inside e. absurd (let t = only_at (place_in q c slot) e.place e.lives in let h : PlainShape 16 0 ≡ EpheShape e.keys = ap (λ (p : Place). p.shape) t.1 ∙ e.shape in cc);

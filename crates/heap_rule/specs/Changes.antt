@@ -35,7 +35,7 @@ abbrev pub changed : Value → List Change → Own → Own
 changed read [] own = own
 changed read (c ∷ cs) own = changed read cs (changed_one read c own)
 
--- the list has this place. So far the registers are the only list
+-- the list has this place. Only the registers are such a list
 abbrev pub HasPlace : Part → ℕ → Type 0
 HasPlace Register place = place < 16
 HasPlace _ place = ⊥

@@ -15,6 +15,7 @@ use Rattle.heap_rule.specs.declared.config.Config.{Config}
 use Rattle.heap_words.specs.declared.value.Value as words
 use Rattle.heap_words.specs.declared.value.Value.TheVariants.{Ref}
 use Rattle.heap_rule.specs.Changes.{value_at}
+use Rattle.heap_rule.specs.Finalisers.{RefersOld}
 use Rattle.heap_rule.specs.Phases.{Pause}
 use Rattle.heap_rule.specs.Places.{Debt, Place, Live, More, extent, IsOldAt}
 
@@ -144,8 +145,9 @@ abbrev pub IsOldValue : Config → words.Value → Type 0
 IsOldValue k (Ref a) = IsOldAt k a
 IsOldValue k _ = Unit {0}
 
+-- and the domain has none in a register, nor in a list of finalisers
 abbrev pub HoldsOld : Config → DomainView → Type 0
-HoldsOld k x = (r : ℕ) → r < 16 → IsOldValue k (value_at x.own.registers r)
+HoldsOld k x = ((r : ℕ) → r < 16 → IsOldValue k (value_at x.own.registers r)) × RefersOld k x.own.finalisers
 
 -- a domain is past Promote in this pause
 abbrev pub IsPast : Pause → DomainView → Type 0

@@ -2,10 +2,6 @@
 use Rattle.std.specs.Prelude.{◌≡◌, ◌≢◌, ℕ, zero, suc, ◌+◌, ◌*◌, ◌/◌, ◌%◌, ◌<◌, ◌⊎◌, ◌==◌, ◌||◌, nat_le, filter_map, Bool, true, false, cond, IsTrue, List, [], ◌∷◌, length, slice_get, sum_by, Option, Some, None, ◌^◌}
 use Rattle.std.specs.List.{list_any}
 use Rattle.heap_model.specs.declared.label.Label.{Label}
-use Rattle.heap_model.specs.declared.command.Command.{Command}
-use Rattle.heap_model.specs.declared.command.Command.TheVariants.{PutInt, Copy, Forget, Alloc, AllocMaj, Load, Store, Ephe as NewEphe, SetKey, UnsetKey, GetKey, CheckKey, SetData, UnsetData, GetData, CheckData, Poll, Minor, Major, FullMajor}
-use Rattle.heap_model.specs.declared.entry.Entry.{Entry}
-use Rattle.heap_model.specs.declared.entry.Entry.TheVariants.{Command as CommandOf, End, Cut, Seal, Wipe, Collected, Done}
 use Rattle.heap_model.specs.declared.graph.Value.{Value}
 use Rattle.heap_model.specs.declared.graph.Value.TheVariants.{Block}
 use Rattle.heap_model.specs.declared.graph.Node.TheVariants.{Plain, Ephe}
@@ -39,46 +35,6 @@ use Rattle.heap_rule.specs.Phases.{Pause, flag}
 use Rattle.heap_rule.specs.Places.{Place, Live, Paint, extent, HeadIs, IsHeadOf, IsPackableShape}
 use Rattle.heap_rule.specs.Pools.{Tenancy, Holder, OwnPlace, nobody, drawn, owned, size_of, blocks_of, place_in, IsBefore, IsLeading}
 use Rattle.heap_rule.specs.Views.{fresh_share}
-
--- the commands so far: none registers a finaliser, and none makes a raw block
-abbrev pub IsPlainCommand : Command → Type 0
-IsPlainCommand (PutInt dst z) = Unit {0}
-IsPlainCommand (Copy dst src) = Unit {0}
-IsPlainCommand (Forget dst) = Unit {0}
-IsPlainCommand (Alloc dst tag fields) = Unit {0}
-IsPlainCommand (AllocMaj dst tag fields) = Unit {0}
-IsPlainCommand (Load dst src i) = Unit {0}
-IsPlainCommand (Store block i item) = Unit {0}
-IsPlainCommand (NewEphe dst keys) = Unit {0}
-IsPlainCommand (SetKey ephe i item) = Unit {0}
-IsPlainCommand (UnsetKey ephe i) = Unit {0}
-IsPlainCommand (GetKey dst ephe i) = Unit {0}
-IsPlainCommand (CheckKey ephe i) = Unit {0}
-IsPlainCommand (SetData ephe item) = Unit {0}
-IsPlainCommand (UnsetData ephe) = Unit {0}
-IsPlainCommand (GetData dst ephe) = Unit {0}
-IsPlainCommand (CheckData ephe) = Unit {0}
-IsPlainCommand Poll = Unit {0}
-IsPlainCommand Minor = Unit {0}
-IsPlainCommand Major = Unit {0}
-IsPlainCommand FullMajor = Unit {0}
-IsPlainCommand _ = ⊥
-
--- and the entries: nothing is queued or run
-abbrev pub IsPlainEntry : Entry → Type 0
-IsPlainEntry (CommandOf d c true) = Unit {0}
-IsPlainEntry (CommandOf d c false) = IsPlainCommand c
-IsPlainEntry (End d) = Unit {0}
-IsPlainEntry Cut = Unit {0}
-IsPlainEntry Seal = Unit {0}
-IsPlainEntry (Wipe l keys) = Unit {0}
-IsPlainEntry Collected = Unit {0}
-IsPlainEntry Done = Unit {0}
-IsPlainEntry _ = ⊥
-
-abbrev pub AllPlain : List Entry → Type 0
-AllPlain [] = Unit {0}
-AllPlain (e ∷ h) = IsPlainEntry e × AllPlain h
 
 -- which blocks each domain has counted, and who has added them to the live blocks and to the live words
 pub record Counts : Type 0 where

@@ -1,4 +1,4 @@
--- The lists of a domain's token. So far there are the registers alone: every other list is empty.
+-- The list of a domain's token that is lent item by item: the registers. Each other list has reads of its own.
 use Rattle.std.specs.Prelude.{List, [], map}
 use Rattle.heap_words.specs.declared.value.Value.{Value}
 use Rattle.heap_rule.specs.declared.change.Part.{Part}

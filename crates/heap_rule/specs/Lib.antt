@@ -20,3 +20,5 @@ pub mod Standing
 pub mod Raw
 pub mod Running
 pub mod Ephemerons
+pub mod Finalisers
+pub mod Deciding

@@ -107,15 +107,17 @@ pub record Staged (t : Pause) (x : DomainView) : Type 0 where
   pub arrivals : x.own.arrivals ≡ t.arrived x.own.number
   pub stage : AtStage t x.own.number x.own.arrivals x.seen.stage
 
--- the domain acts in an even phase of a pause, and neither in that in which keys are emptied nor in that in which a collection is answered
+-- the domain acts in an even phase of a pause, and in none of those in which finalisers are queued, keys are emptied, or a collection is answered
 abbrev pub IsInPause : Stage → Type 0
 IsInPause (In Run) = ⊥
+IsInPause (In Decide) = ⊥
 IsInPause (In Clean) = ⊥
+IsInPause (In Lasts) = ⊥
 IsInPause (In Answer) = ⊥
 IsInPause (In _) = Unit {0}
 IsInPause _ = ⊥
 
--- then no entry is appended. Where keys are emptied, and where a collection is answered, each domain appends its own, and in an odd phase the collector's are, as the next kind is named
+-- then no entry is appended. In those phases each domain appends its own, and in an odd phase the collector's are, as the next kind is named
 abbrev pub Still : List Entry → DomainView → Type 0
 Still log x = IsInPause x.seen.stage → x.seen.front ≡ log
 

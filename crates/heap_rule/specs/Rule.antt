@@ -9,6 +9,7 @@ use Rattle.heap_model.specs.History.{state_after, Legal}
 use Rattle.heap_words.specs.declared.value.Value.{Value}
 use Rattle.heap_rule.specs.declared.config.Config.{Config}
 use Rattle.heap_rule.specs.declared.view.DomainView.{DomainView}
+use Rattle.heap_rule.specs.declared.view.Finalisers.{Finalisers}
 use Rattle.heap_rule.specs.declared.view.Share.{Share}
 use Rattle.heap_rule.specs.declared.view.View.{View}
 use Rattle.heap_rule.specs.declared.phase.Stage.{Stage}
@@ -20,8 +21,10 @@ use Rattle.heap_rule.specs.Room.{Room, IsUnused, Opened, Drawable}
 use Rattle.heap_rule.specs.Pools.{limit_of, Tenancy, Pools, Reserved, Covered, Grid, Drawers, Resting, Hunter}
 use Rattle.heap_rule.specs.Changes.{value_at}
 use Rattle.heap_rule.specs.Fullness.{Homes, Fullness}
-use Rattle.heap_rule.specs.Cycles.{Cycling, Cycled, Telling, Leading, KnowsBlocks, Adds, AllPlain}
+use Rattle.heap_rule.specs.Cycles.{Cycling, Cycled, Telling, Leading, KnowsBlocks, Adds}
+use Rattle.heap_rule.specs.Deciding.{Deciding}
 use Rattle.heap_rule.specs.Ephemerons.{Listed, Looks}
+use Rattle.heap_rule.specs.Finalisers.{Enrolled}
 use Rattle.heap_rule.specs.Phases.{Pause, Phases, Staged, Still, TookBack, HasSetBack, Unwished, CountsEnded}
 use Rattle.heap_rule.specs.Views.{EachView, EachDomain, Knows}
 
@@ -33,11 +36,12 @@ state_of k log = state_after (opening (sizes_in k)) log
 abbrev pub AllFound : Config → Paint → Live → Graph → List ℕ → Type 0
 AllFound k paint live graph words = (a : ℕ) (p : Place) → live a ≡ Some p → Found k paint live graph words a p
 
--- Represents: the registers and the serial of a domain stand for those of the state
+-- Represents: the registers, the serial and the finalisers of a domain stand for those of the state
 pub record Stood (live : Live) (s : model.State) (x : DomainView) : Type 0 where
   pub wide : length x.own.registers ≡ 16
   pub each : (r : ℕ) → r < 16 → Stands live (value_at x.own.registers r) (register s x.own.number r)
   pub serial : x.own.serial ≡ (domain_at s x.own.number).serial
+  pub enrolled : Enrolled live s x.own.number x.own.finalisers
 
 -- the rest of a domain's minor area is free
 pub record Area (k : Config) (live : Live) (x : DomainView) : Type 0 where
@@ -60,12 +64,13 @@ pub record Account : Type 0 where
   pub homes : Homes
 
 -- what the rule says of one domain's share of a collection
-pub record Sharing (k : Config) (all : Account) (words : List ℕ) (d : ℕ) (registers : List Value) (items : List ℕ) (stage : Stage) (share : Share) : Type 0 where
+pub record Sharing (k : Config) (all : Account) (words : List ℕ) (d : ℕ) (registers : List Value) (fs : Finalisers) (items : List ℕ) (stage : Stage) (share : Share) : Type 0 where
   pub telling : Telling all.cycling.paint.colours all.cycling.shares d share
   pub leading : Leading all.cycling words d stage share
   pub knows : KnowsBlocks k all.live all.tenancy.holder (state_of k all.log).graph all.cycling.paint.marks words d registers stage share
   pub adds : Adds all.live all.cycling d share
   pub looks : Looks all.live all.tenancy.holder all.tenancy.garbage (state_of k all.log).graph all.cycling.paint.marks all.cycling.paint.emptied d items stage share
+  pub deciding : Deciding all.live all.cycling.kind all.cycling.left all.cycling.shares.arrived all.cycling.paint.marks.marked d fs share.kept share.waiting
 
 -- all that the rule says of one domain
 pub record Good (k : Config) (all : Account) (words : List ℕ) (x : DomainView) : Type 0 where
@@ -80,7 +85,7 @@ pub record Good (k : Config) (all : Account) (words : List ℕ) (x : DomainView)
   pub owes : Owes k all.live x
   pub rooted : Rooted k all.pause x
   pub set_back : HasSetBack x → cursor words ≤ limit_of k (listed words)
-  pub sharing : Sharing k all words x.own.number x.own.registers x.own.ephemerons.items x.seen.stage x.seen.share
+  pub sharing : Sharing k all words x.own.number x.own.registers x.own.finalisers x.own.ephemerons.items x.seen.stage x.seen.share
   pub listed : Listed all.live all.tenancy.holder all.tenancy.garbage x.own.number x.own.ephemerons.items
 
 -- at the start no domain asks for a collection, none has arrived anywhere, and no trace has ended
@@ -91,17 +96,11 @@ pub record Rested (words : List ℕ) : Type 0 where
   pub nobody_ended : ended_word words ≡ 0
   pub unchanged : changed_word words ≡ 0
 
--- no finaliser waits in a queue
-abbrev pub NoneQueued : model.State → Type 0
-NoneQueued s = (d : ℕ) → (domain_at s d).queue ≡ []
-
 -- all that the rule says of the history, the places and the words, whoever looks
 pub record Whole (k : Config) (all : Account) (words : List ℕ) : Type 0 where
   pub wide : length words ≡ table_words k
   pub legal : Legal (sizes_in k) all.log
-  pub plain : AllPlain all.log
   pub full : Fullness k all.log all.live all.tenancy.holder all.tenancy.fresh all.homes all.cycling.kind
-  pub queues : NoneQueued (state_of k all.log)
   pub found : AllFound k all.cycling.paint all.live (state_of k all.log).graph words
   pub placed : Placed k all.live
   pub spread : Spread k all.live

@@ -9,7 +9,7 @@ use Rattle.heap_model.specs.Fronts.{Answers}
 use Rattle.heap_rule.specs.declared.view.DomainView.{DomainView}
 use Rattle.heap_rule.specs.declared.view.Hunt.TheVariants.{Rests}
 use Rattle.heap_rule.specs.Limits.{sizes_in}
-use Rattle.heap_rule.specs.Standing.{Acts}
+use Rattle.heap_rule.specs.Standing.{Acts, GoesOn}
 use Rattle.heap_rule.specs.Token.{Token, SharedHeap, IsIn}
 
 -- the entry of a command of the token's domain
@@ -20,7 +20,7 @@ own_entry t c = CommandOf t.view.own.number c false
 abbrev pub RemembersAll : DomainView → Type 0
 RemembersAll x = x.seen.remembered ≡ x.own.remembered.items
 
--- the token is one of the heap's, its trace hasn't ended, no block is being made, and none of the pools is being taken
+-- the token is one of the heap's, its trace hasn't ended, no finaliser waits in its queue, no block is being made, and none of the pools is being taken
 pub record Runs (h : SharedHeap) (t : Token) : Type 0 where
   pub here : IsIn t h
   pub acts : Acts t.config t.view
@@ -28,12 +28,21 @@ pub record Runs (h : SharedHeap) (t : Token) : Type 0 where
   pub at_rest : t.view.seen.hunt ≡ Rests
   pub remembers : RemembersAll t.view
 
--- the domain stands where it stood, has noted nothing, and has met and owes what it did
+-- the same, but finalisers may wait in its queue
+pub record Continues (h : SharedHeap) (t : Token) : Type 0 where
+  pub here : IsIn t h
+  pub goes_on : GoesOn t.config t.view
+  pub idle : t.view.seen.made ≡ []
+  pub at_rest : t.view.seen.hunt ≡ Rests
+  pub remembers : RemembersAll t.view
+
+-- the domain stands where it stood, has noted nothing, has met and owes what it did, and has the queue that it had
 pub record Stays (x y : DomainView) : Type 0 where
   pub arrivals : y.own.arrivals ≡ x.own.arrivals
   pub stage : y.seen.stage ≡ x.seen.stage
   pub notes : y.seen.notes ≡ x.seen.notes
   pub copying : y.seen.copying ≡ x.seen.copying
+  pub queue : y.own.finalisers.queue ≡ x.own.finalisers.queue
   pub remembers : RemembersAll x → RemembersAll y
 
 -- a call that makes the entry of a command: the domain runs on, its front has grown by entries of others and then by this one, and the reply is the definition's

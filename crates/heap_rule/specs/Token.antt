@@ -16,6 +16,7 @@ use Rattle.heap_model.specs.Domains.{class_count, IsWithinLimits}
 use Rattle.heap_rule.specs.Limits.{sizes_in}
 use Rattle.heap_rule.specs.Layout.{heap_words, base_of}
 use Rattle.heap_rule.specs.Changes.{value_at}
+use Rattle.heap_rule.specs.Finalisers.{FinalisersFit}
 use Rattle.heap_rule.specs.Views.{one, pending_room}
 
 -- a heap: which table it is, and how large
@@ -62,6 +63,7 @@ pub record OwnFits (k : Config) (own : Own) : Type 0 where
   pub prepared : length own.prepared ≡ class_count
   pub pending : own.pending.room + length own.pending.items ≡ pending_room k
   pub ephemerons : AllInHeap k own.ephemerons.items
+  pub finalisers : FinalisersFit k own.finalisers
 
 -- the seat, at a heap of these numbers, stands for this domain alone
 pub record IsSeatOf (k : Config) (x : DomainView) (me : Me (Unit {0}) View) : Type 0 where

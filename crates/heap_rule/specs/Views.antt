@@ -11,6 +11,7 @@ use Rattle.heap_words.specs.declared.value.Value.TheVariants.{Ref, Nothing}
 use Rattle.heap_rule.specs.declared.view.TheConstants.{REMEMBERED_ROOM}
 use Rattle.heap_rule.specs.declared.config.Config.{Config}
 use Rattle.heap_rule.specs.declared.view.DomainView.{DomainView}
+use Rattle.heap_rule.specs.declared.view.Finalisers.{Finalisers}
 use Rattle.heap_rule.specs.declared.view.Hunt.TheVariants.{Rests}
 use Rattle.heap_rule.specs.declared.view.Scan.TheVariants.{Idle}
 use Rattle.heap_rule.specs.declared.view.Share.{Share}
@@ -59,11 +60,15 @@ pending_room k = k.domains * k.minor_words / 4
 
 -- what a domain knows of a phase in which it has done nothing
 abbrev pub fresh_share : Share
-fresh_share = record { colours = None; changed = None; blocks = None; words = None; rotated = false; owes = false; places_seen = []; found_head = None; scan = Idle; walk = record { pool = 0; slot = 0 }; own_pool = None; roots = []; marked = []; counted = []; counted_to = record { pool = 0; slot = 0 }; counted_words = 0; added_blocks = false; added_words = false; held = 0; vacant = 0; cleaning = None; pruned = 0; cut = false }
+fresh_share = record { colours = None; changed = None; blocks = None; words = None; rotated = false; owes = false; places_seen = []; found_head = None; scan = Idle; walk = record { pool = 0; slot = 0 }; own_pool = None; roots = []; marked = []; counted = []; counted_to = record { pool = 0; slot = 0 }; counted_words = 0; added_blocks = false; added_words = false; held = 0; vacant = 0; cleaning = None; pruned = 0; kept = 0; waiting = []; cut = false }
 
 -- and of the next, of which it has forgotten the last
 abbrev pub voided : Share → Share
 voided share = record fresh_share { cut = share.cut }
+
+-- the lists of a domain that has registered nothing
+abbrev pub no_finalisers : ℕ → Finalisers
+no_finalisers room = record { finals = record { items = []; room = room }; lasts = record { items = []; room = room }; queue = record { items = []; room = room } }
 
 -- a domain at the start: register 0 holds the shared block, which is at the address 1
 abbrev pub opening_view : Config → ℕ → DomainView
@@ -79,6 +84,7 @@ opening_view k d = record {
     prepared = replicate class_count None;
     pending = record { items = []; room = pending_room k };
     ephemerons = record { items = []; room = k.ephes };
+    finalisers = no_finalisers k.finals;
   };
   seen = record { front = []; made = []; stage = In Run; notes = []; hunt = Rests; free = None; listing = None; copying = record { met = []; pending = []; copied = [] }; remembered = []; share = fresh_share };
 }

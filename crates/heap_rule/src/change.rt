@@ -7,7 +7,8 @@ ghost use Rattle.heap_rule.specs.Reads.{Reads};
 use crate::view::Own;
 use heap_words::{Value, unpack_value};
 
-/// A list of the token. So far the registers are the only one that is there.
+/// A list of the token. Changes write the registers alone: each other list is written by the steps
+/// that it belongs to.
 #[derive(Clone, Copy)]
 pub enum Part {
     /// The 16 registers.
@@ -49,9 +50,9 @@ pub enum Change {
     Set { part: Part, place: u32, item: Item },
     /// The register holds the value that the step read, and nothing where the step read no value.
     Read { register: u8 },
-    /// The item stands at the end of the list. No list has this change yet.
+    /// The item stands at the end of the list. The registers have no such change.
     Append { part: Part, item: Item },
-    /// The item at the place is gone. No list has this change yet.
+    /// The item at the place is gone. The registers have no such change.
     Remove { part: Part, place: u32 },
     /// The list is empty. The registers hold nothing.
     Clear { part: Part },

@@ -14,10 +14,12 @@ ghost use Rattle.heap_rule.specs.Views.{one, opening_view, pending_room};
 
 use crate::change::{Item, Part};
 use crate::config::Config;
-use crate::view::{Copied, Own, REMEMBERED_ROOM, Spot, View};
+use crate::view::{
+    Copied, Finalisers, Own, REMEMBERED_ROOM, Registered, RegisteredLast, Spot, View, Waiting,
+};
 use atomic_table::Seat;
 use heap_words::Value;
-use remembered_set::{BoundedList, Remembered};
+use remembered_set::{BoundedList, BoundedQueue, Remembered};
 use size_classes::{CLASS_COUNT, POOL_WORDS};
 use std::alloc::{AllocError, Global};
 use std::marker::Model;
@@ -62,6 +64,9 @@ impl Domain {
         let area_words = config.domains as usize * config.minor_words as usize;
         let pending = BoundedList::make(alloc, area_words / 4)?;
         let ephemerons = BoundedList::make(alloc, config.ephes as usize)?;
+        let finals = BoundedQueue::make(alloc, config.finals as usize)?;
+        let lasts = BoundedQueue::make(alloc, config.finals as usize)?;
+        let queue = BoundedQueue::make(alloc, config.finals as usize)?;
         Ok(Domain {
             seat,
             config: *config,
@@ -76,6 +81,11 @@ impl Domain {
                 prepared: [None; CLASS_COUNT],
                 pending,
                 ephemerons,
+                finalisers: Finalisers {
+                    finals,
+                    lasts,
+                    queue,
+                },
             },
         })
     }
@@ -187,17 +197,57 @@ impl Domain {
 
     /// How many finalisers wait in the domain's queue.
     pub fn queued(&self) -> usize
-        ensures { result ≡ length (items_of Part.Queue self.now.view.own) }
+        ensures { result ≡ length self.now.view.own.finalisers.queue.items }
     {
-        self.part_len(Part::Queue) as usize
+        self.own.finalisers.queue.len()
     }
 
-    /// How many more registrations fit.
-    pub fn finals_room(&self) -> usize
-        ensures { result + length (items_of Part.Final self.now.view.own)
-            + length (items_of Part.Last self.now.view.own) ≡ self.now.config.finals }
+    /// The `i`-th of them, the next one first.
+    pub fn queue_at(&self, i: usize) -> Waiting
+        requires { i < length self.now.view.own.finalisers.queue.items }
+        ensures { Some result ≡ slice_get self.now.view.own.finalisers.queue.items i }
     {
-        self.config.finals as usize
+        self.own.finalisers.queue.get(i)
+    }
+
+    /// How many registrations of `finalise` the domain has that aren't queued.
+    pub fn finals_len(&self) -> usize
+        ensures { result ≡ length self.now.view.own.finalisers.finals.items }
+    {
+        self.own.finalisers.finals.len()
+    }
+
+    /// The `i`-th of them, the oldest first.
+    pub fn final_at(&self, i: usize) -> Registered
+        requires { i < length self.now.view.own.finalisers.finals.items }
+        ensures { Some result ≡ slice_get self.now.view.own.finalisers.finals.items i }
+    {
+        self.own.finalisers.finals.get(i)
+    }
+
+    /// How many registrations of `finalise_last` the domain has that aren't queued.
+    pub fn lasts_len(&self) -> usize
+        ensures { result ≡ length self.now.view.own.finalisers.lasts.items }
+    {
+        self.own.finalisers.lasts.len()
+    }
+
+    /// The `i`-th of them, the oldest first.
+    pub fn last_at(&self, i: usize) -> RegisteredLast
+        requires { i < length self.now.view.own.finalisers.lasts.items }
+        ensures { Some result ≡ slice_get self.now.view.own.finalisers.lasts.items i }
+    {
+        self.own.finalisers.lasts.get(i)
+    }
+
+    /// How many more registrations fit. Those that wait in the queue take room until they have run.
+    pub fn finals_room(&self) -> usize
+        ensures room { result + length self.now.view.own.finalisers.finals.items
+            + length self.now.view.own.finalisers.lasts.items
+            + length self.now.view.own.finalisers.queue.items ≡ self.now.config.finals }
+    {
+        let room = self.config.finals as usize;
+        room - self.finals_len() - self.lasts_len() - self.queued()
     }
 
     /// How many more ephemerons fit into the domain's list.

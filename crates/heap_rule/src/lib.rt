@@ -23,6 +23,6 @@ pub use phase::{Kind, Note, Stage};
 pub use raw::{Changing, Leaving, Writing, raw_add, raw_exchange, raw_load, raw_or, raw_store};
 pub use rule::Told;
 pub use view::{
-    Copied, Copying, DomainView, Form, FoundHead, Hunt, Listing, Met, Owing, Own, OwnPool,
-    REMEMBERED_ROOM, Scan, Seen, Share, Spot, View,
+    Copied, Copying, DomainView, Finalisers, Form, FoundHead, Held, Hunt, Listing, Met, Owing, Own,
+    OwnPool, REMEMBERED_ROOM, Registered, RegisteredLast, Scan, Seen, Share, Spot, View, Waiting,
 };

@@ -6,7 +6,7 @@ use crate::phase::{Note, Stage};
 use heap_model::entry::Entry;
 use heap_model::label::Label;
 use heap_words::{Colours, Value};
-use remembered_set::{BoundedList, Remembered};
+use remembered_set::{BoundedList, BoundedQueue, Remembered};
 use size_classes::CLASS_COUNT;
 use std::collections::LinkedList;
 
@@ -99,6 +99,52 @@ pub struct Own {
     pub pending: BoundedList<Copied>,
     /// The ephemerons in the domain's own pools, and those that a sweep has still to free.
     pub ephemerons: BoundedList<u32>,
+    pub finalisers: Finalisers,
+}
+
+/// A registration of `finalise`: the block's address, the finaliser's number, and the register that
+/// holds the block again once it runs.
+#[derive(Clone, Copy, Debug, PartialEq, Eq)]
+pub struct Registered {
+    pub address: u32,
+    pub number: u32,
+    pub register: u8,
+}
+
+/// A registration of `finalise_last`: the block's address and the finaliser's number.
+#[derive(Clone, Copy, Debug, PartialEq, Eq)]
+pub struct RegisteredLast {
+    pub address: u32,
+    pub number: u32,
+}
+
+/// A finaliser that is to run.
+#[derive(Clone, Copy, Debug, PartialEq, Eq)]
+pub enum Waiting {
+    /// One of `finalise`, which keeps its block alive.
+    Fin {
+        address: u32,
+        number: u32,
+        register: u8,
+    },
+    /// One of `finalise_last`, which keeps nothing alive.
+    Last { number: u32 },
+}
+
+/// The registrations of a domain, the oldest first, and its queue, the next finaliser first.
+#[derive(Drop)]
+pub struct Finalisers {
+    pub finals: BoundedQueue<Registered>,
+    pub lasts: BoundedQueue<RegisteredLast>,
+    pub queue: BoundedQueue<Waiting>,
+}
+
+/// A place in these lists.
+#[derive(Clone, Copy, Debug, PartialEq, Eq)]
+pub enum Held {
+    Final(u32),
+    Last(u32),
+    Queue(u32),
 }
 
 /// A copy of a young block, and the block's address.
@@ -249,6 +295,10 @@ pub struct Share {
     pub cleaning: Option<Cleaning>,
     /// So many of its listed ephemerons are no garbage.
     pub pruned: u32,
+    /// So many registrations it has looked at, and their blocks are marked.
+    pub kept: u32,
+    /// The places of the queue whose blocks are marked.
+    pub waiting: LinkedList<u32>,
     /// Whether domain 0 has made the cut of this collection.
     pub cut: bool,
 }

@@ -1,8 +1,12 @@
-//! Lists with room that is reserved at the start, among them the remembered set of a domain.
+//! Lists with room that is reserved at the start, among them the remembered set of a domain, and queues.
 #![tactic(auto)]
 
 ghost use Rattle.std.specs.List.{swap_remove};
 ghost use Rattle.std.specs.Prelude.{◌≡◌, ◌<◌, ◌≤◌, ◌+◌, ◌-◌, ◌++◌, ◌∷◌, [], IfOk, Some, length, slice_get};
+
+mod queue;
+
+pub use queue::BoundedQueue;
 
 use std::alloc::{AllocError, Global};
 use std::marker::Model;
