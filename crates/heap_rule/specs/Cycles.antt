@@ -117,11 +117,12 @@ AllMarked live marked = (a : ℕ) (p : Place) → live a ≡ Some p → IsTrue (
 abbrev pub GarbageOwned : ℕ → (ℕ → Option ℕ) → (ℕ → Bool) → Type 0
 GarbageOwned n owner garbage = (a : ℕ) → IsTrue (garbage a) → (d : ℕ) × (d < n) × (owner a ≡ Some d)
 
--- the colours were rotated: what was marked is unmarked, and nothing else lives
+-- the colours were rotated, once all had arrived: what was marked is unmarked, and nothing else lives
 pub record IsRotated (k : Config) (live : Live) (t : Tenancy) (c : Cycling) : Type 0 where
   pub all_marked : AllMarked live c.before
   pub unmarked : (l : Label) → c.paint.marks.marked l ≡ false
   pub owned : GarbageOwned k.domains (owner_at t.holder) t.garbage
+  pub gone : AllArrived k.domains c.shares
 
 -- what holds from the rotation on: all that lives was marked, and the live words are what was counted
 pub record IsSwept (k : Config) (s : model.State) (live : Live) (holder : ℕ → Holder) (c : Cycling) (words : List ℕ) : Type 0 where
