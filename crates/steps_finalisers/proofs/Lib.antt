@@ -1,0 +1,4 @@
+pub mod WorkSteps
+pub mod RegisterSteps
+pub mod RunSteps
+pub mod Plain
