@@ -55,7 +55,7 @@ module _ (k : Config) (s : Words) (r : Rule k s) (id : ℕ) (hist : List Entry) 
     abbrev found : Share
     found = record x.seen.share { changed = Some (changed_word s.words) }
 
-    found_sharing : Sharing k r.account s.words x.own.number x.own.registers x.own.ephemerons.items x.seen.stage found
+    found_sharing : Sharing k r.account s.words x.own.number x.own.registers x.own.finalisers x.own.ephemerons.items x.seen.stage found
     found_sharing = let t = good.sharing.telling in let l = good.sharing.leading in let a = good.sharing.adds in record {
       telling = record { owes = t.owes; seen = t.seen; fresh = λ up. ap (λ (z : Share). record z { changed = Some (changed_word s.words) }) (t.fresh up); forgotten = t.forgotten; colours = t.colours };
       leading = record {
@@ -69,6 +69,7 @@ module _ (k : Config) (s : Words) (r : Rule k s) (id : ℕ) (hist : List Entry) 
       knows = inl (ap (λ (z : Share). record z { changed = Some (changed_word s.words) }) (idle (Leads may.last) may.stage tt));
       adds = record { blocks = a.blocks; words = a.words; own = a.own };
       looks = let u = good.sharing.looks in record { at_own = u.at_own; pruned = u.pruned; cleans = u.cleans; emptied_is = u.emptied_is };
+      deciding = good.sharing.deciding;
     }
 
     pub find_rule : Rule k record { words = s.words; homes = s.homes; views = set s.views id (one k hist (with_share x found)) }
@@ -123,7 +124,7 @@ module _ (k : Config) (s : Words) (r : Rule k s) (id : ℕ) (hist : List Entry) 
           (y.whole l);
     }
 
-    own_sharing : Sharing k (record r.account { cycling = c' }) ws x.own.number x.own.registers x.own.ephemerons.items x.seen.stage forgets
+    own_sharing : Sharing k (record r.account { cycling = c' }) ws x.own.number x.own.registers x.own.finalisers x.own.ephemerons.items x.seen.stage forgets
     own_sharing = let t = good.sharing.telling in let l = good.sharing.leading in let a = good.sharing.adds in let start = told.1 x.own.number in record {
       telling = record {
         owes = λ _. sym start.paid ∙ t.owes start.waits;
@@ -143,9 +144,10 @@ module _ (k : Config) (s : Words) (r : Rule k s) (id : ℕ) (hist : List Entry) 
       knows = inl (ap (λ (z : Share). record z { changed = None }) (idle (Led Mark) may.stage tt));
       adds = record { blocks = λ e _. a.blocks e start.waits; words = λ e _. a.words e start.waits; own = λ e _. a.own e start.waits };
       looks = let u = good.sharing.looks in record { at_own = u.at_own; pruned = u.pruned; cleans = u.cleans; emptied_is = u.emptied_is };
+      deciding = let u = good.sharing.deciding in record { finals = λ e _. u.finals e start.waits; lasts = λ e _. u.lasts e start.waits; rooted = λ e _. u.rooted e start.waits };
     }
 
-    others_sharing : (z : DomainView) → z.own.number ≢ x.own.number → Good k r.account s.words z → Sharing k (record r.account { cycling = c' }) ws z.own.number z.own.registers z.own.ephemerons.items z.seen.stage z.seen.share
+    others_sharing : (z : DomainView) → z.own.number ≢ x.own.number → Good k r.account s.words z → Sharing k (record r.account { cycling = c' }) ws z.own.number z.own.registers z.own.finalisers z.own.ephemerons.items z.seen.stage z.seen.share
     others_sharing z other g = let t = g.sharing.telling in let l = g.sharing.leading in let a = g.sharing.adds in let start = told.1 z.own.number in record {
       telling = record {
         owes = λ _. sym start.paid ∙ t.owes start.waits;
@@ -165,6 +167,7 @@ module _ (k : Config) (s : Words) (r : Rule k s) (id : ℕ) (hist : List Entry) 
       knows = knows_words k r.account.live r.account.tenancy.holder state.graph c.paint.marks s.words ws z.own.number z.own.registers z.seen.stage z.seen.share (heap_untouched k s.words ws untouched) g.sharing.knows;
       adds = record { blocks = λ e _. a.blocks e start.waits; words = λ e _. a.words e start.waits; own = λ e _. a.own e start.waits };
       looks = g.sharing.looks;
+      deciding = let u = g.sharing.deciding in record { finals = λ e _. u.finals e start.waits; lasts = λ e _. u.lasts e start.waits; rooted = λ e _. u.rooted e start.waits };
     }
 
     pub forget_rule : Rule k record { words = ws; homes = s.homes; views = set s.views id (one k hist (with_share x forgets)) }

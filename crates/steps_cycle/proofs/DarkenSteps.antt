@@ -36,13 +36,13 @@ use Rattle.heap_rule.specs.Rule.{Rule, state_of}
 use Rattle.heap_rule.specs.Views.{one}
 use Rattle.heap_rule.proofs.Keeps.{Words, mine, my_good, unmoved}
 use Rattle.steps_cycle.specs.Looks.{with_share}
-use Rattle.steps_cycle.specs.Marking.{DarkenMay, DarkenTold, IsDarkening, Reason, Register, Field, OfDatum, Warrants, moved_on, owes_on}
+use Rattle.steps_cycle.specs.Marking.{DarkenMay, DarkenTold, IsDarkening, Reason, Register, Field, OfDatum, OfQueue, Warrants, moved_on, owes_on, waiting_on}
 use Rattle.steps_cycle.proofs.Colouring.{BareHead, Recolourable, bare_head, unmarked_by, words_same}
 use Rattle.steps_cycle.proofs.TargetSteps.{goes_on}
 use Rattle.steps_cycle.proofs.Layouts.{label_there, owner_of_place}
 use Rattle.steps_cycle.proofs.Learning.{at_other, at_same, bare, held, kind_here, known, lies_old}
 use Rattle.steps_cycle.proofs.Recolouring.{Recolours, known_still, recolours}
-use Rattle.steps_cycle.proofs.Targets.{Target, datum_facts, moved_knows, sees_on, sees_others, sees_own, target}
+use Rattle.steps_cycle.proofs.Targets.{Target, datum_facts, moved_knows, sees_on, sees_others, sees_own, target, waiting_moved}
 use Rattle.heap_rule.proofs.Stages.{waits_in}
 use Rattle.heap_rule.specs.declared.phase.Stage.TheVariants.{In}
 
@@ -196,6 +196,7 @@ module _ (k : Config) (s : Words) (r : Rule k s) (id : ℕ) (hist : List Entry) 
     seen_facts : (u : Reason) (w : Warrants u x a) → Facts may.kind k now r.account.live r.account.tenancy (c' may.kind) words' → Facts may.kind k now r.account.live r.account.tenancy (saw u w) words'
     seen_facts (Register n) w f = f
     seen_facts Field w f = f
+    seen_facts (OfQueue i) w f = f
     seen_facts OfDatum w f =
         let one_stage : In may.kind ≡ In Rounds = sym may.stage ∙ w.1 in
         let in_rounds : may.kind ≡ Rounds = cc in
@@ -208,7 +209,7 @@ module _ (k : Config) (s : Words) (r : Rule k s) (id : ℕ) (hist : List Entry) 
     abbrev share' : Share
     share' = record (moved_on reason a x.seen.share) { owes = owes_on may.kind x.seen.share.owes }
 
-    recoloured : Recolours k s r id hist x at collecting a p new m' (owing_on may.kind c.shares.owes d) (sees_on k s r id hist x at reason a may.reason_is) (held share')
+    recoloured : Recolours k s r id hist x at collecting a p new m' (owing_on may.kind c.shares.owes d) (sees_on k s r id hist x at reason a may.reason_is) (held share') (waiting_on reason x.seen.share.waiting)
     recoloured = let cs : Colours = c.paint.colours in record {
       lives = aim.lives;
       here = record {
@@ -228,10 +229,11 @@ module _ (k : Config) (s : Words) (r : Rule k s) (id : ℕ) (hist : List Entry) 
       owes_is = owing_own may.kind c.shares.owes d x.seen.share.owes ((my_good k s r id hist x at).sharing.telling.owes (waits_in k s r id hist x at may.kind may.stage));
       seen_is = sees_own k s r id hist x at reason a may.reason_is ((my_good k s r id hist x at).sharing.telling.seen (waits_in k s r id hist x at may.kind may.stage));
       knows = moved_knows k s r id hist x at collecting a p aim.lives m' words' is_dark not_clean (known_still k s r id hist x at collecting a p new m' aim.lives is_dark (darkened_more m p.label)) reason may.reason_is (owes_on may.kind x.seen.share.owes);
+      queued = waiting_moved k s r id hist x at collecting a p aim.lives m' is_dark (darkened_more m p.label) reason may.reason_is;
     }
 
     won_rule : Rule k record { words = words'; homes = s.homes; views = set s.views id (one k hist (with_share x share')) }
-    won_rule = recolours k s r id hist x at collecting a p new m' (owing_on may.kind c.shares.owes d) (sees_on k s r id hist x at reason a may.reason_is) (held share') recoloured
+    won_rule = recolours k s r id hist x at collecting a p new m' (owing_on may.kind c.shares.owes d) (sees_on k s r id hist x at reason a may.reason_is) (held share') (waiting_on reason x.seen.share.waiting) recoloured
 
 pub darken_may : (k : Config) (x : DomainView) (word a old new : ℕ) (reason : Reason) → word ≡ before_heap k + a → DarkenMay x a old new reason → MayStep k x word (λ n. either (n == old) new n) (DarkenTold old a reason)
 darken_may k x word a old new reason place may fits slots id hist s r _ at _ =

@@ -26,6 +26,9 @@ use Rattle.heap_rule.specs.Phases.{AtStage, IsEven, Pause, Staged, flag}
 use Rattle.heap_rule.specs.Places.{IsBare, IsOldAt, Live, Place}
 use Rattle.heap_rule.specs.Copies.{Promoting}
 use Rattle.heap_rule.specs.Pools.{Holder, IsBefore, IsLeading, blocks_of, owned, place_in, Resting, OwnPlace}
+use Rattle.heap_rule.specs.declared.view.Held.TheVariants.{Queue}
+use Rattle.heap_rule.specs.Deciding.{IsRooting}
+use Rattle.heap_rule.specs.Finalisers.{held_at}
 use Rattle.heap_rule.specs.Cycles.{Cycled, Cycling, Facts, HasNoCycle, IsCollecting, IsIdle, IsMarkedAt, Knowing, Leading, Scans, Told, seen_by, Scanned, MissesKeys, KeysAt}
 use Rattle.heap_rule.specs.Rule.{Account, Good, Rule, Sharing, state_of}
 use Rattle.heap_rule.specs.Views.{one}
@@ -35,6 +38,7 @@ use Rattle.heap_rule.proofs.Lots.{head_full, none_before, place_cases}
 use Rattle.heap_rule.proofs.Keeps.{Words, hunter_as, mine, my_good, owes_as, phases_words, room_words}
 use Rattle.heap_rule.proofs.PauseFacts.{kind_differs, not_both, agree}
 use Rattle.heap_rule.proofs.Sharings.{kind_now}
+use Rattle.heap_rule.proofs.FinaliserLemmas.{deciding_marks}
 use Rattle.steps_cycle.specs.Looks.{with_share}
 use Rattle.cycle_laws.proofs.Tracing.{More}
 use Rattle.heap_model.specs.Graph.{Graph}
@@ -152,9 +156,9 @@ module _ (k : Config) (s : Words) (r : Rule k s) (id : ℕ) (hist : List Entry) 
     pub plan_same : get_or words' 2 0 ≡ get_or s.words 2 0
     pub ended_same : get_or words' 8 0 ≡ get_or s.words 8 0
     pub cycle : Cycled k now live r.account.pause r.account.tenancy (record c { shares = w' }) words'
-    pub sharing : Sharing k (record r.account { cycling = record c { shares = w' } }) words' d x.own.registers x.own.ephemerons.items x.seen.stage share'
+    pub sharing : Sharing k (record r.account { cycling = record c { shares = w' } }) words' d x.own.registers x.own.finalisers x.own.ephemerons.items x.seen.stage share'
     pub sharings : (z : DomainView) → z.own.number ≢ d → Good k r.account s.words z
-        → Sharing k (record r.account { cycling = record c { shares = w' } }) words' z.own.number z.own.registers z.own.ephemerons.items z.seen.stage z.seen.share
+        → Sharing k (record r.account { cycling = record c { shares = w' } }) words' z.own.number z.own.registers z.own.finalisers z.own.ephemerons.items z.seen.stage z.seen.share
 
   pub shifts : (share' : Share) (w' : Shares) (words' : List ℕ) → Shifts share' w' words' → Rule k record { words = words'; homes = s.homes; views = set s.views id (one k hist (with_share x share')) }
   shifts share' w' words' o =
@@ -201,7 +205,7 @@ module _ (k : Config) (s : Words) (r : Rule k s) (id : ℕ) (hist : List Entry) 
       }
 
   -- and one that changes what its domain knows alone
-  pub learns : (share' : Share) → Sharing k r.account s.words d x.own.registers x.own.ephemerons.items x.seen.stage share'
+  pub learns : (share' : Share) → Sharing k r.account s.words d x.own.registers x.own.finalisers x.own.ephemerons.items x.seen.stage share'
       → Rule k record { words = s.words; homes = s.homes; views = set s.views id (one k hist (with_share x share')) }
   learns share' sharing = shifts share' c.shares s.words record {
     untouched = untouched_same s.words;
@@ -338,8 +342,16 @@ module _ (k : Config) (s : Words) (r : Rule k s) (id : ℕ) (hist : List Entry) 
     pub looks_same : (h : Held) → h.scan ≡ sh.scan → h.cleaning ≡ sh.cleaning → Looking m h
     looks_same h scan same = looks_still m h (λ _. refl) same (λ a e. (my_good k s r id hist x at).sharing.looks.at_own a (ap ephemeron_of (sym scan) ∙ e))
 
+    -- the blocks at these places of its queue are marked, where roots are marked
+    abbrev pub QueueMarked : Marks → List ℕ → Type 0
+    QueueMarked m' waiting = IsRooting c.kind → (i a : ℕ) (p : Place) → IsTrue (seen_by waiting i) → held_at x.own.finalisers (Queue i) ≡ Some a → live a ≡ Some p → IsTrue (m'.marked p.label)
+
+    -- those at which it has been are so where more is marked
+    pub queue_still : (m' : Marks) → More m.marked m'.marked → QueueMarked m' sh.waiting
+    queue_still m' more rooting i a p is held lives = more p.label ((my_good k s r id hist x at).sharing.deciding.rooted rooting waits i a p is held lives)
+
     -- What it owes of a collection, whatever it writes: what is marked, the changed word, who owes and what was seen may change, and what the domain knows
-    pub record Learns (m' : Marks) (changed : Bool) (owes : ℕ → Bool) (seen : ℕ → ℕ → Bool) (h : Held) (words' : List ℕ) : Type 0 where
+    pub record Learns (m' : Marks) (changed : Bool) (owes : ℕ → Bool) (seen : ℕ → ℕ → Bool) (h : Held) (waiting : List ℕ) (words' : List ℕ) : Type 0 where
       pub armed_same : armed words' ≡ armed s.words
       pub colours_same : colours words' ≡ colours s.words
       pub blocks_same : live_blocks words' ≡ live_blocks s.words
@@ -354,8 +366,9 @@ module _ (k : Config) (s : Words) (r : Rule k s) (id : ℕ) (hist : List Entry) 
       pub owes_is : owes d ≡ h.owes
       pub seen_is : seen d ≡ seen_by h.places_seen
       pub knows : Knows m' words' h
+      pub queued : QueueMarked m' waiting
 
-    module _ (m' : Marks) (changed : Bool) (owes : ℕ → Bool) (seen : ℕ → ℕ → Bool) (h : Held) (words' : List ℕ) (o : Learns m' changed owes seen h words') where
+    module _ (m' : Marks) (changed : Bool) (owes : ℕ → Bool) (seen : ℕ → ℕ → Bool) (h : Held) (waiting : List ℕ) (words' : List ℕ) (o : Learns m' changed owes seen h waiting words') where
       abbrev c' : Cycling
       c' = record c { paint = record c.paint { marks = m' }; shares = record c.shares { changed = changed; owes = owes; seen = seen } }
 
@@ -394,7 +407,7 @@ module _ (k : Config) (s : Words) (r : Rule k s) (id : ℕ) (hist : List Entry) 
         pass = l.pass;
       }
 
-      pub sharing' : Sharing k all' words' d x.own.registers x.own.ephemerons.items x.seen.stage (holding sh h)
+      pub sharing' : Sharing k all' words' d x.own.registers x.own.finalisers x.own.ephemerons.items x.seen.stage (holding (record sh { waiting = waiting }) h)
       sharing' =
           let g = my_good k s r id hist x at in
           let l = leading' x sh g.staged g.sharing.leading in
@@ -423,9 +436,10 @@ module _ (k : Config) (s : Words) (r : Rule k s) (id : ℕ) (hist : List Entry) 
             );
             adds = record { blocks = g.sharing.adds.blocks; words = g.sharing.adds.words; own = g.sharing.adds.own };
             looks = record { at_own = o.knows.looking.at_own; pruned = g.sharing.looks.pruned; cleans = o.knows.looking.cleans; emptied_is = o.knows.looking.emptied_is };
+            deciding = record { finals = g.sharing.deciding.finals; lasts = g.sharing.deciding.lasts; rooted = λ rooting _. o.queued rooting };
           }
 
-      pub sharings' : (z : DomainView) → z.own.number ≢ d → Good k r.account s.words z → Sharing k all' words' z.own.number z.own.registers z.own.ephemerons.items z.seen.stage z.seen.share
+      pub sharings' : (z : DomainView) → z.own.number ≢ d → Good k r.account s.words z → Sharing k all' words' z.own.number z.own.registers z.own.finalisers z.own.ephemerons.items z.seen.stage z.seen.share
       sharings' z other g = let t = g.sharing.telling in record {
         telling = record {
           owes = λ up. (o.others z.own.number other).0 ∙ t.owes up;
@@ -441,11 +455,12 @@ module _ (k : Config) (s : Words) (r : Rule k s) (id : ℕ) (hist : List Entry) 
             g.sharing.knows;
         adds = record { blocks = g.sharing.adds.blocks; words = g.sharing.adds.words; own = g.sharing.adds.own };
         looks = looks_on m' o.still z g.staged g.sharing.looks;
+        deciding = deciding_marks live c.kind c.left c.shares.arrived m.marked m'.marked z.own.number z.own.finalisers z.seen.share.kept z.seen.share.waiting o.more g.sharing.deciding;
       }
 
     -- a step that leaves the words, what is marked and how far all are
     pub knows_more : (h : Held) → sh.owes ≡ h.owes → seen_by sh.places_seen ≡ seen_by h.places_seen → Knows m s.words h → Rule k record { words = s.words; homes = s.homes; views = set s.views id (one k hist (with_share x (holding sh h))) }
-    knows_more h owes places_seen n = let t = (my_good k s r id hist x at).sharing.telling in learns (holding sh h) (sharing' m c.shares.changed c.shares.owes c.shares.seen h s.words record {
+    knows_more h owes places_seen n = let t = (my_good k s r id hist x at).sharing.telling in learns (holding sh h) (sharing' m c.shares.changed c.shares.owes c.shares.seen h sh.waiting s.words record {
       armed_same = refl;
       colours_same = refl;
       blocks_same = refl;
@@ -460,15 +475,16 @@ module _ (k : Config) (s : Words) (r : Rule k s) (id : ℕ) (hist : List Entry) 
       owes_is = t.owes waits ∙ owes;
       seen_is = t.seen waits ∙ places_seen;
       knows = n;
+      queued = queue_still m (λ l is. is);
     })
 
     -- and one that leaves the heap's words and what is marked
-    pub shifts_more : (changed : Bool) (owes : ℕ → Bool) (seen : ℕ → ℕ → Bool) (h : Held) (words' : List ℕ) → Untouched s.words words' → get_or words' 0 0 ≡ get_or s.words 0 0 → get_or words' 1 0 ≡ get_or s.words 1 0 → get_or words' 2 0 ≡ get_or s.words 2 0
+    pub shifts_queue : (waiting : List ℕ) → QueueMarked m waiting → (changed : Bool) (owes : ℕ → Bool) (seen : ℕ → ℕ → Bool) (h : Held) (words' : List ℕ) → Untouched s.words words' → get_or words' 0 0 ≡ get_or s.words 0 0 → get_or words' 1 0 ≡ get_or s.words 1 0 → get_or words' 2 0 ≡ get_or s.words 2 0
         → changed_word words' ≡ flag changed → Facts c.kind k now live r.account.tenancy (record c { shares = record c.shares { changed = changed; owes = owes; seen = seen } }) words'
         → ((z : ℕ) → z ≢ d → (owes z ≡ c.shares.owes z) × (seen z ≡ c.shares.seen z)) → owes d ≡ h.owes → seen d ≡ seen_by h.places_seen → Knows m words' h
-        → get_or words' 8 0 ≡ get_or s.words 8 0 → Rule k record { words = words'; homes = s.homes; views = set s.views id (one k hist (with_share x (holding sh h))) }
-    shifts_more changed owes seen h words' u want_same barrier_same plan_same changed_is facts others owes_is seen_is knows ended_same =
-        let o : Learns m changed owes seen h words' = record {
+        → get_or words' 8 0 ≡ get_or s.words 8 0 → Rule k record { words = words'; homes = s.homes; views = set s.views id (one k hist (with_share x (holding (record sh { waiting = waiting }) h))) }
+    shifts_queue waiting queued changed owes seen h words' u want_same barrier_same plan_same changed_is facts others owes_is seen_is knows ended_same =
+        let o : Learns m changed owes seen h waiting words' = record {
           armed_same = u.1 4 (omega arith) (λ e. omega arith);
           colours_same = u.1 5 (omega arith) (λ e. omega arith);
           blocks_same = u.1 9 (omega arith) (λ e. omega arith);
@@ -483,13 +499,21 @@ module _ (k : Config) (s : Words) (r : Rule k s) (id : ℕ) (hist : List Entry) 
           owes_is = owes_is;
           seen_is = seen_is;
           knows = knows;
-        } in shifts (holding sh h) (record c.shares { changed = changed; owes = owes; seen = seen }) words' record {
+          queued = queued;
+        } in shifts (holding (record sh { waiting = waiting }) h) (record c.shares { changed = changed; owes = owes; seen = seen }) words' record {
           untouched = u;
           want_same = want_same;
           barrier_same = barrier_same;
           plan_same = plan_same;
           ended_same = ended_same;
-          cycle = cycle' m changed owes seen h words' o;
-          sharing = sharing' m changed owes seen h words' o;
-          sharings = sharings' m changed owes seen h words' o;
+          cycle = cycle' m changed owes seen h waiting words' o;
+          sharing = sharing' m changed owes seen h waiting words' o;
+          sharings = sharings' m changed owes seen h waiting words' o;
         }
+
+    -- also where it goes to no place of its queue
+    pub shifts_more : (changed : Bool) (owes : ℕ → Bool) (seen : ℕ → ℕ → Bool) (h : Held) (words' : List ℕ) → Untouched s.words words' → get_or words' 0 0 ≡ get_or s.words 0 0 → get_or words' 1 0 ≡ get_or s.words 1 0 → get_or words' 2 0 ≡ get_or s.words 2 0
+        → changed_word words' ≡ flag changed → Facts c.kind k now live r.account.tenancy (record c { shares = record c.shares { changed = changed; owes = owes; seen = seen } }) words'
+        → ((z : ℕ) → z ≢ d → (owes z ≡ c.shares.owes z) × (seen z ≡ c.shares.seen z)) → owes d ≡ h.owes → seen d ≡ seen_by h.places_seen → Knows m words' h
+        → get_or words' 8 0 ≡ get_or s.words 8 0 → Rule k record { words = words'; homes = s.homes; views = set s.views id (one k hist (with_share x (holding sh h))) }
+    shifts_more = shifts_queue sh.waiting (queue_still m (λ l is. is))

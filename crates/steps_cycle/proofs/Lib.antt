@@ -3,6 +3,7 @@ pub mod Colouring
 pub mod Layouts
 pub mod Learning
 pub mod Recolouring
+pub mod Queues
 pub mod Targets
 pub mod LookSteps
 pub mod TargetSteps

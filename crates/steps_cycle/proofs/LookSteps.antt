@@ -32,7 +32,7 @@ module _ (k : Config) (s : Words) (r : Rule k s) (id : ℕ) (hist : List Entry) 
   abbrev told_share : Share
   told_share = record x.seen.share { colours = Some c.paint.colours }
 
-  colours_sharing : MayLook x.own.number x.seen.stage → Sharing k r.account s.words x.own.number x.own.registers x.own.ephemerons.items x.seen.stage told_share
+  colours_sharing : MayLook x.own.number x.seen.stage → Sharing k r.account s.words x.own.number x.own.registers x.own.finalisers x.own.ephemerons.items x.seen.stage told_share
   colours_sharing may = let sh = (my_good k s r id hist x at).sharing in let t = sh.telling in record {
     telling = record {
       owes = t.owes;
@@ -61,6 +61,7 @@ module _ (k : Config) (s : Words) (r : Rule k s) (id : ℕ) (hist : List Entry) 
         sh.knows;
     adds = record { blocks = sh.adds.blocks; words = sh.adds.words; own = sh.adds.own };
     looks = record { at_own = sh.looks.at_own; pruned = sh.looks.pruned; cleans = sh.looks.cleans; emptied_is = sh.looks.emptied_is };
+    deciding = sh.deciding;
   }
 
   colours_rule : MayLook x.own.number x.seen.stage → Rule k record { words = s.words; homes = s.homes; views = set s.views id (one k hist (with_share x told_share)) }

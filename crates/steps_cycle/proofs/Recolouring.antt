@@ -24,7 +24,7 @@ use Rattle.heap_rule.proofs.Lots.{head_full, head_some}
 use Rattle.heap_rule.proofs.Values.{extent_large}
 use Rattle.heap_rule.proofs.Keeps.{Words, mine, my_good, more_same, remakes, knows_front, control_set, controls_kept, opened_words, owes_as, resting_as, resting_lists, room_words, hunter_as}
 use Rattle.steps_cycle.specs.Looks.{with_share}
-use Rattle.steps_cycle.proofs.Learning.{Held, Learns, cycle', holding, sharing', sharings', bare, rests_here, knowing_on, known, Knows, lies_old}
+use Rattle.steps_cycle.proofs.Learning.{Held, Learns, cycle', holding, sharing', sharings', bare, rests_here, knowing_on, known, Knows, lies_old, QueueMarked}
 use Rattle.cycle_laws.proofs.Tracing.{More}
 use Rattle.heap_rule.specs.declared.phase.Kind.TheVariants.{Clean}
 
@@ -49,7 +49,7 @@ module _ (k : Config) (s : Words) (r : Rule k s) (id : ℕ) (hist : List Entry) 
     known_still more = knowing_on k s r id hist x at m' (set s.words (before_heap k + a) new) heads_stay free_stay more x.own.number x.own.registers x.seen.share (known k s r id hist x at)
 
   -- What it owes that the head of the block at an address is written
-  pub record Recolours (a : ℕ) (p : Place) (new : ℕ) (m' : Marks) (owes : ℕ → Bool) (seen : ℕ → ℕ → Bool) (h : Held) : Type 0 where
+  pub record Recolours (a : ℕ) (p : Place) (new : ℕ) (m' : Marks) (owes : ℕ → Bool) (seen : ℕ → ℕ → Bool) (h : Held) (waiting : List ℕ) : Type 0 where
     pub lives : r.account.live a ≡ Some p
     pub here : IsHead (record paint { marks = m' }) p new
     pub elsewhere : (l : Label) → p.label ≢ l → (m'.marked l ≡ paint.marks.marked l) × (m'.scanned l ≡ paint.marks.scanned l)
@@ -61,8 +61,9 @@ module _ (k : Config) (s : Words) (r : Rule k s) (id : ℕ) (hist : List Entry) 
     pub owes_is : owes x.own.number ≡ h.owes
     pub seen_is : seen x.own.number ≡ seen_by h.places_seen
     pub knows : Knows k s r id hist x at collecting m' (set s.words (before_heap k + a) new) h
+    pub queued : QueueMarked k s r id hist x at collecting m' waiting
 
-  module _ (a : ℕ) (p : Place) (new : ℕ) (m' : Marks) (owes : ℕ → Bool) (seen : ℕ → ℕ → Bool) (h : Held) (o : Recolours a p new m' owes seen h) where
+  module _ (a : ℕ) (p : Place) (new : ℕ) (m' : Marks) (owes : ℕ → Bool) (seen : ℕ → ℕ → Bool) (h : Held) (waiting : List ℕ) (o : Recolours a p new m' owes seen h waiting) where
     abbrev words' : List ℕ
     words' = set s.words (before_heap k + a) new
 
@@ -87,7 +88,7 @@ module _ (k : Config) (s : Words) (r : Rule k s) (id : ℕ) (hist : List Entry) 
     control : (i : ℕ) → i ≤ before_heap k → get_or words' i 0 ≡ get_or s.words i 0
     control = control_set k s.words a new low
 
-    learnt : Learns k s r id hist x at collecting m' r.account.cycling.shares.changed owes seen h words'
+    learnt : Learns k s r id hist x at collecting m' r.account.cycling.shares.changed owes seen h waiting words'
     learnt = record {
       armed_same = control 4 (omega arith);
       colours_same = control 5 (omega arith);
@@ -103,6 +104,7 @@ module _ (k : Config) (s : Words) (r : Rule k s) (id : ℕ) (hist : List Entry) 
       owes_is = o.owes_is;
       seen_is = o.seen_is;
       knows = o.knows;
+      queued = o.queued;
     }
 
     was_full : at_address k s.words a ≢ 0
@@ -188,21 +190,19 @@ module _ (k : Config) (s : Words) (r : Rule k s) (id : ℕ) (hist : List Entry) 
     makes : (z : DomainView) → Area k r.account.live z → Making k s.words z → Making k words' z
     makes z area q = making_beside k s.words a new z (λ j fits e. live_word_far k r.account.live a 0 p z o.lives (let n : ℕ = extent p.shape in let l : 3 ≤ n = extent_large p.shape (r.whole.placed.fits a p o.lives).head in let g : 0 < n = omega arith in g) area j fits (e ∙ (let g : a ≡ a + 0 = omega arith in g))) q
 
-    pub recolours : Rule k record { words = words'; homes = s.homes; views = set s.views id (one k hist (with_share x (holding x.seen.share h))) }
+    pub recolours : Rule k record { words = words'; homes = s.homes; views = set s.views id (one k hist (with_share x (holding (record x.seen.share { waiting = waiting }) h))) }
     recolours =
         let g = my_good k s r id hist x at in
-        let y : DomainView = with_share x (holding x.seen.share h) in
+        let y : DomainView = with_share x (holding (record x.seen.share { waiting = waiting }) h) in
         let controls = controls_kept k s r id hist x at words' control in
         let own_making = makes x g.area g.making in
         let own_hunter = hunter' x (rests_here k s r id hist x at collecting x g.staged g.resting) g.hunter in
-        let own_sharing = sharing' k s r id hist x at collecting m' r.account.cycling.shares.changed owes seen h words' learnt in
+        let own_sharing = sharing' k s r id hist x at collecting m' r.account.cycling.shares.changed owes seen h waiting words' learnt in
         remakes k s r id hist x at y (record r.account { cycling = c' }) words'
         record {
           wide = length-set s.words (before_heap k + a) new ∙ r.whole.wide;
           legal = r.whole.legal;
-          plain = r.whole.plain;
           full = r.whole.full;
-          queues = r.whole.queues;
           found = found';
           placed = r.whole.placed;
           spread = r.whole.spread;
@@ -222,11 +222,11 @@ module _ (k : Config) (s : Words) (r : Rule k s) (id : ℕ) (hist : List Entry) 
           unused = r.whole.unused;
           opened = opened_words k r.account.live s.words words' controls.listed_young r.whole.opened;
           drawable = controls.drawable;
-          cycle = cycle' k s r id hist x at collecting m' r.account.cycling.shares.changed owes seen h words' learnt;
+          cycle = cycle' k s r id hist x at collecting m' r.account.cycling.shares.changed owes seen h waiting words' learnt;
         }
         (knows_front k s r id hist x at y refl (mine k s r id hist x at).front)
         record {
-          stood = record { wide = g.stood.wide; each = g.stood.each; serial = g.stood.serial };
+          stood = record { wide = g.stood.wide; each = g.stood.each; serial = g.stood.serial; enrolled = g.stood.enrolled };
           area = record { room = g.area.room; free = g.area.free; classes = g.area.classes };
           making = record { fits = own_making.fits; written = own_making.written };
           staged = record { arrivals = g.staged.arrivals; stage = g.staged.stage };
@@ -252,6 +252,6 @@ module _ (k : Config) (s : Words) (r : Rule k s) (id : ℕ) (hist : List Entry) 
           owes = h'.owes;
           rooted = h'.rooted;
           set_back = λ b. controls.set_back z h'.staged b (h'.set_back b);
-          sharing = sharings' k s r id hist x at collecting m' r.account.cycling.shares.changed owes seen h words' learnt z other h';
+          sharing = sharings' k s r id hist x at collecting m' r.account.cycling.shares.changed owes seen h waiting words' learnt z other h';
           listed = h'.listed;
         })

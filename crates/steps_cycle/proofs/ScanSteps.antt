@@ -42,7 +42,7 @@ use Rattle.heap_rule.proofs.Values.{address_of, packable, stands_block}
 use Rattle.steps_cycle.specs.Looks.{with_share}
 use Rattle.steps_cycle.specs.Marking.{ChangedMay, ChangedTold, IsChanging, ScanMay, ScanTold, ScannedMay, ScannedTold, scanned_on, Site, Anywhere, Next, LiesAt, places_seen_on, walk_on}
 use Rattle.steps_cycle.proofs.Colouring.{words_same, Recolourable}
-use Rattle.steps_cycle.proofs.Learning.{at_other, at_same, bare, held, kind_here, knows_more, known, looks_same, looks_still, shifts_more, whole_in}
+use Rattle.steps_cycle.proofs.Learning.{at_other, at_same, bare, held, kind_here, knows_more, known, looks_same, looks_still, queue_still, shifts_more, whole_in}
 use Rattle.steps_cycle.proofs.Recolouring.{Recolours, known_still, recolours}
 use Rattle.heap_rule.specs.declared.phase.Stage.TheVariants.{In}
 use Rattle.steps_cycle.proofs.WalkSteps.{own_place, seen_next, next_is, next_other, next_walked}
@@ -226,7 +226,7 @@ module _ (k : Config) (s : Words) (r : Rule k s) (id : ℕ) (hist : List Entry) 
     walked_on Anywhere lies = kn.walked
     walked_on (Next pool class slot) lies = next_walked k s r id hist x at a pool class slot lies
 
-    recoloured : Recolours k s r id hist x at (in_mark may.stage) a p new m' c.shares.owes (seen_on site may.lies) (held done)
+    recoloured : Recolours k s r id hist x at (in_mark may.stage) a p new m' c.shares.owes (seen_on site may.lies) (held done) sh.waiting
     recoloured =
         let cs : Colours = c.paint.colours in
         let is : m.marked p.label ≡ true = g.marked in
@@ -249,10 +249,11 @@ module _ (k : Config) (s : Words) (r : Rule k s) (id : ℕ) (hist : List Entry) 
           owes_is = (my_good k s r id hist x at).sharing.telling.owes waits;
           seen_is = seen_here site may.lies;
           knows = record { found_head = n.found_head; scan = tt; walked = walked_on site may.lies; own_pool = n.own_pool; rooted = n.rooted; marked = n.marked; looking = looks_still k s r id hist x at (in_mark may.stage) m' (held done) (λ e. absurd (let clash : Mark ≡ Clean = sym kind_is ∙ e in cc)) refl (λ b e. absurd (none-some b e)) };
+          queued = queue_still k s r id hist x at (in_mark may.stage) m' (λ l h. h);
         }
 
     scanned_rule : Rule k record { words = scanned_words; homes = s.homes; views = set s.views id (one k hist (with_share x done)) }
-    scanned_rule = recolours k s r id hist x at (in_mark may.stage) a p new m' c.shares.owes (seen_on site may.lies) (held done) recoloured
+    scanned_rule = recolours k s r id hist x at (in_mark may.stage) a p new m' c.shares.owes (seen_on site may.lies) (held done) sh.waiting recoloured
 
   -- the changed word
   module _ (may : ChangedMay x) where

@@ -16,10 +16,10 @@ use Rattle.heap_rule.specs.Rule.{Rule, state_of}
 use Rattle.heap_rule.specs.Views.{one}
 use Rattle.heap_rule.proofs.Keeps.{Words, my_good, unmoved}
 use Rattle.steps_cycle.specs.Looks.{with_share}
-use Rattle.steps_cycle.specs.Marking.{TargetMay, TargetTold, Reason, Register, Field, OfDatum, Warrants, moved_on}
+use Rattle.steps_cycle.specs.Marking.{TargetMay, TargetTold, Reason, Register, Field, OfDatum, OfQueue, Warrants, moved_on, waiting_on}
 use Rattle.steps_cycle.proofs.Colouring.{BareHead, bare_head, marked_colour, unmarked_colour}
-use Rattle.steps_cycle.proofs.Learning.{bare, held, kind_here, knows_more, known, looks_same, shifts_more, waits}
-use Rattle.steps_cycle.proofs.Targets.{Target, datum_facts, moved_knows, sees_on, sees_others, sees_own, target}
+use Rattle.steps_cycle.proofs.Learning.{bare, held, kind_here, knows_more, known, looks_same, shifts_queue, waits}
+use Rattle.steps_cycle.proofs.Targets.{Target, datum_facts, moved_knows, sees_on, sees_others, sees_own, target, waiting_moved}
 use Rattle.std.proofs.lemmas.Bool.{cases_Bool}
 use Rattle.std.proofs.lemmas.Option.{same_Some}
 use Rattle.heap_rule.proofs.Controls.{untouched_same}
@@ -41,6 +41,7 @@ module _ (k : Config) (s : Words) (r : Rule k s) (id : ℕ) (hist : List Entry) 
       → Facts c.kind k (state_of k r.account.log) r.account.live r.account.tenancy (record c { shares = record c.shares { seen = sees_on k s r id hist x at reason a w } }) s.words
   facts_on (Register n) a w p lives marked = r.whole.cycle.facts
   facts_on Field a w p lives marked = r.whole.cycle.facts
+  facts_on (OfQueue i) a w p lives marked = r.whole.cycle.facts
   facts_on OfDatum a w p lives marked =
       let kind_is : c.kind ≡ Rounds = kind_here k s r id hist x at Rounds w.1 in
       subst (λ (kind : Kind). Facts kind k (state_of k r.account.log) r.account.live r.account.tenancy (record c { shares = record c.shares { seen = sees_on k s r id hist x at OfDatum a w } }) s.words) (sym kind_is)
@@ -51,7 +52,7 @@ module _ (k : Config) (s : Words) (r : Rule k s) (id : ℕ) (hist : List Entry) 
   goes_on collecting reason a w p lives marked =
       let t = (my_good k s r id hist x at).sharing.telling in
       let not_arrived : c.shares.arrived x.own.number ≡ false = waits k s r id hist x at collecting in
-      shifts_more k s r id hist x at collecting c.shares.changed c.shares.owes (sees_on k s r id hist x at reason a w) (held (moved_on reason a sh)) s.words (untouched_same s.words) refl refl refl r.whole.cycle.changed_is
+      shifts_queue k s r id hist x at collecting (waiting_on reason sh.waiting) (waiting_moved k s r id hist x at collecting a p lives c.paint.marks marked (λ l is. is) reason w) c.shares.changed c.shares.owes (sees_on k s r id hist x at reason a w) (held (moved_on reason a sh)) s.words (untouched_same s.words) refl refl refl r.whole.cycle.changed_is
       (facts_on reason a w p lives marked)
       (λ z other. (refl, sees_others k s r id hist x at reason a w z other))
       (t.owes not_arrived)

@@ -32,10 +32,14 @@ use Rattle.heap_rule.specs.Rule.{Rule, state_of}
 use Rattle.heap_rule.specs.Views.{one}
 use Rattle.heap_rule.proofs.Blocks.{lives_at}
 use Rattle.heap_rule.proofs.Keeps.{Words, my_good}
-use Rattle.steps_cycle.specs.Marking.{Reason, Register, Field, OfDatum, Warrants, moved_on, next_scan, scan_on, roots_on, seen_on, seen_through}
-use Rattle.steps_cycle.proofs.Learning.{Knows, held, known, at_same, at_other, looks_still}
+use Rattle.steps_cycle.specs.Marking.{Reason, Register, Field, OfDatum, OfQueue, Warrants, moved_on, next_scan, scan_on, roots_on, seen_on, seen_through, waiting_on}
+use Rattle.steps_cycle.proofs.Learning.{Knows, QueueMarked, held, known, at_same, at_other, looks_still, queue_still}
 use Rattle.steps_cycle.proofs.Layouts.{labelled, owner_of_place}
-use Rattle.std.proofs.lemmas.Option.{none-some}
+use Rattle.steps_cycle.proofs.Queues.{queue_root}
+use Rattle.cycle_laws.proofs.Tracing.{More}
+use Rattle.heap_rule.specs.declared.view.Held.TheVariants.{Queue}
+use Rattle.heap_rule.specs.Finalisers.{held_at}
+use Rattle.std.proofs.lemmas.Option.{none-some, same_Some}
 use Rattle.heap_rule.specs.declared.phase.Kind.TheVariants.{Clean, Rounds}
 use Rattle.heap_model.specs.Reach.{HoldsRoots}
 use Rattle.cycle_laws.specs.Shares.{at_domain}
@@ -118,23 +122,32 @@ module _ (k : Config) (s : Words) (r : Rule k s) (id : ℕ) (hist : List Entry) 
           subst (λ (z : Option Node). IsTrue (has_label (data_of z) n.target.label)) (sym n.node) (datum_named n.target.label n.datum n.holds),
         ));
       }
+  target (OfQueue i) a w =
+      let n = queue_root live now x.own.number x.own.finalisers i a (my_good k s r id hist x at).stood.enrolled w in record {
+        place = n.1.0;
+        lives = n.1.1;
+        may = inl (subst (λ (l : Label). IsTrue (has_label (roots now (queues now)) l)) (sym n.1.2) n.2);
+      }
 
   -- what a domain has seen once it is done with what it had to mark
   abbrev pub sees_on : (reason : Reason) (a : ℕ) → Warrants reason x a → ℕ → ℕ → Bool
   sees_on (Register n) a w = c.shares.seen
   sees_on Field a w = c.shares.seen
   sees_on OfDatum a w = at_domain c.shares.seen x.own.number (λ b. b == w.0 || c.shares.seen x.own.number b)
+  sees_on (OfQueue i) a w = c.shares.seen
 
   pub sees_others : (reason : Reason) (a : ℕ) (w : Warrants reason x a) (z : ℕ) → z ≢ x.own.number → sees_on reason a w z ≡ c.shares.seen z
   sees_others (Register n) a w z other = refl
   sees_others Field a w z other = refl
   sees_others OfDatum a w z other = at_other c.shares.seen x.own.number (λ b. b == w.0 || c.shares.seen x.own.number b) z other
+  sees_others (OfQueue i) a w z other = refl
 
   pub sees_own : (reason : Reason) (a : ℕ) (w : Warrants reason x a) → c.shares.seen x.own.number ≡ seen_by x.seen.share.places_seen → sees_on reason a w x.own.number ≡ seen_by (seen_on reason x.seen.share.scan x.seen.share.places_seen)
   sees_own (Register n) a w seen = seen
   sees_own Field a w seen = seen
   sees_own OfDatum a w seen = at_same c.shares.seen x.own.number (λ b. b == w.0 || c.shares.seen x.own.number b)
       ∙ (ap (λ (f : ℕ → Bool). λ (b : ℕ). b == w.0 || f b) seen ∙ ap (λ (z : Scan). seen_by (seen_through z x.seen.share.places_seen)) (sym w.2))
+  sees_own (OfQueue i) a w seen = seen
 
   -- the ephemeron whose keys a domain looks at lies in its own pools
   pub own_ephemeron : (a : ℕ) → ephemeron_of x.seen.share.scan ≡ Some a → (cycle_of k live r.account.tenancy.holder c).layout.owner a ≡ Some x.own.number
@@ -156,6 +169,21 @@ module _ (k : Config) (s : Words) (r : Rule k s) (id : ℕ) (hist : List Entry) 
         f.1,
       )
 
+  -- once the block is marked those at the places of the queue are at which the domain has been
+  pub waiting_moved : (collecting : IsCollecting x.seen.stage) (a : ℕ) (p : Place) → live a ≡ Some p → (m' : Marks) → IsTrue (m'.marked p.label) → More c.paint.marks.marked m'.marked
+      → (reason : Reason) → Warrants reason x a → QueueMarked k s r id hist x at collecting m' (waiting_on reason x.seen.share.waiting)
+  waiting_moved collecting a p lives m' marked more (Register j) w rooting i b q is at_i there = queue_still k s r id hist x at collecting m' more rooting i b q is at_i there
+  waiting_moved collecting a p lives m' marked more Field w rooting i b q is at_i there = queue_still k s r id hist x at collecting m' more rooting i b q is at_i there
+  waiting_moved collecting a p lives m' marked more OfDatum w rooting i b q is at_i there = queue_still k s r id hist x at collecting m' more rooting i b q is at_i there
+  waiting_moved collecting a p lives m' marked more (OfQueue j) w rooting i b q is at_i there = go (i == j) refl is
+    where
+      go : (t : Bool) → (i == j) ≡ t → IsTrue (t || seen_by x.seen.share.waiting i) → IsTrue (m'.marked q.label)
+      go true eq is =
+          let address : a ≡ b = same_Some a b (sym w ∙ (ap (λ (z : ℕ). held_at x.own.finalisers (Queue z)) (sym (eqb-true i j eq)) ∙ at_i)) in
+          let same : p ≡ q = ap (λ (z : Option Place). unwrap_or z p) (sym lives ∙ (ap live address ∙ there)) in
+          subst (λ (z : Place). IsTrue (m'.marked z.label)) same marked
+      go false eq is = queue_still k s r id hist x at collecting m' more rooting i b q is at_i there
+
   -- once the block is marked the domain goes on
   module _ (collecting : IsCollecting x.seen.stage) (a : ℕ) (p : Place) (lives : live a ≡ Some p) (m' : Marks) (words' : List ℕ) (marked : IsTrue (m'.marked p.label)) (still : c.kind ≡ Clean → m' ≡ c.paint.marks)
       (n : Knowing k live r.account.tenancy.holder now.graph m' words' x.own.number x.own.registers x.seen.share) where
@@ -174,6 +202,7 @@ module _ (k : Config) (s : Words) (r : Rule k s) (id : ℕ) (hist : List Entry) 
     scan_moved (Register i) w = n.scan
     scan_moved Field w = field_on x.seen.share.scan w.0 w.1 w.2 w.3 w.4 n.scan
     scan_moved OfDatum w = tt
+    scan_moved (OfQueue i) w = n.scan
 
     -- no step of a scan comes to an ephemeron's keys
     next_at_own : (scan : Scan) (b : ℕ) → ephemeron_of (next_scan scan) ≡ Some b → ephemeron_of scan ≡ Some b
@@ -188,11 +217,13 @@ module _ (k : Config) (s : Words) (r : Rule k s) (id : ℕ) (hist : List Entry) 
     at_own_moved (Register i) b e = (my_good k s r id hist x at).sharing.looks.at_own b e
     at_own_moved Field b e = (my_good k s r id hist x at).sharing.looks.at_own b (next_at_own x.seen.share.scan b e)
     at_own_moved OfDatum b e = absurd (none-some b e)
+    at_own_moved (OfQueue i) b e = (my_good k s r id hist x at).sharing.looks.at_own b e
 
     walked_moved : (reason : Reason) → Warrants reason x a → (q e slot : ℕ) → r.account.tenancy.holder q ≡ owned x.own.number e → slot < blocks_of e → IsBefore q slot x.seen.share.walk → IsTrue (seen_by (seen_on reason x.seen.share.scan x.seen.share.places_seen) (place_in q e slot))
     walked_moved (Register i) w q e slot is inside low = n.walked q e slot is inside low
     walked_moved Field w q e slot is inside low = n.walked q e slot is inside low
     walked_moved OfDatum w q e slot is inside low = subst (λ (z : Scan). IsTrue (seen_by (seen_through z x.seen.share.places_seen) (place_in q e slot))) (sym w.2) (or_right (place_in q e slot == w.0) (seen_by x.seen.share.places_seen (place_in q e slot)) (n.walked q e slot is inside low))
+    walked_moved (OfQueue i) w q e slot is inside low = n.walked q e slot is inside low
 
     rooted_moved : (reason : Reason) → Warrants reason x a → (i b : ℕ) (q : Place) → IsTrue (list_any (λ z. z == i) (roots_on reason x.seen.share.roots)) → value_at x.own.registers i ≡ Ref b → live b ≡ Some q → IsTrue (m'.marked q.label)
     rooted_moved (Register j) w i b q is e there = go (j == i) refl is
@@ -205,6 +236,7 @@ module _ (k : Config) (s : Words) (r : Rule k s) (id : ℕ) (hist : List Entry) 
         go false eq is = n.rooted i b q is e there
     rooted_moved Field w i b q is e there = n.rooted i b q is e there
     rooted_moved OfDatum w i b q is e there = n.rooted i b q is e there
+    rooted_moved (OfQueue j) w i b q is e there = n.rooted i b q is e there
 
     marked_moved : (b : ℕ) → IsTrue (seen_by (a ∷ x.seen.share.marked) b) → IsMarkedAt live m'.marked b
     marked_moved b is = go (b == a) refl is

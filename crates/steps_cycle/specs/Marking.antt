@@ -11,11 +11,13 @@ use Rattle.heap_rule.specs.declared.phase.Kind.{Kind}
 use Rattle.heap_rule.specs.declared.phase.Kind.TheVariants.{Roots, Mark, Rounds, Queued}
 use Rattle.heap_rule.specs.declared.phase.Stage.TheVariants.{In}
 use Rattle.heap_rule.specs.declared.view.DomainView.{DomainView}
+use Rattle.heap_rule.specs.declared.view.Held.TheVariants.{Queue}
 use Rattle.heap_rule.specs.declared.view.Scan.{Scan}
 use Rattle.heap_rule.specs.declared.view.Scan.TheVariants.{Idle, Reads, Holds, Keys, Key, Datum}
 use Rattle.heap_rule.specs.declared.view.Share.{Share}
 use Rattle.heap_rule.specs.declared.view.Spot.{Spot}
 use Rattle.heap_rule.specs.Cycles.{IsCollecting, seen_by}
+use Rattle.heap_rule.specs.Finalisers.{held_at}
 use Rattle.heap_rule.specs.Places.{HeadIs, IsBuilt, IsHeadOf}
 use Rattle.heap_rule.specs.Pools.{blocks_of, owned, owner_word, place_in}
 use Rattle.heap_rule.specs.Standing.{IsAt}
@@ -57,22 +59,31 @@ pub record IsGrey (colours : Colours) (word : ℕ) : Type 0 where
   pub built : IsBuilt block.shape
   pub unscanned : block.head.scanned ≡ false
 
--- why a block is marked: a register refers to it, or the next field of the block that is scanned, or the datum of a marked ephemeron whose full keys are marked
+-- why a block is marked: a register refers to it, or the next field of the block that is scanned, or the datum of a marked ephemeron whose full keys are marked, or a place of the queue
 pub data Reason : Type 0 where
   Register : ℕ → Reason
   Field : Reason
   OfDatum : Reason
+  OfQueue : ℕ → Reason
 
 abbrev pub Warrants : Reason → DomainView → ℕ → Type 0
 Warrants (Register r) x at = IsAt x r at
 Warrants Field x at = (block : ℕ) × (done : ℕ) × (size : ℕ) × (head : ℕ) × (x.seen.share.scan ≡ Holds block done size head at)
 Warrants OfDatum x at = (block : ℕ) × (x.seen.stage ≡ In Rounds) × (x.seen.share.scan ≡ Datum block at)
+Warrants (OfQueue i) x at = held_at x.own.finalisers (Queue i) ≡ Some at
 
--- once the block is marked the domain is done with the register, or with the field, or with the ephemeron
+-- once the block is marked the domain is done with the register, or with the field, or with the ephemeron, or with the place of the queue
 abbrev pub roots_on : Reason → List ℕ → List ℕ
 roots_on (Register r) roots = r ∷ roots
 roots_on Field roots = roots
 roots_on OfDatum roots = roots
+roots_on (OfQueue i) roots = roots
+
+abbrev pub waiting_on : Reason → List ℕ → List ℕ
+waiting_on (Register r) waiting = waiting
+waiting_on Field waiting = waiting
+waiting_on OfDatum waiting = waiting
+waiting_on (OfQueue i) waiting = i ∷ waiting
 
 abbrev pub next_scan : Scan → Scan
 next_scan (Holds block done size head address) = Reads block (done + 1) size head
@@ -82,6 +93,7 @@ abbrev pub scan_on : Reason → Scan → Scan
 scan_on (Register r) scan = scan
 scan_on Field scan = next_scan scan
 scan_on OfDatum scan = Idle
+scan_on (OfQueue i) scan = scan
 
 -- the ephemeron whose keys a domain looks at is seen
 abbrev pub seen_through : Scan → List ℕ → List ℕ
@@ -94,9 +106,10 @@ abbrev pub seen_on : Reason → Scan → List ℕ → List ℕ
 seen_on (Register r) scan places_seen = places_seen
 seen_on Field scan places_seen = places_seen
 seen_on OfDatum scan places_seen = seen_through scan places_seen
+seen_on (OfQueue i) scan places_seen = places_seen
 
 abbrev pub moved_on : Reason → ℕ → Share → Share
-moved_on reason at share = record share { found_head = None; scan = scan_on reason share.scan; places_seen = seen_on reason share.scan share.places_seen; roots = roots_on reason share.roots; marked = at ∷ share.marked }
+moved_on reason at share = record share { found_head = None; scan = scan_on reason share.scan; places_seen = seen_on reason share.scan share.places_seen; roots = roots_on reason share.roots; waiting = waiting_on reason share.waiting; marked = at ∷ share.marked }
 
 -- a domain that does its share of a collection loads the head of a block that there is a reason to mark
 pub record TargetMay (x : DomainView) (at : ℕ) (reason : Reason) : Type 0 where

@@ -8,9 +8,10 @@ use heap_rule::{Domain, Heap, raw_exchange, raw_load};
 use std::marker::Brand;
 
 /// A load of the head of a block that a register refers to, or the next field of the block that the
-/// domain scans, or the datum of an ephemeron whose full keys are marked. Where the block is marked the
-/// domain is done with the register, with the field or with the ephemeron. `at` is the block's
-/// address. Answers the head's word.
+/// domain scans, or the datum of an ephemeron whose full keys are marked, or that a place of the
+/// domain's queue of finalisers keeps alive. Where the block is marked the domain is done with the
+/// register, with the field, with the ephemeron or with the place. `at` is the block's address.
+/// Answers the head's word.
 pub fn target_load(heap: &Heap, dom: &mut Domain, at: u32) -> u64
     ghost reason: { Reason }
     requires here { IsIn dom.old heap.now }

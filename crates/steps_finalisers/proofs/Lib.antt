@@ -1,4 +1,9 @@
 pub mod WorkSteps
 pub mod RegisterSteps
 pub mod RunSteps
+pub mod TakeSteps
+pub mod LookSteps
+pub mod FinalLooks
+pub mod LastLooks
 pub mod Plain
+pub mod PlainLooks

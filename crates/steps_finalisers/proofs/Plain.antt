@@ -125,7 +125,7 @@ module _ (k : Config) (own : Own) (fits : OwnFits k own) where
       go (Queue i) a e = let g = got_address (slice_get (remove fs.queue.items 0) i) a e in ff.inside (Queue (suc i)) a (ap (option_and_then address_in) (later fs.queue.items g.0 i g.1) ∙ g.2)
 
 -- what fits a token fits it with other lists of finalisers, and with other registers
-fits_with : (k : Config) (own : Own) (registers : List _) (fs : Finalisers) → OwnFits k own → Holds k registers → FinalisersFit k fs → OwnFits k (record own { registers = registers; finalisers = fs })
+pub fits_with : (k : Config) (own : Own) (registers : List _) (fs : Finalisers) → OwnFits k own → Holds k registers → FinalisersFit k fs → OwnFits k (record own { registers = registers; finalisers = fs })
 fits_with k own registers fs fits holds lists = record {
   number = fits.number;
   used = fits.used;

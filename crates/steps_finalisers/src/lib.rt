@@ -3,8 +3,10 @@
 //! docs/RULE.md says how to add one.
 #![tactic(auto)]
 
+mod looking;
 mod registering;
 mod running;
 
+pub use looking::{final_look, last_look};
 pub use registering::{register_final, register_last};
 pub use running::run_first;
