@@ -33,6 +33,7 @@ store_stays x y at remembers registers front is = record {
   stage = ap (λ (z : DomainView). z.seen.stage) is;
   notes = ap (λ (z : DomainView). z.seen.notes) is;
   copying = ap (λ (z : DomainView). z.seen.copying) is;
+  queue = ap (λ (z : DomainView). z.own.finalisers.queue) is;
   remembers = λ all. ap (λ (z : DomainView). z.seen.remembered) is ∙ (ap (with_field remembers at) all ∙ ap (λ (z : DomainView). z.own.remembered.items) (sym is));
 }
 

@@ -102,8 +102,8 @@ fn load_as(heap: &Heap, dom: &mut Domain, dst: u8, src: u8, index: u16) -> Reply
 /// Loads a field of the plain block in a register into another. The reply is `type` where register
 /// `src` holds no plain block, and else `bounds` where the block has no such field: then the
 /// registers stay as they are. Else register `dst` holds what the field does, and the reply shows
-/// it: an integer or the label of a block, since no field holds nothing. Registers are below 16, and
-/// the domain's trace hasn't ended.
+/// it: an integer or the label of a block, since no field holds nothing. Registers are below 16, the
+/// domain's trace hasn't ended, and no finaliser waits in its queue.
 pub fn load(heap: &Heap, dom: &mut Domain, dst: u8, src: u8, index: u16) -> Reply
     requires runs { Runs heap.now dom.old }
     requires dst { dst < 16 }
@@ -171,8 +171,8 @@ fn store_as(heap: &Heap, dom: &mut Domain, block: u8, index: u16, item: u8) -> R
 /// Stores what a register holds into a field of the plain block in another. The reply is `type`
 /// where register `block` holds no plain block or register `item` holds nothing, and else `bounds`
 /// where the block has no such field. A field of a block in a pool that gets a block in a minor area
-/// is one more that the domain remembers. Registers are below 16, the domain's trace hasn't ended,
-/// and it has room for one more field.
+/// is one more that the domain remembers. Registers are below 16, the domain's trace hasn't ended, no
+/// finaliser waits in its queue, and it has room for one more field.
 pub fn store(heap: &Heap, dom: &mut Domain, block: u8, index: u16, item: u8) -> Reply
     requires runs { Runs heap.now dom.old }
     requires block { block < 16 }

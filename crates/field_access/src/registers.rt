@@ -46,7 +46,7 @@ fn put_int_as(heap: &Heap, dom: &mut Domain, dst: u8, value: i64) -> Reply
 }
 
 /// Puts an integer of 63 bits into a register. The reply is always `Done`. Registers are below 16,
-/// and the domain's trace hasn't ended.
+/// the domain's trace hasn't ended, and no finaliser waits in its queue.
 pub fn put_int(heap: &Heap, dom: &mut Domain, dst: u8, value: i64) -> Reply
     requires runs { Runs heap.now dom.old }
     requires dst { dst < 16 }
@@ -76,7 +76,7 @@ fn copy_as(heap: &Heap, dom: &mut Domain, dst: u8, src: u8) -> Reply
 }
 
 /// Copies what a register holds, also nothing, into another. The reply is always `Done`. Registers
-/// are below 16, and the domain's trace hasn't ended.
+/// are below 16, the domain's trace hasn't ended, and no finaliser waits in its queue.
 pub fn copy(heap: &Heap, dom: &mut Domain, dst: u8, src: u8) -> Reply
     requires runs { Runs heap.now dom.old }
     requires dst { dst < 16 }
@@ -103,8 +103,8 @@ fn forget_as(heap: &Heap, dom: &mut Domain, dst: u8) -> Reply
     Reply::Done
 }
 
-/// Empties a register. The reply is always `Done`. Registers are below 16, and the domain's trace
-/// hasn't ended.
+/// Empties a register. The reply is always `Done`. Registers are below 16, the domain's trace hasn't
+/// ended, and no finaliser waits in its queue.
 pub fn forget(heap: &Heap, dom: &mut Domain, dst: u8) -> Reply
     requires runs { Runs heap.now dom.old }
     requires dst { dst < 16 }

@@ -11,7 +11,7 @@ use Rattle.heap_rule.specs.declared.view.DomainView.{DomainView}
 use Rattle.heap_rule.specs.declared.view.FoundHead.{FoundHead}
 use Rattle.heap_rule.specs.Places.{IsHeadOf, head_of}
 use Rattle.steps_cycle.specs.Looks.{with_share}
-use Rattle.steps_cycle.specs.Marking.{DarkenMay, Field, TargetTold, IsMarked, IsUnmarked, Reason, Register, OfDatum, Warrants, moved_on}
+use Rattle.steps_cycle.specs.Marking.{DarkenMay, Field, TargetTold, IsMarked, IsUnmarked, Reason, Register, OfDatum, OfQueue, Warrants, moved_on}
 use Rattle.mark_slices.specs.Heads.{IsDarkened}
 use Rattle.mark_slices.specs.Shares.{Darkens}
 
@@ -45,6 +45,7 @@ still : (reason : Reason) (x : DomainView) (at : ℕ) (g : Option FoundHead) →
 still (Register r) x at g w = record { few = w.few; holds = w.holds }
 still Field x at g w = w
 still OfDatum x at g w = w
+still (OfQueue i) x at g w = w
 
 -- the head that was found may be exchanged
 pub exchange_may : (x y : DomainView) (colours : Colours) (at word new : ℕ) (reason : Reason) → IsPermutation colours → Darkens colours at reason x → IsDarkened colours word new → TargetTold at reason x word y → DarkenMay y at word new reason

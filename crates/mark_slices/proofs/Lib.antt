@@ -1,4 +1,5 @@
 pub mod Exchanges
+pub mod Queues
 pub mod Fields
 pub mod Visits
 pub mod Notes

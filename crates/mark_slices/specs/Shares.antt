@@ -1,5 +1,5 @@
 -- What becomes of a domain's view while it marks blocks ("Retrofitting Parallelism onto OCaml", section 3.2).
-use Rattle.std.specs.Prelude.{◌≡◌, ◌≢◌, ℕ, ◌+◌, ◌*◌, ◌<◌, ◌≤◌, ◌==◌, Bool, true, false, IsTrue, cond, if◌then◌else◌, nat_le, Some, List, length, slice_get}
+use Rattle.std.specs.Prelude.{◌≡◌, ◌≢◌, ℕ, ◌+◌, ◌*◌, ◌<◌, ◌≤◌, ◌⊎◌, ◌==◌, Bool, true, false, IsTrue, cond, if◌then◌else◌, nat_le, Some, List, length, slice_get}
 use Rattle.std.specs.List.{list_any}
 use Rattle.heap_model.specs.Domains.{class_count}
 use Rattle.heap_words.specs.declared.colours.Colours.{Colours}
@@ -7,16 +7,18 @@ use Rattle.heap_words.specs.declared.value.Value.TheVariants.{Ref}
 use Rattle.remembered_set.specs.Bounded.{Bounded}
 use Rattle.heap_rule.specs.declared.config.Config.{Config}
 use Rattle.heap_rule.specs.declared.phase.Kind.{Kind}
-use Rattle.heap_rule.specs.declared.phase.Kind.TheVariants.{Mark}
+use Rattle.heap_rule.specs.declared.phase.Kind.TheVariants.{Mark, Queued, Roots}
 use Rattle.heap_rule.specs.declared.phase.Stage.{Stage}
 use Rattle.heap_rule.specs.declared.phase.Stage.TheVariants.{In}
 use Rattle.heap_rule.specs.declared.view.DomainView.{DomainView}
+use Rattle.heap_rule.specs.declared.view.Held.TheVariants.{Queue}
 use Rattle.heap_rule.specs.declared.view.Scan.{Scan}
 use Rattle.heap_rule.specs.declared.view.Scan.TheVariants.{Idle, Reads}
 use Rattle.heap_rule.specs.declared.view.Share.{Share}
 use Rattle.heap_rule.specs.declared.view.Spot.{Spot}
 use Rattle.heap_rule.specs.Changes.{value_at}
 use Rattle.heap_rule.specs.Cycles.{seen_by}
+use Rattle.heap_rule.specs.Finalisers.{held_at}
 use Rattle.heap_rule.specs.Pools.{blocks_of, owned, owner_word}
 use Rattle.steps_cycle.specs.Looks.{with_share}
 use Rattle.steps_cycle.specs.Marking.{IsDarkening, Reason, Site, Warrants, moved_on, owes_on, places_seen_on, walk_on}
@@ -43,9 +45,21 @@ darkened reason at won x = with_share x (record (moved_on reason at x.seen.share
 abbrev pub IsRoot : DomainView → ℕ → Type 0
 IsRoot x r = IsTrue (list_any (λ q. q == r) x.seen.share.roots)
 
--- the domain with what it knows of the colours, of the head that it found last, and of the blocks that are marked as another has it
+-- and a place of the queue is among those
+abbrev pub IsQueueRoot : DomainView → ℕ → Type 0
+IsQueueRoot x i = IsTrue (seen_by x.seen.share.waiting i)
+
+-- roots are marked in a phase
+abbrev pub MarksRoots : Stage → Type 0
+MarksRoots stage = (stage ≡ In Roots) ⊎ (stage ≡ In Queued)
+
+-- the domain with what it knows of the colours, of the head that it found last, of its roots, and of the blocks that are marked as another has it
 abbrev pub with_roots : DomainView → DomainView → DomainView
-with_roots x y = with_share x (record x.seen.share { colours = y.seen.share.colours; found_head = y.seen.share.found_head; roots = y.seen.share.roots; marked = y.seen.share.marked })
+with_roots x y = with_share x (record x.seen.share { colours = y.seen.share.colours; found_head = y.seen.share.found_head; roots = y.seen.share.roots; waiting = y.seen.share.waiting; marked = y.seen.share.marked })
+
+-- and where it has gone to its queue alone
+abbrev pub with_queue : DomainView → DomainView → DomainView
+with_queue x y = with_share x (record x.seen.share { colours = y.seen.share.colours; found_head = y.seen.share.found_head; waiting = y.seen.share.waiting; marked = y.seen.share.marked })
 
 -- the domain is done with a register, and with those with which it was before
 pub record Rooted (register : ℕ) (x y : DomainView) : Type 0 where
@@ -54,10 +68,23 @@ pub record Rooted (register : ℕ) (x y : DomainView) : Type 0 where
   pub done : (a : ℕ) → value_at x.own.registers register ≡ Ref a → IsRoot y register
   pub before : (r : ℕ) → IsRoot x r → IsRoot y r
 
--- it is done with each register that holds a reference, and nothing else has changed
+-- the domain is done with a place of its queue, and with those with which it was before
+pub record QueueRooted (place : ℕ) (x y : DomainView) : Type 0 where
+  pub view : y ≡ with_queue x y
+  pub colours : y.seen.share.colours ≡ x.seen.share.colours
+  pub done : (a : ℕ) → held_at x.own.finalisers (Queue place) ≡ Some a → IsQueueRoot y place
+  pub before : (i : ℕ) → IsQueueRoot x i → IsQueueRoot y i
+
+-- it is done with each place of its queue that keeps a block alive, and nothing else has changed
+pub record AllQueueRooted (x y : DomainView) : Type 0 where
+  pub view : y ≡ with_queue x y
+  pub queued : (i a : ℕ) → held_at y.own.finalisers (Queue i) ≡ Some a → IsQueueRoot y i
+
+-- it is done with each register that holds a reference, and with each place of its queue that keeps a block alive, and nothing else has changed
 pub record AllRooted (x y : DomainView) : Type 0 where
   pub view : y ≡ with_roots x y
   pub done : (r a : ℕ) → r < 16 → value_at y.own.registers r ≡ Ref a → IsRoot y r
+  pub queued : (i a : ℕ) → held_at y.own.finalisers (Queue i) ≡ Some a → IsQueueRoot y i
 
 -- how far a scan is: one field further, and at so many fields
 abbrev pub field_on : Scan → Scan

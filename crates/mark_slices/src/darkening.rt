@@ -12,11 +12,12 @@ use heap_words::Colours;
 use steps_cycle::{darken_exchange, target_load};
 
 /// Marks the block at `at`, for which there is a reason: a register refers to it, or the next field of
-/// the block that is scanned, or the datum of a marked ephemeron whose full keys are all marked. The
-/// domain is in a phase in which blocks are marked, and knows the colours. Afterwards the block is
-/// marked, and the domain is done with the reason (`darkened`). Answers whether this domain has marked
-/// it, and not another before. Where it has, it owes a store of the changed word in the phases in which
-/// another may have looked at the block before.
+/// the block that is scanned, or the datum of a marked ephemeron whose full keys are all marked, or a
+/// place of the domain's queue of finalisers keeps it alive. The domain is in a phase in which blocks
+/// are marked, and knows the colours. Afterwards the block is marked, and the domain is done with the
+/// reason (`darkened`). Answers whether this domain has marked it, and not another before. Where it
+/// has, it owes a store of the changed word in the phases in which another may have looked at the block
+/// before.
 pub fn darken(heap: &Heap, dom: &mut Domain, at: u32, colours: Colours) -> bool
     ghost reason: { Reason }
     requires here { IsIn dom.old heap.now }

@@ -1,5 +1,5 @@
 //! A domain's share of the phases in which the blocks of the major heap are marked: it marks what its
-//! registers refer to, and scans the marked blocks of its own pools.
+//! registers refer to and what its queue of finalisers keeps alive, and scans the marked blocks of its own pools.
 //!
 //! No call takes a lock or memory ("Retrofitting Parallelism onto OCaml", section 3.2).
 #![tactic(auto)]
@@ -9,11 +9,13 @@ mod following;
 mod heads;
 mod hints;
 mod places;
+mod queue;
 mod roots;
 mod rounds;
 mod scanning;
 
 pub use darkening::darken;
 pub use hints::{HINTS_ROOM, Hints};
+pub use queue::mark_queue;
 pub use roots::start_roots;
 pub use rounds::mark_round;

@@ -1,4 +1,4 @@
-//! What the registers of a domain refer to is marked.
+//! What the roots of a domain refer to is marked.
 ghost use Rattle.std.specs.Prelude.{◌≡◌, ◌<◌, Some};
 ghost use Rattle.heap_words.specs.ColourWords.{IsPermutation};
 ghost use Rattle.heap_rule.specs.declared.phase.Kind.TheVariants.{Roots};
@@ -8,6 +8,7 @@ ghost use Rattle.steps_cycle.specs.Marking.{Reason, Register};
 ghost use Rattle.mark_slices.specs.Shares.{Rooted, AllRooted};
 
 use crate::darkening::darken;
+use crate::queue::mark_queue;
 use heap_rule::{Domain, Heap};
 use heap_words::{Colours, Value};
 use steps_cycle::colours_now;
@@ -30,10 +31,11 @@ fn mark_root(heap: &Heap, dom: &mut Domain, register: u8, colours: Colours)
 }
 
 /// A domain's share of the phase with which a collection of the major heap begins: each block that one
-/// of its registers refers to is marked. Afterwards the domain is done with all these registers, as is
-/// asked of it where it arrives. What it knows of the colours and of blocks is all that has changed.
+/// of its registers refers to is marked, and each that its queue of finalisers keeps alive. Afterwards
+/// the domain is done with all these registers and places of the queue, as is asked of it where it
+/// arrives. What it knows of the colours, of the queue and of blocks is all that has changed.
 ///
-/// The registers are the roots here: a program of commands has no stack ("Retrofitting Parallelism
+/// There are no other roots: a program of commands has no stack ("Retrofitting Parallelism
 /// onto OCaml", section 3.2).
 pub fn start_roots(heap: &Heap, dom: &mut Domain)
     requires here { IsIn dom.old heap.now }
@@ -45,4 +47,5 @@ pub fn start_roots(heap: &Heap, dom: &mut Domain)
     for register in 0..16 {
         mark_root(heap, dom, register, colours);
     }
+    mark_queue(heap, dom);
 }

@@ -102,8 +102,8 @@ fn find_free(heap: &Heap, dom: &mut Domain) -> u32
 }
 
 /// Allocates a plain block of `fields` fields, each the integer 0, in the domain's minor area, and
-/// puts it into register `dst`. Registers are below 16, tags at most 245, fields 1 to 126, and fewer
-/// than 4,294,967,295 labels were made.
+/// puts it into register `dst`. Registers are below 16, tags at most 245, fields 1 to 126, fewer than
+/// 4,294,967,295 labels were made, and no finaliser waits in the domain's queue.
 ///
 /// `AreaFull` exactly where the words that are used and those of the block's size class are more
 /// than a minor area has. `Closed` exactly where the area has room and fewer pools are free, by loads

@@ -40,7 +40,7 @@ ephe_may h old x a new dst place keys runs r is same few one_key fits list seria
       class = r.class;
       slot = r.slot;
       own = refl;
-      acts = let a = busy_acts h old runs in record { goes_on = a.goes_on; runs = a.runs };
+      acts = let a = busy_acts h old runs in record { goes_on = a.goes_on; runs = a.runs; unqueued = a.unqueued };
       hunt = refl;
       word = r.address;
       some_key = one_key;

@@ -72,7 +72,7 @@ head_inside k x a n some_word r =
 
 -- a busy domain acts by the heap's numbers
 pub busy_acts : (h : SharedHeap) (old : Token) → IsBusy h old → Acts h.config old.view
-busy_acts h old runs = let a : Acts h.config old.view = subst (λ (k : Config). Acts k old.view) runs.here.1 runs.acts in record { goes_on = a.goes_on; runs = a.runs }
+busy_acts h old runs = let a : Acts h.config old.view = subst (λ (k : Config). Acts k old.view) runs.here.1 runs.acts in record { goes_on = a.goes_on; runs = a.runs; unqueued = a.unqueued }
 
 pub major_may : (h : SharedHeap) (old : Token) (x : DomainView) (a new dst place tag n : ℕ) (runs : IsBusy h old) (r : IsRoom h.config old.view a (n + 2))
     → x ≡ with_hunt old.view (Fills r.pool r.class r.slot (label_word old.view.own.number (old.view.own.serial + 1) ∷ replicate n 1)) → place ≡ dst → dst < 16 → tag ≤ 245 → 1 ≤ n → n ≤ 126 → old.view.own.serial + 1 < 2 ^ 32
@@ -83,7 +83,7 @@ major_may h old x a new dst place tag n runs r is same few small some fits seria
       class = r.class;
       slot = r.slot;
       own = refl;
-      acts = let a = busy_acts h old runs in record { goes_on = a.goes_on; runs = a.runs };
+      acts = let a = busy_acts h old runs in record { goes_on = a.goes_on; runs = a.runs; unqueued = a.unqueued };
       hunt = refl;
       word = r.address;
       tag_fits = omega arith;
@@ -109,6 +109,7 @@ made_did h old new mid e c l hunt registers serial ephemerons is runs here view 
       stage = ap (λ (x : DomainView). x.seen.stage) rest ∙ ap (λ (x : DomainView). x.seen.stage) view;
       notes = ap (λ (x : DomainView). x.seen.notes) rest ∙ ap (λ (x : DomainView). x.seen.notes) view;
       copying = ap (λ (x : DomainView). x.seen.copying) rest ∙ ap (λ (x : DomainView). x.seen.copying) view;
+      queue = ap (λ (x : DomainView). x.own.finalisers.queue) rest ∙ ap (λ (x : DomainView). x.own.finalisers.queue) view;
       remembers = λ all. ap (λ (x : DomainView). x.seen.remembered) rest ∙ (ap (λ (x : DomainView). x.seen.remembered) view ∙ (all ∙ sym (ap (λ (x : DomainView). x.own.remembered.items) rest ∙ ap (λ (x : DomainView). x.own.remembered.items) view)));
     })
     (subst (λ (x : Entry). Answers (sizes_in h.config) old.view.own.number old.view.seen.front new.view.seen.front x (Replied (Block l))) is
@@ -127,7 +128,7 @@ hunted_remembers x y hunt view all = ap (λ (z : DomainView). z.seen.remembered)
 pub hunted_runs : (h : SharedHeap) (old new : Token) (hunt : Hunt) → Runs h old → IsIn new h → Hunted old.view new.view hunt → IsBusy h new
 hunted_runs h old new hunt runs here view = record {
   here = here;
-  acts = subst (λ (z : Config × DomainView). Acts z.0 z.1) (λ i. (sym (here.1 ∙ sym runs.here.1) i, sym view i)) (let a : Acts old.config (hunting_free old.view new.view.own.looked hunt new.view.seen.free) = record { goes_on = runs.acts.goes_on; runs = runs.acts.runs } in a);
+  acts = subst (λ (z : Config × DomainView). Acts z.0 z.1) (λ i. (sym (here.1 ∙ sym runs.here.1) i, sym view i)) (let a : Acts old.config (hunting_free old.view new.view.own.looked hunt new.view.seen.free) = record { goes_on = runs.acts.goes_on; runs = runs.acts.runs; unqueued = runs.acts.unqueued } in a);
   idle = ap (λ (x : DomainView). x.seen.made) view ∙ runs.idle;
   remembers = hunted_remembers old.view new.view hunt view runs.remembers;
 }
@@ -143,6 +144,7 @@ hunted_did h old mid new hunt c r runs here view did =
         stage = did.stays.stage ∙ ap (λ (x : DomainView). x.seen.stage) view;
         notes = did.stays.notes ∙ ap (λ (x : DomainView). x.seen.notes) view;
         copying = did.stays.copying ∙ ap (λ (x : DomainView). x.seen.copying) view;
+        queue = did.stays.queue ∙ ap (λ (x : DomainView). x.own.finalisers.queue) view;
         remembers = λ all. did.stays.remembers (hunted_remembers old.view mid.view hunt view all);
       };
     }

@@ -81,7 +81,7 @@ pub record Lacks (k : Config) (class : ℕ) (x y : DomainView) : Type 0 where
   pub missed : Missed x y
   pub none_free : NoneFree k y class
 
--- the token is one of the heap's, its trace hasn't ended, no young block is being made, and its list has the fields that it may have to look through
+-- the token is one of the heap's, its trace hasn't ended, no finaliser waits in its queue, no young block is being made, and its list has the fields that it may have to look through
 pub record IsBusy (h : SharedHeap) (t : Token) : Type 0 where
   pub here : IsIn t h
   pub acts : Acts t.config t.view

@@ -91,8 +91,8 @@ fn write_block(heap: &Heap, dom: &mut Domain, at: u32, dst: u8, tag: u8, fields:
 }
 
 /// Allocates a plain block of `fields` fields, each the integer 0, in the major heap, and puts it
-/// into register `dst`. Registers are below 16, tags at most 245, fields 1 to 126, and fewer than
-/// 4,294,967,295 labels were made.
+/// into register `dst`. Registers are below 16, tags at most 245, fields 1 to 126, fewer than
+/// 4,294,967,295 labels were made, and no finaliser waits in the domain's queue.
 ///
 /// `NoPool` exactly where no own pool of the block's class has a free block and the number of pools
 /// that were free at that step is at most the reserve of promotion. Then no entry stands, and nothing

@@ -91,7 +91,8 @@ fn write_ephemeron(heap: &Heap, dom: &mut Domain, at: u32, dst: u8, keys: u16) -
 
 /// Makes an ephemeron of `keys` keys, which are empty as its datum is, in the major heap, puts it into
 /// register `dst`, and lists it. Registers are below 16, keys 1 to 8, the domain's list has room for
-/// one more ephemeron, and fewer than 4,294,967,295 labels were made.
+/// one more ephemeron, fewer than 4,294,967,295 labels were made, and no finaliser waits in the
+/// domain's queue.
 ///
 /// `NoPool` exactly where no own pool of the ephemeron's class has a free block and the number of
 /// pools that were free at that step is at most the reserve of promotion. Then no entry stands, and

@@ -40,7 +40,8 @@ use Rattle.heap_rule.specs.Rule.{Rule, state_of}
 use Rattle.heap_rule.specs.Standing.{with_front}
 use Rattle.heap_rule.specs.Views.{one}
 use Rattle.heap_rule.proofs.FullnessLemmas.{full_stays}
-use Rattle.heap_rule.proofs.Keeps.{Words, after_entry, knows_entry, legal_entry, mine, my_good, plain_push}
+use Rattle.heap_rule.proofs.FinaliserLemmas.{KeepsWork, work_next}
+use Rattle.heap_rule.proofs.Keeps.{Words, after_entry, knows_entry, legal_entry, mine, my_good}
 use Rattle.steps_cycle.specs.Looks.{with_share}
 use Rattle.steps_cycle.proofs.Learning.{at_other, at_same, waits}
 use Rattle.steps_rounds.proofs.Listings.{one_label, owner_listed, sees_at}
@@ -170,9 +171,9 @@ module _ (k : Config) (s : Words) (r : Rule k s) (id : ℕ) (hist : List Entry) 
           values = values_wiped;
           emptied_else = λ z other. label_else c.paint.emptied l [] z other;
           legal = legal_entry k s r id hist x at wipe allowed.0;
-          plain = plain_push r.account.log wipe r.whole.plain tt;
           full = full_stays k r.account.log live T.holder T.fresh r.account.homes c.kind wipe refl r.whole.full;
           keeps = λ z. subst (λ (v : model.State). KeepsDomain now v z) (sym after) (keeps_next now wipe z refl);
+          work = λ z. subst (λ (v : model.State). KeepsWork now v z) (sym after) (work_next now wipe z refl tt);
           facts = facts_after;
           seen_others = λ z other. at_other c.shares.seen d (λ b. b == w.block || c.shares.seen d b) z other;
           seen_is = at_same c.shares.seen d (λ b. b == w.block || c.shares.seen d b) ∙ ap (λ (g : ℕ → Bool). λ (b : ℕ). b == w.block || g b) (t.telling.seen up);

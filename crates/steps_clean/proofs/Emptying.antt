@@ -26,7 +26,7 @@ use Rattle.heap_rule.specs.declared.view.DomainView.{DomainView}
 use Rattle.heap_rule.specs.declared.view.Scan.{Scan}
 use Rattle.heap_rule.specs.declared.view.Scan.TheVariants.{Idle, Reads, Holds, Keys, Key, Datum}
 use Rattle.heap_rule.specs.declared.view.Share.{Share}
-use Rattle.heap_rule.specs.Cycles.{AllPlain, Cycled, Cycling, Facts, IsCollecting, IsIdle, KeysAt, Knowing, Leading, MissesKeys, Scanned, Scans, Told, owner_at, seen_by}
+use Rattle.heap_rule.specs.Cycles.{Cycled, Cycling, Facts, IsCollecting, IsIdle, KeysAt, Knowing, Leading, MissesKeys, Scanned, Scans, Told, owner_at, seen_by}
 use Rattle.heap_rule.specs.Ephemerons.{Cleans, Looks, emptied_at, ephemeron_of}
 use Rattle.heap_rule.specs.Fullness.{Fullness}
 use Rattle.heap_rule.specs.Layout.{at_address, before_heap, heap_words}
@@ -38,11 +38,11 @@ use Rattle.heap_rule.specs.Rule.{Account, AllFound, Area, Good, Making, Rule, Sh
 use Rattle.heap_rule.specs.Standing.{with_front}
 use Rattle.heap_rule.specs.Views.{EachView, Knows as SeatKnows, one}
 use Rattle.heap_rule.proofs.Beside.{extent_of, found_beside, live_word_far, making_beside}
+use Rattle.heap_rule.proofs.FinaliserLemmas.{KeepsWork}
 use Rattle.heap_rule.proofs.Keeps.{Words, control_set, controls_kept, hunter_as, more_same, my_good, opened_words, owes_as, remakes, resting_as, resting_lists, room_words, stood_other, sum_same}
 use Rattle.heap_rule.proofs.Lists.{got_set}
 use Rattle.heap_rule.proofs.Lots.{Beside, grid_beside, head_full, hunter_beside, live_beside}
 use Rattle.heap_rule.proofs.PauseFacts.{nobody_still, not_both}
-use Rattle.heap_rule.proofs.PlainHistories.{nothing_owed}
 use Rattle.heap_rule.proofs.Values.{extent_large}
 use Rattle.heap_model.proofs.Commands.FrameLemmas.{label_cases}
 use Rattle.steps_cycle.specs.Looks.{with_share}
@@ -169,9 +169,9 @@ module _ (k : Config) (s : Words) (r : Rule k s) (id : ℕ) (hist : List Entry) 
       pub values : values_of (without_keys (emptied' p.label) after) ≡ set (values_of (without_keys (paint.emptied p.label) node)) i Nothing
       pub emptied_else : (l : Label) → p.label ≢ l → emptied' l ≡ paint.emptied l
       pub legal : Legal (sizes_in k) log'
-      pub plain : AllPlain log'
       pub full : Fullness k log' live T.holder T.fresh r.account.homes c.kind
       pub keeps : (z : ℕ) → KeepsDomain now later z
+      pub work : (z : ℕ) → KeepsWork now later z
       pub facts : Facts Clean k later live T c' words'
       pub seen_others : (z : ℕ) → z ≢ d → seen' z ≡ c.shares.seen z
       pub seen_is : seen' d ≡ seen_by places_seen'
@@ -344,7 +344,7 @@ module _ (k : Config) (s : Words) (r : Rule k s) (id : ℕ) (hist : List Entry) 
             pass = l.pass;
           }
 
-      sharings' : (z : DomainView) → z.own.number ≢ d → Good k r.account s.words z → Sharing k all' words' z.own.number z.own.registers z.own.ephemerons.items z.seen.stage z.seen.share
+      sharings' : (z : DomainView) → z.own.number ≢ d → Good k r.account s.words z → Sharing k all' words' z.own.number z.own.registers z.own.finalisers z.own.ephemerons.items z.seen.stage z.seen.share
       sharings' z other g = let t = g.sharing.telling in record {
         telling = record { owes = t.owes; seen = λ up. o.seen_others z.own.number other ∙ t.seen up; fresh = t.fresh; forgotten = t.forgotten; colours = t.colours };
         leading = leading_on z z.seen.share g.staged g.sharing.leading;
@@ -354,6 +354,7 @@ module _ (k : Config) (s : Words) (r : Rule k s) (id : ℕ) (hist : List Entry) 
             g.sharing.knows;
         adds = record { blocks = g.sharing.adds.blocks; words = g.sharing.adds.words; own = g.sharing.adds.own };
         looks = looks_on z other g;
+        deciding = g.sharing.deciding;
       }
 
       up : c.shares.arrived d ≡ false
@@ -372,7 +373,7 @@ module _ (k : Config) (s : Words) (r : Rule k s) (id : ℕ) (hist : List Entry) 
         vacant = λ class slot own within under. free_stays (place_in sh.held class slot) (n.vacant class slot own within under);
       }
 
-      sharing' : Sharing k all' words' d x.own.registers items x.seen.stage share'
+      sharing' : Sharing k all' words' d x.own.registers x.own.finalisers items x.seen.stage share'
       sharing' = let g = good.sharing in let t = g.telling in let l = leading_on x sh good.staged g.leading in record {
         telling = record { owes = t.owes; seen = λ _. o.seen_is; fresh = λ gone. absurd (true≢false (sym gone ∙ up)); forgotten = λ gone. absurd (true≢false (sym gone ∙ up)); colours = t.colours };
         leading = record { changed = l.changed; found_blocks = l.found_blocks; found_words = l.found_words; rotated = l.rotated; turned = l.turned; pass = l.pass };
@@ -386,6 +387,7 @@ module _ (k : Config) (s : Words) (r : Rule k s) (id : ℕ) (hist : List Entry) 
               (λ same. ap (λ (z : Place). emptied' z.label) (sym (place_is q (ap live (sym same) ∙ lives))) ∙ (o.emptied_here ∙ ap (emptied_at cleaning') (sym same)))
               (λ other. o.emptied_else q.label (differs a q lives other) ∙ (g.looks.emptied_is a q own lives ∙ sym (o.emptied_there a other)));
         };
+        deciding = g.deciding;
       }
 
       told' : Told k r.account.pause c.kind c'.shares
@@ -436,7 +438,7 @@ module _ (k : Config) (s : Words) (r : Rule k s) (id : ℕ) (hist : List Entry) 
       empties =
           let g = good in
           let controls = controls_kept k s r id hist x at words' (control_set k s.words (block + 2 + i) 0 (omega arith)) in
-          let own_stood = stood_other live live now later x (o.keeps d) (more_same live) g.stood in
+          let own_stood = stood_other live live now later x (o.keeps d) (o.work d) (more_same live) g.stood in
           let own_making = makes x g.area g.making in
           let own_hunter = hunter_beside k T s.words (block + 2 + i) 0 r.whole.pools x (beside d) g.hunter in
           let own_sharing = sharing' in
@@ -444,9 +446,7 @@ module _ (k : Config) (s : Words) (r : Rule k s) (id : ℕ) (hist : List Entry) 
           record {
             wide = length-set s.words (before_heap k + (block + 2 + i)) 0 ∙ r.whole.wide;
             legal = o.legal;
-            plain = o.plain;
             full = o.full;
-            queues = λ j. (nothing_owed (sizes_in k) log' o.plain j).queue;
             found = found';
             placed = r.whole.placed;
             spread = r.whole.spread;
@@ -470,7 +470,7 @@ module _ (k : Config) (s : Words) (r : Rule k s) (id : ℕ) (hist : List Entry) 
           }
           o.knows
           record {
-            stood = record { wide = own_stood.wide; each = own_stood.each; serial = own_stood.serial };
+            stood = record { wide = own_stood.wide; each = own_stood.each; serial = own_stood.serial; enrolled = own_stood.enrolled };
             area = record { room = g.area.room; free = g.area.free; classes = g.area.classes };
             making = record { fits = own_making.fits; written = own_making.written };
             staged = record { arrivals = g.staged.arrivals; stage = g.staged.stage };
@@ -485,7 +485,7 @@ module _ (k : Config) (s : Words) (r : Rule k s) (id : ℕ) (hist : List Entry) 
             listed = record { all = g.listed.all; own = g.listed.own; lives = g.listed.lives };
           }
           (λ z _ other h. record {
-            stood = stood_other live live now later z (o.keeps z.own.number) (more_same live) h.stood;
+            stood = stood_other live live now later z (o.keeps z.own.number) (o.work z.own.number) (more_same live) h.stood;
             area = h.area;
             making = makes z h.area h.making;
             staged = h.staged;

@@ -125,9 +125,9 @@ module _ (k : Config) (s : Words) (r : Rule k s) (id : ℕ) (hist : List Entry) 
           ∙ (values_more w.emptied w.done e.keys e.datum ∙ sym (ap (λ (ks : List ℕ). set (values_of (without_keys ks (Ephe e.keys e.datum))) (suc w.done) Nothing) missing));
       emptied_else = λ z other. label_else c.paint.emptied l (w.emptied ++ w.done ∷ []) z other;
       legal = r.whole.legal;
-      plain = r.whole.plain;
       full = r.whole.full;
       keeps = λ z. record { registers = refl; serial = refl; ended = refl };
+      work = λ z. record { finals = refl; lasts = refl; queue = refl };
       facts = (f.0, record { unchanged = f.1.unchanged; unrotated = f.1.unrotated });
       seen_others = λ z other. refl;
       seen_is = t.telling.seen (waits k s r id hist x at (collecting k s r id hist x at in_clean w may.cleans));

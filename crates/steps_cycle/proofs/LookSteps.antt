@@ -67,12 +67,12 @@ module _ (k : Config) (s : Words) (r : Rule k s) (id : ℕ) (hist : List Entry) 
   colours_rule : MayLook x.own.number x.seen.stage → Rule k record { words = s.words; homes = s.homes; views = set s.views id (one k hist (with_share x told_share)) }
   colours_rule may = learns k s r id hist x at told_share (colours_sharing may)
 
-pub colours_may : (k : Config) (x : DomainView) → MayLook x.own.number x.seen.stage → MayStep k x 5 (λ n. n) ColoursTold
+pub colours_may : (k : Config) (x : DomainView) → MayLook x.own.number x.seen.stage → MayStep k x 5 (λ n. n) (ColoursTold k)
 colours_may k x may fits slots id hist s r _ at _ =
     let y : DomainView = with_share x (told_share k s r id hist x at) in (
       one k hist y,
       keeps,
       tt,
       unmoved k s 5 (set s.views id (one k hist y)) (colours_rule k s r id hist x at may),
-      (record { colours = r.account.cycling.paint.colours; meanings = r.whole.cycle.meanings; word = r.whole.cycle.colours_are; view = refl }, refl),
+      (record { colours = r.account.cycling.paint.colours; meanings = r.whole.cycle.meanings; word = r.whole.cycle.colours_are; inside = fits.finalisers.inside; view = refl }, refl),
     )

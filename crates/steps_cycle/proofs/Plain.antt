@@ -16,8 +16,8 @@ use Rattle.steps_cycle.specs.Changed.{FindTold, ForgetTold}
 pub share_closes : (k : Config) (x : DomainView) (found : ℕ) (tells : DomainView → ℕ → DomainView → Type 0) → ((y : DomainView) → tells x found y → (share : Share) × (y ≡ with_share x share)) → Closes k x found tells CanLeave Leaves
 share_closes k x found tells says = leaves_closes k x found tells (λ y told. ap (λ (z : DomainView). z.own) (says y told).1) (λ y told. front_same x y (ap (λ (z : DomainView). z.seen.front) (says y told).1))
 
-pub colours_closes : (k : Config) (x : DomainView) (found : ℕ) → Closes k x found ColoursTold CanLeave Leaves
-colours_closes k x found = share_closes k x found ColoursTold (λ y t. (record x.seen.share { colours = Some t.colours }, t.view))
+pub colours_closes : (k : Config) (x : DomainView) (found : ℕ) → Closes k x found (ColoursTold k) CanLeave Leaves
+colours_closes k x found = share_closes k x found (ColoursTold k) (λ y t. (record x.seen.share { colours = Some t.colours }, t.view))
 
 pub target_closes : (k : Config) (x : DomainView) (found a : ℕ) (reason : Reason) → Closes k x found (TargetTold a reason) CanLeave Leaves
 target_closes k x found a reason = share_closes k x found (TargetTold a reason) (λ y t. ⊎_elim (λ u. (record x.seen.share { found_head = Some (record { address = a; word = found }) }, u.1)) (λ u. (moved_on reason a x.seen.share, u.1)) t.told)

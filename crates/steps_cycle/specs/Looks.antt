@@ -4,8 +4,13 @@ use Rattle.heap_words.specs.declared.colours.Colours.{Colours}
 use Rattle.heap_words.specs.ColourWords.{IsPermutation, colours_word}
 use Rattle.heap_rule.specs.declared.phase.Stage.{Stage}
 use Rattle.heap_rule.specs.declared.phase.Stage.TheVariants.{In, Leads, Led, Gone}
+use Rattle.heap_rule.specs.declared.config.Config.{Config}
 use Rattle.heap_rule.specs.declared.view.DomainView.{DomainView}
+use Rattle.heap_rule.specs.declared.view.Finalisers.{Finalisers}
+use Rattle.heap_rule.specs.declared.view.Held.{Held}
 use Rattle.heap_rule.specs.declared.view.Share.{Share}
+use Rattle.heap_rule.specs.Finalisers.{held_at}
+use Rattle.heap_rule.specs.Standing.{IsInHeap}
 
 -- the domain with other knowledge of the phase
 abbrev pub with_share : DomainView → Share → DomainView
@@ -22,9 +27,14 @@ MayLook d (Leads kind) = d ≡ 0
 MayLook d (Led kind) = d ≡ 0
 MayLook d (Gone kind) = ⊥
 
--- the word has the meanings of the colours
-pub record ColoursTold (x : DomainView) (found : ℕ) (y : DomainView) : Type 0 where
+-- the addresses in a domain's lists of finalisers lie in the heap
+abbrev pub HeldInside : Config → Finalisers → Type 0
+HeldInside k fs = (h : Held) (a : ℕ) → held_at fs h ≡ Some a → IsInHeap k a
+
+-- the word has the meanings of the colours. That addresses lie in the heap is known at each step
+pub record ColoursTold (k : Config) (x : DomainView) (found : ℕ) (y : DomainView) : Type 0 where
   pub colours : Colours
   pub meanings : IsPermutation colours
   pub word : found ≡ colours_word colours
+  pub inside : HeldInside k x.own.finalisers
   pub view : y ≡ knowing_colours x colours

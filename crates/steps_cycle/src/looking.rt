@@ -31,7 +31,7 @@ pub fn colours_load(heap: &Heap, dom: &mut Domain) -> u64
     requires here { IsIn dom.old heap.now }
     requires acts { MayLook dom.old.view.own.number dom.old.view.seen.stage }
     ensures here { IsIn dom.new heap.now }
-    ensures told { ColoursTold dom.old.view result dom.new.view }
+    ensures told { ColoursTold heap.now.config dom.old.view result dom.new.view }
 {
     raw_load::<Brand, Leaving>(heap, dom, COLOURS, &Leaving, &[])
 }

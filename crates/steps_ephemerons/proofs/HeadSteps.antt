@@ -34,13 +34,13 @@ use Rattle.heap_rule.specs.Raw.{MayStep}
 use Rattle.heap_rule.specs.Rule.{state_of, Rule}
 use Rattle.heap_rule.specs.Standing.{Acts, IsAt, with_front}
 use Rattle.heap_rule.proofs.Values.{AllStand, stands_block, not_nothing}
-use Rattle.heap_rule.proofs.Keeps.{Words, IsCommand, mine, looks, unmoved, run_settled}
+use Rattle.heap_rule.proofs.Keeps.{Words, IsOfTrace, mine, looks, unmoved, run_settled}
 use Rattle.heap_rule.proofs.Entering.{registers_stand, Enters, entered_view, enters_rule, enters, enters_command, may_begin}
 use Rattle.heap_rule.proofs.Blocks.{Lives, lives_at, found_at, plain_at, shape_at}
 use Rattle.heap_rule.proofs.HeadLemmas.{packable_head, colour_small}
 use Rattle.steps_run.proofs.EphemeronEntries.{leaves_reply, block_is}
 use Rattle.steps_ephemerons.specs.Heads.{ephemeron_in, key_in, IsBlockValue, HasItem, HasKey, LacksKey, EpheHeadEntry, EpheHeadMay, EpheHeadTold, EpheHeadCase, subject}
-use Rattle.steps_ephemerons.proofs.Outcomes.{plain_item, fits_item, Brings, plain_outcome, past_outcome}
+use Rattle.steps_ephemerons.proofs.Outcomes.{unregistering_item, fits_item, Brings, plain_outcome, past_outcome}
 use Rattle.steps_ephemerons.proofs.Finding.{ephe_of}
 
 -- an ephemeron has the key that is named, or it hasn't
@@ -58,7 +58,7 @@ block_held live (IntWord z) v is stands = absurd is
 block_held live (Ref a) v is stands = let b = stands_block live a v stands in (b.0, b.2)
 block_held live NothingWord v is stands = absurd is
 
-head_command : (x : DomainView) (a : ℕ) (e : Entry) → EpheHeadEntry x a e → IsCommand e
+head_command : (x : DomainView) (a : ℕ) (e : Entry) → EpheHeadEntry x a e → IsOfTrace e
 head_command x a (Command d c false) may = tt
 head_command x a _ may = absurd may
 
@@ -93,7 +93,7 @@ module _ (k : Config) (s : Words) (r : Rule k s) (id : ℕ) (hist : List Entry) 
 
   -- a command that is refused
   refused : (c : command.Command) (reply : Reply) → HasItem x c → outcome now d c ≡ only_replies now reply → Enters k s r id hist x at acts (Command d c false) x.own.registers (Replied reply)
-  refused c reply has is = enters_command k s r id hist x at acts now.graph c (plain_item x c has) (fits_item now d x c has (may_begin k s r id hist x at acts)) x.own.registers (Replied reply) theirs stand (leaves_reply now d c reply is)
+  refused c reply has is = enters_command k s r id hist x at acts now.graph c (unregistering_item x c has) (fits_item now d x c has (may_begin k s r id hist x at acts)) x.own.registers (Replied reply) theirs stand (leaves_reply now d c reply is)
 
   -- as its block is a plain one
   plain_entry : (a : ℕ) (c : command.Command) → HasItem x c → (n tag : ℕ) (b : Lives k s r id hist x at (ephemeron_in c) a) → b.place.shape ≡ PlainShape n tag → Enters k s r id hist x at acts (Command d c false) x.own.registers (Replied BadType)
@@ -123,9 +123,9 @@ module _ (k : Config) (s : Words) (r : Rule k s) (id : ℕ) (hist : List Entry) 
     rule : Rule k record { words = s.words; homes = s.homes; views = set s.views id (one k hist after) }
     told : EpheHeadCase k a e shape x after
 
-  refusal : (a : ℕ) (e : Entry) (shape : Shape) (answer : Applied) → IsCommand e → Enters k s r id hist x at acts e x.own.registers answer
+  refusal : (a : ℕ) (e : Entry) (shape : Shape) (answer : Applied) → IsOfTrace e → Enters k s r id hist x at acts e x.own.registers answer
       → EpheHeadCase k a e shape x (entered_view k s r id hist x at acts e x.own.registers) → HeadStep a e shape
-  refusal a e shape answer command o told = record { after = entered_view k s r id hist x at acts e x.own.registers; rule = enters_rule k s r id hist x at acts e x.own.registers answer o command; told = told }
+  refusal a e shape answer of_trace o told = record { after = entered_view k s r id hist x at acts e x.own.registers; rule = enters_rule k s r id hist x at acts e x.own.registers answer o of_trace; told = told }
 
   head_step : (a : ℕ) (c : command.Command) → HasItem x c → (shape : Shape) (b : Lives k s r id hist x at (ephemeron_in c) a) → b.place.shape ≡ shape → HeadStep a (Command d c false) shape
   head_step a c has (PlainShape n tag) b is =

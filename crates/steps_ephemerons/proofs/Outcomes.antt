@@ -17,7 +17,7 @@ use Rattle.heap_model.specs.Graph.{label_of}
 use Rattle.heap_model.specs.Domains.{domain_at, with_block, register, label_in}
 use Rattle.heap_model.specs.Commands.{Outcome, only_replies, done_with, in_bounds, read_into, tells, block_in, at_ephe, key_set, key_stored, datum_set, key_value, is_full_value, outcome, FitsMode}
 use Rattle.heap_model.proofs.Commands.LeavesLemmas.{Leaves}
-use Rattle.heap_rule.specs.Cycles.{IsPlainCommand}
+use Rattle.heap_model.proofs.Commands.MoveLemmas.{registers_one}
 use Rattle.heap_rule.specs.declared.view.DomainView.{DomainView}
 use Rattle.steps_run.proofs.EphemeronEntries.{some_stored, leaves_reply, leaves_read}
 use Rattle.steps_ephemerons.specs.Heads.{ephemeron_in, key_in, HasItem, LacksKey}
@@ -47,17 +47,17 @@ tells_datum s (Int z) = refl
 tells_datum s (Block l) = refl
 tells_datum s Nothing = refl
 
--- such a command is one of those that histories here have, and waits for what most commands wait for
-pub plain_item : (x : DomainView) (c : Command) → HasItem x c → IsPlainCommand c
-plain_item x (SetKey ephe i item) has = tt
-plain_item x (UnsetKey ephe i) has = tt
-plain_item x (GetKey dst ephe i) has = tt
-plain_item x (CheckKey ephe i) has = tt
-plain_item x (SetData ephe item) has = tt
-plain_item x (UnsetData ephe) has = tt
-plain_item x (GetData dst ephe) has = tt
-plain_item x (CheckData ephe) has = tt
-plain_item x _ has = absurd has
+-- such a command registers no finaliser, and waits for what most commands wait for
+pub unregistering_item : (x : DomainView) (c : Command) → HasItem x c → registers_one c ≡ false
+unregistering_item x (SetKey ephe i item) has = refl
+unregistering_item x (UnsetKey ephe i) has = refl
+unregistering_item x (GetKey dst ephe i) has = refl
+unregistering_item x (CheckKey ephe i) has = refl
+unregistering_item x (SetData ephe item) has = refl
+unregistering_item x (UnsetData ephe) has = refl
+unregistering_item x (GetData dst ephe) has = refl
+unregistering_item x (CheckData ephe) has = refl
+unregistering_item x _ has = absurd has
 
 pub look_item : (x : DomainView) (c : Command) → IsLook c → HasItem x c
 look_item x (GetKey dst ephe i) looks = tt

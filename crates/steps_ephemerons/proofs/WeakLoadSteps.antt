@@ -31,7 +31,7 @@ use Rattle.heap_rule.proofs.Entering.{inside_state, registers_stand, Enters, ent
 use Rattle.steps_run.proofs.EphemeronEntries.{block_is}
 use Rattle.steps_ephemerons.specs.Heads.{ephemeron_in, key_in}
 use Rattle.steps_ephemerons.specs.Loads.{target_in, look_reply, Puts, MayHold, Gets, WeakLoadMay, WeakLoadEntry, WeakRead}
-use Rattle.steps_ephemerons.proofs.Outcomes.{Held, put_in, plain_item, look_item, fits_item, leaves_look}
+use Rattle.steps_ephemerons.proofs.Outcomes.{Held, put_in, unregistering_item, look_item, fits_item, leaves_look}
 use Rattle.steps_ephemerons.proofs.Finding.{WeakFound, weak_at, index_of}
 
 -- what was read is put into the register that is named, and stands for what the model's gets
@@ -65,7 +65,7 @@ module _ (k : Config) (s : Words) (r : Rule k s) (id : ℕ) (hist : List Entry) 
 
   -- the entry of a command that finds its word
   pub weak_entry : Enters k s r id hist x at may.acts (Command d c false) ((changed found.stands.value changes x.own).registers) (Replied (look_reply c found.value))
-  weak_entry = enters_command k s r id hist x at may.acts now.graph c (plain_item x c (look_item x c may.looks)) (fits_item now d x c (look_item x c may.looks) (may_begin k s r id hist x at may.acts))
+  weak_entry = enters_command k s r id hist x at may.acts now.graph c (unregistering_item x c (look_item x c may.looks)) (fits_item now d x c (look_item x c may.looks) (may_begin k s r id hist x at may.acts))
       ((changed found.stands.value changes x.own).registers) (Replied (look_reply c found.value)) (put_in (target_in c) found.value theirs)
       (stand_puts r.account.live x changes (target_in c) theirs found.stands.value found.value may.puts found.stands.stands (registers_stand k s r id hist x at may.acts))
       (leaves_look now d (inside_state k s r id hist x at may.acts) c found.place.label found.keys found.datum found.value may.looks

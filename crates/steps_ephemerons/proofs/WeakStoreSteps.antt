@@ -32,7 +32,7 @@ use Rattle.steps_run.proofs.EphemeronEntries.{leaves_block, block_is}
 use Rattle.steps_run.proofs.ValueSteps.{ValueStore, value_stores}
 use Rattle.steps_ephemerons.specs.Heads.{ephemeron_in, key_in, HasItem}
 use Rattle.steps_ephemerons.specs.Stores.{stored_value, WeakStoreMay, KeyStoreEntry, DataStoreEntry}
-use Rattle.steps_ephemerons.proofs.Outcomes.{Held, stored_node, plain_item, fits_item, set_outcome, datum_outcome}
+use Rattle.steps_ephemerons.proofs.Outcomes.{Held, stored_node, unregistering_item, fits_item, set_outcome, datum_outcome}
 use Rattle.steps_ephemerons.proofs.Finding.{weak_at, index_of, FitsKey, stored_values, stored_shape, value_below}
 use Rattle.steps_ephemerons.proofs.HeadSteps.{brings}
 
@@ -106,7 +106,7 @@ module _ (k : Config) (s : Words) (r : Rule k s) (id : ℕ) (hist : List Entry) 
         packs = may.word;
         exact = may.exact;
         same = may.same;
-        plain = plain_item x c may.item;
+        unregistering = unregistering_item x c may.item;
         fits = fits_item now x.own.number x c may.item (may_begin k s r id hist x at may.acts);
         leaves = leaves_block now x.own.number c f.place.label (stored_node (key_in c) f.keys f.datum z.value)
             (z.leaves f.place.label f.keys f.datum f.value f.is (block_is now x.own.number (ephemeron_in c) f.place.label (Ephe f.keys f.datum) f.held f.node));

@@ -22,10 +22,9 @@ use Rattle.heap_model.specs.Graph.{Graph, node_at, has_label}
 use Rattle.heap_model.specs.Domains.{domain_at, reserve}
 use Rattle.heap_model.specs.Commands.{new_plain}
 use Rattle.heap_model.specs.Entries.{next}
-use Rattle.heap_model.specs.Fronts.{PlainShape, EpheShape, IsCalm}
+use Rattle.heap_model.specs.Fronts.{PlainShape, EpheShape}
 use Rattle.heap_model.proofs.Graphs.GraphLemmas.{node_at-append_old, node_at-append_new}
 use Rattle.heap_model.proofs.Histories.NumberLemmas.{next_label_after}
-use Rattle.heap_model.proofs.Commands.FrameLemmas.{calm_command}
 use Rattle.heap_model.proofs.Histories.FrontLemmas.{answers_push}
 use Rattle.heap_model.proofs.Commands.LeavesLemmas.{Leaves, leaves_alloc}
 use Rattle.heap_words.specs.declared.value.Value.{Value}
@@ -52,8 +51,9 @@ use Rattle.heap_rule.proofs.Lists.{got_end, got_below}
 use Rattle.heap_rule.proofs.Sizes.{area_below, area_inside}
 use Rattle.heap_rule.proofs.ChangeLemmas.{changed_only, registers_of}
 use Rattle.heap_rule.proofs.Values.{AllStand, stand_set, holds}
-use Rattle.heap_rule.proofs.Keeps.{whole_here, listed_here, Words, more_same, mine, my_good, control_set, controls_kept, hunter_as, appends, writes, legal_entry, owes_run, opened_words, quiet, run_settled, cycle_here, sharing_here, sharings_here, between_here, run_calm, cycle_control}
-use Rattle.heap_rule.proofs.Entering.{running, inside_state, registers_stand}
+use Rattle.heap_rule.proofs.Keeps.{whole_here, listed_here, Words, more_same, mine, my_good, control_set, controls_kept, hunter_as, appends, writes, legal_entry, owes_run, opened_words, quiet, run_settled, cycle_here, sharing_here, sharings_here, between_here, cycle_control}
+use Rattle.heap_rule.proofs.Entering.{running, inside_state, registers_stand, may_begin, open_after}
+use Rattle.heap_rule.proofs.FinaliserLemmas.{enrolled_as, enrolled_more, work_command}
 use Rattle.heap_rule.proofs.Beside.{found_beside, making_beside, area_word_far}
 use Rattle.heap_rule.proofs.Born.{zero_word, zero_values, all_more, live', born, more, old, is_new, placed_born, settled_born, recalls_born, naming_born, spread_born, opened_born, classes_born}
 use Rattle.heap_rule.proofs.Sharings.{SameCycle}
@@ -110,10 +110,11 @@ inits k slots id word hist x a new changes place may s r _ at _ =
       registers = refl;
       arrivals = refl;
       ephemerons = refl;
+      finalisers = refl;
       wide = length-set s.words (before_heap k + a) new;
       controls = controls_kept k s r id hist x at (set s.words (before_heap k + a) new) (control_set k s.words a new (omega arith));
       found = λ b q lives. let f = r.whole.found b q lives in found_beside k r.account.cycling.paint r.account.live r.account.live (state_of k r.account.log).graph (state_of k r.account.log).graph s.words a new b q (more_same r.account.live) f f.there (free_far k r.account.live x a g.area low high b q lives);
-      stood = record { wide = g.stood.wide; each = g.stood.each; serial = g.stood.serial };
+      stood = record { wide = g.stood.wide; each = g.stood.each; serial = g.stood.serial; enrolled = g.stood.enrolled };
       area = record { room = g.area.room; free = g.area.free; classes = g.area.classes };
       making = record {
         fits = λ j w got. ⊎_elim (λ (t : slice_get x.seen.made j ≡ Some w). g.making.fits j w t) (λ (t : (j ≡ m) × (new ≡ w)). let f = t.0 in let o : used + j + 1 < minor = omega arith in o) (got_end x.seen.made new w j got);
@@ -326,6 +327,7 @@ module _ (k : Config) (s : Words) (r : Rule k s) (id : ℕ) (hist : List Entry) 
     wide = stand1.wide;
     each = λ q few. subst (λ (l : List graph_value.Value). Stands live1 (value_at regs q) (get_or l q Nothing)) (sym leaves.registers_are) (stand1.each q few);
     serial = ap (λ (m : ℕ). m + 1) g.stood.serial ∙ sym leaves.serial_is;
+    enrolled = enrolled_more r.account.live live1 (next now e) d x.own.finalisers grows (enrolled_as r.account.live now (next now e) d x.own.finalisers (work_command now d (Alloc dst tag n) false refl) g.stood.enrolled);
   }
 
   area1 : Area k live1 after
@@ -378,21 +380,17 @@ module _ (k : Config) (s : Words) (r : Rule k s) (id : ℕ) (hist : List Entry) 
       (λ same. absurd (let clash : PlainShape n tag ≡ EpheShape o.keys = ap (λ (z : Place). z.shape) (is_new k r.account.live A born_place (omega arith) away r.whole.placed b o.place same o.lives) ∙ o.shape in cc))
       (λ other. record { place = o.place; lives = old k r.account.live A born_place (omega arith) away r.whole.placed b o.place other o.lives; keys = o.keys; shape = o.shape })
 
-  calm : IsCalm now
-  calm = run_calm k s r id hist x at may.acts.runs
-
   alloc_rule : Rule k record { words = ws; homes = s.homes; views = set s.views id (one k hist after) }
   alloc_rule = appends k s r id hist x at e after ws live1 r.account.homes record {
-    plain = tt;
     full = full1;
     share = refl;
     alone = λ m other. ne_eqb d m (λ o. other (sym o));
-    command = tt;
+    of_trace = tt;
     runs = may.acts.runs;
     stage = refl;
     listing = refl;
-    allowed = record { running = running k s r id hist x at may.acts; fits = (calm.mode, calm.queues d); full_fits = tt };
-    calm = calm_command now d (Alloc dst tag n) false calm;
+    allowed = record { running = running k s r id hist x at may.acts; fits = may_begin k s r id hist x at may.acts; full_fits = tt };
+    is_open = open_after k s r id hist x at may.acts (Alloc dst tag n) false;
     number = refl;
     front = refl;
     arrivals = refl;
@@ -423,7 +421,7 @@ module _ (k : Config) (s : Words) (r : Rule k s) (id : ℕ) (hist : List Entry) 
   alloc_told : AllocTold k e changes x after
   alloc_told = record {
     answers = answers_push (sizes_in k) d r.account.log x.seen.front e (Replied (BlockReply L)) (mine k s r id hist x at).front
-        (legal_entry k s r id hist x at e record { running = running k s r id hist x at may.acts; fits = (calm.mode, calm.queues d); full_fits = tt }) leaves.replies;
+        (legal_entry k s r id hist x at e record { running = running k s r id hist x at may.acts; fits = may_begin k s r id hist x at may.acts; full_fits = tt }) leaves.replies;
     view = λ i. record {
       own = record (sym (changed_only NothingWord changes x.own) i) { used = x.own.used + class_words (n + 2); serial = x.own.serial + 1 };
       seen = after.seen;

@@ -9,6 +9,7 @@ use Rattle.heap_rule.specs.declared.change.Reading.TheVariants.{Unread}
 use Rattle.heap_rule.specs.declared.view.Own.{Own}
 use Rattle.heap_rule.specs.declared.view.DomainView.{DomainView}
 use Rattle.heap_rule.specs.Changes.{changed, FitChanges}
+use Rattle.heap_rule.specs.Finalisers.{FinalisersFit}
 use Rattle.heap_rule.specs.Raw.{CanChange, Changes, Closes}
 use Rattle.heap_rule.specs.Standing.{LeavesOwn}
 use Rattle.heap_rule.specs.Places.{class_words}
@@ -58,6 +59,7 @@ alloc_closes k x new words e changes fits class room small serial y p told =
         prepared = ap (λ (o : Own). length o.prepared) rest ∙ p.prepared;
         pending = ap (λ (o : Own). o.pending.room + length o.pending.items) rest ∙ p.pending;
         ephemerons = subst (λ (o : Own). AllInHeap k o.ephemerons.items) (sym rest) p.ephemerons;
+        finalisers = subst (λ (o : Own). FinalisersFit k o.finalisers) (sym rest) p.finalisers;
       };
       once = λ _. inr (record { entry = e; answer = Replied (Block (next_label x)); answers = told.answers });
     }

@@ -16,6 +16,9 @@ use Rattle.heap_rule.specs.declared.view.Share.{Share}
 use Rattle.heap_rule.specs.declared.view.Cleaning.{Cleaning}
 use Rattle.heap_rule.specs.Ephemerons.{emptied_at}
 use Rattle.heap_rule.proofs.EphemeronLemmas.{looks_idle, none_misses}
+use Rattle.heap_rule.proofs.FinaliserLemmas.{deciding_none, deciding_gone}
+use Rattle.heap_rule.specs.Deciding.{Deciding}
+use Rattle.heap_rule.specs.declared.view.Finalisers.{Finalisers}
 use Rattle.heap_model.specs.declared.label.Label.{Label}
 use Rattle.heap_rule.specs.Cycles.{AllWhole, MissesKeys, Cycling, Cycled, Facts, ArrivedAs, Told, Telling, Leading, IsCollecting, IsIdle, Adds, HasNoCycle, Knowing, owner_at}
 use Rattle.heap_rule.specs.Layout.{at_address}
@@ -75,6 +78,13 @@ telling_else (In kind) owner means w d z share other t = let same = at_other w.a
 telling_else (Leads kind) owner means w d z share other t = t
 telling_else (Led kind) owner means w d z share other t = t
 telling_else (Gone kind) owner means w d z share other t = t
+
+deciding_else : (st : Stage) (owner : ℕ → Option ℕ) (live : Live) (c : Cycling) (d z : ℕ) (fs : Finalisers) (share : Share) → z ≢ d → Deciding live c.kind c.left c.shares.arrived c.paint.marks.marked z fs share.kept share.waiting
+    → Deciding live c.kind c.left (arrived_in st owner c.shares d).arrived c.paint.marks.marked z fs share.kept share.waiting
+deciding_else (In kind) owner live c d z fs share other h = let same = at_other c.shares.arrived d true z other in record { finals = λ e f. h.finals e (sym same ∙ f); lasts = λ e f. h.lasts e (sym same ∙ f); rooted = λ e f. h.rooted e (sym same ∙ f) }
+deciding_else (Leads kind) owner live c d z fs share other h = h
+deciding_else (Led kind) owner live c d z fs share other h = h
+deciding_else (Gone kind) owner live c d z fs share other h = h
 
 adds_else : (st : Stage) (holder : ℕ → Holder) (live : Live) (c : Cycling) (d z : ℕ) (share : Share) → z ≢ d → Adds live c z share → Adds live (arrived_cycle st holder c d) z share
 adds_else (In kind) holder live c d z share other a = let same = at_other c.shares.arrived d true z other in record { blocks = λ e f. a.blocks e (sym same ∙ f); words = λ e f. a.words e (sym same ∙ f); own = λ e f. a.own e (sym same ∙ f) }
@@ -175,7 +185,7 @@ facts_stock Rounds k s live t stock c words f = f
 facts_stock Decide k s live t stock c words f = f
 facts_stock Queued k s live t stock c words f = f
 facts_stock Clean k s live t stock c words f = f
-facts_stock Lasts k s live t stock c words f = record { facts = f.facts; unchanged = f.unchanged; stays = f.stays; turned = λ is. let r = f.turned is in record { all_marked = r.all_marked; unmarked = r.unmarked; owned = r.owned } }
+facts_stock Lasts k s live t stock c words f = record { facts = f.facts; unchanged = f.unchanged; stays = f.stays; turned = λ is. let r = f.turned is in record { all_marked = r.all_marked; unmarked = r.unmarked; owned = r.owned; gone = r.gone } }
 facts_stock Sweep k s live t stock c words f = record { mode = f.mode; swept = f.swept; sweep = f.sweep; all_counted = f.all_counted }
 facts_stock Answer k s live t stock c words f = record { mode = f.mode; swept = f.swept; clean = f.clean; all_counted = f.all_counted; held = f.held }
 
@@ -239,6 +249,21 @@ adds_gone (Leads kind) holder live c d share Known n a = idle_adds live c d shar
 adds_gone (Led kind) holder live c d share Known n a = idle_adds live c d share (idle_odd (Led kind) share Known (λ l. l) n) a
 adds_gone (Gone kind) holder live c d share Known n a = idle_adds live c d share (idle_odd (Gone kind) share Known (λ l. l) n) a
 
+-- nor has it to look at a registration. In an odd phase it has looked at none
+idle_decides : (live live' : Live) (c : Cycling) (d : ℕ) (fs : Finalisers) (share : Share) → IsIdle share → Deciding live c.kind c.left c.shares.arrived c.paint.marks.marked d fs share.kept share.waiting → Deciding live' c.kind c.left c.shares.arrived c.paint.marks.marked d fs 0 []
+idle_decides live live' c d fs share idle h = let none : share.kept ≡ 0 = ap (λ (z : Share). z.kept) idle in record {
+  finals = λ e f. ap (λ (n : ℕ). c.left d + n) (sym none) ∙ h.finals e f;
+  lasts = λ e f. ap (λ (n : ℕ). c.left d + n) (sym none) ∙ h.lasts e f;
+  rooted = λ _ _ i a p among. cc;
+}
+
+deciding_arrived : (st : Stage) (owner : ℕ → Option ℕ) (live live' : Live) (c : Cycling) (d : ℕ) (fs : Finalisers) (share : Share) (Known : Type 0) → IsIdle share ⊎ (IsCollecting st × Known) → Deciding live c.kind c.left c.shares.arrived c.paint.marks.marked d fs share.kept share.waiting
+    → Deciding live' c.kind c.left (arrived_in st owner c.shares d).arrived c.paint.marks.marked d fs 0 []
+deciding_arrived (In kind) owner live live' c d fs share Known n h = deciding_gone live' c.kind c.left (arrived_in (In kind) owner c.shares d).arrived c.paint.marks.marked d fs 0 [] (at_same c.shares.arrived d true)
+deciding_arrived (Leads kind) owner live live' c d fs share Known n h = idle_decides live live' c d fs share (idle_odd (Leads kind) share Known (λ l. l) n) h
+deciding_arrived (Led kind) owner live live' c d fs share Known n h = idle_decides live live' c d fs share (idle_odd (Led kind) share Known (λ l. l) n) h
+deciding_arrived (Gone kind) owner live live' c d fs share Known n h = idle_decides live live' c d fs share (idle_odd (Gone kind) share Known (λ l. l) n) h
+
 -- nor has it loaded a control word
 leading_fresh : (st stage : Stage) (holder : ℕ → Holder) (c : Cycling) (words words' : List ℕ) (d : ℕ) (share : Share) → ArrivesFrom d st → Leading c words d st share → Leading (arrived_cycle st holder c d) words' d stage (voided share)
 leading_fresh st stage holder c words words' d share from l = record {
@@ -253,35 +278,38 @@ leading_fresh st stage holder c words words' d share from l = record {
 -- what the rule says of the share of the domain that has arrived
 pub sharing_gone : (k : Config) (all : Account) (words words' : List ℕ) (x : DomainView) (p' : Pause) (live' : Live) (t' : Tenancy) (stage : Stage) → x.own.number < k.domains → ArrivesFrom x.own.number x.seen.stage → AtStage all.pause x.own.number x.own.arrivals x.seen.stage
     → Told k all.pause all.cycling.kind all.cycling.shares → ((a : ℕ) (p : Place) → OwnPlace t'.holder a x.own.number → live' a ≡ Some p → all.cycling.paint.emptied p.label ≡ []) → Good k all words x
-    → Sharing k (record all { pause = p'; live = live'; tenancy = t'; cycling = arrived_cycle x.seen.stage all.tenancy.holder all.cycling x.own.number }) words' x.own.number x.own.registers x.own.ephemerons.items stage (voided x.seen.share)
+    → Sharing k (record all { pause = p'; live = live'; tenancy = t'; cycling = arrived_cycle x.seen.stage all.tenancy.holder all.cycling x.own.number }) words' x.own.number x.own.registers x.own.finalisers x.own.ephemerons.items stage (voided x.seen.share)
 sharing_gone k all words words' x p' live' t' stage below from at told whole g = let a = adds_gone x.seen.stage all.tenancy.holder all.live all.cycling x.own.number x.seen.share (Knowing k all.live all.tenancy.holder (state_of k all.log).graph all.cycling.paint.marks words x.own.number x.own.registers x.seen.share) g.sharing.knows g.sharing.adds in record {
   telling = telling_gone k all.pause all.cycling.kind (owner_at all.tenancy.holder) all.cycling.paint.colours all.cycling.shares x.own.number x.own.arrivals told below x.seen.share x.seen.stage from at;
   leading = leading_fresh x.seen.stage stage all.tenancy.holder all.cycling words words' x.own.number x.seen.share from g.sharing.leading;
   knows = inl refl;
   adds = record { blocks = a.blocks; words = a.words; own = λ e f h. cc };
   looks = record { at_own = λ b e. cc; pruned = λ i b low got. absurd (let h : i < 0 = low in omega arith); cleans = λ w e. cc; emptied_is = whole };
+  deciding = deciding_arrived x.seen.stage (owner_at all.tenancy.holder) all.live live' all.cycling x.own.number x.own.finalisers x.seen.share (Knowing k all.live all.tenancy.holder (state_of k all.log).graph all.cycling.paint.marks words x.own.number x.own.registers x.seen.share) g.sharing.knows g.sharing.deciding;
 }
 
 -- and of another's
 pub sharing_else : (k : Config) (all : Account) (words words' : List ℕ) (st : Stage) (d : ℕ) (z : DomainView) (p' : Pause) (stock : Stock) → z.own.number ≢ d → SameCycle words words' → ((a : ℕ) → at_address k words' a ≡ at_address k words a) → Good k all words z
-    → Sharing k (record all { pause = p'; tenancy = record all.tenancy { stock = stock }; cycling = arrived_cycle st all.tenancy.holder all.cycling d }) words' z.own.number z.own.registers z.own.ephemerons.items z.seen.stage z.seen.share
+    → Sharing k (record all { pause = p'; tenancy = record all.tenancy { stock = stock }; cycling = arrived_cycle st all.tenancy.holder all.cycling d }) words' z.own.number z.own.registers z.own.finalisers z.own.ephemerons.items z.seen.stage z.seen.share
 sharing_else k all words words' st d z p' stock other same heap g = record {
   telling = telling_else st (owner_at all.tenancy.holder) all.cycling.paint.colours all.cycling.shares d z.own.number z.seen.share other g.sharing.telling;
   leading = leading_gone st all.tenancy.holder all.cycling words' d z.own.number z.seen.stage z.seen.share (leading_words all.cycling words words' z.own.number z.seen.stage z.seen.share same g.sharing.leading);
   knows = knows_words k all.live all.tenancy.holder (state_of k all.log).graph all.cycling.paint.marks words words' z.own.number z.own.registers z.seen.stage z.seen.share heap g.sharing.knows;
   adds = adds_else st all.tenancy.holder all.live all.cycling d z.own.number z.seen.share other g.sharing.adds;
   looks = g.sharing.looks;
+  deciding = deciding_else st (owner_at all.tenancy.holder) all.live all.cycling d z.own.number z.own.finalisers z.seen.share other g.sharing.deciding;
 }
 
 -- also where blocks cease to live, outside a collection
 pub sharing_between : (k : Config) (all : Account) (words words' : List ℕ) (x z : DomainView) (kind : Kind) (p' : Pause) (live' : Live) (t' : Tenancy) → HasNoCycle kind → x.seen.stage ≡ In kind → HasNoCycle all.cycling.kind → ((l : Label) → all.cycling.paint.emptied l ≡ []) → z.own.number ≢ x.own.number → SameCycle words words' → Good k all words x → Good k all words z
-    → Sharing k (record all { pause = p'; live = live'; tenancy = t'; cycling = arrived_cycle x.seen.stage all.tenancy.holder all.cycling x.own.number }) words' z.own.number z.own.registers z.own.ephemerons.items z.seen.stage z.seen.share
+    → Sharing k (record all { pause = p'; live = live'; tenancy = t'; cycling = arrived_cycle x.seen.stage all.tenancy.holder all.cycling x.own.number }) words' z.own.number z.own.registers z.own.finalisers z.own.ephemerons.items z.seen.stage z.seen.share
 sharing_between k all words words' x z kind p' live' t' none is none' whole other same gx g = let idle = idle_beside k all.live all.tenancy.holder (state_of k all.log).graph all.cycling.paint.marks words all.pause x z kind none is gx.staged g.staged g.sharing.knows in record {
   telling = telling_else x.seen.stage (owner_at all.tenancy.holder) all.cycling.paint.colours all.cycling.shares x.own.number z.own.number z.seen.share other g.sharing.telling;
   leading = leading_gone x.seen.stage all.tenancy.holder all.cycling words' x.own.number z.own.number z.seen.stage z.seen.share (leading_words all.cycling words words' z.own.number z.seen.stage z.seen.share same g.sharing.leading);
   knows = inl idle;
   adds = adds_nothing live' (arrived_cycle x.seen.stage all.tenancy.holder all.cycling x.own.number) z.own.number z.seen.share none';
   looks = looks_idle live' t'.holder t'.garbage (state_of k all.log).graph all.cycling.paint.marks all.cycling.paint.emptied z.own.number z.own.ephemerons.items z.seen.stage z.seen.share idle whole;
+  deciding = deciding_none live' all.cycling.kind all.cycling.left (arrived_in x.seen.stage (owner_at all.tenancy.holder) all.cycling.shares x.own.number).arrived all.cycling.paint.marks.marked z.own.number z.own.finalisers z.seen.share.kept z.seen.share.waiting none';
 }
 
 -- and what it says of the collection
@@ -302,7 +330,7 @@ cycle_dropped st holder k s live live' p p' t t' c words words' d none garbage s
     }
 
 -- a look at the barrier leaves what a domain knows that has arrived
-pub sharing_looked : (k : Config) (all : Account) (words : List ℕ) (x : DomainView) (last : Kind) (stage : Stage) → x.seen.stage ≡ Gone last → Good k all words x → Sharing k all words x.own.number x.own.registers x.own.ephemerons.items stage x.seen.share
+pub sharing_looked : (k : Config) (all : Account) (words : List ℕ) (x : DomainView) (last : Kind) (stage : Stage) → x.seen.stage ≡ Gone last → Good k all words x → Sharing k all words x.own.number x.own.registers x.own.finalisers x.own.ephemerons.items stage x.seen.share
 sharing_looked k all words x last stage gone g = let l = subst (λ (st : Stage). Leading all.cycling words x.own.number st x.seen.share) gone g.sharing.leading in record {
   telling = g.sharing.telling;
   leading = record {
@@ -321,6 +349,7 @@ sharing_looked k all words x last stage gone g = let l = subst (λ (st : Stage).
     cleans = λ w e. absurd (let h : Gone last ≡ In Clean = sym gone ∙ (g.sharing.looks.cleans w e).stage_is in cc);
     emptied_is = g.sharing.looks.emptied_is;
   };
+  deciding = g.sharing.deciding;
 } where
   apart : (((x.own.number ≡ 0) × ⊥) ⊎ (Gone last ≡ In Answer)) → ⊥
   apart h = ⊎_elim (λ (a : (x.own.number ≡ 0) × ⊥). a.1) (λ (e : Gone last ≡ In Answer). let f : Gone last ≡ In Answer = e in cc) h

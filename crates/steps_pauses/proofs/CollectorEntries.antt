@@ -1,12 +1,10 @@
--- What the collector's entries leave: the blocks, and each domain's registers and queue.
-use Rattle.std.proofs.Common.{◌≡◌, ℕ, false, List, [], ◌∷◌, ◌++◌, map, get_or, set, zero, suc, Option, Some, None, sym, refl, ◌∙◌, subst}
+-- What the collector's entries leave: the blocks, and each domain's registers, registrations and queue.
+use Rattle.std.proofs.Common.{◌≡◌, ℕ, false, List, [], ◌∷◌, ◌++◌, set, Option, Some, None, sym, refl, subst}
 use mathlib.Core.Option.{some}
 use lib.ListN.{get_elem?}
 use Rattle.heap_model.specs.declared.entry.Entry.{Entry}
 use Rattle.heap_model.specs.declared.entry.Entry.TheVariants.{Cut, Seal, Collected, Done}
-use Rattle.heap_model.specs.declared.state.DomainState.{DomainState}
 use Rattle.heap_model.specs.declared.state.State as model
-use Rattle.heap_model.specs.Domains.{domain_at, no_domain}
 use Rattle.heap_model.specs.Entries.{Allowed, next as state_next}
 use Rattle.heap_model.specs.Fronts.{IsFrontOf, KeepsDomain}
 use Rattle.heap_model.specs.History.{Legal, is_entry_of}
@@ -16,11 +14,11 @@ use Rattle.heap_rule.specs.declared.config.Config.{Config}
 use Rattle.heap_rule.specs.declared.phase.Kind.{Kind}
 use Rattle.heap_rule.specs.declared.phase.Kind.TheVariants.{Run, Rounds, Decide, Clean, Sweep, Answer}
 use Rattle.heap_rule.specs.declared.view.DomainView.{DomainView}
-use Rattle.heap_rule.specs.Cycles.{AllPlain}
 use Rattle.heap_rule.specs.Limits.{sizes_in}
-use Rattle.heap_rule.specs.Rule.{NoneQueued, Rule, state_of}
+use Rattle.heap_rule.specs.Rule.{Rule, state_of}
 use Rattle.heap_rule.specs.Views.{EachView, Knows, one}
-use Rattle.heap_rule.proofs.Keeps.{Words, mine, now, plain_push, knows_front, knows_entry, after_entry, legal_entry}
+use Rattle.heap_rule.proofs.FinaliserLemmas.{KeepsWork, QueuesNothing, work_next}
+use Rattle.heap_rule.proofs.Keeps.{Words, mine, now, knows_front, knows_entry, after_entry, legal_entry}
 use Rattle.steps_pauses.specs.Pauses.{entry_of}
 use Rattle.steps_pauses.proofs.Naming.{left_by, logged}
 
@@ -52,17 +50,13 @@ alone Collected is d = refl
 alone Done is d = refl
 alone _ is d = absurd is
 
-queue_map : (f : DomainState → DomainState) → ((x : DomainState) → (f x).queue ≡ x.queue) → (xs : List DomainState) (d : ℕ) → (get_or (map f xs) d no_domain).queue ≡ (get_or xs d no_domain).queue
-queue_map f same [] d = refl
-queue_map f same (x ∷ xs) zero = same x
-queue_map f same (x ∷ xs) (suc d) = queue_map f same xs d
-
-queue_next : (s : model.State) (e : Entry) → IsOfCollector e → (d : ℕ) → (domain_at (state_next s e) d).queue ≡ (domain_at s d).queue
-queue_next s Cut is d = queue_map _ (λ x. refl) s.domains d
-queue_next s Seal is d = queue_map _ (λ x. refl) s.domains d
-queue_next s Collected is d = queue_map _ (λ x. refl) s.domains d
-queue_next s Done is d = refl
-queue_next s _ is d = absurd is
+-- they queue nothing
+queues_nothing : (e : Entry) → IsOfCollector e → QueuesNothing e
+queues_nothing Cut is = tt
+queues_nothing Seal is = tt
+queues_nothing Collected is = tt
+queues_nothing Done is = tt
+queues_nothing _ is = absurd is
 
 graph_next : (s : model.State) (e : Entry) → IsOfCollector e → (state_next s e).graph ≡ s.graph
 graph_next s Cut is = refl
@@ -71,28 +65,17 @@ graph_next s Collected is = refl
 graph_next s Done is = refl
 graph_next s _ is = absurd is
 
-plain_entry : (log : List Entry) (e : Entry) → IsOfCollector e → AllPlain log → AllPlain (log ++ e ∷ [])
-plain_entry log Cut is all = plain_push log Cut all tt
-plain_entry log Seal is all = plain_push log Seal all tt
-plain_entry log Collected is all = plain_push log Collected all tt
-plain_entry log Done is all = plain_push log Done all tt
-plain_entry log _ is all = absurd is
-
 pub keeps_left : (s : model.State) (o : Option Entry) → OfCollector o → (d : ℕ) → KeepsDomain s (left_by s o) d
 keeps_left s None is d = record { registers = refl; serial = refl; ended = refl }
 keeps_left s (Some e) is d = keeps_next s e d (alone e is d)
 
-pub queue_left : (s : model.State) (o : Option Entry) → OfCollector o → NoneQueued s → NoneQueued (left_by s o)
-queue_left s None is none d = none d
-queue_left s (Some e) is none d = queue_next s e is d ∙ none d
+pub work_left : (s : model.State) (o : Option Entry) → OfCollector o → (d : ℕ) → KeepsWork s (left_by s o) d
+work_left s None is d = record { finals = refl; lasts = refl; queue = refl }
+work_left s (Some e) is d = work_next s e d (alone e is d) (queues_nothing e is)
 
 pub graph_left : (s : model.State) (o : Option Entry) → OfCollector o → (left_by s o).graph ≡ s.graph
 graph_left s None is = refl
 graph_left s (Some e) is = graph_next s e is
-
-pub plain_logged : (log : List Entry) (o : Option Entry) → OfCollector o → AllPlain log → AllPlain (logged log o)
-plain_logged log None is all = all
-plain_logged log (Some e) is all = plain_entry log e is all
 
 -- the own front then
 abbrev pub front_then : List Entry → List Entry → Option Entry → List Entry

@@ -8,33 +8,57 @@ use Rattle.heap_model.specs.declared.graph.Value as model_value
 use Rattle.heap_model.specs.declared.graph.Value.TheVariants.{Nothing}
 use Rattle.heap_model.specs.declared.state.DomainState.{DomainState}
 use Rattle.heap_model.specs.declared.state.State as model
-use Rattle.heap_model.specs.Graph.{Graph}
 use Rattle.heap_model.specs.Domains.{domain_at, no_domain}
-use Rattle.heap_model.specs.Entries.{next, ended}
-use Rattle.heap_model.proofs.Commands.FrameLemmas.{calm_end, keeps_next}
-use Rattle.heap_model.proofs.Commands.LeavesLemmas.{leaves_end}
-use Rattle.heap_words.specs.declared.value.Value.{Value}
+use Rattle.heap_model.specs.Entries.{Allowed, next, ended}
+use Rattle.heap_model.specs.History.{is_entry_of}
+use Rattle.heap_model.proofs.Commands.FrameLemmas.{keeps_next}
+use Rattle.heap_model.proofs.Histories.FrontLemmas.{answers_push}
 use Rattle.heap_words.specs.declared.value.Value.TheVariants.{Nothing as NothingWord}
 use Rattle.heap_rule.specs.declared.config.Config.{Config}
 use Rattle.heap_rule.specs.declared.view.DomainView.{DomainView}
 use Rattle.heap_rule.specs.Layout.{heap_words, before_heap, ended_word, want}
-use Rattle.heap_rule.specs.Places.{Stands}
+use Rattle.heap_rule.specs.Finalisers.{StandsWaiting}
+use Rattle.heap_rule.specs.Limits.{sizes_in}
+use Rattle.heap_rule.specs.Places.{Live, Stands}
 use Rattle.heap_rule.specs.Changes.{value_at}
 use Rattle.heap_rule.specs.Phases.{sum_of, is_over, flag}
-use Rattle.steps_pauses.specs.Pauses.{end_changes, EndTold}
+use Rattle.steps_pauses.specs.Pauses.{ended_own, EndTold}
 use Rattle.heap_rule.specs.Raw.{MayStep}
-use Rattle.heap_rule.specs.Rule.{state_of, AllFound, Stood, NoneQueued, Account, Rule}
-use Rattle.heap_rule.specs.Standing.{Acts}
+use Rattle.heap_rule.specs.Rule.{state_of, AllFound, Stood, Account, Rule}
+use Rattle.heap_rule.specs.Standing.{Acts, with_front, with_own}
 use Rattle.heap_rule.specs.declared.phase.Kind.TheVariants.{Run}
 use Rattle.heap_rule.specs.Views.{one, Tells}
-use Rattle.heap_rule.proofs.Values.{AllStand}
-use Rattle.heap_rule.proofs.Keeps.{mine, my_good, remakes, knows_entry, after_entry, legal_entry, plain_push, cycle_here, between_here, sharing_here, sharings_here, phases_words, stood_other, run_still, hunter_as, running_took_back, resting_runs, resting_other, room_words, opened_words, takes_drawable, owes_as, more_same, run_leads, run_rooted}
+use Rattle.heap_rule.proofs.FinaliserLemmas.{enrolled_none, paired_none, work_next}
+use Rattle.heap_rule.proofs.Values.{holds}
+use Rattle.heap_rule.proofs.Keeps.{mine, my_good, remakes, knows_entry, after_entry, legal_entry, cycle_here, sharing_here, sharings_here, phases_words, stood_other, run_still, hunter_as, running_took_back, resting_runs, resting_other, room_words, opened_words, takes_drawable, owes_as, more_same, run_leads, run_rooted}
 use Rattle.heap_rule.proofs.PauseFacts.{nobody_paused, staged_as}
 use Rattle.heap_rule.proofs.Sharings.{SameCycle}
 use Rattle.heap_rule.proofs.FullnessLemmas.{full_stays}
 use Rattle.heap_rule.proofs.Controls.{Untouched, found_untouched, making_untouched, pools_untouched, grid_untouched, hunter_untouched, cycle_untouched, reserved_untouched, covered_untouched, counts_untouched, low_untouched, sum_one}
-use Rattle.heap_rule.proofs.Entering.{running, inside_state, registers_stand, calm, Enters, entered_view, stood_after, enters}
+use Rattle.heap_rule.proofs.Entering.{running, inside_state, registers_stand, may_begin}
 use Rattle.steps_pauses.proofs.PauseSteps.{over_few}
+
+-- what stands for a domain whose trace has ended: nothing in the registers, and no finaliser
+ended_stood : (live : Live) (now : model.State) (x y : DomainView) → Stood live now x → x.own.finalisers.queue.items ≡ [] → x.own.number < length now.domains → length (domain_at now x.own.number).registers ≡ 16 → y.own ≡ ended_own x.own → Stood live (next now (End x.own.number)) y
+ended_stood live now x y st none inside long own =
+    let d : ℕ = x.own.number in
+    let here : domain_at (next now (End d)) d ≡ ended (domain_at now d) = get_or-set_same now.domains d (ended (domain_at now d)) no_domain inside in
+    let queue : (domain_at now d).queue ≡ [] = paired_none (StandsWaiting live) x.own.finalisers.queue.items (domain_at now d).queue none st.enrolled.queue in
+    subst (λ (z : DomainView). Stood live (next now (End d)) z) (λ i. record { own = sym own i; seen = y.seen }) (record {
+      wide = refl;
+      each = λ q few. subst (λ (l : List model_value.Value). Stands live (value_at (replicate 16 NothingWord) q) (get_or l q Nothing)) (sym (ap (λ (z : DomainState). z.registers) here)) (nothing (length (domain_at now d).registers) long q);
+      serial = st.serial ∙ sym (ap (λ (z : DomainState). z.serial) here);
+      enrolled = enrolled_none live (next now (End d)) d (ended_own x.own).finalisers refl refl none
+          (ap (λ (z : DomainState). z.finals) here) (ap (λ (z : DomainState). z.lasts) here) (ap (λ (z : DomainState). z.queue) here ∙ queue);
+    })
+  where
+    both : (n q : ℕ) → Stands live (value_at (replicate n NothingWord) q) (get_or (replicate n Nothing) q Nothing)
+    both zero q = tt
+    both (suc n) zero = tt
+    both (suc n) (suc q) = both n q
+
+    nothing : (n : ℕ) → n ≡ 16 → (q : ℕ) → Stands live (value_at (replicate 16 NothingWord) q) (get_or (replicate n Nothing) q Nothing)
+    nothing n is q = subst (λ (m : ℕ). Stands live (value_at (replicate 16 NothingWord) q) (get_or (replicate m Nothing) q Nothing)) (sym is) (both 16 q)
 
 ends : (k : Config) (slots id : ℕ) (hist : List Entry) (x : DomainView) → Acts k x
     → Allows (Rule k) slots id (one k hist x, []) 8 (λ n. (n + 1) % 2 ^ 64) (Tells (EndTold k) (one k hist x, []))
@@ -47,22 +71,12 @@ ends k slots id hist x acts s r _ at _ =
     let me = mine k s r id hist x at in
     let w : ℕ = ended_word s.words in
     let ws : List ℕ = set s.words 8 (w + 1) in
-    let regs : List Value = replicate 16 NothingWord in
-    let stand = registers_stand k s r id hist x at acts in
     let inside : d < length now.domains = inside_state k s r id hist x at acts in
     let goes : (domain_at now d).ended ≡ false = running k s r id hist x at acts in
-    let theirs : List model_value.Value = (domain_at now d).registers in
-    let quiet_state = calm k s r id hist x at acts in
-    let o : Enters k s r id hist x at acts e regs Silent = record {
-      alone = λ i other. ne_eqb d i (λ q. other (sym q));
-      plain = tt;
-      allowed = record { mode = quiet_state.mode; running = goes; queue = quiet_state.queues d };
-      calm = calm_end now d quiet_state;
-      theirs = replicate (length theirs) Nothing;
-      stand = nothings r.account.live (length theirs) stand.long;
-      leaves = leaves_end now d inside;
-    } in
-    let y : DomainView = entered_view k s r id hist x at acts e regs in
+    let alone : (i : ℕ) → i ≢ d → is_entry_of i e ≡ false = (λ i other. ne_eqb d i (λ q. other (sym q))) in
+    let begin = may_begin k s r id hist x at acts in
+    let allowed : Allowed now e = record { mode = begin.0; running = goes; queue = begin.1 } in
+    let y : DomainView = with_front (with_own x (ended_own x.own)) log' in
     let after : state_of k log' ≡ next now e = after_entry k s r id hist x at e in
     let untouched : Untouched s.words ws = (length-set s.words 8 (w + 1), (λ i low other. get_or-set_other s.words 8 i (w + 1) 0 (λ q. omega arith))) in
     let few : w ≤ k.domains = over_few k s r in
@@ -70,22 +84,21 @@ ends k slots id hist x acts s r _ at _ =
     let word' : ended_word ws ≡ w + 1 = get_or-set_same s.words 8 (w + 1) 0 (let h : ℕ = heap_words k in let p : ℕ = before_heap k in let q : 10 ≤ p = omega arith in let l : length s.words ≡ 1 + p + h = r.whole.wide in omega arith) in
     let own_over : is_over (next now e) d ≡ is_over now d + 1 =
     ap (λ (z : DomainState). flag z.ended) (get_or-set_same now.domains d (ended (domain_at now d)) no_domain inside) ∙ sym (ap (λ b. flag b + 1) goes) in
-    let others_over : (j : ℕ) → j ≢ d → is_over (next now e) j ≡ is_over now j = (λ j other. ap flag (keeps_next now e j (o.alone j other)).ended) in
+    let others_over : (j : ℕ) → j ≢ d → is_over (next now e) j ≡ is_over now j = (λ j other. ap flag (keeps_next now e j (alone j other)).ended) in
     let counts : ended_word ws ≡ sum_of (is_over (state_of k log')) k.domains =
     word' ∙ (ap (λ (n : ℕ). n + 1) r.whole.endings ∙ (sym (sum_one (is_over now) (is_over (next now e)) d k.domains me.inside own_over others_over) ∙ sym (ap (λ (t : model.State). sum_of (is_over t) k.domains) after))) in
     let same_want : want ws ≡ want s.words = get_or-set_other s.words 8 0 (w + 1) 0 (λ q. omega arith) in
     let same_counts = counts_untouched s.words ws untouched in
     let prep = making_untouched k s.words ws x untouched g.making in
     let same : SameCycle s.words ws = cycle_untouched s.words ws untouched (get_or-set_other s.words 8 3 (w + 1) 0 (λ q. omega arith)) in
+    let stands : Stood r.account.live (next now e) y = ended_stood r.account.live now x y g.stood acts.unqueued inside (registers_stand k s r id hist x at acts).long refl in
     let all' : Account = record r.account { log = log' } in
     let rule : Rule k record { words = ws; homes = s.homes; views = set s.views id (one k hist y) } = remakes k s r id hist x at y all' ws
     record {
       wide = untouched.0 ∙ r.whole.wide;
-      legal = legal_entry k s r id hist x at e o.allowed;
-      plain = plain_push r.account.log e r.whole.plain o.plain;
+      legal = legal_entry k s r id hist x at e allowed;
       full = full_stays k r.account.log r.account.live r.account.tenancy.holder r.account.tenancy.fresh r.account.homes r.account.cycling.kind e refl r.whole.full;
-      queues = subst NoneQueued (sym after) o.calm.queues;
-      found = let paint = r.account.cycling.paint in subst (λ (t : model.State). AllFound k paint r.account.live t.graph ws) (sym after) (subst (λ (graph : Graph). AllFound k paint r.account.live graph ws) (sym o.leaves.graph_is) (found_untouched k paint r.account.live now.graph s.words ws untouched r.whole.found));
+      found = let paint = r.account.cycling.paint in subst (λ (t : model.State). AllFound k paint r.account.live t.graph ws) (sym after) (found_untouched k paint r.account.live now.graph s.words ws untouched r.whole.found);
       placed = r.whole.placed;
       spread = r.whole.spread;
       settled = r.whole.settled;
@@ -104,11 +117,11 @@ ends k slots id hist x acts s r _ at _ =
       drawable = takes_drawable k r.account.pause ws x (inl acts.runs) g.staged;
       grid = grid_untouched k r.account.tenancy r.account.live s.words ws untouched r.whole.grid;
       drawers = r.whole.drawers;
-      cycle = cycle_here k s r id hist x at Run tt acts.runs (state_of k log') r.account.live r.account.tenancy ws (ap (λ (t : model.State). t.mode) after ∙ (o.calm.mode ∙ sym (between_here k s r id hist x at Run tt acts.runs).mode)) (λ a. refl) same;
+      cycle = cycle_here k s r id hist x at Run tt acts.runs (state_of k log') r.account.live r.account.tenancy ws (ap (λ (t : model.State). t.mode) after) (λ a. refl) same;
     }
-    (knows_entry k s r id hist x at y e o.alone refl refl)
+    (knows_entry k s r id hist x at y e alone refl refl)
     record {
-      stood = subst (λ (t : model.State). Stood r.account.live t y) (sym after) (stood_after k s r id hist x at acts now.graph e regs Silent y refl refl refl o);
+      stood = subst (λ (t : model.State). Stood r.account.live t y) (sym after) stands;
       area = record { room = g.area.room; free = g.area.free; classes = g.area.classes };
       making = record { fits = prep.fits; written = prep.written };
       staged = staged_as r.account.pause x y refl refl refl g.staged;
@@ -123,7 +136,7 @@ ends k slots id hist x acts s r _ at _ =
       listed = record { all = g.listed.all; own = g.listed.own; lives = g.listed.lives };
     }
     (λ z _ other h. record {
-      stood = subst (λ (t : model.State). Stood r.account.live t z) (sym after) (stood_other r.account.live r.account.live now (next now e) z (keeps_next now e z.own.number (o.alone z.own.number other)) (more_same r.account.live) h.stood);
+      stood = subst (λ (t : model.State). Stood r.account.live t z) (sym after) (stood_other r.account.live r.account.live now (next now e) z (keeps_next now e z.own.number (alone z.own.number other)) (work_next now e z.own.number (alone z.own.number other) tt) (more_same r.account.live) h.stood);
       area = h.area;
       making = making_untouched k s.words ws z untouched h.making;
       staged = h.staged;
@@ -141,16 +154,15 @@ ends k slots id hist x acts s r _ at _ =
       keeps,
       tt,
       subst (λ (n : ℕ). Rule k record { words = set s.words 8 n; homes = s.homes; views = set s.views id (one k hist y) }) (sym wrap) rule,
-      (enters k s r id hist x at acts now.graph e Silent NothingWord end_changes o, refl),
+      (
+        record {
+          answers = answers_push (sizes_in k) d r.account.log x.seen.front e Silent me.front (legal_entry k s r id hist x at e allowed) refl;
+          view = refl;
+          holds = holds k r.limits r.account.live r.whole.placed (next now e) y stands;
+        },
+        refl,
+      ),
     )
-  where
-    nothing : (live : _) (n q : ℕ) → Stands live (value_at (replicate n NothingWord) q) (get_or (replicate n Nothing) q Nothing)
-    nothing live zero q = tt
-    nothing live (suc n) zero = tt
-    nothing live (suc n) (suc q) = nothing live n q
-
-    nothings : (live : _) (n : ℕ) → n ≡ 16 → AllStand live (replicate 16 NothingWord) (replicate n Nothing)
-    nothings live n e = subst (λ (m : ℕ). AllStand live (replicate 16 NothingWord) (replicate m Nothing)) (sym e) record { wide = refl; long = refl; each = λ q few. nothing live 16 q }
 
 pub end_may : (k : Config) (x : DomainView) → Acts k x → MayStep k x 8 (λ n. (n + 1) % 2 ^ 64) (EndTold k)
 end_may k x acts fits slots id h = ends k slots id h x acts

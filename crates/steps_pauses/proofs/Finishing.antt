@@ -1,5 +1,5 @@
 -- The facts of a phase hold when a domain that has done its share has arrived.
-use Rattle.std.proofs.Common.{cond, ◌⊎◌, ◌*◌, ◌≡◌, ℕ, ◌<◌, ◌≤◌, ◌==◌, Bool, true, false, IsTrue, List, [], length, get_or, filter_map, Option, Some, None, sym, refl, ap, ◌∙◌, subst, inl, inr, ⊎_elim, arith, eq-eqb, eqb-true}
+use Rattle.std.proofs.Common.{cond, ◌⊎◌, ◌*◌, ◌≡◌, ℕ, ◌+◌, ◌<◌, ◌≤◌, ◌==◌, Bool, true, false, IsTrue, List, [], length, get_or, filter_map, option_and_then, Option, Some, None, sym, refl, ap, ◌∙◌, subst, inl, inr, ⊎_elim, arith, eq-eqb, eqb-true}
 use Rattle.std.specs.List.{list_any}
 use Rattle.std.specs.Prelude.{nat_le}
 use mathlib.Core.Option.{some}
@@ -12,9 +12,10 @@ use Rattle.heap_model.specs.declared.graph.Node.{Node}
 use Rattle.heap_model.specs.declared.graph.Node.TheVariants.{Plain, Raw, Ephe}
 use Rattle.heap_model.specs.Fronts.{EpheShape, shape_of}
 use Rattle.heap_model.specs.declared.state.Pending.{Pending}
+use Rattle.heap_model.specs.declared.state.Pending.TheVariants.{Fin as FinPending, Last as LastPending}
 use Rattle.heap_model.specs.declared.state.State as model
-use Rattle.heap_model.specs.Domains.{domain_at, pending_label, opening, IsShaped}
-use Rattle.heap_model.specs.Graph.{node_at, has_label, label_of}
+use Rattle.heap_model.specs.Domains.{domain_at, pending_label, IsShaped}
+use Rattle.heap_model.specs.Graph.{node_at, label_of}
 use Rattle.heap_model.specs.Reach.{HoldsRoots}
 use Rattle.heap_model.proofs.Histories.ShapeAfterLemmas.{shaped-history}
 use Rattle.heap_words.specs.declared.value.Value as held
@@ -26,7 +27,7 @@ use Rattle.cycle_laws.specs.Queueing.{RootsMarked}
 use Rattle.cycle_laws.specs.Shares.{Shares, at_domain, AreShares}
 use Rattle.cycle_laws.proofs.Cycling.{darkening_steps, taking_steps}
 use Rattle.cycle_laws.proofs.DomainParts.{is_block, listed_cases}
-use Rattle.cycle_laws.proofs.Sharing.{at_cases, at_same}
+use Rattle.cycle_laws.proofs.Sharing.{at_cases, at_same, some_same}
 use Rattle.cycle_laws.proofs.Sweep.{sweep_law}
 use Rattle.heap_rule.specs.declared.config.Config.{Config}
 use Rattle.heap_rule.specs.declared.phase.Kind.{Kind}
@@ -35,8 +36,13 @@ use Rattle.heap_rule.specs.declared.phase.Stage.{Stage}
 use Rattle.heap_rule.specs.declared.phase.Stage.TheVariants.{In, Leads, Led, Gone}
 use Rattle.heap_rule.specs.declared.view.DomainView.{DomainView}
 use Rattle.heap_rule.specs.declared.view.Share.{Share}
+use Rattle.heap_rule.specs.declared.view.Held.TheVariants.{Queue}
+use Rattle.heap_rule.specs.declared.view.Waiting.{Waiting}
+use Rattle.heap_rule.specs.declared.view.Waiting.TheVariants.{Fin as FinWaiting, Last as LastWaiting}
 use Rattle.heap_rule.specs.Changes.{value_at}
 use Rattle.heap_rule.specs.Cycles.{Cycling, Facts, IsBetween, IsSwept, Knowing, IsCollecting, IsIdle, cycle_of, owner_at, seen_by, label_in, label_at, layout_of, swept_of, IsPlain, HoldsBlock}
+use Rattle.heap_rule.specs.Deciding.{IsRooting}
+use Rattle.heap_rule.specs.Finalisers.{StandsWaiting, address_in, held_at}
 use Rattle.heap_rule.specs.Limits.{sizes_in}
 use Rattle.heap_rule.specs.Phases.{AtStage}
 use Rattle.heap_rule.specs.Places.{Place, Live, Stands}
@@ -46,10 +52,10 @@ use Rattle.heap_rule.specs.Views.{one}
 use Rattle.heap_rule.proofs.Keeps.{Words, mine, my_good, now}
 use Rattle.steps_pauses.specs.Pauses.{ArrivesFrom, HasDone}
 use Rattle.steps_pauses.proofs.Arriving.{is_owner, arrived_cycle, kind_acts}
+use Rattle.heap_rule.proofs.FinaliserLemmas.{paired_back}
 use Rattle.heap_rule.proofs.OwnPlaces.{own_place}
-use Rattle.heap_rule.proofs.PlainHistories.{IsPlainState, plain_state, plain_opening}
+use Rattle.steps_pauses.proofs.Sizes.{domains_of}
 use Rattle.heap_model.specs.Entries.{full_keys}
-use Rattle.heap_model.specs.declared.state.Sizes.{Sizes}
 use Rattle.std.proofs.lemmas.Option.{none-some, slice_get_within, get_or_from_slice_get}
 use Rattle.heap_rule.proofs.Stages.{waits_in}
 use Rattle.heap_rule.proofs.Lots.{none_before}
@@ -92,6 +98,17 @@ held_by live l (IntWord z) st = absurd st
 held_by live l (Ref a) st = (a, st.0, refl, st.1, st.2)
 held_by live l NothingWord st = absurd st
 
+-- the block that an item of a queue keeps alive
+waiting_block : (live : Live) (w : Waiting) (p : Pending) (l : Label) → StandsWaiting live w p → pending_label p ≡ Some l → (a : ℕ) × (q : Place) × (address_in w ≡ Some a) × (live a ≡ Some q) × (q.label ≡ l)
+waiting_block live (FinWaiting a n r) (FinPending m k q) l st is = (a, st.0.0, refl, st.0.1, st.0.2 ∙ some_same k l is)
+waiting_block live (FinWaiting a n r) (LastPending m) l st is = absurd st
+waiting_block live (LastWaiting n) (FinPending m k q) l st is = absurd st
+waiting_block live (LastWaiting n) (LastPending m) l st is = absurd (none-some l is)
+
+-- all that there was is looked at
+none_left : (left kept all : ℕ) → left + kept ≡ all → kept ≡ all → left ≡ 0
+none_left left kept all sum is = omega arith
+
 module _ (k : Config) (s : Words) (r : Rule k s) (id : ℕ) (hist : List Entry) (x : DomainView) (at : get_elem? s.views id ≡ some (one k hist x)) (done : HasDone k x) where
   abbrev state : model.State
   state = now k s r id hist x at
@@ -114,12 +131,9 @@ module _ (k : Config) (s : Words) (r : Rule k s) (id : ℕ) (hist : List Entry) 
   shaped : IsShaped state
   shaped = shaped-history (sizes_in k) r.account.log r.limits
 
-  plain : IsPlainState (sizes_in k) state
-  plain = plain_state (sizes_in k) (opening (sizes_in k)) r.account.log r.whole.plain (plain_opening (sizes_in k))
-
   -- each domain of the heap is one of the state's
   counted : length state.domains ≡ k.domains
-  counted = shaped.domain_count ∙ ap (λ (z : Sizes). z.domains) plain.sizes
+  counted = domains_of k r.account.log r.limits
 
   -- what it knows of own places and of its registers, also where that is nothing
   abbrev Known : Type 0
@@ -140,12 +154,18 @@ module _ (k : Config) (s : Words) (r : Rule k s) (id : ℕ) (hist : List Entry) 
       (λ (h : IsIdle x.seen.share). let none : IsTrue (list_any (λ q. q == n) []) = subst (λ (l : List ℕ). IsTrue (list_any (λ q. q == n) l)) (ap (λ (y : Share). y.roots) h) among in cc)
       (λ (h : IsCollecting x.seen.stage × Known). h.1.rooted n a p among is lives) good.sharing.knows
 
-  no_queue : (marked : Label → Bool) → HoldsRoots (filter_map pending_label (domain_at state d).queue) marked
-  no_queue marked l is = let h : IsTrue (has_label [] l) = subst (λ (q : List Pending). IsTrue (has_label (filter_map pending_label q) l)) (r.whole.queues d) is in cc
+  -- what its queue keeps alive is marked
+  queue_done : IsRooting c.kind → c.shares.arrived d ≡ false → (x.seen.stage ≡ In Roots) ⊎ (x.seen.stage ≡ In Queued) → HoldsRoots (filter_map pending_label (domain_at state d).queue) c.paint.marks.marked
+  queue_done rooting waits here l is =
+      let m = listed_cases {A = Pending} pending_label (domain_at state d).queue l is in
+      let b = paired_back (StandsWaiting r.account.live) x.own.finalisers.queue.items (domain_at state d).queue m.0 m.1 good.stood.enrolled.queue m.2 in
+      let w = waiting_block r.account.live b.0 m.1 l b.2 m.3 in
+      let held : held_at x.own.finalisers (Queue m.0) ≡ Some w.0 = ap (option_and_then address_in) b.1 ∙ w.2 in
+      subst (λ (z : Label). IsTrue (c.paint.marks.marked z)) w.4 (good.sharing.deciding.rooted rooting waits m.0 w.0 w.1 (done.queued here m.0 w.0 held) held w.3)
 
-  -- its registers' blocks are marked, and its queue is empty
-  roots_done : x.seen.stage ≡ In Roots → RootsMarked state c.paint.marks.marked d
-  roots_done here = record {
+  -- and so is what its registers hold
+  roots_done : IsRooting c.kind → c.shares.arrived d ≡ false → x.seen.stage ≡ In Roots → RootsMarked state c.paint.marks.marked d
+  roots_done rooting waits here = record {
     registers = λ l is.
         let m = listed_cases {A = Value} label_of (domain_at state d).registers l is in
         let n : ℕ = m.0 in
@@ -155,7 +175,7 @@ module _ (k : Config) (s : Words) (r : Rule k s) (id : ℕ) (hist : List Entry) 
         let value : get_or (domain_at state d).registers m.0 Nothing ≡ Block l = get_or_from_slice_get (domain_at state d).registers m.0 m.1 Nothing m.2 ∙ is_block m.1 l m.3 in
         let b = held_by r.account.live l (value_at x.own.registers m.0) (subst (Stands r.account.live (value_at x.own.registers m.0)) value (good.stood.each m.0 few)) in
         subst (λ (z : Label). IsTrue (c.paint.marks.marked z)) b.4 (rooted m.0 b.0 b.1 (done.rooted here m.0 b.0 few b.2) b.2 b.3);
-    queue = no_queue c.paint.marks.marked;
+    queue = queue_done rooting waits (inl here);
   }
 
   module _ (waits : c.shares.arrived d ≡ false) where
@@ -264,8 +284,12 @@ module _ (k : Config) (s : Words) (r : Rule k s) (id : ℕ) (hist : List Entry) 
       };
     }
 
-    none_left : (left : ℕ) → left ≤ (domain_at state d).low → left ≡ 0
-    none_left left below = let m : ℕ = (domain_at state d).low in let z : m ≡ 0 = (plain.work d).low in let h : left ≤ m = below in omega arith
+    -- it has looked at each registration
+    all_decided : c.kind ≡ Decide → x.seen.stage ≡ In Decide → c.left d ≡ 0
+    all_decided is here = none_left (c.left d) x.seen.share.kept (length x.own.finalisers.finals.items) (good.sharing.deciding.finals is waits) (done.decided here)
+
+    all_settled : c.kind ≡ Lasts → x.seen.stage ≡ In Lasts → c.left d ≡ 0
+    all_settled is here = none_left (c.left d) x.seen.share.kept (length x.own.finalisers.lasts.items) (good.sharing.deciding.lasts is waits) (done.settled here)
 
     swept_in : (kd : Kind) → IsSwept k state r.account.live t.holder c s.words → IsSwept k state r.account.live t.holder (after kd) s.words
     swept_in kd f = let g = f.facts in record {
@@ -287,17 +311,22 @@ module _ (k : Config) (s : Words) (r : Rule k s) (id : ℕ) (hist : List Entry) 
     facts_in Run here is f = between_in f Run
     facts_in Promote here is f = between_in f Promote
     facts_in Reset here is f = between_in f Reset
-    facts_in Roots here is f = (darkening_steps.roots_arrives laws.First k.domains state cyc f.0 d (roots_done here), plain_in f.1 Roots)
+    facts_in Roots here is f = (darkening_steps.roots_arrives laws.First k.domains state cyc f.0 d (roots_done (subst IsRooting (sym is) tt) waits here), plain_in f.1 Roots)
     facts_in Mark here is f = (darkening_steps.mark_arrives c.pass k.domains state cyc f.0 d (done_arrives (done.told (inl here)) (done.walked (inl here))), f.1)
     facts_in Rounds here is f = (darkening_steps.rounds_arrives c.pass k.domains state seeing (sees_rounds here f.0) d (record { paid = paid (done.told (inr (inl here))); all = own_seen }), f.1)
-    facts_in Decide here is f = (taking_steps.decide_arrives k.domains state cyc f.0 d (none_left (c.left d) (f.0.decide.below d)), plain_in f.1 Decide)
-    facts_in Queued here is f = (darkening_steps.queued_arrives k.domains state cyc f.0 d (no_queue c.paint.marks.marked), plain_in f.1 Queued)
+    facts_in Decide here is f = (taking_steps.decide_arrives k.domains state cyc f.0 d (all_decided is here), plain_in f.1 Decide)
+    facts_in Queued here is f = (darkening_steps.queued_arrives k.domains state cyc f.0 d (queue_done (subst IsRooting (sym is) tt) waits (inr here)), plain_in f.1 Queued)
     facts_in Clean here is f = (taking_steps.clean_arrives k.domains state seeing (sees_clean here f.0) d (record { paid = paid (done.told (inr (inr here))); all = own_seen }), plain_in f.1 Clean)
     facts_in Lasts here is f = record {
-      facts = taking_steps.lasts_arrives k.domains state (swept_of k r.account.live t.holder c) f.facts d (none_left (c.left d) (f.facts.lasts.below d));
+      facts = taking_steps.lasts_arrives k.domains state (swept_of k r.account.live t.holder c) f.facts d (all_settled is here);
       unchanged = f.unchanged;
       stays = f.stays;
-      turned = λ yes_is. let z = f.turned yes_is in record { all_marked = z.all_marked; unmarked = z.unmarked; owned = z.owned };
+      turned = λ yes_is. let z = f.turned yes_is in record {
+        all_marked = z.all_marked;
+        unmarked = z.unmarked;
+        owned = z.owned;
+        gone = λ e below. ⊎_elim (λ h. h.1) (λ h. h.1 ∙ z.gone e below) (at_cases c.shares.arrived d true e);
+      };
     }
     facts_in Sweep here is f = record {
       mode = f.mode;

@@ -1,13 +1,12 @@
 -- Domain 0 names the next kind of phase, and the collector's entry stands, if there is one.
-use Rattle.std.proofs.Common.{◌≡◌, ◌≢◌, ℕ, ◌+◌, ◌*◌, ◌<◌, ◌≤◌, ◌⊎◌, Bool, true, false, true≢false, List, [], length, get_or, slice_get, set, Option, Some, None, sym, refl, ap, ◌∙◌, subst, inl, inr, ⊎_elim, arith, zero-le, length-set, get_or-set_same, get_or-set_other}
+use Rattle.std.proofs.Common.{◌≡◌, ◌≢◌, ℕ, ◌+◌, ◌*◌, ◌<◌, ◌≤◌, ◌⊎◌, Bool, true, false, true≢false, IsTrue, List, [], length, get_or, slice_get, set, Option, Some, None, sym, refl, ap, ◌∙◌, subst, inl, inr, ⊎_elim, arith, zero-le, length-set, get_or-set_same, get_or-set_other}
 use Rattle.std.proofs.lemmas.Option.{slice_get-get_or, slice_get_within}
 use mathlib.Core.Option.{some}
 use lib.ListN.{get_elem?}
 use Rattle.heap_model.specs.declared.entry.Entry.{Entry}
 use Rattle.heap_model.specs.declared.state.State as model
-use Rattle.heap_model.specs.Domains.{opening, domain_at}
+use Rattle.heap_model.specs.Domains.{domain_at}
 use Rattle.heap_model.specs.Graph.{Graph}
-use Rattle.heap_model.proofs.Histories.ShapeAfterLemmas.{shaped-history}
 use Rattle.cycle_laws.specs.Cycle as laws
 use Rattle.cycle_laws.specs.Shares.{reset_shares}
 use Rattle.heap_rule.specs.declared.config.Config.{Config}
@@ -25,7 +24,9 @@ use Rattle.heap_rule.specs.Limits.{sizes_in}
 use Rattle.heap_rule.specs.Phases.{code, Follows, flag, is_over, IsEven, Pause, Phases, AtStage, IsInPause}
 use Rattle.heap_rule.specs.Places.{Live}
 use Rattle.heap_rule.specs.Pools.{Tenancy, nobody, owner_word, limit_of, KeepsReserve}
-use Rattle.heap_rule.specs.Rule.{Account, AllFound, Good, NoneQueued, Rule, Sharing, Stood, state_of}
+use Rattle.heap_rule.specs.Deciding.{Deciding}
+use Rattle.heap_rule.specs.Finalisers.{StandsFinal, StandsLast}
+use Rattle.heap_rule.specs.Rule.{Account, AllFound, Good, Rule, Sharing, Stood, state_of}
 use Rattle.heap_rule.specs.Views.{one, fresh_share}
 use Rattle.heap_rule.proofs.Controls.{Untouched, found_untouched, making_untouched, pools_untouched, grid_untouched, counts_untouched, low_untouched, reserved_untouched, hunter_untouched, resting_untouched, cycle_untouched, heap_untouched}
 use Rattle.heap_rule.proofs.Keeps.{Words, mine, my_good, now, remakes, more_same, stood_other, sum_same, quiet_in, owes_rests, hunter_as, room_words, opened_words}
@@ -34,11 +35,12 @@ use Rattle.heap_rule.proofs.Sharings.{SameCycle, facts_words}
 use Rattle.heap_rule.proofs.Update.{over, over_here, over_else}
 use Rattle.heap_model.specs.declared.label.Label.{Label}
 use Rattle.heap_rule.proofs.EphemeronLemmas.{looks_idle}
+use Rattle.heap_rule.proofs.FinaliserLemmas.{paired_length}
 use Rattle.steps_pauses.proofs.Arriving.{whole_all}
 use Rattle.steps_pauses.specs.Pauses.{kind_in, entry_of, cut_in, MayFollow, NamesFree, LeadMay, LeadTold}
-use Rattle.steps_pauses.proofs.CollectorEntries.{OfCollector, entry_of_collector, keeps_left, queue_left, graph_left, plain_logged, front_then, after_logged, legal_logged, knows_logged, seen_then}
-use Rattle.steps_pauses.proofs.Naming.{left_by, logged, pass_in, led_cycle, Ready, Way, led_way}
-use Rattle.heap_rule.proofs.PlainHistories.{IsPlainState, plain_state, plain_opening}
+use Rattle.steps_pauses.proofs.CollectorEntries.{OfCollector, entry_of_collector, keeps_left, work_left, graph_left, front_then, after_logged, legal_logged, knows_logged, seen_then}
+use Rattle.steps_pauses.proofs.Naming.{left_by, logged, pass_in, left_in, led_cycle, Ready, Way, led_way}
+use Rattle.steps_pauses.proofs.Sizes.{domains_of}
 use Rattle.heap_rule.specs.Fullness.{Fullness}
 use Rattle.heap_model.specs.History.{Legal}
 
@@ -108,6 +110,10 @@ leads_promotes kind e = cc
 
 pub leads_runs : (kind : Kind) → ◌≡◌ {A = Stage} (Leads kind) (In Run) → ⊥
 leads_runs kind e = cc
+
+-- nothing is looked at yet
+all_left : (items left kept : ℕ) → kept ≡ 0 → left ≡ items → left + kept ≡ items
+all_left items left kept none is = omega arith
 
 -- nobody is in an even phase then
 paused_even : (t : Pause) (d arrivals : ℕ) (st : Stage) → IsInPause st → AtStage t d arrivals st → IsEven t.phase
@@ -189,9 +195,7 @@ module _ (k : Config) (s : Words) (r : Rule k s) (id : ℕ) (hist : List Entry) 
   c' = led_cycle last next state c
 
   counted : k.domains ≡ length state.domains
-  counted =
-      let plain : IsPlainState (sizes_in k) state = plain_state (sizes_in k) (opening (sizes_in k)) r.account.log r.whole.plain (plain_opening (sizes_in k)) in
-      sym ((shaped-history (sizes_in k) r.account.log r.limits).domain_count ∙ ap (λ (z : _). z.domains) plain.sizes)
+  counted = sym (domains_of k r.account.log r.limits)
 
   ready : Ready last next c s.words
   ready = let l = good.sharing.leading in record {
@@ -274,7 +278,19 @@ module _ (k : Config) (s : Words) (r : Rule k s) (id : ℕ) (hist : List Entry) 
     whole = λ l. inl (whole l);
   }
 
-  sharing_led : Sharing k account' ws y.own.number y.own.registers y.own.ephemerons.items y.seen.stage y.seen.share
+  -- each domain has all its registrations left to look at, where it is to look at them
+  deciding_led : (z : DomainView) (share : Share) → IsIdle share → Good k r.account s.words z → Deciding live next c'.left c'.shares.arrived c'.paint.marks.marked z.own.number z.own.finalisers share.kept share.waiting
+  deciding_led z share idle h =
+      let none : share.kept ≡ 0 = ap (λ (u : Share). u.kept) idle in
+      let e = h.stood.enrolled in record {
+        finals = λ is _. subst (λ (kind : Kind). left_in kind state c.left z.own.number + share.kept ≡ length z.own.finalisers.finals.items) (sym is)
+            (all_left (length z.own.finalisers.finals.items) (length (domain_at state z.own.number).finals) share.kept none (paired_length (StandsFinal live) z.own.finalisers.finals.items (domain_at state z.own.number).finals e.finals));
+        lasts = λ is _. subst (λ (kind : Kind). left_in kind state c.left z.own.number + share.kept ≡ length z.own.finalisers.lasts.items) (sym is)
+            (all_left (length z.own.finalisers.lasts.items) (length (domain_at state z.own.number).lasts) share.kept none (paired_length (StandsLast live) z.own.finalisers.lasts.items (domain_at state z.own.number).lasts e.lasts));
+        rooted = λ _ _ i a p among. absurd (let l : IsTrue (seen_by [] i) = subst (λ (xs : List ℕ). IsTrue (seen_by xs i)) (ap (λ (u : Share). u.waiting) idle) among in cc);
+      }
+
+  sharing_led : Sharing k account' ws y.own.number y.own.registers y.own.finalisers y.own.ephemerons.items y.seen.stage y.seen.share
   sharing_led = record {
     telling = record { owes = λ _. refl; seen = λ _. refl; fresh = λ _. refl; forgotten = λ _ _. refl; colours = λ v e. cc };
     leading = record {
@@ -288,10 +304,11 @@ module _ (k : Config) (s : Words) (r : Rule k s) (id : ℕ) (hist : List Entry) 
     knows = inl refl;
     adds = record { blocks = λ e _. (way.uncounted e x.own.number).0; words = λ e _. (way.uncounted e x.own.number).1; own = λ _ _ e. cc };
     looks = looks_idle live tenancy.holder tenancy.garbage (state_of k log').graph c.paint.marks c.paint.emptied y.own.number y.own.ephemerons.items y.seen.stage y.seen.share refl whole;
+    deciding = deciding_led x y.seen.share refl good;
   }
 
   -- whoever else has arrived has forgotten what it knew
-  sharings_led : (z : DomainView) → z.own.number < k.domains → z.own.number ≢ x.own.number → Good k r.account s.words z → Sharing k account' ws z.own.number z.own.registers z.own.ephemerons.items z.seen.stage z.seen.share
+  sharings_led : (z : DomainView) → z.own.number < k.domains → z.own.number ≢ x.own.number → Good k r.account s.words z → Sharing k account' ws z.own.number z.own.registers z.own.finalisers z.own.ephemerons.items z.seen.stage z.seen.share
   sharings_led z below other h =
       let tells = h.sharing.telling in
       let l = h.sharing.leading in
@@ -320,10 +337,11 @@ module _ (k : Config) (s : Words) (r : Rule k s) (id : ℕ) (hist : List Entry) 
           own = λ _ _ e. absurd (true≢false (sym e ∙ ap (λ (u : Share). u.added_blocks) idle));
         };
         looks = looks_idle live tenancy.holder tenancy.garbage (state_of k log').graph c.paint.marks c.paint.emptied z.own.number z.own.ephemerons.items z.seen.stage z.seen.share idle whole;
+        deciding = deciding_led z z.seen.share idle h;
       }
 
   stood_left : (z : DomainView) → Stood live state z → Stood live (state_of k log') z
-  stood_left z st = subst (λ (u : model.State). Stood live u z) (sym after) (stood_other live live state (left_by state o) z (keeps_left state o collector z.own.number) (more_same live) st)
+  stood_left z st = subst (λ (u : model.State). Stood live u z) (sym after) (stood_other live live state (left_by state o) z (keeps_left state o collector z.own.number) (work_left state o collector z.own.number) (more_same live) st)
 
   -- where the list was written anew, each pool that is nobody's is listed
   listed_free : NamesFree k x → (q : ℕ) → q < k.pools → tenancy.holder q ≡ nobody → (i : ℕ) × (i < listed ws) × (listed_pool ws i ≡ q) × ((cursor ws ≤ i) ⊎ (limit_of k (listed ws) ≤ i))
@@ -350,9 +368,7 @@ module _ (k : Config) (s : Words) (r : Rule k s) (id : ℕ) (hist : List Entry) 
       record {
         wide = untouched.0 ∙ r.whole.wide;
         legal = legal_logged k s r id hist x at o way.allowed;
-        plain = plain_logged r.account.log o collector r.whole.plain;
         full = way.full;
-        queues = subst NoneQueued (sym after) (queue_left state o collector r.whole.queues);
         found = subst (λ (graph : Graph). AllFound k c.paint live graph ws) (sym graph_is) (found_untouched k c.paint live state.graph s.words ws untouched r.whole.found);
         placed = r.whole.placed;
         spread = r.whole.spread;
@@ -388,7 +404,7 @@ module _ (k : Config) (s : Words) (r : Rule k s) (id : ℕ) (hist : List Entry) 
       }
       (knows_logged k s r id hist x at o collector y refl refl)
       record {
-        stood = record { wide = mine_stood.wide; each = mine_stood.each; serial = mine_stood.serial };
+        stood = record { wide = mine_stood.wide; each = mine_stood.each; serial = mine_stood.serial; enrolled = mine_stood.enrolled };
         area = record { room = good.area.room; free = good.area.free; classes = good.area.classes };
         making = record { fits = made.fits; written = made.written };
         staged = record { arrivals = good.staged.arrivals; stage = (before.0, (j, odd, over_here (j + 1) next t.kinds), may.leads, refl) };

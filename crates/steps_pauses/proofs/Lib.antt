@@ -1,3 +1,4 @@
+mod Sizes
 mod Arriving
 mod Finishing
 mod Naming

@@ -51,7 +51,7 @@ before_in Lasts c = c.paint.marks.marked
 before_in _ c = c.before
 
 -- how many registrations are left to look at
-abbrev left_in : Kind → model.State → (ℕ → ℕ) → ℕ → ℕ
+abbrev pub left_in : Kind → model.State → (ℕ → ℕ) → ℕ → ℕ
 left_in Decide s left = λ d. length (domain_at s d).finals
 left_in Lasts s left = λ d. length (domain_at s d).lasts
 left_in _ s left = left

@@ -1,21 +1,24 @@
 -- What the steps of a pause tell of a token's own data.
-use Rattle.std.proofs.Common.{◌≡◌, ◌+◌, ◌*◌, ◌^◌, ◌<◌, lit<, ℕ, sym, ap, ◌∙◌, subst, arith, lt_of_not-le, inl, length, ⊎_elim, None, refl}
+use Rattle.std.proofs.Common.{◌≡◌, ◌+◌, ◌*◌, ◌^◌, ◌<◌, ◌≤◌, ℕ, sym, ap, ◌∙◌, subst, arith, lt_of_not-le, inl, inr, length, ⊎_elim, Some, None, refl}
 use mathlib.Core.Logic.{dite}
 use native.Mathlib.Decide.{dec_le}
 use Rattle.heap_model.specs.declared.entry.Entry.TheVariants.{End}
 use Rattle.heap_model.specs.declared.reply.Applied.TheVariants.{Silent}
-use Rattle.heap_rule.specs.declared.change.Reading.TheVariants.{Unread}
 use Rattle.heap_rule.specs.declared.config.Config.{Config}
 use Rattle.heap_rule.specs.declared.view.Own.{Own}
 use Rattle.heap_rule.specs.declared.view.DomainView.{DomainView}
-use Rattle.heap_rule.specs.Raw.{CanChange, Changes, Closes}
-use Rattle.heap_rule.specs.Token.{OwnFits}
-use Rattle.heap_rule.proofs.Plain.{entered_closes}
-use Rattle.steps_pauses.specs.Pauses.{ArriveMay, forgotten, Arrived, LookTold, CanArrive, CountsArrival, EndTold, end_changes, HasDone, MayFollow, entry_of}
+use Rattle.heap_rule.specs.declared.view.Finalisers.{Finalisers}
+use Rattle.heap_rule.specs.declared.view.Held.{Held}
+use Rattle.heap_rule.specs.declared.view.Held.TheVariants.{Final, Last, Queue}
+use Rattle.heap_rule.specs.Finalisers.{FinalisersFit, held_at}
+use Rattle.heap_rule.specs.Layout.{heap_words}
+use Rattle.heap_rule.specs.Raw.{CanLeave, Closes}
+use Rattle.heap_rule.specs.Token.{Holds, OwnFits}
+use Rattle.steps_pauses.specs.Pauses.{ArriveMay, forgotten, Arrived, LookTold, CanArrive, CountsArrival, ended_own, ClearsTrace, EndTold, HasDone, MayFollow, entry_of}
 use Rattle.heap_rule.proofs.Closes.{front_same}
 use Rattle.heap_model.specs.Fronts.{IsFrontOf}
 use Rattle.heap_rule.specs.declared.phase.Kind.{Kind}
-use Rattle.heap_rule.specs.declared.phase.Kind.TheVariants.{Roots, Mark, Rounds, Clean, Sweep, Answer, Run, Promote, Reset, Decide, Lasts}
+use Rattle.heap_rule.specs.declared.phase.Kind.TheVariants.{Roots, Mark, Rounds, Queued, Clean, Sweep, Answer, Run, Promote, Reset, Decide, Lasts}
 use Rattle.heap_rule.specs.declared.phase.Stage.TheVariants.{In}
 use Rattle.heap_rule.specs.Cycles.{IsCollecting, HasNoCycle}
 use Rattle.heap_rule.specs.declared.view.Share.{Share}
@@ -43,23 +46,52 @@ arrived_closes k x found may y fits told =
     let few : n < 2 ^ 60 = may.few in record {
       can_write = let g : n + 1 < 2 ^ 64 = omega arith in g;
       written = λ after is. own ∙ sym is;
-      fits = subst (OwnFits k) (sym own) record { number = fits.number; used = fits.used; registers = fits.registers; looked = fits.looked; remembered = fits.remembered; prepared = fits.prepared; pending = no_more (x.own.pending.room + length x.own.pending.items) ∙ fits.pending; ephemerons = fits.ephemerons };
+      fits = subst (OwnFits k) (sym own) record { number = fits.number; used = fits.used; registers = fits.registers; looked = fits.looked; remembered = fits.remembered; prepared = fits.prepared; pending = no_more (x.own.pending.room + length x.own.pending.items) ∙ fits.pending; ephemerons = fits.ephemerons; finalisers = fits.finalisers };
       once = λ _. inl (record { front = front_same x y (ap (λ (z : DomainView). z.seen.front) told); registers = ap (λ (o : Own). o.registers) own; used = ap (λ (o : Own). o.used) own; serial = ap (λ (o : Own). o.serial) own });
     }
 
--- the end of a trace empties the registers
-pub end_closes : (k : Config) (x : DomainView) (found : ℕ) → Closes k x found (EndTold k) (λ own. CanChange Unread found end_changes) (λ own after. Changes Unread found end_changes own after)
-end_closes k x found y fits told = entered_closes k x found (End x.own.number) Silent end_changes (lit< tt, tt) y fits told
+-- what is queued stays, and all that was registered has room again
+cleared_fit : (k : Config) (own : Own) → FinalisersFit k own.finalisers → FinalisersFit k (ended_own own).finalisers
+cleared_fit k own fits =
+    let fs : Finalisers = own.finalisers in
+    let f : ℕ = length fs.finals.items in
+    let l : ℕ = length fs.lasts.items in
+    let q : ℕ = length fs.queue.items in record {
+      few = let h : f + l + q ≤ k.finals = fits.few in let z : 0 + 0 + q ≤ k.finals = omega arith in z;
+      finals_room = no_more (fs.finals.room + f) ∙ fits.finals_room;
+      lasts_room = no_more (fs.lasts.room + l) ∙ fits.lasts_room;
+      queue_room = fits.queue_room;
+      inside = λ h a is. within h a is;
+      registers = λ i r is. cc;
+      queued_registers = fits.queued_registers;
+    }
+  where
+    within : (h : Held) (a : ℕ) → held_at (ended_own own).finalisers h ≡ Some a → (1 ≤ a) × (a ≤ heap_words k)
+    within (Final i) a is = cc
+    within (Last i) a is = cc
+    within (Queue i) a is = fits.inside (Queue i) a is
+
+-- the end of a trace empties the registers, and forgets what was registered
+pub end_closes : (k : Config) (x : DomainView) (found : ℕ) → Closes k x found (EndTold k) CanLeave ClearsTrace
+end_closes k x found y fits told = let own : y.own ≡ ended_own x.own = ap (λ (z : DomainView). z.own) told.view in record {
+  can_write = tt;
+  written = λ after is. own ∙ sym is;
+  fits = subst (OwnFits k) (sym own) record { number = fits.number; used = fits.used; registers = subst (λ (o : Own). Holds k o.registers) own told.holds; looked = fits.looked; remembered = fits.remembered; prepared = fits.prepared; pending = fits.pending; ephemerons = fits.ephemerons; finalisers = cleared_fit k x.own fits.finalisers };
+  once = λ _. inr (record { entry = End x.own.number; answer = Silent; answers = told.answers });
+}
 
 -- a domain that is in no phase of a collection has nothing of one to do
 pub nothing_due : (k : Config) (x : DomainView) → (IsCollecting x.seen.stage → ⊥) → HasDone k x
 nothing_due k x none =
     let apart : (kind : Kind) → (HasNoCycle kind → ⊥) → x.seen.stage ≡ In kind → ⊥ = (λ kind is here. none (subst IsCollecting (sym here) is)) in record {
       rooted = λ here. absurd (apart Roots (λ h. h) here);
+      queued = λ here. absurd (⊎_elim (apart Roots (λ h. h)) (apart Queued (λ h. h)) here);
       told = λ here. absurd (⊎_elim (apart Mark (λ h. h)) (λ more. ⊎_elim (apart Rounds (λ h. h)) (apart Clean (λ h. h)) more) here);
       walked = λ here. absurd (⊎_elim (apart Mark (λ h. h)) (apart Sweep (λ h. h)) here);
       looked = λ here. absurd (⊎_elim (apart Rounds (λ h. h)) (apart Clean (λ h. h)) here);
       cleaned = λ here. absurd (apart Clean (λ h. h) here);
+      decided = λ here. absurd (apart Decide (λ h. h) here);
+      settled = λ here. absurd (apart Lasts (λ h. h) here);
       held = λ here. absurd (apart Answer (λ h. h) here);
       added = λ here. absurd (apart Sweep (λ h. h) here);
     }

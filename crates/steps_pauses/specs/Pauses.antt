@@ -1,21 +1,18 @@
 -- What the steps of a pause ask and tell.
-use Rattle.std.specs.Prelude.{◌≡◌, ◌≢◌, ℕ, ◌+◌, ◌*◌, ◌^◌, ◌<◌, ◌≤◌, ◌⊎◌, true, List, [], ◌∷◌, ◌++◌, length, slice_get, Some, None, IsTrue, false, ◌==◌, Bool, Option}
+use Rattle.std.specs.Prelude.{◌≡◌, ◌≢◌, ℕ, ◌+◌, ◌*◌, ◌^◌, ◌<◌, ◌≤◌, ◌⊎◌, true, List, [], ◌∷◌, ◌++◌, length, replicate, slice_get, Some, None, IsTrue, false, ◌==◌, Bool, Option}
 use Rattle.heap_model.specs.Domains.{class_count}
 use Rattle.heap_model.specs.declared.entry.Entry.TheVariants.{End, Cut, Seal, Collected, Done}
 use Rattle.heap_model.specs.declared.reply.Applied.TheVariants.{Silent}
 use Rattle.heap_model.specs.declared.state.Mode.{Mode}
 use Rattle.heap_model.specs.declared.state.Mode.TheVariants.{Open, Sealed, Answer as Answered}
 use Rattle.heap_model.specs.History.{Legal}
-use Rattle.heap_model.specs.Fronts.{IsFrontOf}
+use Rattle.heap_model.specs.Fronts.{IsFrontOf, Answers}
 use Rattle.heap_words.specs.declared.value.Value.TheVariants.{Nothing, Ref}
-use Rattle.heap_rule.specs.declared.change.Change.{Change}
-use Rattle.heap_rule.specs.declared.change.Change.TheVariants.{Clear}
-use Rattle.heap_rule.specs.declared.change.Part.TheVariants.{Register}
 use Rattle.heap_rule.specs.declared.config.Config.{Config}
 use Rattle.heap_rule.specs.declared.view.DomainView.{DomainView}
 use Rattle.heap_rule.specs.declared.view.Own.{Own}
 use Rattle.heap_rule.specs.declared.view.Listing.{Listing}
-use Rattle.heap_rule.specs.declared.view.Copied.{Copied}
+use Rattle.heap_rule.specs.declared.view.Held.TheVariants.{Queue}
 use Rattle.remembered_set.specs.Bounded.{Bounded}
 use Rattle.heap_rule.specs.declared.phase.Kind.{Kind}
 use Rattle.heap_rule.specs.declared.phase.Stage.{Stage}
@@ -28,12 +25,14 @@ use Rattle.heap_rule.specs.Phases.{code, Follows, Comes, IsEven, IsOdd, last_not
 use Rattle.heap_rule.specs.Pools.{prepared_at}
 use Rattle.heap_rule.specs.Copies.{nothing_copied, HoldsOld}
 use Rattle.heap_rule.specs.Rule.{state_of}
-use Rattle.heap_rule.specs.Standing.{Entered}
+use Rattle.heap_rule.specs.Standing.{with_front, with_own}
+use Rattle.heap_rule.specs.Token.{Holds}
 use Rattle.heap_rule.specs.declared.phase.Kind.TheVariants.{Run, Promote, Reset, Roots, Mark, Rounds, Clean, Sweep, Answer, Decide, Queued, Lasts}
 use Rattle.heap_rule.specs.Views.{fresh_share, voided}
 use Rattle.std.specs.List.{list_any}
 use Rattle.heap_rule.specs.Changes.{value_at}
 use Rattle.heap_rule.specs.Cycles.{seen_by}
+use Rattle.heap_rule.specs.Finalisers.{held_at}
 use Rattle.heap_model.specs.declared.entry.Entry.{Entry}
 use Rattle.heap_rule.specs.declared.view.Share.{Share}
 
@@ -71,10 +70,12 @@ ArrivesFrom d (Gone kind) = ⊥
 abbrev pub Traces : Stage → Type 0
 Traces stage = (stage ≡ In Mark) ⊎ ((stage ≡ In Rounds) ⊎ (stage ≡ In Clean))
 
--- What a domain has done of a phase of a collection in which it arrives. Of a phase without one, and of those in which finalisers are queued, nothing is asked: no finaliser is registered yet
+-- What a domain has done of a phase of a collection in which it arrives. Of a phase without one nothing is asked
 pub record HasDone (k : Config) (x : DomainView) : Type 0 where
   -- it has marked what its registers hold
   pub rooted : x.seen.stage ≡ In Roots → (r a : ℕ) → r < 16 → value_at x.own.registers r ≡ Ref a → IsTrue (list_any (λ q. q == r) x.seen.share.roots)
+  -- and the blocks that its queue keeps alive
+  pub queued : (x.seen.stage ≡ In Roots) ⊎ (x.seen.stage ≡ In Queued) → (i a : ℕ) → held_at x.own.finalisers (Queue i) ≡ Some a → IsTrue (seen_by x.seen.share.waiting i)
   -- it owes no store of the changed word
   pub told : Traces x.seen.stage → x.seen.share.owes ≡ false
   -- it has been at each own place
@@ -83,6 +84,10 @@ pub record HasDone (k : Config) (x : DomainView) : Type 0 where
   pub looked : (x.seen.stage ≡ In Rounds) ⊎ (x.seen.stage ≡ In Clean) → (a : ℕ) → IsTrue (seen_by x.own.ephemerons.items a) → IsTrue (seen_by x.seen.share.places_seen a)
   -- it empties the keys of none
   pub cleaned : x.seen.stage ≡ In Clean → x.seen.share.cleaning ≡ None
+  -- it has looked at each registration of `finalise`, and those that it has left have marked blocks
+  pub decided : x.seen.stage ≡ In Decide → x.seen.share.kept ≡ length x.own.finalisers.finals.items
+  -- and so at each of `finalise_last`
+  pub settled : x.seen.stage ≡ In Lasts → x.seen.share.kept ≡ length x.own.finalisers.lasts.items
   -- its pools hold blocks
   pub held : x.seen.stage ≡ In Answer → k.pools ≤ x.seen.share.held
   -- it has added what it has counted
@@ -102,7 +107,7 @@ pub record ArriveMay (k : Config) (x : DomainView) : Type 0 where
   pub done : HasDone k x
 
 -- a list that has forgotten its items, and has room for as many more
-abbrev pub forgotten : Bounded Copied → Bounded Copied
+abbrev pub forgotten : {A : Type 0} → Bounded A → Bounded A
 forgotten l = record { items = []; room = l.room + length l.items }
 
 -- the domain has arrived: its list of copies is empty, and what it knows of the blocks that it met, of how many pools are free, of the list that it wrote, and of the phase but for the cut, is void
@@ -219,13 +224,22 @@ pub record LeadTold (k : Config) (next : Kind) (x : DomainView) (found : ℕ) (y
   pub made : (e : Entry) → entry_of (kind_in x.seen.stage) next ≡ Some e → EndsWith k x y e
   pub view : y ≡ record x { seen = record x.seen { front = y.seen.front; stage = Led next; share = record fresh_share { cut = cut_in (kind_in x.seen.stage) x.seen.share.cut } } }
 
--- what the end of a trace changes: the registers hold nothing
-abbrev pub end_changes : List Change
-end_changes = Clear Register ∷ []
+-- the token's own data after the end of a trace: the registers hold nothing, and nothing is registered
+abbrev pub ended_own : Own → Own
+ended_own own = record own {
+  registers = replicate 16 Nothing;
+  finalisers = record own.finalisers { finals = forgotten own.finalisers.finals; lasts = forgotten own.finalisers.lasts };
+}
 
--- the trace of the domain ends
-abbrev pub EndTold : Config → DomainView → ℕ → DomainView → Type 0
-EndTold k x found y = Entered k (End x.own.number) Silent Nothing end_changes x y
+-- what is written at it
+abbrev pub ClearsTrace : Own → Own → Type 0
+ClearsTrace own after = after ≡ ended_own own
+
+-- the trace of the domain ends: its entry stands at the step
+pub record EndTold (k : Config) (x : DomainView) (found : ℕ) (y : DomainView) : Type 0 where
+  pub answers : Answers (sizes_in k) x.own.number x.seen.front y.seen.front (End x.own.number) Silent
+  pub view : y ≡ with_front (with_own x (ended_own x.own)) y.seen.front
+  pub holds : Holds k y.own.registers
 
 -- a load of the ended word
 abbrev pub EndedTold : Config → DomainView → ℕ → DomainView → Type 0

@@ -8,9 +8,10 @@ ghost use Rattle.heap_rule.specs.Standing.{Acts};
 ghost use Rattle.heap_rule.specs.Token.{IsIn};
 
 use heap_rule::{
-    BARRIER, Change, Changing, Domain, ENDED, Heap, Leaving, Own, PLAN, Part, Reading, WANT,
-    Writing, raw_add, raw_load, raw_or, raw_store,
+    BARRIER, Change, Domain, ENDED, Heap, Leaving, Own, PLAN, WANT, Writing, raw_add, raw_load,
+    raw_or, raw_store,
 };
+use heap_words::Value;
 use std::marker::Brand;
 
 /// A load of the want word, at which no entry stands. Answers the word.
@@ -100,22 +101,34 @@ pub fn plan_store(heap: &Heap, dom: &mut Domain, new: u64)
     raw_store::<Brand, Leaving>(heap, dom, PLAN, new, &Leaving, &[]);
 }
 
+// The registers hold nothing, and nothing is registered.
+#[derive(Clone, Copy)]
+struct Ending;
+
+impl Writing for Ending {
+    ghost use Rattle.heap_rule.specs.Raw.{CanLeave};
+    ghost use Rattle.steps_pauses.specs.Pauses.{ClearsTrace};
+
+    ghost can = { λ _ _ _ own. CanLeave own };
+
+    ghost writes = { λ _ _ _ own after. ClearsTrace own after };
+
+    fn write(&self, _found: u64, _changes: &[Change], own: &mut Own) {
+        own.registers = [Value::Nothing; 16];
+        own.finalisers.finals.clear();
+        own.finalisers.lasts.clear();
+    }
+}
+
 /// The end of a trace: the ended word rises by one, and the entry of the end stands there. The
-/// registers hold nothing then.
+/// registers hold nothing then, and nothing is registered.
 pub fn ended_add(heap: &Heap, dom: &mut Domain)
     requires here { IsIn dom.old heap.now }
     requires acts { Acts heap.now.config dom.old.view }
     ensures here { IsIn dom.new heap.now }
     ensures told { EndTold heap.now.config dom.old.view 0 dom.new.view }
 {
-    let writing = Changing {
-        at: 0,
-        reading: Reading::Unread,
-    };
-    let changes = [Change::Clear {
-        part: Part::Register,
-    }];
-    raw_add::<Brand, Changing>(heap, dom, ENDED, 1, &writing, &changes);
+    raw_add::<Brand, Ending>(heap, dom, ENDED, 1, &Ending, &[]);
 }
 
 /// A load of the ended word. Answers how many traces have ended.

@@ -131,9 +131,7 @@ module _ (k : Config) (s : Words) (r : Rule k s) (id : ℕ) (hist : List Entry) 
       record {
         wide = o.wide ∙ r.whole.wide;
         legal = r.whole.legal;
-        plain = r.whole.plain;
         full = r.whole.full;
-        queues = r.whole.queues;
         found = found_heap k r.account.cycling.paint r.account.live (state_of k r.account.log).graph s.words words' heap r.whole.placed r.whole.found;
         placed = r.whole.placed;
         spread = r.whole.spread;
@@ -157,7 +155,7 @@ module _ (k : Config) (s : Words) (r : Rule k s) (id : ℕ) (hist : List Entry) 
       }
       (knows_front k s r id hist x at y refl (mine k s r id hist x at).front)
       record {
-        stood = record { wide = good.stood.wide; each = good.stood.each; serial = good.stood.serial };
+        stood = record { wide = good.stood.wide; each = good.stood.each; serial = good.stood.serial; enrolled = good.stood.enrolled };
         area = record { room = good.area.room; free = good.area.free; classes = good.area.classes };
         making = record { fits = making.fits; written = making.written };
         staged = record { arrivals = good.staged.arrivals; stage = good.staged.stage };

@@ -18,10 +18,10 @@ use Rattle.heap_model.specs.Graph.{Graph, node_at, has_label}
 use Rattle.heap_model.specs.Domains.{domain_at}
 use Rattle.heap_model.specs.Commands.{outcome, allocated, is_allocation, FitsMode}
 use Rattle.heap_model.specs.Entries.{next}
-use Rattle.heap_model.specs.Fronts.{Shape, EpheShape, shape_of, Answers, IsCalm}
+use Rattle.heap_model.specs.Fronts.{Shape, EpheShape, shape_of, Answers}
 use Rattle.heap_model.proofs.Graphs.GraphLemmas.{node_at-append_old, node_at-append_new}
 use Rattle.heap_model.proofs.Histories.NumberLemmas.{next_label_after}
-use Rattle.heap_model.proofs.Commands.FrameLemmas.{calm_command}
+use Rattle.heap_model.proofs.Commands.MoveLemmas.{registers_one}
 use Rattle.heap_model.proofs.Histories.FrontLemmas.{answers_push}
 use Rattle.heap_model.proofs.Commands.LeavesLemmas.{Leaves, leaves_allocation}
 use Rattle.heap_words.specs.declared.value.Value.{Value}
@@ -42,8 +42,9 @@ use Rattle.heap_rule.specs.Pools.{Grid, Lot, Hunter, owned, blocks_of, Filling, 
 use Rattle.heap_rule.specs.Token.{next_label, Holds}
 use Rattle.heap_rule.proofs.ChangeLemmas.{registers_of}
 use Rattle.heap_rule.proofs.Values.{AllStand, stand_set, holds}
-use Rattle.heap_rule.proofs.Keeps.{whole_here, Words, mine, my_good, control_set, controls_kept, appends, legal_entry, owes_run, quiet, run_settled, opened_words, between_here, run_calm, after_entry}
-use Rattle.heap_rule.proofs.Entering.{running, inside_state, registers_stand}
+use Rattle.heap_rule.proofs.Keeps.{whole_here, Words, mine, my_good, control_set, controls_kept, appends, legal_entry, owes_run, quiet, run_settled, opened_words, between_here, after_entry}
+use Rattle.heap_rule.proofs.Entering.{running, inside_state, registers_stand, may_begin, open_after}
+use Rattle.heap_rule.proofs.FinaliserLemmas.{enrolled_as, enrolled_more, work_command}
 use Rattle.heap_rule.proofs.Beside.{found_beside, making_beside}
 use Rattle.heap_rule.proofs.Born.{all_more, live', born, more, old, is_new, placed_born, settled_born, recalls_born, naming_born, spread_born, opened_born, classes_born}
 use Rattle.heap_rule.proofs.Lots.{hunter_beside, stays, head_some, place_cases, owned_same}
@@ -60,7 +61,7 @@ use Rattle.heap_rule.specs.declared.phase.Kind.TheVariants.{Run}
 use Rattle.remembered_set.specs.Bounded.{Bounded}
 use Rattle.heap_model.specs.Domains.{class_count}
 use Rattle.heap_words.specs.Values.{value_word}
-use Rattle.heap_rule.specs.Cycles.{IsPlainCommand, seen_by}
+use Rattle.heap_rule.specs.Cycles.{seen_by}
 use Rattle.heap_rule.specs.Ephemerons.{IsEpheAt, Listed}
 use Rattle.heap_rule.specs.Standing.{Acts}
 use Rattle.heap_rule.proofs.Classes.{size_least, slot_inside}
@@ -81,7 +82,7 @@ pub record IsNewBlock (shape : Shape) (node : Node) (behind : List ℕ) : Type 0
 pub record MakesNode (c : Command) (dst : ℕ) (node : Node) : Type 0 where
   pub makes : (s : model.State) (d : ℕ) → outcome s d c ≡ allocated s d dst node
   pub allocates : is_allocation c ≡ true
-  pub plain : IsPlainCommand c
+  pub unregistering : registers_one c ≡ false
   pub fits : (s : model.State) (d : ℕ) → s.mode ≡ Open → (domain_at s d).queue ≡ [] → FitsMode s d c
 
 -- of a block with this shape at an address, the list gets the address exactly where it is an ephemeron
@@ -305,6 +306,7 @@ module _ (k : Config) (s : Words) (r : Rule k s) (id : ℕ) (hist : List Entry) 
     wide = stand1.wide;
     each = λ q few. subst (λ (l : List graph_value.Value). Stands live1 (value_at regs q) (get_or l q Nothing)) (sym leaves.registers_are) (stand1.each q few);
     serial = ap (λ (m : ℕ). m + 1) g.stood.serial ∙ sym leaves.serial_is;
+    enrolled = enrolled_more r.account.live live1 (next now e) d x.own.finalisers grows (enrolled_as r.account.live now (next now e) d x.own.finalisers (work_command now d c false may.command.unregistering) g.stood.enrolled);
   }
 
   -- the block lies below every minor area
@@ -400,9 +402,6 @@ module _ (k : Config) (s : Words) (r : Rule k s) (id : ℕ) (hist : List Entry) 
     lives = λ b is. ⊎_elim (λ (h : IsEpheAt r.account.live b). inl (ephe_more r.account.live live1 grows b h)) (λ (h : IsTrue (r.account.tenancy.garbage b)). inr h) (o.listed.lives b is);
   }
 
-  calm : IsCalm now
-  calm = run_calm k s r id hist x at may.acts.runs
-
   -- the pool is the home of the new block, which is kept
   abbrev homes1 : Homes
   homes1 = with_pool r.account.homes L pool
@@ -423,15 +422,18 @@ module _ (k : Config) (s : Words) (r : Rule k s) (id : ℕ) (hist : List Entry) 
       (subst (λ (l : Label). IsTrue (has_label (kept_labels (sizes_in k) (r.account.log ++ e ∷ [])) l)) (sym label_is) (new_kept k r.account.log d c may.command.allocates))
       (full_stays k r.account.log r.account.live t.holder t.fresh r.account.homes kind e refl r.whole.full)
 
+  -- nothing that the command waits for stands in its way
+  fits_now : FitsMode now d c
+  fits_now = let m = may_begin k s r id hist x at may.acts in may.command.fits now d m.0 m.1
+
   pub makes_rule : Rule k record { words = ws; homes = s.homes; views = set s.views id (one k hist after) }
   makes_rule = appends k s r id hist x at e after ws live1 homes1 record {
-    plain = may.command.plain;
     full = full1;
     share = refl;
     alone = λ m other. ne_eqb d m (λ o. other (sym o));
-    allowed = record { running = running k s r id hist x at may.acts; fits = may.command.fits now d calm.mode (calm.queues d); full_fits = tt };
-    calm = calm_command now d c false calm;
-    command = tt;
+    allowed = record { running = running k s r id hist x at may.acts; fits = fits_now; full_fits = tt };
+    is_open = open_after k s r id hist x at may.acts c false;
+    of_trace = tt;
     runs = may.acts.runs;
     stage = refl;
     listing = refl;
@@ -465,7 +467,7 @@ module _ (k : Config) (s : Words) (r : Rule k s) (id : ℕ) (hist : List Entry) 
 
   pub makes_answers : Answers (sizes_in k) d x.seen.front after.seen.front e (Replied (BlockReply L))
   makes_answers = answers_push (sizes_in k) d r.account.log x.seen.front e (Replied (BlockReply L)) (mine k s r id hist x at).front
-      (legal_entry k s r id hist x at e record { running = running k s r id hist x at may.acts; fits = may.command.fits now d calm.mode (calm.queues d); full_fits = tt }) leaves.replies
+      (legal_entry k s r id hist x at e record { running = running k s r id hist x at may.acts; fits = fits_now; full_fits = tt }) leaves.replies
 
   pub makes_holds : Holds k regs
   makes_holds = holds k r.limits live1 placed1 (next now e) after stood1

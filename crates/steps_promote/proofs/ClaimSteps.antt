@@ -299,7 +299,7 @@ module _ (k : Config) (s : Words) (r : Rule k s) (id : ℕ) (hist : List Entry) 
           drawers = r.whole.drawers;
           room = r.whole.room;
           opened = r.whole.opened;
-          stood = stood_same k s r id hist x at may.stage lost_view refl refl refl live (more_same live);
+          stood = stood_same k s r id hist x at may.stage lost_view refl refl refl refl live (more_same live);
           area = record { room = G.area.room; free = G.area.free; classes = G.area.classes };
           making = record { fits = G.making.fits; written = G.making.written };
           hunter = record {
@@ -952,7 +952,7 @@ module _ (k : Config) (s : Words) (r : Rule k s) (id : ℕ) (hist : List Entry) 
           drawers = drawers2;
           room = room2;
           opened = opened2;
-          stood = stood_same k s r id hist x at may.stage won_view refl refl refl live2 more2;
+          stood = stood_same k s r id hist x at may.stage won_view refl refl refl refl live2 more2;
           area = record { room = area.room; free = area.free; classes = area.classes };
           making = record { fits = making.fits; written = making.written };
           hunter = hunter_mine;
@@ -1091,6 +1091,7 @@ claim_closes k x found a old new class c may y fits told = dite (ℕ_discrete fo
         pending = (let n : ℕ = length x.own.pending.items in let e : ℕ = x.own.pending.room in let h : 1 ≤ e = w.room in
             ap (λ (m : ℕ). e - 1 + m) (longer x.own.pending.items (record { copy = c; source = a })) ∙ ((let g : e - 1 + (n + 1) ≡ e + n = omega arith in g) ∙ fits.pending));
         ephemerons = fits.ephemerons;
+        finalisers = fits.finalisers;
       };
       once = promote_once k x y may.stage;
     })

@@ -173,7 +173,7 @@ module _ (k : Config) (s : Words) (r : Rule k s) (id : ℕ) (hist : List Entry) 
             drawers = r.whole.drawers;
             room = room_words k live r.account.pause t.stock s.words ws (λ _. counts) r.whole.room;
             opened = opened_words k live s.words ws (λ _ _ _ _. counts.0) r.whole.opened;
-            stood = stood_same k s r id hist x at promotes (with_hunt x hunt) refl refl refl live (more_same live);
+            stood = stood_same k s r id hist x at promotes (with_hunt x hunt) refl refl refl refl live (more_same live);
             area = record { room = G.area.room; free = G.area.free; classes = G.area.classes };
             making = record { fits = making.fits; written = making.written };
             hunter = hunter';
@@ -303,7 +303,7 @@ module _ (k : Config) (s : Words) (r : Rule k s) (id : ℕ) (hist : List Entry) 
           drawers = record { drawn = r.whole.drawers.drawn; prepared = λ b d is. r.whole.drawers.prepared b d (was b d is).1; claims = r.whole.drawers.claims };
           room = room_words k live r.account.pause t.stock s.words w0 (λ _. counts) r.whole.room;
           opened = opened_words k live s.words w0 (λ _ _ _ _. counts.0) r.whole.opened;
-          stood = stood_same k s r id hist x at promotes y refl refl refl live (more_same live);
+          stood = stood_same k s r id hist x at promotes y refl refl refl refl live (more_same live);
           area = record { room = G.area.room; free = G.area.free; classes = G.area.classes };
           making = record { fits = making.fits; written = making.written };
           hunter = hunter0;
@@ -462,12 +462,13 @@ free_closes k x a pool class slot inside may y fits told =
         prepared = length-set x.own.prepared class None ∙ fits.prepared;
         pending = fits.pending;
         ephemerons = fits.ephemerons;
+        finalisers = fits.finalisers;
       };
       once = promote_once k x y may.stage;
     })
     (λ (not_before : Before → ⊥). let own : y.own ≡ preparing x.own class None = ap (λ (z : DomainView). z.own) (told.later not_before) in record {
       can_write = may.of_class;
       written = λ after wrote. own ∙ sym (wrote.later not_before);
-      fits = subst (OwnFits k) (sym own) record { number = fits.number; used = fits.used; registers = fits.registers; looked = fits.looked; remembered = fits.remembered; prepared = length-set x.own.prepared class None ∙ fits.prepared; pending = fits.pending; ephemerons = fits.ephemerons };
+      fits = subst (OwnFits k) (sym own) record { number = fits.number; used = fits.used; registers = fits.registers; looked = fits.looked; remembered = fits.remembered; prepared = length-set x.own.prepared class None ∙ fits.prepared; pending = fits.pending; ephemerons = fits.ephemerons; finalisers = fits.finalisers };
       once = promote_once k x y may.stage;
     })

@@ -1,6 +1,8 @@
 pub mod Remaking
+pub mod HeldPlaces
 pub mod Meets
 pub mod Registers
+pub mod HeldSteps
 pub mod Places
 pub mod Filling
 pub mod Rewriting

@@ -33,6 +33,9 @@ use Rattle.heap_rule.specs.Raw.{MayStep}
 use Rattle.heap_rule.specs.Rule.{state_of, Rule}
 use Rattle.heap_rule.specs.Views.{one}
 use Rattle.heap_rule.specs.Standing.{IsAt}
+use Rattle.heap_rule.specs.declared.view.Held.{Held}
+use Rattle.heap_rule.specs.Finalisers.{held_at}
+use Rattle.steps_promote.proofs.HeldPlaces.{held_lives}
 use Rattle.steps_promote.specs.Promotion.{form_of, met_of, with_met, meeting, with_copied, learning, Knows, HeadMay, StaysThere, Forwards, HeadMet, LabelMay, LabelMet, HasValueAt, ValueMay, ValueMet, RecallMay, Recalled}
 use Rattle.heap_rule.proofs.Again.{met_fits}
 use Rattle.heap_rule.proofs.Beside.{extent_of}
@@ -130,7 +133,7 @@ module _ (k : Config) (s : Words) (r : Rule k s) (id : ℕ) (hist : List Entry) 
         drawers = r.whole.drawers;
         room = r.whole.room;
         opened = r.whole.opened;
-        stood = stood_same k s r id hist x at promotes y refl refl refl live (more_same live);
+        stood = stood_same k s r id hist x at promotes y refl refl refl refl live (more_same live);
         area = record { room = g.area.room; free = g.area.free; classes = g.area.classes };
         making = record { fits = g.making.fits; written = g.making.written };
         hunter = hunter_as k r.account.tenancy s.words x y refl refl refl refl refl refl g.hunter;
@@ -161,7 +164,10 @@ module _ (k : Config) (s : Words) (r : Rule k s) (id : ℕ) (hist : List Entry) 
   source : (a : ℕ) → HeadMay x a → (p : Place) × (live a ≡ Some p)
   source a may = ⊎_elim
       (λ (t : (p : Place) × (Knows x a ≡ Some p)). let l = knows a t.0 t.1 in (l.place, l.lives))
+      (λ z. ⊎_elim
       (λ (t : (q : ℕ) × IsAt x q a). let l = lives_at k s r id hist x at t.0 a t.1 in (l.place, l.lives))
+      (λ (t : (h : Held) × (held_at x.own.finalisers h ≡ Some a)). let l = (held_lives live now x.own.number x.own.finalisers (my_good k s r id hist x at).stood.enrolled t.0 a t.1).lives in (l.0, l.1))
+      z)
       may.from
 
   record HeadStep (a found : ℕ) : Type 0 where

@@ -144,7 +144,7 @@ module _ (k : Config) (s : Words) (r : Rule k s) (id : ℕ) (hist : List Entry) 
         drawers = r.whole.drawers;
         room = room_words k after r.account.pause t.stock s.words words' (λ _. counts) (room_forth k before after r.account.pause t.stock s.words forth1 back1 r.whole.room);
         opened = opened_words k after s.words words' (λ _ _ _ _. counts.0) (opened_back k before after s.words back1 r.whole.opened);
-        stood = stood_same k s r id hist x at promotes y number (ap (λ (z : Own). z.registers) o.own) (ap (λ (z : Own). z.serial) o.own) after more1;
+        stood = stood_same k s r id hist x at promotes y number (ap (λ (z : Own). z.registers) o.own) (ap (λ (z : Own). z.serial) o.own) (ap (λ (z : Own). z.finalisers) o.own) after more1;
         area = subst (λ (z : Own). Area k after (record y { own = z })) (sym o.own) record { room = area.room; free = area.free; classes = area.classes };
         making = making_as making;
         hunter = hunter_as k t words' x y number o.hunt (ap (λ (z : Own). z.looked) o.own) o.free (ap (λ (z : Own). z.prepared) o.own) (ap (λ (z : Own). length z.pending.items) o.own) (o.hunters x g.hunter);

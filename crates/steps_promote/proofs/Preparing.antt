@@ -232,7 +232,7 @@ module _ (k : Config) (s : Words) (r : Rule k s) (id : ℕ) (hist : List Entry) 
         drawers = drawers';
         room = room_words k live r.account.pause t.stock s.words ws (λ _. counts) r.whole.room;
         opened = opened_words k live s.words ws (λ _ _ _ _. counts.0) r.whole.opened;
-        stood = stood_same k s r id hist x at may.stage y refl refl refl live (more_same live);
+        stood = stood_same k s r id hist x at may.stage y refl refl refl refl live (more_same live);
         area = record { room = G.area.room; free = G.area.free; classes = G.area.classes };
         making = record { fits = making.fits; written = making.written };
         hunter = hunter';
@@ -259,7 +259,7 @@ pub prepared_closes : (k : Config) (x y : DomainView) (class : ℕ) (v : Option 
 prepared_closes k x y class v can writes promotes allowed wrote fits own = record {
   can_write = allowed;
   written = wrote;
-  fits = subst (OwnFits k) (sym own) record { number = fits.number; used = fits.used; registers = fits.registers; looked = fits.looked; remembered = fits.remembered; prepared = length-set x.own.prepared class v ∙ fits.prepared; pending = fits.pending; ephemerons = fits.ephemerons };
+  fits = subst (OwnFits k) (sym own) record { number = fits.number; used = fits.used; registers = fits.registers; looked = fits.looked; remembered = fits.remembered; prepared = length-set x.own.prepared class v ∙ fits.prepared; pending = fits.pending; ephemerons = fits.ephemerons; finalisers = fits.finalisers };
   once = promote_once k x y promotes;
 }
 

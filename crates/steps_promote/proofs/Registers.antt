@@ -18,6 +18,7 @@ use Rattle.heap_rule.specs.declared.phase.Kind.TheVariants.{Run, Promote}
 use Rattle.heap_rule.specs.declared.phase.Stage.{Stage}
 use Rattle.heap_rule.specs.declared.phase.Stage.TheVariants.{In}
 use Rattle.heap_rule.specs.Changes.{value_at}
+use Rattle.heap_rule.specs.Finalisers.{FinalisersFit}
 use Rattle.heap_rule.specs.Places.{Place, Live, Stands, More}
 use Rattle.heap_rule.specs.Raw.{StepsOnce, MayStep, Closes}
 use Rattle.heap_rule.specs.Rule.{state_of, Rule, Stood}
@@ -62,6 +63,7 @@ module _ (k : Config) (s : Words) (r : Rule k s) (id : ℕ) (hist : List Entry) 
             (subst (λ (z : Value). Stands live z (register now x.own.number reg)) (sym (get_or-set_same regs reg (Ref copy) NothingWord (let w : length regs ≡ 16 = st.wide in let f = may.few in let n : ℕ = length regs in let e : n ≡ 16 = w in let o : reg < n = omega arith in o))) (moved_stands reg copy may)))
             (λ other. subst (λ (z : Value). Stands live z (register now x.own.number q)) (sym (get_or-set_other regs reg q (Ref copy) NothingWord other)) (st.each q few));
         serial = st.serial;
+        enrolled = st.enrolled;
       }
 
   moves_rule : (reg copy : ℕ) → MoveMay x reg copy → Rule k record { words = s.words; homes = s.homes; views = set s.views id (one k hist (with_registers x (set x.own.registers reg (Ref copy)))) }
@@ -137,6 +139,7 @@ move_closes k x found reg copy may y fits told =
         prepared = ap (λ (o : Own). length o.prepared) own ∙ fits.prepared;
         pending = ap (λ (o : Own). o.pending.room + length o.pending.items) own ∙ fits.pending;
         ephemerons = subst (λ (o : Own). AllInHeap k o.ephemerons.items) (sym own) fits.ephemerons;
+        finalisers = subst (λ (o : Own). FinalisersFit k o.finalisers) (sym own) fits.finalisers;
       };
       once = promote_once k x y may.stage;
     }

@@ -9,9 +9,11 @@ use Rattle.heap_model.specs.Fronts.{IsFrontOf}
 use Rattle.heap_words.specs.declared.value.Value as words
 use Rattle.heap_rule.specs.declared.config.Config.{Config}
 use Rattle.heap_rule.specs.declared.view.DomainView.{DomainView}
+use Rattle.heap_rule.specs.declared.view.Finalisers.{Finalisers}
 use Rattle.heap_rule.specs.declared.phase.Kind.TheVariants.{Run, Promote}
 use Rattle.heap_rule.specs.declared.phase.Stage.TheVariants.{In}
 use Rattle.heap_rule.specs.Changes.{value_at}
+use Rattle.heap_rule.specs.Finalisers.{Enrolled}
 use Rattle.heap_rule.specs.Copies.{Owes, Copies, Promoting, AllCleared}
 use Rattle.heap_rule.specs.Phases.{Pause, IsInPause}
 use Rattle.heap_rule.specs.Places.{Live, Stands, Placed, Spread, More}
@@ -20,6 +22,7 @@ use Rattle.heap_rule.specs.Room.{Room, Opened}
 use Rattle.heap_rule.specs.Rule.{state_of, AllFound, Stood, Area, Making, Rule}
 use Rattle.heap_rule.specs.Views.{one}
 use Rattle.heap_rule.proofs.Keeps.{Words, Control, mine, my_good, remakes, knows_front, phases_same, cycle_control, stands_more, nobody_leads, takes_drawable, resting_takes, resting_other, cycle_here, sharing_here, sharings_here}
+use Rattle.heap_rule.proofs.FinaliserLemmas.{enrolled_more}
 use Rattle.heap_rule.proofs.PauseFacts.{staged_as, promote_now, promote_here, promote_rests}
 use Rattle.heap_rule.specs.Ephemerons.{IsEpheAt, Listed}
 use Rattle.heap_rule.specs.Rule.{Good}
@@ -95,9 +98,7 @@ module _ (k : Config) (s : Words) (r : Rule k s) (id : ℕ) (hist : List Entry) 
       record {
         wide = o.wide ∙ r.whole.wide;
         legal = r.whole.legal;
-        plain = r.whole.plain;
         full = o.full;
-        queues = r.whole.queues;
         found = o.found;
         placed = o.placed;
         spread = o.spread;
@@ -136,7 +137,7 @@ module _ (k : Config) (s : Words) (r : Rule k s) (id : ℕ) (hist : List Entry) 
         listed = listed_as live' t'.holder t'.garbage x.own.number y.own.number x.own.ephemerons.items y.own.ephemerons.items o.number o.ephemerons (listeds x g);
       }
       (λ z _ other h. record {
-        stood = record { wide = h.stood.wide; each = λ q few. stands_more r.account.live live' (value_at z.own.registers q) (register now z.own.number q) o.more (h.stood.each q few); serial = h.stood.serial };
+        stood = record { wide = h.stood.wide; each = λ q few. stands_more r.account.live live' (value_at z.own.registers q) (register now z.own.number q) o.more (h.stood.each q few); serial = h.stood.serial; enrolled = enrolled_more r.account.live live' now z.own.number z.own.finalisers o.more h.stood.enrolled };
         area = o.areas z other h.area;
         making = o.makings z other h.area h.making;
         staged = h.staged;
@@ -152,9 +153,10 @@ module _ (k : Config) (s : Words) (r : Rule k s) (id : ℕ) (hist : List Entry) 
       })
 
   -- nothing lives elsewhere, and no word changes
-  pub stood_same : (y : DomainView) → y.own.number ≡ x.own.number → y.own.registers ≡ x.own.registers → y.own.serial ≡ x.own.serial → (live' : Live) → More r.account.live live' → Stood live' now y
-  stood_same y number registers serial live' more = let st = (my_good k s r id hist x at).stood in record {
+  pub stood_same : (y : DomainView) → y.own.number ≡ x.own.number → y.own.registers ≡ x.own.registers → y.own.serial ≡ x.own.serial → y.own.finalisers ≡ x.own.finalisers → (live' : Live) → More r.account.live live' → Stood live' now y
+  stood_same y number registers serial finalisers live' more = let st = (my_good k s r id hist x at).stood in record {
     wide = ap (λ (l : List words.Value). length l) registers ∙ st.wide;
     each = λ q few. subst (λ (z : List words.Value × ℕ). Stands live' (value_at z.0 q) (register now z.1 q)) (λ i. (sym registers i, sym number i)) (stands_more r.account.live live' (value_at x.own.registers q) (register now x.own.number q) more (st.each q few));
     serial = serial ∙ (st.serial ∙ ap (λ (d : ℕ). (domain_at now d).serial) (sym number));
+    enrolled = subst (λ (z : Finalisers × ℕ). Enrolled live' now z.1 z.0) (λ i. (sym finalisers i, sym number i)) (enrolled_more r.account.live live' now x.own.number x.own.finalisers more st.enrolled);
   }

@@ -29,6 +29,7 @@ use Rattle.heap_rule.specs.Raw.{MayStep, MayStore, CanLeave, Closes}
 use Rattle.heap_rule.specs.Rule.{state_of, Rule}
 use Rattle.heap_rule.specs.Token.{OwnFits}
 use Rattle.heap_rule.specs.Views.{one}
+use Rattle.steps_promote.proofs.HeldPlaces.{held_lives}
 use Rattle.steps_promote.specs.Promotion.{ResetMay, NoneYoung, reset_view, ResetTold, ResetSeen}
 use Rattle.steps_promote.specs.Writes.{Resets}
 use Rattle.heap_rule.proofs.Again.{ends_low}
@@ -109,7 +110,10 @@ none_young k s r id hist x at resets =
           (λ (garbage : IsTrue (r.account.tenancy.garbage (place_in q c slot))). absurd (no_garbage_here k s r id hist x at Reset tt resets (place_in q c slot) garbage)) y) z)
           (r.whole.grid.places q d c slot holder inside);
       stands = λ q few. subst (λ (log : List Entry). Stands live (value_at x.own.registers q) (register (state_of k log) x.own.number q)) front (g.stood.each q few);
-      registers = λ q few. all_old k live (value_at x.own.registers q) (register (state_of k r.account.log) x.own.number q) pools (g.stood.each q few);
+      registers = (
+        λ q few. all_old k live (value_at x.own.registers q) (register (state_of k r.account.log) x.own.number q) pools (g.stood.each q few),
+        λ h a is. let l = held_lives live (state_of k r.account.log) x.own.number x.own.finalisers g.stood.enrolled h a is in pools a l.lives.0 l.lives.1,
+      );
     }
 
 pub seen_may : (k : Config) (x : DomainView) (word a : ℕ) → word ≡ before_heap k + a → x.seen.stage ≡ In Reset → MayStep k x word (λ n. n) (ResetSeen k a)
@@ -150,11 +154,12 @@ reset_may k x word a new place may fits slots id hist s r _ at _ =
       registers = refl;
       arrivals = refl;
       ephemerons = refl;
+      finalisers = refl;
       wide = length-set s.words (before_heap k + a) new;
       controls = controls_kept k s r id hist x at ws (control_set k s.words a new (omega arith));
       found = λ b q lives. let f = r.whole.found b q lives in found_beside k r.account.cycling.paint r.account.live r.account.live (state_of k r.account.log).graph (state_of k r.account.log).graph s.words a new b q (more_same r.account.live) f f.there
           (λ z inside e. let n : ℕ = extent q.shape in let h : b + n ≤ base = below b q lives in let i : z < n = inside in let o : b + z ≡ a = e in omega arith);
-      stood = record { wide = g.stood.wide; each = g.stood.each; serial = g.stood.serial };
+      stood = record { wide = g.stood.wide; each = g.stood.each; serial = g.stood.serial; enrolled = g.stood.enrolled };
       area = record { room = (let o : 0 ≤ minor = omega arith in o); free = λ b q lives. inl (let n : ℕ = extent q.shape in let h : b + n ≤ base = below b q lives in let o : b + n ≤ base + 0 = omega arith in o); classes = λ b q lives young. absurd (let low : b ≤ k.pools * 4096 = emptied b q lives in omega arith) };
       making = record { fits = λ j w got. absurd (none_made x.seen.made j w may.blank got); written = λ j w got. absurd (none_made x.seen.made j w may.blank got) };
       makings = λ z other _ p. making_beside k s.words a new z (area_word_far k x.own.number a z (let o : base ≤ a = omega arith in o) (let h : 0 < minor = may.some in let o : a < base + minor = omega arith in o) other) p;
@@ -177,6 +182,6 @@ pub reset_closes : (k : Config) (x : DomainView) (found a : ℕ) → ResetMay k 
 reset_closes k x found a may y fits told = let own = ap (λ (z : DomainView). z.own) told.view in record {
   can_write = tt;
   written = λ after wrote. own ∙ sym wrote;
-  fits = subst (λ (z : DomainView). OwnFits k z.own) (sym told.view) record { number = fits.number; used = omega arith; registers = fits.registers; looked = fits.looked; remembered = λ i b e. cc; prepared = fits.prepared; pending = fits.pending; ephemerons = fits.ephemerons };
+  fits = subst (λ (z : DomainView). OwnFits k z.own) (sym told.view) record { number = fits.number; used = omega arith; registers = fits.registers; looked = fits.looked; remembered = λ i b e. cc; prepared = fits.prepared; pending = fits.pending; ephemerons = fits.ephemerons; finalisers = fits.finalisers };
   once = λ runs. absurd (let e : ◌≡◌ {A = Stage} (In Reset) (In Run) = sym may.stage ∙ runs in cc);
 }

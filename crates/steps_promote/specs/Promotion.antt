@@ -1,5 +1,5 @@
 -- What the steps ask and tell by which young blocks are copied: loads at which blocks are met, stores to copies, and the roots ("Retrofitting Parallelism onto OCaml", section 3.2).
-use Rattle.std.specs.Prelude.{◌≡◌, ℕ, ◌+◌, ◌*◌, ◌<◌, ◌≤◌, ◌⊎◌, List, [], ◌∷◌, length, slice_get, slice_set, Some, ◌≢◌}
+use Rattle.std.specs.Prelude.{◌≡◌, ℕ, zero, suc, ◌+◌, ◌*◌, ◌<◌, ◌≤◌, ◌⊎◌, List, [], ◌∷◌, length, slice_get, slice_set, Some, ◌≢◌}
 use Rattle.heap_model.specs.declared.label.Label.{Label}
 use Rattle.heap_model.specs.declared.graph.Value as model
 use Rattle.heap_model.specs.declared.graph.Node.{Node}
@@ -20,6 +20,11 @@ use Rattle.heap_rule.specs.declared.view.Form.TheVariants.{Plain, Ephe}
 use Rattle.heap_rule.specs.declared.view.Met.{Met}
 use Rattle.heap_rule.specs.declared.view.Owing.{Owing}
 use Rattle.heap_rule.specs.declared.view.DomainView.{DomainView}
+use Rattle.heap_rule.specs.declared.view.Finalisers.{Finalisers}
+use Rattle.heap_rule.specs.declared.view.Held.{Held}
+use Rattle.heap_rule.specs.declared.view.Held.TheVariants.{Final, Last, Queue}
+use Rattle.heap_rule.specs.declared.view.Waiting.{Waiting}
+use Rattle.heap_rule.specs.declared.view.Waiting.TheVariants.{Fin, Last as LastWaiting}
 use Rattle.heap_rule.specs.declared.phase.Kind.TheVariants.{Promote, Reset}
 use Rattle.heap_rule.specs.declared.phase.Stage.TheVariants.{In}
 use Rattle.heap_rule.specs.Layout.{base_of, at_address, owner_of}
@@ -27,6 +32,7 @@ use Rattle.heap_rule.specs.Places.{Place, Live, extent, values_of, IsHeadOf, IsN
 use Rattle.heap_rule.specs.Changes.{value_at}
 use Rattle.heap_rule.specs.Pools.{owned, owner_word, blocks_of, place_in}
 use Rattle.heap_rule.specs.Copies.{HasCopy, HoldsOld, known}
+use Rattle.heap_rule.specs.Finalisers.{held_at, FinalisersFit}
 use Rattle.heap_rule.specs.Rule.{state_of}
 use Rattle.heap_rule.specs.Standing.{IsAt, IsInHeap, with_registers}
 use Rattle.heap_rule.specs.Token.{Holds}
@@ -64,10 +70,10 @@ Knows x = known x.seen.copying.met
 abbrev pub AllFit : Config → DomainView → Type 0
 AllFit k x = (a : ℕ) (p : Place) → Knows x a ≡ Some p → Fits k a p
 
--- a load of the head of a block that was met, or that a register holds
+-- a load of the head of a block that was met, or to which a register or a list of finalisers refers
 pub record HeadMay (x : DomainView) (at : ℕ) : Type 0 where
   pub stage : x.seen.stage ≡ In Promote
-  pub from : ((p : Place) × (Knows x at ≡ Some p)) ⊎ ((r : ℕ) × IsAt x r at)
+  pub from : ((p : Place) × (Knows x at ≡ Some p)) ⊎ ((r : ℕ) × IsAt x r at) ⊎ ((h : Held) × (held_at x.own.finalisers h ≡ Some at))
 
 -- the block doesn't forward: its head is that of its shape, and one of a minor area has that of a new block, as far as the colours are known
 pub record StaysThere (k : Config) (at : ℕ) (place : Place) (x : DomainView) (found : ℕ) (y : DomainView) : Type 0 where
@@ -196,6 +202,42 @@ pub record MoveMay (x : DomainView) (register copy : ℕ) : Type 0 where
 pub record MoveTold (k : Config) (register copy : ℕ) (x : DomainView) (found : ℕ) (y : DomainView) : Type 0 where
   pub view : y ≡ with_registers x (slice_set x.own.registers register (Ref copy))
   pub holds : Holds k y.own.registers
+
+-- a list in which one item, if it is there, is another
+abbrev pub changed_at : {A : Type 0} → (A → A) → List A → ℕ → List A
+changed_at change [] i = []
+changed_at change (x ∷ xs) zero = change x ∷ xs
+changed_at change (x ∷ xs) (suc i) = x ∷ changed_at change xs i
+
+-- an item of a queue with another address, if it has one
+abbrev pub waiting_at : ℕ → Waiting → Waiting
+waiting_at a (Fin address number register) = Fin a number register
+waiting_at a (LastWaiting number) = LastWaiting number
+
+-- the lists of finalisers with another address at one place
+abbrev pub with_held : Finalisers → Held → ℕ → Finalisers
+with_held fs (Final i) a = record fs { finals = record fs.finals { items = changed_at (λ r. record r { address = a }) fs.finals.items i } }
+with_held fs (Last i) a = record fs { lasts = record fs.lasts { items = changed_at (λ r. record r { address = a }) fs.lasts.items i } }
+with_held fs (Queue i) a = record fs { queue = record fs.queue { items = changed_at (waiting_at a) fs.queue.items i } }
+
+-- the domain with other lists of finalisers
+abbrev pub with_finalisers : DomainView → Finalisers → DomainView
+with_finalisers x fs = record x { own = record x.own { finalisers = fs } }
+
+-- a place of these lists that has the address of a block that was met gets that of its copy
+pub record HeldMoveMay (x : DomainView) (held : Held) (copy : ℕ) : Type 0 where
+  pub stage : x.seen.stage ≡ In Promote
+  pub address : ℕ
+  pub holds : held_at x.own.finalisers held ≡ Some address
+  pub from : Place
+  pub met : Knows x address ≡ Some from
+  pub to : Place
+  pub there : Knows x copy ≡ Some to
+  pub label : to.label ≡ from.label
+
+pub record HeldMoveTold (k : Config) (held : Held) (copy : ℕ) (x : DomainView) (found : ℕ) (y : DomainView) : Type 0 where
+  pub view : y ≡ with_finalisers x (with_held x.own.finalisers held copy)
+  pub fit : FinalisersFit k y.own.finalisers
 
 -- a load of the first field that the domain remembers
 pub record RecallMay (x : DomainView) (at : ℕ) : Type 0 where

@@ -2,9 +2,12 @@
 use Rattle.std.specs.Prelude.{◌≡◌, ◌≢◌, ℕ, ◌+◌, ◌<◌, ◌≤◌, [], length, slice_set, Some, None}
 use Rattle.heap_model.specs.Domains.{class_count}
 use Rattle.heap_words.specs.declared.value.Value.TheVariants.{Ref}
+use Rattle.heap_rule.specs.declared.view.Held.{Held}
 use Rattle.heap_rule.specs.declared.view.Own.{Own}
+use Rattle.heap_rule.specs.Finalisers.{held_at}
 use Rattle.heap_rule.specs.Pools.{spot_at, IsBefore}
 use Rattle.steps_promote.specs.Claims.{preparing, pushed}
+use Rattle.steps_promote.specs.Promotion.{with_held}
 
 -- the class exists, and the place is prepared for it
 abbrev pub CanPrepare : ℕ → Type 0
@@ -33,6 +36,13 @@ CanMove register = register < 16
 
 abbrev pub Moves : ℕ → ℕ → Own → Own → Type 0
 Moves register copy own after = after ≡ record own { registers = slice_set own.registers register (Ref copy) }
+
+-- a place of the lists of finalisers that has an address gets the copy's
+abbrev pub CanMoveHeld : Held → Own → Type 0
+CanMoveHeld held own = (a : ℕ) × (held_at own.finalisers held ≡ Some a)
+
+abbrev pub MovesHeld : Held → ℕ → Own → Own → Type 0
+MovesHeld held copy own after = after ≡ record own { finalisers = with_held own.finalisers held copy }
 
 -- no word of the area is used, and no field is remembered
 abbrev pub Resets : Own → Own → Type 0

@@ -4,9 +4,12 @@ ghost use Rattle.heap_rule.specs.declared.phase.Kind.TheVariants.{Reset};
 ghost use Rattle.heap_rule.specs.declared.phase.Stage.TheVariants.{In};
 ghost use Rattle.heap_rule.specs.Standing.{IsInHeap};
 ghost use Rattle.heap_rule.specs.Token.{IsIn};
-ghost use Rattle.steps_promote.specs.Promotion.{FillMay, FillTold, FilledMay, FilledTold, HeadMay, HeadMet, LabelMay, LabelMet, MoveMay, MoveTold, RecallMay, Recalled, ResetMay, ResetSeen, ResetTold, RewriteMay, RewriteTold, ValueMay, ValueMet};
+ghost use Rattle.steps_promote.specs.Promotion.{FillMay, FillTold, FilledMay, FilledTold, HeadMay, HeadMet, HeldMoveMay, HeldMoveTold, LabelMay, LabelMet, MoveMay, MoveTold, RecallMay, Recalled, ResetMay, ResetSeen, ResetTold, RewriteMay, RewriteTold, ValueMay, ValueMet};
 
-use heap_rule::{Change, Domain, Heap, Leaving, Own, Writing, raw_load, raw_store};
+use heap_rule::{
+    Change, Domain, Heap, Held, Leaving, Own, Registered, RegisteredLast, Waiting, Writing,
+    raw_load, raw_store,
+};
 use heap_words::Value;
 use std::marker::Brand;
 
@@ -46,6 +49,53 @@ impl Writing for Moving {
     }
 }
 
+// A place of the lists of finalisers gets the address of a copy.
+#[derive(Clone, Copy)]
+struct Holding {
+    held: Held,
+    copy: u32,
+}
+
+impl Writing for Holding {
+    ghost use Rattle.steps_promote.specs.Writes.{CanMoveHeld, MovesHeld};
+
+    ghost can = { λ s _ _ own. CanMoveHeld s.held own };
+
+    ghost writes = { λ s _ _ own after. MovesHeld s.held s.copy own after };
+
+    fn write(&self, _found: u64, _changes: &[Change], own: &mut Own) {
+        let address = self.copy;
+        match self.held {
+            Held::Final(i) => {
+                let item = own.finalisers.finals.get(i as usize);
+                let moved = Registered { address, ..item };
+                own.finalisers.finals.set(i as usize, moved);
+            }
+            Held::Last(i) => {
+                let item = own.finalisers.lasts.get(i as usize);
+                let moved = RegisteredLast { address, ..item };
+                own.finalisers.lasts.set(i as usize, moved);
+            }
+            Held::Queue(i) => {
+                let Waiting::Fin {
+                    number,
+                    register,
+                    ..
+                } = own.finalisers.queue.get(i as usize)
+                else {
+                    unreachable!()
+                };
+                let moved = Waiting::Fin {
+                    address,
+                    number,
+                    register,
+                };
+                own.finalisers.queue.set(i as usize, moved);
+            }
+        }
+    }
+}
+
 // No word of the area is used, and no field is remembered.
 #[derive(Clone, Copy)]
 struct Resetting;
@@ -64,8 +114,9 @@ impl Writing for Resetting {
     }
 }
 
-/// A load of the head of a block that was met, or that a register holds. The block is met, and so is
-/// its copy where it forwards to one. `at` is the block's address. Answers the head's word.
+/// A load of the head of a block that was met, or to which a register or a list of finalisers refers.
+/// The block is met, and so is its copy where it forwards to one. `at` is the block's address. Answers
+/// the head's word.
 pub fn young_head_load(heap: &Heap, dom: &mut Domain, at: u32) -> u64
     requires here { IsIn dom.old heap.now }
     requires inside { IsInHeap heap.now.config at }
@@ -149,6 +200,19 @@ pub fn register_move(heap: &Heap, dom: &mut Domain, at: u32, register: u8, copy:
 {
     let index = heap.index_of(at);
     raw_load::<Brand, Moving>(heap, dom, index, &Moving { register, copy }, &[])
+}
+
+/// A place of the lists of finalisers that has the address of a block that was met gets that of its
+/// copy. A load of any word of the heap. Answers the word.
+pub fn held_move(heap: &Heap, dom: &mut Domain, at: u32, held: Held, copy: u32) -> u64
+    requires here { IsIn dom.old heap.now }
+    requires inside { IsInHeap heap.now.config at }
+    requires may { HeldMoveMay dom.old.view held copy }
+    ensures here { IsIn dom.new heap.now }
+    ensures told { HeldMoveTold heap.now.config held copy dom.old.view result dom.new.view }
+{
+    let index = heap.index_of(at);
+    raw_load::<Brand, Holding>(heap, dom, index, &Holding { held, copy }, &[])
 }
 
 /// A load of the first field that the domain has to look through. The block that has the field is

@@ -31,7 +31,7 @@ use Rattle.heap_rule.specs.Views.{one}
 use Rattle.heap_rule.specs.Rule.{state_of, Rule}
 use Rattle.heap_rule.specs.Standing.{Acts}
 use Rattle.heap_rule.proofs.Keeps.{Words, mine, my_good, no_cycle_here}
-use Rattle.heap_rule.proofs.PlainHistories.{plain_state, plain_opening}
+use Rattle.steps_run.proofs.HistorySizes.{sizes_after}
 use Rattle.steps_run.specs.Ticks.{IsUsedUp}
 
 -- the domain that has a pool
@@ -228,7 +228,7 @@ module _ (k : Config) (s : Words) (r : Rule k s) (id : ℕ) (hist : List Entry) 
   }
     where
       sizes_are : now.sizes ≡ sizes_in k
-      sizes_are = (plain_state (sizes_in k) (opening (sizes_in k)) r.account.log r.whole.plain (plain_opening (sizes_in k))).sizes
+      sizes_are = sizes_after (opening (sizes_in k)) r.account.log
 
       total : (l n c f z : ℕ) → k.pools ≤ l + c + f → f ≤ z → l ≡ n → k.pools ≤ n + z + c
       total l n c f z most few same = omega arith

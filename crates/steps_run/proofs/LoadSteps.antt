@@ -18,9 +18,8 @@ use Rattle.heap_model.specs.declared.graph.Node.TheVariants.{Plain, Raw, Ephe}
 use Rattle.heap_model.specs.declared.state.State as model
 use Rattle.heap_model.specs.Domains.{register, domain_at}
 use Rattle.heap_model.specs.Commands.{shown}
-use Rattle.heap_model.specs.Fronts.{Shape, PlainShape, RawShape, EpheShape, shape_of, IsCalm}
+use Rattle.heap_model.specs.Fronts.{Shape, PlainShape, RawShape, EpheShape, shape_of}
 use Rattle.heap_model.proofs.Histories.FrontLemmas.{front_whole}
-use Rattle.heap_model.proofs.Commands.FrameLemmas.{calm_command}
 use Rattle.heap_model.proofs.Commands.LeavesLemmas.{leaves_load, leaves_load_past, leaves_store_past, leaves_load_kind, leaves_store_kind}
 use Rattle.heap_words.specs.declared.value.Value.{Value}
 use Rattle.heap_words.specs.declared.value.Value.TheVariants.{Nothing as NothingWord}
@@ -38,8 +37,9 @@ use Rattle.heap_rule.specs.Standing.{Acts, IsAt, with_front}
 use Rattle.steps_run.specs.Loads.{subject, place_of, HeadEntry, HeadMay, HeadTold, HeadCase, LabelMay, LabelTold, FieldLoadMay, FieldLoadEntry, FieldRead}
 use Rattle.heap_rule.proofs.ChangeLemmas.{registers_of}
 use Rattle.heap_rule.proofs.Values.{AllStand, stand_set, not_nothing, packable, shows}
-use Rattle.heap_rule.proofs.Keeps.{after_entry, Words, IsCommand, mine, my_good, own, looks, unmoved, run_settled, run_calm, whole_here}
-use Rattle.heap_rule.proofs.Entering.{running, inside_state, registers_stand, Enters, entered_view, enters_rule, enters, enters_command, may_begin}
+use Rattle.heap_rule.proofs.Keeps.{after_entry, Words, IsOfTrace, mine, my_good, own, looks, unmoved, run_settled, whole_here}
+use Rattle.heap_rule.proofs.Entering.{running, inside_state, registers_stand, Enters, entered_view, enters_rule, enters, enters_command, may_begin, open_after}
+use Rattle.heap_rule.proofs.FinaliserLemmas.{work_command}
 use Rattle.heap_rule.proofs.Blocks.{Lives, lives_at, found_at, plain_at, plain_inside, field_at, shape_at}
 use Rattle.heap_rule.proofs.HeadLemmas.{packable_head, colour_small}
 
@@ -54,7 +54,7 @@ looks_at x a (Command d (Load dst src i) false) may = may.1
 looks_at x a (Command d (Store block i item) false) may = may.1
 looks_at x a _ may = absurd may
 
-head_command : (x : DomainView) (a : ℕ) (e : Entry) → HeadEntry x a e → IsCommand e
+head_command : (x : DomainView) (a : ℕ) (e : Entry) → HeadEntry x a e → IsOfTrace e
 head_command x a (Command d (Load dst src i) false) may = tt
 head_command x a (Command d (Store block i item) false) may = tt
 head_command x a _ may = absurd may
@@ -69,9 +69,6 @@ module _ (k : Config) (s : Words) (r : Rule k s) (id : ℕ) (hist : List Entry) 
   abbrev theirs : List graph_value.Value
   theirs = (domain_at now d).registers
 
-  calm : IsCalm now
-  calm = run_calm k s r id hist x at acts.runs
-
   stand : AllStand r.account.live x.own.registers theirs
   stand = registers_stand k s r id hist x at acts
 
@@ -79,12 +76,12 @@ module _ (k : Config) (s : Words) (r : Rule k s) (id : ℕ) (hist : List Entry) 
   past_entry : (a : ℕ) (e : Entry) → HeadEntry x a e → (n tag : ℕ) (b : Lives k s r id hist x at (subject e) a) → b.place.shape ≡ PlainShape n tag → n ≤ place_of e → Enters k s r id hist x at acts e x.own.registers (Replied BadIndex)
   past_entry a (Command j (Load dst src i) false) may n tag b is past =
       let p = plain_at k s r id hist x at src a b n tag is in
-      subst (λ (m : ℕ). Enters k s r id hist x at acts (Command m (Load dst src i) false) x.own.registers (Replied BadIndex)) (sym may.0) (enters_command k s r id hist x at acts now.graph (Load dst src i) tt (may_begin k s r id hist x at acts) x.own.registers _ (theirs)
+      subst (λ (m : ℕ). Enters k s r id hist x at acts (Command m (Load dst src i) false) x.own.registers (Replied BadIndex)) (sym may.0) (enters_command k s r id hist x at acts now.graph (Load dst src i) refl (may_begin k s r id hist x at acts) x.own.registers _ (theirs)
       (stand)
       (leaves_load_past now d dst src i p.label p.tag p.fields p.held p.node (let l = p.size in omega arith)))
   past_entry a (Command j (Store block i item) false) may n tag b is past =
       let p = plain_at k s r id hist x at block a b n tag is in
-      subst (λ (m : ℕ). Enters k s r id hist x at acts (Command m (Store block i item) false) x.own.registers (Replied BadIndex)) (sym may.0) (enters_command k s r id hist x at acts now.graph (Store block i item) tt (may_begin k s r id hist x at acts) x.own.registers _ (theirs)
+      subst (λ (m : ℕ). Enters k s r id hist x at acts (Command m (Store block i item) false) x.own.registers (Replied BadIndex)) (sym may.0) (enters_command k s r id hist x at acts now.graph (Store block i item) refl (may_begin k s r id hist x at acts) x.own.registers _ (theirs)
       (stand)
       (leaves_store_past now d block i item p.label p.tag p.fields p.held p.node (let l = p.size in omega arith)
       (not_nothing r.account.live (value_at x.own.registers item) (register now d item) may.3 (stand.each item may.2))))
@@ -95,13 +92,13 @@ module _ (k : Config) (s : Words) (r : Rule k s) (id : ℕ) (hist : List Entry) 
   kind_entry a (Command j (Load dst src i) false) may keys b is =
       let f = found_at k s r id hist x at src a b in
       let p = ephe_of f.node keys (f.shape ∙ is) in
-      subst (λ (m : ℕ). Enters k s r id hist x at acts (Command m (Load dst src i) false) x.own.registers (Replied BadType)) (sym may.0) (enters_command k s r id hist x at acts now.graph (Load dst src i) tt (may_begin k s r id hist x at acts) x.own.registers _ (theirs)
+      subst (λ (m : ℕ). Enters k s r id hist x at acts (Command m (Load dst src i) false) x.own.registers (Replied BadType)) (sym may.0) (enters_command k s r id hist x at acts now.graph (Load dst src i) refl (may_begin k s r id hist x at acts) x.own.registers _ (theirs)
       (stand)
       (leaves_load_kind now d dst src i b.place.label p.0 p.1 b.held (f.there ∙ ap Some p.2)))
   kind_entry a (Command j (Store block i item) false) may keys b is =
       let f = found_at k s r id hist x at block a b in
       let p = ephe_of f.node keys (f.shape ∙ is) in
-      subst (λ (m : ℕ). Enters k s r id hist x at acts (Command m (Store block i item) false) x.own.registers (Replied BadType)) (sym may.0) (enters_command k s r id hist x at acts now.graph (Store block i item) tt (may_begin k s r id hist x at acts) x.own.registers _ (theirs)
+      subst (λ (m : ℕ). Enters k s r id hist x at acts (Command m (Store block i item) false) x.own.registers (Replied BadType)) (sym may.0) (enters_command k s r id hist x at acts now.graph (Store block i item) refl (may_begin k s r id hist x at acts) x.own.registers _ (theirs)
       (stand)
       (leaves_store_kind now d block i item b.place.label p.0 p.1 b.held (f.there ∙ ap Some p.2)))
   kind_entry a _ may keys b is = absurd may
@@ -112,9 +109,9 @@ module _ (k : Config) (s : Words) (r : Rule k s) (id : ℕ) (hist : List Entry) 
     rule : Rule k record { words = s.words; homes = s.homes; views = set s.views id (one k hist after) }
     told : HeadCase k a e shape x after
 
-  refusal : (a : ℕ) (e : Entry) (shape : Shape) (answer : Rattle.heap_model.specs.declared.reply.Applied.Applied) → IsCommand e → Enters k s r id hist x at acts e x.own.registers answer
+  refusal : (a : ℕ) (e : Entry) (shape : Shape) (answer : Rattle.heap_model.specs.declared.reply.Applied.Applied) → IsOfTrace e → Enters k s r id hist x at acts e x.own.registers answer
       → HeadCase k a e shape x (entered_view k s r id hist x at acts e x.own.registers) → HeadStep a e shape
-  refusal a e shape answer command o told = record { after = entered_view k s r id hist x at acts e x.own.registers; rule = enters_rule k s r id hist x at acts e x.own.registers answer o command; told = told }
+  refusal a e shape answer of_trace o told = record { after = entered_view k s r id hist x at acts e x.own.registers; rule = enters_rule k s r id hist x at acts e x.own.registers answer o of_trace; told = told }
 
   head_step : (a : ℕ) (e : Entry) → HeadEntry x a e → (shape : Shape) (b : Lives k s r id hist x at (subject e) a) → b.place.shape ≡ shape → HeadStep a e shape
   head_step a e may (EpheShape keys) b is =
@@ -197,9 +194,9 @@ field_entry k s r id hist x at a dst src i changes may =
     let d : ℕ = x.own.number in
     let theirs : List graph_value.Value = (domain_at now d).registers in record {
       alone = λ m other. ne_eqb d m (λ e. other (sym e));
-      plain = tt;
       allowed = record { running = running k s r id hist x at may.acts; fits = may_begin k s r id hist x at may.acts; full_fits = tt };
-      calm = calm_command now d (Load dst src i) false (run_calm k s r id hist x at may.acts.runs);
+      is_open = open_after k s r id hist x at may.acts (Load dst src i) false;
+      work = work_command now d (Load dst src i) false refl;
       theirs = set theirs dst f.value;
       stand = subst (λ (l : List Value). AllStand r.account.live l (set theirs dst f.value)) (sym (ap registers_of (may.written f.stands.value)))
           (stand_set r.account.live x.own.registers theirs dst f.stands.value f.value may.goes f.stands.stands (registers_stand k s r id hist x at may.acts));

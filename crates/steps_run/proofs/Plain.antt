@@ -16,6 +16,7 @@ use Rattle.heap_rule.specs.declared.config.Config.{Config}
 use Rattle.heap_rule.specs.declared.view.Own.{Own}
 use Rattle.heap_rule.specs.declared.view.DomainView.{DomainView}
 use Rattle.heap_rule.specs.Changes.{changed, FitChanges}
+use Rattle.heap_rule.specs.Finalisers.{FinalisersFit}
 use Rattle.heap_rule.specs.Raw.{StepsOnce, CanChange, Changes, Written, Closes}
 use Rattle.heap_rule.proofs.Plain.{fits_changed, entered_own, enters_once, changed_unread, entered_closes}
 use Rattle.heap_rule.proofs.Closes.{front_same}
@@ -64,6 +65,7 @@ store_closes k x at new remembers e changes inside can y p told =
         prepared = ap (λ (o : Own). length o.prepared) rest ∙ p.prepared;
         pending = ap (λ (o : Own). o.pending.room + length o.pending.items) rest ∙ p.pending;
         ephemerons = subst (λ (o : Own). AllInHeap k o.ephemerons.items) (sym rest) p.ephemerons;
+        finalisers = subst (λ (o : Own). FinalisersFit k o.finalisers) (sym rest) p.finalisers;
       };
       once = λ _. inr (record { entry = e; answer = Replied Done; answers = told.answers });
     }

@@ -61,7 +61,7 @@ field_value k s r id hist x at a new remembers block i item changes may =
       packs = may.word;
       exact = may.exact;
       same = may.same;
-      plain = tt;
+      unregistering = refl;
       fits = may_begin k s r id hist x at may.acts;
       leaves = leaves_store now d block i item f.place.label f.tag f.fields v f.value f.held f.node f.there refl (not_nothing r.account.live w v may.full (stand.each item may.from));
     }

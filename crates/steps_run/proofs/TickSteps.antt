@@ -5,7 +5,7 @@ use mathlib.Core.Option.{some}
 use lib.ListN.{get_elem?}
 use Rattle.atomic_table.specs.Table.{keeps, Allows}
 use Rattle.heap_model.specs.declared.command.Command as model_command
-use Rattle.heap_model.specs.declared.command.Command.TheVariants.{PutInt, Copy, Forget, Alloc, AllocMaj, Load, Store, Raw as NewRaw, Ephe as NewEphe, SetKey, UnsetKey, GetKey, CheckKey, SetData, UnsetData, GetData, CheckData, Poll, Minor, Major}
+use Rattle.heap_model.specs.declared.command.Command.TheVariants.{PutInt, Copy, Forget, Alloc, AllocMaj, Load, Store, Raw as NewRaw, Ephe as NewEphe, SetKey, UnsetKey, GetKey, CheckKey, SetData, UnsetData, GetData, CheckData, Finalise, FinaliseLast, Poll, Minor, Major}
 use Rattle.heap_model.specs.declared.entry.Entry.{Entry}
 use Rattle.heap_model.specs.declared.entry.Entry.TheVariants.{Command}
 use Rattle.heap_model.specs.declared.reply.Applied.TheVariants.{Replied}
@@ -15,9 +15,7 @@ use Rattle.heap_model.specs.declared.graph.Value.TheVariants.{Int, Nothing}
 use Rattle.heap_model.specs.declared.state.Mode.TheVariants.{Open}
 use Rattle.heap_model.specs.declared.state.State as model
 use Rattle.heap_model.specs.Domains.{domain_at, register, label_in}
-use Rattle.heap_model.specs.Commands.{FitsMode, is_allocation, outcome, only_replies, block_in, at_ephe, key_set, key_stored, datum_set, datum_stored, in_bounds, read_into, tells, key_value, is_full_value}
-use Rattle.heap_model.specs.Fronts.{IsCalm}
-use Rattle.heap_model.proofs.Commands.FrameLemmas.{calm_command}
+use Rattle.heap_model.specs.Commands.{Outcome, FitsMode, is_allocation, outcome, only_replies, after_command, finalised, finalised_last, block_in, at_ephe, key_set, key_stored, datum_set, datum_stored, in_bounds, read_into, tells, key_value, is_full_value}
 use Rattle.heap_model.proofs.Commands.LeavesLemmas.{leaves_put, leaves_copy, leaves_forget, leaves_poll, leaves_full, leaves_load_type, leaves_store_type, leaves_store_nothing, leaves_minor, leaves_major, no_block}
 use Rattle.heap_words.specs.declared.value.Value.{Value}
 use Rattle.heap_words.specs.declared.value.Value.TheVariants.{Int as IntWord, Nothing as NothingWord}
@@ -29,15 +27,15 @@ use Rattle.heap_rule.specs.Changes.{value_at, changed}
 use Rattle.heap_rule.specs.Views.{one, Tells}
 use Rattle.heap_rule.specs.Raw.{MayStep}
 use Rattle.heap_rule.specs.Rule.{state_of, Rule}
-use Rattle.heap_rule.specs.Cycles.{IsPlainCommand}
 use Rattle.heap_rule.specs.Standing.{Acts}
 use Rattle.steps_run.specs.Ticks.{is_quiet, TickCommand, TickEntry, TickMay, command_answer, tick_answer, TickTold}
 use Rattle.steps_run.proofs.FullSteps.{may_be_full}
 use Rattle.steps_run.proofs.EphemeronEntries.{leaves_reply, no_key_stored, no_datum_stored}
 use Rattle.heap_rule.proofs.ChangeLemmas.{registers_of}
 use Rattle.heap_rule.proofs.Values.{AllStand, stand_set, no_label, stands_nothing}
-use Rattle.heap_rule.proofs.Keeps.{Words, IsCommand, unmoved, run_calm}
-use Rattle.heap_rule.proofs.Entering.{running, inside_state, registers_stand, Enters, entered_view, enters_rule, enters, enters_command, may_begin}
+use Rattle.heap_rule.proofs.Keeps.{Words, IsOfTrace, unmoved}
+use Rattle.heap_rule.proofs.Entering.{running, inside_state, registers_stand, Enters, entered_view, enters_rule, enters, enters_command, may_begin, open_after}
+use Rattle.heap_rule.proofs.FinaliserLemmas.{KeepsWork, work_with}
 
 -- the mode and the queue fit an allocation
 fits_allocation : (s : model.State) (d : ℕ) (c : model_command.Command) → is_allocation c ≡ true → s.mode ≡ Open → (domain_at s d).queue ≡ [] → FitsMode s d c
@@ -61,9 +59,6 @@ module _ (k : Config) (s : Words) (r : Rule k s) (id : ℕ) (hist : List Entry) 
   abbrev theirs : List model_value.Value
   theirs = (domain_at now d).registers
 
-  calm : IsCalm now
-  calm = run_calm k s r id hist x at acts.runs
-
   stand : AllStand r.account.live x.own.registers theirs
   stand = registers_stand k s r id hist x at acts
 
@@ -74,72 +69,82 @@ module _ (k : Config) (s : Words) (r : Rule k s) (id : ℕ) (hist : List Entry) 
   empty : (q : ℕ) → q < 16 → IsNoBlock (value_at x.own.registers q) → label_in now d q ≡ None
   empty q few none = no_label r.account.live (value_at x.own.registers q) (register now d q) none (stand.each q few)
 
-  -- a command that is refused as there is no ephemeron to look into
-  no_ephemeron : (c : model_command.Command) → IsPlainCommand c → FitsMode now d c → changed NothingWord changes x.own ≡ x.own → outcome now d c ≡ only_replies now BadType → Enters k s r id hist x at acts (Command d c false) regs (Replied BadType)
-  no_ephemeron c plain fits same is = enters_command k s r id hist x at acts now.graph c plain fits regs _ theirs (subst (λ (l : List Value). AllStand r.account.live l theirs) (sym (ap registers_of same)) stand) (leaves_reply now d c BadType is)
+  -- a command that is refused as there is no block to look into
+  refused : (c : model_command.Command) → FitsMode now d c → changed NothingWord changes x.own ≡ x.own → outcome now d c ≡ only_replies now BadType → Enters k s r id hist x at acts (Command d c false) regs (Replied BadType)
+  refused c fits same is = record {
+    alone = λ i other. ne_eqb d i (λ e. other (sym e));
+    allowed = record { running = running k s r id hist x at acts; fits = fits; full_fits = tt };
+    is_open = open_after k s r id hist x at acts c false;
+    work = subst (λ (o : Outcome). KeepsWork now (after_command o.state d) d) (sym is) (work_with now d _ refl refl refl d);
+    theirs = theirs;
+    stand = subst (λ (l : List Value). AllStand r.account.live l theirs) (sym (ap registers_of same)) stand;
+    leaves = leaves_reply now d c BadType is;
+  }
 
   -- a register command: the changed registers stand for those that it leaves
   commands : (c : model_command.Command) → TickCommand x changes c → Enters k s r id hist x at acts (Command d c false) regs (Replied (command_answer c))
-  commands (PutInt dst z) may = enters_command k s r id hist x at acts now.graph (PutInt dst z) tt (may_begin k s r id hist x at acts) regs _ (set theirs dst (Int z))
+  commands (PutInt dst z) may = enters_command k s r id hist x at acts now.graph (PutInt dst z) refl (may_begin k s r id hist x at acts) regs _ (set theirs dst (Int z))
       (subst (λ (l : List Value). AllStand r.account.live l (set theirs dst (Int z))) (sym (ap registers_of may.2)) (stand_set r.account.live x.own.registers theirs dst (IntWord z) (Int z) may.0 (refl, may.1) stand))
       (leaves_put now d inside dst z)
-  commands (Copy dst src) may = enters_command k s r id hist x at acts now.graph (Copy dst src) tt (may_begin k s r id hist x at acts) regs _ (set theirs dst (register now d src))
+  commands (Copy dst src) may = enters_command k s r id hist x at acts now.graph (Copy dst src) refl (may_begin k s r id hist x at acts) regs _ (set theirs dst (register now d src))
       (subst (λ (l : List Value). AllStand r.account.live l (set theirs dst (register now d src))) (sym (ap registers_of may.2))
       (stand_set r.account.live x.own.registers theirs dst (value_at x.own.registers src) (register now d src) may.0 (stand.each src may.1) stand))
       (leaves_copy now d inside dst src)
-  commands (Forget dst) may = enters_command k s r id hist x at acts now.graph (Forget dst) tt (may_begin k s r id hist x at acts) regs _ (set theirs dst Nothing)
+  commands (Forget dst) may = enters_command k s r id hist x at acts now.graph (Forget dst) refl (may_begin k s r id hist x at acts) regs _ (set theirs dst Nothing)
       (subst (λ (l : List Value). AllStand r.account.live l (set theirs dst Nothing)) (sym (ap registers_of may.1)) (stand_set r.account.live x.own.registers theirs dst NothingWord Nothing may.0 tt stand))
       (leaves_forget now d inside dst)
-  commands Poll may = enters_command k s r id hist x at acts now.graph Poll tt (may_begin k s r id hist x at acts) regs _ (theirs)
+  commands Poll may = enters_command k s r id hist x at acts now.graph Poll refl (may_begin k s r id hist x at acts) regs _ (theirs)
       (subst (λ (l : List Value). AllStand r.account.live l theirs) (sym (ap registers_of may)) stand)
       (leaves_poll now d)
-  commands Minor may = enters_command k s r id hist x at acts now.graph Minor tt (may_begin k s r id hist x at acts) regs _ (theirs)
+  commands Minor may = enters_command k s r id hist x at acts now.graph Minor refl (may_begin k s r id hist x at acts) regs _ (theirs)
       (subst (λ (l : List Value). AllStand r.account.live l theirs) (sym (ap registers_of may)) stand)
       (leaves_minor now d)
-  commands Major may = enters_command k s r id hist x at acts now.graph Major tt (may_begin k s r id hist x at acts) regs _ (theirs)
+  commands Major may = enters_command k s r id hist x at acts now.graph Major refl (may_begin k s r id hist x at acts) regs _ (theirs)
       (subst (λ (l : List Value). AllStand r.account.live l theirs) (sym (ap registers_of may)) stand)
       (leaves_major now d)
-  commands (Load dst src i) may = enters_command k s r id hist x at acts now.graph (Load dst src i) tt (may_begin k s r id hist x at acts) regs _ (theirs)
+  commands (Load dst src i) may = enters_command k s r id hist x at acts now.graph (Load dst src i) refl (may_begin k s r id hist x at acts) regs _ (theirs)
       (subst (λ (l : List Value). AllStand r.account.live l theirs) (sym (ap registers_of may.2)) stand)
       (leaves_load_type now d dst src i (no_label r.account.live (value_at x.own.registers src) (register now d src) may.1 (stand.each src may.0)))
-  commands (Store block i item) may = enters_command k s r id hist x at acts now.graph (Store block i item) tt (may_begin k s r id hist x at acts) regs _ (theirs)
+  commands (Store block i item) may = enters_command k s r id hist x at acts now.graph (Store block i item) refl (may_begin k s r id hist x at acts) regs _ (theirs)
       (subst (λ (l : List Value). AllStand r.account.live l theirs) (sym (ap registers_of may.3)) stand)
       (⊎_elim
       (λ (n : IsNoBlock (value_at x.own.registers block)). leaves_store_type now d block i item (no_label r.account.live (value_at x.own.registers block) (register now d block) n (stand.each block may.0)))
       (λ (e : value_at x.own.registers item ≡ NothingWord). leaves_store_nothing now d block i item (stands_nothing r.account.live (register now d item) (subst (λ (v : Value). Stands r.account.live v (register now d item)) e (stand.each item may.1))))
       may.2)
-  commands (SetKey ephe i item) may = no_ephemeron (SetKey ephe i item) tt (may_begin k s r id hist x at acts) may.3 (⊎_elim
+  commands (SetKey ephe i item) may = refused (SetKey ephe i item) (may_begin k s r id hist x at acts) may.3 (⊎_elim
       (λ (n : IsNoBlock (value_at x.own.registers ephe)). no_key_stored now i (label_in now d item) (block_in now d ephe) (no_block now d ephe (empty ephe may.0 n)))
       (λ (n : IsNoBlock (value_at x.own.registers item)). ap (λ (o : Option Label). key_stored now i o (block_in now d ephe)) (empty item may.1 n))
       may.2)
-  commands (UnsetKey ephe i) may = no_ephemeron (UnsetKey ephe i) tt (may_begin k s r id hist x at acts) may.1 (ap (λ b. at_ephe now b (key_set now i None)) (no_block now d ephe (empty ephe may.0.0 may.0.1)))
-  commands (GetKey dst ephe i) may = no_ephemeron (GetKey dst ephe i) tt (may_begin k s r id hist x at acts) may.1
+  commands (UnsetKey ephe i) may = refused (UnsetKey ephe i) (may_begin k s r id hist x at acts) may.1 (ap (λ b. at_ephe now b (key_set now i None)) (no_block now d ephe (empty ephe may.0.0 may.0.1)))
+  commands (GetKey dst ephe i) may = refused (GetKey dst ephe i) (may_begin k s r id hist x at acts) may.1
       (ap (λ b. at_ephe now b (λ l keys datum. in_bounds now (slice_get keys i) (λ o. read_into now d dst (key_value o)))) (no_block now d ephe (empty ephe may.0.0 may.0.1)))
-  commands (CheckKey ephe i) may = no_ephemeron (CheckKey ephe i) tt (may_begin k s r id hist x at acts) may.1
+  commands (CheckKey ephe i) may = refused (CheckKey ephe i) (may_begin k s r id hist x at acts) may.1
       (ap (λ b. at_ephe now b (λ l keys datum. in_bounds now (slice_get keys i) (λ o. tells now (is_some o)))) (no_block now d ephe (empty ephe may.0.0 may.0.1)))
-  commands (SetData ephe item) may = no_ephemeron (SetData ephe item) tt (may_begin k s r id hist x at acts) may.3 (⊎_elim
+  commands (SetData ephe item) may = refused (SetData ephe item) (may_begin k s r id hist x at acts) may.3 (⊎_elim
       (λ (n : IsNoBlock (value_at x.own.registers ephe)). no_datum_stored now (register now d item) (block_in now d ephe) (no_block now d ephe (empty ephe may.0 n)))
       (λ (e : value_at x.own.registers item ≡ NothingWord). ap (datum_stored now (block_in now d ephe)) (stands_nothing r.account.live (register now d item) (subst (λ (v : Value). Stands r.account.live v (register now d item)) e (stand.each item may.1))))
       may.2)
-  commands (UnsetData ephe) may = no_ephemeron (UnsetData ephe) tt (may_begin k s r id hist x at acts) may.1 (ap (λ b. at_ephe now b (datum_set now Nothing)) (no_block now d ephe (empty ephe may.0.0 may.0.1)))
-  commands (GetData dst ephe) may = no_ephemeron (GetData dst ephe) tt (may_begin k s r id hist x at acts) may.1 (ap (λ b. at_ephe now b (λ l keys datum. read_into now d dst datum)) (no_block now d ephe (empty ephe may.0.0 may.0.1)))
-  commands (CheckData ephe) may = no_ephemeron (CheckData ephe) tt (may_begin k s r id hist x at acts) may.1 (ap (λ b. at_ephe now b (λ l keys datum. tells now (is_full_value datum))) (no_block now d ephe (empty ephe may.0.0 may.0.1)))
+  commands (UnsetData ephe) may = refused (UnsetData ephe) (may_begin k s r id hist x at acts) may.1 (ap (λ b. at_ephe now b (datum_set now Nothing)) (no_block now d ephe (empty ephe may.0.0 may.0.1)))
+  commands (GetData dst ephe) may = refused (GetData dst ephe) (may_begin k s r id hist x at acts) may.1 (ap (λ b. at_ephe now b (λ l keys datum. read_into now d dst datum)) (no_block now d ephe (empty ephe may.0.0 may.0.1)))
+  commands (CheckData ephe) may = refused (CheckData ephe) (may_begin k s r id hist x at acts) may.1 (ap (λ b. at_ephe now b (λ l keys datum. tells now (is_full_value datum))) (no_block now d ephe (empty ephe may.0.0 may.0.1)))
+  commands (Finalise item number dst) may = refused (Finalise item number dst) (may_begin k s r id hist x at acts) may.1 (ap (finalised now d number dst) (empty item may.0.0 may.0.1))
+  commands (FinaliseLast item number) may = refused (FinaliseLast item number) (may_begin k s r id hist x at acts) may.1 (ap (finalised_last now d number) (empty item may.0.0 may.0.1))
   commands _ may = absurd may
 
   entries : (e : Entry) → TickEntry k x changes e → Enters k s r id hist x at acts e regs (tick_answer e)
   entries (Command j c false) may = subst (λ (n : ℕ). Enters k s r id hist x at acts (Command n c false) regs (Replied (command_answer c))) (sym may.0) (commands c may.1)
   entries (Command j c true) may = subst (λ (n : ℕ). Enters k s r id hist x at acts (Command n c true) regs (tick_answer (Command n c true))) (sym may.0) record {
     alone = λ i other. ne_eqb d i (λ e. other (sym e));
-    plain = tt;
-    allowed = record { running = running k s r id hist x at acts; fits = fits_allocation now d c may.1 calm.mode (calm.queues d); full_fits = may_be_full k s r id hist x at acts may.2 c may.1 };
-    calm = calm_command now d c true calm;
+    allowed = record { running = running k s r id hist x at acts; fits = let m = may_begin k s r id hist x at acts in fits_allocation now d c may.1 m.0 m.1; full_fits = may_be_full k s r id hist x at acts may.2 c may.1 };
+    is_open = open_after k s r id hist x at acts c true;
+    work = work_with now d _ refl refl refl d;
     theirs = theirs;
     stand = subst (λ (l : List Value). AllStand r.account.live l theirs) (sym (ap registers_of may.3)) stand;
     leaves = leaves_full now d c;
   }
   entries _ may = absurd may
 
-tick_command : (k : Config) (x : DomainView) (changes : List Change) (e : Entry) → TickEntry k x changes e → IsCommand e
+tick_command : (k : Config) (x : DomainView) (changes : List Change) (e : Entry) → TickEntry k x changes e → IsOfTrace e
 tick_command k x changes (Command j c false) may = tt
 tick_command k x changes (Command j c true) may = tt
 tick_command k x changes _ may = absurd may

@@ -51,7 +51,8 @@ use Rattle.heap_model.specs.declared.command.Command.{Command as model_command}
 use Rattle.heap_model.specs.Commands.{FitsMode}
 use Rattle.heap_model.proofs.Commands.LeavesLemmas.{Leaves}
 use Rattle.heap_rule.specs.declared.phase.Kind.TheVariants.{Run}
-use Rattle.heap_rule.specs.Cycles.{IsPlainCommand}
+use Rattle.heap_model.proofs.Commands.MoveLemmas.{registers_one}
+use Rattle.heap_rule.proofs.FinaliserLemmas.{enrolled_more}
 use Rattle.heap_rule.proofs.EphemeronLemmas.{found_value}
 
 -- one value of one block changes, in the words and in the graph
@@ -228,7 +229,7 @@ pub record ValueStore (k : Config) (s : Words) (r : Rule k s) (id : ℕ) (hist :
   pub packs : new ≡ value_word word
   pub exact : (remembers ≡ true) ↔ MustRemember k (value_at x.own.registers block) word
   pub same : LeavesOwn changes x
-  pub plain : IsPlainCommand c
+  pub unregistering : registers_one c ≡ false
   pub fits : FitsMode (state_of k r.account.log) x.own.number c
   pub leaves : Leaves (state_of k r.account.log) (Command x.own.number c false) x.own.number (with_node (state_of k r.account.log).graph place.label after) (domain_at (state_of k r.account.log) x.own.number).registers
       (domain_at (state_of k r.account.log) x.own.number).serial (Replied Done)
@@ -271,22 +272,21 @@ value_stores k slots id word hist x a new remembers changes command acts place m
     let still : x.seen.copying ≡ nothing_copied = quiet k s r id hist x at acts.runs in
     let far : (z : DomainView) → Area k r.account.live z → Making k s.words z → Making k words z =
     (λ z area making. making_beside k s.words (f.address + 2 + i) new z (λ j fits same. live_word_far k r.account.live f.address (2 + i) f.place z f.lives inside area j fits (same ∙ (let h : f.address + 2 + i ≡ f.address + (2 + i) = omega arith in h))) making) in
-    let o : EntersTo k s r id hist x at acts graph e regs (Replied Done) = enters_command k s r id hist x at acts graph command f.plain f.fits regs (Replied Done) (domain_at now d).registers
+    let o : EntersTo k s r id hist x at acts graph e regs (Replied Done) = enters_command k s r id hist x at acts graph command f.unregistering f.fits regs (Replied Done) (domain_at now d).registers
     (subst (λ (l : List Value). AllStand r.account.live l (domain_at now d).registers) (sym (ap registers_of f.same)) stand)
     f.leaves in
     let controls : Controls k r.account s.words words = controls_kept k s r id hist x at words (control_set k s.words (f.address + 2 + i) new (omega arith)) in
     let rule : Rule k record { words = words; homes = s.homes; views = set s.views id (one k hist y) } = appends k s r id hist x at e y words live1 r.account.homes record {
-      plain = o.plain;
       full = full_back k (r.account.log ++ e ∷ []) r.account.live live1 r.account.tenancy.holder r.account.tenancy.fresh r.account.homes r.account.cycling.kind back
           (full_stays k r.account.log r.account.live r.account.tenancy.holder r.account.tenancy.fresh r.account.homes r.account.cycling.kind e refl r.whole.full);
       share = refl;
       alone = o.alone;
-      command = tt;
+      of_trace = tt;
       runs = acts.runs;
       stage = refl;
       listing = refl;
       allowed = o.allowed;
-      calm = o.calm;
+      is_open = o.is_open;
       number = refl;
       front = refl;
       arrivals = refl;
@@ -343,10 +343,11 @@ value_stores k slots id word hist x a new remembers changes command acts place m
           (λ (h : (b ≡ f.address) × (c.named' j ≡ Some m)). record { place = f.place; lives = ap r.account.live h.0 ∙ f.lives; named = c.theirs m j differ h.1 })
           (λ (h : r.account.live b ≡ Some q). record { place = q; lives = h; named = named })
           (who m b j q lives named);
-      stood = let st = stood_after k s r id hist x at acts graph e regs (Replied Done) y refl refl refl o in record {
+      stood = let st = stood_after k s r id hist x at acts graph e regs (Replied Done) y refl refl refl refl o in record {
         wide = st.wide;
         each = λ q few. stands_more r.account.live live1 (value_at regs q) (register (next now e) d q) grows (st.each q few);
         serial = st.serial;
+        enrolled = enrolled_more r.account.live live1 (next now e) d x.own.finalisers grows st.enrolled;
       };
       area = let p = area_back k r.account.live live1 x back g.area in record { room = p.room; free = p.free; classes = p.classes };
       making = let p = far x g.area g.making in record { fits = p.fits; written = p.written };

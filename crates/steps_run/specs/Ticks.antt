@@ -1,7 +1,7 @@
 -- Ticks: the entries that the registers alone decide, and the answer `full`.
 use Rattle.std.specs.Prelude.{◌≡◌, ℕ, ◌<◌, ◌≤◌, ◌⊎◌, Bool, true, false, List, slice_set, Some}
 use Rattle.heap_model.specs.declared.command.Command as model
-use Rattle.heap_model.specs.declared.command.Command.TheVariants.{PutInt, Copy, Forget, Load, Store, SetKey, UnsetKey, GetKey, CheckKey, SetData, UnsetData, GetData, CheckData, Poll, Minor, Major}
+use Rattle.heap_model.specs.declared.command.Command.TheVariants.{PutInt, Copy, Forget, Load, Store, SetKey, UnsetKey, GetKey, CheckKey, SetData, UnsetData, GetData, CheckData, Finalise, FinaliseLast, Poll, Minor, Major}
 use Rattle.heap_model.specs.declared.entry.Entry.{Entry}
 use Rattle.heap_model.specs.declared.entry.Entry.TheVariants.{Command}
 use Rattle.heap_model.specs.declared.reply.Reply.{Reply}
@@ -55,6 +55,8 @@ TickCommand x changes (SetData ephe item) =
 TickCommand x changes (UnsetData ephe) = HoldsNoBlock x ephe × LeavesOwn changes x
 TickCommand x changes (GetData dst ephe) = HoldsNoBlock x ephe × LeavesOwn changes x
 TickCommand x changes (CheckData ephe) = HoldsNoBlock x ephe × LeavesOwn changes x
+TickCommand x changes (Finalise item number dst) = HoldsNoBlock x item × LeavesOwn changes x
+TickCommand x changes (FinaliseLast item number) = HoldsNoBlock x item × LeavesOwn changes x
 TickCommand x changes Poll = LeavesOwn changes x
 TickCommand x changes Minor = LeavesOwn changes x
 TickCommand x changes Major = LeavesOwn changes x
@@ -79,7 +81,7 @@ pub record TickMay (k : Config) (x : DomainView) (changes : List Change) (e : En
   pub entry : TickEntry k x changes e
   pub fits : FitChanges changes
 
--- what a tick's entry answers: its loads and stores have no block to look into, or nothing to store
+-- what a tick's entry answers: its loads, stores and registrations have no block to look into, or nothing to store
 abbrev pub command_answer : model.Command → Reply
 command_answer (Load dst src i) = BadType
 command_answer (Store block i item) = BadType
@@ -91,6 +93,8 @@ command_answer (SetData ephe item) = BadType
 command_answer (UnsetData ephe) = BadType
 command_answer (GetData dst ephe) = BadType
 command_answer (CheckData ephe) = BadType
+command_answer (Finalise item number dst) = BadType
+command_answer (FinaliseLast item number) = BadType
 command_answer _ = Done
 
 abbrev pub tick_answer : Entry → Applied

@@ -11,8 +11,9 @@ use std::marker::Brand;
 
 /// A load of the want word, at which an entry stands that the registers alone decide: a command on
 /// registers, `poll`, `minor`, `major`, a load, a store or a command on an ephemeron that has no
-/// block to look into or nothing to store, or an allocation's `full` where the pools are used up.
-/// `at` is the word's index, 0. Answers the word.
+/// block to look into or nothing to store, a registration of a finaliser that has no block to
+/// register, or an allocation's `full` where the pools are used up. `at` is the word's index, 0.
+/// Answers the word.
 pub fn tick(heap: &Heap, dom: &mut Domain, at: u32, changes: &[Change]) -> u64
     ghost entry: { Entry }
     requires here { IsIn dom.old heap.now }

@@ -1,8 +1,29 @@
-use Rattle.std.proofs.Common.{◌≡◌, ◌∙◌, sym, ap}
+use Rattle.std.proofs.Common.{◌≡◌, ◌∙◌, ℕ, ◌+◌, ◌∷◌, replicate, sym, ap, arith}
 use Rattle.heap_rule.specs.declared.config.Config.{Config}
+use Rattle.heap_rule.specs.declared.view.DomainView.{DomainView}
+use Rattle.heap_words.specs.Labels.{label_word}
 use Rattle.heap_rule.specs.Token.{next_address}
-use Rattle.minor_area.proofs.Allocating.{alloc_did}
+use Rattle.minor_area.proofs.Allocating.{head_inside, head_may, alloc_did}
 use Rattle.minor_area.proofs.allocation.write_block.Goals as goal
+
+pub init_store-requires-2 : goal.init_store-requires-2
+init_store-requires-2 g c =
+    let x : DomainView = c.args.dom.now.view in
+    let n : ℕ = c.args.fields in
+    let here : c.next_address-at.result ≡ next_address c.args.heap.now.config x = c.next_address-at.ensures ∙ ap (λ (k : Config). next_address k x) c.requires.1.0.here.1 in
+    let count : c.loop-i.i ≡ n = (let e = c.from-i-end.ensures in let f = c.loop-i-test.false in let b = c.loop-i.auto.i-end in omega arith) in
+    let number : c.number.result ≡ x.own.number = c.number.ensures.value in
+    let serial : c.labels_made.result ≡ x.own.serial = c.labels_made.ensures in
+    let view : c.loop-i.dom.view ≡ record x { seen = record x.seen { made = label_word x.own.number (x.own.serial + 1) ∷ replicate n 1 } } = c.loop-i.invariant.view ∙ (λ j. record x { seen = record x.seen { made = label_word (number j) (serial j + 1) ∷ replicate (count j) 1 } }) in
+    let r = c.requires.1.1 in
+    let inside = ap (λ (k : Config). k.domains) c.requires.1.0.here.1 in (
+      c.loop-i.invariant.here,
+      (
+        head_inside c.args.heap.now.config x.own.number x.own.used n c.next_address-at.result (let b = c.number.ensures.below in omega arith) r.1.1.0.1 r.1.1.0.0 r.1.1.1.1.0 here,
+        head_may c.args.heap.now c.args.dom.now c.loop-i.dom.view g.entry c.next_address-at.result c.pack_head.result c.args.dst c.from.result c.args.tag n c.requires.0 c.requires.1.0 view here c.from.ensures r.0 r.1.0 r.1.1.0.0 r.1.1.0.1
+            r.1.1.1.0 r.1.1.1.1.0 r.1.1.1.1.1.0 record { colours = c.args.colours.now; known_is = r.1.1.1.1.1.1.0; fits = r.1.1.1.1.1.1.1; packs = c.pack_head.ensures },
+      ),
+    )
 
 pub returns-clause-did : goal.returns-clause-did
 returns-clause-did g c =

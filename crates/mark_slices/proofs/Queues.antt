@@ -1,0 +1,26 @@
+-- The block that a place of the queue keeps alive is to be marked.
+use Rattle.std.proofs.Common.{◌≡◌, ℕ, Some, ⊎_elim, option_and_then, slice_get, sym, refl, ap, subst, ◌∙◌}
+use Rattle.heap_words.specs.declared.colours.Colours.{Colours}
+use Rattle.heap_rule.specs.declared.phase.Kind.{Kind}
+use Rattle.heap_rule.specs.declared.phase.Kind.TheVariants.{Queued, Roots}
+use Rattle.heap_rule.specs.declared.phase.Stage.{Stage}
+use Rattle.heap_rule.specs.declared.phase.Stage.TheVariants.{In}
+use Rattle.heap_rule.specs.declared.view.DomainView.{DomainView}
+use Rattle.heap_rule.specs.declared.view.Finalisers.{Finalisers}
+use Rattle.heap_rule.specs.declared.view.Held.TheVariants.{Queue}
+use Rattle.heap_rule.specs.declared.view.Waiting.{Waiting}
+use Rattle.heap_rule.specs.declared.view.Waiting.TheVariants.{Fin}
+use Rattle.heap_rule.specs.Finalisers.{address_in, held_at}
+use Rattle.steps_cycle.specs.Marking.{IsDarkening, OfQueue, Reason}
+use Rattle.mark_slices.specs.Shares.{Darkens, MarksRoots}
+
+rooting_kind : (stage : Stage) → MarksRoots stage → (kind : Kind) × (stage ≡ In kind) × IsDarkening kind
+rooting_kind stage is = ⊎_elim (λ (e : stage ≡ In Roots). (Roots, e, tt)) (λ (e : stage ≡ In Queued). (Queued, e, tt)) is
+
+-- the item at a place names the block
+pub held_here : (fs : Finalisers) (i a n r : ℕ) (w : Waiting) → Some w ≡ slice_get fs.queue.items i → w ≡ Fin a n r → held_at fs (Queue i) ≡ Some a
+held_here fs i a n r w got is = ap (option_and_then address_in) (sym got ∙ ap Some is)
+
+pub queue_darkens : (x : DomainView) (colours : Colours) (i a : ℕ) (reason : Reason) → MarksRoots x.seen.stage → x.seen.share.colours ≡ Some colours → reason ≡ OfQueue i → held_at x.own.finalisers (Queue i) ≡ Some a → Darkens colours a reason x
+queue_darkens x colours i a reason phase known names held = let k = rooting_kind x.seen.stage phase in
+    subst (λ (z : Reason). Darkens colours a z x) (sym names) record { kind = k.0; stage = k.1; darkening = k.2; known = known; reason_is = held }

@@ -1,0 +1,48 @@
+//! What the queue of a domain keeps alive is marked.
+ghost use Rattle.std.specs.Prelude.{◌≡◌, ◌<◌, Some, length};
+ghost use Rattle.heap_words.specs.ColourWords.{IsPermutation};
+ghost use Rattle.heap_rule.specs.Token.{IsIn};
+ghost use Rattle.steps_cycle.specs.Looks.{HeldInside};
+ghost use Rattle.steps_cycle.specs.Marking.{OfQueue, Reason};
+ghost use Rattle.mark_slices.specs.Shares.{AllQueueRooted, MarksRoots, QueueRooted};
+
+use crate::darkening::darken;
+use heap_rule::{Domain, Heap, Waiting};
+use heap_words::Colours;
+use steps_cycle::colours_now;
+
+// Marks the block that a place of the queue keeps alive, if it keeps one.
+fn mark_queued(heap: &Heap, dom: &mut Domain, place: usize, colours: Colours)
+    ghost reason: { Reason }
+    requires here { IsIn dom.old heap.now }
+    requires phase { MarksRoots dom.old.view.seen.stage }
+    requires known { dom.old.view.seen.share.colours ≡ Some colours }
+    requires meanings { IsPermutation colours }
+    requires place { place < length dom.old.view.own.finalisers.queue.items }
+    requires inside { HeldInside heap.now.config dom.old.view.own.finalisers }
+    requires names { reason ≡ OfQueue place }
+    ensures here { IsIn dom.new heap.now }
+    ensures rooted { QueueRooted place dom.old.view dom.new.view }
+{
+    if let Waiting::Fin { address, .. } = dom.queue_at(place) {
+        darken(heap, dom, address, colours);
+    }
+}
+
+/// Each block that the domain's queue of finalisers keeps alive is marked, in a phase in which roots
+/// are. Afterwards the domain is done with all places of the queue, as is asked of it where it arrives.
+/// What it knows of the colours, of the queue and of blocks is all that has changed.
+///
+/// A block that waits for its `finalise` lives on until it has run. One of `finalise_last` is dead
+/// already, and nothing of it is marked (OCaml manual, module `Gc`).
+pub fn mark_queue(heap: &Heap, dom: &mut Domain)
+    requires here { IsIn dom.old heap.now }
+    requires phase { MarksRoots dom.old.view.seen.stage }
+    ensures here { IsIn dom.new heap.now }
+    ensures queued { AllQueueRooted dom.old.view dom.new.view }
+{
+    let colours = colours_now(heap, dom);
+    for place in 0..dom.queued() {
+        mark_queued(heap, dom, place, colours);
+    }
+}
