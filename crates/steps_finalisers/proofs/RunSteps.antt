@@ -34,7 +34,7 @@ use Rattle.heap_rule.specs.Raw.{MayStep}
 use Rattle.heap_rule.specs.Rule.{Rule, Stood, state_of}
 use Rattle.heap_rule.specs.Token.{OwnFits}
 use Rattle.heap_rule.specs.Views.{one}
-use Rattle.heap_rule.proofs.FinaliserLemmas.{paired_get}
+use Rattle.heap_rule.proofs.FinaliserLemmas.{paired_get, paired_length}
 use Rattle.heap_rule.proofs.Keeps.{Words, after_entry, my_good, unmoved}
 use Rattle.heap_rule.proofs.Values.{AllStand, stand_set}
 use Rattle.steps_finalisers.specs.Running.{AnswersRun, HasRegister, RunMay, RunTold, ran_own, registers_after}
@@ -83,6 +83,7 @@ module _ (k : Config) (s : Words) (r : Rule k s) (id : ℕ) (hist : List Entry) 
   pub record Outcome (answer : Applied) : Type 0 where
     pub works : Works k s r id hist x at may.goes_on e regs fs answer
     pub says : AnswersRun k first y answer
+    pub due : (domain_at (state_of k (r.account.log ++ e ∷ [])) d).due ≡ length fs.queue.items
 
   -- the domain without its first finaliser, in whose place the rest owes
   module _ (p : Pending) (rest : List Pending) (queue_is : (domain_at t d).queue ≡ p ∷ rest) where
@@ -165,6 +166,7 @@ module _ (k : Config) (s : Words) (r : Rule k s) (id : ℕ) (hist : List Entry) 
           answer,
           record {
             works = works;
+            due = ap (λ (z : model.State). (domain_at z d).due) state_is ∙ (ap (λ (z : DomainState). z.due) domain_is ∙ (ap (λ (z : DomainState). z.due) here ∙ paired_length (StandsWaiting live) fs.queue.items rest (rest_stands (FinPending m l h) rest queue')));
             says = subst (λ (z : Waiting). AnswersRun k z y answer) (sym same_first)
                 (l, ap (λ (z : ℕ). register (state_of k (r.account.log ++ e ∷ [])) d z) same_register ∙ (ap (λ (z : model.State). register z d h) state_is ∙ holds_block), ap (λ (n : ℕ). Replied (FinReply n l)) (sym fit.1));
           },
@@ -180,6 +182,7 @@ module _ (k : Config) (s : Words) (r : Rule k s) (id : ℕ) (hist : List Entry) 
         let answer : Applied = Replied (LastReply m) in (
           answer,
           record {
+            due = ap (λ (z : model.State). (domain_at z d).due) (after_entry k s r id hist x at e ∙ ap (after_run t d) queue') ∙ (ap (λ (z : DomainState). z.due) here ∙ paired_length (StandsWaiting live) fs.queue.items rest (rest_stands (LastPending m) rest queue'));
             works = runs (LastPending m) rest queue' u ran refl here refl refl refl refl refl refl stand answer refl;
             says = subst (λ (z : Waiting). AnswersRun k z y answer) (sym is) (ap (λ (n : ℕ). Replied (LastReply n)) (sym fit));
           },
@@ -201,6 +204,7 @@ module _ (k : Config) (s : Words) (r : Rule k s) (id : ℕ) (hist : List Entry) 
     says = o.1.says;
     view = refl;
     holds = works_holds k s r id hist x at may.goes_on e regs fs o.0 o.1.works;
+    due = o.1.due;
   }
 
 -- the register of the first finaliser is one

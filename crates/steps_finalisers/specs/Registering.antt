@@ -14,9 +14,13 @@ use Rattle.heap_rule.specs.declared.view.RegisteredLast.{RegisteredLast}
 use Rattle.heap_rule.specs.Limits.{sizes_in}
 use Rattle.heap_rule.specs.Standing.{Acts, IsAt, with_front, with_own}
 
--- the lists have room for one more registration
+-- how many registrations a domain has, those included that wait in its queue
+abbrev pub count_of : Finalisers → ℕ
+count_of fs = length fs.finals.items + length fs.lasts.items + length fs.queue.items
+
+-- the lists have room for one more
 abbrev pub HasRoom : Config → Finalisers → Type 0
-HasRoom k fs = length fs.finals.items + length fs.lasts.items + length fs.queue.items < k.finals
+HasRoom k fs = count_of fs < k.finals
 
 -- the token's own data with other lists of finalisers
 abbrev pub with_finalisers : Finalisers → Own → Own

@@ -1,12 +1,12 @@
 -- What the step asks and tells by which a running domain runs the first finaliser of its queue (the OCaml manual's module `Gc`).
-use Rattle.std.specs.Prelude.{◌≡◌, ℕ, ◌+◌, ◌<◌, List, remove, slice_get, slice_set, Some}
+use Rattle.std.specs.Prelude.{◌≡◌, ℕ, ◌+◌, ◌<◌, List, length, remove, slice_get, slice_set, Some}
 use Rattle.heap_model.specs.declared.entry.Entry.TheVariants.{Ran}
 use Rattle.heap_model.specs.declared.label.Label.{Label}
 use Rattle.heap_model.specs.declared.graph.Value.TheVariants.{Block}
 use Rattle.heap_model.specs.declared.reply.Applied.{Applied}
 use Rattle.heap_model.specs.declared.reply.Applied.TheVariants.{Replied}
 use Rattle.heap_model.specs.declared.reply.Reply.TheVariants.{Fin as FinReply, Last as LastReply}
-use Rattle.heap_model.specs.Domains.{register}
+use Rattle.heap_model.specs.Domains.{domain_at, register}
 use Rattle.heap_model.specs.Fronts.{Answers}
 use Rattle.heap_words.specs.declared.value.Value.{Value}
 use Rattle.heap_words.specs.declared.value.Value.TheVariants.{Ref}
@@ -42,13 +42,14 @@ abbrev pub AnswersRun : Config → Waiting → DomainView → Applied → Type 0
 AnswersRun k (Fin address number r) y answer = (l : Label) × (register (state_of k y.seen.front) y.own.number r ≡ Block l) × (answer ≡ Replied (FinReply number l))
 AnswersRun k (Last number) y answer = answer ≡ Replied (LastReply number)
 
--- the entry stands, the finaliser has left the queue, and its register holds its block
+-- the entry stands, the finaliser has left the queue, and its register holds its block. The domain owes the rest of its queue
 pub record RunTold (k : Config) (first : Waiting) (x y : DomainView) : Type 0 where
   pub answer : Applied
   pub answers : Answers (sizes_in k) x.own.number x.seen.front y.seen.front (Ran x.own.number) answer
   pub says : AnswersRun k first y answer
   pub view : y ≡ with_front (with_own x (ran_own first x.own)) y.seen.front
   pub holds : Holds k y.own.registers
+  pub due : (domain_at (state_of k y.seen.front) y.own.number).due ≡ length y.own.finalisers.queue.items
 
 -- the register of one of `finalise` is one
 abbrev pub HasRegister : Waiting → Type 0
