@@ -1,5 +1,5 @@
 -- The block that a place of the queue keeps alive is to be marked.
-use Rattle.std.proofs.Common.{◌≡◌, ℕ, Some, ⊎_elim, option_and_then, slice_get, sym, refl, ap, subst, ◌∙◌}
+use Rattle.std.proofs.Common.{◌≡◌, ℕ, Some, ⊎_elim, option_and_then, slice_get, sym, ap, subst, ◌∙◌}
 use Rattle.heap_words.specs.declared.colours.Colours.{Colours}
 use Rattle.heap_rule.specs.declared.phase.Kind.{Kind}
 use Rattle.heap_rule.specs.declared.phase.Kind.TheVariants.{Queued, Roots}

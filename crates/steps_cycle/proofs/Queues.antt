@@ -6,7 +6,7 @@ use Rattle.heap_model.specs.declared.state.DomainState.{DomainState}
 use Rattle.heap_model.specs.declared.state.Pending.{Pending}
 use Rattle.heap_model.specs.declared.state.Pending.TheVariants.{Fin as FinPending, Last as LastPending}
 use Rattle.heap_model.specs.declared.state.State as model
-use Rattle.heap_model.specs.Graph.{has_label, label_of}
+use Rattle.heap_model.specs.Graph.{has_label}
 use Rattle.heap_model.specs.Domains.{domain_at, pending_label, queues, roots}
 use Rattle.heap_model.proofs.Graphs.ListLemmas.{flat_map-map}
 use Rattle.heap_model.proofs.Reach.ReachLemmas.{has-append_right}

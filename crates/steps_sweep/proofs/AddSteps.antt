@@ -168,6 +168,7 @@ module _ (k : Config) (s : Words) (r : Rule k s) (id : ℕ) (hist : List Entry) 
         );
         adds = record { blocks = λ _ _. o.mine_blocks; words = λ _ _. o.mine_words; own = λ _ _. o.mine_own };
         looks = record { at_own = g.looks.at_own; pruned = g.looks.pruned; cleans = g.looks.cleans; emptied_is = g.looks.emptied_is };
+        deciding = g.deciding;
       };
       sharings = λ z _ differs h. let q = h.sharing in let e = o.others z.own.number differs in record {
         telling = q.telling;
@@ -185,6 +186,7 @@ module _ (k : Config) (s : Words) (r : Rule k s) (id : ℕ) (hist : List Entry) 
             q.knows;
         adds = record { blocks = λ a b. e.0 ∙ q.adds.blocks a b; words = λ a b. e.1 ∙ q.adds.words a b; own = λ a b y. e.2 ∙ q.adds.own a b y };
         looks = q.looks;
+        deciding = q.deciding;
       };
     }
 

@@ -1,5 +1,5 @@
 -- The loads by which a domain learns what lives, and answers `full_major`, keep the rule.
-use Rattle.std.proofs.Common.{◌≡◌, ◌≢◌, ℕ, false, true≢false, ne_eqb, List, [], ◌∷◌, ◌++◌, set, Some, sym, refl, ap, ◌∙◌, subst, inr}
+use Rattle.std.proofs.Common.{◌<◌, get_or-set_same, ◌≡◌, ◌≢◌, ℕ, false, true≢false, ne_eqb, List, [], ◌∷◌, ◌++◌, set, Some, sym, refl, ap, ◌∙◌, subst, inr}
 use mathlib.Core.Option.{some}
 use lib.ListN.{get_elem?}
 use Rattle.atomic_table.specs.Table.{keeps}
@@ -8,12 +8,14 @@ use Rattle.heap_model.specs.declared.entry.Entry.{Entry}
 use Rattle.heap_model.specs.declared.entry.Entry.TheVariants.{Command}
 use Rattle.heap_model.specs.declared.reply.Applied.TheVariants.{Replied}
 use Rattle.heap_model.specs.declared.reply.Reply.TheVariants.{Live as LiveReply}
+use Rattle.heap_model.specs.declared.state.DomainState.{DomainState}
 use Rattle.heap_model.specs.declared.state.State as model
+use Rattle.heap_model.specs.Domains.{domain_at, no_domain, opening}
 use Rattle.heap_model.specs.Entries.{Allowed, next, reply}
 use Rattle.heap_model.specs.Fronts.{KeepsDomain}
 use Rattle.heap_model.specs.Graph.{Graph}
 use Rattle.heap_model.specs.History.{is_entry_of}
-use Rattle.heap_model.proofs.Commands.FrameLemmas.{part_set}
+use Rattle.heap_model.proofs.Commands.FrameLemmas.{inside_running, part_set}
 use Rattle.heap_model.proofs.Histories.FrontLemmas.{answers_push}
 use Rattle.cycle_laws.proofs.Cycling.{phase_steps}
 use Rattle.heap_words.specs.declared.value.Value.TheVariants.{Nothing}
@@ -31,20 +33,22 @@ use Rattle.heap_rule.specs.Phases.{CountsEnded, IsInPause, flag, is_over, sum_of
 use Rattle.heap_rule.specs.Places.{Live}
 use Rattle.heap_rule.specs.Pools.{Tenancy}
 use Rattle.heap_rule.specs.Raw.{CanLeave, Closes, Leaves, MayStep}
-use Rattle.heap_rule.specs.Rule.{Account, AllFound, Good, NoneQueued, Rule, Sharing, Stood, state_of}
+use Rattle.heap_rule.specs.Rule.{Account, AllFound, Good, Rule, Sharing, Stood, state_of}
 use Rattle.heap_rule.specs.Standing.{with_front}
 use Rattle.heap_rule.specs.Token.{OwnFits}
 use Rattle.heap_rule.specs.Views.{one}
 use Rattle.heap_rule.proofs.FullnessLemmas.{full_stays}
-use Rattle.heap_rule.proofs.Keeps.{Words, after_entry, hunter_as, knows_entry, legal_entry, mine, more_same, my_good, own as own_kept, owes_as, plain_push, remakes, resting_as, stood_other, sum_same, unmoved}
+use Rattle.heap_rule.proofs.Keeps.{Words, after_entry, hunter_as, knows_entry, legal_entry, mine, more_same, my_good, own as own_kept, owes_as, remakes, resting_as, stood_other, sum_same, unmoved}
 use Rattle.heap_rule.proofs.PauseFacts.{nobody_still}
 use Rattle.heap_rule.proofs.Plain.{enters_once}
-use Rattle.heap_rule.proofs.PlainHistories.{nothing_owed}
+use Rattle.heap_rule.proofs.FinaliserLemmas.{KeepsWork, paired_length, work_with}
+use Rattle.heap_rule.specs.Finalisers.{StandsWaiting}
 use Rattle.heap_rule.proofs.Values.{holds}
 use Rattle.steps_cycle.specs.Looks.{with_share}
 use Rattle.steps_cycle.proofs.Learning.{known, learns, waits}
 use Rattle.steps_cycle.proofs.Plain.{share_closes}
 use Rattle.steps_sweep.specs.Answering.{LiveBlocksTold, LiveWordsMay, LiveWordsTold}
+use Rattle.steps_sweep.proofs.Dues.{due_front}
 use Rattle.steps_sweep.proofs.LiveCounts.{answer_facts, answer_kind, answers, blocks_reach, words_reach}
 
 module _ (k : Config) (s : Words) (r : Rule k s) (id : ℕ) (hist : List Entry) (x : DomainView) (at : get_elem? s.views id ≡ some (one k hist x)) (stage : x.seen.stage ≡ In Answer) where
@@ -89,6 +93,7 @@ module _ (k : Config) (s : Words) (r : Rule k s) (id : ℕ) (hist : List Entry) 
         );
         adds = record { blocks = g.adds.blocks; words = g.adds.words; own = g.adds.own };
         looks = record { at_own = g.looks.at_own; pruned = g.looks.pruned; cleans = g.looks.cleans; emptied_is = g.looks.emptied_is };
+        deciding = g.deciding;
       }
 
   -- the entry of `full_major`
@@ -117,8 +122,8 @@ module _ (k : Config) (s : Words) (r : Rule k s) (id : ℕ) (hist : List Entry) 
   keeps_all : (j : ℕ) → KeepsDomain now (next now e) j
   keeps_all j = record { registers = part_set (λ z. z.registers) now.domains d _ refl j; serial = part_set (λ z. z.serial) now.domains d _ refl j; ended = part_set (λ z. z.ended) now.domains d _ refl j }
 
-  none_queued : NoneQueued (next now e)
-  none_queued j = part_set (λ z. z.queue) now.domains d _ refl j ∙ r.whole.queues j
+  works_all : (j : ℕ) → KeepsWork now (next now e) j
+  works_all j = let n = work_with now d _ refl refl refl j in record { finals = n.finals; lasts = n.lasts; queue = n.queue }
 
   endings' : CountsEnded k (state_of k log') s.words
   endings' = r.whole.endings ∙ sym (ap (λ (t : model.State). sum_of (is_over t) k.domains) after ∙ sum_same (is_over now) (is_over (next now e)) k.domains (λ j _. ap flag (keeps_all j).ended))
@@ -142,15 +147,16 @@ module _ (k : Config) (s : Words) (r : Rule k s) (id : ℕ) (hist : List Entry) 
   }
 
   stands_still : (z : DomainView) → Stood live now z → Stood live (state_of k log') z
-  stands_still z st = subst (λ (t : model.State). Stood live t z) (sym after) (stood_other live live now (next now e) z (keeps_all z.own.number) (more_same live) st)
+  stands_still z st = subst (λ (t : model.State). Stood live t z) (sym after) (stood_other live live now (next now e) z (keeps_all z.own.number) (works_all z.own.number) (more_same live) st)
 
-  sharing' : (z : DomainView) → Sharing k r.account s.words z.own.number z.own.registers z.own.ephemerons.items z.seen.stage z.seen.share → Sharing k all' s.words z.own.number z.own.registers z.own.ephemerons.items z.seen.stage z.seen.share
+  sharing' : (z : DomainView) → Sharing k r.account s.words z.own.number z.own.registers z.own.finalisers z.own.ephemerons.items z.seen.stage z.seen.share → Sharing k all' s.words z.own.number z.own.registers z.own.finalisers z.own.ephemerons.items z.seen.stage z.seen.share
   sharing' z g = record {
     telling = g.telling;
     leading = g.leading;
     knows = subst (λ (graph : Graph). KnowsBlocks k live T.holder graph c.paint.marks s.words z.own.number z.own.registers z.seen.stage z.seen.share) (sym graph_after) g.knows;
     adds = g.adds;
     looks = subst (λ (graph : Graph). Looks live T.holder T.garbage graph c.paint.marks c.paint.emptied z.own.number z.own.ephemerons.items z.seen.stage z.seen.share) (sym graph_after) g.looks;
+    deciding = g.deciding;
   }
 
   answered : Allowed now e → Rule k record { words = s.words; homes = s.homes; views = set s.views id (one k hist y) }
@@ -162,9 +168,7 @@ module _ (k : Config) (s : Words) (r : Rule k s) (id : ℕ) (hist : List Entry) 
       record {
         wide = r.whole.wide;
         legal = legal_entry k s r id hist x at e allowed;
-        plain = plain_push r.account.log e r.whole.plain tt;
         full = full_stays k r.account.log live T.holder T.fresh r.account.homes c.kind e refl r.whole.full;
-        queues = subst NoneQueued (sym after) none_queued;
         found = subst (λ (graph : Graph). AllFound k c.paint live graph s.words) (sym graph_after) r.whole.found;
         placed = r.whole.placed;
         spread = r.whole.spread;
@@ -188,7 +192,7 @@ module _ (k : Config) (s : Words) (r : Rule k s) (id : ℕ) (hist : List Entry) 
       }
       (knows_entry k s r id hist x at y e alone refl refl)
       record {
-        stood = record { wide = own_stood.wide; each = own_stood.each; serial = own_stood.serial };
+        stood = record { wide = own_stood.wide; each = own_stood.each; serial = own_stood.serial; enrolled = own_stood.enrolled };
         area = record { room = g.area.room; free = g.area.free; classes = g.area.classes };
         making = record { fits = g.making.fits; written = g.making.written };
         staged = record { arrivals = g.staged.arrivals; stage = g.staged.stage };
@@ -219,10 +223,13 @@ module _ (k : Config) (s : Words) (r : Rule k s) (id : ℕ) (hist : List Entry) 
       })
 
   module _ (blocks : ℕ) (may : LiveWordsMay k x blocks) where
+    inside : d < length now.domains
+    inside = inside_running now.domains d ((own_kept k s r id hist x at).ended ∙ may.goes_on)
+
     allowed : Allowed now e
     allowed = record {
       running = (own_kept k s r id hist x at).ended ∙ may.goes_on;
-      fits = ((answer_facts k s r id hist x at stage).mode, (nothing_owed (sizes_in k) r.account.log r.whole.plain d).due);
+      fits = ((answer_facts k s r id hist x at stage).mode, due_front (opening (sizes_in k)) d r.account.log x.seen.front (mine k s r id hist x at).front ∙ may.paid);
       full_fits = tt;
     }
 
@@ -235,9 +242,14 @@ module _ (k : Config) (s : Words) (r : Rule k s) (id : ℕ) (hist : List Entry) 
 
     answer_told : LiveWordsTold k blocks x (live_words s.words) y
     answer_told = let st = stands_still x good.stood in record {
-      answers = answers_push (sizes_in k) d r.account.log x.seen.front e (Replied (LiveReply blocks (live_words s.words))) (mine k s r id hist x at).front (legal_entry k s r id hist x at e allowed) replies;
-      view = refl;
-      holds = holds k r.limits live r.whole.placed (state_of k log') x st;
+      entered = record {
+        answers = answers_push (sizes_in k) d r.account.log x.seen.front e (Replied (LiveReply blocks (live_words s.words))) (mine k s r id hist x at).front (legal_entry k s r id hist x at e allowed) replies;
+        view = refl;
+        holds = holds k r.limits live r.whole.placed (state_of k log') x st;
+      };
+      due = ap (λ (t : model.State). (domain_at t d).due) after
+          ∙ (ap (λ (z : DomainState). z.due) (get_or-set_same now.domains d (record (domain_at now d) { fresh = false; due = length (domain_at now d).queue }) no_domain inside)
+          ∙ paired_length (StandsWaiting live) x.own.finalisers.queue.items (domain_at now d).queue good.stood.enrolled.queue);
     }
 
 pub live_blocks_may : (k : Config) (x : DomainView) → x.seen.stage ≡ In Answer → MayStep k x 9 (λ n. n) LiveBlocksTold
@@ -254,9 +266,9 @@ live_words_may k x blocks may fits slots id hist s r _ at _ =
     (one k hist y, keeps, tt, unmoved k s 10 (set s.views id (one k hist y)) (answer_rule k s r id hist x at may.stage blocks may), (answer_told k s r id hist x at may.stage blocks may, refl))
 
 pub live_words_closes : (k : Config) (x : DomainView) (found blocks : ℕ) → Closes k x found (LiveWordsTold k blocks) CanLeave Leaves
-live_words_closes k x found blocks y fits told = let own : y.own ≡ x.own = ap (λ (z : DomainView). z.own) told.view in record {
+live_words_closes k x found blocks y fits told = let own : y.own ≡ x.own = ap (λ (z : DomainView). z.own) told.entered.view in record {
   can_write = tt;
   written = λ after is. own ∙ sym is;
   fits = subst (OwnFits k) (sym own) fits;
-  once = enters_once k (Command x.own.number FullMajor false) (Replied (LiveReply blocks found)) Nothing [] x y told;
+  once = enters_once k (Command x.own.number FullMajor false) (Replied (LiveReply blocks found)) Nothing [] x y told.entered;
 }

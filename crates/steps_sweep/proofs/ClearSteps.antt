@@ -72,7 +72,7 @@ module _ (k : Config) (s : Words) (r : Rule k s) (id : ℕ) (hist : List Entry) 
   no_answer z g differs h = ⊎_elim (λ (f : (z.own.number ≡ 0) × IsLeading z.seen.stage). only_first z differs f.0)
       (λ (e : z.seen.stage ≡ In Answer). let a = subst (AtStage r.account.pause z.own.number z.own.arrivals) e g.staged.stage in odd_here a.1.0 a.1.1) h
 
-  sharings' : (z : DomainView) → z.own.number < k.domains → z.own.number ≢ x.own.number → Good k r.account s.words z → Sharing k r.account words' z.own.number z.own.registers z.own.ephemerons.items z.seen.stage z.seen.share
+  sharings' : (z : DomainView) → z.own.number < k.domains → z.own.number ≢ x.own.number → Good k r.account s.words z → Sharing k r.account words' z.own.number z.own.registers z.own.finalisers z.own.ephemerons.items z.seen.stage z.seen.share
   sharings' z below differs g = let h = g.sharing in record {
     telling = h.telling;
     leading = record {
@@ -86,6 +86,7 @@ module _ (k : Config) (s : Words) (r : Rule k s) (id : ℕ) (hist : List Entry) 
     knows = knows_words k r.account.live r.account.tenancy.holder now.graph c.paint.marks s.words words' z.own.number z.own.registers z.seen.stage z.seen.share (heap k s r id hist x at i 0 is) h.knows;
     adds = h.adds;
     looks = h.looks;
+    deciding = h.deciding;
   }
 
   -- what domain 0 knows of what lives then
@@ -124,6 +125,7 @@ module _ (k : Config) (s : Words) (r : Rule k s) (id : ℕ) (hist : List Entry) 
         knows = inl idle';
         adds = record { blocks = λ e _. absurd (no_sweep e); words = λ e _. absurd (no_sweep e); own = λ e _ _. absurd (no_sweep e) };
         looks = record { at_own = g.looks.at_own; pruned = g.looks.pruned; cleans = g.looks.cleans; emptied_is = g.looks.emptied_is };
+        deciding = g.deciding;
       };
       sharings = sharings';
     }

@@ -117,6 +117,7 @@ module _ (k : Config) (s : Words) (r : Rule k s) (id : ℕ) (hist : List Entry) 
           );
           adds = record { blocks = g.adds.blocks; words = g.adds.words; own = λ _ _ done. absurd (true≢false (sym done ∙ counts)) };
           looks = record { at_own = g.looks.at_own; pruned = g.looks.pruned; cleans = g.looks.cleans; emptied_is = g.looks.emptied_is };
+          deciding = g.deciding;
         }
 
   -- the owner of the next pool

@@ -303,7 +303,7 @@ module _ (k : Config) (s : Words) (r : Rule k s) (id : ℕ) (hist : List Entry) 
   abbrev share' : Share
   share' = record (passed a pool class slot x.seen.share) { found_head = None }
 
-  sharing' : Sharing k (reaped_to k s r id hist x at r.account.live garbage' c') words' d x.own.registers x.own.ephemerons.items x.seen.stage share'
+  sharing' : Sharing k (reaped_to k s r id hist x at r.account.live garbage' c') words' d x.own.registers x.own.finalisers x.own.ephemerons.items x.seen.stage share'
   sharing' =
       let g = good.sharing in
       let l = leading' x x.seen.share good.staged g.leading in
@@ -332,9 +332,10 @@ module _ (k : Config) (s : Words) (r : Rule k s) (id : ℕ) (hist : List Entry) 
         );
         adds = record { blocks = g.adds.blocks; words = g.adds.words; own = g.adds.own };
         looks = record { at_own = g.looks.at_own; pruned = λ i b few got. still_clean b (g.looks.pruned i b few got); cleans = g.looks.cleans; emptied_is = g.looks.emptied_is };
+        deciding = g.deciding;
       }
 
-  sharings' : (z : DomainView) → z.own.number < k.domains → z.own.number ≢ d → Good k r.account s.words z → Sharing k (reaped_to k s r id hist x at r.account.live garbage' c') words' z.own.number z.own.registers z.own.ephemerons.items z.seen.stage z.seen.share
+  sharings' : (z : DomainView) → z.own.number < k.domains → z.own.number ≢ d → Good k r.account s.words z → Sharing k (reaped_to k s r id hist x at r.account.live garbage' c') words' z.own.number z.own.registers z.own.finalisers z.own.ephemerons.items z.seen.stage z.seen.share
   sharings' z below other h = let g = h.sharing in record {
     telling = record { owes = g.telling.owes; seen = λ up. at_other c.shares.seen d (λ b. b == a || c.shares.seen d b) z.own.number other ∙ g.telling.seen up; fresh = g.telling.fresh; forgotten = g.telling.forgotten; colours = g.telling.colours };
     leading = leading' z z.seen.share h.staged g.leading;
@@ -344,6 +345,7 @@ module _ (k : Config) (s : Words) (r : Rule k s) (id : ℕ) (hist : List Entry) 
         g.knows;
     adds = record { blocks = g.adds.blocks; words = g.adds.words; own = g.adds.own };
     looks = record { at_own = g.looks.at_own; pruned = λ i b few got. still_clean b (g.looks.pruned i b few got); cleans = g.looks.cleans; emptied_is = g.looks.emptied_is };
+    deciding = g.deciding;
   }
 
   pub free_rule : Rule k record { words = words'; homes = s.homes; views = set s.views id (one k hist y) }

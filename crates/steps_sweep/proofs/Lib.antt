@@ -2,6 +2,8 @@ pub mod Removals
 pub mod Owning
 pub mod Reaping
 pub mod Rotating
+pub mod Enrolling
+pub mod HistorySizes
 pub mod SweepSteps
 pub mod Swept
 pub mod TurnSteps
@@ -17,4 +19,5 @@ pub mod HoldSteps
 pub mod Returned
 pub mod ReturnSteps
 pub mod LiveCounts
+pub mod Dues
 pub mod AnswerSteps

@@ -102,6 +102,7 @@ module _ (k : Config) (s : Words) (r : Rule k s) (id : ℕ) (hist : List Entry) 
     );
     adds = record { blocks = g.adds.blocks; words = g.adds.words; own = g.adds.own };
     looks = record { at_own = g.looks.at_own; pruned = none_dead e; cleans = g.looks.cleans; emptied_is = g.looks.emptied_is };
+    deciding = g.deciding;
   }
 
   -- it is garbage: it is listed no more
@@ -130,7 +131,7 @@ module _ (k : Config) (s : Words) (r : Rule k s) (id : ℕ) (hist : List Entry) 
     not_before : i < sh.pruned → ⊥
     not_before low = true≢false (sym dead ∙ good.sharing.looks.pruned i a low may.listed)
 
-    sharing' : Sharing k (reaped_to k s r id hist x at live t.garbage c) s.words d x.own.registers shorter.items x.seen.stage sh
+    sharing' : Sharing k (reaped_to k s r id hist x at live t.garbage c) s.words d x.own.registers x.own.finalisers shorter.items x.seen.stage sh
     sharing' = let g = good.sharing in record {
       telling = g.telling;
       leading = g.leading;
@@ -142,6 +143,7 @@ module _ (k : Config) (s : Words) (r : Rule k s) (id : ℕ) (hist : List Entry) 
         cleans = λ w e. absurd (let same : In Sweep ≡ In Clean = sym may.stage ∙ (g.looks.cleans w e).stage_is in cc);
         emptied_is = g.looks.emptied_is;
       };
+      deciding = g.deciding;
     }
 
     removes : After y
@@ -199,6 +201,7 @@ module _ (k : Config) (x : DomainView) (found a i garbage : ℕ) (may : PruneMay
     prepared = fits.prepared;
     pending = fits.pending;
     ephemerons = λ j b got. let w = was x.own.ephemerons.items i a may.listed j b got in fits.ephemerons w.0 b w.1;
+    finalisers = fits.finalisers;
   }
 
   written : (y : DomainView) → PruneTold a i garbage x found y → (after : Own) → Prunes a i garbage found x.own after → y.own ≡ after

@@ -62,8 +62,8 @@ module _ (k : Config) (s : Words) (r : Rule k s) (id : ℕ) (hist : List Entry) 
     pub hunter : Hunter k (record t { garbage = garbage' }) words' (reaped x looked ephemerons share')
     pub hunters : (z : DomainView) → z.own.number ≢ x.own.number → Good k r.account s.words z → Hunter k (record t { garbage = garbage' }) words' z
     pub cycle : Cycled k now live' r.account.pause (record t { garbage = garbage' }) c' words'
-    pub sharing : Sharing k (reaped_to live' garbage' c') words' x.own.number x.own.registers ephemerons.items x.seen.stage share'
-    pub sharings : (z : DomainView) → z.own.number < k.domains → z.own.number ≢ x.own.number → Good k r.account s.words z → Sharing k (reaped_to live' garbage' c') words' z.own.number z.own.registers z.own.ephemerons.items z.seen.stage z.seen.share
+    pub sharing : Sharing k (reaped_to live' garbage' c') words' x.own.number x.own.registers x.own.finalisers ephemerons.items x.seen.stage share'
+    pub sharings : (z : DomainView) → z.own.number < k.domains → z.own.number ≢ x.own.number → Good k r.account s.words z → Sharing k (reaped_to live' garbage' c') words' z.own.number z.own.registers z.own.finalisers z.own.ephemerons.items z.seen.stage z.seen.share
     pub listed_own : Listed live' t.holder garbage' x.own.number ephemerons.items
     pub listeds : (z : DomainView) → z.own.number ≢ x.own.number → Good k r.account s.words z → Listed live' t.holder garbage' z.own.number z.own.ephemerons.items
 
@@ -139,9 +139,7 @@ module _ (k : Config) (s : Words) (r : Rule k s) (id : ℕ) (hist : List Entry) 
         record {
           wide = o.wide ∙ r.whole.wide;
           legal = r.whole.legal;
-          plain = r.whole.plain;
           full = subst (Fullness k r.account.log live' t.holder t.fresh r.account.homes) (sym o.kind) (full_back k r.account.log live live' t.holder t.fresh r.account.homes r.account.cycling.kind back r.whole.full);
-          queues = r.whole.queues;
           found = o.found;
           placed = placed_back k live live' back r.whole.placed;
           spread = spread_back k live live' back r.whole.spread;
@@ -168,7 +166,7 @@ module _ (k : Config) (s : Words) (r : Rule k s) (id : ℕ) (hist : List Entry) 
         }
         (knows_front k s r id hist x at y refl (mine k s r id hist x at).front)
         record {
-          stood = record { wide = mine_stood.wide; each = mine_stood.each; serial = mine_stood.serial };
+          stood = record { wide = mine_stood.wide; each = mine_stood.each; serial = mine_stood.serial; enrolled = mine_stood.enrolled };
           area = record { room = mine_area.room; free = mine_area.free; classes = mine_area.classes };
           making = record { fits = mine_making.fits; written = mine_making.written };
           staged = record { arrivals = g.staged.arrivals; stage = g.staged.stage };

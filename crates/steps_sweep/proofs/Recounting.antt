@@ -52,8 +52,8 @@ module _ (k : Config) (s : Words) (r : Rule k s) (id : ℕ) (hist : List Entry) 
     pub kind : c'.kind ≡ r.account.cycling.kind
     pub paint : c'.paint ≡ r.account.cycling.paint
     pub cycle : Cycled k (state_of k r.account.log) r.account.live r.account.pause t c' recounted
-    pub sharing : Sharing k (record r.account { cycling = c' }) recounted x.own.number x.own.registers x.own.ephemerons.items x.seen.stage share'
-    pub sharings : (z : DomainView) → z.own.number < k.domains → z.own.number ≢ x.own.number → Good k r.account s.words z → Sharing k (record r.account { cycling = c' }) recounted z.own.number z.own.registers z.own.ephemerons.items z.seen.stage z.seen.share
+    pub sharing : Sharing k (record r.account { cycling = c' }) recounted x.own.number x.own.registers x.own.finalisers x.own.ephemerons.items x.seen.stage share'
+    pub sharings : (z : DomainView) → z.own.number < k.domains → z.own.number ≢ x.own.number → Good k r.account s.words z → Sharing k (record r.account { cycling = c' }) recounted z.own.number z.own.registers z.own.finalisers z.own.ephemerons.items z.seen.stage z.seen.share
 
   pub recounts : (share' : Share) (c' : Cycling) → Recounts share' c' → Rule k record { words = recounted; homes = s.homes; views = set s.views id (one k hist (with_share x share')) }
   recounts share' c' o =

@@ -99,7 +99,7 @@ module _ (k : Config) (s : Words) (r : Rule k s) (id : ℕ) (hist : List Entry) 
   hunters z differs g = hunter_agree k T after s.words ws (agrees k s r id hist x at word pool class may) z grows
       (same_over T pool _ T.asking T.fresh T.stock z.own.number (subst (λ (h : Holder). NotOf h z.own.number) (sym (is_own k s r id hist x at word pool class may)) (owned_not d class z.own.number (λ e. differs (sym e)))) (nobody_not z.own.number) refl (λ b. refl) (stock_self T.stock z.own.number)) g.hunter
 
-  sharing' : Sharing k all' ws d x.own.registers x.own.ephemerons.items x.seen.stage y.seen.share
+  sharing' : Sharing k all' ws d x.own.registers x.own.finalisers x.own.ephemerons.items x.seen.stage y.seen.share
   sharing' =
       let g = good.sharing in
       let l = leading_words c s.words ws d x.seen.stage x.seen.share (same_cycle k s r id hist x at word pool class may) g.leading in
@@ -109,9 +109,10 @@ module _ (k : Config) (s : Words) (r : Rule k s) (id : ℕ) (hist : List Entry) 
         knows = inr (collects, knowing_own k s r id hist x at word pool class may);
         adds = record { blocks = g.adds.blocks; words = g.adds.words; own = g.adds.own };
         looks = record { at_own = g.looks.at_own; pruned = g.looks.pruned; cleans = g.looks.cleans; emptied_is = λ a p own lives. g.looks.emptied_is a p (own_was k s r id hist x at word pool class may a d own) lives };
+        deciding = g.deciding;
       }
 
-  sharings' : (z : DomainView) → z.own.number ≢ d → Good k r.account s.words z → Sharing k all' ws z.own.number z.own.registers z.own.ephemerons.items z.seen.stage z.seen.share
+  sharings' : (z : DomainView) → z.own.number ≢ d → Good k r.account s.words z → Sharing k all' ws z.own.number z.own.registers z.own.finalisers z.own.ephemerons.items z.seen.stage z.seen.share
   sharings' z differs h = let g = h.sharing in record {
     telling = g.telling;
     leading = leading_words c s.words ws z.own.number z.seen.stage z.seen.share (same_cycle k s r id hist x at word pool class may) g.leading;
@@ -121,6 +122,7 @@ module _ (k : Config) (s : Words) (r : Rule k s) (id : ℕ) (hist : List Entry) 
         g.knows;
     adds = g.adds;
     looks = record { at_own = g.looks.at_own; pruned = g.looks.pruned; cleans = g.looks.cleans; emptied_is = λ a p own lives. g.looks.emptied_is a p (own_was k s r id hist x at word pool class may a z.own.number own) lives };
+    deciding = g.deciding;
   }
 
   return_rule : Rule k record { words = ws; homes = s.homes; views = set s.views id (one k hist y) }
@@ -133,9 +135,7 @@ module _ (k : Config) (s : Words) (r : Rule k s) (id : ℕ) (hist : List Entry) 
       record {
         wide = length-set s.words (11 + k.pools + pool) 0 ∙ r.whole.wide;
         legal = r.whole.legal;
-        plain = r.whole.plain;
         full = full' k s r id hist x at word pool class may;
-        queues = r.whole.queues;
         found = found_agrees k c.paint r.account.live (state_of k r.account.log).graph s.words ws same r.whole.placed r.whole.found;
         placed = r.whole.placed;
         spread = r.whole.spread;
@@ -159,7 +159,7 @@ module _ (k : Config) (s : Words) (r : Rule k s) (id : ℕ) (hist : List Entry) 
       }
       (knows_front k s r id hist x at y refl (mine k s r id hist x at).front)
       record {
-        stood = record { wide = g.stood.wide; each = g.stood.each; serial = g.stood.serial };
+        stood = record { wide = g.stood.wide; each = g.stood.each; serial = g.stood.serial; enrolled = g.stood.enrolled };
         area = record { room = g.area.room; free = g.area.free; classes = g.area.classes };
         making = record { fits = own_making.fits; written = own_making.written };
         staged = record { arrivals = g.staged.arrivals; stage = g.staged.stage };

@@ -45,18 +45,20 @@ use Rattle.heap_rule.specs.Pools.{Grid, Hunter, Tenancy, place_in}
 use Rattle.heap_rule.specs.Raw.{CanLeave, Closes, Leaves, MayStore}
 use Rattle.heap_rule.specs.Rule.{AllFound, Good, Rule, Sharing, Stood, state_of}
 use Rattle.heap_rule.specs.Views.{one}
+use Rattle.heap_rule.specs.Deciding.{Deciding, IsRooting}
 use Rattle.heap_rule.specs.Ephemerons.{Listed}
 use Rattle.heap_rule.proofs.EphemeronLemmas.{listed_on, looks_idle}
 use Rattle.heap_rule.proofs.Again.{Back, ephe_back, lots_back}
 use Rattle.heap_rule.proofs.Holders.{Agrees, SameFor, SameHeap, agrees_set, found_heap, hunter_agree, making_heap, stock_self}
 use Rattle.heap_rule.proofs.Keeps.{Words, hunter_as, my_good}
 use Rattle.heap_rule.proofs.PauseFacts.{not_both}
-use Rattle.heap_rule.proofs.PlainHistories.{IsPlainState, plain_opening, plain_state}
 use Rattle.steps_cycle.specs.Looks.{with_share}
 use Rattle.steps_cycle.proofs.Learning.{whole_in}
 use Rattle.steps_cycle.proofs.Plain.{share_closes}
 use Rattle.steps_cycle.proofs.Layouts.{label_there, labelled, owner_of_place}
 use Rattle.steps_sweep.specs.Turning.{TurnMay, TurnTold}
+use Rattle.steps_sweep.proofs.Enrolling.{enrolled_left}
+use Rattle.steps_sweep.proofs.HistorySizes.{sizes_after}
 use Rattle.steps_sweep.proofs.Reaping.{reaped_to, reaps}
 use Rattle.steps_sweep.proofs.Rotating.{dead_gone, dead_was, kept_of, kept_or_dead, kept_was, left_garbage, left_live, rotated_fits, rotated_paint, stands_left, was_kept}
 use Rattle.heap_rule.proofs.Lists.{no_item}
@@ -128,11 +130,8 @@ module _ (k : Config) (s : Words) (r : Rule k s) (id : ℕ) (hist : List Entry) 
   unrotated : c.rotated ≡ false
   unrotated = good.sharing.leading.rotated may.first kind_is ∙ may.not_yet
 
-  plain : IsPlainState (sizes_in k) now
-  plain = plain_state (sizes_in k) (opening (sizes_in k)) r.account.log r.whole.plain (plain_opening (sizes_in k))
-
   counted : k.domains ≡ length now.domains
-  counted = sym ((shaped-history (sizes_in k) r.account.log r.limits).domain_count ∙ ap (λ (z : Sizes). z.domains) plain.sizes)
+  counted = sym ((shaped-history (sizes_in k) r.account.log r.limits).domain_count ∙ ap (λ (z : Sizes). z.domains) (sizes_after (opening (sizes_in k)) r.account.log))
 
   leads : LeadsToMarked now c.before
   leads = (phase_steps.lasts_sweep k.domains now (swept_of k live t.holder c) counted facts.facts told.1).0
@@ -222,6 +221,7 @@ module _ (k : Config) (s : Words) (r : Rule k s) (id : ℕ) (hist : List Entry) 
     wide = st.wide;
     each = λ q few. stands_left c.before live (value_at z.own.registers q) (register now z.own.number q) (λ l e. leads.registers z.own.number l (held_at (domain_at now z.own.number).registers q l e)) (st.each q few);
     serial = st.serial;
+    enrolled = enrolled_left now c.before leads live z.own.number z.own.finalisers st.enrolled;
   }
 
   -- garbage lies in pools of domains, under the colour that means garbage now
@@ -256,7 +256,7 @@ module _ (k : Config) (s : Words) (r : Rule k s) (id : ℕ) (hist : List Entry) 
     facts = let f = facts.facts in record { owned = owned'; whole = f.whole; waiting = f.waiting; lasts = f.lasts; through = f.through };
     unchanged = facts.unchanged;
     stays = λ e. absurd (true≢false e);
-    turned = λ _. record { all_marked = λ a p lives. (kept_was c.before live a p lives).1; unmarked = λ l. refl; owned = garbage_owned };
+    turned = λ _. record { all_marked = λ a p lives. (kept_was c.before live a p lives).1; unmarked = λ l. refl; owned = garbage_owned; gone = told.1 };
   }
 
   same_colours : may.colours ≡ c.paint.colours
@@ -286,7 +286,12 @@ module _ (k : Config) (s : Words) (r : Rule k s) (id : ℕ) (hist : List Entry) 
   no_sweep : c.kind ≡ Sweep → ⊥
   no_sweep e = let f : Lasts ≡ Sweep = sym kind_is ∙ e in cc
 
-  sharing' : Sharing k (reaped_to k s r id hist x at live' garbage' c') words' d x.own.registers x.own.ephemerons.items x.seen.stage share'
+  -- it is in no phase in which roots are marked
+  deciding' : (z : DomainView) (kept : ℕ) (waiting : List ℕ) → Deciding live c.kind c.left c.shares.arrived c.paint.marks.marked z.own.number z.own.finalisers kept waiting
+      → Deciding live' c.kind c.left c.shares.arrived (λ l. false) z.own.number z.own.finalisers kept waiting
+  deciding' z kept waiting e = record { finals = e.finals; lasts = e.lasts; rooted = λ rooting. absurd (subst IsRooting kind_is rooting) }
+
+  sharing' : Sharing k (reaped_to k s r id hist x at live' garbage' c') words' d x.own.registers x.own.finalisers x.own.ephemerons.items x.seen.stage share'
   sharing' = let g = good.sharing in record {
     telling = record {
       owes = g.telling.owes;
@@ -306,9 +311,10 @@ module _ (k : Config) (s : Words) (r : Rule k s) (id : ℕ) (hist : List Entry) 
     knows = inl idle';
     adds = record { blocks = λ e _. absurd (no_sweep e); words = λ e _. absurd (no_sweep e); own = λ e _ _. absurd (no_sweep e) };
     looks = looks_idle live' t.holder garbage' now.graph c'.paint.marks c.paint.emptied d x.own.ephemerons.items x.seen.stage share' idle' whole;
+    deciding = deciding' x x.seen.share.kept x.seen.share.waiting g.deciding;
   }
 
-  sharings' : (z : DomainView) → z.own.number < k.domains → z.own.number ≢ d → Good k r.account s.words z → Sharing k (reaped_to k s r id hist x at live' garbage' c') words' z.own.number z.own.registers z.own.ephemerons.items z.seen.stage z.seen.share
+  sharings' : (z : DomainView) → z.own.number < k.domains → z.own.number ≢ d → Good k r.account s.words z → Sharing k (reaped_to k s r id hist x at live' garbage' c') words' z.own.number z.own.registers z.own.finalisers z.own.ephemerons.items z.seen.stage z.seen.share
   sharings' z below differs h =
       let g = h.sharing in
       let gone = told.1 z.own.number below in
@@ -331,6 +337,7 @@ module _ (k : Config) (s : Words) (r : Rule k s) (id : ℕ) (hist : List Entry) 
         knows = inl (g.telling.fresh gone);
         adds = record { blocks = λ e _. absurd (no_sweep e); words = λ e _. absurd (no_sweep e); own = λ e _ _. absurd (no_sweep e) };
         looks = looks_idle live' t.holder garbage' now.graph c'.paint.marks c.paint.emptied z.own.number z.own.ephemerons.items z.seen.stage z.seen.share (g.telling.fresh gone) whole;
+        deciding = deciding' z z.seen.share.kept z.seen.share.waiting g.deciding;
       }
 
   -- a listed ephemeron lives on, or it is garbage

@@ -1,5 +1,5 @@
 -- What the steps ask and tell by which a domain learns what lives, where a collection is answered, and answers `full_major`.
-use Rattle.std.specs.Prelude.{◌≡◌, ℕ, false, [], Some}
+use Rattle.std.specs.Prelude.{◌≡◌, ℕ, false, [], length, Some}
 use Rattle.heap_model.specs.declared.command.Command.TheVariants.{FullMajor}
 use Rattle.heap_model.specs.declared.entry.Entry.TheVariants.{Command}
 use Rattle.heap_model.specs.declared.reply.Applied.TheVariants.{Replied}
@@ -18,12 +18,14 @@ use Rattle.steps_cycle.specs.Looks.{with_share}
 abbrev pub LiveBlocksTold : DomainView → ℕ → DomainView → Type 0
 LiveBlocksTold x found y = y ≡ with_share x (record x.seen.share { blocks = Some found })
 
--- in Answer, a load of the live words by a domain whose trace hasn't ended, and which knows how many blocks live
+-- in Answer, a load of the live words by a domain whose trace hasn't ended, which owes no finaliser, and which knows how many blocks live
 pub record LiveWordsMay (k : Config) (x : DomainView) (blocks : ℕ) : Type 0 where
   pub stage : x.seen.stage ≡ In Answer
   pub known : x.seen.share.blocks ≡ Some blocks
   pub goes_on : (domain_at (state_of k x.seen.front) x.own.number).ended ≡ false
+  pub paid : (domain_at (state_of k x.seen.front) x.own.number).due ≡ 0
 
--- its `full_major` is answered with these blocks and the words that are found
-abbrev pub LiveWordsTold : Config → ℕ → DomainView → ℕ → DomainView → Type 0
-LiveWordsTold k blocks x found y = Entered k (Command x.own.number FullMajor false) (Replied (Live blocks found)) Nothing [] x y
+-- its `full_major` is answered with these blocks and the words that are found, and it owes what its queue holds
+pub record LiveWordsTold (k : Config) (blocks : ℕ) (x : DomainView) (found : ℕ) (y : DomainView) : Type 0 where
+  pub entered : Entered k (Command x.own.number FullMajor false) (Replied (Live blocks found)) Nothing [] x y
+  pub due : (domain_at (state_of k y.seen.front) y.own.number).due ≡ length y.own.finalisers.queue.items

@@ -1,15 +1,9 @@
 //! The answer to `full_major`, once a collection is complete.
-ghost use Rattle.std.specs.Prelude.{◌≡◌, false, []};
-ghost use Rattle.heap_model.specs.declared.command.Command.TheVariants.{FullMajor};
-ghost use Rattle.heap_model.specs.declared.entry.Entry.TheVariants.{Command};
-ghost use Rattle.heap_model.specs.declared.reply.Applied.TheVariants.{Replied};
-ghost use Rattle.heap_model.specs.declared.reply.Reply.TheVariants.{Live};
-ghost use Rattle.heap_words.specs.declared.value.Value.TheVariants.{Nothing as NothingRead};
+ghost use Rattle.std.specs.Prelude.{◌≡◌};
 ghost use Rattle.heap_rule.specs.declared.phase.Kind.TheVariants.{Answer};
 ghost use Rattle.heap_rule.specs.declared.phase.Stage.TheVariants.{In};
-ghost use Rattle.heap_rule.specs.Standing.{Entered};
 ghost use Rattle.heap_rule.specs.Token.{IsIn};
-ghost use Rattle.steps_sweep.specs.Answering.{LiveBlocksTold, LiveWordsMay};
+ghost use Rattle.steps_sweep.specs.Answering.{LiveBlocksTold, LiveWordsMay, LiveWordsTold};
 
 use heap_rule::{Change, Domain, Heap, LIVE_BLOCKS, LIVE_WORDS, Leaving, Own, Writing, raw_load};
 use std::marker::Brand;
@@ -40,15 +34,15 @@ pub fn live_blocks_load(heap: &Heap, dom: &mut Domain) -> u64
     raw_load::<Brand, Leaving>(heap, dom, LIVE_BLOCKS, &Leaving, &[])
 }
 
-/// A load of the word of the live words, in Answer, at which the domain's `full_major` stands.
-/// `blocks` is the word of the live blocks. The command's reply is this number and the answer, the
-/// word that is found.
+/// A load of the word of the live words, in Answer, at which the domain's `full_major` stands. The
+/// domain has run all finalisers that waited when it made its last command. `blocks` is the word of the
+/// live blocks. The command's reply is this number and the answer, the word that is found. From then on
+/// the domain owes the finalisers that its queue holds.
 pub fn live_words_load(heap: &Heap, dom: &mut Domain, blocks: u64) -> u64
     requires here { IsIn dom.old heap.now }
     requires may { LiveWordsMay heap.now.config dom.old.view blocks }
     ensures here { IsIn dom.new heap.now }
-    ensures entered { Entered heap.now.config (Command dom.old.view.own.number FullMajor false)
-        (Replied (Live blocks result)) NothingRead [] dom.old.view dom.new.view }
+    ensures told { LiveWordsTold heap.now.config blocks dom.old.view result dom.new.view }
 {
     raw_load::<Brand, Counted>(heap, dom, LIVE_WORDS, &Counted { blocks }, &[])
 }
