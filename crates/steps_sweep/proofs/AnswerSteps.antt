@@ -1,5 +1,5 @@
 -- The loads by which a domain learns what lives, and answers `full_major`, keep the rule.
-use Rattle.std.proofs.Common.{◌<◌, get_or-set_same, ◌≡◌, ◌≢◌, ℕ, false, true≢false, ne_eqb, List, [], ◌∷◌, ◌++◌, set, Some, sym, refl, ap, ◌∙◌, subst, inr}
+use Rattle.std.proofs.Common.{◌<◌, get_or-set_same, ◌≡◌, ◌≢◌, ℕ, false, true≢false, ne_eqb, List, [], length, ◌∷◌, ◌++◌, set, Some, sym, refl, ap, ◌∙◌, subst, inr}
 use mathlib.Core.Option.{some}
 use lib.ListN.{get_elem?}
 use Rattle.atomic_table.specs.Table.{keeps}
