@@ -108,7 +108,7 @@ fn put(heap: &Heap, dom: &mut Domain, ephe: u8, key: Option<u16>, item: Option<u
 /// register `ephe` holds no ephemeron or register `item` no block, and else `bounds` where the
 /// ephemeron has no such key. A key of an ephemeron in a pool that is set to a block in a minor area
 /// is one more word that the domain remembers. Registers are below 16, the domain's trace hasn't
-/// ended, and it has room for one more.
+/// ended, no finaliser waits in its queue, and it has room for one more.
 pub fn set_key(heap: &Heap, dom: &mut Domain, ephe: u8, index: u16, item: u8) -> Reply
     requires runs { Runs heap.now dom.old }
     requires ephe { ephe < 16 }
@@ -128,7 +128,7 @@ pub fn set_key(heap: &Heap, dom: &mut Domain, ephe: u8, index: u16, item: u8) ->
 
 /// Empties a key of the ephemeron in a register. The reply is `type` where the register holds no
 /// ephemeron, and else `bounds` where it has no such key. What the domain owns stays as it is.
-/// Registers are below 16, and the domain's trace hasn't ended.
+/// Registers are below 16, the domain's trace hasn't ended, and no finaliser waits in its queue.
 pub fn unset_key(heap: &Heap, dom: &mut Domain, ephe: u8, index: u16) -> Reply
     requires runs { Runs heap.now dom.old }
     requires ephe { ephe < 16 }
@@ -142,7 +142,8 @@ pub fn unset_key(heap: &Heap, dom: &mut Domain, ephe: u8, index: u16) -> Reply
 /// Sets the datum of the ephemeron in a register to what another holds. The reply is `type` where
 /// register `ephe` holds no ephemeron or register `item` holds nothing. The datum of an ephemeron in
 /// a pool that is set to a block in a minor area is one more word that the domain remembers.
-/// Registers are below 16, the domain's trace hasn't ended, and it has room for one more.
+/// Registers are below 16, the domain's trace hasn't ended, no finaliser waits in its queue, and it
+/// has room for one more.
 pub fn set_data(heap: &Heap, dom: &mut Domain, ephe: u8, item: u8) -> Reply
     requires runs { Runs heap.now dom.old }
     requires ephe { ephe < 16 }
@@ -161,8 +162,8 @@ pub fn set_data(heap: &Heap, dom: &mut Domain, ephe: u8, item: u8) -> Reply
 }
 
 /// Empties the datum of the ephemeron in a register. The reply is `type` where the register holds no
-/// ephemeron. What the domain owns stays as it is. Registers are below 16, and the domain's trace
-/// hasn't ended.
+/// ephemeron. What the domain owns stays as it is. Registers are below 16, the domain's trace hasn't
+/// ended, and no finaliser waits in its queue.
 pub fn unset_data(heap: &Heap, dom: &mut Domain, ephe: u8) -> Reply
     requires runs { Runs heap.now dom.old }
     requires ephe { ephe < 16 }

@@ -80,7 +80,8 @@ fn check(heap: &Heap, dom: &mut Domain, ephe: u8, key: Option<u16>) -> Reply
 /// Puts a key of the ephemeron in a register into another. The reply is `type` where register `ephe`
 /// holds no ephemeron, and else `bounds` where it has no such key: then the registers stay as they
 /// are. Else register `dst` holds the key, which the reply shows, or nothing where it is empty, and
-/// the reply is `none`. Registers are below 16, and the domain's trace hasn't ended.
+/// the reply is `none`. Registers are below 16, the domain's trace hasn't ended, and no finaliser waits
+/// in its queue.
 pub fn get_key(heap: &Heap, dom: &mut Domain, dst: u8, ephe: u8, index: u16) -> Reply
     requires runs { Runs heap.now dom.old }
     requires dst { dst < 16 }
@@ -95,7 +96,8 @@ pub fn get_key(heap: &Heap, dom: &mut Domain, dst: u8, ephe: u8, index: u16) -> 
 
 /// Tells whether a key of the ephemeron in a register is full. The reply is `type` where the
 /// register holds no ephemeron, and else `bounds` where it has no such key, and else `yes` or `no`.
-/// What the domain owns stays as it is. Registers are below 16, and the domain's trace hasn't ended.
+/// What the domain owns stays as it is. Registers are below 16, the domain's trace hasn't ended, and no
+/// finaliser waits in its queue.
 pub fn check_key(heap: &Heap, dom: &mut Domain, ephe: u8, index: u16) -> Reply
     requires runs { Runs heap.now dom.old }
     requires ephe { ephe < 16 }
@@ -109,7 +111,7 @@ pub fn check_key(heap: &Heap, dom: &mut Domain, ephe: u8, index: u16) -> Reply
 /// Puts the datum of the ephemeron in a register into another. The reply is `type` where register
 /// `ephe` holds no ephemeron: then the registers stay as they are. Else register `dst` holds the
 /// datum, which the reply shows, or nothing where it is empty, and the reply is `none`. Registers
-/// are below 16, and the domain's trace hasn't ended.
+/// are below 16, the domain's trace hasn't ended, and no finaliser waits in its queue.
 pub fn get_data(heap: &Heap, dom: &mut Domain, dst: u8, ephe: u8) -> Reply
     requires runs { Runs heap.now dom.old }
     requires dst { dst < 16 }
@@ -124,7 +126,7 @@ pub fn get_data(heap: &Heap, dom: &mut Domain, dst: u8, ephe: u8) -> Reply
 
 /// Tells whether the datum of the ephemeron in a register is full. The reply is `type` where the
 /// register holds no ephemeron, and else `yes` or `no`. What the domain owns stays as it is.
-/// Registers are below 16, and the domain's trace hasn't ended.
+/// Registers are below 16, the domain's trace hasn't ended, and no finaliser waits in its queue.
 pub fn check_data(heap: &Heap, dom: &mut Domain, ephe: u8) -> Reply
     requires runs { Runs heap.now dom.old }
     requires ephe { ephe < 16 }

@@ -4,4 +4,5 @@ pub mod Racing
 pub mod Valuing
 pub mod Fills
 pub mod Rooting
+pub mod HeldMoves
 pub mod Giving

@@ -14,6 +14,8 @@ use Rattle.heap_rule.specs.Limits.{sizes_in}
 use Rattle.heap_rule.specs.Layout.{heap_words}
 use Rattle.heap_rule.specs.Places.{Place, Live, extent, head_of, IsBuilt, IsNewHead, IsOldAt, Lasts, More, IsHeadOf}
 use Rattle.heap_rule.specs.Pools.{prepared_at}
+use Rattle.heap_rule.specs.declared.view.Held.{Held}
+use Rattle.heap_rule.specs.Finalisers.{held_at}
 use Rattle.heap_rule.specs.Standing.{IsInHeap, IsAt}
 use Rattle.heap_rule.proofs.Values.{address_of}
 use Rattle.steps_promote.specs.Promotion.{form_of, met_of, with_met, with_copied, AllFit, Knows, StaysThere, Forwards, HeadMet, HeadMay}
@@ -134,7 +136,7 @@ grown_colours k x y c e w = record {
 }
 
 pub head_may_colours : (x y : DomainView) (c : Colours) (a : ℕ) → y ≡ knowing_colours x c → HeadMay x a → HeadMay y a
-head_may_colours x y c a e may = subst (λ (z : DomainView). HeadMay z a) (sym e) record { stage = may.stage; from = ⊎_elim (λ (t : (p : Place) × (Knows x a ≡ Some p)). inl t) (λ (t : (r : ℕ) × IsAt x r a). inr (t.0, record { few = t.1.few; holds = t.1.holds })) may.from }
+head_may_colours x y c a e may = subst (λ (z : DomainView). HeadMay z a) (sym e) record { stage = may.stage; from = ⊎_elim (λ (t : (p : Place) × (Knows x a ≡ Some p)). inl t) (λ z. ⊎_elim (λ (t : (r : ℕ) × IsAt x r a). inr (inl (t.0, record { few = t.1.few; holds = t.1.holds }))) (λ (t : (h : Held) × (held_at x.own.finalisers h ≡ Some a)). inr (inr t)) z) may.from }
 
 -- claims one behind the other
 pub grown_twice : (k : Config) (x y z : DomainView) → Grown k x y → Grown k y z → Grown k x z

@@ -5,7 +5,7 @@ use Rattle.heap_words.specs.declared.value.Value.TheVariants.{Ref}
 use Rattle.heap_rule.specs.declared.config.Config.{Config}
 use Rattle.heap_rule.specs.declared.view.DomainView.{DomainView}
 use Rattle.heap_rule.specs.Changes.{value_at}
-use Rattle.heap_rule.specs.Copies.{HasCopy, IsOldValue, HoldsOld}
+use Rattle.heap_rule.specs.Copies.{HasCopy, IsOldValue}
 use Rattle.heap_rule.specs.Places.{IsOldAt}
 use Rattle.steps_promote.specs.Promotion.{Knows}
 use Rattle.promote_claim.specs.Working.{SameBlock, Works, Tied, Learns}
@@ -46,7 +46,7 @@ pub record AllMoved (k : Config) (x y : DomainView) : Type 0 where
   pub works : Works k y
   pub learns : Learns x y
   pub tied : Tied 0 y
-  pub old : HoldsOld k y
+  pub old : (r : ℕ) → r < 16 → IsOldValue k (value_at y.own.registers r)
   pub becomes : (r : ℕ) → r < 16 → Becomes k y (value_at x.own.registers r) (value_at y.own.registers r)
 
 -- the domain with what claims change, and the fields that are still to be looked through, as another has them

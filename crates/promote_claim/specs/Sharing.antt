@@ -7,6 +7,7 @@ use Rattle.heap_rule.specs.declared.view.Hunt.TheVariants.{Rests}
 use Rattle.heap_rule.specs.Changes.{value_at}
 use Rattle.heap_rule.specs.Copies.{HoldsOld}
 use Rattle.heap_rule.specs.Pools.{prepared_at}
+use Rattle.promote_claim.specs.Held.{ListsBecome}
 use Rattle.promote_claim.specs.Roots.{Becomes}
 use Rattle.promote_claim.specs.Working.{with_claims, AllPlaced}
 use Rattle.heap_rule.specs.declared.phase.Kind.TheVariants.{Promote}
@@ -32,14 +33,14 @@ pub record GaveBack (x y : DomainView) : Type 0 where
   pub copying : y.seen.copying ≡ x.seen.copying
   pub unprepared : Unprepared y
 
--- the domain with its registers, its copies, its places of the pools and the fields to be looked through as another has them
+-- the domain with its registers, its lists of finalisers, its copies, its places of the pools and the fields to be looked through as another has them
 abbrev pub with_share : DomainView → DomainView → DomainView
 with_share x y = record {
-  own = record x.own { registers = y.own.registers; looked = y.own.looked; prepared = y.own.prepared; pending = y.own.pending };
+  own = record x.own { registers = y.own.registers; finalisers = y.own.finalisers; looked = y.own.looked; prepared = y.own.prepared; pending = y.own.pending };
   seen = record x.seen { hunt = y.seen.hunt; copying = y.seen.copying; remembered = y.seen.remembered; share = record x.seen.share { colours = y.seen.share.colours } };
 }
 
--- the domain owes no copy a value, has looked through all its remembered fields, holds no address of a minor area, and has no place prepared: it may arrive. Each register stands for what it stood for. All else is as it was
+-- the domain owes no copy a value, has looked through all its remembered fields, holds no address of a minor area, and has no place prepared: it may arrive. Each register, and each place of the lists of finalisers, stands for what it stood for. All else is as it was
 pub record Shared (k : Config) (x y : DomainView) : Type 0 where
   pub view : y ≡ with_share x y
   pub at_rest : y.seen.hunt ≡ Rests
@@ -47,4 +48,5 @@ pub record Shared (k : Config) (x y : DomainView) : Type 0 where
   pub looked_through : y.seen.remembered ≡ []
   pub holds_old : HoldsOld k y
   pub registers : (r : ℕ) → r < 16 → Becomes k y (value_at x.own.registers r) (value_at y.own.registers r)
+  pub finalisers : ListsBecome k x y
   pub unprepared : Unprepared y

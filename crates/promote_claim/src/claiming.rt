@@ -84,7 +84,7 @@ fn claim_as(heap: &Heap, dom: &mut Domain, young: u32, word: u64) -> u32
 }
 
 // Claims a young block, whose domain knows the colours.
-fn claim_met(heap: &Heap, dom: &mut Domain, young: u32) -> u32
+pub(crate) fn claim_met(heap: &Heap, dom: &mut Domain, young: u32) -> u32
     requires here { IsIn dom.old heap.now }
     requires works { Works heap.now.config dom.old.view }
     requires inside { IsInHeap heap.now.config young }
@@ -102,9 +102,9 @@ fn claim_met(heap: &Heap, dom: &mut Domain, young: u32) -> u32
     claim_as(heap, dom, young, word)
 }
 
-/// Claims a young block that was met, or that a register holds, in a phase in which domains copy.
-/// Answers the address of the block's copy: that of another domain's where another has claimed the
-/// block. What the domain prepared for it is then kept for its next claim of the size class. The
+/// Claims a young block that was met, or to which a register or a list of finalisers refers, in a phase
+/// in which domains copy. Answers the address of the block's copy: that of another domain's where
+/// another has claimed the block. What the domain prepared for it is then kept for its next claim of the size class. The
 /// block's head forwards to this address, and every domain that claims the block gets the same one.
 ///
 /// A copy that the domain makes stands in its list of copies, and has none of its values yet.

@@ -6,6 +6,7 @@
 
 mod claiming;
 mod filling;
+mod finalisers;
 mod heads;
 mod places;
 mod promotion;

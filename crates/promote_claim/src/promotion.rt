@@ -11,6 +11,7 @@ ghost use Rattle.promote_claim.specs.Sharing.{Unprepared, Gives, GaveBack, Share
 ghost use Rattle.promote_claim.specs.Working.{Works};
 
 use crate::filling::fill_all;
+use crate::finalisers::move_finalisers;
 use crate::places::spot_in;
 use crate::roots::{move_registers, rewrite_fields};
 use heap_rule::{Domain, Heap};
@@ -45,12 +46,13 @@ fn give_back(heap: &Heap, dom: &mut Domain)
     }
 }
 
-/// A domain's share of a phase in which the domains copy young blocks: all that its registers and its
-/// remembered fields lead to is copied, as far as no other domain copies it. Afterwards no register
-/// and none of these fields has an address of a minor area, each copy that the domain made has all
-/// its values, none of which is such an address, and no place is prepared: the domain may arrive. Each
-/// register stands for what it stood for: where it held the address of a young block it holds that of
-/// the block's copy.
+/// A domain's share of a phase in which the domains copy young blocks: all that its registers, its
+/// lists of finalisers and its remembered fields lead to is copied, as far as no other domain copies
+/// it. Afterwards no register, no list and none of these fields has an address of a minor area, each
+/// copy that the domain made has all its values, none of which is such an address, and no place is
+/// prepared: the domain may arrive. Each register stands for what it stood for: where it held the
+/// address of a young block it holds that of the block's copy. So does each place of the lists, of
+/// which nothing else changes.
 ///
 /// Nothing has been copied or prepared before, and the fields to be looked through are those of the
 /// domain's list.
@@ -66,6 +68,7 @@ pub fn promote(heap: &Heap, dom: &mut Domain)
     ensures shared { Shared heap.now.config dom.old.view dom.new.view }
 {
     move_registers(heap, dom);
+    move_finalisers(heap, dom);
     rewrite_fields(heap, dom);
     fill_all(heap, dom);
     give_back(heap, dom);

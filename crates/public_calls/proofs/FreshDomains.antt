@@ -29,14 +29,14 @@ is_fresh : (h : SharedHeap) (d : ℕ) → d < h.config.domains → IsFresh h (op
 is_fresh h d inside = record {
   runs = record {
     here = (refl, refl);
-    acts = record { goes_on = not_ended h.config.domains d inside; runs = refl };
+    acts = record { goes_on = not_ended h.config.domains d inside; runs = refl; unqueued = refl };
     idle = refl;
     at_rest = refl;
     remembers = refl;
   };
   begins = record {
     inside = inside;
-    acts = record { goes_on = not_ended h.config.domains d inside; runs = refl };
+    acts = record { goes_on = not_ended h.config.domains d inside; runs = refl; unqueued = refl };
     idle = refl;
     at_rest = refl;
     no_commands = refl;
@@ -100,7 +100,7 @@ begins t cs b few fit none = record {
 pub noted_runs : (h : SharedHeap) (t u : Token) (notes : List Note) → Runs h t → IsIn u h → u.view ≡ record t.view { seen = record t.view.seen { notes = notes } } → Runs h u
 noted_runs h t u notes r here is =
     let same : t.config ≡ u.config = r.here.1 ∙ sym here.1 in
-    let acts : Acts t.config u.view = subst (Acts t.config) (sym is) (record { goes_on = r.acts.goes_on; runs = r.acts.runs }) in
+    let acts : Acts t.config u.view = subst (Acts t.config) (sym is) (record { goes_on = r.acts.goes_on; runs = r.acts.runs; unqueued = r.acts.unqueued }) in
     record {
       here = here;
       acts = subst (λ (k : Config). Acts k u.view) same acts;

@@ -1,5 +1,5 @@
 -- A place of the lists of finalisers that has the address of a block that was met gets that of its copy.
-use Rattle.std.proofs.Common.{◌≡◌, ℕ, ◌+◌, ◌<◌, ◌≤◌, ◌⊎◌, inl, inr, ⊎_elim, List, length, get_or, set, slice_get, option_map, option_and_then, Option, Some, None, sym, refl, ap, ◌∙◌, subst, arith}
+use Rattle.std.proofs.Common.{◌≡◌, ℕ, ◌+◌, ◌<◌, ◌≤◌, ◌⊎◌, ⊎_elim, List, length, set, slice_get, option_map, option_and_then, Option, Some, None, sym, refl, ap, ◌∙◌, subst, arith}
 use mathlib.Core.Option.{some}
 use lib.ListN.{get_elem?}
 use Rattle.atomic_table.specs.Table.{keeps}
@@ -21,11 +21,11 @@ use Rattle.heap_rule.specs.declared.view.Waiting.{Waiting}
 use Rattle.heap_rule.specs.declared.view.Waiting.TheVariants.{Fin as FinWaiting, Last as LastWaiting}
 use Rattle.heap_rule.specs.declared.phase.Kind.TheVariants.{Promote}
 use Rattle.heap_rule.specs.declared.phase.Stage.TheVariants.{In}
-use Rattle.heap_rule.specs.Finalisers.{Paired, LivesAt, StandsFinal, StandsLast, StandsWaiting, Enrolled, FinalisersFit, address_in, held_at}
+use Rattle.heap_rule.specs.Finalisers.{LivesAt, StandsFinal, StandsLast, StandsWaiting, Enrolled, FinalisersFit, address_in, held_at}
 use Rattle.heap_rule.specs.Layout.{heap_words}
 use Rattle.heap_rule.specs.Places.{Place, Live, More}
 use Rattle.heap_rule.specs.Raw.{MayStep, Closes}
-use Rattle.heap_rule.specs.Rule.{state_of, Rule, Stood}
+use Rattle.heap_rule.specs.Rule.{state_of, Rule}
 use Rattle.heap_rule.specs.Standing.{IsInHeap}
 use Rattle.heap_rule.specs.Token.{OwnFits}
 use Rattle.heap_rule.specs.Views.{one}

@@ -301,7 +301,7 @@ pub record HasNode (k : Config) (live : Live) (graph : Graph) (words : List ℕ)
   pub values : (i : ℕ) (v : model.Value) → slice_get (values_of node) i ≡ Some v → WordStands live (at_address k words (a + 2 + i)) v
   pub old : (i : ℕ) → i + 2 < extent p.shape → IsOldWord k (at_address k words (a + 2 + i))
 
--- No young block is left. Each block that lives at an address lies in a pool, and is a node of the graph after the domain's front, which is the whole history then. At each place of a pool that a domain owns a block lives, or the head says Free. What the domain's registers lead to lives, and no field of a block and no register of the domain has an address of a minor area
+-- No young block is left. Each block that lives at an address lies in a pool, and is a node of the graph after the domain's front, which is the whole history then. At each place of a pool that a domain owns a block lives, or the head says Free. What the domain's registers lead to lives, and no field of a block, no register and no list of finalisers of the domain has an address of a minor area
 pub record NoneYoung (k : Config) (x : DomainView) (words : List ℕ) : Type 0 where
   pub live : Live
   pub pools : (a : ℕ) (p : Place) → live a ≡ Some p → IsOldAt k a

@@ -255,9 +255,9 @@ pub fn area_reset(heap: &Heap, dom: &mut Domain, at: u32)
     raw_store::<Brand, Resetting>(heap, dom, index, 0, &Resetting, &[]);
 }
 
-/// In Reset no young block is left: no field of any block, and no register of the domain, has an
-/// address of a minor area. A load of any word of the heap, which is at `at`, at which this holds.
-/// Answers the word.
+/// In Reset no young block is left: no field of any block, no register and no list of finalisers of the
+/// domain has an address of a minor area. A load of any word of the heap, which is at `at`, at which
+/// this holds. Answers the word.
 pub fn reset_load(heap: &Heap, dom: &mut Domain, at: u32) -> u64
     requires here { IsIn dom.old heap.now }
     requires inside { IsInHeap heap.now.config at }

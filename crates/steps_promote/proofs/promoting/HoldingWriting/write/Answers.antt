@@ -1,4 +1,4 @@
-use Rattle.std.proofs.Common.{◌≡◌, ℕ, Some, sym, ap, subst, ◌∙◌}
+use Rattle.std.proofs.Common.{ℕ, Some, sym, ap, subst, ◌∙◌}
 use Rattle.heap_rule.specs.declared.view.Finalisers.{Finalisers}
 use Rattle.heap_rule.specs.declared.view.Held.{Held}
 use Rattle.heap_rule.specs.declared.view.Own.{Own}
