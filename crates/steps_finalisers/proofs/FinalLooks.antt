@@ -49,7 +49,6 @@ use Rattle.steps_sweep.specs.Freeing.{IsColoured}
 use Rattle.steps_sweep.proofs.HeadColours.{one_colour}
 use Rattle.steps_finalisers.specs.Looking.{FinalLookMay, FinalLookTold, LastLookMay, LastLookTold, Queues, keeping, queued_final, queued_last}
 use Rattle.steps_finalisers.proofs.TakeSteps.{Takes, collecting, kind_is, takes, waits, y}
-
 use Rattle.steps_finalisers.proofs.LookSteps.{at_one, coloured, has_final, is_not, removed_length, uncoloured, waiting_more}
 
 module _ (k : Config) (s : Words) (r : Rule k s) (id : ℕ) (hist : List Entry) (x : DomainView) (at : get_elem? s.views id ≡ some (one k hist x)) where
@@ -194,4 +193,3 @@ pub final_look_may : (k : Config) (x : DomainView) (word a i marked : ℕ) (rd :
 final_look_may k x word a i marked rd place may fits slots id hist s r _ at _ =
     let o = final_looks k s r id hist x at a i marked rd may in
     (one k hist o.0, keeps, tt, unmoved k s word (set s.views id (one k hist o.0)) o.1, (subst (λ (n : ℕ). FinalLookTold k i marked rd x (get_or s.words n 0) o.0) (sym place) o.2, refl))
-

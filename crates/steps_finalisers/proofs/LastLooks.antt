@@ -49,7 +49,6 @@ use Rattle.steps_sweep.specs.Freeing.{IsColoured}
 use Rattle.steps_sweep.proofs.HeadColours.{one_colour}
 use Rattle.steps_finalisers.specs.Looking.{FinalLookMay, FinalLookTold, LastLookMay, LastLookTold, Queues, keeping, queued_final, queued_last}
 use Rattle.steps_finalisers.proofs.TakeSteps.{Takes, collecting, kind_is, takes, waits, y}
-
 use Rattle.steps_finalisers.proofs.LookSteps.{at_one, coloured, has_last, is_not, removed_length, uncoloured, waiting_more}
 
 module _ (k : Config) (s : Words) (r : Rule k s) (id : ℕ) (hist : List Entry) (x : DomainView) (at : get_elem? s.views id ≡ some (one k hist x)) where

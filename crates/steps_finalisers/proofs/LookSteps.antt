@@ -117,4 +117,3 @@ module _ (k : Config) (s : Words) (r : Rule k s) (id : ℕ) (hist : List Entry) 
     uncoloured is marked =
         let plain : IsColoured colours.unmarked (at_address k s.words a) = record { shape = q.shape; head = there.head; colour_is = unmarked_colour c.paint q (at_address k s.words a) colours means there is } in
         r.whole.cycle.meanings.marked_differs (ap (λ (z : Colours). z.marked) (sym means) ∙ (one_colour colours.marked colours.unmarked (at_address k s.words a) marked plain ∙ ap (λ (z : Colours). z.unmarked) means))
-

@@ -175,7 +175,7 @@ final_may k x word item rd may fits slots id hist s r _ at _ =
       keeps,
       tt,
       unmoved k s word (set s.views id (one k hist y)) (works_rule k s r id hist x at goes entry x.own.registers lists (Replied Done) o),
-      (record { answers = works_answers k s r id hist x at goes entry x.own.registers lists (Replied Done) o; view = refl }, refl),
+      (record { answers = works_answers k s r id hist x at goes entry x.own.registers lists (Replied Done) o; view = refl; holds = fits.registers }, refl),
     )
 
 pub last_may : (k : Config) (x : DomainView) (word item : ℕ) (rd : RegisteredLast) → LastMay k x item rd → MayStep k x word (λ n. n) (λ z _ y. LastTold k item rd z y)
@@ -189,5 +189,5 @@ last_may k x word item rd may fits slots id hist s r _ at _ =
       keeps,
       tt,
       unmoved k s word (set s.views id (one k hist y)) (works_rule k s r id hist x at goes entry x.own.registers lists (Replied Done) o),
-      (record { answers = works_answers k s r id hist x at goes entry x.own.registers lists (Replied Done) o; view = refl }, refl),
+      (record { answers = works_answers k s r id hist x at goes entry x.own.registers lists (Replied Done) o; view = refl; holds = fits.registers }, refl),
     )

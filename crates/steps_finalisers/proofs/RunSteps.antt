@@ -155,7 +155,7 @@ module _ (k : Config) (s : Words) (r : Rule k s) (id : ℕ) (hist : List Entry) 
         let low : g < 16 = subst HasRegister same_first few in
         let set_stands : AllStand live (set x.own.registers g (Ref address)) (set (domain_at t d).registers g (Block l)) = stand_set live x.own.registers (domain_at t d).registers g (Ref address) (Block l) low (fit.0.0, fit.0.1, fit.0.2) registers_stand in
         let stand : AllStand live regs v.registers = subst (λ (z : List Value × List graph_value.Value). AllStand live z.0 z.1)
-            (λ i. (ap (λ (z : Waiting). registers_after z x.own.registers) (sym same_first) i, ((λ j. set (domain_at t d).registers (fit.2 j) (Block l)) ∙ ap (λ (z : DomainState). set z.registers h (Block l)) (sym here)) i)) set_stands in
+        (λ i. (ap (λ (z : Waiting). registers_after z x.own.registers) (sym same_first) i, ((λ j. set (domain_at t d).registers (fit.2 j) (Block l)) ∙ ap (λ (z : DomainState). set z.registers h (Block l)) (sym here)) i)) set_stands in
         let queue' : (domain_at t d).queue ≡ FinPending m l h ∷ rest = queue_is ∙ ap (λ (z : Pending). z ∷ rest) named in
         let answer : Applied = Replied (FinReply m l) in
         let works = runs (FinPending m l h) rest queue' v final refl domain_is (ap (λ (z : DomainState). z.serial) here) (ap (λ (z : DomainState). z.finals) here) (ap (λ (z : DomainState). z.lasts) here) (ap (λ (z : DomainState). z.queue) here) refl refl stand answer refl in

@@ -13,6 +13,7 @@ use Rattle.heap_rule.specs.declared.view.Registered.{Registered}
 use Rattle.heap_rule.specs.declared.view.RegisteredLast.{RegisteredLast}
 use Rattle.heap_rule.specs.Limits.{sizes_in}
 use Rattle.heap_rule.specs.Standing.{Acts, IsAt, with_front, with_own}
+use Rattle.heap_rule.specs.Token.{Holds}
 
 -- how many registrations a domain has, those included that wait in its queue
 abbrev pub count_of : Finalisers → ℕ
@@ -49,10 +50,12 @@ pub record LastMay (k : Config) (x : DomainView) (item : ℕ) (r : RegisteredLas
 pub record FinalTold (k : Config) (item : ℕ) (r : Registered) (x y : DomainView) : Type 0 where
   pub answers : Answers (sizes_in k) x.own.number x.seen.front y.seen.front (Command x.own.number (Finalise item r.number r.register) false) (Replied Done)
   pub view : y ≡ with_front (with_own x (with_final r x.own)) y.seen.front
+  pub holds : Holds k y.own.registers
 
 pub record LastTold (k : Config) (item : ℕ) (r : RegisteredLast) (x y : DomainView) : Type 0 where
   pub answers : Answers (sizes_in k) x.own.number x.seen.front y.seen.front (Command x.own.number (FinaliseLast item r.number) false) (Replied Done)
   pub view : y ≡ with_front (with_own x (with_last r x.own)) y.seen.front
+  pub holds : Holds k y.own.registers
 
 -- one more registration can be added, and is
 abbrev pub CanAddFinal : Own → Type 0

@@ -3,9 +3,7 @@ ghost use Rattle.std.specs.Prelude.{ℕ};
 ghost use Rattle.heap_rule.specs.Token.{IsIn};
 ghost use Rattle.steps_finalisers.specs.Registering.{FinalMay, FinalTold, LastMay, LastTold};
 
-use heap_rule::{
-    Change, Domain, Heap, Own, Registered, RegisteredLast, WANT, Writing, raw_load,
-};
+use heap_rule::{Change, Domain, Heap, Own, Registered, RegisteredLast, WANT, Writing, raw_load};
 use std::marker::Brand;
 
 // A registration of `finalise` is added. The register is there for the pick alone.

@@ -22,7 +22,9 @@ impl Writing for Running {
     fn write(&self, _found: u64, _changes: &[Change], own: &mut Own) {
         own.finalisers.queue.remove(0);
         if let Waiting::Fin {
-            address, register, ..
+            address,
+            register,
+            ..
         } = self.first
         {
             own.registers[register as usize] = Value::Ref(address);

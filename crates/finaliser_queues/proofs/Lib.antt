@@ -1,0 +1,4 @@
+pub mod Sorting
+pub mod Looking
+pub mod Registrations
+pub mod Runs

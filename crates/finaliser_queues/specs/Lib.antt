@@ -1,0 +1,3 @@
+pub mod Registering
+pub mod Running
+pub mod Deciding
