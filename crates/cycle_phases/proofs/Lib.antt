@@ -1,2 +1,4 @@
 pub mod Opens
 pub mod Leads
+pub mod Sorted
+pub mod Works

@@ -9,6 +9,7 @@ ghost use Rattle.steps_pauses.specs.Pauses.{arrived_view};
 ghost use Rattle.cycle_phases.specs.Sharing.{IsShared, SharesIn, Works};
 
 use ephemeron_rounds::{clean, round};
+use finaliser_queues::{darken_queued, decide, last};
 use heap_rule::{Domain, Heap, Kind};
 use mark_slices::{Hints, mark_round, start_roots};
 use safepoint::arrive;
@@ -41,21 +42,30 @@ fn work(heap: &Heap, dom: &mut Domain, kind: Kind, hints: &mut Hints)
         Kind::Roots => start_roots(heap, dom),
         Kind::Mark => mark_round(heap, dom, hints),
         Kind::Rounds => round(heap, dom),
+        Kind::Decide => decide(heap, dom),
+        Kind::Queued => darken_queued(heap, dom),
         Kind::Clean => clean(heap, dom),
+        Kind::Lasts => last(heap, dom),
         Kind::Sweep => sweep_and_count(heap, dom),
-        _ => (),
+        _ => unreachable!(),
     }
 }
 
 /// The domain does its share of an even phase of a collection of the major heap, and arrives. It has
-/// done nothing in the phase before. In Roots it marks what its registers refer to, in Mark what the
-/// marked blocks of its own pools refer to, and in Rounds the data of its marked ephemerons whose full
-/// keys are all marked. In Clean it empties the keys that aren't marked of its marked ephemerons, and
-/// their data. In Sweep it frees the garbage of its own pools, which it takes off its list of ephemerons
-/// first, and counts what lives there. In the other phases it has nothing to do: no finaliser exists
-/// yet. All that it owns stays as it was but the number of its arrivals, and, where it sweeps, from where
-/// it looks for free places, and its list of ephemerons, in which there is room for no fewer. Its front
-/// stays but where keys are emptied, and grows there by no entry of its own.
+/// done nothing in the phase before. In Roots it marks what its registers refer to and what its queue of
+/// finalisers keeps alive, in Mark what the marked blocks of its own pools refer to, and in Rounds the
+/// data of its marked ephemerons whose full keys are all marked. In Decide it queues those of its
+/// registrations of `finalise` whose blocks aren't marked, the newest first, behind all that waits
+/// already; a block that is registered so lives on until its function has been called (OCaml manual,
+/// module `Gc`). So in Queued it marks what its queue keeps alive. In Clean it empties the keys that
+/// aren't marked of its marked ephemerons, and their data. In Lasts it queues those of its registrations
+/// of `finalise_last` whose blocks aren't marked, the newest first: these blocks are unreachable for the
+/// last time. In Sweep it frees the garbage of its own pools, which it takes off its list of ephemerons
+/// first, and counts what lives there. All that it owns stays as it was but the number of its arrivals;
+/// where it sweeps, from where it looks for free places, and its list of ephemerons, in which there is
+/// room for no fewer; and, where registrations are decided, its lists of finalisers, of which none is
+/// lost and none comes up. Its front stays but where registrations are decided and where keys are
+/// emptied, and grows there by no entry of its own.
 pub fn share(heap: &Heap, dom: &mut Domain, kind: Kind, hints: &mut Hints)
     requires here { IsIn dom.old heap.now }
     requires phase { IsShared kind }
