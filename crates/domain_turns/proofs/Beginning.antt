@@ -1,5 +1,5 @@
 -- How a domain stands before its first command.
-use Rattle.std.proofs.Common.{◌≡◌, ◌∙◌, ℕ, ◌/◌, ◌%◌, ◌<◌, ◌≤◌, zero, suc, false, length, List, Option, None, replicate, ap, refl, arith}
+use Rattle.std.proofs.Common.{◌≡◌, ◌∙◌, ℕ, ◌/◌, ◌+◌, ◌%◌, ◌<◌, ◌≤◌, zero, suc, false, length, List, Option, None, replicate, ap, refl, arith}
 use Rattle.std.specs.Prelude.{slice_index_or}
 use Rattle.heap_model.specs.declared.command.Command.{Command}
 use Rattle.heap_model.specs.Domains.{class_count, opening_domain, no_domain}
@@ -8,7 +8,8 @@ use Rattle.heap_rule.specs.Opening.{opening_token}
 use Rattle.heap_rule.specs.Phases.{IsEven}
 use Rattle.heap_rule.specs.Pools.{prepared_at}
 use Rattle.heap_rule.specs.Token.{Token, SharedHeap}
-use Rattle.domain_turns.specs.Runs.{AllFit, CanBegin, IsBetween, ephemerons_in}
+use Rattle.steps_finalisers.specs.Registering.{count_of}
+use Rattle.domain_turns.specs.Runs.{AllFit, CanBegin, IsBetween, ephemerons_in, registrations_in}
 
 nothing_prepared : (n class : ℕ) → ◌≡◌ {A = Option ℕ} (slice_index_or (replicate n None) class None) None
 nothing_prepared zero class = refl
@@ -30,16 +31,28 @@ begins_between t cs can = record {
   knows_cut = λ known left. cc;
 }
 
+-- no finaliser is registered so far, and each that the commands register may answer once
+pub begins_enlisted : (t : Token) (cs : List Command) → CanBegin t cs → count_of t.view.own.finalisers + registrations_in cs ≤ t.config.finals
+begins_enlisted t cs can = let none = can.none_listed in let few = can.enlists in omega arith
+
+pub begins_replied : (t : Token) (cs : List Command) → CanBegin t cs → 0 + (count_of t.view.own.finalisers + registrations_in cs) ≤ 0 + registrations_in cs
+begins_replied t cs can = let none = can.none_listed in omega arith
+
+owes_none : (n d : ℕ) → (slice_index_or (replicate n opening_domain) d no_domain).due ≡ 0
+owes_none zero d = refl
+owes_none (suc n) zero = refl
+owes_none (suc n) (suc d) = owes_none n d
+
 not_ended : (n d : ℕ) → d < n → (slice_index_or (replicate n opening_domain) d no_domain).ended ≡ false
 not_ended zero d h = absurd (omega arith)
 not_ended (suc n) zero h = refl
 not_ended (suc n) (suc d) h = not_ended n d (omega arith)
 
--- a domain of a heap that has just started may begin commands that fit, and for whose ephemerons there is room
-pub opening_begins : (h : SharedHeap) (k : Config) (d : ℕ) (cs : List Command) → d < k.domains → length cs ≤ 200000 → AllFit cs → ephemerons_in cs ≤ k.ephes → CanBegin (opening_token h.table k d) cs
-opening_begins h k d cs inside few fit room = record {
+-- a domain of a heap that has just started may begin commands that fit, and for whose ephemerons and finalisers there is room
+pub opening_begins : (h : SharedHeap) (k : Config) (d : ℕ) (cs : List Command) → d < k.domains → length cs ≤ 200000 → AllFit cs → ephemerons_in cs ≤ k.ephes → registrations_in cs ≤ k.finals → CanBegin (opening_token h.table k d) cs
+opening_begins h k d cs inside few fit room enlists = record {
   inside = inside;
-  acts = record { goes_on = not_ended k.domains d inside; runs = refl };
+  acts = record { goes_on = not_ended k.domains d inside; runs = refl; unqueued = refl };
   idle = refl;
   at_rest = refl;
   no_commands = refl;
@@ -47,6 +60,9 @@ opening_begins h k d cs inside few fit room = record {
   few = few;
   fit = fit;
   room = room;
+  enlists = enlists;
+  none_listed = refl;
+  owes = owes_none k.domains d;
   labels = omega arith;
   even = refl;
   remembers = refl;

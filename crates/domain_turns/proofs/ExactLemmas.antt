@@ -15,7 +15,7 @@ use Rattle.heap_rule.specs.Standing.{with_front}
 use Rattle.steps_pauses.specs.Pauses.{arrived_view}
 use Rattle.safepoint.specs.Looks.{bit_of}
 use Rattle.safepoint.specs.declared.answer.Want.TheVariants.{Full}
-use Rattle.domain_turns.specs.Runs.CalmDid.{Wishes, Refuses, Tries, Ends}
+use Rattle.domain_turns.specs.Runs.CalmDid.{Finalises, Wishes, Refuses, Tries, Ends}
 use Rattle.domain_turns.proofs.LeavingLemmas.{passes_leaves}
 
 abbrev notes : RunView → List Note
@@ -62,6 +62,7 @@ run_sign h old new Did says = ⊎_elim
     (λ (c : CalmDid h (wanting old 0) new). inr (did c)) says
   where
     did : CalmDid h (wanting old 0) new → Left old new IsOther
+    did (Finalises f) = (ap (λ (x : DomainView). x.own.arrivals) f.first.view, (Want 0, notes old, ap (λ (x : DomainView). x.seen.notes) f.first.view, tt))
     did (Wishes a) = (ap arrivals a.run, (Asked (bit_of (wish_of a.command)), (notes old ++ Want 0 ∷ []), ap notes a.run, tt))
     did (Refuses a) = (
       ap arrivals a.run ∙ ap (λ (x : DomainView). x.own.arrivals) a.refused.view,

@@ -17,7 +17,7 @@ use Rattle.domain_turns.specs.Past.{PastAnswers}
 use Rattle.domain_turns.specs.Pausing.{ComesToAnswer}
 use Rattle.domain_turns.specs.Runs.{RunView, CalmDid, Rests, CalmAnswers, RunAnswers, Stops, Resumes, GoesBy, IsAnswered, SeesAnswer, wanting, GoesOn}
 use Rattle.heap_rule.specs.declared.config.Config.{Config}
-use Rattle.domain_turns.specs.Runs.CalmDid.{Wishes, Refuses, Tries, Ends}
+use Rattle.domain_turns.specs.Runs.CalmDid.{Finalises, Wishes, Refuses, Tries, Ends}
 use Rattle.domain_turns.proofs.LeavingLemmas.{passes_leaves}
 use Rattle.domain_turns.proofs.Moving.{front_prefix}
 use Rattle.domain_turns.proofs.Turning.{stood}
@@ -29,6 +29,11 @@ same_prefix : (old new : List Entry) → new ≡ old → IsPrefix old new
 same_prefix old new is = record { rest = []; appends = is ∙ sym (append-nil old) }
 
 calm_did : (h : SharedHeap) (old new : RunView) → CalmDid h old new → GoesOn old new
+calm_did h old new (Finalises f) = record {
+  commands = ap (λ (r : RunView). r.commands) f.run;
+  number = ap (λ (x : DomainView). x.own.number) f.first.view;
+  front = answered_front _ _ _ _ _ _ f.first.answers;
+}
 calm_did h old new (Wishes a) = record {
   commands = ap (λ (r : RunView). r.commands) a.run;
   number = ap (λ (r : RunView). r.token.view.own.number) a.run;

@@ -26,11 +26,14 @@ use Rattle.steps_promote.specs.Promotion.{reset_view}
 use Rattle.safepoint.specs.Looks.{Passed}
 use Rattle.cycle_phases.specs.Sharing.{SharesIn, with_shared}
 use Rattle.cycle_phases.specs.Leading.{LeadsOn}
+use Rattle.heap_rule.specs.declared.view.Finalisers.{Finalisers}
+use Rattle.steps_finalisers.specs.Registering.{count_of}
 use Rattle.domain_turns.specs.Tries.{IsFresh}
 use Rattle.domain_turns.specs.Pausing.{IsQuiet, IsPast, IsReady, HasLeft, IsMarking, KnowsAnswer, KnowsCut, LeavesEven, LeavesOdd, ComesToAnswer, GivesBack, knowing_blocks}
 use Rattle.domain_turns.specs.Runs.{IsBetween, Passes}
 use Rattle.domain_turns.proofs.Moving.{Moves, view_moves}
-use Rattle.domain_turns.proofs.PauseLemmas.{not_both, even_next, odd_next, answer_on, before_answer, fresh_on, past_as, keeps_as, arrived_void, later_past, quiet_as, looked_past, looked_quiet, ready_next, even_past, even_quiet, arrived_quiet}
+use Rattle.domain_turns.proofs.Owing.{bare_count}
+use Rattle.domain_turns.proofs.PauseLemmas.{not_both, even_next, odd_next, answer_on, before_answer, fresh_on, past_as, keeps_as, arrived_void, later_past, quiet_as, looked_past, looked_quiet, ready_next, same_held, even_past, even_quiet, arrived_quiet}
 
 some_injective : (a b : Kind) → ◌≡◌ {A = Option Kind} (Some a) (Some b) → a ≡ b
 some_injective a b e = cc
@@ -40,6 +43,7 @@ pub record Leaves (x y : DomainView) (kind : Kind) : Type 0 where
   pub number : y.own.number ≡ x.own.number
   pub serial : y.own.serial ≡ x.own.serial
   pub room : x.own.ephemerons.room ≤ y.own.ephemerons.room
+  pub listed : count_of y.own.finalisers ≡ count_of x.own.finalisers
   pub arrivals : y.own.arrivals ≡ x.own.arrivals + 1
   pub made : y.seen.made ≡ x.seen.made
   pub hunt : x.seen.hunt ≡ Rests → y.seen.hunt ≡ Rests
@@ -47,12 +51,13 @@ pub record Leaves (x y : DomainView) (kind : Kind) : Type 0 where
   pub front : IsFrontOf x.own.number y.seen.front x.seen.front
 
 -- it arrived from a view that has all but what its share changed
-arrived_leaves : (x y z : DomainView) (kind : Kind) → y ≡ arrived_view z → z.own.number ≡ x.own.number → z.own.serial ≡ x.own.serial → x.own.ephemerons.room ≤ z.own.ephemerons.room → z.own.arrivals ≡ x.own.arrivals → z.seen.made ≡ x.seen.made → (x.seen.hunt ≡ Rests → z.seen.hunt ≡ Rests)
+arrived_leaves : (x y z : DomainView) (kind : Kind) → y ≡ arrived_view z → z.own.number ≡ x.own.number → z.own.serial ≡ x.own.serial → x.own.ephemerons.room ≤ z.own.ephemerons.room → count_of z.own.finalisers ≡ count_of x.own.finalisers → z.own.arrivals ≡ x.own.arrivals → z.seen.made ≡ x.seen.made → (x.seen.hunt ≡ Rests → z.seen.hunt ≡ Rests)
     → kind_in z.seen.stage ≡ kind → IsFrontOf x.own.number z.seen.front x.seen.front → Leaves x y kind
-arrived_leaves x y z kind is number serial room arrivals made hunt stage front = record {
+arrived_leaves x y z kind is number serial room listed arrivals made hunt stage front = record {
   number = ap (λ (v : DomainView). v.own.number) is ∙ number;
   serial = ap (λ (v : DomainView). v.own.serial) is ∙ serial;
   room = subst (λ (v : DomainView). x.own.ephemerons.room ≤ v.own.ephemerons.room) (sym is) room;
+  listed = ap (λ (v : DomainView). count_of v.own.finalisers) is ∙ listed;
   arrivals = ap (λ (v : DomainView). v.own.arrivals) is ∙ ap (λ (n : ℕ). n + 1) arrivals;
   made = ap (λ (v : DomainView). v.seen.made) is ∙ made;
   hunt = λ at_rest. ap (λ (v : DomainView). v.seen.hunt) is ∙ hunt at_rest;
@@ -68,6 +73,7 @@ record Same (b z : DomainView) : Type 0 where
   number : z.own.number ≡ b.own.number
   serial : z.own.serial ≡ b.own.serial
   room : b.own.ephemerons.room ≤ z.own.ephemerons.room
+  listed : count_of z.own.finalisers ≡ count_of b.own.finalisers
   arrivals : z.own.arrivals ≡ b.own.arrivals
   made : z.seen.made ≡ b.seen.made
   hunt : b.seen.hunt ≡ Rests → z.seen.hunt ≡ Rests
@@ -79,6 +85,7 @@ begun_leaves k x b y z kind p s is stage =
     (s.number ∙ number)
     (s.serial ∙ ap (λ (v : DomainView). v.own.serial) p.view)
     (subst (λ (n : ℕ). n ≤ z.own.ephemerons.room) (ap (λ (v : DomainView). v.own.ephemerons.room) p.view) s.room)
+    (s.listed ∙ ap (λ (v : DomainView). count_of v.own.finalisers) p.view)
     (s.arrivals ∙ ap (λ (v : DomainView). v.own.arrivals) p.view)
     (s.made ∙ ap (λ (v : DomainView). v.seen.made) p.view)
     (λ at_rest. s.hunt (ap (λ (v : DomainView). v.seen.hunt) p.view ∙ at_rest))
@@ -86,11 +93,11 @@ begun_leaves k x b y z kind p s is stage =
     (front_trans x.own.number z.seen.front b.seen.front x.seen.front (subst (λ (d : ℕ). IsFrontOf d z.seen.front b.seen.front) number s.front) p.seen)
 
 same_self : (b : DomainView) → Same b b
-same_self b = record { number = refl; serial = refl; room = no_less b.own.ephemerons.room; arrivals = refl; made = refl; hunt = λ at_rest. at_rest; front = front_whole b.own.number b.seen.front }
+same_self b = record { number = refl; serial = refl; room = no_less b.own.ephemerons.room; listed = refl; arrivals = refl; made = refl; hunt = λ at_rest. at_rest; front = front_whole b.own.number b.seen.front }
 
 shares_leaves : (k : Config) (x b y : DomainView) (kind : Kind) → Passed k x b → b.seen.stage ≡ In kind → SharesIn kind b y → Leaves x y kind
 shares_leaves k x b y kind p stage l =
-    begun_leaves k x b y (with_shared b y) kind p (record { number = refl; serial = refl; room = l.room; arrivals = refl; made = refl; hunt = λ at_rest. at_rest; front = l.front }) l.view (ap kind_in stage)
+    begun_leaves k x b y (with_shared b y) kind p (record { number = refl; serial = refl; room = l.room; listed = l.registered; arrivals = refl; made = refl; hunt = λ at_rest. at_rest; front = l.front }) l.view (ap kind_in stage)
 
 even_leaves : (k : Config) (x b y : DomainView) (kind : Kind) → Passed k x b → b.seen.stage ≡ In kind → LeavesEven k kind b y → Leaves x y kind
 even_leaves k x b y Run p stage l = absurd l
@@ -101,13 +108,14 @@ even_leaves k x b y Promote p stage l =
       number = ap (λ (z : DomainView). z.own.number) v;
       serial = ap (λ (z : DomainView). z.own.serial) v;
       room = subst (λ (z : DomainView). b.own.ephemerons.room ≤ z.own.ephemerons.room) (sym v) (no_less b.own.ephemerons.room);
+      listed = sym (bare_count l.done.own.finalisers) ∙ (ap (λ (fs : Finalisers). count_of fs) l.shared.finalisers.rest ∙ bare_count b.own.finalisers);
       arrivals = ap (λ (z : DomainView). z.own.arrivals) v;
       made = ap (λ (z : DomainView). z.seen.made) v;
       hunt = λ _. l.shared.at_rest;
       front = subst (λ (f : List Entry). IsFrontOf b.own.number f b.seen.front) (sym (ap (λ (z : DomainView). z.seen.front) v)) (front_whole b.own.number b.seen.front);
     })
     l.view (ap (λ (z : DomainView). kind_in z.seen.stage) v ∙ ap kind_in stage)
-even_leaves k x b y Reset p stage l = begun_leaves k x b y (reset_view b) Reset p (record { number = refl; serial = refl; room = no_less b.own.ephemerons.room; arrivals = refl; made = refl; hunt = λ at_rest. at_rest; front = front_whole b.own.number b.seen.front }) l.view (ap kind_in stage)
+even_leaves k x b y Reset p stage l = begun_leaves k x b y (reset_view b) Reset p (record { number = refl; serial = refl; room = no_less b.own.ephemerons.room; listed = refl; arrivals = refl; made = refl; hunt = λ at_rest. at_rest; front = front_whole b.own.number b.seen.front }) l.view (ap kind_in stage)
 even_leaves k x b y Answer p stage l = absurd l
 even_leaves k x b y Roots p stage l = shares_leaves k x b y Roots p stage l
 even_leaves k x b y Mark p stage l = shares_leaves k x b y Mark p stage l
@@ -125,7 +133,7 @@ leading_view b y last kind = record b { seen = record b.seen { front = y.seen.fr
 odd_leaves : (k : Config) (x b y : DomainView) (last kind : Kind) → Passed k x b → b.seen.stage ≡ Leads last → LeavesOdd k b y last kind → Leaves x y kind
 odd_leaves k x b y last kind p stage l = ⊎_elim
     (λ (leads : (b.own.number ≡ 0) × LeadsOn k b y last kind). begun_leaves k x b y (leading_view b y last kind) kind p
-    (record { number = refl; serial = refl; room = no_less b.own.ephemerons.room; arrivals = refl; made = refl; hunt = λ at_rest. at_rest; front = leads.1.seen }) leads.1.view refl)
+    (record { number = refl; serial = refl; room = no_less b.own.ephemerons.room; listed = refl; arrivals = refl; made = refl; hunt = λ at_rest. at_rest; front = leads.1.seen }) leads.1.view refl)
     (λ (follows : (b.own.number ≢ 0) × (kind ≡ last) × (y ≡ arrived_view b)). begun_leaves k x b y b kind p (same_self b) follows.2 (ap kind_in stage ∙ sym follows.1)) l
 
 pub passes_leaves : (k : Config) (x y : DomainView) (last kind : Kind) → Passes k x y last kind → Leaves x y kind
@@ -146,7 +154,7 @@ leads_ready k b y last kind inside l past =
     record {
       before = last;
       follows = l.follows;
-      past = past_as k last b y (keeps_as b y _ l.view refl refl refl refl) (arrived_void y (leading_view b y last kind) l.view) knows past;
+      past = past_as k last b y (keeps_as b y _ l.view refl refl refl refl (same_held b)) (arrived_void y (leading_view b y last kind) l.view) knows past;
       fresh = λ e. let swept : last ≡ Sweep = before_answer last (subst (Follows last) e l.follows) in
           knows swept (collected_mode k b y (l.made Collected (ap (λ (c : Kind). entry_of c kind) swept ∙ ap (entry_of Sweep) e)));
     }
@@ -170,7 +178,7 @@ passes_past k x y last kind inside p left =
     })
     (λ (follows : (p.begun.own.number ≢ 0) × (kind ≡ last) × (y ≡ arrived_view p.begun)). record {
       past = λ _. subst (λ (c : Kind). IsPast k c y) (sym follows.1)
-          (past_as k last p.begun y (keeps_as p.begun y _ follows.2 refl refl refl refl) (arrived_void y p.begun follows.2) (λ e. subst (KnowsAnswer k) (sym follows.2) (went.answer e)) went);
+          (past_as k last p.begun y (keeps_as p.begun y _ follows.2 refl refl refl refl (same_held p.begun)) (arrived_void y p.begun follows.2) (λ e. subst (KnowsAnswer k) (sym follows.2) (went.answer e)) went);
       ready = λ _ first. absurd (follows.0 (number ∙ (sym l.number ∙ first)));
     })
     odd.2)
@@ -232,7 +240,7 @@ passes_cut k x y last kind cut p knows is first =
 answer_past : (k : Config) (x begun y : DomainView) (front : List Entry) → ComesToAnswer k x begun → y ≡ arrived_view (with_front begun front) → HasLeft k Answer y
 answer_past k x begun y front c is =
     let arrivals : y.own.arrivals ≡ x.own.arrivals + 1 = ap (λ (v : DomainView). v.own.arrivals) is ∙ ap (λ (v : DomainView). v.own.arrivals + 1) c.passed.view in record {
-      past = λ _. later_past k Answer begun y (keeps_as begun y _ is refl refl refl refl) (arrived_void y (with_front begun front) is) (λ e. cc) (λ e. cc) (λ e. cc) (λ e. cc) c.ready;
+      past = λ _. later_past k Answer begun y (keeps_as begun y _ is refl refl refl refl (same_held begun)) (arrived_void y (with_front begun front) is) (λ e. cc) (λ e. cc) (λ e. cc) (λ e. cc) c.ready;
       ready = λ again _. absurd (not_both y.own.arrivals again (subst IsOdd (sym arrivals) (even_next x.own.arrivals c.even)));
     }
 
@@ -253,7 +261,7 @@ answer_between h x begun new front asked collected cut i quiet c is fresh = reco
 pub gives_moves : (h : SharedHeap) (old new : Token) (blocks : ℕ) → IsIn old h → IsIn new h → GivesBack h.config old.view new.view blocks → Moves old new
 gives_moves h old new blocks a i g =
     let number : g.begun.own.number ≡ old.view.own.number = ap (λ (z : DomainView). z.own.number) g.comes.passed.view in
-    view_moves h old new (arrived_view (knowing_blocks g.begun blocks)) a i g.view number (ap (λ (z : DomainView). z.own.serial) g.comes.passed.view) (ap (λ (z : DomainView). z.own.ephemerons) g.comes.passed.view) (ap (λ (z : DomainView). z.seen.made) g.comes.passed.view) (ap (λ (z : DomainView). z.seen.hunt) g.comes.passed.view) g.comes.passed.seen
+    view_moves h old new (arrived_view (knowing_blocks g.begun blocks)) a i g.view number (ap (λ (z : DomainView). z.own.serial) g.comes.passed.view) (ap (λ (z : DomainView). z.own.ephemerons) g.comes.passed.view) (ap (λ (z : DomainView). z.own.finalisers) g.comes.passed.view) (ap (λ (z : DomainView). z.seen.made) g.comes.passed.view) (ap (λ (z : DomainView). z.seen.hunt) g.comes.passed.view) g.comes.passed.seen
 
 pub gives_between : (h : SharedHeap) (old new : Token) (blocks : ℕ) (asked : Option ℕ) (collected cut : Bool) → IsIn new h → IsQuiet old.view → GivesBack h.config old.view new.view blocks → IsBetween (Some Answer) asked collected cut new
 gives_between h old new blocks asked collected cut i quiet g = answer_between h old.view g.begun new g.begun.seen.front asked collected cut i quiet g.comes g.view
@@ -267,6 +275,7 @@ passes_moves h old new before kind a i says =
       number = l.number;
       serial = l.serial;
       room = l.room;
+      listed = l.listed;
       made = l.made;
       hunt = l.hunt;
       front = l.front;

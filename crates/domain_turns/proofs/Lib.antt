@@ -1,3 +1,4 @@
+pub mod Owing
 pub mod Beginning
 pub mod PauseLemmas
 pub mod Trying

@@ -1,5 +1,5 @@
 -- A run whose domain moved in the phases, and made no entry.
-use Rattle.std.proofs.Common.{◌≡◌, ◌∙◌, ℕ, ◌+◌, ◌<◌, ◌≤◌, Bool, true, false, List, [], ◌∷◌, ◌++◌, append-nil, refl, sym, ap, subst, Option, arith, drop}
+use Rattle.std.proofs.Common.{◌≡◌, ◌∙◌, ℕ, ◌+◌, ◌<◌, ◌≤◌, Bool, true, false, List, [], ◌∷◌, ◌++◌, append-nil, refl, sym, ap, subst, Option, arith, drop, length}
 use Rattle.std.specs.Prelude.{IsTrue, ◌||◌}
 use Rattle.std.specs.List.{list_any}
 use Rattle.heap_model.specs.declared.entry.Entry.{Entry}
@@ -14,15 +14,20 @@ use Rattle.heap_rule.specs.declared.view.DomainView.{DomainView}
 use Rattle.heap_rule.specs.Limits.{sizes_in}
 use Rattle.heap_rule.specs.Token.{Token, SharedHeap, IsIn}
 use Rattle.heap_rule.specs.declared.view.Hunt.TheVariants.{Rests}
-use Rattle.domain_turns.specs.Runs.{RunView, IsRun, IsBetween, ephemerons_in, is_end_of}
+use Rattle.heap_rule.specs.declared.view.Finalisers.{Finalisers}
+use Rattle.steps_finalisers.specs.Registering.{count_of}
+use Rattle.domain_turns.specs.Pausing.{due_of}
+use Rattle.domain_turns.specs.Runs.{RunView, IsRun, IsBetween, ephemerons_in, registrations_in, is_end_of}
+use Rattle.domain_turns.proofs.Owing.{due_on}
 use Rattle.remembered_set.specs.Bounded.{Bounded}
 
--- the domain made no entry, has the labels and the block in the making that it had, and room for as many ephemerons or more
+-- the domain made no entry, has the labels, the block in the making and as many finalisers as it had, and room for as many ephemerons or more
 pub record Moves (old new : Token) : Type 0 where
   pub config : new.config ≡ old.config
   pub number : new.view.own.number ≡ old.view.own.number
   pub serial : new.view.own.serial ≡ old.view.own.serial
   pub room : old.view.own.ephemerons.room ≤ new.view.own.ephemerons.room
+  pub listed : count_of new.view.own.finalisers ≡ count_of old.view.own.finalisers
   pub made : new.view.seen.made ≡ old.view.seen.made
   pub hunt : old.view.seen.hunt ≡ Rests → new.view.seen.hunt ≡ Rests
   pub front : IsFrontOf old.view.own.number new.view.seen.front old.view.seen.front
@@ -56,15 +61,17 @@ moved_is_run r new left asked collected cut is m between =
       inside = subst (λ (z : ℕ × Config). z.0 < z.1.domains) (λ i. (sym m.number i, sym m.config i)) is.inside;
       made = ap (commands new.view.seen.front) m.number ∙ made ∙ is.made;
       answered = ap (λ (n : ℕ). replies (sizes_in new.config) new.view.seen.front n) m.number ∙ ap (λ (c : Config). replies (sizes_in c) new.view.seen.front d) m.config ∙ answered ∙ is.answered;
-      each = is.each;
+      replied = subst (λ (n : ℕ). length r.replies + (n + registrations_in (drop r.next r.commands)) ≤ r.next + registrations_in r.commands) (sym m.listed) is.replied;
       within = is.within;
       few = is.few;
       fit = is.fit;
       room = at_most (ephemerons_in (drop r.next r.commands)) r.token.view.own.ephemerons.room new.view.own.ephemerons.room is.room m.room;
+      enlists = subst (λ (z : ℕ × Config). z.0 + registrations_in (drop r.next r.commands) ≤ z.1.finals) (λ i. (sym m.listed i, sym m.config i)) is.enlists;
       idle = m.made ∙ is.idle;
       at_rest = m.hunt is.at_rest;
       goes_on = λ running. subst (λ (x : ℕ × Config). (Rattle.heap_model.specs.Domains.domain_at (state_after (opening (sizes_in x.1)) new.view.seen.front) x.0).ended ≡ false) (λ i. (sym m.number i, sym m.config i))
           ((keeps_front (opening (sizes_in k)) d new.view.seen.front old m.front).ended ∙ is.goes_on running);
+      owes = λ running. subst (λ (c : Config). due_of c new.view ≡ r.due) (sym m.config) (due_on k r.token.view new.view m.number m.front ∙ is.owes running);
       between = between;
       labels = subst (λ (n : ℕ). n ≤ 4000000000 + r.next) (sym m.serial) is.labels;
       done = is.done;
@@ -78,23 +85,24 @@ token_is h old new view a b is = λ i. record { table = (b.0 ∙ sym a.0) i; con
 same_front : (d : ℕ) (front : List Entry) → IsFrontOf d front front
 same_front d front = record { rest = []; appends = sym (append-nil front); others = refl }
 
--- the domain moved to a view with the same number, labels, listed ephemerons and block in the making
-pub view_moves : (h : SharedHeap) (old new : Token) (y : DomainView) → IsIn old h → IsIn new h → new.view ≡ y → y.own.number ≡ old.view.own.number → y.own.serial ≡ old.view.own.serial → y.own.ephemerons ≡ old.view.own.ephemerons → y.seen.made ≡ old.view.seen.made → y.seen.hunt ≡ old.view.seen.hunt
+-- the domain moved to a view with the same number, labels, listed ephemerons, finalisers and block in the making
+pub view_moves : (h : SharedHeap) (old new : Token) (y : DomainView) → IsIn old h → IsIn new h → new.view ≡ y → y.own.number ≡ old.view.own.number → y.own.serial ≡ old.view.own.serial → y.own.ephemerons ≡ old.view.own.ephemerons → y.own.finalisers ≡ old.view.own.finalisers → y.seen.made ≡ old.view.seen.made → y.seen.hunt ≡ old.view.seen.hunt
     → IsFrontOf old.view.own.number y.seen.front old.view.seen.front → Moves old new
-view_moves h old new y a b is number serial listed made hunt front = record {
+view_moves h old new y a b is number serial listed enlisted made hunt front = record {
   config = b.1 ∙ sym a.1;
   number = ap (λ (z : DomainView). z.own.number) is ∙ number;
   serial = ap (λ (z : DomainView). z.own.serial) is ∙ serial;
   room = same_room old.view.own.ephemerons new.view.own.ephemerons (ap (λ (z : DomainView). z.own.ephemerons) is ∙ listed);
+  listed = ap (λ (fs : Finalisers). count_of fs) (ap (λ (z : DomainView). z.own.finalisers) is ∙ enlisted);
   made = ap (λ (z : DomainView). z.seen.made) is ∙ made;
   hunt = λ at_rest. ap (λ (z : DomainView). z.seen.hunt) is ∙ (hunt ∙ at_rest);
   front = subst (λ (z : DomainView). IsFrontOf old.view.own.number z.seen.front old.view.seen.front) (sym is) front;
 }
 
 -- and has the same front
-pub still_moves : (h : SharedHeap) (old new : Token) (y : DomainView) → IsIn old h → IsIn new h → new.view ≡ y → y.own.number ≡ old.view.own.number → y.own.serial ≡ old.view.own.serial → y.own.ephemerons ≡ old.view.own.ephemerons → y.seen.made ≡ old.view.seen.made → y.seen.hunt ≡ old.view.seen.hunt
+pub still_moves : (h : SharedHeap) (old new : Token) (y : DomainView) → IsIn old h → IsIn new h → new.view ≡ y → y.own.number ≡ old.view.own.number → y.own.serial ≡ old.view.own.serial → y.own.ephemerons ≡ old.view.own.ephemerons → y.own.finalisers ≡ old.view.own.finalisers → y.seen.made ≡ old.view.seen.made → y.seen.hunt ≡ old.view.seen.hunt
     → y.seen.front ≡ old.view.seen.front → Moves old new
-still_moves h old new y a b is number serial listed made hunt front = view_moves h old new y a b is number serial listed made hunt (subst (λ (f : List Entry). IsFrontOf old.view.own.number f old.view.seen.front) (sym front) (same_front old.view.own.number old.view.seen.front))
+still_moves h old new y a b is number serial listed enlisted made hunt front = view_moves h old new y a b is number serial listed enlisted made hunt (subst (λ (f : List Entry). IsFrontOf old.view.own.number f old.view.seen.front) (sym front) (same_front old.view.own.number old.view.seen.front))
 
 pub front_prefix : (d : ℕ) (new old : List Entry) → IsFrontOf d new old → IsPrefix old new
 front_prefix d new old f = record { rest = f.rest; appends = f.appends }

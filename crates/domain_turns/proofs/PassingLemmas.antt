@@ -1,5 +1,5 @@
 -- What the pass through a phase is of a run.
-use Rattle.std.proofs.Common.{◌≡◌, ◌∙◌, ℕ, ◌<◌, Bool, false, Option, Some, None, refl, sym, ap, subst}
+use Rattle.std.proofs.Common.{◌≡◌, ◌∙◌, ℕ, ◌<◌, Bool, false, Option, Some, None, length, refl, sym, ap, subst}
 use Rattle.heap_model.specs.declared.command.Command.TheVariants.{FullMajor}
 use Rattle.heap_model.specs.declared.entry.Entry.TheVariants.{Command as CommandOf}
 use Rattle.heap_model.specs.declared.reply.Reply.{Reply}
@@ -20,9 +20,10 @@ use Rattle.heap_rule.specs.Token.{Token, SharedHeap, IsIn}
 use Rattle.steps_pauses.specs.Pauses.{arrived_view, noted, cut_in, IsModeOf}
 use Rattle.safepoint.specs.Looks.{Passed}
 use Rattle.domain_turns.specs.declared.passing.Past.TheVariants.{Answered}
-use Rattle.domain_turns.specs.Pausing.{HasLeft, IsCollected, ComesToAnswer, GivesBack, AnswersFrom}
+use Rattle.domain_turns.specs.Pausing.{HasLeft, IsCollected, ComesToAnswer, GivesBack, AnswersFrom, due_of}
 use Rattle.domain_turns.specs.Past.{PassAnswers}
 use Rattle.domain_turns.specs.Runs.{RunView, IsRun, IsBetween, Passes}
+use Rattle.domain_turns.proofs.Owing.{due_on}
 use Rattle.domain_turns.proofs.Moving.{moved_is_run, still_moves, view_moves}
 use Rattle.domain_turns.proofs.PauseLemmas.{before_else, fresh_on, ready_next, looked_quiet}
 use Rattle.domain_turns.proofs.LeavingLemmas.{passes_moves, passes_between, gives_moves, gives_between, waits_between}
@@ -48,12 +49,17 @@ answers_pass k x begun y known live blocks (Some reply) c a =
         front = a.1.0.seen.front;
         answers = subst (λ (d : ℕ). Answers (sizes_in k) d begun.seen.front a.1.0.seen.front (CommandOf d FullMajor false) (Replied reply)) number l.answers;
         view = a.1.2 ∙ ap arrived_view l.view;
+        due = subst (λ (v : DomainView). due_of k v ≡ length v.own.finalisers.queue.items) (sym a.1.2) l.due;
       },
     )
 
 -- who goes on still does after a look
 pub look_goes_on : (k : Config) (x y : DomainView) → Passed k x y → (domain_at (state_of k x.seen.front) x.own.number).ended ≡ false → (domain_at (state_of k y.seen.front) y.own.number).ended ≡ false
 look_goes_on k x y p goes = subst (λ (d : ℕ). (domain_at (state_of k y.seen.front) d).ended ≡ false) (sym (ap (λ (v : DomainView). v.own.number) p.view)) ((keeps_front (opening (sizes_in k)) x.own.number y.seen.front x.seen.front p.seen).ended ∙ goes)
+
+-- and owes what it did
+pub look_paid : (k : Config) (x y : DomainView) → Passed k x y → due_of k x ≡ 0 → due_of k y ≡ 0
+look_paid k x y p paid = due_on k x y (ap (λ (v : DomainView). v.own.number) p.view) p.seen ∙ paid
 
 -- the run stands between two turns
 between_of : (r : RunView) (known : Kind) → IsRun r → r.left ≡ Some known → IsBetween (Some known) r.asked r.collected r.cut r.token
@@ -66,11 +72,11 @@ pub gives_is_run : (h : SharedHeap) (r : RunView) (new : Token) (last : Kind) (b
 gives_is_run h r new last blocks collected is was here g = moved_is_run r new (Some Answer) r.asked collected (cut_in last r.cut) is (gives_moves h r.token new blocks was here g) (gives_between h r.token new blocks r.asked collected (cut_in last r.cut) here is.between.quiet g)
 
 pub waits_is_run : (h : SharedHeap) (r : RunView) (new : Token) (last : Kind) (b : ℕ) → IsRun r → r.left ≡ Some last → IsIn r.token h → IsIn new h → new.view ≡ noted r.token.view (Barrier b) → IsRun (record r { token = new; left = Some last })
-waits_is_run h r new last b is left was here says = moved_is_run r new (Some last) r.asked r.collected r.cut is (still_moves h r.token new _ was here says refl refl refl refl refl refl) (waits_between h r.token new last r.asked r.collected r.cut b was here (between_of r last is left) says)
+waits_is_run h r new last b is left was here says = moved_is_run r new (Some last) r.asked r.collected r.cut is (still_moves h r.token new _ was here says refl refl refl refl refl refl refl) (waits_between h r.token new last r.asked r.collected r.cut b was here (between_of r last is left) says)
 
 -- and the domain runs again after a pause
 pub runs_is_run : (h : SharedHeap) (r : RunView) (new : Token) → IsRun r → IsIn r.token h → IsIn new h → Passed h.config r.token.view new.view → new.view.seen.stage ≡ In Run → IsEven r.token.view.own.arrivals → IsCollected h.config new.view → IsRun (record r { token = new; left = None })
-runs_is_run h r new is was here p stage even c = moved_is_run r new None r.asked r.collected r.cut is (view_moves h r.token new _ was here p.view refl refl refl refl refl p.seen) record {
+runs_is_run h r new is was here p stage even c = moved_is_run r new None r.asked r.collected r.cut is (view_moves h r.token new _ was here p.view refl refl refl refl refl refl p.seen) record {
   stands = stage;
   quiet = looked_quiet h.config r.token.view new.view p is.between.quiet;
   even = λ _. subst IsEven (sym (ap (λ (x : DomainView). x.own.arrivals) p.view)) even;

@@ -17,6 +17,7 @@ use Rattle.heap_rule.specs.declared.view.DomainView.{DomainView}
 use Rattle.heap_rule.specs.declared.view.Share.{Share}
 use Rattle.heap_rule.specs.Changes.{value_at}
 use Rattle.heap_rule.specs.Copies.{IsOldValue, IsEmptying}
+use Rattle.heap_rule.specs.Finalisers.{RefersOld}
 use Rattle.heap_rule.specs.Limits.{sizes_in}
 use Rattle.heap_rule.specs.Phases.{Follows, Comes, IsEven, IsOdd}
 use Rattle.heap_rule.specs.Rule.{state_of}
@@ -47,6 +48,12 @@ reset_run e = cc
 
 sweep_clean : Sweep ≢ Clean
 sweep_clean e = cc
+
+sweep_decide : Sweep ≢ Decide
+sweep_decide e = cc
+
+sweep_lasts : Sweep ≢ Lasts
+sweep_lasts e = cc
 
 -- which kind lies before
 pub before_promote : (a : Kind) → Follows a Promote → a ≡ Run
@@ -120,19 +127,20 @@ answer_on k x y inside number front knows mode = ⊎_elim
     (λ (was : (state_of k x.seen.front).mode ≢ Answered). subst (λ (d : ℕ). (domain_at (state_of k y.seen.front) d).fresh ≡ true) (sym number) (fresh_after_answer (sizes_in k) x.own.number x.seen.front y.seen.front inside front was mode))
     (mode_cases (state_of k x.seen.front).mode)
 
--- what a domain remembers and holds is as it was
+-- what a domain remembers and holds is as it was, and its lists of finalisers refer to nothing new
 pub record Keeps (x y : DomainView) : Type 0 where
   pub seen : y.seen.remembered ≡ x.seen.remembered
   pub own : y.own.remembered ≡ x.own.remembered
   pub registers : y.own.registers ≡ x.own.registers
   pub used : y.own.used ≡ x.own.used
+  pub held : (k : Config) → RefersOld k x.own.finalisers → RefersOld k y.own.finalisers
 
 -- then so is what a phase left of it, once it has forgotten what it knew of the phase
 pub past_as : (k : Config) (kind : Kind) (x y : DomainView) → Keeps x y → y.seen.share ≡ voided y.seen.share → (kind ≡ Sweep → KnowsAnswer k y) → IsPast k kind x → IsPast k kind y
 past_as k kind x y s void answer p = record {
   remembers = λ e. s.seen ∙ (p.remembers e ∙ ap (λ (b : Bounded ℕ). b.items) (sym s.own));
   looked_through = λ e. s.seen ∙ p.looked_through e;
-  holds_old = λ e r few. subst (λ (l : List Value). IsOldValue k (value_at l r)) (sym s.registers) (p.holds_old e r few);
+  holds_old = λ e. (λ r few. subst (λ (l : List Value). IsOldValue k (value_at l r)) (sym s.registers) ((p.holds_old e).0 r few), s.held k (p.holds_old e).1);
   emptied = λ e. s.used ∙ p.emptied e;
   forgotten = λ e. ap (λ (b : Bounded ℕ). b.items) s.own ∙ p.forgotten e;
   void = void;
@@ -140,13 +148,18 @@ past_as k kind x y s void answer p = record {
 }
 
 -- a view by which nothing else was changed
-pub keeps_as : (x y z : DomainView) → y ≡ z → z.seen.remembered ≡ x.seen.remembered → z.own.remembered ≡ x.own.remembered → z.own.registers ≡ x.own.registers → z.own.used ≡ x.own.used → Keeps x y
-keeps_as x y z is seen own registers used = record {
+pub keeps_as : (x y z : DomainView) → y ≡ z → z.seen.remembered ≡ x.seen.remembered → z.own.remembered ≡ x.own.remembered → z.own.registers ≡ x.own.registers → z.own.used ≡ x.own.used → ((k : Config) → RefersOld k x.own.finalisers → RefersOld k z.own.finalisers) → Keeps x y
+keeps_as x y z is seen own registers used held = record {
   seen = ap (λ (v : DomainView). v.seen.remembered) is ∙ seen;
   own = ap (λ (v : DomainView). v.own.remembered) is ∙ own;
   registers = ap (λ (v : DomainView). v.own.registers) is ∙ registers;
   used = ap (λ (v : DomainView). v.own.used) is ∙ used;
+  held = λ k old. subst (λ (v : DomainView). RefersOld k v.own.finalisers) (sym is) (held k old);
 }
+
+-- the lists of finalisers are as they were
+pub same_held : (x : DomainView) (k : Config) → RefersOld k x.own.finalisers → RefersOld k x.own.finalisers
+same_held x k old = old
 
 -- what was forgotten
 pub void_as : (s t : Share) → s ≡ t → t ≡ voided t → s ≡ voided s
@@ -157,7 +170,7 @@ pub arrived_void : (y z : DomainView) → y ≡ arrived_view z → y.seen.share 
 arrived_void y z is = void_as y.seen.share (arrived_view z).seen.share (ap (λ (v : DomainView). v.seen.share) is) refl
 
 pub looked_past : (k : Config) (kind : Kind) (x y : DomainView) → x.own.number < k.domains → Passed k x y → IsPast k kind x → IsPast k kind y
-looked_past k kind x y inside p past = past_as k kind x y (keeps_as x y _ p.view refl refl refl refl) (void_as y.seen.share x.seen.share (ap (λ (z : DomainView). z.seen.share) p.view) past.void)
+looked_past k kind x y inside p past = past_as k kind x y (keeps_as x y _ p.view refl refl refl refl (same_held x)) (void_as y.seen.share x.seen.share (ap (λ (z : DomainView). z.seen.share) p.view) past.void)
     (λ e. answer_on k x y inside (ap (λ (z : DomainView). z.own.number) p.view) p.seen (past.answer e)) past
 
 pub quiet_as : (x y : DomainView) → y.seen.copying ≡ x.seen.copying → y.own.pending ≡ x.own.pending → y.own.prepared ≡ x.own.prepared → IsQuiet x → IsQuiet y
@@ -229,18 +242,21 @@ later_past k kind x y s void promotes resets runs answer r =
     record {
       remembers = λ e. absurd (runs e);
       looked_through = λ _. s.seen ∙ r.past.looked_through none.0;
-      holds_old = λ _ n few. subst (λ (l : List Value). IsOldValue k (value_at l n)) (sym s.registers) (r.past.holds_old none.0 n few);
+      holds_old = λ _. (λ n few. subst (λ (l : List Value). IsOldValue k (value_at l n)) (sym s.registers) ((r.past.holds_old none.0).0 n few), s.held k (r.past.holds_old none.0).1);
       emptied = λ _. s.used ∙ r.past.emptied none;
       forgotten = λ _. ap (λ (b : Bounded ℕ). b.items) s.own ∙ r.past.forgotten none;
       void = void;
       answer = answer;
     }
 
+shared_held : {kind : Kind} (x y : DomainView) → SharesIn kind x y → (k : Config) → RefersOld k x.own.finalisers → RefersOld k (with_shared x y).own.finalisers
+shared_held x y l k old = l.held k old
+
 shares_past : (k : Config) (kind : Kind) (x y : DomainView) → SharesIn kind x y → kind ≢ Promote → kind ≢ Reset → kind ≢ Run → IsModeOf kind (state_of k x.seen.front).mode → IsReady k kind x → IsPast k kind y
 shares_past k kind x y l promotes resets runs mode r =
-    later_past k kind x y (keeps_as x y _ l.view refl refl refl refl) (arrived_void y (with_shared x y) l.view) promotes resets runs
+    later_past k kind x y (keeps_as x y (arrived_view (with_shared x y)) l.view refl refl refl refl (shared_held x y l)) (arrived_void y (with_shared x y) l.view) promotes resets runs
     (λ is mode'. absurd (let m : (state_of k x.seen.front).mode ≡ Sealed = subst (λ (c : Kind). IsModeOf c (state_of k x.seen.front).mode) is mode in
-    let m' : (state_of k x.seen.front).mode ≡ Answered = ap (λ (front : List Entry). (state_of k front).mode) (sym (l.stays (λ (e : kind ≡ Clean). sweep_clean (sym is ∙ e)))) ∙ mode' in
+    let m' : (state_of k x.seen.front).mode ≡ Answered = ap (λ (front : List Entry). (state_of k front).mode) (sym (l.stays (λ (e : kind ≡ Clean). sweep_clean (sym is ∙ e)) (λ (e : kind ≡ Decide). sweep_decide (sym is ∙ e)) (λ (e : kind ≡ Lasts). sweep_lasts (sym is ∙ e)))) ∙ mode' in
     let clash : Sealed ≡ Answered = sym m ∙ m' in cc)) r
 
 pub even_past : (k : Config) (kind : Kind) (x y : DomainView) → LeavesEven k kind x y → IsModeOf kind (state_of k x.seen.front).mode → IsReady k kind x → IsPast k kind y

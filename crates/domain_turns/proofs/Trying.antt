@@ -1,13 +1,15 @@
 -- What the try of a command leaves, by what was called.
-use Rattle.std.proofs.Common.{◌≡◌, ◌∙◌, ℕ, ◌+◌, ◌<◌, ◌≤◌, Bool, true, List, sym, ap, subst, arith}
+use Rattle.std.proofs.Common.{◌≡◌, ◌∙◌, ℕ, ◌+◌, ◌<◌, ◌≤◌, Bool, true, List, refl, sym, ap, subst, arith}
 use Rattle.heap_model.specs.declared.command.Command.{Command}
-use Rattle.heap_model.specs.declared.command.Command.TheVariants.{Store, SetKey, SetData}
+use Rattle.heap_model.specs.declared.command.Command.TheVariants.{Store, SetKey, SetData, Finalise, FinaliseLast}
 use Rattle.heap_model.specs.declared.entry.Entry.{Entry}
 use Rattle.heap_model.specs.declared.reply.Reply.{Reply}
 use Rattle.heap_model.specs.declared.reply.Applied.{Applied}
 use Rattle.heap_model.specs.declared.reply.Applied.TheVariants.{Replied}
 use Rattle.heap_model.specs.Fronts.{Answers}
 use Rattle.heap_words.specs.declared.value.Value.{Value}
+use Rattle.heap_words.specs.declared.value.Value.TheVariants.{Int, Ref, Nothing}
+use Rattle.heap_rule.specs.Changes.{value_at}
 use Rattle.heap_rule.specs.declared.change.Change.{Change}
 use Rattle.heap_rule.specs.declared.config.Config.{Config}
 use Rattle.heap_rule.specs.declared.view.DomainView.{DomainView}
@@ -17,6 +19,8 @@ use Rattle.heap_rule.specs.Standing.{Entered}
 use Rattle.heap_rule.specs.Running.{Runs, Did}
 use Rattle.heap_rule.specs.Token.{Token, SharedHeap, IsIn}
 use Rattle.heap_rule.proofs.Calls.{front_stays, answered_runs}
+use Rattle.finaliser_queues.specs.Registering.{own_finalised, own_finalised_last}
+use Rattle.domain_turns.proofs.Owing.{finalised_own, finalised_last_own}
 use Rattle.field_access.specs.Remembered.{ChangesRemembered}
 use Rattle.domain_turns.specs.declared.command.Attempt.TheVariants.{Made}
 use Rattle.domain_turns.specs.Tries.{AttemptAnswers, IsStore, RefusesFull, Remembers, full_entry}
@@ -64,3 +68,35 @@ store_answers h old new (SetKey ephe index item) served collected r stores room 
 store_answers h old new (SetData ephe item) served collected r stores room did changes registers remembers =
     (record { runs = did.runs; stands = did.answers; heap = did.heap; stays = did.stays; own = remembered_own old.view.own new.view.own changes.own registers; remembers = remembers }, no_room old.view.own.remembered.room room)
 store_answers h old new _ served collected r stores room did changes registers remembers = absurd stores
+
+-- what a domain owns that has one finaliser more: its registers are as they were
+finalised_registers : (v : Value) (number dst : ℕ) (old : Own) → (own_finalised v number dst old).registers ≡ old.registers
+finalised_registers (Ref a) number dst old = refl
+finalised_registers (Int z) number dst old = refl
+finalised_registers Nothing number dst old = refl
+
+finalised_last_registers : (v : Value) (number : ℕ) (old : Own) → (own_finalised_last v number old).registers ≡ old.registers
+finalised_last_registers (Ref a) number old = refl
+finalised_last_registers (Int z) number old = refl
+finalised_last_registers Nothing number old = refl
+
+-- the same with the registers named
+with_own_registers : (old new x : Own) → new ≡ x → x.registers ≡ old.registers → x ≡ record old { used = old.used + 0; serial = old.serial + 0; finalisers = x.finalisers } → new ≡ record old { registers = new.registers; used = old.used + 0; serial = old.serial + 0; finalisers = x.finalisers }
+with_own_registers old new x is same whole = is ∙ (whole ∙ (λ i. record old { registers = (sym same ∙ ap (λ (o : Own). o.registers) (sym is)) i; used = old.used + 0; serial = old.serial + 0; finalisers = x.finalisers }))
+
+-- the entry of a registration was made
+pub finalise_answers : (h : SharedHeap) (old new : Token) (item number dst : ℕ) (served collected : Bool) (r : Reply) → Did h old new (Finalise item number dst) r → new.view.own ≡ own_finalised (value_at old.view.own.registers item) number dst old.view.own
+    → AttemptAnswers h old new (Finalise item number dst) served collected (Made r)
+finalise_answers h old new item number dst served collected r did is =
+    let v : Value = value_at old.view.own.registers item in
+    let own = with_own_registers old.view.own new.view.own (own_finalised v number dst old.view.own) is (finalised_registers v number dst old.view.own) (finalised_own v number dst old.view.own) in
+    let remembers = ap (λ (o : Own). o.remembered) own in
+    (record { runs = did.runs; stands = did.answers; heap = did.heap; stays = did.stays; own = own; remembers = remembers }, λ needs. needs)
+
+pub finalise_last_answers : (h : SharedHeap) (old new : Token) (item number : ℕ) (served collected : Bool) (r : Reply) → Did h old new (FinaliseLast item number) r → new.view.own ≡ own_finalised_last (value_at old.view.own.registers item) number old.view.own
+    → AttemptAnswers h old new (FinaliseLast item number) served collected (Made r)
+finalise_last_answers h old new item number served collected r did is =
+    let v : Value = value_at old.view.own.registers item in
+    let own = with_own_registers old.view.own new.view.own (own_finalised_last v number old.view.own) is (finalised_last_registers v number old.view.own) (finalised_last_own v number old.view.own) in
+    let remembers = ap (λ (o : Own). o.remembered) own in
+    (record { runs = did.runs; stands = did.answers; heap = did.heap; stays = did.stays; own = own; remembers = remembers }, λ needs. needs)

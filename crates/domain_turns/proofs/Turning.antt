@@ -1,8 +1,8 @@
 -- A turn keeps what is true of a run.
-use Rattle.std.proofs.Common.{◌≡◌, ◌∙◌, ℕ, zero, suc, ◌+◌, ◌<◌, ◌≤◌, Bool, true, false, List, [], ◌∷◌, ◌++◌, length, take, drop, slice_get, Some, None, Option, refl, sym, ap, subst, arith, length-append, append-nil, eq-eqb, add-one, ⊎_elim}
+use Rattle.std.proofs.Common.{◌≡◌, ◌≢◌, ◌∙◌, ℕ, zero, suc, ◌+◌, ◌<◌, ◌≤◌, Bool, true, false, List, [], ◌∷◌, ◌++◌, length, take, drop, slice_get, Some, None, Option, refl, sym, ap, subst, arith, length-append, append-nil, eq-eqb, add-one, ⊎_elim}
 use Rattle.heap_model.specs.declared.command.Command as model
 use Rattle.heap_model.specs.declared.entry.Entry.{Entry}
-use Rattle.heap_model.specs.declared.entry.Entry.TheVariants.{Command as CommandOf, End}
+use Rattle.heap_model.specs.declared.entry.Entry.TheVariants.{Command as CommandOf, End, Ran as RanEntry}
 use Rattle.heap_model.specs.declared.reply.Reply.{Reply}
 use Rattle.heap_model.specs.declared.reply.Reply.TheVariants.{Block}
 use Rattle.heap_model.specs.declared.reply.Applied.TheVariants.{Replied, Silent}
@@ -20,14 +20,21 @@ use Rattle.heap_rule.specs.declared.view.Hunt.TheVariants.{Rests}
 use Rattle.heap_rule.specs.declared.phase.Kind.TheVariants.{Answer}
 use Rattle.heap_rule.specs.Rule.{state_of}
 use Rattle.steps_pauses.specs.Pauses.{cut_in, forgotten}
-use Rattle.domain_turns.specs.Pausing.{AnswersLive}
+use Rattle.domain_turns.specs.Pausing.{AnswersLive, due_of}
 use Rattle.domain_turns.proofs.LeavingLemmas.{answer_between}
 use Rattle.heap_rule.specs.declared.view.Own.{Own}
 use Rattle.heap_rule.specs.declared.view.DomainView.{DomainView}
-use Rattle.domain_turns.specs.Tries.{Enters, Stands, Tried, ephemerons_of, labels_given, listed_by}
+use Rattle.steps_finalisers.specs.Registering.{count_of}
+use Rattle.steps_finalisers.specs.Running.{ran_own}
+use Rattle.steps_pauses.specs.Pauses.{ended_own}
+use Rattle.steps_sweep.proofs.Dues.{due_at}
+use Rattle.finaliser_queues.specs.declared.running.Ran.{Ran}
+use Rattle.finaliser_queues.specs.Running.{RanFirst, reply_of}
+use Rattle.domain_turns.specs.Tries.{Enters, Stands, Tried, NeedsPause, ephemerons_of, labels_given, listed_by, registrations_of}
 use Rattle.heap_rule.specs.declared.phase.Kind.{Kind}
 use Rattle.heap_rule.specs.Phases.{IsEven}
-use Rattle.domain_turns.specs.Runs.{RunView, IsBetween, IsRun, HasEnded, ephemerons_in, is_end_of, served_since}
+use Rattle.domain_turns.specs.Runs.{RunView, IsBetween, IsRun, HasEnded, ephemerons_in, registrations_in, is_end_of, served_since}
+use Rattle.domain_turns.proofs.Owing.{command_due, drop_registrations, ended_count, enlisted_count, ran_count, ran_fresh, registrations_few}
 use Rattle.domain_turns.proofs.PauseLemmas.{quiet_as}
 use Rattle.std.specs.List.{list_any}
 use Rattle.std.specs.Prelude.{cond, IsTrue, ◌||◌}
@@ -88,6 +95,34 @@ next_room r is c at =
     let rest : ℕ = ephemerons_in (drop (suc r.next) r.commands) in
     omega arith
 
+-- and for a finaliser that it registers
+pub next_enlists : (r : RunView) → IsRun r → (c : model.Command) → slice_get r.commands r.next ≡ Some c → registrations_of c + count_of r.token.view.own.finalisers ≤ r.token.config.finals
+next_enlists r is c at =
+    let all = drop_registrations r.commands r.next c at in
+    let fits = is.enlists in
+    let count : ℕ = count_of r.token.view.own.finalisers in
+    let rest : ℕ = registrations_in (drop (suc r.next) r.commands) in
+    omega arith
+
+-- another reply fits: that of the next command, and that of each finaliser
+pub next_replies : (r : RunView) → IsRun r → (c : model.Command) → slice_get r.commands r.next ≡ Some c → length r.replies < length r.commands + length r.commands
+next_replies r is c at =
+    let below = inside r.commands r.next c at in
+    let few = registrations_few r.commands in
+    let replied = is.replied in
+    let count : ℕ = count_of r.token.view.own.finalisers in
+    let rest : ℕ = registrations_in (drop r.next r.commands) in
+    omega arith
+
+pub ran_replies : (r : RunView) → IsRun r → (n : ℕ) → n + 1 ≡ count_of r.token.view.own.finalisers → length r.replies < length r.commands + length r.commands
+ran_replies r is n some =
+    let within = is.within in
+    let few = registrations_few r.commands in
+    let replied = is.replied in
+    let count : ℕ = count_of r.token.view.own.finalisers in
+    let rest : ℕ = registrations_in (drop r.next r.commands) in
+    omega arith
+
 -- after the try of a command the domain runs on
 tried_between : (h : SharedHeap) (old new : Token) (c : model.Command) (reply : Reply) (asked : Option ℕ) (collected cut : Bool) → IsBetween None asked collected cut old → Tried h old new c collected reply → IsBetween None None false cut new
 tried_between h old new c reply asked collected cut is t = record {
@@ -116,19 +151,21 @@ ended_between h old new asked collected cut is t =
     }
 
 -- what the entry of a command leaves of its domain's token
-record HasMade (old new : Token) (c : model.Command) (full : Bool) (reply : Reply) : Type 0 where
+record HasMade (old new : Token) (c : model.Command) (full : Bool) (reply : Reply) (due : ℕ) : Type 0 where
   config : new.config ≡ old.config
   number : new.view.own.number ≡ old.view.own.number
   serial : new.view.own.serial ≤ old.view.own.serial + 1
   room : (n : ℕ) → ephemerons_of c + n ≤ old.view.own.ephemerons.room → n ≤ new.view.own.ephemerons.room
+  listed : count_of new.view.own.finalisers ≤ registrations_of c + count_of old.view.own.finalisers
+  owes : due_of old.config new.view ≡ due
   idle : new.view.seen.made ≡ []
   at_rest : new.view.seen.hunt ≡ Rests
   answers : Answers (sizes_in old.config) old.view.own.number old.view.seen.front new.view.seen.front (CommandOf old.view.own.number c full) (Replied reply)
 
 -- the entry of the next command was made, and its reply kept
-made_is_run : (r : RunView) (new : Token) (c : model.Command) (full : Bool) (reply : Reply) (left : Option Kind) (cut : Bool) → IsRun r → r.ended ≡ false → slice_get r.commands r.next ≡ Some c → HasMade r.token new c full reply → IsBetween left None false cut new
-    → IsRun (record r { token = new; next = r.next + 1; replies = r.replies ++ reply ∷ []; left = left; asked = None; collected = false; cut = cut })
-made_is_run r new c full reply left cut is running at m between =
+made_is_run : (r : RunView) (new : Token) (c : model.Command) (full : Bool) (reply : Reply) (left : Option Kind) (cut : Bool) (due : ℕ) → IsRun r → r.ended ≡ false → slice_get r.commands r.next ≡ Some c → HasMade r.token new c full reply due → IsBetween left None false cut new
+    → IsRun (record r { token = new; next = r.next + 1; replies = r.replies ++ reply ∷ []; left = left; asked = None; collected = false; cut = cut; due = due })
+made_is_run r new c full reply left cut due is running at m between =
     let d : ℕ = r.token.view.own.number in
     let z = sizes_in r.token.config in
     let e : Entry = CommandOf d c full in
@@ -137,39 +174,55 @@ made_is_run r new c full reply left cut is running at m between =
     ∙ ap (λ (cs : List model.Command). cs ++ command_of d e) is.made ∙ ap (λ (cs : List model.Command). take r.next r.commands ++ cs) (own d c full) in
     let answered : replies z new.view.seen.front d ≡ r.replies ++ reply ∷ [] =
     replies_after z d r.token.view.seen.front new.view.seen.front e (Replied reply) (eq-eqb d d refl) m.answers ∙ ap (λ (rs : List Reply). rs ++ reply ∷ []) is.answered in
+    let left_over : ℕ = registrations_in (drop (suc r.next) r.commands) in
+    let all = drop_registrations r.commands r.next c at in
+    let listed = m.listed in
+    let more : length (r.replies ++ reply ∷ []) + (count_of new.view.own.finalisers + left_over) ≤ suc r.next + registrations_in r.commands =
+    let one = length-append r.replies (reply ∷ []) in let before = is.replied in omega arith in
+    let enough : count_of new.view.own.finalisers + left_over ≤ r.token.config.finals = let before = is.enlists in omega arith in
     record {
       inside = subst (λ (z : ℕ × Config). z.0 < z.1.domains) (λ i. (sym m.number i, sym m.config i)) is.inside;
       made = ap (commands new.view.seen.front) m.number ∙ made ∙ sym (take_next r.commands r.next c at) ∙ ap (λ (n : ℕ). take n r.commands) (sym (add-one r.next));
       answered = ap (λ (n : ℕ). replies (sizes_in new.config) new.view.seen.front n) m.number ∙ ap (λ (k : Config). replies (sizes_in k) new.view.seen.front d) m.config ∙ answered;
-      each = length-append r.replies (reply ∷ []) ∙ ap (λ (n : ℕ). n + 1) is.each;
+      replied = subst (λ (n : ℕ). length (r.replies ++ reply ∷ []) + (count_of new.view.own.finalisers + registrations_in (drop n r.commands)) ≤ n + registrations_in r.commands) (sym (add-one r.next)) more;
       within = let below = inside r.commands r.next c at in omega arith;
       few = is.few;
       fit = is.fit;
       room = subst (λ (n : ℕ). ephemerons_in (drop n r.commands) ≤ new.view.own.ephemerons.room) (sym (add-one r.next))
           (m.room (ephemerons_in (drop (suc r.next) r.commands)) (subst (λ (n : ℕ). n ≤ r.token.view.own.ephemerons.room) (drop_next r.commands r.next c at) is.room));
+      enlists = subst (λ (z : ℕ × Config). count_of new.view.own.finalisers + registrations_in (drop z.0 r.commands) ≤ z.1.finals) (λ i. (sym (add-one r.next) i, sym m.config i)) enough;
       idle = m.idle;
       at_rest = m.at_rest;
       goes_on = λ _. subst (λ (z : ℕ × Config). (domain_at (state_of z.1 new.view.seen.front) z.0).ended ≡ false) (λ i. (sym m.number i, sym m.config i))
           (acts_after z d r.token.view.seen.front new.view.seen.front c full (Replied reply) m.answers (is.goes_on running));
+      owes = λ _. subst (λ (k : Config). due_of k new.view ≡ due) (sym m.config) m.owes;
       between = between;
       labels = let few = m.serial in let l = is.labels in let n : ℕ = r.next in omega arith;
       done = λ ended. let clash : false ≡ true = sym running ∙ ended in cc;
       over = λ ended. let clash : false ≡ true = sym running ∙ ended in cc;
     }
 
-pub tried_is_run : (h : SharedHeap) (r : RunView) (new : Token) (c : model.Command) (reply : Reply) → IsRun r → r.ended ≡ false → r.left ≡ None → slice_get r.commands r.next ≡ Some c → Tried h r.token new c r.collected reply
-    → IsRun (record r { token = new; next = r.next + 1; replies = r.replies ++ reply ∷ []; asked = None; collected = false })
-tried_is_run h r new c reply is running left at t =
+-- each of these is another than `full_major`, which always waits for a pause
+not_full : (k : Config) (own : Own) (served : Bool) (c : model.Command) → (NeedsPause k own served c → ⊥) → c ≢ FullMajor
+not_full k own served c ready is = ready (subst (λ (d : model.Command). NeedsPause k own served d) (sym is) tt)
+
+pub tried_is_run : (h : SharedHeap) (r : RunView) (new : Token) (c : model.Command) (reply : Reply) (own : Own) (served : Bool) → IsRun r → r.ended ≡ false → r.left ≡ None → slice_get r.commands r.next ≡ Some c → Tried h r.token new c r.collected reply → (NeedsPause h.config own served c → ⊥)
+    → IsRun (record r { token = new; next = r.next + 1; replies = r.replies ++ reply ∷ []; asked = None; collected = false; due = 0 })
+tried_is_run h r new c reply own served is running left at t ready =
     let st = stood h r.token new c r.collected reply t.stands in
     let few = labels_few c reply in
     let serial : new.view.own.serial ≡ r.token.view.own.serial + labels_given c reply = ap (λ (o : Own). o.serial) t.own in
-    made_is_run r new c st.0 reply r.left r.cut is running at
-    record { config = t.heap.1; number = ap (λ (o : Own). o.number) t.own; serial = omega (arith, serial, few); room = λ n fits. subst (λ (o : Own). n ≤ o.ephemerons.room) (sym t.own) (room_left c reply r.token.view.own new.view.own n fits); idle = t.runs.idle; at_rest = t.runs.at_rest; answers = st.1 }
+    let number : new.view.own.number ≡ r.token.view.own.number = ap (λ (o : Own). o.number) t.own in
+    let d : ℕ = r.token.view.own.number in
+    let owes : due_of r.token.config new.view ≡ 0 = ap (λ (n : ℕ). due_at (state_of r.token.config new.view.seen.front) n) number
+    ∙ command_due (sizes_in r.token.config) d r.token.view.seen.front new.view.seen.front c st.0 (Replied reply) st.1 (not_full h.config own served c ready) in
+    made_is_run r new c st.0 reply r.left r.cut 0 is running at
+    record { listed = subst (λ (o : Own). count_of o.finalisers ≤ registrations_of c + count_of r.token.view.own.finalisers) (sym t.own) (enlisted_count c r.token.view.own); owes = owes; config = t.heap.1; number = ap (λ (o : Own). o.number) t.own; serial = omega (arith, serial, few); room = λ n fits. subst (λ (o : Own). n ≤ o.ephemerons.room) (sym t.own) (room_left c reply r.token.view.own new.view.own n fits); idle = t.runs.idle; at_rest = t.runs.at_rest; answers = st.1 }
     (subst (λ (l : Option Kind). IsBetween l None false r.cut new) (sym left) (tried_between h r.token new c reply r.asked r.collected r.cut (subst (λ (l : Option Kind). IsBetween l r.asked r.collected r.cut r.token) left is.between) t))
 
 -- the same where a collection is answered by the reply of a `full_major`
 pub answered_is_run : (h : SharedHeap) (r : RunView) (new : Token) (reply : Reply) (last : Kind) → IsRun r → r.ended ≡ false → slice_get r.commands r.next ≡ Some FullMajor → IsIn r.token h → IsIn new h → AnswersLive h.config r.token.view new.view reply
-    → IsRun (record r { token = new; next = r.next + 1; replies = r.replies ++ reply ∷ []; left = Some Answer; asked = None; collected = false; cut = cut_in last r.cut })
+    → IsRun (record r { token = new; next = r.next + 1; replies = r.replies ++ reply ∷ []; left = Some Answer; asked = None; collected = false; cut = cut_in last r.cut; due = length new.view.own.finalisers.queue.items })
 answered_is_run h r new reply last is running at was here a =
     let passed = a.comes.passed.view in
     let own : new.view.own ≡ record a.begun.own { arrivals = a.begun.own.arrivals + 1; pending = forgotten a.begun.own.pending } = ap (λ (x : DomainView). x.own) a.view in
@@ -180,12 +233,14 @@ answered_is_run h r new reply last is running at was here a =
     let answers : Answers (sizes_in h.config) r.token.view.own.number r.token.view.seen.front new.view.seen.front entry (Replied reply) =
     subst (λ (f : List Entry). Answers (sizes_in h.config) r.token.view.own.number r.token.view.seen.front f entry (Replied reply)) (sym front)
     (answers_after (sizes_in h.config) r.token.view.own.number r.token.view.seen.front a.begun.seen.front a.front entry (Replied reply) a.comes.passed.seen a.answers) in
-    made_is_run r new FullMajor false reply (Some Answer) (cut_in last r.cut) is running at
+    made_is_run r new FullMajor false reply (Some Answer) (cut_in last r.cut) (length new.view.own.finalisers.queue.items) is running at
     record {
       config = config;
       number = ap (λ (o : Own). o.number) own ∙ ap (λ (x : DomainView). x.own.number) passed;
       serial = omega (arith, serial);
       room = λ n fits. subst (λ (o : Own). n ≤ o.ephemerons.room) (sym own) (subst (λ (x : DomainView). n ≤ x.own.ephemerons.room) (sym passed) (none_more n r.token.view.own.ephemerons.room fits));
+      listed = let same : count_of new.view.own.finalisers ≡ count_of r.token.view.own.finalisers = ap (λ (o : Own). count_of o.finalisers) own ∙ ap (λ (x : DomainView). count_of x.own.finalisers) passed in omega (arith, same);
+      owes = subst (λ (k : Config). due_of k new.view ≡ length new.view.own.finalisers.queue.items) (sym was.1) a.due;
       idle = ap (λ (x : DomainView). x.seen.made) a.view ∙ (ap (λ (x : DomainView). x.seen.made) passed ∙ is.idle);
       at_rest = ap (λ (x : DomainView). x.seen.hunt) a.view ∙ (ap (λ (x : DomainView). x.seen.hunt) passed ∙ is.at_rest);
       answers = subst (λ (k : Config). Answers (sizes_in k) r.token.view.own.number r.token.view.seen.front new.view.seen.front entry (Replied reply)) (sym was.1) answers;
@@ -210,21 +265,84 @@ ended_is_run h r new is left whole t =
     commands_after z d r.token.view.seen.front new.view.seen.front (End d) Silent t.answers ∙ append-nil (commands r.token.view.seen.front d) in
     let answered : replies z new.view.seen.front d ≡ replies z r.token.view.seen.front d =
     replies_after z d r.token.view.seen.front new.view.seen.front (End d) Silent (eq-eqb d d refl) t.answers ∙ append-nil (replies z r.token.view.seen.front d) in
+    let fewer : count_of new.view.own.finalisers ≤ count_of r.token.view.own.finalisers = subst (λ (x : DomainView). count_of x.own.finalisers ≤ count_of r.token.view.own.finalisers) (sym t.view) (ended_count r.token.view.own) in
     record {
       inside = subst (λ (z : ℕ × Config). z.0 < z.1.domains) (λ i. (sym number i, sym t.heap.1 i)) is.inside;
       made = ap (commands new.view.seen.front) number ∙ made ∙ is.made;
       answered = ap (λ (n : ℕ). replies (sizes_in new.config) new.view.seen.front n) number ∙ ap (λ (k : Config). replies (sizes_in k) new.view.seen.front d) t.heap.1 ∙ answered ∙ is.answered;
-      each = is.each;
+      replied = let less : count_of new.view.own.finalisers ≤ count_of r.token.view.own.finalisers = fewer in let before = is.replied in let rest : ℕ = registrations_in (drop r.next r.commands) in let total : ℕ = registrations_in r.commands in let n : ℕ = r.next in omega arith;
       within = is.within;
       few = is.few;
       fit = is.fit;
       room = subst (λ (x : DomainView). ephemerons_in (drop r.next r.commands) ≤ x.own.ephemerons.room) (sym t.view) is.room;
+      enlists = subst (λ (k : Config). count_of new.view.own.finalisers + registrations_in (drop r.next r.commands) ≤ k.finals) (sym t.heap.1) (let before = is.enlists in let less : count_of new.view.own.finalisers ≤ count_of r.token.view.own.finalisers = fewer in let rest : ℕ = registrations_in (drop r.next r.commands) in omega arith);
       idle = ap (λ (x : DomainView). x.seen.made) t.view ∙ is.idle;
       at_rest = ap (λ (x : DomainView). x.seen.hunt) t.view ∙ is.at_rest;
       goes_on = λ running. cc;
+      owes = λ running. cc;
       between = subst (λ (l : Option Kind). IsBetween l r.asked false r.cut new) (sym left) (ended_between h r.token new r.asked r.collected r.cut (subst (λ (l : Option Kind). IsBetween l r.asked r.collected r.cut r.token) left is.between) t);
       labels = omega (arith, is.labels, serial);
       done = λ ended. omega (arith, is.within, whole);
       over = λ ended. subst (λ (n : ℕ). IsTrue (list_any (is_end_of n) new.view.seen.front)) (sym number)
           (subst (λ (front : List Entry). IsTrue (list_any (is_end_of d) front)) (sym t.answers.appends) (any_last (is_end_of d) (r.token.view.seen.front ++ t.answers.between) (End d) (eq-eqb d d refl)));
+    }
+
+-- the run of a finaliser leaves the domain between two turns
+ran_between : (h : SharedHeap) (old new : Token) (ran : Ran) (asked : Option ℕ) (collected cut : Bool) → new.config ≡ old.config → h.config ≡ old.config → IsBetween None asked collected cut old → RanFirst h.config ran old.view new.view → IsBetween None asked collected cut new
+ran_between h old new ran asked collected cut config same is f =
+    let arrivals : new.view.own.arrivals ≡ old.view.own.arrivals = ap (λ (x : DomainView). x.own.arrivals) f.view in
+    let number : new.view.own.number ≡ old.view.own.number = ap (λ (x : DomainView). x.own.number) f.view in record {
+      stands = ap (λ (x : DomainView). x.seen.stage) f.view ∙ is.stands;
+      quiet = quiet_as old.view new.view (ap (λ (x : DomainView). x.seen.copying) f.view) (ap (λ (x : DomainView). x.own.pending) f.view) (ap (λ (x : DomainView). x.own.prepared) f.view) is.quiet;
+      even = λ none. subst IsEven (sym arrivals) (is.even none);
+      remembers = λ none. ap (λ (x : DomainView). x.seen.remembered) f.view ∙ (is.remembers none ∙ sym (ap (λ (x : DomainView). x.own.remembered.items) f.view));
+      emptied = λ none served. ap (λ (x : DomainView). x.own.used) f.view ∙ is.emptied none (ap (served_since asked) (sym arrivals) ∙ served);
+      has_left = λ known left. cc;
+      fresh = λ e. subst (λ (z : Config × ℕ). (domain_at (state_of z.0 new.view.seen.front) z.1).fresh ≡ true) (λ i. (sym config i, sym number i))
+          (ran_fresh (sizes_in old.config) old.view.own.number old.view.seen.front new.view.seen.front (Replied (reply_of ran))
+          (subst (λ (k : Config). Answers (sizes_in k) old.view.own.number old.view.seen.front new.view.seen.front (RanEntry old.view.own.number) (Replied (reply_of ran))) same f.answers) (is.fresh e));
+      knows_cut = λ known left. cc;
+    }
+
+-- a finaliser has run, and its reply was kept
+pub ran_is_run : (h : SharedHeap) (r : RunView) (new : Token) (ran : Ran) → IsRun r → r.ended ≡ false → r.left ≡ None → IsIn r.token h → IsIn new h → (domain_at (state_of new.config new.view.seen.front) new.view.own.number).ended ≡ false → RanFirst h.config ran r.token.view new.view
+    → IsRun (record r { token = new; replies = r.replies ++ reply_of ran ∷ []; due = length new.view.own.finalisers.queue.items })
+ran_is_run h r new ran is running left was here goes f =
+    let d : ℕ = r.token.view.own.number in
+    let k : Config = r.token.config in
+    let z = sizes_in k in
+    let reply : Reply = reply_of ran in
+    let config : new.config ≡ k = here.1 ∙ sym was.1 in
+    let number : new.view.own.number ≡ d = ap (λ (x : DomainView). x.own.number) f.view in
+    let serial : new.view.own.serial ≡ r.token.view.own.serial = ap (λ (x : DomainView). x.own.serial) f.view in
+    let answers : Answers z d r.token.view.seen.front new.view.seen.front (RanEntry d) (Replied reply) =
+    subst (λ (c : Config). Answers (sizes_in c) d r.token.view.seen.front new.view.seen.front (RanEntry d) (Replied reply)) (sym was.1) f.answers in
+    let made : commands new.view.seen.front d ≡ commands r.token.view.seen.front d =
+    commands_after z d r.token.view.seen.front new.view.seen.front (RanEntry d) (Replied reply) answers ∙ append-nil (commands r.token.view.seen.front d) in
+    let answered : replies z new.view.seen.front d ≡ r.replies ++ reply ∷ [] =
+    replies_after z d r.token.view.seen.front new.view.seen.front (RanEntry d) (Replied reply) (eq-eqb d d refl) answers ∙ ap (λ (rs : List Reply). rs ++ reply ∷ []) is.answered in
+    let count : ℕ = count_of new.view.own.finalisers in
+    let rest : ℕ = registrations_in (drop r.next r.commands) in
+    let less : count + 1 ≡ count_of r.token.view.own.finalisers = ap (λ (x : DomainView). count_of x.own.finalisers + 1) f.view ∙ ran_count f.first r.token.view.own f.is_first in
+    let more : length (r.replies ++ reply ∷ []) + (count + rest) ≤ r.next + registrations_in r.commands =
+    let one = length-append r.replies (reply ∷ []) in let before = is.replied in let total : ℕ = registrations_in r.commands in let n : ℕ = r.next in omega arith in
+    let enough : count + rest ≤ k.finals = let before = is.enlists in omega arith in
+    record {
+      inside = subst (λ (z : ℕ × Config). z.0 < z.1.domains) (λ i. (sym number i, sym config i)) is.inside;
+      made = ap (commands new.view.seen.front) number ∙ made ∙ is.made;
+      answered = ap (λ (n : ℕ). replies (sizes_in new.config) new.view.seen.front n) number ∙ ap (λ (c : Config). replies (sizes_in c) new.view.seen.front d) config ∙ answered;
+      replied = more;
+      within = is.within;
+      few = is.few;
+      fit = is.fit;
+      room = subst (λ (x : DomainView). ephemerons_in (drop r.next r.commands) ≤ x.own.ephemerons.room) (sym f.view) is.room;
+      enlists = subst (λ (c : Config). count + rest ≤ c.finals) (sym config) enough;
+      idle = ap (λ (x : DomainView). x.seen.made) f.view ∙ is.idle;
+      at_rest = ap (λ (x : DomainView). x.seen.hunt) f.view ∙ is.at_rest;
+      goes_on = λ _. goes;
+      owes = λ _. subst (λ (c : Config). due_of c new.view ≡ length new.view.own.finalisers.queue.items) (sym here.1) f.due;
+      between = subst (λ (l : Option Kind). IsBetween l r.asked r.collected r.cut new) (sym left) (ran_between h r.token new ran r.asked r.collected r.cut config (sym was.1) (subst (λ (l : Option Kind). IsBetween l r.asked r.collected r.cut r.token) left is.between) f);
+      labels = omega (arith, is.labels, serial);
+      done = λ ended. let clash : false ≡ true = sym running ∙ ended in cc;
+      over = λ ended. let clash : false ≡ true = sym running ∙ ended in cc;
     }

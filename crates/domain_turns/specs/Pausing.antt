@@ -1,5 +1,5 @@
 -- What a domain has, remembers and holds as it goes through the phases of a pause.
-use Rattle.std.specs.Prelude.{◌≡◌, ◌≢◌, ◌⊎◌, Bool, true, false, ℕ, List, [], Option, Some, None}
+use Rattle.std.specs.Prelude.{◌≡◌, ◌≢◌, ◌⊎◌, Bool, true, false, ℕ, List, [], length, Option, Some, None}
 use Rattle.heap_model.specs.declared.entry.Entry.{Entry}
 use Rattle.heap_model.specs.declared.entry.Entry.TheVariants.{Command as CommandOf}
 use Rattle.heap_model.specs.declared.command.Command.TheVariants.{FullMajor}
@@ -7,6 +7,7 @@ use Rattle.heap_model.specs.declared.reply.Reply.{Reply}
 use Rattle.heap_model.specs.declared.reply.Reply.TheVariants.{Live}
 use Rattle.heap_model.specs.declared.reply.Applied.TheVariants.{Replied}
 use Rattle.heap_model.specs.declared.state.Mode.TheVariants.{Answer as Answered}
+use Rattle.heap_model.specs.Domains.{domain_at}
 use Rattle.heap_model.specs.Fronts.{Answers}
 use Rattle.heap_rule.specs.declared.config.Config.{Config}
 use Rattle.heap_rule.specs.declared.view.DomainView.{DomainView}
@@ -112,12 +113,17 @@ pub record GivesBack (k : Config) (x y : DomainView) (blocks : ℕ) : Type 0 whe
   pub comes : ComesToAnswer k x begun
   pub view : y ≡ arrived_view (knowing_blocks begun blocks)
 
--- the domain made the entry of its `full_major` where so many blocks live, and the reply tells what lives
+-- how many finalisers the domain owes before its next `full_major`
+abbrev pub due_of : Config → DomainView → ℕ
+due_of k x = (domain_at (state_of k x.seen.front) x.own.number).due
+
+-- the domain made the entry of its `full_major` where so many blocks live, and the reply tells what lives. It owes what its queue holds
 pub record LivesAs (k : Config) (x y : DomainView) (blocks : ℕ) (reply : Reply) : Type 0 where
   pub words : ℕ
   pub reply_is : reply ≡ Live blocks words
   pub answers : Answers (sizes_in k) x.own.number x.seen.front y.seen.front (CommandOf x.own.number FullMajor false) (Replied reply)
   pub view : y ≡ with_front x y.seen.front
+  pub due : due_of k y ≡ length y.own.finalisers.queue.items
 
 -- and then it arrived, if it waited for one, or it arrived at once. Before it had found that so many blocks live
 abbrev pub AnswersFrom : Config → DomainView → DomainView → Bool → ℕ → Option Reply → Type 0
@@ -135,6 +141,7 @@ pub record AnswersLive (k : Config) (x y : DomainView) (reply : Reply) : Type 0 
   pub front : List Entry
   pub answers : Answers (sizes_in k) x.own.number begun.seen.front front (CommandOf x.own.number FullMajor false) (Replied reply)
   pub view : y ≡ arrived_view (with_front begun front)
+  pub due : due_of k y ≡ length y.own.finalisers.queue.items
 
 -- what a pause leaves of a domain: its minor area is empty, it remembers no field, and no register holds an address of a minor area
 pub record IsCollected (k : Config) (x : DomainView) : Type 0 where

@@ -23,7 +23,10 @@ use Rattle.heap_rule.specs.declared.phase.Note.TheVariants.{Want, Asked, Barrier
 use Rattle.heap_rule.specs.Phases.{IsEven, IsOdd, Comes}
 use Rattle.heap_rule.specs.Copies.{nothing_copied}
 use Rattle.heap_rule.specs.Running.{RemembersAll}
-use Rattle.steps_pauses.specs.Pauses.{noted, arrived_view, cut_in, IsModeOf}
+use Rattle.steps_pauses.specs.Pauses.{noted, arrived_view, cut_in, ended_own, IsModeOf}
+use Rattle.steps_finalisers.specs.Registering.{count_of}
+use Rattle.finaliser_queues.specs.declared.running.Ran.{Ran}
+use Rattle.finaliser_queues.specs.Running.{RanFirst, reply_of}
 use Rattle.heap_rule.specs.Rule.{state_of}
 use Rattle.safepoint.specs.Looks.{Passed, bit_of}
 use Rattle.safepoint.specs.declared.answer.Want as wish
@@ -35,10 +38,10 @@ use Rattle.heap_rule.specs.declared.view.Hunt.TheVariants.{Rests as AtRest}
 use Rattle.heap_rule.specs.Limits.{sizes_in}
 use Rattle.heap_rule.specs.Standing.{Acts}
 use Rattle.heap_rule.specs.Token.{Token, SharedHeap, IsIn}
-use Rattle.domain_turns.specs.Pausing.{IsQuiet, HasLeft, KnowsCut, LeavesEven, LeavesOdd, GivesBack, AnswersLive, IsCollected}
-use Rattle.domain_turns.specs.Tries.{FitsHeap, IsFresh, NeedsPause, Refused, Tried, ephemerons_of, wish_of}
+use Rattle.domain_turns.specs.Pausing.{IsQuiet, HasLeft, KnowsCut, LeavesEven, LeavesOdd, GivesBack, AnswersLive, IsCollected, due_of}
+use Rattle.domain_turns.specs.Tries.{FitsHeap, IsFresh, NeedsPause, Refused, Tried, ephemerons_of, registrations_of, wish_of}
 
--- a run: the domain's token, its commands, the place of the next one, its replies, whether its trace has ended, where the domain has arrived from which kind of phase, how often it had arrived when it asked for a pause for the next command, whether the last pause since then was a complete collection that left so many blocks that they may use up the pools, and, for domain 0, whether the collection under way is past its cut
+-- a run: the domain's token, its commands, the place of the next one, its replies, whether its trace has ended, where the domain has arrived from which kind of phase, how often it had arrived when it asked for a pause for the next command, whether the last pause since then was a complete collection that left so many blocks that they may use up the pools, whether, for domain 0, the collection under way is past its cut, and how many finalisers the domain owes before its next `full_major`
 pub record RunView : Type 0 where
   pub token : Token
   pub commands : List model.Command
@@ -49,6 +52,7 @@ pub record RunView : Type 0 where
   pub asked : Option ℕ
   pub collected : Bool
   pub cut : Bool
+  pub due : ℕ
 
 -- whether an entry is the end of domain d
 abbrev pub is_end_of : ℕ → Entry → Bool
@@ -64,12 +68,17 @@ abbrev pub ephemerons_in : List model.Command → ℕ
 ephemerons_in [] = 0
 ephemerons_in (c ∷ cs) = ephemerons_of c + ephemerons_in cs
 
+-- and how many finalisers they register at most
+abbrev pub registrations_in : List model.Command → ℕ
+registrations_in [] = 0
+registrations_in (c ∷ cs) = registrations_of c + registrations_in cs
+
 -- a pause began and ended since the domain asked: it has arrived since
 abbrev pub served_since : Option ℕ → ℕ → Bool
 served_since None arrivals = false
 served_since (Some at) arrivals = nat_lt at arrivals
 
--- a domain that runs, without an entry so far, may begin these commands. It has room for the ephemerons that they make, and is in the middle of no pause and of no collection
+-- a domain that runs, without an entry so far, may begin these commands. It has room for the ephemerons that they make and the finalisers that they register, none is registered so far, and it is in the middle of no pause and of no collection
 pub record CanBegin (t : Token) (cs : List model.Command) : Type 0 where
   pub inside : t.view.own.number < t.config.domains
   pub acts : Acts t.config t.view
@@ -80,6 +89,9 @@ pub record CanBegin (t : Token) (cs : List model.Command) : Type 0 where
   pub few : length cs ≤ 200000
   pub fit : AllFit cs
   pub room : ephemerons_in cs ≤ t.view.own.ephemerons.room
+  pub enlists : registrations_in cs ≤ t.config.finals
+  pub none_listed : count_of t.view.own.finalisers ≡ 0
+  pub owes : due_of t.config t.view ≡ 0
   pub labels : t.view.own.serial ≤ 4000000000
   pub even : t.view.own.arrivals % 2 ≡ 0
   pub remembers : RemembersAll t.view
@@ -103,54 +115,70 @@ pub record IsBetween (left : Option Kind) (asked : Option ℕ) (collected cut : 
   pub fresh : collected ≡ true → IsFresh t.config t.view
   pub knows_cut : (known : Kind) → left ≡ Some known → KnowsCut known cut t.view
 
--- what is true of a run between any two turns: the domain's commands in its front are those before the next, each once and in order, and the replies are theirs. It has room for the ephemerons that the others make
+-- what is true of a run between any two turns: the domain's commands in its front are those before the next, each once and in order, and the replies are those of its entries. It has room for the ephemerons that the others make and for the finalisers that they register. Each finaliser that it has may still answer once
 pub record IsRun (r : RunView) : Type 0 where
   pub inside : r.token.view.own.number < r.token.config.domains
   pub made : commands r.token.view.seen.front r.token.view.own.number ≡ take r.next r.commands
   pub answered : replies (sizes_in r.token.config) r.token.view.seen.front r.token.view.own.number ≡ r.replies
-  pub each : length r.replies ≡ r.next
+  pub replied : length r.replies + (count_of r.token.view.own.finalisers + registrations_in (drop r.next r.commands)) ≤ r.next + registrations_in r.commands
   pub within : r.next ≤ length r.commands
   pub few : length r.commands ≤ 200000
   pub fit : AllFit r.commands
   pub room : ephemerons_in (drop r.next r.commands) ≤ r.token.view.own.ephemerons.room
+  pub enlists : count_of r.token.view.own.finalisers + registrations_in (drop r.next r.commands) ≤ r.token.config.finals
   pub idle : r.token.view.seen.made ≡ []
   pub at_rest : r.token.view.seen.hunt ≡ AtRest
   pub goes_on : r.ended ≡ false → (domain_at (state_of r.token.config r.token.view.seen.front) r.token.view.own.number).ended ≡ false
+  pub owes : r.ended ≡ false → due_of r.token.config r.token.view ≡ r.due
   pub between : IsBetween r.left r.asked r.collected r.cut r.token
   pub labels : r.token.view.own.serial ≤ 4000000000 + r.next
   pub done : r.ended ≡ true → r.next ≡ length r.commands
   pub over : r.ended ≡ true → IsTrue (list_any (is_end_of r.token.view.own.number) r.token.view.seen.front)
 
--- the domain with these registers, and another front
-abbrev pub left_with : DomainView → List Value → List Entry → DomainView
-left_with x registers front = record { own = record x.own { registers = registers }; seen = record x.seen { front = front } }
+-- the domain after the end of its trace, with this front: its registers hold nothing, and it has forgotten what was registered
+abbrev pub left_with : DomainView → List Entry → DomainView
+left_with x front = record { own = ended_own x.own; seen = record x.seen { front = front } }
 
--- the entry of the domain's end was made, and its registers hold nothing
+-- no finaliser waits in the domain's queue
+abbrev pub IsUnqueued : Token → Type 0
+IsUnqueued t = t.view.own.finalisers.queue.items ≡ []
+
+-- the entry of the domain's end was made
 pub record HasEnded (h : SharedHeap) (old new : Token) : Type 0 where
   pub here : IsIn new h
   pub answers : Answers (sizes_in old.config) old.view.own.number old.view.seen.front new.view.seen.front (End old.view.own.number) Silent
   pub heap : (new.table ≡ old.table) × (new.config ≡ old.config)
-  pub view : new.view ≡ left_with old.view (replicate 16 Nothing) new.view.seen.front
+  pub view : new.view ≡ left_with old.view new.view.seen.front
 
--- a turn tried the command, and its reply was kept. No pause had to come first, and a `minor` or a `major` finds the minor area empty
+-- a turn ran the finaliser that had waited longest in the domain's queue, and its reply was kept
+pub record RunsFinaliser (h : SharedHeap) (start : Token) (old new : RunView) : Type 0 where
+  pub ran : Ran
+  pub first : RanFirst h.config ran start.view new.token.view
+  pub here : IsIn new.token h
+  pub run : new ≡ record old { token = new.token; replies = old.replies ++ reply_of ran ∷ []; due = length new.token.view.own.finalisers.queue.items }
+
+-- a turn tried the command where no finaliser waited, and its reply was kept. No pause had to come first, and a `minor` or a `major` finds the minor area empty
 pub record TriesCommand (h : SharedHeap) (start : Token) (old new : RunView) (c : model.Command) : Type 0 where
   pub next : slice_get old.commands old.next ≡ Some c
+  pub unqueued : IsUnqueued start
   pub ready : NeedsPause h.config start.view.own (served_since old.asked old.token.view.own.arrivals) c → ⊥
   pub emptied : (c ≡ Minor) ⊎ (c ≡ Major) → start.view.own.used ≡ 0
   pub reply : Reply
   pub tried : Tried h start new.token c old.collected reply
-  pub run : new ≡ record old { token = new.token; next = old.next + 1; replies = old.replies ++ reply ∷ []; asked = None; collected = false }
+  pub run : new ≡ record old { token = new.token; next = old.next + 1; replies = old.replies ++ reply ∷ []; asked = None; collected = false; due = 0 }
 
--- a turn ended the trace
+-- a turn ended the trace, where no finaliser waited
 pub record EndsTrace (h : SharedHeap) (start : Token) (old new : RunView) : Type 0 where
   pub past : length old.commands ≤ old.next
+  pub unqueued : IsUnqueued start
   pub ended : HasEnded h start new.token
   pub run : new ≡ record old { token = new.token; ended = true; collected = false }
 
--- a turn asked for the pause that the next command needs first
+-- a turn asked for the pause that the next command needs first, where no finaliser waited
 pub record Asks (h : SharedHeap) (start : Token) (old new : RunView) : Type 0 where
   pub command : model.Command
   pub next : slice_get old.commands old.next ≡ Some command
+  pub unqueued : IsUnqueued start
   pub needs : NeedsPause h.config start.view.own (served_since old.asked old.token.view.own.arrivals) command
   pub run : new ≡ record old { token = record start { view = noted start.view (Asked (bit_of (wish_of command))) }; asked = Some old.token.view.own.arrivals }
 
@@ -158,6 +186,7 @@ pub record Asks (h : SharedHeap) (start : Token) (old new : RunView) : Type 0 wh
 pub record AsksFull (h : SharedHeap) (start : Token) (old new : RunView) : Type 0 where
   pub command : model.Command
   pub next : slice_get old.commands old.next ≡ Some command
+  pub unqueued : IsUnqueued start
   pub ready : NeedsPause h.config start.view.own (served_since old.asked old.token.view.own.arrivals) command → ⊥
   pub searched : Token
   pub refused : Refused h start searched command old.collected
@@ -176,6 +205,7 @@ noted_token t note = record t { view = noted t.view note }
 
 -- what a running domain does in a turn that found no wish
 pub data CalmDid (h : SharedHeap) (old new : RunView) : Type 0 where
+  Finalises : RunsFinaliser h old.token old new → CalmDid h old new
   Wishes : Asks h old.token old new → CalmDid h old new
   Refuses : AsksFull h old.token old new → CalmDid h old new
   Tries : (c : model.Command) → TriesCommand h old.token old new c → CalmDid h old new
@@ -242,24 +272,29 @@ abbrev pub is_asked : Option ℕ → Bool
 is_asked None = false
 is_asked (Some at) = true
 
--- the domain had arrived, and a collection was answered, by the reply of its next command among others: it is `full_major`
+-- the next command is a `full_major`, and the domain owes no finaliser before it
+pub record WaitsForAnswer (r : RunView) : Type 0 where
+  pub next : slice_get r.commands r.next ≡ Some FullMajor
+  pub paid : r.due ≡ 0
+
+-- the domain had arrived, and a collection was answered, by the reply of its next command among others: it is `full_major`, before which it owed no finaliser. It then owes those that wait in its queue
 pub record IsAnswered (h : SharedHeap) (old new : RunView) : Type 0 where
   pub last : Kind
   pub arrived : old.left ≡ Some last
-  pub next : slice_get old.commands old.next ≡ Some FullMajor
+  pub waited : WaitsForAnswer old
   pub reply : Reply
   pub answers : AnswersLive h.config old.token.view new.token.view reply
-  pub run : new ≡ record old { token = record old.token { view = new.token.view }; next = old.next + 1; replies = old.replies ++ reply ∷ []; left = Some Answer; asked = None; collected = false; cut = cut_in last old.cut }
+  pub run : new ≡ record old { token = record old.token { view = new.token.view }; next = old.next + 1; replies = old.replies ++ reply ∷ []; left = Some Answer; asked = None; collected = false; cut = cut_in last old.cut; due = length new.token.view.own.finalisers.queue.items }
 
 -- whether so many blocks may use up the pools: where each has one to itself, no more pools are free than the reserve of promotion
 abbrev pub may_use_up : Config → ℕ → Bool
 may_use_up k blocks = nat_le k.pools (blocks + reserve (sizes_in k))
 
--- or its next command is none. A complete collection has come for it where it had been tried, and counts where it left so many blocks that they may use up the pools
+-- or its next command is none, or it owes finalisers before it. A complete collection has come for it where it had been tried, and counts where it left so many blocks that they may use up the pools
 pub record SeesAnswer (h : SharedHeap) (old new : RunView) (blocks : ℕ) : Type 0 where
   pub last : Kind
   pub arrived : old.left ≡ Some last
-  pub none : slice_get old.commands old.next ≢ Some FullMajor
+  pub none : WaitsForAnswer old → ⊥
   pub gives : GivesBack h.config old.token.view new.token.view blocks
   pub run : new ≡ record old { token = record old.token { view = new.token.view }; left = Some Answer; collected = is_asked old.asked && may_use_up h.config blocks; cut = cut_in last old.cut }
 

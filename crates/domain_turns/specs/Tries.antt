@@ -1,7 +1,7 @@
 -- What the try of a command leaves.
 use Rattle.std.specs.Prelude.{◌≡◌, ℕ, ◌+◌, ◌<◌, ◌≤◌, ◌⊎◌, List, Bool, true, false, Some, None}
 use Rattle.heap_model.specs.declared.command.Command.{Command}
-use Rattle.heap_model.specs.declared.command.Command.TheVariants.{PutInt, Copy, Forget, Alloc, AllocMaj, Load, Store, Ephe, SetKey, UnsetKey, GetKey, CheckKey, SetData, UnsetData, GetData, CheckData, Poll, Minor, Major, FullMajor}
+use Rattle.heap_model.specs.declared.command.Command.TheVariants.{PutInt, Copy, Forget, Alloc, AllocMaj, Load, Store, Ephe, SetKey, UnsetKey, GetKey, CheckKey, SetData, UnsetData, GetData, CheckData, Finalise, FinaliseLast, Poll, Minor, Major, FullMajor}
 use Rattle.heap_model.specs.declared.entry.Entry.{Entry}
 use Rattle.heap_model.specs.declared.entry.Entry.TheVariants.{Command as CommandOf}
 use Rattle.heap_model.specs.declared.reply.Reply.{Reply}
@@ -17,6 +17,7 @@ use Rattle.size_classes.specs.Table.{IsLeastFor}
 use Rattle.size_classes.specs.declared.TheConstants.{SIZES}
 use Rattle.heap_rule.specs.declared.config.Config.{Config}
 use Rattle.heap_rule.specs.declared.view.DomainView.{DomainView}
+use Rattle.heap_rule.specs.declared.view.Finalisers.{Finalisers}
 use Rattle.heap_rule.specs.declared.view.Own.{Own}
 use Rattle.heap_rule.specs.declared.view.Spot.{Spot}
 use Rattle.remembered_set.specs.Bounded.{Bounded}
@@ -24,6 +25,7 @@ use Rattle.heap_rule.specs.Places.{class_words}
 use Rattle.heap_rule.specs.Changes.{value_at}
 use Rattle.field_access.specs.Remembered.{PutsYoung, field_of, one_more}
 use Rattle.ephemeron_rounds.specs.Words.{word_in}
+use Rattle.finaliser_queues.specs.Registering.{own_finalised, own_finalised_last}
 use Rattle.steps_pools.specs.Ephemerons.{with_ephemeron}
 use Rattle.heap_rule.specs.Limits.{sizes_in}
 use Rattle.heap_rule.specs.Running.{Runs, Stays}
@@ -41,7 +43,7 @@ use Rattle.safepoint.specs.declared.answer.Want.{Want}
 use Rattle.safepoint.specs.declared.answer.Want.TheVariants.{Cycle, Full}
 use Rattle.safepoint.specs.declared.answer.Want.TheVariants.{Minor as Young}
 
--- the commands that run on the shared heap so far, with their numbers in their ranges
+-- the commands that run on the shared heap, with their numbers in their ranges
 abbrev pub FitsHeap : Command → Type 0
 FitsHeap (PutInt dst value) = (dst < 16) × IsPackable (Int value)
 FitsHeap (Copy dst src) = (dst < 16) × (src < 16)
@@ -59,6 +61,8 @@ FitsHeap (SetData ephe item) = (ephe < 16) × (item < 16)
 FitsHeap (UnsetData ephe) = ephe < 16
 FitsHeap (GetData dst ephe) = (dst < 16) × (ephe < 16)
 FitsHeap (CheckData ephe) = ephe < 16
+FitsHeap (Finalise item number dst) = (item < 16) × (dst < 16)
+FitsHeap (FinaliseLast item number) = item < 16
 FitsHeap Poll = Unit {0}
 FitsHeap Minor = Unit {0}
 FitsHeap Major = Unit {0}
@@ -69,6 +73,12 @@ FitsHeap _ = ⊥
 abbrev pub ephemerons_of : Command → ℕ
 ephemerons_of (Ephe dst keys) = 1
 ephemerons_of _ = 0
+
+-- how many finalisers it registers at most
+abbrev pub registrations_of : Command → ℕ
+registrations_of (Finalise item number dst) = 1
+registrations_of (FinaliseLast item number) = 1
+registrations_of _ = 0
 
 -- a store, after which the domain may have to remember one word more
 abbrev pub IsStore : Command → Type 0
@@ -233,6 +243,12 @@ abbrev pub listed_by : Command → Reply → Own → Own → Bounded ℕ
 listed_by (Ephe dst keys) (Block l) old new = with_ephemeron (address_of (value_at new.registers dst)) old.ephemerons
 listed_by _ _ old new = old.ephemerons
 
+-- which finalisers the domain then has: one that was registered is the newest
+abbrev pub enlisted_by : Command → Own → Finalisers
+enlisted_by (Finalise item number dst) old = (own_finalised (value_at old.registers item) number dst old).finalisers
+enlisted_by (FinaliseLast item number) old = (own_finalised_last (value_at old.registers item) number old).finalisers
+enlisted_by _ old = old.finalisers
+
 -- what the domain then owns: the registers are those that the entry left, and all but what is named is as it was
 abbrev pub own_after : Token → Token → Command → Reply → Own
 own_after old new c r = record old.view.own {
@@ -242,6 +258,7 @@ own_after old new c r = record old.view.own {
   looked = looked_by c old.view.own new.view.own;
   remembered = remembered_by c old.view.own new.view.own;
   ephemerons = listed_by c r old.view.own new.view.own;
+  finalisers = enlisted_by c old.view.own;
 }
 
 -- the entry of the command was made

@@ -7,12 +7,14 @@ ghost use Rattle.heap_model.specs.declared.entry.Entry.{Entry};
 ghost use Rattle.heap_rule.specs.Running.{Runs, Did, ChangesRegisters, own_entry};
 ghost use Rattle.steps_run.specs.Ticks.{is_quiet};
 ghost use Rattle.steps_run.specs.Ticks.{IsUsedUp};
-ghost use Rattle.domain_turns.specs.Tries.{AttemptAnswers, FitsHeap, HasFew, IsFresh, IsPlainCall, IsStore, RefusesAs, RefusesFull, ephemerons_of, full_entry};
+ghost use Rattle.steps_finalisers.specs.Registering.{count_of};
+ghost use Rattle.domain_turns.specs.Tries.{AttemptAnswers, FitsHeap, HasFew, IsFresh, IsPlainCall, IsStore, RefusesAs, RefusesFull, ephemerons_of, full_entry, registrations_of};
 
 use ephemeron_rounds::{
     check_data, check_key, get_data, get_key, set_data, set_key, unset_data, unset_key,
 };
 use field_access::{copy, forget, load, put_int, store};
+use finaliser_queues::{finalise, finalise_last};
 use heap_model::command::Command;
 use heap_model::reply::Reply;
 use heap_rule::{Domain, Heap};
@@ -183,6 +185,22 @@ fn try_store(heap: &Heap, dom: &mut Domain, command: &Command) -> Attempt
     Attempt::Made(reply)
 }
 
+// Makes the entry of a registration.
+fn try_registration(heap: &Heap, dom: &mut Domain, command: &Command) -> Attempt
+    requires runs { Runs heap.now dom.old }
+    requires fits { FitsHeap command.now }
+    requires registers { registrations_of command.now ≡ 1 }
+    requires room { registrations_of command.now + count_of dom.old.view.own.finalisers ≤ heap.now.config.finals }
+    ensures { (served collected : Bool) → AttemptAnswers heap.now dom.old dom.new command.now served collected result }
+{
+    let reply = match *command {
+        Command::Finalise { item, number, dst } => finalise(heap, dom, item, number, dst),
+        Command::FinaliseLast { item, number } => finalise_last(heap, dom, item, number),
+        _ => unreachable!(),
+    };
+    Attempt::Made(reply)
+}
+
 // Makes the entry of a command for which no pause must come first, and that changes registers at most of
 // what the domain owns.
 fn call(heap: &Heap, dom: &mut Domain, command: &Command) -> Reply
@@ -232,6 +250,7 @@ pub(crate) fn try_command(
     requires runs { Runs heap.now dom.old }
     requires fits { FitsHeap command.now }
     requires room { ephemerons_of command.now ≤ dom.old.view.own.ephemerons.room }
+    requires enlists { registrations_of command.now + count_of dom.old.view.own.finalisers ≤ heap.now.config.finals }
     requires serial { dom.old.view.own.serial + 1 < 2 ^ 32 }
     requires fresh { collected ≡ true → IsFresh heap.now.config dom.old.view }
     ensures answer { AttemptAnswers heap.now dom.old dom.new command.now served collected result }
@@ -246,6 +265,9 @@ pub(crate) fn try_command(
         Command::Ephe { dst, keys } => create_in_pools(heap, dom, dst, keys, collected),
         Command::Store { .. } | Command::SetKey { .. } | Command::SetData { .. } => {
             try_store(heap, dom, command)
+        }
+        Command::Finalise { .. } | Command::FinaliseLast { .. } => {
+            try_registration(heap, dom, command)
         }
         Command::Minor if !served => return Attempt::Needs(Want::Minor),
         Command::Major if !served => return Attempt::Needs(Want::Cycle),

@@ -11,7 +11,7 @@ ghost use Rattle.heap_rule.specs.Token.{IsIn};
 ghost use Rattle.heap_rule.specs.Views.{voided};
 ghost use Rattle.steps_pauses.specs.Pauses.{arrived_view};
 ghost use Rattle.domain_turns.specs.Past.{PassAnswers, left_after};
-ghost use Rattle.domain_turns.specs.Pausing.{IsQuiet, HasLeft, KnowsCut, LeavesEven, LeavesOdd, LeavesPromote, LeavesReset, IsReady, AnswersFrom, LivesAs};
+ghost use Rattle.domain_turns.specs.Pausing.{IsQuiet, HasLeft, KnowsCut, LeavesEven, LeavesOdd, LeavesPromote, LeavesReset, IsReady, AnswersFrom, LivesAs, due_of};
 
 use cycle_phases::{give_back, lead_on, share};
 use heap_model::reply::Reply;
@@ -117,6 +117,7 @@ fn answer_live(heap: &Heap, dom: &mut Domain, blocks: u64) -> Reply
     requires stage { dom.old.view.seen.stage ≡ In Answer }
     requires known { dom.old.view.seen.share.blocks ≡ Some blocks }
     requires goes_on { (domain_at (state_of heap.now.config dom.old.view.seen.front) dom.old.view.own.number).ended ≡ false }
+    requires paid { due_of heap.now.config dom.old.view ≡ 0 }
     ensures here { IsIn dom.new heap.now }
     ensures lives { LivesAs heap.now.config dom.old.view dom.new.view blocks result }
 {
@@ -134,6 +135,7 @@ fn answer(heap: &Heap, dom: &mut Domain, live: bool) -> (u64, Option<Reply>)
     requires few { dom.old.view.own.arrivals < 2 ^ 60 }
     requires forgot { dom.old.view.seen.share ≡ voided dom.old.view.seen.share }
     requires goes_on { live ≡ true → (domain_at (state_of heap.now.config dom.old.view.seen.front) dom.old.view.own.number).ended ≡ false }
+    requires paid { live ≡ true → due_of heap.now.config dom.old.view ≡ 0 }
     ensures here { IsIn dom.new heap.now }
     ensures answers { AnswersFrom heap.now.config dom.old.view dom.new.view live result.0 result.1 }
 {
@@ -149,7 +151,7 @@ fn answer(heap: &Heap, dom: &mut Domain, live: bool) -> (u64, Option<Reply>)
 
 // Looks at the barrier, and where all have arrived does the domain's share of the phase that has begun,
 // and arrives. Where the domains run again its minor area is empty. `live`: its next command is a
-// `full_major`, which is answered where a collection is.
+// `full_major`, which is answered where a collection is, and it owes no finaliser before it.
 pub(crate) fn pass(
     heap: &Heap,
     dom: &mut Domain,
@@ -168,6 +170,7 @@ pub(crate) fn pass(
     requires left { HasLeft heap.now.config last dom.old.view }
     requires cut { KnowsCut last cut dom.old.view }
     requires goes_on { live ≡ true → (domain_at (state_of heap.now.config dom.old.view.seen.front) dom.old.view.own.number).ended ≡ false }
+    requires paid { live ≡ true → due_of heap.now.config dom.old.view ≡ 0 }
     requires none { hints.old.items ≡ [] }
     ensures here { IsIn dom.new heap.now }
     ensures answer { PassAnswers heap.now.config dom.old.view dom.new.view last live result }

@@ -28,28 +28,33 @@ pub struct DomainRun {
     pub(crate) collected: bool,
     // Whether the collection under way is past its cut, for domain 0.
     pub(crate) cut: bool,
+    // How many finalisers the domain owes before its next `full_major`: those that waited in its queue
+    // after its last one.
+    pub(crate) due: usize,
     // Blocks that the domain has darkened, while it marks.
     pub(crate) hints: Hints,
 }
 
 impl Model for DomainRun {
-    ghost use Rattle.std.specs.Prelude.{◌≡◌, ◌≤◌, [], length, vec_capacity};
+    ghost use Rattle.std.specs.Prelude.{◌≡◌, ◌+◌, ◌≤◌, [], length, vec_capacity};
     ghost use Rattle.domain_turns.specs.Runs.{IsRun, RunView};
 
     ghost Value = { RunView };
 
-    ghost view = { λ r. record { token = r.domain; commands = r.commands.items; next = r.next; replies = r.replies.items; ended = r.ended; left = r.left; asked = r.asked; collected = r.collected; cut = r.cut } };
+    ghost view = { λ r. record { token = r.domain; commands = r.commands.items; next = r.next; replies = r.replies.items; ended = r.ended; left = r.left; asked = r.asked; collected = r.collected; cut = r.cut; due = r.due } };
 
-    ghost invariant = { λ r. IsRun (record { token = r.domain; commands = r.commands.items; next = r.next; replies = r.replies.items; ended = r.ended; left = r.left; asked = r.asked; collected = r.collected; cut = r.cut }) × (length r.commands.items ≤ vec_capacity r.replies) × (r.hints.items ≡ []) };
+    ghost invariant = { λ r. IsRun (record { token = r.domain; commands = r.commands.items; next = r.next; replies = r.replies.items; ended = r.ended; left = r.left; asked = r.asked; collected = r.collected; cut = r.cut; due = r.due }) × (length r.commands.items + length r.commands.items ≤ vec_capacity r.replies) × (r.hints.items ≡ []) };
 }
 
 impl DomainRun {
     /// A run of a domain from its first command on. The domain runs and no entry of it stands in the
     /// history so far; there are at most 200,000 commands, each of a kind that runs on the shared heap
-    /// and with its numbers in their ranges; the domain has room for as many ephemerons as they make; at
-    /// most 4,000,000,000 labels were made; no block is noted in the hints. The room for the replies is reserved here. Fails for want of memory alone, and then
-    /// the domain is given up.
-    #[tactic(auto, using(crate::proofs::Beginning::begins_between))]
+    /// and with its numbers in their ranges; the domain has room for as many ephemerons as they make
+    /// and as many finalisers as they register, and none is registered so far; at most 4,000,000,000
+    /// labels were made; no block is noted in the hints. The room for the replies is reserved here: each
+    /// command answers once, and so does each finaliser that it registers. Fails for want of memory
+    /// alone, and then the domain is given up.
+    #[tactic(auto, using(crate::proofs::Beginning::begins_between, crate::proofs::Beginning::begins_enlisted, crate::proofs::Beginning::begins_replied))]
     pub fn make(
         alloc: Global,
         dom: Domain,
@@ -58,9 +63,9 @@ impl DomainRun {
     ) -> Result<DomainRun, AllocError>
         requires begins { CanBegin dom commands.items }
         requires none { hints.items ≡ [] }
-        ensures { IfOk result (λ r. r ≡ record { token = dom; commands = commands.items; next = 0; replies = []; ended = false; left = None; asked = None; collected = false; cut = false }) }
+        ensures { IfOk result (λ r. r ≡ record { token = dom; commands = commands.items; next = 0; replies = []; ended = false; left = None; asked = None; collected = false; cut = false; due = 0 }) }
     {
-        let replies = Vec::with_capacity(alloc, commands.len())?;
+        let replies = Vec::with_capacity(alloc, 2 * commands.len())?;
         Ok(DomainRun {
             domain: dom,
             commands,
@@ -71,6 +76,7 @@ impl DomainRun {
             asked: None,
             collected: false,
             cut: false,
+            due: 0,
             hints,
         })
     }

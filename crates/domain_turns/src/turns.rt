@@ -5,9 +5,8 @@ ghost use Rattle.heap_rule.specs.declared.phase.Kind.TheVariants.{Run};
 ghost use Rattle.steps_pauses.specs.Pauses.{noted, arrived_view};
 ghost use Rattle.heap_rule.specs.Running.{Runs};
 ghost use Rattle.heap_rule.specs.Token.{IsIn};
-ghost use Rattle.heap_model.specs.declared.command.Command.TheVariants.{FullMajor};
 ghost use Rattle.safepoint.specs.Looks.{bit_of};
-ghost use Rattle.domain_turns.specs.Runs.{HasEnded, EndsTrace, RunAnswers, TurnAnswers, RestAnswers, CalmAnswers, GoesOn, CalmDid, TrialAnswers, is_asked, may_use_up, served_since, noted_token};
+ghost use Rattle.domain_turns.specs.Runs.{HasEnded, EndsTrace, RunAnswers, TurnAnswers, RestAnswers, CalmAnswers, GoesOn, CalmDid, IsUnqueued, RunsFinaliser, TrialAnswers, WaitsForAnswer, is_asked, may_use_up, served_since, noted_token};
 ghost use Rattle.domain_turns.specs.Past.{PastAnswers};
 ghost use Rattle.domain_turns.specs.declared.turned.Turned as turned;
 
@@ -16,6 +15,7 @@ use crate::passing::{Past, left_after, pass};
 use crate::run::DomainRun;
 use crate::turned::Turned;
 use cycle_phases::cut_after;
+use finaliser_queues::run_next;
 use heap_model::command::Command;
 use heap_rule::{Domain, Heap, Kind};
 use safepoint::{Want, arrive, ask, wants};
@@ -40,11 +40,31 @@ fn is_served(run: &DomainRun) -> bool
     }
 }
 
+// Runs the finaliser that has waited longest in the domain's queue, and keeps its reply. Answers whether
+// one waited.
+fn runs_finaliser(heap: &Heap, run: &mut DomainRun) -> bool
+    requires here { IsIn run.old.token heap.now }
+    requires running { run.old.ended ≡ false }
+    requires left { run.old.left ≡ None }
+    ensures here { IsIn run.new.token heap.now }
+    ensures ran { result ≡ true → RunsFinaliser heap.now run.old.token run.old run.new }
+    ensures same { result ≡ false → run.new ≡ run.old }
+    ensures unqueued { result ≡ false → IsUnqueued run.old.token }
+{
+    let Some(ran) = run_next(heap, &mut run.domain) else {
+        return false;
+    };
+    run.replies.push_reserved(ran.reply());
+    run.due = run.domain.queued();
+    true
+}
+
 // Tries the next command of a run, and keeps its reply. Else answers which pause must come first.
 fn try_next(heap: &Heap, run: &mut DomainRun, command: &Command) -> Option<Want>
     requires here { IsIn run.old.token heap.now }
     requires running { run.old.ended ≡ false }
     requires left { run.old.left ≡ None }
+    requires unqueued { IsUnqueued run.old.token }
     requires next { slice_get run.old.commands run.old.next ≡ Some command.now }
     ensures here { IsIn run.new.token heap.now }
     ensures answer { TrialAnswers heap.now run.old run.new command.now result }
@@ -57,6 +77,7 @@ fn try_next(heap: &Heap, run: &mut DomainRun, command: &Command) -> Option<Want>
             run.next += 1;
             run.asked = None;
             run.collected = false;
+            run.due = 0;
             None
         }
         Attempt::Needs(want) => Some(want),
@@ -69,6 +90,7 @@ fn end_trace(heap: &Heap, run: &mut DomainRun)
     requires here { IsIn run.old.token heap.now }
     requires running { run.old.ended ≡ false }
     requires left { run.old.left ≡ None }
+    requires unqueued { IsUnqueued run.old.token }
     requires whole { length run.old.commands ≤ run.old.next }
     ensures here { IsIn run.new.token heap.now }
     ensures ends { EndsTrace heap.now run.old.token run.old run.new }
@@ -117,6 +139,7 @@ fn attempt(heap: &Heap, run: &mut DomainRun, command: &Command)
     requires here { IsIn run.old.token heap.now }
     requires running { run.old.ended ≡ false }
     requires left { run.old.left ≡ None }
+    requires unqueued { IsUnqueued run.old.token }
     requires next { slice_get run.old.commands run.old.next ≡ Some command.now }
     ensures here { IsIn run.new.token heap.now }
     ensures did { CalmDid heap.now run.old run.new }
@@ -142,6 +165,24 @@ fn rest(heap: &Heap, run: &mut DomainRun) -> Turned
     }
 }
 
+// The turn of a run whose trace hasn't ended, where no pause is wanted. The finalisers that wait come
+// before its next command, and before the end of its trace.
+fn step_on(heap: &Heap, run: &mut DomainRun)
+    requires here { IsIn run.old.token heap.now }
+    requires running { run.old.ended ≡ false }
+    requires left { run.old.left ≡ None }
+    ensures here { IsIn run.new.token heap.now }
+    ensures did { CalmDid heap.now run.old run.new }
+{
+    if runs_finaliser(heap, run) {
+        return;
+    }
+    match run.commands.get(run.next).copied() {
+        Some(command) => attempt(heap, run, &command),
+        None => end_trace(heap, run),
+    }
+}
+
 // The turn of a running domain where no pause is wanted.
 fn go_on(heap: &Heap, run: &mut DomainRun) -> Turned
     requires here { IsIn run.old.token heap.now }
@@ -152,10 +193,7 @@ fn go_on(heap: &Heap, run: &mut DomainRun) -> Turned
     if run.ended {
         return rest(heap, run);
     }
-    match run.commands.get(run.next).copied() {
-        Some(command) => attempt(heap, run, &command),
-        None => end_trace(heap, run),
-    }
+    step_on(heap, run);
     Turned::Did
 }
 
@@ -174,12 +212,13 @@ fn turn_running(heap: &Heap, run: &mut DomainRun) -> Turned
     go_on(heap, run)
 }
 
-// Whether the next command is a `full_major`, which is answered where a collection is.
+// Whether the next command is a `full_major`, which is answered where a collection is, and the domain
+// owes no finaliser before it.
 fn waits_for_answer(run: &DomainRun) -> bool
-    ensures yes { result ≡ true → slice_get run.now.commands run.now.next ≡ Some FullMajor }
-    ensures no { result ≡ false → slice_get run.now.commands run.now.next ≢ Some FullMajor }
+    ensures yes { result ≡ true → WaitsForAnswer run.now }
+    ensures no { result ≡ false → WaitsForAnswer run.now → ⊥ }
 {
-    matches!(run.commands.get(run.next), Some(Command::FullMajor))
+    run.due == 0 && matches!(run.commands.get(run.next), Some(Command::FullMajor))
 }
 
 // Whether so many blocks may use up the pools: where each has one to itself, no more are free than the
@@ -220,6 +259,7 @@ fn pass_by(heap: &Heap, run: &mut DomainRun, last: Kind) -> Past
                 run.next += 1;
                 run.asked = None;
                 run.collected = false;
+                run.due = run.domain.queued();
             }
         }
         Past::Waits(_) | Past::Runs => (),
@@ -246,8 +286,11 @@ fn turn_on(heap: &Heap, run: &mut DomainRun) -> Turned
     }
 }
 
-/// Takes a domain one step further: tries its next command, does its share of the phase that has
-/// begun, arrives, asks for a pause, or ends its trace. It arrives at most once, and never waits.
+/// Takes a domain one step further: runs a finaliser, tries its next command, does its share of the phase
+/// that has begun, arrives, asks for a pause, or ends its trace. It arrives at most once, and never waits.
+///
+/// A finaliser that waits in the domain's queue runs before the next command, and before the trace ends;
+/// of several the one that has waited longest is first.
 ///
 /// It asks for a collection of young blocks exactly where the next command is `minor` and no pause has
 /// served it, where it allocates a young block for which the minor area has no room, or where it stores
@@ -258,7 +301,8 @@ fn turn_on(heap: &Heap, run: &mut DomainRun) -> Turned
 /// `full` instead where a complete collection has come since it was first tried, no pause after that, and
 /// that collection left so many blocks that they may use up the pools.
 ///
-/// A `full_major` is answered in the pause, as the collection is. A domain that runs again after a pause
+/// A `full_major` is answered in the pause, as the collection is, and after all finalisers that waited
+/// when the domain's last `full_major` was answered. A domain that runs again after a pause
 /// has an empty minor area, remembers no field, and holds no address of a minor area.
 pub fn turn(heap: &Heap, run: &mut DomainRun) -> Turned
     requires here { IsIn run.old.token heap.now }

@@ -17,3 +17,6 @@ returns-in-Store c = record { answer = c.try_store.ensures c.args.served c.args.
 
 pub returns-in_default : goal.returns-in_default
 returns-in_default c = record { answer = c.try_call.ensures c.args.served c.args.collected }
+
+pub returns-in-Finalise : goal.returns-in-Finalise
+returns-in-Finalise c = record { answer = c.try_registration.ensures c.args.served c.args.collected }

@@ -6,11 +6,14 @@ use Rattle.steps_pauses.specs.Pauses.{kind_in}
 use Rattle.safepoint.specs.Looks.{LookAnswers}
 use Rattle.safepoint.specs.declared.answer.Look.TheVariants.{Next}
 use Rattle.domain_turns.proofs.PauseLemmas.{looked_quiet, ready_next}
-use Rattle.domain_turns.proofs.PassingLemmas.{look_goes_on, comes_to, answers_pass}
+use Rattle.domain_turns.proofs.PassingLemmas.{look_goes_on, look_paid, comes_to, answers_pass}
 use Rattle.domain_turns.proofs.passing.pass.Goals as goal
 
 pub answer-blocks-requires-clause-goes_on : goal.answer-blocks-requires-clause-goes_on
 answer-blocks-requires-clause-goes_on c = λ live. look_goes_on _ _ _ c.in-Next-Answer.ensures.answer.0 (c.requires.goes_on live)
+
+pub answer-blocks-requires-clause-paid : goal.answer-blocks-requires-clause-paid
+answer-blocks-requires-clause-paid c = λ live. look_paid _ _ _ c.in-Next-Answer.ensures.answer.0 (c.requires.paid live)
 
 pub leave_even-requires-clause-quiet : goal.leave_even-requires-clause-quiet
 leave_even-requires-clause-quiet c = looked_quiet _ _ _ c.in-Next.ensures.answer.0 c.requires.quiet
