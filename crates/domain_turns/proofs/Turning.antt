@@ -25,8 +25,6 @@ use Rattle.domain_turns.proofs.LeavingLemmas.{answer_between}
 use Rattle.heap_rule.specs.declared.view.Own.{Own}
 use Rattle.heap_rule.specs.declared.view.DomainView.{DomainView}
 use Rattle.steps_finalisers.specs.Registering.{count_of}
-use Rattle.steps_finalisers.specs.Running.{ran_own}
-use Rattle.steps_pauses.specs.Pauses.{ended_own}
 use Rattle.steps_sweep.proofs.Dues.{due_at}
 use Rattle.finaliser_queues.specs.declared.running.Ran.{Ran}
 use Rattle.finaliser_queues.specs.Running.{RanFirst, reply_of}

@@ -8,8 +8,6 @@ use Rattle.heap_model.specs.declared.reply.Reply.{Reply}
 use Rattle.heap_model.specs.declared.reply.Applied.TheVariants.{Silent}
 use Rattle.heap_model.specs.History.{IsPrefix, commands, replies}
 use Rattle.heap_model.specs.Fronts.{Answers}
-use Rattle.heap_words.specs.declared.value.Value.{Value}
-use Rattle.heap_words.specs.declared.value.Value.TheVariants.{Nothing}
 use Rattle.heap_model.specs.Domains.{class_count, domain_at, reserve}
 use Rattle.heap_model.specs.declared.command.Command.TheVariants.{Minor, Major, FullMajor}
 use Rattle.heap_rule.specs.declared.config.Config.{Config}

@@ -1,53 +1,43 @@
 -- A look at a registration of `finalise` keeps the rule.
-use Rattle.std.proofs.Common.{◌≡◌, ◌≢◌, ℕ, zero, suc, ◌+◌, ◌<◌, ◌⊎◌, Bool, true, false, not, true≢false, IsTrue, List, [], ◌∷◌, ◌++◌, length, map, get_or, set, slice_get, Option, Some, None, sym, refl, ap, ◌∙◌, subst, inl, inr, ⊎_elim, arith, get_or-set_same, get_or-set_other}
-use Rattle.std.specs.List.{cons_option}
+use Rattle.std.proofs.Common.{◌≡◌, ℕ, suc, ◌+◌, ◌<◌, true, false, IsTrue, List, [], ◌∷◌, ◌++◌, length, map, get_or, set, slice_get, Some, sym, refl, ap, ◌∙◌, subst, inl, inr, ⊎_elim, arith, get_or-set_same, get_or-set_other}
 use Rattle.std.specs.Prelude.{remove}
 use Rattle.std.proofs.lemmas.Bool.{cases_Bool}
 use mathlib.Core.Option.{some}
 use lib.ListN.{get_elem?}
 use Rattle.atomic_table.specs.Table.{keeps}
 use Rattle.heap_model.specs.declared.entry.Entry.{Entry}
-use Rattle.heap_model.specs.declared.entry.Entry.TheVariants.{Queue, Last}
+use Rattle.heap_model.specs.declared.entry.Entry.TheVariants.{Queue}
 use Rattle.heap_model.specs.declared.label.Label.{Label}
 use Rattle.heap_model.specs.declared.state.DomainState.{DomainState}
 use Rattle.heap_model.specs.declared.state.Finaliser.{Finaliser}
-use Rattle.heap_model.specs.declared.state.LastFinaliser.{LastFinaliser}
-use Rattle.heap_model.specs.declared.state.Pending.{Pending}
 use Rattle.heap_model.specs.declared.state.State as model
 use Rattle.heap_model.specs.Domains.{domain_at, no_domain}
-use Rattle.heap_model.specs.Entries.{Allowed, at_places, next, queued_final as as_pending, queued_last as as_last_pending, with_last_queued, with_queued}
+use Rattle.heap_model.specs.Entries.{Allowed, next, queued_final as as_pending, with_queued}
 use Rattle.heap_model.specs.Fronts.{KeepsDomain}
 use Rattle.heap_model.proofs.Commands.FrameLemmas.{keeps_next}
-use Rattle.heap_model.proofs.Histories.FrontLemmas.{front_push, front_whole}
-use Rattle.heap_words.specs.declared.colours.Colours.{Colours}
 use Rattle.cycle_laws.specs.Cycle as laws
 use Rattle.cycle_laws.specs.Shares.{at_domain}
 use Rattle.cycle_laws.proofs.Cycling.{taking_steps}
 use Rattle.heap_rule.specs.declared.config.Config.{Config}
 use Rattle.heap_rule.specs.declared.phase.Kind.{Kind}
-use Rattle.heap_rule.specs.declared.phase.Kind.TheVariants.{Clean, Decide, Lasts}
-use Rattle.heap_rule.specs.declared.phase.Stage.TheVariants.{In}
+use Rattle.heap_rule.specs.declared.phase.Kind.TheVariants.{Decide}
 use Rattle.heap_rule.specs.declared.view.DomainView.{DomainView}
 use Rattle.heap_rule.specs.declared.view.Finalisers.{Finalisers}
 use Rattle.heap_rule.specs.declared.view.Registered.{Registered}
-use Rattle.heap_rule.specs.declared.view.RegisteredLast.{RegisteredLast}
-use Rattle.heap_rule.specs.declared.view.Waiting.TheVariants.{Fin, Last as LastWaiting}
-use Rattle.heap_rule.specs.Cycles.{Cycling, Facts, IsCollecting, IsPlain, IsRotated, Leaving, cycle_of, swept_of}
-use Rattle.heap_rule.specs.Finalisers.{Enrolled, LivesAt, Paired, StandsFinal, StandsLast, StandsWaiting}
+use Rattle.heap_rule.specs.declared.view.Waiting.TheVariants.{Fin}
+use Rattle.heap_rule.specs.Cycles.{Cycling, Facts, IsCollecting, IsPlain, cycle_of}
+use Rattle.heap_rule.specs.Finalisers.{Enrolled, Paired, StandsFinal, StandsLast, StandsWaiting}
 use Rattle.heap_rule.specs.Layout.{at_address, before_heap}
 use Rattle.heap_rule.specs.Places.{Live, Place}
 use Rattle.heap_rule.specs.Pools.{Tenancy}
 use Rattle.heap_rule.specs.Raw.{MayStep}
 use Rattle.heap_rule.specs.Rule.{Good, Rule, state_of}
 use Rattle.heap_rule.specs.Views.{one}
-use Rattle.heap_rule.proofs.FinaliserLemmas.{KeepsWork, paired_append, paired_get, paired_remove, work_same}
+use Rattle.heap_rule.proofs.FinaliserLemmas.{KeepsWork, paired_get, paired_remove, work_same}
 use Rattle.heap_rule.proofs.FullnessLemmas.{full_stays}
 use Rattle.heap_rule.proofs.Keeps.{Words, after_entry, knows_entry, knows_front, legal_entry, mine, my_good, unmoved}
-use Rattle.steps_cycle.proofs.Colouring.{BareHead, bare_head, marked_colour, unmarked_colour}
-use Rattle.steps_cycle.proofs.Learning.{bare}
 use Rattle.steps_sweep.specs.Freeing.{IsColoured}
-use Rattle.steps_sweep.proofs.HeadColours.{one_colour}
-use Rattle.steps_finalisers.specs.Looking.{FinalLookMay, FinalLookTold, LastLookMay, LastLookTold, Queues, keeping, queued_final, queued_last}
+use Rattle.steps_finalisers.specs.Looking.{FinalLookMay, FinalLookTold, Queues, keeping, queued_final}
 use Rattle.steps_finalisers.proofs.TakeSteps.{Takes, collecting, kind_is, takes, waits, y}
 use Rattle.steps_finalisers.proofs.LookSteps.{at_one, coloured, has_final, is_not, removed_length, uncoloured, waiting_more}
 

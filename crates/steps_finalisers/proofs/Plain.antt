@@ -1,5 +1,5 @@
 -- What these steps tell of a token's own data: it is what is written, and it fits a token.
-use Rattle.std.proofs.Common.{◌≡◌, ℕ, zero, suc, ◌+◌, ◌-◌, ◌<◌, ◌≤◌, ◌⊎◌, false, List, [], ◌∷◌, ◌++◌, length, map, slice_get, option_map, option_and_then, Option, Some, None, sym, refl, ap, ◌∙◌, subst, inl, inr, ⊎_elim, arith, length-append}
+use Rattle.std.proofs.Common.{◌≡◌, ℕ, zero, suc, ◌+◌, ◌<◌, ◌≤◌, ◌⊎◌, false, List, [], ◌∷◌, ◌++◌, length, slice_get, option_map, option_and_then, Option, Some, None, sym, refl, ap, ◌∙◌, subst, inl, inr, ⊎_elim, arith, length-append}
 use Rattle.std.specs.Prelude.{remove}
 use Rattle.heap_model.specs.declared.command.Command.TheVariants.{Finalise, FinaliseLast}
 use Rattle.heap_model.specs.declared.entry.Entry.TheVariants.{Command, Ran}
@@ -14,13 +14,13 @@ use Rattle.heap_rule.specs.declared.view.Own.{Own}
 use Rattle.heap_rule.specs.declared.view.Registered.{Registered}
 use Rattle.heap_rule.specs.declared.view.RegisteredLast.{RegisteredLast}
 use Rattle.heap_rule.specs.declared.view.Waiting.{Waiting}
-use Rattle.heap_rule.specs.declared.view.Waiting.TheVariants.{Fin, Last as LastWaiting}
+use Rattle.heap_rule.specs.declared.view.Waiting.TheVariants.{Fin}
 use Rattle.heap_rule.specs.Finalisers.{FinalisersFit, address_in, held_at}
 use Rattle.heap_rule.specs.Layout.{heap_words}
 use Rattle.heap_rule.specs.Raw.{Closes}
 use Rattle.heap_rule.specs.Standing.{IsAt}
 use Rattle.heap_rule.specs.Token.{Holds, IsAddress, OwnFits}
-use Rattle.steps_finalisers.specs.Registering.{CanAddFinal, CanAddLast, FinalMay, FinalTold, Finals, LastMay, LastTold, Lasts, with_final, with_finalisers, with_last}
+use Rattle.steps_finalisers.specs.Registering.{CanAddFinal, CanAddLast, FinalMay, FinalTold, Finals, LastMay, LastTold, Lasts, with_final, with_last}
 use Rattle.steps_finalisers.specs.Running.{CanRun, RunMay, RunTold, Runs, ran_own, registers_after}
 use Rattle.steps_finalisers.proofs.RunSteps.{first_register}
 

@@ -21,7 +21,6 @@ use Rattle.heap_model.specs.Entries.{next}
 use Rattle.heap_model.specs.Graph.{label_of}
 use Rattle.heap_model.proofs.Commands.FrameLemmas.{frame_command, part_set}
 use Rattle.heap_words.specs.declared.value.Value.{Value}
-use Rattle.heap_words.specs.declared.value.Value.TheVariants.{Ref}
 use Rattle.heap_rule.specs.declared.config.Config.{Config}
 use Rattle.heap_rule.specs.declared.view.DomainView.{DomainView}
 use Rattle.heap_rule.specs.declared.view.Finalisers.{Finalisers}
@@ -29,7 +28,7 @@ use Rattle.heap_rule.specs.declared.view.Registered.{Registered}
 use Rattle.heap_rule.specs.declared.view.RegisteredLast.{RegisteredLast}
 use Rattle.heap_rule.specs.Changes.{value_at}
 use Rattle.heap_rule.specs.Finalisers.{Enrolled, LivesAt, Paired, StandsFinal, StandsLast, StandsWaiting}
-use Rattle.heap_rule.specs.Places.{Live, Place, Stands}
+use Rattle.heap_rule.specs.Places.{Live, Stands}
 use Rattle.heap_rule.specs.Raw.{MayStep}
 use Rattle.heap_rule.specs.Rule.{Rule, Stood}
 use Rattle.heap_rule.specs.Standing.{Acts, GoesOn, IsAt}

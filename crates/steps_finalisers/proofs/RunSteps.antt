@@ -1,5 +1,5 @@
 -- The run of a finaliser keeps the rule.
-use Rattle.std.proofs.Common.{◌≡◌, ◌≢◌, ℕ, zero, suc, ◌+◌, ◌<◌, false, ne_eqb, List, [], ◌∷◌, ◌++◌, length, drop, get_or, set, slice_get, Some, sym, refl, ap, ◌∙◌, subst, arith, get_or-set_same, length-set}
+use Rattle.std.proofs.Common.{◌≡◌, ◌≢◌, ℕ, ◌<◌, ne_eqb, List, [], ◌∷◌, ◌++◌, length, get_or, set, slice_get, Some, sym, refl, ap, ◌∙◌, subst, arith, get_or-set_same, length-set}
 use Rattle.std.specs.Prelude.{remove}
 use mathlib.Core.Option.{some}
 use lib.ListN.{get_elem?}
@@ -8,7 +8,6 @@ use Rattle.heap_model.specs.declared.entry.Entry.{Entry}
 use Rattle.heap_model.specs.declared.entry.Entry.TheVariants.{Ran}
 use Rattle.heap_model.specs.declared.graph.Value as graph_value
 use Rattle.heap_model.specs.declared.graph.Value.TheVariants.{Block, Nothing as GraphNothing}
-use Rattle.heap_model.specs.declared.label.Label.{Label}
 use Rattle.heap_model.specs.declared.reply.Applied.{Applied}
 use Rattle.heap_model.specs.declared.reply.Applied.TheVariants.{Replied}
 use Rattle.heap_model.specs.declared.reply.Reply.TheVariants.{Fin as FinReply, Last as LastReply}
@@ -27,7 +26,7 @@ use Rattle.heap_rule.specs.declared.view.Finalisers.{Finalisers}
 use Rattle.heap_rule.specs.declared.view.Waiting.{Waiting}
 use Rattle.heap_rule.specs.declared.view.Waiting.TheVariants.{Fin, Last}
 use Rattle.heap_rule.specs.Changes.{value_at}
-use Rattle.heap_rule.specs.Finalisers.{Enrolled, LivesAt, Paired, StandsFinal, StandsLast, StandsWaiting}
+use Rattle.heap_rule.specs.Finalisers.{Paired, StandsFinal, StandsLast, StandsWaiting}
 use Rattle.heap_rule.specs.Limits.{sizes_in}
 use Rattle.heap_rule.specs.Places.{Live, Stands}
 use Rattle.heap_rule.specs.Raw.{MayStep}

@@ -1,13 +1,11 @@
 -- A look at a registration in a collection: it is kept, and no entry stands, or it is queued, and the collector's entry does.
-use Rattle.std.proofs.Common.{◌≡◌, ◌≢◌, ℕ, ◌+◌, false, true≢false, IsTrue, List, [], ◌∷◌, length, get_or, set, Some, sym, refl, ap, ◌∙◌, subst, inl, inr, ⊎_elim}
+use Rattle.std.proofs.Common.{◌≡◌, ◌≢◌, ℕ, ◌+◌, false, true≢false, List, [], length, get_or, set, sym, refl, ap, ◌∙◌, subst, inl, inr, ⊎_elim}
 use mathlib.Core.Option.{some}
 use lib.ListN.{get_elem?}
 use Rattle.heap_model.specs.declared.entry.Entry.{Entry}
 use Rattle.heap_model.specs.declared.graph.Value.{Value}
 use Rattle.heap_model.specs.declared.graph.Value.TheVariants.{Nothing}
-use Rattle.heap_model.specs.declared.label.Label.{Label}
 use Rattle.heap_model.specs.declared.state.State as model
-use Rattle.heap_model.specs.Domains.{domain_at}
 use Rattle.heap_model.specs.Fronts.{KeepsDomain}
 use Rattle.heap_model.specs.Graph.{Graph}
 use Rattle.heap_model.specs.History.{Legal}
@@ -23,18 +21,18 @@ use Rattle.heap_rule.specs.declared.view.Share.{Share}
 use Rattle.heap_rule.specs.Changes.{value_at}
 use Rattle.heap_rule.specs.Copies.{IsPast, Promoting}
 use Rattle.heap_rule.specs.Cycles.{Cycled, Cycling, Facts, IsCollecting, Knowing, KnowsBlocks, Leading, MissesKeys}
-use Rattle.heap_rule.specs.Deciding.{Deciding, IsRooting}
+use Rattle.heap_rule.specs.Deciding.{IsRooting}
 use Rattle.heap_rule.specs.Ephemerons.{Looks}
 use Rattle.heap_rule.specs.Finalisers.{Enrolled}
 use Rattle.heap_rule.specs.Fullness.{Fullness}
 use Rattle.heap_rule.specs.Limits.{sizes_in}
-use Rattle.heap_rule.specs.Phases.{IsInPause, flag, is_over, sum_of}
+use Rattle.heap_rule.specs.Phases.{IsInPause, flag, is_over}
 use Rattle.heap_rule.specs.Places.{Live, Stands}
 use Rattle.heap_rule.specs.Pools.{Tenancy}
 use Rattle.heap_rule.specs.Rule.{Account, AllFound, Good, Rule, Sharing, Stood, state_of}
 use Rattle.heap_rule.specs.Views.{EachView, Knows as SeatKnows, one}
 use Rattle.heap_rule.proofs.FinaliserLemmas.{KeepsWork}
-use Rattle.heap_rule.proofs.Keeps.{Words, hunter_as, mine, more_same, my_good, owes_as, remakes, resting_as, stood_other, sum_same}
+use Rattle.heap_rule.proofs.Keeps.{Words, hunter_as, more_same, my_good, owes_as, remakes, resting_as, stood_other, sum_same}
 use Rattle.heap_rule.proofs.PauseFacts.{nobody_still, staged_as}
 use Rattle.heap_rule.proofs.Stages.{waits_in}
 use Rattle.steps_cycle.proofs.Learning.{kind_here, known, not_promoting}

@@ -1,5 +1,5 @@
 -- What the step asks and tells by which a running domain runs the first finaliser of its queue (the OCaml manual's module `Gc`).
-use Rattle.std.specs.Prelude.{◌≡◌, ℕ, ◌+◌, ◌<◌, List, length, remove, slice_get, slice_set, Some}
+use Rattle.std.specs.Prelude.{◌≡◌, ◌+◌, ◌<◌, List, length, remove, slice_get, slice_set, Some}
 use Rattle.heap_model.specs.declared.entry.Entry.TheVariants.{Ran}
 use Rattle.heap_model.specs.declared.label.Label.{Label}
 use Rattle.heap_model.specs.declared.graph.Value.TheVariants.{Block}

@@ -1,4 +1,4 @@
-use Rattle.std.proofs.Common.{◌≡◌, ◌+◌, ◌<◌, ◌≤◌, ℕ, List, Some, None, false, length, sym, ap, ◌∙◌, subst, arith, ◌++◌, ◌∷◌, []}
+use Rattle.std.proofs.Common.{◌≡◌, ◌+◌, ◌<◌, ◌≤◌, ℕ, List, None, false, length, sym, ap, ◌∙◌, subst, arith, ◌++◌, ◌∷◌, []}
 use Rattle.std.specs.Prelude.{vec_capacity}
 use Rattle.heap_model.specs.declared.reply.Reply.{Reply}
 use Rattle.heap_rule.specs.Token.{IsIn}
