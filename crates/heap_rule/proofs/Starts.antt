@@ -121,7 +121,6 @@ replicated zero d h = absurd (omega arith)
 replicated (suc n) zero h = refl
 replicated (suc n) (suc d) h = replicated n d (omega arith)
 
-
 zero_field : (n i : ℕ) (v : Value) → slice_get (replicate n (Int (pos 0))) i ≡ Some v → (i < n) × (v ≡ Int (pos 0))
 zero_field zero i v e = cc
 zero_field (suc n) zero v e = (omega arith, cc)

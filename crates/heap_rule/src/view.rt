@@ -128,7 +128,9 @@ pub enum Waiting {
         register: u8,
     },
     /// One of `finalise_last`, which keeps nothing alive.
-    Last { number: u32 },
+    Last {
+        number: u32,
+    },
 }
 
 /// The registrations of a domain, the oldest first, and its queue, the next finaliser first.

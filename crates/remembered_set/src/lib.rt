@@ -7,7 +7,6 @@ ghost use Rattle.std.specs.Prelude.{◌≡◌, ◌<◌, ◌≤◌, ◌+◌, ◌-
 mod queue;
 
 pub use queue::BoundedQueue;
-
 use std::alloc::{AllocError, Global};
 use std::marker::Model;
 

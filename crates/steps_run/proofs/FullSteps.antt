@@ -31,7 +31,7 @@ use Rattle.heap_rule.specs.Views.{one}
 use Rattle.heap_rule.specs.Rule.{state_of, Rule}
 use Rattle.heap_rule.specs.Standing.{Acts}
 use Rattle.heap_rule.proofs.Keeps.{Words, mine, my_good, no_cycle_here}
-use Rattle.steps_run.proofs.HistorySizes.{sizes_after}
+use Rattle.heap_rule.proofs.HistorySizes.{sizes_after}
 use Rattle.steps_run.specs.Ticks.{IsUsedUp}
 
 -- the domain that has a pool

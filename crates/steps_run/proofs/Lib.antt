@@ -1,5 +1,4 @@
 pub mod Plain
-pub mod HistorySizes
 pub mod FullSteps
 pub mod TickSteps
 pub mod LoadSteps

@@ -3,7 +3,6 @@ pub mod Owning
 pub mod Reaping
 pub mod Rotating
 pub mod Enrolling
-pub mod HistorySizes
 pub mod SweepSteps
 pub mod Swept
 pub mod TurnSteps

@@ -58,7 +58,7 @@ use Rattle.steps_cycle.proofs.Plain.{share_closes}
 use Rattle.steps_cycle.proofs.Layouts.{label_there, labelled, owner_of_place}
 use Rattle.steps_sweep.specs.Turning.{TurnMay, TurnTold}
 use Rattle.steps_sweep.proofs.Enrolling.{enrolled_left}
-use Rattle.steps_sweep.proofs.HistorySizes.{sizes_after}
+use Rattle.heap_rule.proofs.HistorySizes.{sizes_after}
 use Rattle.steps_sweep.proofs.Reaping.{reaped_to, reaps}
 use Rattle.steps_sweep.proofs.Rotating.{dead_gone, dead_was, kept_of, kept_or_dead, kept_was, left_garbage, left_live, rotated_fits, rotated_paint, stands_left, was_kept}
 use Rattle.heap_rule.proofs.Lists.{no_item}
