@@ -1,7 +1,7 @@
 //! One domain's trace of commands, and the turns by which it is run on the shared heap.
 //!
-//! A turn tries one command, does the domain's share of a pause, or ends the trace. It takes no lock
-//! and no memory, and never waits.
+//! A turn runs a finaliser, tries one command, does the domain's share of a pause, or ends the trace. It
+//! takes no lock and no memory, and never waits.
 #![tactic(auto)]
 
 mod command;

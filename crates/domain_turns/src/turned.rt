@@ -3,7 +3,8 @@
 /// What a turn did.
 #[derive(Clone, Copy, Debug, PartialEq, Eq)]
 pub enum Turned {
-    /// It tried one command, did its share of a phase, arrived, asked for a pause, or ended the trace.
+    /// It ran a finaliser, tried one command, did its share of a phase, arrived, asked for a pause, or
+    /// ended the trace.
     Did,
     /// The domain has arrived and others haven't: the barrier word, below the end of its turn.
     Waiting(u64),
