@@ -10,32 +10,32 @@ use Rattle.heap_rule.specs.declared.config.Config.{Config}
 use Rattle.heap_rule.specs.Limits.{sizes_in, first_outside, first_of}
 use Rattle.heap_rule.specs.Opening.{opening_token, opening_tokens}
 use Rattle.heap_rule.specs.Token.{SharedHeap}
-use Rattle.camlheap_run.specs.Running.{HasSection, most_in, opened}
-use Rattle.domain_turns.specs.Runs.{ephemerons_in}
+use Rattle.camlheap_run.specs.Running.{HasSection, most_of, opened}
+use Rattle.domain_turns.specs.Runs.{ephemerons_in, registrations_in}
 use Rattle.domain_turns.proofs.Beginning.{opening_begins}
 use Rattle.camlheap_run.proofs.SectionLemmas.{IsFine}
 
--- no section makes more ephemerons than the one that makes most
-pub section_in : (script : List (List Command)) (d : ℕ) → ephemerons_in (slice_index_or script d []) ≤ most_in script
-section_in [] d = omega arith
-section_in (cs ∷ sections) zero = le-max_left (ephemerons_in cs) (most_in sections)
-section_in (cs ∷ sections) (suc d) =
-    let most : ℕ = most_in (cs ∷ sections) in
-    let rest : ℕ = most_in sections in
-    let inside : ephemerons_in (slice_index_or sections d []) ≤ rest = section_in sections d in
-    let more : rest ≤ most = le-max_right (ephemerons_in cs) (most_in sections) in
+-- no section has more of what is counted than the one that has most. A domain without a section has none
+section_in : (count : List Command → ℕ) → count [] ≡ 0 → (script : List (List Command)) (d : ℕ) → count (slice_index_or script d []) ≤ most_of count script
+section_in count none [] d = omega (arith, none)
+section_in count none (cs ∷ sections) zero = le-max_left (count cs) (most_of count sections)
+section_in count none (cs ∷ sections) (suc d) =
+    let most : ℕ = most_of count (cs ∷ sections) in
+    let rest : ℕ = most_of count sections in
+    let inside : count (slice_index_or sections d []) ≤ rest = section_in count none sections d in
+    let more : rest ≤ most = le-max_right (count cs) (most_of count sections) in
     omega (arith, inside, more)
 
 -- each of these domains has a section, and may begin it
-pub have_sections : (h : SharedHeap) (k : Config) (script : List (List Command)) (from n : ℕ) → from + n ≤ k.domains → length script ≡ k.domains → ((d : ℕ) → IsFine (slice_index_or script d [])) → most_in script ≤ k.ephes
+pub have_sections : (h : SharedHeap) (k : Config) (script : List (List Command)) (from n : ℕ) → from + n ≤ k.domains → length script ≡ k.domains → ((d : ℕ) → IsFine (slice_index_or script d [])) → most_of ephemerons_in script ≤ k.ephes → most_of registrations_in script ≤ k.finals
     → AllByRecursion (HasSection script) (opening_tokens h.table k from n)
-have_sections h k script from zero few long fine room = tt
-have_sections h k script from (suc n) few long fine room = (
+have_sections h k script from zero few long fine ephemerons registrations = tt
+have_sections h k script from (suc n) few long fine ephemerons registrations = (
   record {
     inside = omega arith;
-    begins = opening_begins h k from (slice_index_or script from []) (omega arith) (fine from).few (fine from).fit (omega (arith, section_in script from, room));
+    begins = opening_begins h k from (slice_index_or script from []) (omega arith) (fine from).few (fine from).fit (omega (arith, section_in ephemerons_in refl script from, ephemerons)) (omega (arith, section_in registrations_in refl script from, registrations));
   },
-  have_sections h k script (from + 1) n (omega arith) long fine room,
+  have_sections h k script (from + 1) n (omega arith) long fine ephemerons registrations,
 )
 
 pub length-opening_tokens : (h : SharedHeap) (k : Config) (from n : ℕ) → length (opening_tokens h.table k from n) ≡ n

@@ -13,11 +13,12 @@ use Rattle.std.proofs.lemmas.Int.{ints}
 use Rattle.std.proofs.lemmas.Bool.{and_parts as both}
 use Rattle.heap_model.specs.declared.command.Command.{Command}
 use Rattle.heap_model.specs.declared.command.Command.TheVariants.{PutInt, Copy, Forget, Alloc, AllocMaj, Load, Store, Raw, Cas, Ephe, SetKey, UnsetKey, GetKey, CheckKey, SetData, UnsetData, GetData, CheckData, Finalise, FinaliseLast, Poll, Minor, Major, FullMajor, Spawn, Argument, PutResult, Join}
-use Rattle.heap_text.specs.declared.form.Operand.TheVariants.{Register, Tag, FieldCount, KeyCount, Index, Integer}
+use Rattle.heap_text.specs.declared.form.Operand.TheVariants.{Register, Tag, FieldCount, KeyCount, Index, FinaliserNumber, Integer}
 use Rattle.domain_turns.specs.Tries.{FitsHeap, ephemerons_of}
-use Rattle.domain_turns.specs.Runs.{AllFit, ephemerons_in}
+use Rattle.domain_turns.specs.Runs.{AllFit, ephemerons_in, registrations_in}
+use Rattle.domain_turns.proofs.Owing.{registrations_few}
 use Rattle.camlheap_run.specs.Reading.{IsSpelled}
-use Rattle.camlheap_run.specs.Running.{most_in}
+use Rattle.camlheap_run.specs.Running.{most_of}
 use Rattle.heap_text.specs.Forms.{is_writable, fits}
 use Rattle.heap_text.proofs.ScriptLemmas.{total-cons}
 
@@ -80,8 +81,11 @@ writable_fits (GetData dst ephe) w =
     let p = both (fits Register (pos dst)) (fits Register (pos ephe) && true) w in
     (register_fits dst p.0, register_fits ephe (both (fits Register (pos ephe)) true p.1).0)
 writable_fits (CheckData ephe) w = register_fits ephe (both (fits Register (pos ephe)) true w).0
-writable_fits (Finalise item number dst) w = cc
-writable_fits (FinaliseLast item number) w = cc
+writable_fits (Finalise item number dst) w =
+    let p = both (fits Register (pos item)) (fits FinaliserNumber (pos number) && (fits Register (pos dst) && true)) w in
+    let q = both (fits FinaliserNumber (pos number)) (fits Register (pos dst) && true) p.1 in
+    (register_fits item p.0, register_fits dst (both (fits Register (pos dst)) true q.1).0)
+writable_fits (FinaliseLast item number) w = register_fits item (both (fits Register (pos item)) (fits FinaliserNumber (pos number) && true) w).0
 writable_fits Minor w = tt
 writable_fits Major w = tt
 writable_fits FullMajor w = tt
@@ -179,17 +183,23 @@ as_many_at_most (c ∷ cs) =
     let rest : ephemerons_in cs ≤ length cs = as_many_at_most cs in
     omega arith
 
--- no section makes more ephemerons than a heap may have room for
-pub most_few : (script : List (List Command)) → ((d : ℕ) → IsFine (slice_index_or script d [])) → most_in script ≤ 200000
-most_few [] fine = omega arith
-most_few (cs ∷ sections) fine =
-    let a : ℕ = ephemerons_in cs in
-    let b : ℕ = most_in sections in
-    let first : ephemerons_in cs ≤ length cs = as_many_at_most cs in
+-- no section has more of what is counted than a heap may have room for, where each command counts once at most
+most_few : (count : List Command → ℕ) → ((cs : List Command) → count cs ≤ length cs) → (script : List (List Command)) → ((d : ℕ) → IsFine (slice_index_or script d [])) → most_of count script ≤ 200000
+most_few count once [] fine = omega arith
+most_few count once (cs ∷ sections) fine =
+    let a : ℕ = count cs in
+    let b : ℕ = most_of count sections in
+    let first : count cs ≤ length cs = once cs in
     let few : length cs ≤ 200000 = (fine 0).few in
-    let rest : b ≤ 200000 = most_few sections (λ d. fine (suc d)) in
+    let rest : b ≤ 200000 = most_few count once sections (λ d. fine (suc d)) in
     let f : a ≤ 200000 = omega arith in
     max-le f rest
+
+pub few_ephemerons : (script : List (List Command)) → ((d : ℕ) → IsFine (slice_index_or script d [])) → most_of ephemerons_in script ≤ 200000
+few_ephemerons script fine = most_few ephemerons_in as_many_at_most script fine
+
+pub few_registrations : (script : List (List Command)) → ((d : ℕ) → IsFine (slice_index_or script d [])) → most_of registrations_in script ≤ 200000
+few_registrations script fine = most_few registrations_in registrations_few script fine
 
 abbrev of_two : Bool → Bool → Option ℕ
 of_two a b = if not a then Some 4 else (if not b then Some 5 else None)
@@ -202,8 +212,7 @@ room_fits true false first second = cc
 at_most : (n : ℕ) → n ≤ 200000 → nat_le n 200000 ≡ true
 at_most n few = grind (arith, nat_tests)
 
--- a heap of fitting sizes without finalisers, with room for as many ephemerons as a section makes
-pub rooms_fit : (k : Config) → outside_sizes (sizes_in k) ≡ None → k.finals ≡ 0 → k.ephes ≤ 200000 → first_outside k ≡ None
-rooms_fit k sizes none few =
-    let finals : k.finals ≤ 200000 = omega (arith, none) in
-    ap (λ (o : Option ℕ). first_of o (outside_rooms k)) sizes ∙ room_fits (nat_le k.finals 200000) (nat_le k.ephes 200000) (at_most k.finals finals) (at_most k.ephes few)
+-- a heap of fitting sizes, with room for as many registrations and as many ephemerons as a section makes
+pub rooms_fit : (k : Config) → outside_sizes (sizes_in k) ≡ None → k.finals ≤ 200000 → k.ephes ≤ 200000 → first_outside k ≡ None
+rooms_fit k sizes finals ephes =
+    ap (λ (o : Option ℕ). first_of o (outside_rooms k)) sizes ∙ room_fits (nat_le k.finals 200000) (nat_le k.ephes 200000) (at_most k.finals finals) (at_most k.ephes ephes)

@@ -10,7 +10,7 @@ use Rattle.heap_rule.specs.Limits.{sizes_in}
 use Rattle.heap_rule.specs.Opening.{opening_tokens}
 use Rattle.heap_rule.specs.Token.{Token, SharedHeap, IsIn}
 use Rattle.heap_rule.specs.Ending.{Past, AllBegin}
-use Rattle.domain_turns.specs.Runs.{RunView, IsRun, CanBegin, ephemerons_in}
+use Rattle.domain_turns.specs.Runs.{RunView, IsRun, CanBegin}
 use Rattle.camlheap_run.specs.declared.begin.Begun.{Begun}
 
 -- sizes that the words of a run may ask for
@@ -18,10 +18,10 @@ pub record AreRunSizes (z : Sizes) : Type 0 where
   pub limits : first_outside z ≡ None
   pub classes : z.classes ≡ class_count
 
--- the most ephemerons that a section's commands make
-abbrev pub most_in : List (List Command) → ℕ
-most_in [] = 0
-most_in (cs ∷ sections) = max (ephemerons_in cs) (most_in sections)
+-- the most that a section has of what is counted
+abbrev pub most_of : (List Command → ℕ) → List (List Command) → ℕ
+most_of count [] = 0
+most_of count (cs ∷ sections) = max (count cs) (most_of count sections)
 
 -- the commands of a domain: those of its section
 abbrev pub section_of : List (List Command) → Token → List Command
@@ -29,7 +29,7 @@ section_of script t = slice_index_or script t.view.own.number []
 
 -- the run of a domain's section, before its first command
 abbrev pub opened : List (List Command) → Token → RunView
-opened script t = record { token = t; commands = section_of script t; next = 0; replies = []; ended = false; left = None; asked = None; collected = false; cut = false }
+opened script t = record { token = t; commands = section_of script t; next = 0; replies = []; ended = false; left = None; asked = None; collected = false; cut = false; due = 0 }
 
 -- the domain has a section, and may begin it
 pub record HasSection (script : List (List Command)) (t : Token) : Type 0 where

@@ -3,8 +3,8 @@ ghost use Rattle.std.specs.Prelude.{◌≡◌, ◌≤◌, None, map, IfOk};
 ghost use Rattle.std.specs.List.{AllByRecursion};
 ghost use Rattle.heap_rule.specs.Limits.{first_outside, sizes_in};
 ghost use Rattle.camlheap_run.specs.Reading.{IsSpelled};
-ghost use Rattle.camlheap_run.specs.Running.{AreRunSizes, HasSection, IsBegun, most_in, opened};
-ghost use Rattle.domain_turns.specs.Runs.{ephemerons_in};
+ghost use Rattle.camlheap_run.specs.Running.{AreRunSizes, HasSection, IsBegun, most_of, opened};
+ghost use Rattle.domain_turns.specs.Runs.{ephemerons_in, registrations_in};
 
 use domain_turns::DomainRun;
 use heap_model::command::Command;
@@ -23,45 +23,66 @@ pub(crate) struct Begun {
     pub(crate) room: Vec<Domain>,
 }
 
-// How many ephemerons the commands of a section make, if none is answered `full`.
-fn ephemerons_of(section: &[Command]) -> usize
-    ensures { result ≡ ephemerons_in section.now }
-{
-    let mut many = 0;
-    'commands: for command in section {
-        if matches!(*command, Command::Ephe { .. }) {
-            many += 1;
-        }
-    }
-    many
+// What a domain needs room for, besides blocks.
+#[derive(Clone, Copy)]
+struct Needs {
+    ephemerons: usize,
+    registrations: usize,
 }
 
-// The most that a section makes.
-fn most_ephemerons(script: &Script) -> usize
-    ensures { result ≡ most_in script.now }
+// What the commands of a section need room for, if none is answered `full` or refused.
+fn needs_of(section: &[Command]) -> Needs
+    ensures ephemerons { result.ephemerons ≡ ephemerons_in section.now }
+    ensures registrations { result.registrations ≡ registrations_in section.now }
 {
-    let mut most = 0;
+    let mut needs = Needs {
+        ephemerons: 0,
+        registrations: 0,
+    };
+    'commands: for command in section {
+        match *command {
+            Command::Ephe { .. } => needs.ephemerons += 1,
+            Command::Finalise { .. } | Command::FinaliseLast { .. } => needs.registrations += 1,
+            _ => {}
+        }
+    }
+    needs
+}
+
+// The most of each that a section needs room for.
+fn most_needs(script: &Script) -> Needs
+    ensures ephemerons { result.ephemerons ≡ most_of ephemerons_in script.now }
+    ensures registrations { result.registrations ≡ most_of registrations_in script.now }
+{
+    let mut most = Needs {
+        ephemerons: 0,
+        registrations: 0,
+    };
     'sections: for i in 0..script.sections() {
-        most = most.max(ephemerons_of(script.section(i)));
+        let needs = needs_of(script.section(i));
+        most.ephemerons = most.ephemerons.max(needs.ephemerons);
+        most.registrations = most.registrations.max(needs.registrations);
     }
     most
 }
 
 // How large the heap is: each domain has room for as many ephemerons as the section makes that makes
-// most. No command of the grammar needs room for finalisers yet.
+// most, and for as many registrations of finalisers, of both kinds together.
 pub(crate) fn config_of(sizes: &Sizes, script: &Script) -> Config
     requires sizes { AreRunSizes sizes.now }
     requires script { IsSpelled sizes.now.domains script.now }
     ensures sizes { sizes_in result ≡ sizes.now }
     ensures limits { first_outside result ≡ None }
-    ensures ephemerons { result.ephes ≡ most_in script.now }
+    ensures ephemerons { result.ephes ≡ most_of ephemerons_in script.now }
+    ensures registrations { result.finals ≡ most_of registrations_in script.now }
 {
+    let most = most_needs(script);
     Config {
         domains: sizes.domains,
         minor_words: sizes.minor_words,
         pools: sizes.pools,
-        finals: 0,
-        ephes: most_ephemerons(script) as u32,
+        finals: most.registrations as u32,
+        ephes: most.ephemerons as u32,
     }
 }
 
@@ -88,7 +109,8 @@ fn runs_of(
 pub(crate) fn begin(alloc: Global, config: Config, script: &Script) -> Result<Begun, AllocError>
     requires limits { first_outside config ≡ None }
     requires script { IsSpelled config.domains script.now }
-    requires room { most_in script.now ≤ config.ephes }
+    requires ephemerons { most_of ephemerons_in script.now ≤ config.ephes }
+    requires registrations { most_of registrations_in script.now ≤ config.finals }
     ensures { IfOk result (IsBegun config script.now) }
 {
     let (heap, domains) = match Heap::start(alloc, config) {

@@ -12,6 +12,8 @@ mod ephemerons;
 #[cfg(test)]
 mod faults;
 #[cfg(test)]
+mod finalisers;
+#[cfg(test)]
 mod pauses;
 #[cfg(test)]
 mod pools;

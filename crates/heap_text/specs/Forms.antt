@@ -83,7 +83,7 @@ form word.Join = row (codes "join") (Register ∷ Section ∷ []) (λ dst sectio
 
 -- the words of the grammar: the commands that are built. One more here and in the code's own list makes its row a command of the grammar
 abbrev pub built_words : List Word
-built_words = word.Int ∷ word.Move ∷ word.Drop ∷ word.Alloc ∷ word.AllocMaj ∷ word.Load ∷ word.Store ∷ word.Ephe ∷ word.SetKey ∷ word.UnsetKey ∷ word.GetKey ∷ word.CheckKey ∷ word.SetData ∷ word.UnsetData ∷ word.GetData ∷ word.CheckData ∷ word.Poll ∷ word.Minor ∷ word.Major ∷ word.FullMajor ∷ []
+built_words = word.Int ∷ word.Move ∷ word.Drop ∷ word.Alloc ∷ word.AllocMaj ∷ word.Load ∷ word.Store ∷ word.Ephe ∷ word.SetKey ∷ word.UnsetKey ∷ word.GetKey ∷ word.CheckKey ∷ word.SetData ∷ word.UnsetData ∷ word.GetData ∷ word.CheckData ∷ word.Finalise ∷ word.FinaliseLast ∷ word.Poll ∷ word.Minor ∷ word.Major ∷ word.FullMajor ∷ []
 
 -- the row that a text is the word of, if it is one that is built
 abbrev pub word_of : List ℕ → Option Word

@@ -6,7 +6,7 @@ use crate::form::{Operand, Word};
 use heap_model::command::Command;
 
 // The words of the grammar: the commands that are built.
-const BUILT: [Word; 20] = [
+const BUILT: [Word; 22] = [
     Word::Int,
     Word::Move,
     Word::Drop,
@@ -23,6 +23,8 @@ const BUILT: [Word; 20] = [
     Word::UnsetData,
     Word::GetData,
     Word::CheckData,
+    Word::Finalise,
+    Word::FinaliseLast,
     Word::Poll,
     Word::Minor,
     Word::Major,

@@ -12,7 +12,7 @@ use Rattle.heap_rule.specs.Standing.{Acts}
 use Rattle.heap_rule.specs.Token.{Token, SharedHeap, IsIn}
 use Rattle.heap_rule.specs.declared.phase.Note.{Note}
 use Rattle.heap_rule.specs.declared.view.DomainView.{DomainView}
-use Rattle.domain_turns.specs.Runs.{CanBegin, AllFit, ephemerons_in}
+use Rattle.domain_turns.specs.Runs.{CanBegin, AllFit, ephemerons_in, registrations_in}
 use Rattle.domain_turns.specs.Tries.{ephemerons_of}
 use Rattle.public_calls.specs.Fresh.{MakesNoEphemeron}
 use Rattle.public_calls.specs.Fresh.{IsFresh}
@@ -21,6 +21,11 @@ not_ended : (n d : ℕ) → d < n → (slice_index_or (replicate n opening_domai
 not_ended zero d h = absurd (omega arith)
 not_ended (suc n) zero h = refl
 not_ended (suc n) (suc d) h = not_ended n d (omega arith)
+
+owes_none : (n d : ℕ) → (slice_index_or (replicate n opening_domain) d no_domain).due ≡ 0
+owes_none zero d = refl
+owes_none (suc n) zero = refl
+owes_none (suc n) (suc d) = owes_none n d
 
 none_fits : AllFit []
 none_fits i c at = cc
@@ -44,6 +49,9 @@ is_fresh h d inside = record {
     few = omega arith;
     fit = none_fits;
     room = omega arith;
+    enlists = omega arith;
+    none_listed = refl;
+    owes = owes_none h.config.domains d;
     labels = omega arith;
     even = refl;
     remembers = refl;
@@ -77,8 +85,8 @@ pub none_made : (cs : List Command) → All MakesNoEphemeron cs → ephemerons_i
 none_made cs all = none_made_in cs (recursion_from_All MakesNoEphemeron cs all)
 
 -- a domain that may begin no commands may begin others that fit
-pub begins : (t : Token) (cs : List Command) → CanBegin t [] → length cs ≤ 200000 → AllFit cs → ephemerons_in cs ≡ 0 → CanBegin t cs
-begins t cs b few fit none = record {
+pub begins : (t : Token) (cs : List Command) → CanBegin t [] → length cs ≤ 200000 → AllFit cs → ephemerons_in cs ≡ 0 → registrations_in cs ≤ t.config.finals → CanBegin t cs
+begins t cs b few fit none enlists = record {
   inside = b.inside;
   acts = b.acts;
   idle = b.idle;
@@ -88,6 +96,9 @@ begins t cs b few fit none = record {
   few = few;
   fit = fit;
   room = omega (arith, none);
+  enlists = enlists;
+  none_listed = b.none_listed;
+  owes = b.owes;
   labels = b.labels;
   even = b.even;
   remembers = b.remembers;

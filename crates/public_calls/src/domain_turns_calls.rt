@@ -1,10 +1,10 @@
 //! Traces from their first command to their end.
-use crate::fixtures::{ONE_DOMAIN, Play, Shown, TWO_DOMAINS, same};
+use crate::fixtures::{Finalisers, ONE_DOMAIN, Play, Shown, TWO_DOMAINS, same};
 use domain_turns::Turned;
 use heap_model::command::Command;
 use heap_model::label::Label;
 use heap_model::reply::Reply;
-use heap_rule::Config;
+use heap_rule::{Config, Waiting};
 use heap_words::Value;
 use std::alloc::{AllocError, Global};
 use std::test::Fail;
@@ -308,6 +308,138 @@ fn an_empty_pool_is_given_back(rt: HostRuntime) -> Result<(), Fail> {
         (0, [SHARED, COPY, Value::Nothing]),
     );
     same(&rt, play.into_first()?.replies(), COUNTED.as_slice());
+    Ok(())
+}
+
+const BLOCK: Reply = Reply::Block(Label {
+    domain: 0,
+    serial: 1,
+});
+
+const FINALISING: [Command; 7] = [
+    Command::Alloc {
+        dst: 1,
+        tag: 0,
+        fields: 2,
+    },
+    Command::Finalise {
+        item: 1,
+        number: 5,
+        dst: 2,
+    },
+    Command::FinaliseLast { item: 1, number: 6 },
+    Command::Forget { dst: 1 },
+    Command::FullMajor,
+    Command::Forget { dst: 2 },
+    Command::FullMajor,
+];
+
+const FINALISED: [Reply; 9] = [
+    BLOCK,
+    Reply::Done,
+    Reply::Done,
+    Reply::Done,
+    Reply::Live {
+        blocks: 2,
+        words: 22,
+    },
+    Reply::Fin {
+        number: 5,
+        label: Label {
+            domain: 0,
+            serial: 1,
+        },
+    },
+    Reply::Done,
+    Reply::Live {
+        blocks: 1,
+        words: 18,
+    },
+    Reply::Last { number: 6 },
+];
+
+// What the domain has of finalisers after so many commands, and how many of `finalise_last` it has once the one that waits
+// has run.
+const QUEUED: [(usize, Finalisers, usize); 2] = [
+    (
+        5,
+        Finalisers {
+            finals: 0,
+            lasts: 1,
+            queued: 1,
+            first: Some(Waiting::Fin {
+                address: 4097,
+                number: 5,
+                register: 2,
+            }),
+        },
+        1,
+    ),
+    (
+        7,
+        Finalisers {
+            finals: 0,
+            lasts: 0,
+            queued: 1,
+            first: Some(Waiting::Last { number: 6 }),
+        },
+        0,
+    ),
+];
+
+// What a domain has that owes none.
+fn none_queued(lasts: usize) -> Finalisers {
+    Finalisers {
+        finals: 0,
+        lasts,
+        queued: 0,
+        first: None,
+    }
+}
+
+// Each collection queues what is to run, and it runs before the next command, or before the end.
+#[test]
+fn a_dead_block_is_finalised(rt: HostRuntime) -> Result<(), Fail> {
+    let mut play = Play::start(rt.alloc(), ONE_DOMAIN, &[FINALISING.as_slice()])?;
+    for (commands, queued, lasts) in &QUEUED {
+        play.take_turns_until(*commands);
+        same(&rt, play.finalisers(0), Some(*queued));
+        play.take_turns_until_none_waits();
+        same(&rt, play.finalisers(0), Some(none_queued(*lasts)));
+    }
+    same(&rt, play.has_ended(0), false);
+    same(&rt, play.into_first()?.replies(), FINALISED.as_slice());
+    Ok(())
+}
+
+const REGISTERING: [Command; 3] = [
+    Command::Alloc {
+        dst: 1,
+        tag: 0,
+        fields: 2,
+    },
+    Command::Finalise {
+        item: 1,
+        number: 5,
+        dst: 2,
+    },
+    Command::FinaliseLast { item: 1, number: 6 },
+];
+
+// The block dies with the trace that registered it, and nothing is queued.
+#[test]
+fn an_ended_trace_has_no_finalisers(rt: HostRuntime) -> Result<(), Fail> {
+    let lists = [[Command::FullMajor].as_slice(), &REGISTERING];
+    let mut play = Play::start(rt.alloc(), TWO_DOMAINS, &lists)?;
+    same(&rt, play.all_did(1, 4), true);
+    same(&rt, play.finalisers(1), Some(none_queued(0)));
+    play.take_turns_until(1);
+    same(&rt, play.finalisers(1), Some(none_queued(0)));
+    let collected = Reply::Live {
+        blocks: 1,
+        words: 18,
+    };
+    same(&rt, play.into_first()?.replies(), [collected].as_slice());
     Ok(())
 }
 

@@ -1,7 +1,7 @@
 //! Heaps that have just started, with what the tests need to know of their domains.
 ghost use Rattle.std.specs.Prelude.{◌≡◌, ◌≤◌, ◌<◌, All, IfOk, [], true, length};
 ghost use Rattle.std.specs.List.{AllByRecursion};
-ghost use Rattle.domain_turns.specs.Runs.{CanBegin, ephemerons_in};
+ghost use Rattle.domain_turns.specs.Runs.{CanBegin, ephemerons_in, registrations_in};
 ghost use Rattle.domain_turns.specs.Tries.{FitsHeap, ephemerons_of};
 ghost use Rattle.heap_rule.specs.Running.{Runs};
 ghost use Rattle.heap_rule.specs.Token.{IsIn};
@@ -11,7 +11,7 @@ use domain_turns::{DomainRun, Turned, turn};
 use field_access::store;
 use heap_model::command::Command;
 use heap_model::reply::Reply;
-use heap_rule::{Config, Domain, Heap, StartFault};
+use heap_rule::{Config, Domain, Heap, StartFault, Waiting};
 use heap_words::Value;
 use mark_slices::{HINTS_ROOM, Hints};
 use outer_io::Gate;
@@ -33,7 +33,7 @@ pub(crate) const ONE_DOMAIN: Config = Config {
     domains: 1,
     minor_words: 4096,
     pools: 14,
-    finals: 0,
+    finals: 2,
     ephes: 1,
 };
 
@@ -41,7 +41,7 @@ pub(crate) const TWO_DOMAINS: Config = Config {
     domains: 2,
     minor_words: 4096,
     pools: 27,
-    finals: 0,
+    finals: 2,
     ephes: 0,
 };
 
@@ -112,6 +112,8 @@ fn fits(command: &Command) -> bool
         Command::Forget { dst } => dst < 16,
         Command::Load { dst, src, .. } => dst < 16 && src < 16,
         Command::Store { block, item, .. } => block < 16 && item < 16,
+        Command::Finalise { item, dst, .. } => item < 16 && dst < 16,
+        Command::FinaliseLast { item, .. } => item < 16,
         Command::Poll | Command::Minor | Command::Major | Command::FullMajor => true,
         _ => false,
     }
@@ -131,6 +133,22 @@ fn all_fit(commands: &[Command]) -> bool
     commands.len() <= 200_000
 }
 
+// How many finalisers these commands register.
+fn registrations_of(commands: &[Command]) -> usize
+    ensures { result ≡ registrations_in commands.now }
+{
+    let mut many = 0;
+    'commands: for command in commands {
+        if matches!(
+            *command,
+            Command::Finalise { .. } | Command::FinaliseLast { .. }
+        ) {
+            many += 1;
+        }
+    }
+    many
+}
+
 // A run of a domain that has just started.
 fn begun(alloc: Global, domain: Domain, commands: &[Command]) -> Result<DomainRun, Fail>
     requires { CanBegin domain [] }
@@ -138,6 +156,9 @@ fn begun(alloc: Global, domain: Domain, commands: &[Command]) -> Result<DomainRu
 {
     if !all_fit(commands) {
         return Err(Fail::from("a command that doesn't fit"));
+    }
+    if registrations_of(commands) > domain.finals_room() {
+        return Err(Fail::from("no room for a finaliser"));
     }
     let hints = Hints::make(alloc, HINTS_ROOM)?;
     let commands = Vec::from_slice(alloc, commands)?;
@@ -182,6 +203,30 @@ pub(crate) fn shown_of(domain: &Domain) -> Shown {
     }
 }
 
+/// The finalisers of a domain: how many it has of each list, and the first of those that wait.
+#[derive(Clone, Copy, Debug, PartialEq)]
+pub(crate) struct Finalisers {
+    pub finals: usize,
+    pub lasts: usize,
+    pub queued: usize,
+    pub first: Option<Waiting>,
+}
+
+/// The finalisers of this domain.
+pub(crate) fn finalisers_of(domain: &Domain) -> Finalisers {
+    let queued = domain.queued();
+    Finalisers {
+        finals: domain.finals_len(),
+        lasts: domain.lasts_len(),
+        queued,
+        first: if queued == 0 {
+            None
+        } else {
+            Some(domain.queue_at(0))
+        },
+    }
+}
+
 // So often a domain arrives in no test.
 const MOST: u64 = 1_000_000;
 
@@ -205,6 +250,12 @@ impl Play {
     pub(crate) fn shown(&self, domain: usize) -> Option<Shown> {
         let run = self.runs.get(domain)?;
         Some(shown_of(run.domain()))
+    }
+
+    /// The finalisers of a domain.
+    pub(crate) fn finalisers(&self, domain: usize) -> Option<Finalisers> {
+        let run = self.runs.get(domain)?;
+        Some(finalisers_of(run.domain()))
     }
 
     /// Whether the trace of a domain has ended.
@@ -245,6 +296,16 @@ impl Play {
     pub(crate) fn take_turns_until(&mut self, commands: usize) {
         for _ in 0..100u32 {
             if self.commands_made() >= commands {
+                return;
+            }
+            self.take_turns(1);
+        }
+    }
+
+    /// The same, until domain 0 has no finaliser that waits.
+    pub(crate) fn take_turns_until_none_waits(&mut self) {
+        for _ in 0..100u32 {
+            if self.finalisers(0).is_none_or(|shown| shown.queued == 0) {
                 return;
             }
             self.take_turns(1);

@@ -12,6 +12,8 @@ mod ephemeron_calls;
 #[cfg(test)]
 mod field_access_calls;
 #[cfg(test)]
+mod finaliser_calls;
+#[cfg(test)]
 mod fixtures;
 #[cfg(test)]
 mod heap_rule_calls;

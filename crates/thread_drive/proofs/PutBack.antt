@@ -1,12 +1,31 @@
 -- A run is taken out of a list, the others are worked on, and it is put back.
-use Rattle.std.proofs.Common.{◌≡◌, ◌≢◌, ◌∙◌, ℕ, ◌+◌, ◌<◌, ◌≤◌, List, length, sym, ap, subst, ⊎_elim, arith}
+use Rattle.std.proofs.Common.{◌≡◌, ◌≢◌, ◌∙◌, ℕ, zero, suc, ◌+◌, ◌<◌, ◌≤◌, List, [], ◌∷◌, ◌++◌, length, refl, sym, ap, subst, ⊎_elim, arith, length-append}
 use Rattle.std.specs.Prelude.{slice_index_or}
+use Rattle.std.specs.List.{SwappedAt}
 use Rattle.std.proofs.lemmas.Bool.{cases_eq, cases_lt}
 use Rattle.domain_turns.specs.Runs.{RunView}
 use Rattle.thread_drive.specs.Taking.{IsTakenOut, IsPutBack}
 
 abbrev pub at : List RunView → ℕ → RunView → RunView
 at xs k d = slice_index_or xs k d
+
+at_end : (xs : List RunView) (r d : RunView) → at (xs ++ r ∷ []) (length xs) d ≡ r
+at_end [] r d = refl
+at_end (x ∷ xs) r d = at_end xs r d
+
+at_front : (xs : List RunView) (r : RunView) (k : ℕ) (d : RunView) → k < length xs → at (xs ++ r ∷ []) k d ≡ at xs k d
+at_front [] r k d few = absurd (omega arith)
+at_front (x ∷ xs) r zero d few = refl
+at_front (x ∷ xs) r (suc k) d few = at_front xs r k d (omega arith)
+
+-- a run that was pushed behind the others, and then swapped with the one at a place
+pub pushed_back : (old pushed new : List RunView) (place last : ℕ) (r : RunView) → last ≡ length old → pushed ≡ old ++ r ∷ [] → length new ≡ length pushed → SwappedAt pushed new place last → IsPutBack old new place r
+pushed_back old pushed new place last r is items long swapped = record {
+  len = long ∙ ap length items ∙ length-append old (r ∷ []);
+  here = λ d. swapped.0 d ∙ ap (λ (n : ℕ). at pushed n d) is ∙ ap (λ (xs : List RunView). at xs (length old) d) items ∙ at_end old r d;
+  last = λ d few. ap (λ (n : ℕ). at new n d) (sym is) ∙ swapped.1 d ∙ ap (λ (xs : List RunView). at xs place d) items ∙ at_front old r place d few;
+  others = λ k d other few. swapped.2 k d other (λ same. let at_last : k ≡ last = same in absurd (omega (arith, at_last, is, few))) ∙ ap (λ (xs : List RunView). at xs k d) items ∙ at_front old r k d few;
+}
 
 below_last : (place k last len : ℕ) → last ≡ k → k ≢ place → place < len → last + 1 ≡ len → place < last
 below_last place k last len is other inside whole = ⊎_elim (λ (below : place < last). below)

@@ -66,7 +66,8 @@ fn tell_before<G: Gate>(gate: &G, told: &mut u32, run: &DomainRun) {
 }
 
 // One turn, with the gate around the command, if one is left. Where it went on without a command the
-// domain arrived, asked for a pause or ended its trace, and others that wait may go on too.
+// domain arrived, asked for a pause, ran a finaliser or ended its trace, and others that wait may go on
+// too.
 pub(crate) fn turn_once<G: Gate>(
     heap: &Heap,
     gate: &G,

@@ -16,7 +16,7 @@ runs_of-requires c =
     let k = c.args.config in
     let script = c.args.script.now in
     subst (λ (ts : List Token). AllByRecursion (HasSection script) ts) (sym c.in-Ok.ensures.tokens)
-    (have_sections c.in-Ok.started.0 k script 0 k.domains (omega arith) (spelled_length k.domains script c.requires.script) (spelled_fine k.domains script c.requires.script) c.requires.room)
+    (have_sections c.in-Ok.started.0 k script 0 k.domains (omega arith) (spelled_length k.domains script c.requires.script) (spelled_fine k.domains script c.requires.script) c.requires.ephemerons c.requires.registrations)
 
 pub returns : goal.returns
 returns c =
