@@ -1,6 +1,8 @@
 #!/usr/bin/env bash
 # Times complete collections over 10^4 and 10^5 registrations of finalisers, of each kind, half of them on blocks to which nothing
 # leads. Each block has two. The fastest of several runs counts. It claims nothing.
+# With the word stress it runs scripts of 1 to 8 domains, each of up to 600 commands drawn by chance, and checks that each run ends,
+# that each command has its reply, and that no finaliser runs twice.
 set -euo pipefail
 shopt -s inherit_errexit
 top=$(cd "$(dirname "${BASH_SOURCE[0]}")/.." && pwd)
@@ -47,6 +49,58 @@ halves() {
 live() {
     echo "live $(($1 + $2 + 1)) $(($1 * 3 + $2 * 128 + 18))"
 }
+
+# A script of $1 domains with commands drawn by chance from the seed $2. Each registration of a domain has a number of its own.
+by_chance() {
+    awk -v domains="$1" -v seed="$2" '
+    function any(n) { return int(rand() * n) }
+    function command(k) {
+        if (k < 24) return "alloc " any(8) " 0 " 1 + any(3)
+        if (k < 30) return "allocmaj " any(8) " 0 " 1 + any(3)
+        if (k < 36) return "ephe " any(8) " " 1 + any(2)
+        if (k < 40) return "set_key " any(8) " " any(2) " " any(8)
+        if (k < 44) return "set_data " any(8) " " any(8)
+        if (k < 48) return "get_data " any(8) " " any(8)
+        if (k < 58) return "store " any(8) " " any(3) " " any(8)
+        if (k < 64) return "load " any(8) " " any(8) " " any(3)
+        if (k < 72) return "finalise " any(8) " " number++ " " any(8)
+        if (k < 78) return "finalise_last " any(8) " " number++
+        if (k < 90) return "drop " any(8)
+        if (k < 93) return "minor"
+        if (k < 96) return "major"
+        return "full_major"
+    }
+    BEGIN {
+        srand(seed)
+        print "heap 1"
+        for (d = 0; d < domains; d++) {
+            print "domain " d
+            number = 0
+            for (left = any(600); left > 0; left--) print command(any(100))
+        }
+    }'
+}
+
+# What is wrong in the output $2 of the script $1.
+wrong() {
+    awk 'FNR == 1 { file++ } /^heap/ { next } /^domain/ { d = $2; next }
+        file == 1 { commands[d]++; next }
+        /^(fin|last) / { if (ran[d, $2]++) print "domain " d ": " $0 " twice"; next }
+        { replies[d]++ }
+        END { for (d in commands) if (commands[d] != replies[d]) print "domain " d ": " replies[d] + 0 " replies to " commands[d] }' "$1" "$2"
+}
+
+if [ "${1:-}" = stress ]; then
+    for domains in 1 2 4 8; do
+        for seed in $(seq "$runs"); do
+            by_chance "$domains" "$seed" >"$work/script"
+            timeout 60 "$work/camlheap" run --domains "$domains" --minor 4096 --pools $((40 * domains + 20)) <"$work/script" >"$work/out"
+            wrong "$work/script" "$work/out" >&2
+            grep -c '^fin \|^last ' "$work/out" || true
+        done | awk -v domains="$domains" '{ ran += $1 } END { print domains " domains: " NR " runs, " ran + 0 " finalisers ran" }'
+    done
+    exit
+fi
 
 for kind in finalise finalise_last; do
     for count in 10000 100000; do
