@@ -1,10 +1,8 @@
 -- What holds of each domain of a heap that has just started.
-use Rattle.std.proofs.Common.{◌≡◌, ℕ, zero, suc, ◌+◌, ◌<◌, ◌≤◌, false, List, [], ◌∷◌, length, replicate, refl, sym, ap, ◌∙◌, subst, arith}
-use Rattle.std.specs.Prelude.{slice_index_or}
+use Rattle.std.proofs.Common.{◌≡◌, ℕ, zero, suc, ◌+◌, ◌<◌, ◌≤◌, List, [], ◌∷◌, length, refl, sym, ap, ◌∙◌, subst, arith}
 use Rattle.std.specs.List.{All, AllByRecursion}
 use Rattle.std.proofs.lemmas.List.Elements.{All-from_recursion, recursion_from_All}
 use Rattle.heap_model.specs.declared.command.Command.{Command}
-use Rattle.heap_model.specs.Domains.{opening_domain, no_domain}
 use Rattle.heap_rule.specs.declared.config.Config.{Config}
 use Rattle.heap_rule.specs.Opening.{opening_token, opening_tokens}
 use Rattle.heap_rule.specs.Running.{Runs, RemembersAll}
@@ -14,54 +12,22 @@ use Rattle.heap_rule.specs.declared.phase.Note.{Note}
 use Rattle.heap_rule.specs.declared.view.DomainView.{DomainView}
 use Rattle.domain_turns.specs.Runs.{CanBegin, AllFit, ephemerons_in, registrations_in}
 use Rattle.domain_turns.specs.Tries.{ephemerons_of}
+use Rattle.domain_turns.proofs.Beginning.{opening_begins}
 use Rattle.public_calls.specs.Fresh.{MakesNoEphemeron}
 use Rattle.public_calls.specs.Fresh.{IsFresh}
-
-not_ended : (n d : ℕ) → d < n → (slice_index_or (replicate n opening_domain) d no_domain).ended ≡ false
-not_ended zero d h = absurd (omega arith)
-not_ended (suc n) zero h = refl
-not_ended (suc n) (suc d) h = not_ended n d (omega arith)
-
-owes_none : (n d : ℕ) → (slice_index_or (replicate n opening_domain) d no_domain).due ≡ 0
-owes_none zero d = refl
-owes_none (suc n) zero = refl
-owes_none (suc n) (suc d) = owes_none n d
 
 none_fits : AllFit []
 none_fits i c at = cc
 
 is_fresh : (h : SharedHeap) (d : ℕ) → d < h.config.domains → IsFresh h (opening_token h.table h.config d)
-is_fresh h d inside = record {
-  runs = record {
-    here = (refl, refl);
-    acts = record { goes_on = not_ended h.config.domains d inside; runs = refl; unqueued = refl };
-    idle = refl;
-    at_rest = refl;
-    remembers = refl;
-  };
-  begins = record {
-    inside = inside;
-    acts = record { goes_on = not_ended h.config.domains d inside; runs = refl; unqueued = refl };
-    idle = refl;
-    at_rest = refl;
-    no_commands = refl;
-    no_replies = refl;
-    few = omega arith;
-    fit = none_fits;
-    room = omega arith;
-    enlists = omega arith;
-    none_listed = refl;
-    owes = owes_none h.config.domains d;
-    labels = omega arith;
-    even = refl;
-    remembers = refl;
-    quiet = refl;
-    no_copies = refl;
-    unprepared = refl;
-  };
-  unlabelled = refl;
-  nowhere = refl;
-}
+is_fresh h d inside =
+    let may : CanBegin (opening_token h.table h.config d) [] = opening_begins h h.config d [] inside (omega arith) none_fits (omega arith) (omega arith) in
+    record {
+      runs = record { here = (refl, refl); acts = may.acts; idle = refl; at_rest = refl; remembers = refl };
+      begins = may;
+      unlabelled = refl;
+      nowhere = refl;
+    }
 
 those_from : (h : SharedHeap) (from n : ℕ) → from + n ≤ h.config.domains → AllByRecursion (IsFresh h) (opening_tokens h.table h.config from n)
 those_from h from zero few = tt
