@@ -11,4 +11,6 @@ pub mod FaultLemmas
 pub mod ReadLemmas
 pub mod OnlyLemmas
 pub mod SpellsLemmas
+pub mod LengthLemmas
+pub mod GeneratedLemmas
 pub mod LineLemmas

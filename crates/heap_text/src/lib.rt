@@ -1,9 +1,10 @@
-//! Scripts and reply lines as text: what a script is, its first fault, and how commands, replies and headings are printed.
+//! Scripts and reply lines as text: what a script is, its first fault, scripts that are generated, and how commands, replies and headings are printed.
 #![tactic(auto)]
 
 pub mod fault;
 pub mod form;
 pub mod front;
+pub mod generator;
 pub mod law;
 mod line;
 mod number;
@@ -15,6 +16,7 @@ mod table;
 
 pub use fault::ScriptFault;
 pub use front::Line;
+pub use generator::generate;
 pub use print::{print_command, print_heading, print_reply};
 pub use read::read_script;
 pub use script::Script;

@@ -1,5 +1,5 @@
 //! Scripts: a list of commands for each domain.
-ghost use Rattle.std.specs.Prelude.{◌≡◌, ◌<◌, ◌++◌, ◌∷◌, [], length, slice_index_or, sum_by, IfOk, OnOk};
+ghost use Rattle.std.specs.Prelude.{◌≡◌, ◌≤◌, ◌<◌, ◌+◌, ◌++◌, ◌∷◌, [], length, slice_index_or, sum_by, IfOk, OnOk};
 ghost use Rattle.heap_text.specs.Script.{with_command};
 
 use heap_model::command::Command;
@@ -55,6 +55,17 @@ impl Script {
         ensures { result ≡ sum_by length self.now }
     {
         self.commands
+    }
+
+    // A further section.
+    pub(crate) fn push_section(&mut self, section: Vec<Command>) -> Result<(), AllocError>
+        requires room { sum_by length self.old + length section.items ≤ 200000 }
+        ensures { OnOk result (self.new ≡ self.old ++ section.items ∷ []) }
+    {
+        let commands = section.len() as u32;
+        self.sections.push(section)?;
+        self.commands += commands;
+        Ok(())
     }
 
     // A further section, which is empty.
