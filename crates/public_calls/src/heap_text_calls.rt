@@ -5,7 +5,7 @@ use heap_model::label::Label;
 use heap_model::reply::Reply;
 use heap_text::ScriptFault::{Order, Range, Syntax, TooLong, TooMany};
 use heap_text::{
-    Line, Script, ScriptFault, print_command, print_heading, print_reply, read_script,
+    Line, Script, ScriptFault, generate, print_command, print_heading, print_reply, read_script,
 };
 use std::alloc::{AllocError, Global};
 use std::test::Fail;
@@ -190,6 +190,54 @@ fn too_many_commands(rt: HostRuntime) -> Result<(), Fail> {
     let script = read_script(rt.alloc(), 1, bytes.as_slice())?;
     assert_eq!(rt; script.sections(), 1);
     same(&rt, script.section(0).len(), 200_000);
+    Ok(())
+}
+
+// Two scripts that are generated: half a group of one domain, and a group of each of two.
+const HALF_A_GROUP: &[u8] = b"heap 1
+domain 0
+alloc 1 0 9
+int 2 7
+store 1 0 2
+int 3 0
+move 3 1
+";
+
+const TWO_GROUPS: &[u8] = b"heap 1
+domain 0
+alloc 1 0 2
+int 2 0
+store 1 0 2
+int 3 0
+move 3 1
+store 0 0 1
+load 4 0 0
+load 5 4 0
+ephe 6 1
+poll
+domain 1
+alloc 1 0 2
+int 2 1
+store 1 0 2
+int 3 0
+move 3 1
+store 0 1 1
+load 4 0 1
+load 5 4 0
+ephe 6 1
+poll
+";
+
+#[test]
+fn scripts_are_generated(rt: HostRuntime) -> Result<(), Fail> {
+    let generated = [
+        (generate(rt.alloc(), 7, 1, 5)?, HALF_A_GROUP),
+        (generate(rt.alloc(), 0, 2, 10)?, TWO_GROUPS),
+    ];
+    for (script, bytes) in &generated {
+        let text = printed(rt.alloc(), script, script.sections())?;
+        same(&rt, text.as_slice(), *bytes);
+    }
     Ok(())
 }
 
