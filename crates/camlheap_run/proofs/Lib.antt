@@ -2,6 +2,8 @@ pub mod WritingLemmas
 pub mod ReadingLemmas
 pub mod SectionLemmas
 pub mod BeginLemmas
+pub mod SumLemmas
+pub mod GeneratingLemmas
 pub mod RunLemmas
 pub mod WordLemmas
 pub mod StatusLemmas

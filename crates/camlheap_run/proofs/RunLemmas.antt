@@ -1,6 +1,6 @@
 -- Driven runs, and the history of the heap that they ran on.
 use Rattle.std.proofs.Common.{◌≡◌, ℕ, zero, suc, ◌+◌, ◌<◌, Bool, true, false, List, [], ◌∷◌, ◌++◌, length, map, take, get_or, refl, sym, ap, ◌∙◌, subst, arith, append-nil, Some}
-use Rattle.std.specs.Prelude.{Option, ◌||◌, IsTrue, flat_map, slice_get, slice_index_or}
+use Rattle.std.specs.Prelude.{Option, ◌||◌, IsTrue, flat_map, slice_get, slice_index_or, codes, decimal}
 use Rattle.std.specs.List.{AllByRecursion, list_any, range_with_len}
 use Rattle.std.specs.Io.KnownBytes.{Appends}
 use Rattle.std.proofs.lemmas.List.{take_all}
@@ -11,7 +11,7 @@ use Rattle.heap_model.specs.declared.reply.Reply.{Reply}
 use Rattle.heap_model.specs.declared.state.Sizes.{Sizes}
 use Rattle.heap_model.specs.Domains.{opening}
 use Rattle.heap_model.specs.History.{Legal, commands, replies, replies_from, state_after}
-use Rattle.heap_model.specs.Output.{line, printed, output, section_text}
+use Rattle.heap_model.specs.Output.{line, printed, ints_of, int_sum, section_text, summary_text}
 use Rattle.heap_model.proofs.Histories.HistoryLemmas.{commands-append, commands-others, replies_from-append, replies_from-others}
 use Rattle.heap_text.specs.Spelling.{heading_text}
 use Rattle.heap_rule.specs.declared.config.Config.{Config}
@@ -22,9 +22,11 @@ use Rattle.heap_rule.specs.Ending.{Past, AllIn, AllBegin, Begins}
 use Rattle.domain_turns.specs.Runs.{RunView, IsRun, is_end_of}
 use Rattle.thread_drive.specs.Driven.{Driven}
 use Rattle.camlheap_run.specs.declared.begin.Begun.{Begun}
+use Rattle.camlheap_run.specs.declared.report.Report.{Report}
+use Rattle.camlheap_run.specs.declared.report.Report.TheVariants.{Replies, Summary}
 use Rattle.camlheap_run.specs.Run.{IsRunOf}
 use Rattle.camlheap_run.specs.Running.{IsBegun, IsHere, IsOver, IsPastOf, opened, token_of}
-use Rattle.camlheap_run.specs.Writing.{AppendsFront, run_text}
+use Rattle.camlheap_run.specs.Writing.{AppendsFront, run_text, text_of}
 use Rattle.camlheap_run.specs.Outcome.{HasRun, WritesRun, WritesFrontOfRun}
 use Rattle.camlheap_run.proofs.BeginLemmas.{length-opened, opened_at}
 
@@ -93,6 +95,7 @@ record Told (z : Sizes) (script : List (List Command)) (history : List Entry) (d
   number : q.token.view.own.number ≡ d
   made : commands history d ≡ slice_index_or script d []
   ends : IsTrue (list_any (is_end_of d) history)
+  counted : length (commands history d) ≡ q.next
   answered : replies z history d ≡ q.replies
 
 any_more : (a b c : Bool) → IsTrue (a || b) → (IsTrue b → IsTrue c) → IsTrue (a || c)
@@ -128,9 +131,11 @@ told h k script d old q history is driven run begins =
     let number : q.token.view.own.number ≡ d = driven.number ∙ ap (λ (r : RunView). r.token.view.own.number) is in
     let config : q.token.config ≡ k = driven.config ∙ ap (λ (r : RunView). r.token.config) is in
     let whole : take q.next q.commands ≡ q.commands = ap (λ (m : ℕ). take m q.commands) (run.done driven.ended) ∙ take_all (length q.commands) q.commands (omega arith) in
+    let all : commands history d ≡ q.commands = ap (commands history) (sym number) ∙ commands_of_front history q.token begins ∙ run.made ∙ whole in
     record {
       number = number;
-      made = ap (commands history) (sym number) ∙ commands_of_front history q.token begins ∙ run.made ∙ whole ∙ driven.commands ∙ ap (λ (r : RunView). r.commands) is;
+      made = all ∙ driven.commands ∙ ap (λ (r : RunView). r.commands) is;
+      counted = ap length all ∙ sym (run.done driven.ended);
       ends = subst (λ (m : ℕ). IsTrue (list_any (is_end_of m) history)) number (ends_in history q.token begins (run.over driven.ended));
       answered = ap (λ (m : ℕ). replies (sizes_in k) history m) (sym number) ∙ ap (λ (c : Config). replies (sizes_in c) history q.token.view.own.number) (sym config)
           ∙ replies_of_front (sizes_in q.token.config) history q.token begins ∙ run.answered;
@@ -156,32 +161,50 @@ is_run z k script b new past ran = record {
   each_ends = λ d below. (each_told z k script b new past ran d below).2.ends;
 }
 
--- the sections of a range of domains are the texts of their runs
-sections : (f : ℕ → List ℕ) (runs : List RunView) (a n : ℕ) → length runs ≡ n → ((i : ℕ) (q : RunView) → slice_get runs i ≡ Some q → f (a + i) ≡ run_text q) → flat_map f (range_with_len a n) ≡ flat_map run_text runs
-sections f [] a zero long each = refl
-sections f [] a (suc n) long each = absurd (omega arith)
-sections f (q ∷ runs) a zero long each = absurd (omega arith)
-sections f (q ∷ runs) a (suc n) long each =
+-- the texts of a range of domains are those of their runs
+texts : (f : ℕ → List ℕ) (g : RunView → List ℕ) (runs : List RunView) (a n : ℕ) → length runs ≡ n → ((i : ℕ) (q : RunView) → slice_get runs i ≡ Some q → f (a + i) ≡ g q) → flat_map f (range_with_len a n) ≡ flat_map g runs
+texts f g [] a zero long each = refl
+texts f g [] a (suc n) long each = absurd (omega arith)
+texts f g (q ∷ runs) a zero long each = absurd (omega arith)
+texts f g (q ∷ runs) a (suc n) long each =
     let here : a ≡ a + 0 = omega arith in
-    let first : f a ≡ run_text q = ap f here ∙ each 0 q refl in
+    let first : f a ≡ g q = ap f here ∙ each 0 q refl in
     let shift : (i : ℕ) → (a + 1) + i ≡ a + suc i = λ i. omega arith in
-    let rest : flat_map f (range_with_len (a + 1) n) ≡ flat_map run_text runs = sections f runs (a + 1) n (omega arith) (λ i r at. ap f (shift i) ∙ each (suc i) r at) in
-    ap (λ (l : List ℕ). l ++ flat_map f (range_with_len (a + 1) n)) first ∙ ap (λ (l : List ℕ). run_text q ++ l) rest
+    let rest : flat_map f (range_with_len (a + 1) n) ≡ flat_map g runs = texts f g runs (a + 1) n (omega arith) (λ i r at. ap f (shift i) ∙ each (suc i) r at) in
+    ap (λ (l : List ℕ). l ++ flat_map f (range_with_len (a + 1) n)) first ∙ ap (λ (l : List ℕ). g q ++ l) rest
 
-text_told : (z : Sizes) (script : List (List Command)) (history : List Entry) (d : ℕ) (q : RunView) → Told z script history d q → section_text z history d ≡ run_text q
-text_told z script history d q t =
+-- what a report has of domain d
+abbrev domain_text : Report → Sizes → List Entry → ℕ → List ℕ
+domain_text Replies z history d = section_text z history d
+domain_text Summary z history d = summary_text z history d
+
+by_domains : (report : Report) (z : Sizes) (history : List Entry) → text_of report z history ≡ flat_map (domain_text report z history) (range_with_len 0 z.domains)
+by_domains Replies z history = refl
+by_domains Summary z history = refl
+
+-- the summary line by its figures
+abbrev summary_line : ℕ → ℕ → List Reply → List ℕ
+summary_line d made rs =
+    line (codes "domain " ++ decimal d ++ codes " commands " ++ decimal made
+    ++ codes " ints " ++ decimal (length (flat_map ints_of rs)) ++ codes " sum " ++ decimal (int_sum (flat_map ints_of rs)))
+
+text_told : (report : Report) (z : Sizes) (script : List (List Command)) (history : List Entry) (d : ℕ) (q : RunView) → Told z script history d q → domain_text report z history d ≡ run_text report q
+text_told Replies z script history d q t =
     ap (λ (rs : List Reply). line (heading_text d) ++ printed rs) t.answered ∙ ap (λ (m : ℕ). line (heading_text m) ++ printed q.replies) (sym t.number)
+text_told Summary z script history d q t =
+    ap (λ (rs : List Reply). summary_line d (length (commands history d)) rs) t.answered ∙ ap (λ (n : ℕ). summary_line d n q.replies) t.counted
+    ∙ ap (λ (m : ℕ). summary_line m q.next q.replies) (sym t.number)
 
--- what the history prints are the texts of the runs
-prints : (z : Sizes) (k : Config) (script : List (List Command)) (b : Begun) (new : List RunView) (past : Past) → Ran z k script b new past → output (sizes_in k) past.history ≡ flat_map run_text new
-prints z k script b new past ran =
+-- the report of the history are the texts of the runs
+prints : (report : Report) (z : Sizes) (k : Config) (script : List (List Command)) (b : Begun) (new : List RunView) (past : Past) → Ran z k script b new past → text_of report (sizes_in k) past.history ≡ flat_map (run_text report) new
+prints report z k script b new past ran =
     let many : length new ≡ k.domains = ran.long ∙ length-begun k script b ran.begun in
-    sections (section_text (sizes_in k) past.history) new 0 k.domains many (λ i q at.
+    by_domains report (sizes_in k) past.history ∙ texts (domain_text report (sizes_in k) past.history) (run_text report) new 0 k.domains many (λ i q at.
     let below : i < length new = slice_get_within new i q at in
     let t = each_told z k script b new past ran i (omega arith) in
     let is : t.0 ≡ q = let both : ◌≡◌ {A = Option RunView} (Some t.0) (Some q) = sym t.1 ∙ at in cc in
     let same : 0 + i ≡ i = omega arith in
-    ap (section_text (sizes_in k) past.history) same ∙ text_told (sizes_in k) script past.history i t.0 t.2 ∙ ap run_text is)
+    ap (domain_text report (sizes_in k) past.history) same ∙ text_told report (sizes_in k) script past.history i t.0 t.2 ∙ ap (run_text report) is)
 
 has_run : (z : Sizes) (k : Config) (script : List (List Command)) (b : Begun) (new : List RunView) (past : Past) (ended : Option Past) → Ran z k script b new past → Some past ≡ ended → HasRun z script ended
 has_run z k script b new past ended ran is = record {
@@ -191,21 +214,21 @@ has_run z k script b new past ended ran is = record {
   run = subst (λ (y : Sizes). IsRunOf y script past.history) ran.sizes (is_run z k script b new past ran);
 }
 
-printed_is : (z : Sizes) (k : Config) (script : List (List Command)) (b : Begun) (new shown : List RunView) (past : Past) → Ran z k script b new past → shown ≡ new → flat_map run_text shown ≡ output z past.history
-printed_is z k script b new shown past ran is = ap (flat_map run_text) is ∙ sym (prints z k script b new past ran) ∙ ap (λ (y : Sizes). output y past.history) ran.sizes
+printed_is : (report : Report) (z : Sizes) (k : Config) (script : List (List Command)) (b : Begun) (new shown : List RunView) (past : Past) → Ran z k script b new past → shown ≡ new → flat_map (run_text report) shown ≡ text_of report z past.history
+printed_is report z k script b new shown past ran is = ap (flat_map (run_text report)) is ∙ sym (prints report z k script b new past ran) ∙ ap (λ (y : Sizes). text_of report y past.history) ran.sizes
 
-pub writes_run : (z : Sizes) (k : Config) (script : List (List Command)) (b : Begun) (new shown : List RunView) (past : Past) (ended : Option Past) (before after : Option (List ℕ))
-    → Ran z k script b new past → shown ≡ new → Some past ≡ ended → Appends before after (flat_map run_text shown) → WritesRun z script ended before after
+pub writes_run : (report : Report) (z : Sizes) (k : Config) (script : List (List Command)) (b : Begun) (new shown : List RunView) (past : Past) (ended : Option Past) (before after : Option (List ℕ))
+    → Ran z k script b new past → shown ≡ new → Some past ≡ ended → Appends before after (flat_map (run_text report) shown) → WritesRun (text_of report) z script ended before after
 unfolding has_run
-writes_run z k script b new shown past ended before after ran is last bytes = record {
+writes_run report z k script b new shown past ended before after ran is last bytes = record {
   ran = has_run z k script b new past ended ran last;
-  written = subst (λ (t : List ℕ). Appends before after t) (printed_is z k script b new shown past ran is) bytes;
+  written = subst (λ (t : List ℕ). Appends before after t) (printed_is report z k script b new shown past ran is) bytes;
 }
 
-pub writes_front : (z : Sizes) (k : Config) (script : List (List Command)) (b : Begun) (new shown : List RunView) (past : Past) (ended : Option Past) (before after : Option (List ℕ))
-    → Ran z k script b new past → shown ≡ new → Some past ≡ ended → AppendsFront before after (flat_map run_text shown) → WritesFrontOfRun z script ended before after
+pub writes_front : (report : Report) (z : Sizes) (k : Config) (script : List (List Command)) (b : Begun) (new shown : List RunView) (past : Past) (ended : Option Past) (before after : Option (List ℕ))
+    → Ran z k script b new past → shown ≡ new → Some past ≡ ended → AppendsFront before after (flat_map (run_text report) shown) → WritesFrontOfRun (text_of report) z script ended before after
 unfolding has_run
-writes_front z k script b new shown past ended before after ran is last bytes = record {
+writes_front report z k script b new shown past ended before after ran is last bytes = record {
   ran = has_run z k script b new past ended ran last;
-  written = subst (λ (t : List ℕ). AppendsFront before after t) (printed_is z k script b new shown past ran is) bytes;
+  written = subst (λ (t : List ℕ). AppendsFront before after t) (printed_is report z k script b new shown past ran is) bytes;
 }

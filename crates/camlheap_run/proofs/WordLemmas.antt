@@ -1,19 +1,15 @@
--- The sizes that words ask for, and what a run at these sizes has done.
-use Rattle.std.proofs.Common.{◌≡◌, ℕ, cond, List, refl, ap, ◌∙◌, subst, Some, None}
-use Rattle.std.specs.Prelude.{Option, is_none, option_and_then, unwrap_or}
-use Rattle.heap_model.specs.declared.command.Command.{Command}
+-- The sizes of a heap that words ask for are within the limits.
+use Rattle.std.proofs.Common.{◌≡◌, ℕ, zero, suc, ◌≤◌, cond, List, refl, ap, ◌∙◌, arith, Some, None}
+use Rattle.std.specs.Prelude.{Option, is_none, option_and_then, option_map}
 use Rattle.heap_model.specs.declared.state.Sizes.{Sizes}
-use Rattle.heap_model.specs.Domains.{class_count, first_outside}
-use Rattle.heap_rule.specs.Ending.{Past}
+use Rattle.heap_model.specs.Domains.{class_count, first_outside, sizes_of}
+use Rattle.command_line.specs.declared.job.Generated.{Generated}
+use Rattle.command_line.specs.declared.job.Job.{Job}
+use Rattle.command_line.specs.declared.job.Job.TheVariants.{Run}
 use Rattle.command_line.specs.declared.options.Given.{Given}
+use Rattle.command_line.specs.Jobs.{IsGenerable, asked_job, load_sizes}
 use Rattle.command_line.specs.RunWords.{run_given, run_sizes, sizes_given, if_within_limits}
-use Rattle.camlheap_run.specs.Words.{asked_sizes, default_sizes}
-use Rattle.camlheap_run.specs.Reading.{ReadsScript}
 use Rattle.camlheap_run.specs.Running.{AreRunSizes}
-use Rattle.camlheap_run.specs.Outcome.{WritesRun, WritesFrontOfRun, RunsToEnd, StopsWriting}
-
-pub asked_is : (words : List (List ℕ)) (z : Sizes) → Some z ≡ run_sizes words → z ≡ asked_sizes words
-asked_is words z taken = ap (λ (o : Option Sizes). unwrap_or o default_sizes) taken
 
 within : (y z : Sizes) (o : Option ℕ) → first_outside y ≡ o → y.classes ≡ class_count → Some z ≡ cond (is_none o) (Some y) None → AreRunSizes z
 within y z None fits six taken =
@@ -30,12 +26,27 @@ given_sizes (Some g) z taken = within (sizes_given g) z (first_outside (sizes_gi
 pub run_sizes_fit : (words : List (List ℕ)) (z : Sizes) → Some z ≡ run_sizes words → AreRunSizes z
 run_sizes_fit words z taken = given_sizes (run_given words) z taken
 
-pub runs_asked : (words : List (List ℕ)) (z : Sizes) (script : List (List Command)) (ended : Option Past) (left_before left_after before after : Option (List ℕ)) → Some z ≡ run_sizes words
-    → ReadsScript z.domains left_before left_after script → WritesRun z script ended before after → RunsToEnd (asked_sizes words) ended left_before left_after before after
-runs_asked words z script ended left_before left_after before after taken reads writes =
-    subst (λ (y : Sizes). RunsToEnd y ended left_before left_after before after) (asked_is words z taken) (record { script = script; reads = reads; writes = writes })
+of_run : (o : Option Sizes) (z : Sizes) → option_map Run o ≡ Some (Run z) → Some z ≡ o
+of_run None z e = cc
+of_run (Some y) z e = let is : y ≡ z = cc in cc
 
-pub stops_asked : (words : List (List ℕ)) (z : Sizes) (script : List (List Command)) (ended : Option Past) (left_before left_after before after : Option (List ℕ)) → Some z ≡ run_sizes words
-    → ReadsScript z.domains left_before left_after script → WritesFrontOfRun z script ended before after → StopsWriting (asked_sizes words) ended left_before left_after before after
-stops_asked words z script ended left_before left_after before after taken reads writes =
-    subst (λ (y : Sizes). StopsWriting y ended left_before left_after before after) (asked_is words z taken) (record { script = script; reads = reads; writes = writes })
+-- the sizes of a run that words ask for are within their limits
+pub asked_fit : (words : List (List ℕ)) (z : Sizes) → asked_job words ≡ Some (Run z) → AreRunSizes z
+asked_fit words z e = run_sizes_fit words z (of_run (run_sizes words) z e)
+
+-- the usual sizes fit each number of domains
+usual : (n : ℕ) → 1 ≤ n → n ≤ 8 → first_outside (sizes_of n 512 32768 class_count) ≡ None
+usual zero some few = absurd (omega arith)
+usual 1 some few = refl
+usual 2 some few = refl
+usual 3 some few = refl
+usual 4 some few = refl
+usual 5 some few = refl
+usual 6 some few = refl
+usual 7 some few = refl
+usual 8 some few = refl
+usual (suc (suc (suc (suc (suc (suc (suc (suc (suc n))))))))) some few = absurd (omega arith)
+
+-- so a generated script has a heap
+pub load_fits : (g : Generated) → IsGenerable g → AreRunSizes (load_sizes g)
+load_fits g can = record { limits = usual g.domains can.some can.domains; classes = refl }

@@ -2,11 +2,15 @@
 use Rattle.std.specs.Prelude.{◌≡◌, ℕ, ◌⊎◌, List, Option, Some}
 use Rattle.std.specs.Io.KnownBytes.{Appends}
 use Rattle.heap_model.specs.declared.command.Command.{Command}
+use Rattle.heap_model.specs.declared.entry.Entry.{Entry}
 use Rattle.heap_model.specs.declared.state.Sizes.{Sizes}
-use Rattle.heap_model.specs.Output.{output}
+use Rattle.heap_model.specs.Output.{output, summary}
 use Rattle.heap_rule.specs.Ending.{Past}
 use Rattle.camlheap_run.specs.declared.status.Status.{Status}
-use Rattle.camlheap_run.specs.declared.status.Status.TheVariants.{Done, WriteFault, Memory}
+use Rattle.camlheap_run.specs.declared.status.Status.TheVariants.{Done, Usage, WriteFault, Memory}
+use Rattle.command_line.specs.declared.job.Generated.{Generated}
+use Rattle.command_line.specs.Jobs.{load_sizes}
+use Rattle.camlheap_run.specs.Generating.{script_of}
 use Rattle.camlheap_run.specs.Reading.{ReadsScript}
 use Rattle.camlheap_run.specs.Writing.{AppendsFront}
 use Rattle.camlheap_run.specs.Run.{IsRunOf}
@@ -18,27 +22,35 @@ pub record HasRun (z : Sizes) (script : List (List Command)) (ended : Option Pas
   pub sizes : past.sizes ≡ z
   pub run : IsRunOf z script past.history
 
--- such a run, and what its history prints was written
-pub record WritesRun (z : Sizes) (script : List (List Command)) (ended : Option Past) (before after : Option (List ℕ)) : Type 0 where
+-- such a run, and the text of its history was written
+pub record WritesRun (text : Sizes → List Entry → List ℕ) (z : Sizes) (script : List (List Command)) (ended : Option Past) (before after : Option (List ℕ)) : Type 0 where
   pub ran : HasRun z script ended
-  pub written : Appends before after (output z ran.past.history)
+  pub written : Appends before after (text z ran.past.history)
 
--- such a run, and a front part of what its history prints was written
-pub record WritesFrontOfRun (z : Sizes) (script : List (List Command)) (ended : Option Past) (before after : Option (List ℕ)) : Type 0 where
+-- such a run, and a front part of the text of its history was written
+pub record WritesFrontOfRun (text : Sizes → List Entry → List ℕ) (z : Sizes) (script : List (List Command)) (ended : Option Past) (before after : Option (List ℕ)) : Type 0 where
   pub ran : HasRun z script ended
-  pub written : AppendsFront before after (output z ran.past.history)
+  pub written : AppendsFront before after (text z ran.past.history)
 
 -- Done: the source was read to its end, its bytes spell a script, a heap made a run of it, and what its history prints was written
 pub record RunsToEnd (z : Sizes) (ended : Option Past) (left_before left_after written_before written_after : Option (List ℕ)) : Type 0 where
   pub script : List (List Command)
   pub reads : ReadsScript z.domains left_before left_after script
-  pub writes : WritesRun z script ended written_before written_after
+  pub writes : WritesRun output z script ended written_before written_after
 
 -- WriteFault: the same, and a front part was written
 pub record StopsWriting (z : Sizes) (ended : Option Past) (left_before left_after written_before written_after : Option (List ℕ)) : Type 0 where
   pub script : List (List Command)
   pub reads : ReadsScript z.domains left_before left_after script
-  pub writes : WritesFrontOfRun z script ended written_before written_after
+  pub writes : WritesFrontOfRun output z script ended written_before written_after
+
+-- Done of a generated script: a heap made a run of it, and the summary of its history was written
+abbrev pub LoadsToEnd : Generated → Option Past → Option (List ℕ) → Option (List ℕ) → Type 0
+LoadsToEnd g ended before after = WritesRun summary (load_sizes g) (script_of g) ended before after
+
+-- WriteFault of a generated script: the same, and a front part was written
+abbrev pub StopsLoading : Generated → Option Past → Option (List ℕ) → Option (List ℕ) → Type 0
+StopsLoading g ended before after = WritesFrontOfRun summary (load_sizes g) (script_of g) ended before after
 
 -- one of two answers
 abbrev pub IsEither : {A : Type 0} → A → A → A → Type 0
@@ -67,3 +79,8 @@ IsRunAnswer (Done ended) = Unit {0}
 IsRunAnswer (WriteFault ended) = Unit {0}
 IsRunAnswer Memory = Unit {0}
 IsRunAnswer _ = ⊥
+
+-- what a run of the script that is read answers: any status but that of words
+abbrev pub IsSourceAnswer : Status → Type 0
+IsSourceAnswer Usage = ⊥
+IsSourceAnswer _ = Unit {0}

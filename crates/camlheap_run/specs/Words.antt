@@ -1,17 +1,14 @@
--- The words of the command line, behind the program's name: their grammar, and what they ask for.
-use Rattle.std.specs.Prelude.{ℕ, List, IsSome, unwrap_or}
+-- What the words of the command line ask for.
+use Rattle.std.specs.Prelude.{Option, Some}
 use Rattle.heap_model.specs.declared.state.Sizes.{Sizes}
-use Rattle.command_line.specs.Options.{nothing_read}
-use Rattle.command_line.specs.RunWords.{run_sizes, sizes_given}
+use Rattle.command_line.specs.declared.job.Job.{Job}
+use Rattle.command_line.specs.declared.job.Job.TheVariants.{Run}
 
--- the words of a run
-abbrev pub AreRunWords : List (List ℕ) → Type 0
-AreRunWords words = IsSome (run_sizes words)
+-- the words ask for a run of the script that is read, and this holds of the sizes of its heap
+abbrev pub AsksToRun : Option Job → (Sizes → Type 0) → Type 0
+AsksToRun (Some (Run z)) Holds = Holds z
+AsksToRun _ Holds = ⊥
 
--- the sizes of a heap where the words say nothing
-abbrev pub default_sizes : Sizes
-default_sizes = sizes_given nothing_read.given
-
--- the sizes of the heap that the words ask for
-abbrev pub asked_sizes : List (List ℕ) → Sizes
-asked_sizes words = unwrap_or (run_sizes words) default_sizes
+-- the words ask for such a run
+abbrev pub ReadsSource : Option Job → Type 0
+ReadsSource job = AsksToRun job (λ z. Unit {0})

@@ -3,9 +3,15 @@
 
 mod begin;
 mod end;
+mod generating;
+mod load;
+mod putting;
 mod reading;
+mod report;
 mod run;
+mod source;
 mod status;
+mod summary;
 mod top;
 mod writing;
 

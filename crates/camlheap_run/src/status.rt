@@ -1,11 +1,11 @@
 //! How a run of the program ended, as a number and as a line.
-ghost use Rattle.std.specs.Prelude.{◌≡◌, ◌≤◌, ◌+◌, ◌++◌, take, drop, length, decimal, codes};
+ghost use Rattle.std.specs.Prelude.{◌≡◌, ◌≤◌, ◌++◌, take, drop, length, decimal, codes};
 ghost use Rattle.camlheap_run.specs.Status.{exit_number, line_of, fault_text};
 ghost use Rattle.heap_model.specs.Output.{line};
 
+use crate::putting::{put, put_number};
 use heap_rule::Ended;
 use heap_text::ScriptFault;
-use itoa::Buffer;
 
 /// How a run of the program ended.
 #[derive(Drop)]
@@ -42,39 +42,15 @@ pub fn status_number(status: &Status) -> u8
 const USAGE: &[u8] =
     b"usage: camlheap run [--domains N] [--minor W] [--pools P] | gen BASE N C | load BASE N C\n";
 
-// Puts a text behind the first `at` bytes, and answers where it ends. What lies behind it stays as it was.
-fn put(out: &mut [u8; 128], at: usize, text: &[u8]) -> usize
-    requires { at + length text.now ≤ 128 }
-    ensures end { result ≡ at + length text.now }
-    ensures front { take result out.new ≡ take at out.old ++ text.now }
-    ensures rest { drop result out.new ≡ drop result out.old }
-{
-    let end = at + text.len();
-    out[at..end].copy_from_slice(text);
-    end
-}
-
-// Puts a number in decimal behind the first `at` bytes, and answers where it ends. What lies behind it stays as it was.
-fn put_number(out: &mut [u8; 128], at: usize, number: u32) -> usize
-    requires { at + 10 ≤ 128 }
-    ensures start { at ≤ result }
-    ensures end { result ≤ at + 10 }
-    ensures front { take result out.new ≡ take at out.old ++ decimal number }
-    ensures rest { drop result out.new ≡ drop result out.old }
-{
-    let mut buffer = Buffer::new();
-    put(out, at, buffer.format(number).as_bytes())
-}
-
 // Puts what the fault line of a script says of a line: its number, and a text.
 fn put_line(out: &mut [u8; 128], number: u32, text: &[u8]) -> usize
     requires { length text.now ≤ 32 }
-    ensures end { result ≤ 54 }
+    ensures end { result ≤ 64 }
     ensures front { take result out.new ≡ codes "script line " ++ decimal number ++ text.now }
     ensures rest { drop result out.new ≡ drop result out.old }
 {
     let at = put(out, 0, b"script line ");
-    let at = put_number(out, at, number);
+    let at = put_number(out, at, u64::from(number));
     put(out, at, text)
 }
 
@@ -89,7 +65,7 @@ fn put_fault(out: &mut [u8; 128], fault: &ScriptFault) -> usize
         ScriptFault::Order { line } => put_line(out, *line, b": section order\n"),
         ScriptFault::Range { line, which } => {
             let at = put_line(out, *line, b": number ");
-            let at = put_number(out, at, *which);
+            let at = put_number(out, at, u64::from(*which));
             put(out, at, b" out of range\n")
         }
         ScriptFault::TooLong { .. } => put(out, 0, b"script: more than 16777216 bytes\n"),

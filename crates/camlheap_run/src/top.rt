@@ -1,29 +1,40 @@
-//! The top call: the words, reading, the script, running and writing, in this order.
-ghost use Rattle.std.specs.Prelude.{◌≡◌, ◌≢◌, ◌<◌, ◌≤◌, List, Option, map, string_bytes};
+//! The top call, by what the words ask for.
+ghost use Rattle.std.specs.Prelude.{◌≡◌, ◌≢◌, ◌<◌, ◌≤◌, List, Option, None, Some, IsSome, map, string_bytes};
+ghost use Rattle.command_line.specs.Jobs.{asked_job};
+ghost use Rattle.command_line.specs.declared.job.Generated.{Generated};
 ghost use Rattle.heap_model.specs.declared.command.Command.{Command};
+ghost use Rattle.heap_model.specs.declared.state.Sizes.{Sizes};
 ghost use Rattle.heap_rule.specs.Ending.{Past};
 ghost use Rattle.heap_text.specs.declared.fault.ScriptFault.{ScriptFault};
 ghost use Rattle.outer_io.specs.Faults.{Rose};
-ghost use Rattle.camlheap_run.specs.Words.{AreRunWords, asked_sizes};
+ghost use Rattle.camlheap_run.specs.Generating.{WritesScript, WritesFrontOfScript};
+ghost use Rattle.camlheap_run.specs.Words.{AsksToRun, ReadsSource};
 ghost use Rattle.camlheap_run.specs.Reading.{ReadsFault, TellsScript, TellsFault};
-ghost use Rattle.camlheap_run.specs.Outcome.{RunsToEnd, StopsWriting, IsQuiet, IsWriteFault, IsEither, IsDoneOrMemory};
+ghost use Rattle.camlheap_run.specs.Outcome.{RunsToEnd, StopsWriting, LoadsToEnd, StopsLoading, IsQuiet, IsWriteFault, IsEither, IsDoneOrMemory};
 
 use crate::Status;
-use crate::reading::{NoScript, script_of};
-use crate::run::run;
-use command_line::read_words;
+use crate::generating::generate_script;
+use crate::load::load;
+use crate::source::run_source;
+use command_line::{Job, read_words};
 use outer_io::{Gate, Sink, Source};
 use std::alloc::{AllocError, Global};
 use std::sync::Wait;
 use std::thread::Threads;
 
-/// Reads a script from the source, runs its sections on one shared heap, in threads, and writes the replies to the
-/// sink: for each domain the line `domain d` and the lines of its replies.
+/// Does what the words ask for. `words` are the words of the command line behind the program's name, as
+/// [`words_fit`](crate::words_fit) has them:
 ///
-/// `words` are the words of the command line behind the program's name: `run`, and the options of
-/// [`words_fit`](crate::words_fit). The refusals come in the order in which the
-/// work is done: the words, reading, the script, running, writing. A read or a write that failed isn't tried again.
-/// Want of memory may come at any time before the first byte is written.
+/// - `run` reads a script from the source, runs its sections on one shared heap, in threads, and writes the replies to the
+///   sink: for each domain the line `domain d` and the lines of its replies.
+/// - `gen` reads nothing and writes a generated script.
+/// - `load` reads nothing, runs the generated script on a heap of the usual sizes, and writes a line for each domain:
+///   `domain d commands R ints I sum S`, with the number of its commands, the number of replies `int v` among theirs, and
+///   the sum of these `v` modulo 1,000,003, from 0 to 1,000,002.
+///
+/// The refusals come in the order in which the work is done: the words, reading, the script, running, writing. A read or a
+/// write that failed isn't tried again. Each line is handed to the sink by itself. Want of memory may come at any time before
+/// the first byte is written.
 ///
 /// It waits for its threads, and so may wait without end: nothing is said of when they run. The clauses also leave
 /// free which allocations are answered `full`.
@@ -35,46 +46,61 @@ pub fn camlheap<R: Threads + Wait + Sync, S: Source, K: Sink, G: Gate + Sync>(
     out: &mut K,
     gate: &G,
 ) -> Status
-    // What was read and written, where the run ended well, and where a write failed.
-    ensures done { (ended : Option Past) → result ≡ Status.Done ended → RunsToEnd (asked_sizes (map string_bytes words.now)) ended
-        (S.left src.old) (S.left src.new) (K.written out.old) (K.written out.new) }
-    ensures cut { (ended : Option Past) → result ≡ Status.WriteFault ended → StopsWriting (asked_sizes (map string_bytes words.now)) ended
-        (S.left src.old) (S.left src.new) (K.written out.old) (K.written out.new) }
+    // What was read and written by `run`, where it ended well, and where a write failed.
+    ensures done { (z : Sizes) (ended : Option Past) → asked_job (map string_bytes words.now) ≡ Some (Job.Run z) → result ≡ Status.Done ended
+        → RunsToEnd z ended (S.left src.old) (S.left src.new) (K.written out.old) (K.written out.new) }
+    ensures cut { (z : Sizes) (ended : Option Past) → asked_job (map string_bytes words.now) ≡ Some (Job.Run z) → result ≡ Status.WriteFault ended
+        → StopsWriting z ended (S.left src.old) (S.left src.new) (K.written out.old) (K.written out.new) }
+
+    // What was written by `gen`.
+    ensures generated { (g : Generated) (ended : Option Past) → asked_job (map string_bytes words.now) ≡ Some (Job.Gen g) → result ≡ Status.Done ended
+        → WritesScript g ended (K.written out.old) (K.written out.new) }
+    ensures generated_cut { (g : Generated) (ended : Option Past) → asked_job (map string_bytes words.now) ≡ Some (Job.Gen g) → result ≡ Status.WriteFault ended
+        → WritesFrontOfScript g ended (K.written out.old) (K.written out.new) }
+
+    // What was run and written by `load`.
+    ensures loaded { (g : Generated) (ended : Option Past) → asked_job (map string_bytes words.now) ≡ Some (Job.Load g) → result ≡ Status.Done ended
+        → LoadsToEnd g ended (K.written out.old) (K.written out.new) }
+    ensures loaded_cut { (g : Generated) (ended : Option Past) → asked_job (map string_bytes words.now) ≡ Some (Job.Load g) → result ≡ Status.WriteFault ended
+        → StopsLoading g ended (K.written out.old) (K.written out.new) }
+
+    // What stays: the sink where nothing was to be written, and the source where `run` isn't asked for.
     ensures quiet { IsQuiet result → out.new ≡ out.old }
+    ensures unread { ¬ (ReadsSource (asked_job (map string_bytes words.now))) → src.new ≡ src.old }
 
     // When each other answer comes.
-    ensures usage { result ≡ Status.Usage → ¬ (AreRunWords (map string_bytes words.now)) }
-    ensures words { result ≢ Status.Usage → AreRunWords (map string_bytes words.now) }
-    ensures unread { result ≡ Status.Usage → src.new ≡ src.old }
-    ensures script { (f : ScriptFault) → result ≡ Status.Script f → ReadsFault (asked_sizes (map string_bytes words.now)).domains (S.left src.old) (S.left src.new) f }
+    ensures usage { result ≡ Status.Usage → asked_job (map string_bytes words.now) ≡ None }
+    ensures words { result ≢ Status.Usage → IsSome (asked_job (map string_bytes words.now)) }
+    ensures script { (f : ScriptFault) → result ≡ Status.Script f
+        → AsksToRun (asked_job (map string_bytes words.now)) (λ z. ReadsFault z.domains (S.left src.old) (S.left src.new) f) }
     ensures reads { S.faults src.old ≤ S.faults src.new }
     ensures writes { K.faults out.old ≤ K.faults out.new }
-    ensures read_fault { result ≡ Status.ReadFault → Rose (S.faults src.old) (S.faults src.new) }
+    ensures read_fault { result ≡ Status.ReadFault → AsksToRun (asked_job (map string_bytes words.now)) (λ _. Rose (S.faults src.old) (S.faults src.new)) }
     ensures write_fault { (ended : Option Past) → result ≡ Status.WriteFault ended → Rose (K.faults out.old) (K.faults out.new) }
 
     // A read or a write that failed decides the answer: none is tried again.
     ensures read_failed { S.faults src.old < S.faults src.new → result ≡ Status.ReadFault }
     ensures write_failed { K.faults out.old < K.faults out.new → IsWriteFault result }
 
-    // Where the source tells its bytes, they decide, unless a read or a write fails or memory runs out.
-    ensures complete { (s : List (List Command)) → AreRunWords (map string_bytes words.now)
-        → TellsScript (asked_sizes (map string_bytes words.now)).domains (S.left src.old) s
+    // Where the source tells its bytes, they decide what `run` answers, unless a read or a write fails or memory runs out.
+    ensures complete { (z : Sizes) (s : List (List Command)) → asked_job (map string_bytes words.now) ≡ Some (Job.Run z)
+        → TellsScript z.domains (S.left src.old) s
         → ¬ (Rose (S.faults src.old) (S.faults src.new)) → ¬ (Rose (K.faults out.old) (K.faults out.new))
         → IsDoneOrMemory result }
-    ensures refused { (f : ScriptFault) → AreRunWords (map string_bytes words.now)
-        → TellsFault (asked_sizes (map string_bytes words.now)).domains (S.left src.old) f
+    ensures refused { (z : Sizes) (f : ScriptFault) → asked_job (map string_bytes words.now) ≡ Some (Job.Run z)
+        → TellsFault z.domains (S.left src.old) f
         → ¬ (Rose (S.faults src.old) (S.faults src.new))
         → IsEither result (Status.Script f) Status.Memory }
+
+    // `gen` and `load` are done, unless a write fails or memory runs out.
+    ensures complete_unread { IsSome (asked_job (map string_bytes words.now)) → ¬ (ReadsSource (asked_job (map string_bytes words.now)))
+        → ¬ (Rose (K.faults out.old) (K.faults out.new)) → IsDoneOrMemory result }
 {
-    let sizes = match read_words(alloc, words) {
-        Ok(Some(sizes)) => sizes,
-        Ok(None) => return Status::Usage,
-        Err(AllocError) => return Status::Memory,
-    };
-    match script_of(alloc, sizes.domains, src) {
-        Ok(script) => run(rt, alloc, &sizes, &script, out, gate),
-        Err(NoScript::ReadFault) => Status::ReadFault,
-        Err(NoScript::Refused(fault)) => Status::Script(fault),
-        Err(NoScript::Memory) => Status::Memory,
+    match read_words(alloc, words) {
+        Ok(Some(Job::Run(sizes))) => run_source(rt, alloc, &sizes, src, out, gate),
+        Ok(Some(Job::Gen(generated))) => generate_script(alloc, &generated, out),
+        Ok(Some(Job::Load(generated))) => load(rt, alloc, &generated, out, gate),
+        Ok(None) => Status::Usage,
+        Err(AllocError) => Status::Memory,
     }
 }

@@ -1,17 +1,16 @@
-//! Hands the text of a run to a sink, line by line.
-ghost use Rattle.std.specs.Prelude.{◌++◌, length, flat_map};
+//! Hands text to a sink, line by line.
+ghost use Rattle.std.specs.Prelude.{◌++◌, length};
 ghost use Rattle.heap_model.specs.Output.{line, reply_text, printed};
 ghost use Rattle.heap_text.specs.Spelling.{heading_text};
 ghost use Rattle.outer_io.specs.Faults.{HasCause};
-ghost use Rattle.camlheap_run.specs.Writing.{Writes, run_text};
+ghost use Rattle.camlheap_run.specs.Writing.{Writes};
 
-use domain_turns::DomainRun;
 use heap_model::reply::Reply;
 use heap_text::{Line, print_heading, print_reply};
 use outer_io::{Failed, Sink};
 
 // Hands a text to the sink, and again what a write leaves of it.
-fn write_all<K: Sink>(out: &mut K, text: &[u8]) -> Result<(), Failed>
+pub(crate) fn write_all<K: Sink>(out: &mut K, text: &[u8]) -> Result<(), Failed>
     ensures cause { HasCause (K.faults out.old) (K.faults out.new) result }
     ensures bytes { Writes (K.written out.old) (K.written out.new) result text.now }
 {
@@ -24,7 +23,7 @@ fn write_all<K: Sink>(out: &mut K, text: &[u8]) -> Result<(), Failed>
 }
 
 // Writes the heading of a domain.
-fn write_heading<K: Sink>(out: &mut K, domain: u32) -> Result<(), Failed>
+pub(crate) fn write_heading<K: Sink>(out: &mut K, domain: u32) -> Result<(), Failed>
     ensures cause { HasCause (K.faults out.old) (K.faults out.new) result }
     ensures bytes { Writes (K.written out.old) (K.written out.new) result (line (heading_text domain)) }
 {
@@ -55,21 +54,10 @@ fn write_replies<K: Sink>(out: &mut K, replies: &[Reply]) -> Result<(), Failed>
 }
 
 // Writes the section of a domain: its heading, and the lines of its replies.
-fn write_section<K: Sink>(out: &mut K, domain: u32, replies: &[Reply]) -> Result<(), Failed>
+pub(crate) fn write_section<K: Sink>(out: &mut K, domain: u32, replies: &[Reply]) -> Result<(), Failed>
     ensures cause { HasCause (K.faults out.old) (K.faults out.new) result }
     ensures bytes { Writes (K.written out.old) (K.written out.new) result (line (heading_text domain) ++ printed replies.now) }
 {
     write_heading(out, domain)?;
     write_replies(out, replies)
-}
-
-// Writes the sections of runs, in order.
-pub(crate) fn write_runs<K: Sink>(out: &mut K, runs: &[DomainRun]) -> Result<(), Failed>
-    ensures cause { HasCause (K.faults out.old) (K.faults out.new) result }
-    ensures bytes { Writes (K.written out.old) (K.written out.new) result (flat_map run_text runs.now) }
-{
-    'runs: for run in runs {
-        write_section(out, run.domain().number(), run.replies())?;
-    }
-    Ok(())
 }

@@ -1,13 +1,15 @@
 //! Any reader of std as a source.
-ghost use Rattle.std.specs.Prelude.{◌≡◌};
+ghost use Rattle.std.specs.Prelude.{◌≡◌, ◌≢◌, IfErr};
+ghost use Rattle.std.specs.IoError.{error_kind};
 ghost use Rattle.std.specs.Io.{ReadsAtMost};
 ghost use Rattle.std.specs.Io.KnownBytes.{ReadConsumes};
 ghost use Rattle.outer_io.specs.Faults.{HasCause, RisesAtErr};
 
 use crate::{Failed, Source};
-use std::io::Read;
+use std::io::{self, ErrorKind, Read};
 
 /// A reader with a count of its errors. Over memory it tells its bytes, over standard input nothing.
+/// A read that a signal interrupts is made again and counts for nothing.
 /// What the reader inside does is trusted: no clause says when it fails, or which bytes it gives where it tells none.
 #[derive(Drop)]
 pub struct StdSource<R> {
@@ -27,6 +29,25 @@ impl<R: Read> StdSource<R> {
     }
 }
 
+// A read, made again where a signal interrupts it.
+fn read_retrying<R: Read>(reader: &mut R, buf: &mut [u8]) -> io::Result<usize>
+    ensures bound { ReadsAtMost result buf.new }
+    ensures bytes { ReadConsumes (R.remaining reader.old) (R.remaining reader.new) result buf.new }
+    ensures retried { IfErr result (λ e. error_kind e ≢ ErrorKind.Interrupted) }
+{
+    'tries: for _ in 0..u64::MAX {
+        match reader.read(buf) {
+            Ok(count) => return Ok(count),
+            Err(error) => {
+                if error.kind() != ErrorKind::Interrupted {
+                    return Err(error);
+                }
+            }
+        }
+    }
+    Err(io::Error::from(ErrorKind::TimedOut))
+}
+
 impl<R: Read> Source for StdSource<R> {
     ghost left = { λ s. R.remaining s.inner };
 
@@ -40,7 +61,7 @@ impl<R: Read> Source for StdSource<R> {
         // Beyond the trait's: the count rises at a failure, and nowhere else.
         ensures faults { RisesAtErr self.old.faults self.new.faults result }
     {
-        match self.inner.read(buf) {
+        match read_retrying(&mut self.inner, buf) {
             Ok(count) => Ok(count),
             Err(_) => {
                 self.faults = self.faults.saturating_add(1);

@@ -32,11 +32,11 @@ returns-in-Ok-written-clause-done g c = λ ended is.
     let last : ◌≡◌ {A = Option Past} (Some c.end.result) ended = cc in
     let ran : Ran c.args.sizes.now c.config_of.result c.args.script.now c.in-Ok.begun c.drive-runs.result.items c.end.result =
     record { sizes = c.config_of.ensures.sizes; begun = c.in-Ok.ensures; long = c.drive-runs.ensures.length; each = c.drive-runs.ensures.each; ended = c.end.ensures } in
-    writes_run _ _ _ _ _ c.deref.result.now _ ended _ _ ran c.deref.ensures.value last c.in-Ok-written.ensures.bytes
+    writes_run c.args.report _ _ _ _ _ c.deref.result.now _ ended _ _ ran c.deref.ensures.value last c.in-Ok-written.ensures.bytes
 
 pub returns-in-Err-written-clause-cut : goal.returns-in-Err-written-clause-cut
 returns-in-Err-written-clause-cut g c = λ ended is.
     let last : ◌≡◌ {A = Option Past} (Some c.end.result) ended = cc in
     let ran : Ran c.args.sizes.now c.config_of.result c.args.script.now c.in-Ok.begun c.drive-runs.result.items c.end.result =
     record { sizes = c.config_of.ensures.sizes; begun = c.in-Ok.ensures; long = c.drive-runs.ensures.length; each = c.drive-runs.ensures.each; ended = c.end.ensures } in
-    writes_front _ _ _ _ _ c.deref.result.now _ ended _ _ ran c.deref.ensures.value last c.in-Err-written.ensures.bytes
+    writes_front c.args.report _ _ _ _ _ c.deref.result.now _ ended _ _ ran c.deref.ensures.value last c.in-Err-written.ensures.bytes

@@ -1,0 +1,41 @@
+//! Runs a generated script.
+ghost use Rattle.std.specs.Prelude.{◌≡◌, ◌<◌, ◌≤◌, Option};
+ghost use Rattle.heap_rule.specs.Ending.{Past};
+ghost use Rattle.outer_io.specs.Faults.{Rose};
+ghost use Rattle.command_line.specs.Jobs.{IsGenerable};
+ghost use Rattle.camlheap_run.specs.Outcome.{LoadsToEnd, StopsLoading, IsWriteFault, IsRunAnswer};
+
+use crate::Status;
+use crate::report::Report;
+use crate::run::run;
+use command_line::Generated;
+use heap_text::generate;
+use outer_io::{Gate, Sink};
+use std::alloc::{AllocError, Global};
+use std::sync::Wait;
+use std::thread::Threads;
+
+// Generates a script, runs it, and writes the summary. Nothing is read.
+pub(crate) fn load<R: Threads + Wait + Sync, K: Sink, G: Gate + Sync>(
+    rt: &R,
+    alloc: Global,
+    generated: &Generated,
+    out: &mut K,
+    gate: &G,
+) -> Status
+    requires { IsGenerable generated.now }
+    ensures later { K.faults out.old ≤ K.faults out.new }
+    ensures done { (ended : Option Past) → result ≡ Status.Done ended → LoadsToEnd generated.now ended (K.written out.old) (K.written out.new) }
+    ensures cut { (ended : Option Past) → result ≡ Status.WriteFault ended → StopsLoading generated.now ended (K.written out.old) (K.written out.new) }
+    ensures fault { (ended : Option Past) → result ≡ Status.WriteFault ended → Rose (K.faults out.old) (K.faults out.new) }
+    ensures failed { K.faults out.old < K.faults out.new → IsWriteFault result }
+    ensures quiet { result ≡ Status.Memory → out.new ≡ out.old }
+    ensures answers { IsRunAnswer result }
+{
+    let sizes = generated.sizes();
+    let script = match generate(alloc, generated.base, generated.domains, generated.commands) {
+        Ok(script) => script,
+        Err(AllocError) => return Status::Memory,
+    };
+    run(rt, alloc, &sizes, &script, Report::Summary, out, gate)
+}
