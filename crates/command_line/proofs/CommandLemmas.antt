@@ -1,11 +1,11 @@
 -- A parse of words that begin with the name of a command enters it.
-use Rattle.std.proofs.Common.{◌≡◌, ◌∙◌, ◌++◌, true, false, subst, List, [], ◌∷◌, Option, Some, None, append-nil, append_assoc, codes, refl, sym, ap}
+use Rattle.std.proofs.Common.{◌≡◌, ◌∙◌, ◌++◌, true, false, subst, List, [], ◌∷◌, Option, Some, append-nil, append_assoc, codes, refl, sym, ap}
 use Rattle.std.specs.Prelude.{◌&&◌, Bool, find, fold, is_some, option_map}
 use Rattle.std.specs.List.{list_all}
 use Rattle.std.specs.Option.{option_map_or}
 use Rattle.clap.specs.Simple.{Shape, built, entered, is_simple, label_of, names_of, rows_at, subcommand_of}
 use Rattle.clap.specs.Takes.{default_passes, entered_passes, is_valid, level_passes, settle_passes, takes, turn_passes, walk_passes}
-use Rattle.clap.specs.Walk.{Names, Row, Rule, Text, Walk, answers_to, nothing_held, walk, walk_from, walked, finished}
+use Rattle.clap.specs.Walk.{Names, Text, Walk, answers_to, nothing_held, walk, walk_from, walked, finished}
 use Rattle.command_line.specs.Commands.{camlheap_app, run_app}
 use Rattle.command_line.proofs.WalkLemmas.{built_below}
 use Rattle.command_line.proofs.TakesLemmas.{both_hold}
@@ -22,11 +22,13 @@ names = names_of (built camlheap_app)
 abbrev stopped_at : Text → List Text → Walk
 stopped_at name seen = record (walk_from nothing_held) { stopped = Some (name, seen) }
 
+-- once it has stopped, it only keeps the words
 stays : (name : Text) (seen words : List Text) → fold (walked [] names) (stopped_at name seen) words ≡ stopped_at name (seen ++ words)
 unfolding walked
 stays name seen [] = ap (stopped_at name) (sym (append-nil seen))
 stays name seen (word ∷ words) = stays name (seen ++ word ∷ []) words ∙ ap (stopped_at name) (append_assoc seen (word ∷ []) words)
 
+-- and none of them is refused there
 passes_on : (name : Text) (seen words : List Text) → walk_passes (built camlheap_app).top names (stopped_at name seen) words ≡ true
 unfolding walked walk_passes
 passes_on name seen [] = refl
@@ -42,6 +44,7 @@ pub record Enters (word : Text) (s : Shape) : Type 0 where
   pub passes : turn_passes (built camlheap_app).top names (walk_from nothing_held) word ≡ true
   pub found : find (λ (x : Shape). answers_to word (label_of x)) commands ≡ Some s
 
+-- where the walk ends
 ends : (word : Text) (s : Shape) (words : List Text) → Enters word s → walk [] names nothing_held (word ∷ words) ≡ stopped_at word words
 ends word s words e = ap (λ (w : Walk). fold (walked [] names) w words) e.stops ∙ stays word [] words
 
@@ -71,6 +74,7 @@ enters_takes word s words e passes =
     both_hold _ _ simple (subst (λ (o : Option (Text × List Text)). (entered_passes (built camlheap_app) o && level_passes (built camlheap_app).top names nothing_held (word ∷ words) (is_some (entered (built camlheap_app) o))) ≡ true)
     (sym stop) (both_hold _ _ below top))
 
+-- each of the three names is such a word
 pub enters_run : Enters (codes "run") (built_below run_app.top)
 unfolding walked
 enters_run = record { stops = refl; passes = refl; found = refl }

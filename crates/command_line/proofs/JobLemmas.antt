@@ -1,5 +1,5 @@
 -- What the words ask for: which reading it comes from, and its limits.
-use Rattle.std.proofs.Common.{◌≡◌, ◌∙◌, ◌≤◌, ◌*◌, ℕ, Bool, true, false, List, [], ◌∷◌, Option, Some, None, codes, inl, inr, refl, sym, ap, subst, arith}
+use Rattle.std.proofs.Common.{◌≡◌, ◌∙◌, ◌≤◌, ℕ, Bool, true, false, List, [], ◌∷◌, Option, Some, None, codes, inl, inr, refl, sym, ap, subst, arith}
 use Rattle.std.specs.Prelude.{◌⊎◌, IfSome, is_none, option_map, bytes_eq, nat_le, if◌then◌else◌}
 use Rattle.std.specs.Option.{option_or}
 use Rattle.std.proofs.lemmas.Bool.{and_parts}
@@ -27,6 +27,7 @@ or_cases : {A : Type 0} (a b : Option A) (x : A) → option_or a b ≡ Some x �
 or_cases None b x e = inr e
 or_cases (Some y) b x e = inl e
 
+-- what is asked for is given by its reading
 pub asked_reads : (words : List (List ℕ)) (j : Job) → asked_job words ≡ Some j → Reads words j
 asked_reads words j e = elim (or_cases (option_map Run (run_sizes words)) _ j e) [
   | inl run ↦ let z = some_map Run (run_sizes words) j run in subst (Reads words) z.2 z.1

@@ -19,7 +19,7 @@ use Rattle.command_line.specs.RunWords.{run_given, run_sizes, sizes_given, if_wi
 use Rattle.command_line.specs.declared.job.Job.{Job}
 use Rattle.command_line.specs.declared.job.Job.TheVariants.{Run, Gen, Load}
 use Rattle.command_line.specs.declared.job.Generated.{Generated}
-use Rattle.command_line.specs.Jobs.{IsGenerable, asked_job, generated_after, if_generable, is_generable, script_if}
+use Rattle.command_line.specs.Jobs.{IsGenerable, asked_job, generated_after, if_generable, script_if}
 use Rattle.command_line.specs.Spelled.{name_of, Choice, choice_words, Gives, SpellsRun, AsksForRun, AsksForScript, AsksFor}
 use Rattle.command_line.proofs.NumberLemmas.{number_read, number_again}
 use Rattle.command_line.proofs.JobLemmas.{Reads, asked_reads, chosen, fitting, generable, numbers_of, passes_test}

@@ -1,6 +1,6 @@
 -- The commands as `clap` parses the words, and what is read of a parse.
 use Rattle.std.specs.Prelude.{ℕ, true, List, Option, Some, None, option_map, option_and_then, codes, bytes_eq, if◌then◌else◌}
-use Rattle.clap.specs.Words.{App, Row, Rule, Shape, Text, first_of, new_app, new_rule, with_rule, with_subcommand}
+use Rattle.clap.specs.Words.{App, Row, Rule, Text, first_of, new_app, new_rule, with_rule, with_subcommand}
 use Rattle.command_line.specs.declared.job.Job.{Job}
 use Rattle.command_line.specs.declared.job.Job.TheVariants.{Run, Gen, Load}
 use Rattle.command_line.specs.declared.job.Generated.{Generated}

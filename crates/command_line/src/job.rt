@@ -24,7 +24,7 @@ pub enum Job {
 /// Which script is generated.
 #[derive(Clone, Copy, Debug, PartialEq, Eq)]
 pub struct Generated {
-    /// The number from which the script is drawn, 0 to 1,000,000.
+    /// The number from which the integers of the script count, 0 to 1,000,000.
     pub base: u32,
     /// How many domains have a section in the script, 1 to 8.
     pub domains: u32,

@@ -129,9 +129,9 @@ fn asked(words: &[String]) -> Option<Job>
 ///   limits of a heap: 1 to 8 domains, minor areas of 4096 to 65,536 words in whole pools of 4096,
 ///   and up to 2048 pools, among them those that are kept free for promotion and one more for each
 ///   class of each domain, and one. What isn't given is 2 domains, 32,768 words and 512 pools.
-/// - `gen BASE N C` or `load BASE N C`: a script that is generated from BASE, which is 0 to
+/// - `gen BASE N C` or `load BASE N C`: a script whose integers count from BASE, which is 0 to
 ///   1,000,000, for N domains, which are 1 to 8, with C commands for each domain, which are at most
-///   200,000 in all.
+///   200,000 in all domains.
 ///
 /// The numbers are decimal, without sign and without leading zeros. All other words are refused,
 /// also those that ask for help, or that hold the word `--`. Takes no memory.

@@ -1,6 +1,6 @@
-use Rattle.std.proofs.Common.{rules, ap, ap₂, ◌≡◌, ◌∙◌, codes}
+use Rattle.std.proofs.Common.{ap, ap₂, ◌∙◌}
 use Rattle.clap.specs.Simple.{App, app_of_fields}
-use Rattle.clap.specs.Words.{app_of, with_subcommand}
+use Rattle.clap.specs.Words.{with_subcommand}
 use Rattle.command_line.specs.Commands.{plain_app}
 use Rattle.command_line.proofs.parse.camlheap_command.Goals as goal
 

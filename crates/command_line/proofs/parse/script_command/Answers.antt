@@ -1,4 +1,4 @@
-use Rattle.std.proofs.Common.{rules, ap, ap₂, ◌≡◌, ◌∙◌, codes}
+use Rattle.std.proofs.Common.{rules, ap₂, ◌≡◌, ◌∙◌, codes}
 use Rattle.clap.specs.Words.{rule_of, with_rule}
 use Rattle.command_line.specs.Commands.{number_rule}
 use Rattle.command_line.proofs.parse.script_command.Goals as goal

@@ -1,4 +1,4 @@
-use Rattle.std.proofs.Common.{◌≡◌, ◌∙◌, rules, map}
+use Rattle.std.proofs.Common.{◌∙◌, rules, map}
 use Rattle.std.specs.Prelude.{string_bytes, IsSome}
 use Rattle.command_line.specs.Jobs.{asked_job}
 use Rattle.command_line.proofs.JobLemmas.{if_asked_within}
