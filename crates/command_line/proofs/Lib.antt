@@ -2,5 +2,8 @@ pub mod NumberLemmas
 pub mod RowLemmas
 pub mod WalkLemmas
 pub mod TakesLemmas
+pub mod ScriptLemmas
+pub mod CommandLemmas
+pub mod JobLemmas
 pub mod ReadLemmas
 pub mod SpelledLemmas

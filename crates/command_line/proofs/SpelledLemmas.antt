@@ -1,6 +1,8 @@
 -- Words ask for sizes exactly where they are spelled so.
-use Rattle.std.proofs.Common.{◌≡◌, ◌∙◌, ℕ, ◌+◌, ◌<◌, ◌^◌, suc, Bool, true, false, List, [], ◌∷◌, ◌++◌, take, drop, Option, Some, None, codes, decimal, refl, sym, ap, subst, arith}
+use Rattle.std.proofs.Common.{◌≡◌, ◌∙◌, ℕ, ◌+◌, ◌*◌, ◌<◌, ◌≤◌, ◌^◌, suc, Bool, true, false, List, [], ◌∷◌, ◌++◌, take, drop, Option, Some, None, codes, decimal, refl, sym, ap, subst, arith}
 use Rattle.std.specs.Prelude.{◌==◌, option_and_then, option_map, is_none, is_some, bytes_eq, flat_map, if◌then◌else◌}
+use Rattle.std.specs.Option.{option_or}
+use Rattle.std.proofs.Math.Nat.{mul-le-mul_right}
 use Rattle.std.specs.List.{before_first, after_first, position_or_len}
 use Rattle.std.proofs.lemmas.Bool.Decides.{Decides-eqb}
 use Rattle.std.proofs.lemmas.Slice.Eq.{bytes_eq-Decides}
@@ -14,9 +16,13 @@ use Rattle.command_line.specs.declared.options.Read.{Read}
 use Rattle.command_line.specs.Numbers.{option_number}
 use Rattle.command_line.specs.Options.{given_at, with_number, with_text, with_name, with_option, with_word, setting_named, given_by, nothing_read}
 use Rattle.command_line.specs.RunWords.{run_given, run_sizes, sizes_given, if_within_limits}
-use Rattle.command_line.specs.Spelled.{name_of, Choice, choice_words, Gives, SpellsRun, AsksFor}
+use Rattle.command_line.specs.declared.job.Job.{Job}
+use Rattle.command_line.specs.declared.job.Job.TheVariants.{Run, Gen, Load}
+use Rattle.command_line.specs.declared.job.Generated.{Generated}
+use Rattle.command_line.specs.Jobs.{IsGenerable, asked_job, generated_after, if_generable, script_if}
+use Rattle.command_line.specs.Spelled.{name_of, Choice, choice_words, Gives, SpellsRun, AsksForRun, AsksForScript, AsksFor}
 use Rattle.command_line.proofs.NumberLemmas.{number_read, number_again}
-use Rattle.command_line.proofs.ReadLemmas.{fitting}
+use Rattle.command_line.proofs.JobLemmas.{Reads, asked_reads, chosen, fitting, generable, numbers_of, passes_test}
 use Rattle.command_line.proofs.WalkLemmas.{named_is, some_of, some_map, if_new}
 
 -- a name, and the text behind its `=` if there is one
@@ -185,14 +191,10 @@ read_again : (cs : List Choice) (before after : Given) → Gives before cs after
 read_again [] before after g = ap Some g
 read_again (c ∷ cs) before after g = choice_again c before (Some after) (flat_map choice_words cs) c.in_one g.0 g.1 (read_again cs _ after g.2)
 
-run_first : (b : Bool) (words : List (List ℕ)) (given : Given) → (if b then given_by nothing_read words else None) ≡ Some given → (b ≡ true) × (given_by nothing_read words ≡ Some given)
-run_first true words given e = (refl, e)
-run_first false words given e = cc
-
 given_spelled : (words : List (List ℕ)) (given : Given) → run_given words ≡ Some given → SpellsRun words given
 given_spelled [] given e = cc
 given_spelled (word ∷ words) given e =
-    let p = run_first (bytes_eq word (codes "run")) words given e in
+    let p = chosen (bytes_eq word (codes "run")) (given_by nothing_read words) given e in
     let r = read_back words _ None given p.1 in
     record {
       choices = r.0;
@@ -203,15 +205,63 @@ given_spelled (word ∷ words) given e =
 spelled_given : (words : List (List ℕ)) (given : Given) → SpellsRun words given → run_given words ≡ Some given
 spelled_given words given s = ap run_given s.words_are ∙ read_again s.choices _ given s.gives
 
--- what words ask for, as they are spelled
-pub asked : (words : List (List ℕ)) (z : Sizes) → run_sizes words ≡ Some z → AsksFor words z
-asked words z e =
+-- ---- a run
+
+run_spelled : (words : List (List ℕ)) (z : Sizes) → run_sizes words ≡ Some z → AsksForRun words z
+run_spelled words z e =
     let g = some_of (λ (g : Given). if_within_limits (sizes_given g)) (run_given words) z e in
     let p = fitting (sizes_given g.0) z g.2 in
     record { given = g.0; spells = given_spelled words g.0 g.1; sizes = sym p.1; limits = subst (λ (y : Sizes). first_outside y ≡ None) p.1 p.0 }
 
-pub answered : (words : List (List ℕ)) (z : Sizes) → AsksFor words z → run_sizes words ≡ Some z
-answered words z a =
+spelled_run : (words : List (List ℕ)) (z : Sizes) → AsksForRun words z → run_sizes words ≡ Some z
+spelled_run words z a =
     let fits : first_outside (sizes_given a.given) ≡ None = subst (λ (y : Sizes). first_outside y ≡ None) a.sizes a.limits in
     ap (option_and_then (λ (g : Given). if_within_limits (sizes_given g))) (spelled_given words a.given a.spells)
     ∙ (ap (λ (o : Option ℕ). if is_none o then Some (sizes_given a.given) else None) fits ∙ ap Some (sym a.sizes))
+
+-- ---- a script
+
+script_spelled : (command : List ℕ) (words : List (List ℕ)) (g : Generated) → generated_after command words ≡ Some g → AsksForScript command words g
+script_spelled command words g e =
+    let h = numbers_of command words g e in
+    let base = (number_read h.base g.base h.base_is).0 in
+    let domains = (number_read h.domains g.domains h.domains_are).0 in
+    let commands = (number_read h.commands g.commands h.commands_are).0 in
+    record {
+      words_are = h.words_are ∙ ap (λ (t : List ℕ). command ∷ t ∷ h.domains ∷ h.commands ∷ []) base
+          ∙ ap (λ (t : List ℕ). command ∷ decimal g.base ∷ t ∷ h.commands ∷ []) domains ∙ ap (λ (t : List ℕ). command ∷ decimal g.base ∷ decimal g.domains ∷ t ∷ []) commands;
+      limits = generable g h.test;
+    }
+
+-- the commands of one domain are no more than those of all
+one_domain : (g : Generated) → IsGenerable g → g.commands ≤ 200000
+one_domain g is =
+    let each : 1 * g.commands ≤ g.domains * g.commands = mul-le-mul_right g.commands is.some in
+    let all : g.domains * g.commands ≤ 200000 = is.commands in
+    omega arith
+
+script_again : (g : Generated) → IsGenerable g → option_and_then if_generable (script_if (option_number (decimal g.base)) (option_number (decimal g.domains)) (option_number (decimal g.commands))) ≡ Some g
+script_again g is =
+    let base = number_again g.base (omega (arith, is.base)) in
+    let domains = number_again g.domains (omega (arith, is.domains)) in
+    let commands = number_again g.commands (omega (arith, one_domain g is)) in
+    ap (λ (o : Option ℕ). option_and_then if_generable (script_if o (option_number (decimal g.domains)) (option_number (decimal g.commands)))) base
+    ∙ (ap (λ (o : Option ℕ). option_and_then if_generable (script_if (Some g.base) o (option_number (decimal g.commands)))) domains
+    ∙ (ap (λ (o : Option ℕ). option_and_then if_generable (script_if (Some g.base) (Some g.domains) o)) commands
+    ∙ ap (λ (b : Bool). if b then Some g else None) (passes_test g is)))
+
+-- ---- each command
+
+read_spelled : (words : List (List ℕ)) (j : Job) → Reads words j → AsksFor words j
+read_spelled words (Run z) e = run_spelled words z e
+read_spelled words (Gen g) e = script_spelled (codes "gen") words g e
+read_spelled words (Load g) e = script_spelled (codes "load") words g e
+
+-- what words ask for, as they are spelled
+pub asked : (words : List (List ℕ)) (j : Job) → asked_job words ≡ Some j → AsksFor words j
+asked words j e = read_spelled words j (asked_reads words j e)
+
+pub answered : (words : List (List ℕ)) (j : Job) → AsksFor words j → asked_job words ≡ Some j
+answered words (Run z) a = ap (λ (o : Option Sizes). option_or (option_map Run o) (option_or (option_map Gen (generated_after (codes "gen") words)) (option_map Load (generated_after (codes "load") words)))) (spelled_run words z a)
+answered words (Gen g) a = ap asked_job a.words_are ∙ ap (λ (o : Option Generated). option_or (option_map Gen o) None) (script_again g a.limits)
+answered words (Load g) a = ap asked_job a.words_are ∙ ap (option_map Load) (script_again g a.limits)

@@ -2,9 +2,7 @@
 use Rattle.std.proofs.Common.{◌≡◌, ◌∙◌, ℕ, Bool, true, false, List, [], ◌∷◌, Option, Some, None, refl, sym, ap, subst}
 use Rattle.std.specs.Prelude.{◌&&◌, bytes_eq, fold}
 use Rattle.clap.specs.Lexer.{long_of, strip_byte}
-use Rattle.clap.specs.Simple.{built}
-use Rattle.clap.specs.Takes.{settle_passes, turn_passes, walk_passes, takes}
-use Rattle.clap.proofs.TakesLemmas.{leaf_takes}
+use Rattle.clap.specs.Takes.{settle_passes, turn_passes, walk_passes, level_passes}
 use Rattle.clap.specs.Walk.{Row, Text, Walk, idle, option, has_row, settled_rows, walked, walk_from, nothing_held}
 use Rattle.command_line.specs.declared.options.Setting.{Setting}
 use Rattle.command_line.specs.declared.options.Setting.TheVariants.{Domains, Minor, Pools}
@@ -12,9 +10,9 @@ use Rattle.command_line.specs.declared.options.Given.{Given}
 use Rattle.command_line.specs.declared.options.Read.{Read}
 use Rattle.command_line.specs.Numbers.{option_number}
 use Rattle.command_line.specs.Options.{given_at, with_word, with_name, setting_named, given_by, nothing_read}
-use Rattle.command_line.specs.RunCommand.{run_app}
+use Rattle.command_line.specs.Commands.{run_app}
 use Rattle.command_line.specs.Spelled.{name_of}
-use Rattle.command_line.proofs.WalkLemmas.{run_rules, walk_at, Follows, some_of, some_map, if_new, gone, named_is, none_shown, follows_word, step_joined, step_value, not_hyphens, number_plain, one_word}
+use Rattle.command_line.proofs.WalkLemmas.{built_below, run_rules, walk_at, Follows, some_of, some_map, if_new, gone, named_is, none_shown, follows_word, step_joined, step_value, not_hyphens, number_plain, one_word}
 
 -- the pending option may be used
 abbrev Settles : Walk → Type 0
@@ -28,7 +26,7 @@ value_settles Pools word rows skip position gone = rw gone refl
 
 -- a turn of the walk passes
 abbrev Passes : Walk → Text → Type 0
-Passes w word = turn_passes (built run_app).top [] w word ≡ true
+Passes w word = turn_passes (built_below run_app.top) [] w word ≡ true
 
 joined_passes : (s : Setting) (word text : Text) (pending : Option (Text × List Text)) (rows : List Row) (skip position : ℕ) → long_of word ≡ Some (name_of s, Some text) → Settles (walk_at pending rows skip idle position)
     → has_row (name_of s) (settled_rows run_rules pending rows) ≡ false → Passes (walk_at pending rows skip idle position) word
@@ -87,13 +85,13 @@ word_goes g None next w word f ready e =
     let name : long_of word ≡ Some (name_of s.0, p.0.1) = p.1 ∙ ap (λ (x : Text). Some (x, p.0.1)) (named_is p.0.0 s.0 s.1) in
     name_goes g s.0 p.0.1 next w word f ready name s.2
 
-both_hold : (a b : Bool) → a ≡ true → b ≡ true → (a && b) ≡ true
+pub both_hold : (a b : Bool) → a ≡ true → b ≡ true → (a && b) ≡ true
 both_hold true true p q = refl
 both_hold true false p q = q
 both_hold false b p q = p
 
 words_go : (words : List Text) (g : Given) (waiting : Option Setting) (w : Walk) (end : Given) → Follows g waiting w → Ready waiting w → given_by (record { given = g; waiting = waiting }) words ≡ Some end
-    → (walk_passes (built run_app).top [] w words ≡ true) × Settles (fold (walked run_rules []) w words)
+    → (walk_passes (built_below run_app.top) [] w words ≡ true) × Settles (fold (walked run_rules []) w words)
 unfolding walk_passes
 words_go [] g None w end f ready e = (refl, ready)
 words_go [] g (Some s) w end f ready e = cc
@@ -103,9 +101,9 @@ words_go (word ∷ words) g waiting w end f ready e =
     let rest = words_go words next.0.given next.0.waiting (walked run_rules [] w word) end (follows_word g waiting next.0 w word f next.1) goes.1 next.2 in
     (both_hold _ _ goes.0 rest.0, rest.1)
 
--- words that are taken are taken by the parse
-pub parse_takes : (words : List Text) (g : Given) → given_by nothing_read words ≡ Some g → takes run_app words ≡ true
-parse_takes words g e =
+-- words that are taken are taken by the command
+pub run_takes : (words : List Text) (g : Given) → given_by nothing_read words ≡ Some g → level_passes (built_below run_app.top) [] nothing_held words false ≡ true
+run_takes words g e =
     let f : Follows (record { domains = None; minor = None; pools = None }) None (walk_from nothing_held) = (None, [], 0, 1, refl, λ s. none_shown s) in
     let goes = words_go words _ None (walk_from nothing_held) g f refl e in
-    leaf_takes (built run_app) nothing_held words refl (both_hold _ _ goes.0 (both_hold _ _ goes.1 refl))
+    both_hold _ _ goes.0 (both_hold _ _ goes.1 refl)

@@ -5,8 +5,8 @@ use Rattle.std.proofs.lemmas.Bool.{and_parts}
 use Rattle.std.proofs.lemmas.Bool.Decides.{Decides-eqb}
 use Rattle.std.specs.Prelude.{◌==◌, not, option_and_then, option_map, is_some, bytes_eq, fold, if◌then◌else◌}
 use Rattle.clap.specs.Lexer.{long_of, strip_byte}
-use Rattle.clap.specs.Walk.{Row, Rule, Text, Walk, Waiting, idle, option, first_of, has_row, settled_rows, walked, walk_from, nothing_held, arg_by_id, used_by_id, with_default, default_rows, reading_by, with_values, without, more_values}
-use Rattle.clap.specs.Simple.{built, matches_of}
+use Rattle.clap.specs.Walk.{Row, Rule, Text, Walk, Waiting, idle, option, first_of, has_row, settled_rows, walked, walk_from, nothing_held, arg_by_id, used_by_id, with_default, default_rows, reading_by, with_values, without, more_values, rows_after}
+use Rattle.clap.specs.Simple.{Shape, built_leaf, inherited}
 use Rattle.clap.specs.declared.builder.value_parser.Reading.{Reading}
 use Rattle.clap.specs.declared.builder.value_parser.Reading.TheVariants.{AsWritten}
 use Rattle.clap.specs.declared.parser.matches.ValueSource.{ValueSource}
@@ -17,7 +17,7 @@ use Rattle.command_line.specs.declared.options.Given.{Given}
 use Rattle.command_line.specs.declared.options.Read.{Read}
 use Rattle.command_line.specs.Numbers.{option_number}
 use Rattle.command_line.specs.Options.{given_at, with_number, with_name, with_word, setting_named, given_by, nothing_read}
-use Rattle.command_line.specs.RunCommand.{run_app}
+use Rattle.command_line.specs.Commands.{run_app, camlheap_app}
 use Rattle.command_line.specs.Spelled.{name_of}
 use Rattle.std.proofs.lemmas.Slice.Eq.{bytes_eq-Decides}
 use Rattle.decimals.specs.Natural.{is_natural}
@@ -25,9 +25,13 @@ use Rattle.decimals.proofs.NaturalLemmas.{natural_is}
 use Rattle.command_line.proofs.NumberLemmas.{natural_of_number}
 use Rattle.command_line.proofs.RowLemmas.{at_row-missing, first_of-missing, first_of-added, first_of-other, has_row-other}
 
+-- a command below the program's, as a parse has it
+abbrev pub built_below : Shape → Shape
+built_below s = built_leaf (inherited camlheap_app.top s)
+
 -- the options as a parse has them
 abbrev pub run_rules : List Rule
-run_rules = (built run_app).top.rules
+run_rules = (built_below run_app.top).rules
 
 -- the option as a parse has it
 abbrev pub rule_for : Setting → Option Rule
@@ -242,10 +246,10 @@ defaults-none [] rows none = refl
 defaults-none (a ∷ rest) rows none = ap (λ (xs : List Row). fold with_default xs rest) (default-none (has_row a.id rows) a rows a.defaults none.0) ∙ defaults-none rest rows none.1
 
 -- a parse of words that are taken finds the numbers that they give
-pub finds : (words : List Text) (g : Given) → given_by nothing_read words ≡ Some g → (s : Setting) → read_of s (matches_of run_app words) ≡ given_at g s
+pub finds : (words : List Text) (g : Given) → given_by nothing_read words ≡ Some g → (s : Setting) → read_of s (rows_after run_rules [] words) ≡ given_at g s
 finds words g e s =
     let opening : AllShow (record { domains = None; minor = None; pools = None }) [] = λ t. none_shown t in
     let f = follows_words words _ None (walk_from nothing_held) g (None, [], 0, 1, refl, opening) e in
-    let rows : matches_of run_app words ≡ settled_rows run_rules f.0 f.1 =
+    let rows : rows_after run_rules [] words ≡ settled_rows run_rules f.0 f.1 =
     ap (λ (w : Walk). fold with_default (settled_rows run_rules w.held.pending w.held.rows) run_rules) f.4 ∙ defaults-none run_rules _ (refl, (refl, (refl, tt))) in
     ap (read_of s) rows ∙ shows-read (given_at g s) s _ (f.5 s)

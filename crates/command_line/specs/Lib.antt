@@ -1,5 +1,6 @@
 pub mod Numbers
 pub mod Options
-pub mod RunCommand
 pub mod RunWords
+pub mod Jobs
 pub mod Spelled
+pub mod Commands

@@ -1,4 +1,4 @@
--- The words of a run as they are spelled: `run`, and then options, each with its number.
+-- The words as they are spelled: `run` and options, each with its number, or `gen` or `load` and three numbers.
 use Rattle.std.specs.Prelude.{◌≡◌, ℕ, ◌<◌, ◌^◌, Bool, List, [], ◌∷◌, ◌++◌, None, codes, decimal, flat_map, if◌then◌else◌}
 use Rattle.heap_model.specs.declared.state.Sizes.{Sizes}
 use Rattle.heap_model.specs.Domains.{first_outside}
@@ -6,6 +6,10 @@ use Rattle.command_line.specs.declared.options.Setting.{Setting}
 use Rattle.command_line.specs.declared.options.Setting.TheVariants.{Domains, Minor, Pools}
 use Rattle.command_line.specs.declared.options.Given.{Given}
 use Rattle.command_line.specs.Options.{given_at, with_number}
+use Rattle.command_line.specs.declared.job.Job.{Job}
+use Rattle.command_line.specs.declared.job.Job.TheVariants.{Run, Gen, Load}
+use Rattle.command_line.specs.declared.job.Generated.{Generated}
+use Rattle.command_line.specs.Jobs.{IsGenerable}
 use Rattle.command_line.specs.RunWords.{sizes_given}
 
 -- the name of an option
@@ -38,8 +42,19 @@ pub record SpellsRun (words : List (List ℕ)) (given : Given) : Type 0 where
   pub gives : Gives (record { domains = None; minor = None; pools = None }) choices given
 
 -- the words are spelled so, and ask for these sizes, which are within the limits of a heap
-pub record AsksFor (words : List (List ℕ)) (z : Sizes) : Type 0 where
+pub record AsksForRun (words : List (List ℕ)) (z : Sizes) : Type 0 where
   pub given : Given
   pub spells : SpellsRun words given
   pub sizes : z ≡ sizes_given given
   pub limits : first_outside z ≡ None
+
+-- the words are this command and the three numbers of a script that may be asked for
+pub record AsksForScript (command : List ℕ) (words : List (List ℕ)) (g : Generated) : Type 0 where
+  pub words_are : words ≡ command ∷ decimal g.base ∷ decimal g.domains ∷ decimal g.commands ∷ []
+  pub limits : IsGenerable g
+
+-- the words are spelled so, and ask for this
+abbrev pub AsksFor : List (List ℕ) → Job → Type 0
+AsksFor words (Run z) = AsksForRun words z
+AsksFor words (Gen g) = AsksForScript (codes "gen") words g
+AsksFor words (Load g) = AsksForScript (codes "load") words g

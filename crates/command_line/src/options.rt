@@ -1,6 +1,16 @@
 //! The options of `run`, and what they give.
 ghost use Rattle.std.specs.Prelude.{◌≡◌, Option};
 ghost use Rattle.command_line.specs.Options.{given_at, setting_named, with_number};
+ghost use Rattle.command_line.specs.RunWords.{sizes_given};
+
+use heap_model::state::Sizes;
+use size_classes::CLASS_COUNT;
+
+const DOMAINS: u32 = 2;
+
+const MINOR_WORDS: u32 = 32768;
+
+const POOLS: u32 = 512;
 
 // An option of `run`.
 #[derive(Clone, Copy, Debug, PartialEq, Eq)]
@@ -60,5 +70,17 @@ impl Given {
             Setting::Pools => given.pools = Some(number),
         }
         given
+    }
+}
+
+// The sizes that the numbers ask for.
+pub(crate) fn sizes(given: Given) -> Sizes
+    ensures { result ≡ sizes_given given }
+{
+    Sizes {
+        domains: given.domains.unwrap_or(DOMAINS),
+        pools: given.pools.unwrap_or(POOLS),
+        minor_words: given.minor.unwrap_or(MINOR_WORDS),
+        classes: CLASS_COUNT as u32,
     }
 }

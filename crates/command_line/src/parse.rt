@@ -1,35 +1,69 @@
-//! The options of a run as `clap` reads them.
-ghost use Rattle.std.specs.Prelude.{◌≡◌, true, IfOk, IfErr, map, codes, string_bytes};
-ghost use Rattle.clap.specs.Words.{app_of, takes, kind_of, HasMatchesOf};
+//! The words of the command line as `clap` reads them.
+ghost use Rattle.std.specs.Prelude.{◌≡◌, false, true, IfOk, IfErr, map, string_bytes, option_and_then};
+ghost use Rattle.clap.specs.Words.{app_of, found_of, kind_of, rows_of, subcommand_rows_of, takes, HasMatchesOf};
+ghost use Rattle.clap.specs.declared.builder.command.Command.TheViews.{out-Command};
 ghost use Rattle.clap.specs.declared.error.kind.ErrorKind.TheVariants.{OutOfMemory};
-ghost use Rattle.command_line.specs.RunCommand.{run_app, read_in};
+ghost use Rattle.command_line.specs.Commands.{camlheap_app, given_in, job_at, number_in, run_app, script_app, script_in};
 
+use crate::job::{Generated, Job};
 use crate::number::number;
-use crate::options::Given;
+use crate::options::{Given, sizes};
 use clap::{Arg, ArgMatches, Command, Error};
 use std::alloc::{AllocError, Global};
 
-// The command `run`, of which the words behind it are parsed.
+// The command `run` with its options.
 fn run_command<'a>(alloc: Global) -> Result<Command<'a>, AllocError>
-    ensures { IfOk result (λ c. app_of c ≡ run_app) }
+    ensures shape { IfOk result (λ c. app_of c ≡ run_app) }
+    ensures local { IfOk result (λ c. (out-Command c).has_globals ≡ false) }
 {
     let domains = Arg::new(alloc, "domains").long("domains");
     let minor = Arg::new(alloc, "minor").long("minor");
     let pools = Arg::new(alloc, "pools").long("pools");
-    let named = Command::new(alloc, "run").no_binary_name(true);
-    let plain = named.disable_help_flag(true);
-    let one = plain.arg(domains)?;
+    let named = Command::new(alloc, "run");
+    let one = named.arg(domains)?;
     let two = one.arg(minor)?;
     let three = two.arg(pools)?;
     Ok(three)
 }
 
-// The matches of the words behind `run`. Words that the command takes fail for want of memory alone.
-pub(crate) fn matches_of<'a>(alloc: Global, words: &'a [String]) -> Result<ArgMatches<'a>, Error>
-    ensures matches { IfOk result (HasMatchesOf run_app (map string_bytes words.entry.now)) }
-    ensures memory { IfErr result (λ e. takes run_app (map string_bytes words.entry.now) ≡ true → kind_of e ≡ OutOfMemory) }
+// A command with the three numbers of a script.
+fn script_command<'a>(alloc: Global, name: &'a str) -> Result<Command<'a>, AllocError>
+    ensures shape { IfOk result (λ c. app_of c ≡ script_app name.entry.now) }
+    ensures local { IfOk result (λ c. (out-Command c).has_globals ≡ false) }
 {
-    let command = run_command(alloc)?;
+    let base = Arg::new(alloc, "base").required(true);
+    let domains = Arg::new(alloc, "domains").required(true);
+    let commands = Arg::new(alloc, "commands").required(true);
+    let named = Command::new(alloc, name);
+    let one = named.arg(base)?;
+    let two = one.arg(domains)?;
+    let three = two.arg(commands)?;
+    Ok(three)
+}
+
+// The program's command, of which the words behind the program's name are parsed.
+fn camlheap_command<'a>(alloc: Global) -> Result<Command<'a>, AllocError>
+    ensures { IfOk result (λ c. app_of c ≡ camlheap_app) }
+{
+    let run = run_command(alloc)?;
+    let generate = script_command(alloc, "gen")?;
+    let load = script_command(alloc, "load")?;
+    let named = Command::new(alloc, "camlheap").no_binary_name(true);
+    let without_flag = named.disable_help_flag(true);
+    let plain = without_flag.disable_help_subcommand(true);
+    let asking = plain.subcommand_required(true);
+    let one = asking.subcommand(run)?;
+    let two = one.subcommand(generate)?;
+    let three = two.subcommand(load)?;
+    Ok(three)
+}
+
+// The matches of the words. Words that the command takes fail for want of memory alone.
+pub(crate) fn matches_of<'a>(alloc: Global, words: &'a [String]) -> Result<ArgMatches<'a>, Error>
+    ensures matches { IfOk result (HasMatchesOf camlheap_app (map string_bytes words.entry.now)) }
+    ensures memory { IfErr result (λ e. takes camlheap_app (map string_bytes words.entry.now) ≡ true → kind_of e ≡ OutOfMemory) }
+{
+    let command = camlheap_command(alloc)?;
     command.try_get_matches_from(words)
 }
 
@@ -40,22 +74,51 @@ pub(crate) fn want_of_memory(_error: Error) -> AllocError
     AllocError
 }
 
-// The number of an option.
-fn number_in(matches: &ArgMatches<'_>, name: &str) -> Option<u32>
-    ensures { result ≡ read_in matches.now name.now }
+// The number under a name.
+fn number_found(matches: &ArgMatches<'_>, name: &str) -> Option<u32>
+    ensures { result ≡ number_in (rows_of (found_of matches.now)) name.now }
 {
     number(matches.get_str(name)?)
 }
 
-// The numbers of all options.
-pub(crate) fn given_in(matches: &ArgMatches<'_>) -> Given
-    ensures domains { result.domains ≡ read_in matches.now (codes "domains") }
-    ensures minor { result.minor ≡ read_in matches.now (codes "minor") }
-    ensures pools { result.pools ≡ read_in matches.now (codes "pools") }
+// The numbers of all options of `run`.
+fn given_found(matches: &ArgMatches<'_>) -> Given
+    ensures { result ≡ given_in (rows_of (found_of matches.now)) }
 {
     Given {
-        domains: number_in(matches, "domains"),
-        minor: number_in(matches, "minor"),
-        pools: number_in(matches, "pools"),
+        domains: number_found(matches, "domains"),
+        minor: number_found(matches, "minor"),
+        pools: number_found(matches, "pools"),
     }
+}
+
+// The three numbers of a script.
+fn script_found(matches: &ArgMatches<'_>) -> Option<Generated>
+    ensures { result ≡ script_in (rows_of (found_of matches.now)) }
+{
+    Some(Generated {
+        base: number_found(matches, "base")?,
+        domains: number_found(matches, "domains")?,
+        commands: number_found(matches, "commands")?,
+    })
+}
+
+// What the command `name` is asked for, by its matches.
+fn job_in(name: &str, matches: &ArgMatches<'_>) -> Option<Job>
+    ensures { result ≡ job_at (name.now, rows_of (found_of matches.now)) }
+{
+    match name {
+        "run" => Some(Job::Run(sizes(given_found(matches)))),
+        "gen" => Some(Job::Gen(script_found(matches)?)),
+        "load" => Some(Job::Load(script_found(matches)?)),
+        _ => None,
+    }
+}
+
+// What the command that a parse entered is asked for.
+pub(crate) fn job_found(matches: &ArgMatches<'_>) -> Option<Job>
+    ensures { result ≡ option_and_then job_at (subcommand_rows_of matches.now) }
+{
+    let (name, entered) = matches.subcommand()?;
+    job_in(name, entered)
 }

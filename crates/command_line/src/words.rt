@@ -1,23 +1,18 @@
 //! Which lists of words are taken.
-ghost use Rattle.std.specs.Prelude.{◌≡◌, ◌↔◌, IsTrue, IsSome, IfOk, IfErr, Some, drop, map, string_bytes, option_map};
+ghost use Rattle.std.specs.Prelude.{◌≡◌, ◌↔◌, IsTrue, IsSome, IfSome, IfOk, IfErr, Some, map, string_bytes, option_map};
+ghost use Rattle.command_line.specs.declared.job.Job.{Job};
+ghost use Rattle.command_line.specs.Jobs.{asked_job, generated_after, IsWithinRange};
 ghost use Rattle.command_line.specs.Options.{given_by, nothing_read, with_name, with_text, with_word};
-ghost use Rattle.command_line.specs.RunWords.{run_sizes, sizes_given};
+ghost use Rattle.command_line.specs.RunWords.{run_sizes};
 ghost use Rattle.command_line.specs.Spelled.{AsksFor};
-ghost use Rattle.heap_model.specs.declared.state.Sizes.{Sizes};
 
+use crate::job::{Generated, Job};
 use crate::long::long_option;
 use crate::number::number;
-use crate::options::{Given, Read, Setting, named_setting};
-use crate::parse::{given_in, matches_of, want_of_memory};
+use crate::options::{Given, Read, Setting, named_setting, sizes};
+use crate::parse::{job_found, matches_of, want_of_memory};
 use heap_model::state::Sizes;
-use size_classes::CLASS_COUNT;
 use std::alloc::{AllocError, Global};
-
-const DOMAINS: u32 = 2;
-
-const MINOR_WORDS: u32 = 32768;
-
-const POOLS: u32 = 512;
 
 // The number that an option was given is this text.
 fn read_text(read: Read, text: &str, setting: Setting) -> Option<Read>
@@ -78,69 +73,87 @@ fn given(words: &[String]) -> Option<Given>
     }
 }
 
-// The sizes that the numbers ask for.
-fn sizes(given: Given) -> Sizes
-    ensures { result ≡ sizes_given given }
+// The sizes that the words of a run ask for.
+fn run_asked(words: &[String]) -> Option<Sizes>
+    ensures { result ≡ run_sizes (map string_bytes words.now) }
 {
-    Sizes {
-        domains: given.domains.unwrap_or(DOMAINS),
-        pools: given.pools.unwrap_or(POOLS),
-        minor_words: given.minor.unwrap_or(MINOR_WORDS),
-        classes: CLASS_COUNT as u32,
-    }
-}
-
-// Whether these are the words of a run.
-fn are_taken(words: &[String]) -> bool
-    ensures { IsTrue result ↔ IsSome (run_sizes (map string_bytes words.now)) }
-{
-    let Some((first, rest)) = words.split_first() else {
-        return false;
-    };
+    let (first, rest) = words.split_first()?;
     if first.as_str() != "run" {
-        return false;
+        return None;
     }
-    match given(rest) {
-        Some(given) => sizes(given).first_outside().is_none(),
-        None => false,
+    let sizes = sizes(given(rest)?);
+    if sizes.first_outside().is_some() {
+        return None;
     }
+    Some(sizes)
 }
 
-/// Whether the words after the program's name are those of a run: `run`, followed by any of
-/// `--domains N`, `--minor W` and `--pools P`, in any order, each at most once, each also as
-/// `--domains=N` and so on. The numbers are decimal, without sign and without leading zeros, and
-/// the sizes that they ask for are within the limits of a heap: 1 to 8 domains, minor areas of
-/// 4096 to 65,536 words in whole pools of 4096, and up to 2048 pools, among them those that are
-/// kept free for promotion and one more for each class of each domain, and one. What isn't given is
-/// 2 domains, 32,768 words and 512 pools. Takes no memory.
+// The script that the words ask for, where they are this command and three numbers.
+fn script_asked(words: &[String], command: &str) -> Option<Generated>
+    ensures { result ≡ generated_after command.now (map string_bytes words.now) }
+{
+    let [word, base, domains, commands] = words else {
+        return None;
+    };
+    if word.as_str() != command {
+        return None;
+    }
+    let script = Generated {
+        base: number(base.as_str())?,
+        domains: number(domains.as_str())?,
+        commands: number(commands.as_str())?,
+    };
+    if !script.is_generable() {
+        return None;
+    }
+    Some(script)
+}
+
+// What the words ask for.
+fn asked(words: &[String]) -> Option<Job>
+    ensures { result ≡ asked_job (map string_bytes words.now) }
+{
+    if let Some(sizes) = run_asked(words) {
+        return Some(Job::Run(sizes));
+    }
+    if let Some(script) = script_asked(words, "gen") {
+        return Some(Job::Gen(script));
+    }
+    Some(Job::Load(script_asked(words, "load")?))
+}
+
+/// Whether the words after the program's name are taken. They are one of these:
+///
+/// - `run`, followed by any of `--domains N`, `--minor W` and `--pools P`, in any order, each at
+///   most once, each also as `--domains=N` and so on. The sizes that they ask for are within the
+///   limits of a heap: 1 to 8 domains, minor areas of 4096 to 65,536 words in whole pools of 4096,
+///   and up to 2048 pools, among them those that are kept free for promotion and one more for each
+///   class of each domain, and one. What isn't given is 2 domains, 32,768 words and 512 pools.
+/// - `gen BASE N C` or `load BASE N C`: a script whose integers count from BASE, which is 0 to
+///   1,000,000, for N domains, which are 1 to 8, with C commands for each domain, which are at most
+///   200,000 in all domains.
+///
+/// The numbers are decimal, without sign and without leading zeros. All other words are refused,
+/// also those that ask for help, or that hold the word `--`. Takes no memory.
 pub fn words_fit(words: &[String]) -> bool
-    ensures taken { IsTrue result ↔ IsSome (run_sizes (map string_bytes words.now)) }
-    ensures spelled { (z : Sizes) → (run_sizes (map string_bytes words.now) ≡ Some z) ↔ AsksFor (map string_bytes words.now) z }
+    ensures taken { IsTrue result ↔ IsSome (asked_job (map string_bytes words.now)) }
+    ensures spelled { (j : Job) → (asked_job (map string_bytes words.now) ≡ Some j) ↔ AsksFor (map string_bytes words.now) j }
 {
-    are_taken(words)
+    asked(words).is_some()
 }
 
-// The words behind the first.
-fn behind_first(words: &[String]) -> &[String]
-    ensures { map string_bytes result.now ≡ drop 1 (map string_bytes words.now) }
-{
-    match words.split_first() {
-        Some((_, rest)) => rest,
-        None => words,
-    }
-}
-
-/// The sizes that the words of a run ask for, as [`words_fit`] has them, and `None` exactly where it
-/// refuses the words. Fails for want of memory alone, and only where it takes the words.
-pub fn read_words(alloc: Global, words: &[String]) -> Result<Option<Sizes>, AllocError>
-    ensures sizes { IfOk result (λ s. s ≡ run_sizes (map string_bytes words.now)) }
-    ensures refused { IfErr result (λ _. IsSome (run_sizes (map string_bytes words.now))) }
+/// What the words ask for, as [`words_fit`] has it, and `None` exactly where it refuses the words.
+/// Fails for want of memory alone, and only where it takes the words.
+pub fn read_words(alloc: Global, words: &[String]) -> Result<Option<Job>, AllocError>
+    ensures job { IfOk result (λ j. j ≡ asked_job (map string_bytes words.now)) }
+    ensures limits { IfOk result (λ j. IfSome j IsWithinRange) }
+    ensures refused { IfErr result (λ _. IsSome (asked_job (map string_bytes words.now))) }
 {
     if !words_fit(words) {
         return Ok(None);
     }
-    match matches_of(alloc, behind_first(words)) {
-        Ok(matches) => Ok(Some(sizes(given_in(&matches)))),
+    match matches_of(alloc, words) {
+        Ok(matches) => Ok(job_found(&matches)),
         Err(error) => Err(want_of_memory(error)),
     }
 }

@@ -1,6 +1,7 @@
-//! Words that are taken, with the sizes that they ask for, and words that are refused.
+//! Words that are taken, with what they ask for, and words that are refused.
 use crate::fixtures::same;
-use command_line::{read_words, words_fit};
+use command_line::{Generated, Job, read_words, words_fit};
+use heap_model::state::Sizes;
 use std::alloc::{AllocError, Global};
 use std::test::Fail;
 
@@ -13,8 +14,15 @@ fn words(alloc: Global, line: &str) -> Result<Vec<String>, AllocError> {
     Ok(words)
 }
 
+// Whether the words of a line are taken, and what they ask for.
+fn read(alloc: Global, line: &str) -> Result<(bool, Option<Job>), AllocError> {
+    let words = words(alloc, line)?;
+    let job = read_words(alloc, &words)?;
+    Ok((words_fit(&words), job))
+}
+
 // Words of a run, and the domains, minor words and pools that they ask for.
-const TAKEN: [(&str, (u32, u32, u32)); 6] = [
+const RUNS: [(&str, (u32, u32, u32)); 6] = [
     ("run", (2, 32768, 512)),
     ("run --domains 1", (1, 32768, 512)),
     (
@@ -26,7 +34,14 @@ const TAKEN: [(&str, (u32, u32, u32)); 6] = [
     ("run --minor 4096 --pools=27", (2, 4096, 27)),
 ];
 
-const REFUSED: [&str; 20] = [
+// Numbers of a script that may be asked for.
+const SCRIPTS: [(&str, (u32, u32, u32)); 3] = [
+    ("0 1 0", (0, 1, 0)),
+    ("17 3 66666", (17, 3, 66666)),
+    ("1000000 8 25000", (1_000_000, 8, 25000)),
+];
+
+const REFUSED: [&str; 33] = [
     "",
     "run x",
     "runs",
@@ -47,25 +62,67 @@ const REFUSED: [&str; 20] = [
     "run --help",
     "run --",
     "run --domain 1",
+    "gen",
+    "gen 1 2",
+    "gen 1 2 3 4",
+    "gen 1 2 03",
+    "gen -- 1 2 3",
+    "gen 1000001 1 1",
+    "load 0 0 0",
+    "load 0 9 1",
+    "load 0 8 25001",
+    "load 0 8 4294967295",
+    "load 1 2 3 --domains 2",
+    "help gen",
+    "--help",
 ];
 
 #[test]
 fn lines_are_taken_or_refused(rt: HostRuntime) -> Result<(), Fail> {
-    for (line, asked) in &TAKEN {
-        let words = words(rt.alloc(), line)?;
-        let sizes = read_words(rt.alloc(), &words)?.ok_or("refused")?;
-        let asks = (sizes.domains, sizes.minor_words, sizes.pools);
-        same(&rt, (words_fit(&words), asks, *line), (true, *asked, *line));
-    }
-    for line in &REFUSED {
-        let words = words(rt.alloc(), line)?;
-        let refused = read_words(rt.alloc(), &words)?.is_none();
+    for (line, asked) in &RUNS {
+        let job = Job::Run(Sizes {
+            domains: asked.0,
+            pools: asked.2,
+            minor_words: asked.1,
+            classes: 6,
+        });
         same(
             &rt,
-            (words_fit(&words), refused, *line),
-            (false, true, *line),
+            (read(rt.alloc(), line)?, *line),
+            ((true, Some(job)), *line),
+        );
+    }
+    for line in &REFUSED {
+        same(
+            &rt,
+            (read(rt.alloc(), line)?, *line),
+            ((false, None), *line),
         );
     }
     same(&rt, words_fit(&[]), false);
+    Ok(())
+}
+
+#[test]
+fn scripts_are_asked_for(rt: HostRuntime) -> Result<(), Fail> {
+    for (numbers, asked) in &SCRIPTS {
+        let script = Generated {
+            base: asked.0,
+            domains: asked.1,
+            commands: asked.2,
+        };
+        let generate = format!(in rt.alloc(); "gen {numbers}")?;
+        let load = format!(in rt.alloc(); "load {numbers}")?;
+        same(
+            &rt,
+            read(rt.alloc(), &generate)?,
+            (true, Some(Job::Gen(script))),
+        );
+        same(
+            &rt,
+            read(rt.alloc(), &load)?,
+            (true, Some(Job::Load(script))),
+        );
+    }
     Ok(())
 }
