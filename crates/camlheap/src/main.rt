@@ -5,7 +5,7 @@ use camlheap_run::{Status, camlheap, fault_line, status_number};
 use outer_io::{NoGate, StdSink, StdSource};
 use std::alloc::Global;
 use std::env::Env;
-use std::io::{BufReader, BufWriter, ErrorKind, Write};
+use std::io::{BufReader, BufWriter, ErrorKind, Read, Write};
 use std::process::ExitCode;
 use std::{env, io};
 
@@ -39,18 +39,40 @@ fn status_of(error: io::Error) -> Status {
     }
 }
 
-// Does what the words ask for.
-fn answer(rt: &HostRuntime) -> io::Result<Status> {
-    let alloc = rt.alloc();
-    let words = words_given(rt, alloc)?;
-    let mut src = StdSource::make(BufReader::with_capacity(alloc, GATHERED, rt.stdin())?);
-    let mut out = StdSink::make(BufWriter::with_capacity(alloc, GATHERED, rt.stdout())?);
-    let status = camlheap(rt, alloc, &words, &mut src, &mut out, &NoGate);
-    Ok(flushed(status, &mut out))
+// The words, and the two streams with their buffers.
+#[derive(Drop)]
+struct Ends<I: Read + Drop, O: Write + Drop> {
+    words: Vec<String>,
+    src: StdSource<BufReader<I>>,
+    out: StdSink<BufWriter<O>>,
+}
+
+fn ends_given<R: Env + AllocGlobal, I: Read + Drop, O: Write + Drop>(
+    rt: &R,
+    alloc: Global,
+    input: I,
+    output: O,
+) -> io::Result<Ends<I, O>> {
+    Ok(Ends {
+        words: words_given(rt, alloc)?,
+        src: StdSource::make(BufReader::with_capacity(alloc, GATHERED, input)?),
+        out: StdSink::make(BufWriter::with_capacity(alloc, GATHERED, output)?),
+    })
 }
 
 fn main(rt: HostRuntime) -> ExitCode {
-    let status = answer(&rt).unwrap_or_else(status_of);
+    let alloc = rt.alloc();
+    let status = match ends_given(&rt, alloc, rt.stdin(), rt.stdout()) {
+        Ok(Ends {
+            words,
+            mut src,
+            mut out,
+        }) => {
+            let status = camlheap(&rt, alloc, &words, &mut src, &mut out, &NoGate);
+            flushed(status, &mut out)
+        }
+        Err(error) => status_of(error),
+    };
     let mut line = [0u8; 128];
     let length = fault_line(&status, &mut line);
     let _ = rt.stderr().write_all(&line[..length]);

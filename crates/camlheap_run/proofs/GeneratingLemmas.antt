@@ -37,10 +37,14 @@ spelling_is script = ap (λ (l : List ℕ). line (codes "heap 1") ++ l) (from_he
 
 -- a range, cut at one of its numbers
 range_cut : (a n m : ℕ) → range_with_len a (n + m) ≡ range_with_len a n ++ range_with_len (a + n) m
-range_cut a zero m = let same : a ≡ a + 0 = omega arith in ap (λ (b : ℕ). range_with_len b m) same
+range_cut a zero m =
+    let same : a ≡ a + 0 = omega arith in
+    let none : 0 + m ≡ m = omega arith in
+    ap (range_with_len a) none ∙ ap (λ (b : ℕ). range_with_len b m) same
 range_cut a (suc n) m =
     let same : (a + 1) + n ≡ a + suc n = omega arith in
-    ap (λ (l : List ℕ). a ∷ l) (range_cut (a + 1) n m ∙ ap (λ (b : ℕ). range_with_len (a + 1) n ++ range_with_len b m) same)
+    let step : suc n + m ≡ suc (n + m) = omega arith in
+    ap (range_with_len a) step ∙ ap (λ (l : List ℕ). a ∷ l) (range_cut (a + 1) n m ∙ ap (λ (b : ℕ). range_with_len (a + 1) n ++ range_with_len b m) same)
 
 -- the sections up to one, it, and the sections behind it
 pub sections_cut : (script : List (List Command)) (i n : ℕ) → i < n → sections_text script n ≡ sections_text script i ++ (section_text script i ++ flat_map (section_text script) (range_with_len (i + 1) (n - (i + 1))))

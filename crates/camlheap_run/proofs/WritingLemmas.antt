@@ -1,5 +1,5 @@
 -- What is written in two steps is written in one.
-use Rattle.std.proofs.Common.{◌≡◌, ℕ, ◌+◌, ◌<◌, List, [], ◌∷◌, ◌++◌, length, get_or, take, drop, sym, ap, ◌∙◌, append_assoc, append-nil, take-append-drop, drop-cons, add-one, Result, Ok, Err}
+use Rattle.std.proofs.Common.{◌≡◌, ℕ, ◌+◌, ◌<◌, List, [], ◌∷◌, ◌++◌, length, get_or, take, drop, sym, ap, subst, ◌∙◌, append_assoc, append-nil, take-append-drop, drop-cons, add-one, Result, Ok, Err}
 use Rattle.std.specs.Prelude.{flat_map}
 use Rattle.std.proofs.lemmas.List.Concat.{flat_map-append}
 use Rattle.std.specs.declared.option.Option.{Option}
@@ -50,3 +50,10 @@ pub text_at : {A : Type 0} (f : A → List ℕ) (xs : List A) (i : ℕ) (x : A) 
 text_at {A} f xs i x below =
     ap (flat_map f) (sym (take-append-drop i xs)) ∙ flat_map-append f (take i xs) (drop i xs)
     ∙ ap (λ (ys : List A). flat_map f (take i xs) ++ flat_map f ys) (drop-cons xs i x below ∙ ap (λ (n : ℕ). get_or xs i x ∷ drop n xs) (sym (add-one i)))
+
+-- a text that was written, or a front part of it, by its other name
+pub written_as : {T E : Type 0} → (a b : Option (List ℕ)) (result : Result T E) (text same : List ℕ) → text ≡ same → Writes a b result text → Writes a b result same
+written_as a b result text same is writes = subst (λ (l : List ℕ). Writes a b result l) is writes
+
+pub front_as : (a b : Option (List ℕ)) (text same : List ℕ) → text ≡ same → AppendsFront a b text → AppendsFront a b same
+front_as a b text same is part = subst (λ (l : List ℕ). AppendsFront a b l) is part

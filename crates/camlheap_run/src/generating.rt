@@ -71,11 +71,7 @@ fn write_script<K: Sink>(out: &mut K, script: &Script) -> Result<(), Failed>
 }
 
 // Generates a script and writes it. No heap is started.
-pub(crate) fn generate_script<K: Sink>(
-    alloc: Global,
-    generated: &Generated,
-    out: &mut K,
-) -> Status
+pub(crate) fn generate_script<K: Sink>(alloc: Global, generated: &Generated, out: &mut K) -> Status
     requires { IsGenerable generated.now }
     ensures later { K.faults out.old ≤ K.faults out.new }
     ensures done { (ended : Option Past) → result ≡ Status.Done ended → WritesScript generated.now ended (K.written out.old) (K.written out.new) }

@@ -54,7 +54,11 @@ fn write_replies<K: Sink>(out: &mut K, replies: &[Reply]) -> Result<(), Failed>
 }
 
 // Writes the section of a domain: its heading, and the lines of its replies.
-pub(crate) fn write_section<K: Sink>(out: &mut K, domain: u32, replies: &[Reply]) -> Result<(), Failed>
+pub(crate) fn write_section<K: Sink>(
+    out: &mut K,
+    domain: u32,
+    replies: &[Reply],
+) -> Result<(), Failed>
     ensures cause { HasCause (K.faults out.old) (K.faults out.new) result }
     ensures bytes { Writes (K.written out.old) (K.written out.new) result (line (heading_text domain) ++ printed replies.now) }
 {

@@ -1,12 +1,13 @@
 -- What the words of the command line ask for.
 use Rattle.std.specs.Prelude.{◌≡◌, ℕ, ◌≤◌, ◌*◌, ◌&&◌, Bool, nat_le, List, [], ◌∷◌, Option, Some, None, option_map, option_and_then, codes, bytes_eq, if◌then◌else◌}
 use Rattle.std.specs.Option.{option_or}
+use Rattle.heap_model.specs.declared.state.Sizes.{Sizes}
 use Rattle.heap_model.specs.Domains.{class_count, first_outside}
 use Rattle.command_line.specs.declared.job.Job.{Job}
 use Rattle.command_line.specs.declared.job.Job.TheVariants.{Run, Gen, Load}
 use Rattle.command_line.specs.declared.job.Generated.{Generated}
 use Rattle.command_line.specs.Numbers.{option_number}
-use Rattle.command_line.specs.RunWords.{run_sizes}
+use Rattle.command_line.specs.RunWords.{run_sizes, sizes_given}
 
 -- a generated script that may be asked for: the first number is at most 1,000,000, there are 1 to 8 domains, and at most 200,000 commands in all
 pub record IsGenerable (g : Generated) : Type 0 where
@@ -50,3 +51,7 @@ abbrev pub IsWithinRange : Job → Type 0
 IsWithinRange (Run z) = (first_outside z ≡ None) × (z.classes ≡ class_count)
 IsWithinRange (Gen g) = IsGenerable g
 IsWithinRange (Load g) = IsGenerable g
+
+-- the sizes of the heap in which a generated script is run: its domains, and otherwise what words without options ask for
+abbrev pub load_sizes : Generated → Sizes
+load_sizes g = sizes_given (record { domains = Some g.domains; minor = None; pools = None })

@@ -1,7 +1,8 @@
 //! What the words of the command line ask for.
 ghost use Rattle.std.specs.Prelude.{◌≡◌};
-ghost use Rattle.command_line.specs.Jobs.{is_generable};
+ghost use Rattle.command_line.specs.Jobs.{is_generable, load_sizes};
 
+use crate::options::{Given, sizes};
 use heap_model::state::Sizes;
 
 const LARGEST_BASE: u32 = 1_000_000;
@@ -33,6 +34,18 @@ pub struct Generated {
 }
 
 impl Generated {
+    /// The sizes of the heap in which the script is run: its domains, and otherwise what words without
+    /// options ask for.
+    pub fn sizes(&self) -> Sizes
+        ensures { result ≡ load_sizes self.now }
+    {
+        sizes(Given {
+            domains: Some(self.domains),
+            minor: None,
+            pools: None,
+        })
+    }
+
     // Whether the words may ask for this script.
     pub(crate) fn is_generable(&self) -> bool
         ensures { result ≡ is_generable self.now }

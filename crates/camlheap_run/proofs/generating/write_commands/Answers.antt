@@ -1,5 +1,4 @@
 use Rattle.std.proofs.Common.{arith}
-use Rattle.heap_model.specs.declared.command.Command.TheVariants.{Poll}
 use Rattle.heap_model.specs.Output.{line}
 use Rattle.heap_text.specs.Spelling.{command_text}
 use Rattle.camlheap_run.proofs.WritingLemmas.{front_is_written, front_of_second, text_at}
@@ -7,5 +6,5 @@ use Rattle.camlheap_run.proofs.generating.write_commands.Goals as goal
 
 pub returns-in_err-write_command-clause-bytes : goal.returns-in_err-write_command-clause-bytes
 returns-in_err-write_command-clause-bytes g c =
-    let cut = text_at (λ r. line (command_text r)) c.args.commands.now c.commands.command-index Poll (omega arith) in
+    let cut = text_at (λ r. line (command_text r)) c.args.commands.now c.commands.command-index _ (omega arith) in
     front_is_written _ _ _ _ c.from_residual.ensures.0 (front_of_second _ _ _ _ _ _ _ cut c.commands.invariant.bytes c.in_err-write_command.ensures.bytes)
