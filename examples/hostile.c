@@ -7,6 +7,8 @@
 #include <stddef.h>
 #include <stdio.h>
 #include <stdlib.h>
+#include <sys/syscall.h>
+#include <unistd.h>
 
 void *__libc_malloc(size_t);
 void *__libc_calloc(size_t, size_t);
@@ -26,7 +28,8 @@ __attribute__((constructor)) static void begin(void) {
     refused = number ? atol(number) : 0;
 }
 
-__attribute__((destructor)) static void end(void) {
+// The program ends by this call.
+void _exit(int status) {
     const char *name = getenv("REQUESTS");
     long count = atomic_load(&requests);
     refused = 0;
@@ -35,6 +38,8 @@ __attribute__((destructor)) static void end(void) {
         fprintf(file, "%ld\n", count);
         fclose(file);
     }
+    syscall(SYS_exit_group, status);
+    __builtin_unreachable();
 }
 
 static int is_refused(void) {

@@ -101,11 +101,11 @@ try "a fault and error closed" 2 - "" "$run <fault.heap 2>&-"
 try "a fault and error full" 2 - "" "$run <fault.heap 2>/dev/full"
 try "usage and error closed" 1 - "" "./camlheap 2>&-"
 
-# Readers that go away. The program leaves the signal SIGPIPE as it found it.
+# Readers that go away: a failed write, whether the signal SIGPIPE is ignored or not.
 head -c 5 plain.out >five.out
-try "a reader of five bytes" 141 five.out "" "$run <long.heap | head -c 5; exit \${PIPESTATUS[0]}"
+try "a reader of five bytes" 4 five.out "write fault" "$run <long.heap | head -c 5; exit \${PIPESTATUS[0]}"
 try "a reader of five bytes, SIGPIPE ignored" 4 five.out "write fault" "trap '' PIPE; $run <long.heap | head -c 5; exit \${PIPESTATUS[0]}"
-try "a reader that is gone" 141 - "" "{ sleep 0.5; exec $run; } <plain.heap | true; exit \${PIPESTATUS[0]}"
+try "a reader that is gone" 4 - "write fault" "{ sleep 0.5; exec $run; } <plain.heap | true; exit \${PIPESTATUS[0]}"
 try "a reader that is gone, SIGPIPE ignored" 4 - "write fault" "trap '' PIPE; { sleep 0.5; exec $run; } <plain.heap | true; exit \${PIPESTATUS[0]}"
 
 # A writer that is stopped and goes on while its reader lets it wait, and one whose write a handled signal interrupts.
@@ -133,24 +133,43 @@ for limit in 0 1 2 3; do
         "limited $limit ./camlheap run --domains 3 <three_domains.heap"
 done
 
-# The case $1: the run of $2 domains of the script $3, with each request for memory refused in turn, answers that memory
-# ran out and writes nothing, or writes what the file $4 has.
+# The case $1: the run of the script $2 with the words $4.., with each request for memory refused in turn, answers that
+# memory ran out and writes nothing, or writes what the file $3 has.
 refused() {
-    local last k status answered=0
-    REQUESTS=requests LD_PRELOAD=./hostile.so ./camlheap run --domains "$2" <"$3" >out 2>err
-    last=$(cat requests) || wrong "$1" "the requests weren't counted"
+    local name=$1 script=$2 expected=$3 last k status answered=0
+    shift 3
+    rm -f requests
+    env REQUESTS=requests LD_PRELOAD=./hostile.so ./camlheap "$@" <"$script" >out 2>err
+    last=$(cat requests) || wrong "$name" "the requests weren't counted"
     for k in $(seq $((last + 2))); do
-        REFUSED=$k LD_PRELOAD=./hostile.so timeout 60 ./camlheap run --domains "$2" <"$3" >out 2>err
+        timeout -k 5 60 env REFUSED="$k" LD_PRELOAD=./hostile.so ./camlheap "$@" <"$script" >out 2>err
         status=$?
         if [ $status = 5 ] && [ ! -s out ] && [ "$(cat err)" = "out of memory" ]; then
             answered=$((answered + 1))
-        elif [ $status != 0 ] || ! cmp -s out "$4" || [ -s err ]; then
-            wrong "$1" "request $k: status $status; standard error: $(head -c 200 err); output: $(head -c 200 out)"
+        elif [ $status != 0 ] || ! cmp -s out "$expected" || [ -s err ]; then
+            wrong "$name" "request $k: status $status; standard error: $(head -c 200 err); output: $(head -c 200 out)"
         fi
     done
-    echo "right $1: of $last requests $answered are answered by out of memory, and the others by the whole output"
+    echo "right $name: of $last requests $answered are answered by out of memory, and the others by the whole output"
 }
 
-refused "memory refused, a plain run" 1 plain.heap plain.out
-refused "memory refused, weak keys" 1 weak.heap weak.out
-refused "memory refused, three domains" 3 three_domains.heap three_domains.expected
+refused "memory refused, a plain run" plain.heap plain.out run --domains 1
+refused "memory refused, weak keys" weak.heap weak.out run --domains 1
+refused "memory refused, three domains" three_domains.heap three_domains.expected run --domains 3
+
+# The commands that read nothing.
+if ! ./camlheap gen 7 1 5 >/dev/null 2>&1; then
+    echo "skipped gen and load, since the program doesn't have these commands yet"
+    exit
+fi
+cp "$top"/examples/{gen,load}.expected .
+try "gen, input closed" 0 gen.expected "" "./camlheap gen 7 1 5 <&-"
+try "gen, output closed" 4 - "write fault" "./camlheap gen 7 1 5 >&-"
+try "gen, a full disk" 4 - "write fault" "./camlheap gen 7 8 25000 >/dev/full"
+try "gen, a reader that is gone" 4 - "write fault" "{ sleep 0.5; exec ./camlheap gen 7 8 25000; } | true; exit \${PIPESTATUS[0]}"
+try "gen, more commands than a script has" 1 - "$usage" "./camlheap gen 7 8 25001"
+try "load, input closed" 0 load.expected "" "./camlheap load 7 2 2000 <&-"
+try "load, output closed" 4 - "write fault" "./camlheap load 7 2 2000 >&-"
+try "load, threads refused" 0 load.expected "" "limited 1 ./camlheap load 7 2 2000"
+refused "memory refused, load" /dev/null load.expected load 7 2 2000
+refused "memory refused, gen" /dev/null gen.expected gen 7 1 5
