@@ -1,21 +1,45 @@
 #!/usr/bin/env bash
-# Runs each example 200 times and counts its outputs: first as it is, then where the system refuses every thread, then
-# where it refuses all but one. Ends with 1 where an output is none of those that stand beside the script.
+# Runs each example RUNS times (200 without it) and counts its outputs: first as it is, then where the system refuses
+# every thread, then where it refuses all but one. Ends with 1 where an output is none of those that stand beside it.
+#
+# An example is NAME.heap, and its words are those in NAME.args, or else `run` with a domain for each section. One with
+# words alone reads nothing.
 set -u
+runs=${RUNS:-200}
 top=$(cd "$(dirname "${BASH_SOURCE[0]}")/.." && pwd) || exit 1
+examples=$top/examples
 work=$(mktemp -d) || exit 1
 trap 'rm -rf "$work"' EXIT
-"$top/camlheap" run --domains 1 <"$top/examples/chain.heap" >/dev/null || exit 1
+"$top/camlheap" run --domains 1 <"$examples/chain.heap" >/dev/null || exit 1
 cp "$top/crates/camlheap/out/camlheap" "$work/camlheap" && chmod 755 "$work" || exit 1
 
-. "$top/examples/limited.sh"
+. "$examples/limited.sh"
+
+# The names of all examples.
+names() {
+    find "$examples" \( -name '*.heap' -o -name '*.args' \) -printf '%f\n' | sed 's/\.[a-z]*$//' | sort -u
+}
+
+# Whether the program has the command of the example $1.
+is_built() {
+    [ -e "$examples/$1.heap" ] && return
+    local words
+    read -r -a words <"$examples/$1.args"
+    "$work/camlheap" "${words[@]}" </dev/null >/dev/null 2>&1
+    [ $? -ne 1 ]
+}
 
 # Runs the example $1 once, under the limit $2 if there is one, and prints the name of the file that has its output.
 outcome() {
-    local words expected
-    words="run --domains $(grep -c '^domain ' "$top/examples/$1.heap")"
-    ${2:+limited "$2"} "$work/camlheap" $words <"$top/examples/$1.heap" >"$work/out" || { echo "status $?"; return; }
-    for expected in "$top/examples/$1".*expected; do
+    local words script=$examples/$1.heap expected
+    [ -e "$script" ] || script=/dev/null
+    if [ -e "$examples/$1.args" ]; then
+        read -r -a words <"$examples/$1.args"
+    else
+        words=(run --domains "$(grep -c '^domain ' "$script")")
+    fi
+    ${2:+limited "$2"} "$work/camlheap" "${words[@]}" <"$script" >"$work/out" || { echo "status $?"; return; }
+    for expected in "$examples/$1".*expected; do
         if cmp -s "$work/out" "$expected"; then
             basename "$expected"
             return
@@ -25,11 +49,14 @@ outcome() {
 }
 
 for limit in "" 1 2; do
-    for script in "$top"/examples/*.heap; do
-        name=$(basename "$script" .heap)
-        for _ in $(seq 200); do
+    for name in $(names); do
+        if ! is_built "$name"; then
+            echo "limit ${limit:-none}, $name: skipped, since the program doesn't have this command yet"
+            continue
+        fi
+        for _ in $(seq "$runs"); do
             outcome "$name" "$limit"
         done | sort | uniq -c | sed "s/^/limit ${limit:-none}, $name:/"
     done
 done | tee "$work/counts"
-! grep -q 'wrong\|status' "$work/counts"
+! grep -q ':.*\(wrong\|status\)' "$work/counts"
