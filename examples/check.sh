@@ -20,15 +20,6 @@ names() {
     find "$examples" \( -name '*.heap' -o -name '*.args' \) -printf '%f\n' | sed 's/\.[a-z]*$//' | sort -u
 }
 
-# Whether the program has the command of the example $1.
-is_built() {
-    [ -e "$examples/$1.heap" ] && return
-    local words
-    read -r -a words <"$examples/$1.args"
-    "$work/camlheap" "${words[@]}" </dev/null >/dev/null 2>&1
-    [ $? -ne 1 ]
-}
-
 # Runs the example $1 once, under the limit $2 if there is one, and prints the name of the file that has its output.
 outcome() {
     local words script=$examples/$1.heap expected
@@ -50,10 +41,6 @@ outcome() {
 
 for limit in "" 1 2; do
     for name in $(names); do
-        if ! is_built "$name"; then
-            echo "limit ${limit:-none}, $name: skipped, since the program doesn't have this command yet"
-            continue
-        fi
         for _ in $(seq "$runs"); do
             outcome "$name" "$limit"
         done | sort | uniq -c | sed "s/^/limit ${limit:-none}, $name:/"

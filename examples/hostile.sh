@@ -108,7 +108,8 @@ try "a reader of five bytes, SIGPIPE ignored" 4 five.out "write fault" "trap '' 
 try "a reader that is gone" 4 - "write fault" "{ sleep 0.5; exec $run; } <plain.heap | true; exit \${PIPESTATUS[0]}"
 try "a reader that is gone, SIGPIPE ignored" 4 - "write fault" "trap '' PIPE; { sleep 0.5; exec $run; } <plain.heap | true; exit \${PIPESTATUS[0]}"
 
-# A writer that is stopped and goes on while its reader lets it wait, and one whose write a handled signal interrupts.
+# A writer that is stopped and goes on while its reader lets it wait, and one whose write a handled signal
+# interrupts: it is made again.
 try "a slow reader" 0 long.out "" "$run <long.heap | { sleep 0.5; cat; }; exit \${PIPESTATUS[0]}"
 # shellcheck disable=SC2016
 stopped='mkfifo slow; '$run' <long.heap >slow & exec 3<slow
@@ -117,9 +118,8 @@ stopped='mkfifo slow; '$run' <long.heap >slow & exec 3<slow
 try "a writer that is stopped" 0 long.out "" "$stopped"
 # shellcheck disable=SC2016
 interrupted='mkfifo slow; LD_PRELOAD=./hostile.so '$run' <long.heap >slow & exec 3<slow
-    sleep 0.5; kill -USR1 $!; sleep 0.1; cat <&3 >written; wait $!; status=$?; rm slow
-    cmp -n "$(stat -c %s written)" written long.out || status="$status and no front of the output"; exit $status'
-try "a write that a handled signal interrupts" 4 - "write fault" "$interrupted"
+    sleep 0.5; kill -USR1 $!; sleep 0.1; cat <&3; wait $!; status=$?; rm slow; exit $status'
+try "a write that a handled signal interrupts" 0 long.out "" "$interrupted"
 
 # Signals in the middle of a run.
 for signal in INT TERM HUP; do
@@ -158,10 +158,6 @@ refused "memory refused, weak keys" weak.heap weak.out run --domains 1
 refused "memory refused, three domains" three_domains.heap three_domains.expected run --domains 3
 
 # The commands that read nothing.
-if ! ./camlheap gen 7 1 5 >/dev/null 2>&1; then
-    echo "skipped gen and load, since the program doesn't have these commands yet"
-    exit
-fi
 cp "$top"/examples/{gen,load}.expected .
 try "gen, input closed" 0 gen.expected "" "./camlheap gen 7 1 5 <&-"
 try "gen, output closed" 4 - "write fault" "./camlheap gen 7 1 5 >&-"
