@@ -41,17 +41,46 @@ fn a_chain_of_500_blocks_is_copied(rt: HostRuntime) -> Result<(), Fail> {
     Ok(runs_to(&rt, alloc, WORDS, &script, &prints)?)
 }
 
+// The commands of domain 0 before its stores and what they print, the store, and what the field holds at the end.
+struct Stores {
+    before: &'static str,
+    replies: &'static str,
+    store: &'static str,
+    load: &'static str,
+    found: &'static str,
+}
+
+const STORES: [Stores; 2] = [
+    Stores {
+        before: "alloc 1 0 2\n",
+        replies: "blk 0:1\n",
+        store: "store 0 3 1\n",
+        load: "load 2 0 3\n",
+        found: "blk 0:1\n",
+    },
+    Stores {
+        before: "allocmaj 1 0 1\nalloc 2 0 1\n",
+        replies: "blk 0:1\nblk 0:2\n",
+        store: "store 1 0 2\n",
+        load: "load 3 1 0\n",
+        found: "blk 0:2\n",
+    },
+];
+
 // A domain remembers at most 4096 fields. A collection comes before the store of one more.
 #[test]
 fn a_full_remembered_set_is_collected(rt: HostRuntime) -> Result<(), Fail> {
-    let alloc = rt.alloc();
-    let mut script = String::from_str(alloc, "heap 1\ndomain 0\nalloc 1 0 2\n")?;
-    let mut prints = String::from_str(alloc, "domain 0\nblk 0:1\n")?;
-    for _ in 0..5000u32 {
-        script.push_str("store 0 3 1\n")?;
-        prints.push_str("ok\n")?;
+    for stores in &STORES {
+        let alloc = rt.alloc();
+        let mut script = format!(in alloc; "heap 1\ndomain 0\n{}", stores.before)?;
+        let mut prints = format!(in alloc; "domain 0\n{}", stores.replies)?;
+        for _ in 0..5000u32 {
+            script.push_str(stores.store)?;
+            prints.push_str("ok\n")?;
+        }
+        script.push_str(stores.load)?;
+        prints.push_str(stores.found)?;
+        runs_to(&rt, alloc, WORDS, &script, &prints)?;
     }
-    script.push_str("load 2 0 3\n")?;
-    prints.push_str("blk 0:1\n")?;
-    Ok(runs_to(&rt, alloc, WORDS, &script, &prints)?)
+    Ok(())
 }

@@ -14,6 +14,8 @@ mod faults;
 #[cfg(test)]
 mod finalisers;
 #[cfg(test)]
+mod generated;
+#[cfg(test)]
 mod pauses;
 #[cfg(test)]
 mod pools;

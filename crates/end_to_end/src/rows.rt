@@ -3,7 +3,7 @@ use crate::program::{PLAIN, PLAIN_PRINTS, is_given, run_plain, runs_to};
 use std::test::Fail;
 
 // Words, a script, and what its run prints.
-const REPLIES: [(&str, &str, &str); 17] = [
+const REPLIES: [(&str, &str, &str); 18] = [
     ("run --domains 1", PLAIN, PLAIN_PRINTS),
     ("run --domains 1", "heap 1\ndomain 0\n", "domain 0\n"),
     ("run", "heap 1\ndomain 0\n", "domain 0\ndomain 1\n"),
@@ -73,6 +73,11 @@ const REPLIES: [(&str, &str, &str); 17] = [
         "domain 0\nlive 1 18\ndomain 1\nlive 1 18\n",
     ),
     (
+        "run",
+        "heap 1\ndomain 0\nalloc 1 0 1\nstore 0 0 1\ndrop 1\nfull_major\ndomain 1\n",
+        "domain 0\nblk 0:1\nok\nok\nlive 2 21\ndomain 1\n",
+    ),
+    (
         "run --domains 1",
         "heap 1\ndomain 0\nallocmaj 1 0 126\nallocmaj 1 0 126\nallocmaj 1 0 126\ndrop 1\nmajor\nfull_major\n",
         "domain 0\nblk 0:1\nblk 0:2\nblk 0:3\nok\nok\nlive 1 18\n",
@@ -87,35 +92,116 @@ fn scripts_of_few_replies(rt: HostRuntime) -> Result<(), Fail> {
     Ok(())
 }
 
-// Scripts for a run of one domain, and the line of their first fault.
-const REFUSED: [(&str, &str); 6] = [
+// Words, a script, and the line of its first fault.
+const REFUSED: [(&str, &str, &str); 16] = [
     (
+        "run --domains 1",
         "heap 1\ndomain 0\nint 1 4611686018427387903\nint 1 -4611686018427387904\nint 1 4611686018427387904\n",
         "script line 5: number 2 out of range\n",
     ),
     (
+        "run --domains 1",
         "heap 1\ndomain 0\nalloc 1 0 127\n",
         "script line 3: number 3 out of range\n",
     ),
     (
+        "run --domains 1",
         "heap 1\ndomain 0\nalloc 1 246 1\n",
         "script line 3: number 2 out of range\n",
     ),
-    ("heap 1\ndomain 0\nint 1 5", "script line 3: syntax\n"),
-    ("", "script line 1: syntax\n"),
-    ("heap 1\nint 1 5\n", "script line 2: section order\n"),
+    (
+        "run --domains 1",
+        "heap 1\ndomain 0\nload 1 16 2000\n",
+        "script line 3: number 2 out of range\n",
+    ),
+    // The first number that is out of range is told.
+    (
+        "run --domains 1",
+        "heap 1\ndomain 0\nint 16 99999999999999999999\n",
+        "script line 3: number 1 out of range\n",
+    ),
+    (
+        "run --domains 1",
+        "heap 1\ndomain -1\n",
+        "script line 2: number 1 out of range\n",
+    ),
+    (
+        "run",
+        "heap 1\ndomain 2\n",
+        "script line 2: number 1 out of range\n",
+    ),
+    (
+        "run --domains 1",
+        "heap 1\ndomain 0\nint 1 5",
+        "script line 3: syntax\n",
+    ),
+    (
+        "run --domains 1",
+        "heap 1\ndomain 0\nint 1\n",
+        "script line 3: syntax\n",
+    ),
+    (
+        "run --domains 1",
+        "heap 1\ndomain 0\nallok 1 0 1\n",
+        "script line 3: syntax\n",
+    ),
+    (
+        "run --domains 1",
+        "heap 1\ndomain 0\n poll\n",
+        "script line 3: syntax\n",
+    ),
+    (
+        "run --domains 1",
+        "heap 1\ndomain 0\nint 1 07\n",
+        "script line 3: syntax\n",
+    ),
+    ("run --domains 1", "", "script line 1: syntax\n"),
+    (
+        "run --domains 1",
+        "heap 1\nint 1 5\n",
+        "script line 2: section order\n",
+    ),
+    (
+        "run --domains 1",
+        "heap 1\ndomain 0\ndomain 0\n",
+        "script line 3: section order\n",
+    ),
+    (
+        "run",
+        "heap 1\ndomain 1\n",
+        "script line 2: section order\n",
+    ),
 ];
 
 #[test]
 fn refused_scripts(rt: HostRuntime) -> Result<(), Fail> {
-    for (script, line) in &REFUSED {
-        let given = run_plain(&rt, rt.alloc(), "run --domains 1", script)?;
+    for (words, script, line) in &REFUSED {
+        let given = run_plain(&rt, rt.alloc(), words, script)?;
         is_given(&rt, &given, 2, line, "");
     }
     Ok(())
 }
 
-const OTHER_WORDS: [&str; 9] = [
+// All domains together have at most 200,000 commands.
+#[test]
+fn too_many_commands(rt: HostRuntime) -> Result<(), Fail> {
+    let alloc = rt.alloc();
+    let mut script = String::from_str(alloc, "heap 1\ndomain 0\n")?;
+    for _ in 0..200_001u32 {
+        script.push_str("poll\n")?;
+    }
+    let given = run_plain(&rt, alloc, "run --domains 1", &script)?;
+    is_given(
+        &rt,
+        &given,
+        2,
+        "script line 200003: too many commands\n",
+        "",
+    );
+    Ok(())
+}
+
+const OTHER_WORDS: [&str; 21] = [
     "",
     "run x",
     "run --domains 9",
@@ -125,6 +211,18 @@ const OTHER_WORDS: [&str; 9] = [
     "run --minor 5000",
     "run --pools 14 --pools 14",
     "--help",
+    "gen",
+    "gen 7 1",
+    "gen 7 1 5 5",
+    "gen 1000001 1 5",
+    "gen 7 0 5",
+    "gen 7 9 5",
+    "gen 7 2 100001",
+    "gen 07 1 5",
+    "load 7 1 -5",
+    "load -- 7 1 5",
+    "gen --help",
+    "help",
 ];
 
 const USAGE: &str =

@@ -21,7 +21,7 @@ use std::process::Abort;
 use std::sync::Wait;
 use std::test::Fail;
 use std::thread::Threads;
-use thread_drive::drive;
+use thread_drive::{drive, drive_alone};
 
 /// Stops the test where the two aren't the same. A test that calls it is proved much faster than one with as many
 /// `assert_eq!`.
@@ -108,7 +108,8 @@ fn fits(command: &Command) -> bool
             && tag <= 245
             && 1 <= fields
             && fields <= 126,
-        Command::PutInt { dst, value } => dst < 16 && value == 7,
+        Command::PutInt { dst, value } => dst < 16 && 0 <= value && value <= 1000,
+        Command::Copy { dst, src } => dst < 16 && src < 16,
         Command::Forget { dst } => dst < 16,
         Command::Load { dst, src, .. } => dst < 16 && src < 16,
         Command::Store { block, item, .. } => block < 16 && item < 16,
@@ -337,5 +338,11 @@ impl Play {
     ) -> Vec<DomainRun> {
         let Play { heap, runs } = self;
         drive(rt, &heap, runs, gate)
+    }
+
+    /// The runs, turned to their ends in this thread.
+    pub(crate) fn alone<R: Wait, G: Gate>(self, rt: &R, gate: &G) -> Vec<DomainRun> {
+        let Play { heap, runs } = self;
+        drive_alone(rt, &heap, runs, gate)
     }
 }

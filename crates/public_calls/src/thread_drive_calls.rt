@@ -1,8 +1,12 @@
-//! Runs driven in threads.
+//! Runs driven in threads, and by the caller alone.
 use crate::fixtures::{ONE_DOMAIN, Play, TWO_DOMAINS, same};
+use domain_turns::DomainRun;
 use heap_model::command::Command;
+use heap_model::label::Label;
 use heap_model::reply::Reply;
 use outer_io::{Gate, NoGate};
+use std::alloc::{AllocError, Global};
+use std::process::Abort;
 use std::sync::atomic::{AtomicU32, Ordering};
 use std::test::Fail;
 
@@ -132,6 +136,254 @@ fn collections_stop_all_domains(rt: HostRuntime) -> Result<(), Fail> {
     for (run, replies) in runs.iter().zip(&all) {
         same(&rt, (run.has_ended(), run.domain().arrivals()), (true, 18));
         same(&rt, run.replies(), *replies);
+    }
+    Ok(())
+}
+
+// What is heard of each of two domains.
+#[derive(Drop)]
+struct HeardOfEach {
+    first: Heard,
+    second: Heard,
+}
+
+impl HeardOfEach {
+    fn of(&self, domain: u32) -> &Heard {
+        if domain == 0 {
+            &self.first
+        } else {
+            &self.second
+        }
+    }
+}
+
+impl Gate for HeardOfEach {
+    fn before(&self, domain: u32, index: u32) {
+        self.of(domain).before(domain, index);
+    }
+
+    fn after(&self, domain: u32, index: u32) {
+        self.of(domain).after(domain, index);
+    }
+}
+
+// Stops the test where the runs haven't all ended with these replies.
+fn have_replied(rt: &impl Abort, runs: &[DomainRun], all: &[&[Reply]]) {
+    same(rt, runs.len(), all.len());
+    for (run, replies) in runs.iter().zip(all) {
+        same(rt, run.has_ended(), true);
+        same(rt, run.replies(), *replies);
+    }
+}
+
+#[test]
+fn a_gate_hears_of_each_command_that_the_caller_turns(rt: HostRuntime) -> Result<(), Fail> {
+    let three = [
+        Command::PutInt { dst: 1, value: 7 },
+        Command::Minor,
+        Command::Load {
+            dst: 1,
+            src: 0,
+            index: 16,
+        },
+    ];
+    let one = [Command::Poll];
+    let play = Play::start(rt.alloc(), TWO_DOMAINS, &[three.as_slice(), &one])?;
+    let gate = HeardOfEach {
+        first: Heard {
+            calls: AtomicU32::new(0),
+        },
+        second: Heard {
+            calls: AtomicU32::new(0),
+        },
+    };
+    let runs = play.alone(&rt, &gate);
+    let all = [
+        [Reply::Done, Reply::Done, Reply::BadIndex].as_slice(),
+        &[Reply::Done],
+    ];
+    have_replied(&rt, &runs, &all);
+    same(&rt, gate.first.calls.load(Ordering::SeqCst), 123_456);
+    same(&rt, gate.second.calls.load(Ordering::SeqCst), 12);
+    Ok(())
+}
+
+// The first command of a table's traces: a block of one field.
+const MAKE: Command = Command::Alloc {
+    dst: 1,
+    tag: 0,
+    fields: 1,
+};
+
+// Register 1 goes into the field 0 of the shared block.
+const SHARE: Command = Command::Store {
+    block: 0,
+    index: 0,
+    item: 1,
+};
+
+const FIND_FIRST: Command = Command::Load {
+    dst: 1,
+    src: 0,
+    index: 0,
+};
+
+const FIND: Command = Command::Load {
+    dst: 2,
+    src: 0,
+    index: 0,
+};
+
+const BLOCK: Reply = Reply::Block(Label {
+    domain: 0,
+    serial: 1,
+});
+
+// The commands of two domains, and their replies. A turn of domain 0 comes before each turn of domain 1.
+struct Pair {
+    commands: [&'static [Command]; 2],
+    replies: [&'static [Reply]; 2],
+}
+
+const PAIRS: [Pair; 4] = [
+    // Domain 1 loads before the store and behind it.
+    Pair {
+        commands: [
+            &[MAKE, SHARE, Command::Minor, FIND],
+            &[FIND_FIRST, Command::Minor, FIND],
+        ],
+        replies: [
+            &[BLOCK, Reply::Done, Reply::Done, BLOCK],
+            &[Reply::Int(0), Reply::Done, BLOCK],
+        ],
+    },
+    // Each stores a number, and loads it or the later one.
+    Pair {
+        commands: [
+            &[Command::PutInt { dst: 1, value: 10 }, SHARE, FIND],
+            &[Command::PutInt { dst: 1, value: 20 }, SHARE, FIND],
+        ],
+        replies: [
+            &[Reply::Done, Reply::Done, Reply::Int(20)],
+            &[Reply::Done, Reply::Done, Reply::Int(20)],
+        ],
+    },
+    // The shared block alone lives.
+    Pair {
+        commands: [&[Command::FullMajor], &[Command::FullMajor]],
+        replies: [
+            &[Reply::Live {
+                blocks: 1,
+                words: 18,
+            }],
+            &[Reply::Live {
+                blocks: 1,
+                words: 18,
+            }],
+        ],
+    },
+    // A field of the shared block holds on to a block.
+    Pair {
+        commands: [
+            &[MAKE, SHARE, Command::Forget { dst: 1 }, Command::FullMajor],
+            &[],
+        ],
+        replies: [
+            &[
+                BLOCK,
+                Reply::Done,
+                Reply::Done,
+                Reply::Live {
+                    blocks: 2,
+                    words: 21,
+                },
+            ],
+            &[],
+        ],
+    },
+];
+
+#[test]
+fn the_caller_turns_two_domains_one_after_the_other(rt: HostRuntime) -> Result<(), Fail> {
+    for pair in &PAIRS {
+        let play = Play::start(rt.alloc(), TWO_DOMAINS, &pair.commands)?;
+        let runs = play.alone(&rt, &NoGate);
+        have_replied(&rt, &runs, &pair.replies);
+    }
+    Ok(())
+}
+
+// Appends the making of so many blocks. Each leads to the one before, and registers 1 and 2 hold the last.
+fn push_chain(commands: &mut Vec<Command>, making: Command, blocks: u32) -> Result<(), AllocError> {
+    for _ in 0..blocks {
+        commands.extend_from_slice(&[
+            making,
+            Command::Store {
+                block: 1,
+                index: 0,
+                item: 2,
+            },
+            Command::Copy { dst: 2, src: 1 },
+        ])?;
+    }
+    Ok(())
+}
+
+fn young(dst: u8) -> Command {
+    Command::Alloc {
+        dst,
+        tag: 0,
+        fields: 126,
+    }
+}
+
+fn major(dst: u8) -> Command {
+    Command::AllocMaj {
+        dst,
+        tag: 0,
+        fields: 126,
+    }
+}
+
+// The commands that make 192 blocks of the major heap, and so many young ones, and then this one while all are held and
+// again once they are dropped.
+fn filling(alloc: Global, blocks: u32, last: Command) -> Result<Vec<Command>, AllocError> {
+    let mut commands = vec![in alloc; Command::PutInt { dst: 2, value: 0 }; 1]?;
+    push_chain(&mut commands, major(1), 192)?;
+    push_chain(&mut commands, young(1), blocks)?;
+    commands.extend_from_slice(&[
+        last,
+        Command::Forget { dst: 1 },
+        Command::Forget { dst: 2 },
+        last,
+        Command::FullMajor,
+    ])?;
+    Ok(commands)
+}
+
+// Of 14 pools six can be drawn, with 32 blocks of 128 words each, and 32 more fit into the minor area.
+#[test]
+fn the_caller_fills_a_heap(rt: HostRuntime) -> Result<(), Fail> {
+    for (blocks, last) in [(0, major(3)), (32, young(3))] {
+        let commands = filling(rt.alloc(), blocks, last)?;
+        let play = Play::start(rt.alloc(), ONE_DOMAIN, &[commands.as_slice()])?;
+        let run = play.alone(&rt, &NoGate).pop().ok_or("no run")?;
+        let label = Label {
+            domain: 0,
+            serial: 193 + blocks,
+        };
+        let replies = [
+            Reply::Full,
+            Reply::Done,
+            Reply::Done,
+            Reply::Block(label),
+            Reply::Live {
+                blocks: 2,
+                words: 146,
+            },
+        ];
+        let first = run.replies().len().saturating_sub(5);
+        same(&rt, &run.replies()[first..], replies.as_slice());
     }
     Ok(())
 }

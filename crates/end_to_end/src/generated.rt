@@ -1,0 +1,77 @@
+//! Generated scripts, written and run. Nothing is read for them.
+ghost use Rattle.std.specs.Prelude.{◌≤◌};
+
+use crate::program::{Output, is_given, run_program, sink, source};
+use outer_io::{MemSink, MemSource};
+use std::alloc::{AllocError, Global};
+use std::sync::Wait;
+use std::test::Fail;
+use std::thread::Threads;
+
+// Runs the program with these words over a source that fails at its first read.
+fn run_unread<R: Threads + Wait + Sync>(
+    rt: &R,
+    alloc: Global,
+    words: &str,
+    sink: MemSink,
+) -> Result<Output, AllocError> {
+    run_program(rt, alloc, words, source(alloc, "", 4096, &[1])?, sink)
+}
+
+// Words, and what is written.
+const WRITTEN: [(&str, &str); 4] = [
+    (
+        "gen 7 1 5",
+        "heap 1\ndomain 0\nalloc 1 0 9\nint 2 7\nstore 1 0 2\nint 3 0\nmove 3 1\n",
+    ),
+    ("gen 0 1 0", "heap 1\ndomain 0\n"),
+    (
+        "load 7 2 2000",
+        "domain 0 commands 2000 ints 200 sum 61100\ndomain 1 commands 2000 ints 200 sum 61300\n",
+    ),
+    ("load 5 1 0", "domain 0 commands 0 ints 0 sum 0\n"),
+];
+
+#[test]
+fn scripts_are_generated_and_run_without_a_read(rt: HostRuntime) -> Result<(), Fail> {
+    for (words, written) in &WRITTEN {
+        let alloc = rt.alloc();
+        let given = run_unread(&rt, alloc, words, sink(alloc, 4096, &[])?)?;
+        is_given(&rt, &given, 0, "", written);
+    }
+    Ok(())
+}
+
+// Words, the size of pieces, the write that fails, and what is written before it.
+const CUT: [(&str, usize, u32, &str); 4] = [
+    ("gen 7 1 5", 4, 2, "heap"),
+    ("gen 7 1 5", 4096, 3, "heap 1\ndomain 0\n"),
+    ("load 7 2 20", 4096, 1, ""),
+    (
+        "load 7 2 20",
+        4096,
+        2,
+        "domain 0 commands 20 ints 2 sum 17\n",
+    ),
+];
+
+#[test]
+fn writes_fail(rt: HostRuntime) -> Result<(), Fail> {
+    for (words, piece, failing, written) in &CUT {
+        let alloc = rt.alloc();
+        let sink = sink(alloc, (*piece).max(1), &[*failing])?;
+        let given = run_unread(&rt, alloc, words, sink)?;
+        is_given(&rt, &given, 4, "write fault\n", written);
+    }
+    Ok(())
+}
+
+#[test]
+fn a_generated_script_is_run(rt: HostRuntime) -> Result<(), Fail> {
+    let alloc = rt.alloc();
+    let script = run_unread(&rt, alloc, "gen 7 2 100", sink(alloc, 4096, &[])?)?;
+    let source = MemSource::make(script.written, 4096, Vec::new(alloc));
+    let given = run_program(&rt, alloc, "run", source, sink(alloc, 4096, &[])?)?;
+    assert_eq!(rt; given.number, 0);
+    Ok(())
+}
