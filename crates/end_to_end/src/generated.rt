@@ -1,8 +1,9 @@
 //! Generated scripts, written and run. Nothing is read for them.
 ghost use Rattle.std.specs.Prelude.{◌≤◌};
 
-use crate::program::{Output, is_given, run_program, sink, source};
-use outer_io::{MemSink, MemSource};
+use crate::program::{Output, is_given, run_program, sink, source, words_in};
+use camlheap_run::{camlheap, status_number};
+use outer_io::{LengthSink, MemSink, MemSource, NoGate};
 use std::alloc::{AllocError, Global};
 use std::sync::Wait;
 use std::test::Fail;
@@ -73,5 +74,16 @@ fn a_generated_script_is_run(rt: HostRuntime) -> Result<(), Fail> {
     let source = MemSource::make(script.written, 4096, Vec::new(alloc));
     let given = run_program(&rt, alloc, "run", source, sink(alloc, 4096, &[])?)?;
     assert_eq!(rt; given.number, 0);
+    Ok(())
+}
+
+#[test]
+fn the_largest_script_has_two_million_bytes(rt: HostRuntime) -> Result<(), Fail> {
+    let alloc = rt.alloc();
+    let words = words_in(alloc, "gen 7 8 25000")?;
+    let mut source = source(alloc, "", 4096, &[])?;
+    let mut sink = LengthSink::make();
+    let status = camlheap(&rt, alloc, &words, &mut source, &mut sink, &NoGate);
+    assert_eq!(rt; (status_number(&status), sink.length()), (0, 2_215_146));
     Ok(())
 }
