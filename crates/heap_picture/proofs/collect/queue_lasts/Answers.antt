@@ -1,0 +1,6 @@
+use Rattle.std.proofs.Common.{[]}
+use Rattle.heap_picture.proofs.PlaysLemmas.{plays_both}
+use Rattle.heap_picture.proofs.collect.queue_lasts.Goals as goal
+
+pub loop-place-preserved : goal.loop-place-preserved
+loop-place-preserved c = plays_both c.args.heap.now c.loop-place.heap c.queue_last.new.heap [] [] c.loop-place.invariant c.in_ok-queue_last.ensures
