@@ -1,3 +1,4 @@
 pub mod Fates
 pub mod Text
+pub mod Takes
 pub mod Plays

@@ -1,8 +1,10 @@
 //! The steps of a complete collection, which takes all that it may.
-ghost use Rattle.std.specs.Prelude.{◌≡◌, ◌++◌, ◌∷◌, [], cond, OnOk, IfOk};
+ghost use Rattle.std.specs.Prelude.{◌≡◌, ◌++◌, ◌∷◌, [], cond, length, min, slice_get, OnOk, IfOk};
 ghost use Rattle.heap_model.specs.History.{command_of};
-ghost use Rattle.heap_picture.specs.Fates.{fate_of, may_run as runs, may_empty};
-ghost use Rattle.heap_picture.specs.Text.{placed};
+ghost use Rattle.heap_picture.specs.Fates.{fate_of, may_go as goes, reached_in};
+ghost use Rattle.heap_picture.specs.Takes.{final_places as places_of_finals, key_places as places_of_keys, keys_of};
+ghost use Rattle.heap_model.specs.Domains.{domain_at};
+ghost use Rattle.heap_model.specs.Entries.{is_some_and};
 ghost use Rattle.heap_picture.specs.Plays.{Plays};
 
 use crate::fates::{Fate, Fates, may_go, may_run};
@@ -44,7 +46,7 @@ fn final_places(
     fates: &Fates,
     finals: &Sequence<Finaliser>,
 ) -> Result<Places, AllocError>
-    ensures { IfOk result (λ p. p ≡ placed (λ i f. cond (runs (fate_of fates.now f.label)) (i ∷ []) []) 0 finals.now) }
+    ensures { IfOk result (λ p. p ≡ places_of_finals fates.now finals.now) }
 {
     let mut places = Vec::new(alloc);
     for (i, f) in finals.items.iter().enumerate() {
@@ -59,7 +61,7 @@ fn key_places(
     fates: &Fates,
     keys: &Sequence<Option<Label>>,
 ) -> Result<Places, AllocError>
-    ensures { IfOk result (λ p. p ≡ placed (λ i key. cond (may_empty (fate_of fates.now) key) (i ∷ []) []) 0 keys.now) }
+    ensures { IfOk result (λ p. p ≡ places_of_keys fates.now keys.now) }
 {
     let mut places = Vec::new(alloc);
     for (i, key) in keys.items.iter().enumerate() {
@@ -69,7 +71,9 @@ fn key_places(
 }
 
 // The places of the registrations of `finalise` in domain 0 that may be queued.
-fn finals_of(alloc: Global, heap: &SlowHeap) -> Result<Places, AllocError> {
+fn finals_of(alloc: Global, heap: &SlowHeap) -> Result<Places, AllocError>
+    ensures { IfOk result (λ p. p ≡ places_of_finals (reached_in heap.now) (domain_at heap.now 0).finals) }
+{
     let fates = Fates::of(heap)?;
     let state = heap.state();
     let domains = &state.domains;
@@ -97,7 +101,9 @@ fn keys_at(
     fates: &Fates,
     state: &State,
     place: usize,
-) -> Result<Option<(Label, Places)>, AllocError> {
+) -> Result<Option<(Label, Places)>, AllocError>
+    ensures { IfOk result (λ found. found ≡ keys_of fates.now (slice_get state.now.graph place)) }
+{
     let graph = &state.graph;
     let Some((label, node)) = graph.items.get(place) else {
         return Ok(None);
@@ -140,7 +146,9 @@ fn wipe_keys(alloc: Global, heap: &mut SlowHeap, fates: &Fates) -> Result<(), Ap
 }
 
 // Whether the registration of `finalise_last` at a place in domain 0 may be queued.
-fn may_queue_last(fates: &Fates, state: &State, place: usize) -> bool {
+fn may_queue_last(fates: &Fates, state: &State, place: usize) -> bool
+    ensures { result ≡ is_some_and (λ f. goes (fate_of fates.now f.label)) (slice_get (domain_at state.now 0).lasts place) }
+{
     let domains = &state.domains;
     let Some(domain) = domains.items.first() else {
         return false;
@@ -163,8 +171,10 @@ fn queue_last(heap: &mut SlowHeap, fates: &Fates, place: u32) -> Result<(), Appl
     }
 }
 
-// How many registrations of `finalise_last` domain 0 has.
-fn count_lasts(state: &State) -> u32 {
+// How many registrations of `finalise_last` domain 0 has, as far as 32 bits count.
+fn count_lasts(state: &State) -> u32
+    ensures { result ≡ min (length (domain_at state.now 0).lasts) 4294967295 }
+{
     let domains = &state.domains;
     let Some(domain) = domains.items.first() else {
         return 0;

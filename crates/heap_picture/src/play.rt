@@ -1,5 +1,6 @@
 //! Plays the commands of a script, with collections and finalisers in between.
-ghost use Rattle.std.specs.Prelude.{◌≡◌, ◌∷◌, [], OnOk};
+ghost use Rattle.std.specs.Prelude.{◌≡◌, ◌∷◌, [], length, OnOk};
+ghost use Rattle.heap_model.specs.Domains.{domain_at};
 ghost use Rattle.heap_picture.specs.Plays.{Plays};
 
 use crate::collect::{collect, follow};
@@ -10,7 +11,9 @@ use slow_heap::SlowHeap;
 use std::alloc::Global;
 
 // How many finalisers wait in the queue of domain 0.
-fn count_queued(heap: &SlowHeap) -> usize {
+fn count_queued(heap: &SlowHeap) -> usize
+    ensures { result ≡ length (domain_at heap.now 0).queue }
+{
     let state = heap.state();
     let domains = &state.domains;
     match domains.items.first() {
