@@ -1,5 +1,5 @@
 -- Plays that follow each other.
-use Rattle.std.proofs.Common.{◌≡◌, ℕ, List, [], ◌∷◌, ◌++◌, refl, ap, subst, sym, ◌∙◌, append-nil, ◌+◌, ◌<◌, length, take, get_or, Result, Ok, Err, OnOk}
+use Rattle.std.proofs.Common.{◌≡◌, ℕ, List, [], ◌∷◌, ◌++◌, refl, ap, subst, sym, ◌∙◌, append-nil, suc, ◌+◌, add-one, ◌<◌, length, take, drop, drop-cons, get_or, Result, Ok, Err, OnOk}
 use Rattle.std.proofs.lemmas.List.{take_more}
 use Rattle.heap_model.specs.declared.command.Command.{Command}
 use Rattle.heap_model.specs.declared.entry.Entry.{Entry}
@@ -7,6 +7,8 @@ use Rattle.heap_model.specs.declared.state.State.{State}
 use Rattle.heap_model.specs.Entries.{Allowed, next}
 use Rattle.heap_model.specs.History.{command_of, commands, state_after, LegalFrom}
 use Rattle.heap_model.proofs.Histories.HistoryLemmas.{state_after-append, legal_append, commands-append}
+use Rattle.heap_picture.specs.Fates.{Reached}
+use Rattle.heap_picture.specs.Steps.{last_queued_at, lasts_queued_from, played_one, played}
 use Rattle.heap_picture.specs.Plays.{Plays}
 
 -- nothing is played
@@ -39,3 +41,11 @@ plays_then (Err e) s t u cs ds first second = tt
 -- one more command of a list
 pub plays_more : (s t u : State) (cs : List Command) (i : ℕ) (d : Command) → i < length cs → Plays s t (take i cs) → Plays t u (get_or cs i d ∷ []) → Plays s u (take (i + 1) cs)
 plays_more s t u cs i d within first second = rw (take_more cs i d within) (plays_both s t u (take i cs) (get_or cs i d ∷ []) first second)
+
+-- the newest of the first registrations is looked at
+pub lasts_step : (r : Reached) (s t : State) (n k : ℕ) → n ≡ suc k → t ≡ last_queued_at r s k → lasts_queued_from r t k ≡ lasts_queued_from r s n
+lasts_step r s t n k is step = rw is (ap (λ x. lasts_queued_from r x k) step)
+
+-- the first of the commands is played
+pub played_step : (s t : State) (cs : List Command) (i : ℕ) (d : Command) → i < length cs → t ≡ played_one s (get_or cs i d) → played t (drop (i + 1) cs) ≡ played s (drop i cs)
+played_step s t cs i d within step = rw (add-one i, drop-cons cs i d within) (ap (λ x. played x (drop (suc i) cs)) step)

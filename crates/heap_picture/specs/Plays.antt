@@ -10,6 +10,7 @@ use Rattle.heap_text.specs.Faults.{IsFaultUnlessMemory}
 use Rattle.heap_text.specs.Spelling.{Spells}
 use Rattle.heap_picture.specs.declared.fault.PictureFault.{PictureFault}
 use Rattle.heap_picture.specs.declared.fault.PictureFault.TheVariants.{Script, Play}
+use Rattle.heap_picture.specs.Steps.{played}
 use Rattle.heap_picture.specs.Text.{picture_text}
 
 -- legal entries lead from one state to another, and the commands of domain 0 in them are these
@@ -19,11 +20,14 @@ pub record Plays (before after : State) (cs : List Command) : Type 0 where
   pub leads : after ≡ state_after before entries
   pub commands_are : commands entries 0 ≡ cs
 
--- the text is the picture of a state that a legal history with these commands leaves
+-- the state before a script: one domain, and the sizes that a run has without options
+abbrev pub start : State
+start = opening (sizes_of 1 512 32768 6)
+
+-- the text is the picture of the state to which these commands are played, and that is a legal history
 pub record IsDrawn (cs : List Command) (text : List ℕ) : Type 0 where
-  pub state : State
-  pub played : Plays (opening (sizes_of 1 512 32768 6)) state cs
-  pub text_is : text ≡ picture_text state
+  pub legal : Plays start (played start cs) cs
+  pub text_is : text ≡ picture_text (played start cs)
 
 -- so drawn are the commands that the bytes spell
 pub record IsPictureOf (bytes text : List ℕ) : Type 0 where

@@ -1,10 +1,11 @@
 //! The steps of a complete collection, which takes all that it may.
-ghost use Rattle.std.specs.Prelude.{◌≡◌, ◌++◌, ◌∷◌, [], cond, length, min, slice_get, OnOk, IfOk};
+ghost use Rattle.std.specs.Prelude.{◌≡◌, ◌++◌, ◌∷◌, [], cond, length, min, slice_get, OnOk, IfOk, Some};
 ghost use Rattle.heap_model.specs.History.{command_of};
 ghost use Rattle.heap_picture.specs.Fates.{fate_of, may_go as goes, reached_in};
 ghost use Rattle.heap_picture.specs.Takes.{final_places as places_of_finals, key_places as places_of_keys, keys_of};
+ghost use Rattle.heap_picture.specs.Steps.{queued_at, with_finals_queued, wiped_where, wiped_at, wiped_upto, last_queued_at, with_lasts_queued, collected};
 ghost use Rattle.heap_model.specs.Domains.{domain_at};
-ghost use Rattle.heap_model.specs.Entries.{is_some_and};
+ghost use Rattle.heap_model.specs.Entries.{is_some_and, next};
 ghost use Rattle.heap_picture.specs.Plays.{Plays};
 
 use crate::fates::{Fate, Fates, may_go, may_run};
@@ -19,7 +20,8 @@ use std::alloc::{AllocError, Global};
 
 // Follows an entry, where it is legal.
 pub(crate) fn follow(heap: &mut SlowHeap, entry: &Entry) -> Result<(), ApplyFault>
-    ensures { OnOk result (Plays heap.old heap.new (command_of 0 entry.now)) }
+    ensures plays { OnOk result (Plays heap.old heap.new (command_of 0 entry.now)) }
+    ensures state { OnOk result (heap.new ≡ next heap.old entry.now) }
 {
     if !heap.is_in_range(entry) {
         return Err(ApplyFault::NotLegal);
@@ -83,16 +85,25 @@ fn finals_of(alloc: Global, heap: &SlowHeap) -> Result<Places, AllocError>
     }
 }
 
-// Queues the finalisers of `finalise` whose blocks are not reached.
-fn queue_finals(alloc: Global, heap: &mut SlowHeap) -> Result<(), ApplyFault>
-    ensures { OnOk result (Plays heap.old heap.new []) }
+// Queues the registrations of `finalise` at these places.
+fn queue(heap: &mut SlowHeap, places: Places) -> Result<(), ApplyFault>
+    ensures plays { OnOk result (Plays heap.old heap.new []) }
+    ensures state { OnOk result (heap.new ≡ queued_at places heap.old) }
 {
-    let places = finals_of(alloc, heap)?;
     if places.items.is_empty() {
         Ok(())
     } else {
         follow(heap, &Entry::Queue { domain: 0, places })
     }
+}
+
+// Queues the finalisers of `finalise` whose blocks are not reached.
+fn queue_finals(alloc: Global, heap: &mut SlowHeap) -> Result<(), ApplyFault>
+    ensures plays { OnOk result (Plays heap.old heap.new []) }
+    ensures state { OnOk result (heap.new ≡ with_finals_queued heap.old) }
+{
+    let places = finals_of(alloc, heap)?;
+    queue(heap, places)
 }
 
 // The keys that may be emptied of the block at a place of the graph, if it is an ephemeron that is reached.
@@ -116,6 +127,18 @@ fn keys_at(
     }
 }
 
+// Empties the keys at these places of an ephemeron.
+fn wipe(heap: &mut SlowHeap, label: Label, keys: Places) -> Result<(), ApplyFault>
+    ensures plays { OnOk result (Plays heap.old heap.new []) }
+    ensures state { OnOk result (heap.new ≡ wiped_where (Some (label, keys)) heap.old) }
+{
+    if keys.items.is_empty() {
+        Ok(())
+    } else {
+        follow(heap, &Entry::Wipe { label, keys })
+    }
+}
+
 // Empties the keys that may be emptied of the block at a place of the graph.
 fn wipe_at(
     alloc: Global,
@@ -123,19 +146,19 @@ fn wipe_at(
     fates: &Fates,
     place: usize,
 ) -> Result<(), ApplyFault>
-    ensures { OnOk result (Plays heap.old heap.new []) }
+    ensures plays { OnOk result (Plays heap.old heap.new []) }
+    ensures state { OnOk result (heap.new ≡ wiped_at fates.now heap.old place) }
 {
     match keys_at(alloc, fates, heap.state(), place)? {
-        Some((label, keys)) if !keys.items.is_empty() => {
-            follow(heap, &Entry::Wipe { label, keys })
-        }
-        _ => Ok(()),
+        Some((label, keys)) => wipe(heap, label, keys),
+        None => Ok(()),
     }
 }
 
 // Empties all keys that may be emptied.
 fn wipe_keys(alloc: Global, heap: &mut SlowHeap, fates: &Fates) -> Result<(), ApplyFault>
-    ensures { OnOk result (Plays heap.old heap.new []) }
+    ensures plays { OnOk result (Plays heap.old heap.new []) }
+    ensures state { OnOk result (heap.new ≡ wiped_upto fates.now heap.old (length heap.old.graph)) }
 {
     let state = heap.state();
     let graph = &state.graph;
@@ -162,7 +185,8 @@ fn may_queue_last(fates: &Fates, state: &State, place: usize) -> bool
 
 // Queues the registration of `finalise_last` at a place, if it may be queued.
 fn queue_last(heap: &mut SlowHeap, fates: &Fates, place: u32) -> Result<(), ApplyFault>
-    ensures { OnOk result (Plays heap.old heap.new []) }
+    ensures plays { OnOk result (Plays heap.old heap.new []) }
+    ensures state { OnOk result (heap.new ≡ last_queued_at fates.now heap.old place) }
 {
     if may_queue_last(fates, heap.state(), place as usize) {
         follow(heap, &Entry::Last { domain: 0, place })
@@ -185,7 +209,8 @@ fn count_lasts(state: &State) -> u32
 
 // Queues the finalisers of `finalise_last` whose blocks are gone, the newest first.
 fn queue_lasts(heap: &mut SlowHeap, fates: &Fates) -> Result<(), ApplyFault>
-    ensures { OnOk result (Plays heap.old heap.new []) }
+    ensures plays { OnOk result (Plays heap.old heap.new []) }
+    ensures state { OnOk result (heap.new ≡ with_lasts_queued fates.now heap.old) }
 {
     let mut place = count_lasts(heap.state());
     while place > 0 {
@@ -196,8 +221,10 @@ fn queue_lasts(heap: &mut SlowHeap, fates: &Fates) -> Result<(), ApplyFault>
 }
 
 // A complete collection, up to where `full_major` may be answered.
+#[tactic(auto, unfolding(crate::specs::Steps::collected))]
 pub(crate) fn collect(alloc: Global, heap: &mut SlowHeap) -> Result<(), ApplyFault>
-    ensures { OnOk result (Plays heap.old heap.new []) }
+    ensures plays { OnOk result (Plays heap.old heap.new []) }
+    ensures state { OnOk result (heap.new ≡ collected heap.old) }
 {
     follow(heap, &Entry::Cut)?;
     queue_finals(alloc, heap)?;

@@ -1,14 +1,14 @@
 //! Draws the object graph that a script of one domain leaves: reads the script from standard input, and writes the
 //! picture to standard output, as text for Graphviz.
 //!
-//! `draw` says it whole. Its text is `picture_text` of a state that a legal history leaves, on a heap of one domain with
-//! the sizes that `camlheap run` has without options, and the commands in that history are those that the bytes spell.
-//! So what is drawn as reachable is, a key or a registration is red where a collection may take it, and what a
-//! `full_major` before it had to take is gone.
+//! `draw` says it whole: its text is `picture_text` of the state `played start cs`, where `cs` are the commands that the
+//! bytes spell, and a legal history with these commands leads from `start`, a heap of one domain with the sizes that
+//! `camlheap run` has without options, to that state. `played` says which history it is: before each command the queued
+//! finalisers run, and `major` and `full_major` make a complete collection. What is white, grey and red in a picture is
+//! said by `specs/Fates` in the words of the model: reach and settled reach.
 //!
-//! Tests alone show that playing never stops at an entry which the model doesn't allow; that `major` makes a collection
-//! too, and that the finalisers which the last command queued stay in the queue, since other histories with the same
-//! commands are as legal; and that Graphviz reads the text.
+//! Tests alone show that this history is always legal, so that no script ends with `NotLegal`, and that Graphviz reads
+//! the text.
 //!
 //! The program ends with status 0, with 2 where the script is refused, and else with 1.
 #![tactic(auto)]

@@ -1,6 +1,8 @@
 //! Plays the commands of a script, with collections and finalisers in between.
-ghost use Rattle.std.specs.Prelude.{◌≡◌, ◌∷◌, [], length, OnOk};
+ghost use Rattle.std.specs.Prelude.{◌≡◌, ◌∷◌, [], false, length, OnOk};
 ghost use Rattle.heap_model.specs.Domains.{domain_at};
+ghost use Rattle.heap_model.specs.Entries.{next};
+ghost use Rattle.heap_picture.specs.Steps.{collected, with_queue_run, asked, played_one, played};
 ghost use Rattle.heap_picture.specs.Plays.{Plays};
 
 use crate::collect::{collect, follow};
@@ -27,7 +29,8 @@ fn count_queued(heap: &SlowHeap) -> usize
 
 // Runs all queued finalisers.
 fn run_queued(heap: &mut SlowHeap) -> Result<(), ApplyFault>
-    ensures { OnOk result (Plays heap.old heap.new []) }
+    ensures plays { OnOk result (Plays heap.old heap.new []) }
+    ensures state { OnOk result (heap.new ≡ with_queue_run heap.old) }
 {
     for _i in 0..count_queued(heap) {
         follow(heap, &Entry::Ran { domain: 0 })?;
@@ -37,7 +40,8 @@ fn run_queued(heap: &mut SlowHeap) -> Result<(), ApplyFault>
 
 // The entry of a command.
 fn make(heap: &mut SlowHeap, command: Command) -> Result<(), ApplyFault>
-    ensures { OnOk result (Plays heap.old heap.new (command ∷ [])) }
+    ensures plays { OnOk result (Plays heap.old heap.new (command ∷ [])) }
+    ensures state { OnOk result (heap.new ≡ next heap.old (Entry.Command 0 command false)) }
 {
     let entry = Entry::Command {
         domain: 0,
@@ -49,7 +53,8 @@ fn make(heap: &mut SlowHeap, command: Command) -> Result<(), ApplyFault>
 
 // A complete collection that no `full_major` asked for, and the finalisers that it queued.
 fn major(alloc: Global, heap: &mut SlowHeap) -> Result<(), ApplyFault>
-    ensures { OnOk result (Plays heap.old heap.new []) }
+    ensures plays { OnOk result (Plays heap.old heap.new []) }
+    ensures state { OnOk result (heap.new ≡ with_queue_run (next (collected heap.old) Entry.Done)) }
 {
     collect(alloc, heap)?;
     follow(heap, &Entry::Done)?;
@@ -58,7 +63,8 @@ fn major(alloc: Global, heap: &mut SlowHeap) -> Result<(), ApplyFault>
 
 // A complete collection in which `full_major` is answered.
 fn full_major(alloc: Global, heap: &mut SlowHeap) -> Result<(), ApplyFault>
-    ensures { OnOk result (Plays heap.old heap.new (Command.FullMajor ∷ [])) }
+    ensures plays { OnOk result (Plays heap.old heap.new (Command.FullMajor ∷ [])) }
+    ensures state { OnOk result (heap.new ≡ asked heap.old Command.FullMajor) }
 {
     collect(alloc, heap)?;
     make(heap, Command::FullMajor)?;
@@ -67,7 +73,8 @@ fn full_major(alloc: Global, heap: &mut SlowHeap) -> Result<(), ApplyFault>
 
 // A command, with the collection that it asks for.
 fn make_after_asking(alloc: Global, heap: &mut SlowHeap, command: Command) -> Result<(), ApplyFault>
-    ensures { OnOk result (Plays heap.old heap.new (command ∷ [])) }
+    ensures plays { OnOk result (Plays heap.old heap.new (command ∷ [])) }
+    ensures state { OnOk result (heap.new ≡ asked heap.old command) }
 {
     match command {
         Command::FullMajor => full_major(alloc, heap),
@@ -81,7 +88,8 @@ fn make_after_asking(alloc: Global, heap: &mut SlowHeap, command: Command) -> Re
 
 // A command, after all queued finalisers.
 fn play_command(alloc: Global, heap: &mut SlowHeap, command: Command) -> Result<(), ApplyFault>
-    ensures { OnOk result (Plays heap.old heap.new (command ∷ [])) }
+    ensures plays { OnOk result (Plays heap.old heap.new (command ∷ [])) }
+    ensures state { OnOk result (heap.new ≡ played_one heap.old command) }
 {
     run_queued(heap)?;
     make_after_asking(alloc, heap, command)
@@ -94,7 +102,8 @@ pub(crate) fn play(
     heap: &mut SlowHeap,
     commands: &[Command],
 ) -> Result<(), ApplyFault>
-    ensures { OnOk result (Plays heap.old heap.new commands.now) }
+    ensures plays { OnOk result (Plays heap.old heap.new commands.now) }
+    ensures state { OnOk result (heap.new ≡ played heap.old commands.now) }
 {
     for command in commands {
         play_command(alloc, heap, *command)?;

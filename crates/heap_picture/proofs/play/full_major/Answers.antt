@@ -3,7 +3,7 @@ use Rattle.heap_model.specs.declared.command.Command.TheVariants.{FullMajor}
 use Rattle.heap_picture.proofs.PlaysLemmas.{plays_both, plays_then}
 use Rattle.heap_picture.proofs.play.full_major.Goals as goal
 
-pub returns : goal.returns
-returns c =
-    let made = plays_both c.args.heap.now c.collect.new.heap c.make.new.heap [] (FullMajor ∷ []) c.in_ok-collect.ensures c.in_ok-make.ensures in
-    plays_then c.follow.result c.args.heap.now c.make.new.heap c.follow.new.heap (FullMajor ∷ []) [] made c.follow.ensures
+pub returns-clause-plays : goal.returns-clause-plays
+returns-clause-plays c =
+    let made = plays_both c.args.heap.now c.collect.new.heap c.make.new.heap [] (FullMajor ∷ []) c.in_ok-collect.ensures.plays c.in_ok-make.ensures.plays in
+    plays_then c.follow.result c.args.heap.now c.make.new.heap c.follow.new.heap (FullMajor ∷ []) [] made c.follow.ensures.plays
