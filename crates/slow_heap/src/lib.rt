@@ -2,7 +2,7 @@
 #![tactic(auto)]
 
 ghost use Rattle.std.specs.Prelude.{◌≡◌, ◌↔◌, IsTrue, IfOk, OnOk, OnErr};
-ghost use Rattle.heap_model.specs.Domains.{opening, sizes_of, IsWithinLimits};
+ghost use Rattle.heap_model.specs.Domains.{opening, sizes_of, IsWithinLimits, queues, reach as reach_of, settled_reach};
 ghost use Rattle.heap_model.specs.Entries.{Allowed, next, reply, IsInRange};
 
 mod blocks;
@@ -20,6 +20,7 @@ mod roots;
 mod wiping;
 
 use heap_model::entry::Entry;
+use heap_model::label::Label;
 use heap_model::reply::{Applied, ApplyFault};
 use heap_model::state::{Sizes, State};
 use std::alloc::{AllocError, Global};
@@ -67,6 +68,29 @@ impl SlowHeap {
         };
         let state = opening::opening_state(alloc, sizes)?;
         Ok(SlowHeap { alloc, state })
+    }
+
+    /// The state that the entries so far leave.
+    pub fn state(&self) -> &State
+        ensures { result.now ≡ self.now }
+    {
+        &self.state
+    }
+
+    /// The labels that the registers and the present queues reach, each once. An `Err` says that there is no memory
+    /// for them.
+    pub fn reach(&self) -> Result<Vec<Label>, AllocError>
+        ensures { IfOk result (λ v. v.items ≡ reach_of self.now) }
+    {
+        roots::reach(self.alloc, &self.state)
+    }
+
+    /// The labels that the registers, the present queues and the waiting registrations of `finalise` reach, each once.
+    /// A collection may empty the keys outside of them. An `Err` says that there is no memory for them.
+    pub fn settled_reach(&self) -> Result<Vec<Label>, AllocError>
+        ensures { IfOk result (λ v. v.items ≡ settled_reach self.now (queues self.now)) }
+    {
+        roots::settled(self.alloc, &self.state)
     }
 
     /// Whether an entry may be given to `apply`: the domain that it names is one of the heap's, and the domain of an

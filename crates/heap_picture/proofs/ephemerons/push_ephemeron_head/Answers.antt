@@ -1,0 +1,5 @@
+use Rattle.std.proofs.Common.{append_assoc}
+use Rattle.heap_picture.proofs.ephemerons.push_ephemeron_head.Goals as goal
+
+pub returns : goal.returns
+returns c = simp append_assoc c.write.ensures.bytes

@@ -1,0 +1,7 @@
+use Rattle.std.proofs.Common.{◌≡◌, ◌++◌, string_bytes, drop}
+use Rattle.heap_picture.specs.Text.{placed, register_arrow}
+use Rattle.heap_picture.proofs.registers.push_register_arrows.Given as goal
+
+-- what is written, and what is still to come
+abbrev pub invariant-loop-place : goal.invariant-loop-place
+invariant-loop-place l = string_bytes l.out ++ placed register_arrow l.place (drop l.place l.values) ≡ string_bytes l.initial.out ++ placed register_arrow 0 l.values

@@ -1,0 +1,5 @@
+pub mod Fates
+pub mod Text
+pub mod Takes
+pub mod Steps
+pub mod Plays

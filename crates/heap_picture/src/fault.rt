@@ -1,0 +1,12 @@
+//! Why no picture is drawn.
+use heap_model::reply::ApplyFault;
+use heap_text::ScriptFault;
+
+/// Why no picture is drawn.
+#[derive(Clone, Copy, Debug, PartialEq, Eq)]
+pub(crate) enum PictureFault {
+    /// The script has this fault first.
+    Script(ScriptFault),
+    /// The script couldn't be played.
+    Play(ApplyFault),
+}
