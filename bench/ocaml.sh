@@ -31,7 +31,7 @@ least() {
 # Nanoseconds of one run of the script $1.
 once() {
     local start=$EPOCHREALTIME
-    "$work/camlheap" run --domains 1 --pools 600 <"$1" >"$work/out"
+    "$work/camlheap" run --domains 1 --pools 300 <"$1" >"$work/out"
     awk -v start="$start" -v end="$EPOCHREALTIME" 'BEGIN { print (end - start) * 1e9 }'
 }
 
@@ -97,8 +97,8 @@ for count in 10000 60000; do
     collections chain "$count" 40
 done
 collections ephemerons 10000 40
-script finalisers 10000 0 >"$work/none"
+script finalisers 100000 0 >"$work/none"
 { cat "$work/none"; echo full_major; } >"$work/first"
 { cat "$work/none"; echo minor; } >"$work/minor"
-ratio "the first full_major, finalisers 10000, with their runs" "$(least once "$work/first")" "$(least once "$work/minor")" 1 \
-    "$(least "$work/ocaml" finalisers 10000 1)"
+ratio "the first full_major, finalisers 100000, with their runs" "$(least once "$work/first")" "$(least once "$work/minor")" 1 \
+    "$(least "$work/ocaml" finalisers 100000 1)"

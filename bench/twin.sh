@@ -1,8 +1,8 @@
 #!/usr/bin/env bash
 # Times `camlheap run` beside its twin without a proof, bench/twin, which `rustc -O` builds here: the proved program's time divided by
 # the twin's, for runs of 200,000 commands and of collections; what starting takes; what a command costs in scripts of 10^3 to
-# 2 * 10^5 commands; and how many system calls a run makes. The two run in turn, and the fastest of several runs of each counts.
-# It claims nothing.
+# 2 * 10^5 commands, in time and, where valgrind is installed, in instructions; and how many system calls a run makes. The two run
+# in turn, and the fastest of several runs of each counts. It claims nothing.
 # With the word `same` it times nothing: it compares the outputs of both for the examples and for scripts that are drawn by chance,
 # and ends with 1 where two differ.
 set -euo pipefail
@@ -31,11 +31,19 @@ both() {
         END { printf "%.6f %.6f\n", least["proved"], least["twin"] }'
 }
 
-# Prints one line: what is timed, $1, and the ratio of the two, which the words behind it give.
+# Prints one line: what is timed, $1, the ratio of the two times $2, and that of what they are beyond the two times $3.
 ratio() {
-    awk -v what="$1" -v proved="$2" -v twin="$3" 'BEGIN {
-        printf "%s: proved %.2f ms, twin %.2f ms, ratio %.2f\n", what, proved * 1e3, twin * 1e3, proved / twin
+    echo "$2 ${3:-}" | awk -v what="$1" '{
+        printf "%s: proved %.2f ms, twin %.2f ms, ratio %.2f", what, $1 * 1e3, $2 * 1e3, $1 / $2
+        if (NF > 2) printf ", beyond the start %.2f", ($1 - $3) / ($2 - $4)
+        print ""
     }'
+}
+
+# Times the script with $2 domains, which is told as $1, beside a run with no command.
+beside_start() {
+    script "$2" 0 private >"$work/none"
+    ratio "$1, domains $2" "$(both "$runs" "$work/script" --domains "$2")" "$(both $((2 * runs)) "$work/none" --domains "$2")"
 }
 
 # A script of $1 domains and $2 commands in all, which is one with no command where $2 is 0. What each domain does over and over $3
@@ -79,12 +87,12 @@ commands() {
     for what in private shared; do
         for domains in 1 2 4 8; do
             script "$domains" 200000 "$what" >"$work/script"
-            ratio "200000 commands on $what blocks, domains $domains" $(both "$runs" "$work/script" --domains "$domains")
+            beside_start "200000 commands on $what blocks" "$domains"
         done
     done
     for domains in 1 2 4; do
         chains "$domains" $((40000 / domains)) 100 >"$work/script"
-        ratio "40000 blocks and 100 complete collections, domains $domains" $(both "$runs" "$work/script" --domains "$domains")
+        beside_start "40000 blocks and 100 complete collections" "$domains"
     done
 }
 
@@ -95,38 +103,60 @@ memory() {
     /usr/bin/time -f %M "$work/$program" run "$@" <"$work/empty" 2>&1 >/dev/null
 }
 
-starts() {
-    local heap
-    script 1 0 private >"$work/empty"
-    for heap in "--domains 2 --minor 32768 --pools 512" "--domains 8 --minor 65536 --pools 2048"; do
-        ratio "start of a heap with $heap" $(both $((4 * runs)) "$work/empty" $heap)
-        if [ -x /usr/bin/time ]; then
-            echo "its memory: proved $(memory proved $heap) KiB, twin $(memory twin $heap) KiB"
-        fi
-    done
+# What the start of a heap with $1 domains, $2 words in each minor area and $3 pools takes.
+start() {
+    local heap=(--domains "$1" --minor "$2" --pools "$3")
+    ratio "a run of no command, ${heap[*]}" "$(both $((4 * runs)) "$work/empty" "${heap[@]}")"
+    if [ -x /usr/bin/time ]; then
+        echo "its memory: proved $(memory proved "${heap[@]}") KiB, twin $(memory twin "${heap[@]}") KiB"
+    fi
 }
 
-# What a command costs beyond the start. A collection has nothing to copy and a small heap to list, so it takes the same time in
-# each script.
-costs() {
-    local count heap="--domains 1 --minor 4096 --pools 16"
-    script 1 0 large >"$work/script"
-    echo "0 $(both $((20 * runs)) "$work/script" $heap)" >"$work/costs"
-    for count in 1000 10000 100000 200000; do
-        script 1 "$count" large >"$work/script"
-        echo "$count $(both $((count == 1000 ? 20 * runs : 2 * runs)) "$work/script" $heap)" >>"$work/costs"
+starts() {
+    script 1 0 private >"$work/empty"
+    start 2 32768 512
+    start 8 65536 2048
+}
+
+# How many instructions a run of the script makes, in both programs, or twice none where there is no valgrind.
+instructions() {
+    local program
+    if ! command -v valgrind >/dev/null; then
+        echo none none
+        return
+    fi
+    for program in proved twin; do
+        valgrind --tool=callgrind --callgrind-out-file="$work/counted" "$work/$program" run "$@" <"$work/script" >"$work/out" 2>"$work/error"
+        awk '/^summary:/ { printf "%d ", $2 }' "$work/counted"
     done
-    awk '
-        NR == 1 { start[2] = $2; start[3] = $3; next }
-        {
-            for (i = 2; i <= 3; i++) {
-                cost[i] = ($i - start[i]) / $1 * 1e9
-                if (NR == 2 || cost[i] < least[i]) least[i] = cost[i]
-                if (NR == 2 || cost[i] > most[i]) most[i] = cost[i]
+    echo
+}
+
+# What a command costs beyond the start, and beyond the first 200 commands, which touch all memory of the heap that the others use. A
+# collection has nothing to copy and a small heap to list, so it takes the same time in each script.
+costs() {
+    local count times measure heap=(--domains 1 --minor 4096 --pools 16)
+    for count in 200 1000 10000 100000 200000; do
+        script 1 "$count" large >"$work/script"
+        times=$((count < 10000 ? 40 * runs : count == 10000 ? 10 * runs : 2 * runs))
+        echo "$count $(both "$times" "$work/script" "${heap[@]}") $(instructions "${heap[@]}")"
+    done >"$work/costs"
+    for measure in "2 1e9 ns" "4 1 instructions"; do
+        awk -v measure="$measure" '
+            function cost(i) { return ($i - first[i]) / ($1 - first[1]) * unit[2] }
+            function ratio(i) { return sprintf("%.2f", most[i] / least[i]) }
+            BEGIN { split(measure, unit, " "); p = unit[1]; t = p + 1 }
+            $p == "none" { exit }
+            NR == 1 { for (i = 1; i <= NF; i++) first[i] = $i; next }
+            {
+                for (i = p; i <= t; i++) {
+                    if (NR == 2 || cost(i) < least[i]) least[i] = cost(i)
+                    if (NR == 2 || cost(i) > most[i]) most[i] = cost(i)
+                }
+                printf "%d commands: proved %.0f %s each, twin %.0f\n", $1, cost(p), unit[3], cost(t)
             }
-            printf "%d commands: proved %.0f ns each, twin %.0f ns\n", $1, cost[2], cost[3]
-        }
-        END { printf "the largest cost of a command beside the least: proved %.2f, twin %.2f\n", most[2] / least[2], most[3] / least[3] }' "$work/costs"
+            END { if (NR > 1) print "the largest of these beside the least: proved " ratio(p) ", twin " ratio(t) }' "$work/costs"
+    done
 }
 
 calls() {
