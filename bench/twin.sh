@@ -226,10 +226,13 @@ compare() {
 }
 
 same() {
-    local example domains pools seed
+    local example words domains pools seed
     for example in "$top"/examples/*.heap; do
-        if [ "$(basename "$example")" = race.heap ]; then continue; fi
-        echo "examples $(compare "$example" --domains "$(grep -c '^domain ' "$example")")"
+        # One with several right outputs isn't compared.
+        if [ ! -e "${example%.heap}.expected" ]; then continue; fi
+        words=(run --domains "$(grep -c '^domain ' "$example")")
+        if [ -e "${example%.heap}.args" ]; then read -r -a words <"${example%.heap}.args"; fi
+        echo "examples $(compare "$example" "${words[@]:1}")"
     done >"$work/compared"
     for domains in 1 2 4 8; do
         for seed in $(seq $((10 * runs))); do
