@@ -12,7 +12,7 @@ if ! command -v dot >/dev/null; then
     exit 1
 fi
 
-if [ ! -x "$program" ] || [ -n "$(find "$crate"/../{heap_picture,slow_heap,heap_text,heap_model,decimals} -name out -prune -o -type f -newer "$program" -print -quit)" ]; then
+if [ ! -x "$program" ] || [ -n "$(find "$crate"/../{heap_picture,slow_heap,heap_text,heap_model,decimals}/{src,specs,proofs} -type f -newer "$program" -print -quit)" ]; then
     echo "make.sh: building the proved program heap_picture; the first time takes some minutes" >&2
     (cd "$crate" && rt run) <"$crate/stdin" >/dev/null
 fi

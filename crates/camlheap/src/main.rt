@@ -63,11 +63,13 @@ fn ends_given<R: Env + AllocGlobal, I: Read + Drop, O: Write + Drop>(
 fn main(rt: HostRuntime) -> ExitCode {
     let alloc = rt.alloc();
     let status = match ends_given(&rt, alloc, rt.stdin(), rt.stdout()) {
-        Ok(Ends {
-            words,
-            mut src,
-            mut out,
-        }) => {
+        Ok(
+            Ends {
+                words,
+                mut src,
+                mut out,
+            },
+        ) => {
             let status = camlheap(&rt, alloc, &words, &mut src, &mut out, &NoGate);
             flushed(status, &mut out)
         }
