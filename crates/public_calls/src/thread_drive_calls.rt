@@ -208,14 +208,14 @@ fn a_gate_hears_of_each_command_that_the_caller_turns(rt: HostRuntime) -> Result
     Ok(())
 }
 
-// The first command of a table's traces: a block of one field.
+// Register 1 holds a new block of one field.
 const MAKE: Command = Command::Alloc {
     dst: 1,
     tag: 0,
     fields: 1,
 };
 
-// Register 1 goes into the field 0 of the shared block.
+// What register 1 holds goes into field 0 of the shared block.
 const SHARE: Command = Command::Store {
     block: 0,
     index: 0,
@@ -364,14 +364,11 @@ fn filling(alloc: Global, blocks: u32, last: Command) -> Result<Vec<Command>, Al
 // Of 14 pools six can be drawn, with 32 blocks of 128 words each, and 32 more fit into the minor area.
 #[test]
 fn the_caller_fills_a_heap(rt: HostRuntime) -> Result<(), Fail> {
-    for (blocks, last) in [(0, major(3)), (32, young(3))] {
+    for (blocks, serial, last) in [(0, 193, major(3)), (32, 225, young(3))] {
         let commands = filling(rt.alloc(), blocks, last)?;
         let play = Play::start(rt.alloc(), ONE_DOMAIN, &[commands.as_slice()])?;
         let run = play.alone(&rt, &NoGate).pop().ok_or("no run")?;
-        let label = Label {
-            domain: 0,
-            serial: 193 + blocks,
-        };
+        let label = Label { domain: 0, serial };
         let replies = [
             Reply::Full,
             Reply::Done,
