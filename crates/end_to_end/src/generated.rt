@@ -3,6 +3,8 @@ ghost use Rattle.std.specs.Prelude.{◌≤◌};
 
 use crate::program::{Output, is_given, run_program, sink, source, words_in};
 use camlheap_run::{camlheap, status_number};
+use heap_model::command::Command;
+use heap_text::{Line, generate, print_command, read_script};
 use outer_io::{LengthSink, MemSink, MemSource, NoGate};
 use std::alloc::{AllocError, Global};
 use std::sync::Wait;
@@ -67,13 +69,49 @@ fn writes_fail(rt: HostRuntime) -> Result<(), Fail> {
     Ok(())
 }
 
+// Whether two commands have the same line.
+fn is_same(one: &Command, other: &Command) -> bool {
+    let mut first: Line = [0; 64];
+    let mut second: Line = [0; 64];
+    print_command(one, &mut first) == print_command(other, &mut second)
+        && first.as_slice() == second.as_slice()
+}
+
+// Whether two sections have the same lines.
+fn are_same(ones: &[Command], others: &[Command]) -> bool {
+    ones.len() == others.len() && ones.iter().zip(others).all(|(a, b)| is_same(a, b))
+}
+
 #[test]
-fn a_generated_script_is_run(rt: HostRuntime) -> Result<(), Fail> {
+fn a_written_script_is_the_generated_one(rt: HostRuntime) -> Result<(), Fail> {
     let alloc = rt.alloc();
-    let script = run_unread(&rt, alloc, "gen 7 2 100", sink(alloc, 4096, &[])?)?;
-    let source = MemSource::make(script.written, 4096, Vec::new(alloc));
-    let given = run_program(&rt, alloc, "run", source, sink(alloc, 4096, &[])?)?;
-    assert_eq!(rt; given.number, 0);
+    let given = run_unread(&rt, alloc, "gen 7 2 2000", sink(alloc, 4096, &[])?)?;
+    let read = read_script(alloc, 2, &given.written)?;
+    let generated = generate(alloc, 7, 2, 2000)?;
+    assert_eq!(rt; (read.sections(), generated.sections()), (2, 2));
+    for domain in 0..read.sections().min(generated.sections()) {
+        let right = are_same(read.section(domain), generated.section(domain));
+        assert!(rt; right, "domain {domain}");
+    }
+    Ok(())
+}
+
+#[test]
+fn a_written_script_is_run(rt: HostRuntime) -> Result<(), Fail> {
+    let alloc = rt.alloc();
+    let script = run_unread(&rt, alloc, "gen 7 2 2000", sink(alloc, 4096, &[])?)?;
+    let mut first = MemSource::make(
+        Vec::from_slice(alloc, &script.written)?,
+        4096,
+        Vec::new(alloc),
+    );
+    let mut counted = LengthSink::make();
+    let words = words_in(alloc, "run")?;
+    let status = camlheap(&rt, alloc, &words, &mut first, &mut counted, &NoGate);
+    assert_eq!(rt; (status_number(&status), counted.length() > 0), (0, true));
+    let second = MemSource::make(script.written, 4096, Vec::new(alloc));
+    let given = run_program(&rt, alloc, "run", second, sink(alloc, 4096, &[])?)?;
+    assert_eq!(rt; (given.number, given.written.is_empty()), (0, false));
     Ok(())
 }
 
