@@ -1,6 +1,11 @@
 //! The program: the top call over the words of the command line, standard input and standard output.
 #![tactic(auto)]
 
+ghost use Rattle.std.specs.Prelude.{◌≡◌, ◌<◌, Option};
+ghost use Rattle.heap_rule.specs.Ending.{Past};
+ghost use Rattle.outer_io.specs.Adapters.{write_faults};
+ghost use Rattle.outer_io.specs.Faults.{Rose};
+
 use camlheap_run::{Status, camlheap, fault_line, status_number};
 use outer_io::{NoGate, StdSink, StdSource};
 use std::alloc::Global;
@@ -24,7 +29,10 @@ fn words_given<R: Env + AllocGlobal>(rt: &R, alloc: Global) -> io::Result<Vec<St
 }
 
 // The status once what was gathered is written too.
-fn flushed<W: Write>(status: Status, out: &mut StdSink<W>) -> Status {
+fn flushed<W: Write>(status: Status, out: &mut StdSink<W>) -> Status
+    ensures kept { ¬ (Rose (write_faults out.old) (write_faults out.new)) → result ≡ status }
+    ensures fault { (ended : Option Past) → status ≡ Status.Done ended → write_faults out.old < write_faults out.new → result ≡ Status.WriteFault ended }
+{
     match (status, out.flush()) {
         (Status::Done { ended }, Err(_)) => Status::WriteFault { ended },
         (status, _) => status,
