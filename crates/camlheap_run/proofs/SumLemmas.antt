@@ -1,14 +1,11 @@
 -- Sums of integers modulo 1,000,003.
-use Rattle.std.proofs.Common.{◌≡◌, ◌∙◌, ℕ, suc, ◌+◌, ◌*◌, ◌-◌, ◌≤◌, ◌<◌, ◌%◌, ℤ, pos, negsuc, ◌+ℤ◌, unsigned_abs, List, [], ◌∷◌, ◌++◌, length, take, get_or, refl, sym, ap, arith, length-append}
-use Rattle.std.specs.Prelude.{fold, flat_map}
+use Rattle.std.proofs.Common.{◌≡◌, ◌∙◌, ℕ, suc, ◌+◌, ◌*◌, ◌-◌, ◌≤◌, ◌<◌, ◌%◌, ℤ, pos, negsuc, ◌+ℤ◌, unsigned_abs, List, [], ◌∷◌, ◌++◌, refl, sym, ap, arith}
+use Rattle.std.specs.Prelude.{fold}
 use Rattle.std.specs.Int.{int_rem_euclid}
 use Rattle.std.proofs.lemmas.Int.{ints, int_rem_euclid_is}
 use Rattle.std.proofs.lemmas.List.Sums.{fold-append}
-use Rattle.std.proofs.lemmas.List.Concat.{flat_map-append}
 use Rattle.std.proofs.Math.Nat.{mod-add-mod, add-mod-mod, mod-lt}
-use Rattle.std.proofs.Math.Seq.{take-suc}
-use Rattle.heap_model.specs.declared.reply.Reply.{Reply}
-use Rattle.heap_model.specs.Output.{ints_of, int_sum}
+use Rattle.heap_model.specs.Output.{int_sum}
 use Rattle.camlheap_run.specs.Writing.{sum_with}
 
 abbrev remainder : ℤ → ℕ

@@ -1,7 +1,5 @@
 -- The sizes of a heap that words ask for are within the limits.
-use Rattle.std.proofs.Common.{◌≡◌, ℕ, zero, suc, ◌+◌, ◌≤◌, List, refl, arith, Some, None}
-use Rattle.std.specs.Prelude.{Option}
-use Rattle.heap_model.specs.declared.state.Sizes.{Sizes}
+use Rattle.std.proofs.Common.{◌≡◌, ℕ, zero, suc, ◌≤◌, refl, arith, None}
 use Rattle.heap_model.specs.Domains.{class_count, first_outside, sizes_of}
 use Rattle.command_line.specs.declared.job.Generated.{Generated}
 use Rattle.command_line.specs.Jobs.{IsGenerable, load_sizes}
