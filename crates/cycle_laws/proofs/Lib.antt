@@ -12,3 +12,5 @@ pub mod Covering
 pub mod Sweep
 pub mod Progressing
 pub mod Pooling
+pub mod BesideGraphs
+pub mod Beside

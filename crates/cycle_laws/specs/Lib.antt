@@ -10,3 +10,4 @@ pub mod Cover
 pub mod Pools
 pub mod Sweeping
 pub mod Progress
+pub mod Beside

@@ -1,4 +1,5 @@
 //! Laws of a collection. Each function's contract is one law, and it does nothing else.
+ghost use Rattle.cycle_laws.specs.Beside.{BesideLaw};
 ghost use Rattle.cycle_laws.specs.Counting.{CountLaw};
 ghost use Rattle.cycle_laws.specs.CycleLaws.{DarkeningSteps, PhaseSteps, TakingSteps};
 ghost use Rattle.cycle_laws.specs.Fullness.{FullnessLaw};
@@ -55,4 +56,10 @@ pub fn pools_hold_kept_blocks()
 /// A domain that looks at a block field by field, or key by key, knows at its end of all of them.
 pub fn scans_advance()
     ensures { ProgressLaw }
+{}
+
+/// While domains run, each darkening, each scan and each entry of a domain keeps what is known of the marks of a cycle; and
+/// where all domains rest a pause may finish it.
+pub fn law_beside()
+    ensures { BesideLaw }
 {}

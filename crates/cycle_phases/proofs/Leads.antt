@@ -10,13 +10,13 @@ use Rattle.heap_rule.specs.declared.phase.Stage.TheVariants.{Leads, Led}
 use Rattle.heap_rule.specs.declared.view.DomainView.{DomainView}
 use Rattle.heap_rule.specs.Limits.{sizes_in}
 use Rattle.heap_rule.specs.Views.{fresh_share}
-use Rattle.steps_pauses.specs.Pauses.{EndsWith, arrived_view, cut_in, entry_of, kind_in}
+use Rattle.steps_pauses.specs.Pauses.{EndsWith, arrived_view, cut_in, entry_of, kind_in, whole_after}
 use Rattle.safepoint.specs.Looks.{LedTo, cleared}
 use Rattle.cycle_phases.specs.Leading.{LeadsOn, Opens, noted_before}
 
 -- the domain with another front, other notes, and the next kind named
-abbrev led_with : DomainView → Kind → List Entry → List Note → Bool → DomainView
-led_with x kind front notes is_cut = record x { seen = record x.seen { front = front; notes = notes; stage = Led kind; share = record fresh_share { cut = is_cut } } }
+abbrev led_with : DomainView → Kind → List Entry → List Note → Bool → Bool → DomainView
+led_with x kind front notes is_cut is_whole = record x { seen = record x.seen { front = front; notes = notes; stage = Led kind; share = record fresh_share { cut = is_cut; whole = is_whole } } }
 
 module _ (k : Config) (x y z v : DomainView) (last kind : Kind) (stage : x.seen.stage ≡ Leads last) (o : Opens k x y last kind) (l : LedTo k kind y z) (is : v ≡ arrived_view z) where
   last_is : kind_in y.seen.stage ≡ last
@@ -41,6 +41,9 @@ module _ (k : Config) (x y z v : DomainView) (last kind : Kind) (stage : x.seen.
   cut_now : cut_in (kind_in y.seen.stage) y.seen.share.cut ≡ cut_in last x.seen.share.cut
   cut_now = ap (λ (n : Kind). cut_in n y.seen.share.cut) last_is ∙ ap (cut_in last) o.cut_is
 
+  whole_now : whole_after (kind_in y.seen.stage) kind y.seen.share.whole ≡ whole_after last kind x.seen.share.whole
+  whole_now = ap (λ (n : Kind). whole_after n kind y.seen.share.whole) last_is ∙ ap (whole_after last kind) o.whole_is
+
   ends : (e : Entry) → entry_of last kind ≡ Some e → EndsWith k x v e
   ends e stands =
       let m = l.made e (ap (λ (n : Kind). entry_of n kind) last_is ∙ stands) in record {
@@ -50,12 +53,16 @@ module _ (k : Config) (x y z v : DomainView) (last kind : Kind) (stage : x.seen.
         legal = subst (λ (f : List Entry). Legal (sizes_in k) f) (sym front_is) m.legal;
       }
 
-  view_is : v ≡ arrived_view (led_with x kind v.seen.front v.seen.notes (cut_in last x.seen.share.cut))
-  view_is = is ∙ (ap arrived_view l.view
-      ∙ (ap (λ (w : DomainView). arrived_view (led_with w kind z.seen.front (y.seen.notes ++ cleared kind) (cut_in (kind_in y.seen.stage) y.seen.share.cut))) o.view
-      ∙ (ap (λ (f : List Entry). arrived_view (led_with x kind f (y.seen.notes ++ cleared kind) (cut_in (kind_in y.seen.stage) y.seen.share.cut))) (sym front_is)
-      ∙ (ap (λ (n : List Note). arrived_view (led_with x kind v.seen.front n (cut_in (kind_in y.seen.stage) y.seen.share.cut))) (sym named)
-      ∙ ap (λ (c : Bool). arrived_view (led_with x kind v.seen.front v.seen.notes c)) cut_now))))
+  view_is : v ≡ arrived_view (led_with x kind v.seen.front v.seen.notes (cut_in last x.seen.share.cut) (whole_after last kind x.seen.share.whole))
+  view_is =
+      let is_cut : Bool = cut_in (kind_in y.seen.stage) y.seen.share.cut in
+      let is_whole : Bool = whole_after (kind_in y.seen.stage) kind y.seen.share.whole in
+      is ∙ (ap arrived_view l.view
+      ∙ (ap (λ (w : DomainView). arrived_view (led_with w kind z.seen.front (y.seen.notes ++ cleared kind) is_cut is_whole)) o.view
+      ∙ (ap (λ (f : List Entry). arrived_view (led_with x kind f (y.seen.notes ++ cleared kind) is_cut is_whole)) (sym front_is)
+      ∙ (ap (λ (n : List Note). arrived_view (led_with x kind v.seen.front n is_cut is_whole)) (sym named)
+      ∙ (ap (λ (c : Bool). arrived_view (led_with x kind v.seen.front v.seen.notes c is_whole)) cut_now
+      ∙ ap (λ (w : Bool). arrived_view (led_with x kind v.seen.front v.seen.notes (cut_in last x.seen.share.cut) w)) whole_now)))))
 
   pub leads_on : LeadsOn k x v last kind
   leads_on = record {

@@ -28,13 +28,15 @@ built_as x y looked ephemerons finalisers front share is = is
     ∙ λ i. built x (sym (ap (λ (z : DomainView). z.own.looked) is) i) (sym (ap (λ (z : DomainView). z.own.ephemerons) is) i) (sym (ap (λ (z : DomainView). z.own.finalisers) is) i) (sym (ap (λ (z : DomainView). z.seen.front) is) i) (sym (ap (λ (z : DomainView). z.seen.share) is) i)
 
 -- where registrations are decided the domain keeps its other lists, and has done what is asked of it
-decides : (k : Config) (kind : Kind) (x y : DomainView) (finalisers : Finalisers) (front : List Entry) (share : Share) → (kind ≡ Decide) ⊎ (kind ≡ Lasts) → y ≡ built x x.own.looked x.own.ephemerons finalisers front share → share.cut ≡ x.seen.share.cut → IsFrontOf x.own.number y.seen.front x.seen.front → Sorted kind x.own.finalisers y.own.finalisers → HasDone k y → Works k kind x y
-decides k kind x y finalisers front share one_of is cut seen sorted done =
+decides : (k : Config) (kind : Kind) (x y : DomainView) (finalisers : Finalisers) (front : List Entry) (share : Share) → (kind ≡ Decide) ⊎ (kind ≡ Lasts) → y ≡ built x x.own.looked x.own.ephemerons finalisers front share → share.cut ≡ x.seen.share.cut → share.whole ≡ x.seen.share.whole → share.weak ≡ x.seen.share.weak → IsFrontOf x.own.number y.seen.front x.seen.front → Sorted kind x.own.finalisers y.own.finalisers → HasDone k y → Works k kind x y
+decides k kind x y finalisers front share one_of is cut whole weak seen sorted done =
     let looked : y.own.looked ≡ x.own.looked = ap (λ (z : DomainView). z.own.looked) is in
     let listed : y.own.ephemerons ≡ x.own.ephemerons = ap (λ (z : DomainView). z.own.ephemerons) is in
     let room : y.own.ephemerons.room ≡ x.own.ephemerons.room = ap (λ (l : Bounded ℕ). l.room) listed in record {
       view = built_as x y x.own.looked x.own.ephemerons finalisers front share is;
       cut_is = ap (λ (z : DomainView). z.seen.share.cut) is ∙ cut;
+      whole_is = ap (λ (z : DomainView). z.seen.share.whole) is ∙ whole;
+      weak_is = ap (λ (z : DomainView). z.seen.share.weak) is ∙ weak;
       looked = λ _. looked;
       again = λ class. inl (ap (λ (l : List Spot). spot_at l class) looked);
       listed = λ _. listed;
@@ -56,7 +58,7 @@ module _ (k : Config) (kind : Kind) (x y : DomainView) (stage : x.seen.stage ≡
       let lists : Decided x.own.finalisers y.own.finalisers = record { lasts = ap (λ (z : DomainView). z.own.finalisers.lasts) d.view; queued = d.queued; queue = d.queue; splits = d.splits } in
       let here : y.seen.stage ≡ In Decide = ap (λ (z : DomainView). z.seen.stage) d.view ∙ (stage ∙ ap In is) in
       let done : HasDone k y = record { rooted = λ e. cc; queued = λ e. ⊎_elim (λ u. cc) (λ u. cc) e; told = λ e. ⊎_elim (λ u. cc) (⊎_elim (λ u. cc) (λ u. cc)) e; walked = λ e. ⊎_elim (λ u. cc) (λ u. cc) e; looked = λ e. ⊎_elim (λ u. cc) (λ u. cc) e; cleaned = λ e. cc; decided = λ _. d.done; settled = λ e. cc; held = λ e. cc; added = λ e. cc } in
-      decides k kind x y _ _ _ (inl is) d.view refl d.seen (sorted_finals kind x.own.finalisers y.own.finalisers is lists) done
+      decides k kind x y _ _ _ (inl is) d.view refl refl refl d.seen (sorted_finals kind x.own.finalisers y.own.finalisers is lists) done
 
   -- and those of `finalise_last`
   pub lasts_works : kind ≡ Lasts → AllLastsDecided x y → Works k kind x y
@@ -64,7 +66,7 @@ module _ (k : Config) (kind : Kind) (x y : DomainView) (stage : x.seen.stage ≡
       let lists : LastsDecided x.own.finalisers y.own.finalisers = record { finals = ap (λ (z : DomainView). z.own.finalisers.finals) d.view; queued = d.queued; queue = d.queue; splits = d.splits } in
       let here : y.seen.stage ≡ In Lasts = ap (λ (z : DomainView). z.seen.stage) d.view ∙ (stage ∙ ap In is) in
       let done : HasDone k y = record { rooted = λ e. cc; queued = λ e. ⊎_elim (λ u. cc) (λ u. cc) e; told = λ e. ⊎_elim (λ u. cc) (⊎_elim (λ u. cc) (λ u. cc)) e; walked = λ e. ⊎_elim (λ u. cc) (λ u. cc) e; looked = λ e. ⊎_elim (λ u. cc) (λ u. cc) e; cleaned = λ e. cc; decided = λ e. cc; settled = λ _. d.done; held = λ e. cc; added = λ e. cc } in
-      decides k kind x y _ _ _ (inr is) d.view refl d.seen (sorted_lasts kind x.own.finalisers y.own.finalisers is lists) done
+      decides k kind x y _ _ _ (inr is) d.view refl refl refl d.seen (sorted_lasts kind x.own.finalisers y.own.finalisers is lists) done
 
 -- the domain has arrived
 pub shares_in : (k : Config) (kind : Kind) (x y z : DomainView) → Works k kind x y → z ≡ arrived_view y → SharesIn kind x z
@@ -73,7 +75,7 @@ shares_in k kind x y z w is =
     let ephemerons : y.own.ephemerons ≡ z.own.ephemerons = sym (ap (λ (v : DomainView). v.own.ephemerons) is) in
     let finalisers : y.own.finalisers ≡ z.own.finalisers = sym (ap (λ (v : DomainView). v.own.finalisers) is) in
     let front : y.seen.front ≡ z.seen.front = sym (ap (λ (v : DomainView). v.seen.front) is) in record {
-      view = is ∙ (ap arrived_view w.view ∙ λ i. arrived_view (built x (looked i) (ephemerons i) (finalisers i) (front i) (record x.seen.share { cut = w.cut_is i })));
+      view = is ∙ (ap arrived_view w.view ∙ λ i. arrived_view (built x (looked i) (ephemerons i) (finalisers i) (front i) (record x.seen.share { cut = w.cut_is i; whole = w.whole_is i })));
       looked = λ other. sym looked ∙ w.looked other;
       again = λ class. subst (λ (l : List Spot). (spot_at l class ≡ spot_at x.own.looked class) ⊎ (spot_at l class ≡ record { pool = 0; slot = 0 })) looked (w.again class);
       listed = λ other. sym ephemerons ∙ w.listed other;

@@ -47,6 +47,8 @@ pub record LastsDecided (fs gs : Finalisers) : Type 0 where
 pub record Works (k : Config) (kind : Kind) (x y : DomainView) : Type 0 where
   pub view : y ≡ with_work x y
   pub cut_is : y.seen.share.cut ≡ x.seen.share.cut
+  pub whole_is : y.seen.share.whole ≡ x.seen.share.whole
+  pub weak_is : y.seen.share.weak ≡ x.seen.share.weak
   pub looked : kind ≢ Sweep → y.own.looked ≡ x.own.looked
   pub again : LooksAgain x y
   pub listed : kind ≢ Sweep → y.own.ephemerons ≡ x.own.ephemerons

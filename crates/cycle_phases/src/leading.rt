@@ -1,13 +1,13 @@
 //! How domain 0 goes from one kind of phase to the next.
 ghost use Rattle.std.specs.Prelude.{◌≡◌, ◌<◌, ◌^◌, [], Some};
-ghost use Rattle.heap_rule.specs.declared.phase.Kind.TheVariants.{Run, Promote, Rounds};
+ghost use Rattle.heap_rule.specs.declared.phase.Kind.TheVariants.{Run, Promote, Rounds, Sweep};
 ghost use Rattle.heap_rule.specs.declared.phase.Note.TheVariants.{SetBack};
 ghost use Rattle.heap_rule.specs.declared.phase.Stage.TheVariants.{Leads};
 ghost use Rattle.heap_rule.specs.declared.view.Hunt.TheVariants.{Rests};
 ghost use Rattle.heap_rule.specs.Phases.{Follows, last_note};
 ghost use Rattle.heap_rule.specs.Token.{IsIn};
 ghost use Rattle.heap_rule.specs.Views.{voided};
-ghost use Rattle.steps_pauses.specs.Pauses.{MayFollow, cut_in, kind_in};
+ghost use Rattle.steps_pauses.specs.Pauses.{MayFollow, cut_in, kind_in, whole_after};
 ghost use Rattle.steps_pools.specs.Listings.{HasList};
 ghost use Rattle.safepoint.specs.Looks.{LedTo};
 ghost use Rattle.cycle_phases.specs.Leading.{LeadsOn};
@@ -23,9 +23,21 @@ pub fn cut_after(last: Kind, cut: bool) -> bool
     ensures { result ≡ cut_in last cut }
 {
     match last {
-        Kind::Roots => false,
+        Kind::Reset | Kind::Roots => false,
         Kind::Queued => true,
         _ => cut,
+    }
+}
+
+/// Whether the collection under way began in this pause, once domain 0 has named a kind after another, by
+/// whether the one before did.
+pub fn whole_after(last: Kind, next: Kind, whole: bool) -> bool
+    ensures { result ≡ whole_after last next whole }
+{
+    match (last, next) {
+        (Kind::Reset | Kind::Sweep, Kind::Roots) => true,
+        (Kind::Reset, Kind::Mark) => false,
+        _ => whole,
     }
 }
 
@@ -51,11 +63,14 @@ fn name(heap: &Heap, dom: &mut Domain, next: Kind)
 /// Domain 0, in an odd phase, finds which kind of phase comes next, does what belongs before it, names
 /// it, and arrives. Answers the kind.
 ///
-/// After Reset a collection of the major heap begins where one is asked for, or where fewer than half
-/// of the pools are free. Blocks are marked until nothing is changed in a whole phase. Each collection
-/// is a complete one, which is answered after Sweep. In Rounds `cut` says whether the cut of the
-/// collection is made.
-pub fn lead_on(heap: &Heap, dom: &mut Domain, last: Kind, cut: bool) -> Kind
+/// After Reset a collection of the major heap begins where none goes on, and one is asked for or fewer
+/// than half of the pools are free. Once the roots are marked it goes on beside running domains, unless
+/// a complete one is asked for. One that goes on so is finished in a later pause, where its end or a
+/// complete one is asked for. Blocks are marked until nothing is changed in a whole phase. Where a
+/// complete collection is asked for one that began in this pause is answered after Sweep, and another
+/// one is followed by one that begins in this pause. In Rounds `cut` says whether the cut of the
+/// collection is made, and in Sweep `whole` whether it began in this pause.
+pub fn lead_on(heap: &Heap, dom: &mut Domain, last: Kind, cut: bool, whole: bool) -> Kind
     requires here { IsIn dom.old heap.now }
     requires first { dom.old.view.own.number ≡ 0 }
     requires odd { dom.old.view.seen.stage ≡ Leads last }
@@ -64,10 +79,11 @@ pub fn lead_on(heap: &Heap, dom: &mut Domain, last: Kind, cut: bool) -> Kind
     requires few { dom.old.view.own.arrivals < 2 ^ 60 }
     requires forgot { dom.old.view.seen.share ≡ voided dom.old.view.seen.share }
     requires cut { last ≡ Rounds → cut ≡ dom.old.view.seen.share.cut }
+    requires whole { last ≡ Sweep → whole ≡ dom.old.view.seen.share.whole }
     ensures here { IsIn dom.new heap.now }
     ensures leads { LeadsOn heap.now.config dom.old.view dom.new.view last result }
 {
-    let next = open(heap, dom, last, cut);
+    let next = open(heap, dom, last, cut, whole);
     name(heap, dom, next);
     arrive(heap, dom);
     next

@@ -7,5 +7,5 @@ mod leading;
 mod opening;
 mod sharing;
 
-pub use leading::{cut_after, lead_on};
+pub use leading::{cut_after, lead_on, whole_after};
 pub use sharing::{give_back, share};

@@ -1,16 +1,19 @@
 //! What domain 0 does in an odd phase before it names the next kind.
 ghost use Rattle.std.specs.Prelude.{◌≡◌, true};
-ghost use Rattle.heap_rule.specs.declared.phase.Kind.TheVariants.{Run, Promote, Reset, Mark, Rounds, Lasts, Sweep, Answer};
+ghost use Rattle.heap_rule.specs.declared.phase.Kind.TheVariants.{Run, Promote, Reset, Roots, Mark, Rounds, Lasts, Sweep, Answer};
 ghost use Rattle.heap_rule.specs.declared.phase.Stage.TheVariants.{Leads};
 ghost use Rattle.heap_rule.specs.Token.{IsIn};
 ghost use Rattle.heap_rule.specs.Views.{voided};
-ghost use Rattle.cycle_phases.specs.Leading.{Opens, begins as begins_by};
+ghost use Rattle.steps_cycle.specs.Arming.{ArmMay, knowing_armed};
+ghost use Rattle.steps_pools.specs.Listings.{HasList, IsLeader};
+ghost use Rattle.size_pools.specs.Listed.{Relisted};
+ghost use Rattle.cycle_phases.specs.Leading.{Opens, begins, finishes, kind_after_reset};
 
 use heap_rule::{Config, Domain, Heap, Kind};
 use heap_words::{pack_colours, rotate};
 use safepoint::{Want, Wants, is_wanted, wants};
 use size_pools::{set_cursor_back, write_list};
-use steps_cycle::{changed_load, colours_now};
+use steps_cycle::{armed_now, armed_store, changed_load, colours_now};
 use steps_sweep::{blocks_clear, colours_store, words_clear};
 
 // Before young blocks are copied the cursor is set back.
@@ -27,14 +30,50 @@ fn after_run(heap: &Heap, dom: &mut Domain) -> Kind
 
 // Whether a collection of the major heap begins, where so many pools are listed.
 fn begins(limits: &Config, wants: Wants, free: u32) -> bool
-    ensures { result ≡ begins_by limits.now wants.bits free }
+    ensures { result ≡ begins limits.now wants.bits free }
 {
     is_wanted(wants, Want::Cycle)
         || is_wanted(wants, Want::Full)
         || 2 * u64::from(free) < u64::from(limits.pools)
 }
 
-// The list of free pools is written anew, and a collection of the major heap begins or none does.
+// Whether a collection that goes on beside running domains is finished.
+fn finishes(wants: Wants) -> bool
+    ensures { result ≡ finishes wants.bits }
+{
+    is_wanted(wants, Want::Finish) || is_wanted(wants, Want::Full)
+}
+
+// Before the domains run the armed word says whether a collection of the major heap goes on beside them,
+// and the list of free pools is written anew.
+fn run_next(heap: &Heap, dom: &mut Domain, armed: bool) -> Kind
+    requires here { IsIn dom.old heap.now }
+    requires may { ArmMay dom.old.view armed }
+    requires leader { IsLeader dom.old.view }
+    ensures here { IsIn dom.new heap.now }
+    ensures kind { result ≡ Run }
+    ensures list { HasList heap.now.config dom.new.view }
+    ensures same { Relisted (knowing_armed dom.old.view armed) dom.new.view }
+{
+    armed_store(heap, dom, armed);
+    write_list(heap, dom);
+    Kind::Run
+}
+
+// What comes after the minor collection, where so many pools are listed. `armed`: a collection of the
+// major heap goes on beside running domains.
+fn kind_after_reset(limits: &Config, wants: Wants, free: u32, armed: bool) -> Kind
+    ensures { result ≡ kind_after_reset limits.now wants.bits free armed }
+{
+    match (armed, finishes(wants), begins(limits, wants, free)) {
+        (true, true, _) => Kind::Mark,
+        (false, _, true) => Kind::Roots,
+        _ => Kind::Run,
+    }
+}
+
+// The list of free pools is written anew. A collection of the major heap begins or none does; one that
+// goes on is finished or goes on.
 fn after_reset(heap: &Heap, dom: &mut Domain) -> Kind
     requires here { IsIn dom.old heap.now }
     requires first { dom.old.view.own.number ≡ 0 }
@@ -44,10 +83,24 @@ fn after_reset(heap: &Heap, dom: &mut Domain) -> Kind
 {
     let free = write_list(heap, dom);
     let found = wants(heap, dom);
-    if begins(&heap.config(), found, free) {
-        Kind::Roots
+    let armed = armed_now(heap, dom);
+    kind_after_reset(&heap.config(), found, free, armed)
+}
+
+// Where a complete collection is asked for it is finished in this pause, and else it goes on beside
+// running domains.
+fn after_roots(heap: &Heap, dom: &mut Domain) -> Kind
+    requires here { IsIn dom.old heap.now }
+    requires first { dom.old.view.own.number ≡ 0 }
+    requires odd { dom.old.view.seen.stage ≡ Leads Roots }
+    ensures here { IsIn dom.new heap.now }
+    ensures opens { Opens heap.now.config dom.old.view dom.new.view Roots result }
+{
+    let found = wants(heap, dom);
+    if is_wanted(found, Want::Full) {
+        Kind::Mark
     } else {
-        Kind::Run
+        run_next(heap, dom, true)
     }
 }
 
@@ -98,7 +151,25 @@ fn after_lasts(heap: &Heap, dom: &mut Domain) -> Kind
     Kind::Sweep
 }
 
-// The list of free pools is written anew, with the pools that were given back.
+// Where a complete collection is asked for it is answered, or another begins if this one began in an
+// earlier pause. Else the domains run, and no collection goes on.
+fn after_sweep(heap: &Heap, dom: &mut Domain, whole: bool) -> Kind
+    requires here { IsIn dom.old heap.now }
+    requires first { dom.old.view.own.number ≡ 0 }
+    requires odd { dom.old.view.seen.stage ≡ Leads Sweep }
+    requires whole { whole ≡ dom.old.view.seen.share.whole }
+    ensures here { IsIn dom.new heap.now }
+    ensures opens { Opens heap.now.config dom.old.view dom.new.view Sweep result }
+{
+    let found = wants(heap, dom);
+    match (is_wanted(found, Want::Full), whole) {
+        (true, true) => Kind::Answer,
+        (true, false) => Kind::Roots,
+        (false, _) => run_next(heap, dom, false),
+    }
+}
+
+// No collection goes on, and the list of free pools is written anew, with the pools that were given back.
 fn after_answer(heap: &Heap, dom: &mut Domain) -> Kind
     requires here { IsIn dom.old heap.now }
     requires first { dom.old.view.own.number ≡ 0 }
@@ -106,17 +177,17 @@ fn after_answer(heap: &Heap, dom: &mut Domain) -> Kind
     ensures here { IsIn dom.new heap.now }
     ensures opens { Opens heap.now.config dom.old.view dom.new.view Answer result }
 {
-    write_list(heap, dom);
-    Kind::Run
+    run_next(heap, dom, false)
 }
 
 // Finds which kind comes next, and does what belongs before it.
-pub(crate) fn open(heap: &Heap, dom: &mut Domain, last: Kind, cut: bool) -> Kind
+pub(crate) fn open(heap: &Heap, dom: &mut Domain, last: Kind, cut: bool, whole: bool) -> Kind
     requires here { IsIn dom.old heap.now }
     requires first { dom.old.view.own.number ≡ 0 }
     requires odd { dom.old.view.seen.stage ≡ Leads last }
     requires forgot { dom.old.view.seen.share ≡ voided dom.old.view.seen.share }
     requires cut { last ≡ Rounds → cut ≡ dom.old.view.seen.share.cut }
+    requires whole { last ≡ Sweep → whole ≡ dom.old.view.seen.share.whole }
     ensures here { IsIn dom.new heap.now }
     ensures opens { Opens heap.now.config dom.old.view dom.new.view last result }
 {
@@ -124,14 +195,14 @@ pub(crate) fn open(heap: &Heap, dom: &mut Domain, last: Kind, cut: bool) -> Kind
         Kind::Run => after_run(heap, dom),
         Kind::Promote => Kind::Reset,
         Kind::Reset => after_reset(heap, dom),
-        Kind::Roots => Kind::Mark,
+        Kind::Roots => after_roots(heap, dom),
         Kind::Mark => after_mark(heap, dom),
         Kind::Rounds => after_rounds(heap, dom, cut),
         Kind::Decide => Kind::Queued,
         Kind::Queued => Kind::Mark,
         Kind::Clean => Kind::Lasts,
         Kind::Lasts => after_lasts(heap, dom),
-        Kind::Sweep => Kind::Answer,
+        Kind::Sweep => after_sweep(heap, dom, whole),
         Kind::Answer => after_answer(heap, dom),
     }
 }

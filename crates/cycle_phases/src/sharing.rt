@@ -1,11 +1,12 @@
 //! What a domain does in the even phases of a collection of the major heap.
-ghost use Rattle.std.specs.Prelude.{◌≡◌, ◌<◌, ◌^◌, []};
+ghost use Rattle.std.specs.Prelude.{◌≡◌, ◌<◌, ◌^◌, [], None};
 ghost use Rattle.heap_rule.specs.declared.phase.Kind.TheVariants.{Answer, Sweep};
 ghost use Rattle.heap_rule.specs.declared.phase.Stage.TheVariants.{In};
 ghost use Rattle.heap_rule.specs.declared.view.Hunt.TheVariants.{Rests};
 ghost use Rattle.heap_rule.specs.Token.{IsIn};
 ghost use Rattle.heap_rule.specs.Views.{voided};
 ghost use Rattle.steps_pauses.specs.Pauses.{arrived_view};
+ghost use Rattle.mark_slices.specs.Decks.{NotesOn};
 ghost use Rattle.cycle_phases.specs.Sharing.{IsShared, SharesIn, Works};
 
 use ephemeron_rounds::{clean, round};
@@ -33,13 +34,12 @@ fn work(heap: &Heap, dom: &mut Domain, kind: Kind, hints: &mut Hints)
     requires phase { IsShared kind }
     requires stage { dom.old.view.seen.stage ≡ In kind }
     requires forgot { dom.old.view.seen.share ≡ voided dom.old.view.seen.share }
-    requires none { hints.old.items ≡ [] }
     ensures here { IsIn dom.new heap.now }
     ensures works { Works heap.now.config kind dom.old.view dom.new.view }
-    ensures hints { hints.new ≡ hints.old }
+    ensures notes { NotesOn hints.old hints.new }
 {
     match kind {
-        Kind::Roots => start_roots(heap, dom),
+        Kind::Roots => start_roots(heap, dom, hints),
         Kind::Mark => mark_round(heap, dom, hints),
         Kind::Rounds => round(heap, dom),
         Kind::Decide => decide(heap, dom),
@@ -74,24 +74,24 @@ pub fn share(heap: &Heap, dom: &mut Domain, kind: Kind, hints: &mut Hints)
     requires idle { dom.old.view.seen.made ≡ [] }
     requires few { dom.old.view.own.arrivals < 2 ^ 60 }
     requires forgot { dom.old.view.seen.share ≡ voided dom.old.view.seen.share }
-    requires none { hints.old.items ≡ [] }
     ensures here { IsIn dom.new heap.now }
     ensures shares { SharesIn kind dom.old.view dom.new.view }
-    ensures hints { hints.new ≡ hints.old }
+    ensures notes { NotesOn hints.old hints.new }
 {
     work(heap, dom, kind, hints);
     arrive(heap, dom);
 }
 
 /// Where a collection is answered the domain gives back its pools in which nothing is left, and
-/// arrives. It has looked at none of them in the phase before. All that it owns stays as it was but the
-/// number of its arrivals.
+/// arrives. It has looked at none of them in the phase before, and owes the darkening of no block. All
+/// that it owns stays as it was but the number of its arrivals.
 pub fn give_back(heap: &Heap, dom: &mut Domain)
     requires here { IsIn dom.old heap.now }
     requires stage { dom.old.view.seen.stage ≡ In Answer }
     requires at_rest { dom.old.view.seen.hunt ≡ Rests }
     requires idle { dom.old.view.seen.made ≡ [] }
     requires few { dom.old.view.own.arrivals < 2 ^ 60 }
+    requires paid { dom.old.view.seen.share.weak ≡ None }
     requires first { dom.old.view.seen.share.held ≡ 0 }
     requires none { dom.old.view.seen.share.vacant ≡ 0 }
     ensures here { IsIn dom.new heap.now }

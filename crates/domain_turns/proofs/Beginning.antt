@@ -1,5 +1,5 @@
 -- How a domain stands before its first command.
-use Rattle.std.proofs.Common.{◌≡◌, ◌∙◌, ℕ, ◌/◌, ◌+◌, ◌%◌, ◌<◌, ◌≤◌, zero, suc, false, length, List, Option, None, replicate, ap, refl, arith}
+use Rattle.std.proofs.Common.{◌≡◌, ◌∙◌, ℕ, ◌/◌, ◌+◌, ◌%◌, ◌<◌, ◌≤◌, zero, suc, true, false, length, List, Option, None, replicate, ap, refl, arith}
 use Rattle.std.specs.Prelude.{slice_index_or}
 use Rattle.heap_model.specs.declared.command.Command.{Command}
 use Rattle.heap_model.specs.Domains.{class_count, opening_domain, no_domain}
@@ -19,16 +19,17 @@ nothing_prepared (suc n) (suc class) = nothing_prepared n class
 even_rest : (n : ℕ) → n % 2 ≡ 0 → IsEven n
 even_rest n rest = (n / 2, omega arith)
 
-pub begins_between : (t : Token) (cs : List Command) → CanBegin t cs → IsBetween None None false false t
+pub begins_between : (t : Token) (cs : List Command) → CanBegin t cs → IsBetween None None false false true t
 begins_between t cs can = record {
   stands = can.acts.runs;
-  quiet = record { quiet = can.quiet; no_copies = can.no_copies; unprepared = λ class _. ap (λ l. prepared_at l class) can.unprepared ∙ nothing_prepared class_count class };
+  quiet = record { quiet = can.quiet; no_copies = can.no_copies; unprepared = λ class _. ap (λ l. prepared_at l class) can.unprepared ∙ nothing_prepared class_count class; paid = can.acts.paid };
   even = λ _. even_rest t.view.own.arrivals can.even;
   remembers = λ _. can.remembers;
   emptied = λ _ served. cc;
   has_left = λ known left. cc;
   fresh = λ e. cc;
   knows_cut = λ known left. cc;
+  knows_whole = λ known left. cc;
 }
 
 -- no finaliser is registered so far, and each that the commands register may answer once
@@ -52,7 +53,7 @@ not_ended (suc n) (suc d) h = not_ended n d (omega arith)
 pub opening_begins : (h : SharedHeap) (k : Config) (d : ℕ) (cs : List Command) → d < k.domains → length cs ≤ 200000 → AllFit cs → ephemerons_in cs ≤ k.ephes → registrations_in cs ≤ k.finals → CanBegin (opening_token h.table k d) cs
 opening_begins h k d cs inside few fit room enlists = record {
   inside = inside;
-  acts = record { goes_on = not_ended k.domains d inside; runs = refl; unqueued = refl };
+  acts = record { goes_on = not_ended k.domains d inside; runs = refl; unqueued = refl; paid = refl };
   idle = refl;
   at_rest = refl;
   no_commands = refl;

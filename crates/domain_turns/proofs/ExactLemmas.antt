@@ -1,5 +1,5 @@
 -- The answer of a turn is determined by what it did: each answer comes exactly where its cause holds.
-use Rattle.std.proofs.Common.{◌≡◌, ◌∙◌, ◌⊎◌, ℕ, ◌+◌, ◌<◌, List, [], ◌∷◌, ◌++◌, refl, sym, ap, subst, inl, inr, ⊎_elim, arith, None}
+use Rattle.std.proofs.Common.{◌≡◌, ◌∙◌, ◌⊎◌, ℕ, Bool, true, false, ◌+◌, ◌<◌, List, [], ◌∷◌, ◌++◌, refl, sym, ap, subst, inl, inr, ⊎_elim, arith, None}
 use Rattle.heap_rule.specs.declared.phase.Note.{Note}
 use Rattle.heap_rule.specs.declared.phase.Note.TheVariants.{Want, Asked, Barrier, Ended, Cleared}
 use Rattle.heap_rule.specs.declared.view.DomainView.{DomainView}
@@ -7,15 +7,15 @@ use Rattle.heap_rule.specs.Token.{SharedHeap}
 use Rattle.domain_turns.specs.declared.turned.Turned.{Turned}
 use Rattle.domain_turns.specs.declared.turned.Turned.TheVariants.{Did, Waiting, Idle}
 use Rattle.domain_turns.specs.declared.turned.Turned.TheVariants.{Ended as Over}
-use Rattle.domain_turns.specs.Runs.{RunView, CalmDid, RunAnswers, TurnAnswers, Starts, Stops, Resumes, GoesBy, IsAnswered, SeesAnswer, wanting}
+use Rattle.domain_turns.specs.Runs.{RunView, CalmDid, RunAnswers, TurnAnswers, Starts, Stops, Resumes, GoesBy, IsAnswered, SeesAnswer, wanting, asking_end}
 use Rattle.domain_turns.specs.Pausing.{ComesToAnswer, knowing_blocks}
 use Rattle.domain_turns.specs.Tries.{wish_of}
 use Rattle.heap_rule.specs.declared.config.Config.{Config}
 use Rattle.heap_rule.specs.Standing.{with_front}
 use Rattle.steps_pauses.specs.Pauses.{arrived_view}
 use Rattle.safepoint.specs.Looks.{bit_of}
-use Rattle.safepoint.specs.declared.answer.Want.TheVariants.{Full}
-use Rattle.domain_turns.specs.Runs.CalmDid.{Finalises, Wishes, Refuses, Tries, Ends}
+use Rattle.safepoint.specs.declared.answer.Want.TheVariants.{Finish, Full}
+use Rattle.domain_turns.specs.Runs.CalmDid.{Finalises, Wishes, Refuses, Tries, Marks, Ends}
 use Rattle.domain_turns.proofs.LeavingLemmas.{passes_leaves}
 
 abbrev notes : RunView → List Note
@@ -61,6 +61,10 @@ run_sign h old new Did says = ⊎_elim
     (λ (s : Stops old new). inl (ap arrivals s.run))
     (λ (c : CalmDid h (wanting old 0) new). inr (did c)) says
   where
+    asked : (spent : Bool) (made : RunView) → Left old made IsOther → Left old (asking_end spent made) IsOther
+    asked false made l = l
+    asked true made l = (l.0, (Asked (bit_of Finish), notes made, refl, tt))
+
     did : CalmDid h (wanting old 0) new → Left old new IsOther
     did (Finalises f) = (ap (λ (x : DomainView). x.own.arrivals) f.first.view, (Want 0, notes old, ap (λ (x : DomainView). x.seen.notes) f.first.view, tt))
     did (Wishes a) = (ap arrivals a.run, (Asked (bit_of (wish_of a.command)), (notes old ++ Want 0 ∷ []), ap notes a.run, tt))
@@ -68,7 +72,12 @@ run_sign h old new Did says = ⊎_elim
       ap arrivals a.run ∙ ap (λ (x : DomainView). x.own.arrivals) a.refused.view,
       (Asked (bit_of Full), a.searched.view.seen.notes, ap notes a.run, tt),
     )
-    did (Tries c t) = (t.tried.stays.arrivals, (Want 0, notes old, t.tried.stays.notes, tt))
+    did (Tries c other t) = (t.tried.stays.arrivals, (Want 0, notes old, t.tried.stays.notes, tt))
+    did (Marks p) =
+        let t = p.tried in
+        let seen : notes p.marked ≡ notes old ++ Want 0 ∷ [] = ap (λ (x : DomainView). x.seen.notes) p.marks.learnt.view in
+        let here : arrivals p.marked ≡ arrivals old = ap (λ (x : DomainView). x.own.arrivals) p.marks.learnt.view in
+        subst (λ (r : RunView). Left old r IsOther) (sym p.run) (asked p.spent p.made (t.tried.stays.arrivals ∙ here, (Want 0, notes old, t.tried.stays.notes ∙ seen, tt)))
     did (Ends t) = (ap (λ (x : DomainView). x.own.arrivals) t.ended.view, (Want 0, notes old, ap (λ (x : DomainView). x.seen.notes) t.ended.view, tt))
 run_sign h old new (Waiting b) says = absurd says
 run_sign h old new (Idle n) says = ((ap arrivals says.0.run, (Ended n, (notes old ++ Want 0 ∷ []), ap notes says.0.run, refl)), says.1)

@@ -1,9 +1,10 @@
 -- A turn goes on with the same run.
-use Rattle.std.proofs.Common.{◌≡◌, ◌∙◌, ℕ, List, [], ◌∷◌, ◌++◌, append-nil, append_assoc, sym, ap, subst, inr, ⊎_elim, Some, None}
+use Rattle.std.proofs.Common.{◌≡◌, ◌∙◌, ℕ, Bool, true, false, List, [], ◌∷◌, ◌++◌, append-nil, append_assoc, sym, ap, subst, inr, ⊎_elim, Some, None}
 use Rattle.heap_model.specs.declared.entry.Entry.{Entry}
 use Rattle.heap_model.specs.declared.reply.Applied.{Applied}
 use Rattle.heap_model.specs.declared.state.Sizes.{Sizes}
 use Rattle.heap_model.specs.Fronts.{Answers}
+use Rattle.heap_model.specs.declared.command.Command.TheVariants.{Poll}
 use Rattle.heap_model.specs.History.{IsPrefix}
 use Rattle.heap_rule.specs.declared.view.Own.{Own}
 use Rattle.heap_rule.specs.declared.view.DomainView.{DomainView}
@@ -15,9 +16,9 @@ use Rattle.domain_turns.specs.declared.passing.Past.{Past}
 use Rattle.domain_turns.specs.declared.passing.Past.TheVariants.{Waits, Arrived, Answered, Runs}
 use Rattle.domain_turns.specs.Past.{PastAnswers}
 use Rattle.domain_turns.specs.Pausing.{ComesToAnswer}
-use Rattle.domain_turns.specs.Runs.{RunView, CalmDid, Rests, CalmAnswers, RunAnswers, Stops, Resumes, GoesBy, IsAnswered, SeesAnswer, wanting, GoesOn}
+use Rattle.domain_turns.specs.Runs.{RunView, CalmDid, Rests, CalmAnswers, RunAnswers, Stops, Resumes, GoesBy, IsAnswered, SeesAnswer, wanting, GoesOn, asking_end}
 use Rattle.heap_rule.specs.declared.config.Config.{Config}
-use Rattle.domain_turns.specs.Runs.CalmDid.{Finalises, Wishes, Refuses, Tries, Ends}
+use Rattle.domain_turns.specs.Runs.CalmDid.{Finalises, Wishes, Refuses, Tries, Marks, Ends}
 use Rattle.domain_turns.proofs.LeavingLemmas.{passes_leaves}
 use Rattle.domain_turns.proofs.Moving.{front_prefix}
 use Rattle.domain_turns.proofs.Turning.{stood}
@@ -27,6 +28,11 @@ answered_front z d old new e r a = record { rest = a.between ++ e ∷ []; append
 
 same_prefix : (old new : List Entry) → new ≡ old → IsPrefix old new
 same_prefix old new is = record { rest = []; appends = is ∙ sym (append-nil old) }
+
+-- a wish changes nothing of it
+asks : (spent : Bool) (old new : RunView) → GoesOn old new → GoesOn old (asking_end spent new)
+asks false old new g = g
+asks true old new g = record { commands = g.commands; number = g.number; front = g.front }
 
 calm_did : (h : SharedHeap) (old new : RunView) → CalmDid h old new → GoesOn old new
 calm_did h old new (Finalises f) = record {
@@ -45,7 +51,16 @@ calm_did h old new (Refuses a) =
       number = ap (λ (r : RunView). r.token.view.own.number) a.run ∙ ap (λ (x : DomainView). x.own.number) a.refused.view;
       front = same_prefix _ _ (ap (λ (r : RunView). r.token.view.seen.front) a.run ∙ same);
     }
-calm_did h old new (Tries c t) = record { commands = ap (λ (r : RunView). r.commands) t.run; number = ap (λ (o : Own). o.number) t.tried.own; front = answered_front _ _ _ _ _ _ (stood h old.token new.token c old.collected t.reply t.tried.stands).1 }
+calm_did h old new (Tries c other t) = record { commands = ap (λ (r : RunView). r.commands) t.run; number = ap (λ (o : Own). o.number) t.tried.own; front = answered_front _ _ _ _ _ _ (stood h old.token new.token c old.collected t.reply t.tried.stands).1 }
+calm_did h old new (Marks p) =
+    let t = p.tried in
+    let seen = ap (λ (x : DomainView). x.seen.front) p.marks.learnt.view in
+    let g : GoesOn old p.made = record {
+      commands = ap (λ (r : RunView). r.commands) t.run ∙ ap (λ (r : RunView). r.commands) p.marks.run;
+      number = ap (λ (o : Own). o.number) t.tried.own ∙ ap (λ (x : DomainView). x.own.number) p.marks.learnt.view;
+      front = subst (λ (f : List Entry). IsPrefix f p.made.token.view.seen.front) seen (answered_front _ _ _ _ _ _ (stood h p.marked.token p.made.token Poll p.marked.collected t.reply t.tried.stands).1);
+    } in
+    subst (GoesOn old) (sym p.run) (asks p.spent old p.made g)
 calm_did h old new (Ends t) = record { commands = ap (λ (r : RunView). r.commands) t.run; number = ap (λ (x : DomainView). x.own.number) t.ended.view; front = answered_front _ _ _ _ _ _ t.ended.answers }
 
 rests : (old new : RunView) (n : ℕ) → Rests old new n → GoesOn old new

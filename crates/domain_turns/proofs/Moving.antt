@@ -17,6 +17,7 @@ use Rattle.heap_rule.specs.declared.view.Hunt.TheVariants.{Rests}
 use Rattle.heap_rule.specs.declared.view.Finalisers.{Finalisers}
 use Rattle.steps_finalisers.specs.Registering.{count_of}
 use Rattle.domain_turns.specs.Pausing.{due_of}
+use Rattle.mark_slices.specs.Decks.{Deck}
 use Rattle.domain_turns.specs.Runs.{RunView, IsRun, IsBetween, ephemerons_in, registrations_in, is_end_of}
 use Rattle.domain_turns.proofs.Owing.{due_on}
 use Rattle.remembered_set.specs.Bounded.{Bounded}
@@ -46,8 +47,8 @@ at_most a b c ab bc = omega arith
 same_room : (a b : Bounded ℕ) → b ≡ a → a.room ≤ b.room
 same_room a b is = let rooms : b.room ≡ a.room = ap (λ (l : Bounded ℕ). l.room) is in omega arith
 
-pub moved_is_run : (r : RunView) (new : Token) (left : Option Kind) (asked : Option ℕ) (collected cut : Bool) → IsRun r → Moves r.token new → IsBetween left asked collected cut new → IsRun (record r { token = new; left = left; asked = asked; collected = collected; cut = cut })
-moved_is_run r new left asked collected cut is m between =
+pub moved_is_run : (r : RunView) (new : Token) (left : Option Kind) (asked : Option ℕ) (collected cut whole : Bool) (hints : Deck) → IsRun r → Moves r.token new → IsBetween left asked collected cut whole new → IsRun (record r { token = new; left = left; asked = asked; collected = collected; cut = cut; whole = whole; hints = hints })
+moved_is_run r new left asked collected cut whole hints is m between =
     let d : ℕ = r.token.view.own.number in
     let k : Config = r.token.config in
     let old : List Entry = r.token.view.seen.front in

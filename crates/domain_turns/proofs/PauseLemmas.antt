@@ -59,36 +59,36 @@ sweep_lasts e = cc
 pub before_promote : (a : Kind) → Follows a Promote → a ≡ Run
 before_promote Run f = refl
 before_promote Promote f = let e : Promote ≡ Reset = f in cc
-before_promote Reset f = ⊎_elim (λ (e : Promote ≡ Run). cc) (λ (e : Promote ≡ Roots). cc) f
-before_promote Roots f = let e : Promote ≡ Mark = f in cc
+before_promote Reset f = ⊎_elim (λ (e : Promote ≡ Run). cc) (⊎_elim (λ (e : Promote ≡ Roots). cc) (λ (e : Promote ≡ Mark). cc)) f
+before_promote Roots f = ⊎_elim (λ (e : Promote ≡ Mark). cc) (λ (e : Promote ≡ Run). cc) f
 before_promote Mark f = ⊎_elim (λ (e : Promote ≡ Mark). cc) (λ (e : Promote ≡ Rounds). cc) f
 before_promote Rounds f = ⊎_elim (λ (e : Promote ≡ Mark). cc) (⊎_elim (λ (e : Promote ≡ Decide). cc) (λ (e : Promote ≡ Clean). cc)) f
 before_promote Decide f = let e : Promote ≡ Queued = f in cc
 before_promote Queued f = let e : Promote ≡ Mark = f in cc
 before_promote Clean f = let e : Promote ≡ Lasts = f in cc
 before_promote Lasts f = let e : Promote ≡ Sweep = f in cc
-before_promote Sweep f = ⊎_elim (λ (e : Promote ≡ Run). cc) (λ (e : Promote ≡ Answer). cc) f
+before_promote Sweep f = ⊎_elim (λ (e : Promote ≡ Run). cc) (⊎_elim (λ (e : Promote ≡ Answer). cc) (λ (e : Promote ≡ Roots). cc)) f
 before_promote Answer f = let e : Promote ≡ Run = f in cc
 
 pub before_reset : (a : Kind) → Follows a Reset → a ≡ Promote
 before_reset Run f = let e : Reset ≡ Promote = f in cc
 before_reset Promote f = refl
-before_reset Reset f = ⊎_elim (λ (e : Reset ≡ Run). cc) (λ (e : Reset ≡ Roots). cc) f
-before_reset Roots f = let e : Reset ≡ Mark = f in cc
+before_reset Reset f = ⊎_elim (λ (e : Reset ≡ Run). cc) (⊎_elim (λ (e : Reset ≡ Roots). cc) (λ (e : Reset ≡ Mark). cc)) f
+before_reset Roots f = ⊎_elim (λ (e : Reset ≡ Mark). cc) (λ (e : Reset ≡ Run). cc) f
 before_reset Mark f = ⊎_elim (λ (e : Reset ≡ Mark). cc) (λ (e : Reset ≡ Rounds). cc) f
 before_reset Rounds f = ⊎_elim (λ (e : Reset ≡ Mark). cc) (⊎_elim (λ (e : Reset ≡ Decide). cc) (λ (e : Reset ≡ Clean). cc)) f
 before_reset Decide f = let e : Reset ≡ Queued = f in cc
 before_reset Queued f = let e : Reset ≡ Mark = f in cc
 before_reset Clean f = let e : Reset ≡ Lasts = f in cc
 before_reset Lasts f = let e : Reset ≡ Sweep = f in cc
-before_reset Sweep f = ⊎_elim (λ (e : Reset ≡ Run). cc) (λ (e : Reset ≡ Answer). cc) f
+before_reset Sweep f = ⊎_elim (λ (e : Reset ≡ Run). cc) (⊎_elim (λ (e : Reset ≡ Answer). cc) (λ (e : Reset ≡ Roots). cc)) f
 before_reset Answer f = let e : Reset ≡ Run = f in cc
 
 pub before_answer : (a : Kind) → Follows a Answer → a ≡ Sweep
 before_answer Run f = let e : Answer ≡ Promote = f in cc
 before_answer Promote f = let e : Answer ≡ Reset = f in cc
-before_answer Reset f = ⊎_elim (λ (e : Answer ≡ Run). cc) (λ (e : Answer ≡ Roots). cc) f
-before_answer Roots f = let e : Answer ≡ Mark = f in cc
+before_answer Reset f = ⊎_elim (λ (e : Answer ≡ Run). cc) (⊎_elim (λ (e : Answer ≡ Roots). cc) (λ (e : Answer ≡ Mark). cc)) f
+before_answer Roots f = ⊎_elim (λ (e : Answer ≡ Mark). cc) (λ (e : Answer ≡ Run). cc) f
 before_answer Mark f = ⊎_elim (λ (e : Answer ≡ Mark). cc) (λ (e : Answer ≡ Rounds). cc) f
 before_answer Rounds f = ⊎_elim (λ (e : Answer ≡ Mark). cc) (⊎_elim (λ (e : Answer ≡ Decide). cc) (λ (e : Answer ≡ Clean). cc)) f
 before_answer Decide f = let e : Answer ≡ Queued = f in cc
@@ -173,15 +173,16 @@ pub looked_past : (k : Config) (kind : Kind) (x y : DomainView) → x.own.number
 looked_past k kind x y inside p past = past_as k kind x y (keeps_as x y _ p.view refl refl refl refl (same_held x)) (void_as y.seen.share x.seen.share (ap (λ (z : DomainView). z.seen.share) p.view) past.void)
     (λ e. answer_on k x y inside (ap (λ (z : DomainView). z.own.number) p.view) p.seen (past.answer e)) past
 
-pub quiet_as : (x y : DomainView) → y.seen.copying ≡ x.seen.copying → y.own.pending ≡ x.own.pending → y.own.prepared ≡ x.own.prepared → IsQuiet x → IsQuiet y
-quiet_as x y copying pending prepared q = record {
+pub quiet_as : (x y : DomainView) → y.seen.copying ≡ x.seen.copying → y.own.pending ≡ x.own.pending → y.own.prepared ≡ x.own.prepared → y.seen.share.weak ≡ x.seen.share.weak → IsQuiet x → IsQuiet y
+quiet_as x y copying pending prepared weak q = record {
   quiet = copying ∙ q.quiet;
   no_copies = ap (λ (b : Bounded _). b.items) pending ∙ q.no_copies;
   unprepared = λ class few. ap (λ l. Rattle.heap_rule.specs.Pools.prepared_at l class) prepared ∙ q.unprepared class few;
+  paid = weak ∙ q.paid;
 }
 
 pub looked_quiet : (k : Config) (x y : DomainView) → Passed k x y → IsQuiet x → IsQuiet y
-looked_quiet k x y p q = quiet_as x y (ap (λ (z : DomainView). z.seen.copying) p.view) (ap (λ (z : DomainView). z.own.pending) p.view) (ap (λ (z : DomainView). z.own.prepared) p.view) q
+looked_quiet k x y p q = quiet_as x y (ap (λ (z : DomainView). z.seen.copying) p.view) (ap (λ (z : DomainView). z.own.pending) p.view) (ap (λ (z : DomainView). z.own.prepared) p.view) (ap (λ (z : DomainView). z.seen.share.weak) p.view) q
 
 -- the phase before the one that has begun
 pub ready_next : (k : Config) (known kind : Kind) (x y : DomainView) → x.own.number < k.domains → HasLeft k known x → Passed k x y → IsEven x.own.arrivals → Comes x.own.number known kind → IsModeOf kind (state_of k y.seen.front).mode → IsReady k kind y
@@ -275,7 +276,7 @@ even_past k Answer x y l mode r = absurd l
 
 -- who has arrived is quiet
 pub arrived_quiet : (x y : DomainView) → y ≡ arrived_view x → Unprepared x → IsQuiet y
-arrived_quiet x y is none = subst IsQuiet (sym is) (record { quiet = refl; no_copies = refl; unprepared = none })
+arrived_quiet x y is none = subst IsQuiet (sym is) (record { quiet = refl; no_copies = refl; unprepared = none; paid = refl })
 
 pub even_quiet : (k : Config) (kind : Kind) (x y : DomainView) → LeavesEven k kind x y → IsQuiet x → IsQuiet y
 even_quiet k Run x y l q = absurd l

@@ -19,9 +19,13 @@ use Rattle.heap_model.proofs.Histories.FrontLemmas.{answers_after}
 use Rattle.heap_rule.specs.declared.view.Hunt.TheVariants.{Rests}
 use Rattle.heap_rule.specs.declared.phase.Kind.TheVariants.{Answer}
 use Rattle.heap_rule.specs.Rule.{state_of}
+use Rattle.barriers.specs.Aware.{Learnt, aware_as}
+use Rattle.steps_cycle.specs.Arming.{knowing_armed}
+use Rattle.mark_slices.specs.Decks.{Deck}
 use Rattle.steps_pauses.specs.Pauses.{cut_in, forgotten}
 use Rattle.domain_turns.specs.Pausing.{AnswersLive, due_of}
 use Rattle.domain_turns.proofs.LeavingLemmas.{answer_between}
+use Rattle.domain_turns.proofs.Moving.{moved_is_run, still_moves}
 use Rattle.heap_rule.specs.declared.view.Own.{Own}
 use Rattle.heap_rule.specs.declared.view.DomainView.{DomainView}
 use Rattle.steps_finalisers.specs.Registering.{count_of}
@@ -122,30 +126,32 @@ ran_replies r is n some =
     omega arith
 
 -- after the try of a command the domain runs on
-tried_between : (h : SharedHeap) (old new : Token) (c : model.Command) (reply : Reply) (asked : Option ℕ) (collected cut : Bool) → IsBetween None asked collected cut old → Tried h old new c collected reply → IsBetween None None false cut new
-tried_between h old new c reply asked collected cut is t = record {
+tried_between : (h : SharedHeap) (old new : Token) (c : model.Command) (reply : Reply) (asked : Option ℕ) (collected cut whole : Bool) → IsBetween None asked collected cut whole old → Tried h old new c collected reply → IsBetween None None false cut whole new
+tried_between h old new c reply asked collected cut whole is t = record {
   stands = t.runs.acts.runs;
-  quiet = quiet_as old.view new.view t.stays.copying (ap (λ (o : Own). o.pending) t.own) (ap (λ (o : Own). o.prepared) t.own) is.quiet;
+  quiet = quiet_as old.view new.view t.stays.copying (ap (λ (o : Own). o.pending) t.own) (ap (λ (o : Own). o.prepared) t.own) t.stays.weak is.quiet;
   even = λ none. subst IsEven (sym t.stays.arrivals) (is.even none);
   remembers = λ _. t.runs.remembers;
   emptied = λ _ served. cc;
   has_left = λ known left. cc;
   fresh = λ e. cc;
   knows_cut = λ known left. cc;
+  knows_whole = λ known left. cc;
 }
 
 -- after the end of the trace it runs too
-ended_between : (h : SharedHeap) (old new : Token) (asked : Option ℕ) (collected cut : Bool) → IsBetween None asked collected cut old → HasEnded h old new → IsBetween None asked false cut new
-ended_between h old new asked collected cut is t =
+ended_between : (h : SharedHeap) (old new : Token) (asked : Option ℕ) (collected cut whole : Bool) → IsBetween None asked collected cut whole old → HasEnded h old new → IsBetween None asked false cut whole new
+ended_between h old new asked collected cut whole is t =
     let arrivals : new.view.own.arrivals ≡ old.view.own.arrivals = ap (λ (x : DomainView). x.own.arrivals) t.view in record {
       stands = ap (λ (x : DomainView). x.seen.stage) t.view ∙ is.stands;
-      quiet = quiet_as old.view new.view (ap (λ (x : DomainView). x.seen.copying) t.view) (ap (λ (x : DomainView). x.own.pending) t.view) (ap (λ (x : DomainView). x.own.prepared) t.view) is.quiet;
+      quiet = quiet_as old.view new.view (ap (λ (x : DomainView). x.seen.copying) t.view) (ap (λ (x : DomainView). x.own.pending) t.view) (ap (λ (x : DomainView). x.own.prepared) t.view) (ap (λ (x : DomainView). x.seen.share.weak) t.view) is.quiet;
       even = λ none. subst IsEven (sym arrivals) (is.even none);
       remembers = λ none. ap (λ (x : DomainView). x.seen.remembered) t.view ∙ (is.remembers none ∙ sym (ap (λ (x : DomainView). x.own.remembered.items) t.view));
       emptied = λ none served. ap (λ (x : DomainView). x.own.used) t.view ∙ is.emptied none (ap (served_since asked) (sym arrivals) ∙ served);
       has_left = λ known left. cc;
       fresh = λ e. cc;
       knows_cut = λ known left. cc;
+      knows_whole = λ known left. cc;
     }
 
 -- what the entry of a command leaves of its domain's token
@@ -161,9 +167,9 @@ record HasMade (old new : Token) (c : model.Command) (full : Bool) (reply : Repl
   answers : Answers (sizes_in old.config) old.view.own.number old.view.seen.front new.view.seen.front (CommandOf old.view.own.number c full) (Replied reply)
 
 -- the entry of the next command was made, and its reply kept
-made_is_run : (r : RunView) (new : Token) (c : model.Command) (full : Bool) (reply : Reply) (left : Option Kind) (cut : Bool) (due : ℕ) → IsRun r → r.ended ≡ false → slice_get r.commands r.next ≡ Some c → HasMade r.token new c full reply due → IsBetween left None false cut new
-    → IsRun (record r { token = new; next = r.next + 1; replies = r.replies ++ reply ∷ []; left = left; asked = None; collected = false; cut = cut; due = due })
-made_is_run r new c full reply left cut due is running at m between =
+made_is_run : (r : RunView) (new : Token) (c : model.Command) (full : Bool) (reply : Reply) (left : Option Kind) (cut : Bool) (due : ℕ) (hints : Deck) → IsRun r → r.ended ≡ false → slice_get r.commands r.next ≡ Some c → HasMade r.token new c full reply due → IsBetween left None false cut r.whole new
+    → IsRun (record r { token = new; next = r.next + 1; replies = r.replies ++ reply ∷ []; left = left; asked = None; collected = false; cut = cut; due = due; hints = hints })
+made_is_run r new c full reply left cut due hints is running at m between =
     let d : ℕ = r.token.view.own.number in
     let z = sizes_in r.token.config in
     let e : Entry = CommandOf d c full in
@@ -214,14 +220,14 @@ tried_is_run h r new c reply own served is running left at t ready =
     let d : ℕ = r.token.view.own.number in
     let owes : due_of r.token.config new.view ≡ 0 = ap (λ (n : ℕ). due_at (state_of r.token.config new.view.seen.front) n) number
     ∙ command_due (sizes_in r.token.config) d r.token.view.seen.front new.view.seen.front c st.0 (Replied reply) st.1 (not_full h.config own served c ready) in
-    made_is_run r new c st.0 reply r.left r.cut 0 is running at
+    made_is_run r new c st.0 reply r.left r.cut 0 r.hints is running at
     record { listed = subst (λ (o : Own). count_of o.finalisers ≤ registrations_of c + count_of r.token.view.own.finalisers) (sym t.own) (enlisted_count c r.token.view.own); owes = owes; config = t.heap.1; number = ap (λ (o : Own). o.number) t.own; serial = omega (arith, serial, few); room = λ n fits. subst (λ (o : Own). n ≤ o.ephemerons.room) (sym t.own) (room_left c reply r.token.view.own new.view.own n fits); idle = t.runs.idle; at_rest = t.runs.at_rest; answers = st.1 }
-    (subst (λ (l : Option Kind). IsBetween l None false r.cut new) (sym left) (tried_between h r.token new c reply r.asked r.collected r.cut (subst (λ (l : Option Kind). IsBetween l r.asked r.collected r.cut r.token) left is.between) t))
+    (subst (λ (l : Option Kind). IsBetween l None false r.cut r.whole new) (sym left) (tried_between h r.token new c reply r.asked r.collected r.cut r.whole (subst (λ (l : Option Kind). IsBetween l r.asked r.collected r.cut r.whole r.token) left is.between) t))
 
 -- the same where a collection is answered by the reply of a `full_major`
-pub answered_is_run : (h : SharedHeap) (r : RunView) (new : Token) (reply : Reply) (last : Kind) → IsRun r → r.ended ≡ false → slice_get r.commands r.next ≡ Some FullMajor → IsIn r.token h → IsIn new h → AnswersLive h.config r.token.view new.view reply
-    → IsRun (record r { token = new; next = r.next + 1; replies = r.replies ++ reply ∷ []; left = Some Answer; asked = None; collected = false; cut = cut_in last r.cut; due = length new.view.own.finalisers.queue.items })
-answered_is_run h r new reply last is running at was here a =
+pub answered_is_run : (h : SharedHeap) (r : RunView) (new : Token) (reply : Reply) (last : Kind) (hints : Deck) → IsRun r → r.ended ≡ false → slice_get r.commands r.next ≡ Some FullMajor → IsIn r.token h → IsIn new h → AnswersLive h.config r.token.view new.view reply
+    → IsRun (record r { token = new; next = r.next + 1; replies = r.replies ++ reply ∷ []; left = Some Answer; asked = None; collected = false; cut = cut_in last r.cut; due = length new.view.own.finalisers.queue.items; hints = hints })
+answered_is_run h r new reply last hints is running at was here a =
     let passed = a.comes.passed.view in
     let own : new.view.own ≡ record a.begun.own { arrivals = a.begun.own.arrivals + 1; pending = forgotten a.begun.own.pending } = ap (λ (x : DomainView). x.own) a.view in
     let config : new.config ≡ r.token.config = here.1 ∙ sym was.1 in
@@ -231,7 +237,7 @@ answered_is_run h r new reply last is running at was here a =
     let answers : Answers (sizes_in h.config) r.token.view.own.number r.token.view.seen.front new.view.seen.front entry (Replied reply) =
     subst (λ (f : List Entry). Answers (sizes_in h.config) r.token.view.own.number r.token.view.seen.front f entry (Replied reply)) (sym front)
     (answers_after (sizes_in h.config) r.token.view.own.number r.token.view.seen.front a.begun.seen.front a.front entry (Replied reply) a.comes.passed.seen a.answers) in
-    made_is_run r new FullMajor false reply (Some Answer) (cut_in last r.cut) (length new.view.own.finalisers.queue.items) is running at
+    made_is_run r new FullMajor false reply (Some Answer) (cut_in last r.cut) (length new.view.own.finalisers.queue.items) hints is running at
     record {
       config = config;
       number = ap (λ (o : Own). o.number) own ∙ ap (λ (x : DomainView). x.own.number) passed;
@@ -243,7 +249,7 @@ answered_is_run h r new reply last is running at was here a =
       at_rest = ap (λ (x : DomainView). x.seen.hunt) a.view ∙ (ap (λ (x : DomainView). x.seen.hunt) passed ∙ is.at_rest);
       answers = subst (λ (k : Config). Answers (sizes_in k) r.token.view.own.number r.token.view.seen.front new.view.seen.front entry (Replied reply)) (sym was.1) answers;
     }
-    (answer_between h r.token.view a.begun new a.front None false (cut_in last r.cut) here is.between.quiet a.comes a.view (λ e. cc))
+    (answer_between h r.token.view a.begun new a.front None false (cut_in last r.cut) r.whole here is.between.quiet a.comes a.view (λ e. cc))
 
 any_last : (p : Entry → Bool) (xs : List Entry) (e : Entry) → p e ≡ true → IsTrue (list_any p (xs ++ e ∷ []))
 any_last p [] e is = rw is refl
@@ -278,7 +284,7 @@ ended_is_run h r new is left whole t =
       at_rest = ap (λ (x : DomainView). x.seen.hunt) t.view ∙ is.at_rest;
       goes_on = λ running. cc;
       owes = λ running. cc;
-      between = subst (λ (l : Option Kind). IsBetween l r.asked false r.cut new) (sym left) (ended_between h r.token new r.asked r.collected r.cut (subst (λ (l : Option Kind). IsBetween l r.asked r.collected r.cut r.token) left is.between) t);
+      between = subst (λ (l : Option Kind). IsBetween l r.asked false r.cut r.whole new) (sym left) (ended_between h r.token new r.asked r.collected r.cut r.whole (subst (λ (l : Option Kind). IsBetween l r.asked r.collected r.cut r.whole r.token) left is.between) t);
       labels = omega (arith, is.labels, serial);
       done = λ ended. omega (arith, is.within, whole);
       over = λ ended. subst (λ (n : ℕ). IsTrue (list_any (is_end_of n) new.view.seen.front)) (sym number)
@@ -286,12 +292,12 @@ ended_is_run h r new is left whole t =
     }
 
 -- the run of a finaliser leaves the domain between two turns
-ran_between : (h : SharedHeap) (old new : Token) (ran : Ran) (asked : Option ℕ) (collected cut : Bool) → new.config ≡ old.config → h.config ≡ old.config → IsBetween None asked collected cut old → RanFirst h.config ran old.view new.view → IsBetween None asked collected cut new
-ran_between h old new ran asked collected cut config same is f =
+ran_between : (h : SharedHeap) (old new : Token) (ran : Ran) (asked : Option ℕ) (collected cut whole : Bool) → new.config ≡ old.config → h.config ≡ old.config → IsBetween None asked collected cut whole old → RanFirst h.config ran old.view new.view → IsBetween None asked collected cut whole new
+ran_between h old new ran asked collected cut whole config same is f =
     let arrivals : new.view.own.arrivals ≡ old.view.own.arrivals = ap (λ (x : DomainView). x.own.arrivals) f.view in
     let number : new.view.own.number ≡ old.view.own.number = ap (λ (x : DomainView). x.own.number) f.view in record {
       stands = ap (λ (x : DomainView). x.seen.stage) f.view ∙ is.stands;
-      quiet = quiet_as old.view new.view (ap (λ (x : DomainView). x.seen.copying) f.view) (ap (λ (x : DomainView). x.own.pending) f.view) (ap (λ (x : DomainView). x.own.prepared) f.view) is.quiet;
+      quiet = quiet_as old.view new.view (ap (λ (x : DomainView). x.seen.copying) f.view) (ap (λ (x : DomainView). x.own.pending) f.view) (ap (λ (x : DomainView). x.own.prepared) f.view) (ap (λ (x : DomainView). x.seen.share.weak) f.view) is.quiet;
       even = λ none. subst IsEven (sym arrivals) (is.even none);
       remembers = λ none. ap (λ (x : DomainView). x.seen.remembered) f.view ∙ (is.remembers none ∙ sym (ap (λ (x : DomainView). x.own.remembered.items) f.view));
       emptied = λ none served. ap (λ (x : DomainView). x.own.used) f.view ∙ is.emptied none (ap (served_since asked) (sym arrivals) ∙ served);
@@ -300,6 +306,7 @@ ran_between h old new ran asked collected cut config same is f =
           (ran_fresh (sizes_in old.config) old.view.own.number old.view.seen.front new.view.seen.front (Replied (reply_of ran))
           (subst (λ (k : Config). Answers (sizes_in k) old.view.own.number old.view.seen.front new.view.seen.front (RanEntry old.view.own.number) (Replied (reply_of ran))) same f.answers) (is.fresh e));
       knows_cut = λ known left. cc;
+      knows_whole = λ known left. cc;
     }
 
 -- a finaliser has run, and its reply was kept
@@ -339,8 +346,34 @@ ran_is_run h r new ran is running left was here goes f =
       at_rest = ap (λ (x : DomainView). x.seen.hunt) f.view ∙ is.at_rest;
       goes_on = λ _. goes;
       owes = λ _. subst (λ (c : Config). due_of c new.view ≡ length new.view.own.finalisers.queue.items) (sym here.1) f.due;
-      between = subst (λ (l : Option Kind). IsBetween l r.asked r.collected r.cut new) (sym left) (ran_between h r.token new ran r.asked r.collected r.cut config (sym was.1) (subst (λ (l : Option Kind). IsBetween l r.asked r.collected r.cut r.token) left is.between) f);
+      between = subst (λ (l : Option Kind). IsBetween l r.asked r.collected r.cut r.whole new) (sym left) (ran_between h r.token new ran r.asked r.collected r.cut r.whole config (sym was.1) (subst (λ (l : Option Kind). IsBetween l r.asked r.collected r.cut r.whole r.token) left is.between) f);
       labels = omega (arith, is.labels, serial);
       done = λ ended. let clash : false ≡ true = sym running ∙ ended in cc;
       over = λ ended. let clash : false ≡ true = sym running ∙ ended in cc;
     }
+
+-- a domain that has marked beside the others is where it was
+pub marked_is_run : (h : SharedHeap) (r : RunView) (new : Token) (hints : Deck) → IsRun r → r.left ≡ None → IsIn r.token h → IsIn new h → Learnt r.token.view new.view → new.view.seen.share.weak ≡ r.token.view.seen.share.weak → IsRun (record r { token = new; hints = hints })
+marked_is_run h r new hints is left was here learnt weak =
+    let config : new.config ≡ r.token.config = here.1 ∙ sym was.1 in
+    let v = learnt.view in
+    let old : IsBetween None r.asked r.collected r.cut r.whole r.token = subst (λ (l : Option Kind). IsBetween l r.asked r.collected r.cut r.whole r.token) left is.between in
+    let between : IsBetween None r.asked r.collected r.cut r.whole new = record {
+      stands = ap (λ (x : DomainView). x.seen.stage) v ∙ old.stands;
+      quiet = quiet_as r.token.view new.view (ap (λ (x : DomainView). x.seen.copying) v) (ap (λ (x : DomainView). x.own.pending) v) (ap (λ (x : DomainView). x.own.prepared) v) weak old.quiet;
+      even = λ none. subst IsEven (sym (ap (λ (x : DomainView). x.own.arrivals) v)) (old.even none);
+      remembers = λ none. ap (λ (x : DomainView). x.seen.remembered) v ∙ (old.remembers none ∙ sym (ap (λ (x : DomainView). x.own.remembered.items) v));
+      emptied = λ none served. ap (λ (x : DomainView). x.own.used) v ∙ old.emptied none (ap (served_since r.asked) (sym (ap (λ (x : DomainView). x.own.arrivals) v)) ∙ served);
+      has_left = λ known left. cc;
+      fresh = λ e. subst (λ (z : Config × (ℕ × List Entry)). (domain_at (state_of z.0 z.1.1) z.1.0).fresh ≡ true) (λ i. (sym config i, (sym (ap (λ (x : DomainView). x.own.number) v) i, sym (ap (λ (x : DomainView). x.seen.front) v) i))) (old.fresh e);
+      knows_cut = λ known left. cc;
+      knows_whole = λ known left. cc;
+    } in
+    moved_is_run r new r.left r.asked r.collected r.cut r.whole hints is (still_moves h r.token new _ was here v refl refl refl refl refl refl refl) (subst (λ (l : Option Kind). IsBetween l r.asked r.collected r.cut r.whole new) (sym left) between)
+
+-- who has found whether a collection goes on has learnt that
+pub armed_learns : (x y : DomainView) (armed : Bool) → y ≡ knowing_armed x armed → Learnt x y
+armed_learns x y armed is = subst (Learnt x) (sym is) (record { view = refl; grows = λ f known. known })
+
+pub learns_on : (x y z : DomainView) → Learnt x y → Learnt y z → Learnt x z
+learns_on x y z a b = record { view = b.view ∙ ap (λ (v : DomainView). aware_as v z) a.view; grows = λ f known. b.grows f (a.grows f known) }

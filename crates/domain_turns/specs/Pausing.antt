@@ -26,15 +26,16 @@ use Rattle.safepoint.specs.Looks.{Passed}
 use Rattle.steps_promote.specs.Promotion.{NoneYoung, reset_view}
 use Rattle.promote_claim.specs.Sharing.{Unprepared, Shared}
 use Rattle.steps_cycle.specs.Looks.{with_share}
-use Rattle.cycle_phases.specs.Sharing.{SharesIn}
+use Rattle.cycle_phases.specs.Sharing.{IsShared, SharesIn}
 use Rattle.cycle_phases.specs.Leading.{LeadsOn}
 use Rattle.domain_turns.specs.Tries.{IsFresh}
 
--- no block was met, no copy is listed, and no place is prepared for one
+-- no block was met, no copy is listed, no place is prepared for one, and no darkening is owed
 pub record IsQuiet (x : DomainView) : Type 0 where
   pub quiet : x.seen.copying ≡ nothing_copied
   pub no_copies : x.own.pending.items ≡ []
   pub unprepared : Unprepared x
+  pub paid : x.seen.share.weak ≡ None
 
 -- where a collection may have been answered since, the domain has made no entry since it was
 abbrev pub KnowsAnswer : Config → DomainView → Type 0
@@ -71,6 +72,10 @@ IsMarking _ = ⊥
 -- domain 0 knows it
 abbrev pub KnowsCut : Kind → Bool → DomainView → Type 0
 KnowsCut known cut x = IsMarking known → x.own.number ≡ 0 → cut ≡ x.seen.share.cut
+
+-- in the phases in which it has a share it goes by whether the collection began in this pause, and knows it
+abbrev pub KnowsWhole : Kind → Bool → DomainView → Type 0
+KnowsWhole known whole x = IsShared known → x.own.number ≡ 0 → whole ≡ x.seen.share.whole
 
 -- the domain did its share of Promote, and arrived
 pub record LeavesPromote (k : Config) (x y : DomainView) : Type 0 where

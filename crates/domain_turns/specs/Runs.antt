@@ -9,7 +9,7 @@ use Rattle.heap_model.specs.declared.reply.Applied.TheVariants.{Silent}
 use Rattle.heap_model.specs.History.{IsPrefix, commands, replies}
 use Rattle.heap_model.specs.Fronts.{Answers}
 use Rattle.heap_model.specs.Domains.{class_count, domain_at, reserve}
-use Rattle.heap_model.specs.declared.command.Command.TheVariants.{Minor, Major, FullMajor}
+use Rattle.heap_model.specs.declared.command.Command.TheVariants.{Minor, Major, FullMajor, Poll}
 use Rattle.heap_rule.specs.declared.config.Config.{Config}
 use Rattle.heap_rule.specs.declared.view.DomainView.{DomainView}
 use Rattle.heap_rule.specs.declared.phase.Kind.{Kind}
@@ -21,14 +21,16 @@ use Rattle.heap_rule.specs.declared.phase.Note.TheVariants.{Want, Asked, Barrier
 use Rattle.heap_rule.specs.Phases.{IsEven, IsOdd, Comes}
 use Rattle.heap_rule.specs.Copies.{nothing_copied}
 use Rattle.heap_rule.specs.Running.{RemembersAll}
-use Rattle.steps_pauses.specs.Pauses.{noted, arrived_view, cut_in, ended_own, IsModeOf}
+use Rattle.steps_pauses.specs.Pauses.{noted, arrived_view, cut_in, ended_own, whole_after, IsModeOf}
+use Rattle.barriers.specs.Aware.{Learnt, scanned_in}
+use Rattle.mark_slices.specs.Decks.{Deck, Rises, last_count}
 use Rattle.steps_finalisers.specs.Registering.{count_of}
 use Rattle.finaliser_queues.specs.declared.running.Ran.{Ran}
 use Rattle.finaliser_queues.specs.Running.{RanFirst, reply_of}
 use Rattle.heap_rule.specs.Rule.{state_of}
 use Rattle.safepoint.specs.Looks.{Passed, bit_of}
 use Rattle.safepoint.specs.declared.answer.Want as wish
-use Rattle.safepoint.specs.declared.answer.Want.TheVariants.{Full}
+use Rattle.safepoint.specs.declared.answer.Want.TheVariants.{Finish, Full}
 use Rattle.domain_turns.specs.declared.turned.Turned.{Turned}
 use Rattle.domain_turns.specs.declared.turned.Turned.TheVariants.{Did, Waiting, Idle}
 use Rattle.domain_turns.specs.declared.turned.Turned.TheVariants.{Ended as Over}
@@ -36,10 +38,10 @@ use Rattle.heap_rule.specs.declared.view.Hunt.TheVariants.{Rests as AtRest}
 use Rattle.heap_rule.specs.Limits.{sizes_in}
 use Rattle.heap_rule.specs.Standing.{Acts}
 use Rattle.heap_rule.specs.Token.{Token, SharedHeap, IsIn}
-use Rattle.domain_turns.specs.Pausing.{IsQuiet, HasLeft, KnowsCut, LeavesEven, LeavesOdd, GivesBack, AnswersLive, IsCollected, due_of}
+use Rattle.domain_turns.specs.Pausing.{IsQuiet, HasLeft, KnowsCut, KnowsWhole, LeavesEven, LeavesOdd, GivesBack, AnswersLive, IsCollected, due_of}
 use Rattle.domain_turns.specs.Tries.{FitsHeap, IsFresh, NeedsPause, Refused, Tried, ephemerons_of, registrations_of, wish_of}
 
--- a run: the domain's token, its commands, the place of the next one, its replies, whether its trace has ended, where the domain has arrived from which kind of phase, how often it had arrived when it asked for a pause for the next command, whether the last pause since then was a complete collection that left so many blocks that they may use up the pools, whether, for domain 0, the collection under way is past its cut, and how many finalisers the domain owes before its next `full_major`
+-- a run: the domain's token, its commands, the place of the next one, its replies, whether its trace has ended, where the domain has arrived from which kind of phase, how often it had arrived when it asked for a pause for the next command, whether the last pause since then was a complete collection that left so many blocks that they may use up the pools, whether, for domain 0, the collection under way is past its cut, and whether it began in this pause, how many finalisers the domain owes before its next `full_major`, and the blocks that it has noted to be scanned
 pub record RunView : Type 0 where
   pub token : Token
   pub commands : List model.Command
@@ -50,7 +52,9 @@ pub record RunView : Type 0 where
   pub asked : Option ℕ
   pub collected : Bool
   pub cut : Bool
+  pub whole : Bool
   pub due : ℕ
+  pub hints : Deck
 
 -- whether an entry is the end of domain d
 abbrev pub is_end_of : ℕ → Entry → Bool
@@ -103,7 +107,7 @@ StandsAt None stage = stage ≡ In Run
 StandsAt (Some kind) stage = stage ≡ Gone kind
 
 -- how a domain stands between two turns: it runs, and its minor area is empty where a pause has come since it asked for one, or it has arrived. Where the last pause was a complete collection for the next command it has made no entry since
-pub record IsBetween (left : Option Kind) (asked : Option ℕ) (collected cut : Bool) (t : Token) : Type 0 where
+pub record IsBetween (left : Option Kind) (asked : Option ℕ) (collected cut whole : Bool) (t : Token) : Type 0 where
   pub stands : StandsAt left t.view.seen.stage
   pub quiet : IsQuiet t.view
   pub even : left ≡ None → IsEven t.view.own.arrivals
@@ -112,6 +116,7 @@ pub record IsBetween (left : Option Kind) (asked : Option ℕ) (collected cut : 
   pub has_left : (known : Kind) → left ≡ Some known → HasLeft t.config known t.view
   pub fresh : collected ≡ true → IsFresh t.config t.view
   pub knows_cut : (known : Kind) → left ≡ Some known → KnowsCut known cut t.view
+  pub knows_whole : (known : Kind) → left ≡ Some known → KnowsWhole known whole t.view
 
 -- what is true of a run between any two turns: the domain's commands in its front are those before the next, each once and in order, and the replies are those of its entries. It has room for the ephemerons that the others make and for the finalisers that they register. Each finaliser that it has may still answer once
 pub record IsRun (r : RunView) : Type 0 where
@@ -128,7 +133,7 @@ pub record IsRun (r : RunView) : Type 0 where
   pub at_rest : r.token.view.seen.hunt ≡ AtRest
   pub goes_on : r.ended ≡ false → (domain_at (state_of r.token.config r.token.view.seen.front) r.token.view.own.number).ended ≡ false
   pub owes : r.ended ≡ false → due_of r.token.config r.token.view ≡ r.due
-  pub between : IsBetween r.left r.asked r.collected r.cut r.token
+  pub between : IsBetween r.left r.asked r.collected r.cut r.whole r.token
   pub labels : r.token.view.own.serial ≤ 4000000000 + r.next
   pub done : r.ended ≡ true → r.next ≡ length r.commands
   pub over : r.ended ≡ true → IsTrue (list_any (is_end_of r.token.view.own.number) r.token.view.seen.front)
@@ -201,12 +206,43 @@ TrialAnswers h old new c (Some want) =
 abbrev pub noted_token : Token → Note → Token
 noted_token t note = record t { view = noted t.view note }
 
+-- how marking in a poll ended: the domain had noted no block more that is to be scanned, or it has scanned 256 blocks, or has taken 8192 of those that it had noted
+abbrev pub MarkingEnds : DomainView → DomainView → Deck → Deck → Bool → Type 0
+MarkingEnds x y l m true = Rises 1 l.misses m.misses
+MarkingEnds x y l m false = (scanned_in y.seen.share.known ≡ scanned_in x.seen.share.known + 256) ⊎ ((l.taken + 8192 ≤ m.taken) ⊎ (last_count ≤ m.taken))
+
+-- the domain found whether a collection goes on beside running domains. Where one does it has marked blocks, and else it has not
+pub record MarksBeside (h : SharedHeap) (old new : RunView) (spent : Bool) : Type 0 where
+  pub here : IsIn new.token h
+  pub learnt : Learnt old.token.view new.token.view
+  pub owes : new.token.view.seen.share.weak ≡ old.token.view.seen.share.weak
+  pub armed : Bool
+  pub knows : new.token.view.seen.share.armed ≡ Some armed
+  pub marks : armed ≡ true → MarkingEnds old.token.view new.token.view old.hints new.hints spent
+  pub none : armed ≡ false → (new.token.view.seen.share.known ≡ old.token.view.seen.share.known) × (new.hints ≡ old.hints) × (spent ≡ false)
+  pub run : new ≡ record old { token = new.token; hints = new.hints }
+
+-- a run that asks for the end of the collection that goes on beside running domains, or doesn't
+abbrev pub asking_end : Bool → RunView → RunView
+asking_end false r = r
+asking_end true r = record r { token = noted_token r.token (Asked (bit_of Finish)) }
+
+-- a turn made the entry of a poll, where no finaliser waited. Before it the domain marked beside the others, where a collection goes on, and where it had noted no block more it asked for the end of the collection
+pub record Polls (h : SharedHeap) (old new : RunView) : Type 0 where
+  pub spent : Bool
+  pub marked : RunView
+  pub marks : MarksBeside h old marked spent
+  pub made : RunView
+  pub tried : TriesCommand h marked.token marked made Poll
+  pub run : new ≡ asking_end spent made
+
 -- what a running domain does in a turn that found no wish
 pub data CalmDid (h : SharedHeap) (old new : RunView) : Type 0 where
   Finalises : RunsFinaliser h old.token old new → CalmDid h old new
   Wishes : Asks h old.token old new → CalmDid h old new
   Refuses : AsksFull h old.token old new → CalmDid h old new
-  Tries : (c : model.Command) → TriesCommand h old.token old new c → CalmDid h old new
+  Tries : (c : model.Command) → (c ≢ Poll) → TriesCommand h old.token old new c → CalmDid h old new
+  Marks : Polls h old new → CalmDid h old new
   Ends : EndsTrace h old.token old new → CalmDid h old new
 
 -- a trace that had ended, and n traces that a load found to have ended
@@ -245,7 +281,7 @@ pub record Resumes (h : SharedHeap) (old start : RunView) : Type 0 where
   pub passed : Passed h.config old.token.view start.token.view
   pub runs : start.token.view.seen.stage ≡ In Run
   pub collected : IsCollected h.config start.token.view
-  pub run : start ≡ record old { token = record old.token { view = start.token.view }; left = None }
+  pub run : start ≡ record old { token = record old.token { view = start.token.view }; left = None; hints = start.hints }
 
 -- where the running part of a turn starts
 abbrev pub Starts : SharedHeap → RunView → RunView → Type 0
@@ -263,7 +299,7 @@ pub record GoesBy (h : SharedHeap) (old new : RunView) : Type 0 where
   pub arrived : old.left ≡ Some last
   pub kind : Kind
   pub passes : Passes h.config old.token.view new.token.view last kind
-  pub run : new ≡ record old { token = record old.token { view = new.token.view }; left = Some kind; cut = cut_in last old.cut }
+  pub run : new ≡ record old { token = record old.token { view = new.token.view }; left = Some kind; cut = cut_in last old.cut; whole = whole_after last kind old.whole; hints = new.hints }
 
 -- whether the domain has asked for a pause for the next command
 abbrev pub is_asked : Option ℕ → Bool
@@ -282,7 +318,7 @@ pub record IsAnswered (h : SharedHeap) (old new : RunView) : Type 0 where
   pub waited : WaitsForAnswer old
   pub reply : Reply
   pub answers : AnswersLive h.config old.token.view new.token.view reply
-  pub run : new ≡ record old { token = record old.token { view = new.token.view }; next = old.next + 1; replies = old.replies ++ reply ∷ []; left = Some Answer; asked = None; collected = false; cut = cut_in last old.cut; due = length new.token.view.own.finalisers.queue.items }
+  pub run : new ≡ record old { token = record old.token { view = new.token.view }; next = old.next + 1; replies = old.replies ++ reply ∷ []; left = Some Answer; asked = None; collected = false; cut = cut_in last old.cut; due = length new.token.view.own.finalisers.queue.items; hints = new.hints }
 
 -- whether so many blocks may use up the pools: where each has one to itself, no more pools are free than the reserve of promotion
 abbrev pub may_use_up : Config → ℕ → Bool
@@ -294,13 +330,13 @@ pub record SeesAnswer (h : SharedHeap) (old new : RunView) (blocks : ℕ) : Type
   pub arrived : old.left ≡ Some last
   pub none : WaitsForAnswer old → ⊥
   pub gives : GivesBack h.config old.token.view new.token.view blocks
-  pub run : new ≡ record old { token = record old.token { view = new.token.view }; left = Some Answer; collected = is_asked old.asked && may_use_up h.config blocks; cut = cut_in last old.cut }
+  pub run : new ≡ record old { token = record old.token { view = new.token.view }; left = Some Answer; collected = is_asked old.asked && may_use_up h.config blocks; cut = cut_in last old.cut; hints = new.hints }
 
 -- not all have arrived: the barrier word b, found in this turn, is below the end of the domain's turn
 pub record Waits (h : SharedHeap) (old new : RunView) (b : ℕ) : Type 0 where
   pub arrived : (last : Kind) × (old.left ≡ Some last)
   pub below : b < old.token.view.own.arrivals * h.config.domains
-  pub run : new ≡ record old { token = noted_token old.token (Barrier b) }
+  pub run : new ≡ record old { token = noted_token old.token (Barrier b); hints = new.hints }
 
 -- what a turn answers
 abbrev pub TurnAnswers : SharedHeap → RunView → RunView → Turned → Type 0

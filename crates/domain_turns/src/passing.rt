@@ -11,7 +11,7 @@ ghost use Rattle.heap_rule.specs.Token.{IsIn};
 ghost use Rattle.heap_rule.specs.Views.{voided};
 ghost use Rattle.steps_pauses.specs.Pauses.{arrived_view};
 ghost use Rattle.domain_turns.specs.Past.{PassAnswers, left_after};
-ghost use Rattle.domain_turns.specs.Pausing.{IsQuiet, HasLeft, KnowsCut, LeavesEven, LeavesOdd, LeavesPromote, LeavesReset, IsReady, AnswersFrom, LivesAs, due_of};
+ghost use Rattle.domain_turns.specs.Pausing.{IsQuiet, HasLeft, KnowsCut, KnowsWhole, LeavesEven, LeavesOdd, LeavesPromote, LeavesReset, IsReady, AnswersFrom, LivesAs, due_of};
 
 use cycle_phases::{give_back, lead_on, share};
 use heap_model::reply::Reply;
@@ -38,7 +38,7 @@ pub(crate) enum Past {
 
 // In an odd phase domain 0 names the kind that comes next, and then each domain arrives. Answers the kind
 // of the last even phase that the domain knows of.
-fn leave_odd(heap: &Heap, dom: &mut Domain, last: Kind, cut: bool) -> Kind
+fn leave_odd(heap: &Heap, dom: &mut Domain, last: Kind, cut: bool, whole: bool) -> Kind
     requires here { IsIn dom.old heap.now }
     requires odd { dom.old.view.seen.stage ≡ Leads last }
     requires at_rest { dom.old.view.seen.hunt ≡ Rests }
@@ -46,11 +46,12 @@ fn leave_odd(heap: &Heap, dom: &mut Domain, last: Kind, cut: bool) -> Kind
     requires few { dom.old.view.own.arrivals < 2 ^ 60 }
     requires forgot { dom.old.view.seen.share ≡ voided dom.old.view.seen.share }
     requires cut { KnowsCut last cut dom.old.view }
+    requires whole { KnowsWhole last whole dom.old.view }
     ensures here { IsIn dom.new heap.now }
     ensures leaves { LeavesOdd heap.now.config dom.old.view dom.new.view last result }
 {
     if dom.number() == 0 {
-        lead_on(heap, dom, last, cut)
+        lead_on(heap, dom, last, cut, whole)
     } else {
         arrive(heap, dom);
         last
@@ -80,6 +81,7 @@ fn leave_reset(heap: &Heap, dom: &mut Domain)
     requires at_rest { dom.old.view.seen.hunt ≡ Rests }
     requires idle { dom.old.view.seen.made ≡ [] }
     requires few { dom.old.view.own.arrivals < 2 ^ 60 }
+    requires quiet { IsQuiet dom.old.view }
     requires looked_through { dom.old.view.seen.remembered ≡ [] }
     ensures here { IsIn dom.new heap.now }
     ensures leaves { LeavesReset heap.now.config dom.old.view dom.new.view }
@@ -98,10 +100,8 @@ fn leave_even(heap: &Heap, dom: &mut Domain, kind: Kind, hints: &mut Hints)
     requires few { dom.old.view.own.arrivals < 2 ^ 60 }
     requires quiet { IsQuiet dom.old.view }
     requires ready { IsReady heap.now.config kind dom.old.view }
-    requires none { hints.old.items ≡ [] }
     ensures here { IsIn dom.new heap.now }
     ensures leaves { LeavesEven heap.now.config kind dom.old.view dom.new.view }
-    ensures hints { hints.new ≡ hints.old }
 {
     match kind {
         Kind::Run | Kind::Answer => unreachable!(),
@@ -157,6 +157,7 @@ pub(crate) fn pass(
     dom: &mut Domain,
     last: Kind,
     cut: bool,
+    whole: bool,
     live: bool,
     hints: &mut Hints,
 ) -> Past
@@ -169,16 +170,15 @@ pub(crate) fn pass(
     requires quiet { IsQuiet dom.old.view }
     requires left { HasLeft heap.now.config last dom.old.view }
     requires cut { KnowsCut last cut dom.old.view }
+    requires whole { KnowsWhole last whole dom.old.view }
     requires goes_on { live ≡ true → (domain_at (state_of heap.now.config dom.old.view.seen.front) dom.old.view.own.number).ended ≡ false }
     requires paid { live ≡ true → due_of heap.now.config dom.old.view ≡ 0 }
-    requires none { hints.old.items ≡ [] }
     ensures here { IsIn dom.new heap.now }
     ensures answer { PassAnswers heap.now.config dom.old.view dom.new.view last live result }
-    ensures hints { hints.new ≡ hints.old }
 {
     match look(heap, dom) {
         Look::NotAll(b) => Past::Waits(b),
-        Look::Lead => Past::Arrived(leave_odd(heap, dom, last, cut)),
+        Look::Lead => Past::Arrived(leave_odd(heap, dom, last, cut, whole)),
         Look::Next(Kind::Run) => Past::Runs,
         Look::Next(Kind::Answer) => {
             let (blocks, reply) = answer(heap, dom, live);

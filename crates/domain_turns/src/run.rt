@@ -28,10 +28,12 @@ pub struct DomainRun {
     pub(crate) collected: bool,
     // Whether the collection under way is past its cut, for domain 0.
     pub(crate) cut: bool,
+    // Whether it began in this pause, for domain 0.
+    pub(crate) whole: bool,
     // How many finalisers the domain owes before its next `full_major`: those that waited in its queue
     // after its last one.
     pub(crate) due: usize,
-    // Blocks that the domain has darkened, while it marks.
+    // Blocks that the domain has darkened, and is to scan.
     pub(crate) hints: Hints,
 }
 
@@ -41,9 +43,9 @@ impl Model for DomainRun {
 
     ghost Value = { RunView };
 
-    ghost view = { λ r. record { token = r.domain; commands = r.commands.items; next = r.next; replies = r.replies.items; ended = r.ended; left = r.left; asked = r.asked; collected = r.collected; cut = r.cut; due = r.due } };
+    ghost view = { λ r. record { token = r.domain; commands = r.commands.items; next = r.next; replies = r.replies.items; ended = r.ended; left = r.left; asked = r.asked; collected = r.collected; cut = r.cut; whole = r.whole; due = r.due; hints = r.hints } };
 
-    ghost invariant = { λ r. IsRun (record { token = r.domain; commands = r.commands.items; next = r.next; replies = r.replies.items; ended = r.ended; left = r.left; asked = r.asked; collected = r.collected; cut = r.cut; due = r.due }) × (length r.commands.items + length r.commands.items ≤ vec_capacity r.replies) × (r.hints.items ≡ []) };
+    ghost invariant = { λ r. IsRun (record { token = r.domain; commands = r.commands.items; next = r.next; replies = r.replies.items; ended = r.ended; left = r.left; asked = r.asked; collected = r.collected; cut = r.cut; whole = r.whole; due = r.due; hints = r.hints }) × (length r.commands.items + length r.commands.items ≤ vec_capacity r.replies) };
 }
 
 impl DomainRun {
@@ -51,9 +53,9 @@ impl DomainRun {
     /// history so far; there are at most 200,000 commands, each of a kind that runs on the shared heap
     /// and with its numbers in their ranges; the domain has room for as many ephemerons as they make
     /// and as many finalisers as they register, and none is registered so far; at most 4,000,000,000
-    /// labels were made; no block is noted in the hints. The room for the replies is reserved here: each
-    /// command answers once, and so does each finaliser that it registers. Fails for want of memory
-    /// alone, and then the domain is given up.
+    /// labels were made. The room for the replies is reserved here: each command answers once, and so
+    /// does each finaliser that it registers. Fails for want of memory alone, and then the domain is
+    /// given up.
     #[tactic(auto, using(crate::proofs::Beginning::begins_between, crate::proofs::Beginning::begins_enlisted, crate::proofs::Beginning::begins_replied))]
     pub fn make(
         alloc: Global,
@@ -62,8 +64,7 @@ impl DomainRun {
         commands: Vec<Command>,
     ) -> Result<DomainRun, AllocError>
         requires begins { CanBegin dom commands.items }
-        requires none { hints.items ≡ [] }
-        ensures { IfOk result (λ r. r ≡ record { token = dom; commands = commands.items; next = 0; replies = []; ended = false; left = None; asked = None; collected = false; cut = false; due = 0 }) }
+        ensures { IfOk result (λ r. r ≡ record { token = dom; commands = commands.items; next = 0; replies = []; ended = false; left = None; asked = None; collected = false; cut = false; whole = true; due = 0; hints = hints }) }
     {
         let replies = Vec::with_capacity(alloc, 2 * commands.len())?;
         Ok(DomainRun {
@@ -76,6 +77,7 @@ impl DomainRun {
             asked: None,
             collected: false,
             cut: false,
+            whole: true,
             due: 0,
             hints,
         })

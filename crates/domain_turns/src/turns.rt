@@ -1,12 +1,14 @@
 //! Turns.
 ghost use Rattle.std.specs.Prelude.{◌≡◌, ◌≢◌, ◌≤◌, ◌<◌, ◌^◌, ◌&&◌, true, false, length, slice_get, Some, None};
+ghost use Rattle.heap_model.specs.declared.command.Command.TheVariants.{Poll};
+ghost use Rattle.safepoint.specs.declared.answer.Want.TheVariants.{Finish};
 ghost use Rattle.heap_rule.specs.declared.phase.Note.TheVariants as note;
 ghost use Rattle.heap_rule.specs.declared.phase.Kind.TheVariants.{Run};
 ghost use Rattle.steps_pauses.specs.Pauses.{noted, arrived_view};
 ghost use Rattle.heap_rule.specs.Running.{Runs};
 ghost use Rattle.heap_rule.specs.Token.{IsIn};
 ghost use Rattle.safepoint.specs.Looks.{bit_of};
-ghost use Rattle.domain_turns.specs.Runs.{HasEnded, EndsTrace, RunAnswers, TurnAnswers, RestAnswers, CalmAnswers, GoesOn, CalmDid, IsUnqueued, RunsFinaliser, TrialAnswers, WaitsForAnswer, is_asked, may_use_up, served_since, noted_token};
+ghost use Rattle.domain_turns.specs.Runs.{HasEnded, EndsTrace, RunAnswers, TurnAnswers, RestAnswers, CalmAnswers, GoesOn, CalmDid, IsUnqueued, MarksBeside, Polls, RunsFinaliser, TrialAnswers, WaitsForAnswer, is_asked, may_use_up, served_since, noted_token};
 ghost use Rattle.domain_turns.specs.Past.{PastAnswers};
 ghost use Rattle.domain_turns.specs.declared.turned.Turned as turned;
 
@@ -14,12 +16,14 @@ use crate::command::{Attempt, try_command};
 use crate::passing::{Past, left_after, pass};
 use crate::run::DomainRun;
 use crate::turned::Turned;
-use cycle_phases::cut_after;
+use cycle_phases::{cut_after, whole_after};
 use finaliser_queues::run_next;
 use heap_model::command::Command;
 use heap_rule::{Domain, Heap, Kind};
+use mark_slices::{Why, slice};
 use safepoint::{Want, arrive, ask, wants};
 use size_classes::reserve;
+use steps_cycle::armed_now;
 use steps_pauses::{ended_add, ended_load};
 
 // Makes the entry of the end of a trace. The registers hold nothing then.
@@ -134,6 +138,53 @@ fn wish(heap: &Heap, run: &mut DomainRun, want: Want)
     run.asked = Some(run.domain.arrivals());
 }
 
+// How many blocks a domain scans in a poll.
+const SLICE: u32 = 256;
+
+// Marks blocks beside the other domains, where a collection goes on beside running domains. Answers
+// whether the domain had noted no block more that is to be scanned.
+fn mark_beside(heap: &Heap, run: &mut DomainRun) -> bool
+    requires here { IsIn run.old.token heap.now }
+    requires left { run.old.left ≡ None }
+    ensures here { IsIn run.new.token heap.now }
+    ensures marks { MarksBeside heap.now run.old run.new result }
+{
+    if !armed_now(heap, &mut run.domain) {
+        return false;
+    }
+    let scanned = slice(heap, &mut run.domain, &mut run.hints, SLICE);
+    scanned.why == Why::NoneFound
+}
+
+// Asks for the end of the collection that goes on beside running domains.
+fn ask_end(heap: &Heap, run: &mut DomainRun)
+    requires here { IsIn run.old.token heap.now }
+    requires left { run.old.left ≡ None }
+    ensures here { IsIn run.new.token heap.now }
+    ensures run { run.new ≡ record run.old { token = noted_token run.old.token (note.Asked (bit_of Finish)) } }
+{
+    ask(heap, &mut run.domain, Want::Finish);
+}
+
+// The turn of a run whose next command is a poll, where no pause is wanted.
+fn poll(heap: &Heap, run: &mut DomainRun, command: &Command)
+    requires here { IsIn run.old.token heap.now }
+    requires running { run.old.ended ≡ false }
+    requires left { run.old.left ≡ None }
+    requires unqueued { IsUnqueued run.old.token }
+    requires next { slice_get run.old.commands run.old.next ≡ Some command.now }
+    requires is { command.now ≡ Poll }
+    ensures here { IsIn run.new.token heap.now }
+    ensures polls { Polls heap.now run.old run.new }
+{
+    let spent = mark_beside(heap, run);
+    match try_next(heap, run, command) {
+        None if spent => ask_end(heap, run),
+        None => (),
+        Some(_) => unreachable!(),
+    }
+}
+
 // The turn of a run whose next command is this one, where no pause is wanted.
 fn attempt(heap: &Heap, run: &mut DomainRun, command: &Command)
     requires here { IsIn run.old.token heap.now }
@@ -144,8 +195,13 @@ fn attempt(heap: &Heap, run: &mut DomainRun, command: &Command)
     ensures here { IsIn run.new.token heap.now }
     ensures did { CalmDid heap.now run.old run.new }
 {
-    if let Some(want) = try_next(heap, run, command) {
-        wish(heap, run, want);
+    match command {
+        Command::Poll => poll(heap, run, command),
+        _ => {
+            if let Some(want) = try_next(heap, run, command) {
+                wish(heap, run, want);
+            }
+        }
     }
 }
 
@@ -247,10 +303,21 @@ fn pass_by(heap: &Heap, run: &mut DomainRun, last: Kind) -> Past
     ensures answer { PastAnswers heap.now run.old run.new result }
 {
     let live = waits_for_answer(run);
-    let past = pass(heap, &mut run.domain, last, run.cut, live, &mut run.hints);
+    let past = pass(
+        heap,
+        &mut run.domain,
+        last,
+        run.cut,
+        run.whole,
+        live,
+        &mut run.hints,
+    );
     run.left = left_after(&past, last);
     match past {
-        Past::Arrived(_) => run.cut = cut_after(last, run.cut),
+        Past::Arrived(kind) => {
+            run.cut = cut_after(last, run.cut);
+            run.whole = whole_after(last, kind, run.whole);
+        }
         Past::Answered { blocks, reply } => {
             run.cut = cut_after(last, run.cut);
             run.collected = lets_refuse(heap, run.asked, blocks);
@@ -300,6 +367,10 @@ fn turn_on(heap: &Heap, run: &mut DomainRun) -> Turned
 /// promotion may need, and one for the major heap exactly where no pool is to be had. It is answered
 /// `full` instead where a complete collection has come since it was first tried, no pause after that, and
 /// that collection left so many blocks that they may use up the pools.
+///
+/// Before a `poll`, where a collection goes on beside running domains, the domain marks: it scans 256
+/// blocks, or looks at 8192 that it has noted, or finds that it has noted none more, and then it asks for
+/// the end of the collection.
 ///
 /// A `full_major` is answered in the pause, as the collection is, and after all finalisers that waited
 /// when the domain's last `full_major` was answered. A domain that runs again after a pause

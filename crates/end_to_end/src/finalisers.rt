@@ -70,11 +70,11 @@ const REPLIES: [(&str, &str); 16] = [
         "alloc 1 0 1\nalloc 2 0 1\nstore 1 0 2\nfinalise 1 5 3\nfinalise_last 2 7\ndrop 1\ndrop 2\nfull_major\nfull_major\ndrop 3\nfull_major\n",
         "blk 0:1\nblk 0:2\nok\nok\nok\nok\nok\nlive 3 24\nfin 5 0:1\nlive 3 24\nok\nlive 1 18\nlast 7\n",
     ),
-    // Two values that lead to each other are finalised together. The command that asked for the collection comes
-    // behind their finalisers, unless it is `full_major`.
+    // Two values that lead to each other are finalised together. `major` begins a collection, and `poll` finds that all
+    // is scanned, and asks for its end: their finalisers come behind both.
     (
         "alloc 1 0 1\nalloc 2 0 1\nstore 1 0 2\nstore 2 0 1\nfinalise 2 8 3\nfinalise 1 9 4\ndrop 1\ndrop 2\nmajor\npoll\n",
-        "blk 0:1\nblk 0:2\nok\nok\nok\nok\nok\nok\nfin 9 0:1\nfin 8 0:2\nok\nok\n",
+        "blk 0:1\nblk 0:2\nok\nok\nok\nok\nok\nok\nok\nok\nfin 9 0:1\nfin 8 0:2\n",
     ),
     // An ephemeron is a value too, and the shared block never dies.
     (

@@ -24,7 +24,7 @@ use Rattle.steps_cycle.specs.Marking.{IsMarked, IsUnmarked}
 use Rattle.steps_rounds.specs.Rounding.{IsMarkedEphemeron, place_seen}
 use Rattle.steps_rounds.specs.Emptying.{CleanEndMay, CleanKeyMay, CleanKeyTold, CleanLookMay, CleanLookTold, CleanTold, cleaning_from, cleaning_on, key_passed, key_read}
 use Rattle.steps_clean.specs.Wiping.{WipeDataMay, WipeDataTold, WipeKeyMay, WipeKeyTold, key_wiped, wiped_through}
-use Rattle.mark_slices.proofs.Exchanges.{not_both, one_meaning}
+use Rattle.barriers.proofs.Exchanges.{not_both, one_meaning}
 use Rattle.ephemeron_rounds.specs.Emptied.{Cleaned, KeyCleaned, KeysCleaned}
 use Rattle.ephemeron_rounds.proofs.Keys.{one_value}
 

@@ -7,17 +7,50 @@ ghost use Rattle.heap_words.specs.declared.value.Value as words;
 ghost use Rattle.heap_words.specs.Values.{IsPackable, value_word};
 ghost use Rattle.heap_rule.specs.Places.{Shows};
 ghost use Rattle.heap_rule.specs.Running.{Runs, Did, ChangesRegisters};
-ghost use Rattle.heap_rule.specs.Token.{Holds};
+ghost use Rattle.heap_rule.specs.Changes.{value_at};
+ghost use Rattle.heap_rule.specs.Token.{Holds, IsIn};
+ghost use Rattle.heap_rule.specs.declared.phase.Kind.TheVariants.{Run};
+ghost use Rattle.heap_rule.specs.declared.phase.Stage.TheVariants.{In};
+ghost use Rattle.barriers.specs.Aware.{Learnt};
+ghost use Rattle.steps_beside.specs.Marking.{Reason, Weak};
 ghost use Rattle.field_access.specs.Registers.{LoadsInto};
-ghost use Rattle.steps_ephemerons.specs.Loads.{IsLook, full_reply, target_in};
+ghost use Rattle.steps_ephemerons.specs.Loads.{IsLook, full_reply, target_in, weak_on};
 ghost use Rattle.ephemeron_rounds.specs.Naming.{LooksInto};
 
 use crate::finding::{find, word_at};
+use barriers::darken_beside;
 use field_access::shown_register;
 use heap_model::reply::Reply;
 use heap_rule::{Change, Domain, Heap};
 use heap_words::{Value, unpack_value};
+use size_classes::POOL_WORDS;
+use steps_cycle::{armed_now, colours_now};
 use steps_ephemerons::weak_load;
+
+// Marks what a weak read has brought into a register, where a cycle goes on beside running domains and
+// it is a block of the pools: the marking may not have come to it, and doesn't follow it from the
+// ephemeron.
+fn darken_read(heap: &Heap, dom: &mut Domain, r: u8, armed: bool)
+    ghost reason: { Reason }
+    requires reason { reason ≡ Weak r }
+    requires here { IsIn dom.old heap.now }
+    requires runs { dom.old.view.seen.stage ≡ In Run }
+    requires few { r < 16 }
+    requires armed { dom.old.view.seen.share.armed ≡ Some armed }
+    requires owes { dom.old.view.seen.share.weak ≡ weak_on heap.now.config armed r (value_at dom.old.view.own.registers r) }
+    ensures here { IsIn dom.new heap.now }
+    ensures learnt { Learnt dom.old.view dom.new.view }
+    ensures paid { dom.new.view.seen.share.weak ≡ None }
+{
+    let pools = heap.config().pools * POOL_WORDS;
+    match dom.register(r) {
+        Value::Ref(address) if armed && address <= pools => {
+            let colours = colours_now(heap, dom);
+            darken_beside(heap, dom, address, colours);
+        }
+        _ => {}
+    }
+}
 
 // A load of the word that a command names into the register that it names.
 fn get(heap: &Heap, dom: &mut Domain, dst: u8, ephe: u8, key: Option<u16>) -> Reply
@@ -37,12 +70,14 @@ fn get(heap: &Heap, dom: &mut Domain, dst: u8, ephe: u8, key: Option<u16>) -> Re
         Ok(block) => block,
         Err(refusal) => return refusal,
     };
+    let armed = armed_now(heap, dom);
     weak_load(
         heap,
         dom,
         word_at(block, key),
         &[Change::Read { register: dst }],
     );
+    darken_read(heap, dom, dst, armed);
     shown_register(heap, dom, dst)
 }
 
@@ -80,7 +115,8 @@ fn check(heap: &Heap, dom: &mut Domain, ephe: u8, key: Option<u16>) -> Reply
 /// Puts a key of the ephemeron in a register into another. The reply is `type` where register `ephe`
 /// holds no ephemeron, and else `bounds` where it has no such key: then the registers stay as they
 /// are. Else register `dst` holds the key, which the reply shows, or nothing where it is empty, and
-/// the reply is `none`. Registers are below 16, the domain's trace hasn't ended, and no finaliser waits
+/// the reply is `none`. While a cycle goes on beside running domains, the key is marked before the call
+/// returns. Registers are below 16, the domain's trace hasn't ended, and no finaliser waits
 /// in its queue.
 pub fn get_key(heap: &Heap, dom: &mut Domain, dst: u8, ephe: u8, index: u16) -> Reply
     requires runs { Runs heap.now dom.old }
@@ -110,7 +146,8 @@ pub fn check_key(heap: &Heap, dom: &mut Domain, ephe: u8, index: u16) -> Reply
 
 /// Puts the datum of the ephemeron in a register into another. The reply is `type` where register
 /// `ephe` holds no ephemeron: then the registers stay as they are. Else register `dst` holds the
-/// datum, which the reply shows, or nothing where it is empty, and the reply is `none`. Registers
+/// datum, which the reply shows, or nothing where it is empty, and the reply is `none`. While a cycle
+/// goes on beside running domains, a block that it refers to is marked before the call returns. Registers
 /// are below 16, the domain's trace hasn't ended, and no finaliser waits in its queue.
 pub fn get_data(heap: &Heap, dom: &mut Domain, dst: u8, ephe: u8) -> Reply
     requires runs { Runs heap.now dom.old }

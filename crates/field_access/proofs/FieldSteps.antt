@@ -15,6 +15,8 @@ use Rattle.steps_run.specs.Stores.{MustRemember, FieldStoreEntry}
 use Rattle.heap_words.specs.Values.{value_word}
 use Rattle.heap_rule.specs.Rule.{state_of}
 use Rattle.steps_run.specs.Loads.{FieldLoadEntry, Measured}
+use Rattle.barriers.specs.Aware.{Learnt}
+use Rattle.heap_rule.specs.Beside.{Barrier}
 use Rattle.heap_rule.specs.Standing.{FieldMay}
 use Rattle.heap_rule.specs.Standing.{Acts, IsInHeap}
 use Rattle.heap_rule.specs.Token.{Token, SharedHeap}
@@ -26,6 +28,10 @@ pub record Field (k : Config) (y : DomainView) (r i a : ℕ) : Type 0 where
   pub may : FieldMay k y (a + 2 + i) r i
   pub acts : Acts k y
   pub inside : IsInHeap k (a + 2 + i)
+
+-- the block is at the address
+pub at_address : (k : Config) (y : DomainView) (r i a : ℕ) (f : Field k y r i a) → f.may.address ≡ a
+at_address k y r i a f = let n : ℕ = f.may.address in let e : a + 2 + i ≡ n + 2 + i = f.may.field in omega arith
 
 -- the register's block was looked at, and the place is one of its fields
 pub field_known : (h : SharedHeap) (old : Token) (y : DomainView) (r i size a : ℕ) → Runs h old → r < 16 → value_at old.view.own.registers r ≡ Ref a → Measured h.config a r size old.view y → i < size → Field h.config y r i a
@@ -46,6 +52,14 @@ field_known h old y r i size a runs few held m below =
       inside = (omega arith, omega (arith, m.inside));
     }
 
+-- and so it is once what the field refers to is marked
+pub field_after : (k : Config) (y z : DomainView) (r i a : ℕ) → Learnt y z → z.seen.share.weak ≡ y.seen.share.weak → Field k y r i a → Field k z r i a
+field_after k y z r i a learnt weak f = subst (λ (v : DomainView). Field k v r i a) (sym learnt.view) (let m = f.may in record {
+  may = record { address = m.address; size = m.size; block = record { few = m.block.few; holds = m.block.holds }; field = m.field; known = m.known; inside = m.inside };
+  acts = record { goes_on = f.acts.goes_on; runs = f.acts.runs; paid = weak ∙ f.acts.paid; unqueued = f.acts.unqueued };
+  inside = f.inside;
+})
+
 -- the step of a load may be made
 pub load_may : (h : SharedHeap) (old : Token) (y : DomainView) (e : Entry) (dst src i a : ℕ) → e ≡ own_entry old (Load dst src i) → y.own.number ≡ old.view.own.number → dst < 16 → Field h.config y src i a
     → FieldLoadEntry h.config y (a + 2 + i) (Read dst ∷ []) e
@@ -55,13 +69,14 @@ load_may h old y e dst src i a is number goes f =
 
 -- the step of a store may be made
 pub store_may : (h : SharedHeap) (old : Token) (y : DomainView) (e : Entry) (block i item a new : ℕ) (remembers : Bool) → e ≡ own_entry old (Store block i item) → y.own ≡ old.view.own → value_at old.view.own.registers block ≡ Ref a → item < 16 → value_at old.view.own.registers item ≢ Nothing
-    → new ≡ value_word (value_at old.view.own.registers item) → (remembers ≡ true) ↔ MustRemember h.config (Ref a) (value_at old.view.own.registers item) → 1 ≤ old.view.own.remembered.room → Field h.config y block i a → FieldStoreEntry h.config y (a + 2 + i) new remembers [] e
-store_may h old y e block i item a new remembers is own held from full word exact room f =
+    → new ≡ value_word (value_at old.view.own.registers item) → (remembers ≡ true) ↔ MustRemember h.config (Ref a) (value_at old.view.own.registers item) → 1 ≤ old.view.own.remembered.room → (f : Field h.config y block i a) → Barrier y.seen.share f.may.address i → FieldStoreEntry h.config y (a + 2 + i) new remembers [] e
+store_may h old y e block i item a new remembers is own held from full word exact room f barrier =
     subst (λ (x : Entry). FieldStoreEntry h.config y (a + 2 + i) new remembers [] x) (sym is)
     (record {
       own = sym (ap (λ (o : Own). o.number) own);
       acts = f.acts;
       target = f.may;
+      barrier = barrier;
       from = from;
       full = λ empty. full (sym (ap (λ (o : Own). value_at o.registers item) own) ∙ empty);
       word = word ∙ sym (ap (λ (o : Own). value_word (value_at o.registers item)) own);

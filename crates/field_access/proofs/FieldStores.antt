@@ -11,6 +11,7 @@ use Rattle.heap_rule.specs.declared.change.Change.{Change}
 use Rattle.heap_rule.specs.declared.config.Config.{Config}
 use Rattle.heap_rule.specs.declared.view.DomainView.{DomainView}
 use Rattle.heap_rule.specs.declared.view.Own.{Own}
+use Rattle.barriers.specs.Aware.{Learnt}
 use Rattle.heap_rule.specs.Changes.{changed}
 use Rattle.heap_rule.specs.Limits.{sizes_in}
 use Rattle.heap_rule.specs.Standing.{Looked, with_front, with_own, with_registers}
@@ -34,20 +35,34 @@ store_stays x y at remembers registers front is = record {
   notes = ap (λ (z : DomainView). z.seen.notes) is;
   copying = ap (λ (z : DomainView). z.seen.copying) is;
   queue = ap (λ (z : DomainView). z.own.finalisers.queue) is;
+  weak = ap (λ (z : DomainView). z.seen.share.weak) is;
   remembers = λ all. ap (λ (z : DomainView). z.seen.remembered) is ∙ (ap (with_field remembers at) all ∙ ap (λ (z : DomainView). z.own.remembered.items) (sym is));
 }
 
--- a call that looked, and then stored
-pub stored_did : (h : SharedHeap) (old new : Token) (y : DomainView) (c : Command) (e : Entry) (at : ℕ) (remembers : Bool) (changes : List Change) → e ≡ own_entry old c → Runs h old → IsIn new h
-    → Looked h.config old.view y → StoreTold h.config e at remembers changes y new.view → Did h old new c Done
-stored_did h old new y c e at remembers changes is runs here look told =
-    let number : y.own.number ≡ old.view.own.number = ap (λ (x : DomainView). x.own.number) look.view in
-    let rest = stored_rest h.config e at remembers changes y new.view told in
+-- and so it does where it came to know more of blocks
+learnt_stays : (x y : DomainView) → Learnt x y → y.seen.share.weak ≡ x.seen.share.weak → Stays x y
+learnt_stays x y learnt weak = let is = learnt.view in record {
+  arrivals = ap (λ (z : DomainView). z.own.arrivals) is;
+  stage = ap (λ (z : DomainView). z.seen.stage) is;
+  notes = ap (λ (z : DomainView). z.seen.notes) is;
+  copying = ap (λ (z : DomainView). z.seen.copying) is;
+  queue = ap (λ (z : DomainView). z.own.finalisers.queue) is;
+  weak = weak;
+  remembers = λ all. ap (λ (z : DomainView). z.seen.remembered) is ∙ (all ∙ ap (λ (z : DomainView). z.own.remembered.items) (sym is));
+}
+
+-- a call that looked, marked what the field refers to, and then stored
+pub stored_did : (h : SharedHeap) (old new : Token) (y z : DomainView) (c : Command) (e : Entry) (at : ℕ) (remembers : Bool) (changes : List Change) → e ≡ own_entry old c → Runs h old → IsIn new h
+    → Looked h.config old.view y → Learnt y z → z.seen.share.weak ≡ y.seen.share.weak → StoreTold h.config e at remembers changes z new.view → Did h old new c Done
+stored_did h old new y z c e at remembers changes is runs here look learnt weak told =
+    let number : z.own.number ≡ old.view.own.number = ap (λ (x : DomainView). x.own.number) learnt.view ∙ ap (λ (x : DomainView). x.own.number) look.view in
+    let front : z.seen.front ≡ y.seen.front = ap (λ (x : DomainView). x.seen.front) learnt.view in
+    let rest = stored_rest h.config e at remembers changes z new.view told in
     let answers : Answers (sizes_in h.config) old.view.own.number y.seen.front new.view.seen.front (own_entry old c) (Replied Done) =
-    subst (λ (x : Entry). Answers (sizes_in h.config) old.view.own.number y.seen.front new.view.seen.front x (Replied Done)) is
-    (subst (λ (n : ℕ). Answers (sizes_in h.config) n y.seen.front new.view.seen.front e (Replied Done)) number told.answers) in
+    subst (λ (x : Entry × List Entry). Answers (sizes_in h.config) old.view.own.number x.1 new.view.seen.front x.0 (Replied Done)) (λ i. (is i, front i))
+    (subst (λ (n : ℕ). Answers (sizes_in h.config) n z.seen.front new.view.seen.front e (Replied Done)) number told.answers) in
     answered_did h old new c Done runs here (ap (λ (x : DomainView). x.own.number) rest ∙ number)
-    (ap (λ (x : DomainView). x.seen.hunt) rest ∙ ap (λ (x : DomainView). x.seen.hunt) look.view ∙ runs.at_rest)
-    (ap (λ (x : DomainView). x.seen.made) rest ∙ ap (λ (x : DomainView). x.seen.made) look.view ∙ runs.idle)
-    (stays_trans old.view y new.view (look_stays old.view y _ look.view) (store_stays y new.view at remembers _ _ rest))
+    (ap (λ (x : DomainView). x.seen.hunt) rest ∙ ap (λ (x : DomainView). x.seen.hunt) learnt.view ∙ ap (λ (x : DomainView). x.seen.hunt) look.view ∙ runs.at_rest)
+    (ap (λ (x : DomainView). x.seen.made) rest ∙ ap (λ (x : DomainView). x.seen.made) learnt.view ∙ ap (λ (x : DomainView). x.seen.made) look.view ∙ runs.idle)
+    (stays_trans old.view y new.view (look_stays old.view y _ look.view) (stays_trans y z new.view (learnt_stays y z learnt weak) (store_stays z new.view at remembers _ _ rest)))
     (answers_after (sizes_in h.config) old.view.own.number old.view.seen.front y.seen.front new.view.seen.front _ _ look.seen answers)

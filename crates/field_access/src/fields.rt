@@ -21,6 +21,7 @@ ghost use Rattle.field_access.specs.Registers.{LoadsInto};
 ghost use Rattle.field_access.specs.Remembered.{ChangesRemembered, PutsYoung, field_of, one_more};
 ghost use Rattle.field_access.specs.Shapes.{size_of};
 
+use barriers::overwrite_barrier;
 use heap_model::label::Label;
 use heap_model::reply::Reply;
 use heap_rule::{Change, Domain, Heap};
@@ -162,6 +163,7 @@ fn store_as(heap: &Heap, dom: &mut Domain, block: u8, index: u16, item: u8) -> R
     if index >= size {
         return Reply::BadIndex;
     }
+    overwrite_barrier(heap, dom, address, u32::from(index));
     let at = address + 2 + index as u32;
     let remembers = must_remember(heap, address, value);
     field_store(heap, dom, at, pack_value(value), remembers, &[]);
@@ -170,8 +172,9 @@ fn store_as(heap: &Heap, dom: &mut Domain, block: u8, index: u16, item: u8) -> R
 
 /// Stores what a register holds into a field of the plain block in another. The reply is `type`
 /// where register `block` holds no plain block or register `item` holds nothing, and else `bounds`
-/// where the block has no such field. A field of a block in a pool that gets a block in a minor area
-/// is one more that the domain remembers. Registers are below 16, the domain's trace hasn't ended, no
+/// where the block has no such field. While a cycle goes on beside running domains, what the field
+/// refers to is marked before it is overwritten. A field of a block in a pool that gets a block in a
+/// minor area is one more that the domain remembers. Registers are below 16, the domain's trace hasn't ended, no
 /// finaliser waits in its queue, and it has room for one more field.
 pub fn store(heap: &Heap, dom: &mut Domain, block: u8, index: u16, item: u8) -> Reply
     requires runs { Runs heap.now dom.old }

@@ -32,6 +32,7 @@ own_did h old new c own runs here is number arrivals queue remembered answers =
       notes = ap (λ (x : DomainView). x.seen.notes) is;
       copying = ap (λ (x : DomainView). x.seen.copying) is;
       queue = ap (λ (x : DomainView). x.own.finalisers.queue) is ∙ queue;
+      weak = ap (λ (x : DomainView). x.seen.share.weak) is;
       remembers = λ all. ap (λ (x : DomainView). x.seen.remembered) is ∙ (all ∙ sym (ap (λ (x : DomainView). x.own.remembered.items) is ∙ ap (λ (b : Bounded ℕ). b.items) remembered));
     })
     answers

@@ -72,7 +72,7 @@ module _ (h : SharedHeap) (old new : Token) (first : Waiting) (goes : Continues 
   running = ap (λ (n : ℕ). (domain_at (state_of h.config new.view.seen.front) n).ended) number ∙ goes_after (sizes_in h.config) old.view.own.number old.view.seen.front new.view.seen.front told.answer told.answers before.goes_on
 
   after : GoesOn h.config new.view
-  after = record { goes_on = running; runs = ap (λ (x : DomainView). x.seen.stage) is ∙ before.runs }
+  after = record { goes_on = running; runs = ap (λ (x : DomainView). x.seen.stage) is ∙ before.runs; paid = ap (λ (x : DomainView). x.seen.share.weak) is ∙ before.paid }
 
   pub ran_continues : Continues h new
   ran_continues = record {

@@ -15,5 +15,6 @@ looked_acts k x y looked acts =
     record {
       goes_on = ap (λ (n : ℕ). (domain_at (state_of k y.seen.front) n).ended) (ap (λ (z : DomainView). z.own.number) looked.view) ∙ (kept.ended ∙ acts.goes_on);
       runs = ap (λ (z : DomainView). z.seen.stage) looked.view ∙ acts.runs;
+      paid = ap (λ (z : DomainView). z.seen.share.weak) looked.view ∙ acts.paid;
       unqueued = ap (λ (z : DomainView). z.own.finalisers.queue.items) looked.view ∙ acts.unqueued;
     }

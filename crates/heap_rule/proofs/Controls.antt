@@ -32,6 +32,8 @@ use Rattle.heap_rule.proofs.Sharings.{SameCycle, cycle_words, leading_words, kno
 use Rattle.heap_rule.specs.declared.view.Share.{Share}
 use Rattle.heap_rule.specs.Cycles.{Cycling, Cycled, Telling, Leading, KnowsBlocks, Adds}
 use Rattle.heap_rule.specs.Fullness.{Homes, Fullness}
+use Rattle.heap_rule.specs.Beside.{RunsBeside}
+use Rattle.heap_rule.proofs.BesideLemmas.{runs_on, endures_words}
 
 -- all words stay but the first four, want, barrier, plan and changed, and the ended word
 abbrev pub Untouched : List ℕ → List ℕ → Type 0
@@ -119,6 +121,8 @@ sharing_words k all all' words words' z log live holder garbage cycling same hea
   adds = subst (λ (m : Live × Cycling). Adds m.0 m.1 z.own.number z.seen.share) (λ i. (sym live i, sym cycling i)) sh.adds;
   looks = subst (λ (m : List Entry × Live × (ℕ → Holder) × (ℕ → Bool) × Cycling). Looks m.1 m.2 m.3 (state_of k m.0).graph m.4.paint.marks m.4.paint.emptied z.own.number z.own.ephemerons.items z.seen.stage z.seen.share)
       (λ i. (sym log i, sym live i, sym holder i, sym garbage i, sym cycling i)) sh.looks;
+  running = subst (λ (m : Live × (ℕ → Holder) × Cycling). RunsBeside k m.0 m.1 m.2.armed m.2.past m.2.paint.marks.marked words' z.own.number z.seen.stage z.seen.share) (λ i. (sym live i, sym holder i, sym cycling i))
+      (runs_on k all.live all.live all.tenancy.holder all.tenancy.holder all.cycling.armed all.cycling.past all.cycling.past all.cycling.paint.marks.marked all.cycling.paint.marks.marked words words' z.own.number z.seen.stage z.seen.share (λ _. endures_words k all.live all.tenancy.holder all.cycling.paint.marks.marked words words' heap) refl (λ q. refl) sh.running);
   deciding = subst (λ (m : Live × Cycling). Deciding m.0 m.1.kind m.1.left m.1.shares.arrived m.1.paint.marks.marked z.own.number z.own.finalisers z.seen.share.kept z.seen.share.waiting) (λ i. (sym live i, sym cycling i)) sh.deciding;
 }
 

@@ -1,5 +1,5 @@
 -- An own entry that changes registers and no word of the heap.
-use Rattle.std.proofs.Common.{◌≡◌, ◌≢◌, ℕ, ◌<◌, Bool, false, List, [], ◌∷◌, ◌++◌, length, get_or, set, sym, refl, ap, ◌∙◌, subst, ne_eqb}
+use Rattle.std.proofs.Common.{◌≡◌, ◌≢◌, ℕ, ◌<◌, Bool, false, List, [], ◌∷◌, ◌++◌, length, get_or, set, sym, refl, ap, ◌∙◌, subst, ne_eqb, Option, None}
 use mathlib.Core.Option.{some}
 use lib.ListN.{get_elem?}
 use Rattle.heap_model.specs.declared.command.Command.{Command}
@@ -32,6 +32,9 @@ use Rattle.heap_rule.specs.Rule.{state_of, AllFound, Stood, Rule}
 use Rattle.heap_rule.specs.Standing.{Acts, Entered, with_front, with_own, with_registers}
 use Rattle.heap_rule.proofs.ChangeLemmas.{changed_only}
 use Rattle.heap_rule.proofs.Values.{AllStand, holds}
+use Rattle.heap_rule.specs.declared.view.Share.{Share}
+use Rattle.heap_rule.proofs.Sharings.{with_weak}
+use Rattle.heap_rule.proofs.Advancing.{Advance}
 use Rattle.heap_rule.proofs.Keeps.{Words, IsOfTrace, mine, my_good, own, control_same, controls_kept, appends, legal_entry, hunter_as, more_same, owes_as, recalls_same, run_settled, run_open}
 use Rattle.heap_model.proofs.Commands.MoveLemmas.{registers_one}
 use Rattle.heap_rule.specs.declared.view.Finalisers.{Finalisers}
@@ -70,6 +73,8 @@ module _ (k : Config) (s : Words) (r : Rule k s) (id : ℕ) (hist : List Entry) 
     pub work : KeepsWork now (next now e) x.own.number
     pub theirs : List model_value.Value
     pub stand : AllStand r.account.live registers theirs
+    pub weak : Option ℕ
+    pub advance : Advance k s r id hist x at e weak r.account.live
     pub leaves : Leaves now e x.own.number graph theirs (domain_at now x.own.number).serial answer
 
   -- and one that leaves the graph as it is
@@ -90,14 +95,16 @@ module _ (k : Config) (s : Words) (r : Rule k s) (id : ℕ) (hist : List Entry) 
 
   -- the entry of a command that may begin
   pub enters_command : (graph : Graph) (c : Command) → registers_one c ≡ false → FitsMode now x.own.number c → (registers : List Value) (answer : Applied) (theirs : List model_value.Value) → AllStand r.account.live registers theirs
-      → Leaves now (CommandOf x.own.number c false) x.own.number graph theirs (domain_at now x.own.number).serial answer → EntersTo graph (CommandOf x.own.number c false) registers answer
-  enters_command graph c unregistering fits registers answer theirs stand leaves = record {
+      → (weak : Option ℕ) → Advance k s r id hist x at (CommandOf x.own.number c false) weak r.account.live → Leaves now (CommandOf x.own.number c false) x.own.number graph theirs (domain_at now x.own.number).serial answer → EntersTo graph (CommandOf x.own.number c false) registers answer
+  enters_command graph c unregistering fits registers answer theirs stand weak advance leaves = record {
     alone = λ m other. ne_eqb x.own.number m (λ e. other (sym e));
     allowed = record { running = running; fits = fits; full_fits = tt };
     is_open = open_after c false;
     work = work_command now x.own.number c false unregistering;
     theirs = theirs;
     stand = stand;
+    weak = weak;
+    advance = advance;
     leaves = leaves;
   }
 
@@ -115,15 +122,22 @@ module _ (k : Config) (s : Words) (r : Rule k s) (id : ℕ) (hist : List Entry) 
   abbrev pub entered_view : Entry → List Value → DomainView
   entered_view e registers = with_front (with_registers x registers) (r.account.log ++ e ∷ [])
 
-  pub enters_rule : (e : Entry) (registers : List Value) (answer : Applied) → Enters e registers answer → IsOfTrace e → Rule k record { words = s.words; homes = s.homes; views = set s.views id (one k hist (entered_view e registers)) }
-  enters_rule e registers answer o of_trace = let g = my_good k s r id hist x at in appends k s r id hist x at e (entered_view e registers) s.words r.account.live r.account.homes record {
+  -- the same, where the domain then owes the darkening of what a register holds
+  abbrev pub owing_view : Entry → List Value → Option ℕ → DomainView
+  owing_view e registers weak = let y : DomainView = entered_view e registers in record y { seen = record y.seen { share = with_weak x.seen.share weak } }
+
+  pub owing_rule : (e : Entry) (registers : List Value) (answer : Applied) (o : Enters e registers answer) → IsOfTrace e → Rule k record { words = s.words; homes = s.homes; views = set s.views id (one k hist (owing_view e registers o.weak)) }
+  owing_rule e registers answer o of_trace = let g = my_good k s r id hist x at in let y : DomainView = owing_view e registers o.weak in appends k s r id hist x at e y s.words r.account.live r.account.homes o.advance.past record {
     full = full_stays k r.account.log r.account.live r.account.tenancy.holder r.account.tenancy.fresh r.account.homes r.account.cycling.kind e (trace_collects e of_trace) r.whole.full;
     alone = o.alone;
     of_trace = of_trace;
     runs = acts.runs;
     stage = refl;
     listing = refl;
+    weak = o.weak;
     share = refl;
+    advances = o.advance.advances;
+    heads = λ a p e. refl;
     allowed = o.allowed;
     is_open = o.is_open;
     number = refl;
@@ -136,21 +150,26 @@ module _ (k : Config) (s : Words) (r : Rule k s) (id : ℕ) (hist : List Entry) 
     spread = r.whole.spread;
     opened = r.whole.opened;
     settled = run_settled k s r id hist x at acts.runs;
-    owes = owes_as k r.account.live x (entered_view e registers) refl refl refl refl g.owes;
+    owes = owes_as k r.account.live x y refl refl refl refl g.owes;
     recalls = λ d _. recalls_same d r.account.live;
     naming = r.whole.copies.naming;
     more = more_same r.account.live;
-    stood = stood_after now.graph e registers answer (entered_view e registers) refl refl refl refl o;
+    stood = stood_after now.graph e registers answer y refl refl refl refl o;
     area = record { room = g.area.room; free = g.area.free; classes = g.area.classes };
     making = record { fits = g.making.fits; written = g.making.written };
     areas = λ z _ h. h;
     makings = λ z _ _ h. h;
     grid = r.whole.grid;
-    hunter = hunter_as k r.account.tenancy s.words x (entered_view e registers) refl refl refl refl refl refl g.hunter;
+    hunter = hunter_as k r.account.tenancy s.words x y refl refl refl refl refl refl g.hunter;
     hunters = λ z _ g. g.hunter;
     listed = record { all = g.listed.all; own = g.listed.own; lives = g.listed.lives };
     listeds = λ z _ h. h.listed;
   }
+
+  -- a domain that owed nothing, and owes nothing
+  pub enters_rule : (e : Entry) (registers : List Value) (answer : Applied) (o : Enters e registers answer) → IsOfTrace e → o.weak ≡ None → Rule k record { words = s.words; homes = s.homes; views = set s.views id (one k hist (entered_view e registers)) }
+  enters_rule e registers answer o of_trace none = subst (λ (share : Share). let y : DomainView = entered_view e registers in Rule k record { words = s.words; homes = s.homes; views = set s.views id (one k hist (record y { seen = record y.seen { share = share } })) })
+      (ap (with_weak x.seen.share) (none ∙ sym acts.paid)) (owing_rule e registers answer o of_trace)
 
   pub enters : (graph : Graph) (e : Entry) (answer : Applied) (read : Value) (changes : List Change) → EntersTo graph e ((changed read changes x.own).registers) answer → Entered k e answer read changes x (entered_view e ((changed read changes x.own).registers))
   enters graph e answer read changes o = let y : DomainView = entered_view e ((changed read changes x.own).registers) in record {

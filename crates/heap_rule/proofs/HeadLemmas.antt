@@ -1,8 +1,8 @@
 -- Heads of blocks, whatever their colour.
-use Rattle.std.proofs.Common.{◌≡◌, ℕ, ◌<◌, Bool, ◌∙◌, None, cond, true, false, Option, sym, ap, subst, Some}
+use Rattle.std.proofs.Common.{◌≡◌, ℕ, ◌<◌, Bool, ◌∙◌, None, cond, true, false, Option, sym, ap, subst, Some, ◌&&◌, IsTrue}
 use Rattle.heap_model.specs.Fronts.{Shape, PlainShape, RawShape, EpheShape}
 use Rattle.heap_words.specs.Heads.{IsPackableHead}
-use Rattle.heap_rule.specs.Places.{Place, Paint, IsHead, IsPackableShape, head_of, colour_in, IsNewHead, HeadIs}
+use Rattle.heap_rule.specs.Places.{Place, Paint, IsHead, IsPackableShape, head_of, colour_in, IsNewHead, HeadIs, new_colour}
 use Rattle.heap_model.specs.declared.label.Label.{Label}
 use Rattle.heap_words.specs.ColourWords.{IsPermutation}
 use Rattle.heap_words.specs.declared.colours.Colours.{Colours}
@@ -22,12 +22,13 @@ colour_small paint l meanings = small (paint.marks.marked l) where
   small true = meanings.marked_fits
   small false = meanings.unmarked_fits
 
--- the head of a new block is that of an unmarked one
-abbrev pub new_head : (paint : Paint) (p : Place) (known : Option Colours) (word : ℕ) → p.forward ≡ None → paint.marks.marked p.label ≡ false → ((c : Colours) → known ≡ Some c → c ≡ paint.colours) → IsNewHead known p.shape word → IsHead paint p word
-new_head paint p known word bare unmarked means h = record {
-  scanned = false;
-  packs = subst (λ (m : Option ℕ × ℕ). HeadIs m.0 p.shape m.1 false word) (λ i. (sym bare i, sym colour i)) h.packs;
-  tells = λ is. let e : false ≡ true = sym unmarked ∙ is in cc;
+-- the head of a new block is that of an unmarked one, or, while a cycle goes on beside running domains, of a marked one
+abbrev pub new_head : (paint : Paint) (p : Place) (known : Option Colours) (armed : Option Bool) (pooled beside : Bool) (word : ℕ) → p.forward ≡ None → paint.marks.marked p.label ≡ beside → (IsTrue beside → IsTrue (paint.marks.scanned p.label))
+    → ((c : Colours) → known ≡ Some c → c ≡ paint.colours) → ((b : Bool) → armed ≡ Some b → b ≡ beside) → IsNewHead known armed pooled p.shape word → IsHead paint p word
+new_head paint p known armed pooled beside word bare marked scans means tells h = record {
+  scanned = pooled && h.beside;
+  packs = subst (λ (m : Option ℕ × ℕ). HeadIs m.0 p.shape m.1 (pooled && h.beside) word) (λ i. (sym bare i, sym colour i)) h.packs;
+  tells = λ is _. scans (sym marked ∙ is);
 } where
-  colour : colour_in paint p.label ≡ h.colours.unmarked
-  colour = ap (λ (b : Bool). cond b paint.colours.marked paint.colours.unmarked) unmarked ∙ ap (λ (c : Colours). c.unmarked) (sym (means h.colours h.known_is))
+  colour : colour_in paint p.label ≡ new_colour h.beside h.colours
+  colour = ap (λ (b : Bool). cond b paint.colours.marked paint.colours.unmarked) (marked ∙ sym (tells h.beside h.armed_is)) ∙ ap (λ (c : Colours). new_colour h.beside c) (sym (means h.colours h.known_is))

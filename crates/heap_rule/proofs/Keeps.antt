@@ -46,11 +46,16 @@ use Rattle.heap_rule.specs.Phases.{Pause, Phases, sum_of, IsEven, AtStage, Stage
 use Rattle.heap_rule.specs.Rule.{state_of, AllFound, Stood, Area, Making, Account, Good, Sharing, Whole, Rule}
 use Rattle.heap_rule.specs.Cycles.{Cycling, Cycled, Telling, Leading, HasNoCycle, IsBetween, IsIdle}
 use Rattle.heap_rule.proofs.PauseFacts.{not_both, agree, nobody_paused, staged_as, run_promoting, run_resetting, kind_differs}
-use Rattle.heap_rule.proofs.Sharings.{SameCycle, kind_now, cycle_between, facts_between, leading_words, leading_as, telling_as, idle_in, idle_beside, takes_kind, adds_nothing}
+use Rattle.heap_rule.proofs.Sharings.{SameCycle, KeepsUnderway, with_past, with_weak, leading_past, telling_weak, leading_weak, kind_now, cycle_between, facts_between, leading_words, leading_as, telling_as, idle_in, idle_beside, takes_kind, adds_nothing}
+use Rattle.heap_rule.proofs.BesideLemmas.{Endures, all_known_on, runs_on, runs_as, knows_weak}
+use Rattle.heap_rule.specs.declared.view.Share.{Share}
+use Rattle.heap_model.specs.Graph.{Graph}
+use Rattle.heap_rule.specs.Beside.{AllKnown, IsUnaware, RunsBeside, is_weak}
+use Rattle.cycle_laws.specs.Beside.{Past}
 use Rattle.heap_rule.specs.Room.{spent_stock, count, drawn_in_all, copied_words, Room, IsUnused, Opened, Drawable}
 use Rattle.heap_model.specs.Domains.{class_count, reserve}
-use Rattle.heap_rule.specs.Layout.{heap_words}
-use Rattle.heap_rule.specs.Pools.{Stock, Reserved, Covered, Takes, IsCopying, Latest, DrawsFor, prepared_at, size_of, Tenancy, drawn, owned, Pools, Grid, Drawers, IsLeading, Lists, Resting, Hunts, Hunter, drawn_in, hunting_free, spot_at, IsBefore, limit_of}
+use Rattle.heap_rule.specs.Layout.{heap_words, at_address}
+use Rattle.heap_rule.specs.Pools.{Holder, Stock, Reserved, Covered, Takes, IsCopying, Latest, DrawsFor, prepared_at, size_of, Tenancy, drawn, owned, Pools, Grid, Drawers, IsLeading, Lists, Resting, Hunts, Hunter, drawn_in, hunting_free, spot_at, IsBefore, limit_of}
 use Rattle.heap_rule.specs.Standing.{with_front}
 use Rattle.heap_rule.specs.Ephemerons.{IsEpheAt, Listed}
 use Rattle.heap_rule.specs.Finalisers.{RefersOld}
@@ -546,12 +551,12 @@ module _ (k : Config) (s : Words) (r : Rule k s) (id : ℕ) (hist : List Entry) 
   pub no_cycle_here : (kind : Kind) → HasNoCycle kind → x.seen.stage ≡ In kind → HasNoCycle r.account.cycling.kind
   no_cycle_here kind none is = subst HasNoCycle (sym (kind_now k r.account.pause r.account.cycling x kind is my_good.staged r.whole.cycle.told)) none
 
-  pub between_here : (kind : Kind) → HasNoCycle kind → x.seen.stage ≡ In kind → IsBetween now r.account.cycling
+  pub between_here : (kind : Kind) → HasNoCycle kind → x.seen.stage ≡ In kind → IsBetween k now r.account.live r.account.cycling
   between_here kind none is = facts_between r.account.cycling.kind k now r.account.live r.account.tenancy r.account.cycling s.words (no_cycle_here kind none is) r.whole.cycle.facts
 
-  pub cycle_here : (kind : Kind) → HasNoCycle kind → x.seen.stage ≡ In kind → (after : model.State) (live' : Live) (t' : Tenancy) (words' : List ℕ) → after.mode ≡ now.mode → ((a : ℕ) → t'.garbage a ≡ r.account.tenancy.garbage a) → SameCycle s.words words'
-      → Cycled k after live' r.account.pause t' r.account.cycling words'
-  cycle_here kind none is after live' t' words' mode garbage same = cycle_between k now after r.account.live live' r.account.pause r.account.tenancy t' r.account.cycling s.words words' (no_cycle_here kind none is) mode garbage same r.whole.cycle
+  pub cycle_here : (kind : Kind) → HasNoCycle kind → x.seen.stage ≡ In kind → (after : model.State) (live' : Live) (t' : Tenancy) (past' : Past) (words' : List ℕ) → after.mode ≡ now.mode → ((a : ℕ) → t'.garbage a ≡ r.account.tenancy.garbage a) → SameCycle s.words words'
+      → KeepsUnderway k now after r.account.live live' r.account.cycling past' → Cycled k after live' r.account.pause t' (with_past r.account.cycling past') words'
+  cycle_here kind none is after live' t' past' words' mode garbage same keeps = cycle_between k now after r.account.live live' r.account.pause r.account.tenancy t' r.account.cycling past' s.words words' (no_cycle_here kind none is) mode garbage same keeps r.whole.cycle
 
   -- no block misses keys then
   pub whole_here : (kind : Kind) → HasNoCycle kind → x.seen.stage ≡ In kind → (l : Label) → r.account.cycling.paint.emptied l ≡ []
@@ -564,31 +569,47 @@ module _ (k : Config) (s : Words) (r : Rule k s) (id : ℕ) (hist : List Entry) 
   pub idle_here : (kind : Kind) → HasNoCycle kind → x.seen.stage ≡ In kind → IsIdle x.seen.share
   idle_here kind none is = idle_in k r.account.live r.account.tenancy.holder now.graph r.account.cycling.paint.marks s.words x kind none is my_good.sharing.knows
 
-  pub sharing_here : (kind : Kind) → HasNoCycle kind → x.seen.stage ≡ In kind → (all' : Account) (words' : List ℕ) (y : DomainView) → all'.cycling ≡ r.account.cycling → SameCycle s.words words'
-      → y.own.number ≡ x.own.number → y.seen.stage ≡ x.seen.stage → y.seen.share ≡ x.seen.share → Sharing k all' words' y.own.number y.own.registers y.own.finalisers y.own.ephemerons.items y.seen.stage y.seen.share
-  sharing_here kind none is all' words' y cycling same number stage share = record {
-    telling = subst (λ (c : Cycling). Telling c.paint.colours c.shares y.own.number y.seen.share) (sym cycling) (telling_as r.account.cycling.paint.colours r.account.cycling.shares x.own.number y.own.number x.seen.share y.seen.share number share my_good.sharing.telling);
-    leading = subst (λ (c : Cycling). Leading c words' y.own.number y.seen.stage y.seen.share) (sym cycling)
-        (leading_as r.account.cycling words' x.own.number y.own.number x.seen.stage y.seen.stage x.seen.share y.seen.share number stage share (leading_words r.account.cycling s.words words' x.own.number x.seen.stage x.seen.share same my_good.sharing.leading));
-    knows = inl (subst IsIdle (sym share) (idle_here kind none is));
-    adds = adds_nothing all'.live all'.cycling y.own.number y.seen.share (subst (λ (c : Cycling). HasNoCycle c.kind) (sym cycling) (no_cycle_here kind none is));
-    looks = looks_idle all'.live all'.tenancy.holder all'.tenancy.garbage (state_of k all'.log).graph all'.cycling.paint.marks all'.cycling.paint.emptied y.own.number y.own.ephemerons.items y.seen.stage y.seen.share (subst IsIdle (sym share) (idle_here kind none is))
-        (subst (λ (c : Cycling). (l : Label) → c.paint.emptied l ≡ []) (sym cycling) (whole_here kind none is));
-    deciding = deciding_none all'.live all'.cycling.kind all'.cycling.left all'.cycling.shares.arrived all'.cycling.paint.marks.marked y.own.number y.own.finalisers y.seen.share.kept y.seen.share.waiting (subst (λ (c : Cycling). HasNoCycle c.kind) (sym cycling) (no_cycle_here kind none is));
-  }
+  -- what a domain in such a phase knows as it runs beside a cycle
+  abbrev pub RunsIn : Account → List ℕ → DomainView → Type 0
+  RunsIn all' words' z = RunsBeside k all'.live all'.tenancy.holder all'.cycling.armed all'.cycling.past all'.cycling.paint.marks.marked words' z.own.number z.seen.stage z.seen.share
 
-  pub sharings_here : (kind : Kind) → HasNoCycle kind → x.seen.stage ≡ In kind → (all' : Account) (words' : List ℕ) → all'.cycling ≡ r.account.cycling → SameCycle s.words words'
-      → (z : DomainView) → Good k r.account s.words z → Sharing k all' words' z.own.number z.own.registers z.own.finalisers z.own.ephemerons.items z.seen.stage z.seen.share
-  sharings_here kind none is all' words' cycling same z g = record {
-    telling = subst (λ (c : Cycling). Telling c.paint.colours c.shares z.own.number z.seen.share) (sym cycling) g.sharing.telling;
-    leading = subst (λ (c : Cycling). Leading c words' z.own.number z.seen.stage z.seen.share) (sym cycling) (leading_words r.account.cycling s.words words' z.own.number z.seen.stage z.seen.share same g.sharing.leading);
-    knows = inl (idle_beside k r.account.live r.account.tenancy.holder now.graph r.account.cycling.paint.marks s.words r.account.pause x z kind none is my_good.staged g.staged g.sharing.knows);
-    adds = adds_nothing all'.live all'.cycling z.own.number z.seen.share (subst (λ (c : Cycling). HasNoCycle c.kind) (sym cycling) (no_cycle_here kind none is));
-    looks = looks_idle all'.live all'.tenancy.holder all'.tenancy.garbage (state_of k all'.log).graph all'.cycling.paint.marks all'.cycling.paint.emptied z.own.number z.own.ephemerons.items z.seen.stage z.seen.share
-        (idle_beside k r.account.live r.account.tenancy.holder now.graph r.account.cycling.paint.marks s.words r.account.pause x z kind none is my_good.staged g.staged g.sharing.knows)
-        (subst (λ (c : Cycling). (l : Label) → c.paint.emptied l ≡ []) (sym cycling) (whole_here kind none is));
-    deciding = deciding_none all'.live all'.cycling.kind all'.cycling.left all'.cycling.shares.arrived all'.cycling.paint.marks.marked z.own.number z.own.finalisers z.seen.share.kept z.seen.share.waiting (subst (λ (c : Cycling). HasNoCycle c.kind) (sym cycling) (no_cycle_here kind none is));
-  }
+  pub runs_here : (all' : Account) (words' : List ℕ) → all'.cycling ≡ r.account.cycling → (z : DomainView) → (z.seen.stage ≡ In Run → Endures k r.account.live all'.live r.account.tenancy.holder all'.tenancy.holder r.account.cycling.paint.marks.marked r.account.cycling.paint.marks.marked s.words words') → Good k r.account s.words z → RunsIn all' words' z
+  runs_here all' words' cycling z o g = subst (λ (c : Cycling). RunsBeside k all'.live all'.tenancy.holder c.armed c.past c.paint.marks.marked words' z.own.number z.seen.stage z.seen.share) (sym cycling)
+      (runs_on k r.account.live all'.live r.account.tenancy.holder all'.tenancy.holder r.account.cycling.armed r.account.cycling.past r.account.cycling.past r.account.cycling.paint.marks.marked r.account.cycling.paint.marks.marked s.words words' z.own.number z.seen.stage z.seen.share o refl (λ q. refl) g.sharing.running)
+
+  pub sharing_here : (kind : Kind) → HasNoCycle kind → x.seen.stage ≡ In kind → (all' : Account) (words' : List ℕ) (past' : Past) (weak' : Option ℕ) (y : DomainView) → all'.cycling ≡ with_past r.account.cycling past' → SameCycle s.words words'
+      → y.own.number ≡ x.own.number → y.seen.stage ≡ x.seen.stage → y.seen.share ≡ with_weak x.seen.share weak' → RunsIn all' words' y → Sharing k all' words' y.own.number y.own.registers y.own.finalisers y.own.ephemerons.items y.seen.stage y.seen.share
+  sharing_here kind none is all' words' past' weak' y cycling same number stage share runs =
+      let c1 : Cycling = with_past r.account.cycling past' in
+      let no1 : HasNoCycle all'.cycling.kind = subst (λ (c : Cycling). HasNoCycle c.kind) (sym cycling) (no_cycle_here kind none is) in
+      let idle : IsIdle y.seen.share = subst IsIdle (sym share) (ap (λ (z : Share). with_weak z weak') (idle_here kind none is)) in
+      let unmissed : (l : Label) → all'.cycling.paint.emptied l ≡ [] = subst (λ (c : Cycling). (l : Label) → c.paint.emptied l ≡ []) (sym cycling) (whole_here kind none is) in record {
+        telling = subst (λ (c : Cycling). Telling c.paint.colours c.shares y.own.number y.seen.share) (sym cycling)
+            (telling_as r.account.cycling.paint.colours r.account.cycling.shares x.own.number y.own.number (with_weak x.seen.share weak') y.seen.share number share (telling_weak r.account.cycling.paint.colours r.account.cycling.shares x.own.number x.seen.share weak' my_good.sharing.telling));
+        leading = subst (λ (c : Cycling). Leading c words' y.own.number y.seen.stage y.seen.share) (sym cycling)
+            (leading_as c1 words' x.own.number y.own.number x.seen.stage y.seen.stage (with_weak x.seen.share weak') y.seen.share number stage share
+            (leading_weak c1 words' x.own.number x.seen.stage x.seen.share weak' (leading_past r.account.cycling past' words' x.own.number x.seen.stage x.seen.share (leading_words r.account.cycling s.words words' x.own.number x.seen.stage x.seen.share same my_good.sharing.leading))));
+        knows = inl idle;
+        adds = adds_nothing all'.live all'.cycling y.own.number y.seen.share no1;
+        looks = looks_idle all'.live all'.tenancy.holder all'.tenancy.garbage (state_of k all'.log).graph all'.cycling.paint.marks all'.cycling.paint.emptied y.own.number y.own.ephemerons.items y.seen.stage y.seen.share idle unmissed;
+        running = runs;
+        deciding = deciding_none all'.live all'.cycling.kind all'.cycling.left all'.cycling.shares.arrived all'.cycling.paint.marks.marked y.own.number y.own.finalisers y.seen.share.kept y.seen.share.waiting no1;
+      }
+
+  pub sharings_here : (kind : Kind) → HasNoCycle kind → x.seen.stage ≡ In kind → (all' : Account) (words' : List ℕ) (past' : Past) → all'.cycling ≡ with_past r.account.cycling past' → SameCycle s.words words'
+      → (z : DomainView) → Good k r.account s.words z → RunsIn all' words' z → Sharing k all' words' z.own.number z.own.registers z.own.finalisers z.own.ephemerons.items z.seen.stage z.seen.share
+  sharings_here kind none is all' words' past' cycling same z g runs =
+      let no1 : HasNoCycle all'.cycling.kind = subst (λ (c : Cycling). HasNoCycle c.kind) (sym cycling) (no_cycle_here kind none is) in
+      let idle : IsIdle z.seen.share = idle_beside k r.account.live r.account.tenancy.holder now.graph r.account.cycling.paint.marks s.words r.account.pause x z kind none is my_good.staged g.staged g.sharing.knows in
+      let unmissed : (l : Label) → all'.cycling.paint.emptied l ≡ [] = subst (λ (c : Cycling). (l : Label) → c.paint.emptied l ≡ []) (sym cycling) (whole_here kind none is) in record {
+        telling = subst (λ (c : Cycling). Telling c.paint.colours c.shares z.own.number z.seen.share) (sym cycling) g.sharing.telling;
+        leading = subst (λ (c : Cycling). Leading c words' z.own.number z.seen.stage z.seen.share) (sym cycling) (leading_past r.account.cycling past' words' z.own.number z.seen.stage z.seen.share (leading_words r.account.cycling s.words words' z.own.number z.seen.stage z.seen.share same g.sharing.leading));
+        knows = inl idle;
+        adds = adds_nothing all'.live all'.cycling z.own.number z.seen.share no1;
+        looks = looks_idle all'.live all'.tenancy.holder all'.tenancy.garbage (state_of k all'.log).graph all'.cycling.paint.marks all'.cycling.paint.emptied z.own.number z.own.ephemerons.items z.seen.stage z.seen.share idle unmissed;
+        running = runs;
+        deciding = deciding_none all'.live all'.cycling.kind all'.cycling.left all'.cycling.shares.arrived all'.cycling.paint.marks.marked z.own.number z.own.finalisers z.seen.share.kept z.seen.share.waiting no1;
+      }
 
   -- there is no garbage then
   pub no_garbage_here : (kind : Kind) → HasNoCycle kind → x.seen.stage ≡ In kind → (a : ℕ) → IsTrue (r.account.tenancy.garbage a) → ⊥
@@ -598,15 +619,26 @@ module _ (k : Config) (s : Words) (r : Rule k s) (id : ℕ) (hist : List Entry) 
   pub run_open : x.seen.stage ≡ In Run → now.mode ≡ Open
   run_open runs = (between_here Run tt runs).mode
 
+  -- How an own entry goes on with a cycle beside running domains: what is known of it holds of the next state, with what is then overwritten, and with the one register that the domain may owe
+  pub record Advances (e : Entry) (weak : Option ℕ) (live' : Live) (past' : Past) : Type 0 where
+    pub same_old : past'.old ≡ r.account.cycling.past.old
+    pub owed_others : (d q : ℕ) → d ≢ x.own.number → past'.owed d q ≡ r.account.cycling.past.owed d q
+    pub owed_own : IsTrue r.account.cycling.armed → (q : ℕ) → past'.owed x.own.number q ≡ is_weak weak q
+    pub unweak : (weak ≡ None) ⊎ IsTrue r.account.cycling.armed
+    pub underway : KeepsUnderway k now (next now e) r.account.live live' r.account.cycling past'
+
   -- What a step owes at which an own entry stands, whatever it does to the words
-  pub record Appends (e : Entry) (y : DomainView) (words' : List ℕ) (live' : Live) (homes' : Homes) : Type 0 where
+  pub record Appends (e : Entry) (y : DomainView) (words' : List ℕ) (live' : Live) (homes' : Homes) (past' : Past) : Type 0 where
     pub alone : (d : ℕ) → d ≢ x.own.number → is_entry_of d e ≡ false
     pub of_trace : IsOfTrace e
     pub full : Fullness k (r.account.log ++ e ∷ []) live' r.account.tenancy.holder r.account.tenancy.fresh homes' r.account.cycling.kind
     pub runs : x.seen.stage ≡ In Run
     pub stage : y.seen.stage ≡ x.seen.stage
     pub listing : y.seen.listing ≡ x.seen.listing
-    pub share : y.seen.share ≡ x.seen.share
+    pub weak : Option ℕ
+    pub share : y.seen.share ≡ with_weak x.seen.share weak
+    pub advances : Advances e weak live' past'
+    pub heads : (a : ℕ) (p : Place) → r.account.live a ≡ Some p → at_address k words' a ≡ at_address k s.words a
     pub allowed : Allowed now e
     pub is_open : (next now e).mode ≡ Open
     pub number : y.own.number ≡ x.own.number
@@ -634,11 +666,23 @@ module _ (k : Config) (s : Words) (r : Rule k s) (id : ℕ) (hist : List Entry) 
     pub listed : Listed live' r.account.tenancy.holder r.account.tenancy.garbage y.own.number y.own.ephemerons.items
     pub listeds : (z : DomainView) → z.own.number ≢ x.own.number → Good k r.account s.words z → Listed live' r.account.tenancy.holder r.account.tenancy.garbage z.own.number z.own.ephemerons.items
 
-  pub appends : (e : Entry) (y : DomainView) (words' : List ℕ) (live' : Live) (homes' : Homes) → Appends e y words' live' homes' → Rule k record { words = words'; homes = s.homes; views = set s.views id (one k hist y) }
-  appends e y words' live' homes' o =
+  pub appends : (e : Entry) (y : DomainView) (words' : List ℕ) (live' : Live) (homes' : Homes) (past' : Past) → Appends e y words' live' homes' past' → Rule k record { words = words'; homes = s.homes; views = set s.views id (one k hist y) }
+  appends e y words' live' homes' past' o =
       let log' : List Entry = r.account.log ++ e ∷ [] in
       let after : state_of k log' ≡ next now e = after_entry e in
-      remakes y (record r.account { log = log'; live = live'; homes = homes' }) words'
+      let c : Cycling = r.account.cycling in
+      let all' : Account = record r.account { log = log'; live = live'; homes = homes'; cycling = with_past c past' } in
+      let endures : Endures k r.account.live live' r.account.tenancy.holder r.account.tenancy.holder c.paint.marks.marked c.paint.marks.marked s.words words' = record { more = o.more; held = λ q d class e. e; stays = λ l is. is; heads = λ a p e. inl (o.heads a p e) } in
+      let holder : ℕ → Holder = r.account.tenancy.holder in
+      let own_runs : RunsIn all' words' y = runs_as k live' holder c.armed past' c.paint.marks.marked words' x.own.number y.own.number x.seen.stage y.seen.stage (with_weak x.seen.share o.weak) y.seen.share o.number o.stage o.share record {
+        knows = knows_weak k live' holder c.armed past' c.paint.marks.marked words' x.seen.stage x.seen.share o.weak o.runs o.advances.unweak
+            (⊎_elim (λ (u : IsUnaware x.seen.share). inl u.0) (λ (u : (x.seen.stage ≡ In Run) × IsTrue c.armed × AllKnown k r.account.live holder c.past.old c.paint.marks.marked s.words x.seen.share.known). inr (
+              u.1,
+              subst (λ (g : Graph). AllKnown k live' holder g c.paint.marks.marked words' x.seen.share.known) (sym o.advances.same_old) (all_known_on k r.account.live live' holder holder c.past.old c.paint.marks.marked c.paint.marks.marked s.words words' endures x.seen.share.known u.2),
+            )) my_good.sharing.running.knows);
+        owes = o.advances.owed_own;
+      } in
+      remakes y all' words'
       record {
         wide = o.wide ∙ r.whole.wide;
         legal = legal_entry e o.allowed;
@@ -662,10 +706,11 @@ module _ (k : Config) (s : Words) (r : Rule k s) (id : ℕ) (hist : List Entry) 
         unused = r.whole.unused;
         opened = o.opened;
         drawable = o.controls.drawable;
-        cycle = cycle_here Run tt o.runs (state_of k log') live' r.account.tenancy words' (ap (λ (t : model.State). t.mode) after ∙ (o.is_open ∙ sym (between_here Run tt o.runs).mode)) (λ a. refl) o.controls.cycle;
+        cycle = cycle_here Run tt o.runs (state_of k log') live' r.account.tenancy past' words' (ap (λ (t : model.State). t.mode) after ∙ (o.is_open ∙ sym (between_here Run tt o.runs).mode)) (λ a. refl) o.controls.cycle
+            (subst (λ (t : model.State). KeepsUnderway k now t r.account.live live' c past') (sym after) o.advances.underway);
       }
       (knows_entry y e o.alone o.number o.front)
-      record { stood = subst (λ (t : model.State). Stood live' t y) (sym after) o.stood; area = o.area; making = o.making; staged = staged_as r.account.pause x y o.number o.arrivals o.stage my_good.staged; still = run_still log' y (o.stage ∙ o.runs); hunter = o.hunter; resting = resting_runs k s.words words' x y o.runs (o.stage ∙ o.runs) o.listing my_good.resting; took_back = running_took_back words' y (o.stage ∙ o.runs); owes = o.owes; rooted = run_rooted k r.account.pause x y o.runs my_good.staged; set_back = λ h. absurd (run_leads Run (sym (o.stage ∙ o.runs) ∙ h.0)); sharing = sharing_here Run tt o.runs (record r.account { log = log'; live = live'; homes = homes' }) words' y refl o.controls.cycle o.number o.stage o.share; listed = o.listed }
+      record { stood = subst (λ (t : model.State). Stood live' t y) (sym after) o.stood; area = o.area; making = o.making; staged = staged_as r.account.pause x y o.number o.arrivals o.stage my_good.staged; still = run_still log' y (o.stage ∙ o.runs); hunter = o.hunter; resting = resting_runs k s.words words' x y o.runs (o.stage ∙ o.runs) o.listing my_good.resting; took_back = running_took_back words' y (o.stage ∙ o.runs); owes = o.owes; rooted = run_rooted k r.account.pause x y o.runs my_good.staged; set_back = λ h. absurd (run_leads Run (sym (o.stage ∙ o.runs) ∙ h.0)); sharing = sharing_here Run tt o.runs all' words' past' o.weak y refl o.controls.cycle o.number o.stage o.share own_runs; listed = o.listed }
       (λ z _ other g. record {
         stood = subst (λ (t : model.State). Stood live' t z) (sym after) (stood_other r.account.live live' now (next now e) z (keeps_next now e z.own.number (o.alone z.own.number other)) (work_next now e z.own.number (o.alone z.own.number other) (trace_queues e o.of_trace)) o.more g.stood);
         area = o.areas z other g.area;
@@ -678,7 +723,7 @@ module _ (k : Config) (s : Words) (r : Rule k s) (id : ℕ) (hist : List Entry) 
         set_back = λ h. o.controls.set_back z g.staged h (g.set_back h);
         owes = owes_run k r.account.live live' z z o.settled (quiet_in k r.account.live z g.owes (λ e. nobody_paused r.account.pause x z o.runs my_good.staged g.staged (subst IsInPause (sym e) tt))) refl refl o.more (o.recalls z.own.number other) g.owes;
         rooted = run_rooted k r.account.pause x z o.runs my_good.staged;
-        sharing = sharings_here Run tt o.runs (record r.account { log = log'; live = live'; homes = homes' }) words' refl o.controls.cycle z g;
+        sharing = sharings_here Run tt o.runs all' words' past' refl o.controls.cycle z g (runs_on k r.account.live live' holder holder c.armed c.past past' c.paint.marks.marked c.paint.marks.marked s.words words' z.own.number z.seen.stage z.seen.share (λ _. endures) o.advances.same_old (λ q. o.advances.owed_others z.own.number q other) g.sharing.running);
         listed = o.listeds z other g;
       })
 
@@ -791,6 +836,8 @@ module _ (k : Config) (s : Words) (r : Rule k s) (id : ℕ) (hist : List Entry) 
     pub endings : ended_word words' ≡ ended_word s.words
     pub cycle : SameCycle s.words words'
     pub garbage : (a : ℕ) → t'.garbage a ≡ r.account.tenancy.garbage a
+    pub held : (q d c : ℕ) → r.account.tenancy.holder q ≡ owned d c → t'.holder q ≡ owned d c
+    pub heads : (a : ℕ) (p : Place) → r.account.live a ≡ Some p → at_address k words' a ≡ at_address k s.words a
     pub full : Fullness k r.account.log r.account.live t'.holder t'.fresh r.account.homes r.account.cycling.kind
     pub found : AllFound k r.account.cycling.paint r.account.live now.graph words'
     pub pools : Pools k t' words'
@@ -805,6 +852,9 @@ module _ (k : Config) (s : Words) (r : Rule k s) (id : ℕ) (hist : List Entry) 
   holds_again looked hunt free words' t' o =
       let own_making = o.makings x my_good.making in
       let in_kind = takes_kind x.seen.stage o.takes in
+      let all' : Account = record r.account { tenancy = t' } in
+      let past : Past = r.account.cycling.past in
+      let endures : Endures k r.account.live r.account.live r.account.tenancy.holder t'.holder r.account.cycling.paint.marks.marked r.account.cycling.paint.marks.marked s.words words' = record { more = λ a p e. record { place = p; lives = e; label = refl; shape = refl }; held = o.held; stays = λ l is. is; heads = λ a p e. inl (o.heads a p e) } in
       remakes (hunting_free x looked hunt free) (record r.account { tenancy = t' }) words'
       record {
         wide = o.wide ∙ r.whole.wide;
@@ -829,7 +879,7 @@ module _ (k : Config) (s : Words) (r : Rule k s) (id : ℕ) (hist : List Entry) 
         unused = o.unused;
         opened = opened_words k r.account.live s.words words' (λ _ _ _ _. o.listed_same) r.whole.opened;
         drawable = takes_drawable k r.account.pause words' x o.takes my_good.staged;
-        cycle = cycle_here in_kind.0 in_kind.1 in_kind.2 now r.account.live t' words' refl o.garbage o.cycle;
+        cycle = cycle_here in_kind.0 in_kind.1 in_kind.2 now r.account.live t' r.account.cycling.past words' refl o.garbage o.cycle (λ is u. u);
       }
       (knows_front (hunting_free x looked hunt free) refl mine.front)
       record {
@@ -844,10 +894,10 @@ module _ (k : Config) (s : Words) (r : Rule k s) (id : ℕ) (hist : List Entry) 
         owes = owes_as k r.account.live x (hunting_free x looked hunt free) refl refl refl refl my_good.owes;
         rooted = my_good.rooted;
         set_back = λ h. absurd (takes_leads x.seen.stage o.takes (subst IsLeading (sym h.0) tt));
-        sharing = sharing_here in_kind.0 in_kind.1 in_kind.2 (record r.account { tenancy = t' }) words' (hunting_free x looked hunt free) refl o.cycle refl refl refl;
+        sharing = sharing_here in_kind.0 in_kind.1 in_kind.2 all' words' past x.seen.share.weak (hunting_free x looked hunt free) refl o.cycle refl refl refl (runs_here all' words' refl x (λ _. endures) my_good);
         listed = let l = o.listeds x my_good in record { all = l.all; own = l.own; lives = l.lives };
       }
-      (λ z _ other g. record { stood = g.stood; area = g.area; making = o.makings z g.making; staged = g.staged; still = g.still; hunter = o.hunters z other g; resting = resting_other k r.account.pause s.words words' x z o.takes my_good.staged g.staged g.resting; took_back = λ kind leads last. o.want ∙ g.took_back kind leads last; owes = g.owes; rooted = g.rooted; set_back = λ h. absurd (nobody_leads r.account.pause x z o.takes my_good.staged g.staged (subst IsLeading (sym h.0) tt)); sharing = sharings_here in_kind.0 in_kind.1 in_kind.2 (record r.account { tenancy = t' }) words' refl o.cycle z g; listed = o.listeds z g })
+      (λ z _ other g. record { stood = g.stood; area = g.area; making = o.makings z g.making; staged = g.staged; still = g.still; hunter = o.hunters z other g; resting = resting_other k r.account.pause s.words words' x z o.takes my_good.staged g.staged g.resting; took_back = λ kind leads last. o.want ∙ g.took_back kind leads last; owes = g.owes; rooted = g.rooted; set_back = λ h. absurd (nobody_leads r.account.pause x z o.takes my_good.staged g.staged (subst IsLeading (sym h.0) tt)); sharing = sharings_here in_kind.0 in_kind.1 in_kind.2 all' words' past refl o.cycle z g (runs_here all' words' refl z (λ _. endures) g); listed = o.listeds z g })
 
 -- a load leaves the words as they were
 pub unmoved : (k : Config) (s : Words) (at : ℕ) (views : List View) → Rule k record { words = s.words; homes = s.homes; views = views }

@@ -9,8 +9,10 @@ pub mod HeadLemmas
 pub mod EphemeronLemmas
 pub mod FinaliserLemmas
 pub mod Sharings
+pub mod BesideLemmas
 pub mod Keeps
 pub mod Stages
+pub mod Advancing
 pub mod Classes
 pub mod Counting
 pub mod Looks

@@ -1,7 +1,8 @@
 -- What steps outside a collection of the major heap, and steps that leave its words, keep of it.
-use Rattle.std.proofs.Common.{◌≡◌, ℕ, true, false, IsTrue, List, sym, refl, ◌∙◌, subst, inl, inr, ⊎_elim}
+use Rattle.std.proofs.Common.{◌≡◌, ℕ, true, false, IsTrue, List, sym, refl, ◌∙◌, subst, inl, inr, ⊎_elim, ap, Option}
 use Rattle.heap_model.specs.declared.state.State as model
 use Rattle.heap_model.specs.Graph.{Graph}
+use Rattle.cycle_laws.specs.Beside.{Past}
 use Rattle.cycle_laws.specs.Marks.{Marks}
 use Rattle.cycle_laws.specs.Shares.{Shares}
 use Rattle.heap_words.specs.declared.colours.Colours.{Colours}
@@ -13,6 +14,7 @@ use Rattle.heap_rule.specs.declared.phase.Kind.{Kind}
 use Rattle.heap_rule.specs.declared.phase.Kind.TheVariants.{Run, Promote, Reset, Roots, Mark, Rounds, Decide, Queued, Clean, Lasts, Sweep, Answer}
 use Rattle.heap_rule.specs.declared.phase.Stage.{Stage}
 use Rattle.heap_rule.specs.declared.phase.Stage.TheVariants.{In, Leads, Led, Gone}
+use Rattle.heap_rule.specs.Beside.{Underway}
 use Rattle.heap_rule.specs.Layout.{at_address, armed, colours, changed_word, live_blocks, live_words}
 use Rattle.heap_rule.specs.Phases.{Pause, Agree, AtStage, Staged}
 use Rattle.heap_rule.specs.Places.{Live}
@@ -33,7 +35,7 @@ pub cycle_unmoved : (words : List ℕ) → SameCycle words words
 cycle_unmoved words = record { armed_same = refl; colours_same = refl; changed_same = refl; blocks_same = refl; words_same = refl }
 
 -- between two collections the facts are the same in each kind
-pub facts_between : (kind : Kind) (k : Config) (s : model.State) (live : Live) (t : Tenancy) (c : Cycling) (words : List ℕ) → HasNoCycle kind → Facts kind k s live t c words → IsBetween s c
+pub facts_between : (kind : Kind) (k : Config) (s : model.State) (live : Live) (t : Tenancy) (c : Cycling) (words : List ℕ) → HasNoCycle kind → Facts kind k s live t c words → IsBetween k s live c
 facts_between Run k s live t c words none f = f
 facts_between Promote k s live t c words none f = f
 facts_between Reset k s live t c words none f = f
@@ -47,7 +49,7 @@ facts_between Lasts k s live t c words none f = absurd none
 facts_between Sweep k s live t c words none f = absurd none
 facts_between Answer k s live t c words none f = absurd none
 
-pub between_facts : (kind : Kind) (k : Config) (s : model.State) (live : Live) (t : Tenancy) (c : Cycling) (words : List ℕ) → HasNoCycle kind → IsBetween s c → Facts kind k s live t c words
+pub between_facts : (kind : Kind) (k : Config) (s : model.State) (live : Live) (t : Tenancy) (c : Cycling) (words : List ℕ) → HasNoCycle kind → IsBetween k s live c → Facts kind k s live t c words
 between_facts Run k s live t c words none f = f
 between_facts Promote k s live t c words none f = f
 between_facts Reset k s live t c words none f = f
@@ -65,10 +67,18 @@ between_facts Answer k s live t c words none f = absurd none
 pub kind_now : (k : Config) (p : Pause) (c : Cycling) (x : DomainView) (kind : Kind) → x.seen.stage ≡ In kind → Staged p x → Told k p c.kind c.shares → c.kind ≡ kind
 kind_now k p c x kind is staged told = let a = (subst (AtStage p x.own.number x.own.arrivals) is staged.stage).1 in sym (told.even a.0 a.1).0 ∙ a.2
 
+-- the collection with something else kept of a cycle that goes on beside running domains
+abbrev pub with_past : Cycling → Past → Cycling
+with_past c past = record c { past = past }
+
+-- What a step outside a collection owes of a cycle that goes on beside running domains
+abbrev pub KeepsUnderway : Config → model.State → model.State → Live → Live → Cycling → Past → Type 0
+KeepsUnderway k s s' live live' c past' = IsTrue c.armed → Underway k s live c.kind c.past c.paint.marks c.shares → Underway k s' live' c.kind past' c.paint.marks c.shares
+
 -- outside a collection there is no garbage, whatever happens to blocks and pools
-pub cycle_between : (k : Config) (s s' : model.State) (live live' : Live) (p : Pause) (t t' : Tenancy) (c : Cycling) (words words' : List ℕ) → HasNoCycle c.kind → s'.mode ≡ s.mode → ((a : ℕ) → t'.garbage a ≡ t.garbage a)
-    → SameCycle words words' → Cycled k s live p t c words → Cycled k s' live' p t' c words'
-cycle_between k s s' live live' p t t' c words words' none mode garbage same y =
+pub cycle_between : (k : Config) (s s' : model.State) (live live' : Live) (p : Pause) (t t' : Tenancy) (c : Cycling) (past' : Past) (words words' : List ℕ) → HasNoCycle c.kind → s'.mode ≡ s.mode → ((a : ℕ) → t'.garbage a ≡ t.garbage a)
+    → SameCycle words words' → KeepsUnderway k s s' live live' c past' → Cycled k s live p t c words → Cycled k s' live' p t' (with_past c past') words'
+cycle_between k s s' live live' p t t' c past' words words' none mode garbage same keeps y =
     let b = facts_between c.kind k s live t c words none y.facts in
     let nothing : (a : ℕ) → t'.garbage a ≡ false = (λ a. garbage a ∙ y.leaves.none b.unrotated a) in
     let no_garbage : (a : ℕ) → IsTrue (t'.garbage a) → ⊥ = (λ a is. let e : false ≡ true = sym (nothing a) ∙ is in cc) in record {
@@ -76,7 +86,7 @@ cycle_between k s s' live live' p t t' c words words' none mode garbage same y =
       meanings = y.meanings;
       colours_are = same.colours_same ∙ y.colours_are;
       changed_is = same.changed_same ∙ y.changed_is;
-      facts = between_facts c.kind k s' live' t' c words' none record { mode = mode ∙ b.mode; unmarked = b.unmarked; unchanged = b.unchanged; unrotated = b.unrotated };
+      facts = between_facts c.kind k s' live' t' (with_past c past') words' none record { mode = mode ∙ b.mode; unmarked = b.unmarked; beside = λ is. keeps is (b.beside is); unchanged = b.unchanged; unrotated = b.unrotated };
       told = y.told;
       leaves = record {
         none = λ _ a. nothing a;
@@ -109,7 +119,7 @@ facts_words Queued k s live t c words words' same f = f
 facts_words Clean k s live t c words words' same f = f
 facts_words Lasts k s live t c words words' same f = f
 facts_words Sweep k s live t c words words' same f = record { mode = f.mode; swept = swept_words k s live t.holder c words words' same f.swept; sweep = f.sweep; all_counted = f.all_counted }
-facts_words Answer k s live t c words words' same f = record { mode = f.mode; swept = swept_words k s live t.holder c words words' same f.swept; clean = f.clean; all_counted = f.all_counted; held = f.held }
+facts_words Answer k s live t c words words' same f = record { mode = f.mode; whole = f.whole; swept = swept_words k s live t.holder c words words' same f.swept; clean = f.clean; all_counted = f.all_counted; held = f.held }
 
 -- a step that leaves the words of a collection and the heads of garbage
 pub cycle_words : (k : Config) (s : model.State) (live : Live) (p : Pause) (t : Tenancy) (c : Cycling) (words words' : List ℕ) → SameCycle words words' → ((a : ℕ) → at_address k words' a ≡ at_address k words a)
@@ -134,6 +144,8 @@ leading_words c words words' d stage share same l = record {
   rotated = l.rotated;
   turned = l.turned;
   pass = l.pass;
+  whole = l.whole;
+  armed = l.armed;
 }
 
 pub knowing_words : (k : Config) (live : Live) (holder : ℕ → Holder) (graph : Graph) (marks : Marks) (words words' : List ℕ) (d : ℕ) (registers : List Value) (share : Share) → ((a : ℕ) → at_address k words' a ≡ at_address k words a)
@@ -179,6 +191,38 @@ telling_as means w d d' share share' number same t = subst (λ (z : ℕ × Share
 
 pub leading_as : (c : Cycling) (words : List ℕ) (d d' : ℕ) (stage stage' : Stage) (share share' : Share) → d' ≡ d → stage' ≡ stage → share' ≡ share → Leading c words d stage share → Leading c words d' stage' share'
 leading_as c words d d' stage stage' share share' number stands same l = subst (λ (z : ℕ × Stage × Share). Leading c words z.0 z.1 z.2) (λ i. (sym number i, sym stands i, sym same i)) l
+
+-- and so it does of the collection, whatever is kept of a cycle that goes on beside running domains
+pub leading_past : (c : Cycling) (past' : Past) (words : List ℕ) (d : ℕ) (stage : Stage) (share : Share) → Leading c words d stage share → Leading (with_past c past') words d stage share
+leading_past c past' words d stage share l = record {
+  changed = l.changed;
+  found_blocks = l.found_blocks;
+  found_words = l.found_words;
+  rotated = l.rotated;
+  turned = l.turned;
+  pass = l.pass;
+  whole = l.whole;
+  armed = l.armed;
+}
+
+-- and what it owes the darkening of is nothing of it
+abbrev pub with_weak : Share → Option ℕ → Share
+with_weak share weak = record share { weak = weak }
+
+pub telling_weak : (means : Colours) (w : Shares) (d : ℕ) (share : Share) (weak : Option ℕ) → Telling means w d share → Telling means w d (with_weak share weak)
+telling_weak means w d share weak t = record { owes = t.owes; seen = t.seen; fresh = λ up. ap (λ (z : Share). with_weak z weak) (t.fresh up); forgotten = t.forgotten; colours = t.colours }
+
+pub leading_weak : (c : Cycling) (words : List ℕ) (d : ℕ) (stage : Stage) (share : Share) (weak : Option ℕ) → Leading c words d stage share → Leading c words d stage (with_weak share weak)
+leading_weak c words d stage share weak l = record {
+  changed = l.changed;
+  found_blocks = l.found_blocks;
+  found_words = l.found_words;
+  rotated = l.rotated;
+  turned = l.turned;
+  pass = l.pass;
+  whole = l.whole;
+  armed = l.armed;
+}
 
 -- outside a collection nobody has anything to add
 pub adds_nothing : (live : Live) (c : Cycling) (d : ℕ) (share : Share) → HasNoCycle c.kind → Adds live c d share

@@ -151,7 +151,7 @@ first_made l q e = same_label-true shared_label l (go (same_label shared_label l
 
 -- no collection has begun
 abbrev first_cycle : Cycling
-first_cycle = record { kind = Run; pass = First; paint = record { colours = first_colours; marks = record { marked = λ _. false; scanned = λ _. false }; emptied = λ _. [] }; shares = no_shares; before = λ _. false; left = λ _. 0; rotated = false; counts = record { own = λ _. []; blocks = λ _. false; words = λ _. false } }
+first_cycle = record { kind = Run; pass = First; paint = record { colours = first_colours; marks = record { marked = λ _. false; scanned = λ _. false }; emptied = λ _. [] }; shares = no_shares; before = λ _. false; left = λ _. 0; rotated = false; counts = record { own = λ _. []; blocks = λ _. false; words = λ _. false }; whole = true; armed = false; past = record { old = []; held = λ _. false; overwritten = λ _ _. false; owed = λ _ _. false } }
 
 module _ (k : Config) (limits : IsWithinLimits (sizes_in k)) (words : List ℕ) (opens : IsOpening k words) where
   abbrev s0 : model.State
@@ -162,7 +162,7 @@ module _ (k : Config) (limits : IsWithinLimits (sizes_in k)) (words : List ℕ) 
     node = shared_node;
     there = refl;
     shape = refl;
-    head = record { scanned = false; packs = opens.head; tells = λ is. cc };
+    head = record { scanned = false; packs = opens.head; tells = λ is _. cc };
     blank = λ _. refl;
     label = opens.label;
     values = λ i v _ e. let t = zero_field 16 i v e in record {
@@ -332,7 +332,7 @@ module _ (k : Config) (limits : IsWithinLimits (sizes_in k)) (words : List ℕ) 
       meanings = record { marked_fits = omega arith; unmarked_fits = omega arith; garbage_fits = omega arith; marked_differs = λ e. omega arith; unmarked_differs = λ e. omega arith; garbage_differs = λ e. omega arith };
       colours_are = opens.cycle.colours_are;
       changed_is = opens.rested.unchanged;
-      facts = record { mode = refl; unmarked = λ l. refl; unchanged = refl; unrotated = refl };
+      facts = record { mode = refl; unmarked = λ _ l. refl; beside = λ is. absurd (let e : false ≡ true = is in cc); unchanged = refl; unrotated = refl };
       told = record {
         even = λ j e. (refl, λ d below. record { waits = λ f. refl; gone = λ f. absurd (let g : 0 ≡ 0 + 1 = f in omega arith) });
         odd = λ j e f. absurd (let h : 0 ≡ j * 2 + 1 = e in omega arith);
@@ -384,10 +384,11 @@ module _ (k : Config) (limits : IsWithinLimits (sizes_in k)) (words : List ℕ) 
           set_back = λ h. absurd (run_leads Run h.0);
           sharing = record {
             telling = record { owes = λ _. refl; seen = λ _. refl; fresh = λ e. cc; forgotten = λ e. cc; colours = λ c e. cc };
-            leading = record { changed = λ v e. cc; found_blocks = λ v e. cc; found_words = λ v e. cc; rotated = λ _ e. refl; turned = λ e. cc; pass = λ _. refl };
+            leading = record { changed = λ v e. cc; found_blocks = λ v e. cc; found_words = λ v e. cc; rotated = λ _ e. refl; turned = λ e. cc; pass = λ _. refl; whole = λ _. refl; armed = λ b e. cc };
             knows = inl refl;
             adds = record { blocks = λ e _. refl; words = λ e _. refl; own = λ e _ f. cc };
             looks = record { at_own = λ a e. cc; pruned = λ i a low got. absurd (let h : i < 0 = low in omega arith); cleans = λ w e. cc; emptied_is = λ a p own lives. refl };
+            running = record { knows = inl (refl, refl); owes = λ is. absurd (let e : false ≡ true = is in cc) };
             deciding = deciding_none only Run (λ _. 0) (λ _. false) (λ _. false) x (no_finalisers k.finals) 0 [] tt;
           };
           listed = record {

@@ -9,6 +9,7 @@ use Rattle.heap_model.specs.declared.state.State as model
 use Rattle.heap_model.specs.declared.state.Mode.TheVariants.{Open, Sealed, Answer as Answered}
 use Rattle.heap_model.specs.Graph.{Graph, node_at, has_label, has_no_repeats, words_at}
 use Rattle.heap_model.specs.Fronts.{Shape}
+use Rattle.cycle_laws.specs.Beside.{Past}
 use Rattle.cycle_laws.specs.Counting.{added_up}
 use Rattle.cycle_laws.specs.Cycle as laws
 use Rattle.cycle_laws.specs.Marks.{Marks, fields_of}
@@ -23,12 +24,13 @@ use Rattle.heap_rule.specs.declared.config.Config.{Config}
 use Rattle.heap_rule.specs.declared.phase.Kind.{Kind}
 use Rattle.heap_rule.specs.declared.phase.Kind.TheVariants.{Run, Promote, Reset, Roots, Mark, Rounds, Decide, Queued, Clean, Lasts, Sweep, Answer}
 use Rattle.heap_rule.specs.declared.phase.Stage.{Stage}
-use Rattle.heap_rule.specs.declared.phase.Stage.TheVariants.{In, Leads}
+use Rattle.heap_rule.specs.declared.phase.Stage.TheVariants.{In, Leads, Led, Gone}
 use Rattle.heap_rule.specs.declared.view.FoundHead.{FoundHead}
 use Rattle.heap_rule.specs.declared.view.Scan.{Scan}
 use Rattle.heap_rule.specs.declared.view.Scan.TheVariants.{Idle, Reads, Holds, Keys, Key, Datum}
 use Rattle.heap_rule.specs.declared.view.Share.{Share}
 use Rattle.heap_rule.specs.declared.view.OwnPool.{OwnPool}
+use Rattle.heap_rule.specs.Beside.{Underway}
 use Rattle.heap_rule.specs.Changes.{value_at}
 use Rattle.heap_rule.specs.Layout.{at_address, armed, colours, changed_word, live_blocks, live_words}
 use Rattle.heap_rule.specs.Phases.{Pause, flag}
@@ -56,6 +58,11 @@ pub record Cycling : Type 0 where
   -- whether the colours were rotated since the marking ended
   pub rotated : Bool
   pub counts : Counts
+  -- whether the collection began in this pause: then it marks nothing but what is reachable
+  pub whole : Bool
+  -- whether the armed word is set, which outside a collection says that one goes on beside running domains, and what is kept of that one
+  pub armed : Bool
+  pub past : Past
 
 -- which label's block lies at a place of the pools
 abbrev pub label_in : Option Place → Option Label
@@ -78,18 +85,19 @@ owner_at holder (suc a) = starts_in (holder (a / 4096)) (a % 4096)
 abbrev pub layout_of : Config → Live → (ℕ → Holder) → Layout
 layout_of k live holder = record { live = label_at k live; owner = owner_at holder }
 
--- the collection as its laws have it: it began in this pause
+-- the collection as its laws have it
 abbrev pub cycle_of : Config → Live → (ℕ → Holder) → Cycling → laws.Cycle
-cycle_of k live holder c = record { whole = true; marks = c.paint.marks; layout = layout_of k live holder; shares = c.shares; before = c.before; left = c.left }
+cycle_of k live holder c = record { whole = c.whole; marks = c.paint.marks; layout = layout_of k live holder; shares = c.shares; before = c.before; left = c.left }
 
 -- and from the rotation on, when what was marked is unmarked again
 abbrev pub swept_of : Config → Live → (ℕ → Holder) → Cycling → laws.Cycle
 swept_of k live holder c = record (cycle_of k live holder c) { marks = record { marked = c.before; scanned = c.before } }
 
--- between two collections nothing is marked, and no collector's entry is open
-pub record IsBetween (s : model.State) (c : Cycling) : Type 0 where
+-- While no collection stops the domains no collector's entry is open. Nothing is marked then, or a cycle goes on beside running domains
+pub record IsBetween (k : Config) (s : model.State) (live : Live) (c : Cycling) : Type 0 where
   pub mode : s.mode ≡ Open
-  pub unmarked : (l : Label) → c.paint.marks.marked l ≡ false
+  pub unmarked : c.armed ≡ false → (l : Label) → c.paint.marks.marked l ≡ false
+  pub beside : IsTrue c.armed → Underway k s live c.kind c.past c.paint.marks c.shares
   pub unchanged : c.shares.changed ≡ false
   pub unrotated : c.rotated ≡ false
 
@@ -147,6 +155,7 @@ HoldsBlock live q c = (slot : ℕ) × (slot < blocks_of c) × ((p : Place) × (l
 -- where a collection is answered no garbage is left, all have counted, and each pool of a domain that has arrived holds a block
 pub record Answering (k : Config) (s : model.State) (live : Live) (t : Tenancy) (c : Cycling) (words : List ℕ) : Type 0 where
   pub mode : s.mode ≡ Answered
+  pub whole : IsTrue c.whole
   pub swept : IsSwept k s live t.holder c words
   pub clean : (a : ℕ) → t.garbage a ≡ false
   pub all_counted : (d : ℕ) → d < k.domains → IsTrue (c.counts.words d)
@@ -161,9 +170,9 @@ pub record Leaving (k : Config) (s : model.State) (live : Live) (t : Tenancy) (c
 
 -- what holds in a phase of a kind
 abbrev pub Facts : Kind → Config → model.State → Live → Tenancy → Cycling → List ℕ → Type 0
-Facts Run k s live t c words = IsBetween s c
-Facts Promote k s live t c words = IsBetween s c
-Facts Reset k s live t c words = IsBetween s c
+Facts Run k s live t c words = IsBetween k s live c
+Facts Promote k s live t c words = IsBetween k s live c
+Facts Reset k s live t c words = IsBetween k s live c
 Facts Roots k s live t c words = laws.InPhase (laws.Roots laws.First) k.domains s (cycle_of k live t.holder c) × IsPlain c
 Facts Mark k s live t c words = laws.InPhase (laws.Mark c.pass) k.domains s (cycle_of k live t.holder c) × (c.rotated ≡ false)
 Facts Rounds k s live t c words = laws.InPhase (laws.Rounds c.pass) k.domains s (cycle_of k live t.holder c) × (c.rotated ≡ false)
@@ -219,7 +228,7 @@ AllWhole live holder c = (l : Label) → (c.paint.emptied l ≡ []) ⊎ MissesKe
 
 -- Cycle: the control words tell it, and the facts of the phase hold
 pub record Cycled (k : Config) (s : model.State) (live : Live) (p : Pause) (t : Tenancy) (c : Cycling) (words : List ℕ) : Type 0 where
-  pub armed_is : armed words ≡ 0
+  pub armed_is : armed words ≡ flag c.armed
   pub meanings : IsPermutation c.paint.colours
   pub colours_are : colours words ≡ colours_word c.paint.colours
   pub changed_is : changed_word words ≡ flag c.shares.changed
@@ -233,9 +242,9 @@ abbrev pub seen_by : List ℕ → ℕ → Bool
 seen_by [] b = false
 seen_by (a ∷ rest) b = b == a || seen_by rest b
 
--- who is at no block knows of the colours and the control words alone
+-- who is at no block in a collection knows of the colours and the control words alone, and of blocks what it knows as it runs
 abbrev pub IsIdle : Share → Type 0
-IsIdle share = share ≡ record fresh_share { colours = share.colours; changed = share.changed; blocks = share.blocks; words = share.words; rotated = share.rotated; cut = share.cut }
+IsIdle share = share ≡ record fresh_share { colours = share.colours; changed = share.changed; blocks = share.blocks; words = share.words; rotated = share.rotated; cut = share.cut; whole = share.whole; armed = share.armed; known = share.known; weak = share.weak }
 
 -- Cycle, of one domain: until it arrives its view tells its share, and then it has forgotten it. Domain 0 alone knows of the colours in an odd phase
 pub record Telling (means : Colours) (w : Shares) (d : ℕ) (share : Share) : Type 0 where
@@ -250,6 +259,13 @@ abbrev pub pass_of : Bool → laws.Pass
 pass_of false = laws.First
 pass_of true = laws.Second
 
+-- who may look at the colours and at the armed word: a domain that acts in an even phase, and domain 0 in an odd one
+abbrev pub MayLook : ℕ → Stage → Type 0
+MayLook d (In kind) = Unit {0}
+MayLook d (Leads kind) = d ≡ 0
+MayLook d (Led kind) = d ≡ 0
+MayLook d (Gone kind) = ⊥
+
 -- what a domain has loaded and done at the control words of a collection
 pub record Leading (c : Cycling) (words : List ℕ) (d : ℕ) (stage : Stage) (share : Share) : Type 0 where
   pub changed : (v : ℕ) → share.changed ≡ Some v → (d ≡ 0) × IsLeading stage × (v ≡ flag c.shares.changed)
@@ -258,6 +274,8 @@ pub record Leading (c : Cycling) (words : List ℕ) (d : ℕ) (stage : Stage) (s
   pub rotated : d ≡ 0 → c.kind ≡ Lasts → c.rotated ≡ share.rotated
   pub turned : share.rotated ≡ true → stage ≡ Leads Lasts
   pub pass : d ≡ 0 → c.pass ≡ pass_of share.cut
+  pub whole : d ≡ 0 → c.whole ≡ share.whole
+  pub armed : (b : Bool) → share.armed ≡ Some b → MayLook d stage × (b ≡ c.armed)
 
 -- how far a domain is in a block: its first fields are done
 pub record Scanned (live : Live) (graph : Graph) (marks : Marks) (block done size head : ℕ) : Type 0 where

@@ -8,6 +8,7 @@ pub mod Views
 pub mod Phases
 pub mod Copies
 pub mod Pools
+pub mod Beside
 pub mod Room
 pub mod Cycles
 pub mod Fullness

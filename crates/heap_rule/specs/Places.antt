@@ -1,5 +1,5 @@
 -- What lives at the addresses, and when words stand for it.
-use Rattle.std.specs.Prelude.{[], nat_le, if◌then◌else◌, ◌≡◌, ◌≢◌, ℕ, ◌+◌, ◌*◌, ◌%◌, ◌<◌, ◌≤◌, ◌⊎◌, Bool, false, cond, IsTrue, List, ◌∷◌, length, map, slice_get, slice_index, Option, Some, None}
+use Rattle.std.specs.Prelude.{[], nat_le, if◌then◌else◌, ◌≡◌, ◌≢◌, ℕ, ◌+◌, ◌*◌, ◌%◌, ◌<◌, ◌≤◌, ◌⊎◌, Bool, true, false, cond, ◌&&◌, IsTrue, List, ◌∷◌, length, map, slice_get, slice_index, Option, Some, None}
 use Rattle.size_classes.specs.declared.TheConstants.{SIZES}
 use Rattle.heap_model.specs.declared.label.Label.{Label}
 use Rattle.heap_model.specs.declared.graph.Value.{Value}
@@ -98,18 +98,24 @@ without_keys (i ∷ is) (Raw tag fields) = Raw tag fields
 abbrev pub colour_in : Paint → Label → ℕ
 colour_in paint l = cond (paint.marks.marked l) paint.colours.marked paint.colours.unmarked
 
--- the word is the head of this block. The scanned mark of an unmarked block means nothing
+-- the word is the head of this block. The scanned mark of an unmarked block means nothing, and a marked block may have been scanned, or need no scan, without it
 pub record IsHead (paint : Paint) (p : Place) (word : ℕ) : Type 0 where
   pub scanned : Bool
   pub packs : HeadIs p.forward p.shape (colour_in paint p.label) scanned word
-  pub tells : IsTrue (paint.marks.marked p.label) → scanned ≡ paint.marks.scanned p.label
+  pub tells : IsTrue (paint.marks.marked p.label) → scanned ≡ true → IsTrue (paint.marks.scanned p.label)
 
--- the word of the head of a new block, whose domain knows which colour means unmarked
-pub record IsNewHead (known : Option Colours) (shape : Shape) (word : ℕ) : Type 0 where
+-- the colour of a new block: while a cycle goes on beside running domains it is marked from the start ("Retrofitting Parallelism onto OCaml", section 4.3)
+abbrev pub new_colour : Bool → Colours → ℕ
+new_colour armed colours = cond armed colours.marked colours.unmarked
+
+-- the word of the head of a new block, whose domain knows the colours and whether a cycle goes on. A block of the pools then needs no scan
+pub record IsNewHead (known : Option Colours) (armed : Option Bool) (pooled : Bool) (shape : Shape) (word : ℕ) : Type 0 where
   pub colours : Colours
   pub known_is : known ≡ Some colours
-  pub fits : colours.unmarked < 3
-  pub packs : HeadIs None shape colours.unmarked false word
+  pub beside : Bool
+  pub armed_is : armed ≡ Some beside
+  pub fits : new_colour beside colours < 3
+  pub packs : HeadIs None shape (new_colour beside colours) (pooled && beside) word
 
 -- a head of this shape can be packed, whatever its colour
 abbrev pub IsPackableShape : Shape → Type 0

@@ -13,6 +13,7 @@ use Rattle.heap_rule.specs.declared.view.Finalisers.{Finalisers}
 use Rattle.heap_rule.specs.declared.view.Share.{Share}
 use Rattle.heap_rule.specs.declared.view.View.{View}
 use Rattle.heap_rule.specs.declared.phase.Stage.{Stage}
+use Rattle.heap_rule.specs.Beside.{RunsBeside}
 use Rattle.heap_rule.specs.Limits.{sizes_in}
 use Rattle.heap_rule.specs.Layout.{table_words, base_of, at_address, barrier, plan, want, ended_word, changed_word, listed, cursor}
 use Rattle.heap_rule.specs.Places.{Place, Live, Paint, extent, Stands, Found, Placed, Spread, span, Settled}
@@ -70,6 +71,7 @@ pub record Sharing (k : Config) (all : Account) (words : List ℕ) (d : ℕ) (re
   pub knows : KnowsBlocks k all.live all.tenancy.holder (state_of k all.log).graph all.cycling.paint.marks words d registers stage share
   pub adds : Adds all.live all.cycling d share
   pub looks : Looks all.live all.tenancy.holder all.tenancy.garbage (state_of k all.log).graph all.cycling.paint.marks all.cycling.paint.emptied d items stage share
+  pub running : RunsBeside k all.live all.tenancy.holder all.cycling.armed all.cycling.past all.cycling.paint.marks.marked words d stage share
   pub deciding : Deciding all.live all.cycling.kind all.cycling.left all.cycling.shares.arrived all.cycling.paint.marks.marked d fs share.kept share.waiting
 
 -- all that the rule says of one domain

@@ -1,5 +1,5 @@
 -- What the contracts of step calls have in common.
-use Rattle.std.specs.Prelude.{◌≡◌, ℕ, ◌+◌, ◌<◌, ◌≤◌, false, List, []}
+use Rattle.std.specs.Prelude.{◌≡◌, ℕ, ◌+◌, ◌<◌, ◌≤◌, false, List, [], None}
 use Rattle.heap_model.specs.declared.entry.Entry.{Entry}
 use Rattle.heap_model.specs.declared.reply.Applied.{Applied}
 use Rattle.heap_model.specs.Domains.{domain_at}
@@ -23,15 +23,17 @@ use Rattle.heap_rule.specs.Token.{Holds}
 abbrev pub IsInHeap : Config → ℕ → Type 0
 IsInHeap k a = (1 ≤ a) × (a ≤ heap_words k)
 
--- the domain runs, and its trace hasn't ended
+-- the domain runs, its trace hasn't ended, and it owes no darkening
 pub record GoesOn (k : Config) (x : DomainView) : Type 0 where
   pub goes_on : (domain_at (state_of k x.seen.front) x.own.number).ended ≡ false
   pub runs : x.seen.stage ≡ In Run
+  pub paid : x.seen.share.weak ≡ None
 
 -- and no finaliser waits in its queue
 pub record Acts (k : Config) (x : DomainView) : Type 0 where
   pub goes_on : (domain_at (state_of k x.seen.front) x.own.number).ended ≡ false
   pub runs : x.seen.stage ≡ In Run
+  pub paid : x.seen.share.weak ≡ None
   pub unqueued : x.own.finalisers.queue.items ≡ []
 
 -- register r holds this address

@@ -1,6 +1,6 @@
 -- The views of seats: what each knows of the history and of the domains that it stands for.
 use Rattle.heap_model.specs.Domains.{class_count}
-use Rattle.std.specs.Prelude.{◌≡◌, ◌≢◌, ℕ, zero, suc, ◌+◌, ◌*◌, ◌/◌, ◌<◌, List, [], ◌∷◌, ◌++◌, replicate, false, None}
+use Rattle.std.specs.Prelude.{◌≡◌, ◌≢◌, ℕ, zero, suc, ◌+◌, ◌*◌, ◌/◌, ◌<◌, List, [], ◌∷◌, ◌++◌, replicate, true, false, None}
 use mathlib.Core.Option.{some}
 use lib.ListN.{get_elem?}
 use Rattle.atomic_table.specs.Table.{Me, Step}
@@ -60,11 +60,11 @@ pending_room k = k.domains * k.minor_words / 4
 
 -- what a domain knows of a phase in which it has done nothing
 abbrev pub fresh_share : Share
-fresh_share = record { colours = None; changed = None; blocks = None; words = None; rotated = false; owes = false; places_seen = []; found_head = None; scan = Idle; walk = record { pool = 0; slot = 0 }; own_pool = None; roots = []; marked = []; counted = []; counted_to = record { pool = 0; slot = 0 }; counted_words = 0; added_blocks = false; added_words = false; held = 0; vacant = 0; cleaning = None; pruned = 0; kept = 0; waiting = []; cut = false }
+fresh_share = record { colours = None; armed = None; known = []; weak = None; changed = None; blocks = None; words = None; rotated = false; owes = false; places_seen = []; found_head = None; scan = Idle; walk = record { pool = 0; slot = 0 }; own_pool = None; roots = []; marked = []; counted = []; counted_to = record { pool = 0; slot = 0 }; counted_words = 0; added_blocks = false; added_words = false; held = 0; vacant = 0; cleaning = None; pruned = 0; kept = 0; waiting = []; cut = false; whole = true }
 
 -- and of the next, of which it has forgotten the last
 abbrev pub voided : Share → Share
-voided share = record fresh_share { cut = share.cut }
+voided share = record fresh_share { cut = share.cut; whole = share.whole }
 
 -- the lists of a domain that has registered nothing
 abbrev pub no_finalisers : ℕ → Finalisers

@@ -17,7 +17,7 @@ pub enum Kind {
     Rounds,
     /// Registrations of finalisers whose values are unmarked are queued.
     Decide,
-    /// What queues refer to is marked.
+    /// The blocks that queues keep alive are marked.
     Queued,
     /// Unmarked keys of marked ephemerons are emptied, and their data with them.
     Clean,

@@ -256,10 +256,65 @@ pub struct Cleaning {
     pub next: NextKey,
 }
 
-/// What a domain knows of the present phase. It forgets all of it but the cut when it arrives.
+/// What a domain that runs knows of a block of the pools, while a cycle goes on beside running
+/// domains. It stays true until the domain arrives, whatever the others do.
+pub enum Known {
+    /// Some domain has this pool, for blocks of this class.
+    Pool {
+        pool: u32,
+        class: u32,
+    },
+    /// The block at this address is marked.
+    Marked {
+        address: u32,
+    },
+    /// This head was found there, and it is there still, or the block was marked since.
+    Found {
+        address: u32,
+        word: u64,
+    },
+    /// The block is marked, and this head of it was found.
+    Shape {
+        address: u32,
+        head: u64,
+    },
+    /// What the field of the block referred to when the roots had been darkened is marked, or is the
+    /// block at this address.
+    Refers {
+        block: u32,
+        field: u32,
+        address: u32,
+    },
+    /// What the field of the block referred to then is marked.
+    Done {
+        block: u32,
+        field: u32,
+    },
+    /// It has darkened the block at this address.
+    Darkened {
+        address: u32,
+    },
+    /// It has found the block at this address grey, and scanned it.
+    Scanned {
+        address: u32,
+    },
+    /// It has looked at this address, and found no grey block there.
+    Vain {
+        address: u32,
+    },
+}
+
+/// What a domain knows of the present phase. It forgets all of it but the cut, and whether the cycle
+/// is whole, when it arrives.
 pub struct Share {
     /// The meanings of the colours, once it has loaded them.
     pub colours: Option<Colours>,
+    /// Whether a cycle goes on beside running domains, once it has loaded or stored the armed word.
+    pub armed: Option<bool>,
+    /// What it knows of blocks while it runs beside a cycle.
+    pub known: LinkedList<Known>,
+    /// The register whose block a weak read has brought, and which is still to be darkened.
+    pub weak: Option<u8>,
     /// The changed word, once domain 0 has loaded it in an odd phase.
     pub changed: Option<u64>,
     /// The word of the live blocks, once it has loaded or written it.
@@ -303,6 +358,8 @@ pub struct Share {
     pub waiting: LinkedList<u32>,
     /// Whether domain 0 has made the cut of this collection.
     pub cut: bool,
+    /// Whether the collection began in this pause.
+    pub whole: bool,
 }
 
 /// What contracts alone know of a domain.

@@ -3,3 +3,5 @@ pub mod Queues
 pub mod Fields
 pub mod Visits
 pub mod Notes
+pub mod Addresses
+pub mod Going

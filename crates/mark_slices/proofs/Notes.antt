@@ -1,5 +1,5 @@
 -- Blocks that are noted.
-use Rattle.std.proofs.Common.{◌≡◌, ℕ, zero, suc, ◌*◌, ◌≤◌, ◌==◌, eq-eqb, IsTrue, List, [], ◌∷◌, ◌++◌, slice_get, Some, ⊎_elim, refl, subst, length}
+use Rattle.std.proofs.Common.{◌≡◌, ℕ, zero, suc, ◌*◌, ◌≤◌, ◌==◌, eq-eqb, IsTrue, List, [], ◌∷◌, ◌++◌, slice_get, Some, ⊎_elim, arith, refl, sym, subst, length}
 use Rattle.heap_model.proofs.Reach.ReachLemmas.{or_left, or_right}
 use Rattle.heap_rule.specs.declared.config.Config.{Config}
 use Rattle.heap_rule.specs.Cycles.{seen_by}
@@ -14,6 +14,11 @@ noted_push k marked items a low high n = λ i b got. ⊎_elim
     (λ (old : slice_get items i ≡ Some b). noted_more k marked items a n i b old)
     (λ (e : (i ≡ length items) × (a ≡ b)). subst (λ (c : ℕ). (1 ≤ c) × (c ≤ k.pools * 4096) × IsTrue (seen_by (a ∷ marked) c)) e.1 (low, high, or_left (a == a) (seen_by marked a) (eq-eqb a a refl)))
     (got_end items a b i got)
+
+-- where there is no room nothing is noted
+pub noted_pushed : (k : Config) (marked items after : List ℕ) (a room : ℕ) → 1 ≤ a → a ≤ k.pools * 4096 → (1 ≤ room → after ≡ items ++ a ∷ []) → (room ≡ 0 → after ≡ items) → Noted k marked items → Noted k (a ∷ marked) after
+noted_pushed k marked items after a zero low high some full n = subst (Noted k (a ∷ marked)) (sym (full refl)) (noted_more k marked items a n)
+noted_pushed k marked items after a (suc room) low high some full n = subst (Noted k (a ∷ marked)) (sym (some (omega arith))) (noted_push k marked items a low high n)
 
 -- the last of some blocks, and those before it
 pub noted_last : (k : Config) (marked items : List ℕ) (a : ℕ) → Noted k marked (items ++ a ∷ []) → (1 ≤ a) × (a ≤ k.pools * 4096) × IsTrue (seen_by marked a)

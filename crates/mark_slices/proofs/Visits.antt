@@ -15,9 +15,9 @@ use Rattle.heap_rule.specs.declared.view.Scan.TheVariants.{Idle, Reads}
 use Rattle.heap_rule.specs.Places.{IsBuilt, head_of}
 use Rattle.steps_cycle.specs.Looks.{with_share}
 use Rattle.steps_cycle.specs.Marking.{Anywhere, GreyTold, IsGrey, IsScanned, IsUnmarked, LiesAt, MarkTold, Next, ScannedMay, ScannedTold, Site, begun, behind, fields_in, places_seen_on, walk_on}
-use Rattle.mark_slices.specs.Heads.{IsScanOf}
+use Rattle.barriers.specs.Heads.{IsScanOf}
 use Rattle.mark_slices.specs.Shares.{Begun, Marks, Noted, ScannedAt, Walked, fields_to, scanning}
-use Rattle.mark_slices.proofs.Exchanges.{not_both, one_head, one_meaning}
+use Rattle.barriers.proofs.Exchanges.{not_both, one_head, one_meaning}
 
 abbrev fields_of : Head → ℕ
 fields_of (Plain size tag colour scanned) = size
@@ -48,7 +48,7 @@ not_free (RawShape size tag) colour scanned e = cc
 not_free (EpheShape keys) colour scanned e = cc
 
 -- a grey block is neither scanned nor unmarked, nor is its head Free
-not_passed : (colours : Colours) (word : ℕ) → IsPermutation colours → IsGrey colours word → (word ≡ 0) ⊎ (IsUnmarked colours word ⊎ IsScanned colours word) → ⊥
+pub not_passed : (colours : Colours) (word : ℕ) → IsPermutation colours → IsGrey colours word → (word ≡ 0) ⊎ (IsUnmarked colours word ⊎ IsScanned colours word) → ⊥
 not_passed colours word p g o =
     let h = g.block.head in
     let s = g.block.shape in

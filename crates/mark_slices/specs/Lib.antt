@@ -1,2 +1,4 @@
-pub mod Heads
+pub mod Decks
 pub mod Shares
+pub mod Slices
+pub mod Ends

@@ -1,10 +1,9 @@
 -- What becomes of a domain's view while it marks blocks ("Retrofitting Parallelism onto OCaml", section 3.2).
-use Rattle.std.specs.Prelude.{◌≡◌, ◌≢◌, ℕ, ◌+◌, ◌*◌, ◌<◌, ◌≤◌, ◌⊎◌, ◌==◌, Bool, true, false, IsTrue, cond, if◌then◌else◌, nat_le, Some, List, length, slice_get}
+use Rattle.std.specs.Prelude.{◌≡◌, ◌≢◌, ℕ, ◌+◌, ◌*◌, ◌<◌, ◌≤◌, ◌⊎◌, ◌==◌, Bool, true, false, IsTrue, cond, if◌then◌else◌, nat_le, Some, List, slice_get}
 use Rattle.std.specs.List.{list_any}
 use Rattle.heap_model.specs.Domains.{class_count}
 use Rattle.heap_words.specs.declared.colours.Colours.{Colours}
 use Rattle.heap_words.specs.declared.value.Value.TheVariants.{Ref}
-use Rattle.remembered_set.specs.Bounded.{Bounded}
 use Rattle.heap_rule.specs.declared.config.Config.{Config}
 use Rattle.heap_rule.specs.declared.phase.Kind.{Kind}
 use Rattle.heap_rule.specs.declared.phase.Kind.TheVariants.{Mark, Queued, Roots}
@@ -22,7 +21,7 @@ use Rattle.heap_rule.specs.Finalisers.{held_at}
 use Rattle.heap_rule.specs.Pools.{blocks_of, owned, owner_word}
 use Rattle.steps_cycle.specs.Looks.{with_share}
 use Rattle.steps_cycle.specs.Marking.{IsDarkening, Reason, Site, Warrants, moved_on, owes_on, places_seen_on, walk_on}
-use Rattle.mark_slices.specs.Heads.{IsScanOf}
+use Rattle.barriers.specs.Heads.{IsScanOf}
 
 -- the domain is in a phase in which blocks are darkened, knows the colours, and has a reason to mark the block
 pub record Darkens (colours : Colours) (at : ℕ) (reason : Reason) (x : DomainView) : Type 0 where
@@ -112,10 +111,6 @@ ScannedAt site at won x y = y ≡ with_share x (record (scanning x.seen.share y.
 -- the addresses of blocks of the pools, each of which is known to be marked
 abbrev pub Noted : Config → List ℕ → List ℕ → Type 0
 Noted k marked items = (i a : ℕ) → slice_get items i ≡ Some a → (1 ≤ a) × (a ≤ k.pools * 4096) × IsTrue (seen_by marked a)
-
--- a list takes as many items in all as another
-abbrev pub IsAsLong : Bounded ℕ → Bounded ℕ → Type 0
-IsAsLong l m = m.room + length m.items ≡ l.room + length l.items
 
 -- a domain in a phase in which blocks are marked knows the colours, and is at no block
 pub record Marks (colours : Colours) (x : DomainView) : Type 0 where

@@ -6,7 +6,7 @@ ghost use Rattle.heap_rule.specs.Token.{IsIn};
 ghost use Rattle.steps_cycle.specs.Marking.{Reason};
 ghost use Rattle.mark_slices.specs.Shares.{Darkens, darkened};
 
-use crate::heads::darkened_head;
+use barriers::darkened_head;
 use heap_rule::{Domain, Heap};
 use heap_words::Colours;
 use steps_cycle::{darken_exchange, target_load};

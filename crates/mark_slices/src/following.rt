@@ -3,11 +3,12 @@ ghost use Rattle.std.specs.Prelude.{◌≡◌, ◌*◌, ◌≤◌, IsTrue, []};
 ghost use Rattle.heap_words.specs.ColourWords.{IsPermutation};
 ghost use Rattle.heap_rule.specs.Cycles.{seen_by};
 ghost use Rattle.heap_rule.specs.Token.{IsIn};
-ghost use Rattle.mark_slices.specs.Shares.{IsAsLong, Marks, Noted, Walked};
+ghost use Rattle.mark_slices.specs.Decks.{NotesOn};
+ghost use Rattle.mark_slices.specs.Shares.{Marks, Noted, Walked};
 
-use crate::heads::scan_of;
 use crate::hints::Hints;
 use crate::scanning::scan_block;
+use barriers::scan_of;
 use heap_rule::{Domain, Heap};
 use heap_words::Colours;
 use steps_cycle::grey_load;
@@ -25,7 +26,7 @@ fn follow(heap: &Heap, dom: &mut Domain, at: u32, colours: Colours, hints: &mut 
     ensures walked { Walked dom.old.view.seen.share.walk result dom.old.view dom.new.view }
     ensures own { dom.new.view.seen.share.own_pool ≡ dom.old.view.seen.share.own_pool }
     ensures noted { Noted heap.now.config dom.new.view.seen.share.marked hints.new.items }
-    ensures long { IsAsLong hints.old hints.new }
+    ensures notes { NotesOn hints.old hints.new }
 {
     let word = grey_load(heap, dom, at);
     let Some(block) = scan_of(word, colours) else {
@@ -49,11 +50,11 @@ pub(crate) fn follow_all(heap: &Heap, dom: &mut Domain, colours: Colours, hints:
     ensures walked { Walked dom.old.view.seen.share.walk result dom.old.view dom.new.view }
     ensures own { dom.new.view.seen.share.own_pool ≡ dom.old.view.seen.share.own_pool }
     ensures none { hints.new.items ≡ [] }
-    ensures long { IsAsLong hints.old hints.new }
+    ensures notes { NotesOn hints.old hints.new }
 {
     let mut darkened = false;
     for _ in 0..heap.config().pools * POOL_BLOCKS {
-        let Some(at) = hints.pop() else {
+        let Some(at) = hints.own() else {
             return darkened;
         };
         darkened |= follow(heap, dom, at, colours, hints);

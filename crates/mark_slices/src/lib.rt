@@ -6,16 +6,19 @@
 
 mod darkening;
 mod following;
-mod heads;
+mod greys;
 mod hints;
+mod looking;
 mod places;
 mod queue;
 mod roots;
 mod rounds;
 mod scanning;
+mod slices;
 
 pub use darkening::darken;
 pub use hints::{HINTS_ROOM, Hints};
 pub use queue::mark_queue;
 pub use roots::start_roots;
 pub use rounds::mark_round;
+pub use slices::{Scanned, Why, slice};

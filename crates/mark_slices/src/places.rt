@@ -5,12 +5,13 @@ ghost use Rattle.heap_words.specs.ColourWords.{IsPermutation};
 ghost use Rattle.heap_rule.specs.Pools.{blocks_of};
 ghost use Rattle.heap_rule.specs.Token.{IsIn};
 ghost use Rattle.steps_cycle.specs.Marking.{Next, Site, behind};
-ghost use Rattle.mark_slices.specs.Shares.{IsAsLong, Marks, Noted, Walked};
+ghost use Rattle.mark_slices.specs.Decks.{NotesOn};
+ghost use Rattle.mark_slices.specs.Shares.{Marks, Noted, Walked};
 
 use crate::following::follow_all;
-use crate::heads::scan_of;
 use crate::hints::Hints;
 use crate::scanning::scan_block;
+use barriers::scan_of;
 use heap_rule::{Domain, Heap};
 use heap_words::Colours;
 use steps_cycle::mark_load;
@@ -42,7 +43,7 @@ fn mark_place(
     ensures walked { Walked (behind pool class slot) result dom.old.view dom.new.view }
     ensures own { dom.new.view.seen.share.own_pool ≡ dom.old.view.seen.share.own_pool }
     ensures noted { Noted heap.now.config dom.new.view.seen.share.marked hints.new.items }
-    ensures long { IsAsLong hints.old hints.new }
+    ensures notes { NotesOn hints.old hints.new }
 {
     let _limits = heap.config();
     let at = place_address(pool, class, slot);
@@ -73,7 +74,7 @@ pub(crate) fn mark_pool(
     ensures here { IsIn dom.new heap.now }
     ensures walked { Walked (record { pool = pool + 1; slot = 0 }) result dom.old.view dom.new.view }
     ensures none { hints.new.items ≡ [] }
-    ensures long { IsAsLong hints.old hints.new }
+    ensures notes { NotesOn hints.old hints.new }
 {
     let mut darkened = false;
     for slot in 0..class_blocks(class) {

@@ -1,5 +1,5 @@
 //! What the queue of a domain keeps alive is marked.
-ghost use Rattle.std.specs.Prelude.{◌≡◌, ◌<◌, Some, length};
+ghost use Rattle.std.specs.Prelude.{◌≡◌, ◌<◌, ◌≤◌, Some, IfSome, length};
 ghost use Rattle.heap_words.specs.ColourWords.{IsPermutation};
 ghost use Rattle.heap_rule.specs.Token.{IsIn};
 ghost use Rattle.steps_cycle.specs.Looks.{HeldInside};
@@ -11,8 +11,14 @@ use heap_rule::{Domain, Heap, Waiting};
 use heap_words::Colours;
 use steps_cycle::colours_now;
 
-// Marks the block that a place of the queue keeps alive, if it keeps one.
-fn mark_queued(heap: &Heap, dom: &mut Domain, place: usize, colours: Colours)
+// Marks the block that a place of the queue keeps alive, if it keeps one. Answers its address where this
+// domain has marked it.
+pub(crate) fn mark_queued(
+    heap: &Heap,
+    dom: &mut Domain,
+    place: usize,
+    colours: Colours,
+) -> Option<u32>
     ghost reason: { Reason }
     requires here { IsIn dom.old heap.now }
     requires phase { MarksRoots dom.old.view.seen.stage }
@@ -23,10 +29,15 @@ fn mark_queued(heap: &Heap, dom: &mut Domain, place: usize, colours: Colours)
     requires names { reason ≡ OfQueue place }
     ensures here { IsIn dom.new heap.now }
     ensures rooted { QueueRooted place dom.old.view dom.new.view }
+    ensures low { IfSome result (λ address. 1 ≤ address) }
 {
-    if let Waiting::Fin { address, .. } = dom.queue_at(place) {
-        darken(heap, dom, address, colours);
+    let Waiting::Fin { address, .. } = dom.queue_at(place) else {
+        return None;
+    };
+    if !darken(heap, dom, address, colours) {
+        return None;
     }
+    Some(address)
 }
 
 /// Each block that the domain's queue of finalisers keeps alive is marked, in a phase in which roots

@@ -5,16 +5,20 @@ ghost use Rattle.heap_rule.specs.declared.phase.Kind.TheVariants.{Roots};
 ghost use Rattle.heap_rule.specs.declared.phase.Stage.TheVariants.{In};
 ghost use Rattle.heap_rule.specs.Token.{IsIn};
 ghost use Rattle.steps_cycle.specs.Marking.{Reason, Register};
-ghost use Rattle.mark_slices.specs.Shares.{Rooted, AllRooted};
+ghost use Rattle.steps_cycle.specs.Looks.{HeldInside};
+ghost use Rattle.mark_slices.specs.Decks.{NotesOn};
+ghost use Rattle.mark_slices.specs.Shares.{Rooted, AllRooted, AllQueueRooted};
 
 use crate::darkening::darken;
-use crate::queue::mark_queue;
+use crate::hints::{Hints, note};
+use crate::queue::mark_queued;
 use heap_rule::{Domain, Heap};
 use heap_words::{Colours, Value};
 use steps_cycle::colours_now;
 
-// Marks the block that a register refers to, if it refers to one.
-fn mark_root(heap: &Heap, dom: &mut Domain, register: u8, colours: Colours)
+// Marks the block that a register refers to, if it refers to one, and notes it where this domain has
+// marked it.
+fn mark_root(heap: &Heap, dom: &mut Domain, register: u8, colours: Colours, hints: &mut Hints)
     ghost reason: { Reason }
     requires here { IsIn dom.old heap.now }
     requires stage { dom.old.view.seen.stage ≡ In Roots }
@@ -24,9 +28,32 @@ fn mark_root(heap: &Heap, dom: &mut Domain, register: u8, colours: Colours)
     requires names { reason ≡ Register register }
     ensures here { IsIn dom.new heap.now }
     ensures rooted { Rooted register dom.old.view dom.new.view }
+    ensures notes { NotesOn hints.old hints.new }
 {
+    let limits = heap.config();
     if let Value::Ref(at) = dom.register(register) {
-        darken(heap, dom, at, colours);
+        if darken(heap, dom, at, colours) {
+            note(hints, at, &limits);
+        }
+    }
+}
+
+// The same for each block that the queue keeps alive.
+fn mark_waiting(heap: &Heap, dom: &mut Domain, colours: Colours, hints: &mut Hints)
+    requires here { IsIn dom.old heap.now }
+    requires stage { dom.old.view.seen.stage ≡ In Roots }
+    requires known { dom.old.view.seen.share.colours ≡ Some colours }
+    requires meanings { IsPermutation colours }
+    requires inside { HeldInside heap.now.config dom.old.view.own.finalisers }
+    ensures here { IsIn dom.new heap.now }
+    ensures queued { AllQueueRooted dom.old.view dom.new.view }
+    ensures notes { NotesOn hints.old hints.new }
+{
+    let limits = heap.config();
+    for place in 0..dom.queued() {
+        if let Some(at) = mark_queued(heap, dom, place, colours) {
+            note(hints, at, &limits);
+        }
     }
 }
 
@@ -35,17 +62,20 @@ fn mark_root(heap: &Heap, dom: &mut Domain, register: u8, colours: Colours)
 /// the domain is done with all these registers and places of the queue, as is asked of it where it
 /// arrives. What it knows of the colours, of the queue and of blocks is all that has changed.
 ///
+/// The blocks of the pools that it has marked itself are noted in `hints`, as far as there is room.
+///
 /// There are no other roots: a program of commands has no stack ("Retrofitting Parallelism
 /// onto OCaml", section 3.2).
-pub fn start_roots(heap: &Heap, dom: &mut Domain)
+pub fn start_roots(heap: &Heap, dom: &mut Domain, hints: &mut Hints)
     requires here { IsIn dom.old heap.now }
     requires stage { dom.old.view.seen.stage ≡ In Roots }
     ensures here { IsIn dom.new heap.now }
     ensures rooted { AllRooted dom.old.view dom.new.view }
+    ensures notes { NotesOn hints.old hints.new }
 {
     let colours = colours_now(heap, dom);
     for register in 0..16 {
-        mark_root(heap, dom, register, colours);
+        mark_root(heap, dom, register, colours, hints);
     }
-    mark_queue(heap, dom);
+    mark_waiting(heap, dom, colours, hints);
 }

@@ -7,7 +7,8 @@ ghost use Rattle.heap_rule.specs.declared.phase.Stage.TheVariants.{In};
 ghost use Rattle.heap_rule.specs.declared.view.Scan.TheVariants.{Idle};
 ghost use Rattle.heap_rule.specs.Pools.{owned, owner_word};
 ghost use Rattle.heap_rule.specs.Token.{IsIn};
-ghost use Rattle.mark_slices.specs.Shares.{IsAsLong, IsNotOf, IsOfClass, Marks, Walked, AllWalked};
+ghost use Rattle.mark_slices.specs.Decks.{NotesOn};
+ghost use Rattle.mark_slices.specs.Shares.{IsNotOf, IsOfClass, Marks, Walked, AllWalked};
 
 use crate::hints::Hints;
 use crate::places::mark_pool;
@@ -43,7 +44,7 @@ fn visit_pool(heap: &Heap, dom: &mut Domain, pool: u32, colours: Colours, hints:
     ensures here { IsIn dom.new heap.now }
     ensures walked { Walked (record { pool = pool + 1; slot = 0 }) result dom.old.view dom.new.view }
     ensures none { hints.new.items ≡ [] }
-    ensures long { IsAsLong hints.old hints.new }
+    ensures notes { NotesOn hints.old hints.new }
 {
     let pools = heap.config().pools;
     let word = own_load(heap, dom, OWNERS + pools + pool, pool);
@@ -60,8 +61,9 @@ fn visit_pool(heap: &Heap, dom: &mut Domain, pool: u32, colours: Colours, hints:
 /// place. Afterwards it has been at each own place and owes no store of the changed word, as is asked of
 /// it where it arrives. What it knows of the colours and of blocks is all that has changed.
 ///
-/// Behind each place the blocks that it has marked itself are scanned at once, wherever they lie, as far
-/// as `hints` has room. What is let go for want of room a later walk finds.
+/// What is noted is let go first, since the walk finds it. Behind each place the blocks that the domain
+/// has marked itself are scanned at once, wherever they lie, as far as `hints` has room. What is let go
+/// for want of room a later walk finds.
 ///
 /// Domains mark in parallel, and go on until a whole phase changes nothing ("Retrofitting Parallelism
 /// onto OCaml", section 3.2).
@@ -71,11 +73,12 @@ pub fn mark_round(heap: &Heap, dom: &mut Domain, hints: &mut Hints)
     requires begins { dom.old.view.seen.share.walk ≡ record { pool = 0; slot = 0 } }
     requires idle { dom.old.view.seen.share.scan ≡ Idle }
     requires told { dom.old.view.seen.share.owes ≡ false }
-    requires none { hints.old.items ≡ [] }
     ensures here { IsIn dom.new heap.now }
     ensures walked { AllWalked heap.now.config dom.old.view dom.new.view }
-    ensures hints { hints.new ≡ hints.old }
+    ensures none { hints.new.items ≡ [] }
+    ensures notes { NotesOn hints.old hints.new }
 {
+    hints.clear();
     let pools = heap.config().pools;
     let colours = colours_now(heap, dom);
     let mut darkened = false;

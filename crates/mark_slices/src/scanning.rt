@@ -9,11 +9,12 @@ ghost use Rattle.heap_rule.specs.Standing.{IsInHeap};
 ghost use Rattle.heap_rule.specs.Token.{IsIn};
 ghost use Rattle.steps_cycle.specs.Looks.{with_share};
 ghost use Rattle.steps_cycle.specs.Marking.{LiesAt, ScanMay, Site};
-ghost use Rattle.mark_slices.specs.Shares.{Begun, IsAsLong, Noted, ScannedAt, field_on, fields_to, scanning};
+ghost use Rattle.mark_slices.specs.Decks.{NotesOn};
+ghost use Rattle.mark_slices.specs.Shares.{Begun, Noted, ScannedAt, field_on, fields_to, scanning};
 
 use crate::darkening::darken;
-use crate::heads::ToScan;
 use crate::hints::{Hints, note};
+use barriers::ToScan;
 use heap_rule::{Domain, Heap, Reading, read_as};
 use heap_words::{Colours, Value};
 use steps_cycle::{scan_load, scanned_store};
@@ -30,7 +31,7 @@ fn scan_field(heap: &Heap, dom: &mut Domain, at: u32, colours: Colours, hints: &
     ensures here { IsIn dom.new heap.now }
     ensures scanned { dom.new.view ≡ with_share dom.old.view (scanning dom.old.view.seen.share dom.new.view.seen.share (field_on dom.old.view.seen.share.scan) result) }
     ensures noted { Noted heap.now.config dom.new.view.seen.share.marked hints.new.items }
-    ensures long { IsAsLong hints.old hints.new }
+    ensures notes { NotesOn hints.old hints.new }
 {
     let limits = heap.config();
     let word = scan_load(heap, dom, at);
@@ -64,7 +65,7 @@ fn scan_fields(
     ensures here { IsIn dom.new heap.now }
     ensures scanned { dom.new.view ≡ with_share dom.old.view (scanning dom.old.view.seen.share dom.new.view.seen.share (fields_to size dom.old.view.seen.share.scan) result) }
     ensures noted { Noted heap.now.config dom.new.view.seen.share.marked hints.new.items }
-    ensures long { IsAsLong hints.old hints.new }
+    ensures notes { NotesOn hints.old hints.new }
 {
     let _limits = heap.config();
     let mut darkened = false;
@@ -96,7 +97,7 @@ pub(crate) fn scan_block(
     ensures here { IsIn dom.new heap.now }
     ensures scanned { ScannedAt site at result dom.old.view dom.new.view }
     ensures noted { Noted heap.now.config dom.new.view.seen.share.marked hints.new.items }
-    ensures long { IsAsLong hints.old hints.new }
+    ensures notes { NotesOn hints.old hints.new }
 {
     let _limits = heap.config();
     let darkened = scan_fields(heap, dom, at, block.fields, colours, hints);

@@ -1,15 +1,25 @@
 -- What an allocation finds and leaves.
-use Rattle.std.specs.Prelude.{◌≡◌, ℕ, ◌+◌, ◌<◌, ◌≤◌, Some}
+use Rattle.std.specs.Prelude.{◌≡◌, ℕ, ◌+◌, ◌<◌, ◌≤◌, Bool, Some}
 use Rattle.heap_model.specs.Domains.{reserve}
 use Rattle.heap_rule.specs.declared.config.Config.{Config}
 use Rattle.heap_rule.specs.declared.view.DomainView.{DomainView}
 use Rattle.heap_rule.specs.declared.view.Hunt.TheVariants.{Rests}
 use Rattle.heap_rule.specs.Limits.{sizes_in}
 use Rattle.heap_rule.specs.Token.{Token, SharedHeap}
-use Rattle.heap_rule.specs.Places.{class_words}
+use Rattle.heap_words.specs.declared.colours.Colours.{Colours}
+use Rattle.heap_rule.specs.Places.{class_words, new_colour}
 use Rattle.steps_pools.specs.Takes.{found_free}
 use Rattle.minor_area.specs.declared.need.Need.{Need}
 use Rattle.minor_area.specs.declared.need.Need.TheVariants.{AreaFull, Closed}
+
+-- the colour is that of a new block, whose domain knows the colours and whether a cycle goes on beside running domains
+pub record IsNewColour (x : DomainView) (colour : ℕ) : Type 0 where
+  pub colours : Colours
+  pub known_is : x.seen.share.colours ≡ Some colours
+  pub beside : Bool
+  pub armed_is : x.seen.share.armed ≡ Some beside
+  pub colour_is : colour ≡ new_colour beside colours
+  pub fits : colour < 3
 
 -- besides its registers, the token has used so many words more and given out one label more
 pub record Grows (old new : Token) (words : ℕ) : Type 0 where

@@ -1,8 +1,9 @@
 //! The allocation of a young block.
-ghost use Rattle.std.specs.Prelude.{◌≡◌, ◌+◌, ◌^◌, ◌<◌, ◌≤◌, slice_set, Some, IfOk, IfErr, OnOk, OnErr};
+ghost use Rattle.std.specs.Prelude.{◌≡◌, ◌+◌, ◌^◌, ◌<◌, ◌≤◌, Bool, slice_set, IfOk, IfErr, OnOk, OnErr};
 ghost use Rattle.heap_model.specs.declared.command.Command.TheVariants.{Alloc};
 ghost use Rattle.heap_model.specs.declared.entry.Entry.{Entry};
 ghost use Rattle.heap_model.specs.declared.reply.Reply.TheVariants.{Block};
+ghost use Rattle.heap_words.specs.declared.colours.Colours.{Colours};
 ghost use Rattle.heap_words.specs.declared.value.Value.TheVariants.{Ref};
 ghost use Rattle.heap_rule.specs.Places.{class_words};
 ghost use Rattle.steps_making.specs.Inits.{IsOpen};
@@ -12,28 +13,40 @@ ghost use Rattle.heap_rule.specs.declared.view.Hunt.TheVariants.{Rests};
 ghost use Rattle.heap_rule.specs.Token.{next_address};
 ghost use Rattle.heap_rule.specs.Running.{Runs, Did, own_entry};
 ghost use Rattle.heap_rule.specs.Token.{Holds, IsIn};
-ghost use Rattle.minor_area.specs.Area.{Grows, HasRoom, FoundFree, Needs};
+ghost use Rattle.steps_cycle.specs.Arming.{knowing_armed};
+ghost use Rattle.steps_cycle.specs.Looks.{knowing_colours};
+ghost use Rattle.minor_area.specs.Area.{IsNewColour, Grows, HasRoom, FoundFree, Needs};
 
 use crate::Need;
 use heap_model::label::Label;
 use heap_rule::{Change, Domain, Heap, Item, Part};
-use heap_words::{Colours, Head, Value, pack_head, pack_label, pack_value};
+use heap_words::{Head, Value, pack_head, pack_label, pack_value};
 use size_classes::reserve;
-use steps_cycle::colours_now;
+use steps_cycle::{armed_now, colours_now};
 use steps_making::{init_store, words_of_class};
 use steps_pools::{draw_limit, free_load, listed_load};
 
+// The colour of a new block of a minor area. While a cycle goes on beside running domains it is
+// marked, as all blocks of minor areas then are, and otherwise unmarked.
+fn new_colour(heap: &Heap, dom: &mut Domain) -> u8
+    requires here { IsIn dom.old heap.now }
+    requires runs { dom.old.view.seen.stage ≡ In Run }
+    ensures here { IsIn dom.new heap.now }
+    ensures colour { IsNewColour dom.new.view result }
+    ensures knows { (c : Colours) × (b : Bool) × (dom.new.view ≡ knowing_armed (knowing_colours dom.old.view c) b) }
+{
+    let colours = colours_now(heap, dom);
+    if armed_now(heap, dom) {
+        colours.marked
+    } else {
+        colours.unmarked
+    }
+}
+
 // Writes a block for which there is room, in its area and in the pools: its label, its fields, each
-// the integer 0, and its head last, which is unmarked by the colours that the domain knows.
+// the integer 0, and its head last, which has the colour of a new block, by what the domain knows.
 #[tactic(auto, unfolding(heap_rule::specs::Places::class_words))]
-fn write_block(
-    heap: &Heap,
-    dom: &mut Domain,
-    dst: u8,
-    tag: u8,
-    fields: u16,
-    colours: &Colours,
-) -> Label
+fn write_block(heap: &Heap, dom: &mut Domain, dst: u8, tag: u8, fields: u16, colour: u8) -> Label
     ghost entry: { Entry }
     requires entry { entry ≡ own_entry dom.old (Alloc dst tag fields) }
     requires runs { Runs heap.now dom.old }
@@ -43,8 +56,7 @@ fn write_block(
     requires serial { dom.old.view.own.serial + 1 < 2 ^ 32 }
     requires room { dom.old.view.own.used + class_words (fields + 2) ≤ heap.now.config.minor_words }
     requires opened { IsOpen heap.now.config dom.old.view }
-    requires known { dom.old.view.seen.share.colours ≡ Some colours.now }
-    requires unmarked { colours.now.unmarked < 3 }
+    requires colour { IsNewColour dom.old.view colour }
     ensures did { Did heap.now dom.old dom.new (Alloc dst tag fields) (Block result) }
     ensures grows { Grows dom.old dom.new (class_words (fields + 2)) }
     ensures free { dom.new.view.seen.free ≡ dom.old.view.seen.free }
@@ -70,7 +82,7 @@ fn write_block(
     let head = Head::Plain {
         size: fields,
         tag,
-        colour: colours.unmarked,
+        colour,
         scanned: false,
     };
     let holds = Change::Set {
@@ -138,6 +150,6 @@ pub fn alloc_young(
     if free < reserve(config.domains, config.minor_words) {
         return Err(Need::Closed { free });
     }
-    let colours = colours_now(heap, dom);
-    Ok(write_block(heap, dom, dst, tag, fields, &colours))
+    let colour = new_colour(heap, dom);
+    Ok(write_block(heap, dom, dst, tag, fields, colour))
 }

@@ -12,7 +12,7 @@ use Rattle.heap_rule.specs.declared.view.DomainView.{DomainView}
 use Rattle.heap_rule.specs.Copies.{ListsCopy, HasCopy, met_place, shape_of_form, known}
 use Rattle.heap_rule.specs.Limits.{sizes_in}
 use Rattle.heap_rule.specs.Layout.{heap_words}
-use Rattle.heap_rule.specs.Places.{Place, Live, extent, head_of, IsBuilt, IsNewHead, IsOldAt, Lasts, More, IsHeadOf}
+use Rattle.heap_rule.specs.Places.{Place, Live, extent, head_of, new_colour, IsBuilt, IsNewHead, IsOldAt, Lasts, More, IsHeadOf}
 use Rattle.heap_rule.specs.Pools.{prepared_at}
 use Rattle.heap_rule.specs.declared.view.Held.{Held}
 use Rattle.heap_rule.specs.Finalisers.{held_at}
@@ -21,7 +21,8 @@ use Rattle.heap_rule.proofs.Values.{address_of}
 use Rattle.steps_promote.specs.Promotion.{form_of, met_of, with_met, with_copied, AllFit, Knows, StaysThere, Forwards, HeadMet, HeadMay}
 use Rattle.promote_claim.specs.Heads.{IsForward, forward_word, IsHeadFor}
 use Rattle.promote_claim.specs.Working.{SameBlock, IsPair, Works, owed_from, with_claims, Learns, Grown, IsMetWith, Claimed}
-use Rattle.steps_cycle.specs.Looks.{knowing_colours}
+use Rattle.steps_cycle.specs.Looks.{with_share, knowing_colours}
+use Rattle.steps_cycle.specs.Arming.{knowing_armed}
 use Rattle.heap_words.specs.declared.colours.Colours.{Colours}
 use Rattle.heap_rule.proofs.HeadLemmas.{packable_head}
 
@@ -118,25 +119,40 @@ owed_append (c ∷ cs) b = ap (λ l. record { copy = c.copy; source = c.source; 
 pub grown_none : (k : Config) (x : DomainView) → Works k x → Grown k x x
 grown_none k x w = record { view = refl; works = w; learns = learns_same x; made = []; items = sym (append-nil x.own.pending.items); owed = sym (append-nil x.seen.copying.pending) }
 
--- the domain knows the colours, and nothing else has changed
-pub grown_colours : (k : Config) (x y : DomainView) (c : Colours) → y ≡ knowing_colours x c → Works k x → Grown k x y
-grown_colours k x y c e w = record {
-  view = e ∙ ap (with_claims x) (sym e);
-  works = record {
-    stage = ap (λ (z : DomainView). z.seen.stage) e ∙ w.stage;
-    at_rest = ap (λ (z : DomainView). z.seen.hunt) e ∙ w.at_rest;
-    fit = subst (λ (z : DomainView). AllFit k z) (sym e) w.fit;
-    placed = λ class a few is. w.placed class a few (ap (λ (z : DomainView). prepared_at z.own.prepared class) (sym e) ∙ is);
-    pairs = λ i m got. let p = w.pairs i m (ap (λ (z : DomainView). slice_get z.own.pending.items i) (sym e) ∙ got) in record { young = p.young; old = p.old; same = subst (λ (z : DomainView). SameBlock (Knows z) m.source m.copy) (sym e) p.same };
-  };
-  learns = subst (λ (z : DomainView). Learns x z) (sym e) (let l = learns_same x in record { more = l.more; copies = l.copies });
-  made = [];
-  items = ap (λ (z : DomainView). z.own.pending.items) e ∙ sym (append-nil x.own.pending.items);
-  owed = ap (λ (z : DomainView). z.seen.copying.pending) e ∙ sym (append-nil x.seen.copying.pending);
-}
+-- the domain knows other things of the colours and of the armed word, and nothing else has changed
+module _ (k : Config) (x y : DomainView) (colours : Option Colours) (armed : Option Bool) (e : y ≡ with_share x (record x.seen.share { colours = colours; armed = armed })) where
+  grown_looked : Works k x → Grown k x y
+  grown_looked w = record {
+    view = e ∙ ap (with_claims x) (sym e);
+    works = record {
+      stage = ap (λ (z : DomainView). z.seen.stage) e ∙ w.stage;
+      at_rest = ap (λ (z : DomainView). z.seen.hunt) e ∙ w.at_rest;
+      fit = subst (λ (z : DomainView). AllFit k z) (sym e) w.fit;
+      placed = λ class a few is. w.placed class a few (ap (λ (z : DomainView). prepared_at z.own.prepared class) (sym e) ∙ is);
+      pairs = λ i m got. let p = w.pairs i m (ap (λ (z : DomainView). slice_get z.own.pending.items i) (sym e) ∙ got) in record { young = p.young; old = p.old; same = subst (λ (z : DomainView). SameBlock (Knows z) m.source m.copy) (sym e) p.same };
+    };
+    learns = subst (λ (z : DomainView). Learns x z) (sym e) (let l = learns_same x in record { more = l.more; copies = l.copies });
+    made = [];
+    items = ap (λ (z : DomainView). z.own.pending.items) e ∙ sym (append-nil x.own.pending.items);
+    owed = ap (λ (z : DomainView). z.seen.copying.pending) e ∙ sym (append-nil x.seen.copying.pending);
+  }
 
-pub head_may_colours : (x y : DomainView) (c : Colours) (a : ℕ) → y ≡ knowing_colours x c → HeadMay x a → HeadMay y a
-head_may_colours x y c a e may = subst (λ (z : DomainView). HeadMay z a) (sym e) record { stage = may.stage; from = ⊎_elim (λ (t : (p : Place) × (Knows x a ≡ Some p)). inl t) (λ z. ⊎_elim (λ (t : (r : ℕ) × IsAt x r a). inr (inl (t.0, record { few = t.1.few; holds = t.1.holds }))) (λ (t : (h : Held) × (held_at x.own.finalisers h ≡ Some a)). inr (inr t)) z) may.from }
+  head_may_looked : (a : ℕ) → HeadMay x a → HeadMay y a
+  head_may_looked a may = subst (λ (z : DomainView). HeadMay z a) (sym e) record { stage = may.stage; from = ⊎_elim (λ (t : (p : Place) × (Knows x a ≡ Some p)). inl t) (λ z. ⊎_elim (λ (t : (r : ℕ) × IsAt x r a). inr (inl (t.0, record { few = t.1.few; holds = t.1.holds }))) (λ (t : (h : Held) × (held_at x.own.finalisers h ≡ Some a)). inr (inr t)) z) may.from }
+
+-- the domain has learnt the colours
+pub grown_colours : (k : Config) (x y : DomainView) (c : Colours) → y ≡ knowing_colours x c → Works k x → Grown k x y
+grown_colours k x y c e w = grown_looked k x y (Some c) x.seen.share.armed e w
+
+pub head_may_colours : (k : Config) (x y : DomainView) (c : Colours) (a : ℕ) → y ≡ knowing_colours x c → HeadMay x a → HeadMay y a
+head_may_colours k x y c a e may = head_may_looked k x y (Some c) x.seen.share.armed e a may
+
+-- or the armed word
+pub grown_armed : (k : Config) (x y : DomainView) (b : Bool) → y ≡ knowing_armed x b → Works k x → Grown k x y
+grown_armed k x y b e w = grown_looked k x y x.seen.share.colours (Some b) e w
+
+pub head_may_armed : (k : Config) (x y : DomainView) (b : Bool) (a : ℕ) → y ≡ knowing_armed x b → HeadMay x a → HeadMay y a
+head_may_armed k x y b a e may = head_may_looked k x y x.seen.share.colours (Some b) e a may
 
 -- claims one behind the other
 pub grown_twice : (k : Config) (x y z : DomainView) → Grown k x y → Grown k y z → Grown k x z
@@ -188,16 +204,16 @@ module _ (k : Config) (at : ℕ) (x : DomainView) (word : ℕ) (y : DomainView) 
       (λ (t : Forwards k at told.place x word y). absurd (let e : ◌≡◌ {A = Option ℕ} None (Some t.copy) = none.only t.copy (t.inside.0, old_small k t.copy limits t.old) (sym t.word) in cc))
       told.told
 
-  pub met_with : k.pools * 4096 < at → (c : Colours) × (x.seen.share.colours ≡ Some c) → Unpacks IsForward forward_word word None → IsMetWith y at word
-  met_with young known none = let l = told.here in let s = head_stays none in record {
+  pub met_with : k.pools * 4096 < at → (c : Colours) × (x.seen.share.colours ≡ Some c) → (b : Bool) × (x.seen.share.armed ≡ Some b) → Unpacks IsForward forward_word word None → IsMetWith y at word
+  met_with young known beside none = let l = told.here in let s = head_stays none in record {
     place = l.place;
     met = l.lives;
-    head = subst (λ (z : Option Colours × Shape). IsNewHead z.0 z.1 word) (λ i. (sym (ap (λ (z : DomainView). z.seen.share.colours) s.view) i, sym l.shape i)) (s.new young known.0 known.1);
+    head = subst (λ (z : DomainView × Shape). IsNewHead z.0.seen.share.colours z.0.seen.share.armed false z.1 word) (λ i. (sym s.view i, sym l.shape i)) (s.new young known.0 known.1 beside.0 beside.1);
   }
 
 -- the head of a block that was met says how large it is
 pub head_for : (k : Config) (x : DomainView) (a word : ℕ) → AllFit k x → (m : IsMetWith x a word) → IsHeadFor m.place.shape word
-head_for k x a word fit m = let f = fit a m.place m.met in let h = m.head in record { built = f.built; head = record { colour = h.colours.unmarked; scanned = false; packable = packable_head m.place.shape h.colours.unmarked false h.fits f.head; packs = h.packs } }
+head_for k x a word fit m = let f = fit a m.place m.met in let h = m.head in record { built = f.built; head = record { colour = new_colour h.beside h.colours; scanned = false; packable = packable_head m.place.shape (new_colour h.beside h.colours) false h.fits f.head; packs = h.packs } }
 
 pub claimed_after : (k : Config) (a c : ℕ) (x y z : DomainView) → Grown k x y → Claimed k a y z c → Claimed k a x z c
 claimed_after k a c x y z g t = record { grown = grown_twice k x y z g t.grown; old = t.old; copied = t.copied; same = t.same }

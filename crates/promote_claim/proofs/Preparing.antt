@@ -96,6 +96,7 @@ module _ (k : Config) (class a : ℕ) (x t : DomainView) (few : class < class_co
         copying = refl;
         pending = refl;
         colours = refl;
+        armed = refl;
         here = get_or-set_same x.own.prepared class (Some a) None long;
       }
 

@@ -17,7 +17,7 @@ use Rattle.promote_claim.specs.Working.{Works, Tied, Learns}
 abbrev pub with_held_moves : DomainView → DomainView → DomainView
 with_held_moves x y = record {
   own = record x.own { looked = y.own.looked; prepared = y.own.prepared; pending = y.own.pending; finalisers = y.own.finalisers };
-  seen = record x.seen { hunt = y.seen.hunt; copying = y.seen.copying; share = record x.seen.share { colours = y.seen.share.colours } };
+  seen = record x.seen { hunt = y.seen.hunt; copying = y.seen.copying; share = record x.seen.share { colours = y.seen.share.colours; armed = y.seen.share.armed } };
 }
 
 -- the items of the lists of finalisers but for their addresses

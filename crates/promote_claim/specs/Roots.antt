@@ -14,7 +14,7 @@ use Rattle.promote_claim.specs.Working.{SameBlock, Works, Tied, Learns}
 abbrev pub with_moves : DomainView → DomainView → DomainView
 with_moves x y = record {
   own = record x.own { registers = y.own.registers; looked = y.own.looked; prepared = y.own.prepared; pending = y.own.pending };
-  seen = record x.seen { hunt = y.seen.hunt; copying = y.seen.copying; share = record x.seen.share { colours = y.seen.share.colours } };
+  seen = record x.seen { hunt = y.seen.hunt; copying = y.seen.copying; share = record x.seen.share { colours = y.seen.share.colours; armed = y.seen.share.armed } };
 }
 
 -- the address of a young block has become that of the block's copy in a pool
@@ -53,7 +53,7 @@ pub record AllMoved (k : Config) (x y : DomainView) : Type 0 where
 abbrev pub with_rewrites : DomainView → DomainView → DomainView
 with_rewrites x y = record {
   own = record x.own { looked = y.own.looked; prepared = y.own.prepared; pending = y.own.pending };
-  seen = record x.seen { hunt = y.seen.hunt; copying = y.seen.copying; remembered = y.seen.remembered; share = record x.seen.share { colours = y.seen.share.colours } };
+  seen = record x.seen { hunt = y.seen.hunt; copying = y.seen.copying; remembered = y.seen.remembered; share = record x.seen.share { colours = y.seen.share.colours; armed = y.seen.share.armed } };
 }
 
 -- the first field that was to be looked through no longer is

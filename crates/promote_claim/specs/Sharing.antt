@@ -37,7 +37,7 @@ pub record GaveBack (x y : DomainView) : Type 0 where
 abbrev pub with_share : DomainView → DomainView → DomainView
 with_share x y = record {
   own = record x.own { registers = y.own.registers; finalisers = y.own.finalisers; looked = y.own.looked; prepared = y.own.prepared; pending = y.own.pending };
-  seen = record x.seen { hunt = y.seen.hunt; copying = y.seen.copying; remembered = y.seen.remembered; share = record x.seen.share { colours = y.seen.share.colours } };
+  seen = record x.seen { hunt = y.seen.hunt; copying = y.seen.copying; remembered = y.seen.remembered; share = record x.seen.share { colours = y.seen.share.colours; armed = y.seen.share.armed } };
 }
 
 -- the domain owes no copy a value, has looked through all its remembered fields, holds no address of a minor area, and has no place prepared: it may arrive. Each register, and each place of the lists of finalisers, stands for what it stood for. All else is as it was

@@ -1,5 +1,5 @@
 -- What a domain knows and owes while it copies young blocks, and what claims make of it ("Retrofitting Parallelism onto OCaml", section 3.2).
-use Rattle.std.specs.Prelude.{◌≡◌, ℕ, ◌*◌, ◌<◌, List, [], ◌∷◌, ◌++◌, drop, slice_get, Some}
+use Rattle.std.specs.Prelude.{◌≡◌, ℕ, ◌*◌, ◌<◌, false, List, [], ◌∷◌, ◌++◌, drop, slice_get, Some}
 use Rattle.heap_model.specs.Domains.{class_count}
 use Rattle.heap_model.specs.declared.graph.Value as model
 use Rattle.heap_words.specs.declared.value.Value.{Value}
@@ -66,11 +66,11 @@ owed_from (c ∷ cs) = record { copy = c.copy; source = c.source; filled = 0 } �
 abbrev pub Tied : ℕ → DomainView → Type 0
 Tied i x = x.seen.copying.pending ≡ owed_from (drop i x.own.pending.items)
 
--- the domain with what claims and the filling of copies change as another has it, and with what that one knows of the colours
+-- the domain with what claims and the filling of copies change as another has it, and with what that one knows of the colours and of the armed word
 abbrev pub with_claims : DomainView → DomainView → DomainView
 with_claims x y = record {
   own = record x.own { looked = y.own.looked; prepared = y.own.prepared; pending = y.own.pending };
-  seen = record x.seen { hunt = y.seen.hunt; copying = y.seen.copying; share = record x.seen.share { colours = y.seen.share.colours } };
+  seen = record x.seen { hunt = y.seen.hunt; copying = y.seen.copying; share = record x.seen.share { colours = y.seen.share.colours; armed = y.seen.share.armed } };
 }
 
 -- what one view knows another knows too: the blocks that were met, and which block has which copy
@@ -87,11 +87,11 @@ pub record Grown (k : Config) (x y : DomainView) : Type 0 where
   pub items : y.own.pending.items ≡ x.own.pending.items ++ made
   pub owed : y.seen.copying.pending ≡ x.seen.copying.pending ++ owed_from made
 
--- a block was met, and its head is this word, that of a new block by the colours that the domain knows
+-- a block was met, and its head is this word, that of a new block of a minor area by the colours and the armed word that the domain knows
 pub record IsMetWith (x : DomainView) (a word : ℕ) : Type 0 where
   pub place : Place
   pub met : Knows x a ≡ Some place
-  pub head : IsNewHead x.seen.share.colours place.shape word
+  pub head : IsNewHead x.seen.share.colours x.seen.share.armed false place.shape word
 
 -- the block at an address has a copy in a pool, which was met. The block's head forwards to this copy, and to no other while the domain copies: whoever knows of a copy of the block knows of this one
 pub record Claimed (k : Config) (a : ℕ) (x y : DomainView) (c : ℕ) : Type 0 where
@@ -107,6 +107,7 @@ pub record Prepared (k : Config) (class : ℕ) (x y : DomainView) (a : ℕ) : Ty
   pub copying : y.seen.copying ≡ x.seen.copying
   pub pending : y.own.pending ≡ x.own.pending
   pub colours : y.seen.share.colours ≡ x.seen.share.colours
+  pub armed : y.seen.share.armed ≡ x.seen.share.armed
   pub here : prepared_at y.own.prepared class ≡ Some a
 
 -- a value stands for another than before, which is no address of a minor area

@@ -16,7 +16,7 @@ use heap_rule::{Domain, Heap};
 use heap_words::{Head, Value, pack_head};
 use size_classes::POOL_WORDS;
 use size_pools::take_for_copy;
-use steps_cycle::colours_now;
+use steps_cycle::{armed_now, colours_now};
 use steps_promote::{
     claim_exchange, prepare_head, prepare_label, prepare_store, young_head_load, young_label_load,
 };
@@ -83,7 +83,8 @@ fn claim_as(heap: &Heap, dom: &mut Domain, young: u32, word: u64) -> u32
     other
 }
 
-// Claims a young block, whose domain knows the colours.
+// Claims a young block, whose domain knows the colours. Whether a cycle goes on beside running domains,
+// where the block has the colour of a marked one, is loaded first.
 pub(crate) fn claim_met(heap: &Heap, dom: &mut Domain, young: u32) -> u32
     requires here { IsIn dom.old heap.now }
     requires works { Works heap.now.config dom.old.view }
@@ -95,6 +96,7 @@ pub(crate) fn claim_met(heap: &Heap, dom: &mut Domain, young: u32) -> u32
     ensures claimed { Claimed heap.now.config young dom.old.view dom.new.view result }
 {
     let _limits = heap.config();
+    let _armed = armed_now(heap, dom);
     let word = young_head_load(heap, dom, young);
     if let Some(copy) = copy_of(word) {
         return copy;

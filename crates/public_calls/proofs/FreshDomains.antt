@@ -77,7 +77,7 @@ begins t cs b few fit none enlists = record {
 pub noted_runs : (h : SharedHeap) (t u : Token) (notes : List Note) → Runs h t → IsIn u h → u.view ≡ record t.view { seen = record t.view.seen { notes = notes } } → Runs h u
 noted_runs h t u notes r here is =
     let same : t.config ≡ u.config = r.here.1 ∙ sym here.1 in
-    let acts : Acts t.config u.view = subst (Acts t.config) (sym is) (record { goes_on = r.acts.goes_on; runs = r.acts.runs; unqueued = r.acts.unqueued }) in
+    let acts : Acts t.config u.view = subst (Acts t.config) (sym is) (record { goes_on = r.acts.goes_on; runs = r.acts.runs; unqueued = r.acts.unqueued; paid = r.acts.paid }) in
     record {
       here = here;
       acts = subst (λ (k : Config). Acts k u.view) same acts;

@@ -1,1 +1,2 @@
 pub mod FreshDomains
+pub mod Resting

@@ -443,16 +443,84 @@ fn an_ended_trace_has_no_finalisers(rt: HostRuntime) -> Result<(), Fail> {
     Ok(())
 }
 
-// How often a domain arrives while it makes one of these commands: two times for each even phase.
-const ARRIVALS: [(Command, u64); 2] = [(Command::Minor, 6), (Command::Major, 28)];
+// How often a domain has arrived once it has made these commands: two times for each even phase, but once for one in which a
+// collection is answered.
+const ARRIVALS: [(&[Command], u64); 4] = [
+    (&[Command::Minor], 6),
+    (&[Command::Major], 8),
+    (&[Command::FullMajor], 27),
+    (&[Command::Major, Command::FullMajor], 53),
+];
 
-// A `major` makes a collection of the major heap, of eleven more phases than those of a `minor`.
+// A `major` begins a collection of the major heap, which takes one more phase than a `minor`. A `full_major` makes a whole
+// one in its pause, and finishes first the one that goes on.
 #[test]
-fn a_major_collects_the_major_heap(rt: HostRuntime) -> Result<(), Fail> {
-    for (command, arrivals) in &ARRIVALS {
-        let mut play = Play::start(rt.alloc(), ONE_DOMAIN, &[[*command].as_slice()])?;
-        play.take_turns_until(1);
+fn a_major_begins_a_collection(rt: HostRuntime) -> Result<(), Fail> {
+    for (commands, arrivals) in &ARRIVALS {
+        let mut play = Play::start(rt.alloc(), ONE_DOMAIN, &[*commands])?;
+        play.take_turns_until(commands.len());
         same(&rt, play.into_first()?.domain().arrivals(), *arrivals);
+    }
+    Ok(())
+}
+
+// Puts a block of the major heap before those of a chain, to which registers 1 and 2 lead.
+const CHAINED: [Command; 3] = [
+    Command::AllocMaj {
+        dst: 1,
+        tag: 0,
+        fields: 1,
+    },
+    Command::Store {
+        block: 1,
+        index: 0,
+        item: 2,
+    },
+    Command::Copy { dst: 2, src: 1 },
+];
+
+const MARKED: [Command; 4] = [Command::Major, Command::Poll, Command::Poll, Command::Poll];
+
+// How many blocks a chain has, besides which the shared block lives, and how often the domain has arrived once it has made
+// `major` and each `poll`.
+const SLICES: [(u32, [u64; 4]); 3] = [
+    (254, [8, 8, 32, 32]),
+    (255, [8, 8, 8, 32]),
+    (300, [8, 8, 8, 32]),
+];
+
+// The commands that make a chain of so many blocks.
+fn chain_of(alloc: Global, blocks: u32) -> Result<Vec<Command>, AllocError> {
+    let mut commands = Vec::new(alloc);
+    for _ in 0..blocks {
+        commands.extend_from_slice(&CHAINED)?;
+    }
+    Ok(commands)
+}
+
+// How often domain 0 has arrived.
+fn arrivals_in(play: &Play) -> Option<u64> {
+    let shown = play.shown(0)?;
+    Some(shown.arrivals)
+}
+
+// A poll scans 256 blocks and no more. One that finds none left to scan asks for the end of the collection, and the pause
+// comes before the next. It marks nothing: one phase finds that all is scanned.
+#[test]
+fn a_poll_scans_256_blocks(rt: HostRuntime) -> Result<(), Fail> {
+    for (blocks, arrivals) in &SLICES {
+        let mut commands = chain_of(rt.alloc(), *blocks)?;
+        let mut made = commands.len();
+        commands.extend_from_slice(&MARKED)?;
+        let mut play = Play::start(rt.alloc(), ONE_DOMAIN, &[commands.as_slice()])?;
+        for _ in 0..3u32 {
+            play.take_turns(*blocks);
+        }
+        for wanted in arrivals.as_slice() {
+            made = made.saturating_add(1);
+            play.take_turns_until(made);
+            same(&rt, arrivals_in(&play), Some(*wanted));
+        }
     }
     Ok(())
 }

@@ -5,6 +5,8 @@ ghost use Rattle.domain_turns.specs.Runs.{CanBegin, ephemerons_in, registrations
 ghost use Rattle.domain_turns.specs.Tries.{FitsHeap, ephemerons_of};
 ghost use Rattle.heap_rule.specs.Running.{Runs};
 ghost use Rattle.heap_rule.specs.Token.{IsIn};
+ghost use Rattle.heap_rule.specs.declared.phase.Kind.TheVariants.{Run};
+ghost use Rattle.heap_rule.specs.declared.phase.Stage.TheVariants.{In};
 ghost use Rattle.public_calls.specs.Fresh.{IsFresh};
 
 use domain_turns::{DomainRun, Turned, turn};
@@ -231,6 +233,25 @@ pub(crate) fn finalisers_of(domain: &Domain) -> Finalisers {
 // So often a domain arrives in no test.
 const MOST: u64 = 1_000_000;
 
+// The domain of a run, once its trace and all others have ended. It runs.
+fn ended(heap: &Heap, run: DomainRun) -> Result<Domain, Fail>
+    requires here { IsIn run.token heap.now }
+    ensures here { IfOk result (λ t. IsIn t heap.now) }
+    ensures runs { IfOk result (λ t. t.view.seen.stage ≡ In Run) }
+{
+    let mut run = run;
+    for _ in 0..1_000_000u32 {
+        if run.domain().arrivals() >= MOST {
+            break;
+        }
+        if let Turned::Ended = turn(heap, &mut run) {
+            run.is_faithful();
+            return Ok(run.into_domain());
+        }
+    }
+    Err(Fail::from("a trace goes on"))
+}
+
 /// A heap with a run for each of its domains.
 #[derive(Drop)]
 pub(crate) struct Play {
@@ -328,6 +349,19 @@ impl Play {
             return Err(Fail::from("no run"));
         }
         Ok(runs.swap_remove(0))
+    }
+
+    /// The heap and its only domain, turned to the end of its trace. The domain runs.
+    pub(crate) fn into_ended(self) -> Result<(Heap, Domain), Fail>
+        ensures here { IfOk result (λ r. IsIn r.1 r.0) }
+        ensures runs { IfOk result (λ r. r.1.view.seen.stage ≡ In Run) }
+    {
+        let Play { heap, mut runs } = self;
+        let Some(run) = runs.pop() else {
+            return Err(Fail::from("no run"));
+        };
+        let domain = ended(&heap, run)?;
+        Ok((heap, domain))
     }
 
     /// The runs, driven to their ends in threads.

@@ -2,7 +2,11 @@
 #![tactic(auto)]
 
 #[cfg(test)]
+mod barriers_calls;
+#[cfg(test)]
 mod command_line_calls;
+#[cfg(test)]
+mod cycle_phases_calls;
 #[cfg(test)]
 mod decimals_calls;
 #[cfg(test)]
@@ -21,6 +25,8 @@ mod heap_rule_calls;
 mod heap_text_calls;
 #[cfg(test)]
 mod heap_words_calls;
+#[cfg(test)]
+mod mark_slices_calls;
 #[cfg(test)]
 mod minor_area_calls;
 #[cfg(test)]

@@ -8,7 +8,8 @@ pub enum Want {
     Minor,
     /// A collection of the major heap.
     Cycle,
-    /// The end of a collection that is under way beside running domains. Nobody asks for it yet.
+    /// The end of a collection that is under way beside running domains. A domain asks for it in a
+    /// poll, where it has noted no block more that is to be scanned.
     Finish,
     /// A complete collection.
     Full,

@@ -94,7 +94,8 @@ pub fn ask(heap: &Heap, dom: &mut Domain, want: Want)
     steps_pauses::ask(heap, dom, bit_of(want));
 }
 
-/// The domain arrives: its share of the phase is done.
+/// The domain arrives: its share of the phase is done, and it owes the darkening of no block that a
+/// weak read has brought.
 pub fn arrive(heap: &Heap, dom: &mut Domain)
     requires here { IsIn dom.old heap.now }
     requires may { ArriveMay heap.now.config dom.old.view }
@@ -138,7 +139,10 @@ fn clear_for(heap: &Heap, dom: &mut Domain, next: Kind)
 
 /// Domain 0 says in an odd phase which phase comes next. Before domains run again no wish is left, and
 /// the list of free pools has been written anew in this phase. Before they copy the cursor was just set
-/// back out of the reserve. Where the next kind asks for an entry of the collector it stands then.
+/// back out of the reserve. Before they run beside a cycle, and before one that goes on is finished, it
+/// knows that the armed word is set; before they run after a collection, and before another begins where
+/// blocks were copied, that it isn't. Where the next kind asks for an entry of the collector it stands
+/// then.
 pub fn lead(heap: &Heap, dom: &mut Domain, next: Kind)
     requires here { IsIn dom.old heap.now }
     requires leads { dom.old.view.own.number ≡ 0 }

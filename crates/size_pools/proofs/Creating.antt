@@ -1,5 +1,5 @@
 -- The writing of an ephemeron at a free place of an own pool.
-use Rattle.std.proofs.Common.{◌≡◌, ◌∙◌, ℕ, ◌+◌, ◌^◌, ◌<◌, ◌≤◌, List, [], ◌∷◌, replicate, refl, ap, sym, subst, arith, get_or-set_same, length, slice_set, length-set}
+use Rattle.std.proofs.Common.{◌≡◌, ◌∙◌, ℕ, ◌+◌, ◌^◌, ◌<◌, ◌≤◌, List, [], ◌∷◌, replicate, true, refl, ap, sym, subst, arith, get_or-set_same, length, slice_set, length-set}
 use Rattle.heap_model.specs.declared.label.Label.{Label}
 use Rattle.heap_model.specs.declared.command.Command.TheVariants.{Ephe}
 use Rattle.heap_model.specs.declared.entry.Entry.{Entry}
@@ -33,14 +33,14 @@ same_room k x a n m same r = subst (IsRoom k x a) (sym same) r
 
 pub ephe_may : (h : SharedHeap) (old : Token) (x : DomainView) (a new dst place keys : ℕ) (runs : IsBusy h old) (r : IsRoom h.config old.view a (keys + 3))
     → x ≡ with_hunt old.view (Fills r.pool r.class r.slot (label_word old.view.own.number (old.view.own.serial + 1) ∷ replicate (keys + 1) empty_word)) → place ≡ dst → dst < 16 → 1 ≤ keys → keys ≤ 8 → 1 ≤ old.view.own.ephemerons.room → old.view.own.serial + 1 < 2 ^ 32
-    → IsNewHead old.view.seen.share.colours (EpheShape keys) new → EpheMay h.config x a new (Set Register place (record { value = Ref a; number = 0; more = 0 }) ∷ []) old.view.own.number dst keys
+    → IsNewHead old.view.seen.share.colours old.view.seen.share.armed true (EpheShape keys) new → EpheMay h.config x a new (Set Register place (record { value = Ref a; number = 0; more = 0 }) ∷ []) old.view.own.number dst keys
 ephe_may h old x a new dst place keys runs r is same few one_key fits list serial head =
     subst (λ (z : DomainView × ℕ). EpheMay h.config z.0 a new (Set Register z.1 (record { value = Ref a; number = 0; more = 0 }) ∷ []) old.view.own.number dst keys) (λ i. (sym is i, sym same i)) record {
       pool = r.pool;
       class = r.class;
       slot = r.slot;
       own = refl;
-      acts = let a = busy_acts h old runs in record { goes_on = a.goes_on; runs = a.runs; unqueued = a.unqueued };
+      acts = let a = busy_acts h old runs in record { goes_on = a.goes_on; runs = a.runs; paid = a.paid; unqueued = a.unqueued };
       hunt = refl;
       word = r.address;
       some_key = one_key;

@@ -1,7 +1,7 @@
 -- The writing of a block at a free place of an own pool.
 use Rattle.remembered_set.specs.Bounded.{Bounded}
 use Rattle.heap_model.specs.Domains.{class_count, IsWithinLimits}
-use Rattle.std.proofs.Common.{◌≡◌, ◌≢◌, ◌∙◌, ℕ, ◌+◌, ◌*◌, ◌^◌, ◌<◌, ◌≤◌, List, [], ◌∷◌, false, replicate, slice_set, inl, inr, ⊎_elim, refl, ap, sym, subst, arith, lt_of_not-le}
+use Rattle.std.proofs.Common.{◌≡◌, ◌≢◌, ◌∙◌, ℕ, ◌+◌, ◌*◌, ◌^◌, ◌<◌, ◌≤◌, List, [], ◌∷◌, Bool, true, false, None, replicate, slice_set, inl, inr, ⊎_elim, refl, ap, sym, subst, arith, lt_of_not-le}
 use Rattle.heap_model.specs.declared.label.Label.{Label}
 use Rattle.heap_model.specs.declared.command.Command.{Command as CommandType}
 use Rattle.heap_model.specs.declared.command.Command.TheVariants.{AllocMaj}
@@ -13,7 +13,7 @@ use Rattle.heap_rule.specs.declared.view.Own.{Own}
 use Rattle.heap_model.specs.declared.reply.Reply.{Reply}
 use Rattle.heap_model.specs.declared.reply.Reply.TheVariants.{Block}
 use Rattle.heap_model.specs.declared.reply.Applied.TheVariants.{Replied}
-use Rattle.heap_model.specs.Fronts.{PlainShape, Answers}
+use Rattle.heap_model.specs.Fronts.{Shape, PlainShape, Answers}
 use Rattle.heap_words.specs.declared.value.Value.{Value}
 use Rattle.heap_words.specs.declared.value.Value.TheVariants.{Ref}
 use Rattle.heap_words.specs.Labels.{label_word}
@@ -26,7 +26,7 @@ use Rattle.heap_rule.specs.declared.view.Hunt.{Hunt}
 use Rattle.heap_rule.specs.declared.view.Hunt.TheVariants.{Rests, Fills}
 use Rattle.heap_rule.specs.Token.{next_label}
 use Rattle.heap_rule.specs.Limits.{sizes_in}
-use Rattle.heap_rule.specs.Places.{IsNewHead}
+use Rattle.heap_rule.specs.Places.{HeadIs, IsNewHead}
 use Rattle.heap_rule.specs.Pools.{size_of, hunting_free}
 use Rattle.heap_rule.specs.Running.{RemembersAll, Runs, Did, own_entry}
 use Rattle.heap_rule.specs.Standing.{Acts, IsInHeap}
@@ -34,6 +34,7 @@ use Rattle.steps_pools.specs.Takes.{with_hunt, MajorMay, MajorTold}
 use Rattle.heap_rule.specs.Token.{Token, SharedHeap, IsIn}
 use Rattle.heap_rule.proofs.Calls.{acting_did}
 use Rattle.heap_rule.proofs.Classes.{slot_inside, size_is}
+use Rattle.size_pools.specs.NewMarks.{AreNewMarks}
 use Rattle.size_pools.specs.Taken.{Hunted, FoundOwn, Unreserved, HasPlace, IsBusy, Took, IsRoom, Grows, GrowsBy, PutsPlace}
 use Rattle.size_classes.specs.Table.{IsLeastFor}
 use Rattle.size_classes.specs.declared.TheConstants.{SIZES}
@@ -72,18 +73,29 @@ head_inside k x a n some_word r =
 
 -- a busy domain acts by the heap's numbers
 pub busy_acts : (h : SharedHeap) (old : Token) → IsBusy h old → Acts h.config old.view
-busy_acts h old runs = let a : Acts h.config old.view = subst (λ (k : Config). Acts k old.view) runs.here.1 runs.acts in record { goes_on = a.goes_on; runs = a.runs; unqueued = a.unqueued }
+busy_acts h old runs = let a : Acts h.config old.view = subst (λ (k : Config). Acts k old.view) runs.here.1 runs.acts in record { goes_on = a.goes_on; runs = a.runs; paid = a.paid; unqueued = a.unqueued }
+
+-- the head of a new block of the pools, with the marks of one
+pub pooled_head : (x : DomainView) (shape : Shape) (word colour : ℕ) (scanned : Bool) → AreNewMarks x colour scanned → HeadIs None shape colour scanned word → IsNewHead x.seen.share.colours x.seen.share.armed true shape word
+pooled_head x shape word colour scanned m packs = record {
+  colours = m.colours;
+  known_is = m.known_is;
+  beside = scanned;
+  armed_is = m.armed_is;
+  fits = subst (λ (n : ℕ). n < 3) m.colour_is m.fits;
+  packs = subst (λ (n : ℕ). HeadIs None shape n scanned word) m.colour_is packs;
+}
 
 pub major_may : (h : SharedHeap) (old : Token) (x : DomainView) (a new dst place tag n : ℕ) (runs : IsBusy h old) (r : IsRoom h.config old.view a (n + 2))
     → x ≡ with_hunt old.view (Fills r.pool r.class r.slot (label_word old.view.own.number (old.view.own.serial + 1) ∷ replicate n 1)) → place ≡ dst → dst < 16 → tag ≤ 245 → 1 ≤ n → n ≤ 126 → old.view.own.serial + 1 < 2 ^ 32
-    → IsNewHead old.view.seen.share.colours (PlainShape n tag) new → MajorMay h.config x a new (Set Register place (record { value = Ref a; number = 0; more = 0 }) ∷ []) old.view.own.number dst tag n
+    → IsNewHead old.view.seen.share.colours old.view.seen.share.armed true (PlainShape n tag) new → MajorMay h.config x a new (Set Register place (record { value = Ref a; number = 0; more = 0 }) ∷ []) old.view.own.number dst tag n
 major_may h old x a new dst place tag n runs r is same few small some fits serial head =
     subst (λ (z : DomainView × ℕ). MajorMay h.config z.0 a new (Set Register z.1 (record { value = Ref a; number = 0; more = 0 }) ∷ []) old.view.own.number dst tag n) (λ i. (sym is i, sym same i)) record {
       pool = r.pool;
       class = r.class;
       slot = r.slot;
       own = refl;
-      acts = let a = busy_acts h old runs in record { goes_on = a.goes_on; runs = a.runs; unqueued = a.unqueued };
+      acts = let a = busy_acts h old runs in record { goes_on = a.goes_on; runs = a.runs; paid = a.paid; unqueued = a.unqueued };
       hunt = refl;
       word = r.address;
       tag_fits = omega arith;
@@ -110,6 +122,7 @@ made_did h old new mid e c l hunt registers serial ephemerons is runs here view 
       notes = ap (λ (x : DomainView). x.seen.notes) rest ∙ ap (λ (x : DomainView). x.seen.notes) view;
       copying = ap (λ (x : DomainView). x.seen.copying) rest ∙ ap (λ (x : DomainView). x.seen.copying) view;
       queue = ap (λ (x : DomainView). x.own.finalisers.queue) rest ∙ ap (λ (x : DomainView). x.own.finalisers.queue) view;
+      weak = ap (λ (x : DomainView). x.seen.share.weak) rest ∙ ap (λ (x : DomainView). x.seen.share.weak) view;
       remembers = λ all. ap (λ (x : DomainView). x.seen.remembered) rest ∙ (ap (λ (x : DomainView). x.seen.remembered) view ∙ (all ∙ sym (ap (λ (x : DomainView). x.own.remembered.items) rest ∙ ap (λ (x : DomainView). x.own.remembered.items) view)));
     })
     (subst (λ (x : Entry). Answers (sizes_in h.config) old.view.own.number old.view.seen.front new.view.seen.front x (Replied (Block l))) is
@@ -128,7 +141,7 @@ hunted_remembers x y hunt view all = ap (λ (z : DomainView). z.seen.remembered)
 pub hunted_runs : (h : SharedHeap) (old new : Token) (hunt : Hunt) → Runs h old → IsIn new h → Hunted old.view new.view hunt → IsBusy h new
 hunted_runs h old new hunt runs here view = record {
   here = here;
-  acts = subst (λ (z : Config × DomainView). Acts z.0 z.1) (λ i. (sym (here.1 ∙ sym runs.here.1) i, sym view i)) (let a : Acts old.config (hunting_free old.view new.view.own.looked hunt new.view.seen.free) = record { goes_on = runs.acts.goes_on; runs = runs.acts.runs; unqueued = runs.acts.unqueued } in a);
+  acts = subst (λ (z : Config × DomainView). Acts z.0 z.1) (λ i. (sym (here.1 ∙ sym runs.here.1) i, sym view i)) (let a : Acts old.config (hunting_free old.view new.view.own.looked hunt new.view.seen.free) = record { goes_on = runs.acts.goes_on; runs = runs.acts.runs; paid = runs.acts.paid; unqueued = runs.acts.unqueued } in a);
   idle = ap (λ (x : DomainView). x.seen.made) view ∙ runs.idle;
   remembers = hunted_remembers old.view new.view hunt view runs.remembers;
 }
@@ -145,6 +158,7 @@ hunted_did h old mid new hunt c r runs here view did =
         notes = did.stays.notes ∙ ap (λ (x : DomainView). x.seen.notes) view;
         copying = did.stays.copying ∙ ap (λ (x : DomainView). x.seen.copying) view;
         queue = did.stays.queue ∙ ap (λ (x : DomainView). x.own.finalisers.queue) view;
+        weak = did.stays.weak ∙ ap (λ (x : DomainView). x.seen.share.weak) view;
         remembers = λ all. did.stays.remembers (hunted_remembers old.view mid.view hunt view all);
       };
     }

@@ -1,3 +1,4 @@
 pub mod Taken
 pub mod Listed
 pub mod Created
+pub mod NewMarks

@@ -10,27 +10,28 @@ ghost use Rattle.steps_pools.specs.Takes.{NoneFree};
 ghost use Rattle.heap_rule.specs.Token.{Holds, IsIn};
 ghost use Rattle.size_classes.specs.Table.{IsLeastFor};
 ghost use Rattle.size_classes.specs.declared.TheConstants.{SIZES};
+ghost use Rattle.size_pools.specs.NewMarks.{AreNewMarks};
 ghost use Rattle.size_pools.specs.Taken.{Hunted, Reserved, HasPlace, IsBusy, IsRoom, Grows, GrowsBy, PutsPlace};
 
+use crate::new_marks::{NewMarks, new_marks};
 use crate::no_pool::NoPool;
 use crate::taking::take;
 use crate::words::{class_for, write_words};
 use heap_model::label::Label;
 use heap_rule::{Change, Domain, Heap, Item, Part};
-use heap_words::{Colours, Head, Value, pack_head, pack_value};
-use steps_cycle::colours_now;
+use heap_words::{Head, Value, pack_head, pack_value};
 use steps_pools::head_store;
 
 // Writes a block at the place that is taken: its label, its fields, each the integer 0, and its head
-// last, which is unmarked by the colours that the domain knows.
-fn write_unmarked(
+// last, which has the colour and the scanned mark of a new block, by what the domain knows.
+fn write_coloured(
     heap: &Heap,
     dom: &mut Domain,
     at: u32,
     dst: u8,
     tag: u8,
     fields: u16,
-    colours: &Colours,
+    marks: NewMarks,
 ) -> Label
     ghost entry: { Entry }
     requires entry { entry ≡ own_entry dom.old (AllocMaj dst tag fields) }
@@ -40,8 +41,7 @@ fn write_unmarked(
     requires tag { tag ≤ 245 }
     requires fields { (1 ≤ fields) × (fields ≤ 126) }
     requires serial { dom.old.view.own.serial + 1 < 2 ^ 32 }
-    requires known { dom.old.view.seen.share.colours ≡ Some colours.now }
-    requires unmarked { colours.now.unmarked < 3 }
+    requires marks { AreNewMarks dom.old.view marks.colour marks.scanned }
     ensures did { Did heap.now dom.old dom.new (AllocMaj dst tag fields) (Block result) }
     ensures grows { Grows dom.old dom.new }
     ensures free { dom.new.view.seen.free ≡ dom.old.view.seen.free }
@@ -54,8 +54,8 @@ fn write_unmarked(
     let head = Head::Plain {
         size: fields,
         tag,
-        colour: colours.unmarked,
-        scanned: false,
+        colour: marks.colour,
+        scanned: marks.scanned,
     };
     let holds = Change::Set {
         part: Part::Register,
@@ -70,7 +70,7 @@ fn write_unmarked(
     label
 }
 
-// The same, by the colours that this call loads.
+// The same, by what this call loads.
 fn write_block(heap: &Heap, dom: &mut Domain, at: u32, dst: u8, tag: u8, fields: u16) -> Label
     ghost entry: { Entry }
     requires entry { entry ≡ own_entry dom.old (AllocMaj dst tag fields) }
@@ -86,8 +86,8 @@ fn write_block(heap: &Heap, dom: &mut Domain, at: u32, dst: u8, tag: u8, fields:
     ensures registers { dom.new.view.own.registers ≡ slice_set dom.old.view.own.registers dst (Ref at) }
     ensures holds { Holds heap.now.config dom.new.view.own.registers }
 {
-    let colours = colours_now(heap, dom);
-    write_unmarked(heap, dom, at, dst, tag, fields, &colours)
+    let marks = new_marks(heap, dom);
+    write_coloured(heap, dom, at, dst, tag, fields, marks)
 }
 
 /// Allocates a plain block of `fields` fields, each the integer 0, in the major heap, and puts it

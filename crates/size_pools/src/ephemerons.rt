@@ -11,26 +11,28 @@ ghost use Rattle.heap_rule.specs.Token.{Holds, IsIn};
 ghost use Rattle.size_classes.specs.Table.{IsLeastFor};
 ghost use Rattle.size_classes.specs.declared.TheConstants.{SIZES};
 ghost use Rattle.size_pools.specs.Created.{Lists, ListsHeld};
+ghost use Rattle.size_pools.specs.NewMarks.{AreNewMarks};
 ghost use Rattle.size_pools.specs.Taken.{Hunted, Reserved, HasPlace, IsBusy, IsRoom, PutsPlace};
 
+use crate::new_marks::{NewMarks, new_marks};
 use crate::no_pool::NoPool;
 use crate::taking::take;
 use crate::words::{class_for, write_words};
 use heap_model::label::Label;
 use heap_rule::{Change, Domain, Heap, Item, Part};
-use heap_words::{Colours, Head, Value, pack_head, pack_value};
-use steps_cycle::colours_now;
+use heap_words::{Head, Value, pack_head, pack_value};
 use steps_pools::ephe_store;
 
 // Writes an ephemeron at the place that is taken: its label, its datum and its keys, which are empty,
-// and its head last, which is unmarked by the colours that the domain knows.
-fn write_unmarked(
+// and its head last, which has the colour and the scanned mark of a new block, by what the domain
+// knows.
+fn write_coloured(
     heap: &Heap,
     dom: &mut Domain,
     at: u32,
     dst: u8,
     keys: u16,
-    colours: &Colours,
+    marks: NewMarks,
 ) -> Label
     ghost entry: { Entry }
     requires entry { entry ≡ own_entry dom.old (Ephe dst keys) }
@@ -40,8 +42,7 @@ fn write_unmarked(
     requires keys { (1 ≤ keys) × (keys ≤ 8) }
     requires list { 1 ≤ dom.old.view.own.ephemerons.room }
     requires serial { dom.old.view.own.serial + 1 < 2 ^ 32 }
-    requires known { dom.old.view.seen.share.colours ≡ Some colours.now }
-    requires unmarked { colours.now.unmarked < 3 }
+    requires marks { AreNewMarks dom.old.view marks.colour marks.scanned }
     ensures did { Did heap.now dom.old dom.new (Ephe dst keys) (Block result) }
     ensures lists { Lists at dom.old dom.new }
     ensures free { dom.new.view.seen.free ≡ dom.old.view.seen.free }
@@ -53,8 +54,8 @@ fn write_unmarked(
     let label = write_words(heap, dom, at, empty, u32::from(keys) + 1);
     let head = Head::Ephe {
         keys,
-        colour: colours.unmarked,
-        scanned: false,
+        colour: marks.colour,
+        scanned: marks.scanned,
     };
     let holds = Change::Set {
         part: Part::Register,
@@ -69,7 +70,7 @@ fn write_unmarked(
     label
 }
 
-// The same, by the colours that this call loads.
+// The same, by what this call loads.
 fn write_ephemeron(heap: &Heap, dom: &mut Domain, at: u32, dst: u8, keys: u16) -> Label
     ghost entry: { Entry }
     requires entry { entry ≡ own_entry dom.old (Ephe dst keys) }
@@ -85,8 +86,8 @@ fn write_ephemeron(heap: &Heap, dom: &mut Domain, at: u32, dst: u8, keys: u16) -
     ensures registers { dom.new.view.own.registers ≡ slice_set dom.old.view.own.registers dst (Ref at) }
     ensures holds { Holds heap.now.config dom.new.view.own.registers }
 {
-    let colours = colours_now(heap, dom);
-    write_unmarked(heap, dom, at, dst, keys, &colours)
+    let marks = new_marks(heap, dom);
+    write_coloured(heap, dom, at, dst, keys, marks)
 }
 
 /// Makes an ephemeron of `keys` keys, which are empty as its datum is, in the major heap, puts it into

@@ -1,12 +1,15 @@
 //! Blocks of the major heap: free places of pools, each pool being one domain's for blocks of one size.
 //!
 //! No call takes a lock or memory ("Retrofitting Parallelism onto OCaml", section 3.1).
+//! While a cycle goes on beside running domains a block of the pools is allocated marked and scanned
+//! (section 4.3 there).
 #![tactic(auto)]
 
 mod allocation;
 mod draw;
 mod ephemerons;
 mod listing;
+mod new_marks;
 mod no_pool;
 mod search;
 mod taking;

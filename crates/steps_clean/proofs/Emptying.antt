@@ -19,13 +19,15 @@ use Rattle.heap_words.specs.declared.value.Value.TheVariants.{Nothing as Nothing
 use Rattle.cycle_laws.specs.Marks.{Marks, fields_of}
 use Rattle.heap_rule.specs.declared.config.Config.{Config}
 use Rattle.heap_rule.specs.declared.phase.Kind.{Kind}
-use Rattle.heap_rule.specs.declared.phase.Kind.TheVariants.{Clean}
+use Rattle.heap_rule.specs.declared.phase.Kind.TheVariants.{Run, Clean}
 use Rattle.heap_rule.specs.declared.phase.Stage.TheVariants.{In}
 use Rattle.heap_rule.specs.declared.view.Cleaning.{Cleaning}
 use Rattle.heap_rule.specs.declared.view.DomainView.{DomainView}
 use Rattle.heap_rule.specs.declared.view.Scan.{Scan}
 use Rattle.heap_rule.specs.declared.view.Scan.TheVariants.{Idle, Reads, Holds, Keys, Key, Datum}
 use Rattle.heap_rule.specs.declared.view.Share.{Share}
+use Rattle.heap_rule.specs.Beside.{RunsBeside}
+use Rattle.steps_cycle.proofs.Pausing.{paused_on}
 use Rattle.heap_rule.specs.Cycles.{Cycled, Cycling, Facts, IsCollecting, IsIdle, KeysAt, Knowing, Leading, MissesKeys, Scanned, Scans, Told, owner_at, seen_by}
 use Rattle.heap_rule.specs.Ephemerons.{Cleans, Looks, emptied_at, ephemeron_of}
 use Rattle.heap_rule.specs.Fullness.{Fullness}
@@ -342,7 +344,13 @@ module _ (k : Config) (s : Words) (r : Rule k s) (id : ℕ) (hist : List Entry) 
             rotated = l.rotated;
             turned = l.turned;
             pass = l.pass;
+            whole = l.whole;
+            armed = l.armed;
           }
+
+      -- nobody runs
+      running_on : (z : DomainView) → Good k r.account s.words z → RunsBeside k live T.holder c.armed c.past m.marked words' z.own.number z.seen.stage z.seen.share
+      running_on z g = paused_on k r.account.pause c r.whole.cycle.told (λ e. let clash : Clean ≡ Run = sym kind_is ∙ e in cc) live live T.holder T.holder m.marked m.marked s.words words' z g.staged g.sharing.running
 
       sharings' : (z : DomainView) → z.own.number ≢ d → Good k r.account s.words z → Sharing k all' words' z.own.number z.own.registers z.own.finalisers z.own.ephemerons.items z.seen.stage z.seen.share
       sharings' z other g = let t = g.sharing.telling in record {
@@ -354,6 +362,7 @@ module _ (k : Config) (s : Words) (r : Rule k s) (id : ℕ) (hist : List Entry) 
             g.sharing.knows;
         adds = record { blocks = g.sharing.adds.blocks; words = g.sharing.adds.words; own = g.sharing.adds.own };
         looks = looks_on z other g;
+        running = running_on z g;
         deciding = g.sharing.deciding;
       }
 
@@ -376,7 +385,7 @@ module _ (k : Config) (s : Words) (r : Rule k s) (id : ℕ) (hist : List Entry) 
       sharing' : Sharing k all' words' d x.own.registers x.own.finalisers items x.seen.stage share'
       sharing' = let g = good.sharing in let t = g.telling in let l = leading_on x sh good.staged g.leading in record {
         telling = record { owes = t.owes; seen = λ _. o.seen_is; fresh = λ gone. absurd (true≢false (sym gone ∙ up)); forgotten = λ gone. absurd (true≢false (sym gone ∙ up)); colours = t.colours };
-        leading = record { changed = l.changed; found_blocks = l.found_blocks; found_words = l.found_words; rotated = l.rotated; turned = l.turned; pass = l.pass };
+        leading = record { changed = l.changed; found_blocks = l.found_blocks; found_words = l.found_words; rotated = l.rotated; turned = l.turned; pass = l.pass; whole = l.whole; armed = l.armed };
         knows = inr (collecting, own_knowing);
         adds = record { blocks = g.adds.blocks; words = g.adds.words; own = g.adds.own };
         looks = record {
@@ -387,6 +396,7 @@ module _ (k : Config) (s : Words) (r : Rule k s) (id : ℕ) (hist : List Entry) 
               (λ same. ap (λ (z : Place). emptied' z.label) (sym (place_is q (ap live (sym same) ∙ lives))) ∙ (o.emptied_here ∙ ap (emptied_at cleaning') (sym same)))
               (λ other. o.emptied_else q.label (differs a q lives other) ∙ (g.looks.emptied_is a q own lives ∙ sym (o.emptied_there a other)));
         };
+        running = let u = running_on x good in record { knows = u.knows; owes = u.owes };
         deciding = g.deciding;
       }
 

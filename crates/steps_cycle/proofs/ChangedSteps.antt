@@ -9,11 +9,12 @@ use Rattle.cycle_laws.specs.Shares.{Shares, reset_shares}
 use Rattle.cycle_laws.proofs.Cycling.{phase_steps}
 use Rattle.heap_rule.specs.declared.config.Config.{Config}
 use Rattle.heap_rule.specs.declared.phase.Kind.{Kind}
-use Rattle.heap_rule.specs.declared.phase.Kind.TheVariants.{Mark}
+use Rattle.heap_rule.specs.declared.phase.Kind.TheVariants.{Run, Mark}
 use Rattle.heap_rule.specs.declared.phase.Stage.{Stage}
 use Rattle.heap_rule.specs.declared.phase.Stage.TheVariants.{In, Leads, Led, Gone}
 use Rattle.heap_rule.specs.declared.view.DomainView.{DomainView}
 use Rattle.heap_rule.specs.declared.view.Share.{Share}
+use Rattle.heap_rule.specs.Beside.{RunsBeside}
 use Rattle.heap_rule.specs.Cycles.{Cycled, Cycling, Facts, IsCollecting, IsIdle, IsStart, Knowing, cycle_of, MissesKeys}
 use Rattle.heap_rule.specs.Layout.{before_heap, changed_word, heap_words}
 use Rattle.heap_rule.specs.Phases.{AtStage}
@@ -27,6 +28,7 @@ use Rattle.heap_rule.proofs.PauseFacts.{not_both}
 use Rattle.steps_cycle.specs.Changed.{FindMay, FindTold, ForgetMay, ForgetTold}
 use Rattle.steps_cycle.specs.Looks.{with_share}
 use Rattle.steps_cycle.proofs.Learning.{learns, shifts}
+use Rattle.steps_cycle.proofs.Pausing.{paused_on}
 use Rattle.heap_rule.proofs.Sharings.{knows_words}
 
 module _ (k : Config) (s : Words) (r : Rule k s) (id : ℕ) (hist : List Entry) (x : DomainView) (at : get_elem? s.views id ≡ some (one k hist x)) where
@@ -65,10 +67,13 @@ module _ (k : Config) (s : Words) (r : Rule k s) (id : ℕ) (hist : List Entry) 
         rotated = l.rotated;
         turned = l.turned;
         pass = l.pass;
+        whole = l.whole;
+        armed = l.armed;
       };
       knows = inl (ap (λ (z : Share). record z { changed = Some (changed_word s.words) }) (idle (Leads may.last) may.stage tt));
       adds = record { blocks = a.blocks; words = a.words; own = a.own };
       looks = let u = good.sharing.looks in record { at_own = u.at_own; pruned = u.pruned; cleans = u.cleans; emptied_is = u.emptied_is };
+      running = record { knows = good.sharing.running.knows; owes = good.sharing.running.owes };
       deciding = good.sharing.deciding;
     }
 
@@ -124,6 +129,9 @@ module _ (k : Config) (s : Words) (r : Rule k s) (id : ℕ) (hist : List Entry) 
           (y.whole l);
     }
 
+    running : (z : DomainView) → Good k r.account s.words z → RunsBeside k r.account.live r.account.tenancy.holder c.armed c.past c.paint.marks.marked ws z.own.number z.seen.stage z.seen.share
+    running z g = paused_on k r.account.pause c r.whole.cycle.told (λ e. let clash : Mark ≡ Run = sym kind_is ∙ e in cc) r.account.live r.account.live r.account.tenancy.holder r.account.tenancy.holder c.paint.marks.marked c.paint.marks.marked s.words ws z g.staged g.sharing.running
+
     own_sharing : Sharing k (record r.account { cycling = c' }) ws x.own.number x.own.registers x.own.finalisers x.own.ephemerons.items x.seen.stage forgets
     own_sharing = let t = good.sharing.telling in let l = good.sharing.leading in let a = good.sharing.adds in let start = told.1 x.own.number in record {
       telling = record {
@@ -140,10 +148,13 @@ module _ (k : Config) (s : Words) (r : Rule k s) (id : ℕ) (hist : List Entry) 
         rotated = l.rotated;
         turned = l.turned;
         pass = l.pass;
+        whole = l.whole;
+        armed = l.armed;
       };
       knows = inl (ap (λ (z : Share). record z { changed = None }) (idle (Led Mark) may.stage tt));
       adds = record { blocks = λ e _. a.blocks e start.waits; words = λ e _. a.words e start.waits; own = λ e _. a.own e start.waits };
       looks = let u = good.sharing.looks in record { at_own = u.at_own; pruned = u.pruned; cleans = u.cleans; emptied_is = u.emptied_is };
+      running = let u = running x good in record { knows = u.knows; owes = u.owes };
       deciding = let u = good.sharing.deciding in record { finals = λ e _. u.finals e start.waits; lasts = λ e _. u.lasts e start.waits; rooted = λ e _. u.rooted e start.waits };
     }
 
@@ -163,10 +174,13 @@ module _ (k : Config) (s : Words) (r : Rule k s) (id : ℕ) (hist : List Entry) 
         rotated = l.rotated;
         turned = l.turned;
         pass = l.pass;
+        whole = l.whole;
+        armed = l.armed;
       };
       knows = knows_words k r.account.live r.account.tenancy.holder state.graph c.paint.marks s.words ws z.own.number z.own.registers z.seen.stage z.seen.share (heap_untouched k s.words ws untouched) g.sharing.knows;
       adds = record { blocks = λ e _. a.blocks e start.waits; words = λ e _. a.words e start.waits; own = λ e _. a.own e start.waits };
       looks = g.sharing.looks;
+      running = running z g;
       deciding = let u = g.sharing.deciding in record { finals = λ e _. u.finals e start.waits; lasts = λ e _. u.lasts e start.waits; rooted = λ e _. u.rooted e start.waits };
     }
 

@@ -42,7 +42,7 @@ unmarked_by c false p e = refl
 pub record BareHead (paint : Paint) (p : Place) (word : ℕ) : Type 0 where
   pub head : IsHeadOf p.shape word
   pub colour : head.colour ≡ colour_in paint p.label
-  pub tells : IsTrue (paint.marks.marked p.label) → head.scanned ≡ paint.marks.scanned p.label
+  pub tells : IsTrue (paint.marks.marked p.label) → head.scanned ≡ true → IsTrue (paint.marks.scanned p.label)
 
 pub bare_head : (paint : Paint) (p : Place) (word : ℕ) → IsBare p → IsPermutation paint.colours → IsPackableShape p.shape → IsHead paint p word → BareHead paint p word
 bare_head paint p word bare meanings packs h = record {

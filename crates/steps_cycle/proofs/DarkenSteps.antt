@@ -217,7 +217,7 @@ module _ (k : Config) (s : Words) (r : Rule k s) (id : ℕ) (hist : List Entry) 
         packs = may.marks ∙ (ap (λ (z : Colours). head_word (head_of None may.unmarked.shape z.marked false)) means ∙ (ap head_word (sym (same.again cs.marked false))
             ∙ (sym (ap (λ (b : Bool). head_word (head_of None p.shape (cond b cs.marked cs.unmarked) false)) is_dark)
             ∙ sym (ap (λ (o : Option ℕ). head_word (head_of o p.shape (colour_in (record c.paint { marks = m' }) p.label) false)) (bare k s r id hist x at collecting a p aim.lives).no_forward))));
-        tells = λ _. sym (ap (λ (b : Bool). not b && m.scanned p.label) (same_label_refl p.label));
+        tells = λ _ up. cc;
       };
       elsewhere = λ l differ. let e : same_label p.label l ≡ false = same_label-false p.label l differ in (ap (λ (b : Bool). b || m.marked l) e, ap (λ (b : Bool). not b && m.scanned l) e);
       marked = is_dark;

@@ -20,6 +20,7 @@ use Rattle.heap_rule.specs.declared.view.Scan.{Scan}
 use Rattle.heap_rule.specs.declared.view.Share.{Share}
 use Rattle.heap_rule.specs.declared.view.Spot.{Spot}
 use Rattle.heap_rule.specs.declared.view.OwnPool.{OwnPool}
+use Rattle.heap_rule.specs.Beside.{RunsBeside}
 use Rattle.heap_rule.specs.Changes.{value_at}
 use Rattle.heap_rule.specs.Layout.{at_address, armed, colours, changed_word, live_blocks, live_words}
 use Rattle.heap_rule.specs.Phases.{AtStage, IsEven, Pause, Staged, flag}
@@ -40,6 +41,7 @@ use Rattle.heap_rule.proofs.PauseFacts.{kind_differs, not_both, agree}
 use Rattle.heap_rule.proofs.Sharings.{kind_now}
 use Rattle.heap_rule.proofs.FinaliserLemmas.{deciding_marks}
 use Rattle.steps_cycle.specs.Looks.{with_share}
+use Rattle.steps_cycle.proofs.Pausing.{paused_on}
 use Rattle.cycle_laws.proofs.Tracing.{More}
 use Rattle.heap_model.specs.Graph.{Graph}
 use Rattle.heap_words.specs.declared.value.Value.{Value}
@@ -296,6 +298,9 @@ module _ (k : Config) (s : Words) (r : Rule k s) (id : ℕ) (hist : List Entry) 
     pub waits : c.shares.arrived d ≡ false
     waits = waits_in k s r id hist x at in_kind.kind in_kind.stage
 
+    pub none_runs : c.kind ≡ Run → ⊥
+    none_runs e = in_kind.under_way (subst HasNoCycle (sym e ∙ kind_here in_kind.kind in_kind.stage) tt)
+
     pub not_promoting : Promoting r.account.pause → ⊥
     not_promoting p = let e : Promote ≡ in_kind.kind = kind_differs r.account.pause p.0 here.1.0 r.account.pause.phase Promote in_kind.kind p.1 here.1.1 p.2 here.1.2 in in_kind.under_way (subst HasNoCycle e tt)
 
@@ -405,7 +410,13 @@ module _ (k : Config) (s : Words) (r : Rule k s) (id : ℕ) (hist : List Entry) 
         rotated = l.rotated;
         turned = l.turned;
         pass = l.pass;
+        whole = l.whole;
+        armed = l.armed;
       }
+
+      -- nobody runs
+      running' : (z : DomainView) → Good k r.account s.words z → RunsBeside k live holder c.armed c.past m'.marked words' z.own.number z.seen.stage z.seen.share
+      running' z g = paused_on k r.account.pause c r.whole.cycle.told none_runs live live holder holder m.marked m'.marked s.words words' z g.staged g.sharing.running
 
       pub sharing' : Sharing k all' words' d x.own.registers x.own.finalisers x.own.ephemerons.items x.seen.stage (holding (record sh { waiting = waiting }) h)
       sharing' =
@@ -419,7 +430,7 @@ module _ (k : Config) (s : Words) (r : Rule k s) (id : ℕ) (hist : List Entry) 
               forgotten = λ up. absurd (true≢false (sym up ∙ waits));
               colours = g.sharing.telling.colours;
             };
-            leading = record { changed = l.changed; found_blocks = l.found_blocks; found_words = l.found_words; rotated = l.rotated; turned = l.turned; pass = l.pass };
+            leading = record { changed = l.changed; found_blocks = l.found_blocks; found_words = l.found_words; rotated = l.rotated; turned = l.turned; pass = l.pass; whole = l.whole; armed = l.armed };
             knows = inr (
               collecting,
               record {
@@ -436,6 +447,7 @@ module _ (k : Config) (s : Words) (r : Rule k s) (id : ℕ) (hist : List Entry) 
             );
             adds = record { blocks = g.sharing.adds.blocks; words = g.sharing.adds.words; own = g.sharing.adds.own };
             looks = record { at_own = o.knows.looking.at_own; pruned = g.sharing.looks.pruned; cleans = o.knows.looking.cleans; emptied_is = o.knows.looking.emptied_is };
+            running = let u = running' x g in record { knows = u.knows; owes = u.owes };
             deciding = record { finals = g.sharing.deciding.finals; lasts = g.sharing.deciding.lasts; rooted = λ rooting _. o.queued rooting };
           }
 
@@ -455,6 +467,7 @@ module _ (k : Config) (s : Words) (r : Rule k s) (id : ℕ) (hist : List Entry) 
             g.sharing.knows;
         adds = record { blocks = g.sharing.adds.blocks; words = g.sharing.adds.words; own = g.sharing.adds.own };
         looks = looks_on m' o.still z g.staged g.sharing.looks;
+        running = running' z g;
         deciding = deciding_marks live c.kind c.left c.shares.arrived m.marked m'.marked z.own.number z.own.finalisers z.seen.share.kept z.seen.share.waiting o.more g.sharing.deciding;
       }
 

@@ -1,4 +1,5 @@
 pub mod Plain
+pub mod Pausing
 pub mod Colouring
 pub mod Layouts
 pub mod Learning
@@ -11,3 +12,4 @@ pub mod DarkenSteps
 pub mod WalkSteps
 pub mod ScanSteps
 pub mod ChangedSteps
+pub mod ArmingSteps

@@ -9,12 +9,12 @@ use Rattle.heap_rule.specs.declared.phase.Stage.{Stage}
 use Rattle.heap_rule.specs.declared.phase.Stage.TheVariants.{In, Leads, Led, Gone}
 use Rattle.heap_rule.specs.declared.view.DomainView.{DomainView}
 use Rattle.heap_rule.specs.declared.view.Share.{Share}
-use Rattle.heap_rule.specs.Cycles.{Cycling, IsIdle, IsCollecting, Knowing}
+use Rattle.heap_rule.specs.Cycles.{Cycling, IsIdle, IsCollecting, Knowing, MayLook}
 use Rattle.heap_rule.specs.Raw.{MayStep}
 use Rattle.heap_rule.specs.Rule.{Rule, Sharing, state_of}
 use Rattle.heap_rule.specs.Views.{one}
 use Rattle.heap_rule.proofs.Keeps.{Words, my_good, unmoved}
-use Rattle.steps_cycle.specs.Looks.{with_share, MayLook, ColoursTold}
+use Rattle.steps_cycle.specs.Looks.{with_share, ColoursTold}
 use Rattle.steps_cycle.proofs.Learning.{learns}
 use Rattle.heap_rule.proofs.Stages.{waits_in}
 
@@ -41,7 +41,7 @@ module _ (k : Config) (s : Words) (r : Rule k s) (id : ℕ) (hist : List Entry) 
       forgotten = λ up other. absurd (first x.seen.stage refl may up other);
       colours = λ known e. let same : Some c.paint.colours ≡ Some known = e in cc;
     };
-    leading = record { changed = sh.leading.changed; found_blocks = sh.leading.found_blocks; found_words = sh.leading.found_words; rotated = sh.leading.rotated; turned = sh.leading.turned; pass = sh.leading.pass };
+    leading = record { changed = sh.leading.changed; found_blocks = sh.leading.found_blocks; found_words = sh.leading.found_words; rotated = sh.leading.rotated; turned = sh.leading.turned; pass = sh.leading.pass; whole = sh.leading.whole; armed = sh.leading.armed };
     knows = ⊎_elim
         (λ (q : IsIdle x.seen.share). inl (ap (λ (z : Share). record z { colours = Some c.paint.colours }) q))
         (λ (n : IsCollecting x.seen.stage × Knowing k r.account.live r.account.tenancy.holder (state_of k r.account.log).graph c.paint.marks s.words x.own.number x.own.registers x.seen.share). inr (
@@ -61,6 +61,7 @@ module _ (k : Config) (s : Words) (r : Rule k s) (id : ℕ) (hist : List Entry) 
         sh.knows;
     adds = record { blocks = sh.adds.blocks; words = sh.adds.words; own = sh.adds.own };
     looks = record { at_own = sh.looks.at_own; pruned = sh.looks.pruned; cleans = sh.looks.cleans; emptied_is = sh.looks.emptied_is };
+    running = record { knows = sh.running.knows; owes = sh.running.owes };
     deciding = sh.deciding;
   }
 

@@ -10,6 +10,7 @@ use Rattle.heap_rule.specs.Raw.{CanLeave, Closes, Leaves}
 use Rattle.heap_rule.proofs.Closes.{front_same, leaves_closes}
 use Rattle.steps_cycle.specs.Looks.{ColoursTold, with_share}
 use Rattle.steps_cycle.specs.Marking.{ChangedTold, DarkenTold, TargetTold, GreyTold, MarkTold, OwnTold, Reason, ScanTold, ScannedTold, begun, behind, moved_on, owes_on, scanned_on, Site, places_seen_on, walk_on}
+use Rattle.steps_cycle.specs.Arming.{ArmedTold}
 use Rattle.steps_cycle.specs.Changed.{FindTold, ForgetTold}
 
 -- a step that tells of the share alone
@@ -50,3 +51,6 @@ find_closes k x found = share_closes k x found FindTold (λ y t. (record x.seen.
 
 pub forget_closes : (k : Config) (x : DomainView) → Closes k x 0 ForgetTold CanLeave Leaves
 forget_closes k x = share_closes k x 0 ForgetTold (λ y t. (record x.seen.share { changed = None }, t))
+
+pub armed_closes : (k : Config) (x : DomainView) (found : ℕ) → Closes k x found ArmedTold CanLeave Leaves
+armed_closes k x found = share_closes k x found ArmedTold (λ y t. (record x.seen.share { armed = Some t.armed }, t.view))

@@ -124,7 +124,7 @@ module _ (k : Config) (s : Words) (r : Rule k s) (id : ℕ) (hist : List Entry) 
     retint q w differ t = let e = o.elsewhere q.label differ in let c : Colours = paint.colours in record {
       scanned = t.scanned;
       packs = t.packs ∙ ap (λ (b : Bool). head_word (head_of q.forward q.shape (cond b c.marked c.unmarked) t.scanned)) (sym e.0);
-      tells = λ is. t.tells (subst (λ (b : Bool). IsTrue b) e.0 is) ∙ sym e.1;
+      tells = λ is up. e.1 ∙ t.tells (subst (λ (b : Bool). IsTrue b) e.0 is) up;
     }
 
     never_young : (b : ℕ) (q : Place) → r.account.live b ≡ Some q → k.pools * 4096 < b → ⊥

@@ -237,7 +237,7 @@ module _ (k : Config) (s : Words) (r : Rule k s) (id : ℕ) (hist : List Entry) 
             packs = may.marks ∙ (ap (λ (z : Colours). head_word (head_of None may.shape z.marked true)) means ∙ (ap head_word (sym (same.again cs.marked true))
                 ∙ (sym (ap (λ (b : Bool). head_word (head_of None p.shape (cond b cs.marked cs.unmarked) true)) is)
                 ∙ sym (ap (λ (o : Option ℕ). head_word (head_of o p.shape (colour_in (record c.paint { marks = m' }) p.label) true)) (bare k s r id hist x at (in_mark may.stage) a p g.lives).no_forward))));
-            tells = λ _. sym is_scanned;
+            tells = λ _ _. is_scanned;
           };
           elsewhere = λ l differ. (refl, ap (λ (b : Bool). b || m.scanned l) (same_label-false p.label l differ));
           marked = g.marked;

@@ -157,9 +157,9 @@ module _ (k : Config) (s : Words) (r : Rule k s) (id : ℕ) (hist : List Entry) 
     -- a marked block is scanned, or grey
     pub marked_cases : m.marked p.label ≡ true → (IsScanned colours head × (m.scanned p.label ≡ true)) ⊎ ((grey : IsGrey colours head) × (grey.block.shape ≡ p.shape))
     marked_cases is = ⊎_elim
-        (λ (done : m.scanned p.label ≡ true). inl (record { block = record { shape = p.shape; head = there.head; colour = marked_colour c.paint p head colours means there is }; scanned = there.tells is ∙ done }, done))
-        (λ (left : m.scanned p.label ≡ false). inr (record { block = record { shape = p.shape; head = there.head; colour = marked_colour c.paint p head colours means there is }; built = (r.whole.placed.fits a p lives).built; unscanned = there.tells is ∙ left }, refl))
-        (cases_Bool (m.scanned p.label))
+        (λ (done : there.head.scanned ≡ true). inl (record { block = record { shape = p.shape; head = there.head; colour = marked_colour c.paint p head colours means there is }; scanned = done }, there.tells is done))
+        (λ (left : there.head.scanned ≡ false). inr (record { block = record { shape = p.shape; head = there.head; colour = marked_colour c.paint p head colours means there is }; built = (r.whole.placed.fits a p lives).built; unscanned = left }, refl))
+        (cases_Bool there.head.scanned)
 
     pub unmarked_case : m.marked p.label ≡ false → IsUnmarked colours head
     unmarked_case e = record { shape = p.shape; head = there.head; colour = unmarked_colour c.paint p head colours means there e }

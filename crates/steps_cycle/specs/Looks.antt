@@ -2,8 +2,6 @@
 use Rattle.std.specs.Prelude.{◌≡◌, ℕ, Some}
 use Rattle.heap_words.specs.declared.colours.Colours.{Colours}
 use Rattle.heap_words.specs.ColourWords.{IsPermutation, colours_word}
-use Rattle.heap_rule.specs.declared.phase.Stage.{Stage}
-use Rattle.heap_rule.specs.declared.phase.Stage.TheVariants.{In, Leads, Led, Gone}
 use Rattle.heap_rule.specs.declared.config.Config.{Config}
 use Rattle.heap_rule.specs.declared.view.DomainView.{DomainView}
 use Rattle.heap_rule.specs.declared.view.Finalisers.{Finalisers}
@@ -19,13 +17,6 @@ with_share x share = record x { seen = record x.seen { share = share } }
 -- it knows the colours
 abbrev pub knowing_colours : DomainView → Colours → DomainView
 knowing_colours x colours = with_share x (record x.seen.share { colours = Some colours })
-
--- who may look at the colours: a domain that acts in an even phase, and domain 0 in an odd one
-abbrev pub MayLook : ℕ → Stage → Type 0
-MayLook d (In kind) = Unit {0}
-MayLook d (Leads kind) = d ≡ 0
-MayLook d (Led kind) = d ≡ 0
-MayLook d (Gone kind) = ⊥
 
 -- the addresses in a domain's lists of finalisers lie in the heap
 abbrev pub HeldInside : Config → Finalisers → Type 0

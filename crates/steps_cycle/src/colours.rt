@@ -2,7 +2,8 @@
 ghost use Rattle.std.specs.Prelude.{◌≡◌};
 ghost use Rattle.heap_words.specs.ColourWords.{IsPermutation};
 ghost use Rattle.heap_rule.specs.Token.{IsIn};
-ghost use Rattle.steps_cycle.specs.Looks.{HeldInside, MayLook, knowing_colours};
+ghost use Rattle.heap_rule.specs.Cycles.{MayLook};
+ghost use Rattle.steps_cycle.specs.Looks.{HeldInside, knowing_colours};
 
 use crate::looking::colours_load;
 use heap_rule::{Domain, Heap};

@@ -2,6 +2,7 @@
 //! blocks are marked. docs/RULE.md says how to add one.
 #![tactic(auto)]
 
+mod arming;
 mod changed;
 mod colours;
 mod looking;
@@ -9,9 +10,10 @@ mod marking;
 mod scanning;
 mod walking;
 
+pub use arming::{armed_load, armed_now, armed_store};
 pub use changed::{changed_clear, changed_load};
 pub use colours::colours_now;
-pub use looking::colours_load;
+pub use looking::{Looking, colours_load};
 pub use marking::{darken_exchange, target_load};
 pub use scanning::{changed_store, scan_load, scanned_store};
 pub use walking::{grey_load, mark_load, own_load};

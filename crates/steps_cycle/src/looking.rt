@@ -1,5 +1,6 @@
 //! Loads of the colours, and what looks have in common.
-ghost use Rattle.steps_cycle.specs.Looks.{MayLook, ColoursTold};
+ghost use Rattle.heap_rule.specs.Cycles.{MayLook};
+ghost use Rattle.steps_cycle.specs.Looks.{ColoursTold};
 ghost use Rattle.heap_rule.specs.Token.{IsIn};
 
 use heap_rule::{COLOURS, Change, Domain, Heap, Leaving, Own, Writing, raw_load};

@@ -35,9 +35,10 @@ use Rattle.heap_rule.specs.Rule.{state_of, Rule}
 use Rattle.heap_rule.specs.Standing.{Acts, IsAt, with_front}
 use Rattle.heap_rule.proofs.Values.{AllStand, stands_block, not_nothing}
 use Rattle.heap_rule.proofs.Keeps.{Words, IsOfTrace, mine, looks, unmoved, run_settled}
-use Rattle.heap_rule.proofs.Entering.{registers_stand, Enters, entered_view, enters_rule, enters, enters_command, may_begin}
+use Rattle.heap_rule.proofs.Entering.{registers_stand, entered_view, enters, may_begin}
 use Rattle.heap_rule.proofs.Blocks.{Lives, lives_at, found_at, plain_at, shape_at}
 use Rattle.heap_rule.proofs.HeadLemmas.{packable_head, colour_small}
+use Rattle.steps_run.proofs.Advances.{EntersPaid, paid_refused, paid_rule}
 use Rattle.steps_run.proofs.EphemeronEntries.{leaves_reply, block_is}
 use Rattle.steps_ephemerons.specs.Heads.{ephemeron_in, key_in, IsBlockValue, HasItem, HasKey, LacksKey, EpheHeadEntry, EpheHeadMay, EpheHeadTold, EpheHeadCase, subject}
 use Rattle.steps_ephemerons.proofs.Outcomes.{unregistering_item, fits_item, Brings, plain_outcome, past_outcome}
@@ -92,17 +93,17 @@ module _ (k : Config) (s : Words) (r : Rule k s) (id : ℕ) (hist : List Entry) 
   brings _ has = absurd has
 
   -- a command that is refused
-  refused : (c : command.Command) (reply : Reply) → HasItem x c → outcome now d c ≡ only_replies now reply → Enters k s r id hist x at acts (Command d c false) x.own.registers (Replied reply)
-  refused c reply has is = enters_command k s r id hist x at acts now.graph c (unregistering_item x c has) (fits_item now d x c has (may_begin k s r id hist x at acts)) x.own.registers (Replied reply) theirs stand (leaves_reply now d c reply is)
+  refused : (c : command.Command) (reply : Reply) → HasItem x c → outcome now d c ≡ only_replies now reply → EntersPaid k s r id hist x at acts now.graph (Command d c false) x.own.registers (Replied reply)
+  refused c reply has is = paid_refused k s r id hist x at acts c (unregistering_item x c has) (fits_item now d x c has (may_begin k s r id hist x at acts)) x.own.registers (Replied reply) stand (leaves_reply now d c reply is)
 
   -- as its block is a plain one
-  plain_entry : (a : ℕ) (c : command.Command) → HasItem x c → (n tag : ℕ) (b : Lives k s r id hist x at (ephemeron_in c) a) → b.place.shape ≡ PlainShape n tag → Enters k s r id hist x at acts (Command d c false) x.own.registers (Replied BadType)
+  plain_entry : (a : ℕ) (c : command.Command) → HasItem x c → (n tag : ℕ) (b : Lives k s r id hist x at (ephemeron_in c) a) → b.place.shape ≡ PlainShape n tag → EntersPaid k s r id hist x at acts now.graph (Command d c false) x.own.registers (Replied BadType)
   plain_entry a c has n tag b is =
       let p = plain_at k s r id hist x at (ephemeron_in c) a b n tag is in
       refused c BadType has (plain_outcome now d c p.label p.tag p.fields (brings c has) (block_is now d (ephemeron_in c) p.label (Plain p.tag p.fields) p.held p.node))
 
   -- or as it has no such key
-  past_entry : (a : ℕ) (c : command.Command) → HasItem x c → (keys : ℕ) (b : Lives k s r id hist x at (ephemeron_in c) a) → b.place.shape ≡ EpheShape keys → LacksKey (key_in c) keys → Enters k s r id hist x at acts (Command d c false) x.own.registers (Replied BadIndex)
+  past_entry : (a : ℕ) (c : command.Command) → HasItem x c → (keys : ℕ) (b : Lives k s r id hist x at (ephemeron_in c) a) → b.place.shape ≡ EpheShape keys → LacksKey (key_in c) keys → EntersPaid k s r id hist x at acts now.graph (Command d c false) x.own.registers (Replied BadIndex)
   past_entry a c has keys b is past =
       let f = found_at k s r id hist x at (ephemeron_in c) a b in
       let p = ephe_of f.node keys (f.shape ∙ is) in
@@ -123,14 +124,14 @@ module _ (k : Config) (s : Words) (r : Rule k s) (id : ℕ) (hist : List Entry) 
     rule : Rule k record { words = s.words; homes = s.homes; views = set s.views id (one k hist after) }
     told : EpheHeadCase k a e shape x after
 
-  refusal : (a : ℕ) (e : Entry) (shape : Shape) (answer : Applied) → IsOfTrace e → Enters k s r id hist x at acts e x.own.registers answer
+  refusal : (a : ℕ) (e : Entry) (shape : Shape) (answer : Applied) → IsOfTrace e → EntersPaid k s r id hist x at acts now.graph e x.own.registers answer
       → EpheHeadCase k a e shape x (entered_view k s r id hist x at acts e x.own.registers) → HeadStep a e shape
-  refusal a e shape answer of_trace o told = record { after = entered_view k s r id hist x at acts e x.own.registers; rule = enters_rule k s r id hist x at acts e x.own.registers answer o of_trace; told = told }
+  refusal a e shape answer of_trace o told = record { after = entered_view k s r id hist x at acts e x.own.registers; rule = paid_rule k s r id hist x at acts e x.own.registers answer o of_trace; told = told }
 
   head_step : (a : ℕ) (c : command.Command) → HasItem x c → (shape : Shape) (b : Lives k s r id hist x at (ephemeron_in c) a) → b.place.shape ≡ shape → HeadStep a (Command d c false) shape
   head_step a c has (PlainShape n tag) b is =
       let e : Entry = Command d c false in
-      let o = plain_entry a c has n tag b is in refusal a e (PlainShape n tag) (Replied BadType) tt o (enters k s r id hist x at acts now.graph e (Replied BadType) NothingWord [] o)
+      let o = plain_entry a c has n tag b is in refusal a e (PlainShape n tag) (Replied BadType) tt o (enters k s r id hist x at acts now.graph e (Replied BadType) NothingWord [] o.enters)
   head_step a c has (RawShape n tag) b is = absurd (subst IsBuilt is (r.whole.placed.fits a b.place b.lives).built)
   head_step a c has (EpheShape keys) b is = ⊎_elim
       (λ (inside : HasKey (key_in c) keys). record {
@@ -149,7 +150,7 @@ module _ (k : Config) (s : Words) (r : Rule k s) (id : ℕ) (hist : List Entry) 
       let e : Entry = Command d c false in
       let o = past_entry a c has keys b is past in refusal a e (EpheShape keys) (Replied BadIndex) tt o record {
         below = λ inside. absurd (not_both (key_in c) keys inside past);
-        past = λ _. enters k s r id hist x at acts now.graph e (Replied BadIndex) NothingWord [] o;
+        past = λ _. enters k s r id hist x at acts now.graph e (Replied BadIndex) NothingWord [] o.enters;
       })
       (key_cases (key_in c) keys)
 

@@ -1,6 +1,7 @@
 pub mod Outcomes
 pub mod Finding
 pub mod HeadSteps
+pub mod WeakAdvances
 pub mod WeakLoadSteps
 pub mod WeakStoreSteps
 pub mod Plain

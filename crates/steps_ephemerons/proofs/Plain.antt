@@ -1,5 +1,5 @@
 -- What the step calls tell of a token's plain data: it is what their changes make of it.
-use Rattle.std.proofs.Common.{◌≡◌, ⊎_elim, inl, ℕ, List, [], sym, ap, ◌∙◌}
+use Rattle.std.proofs.Common.{◌≡◌, ⊎_elim, inl, inr, ℕ, List, [], sym, ap, ◌∙◌}
 use Rattle.heap_model.specs.declared.entry.Entry.{Entry}
 use Rattle.heap_model.specs.declared.reply.Applied.TheVariants.{Replied}
 use Rattle.heap_model.specs.declared.reply.Reply.TheVariants.{BadType, BadIndex}
@@ -17,7 +17,7 @@ use Rattle.heap_rule.specs.Raw.{StepsOnce, CanChange, Changes, Closes}
 use Rattle.heap_rule.proofs.Plain.{fits_changed, entered_own, enters_once}
 use Rattle.steps_run.proofs.Plain.{ClosesUnread, kept}
 use Rattle.steps_ephemerons.specs.Heads.{key_of, HasKey, LacksKey, EpheHeadCase, EpheHeadTold}
-use Rattle.steps_ephemerons.specs.Loads.{weak_reply, WeakRead}
+use Rattle.steps_ephemerons.specs.Loads.{owing_after, target_of, weak_reply, WeakRead}
 use Rattle.steps_ephemerons.proofs.HeadSteps.{key_cases}
 
 -- a head load leaves the plain data
@@ -44,9 +44,9 @@ head_closes k x a e changes empty found y p told = kept k x y found changes empt
 
 pub weak_load_closes : (k : Config) (x : DomainView) (e : Entry) (changes : List Change) → FitChanges changes → (found : ℕ) → Closes k x found (WeakRead k e changes) (λ own. CanChange AsValue found changes) (λ own after. Changes AsValue found changes own after)
 weak_load_closes k x e changes fits found y p told =
-    let own = entered_own k e (Replied (weak_reply e told.held)) told.value changes x y told.entered in record {
+    let own = entered_own k e (Replied (weak_reply e told.held)) told.value changes (owing_after k (target_of e) told.value x) y told.entered in record {
       can_write = (fits, (told.value, (told.packable, sym told.word)));
       written = λ after wrote. own ∙ (ap (λ (u : Value). changed u changes x.own) (sym (value_word-injective wrote.0 told.value wrote.1.0 told.packable (wrote.1.1 ∙ told.word))) ∙ sym wrote.2);
       fits = fits_changed k x.own y.own told.value changes own p told.entered.holds;
-      once = enters_once k e (Replied (weak_reply e told.held)) told.value changes x y told.entered;
+      once = λ _. inr (record { entry = e; answer = Replied (weak_reply e told.held); answers = told.entered.answers });
     }

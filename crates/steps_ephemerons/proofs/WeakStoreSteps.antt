@@ -1,5 +1,5 @@
 -- Stores to keys and data keep the rule.
-use Rattle.std.proofs.Common.{◌≡◌, ℕ, ◌+◌, Bool, false, List, [], Option, Some, None, sym, refl, ap, ◌∙◌, subst}
+use Rattle.std.proofs.Common.{◌≡◌, ℕ, ◌+◌, Bool, false, IsTrue, List, [], Option, Some, None, sym, refl, ap, ◌∙◌, subst}
 use mathlib.Core.Option.{some}
 use lib.ListN.{get_elem?}
 use Rattle.atomic_table.specs.Table.{Allows}
@@ -15,6 +15,7 @@ use Rattle.heap_model.specs.declared.state.State as model
 use Rattle.heap_model.specs.Graph.{label_of}
 use Rattle.heap_model.specs.Commands.{key_value, outcome, done_with, block_in}
 use Rattle.heap_model.specs.Domains.{register, with_block, label_in}
+use Rattle.cycle_laws.specs.Beside.{WriteBarrier, owed_after}
 use Rattle.heap_rule.specs.declared.change.Change.{Change}
 use Rattle.heap_rule.specs.declared.config.Config.{Config}
 use Rattle.heap_rule.specs.declared.phase.Kind.TheVariants.{Run}
@@ -50,6 +51,8 @@ module _ (k : Config) (s : Words) (r : Rule k s) (id : ℕ) (hist : List Entry) 
 
   -- what a command stores of the graph, and that it leaves the ephemeron with it
   record Sets (c : command.Command) : Type 0 where
+    quiet : owed_after r.account.cycling.past.owed x.own.number c ≡ r.account.cycling.past.owed
+    barrier : IsTrue r.account.cycling.armed → WriteBarrier r.account.cycling.past r.account.cycling.paint.marks now x.own.number c
     value : graph_value.Value
     fits : FitsKey (key_in c) value
     stands : Stands r.account.live (stored_value x c) value
@@ -58,24 +61,32 @@ module _ (k : Config) (s : Words) (r : Rule k s) (id : ℕ) (hist : List Entry) 
 
   sets : (acts : Acts k x) (c : command.Command) → HasItem x c → Stores c → Sets c
   sets acts (SetKey ephe i item) has stores = let b = brings k s r id hist x at acts (SetKey ephe i item) has in record {
+    quiet = refl;
+    barrier = λ _. tt;
     value = register now x.own.number item;
     fits = ap (λ (v : graph_value.Value). key_value (label_of v)) b.1 ∙ sym b.1;
     stands = (registers_stand k s r id hist x at acts).each item has.0;
     leaves = λ l keys datum old held block. set_outcome now x.own.number (SetKey ephe i item) l keys datum i (label_in now x.own.number item) held.0 b refl held.1 block;
   }
   sets acts (UnsetKey ephe i) has stores = record {
+    quiet = refl;
+    barrier = λ _. tt;
     value = Nothing;
     fits = refl;
     stands = tt;
     leaves = λ l keys datum old held block. set_outcome now x.own.number (UnsetKey ephe i) l keys datum i None held.0 tt refl held.1 block;
   }
   sets acts (SetData ephe item) has stores = record {
+    quiet = refl;
+    barrier = λ _. tt;
     value = register now x.own.number item;
     fits = tt;
     stands = (registers_stand k s r id hist x at acts).each item has.0;
     leaves = λ l keys datum old held block. datum_outcome now x.own.number (SetData ephe item) l keys datum (register now x.own.number item) (brings k s r id hist x at acts (SetData ephe item) has) refl block;
   }
   sets acts (UnsetData ephe) has stores = record {
+    quiet = refl;
+    barrier = λ _. tt;
     value = Nothing;
     fits = tt;
     stands = tt;
@@ -108,6 +119,8 @@ module _ (k : Config) (s : Words) (r : Rule k s) (id : ℕ) (hist : List Entry) 
         same = may.same;
         unregistering = unregistering_item x c may.item;
         fits = fits_item now x.own.number x c may.item (may_begin k s r id hist x at may.acts);
+        quiet = z.quiet;
+        barrier = z.barrier;
         leaves = leaves_block now x.own.number c f.place.label (stored_node (key_in c) f.keys f.datum z.value)
             (z.leaves f.place.label f.keys f.datum f.value f.is (block_is now x.own.number (ephemeron_in c) f.place.label (Ephe f.keys f.datum) f.held f.node));
       }

@@ -1,5 +1,5 @@
 -- Loads of keys and data.
-use Rattle.std.specs.Prelude.{◌≡◌, ℕ, ◌+◌, ◌<◌, false, List, Option, Some, None, slice_set}
+use Rattle.std.specs.Prelude.{◌≡◌, ℕ, ◌+◌, ◌*◌, ◌<◌, Bool, true, false, cond, nat_le, List, Option, Some, None, slice_set}
 use Rattle.heap_model.specs.declared.command.Command as command
 use Rattle.heap_model.specs.declared.command.Command.TheVariants.{GetKey, CheckKey, GetData, CheckData}
 use Rattle.heap_model.specs.declared.entry.Entry.{Entry}
@@ -15,10 +15,12 @@ use Rattle.heap_model.specs.Commands.{shown, key_value}
 use Rattle.heap_model.specs.Domains.{register}
 use Rattle.heap_model.specs.Fronts.{EpheShape, HoldsShape}
 use Rattle.heap_words.specs.declared.value.Value.{Value}
+use Rattle.heap_words.specs.declared.value.Value.TheVariants.{Ref}
 use Rattle.heap_words.specs.Values.{IsPackable, value_word}
 use Rattle.heap_rule.specs.declared.change.Change.{Change}
 use Rattle.heap_rule.specs.declared.config.Config.{Config}
 use Rattle.heap_rule.specs.declared.view.DomainView.{DomainView}
+use Rattle.heap_rule.specs.declared.view.Share.{Share}
 use Rattle.heap_rule.specs.Places.{Shows}
 use Rattle.heap_rule.specs.Changes.{changed, FitChanges}
 use Rattle.heap_rule.specs.Rule.{state_of}
@@ -58,6 +60,11 @@ abbrev pub Puts : DomainView → List Change → Option ℕ → Type 0
 Puts x changes None = (v : Value) → changed v changes x.own ≡ x.own
 Puts x changes (Some dst) = (dst < 16) × ((v : Value) → changed v changes x.own ≡ record x.own { registers = slice_set x.own.registers dst v })
 
+-- a command that writes a register has to know whether a cycle goes on beside running domains
+abbrev pub KnowsArmed : DomainView → Option ℕ → Bool → Type 0
+KnowsArmed x None armed = Unit {0}
+KnowsArmed x (Some dst) armed = x.seen.share.armed ≡ Some armed
+
 -- what a load asks: its entry is an own command that looks at this word
 pub record WeakLoadMay (k : Config) (x : DomainView) (at : ℕ) (changes : List Change) (d : ℕ) (c : command.Command) : Type 0 where
   pub own : d ≡ x.own.number
@@ -65,6 +72,8 @@ pub record WeakLoadMay (k : Config) (x : DomainView) (at : ℕ) (changes : List 
   pub looks : IsLook c
   pub reads : WeakMay k x at (ephemeron_in c) (key_in c)
   pub puts : Puts x changes (target_in c)
+  pub armed : Bool
+  pub known_armed : KnowsArmed x (target_in c) armed
   pub fits : FitChanges changes
 
 -- the same of the entry that is told
@@ -104,7 +113,26 @@ abbrev pub Gets : State → ℕ → Option ℕ → model.Value → Type 0
 Gets s d None held = Unit {0}
 Gets s d (Some dst) held = register s d dst ≡ held
 
--- a load tells the key or the datum at its entry
+-- a block of the pools that a weak read brings while a cycle goes on beside is still to be darkened
+abbrev pub weak_on : Config → Bool → ℕ → Value → Option ℕ
+weak_on k true dst (Ref a) = cond (nat_le a (k.pools * 4096)) (Some dst) None
+weak_on k _ dst _ = None
+
+-- whether it is known that a cycle goes on beside running domains
+abbrev pub is_armed : Option Bool → Bool
+is_armed (Some armed) = armed
+is_armed None = false
+
+-- the register that is still to be darkened when the value has been put into this register, if it is put into one
+abbrev pub weak_after : Config → Share → Option ℕ → Value → Option ℕ
+weak_after k share None value = share.weak
+weak_after k share (Some dst) value = weak_on k (is_armed share.armed) dst value
+
+-- the domain then owes the darkening of what that register holds
+abbrev pub owing_after : Config → Option ℕ → Value → DomainView → DomainView
+owing_after k target value x = record x { seen = record x.seen { share = record x.seen.share { weak = weak_after k x.seen.share target value } } }
+
+-- a load tells the key or the datum at its entry, and what it owes then
 pub record WeakRead (k : Config) (e : Entry) (changes : List Change) (x : DomainView) (found : ℕ) (y : DomainView) : Type 0 where
   pub value : Value
   pub packable : IsPackable value
@@ -113,4 +141,4 @@ pub record WeakRead (k : Config) (e : Entry) (changes : List Change) (x : Domain
   pub shows : Shows value held
   pub key : MayHold (key_of e) held
   pub register_is : Gets (state_of k y.seen.front) x.own.number (target_of e) held
-  pub entered : Entered k e (Replied (weak_reply e held)) value changes x y
+  pub entered : Entered k e (Replied (weak_reply e held)) value changes (owing_after k (target_of e) value x) y

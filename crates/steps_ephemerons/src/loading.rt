@@ -33,8 +33,9 @@ pub fn ephe_head_load(heap: &Heap, dom: &mut Domain, at: u32, changes: &[Change]
 
 /// A load of a key or of the data of the ephemeron in a register, whose number of keys is known. The
 /// entry of `get_key`, `check_key`, `get_data` or `check_data` stands here. `at` is the word's
-/// address, and by the changes the register of `get_key` or `get_data` gets what the word says.
-/// Answers the word.
+/// address, and by the changes the register of `get_key` or `get_data` gets what the word says. At
+/// these two the domain has found whether a cycle goes on beside. If one does, and the register gets
+/// a block of the pools, the domain owes the darkening of that block. Answers the word.
 pub fn weak_load(heap: &Heap, dom: &mut Domain, at: u32, changes: &[Change]) -> u64
     ghost entry: { Entry }
     requires here { IsIn dom.old heap.now }

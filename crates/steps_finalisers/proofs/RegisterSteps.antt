@@ -1,11 +1,12 @@
 -- A registration keeps the rule.
-use Rattle.std.proofs.Common.{◌≡◌, ℕ, ◌<◌, false, ne_eqb, List, [], ◌∷◌, ◌++◌, length, get_or, set, Option, Some, sym, refl, ap, ◌∙◌, subst, get_or-set_same}
+use Rattle.std.proofs.Common.{◌≡◌, ℕ, ◌<◌, false, IsTrue, None, ne_eqb, List, [], ◌∷◌, ◌++◌, length, get_or, set, Option, Some, sym, refl, ap, ◌∙◌, subst, get_or-set_same}
 use mathlib.Core.Option.{some}
 use lib.ListN.{get_elem?}
 use Rattle.atomic_table.specs.Table.{keeps}
+use Rattle.heap_model.specs.declared.command.Command.{Command}
 use Rattle.heap_model.specs.declared.command.Command.TheVariants.{Finalise, FinaliseLast}
 use Rattle.heap_model.specs.declared.entry.Entry.{Entry}
-use Rattle.heap_model.specs.declared.entry.Entry.TheVariants.{Command}
+use Rattle.heap_model.specs.declared.entry.Entry.TheVariants.{Command as CommandOf}
 use Rattle.heap_model.specs.declared.graph.Value as graph_value
 use Rattle.heap_model.specs.declared.graph.Value.TheVariants.{Nothing as GraphNothing}
 use Rattle.heap_model.specs.declared.label.Label.{Label}
@@ -20,6 +21,7 @@ use Rattle.heap_model.specs.Domains.{domain_at, label_in, no_domain, register}
 use Rattle.heap_model.specs.Entries.{next}
 use Rattle.heap_model.specs.Graph.{label_of}
 use Rattle.heap_model.proofs.Commands.FrameLemmas.{frame_command, part_set}
+use Rattle.cycle_laws.specs.Beside.{WriteBarrier, owed_after}
 use Rattle.heap_words.specs.declared.value.Value.{Value}
 use Rattle.heap_rule.specs.declared.config.Config.{Config}
 use Rattle.heap_rule.specs.declared.view.DomainView.{DomainView}
@@ -34,14 +36,15 @@ use Rattle.heap_rule.specs.Rule.{Rule, Stood}
 use Rattle.heap_rule.specs.Standing.{Acts, GoesOn, IsAt}
 use Rattle.heap_rule.specs.Views.{one}
 use Rattle.heap_rule.proofs.FinaliserLemmas.{paired_append, paired_none}
-use Rattle.heap_rule.proofs.Keeps.{Words, my_good, unmoved}
+use Rattle.heap_rule.proofs.Advancing.{Advance, advances_command, underway_here}
+use Rattle.heap_rule.proofs.Keeps.{Words, more_same, my_good, unmoved}
 use Rattle.heap_rule.proofs.Values.{stands_block}
 use Rattle.steps_finalisers.specs.Registering.{FinalMay, FinalTold, LastMay, LastTold, with_final as adding_final, with_last as adding_last}
 use Rattle.steps_finalisers.proofs.WorkSteps.{Works, inside_state, now, now_open, running, worked, works_answers, works_rule}
 
 -- who acts goes on
 pub acts_on : (k : Config) (x : DomainView) → Acts k x → GoesOn k x
-acts_on k x acts = record { goes_on = acts.goes_on; runs = acts.runs }
+acts_on k x acts = record { goes_on = acts.goes_on; runs = acts.runs; paid = acts.paid }
 
 module _ (k : Config) (s : Words) (r : Rule k s) (id : ℕ) (hist : List Entry) (x : DomainView) (at : get_elem? s.views id ≡ some (one k hist x)) (acts : Acts k x) where
   abbrev d : ℕ
@@ -61,6 +64,10 @@ module _ (k : Config) (s : Words) (r : Rule k s) (id : ℕ) (hist : List Entry) 
 
   queue_empty : (domain_at t d).queue ≡ []
   queue_empty = paired_none (StandsWaiting live) x.own.finalisers.queue.items (domain_at t d).queue acts.unqueued (my_good k s r id hist x at).stood.enrolled.queue
+
+  -- a registration overwrites nothing, and reads nothing weakly
+  quiet : (c : Command) → owed_after r.account.cycling.past.owed d c ≡ r.account.cycling.past.owed → (IsTrue r.account.cycling.armed → WriteBarrier r.account.cycling.past r.account.cycling.paint.marks t d c) → Advance k s r id hist x at (CommandOf d c false) None live
+  quiet c reads barrier = advances_command k s r id hist x at goes.runs goes.paid c live reads (more_same live) (λ is. (underway_here k s r id hist x at goes.runs is).young) barrier
 
   -- the block in a register
   block : (item a : ℕ) → IsAt x item a → (l : Label) × (label_in t d item ≡ Some l) × LivesAt live a l
@@ -103,7 +110,7 @@ module _ (k : Config) (s : Words) (r : Rule k s) (id : ℕ) (hist : List Entry) 
     f = record { number = rd.number; label = b.0; register = rd.register }
 
     abbrev e : Entry
-    e = Command d (Finalise item rd.number rd.register) false
+    e = CommandOf d (Finalise item rd.number rd.register) false
 
     abbrev fs : Finalisers
     fs = (adding_final rd x.own).finalisers
@@ -121,6 +128,7 @@ module _ (k : Config) (s : Words) (r : Rule k s) (id : ℕ) (hist : List Entry) 
       allowed = record { running = running k s r id hist x at goes; fits = (now_open k s r id hist x at goes, queue_empty); full_fits = tt };
       is_open = (frame_command t d (Finalise item rd.number rd.register) false).mode ∙ now_open k s r id hist x at goes;
       graph = ap (λ (z : model.State). z.graph) after;
+      advance = quiet (Finalise item rd.number rd.register) refl (λ _. tt);
       stood = subst (λ (z : model.State). Stood live z (worked k s r id hist x at goes e x.own.registers fs)) (sym after)
           (stood_behind u refl refl (worked k s r id hist x at goes e x.own.registers fs) fs refl refl refl refl
           (paired_append (StandsFinal live) x.own.finalisers.finals.items (rd ∷ []) (domain_at t d).finals (f ∷ []) g.finals ((b.2, refl, refl), tt))
@@ -137,7 +145,7 @@ module _ (k : Config) (s : Words) (r : Rule k s) (id : ℕ) (hist : List Entry) 
     f' = record { number = rd.number; label = b'.0 }
 
     abbrev e' : Entry
-    e' = Command d (FinaliseLast item rd.number) false
+    e' = CommandOf d (FinaliseLast item rd.number) false
 
     abbrev fs' : Finalisers
     fs' = (adding_last rd x.own).finalisers
@@ -155,6 +163,7 @@ module _ (k : Config) (s : Words) (r : Rule k s) (id : ℕ) (hist : List Entry) 
       allowed = record { running = running k s r id hist x at goes; fits = (now_open k s r id hist x at goes, queue_empty); full_fits = tt };
       is_open = (frame_command t d (FinaliseLast item rd.number) false).mode ∙ now_open k s r id hist x at goes;
       graph = ap (λ (z : model.State). z.graph) after';
+      advance = quiet (FinaliseLast item rd.number) refl (λ _. tt);
       stood = subst (λ (z : model.State). Stood live z (worked k s r id hist x at goes e' x.own.registers fs')) (sym after')
           (stood_behind u' refl refl (worked k s r id hist x at goes e' x.own.registers fs') fs' refl refl refl refl
           g.finals
@@ -166,7 +175,7 @@ module _ (k : Config) (s : Words) (r : Rule k s) (id : ℕ) (hist : List Entry) 
 pub final_may : (k : Config) (x : DomainView) (word item : ℕ) (rd : Registered) → FinalMay k x item rd → MayStep k x word (λ n. n) (λ z _ y. FinalTold k item rd z y)
 final_may k x word item rd may fits slots id hist s r _ at _ =
     let goes = acts_on k x may.acts in
-    let entry : Entry = Command x.own.number (Finalise item rd.number rd.register) false in
+    let entry : Entry = CommandOf x.own.number (Finalise item rd.number rd.register) false in
     let lists : Finalisers = (adding_final rd x.own).finalisers in
     let o = final_works k s r id hist x at may.acts item rd may in
     let y : DomainView = worked k s r id hist x at goes entry x.own.registers lists in (
@@ -180,7 +189,7 @@ final_may k x word item rd may fits slots id hist s r _ at _ =
 pub last_may : (k : Config) (x : DomainView) (word item : ℕ) (rd : RegisteredLast) → LastMay k x item rd → MayStep k x word (λ n. n) (λ z _ y. LastTold k item rd z y)
 last_may k x word item rd may fits slots id hist s r _ at _ =
     let goes = acts_on k x may.acts in
-    let entry : Entry = Command x.own.number (FinaliseLast item rd.number) false in
+    let entry : Entry = CommandOf x.own.number (FinaliseLast item rd.number) false in
     let lists : Finalisers = (adding_last rd x.own).finalisers in
     let o = last_works k s r id hist x at may.acts item rd may in
     let y : DomainView = worked k s r id hist x at goes entry x.own.registers lists in (

@@ -1,5 +1,5 @@
 -- The run of a finaliser keeps the rule.
-use Rattle.std.proofs.Common.{◌≡◌, ◌≢◌, ℕ, ◌<◌, ne_eqb, List, [], ◌∷◌, ◌++◌, length, get_or, set, slice_get, Some, sym, refl, ap, ◌∙◌, subst, arith, get_or-set_same, length-set}
+use Rattle.std.proofs.Common.{◌≡◌, ◌≢◌, ℕ, ◌<◌, ne_eqb, List, [], ◌∷◌, ◌++◌, length, get_or, set, slice_get, Some, None, inl, sym, refl, ap, ◌∙◌, subst, arith, get_or-set_same, length-set}
 use Rattle.std.specs.Prelude.{remove}
 use mathlib.Core.Option.{some}
 use lib.ListN.{get_elem?}
@@ -18,6 +18,8 @@ use Rattle.heap_model.specs.declared.state.State as model
 use Rattle.heap_model.specs.Domains.{domain_at, no_domain, register, with_domain, with_register, IsShaped}
 use Rattle.heap_model.specs.Entries.{after_run, next, run_reply, without_first}
 use Rattle.heap_model.proofs.Histories.ShapeAfterLemmas.{shaped-history}
+use Rattle.cycle_laws.specs.Beside.{Past}
+use Rattle.cycle_laws.proofs.Beside.{beside_law}
 use Rattle.heap_words.specs.declared.value.Value.{Value}
 use Rattle.heap_words.specs.declared.value.Value.TheVariants.{Ref}
 use Rattle.heap_rule.specs.declared.config.Config.{Config}
@@ -34,7 +36,8 @@ use Rattle.heap_rule.specs.Rule.{Rule, Stood, state_of}
 use Rattle.heap_rule.specs.Token.{OwnFits}
 use Rattle.heap_rule.specs.Views.{one}
 use Rattle.heap_rule.proofs.FinaliserLemmas.{paired_get, paired_length}
-use Rattle.heap_rule.proofs.Keeps.{Words, after_entry, my_good, unmoved}
+use Rattle.heap_rule.proofs.Advancing.{Advance, advances_by, owes_nothing, underway_here}
+use Rattle.heap_rule.proofs.Keeps.{Words, after_entry, more_same, my_good, unmoved}
 use Rattle.heap_rule.proofs.Values.{AllStand, stand_set}
 use Rattle.steps_finalisers.specs.Running.{AnswersRun, HasRegister, RunMay, RunTold, ran_own, registers_after}
 use Rattle.steps_finalisers.proofs.WorkSteps.{Works, inside_state, now, now_open, running, worked, works_answers, works_holds, works_rule}
@@ -77,6 +80,14 @@ module _ (k : Config) (s : Words) (r : Rule k s) (id : ℕ) (hist : List Entry) 
 
   abbrev y : DomainView
   y = worked k s r id hist x at may.goes_on e regs fs
+
+  -- a cycle beside running domains goes on: what the register gets the queue kept alive
+  advance : Advance k s r id hist x at e None live
+  advance =
+      let goes = may.goes_on in
+      let past : Past = r.account.cycling.past in
+      advances_by k s r id hist x at goes.runs e None live past.owed (more_same live) (λ is. (underway_here k s r id hist x at goes.runs is).young) (inl refl) (λ _ _ _. refl) (λ is q. owes_nothing k s r id hist x at goes.runs goes.paid is q)
+      (λ is. beside_law.runs past r.account.cycling.paint.marks t (underway_here k s r id hist x at goes.runs is).covered d)
 
   -- what the run answers, and that its block is in its register
   pub record Outcome (answer : Applied) : Type 0 where
@@ -135,6 +146,7 @@ module _ (k : Config) (s : Words) (r : Rule k s) (id : ℕ) (hist : List Entry) 
         allowed = record { mode = now_open k s r id hist x at may.goes_on; running = running k s r id hist x at may.goes_on; queue = nonempty };
         is_open = ap (λ (z : model.State). z.mode) whole ∙ (mode ∙ now_open k s r id hist x at may.goes_on);
         graph = ap (λ (z : model.State). z.graph) whole ∙ graph;
+        advance = advance;
         stood = subst (λ (z : model.State). Stood live z y) (sym whole) stood';
         replies = ap run_reply queue_is ∙ replies;
       }

@@ -1,5 +1,5 @@
 -- An own entry of a running domain that changes registers and lists of finalisers, and no word of the heap.
-use Rattle.std.proofs.Common.{◌≡◌, ◌≢◌, ℕ, ◌<◌, false, List, [], ◌∷◌, ◌++◌, length, set, sym, refl, ◌∙◌, subst}
+use Rattle.std.proofs.Common.{◌≡◌, ◌≢◌, ℕ, ◌<◌, false, List, [], ◌∷◌, ◌++◌, length, set, None, sym, refl, ap, ◌∙◌, subst}
 use mathlib.Core.Option.{some}
 use lib.ListN.{get_elem?}
 use Rattle.heap_model.specs.declared.entry.Entry.{Entry}
@@ -22,8 +22,10 @@ use Rattle.heap_rule.specs.Rule.{AllFound, Rule, Stood, state_of}
 use Rattle.heap_rule.specs.Standing.{GoesOn, with_front, with_own}
 use Rattle.heap_rule.specs.Token.{Holds}
 use Rattle.heap_rule.specs.Views.{one}
+use Rattle.heap_rule.proofs.Advancing.{Advance}
 use Rattle.heap_rule.proofs.FullnessLemmas.{full_stays, trace_collects}
 use Rattle.heap_rule.proofs.Keeps.{IsOfTrace, Words, appends, control_same, controls_kept, hunter_as, legal_entry, mine, more_same, my_good, own, owes_as, recalls_same, run_open, run_settled}
+use Rattle.heap_rule.proofs.Sharings.{with_weak}
 use Rattle.heap_rule.proofs.Values.{holds}
 
 module _ (k : Config) (s : Words) (r : Rule k s) (id : ℕ) (hist : List Entry) (x : DomainView) (at : get_elem? s.views id ≡ some (one k hist x)) (goes_on : GoesOn k x) where
@@ -52,18 +54,22 @@ module _ (k : Config) (s : Words) (r : Rule k s) (id : ℕ) (hist : List Entry) 
     pub is_open : (next now e).mode ≡ Open
     pub graph : (next now e).graph ≡ now.graph
     pub stood : Stood r.account.live (next now e) (worked e registers fs)
+    pub advance : Advance k s r id hist x at e None r.account.live
     pub replies : reply now e ≡ answer
 
   module _ (e : Entry) (registers : List Value) (fs : Finalisers) (answer : Applied) (o : Works e registers fs answer) where
     pub works_rule : Rule k record { words = s.words; homes = s.homes; views = set s.views id (one k hist (worked e registers fs)) }
-    works_rule = let g = my_good k s r id hist x at in appends k s r id hist x at e (worked e registers fs) s.words r.account.live r.account.homes record {
+    works_rule = let g = my_good k s r id hist x at in appends k s r id hist x at e (worked e registers fs) s.words r.account.live r.account.homes o.advance.past record {
       full = full_stays k r.account.log r.account.live r.account.tenancy.holder r.account.tenancy.fresh r.account.homes r.account.cycling.kind e (trace_collects e o.of_trace) r.whole.full;
       alone = o.alone;
       of_trace = o.of_trace;
       runs = goes_on.runs;
       stage = refl;
       listing = refl;
-      share = refl;
+      weak = None;
+      share = ap (with_weak x.seen.share) goes_on.paid;
+      advances = o.advance.advances;
+      heads = λ a p e. refl;
       allowed = o.allowed;
       is_open = o.is_open;
       number = refl;

@@ -1,5 +1,5 @@
 -- The making of a block in the own minor area keeps the rule.
-use Rattle.std.proofs.Common.{◌≡◌, ◌≢◌, ℕ, suc, ◌+◌, ◌*◌, ◌^◌, ◌<◌, ◌≤◌, ◌⊎◌, Bool, true, false, nat_le, if◌then◌else◌, leb-true, ne_eqb, List, [], ◌∷◌, ◌++◌, length, get_or, set, replicate, slice_get, pos, Option, Some, None, sym, refl, ap, ◌∙◌, subst, inl, inr, ⊎_elim, arith, length-set, get_or-set_same, get_or-set_other, lt_of_not-le, IsTrue}
+use Rattle.std.proofs.Common.{◌≡◌, ◌≢◌, ℕ, suc, ◌+◌, ◌*◌, ◌^◌, ◌<◌, ◌≤◌, ◌⊎◌, Bool, true, false, nat_le, if◌then◌else◌, leb-true, ne_eqb, List, [], ◌∷◌, ◌++◌, length, get_or, set, replicate, slice_get, pos, Option, Some, None, sym, refl, ap, ◌∙◌, subst, inl, inr, ⊎_elim, arith, not, length-set, get_or-set_same, get_or-set_other, lt_of_not-le, IsTrue}
 use Rattle.std.proofs.lemmas.List.{length-replicate}
 use Rattle.std.proofs.lemmas.Int.{ints}
 use Rattle.std.proofs.lemmas.Bool.Decides.{nat_tests}
@@ -18,13 +18,13 @@ use Rattle.heap_model.specs.declared.graph.Value as graph_value
 use Rattle.heap_model.specs.declared.graph.Value.TheVariants.{Int, Block, Nothing}
 use Rattle.heap_model.specs.declared.graph.Node.{Node}
 use Rattle.heap_model.specs.declared.state.State as model
-use Rattle.heap_model.specs.Graph.{Graph, node_at, has_label}
+use Rattle.heap_model.specs.Graph.{Graph, labels, node_at, has_label}
 use Rattle.heap_model.specs.Domains.{domain_at, reserve}
 use Rattle.heap_model.specs.Commands.{new_plain}
 use Rattle.heap_model.specs.Entries.{next}
-use Rattle.heap_model.specs.Fronts.{PlainShape, EpheShape}
+use Rattle.heap_model.specs.Fronts.{Shape, PlainShape, RawShape, EpheShape}
 use Rattle.heap_model.proofs.Graphs.GraphLemmas.{node_at-append_old, node_at-append_new}
-use Rattle.heap_model.proofs.Histories.NumberLemmas.{next_label_after}
+use Rattle.heap_model.proofs.Histories.NumberLemmas.{next_label_after, next_label-new}
 use Rattle.heap_model.proofs.Histories.FrontLemmas.{answers_push}
 use Rattle.heap_model.proofs.Commands.LeavesLemmas.{Leaves, leaves_alloc}
 use Rattle.heap_words.specs.declared.value.Value.{Value}
@@ -37,7 +37,7 @@ use Rattle.heap_rule.specs.Limits.{sizes_in}
 use Rattle.heap_rule.specs.Layout.{heap_words, before_heap, base_of, at_address, table_words, listed}
 use Rattle.size_classes.specs.declared.TheConstants.{SIZES}
 use Rattle.heap_rule.specs.Ephemerons.{IsEpheAt}
-use Rattle.heap_rule.specs.Places.{values_of, without_keys, IsHeadOf, Place, Live, extent, least_size, class_words, HasClass, span, Stands, Found, Fits, Placed, Spread, Settled, More}
+use Rattle.heap_rule.specs.Places.{values_of, without_keys, IsHead, IsHeadOf, new_colour, Place, Live, extent, least_size, class_words, HasClass, span, Stands, Found, Fits, Placed, Spread, Settled, More}
 use Rattle.heap_rule.specs.Copies.{Recalls}
 use Rattle.heap_rule.specs.Room.{Opened}
 use Rattle.heap_rule.specs.Changes.{value_at, changed, FitChanges}
@@ -51,12 +51,17 @@ use Rattle.heap_rule.proofs.Lists.{got_end, got_below}
 use Rattle.heap_rule.proofs.Sizes.{area_below, area_inside}
 use Rattle.heap_rule.proofs.ChangeLemmas.{changed_only, registers_of}
 use Rattle.heap_rule.proofs.Values.{AllStand, stand_set, holds}
-use Rattle.heap_rule.proofs.Keeps.{whole_here, listed_here, Words, more_same, mine, my_good, control_set, controls_kept, hunter_as, appends, writes, legal_entry, owes_run, opened_words, quiet, run_settled, cycle_here, sharing_here, sharings_here, between_here, cycle_control}
+use Rattle.heap_rule.proofs.Keeps.{whole_here, listed_here, Words, more_same, mine, my_good, control_set, controls_kept, hunter_as, appends, writes, legal_entry, owes_run, opened_words, quiet, run_settled, cycle_here, sharing_here, sharings_here, runs_here, between_here, cycle_control}
 use Rattle.heap_rule.proofs.Entering.{running, inside_state, registers_stand, may_begin, open_after}
 use Rattle.heap_rule.proofs.FinaliserLemmas.{enrolled_as, enrolled_more, work_command}
 use Rattle.heap_rule.proofs.Beside.{found_beside, making_beside, area_word_far}
 use Rattle.heap_rule.proofs.Born.{zero_word, zero_values, all_more, live', born, more, old, is_new, placed_born, settled_born, recalls_born, naming_born, spread_born, opened_born, classes_born}
-use Rattle.heap_rule.proofs.Sharings.{SameCycle}
+use Rattle.heap_rule.proofs.Sharings.{SameCycle, with_weak}
+use Rattle.heap_rule.proofs.Advancing.{Advance, advances_command, underway_here, numbered}
+use Rattle.heap_rule.proofs.BesideLemmas.{Endures}
+use Rattle.cycle_laws.specs.Beside.{Past}
+use Rattle.cycle_laws.specs.Cover.{is_new as is_new_label}
+use Rattle.cycle_laws.specs.Marks.{Marks}
 use Rattle.heap_rule.proofs.HeadLemmas.{head_at, new_head}
 use Rattle.heap_rule.proofs.FullnessLemmas.{full_young, full_stays, homeless, new_kept}
 use Rattle.heap_rule.specs.Fullness.{Fullness}
@@ -64,6 +69,17 @@ use Rattle.cycle_laws.specs.Fullness.{kept_labels}
 use Rattle.heap_rule.specs.Pools.{Tenancy}
 use Rattle.heap_rule.specs.declared.phase.Kind.{Kind}
 use Rattle.heap_rule.specs.declared.phase.Kind.TheVariants.{Run}
+
+-- a block has words
+extent_low : (shape : Shape) → 0 < extent shape
+extent_low (PlainShape n tag) = omega arith
+extent_low (RawShape n tag) = omega arith
+extent_low (EpheShape keys) = omega arith
+
+-- what is so exactly where something else is
+same_bool : (b c : Bool) → (b ≡ false → c ≡ false) → (IsTrue b → IsTrue c) → c ≡ b
+same_bool true c none up = up refl
+same_bool false c none up = none refl
 
 -- the blocks lie beside the free part of an area
 free_far : (k : Config) (live : Live) (x : DomainView) (at : ℕ) → Area k live x → base_of k x.own.number + x.own.used ≤ at → at < base_of k x.own.number + k.minor_words
@@ -96,6 +112,13 @@ inits k slots id word hist x a new changes place may s r _ at _ =
     let beside : (d : ℕ) → Beside k r.account.tenancy s.words d a = area_beside k r.account.tenancy s.words a new r.whole.pools (let p : ℕ = x.own.number * minor in let e : k.pools * 4096 < a = omega arith in e) in
     let now : model.State = state_of k r.account.log in
     let same : SameCycle s.words ws = cycle_control k s.words ws (control_set k s.words a new (omega arith)) in
+    let endures : Endures k r.account.live r.account.live r.account.tenancy.holder r.account.tenancy.holder r.account.cycling.paint.marks.marked r.account.cycling.paint.marks.marked s.words ws = record {
+      more = more_same r.account.live;
+      held = λ q d c e. e;
+      stays = λ l is. is;
+      heads = λ b q lives. inl (get_or-set_other s.words (before_heap k + a) (before_heap k + b) new 0 (λ e. free_far k r.account.live x a g.area low high b q lives 0 (extent_low q.shape) (omega arith)));
+    } in
+    let past : Past = r.account.cycling.past in
     let rule : Rule k record { words = ws; homes = s.homes; views = set s.views id (one k hist y) } = writes k s r id hist x at y ws record {
       number = refl;
       hunt = refl;
@@ -127,9 +150,9 @@ inits k slots id word hist x a new changes place may s r _ at _ =
       grid = grid_beside k r.account.tenancy s.words a new r.account.live r.account.live r.whole.pools beside (more_same r.account.live) (λ b q h _. h) r.whole.grid;
       hunter = hunter_as k r.account.tenancy ws x y refl refl refl refl refl refl (hunter_beside k r.account.tenancy s.words a new r.whole.pools x (beside x.own.number) g.hunter);
       hunters = λ z _ g. hunter_beside k r.account.tenancy s.words a new r.whole.pools z (beside z.own.number) g.hunter;
-      cycle = cycle_here k s r id hist x at Run tt may.runs now r.account.live r.account.tenancy ws refl (λ m. refl) same;
-      sharing = sharing_here k s r id hist x at Run tt may.runs r.account ws y refl same refl refl refl;
-      sharings = λ z _ g. sharings_here k s r id hist x at Run tt may.runs r.account ws refl same z g;
+      cycle = cycle_here k s r id hist x at Run tt may.runs now r.account.live r.account.tenancy past ws refl (λ m. refl) same (λ _ u. u);
+      sharing = sharing_here k s r id hist x at Run tt may.runs r.account ws past x.seen.share.weak y refl same refl refl refl (runs_here k s r id hist x at r.account ws refl x (λ _. endures) g);
+      sharings = λ z _ g. sharings_here k s r id hist x at Run tt may.runs r.account ws past refl same z g (runs_here k s r id hist x at r.account ws refl z (λ _. endures) g);
     } in (
       one k hist y,
       keeps,
@@ -217,6 +240,18 @@ module _ (k : Config) (s : Words) (r : Rule k s) (id : ℕ) (hist : List Entry) 
   fresh_label : (b : ℕ) (q : Place) → r.account.live b ≡ Some q → q.label ≢ L
   fresh_label b q lives same = let f = r.whole.found b q lives in absurd (let clash : ◌≡◌ {A = Option Node} None (Some f.node) = sym fresh ∙ (ap (node_at now.graph) (sym same) ∙ f.there) in cc)
 
+  -- where a cycle goes on beside, the block is new for it
+  new_beside : IsTrue r.account.cycling.armed → IsTrue (is_new_label r.account.cycling.past.old L)
+  new_beside is = new_of (has_label (labels r.account.cycling.past.old) L) refl where
+    new_of : (b : Bool) → has_label (labels r.account.cycling.past.old) L ≡ b → IsTrue (is_new_label r.account.cycling.past.old L)
+    new_of false none = ap not none
+    new_of true has = absurd (let there : has_label (labels now.graph) L ≡ true = (underway_here k s r id hist x at may.acts.runs is).covered.grown L has in
+        let none : has_label (labels now.graph) L ≡ false = ap (has_label (labels now.graph)) label_is ∙ next_label-new now (numbered k s r id hist x at) d in
+        let clash : false ≡ true = sym none ∙ there in cc)
+
+  marked_beside : IsTrue r.account.cycling.armed → IsTrue (r.account.cycling.paint.marks.marked L)
+  marked_beside is = (underway_here k s r id hist x at may.acts.runs is).covered.new_marked L (new_beside is)
+
   fits_born : Fits k A born_place
   fits_born = record {
     built = tt;
@@ -272,12 +307,19 @@ module _ (k : Config) (s : Words) (r : Rule k s) (id : ℕ) (hist : List Entry) 
   spot : before_heap k + A < length s.words
   spot = let h = high in let i = inside in let b : ℕ = base_of k d in let w : ℕ = heap_words k in let p : b + k.minor_words ≤ w + 1 = i in let c : ℕ = before_heap k in let l : length s.words ≡ 1 + c + w = r.whole.wide in omega arith
 
+  abbrev born_head : IsHead r.account.cycling.paint born_place new
+  born_head =
+      let marks : Marks = r.account.cycling.paint.marks in
+      let same : marks.marked L ≡ r.account.cycling.armed = same_bool r.account.cycling.armed (marks.marked L) (λ none. (between_here k s r id hist x at Run tt may.acts.runs).unmarked none L) marked_beside in
+      new_head r.account.cycling.paint born_place x.seen.share.colours x.seen.share.armed false r.account.cycling.armed new refl same
+      (λ is. (underway_here k s r id hist x at may.acts.runs is).covered.new_scanned L (new_beside is)) g.sharing.telling.colours (λ b e. (g.sharing.leading.armed b e).1) may.head
+
   born_found : Found k r.account.cycling.paint live1 grown ws A born_place
   born_found = record {
     node = new_plain tag n;
     there = node_at-append_new now.graph L (new_plain tag n) fresh;
     shape = ap (λ (m : ℕ). PlainShape m tag) (length-replicate n (Int (pos 0)));
-    head = head_at r.account.cycling.paint born_place (get_or-set_same s.words (before_heap k + A) new 0 spot) (new_head r.account.cycling.paint born_place x.seen.share.colours new refl ((between_here k s r id hist x at Run tt may.acts.runs).unmarked L) g.sharing.telling.colours may.head);
+    head = head_at r.account.cycling.paint born_place (get_or-set_same s.words (before_heap k + A) new 0 spot) born_head;
     blank = λ _. refl;
     label = get_or-set_other s.words (before_heap k + A) (before_heap k + (A + 1)) new 0 (λ o. omega arith)
         ∙ (ap (λ (i : ℕ). get_or s.words (before_heap k + i) 0) (let o : A + 1 ≡ A + 1 + 0 = omega arith in o) ∙ made_at 0 (label_word d (x.own.serial + 1)) refl);
@@ -380,10 +422,22 @@ module _ (k : Config) (s : Words) (r : Rule k s) (id : ℕ) (hist : List Entry) 
       (λ same. absurd (let clash : PlainShape n tag ≡ EpheShape o.keys = ap (λ (z : Place). z.shape) (is_new k r.account.live A born_place (omega arith) away r.whole.placed b o.place same o.lives) ∙ o.shape in cc))
       (λ other. record { place = o.place; lives = old k r.account.live A born_place (omega arith) away r.whole.placed b o.place other o.lives; keys = o.keys; shape = o.shape })
 
+  -- what the entry leaves of the cycle
+  advance1 : Advance k s r id hist x at e None live1
+  advance1 = advances_command k s r id hist x at may.acts.runs may.acts.paid (Alloc dst tag n) live1 refl grows
+      (λ is b q lives young. dite (ℕ_discrete b A)
+      (λ same. subst (λ (z : Place). IsTrue (r.account.cycling.paint.marks.marked z.label)) (is_new k r.account.live A born_place (omega arith) away r.whole.placed b q same lives) (marked_beside is))
+      (λ other. (underway_here k s r id hist x at may.acts.runs is).young b q (old k r.account.live A born_place (omega arith) away r.whole.placed b q other lives) young))
+      (λ _. tt)
+
   alloc_rule : Rule k record { words = ws; homes = s.homes; views = set s.views id (one k hist after) }
-  alloc_rule = appends k s r id hist x at e after ws live1 r.account.homes record {
+  alloc_rule = appends k s r id hist x at e after ws live1 r.account.homes advance1.past record {
     full = full1;
-    share = refl;
+    weak = None;
+    share = ap (with_weak x.seen.share) may.acts.paid;
+    advances = advance1.advances;
+    heads = λ b q lives. get_or-set_other s.words (before_heap k + A) (before_heap k + b) new 0 (λ o. let m : ℕ = extent q.shape in let size : 0 < m = extent_low q.shape in
+        ⊎_elim (λ (t : b + m ≤ A). omega arith) (λ (t : A + (n + 2) ≤ b). omega arith) (away b q lives));
     alone = λ m other. ne_eqb d m (λ o. other (sym o));
     of_trace = tt;
     runs = may.acts.runs;
@@ -460,5 +514,5 @@ pub record AllocFacts (k : Config) (x : DomainView) (new : ℕ) (e : Entry) : Ty
 
 pub alloc_facts : (k : Config) (x : DomainView) (a new : ℕ) (changes : List Change) (e : Entry) → AllocEntry k x a new changes e → AllocFacts k x new e
 alloc_facts k x a new changes (Command j (Alloc dst tag n) false) may =
-    record { tag = tag; head = let h = may.head in record { colour = h.colours.unmarked; scanned = false; packable = (may.some_field, (let f = may.few_fields in omega arith), may.tag_fits, h.fits); packs = h.packs }; few = may.few_fields; room = may.room; serial = may.serial }
+    record { tag = tag; head = let h = may.head in record { colour = new_colour h.beside h.colours; scanned = false; packable = (may.some_field, (let f = may.few_fields in omega arith), may.tag_fits, h.fits); packs = h.packs }; few = may.few_fields; room = may.room; serial = may.serial }
 alloc_facts k x a new changes _ may = absurd may

@@ -54,7 +54,7 @@ pub record AllocMay (k : Config) (x : DomainView) (at new : ℕ) (changes : List
   pub tag_fits : tag < 256
   pub some_field : 1 ≤ fields
   pub few_fields : fields ≤ 126
-  pub head : IsNewHead x.seen.share.colours (PlainShape fields tag) new
+  pub head : IsNewHead x.seen.share.colours x.seen.share.armed false (PlainShape fields tag) new
   pub made : x.seen.made ≡ label_word x.own.number (x.own.serial + 1) ∷ replicate fields 1
   pub room : x.own.used + class_words (fields + 2) ≤ k.minor_words
   pub opened : IsOpen k x

@@ -106,7 +106,8 @@ fn store_head(heap: &Heap, dom: &mut Domain, at: u32, new: u64, changes: &[Chang
 /// the allocation's entry stands. `at` is the word's address: the next one behind those that are
 /// written, and for the head the one at which the block begins. The changes leave the registers as
 /// they are, and at the head they put the block's address into the register of the allocation. At the
-/// head the domain has found as many pools free as promotion may need.
+/// head the domain has found as many pools free as promotion may need, and it has found whether a
+/// cycle goes on beside: the head is a marked one there, and an unmarked one else.
 pub fn init_store(heap: &Heap, dom: &mut Domain, at: u32, new: u64, changes: &[Change])
     ghost entry: { Entry }
     requires here { IsIn dom.old heap.now }

@@ -30,7 +30,7 @@ use Rattle.heap_rule.proofs.Controls.{Untouched, counts_untouched, low_untouched
 use Rattle.heap_rule.proofs.Drops.{drops, dropped}
 use Rattle.heap_rule.proofs.Keeps.{Words, mine, my_good, now, no_cycle_here, whole_here, quiet_in, owes_rests, room_unused}
 use Rattle.heap_rule.proofs.PauseFacts.{not_both}
-use Rattle.heap_rule.proofs.Sharings.{SameCycle}
+use Rattle.heap_rule.proofs.Sharings.{SameCycle, kind_now}
 use Rattle.heap_rule.specs.Cycles.{Cycling, Told, HasNoCycle, owner_at}
 use Rattle.heap_rule.specs.Layout.{at_address}
 use Rattle.heap_rule.specs.Views.{voided}
@@ -122,6 +122,9 @@ after_run b f other = other f
 
 run_promote : Run ≡ Promote → ⊥
 run_promote e = cc
+
+promote_run : Promote ≡ Run → ⊥
+promote_run e = cc
 
 kind_promote : (kd : Kind) → (kd ≡ Promote) ⊎ (kd ≡ Promote → ⊥)
 kind_promote Promote = inl refl
@@ -311,8 +314,8 @@ module _ (k : Config) (s : Words) (r : Rule k s) (id : ℕ) (hist : List Entry) 
     full = r.whole.full;
     paint = refl;
     cycle = cycle_gone x.seen.stage tenancy.holder k (now k s r id hist x at) live pause pause' tenancy (counting claims') r.account.cycling s.words words' number same_cycle same_heap
-        (facts_gone k s r id hist x at may.done x.seen.stage refl may.from) p.told (whole_gone x.seen.stage tenancy.holder live r.account.cycling number my_whole r.whole.cycle.whole) r.whole.cycle;
-    sharing = sharing_gone k r.account s.words words' x pause' live (record tenancy { stock = counting claims' }) y.seen.stage inside may.from good.staged.stage r.whole.cycle.told my_whole good;
+        (facts_gone k s r id hist x at may.done may.paid_reads x.seen.stage refl may.from) p.told (whole_gone x.seen.stage tenancy.holder live r.account.cycling number my_whole r.whole.cycle.whole) r.whole.cycle;
+    sharing = sharing_gone k r.account s.words words' x pause' live (record tenancy { stock = counting claims' }) y.seen.stage inside may.from good.staged.stage r.whole.cycle.told my_whole may.paid_reads good;
     sharings = λ z _ other g. sharing_else k r.account s.words words' x.seen.stage number z pause' (counting claims') other same_cycle same_heap g;
     untouched = untouched;
     front = (mine k s r id hist x at).front;
@@ -494,12 +497,12 @@ module _ (k : Config) (s : Words) (r : Rule k s) (id : ℕ) (hist : List Entry) 
 
     -- the domains leave Promote: the blocks of the minor areas are dropped
     promoted : Promoting pause → Rule k record { words = words'; homes = s.homes; views = set s.views id (one k hist y) }
-    promoted p = let in_promote : HasNoCycle r.account.cycling.kind = no_cycle_here k s r id hist x at Promote tt (promotes p) in let whole = whole_here k s r id hist x at Promote tt (promotes p) in drops k s r id hist x at move next cycling' words' refl record {
+    promoted p = let copies : r.account.cycling.kind ≡ Promote = kind_now k pause r.account.cycling x Promote (promotes p) good.staged r.whole.cycle.told in let in_promote : HasNoCycle r.account.cycling.kind = no_cycle_here k s r id hist x at Promote tt (promotes p) in let whole = whole_here k s r id hist x at Promote tt (promotes p) in drops k s r id hist x at move next cycling' words' refl record {
       paint = refl;
       kind = refl;
-      cycle = cycle_dropped x.seen.stage tenancy.holder k (now k s r id hist x at) live (dropped k live) pause next tenancy (record tenancy { stock = no_stock }) r.account.cycling s.words words' number in_promote (λ a. refl) same_cycle next_told r.whole.cycle;
-      sharing = sharing_gone k r.account s.words words' x next (dropped k live) (record tenancy { stock = no_stock }) y.seen.stage inside may.from good.staged.stage r.whole.cycle.told (λ a q own lives. whole q.label) good;
-      sharings = λ z _ other g. sharing_between k r.account s.words words' x z Promote next (dropped k live) (record tenancy { stock = no_stock }) tt (promotes p) in_promote whole other same_cycle good g;
+      cycle = cycle_dropped x.seen.stage tenancy.holder k (now k s r id hist x at) live pause next tenancy (record tenancy { stock = no_stock }) r.account.cycling s.words words' number copies (λ a. refl) same_cycle next_told r.whole.cycle;
+      sharing = sharing_gone k r.account s.words words' x next (dropped k live) (record tenancy { stock = no_stock }) y.seen.stage inside may.from good.staged.stage r.whole.cycle.told (λ a q own lives. whole q.label) may.paid_reads good;
+      sharings = λ z _ other g. sharing_between k r.account s.words words' x z Promote next (dropped k live) (record tenancy { stock = no_stock }) tt promote_run (promotes p) in_promote whole other same_cycle good g;
       untouched = untouched;
       front = (mine k s r id hist x at).front;
       phases = next_phases;

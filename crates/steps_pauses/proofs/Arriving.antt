@@ -1,11 +1,17 @@
 -- A collection of the major heap where a domain arrives.
-use Rattle.std.proofs.Common.{◌≡◌, ◌≢◌, ℕ, ◌+◌, ◌*◌, ◌<◌, ◌⊎◌, Bool, true, false, true≢false, List, [], sym, refl, ap, ◌∙◌, subst, inl, inr, ⊎_elim, arith, ◌==◌, Option, Some, None}
+use Rattle.std.proofs.Common.{◌≡◌, ◌≢◌, ℕ, ◌+◌, ◌*◌, ◌<◌, ◌≤◌, ◌⊎◌, Bool, true, false, true≢false, List, [], sym, refl, ap, ◌∙◌, subst, inl, inr, ⊎_elim, arith, ◌==◌, Option, Some, None}
 use mathlib.Core.Logic.{dite}
 use native.Mathlib.Decide.{ℕ_discrete}
 use Rattle.heap_model.specs.declared.state.State as model
 use Rattle.heap_words.specs.declared.colours.Colours.{Colours}
 use Rattle.cycle_laws.specs.Shares.{Shares, at_domain, arrives}
+use Rattle.cycle_laws.specs.Beside.{Past}
+use Rattle.cycle_laws.specs.Marks.{Marks}
 use Rattle.cycle_laws.proofs.Sharing.{at_same, at_cases}
+use Rattle.heap_rule.specs.Beside.{Underway, is_weak}
+use Rattle.heap_rule.proofs.BesideLemmas.{endures_words, runs_on, runs_unaware, unaware_of}
+use Rattle.heap_rule.proofs.Drops.{dropped, kept_low, was_low}
+use Rattle.heap_rule.proofs.PauseFacts.{agree}
 use Rattle.heap_rule.specs.declared.config.Config.{Config}
 use Rattle.heap_rule.specs.declared.phase.Kind.{Kind}
 use Rattle.heap_rule.specs.declared.phase.Kind.TheVariants.{Run, Promote, Reset, Roots, Mark, Rounds, Decide, Queued, Clean, Lasts, Sweep, Answer}
@@ -22,7 +28,7 @@ use Rattle.heap_rule.specs.declared.view.Finalisers.{Finalisers}
 use Rattle.heap_model.specs.declared.label.Label.{Label}
 use Rattle.heap_rule.specs.Cycles.{AllWhole, MissesKeys, Cycling, Cycled, Facts, ArrivedAs, Told, Telling, Leading, IsCollecting, IsIdle, Adds, HasNoCycle, Knowing, owner_at}
 use Rattle.heap_rule.specs.Layout.{at_address}
-use Rattle.heap_rule.specs.Phases.{Pause, AtStage, flag}
+use Rattle.heap_rule.specs.Phases.{Agree, Pause, AtStage, flag}
 use Rattle.heap_rule.specs.Places.{Place, Live}
 use Rattle.heap_rule.specs.Pools.{OwnPlace, Stock, Tenancy, Holder, owned}
 use Rattle.heap_rule.specs.Rule.{Account, Good, Sharing, state_of}
@@ -93,7 +99,7 @@ adds_else (Led kind) holder live c d z share other a = a
 adds_else (Gone kind) holder live c d z share other a = a
 
 leading_gone : (st : Stage) (holder : ℕ → Holder) (c : Cycling) (words : List ℕ) (d z : ℕ) (stage : Stage) (share : Share) → Leading c words z stage share → Leading (arrived_cycle st holder c d) words z stage share
-leading_gone (In kind) holder c words d z stage share l = record { changed = l.changed; found_blocks = l.found_blocks; found_words = l.found_words; rotated = l.rotated; turned = l.turned; pass = l.pass }
+leading_gone (In kind) holder c words d z stage share l = record { changed = l.changed; found_blocks = l.found_blocks; found_words = l.found_words; rotated = l.rotated; turned = l.turned; pass = l.pass; whole = l.whole; armed = l.armed }
 leading_gone (Leads kind) holder c words d z stage share l = l
 leading_gone (Led kind) holder c words d z stage share l = l
 leading_gone (Gone kind) holder c words d z stage share l = l
@@ -187,7 +193,7 @@ facts_stock Queued k s live t stock c words f = f
 facts_stock Clean k s live t stock c words f = f
 facts_stock Lasts k s live t stock c words f = record { facts = f.facts; unchanged = f.unchanged; stays = f.stays; turned = λ is. let r = f.turned is in record { all_marked = r.all_marked; unmarked = r.unmarked; owned = r.owned; gone = r.gone } }
 facts_stock Sweep k s live t stock c words f = record { mode = f.mode; swept = f.swept; sweep = f.sweep; all_counted = f.all_counted }
-facts_stock Answer k s live t stock c words f = record { mode = f.mode; swept = f.swept; clean = f.clean; all_counted = f.all_counted; held = f.held }
+facts_stock Answer k s live t stock c words f = record { mode = f.mode; whole = f.whole; swept = f.swept; clean = f.clean; all_counted = f.all_counted; held = f.held }
 
 -- all that the rule says of the collection holds where the facts do
 pub cycle_gone : (st : Stage) (holder : ℕ → Holder) (k : Config) (s : model.State) (live : Live) (p p' : Pause) (t : Tenancy) (stock : Stock) (c : Cycling) (words words' : List ℕ) (d : ℕ) → SameCycle words words' → ((a : ℕ) → at_address k words' a ≡ at_address k words a)
@@ -273,18 +279,21 @@ leading_fresh st stage holder c words words' d share from l = record {
   rotated = λ first lasts. l.rotated first lasts ∙ ⊎_elim (λ (e : share.rotated ≡ true). absurd ((subst (ArrivesFrom d) (l.turned e) from) first)) (λ e. e) (either_bool share.rotated);
   turned = λ e. cc;
   pass = l.pass;
+  whole = l.whole;
+  armed = λ b e. cc;
 }
 
 -- what the rule says of the share of the domain that has arrived
 pub sharing_gone : (k : Config) (all : Account) (words words' : List ℕ) (x : DomainView) (p' : Pause) (live' : Live) (t' : Tenancy) (stage : Stage) → x.own.number < k.domains → ArrivesFrom x.own.number x.seen.stage → AtStage all.pause x.own.number x.own.arrivals x.seen.stage
-    → Told k all.pause all.cycling.kind all.cycling.shares → ((a : ℕ) (p : Place) → OwnPlace t'.holder a x.own.number → live' a ≡ Some p → all.cycling.paint.emptied p.label ≡ []) → Good k all words x
+    → Told k all.pause all.cycling.kind all.cycling.shares → ((a : ℕ) (p : Place) → OwnPlace t'.holder a x.own.number → live' a ≡ Some p → all.cycling.paint.emptied p.label ≡ []) → x.seen.share.weak ≡ None → Good k all words x
     → Sharing k (record all { pause = p'; live = live'; tenancy = t'; cycling = arrived_cycle x.seen.stage all.tenancy.holder all.cycling x.own.number }) words' x.own.number x.own.registers x.own.finalisers x.own.ephemerons.items stage (voided x.seen.share)
-sharing_gone k all words words' x p' live' t' stage below from at told whole g = let a = adds_gone x.seen.stage all.tenancy.holder all.live all.cycling x.own.number x.seen.share (Knowing k all.live all.tenancy.holder (state_of k all.log).graph all.cycling.paint.marks words x.own.number x.own.registers x.seen.share) g.sharing.knows g.sharing.adds in record {
+sharing_gone k all words words' x p' live' t' stage below from at told whole paid g = let a = adds_gone x.seen.stage all.tenancy.holder all.live all.cycling x.own.number x.seen.share (Knowing k all.live all.tenancy.holder (state_of k all.log).graph all.cycling.paint.marks words x.own.number x.own.registers x.seen.share) g.sharing.knows g.sharing.adds in record {
   telling = telling_gone k all.pause all.cycling.kind (owner_at all.tenancy.holder) all.cycling.paint.colours all.cycling.shares x.own.number x.own.arrivals told below x.seen.share x.seen.stage from at;
   leading = leading_fresh x.seen.stage stage all.tenancy.holder all.cycling words words' x.own.number x.seen.share from g.sharing.leading;
   knows = inl refl;
   adds = record { blocks = a.blocks; words = a.words; own = λ e f h. cc };
   looks = record { at_own = λ b e. cc; pruned = λ i b low got. absurd (let h : i < 0 = low in omega arith); cleans = λ w e. cc; emptied_is = whole };
+  running = runs_unaware k live' t'.holder all.cycling.armed all.cycling.past all.cycling.paint.marks.marked words' x.own.number stage (voided x.seen.share) (refl, refl) (λ is q. g.sharing.running.owes is q ∙ ap (λ (w : Option ℕ). is_weak w q) paid);
   deciding = deciding_arrived x.seen.stage (owner_at all.tenancy.holder) all.live live' all.cycling x.own.number x.own.finalisers x.seen.share (Knowing k all.live all.tenancy.holder (state_of k all.log).graph all.cycling.paint.marks words x.own.number x.own.registers x.seen.share) g.sharing.knows g.sharing.deciding;
 }
 
@@ -297,33 +306,58 @@ sharing_else k all words words' st d z p' stock other same heap g = record {
   knows = knows_words k all.live all.tenancy.holder (state_of k all.log).graph all.cycling.paint.marks words words' z.own.number z.own.registers z.seen.stage z.seen.share heap g.sharing.knows;
   adds = adds_else st all.tenancy.holder all.live all.cycling d z.own.number z.seen.share other g.sharing.adds;
   looks = g.sharing.looks;
+  running = runs_on k all.live all.live all.tenancy.holder all.tenancy.holder all.cycling.armed all.cycling.past all.cycling.past all.cycling.paint.marks.marked all.cycling.paint.marks.marked words words' z.own.number z.seen.stage z.seen.share (λ _. endures_words k all.live all.tenancy.holder all.cycling.paint.marks.marked words words' heap) refl (λ q. refl) g.sharing.running;
   deciding = deciding_else st (owner_at all.tenancy.holder) all.live all.cycling d z.own.number z.own.finalisers z.seen.share other g.sharing.deciding;
 }
 
 -- also where blocks cease to live, outside a collection
-pub sharing_between : (k : Config) (all : Account) (words words' : List ℕ) (x z : DomainView) (kind : Kind) (p' : Pause) (live' : Live) (t' : Tenancy) → HasNoCycle kind → x.seen.stage ≡ In kind → HasNoCycle all.cycling.kind → ((l : Label) → all.cycling.paint.emptied l ≡ []) → z.own.number ≢ x.own.number → SameCycle words words' → Good k all words x → Good k all words z
+pub sharing_between : (k : Config) (all : Account) (words words' : List ℕ) (x z : DomainView) (kind : Kind) (p' : Pause) (live' : Live) (t' : Tenancy) → HasNoCycle kind → kind ≢ Run → x.seen.stage ≡ In kind → HasNoCycle all.cycling.kind → ((l : Label) → all.cycling.paint.emptied l ≡ []) → z.own.number ≢ x.own.number → SameCycle words words' → Good k all words x → Good k all words z
     → Sharing k (record all { pause = p'; live = live'; tenancy = t'; cycling = arrived_cycle x.seen.stage all.tenancy.holder all.cycling x.own.number }) words' z.own.number z.own.registers z.own.finalisers z.own.ephemerons.items z.seen.stage z.seen.share
-sharing_between k all words words' x z kind p' live' t' none is none' whole other same gx g = let idle = idle_beside k all.live all.tenancy.holder (state_of k all.log).graph all.cycling.paint.marks words all.pause x z kind none is gx.staged g.staged g.sharing.knows in record {
+sharing_between k all words words' x z kind p' live' t' none still is none' whole other same gx g = let idle = idle_beside k all.live all.tenancy.holder (state_of k all.log).graph all.cycling.paint.marks words all.pause x z kind none is gx.staged g.staged g.sharing.knows in record {
   telling = telling_else x.seen.stage (owner_at all.tenancy.holder) all.cycling.paint.colours all.cycling.shares x.own.number z.own.number z.seen.share other g.sharing.telling;
   leading = leading_gone x.seen.stage all.tenancy.holder all.cycling words' x.own.number z.own.number z.seen.stage z.seen.share (leading_words all.cycling words words' z.own.number z.seen.stage z.seen.share same g.sharing.leading);
   knows = inl idle;
   adds = adds_nothing live' (arrived_cycle x.seen.stage all.tenancy.holder all.cycling x.own.number) z.own.number z.seen.share none';
   looks = looks_idle live' t'.holder t'.garbage (state_of k all.log).graph all.cycling.paint.marks all.cycling.paint.emptied z.own.number z.own.ephemerons.items z.seen.stage z.seen.share idle whole;
+  running = runs_on k all.live live' all.tenancy.holder t'.holder all.cycling.armed all.cycling.past all.cycling.past all.cycling.paint.marks.marked all.cycling.paint.marks.marked words words' z.own.number z.seen.stage z.seen.share
+      (λ runs. absurd (still (subst (Agree (In kind)) runs (subst (λ (st : Stage). Agree st z.seen.stage) is (agree all.pause x.own.number z.own.number x.own.arrivals z.own.arrivals x.seen.stage z.seen.stage gx.staged.stage g.staged.stage))))) refl (λ q. refl) g.sharing.running;
   deciding = deciding_none live' all.cycling.kind all.cycling.left (arrived_in x.seen.stage (owner_at all.tenancy.holder) all.cycling.shares x.own.number).arrived all.cycling.paint.marks.marked z.own.number z.own.finalisers z.seen.share.kept z.seen.share.waiting none';
 }
 
+-- a cycle goes on beside the pause in which the blocks of minor areas cease to live
+drop_underway : (k : Config) (s : model.State) (live : Live) (kind : Kind) (past : Past) (marks : Marks) (w : Shares) → kind ≡ Promote → Underway k s live kind past marks w → Underway k s (dropped k live) kind past marks w
+drop_underway k s live kind past marks w copies u = record {
+  covered = u.covered;
+  young = λ a p lives high. absurd (let low : a ≤ k.pools * 4096 = (was_low k live a p lives).0 in omega arith);
+  pooled = λ l known is. let h = u.pooled l known is in record { address = h.address; place = h.place; lives = kept_low k live h.address h.place h.lives h.old; old = h.old; label = h.label };
+  settled = u.settled;
+  rooted = λ e. absurd (let clash : Promote ≡ Reset = sym copies ∙ e in cc);
+}
+
+-- whoever has arrived from it
+shares_underway : (k : Config) (s : model.State) (live : Live) (kind : Kind) (past : Past) (marks : Marks) (w w' : Shares) → kind ≡ Promote → Underway k s live kind past marks w → Underway k s live kind past marks w'
+shares_underway k s live kind past marks w w' copies u = record {
+  covered = u.covered;
+  young = u.young;
+  pooled = u.pooled;
+  settled = λ d r _. u.settled d r (λ e. absurd (let clash : Promote ≡ Run = sym copies ∙ e in cc));
+  rooted = λ e. absurd (let clash : Promote ≡ Reset = sym copies ∙ e in cc);
+}
+
 -- and what it says of the collection
-pub cycle_dropped : (st : Stage) (holder : ℕ → Holder) (k : Config) (s : model.State) (live live' : Live) (p p' : Pause) (t t' : Tenancy) (c : Cycling) (words words' : List ℕ) (d : ℕ) → HasNoCycle c.kind → ((a : ℕ) → t'.garbage a ≡ t.garbage a) → SameCycle words words'
-    → Told k p' c.kind (arrived_in st (owner_at holder) c.shares d) → Cycled k s live p t c words → Cycled k s live' p' t' (arrived_cycle st holder c d) words'
-cycle_dropped st holder k s live live' p p' t t' c words words' d none garbage same told y =
-    let z = cycle_between k s s live live' p t t' c words words' none refl garbage same y in
+pub cycle_dropped : (st : Stage) (holder : ℕ → Holder) (k : Config) (s : model.State) (live : Live) (p p' : Pause) (t t' : Tenancy) (c : Cycling) (words words' : List ℕ) (d : ℕ) → c.kind ≡ Promote → ((a : ℕ) → t'.garbage a ≡ t.garbage a) → SameCycle words words'
+    → Told k p' c.kind (arrived_in st (owner_at holder) c.shares d) → Cycled k s live p t c words → Cycled k s (dropped k live) p' t' (arrived_cycle st holder c d) words'
+cycle_dropped st holder k s live p p' t t' c words words' d copies garbage same told y =
+    let live' : Live = dropped k live in
+    let none : HasNoCycle c.kind = subst HasNoCycle (sym copies) tt in
+    let z = cycle_between k s s live live' p t t' c c.past words words' none refl garbage same (λ _ u. drop_underway k s live c.kind c.past c.paint.marks c.shares copies u) y in
     let b = facts_between c.kind k s live' t' c words' none z.facts in
     let c' : Cycling = arrived_cycle st holder c d in record {
       armed_is = z.armed_is;
       meanings = z.meanings;
       colours_are = z.colours_are;
       changed_is = z.changed_is ∙ ap flag (sym (same_changed st (owner_at holder) c.shares d));
-      facts = between_facts c.kind k s live' t' c' words' none record { mode = b.mode; unmarked = b.unmarked; unchanged = same_changed st (owner_at holder) c.shares d ∙ b.unchanged; unrotated = b.unrotated };
+      facts = between_facts c.kind k s live' t' c' words' none record { mode = b.mode; unmarked = b.unmarked; beside = λ is. shares_underway k s live' c.kind c.past c.paint.marks c.shares (arrived_in st (owner_at holder) c.shares d) copies (b.beside is); unchanged = same_changed st (owner_at holder) c.shares d ∙ b.unchanged; unrotated = b.unrotated };
       told = told;
       leaves = record { none = z.leaves.none; dead = z.leaves.dead; head = z.leaves.head };
       whole = λ l. inl (none_misses live' t'.holder c none z.whole l);
@@ -340,6 +374,8 @@ sharing_looked k all words x last stage gone g = let l = subst (λ (st : Stage).
     rotated = l.rotated;
     turned = λ e. absurd (let h : Gone last ≡ Leads Lasts = l.turned e in cc);
     pass = l.pass;
+    whole = l.whole;
+    armed = λ b e. absurd (l.armed b e).0;
   };
   knows = inl (⊎_elim (λ (h : IsIdle x.seen.share). h) (λ (h : IsCollecting x.seen.stage × Knowing k all.live all.tenancy.holder (state_of k all.log).graph all.cycling.paint.marks words x.own.number x.own.registers x.seen.share). absurd (subst IsCollecting gone h.0)) g.sharing.knows);
   adds = g.sharing.adds;
@@ -348,6 +384,10 @@ sharing_looked k all words x last stage gone g = let l = subst (λ (st : Stage).
     pruned = g.sharing.looks.pruned;
     cleans = λ w e. absurd (let h : Gone last ≡ In Clean = sym gone ∙ (g.sharing.looks.cleans w e).stage_is in cc);
     emptied_is = g.sharing.looks.emptied_is;
+  };
+  running = record {
+    knows = inl (unaware_of k all.live all.tenancy.holder all.cycling.armed all.cycling.past all.cycling.paint.marks.marked words x.own.number x.seen.stage x.seen.share (λ runs. let h : Gone last ≡ In Run = sym gone ∙ runs in cc) g.sharing.running);
+    owes = g.sharing.running.owes;
   };
   deciding = g.sharing.deciding;
 } where

@@ -1,5 +1,5 @@
 -- The end of a trace keeps the rule.
-use Rattle.std.proofs.Common.{◌≡◌, ◌≢◌, ℕ, zero, suc, ◌+◌, ◌%◌, ◌^◌, ◌<◌, ◌≤◌, false, ne_eqb, List, [], ◌∷◌, ◌++◌, length, get_or, set, replicate, sym, refl, ap, ◌∙◌, subst, arith, length-set, get_or-set_same, get_or-set_other, mod-eq_of_lt, inl}
+use Rattle.std.proofs.Common.{◌≡◌, ◌≢◌, ℕ, zero, suc, ◌+◌, ◌%◌, ◌^◌, ◌<◌, ◌≤◌, false, ne_eqb, List, [], ◌∷◌, ◌++◌, length, get_or, set, replicate, sym, refl, ap, ◌∙◌, subst, arith, length-set, get_or-set_same, get_or-set_other, mod-eq_of_lt, inl, Bool, Option, None}
 use Rattle.atomic_table.specs.Table.{keeps, Allows}
 use Rattle.heap_model.specs.declared.entry.Entry.{Entry}
 use Rattle.heap_model.specs.declared.entry.Entry.TheVariants.{End}
@@ -32,10 +32,17 @@ use Rattle.heap_rule.proofs.FinaliserLemmas.{enrolled_none, paired_none, work_ne
 use Rattle.heap_rule.proofs.Values.{holds}
 use Rattle.heap_rule.proofs.Keeps.{mine, my_good, remakes, knows_entry, after_entry, legal_entry, cycle_here, sharing_here, sharings_here, phases_words, stood_other, run_still, hunter_as, running_took_back, resting_runs, resting_other, room_words, opened_words, takes_drawable, owes_as, more_same, run_leads, run_rooted}
 use Rattle.heap_rule.proofs.PauseFacts.{nobody_paused, staged_as}
-use Rattle.heap_rule.proofs.Sharings.{SameCycle}
+use Rattle.heap_rule.proofs.Sharings.{SameCycle, KeepsUnderway, with_past}
 use Rattle.heap_rule.proofs.FullnessLemmas.{full_stays}
-use Rattle.heap_rule.proofs.Controls.{Untouched, found_untouched, making_untouched, pools_untouched, grid_untouched, hunter_untouched, cycle_untouched, reserved_untouched, covered_untouched, counts_untouched, low_untouched, sum_one}
+use Rattle.heap_rule.proofs.Controls.{Untouched, found_untouched, making_untouched, pools_untouched, grid_untouched, heap_untouched, hunter_untouched, cycle_untouched, reserved_untouched, covered_untouched, counts_untouched, low_untouched, sum_one}
 use Rattle.heap_rule.proofs.Entering.{running, inside_state, registers_stand, may_begin}
+use Rattle.heap_rule.proofs.Advancing.{Advance, advances_by, owes_nothing, underway_here}
+use Rattle.heap_rule.proofs.BesideLemmas.{Endures, endures_words, runs_on}
+use Rattle.heap_rule.specs.Beside.{is_weak}
+use Rattle.heap_rule.specs.Pools.{Holder}
+use Rattle.heap_model.specs.declared.label.Label.{Label}
+use Rattle.cycle_laws.specs.Beside.{Past}
+use Rattle.cycle_laws.proofs.Beside.{beside_law}
 use Rattle.steps_pauses.proofs.PauseSteps.{over_few}
 
 -- what stands for a domain whose trace has ended: nothing in the registers, and no finaliser
@@ -92,7 +99,15 @@ ends k slots id hist x acts s r _ at _ =
     let prep = making_untouched k s.words ws x untouched g.making in
     let same : SameCycle s.words ws = cycle_untouched s.words ws untouched (get_or-set_other s.words 8 3 (w + 1) 0 (λ q. omega arith)) in
     let stands : Stood r.account.live (next now e) y = ended_stood r.account.live now x y g.stood acts.unqueued inside (registers_stand k s r id hist x at acts).long refl in
-    let all' : Account = record r.account { log = log' } in
+    let advance : Advance k s r id hist x at e None r.account.live =
+    advances_by k s r id hist x at acts.runs e None r.account.live r.account.cycling.past.owed (more_same r.account.live) (λ goes. (underway_here k s r id hist x at acts.runs goes).young) (inl refl) (λ _ _ _. refl) (owes_nothing k s r id hist x at acts.runs acts.paid)
+    (λ goes. beside_law.ends r.account.cycling.past r.account.cycling.paint.marks now (underway_here k s r id hist x at acts.runs goes).covered d) in
+    let past' : Past = advance.past in
+    let all' : Account = record r.account { log = log'; cycling = with_past r.account.cycling past' } in
+    let marked : Label → Bool = r.account.cycling.paint.marks.marked in
+    let holder : ℕ → Holder = r.account.tenancy.holder in
+    let endures : Endures k r.account.live r.account.live holder holder marked marked s.words ws = endures_words k r.account.live holder marked s.words ws (heap_untouched k s.words ws untouched) in
+    let own_runs = runs_on k r.account.live r.account.live holder holder r.account.cycling.armed r.account.cycling.past (record r.account.cycling.past { old = past'.old }) marked marked s.words ws d x.seen.stage x.seen.share (λ _. endures) advance.advances.same_old (λ q. refl) g.sharing.running in
     let rule : Rule k record { words = ws; homes = s.homes; views = set s.views id (one k hist y) } = remakes k s r id hist x at y all' ws
     record {
       wide = untouched.0 ∙ r.whole.wide;
@@ -117,7 +132,8 @@ ends k slots id hist x acts s r _ at _ =
       drawable = takes_drawable k r.account.pause ws x (inl acts.runs) g.staged;
       grid = grid_untouched k r.account.tenancy r.account.live s.words ws untouched r.whole.grid;
       drawers = r.whole.drawers;
-      cycle = cycle_here k s r id hist x at Run tt acts.runs (state_of k log') r.account.live r.account.tenancy ws (ap (λ (t : model.State). t.mode) after) (λ a. refl) same;
+      cycle = cycle_here k s r id hist x at Run tt acts.runs (state_of k log') r.account.live r.account.tenancy past' ws (ap (λ (t : model.State). t.mode) after) (λ a. refl) same
+          (subst (λ (t : model.State). KeepsUnderway k now t r.account.live r.account.live r.account.cycling past') (sym after) advance.advances.underway);
     }
     (knows_entry k s r id hist x at y e alone refl refl)
     record {
@@ -132,7 +148,8 @@ ends k slots id hist x acts s r _ at _ =
       owes = owes_as k r.account.live x y refl refl refl refl g.owes;
       rooted = run_rooted k r.account.pause x y acts.runs g.staged;
       set_back = λ back. absurd (run_leads Run (sym acts.runs ∙ back.0));
-      sharing = sharing_here k s r id hist x at Run tt acts.runs all' ws y refl same refl refl refl;
+      sharing = sharing_here k s r id hist x at Run tt acts.runs all' ws past' x.seen.share.weak y refl same refl refl refl
+          record { knows = own_runs.knows; owes = λ goes q. advance.advances.owed_own goes q ∙ ap (λ (w : Option ℕ). is_weak w q) (sym acts.paid) };
       listed = record { all = g.listed.all; own = g.listed.own; lives = g.listed.lives };
     }
     (λ z _ other h. record {
@@ -147,7 +164,8 @@ ends k slots id hist x acts s r _ at _ =
       owes = h.owes;
       rooted = h.rooted;
       set_back = λ back. low_untouched k s.words ws untouched (h.set_back back);
-      sharing = sharings_here k s r id hist x at Run tt acts.runs all' ws refl same z h;
+      sharing = sharings_here k s r id hist x at Run tt acts.runs all' ws past' refl same z h
+          (runs_on k r.account.live r.account.live holder holder r.account.cycling.armed r.account.cycling.past past' marked marked s.words ws z.own.number z.seen.stage z.seen.share (λ _. endures) advance.advances.same_old (λ q. advance.advances.owed_others z.own.number q other) h.sharing.running);
       listed = h.listed;
     }) in (
       one k hist y,

@@ -1,5 +1,5 @@
 -- The facts of a phase hold when a domain that has done its share has arrived.
-use Rattle.std.proofs.Common.{cond, ◌⊎◌, ◌*◌, ◌≡◌, ℕ, ◌+◌, ◌<◌, ◌≤◌, ◌==◌, Bool, true, false, IsTrue, List, [], length, get_or, filter_map, option_and_then, Option, Some, None, sym, refl, ap, ◌∙◌, subst, inl, inr, ⊎_elim, arith, eq-eqb, eqb-true}
+use Rattle.std.proofs.Common.{cond, ◌⊎◌, ◌*◌, ◌≡◌, ℕ, ◌+◌, ◌<◌, ◌≤◌, ◌==◌, Bool, true, false, IsTrue, List, [], length, get_or, filter_map, option_and_then, Option, Some, None, sym, refl, ap, ◌∙◌, subst, inl, inr, ⊎_elim, arith, lt_of_not-le, eq-eqb, eqb-true}
 use Rattle.std.specs.List.{list_any}
 use Rattle.std.specs.Prelude.{nat_le}
 use mathlib.Core.Option.{some}
@@ -45,7 +45,12 @@ use Rattle.heap_rule.specs.Deciding.{IsRooting}
 use Rattle.heap_rule.specs.Finalisers.{StandsWaiting, address_in, held_at}
 use Rattle.heap_rule.specs.Limits.{sizes_in}
 use Rattle.heap_rule.specs.Phases.{AtStage}
-use Rattle.heap_rule.specs.Places.{Place, Live, Stands}
+use Rattle.heap_rule.specs.Beside.{HoldsPooled, Underway, is_weak}
+use Rattle.heap_rule.specs.Copies.{IsEmptying}
+use Rattle.std.proofs.lemmas.List.{get_or_past}
+use mathlib.Core.Logic.{dite}
+use native.Mathlib.Decide.{dec_le}
+use Rattle.heap_rule.specs.Places.{Place, Live, IsOldAt, Stands}
 use Rattle.heap_rule.specs.Pools.{Tenancy, owned, blocks_of, place_in, IsBefore}
 use Rattle.heap_rule.specs.Rule.{Good, Rule}
 use Rattle.heap_rule.specs.Views.{one}
@@ -93,7 +98,7 @@ owner_is (Some e) d is = ap Some (eqb-true e d is)
 is_own : (o : Option ℕ) (d : ℕ) → o ≡ Some d → IsTrue (is_owner o d)
 is_own o d is = subst (λ (p : Option ℕ). IsTrue (is_owner p d)) (sym is) (eq-eqb d d refl)
 
-held_by : (live : Live) (l : Label) (v : held.Value) → Stands live v (Block l) → (a : ℕ) × (p : Place) × (v ≡ Ref a) × (live a ≡ Some p) × (p.label ≡ l)
+pub held_by : (live : Live) (l : Label) (v : held.Value) → Stands live v (Block l) → (a : ℕ) × (p : Place) × (v ≡ Ref a) × (live a ≡ Some p) × (p.label ≡ l)
 held_by live l (IntWord z) st = absurd st
 held_by live l (Ref a) st = (a, st.0, refl, st.1, st.2)
 held_by live l NothingWord st = absurd st
@@ -109,7 +114,7 @@ waiting_block live (LastWaiting n) (LastPending m) l st is = absurd (none-some l
 none_left : (left kept all : ℕ) → left + kept ≡ all → kept ≡ all → left ≡ 0
 none_left left kept all sum is = omega arith
 
-module _ (k : Config) (s : Words) (r : Rule k s) (id : ℕ) (hist : List Entry) (x : DomainView) (at : get_elem? s.views id ≡ some (one k hist x)) (done : HasDone k x) where
+module _ (k : Config) (s : Words) (r : Rule k s) (id : ℕ) (hist : List Entry) (x : DomainView) (at : get_elem? s.views id ≡ some (one k hist x)) (done : HasDone k x) (paid_reads : x.seen.share.weak ≡ None) where
   abbrev state : model.State
   state = now k s r id hist x at
 
@@ -301,16 +306,52 @@ module _ (k : Config) (s : Words) (r : Rule k s) (id : ℕ) (hist : List Entry) 
       counted = f.counted;
     }
 
-    between_in : IsBetween state c → (kd : Kind) → IsBetween state (after kd)
-    between_in b kd = record { mode = b.mode; unmarked = b.unmarked; unchanged = b.unchanged; unrotated = b.unrotated }
+    -- who leaves Reset holds blocks of pools alone
+    own_pooled : x.seen.stage ≡ In Reset → HoldsPooled k r.account.live state d
+    own_pooled here =
+        let here_at = subst (AtStage r.account.pause d x.own.arrivals) here good.staged.stage in
+        let old : (a : ℕ) (p : Place) → r.account.live a ≡ Some p → IsOldAt k a = r.whole.emptied (inr (here_at.1.0, here_at.1.1, subst IsEmptying (sym here_at.1.2) ((λ e. cc), (λ e. cc)))) in record {
+          registers = λ n l is. dite (dec_le 16 n)
+              (λ far.
+              let wide : length (domain_at state d).registers ≡ 16 = shaped.register_count d (subst (λ (z : ℕ). d < z) (sym counted) (mine k s r id hist x at).inside) in
+              let none : get_or (domain_at state d).registers n Nothing ≡ Nothing = get_or_past (domain_at state d).registers n Nothing (subst (λ (z : ℕ). z ≤ n) (sym wide) far) in
+              absurd (let clash : Nothing ≡ Block l = sym none ∙ is in cc))
+              (λ near.
+              let b = held_by r.account.live l (value_at x.own.registers n) (subst (Stands r.account.live (value_at x.own.registers n)) is (good.stood.each n (lt_of_not-le near))) in
+              record { address = b.0; place = b.1; lives = b.3; old = old b.0 b.1 b.3; label = b.4 });
+          queue = λ l is.
+              let m = listed_cases {A = Pending} pending_label (domain_at state d).queue l is in
+              let b = paired_back (StandsWaiting r.account.live) x.own.finalisers.queue.items (domain_at state d).queue m.0 m.1 good.stood.enrolled.queue m.2 in
+              let w = waiting_block r.account.live b.0 m.1 l b.2 m.3 in
+              record { address = w.0; place = w.1; lives = w.3; old = old w.0 w.1 w.3; label = w.4 };
+        }
+
+    -- a cycle goes on beside the pause
+    underway_in : (kd : Kind) → x.seen.stage ≡ In kd → c.kind ≡ kd → IsTrue c.armed → Underway k state r.account.live c.kind c.past c.paint.marks c.shares → Underway k state r.account.live c.kind c.past c.paint.marks (after kd).shares
+    underway_in kd here is goes u = record {
+      covered = u.covered;
+      young = u.young;
+      pooled = u.pooled;
+      settled = λ e q ran. ⊎_elim
+          (λ z. ap (λ (n : ℕ). c.past.owed n q) z.0 ∙ (good.sharing.running.owes goes q ∙ ap (λ (w : Option ℕ). is_weak w q) paid_reads))
+          (λ z. u.settled e q (λ run. let g = ran run in (g.0, sym z.1 ∙ g.1)))
+          (at_cases c.shares.arrived d true e);
+      rooted = λ reset e below gone. ⊎_elim
+          (λ z. subst (HoldsPooled k r.account.live state) (sym z.0) (own_pooled (here ∙ ap In (sym is ∙ reset))))
+          (λ z. u.rooted reset e below (sym z.1 ∙ gone))
+          (at_cases c.shares.arrived d true e);
+    }
+
+    between_in : (kd : Kind) → x.seen.stage ≡ In kd → c.kind ≡ kd → IsBetween k state r.account.live c → IsBetween k state r.account.live (after kd)
+    between_in kd here is b = record { mode = b.mode; unmarked = b.unmarked; beside = λ goes. underway_in kd here is goes (b.beside goes); unchanged = b.unchanged; unrotated = b.unrotated }
 
     plain_in : IsPlain c → (kd : Kind) → IsPlain (after kd)
     plain_in f kd = record { unchanged = f.unchanged; unrotated = f.unrotated }
 
     facts_in : (kd : Kind) → x.seen.stage ≡ In kd → c.kind ≡ kd → Facts kd k state r.account.live t c s.words → Facts kd k state r.account.live t (after kd) s.words
-    facts_in Run here is f = between_in f Run
-    facts_in Promote here is f = between_in f Promote
-    facts_in Reset here is f = between_in f Reset
+    facts_in Run here is f = between_in Run here is f
+    facts_in Promote here is f = between_in Promote here is f
+    facts_in Reset here is f = between_in Reset here is f
     facts_in Roots here is f = (darkening_steps.roots_arrives laws.First k.domains state cyc f.0 d (roots_done (subst IsRooting (sym is) tt) waits here), plain_in f.1 Roots)
     facts_in Mark here is f = (darkening_steps.mark_arrives c.pass k.domains state cyc f.0 d (done_arrives (done.told (inl here)) (done.walked (inl here))), f.1)
     facts_in Rounds here is f = (darkening_steps.rounds_arrives c.pass k.domains state seeing (sees_rounds here f.0) d (record { paid = paid (done.told (inr (inl here))); all = own_seen }), f.1)
@@ -339,6 +380,7 @@ module _ (k : Config) (s : Words) (r : Rule k s) (id : ℕ) (hist : List Entry) 
     }
     facts_in Answer here is f = record {
       mode = f.mode;
+      whole = f.whole;
       swept = swept_in Answer f.swept;
       clean = f.clean;
       all_counted = f.all_counted;

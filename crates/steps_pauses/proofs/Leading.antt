@@ -22,7 +22,11 @@ use Rattle.heap_rule.specs.Cycles.{Cycling, Cycled, Facts, Told, IsIdle, seen_by
 use Rattle.heap_rule.specs.Layout.{heap_words, before_heap, barrier, plan, want, listed, cursor, listed_pool}
 use Rattle.heap_rule.specs.Limits.{sizes_in}
 use Rattle.heap_rule.specs.Phases.{code, Follows, flag, is_over, IsEven, Pause, Phases, AtStage, IsInPause}
-use Rattle.heap_rule.specs.Places.{Live}
+use Rattle.heap_rule.specs.Places.{Live, Settled}
+use Rattle.heap_rule.specs.Beside.{IsUnaware, is_weak}
+use Rattle.heap_rule.proofs.BesideLemmas.{runs_unaware, unaware_of}
+use Rattle.steps_pauses.proofs.BesideRows.{AllOld, marks_same, past_owes}
+use Rattle.steps_pauses.proofs.Repainting.{repainted}
 use Rattle.heap_rule.specs.Pools.{Tenancy, nobody, owner_word, limit_of, KeepsReserve}
 use Rattle.heap_rule.specs.Deciding.{Deciding}
 use Rattle.heap_rule.specs.Finalisers.{StandsFinal, StandsLast}
@@ -37,7 +41,7 @@ use Rattle.heap_model.specs.declared.label.Label.{Label}
 use Rattle.heap_rule.proofs.EphemeronLemmas.{looks_idle}
 use Rattle.heap_rule.proofs.FinaliserLemmas.{paired_length}
 use Rattle.steps_pauses.proofs.Arriving.{whole_all}
-use Rattle.steps_pauses.specs.Pauses.{kind_in, entry_of, cut_in, MayFollow, NamesFree, LeadMay, LeadTold}
+use Rattle.steps_pauses.specs.Pauses.{kind_in, entry_of, cut_in, whole_after, MayFollow, NamesFree, LeadMay, LeadTold}
 use Rattle.steps_pauses.proofs.CollectorEntries.{OfCollector, entry_of_collector, keeps_left, work_left, graph_left, front_then, after_logged, legal_logged, knows_logged, seen_then}
 use Rattle.steps_pauses.proofs.Naming.{left_by, logged, pass_in, left_in, led_cycle, Ready, Way, led_way}
 use Rattle.steps_pauses.proofs.Sizes.{domains_of}
@@ -58,6 +62,7 @@ told_led k p j next changed odd = record {
 -- domain 0 knows the pass by whether the cut is made
 pass_led : (last : Kind) (pass : laws.Pass) (cut : Bool) → pass ≡ pass_of cut → pass_in last pass ≡ pass_of (cut_in last cut)
 pass_led Roots pass cut is = refl
+pass_led Reset pass cut is = refl
 pass_led Queued pass cut is = refl
 pass_led _ pass cut is = is
 
@@ -95,11 +100,14 @@ follows_promote a b f e = from a (subst (Follows a) e f)
   where
     from : (a : Kind) → Follows a Promote → a ≡ Run
     from Run f = refl
-    from Reset f = ⊎_elim (λ (e : Promote ≡ Run). absurd (let h : Promote ≡ Run = e in cc)) (λ (e : Promote ≡ Roots). absurd (let h : Promote ≡ Roots = e in cc)) f
+    from Reset f = ⊎_elim (λ (e : Promote ≡ Run). absurd (let h : Promote ≡ Run = e in cc))
+        (λ q. ⊎_elim (λ (e : Promote ≡ Roots). absurd (let h : Promote ≡ Roots = e in cc)) (λ (e : Promote ≡ Mark). absurd (let h : Promote ≡ Mark = e in cc)) q) f
+    from Roots f = ⊎_elim (λ (e : Promote ≡ Mark). absurd (let h : Promote ≡ Mark = e in cc)) (λ (e : Promote ≡ Run). absurd (let h : Promote ≡ Run = e in cc)) f
     from Mark f = ⊎_elim (λ (e : Promote ≡ Mark). absurd (let h : Promote ≡ Mark = e in cc)) (λ (e : Promote ≡ Rounds). absurd (let h : Promote ≡ Rounds = e in cc)) f
     from Rounds f = ⊎_elim (λ (e : Promote ≡ Mark). absurd (let h : Promote ≡ Mark = e in cc))
         (λ q. ⊎_elim (λ (e : Promote ≡ Decide). absurd (let h : Promote ≡ Decide = e in cc)) (λ (e : Promote ≡ Clean). absurd (let h : Promote ≡ Clean = e in cc)) q) f
-    from Sweep f = ⊎_elim (λ (e : Promote ≡ Run). absurd (let h : Promote ≡ Run = e in cc)) (λ (e : Promote ≡ Answer). absurd (let h : Promote ≡ Answer = e in cc)) f
+    from Sweep f = ⊎_elim (λ (e : Promote ≡ Run). absurd (let h : Promote ≡ Run = e in cc))
+        (λ q. ⊎_elim (λ (e : Promote ≡ Answer). absurd (let h : Promote ≡ Answer = e in cc)) (λ (e : Promote ≡ Roots). absurd (let h : Promote ≡ Roots = e in cc)) q) f
     from _ f = cc
 
 pub led_leads : (kind other : Kind) → ◌≡◌ {A = Stage} (Led kind) (Leads other) → ⊥
@@ -149,7 +157,7 @@ module _ (k : Config) (s : Words) (r : Rule k s) (id : ℕ) (hist : List Entry) 
   o = entry_of last next
 
   abbrev y : DomainView
-  y = record x { seen = record x.seen { front = front_then x.seen.front r.account.log o; stage = Led next; share = record fresh_share { cut = cut_in last x.seen.share.cut } } }
+  y = record x { seen = record x.seen { front = front_then x.seen.front r.account.log o; stage = Led next; share = record fresh_share { cut = cut_in last x.seen.share.cut; whole = whole_after last next x.seen.share.whole } } }
 
   good : Good k r.account s.words x
   good = my_good k s r id hist x at
@@ -192,13 +200,34 @@ module _ (k : Config) (s : Words) (r : Rule k s) (id : ℕ) (hist : List Entry) 
   facts = subst (λ (kind : Kind). Facts kind k state live tenancy c s.words) kind_is r.whole.cycle.facts
 
   abbrev c' : Cycling
-  c' = led_cycle last next state c
+  c' = led_cycle k live last next state c
 
   counted : k.domains ≡ length state.domains
   counted = sym (domains_of k r.account.log r.limits)
 
-  ready : Ready last next c s.words
+  -- nothing lives in minor areas once the young blocks were copied, and nothing forwards
+  old : last ≢ Run → AllOld k live
+  old other = r.whole.emptied (inl (j, odd, λ e. other (sym before.1.2 ∙ e)))
+
+  bare : Settled live
+  bare = ⊎_elim (λ h. h) (λ (h : Promoting t). absurd (elsewhere h)) r.whole.settled
+
+  -- so no block misses keys
+  whole : (l : Label) → c.paint.emptied l ≡ []
+  whole = whole_all live tenancy.holder c (λ q d class is. ended_kind.1 d (r.whole.pools.owned_by q d class is).1) r.whole.cycle.whole
+
+  ready : Ready k live state.graph last next c s.words
   ready = let l = good.sharing.leading in record {
+    kind = kind_is;
+    goes_on = λ g h. sym (l.armed true (knows.goes_on g h)).1;
+    begins = λ g h. sym (l.armed false (knows.begins g h)).1;
+    finishes = λ g h. sym (l.armed true (knows.finishes g h)).1;
+    over = λ g h. sym (l.armed false (knows.over g h)).1;
+    answers = λ h. l.whole may.leads ∙ knows.answers h;
+    emptied = old;
+    bare = bare;
+    found = r.whole.found;
+    full = whole;
     quiet = λ h. flag_zero c.shares.changed (l.changed 0 (knows.unchanged h)).2;
     first = λ h. l.pass may.leads ∙ ap pass_of (knows.first h);
     second = λ h. l.pass may.leads ∙ ap pass_of (knows.second h);
@@ -207,12 +236,8 @@ module _ (k : Config) (s : Words) (r : Rule k s) (id : ℕ) (hist : List Entry) 
     no_words = λ h. (l.found_words 0 (knows.set_back h).1).1;
   }
 
-  -- so no block misses keys
-  whole : (l : Label) → c.paint.emptied l ≡ []
-  whole = whole_all live tenancy.holder c (λ q d class is. ended_kind.1 d (r.whole.pools.owned_by q d class is).1) r.whole.cycle.whole
-
   way : Way k r.account.log live tenancy c r.account.homes s.words last next
-  way = led_way k r.account.log live tenancy c r.account.homes s.words r.whole.cycle.leaves.none ended_kind.1 counted (λ q d class is. (r.whole.pools.owned_by q d class is).1) last next follows ready facts
+  way = led_way k r.account.log live tenancy c r.account.homes s.words r.whole.cycle.leaves.none ended_kind.1 counted (λ q d class is. let o = r.whole.pools.owned_by q d class is in (o.1, o.2)) r.whole.grid.lots last next follows ready facts
       (subst (λ (kind : Kind). Fullness k r.account.log live tenancy.holder tenancy.fresh r.account.homes kind) kind_is r.whole.full)
 
   untouched : Untouched s.words ws
@@ -290,6 +315,16 @@ module _ (k : Config) (s : Words) (r : Rule k s) (id : ℕ) (hist : List Entry) 
         rooted = λ _ _ i a p among. absurd (let l : IsTrue (seen_by [] i) = subst (λ (xs : List ℕ). IsTrue (seen_by xs i)) (ap (λ (u : Share). u.waiting) idle) among in cc);
       }
 
+  -- nobody runs in an odd phase, so nobody knows of blocks, nor owes a darkening
+  odd_runs : (z : DomainView) → Good k r.account s.words z → z.seen.stage ≢ In Run
+  odd_runs z h runs = let g = subst (AtStage t z.own.number z.own.arrivals) runs h.staged.stage in no_even (g.1.0, g.1.1)
+
+  unaware : (z : DomainView) → z.seen.stage ≢ In Run → Good k r.account s.words z → IsUnaware z.seen.share
+  unaware z still h = unaware_of k live tenancy.holder c.armed c.past c.paint.marks.marked s.words z.own.number z.seen.stage z.seen.share still h.sharing.running
+
+  none_owed : (z : DomainView) → z.seen.stage ≢ In Run → Good k r.account s.words z → IsTrue c.armed → (q : ℕ) → c.past.owed z.own.number q ≡ false
+  none_owed z still h is q = h.sharing.running.owes is q ∙ ap (λ (w : Option ℕ). is_weak w q) (unaware z still h).1
+
   sharing_led : Sharing k account' ws y.own.number y.own.registers y.own.finalisers y.own.ephemerons.items y.seen.stage y.seen.share
   sharing_led = record {
     telling = record { owes = λ _. refl; seen = λ _. refl; fresh = λ _. refl; forgotten = λ _ _. refl; colours = λ v e. cc };
@@ -300,10 +335,13 @@ module _ (k : Config) (s : Words) (r : Rule k s) (id : ℕ) (hist : List Entry) 
       rotated = λ _ e. way.unturned e;
       turned = λ e. cc;
       pass = λ first. pass_led last c.pass x.seen.share.cut (good.sharing.leading.pass first);
+      whole = λ first. ap (whole_after last next) (good.sharing.leading.whole first);
+      armed = λ b e. cc;
     };
     knows = inl refl;
     adds = record { blocks = λ e _. (way.uncounted e x.own.number).0; words = λ e _. (way.uncounted e x.own.number).1; own = λ _ _ e. cc };
-    looks = looks_idle live tenancy.holder tenancy.garbage (state_of k log').graph c.paint.marks c.paint.emptied y.own.number y.own.ephemerons.items y.seen.stage y.seen.share refl whole;
+    looks = looks_idle live tenancy.holder tenancy.garbage (state_of k log').graph c'.paint.marks c.paint.emptied y.own.number y.own.ephemerons.items y.seen.stage y.seen.share refl whole;
+    running = runs_unaware k live tenancy.holder c.armed c'.past c'.paint.marks.marked ws y.own.number y.seen.stage y.seen.share (refl, refl) (λ is q. past_owes last next state c.past x.own.number q (none_owed x (λ e. leads_runs last (sym stage_is ∙ e)) good is q));
     deciding = deciding_led x y.seen.share refl good;
   }
 
@@ -329,6 +367,8 @@ module _ (k : Config) (s : Words) (r : Rule k s) (id : ℕ) (hist : List Entry) 
           rotated = λ first _. absurd (apart first);
           turned = l.turned;
           pass = λ first. absurd (apart first);
+          whole = λ first. absurd (apart first);
+          armed = l.armed;
         };
         knows = inl idle;
         adds = record {
@@ -336,7 +376,9 @@ module _ (k : Config) (s : Words) (r : Rule k s) (id : ℕ) (hist : List Entry) 
           words = λ e _. (way.uncounted e z.own.number).1 ∙ sym (ap (λ (u : Share). u.added_words) idle);
           own = λ _ _ e. absurd (true≢false (sym e ∙ ap (λ (u : Share). u.added_blocks) idle));
         };
-        looks = looks_idle live tenancy.holder tenancy.garbage (state_of k log').graph c.paint.marks c.paint.emptied z.own.number z.own.ephemerons.items z.seen.stage z.seen.share idle whole;
+        looks = looks_idle live tenancy.holder tenancy.garbage (state_of k log').graph c'.paint.marks c.paint.emptied z.own.number z.own.ephemerons.items z.seen.stage z.seen.share idle whole;
+        running = runs_unaware k live tenancy.holder c.armed c'.past c'.paint.marks.marked ws z.own.number z.seen.stage z.seen.share (unaware z (odd_runs z h) h)
+            (λ is q. past_owes last next state c.past z.own.number q (none_owed z (odd_runs z h) h is q));
         deciding = deciding_led z z.seen.share idle h;
       }
 
@@ -369,7 +411,9 @@ module _ (k : Config) (s : Words) (r : Rule k s) (id : ℕ) (hist : List Entry) 
         wide = untouched.0 ∙ r.whole.wide;
         legal = legal_logged k s r id hist x at o way.allowed;
         full = way.full;
-        found = subst (λ (graph : Graph). AllFound k c.paint live graph ws) (sym graph_is) (found_untouched k c.paint live state.graph s.words ws untouched r.whole.found);
+        found = subst (λ (graph : Graph). AllFound k c'.paint live graph ws) (sym graph_is) (repainted k c.paint c'.paint.marks live state.graph ws
+            (λ a p lives. let f = r.whole.found a p lives in marks_same k live last next state c.paint.marks (λ is. old (λ e. let clash : Reset ≡ Run = sym is ∙ e in cc)) a p f.node lives f.there)
+            (found_untouched k c.paint live state.graph s.words ws untouched r.whole.found));
         placed = r.whole.placed;
         spread = r.whole.spread;
         settled = ⊎_elim (λ h. inl h) (λ (h : Promoting t). absurd (elsewhere h)) r.whole.settled;

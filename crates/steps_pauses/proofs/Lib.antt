@@ -1,6 +1,9 @@
 mod Sizes
 mod Arriving
 mod Finishing
+mod PoolLabels
+mod Repainting
+mod BesideRows
 mod Naming
 mod CollectorEntries
 mod Leading

@@ -106,6 +106,11 @@ free_follow share last next before after =
       second = λ h. absurd (apart Clean (λ u. u) h);
       rotated = λ h. absurd (left h);
       set_back = λ h. absurd (left h);
+      goes_on = λ h _. absurd (subst HasNoCycle h before);
+      begins = λ _ h. absurd (apart Roots (λ u. u) h);
+      finishes = λ _ h. absurd (apart Mark (λ u. u) h);
+      over = λ h _. absurd (⊎_elim (λ (is : last ≡ Sweep). subst HasNoCycle is before) (λ (is : last ≡ Answer). subst HasNoCycle is before) h);
+      answers = λ h. absurd (apart Answer (λ u. u) h);
     }
 
 pub no_entry_stands : (last next : Kind) → HasNoCycle last → entry_of last next ≡ None

@@ -93,7 +93,7 @@ pub record HasDone (k : Config) (x : DomainView) : Type 0 where
   -- it has added what it has counted
   pub added : x.seen.stage ≡ In Sweep → (x.seen.share.added_blocks ≡ true) × (x.seen.share.added_words ≡ true)
 
--- A domain arrives while it takes no block and makes none. Where it leaves Promote it owes no copy a value, has looked through all its remembered fields, holds no address of a minor area and has no place prepared. Where it leaves Reset its minor area is empty
+-- A domain arrives while it takes no block and makes none, and owes no darkening. Where it leaves Promote it owes no copy a value, has looked through all its remembered fields, holds no address of a minor area and has no place prepared. Where it leaves Reset its minor area is empty
 pub record ArriveMay (k : Config) (x : DomainView) : Type 0 where
   pub at_rest : x.seen.hunt ≡ Rests
   pub idle : x.seen.made ≡ []
@@ -105,12 +105,14 @@ pub record ArriveMay (k : Config) (x : DomainView) : Type 0 where
   pub unprepared : x.seen.stage ≡ In Promote → (c : ℕ) → c < class_count → prepared_at x.own.prepared c ≡ None
   pub emptied : x.seen.stage ≡ In Reset → x.own.used ≡ 0
   pub done : HasDone k x
+  -- it owes no darkening
+  pub paid_reads : x.seen.share.weak ≡ None
 
 -- a list that has forgotten its items, and has room for as many more
 abbrev pub forgotten : {A : Type 0} → Bounded A → Bounded A
 forgotten l = record { items = []; room = l.room + length l.items }
 
--- the domain has arrived: its list of copies is empty, and what it knows of the blocks that it met, of how many pools are free, of the list that it wrote, and of the phase but for the cut, is void
+-- the domain has arrived: its list of copies is empty, and what it knows of the blocks that it met, of how many pools are free, of the list that it wrote, and of the phase but for the cut and whether the cycle is whole, is void
 abbrev pub arrived_view : DomainView → DomainView
 arrived_view x = record {
   own = record x.own { arrivals = x.own.arrivals + 1; pending = forgotten x.own.pending };
@@ -172,22 +174,36 @@ entry_of Rounds Decide = Some Cut
 entry_of Rounds Clean = Some Seal
 entry_of Sweep Answer = Some Collected
 entry_of Sweep Run = Some Done
+entry_of Sweep Roots = Some Done
 entry_of Answer Run = Some Done
 entry_of _ _ = None
 
--- whether the cut of the collection is made
+-- whether the cut of the collection is made. It isn't where a cycle begins, or goes on that was under way
 abbrev pub cut_in : Kind → Bool → Bool
 cut_in Roots cut = false
+cut_in Reset cut = false
 cut_in Queued cut = true
 cut_in _ cut = cut
 
--- What domain 0 knows as it names the next kind. It leaves the marking when it has found that nothing was changed, to one side before the cut is made, to the other after it. Blocks are freed once it has rotated the colours, and set the live words back
+-- whether the collection began in this pause, where a kind is named after another
+abbrev pub whole_after : Kind → Kind → Bool → Bool
+whole_after Reset Roots whole = true
+whole_after Sweep Roots whole = true
+whole_after Reset Mark whole = false
+whole_after _ _ whole = whole
+
+-- What domain 0 knows as it names the next kind. It leaves the marking when it has found that nothing was changed, to one side before the cut is made, to the other after it. Blocks are freed once it has rotated the colours, and set the live words back. The domains run again beside the cycle where the armed word says that one goes on; one that goes on is finished, and another begins where none does. After a collection none goes on. A collection is answered where it began in this pause
 pub record MayFollow (share : Share) (last next : Kind) : Type 0 where
   pub unchanged : (next ≡ Rounds) ⊎ ((next ≡ Decide) ⊎ (next ≡ Clean)) → share.changed ≡ Some 0
   pub first : next ≡ Decide → share.cut ≡ false
   pub second : next ≡ Clean → share.cut ≡ true
   pub rotated : last ≡ Lasts → share.rotated ≡ true
   pub set_back : last ≡ Lasts → (share.blocks ≡ Some 0) × (share.words ≡ Some 0)
+  pub goes_on : last ≡ Roots → next ≡ Run → share.armed ≡ Some true
+  pub begins : last ≡ Reset → next ≡ Roots → share.armed ≡ Some false
+  pub finishes : last ≡ Reset → next ≡ Mark → share.armed ≡ Some true
+  pub over : (last ≡ Sweep) ⊎ (last ≡ Answer) → next ≡ Run → share.armed ≡ Some false
+  pub answers : next ≡ Answer → share.whole ≡ true
 
 -- domain 0 has written the list of free pools anew in this phase, from all owner words, and the cursor is 0: each pool whose owner word says nobody is listed
 pub record NamesFree (k : Config) (x : DomainView) : Type 0 where
@@ -222,7 +238,7 @@ pub record LeadTold (k : Config) (next : Kind) (x : DomainView) (found : ℕ) (y
   pub seen : IsFrontOf x.own.number y.seen.front x.seen.front
   pub stays : entry_of (kind_in x.seen.stage) next ≡ None → y.seen.front ≡ x.seen.front
   pub made : (e : Entry) → entry_of (kind_in x.seen.stage) next ≡ Some e → EndsWith k x y e
-  pub view : y ≡ record x { seen = record x.seen { front = y.seen.front; stage = Led next; share = record fresh_share { cut = cut_in (kind_in x.seen.stage) x.seen.share.cut } } }
+  pub view : y ≡ record x { seen = record x.seen { front = y.seen.front; stage = Led next; share = record fresh_share { cut = cut_in (kind_in x.seen.stage) x.seen.share.cut; whole = whole_after (kind_in x.seen.stage) next x.seen.share.whole } } }
 
 -- the token's own data after the end of a trace: the registers hold nothing, and nothing is registered
 abbrev pub ended_own : Own → Own

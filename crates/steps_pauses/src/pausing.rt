@@ -50,7 +50,8 @@ impl Writing for Arriving {
     }
 }
 
-/// The domain arrives, which empties its list of copies.
+/// The domain arrives, which empties its list of copies. It owes the darkening of no block that a weak
+/// read has brought.
 pub fn arrive(heap: &Heap, dom: &mut Domain)
     requires here { IsIn dom.old heap.now }
     requires may { ArriveMay heap.now.config dom.old.view }
@@ -91,7 +92,10 @@ pub fn want_clear(heap: &Heap, dom: &mut Domain)
     raw_store::<Brand, Leaving>(heap, dom, WANT, 0, &Leaving, &[]);
 }
 
-/// Domain 0 names the kind of the next phase, in an odd phase: `new` is its word.
+/// Domain 0 names the kind of the next phase, in an odd phase: `new` is its word. Before the domains
+/// run beside a cycle, and before one that goes on is finished, it knows that the armed word is set;
+/// before they run after a collection, and before another begins where blocks were copied, that it
+/// isn't.
 pub fn plan_store(heap: &Heap, dom: &mut Domain, new: u64)
     requires here { IsIn dom.old heap.now }
     requires may { LeadMay heap.now.config dom.old.view new (kind_at new) }

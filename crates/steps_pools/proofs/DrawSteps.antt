@@ -152,6 +152,8 @@ module _ (k : Config) (s : Words) (r : Rule k s) (id : ℕ) (hist : List Entry) 
     endings = refl;
     cycle = cycle_unmoved s.words;
     garbage = λ a. refl;
+    held = λ q d c e. e;
+    heads = λ a p e. refl;
     listeds = λ z g. let l = g.listed in record { all = l.all; own = l.own; lives = l.lives };
     full = r.whole.full;
     found = r.whole.found;
@@ -183,6 +185,8 @@ module _ (k : Config) (s : Words) (r : Rule k s) (id : ℕ) (hist : List Entry) 
     endings = refl;
     cycle = cycle_unmoved s.words;
     garbage = λ a. refl;
+    held = λ q d c e. e;
+    heads = λ a p e. refl;
     listeds = λ z g. let l = g.listed in record { all = l.all; own = l.own; lives = l.lives };
     full = r.whole.full;
     found = r.whole.found;
@@ -218,6 +222,8 @@ module _ (k : Config) (s : Words) (r : Rule k s) (id : ℕ) (hist : List Entry) 
         endings = refl;
         cycle = cycle_unmoved s.words;
         garbage = λ a. refl;
+        held = λ q d c e. e;
+        heads = λ a p e. refl;
         listeds = λ z g. let l = g.listed in record { all = l.all; own = l.own; lives = l.lives };
         full = r.whole.full;
         found = r.whole.found;
@@ -329,6 +335,8 @@ module _ (k : Config) (s : Words) (r : Rule k s) (id : ℕ) (hist : List Entry) 
       endings = other_word 8 (λ e. omega arith);
       cycle = cycle1;
       garbage = λ a. refl;
+      held = λ q d c e. e;
+      heads = λ a p e. agrees.heap a (r.whole.placed.fits a p e).low;
       listeds = λ z g. let l = g.listed in record { all = l.all; own = l.own; lives = l.lives };
       full = r.whole.full;
       found = found_agrees k r.account.cycling.paint r.account.live (state_of k r.account.log).graph s.words words1 agrees r.whole.placed r.whole.found;
@@ -507,6 +515,8 @@ module _ (k : Config) (s : Words) (r : Rule k s) (id : ℕ) (hist : List Entry) 
         endings = other_word 8 (λ e. omega arith);
         cycle = cycle1;
         garbage = λ a. refl;
+        held = λ q e b is. else1 q (λ same. (nobody_not e).not_owned b (sym was ∙ (ap t.holder (sym same) ∙ is))) ∙ is;
+        heads = λ a p e. agrees.heap a (r.whole.placed.fits a p e).low;
         listeds = λ z g. listed_on r.account.live r.account.live t.holder t1.holder t.garbage t1.garbage z.own.number z.own.ephemerons.items
             (λ q b is. dite (ℕ_discrete q pool) (λ same. absurd (drawn_owned me z.own.number b (sym (over_here pool (drawn me) t.holder) ∙ (ap t1.holder (sym same) ∙ is)))) (λ other. sym (else1 q other) ∙ is))
             (λ q b is. else1 q (λ same. (nobody_not z.own.number).not_owned b (sym was ∙ (ap t.holder (sym same) ∙ is))) ∙ is)

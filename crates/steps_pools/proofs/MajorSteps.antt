@@ -48,7 +48,7 @@ new_block n tag one_field few fits = record {
 
 -- an allocation in the major heap makes one
 major_makes : (dst tag n : ℕ) → MakesNode (AllocMaj dst tag n) dst (new_plain tag n)
-major_makes dst tag n = record { makes = λ s d. refl; allocates = refl; unregistering = refl; fits = λ s d mode queue. (mode, queue) }
+major_makes dst tag n = record { makes = λ s d. refl; allocates = refl; unregistering = refl; quiet = λ owed d. refl; overwrites = λ past m s d. tt; fits = λ s d mode queue. (mode, queue) }
 
 -- it isn't listed
 lists_none : (n tag a : ℕ) (items : List ℕ) → ListsNew (PlainShape n tag) a items items
@@ -85,7 +85,7 @@ new_ephemeron keys one_key few = record {
 }
 
 ephe_makes : (dst keys : ℕ) → MakesNode (NewEphe dst keys) dst (new_ephe keys)
-ephe_makes dst keys = record { makes = λ s d. refl; allocates = refl; unregistering = refl; fits = λ s d mode queue. (mode, queue) }
+ephe_makes dst keys = record { makes = λ s d. refl; allocates = refl; unregistering = refl; quiet = λ owed d. refl; overwrites = λ past m s d. tt; fits = λ s d mode queue. (mode, queue) }
 
 -- it is listed
 seen_last : (l : List ℕ) (a : ℕ) → IsTrue (seen_by (l ++ a ∷ []) a)

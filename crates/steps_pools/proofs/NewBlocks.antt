@@ -1,5 +1,5 @@
 -- A block comes to live at a free place of an own pool: the rule holds again, whatever the block is.
-use Rattle.std.proofs.Common.{◌≡◌, ◌≢◌, ℕ, suc, ◌+◌, ◌*◌, ◌^◌, ◌<◌, ◌≤◌, ◌⊎◌, true, false, ne_eqb, List, [], ◌∷◌, ◌++◌, length, get_or, set, slice_get, Option, Some, None, sym, refl, ap, ◌∙◌, subst, inl, inr, ⊎_elim, arith, length-set, get_or-set_same, IsTrue}
+use Rattle.std.proofs.Common.{◌≡◌, ◌≢◌, ℕ, suc, ◌+◌, ◌*◌, ◌^◌, ◌<◌, ◌≤◌, ◌⊎◌, ◌&&◌, Bool, true, false, ne_eqb, List, [], ◌∷◌, ◌++◌, length, get_or, set, slice_get, Option, Some, None, sym, refl, ap, ◌∙◌, subst, inl, inr, ⊎_elim, arith, length-set, get_or-set_same, IsTrue}
 use mathlib.Core.Logic.{dite}
 use native.Mathlib.Decide.{ℕ_discrete}
 use mathlib.Core.Option.{some}
@@ -14,13 +14,20 @@ use Rattle.heap_model.specs.declared.graph.Value as graph_value
 use Rattle.heap_model.specs.declared.graph.Value.TheVariants.{Block, Nothing}
 use Rattle.heap_model.specs.declared.graph.Node.{Node}
 use Rattle.heap_model.specs.declared.state.State as model
-use Rattle.heap_model.specs.Graph.{Graph, node_at, has_label}
+use Rattle.heap_model.specs.Graph.{Graph, labels, node_at, has_label}
 use Rattle.heap_model.specs.Domains.{domain_at}
 use Rattle.heap_model.specs.Commands.{outcome, allocated, is_allocation, FitsMode}
 use Rattle.heap_model.specs.Entries.{next}
 use Rattle.heap_model.specs.Fronts.{Shape, EpheShape, shape_of, Answers}
 use Rattle.heap_model.proofs.Graphs.GraphLemmas.{node_at-append_old, node_at-append_new}
-use Rattle.heap_model.proofs.Histories.NumberLemmas.{next_label_after}
+use Rattle.heap_model.proofs.Histories.NumberLemmas.{next_label_after, next_label-new}
+use Rattle.heap_model.proofs.Reach.ReachLemmas.{never_not, true_or_false}
+use Rattle.cycle_laws.specs.Beside.{Past, WriteBarrier, owed_after}
+use Rattle.cycle_laws.specs.Cover.{is_new as is_newer}
+use Rattle.cycle_laws.specs.Marks.{Marks}
+use Rattle.cycle_laws.proofs.Tracing.{never}
+use Rattle.heap_rule.proofs.Advancing.{Advance, advances_command, numbered, underway_here}
+use Rattle.heap_rule.proofs.Sharings.{with_weak}
 use Rattle.heap_model.proofs.Commands.MoveLemmas.{registers_one}
 use Rattle.heap_model.proofs.Histories.FrontLemmas.{answers_push}
 use Rattle.heap_model.proofs.Commands.LeavesLemmas.{Leaves, leaves_allocation}
@@ -34,14 +41,14 @@ use Rattle.heap_rule.specs.declared.view.Hunt.TheVariants.{Rests, Fills}
 use Rattle.heap_rule.specs.Limits.{sizes_in}
 use Rattle.heap_rule.specs.Layout.{before_heap, at_address, table_words}
 use Rattle.heap_rule.specs.Copies.{Recalls}
-use Rattle.heap_rule.specs.Places.{HasClass, Place, Live, extent, values_of, without_keys, IsBuilt, IsPackableShape, IsNewHead, Found, Fits, Placed, Spread, Stands, More, Settled, IsOldWord}
+use Rattle.heap_rule.specs.Places.{HasClass, Place, Live, extent, values_of, without_keys, IsBuilt, IsPackableShape, IsNewHead, new_colour, Found, Fits, Placed, Spread, Stands, More, Settled, IsOldWord}
 use Rattle.heap_rule.specs.Changes.{value_at, changed}
 use Rattle.heap_rule.specs.Views.{one}
 use Rattle.heap_rule.specs.Rule.{state_of, AllFound, Stood, Area, Making, Good, Rule}
 use Rattle.heap_rule.specs.Pools.{Grid, Lot, Hunter, owned, blocks_of, Filling, drawn_in, place_in, size_of, Tenancy}
 use Rattle.heap_rule.specs.Token.{next_label, Holds}
 use Rattle.heap_rule.proofs.ChangeLemmas.{registers_of}
-use Rattle.heap_rule.proofs.Values.{AllStand, stand_set, holds}
+use Rattle.heap_rule.proofs.Values.{AllStand, extent_large, stand_set, holds}
 use Rattle.heap_rule.proofs.Keeps.{whole_here, Words, mine, my_good, control_set, controls_kept, appends, legal_entry, owes_run, quiet, run_settled, opened_words, between_here, after_entry}
 use Rattle.heap_rule.proofs.Entering.{running, inside_state, registers_stand, may_begin, open_after}
 use Rattle.heap_rule.proofs.FinaliserLemmas.{enrolled_as, enrolled_more, work_command}
@@ -83,6 +90,8 @@ pub record MakesNode (c : Command) (dst : ℕ) (node : Node) : Type 0 where
   pub makes : (s : model.State) (d : ℕ) → outcome s d c ≡ allocated s d dst node
   pub allocates : is_allocation c ≡ true
   pub unregistering : registers_one c ≡ false
+  pub quiet : (owed : ℕ → ℕ → Bool) (d : ℕ) → owed_after owed d c ≡ owed
+  pub overwrites : (past : Past) (m : Marks) (s : model.State) (d : ℕ) → WriteBarrier past m s d c
   pub fits : (s : model.State) (d : ℕ) → s.mode ≡ Open → (domain_at s d).queue ≡ [] → FitsMode s d c
 
 -- of a block with this shape at an address, the list gets the address exactly where it is an ephemeron
@@ -102,7 +111,7 @@ pub record MakesMay (k : Config) (x : DomainView) (at new : ℕ) (changes : List
   pub acts : Acts k x
   pub hunt : x.seen.hunt ≡ Fills pool class slot (label_word x.own.number (x.own.serial + 1) ∷ behind)
   pub word : at ≡ place_in pool class slot
-  pub head : IsNewHead x.seen.share.colours shape new
+  pub head : IsNewHead x.seen.share.colours x.seen.share.armed true shape new
   pub serial : x.own.serial + 1 < 2 ^ 32
   pub goes : dst < 16
   pub written : changed NothingWord changes x.own ≡ record x.own { registers = set x.own.registers dst (Ref at) }
@@ -252,13 +261,25 @@ module _ (k : Config) (s : Words) (r : Rule k s) (id : ℕ) (hist : List Entry) 
   word_at i w got = stays k r.account.tenancy s.words A new (A + 2 + i) (λ o. omega arith)
       ∙ (ap (at_address k s.words) (let o : A + 2 + i ≡ A + 1 + suc i = omega arith in o) ∙ made_at (suc i) w got)
 
+  -- while a cycle goes on beside running domains the block is newer, and counts as marked and scanned
+  newer : IsTrue r.account.cycling.armed → IsTrue (is_newer r.account.cycling.past.old L)
+  newer is = never_not (has_label (labels r.account.cycling.past.old) L) (λ h. never (has_label (labels now.graph) L) (ap (has_label (labels now.graph)) label_is ∙ next_label-new now (numbered k s r id hist x at) d)
+      ((underway_here k s r id hist x at may.acts.runs is).covered.grown L h))
+
+  marked_new : r.account.cycling.paint.marks.marked L ≡ r.account.cycling.armed
+  marked_new = ⊎_elim (λ (is : IsTrue r.account.cycling.armed). (underway_here k s r id hist x at may.acts.runs is).covered.new_marked L (newer is) ∙ sym is)
+      (λ (none : r.account.cycling.armed ≡ false). (between_here k s r id hist x at Run tt may.acts.runs).unmarked none L ∙ sym none) (true_or_false r.account.cycling.armed)
+
+  scanned_new : IsTrue r.account.cycling.armed → IsTrue (r.account.cycling.paint.marks.scanned L)
+  scanned_new is = (underway_here k s r id hist x at may.acts.runs is).covered.new_scanned L (newer is)
+
   born_found : Found k r.account.cycling.paint live1 grown ws A born_place
   born_found = record {
     node = node;
     there = node_at-append_new now.graph L node fresh;
     shape = may.block.shape_is;
-    head = head_at r.account.cycling.paint born_place (get_or-set_same s.words (before_heap k + A) new 0 spot) (new_head r.account.cycling.paint born_place x.seen.share.colours new refl ((between_here k s r id hist x at Run tt may.acts.runs).unmarked L) g.sharing.telling.colours may.head);
-    blank = λ _. refl;
+    head = head_at r.account.cycling.paint born_place (get_or-set_same s.words (before_heap k + A) new 0 spot) (new_head r.account.cycling.paint born_place x.seen.share.colours x.seen.share.armed true r.account.cycling.armed new refl marked_new scanned_new g.sharing.telling.colours (λ b is. (g.sharing.leading.armed b is).1) may.head);
+    blank = λ young. absurd (not_young young);
     label = stays k r.account.tenancy s.words A new (A + 1) (λ o. omega arith)
         ∙ (ap (at_address k s.words) (let o : A + 1 ≡ A + 1 + 0 = omega arith in o) ∙ made_at 0 (label_word d (x.own.serial + 1)) refl);
     values = λ i v _ got. let t = may.block.values i v (ap (λ (keys : List ℕ). slice_get (values_of (without_keys keys node)) i) (sym (whole_here k s r id hist x at Run tt may.acts.runs L)) ∙ got) in record {
@@ -352,7 +373,7 @@ module _ (k : Config) (s : Words) (r : Rule k s) (id : ℕ) (hist : List Entry) 
   -- the new head isn't Free
   head_new : at_address k ws A ≢ 0
   head_new z = let h : at_address k ws A ≡ new = get_or-set_same s.words (before_heap k + A) new 0 spot in
-      absurd (head_some shape may.head.colours.unmarked false (sym may.head.packs ∙ (sym h ∙ z)))
+      absurd (head_some shape (new_colour may.head.beside may.head.colours) (true && may.head.beside) (sym may.head.packs ∙ (sym h ∙ z)))
 
   hunter1 : Hunter k r.account.tenancy ws after
   hunter1 = record {
@@ -426,10 +447,19 @@ module _ (k : Config) (s : Words) (r : Rule k s) (id : ℕ) (hist : List Entry) 
   fits_now : FitsMode now d c
   fits_now = let m = may_begin k s r id hist x at may.acts in may.command.fits now d m.0 m.1
 
+  -- how a cycle goes on with the entry
+  advance : Advance k s r id hist x at e None live1
+  advance = advances_command k s r id hist x at may.acts.runs may.acts.paid c live1 (may.command.quiet r.account.cycling.past.owed d) grows
+      (λ is b q lives young. (underway_here k s r id hist x at may.acts.runs is).young b q (before b q (λ same. not_young (subst (λ (m : ℕ). k.pools * 4096 < m) same young)) lives) young)
+      (λ is. may.command.overwrites r.account.cycling.past r.account.cycling.paint.marks now d)
+
   pub makes_rule : Rule k record { words = ws; homes = s.homes; views = set s.views id (one k hist after) }
-  makes_rule = appends k s r id hist x at e after ws live1 homes1 record {
+  makes_rule = appends k s r id hist x at e after ws live1 homes1 advance.past record {
     full = full1;
-    share = refl;
+    weak = None;
+    share = ap (with_weak x.seen.share) may.acts.paid;
+    advances = advance.advances;
+    heads = λ b q lives. stays k r.account.tenancy s.words A new b (λ same. far b q lives 0 (let n : ℕ = extent q.shape in let l : 3 ≤ n = extent_large q.shape (r.whole.placed.fits b q lives).head in let o : 0 < n = omega arith in o) (let p : ℕ = A in let o : b ≡ p = same in let i : b + 0 ≡ p = omega arith in i));
     alone = λ m other. ne_eqb d m (λ o. other (sym o));
     allowed = record { running = running k s r id hist x at may.acts; fits = fits_now; full_fits = tt };
     is_open = open_after k s r id hist x at may.acts c false;

@@ -20,6 +20,7 @@ use Rattle.heap_rule.specs.Phases.{sum_of}
 use Rattle.steps_pools.specs.Takes.{with_hunt, looked_to, NoneFree}
 use Rattle.heap_rule.proofs.Update.{over, over_here, over_else}
 use Rattle.heap_rule.proofs.Lists.{got_end, got_below}
+use Rattle.heap_rule.proofs.Values.{extent_large}
 use Rattle.heap_rule.proofs.Keeps.{Words, mine, more_same, phases_words, phases_same, cycle_control, control_set, controls_kept, pools_same, covered_words, room_words, holds_again}
 use Rattle.heap_rule.proofs.Classes.{size_least, some_block, slot_below, slot_inside}
 use Rattle.heap_rule.proofs.Beside.{found_beside, making_beside}
@@ -66,6 +67,10 @@ module _ (k : Config) (s : Words) (r : Rule k s) (id : ℕ) (hist : List Entry) 
 
   P : Pools k T s.words
   P = r.whole.pools
+
+  -- a live block has a word
+  some_word : (b : ℕ) (q : Place) → r.account.live b ≡ Some q → 0 < extent q.shape
+  some_word b q lives = let n : ℕ = extent q.shape in let l : 3 ≤ n = extent_large q.shape (r.whole.placed.fits b q lives).head in let o : 0 < n = omega arith in o
 
   -- the owner word
   module _ (pool class : ℕ) (inside : pool < k.pools) (few : class < class_count) where
@@ -226,6 +231,8 @@ module _ (k : Config) (s : Words) (r : Rule k s) (id : ℕ) (hist : List Entry) 
         endings = control_set k s.words A 0 (omega arith) 8 (omega arith);
         cycle = cycle_control k s.words ws (control_set k s.words A 0 (omega arith));
         garbage = λ a. refl;
+        held = λ q e c is. is;
+        heads = λ b q lives. stays k T s.words A 0 b (λ same. far A low high b q lives 0 (some_word b q lives) (let o : b ≡ A = same in let g : b + 0 ≡ A = omega arith in g));
         listeds = λ z g. g.listed;
         full = r.whole.full;
         found = λ b q lives. let f = r.whole.found b q lives in found_beside k r.account.cycling.paint r.account.live r.account.live (state_of k r.account.log).graph (state_of k r.account.log).graph s.words A 0 b q (more_same r.account.live) f f.there (far A low high b q lives);
@@ -461,6 +468,8 @@ module _ (k : Config) (s : Words) (r : Rule k s) (id : ℕ) (hist : List Entry) 
       endings = other_word 8 (λ e. omega arith);
       cycle = record { armed_same = other_word 4 (λ e. omega arith); colours_same = other_word 5 (λ e. omega arith); changed_same = other_word 3 (λ e. omega arith); blocks_same = other_word 9 (λ e. omega arith); words_same = other_word 10 (λ e. omega arith) };
       garbage = λ a. refl;
+      held = λ q e c is. else2 q (λ same. drawn_owned d e c (sym all_clear.drawn_is ∙ (ap T.holder (sym same) ∙ is))) ∙ is;
+      heads = λ a p lives. agrees.heap a (r.whole.placed.fits a p lives).low;
       listeds = listeds2;
       full = full2;
       found = found_agrees k r.account.cycling.paint r.account.live (state_of k r.account.log).graph s.words words2 agrees r.whole.placed r.whole.found;
@@ -629,6 +638,8 @@ module _ (k : Config) (s : Words) (r : Rule k s) (id : ℕ) (hist : List Entry) 
         endings = control_set k s.words B new (omega arith) 8 (omega arith);
         cycle = cycle_control k s.words ws3 (control_set k s.words B new (omega arith));
         garbage = λ a. refl;
+        held = λ q e c is. is;
+        heads = λ b q lives. stays k T s.words B new b (λ same. let n : ℕ = extent q.shape in let p : ℕ = place_in pool class slot in let y : ℕ = size_of class in let f : m + 1 < y = room in let o : b ≡ p + 1 + m = same in let l : 0 < n = some_word b q lives in ⊎_elim (λ (h : b + n ≤ p). omega arith) (λ (h : p + y ≤ b). omega arith) (live_far b q lives));
         listeds = λ z g. g.listed;
         full = r.whole.full;
         found = λ b q lives. let f = r.whole.found b q lives in found_beside k r.account.cycling.paint r.account.live r.account.live (state_of k r.account.log).graph (state_of k r.account.log).graph s.words B new b q (more_same r.account.live) f f.there

@@ -1,6 +1,6 @@
 -- The making of an ephemeron at a free place of an own pool.
 use Rattle.remembered_set.specs.Bounded.{Bounded}
-use Rattle.std.specs.Prelude.{◌≡◌, ℕ, ◌+◌, ◌-◌, ◌^◌, ◌<◌, ◌≤◌, false, List, [], ◌∷◌, ◌++◌, replicate, slice_set}
+use Rattle.std.specs.Prelude.{◌≡◌, ℕ, ◌+◌, ◌-◌, ◌^◌, ◌<◌, ◌≤◌, true, false, List, [], ◌∷◌, ◌++◌, replicate, slice_set}
 use Rattle.heap_model.specs.declared.command.Command.TheVariants.{Ephe}
 use Rattle.heap_model.specs.declared.entry.Entry.{Entry}
 use Rattle.heap_model.specs.declared.entry.Entry.TheVariants.{Command}
@@ -41,7 +41,7 @@ pub record EpheMay (k : Config) (x : DomainView) (at new : ℕ) (changes : List 
   pub word : at ≡ place_in pool class slot
   pub some_key : 1 ≤ keys
   pub few_keys : keys ≤ 8
-  pub head : IsNewHead x.seen.share.colours (EpheShape keys) new
+  pub head : IsNewHead x.seen.share.colours x.seen.share.armed true (EpheShape keys) new
   pub serial : x.own.serial + 1 < 2 ^ 32
   pub room : 1 ≤ x.own.ephemerons.room
   pub goes : dst < 16

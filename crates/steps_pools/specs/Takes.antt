@@ -1,6 +1,6 @@
 -- Steps that take a free block of the pools, and make a block there.
 use Rattle.heap_model.specs.Domains.{class_count}
-use Rattle.std.specs.Prelude.{◌≡◌, ◌≢◌, ℕ, ◌+◌, ◌*◌, ◌-◌, ◌^◌, ◌<◌, ◌≤◌, false, List, [], ◌∷◌, ◌++◌, length, replicate, slice_set, Some, None}
+use Rattle.std.specs.Prelude.{◌≡◌, ◌≢◌, ℕ, ◌+◌, ◌*◌, ◌-◌, ◌^◌, ◌<◌, ◌≤◌, true, false, List, [], ◌∷◌, ◌++◌, length, replicate, slice_set, Some, None}
 use Rattle.heap_model.specs.declared.command.Command.TheVariants.{AllocMaj}
 use Rattle.heap_model.specs.declared.entry.Entry.{Entry}
 use Rattle.heap_model.specs.declared.entry.Entry.TheVariants.{Command}
@@ -186,7 +186,7 @@ pub record MajorMay (k : Config) (x : DomainView) (at new : ℕ) (changes : List
   pub tag_fits : tag < 256
   pub some_field : 1 ≤ fields
   pub few_fields : fields ≤ 126
-  pub head : IsNewHead x.seen.share.colours (PlainShape fields tag) new
+  pub head : IsNewHead x.seen.share.colours x.seen.share.armed true (PlainShape fields tag) new
   pub serial : x.own.serial + 1 < 2 ^ 32
   pub goes : dst < 16
   pub written : changed Nothing changes x.own ≡ record x.own { registers = slice_set x.own.registers dst (Ref at) }

@@ -1,5 +1,5 @@
 -- The claim of a young block: where its head is found as it was met, the prepared place is its copy.
-use Rattle.std.proofs.Common.{rules, nat_le, ◌≡◌, ◌≢◌, ℕ, zero, suc, ◌+◌, ◌-◌, ◌*◌, ◌^◌, ◌/◌, ◌<◌, ◌≤◌, ◌⊎◌, Bool, true, false, eqb, eq-eqb, ne_eqb, if◌then◌else◌, List, [], ◌∷◌, ◌++◌, length, get_or, set, slice_get, Option, Some, None, unwrap_or, sym, refl, ap, ◌∙◌, subst, inl, inr, ⊎_elim, arith, lt_of_not-le, length-set, get_or-set_same, get_or-set_other, suc-mul, IsTrue, cond}
+use Rattle.std.proofs.Common.{rules, nat_le, ◌≡◌, ◌≢◌, ℕ, zero, suc, ◌+◌, ◌-◌, ◌*◌, ◌^◌, ◌/◌, ◌<◌, ◌≤◌, ◌⊎◌, Bool, true, false, eqb, eq-eqb, ne_eqb, if◌then◌else◌, List, [], ◌∷◌, ◌++◌, length, get_or, set, slice_get, Option, Some, None, unwrap_or, sym, refl, ap, ◌∙◌, subst, inl, inr, ⊎_elim, arith, lt_of_not-le, length-set, get_or-set_same, get_or-set_other, suc-mul, IsTrue}
 use Rattle.std.proofs.Math.Nat.{mul-le-mul_left}
 use mathlib.Core.Logic.{dite}
 use native.Mathlib.Decide.{ℕ_discrete, dec_le}
@@ -28,7 +28,7 @@ use Rattle.heap_rule.specs.Copies.{met_place, known, debt_of, HasCopy, IsCopied,
 use Rattle.heap_rule.specs.Layout.{heap_words, before_heap, base_of, at_address}
 use Rattle.heap_rule.specs.Limits.{sizes_in}
 use Rattle.heap_rule.specs.Phases.{sum_of}
-use Rattle.heap_rule.specs.Places.{Debt, Place, Live, extent, span, class_words, least_size, HeadIs, IsNewHead, colour_in, Found, Fits, Placed, Spread, Lasts, More, IsBuilt, head_of}
+use Rattle.heap_rule.specs.Places.{Debt, Place, Live, extent, span, class_words, least_size, HeadIs, IsNewHead, colour_in, new_colour, Found, Fits, Placed, Spread, Lasts, More, IsBuilt, head_of}
 use Rattle.heap_rule.specs.Pools.{Stock, limit_of, owned, drawn_in, Tenancy, Hunts, Hunter, OwnPlace, Lot, Grid, Latest, DrawsFor, Drawers, IsCopying, place_in, size_of, blocks_of, prepared_at}
 use Rattle.heap_rule.specs.Raw.{MayStep, Closes}
 use Rattle.heap_rule.specs.Room.{count, drawn_in_all, copied_words, Room, Opened}
@@ -45,7 +45,7 @@ use Rattle.heap_rule.proofs.Classes.{size_least}
 use Rattle.heap_rule.proofs.Counting.{joined_with, joined_cases, claim_counts, claim_few, sum_le, sum_times}
 use Rattle.heap_rule.proofs.Drops.{debt_cases}
 use Rattle.heap_rule.proofs.Holders.{SameFor, agrees_same, hunter_agree}
-use Rattle.heap_rule.proofs.Keeps.{Words, mine, my_good, control_set, control_same, pools_same, opened_words, more_same, stands_more, hunter_as, between_here}
+use Rattle.heap_rule.proofs.Keeps.{Words, mine, my_good, control_set, control_same, pools_same, opened_words, more_same, stands_more, hunter_as}
 use Rattle.heap_rule.proofs.PauseFacts.{promote_now, promote_here}
 use Rattle.heap_rule.proofs.Lots.{area_beside, hunter_beside, number_cases, place_low}
 use Rattle.heap_rule.proofs.Update.{over, over_here, over_else}
@@ -55,13 +55,11 @@ use Rattle.steps_promote.proofs.OwnPlaces as places
 use Rattle.steps_promote.proofs.OwnPlaces.{place_sole}
 use Rattle.steps_promote.proofs.Preparing.{prepared_here, prepared_else}
 use Rattle.steps_promote.proofs.Registers.{promote_once}
-use Rattle.steps_promote.proofs.Remaking.{promotes_again, stood_same}
-use Rattle.heap_rule.proofs.HeadLemmas.{head_at, new_head}
+use Rattle.steps_promote.proofs.Remaking.{promotes_again, stood_same, young_colour}
+use Rattle.heap_rule.proofs.HeadLemmas.{head_at}
 use Rattle.heap_rule.proofs.FullnessLemmas.{full_filled}
 use Rattle.heap_rule.specs.Fullness.{Homes, Fullness}
 use Rattle.cycle_laws.specs.Pools.{with_pool}
-use Rattle.heap_words.specs.declared.colours.Colours.{Colours}
-use Rattle.heap_rule.specs.declared.phase.Kind.TheVariants.{Promote}
 use Rattle.std.proofs.lemmas.Option.{none-some, same_Some}
 
 -- lists that grow at their end
@@ -193,15 +191,15 @@ module _ (k : Config) (s : Words) (r : Rule k s) (id : ℕ) (hist : List Entry) 
   shape_is : p.shape ≡ may.place.shape
   shape_is = lasts.shape
 
-  old_head : IsNewHead x.seen.share.colours p.shape old
-  old_head = subst (λ (z : Shape). IsNewHead x.seen.share.colours z old) (sym shape_is) may.head
+  old_head : IsNewHead x.seen.share.colours x.seen.share.armed false p.shape old
+  old_head = subst (λ (z : Shape). IsNewHead x.seen.share.colours x.seen.share.armed false z old) (sym shape_is) may.head
 
-  -- nothing is marked while young blocks are copied, and the domain knows the colours
-  unmarked : r.account.cycling.paint.marks.marked p.label ≡ false
-  unmarked = (between_here k s r id hist x at Promote tt may.stage).unmarked p.label
+  -- the block has the colour of a new one, and so has its copy
+  colour_is : colour_in r.account.cycling.paint p.label ≡ new_colour old_head.beside old_head.colours
+  colour_is = young_colour k s r id hist x at may.stage a p lives may.young old_head.colours old_head.known_is old_head.beside old_head.armed_is
 
-  known_colours : (c : Colours) → x.seen.share.colours ≡ Some c → c ≡ r.account.cycling.paint.colours
-  known_colours = (my_good k s r id hist x at).sharing.telling.colours
+  old_packs : HeadIs None p.shape (colour_in r.account.cycling.paint p.label) false old
+  old_packs = subst (λ (n : ℕ). HeadIs None p.shape n false old) (sym colour_is) old_head.packs
 
   old_at : at_address k s.words c ≡ old
   old_at = ours.3
@@ -292,6 +290,7 @@ module _ (k : Config) (s : Words) (r : Rule k s) (id : ℕ) (hist : List Entry) 
           placed = r.whole.placed;
           spread = r.whole.spread;
           more = more_same live;
+          young = λ b q e _. (q, e, refl);
           copies = r.whole.copies;
           cleared = r.whole.cleared;
           pools = r.whole.pools;
@@ -332,7 +331,7 @@ module _ (k : Config) (s : Words) (r : Rule k s) (id : ℕ) (hist : List Entry) 
     lost_told = record {
       place = may.place;
       met = may.met;
-      won = λ e. absurd (forwards_not p.shape old c2 (old_head.colours.unmarked, false, old_head.packs) (sym e ∙ found_forward));
+      won = λ e. absurd (forwards_not p.shape old c2 (new_colour old_head.beside old_head.colours, false, old_head.packs) (sym e ∙ found_forward));
       lost = λ _. record {
         copy = c2;
         word = found_forward;
@@ -426,7 +425,7 @@ module _ (k : Config) (s : Words) (r : Rule k s) (id : ℕ) (hist : List Entry) 
       node = f0.node;
       there = f0.there;
       shape = f0.shape;
-      head = head_at r.account.cycling.paint pc (stays c (λ e. differ (sym e)) ∙ old_at) (new_head r.account.cycling.paint pc x.seen.share.colours old refl unmarked known_colours old_head);
+      head = head_at r.account.cycling.paint pc (stays c (λ e. differ (sym e)) ∙ old_at) record { scanned = false; packs = old_packs; tells = λ _ is. absurd (let e : false ≡ true = is in cc) };
       blank = λ young. absurd (let h : c ≤ k.pools * 4096 = c_old in let y : k.pools * 4096 < c = young in omega arith);
       label = c_word 1 (omega arith) ∙ label_at;
       values = λ i v has got. absurd (let h : i < 0 = has in omega arith);
@@ -438,7 +437,7 @@ module _ (k : Config) (s : Words) (r : Rule k s) (id : ℕ) (hist : List Entry) 
       node = f0.node;
       there = f0.there;
       shape = f0.shape;
-      head = record { scanned = false; packs = now_at ∙ may.word; tells = λ is. absurd (let e : false ≡ true = sym unmarked ∙ is in cc) };
+      head = record { scanned = false; packs = now_at ∙ may.word; tells = λ _ is. absurd (let e : false ≡ true = is in cc) };
       blank = λ _. refl;
       label = stays (a + 1) (λ e. omega arith) ∙ f0.label;
       values = λ i v has got. let w = f0.values i v has got in record { value = w.value; packs = stays (a + 2 + i) (λ e. omega arith) ∙ w.packs; stands = stands_more live live2 w.value v more2 w.stands };
@@ -945,6 +944,7 @@ module _ (k : Config) (s : Words) (r : Rule k s) (id : ℕ) (hist : List Entry) 
           placed = placed2;
           spread = spread2;
           more = more2;
+          young = λ b q e young. let v = young_was b q young e in (v.0, v.1, v.2);
           copies = copies2;
           cleared = cleared2;
           pools = record { few = pools.few; inside = pools.inside; once = pools.once; untaken = pools.untaken; owners = pools.owners; owned_by = pools.owned_by; drawn_by = pools.drawn_by; one_each = pools.one_each; asked = pools.asked };
@@ -1017,10 +1017,7 @@ module _ (k : Config) (s : Words) (r : Rule k s) (id : ℕ) (hist : List Entry) 
   )
 
   head_is_old : p.forward ≡ None → at_address k s.words a ≡ old
-  head_is_old bare =
-      let paint = r.account.cycling.paint in
-      let colour : colour_in paint p.label ≡ old_head.colours.unmarked = ap (λ (b : Bool). cond b paint.colours.marked paint.colours.unmarked) unmarked ∙ ap (λ (c : Colours). c.unmarked) (sym (known_colours old_head.colours old_head.known_is)) in
-      subst (λ (m : Option ℕ × ℕ × Bool). HeadIs m.0 p.shape m.1 m.2 (at_address k s.words a)) (λ i. (bare i, colour i, f0.blank may.young i)) f0.head.packs ∙ sym old_head.packs
+  head_is_old bare = subst (λ (m : Option ℕ × Bool). HeadIs m.0 p.shape (colour_in r.account.cycling.paint p.label) m.1 (at_address k s.words a)) (λ i. (bare i, f0.blank may.young i)) f0.head.packs ∙ sym old_packs
 
   pub record Outcome (found : ℕ) : Type 0 where
     pub after : DomainView
@@ -1055,7 +1052,7 @@ module _ (k : Config) (s : Words) (r : Rule k s) (id : ℕ) (hist : List Entry) 
       (λ other. won_outcome bare used1 (same_used (λ same_place _. other same_place))))
       (λ (t2 : (c2 : ℕ) × (p.forward ≡ Some c2)).
       let found : ℕ = at_address k s.words a in
-      let differs : found ≢ old = (λ e. forwards_not p.shape old t2.0 (old_head.colours.unmarked, false, old_head.packs) (sym e ∙ found_forward t2.0 t2.1)) in
+      let differs : found ≢ old = (λ e. forwards_not p.shape old t2.0 (new_colour old_head.beside old_head.colours, false, old_head.packs) (sym e ∙ found_forward t2.0 t2.1)) in
       let word : either (eqb found old) new found ≡ found = ap (λ (b : Bool). either b new found) (ne_eqb found old differs) in record {
         after = lost_view t2.0 t2.1;
         rule = subst (λ (ws : List ℕ). Rule k record { words = ws; homes = s.homes; views = set s.views id (one k hist (lost_view t2.0 t2.1)) }) (sym (set-get_or s.words (before_heap k + a) 0) ∙ ap (set s.words (before_heap k + a)) (sym word)) (lost_rule t2.0 t2.1);

@@ -166,6 +166,7 @@ module _ (k : Config) (s : Words) (r : Rule k s) (id : ℕ) (hist : List Entry) 
             placed = r.whole.placed;
             spread = r.whole.spread;
             more = more_same live;
+            young = λ b q e _. (q, e, refl);
             copies = r.whole.copies;
             cleared = r.whole.cleared;
             pools = pools_same k t s.words ws control r.whole.pools;
@@ -296,6 +297,7 @@ module _ (k : Config) (s : Words) (r : Rule k s) (id : ℕ) (hist : List Entry) 
           placed = r.whole.placed;
           spread = r.whole.spread;
           more = more_same live;
+          young = λ b q e _. (q, e, refl);
           copies = r.whole.copies;
           cleared = r.whole.cleared;
           pools = pools_prepared k t prepared' w0 (pools_same k t s.words w0 control0 r.whole.pools);

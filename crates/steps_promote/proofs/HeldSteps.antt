@@ -190,6 +190,7 @@ module _ (k : Config) (s : Words) (r : Rule k s) (id : ℕ) (hist : List Entry) 
           placed = r.whole.placed;
           spread = r.whole.spread;
           more = more_same live;
+          young = λ b q e _. (q, e, refl);
           copies = r.whole.copies;
           cleared = r.whole.cleared;
           pools = r.whole.pools;

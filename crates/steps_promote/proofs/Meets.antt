@@ -26,7 +26,7 @@ use Rattle.heap_rule.specs.declared.view.DomainView.{DomainView}
 use Rattle.heap_rule.specs.declared.phase.Kind.TheVariants.{Promote}
 use Rattle.heap_rule.specs.declared.phase.Stage.TheVariants.{In}
 use Rattle.heap_rule.specs.Layout.{heap_words, before_heap, at_address}
-use Rattle.heap_rule.specs.Places.{Debt, Place, Live, extent, values_of, HeadIs, colour_in, HasValue, IsBuilt, Stands, Lasts, More}
+use Rattle.heap_rule.specs.Places.{Debt, Place, Live, extent, values_of, HeadIs, colour_in, new_colour, HasValue, IsBuilt, Stands, Lasts, More}
 use Rattle.heap_rule.specs.Phases.{IsInPause}
 use Rattle.heap_rule.specs.Copies.{ListsCopy, HasCopy, IsCopied, met_place, shape_of_form, known}
 use Rattle.heap_rule.specs.Raw.{MayStep}
@@ -44,10 +44,9 @@ use Rattle.heap_rule.proofs.Values.{address_of, packable}
 use Rattle.heap_rule.proofs.Lists.{got_there}
 use Rattle.heap_rule.proofs.Drops.{debt_cases}
 use Rattle.heap_rule.proofs.Lots.{number_cases}
-use Rattle.heap_rule.proofs.Keeps.{Words, my_good, control_same, hunter_as, unmoved, more_same, stands_more, between_here}
-use Rattle.steps_promote.proofs.Remaking.{promotes_again, stood_same}
+use Rattle.heap_rule.proofs.Keeps.{Words, my_good, control_same, hunter_as, unmoved, more_same, stands_more}
+use Rattle.steps_promote.proofs.Remaking.{promotes_again, stood_same, young_colour}
 use Rattle.heap_rule.proofs.HeadLemmas.{packable_head, colour_small}
-use Rattle.heap_words.specs.declared.colours.Colours.{Colours}
 use Rattle.std.proofs.lemmas.Option.{same_Some}
 
 pub form_shape : (s : Shape) → IsBuilt s → shape_of_form (form_of s) ≡ s
@@ -126,6 +125,7 @@ module _ (k : Config) (s : Words) (r : Rule k s) (id : ℕ) (hist : List Entry) 
         placed = r.whole.placed;
         spread = r.whole.spread;
         more = more_same live;
+        young = λ b q e _. (q, e, refl);
         copies = r.whole.copies;
         cleared = r.whole.cleared;
         pools = r.whole.pools;
@@ -201,12 +201,13 @@ module _ (k : Config) (s : Words) (r : Rule k s) (id : ℕ) (hist : List Entry) 
           told = let paint = r.account.cycling.paint in let colour : ℕ = colour_in paint p.label in
               let bare : HeadIs None p.shape colour f.head.scanned (at_address k s.words a) = subst (λ (o : Option ℕ). HeadIs o p.shape colour f.head.scanned (at_address k s.words a)) none f.head.packs in inl record {
                 head = record { colour = colour; scanned = f.head.scanned; packable = packable_head p.shape colour f.head.scanned (colour_small paint p.label r.whole.cycle.meanings) packs; packs = bare };
-                new = λ young c known. let means : c ≡ paint.colours = (my_good k s r id hist x at).sharing.telling.colours c known in record {
+                new = λ young c known b tells. let new : colour ≡ new_colour b c = young_colour k s r id hist x at promotes a p lives young c known b tells in record {
                   colours = c;
                   known_is = known;
-                  fits = subst (λ (z : Colours). z.unmarked < 3) (sym means) r.whole.cycle.meanings.unmarked_fits;
-                  packs = subst (λ (m : ℕ × Bool). HeadIs None p.shape m.0 m.1 (at_address k s.words a))
-                      (λ i. ((ap (λ (b : Bool). cond b paint.colours.marked paint.colours.unmarked) ((between_here k s r id hist x at Promote tt promotes).unmarked p.label) ∙ ap (λ (z : Colours). z.unmarked) (sym means)) i, f.blank young i)) bare;
+                  beside = b;
+                  armed_is = tells;
+                  fits = subst (λ (n : ℕ). n < 3) new (colour_small paint p.label r.whole.cycle.meanings);
+                  packs = subst (λ (m : ℕ × Bool). HeadIs None p.shape m.0 m.1 (at_address k s.words a)) (λ i. (new i, f.blank young i)) bare;
                 };
                 view = refl;
               };

@@ -137,6 +137,7 @@ module _ (k : Config) (s : Words) (r : Rule k s) (id : ℕ) (hist : List Entry) 
         placed = placed_back k before after back1 r.whole.placed;
         spread = spread_back k before after back1 r.whole.spread;
         more = more1;
+        young = λ b q e _. let w = back1 b q e in (w.place, w.lives, w.label);
         copies = o.copies;
         cleared = o.cleared;
         pools = pools_same k t s.words words' o.control r.whole.pools;

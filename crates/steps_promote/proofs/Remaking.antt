@@ -1,33 +1,39 @@
 -- What all steps of copying share: the rule holds again where the places, the pools and each domain meet it.
-use Rattle.std.proofs.Common.{◌≡◌, ◌≢◌, ℕ, ◌+◌, ◌*◌, List, length, set, sym, ap, ◌∙◌, subst, inl, inr, ⊎_elim, arith, refl, true}
+use Rattle.std.proofs.Common.{◌≡◌, ◌≢◌, ℕ, ◌+◌, ◌*◌, ◌<◌, Bool, true, false, cond, IsTrue, List, length, set, Some, sym, ap, ◌∙◌, subst, inl, inr, ⊎_elim, arith, refl}
 use mathlib.Core.Option.{some}
 use lib.ListN.{get_elem?}
 use Rattle.heap_model.specs.declared.entry.Entry.{Entry}
+use Rattle.heap_model.specs.declared.label.Label.{Label}
 use Rattle.heap_model.specs.declared.state.State as model
+use Rattle.heap_model.proofs.Reach.ReachLemmas.{true_or_false}
 use Rattle.heap_model.specs.Domains.{register, domain_at}
 use Rattle.heap_model.specs.Fronts.{IsFrontOf}
+use Rattle.heap_words.specs.declared.colours.Colours.{Colours}
 use Rattle.heap_words.specs.declared.value.Value as words
 use Rattle.heap_rule.specs.declared.config.Config.{Config}
 use Rattle.heap_rule.specs.declared.view.DomainView.{DomainView}
 use Rattle.heap_rule.specs.declared.view.Finalisers.{Finalisers}
-use Rattle.heap_rule.specs.declared.phase.Kind.TheVariants.{Run, Promote}
+use Rattle.heap_rule.specs.declared.phase.Kind.TheVariants.{Run, Promote, Reset}
 use Rattle.heap_rule.specs.declared.phase.Stage.TheVariants.{In}
 use Rattle.heap_rule.specs.Changes.{value_at}
 use Rattle.heap_rule.specs.Finalisers.{Enrolled}
 use Rattle.heap_rule.specs.Copies.{Owes, Copies, Promoting, AllCleared}
 use Rattle.heap_rule.specs.Phases.{Pause, IsInPause}
-use Rattle.heap_rule.specs.Places.{Live, Stands, Placed, Spread, More}
+use Rattle.heap_rule.specs.Cycles.{Cycling}
+use Rattle.heap_rule.specs.Places.{Place, Live, Stands, Placed, Spread, More, colour_in, new_colour}
 use Rattle.heap_rule.specs.Pools.{Tenancy, Pools, Grid, Drawers, RunsNext, Hunter, Takes, IsLeading}
 use Rattle.heap_rule.specs.Room.{Room, Opened}
-use Rattle.heap_rule.specs.Rule.{state_of, AllFound, Stood, Area, Making, Rule}
+use Rattle.heap_rule.specs.Rule.{Account, state_of, AllFound, Stood, Area, Making, Rule}
 use Rattle.heap_rule.specs.Views.{one}
-use Rattle.heap_rule.proofs.Keeps.{Words, Control, mine, my_good, remakes, knows_front, phases_same, cycle_control, stands_more, nobody_leads, takes_drawable, resting_takes, resting_other, cycle_here, sharing_here, sharings_here}
+use Rattle.heap_rule.proofs.Keeps.{Words, Control, mine, my_good, remakes, knows_front, phases_same, cycle_control, stands_more, nobody_leads, takes_drawable, resting_takes, resting_other, between_here, cycle_here, runs_here, sharing_here, sharings_here}
+use Rattle.heap_rule.proofs.Advancing.{pooled_more}
+use Rattle.heap_rule.proofs.BesideLemmas.{runs_as}
 use Rattle.heap_rule.proofs.FinaliserLemmas.{enrolled_more}
-use Rattle.heap_rule.proofs.PauseFacts.{staged_as, promote_now, promote_here, promote_rests}
+use Rattle.heap_rule.proofs.PauseFacts.{run_promoting, staged_as, promote_now, promote_here, promote_rests}
 use Rattle.heap_rule.specs.Ephemerons.{IsEpheAt, Listed}
 use Rattle.heap_rule.specs.Rule.{Good}
 use Rattle.heap_rule.proofs.EphemeronLemmas.{listed_as, listed_on, ephe_more}
-use Rattle.heap_rule.proofs.Sharings.{SameCycle}
+use Rattle.heap_rule.proofs.Sharings.{KeepsUnderway, SameCycle, kind_now}
 use Rattle.heap_rule.specs.Fullness.{Homes, Fullness}
 use Rattle.heap_rule.proofs.Stages.{copying_keeps}
 
@@ -47,6 +53,18 @@ module _ (k : Config) (s : Words) (r : Rule k s) (id : ℕ) (hist : List Entry) 
 
   takes : Takes x.seen.stage
   takes = inr promotes
+
+  -- blocks of minor areas are marked exactly where a cycle goes on beside running domains
+  pub young_marked : (a : ℕ) (p : Place) → r.account.live a ≡ Some p → k.pools * 4096 < a → r.account.cycling.paint.marks.marked p.label ≡ r.account.cycling.armed
+  young_marked a p lives young = let b = between_here k s r id hist x at Promote tt promotes in
+      ⊎_elim (λ (is : IsTrue r.account.cycling.armed). (b.beside is).young a p lives young ∙ sym is) (λ (none : r.account.cycling.armed ≡ false). b.unmarked none p.label ∙ sym none) (true_or_false r.account.cycling.armed)
+
+  -- so they have the colour of new blocks, as far as the domain knows it
+  pub young_colour : (a : ℕ) (p : Place) → r.account.live a ≡ Some p → k.pools * 4096 < a → (c : Colours) → x.seen.share.colours ≡ Some c → (b : Bool) → x.seen.share.armed ≡ Some b → colour_in r.account.cycling.paint p.label ≡ new_colour b c
+  young_colour a p lives young c known b tells =
+      let paint = r.account.cycling.paint in
+      let sh = (my_good k s r id hist x at).sharing in
+      ap (λ (m : Bool). cond m paint.colours.marked paint.colours.unmarked) (young_marked a p lives young ∙ sym (sh.leading.armed b tells).1) ∙ ap (λ (z : Colours). new_colour b z) (sym (sh.telling.colours c known))
 
   -- what a step of a domain that copies owes: no entry stands, its phase and its front stay
   pub record Promotes (y : DomainView) (words' : List ℕ) (live' : Live) (t' : Tenancy) (homes' : Homes) : Type 0 where
@@ -68,6 +86,7 @@ module _ (k : Config) (s : Words) (r : Rule k s) (id : ℕ) (hist : List Entry) 
     pub placed : Placed k live'
     pub spread : Spread k live'
     pub more : More r.account.live live'
+    pub young : (a : ℕ) (p : Place) → live' a ≡ Some p → k.pools * 4096 < a → (q : Place) × (r.account.live a ≡ Some q) × (q.label ≡ p.label)
     pub copies : Copies k live'
     pub cleared : AllCleared k live' r.account.pause
     pub pools : Pools k t' words'
@@ -94,7 +113,19 @@ module _ (k : Config) (s : Words) (r : Rule k s) (id : ℕ) (hist : List Entry) 
       let listeds : (z : DomainView) → Good k r.account s.words z → Listed live' t'.holder t'.garbage z.own.number z.own.ephemerons.items =
       (λ z h. listed_on r.account.live live' r.account.tenancy.holder t'.holder r.account.tenancy.garbage t'.garbage z.own.number z.own.ephemerons.items (λ q c e. sym (o.holders q) ∙ e) (λ q c e. o.holders q ∙ e) o.no_more
       (λ a e. inl (ephe_more r.account.live live' o.more a e)) (λ a e. o.garbage a ∙ e) h.listed) in
-      remakes k s r id hist x at y (record r.account { live = live'; tenancy = t'; homes = homes' }) words'
+      let all' : Account = record r.account { live = live'; tenancy = t'; homes = homes' } in
+      let c : Cycling = r.account.cycling in
+      let marked : Label → Bool = c.paint.marks.marked in
+      let copies_now : c.kind ≡ Promote = kind_now k r.account.pause c x Promote promotes g.staged r.whole.cycle.told in
+      let keeps : KeepsUnderway k now now r.account.live live' c c.past = (λ is u. record {
+        covered = u.covered;
+        young = λ a p e high. let q = o.young a p e high in subst (λ (l : Label). IsTrue (marked l)) q.2 (u.young a q.0 q.1 high);
+        pooled = λ l new is_marked. pooled_more k r.account.live live' l o.more (u.pooled l new is_marked);
+        settled = u.settled;
+        rooted = λ (resets : c.kind ≡ Reset). absurd (let clash : Promote ≡ Reset = sym copies_now ∙ resets in cc);
+      }) in
+      let not_run : (z : DomainView) → Good k r.account s.words z → z.seen.stage ≡ In Run → ⊥ = (λ z h runs. run_promoting r.account.pause z runs h.staged promoting) in
+      remakes k s r id hist x at y all' words'
       record {
         wide = o.wide ∙ r.whole.wide;
         legal = r.whole.legal;
@@ -118,7 +149,7 @@ module _ (k : Config) (s : Words) (r : Rule k s) (id : ℕ) (hist : List Entry) 
         unused = λ rests. absurd (rests promoting);
         opened = o.opened;
         drawable = takes_drawable k r.account.pause words' x takes g.staged;
-        cycle = cycle_here k s r id hist x at Promote tt promotes now live' t' words' refl o.garbage same;
+        cycle = cycle_here k s r id hist x at Promote tt promotes now live' t' c.past words' refl o.garbage same keeps;
       }
       (knows_front k s r id hist x at y o.number (subst (λ (l : List Entry). IsFrontOf x.own.number r.account.log l) (sym o.front) (mine k s r id hist x at).front))
       record {
@@ -133,7 +164,8 @@ module _ (k : Config) (s : Words) (r : Rule k s) (id : ℕ) (hist : List Entry) 
         owes = o.owes;
         rooted = (λ _ up. absurd (waits up), ⊎_elim (λ h. absurd (waits h.1)) (λ h. absurd (promote_rests r.account.pause promoting h)));
         set_back = λ h. absurd (nobody_leads r.account.pause x x takes g.staged g.staged (subst IsLeading (sym (sym o.stage ∙ h.0)) tt));
-        sharing = sharing_here k s r id hist x at Promote tt promotes (record r.account { live = live'; tenancy = t'; homes = homes' }) words' y refl same o.number o.stage o.share;
+        sharing = sharing_here k s r id hist x at Promote tt promotes all' words' c.past x.seen.share.weak y refl same o.number o.stage o.share
+            (runs_as k live' t'.holder c.armed c.past marked words' x.own.number y.own.number x.seen.stage y.seen.stage x.seen.share y.seen.share o.number o.stage o.share (runs_here k s r id hist x at all' words' refl x (λ runs. absurd (not_run x g runs)) g));
         listed = listed_as live' t'.holder t'.garbage x.own.number y.own.number x.own.ephemerons.items y.own.ephemerons.items o.number o.ephemerons (listeds x g);
       }
       (λ z _ other h. record {
@@ -148,7 +180,7 @@ module _ (k : Config) (s : Words) (r : Rule k s) (id : ℕ) (hist : List Entry) 
         owes = o.owe z other h.owes;
         rooted = h.rooted;
         set_back = λ b. absurd (nobody_leads r.account.pause x z takes g.staged h.staged (subst IsLeading (sym b.0) tt));
-        sharing = sharings_here k s r id hist x at Promote tt promotes (record r.account { live = live'; tenancy = t'; homes = homes' }) words' refl same z h;
+        sharing = sharings_here k s r id hist x at Promote tt promotes all' words' c.past refl same z h (runs_here k s r id hist x at all' words' refl z (λ runs. absurd (not_run z h runs)) h);
         listed = listeds z h;
       })
 

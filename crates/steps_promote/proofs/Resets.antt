@@ -26,7 +26,7 @@ use Rattle.heap_rule.specs.Phases.{Pause, AtStage, Staged, IsInPause}
 use Rattle.heap_rule.specs.Changes.{value_at}
 use Rattle.heap_rule.specs.Copies.{Promoting, Resetting, IsOldValue}
 use Rattle.heap_rule.specs.Raw.{MayStep, MayStore, CanLeave, Closes}
-use Rattle.heap_rule.specs.Rule.{state_of, Rule}
+use Rattle.heap_rule.specs.Rule.{state_of, Good, Rule}
 use Rattle.heap_rule.specs.Token.{OwnFits}
 use Rattle.heap_rule.specs.Views.{one}
 use Rattle.steps_promote.proofs.HeldPlaces.{held_lives}
@@ -38,8 +38,8 @@ use Rattle.heap_rule.proofs.Ends.{same_views}
 use Rattle.heap_rule.proofs.Lists.{got_there}
 use Rattle.heap_rule.proofs.Values.{packable}
 use Rattle.heap_rule.proofs.Lots.{Beside, area_beside, grid_beside, hunter_beside}
-use Rattle.heap_rule.proofs.Keeps.{mine, my_good, control_set, controls_kept, hunter_as, more_same, writes, cycle_here, sharing_here, sharings_here, cycle_control, Words, unmoved, no_garbage_here}
-use Rattle.heap_rule.proofs.PauseFacts.{promote_rests}
+use Rattle.heap_rule.proofs.Keeps.{mine, my_good, control_set, controls_kept, hunter_as, more_same, writes, cycle_here, runs_here, sharing_here, sharings_here, cycle_control, Words, unmoved, no_garbage_here}
+use Rattle.heap_rule.proofs.PauseFacts.{promote_rests, run_resetting}
 use Rattle.heap_rule.proofs.Sharings.{SameCycle}
 
 reset_now : (t : Pause) (x : DomainView) → x.seen.stage ≡ In Reset → Staged t x → Resetting t
@@ -140,6 +140,7 @@ reset_may k x word a new place may fits slots id hist s r _ at _ =
     let y : DomainView = reset_view x in
     let beside : (d : ℕ) → Beside k r.account.tenancy s.words d a = area_beside k r.account.tenancy s.words a new r.whole.pools high in
     let same : SameCycle s.words ws = cycle_control k s.words ws (control_set k s.words a new (omega arith)) in
+    let not_run : (z : DomainView) → Good k r.account s.words z → z.seen.stage ≡ In Run → ⊥ = (λ z h runs. run_resetting r.account.pause z runs h.staged (reset_now r.account.pause x may.stage g.staged)) in
     let rule : Rule k record { words = ws; homes = s.homes; views = set s.views id (one k hist y) } = writes k s r id hist x at y ws record {
       number = refl;
       front = (mine k s r id hist x at).front;
@@ -166,9 +167,9 @@ reset_may k x word a new place may fits slots id hist s r _ at _ =
       grid = grid_beside k r.account.tenancy s.words a new r.account.live r.account.live r.whole.pools beside (more_same r.account.live) (λ b q h _. h) r.whole.grid;
       hunter = hunter_as k r.account.tenancy ws x y refl refl refl refl refl refl (hunter_beside k r.account.tenancy s.words a new r.whole.pools x (beside x.own.number) g.hunter);
       hunters = λ z _ h. hunter_beside k r.account.tenancy s.words a new r.whole.pools z (beside z.own.number) h.hunter;
-      cycle = cycle_here k s r id hist x at Reset tt may.stage (state_of k r.account.log) r.account.live r.account.tenancy ws refl (λ _. refl) same;
-      sharing = sharing_here k s r id hist x at Reset tt may.stage r.account ws y refl same refl refl refl;
-      sharings = λ z _ h. sharings_here k s r id hist x at Reset tt may.stage r.account ws refl same z h;
+      cycle = cycle_here k s r id hist x at Reset tt may.stage (state_of k r.account.log) r.account.live r.account.tenancy r.account.cycling.past ws refl (λ _. refl) same (λ is u. u);
+      sharing = sharing_here k s r id hist x at Reset tt may.stage r.account ws r.account.cycling.past x.seen.share.weak y refl same refl refl refl (runs_here k s r id hist x at r.account ws refl x (λ runs. absurd (not_run x g runs)) g);
+      sharings = λ z _ h. sharings_here k s r id hist x at Reset tt may.stage r.account ws r.account.cycling.past refl same z h (runs_here k s r id hist x at r.account ws refl z (λ runs. absurd (not_run z h runs)) h);
     } in (
       one k hist y,
       keeps,

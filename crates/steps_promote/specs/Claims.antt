@@ -1,5 +1,5 @@
 -- What the steps ask and tell by which domains race for a young block: a place is prepared for its copy, and one exchange of the block's head claims it ("Retrofitting Parallelism onto OCaml", section 3.2).
-use Rattle.std.specs.Prelude.{◌≡◌, ◌≢◌, ℕ, ◌+◌, ◌-◌, ◌*◌, ◌<◌, ◌≤◌, List, [], ◌∷◌, ◌++◌, slice_set, Option, Some, None}
+use Rattle.std.specs.Prelude.{◌≡◌, ◌≢◌, ℕ, ◌+◌, ◌-◌, ◌*◌, ◌<◌, ◌≤◌, false, List, [], ◌∷◌, ◌++◌, slice_set, Option, Some, None}
 use Rattle.size_classes.specs.declared.TheConstants.{SIZES}
 use Rattle.size_classes.specs.Table.{IsLeastFor}
 use Rattle.heap_model.specs.Domains.{class_count}
@@ -75,7 +75,7 @@ pub record ClaimMay (k : Config) (x : DomainView) (at old new class copy : ℕ) 
   pub young : k.pools * 4096 < at
   pub label : ℕ
   pub hunt : x.seen.hunt ≡ Heads copy label old
-  pub head : IsNewHead x.seen.share.colours place.shape old
+  pub head : IsNewHead x.seen.share.colours x.seen.share.armed false place.shape old
   pub label_is : label ≡ label_word place.label.domain place.label.serial
   pub of_class : class < class_count
   pub least : IsLeastFor SIZES (extent place.shape) class

@@ -1,5 +1,5 @@
 -- What the steps ask and tell by which young blocks are copied: loads at which blocks are met, stores to copies, and the roots ("Retrofitting Parallelism onto OCaml", section 3.2).
-use Rattle.std.specs.Prelude.{◌≡◌, ℕ, zero, suc, ◌+◌, ◌*◌, ◌<◌, ◌≤◌, ◌⊎◌, List, [], ◌∷◌, length, slice_get, slice_set, Some, ◌≢◌}
+use Rattle.std.specs.Prelude.{◌≡◌, ℕ, zero, suc, ◌+◌, ◌*◌, ◌<◌, ◌≤◌, ◌⊎◌, Bool, false, List, [], ◌∷◌, length, slice_get, slice_set, Some, ◌≢◌}
 use Rattle.heap_model.specs.declared.label.Label.{Label}
 use Rattle.heap_model.specs.declared.graph.Value as model
 use Rattle.heap_model.specs.declared.graph.Node.{Node}
@@ -75,10 +75,10 @@ pub record HeadMay (x : DomainView) (at : ℕ) : Type 0 where
   pub stage : x.seen.stage ≡ In Promote
   pub from : ((p : Place) × (Knows x at ≡ Some p)) ⊎ ((r : ℕ) × IsAt x r at) ⊎ ((h : Held) × (held_at x.own.finalisers h ≡ Some at))
 
--- the block doesn't forward: its head is that of its shape, and one of a minor area has that of a new block, as far as the colours are known
+-- the block doesn't forward: its head is that of its shape, and one of a minor area has that of a new block, as far as the colours and the armed word are known
 pub record StaysThere (k : Config) (at : ℕ) (place : Place) (x : DomainView) (found : ℕ) (y : DomainView) : Type 0 where
   pub head : IsHeadOf place.shape found
-  pub new : k.pools * 4096 < at → (c : Colours) → x.seen.share.colours ≡ Some c → IsNewHead x.seen.share.colours place.shape found
+  pub new : k.pools * 4096 < at → (c : Colours) → x.seen.share.colours ≡ Some c → (b : Bool) → x.seen.share.armed ≡ Some b → IsNewHead x.seen.share.colours x.seen.share.armed false place.shape found
   pub view : y ≡ meeting x (met_of at place)
 
 -- the block forwards: its copy is met too, and known as its copy

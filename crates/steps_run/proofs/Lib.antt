@@ -1,4 +1,5 @@
 pub mod Plain
+pub mod Advances
 pub mod FullSteps
 pub mod TickSteps
 pub mod LoadSteps

@@ -1,5 +1,5 @@
 -- Loads of heads, labels and fields keep the rule.
-use Rattle.std.proofs.Common.{◌≡◌, ℕ, ◌+◌, ◌<◌, ◌≤◌, false, ne_eqb, List, [], ◌∷◌, get_or, set, Some, Option, sym, refl, ap, ◌∙◌, subst, arith, ◌++◌, get_or-set_same}
+use Rattle.std.proofs.Common.{◌≡◌, ℕ, ◌+◌, ◌<◌, ◌≤◌, false, List, [], ◌∷◌, get_or, set, Some, Option, sym, refl, ap, ◌∙◌, subst, arith, ◌++◌, get_or-set_same}
 use mathlib.Core.Logic.{dite}
 use native.Mathlib.Decide.{dec_le}
 use mathlib.Core.Option.{some}
@@ -38,8 +38,8 @@ use Rattle.steps_run.specs.Loads.{subject, place_of, HeadEntry, HeadMay, HeadTol
 use Rattle.heap_rule.proofs.ChangeLemmas.{registers_of}
 use Rattle.heap_rule.proofs.Values.{AllStand, stand_set, not_nothing, packable, shows}
 use Rattle.heap_rule.proofs.Keeps.{after_entry, Words, IsOfTrace, mine, my_good, own, looks, unmoved, run_settled, whole_here}
-use Rattle.heap_rule.proofs.Entering.{running, inside_state, registers_stand, Enters, entered_view, enters_rule, enters, enters_command, may_begin, open_after}
-use Rattle.heap_rule.proofs.FinaliserLemmas.{work_command}
+use Rattle.heap_rule.proofs.Entering.{inside_state, registers_stand, entered_view, enters, may_begin}
+use Rattle.steps_run.proofs.Advances.{advance_command, EntersPaid, paid_command, paid_refused, paid_rule}
 use Rattle.heap_rule.proofs.Blocks.{Lives, lives_at, found_at, plain_at, plain_inside, field_at, shape_at}
 use Rattle.heap_rule.proofs.HeadLemmas.{packable_head, colour_small}
 
@@ -73,33 +73,29 @@ module _ (k : Config) (s : Words) (r : Rule k s) (id : ℕ) (hist : List Entry) 
   stand = registers_stand k s r id hist x at acts
 
   -- the entry of a load or a store whose place is past the end
-  past_entry : (a : ℕ) (e : Entry) → HeadEntry x a e → (n tag : ℕ) (b : Lives k s r id hist x at (subject e) a) → b.place.shape ≡ PlainShape n tag → n ≤ place_of e → Enters k s r id hist x at acts e x.own.registers (Replied BadIndex)
+  past_entry : (a : ℕ) (e : Entry) → HeadEntry x a e → (n tag : ℕ) (b : Lives k s r id hist x at (subject e) a) → b.place.shape ≡ PlainShape n tag → n ≤ place_of e → EntersPaid k s r id hist x at acts now.graph e x.own.registers (Replied BadIndex)
   past_entry a (Command j (Load dst src i) false) may n tag b is past =
       let p = plain_at k s r id hist x at src a b n tag is in
-      subst (λ (m : ℕ). Enters k s r id hist x at acts (Command m (Load dst src i) false) x.own.registers (Replied BadIndex)) (sym may.0) (enters_command k s r id hist x at acts now.graph (Load dst src i) refl (may_begin k s r id hist x at acts) x.own.registers _ (theirs)
-      (stand)
+      subst (λ (m : ℕ). EntersPaid k s r id hist x at acts now.graph (Command m (Load dst src i) false) x.own.registers (Replied BadIndex)) (sym may.0) (paid_refused k s r id hist x at acts (Load dst src i) refl (may_begin k s r id hist x at acts) x.own.registers _ stand
       (leaves_load_past now d dst src i p.label p.tag p.fields p.held p.node (let l = p.size in omega arith)))
   past_entry a (Command j (Store block i item) false) may n tag b is past =
       let p = plain_at k s r id hist x at block a b n tag is in
-      subst (λ (m : ℕ). Enters k s r id hist x at acts (Command m (Store block i item) false) x.own.registers (Replied BadIndex)) (sym may.0) (enters_command k s r id hist x at acts now.graph (Store block i item) refl (may_begin k s r id hist x at acts) x.own.registers _ (theirs)
-      (stand)
+      subst (λ (m : ℕ). EntersPaid k s r id hist x at acts now.graph (Command m (Store block i item) false) x.own.registers (Replied BadIndex)) (sym may.0) (paid_refused k s r id hist x at acts (Store block i item) refl (may_begin k s r id hist x at acts) x.own.registers _ stand
       (leaves_store_past now d block i item p.label p.tag p.fields p.held p.node (let l = p.size in omega arith)
       (not_nothing r.account.live (value_at x.own.registers item) (register now d item) may.3 (stand.each item may.2))))
   past_entry a _ may n tag b is past = absurd may
 
   -- and of one that looks into an ephemeron
-  kind_entry : (a : ℕ) (e : Entry) → HeadEntry x a e → (keys : ℕ) (b : Lives k s r id hist x at (subject e) a) → b.place.shape ≡ EpheShape keys → Enters k s r id hist x at acts e x.own.registers (Replied BadType)
+  kind_entry : (a : ℕ) (e : Entry) → HeadEntry x a e → (keys : ℕ) (b : Lives k s r id hist x at (subject e) a) → b.place.shape ≡ EpheShape keys → EntersPaid k s r id hist x at acts now.graph e x.own.registers (Replied BadType)
   kind_entry a (Command j (Load dst src i) false) may keys b is =
       let f = found_at k s r id hist x at src a b in
       let p = ephe_of f.node keys (f.shape ∙ is) in
-      subst (λ (m : ℕ). Enters k s r id hist x at acts (Command m (Load dst src i) false) x.own.registers (Replied BadType)) (sym may.0) (enters_command k s r id hist x at acts now.graph (Load dst src i) refl (may_begin k s r id hist x at acts) x.own.registers _ (theirs)
-      (stand)
+      subst (λ (m : ℕ). EntersPaid k s r id hist x at acts now.graph (Command m (Load dst src i) false) x.own.registers (Replied BadType)) (sym may.0) (paid_refused k s r id hist x at acts (Load dst src i) refl (may_begin k s r id hist x at acts) x.own.registers _ stand
       (leaves_load_kind now d dst src i b.place.label p.0 p.1 b.held (f.there ∙ ap Some p.2)))
   kind_entry a (Command j (Store block i item) false) may keys b is =
       let f = found_at k s r id hist x at block a b in
       let p = ephe_of f.node keys (f.shape ∙ is) in
-      subst (λ (m : ℕ). Enters k s r id hist x at acts (Command m (Store block i item) false) x.own.registers (Replied BadType)) (sym may.0) (enters_command k s r id hist x at acts now.graph (Store block i item) refl (may_begin k s r id hist x at acts) x.own.registers _ (theirs)
-      (stand)
+      subst (λ (m : ℕ). EntersPaid k s r id hist x at acts now.graph (Command m (Store block i item) false) x.own.registers (Replied BadType)) (sym may.0) (paid_refused k s r id hist x at acts (Store block i item) refl (may_begin k s r id hist x at acts) x.own.registers _ stand
       (leaves_store_kind now d block i item b.place.label p.0 p.1 b.held (f.there ∙ ap Some p.2)))
   kind_entry a _ may keys b is = absurd may
 
@@ -109,19 +105,19 @@ module _ (k : Config) (s : Words) (r : Rule k s) (id : ℕ) (hist : List Entry) 
     rule : Rule k record { words = s.words; homes = s.homes; views = set s.views id (one k hist after) }
     told : HeadCase k a e shape x after
 
-  refusal : (a : ℕ) (e : Entry) (shape : Shape) (answer : Rattle.heap_model.specs.declared.reply.Applied.Applied) → IsOfTrace e → Enters k s r id hist x at acts e x.own.registers answer
+  refusal : (a : ℕ) (e : Entry) (shape : Shape) (answer : Rattle.heap_model.specs.declared.reply.Applied.Applied) → IsOfTrace e → EntersPaid k s r id hist x at acts now.graph e x.own.registers answer
       → HeadCase k a e shape x (entered_view k s r id hist x at acts e x.own.registers) → HeadStep a e shape
-  refusal a e shape answer of_trace o told = record { after = entered_view k s r id hist x at acts e x.own.registers; rule = enters_rule k s r id hist x at acts e x.own.registers answer o of_trace; told = told }
+  refusal a e shape answer of_trace o told = record { after = entered_view k s r id hist x at acts e x.own.registers; rule = paid_rule k s r id hist x at acts e x.own.registers answer o of_trace; told = told }
 
   head_step : (a : ℕ) (e : Entry) → HeadEntry x a e → (shape : Shape) (b : Lives k s r id hist x at (subject e) a) → b.place.shape ≡ shape → HeadStep a e shape
   head_step a e may (EpheShape keys) b is =
-      let o = kind_entry a e may keys b is in refusal a e (EpheShape keys) (Replied BadType) (head_command x a e may) o (enters k s r id hist x at acts now.graph e (Replied BadType) NothingWord [] o)
+      let o = kind_entry a e may keys b is in refusal a e (EpheShape keys) (Replied BadType) (head_command x a e may) o (enters k s r id hist x at acts now.graph e (Replied BadType) NothingWord [] o.enters)
   head_step a e may (RawShape n tag) b is = absurd (subst IsBuilt is (r.whole.placed.fits a b.place b.lives).built)
   head_step a e may (PlainShape n tag) b is = dite (dec_le n (place_of e))
       (λ past. let o = past_entry a e may n tag b is past in refusal a e (PlainShape n tag) (Replied BadIndex) (head_command x a e may) o record {
         below = λ below. absurd (let p : ℕ = place_of e in let h : p < n = below in let g : n ≤ p = past in omega arith);
         shape = λ below. absurd (let p : ℕ = place_of e in let h : p < n = below in let g : n ≤ p = past in omega arith);
-        past = λ _. enters k s r id hist x at acts now.graph e (Replied BadIndex) NothingWord [] o;
+        past = λ _. enters k s r id hist x at acts now.graph e (Replied BadIndex) NothingWord [] o.enters;
       })
       (λ not_past. record {
         after = with_front x r.account.log;
@@ -187,33 +183,29 @@ label_load_may k word x a reg place may fits slots id h = labels k slots id word
 -- the entry of a load that finds its field
 field_entry : (k : Config) (s : Words) (r : Rule k s) (id : ℕ) (hist : List Entry) (x : DomainView) (at : get_elem? s.views id ≡ some (one k hist x)) (a dst src i : ℕ) (changes : List Change)
     (may : FieldLoadMay k x a changes x.own.number dst src i) → let f = (field_at k s r id hist x at (run_settled k s r id hist x at may.acts.runs) (whole_here k s r id hist x at Run tt may.acts.runs) a src i may.reads).0 in
-    Enters k s r id hist x at may.acts (Command x.own.number (Load dst src i) false) ((changed f.stands.value changes x.own).registers) (Replied (shown f.value))
+    EntersPaid k s r id hist x at may.acts (state_of k r.account.log).graph (Command x.own.number (Load dst src i) false) ((changed f.stands.value changes x.own).registers) (Replied (shown f.value))
 field_entry k s r id hist x at a dst src i changes may =
     let f = (field_at k s r id hist x at (run_settled k s r id hist x at may.acts.runs) (whole_here k s r id hist x at Run tt may.acts.runs) a src i may.reads).0 in
     let now : model.State = state_of k r.account.log in
     let d : ℕ = x.own.number in
-    let theirs : List graph_value.Value = (domain_at now d).registers in record {
-      alone = λ m other. ne_eqb d m (λ e. other (sym e));
-      allowed = record { running = running k s r id hist x at may.acts; fits = may_begin k s r id hist x at may.acts; full_fits = tt };
-      is_open = open_after k s r id hist x at may.acts (Load dst src i) false;
-      work = work_command now d (Load dst src i) false refl;
-      theirs = set theirs dst f.value;
-      stand = subst (λ (l : List Value). AllStand r.account.live l (set theirs dst f.value)) (sym (ap registers_of (may.written f.stands.value)))
-          (stand_set r.account.live x.own.registers theirs dst f.stands.value f.value may.goes f.stands.stands (registers_stand k s r id hist x at may.acts));
-      leaves = leaves_load now d (inside_state k s r id hist x at may.acts) dst src i f.place.label f.tag f.fields f.value f.held f.node f.there;
-    }
+    let theirs : List graph_value.Value = (domain_at now d).registers in
+    paid_command k s r id hist x at may.acts now.graph (Load dst src i) refl (may_begin k s r id hist x at may.acts) ((changed f.stands.value changes x.own).registers) (Replied (shown f.value)) (set theirs dst f.value)
+    (subst (λ (l : List Value). AllStand r.account.live l (set theirs dst f.value)) (sym (ap registers_of (may.written f.stands.value)))
+    (stand_set r.account.live x.own.registers theirs dst f.stands.value f.value may.goes f.stands.stands (registers_stand k s r id hist x at may.acts)))
+    (advance_command k s r id hist x at may.acts (Load dst src i) refl (λ _. tt))
+    (leaves_load now d (inside_state k s r id hist x at may.acts) dst src i f.place.label f.tag f.fields f.value f.held f.node f.there)
 
 -- the register that the load writes then holds the field
 register_after : (k : Config) (s : Words) (r : Rule k s) (id : ℕ) (hist : List Entry) (x : DomainView) (at : get_elem? s.views id ≡ some (one k hist x)) (a dst src i : ℕ) (changes : List Change)
     (may : FieldLoadMay k x a changes x.own.number dst src i) → register (state_of k (r.account.log ++ Command x.own.number (Load dst src i) false ∷ [])) x.own.number dst ≡ (field_at k s r id hist x at (run_settled k s r id hist x at may.acts.runs) (whole_here k s r id hist x at Run tt may.acts.runs) a src i may.reads).0.value
-unfolding field_entry
 register_after k s r id hist x at a dst src i changes may =
     let f = (field_at k s r id hist x at (run_settled k s r id hist x at may.acts.runs) (whole_here k s r id hist x at Run tt may.acts.runs) a src i may.reads).0 in
     let e : Entry = Command x.own.number (Load dst src i) false in
-    let o = field_entry k s r id hist x at a dst src i changes may in
-    let theirs : List graph_value.Value = (domain_at (state_of k r.account.log) x.own.number).registers in
+    let now : model.State = state_of k r.account.log in
+    let theirs : List graph_value.Value = (domain_at now x.own.number).registers in
+    let leaves = leaves_load now x.own.number (inside_state k s r id hist x at may.acts) dst src i f.place.label f.tag f.fields f.value f.held f.node f.there in
     ap (λ (t : model.State). register t x.own.number dst) (after_entry k s r id hist x at e)
-    ∙ (ap (λ (l : List graph_value.Value). get_or l dst Nothing) o.leaves.registers_are
+    ∙ (ap (λ (l : List graph_value.Value). get_or l dst Nothing) leaves.registers_are
     ∙ get_or-set_same theirs dst f.value Nothing (let w = (registers_stand k s r id hist x at may.acts).long in let l = may.goes in omega arith))
 
 field_loads : (k : Config) (slots id word : ℕ) (hist : List Entry) (x : DomainView) (a dst src i : ℕ) (changes : List Change) → word ≡ before_heap k + a → FieldLoadMay k x a changes x.own.number dst src i
@@ -229,7 +221,7 @@ field_loads k slots id word hist x a dst src i changes place may s r _ at _ =
       one k hist y,
       keeps,
       tt,
-      unmoved k s word (set s.views id (one k hist y)) (enters_rule k s r id hist x at may.acts e regs (Replied (shown f.value)) o tt),
+      unmoved k s word (set s.views id (one k hist y)) (paid_rule k s r id hist x at may.acts e regs (Replied (shown f.value)) o tt),
       (
         record {
           value = f.stands.value;
@@ -238,7 +230,7 @@ field_loads k slots id word hist x a dst src i changes place may s r _ at _ =
           held = f.value;
           shows = shows r.account.live f.stands.value f.value f.stands.stands;
           register_is = register_after k s r id hist x at a dst src i changes may;
-          entered = enters k s r id hist x at may.acts (state_of k r.account.log).graph e (Replied (shown f.value)) f.stands.value changes o;
+          entered = enters k s r id hist x at may.acts (state_of k r.account.log).graph e (Replied (shown f.value)) f.stands.value changes o.enters;
         },
         refl,
       ),

@@ -1,12 +1,14 @@
 -- Stores to fields keep the rule.
-use Rattle.std.proofs.Common.{◌≡◌, ℕ, ◌+◌, Bool, false, List, [], set, sym, refl, ap, ◌∙◌, subst, length-set}
+use Rattle.std.proofs.Common.{◌≡◌, ◌⊎◌, ℕ, ◌+◌, Bool, true, false, IsTrue, List, [], set, Some, ⊎_elim, sym, refl, ap, ◌∙◌, subst, length-set}
 use mathlib.Core.Option.{some}
 use lib.ListN.{get_elem?}
 use Rattle.atomic_table.specs.Table.{Allows}
 use Rattle.heap_model.specs.declared.command.Command.TheVariants.{Store}
 use Rattle.heap_model.specs.declared.entry.Entry.{Entry}
 use Rattle.heap_model.specs.declared.entry.Entry.TheVariants.{Command}
+use Rattle.heap_model.specs.declared.label.Label.{Label}
 use Rattle.heap_model.specs.declared.graph.Value as graph_value
+use Rattle.heap_model.specs.declared.graph.Value.TheVariants.{Block}
 use Rattle.heap_model.specs.declared.graph.Node.TheVariants.{Plain}
 use Rattle.heap_model.specs.declared.state.State as model
 use Rattle.heap_model.specs.Domains.{register}
@@ -16,20 +18,47 @@ use Rattle.heap_words.specs.declared.value.Value.{Value}
 use Rattle.heap_words.specs.declared.value.Value.TheVariants.{Ref}
 use Rattle.heap_rule.specs.declared.change.Change.{Change}
 use Rattle.heap_rule.specs.declared.config.Config.{Config}
+use Rattle.cycle_laws.specs.Cover.{field_at as old_field}
 use Rattle.heap_rule.specs.declared.phase.Kind.TheVariants.{Run}
+use Rattle.heap_rule.specs.declared.phase.Stage.TheVariants.{In}
+use Rattle.heap_rule.specs.declared.view.Known.{Known}
+use Rattle.heap_rule.specs.declared.view.Known.TheVariants.{Marked, Refers, Done}
+use Rattle.heap_rule.specs.Beside.{AllKnown, Barrier, IsKnown, IsPaid, IsUnaware}
 use Rattle.heap_rule.specs.declared.view.DomainView.{DomainView}
 use Rattle.heap_rule.specs.Layout.{before_heap}
 use Rattle.heap_rule.specs.Changes.{value_at}
 use Rattle.heap_rule.specs.Views.{one, Tells}
 use Rattle.heap_rule.specs.Raw.{MayStore}
+use Rattle.heap_rule.specs.Places.{Place}
 use Rattle.heap_rule.specs.Rule.{state_of, Rule}
+use Rattle.heap_rule.proofs.BesideLemmas.{paid_marks}
 use Rattle.steps_run.specs.Stores.{FieldStoreMay, FieldStoreEntry, StoreTold, CanStore}
 use Rattle.heap_rule.proofs.Lists.{got_below}
 use Rattle.heap_rule.proofs.Values.{not_nothing}
-use Rattle.heap_rule.proofs.Keeps.{Words, run_settled, whole_here}
+use Rattle.heap_rule.proofs.Keeps.{Words, my_good, run_settled, whole_here}
 use Rattle.heap_rule.proofs.Entering.{registers_stand, may_begin}
-use Rattle.heap_rule.proofs.Blocks.{field_at}
+use Rattle.heap_rule.proofs.Blocks.{block_same, field_at}
 use Rattle.steps_run.proofs.ValueSteps.{ValueStore, value_stores}
+
+-- a domain that knows nothing knows of no barrier that is done
+nothing_paid : (known : List Known) (b i : ℕ) → known ≡ [] → IsPaid known b i → ⊥
+nothing_paid known b i none paid = ⊎_elim
+    (λ (is : IsKnown known (Done b i)). subst (λ (l : List Known). IsKnown l (Done b i)) none is)
+    (λ (t : (a : ℕ) × IsKnown known (Refers b i a) × IsKnown known (Marked a)). subst (λ (l : List Known). IsKnown l (Marked t.0)) none t.2) paid
+
+-- what the field referred to when the roots had been darkened is marked
+barrier_done : (k : Config) (s : Words) (r : Rule k s) (id : ℕ) (hist : List Entry) (x : DomainView) (at : get_elem? s.views id ≡ some (one k hist x)) (b i : ℕ) (p : Place) → r.account.live b ≡ Some p → Barrier x.seen.share b i
+    → IsTrue r.account.cycling.armed → (y : Label) → old_field r.account.cycling.past.old p.label i ≡ Some (Block y) → IsTrue (r.account.cycling.paint.marks.marked y)
+barrier_done k s r id hist x at b i p lives barrier is y was =
+    let sharing = (my_good k s r id hist x at).sharing in
+    let known : List Known = x.seen.share.known in ⊎_elim
+    (λ (none : x.seen.share.armed ≡ Some false). absurd (let clash : false ≡ true = (sharing.leading.armed false none).1 ∙ is in cc))
+    (λ (paid : IsPaid known b i). ⊎_elim
+    (λ (u : IsUnaware x.seen.share). absurd (nothing_paid known b i u.0 paid))
+    (λ (u : (x.seen.stage ≡ In Run) × IsTrue r.account.cycling.armed × AllKnown k r.account.live r.account.tenancy.holder r.account.cycling.past.old r.account.cycling.paint.marks.marked s.words known).
+    paid_marks k r.account.live r.account.tenancy.holder r.account.cycling.past.old r.account.cycling.paint.marks.marked s.words known b i p u.2 paid lives y was)
+    sharing.running.knows)
+    barrier
 
 -- what a store to a field changes
 field_value : (k : Config) (s : Words) (r : Rule k s) (id : ℕ) (hist : List Entry) (x : DomainView) (at : get_elem? s.views id ≡ some (one k hist x)) (a new : ℕ) (remembers : Bool) (block i item : ℕ) (changes : List Change) → FieldStoreMay k x a new remembers changes x.own.number block i item
@@ -63,6 +92,9 @@ field_value k s r id hist x at a new remembers block i item changes may =
       same = may.same;
       unregistering = refl;
       fits = may_begin k s r id hist x at may.acts;
+      quiet = refl;
+      barrier = λ is l y held was. barrier_done k s r id hist x at f.address i f.place f.lives (subst (λ (b : ℕ). Barrier x.seen.share b i) (sym t.1) may.barrier) is y
+          (ap (λ (m : Label). old_field r.account.cycling.past.old m i) (block_same f.place.label l (sym f.held ∙ held)) ∙ was);
       leaves = leaves_store now d block i item f.place.label f.tag f.fields v f.value f.held f.node f.there refl (not_nothing r.account.live w v may.full (stand.each item may.from));
     }
 

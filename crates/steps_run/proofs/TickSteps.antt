@@ -9,7 +9,7 @@ use Rattle.heap_model.specs.declared.command.Command.TheVariants.{PutInt, Copy, 
 use Rattle.heap_model.specs.declared.entry.Entry.{Entry}
 use Rattle.heap_model.specs.declared.entry.Entry.TheVariants.{Command}
 use Rattle.heap_model.specs.declared.reply.Applied.TheVariants.{Replied}
-use Rattle.heap_model.specs.declared.reply.Reply.TheVariants.{Done, BadType}
+use Rattle.heap_model.specs.declared.reply.Reply.TheVariants.{Done, BadType, Full}
 use Rattle.heap_model.specs.declared.graph.Value as model_value
 use Rattle.heap_model.specs.declared.graph.Value.TheVariants.{Int, Nothing}
 use Rattle.heap_model.specs.declared.state.Mode.TheVariants.{Open}
@@ -34,7 +34,9 @@ use Rattle.steps_run.proofs.EphemeronEntries.{leaves_reply, no_key_stored, no_da
 use Rattle.heap_rule.proofs.ChangeLemmas.{registers_of}
 use Rattle.heap_rule.proofs.Values.{AllStand, stand_set, no_label, stands_nothing}
 use Rattle.heap_rule.proofs.Keeps.{Words, IsOfTrace, unmoved}
-use Rattle.heap_rule.proofs.Entering.{running, inside_state, registers_stand, Enters, entered_view, enters_rule, enters, enters_command, may_begin, open_after}
+use Rattle.heap_model.specs.Entries.{next}
+use Rattle.steps_run.proofs.Advances.{advance_command, advance_quiet, EntersPaid, paid_command, paid_refused, paid_rule}
+use Rattle.heap_rule.proofs.Entering.{running, inside_state, registers_stand, entered_view, enters, may_begin, open_after}
 use Rattle.heap_rule.proofs.FinaliserLemmas.{KeepsWork, work_with}
 
 -- the mode and the queue fit an allocation
@@ -70,42 +72,49 @@ module _ (k : Config) (s : Words) (r : Rule k s) (id : ℕ) (hist : List Entry) 
   empty q few none = no_label r.account.live (value_at x.own.registers q) (register now d q) none (stand.each q few)
 
   -- a command that is refused as there is no block to look into
-  refused : (c : model_command.Command) → FitsMode now d c → changed NothingWord changes x.own ≡ x.own → outcome now d c ≡ only_replies now BadType → Enters k s r id hist x at acts (Command d c false) regs (Replied BadType)
-  refused c fits same is = record {
-    alone = λ i other. ne_eqb d i (λ e. other (sym e));
-    allowed = record { running = running k s r id hist x at acts; fits = fits; full_fits = tt };
-    is_open = open_after k s r id hist x at acts c false;
-    work = subst (λ (o : Outcome). KeepsWork now (after_command o.state d) d) (sym is) (work_with now d _ refl refl refl d);
-    theirs = theirs;
-    stand = subst (λ (l : List Value). AllStand r.account.live l theirs) (sym (ap registers_of same)) stand;
-    leaves = leaves_reply now d c BadType is;
-  }
+  refused : (c : model_command.Command) → FitsMode now d c → changed NothingWord changes x.own ≡ x.own → outcome now d c ≡ only_replies now BadType → EntersPaid k s r id hist x at acts now.graph (Command d c false) regs (Replied BadType)
+  refused c fits same is =
+      let work : KeepsWork now (next now (Command d c false)) d = subst (λ (o : Outcome). KeepsWork now (after_command o.state d) d) (sym is) (work_with now d _ refl refl refl d) in
+      let leaves = leaves_reply now d c BadType is in record {
+        enters = record {
+          alone = λ i other. ne_eqb d i (λ e. other (sym e));
+          allowed = record { running = running k s r id hist x at acts; fits = fits; full_fits = tt };
+          is_open = open_after k s r id hist x at acts c false;
+          work = work;
+          theirs = theirs;
+          stand = subst (λ (l : List Value). AllStand r.account.live l theirs) (sym (ap registers_of same)) stand;
+          weak = None;
+          advance = advance_quiet k s r id hist x at acts c false (domain_at now d).serial (Replied BadType) work.queue leaves;
+          leaves = leaves;
+        };
+        none = refl;
+      }
 
   -- a register command: the changed registers stand for those that it leaves
-  commands : (c : model_command.Command) → TickCommand x changes c → Enters k s r id hist x at acts (Command d c false) regs (Replied (command_answer c))
-  commands (PutInt dst z) may = enters_command k s r id hist x at acts now.graph (PutInt dst z) refl (may_begin k s r id hist x at acts) regs _ (set theirs dst (Int z))
+  commands : (c : model_command.Command) → TickCommand x changes c → EntersPaid k s r id hist x at acts now.graph (Command d c false) regs (Replied (command_answer c))
+  commands (PutInt dst z) may = paid_command k s r id hist x at acts now.graph (PutInt dst z) refl (may_begin k s r id hist x at acts) regs _ (set theirs dst (Int z))
       (subst (λ (l : List Value). AllStand r.account.live l (set theirs dst (Int z))) (sym (ap registers_of may.2)) (stand_set r.account.live x.own.registers theirs dst (IntWord z) (Int z) may.0 (refl, may.1) stand))
-      (leaves_put now d inside dst z)
-  commands (Copy dst src) may = enters_command k s r id hist x at acts now.graph (Copy dst src) refl (may_begin k s r id hist x at acts) regs _ (set theirs dst (register now d src))
+      (advance_command k s r id hist x at acts (PutInt dst z) refl (λ _. tt)) (leaves_put now d inside dst z)
+  commands (Copy dst src) may = paid_command k s r id hist x at acts now.graph (Copy dst src) refl (may_begin k s r id hist x at acts) regs _ (set theirs dst (register now d src))
       (subst (λ (l : List Value). AllStand r.account.live l (set theirs dst (register now d src))) (sym (ap registers_of may.2))
       (stand_set r.account.live x.own.registers theirs dst (value_at x.own.registers src) (register now d src) may.0 (stand.each src may.1) stand))
-      (leaves_copy now d inside dst src)
-  commands (Forget dst) may = enters_command k s r id hist x at acts now.graph (Forget dst) refl (may_begin k s r id hist x at acts) regs _ (set theirs dst Nothing)
+      (advance_command k s r id hist x at acts (Copy dst src) refl (λ _. tt)) (leaves_copy now d inside dst src)
+  commands (Forget dst) may = paid_command k s r id hist x at acts now.graph (Forget dst) refl (may_begin k s r id hist x at acts) regs _ (set theirs dst Nothing)
       (subst (λ (l : List Value). AllStand r.account.live l (set theirs dst Nothing)) (sym (ap registers_of may.1)) (stand_set r.account.live x.own.registers theirs dst NothingWord Nothing may.0 tt stand))
-      (leaves_forget now d inside dst)
-  commands Poll may = enters_command k s r id hist x at acts now.graph Poll refl (may_begin k s r id hist x at acts) regs _ (theirs)
+      (advance_command k s r id hist x at acts (Forget dst) refl (λ _. tt)) (leaves_forget now d inside dst)
+  commands Poll may = paid_refused k s r id hist x at acts Poll refl (may_begin k s r id hist x at acts) regs _
       (subst (λ (l : List Value). AllStand r.account.live l theirs) (sym (ap registers_of may)) stand)
       (leaves_poll now d)
-  commands Minor may = enters_command k s r id hist x at acts now.graph Minor refl (may_begin k s r id hist x at acts) regs _ (theirs)
+  commands Minor may = paid_refused k s r id hist x at acts Minor refl (may_begin k s r id hist x at acts) regs _
       (subst (λ (l : List Value). AllStand r.account.live l theirs) (sym (ap registers_of may)) stand)
       (leaves_minor now d)
-  commands Major may = enters_command k s r id hist x at acts now.graph Major refl (may_begin k s r id hist x at acts) regs _ (theirs)
+  commands Major may = paid_refused k s r id hist x at acts Major refl (may_begin k s r id hist x at acts) regs _
       (subst (λ (l : List Value). AllStand r.account.live l theirs) (sym (ap registers_of may)) stand)
       (leaves_major now d)
-  commands (Load dst src i) may = enters_command k s r id hist x at acts now.graph (Load dst src i) refl (may_begin k s r id hist x at acts) regs _ (theirs)
+  commands (Load dst src i) may = paid_refused k s r id hist x at acts (Load dst src i) refl (may_begin k s r id hist x at acts) regs _
       (subst (λ (l : List Value). AllStand r.account.live l theirs) (sym (ap registers_of may.2)) stand)
       (leaves_load_type now d dst src i (no_label r.account.live (value_at x.own.registers src) (register now d src) may.1 (stand.each src may.0)))
-  commands (Store block i item) may = enters_command k s r id hist x at acts now.graph (Store block i item) refl (may_begin k s r id hist x at acts) regs _ (theirs)
+  commands (Store block i item) may = paid_refused k s r id hist x at acts (Store block i item) refl (may_begin k s r id hist x at acts) regs _
       (subst (λ (l : List Value). AllStand r.account.live l theirs) (sym (ap registers_of may.3)) stand)
       (⊎_elim
       (λ (n : IsNoBlock (value_at x.own.registers block)). leaves_store_type now d block i item (no_label r.account.live (value_at x.own.registers block) (register now d block) n (stand.each block may.0)))
@@ -131,16 +140,21 @@ module _ (k : Config) (s : Words) (r : Rule k s) (id : ℕ) (hist : List Entry) 
   commands (FinaliseLast item number) may = refused (FinaliseLast item number) (may_begin k s r id hist x at acts) may.1 (ap (finalised_last now d number) (empty item may.0.0 may.0.1))
   commands _ may = absurd may
 
-  entries : (e : Entry) → TickEntry k x changes e → Enters k s r id hist x at acts e regs (tick_answer e)
-  entries (Command j c false) may = subst (λ (n : ℕ). Enters k s r id hist x at acts (Command n c false) regs (Replied (command_answer c))) (sym may.0) (commands c may.1)
-  entries (Command j c true) may = subst (λ (n : ℕ). Enters k s r id hist x at acts (Command n c true) regs (tick_answer (Command n c true))) (sym may.0) record {
-    alone = λ i other. ne_eqb d i (λ e. other (sym e));
-    allowed = record { running = running k s r id hist x at acts; fits = let m = may_begin k s r id hist x at acts in fits_allocation now d c may.1 m.0 m.1; full_fits = may_be_full k s r id hist x at acts may.2 c may.1 };
-    is_open = open_after k s r id hist x at acts c true;
-    work = work_with now d _ refl refl refl d;
-    theirs = theirs;
-    stand = subst (λ (l : List Value). AllStand r.account.live l theirs) (sym (ap registers_of may.3)) stand;
-    leaves = leaves_full now d c;
+  entries : (e : Entry) → TickEntry k x changes e → EntersPaid k s r id hist x at acts now.graph e regs (tick_answer e)
+  entries (Command j c false) may = subst (λ (n : ℕ). EntersPaid k s r id hist x at acts now.graph (Command n c false) regs (Replied (command_answer c))) (sym may.0) (commands c may.1)
+  entries (Command j c true) may = subst (λ (n : ℕ). EntersPaid k s r id hist x at acts now.graph (Command n c true) regs (tick_answer (Command n c true))) (sym may.0) record {
+    enters = record {
+      alone = λ i other. ne_eqb d i (λ e. other (sym e));
+      allowed = record { running = running k s r id hist x at acts; fits = let m = may_begin k s r id hist x at acts in fits_allocation now d c may.1 m.0 m.1; full_fits = may_be_full k s r id hist x at acts may.2 c may.1 };
+      is_open = open_after k s r id hist x at acts c true;
+      work = work_with now d _ refl refl refl d;
+      theirs = theirs;
+      stand = subst (λ (l : List Value). AllStand r.account.live l theirs) (sym (ap registers_of may.3)) stand;
+      weak = None;
+      advance = advance_quiet k s r id hist x at acts c true (domain_at now d).serial (Replied Full) (work_with now d _ refl refl refl d).queue (leaves_full now d c);
+      leaves = leaves_full now d c;
+    };
+    none = refl;
   }
   entries _ may = absurd may
 
@@ -157,8 +171,8 @@ ticks k slots id word hist x e changes may s r _ at _ =
       one k hist (entered_view k s r id hist x at may.acts e regs),
       keeps,
       tt,
-      unmoved k s word (set s.views id (one k hist (entered_view k s r id hist x at may.acts e regs))) (enters_rule k s r id hist x at may.acts e regs (tick_answer e) o (tick_command k x changes e may.entry)),
-      (enters k s r id hist x at may.acts (state_of k r.account.log).graph e (tick_answer e) NothingWord changes o, refl),
+      unmoved k s word (set s.views id (one k hist (entered_view k s r id hist x at may.acts e regs))) (paid_rule k s r id hist x at may.acts e regs (tick_answer e) o (tick_command k x changes e may.entry)),
+      (enters k s r id hist x at may.acts (state_of k r.account.log).graph e (tick_answer e) NothingWord changes o.enters, refl),
     )
 
 pub tick_may : (k : Config) (word : ℕ) (x : DomainView) (e : Entry) (changes : List Change) → TickMay k x changes e → MayStep k x word (λ n. n) (TickTold k e changes)

@@ -1,5 +1,5 @@
 -- Stores to values of blocks keep the rule, whatever command stores.
-use Rattle.std.proofs.Common.{◌≡◌, ◌≢◌, ℕ, ◌+◌, ◌<◌, ◌≤◌, false, List, [], length, get_or, set, slice_get, Some, Option, None, unwrap_or, sym, refl, ap, ◌∙◌, subst, ⊎_elim, arith, length-set, get_or-set_same, get_or-set_other, zero, suc, true, Bool, ◌*◌, ◌⊎◌, ◌↔◌, ◌∷◌, ◌++◌, inl, inr, zero-le, lt_of_not-le}
+use Rattle.std.proofs.Common.{◌≡◌, ◌≢◌, ℕ, ◌+◌, ◌<◌, ◌≤◌, false, List, [], length, get_or, set, slice_get, Some, Option, None, unwrap_or, sym, refl, ap, ◌∙◌, subst, ⊎_elim, arith, length-set, get_or-set_same, get_or-set_other, zero, suc, true, Bool, IsTrue, ◌*◌, ◌⊎◌, ◌↔◌, ◌∷◌, ◌++◌, inl, inr, zero-le, lt_of_not-le}
 use Rattle.std.proofs.lemmas.Int.{ints}
 use mathlib.Core.Logic.{dite}
 use native.Mathlib.Decide.{ℕ_discrete, dec_le}
@@ -40,6 +40,10 @@ use Rattle.heap_rule.proofs.Keeps.{Words, mine, my_good, whole_here, listed_here
 use Rattle.heap_rule.proofs.Again.{Back, ephe_back, placed_back, area_back, spread_back, opened_back, grid_back}
 use Rattle.heap_rule.proofs.Update.{over, over_here, over_else}
 use Rattle.heap_rule.proofs.Lots.{Beside, head_full, live_beside, grid_beside, hunter_beside}
+use Rattle.cycle_laws.specs.Beside.{WriteBarrier, owed_after}
+use Rattle.heap_rule.proofs.Advancing.{advances_command, underway_here}
+use Rattle.heap_rule.proofs.Sharings.{with_weak}
+use Rattle.steps_run.proofs.Advances.{advance_command}
 use Rattle.heap_rule.proofs.Entering.{registers_stand, EntersTo, stood_after, entered_view, enters, enters_command}
 use Rattle.std.proofs.lemmas.Option.{same_Some}
 use Rattle.heap_rule.proofs.Beside.{extent_of, found_beside, making_beside, live_word_far}
@@ -155,6 +159,11 @@ module _ (k : Config) (paint : Paint) (live : Live) (graph : Graph) (words : Lis
   pub stored_inside : 2 + i < extent p.shape
   stored_inside = let n : ℕ = extent p.shape in let s : n ≡ length (values_of node) + 2 = size in let b = below in omega arith
 
+  -- no block begins at the value
+  pub stored_heads : (b : ℕ) (q : Place) → live b ≡ Some q → at_address k (set words spot new) b ≡ at_address k words b
+  stored_heads b q lives_b = get_or-set_other words spot (before_heap k + b) new 0 (λ e. let n : ℕ = extent p.shape in let m : ℕ = extent q.shape in let into : 2 + i < n = stored_inside in
+      dite (ℕ_discrete b a) (λ (same : b ≡ a). omega arith) (λ (other : b ≢ a). ⊎_elim (λ (t : b + m ≤ a). omega arith) (λ (t : a + n ≤ b). omega arith) (placed.apart b a q p lives_b lives other)))
+
 -- who then remembers the field
 record Choice (k : Config) (address new d i : ℕ) (remembers : Bool) (named : ℕ → Option ℕ) : Type 0 where
   named' : ℕ → Option ℕ
@@ -231,6 +240,8 @@ pub record ValueStore (k : Config) (s : Words) (r : Rule k s) (id : ℕ) (hist :
   pub same : LeavesOwn changes x
   pub unregistering : registers_one c ≡ false
   pub fits : FitsMode (state_of k r.account.log) x.own.number c
+  pub quiet : owed_after r.account.cycling.past.owed x.own.number c ≡ r.account.cycling.past.owed
+  pub barrier : IsTrue r.account.cycling.armed → WriteBarrier r.account.cycling.past r.account.cycling.paint.marks (state_of k r.account.log) x.own.number c
   pub leaves : Leaves (state_of k r.account.log) (Command x.own.number c false) x.own.number (with_node (state_of k r.account.log).graph place.label after) (domain_at (state_of k r.account.log) x.own.number).registers
       (domain_at (state_of k r.account.log) x.own.number).serial (Replied Done)
 
@@ -274,12 +285,17 @@ value_stores k slots id word hist x a new remembers changes command acts place m
     (λ z area making. making_beside k s.words (f.address + 2 + i) new z (λ j fits same. live_word_far k r.account.live f.address (2 + i) f.place z f.lives inside area j fits (same ∙ (let h : f.address + 2 + i ≡ f.address + (2 + i) = omega arith in h))) making) in
     let o : EntersTo k s r id hist x at acts graph e regs (Replied Done) = enters_command k s r id hist x at acts graph command f.unregistering f.fits regs (Replied Done) (domain_at now d).registers
     (subst (λ (l : List Value). AllStand r.account.live l (domain_at now d).registers) (sym (ap registers_of f.same)) stand)
-    f.leaves in
+    None (advance_command k s r id hist x at acts command f.quiet f.barrier) f.leaves in
+    let later = advances_command k s r id hist x at acts.runs acts.paid command live1 f.quiet grows
+    (λ is b q lives young. let u = back b q lives in subst (λ (l : Label). IsTrue (paint.marks.marked l)) u.label ((underway_here k s r id hist x at acts.runs is).young b u.place u.lives young)) f.barrier in
     let controls : Controls k r.account s.words words = controls_kept k s r id hist x at words (control_set k s.words (f.address + 2 + i) new (omega arith)) in
-    let rule : Rule k record { words = words; homes = s.homes; views = set s.views id (one k hist y) } = appends k s r id hist x at e y words live1 r.account.homes record {
+    let rule : Rule k record { words = words; homes = s.homes; views = set s.views id (one k hist y) } = appends k s r id hist x at e y words live1 r.account.homes later.past record {
       full = full_back k (r.account.log ++ e ∷ []) r.account.live live1 r.account.tenancy.holder r.account.tenancy.fresh r.account.homes r.account.cycling.kind back
           (full_stays k r.account.log r.account.live r.account.tenancy.holder r.account.tenancy.fresh r.account.homes r.account.cycling.kind e refl r.whole.full);
-      share = refl;
+      weak = None;
+      share = ap (with_weak x.seen.share) acts.paid;
+      advances = later.advances;
+      heads = stored_heads k paint r.account.live now.graph s.words f.address i new f.place f.node f.after v r.whole.placed r.whole.wide f.lives r.whole.found whole f.there f.same_shape f.values f.below stands settled c.named' c.keeps c.is_old;
       alone = o.alone;
       of_trace = tt;
       runs = acts.runs;

@@ -13,6 +13,7 @@ use Rattle.heap_rule.specs.declared.change.Change.{Change}
 use Rattle.heap_rule.specs.declared.config.Config.{Config}
 use Rattle.heap_rule.specs.declared.view.DomainView.{DomainView}
 use Rattle.heap_rule.specs.declared.view.Own.{Own}
+use Rattle.heap_rule.specs.Beside.{Barrier}
 use Rattle.heap_rule.specs.Changes.{value_at, changed, FitChanges}
 use Rattle.heap_rule.specs.Limits.{sizes_in}
 use Rattle.heap_rule.specs.Places.{IsOldAt}
@@ -51,7 +52,7 @@ remembering_own remembers at own = record own { remembered = record { items = wi
 abbrev pub remembering : Bool → ℕ → DomainView → DomainView
 remembering remembers at x = record { own = remembering_own remembers at x.own; seen = record x.seen { remembered = with_field remembers at x.seen.remembered } }
 
--- the field gets the word of what a register holds, and is remembered exactly where it must be
+-- the field gets the word of what a register holds, and is remembered exactly where it must be. Where a cycle goes on beside, what it referred to is darkened
 pub record FieldStoreMay (k : Config) (x : DomainView) (at new : ℕ) (remembers : Bool) (changes : List Change) (d block i item : ℕ) : Type 0 where
   pub own : d ≡ x.own.number
   pub acts : Acts k x
@@ -63,6 +64,7 @@ pub record FieldStoreMay (k : Config) (x : DomainView) (at new : ℕ) (remembers
   pub room : remembers ≡ true → 1 ≤ x.own.remembered.room
   pub same : LeavesOwn changes x
   pub fits : FitChanges changes
+  pub barrier : Barrier x.seen.share target.address i
 
 -- the same of the entry that is told, an own store
 abbrev pub FieldStoreEntry : Config → DomainView → ℕ → ℕ → Bool → List Change → Entry → Type 0

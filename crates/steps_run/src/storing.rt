@@ -35,7 +35,9 @@ impl Writing for Storing {
 /// `store` stands here. `at` is the field's address, `new` the word of what the register holds that
 /// the `store` names, and the changes leave the registers as they are. The field is remembered
 /// exactly where the block lies in a pool and the register holds the address of a block in a minor
-/// area: `remembers` says so, and then there is room for one more field.
+/// area: `remembers` says so, and then there is room for one more field. Either the domain has found
+/// that no cycle goes on beside, or it knows that what the field referred to when the roots had been
+/// darkened is marked.
 pub fn field_store(
     heap: &Heap,
     dom: &mut Domain,

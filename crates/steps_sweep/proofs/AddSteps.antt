@@ -18,6 +18,7 @@ use Rattle.heap_rule.specs.declared.phase.Kind.TheVariants.{Sweep, Clean, Answer
 use Rattle.heap_rule.specs.declared.phase.Stage.TheVariants.{In}
 use Rattle.heap_rule.specs.declared.view.DomainView.{DomainView}
 use Rattle.heap_rule.specs.declared.view.Share.{Share}
+use Rattle.heap_rule.specs.Beside.{RunsBeside}
 use Rattle.heap_rule.specs.Cycles.{Counted, Counts, Cycled, Cycling, Facts, IsCollecting, IsIdle, Knowing, Sweeping, labels_in, layout_of, seen_by}
 use Rattle.heap_rule.specs.Layout.{live_blocks, live_words}
 use Rattle.heap_rule.specs.Phases.{AtStage}
@@ -32,7 +33,8 @@ use Rattle.heap_rule.proofs.PauseFacts.{kind_differs}
 use Rattle.heap_rule.proofs.Sharings.{knowing_words}
 use Rattle.steps_cycle.specs.Looks.{with_share}
 use Rattle.steps_cycle.proofs.Layouts.{labelled, owner_of_place, label_there}
-use Rattle.steps_cycle.proofs.Learning.{at_other, at_same, bare, even, known, kind_here, leads_odd, lies_old, not_promoting, whole_in}
+use Rattle.steps_cycle.proofs.Learning.{at_other, at_same, bare, even, known, kind_here, leads_odd, lies_old, none_runs, not_promoting, whole_in}
+use Rattle.steps_cycle.proofs.Pausing.{paused_on}
 use Rattle.steps_cycle.proofs.Plain.{share_closes}
 use Rattle.steps_sweep.specs.Counting.{BlocksAddMay, BlocksAdded, WordsAddMay, WordsAdded}
 use Rattle.steps_sweep.proofs.Recounting.{IsCount, heap, here, low, other, recounted, recounts}
@@ -146,6 +148,10 @@ module _ (k : Config) (s : Words) (r : Rule k s) (id : ℕ) (hist : List Entry) 
       whole = λ l. inl (whole_in k s r id hist x at (λ e. let same : Sweep ≡ Clean = sym kind_is ∙ e in cc) l);
     }
 
+    -- nobody runs
+    running' : (z : DomainView) → Good k r.account s.words z → RunsBeside k live holder c.armed c.past c.paint.marks.marked words' z.own.number z.seen.stage z.seen.share
+    running' z h = paused_on k r.account.pause c r.whole.cycle.told (none_runs k s r id hist x at collecting) live live holder holder c.paint.marks.marked c.paint.marks.marked s.words words' z h.staged h.sharing.running
+
     adding_rule : Adding → Rule k record { words = words'; homes = s.homes; views = set s.views id (one k hist (with_share x share')) }
     adding_rule o = let g = good.sharing in let n = knowing_words k live holder now.graph c.paint.marks s.words words' d x.own.registers sh (heap k s r id hist x at i v is) kn in let t = n.counted in recounts k s r id hist x at i v is share' c' record {
       calm = not_promoting k s r id hist x at collecting;
@@ -161,6 +167,8 @@ module _ (k : Config) (s : Words) (r : Rule k s) (id : ℕ) (hist : List Entry) 
           rotated = g.leading.rotated;
           turned = g.leading.turned;
           pass = g.leading.pass;
+          whole = g.leading.whole;
+          armed = g.leading.armed;
         };
         knows = inr (
           collecting,
@@ -168,6 +176,7 @@ module _ (k : Config) (s : Words) (r : Rule k s) (id : ℕ) (hist : List Entry) 
         );
         adds = record { blocks = λ _ _. o.mine_blocks; words = λ _ _. o.mine_words; own = λ _ _. o.mine_own };
         looks = record { at_own = g.looks.at_own; pruned = g.looks.pruned; cleans = g.looks.cleans; emptied_is = g.looks.emptied_is };
+        running = let u = running' x good in record { knows = u.knows; owes = u.owes };
         deciding = g.deciding;
       };
       sharings = λ z _ differs h. let q = h.sharing in let e = o.others z.own.number differs in record {
@@ -179,6 +188,8 @@ module _ (k : Config) (s : Words) (r : Rule k s) (id : ℕ) (hist : List Entry) 
           rotated = q.leading.rotated;
           turned = q.leading.turned;
           pass = q.leading.pass;
+          whole = q.leading.whole;
+          armed = q.leading.armed;
         };
         knows = ⊎_elim
             (λ (u : IsIdle z.seen.share). inl u)
@@ -186,6 +197,7 @@ module _ (k : Config) (s : Words) (r : Rule k s) (id : ℕ) (hist : List Entry) 
             q.knows;
         adds = record { blocks = λ a b. e.0 ∙ q.adds.blocks a b; words = λ a b. e.1 ∙ q.adds.words a b; own = λ a b y. e.2 ∙ q.adds.own a b y };
         looks = q.looks;
+        running = running' z h;
         deciding = q.deciding;
       };
     }

@@ -86,13 +86,14 @@ module _ (k : Config) (s : Words) (r : Rule k s) (id : ℕ) (hist : List Entry) 
       let collects = answers k s r id hist x at stage in
       let up = waits k s r id hist x at collects in learns k s r id hist x at counted record {
         telling = record { owes = g.telling.owes; seen = g.telling.seen; fresh = λ gone. absurd (true≢false (sym gone ∙ up)); forgotten = λ gone. absurd (true≢false (sym gone ∙ up)); colours = g.telling.colours };
-        leading = record { changed = g.leading.changed; found_blocks = λ v e. (inr stage, (let same : Some (live_blocks s.words) ≡ Some v = e in cc)); found_words = g.leading.found_words; rotated = g.leading.rotated; turned = g.leading.turned; pass = g.leading.pass };
+        leading = record { changed = g.leading.changed; found_blocks = λ v e. (inr stage, (let same : Some (live_blocks s.words) ≡ Some v = e in cc)); found_words = g.leading.found_words; rotated = g.leading.rotated; turned = g.leading.turned; pass = g.leading.pass; whole = g.leading.whole; armed = g.leading.armed };
         knows = inr (
           collects,
           record { found_head = kn.found_head; scan = kn.scan; walked = kn.walked; own_pool = kn.own_pool; rooted = kn.rooted; marked = kn.marked; counted = record { once = n.once; own = n.own; lives = n.lives; all = n.all; words = n.words }; held = kn.held; vacant = kn.vacant },
         );
         adds = record { blocks = g.adds.blocks; words = g.adds.words; own = g.adds.own };
         looks = record { at_own = g.looks.at_own; pruned = g.looks.pruned; cleans = g.looks.cleans; emptied_is = g.looks.emptied_is };
+        running = record { knows = g.running.knows; owes = g.running.owes };
         deciding = g.deciding;
       }
 
@@ -136,6 +137,7 @@ module _ (k : Config) (s : Words) (r : Rule k s) (id : ℕ) (hist : List Entry) 
     changed_is = z.changed_is;
     facts = subst (λ (kind : Kind). Facts kind k (next now e) live T c s.words) (sym (answer_kind k s r id hist x at stage)) record {
       mode = f.mode;
+      whole = f.whole;
       swept = record { facts = phase_steps.sweep_answers k.domains now (swept_of k live T.holder c) d f.swept.facts; rotated = f.swept.rotated; all_marked = f.swept.all_marked; unmarked = f.swept.unmarked; unchanged = f.swept.unchanged; counted = f.swept.counted };
       clean = f.clean;
       all_counted = f.all_counted;
@@ -156,6 +158,7 @@ module _ (k : Config) (s : Words) (r : Rule k s) (id : ℕ) (hist : List Entry) 
     knows = subst (λ (graph : Graph). KnowsBlocks k live T.holder graph c.paint.marks s.words z.own.number z.own.registers z.seen.stage z.seen.share) (sym graph_after) g.knows;
     adds = g.adds;
     looks = subst (λ (graph : Graph). Looks live T.holder T.garbage graph c.paint.marks c.paint.emptied z.own.number z.own.ephemerons.items z.seen.stage z.seen.share) (sym graph_after) g.looks;
+    running = g.running;
     deciding = g.deciding;
   }
 

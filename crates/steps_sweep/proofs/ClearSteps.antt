@@ -7,10 +7,11 @@ use Rattle.heap_model.specs.declared.entry.Entry.{Entry}
 use Rattle.heap_model.specs.declared.state.State as model
 use Rattle.heap_rule.specs.declared.config.Config.{Config}
 use Rattle.heap_rule.specs.declared.phase.Kind.{Kind}
-use Rattle.heap_rule.specs.declared.phase.Kind.TheVariants.{Lasts, Sweep, Answer}
+use Rattle.heap_rule.specs.declared.phase.Kind.TheVariants.{Run, Lasts, Sweep, Answer}
 use Rattle.heap_rule.specs.declared.phase.Stage.TheVariants.{In, Leads}
 use Rattle.heap_rule.specs.declared.view.DomainView.{DomainView}
 use Rattle.heap_rule.specs.declared.view.Share.{Share}
+use Rattle.heap_rule.specs.Beside.{RunsBeside}
 use Rattle.heap_rule.specs.Cycles.{Cycled, Cycling, Facts, IsCollecting, IsIdle, Knowing, Leaving}
 use Rattle.heap_rule.specs.Layout.{live_blocks, live_words}
 use Rattle.heap_rule.specs.Phases.{AtStage}
@@ -21,6 +22,7 @@ use Rattle.heap_rule.specs.Views.{one}
 use Rattle.heap_rule.proofs.Keeps.{Words, my_good}
 use Rattle.heap_rule.proofs.PauseFacts.{not_both}
 use Rattle.steps_cycle.specs.Looks.{with_share}
+use Rattle.steps_cycle.proofs.Pausing.{paused_on}
 use Rattle.steps_cycle.proofs.Plain.{share_closes}
 use Rattle.steps_sweep.specs.Turning.{BlocksCleared, ClearMay, WordsCleared}
 use Rattle.steps_sweep.proofs.Recounting.{IsCount, heap, here, low, other, recounted, recounts}
@@ -72,6 +74,10 @@ module _ (k : Config) (s : Words) (r : Rule k s) (id : ℕ) (hist : List Entry) 
   no_answer z g differs h = ⊎_elim (λ (f : (z.own.number ≡ 0) × IsLeading z.seen.stage). only_first z differs f.0)
       (λ (e : z.seen.stage ≡ In Answer). let a = subst (AtStage r.account.pause z.own.number z.own.arrivals) e g.staged.stage in odd_here a.1.0 a.1.1) h
 
+  -- nobody runs
+  running' : (z : DomainView) → Good k r.account s.words z → RunsBeside k r.account.live r.account.tenancy.holder c.armed c.past c.paint.marks.marked words' z.own.number z.seen.stage z.seen.share
+  running' z h = paused_on k r.account.pause c r.whole.cycle.told (λ e. let clash : Lasts ≡ Run = sym kind_is ∙ e in cc) r.account.live r.account.live r.account.tenancy.holder r.account.tenancy.holder c.paint.marks.marked c.paint.marks.marked s.words words' z h.staged h.sharing.running
+
   sharings' : (z : DomainView) → z.own.number < k.domains → z.own.number ≢ x.own.number → Good k r.account s.words z → Sharing k r.account words' z.own.number z.own.registers z.own.finalisers z.own.ephemerons.items z.seen.stage z.seen.share
   sharings' z below differs g = let h = g.sharing in record {
     telling = h.telling;
@@ -82,10 +88,13 @@ module _ (k : Config) (s : Words) (r : Rule k s) (id : ℕ) (hist : List Entry) 
       rotated = h.leading.rotated;
       turned = h.leading.turned;
       pass = h.leading.pass;
+      whole = h.leading.whole;
+      armed = h.leading.armed;
     };
     knows = knows_words k r.account.live r.account.tenancy.holder now.graph c.paint.marks s.words words' z.own.number z.own.registers z.seen.stage z.seen.share (heap k s r id hist x at i 0 is) h.knows;
     adds = h.adds;
     looks = h.looks;
+    running = running' z g;
     deciding = h.deciding;
   }
 
@@ -121,10 +130,13 @@ module _ (k : Config) (s : Words) (r : Rule k s) (id : ℕ) (hist : List Entry) 
           rotated = g.leading.rotated;
           turned = g.leading.turned;
           pass = g.leading.pass;
+          whole = g.leading.whole;
+          armed = g.leading.armed;
         };
         knows = inl idle';
         adds = record { blocks = λ e _. absurd (no_sweep e); words = λ e _. absurd (no_sweep e); own = λ e _ _. absurd (no_sweep e) };
         looks = record { at_own = g.looks.at_own; pruned = g.looks.pruned; cleans = g.looks.cleans; emptied_is = g.looks.emptied_is };
+        running = let u = running' x good in record { knows = u.knows; owes = u.owes };
         deciding = g.deciding;
       };
       sharings = sharings';

@@ -18,6 +18,7 @@ use Rattle.heap_rule.specs.declared.view.Own.{Own}
 use Rattle.heap_rule.specs.declared.view.Share.{Share}
 use Rattle.heap_rule.specs.declared.view.Spot.{Spot}
 use Rattle.heap_rule.specs.Copies.{Promoting}
+use Rattle.heap_rule.specs.Beside.{RunsBeside}
 use Rattle.heap_rule.specs.Cycles.{Cycled, Cycling, Facts, IsCollecting, IsIdle, Knowing, Leading, Sweeping, owner_at, seen_by}
 use Rattle.heap_rule.specs.Ephemerons.{IsEpheAt, Listed}
 use Rattle.heap_rule.specs.Layout.{at_address, before_heap, heap_words}
@@ -36,7 +37,8 @@ use Rattle.heap_rule.proofs.Lots.{head_full, hunter_beside, live_beside, none_be
 use Rattle.heap_rule.proofs.PauseFacts.{not_both}
 use Rattle.steps_pools.proofs.Plain.{looking_fits}
 use Rattle.steps_pools.specs.Writes.{CanLook, LooksFrom}
-use Rattle.steps_cycle.proofs.Learning.{at_other, at_same, even, known, knowing_on, leads_odd, not_promoting, rests_here, waits, whole_in}
+use Rattle.steps_cycle.proofs.Learning.{at_other, at_same, even, known, knowing_on, leads_odd, none_runs, not_promoting, rests_here, waits, whole_in}
+use Rattle.steps_cycle.proofs.Pausing.{paused_on}
 use Rattle.steps_sweep.specs.Freeing.{IsColoured, FreeMay, FreeTold, freed, passed}
 use Rattle.steps_sweep.proofs.Reaping.{reaped_to, reaps}
 use Rattle.steps_sweep.proofs.Removals.{seen_at}
@@ -292,6 +294,8 @@ module _ (k : Config) (s : Words) (r : Rule k s) (id : ℕ) (hist : List Entry) 
     rotated = l.rotated;
     turned = l.turned;
     pass = l.pass;
+    whole = l.whole;
+    armed = l.armed;
   }
 
   heads : (b : ℕ) (p : Place) → r.account.live b ≡ Some p → (at_address k words' b ≡ at_address k s.words b) ⊎ IsTrue (c.paint.marks.marked p.label)
@@ -302,6 +306,10 @@ module _ (k : Config) (s : Words) (r : Rule k s) (id : ℕ) (hist : List Entry) 
 
   abbrev share' : Share
   share' = record (passed a pool class slot x.seen.share) { found_head = None }
+
+  -- nobody runs
+  running' : (z : DomainView) → Good k r.account s.words z → RunsBeside k r.account.live t.holder c.armed c.past c.paint.marks.marked words' z.own.number z.seen.stage z.seen.share
+  running' z h = paused_on k r.account.pause c r.whole.cycle.told (none_runs k s r id hist x at here_collects) r.account.live r.account.live t.holder t.holder c.paint.marks.marked c.paint.marks.marked s.words words' z h.staged h.sharing.running
 
   sharing' : Sharing k (reaped_to k s r id hist x at r.account.live garbage' c') words' d x.own.registers x.own.finalisers x.own.ephemerons.items x.seen.stage share'
   sharing' =
@@ -315,7 +323,7 @@ module _ (k : Config) (s : Words) (r : Rule k s) (id : ℕ) (hist : List Entry) 
           forgotten = λ up. absurd (true≢false (sym up ∙ is_waiting));
           colours = g.telling.colours;
         };
-        leading = record { changed = l.changed; found_blocks = l.found_blocks; found_words = l.found_words; rotated = l.rotated; turned = l.turned; pass = l.pass };
+        leading = record { changed = l.changed; found_blocks = l.found_blocks; found_words = l.found_words; rotated = l.rotated; turned = l.turned; pass = l.pass; whole = l.whole; armed = l.armed };
         knows = inr (
           here_collects,
           record {
@@ -332,6 +340,7 @@ module _ (k : Config) (s : Words) (r : Rule k s) (id : ℕ) (hist : List Entry) 
         );
         adds = record { blocks = g.adds.blocks; words = g.adds.words; own = g.adds.own };
         looks = record { at_own = g.looks.at_own; pruned = λ i b few got. still_clean b (g.looks.pruned i b few got); cleans = g.looks.cleans; emptied_is = g.looks.emptied_is };
+        running = let u = running' x good in record { knows = u.knows; owes = u.owes };
         deciding = g.deciding;
       }
 
@@ -345,6 +354,7 @@ module _ (k : Config) (s : Words) (r : Rule k s) (id : ℕ) (hist : List Entry) 
         g.knows;
     adds = record { blocks = g.adds.blocks; words = g.adds.words; own = g.adds.own };
     looks = record { at_own = g.looks.at_own; pruned = λ i b few got. still_clean b (g.looks.pruned i b few got); cleans = g.looks.cleans; emptied_is = g.looks.emptied_is };
+    running = running' z h;
     deciding = g.deciding;
   }
 

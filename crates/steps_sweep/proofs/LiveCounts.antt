@@ -96,7 +96,7 @@ module _ (k : Config) (s : Words) (r : Rule k s) (id : ℕ) (hist : List Entry) 
       let n = answer_facts.swept.counted in
       (count_law.end k.domains layout now c.before own c.counts.blocks (live_blocks s.words) (added_up c.counts.blocks (λ e. sum_by (words_at now.graph) (own e)) k.domains)
       record { out = share_out; blocks_are = n.blocks_are ∙ added_same c.counts.blocks (λ e. length (c.counts.own e)) (λ e. length (own e)) (λ e is. ap (λ (l : List Label). length l) (sym (own_is e is))) k.domains; words_are = refl }
-      one_place all_blocks g.owned g.kept (g.whole refl)).0
+      one_place all_blocks g.owned g.kept (g.whole answer_facts.whole)).0
 
   pub words_reach : live_words s.words ≡ sum_by (words_at now.graph) (reach now)
   words_reach =
@@ -104,4 +104,4 @@ module _ (k : Config) (s : Words) (r : Rule k s) (id : ℕ) (hist : List Entry) 
       let n = answer_facts.swept.counted in
       (count_law.end k.domains layout now c.before own c.counts.words (added_up c.counts.words (λ e. length (own e)) k.domains) (live_words s.words)
       record { out = share_out; blocks_are = refl; words_are = n.words_are ∙ added_same c.counts.words (λ e. sum_by (words_at now.graph) (c.counts.own e)) (λ e. sum_by (words_at now.graph) (own e)) (λ e is. ap (sum_by (words_at now.graph)) (sym (own_is e (n.first e is)))) k.domains }
-      one_place answer_facts.all_counted g.owned g.kept (g.whole refl)).1
+      one_place answer_facts.all_counted g.owned g.kept (g.whole answer_facts.whole)).1

@@ -7,6 +7,7 @@ use Rattle.heap_model.specs.declared.entry.Entry.{Entry}
 use Rattle.heap_rule.specs.declared.config.Config.{Config}
 use Rattle.heap_rule.specs.declared.phase.Kind.TheVariants.{Run, Answer}
 use Rattle.heap_rule.specs.declared.view.DomainView.{DomainView}
+use Rattle.heap_rule.specs.Beside.{RunsBeside}
 use Rattle.heap_rule.specs.Cycles.{Cycling, IsCollecting, IsIdle, Knowing}
 use Rattle.heap_rule.specs.Layout.{cursor, listed}
 use Rattle.heap_rule.specs.Phases.{AtStage, Staged}
@@ -19,7 +20,8 @@ use Rattle.heap_rule.proofs.Keeps.{Words, knows_front, mine, my_good, opened_wor
 use Rattle.heap_rule.proofs.PauseFacts.{kind_differs, not_both}
 use Rattle.heap_rule.proofs.Sharings.{leading_words}
 use Rattle.steps_cycle.specs.Looks.{with_share}
-use Rattle.steps_cycle.proofs.Learning.{even, leads_odd, rests_here, waits}
+use Rattle.steps_cycle.proofs.Learning.{even, leads_odd, none_runs, rests_here, waits}
+use Rattle.steps_cycle.proofs.Pausing.{paused_on}
 use Rattle.steps_cycle.proofs.Plain.{share_closes}
 use Rattle.steps_sweep.specs.Returning.{ReturnMay, ReturnTold}
 use Rattle.steps_sweep.proofs.Returned.{agrees, calm, collecting, cycle', drawers', drawn_was, full', grid', is_own, knowing_other, knowing_own, listed', no_prepared, other_word, own_was, owned_was, pools', reserved', same_cursor, same_cycle, share', t', words'}
@@ -99,16 +101,21 @@ module _ (k : Config) (s : Words) (r : Rule k s) (id : ℕ) (hist : List Entry) 
   hunters z differs g = hunter_agree k T after s.words ws (agrees k s r id hist x at word pool class may) z grows
       (same_over T pool _ T.asking T.fresh T.stock z.own.number (subst (λ (h : Holder). NotOf h z.own.number) (sym (is_own k s r id hist x at word pool class may)) (owned_not d class z.own.number (λ e. differs (sym e)))) (nobody_not z.own.number) refl (λ b. refl) (stock_self T.stock z.own.number)) g.hunter
 
+  -- nobody runs
+  running' : (z : DomainView) → Good k r.account s.words z → RunsBeside k r.account.live after.holder c.armed c.past c.paint.marks.marked ws z.own.number z.seen.stage z.seen.share
+  running' z h = paused_on k r.account.pause c r.whole.cycle.told (none_runs k s r id hist x at collects) r.account.live r.account.live T.holder after.holder c.paint.marks.marked c.paint.marks.marked s.words ws z h.staged h.sharing.running
+
   sharing' : Sharing k all' ws d x.own.registers x.own.finalisers x.own.ephemerons.items x.seen.stage y.seen.share
   sharing' =
       let g = good.sharing in
       let l = leading_words c s.words ws d x.seen.stage x.seen.share (same_cycle k s r id hist x at word pool class may) g.leading in
       let up = waits k s r id hist x at collects in record {
         telling = record { owes = g.telling.owes; seen = g.telling.seen; fresh = λ gone. absurd (true≢false (sym gone ∙ up)); forgotten = λ gone. absurd (true≢false (sym gone ∙ up)); colours = g.telling.colours };
-        leading = record { changed = l.changed; found_blocks = l.found_blocks; found_words = l.found_words; rotated = l.rotated; turned = l.turned; pass = l.pass };
+        leading = record { changed = l.changed; found_blocks = l.found_blocks; found_words = l.found_words; rotated = l.rotated; turned = l.turned; pass = l.pass; whole = l.whole; armed = l.armed };
         knows = inr (collects, knowing_own k s r id hist x at word pool class may);
         adds = record { blocks = g.adds.blocks; words = g.adds.words; own = g.adds.own };
         looks = record { at_own = g.looks.at_own; pruned = g.looks.pruned; cleans = g.looks.cleans; emptied_is = λ a p own lives. g.looks.emptied_is a p (own_was k s r id hist x at word pool class may a d own) lives };
+        running = let u = running' x good in record { knows = u.knows; owes = u.owes };
         deciding = g.deciding;
       }
 
@@ -122,6 +129,7 @@ module _ (k : Config) (s : Words) (r : Rule k s) (id : ℕ) (hist : List Entry) 
         g.knows;
     adds = g.adds;
     looks = record { at_own = g.looks.at_own; pruned = g.looks.pruned; cleans = g.looks.cleans; emptied_is = λ a p own lives. g.looks.emptied_is a p (own_was k s r id hist x at word pool class may a z.own.number own) lives };
+    running = running' z h;
     deciding = g.deciding;
   }
 

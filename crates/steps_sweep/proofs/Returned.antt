@@ -227,6 +227,7 @@ module _ (k : Config) (s : Words) (r : Rule k s) (id : ℕ) (hist : List Entry) 
   answering' : Answering k now live t' c words'
   answering' = record {
     mode = facts.mode;
+    whole = facts.whole;
     swept = record {
       facts = let g = facts.swept.facts in record { sealed = g.sealed; owned = λ l is. let o = g.owned l is in let p = labelled k live o.1 l o.3 in (o.0, o.1, o.2, o.3, owner_still o.1 o.0 p.place p.lives o.4); whole = g.whole; waiting = g.waiting; kept = g.kept };
       rotated = facts.swept.rotated;

@@ -36,6 +36,7 @@ use Rattle.heap_rule.specs.declared.view.DomainView.{DomainView}
 use Rattle.heap_rule.specs.declared.view.Share.{Share}
 use Rattle.heap_rule.specs.Changes.{value_at}
 use Rattle.heap_rule.specs.Copies.{Promoting, Resetting}
+use Rattle.heap_rule.specs.Beside.{RunsBeside}
 use Rattle.heap_rule.specs.Cycles.{Cycled, Cycling, Facts, IsCollecting, IsGarbageHead, IsIdle, Knowing, Leaving, layout_of, owner_at, swept_of}
 use Rattle.heap_rule.specs.Layout.{at_address, before_heap, heap_words}
 use Rattle.heap_rule.specs.Limits.{sizes_in}
@@ -54,6 +55,7 @@ use Rattle.heap_rule.proofs.Keeps.{Words, hunter_as, my_good}
 use Rattle.heap_rule.proofs.PauseFacts.{not_both}
 use Rattle.steps_cycle.specs.Looks.{with_share}
 use Rattle.steps_cycle.proofs.Learning.{whole_in}
+use Rattle.steps_cycle.proofs.Pausing.{paused_on}
 use Rattle.steps_cycle.proofs.Plain.{share_closes}
 use Rattle.steps_cycle.proofs.Layouts.{label_there, labelled, owner_of_place}
 use Rattle.steps_sweep.specs.Turning.{TurnMay, TurnTold}
@@ -291,6 +293,10 @@ module _ (k : Config) (s : Words) (r : Rule k s) (id : ℕ) (hist : List Entry) 
       → Deciding live' c.kind c.left c.shares.arrived (λ l. false) z.own.number z.own.finalisers kept waiting
   deciding' z kept waiting e = record { finals = e.finals; lasts = e.lasts; rooted = λ rooting. absurd (subst IsRooting kind_is rooting) }
 
+  -- nobody runs
+  running' : (z : DomainView) → Good k r.account s.words z → RunsBeside k live' t.holder c.armed c.past (λ l. false) words' z.own.number z.seen.stage z.seen.share
+  running' z h = paused_on k r.account.pause c r.whole.cycle.told (λ e. let clash : Lasts ≡ Run = sym kind_is ∙ e in cc) live live' t.holder t.holder c.paint.marks.marked (λ l. false) s.words words' z h.staged h.sharing.running
+
   sharing' : Sharing k (reaped_to k s r id hist x at live' garbage' c') words' d x.own.registers x.own.finalisers x.own.ephemerons.items x.seen.stage share'
   sharing' = let g = good.sharing in record {
     telling = record {
@@ -307,10 +313,13 @@ module _ (k : Config) (s : Words) (r : Rule k s) (id : ℕ) (hist : List Entry) 
       rotated = λ _ _. refl;
       turned = λ _. may.stage;
       pass = g.leading.pass;
+      whole = g.leading.whole;
+      armed = g.leading.armed;
     };
     knows = inl idle';
     adds = record { blocks = λ e _. absurd (no_sweep e); words = λ e _. absurd (no_sweep e); own = λ e _ _. absurd (no_sweep e) };
     looks = looks_idle live' t.holder garbage' now.graph c'.paint.marks c.paint.emptied d x.own.ephemerons.items x.seen.stage share' idle' whole;
+    running = let u = running' x good in record { knows = u.knows; owes = u.owes };
     deciding = deciding' x x.seen.share.kept x.seen.share.waiting g.deciding;
   }
 
@@ -333,10 +342,13 @@ module _ (k : Config) (s : Words) (r : Rule k s) (id : ℕ) (hist : List Entry) 
           rotated = λ first. absurd (not_first first);
           turned = g.leading.turned;
           pass = g.leading.pass;
+          whole = g.leading.whole;
+          armed = g.leading.armed;
         };
         knows = inl (g.telling.fresh gone);
         adds = record { blocks = λ e _. absurd (no_sweep e); words = λ e _. absurd (no_sweep e); own = λ e _ _. absurd (no_sweep e) };
         looks = looks_idle live' t.holder garbage' now.graph c'.paint.marks c.paint.emptied z.own.number z.own.ephemerons.items z.seen.stage z.seen.share (g.telling.fresh gone) whole;
+        running = running' z h;
         deciding = deciding' z z.seen.share.kept z.seen.share.waiting g.deciding;
       }
 

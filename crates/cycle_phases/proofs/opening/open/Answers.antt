@@ -1,15 +1,12 @@
 use Rattle.std.proofs.Common.{sym, subst}
 use Rattle.heap_rule.specs.declared.phase.Kind.{Kind}
-use Rattle.heap_rule.specs.declared.phase.Kind.TheVariants.{Reset, Mark, Queued, Lasts, Answer}
+use Rattle.heap_rule.specs.declared.phase.Kind.TheVariants.{Reset, Mark, Queued, Lasts}
 use Rattle.cycle_phases.specs.Leading.{Opens}
-use Rattle.cycle_phases.proofs.Opens.{promote_opens, roots_opens, decide_opens, queued_opens, clean_opens, sweep_opens}
+use Rattle.cycle_phases.proofs.Opens.{promote_opens, decide_opens, queued_opens, clean_opens}
 use Rattle.cycle_phases.proofs.opening.open.Goals as goal
 
 pub returns-in-Promote-clause-opens : goal.returns-in-Promote-clause-opens
 returns-in-Promote-clause-opens c = subst (λ (last : Kind). Opens c.args.heap.now.config c.args.dom.now.view c.args.dom.now.view last Reset) (sym c.in-Promote.is) (promote_opens c.args.heap.now.config c.args.dom.now.view)
-
-pub returns-in-Roots-clause-opens : goal.returns-in-Roots-clause-opens
-returns-in-Roots-clause-opens c = subst (λ (last : Kind). Opens c.args.heap.now.config c.args.dom.now.view c.args.dom.now.view last Mark) (sym c.in-Roots.is) (roots_opens c.args.heap.now.config c.args.dom.now.view)
 
 pub returns-in-Decide-clause-opens : goal.returns-in-Decide-clause-opens
 returns-in-Decide-clause-opens c = subst (λ (last : Kind). Opens c.args.heap.now.config c.args.dom.now.view c.args.dom.now.view last Queued) (sym c.in-Decide.is) (decide_opens c.args.heap.now.config c.args.dom.now.view)
@@ -19,6 +16,3 @@ returns-in-Queued-clause-opens c = subst (λ (last : Kind). Opens c.args.heap.no
 
 pub returns-in-Clean-clause-opens : goal.returns-in-Clean-clause-opens
 returns-in-Clean-clause-opens c = subst (λ (last : Kind). Opens c.args.heap.now.config c.args.dom.now.view c.args.dom.now.view last Lasts) (sym c.in-Clean.is) (clean_opens c.args.heap.now.config c.args.dom.now.view)
-
-pub returns-in-Sweep-clause-opens : goal.returns-in-Sweep-clause-opens
-returns-in-Sweep-clause-opens c = subst (λ (last : Kind). Opens c.args.heap.now.config c.args.dom.now.view c.args.dom.now.view last Answer) (sym c.in-Sweep.is) (sweep_opens c.args.heap.now.config c.args.dom.now.view)

@@ -7,4 +7,4 @@ pub invariant_of-run : goal.invariant_of-run
 invariant_of-run c =
     let whole = subst (λ (x : RunView). length x.commands ≤ x.next) (sym c.run.view_is) c.requires.whole in
     let left = subst (λ (x : RunView). x.left ≡ None) (sym c.run.view_is) c.requires.left in
-    (ended_is_run _ _ _ c.run.invariant.0 left whole c.end.ensures, c.run.invariant.1, c.run.invariant.2)
+    (ended_is_run _ _ _ c.run.invariant.0 left whole c.end.ensures, c.run.invariant.1)

@@ -1,5 +1,5 @@
 use Rattle.heap_model.specs.Fronts.{PlainShape, EpheShape}
-use Rattle.mark_slices.proofs.Exchanges.{read_head}
+use Rattle.barriers.proofs.Exchanges.{read_head}
 use Rattle.ephemeron_rounds.proofs.heads.is_marked.Goals as goal
 
 pub returns-in-Some-Plain : goal.returns-in-Some-Plain

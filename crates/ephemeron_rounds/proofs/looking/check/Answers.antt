@@ -7,7 +7,7 @@ pub weak_load-requires : goal.weak_load-requires
 weak_load-requires g c =
     let f = c.in-Ok.ensures.found in (
       f.here,
-      weak_may c.args.heap.now c.args.dom.now c.find.new.dom g.command c.in-Ok.block c.requires.0 f c.word_at.result [] (c.word_at.ensures ∙ ap (λ (key : Option ℕ). word_of key c.in-Ok.block) (sym c.requires.1.0.1)) c.requires.1.1.0
+      weak_may c.args.heap.now c.args.dom.now c.find.new.dom g.command c.in-Ok.block c.requires.0 f c.word_at.result [] (c.word_at.ensures ∙ ap (λ (key : Option ℕ). word_of key c.in-Ok.block) (sym c.requires.1.0.1)) c.requires.1.1.0 c.requires.1.1.1
           (subst (λ (t : Option ℕ). Puts c.find.new.dom.view [] t) (sym c.requires.1.1.1) (λ v. refl)) tt,
     )
 

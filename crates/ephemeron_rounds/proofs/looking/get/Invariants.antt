@@ -1,3 +1,4 @@
+use Rattle.steps_beside.specs.Marking.{Weak}
 use Rattle.heap_rule.specs.Running.{own_entry}
 use Rattle.ephemeron_rounds.proofs.looking.get.Given as goal
 
@@ -9,3 +10,6 @@ ghost-weak_load g a = own_entry a.dom.now g.command
 
 abbrev pub ghost-shown_register : goal.ghost-shown_register
 ghost-shown_register g a = a.r
+
+abbrev pub ghost-darken_read : goal.ghost-darken_read
+ghost-darken_read g a = Weak a.r

@@ -1,3 +1,4 @@
+use Rattle.steps_run.specs.Loads.{subject}
 use Rattle.field_access.proofs.fields.store_as.Given as goal
 
 abbrev pub ghost-tick : goal.ghost-tick
@@ -8,3 +9,6 @@ ghost-head_load g a = g.entry
 
 abbrev pub ghost-field_store : goal.ghost-field_store
 ghost-field_store g a = g.entry
+
+abbrev pub ghost-overwrite_barrier : goal.ghost-overwrite_barrier
+ghost-overwrite_barrier g a = subject g.entry

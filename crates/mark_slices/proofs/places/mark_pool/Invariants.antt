@@ -1,7 +1,8 @@
 use Rattle.std.proofs.Common.{◌≡◌, []}
 use Rattle.heap_rule.specs.Token.{IsIn}
 use Rattle.steps_cycle.specs.Marking.{Next}
-use Rattle.mark_slices.specs.Shares.{IsAsLong, Marks, Walked, spot_from}
+use Rattle.mark_slices.specs.Decks.{NotesOn}
+use Rattle.mark_slices.specs.Shares.{Marks, Walked, spot_from}
 use Rattle.mark_slices.proofs.places.mark_pool.Given as goal
 
 abbrev pub ghost-mark_place : goal.ghost-mark_place
@@ -14,5 +15,5 @@ invariant-loop-slot l = record {
   walked : Walked (spot_from l.pool l.class l.slot) l.darkened l.fn.dom.view l.dom.view;
   own : l.dom.view.seen.share.own_pool ≡ l.fn.dom.view.seen.share.own_pool;
   none : l.hints.items ≡ [];
-  long : IsAsLong l.fn.hints l.hints;
+  notes : NotesOn l.fn.hints l.hints;
 }

@@ -11,3 +11,8 @@ darken-requires g c =
     let q = c.requires.1 in
     let held : held_at x.own.finalisers (Queue c.args.place) ≡ Some c.in-Fin.address = held_here x.own.finalisers c.args.place c.in-Fin.address c.in-Fin.number c.in-Fin.register c.queue_at.result c.queue_at.ensures c.in-Fin.is in
     (c.requires.0, (q.1.1.1.1.0 (Queue c.args.place) c.in-Fin.address held, (q.1.1.0, queue_darkens x c.args.colours c.args.place c.in-Fin.address g.reason q.0 q.1.0 q.1.1.1.1.1 held)))
+
+pub returns-clause-low : goal.returns-clause-low
+returns-clause-low g c =
+    let x : DomainView = c.args.dom.now.view in
+    (c.requires.1.1.1.1.1.0 (Queue c.args.place) c.in-Fin.address (held_here x.own.finalisers c.args.place c.in-Fin.address c.in-Fin.number c.in-Fin.register c.queue_at.result c.queue_at.ensures c.in-Fin.is)).0

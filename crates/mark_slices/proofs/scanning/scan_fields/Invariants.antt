@@ -1,7 +1,8 @@
 use Rattle.std.proofs.Common.{◌≡◌}
 use Rattle.heap_rule.specs.Token.{IsIn}
 use Rattle.steps_cycle.specs.Looks.{with_share}
-use Rattle.mark_slices.specs.Shares.{IsAsLong, Noted, fields_to, scanning}
+use Rattle.mark_slices.specs.Decks.{NotesOn}
+use Rattle.mark_slices.specs.Shares.{Noted, fields_to, scanning}
 use Rattle.mark_slices.proofs.scanning.scan_fields.Given as goal
 
 abbrev pub invariant-loop-i : goal.invariant-loop-i
@@ -9,5 +10,5 @@ invariant-loop-i l = record {
   here : IsIn l.dom l.heap;
   view : l.dom.view ≡ with_share l.fn.dom.view (scanning l.fn.dom.view.seen.share l.dom.view.seen.share (fields_to l.i l.fn.dom.view.seen.share.scan) l.darkened);
   noted : Noted l.heap.config l.dom.view.seen.share.marked l.hints.items;
-  long : IsAsLong l.fn.hints l.hints;
+  notes : NotesOn l.fn.hints l.hints;
 }

@@ -3,7 +3,7 @@ use Rattle.heap_rule.specs.declared.config.Config.{Config}
 use Rattle.heap_rule.specs.declared.view.DomainView.{DomainView}
 use Rattle.heap_words.specs.Labels.{label_word}
 use Rattle.heap_rule.specs.Token.{next_address}
-use Rattle.minor_area.proofs.Allocating.{head_inside, head_may, alloc_did}
+use Rattle.minor_area.proofs.Allocating.{head_inside, coloured_head, head_may, alloc_did}
 use Rattle.minor_area.proofs.allocation.write_block.Goals as goal
 
 pub init_store-requires-2 : goal.init_store-requires-2
@@ -21,7 +21,7 @@ init_store-requires-2 g c =
       (
         head_inside c.args.heap.now.config x.own.number x.own.used n c.next_address-at.result (let b = c.number.ensures.below in omega arith) r.1.1.0.1 r.1.1.0.0 r.1.1.1.1.0 here,
         head_may c.args.heap.now c.args.dom.now c.loop-i.dom.view g.entry c.next_address-at.result c.pack_head.result c.args.dst c.from.result c.args.tag n c.requires.0 c.requires.1.0 view here c.from.ensures r.0 r.1.0 r.1.1.0.0 r.1.1.0.1
-            r.1.1.1.0 r.1.1.1.1.0 r.1.1.1.1.1.0 record { colours = c.args.colours.now; known_is = r.1.1.1.1.1.1.0; fits = r.1.1.1.1.1.1.1; packs = c.pack_head.ensures },
+            r.1.1.1.0 r.1.1.1.1.0 r.1.1.1.1.1.0 (coloured_head x n c.args.tag c.pack_head.result c.args.colour r.1.1.1.1.1.1 c.pack_head.ensures),
       ),
     )
 

@@ -5,7 +5,7 @@ pub claim_met-requires-clause-works : goal.claim_met-requires-clause-works
 claim_met-requires-clause-works c = let h = c.colours_now-colours in (grown_colours c.args.heap.now.config c.args.dom.now.view h.new.dom.view h.result h.ensures.knows c.requires.works).works
 
 pub claim_met-requires-clause-met : goal.claim_met-requires-clause-met
-claim_met-requires-clause-met c = let h = c.colours_now-colours in head_may_colours c.args.dom.now.view h.new.dom.view h.result c.args.young h.ensures.knows c.requires.met
+claim_met-requires-clause-met c = let h = c.colours_now-colours in head_may_colours c.args.heap.now.config c.args.dom.now.view h.new.dom.view h.result c.args.young h.ensures.knows c.requires.met
 
 pub returns-clause-claimed : goal.returns-clause-claimed
 returns-clause-claimed c = let h = c.colours_now-colours in

@@ -1,4 +1,4 @@
 use Rattle.size_pools.proofs.ephemerons.write_ephemeron.Given as goal
 
-abbrev pub ghost-write_unmarked : goal.ghost-write_unmarked
-ghost-write_unmarked g a = g.entry
+abbrev pub ghost-write_coloured : goal.ghost-write_coloured
+ghost-write_coloured g a = g.entry

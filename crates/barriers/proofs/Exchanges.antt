@@ -1,0 +1,63 @@
+-- The exchange of an unmarked block's head.
+use Rattle.std.proofs.Common.{◌≡◌, ℕ, Bool, Some, None, Option, ⊎_elim, inl, inr, sym, refl, ap, subst, ◌∙◌}
+use Rattle.heap_model.specs.Fronts.{Shape, PlainShape, RawShape, EpheShape}
+use Rattle.heap_words.specs.declared.colours.Colours.{Colours}
+use Rattle.heap_words.specs.declared.head.Head.{Head}
+use Rattle.heap_words.specs.declared.head.Head.TheVariants.{Free, Plain, Ephe, Forward}
+use Rattle.heap_words.specs.ColourWords.{IsPermutation}
+use Rattle.heap_words.specs.Heads.{IsPackableHead, head_word}
+use Rattle.heap_words.proofs.WordLemmas.{head_word-injective}
+use Rattle.heap_rule.specs.declared.view.DomainView.{DomainView}
+use Rattle.heap_rule.specs.declared.view.Known.{Known}
+use Rattle.heap_rule.specs.declared.view.Known.TheVariants.{Found}
+use Rattle.heap_rule.specs.declared.config.Config.{Config}
+use Rattle.heap_rule.specs.Places.{IsHeadOf, head_of}
+use Rattle.steps_cycle.specs.Marking.{IsMarked, IsUnmarked}
+use Rattle.steps_beside.specs.Marking.{DarkenMay, Field, Reason, TargetTold, Warrants, Weak, learning, marked_at}
+use Rattle.barriers.specs.Heads.{IsDarkened}
+use Rattle.barriers.specs.Aware.{DarkensBeside}
+
+-- the head of a word, whatever its shape is said to be
+pub one_head : (word : ℕ) (s t : Shape) (a : IsHeadOf s word) (b : IsHeadOf t word) → head_of None s a.colour a.scanned ≡ head_of None t b.colour b.scanned
+one_head word s t a b = head_word-injective (head_of None s a.colour a.scanned) (head_of None t b.colour b.scanned) a.packable b.packable (sym a.packs ∙ b.packs)
+
+abbrev colour_of : Head → ℕ
+colour_of Free = 0
+colour_of (Plain size tag colour scanned) = colour
+colour_of (Ephe keys colour scanned) = colour
+colour_of (Forward copy) = 0
+
+colour_is : (s : Shape) (colour : ℕ) (scanned : Bool) → colour_of (head_of None s colour scanned) ≡ colour
+colour_is (PlainShape size tag) colour scanned = refl
+colour_is (RawShape size tag) colour scanned = refl
+colour_is (EpheShape keys) colour scanned = refl
+
+pub one_colour : (word : ℕ) (s t : Shape) (a : IsHeadOf s word) (b : IsHeadOf t word) → a.colour ≡ b.colour
+one_colour word s t a b = sym (colour_is s a.colour a.scanned) ∙ ap colour_of (one_head word s t a b) ∙ colour_is t b.colour b.scanned
+
+pub not_both : (colours : Colours) (word : ℕ) → IsPermutation colours → IsUnmarked colours word → IsMarked colours word → ⊥
+not_both colours word p u m = p.marked_differs (sym m.colour ∙ one_colour word m.shape u.shape m.head u.head ∙ u.colour)
+
+-- the colours that a domain knows are one
+pub one_meaning : (o : Option Colours) (c e : Colours) → o ≡ Some c → o ≡ Some e → e ≡ c
+one_meaning o c e a b = let h : ◌≡◌ {A = Option Colours} (Some e) (Some c) = sym b ∙ a in cc
+
+-- there is still a reason when a head was found
+still : (x : DomainView) (at : ℕ) (reason : Reason) (fact : Known) → Warrants x at reason → Warrants (learning x fact) at reason
+still x at (Field block field) fact w = inr w
+still x at (Weak register) fact w = (record { few = w.0.few; holds = w.0.holds }, w.1)
+
+-- the head that was found may be exchanged
+pub exchange_may : (k : Config) (x y : DomainView) (colours : Colours) (at word new : ℕ) (reason : Reason) → IsPermutation colours → DarkensBeside k colours at reason x → IsDarkened colours word new → TargetTold at reason x word y → DarkenMay k y at word new reason
+exchange_may k x y colours at word new reason p d n t =
+    let same : t.colours ≡ colours = one_meaning x.seen.share.colours colours t.colours d.known t.known in
+    ⊎_elim
+    (λ (f : IsUnmarked t.colours word × (y ≡ learning x (Found at word))).
+    subst (λ (v : DomainView). DarkenMay k v at word new reason) (sym f.1) record { knows = record { beside = record { runs = d.runs; armed = d.armed }; colours = colours; known = d.known }; low = d.old; found = inl refl; unmarked = n.unmarked; marks = n.marks; reason_is = still x at reason (Found at word) d.reason_is })
+    (λ (f : IsMarked t.colours word × (y ≡ marked_at x at reason)).
+    absurd (not_both colours word p n.unmarked (subst (λ (c : Colours). IsMarked c word) same f.0)))
+    t.told
+
+-- the head that was read from a word
+abbrev pub read_head : (word : ℕ) (h : Head) (s : Shape) (colour : ℕ) (scanned : Bool) → IsPackableHead h × (head_word h ≡ word) → h ≡ head_of None s colour scanned → IsHeadOf s word
+read_head word h s colour scanned f e = record { colour = colour; scanned = scanned; packable = subst IsPackableHead e f.0; packs = sym f.1 ∙ ap head_word e }

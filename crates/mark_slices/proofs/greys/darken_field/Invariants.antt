@@ -1,0 +1,8 @@
+use Rattle.steps_beside.specs.Marking.{OfScan}
+use Rattle.mark_slices.proofs.greys.darken_field.Given as goal
+
+abbrev pub ghost-beside_read : goal.ghost-beside_read
+ghost-beside_read g a = OfScan g.why.head
+
+abbrev pub ghost-darken_beside : goal.ghost-darken_beside
+ghost-darken_beside g a = g.why.reason

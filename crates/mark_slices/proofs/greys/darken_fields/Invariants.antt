@@ -1,0 +1,16 @@
+use Rattle.std.proofs.Common.{ℕ, ◌<◌}
+use Rattle.heap_rule.specs.Beside.{IsPaid}
+use Rattle.heap_rule.specs.Token.{IsIn}
+use Rattle.steps_beside.specs.Marking.{Field}
+use Rattle.mark_slices.specs.Slices.{Went}
+use Rattle.mark_slices.proofs.greys.darken_fields.Given as goal
+
+abbrev pub ghost-darken_field : goal.ghost-darken_field
+ghost-darken_field g a = record { head = g.head; reason = Field a.block a.field }
+
+abbrev pub invariant-loop-field : goal.invariant-loop-field
+invariant-loop-field g l = record {
+  here : IsIn l.dom l.heap;
+  went : Went 0 0 0 0 l.fn.dom.view l.dom.view l.fn.hints l.hints;
+  paid : (i : ℕ) → i < l.field → IsPaid l.dom.view.seen.share.known l.block i;
+}

@@ -1,0 +1,12 @@
+use Rattle.std.proofs.Common.{◌≡◌, ℕ, ◌+◌, ◌<◌}
+use Rattle.heap_rule.specs.Token.{IsIn}
+use Rattle.steps_cycle.specs.Looks.{knowing_colours}
+use Rattle.mark_slices.specs.Slices.{Went}
+use Rattle.mark_slices.proofs.slices.slice.Given as goal
+
+abbrev pub invariant-loop-count : goal.invariant-loop-count
+invariant-loop-count l = record {
+  here : IsIn l.dom l.heap;
+  some : 0 < l.left;
+  went : (gone : ℕ) × (gone + l.left ≡ 8192) × Went l.count gone (l.count + gone) 0 (knowing_colours l.fn.dom.view l.colours) l.dom.view l.fn.hints l.hints;
+}
