@@ -2,6 +2,7 @@
 # Times the marking of the major heap beside running domains: the longest pause where 95,000 blocks are marked in one pause and
 # where they are marked beside the domain, and commands a second while a collection goes on and while none does. It claims nothing.
 # With the word `words` it counts by valgrind how many words of the table the pause looks at that looks at the most, in both ways.
+# With the word `together` it times how long domains take that mark the blocks that hang from one, by 1, 2 and 4 domains.
 # With the word `stress` it times nothing: 8 domains store, load, read weakly, allocate and poll through hundreds of collections
 # and thousands of pauses, 200,000 commands in all, 20 times each, with threads and without. Each output is checked, and the runs
 # that hang or print something wrong are counted. It ends with 1 where there is one. With the word `window` the domains run in
@@ -325,12 +326,47 @@ speed() {
     done
 }
 
+# A script of $1 domains that make $2 blocks together, which hang from the fields of the shared block by blocks of 126 fields.
+# They all wait for the others with commands that do nothing, run the command $3, and poll until all can be marked.
+wide() {
+    awk -v domains="$1" -v blocks="$2" -v command="$3" 'BEGIN {
+        print "heap 1"
+        polls = int(blocks / 256) + 50
+        for (d = 0; d < domains; d++) {
+            print "domain " d "\nallocmaj 1 0 126\nstore 0 " d " 1"
+            for (k = 0; k < blocks / domains; k++) {
+                if (k % 15876 == 0) print "allocmaj 2 0 126\nstore 1 " int(k / 15876) " 2"
+                if (k % 126 == 0) print "allocmaj 3 0 126\nstore 2 " int(k / 126) % 126 " 3"
+                print "allocmaj 4 0 1\nstore 3 " k % 126 " 4"
+            }
+            print "drop 1\ndrop 2\ndrop 3\ndrop 4"
+            for (k = 0; k < 15000 / domains; k++) print "int 5 0"
+            print command
+            for (k = 0; k < polls; k++) print "poll"
+        }
+    }'
+}
+
+# How long the marking of blocks takes that hang from one block, by 1, 2 and 4 domains that poll.
+together() {
+    local domains command blocks=${BLOCKS:-90000}
+    for domains in 1 2 4; do
+        for command in minor major; do
+            wide "$domains" "$blocks" "$command" >"$work/script"
+            echo "$command $(seconds "$domains")"
+        done | awk -v d="$domains" -v blocks="$blocks" '
+            { t[$1] = $2 }
+            END { printf "%d blocks marked by %d domains that poll: %.1f ms\n", blocks, d, 1000 * (t["major"] - t["minor"]) }'
+    done
+}
+
 echo "processors: $(nproc), load: $(cut -d' ' -f1 /proc/loadavg)"
 gcc -O1 -o "$work/watch" "$top/bench/watch.c"
 case ${1:-} in
     stress) stress ;;
     window) window ;;
     words) words ;;
+    together) together ;;
     *)
         longest
         speed

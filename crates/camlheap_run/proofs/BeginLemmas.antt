@@ -10,7 +10,8 @@ use Rattle.heap_rule.specs.declared.config.Config.{Config}
 use Rattle.heap_rule.specs.Limits.{sizes_in, first_outside, first_of}
 use Rattle.heap_rule.specs.Opening.{opening_token, opening_tokens}
 use Rattle.heap_rule.specs.Token.{SharedHeap}
-use Rattle.camlheap_run.specs.Running.{HasSection, most_of, opened}
+use Rattle.mark_slices.specs.Decks.{Counts, uncounted}
+use Rattle.camlheap_run.specs.Running.{HasSection, deck_of, most_of, opened}
 use Rattle.domain_turns.specs.Runs.{ephemerons_in, registrations_in}
 use Rattle.domain_turns.proofs.Beginning.{opening_begins}
 use Rattle.camlheap_run.proofs.SectionLemmas.{IsFine}
@@ -37,6 +38,16 @@ have_sections h k script from (suc n) few long fine ephemerons registrations = (
   },
   have_sections h k script (from + 1) n (omega arith) long fine ephemerons registrations,
 )
+
+-- the decks that are made are theirs
+pub decks_are : (h : SharedHeap) (k : Config) (from n : ℕ) (decks : List Counts) → length decks ≡ n → ((i : ℕ) (d : Counts) → i < n → slice_index_or decks i d ≡ uncounted (from + i) k.domains) → decks ≡ map deck_of (opening_tokens h.table k from n)
+decks_are h k from zero [] many each = refl
+decks_are h k from zero (x ∷ xs) many each = cc
+decks_are h k from (suc n) [] many each = cc
+decks_are h k from (suc n) (x ∷ xs) many each =
+    let first : x ≡ uncounted from k.domains = let at : from + 0 ≡ from = omega arith in each 0 x (omega arith) ∙ ap (λ (i : ℕ). uncounted i k.domains) at in
+    let rest : xs ≡ map deck_of (opening_tokens h.table k (from + 1) n) = decks_are h k (from + 1) n xs (omega (arith, many)) (λ i d below. let at : from + suc i ≡ (from + 1) + i = omega arith in each (suc i) d (omega (arith, below)) ∙ ap (λ (j : ℕ). uncounted j k.domains) at) in
+    (λ i. first i ∷ rest i)
 
 pub length-opening_tokens : (h : SharedHeap) (k : Config) (from n : ℕ) → length (opening_tokens h.table k from n) ≡ n
 length-opening_tokens h k from zero = refl

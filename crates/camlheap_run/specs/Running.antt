@@ -11,8 +11,7 @@ use Rattle.heap_rule.specs.Opening.{opening_tokens}
 use Rattle.heap_rule.specs.Token.{Token, SharedHeap, IsIn}
 use Rattle.heap_rule.specs.Ending.{Past, AllBegin}
 use Rattle.domain_turns.specs.Runs.{RunView, IsRun, CanBegin}
-use Rattle.mark_slices.specs.Decks.{empty_deck}
-use Rattle.mark_slices.specs.declared.hints.TheConstants.{HINTS_ROOM}
+use Rattle.mark_slices.specs.Decks.{Counts, uncounted}
 use Rattle.camlheap_run.specs.declared.begin.Begun.{Begun}
 
 -- sizes that the words of a run may ask for
@@ -29,9 +28,13 @@ most_of count (cs ∷ sections) = max (count cs) (most_of count sections)
 abbrev pub section_of : List (List Command) → Token → List Command
 section_of script t = slice_index_or script t.view.own.number []
 
--- the run of a domain's section, before its first command
+-- a domain's deck of hints, before its first command
+abbrev pub deck_of : Token → Counts
+deck_of t = uncounted t.view.own.number t.config.domains
+
+-- the run of its section
 abbrev pub opened : List (List Command) → Token → RunView
-opened script t = record { token = t; commands = section_of script t; next = 0; replies = []; ended = false; left = None; asked = None; collected = false; cut = false; whole = true; due = 0; hints = empty_deck HINTS_ROOM }
+opened script t = record { token = t; commands = section_of script t; next = 0; replies = []; ended = false; left = None; asked = None; collected = false; cut = false; whole = true; due = 0; hints = deck_of t }
 
 -- the domain has a section, and may begin it
 pub record HasSection (script : List (List Command)) (t : Token) : Type 0 where

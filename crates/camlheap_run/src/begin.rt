@@ -3,7 +3,7 @@ ghost use Rattle.std.specs.Prelude.{◌≡◌, ◌≤◌, None, map, IfOk};
 ghost use Rattle.std.specs.List.{AllByRecursion};
 ghost use Rattle.heap_rule.specs.Limits.{first_outside, sizes_in};
 ghost use Rattle.camlheap_run.specs.Reading.{IsSpelled};
-ghost use Rattle.camlheap_run.specs.Running.{AreRunSizes, HasSection, IsBegun, most_of, opened};
+ghost use Rattle.camlheap_run.specs.Running.{AreRunSizes, HasSection, IsBegun, deck_of, most_of, opened};
 ghost use Rattle.domain_turns.specs.Runs.{ephemerons_in, registrations_in};
 
 use domain_turns::DomainRun;
@@ -11,7 +11,7 @@ use heap_model::command::Command;
 use heap_model::state::Sizes;
 use heap_rule::{Config, Domain, Heap, StartFault};
 use heap_text::Script;
-use mark_slices::{HINTS_ROOM, Hints};
+use mark_slices::Hints;
 use std::alloc::{AllocError, Global};
 
 /// A heap with a run for each domain, none of which has made a command yet.
@@ -86,20 +86,22 @@ pub(crate) fn config_of(sizes: &Sizes, script: &Script) -> Config
     }
 }
 
-// A run of each domain's section, in the order of the domains, each with room for hints of its own.
+// A run of each domain's section, in the order of the domains, each with its own of these decks.
 fn runs_of(
     alloc: Global,
     domains: Vec<Domain>,
+    mut decks: Vec<Hints>,
     script: &Script,
 ) -> Result<Vec<DomainRun>, AllocError>
-    requires { AllByRecursion (HasSection script.now) domains.items }
+    requires sections { AllByRecursion (HasSection script.now) domains.items }
+    requires decks { decks.items ≡ map deck_of domains.items }
     ensures { IfOk result (λ runs. runs.items ≡ map (opened script.now) domains.items) }
 {
     let mut runs = Vec::new(alloc);
     'domains: for domain in domains {
         let section = script.section(domain.number() as usize);
         let commands = Vec::from_slice(alloc, section)?;
-        let hints = Hints::make(alloc, HINTS_ROOM)?;
+        let hints = decks.remove(0);
         runs.push(DomainRun::make(alloc, domain, hints, commands)?)?;
     }
     Ok(runs)
@@ -119,6 +121,7 @@ pub(crate) fn begin(alloc: Global, config: Config, script: &Script) -> Result<Be
         Err(StartFault::Config(_)) => unreachable!(),
     };
     let room = Vec::with_capacity(alloc, domains.len())?;
-    let runs = runs_of(alloc, domains, script)?;
+    let decks = Hints::make(alloc, config.domains)?;
+    let runs = runs_of(alloc, domains, decks, script)?;
     Ok(Begun { heap, runs, room })
 }

@@ -17,7 +17,8 @@ use Rattle.heap_rule.specs.declared.view.Hunt.TheVariants.{Rests}
 use Rattle.heap_rule.specs.declared.view.Finalisers.{Finalisers}
 use Rattle.steps_finalisers.specs.Registering.{count_of}
 use Rattle.domain_turns.specs.Pausing.{due_of}
-use Rattle.mark_slices.specs.Decks.{Deck}
+use Rattle.mark_slices.specs.Decks.{Counts, StaysDeck}
+use Rattle.mark_slices.specs.Slices.{IsDeckOf}
 use Rattle.domain_turns.specs.Runs.{RunView, IsRun, IsBetween, ephemerons_in, registrations_in, is_end_of}
 use Rattle.domain_turns.proofs.Owing.{due_on}
 use Rattle.remembered_set.specs.Bounded.{Bounded}
@@ -47,8 +48,12 @@ at_most a b c ab bc = omega arith
 same_room : (a b : Bounded ℕ) → b ≡ a → a.room ≤ b.room
 same_room a b is = let rooms : b.room ≡ a.room = ap (λ (l : Bounded ℕ). l.room) is in omega arith
 
-pub moved_is_run : (r : RunView) (new : Token) (left : Option Kind) (asked : Option ℕ) (collected cut whole : Bool) (hints : Deck) → IsRun r → Moves r.token new → IsBetween left asked collected cut whole new → IsRun (record r { token = new; left = left; asked = asked; collected = collected; cut = cut; whole = whole; hints = hints })
-moved_is_run r new left asked collected cut whole hints is m between =
+-- the deck is still the domain's
+pub deck_on : (r : RunView) (new : Token) (hints : Counts) → new.view.own.number ≡ r.token.view.own.number → new.config ≡ r.token.config → StaysDeck r.hints hints → IsDeckOf r.token.config r.token.view r.hints → IsDeckOf new.config new.view hints
+deck_on r new hints number config stays is = record { number = stays.number ∙ (is.number ∙ sym number); domains = stays.domains ∙ (is.domains ∙ ap (λ (c : Config). c.domains) (sym config)) }
+
+pub moved_is_run : (r : RunView) (new : Token) (left : Option Kind) (asked : Option ℕ) (collected cut whole : Bool) (hints : Counts) → IsRun r → StaysDeck r.hints hints → Moves r.token new → IsBetween left asked collected cut whole new → IsRun (record r { token = new; left = left; asked = asked; collected = collected; cut = cut; whole = whole; hints = hints })
+moved_is_run r new left asked collected cut whole hints is stays m between =
     let d : ℕ = r.token.view.own.number in
     let k : Config = r.token.config in
     let old : List Entry = r.token.view.seen.front in
@@ -75,6 +80,7 @@ moved_is_run r new left asked collected cut whole hints is m between =
       owes = λ running. subst (λ (c : Config). due_of c new.view ≡ r.due) (sym m.config) (due_on k r.token.view new.view m.number m.front ∙ is.owes running);
       between = between;
       labels = subst (λ (n : ℕ). n ≤ 4000000000 + r.next) (sym m.serial) is.labels;
+      deck = deck_on r new hints m.number m.config stays is.deck;
       done = is.done;
       over = λ ended. subst (λ (x : ℕ × List Entry). IsTrue (list_any (is_end_of x.0) x.1)) (λ i. (sym m.number i, sym m.front.appends i)) (any_append (is_end_of d) old rest (is.over ended));
     }

@@ -21,11 +21,12 @@ use Rattle.heap_rule.specs.declared.phase.Kind.TheVariants.{Answer}
 use Rattle.heap_rule.specs.Rule.{state_of}
 use Rattle.barriers.specs.Aware.{Learnt, aware_as}
 use Rattle.steps_cycle.specs.Arming.{knowing_armed}
-use Rattle.mark_slices.specs.Decks.{Deck}
+use Rattle.mark_slices.specs.Decks.{Counts, StaysDeck}
 use Rattle.steps_pauses.specs.Pauses.{cut_in, forgotten}
 use Rattle.domain_turns.specs.Pausing.{AnswersLive, due_of}
 use Rattle.domain_turns.proofs.LeavingLemmas.{answer_between}
-use Rattle.domain_turns.proofs.Moving.{moved_is_run, still_moves}
+use Rattle.mark_slices.proofs.Going.{stays_same}
+use Rattle.domain_turns.proofs.Moving.{deck_on, moved_is_run, still_moves}
 use Rattle.heap_rule.specs.declared.view.Own.{Own}
 use Rattle.heap_rule.specs.declared.view.DomainView.{DomainView}
 use Rattle.steps_finalisers.specs.Registering.{count_of}
@@ -167,9 +168,9 @@ record HasMade (old new : Token) (c : model.Command) (full : Bool) (reply : Repl
   answers : Answers (sizes_in old.config) old.view.own.number old.view.seen.front new.view.seen.front (CommandOf old.view.own.number c full) (Replied reply)
 
 -- the entry of the next command was made, and its reply kept
-made_is_run : (r : RunView) (new : Token) (c : model.Command) (full : Bool) (reply : Reply) (left : Option Kind) (cut : Bool) (due : ℕ) (hints : Deck) → IsRun r → r.ended ≡ false → slice_get r.commands r.next ≡ Some c → HasMade r.token new c full reply due → IsBetween left None false cut r.whole new
+made_is_run : (r : RunView) (new : Token) (c : model.Command) (full : Bool) (reply : Reply) (left : Option Kind) (cut : Bool) (due : ℕ) (hints : Counts) → StaysDeck r.hints hints → IsRun r → r.ended ≡ false → slice_get r.commands r.next ≡ Some c → HasMade r.token new c full reply due → IsBetween left None false cut r.whole new
     → IsRun (record r { token = new; next = r.next + 1; replies = r.replies ++ reply ∷ []; left = left; asked = None; collected = false; cut = cut; due = due; hints = hints })
-made_is_run r new c full reply left cut due hints is running at m between =
+made_is_run r new c full reply left cut due hints stays is running at m between =
     let d : ℕ = r.token.view.own.number in
     let z = sizes_in r.token.config in
     let e : Entry = CommandOf d c full in
@@ -202,6 +203,7 @@ made_is_run r new c full reply left cut due hints is running at m between =
       owes = λ _. subst (λ (k : Config). due_of k new.view ≡ due) (sym m.config) m.owes;
       between = between;
       labels = let few = m.serial in let l = is.labels in let n : ℕ = r.next in omega arith;
+      deck = deck_on r new hints m.number m.config stays is.deck;
       done = λ ended. let clash : false ≡ true = sym running ∙ ended in cc;
       over = λ ended. let clash : false ≡ true = sym running ∙ ended in cc;
     }
@@ -220,14 +222,14 @@ tried_is_run h r new c reply own served is running left at t ready =
     let d : ℕ = r.token.view.own.number in
     let owes : due_of r.token.config new.view ≡ 0 = ap (λ (n : ℕ). due_at (state_of r.token.config new.view.seen.front) n) number
     ∙ command_due (sizes_in r.token.config) d r.token.view.seen.front new.view.seen.front c st.0 (Replied reply) st.1 (not_full h.config own served c ready) in
-    made_is_run r new c st.0 reply r.left r.cut 0 r.hints is running at
+    made_is_run r new c st.0 reply r.left r.cut 0 r.hints (stays_same r.hints) is running at
     record { listed = subst (λ (o : Own). count_of o.finalisers ≤ registrations_of c + count_of r.token.view.own.finalisers) (sym t.own) (enlisted_count c r.token.view.own); owes = owes; config = t.heap.1; number = ap (λ (o : Own). o.number) t.own; serial = omega (arith, serial, few); room = λ n fits. subst (λ (o : Own). n ≤ o.ephemerons.room) (sym t.own) (room_left c reply r.token.view.own new.view.own n fits); idle = t.runs.idle; at_rest = t.runs.at_rest; answers = st.1 }
     (subst (λ (l : Option Kind). IsBetween l None false r.cut r.whole new) (sym left) (tried_between h r.token new c reply r.asked r.collected r.cut r.whole (subst (λ (l : Option Kind). IsBetween l r.asked r.collected r.cut r.whole r.token) left is.between) t))
 
 -- the same where a collection is answered by the reply of a `full_major`
-pub answered_is_run : (h : SharedHeap) (r : RunView) (new : Token) (reply : Reply) (last : Kind) (hints : Deck) → IsRun r → r.ended ≡ false → slice_get r.commands r.next ≡ Some FullMajor → IsIn r.token h → IsIn new h → AnswersLive h.config r.token.view new.view reply
+pub answered_is_run : (h : SharedHeap) (r : RunView) (new : Token) (reply : Reply) (last : Kind) (hints : Counts) → StaysDeck r.hints hints → IsRun r → r.ended ≡ false → slice_get r.commands r.next ≡ Some FullMajor → IsIn r.token h → IsIn new h → AnswersLive h.config r.token.view new.view reply
     → IsRun (record r { token = new; next = r.next + 1; replies = r.replies ++ reply ∷ []; left = Some Answer; asked = None; collected = false; cut = cut_in last r.cut; due = length new.view.own.finalisers.queue.items; hints = hints })
-answered_is_run h r new reply last hints is running at was here a =
+answered_is_run h r new reply last hints stays is running at was here a =
     let passed = a.comes.passed.view in
     let own : new.view.own ≡ record a.begun.own { arrivals = a.begun.own.arrivals + 1; pending = forgotten a.begun.own.pending } = ap (λ (x : DomainView). x.own) a.view in
     let config : new.config ≡ r.token.config = here.1 ∙ sym was.1 in
@@ -237,7 +239,7 @@ answered_is_run h r new reply last hints is running at was here a =
     let answers : Answers (sizes_in h.config) r.token.view.own.number r.token.view.seen.front new.view.seen.front entry (Replied reply) =
     subst (λ (f : List Entry). Answers (sizes_in h.config) r.token.view.own.number r.token.view.seen.front f entry (Replied reply)) (sym front)
     (answers_after (sizes_in h.config) r.token.view.own.number r.token.view.seen.front a.begun.seen.front a.front entry (Replied reply) a.comes.passed.seen a.answers) in
-    made_is_run r new FullMajor false reply (Some Answer) (cut_in last r.cut) (length new.view.own.finalisers.queue.items) hints is running at
+    made_is_run r new FullMajor false reply (Some Answer) (cut_in last r.cut) (length new.view.own.finalisers.queue.items) hints stays is running at
     record {
       config = config;
       number = ap (λ (o : Own). o.number) own ∙ ap (λ (x : DomainView). x.own.number) passed;
@@ -286,6 +288,7 @@ ended_is_run h r new is left whole t =
       owes = λ running. cc;
       between = subst (λ (l : Option Kind). IsBetween l r.asked false r.cut r.whole new) (sym left) (ended_between h r.token new r.asked r.collected r.cut r.whole (subst (λ (l : Option Kind). IsBetween l r.asked r.collected r.cut r.whole r.token) left is.between) t);
       labels = omega (arith, is.labels, serial);
+      deck = deck_on r new r.hints number t.heap.1 (stays_same r.hints) is.deck;
       done = λ ended. omega (arith, is.within, whole);
       over = λ ended. subst (λ (n : ℕ). IsTrue (list_any (is_end_of n) new.view.seen.front)) (sym number)
           (subst (λ (front : List Entry). IsTrue (list_any (is_end_of d) front)) (sym t.answers.appends) (any_last (is_end_of d) (r.token.view.seen.front ++ t.answers.between) (End d) (eq-eqb d d refl)));
@@ -348,13 +351,14 @@ ran_is_run h r new ran is running left was here goes f =
       owes = λ _. subst (λ (c : Config). due_of c new.view ≡ length new.view.own.finalisers.queue.items) (sym here.1) f.due;
       between = subst (λ (l : Option Kind). IsBetween l r.asked r.collected r.cut r.whole new) (sym left) (ran_between h r.token new ran r.asked r.collected r.cut r.whole config (sym was.1) (subst (λ (l : Option Kind). IsBetween l r.asked r.collected r.cut r.whole r.token) left is.between) f);
       labels = omega (arith, is.labels, serial);
+      deck = deck_on r new r.hints number config (stays_same r.hints) is.deck;
       done = λ ended. let clash : false ≡ true = sym running ∙ ended in cc;
       over = λ ended. let clash : false ≡ true = sym running ∙ ended in cc;
     }
 
 -- a domain that has marked beside the others is where it was
-pub marked_is_run : (h : SharedHeap) (r : RunView) (new : Token) (hints : Deck) → IsRun r → r.left ≡ None → IsIn r.token h → IsIn new h → Learnt r.token.view new.view → new.view.seen.share.weak ≡ r.token.view.seen.share.weak → IsRun (record r { token = new; hints = hints })
-marked_is_run h r new hints is left was here learnt weak =
+pub marked_is_run : (h : SharedHeap) (r : RunView) (new : Token) (hints : Counts) → StaysDeck r.hints hints → IsRun r → r.left ≡ None → IsIn r.token h → IsIn new h → Learnt r.token.view new.view → new.view.seen.share.weak ≡ r.token.view.seen.share.weak → IsRun (record r { token = new; hints = hints })
+marked_is_run h r new hints stays is left was here learnt weak =
     let config : new.config ≡ r.token.config = here.1 ∙ sym was.1 in
     let v = learnt.view in
     let old : IsBetween None r.asked r.collected r.cut r.whole r.token = subst (λ (l : Option Kind). IsBetween l r.asked r.collected r.cut r.whole r.token) left is.between in
@@ -369,7 +373,7 @@ marked_is_run h r new hints is left was here learnt weak =
       knows_cut = λ known left. cc;
       knows_whole = λ known left. cc;
     } in
-    moved_is_run r new r.left r.asked r.collected r.cut r.whole hints is (still_moves h r.token new _ was here v refl refl refl refl refl refl refl) (subst (λ (l : Option Kind). IsBetween l r.asked r.collected r.cut r.whole new) (sym left) between)
+    moved_is_run r new r.left r.asked r.collected r.cut r.whole hints is stays (still_moves h r.token new _ was here v refl refl refl refl refl refl refl) (subst (λ (l : Option Kind). IsBetween l r.asked r.collected r.cut r.whole new) (sym left) between)
 
 -- who has found whether a collection goes on has learnt that
 pub armed_learns : (x y : DomainView) (armed : Bool) → y ≡ knowing_armed x armed → Learnt x y

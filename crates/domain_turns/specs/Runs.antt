@@ -23,7 +23,8 @@ use Rattle.heap_rule.specs.Copies.{nothing_copied}
 use Rattle.heap_rule.specs.Running.{RemembersAll}
 use Rattle.steps_pauses.specs.Pauses.{noted, arrived_view, cut_in, ended_own, whole_after, IsModeOf}
 use Rattle.barriers.specs.Aware.{Learnt, scanned_in}
-use Rattle.mark_slices.specs.Decks.{Deck, Rises, last_count}
+use Rattle.mark_slices.specs.Decks.{AllMissed, Counts, HasTaken}
+use Rattle.mark_slices.specs.Slices.{IsDeckOf}
 use Rattle.steps_finalisers.specs.Registering.{count_of}
 use Rattle.finaliser_queues.specs.declared.running.Ran.{Ran}
 use Rattle.finaliser_queues.specs.Running.{RanFirst, reply_of}
@@ -41,7 +42,7 @@ use Rattle.heap_rule.specs.Token.{Token, SharedHeap, IsIn}
 use Rattle.domain_turns.specs.Pausing.{IsQuiet, HasLeft, KnowsCut, KnowsWhole, LeavesEven, LeavesOdd, GivesBack, AnswersLive, IsCollected, due_of}
 use Rattle.domain_turns.specs.Tries.{FitsHeap, IsFresh, NeedsPause, Refused, Tried, ephemerons_of, registrations_of, wish_of}
 
--- a run: the domain's token, its commands, the place of the next one, its replies, whether its trace has ended, where the domain has arrived from which kind of phase, how often it had arrived when it asked for a pause for the next command, whether the last pause since then was a complete collection that left so many blocks that they may use up the pools, whether, for domain 0, the collection under way is past its cut, and whether it began in this pause, how many finalisers the domain owes before its next `full_major`, and the blocks that it has noted to be scanned
+-- a run: the domain's token, its commands, the place of the next one, its replies, whether its trace has ended, where the domain has arrived from which kind of phase, how often it had arrived when it asked for a pause for the next command, whether the last pause since then was a complete collection that left so many blocks that they may use up the pools, whether, for domain 0, the collection under way is past its cut, and whether it began in this pause, how many finalisers the domain owes before its next `full_major`, and what its deck of hints has counted
 pub record RunView : Type 0 where
   pub token : Token
   pub commands : List model.Command
@@ -54,7 +55,7 @@ pub record RunView : Type 0 where
   pub cut : Bool
   pub whole : Bool
   pub due : ℕ
-  pub hints : Deck
+  pub hints : Counts
 
 -- whether an entry is the end of domain d
 abbrev pub is_end_of : ℕ → Entry → Bool
@@ -135,6 +136,7 @@ pub record IsRun (r : RunView) : Type 0 where
   pub owes : r.ended ≡ false → due_of r.token.config r.token.view ≡ r.due
   pub between : IsBetween r.left r.asked r.collected r.cut r.whole r.token
   pub labels : r.token.view.own.serial ≤ 4000000000 + r.next
+  pub deck : IsDeckOf r.token.config r.token.view r.hints
   pub done : r.ended ≡ true → r.next ≡ length r.commands
   pub over : r.ended ≡ true → IsTrue (list_any (is_end_of r.token.view.own.number) r.token.view.seen.front)
 
@@ -206,10 +208,10 @@ TrialAnswers h old new c (Some want) =
 abbrev pub noted_token : Token → Note → Token
 noted_token t note = record t { view = noted t.view note }
 
--- how marking in a poll ended: the domain had noted no block more that is to be scanned, or it has scanned 256 blocks, or has taken 8192 of those that it had noted
-abbrev pub MarkingEnds : DomainView → DomainView → Deck → Deck → Bool → Type 0
-MarkingEnds x y l m true = Rises 1 l.misses m.misses
-MarkingEnds x y l m false = (scanned_in y.seen.share.known ≡ scanned_in x.seen.share.known + 256) ⊎ ((l.taken + 8192 ≤ m.taken) ⊎ (last_count ≤ m.taken))
+-- how marking in a poll ended: each domain was found without a hint of a block to be scanned, or the domain has scanned 256 blocks, or has taken 8192 hints
+abbrev pub MarkingEnds : DomainView → DomainView → Counts → Counts → Bool → Type 0
+MarkingEnds x y l m true = AllMissed l m
+MarkingEnds x y l m false = (scanned_in y.seen.share.known ≡ scanned_in x.seen.share.known + 256) ⊎ HasTaken 8192 l m
 
 -- the domain found whether a collection goes on beside running domains. Where one does it has marked blocks, and else it has not
 pub record MarksBeside (h : SharedHeap) (old new : RunView) (spent : Bool) : Type 0 where
@@ -227,7 +229,7 @@ abbrev pub asking_end : Bool → RunView → RunView
 asking_end false r = r
 asking_end true r = record r { token = noted_token r.token (Asked (bit_of Finish)) }
 
--- a turn made the entry of a poll, where no finaliser waited. Before it the domain marked beside the others, where a collection goes on, and where it had noted no block more it asked for the end of the collection
+-- a turn made the entry of a poll, where no finaliser waited. Before it the domain marked beside the others, where a collection goes on, and where it found no hint of a block more it asked for the end of the collection
 pub record Polls (h : SharedHeap) (old new : RunView) : Type 0 where
   pub spent : Bool
   pub marked : RunView

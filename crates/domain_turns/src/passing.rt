@@ -10,6 +10,7 @@ ghost use Rattle.heap_rule.specs.Running.{RemembersAll};
 ghost use Rattle.heap_rule.specs.Token.{IsIn};
 ghost use Rattle.heap_rule.specs.Views.{voided};
 ghost use Rattle.steps_pauses.specs.Pauses.{arrived_view};
+ghost use Rattle.mark_slices.specs.Decks.{StaysDeck};
 ghost use Rattle.domain_turns.specs.Past.{PassAnswers, left_after};
 ghost use Rattle.domain_turns.specs.Pausing.{IsQuiet, HasLeft, KnowsCut, KnowsWhole, LeavesEven, LeavesOdd, LeavesPromote, LeavesReset, IsReady, AnswersFrom, LivesAs, due_of};
 
@@ -102,6 +103,7 @@ fn leave_even(heap: &Heap, dom: &mut Domain, kind: Kind, hints: &mut Hints)
     requires ready { IsReady heap.now.config kind dom.old.view }
     ensures here { IsIn dom.new heap.now }
     ensures leaves { LeavesEven heap.now.config kind dom.old.view dom.new.view }
+    ensures deck { StaysDeck hints.old hints.new }
 {
     match kind {
         Kind::Run | Kind::Answer => unreachable!(),
@@ -175,6 +177,7 @@ pub(crate) fn pass(
     requires paid { live ≡ true → due_of heap.now.config dom.old.view ≡ 0 }
     ensures here { IsIn dom.new heap.now }
     ensures answer { PassAnswers heap.now.config dom.old.view dom.new.view last live result }
+    ensures deck { StaysDeck hints.old hints.new }
 {
     match look(heap, dom) {
         Look::NotAll(b) => Past::Waits(b),

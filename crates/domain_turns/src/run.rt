@@ -2,6 +2,7 @@
 ghost use Rattle.std.specs.Prelude.{◌≡◌, ◌↔◌, ◌<◌, true, false, [], length, take, IfOk, None};
 ghost use Rattle.heap_model.specs.History.{commands as commands_of, replies as replies_of};
 ghost use Rattle.heap_rule.specs.Limits.{sizes_in};
+ghost use Rattle.mark_slices.specs.Slices.{IsDeckOf};
 ghost use Rattle.domain_turns.specs.Runs.{CanBegin, IsRun};
 
 use heap_model::command::Command;
@@ -33,7 +34,7 @@ pub struct DomainRun {
     // How many finalisers the domain owes before its next `full_major`: those that waited in its queue
     // after its last one.
     pub(crate) due: usize,
-    // Blocks that the domain has darkened, and is to scan.
+    // Hints of the blocks that are to be scanned.
     pub(crate) hints: Hints,
 }
 
@@ -53,7 +54,7 @@ impl DomainRun {
     /// history so far; there are at most 200,000 commands, each of a kind that runs on the shared heap
     /// and with its numbers in their ranges; the domain has room for as many ephemerons as they make
     /// and as many finalisers as they register, and none is registered so far; at most 4,000,000,000
-    /// labels were made. The room for the replies is reserved here: each command answers once, and so
+    /// labels were made. The hints are the domain's, among those of all domains. The room for the replies is reserved here: each command answers once, and so
     /// does each finaliser that it registers. Fails for want of memory alone, and then the domain is
     /// given up.
     #[tactic(auto, using(crate::proofs::Beginning::begins_between, crate::proofs::Beginning::begins_enlisted, crate::proofs::Beginning::begins_replied))]
@@ -64,6 +65,7 @@ impl DomainRun {
         commands: Vec<Command>,
     ) -> Result<DomainRun, AllocError>
         requires begins { CanBegin dom commands.items }
+        requires deck { IsDeckOf dom.config dom.view hints }
         ensures { IfOk result (λ r. r ≡ record { token = dom; commands = commands.items; next = 0; replies = []; ended = false; left = None; asked = None; collected = false; cut = false; whole = true; due = 0; hints = hints }) }
     {
         let replies = Vec::with_capacity(alloc, 2 * commands.len())?;

@@ -142,7 +142,7 @@ fn wish(heap: &Heap, run: &mut DomainRun, want: Want)
 const SLICE: u32 = 256;
 
 // Marks blocks beside the other domains, where a collection goes on beside running domains. Answers
-// whether the domain had noted no block more that is to be scanned.
+// whether it found no hint of a block more that is to be scanned.
 fn mark_beside(heap: &Heap, run: &mut DomainRun) -> bool
     requires here { IsIn run.old.token heap.now }
     requires left { run.old.left ≡ None }

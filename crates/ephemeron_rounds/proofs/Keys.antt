@@ -1,5 +1,5 @@
 -- A look at an ephemeron: its keys and its datum.
-use Rattle.std.proofs.Common.{◌≡◌, ℕ, ◌+◌, ◌<◌, ◌≤◌, ◌⊎◌, Bool, true, false, MatchBool, ◌∷◌, ⊎_elim, sym, refl, ap, subst, ◌∙◌}
+use Rattle.std.proofs.Common.{◌≡◌, ℕ, ◌+◌, ◌<◌, ◌≤◌, ◌⊎◌, Bool, true, false, MatchBool, cond, ◌∷◌, ⊎_elim, sym, refl, ap, subst, ◌∙◌}
 use Rattle.heap_words.specs.declared.colours.Colours.{Colours}
 use Rattle.heap_words.specs.declared.value.Value.{Value}
 use Rattle.heap_words.specs.declared.value.Value.TheVariants.{Int, Ref, Nothing}
@@ -116,7 +116,7 @@ module _ (k : Config) (x y : DomainView) (at count word : ℕ) (v : Value) (scan
     datum_darkens colours d = subst (Darkens colours a OfDatum) (sym datum_view) record { kind = Rounds; stage = d.stage; darkening = tt; known = d.known; reason_is = (at, d.stage, refl) }
 
     pub datum_darkened : (z : DomainView) (won : Bool) (colours : Colours) → Darkening colours x → z ≡ darkened OfDatum a won y → Through at won x z
-    datum_darkened z won colours d e = subst (Through at won x) (sym (e ∙ ap (darkened OfDatum a won) datum_view ∙ ap (λ (o : Bool). with_share x (record (ended_at at x.seen.share) { found_head = (darkened OfDatum a won (with_scan x (Datum at a))).seen.share.found_head; marked = a ∷ x.seen.share.marked; owes = o })) (ap (λ (s : Stage). owes_after s won x.seen.share.owes) d.stage))) record { view = refl }
+    datum_darkened z won colours d e = subst (Through at won x) (sym (e ∙ ap (darkened OfDatum a won) datum_view ∙ ap (λ (o : Bool). with_share x (record (ended_at at x.seen.share) { found_head = (darkened OfDatum a won (with_scan x (Datum at a))).seen.share.found_head; marked = a ∷ x.seen.share.marked; darkenings = x.seen.share.darkenings + cond won 1 0; owes = o })) (ap (λ (s : Stage). owes_after s won x.seen.share.owes) d.stage))) record { view = refl }
 
   -- it refers to none
   pub datum_passed : ((a : ℕ) → v ≡ Ref a → ⊥) → Through at false x y

@@ -338,6 +338,8 @@ pub struct Share {
     pub roots: LinkedList<u8>,
     /// Blocks that are marked.
     pub marked: LinkedList<u32>,
+    /// How many blocks it has darkened in the phase.
+    pub darkenings: u64,
     /// The own blocks that it has counted, up to this place of the pools, and the words that they have.
     pub counted: LinkedList<u32>,
     pub counted_to: Spot,

@@ -7,7 +7,6 @@ use Rattle.heap_words.specs.ColourWords.{IsPermutation}
 use Rattle.heap_rule.specs.declared.config.Config.{Config}
 use Rattle.heap_rule.specs.declared.view.DomainView.{DomainView}
 use Rattle.heap_rule.specs.declared.view.Known.TheVariants.{Pool, Shape as Shaped, Vain}
-use Rattle.heap_rule.specs.Layout.{heap_words}
 use Rattle.heap_rule.specs.Pools.{blocks_of, owned, owner_word, size_of}
 use Rattle.heap_rule.specs.Standing.{IsInHeap}
 use Rattle.heap_rule.proofs.Classes.{size_least, slot_inside}

@@ -5,3 +5,4 @@ pub mod Visits
 pub mod Notes
 pub mod Addresses
 pub mod Going
+pub mod Parts

@@ -1,17 +1,17 @@
--- The addresses that a domain notes, and how often it has noted and taken one.
-use Rattle.std.specs.Prelude.{◌≡◌, ℕ, ◌+◌, ◌≤◌, ◌⊎◌, List, [], length}
+-- What a deck of hints counts.
+use Rattle.std.specs.Prelude.{◌≡◌, ◌≢◌, ℕ, ◌+◌, ◌<◌, ◌≤◌, ◌⊎◌, List, replicate, slice_index}
 
--- the addresses, the last one noted last, how many more fit, how often none was found, how many were taken, and how many were noted or let go
-pub record Deck : Type 0 where
-  pub items : List ℕ
-  pub room : ℕ
-  pub misses : ℕ
+-- its domain's number, how many domains there are, how often each was found without a hint, how many hints were taken, and how many were noted or let go
+pub record Counts : Type 0 where
+  pub number : ℕ
+  pub domains : ℕ
+  pub misses : List ℕ
   pub taken : ℕ
   pub pushes : ℕ
 
--- no address is noted, so many fit, and nothing was counted so far
-abbrev pub empty_deck : ℕ → Deck
-empty_deck room = record { items = []; room = room; misses = 0; taken = 0; pushes = 0 }
+-- a domain's deck that has counted nothing so far
+abbrev pub uncounted : ℕ → ℕ → Counts
+uncounted number domains = record { number = number; domains = domains; misses = replicate 8 0; taken = 0; pushes = 0 }
 
 -- an address that lies in the pools of the largest heap
 abbrev pub IsPooled : ℕ → Type 0
@@ -27,13 +27,50 @@ pub record Rises (more count after : ℕ) : Type 0 where
   pub most : after ≤ count + more
   pub least : (count + more ≤ after) ⊎ (last_count ≤ after)
 
--- a list takes as many addresses in all as before
-abbrev pub IsAsLong : Deck → Deck → Type 0
-IsAsLong l m = m.room + length m.items ≡ l.room + length l.items
+-- how often a domain was found without a hint
+abbrev pub missed_at : Counts → ℕ → ℕ
+missed_at l d = slice_index l.misses d
 
--- and no count has fallen
-pub record NotesOn (l m : Deck) : Type 0 where
-  pub long : IsAsLong l m
-  pub misses : l.misses ≤ m.misses
+-- one hint was noted or let go
+pub record Pushed (l m : Counts) : Type 0 where
+  pub same : m ≡ record l { pushes = m.pushes }
+  pub pushes : Rises 1 l.pushes m.pushes
+
+-- one hint was taken
+pub record Took (l m : Counts) : Type 0 where
+  pub same : m ≡ record l { taken = m.taken }
+  pub taken : Rises 1 l.taken m.taken
+
+-- a domain was found without a hint
+pub record Missed (from : ℕ) (l m : Counts) : Type 0 where
+  pub same : m ≡ record l { misses = m.misses }
+  pub missed : Rises 1 (missed_at l from) (missed_at m from)
+  pub others : (d : ℕ) → d ≢ from → missed_at m d ≡ missed_at l d
+
+-- it is the same domain's deck, and no count of misses has fallen
+pub record StaysDeck (l m : Counts) : Type 0 where
+  pub number : m.number ≡ l.number
+  pub domains : m.domains ≡ l.domains
+  pub misses : (d : ℕ) → missed_at l d ≤ missed_at m d
+
+-- nor has any other
+pub record NotesOn (l m : Counts) : Type 0 where
+  pub deck : StaysDeck l m
   pub taken : l.taken ≤ m.taken
   pub pushes : l.pushes ≤ m.pushes
+
+-- a domain was found without a hint at least once, or its count stands still
+abbrev pub HasMissed : Counts → Counts → ℕ → Type 0
+HasMissed l m d = (missed_at l d < missed_at m d) ⊎ (last_count ≤ missed_at m d)
+
+-- so was each domain
+abbrev pub AllMissed : Counts → Counts → Type 0
+AllMissed l m = (d : ℕ) → d < l.domains → HasMissed l m d
+
+-- of so many blocks that were darkened, counted from a number on, each was noted, unless the count of what is noted stands still
+abbrev pub HasNoted : ℕ → ℕ → Counts → Counts → Type 0
+HasNoted before after l m = (l.pushes + after ≤ m.pushes + before) ⊎ (last_count ≤ m.pushes)
+
+-- at least so many hints were taken, unless their count stands still
+abbrev pub HasTaken : ℕ → Counts → Counts → Type 0
+HasTaken takes l m = (l.taken + takes ≤ m.taken) ⊎ (last_count ≤ m.taken)

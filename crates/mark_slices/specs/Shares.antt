@@ -38,7 +38,7 @@ owes_after _ won owes = owes
 
 -- the domain is done with the reason, and knows that the block is marked
 abbrev pub darkened : Reason → ℕ → Bool → DomainView → DomainView
-darkened reason at won x = with_share x (record (moved_on reason at x.seen.share) { owes = owes_after x.seen.stage won x.seen.share.owes })
+darkened reason at won x = with_share x (record (moved_on reason at x.seen.share) { owes = owes_after x.seen.stage won x.seen.share.owes; darkenings = x.seen.share.darkenings + cond won 1 0 })
 
 -- a register is among those whose blocks are marked
 abbrev pub IsRoot : DomainView → ℕ → Type 0
@@ -54,11 +54,11 @@ MarksRoots stage = (stage ≡ In Roots) ⊎ (stage ≡ In Queued)
 
 -- the domain with what it knows of the colours, of the head that it found last, of its roots, and of the blocks that are marked as another has it
 abbrev pub with_roots : DomainView → DomainView → DomainView
-with_roots x y = with_share x (record x.seen.share { colours = y.seen.share.colours; found_head = y.seen.share.found_head; roots = y.seen.share.roots; waiting = y.seen.share.waiting; marked = y.seen.share.marked })
+with_roots x y = with_share x (record x.seen.share { colours = y.seen.share.colours; found_head = y.seen.share.found_head; roots = y.seen.share.roots; waiting = y.seen.share.waiting; marked = y.seen.share.marked; darkenings = y.seen.share.darkenings })
 
 -- and where it has gone to its queue alone
 abbrev pub with_queue : DomainView → DomainView → DomainView
-with_queue x y = with_share x (record x.seen.share { colours = y.seen.share.colours; found_head = y.seen.share.found_head; waiting = y.seen.share.waiting; marked = y.seen.share.marked })
+with_queue x y = with_share x (record x.seen.share { colours = y.seen.share.colours; found_head = y.seen.share.found_head; waiting = y.seen.share.waiting; marked = y.seen.share.marked; darkenings = y.seen.share.darkenings })
 
 -- the domain is done with a register, and with those with which it was before
 pub record Rooted (register : ℕ) (x y : DomainView) : Type 0 where
@@ -96,7 +96,7 @@ fields_to i other = other
 
 -- what a domain knows after fields were scanned, by what another knows: who has darkened a block owes a store of the changed word
 abbrev pub scanning : Share → Share → Scan → Bool → Share
-scanning s t scan won = record s { found_head = t.found_head; scan = scan; marked = t.marked; owes = cond won true s.owes }
+scanning s t scan won = record s { found_head = t.found_head; scan = scan; marked = t.marked; darkenings = t.darkenings; owes = cond won true s.owes }
 
 -- a grey block's scan has begun: so many of its fields are to be scanned, and then its head is to be this word
 pub record Begun (colours : Colours) (at fields new : ℕ) (x : DomainView) : Type 0 where
@@ -124,11 +124,11 @@ spot_from pool class seen = if nat_le (blocks_of class) seen then record { pool 
 
 -- the walk has come to a place. Where the domain has darkened a block it owes a store of the changed word
 pub record Walked (walk : Spot) (won : Bool) (x y : DomainView) : Type 0 where
-  pub view : y ≡ with_share x (record x.seen.share { found_head = y.seen.share.found_head; marked = y.seen.share.marked; owes = cond won true x.seen.share.owes; places_seen = y.seen.share.places_seen; walk = walk; own_pool = y.seen.share.own_pool })
+  pub view : y ≡ with_share x (record x.seen.share { found_head = y.seen.share.found_head; marked = y.seen.share.marked; darkenings = y.seen.share.darkenings; owes = cond won true x.seen.share.owes; places_seen = y.seen.share.places_seen; walk = walk; own_pool = y.seen.share.own_pool })
 
 -- the domain with what it knows of the colours, of blocks and of its places as another has it
 abbrev pub with_marks : DomainView → DomainView → DomainView
-with_marks x y = with_share x (record x.seen.share { colours = y.seen.share.colours; found_head = y.seen.share.found_head; marked = y.seen.share.marked; places_seen = y.seen.share.places_seen; walk = y.seen.share.walk; own_pool = y.seen.share.own_pool })
+with_marks x y = with_share x (record x.seen.share { colours = y.seen.share.colours; found_head = y.seen.share.found_head; marked = y.seen.share.marked; darkenings = y.seen.share.darkenings; places_seen = y.seen.share.places_seen; walk = y.seen.share.walk; own_pool = y.seen.share.own_pool })
 
 -- the domain has been at each place of its own pools, and owes no store of the changed word. Nothing else has changed
 pub record AllWalked (k : Config) (x y : DomainView) : Type 0 where

@@ -3,6 +3,7 @@ use Rattle.std.specs.Prelude.{◌≡◌, ℕ, ◌+◌, ◌<◌, ◌⊎◌, true,
 use Rattle.heap_model.specs.Domains.{class_count}
 use Rattle.heap_model.specs.Fronts.{Shape}
 use Rattle.heap_words.specs.declared.colours.Colours.{Colours}
+use Rattle.heap_rule.specs.declared.config.Config.{Config}
 use Rattle.heap_rule.specs.declared.phase.Kind.TheVariants.{Run}
 use Rattle.heap_rule.specs.declared.phase.Stage.TheVariants.{In}
 use Rattle.heap_rule.specs.declared.view.DomainView.{DomainView}
@@ -13,7 +14,7 @@ use Rattle.heap_rule.specs.Pools.{blocks_of, owned, owner_word, place_in}
 use Rattle.steps_cycle.specs.Marking.{IsGrey, fields_in}
 use Rattle.steps_beside.specs.Marking.{Begins, Reason}
 use Rattle.barriers.specs.Aware.{Learnt, darkened_in, scanned_in, vain_in}
-use Rattle.mark_slices.specs.Decks.{Deck, IsAsLong, Rises}
+use Rattle.mark_slices.specs.Decks.{Counts, Rises, StaysDeck}
 
 -- a running domain, which knows the colours and that a cycle goes on
 pub record Slices (colours : Colours) (x : DomainView) : Type 0 where
@@ -60,8 +61,19 @@ pub record Scanning : Type 0 where
   pub head : ℕ
   pub reason : Reason
 
--- the domain has scanned so many blocks, and has looked at so many addresses in vain; it has taken so many of its hints, and found none so often; and it has noted each block that it has darkened
-pub record Went (scans vains takes misses : ℕ) (x y : DomainView) (l m : Deck) : Type 0 where
+-- the deck is the domain's, among those of all domains
+pub record IsDeckOf (k : Config) (x : DomainView) (l : Counts) : Type 0 where
+  pub number : l.number ≡ x.own.number
+  pub domains : l.domains ≡ k.domains
+
+-- so many hints were taken, and none was noted
+pub record Tries (takes : ℕ) (l m : Counts) : Type 0 where
+  pub deck : StaysDeck l m
+  pub taken : Rises takes l.taken m.taken
+  pub pushes : m.pushes ≡ l.pushes
+
+-- the domain has scanned so many blocks, and has looked at so many hints in vain; it has taken so many; and it has noted each block that it has darkened
+pub record Went (scans vains takes : ℕ) (x y : DomainView) (l m : Counts) : Type 0 where
   pub learnt : Learnt x y
   pub colours : y.seen.share.colours ≡ x.seen.share.colours
   pub armed : y.seen.share.armed ≡ x.seen.share.armed
@@ -72,5 +84,4 @@ pub record Went (scans vains takes misses : ℕ) (x y : DomainView) (l m : Deck)
   pub darkened : darkened_in y.seen.share.known ≡ darkened_in x.seen.share.known + darkens
   pub pushes : Rises darkens l.pushes m.pushes
   pub taken : Rises takes l.taken m.taken
-  pub missed : Rises misses l.misses m.misses
-  pub long : IsAsLong l m
+  pub deck : StaysDeck l m

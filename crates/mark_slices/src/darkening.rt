@@ -1,7 +1,8 @@
 //! The marking of a block.
-ghost use Rattle.std.specs.Prelude.{◌≡◌};
+ghost use Rattle.std.specs.Prelude.{◌≡◌, true};
 ghost use Rattle.heap_words.specs.ColourWords.{IsPermutation};
 ghost use Rattle.heap_rule.specs.Standing.{IsInHeap};
+ghost use Rattle.heap_rule.specs.Places.{IsOldAt};
 ghost use Rattle.heap_rule.specs.Token.{IsIn};
 ghost use Rattle.steps_cycle.specs.Marking.{Reason};
 ghost use Rattle.mark_slices.specs.Shares.{Darkens, darkened};
@@ -17,7 +18,7 @@ use steps_cycle::{darken_exchange, target_load};
 /// are marked, and knows the colours. Afterwards the block is marked, and the domain is done with the
 /// reason (`darkened`). Answers whether this domain has marked it, and not another before. Where it
 /// has, it owes a store of the changed word in the phases in which another may have looked at the block
-/// before.
+/// before. What it has marked lies in a pool.
 pub fn darken(heap: &Heap, dom: &mut Domain, at: u32, colours: Colours) -> bool
     ghost reason: { Reason }
     requires here { IsIn dom.old heap.now }
@@ -26,6 +27,7 @@ pub fn darken(heap: &Heap, dom: &mut Domain, at: u32, colours: Colours) -> bool
     requires darkens { Darkens colours at reason dom.old.view }
     ensures here { IsIn dom.new heap.now }
     ensures darkened { dom.new.view ≡ darkened reason at result dom.old.view }
+    ensures lies { result ≡ true → IsOldAt heap.now.config at }
 {
     let word = target_load(heap, dom, at);
     let Some(new) = darkened_head(word, colours) else {

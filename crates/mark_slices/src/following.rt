@@ -3,11 +3,10 @@ ghost use Rattle.std.specs.Prelude.{◌≡◌, ◌*◌, ◌≤◌, IsTrue, []};
 ghost use Rattle.heap_words.specs.ColourWords.{IsPermutation};
 ghost use Rattle.heap_rule.specs.Cycles.{seen_by};
 ghost use Rattle.heap_rule.specs.Token.{IsIn};
-ghost use Rattle.mark_slices.specs.Decks.{NotesOn};
 ghost use Rattle.mark_slices.specs.Shares.{Marks, Noted, Walked};
 
-use crate::hints::Hints;
 use crate::scanning::scan_block;
+use crate::trail::Trail;
 use barriers::scan_of;
 use heap_rule::{Domain, Heap};
 use heap_words::Colours;
@@ -15,24 +14,23 @@ use steps_cycle::grey_load;
 
 // Scans a block of a pool that is known to be marked, if it is grey. Answers whether the domain has
 // marked a block.
-fn follow(heap: &Heap, dom: &mut Domain, at: u32, colours: Colours, hints: &mut Hints) -> bool
+fn follow(heap: &Heap, dom: &mut Domain, at: u32, colours: Colours, trail: &mut Trail) -> bool
     requires here { IsIn dom.old heap.now }
     requires marks { Marks colours dom.old.view }
     requires meanings { IsPermutation colours }
     requires inside { (1 ≤ at) × (at ≤ heap.now.config.pools * 4096) }
     requires marked { IsTrue (seen_by dom.old.view.seen.share.marked at) }
-    requires noted { Noted heap.now.config dom.old.view.seen.share.marked hints.old.items }
+    requires noted { Noted heap.now.config dom.old.view.seen.share.marked trail.old.items }
     ensures here { IsIn dom.new heap.now }
     ensures walked { Walked dom.old.view.seen.share.walk result dom.old.view dom.new.view }
     ensures own { dom.new.view.seen.share.own_pool ≡ dom.old.view.seen.share.own_pool }
-    ensures noted { Noted heap.now.config dom.new.view.seen.share.marked hints.new.items }
-    ensures notes { NotesOn hints.old hints.new }
+    ensures noted { Noted heap.now.config dom.new.view.seen.share.marked trail.new.items }
 {
     let word = grey_load(heap, dom, at);
     let Some(block) = scan_of(word, colours) else {
         return false;
     };
-    scan_block(heap, dom, at, block, colours, hints)
+    scan_block(heap, dom, at, block, colours, trail)
 }
 
 // As many blocks as a pool has room for.
@@ -41,24 +39,23 @@ const POOL_BLOCKS: u32 = 1024;
 // The same for all blocks that are noted, those too that are noted meanwhile, the last one first. Then
 // none is noted. The domain marks each block at most once, so it never comes to more than the pools
 // have room for.
-pub(crate) fn follow_all(heap: &Heap, dom: &mut Domain, colours: Colours, hints: &mut Hints) -> bool
+pub(crate) fn follow_all(heap: &Heap, dom: &mut Domain, colours: Colours, trail: &mut Trail) -> bool
     requires here { IsIn dom.old heap.now }
     requires marks { Marks colours dom.old.view }
     requires meanings { IsPermutation colours }
-    requires noted { Noted heap.now.config dom.old.view.seen.share.marked hints.old.items }
+    requires noted { Noted heap.now.config dom.old.view.seen.share.marked trail.old.items }
     ensures here { IsIn dom.new heap.now }
     ensures walked { Walked dom.old.view.seen.share.walk result dom.old.view dom.new.view }
     ensures own { dom.new.view.seen.share.own_pool ≡ dom.old.view.seen.share.own_pool }
-    ensures none { hints.new.items ≡ [] }
-    ensures notes { NotesOn hints.old hints.new }
+    ensures none { trail.new.items ≡ [] }
 {
     let mut darkened = false;
     for _ in 0..heap.config().pools * POOL_BLOCKS {
-        let Some(at) = hints.own() else {
+        let Some(at) = trail.pop() else {
             return darkened;
         };
-        darkened |= follow(heap, dom, at, colours, hints);
+        darkened |= follow(heap, dom, at, colours, trail);
     }
-    hints.clear();
+    trail.clear();
     darkened
 }

@@ -9,7 +9,7 @@ ghost use Rattle.steps_cycle.specs.Marking.{IsGrey};
 ghost use Rattle.steps_beside.specs.Marking.{Field};
 ghost use Rattle.mark_slices.specs.Slices.{IsSized, Scanning, Slices, Went};
 
-use crate::hints::Hints;
+use crate::deck::Deck;
 use barriers::{darken_beside, scan_of};
 use heap_rule::{Domain, Heap, Reading, read_as};
 use heap_words::{Colours, Value};
@@ -18,13 +18,13 @@ use steps_beside::{beside_read, beside_scanned_store};
 
 // Darkens the block of the pools that a field of a grey block refers to, if it refers to one, and notes
 // it where this domain has darkened it.
-fn darken_field(
+fn darken_field<K: Deck>(
     heap: &Heap,
     dom: &mut Domain,
     block: u32,
     field: u32,
     colours: Colours,
-    hints: &mut Hints,
+    deck: &mut K,
 )
     ghost why: { Scanning }
     requires reason { why.reason ≡ Field block field }
@@ -35,29 +35,30 @@ fn darken_field(
     requires field { (fields : ℕ) × (field < fields) × IsSized why.head fields }
     requires inside { (1 ≤ block) × (block + field + 2 ≤ heap_words heap.now.config) }
     ensures here { IsIn dom.new heap.now }
-    ensures went { Went 0 0 0 0 dom.old.view dom.new.view hints.old hints.new }
+    ensures went { Went 0 0 0 dom.old.view dom.new.view (K.counts deck.old) (K.counts deck.new) }
     ensures paid { IsPaid dom.new.view.seen.share.known block field }
 {
     let limits = heap.config();
     let word = beside_read(heap, dom, block + 2 + field, block, field);
-    match read_as(Reading::AsValue, word) {
-        Value::Ref(address) if address <= limits.pools * POOL_WORDS => {
-            if darken_beside(heap, dom, address, colours) {
-                hints.push(address);
-            }
-        }
-        _ => {}
+    let Value::Ref(address) = read_as(Reading::AsValue, word) else {
+        return;
+    };
+    if address > limits.pools * POOL_WORDS {
+        return;
+    }
+    if darken_beside(heap, dom, address, colours) {
+        deck.push(address);
     }
 }
 
 // The same for all fields of the block.
-fn darken_fields(
+fn darken_fields<K: Deck>(
     heap: &Heap,
     dom: &mut Domain,
     block: u32,
     fields: u32,
     colours: Colours,
-    hints: &mut Hints,
+    deck: &mut K,
 )
     ghost head: { ℕ }
     requires here { IsIn dom.old heap.now }
@@ -67,23 +68,23 @@ fn darken_fields(
     requires sized { IsSized head fields }
     requires inside { (1 ≤ block) × (block ≤ heap.now.config.pools * 4096) }
     ensures here { IsIn dom.new heap.now }
-    ensures went { Went 0 0 0 0 dom.old.view dom.new.view hints.old hints.new }
+    ensures went { Went 0 0 0 dom.old.view dom.new.view (K.counts deck.old) (K.counts deck.new) }
     ensures paid { (i : ℕ) → i < fields → IsPaid dom.new.view.seen.share.known block i }
 {
     let _limits = heap.config();
     for field in 0..fields {
-        darken_field(heap, dom, block, field, colours, hints);
+        darken_field(heap, dom, block, field, colours, deck);
     }
 }
 
 // Scans the block whose head the domain has found at an address, if it is grey. Answers whether it is.
-pub(crate) fn scan_word(
+pub(crate) fn scan_word<K: Deck>(
     heap: &Heap,
     dom: &mut Domain,
     at: u32,
     word: u64,
     colours: Colours,
-    hints: &mut Hints,
+    deck: &mut K,
 ) -> bool
     ghost head: { ℕ }
     requires here { IsIn dom.old heap.now }
@@ -93,12 +94,12 @@ pub(crate) fn scan_word(
     requires shape { IsGrey colours word → IsKnown dom.old.view.seen.share.known (Shape at word) × (1 ≤ at) × (at ≤ heap.now.config.pools * 4096) }
     ensures here { IsIn dom.new heap.now }
     ensures grey { MatchBool result (IsGrey colours word) (IsGrey colours word → ⊥) }
-    ensures went { Went (cond result 1 0) 0 0 0 dom.old.view dom.new.view hints.old hints.new }
+    ensures went { Went (cond result 1 0) 0 0 dom.old.view dom.new.view (K.counts deck.old) (K.counts deck.new) }
 {
     let Some(block) = scan_of(word, colours) else {
         return false;
     };
-    darken_fields(heap, dom, at, block.fields, colours, hints);
+    darken_fields(heap, dom, at, block.fields, colours, deck);
     beside_scanned_store(heap, dom, at, block.scanned);
     true
 }

@@ -1,136 +1,164 @@
-//! The blocks that a domain has darkened, and is to scan next.
-ghost use Rattle.std.specs.Prelude.{ℕ, ◌≡◌, ◌≤◌, ◌++◌, ◌∷◌, [], List, IfOk, IfNone, IfSome};
-ghost use Rattle.heap_model.specs.Domains.{IsWithinLimits};
-ghost use Rattle.heap_rule.specs.Limits.{sizes_in};
-ghost use Rattle.mark_slices.specs.Decks.{empty_deck, IsAsLong, IsPooled, NotesOn, Rises};
-ghost use Rattle.mark_slices.specs.Shares.{Noted};
+//! The hints of a domain: the addresses of blocks that it is to scan next.
+ghost use Rattle.std.specs.Prelude.{◌≡◌, ◌<◌, ◌≤◌, ◌+◌, ℕ, true, false, length, IfOk, vec_len, slice_index_or};
+ghost use Rattle.crossbeam_deque.specs.Handles.{worker_flavor};
+ghost use Rattle.mark_slices.specs.Decks.{uncounted, Missed, NotesOn, Took};
 
-use heap_rule::Config;
-use size_classes::POOL_WORDS;
+use crate::deck::Deck;
+use crate::trail::Trail;
+use crate::workers::{
+    HINTS_ROOM, Other, Own, holds_none, make_workers, others_of, pop_hint, push_hint, steal_hint,
+};
 use std::alloc::{AllocError, Global};
 use std::marker::Model;
 
-/// How many addresses of blocks a domain can note.
-pub const HINTS_ROOM: usize = 4096;
+// How many domains there are at most.
+const MOST_DOMAINS: usize = 8;
 
-/// The addresses of blocks that a domain has darkened and not yet looked at again. `make` takes all
-/// their memory. The last one is taken first, so that a list of blocks needs room for one. Where there
-/// is no room for one more the address is let go: the block stays grey, and a later walk finds it.
+/// A domain's own deque of hints, and those of the other domains, from which it may take hints. Of its
+/// own the first one that was noted is taken first.
 ///
-/// They count how often none was found, how many were taken, and how many were noted or let go. A
-/// count never falls, and stands still at the last number.
+/// While it has noted 4096 since one that it took itself left its deque empty, or where there is no
+/// memory for one more, what it notes is let go: the block stays grey, and a later walk finds it.
 #[derive(Drop)]
 pub struct Hints {
-    addresses: Vec<u32>,
-    misses: u64,
+    number: u32,
+    domains: u32,
+    own: Own,
+    others: Vec<Other>,
+    noted: usize,
+    misses: [u64; MOST_DOMAINS],
     taken: u64,
     pushes: u64,
+    pub(crate) trail: Trail,
 }
 
 impl Model for Hints {
-    ghost use Rattle.std.specs.Prelude.{◌-◌, ◌≤◌, All, vec_len, vec_capacity};
-    ghost use Rattle.mark_slices.specs.Decks.{Deck, IsPooled};
+    ghost use Rattle.std.specs.Prelude.{◌≡◌, ◌+◌, ◌<◌, ◌≤◌, vec_len};
+    ghost use Rattle.crossbeam_deque.specs.Handles.{worker_flavor};
+    ghost use Rattle.mark_slices.specs.Decks.{Counts};
 
-    ghost Value = { Deck };
+    ghost Value = { Counts };
 
-    ghost view = { λ r. record { items = r.addresses.items; room = vec_capacity r.addresses - vec_len r.addresses; misses = r.misses; taken = r.taken; pushes = r.pushes } };
+    ghost view = { λ r. record { number = r.number; domains = r.domains; misses = r.misses; taken = r.taken; pushes = r.pushes } };
 
-    ghost invariant = { λ r. (vec_len r.addresses ≤ vec_capacity r.addresses) × All IsPooled r.addresses.items };
+    ghost invariant = { λ r. (worker_flavor r.own ≡ 0) × (vec_len r.others + 1 ≡ r.domains) × (r.number < r.domains) × (r.domains ≤ 8) };
+}
+
+// The other domains' deques, for each domain.
+fn all_others(alloc: Global, workers: &[Own]) -> Result<Vec<Vec<Other>>, AllocError>
+    ensures { IfOk result (λ v. (vec_len v ≡ length workers.now) × ((k : ℕ) (d : _) → k < vec_len v → vec_len (slice_index_or v.items k d) + 1 ≡ length workers.now)) }
+{
+    let mut all = Vec::with_capacity(alloc, workers.len())?;
+    for domain in 0..workers.len() {
+        all.push(others_of(alloc, workers, domain)?)?;
+    }
+    Ok(all)
 }
 
 impl Hints {
-    /// No address, with room for so many, all of which is taken here. Fails for want of memory alone.
-    pub fn make(alloc: Global, room: usize) -> Result<Hints, AllocError>
-        ensures { IfOk result (λ r. r ≡ empty_deck room) }
+    // The hints of a domain that has noted none.
+    fn assemble(number: u32, domains: u32, own: Own, others: Vec<Other>, trail: Trail) -> Hints
+        requires fifo { worker_flavor own ≡ 0 }
+        requires others { vec_len others + 1 ≡ domains }
+        requires inside { number < domains }
+        requires few { domains ≤ 8 }
+        ensures { result ≡ uncounted number domains }
     {
-        let addresses = Vec::with_capacity(alloc, room)?;
-        Ok(Hints {
-            addresses,
-            misses: 0,
+        Hints {
+            number,
+            domains,
+            own,
+            others,
+            noted: 0,
+            misses: [0; MOST_DOMAINS],
             taken: 0,
             pushes: 0,
-        })
-    }
-
-    /// How many more addresses fit.
-    pub fn room(&self) -> usize
-        ensures { result ≡ self.now.room }
-    {
-        self.addresses.capacity() - self.addresses.len()
-    }
-
-    /// How often none was found.
-    pub fn misses(&self) -> u64
-        ensures { result ≡ self.now.misses }
-    {
-        self.misses
-    }
-
-    /// How many were taken.
-    pub fn taken(&self) -> u64
-        ensures { result ≡ self.now.taken }
-    {
-        self.taken
-    }
-
-    /// How many were noted or let go.
-    pub fn pushes(&self) -> u64
-        ensures { result ≡ self.now.pushes }
-    {
-        self.pushes
-    }
-
-    /// Notes the address of a block of the pools, or lets it go where there is no room. Takes no memory.
-    pub fn push(&mut self, address: u32)
-        requires pooled { IsPooled address }
-        ensures noted { 1 ≤ self.old.room → self.new.items ≡ self.old.items ++ address ∷ [] }
-        ensures full { self.old.room ≡ 0 → self.new.items ≡ self.old.items }
-        ensures long { IsAsLong self.old self.new }
-        ensures pushes { Rises 1 self.old.pushes self.new.pushes }
-        ensures misses { self.new.misses ≡ self.old.misses }
-        ensures taken { self.new.taken ≡ self.old.taken }
-    {
-        self.pushes = self.pushes.saturating_add(1);
-        if self.room() > 0 {
-            self.addresses.push_reserved(address);
+            trail,
         }
     }
 
-    /// Takes the address that was noted last.
-    pub fn own(&mut self) -> Option<u32>
-        ensures pooled { IfSome result IsPooled }
-        ensures last { IfSome result (λ address. self.old.items ≡ self.new.items ++ address ∷ []) }
-        ensures none { IfNone result ((self.old.items ≡ []) × (self.new.items ≡ [])) }
-        ensures long { IsAsLong self.old self.new }
-        ensures taken { IfSome result (λ _. Rises 1 self.old.taken self.new.taken × (self.new.misses ≡ self.old.misses)) }
-        ensures misses { IfNone result (Rises 1 self.old.misses self.new.misses × (self.new.taken ≡ self.old.taken)) }
-        ensures pushes { self.new.pushes ≡ self.old.pushes }
+    /// The hints of each of so many domains, 1 to 8, in order. Fails for want of memory alone.
+    pub fn make(alloc: Global, domains: u32) -> Result<Vec<Hints>, AllocError>
+        requires some { 1 ≤ domains }
+        requires few { domains ≤ 8 }
+        ensures { IfOk result (λ v. (vec_len v ≡ domains) × ((k : ℕ) (d : _) → k < domains → slice_index_or v.items k d ≡ uncounted k domains)) }
     {
-        let Some(address) = self.addresses.pop() else {
-            self.misses = self.misses.saturating_add(1);
-            return None;
-        };
-        self.taken = self.taken.saturating_add(1);
-        Some(address)
+        let mut workers = make_workers(alloc, domains)?;
+        let mut lists = all_others(alloc, &workers)?;
+        let mut all = Vec::new(alloc);
+        for number in 0..domains {
+            let trail = Trail::make(alloc, HINTS_ROOM)?;
+            let own = workers.remove(0);
+            let others = lists.remove(0);
+            all.push(Hints::assemble(number, domains, own, others, trail))?;
+        }
+        Ok(all)
     }
 
-    // Lets all addresses go, which makes room for as many more.
+    /// The number of the domain.
+    pub fn number(&self) -> u32
+        ensures { result ≡ self.now.number }
+    {
+        self.number
+    }
+
+    /// How many domains there are.
+    pub fn domains(&self) -> u32
+        ensures { result ≡ self.now.domains }
+    {
+        self.domains
+    }
+
+    // Counts that a hint was taken, or that a domain was found without one.
+    fn count(&mut self, from: u32, took: bool)
+        requires inside { from < self.old.domains }
+        ensures took { took ≡ true → Took self.old self.new }
+        ensures missed { took ≡ false → Missed from self.old self.new }
+    {
+        if took {
+            self.taken = self.taken.saturating_add(1);
+        } else {
+            let at = from as usize;
+            self.misses[at] = self.misses[at].saturating_add(1);
+        }
+    }
+
+    // Lets all hints in the domain's own deque go.
     pub(crate) fn clear(&mut self)
-        ensures items { self.new.items ≡ [] }
         ensures notes { NotesOn self.old self.new }
     {
-        self.addresses.clear();
+        for _ in 0..HINTS_ROOM {
+            if self.own().is_none() {
+                return;
+            }
+        }
     }
 }
 
-// Notes a block that was darkened, if it lies in a pool.
-pub(crate) fn note(hints: &mut Hints, at: u32, limits: &Config)
-    requires limits { IsWithinLimits (sizes_in limits.now) }
-    requires low { 1 ≤ at }
-    ensures noted { (marked : List ℕ) → Noted limits.now marked hints.old.items → Noted limits.now (at ∷ marked) hints.new.items }
-    ensures notes { NotesOn hints.old hints.new }
-{
-    if at <= limits.pools * POOL_WORDS {
-        hints.push(at);
+impl Deck for Hints {
+    ghost counts = { λ h. h };
+
+    fn push(&mut self, address: u32) {
+        self.pushes = self.pushes.saturating_add(1);
+        if self.noted < HINTS_ROOM {
+            self.noted += 1;
+            push_hint(&mut self.own, address);
+        }
+    }
+
+    fn own(&mut self) -> Option<u32> {
+        let hint = pop_hint(&mut self.own);
+        if holds_none(&mut self.own) {
+            self.noted = 0;
+        }
+        self.count(self.number, hint.is_some());
+        hint
+    }
+
+    fn steal(&mut self, from: u32) -> Option<u32> {
+        let place = if from < self.number { from } else { from - 1 };
+        let hint = steal_hint(&mut self.others[place as usize]);
+        self.count(from, hint.is_some());
+        hint
     }
 }

@@ -5,12 +5,11 @@ ghost use Rattle.heap_words.specs.ColourWords.{IsPermutation};
 ghost use Rattle.heap_rule.specs.Pools.{blocks_of};
 ghost use Rattle.heap_rule.specs.Token.{IsIn};
 ghost use Rattle.steps_cycle.specs.Marking.{Next, Site, behind};
-ghost use Rattle.mark_slices.specs.Decks.{NotesOn};
 ghost use Rattle.mark_slices.specs.Shares.{Marks, Noted, Walked};
 
 use crate::following::follow_all;
-use crate::hints::Hints;
 use crate::scanning::scan_block;
+use crate::trail::Trail;
 use barriers::scan_of;
 use heap_rule::{Domain, Heap};
 use heap_words::Colours;
@@ -26,7 +25,7 @@ fn mark_place(
     class: u32,
     slot: u32,
     colours: Colours,
-    hints: &mut Hints,
+    trail: &mut Trail,
 ) -> bool
     ghost site: { Site }
     requires here { IsIn dom.old heap.now }
@@ -38,12 +37,11 @@ fn mark_place(
     requires own { dom.old.view.seen.share.own_pool ≡ Some (record { pool = pool; class = class }) }
     requires next { dom.old.view.seen.share.walk ≡ record { pool = pool; slot = slot } }
     requires site { site ≡ Next pool class slot }
-    requires noted { Noted heap.now.config dom.old.view.seen.share.marked hints.old.items }
+    requires noted { Noted heap.now.config dom.old.view.seen.share.marked trail.old.items }
     ensures here { IsIn dom.new heap.now }
     ensures walked { Walked (behind pool class slot) result dom.old.view dom.new.view }
     ensures own { dom.new.view.seen.share.own_pool ≡ dom.old.view.seen.share.own_pool }
-    ensures noted { Noted heap.now.config dom.new.view.seen.share.marked hints.new.items }
-    ensures notes { NotesOn hints.old hints.new }
+    ensures noted { Noted heap.now.config dom.new.view.seen.share.marked trail.new.items }
 {
     let _limits = heap.config();
     let at = place_address(pool, class, slot);
@@ -51,7 +49,7 @@ fn mark_place(
     let Some(block) = scan_of(word, colours) else {
         return false;
     };
-    scan_block(heap, dom, at, block, colours, hints)
+    scan_block(heap, dom, at, block, colours, trail)
 }
 
 // The same at all places of the pool. What was darkened is followed after each.
@@ -61,7 +59,7 @@ pub(crate) fn mark_pool(
     pool: u32,
     class: u32,
     colours: Colours,
-    hints: &mut Hints,
+    trail: &mut Trail,
 ) -> bool
     requires here { IsIn dom.old heap.now }
     requires marks { Marks colours dom.old.view }
@@ -70,16 +68,15 @@ pub(crate) fn mark_pool(
     requires class { class < class_count }
     requires own { dom.old.view.seen.share.own_pool ≡ Some (record { pool = pool; class = class }) }
     requires next { dom.old.view.seen.share.walk ≡ record { pool = pool; slot = 0 } }
-    requires none { hints.old.items ≡ [] }
+    requires none { trail.old.items ≡ [] }
     ensures here { IsIn dom.new heap.now }
     ensures walked { Walked (record { pool = pool + 1; slot = 0 }) result dom.old.view dom.new.view }
-    ensures none { hints.new.items ≡ [] }
-    ensures notes { NotesOn hints.old hints.new }
+    ensures none { trail.new.items ≡ [] }
 {
     let mut darkened = false;
     for slot in 0..class_blocks(class) {
-        darkened |= mark_place(heap, dom, pool, class, slot, colours, hints);
-        darkened |= follow_all(heap, dom, colours, hints);
+        darkened |= mark_place(heap, dom, pool, class, slot, colours, trail);
+        darkened |= follow_all(heap, dom, colours, trail);
     }
     darkened
 }

@@ -1,6 +1,7 @@
 //! What the queue of a domain keeps alive is marked.
-ghost use Rattle.std.specs.Prelude.{◌≡◌, ◌<◌, ◌≤◌, Some, IfSome, length};
+ghost use Rattle.std.specs.Prelude.{◌≡◌, ◌+◌, ◌<◌, ◌≤◌, Some, MatchOption, length};
 ghost use Rattle.heap_words.specs.ColourWords.{IsPermutation};
+ghost use Rattle.heap_rule.specs.Places.{IsOldAt};
 ghost use Rattle.heap_rule.specs.Token.{IsIn};
 ghost use Rattle.steps_cycle.specs.Looks.{HeldInside};
 ghost use Rattle.steps_cycle.specs.Marking.{OfQueue, Reason};
@@ -29,15 +30,16 @@ pub(crate) fn mark_queued(
     requires names { reason ≡ OfQueue place }
     ensures here { IsIn dom.new heap.now }
     ensures rooted { QueueRooted place dom.old.view dom.new.view }
-    ensures low { IfSome result (λ address. 1 ≤ address) }
+    ensures marked { MatchOption result (dom.new.view.seen.share.darkenings ≡ dom.old.view.seen.share.darkenings) (λ address. (1 ≤ address) × IsOldAt heap.now.config address × (dom.new.view.seen.share.darkenings ≡ dom.old.view.seen.share.darkenings + 1)) }
 {
     let Waiting::Fin { address, .. } = dom.queue_at(place) else {
         return None;
     };
-    if !darken(heap, dom, address, colours) {
-        return None;
+    if darken(heap, dom, address, colours) {
+        Some(address)
+    } else {
+        None
     }
-    Some(address)
 }
 
 /// Each block that the domain's queue of finalisers keeps alive is marked, in a phase in which roots

@@ -6,11 +6,12 @@ ghost use Rattle.heap_rule.specs.declared.phase.Stage.TheVariants.{In};
 ghost use Rattle.heap_rule.specs.Token.{IsIn};
 ghost use Rattle.steps_cycle.specs.Marking.{Reason, Register};
 ghost use Rattle.steps_cycle.specs.Looks.{HeldInside};
-ghost use Rattle.mark_slices.specs.Decks.{NotesOn};
+ghost use Rattle.mark_slices.specs.Decks.{HasNoted, NotesOn};
 ghost use Rattle.mark_slices.specs.Shares.{Rooted, AllRooted, AllQueueRooted};
 
 use crate::darkening::darken;
-use crate::hints::{Hints, note};
+use crate::deck::Deck;
+use crate::hints::Hints;
 use crate::queue::mark_queued;
 use heap_rule::{Domain, Heap};
 use heap_words::{Colours, Value};
@@ -29,11 +30,12 @@ fn mark_root(heap: &Heap, dom: &mut Domain, register: u8, colours: Colours, hint
     ensures here { IsIn dom.new heap.now }
     ensures rooted { Rooted register dom.old.view dom.new.view }
     ensures notes { NotesOn hints.old hints.new }
+    ensures noted { HasNoted dom.old.view.seen.share.darkenings dom.new.view.seen.share.darkenings hints.old hints.new }
 {
-    let limits = heap.config();
+    let _limits = heap.config();
     if let Value::Ref(at) = dom.register(register) {
         if darken(heap, dom, at, colours) {
-            note(hints, at, &limits);
+            hints.push(at);
         }
     }
 }
@@ -48,11 +50,12 @@ fn mark_waiting(heap: &Heap, dom: &mut Domain, colours: Colours, hints: &mut Hin
     ensures here { IsIn dom.new heap.now }
     ensures queued { AllQueueRooted dom.old.view dom.new.view }
     ensures notes { NotesOn hints.old hints.new }
+    ensures noted { HasNoted dom.old.view.seen.share.darkenings dom.new.view.seen.share.darkenings hints.old hints.new }
 {
-    let limits = heap.config();
+    let _limits = heap.config();
     for place in 0..dom.queued() {
         if let Some(at) = mark_queued(heap, dom, place, colours) {
-            note(hints, at, &limits);
+            hints.push(at);
         }
     }
 }
@@ -62,7 +65,7 @@ fn mark_waiting(heap: &Heap, dom: &mut Domain, colours: Colours, hints: &mut Hin
 /// the domain is done with all these registers and places of the queue, as is asked of it where it
 /// arrives. What it knows of the colours, of the queue and of blocks is all that has changed.
 ///
-/// The blocks of the pools that it has marked itself are noted in `hints`, as far as there is room.
+/// Each block that it has marked itself is noted in `hints`.
 ///
 /// There are no other roots: a program of commands has no stack ("Retrofitting Parallelism
 /// onto OCaml", section 3.2).
@@ -72,6 +75,7 @@ pub fn start_roots(heap: &Heap, dom: &mut Domain, hints: &mut Hints)
     ensures here { IsIn dom.new heap.now }
     ensures rooted { AllRooted dom.old.view dom.new.view }
     ensures notes { NotesOn hints.old hints.new }
+    ensures noted { HasNoted dom.old.view.seen.share.darkenings dom.new.view.seen.share.darkenings hints.old hints.new }
 {
     let colours = colours_now(heap, dom);
     for register in 0..16 {

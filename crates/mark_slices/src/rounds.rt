@@ -12,6 +12,7 @@ ghost use Rattle.mark_slices.specs.Shares.{IsNotOf, IsOfClass, Marks, Walked, Al
 
 use crate::hints::Hints;
 use crate::places::mark_pool;
+use crate::trail::Trail;
 use heap_rule::{Domain, Heap};
 use heap_words::Colours;
 use size_classes::CLASS_COUNT;
@@ -34,23 +35,44 @@ fn class_of(word: u64, domain: u32) -> Option<u32>
 
 // Looks at the next pool of the walk, and if it is an own one scans its grey blocks. Answers whether
 // the domain has marked a block.
-fn visit_pool(heap: &Heap, dom: &mut Domain, pool: u32, colours: Colours, hints: &mut Hints) -> bool
+fn visit_pool(heap: &Heap, dom: &mut Domain, pool: u32, colours: Colours, trail: &mut Trail) -> bool
     requires here { IsIn dom.old heap.now }
     requires marks { Marks colours dom.old.view }
     requires meanings { IsPermutation colours }
     requires pool { pool < heap.now.config.pools }
     requires next { dom.old.view.seen.share.walk ≡ record { pool = pool; slot = 0 } }
-    requires none { hints.old.items ≡ [] }
+    requires none { trail.old.items ≡ [] }
     ensures here { IsIn dom.new heap.now }
     ensures walked { Walked (record { pool = pool + 1; slot = 0 }) result dom.old.view dom.new.view }
-    ensures none { hints.new.items ≡ [] }
-    ensures notes { NotesOn hints.old hints.new }
+    ensures none { trail.new.items ≡ [] }
 {
     let pools = heap.config().pools;
     let word = own_load(heap, dom, OWNERS + pools + pool, pool);
     match class_of(word, dom.number()) {
-        Some(class) => mark_pool(heap, dom, pool, class, colours, hints),
+        Some(class) => mark_pool(heap, dom, pool, class, colours, trail),
         None => false,
+    }
+}
+
+// The same for all pools, and then the store of the changed word, where the domain has marked a block.
+fn walk_pools(heap: &Heap, dom: &mut Domain, trail: &mut Trail)
+    requires here { IsIn dom.old heap.now }
+    requires stage { dom.old.view.seen.stage ≡ In Mark }
+    requires begins { dom.old.view.seen.share.walk ≡ record { pool = 0; slot = 0 } }
+    requires idle { dom.old.view.seen.share.scan ≡ Idle }
+    requires told { dom.old.view.seen.share.owes ≡ false }
+    ensures here { IsIn dom.new heap.now }
+    ensures walked { AllWalked heap.now.config dom.old.view dom.new.view }
+{
+    trail.clear();
+    let pools = heap.config().pools;
+    let colours = colours_now(heap, dom);
+    let mut darkened = false;
+    for pool in 0..pools {
+        darkened |= visit_pool(heap, dom, pool, colours, trail);
+    }
+    if darkened {
+        changed_store(heap, dom);
     }
 }
 
@@ -61,9 +83,9 @@ fn visit_pool(heap: &Heap, dom: &mut Domain, pool: u32, colours: Colours, hints:
 /// place. Afterwards it has been at each own place and owes no store of the changed word, as is asked of
 /// it where it arrives. What it knows of the colours and of blocks is all that has changed.
 ///
-/// What is noted is let go first, since the walk finds it. Behind each place the blocks that the domain
-/// has marked itself are scanned at once, wherever they lie, as far as `hints` has room. What is let go
-/// for want of room a later walk finds.
+/// Its own hints are let go first, since the walk finds what they tell of. Behind each place the blocks
+/// that the domain has marked itself are scanned at once, wherever they lie: it remembers as many as
+/// 4096 of them, and what it can't remember a later walk finds.
 ///
 /// Domains mark in parallel, and go on until a whole phase changes nothing ("Retrofitting Parallelism
 /// onto OCaml", section 3.2).
@@ -75,17 +97,8 @@ pub fn mark_round(heap: &Heap, dom: &mut Domain, hints: &mut Hints)
     requires told { dom.old.view.seen.share.owes ≡ false }
     ensures here { IsIn dom.new heap.now }
     ensures walked { AllWalked heap.now.config dom.old.view dom.new.view }
-    ensures none { hints.new.items ≡ [] }
     ensures notes { NotesOn hints.old hints.new }
 {
     hints.clear();
-    let pools = heap.config().pools;
-    let colours = colours_now(heap, dom);
-    let mut darkened = false;
-    for pool in 0..pools {
-        darkened |= visit_pool(heap, dom, pool, colours, hints);
-    }
-    if darkened {
-        changed_store(heap, dom);
-    }
+    walk_pools(heap, dom, &mut hints.trail);
 }

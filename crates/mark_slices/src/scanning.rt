@@ -9,11 +9,10 @@ ghost use Rattle.heap_rule.specs.Standing.{IsInHeap};
 ghost use Rattle.heap_rule.specs.Token.{IsIn};
 ghost use Rattle.steps_cycle.specs.Looks.{with_share};
 ghost use Rattle.steps_cycle.specs.Marking.{LiesAt, ScanMay, Site};
-ghost use Rattle.mark_slices.specs.Decks.{NotesOn};
 ghost use Rattle.mark_slices.specs.Shares.{Begun, Noted, ScannedAt, field_on, fields_to, scanning};
 
 use crate::darkening::darken;
-use crate::hints::{Hints, note};
+use crate::trail::Trail;
 use barriers::ToScan;
 use heap_rule::{Domain, Heap, Reading, read_as};
 use heap_words::{Colours, Value};
@@ -21,26 +20,25 @@ use steps_cycle::{scan_load, scanned_store};
 
 // Marks the block that the next field refers to, which is at `at`, if it refers to one. Answers whether
 // this domain has marked it.
-fn scan_field(heap: &Heap, dom: &mut Domain, at: u32, colours: Colours, hints: &mut Hints) -> bool
+fn scan_field(heap: &Heap, dom: &mut Domain, at: u32, colours: Colours, trail: &mut Trail) -> bool
     requires here { IsIn dom.old heap.now }
     requires known { dom.old.view.seen.share.colours ≡ Some colours }
     requires meanings { IsPermutation colours }
     requires inside { IsInHeap heap.now.config at }
     requires may { ScanMay dom.old.view at }
-    requires noted { Noted heap.now.config dom.old.view.seen.share.marked hints.old.items }
+    requires noted { Noted heap.now.config dom.old.view.seen.share.marked trail.old.items }
     ensures here { IsIn dom.new heap.now }
     ensures scanned { dom.new.view ≡ with_share dom.old.view (scanning dom.old.view.seen.share dom.new.view.seen.share (field_on dom.old.view.seen.share.scan) result) }
-    ensures noted { Noted heap.now.config dom.new.view.seen.share.marked hints.new.items }
-    ensures notes { NotesOn hints.old hints.new }
+    ensures noted { Noted heap.now.config dom.new.view.seen.share.marked trail.new.items }
 {
-    let limits = heap.config();
+    let _limits = heap.config();
     let word = scan_load(heap, dom, at);
     let Value::Ref(address) = read_as(Reading::AsValue, word) else {
         return false;
     };
     let won = darken(heap, dom, address, colours);
     if won {
-        note(hints, address, &limits);
+        trail.push(address);
     }
     won
 }
@@ -53,7 +51,7 @@ fn scan_fields(
     block: u32,
     size: u32,
     colours: Colours,
-    hints: &mut Hints,
+    trail: &mut Trail,
 ) -> bool
     requires here { IsIn dom.old heap.now }
     requires stage { dom.old.view.seen.stage ≡ In Mark }
@@ -61,16 +59,15 @@ fn scan_fields(
     requires meanings { IsPermutation colours }
     requires inside { block + size + 1 ≤ heap_words heap.now.config }
     requires begun { (head : ℕ) × (dom.old.view.seen.share.scan ≡ Reads block 0 size head) }
-    requires noted { Noted heap.now.config dom.old.view.seen.share.marked hints.old.items }
+    requires noted { Noted heap.now.config dom.old.view.seen.share.marked trail.old.items }
     ensures here { IsIn dom.new heap.now }
     ensures scanned { dom.new.view ≡ with_share dom.old.view (scanning dom.old.view.seen.share dom.new.view.seen.share (fields_to size dom.old.view.seen.share.scan) result) }
-    ensures noted { Noted heap.now.config dom.new.view.seen.share.marked hints.new.items }
-    ensures notes { NotesOn hints.old hints.new }
+    ensures noted { Noted heap.now.config dom.new.view.seen.share.marked trail.new.items }
 {
     let _limits = heap.config();
     let mut darkened = false;
     for i in 0..size {
-        darkened |= scan_field(heap, dom, block + 2 + i, colours, hints);
+        darkened |= scan_field(heap, dom, block + 2 + i, colours, trail);
     }
     darkened
 }
@@ -83,7 +80,7 @@ pub(crate) fn scan_block(
     at: u32,
     block: ToScan,
     colours: Colours,
-    hints: &mut Hints,
+    trail: &mut Trail,
 ) -> bool
     ghost site: { Site }
     requires here { IsIn dom.old heap.now }
@@ -93,14 +90,13 @@ pub(crate) fn scan_block(
     requires inside { (1 ≤ at) × (at ≤ heap.now.config.pools * 4096) }
     requires begun { Begun colours at block.fields block.scanned dom.old.view }
     requires lies { LiesAt site dom.old.view at }
-    requires noted { Noted heap.now.config dom.old.view.seen.share.marked hints.old.items }
+    requires noted { Noted heap.now.config dom.old.view.seen.share.marked trail.old.items }
     ensures here { IsIn dom.new heap.now }
     ensures scanned { ScannedAt site at result dom.old.view dom.new.view }
-    ensures noted { Noted heap.now.config dom.new.view.seen.share.marked hints.new.items }
-    ensures notes { NotesOn hints.old hints.new }
+    ensures noted { Noted heap.now.config dom.new.view.seen.share.marked trail.new.items }
 {
     let _limits = heap.config();
-    let darkened = scan_fields(heap, dom, at, block.fields, colours, hints);
+    let darkened = scan_fields(heap, dom, at, block.fields, colours, trail);
     scanned_store(heap, dom, at, block.scanned);
     darkened
 }

@@ -1,5 +1,5 @@
 //! The marking of a running domain.
-ghost use Rattle.std.specs.Prelude.{◌≡◌, ◌+◌, ◌<◌, ◌≤◌, ◌↔◌, ◌⊎◌, true, Some, cond, IfNone, IfSome};
+ghost use Rattle.std.specs.Prelude.{◌≡◌, ◌≢◌, ◌+◌, ◌<◌, ◌≤◌, ◌↔◌, ℕ, true, Some, cond, IfNone, IfSome};
 ghost use Rattle.heap_words.specs.declared.colours.Colours.{Colours};
 ghost use Rattle.heap_words.specs.ColourWords.{IsPermutation};
 ghost use Rattle.heap_rule.specs.declared.phase.Kind.TheVariants.{Run};
@@ -7,12 +7,12 @@ ghost use Rattle.heap_rule.specs.declared.phase.Stage.TheVariants.{In};
 ghost use Rattle.heap_rule.specs.Token.{IsIn};
 ghost use Rattle.barriers.specs.Aware.{Learnt, darkened_in, scanned_in, vain_in};
 ghost use Rattle.mark_slices.specs.declared.slices.Why.TheVariants.{Enough, NoneFound, Stale};
-ghost use Rattle.mark_slices.specs.Decks.{NotesOn, Rises, last_count};
-ghost use Rattle.mark_slices.specs.Slices.{Slices, Went};
+ghost use Rattle.mark_slices.specs.Decks.{AllMissed, HasMissed, HasNoted, HasTaken, IsPooled, NotesOn};
+ghost use Rattle.mark_slices.specs.Slices.{IsDeckOf, Slices, Tries, Went};
 ghost use Rattle.mark_slices.specs.Ends.{EndsSlice};
 
+use crate::deck::Deck;
 use crate::greys::scan_word;
-use crate::hints::Hints;
 use crate::looking::look;
 use heap_rule::{Domain, Heap};
 use heap_words::Colours;
@@ -23,9 +23,9 @@ use steps_cycle::colours_now;
 pub enum Why {
     /// It has scanned as many blocks as it was to.
     Enough,
-    /// No block was noted any more.
+    /// No domain had a hint any more.
     NoneFound,
-    /// At too many noted addresses no grey block began.
+    /// At too many hints no grey block began.
     Stale,
 }
 
@@ -36,19 +36,56 @@ pub struct Scanned {
     pub why: Why,
 }
 
-// At how many noted addresses, in a slice, no grey block may begin.
+// At how many hints, in a slice, no grey block may begin.
 const MOST_STALE: u32 = 8192;
 
-// How many noted addresses were let go, and why the slice ends; `None` where a block was scanned.
+// How many hints were let go, and why the slice ends; `None` where a block was scanned.
 #[derive(Clone, Copy)]
 struct Next {
     let_go: u32,
     end: Option<Why>,
 }
 
-// Looks at a noted address, and scans the block that begins there if it is grey. Answers whether it has
-// scanned one.
-fn scan_noted(heap: &Heap, dom: &mut Domain, at: u32, colours: Colours, hints: &mut Hints) -> bool
+// Takes a hint of the first of some domains that has one.
+fn steal_among<K: Deck>(deck: &mut K, first: u32, end: u32) -> Option<u32>
+    requires others { (d : ℕ) → first ≤ d → d < end → (d ≢ (K.counts deck.old).number) × (d < (K.counts deck.old).domains) }
+    ensures took { IfSome result (λ at. IsPooled at × Tries 1 (K.counts deck.old) (K.counts deck.new)) }
+    ensures none { IfNone result (Tries 0 (K.counts deck.old) (K.counts deck.new) × ((d : ℕ) → first ≤ d → d < end → HasMissed (K.counts deck.old) (K.counts deck.new) d)) }
+{
+    for from in first..end {
+        if let Some(at) = deck.steal(from) {
+            return Some(at);
+        }
+    }
+    None
+}
+
+// Takes a hint of the domain's own, or else of the next other domain that has one.
+fn next_hint<K: Deck>(deck: &mut K, number: u32, domains: u32) -> Option<u32>
+    requires number { number ≡ (K.counts deck.old).number }
+    requires domains { domains ≡ (K.counts deck.old).domains }
+    requires inside { number < domains }
+    ensures took { IfSome result (λ at. IsPooled at × Tries 1 (K.counts deck.old) (K.counts deck.new)) }
+    ensures none { IfNone result (Tries 0 (K.counts deck.old) (K.counts deck.new) × AllMissed (K.counts deck.old) (K.counts deck.new)) }
+{
+    if let Some(at) = deck.own() {
+        return Some(at);
+    }
+    if let Some(at) = steal_among(deck, number + 1, domains) {
+        return Some(at);
+    }
+    steal_among(deck, 0, number)
+}
+
+// Looks at a hint, and scans the block that begins there if it is grey. Answers whether it has scanned
+// one.
+fn scan_hint<K: Deck>(
+    heap: &Heap,
+    dom: &mut Domain,
+    at: u32,
+    colours: Colours,
+    deck: &mut K,
+) -> bool
     ghost known: { Colours }
     requires names { known ≡ colours }
     requires here { IsIn dom.old heap.now }
@@ -56,30 +93,39 @@ fn scan_noted(heap: &Heap, dom: &mut Domain, at: u32, colours: Colours, hints: &
     requires meanings { IsPermutation colours }
     requires low { 1 ≤ at }
     ensures here { IsIn dom.new heap.now }
-    ensures went { Went (cond result 1 0) (cond result 0 1) 0 0 dom.old.view dom.new.view hints.old hints.new }
+    ensures went { Went (cond result 1 0) (cond result 0 1) 0 dom.old.view dom.new.view (K.counts deck.old) (K.counts deck.new) }
 {
     let _limits = heap.config();
     let word = look(heap, dom, at);
-    scan_word(heap, dom, at, word, colours, hints)
+    scan_word(heap, dom, at, word, colours, deck)
 }
 
-// Takes noted addresses until it has scanned a block, none is left, or so many were let go.
-fn scan_next(heap: &Heap, dom: &mut Domain, left: u32, colours: Colours, hints: &mut Hints) -> Next
+// Takes hints until it has scanned a block, no domain has one, or so many were let go.
+fn scan_next<K: Deck>(
+    heap: &Heap,
+    dom: &mut Domain,
+    left: u32,
+    colours: Colours,
+    deck: &mut K,
+) -> Next
     requires here { IsIn dom.old heap.now }
     requires slices { Slices colours dom.old.view }
     requires meanings { IsPermutation colours }
+    requires decked { IsDeckOf heap.now.config dom.old.view (K.counts deck.old) }
     ensures here { IsIn dom.new heap.now }
-    ensures scanned { IfNone result.end ((result.let_go < left) × Went 1 result.let_go (result.let_go + 1) 0 dom.old.view dom.new.view hints.old hints.new) }
-    ensures ended { IfSome result.end (λ why. EndsSlice why left result.let_go dom.old.view dom.new.view hints.old hints.new) }
+    ensures scanned { IfNone result.end ((result.let_go < left) × Went 1 result.let_go (result.let_go + 1) dom.old.view dom.new.view (K.counts deck.old) (K.counts deck.new)) }
+    ensures ended { IfSome result.end (λ why. EndsSlice why left result.let_go dom.old.view dom.new.view (K.counts deck.old) (K.counts deck.new)) }
 {
+    let domains = heap.config().domains;
+    let number = dom.number();
     for let_go in 0..left {
-        let Some(at) = hints.own() else {
+        let Some(at) = next_hint(deck, number, domains) else {
             return Next {
                 let_go,
                 end: Some(Why::NoneFound),
             };
         };
-        if scan_noted(heap, dom, at, colours, hints) {
+        if scan_hint(heap, dom, at, colours, deck) {
             return Next { let_go, end: None };
         }
     }
@@ -89,19 +135,20 @@ fn scan_next(heap: &Heap, dom: &mut Domain, left: u32, colours: Colours, hints: 
     }
 }
 
-/// A slice of the marking of a running domain, which knows that a cycle goes on. It takes addresses that
-/// it has noted, the last one first, and scans each grey block that begins at one: what its fields refer
-/// to in the pools is darkened, noted where this domain has darkened it, and then the block's head says
-/// that it is scanned. An address at which no grey block begins is let go. It ends when it has scanned
-/// `most` blocks, when none is noted any more, or at the 8192nd address that it lets go. What it knows of
-/// the colours and of blocks is all that has changed.
+/// A slice of the marking of a running domain, which knows that a cycle goes on. It takes hints, its own
+/// first and then one of each other domain in turn, from the next one on, and scans each grey block that
+/// begins at one: what its fields refer to in the pools is darkened, noted where this domain has
+/// darkened it, and then the block's head says that it is scanned. A hint at which no grey block begins
+/// is let go. It ends when it has scanned `most` blocks, when no domain has a hint any more, or at the
+/// 8192nd hint that it lets go. What it knows of the colours and of blocks is all that has changed.
 ///
-/// Blocks that nobody has noted stay grey until a walk finds them ("Retrofitting Parallelism onto OCaml",
-/// section 4.3).
-pub fn slice(heap: &Heap, dom: &mut Domain, hints: &mut Hints, most: u32) -> Scanned
+/// Blocks of which no hint tells stay grey until a walk finds them ("Retrofitting Parallelism onto
+/// OCaml", section 4.3).
+pub fn slice<K: Deck>(heap: &Heap, dom: &mut Domain, deck: &mut K, most: u32) -> Scanned
     requires here { IsIn dom.old heap.now }
     requires runs { dom.old.view.seen.stage ≡ In Run }
     requires armed { dom.old.view.seen.share.armed ≡ Some true }
+    requires decked { IsDeckOf heap.now.config dom.old.view (K.counts deck.old) }
     requires some { 1 ≤ most }
     ensures here { IsIn dom.new heap.now }
     ensures learnt { Learnt dom.old.view dom.new.view }
@@ -110,16 +157,16 @@ pub fn slice(heap: &Heap, dom: &mut Domain, hints: &mut Hints, most: u32) -> Sca
     ensures few { result.count ≤ most }
     ensures enough { (result.why ≡ Enough) ↔ (result.count ≡ most) }
     ensures scanned { scanned_in dom.new.view.seen.share.known ≡ scanned_in dom.old.view.seen.share.known + result.count }
-    ensures none { result.why ≡ NoneFound → Rises 1 hints.old.misses hints.new.misses }
-    ensures stale { result.why ≡ Stale → (hints.old.taken + 8192 ≤ hints.new.taken) ⊎ (last_count ≤ hints.new.taken) }
-    ensures taken { hints.new.taken + vain_in dom.old.view.seen.share.known ≤ hints.old.taken + result.count + vain_in dom.new.view.seen.share.known }
-    ensures pushes { (hints.old.pushes + darkened_in dom.new.view.seen.share.known ≤ hints.new.pushes + darkened_in dom.old.view.seen.share.known) ⊎ (last_count ≤ hints.new.pushes) }
-    ensures notes { NotesOn hints.old hints.new }
+    ensures none { result.why ≡ NoneFound → AllMissed (K.counts deck.old) (K.counts deck.new) }
+    ensures stale { result.why ≡ Stale → HasTaken 8192 (K.counts deck.old) (K.counts deck.new) }
+    ensures taken { (K.counts deck.new).taken + vain_in dom.old.view.seen.share.known ≤ (K.counts deck.old).taken + result.count + vain_in dom.new.view.seen.share.known }
+    ensures pushes { HasNoted (darkened_in dom.old.view.seen.share.known) (darkened_in dom.new.view.seen.share.known) (K.counts deck.old) (K.counts deck.new) }
+    ensures notes { NotesOn (K.counts deck.old) (K.counts deck.new) }
 {
     let colours = colours_now(heap, dom);
     let mut left = MOST_STALE;
     for count in 0..most {
-        let next = scan_next(heap, dom, left, colours, hints);
+        let next = scan_next(heap, dom, left, colours, deck);
         if let Some(why) = next.end {
             return Scanned { count, why };
         }

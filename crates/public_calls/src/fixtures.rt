@@ -7,6 +7,7 @@ ghost use Rattle.heap_rule.specs.Running.{Runs};
 ghost use Rattle.heap_rule.specs.Token.{IsIn};
 ghost use Rattle.heap_rule.specs.declared.phase.Kind.TheVariants.{Run};
 ghost use Rattle.heap_rule.specs.declared.phase.Stage.TheVariants.{In};
+ghost use Rattle.mark_slices.specs.Slices.{IsDeckOf};
 ghost use Rattle.public_calls.specs.Fresh.{IsFresh};
 
 use domain_turns::{DomainRun, Turned, turn};
@@ -15,7 +16,7 @@ use heap_model::command::Command;
 use heap_model::reply::Reply;
 use heap_rule::{Config, Domain, Heap, StartFault, Waiting};
 use heap_words::Value;
-use mark_slices::{HINTS_ROOM, Hints};
+use mark_slices::Hints;
 use outer_io::Gate;
 use std::alloc::Global;
 use std::fmt::Debug;
@@ -152,18 +153,34 @@ fn registrations_of(commands: &[Command]) -> usize
     many
 }
 
+/// Whether the hints are the domain's, among those of all domains.
+pub(crate) fn are_of(hints: &Hints, heap: &Heap, domain: &Domain) -> bool
+    ensures { result ≡ true → IsDeckOf heap.now.config domain.now.view hints.now }
+{
+    hints.number() == domain.number() && hints.domains() == heap.config().domains
+}
+
 // A run of a domain that has just started.
-fn begun(alloc: Global, domain: Domain, commands: &[Command]) -> Result<DomainRun, Fail>
-    requires { CanBegin domain [] }
+fn begun(
+    alloc: Global,
+    heap: &Heap,
+    domain: Domain,
+    hints: Hints,
+    commands: &[Command],
+) -> Result<DomainRun, Fail>
+    requires here { IsIn domain heap.now }
+    requires begins { CanBegin domain [] }
     ensures { IfOk result (λ r. r.token ≡ domain) }
 {
+    if !are_of(&hints, heap, &domain) {
+        return Err(Fail::from("the hints of another domain"));
+    }
     if !all_fit(commands) {
         return Err(Fail::from("a command that doesn't fit"));
     }
     if registrations_of(commands) > domain.finals_room() {
         return Err(Fail::from("no room for a finaliser"));
     }
-    let hints = Hints::make(alloc, HINTS_ROOM)?;
     let commands = Vec::from_slice(alloc, commands)?;
     Ok(DomainRun::make(alloc, domain, hints, commands)?)
 }
@@ -179,9 +196,12 @@ fn runs_of(
     ensures { IfOk result (λ runs. All (λ r. IsIn r.token heap.now) runs.items) }
 {
     let mut runs = Vec::new(alloc);
+    let mut decks = Hints::make(alloc, heap.config().domains)?;
+    decks.reverse();
     'domains: for domain in domains {
         let commands = lists.get(runs.len()).ok_or("no commands")?;
-        runs.push(begun(alloc, domain, commands)?)?;
+        let hints = decks.pop().ok_or("no hints")?;
+        runs.push(begun(alloc, heap, domain, hints, commands)?)?;
     }
     Ok(runs)
 }
@@ -247,6 +267,30 @@ fn ended(heap: &Heap, run: DomainRun) -> Result<Domain, Fail>
         if let Turned::Ended = turn(heap, &mut run) {
             run.is_faithful();
             return Ok(run.into_domain());
+        }
+    }
+    Err(Fail::from("a trace goes on"))
+}
+
+// The domains of two runs, once all traces have ended. They run.
+fn both_ended(heap: &Heap, first: DomainRun, second: DomainRun) -> Result<(Domain, Domain), Fail>
+    requires first { IsIn first.token heap.now }
+    requires second { IsIn second.token heap.now }
+    ensures first { IfOk result (λ t. IsIn t.0 heap.now × (t.0.view.seen.stage ≡ In Run)) }
+    ensures second { IfOk result (λ t. IsIn t.1 heap.now × (t.1.view.seen.stage ≡ In Run)) }
+{
+    let mut first = first;
+    let mut second = second;
+    for _ in 0..1_000_000u32 {
+        if first.domain().arrivals() >= MOST || second.domain().arrivals() >= MOST {
+            break;
+        }
+        let one = turn(heap, &mut first);
+        let other = turn(heap, &mut second);
+        if let (Turned::Ended, Turned::Ended) = (one, other) {
+            first.is_faithful();
+            second.is_faithful();
+            return Ok((first.into_domain(), second.into_domain()));
         }
     }
     Err(Fail::from("a trace goes on"))
@@ -362,6 +406,19 @@ impl Play {
         };
         let domain = ended(&heap, run)?;
         Ok((heap, domain))
+    }
+
+    /// The heap and its two domains, turned to the ends of their traces. The domains run.
+    pub(crate) fn into_both_ended(self) -> Result<(Heap, Domain, Domain), Fail>
+        ensures first { IfOk result (λ r. IsIn r.1 r.0 × (r.1.view.seen.stage ≡ In Run)) }
+        ensures second { IfOk result (λ r. IsIn r.2 r.0 × (r.2.view.seen.stage ≡ In Run)) }
+    {
+        let Play { heap, mut runs } = self;
+        let (Some(second), Some(first)) = (runs.pop(), runs.pop()) else {
+            return Err(Fail::from("no two runs"));
+        };
+        let (first, second) = both_ended(&heap, first, second)?;
+        Ok((heap, first, second))
     }
 
     /// The runs, driven to their ends in threads.

@@ -1,5 +1,5 @@
 -- A block is darkened.
-use Rattle.std.proofs.Common.{◌≡◌, ◌≢◌, ℕ, ◌+◌, ◌*◌, ◌≤◌, ◌==◌, ◌&&◌, ◌||◌, not, Bool, true, false, cond, IsTrue, eq-eqb, ne_eqb, List, get_or, set, Option, None, sym, refl, ap, ◌∙◌, subst, ⊎_elim}
+use Rattle.std.proofs.Common.{◌≡◌, ◌≢◌, ℕ, ◌+◌, ◌==◌, ◌&&◌, ◌||◌, not, Bool, true, false, cond, IsTrue, eq-eqb, ne_eqb, List, get_or, set, Option, None, sym, refl, ap, ◌∙◌, subst, ⊎_elim}
 use mathlib.Core.Logic.{dite}
 use native.Mathlib.Decide.{ℕ_discrete}
 use mathlib.Core.Option.{some}
@@ -29,14 +29,14 @@ use Rattle.heap_rule.specs.declared.view.DomainView.{DomainView}
 use Rattle.heap_rule.specs.declared.view.Share.{Share}
 use Rattle.heap_rule.specs.Limits.{sizes_in}
 use Rattle.heap_rule.specs.Layout.{before_heap, at_address}
-use Rattle.heap_rule.specs.Places.{IsHeadOf, Place, colour_in, head_of}
+use Rattle.heap_rule.specs.Places.{IsHeadOf, IsOldAt, Place, colour_in, head_of}
 use Rattle.heap_rule.specs.Cycles.{Cycling, Facts, HasNoCycle, IsCollecting, cycle_of}
 use Rattle.heap_rule.specs.Raw.{MayStep}
 use Rattle.heap_rule.specs.Rule.{Rule, state_of}
 use Rattle.heap_rule.specs.Views.{one}
 use Rattle.heap_rule.proofs.Keeps.{Words, mine, my_good, unmoved}
 use Rattle.steps_cycle.specs.Looks.{with_share}
-use Rattle.steps_cycle.specs.Marking.{DarkenMay, DarkenTold, IsDarkening, Reason, Register, Field, OfDatum, OfQueue, Warrants, moved_on, owes_on, waiting_on}
+use Rattle.steps_cycle.specs.Marking.{DarkenMay, DarkenTold, IsDarkening, darkening, Reason, Register, Field, OfDatum, OfQueue, Warrants, moved_on, owes_on, waiting_on}
 use Rattle.steps_cycle.proofs.Colouring.{BareHead, Recolourable, bare_head, unmarked_by, words_same}
 use Rattle.steps_cycle.proofs.TargetSteps.{goes_on}
 use Rattle.steps_cycle.proofs.Layouts.{label_there, owner_of_place}
@@ -126,6 +126,9 @@ module _ (k : Config) (s : Words) (r : Rule k s) (id : ℕ) (hist : List Entry) 
   there : BareHead c.paint p (at_address k s.words a)
   there = bare_head c.paint p (at_address k s.words a) (bare k s r id hist x at collecting a p aim.lives) r.whole.cycle.meanings (r.whole.placed.fits a p aim.lives).head (r.whole.found a p aim.lives).head
 
+  old_at : IsOldAt k a
+  old_at = lies_old k s r id hist x at collecting a p aim.lives
+
   -- where another head is found somebody has darkened the block
   lost_rule : at_address k s.words a ≢ old → Rule k record { words = s.words; homes = s.homes; views = set s.views id (one k hist (with_share x (moved_on reason a x.seen.share))) }
   lost_rule differ = goes_on k s r id hist x at collecting reason a may.reason_is p aim.lives
@@ -144,7 +147,6 @@ module _ (k : Config) (s : Words) (r : Rule k s) (id : ℕ) (hist : List Entry) 
 
     darkens : (owner : ℕ) × Darkens k.domains now cyc d owner a p.label
     darkens =
-        let old_at : a ≤ k.pools * 4096 = lies_old k s r id hist x at collecting a p aim.lives in
         let l = r.whole.grid.lots a p aim.lives old_at in
         let by = r.whole.pools.owned_by l.pool l.domain l.class l.owned_is in (
           l.domain,
@@ -207,7 +209,7 @@ module _ (k : Config) (s : Words) (r : Rule k s) (id : ℕ) (hist : List Entry) 
     not_clean e = absurd (subst IsDarkening (sym kind_is ∙ e) may.darkening)
 
     abbrev share' : Share
-    share' = record (moved_on reason a x.seen.share) { owes = owes_on may.kind x.seen.share.owes }
+    share' = darkening may.kind reason a x.seen.share
 
     recoloured : Recolours k s r id hist x at collecting a p new m' (owing_on may.kind c.shares.owes d) (sees_on k s r id hist x at reason a may.reason_is) (held share') (waiting_on reason x.seen.share.waiting)
     recoloured = let cs : Colours = c.paint.colours in record {
@@ -228,26 +230,27 @@ module _ (k : Config) (s : Words) (r : Rule k s) (id : ℕ) (hist : List Entry) 
       others = λ z other. (owing_others may.kind c.shares.owes d z other, sees_others k s r id hist x at reason a may.reason_is z other);
       owes_is = owing_own may.kind c.shares.owes d x.seen.share.owes ((my_good k s r id hist x at).sharing.telling.owes (waits_in k s r id hist x at may.kind may.stage));
       seen_is = sees_own k s r id hist x at reason a may.reason_is ((my_good k s r id hist x at).sharing.telling.seen (waits_in k s r id hist x at may.kind may.stage));
-      knows = moved_knows k s r id hist x at collecting a p aim.lives m' words' is_dark not_clean (known_still k s r id hist x at collecting a p new m' aim.lives is_dark (darkened_more m p.label)) reason may.reason_is (owes_on may.kind x.seen.share.owes);
+      knows = moved_knows k s r id hist x at collecting a p aim.lives m' words' is_dark not_clean (known_still k s r id hist x at collecting a p new m' aim.lives is_dark (darkened_more m p.label)) reason may.reason_is (owes_on may.kind x.seen.share.owes) (x.seen.share.darkenings + 1);
       queued = waiting_moved k s r id hist x at collecting a p aim.lives m' is_dark (darkened_more m p.label) reason may.reason_is;
     }
 
     won_rule : Rule k record { words = words'; homes = s.homes; views = set s.views id (one k hist (with_share x share')) }
     won_rule = recolours k s r id hist x at collecting a p new m' (owing_on may.kind c.shares.owes d) (sees_on k s r id hist x at reason a may.reason_is) (held share') (waiting_on reason x.seen.share.waiting) recoloured
 
-pub darken_may : (k : Config) (x : DomainView) (word a old new : ℕ) (reason : Reason) → word ≡ before_heap k + a → DarkenMay x a old new reason → MayStep k x word (λ n. either (n == old) new n) (DarkenTold old a reason)
+pub darken_may : (k : Config) (x : DomainView) (word a old new : ℕ) (reason : Reason) → word ≡ before_heap k + a → DarkenMay x a old new reason → MayStep k x word (λ n. either (n == old) new n) (DarkenTold k old a reason)
 darken_may k x word a old new reason place may fits slots id hist s r _ at _ =
     let found : ℕ = get_or s.words word 0 in
     let found_is : found ≡ at_address k s.words a = ap (λ (n : ℕ). get_or s.words n 0) place in
+    let lies : IsOldAt k a = old_at k s r id hist x at a old new reason may in
     dite (ℕ_discrete found old)
     (λ won.
-    let y : DomainView = with_share x (record (moved_on reason a x.seen.share) { owes = owes_on may.kind x.seen.share.owes }) in
+    let y : DomainView = with_share x (darkening may.kind reason a x.seen.share) in
     let becomes : new ≡ either (found == old) new found = sym (ap (λ (b : Bool). either b new found) (eq-eqb found old won)) in (
       one k hist y,
       keeps,
       tt,
       subst (λ (n : ℕ × ℕ). Rule k record { words = set s.words n.0 n.1; homes = s.homes; views = set s.views id (one k hist y) }) (λ i. (sym place i, becomes i)) (won_rule k s r id hist x at a old new reason may (sym found_is ∙ won)),
-      (record { kind = may.kind; stage = may.stage; won = λ _. refl; lost = λ e. absurd (e won) }, refl),
+      (record { kind = may.kind; stage = may.stage; lies = lies; won = λ _. refl; lost = λ e. absurd (e won) }, refl),
     ))
     (λ lost.
     let y : DomainView = with_share x (moved_on reason a x.seen.share) in
@@ -256,5 +259,5 @@ darken_may k x word a old new reason place may fits slots id hist s r _ at _ =
       keeps,
       tt,
       subst (λ (n : ℕ). Rule k record { words = set s.words word n; homes = s.homes; views = set s.views id (one k hist y) }) stays (unmoved k s word (set s.views id (one k hist y)) (lost_rule k s r id hist x at a old new reason may (λ e. lost (found_is ∙ e)))),
-      (record { kind = may.kind; stage = may.stage; won = λ e. absurd (lost e); lost = λ _. refl }, refl),
+      (record { kind = may.kind; stage = may.stage; lies = lies; won = λ e. absurd (lost e); lost = λ _. refl }, refl),
     ))

@@ -89,13 +89,14 @@ pub record Held : Type 0 where
   pub own_pool : Option OwnPool
   pub roots : List ℕ
   pub marked : List ℕ
+  pub darkenings : ℕ
   pub cleaning : Option Cleaning
 
 abbrev pub held : Share → Held
-held share = record { owes = share.owes; places_seen = share.places_seen; found_head = share.found_head; scan = share.scan; walk = share.walk; own_pool = share.own_pool; roots = share.roots; marked = share.marked; cleaning = share.cleaning }
+held share = record { owes = share.owes; places_seen = share.places_seen; found_head = share.found_head; scan = share.scan; walk = share.walk; own_pool = share.own_pool; roots = share.roots; marked = share.marked; darkenings = share.darkenings; cleaning = share.cleaning }
 
 abbrev pub holding : Share → Held → Share
-holding share h = record share { owes = h.owes; places_seen = h.places_seen; found_head = h.found_head; scan = h.scan; walk = h.walk; own_pool = h.own_pool; roots = h.roots; marked = h.marked; cleaning = h.cleaning }
+holding share h = record share { owes = h.owes; places_seen = h.places_seen; found_head = h.found_head; scan = h.scan; walk = h.walk; own_pool = h.own_pool; roots = h.roots; marked = h.marked; darkenings = h.darkenings; cleaning = h.cleaning }
 
 -- scans go on where more is marked
 scanned_more : (live : Live) (graph : Graph) (m m' : Marks) → More m.marked m'.marked → (block done size head : ℕ) → Scanned live graph m block done size head → Scanned live graph m' block done size head

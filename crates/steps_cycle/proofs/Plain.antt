@@ -9,7 +9,7 @@ use Rattle.heap_rule.specs.declared.view.Share.{Share}
 use Rattle.heap_rule.specs.Raw.{CanLeave, Closes, Leaves}
 use Rattle.heap_rule.proofs.Closes.{front_same, leaves_closes}
 use Rattle.steps_cycle.specs.Looks.{ColoursTold, with_share}
-use Rattle.steps_cycle.specs.Marking.{ChangedTold, DarkenTold, TargetTold, GreyTold, MarkTold, OwnTold, Reason, ScanTold, ScannedTold, begun, behind, moved_on, owes_on, scanned_on, Site, places_seen_on, walk_on}
+use Rattle.steps_cycle.specs.Marking.{ChangedTold, DarkenTold, TargetTold, GreyTold, MarkTold, OwnTold, Reason, ScanTold, ScannedTold, begun, behind, darkening, moved_on, scanned_on, Site, places_seen_on, walk_on}
 use Rattle.steps_cycle.specs.Arming.{ArmedTold}
 use Rattle.steps_cycle.specs.Changed.{FindTold, ForgetTold}
 
@@ -23,9 +23,9 @@ colours_closes k x found = share_closes k x found (ColoursTold k) (λ y t. (reco
 pub target_closes : (k : Config) (x : DomainView) (found a : ℕ) (reason : Reason) → Closes k x found (TargetTold a reason) CanLeave Leaves
 target_closes k x found a reason = share_closes k x found (TargetTold a reason) (λ y t. ⊎_elim (λ u. (record x.seen.share { found_head = Some (record { address = a; word = found }) }, u.1)) (λ u. (moved_on reason a x.seen.share, u.1)) t.told)
 
-pub darken_closes : (k : Config) (x : DomainView) (found a old : ℕ) (reason : Reason) → Closes k x found (DarkenTold old a reason) CanLeave Leaves
-darken_closes k x found a old reason = share_closes k x found (DarkenTold old a reason) (λ y t. dite (ℕ_discrete found old)
-    (λ e. (record (moved_on reason a x.seen.share) { owes = owes_on t.kind x.seen.share.owes }, t.won e))
+pub darken_closes : (k : Config) (x : DomainView) (found a old : ℕ) (reason : Reason) → Closes k x found (DarkenTold k old a reason) CanLeave Leaves
+darken_closes k x found a old reason = share_closes k x found (DarkenTold k old a reason) (λ y t. dite (ℕ_discrete found old)
+    (λ e. (darkening t.kind reason a x.seen.share, t.won e))
     (λ e. (moved_on reason a x.seen.share, t.lost e)))
 
 pub own_closes : (k : Config) (x : DomainView) (found pool : ℕ) → Closes k x found (OwnTold pool) CanLeave Leaves

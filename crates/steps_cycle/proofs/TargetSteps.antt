@@ -57,7 +57,7 @@ module _ (k : Config) (s : Words) (r : Rule k s) (id : ℕ) (hist : List Entry) 
       (λ z other. (refl, sees_others k s r id hist x at reason a w z other))
       (t.owes not_arrived)
       (sees_own k s r id hist x at reason a w (t.seen not_arrived))
-      (moved_knows k s r id hist x at collecting a p lives c.paint.marks s.words marked (λ _. refl) (known k s r id hist x at) reason w sh.owes)
+      (moved_knows k s r id hist x at collecting a p lives c.paint.marks s.words marked (λ _. refl) (known k s r id hist x at) reason w sh.owes sh.darkenings)
       refl
 
   module _ (a : ℕ) (reason : Reason) (may : TargetMay x a reason) where

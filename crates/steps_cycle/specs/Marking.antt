@@ -18,7 +18,7 @@ use Rattle.heap_rule.specs.declared.view.Share.{Share}
 use Rattle.heap_rule.specs.declared.view.Spot.{Spot}
 use Rattle.heap_rule.specs.Cycles.{IsCollecting, seen_by}
 use Rattle.heap_rule.specs.Finalisers.{held_at}
-use Rattle.heap_rule.specs.Places.{HeadIs, IsBuilt, IsHeadOf}
+use Rattle.heap_rule.specs.Places.{HeadIs, IsBuilt, IsHeadOf, IsOldAt}
 use Rattle.heap_rule.specs.Pools.{blocks_of, owned, owner_word, place_in}
 use Rattle.heap_rule.specs.Standing.{IsAt}
 use Rattle.heap_rule.specs.Token.{IsAddress}
@@ -143,11 +143,16 @@ owes_on Mark owes = true
 owes_on Rounds owes = true
 owes_on _ owes = owes
 
--- where the head was the one that was found the block is darkened, and else somebody else has darkened it
-pub record DarkenTold (old at : ℕ) (reason : Reason) (x : DomainView) (found : ℕ) (y : DomainView) : Type 0 where
+-- a domain has darkened a block
+abbrev pub darkening : Kind → Reason → ℕ → Share → Share
+darkening kind reason at share = record (moved_on reason at share) { owes = owes_on kind share.owes; darkenings = share.darkenings + 1 }
+
+-- where the head was the one that was found the block is darkened, and else somebody else has darkened it. It lies in a pool
+pub record DarkenTold (k : Config) (old at : ℕ) (reason : Reason) (x : DomainView) (found : ℕ) (y : DomainView) : Type 0 where
   pub kind : Kind
   pub stage : x.seen.stage ≡ In kind
-  pub won : found ≡ old → y ≡ with_share x (record (moved_on reason at x.seen.share) { owes = owes_on kind x.seen.share.owes })
+  pub lies : IsOldAt k at
+  pub won : found ≡ old → y ≡ with_share x (darkening kind reason at x.seen.share)
   pub lost : found ≢ old → y ≡ with_share x (moved_on reason at x.seen.share)
 
 -- a load of the owner of the next pool through which the domain walks

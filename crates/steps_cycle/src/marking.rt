@@ -39,7 +39,7 @@ pub fn darken_exchange(heap: &Heap, dom: &mut Domain, at: u32, old: u64, new: u6
     requires inside { IsInHeap heap.now.config at }
     requires may { DarkenMay dom.old.view at old new reason }
     ensures here { IsIn dom.new heap.now }
-    ensures told { DarkenTold old at reason dom.old.view result dom.new.view }
+    ensures told { DarkenTold heap.now.config old at reason dom.old.view result dom.new.view }
 {
     let index = heap.index_of(at);
     let writing = Looking {

@@ -7,16 +7,16 @@ pub follow-darkened-requires-clause-inside : goal.follow-darkened-requires-claus
 follow-darkened-requires-clause-inside c =
     let k = c.args.heap.now.config in
     let marked = c.loop.dom.view.seen.share.marked in
-    let n = noted_last k marked c.own.new.self.items c.in-Some.at (subst (λ (items : List ℕ). Noted k marked items) c.in-Some.ensures.last c.loop.invariant.noted) in (n.0, n.1)
+    let n = noted_last k marked c.pop.new.self.items c.in-Some.at (subst (λ (items : List ℕ). Noted k marked items) c.in-Some.ensures.last c.loop.invariant.noted) in (n.0, n.1)
 
 pub follow-darkened-requires-clause-marked : goal.follow-darkened-requires-clause-marked
 follow-darkened-requires-clause-marked c =
     let k = c.args.heap.now.config in
     let marked = c.loop.dom.view.seen.share.marked in
-    (noted_last k marked c.own.new.self.items c.in-Some.at (subst (λ (items : List ℕ). Noted k marked items) c.in-Some.ensures.last c.loop.invariant.noted)).2
+    (noted_last k marked c.pop.new.self.items c.in-Some.at (subst (λ (items : List ℕ). Noted k marked items) c.in-Some.ensures.last c.loop.invariant.noted)).2
 
 pub follow-darkened-requires-clause-noted : goal.follow-darkened-requires-clause-noted
 follow-darkened-requires-clause-noted c =
     let k = c.args.heap.now.config in
     let marked = c.loop.dom.view.seen.share.marked in
-    noted_less k marked c.own.new.self.items c.in-Some.at (subst (λ (items : List ℕ). Noted k marked items) c.in-Some.ensures.last c.loop.invariant.noted)
+    noted_less k marked c.pop.new.self.items c.in-Some.at (subst (λ (items : List ℕ). Noted k marked items) c.in-Some.ensures.last c.loop.invariant.noted)

@@ -1,4 +1,3 @@
-use Rattle.std.proofs.Common.{ℕ}
 use Rattle.heap_rule.specs.declared.view.DomainView.{DomainView}
 use Rattle.mark_slices.proofs.Going.{paid_next, went_on}
 use Rattle.mark_slices.proofs.greys.darken_fields.Goals as goal
@@ -10,6 +9,6 @@ loop-field-preserved g c =
     let z : DomainView = c.darken_field.new.dom.view in
     let went = c.darken_field.ensures.went in record {
       here = c.darken_field.ensures.here;
-      went = went_on 0 0 0 0 0 0 0 0 x y z c.args.hints.now c.loop-field.hints c.darken_field.new.hints c.loop-field.invariant.went went;
+      went = went_on 0 0 0 0 0 0 x y z (g.K.Deck.counts c.args.deck.now) (g.K.Deck.counts c.loop-field.deck) (g.K.Deck.counts c.darken_field.new.deck) c.loop-field.invariant.went went;
       paid = paid_next y z c.args.block c.loop-field.field went.learnt c.loop-field.invariant.paid c.darken_field.ensures.paid;
     }

@@ -11,6 +11,6 @@ ghost-darken_field g a = record { head = g.head; reason = Field a.block a.field 
 abbrev pub invariant-loop-field : goal.invariant-loop-field
 invariant-loop-field g l = record {
   here : IsIn l.dom l.heap;
-  went : Went 0 0 0 0 l.fn.dom.view l.dom.view l.fn.hints l.hints;
+  went : Went 0 0 0 l.fn.dom.view l.dom.view (g.K.Deck.counts l.fn.deck) (g.K.Deck.counts l.deck);
   paid : (i : ℕ) → i < l.field → IsPaid l.dom.view.seen.share.known l.block i;
 }

@@ -1,4 +1,4 @@
-use Rattle.std.proofs.Common.{ℕ, inl, inr, refl}
+use Rattle.std.proofs.Common.{inl, inr, refl}
 use Rattle.mark_slices.proofs.Addresses.{no_place}
 use Rattle.mark_slices.proofs.looking.slot_at.Goals.{then-at-first-ne0-via-then-at-first-ne0, then-at-first-ne0-via-else-at-first-ne0+then-slot-class_blocks}
 use Rattle.mark_slices.proofs.looking.slot_at.Goals as goal

@@ -5,7 +5,7 @@ use Rattle.mark_slices.proofs.Visits.{mark_begins, mark_stays, ready}
 use Rattle.mark_slices.proofs.places.mark_place.Goals as goal
 
 pub returns-in_default-clause-noted : goal.returns-in_default-clause-noted
-returns-in_default-clause-noted g c = subst (λ (l : List ℕ). Noted c.args.heap.now.config l c.args.hints.now.items) (sym (mark_stays c.args.dom.now.view c.mark_load-word.new.dom.view c.place_address-at.result c.args.pool c.args.class c.args.slot c.mark_load-word.result c.mark_load-word.ensures.told)) c.requires.1.1.1.1.1.1.1.1.1
+returns-in_default-clause-noted g c = subst (λ (l : List ℕ). Noted c.args.heap.now.config l c.args.trail.now.items) (sym (mark_stays c.args.dom.now.view c.mark_load-word.new.dom.view c.place_address-at.result c.args.pool c.args.class c.args.slot c.mark_load-word.result c.mark_load-word.ensures.told)) c.requires.1.1.1.1.1.1.1.1.1
 
 pub scan_block-requires : goal.scan_block-requires
 scan_block-requires g c =
@@ -21,5 +21,5 @@ scan_block-requires g c =
     let high : at ≤ n * 4096 + 4096 = c.place_address-at.ensures.inside.1 in
     let e = mark_begins x y c.args.colours at n c.args.class c.args.slot c.mark_load-word.result b.fields b.scanned q.1.0 q.0 c.mark_load-word.ensures.told c.in-Some.ensures in
     let l : LiesAt g.site x at = subst (λ (s : Site). LiesAt s x at) (sym q.1.1.1.1.1.1.1.0) record { own = q.1.1.1.1.1.0; inside = q.1.1.1.1.0; begins = c.place_address-at.ensures.value; next = q.1.1.1.1.1.1.0 } in
-    let r = ready x y c.args.colours at c.mark_load-word.result b.fields b.scanned q.0 c.in-Some.ensures e k g.site c.args.hints.now.items l q.1.1.1.1.1.1.1.1 in
+    let r = ready x y c.args.colours at c.mark_load-word.result b.fields b.scanned q.0 c.in-Some.ensures e k g.site c.args.trail.now.items l q.1.1.1.1.1.1.1.1 in
     (c.mark_load-word.ensures.here, (r.0, (r.1, (q.1.0, ((omega arith, omega arith), (r.2, (r.3, r.4)))))))

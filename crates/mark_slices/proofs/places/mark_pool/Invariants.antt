@@ -1,7 +1,6 @@
 use Rattle.std.proofs.Common.{◌≡◌, []}
 use Rattle.heap_rule.specs.Token.{IsIn}
 use Rattle.steps_cycle.specs.Marking.{Next}
-use Rattle.mark_slices.specs.Decks.{NotesOn}
 use Rattle.mark_slices.specs.Shares.{Marks, Walked, spot_from}
 use Rattle.mark_slices.proofs.places.mark_pool.Given as goal
 
@@ -14,6 +13,5 @@ invariant-loop-slot l = record {
   marks : Marks l.colours l.dom.view;
   walked : Walked (spot_from l.pool l.class l.slot) l.darkened l.fn.dom.view l.dom.view;
   own : l.dom.view.seen.share.own_pool ≡ l.fn.dom.view.seen.share.own_pool;
-  none : l.hints.items ≡ [];
-  notes : NotesOn l.fn.hints l.hints;
+  none : l.trail.items ≡ [];
 }

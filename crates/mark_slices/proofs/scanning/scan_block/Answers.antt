@@ -19,4 +19,4 @@ scanned_store-requires g c =
     )
 
 pub returns-clause-noted : goal.returns-clause-noted
-returns-clause-noted g c = subst (λ (l : List ℕ). Noted c.args.heap.now.config l c.scan_fields-darkened.new.hints.items) (sym (ap (λ (u : DomainView). u.seen.share.marked) c.scanned_store.ensures.told)) c.scan_fields-darkened.ensures.noted
+returns-clause-noted g c = subst (λ (l : List ℕ). Noted c.args.heap.now.config l c.scan_fields-darkened.new.trail.items) (sym (ap (λ (u : DomainView). u.seen.share.marked) c.scanned_store.ensures.told)) c.scan_fields-darkened.ensures.noted

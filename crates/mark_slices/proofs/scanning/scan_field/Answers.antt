@@ -1,10 +1,10 @@
-use Rattle.std.proofs.Common.{◌≡◌, ℕ, ◌∷◌, false, List, arith, sym, refl, ap, subst, ◌∙◌}
+use Rattle.std.proofs.Common.{◌≡◌, ℕ, ◌≤◌, ◌∷◌, false, List, arith, sym, refl, ap, subst, ◌∙◌}
 use Rattle.heap_rule.specs.declared.config.Config.{Config}
 use Rattle.heap_rule.specs.declared.view.DomainView.{DomainView}
 use Rattle.steps_cycle.specs.Looks.{with_share}
 use Rattle.mark_slices.specs.Shares.{Noted, field_on, scanning}
 use Rattle.mark_slices.proofs.Fields.{field_darkens, field_passed}
-use Rattle.mark_slices.proofs.Notes.{noted_more}
+use Rattle.mark_slices.proofs.Notes.{noted_more, noted_pushed}
 use Rattle.mark_slices.proofs.scanning.scan_field.Goals as goal
 
 pub darken-won-requires : goal.darken-won-requires
@@ -18,8 +18,7 @@ returns-in_default c =
     let e = field_passed c.args.heap.now.config x c.scan_load-word.new.dom.view c.args.at c.scan_load-word.result c.read_as.result c.requires.may c.scan_load-word.ensures.told c.read_as.ensures c.in_default.not-Ref in record {
       here = c.scan_load-word.ensures.here;
       scanned = subst (λ (u : DomainView). u ≡ with_share x (scanning x.seen.share u.seen.share (field_on x.seen.share.scan) false)) (sym e) refl;
-      noted = subst (λ (l : List ℕ). Noted c.args.heap.now.config l c.args.hints.now.items) (sym (ap (λ (u : DomainView). u.seen.share.marked) e)) c.requires.noted;
-      notes = record { long = refl; misses = omega arith; taken = omega arith; pushes = omega arith };
+      noted = subst (λ (l : List ℕ). Noted c.args.heap.now.config l c.args.trail.now.items) (sym (ap (λ (u : DomainView). u.seen.share.marked) e)) c.requires.noted;
     }
 
 pub returns-then-won-clause-noted : goal.returns-then-won-clause-noted
@@ -27,14 +26,13 @@ returns-then-won-clause-noted c =
     let m : List ℕ = c.args.dom.now.view.seen.share.marked in
     let a : ℕ = c.in-Ref.address in
     let k : Config = c.args.heap.now.config in
+    let low : 1 ≤ a = (field_darkens k c.args.dom.now.view c.scan_load-word.new.dom.view c.args.at c.scan_load-word.result a c.read_as.result c.args.colours c.requires.may c.requires.known c.scan_load-word.ensures.told c.read_as.ensures c.in-Ref.is).0.0 in
     let e : c.darken-won.new.dom.view.seen.share.marked ≡ a ∷ m = ap (λ (u : DomainView). u.seen.share.marked) c.darken-won.ensures.darkened ∙ ap (λ (u : DomainView). a ∷ u.seen.share.marked) c.scan_load-word.ensures.told.view in
-    let same = c.config-limits.ensures.value in
-    subst (λ (l : List ℕ). Noted k l c.note.new.hints.items) (sym e)
-    (subst (λ (z : Config). Noted z (a ∷ m) c.note.new.hints.items) same (c.note.ensures.noted m (subst (λ (z : Config). Noted z m c.args.hints.now.items) (sym same) c.requires.noted)))
+    subst (λ (l : List ℕ). Noted k l c.push.new.self.items) (sym e) (noted_pushed k m c.args.trail.now.items c.push.new.self.items a c.args.trail.now.room low (c.darken-won.ensures.lies c.if-won.true) c.push.ensures.noted c.push.ensures.full c.requires.noted)
 
 pub returns-else-won-clause-noted : goal.returns-else-won-clause-noted
 returns-else-won-clause-noted c =
     let m : List ℕ = c.args.dom.now.view.seen.share.marked in
     let a : ℕ = c.in-Ref.address in
     let e : c.darken-won.new.dom.view.seen.share.marked ≡ a ∷ m = ap (λ (u : DomainView). u.seen.share.marked) c.darken-won.ensures.darkened ∙ ap (λ (u : DomainView). a ∷ u.seen.share.marked) c.scan_load-word.ensures.told.view in
-    subst (λ (l : List ℕ). Noted c.args.heap.now.config l c.args.hints.now.items) (sym e) (noted_more c.args.heap.now.config m c.args.hints.now.items a c.requires.noted)
+    subst (λ (l : List ℕ). Noted c.args.heap.now.config l c.args.trail.now.items) (sym e) (noted_more c.args.heap.now.config m c.args.trail.now.items a c.requires.noted)

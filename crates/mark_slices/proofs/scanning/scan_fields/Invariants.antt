@@ -1,7 +1,6 @@
 use Rattle.std.proofs.Common.{◌≡◌}
 use Rattle.heap_rule.specs.Token.{IsIn}
 use Rattle.steps_cycle.specs.Looks.{with_share}
-use Rattle.mark_slices.specs.Decks.{NotesOn}
 use Rattle.mark_slices.specs.Shares.{Noted, fields_to, scanning}
 use Rattle.mark_slices.proofs.scanning.scan_fields.Given as goal
 
@@ -9,6 +8,5 @@ abbrev pub invariant-loop-i : goal.invariant-loop-i
 invariant-loop-i l = record {
   here : IsIn l.dom l.heap;
   view : l.dom.view ≡ with_share l.fn.dom.view (scanning l.fn.dom.view.seen.share l.dom.view.seen.share (fields_to l.i l.fn.dom.view.seen.share.scan) l.darkened);
-  noted : Noted l.heap.config l.dom.view.seen.share.marked l.hints.items;
-  notes : NotesOn l.fn.hints l.hints;
+  noted : Noted l.heap.config l.dom.view.seen.share.marked l.trail.items;
 }

@@ -5,8 +5,8 @@ use Rattle.mark_slices.specs.Slices.{Went}
 use Rattle.mark_slices.proofs.slices.slice.Given as goal
 
 abbrev pub invariant-loop-count : goal.invariant-loop-count
-invariant-loop-count l = record {
+invariant-loop-count g l = record {
   here : IsIn l.dom l.heap;
   some : 0 < l.left;
-  went : (gone : ℕ) × (gone + l.left ≡ 8192) × Went l.count gone (l.count + gone) 0 (knowing_colours l.fn.dom.view l.colours) l.dom.view l.fn.hints l.hints;
+  went : (gone : ℕ) × (gone + l.left ≡ 8192) × Went l.count gone (l.count + gone) (knowing_colours l.fn.dom.view l.colours) l.dom.view (g.K.Deck.counts l.fn.deck) (g.K.Deck.counts l.deck);
 }

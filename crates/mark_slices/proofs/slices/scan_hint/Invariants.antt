@@ -1,4 +1,4 @@
-use Rattle.mark_slices.proofs.slices.scan_noted.Given as goal
+use Rattle.mark_slices.proofs.slices.scan_hint.Given as goal
 
 abbrev pub ghost-look : goal.ghost-look
 ghost-look g a = g.known

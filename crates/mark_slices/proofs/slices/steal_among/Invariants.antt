@@ -1,0 +1,10 @@
+use Rattle.std.proofs.Common.{ℕ, ◌<◌, ◌≤◌}
+use Rattle.mark_slices.specs.Decks.{HasMissed}
+use Rattle.mark_slices.specs.Slices.{Tries}
+use Rattle.mark_slices.proofs.slices.steal_among.Given as goal
+
+abbrev pub invariant-loop-from : goal.invariant-loop-from
+invariant-loop-from g l = record {
+  tries : Tries 0 (g.K.Deck.counts l.fn.deck) (g.K.Deck.counts l.deck);
+  missed : (d : ℕ) → l.first ≤ d → d < l.from → HasMissed (g.K.Deck.counts l.fn.deck) (g.K.Deck.counts l.deck) d;
+}

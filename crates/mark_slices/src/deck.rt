@@ -1,0 +1,33 @@
+//! What a slice of the marking takes its hints from.
+ghost use Rattle.std.specs.Prelude.{◌≢◌, ◌<◌, IfNone, IfSome};
+ghost use Rattle.mark_slices.specs.Decks.{Counts, IsPooled, Missed, Pushed, Took};
+
+/// Addresses at which a domain may find grey blocks: those that it has noted itself, and those of the
+/// other domains, from which it may take one. An address is a hint and proves nothing: whether a block
+/// is grey its head alone says.
+///
+/// A deck counts how often it has found a domain without a hint, how many hints it has taken, and how
+/// many were noted or let go. No count falls, and one that has come to the last number stands still.
+pub trait Deck {
+    /// The number of its domain, how many domains there are, and the counts.
+    ghost counts: { Self → Counts };
+
+    /// Notes the address of a block of the pools, or lets it go.
+    fn push(&mut self, address: u32)
+        requires pooled { IsPooled address }
+        ensures pushed { Pushed (counts self.old) (counts self.new) };
+
+    /// Takes a hint of the domain's own.
+    fn own(&mut self) -> Option<u32>
+        ensures pooled { IfSome result IsPooled }
+        ensures took { IfSome result (λ _. Took (counts self.old) (counts self.new)) }
+        ensures missed { IfNone result (Missed (counts self.old).number (counts self.old) (counts self.new)) };
+
+    /// Takes a hint of another domain.
+    fn steal(&mut self, from: u32) -> Option<u32>
+        requires other { from ≢ (counts self.old).number }
+        requires inside { from < (counts self.old).domains }
+        ensures pooled { IfSome result IsPooled }
+        ensures took { IfSome result (λ _. Took (counts self.old) (counts self.new)) }
+        ensures missed { IfNone result (Missed from (counts self.old) (counts self.new)) };
+}
