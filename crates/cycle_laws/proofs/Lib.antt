@@ -9,7 +9,6 @@ pub mod Counting
 pub mod Cycling
 pub mod Keeping
 pub mod Covering
-pub mod Sweep
 pub mod Progressing
 pub mod Pooling
 pub mod BesideGraphs

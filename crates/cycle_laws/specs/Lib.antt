@@ -8,6 +8,5 @@ pub mod CycleLaws
 pub mod Fullness
 pub mod Cover
 pub mod Pools
-pub mod Sweeping
 pub mod Progress
 pub mod Beside

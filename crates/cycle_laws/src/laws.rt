@@ -5,7 +5,6 @@ ghost use Rattle.cycle_laws.specs.CycleLaws.{DarkeningSteps, PhaseSteps, TakingS
 ghost use Rattle.cycle_laws.specs.Fullness.{FullnessLaw};
 ghost use Rattle.cycle_laws.specs.Pools.{PoolsLaw};
 ghost use Rattle.cycle_laws.specs.Progress.{ProgressLaw};
-ghost use Rattle.cycle_laws.specs.Sweeping.{SweepLaw};
 ghost use Rattle.cycle_laws.specs.Taking.{LeftLaw};
 
 /// Each darkening, each scan, each store of the changed word, each look at an own place and each arrival keeps what holds
@@ -30,11 +29,6 @@ pub fn phases_follow()
 /// nothing but what is reachable, a block is marked exactly where it is reachable.
 pub fn rest_is_marked()
     ensures { LeftLaw }
-{}
-
-/// Where each domain has freed the garbage in its pools and arrived, no block has the colour of garbage.
-pub fn garbage_is_freed()
-    ensures { SweepLaw }
 {}
 
 /// Where each domain has added the blocks and the words that are marked in its pools, the sums are what `full_major` answers.

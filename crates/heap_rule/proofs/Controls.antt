@@ -20,6 +20,7 @@ use Rattle.heap_rule.specs.Phases.{Pause, Phases, sum_of, IsEven, IsOdd, Staged,
 use Rattle.heap_rule.specs.Pools.{Stock, Reserved, Covered, limit_of, Tenancy, Pools, Grid, Drawers, Resting, Hunter, Lists, Holder}
 use Rattle.heap_rule.specs.declared.view.Listing.{Listing}
 use Rattle.heap_rule.specs.Deciding.{Deciding}
+use Rattle.heap_rule.specs.Sweeping.{SweepsIn}
 use Rattle.heap_rule.specs.Rule.{state_of, AllFound, Making, Account, Sharing, Rule, Good}
 use Rattle.heap_rule.specs.Room.{Room, IsUnused, Drawable}
 use Rattle.remembered_set.specs.Bounded.{Bounded}
@@ -111,16 +112,16 @@ cycle_untouched words words' u changed = record {
 }
 
 -- all that the rule says of a domain's share stays where nothing of a collection moves
-pub sharing_words : (k : Config) (all all' : Account) (words words' : List ℕ) (z : DomainView) → all'.log ≡ all.log → all'.live ≡ all.live → all'.tenancy.holder ≡ all.tenancy.holder → all'.tenancy.garbage ≡ all.tenancy.garbage → all'.cycling ≡ all.cycling
+pub sharing_words : (k : Config) (all all' : Account) (words words' : List ℕ) (z : DomainView) → all'.log ≡ all.log → all'.live ≡ all.live → all'.tenancy.holder ≡ all.tenancy.holder → all'.cycling ≡ all.cycling
     → SameCycle words words' → ((a : ℕ) → at_address k words' a ≡ at_address k words a) → Sharing k all words z.own.number z.own.registers z.own.finalisers z.own.ephemerons.items z.seen.stage z.seen.share → Sharing k all' words' z.own.number z.own.registers z.own.finalisers z.own.ephemerons.items z.seen.stage z.seen.share
-sharing_words k all all' words words' z log live holder garbage cycling same heap sh = record {
+sharing_words k all all' words words' z log live holder cycling same heap sh = record {
   telling = subst (λ (c : Cycling). Telling c.paint.colours c.shares z.own.number z.seen.share) (sym cycling) sh.telling;
   leading = subst (λ (c : Cycling). Leading c words' z.own.number z.seen.stage z.seen.share) (sym cycling) (leading_words all.cycling words words' z.own.number z.seen.stage z.seen.share same sh.leading);
   knows = subst (λ (m : List Entry × Live × (ℕ → Holder) × Cycling). KnowsBlocks k m.1 m.2 (state_of k m.0).graph m.3.paint.marks words' z.own.number z.own.registers z.seen.stage z.seen.share)
       (λ i. (sym log i, sym live i, sym holder i, sym cycling i)) (knows_words k all.live all.tenancy.holder (state_of k all.log).graph all.cycling.paint.marks words words' z.own.number z.own.registers z.seen.stage z.seen.share heap sh.knows);
   adds = subst (λ (m : Live × Cycling). Adds m.0 m.1 z.own.number z.seen.share) (λ i. (sym live i, sym cycling i)) sh.adds;
-  looks = subst (λ (m : List Entry × Live × (ℕ → Holder) × (ℕ → Bool) × Cycling). Looks m.1 m.2 m.3 (state_of k m.0).graph m.4.paint.marks m.4.paint.emptied z.own.number z.own.ephemerons.items z.seen.stage z.seen.share)
-      (λ i. (sym log i, sym live i, sym holder i, sym garbage i, sym cycling i)) sh.looks;
+  looks = subst (λ (m : List Entry × Live × (ℕ → Holder) × Cycling). Looks m.1 m.2 (state_of k m.0).graph m.3.paint.marks m.3.paint.emptied z.own.number z.own.ephemerons.items z.seen.stage z.seen.share)
+      (λ i. (sym log i, sym live i, sym holder i, sym cycling i)) sh.looks;
   running = subst (λ (m : Live × (ℕ → Holder) × Cycling). RunsBeside k m.0 m.1 m.2.armed m.2.past m.2.paint.marks.marked words' z.own.number z.seen.stage z.seen.share) (λ i. (sym live i, sym holder i, sym cycling i))
       (runs_on k all.live all.live all.tenancy.holder all.tenancy.holder all.cycling.armed all.cycling.past all.cycling.past all.cycling.paint.marks.marked all.cycling.paint.marks.marked words words' z.own.number z.seen.stage z.seen.share (λ _. endures_words k all.live all.tenancy.holder all.cycling.paint.marks.marked words words' heap) refl (λ q. refl) sh.running);
   deciding = subst (λ (m : Live × Cycling). Deciding m.0 m.1.kind m.1.left m.1.shares.arrived m.1.paint.marks.marked z.own.number z.own.finalisers z.seen.share.kept z.seen.share.waiting) (λ i. (sym live i, sym cycling i)) sh.deciding;
@@ -247,6 +248,8 @@ module _ (k : Config) (s : Words) (r : Rule k s) (id : ℕ) (hist : List Entry) 
     pub took_back : TookBack words' y
     pub others_took_back : (z : DomainView) → Staged r.account.pause z → TookBack s.words z → TookBack words' z
     pub set_back : HasSetBack y → cursor words' ≤ limit_of k (listed words')
+    pub sweeps : SweepsIn r.account.tenancy c' y
+    pub others_sweep : (z : DomainView) → z.own.number < k.domains → z.own.number ≢ x.own.number → Good k r.account s.words z → SweepsIn r.account.tenancy c' z
 
   pub turns : (m : Move) (pause' : Pause) (stock' : Stock) (c' : Cycling) (homes' : Homes) (words' : List ℕ) → let y : DomainView = moved_to x m in Turns y pause' stock' c' homes' words'
       → Rule k record { words = words'; homes = s.homes; views = set s.views id (one k hist y) }
@@ -298,6 +301,7 @@ module _ (k : Config) (s : Words) (r : Rule k s) (id : ℕ) (hist : List Entry) 
         set_back = o.set_back;
         sharing = o.sharing;
         listed = g.listed;
+        sweeps = o.sweeps;
       }
       (λ z below other h. record {
         stood = h.stood;
@@ -313,6 +317,7 @@ module _ (k : Config) (s : Words) (r : Rule k s) (id : ℕ) (hist : List Entry) 
         set_back = λ b. low_untouched k s.words words' o.untouched (h.set_back b);
         sharing = o.sharings z below other h;
         listed = h.listed;
+        sweeps = o.others_sweep z below other h;
       })
 
   -- a step that leaves where all stand, and the front
@@ -330,8 +335,8 @@ module _ (k : Config) (s : Words) (r : Rule k s) (id : ℕ) (hist : List Entry) 
         full = r.whole.full;
         paint = refl;
         cycle = cycle_words k (state_of k r.account.log) r.account.live r.account.pause t r.account.cycling s.words words' same heap r.whole.cycle;
-        sharing = sharing_words k r.account r.account s.words words' x refl refl refl refl refl same heap g.sharing;
-        sharings = λ z _ _ h. sharing_words k r.account r.account s.words words' z refl refl refl refl refl same heap h.sharing;
+        sharing = sharing_words k r.account r.account s.words words' x refl refl refl refl same heap g.sharing;
+        sharings = λ z _ _ h. sharing_words k r.account r.account s.words words' z refl refl refl refl same heap h.sharing;
         owes = owes_as k r.account.live x y refl refl refl refl g.owes;
         settled = r.whole.settled;
         cleared = r.whole.cleared;
@@ -362,6 +367,8 @@ module _ (k : Config) (s : Words) (r : Rule k s) (id : ℕ) (hist : List Entry) 
         took_back = took_back;
         others_took_back = others_took_back;
         set_back = λ h. low_untouched k s.words words' u (g.set_back (set_back h));
+        sweeps = g.sweeps;
+        others_sweep = λ z _ _ h. h.sweeps;
       }
 
 -- the last of a list that ends with a note

@@ -32,6 +32,7 @@ use Rattle.heap_rule.specs.declared.view.Finalisers.{Finalisers}
 use Rattle.heap_rule.specs.Finalisers.{RefersOld, Enrolled}
 use Rattle.heap_rule.proofs.FinaliserLemmas.{enrolled_at}
 use Rattle.heap_model.specs.declared.state.State as model
+use Rattle.heap_rule.specs.Sweeping.{SweepsIn}
 use Rattle.heap_rule.specs.Rule.{state_of, AllFound, Stood, Rule, Account, Sharing, Good}
 use Rattle.heap_rule.specs.Views.{one}
 use Rattle.heap_rule.proofs.Again.{Back, placed_back, spread_back, area_back, none_back}
@@ -230,6 +231,8 @@ module _ (k : Config) (s : Words) (r : Rule k s) (id : ℕ) (hist : List Entry) 
     pub own_forgot : x.seen.remembered ≡ []
     pub all_forgot : (z : DomainView) → z.own.number < k.domains → z.own.number ≢ x.own.number → Staged r.account.pause z → Rooted k r.account.pause z → z.seen.remembered ≡ []
     pub all_quiet : (z : DomainView) → z.own.number < k.domains → z.own.number ≢ x.own.number → Staged r.account.pause z → Owes k r.account.live z → z.seen.copying ≡ nothing_copied
+    pub sweeps : SweepsIn r.account.tenancy c' y
+    pub others_sweep : (z : DomainView) → z.own.number < k.domains → z.own.number ≢ x.own.number → Good k r.account s.words z → SweepsIn r.account.tenancy c' z
 
   pub drops : (m : Move) (pause' : Pause) (c' : Cycling) (words' : List ℕ) → m.copying ≡ nothing_copied → let y : DomainView = moved_to x m in Drops y pause' c' words'
       → Rule k record { words = words'; homes = s.homes; views = set s.views id (one k hist y) }
@@ -314,6 +317,7 @@ module _ (k : Config) (s : Words) (r : Rule k s) (id : ℕ) (hist : List Entry) 
         set_back = λ h. absurd (o.gone h);
         sharing = o.sharing;
         listed = listed_low x g;
+        sweeps = o.sweeps;
       }
       (λ z below other h. let zh = hunter_untouched k t s.words words' z o.untouched h.hunter in record {
         stood = stood_low z (o.all_old z below other h.staged h.rooted) h.stood;
@@ -338,4 +342,5 @@ module _ (k : Config) (s : Words) (r : Rule k s) (id : ℕ) (hist : List Entry) 
         set_back = λ b. low_untouched k s.words words' o.untouched (h.set_back b);
         sharing = o.sharings z below other h;
         listed = listed_low z h;
+        sweeps = o.others_sweep z below other h;
       })

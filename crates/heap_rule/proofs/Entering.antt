@@ -35,6 +35,7 @@ use Rattle.heap_rule.proofs.Values.{AllStand, holds}
 use Rattle.heap_rule.specs.declared.view.Share.{Share}
 use Rattle.heap_rule.proofs.Sharings.{with_weak}
 use Rattle.heap_rule.proofs.Advancing.{Advance}
+use Rattle.heap_rule.proofs.Garbage.{garbage_same}
 use Rattle.heap_rule.proofs.Keeps.{Words, IsOfTrace, mine, my_good, own, control_same, controls_kept, appends, legal_entry, hunter_as, more_same, owes_as, recalls_same, run_settled, run_open}
 use Rattle.heap_model.proofs.Commands.MoveLemmas.{registers_one}
 use Rattle.heap_rule.specs.declared.view.Finalisers.{Finalisers}
@@ -164,6 +165,8 @@ module _ (k : Config) (s : Words) (r : Rule k s) (id : ℕ) (hist : List Entry) 
     hunters = λ z _ g. g.hunter;
     listed = record { all = g.listed.all; own = g.listed.own; lives = g.listed.lives };
     listeds = λ z _ h. h.listed;
+    garbage = garbage_same k r.account.live r.account.tenancy r.account.cycling s.words r.whole.cycle.leaves;
+    sweeps = g.sweeps;
   }
 
   -- a domain that owed nothing, and owes nothing

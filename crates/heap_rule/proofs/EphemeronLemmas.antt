@@ -20,10 +20,9 @@ use Rattle.heap_rule.specs.Places.{Place, Live, Paint, HasValue, values_of, with
 use Rattle.heap_rule.specs.Pools.{Holder, OwnPlace, owned, place_in}
 
 -- who is at no block is at no ephemeron
-pub looks_idle : (live : Live) (holder : ℕ → Holder) (garbage : ℕ → Bool) (graph : Graph) (marks : Marks) (emptied : Label → List ℕ) (d : ℕ) (items : List ℕ) (stage : Stage) (share : Share) → IsIdle share → ((l : Label) → emptied l ≡ []) → Looks live holder garbage graph marks emptied d items stage share
-looks_idle live holder garbage graph marks emptied d items stage share idle none = record {
+pub looks_idle : (live : Live) (holder : ℕ → Holder) (graph : Graph) (marks : Marks) (emptied : Label → List ℕ) (d : ℕ) (items : List ℕ) (stage : Stage) (share : Share) → IsIdle share → ((l : Label) → emptied l ≡ []) → Looks live holder graph marks emptied d items stage share
+looks_idle live holder graph marks emptied d items stage share idle none = record {
   at_own = λ a e. absurd (let h : ephemeron_of share.scan ≡ None = ap (λ (y : Share). ephemeron_of y.scan) idle in let clash : ◌≡◌ {A = Option ℕ} None (Some a) = sym h ∙ e in cc);
-  pruned = λ i a low got. absurd (let n : ℕ = share.pruned in let z : n ≡ 0 = ap (λ (y : Share). y.pruned) idle in let h : i < n = low in omega arith);
   cleans = λ w e. absurd (let h : share.cleaning ≡ None = ap (λ (y : Share). y.cleaning) idle in let clash : ◌≡◌ {A = Option Cleaning} None (Some w) = sym h ∙ e in cc);
   emptied_is = λ a p own lives. none p.label ∙ sym (ap (λ (y : Share). emptied_at y.cleaning a) idle);
 }

@@ -46,6 +46,8 @@ use Rattle.heap_rule.specs.Phases.{Pause, Phases, sum_of, IsEven, AtStage, Stage
 use Rattle.heap_rule.specs.Rule.{state_of, AllFound, Stood, Area, Making, Account, Good, Sharing, Whole, Rule}
 use Rattle.heap_rule.specs.Cycles.{Cycling, Cycled, Telling, Leading, HasNoCycle, IsBetween, IsIdle}
 use Rattle.heap_rule.proofs.PauseFacts.{not_both, agree, nobody_paused, staged_as, run_promoting, run_resetting, kind_differs}
+use Rattle.heap_rule.specs.Sweeping.{SweepsIn}
+use Rattle.heap_rule.proofs.Garbage.{KeepsGarbage, garbage_same, sweeps_on}
 use Rattle.heap_rule.proofs.Sharings.{SameCycle, KeepsUnderway, with_past, with_weak, leading_past, telling_weak, leading_weak, kind_now, cycle_between, facts_between, leading_words, leading_as, telling_as, idle_in, idle_beside, takes_kind, adds_nothing}
 use Rattle.heap_rule.proofs.BesideLemmas.{Endures, all_known_on, runs_on, runs_as, knows_weak}
 use Rattle.heap_rule.specs.declared.view.Share.{Share}
@@ -554,7 +556,7 @@ module _ (k : Config) (s : Words) (r : Rule k s) (id : ℕ) (hist : List Entry) 
   pub between_here : (kind : Kind) → HasNoCycle kind → x.seen.stage ≡ In kind → IsBetween k now r.account.live r.account.cycling
   between_here kind none is = facts_between r.account.cycling.kind k now r.account.live r.account.tenancy r.account.cycling s.words (no_cycle_here kind none is) r.whole.cycle.facts
 
-  pub cycle_here : (kind : Kind) → HasNoCycle kind → x.seen.stage ≡ In kind → (after : model.State) (live' : Live) (t' : Tenancy) (past' : Past) (words' : List ℕ) → after.mode ≡ now.mode → ((a : ℕ) → t'.garbage a ≡ r.account.tenancy.garbage a) → SameCycle s.words words'
+  pub cycle_here : (kind : Kind) → HasNoCycle kind → x.seen.stage ≡ In kind → (after : model.State) (live' : Live) (t' : Tenancy) (past' : Past) (words' : List ℕ) → after.mode ≡ now.mode → KeepsGarbage k live' r.account.tenancy t' s.words words' → SameCycle s.words words'
       → KeepsUnderway k now after r.account.live live' r.account.cycling past' → Cycled k after live' r.account.pause t' (with_past r.account.cycling past') words'
   cycle_here kind none is after live' t' past' words' mode garbage same keeps = cycle_between k now after r.account.live live' r.account.pause r.account.tenancy t' r.account.cycling past' s.words words' (no_cycle_here kind none is) mode garbage same keeps r.whole.cycle
 
@@ -591,7 +593,7 @@ module _ (k : Config) (s : Words) (r : Rule k s) (id : ℕ) (hist : List Entry) 
             (leading_weak c1 words' x.own.number x.seen.stage x.seen.share weak' (leading_past r.account.cycling past' words' x.own.number x.seen.stage x.seen.share (leading_words r.account.cycling s.words words' x.own.number x.seen.stage x.seen.share same my_good.sharing.leading))));
         knows = inl idle;
         adds = adds_nothing all'.live all'.cycling y.own.number y.seen.share no1;
-        looks = looks_idle all'.live all'.tenancy.holder all'.tenancy.garbage (state_of k all'.log).graph all'.cycling.paint.marks all'.cycling.paint.emptied y.own.number y.own.ephemerons.items y.seen.stage y.seen.share idle unmissed;
+        looks = looks_idle all'.live all'.tenancy.holder (state_of k all'.log).graph all'.cycling.paint.marks all'.cycling.paint.emptied y.own.number y.own.ephemerons.items y.seen.stage y.seen.share idle unmissed;
         running = runs;
         deciding = deciding_none all'.live all'.cycling.kind all'.cycling.left all'.cycling.shares.arrived all'.cycling.paint.marks.marked y.own.number y.own.finalisers y.seen.share.kept y.seen.share.waiting no1;
       }
@@ -606,14 +608,15 @@ module _ (k : Config) (s : Words) (r : Rule k s) (id : ℕ) (hist : List Entry) 
         leading = subst (λ (c : Cycling). Leading c words' z.own.number z.seen.stage z.seen.share) (sym cycling) (leading_past r.account.cycling past' words' z.own.number z.seen.stage z.seen.share (leading_words r.account.cycling s.words words' z.own.number z.seen.stage z.seen.share same g.sharing.leading));
         knows = inl idle;
         adds = adds_nothing all'.live all'.cycling z.own.number z.seen.share no1;
-        looks = looks_idle all'.live all'.tenancy.holder all'.tenancy.garbage (state_of k all'.log).graph all'.cycling.paint.marks all'.cycling.paint.emptied z.own.number z.own.ephemerons.items z.seen.stage z.seen.share idle unmissed;
+        looks = looks_idle all'.live all'.tenancy.holder (state_of k all'.log).graph all'.cycling.paint.marks all'.cycling.paint.emptied z.own.number z.own.ephemerons.items z.seen.stage z.seen.share idle unmissed;
         running = runs;
         deciding = deciding_none all'.live all'.cycling.kind all'.cycling.left all'.cycling.shares.arrived all'.cycling.paint.marks.marked z.own.number z.own.finalisers z.seen.share.kept z.seen.share.waiting no1;
       }
 
-  -- there is no garbage then
-  pub no_garbage_here : (kind : Kind) → HasNoCycle kind → x.seen.stage ≡ In kind → (a : ℕ) → IsTrue (r.account.tenancy.garbage a) → ⊥
-  no_garbage_here kind none is a garbage = let e : false ≡ true = sym (r.whole.cycle.leaves.none (between_here kind none is).unrotated a) ∙ garbage in cc
+  -- where the heads of garbage are what they were, and nothing comes to live there, it stays
+  pub garbage_here : (live' : Live) (words' : List ℕ) → ((a : ℕ) → IsTrue (r.account.tenancy.garbage a) → live' a ≡ None) → ((a : ℕ) → IsTrue (r.account.tenancy.garbage a) → at_address k words' a ≡ at_address k s.words a)
+      → KeepsGarbage k live' r.account.tenancy r.account.tenancy s.words words'
+  garbage_here live' words' dead heads = record { same = λ a. refl; dead = dead; unprepared = r.whole.cycle.leaves.unprepared; heads = heads; held = λ q d c e. e }
 
   -- no collector's entry is open while a domain runs
   pub run_open : x.seen.stage ≡ In Run → now.mode ≡ Open
@@ -665,6 +668,8 @@ module _ (k : Config) (s : Words) (r : Rule k s) (id : ℕ) (hist : List Entry) 
     pub hunters : (z : DomainView) → z.own.number ≢ x.own.number → Good k r.account s.words z → Hunter k r.account.tenancy words' z
     pub listed : Listed live' r.account.tenancy.holder r.account.tenancy.garbage y.own.number y.own.ephemerons.items
     pub listeds : (z : DomainView) → z.own.number ≢ x.own.number → Good k r.account s.words z → Listed live' r.account.tenancy.holder r.account.tenancy.garbage z.own.number z.own.ephemerons.items
+    pub garbage : KeepsGarbage k live' r.account.tenancy r.account.tenancy s.words words'
+    pub sweeps : SweepsIn r.account.tenancy r.account.cycling y
 
   pub appends : (e : Entry) (y : DomainView) (words' : List ℕ) (live' : Live) (homes' : Homes) (past' : Past) → Appends e y words' live' homes' past' → Rule k record { words = words'; homes = s.homes; views = set s.views id (one k hist y) }
   appends e y words' live' homes' past' o =
@@ -706,11 +711,11 @@ module _ (k : Config) (s : Words) (r : Rule k s) (id : ℕ) (hist : List Entry) 
         unused = r.whole.unused;
         opened = o.opened;
         drawable = o.controls.drawable;
-        cycle = cycle_here Run tt o.runs (state_of k log') live' r.account.tenancy past' words' (ap (λ (t : model.State). t.mode) after ∙ (o.is_open ∙ sym (between_here Run tt o.runs).mode)) (λ a. refl) o.controls.cycle
+        cycle = cycle_here Run tt o.runs (state_of k log') live' r.account.tenancy past' words' (ap (λ (t : model.State). t.mode) after ∙ (o.is_open ∙ sym (between_here Run tt o.runs).mode)) o.garbage o.controls.cycle
             (subst (λ (t : model.State). KeepsUnderway k now t r.account.live live' c past') (sym after) o.advances.underway);
       }
       (knows_entry y e o.alone o.number o.front)
-      record { stood = subst (λ (t : model.State). Stood live' t y) (sym after) o.stood; area = o.area; making = o.making; staged = staged_as r.account.pause x y o.number o.arrivals o.stage my_good.staged; still = run_still log' y (o.stage ∙ o.runs); hunter = o.hunter; resting = resting_runs k s.words words' x y o.runs (o.stage ∙ o.runs) o.listing my_good.resting; took_back = running_took_back words' y (o.stage ∙ o.runs); owes = o.owes; rooted = run_rooted k r.account.pause x y o.runs my_good.staged; set_back = λ h. absurd (run_leads Run (sym (o.stage ∙ o.runs) ∙ h.0)); sharing = sharing_here Run tt o.runs all' words' past' o.weak y refl o.controls.cycle o.number o.stage o.share own_runs; listed = o.listed }
+      record { stood = subst (λ (t : model.State). Stood live' t y) (sym after) o.stood; area = o.area; making = o.making; staged = staged_as r.account.pause x y o.number o.arrivals o.stage my_good.staged; still = run_still log' y (o.stage ∙ o.runs); hunter = o.hunter; resting = resting_runs k s.words words' x y o.runs (o.stage ∙ o.runs) o.listing my_good.resting; took_back = running_took_back words' y (o.stage ∙ o.runs); owes = o.owes; rooted = run_rooted k r.account.pause x y o.runs my_good.staged; set_back = λ h. absurd (run_leads Run (sym (o.stage ∙ o.runs) ∙ h.0)); sharing = sharing_here Run tt o.runs all' words' past' o.weak y refl o.controls.cycle o.number o.stage o.share own_runs; listed = o.listed; sweeps = o.sweeps }
       (λ z _ other g. record {
         stood = subst (λ (t : model.State). Stood live' t z) (sym after) (stood_other r.account.live live' now (next now e) z (keeps_next now e z.own.number (o.alone z.own.number other)) (work_next now e z.own.number (o.alone z.own.number other) (trace_queues e o.of_trace)) o.more g.stood);
         area = o.areas z other g.area;
@@ -725,6 +730,7 @@ module _ (k : Config) (s : Words) (r : Rule k s) (id : ℕ) (hist : List Entry) 
         rooted = run_rooted k r.account.pause x z o.runs my_good.staged;
         sharing = sharings_here Run tt o.runs all' words' past' refl o.controls.cycle z g (runs_on k r.account.live live' holder holder c.armed c.past past' c.paint.marks.marked c.paint.marks.marked s.words words' z.own.number z.seen.stage z.seen.share (λ _. endures) o.advances.same_old (λ q. o.advances.owed_others z.own.number q other) g.sharing.running);
         listed = o.listeds z other g;
+        sweeps = g.sweeps;
       })
 
   -- What a step owes at which no entry stands and nothing comes to live or moves
@@ -756,6 +762,7 @@ module _ (k : Config) (s : Words) (r : Rule k s) (id : ℕ) (hist : List Entry) 
     pub cycle : Cycled k now r.account.live r.account.pause r.account.tenancy r.account.cycling words'
     pub sharing : Sharing k r.account words' y.own.number y.own.registers y.own.finalisers y.own.ephemerons.items y.seen.stage y.seen.share
     pub sharings : (z : DomainView) → z.own.number ≢ x.own.number → Good k r.account s.words z → Sharing k r.account words' z.own.number z.own.registers z.own.finalisers z.own.ephemerons.items z.seen.stage z.seen.share
+    pub sweeps : SweepsIn r.account.tenancy r.account.cycling y
 
   pub writes : (y : DomainView) (words' : List ℕ) → Writes y words' → Rule k record { words = words'; homes = s.homes; views = set s.views id (one k hist y) }
   writes y words' o =
@@ -786,8 +793,8 @@ module _ (k : Config) (s : Words) (r : Rule k s) (id : ℕ) (hist : List Entry) 
         cycle = o.cycle;
       }
       (knows_front y o.number o.front)
-      record { stood = o.stood; area = o.area; making = o.making; staged = staged_as r.account.pause x y o.number o.arrivals o.stage my_good.staged; still = o.still; hunter = o.hunter; resting = resting_as k words' x y o.number o.stage o.hunt o.free o.listing (resting_lists k s.words words' x o.controls.lists my_good.resting); took_back = λ kind leads last. o.controls.want ∙ my_good.took_back kind (sym o.stage ∙ leads) (sym (ap last_note o.notes) ∙ last); owes = owes_as k r.account.live x y o.number o.copying o.stage o.remembered my_good.owes; rooted = rooted_as k r.account.pause x y o.registers o.finalisers o.arrivals o.remembered my_good.rooted; set_back = λ h. o.controls.set_back x my_good.staged (sym o.stage ∙ h.0, sym (ap last_note o.notes) ∙ h.1) (my_good.set_back (sym o.stage ∙ h.0, sym (ap last_note o.notes) ∙ h.1)); sharing = o.sharing; listed = listed_as r.account.live r.account.tenancy.holder r.account.tenancy.garbage x.own.number y.own.number x.own.ephemerons.items y.own.ephemerons.items o.number (ap (λ (b : Bounded ℕ). b.items) o.ephemerons) my_good.listed }
-      (λ z _ other g. record { stood = g.stood; area = g.area; making = o.makings z other g.area g.making; staged = g.staged; still = g.still; hunter = o.hunters z other g; resting = resting_lists k s.words words' z o.controls.lists g.resting; took_back = λ kind leads last. o.controls.want ∙ g.took_back kind leads last; owes = g.owes; rooted = g.rooted; set_back = λ h. o.controls.set_back z g.staged h (g.set_back h); sharing = o.sharings z other g; listed = g.listed })
+      record { stood = o.stood; area = o.area; making = o.making; staged = staged_as r.account.pause x y o.number o.arrivals o.stage my_good.staged; still = o.still; hunter = o.hunter; resting = resting_as k words' x y o.number o.stage o.hunt o.free o.listing (resting_lists k s.words words' x o.controls.lists my_good.resting); took_back = λ kind leads last. o.controls.want ∙ my_good.took_back kind (sym o.stage ∙ leads) (sym (ap last_note o.notes) ∙ last); owes = owes_as k r.account.live x y o.number o.copying o.stage o.remembered my_good.owes; rooted = rooted_as k r.account.pause x y o.registers o.finalisers o.arrivals o.remembered my_good.rooted; set_back = λ h. o.controls.set_back x my_good.staged (sym o.stage ∙ h.0, sym (ap last_note o.notes) ∙ h.1) (my_good.set_back (sym o.stage ∙ h.0, sym (ap last_note o.notes) ∙ h.1)); sharing = o.sharing; listed = listed_as r.account.live r.account.tenancy.holder r.account.tenancy.garbage x.own.number y.own.number x.own.ephemerons.items y.own.ephemerons.items o.number (ap (λ (b : Bounded ℕ). b.items) o.ephemerons) my_good.listed; sweeps = o.sweeps }
+      (λ z _ other g. record { stood = g.stood; area = g.area; making = o.makings z other g.area g.making; staged = g.staged; still = g.still; hunter = o.hunters z other g; resting = resting_lists k s.words words' z o.controls.lists g.resting; took_back = λ kind leads last. o.controls.want ∙ g.took_back kind leads last; owes = g.owes; rooted = g.rooted; set_back = λ h. o.controls.set_back z g.staged h (g.set_back h); sharing = o.sharings z other g; listed = g.listed; sweeps = g.sweeps })
 
   -- a step that leaves all but the front, which is then some front of the history
   pub looks : (front : List Entry) → IsFrontOf x.own.number r.account.log front → (IsInPause x.seen.stage → front ≡ r.account.log) → Rule k record { words = s.words; homes = s.homes; views = set s.views id (one k hist (with_front x front)) }
@@ -819,6 +826,7 @@ module _ (k : Config) (s : Words) (r : Rule k s) (id : ℕ) (hist : List Entry) 
     cycle = r.whole.cycle;
     sharing = my_good.sharing;
     sharings = λ z _ g. g.sharing;
+    sweeps = my_good.sweeps;
   }
 
   -- What a step owes that changes the holders of pools or what the domain knows of them. No entry stands and nothing comes to live or moves
@@ -835,8 +843,7 @@ module _ (k : Config) (s : Words) (r : Rule k s) (id : ℕ) (hist : List Entry) 
     pub unused : IsUnused r.account.pause t'.stock
     pub endings : ended_word words' ≡ ended_word s.words
     pub cycle : SameCycle s.words words'
-    pub garbage : (a : ℕ) → t'.garbage a ≡ r.account.tenancy.garbage a
-    pub held : (q d c : ℕ) → r.account.tenancy.holder q ≡ owned d c → t'.holder q ≡ owned d c
+    pub garbage : KeepsGarbage k r.account.live r.account.tenancy t' s.words words'
     pub heads : (a : ℕ) (p : Place) → r.account.live a ≡ Some p → at_address k words' a ≡ at_address k s.words a
     pub full : Fullness k r.account.log r.account.live t'.holder t'.fresh r.account.homes r.account.cycling.kind
     pub found : AllFound k r.account.cycling.paint r.account.live now.graph words'
@@ -854,7 +861,9 @@ module _ (k : Config) (s : Words) (r : Rule k s) (id : ℕ) (hist : List Entry) 
       let in_kind = takes_kind x.seen.stage o.takes in
       let all' : Account = record r.account { tenancy = t' } in
       let past : Past = r.account.cycling.past in
-      let endures : Endures k r.account.live r.account.live r.account.tenancy.holder t'.holder r.account.cycling.paint.marks.marked r.account.cycling.paint.marks.marked s.words words' = record { more = λ a p e. record { place = p; lives = e; label = refl; shape = refl }; held = o.held; stays = λ l is. is; heads = λ a p e. inl (o.heads a p e) } in
+      let endures : Endures k r.account.live r.account.live r.account.tenancy.holder t'.holder r.account.cycling.paint.marks.marked r.account.cycling.paint.marks.marked s.words words' = record { more = λ a p e. record { place = p; lives = e; label = refl; shape = refl }; held = o.garbage.held; stays = λ l is. is; heads = λ a p e. inl (o.heads a p e) } in
+      let sweeps_then : (z : DomainView) → SweepsIn r.account.tenancy r.account.cycling z → SweepsIn t' r.account.cycling z =
+      (λ z. sweeps_on k r.account.live r.account.tenancy r.account.cycling s.words r.whole.cycle.leaves r.account.live t' words' o.garbage r.whole.pools (λ q d c e. (o.pools.owned_by q d c e).2) r.account.cycling.kind r.account.cycling.shares.arrived z.own.number z.own.ephemerons.items z.own.swept z.seen.share.reaping) in
       remakes (hunting_free x looked hunt free) (record r.account { tenancy = t' }) words'
       record {
         wide = o.wide ∙ r.whole.wide;
@@ -896,8 +905,9 @@ module _ (k : Config) (s : Words) (r : Rule k s) (id : ℕ) (hist : List Entry) 
         set_back = λ h. absurd (takes_leads x.seen.stage o.takes (subst IsLeading (sym h.0) tt));
         sharing = sharing_here in_kind.0 in_kind.1 in_kind.2 all' words' past x.seen.share.weak (hunting_free x looked hunt free) refl o.cycle refl refl refl (runs_here all' words' refl x (λ _. endures) my_good);
         listed = let l = o.listeds x my_good in record { all = l.all; own = l.own; lives = l.lives };
+        sweeps = sweeps_then x my_good.sweeps;
       }
-      (λ z _ other g. record { stood = g.stood; area = g.area; making = o.makings z g.making; staged = g.staged; still = g.still; hunter = o.hunters z other g; resting = resting_other k r.account.pause s.words words' x z o.takes my_good.staged g.staged g.resting; took_back = λ kind leads last. o.want ∙ g.took_back kind leads last; owes = g.owes; rooted = g.rooted; set_back = λ h. absurd (nobody_leads r.account.pause x z o.takes my_good.staged g.staged (subst IsLeading (sym h.0) tt)); sharing = sharings_here in_kind.0 in_kind.1 in_kind.2 all' words' past refl o.cycle z g (runs_here all' words' refl z (λ _. endures) g); listed = o.listeds z g })
+      (λ z _ other g. record { stood = g.stood; area = g.area; making = o.makings z g.making; staged = g.staged; still = g.still; hunter = o.hunters z other g; resting = resting_other k r.account.pause s.words words' x z o.takes my_good.staged g.staged g.resting; took_back = λ kind leads last. o.want ∙ g.took_back kind leads last; owes = g.owes; rooted = g.rooted; set_back = λ h. absurd (nobody_leads r.account.pause x z o.takes my_good.staged g.staged (subst IsLeading (sym h.0) tt)); sharing = sharings_here in_kind.0 in_kind.1 in_kind.2 all' words' past refl o.cycle z g (runs_here all' words' refl z (λ _. endures) g); listed = o.listeds z g; sweeps = sweeps_then z g.sweeps })
 
 -- a load leaves the words as they were
 pub unmoved : (k : Config) (s : Words) (at : ℕ) (views : List View) → Rule k record { words = s.words; homes = s.homes; views = views }

@@ -7,6 +7,7 @@ pub mod Values
 pub mod PauseFacts
 pub mod HeadLemmas
 pub mod EphemeronLemmas
+pub mod Garbage
 pub mod FinaliserLemmas
 pub mod Sharings
 pub mod BesideLemmas

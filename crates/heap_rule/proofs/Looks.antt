@@ -97,5 +97,6 @@ first_seat k n own me is e limits inside = subst (λ (m : Own × Me (Unit {0}) V
     pending = omega arith;
     ephemerons = λ i a e. absurd (no_item [] i a refl e);
     finalisers = fit_first k;
+    swept = record { pool = (let n : ℕ = k.pools in let g : n ≤ n = omega arith in g); slot = omega arith };
   };
 }

@@ -1,12 +1,13 @@
 -- What a written word leaves of the pools.
 use Rattle.heap_model.specs.Domains.{class_count}
-use Rattle.std.proofs.Common.{Bool, true, false, refl, ◌^◌, Option, None, ◌≡◌, ◌≢◌, ℕ, ◌+◌, ◌*◌, ◌<◌, ◌≤◌, ◌⊎◌, List, length, get_or, set, Some, sym, ap, ◌∙◌, subst, inl, inr, ⊎_elim, arith, get_or-set_other, lt_of_not-le, false}
+use Rattle.std.proofs.Common.{Bool, true, false, refl, ◌^◌, Option, None, ◌≡◌, ◌≢◌, ℕ, ◌+◌, ◌*◌, ◌<◌, ◌≤◌, ◌⊎◌, List, length, get_or, set, Some, sym, ap, ◌∙◌, subst, inl, inr, ⊎_elim, arith, get_or-set_other, lt_of_not-le, false, IsTrue}
 use mathlib.Core.Logic.{dite}
 use native.Mathlib.Decide.{ℕ_discrete, dec_le}
 use Rattle.heap_rule.specs.declared.config.Config.{Config}
 use Rattle.heap_rule.specs.declared.view.Hunt.{Hunt}
 use Rattle.heap_rule.specs.declared.view.Hunt.TheVariants.{Rests, Counts, Asks, Draws, Walks, Fills, Labels, Heads}
 use Rattle.heap_rule.specs.declared.view.DomainView.{DomainView}
+use Rattle.heap_rule.specs.Cycles.{Cycling, Leaves}
 use Rattle.heap_rule.specs.Layout.{before_heap, at_address}
 use Rattle.heap_rule.specs.Places.{Place, Live, Paint, colour_in, extent, head_of, Found, HeadIs, More}
 use Rattle.heap_model.specs.Graph.{Graph}
@@ -17,6 +18,7 @@ use Rattle.heap_rule.proofs.Lists.{got_below}
 use Rattle.heap_rule.proofs.Keeps.{control_set}
 use Rattle.heap_rule.proofs.Classes.{size_least, slot_below, slot_inside}
 use Rattle.heap_rule.proofs.Holders.{drawn_owned}
+use Rattle.heap_rule.proofs.OwnPlaces.{owned_same}
 
 pub number_cases : (o : Option ℕ) → (o ≡ None) ⊎ ((d : ℕ) × (o ≡ Some d))
 number_cases None = inl refl
@@ -33,9 +35,6 @@ none_before q slot low = ⊎_elim (λ (h : q < 0). omega arith) (λ (h : (q ≡ 
 -- the pool of one holder isn't that of another
 pub drawn_same : (d e : ℕ) → ◌≡◌ {A = Holder} (drawn d) (drawn e) → d ≡ e
 drawn_same d e h = cc
-
-pub owned_same : (d e c b : ℕ) → ◌≡◌ {A = Holder} (owned d c) (owned e b) → (d ≡ e) × (c ≡ b)
-owned_same d e c b h = (cc, cc)
 
 -- The written word is none that a domain's knowledge of its pools rests on: it lies in no pool that the domain has drawn, and of each place of its own pools either outside, or behind a head that isn't Free, where the place isn't prepared
 pub record Beside (k : Config) (t : Tenancy) (words : List ℕ) (d at : ℕ) : Type 0 where
@@ -262,3 +261,15 @@ pool_beside k t words pool at d p low high not_drawn not_owned = record {
       (λ below. let b : q ≤ pool = below in inr (let h : q * 4096 + s + 1 + z ≤ at = omega arith in h))
       (λ above. let b : pool < q = lt_of_not-le above in inl (let h : at < q * 4096 + s + 1 = omega arith in h))));
 }
+
+module _ (k : Config) (live : Live) (t : Tenancy) (c : Cycling) (words : List ℕ) (l : Leaves k live t c words) where
+  -- a head of garbage isn't Free
+  pub garbage_full : (a : ℕ) → IsTrue (t.garbage a) → at_address k words a ≢ 0
+  garbage_full a is e = let h = l.head a is in head_some h.0.0 c.paint.colours.garbage h.1 (sym h.2 ∙ e)
+
+  -- a word beside the places of all is none of its heads
+  pub garbage_beside : (at new : ℕ) → Pools k t words → ((d : ℕ) → Beside k t words d at) → (a : ℕ) → IsTrue (t.garbage a) → at_address k (set words (before_heap k + at) new) a ≡ at_address k words a
+  garbage_beside at new pools beside a is =
+      let o = l.owned a is in
+      let p = o.1 in
+      ap (at_address k (set words (before_heap k + at) new)) p.begins ∙ (place_stays k t words at new pools o.0 (beside o.0) p.pool p.class p.slot p.owned_is p.inside ∙ sym (ap (at_address k words) p.begins))

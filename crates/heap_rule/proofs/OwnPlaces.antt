@@ -9,6 +9,10 @@ use Rattle.heap_rule.specs.Cycles.{starts_in, owner_at}
 use Rattle.heap_rule.proofs.Classes.{fill}
 use Rattle.std.proofs.lemmas.Option.{none-some, same_Some}
 
+-- the pool of one owner isn't that of another
+pub owned_same : (d e c b : ℕ) → ◌≡◌ {A = Holder} (owned d c) (owned e b) → (d ≡ e) × (c ≡ b)
+owned_same d e c b h = (cc, cc)
+
 -- a word of a pool at which a place of the class begins
 slot_of : (c rest : ℕ) → c < class_count → rest < 4096 → rest % size_of c ≡ 0 → (rest / size_of c < blocks_of c) × (rest / size_of c * size_of c ≡ rest)
 slot_of c rest few low starts =

@@ -13,7 +13,7 @@ use Rattle.heap_rule.specs.Changes.{changed, FitChanges}
 use Rattle.heap_rule.specs.Finalisers.{FinalisersFit}
 use Rattle.heap_rule.specs.Raw.{StepsOnce, CanChange, Changes, Written, Closes}
 use Rattle.heap_rule.specs.Standing.{Entered, with_front, with_own, with_registers}
-use Rattle.heap_rule.specs.Token.{AllInHeap, Holds, LooksWithin, OwnFits}
+use Rattle.heap_rule.specs.Token.{AllInHeap, Holds, LooksWithin, OwnFits, SweptWithin}
 use Rattle.heap_rule.proofs.ChangeLemmas.{changed_only}
 
 -- what fits a token fits it after the changes, where the registers then hold what registers may hold
@@ -29,6 +29,7 @@ fits_changed k own own' read changes is fits holds =
       pending = ap (λ (o : Own). o.pending.room + length o.pending.items) only ∙ fits.pending;
       ephemerons = subst (λ (o : Own). AllInHeap k o.ephemerons.items) (sym only) fits.ephemerons;
       finalisers = subst (λ (o : Own). FinalisersFit k o.finalisers) (sym only) fits.finalisers;
+      swept = subst (λ (o : Own). SweptWithin k o.swept) (sym only) fits.swept;
     }
 
 pub entered_own : (k : Config) (e : Entry) (answer : Applied) (read : Value) (changes : List Change) (x y : DomainView) → Entered k e answer read changes x y → y.own ≡ changed read changes x.own

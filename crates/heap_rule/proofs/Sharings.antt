@@ -20,6 +20,7 @@ use Rattle.heap_rule.specs.Phases.{Pause, Agree, AtStage, Staged}
 use Rattle.heap_rule.specs.Places.{Live}
 use Rattle.heap_rule.specs.Pools.{Holder, Tenancy, Takes, place_in}
 use Rattle.heap_rule.specs.Cycles.{Cycling, Cycled, Facts, IsBetween, IsSwept, Told, Leading, Telling, Knowing, KnowsBlocks, HasNoCycle, IsCollecting, IsIdle, Adds}
+use Rattle.heap_rule.proofs.Garbage.{KeepsGarbage, leaves_on}
 use Rattle.heap_rule.proofs.PauseFacts.{agree}
 use Rattle.heap_rule.proofs.EphemeronLemmas.{none_misses}
 
@@ -75,32 +76,26 @@ with_past c past = record c { past = past }
 abbrev pub KeepsUnderway : Config → model.State → model.State → Live → Live → Cycling → Past → Type 0
 KeepsUnderway k s s' live live' c past' = IsTrue c.armed → Underway k s live c.kind c.past c.paint.marks c.shares → Underway k s' live' c.kind past' c.paint.marks c.shares
 
--- outside a collection there is no garbage, whatever happens to blocks and pools
-pub cycle_between : (k : Config) (s s' : model.State) (live live' : Live) (p : Pause) (t t' : Tenancy) (c : Cycling) (past' : Past) (words words' : List ℕ) → HasNoCycle c.kind → s'.mode ≡ s.mode → ((a : ℕ) → t'.garbage a ≡ t.garbage a)
+-- outside a collection garbage stays, and nothing else is known of one
+pub cycle_between : (k : Config) (s s' : model.State) (live live' : Live) (p : Pause) (t t' : Tenancy) (c : Cycling) (past' : Past) (words words' : List ℕ) → HasNoCycle c.kind → s'.mode ≡ s.mode → KeepsGarbage k live' t t' words words'
     → SameCycle words words' → KeepsUnderway k s s' live live' c past' → Cycled k s live p t c words → Cycled k s' live' p t' (with_past c past') words'
 cycle_between k s s' live live' p t t' c past' words words' none mode garbage same keeps y =
     let b = facts_between c.kind k s live t c words none y.facts in
-    let nothing : (a : ℕ) → t'.garbage a ≡ false = (λ a. garbage a ∙ y.leaves.none b.unrotated a) in
-    let no_garbage : (a : ℕ) → IsTrue (t'.garbage a) → ⊥ = (λ a is. let e : false ≡ true = sym (nothing a) ∙ is in cc) in record {
+    record {
       armed_is = same.armed_same ∙ y.armed_is;
       meanings = y.meanings;
       colours_are = same.colours_same ∙ y.colours_are;
       changed_is = same.changed_same ∙ y.changed_is;
       facts = between_facts c.kind k s' live' t' (with_past c past') words' none record { mode = mode ∙ b.mode; unmarked = b.unmarked; beside = λ is. keeps is (b.beside is); unchanged = b.unchanged; unrotated = b.unrotated };
       told = y.told;
-      leaves = record {
-        none = λ _ a. nothing a;
-        dead = λ a is. absurd (no_garbage a is);
-        head = λ a is. absurd (no_garbage a is);
-      };
+      leaves = leaves_on k live t c words y.leaves live' t' words' garbage (with_past c past') refl refl refl;
+      unswept = y.unswept;
       whole = λ l. inl (none_misses live t.holder c none y.whole l);
     }
 
 -- the live words are counted as before
 swept_words : (k : Config) (s : model.State) (live : Live) (holder : ℕ → Holder) (c : Cycling) (words words' : List ℕ) → SameCycle words words' → IsSwept k s live holder c words → IsSwept k s live holder c words'
 swept_words k s live holder c words words' same f = let n = f.counted in record {
-  facts = f.facts;
-  rotated = f.rotated;
   all_marked = f.all_marked;
   unmarked = f.unmarked;
   unchanged = f.unchanged;
@@ -118,8 +113,8 @@ facts_words Decide k s live t c words words' same f = f
 facts_words Queued k s live t c words words' same f = f
 facts_words Clean k s live t c words words' same f = f
 facts_words Lasts k s live t c words words' same f = f
-facts_words Sweep k s live t c words words' same f = record { mode = f.mode; swept = swept_words k s live t.holder c words words' same f.swept; sweep = f.sweep; all_counted = f.all_counted }
-facts_words Answer k s live t c words words' same f = record { mode = f.mode; whole = f.whole; swept = swept_words k s live t.holder c words words' same f.swept; clean = f.clean; all_counted = f.all_counted; held = f.held }
+facts_words Sweep k s live t c words words' same f = record { since = f.since; swept = swept_words k s live t.holder c words words' same f.swept; clear = f.clear; all_counted = f.all_counted }
+facts_words Answer k s live t c words words' same f = record { mode = f.mode; whole = f.whole; ends = f.ends; swept = swept_words k s live t.holder c words words' same f.swept; clean = f.clean; all_counted = f.all_counted; held = f.held }
 
 -- a step that leaves the words of a collection and the heads of garbage
 pub cycle_words : (k : Config) (s : model.State) (live : Live) (p : Pause) (t : Tenancy) (c : Cycling) (words words' : List ℕ) → SameCycle words words' → ((a : ℕ) → at_address k words' a ≡ at_address k words a)
@@ -131,7 +126,8 @@ cycle_words k s live p t c words words' same heap y = record {
   changed_is = same.changed_same ∙ y.changed_is;
   facts = facts_words c.kind k s live t c words words' same y.facts;
   told = y.told;
-  leaves = record { none = y.leaves.none; dead = y.leaves.dead; head = λ a is. let h = y.leaves.head a is in (h.0, h.1, heap a ∙ h.2) };
+  leaves = record { none = y.leaves.none; dead = y.leaves.dead; head = λ a is. let h = y.leaves.head a is in (h.0, h.1, heap a ∙ h.2); unprepared = y.leaves.unprepared; owned = y.leaves.owned };
+  unswept = y.unswept;
   whole = y.whole;
 }
 
@@ -146,6 +142,7 @@ leading_words c words words' d stage share same l = record {
   pass = l.pass;
   whole = l.whole;
   armed = l.armed;
+  unswept = l.unswept;
 }
 
 pub knowing_words : (k : Config) (live : Live) (holder : ℕ → Holder) (graph : Graph) (marks : Marks) (words words' : List ℕ) (d : ℕ) (registers : List Value) (share : Share) → ((a : ℕ) → at_address k words' a ≡ at_address k words a)
@@ -203,6 +200,7 @@ leading_past c past' words d stage share l = record {
   pass = l.pass;
   whole = l.whole;
   armed = l.armed;
+  unswept = l.unswept;
 }
 
 -- and what it owes the darkening of is nothing of it
@@ -222,6 +220,7 @@ leading_weak c words d stage share weak l = record {
   pass = l.pass;
   whole = l.whole;
   armed = l.armed;
+  unswept = l.unswept;
 }
 
 -- outside a collection nobody has anything to add

@@ -29,7 +29,7 @@ use Rattle.heap_rule.proofs.Keeps.{sum_same, run_leads, copies_settled, room_unu
 use Rattle.heap_rule.specs.Views.{no_finalisers, EachView, AllDomains, Distinct, IsSeated, Knows, opening_view, opening_views, first_view}
 use Rattle.heap_rule.specs.Rule.{Stood, Area, Account, Good, Whole, Rule}
 use Rattle.heap_rule.specs.Pools.{no_stock, IsPlace, Holder, nobody, drawn, owned, owner_word, Tenancy, Pools, Lot, Grid, place_in, size_of, blocks_of, IsBefore}
-use Rattle.heap_rule.proofs.Lots.{owned_same}
+use Rattle.heap_rule.proofs.OwnPlaces.{owned_same}
 use Rattle.heap_rule.specs.Opening.{IsOpening, first_colours}
 use Rattle.heap_rule.proofs.Update.{over, over_here, over_else}
 use Rattle.heap_rule.proofs.Sizes.{heap_large}
@@ -151,7 +151,7 @@ first_made l q e = same_label-true shared_label l (go (same_label shared_label l
 
 -- no collection has begun
 abbrev first_cycle : Cycling
-first_cycle = record { kind = Run; pass = First; paint = record { colours = first_colours; marks = record { marked = λ _. false; scanned = λ _. false }; emptied = λ _. [] }; shares = no_shares; before = λ _. false; left = λ _. 0; rotated = false; counts = record { own = λ _. []; blocks = λ _. false; words = λ _. false }; whole = true; armed = false; past = record { old = []; held = λ _. false; overwritten = λ _ _. false; owed = λ _ _. false } }
+first_cycle = record { kind = Run; pass = First; paint = record { colours = first_colours; marks = record { marked = λ _. false; scanned = λ _. false }; emptied = λ _. [] }; shares = no_shares; before = λ _. false; left = λ _. 0; rotated = false; counts = record { own = λ _. []; blocks = λ _. false; words = λ _. false }; whole = true; armed = false; past = record { old = []; held = λ _. false; overwritten = λ _ _. false; owed = λ _ _. false }; unswept = false }
 
 module _ (k : Config) (limits : IsWithinLimits (sizes_in k)) (words : List ℕ) (opens : IsOpening k words) where
   abbrev s0 : model.State
@@ -338,7 +338,14 @@ module _ (k : Config) (limits : IsWithinLimits (sizes_in k)) (words : List ℕ) 
         odd = λ j e f. absurd (let h : 0 ≡ j * 2 + 1 = e in omega arith);
         led = λ j e f. absurd (let h : 0 ≡ j * 2 + 1 = e in omega arith);
       };
-      leaves = record { none = λ _ a. refl; dead = λ a is. absurd (let e : false ≡ true = is in cc); head = λ a is. absurd (let e : false ≡ true = is in cc) };
+      leaves = record {
+        none = λ _ _ a. refl;
+        dead = λ a is. absurd (let e : false ≡ true = is in cc);
+        head = λ a is. absurd (let e : false ≡ true = is in cc);
+        unprepared = λ a is. absurd (let e : false ≡ true = is in cc);
+        owned = λ a is. absurd (let e : false ≡ true = is in cc);
+      };
+      unswept = λ is. absurd (let e : false ≡ true = is in cc);
       whole = λ l. inl refl;
     };
   }
@@ -384,10 +391,10 @@ module _ (k : Config) (limits : IsWithinLimits (sizes_in k)) (words : List ℕ) 
           set_back = λ h. absurd (run_leads Run h.0);
           sharing = record {
             telling = record { owes = λ _. refl; seen = λ _. refl; fresh = λ e. cc; forgotten = λ e. cc; colours = λ c e. cc };
-            leading = record { changed = λ v e. cc; found_blocks = λ v e. cc; found_words = λ v e. cc; rotated = λ _ e. refl; turned = λ e. cc; pass = λ _. refl; whole = λ _. refl; armed = λ b e. cc };
+            leading = record { changed = λ v e. cc; found_blocks = λ v e. cc; found_words = λ v e. cc; rotated = λ _ e. refl; turned = λ e. cc; pass = λ _. refl; whole = λ _. refl; armed = λ b e. cc; unswept = λ _. refl };
             knows = inl refl;
             adds = record { blocks = λ e _. refl; words = λ e _. refl; own = λ e _ f. cc };
-            looks = record { at_own = λ a e. cc; pruned = λ i a low got. absurd (let h : i < 0 = low in omega arith); cleans = λ w e. cc; emptied_is = λ a p own lives. refl };
+            looks = record { at_own = λ a e. cc; cleans = λ w e. cc; emptied_is = λ a p own lives. refl };
             running = record { knows = inl (refl, refl); owes = λ is. absurd (let e : false ≡ true = is in cc) };
             deciding = deciding_none only Run (λ _. 0) (λ _. false) (λ _. false) x (no_finalisers k.finals) 0 [] tt;
           };
@@ -396,5 +403,6 @@ module _ (k : Config) (limits : IsWithinLimits (sizes_in k)) (words : List ℕ) 
             own = λ a is. absurd (let e : false ≡ true = is in cc);
             lives = λ a is. absurd (let e : false ≡ true = is in cc);
           };
+          sweeps = record { listed = λ i a low got. refl; places = λ q c slot is inside before. refl; anew = λ kind. cc; reaps = tt };
         }));
       }

@@ -15,7 +15,6 @@ use Rattle.cycle_laws.specs.Cycle as laws
 use Rattle.cycle_laws.specs.Marks.{Marks, fields_of}
 use Rattle.cycle_laws.specs.Progress.{FieldsDone, KeysDone}
 use Rattle.cycle_laws.specs.Shares.{Layout, Shares, AllArrived}
-use Rattle.cycle_laws.specs.Sweeping.{InSweep}
 use Rattle.heap_words.specs.declared.colours.Colours.{Colours}
 use Rattle.heap_words.specs.ColourWords.{IsPermutation, colours_word}
 use Rattle.heap_words.specs.declared.value.Value as held
@@ -63,6 +62,8 @@ pub record Cycling : Type 0 where
   -- whether the armed word is set, which outside a collection says that one goes on beside running domains, and what is kept of that one
   pub armed : Bool
   pub past : Past
+  -- whether the last collection ended before its garbage was freed, and no phase has been since in which all is freed
+  pub unswept : Bool
 
 -- which label's block lies at a place of the pools
 abbrev pub label_in : Option Place → Option Label
@@ -121,31 +122,33 @@ pub record Counted (n : ℕ) (y : Layout) (g : Graph) (marked : Label → Bool) 
 abbrev pub AllMarked : Live → (Label → Bool) → Type 0
 AllMarked live marked = (a : ℕ) (p : Place) → live a ≡ Some p → IsTrue (marked p.label)
 
--- garbage lies in the pools of domains
-abbrev pub GarbageOwned : ℕ → (ℕ → Option ℕ) → (ℕ → Bool) → Type 0
-GarbageOwned n owner garbage = (a : ℕ) → IsTrue (garbage a) → (d : ℕ) × (d < n) × (owner a ≡ Some d)
-
 -- the colours were rotated, once all had arrived: what was marked is unmarked, and nothing else lives
-pub record IsRotated (k : Config) (live : Live) (t : Tenancy) (c : Cycling) : Type 0 where
+pub record IsRotated (k : Config) (live : Live) (c : Cycling) : Type 0 where
   pub all_marked : AllMarked live c.before
   pub unmarked : (l : Label) → c.paint.marks.marked l ≡ false
-  pub owned : GarbageOwned k.domains (owner_at t.holder) t.garbage
   pub gone : AllArrived k.domains c.shares
 
--- what holds from the rotation on: all that lives was marked, and the live words are what was counted
+-- what holds as garbage is freed in a pause: all that lives was marked, nothing is, and the live words are what was counted
 pub record IsSwept (k : Config) (s : model.State) (live : Live) (holder : ℕ → Holder) (c : Cycling) (words : List ℕ) : Type 0 where
-  pub facts : laws.InPhase laws.Sweep k.domains s (swept_of k live holder c)
-  pub rotated : IsTrue c.rotated
   pub all_marked : AllMarked live c.before
   pub unmarked : (l : Label) → c.paint.marks.marked l ≡ false
   pub unchanged : c.shares.changed ≡ false
   pub counted : Counted k.domains (layout_of k live holder) s.graph c.before c.counts words
 
--- while blocks are freed and counted, whoever has arrived has been at all its places, and has added what it counted
+-- the colours were rotated in this pause
+pub record EndsCycle (k : Config) (s : model.State) (live : Live) (holder : ℕ → Holder) (c : Cycling) : Type 0 where
+  pub facts : laws.InPhase laws.Sweep k.domains s (swept_of k live holder c)
+  pub rotated : IsTrue c.rotated
+
+-- garbage is freed because the colours were rotated, or because another collection is to begin and the last one left it
+abbrev pub FreesFor : Config → model.State → Live → (ℕ → Holder) → Cycling → Type 0
+FreesFor k s live holder c = ((s.mode ≡ Sealed) × EndsCycle k s live holder c × (c.unswept ≡ false)) ⊎ ((s.mode ≡ Open) × (c.rotated ≡ false) × IsTrue c.unswept)
+
+-- while blocks are freed and counted, no garbage is left in the pools of whoever has arrived, and it has added what it counted
 pub record Sweeping (k : Config) (s : model.State) (live : Live) (t : Tenancy) (c : Cycling) (words : List ℕ) : Type 0 where
-  pub mode : s.mode ≡ Sealed
+  pub since : FreesFor k s live t.holder c
   pub swept : IsSwept k s live t.holder c words
-  pub sweep : InSweep k.domains (owner_at t.holder) t.garbage c.shares.seen c.shares.arrived
+  pub clear : (d a : ℕ) → IsTrue (c.shares.arrived d) → OwnPlace t.holder a d → t.garbage a ≡ false
   pub all_counted : (d : ℕ) → IsTrue (c.shares.arrived d) → IsTrue (c.counts.words d)
 
 -- a pool of a class holds a block
@@ -156,6 +159,7 @@ HoldsBlock live q c = (slot : ℕ) × (slot < blocks_of c) × ((p : Place) × (l
 pub record Answering (k : Config) (s : model.State) (live : Live) (t : Tenancy) (c : Cycling) (words : List ℕ) : Type 0 where
   pub mode : s.mode ≡ Answered
   pub whole : IsTrue c.whole
+  pub ends : EndsCycle k s live t.holder c
   pub swept : IsSwept k s live t.holder c words
   pub clean : (a : ℕ) → t.garbage a ≡ false
   pub all_counted : (d : ℕ) → d < k.domains → IsTrue (c.counts.words d)
@@ -166,7 +170,7 @@ pub record Leaving (k : Config) (s : model.State) (live : Live) (t : Tenancy) (c
   pub facts : laws.InPhase laws.Lasts k.domains s (swept_of k live t.holder c)
   pub unchanged : c.shares.changed ≡ false
   pub stays : c.rotated ≡ false → (l : Label) → c.paint.marks.marked l ≡ c.before l
-  pub turned : IsTrue c.rotated → IsRotated k live t c
+  pub turned : IsTrue c.rotated → IsRotated k live c
 
 -- what holds in a phase of a kind
 abbrev pub Facts : Kind → Config → model.State → Live → Tenancy → Cycling → List ℕ → Type 0
@@ -205,11 +209,26 @@ pub record Told (k : Config) (p : Pause) (kind : Kind) (w : Shares) : Type 0 whe
 abbrev pub IsGarbageHead : Paint → ℕ → Type 0
 IsGarbageHead paint word = (shape : (q : Shape) × IsPackableShape q) × (scanned : Bool) × HeadIs None shape.0 paint.colours.garbage scanned word
 
--- garbage is no block that lives, and there is none before the rotation
-pub record Leaves (k : Config) (live : Live) (garbage : ℕ → Bool) (c : Cycling) (words : List ℕ) : Type 0 where
-  pub none : c.rotated ≡ false → (a : ℕ) → garbage a ≡ false
-  pub dead : (a : ℕ) → IsTrue (garbage a) → live a ≡ None
-  pub head : (a : ℕ) → IsTrue (garbage a) → IsGarbageHead c.paint (at_address k words a)
+-- garbage is no block that lives, and lies at places of pools that domains own, which aren't prepared. There is none but from a rotation until it is freed
+pub record Leaves (k : Config) (live : Live) (t : Tenancy) (c : Cycling) (words : List ℕ) : Type 0 where
+  pub none : c.rotated ≡ false → c.unswept ≡ false → (a : ℕ) → t.garbage a ≡ false
+  pub dead : (a : ℕ) → IsTrue (t.garbage a) → live a ≡ None
+  pub head : (a : ℕ) → IsTrue (t.garbage a) → IsGarbageHead c.paint (at_address k words a)
+  pub unprepared : (a : ℕ) → IsTrue (t.garbage a) → t.prepared a ≡ None
+  pub owned : (a : ℕ) → IsTrue (t.garbage a) → (d : ℕ) × OwnPlace t.holder a d
+
+-- no collection of the major heap is under way in a phase of this kind
+abbrev pub HasNoCycle : Kind → Type 0
+HasNoCycle Run = Unit {0}
+HasNoCycle Promote = Unit {0}
+HasNoCycle Reset = Unit {0}
+HasNoCycle _ = ⊥
+
+-- a collection leaves its garbage to be freed beside running domains, and to a pause only where the next one begins; so no other has begun
+pub record LeftUnswept (kind : Kind) (armed rotated : Bool) : Type 0 where
+  pub kind_is : HasNoCycle kind ⊎ (kind ≡ Sweep)
+  pub unarmed : armed ≡ false
+  pub unrotated : rotated ≡ false
 
 -- Clean has emptied keys of the block with this label, and not yet its datum: it lies in a pool of a domain that hasn't arrived
 pub record MissesKeys (live : Live) (holder : ℕ → Holder) (c : Cycling) (l : Label) : Type 0 where
@@ -234,7 +253,8 @@ pub record Cycled (k : Config) (s : model.State) (live : Live) (p : Pause) (t : 
   pub changed_is : changed_word words ≡ flag c.shares.changed
   pub facts : Facts c.kind k s live t c words
   pub told : Told k p c.kind c.shares
-  pub leaves : Leaves k live t.garbage c words
+  pub leaves : Leaves k live t c words
+  pub unswept : IsTrue c.unswept → LeftUnswept c.kind c.armed c.rotated
   pub whole : AllWhole live t.holder c
 
 -- whether a domain has been at a place
@@ -244,7 +264,7 @@ seen_by (a ∷ rest) b = b == a || seen_by rest b
 
 -- who is at no block in a collection knows of the colours and the control words alone, and of blocks what it knows as it runs
 abbrev pub IsIdle : Share → Type 0
-IsIdle share = share ≡ record fresh_share { colours = share.colours; changed = share.changed; blocks = share.blocks; words = share.words; rotated = share.rotated; cut = share.cut; whole = share.whole; armed = share.armed; known = share.known; weak = share.weak }
+IsIdle share = share ≡ record fresh_share { colours = share.colours; changed = share.changed; blocks = share.blocks; words = share.words; rotated = share.rotated; cut = share.cut; whole = share.whole; armed = share.armed; known = share.known; weak = share.weak; unswept = share.unswept; reaping = share.reaping; swept = share.swept }
 
 -- Cycle, of one domain: until it arrives its view tells its share, and then it has forgotten it. Domain 0 alone knows of the colours in an odd phase
 pub record Telling (means : Colours) (w : Shares) (d : ℕ) (share : Share) : Type 0 where
@@ -276,6 +296,7 @@ pub record Leading (c : Cycling) (words : List ℕ) (d : ℕ) (stage : Stage) (s
   pub pass : d ≡ 0 → c.pass ≡ pass_of share.cut
   pub whole : d ≡ 0 → c.whole ≡ share.whole
   pub armed : (b : Bool) → share.armed ≡ Some b → MayLook d stage × (b ≡ c.armed)
+  pub unswept : d ≡ 0 → c.unswept ≡ share.unswept
 
 -- how far a domain is in a block: its first fields are done
 pub record Scanned (live : Live) (graph : Graph) (marks : Marks) (block done size head : ℕ) : Type 0 where
@@ -374,13 +395,6 @@ pub record Adds (live : Live) (c : Cycling) (d : ℕ) (share : Share) : Type 0 w
   pub blocks : c.kind ≡ Sweep → c.shares.arrived d ≡ false → c.counts.blocks d ≡ share.added_blocks
   pub words : c.kind ≡ Sweep → c.shares.arrived d ≡ false → c.counts.words d ≡ share.added_words
   pub own : c.kind ≡ Sweep → c.shares.arrived d ≡ false → share.added_blocks ≡ true → c.counts.own d ≡ labels_in live share.counted
-
--- no collection of the major heap is under way in a phase of this kind
-abbrev pub HasNoCycle : Kind → Type 0
-HasNoCycle Run = Unit {0}
-HasNoCycle Promote = Unit {0}
-HasNoCycle Reset = Unit {0}
-HasNoCycle _ = ⊥
 
 -- a domain does its share of a collection of the major heap
 abbrev pub IsCollecting : Stage → Type 0

@@ -67,9 +67,8 @@ abbrev pub emptied_at : Option Cleaning → ℕ → List ℕ
 emptied_at None a = []
 emptied_at (Some w) a = cond (a == w.block) w.emptied []
 
--- how far a domain is with its ephemerons: it looks at listed ones, none before the place to which it has pruned its list is garbage, and of the own blocks none misses keys but the one that it cleans
-pub record Looks (live : Live) (holder : ℕ → Holder) (garbage : ℕ → Bool) (graph : Graph) (marks : Marks) (emptied : Label → List ℕ) (d : ℕ) (items : List ℕ) (stage : Stage) (share : Share) : Type 0 where
+-- how far a domain is with its ephemerons: it looks at listed ones, and of the own blocks none misses keys but the one that it cleans
+pub record Looks (live : Live) (holder : ℕ → Holder) (graph : Graph) (marks : Marks) (emptied : Label → List ℕ) (d : ℕ) (items : List ℕ) (stage : Stage) (share : Share) : Type 0 where
   pub at_own : (a : ℕ) → ephemeron_of share.scan ≡ Some a → IsTrue (seen_by items a)
-  pub pruned : (i a : ℕ) → i < share.pruned → slice_get items i ≡ Some a → garbage a ≡ false
   pub cleans : (w : Cleaning) → share.cleaning ≡ Some w → Cleans live graph marks stage items w
   pub emptied_is : (a : ℕ) (p : Place) → OwnPlace holder a d → live a ≡ Some p → emptied p.label ≡ emptied_at share.cleaning a

@@ -20,6 +20,7 @@ pub mod Ending
 pub mod Standing
 pub mod Raw
 pub mod Running
+pub mod Sweeping
 pub mod Ephemerons
 pub mod Finalisers
 pub mod Deciding

@@ -43,18 +43,18 @@ kind_at (suc (suc (suc (suc (suc (suc (suc (suc (suc zero))))))))) = Lasts
 kind_at (suc (suc (suc (suc (suc (suc (suc (suc (suc (suc zero)))))))))) = Sweep
 kind_at (suc (suc (suc (suc (suc (suc (suc (suc (suc (suc (suc n))))))))))) = Answer
 
--- which kind may come after which. A cycle goes on beside running domains from Roots to Run, and is finished from Reset to Mark; one that was finished may be followed by a whole one
+-- which kind may come after which. A cycle goes on beside running domains from Roots to Run, and is finished from Reset to Mark. Its garbage is freed in the pause, or beside running domains; what is left then is freed from Reset to Sweep before another one begins
 abbrev pub Follows : Kind → Kind → Type 0
 Follows Run next = next ≡ Promote
 Follows Promote next = next ≡ Reset
-Follows Reset next = (next ≡ Run) ⊎ ((next ≡ Roots) ⊎ (next ≡ Mark))
+Follows Reset next = (next ≡ Run) ⊎ ((next ≡ Roots) ⊎ ((next ≡ Mark) ⊎ (next ≡ Sweep)))
 Follows Roots next = (next ≡ Mark) ⊎ (next ≡ Run)
 Follows Mark next = (next ≡ Mark) ⊎ (next ≡ Rounds)
 Follows Rounds next = (next ≡ Mark) ⊎ ((next ≡ Decide) ⊎ (next ≡ Clean))
 Follows Decide next = next ≡ Queued
 Follows Queued next = next ≡ Mark
 Follows Clean next = next ≡ Lasts
-Follows Lasts next = next ≡ Sweep
+Follows Lasts next = (next ≡ Sweep) ⊎ (next ≡ Run)
 Follows Sweep next = (next ≡ Run) ⊎ ((next ≡ Answer) ⊎ (next ≡ Roots))
 Follows Answer next = next ≡ Run
 

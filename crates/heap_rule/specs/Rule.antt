@@ -26,6 +26,7 @@ use Rattle.heap_rule.specs.Cycles.{Cycling, Cycled, Telling, Leading, KnowsBlock
 use Rattle.heap_rule.specs.Deciding.{Deciding}
 use Rattle.heap_rule.specs.Ephemerons.{Listed, Looks}
 use Rattle.heap_rule.specs.Finalisers.{Enrolled}
+use Rattle.heap_rule.specs.Sweeping.{SweepsIn}
 use Rattle.heap_rule.specs.Phases.{Pause, Phases, Staged, Still, TookBack, HasSetBack, Unwished, CountsEnded}
 use Rattle.heap_rule.specs.Views.{EachView, EachDomain, Knows}
 
@@ -70,7 +71,7 @@ pub record Sharing (k : Config) (all : Account) (words : List ℕ) (d : ℕ) (re
   pub leading : Leading all.cycling words d stage share
   pub knows : KnowsBlocks k all.live all.tenancy.holder (state_of k all.log).graph all.cycling.paint.marks words d registers stage share
   pub adds : Adds all.live all.cycling d share
-  pub looks : Looks all.live all.tenancy.holder all.tenancy.garbage (state_of k all.log).graph all.cycling.paint.marks all.cycling.paint.emptied d items stage share
+  pub looks : Looks all.live all.tenancy.holder (state_of k all.log).graph all.cycling.paint.marks all.cycling.paint.emptied d items stage share
   pub running : RunsBeside k all.live all.tenancy.holder all.cycling.armed all.cycling.past all.cycling.paint.marks.marked words d stage share
   pub deciding : Deciding all.live all.cycling.kind all.cycling.left all.cycling.shares.arrived all.cycling.paint.marks.marked d fs share.kept share.waiting
 
@@ -89,6 +90,7 @@ pub record Good (k : Config) (all : Account) (words : List ℕ) (x : DomainView)
   pub set_back : HasSetBack x → cursor words ≤ limit_of k (listed words)
   pub sharing : Sharing k all words x.own.number x.own.registers x.own.finalisers x.own.ephemerons.items x.seen.stage x.seen.share
   pub listed : Listed all.live all.tenancy.holder all.tenancy.garbage x.own.number x.own.ephemerons.items
+  pub sweeps : SweepsIn all.tenancy all.cycling x
 
 -- at the start no domain asks for a collection, none has arrived anywhere, and no trace has ended
 pub record Rested (words : List ℕ) : Type 0 where

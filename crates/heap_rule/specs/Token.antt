@@ -10,6 +10,7 @@ use Rattle.heap_rule.specs.declared.config.Config.{Config}
 use Rattle.heap_rule.specs.declared.view.DomainView.{DomainView}
 use Rattle.heap_rule.specs.declared.view.Own.{Own}
 use Rattle.heap_rule.specs.declared.view.Spot.{Spot}
+use Rattle.heap_rule.specs.declared.view.Swept.{Swept}
 use Rattle.heap_rule.specs.declared.view.View.{View}
 use Rattle.heap_rule.specs.Pools.{blocks_of, spot_at}
 use Rattle.heap_model.specs.Domains.{class_count, IsWithinLimits}
@@ -49,6 +50,11 @@ pub record LooksWithin (k : Config) (looked : List Spot) : Type 0 where
   pub wide : length looked ≡ class_count
   pub within : (class : ℕ) → class < class_count → ((spot_at looked class).pool ≤ k.pools) × ((spot_at looked class).slot < blocks_of class)
 
+-- how far the own pools were swept lies within the pools
+pub record SweptWithin (k : Config) (swept : Swept) : Type 0 where
+  pub pool : swept.spot.pool ≤ k.pools
+  pub slot : swept.spot.slot < 1024
+
 -- addresses of the heap
 abbrev pub AllInHeap : Config → List ℕ → Type 0
 AllInHeap k addresses = (i a : ℕ) → slice_get addresses i ≡ Some a → (1 ≤ a) × (a ≤ heap_words k)
@@ -64,6 +70,7 @@ pub record OwnFits (k : Config) (own : Own) : Type 0 where
   pub pending : own.pending.room + length own.pending.items ≡ pending_room k
   pub ephemerons : AllInHeap k own.ephemerons.items
   pub finalisers : FinalisersFit k own.finalisers
+  pub swept : SweptWithin k own.swept
 
 -- the seat, at a heap of these numbers, stands for this domain alone
 pub record IsSeatOf (k : Config) (x : DomainView) (me : Me (Unit {0}) View) : Type 0 where

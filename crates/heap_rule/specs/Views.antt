@@ -13,6 +13,7 @@ use Rattle.heap_rule.specs.declared.config.Config.{Config}
 use Rattle.heap_rule.specs.declared.view.DomainView.{DomainView}
 use Rattle.heap_rule.specs.declared.view.Finalisers.{Finalisers}
 use Rattle.heap_rule.specs.declared.view.Hunt.TheVariants.{Rests}
+use Rattle.heap_rule.specs.declared.view.Reaping.TheVariants.{Outside}
 use Rattle.heap_rule.specs.declared.view.Scan.TheVariants.{Idle}
 use Rattle.heap_rule.specs.declared.view.Share.{Share}
 use Rattle.heap_rule.specs.declared.view.View.{View}
@@ -60,11 +61,11 @@ pending_room k = k.domains * k.minor_words / 4
 
 -- what a domain knows of a phase in which it has done nothing
 abbrev pub fresh_share : Share
-fresh_share = record { colours = None; armed = None; known = []; weak = None; changed = None; blocks = None; words = None; rotated = false; owes = false; places_seen = []; found_head = None; scan = Idle; walk = record { pool = 0; slot = 0 }; own_pool = None; roots = []; marked = []; darkenings = 0; counted = []; counted_to = record { pool = 0; slot = 0 }; counted_words = 0; added_blocks = false; added_words = false; held = 0; vacant = 0; cleaning = None; pruned = 0; kept = 0; waiting = []; cut = false; whole = true }
+fresh_share = record { colours = None; armed = None; known = []; weak = None; changed = None; blocks = None; words = None; rotated = false; owes = false; places_seen = []; found_head = None; scan = Idle; walk = record { pool = 0; slot = 0 }; own_pool = None; roots = []; marked = []; darkenings = 0; counted = []; counted_to = record { pool = 0; slot = 0 }; counted_words = 0; added_blocks = false; added_words = false; held = 0; vacant = 0; cleaning = None; kept = 0; waiting = []; cut = false; whole = true; unswept = false; reaping = Outside; swept = [] }
 
 -- and of the next, of which it has forgotten the last
 abbrev pub voided : Share → Share
-voided share = record fresh_share { cut = share.cut; whole = share.whole }
+voided share = record fresh_share { cut = share.cut; whole = share.whole; unswept = share.unswept }
 
 -- the lists of a domain that has registered nothing
 abbrev pub no_finalisers : ℕ → Finalisers
@@ -85,6 +86,7 @@ opening_view k d = record {
     pending = record { items = []; room = pending_room k };
     ephemerons = record { items = []; room = k.ephes };
     finalisers = no_finalisers k.finals;
+    swept = record { listed = 0; spot = record { pool = k.pools; slot = 0 } };
   };
   seen = record { front = []; made = []; stage = In Run; notes = []; hunt = Rests; free = None; listing = None; copying = record { met = []; pending = []; copied = [] }; remembered = []; share = fresh_share };
 }

@@ -9,13 +9,13 @@ ghost use Rattle.heap_rule.specs.Limits.{sizes_in};
 ghost use Rattle.heap_rule.specs.Opening.{opening_token};
 ghost use Rattle.heap_rule.specs.Pools.{blocks_of, prepared_at, spot_at};
 ghost use Rattle.heap_rule.specs.Standing.{IsInHeap};
-ghost use Rattle.heap_rule.specs.Token.{IsAddress, next_address};
+ghost use Rattle.heap_rule.specs.Token.{IsAddress, SweptWithin, next_address};
 ghost use Rattle.heap_rule.specs.Views.{one, opening_view, pending_room};
 
 use crate::change::{Item, Part};
 use crate::config::Config;
 use crate::view::{
-    Copied, Finalisers, Own, REMEMBERED_ROOM, Registered, RegisteredLast, Spot, View, Waiting,
+    Copied, Finalisers, Own, REMEMBERED_ROOM, Registered, RegisteredLast, Spot, Swept, View, Waiting,
 };
 use atomic_table::Seat;
 use heap_words::Value;
@@ -86,6 +86,13 @@ impl Domain {
                     lasts,
                     queue,
                 },
+                swept: Swept {
+                    listed: 0,
+                    spot: Spot {
+                        pool: config.pools,
+                        slot: 0,
+                    },
+                },
             },
         })
     }
@@ -131,6 +138,14 @@ impl Domain {
         ensures within { (result.pool ≤ self.now.config.pools) × (result.slot < blocks_of class) }
     {
         self.own.looked[class as usize]
+    }
+
+    /// How far the domain has swept its own pools, and its list of ephemerons.
+    pub fn swept(&self) -> Swept
+        ensures value { result ≡ self.now.view.own.swept }
+        ensures within { SweptWithin self.now.config result }
+    {
+        self.own.swept
     }
 
     /// How many more fields the domain can remember before its next collection.

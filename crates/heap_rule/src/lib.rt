@@ -24,5 +24,6 @@ pub use raw::{Changing, Leaving, Writing, raw_add, raw_exchange, raw_load, raw_o
 pub use rule::Told;
 pub use view::{
     Copied, Copying, DomainView, Finalisers, Form, FoundHead, Held, Hunt, Listing, Met, Owing, Own,
-    OwnPool, REMEMBERED_ROOM, Registered, RegisteredLast, Scan, Seen, Share, Spot, View, Waiting,
+    OwnPool, REMEMBERED_ROOM, Reaping, Registered, RegisteredLast, Scan, Seen, Share, Spot, Swept,
+    View, Waiting,
 };

@@ -62,6 +62,32 @@ pub struct Spot {
     pub slot: u32,
 }
 
+/// How far a domain has swept since it last arrived before the colours were rotated: so many of its
+/// listed ephemerons, and each own place before the spot, hold no garbage. No own pool is left to sweep
+/// where the spot is behind the last pool.
+#[derive(Clone, Copy, Debug, PartialEq, Eq)]
+pub struct Swept {
+    pub listed: usize,
+    pub spot: Spot,
+}
+
+/// How far a domain is in sweeping a pool.
+pub enum Reaping {
+    /// It is at none.
+    Outside,
+    /// This pool is its own, for blocks of this class.
+    Inside {
+        pool: u32,
+        class: u32,
+    },
+    /// So it is, and garbage lies at this place of it.
+    AtGarbage {
+        pool: u32,
+        class: u32,
+        slot: u32,
+    },
+}
+
 /// The list of free pools, while domain 0 writes it anew.
 pub struct Listing {
     /// The owner words that it found, from pool 0 on.
@@ -100,6 +126,8 @@ pub struct Own {
     /// The ephemerons in the domain's own pools, and those that a sweep has still to free.
     pub ephemerons: BoundedList<u32>,
     pub finalisers: Finalisers,
+    /// How far it has swept.
+    pub swept: Swept,
 }
 
 /// A registration of `finalise`: the block's address, the finaliser's number, and the register that
@@ -304,8 +332,8 @@ pub enum Known {
     },
 }
 
-/// What a domain knows of the present phase. It forgets all of it but the cut, and whether the cycle
-/// is whole, when it arrives.
+/// What a domain knows of the present phase. It forgets all of it but the cut, whether the cycle is
+/// whole, and whether a sweep is owed, when it arrives.
 pub struct Share {
     /// The meanings of the colours, once it has loaded them.
     pub colours: Option<Colours>,
@@ -352,8 +380,6 @@ pub struct Share {
     pub vacant: u32,
     /// The ephemeron of which it empties keys.
     pub cleaning: Option<Cleaning>,
-    /// So many of its listed ephemerons are no garbage.
-    pub pruned: u32,
     /// So many registrations it has looked at, and their blocks are marked.
     pub kept: u32,
     /// The places of the queue whose blocks are marked.
@@ -362,6 +388,12 @@ pub struct Share {
     pub cut: bool,
     /// Whether the collection began in this pause.
     pub whole: bool,
+    /// Whether the last collection ended before its garbage was freed, and it may not all be freed yet.
+    pub unswept: bool,
+    /// How far it is in sweeping a pool.
+    pub reaping: Reaping,
+    /// The places that it has swept in this phase, the last one first.
+    pub swept: LinkedList<Spot>,
 }
 
 /// What contracts alone know of a domain.

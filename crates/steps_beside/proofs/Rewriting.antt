@@ -30,7 +30,8 @@ use Rattle.heap_rule.proofs.HeadLemmas.{head_at}
 use Rattle.heap_rule.proofs.Holders.{drawn_owned}
 use Rattle.heap_rule.proofs.Keeps.{Words, now, Control, control_set, more_same, run_settled}
 use Rattle.heap_rule.proofs.Lists.{got_below}
-use Rattle.heap_rule.proofs.Lots.{head_full, head_some, lived_unprepared, owned_same}
+use Rattle.heap_rule.proofs.OwnPlaces.{owned_same}
+use Rattle.heap_rule.proofs.Lots.{head_full, head_some, lived_unprepared}
 use Rattle.heap_rule.proofs.Values.{extent_large}
 
 -- the head of a block of the pools is no word that a domain has written of a block that it makes, and none that it has found Free

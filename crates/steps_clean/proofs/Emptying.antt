@@ -318,7 +318,6 @@ module _ (k : Config) (s : Words) (r : Rule k s) (id : ℕ) (hist : List Entry) 
       looks_on : (z : DomainView) → z.own.number ≢ d → Good k r.account s.words z → Looks live T.holder T.garbage later.graph m emptied' z.own.number z.own.ephemerons.items z.seen.stage z.seen.share
       looks_on z other g = let l = g.sharing.looks in record {
         at_own = l.at_own;
-        pruned = l.pruned;
         cleans = λ v e. let h = l.cleans v e in record {
           stage_is = h.stage_is;
           listed = h.listed;
@@ -346,6 +345,7 @@ module _ (k : Config) (s : Words) (r : Rule k s) (id : ℕ) (hist : List Entry) 
             pass = l.pass;
             whole = l.whole;
             armed = l.armed;
+            unswept = l.unswept;
           }
 
       -- nobody runs
@@ -385,12 +385,11 @@ module _ (k : Config) (s : Words) (r : Rule k s) (id : ℕ) (hist : List Entry) 
       sharing' : Sharing k all' words' d x.own.registers x.own.finalisers items x.seen.stage share'
       sharing' = let g = good.sharing in let t = g.telling in let l = leading_on x sh good.staged g.leading in record {
         telling = record { owes = t.owes; seen = λ _. o.seen_is; fresh = λ gone. absurd (true≢false (sym gone ∙ up)); forgotten = λ gone. absurd (true≢false (sym gone ∙ up)); colours = t.colours };
-        leading = record { changed = l.changed; found_blocks = l.found_blocks; found_words = l.found_words; rotated = l.rotated; turned = l.turned; pass = l.pass; whole = l.whole; armed = l.armed };
+        leading = record { changed = l.changed; found_blocks = l.found_blocks; found_words = l.found_words; rotated = l.rotated; turned = l.turned; pass = l.pass; whole = l.whole; armed = l.armed; unswept = l.unswept };
         knows = inr (collecting, own_knowing);
         adds = record { blocks = g.adds.blocks; words = g.adds.words; own = g.adds.own };
         looks = record {
           at_own = o.at_own;
-          pruned = g.looks.pruned;
           cleans = o.cleans_on;
           emptied_is = λ a q own lives. dite (ℕ_discrete a block)
               (λ same. ap (λ (z : Place). emptied' z.label) (sym (place_is q (ap live (sym same) ∙ lives))) ∙ (o.emptied_here ∙ ap (emptied_at cleaning') (sym same)))

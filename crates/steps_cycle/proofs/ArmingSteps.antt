@@ -78,7 +78,7 @@ module _ (k : Config) (s : Words) (r : Rule k s) (id : ℕ) (hist : List Entry) 
         ))
         h.knows;
     adds = record { blocks = h.adds.blocks; words = h.adds.words; own = h.adds.own };
-    looks = record { at_own = h.looks.at_own; pruned = h.looks.pruned; cleans = h.looks.cleans; emptied_is = h.looks.emptied_is };
+    looks = record { at_own = h.looks.at_own; cleans = h.looks.cleans; emptied_is = h.looks.emptied_is };
     running = record { knows = h.running.knows; owes = h.running.owes };
     deciding = h.deciding;
   }
@@ -249,7 +249,7 @@ module _ (k : Config) (s : Words) (r : Rule k s) (id : ℕ) (hist : List Entry) 
           (λ (n : IsCollecting x.seen.stage × Knowing k r.account.live r.account.tenancy.holder now.graph c.paint.marks s.words x.own.number x.own.registers x.seen.share). absurd (not_collecting x.seen.stage arms.leads n.0))
           h.knows;
       adds = record { blocks = h.adds.blocks; words = h.adds.words; own = h.adds.own };
-      looks = record { at_own = h.looks.at_own; pruned = h.looks.pruned; cleans = h.looks.cleans; emptied_is = h.looks.emptied_is };
+      looks = record { at_own = h.looks.at_own; cleans = h.looks.cleans; emptied_is = h.looks.emptied_is };
       running = record { knows = u.knows; owes = u.owes };
       deciding = h.deciding;
     }

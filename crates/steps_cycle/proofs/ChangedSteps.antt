@@ -69,10 +69,11 @@ module _ (k : Config) (s : Words) (r : Rule k s) (id : ℕ) (hist : List Entry) 
         pass = l.pass;
         whole = l.whole;
         armed = l.armed;
+        unswept = l.unswept;
       };
       knows = inl (ap (λ (z : Share). record z { changed = Some (changed_word s.words) }) (idle (Leads may.last) may.stage tt));
       adds = record { blocks = a.blocks; words = a.words; own = a.own };
-      looks = let u = good.sharing.looks in record { at_own = u.at_own; pruned = u.pruned; cleans = u.cleans; emptied_is = u.emptied_is };
+      looks = let u = good.sharing.looks in record { at_own = u.at_own; cleans = u.cleans; emptied_is = u.emptied_is };
       running = record { knows = good.sharing.running.knows; owes = good.sharing.running.owes };
       deciding = good.sharing.deciding;
     }
@@ -150,10 +151,11 @@ module _ (k : Config) (s : Words) (r : Rule k s) (id : ℕ) (hist : List Entry) 
         pass = l.pass;
         whole = l.whole;
         armed = l.armed;
+        unswept = l.unswept;
       };
       knows = inl (ap (λ (z : Share). record z { changed = None }) (idle (Led Mark) may.stage tt));
       adds = record { blocks = λ e _. a.blocks e start.waits; words = λ e _. a.words e start.waits; own = λ e _. a.own e start.waits };
-      looks = let u = good.sharing.looks in record { at_own = u.at_own; pruned = u.pruned; cleans = u.cleans; emptied_is = u.emptied_is };
+      looks = let u = good.sharing.looks in record { at_own = u.at_own; cleans = u.cleans; emptied_is = u.emptied_is };
       running = let u = running x good in record { knows = u.knows; owes = u.owes };
       deciding = let u = good.sharing.deciding in record { finals = λ e _. u.finals e start.waits; lasts = λ e _. u.lasts e start.waits; rooted = λ e _. u.rooted e start.waits };
     }
@@ -176,6 +178,7 @@ module _ (k : Config) (s : Words) (r : Rule k s) (id : ℕ) (hist : List Entry) 
         pass = l.pass;
         whole = l.whole;
         armed = l.armed;
+        unswept = l.unswept;
       };
       knows = knows_words k r.account.live r.account.tenancy.holder state.graph c.paint.marks s.words ws z.own.number z.own.registers z.seen.stage z.seen.share (heap_untouched k s.words ws untouched) g.sharing.knows;
       adds = record { blocks = λ e _. a.blocks e start.waits; words = λ e _. a.words e start.waits; own = λ e _. a.own e start.waits };

@@ -16,7 +16,7 @@ use Rattle.heap_rule.specs.Rule.{Rule}
 use Rattle.heap_rule.proofs.Classes.{slot_inside, size_least}
 use Rattle.heap_rule.proofs.Holders.{drawn_owned, nobody_owned}
 use Rattle.heap_rule.proofs.Keeps.{Words}
-use Rattle.heap_rule.proofs.Lots.{owned_same}
+use Rattle.heap_rule.proofs.OwnPlaces.{owned_same}
 use Rattle.std.proofs.lemmas.Option.{none-some}
 
 pub owner_of_place : (holder : ℕ → Holder) (q d c slot : ℕ) → c < class_count → holder q ≡ owned d c → slot < blocks_of c → owner_at holder (place_in q c slot) ≡ Some d

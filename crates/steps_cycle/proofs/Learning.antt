@@ -233,7 +233,6 @@ module _ (k : Config) (s : Words) (r : Rule k s) (id : ℕ) (hist : List Entry) 
       → Looks live holder r.account.tenancy.garbage now.graph m' c.paint.emptied z.own.number z.own.ephemerons.items z.seen.stage z.seen.share
   looks_on m' still z staged l = record {
     at_own = l.at_own;
-    pruned = l.pruned;
     cleans = λ w e. let f = l.cleans w e in cleans_same live now.graph m m' z.seen.stage z.own.ephemerons.items w (still (kind_now k r.account.pause c z Clean f.stage_is staged r.whole.cycle.told)) f;
     emptied_is = l.emptied_is;
   }
@@ -413,6 +412,7 @@ module _ (k : Config) (s : Words) (r : Rule k s) (id : ℕ) (hist : List Entry) 
         pass = l.pass;
         whole = l.whole;
         armed = l.armed;
+        unswept = l.unswept;
       }
 
       -- nobody runs
@@ -431,7 +431,7 @@ module _ (k : Config) (s : Words) (r : Rule k s) (id : ℕ) (hist : List Entry) 
               forgotten = λ up. absurd (true≢false (sym up ∙ waits));
               colours = g.sharing.telling.colours;
             };
-            leading = record { changed = l.changed; found_blocks = l.found_blocks; found_words = l.found_words; rotated = l.rotated; turned = l.turned; pass = l.pass; whole = l.whole; armed = l.armed };
+            leading = record { changed = l.changed; found_blocks = l.found_blocks; found_words = l.found_words; rotated = l.rotated; turned = l.turned; pass = l.pass; whole = l.whole; armed = l.armed; unswept = l.unswept };
             knows = inr (
               collecting,
               record {
@@ -447,7 +447,7 @@ module _ (k : Config) (s : Words) (r : Rule k s) (id : ℕ) (hist : List Entry) 
               },
             );
             adds = record { blocks = g.sharing.adds.blocks; words = g.sharing.adds.words; own = g.sharing.adds.own };
-            looks = record { at_own = o.knows.looking.at_own; pruned = g.sharing.looks.pruned; cleans = o.knows.looking.cleans; emptied_is = o.knows.looking.emptied_is };
+            looks = record { at_own = o.knows.looking.at_own; cleans = o.knows.looking.cleans; emptied_is = o.knows.looking.emptied_is };
             running = let u = running' x g in record { knows = u.knows; owes = u.owes };
             deciding = record { finals = g.sharing.deciding.finals; lasts = g.sharing.deciding.lasts; rooted = λ rooting _. o.queued rooting };
           }

@@ -35,7 +35,7 @@ use Rattle.heap_rule.specs.Rule.{Rule, state_of}
 use Rattle.heap_rule.specs.Views.{one}
 use Rattle.heap_rule.proofs.Controls.{untouched_same}
 use Rattle.heap_rule.proofs.Keeps.{Words, my_good, unmoved}
-use Rattle.heap_rule.proofs.Lots.{owned_same}
+use Rattle.heap_rule.proofs.OwnPlaces.{owned_same}
 use Rattle.steps_cycle.specs.Looks.{with_share}
 use Rattle.steps_cycle.specs.Marking.{GreyMay, GreyTold, IsGrey, IsScanned, IsUnmarked, IsNext, MarkMay, MarkTold, OwnMay, OwnTold, begun, behind, fields_in}
 use Rattle.steps_cycle.proofs.Colouring.{BareHead, bare_head, marked_colour, unmarked_colour}

@@ -113,7 +113,7 @@ module _ (k : Config) (s : Words) (r : Rule k s) (id : ℕ) (hist : List Entry) 
       }
 
       leading' : (z : DomainView) (share : Share) → Leading c s.words z.own.number z.seen.stage share → Leading c' s.words z.own.number z.seen.stage share
-      leading' z share l = record { changed = l.changed; found_blocks = l.found_blocks; found_words = l.found_words; rotated = l.rotated; turned = l.turned; pass = l.pass; whole = l.whole; armed = l.armed }
+      leading' z share l = record { changed = l.changed; found_blocks = l.found_blocks; found_words = l.found_words; rotated = l.rotated; turned = l.turned; pass = l.pass; whole = l.whole; armed = l.armed; unswept = l.unswept }
 
       own_knowing : Knowing k live t.holder now.graph c.paint.marks s.words d x.own.registers share'
       own_knowing = let n = known k s r id hist x at in let e = n.counted in record {
@@ -129,12 +129,12 @@ module _ (k : Config) (s : Words) (r : Rule k s) (id : ℕ) (hist : List Entry) 
       }
 
       own_looks : Looks live t.holder t.garbage now.graph c.paint.marks c.paint.emptied d x.own.ephemerons.items x.seen.stage share'
-      own_looks = let l = good.sharing.looks in record { at_own = l.at_own; pruned = l.pruned; cleans = l.cleans; emptied_is = l.emptied_is }
+      own_looks = let l = good.sharing.looks in record { at_own = l.at_own; cleans = l.cleans; emptied_is = l.emptied_is }
 
       sharing' : Sharing k all' s.words d x.own.registers fs' x.own.ephemerons.items x.seen.stage share'
       sharing' = let g = good.sharing in let w = g.telling in let l = leading' x sh g.leading in record {
         telling = record { owes = w.owes; seen = w.seen; fresh = λ up. absurd (true≢false (sym up ∙ waits)); forgotten = λ up. absurd (true≢false (sym up ∙ waits)); colours = w.colours };
-        leading = record { changed = l.changed; found_blocks = l.found_blocks; found_words = l.found_words; rotated = l.rotated; turned = l.turned; pass = l.pass; whole = l.whole; armed = l.armed };
+        leading = record { changed = l.changed; found_blocks = l.found_blocks; found_words = l.found_words; rotated = l.rotated; turned = l.turned; pass = l.pass; whole = l.whole; armed = l.armed; unswept = l.unswept };
         knows = inr (collecting, subst (λ (z : Graph). Knowing k live t.holder z c.paint.marks s.words d x.own.registers share') (sym o.graph) own_knowing);
         adds = record { blocks = g.adds.blocks; words = g.adds.words; own = g.adds.own };
         looks = subst (λ (z : Graph). Looks live t.holder t.garbage z c.paint.marks c.paint.emptied d x.own.ephemerons.items x.seen.stage share') (sym o.graph) own_looks;

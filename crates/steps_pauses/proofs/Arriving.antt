@@ -99,7 +99,7 @@ adds_else (Led kind) holder live c d z share other a = a
 adds_else (Gone kind) holder live c d z share other a = a
 
 leading_gone : (st : Stage) (holder : ℕ → Holder) (c : Cycling) (words : List ℕ) (d z : ℕ) (stage : Stage) (share : Share) → Leading c words z stage share → Leading (arrived_cycle st holder c d) words z stage share
-leading_gone (In kind) holder c words d z stage share l = record { changed = l.changed; found_blocks = l.found_blocks; found_words = l.found_words; rotated = l.rotated; turned = l.turned; pass = l.pass; whole = l.whole; armed = l.armed }
+leading_gone (In kind) holder c words d z stage share l = record { changed = l.changed; found_blocks = l.found_blocks; found_words = l.found_words; rotated = l.rotated; turned = l.turned; pass = l.pass; whole = l.whole; armed = l.armed; unswept = l.unswept }
 leading_gone (Leads kind) holder c words d z stage share l = l
 leading_gone (Led kind) holder c words d z stage share l = l
 leading_gone (Gone kind) holder c words d z stage share l = l
@@ -292,7 +292,7 @@ sharing_gone k all words words' x p' live' t' stage below from at told whole pai
   leading = leading_fresh x.seen.stage stage all.tenancy.holder all.cycling words words' x.own.number x.seen.share from g.sharing.leading;
   knows = inl refl;
   adds = record { blocks = a.blocks; words = a.words; own = λ e f h. cc };
-  looks = record { at_own = λ b e. cc; pruned = λ i b low got. absurd (let h : i < 0 = low in omega arith); cleans = λ w e. cc; emptied_is = whole };
+  looks = record { at_own = λ b e. cc; cleans = λ w e. cc; emptied_is = whole };
   running = runs_unaware k live' t'.holder all.cycling.armed all.cycling.past all.cycling.paint.marks.marked words' x.own.number stage (voided x.seen.share) (refl, refl) (λ is q. g.sharing.running.owes is q ∙ ap (λ (w : Option ℕ). is_weak w q) paid);
   deciding = deciding_arrived x.seen.stage (owner_at all.tenancy.holder) all.live live' all.cycling x.own.number x.own.finalisers x.seen.share (Knowing k all.live all.tenancy.holder (state_of k all.log).graph all.cycling.paint.marks words x.own.number x.own.registers x.seen.share) g.sharing.knows g.sharing.deciding;
 }
@@ -381,7 +381,6 @@ sharing_looked k all words x last stage gone g = let l = subst (λ (st : Stage).
   adds = g.sharing.adds;
   looks = record {
     at_own = g.sharing.looks.at_own;
-    pruned = g.sharing.looks.pruned;
     cleans = λ w e. absurd (let h : Gone last ≡ In Clean = sym gone ∙ (g.sharing.looks.cleans w e).stage_is in cc);
     emptied_is = g.sharing.looks.emptied_is;
   };

@@ -1,5 +1,6 @@
 -- What the steps of a pause ask and tell.
-use Rattle.std.specs.Prelude.{◌≡◌, ◌≢◌, ℕ, ◌+◌, ◌*◌, ◌^◌, ◌<◌, ◌≤◌, ◌⊎◌, true, List, [], ◌∷◌, ◌++◌, length, replicate, slice_get, Some, None, IsTrue, false, ◌==◌, Bool, Option}
+use Rattle.heap_rule.specs.Sweeping.{nothing_swept}
+use Rattle.std.specs.Prelude.{cond, ◌≡◌, ◌≢◌, ℕ, ◌+◌, ◌*◌, ◌^◌, ◌<◌, ◌≤◌, ◌⊎◌, true, List, [], ◌∷◌, ◌++◌, length, replicate, slice_get, Some, None, IsTrue, false, ◌==◌, Bool, Option}
 use Rattle.heap_model.specs.Domains.{class_count}
 use Rattle.heap_model.specs.declared.entry.Entry.TheVariants.{End, Cut, Seal, Collected, Done}
 use Rattle.heap_model.specs.declared.reply.Applied.TheVariants.{Silent}
@@ -79,7 +80,11 @@ pub record HasDone (k : Config) (x : DomainView) : Type 0 where
   -- it owes no store of the changed word
   pub told : Traces x.seen.stage → x.seen.share.owes ≡ false
   -- it has been at each own place
-  pub walked : (x.seen.stage ≡ In Mark) ⊎ (x.seen.stage ≡ In Sweep) → k.pools ≤ x.seen.share.walk.pool
+  pub walked : x.seen.stage ≡ In Mark → k.pools ≤ x.seen.share.walk.pool
+  -- it has swept each own place
+  pub swept : x.seen.stage ≡ In Sweep → k.pools ≤ x.own.swept.spot.pool
+  -- it is to sweep them all once the colours are rotated
+  pub anew : x.seen.stage ≡ In Lasts → x.own.swept ≡ nothing_swept
   -- it has been at each ephemeron of its list
   pub looked : (x.seen.stage ≡ In Rounds) ⊎ (x.seen.stage ≡ In Clean) → (a : ℕ) → IsTrue (seen_by x.own.ephemerons.items a) → IsTrue (seen_by x.seen.share.places_seen a)
   -- it empties the keys of none
@@ -112,7 +117,7 @@ pub record ArriveMay (k : Config) (x : DomainView) : Type 0 where
 abbrev pub forgotten : {A : Type 0} → Bounded A → Bounded A
 forgotten l = record { items = []; room = l.room + length l.items }
 
--- the domain has arrived: its list of copies is empty, and what it knows of the blocks that it met, of how many pools are free, of the list that it wrote, and of the phase but for the cut and whether the cycle is whole, is void
+-- the domain has arrived: its list of copies is empty, and what it knows of the blocks that it met, of how many pools are free, of the list that it wrote, and of the phase but for the cut, whether the cycle is whole and whether a sweep is owed, is void
 abbrev pub arrived_view : DomainView → DomainView
 arrived_view x = record {
   own = record x.own { arrivals = x.own.arrivals + 1; pending = forgotten x.own.pending };
@@ -135,7 +140,7 @@ abbrev pub IsModeOf : Kind → Mode → Type 0
 IsModeOf Run mode = mode ≡ Open
 IsModeOf Promote mode = mode ≡ Open
 IsModeOf Reset mode = mode ≡ Open
-IsModeOf Sweep mode = mode ≡ Sealed
+IsModeOf Sweep mode = (mode ≡ Open) ⊎ (mode ≡ Sealed)
 IsModeOf Answer mode = mode ≡ Answered
 IsModeOf _ mode = Unit {0}
 
@@ -168,15 +173,15 @@ pub record ClearMay (x : DomainView) : Type 0 where
 abbrev pub ClearTold : DomainView → ℕ → DomainView → Type 0
 ClearTold x found y = y ≡ noted x Cleared
 
--- the collector's entry that stands where a kind is named after another
-abbrev pub entry_of : Kind → Kind → Option Entry
-entry_of Rounds Decide = Some Cut
-entry_of Rounds Clean = Some Seal
-entry_of Sweep Answer = Some Collected
-entry_of Sweep Run = Some Done
-entry_of Sweep Roots = Some Done
-entry_of Answer Run = Some Done
-entry_of _ _ = None
+-- the collector's entry that stands where a kind is named after another. A collection whose garbage is left to running domains ends where they run again, and not where what is left is freed in a later pause
+abbrev pub entry_of : Bool → Kind → Kind → Option Entry
+entry_of unswept Rounds Decide = Some Cut
+entry_of unswept Rounds Clean = Some Seal
+entry_of unswept Lasts Run = Some Done
+entry_of unswept Sweep Answer = Some Collected
+entry_of unswept Sweep Roots = cond unswept None (Some Done)
+entry_of unswept Answer Run = Some Done
+entry_of unswept _ _ = None
 
 -- whether the cut of the collection is made. It isn't where a cycle begins, or goes on that was under way
 abbrev pub cut_in : Kind → Bool → Bool
@@ -192,18 +197,26 @@ whole_after Sweep Roots whole = true
 whole_after Reset Mark whole = false
 whole_after _ _ whole = whole
 
--- What domain 0 knows as it names the next kind. It leaves the marking when it has found that nothing was changed, to one side before the cut is made, to the other after it. Blocks are freed once it has rotated the colours, and set the live words back. The domains run again beside the cycle where the armed word says that one goes on; one that goes on is finished, and another begins where none does. After a collection none goes on. A collection is answered where it began in this pause
+-- whether garbage of a collection is left, where a kind is named after another
+abbrev pub unswept_after : Kind → Kind → Bool → Bool
+unswept_after Lasts Run unswept = true
+unswept_after Sweep next unswept = false
+unswept_after _ _ unswept = unswept
+
+-- What domain 0 knows as it names the next kind. It leaves the marking when it has found that nothing was changed, to one side before the cut is made, to the other after it. It leaves Lasts once it has rotated the colours. Where garbage is freed next it has set the live words back. The domains run again beside the cycle where the armed word says that one goes on; one that goes on is finished, and another begins where none does, and no garbage of the last one is left: where some is, it is freed first. After a collection none goes on. A collection is answered where it began in this pause
 pub record MayFollow (share : Share) (last next : Kind) : Type 0 where
   pub unchanged : (next ≡ Rounds) ⊎ ((next ≡ Decide) ⊎ (next ≡ Clean)) → share.changed ≡ Some 0
   pub first : next ≡ Decide → share.cut ≡ false
   pub second : next ≡ Clean → share.cut ≡ true
   pub rotated : last ≡ Lasts → share.rotated ≡ true
-  pub set_back : last ≡ Lasts → (share.blocks ≡ Some 0) × (share.words ≡ Some 0)
+  pub set_back : next ≡ Sweep → (share.blocks ≡ Some 0) × (share.words ≡ Some 0)
   pub goes_on : last ≡ Roots → next ≡ Run → share.armed ≡ Some true
-  pub begins : last ≡ Reset → next ≡ Roots → share.armed ≡ Some false
+  pub begins : last ≡ Reset → next ≡ Roots → (share.armed ≡ Some false) × (share.unswept ≡ false)
+  pub frees : last ≡ Reset → next ≡ Sweep → share.unswept ≡ true
   pub finishes : last ≡ Reset → next ≡ Mark → share.armed ≡ Some true
-  pub over : (last ≡ Sweep) ⊎ (last ≡ Answer) → next ≡ Run → share.armed ≡ Some false
-  pub answers : next ≡ Answer → share.whole ≡ true
+  pub over : (last ≡ Lasts) ⊎ (last ≡ Answer) → next ≡ Run → share.armed ≡ Some false
+  pub freed : last ≡ Sweep → next ≡ Run → share.unswept ≡ true
+  pub answers : next ≡ Answer → (share.whole ≡ true) × (share.unswept ≡ false)
 
 -- domain 0 has written the list of free pools anew in this phase, from all owner words, and the cursor is 0: each pool whose owner word says nobody is listed
 pub record NamesFree (k : Config) (x : DomainView) : Type 0 where
@@ -236,8 +249,8 @@ pub record EndsWith (k : Config) (x y : DomainView) (e : Entry) : Type 0 where
 -- what domain 0 knew of the phase is void, and the collector's entry stands, if there is one
 pub record LeadTold (k : Config) (next : Kind) (x : DomainView) (found : ℕ) (y : DomainView) : Type 0 where
   pub seen : IsFrontOf x.own.number y.seen.front x.seen.front
-  pub stays : entry_of (kind_in x.seen.stage) next ≡ None → y.seen.front ≡ x.seen.front
-  pub made : (e : Entry) → entry_of (kind_in x.seen.stage) next ≡ Some e → EndsWith k x y e
+  pub stays : entry_of x.seen.share.unswept (kind_in x.seen.stage) next ≡ None → y.seen.front ≡ x.seen.front
+  pub made : (e : Entry) → entry_of x.seen.share.unswept (kind_in x.seen.stage) next ≡ Some e → EndsWith k x y e
   pub view : y ≡ record x { seen = record x.seen { front = y.seen.front; stage = Led next; share = record fresh_share { cut = cut_in (kind_in x.seen.stage) x.seen.share.cut; whole = whole_after (kind_in x.seen.stage) next x.seen.share.whole } } }
 
 -- the token's own data after the end of a trace: the registers hold nothing, and nothing is registered

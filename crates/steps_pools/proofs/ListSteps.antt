@@ -166,7 +166,7 @@ module _ (k : Config) (s : Words) (r : Rule k s) (id : ℕ) (hist : List Entry) 
         owes = owes_as k r.account.live x y refl refl refl refl good.owes;
         rooted = good.rooted;
         set_back = λ h. o.set_back h.0 h.1;
-        sharing = sharing_words k r.account r.account s.words words' x refl refl refl refl refl same o.every good.sharing;
+        sharing = sharing_words k r.account r.account s.words words' x refl refl refl refl same o.every good.sharing;
         listed = good.listed;
       }
       (λ z _ other g. record {
@@ -181,7 +181,7 @@ module _ (k : Config) (s : Words) (r : Rule k s) (id : ℕ) (hist : List Entry) 
         owes = g.owes;
         rooted = g.rooted;
         set_back = λ h. o.others_set_back z g.staged h (g.set_back h);
-        sharing = sharing_words k r.account r.account s.words words' z refl refl refl refl refl same o.every g.sharing;
+        sharing = sharing_words k r.account r.account s.words words' z refl refl refl refl same o.every g.sharing;
         listed = g.listed;
       })
 

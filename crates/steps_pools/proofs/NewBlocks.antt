@@ -54,7 +54,8 @@ use Rattle.heap_rule.proofs.Entering.{running, inside_state, registers_stand, ma
 use Rattle.heap_rule.proofs.FinaliserLemmas.{enrolled_as, enrolled_more, work_command}
 use Rattle.heap_rule.proofs.Beside.{found_beside, making_beside}
 use Rattle.heap_rule.proofs.Born.{all_more, live', born, more, old, is_new, placed_born, settled_born, recalls_born, naming_born, spread_born, opened_born, classes_born}
-use Rattle.heap_rule.proofs.Lots.{hunter_beside, stays, head_some, place_cases, owned_same}
+use Rattle.heap_rule.proofs.OwnPlaces.{owned_same}
+use Rattle.heap_rule.proofs.Lots.{hunter_beside, stays, head_some, place_cases}
 use Rattle.heap_rule.proofs.Holders.{free_later}
 use Rattle.steps_pools.proofs.DrawSteps.{none_drawn}
 use Rattle.steps_pools.proofs.WalkSteps.{filling, live_far, others_beside, equal_le, lot_top}

@@ -27,7 +27,8 @@ use Rattle.heap_rule.proofs.Beside.{found_beside, making_beside}
 use Rattle.heap_rule.proofs.EphemeronLemmas.{own_place_on}
 use Rattle.heap_rule.specs.Ephemerons.{Listed}
 use Rattle.heap_rule.specs.Rule.{Good}
-use Rattle.heap_rule.proofs.Lots.{Beside, pool_beside, hunter_beside, drawn_same, owned_same, stays, head_full}
+use Rattle.heap_rule.proofs.OwnPlaces.{owned_same}
+use Rattle.heap_rule.proofs.Lots.{Beside, pool_beside, hunter_beside, drawn_same, stays, head_full}
 use Rattle.heap_rule.proofs.Holders.{Agrees, SameStock, agrees_set, drawn_not, drawn_owned, found_agrees, free_later, grid_over, hunter_agree, making_agrees, nobody_drawn, nobody_owned, owned_not, same_over}
 use Rattle.steps_pools.proofs.DrawSteps.{hunter, next_hunter, hunter_on, knows, known_free, draws_none, latest_words, own_word}
 use Rattle.heap_rule.specs.Fullness.{Fullness}

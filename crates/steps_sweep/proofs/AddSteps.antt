@@ -169,13 +169,14 @@ module _ (k : Config) (s : Words) (r : Rule k s) (id : ℕ) (hist : List Entry) 
           pass = g.leading.pass;
           whole = g.leading.whole;
           armed = g.leading.armed;
+          unswept = g.leading.unswept;
         };
         knows = inr (
           collecting,
           record { found_head = n.found_head; scan = n.scan; walked = n.walked; own_pool = n.own_pool; rooted = n.rooted; marked = n.marked; counted = record { once = t.once; own = t.own; lives = t.lives; all = t.all; words = t.words }; held = n.held; vacant = n.vacant },
         );
         adds = record { blocks = λ _ _. o.mine_blocks; words = λ _ _. o.mine_words; own = λ _ _. o.mine_own };
-        looks = record { at_own = g.looks.at_own; pruned = g.looks.pruned; cleans = g.looks.cleans; emptied_is = g.looks.emptied_is };
+        looks = record { at_own = g.looks.at_own; cleans = g.looks.cleans; emptied_is = g.looks.emptied_is };
         running = let u = running' x good in record { knows = u.knows; owes = u.owes };
         deciding = g.deciding;
       };
@@ -190,6 +191,7 @@ module _ (k : Config) (s : Words) (r : Rule k s) (id : ℕ) (hist : List Entry) 
           pass = q.leading.pass;
           whole = q.leading.whole;
           armed = q.leading.armed;
+          unswept = q.leading.unswept;
         };
         knows = ⊎_elim
             (λ (u : IsIdle z.seen.share). inl u)

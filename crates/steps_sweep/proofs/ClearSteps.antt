@@ -90,6 +90,7 @@ module _ (k : Config) (s : Words) (r : Rule k s) (id : ℕ) (hist : List Entry) 
       pass = h.leading.pass;
       whole = h.leading.whole;
       armed = h.leading.armed;
+      unswept = h.leading.unswept;
     };
     knows = knows_words k r.account.live r.account.tenancy.holder now.graph c.paint.marks s.words words' z.own.number z.own.registers z.seen.stage z.seen.share (heap k s r id hist x at i 0 is) h.knows;
     adds = h.adds;
@@ -132,10 +133,11 @@ module _ (k : Config) (s : Words) (r : Rule k s) (id : ℕ) (hist : List Entry) 
           pass = g.leading.pass;
           whole = g.leading.whole;
           armed = g.leading.armed;
+          unswept = g.leading.unswept;
         };
         knows = inl idle';
         adds = record { blocks = λ e _. absurd (no_sweep e); words = λ e _. absurd (no_sweep e); own = λ e _ _. absurd (no_sweep e) };
-        looks = record { at_own = g.looks.at_own; pruned = g.looks.pruned; cleans = g.looks.cleans; emptied_is = g.looks.emptied_is };
+        looks = record { at_own = g.looks.at_own; cleans = g.looks.cleans; emptied_is = g.looks.emptied_is };
         running = let u = running' x good in record { knows = u.knows; owes = u.owes };
         deciding = g.deciding;
       };

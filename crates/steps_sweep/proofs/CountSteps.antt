@@ -25,7 +25,8 @@ use Rattle.heap_rule.specs.Rule.{Rule, state_of}
 use Rattle.heap_rule.specs.Views.{one}
 use Rattle.heap_rule.proofs.Classes.{size_least, slot_below, slot_inside}
 use Rattle.heap_rule.proofs.Keeps.{Words, my_good, unmoved}
-use Rattle.heap_rule.proofs.Lots.{owned_same, place_cases}
+use Rattle.heap_rule.proofs.OwnPlaces.{owned_same}
+use Rattle.heap_rule.proofs.Lots.{place_cases}
 use Rattle.steps_cycle.specs.Looks.{with_share}
 use Rattle.steps_cycle.specs.Marking.{behind}
 use Rattle.steps_cycle.proofs.Colouring.{bare_head}
@@ -110,13 +111,13 @@ module _ (k : Config) (s : Words) (r : Rule k s) (id : ℕ) (hist : List Entry) 
         let g = (my_good k s r id hist x at).sharing in
         let waits : c.shares.arrived d ≡ false = waits_in k s r id hist x at Sweep stage in learns k s r id hist x at share' record {
           telling = record { owes = g.telling.owes; seen = g.telling.seen; fresh = λ up. absurd (true≢false (sym up ∙ waits)); forgotten = λ up. absurd (true≢false (sym up ∙ waits)); colours = g.telling.colours };
-          leading = record { changed = g.leading.changed; found_blocks = g.leading.found_blocks; found_words = g.leading.found_words; rotated = g.leading.rotated; turned = g.leading.turned; pass = g.leading.pass; whole = g.leading.whole; armed = g.leading.armed };
+          leading = record { changed = g.leading.changed; found_blocks = g.leading.found_blocks; found_words = g.leading.found_words; rotated = g.leading.rotated; turned = g.leading.turned; pass = g.leading.pass; whole = g.leading.whole; armed = g.leading.armed; unswept = g.leading.unswept };
           knows = inr (
             sweeping k s r id hist x at stage,
             record { found_head = kn.found_head; scan = kn.scan; walked = kn.walked; own_pool = own; rooted = kn.rooted; marked = kn.marked; counted = counted; held = kn.held; vacant = kn.vacant },
           );
           adds = record { blocks = g.adds.blocks; words = g.adds.words; own = λ _ _ done. absurd (true≢false (sym done ∙ counts)) };
-          looks = record { at_own = g.looks.at_own; pruned = g.looks.pruned; cleans = g.looks.cleans; emptied_is = g.looks.emptied_is };
+          looks = record { at_own = g.looks.at_own; cleans = g.looks.cleans; emptied_is = g.looks.emptied_is };
           running = record { knows = g.running.knows; owes = g.running.owes };
           deciding = g.deciding;
         }

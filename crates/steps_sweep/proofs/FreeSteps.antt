@@ -33,7 +33,8 @@ use Rattle.heap_rule.proofs.Classes.{size_least, slot_inside, some_block}
 use Rattle.heap_rule.proofs.Closes.{front_same}
 use Rattle.heap_rule.proofs.Holders.{SameFor, agrees_same, drawn_owned, hunter_agree, stock_self}
 use Rattle.heap_rule.proofs.Keeps.{Words, control_set, more_same, my_good}
-use Rattle.heap_rule.proofs.Lots.{head_full, hunter_beside, live_beside, none_before, owned_same, place_cases, place_low, pool_beside}
+use Rattle.heap_rule.proofs.OwnPlaces.{owned_same}
+use Rattle.heap_rule.proofs.Lots.{head_full, hunter_beside, live_beside, none_before, place_cases, place_low, pool_beside}
 use Rattle.heap_rule.proofs.PauseFacts.{not_both}
 use Rattle.steps_pools.proofs.Plain.{looking_fits}
 use Rattle.steps_pools.specs.Writes.{CanLook, LooksFrom}
@@ -296,6 +297,7 @@ module _ (k : Config) (s : Words) (r : Rule k s) (id : ℕ) (hist : List Entry) 
     pass = l.pass;
     whole = l.whole;
     armed = l.armed;
+    unswept = l.unswept;
   }
 
   heads : (b : ℕ) (p : Place) → r.account.live b ≡ Some p → (at_address k words' b ≡ at_address k s.words b) ⊎ IsTrue (c.paint.marks.marked p.label)
@@ -323,7 +325,7 @@ module _ (k : Config) (s : Words) (r : Rule k s) (id : ℕ) (hist : List Entry) 
           forgotten = λ up. absurd (true≢false (sym up ∙ is_waiting));
           colours = g.telling.colours;
         };
-        leading = record { changed = l.changed; found_blocks = l.found_blocks; found_words = l.found_words; rotated = l.rotated; turned = l.turned; pass = l.pass; whole = l.whole; armed = l.armed };
+        leading = record { changed = l.changed; found_blocks = l.found_blocks; found_words = l.found_words; rotated = l.rotated; turned = l.turned; pass = l.pass; whole = l.whole; armed = l.armed; unswept = l.unswept };
         knows = inr (
           here_collects,
           record {
@@ -339,7 +341,7 @@ module _ (k : Config) (s : Words) (r : Rule k s) (id : ℕ) (hist : List Entry) 
           },
         );
         adds = record { blocks = g.adds.blocks; words = g.adds.words; own = g.adds.own };
-        looks = record { at_own = g.looks.at_own; pruned = λ i b few got. still_clean b (g.looks.pruned i b few got); cleans = g.looks.cleans; emptied_is = g.looks.emptied_is };
+        looks = record { at_own = g.looks.at_own; cleans = g.looks.cleans; emptied_is = g.looks.emptied_is };
         running = let u = running' x good in record { knows = u.knows; owes = u.owes };
         deciding = g.deciding;
       }
@@ -353,7 +355,7 @@ module _ (k : Config) (s : Words) (r : Rule k s) (id : ℕ) (hist : List Entry) 
         (λ (n : IsCollecting z.seen.stage × Knowing k r.account.live t.holder now.graph c.paint.marks s.words z.own.number z.own.registers z.seen.share). inr (n.0, knowing_on k s r id hist x at c.paint.marks words' heads still_free (λ l is. is) z.own.number z.own.registers z.seen.share n.1))
         g.knows;
     adds = record { blocks = g.adds.blocks; words = g.adds.words; own = g.adds.own };
-    looks = record { at_own = g.looks.at_own; pruned = λ i b few got. still_clean b (g.looks.pruned i b few got); cleans = g.looks.cleans; emptied_is = g.looks.emptied_is };
+    looks = record { at_own = g.looks.at_own; cleans = g.looks.cleans; emptied_is = g.looks.emptied_is };
     running = running' z h;
     deciding = g.deciding;
   }

@@ -22,7 +22,7 @@ use Rattle.heap_rule.specs.Raw.{CanLeave, Closes, Leaves, MayStep}
 use Rattle.heap_rule.specs.Rule.{Rule, state_of}
 use Rattle.heap_rule.specs.Views.{one}
 use Rattle.heap_rule.proofs.Keeps.{Words, my_good, unmoved}
-use Rattle.heap_rule.proofs.Lots.{owned_same}
+use Rattle.heap_rule.proofs.OwnPlaces.{owned_same}
 use Rattle.steps_cycle.specs.Looks.{with_share}
 use Rattle.steps_cycle.proofs.Learning.{kind_here, known, learns, not_promoting}
 use Rattle.steps_cycle.proofs.Plain.{share_closes}
@@ -69,13 +69,13 @@ module _ (k : Config) (s : Words) (r : Rule k s) (id : ℕ) (hist : List Entry) 
       let n = kn.counted in
       let waits : c.shares.arrived d ≡ false = waits_in k s r id hist x at Answer stage in learns k s r id hist x at (record sh { own_pool = own_pool; held = held; vacant = vacant }) record {
         telling = record { owes = g.telling.owes; seen = g.telling.seen; fresh = λ up. absurd (true≢false (sym up ∙ waits)); forgotten = λ up. absurd (true≢false (sym up ∙ waits)); colours = g.telling.colours };
-        leading = record { changed = g.leading.changed; found_blocks = g.leading.found_blocks; found_words = g.leading.found_words; rotated = g.leading.rotated; turned = g.leading.turned; pass = g.leading.pass; whole = g.leading.whole; armed = g.leading.armed };
+        leading = record { changed = g.leading.changed; found_blocks = g.leading.found_blocks; found_words = g.leading.found_words; rotated = g.leading.rotated; turned = g.leading.turned; pass = g.leading.pass; whole = g.leading.whole; armed = g.leading.armed; unswept = g.leading.unswept };
         knows = inr (
           collecting,
           record { found_head = kn.found_head; scan = kn.scan; walked = kn.walked; own_pool = own; rooted = kn.rooted; marked = kn.marked; counted = record { once = n.once; own = n.own; lives = n.lives; all = n.all; words = n.words }; held = all; vacant = free },
         );
         adds = record { blocks = g.adds.blocks; words = g.adds.words; own = g.adds.own };
-        looks = record { at_own = g.looks.at_own; pruned = g.looks.pruned; cleans = g.looks.cleans; emptied_is = g.looks.emptied_is };
+        looks = record { at_own = g.looks.at_own; cleans = g.looks.cleans; emptied_is = g.looks.emptied_is };
         running = record { knows = g.running.knows; owes = g.running.owes };
         deciding = g.deciding;
       }

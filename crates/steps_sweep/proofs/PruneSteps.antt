@@ -95,13 +95,13 @@ module _ (k : Config) (s : Words) (r : Rule k s) (id : ℕ) (hist : List Entry) 
   passes : IsEpheAt live a → After (with_share x passed)
   passes e = let g = good.sharing in let n = kn.counted in learns k s r id hist x at passed record {
     telling = record { owes = g.telling.owes; seen = g.telling.seen; fresh = λ up. absurd (true≢false (sym up ∙ waits)); forgotten = λ up. absurd (true≢false (sym up ∙ waits)); colours = g.telling.colours };
-    leading = record { changed = g.leading.changed; found_blocks = g.leading.found_blocks; found_words = g.leading.found_words; rotated = g.leading.rotated; turned = g.leading.turned; pass = g.leading.pass; whole = g.leading.whole; armed = g.leading.armed };
+    leading = record { changed = g.leading.changed; found_blocks = g.leading.found_blocks; found_words = g.leading.found_words; rotated = g.leading.rotated; turned = g.leading.turned; pass = g.leading.pass; whole = g.leading.whole; armed = g.leading.armed; unswept = g.leading.unswept };
     knows = inr (
       collecting,
       record { found_head = kn.found_head; scan = kn.scan; walked = kn.walked; own_pool = kn.own_pool; rooted = kn.rooted; marked = kn.marked; counted = record { once = n.once; own = n.own; lives = n.lives; all = n.all; words = n.words }; held = kn.held; vacant = kn.vacant },
     );
     adds = record { blocks = g.adds.blocks; words = g.adds.words; own = g.adds.own };
-    looks = record { at_own = g.looks.at_own; pruned = none_dead e; cleans = g.looks.cleans; emptied_is = g.looks.emptied_is };
+    looks = record { at_own = g.looks.at_own; cleans = g.looks.cleans; emptied_is = g.looks.emptied_is };
     running = record { knows = g.running.knows; owes = g.running.owes };
     deciding = g.deciding;
   }

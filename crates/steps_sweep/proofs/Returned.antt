@@ -23,7 +23,8 @@ use Rattle.heap_rule.specs.Views.{one}
 use Rattle.heap_rule.proofs.Classes.{size_least, slot_inside}
 use Rattle.heap_rule.proofs.Holders.{Agrees, agrees_set, nobody_not}
 use Rattle.heap_rule.proofs.Keeps.{Words}
-use Rattle.heap_rule.proofs.Lots.{head_full, owned_same}
+use Rattle.heap_rule.proofs.OwnPlaces.{owned_same}
+use Rattle.heap_rule.proofs.Lots.{head_full}
 use Rattle.heap_rule.proofs.Update.{over, over_else, over_here}
 use Rattle.heap_rule.proofs.Sharings.{SameCycle}
 use Rattle.steps_cycle.proofs.Layouts.{labelled}

@@ -19,7 +19,8 @@ use Rattle.heap_rule.specs.Rule.{Rule, state_of}
 use Rattle.heap_rule.specs.Views.{one}
 use Rattle.heap_rule.proofs.HeadLemmas.{packable_head}
 use Rattle.heap_rule.proofs.Keeps.{Words, my_good}
-use Rattle.heap_rule.proofs.Lots.{owned_same, place_cases}
+use Rattle.heap_rule.proofs.OwnPlaces.{owned_same}
+use Rattle.heap_rule.proofs.Lots.{place_cases}
 use Rattle.steps_cycle.proofs.Colouring.{BareHead, bare_head, unmarked_colour}
 use Rattle.steps_cycle.proofs.Learning.{bare, kind_here, known, not_promoting}
 use Rattle.steps_cycle.proofs.WalkSteps.{before_behind}

@@ -315,6 +315,7 @@ module _ (k : Config) (s : Words) (r : Rule k s) (id : ℕ) (hist : List Entry) 
       pass = g.leading.pass;
       whole = g.leading.whole;
       armed = g.leading.armed;
+      unswept = g.leading.unswept;
     };
     knows = inl idle';
     adds = record { blocks = λ e _. absurd (no_sweep e); words = λ e _. absurd (no_sweep e); own = λ e _ _. absurd (no_sweep e) };
@@ -344,6 +345,7 @@ module _ (k : Config) (s : Words) (r : Rule k s) (id : ℕ) (hist : List Entry) 
           pass = g.leading.pass;
           whole = g.leading.whole;
           armed = g.leading.armed;
+          unswept = g.leading.unswept;
         };
         knows = inl (g.telling.fresh gone);
         adds = record { blocks = λ e _. absurd (no_sweep e); words = λ e _. absurd (no_sweep e); own = λ e _ _. absurd (no_sweep e) };
