@@ -251,7 +251,7 @@ pub record LeadTold (k : Config) (next : Kind) (x : DomainView) (found : ℕ) (y
   pub seen : IsFrontOf x.own.number y.seen.front x.seen.front
   pub stays : entry_of x.seen.share.unswept (kind_in x.seen.stage) next ≡ None → y.seen.front ≡ x.seen.front
   pub made : (e : Entry) → entry_of x.seen.share.unswept (kind_in x.seen.stage) next ≡ Some e → EndsWith k x y e
-  pub view : y ≡ record x { seen = record x.seen { front = y.seen.front; stage = Led next; share = record fresh_share { cut = cut_in (kind_in x.seen.stage) x.seen.share.cut; whole = whole_after (kind_in x.seen.stage) next x.seen.share.whole } } }
+  pub view : y ≡ record x { seen = record x.seen { front = y.seen.front; stage = Led next; share = record fresh_share { cut = cut_in (kind_in x.seen.stage) x.seen.share.cut; whole = whole_after (kind_in x.seen.stage) next x.seen.share.whole; unswept = unswept_after (kind_in x.seen.stage) next x.seen.share.unswept } } }
 
 -- the token's own data after the end of a trace: the registers hold nothing, and nothing is registered
 abbrev pub ended_own : Own → Own

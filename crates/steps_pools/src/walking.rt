@@ -47,8 +47,8 @@ pub fn place_address(pool: u32, class: u32, slot: u32) -> u32
     pool * POOL_WORDS + slot * class_size(class) + 1
 }
 
-// The place behind one, in the next pool behind the last.
-fn behind(pool: u32, class: u32, slot: u32) -> Spot
+/// The place behind one, in the next pool behind the last.
+pub fn place_behind(pool: u32, class: u32, slot: u32) -> Spot
     requires pool { pool < 2048 }
     requires class { class < class_count }
     requires slot { slot < blocks_of class }
@@ -111,7 +111,7 @@ impl Writing for PassingPlace {
 
     fn write(&self, found: u64, _changes: &[Change], own: &mut Own) {
         if found != 0 {
-            own.looked[self.class as usize] = behind(self.pool, self.class, self.slot);
+            own.looked[self.class as usize] = place_behind(self.pool, self.class, self.slot);
         }
     }
 }

@@ -32,7 +32,7 @@ pub record CountMay (x : DomainView) (at pool class slot : ℕ) : Type 0 where
   pub inside : slot < blocks_of class
   pub word : at ≡ place_in pool class slot
   pub next : x.seen.share.counted_to ≡ record { pool = pool; slot = slot }
-  pub swept : IsBefore pool slot x.seen.share.walk
+  pub swept : IsBefore pool slot x.own.swept.spot
 
 -- the place is free, or a block lives there, which is counted with its words
 pub record CountTold (at pool class slot : ℕ) (x : DomainView) (found : ℕ) (y : DomainView) : Type 0 where

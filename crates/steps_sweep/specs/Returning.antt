@@ -4,6 +4,7 @@ use Rattle.heap_rule.specs.declared.config.Config.{Config}
 use Rattle.heap_rule.specs.declared.phase.Kind.TheVariants.{Answer}
 use Rattle.heap_rule.specs.declared.phase.Stage.TheVariants.{In}
 use Rattle.heap_rule.specs.declared.view.DomainView.{DomainView}
+use Rattle.heap_rule.specs.declared.view.Reaping.TheVariants.{Outside}
 use Rattle.heap_rule.specs.Pools.{blocks_of}
 use Rattle.steps_cycle.specs.Looks.{with_share}
 
@@ -16,6 +17,6 @@ pub record ReturnMay (k : Config) (x : DomainView) (at pool class : ℕ) : Type 
   pub inside : pool < k.pools
   pub word : at ≡ 11 + k.pools + pool
 
--- the pool is the domain's no more, and the pool behind it is next
+-- the pool is the domain's no more, it sweeps none, and the pool behind it is next
 abbrev pub ReturnTold : ℕ → DomainView → ℕ → DomainView → Type 0
-ReturnTold pool x found y = y ≡ with_share x (record x.seen.share { own_pool = None; held = pool + 1; vacant = 0 })
+ReturnTold pool x found y = y ≡ with_share x (record x.seen.share { own_pool = None; held = pool + 1; vacant = 0; reaping = Outside })

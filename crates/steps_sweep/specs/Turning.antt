@@ -1,8 +1,8 @@
 -- What the rotation of the colours asks and tells, and the start of the count of what lives.
-use Rattle.std.specs.Prelude.{◌≡◌, ℕ, true, false, Some}
+use Rattle.std.specs.Prelude.{◌≡◌, ◌⊎◌, ℕ, true, false, Some}
 use Rattle.heap_words.specs.declared.colours.Colours.{Colours}
 use Rattle.heap_words.specs.ColourWords.{colours_word, rotated}
-use Rattle.heap_rule.specs.declared.phase.Kind.TheVariants.{Lasts}
+use Rattle.heap_rule.specs.declared.phase.Kind.TheVariants.{Lasts, Reset}
 use Rattle.heap_rule.specs.declared.phase.Stage.TheVariants.{Leads}
 use Rattle.heap_rule.specs.declared.view.DomainView.{DomainView}
 use Rattle.steps_cycle.specs.Looks.{with_share}
@@ -22,10 +22,10 @@ pub record TurnTold (x : DomainView) (found : ℕ) (y : DomainView) : Type 0 whe
   pub known : x.seen.share.colours ≡ Some colours
   pub view : y ≡ with_share x (record x.seen.share { colours = Some (rotated colours); rotated = true })
 
--- domain 0 leads after Lasts, and clears a word of what lives
+-- domain 0 leads after Lasts or after Reset, and clears a word of what lives
 pub record ClearMay (x : DomainView) : Type 0 where
   pub first : x.own.number ≡ 0
-  pub stage : x.seen.stage ≡ Leads Lasts
+  pub stage : (x.seen.stage ≡ Leads Lasts) ⊎ (x.seen.stage ≡ Leads Reset)
 
 abbrev pub BlocksCleared : DomainView → ℕ → DomainView → Type 0
 BlocksCleared x found y = y ≡ with_share x (record x.seen.share { blocks = Some 0 })

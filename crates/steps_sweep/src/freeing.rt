@@ -1,88 +1,186 @@
 //! The walk through own pools in which garbage is freed.
-ghost use Rattle.std.specs.Prelude.{◌<◌};
-ghost use Rattle.heap_model.specs.Domains.{class_count};
+ghost use Rattle.std.specs.Prelude.{◌≡◌, ◌<◌};
 ghost use Rattle.heap_rule.specs.Standing.{IsInHeap};
 ghost use Rattle.heap_rule.specs.Token.{IsIn};
-ghost use Rattle.steps_sweep.specs.Freeing.{FreeMay, FreeTold, SweepMay, SweepTold};
+ghost use Rattle.steps_sweep.specs.Freeing.{AnewMay, AnewTold, earlier, FreeMay, FreeTold, SweepMay, SweepOwnMay, SweepOwnTold, SweepTold};
 
-use heap_rule::{Change, Domain, Heap, Own, Spot, Writing, raw_load, raw_store};
+use crate::heads::has_colour;
+use crate::owners::own_class;
+use heap_rule::{COLOURS, Change, Domain, Heap, Own, Spot, Swept, Writing, raw_load, raw_store};
 use std::marker::Brand;
+use steps_pools::{class_blocks, place_behind};
 
-// The token's own data stays as it is. The place is there for the pick alone.
+// Everything is to be swept.
 #[derive(Clone, Copy)]
-pub(crate) struct Seeking {
-    pub(crate) at: u32,
-    pub(crate) pool: u32,
-    pub(crate) class: u32,
-    pub(crate) slot: u32,
+struct Anew;
+
+impl Writing for Anew {
+    ghost use Rattle.steps_sweep.specs.Freeing.{unswept};
+    ghost use Rattle.std.specs.Prelude.{◌≡◌};
+
+    ghost can = { λ _ _ _ _. Unit {0} };
+
+    ghost writes = { λ _ _ _ own after. after ≡ unswept own };
+
+    fn write(&self, _found: u64, _changes: &[Change], own: &mut Own) {
+        own.swept = Swept {
+            listed: 0,
+            spot: Spot { pool: 0, slot: 0 },
+        };
+    }
+}
+
+// A pool that isn't the domain's own, or whose places are all swept, is passed.
+#[derive(Clone, Copy)]
+struct Entering {
+    pool: u32,
+}
+
+impl Writing for Entering {
+    ghost use Rattle.steps_sweep.specs.Freeing.{CanSweepOwn, SweepsOwn};
+
+    ghost can = { λ s _ _ own. CanSweepOwn s.pool own };
+
+    ghost writes = { λ s found _ own after. SweepsOwn s.pool found own after };
+
+    fn write(&self, found: u64, _changes: &[Change], own: &mut Own) {
+        let slot = own.swept.spot.slot;
+        if !own_class(found, own.number).is_some_and(|class| slot < class_blocks(class)) {
+            own.swept.spot = Spot {
+                pool: self.pool + 1,
+                slot: 0,
+            };
+        }
+    }
+}
+
+// A place at which no garbage lies is passed.
+#[derive(Clone, Copy)]
+struct Seeking {
+    pool: u32,
+    class: u32,
+    slot: u32,
+    garbage: u8,
 }
 
 impl Writing for Seeking {
-    ghost use Rattle.heap_rule.specs.Raw.{CanLeave, Leaves};
+    ghost use Rattle.steps_sweep.specs.Freeing.{CanSweep, SweepsPlace};
 
-    ghost can = { λ _ _ _ own. CanLeave own };
+    ghost can = { λ s _ _ _. CanSweep s.pool s.class s.slot };
 
-    ghost writes = { λ _ _ _ own after. Leaves own after };
+    ghost writes = { λ s found _ own after. SweepsPlace s.pool s.class s.slot s.garbage found own after };
 
-    fn write(&self, _found: u64, _changes: &[Change], _own: &mut Own) {}
+    fn write(&self, found: u64, _changes: &[Change], own: &mut Own) {
+        if !has_colour(found, self.garbage) {
+            own.swept.spot = place_behind(self.pool, self.class, self.slot);
+        }
+    }
 }
 
-// A place of the class is free: each of its places is looked at again.
+// The earlier of two places of pools.
+fn earlier(a: Spot, b: Spot) -> Spot
+    ensures { result ≡ earlier a b }
+{
+    if a.pool < b.pool || (a.pool == b.pool && a.slot <= b.slot) {
+        a
+    } else {
+        b
+    }
+}
+
+// A place is free: the search for one of its class begins there, or earlier.
 #[derive(Clone, Copy)]
 struct Freeing {
-    at: u32,
     pool: u32,
     class: u32,
     slot: u32,
 }
 
 impl Writing for Freeing {
-    ghost use Rattle.steps_pools.specs.Writes.{CanLook, LooksFrom};
+    ghost use Rattle.steps_sweep.specs.Freeing.{CanFree, FreesPlace};
 
-    ghost can = { λ s _ _ _. CanLook 0 s.class };
+    ghost can = { λ s _ _ own. CanFree s.pool s.class s.slot own };
 
-    ghost writes = { λ s _ _ own after. LooksFrom 0 s.class own after };
+    ghost writes = { λ s _ _ own after. FreesPlace s.pool s.class s.slot own after };
 
     fn write(&self, _found: u64, _changes: &[Change], own: &mut Own) {
-        own.looked[self.class as usize] = Spot { pool: 0, slot: 0 };
+        own.swept.spot = place_behind(self.pool, self.class, self.slot);
+        let here = Spot {
+            pool: self.pool,
+            slot: self.slot,
+        };
+        let looked = own.looked[self.class as usize];
+        own.looked[self.class as usize] = earlier(here, looked);
     }
 }
 
-/// A load of the head at the next place of an own pool, in Sweep. Where no garbage is there the walk
-/// goes to the place behind it. `at` is the place's address. Answers the head's word.
-pub fn sweep_load(heap: &Heap, dom: &mut Domain, at: u32, pool: u32, class: u32, slot: u32) -> u64
+/// A load of the meanings of the colours, in Lasts, at which the domain notes that it is to sweep all
+/// its pools, and its list of ephemerons: the colours are rotated once all have arrived.
+pub fn sweep_anew(heap: &Heap, dom: &mut Domain)
+    requires here { IsIn dom.old heap.now }
+    requires may { AnewMay dom.old.view }
+    ensures here { IsIn dom.new heap.now }
+    ensures told { AnewTold dom.old.view 0 dom.new.view }
+{
+    raw_load::<Brand, Anew>(heap, dom, COLOURS, &Anew, &[]);
+}
+
+/// A load of the owner of the next pool to be swept. Where the pool isn't the domain's own, or has no
+/// place left, the sweep goes on in the next one. `at` is the index of the owner word. Answers it.
+pub fn sweep_own_load(heap: &Heap, dom: &mut Domain, at: u32, pool: u32) -> u64
+    requires here { IsIn dom.old heap.now }
+    requires may { SweepOwnMay heap.now.config dom.old.view at pool }
+    ensures here { IsIn dom.new heap.now }
+    ensures told { SweepOwnTold pool dom.old.view result dom.new.view }
+{
+    let _limits = heap.config();
+    let writing = Entering { pool };
+    raw_load::<Brand, Entering>(heap, dom, at, &writing, &[])
+}
+
+/// A load of the head at the next place of an own pool. Where it hasn't the colour that means garbage,
+/// which is `garbage`, the sweep goes on behind it. `at` is the place's address. Answers the head's
+/// word.
+pub fn sweep_load(
+    heap: &Heap,
+    dom: &mut Domain,
+    at: u32,
+    pool: u32,
+    class: u32,
+    slot: u32,
+    garbage: u8,
+) -> u64
     requires here { IsIn dom.old heap.now }
     requires inside { IsInHeap heap.now.config at }
-    requires may { SweepMay dom.old.view at pool class slot }
+    requires pool { pool < heap.now.config.pools }
+    requires may { SweepMay dom.old.view at pool class slot garbage }
     ensures here { IsIn dom.new heap.now }
-    ensures told { SweepTold at pool class slot dom.old.view result dom.new.view }
+    ensures told { SweepTold pool class slot garbage dom.old.view result dom.new.view }
 {
+    let _limits = heap.config();
     let index = heap.index_of(at);
     let writing = Seeking {
-        at,
         pool,
         class,
         slot,
+        garbage,
     };
     raw_load::<Brand, Seeking>(heap, dom, index, &writing, &[])
 }
 
-/// A store of Free at the next place of an own pool, where the domain has found garbage. The walk
-/// goes to the place behind it. `at` is the place's address.
+/// A store of Free at the next place of an own pool, where the domain has found garbage. The sweep goes
+/// on behind it, and the next search for a free place of its class begins no later. `at` is the
+/// place's address.
 pub fn free_store(heap: &Heap, dom: &mut Domain, at: u32, pool: u32, class: u32, slot: u32)
     requires here { IsIn dom.old heap.now }
     requires inside { IsInHeap heap.now.config at }
-    requires few { class < class_count }
+    requires pool { pool < heap.now.config.pools }
     requires may { FreeMay dom.old.view at pool class slot }
     ensures here { IsIn dom.new heap.now }
-    ensures told { FreeTold at pool class slot dom.old.view 0 dom.new.view }
+    ensures told { FreeTold pool class slot dom.old.view 0 dom.new.view }
 {
+    let _limits = heap.config();
     let index = heap.index_of(at);
-    let writing = Freeing {
-        at,
-        pool,
-        class,
-        slot,
-    };
+    let writing = Freeing { pool, class, slot };
     raw_store::<Brand, Freeing>(heap, dom, index, 0, &writing, &[]);
 }

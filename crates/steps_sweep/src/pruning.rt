@@ -7,7 +7,8 @@ use crate::heads::has_colour;
 use heap_rule::{Change, Domain, Heap, Own, Writing, raw_load};
 use std::marker::Brand;
 
-// An ephemeron that is garbage is taken off the list. Its address is there for the pick alone.
+// An ephemeron that is garbage is taken off the list, and another one is passed. Its address is there
+// for the pick alone.
 #[derive(Clone, Copy)]
 struct Pruning {
     at: u32,
@@ -25,11 +26,13 @@ impl Writing for Pruning {
     fn write(&self, found: u64, _changes: &[Change], own: &mut Own) {
         if has_colour(found, self.garbage) {
             own.ephemerons.swap_remove(self.i);
+        } else {
+            own.swept.listed = self.i + 1;
         }
     }
 }
 
-/// A load of the head of the `i`-th listed ephemeron, in Sweep. Where the head has the colour that
+/// A load of the head of the `i`-th listed ephemeron, the next to be swept. Where the head has the colour that
 /// means garbage, which is `garbage`, the ephemeron is taken off the list, and the last one takes its
 /// place there. `at` is the ephemeron's address. Answers the head's word.
 pub fn prune_load(heap: &Heap, dom: &mut Domain, at: u32, i: usize, garbage: u8) -> u64

@@ -6,11 +6,11 @@ ghost use Rattle.heap_rule.specs.Pools.{owned, owner_word as word_of};
 use size_classes::CLASS_COUNT;
 use steps_pools::owner_word;
 
-// The index of the owner word of the first pool, less the number of pools.
-pub(crate) const OWNERS: u32 = 11;
+/// The index of the owner word of the first pool, less the number of pools.
+pub const OWNERS: u32 = 11;
 
-// The class of the domain's pool whose owner word this is. `None` exactly where the pool isn't its.
-pub(crate) fn own_class(word: u64, domain: u32) -> Option<u32>
+/// The class of the domain's pool whose owner word this is. `None` exactly where the pool isn't its.
+pub fn own_class(word: u64, domain: u32) -> Option<u32>
     ensures { MatchOption result ((class : ℕ) → class < class_count → word ≢ word_of (owned domain class)) (λ class. (class < class_count) × (word ≡ word_of (owned domain class))) }
 {
     let first = owner_word(domain, 0);
