@@ -24,6 +24,8 @@ use Rattle.heap_rule.specs.Pools.{OwnPlace, Stock, Tenancy, nobody, drawn, drawn
 use Rattle.heap_rule.specs.Room.{spent_stock, drawn_in_all, Room, IsUnused, Drawable}
 use Rattle.heap_rule.specs.Rule.{Good, Rule}
 use Rattle.heap_rule.specs.Views.{one, Tells}
+use Rattle.heap_rule.proofs.Garbage.{KeepsGarbage}
+use Rattle.heap_rule.specs.Sweeping.{SweepsIn}
 use Rattle.heap_rule.proofs.Update.{over, over_here, over_else}
 use Rattle.heap_rule.proofs.Lists.{no_item}
 use Rattle.heap_rule.proofs.Controls.{Untouched, counts_untouched, low_untouched, reserved_untouched, covered_untouched, pools_untouched, hunter_untouched, sum_one, all_up, parity, Move, moved_to, turns}
@@ -35,7 +37,7 @@ use Rattle.heap_rule.specs.Cycles.{Cycling, Told, HasNoCycle, owner_at}
 use Rattle.heap_rule.specs.Layout.{at_address}
 use Rattle.heap_rule.specs.Views.{voided}
 use Rattle.heap_rule.proofs.Controls.{cycle_untouched, heap_untouched}
-use Rattle.steps_pauses.proofs.Arriving.{arrived_cycle, told_arrived, told_turned, cycle_gone, cycle_dropped, whole_gone, own_whole, sharing_gone, sharing_else, sharing_between}
+use Rattle.steps_pauses.proofs.Arriving.{arrived_cycle, told_arrived, told_turned, cycle_gone, cycle_dropped, whole_gone, own_whole, sharing_gone, sharing_else, sharing_between, dropped_none, sweeps_else, sweeps_gone}
 use Rattle.steps_pauses.specs.Pauses.{kind_in, ArrivesFrom, ArriveMay, forgotten, arrived_view, Arrived}
 use Rattle.steps_pauses.proofs.Finishing.{facts_gone}
 use Rattle.std.proofs.lemmas.Option.{none-some}
@@ -309,6 +311,10 @@ module _ (k : Config) (s : Words) (r : Rule k s) (id : ℕ) (hist : List Entry) 
     mine_is : claims' number ≡ 0
     theirs : (e : ℕ) → e ≢ number → claims' e ≡ tenancy.stock.claims e
 
+  -- what it knows of garbage stays
+  own_sweeps : SweepsIn tenancy cycling' y
+  own_sweeps = let h = sweeps_gone tenancy r.account.cycling x (λ kind is. kind_now k pause r.account.cycling x kind is good.staged r.whole.cycle.told) may.done.anew good.sweeps in record { listed = h.listed; places = h.places; anew = h.anew; reaps = h.reaps }
+
   through : (pause' : Pause) (claims' : ℕ → ℕ) → Parts pause' claims' → Rule k record { words = words'; homes = s.homes; views = set s.views id (one k hist y) }
   through pause' claims' p = turns k s r id hist x at move pause' (counting claims') cycling' r.account.homes words' record {
     full = r.whole.full;
@@ -353,6 +359,8 @@ module _ (k : Config) (s : Words) (r : Rule k s) (id : ℕ) (hist : List Entry) 
     took_back = λ kind leads last. absurd (gone_leads (kind_in x.seen.stage) kind leads);
     others_took_back = λ z _ took kind leads last. want_is ∙ took kind leads last;
     set_back = λ h. absurd (gone_leads (kind_in x.seen.stage) Run h.0);
+    sweeps = own_sweeps;
+    others_sweep = λ z _ other g. sweeps_else x.seen.stage tenancy r.account.cycling number z other g.sweeps;
   }
 
   -- some domain of the phase hasn't arrived: the phase stays
@@ -495,12 +503,16 @@ module _ (k : Config) (s : Words) (r : Rule k s) (id : ℕ) (hist : List Entry) 
       stage = ahead pause next z.own.number z.own.arrivals z.seen.stage (up_now z below other its) (λ j. refl) (λ _ _. refl) its.stage;
     }
 
+    -- garbage lies in pools
+    garbage_kept : KeepsGarbage k (dropped k live) tenancy (record tenancy { stock = no_stock }) s.words words'
+    garbage_kept = record { same = λ a. refl; dead = λ a is. dropped_none k live a (r.whole.cycle.leaves.dead a is); unprepared = r.whole.cycle.leaves.unprepared; heads = λ a _. same_heap a; held = λ q d c e. e }
+
     -- the domains leave Promote: the blocks of the minor areas are dropped
     promoted : Promoting pause → Rule k record { words = words'; homes = s.homes; views = set s.views id (one k hist y) }
     promoted p = let copies : r.account.cycling.kind ≡ Promote = kind_now k pause r.account.cycling x Promote (promotes p) good.staged r.whole.cycle.told in let in_promote : HasNoCycle r.account.cycling.kind = no_cycle_here k s r id hist x at Promote tt (promotes p) in let whole = whole_here k s r id hist x at Promote tt (promotes p) in drops k s r id hist x at move next cycling' words' refl record {
       paint = refl;
       kind = refl;
-      cycle = cycle_dropped x.seen.stage tenancy.holder k (now k s r id hist x at) live pause next tenancy (record tenancy { stock = no_stock }) r.account.cycling s.words words' number copies (λ a. refl) same_cycle next_told r.whole.cycle;
+      cycle = cycle_dropped x.seen.stage tenancy.holder k (now k s r id hist x at) live pause next tenancy (record tenancy { stock = no_stock }) r.account.cycling s.words words' number copies garbage_kept same_cycle next_told r.whole.cycle;
       sharing = sharing_gone k r.account s.words words' x next (dropped k live) (record tenancy { stock = no_stock }) y.seen.stage inside may.from good.staged.stage r.whole.cycle.told (λ a q own lives. whole q.label) may.paid_reads good;
       sharings = λ z _ other g. sharing_between k r.account s.words words' x z Promote next (dropped k live) (record tenancy { stock = no_stock }) tt promote_run (promotes p) in_promote whole other same_cycle good g;
       untouched = untouched;
@@ -517,6 +529,8 @@ module _ (k : Config) (s : Words) (r : Rule k s) (id : ℕ) (hist : List Entry) 
       kept = λ h. ⊎_elim
           (λ (even : pause.phase + 1 ≡ h.0 * 2). not_both pause.phase (p.0, p.1) (odd_before pause.phase h.0 even))
           (λ (odd : pause.phase + 1 ≡ h.0 * 2 + 1). run_promote (sym h.2 ∙ (ap pause.kinds (let i : ℕ = h.0 in let j : ℕ = p.0 in let e : pause.phase + 1 ≡ i * 2 + 1 = odd in let f : pause.phase ≡ j * 2 = p.1 in let g : i ≡ j = omega arith in g) ∙ p.2))) h.1;
+      sweeps = own_sweeps;
+      others_sweep = λ z _ other g. sweeps_else x.seen.stage tenancy r.account.cycling number z other g.sweeps;
       odd = (p.0, ap (λ (n : ℕ). n + 1) p.1);
       not_led = refl;
       free = record {

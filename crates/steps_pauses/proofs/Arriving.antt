@@ -9,6 +9,11 @@ use Rattle.cycle_laws.specs.Beside.{Past}
 use Rattle.cycle_laws.specs.Marks.{Marks}
 use Rattle.cycle_laws.proofs.Sharing.{at_same, at_cases}
 use Rattle.heap_rule.specs.Beside.{Underway, is_weak}
+use Rattle.std.proofs.lemmas.Option.{none-some}
+use Rattle.heap_rule.proofs.Lots.{place_cases}
+use Rattle.heap_rule.proofs.Garbage.{KeepsGarbage}
+use Rattle.heap_rule.specs.Sweeping.{Sweeps, SweepsIn, nothing_swept}
+use Rattle.heap_rule.specs.declared.view.Reaping.TheVariants.{Outside}
 use Rattle.heap_rule.proofs.BesideLemmas.{endures_words, runs_on, runs_unaware, unaware_of}
 use Rattle.heap_rule.proofs.Drops.{dropped, kept_low, was_low}
 use Rattle.heap_rule.proofs.PauseFacts.{agree}
@@ -97,6 +102,36 @@ adds_else (In kind) holder live c d z share other a = let same = at_other c.shar
 adds_else (Leads kind) holder live c d z share other a = a
 adds_else (Led kind) holder live c d z share other a = a
 adds_else (Gone kind) holder live c d z share other a = a
+
+-- whoever else has arrived had before
+arrived_else : (st : Stage) (owner : ℕ → Option ℕ) (w : Shares) (d z : ℕ) → z ≢ d → (arrived_in st owner w d).arrived z ≡ true → w.arrived z ≡ true
+arrived_else (In kind) owner w d z other up = sym (at_other w.arrived d true z other) ∙ up
+arrived_else (Leads kind) owner w d z other up = up
+arrived_else (Led kind) owner w d z other up = up
+arrived_else (Gone kind) owner w d z other up = up
+
+-- so it knows of garbage what it knew
+pub sweeps_else : (st : Stage) (t : Tenancy) (c : Cycling) (d : ℕ) (z : DomainView) → z.own.number ≢ d → SweepsIn t c z → SweepsIn t (arrived_cycle st t.holder c d) z
+sweeps_else st t c d z other h = record { listed = h.listed; places = h.places; anew = λ lasts up. h.anew lasts (arrived_else st (owner_at t.holder) c.shares d z.own.number other up); reaps = h.reaps }
+
+-- and so does who arrives. In Lasts it is to sweep everything
+arrived_own : (st : Stage) (owner : ℕ → Option ℕ) (w : Shares) (d : ℕ) → (arrived_in st owner w d).arrived d ≡ true → (w.arrived d ≡ true) ⊎ ((kind : Kind) × (st ≡ In kind))
+arrived_own (In kind) owner w d up = inr (kind, refl)
+arrived_own (Leads kind) owner w d up = inl up
+arrived_own (Led kind) owner w d up = inl up
+arrived_own (Gone kind) owner w d up = inl up
+
+pub sweeps_gone : (t : Tenancy) (c : Cycling) (x : DomainView) → ((kind : Kind) → x.seen.stage ≡ In kind → c.kind ≡ kind) → (x.seen.stage ≡ In Lasts → x.own.swept ≡ nothing_swept) → SweepsIn t c x
+    → Sweeps t.holder t.garbage c.kind (arrived_in x.seen.stage (owner_at t.holder) c.shares x.own.number).arrived x.own.number x.own.ephemerons.items x.own.swept Outside
+sweeps_gone t c x now anew h = record {
+  listed = h.listed;
+  places = h.places;
+  anew = λ lasts up. ⊎_elim
+      (λ (gone : c.shares.arrived x.own.number ≡ true). h.anew lasts gone)
+      (λ (here : (kind : Kind) × (x.seen.stage ≡ In kind)). anew (here.1 ∙ ap In (sym (now here.0 here.1) ∙ lasts)))
+      (arrived_own x.seen.stage (owner_at t.holder) c.shares x.own.number up);
+  reaps = tt;
+}
 
 leading_gone : (st : Stage) (holder : ℕ → Holder) (c : Cycling) (words : List ℕ) (d z : ℕ) (stage : Stage) (share : Share) → Leading c words z stage share → Leading (arrived_cycle st holder c d) words z stage share
 leading_gone (In kind) holder c words d z stage share l = record { changed = l.changed; found_blocks = l.found_blocks; found_words = l.found_words; rotated = l.rotated; turned = l.turned; pass = l.pass; whole = l.whole; armed = l.armed; unswept = l.unswept }
@@ -191,9 +226,9 @@ facts_stock Rounds k s live t stock c words f = f
 facts_stock Decide k s live t stock c words f = f
 facts_stock Queued k s live t stock c words f = f
 facts_stock Clean k s live t stock c words f = f
-facts_stock Lasts k s live t stock c words f = record { facts = f.facts; unchanged = f.unchanged; stays = f.stays; turned = λ is. let r = f.turned is in record { all_marked = r.all_marked; unmarked = r.unmarked; owned = r.owned; gone = r.gone } }
-facts_stock Sweep k s live t stock c words f = record { mode = f.mode; swept = f.swept; sweep = f.sweep; all_counted = f.all_counted }
-facts_stock Answer k s live t stock c words f = record { mode = f.mode; whole = f.whole; swept = f.swept; clean = f.clean; all_counted = f.all_counted; held = f.held }
+facts_stock Lasts k s live t stock c words f = record { facts = f.facts; unchanged = f.unchanged; stays = f.stays; turned = λ is. let r = f.turned is in record { all_marked = r.all_marked; unmarked = r.unmarked; gone = r.gone } }
+facts_stock Sweep k s live t stock c words f = record { since = f.since; swept = f.swept; clear = f.clear; all_counted = f.all_counted }
+facts_stock Answer k s live t stock c words f = record { mode = f.mode; whole = f.whole; ends = f.ends; swept = f.swept; clean = f.clean; all_counted = f.all_counted; held = f.held }
 
 -- all that the rule says of the collection holds where the facts do
 pub cycle_gone : (st : Stage) (holder : ℕ → Holder) (k : Config) (s : model.State) (live : Live) (p p' : Pause) (t : Tenancy) (stock : Stock) (c : Cycling) (words words' : List ℕ) (d : ℕ) → SameCycle words words' → ((a : ℕ) → at_address k words' a ≡ at_address k words a)
@@ -205,7 +240,8 @@ cycle_gone st holder k s live p p' t stock c words words' d same heap facts told
   changed_is = same.changed_same ∙ (y.changed_is ∙ ap flag (sym (same_changed st (owner_at holder) c.shares d)));
   facts = facts_words c.kind k s live (record t { stock = stock }) c' words words' same (facts_stock c.kind k s live t stock c' words facts);
   told = told;
-  leaves = record { none = y.leaves.none; dead = y.leaves.dead; head = λ a is. let h = y.leaves.head a is in (h.0, h.1, heap a ∙ h.2) };
+  leaves = record { none = y.leaves.none; dead = y.leaves.dead; head = λ a is. let h = y.leaves.head a is in (h.0, h.1, heap a ∙ h.2); unprepared = y.leaves.unprepared; owned = y.leaves.owned };
+  unswept = y.unswept;
   whole = whole;
 }
 
@@ -281,6 +317,7 @@ leading_fresh st stage holder c words words' d share from l = record {
   pass = l.pass;
   whole = l.whole;
   armed = λ b e. cc;
+  unswept = l.unswept;
 }
 
 -- what the rule says of the share of the domain that has arrived
@@ -318,11 +355,18 @@ sharing_between k all words words' x z kind p' live' t' none still is none' whol
   leading = leading_gone x.seen.stage all.tenancy.holder all.cycling words' x.own.number z.own.number z.seen.stage z.seen.share (leading_words all.cycling words words' z.own.number z.seen.stage z.seen.share same g.sharing.leading);
   knows = inl idle;
   adds = adds_nothing live' (arrived_cycle x.seen.stage all.tenancy.holder all.cycling x.own.number) z.own.number z.seen.share none';
-  looks = looks_idle live' t'.holder t'.garbage (state_of k all.log).graph all.cycling.paint.marks all.cycling.paint.emptied z.own.number z.own.ephemerons.items z.seen.stage z.seen.share idle whole;
+  looks = looks_idle live' t'.holder (state_of k all.log).graph all.cycling.paint.marks all.cycling.paint.emptied z.own.number z.own.ephemerons.items z.seen.stage z.seen.share idle whole;
   running = runs_on k all.live live' all.tenancy.holder t'.holder all.cycling.armed all.cycling.past all.cycling.past all.cycling.paint.marks.marked all.cycling.paint.marks.marked words words' z.own.number z.seen.stage z.seen.share
       (λ runs. absurd (still (subst (Agree (In kind)) runs (subst (λ (st : Stage). Agree st z.seen.stage) is (agree all.pause x.own.number z.own.number x.own.arrivals z.own.arrivals x.seen.stage z.seen.stage gx.staged.stage g.staged.stage))))) refl (λ q. refl) g.sharing.running;
   deciding = deciding_none live' all.cycling.kind all.cycling.left (arrived_in x.seen.stage (owner_at all.tenancy.holder) all.cycling.shares x.own.number).arrived all.cycling.paint.marks.marked z.own.number z.own.finalisers z.seen.share.kept z.seen.share.waiting none';
 }
+
+-- where nothing lives nothing does then
+pub dropped_none : (k : Config) (live : Live) (a : ℕ) → live a ≡ None → dropped k live a ≡ None
+dropped_none k live a none = ⊎_elim
+    (λ (e : dropped k live a ≡ None). e)
+    (λ (h : (q : Place) × (dropped k live a ≡ Some q)). absurd (none-some h.0 (sym none ∙ (was_low k live a h.0 h.1).1)))
+    (place_cases (dropped k live a))
 
 -- a cycle goes on beside the pause in which the blocks of minor areas cease to live
 drop_underway : (k : Config) (s : model.State) (live : Live) (kind : Kind) (past : Past) (marks : Marks) (w : Shares) → kind ≡ Promote → Underway k s live kind past marks w → Underway k s (dropped k live) kind past marks w
@@ -345,7 +389,7 @@ shares_underway k s live kind past marks w w' copies u = record {
 }
 
 -- and what it says of the collection
-pub cycle_dropped : (st : Stage) (holder : ℕ → Holder) (k : Config) (s : model.State) (live : Live) (p p' : Pause) (t t' : Tenancy) (c : Cycling) (words words' : List ℕ) (d : ℕ) → c.kind ≡ Promote → ((a : ℕ) → t'.garbage a ≡ t.garbage a) → SameCycle words words'
+pub cycle_dropped : (st : Stage) (holder : ℕ → Holder) (k : Config) (s : model.State) (live : Live) (p p' : Pause) (t t' : Tenancy) (c : Cycling) (words words' : List ℕ) (d : ℕ) → c.kind ≡ Promote → KeepsGarbage k (dropped k live) t t' words words' → SameCycle words words'
     → Told k p' c.kind (arrived_in st (owner_at holder) c.shares d) → Cycled k s live p t c words → Cycled k s (dropped k live) p' t' (arrived_cycle st holder c d) words'
 cycle_dropped st holder k s live p p' t t' c words words' d copies garbage same told y =
     let live' : Live = dropped k live in
@@ -359,7 +403,8 @@ cycle_dropped st holder k s live p p' t t' c words words' d copies garbage same 
       changed_is = z.changed_is ∙ ap flag (sym (same_changed st (owner_at holder) c.shares d));
       facts = between_facts c.kind k s live' t' c' words' none record { mode = b.mode; unmarked = b.unmarked; beside = λ is. shares_underway k s live' c.kind c.past c.paint.marks c.shares (arrived_in st (owner_at holder) c.shares d) copies (b.beside is); unchanged = same_changed st (owner_at holder) c.shares d ∙ b.unchanged; unrotated = b.unrotated };
       told = told;
-      leaves = record { none = z.leaves.none; dead = z.leaves.dead; head = z.leaves.head };
+      leaves = record { none = z.leaves.none; dead = z.leaves.dead; head = z.leaves.head; unprepared = z.leaves.unprepared; owned = z.leaves.owned };
+      unswept = z.unswept;
       whole = λ l. inl (none_misses live' t'.holder c none z.whole l);
     }
 
@@ -376,6 +421,7 @@ sharing_looked k all words x last stage gone g = let l = subst (λ (st : Stage).
     pass = l.pass;
     whole = l.whole;
     armed = λ b e. absurd (l.armed b e).0;
+    unswept = l.unswept;
   };
   knows = inl (⊎_elim (λ (h : IsIdle x.seen.share). h) (λ (h : IsCollecting x.seen.stage × Knowing k all.live all.tenancy.holder (state_of k all.log).graph all.cycling.paint.marks words x.own.number x.own.registers x.seen.share). absurd (subst IsCollecting gone h.0)) g.sharing.knows);
   adds = g.sharing.adds;

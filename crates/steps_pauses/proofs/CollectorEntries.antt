@@ -1,5 +1,5 @@
 -- What the collector's entries leave: the blocks, and each domain's registers, registrations and queue.
-use Rattle.std.proofs.Common.{◌≡◌, ℕ, false, List, [], ◌∷◌, ◌++◌, set, Option, Some, None, sym, refl, subst}
+use Rattle.std.proofs.Common.{◌≡◌, ℕ, Bool, true, false, List, [], ◌∷◌, ◌++◌, set, Option, Some, None, sym, refl, subst}
 use mathlib.Core.Option.{some}
 use lib.ListN.{get_elem?}
 use Rattle.heap_model.specs.declared.entry.Entry.{Entry}
@@ -12,7 +12,7 @@ use Rattle.heap_model.proofs.Commands.FrameLemmas.{keeps_next}
 use Rattle.heap_model.proofs.Histories.FrontLemmas.{front_push, front_whole}
 use Rattle.heap_rule.specs.declared.config.Config.{Config}
 use Rattle.heap_rule.specs.declared.phase.Kind.{Kind}
-use Rattle.heap_rule.specs.declared.phase.Kind.TheVariants.{Run, Rounds, Decide, Clean, Sweep, Answer}
+use Rattle.heap_rule.specs.declared.phase.Kind.TheVariants.{Run, Roots, Rounds, Decide, Clean, Lasts, Sweep, Answer}
 use Rattle.heap_rule.specs.declared.view.DomainView.{DomainView}
 use Rattle.heap_rule.specs.Limits.{sizes_in}
 use Rattle.heap_rule.specs.Rule.{Rule, state_of}
@@ -34,13 +34,15 @@ abbrev pub OfCollector : Option Entry → Type 0
 OfCollector None = Unit {0}
 OfCollector (Some e) = IsOfCollector e
 
-pub entry_of_collector : (last next : Kind) → OfCollector (entry_of last next)
-entry_of_collector Rounds Decide = tt
-entry_of_collector Rounds Clean = tt
-entry_of_collector Sweep Answer = tt
-entry_of_collector Sweep Run = tt
-entry_of_collector Answer Run = tt
-entry_of_collector _ _ = tt
+pub entry_of_collector : (unswept : Bool) (last next : Kind) → OfCollector (entry_of unswept last next)
+entry_of_collector unswept Rounds Decide = tt
+entry_of_collector unswept Rounds Clean = tt
+entry_of_collector unswept Lasts Run = tt
+entry_of_collector unswept Sweep Answer = tt
+entry_of_collector true Sweep Roots = tt
+entry_of_collector false Sweep Roots = tt
+entry_of_collector unswept Answer Run = tt
+entry_of_collector unswept _ _ = tt
 
 -- they are no domain's
 alone : (e : Entry) → IsOfCollector e → (d : ℕ) → is_entry_of d e ≡ false

@@ -30,7 +30,7 @@ use Rattle.heap_rule.specs.declared.phase.Kind.TheVariants.{Run}
 use Rattle.heap_rule.specs.Views.{one, Tells}
 use Rattle.heap_rule.proofs.FinaliserLemmas.{enrolled_none, paired_none, work_next}
 use Rattle.heap_rule.proofs.Values.{holds}
-use Rattle.heap_rule.proofs.Keeps.{mine, my_good, remakes, knows_entry, after_entry, legal_entry, cycle_here, sharing_here, sharings_here, phases_words, stood_other, run_still, hunter_as, running_took_back, resting_runs, resting_other, room_words, opened_words, takes_drawable, owes_as, more_same, run_leads, run_rooted}
+use Rattle.heap_rule.proofs.Keeps.{mine, my_good, remakes, knows_entry, after_entry, legal_entry, cycle_here, sharing_here, sharings_here, phases_words, stood_other, run_still, hunter_as, running_took_back, resting_runs, resting_other, room_words, opened_words, takes_drawable, owes_as, more_same, run_leads, run_rooted, garbage_here}
 use Rattle.heap_rule.proofs.PauseFacts.{nobody_paused, staged_as}
 use Rattle.heap_rule.proofs.Sharings.{SameCycle, KeepsUnderway, with_past}
 use Rattle.heap_rule.proofs.FullnessLemmas.{full_stays}
@@ -132,7 +132,7 @@ ends k slots id hist x acts s r _ at _ =
       drawable = takes_drawable k r.account.pause ws x (inl acts.runs) g.staged;
       grid = grid_untouched k r.account.tenancy r.account.live s.words ws untouched r.whole.grid;
       drawers = r.whole.drawers;
-      cycle = cycle_here k s r id hist x at Run tt acts.runs (state_of k log') r.account.live r.account.tenancy past' ws (ap (λ (t : model.State). t.mode) after) (λ a. refl) same
+      cycle = cycle_here k s r id hist x at Run tt acts.runs (state_of k log') r.account.live r.account.tenancy past' ws (ap (λ (t : model.State). t.mode) after) (garbage_here k s r id hist x at r.account.live ws r.whole.cycle.leaves.dead (λ a _. heap_untouched k s.words ws untouched a)) same
           (subst (λ (t : model.State). KeepsUnderway k now t r.account.live r.account.live r.account.cycling past') (sym after) advance.advances.underway);
     }
     (knows_entry k s r id hist x at y e alone refl refl)
@@ -151,6 +151,7 @@ ends k slots id hist x acts s r _ at _ =
       sharing = sharing_here k s r id hist x at Run tt acts.runs all' ws past' x.seen.share.weak y refl same refl refl refl
           record { knows = own_runs.knows; owes = λ goes q. advance.advances.owed_own goes q ∙ ap (λ (w : Option ℕ). is_weak w q) (sym acts.paid) };
       listed = record { all = g.listed.all; own = g.listed.own; lives = g.listed.lives };
+      sweeps = g.sweeps;
     }
     (λ z _ other h. record {
       stood = subst (λ (t : model.State). Stood r.account.live t z) (sym after) (stood_other r.account.live r.account.live now (next now e) z (keeps_next now e z.own.number (alone z.own.number other)) (work_next now e z.own.number (alone z.own.number other) tt) (more_same r.account.live) h.stood);
@@ -167,6 +168,7 @@ ends k slots id hist x acts s r _ at _ =
       sharing = sharings_here k s r id hist x at Run tt acts.runs all' ws past' refl same z h
           (runs_on k r.account.live r.account.live holder holder r.account.cycling.armed r.account.cycling.past past' marked marked s.words ws z.own.number z.seen.stage z.seen.share (λ _. endures) advance.advances.same_old (λ q. advance.advances.owed_others z.own.number q other) h.sharing.running);
       listed = h.listed;
+      sweeps = h.sweeps;
     }) in (
       one k hist y,
       keeps,

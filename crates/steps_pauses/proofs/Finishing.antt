@@ -28,7 +28,6 @@ use Rattle.cycle_laws.specs.Shares.{Shares, at_domain, AreShares}
 use Rattle.cycle_laws.proofs.Cycling.{darkening_steps, taking_steps}
 use Rattle.cycle_laws.proofs.DomainParts.{is_block, listed_cases}
 use Rattle.cycle_laws.proofs.Sharing.{at_cases, at_same, some_same}
-use Rattle.cycle_laws.proofs.Sweep.{sweep_law}
 use Rattle.heap_rule.specs.declared.config.Config.{Config}
 use Rattle.heap_rule.specs.declared.phase.Kind.{Kind}
 use Rattle.heap_rule.specs.declared.phase.Kind.TheVariants.{Run, Promote, Reset, Roots, Mark, Rounds, Decide, Queued, Clean, Lasts, Sweep, Answer}
@@ -40,7 +39,7 @@ use Rattle.heap_rule.specs.declared.view.Held.TheVariants.{Queue}
 use Rattle.heap_rule.specs.declared.view.Waiting.{Waiting}
 use Rattle.heap_rule.specs.declared.view.Waiting.TheVariants.{Fin as FinWaiting, Last as LastWaiting}
 use Rattle.heap_rule.specs.Changes.{value_at}
-use Rattle.heap_rule.specs.Cycles.{Cycling, Facts, IsBetween, IsSwept, Knowing, IsCollecting, IsIdle, cycle_of, owner_at, seen_by, label_in, label_at, layout_of, swept_of, IsPlain, HoldsBlock}
+use Rattle.heap_rule.specs.Cycles.{Cycling, Facts, IsBetween, IsSwept, Knowing, IsCollecting, IsIdle, cycle_of, owner_at, seen_by, label_in, label_at, layout_of, swept_of, IsPlain, HoldsBlock, EndsCycle}
 use Rattle.heap_rule.specs.Deciding.{IsRooting}
 use Rattle.heap_rule.specs.Finalisers.{StandsWaiting, address_in, held_at}
 use Rattle.heap_rule.specs.Limits.{sizes_in}
@@ -51,7 +50,7 @@ use Rattle.std.proofs.lemmas.List.{get_or_past}
 use mathlib.Core.Logic.{dite}
 use native.Mathlib.Decide.{dec_le}
 use Rattle.heap_rule.specs.Places.{Place, Live, IsOldAt, Stands}
-use Rattle.heap_rule.specs.Pools.{Tenancy, owned, blocks_of, place_in, IsBefore}
+use Rattle.heap_rule.specs.Pools.{Tenancy, owned, blocks_of, place_in, IsBefore, OwnPlace}
 use Rattle.heap_rule.specs.Rule.{Good, Rule}
 use Rattle.heap_rule.specs.Views.{one}
 use Rattle.heap_rule.proofs.Keeps.{Words, mine, my_good, now}
@@ -297,14 +296,20 @@ module _ (k : Config) (s : Words) (r : Rule k s) (id : ℕ) (hist : List Entry) 
     all_settled is here = none_left (c.left d) x.seen.share.kept (length x.own.finalisers.lasts.items) (good.sharing.deciding.lasts is waits) (done.settled here)
 
     swept_in : (kd : Kind) → IsSwept k state r.account.live t.holder c s.words → IsSwept k state r.account.live t.holder (after kd) s.words
-    swept_in kd f = let g = f.facts in record {
-      facts = record { sealed = g.sealed; owned = g.owned; whole = g.whole; waiting = g.waiting; kept = g.kept };
-      rotated = f.rotated;
-      all_marked = f.all_marked;
-      unmarked = f.unmarked;
-      unchanged = f.unchanged;
-      counted = f.counted;
-    }
+    swept_in kd f = record { all_marked = f.all_marked; unmarked = f.unmarked; unchanged = f.unchanged; counted = f.counted }
+
+    ends_in : (kd : Kind) → EndsCycle k state r.account.live t.holder c → EndsCycle k state r.account.live t.holder (after kd)
+    ends_in kd f = let g = f.facts in record { facts = record { sealed = g.sealed; owned = g.owned; whole = g.whole; waiting = g.waiting; kept = g.kept }; rotated = f.rotated }
+
+    -- it has swept each own place
+    own_clear : x.seen.stage ≡ In Sweep → (a : ℕ) → OwnPlace t.holder a d → t.garbage a ≡ false
+    own_clear here a o =
+        let p : ℕ = k.pools in
+        let to : ℕ = x.own.swept.spot.pool in
+        let far : p ≤ to = done.swept here in
+        let q : ℕ = o.pool in
+        let low : q < p = (r.whole.pools.owned_by o.pool d o.class o.owned_is).0 in
+        ap t.garbage o.begins ∙ good.sweeps.places o.pool o.class o.slot o.owned_is o.inside (inl (let g : q < to = omega arith in g))
 
     -- who leaves Reset holds blocks of pools alone
     own_pooled : x.seen.stage ≡ In Reset → HoldsPooled k r.account.live state d
@@ -353,7 +358,7 @@ module _ (k : Config) (s : Words) (r : Rule k s) (id : ℕ) (hist : List Entry) 
     facts_in Promote here is f = between_in Promote here is f
     facts_in Reset here is f = between_in Reset here is f
     facts_in Roots here is f = (darkening_steps.roots_arrives laws.First k.domains state cyc f.0 d (roots_done (subst IsRooting (sym is) tt) waits here), plain_in f.1 Roots)
-    facts_in Mark here is f = (darkening_steps.mark_arrives c.pass k.domains state cyc f.0 d (done_arrives (done.told (inl here)) (done.walked (inl here))), f.1)
+    facts_in Mark here is f = (darkening_steps.mark_arrives c.pass k.domains state cyc f.0 d (done_arrives (done.told (inl here)) (done.walked here)), f.1)
     facts_in Rounds here is f = (darkening_steps.rounds_arrives c.pass k.domains state seeing (sees_rounds here f.0) d (record { paid = paid (done.told (inr (inl here))); all = own_seen }), f.1)
     facts_in Decide here is f = (taking_steps.decide_arrives k.domains state cyc f.0 d (all_decided is here), plain_in f.1 Decide)
     facts_in Queued here is f = (darkening_steps.queued_arrives k.domains state cyc f.0 d (queue_done (subst IsRooting (sym is) tt) waits (inr here)), plain_in f.1 Queued)
@@ -365,14 +370,16 @@ module _ (k : Config) (s : Words) (r : Rule k s) (id : ℕ) (hist : List Entry) 
       turned = λ yes_is. let z = f.turned yes_is in record {
         all_marked = z.all_marked;
         unmarked = z.unmarked;
-        owned = z.owned;
         gone = λ e below. ⊎_elim (λ h. h.1) (λ h. h.1 ∙ z.gone e below) (at_cases c.shares.arrived d true e);
       };
     }
     facts_in Sweep here is f = record {
-      mode = f.mode;
+      since = ⊎_elim (λ g. inl (g.0, ends_in Sweep g.1, g.2)) (λ g. inr g) f.since;
       swept = swept_in Sweep f.swept;
-      sweep = sweep_law.arrives k.domains owner t.garbage c.shares.seen c.shares.arrived f.sweep d (all_seen (done.walked (inr here)));
+      clear = λ e a gone own. ⊎_elim
+          (λ z. own_clear here a (subst (OwnPlace t.holder a) z.0 own))
+          (λ z. f.clear e a (sym z.1 ∙ gone) own)
+          (at_cases c.shares.arrived d true e);
       all_counted = λ e gone. ⊎_elim
           (λ z. subst (λ (n : ℕ). IsTrue (c.counts.words n)) (sym z.0) (good.sharing.adds.words is waits ∙ (done.added here).1))
           (λ z. f.all_counted e (sym z.1 ∙ gone))
@@ -381,6 +388,7 @@ module _ (k : Config) (s : Words) (r : Rule k s) (id : ℕ) (hist : List Entry) 
     facts_in Answer here is f = record {
       mode = f.mode;
       whole = f.whole;
+      ends = ends_in Answer f.ends;
       swept = swept_in Answer f.swept;
       clean = f.clean;
       all_counted = f.all_counted;

@@ -11,7 +11,7 @@ use Rattle.cycle_laws.specs.Cycle as laws
 use Rattle.cycle_laws.specs.Shares.{reset_shares}
 use Rattle.heap_rule.specs.declared.config.Config.{Config}
 use Rattle.heap_rule.specs.declared.phase.Kind.{Kind}
-use Rattle.heap_rule.specs.declared.phase.Kind.TheVariants.{Run, Promote, Reset, Roots, Mark, Rounds, Decide, Queued, Clean, Sweep, Answer}
+use Rattle.heap_rule.specs.declared.phase.Kind.TheVariants.{Run, Promote, Reset, Roots, Mark, Rounds, Decide, Queued, Clean, Sweep, Answer, Lasts}
 use Rattle.heap_rule.specs.declared.phase.Stage.{Stage}
 use Rattle.heap_rule.specs.declared.phase.Stage.TheVariants.{In, Leads, Led, Gone}
 use Rattle.heap_rule.specs.declared.view.Copying.{Copying}
@@ -41,7 +41,7 @@ use Rattle.heap_model.specs.declared.label.Label.{Label}
 use Rattle.heap_rule.proofs.EphemeronLemmas.{looks_idle}
 use Rattle.heap_rule.proofs.FinaliserLemmas.{paired_length}
 use Rattle.steps_pauses.proofs.Arriving.{whole_all}
-use Rattle.steps_pauses.specs.Pauses.{kind_in, entry_of, cut_in, whole_after, MayFollow, NamesFree, LeadMay, LeadTold}
+use Rattle.steps_pauses.specs.Pauses.{kind_in, entry_of, cut_in, unswept_after, whole_after, MayFollow, NamesFree, LeadMay, LeadTold}
 use Rattle.steps_pauses.proofs.CollectorEntries.{OfCollector, entry_of_collector, keeps_left, work_left, graph_left, front_then, after_logged, legal_logged, knows_logged, seen_then}
 use Rattle.steps_pauses.proofs.Naming.{left_by, logged, pass_in, left_in, led_cycle, Ready, Way, led_way}
 use Rattle.steps_pauses.proofs.Sizes.{domains_of}
@@ -101,11 +101,12 @@ follows_promote a b f e = from a (subst (Follows a) e f)
     from : (a : Kind) → Follows a Promote → a ≡ Run
     from Run f = refl
     from Reset f = ⊎_elim (λ (e : Promote ≡ Run). absurd (let h : Promote ≡ Run = e in cc))
-        (λ q. ⊎_elim (λ (e : Promote ≡ Roots). absurd (let h : Promote ≡ Roots = e in cc)) (λ (e : Promote ≡ Mark). absurd (let h : Promote ≡ Mark = e in cc)) q) f
+        (λ q. ⊎_elim (λ (e : Promote ≡ Roots). absurd (let h : Promote ≡ Roots = e in cc)) (λ q. ⊎_elim (λ (e : Promote ≡ Mark). absurd (let h : Promote ≡ Mark = e in cc)) (λ (e : Promote ≡ Sweep). absurd (let h : Promote ≡ Sweep = e in cc)) q) q) f
     from Roots f = ⊎_elim (λ (e : Promote ≡ Mark). absurd (let h : Promote ≡ Mark = e in cc)) (λ (e : Promote ≡ Run). absurd (let h : Promote ≡ Run = e in cc)) f
     from Mark f = ⊎_elim (λ (e : Promote ≡ Mark). absurd (let h : Promote ≡ Mark = e in cc)) (λ (e : Promote ≡ Rounds). absurd (let h : Promote ≡ Rounds = e in cc)) f
     from Rounds f = ⊎_elim (λ (e : Promote ≡ Mark). absurd (let h : Promote ≡ Mark = e in cc))
         (λ q. ⊎_elim (λ (e : Promote ≡ Decide). absurd (let h : Promote ≡ Decide = e in cc)) (λ (e : Promote ≡ Clean). absurd (let h : Promote ≡ Clean = e in cc)) q) f
+    from Lasts f = ⊎_elim (λ (e : Promote ≡ Sweep). absurd (let h : Promote ≡ Sweep = e in cc)) (λ (e : Promote ≡ Run). absurd (let h : Promote ≡ Run = e in cc)) f
     from Sweep f = ⊎_elim (λ (e : Promote ≡ Run). absurd (let h : Promote ≡ Run = e in cc))
         (λ q. ⊎_elim (λ (e : Promote ≡ Answer). absurd (let h : Promote ≡ Answer = e in cc)) (λ (e : Promote ≡ Roots). absurd (let h : Promote ≡ Roots = e in cc)) q) f
     from _ f = cc
@@ -154,10 +155,10 @@ module _ (k : Config) (s : Words) (r : Rule k s) (id : ℕ) (hist : List Entry) 
 
   -- the entry that stands
   abbrev o : Option Entry
-  o = entry_of last next
+  o = entry_of c.unswept last next
 
   abbrev y : DomainView
-  y = record x { seen = record x.seen { front = front_then x.seen.front r.account.log o; stage = Led next; share = record fresh_share { cut = cut_in last x.seen.share.cut; whole = whole_after last next x.seen.share.whole } } }
+  y = record x { seen = record x.seen { front = front_then x.seen.front r.account.log o; stage = Led next; share = record fresh_share { cut = cut_in last x.seen.share.cut; whole = whole_after last next x.seen.share.whole; unswept = unswept_after last next x.seen.share.unswept } } }
 
   good : Good k r.account s.words x
   good = my_good k s r id hist x at
@@ -220,10 +221,12 @@ module _ (k : Config) (s : Words) (r : Rule k s) (id : ℕ) (hist : List Entry) 
   ready = let l = good.sharing.leading in record {
     kind = kind_is;
     goes_on = λ g h. sym (l.armed true (knows.goes_on g h)).1;
-    begins = λ g h. sym (l.armed false (knows.begins g h)).1;
+    begins = λ g h. (sym (l.armed false (knows.begins g h).0).1, l.unswept may.leads ∙ (knows.begins g h).1);
+    frees = λ g h. l.unswept may.leads ∙ knows.frees g h;
     finishes = λ g h. sym (l.armed true (knows.finishes g h)).1;
     over = λ g h. sym (l.armed false (knows.over g h)).1;
-    answers = λ h. l.whole may.leads ∙ knows.answers h;
+    freed = λ g h. l.unswept may.leads ∙ knows.freed g h;
+    answers = λ h. (l.whole may.leads ∙ (knows.answers h).0, l.unswept may.leads ∙ (knows.answers h).1);
     emptied = old;
     bare = bare;
     found = r.whole.found;
@@ -237,7 +240,7 @@ module _ (k : Config) (s : Words) (r : Rule k s) (id : ℕ) (hist : List Entry) 
   }
 
   way : Way k r.account.log live tenancy c r.account.homes s.words last next
-  way = led_way k r.account.log live tenancy c r.account.homes s.words r.whole.cycle.leaves.none ended_kind.1 counted (λ q d class is. let o = r.whole.pools.owned_by q d class is in (o.1, o.2)) r.whole.grid.lots last next follows ready facts
+  way = led_way k r.account.log live tenancy c r.account.homes s.words r.whole.cycle.leaves.none r.whole.cycle.leaves.owned r.whole.cycle.unswept ended_kind.1 counted (λ q d class is. let o = r.whole.pools.owned_by q d class is in (o.1, o.2)) r.whole.grid.lots last next follows ready facts
       (subst (λ (kind : Kind). Fullness k r.account.log live tenancy.holder tenancy.fresh r.account.homes kind) kind_is r.whole.full)
 
   untouched : Untouched s.words ws
@@ -265,7 +268,7 @@ module _ (k : Config) (s : Words) (r : Rule k s) (id : ℕ) (hist : List Entry) 
   account' = record r.account { log = log'; pause = t'; cycling = c' }
 
   collector : OfCollector o
-  collector = entry_of_collector last next
+  collector = entry_of_collector c.unswept last next
 
   after : state_of k log' ≡ left_by state o
   after = after_logged k s r id hist x at o
@@ -299,7 +302,10 @@ module _ (k : Config) (s : Words) (r : Rule k s) (id : ℕ) (hist : List Entry) 
       none = way.clean;
       dead = w.leaves.dead;
       head = λ a is. let h = w.leaves.head a is in (h.0, h.1, heap_untouched k s.words ws untouched a ∙ h.2);
+      unprepared = w.leaves.unprepared;
+      owned = w.leaves.owned;
     };
+    unswept = way.left;
     whole = λ l. inl (whole l);
   }
 
@@ -337,10 +343,11 @@ module _ (k : Config) (s : Words) (r : Rule k s) (id : ℕ) (hist : List Entry) 
       pass = λ first. pass_led last c.pass x.seen.share.cut (good.sharing.leading.pass first);
       whole = λ first. ap (whole_after last next) (good.sharing.leading.whole first);
       armed = λ b e. cc;
+      unswept = λ first. ap (unswept_after last next) (good.sharing.leading.unswept first);
     };
     knows = inl refl;
     adds = record { blocks = λ e _. (way.uncounted e x.own.number).0; words = λ e _. (way.uncounted e x.own.number).1; own = λ _ _ e. cc };
-    looks = looks_idle live tenancy.holder tenancy.garbage (state_of k log').graph c'.paint.marks c.paint.emptied y.own.number y.own.ephemerons.items y.seen.stage y.seen.share refl whole;
+    looks = looks_idle live tenancy.holder (state_of k log').graph c'.paint.marks c.paint.emptied y.own.number y.own.ephemerons.items y.seen.stage y.seen.share refl whole;
     running = runs_unaware k live tenancy.holder c.armed c'.past c'.paint.marks.marked ws y.own.number y.seen.stage y.seen.share (refl, refl) (λ is q. past_owes last next state c.past x.own.number q (none_owed x (λ e. leads_runs last (sym stage_is ∙ e)) good is q));
     deciding = deciding_led x y.seen.share refl good;
   }
@@ -369,6 +376,7 @@ module _ (k : Config) (s : Words) (r : Rule k s) (id : ℕ) (hist : List Entry) 
           pass = λ first. absurd (apart first);
           whole = λ first. absurd (apart first);
           armed = l.armed;
+          unswept = λ first. absurd (apart first);
         };
         knows = inl idle;
         adds = record {
@@ -376,7 +384,7 @@ module _ (k : Config) (s : Words) (r : Rule k s) (id : ℕ) (hist : List Entry) 
           words = λ e _. (way.uncounted e z.own.number).1 ∙ sym (ap (λ (u : Share). u.added_words) idle);
           own = λ _ _ e. absurd (true≢false (sym e ∙ ap (λ (u : Share). u.added_blocks) idle));
         };
-        looks = looks_idle live tenancy.holder tenancy.garbage (state_of k log').graph c'.paint.marks c.paint.emptied z.own.number z.own.ephemerons.items z.seen.stage z.seen.share idle whole;
+        looks = looks_idle live tenancy.holder (state_of k log').graph c'.paint.marks c.paint.emptied z.own.number z.own.ephemerons.items z.seen.stage z.seen.share idle whole;
         running = runs_unaware k live tenancy.holder c.armed c'.past c'.paint.marks.marked ws z.own.number z.seen.stage z.seen.share (unaware z (odd_runs z h) h)
             (λ is q. past_owes last next state c.past z.own.number q (none_owed z (odd_runs z h) h is q));
         deciding = deciding_led z z.seen.share idle h;
@@ -465,6 +473,7 @@ module _ (k : Config) (s : Words) (r : Rule k s) (id : ℕ) (hist : List Entry) 
         set_back = λ back. absurd (led_leads next Run back.0);
         sharing = sharing_led;
         listed = record { all = good.listed.all; own = good.listed.own; lives = good.listed.lives };
+        sweeps = record { listed = good.sweeps.listed; places = good.sweeps.places; anew = λ _ e. cc; reaps = tt };
       }
       (λ z below other h. record {
         stood = stood_left z h.stood;
@@ -483,20 +492,24 @@ module _ (k : Config) (s : Words) (r : Rule k s) (id : ℕ) (hist : List Entry) 
         set_back = λ back. low_untouched k s.words ws untouched (h.set_back back);
         sharing = sharings_led z below other h;
         listed = h.listed;
+        sweeps = record { listed = h.sweeps.listed; places = h.sweeps.places; anew = λ _ e. cc; reaps = h.sweeps.reaps };
       })
 
   -- what is told of it
+  entry_known : o ≡ entry_of x.seen.share.unswept last next
+  entry_known = ap (λ (u : Bool). entry_of u last next) (good.sharing.leading.unswept may.leads)
+
   fronted : (p : Option Entry) → o ≡ p → LeadTold k next x new y
   fronted None is = record {
     seen = seen_then k s r id hist x at o collector;
     stays = λ _. ap (front_then x.seen.front r.account.log) is;
-    made = λ e f. let clash : ◌≡◌ {A = Option Entry} None (Some e) = sym is ∙ f in cc;
+    made = λ e f. let clash : ◌≡◌ {A = Option Entry} None (Some e) = sym is ∙ (entry_known ∙ f) in cc;
     view = refl;
   }
   fronted (Some d) is = record {
     seen = seen_then k s r id hist x at o collector;
-    stays = λ f. let clash : ◌≡◌ {A = Option Entry} None (Some d) = sym f ∙ is in cc;
-    made = λ e f. record {
+    stays = λ f. let clash : ◌≡◌ {A = Option Entry} None (Some d) = sym (entry_known ∙ f) ∙ is in cc;
+    made = λ e known. let f : o ≡ Some e = entry_known ∙ known in record {
       before = r.account.log;
       front = ap (front_then x.seen.front r.account.log) f;
       seen = (mine k s r id hist x at).front;

@@ -11,17 +11,16 @@ use Rattle.cycle_laws.specs.Fullness.{kept_labels}
 use Rattle.cycle_laws.specs.Shares.{AllArrived, no_shares, reset_shares}
 use Rattle.cycle_laws.proofs.Cycling.{phase_steps}
 use Rattle.cycle_laws.proofs.Keeping.{fullness_law, kept_push}
-use Rattle.cycle_laws.proofs.Sweep.{sweep_law}
 use Rattle.heap_rule.specs.declared.config.Config.{Config}
 use Rattle.heap_rule.specs.declared.phase.Kind.{Kind}
 use Rattle.heap_rule.specs.declared.phase.Kind.TheVariants.{Run, Promote, Reset, Roots, Mark, Rounds, Decide, Queued, Clean, Lasts, Sweep, Answer}
-use Rattle.heap_rule.specs.Cycles.{Cycling, Counts, Facts, IsBetween, cycle_of, swept_of, owner_at}
+use Rattle.heap_rule.specs.Cycles.{Cycling, Counted, Counts, EndsCycle, Facts, HasNoCycle, IsBetween, LeftUnswept, Sweeping, cycle_of, layout_of, swept_of}
 use Rattle.heap_rule.specs.Fullness.{Homes, Fullness}
 use Rattle.heap_rule.specs.Layout.{live_blocks, live_words}
 use Rattle.heap_rule.specs.Limits.{sizes_in}
 use Rattle.heap_rule.specs.Phases.{Follows}
 use Rattle.heap_rule.specs.Places.{Place, Live, Settled}
-use Rattle.heap_rule.specs.Pools.{Tenancy, Lot, owned}
+use Rattle.heap_rule.specs.Pools.{Tenancy, Lot, OwnPlace, owned}
 use Rattle.heap_rule.proofs.FullnessLemmas.{full_kind, full_stays, made_stays}
 use Rattle.cycle_laws.specs.Beside.{AllFull, restricted}
 use Rattle.heap_model.specs.Domains.{class_count, domain_at, opening}
@@ -31,10 +30,12 @@ use Rattle.heap_model.proofs.Histories.FieldLemmas.{fields_law}
 use Rattle.heap_model.proofs.Histories.WellFormedLemmas.{wf_after, wf_opening}
 use Rattle.heap_rule.specs.Beside.{Underway}
 use Rattle.heap_rule.specs.Rule.{AllFound, state_of}
-use Rattle.steps_pauses.specs.Pauses.{entry_of, whole_after}
+use Rattle.steps_pauses.specs.Pauses.{entry_of, unswept_after, whole_after}
 use Rattle.steps_pauses.proofs.BesideRows.{AllOld, marks_in, past_in, stops, passes, starts, under_way, all_owned}
 use Rattle.steps_pauses.proofs.PoolLabels.{lies_in_pool}
+use Rattle.std.proofs.lemmas.Bool.{cases_Bool}
 use Rattle.std.proofs.lemmas.Option.{none-some}
+use Rattle.heap_model.specs.declared.state.Mode.TheVariants.{Open, Sealed}
 
 -- the state after an entry, if there is one, and the history
 abbrev pub left_by : model.State → Option Entry → model.State
@@ -52,11 +53,12 @@ pass_in Reset pass = laws.First
 pass_in Queued pass = laws.Second
 pass_in _ pass = pass
 
--- what was marked before, as a phase begins
-abbrev before_in : Kind → Cycling → Label → Bool
-before_in Rounds c = c.paint.marks.marked
-before_in Lasts c = c.paint.marks.marked
-before_in _ c = c.before
+-- what was marked before, as a phase begins. Where garbage that is left is freed all that lives is counted
+abbrev before_in : Kind → Kind → Cycling → Label → Bool
+before_in Reset Sweep c = λ l. true
+before_in last Rounds c = c.paint.marks.marked
+before_in last Lasts c = c.paint.marks.marked
+before_in last _ c = c.before
 
 -- how many registrations are left to look at
 abbrev pub left_in : Kind → model.State → (ℕ → ℕ) → ℕ → ℕ
@@ -70,9 +72,13 @@ rotated_in Run rotated = false
 rotated_in Roots rotated = false
 rotated_in _ rotated = rotated
 
+-- nobody has counted
+abbrev nothing_added : Counts
+nothing_added = record { own = λ _. []; blocks = λ _. false; words = λ _. false }
+
 -- who has counted
 abbrev counts_in : Kind → Counts → Counts
-counts_in Sweep counts = record { own = λ _. []; blocks = λ _. false; words = λ _. false }
+counts_in Sweep counts = nothing_added
 counts_in _ counts = counts
 
 -- the collection as a phase begins: nothing of it is done. The changed word stays: domain 0 may set it back afterwards
@@ -82,13 +88,14 @@ led_cycle k live last next s c = record {
   pass = pass_in last c.pass;
   paint = record c.paint { marks = marks_in k live last next s c.paint.marks };
   shares = reset_shares c.shares.changed;
-  before = before_in next c;
+  before = before_in last next c;
   left = left_in next s c.left;
   rotated = rotated_in next c.rotated;
   counts = counts_in next c.counts;
   whole = whole_after last next c.whole;
   armed = c.armed;
   past = past_in last next s c.past;
+  unswept = unswept_after last next c.unswept;
 }
 
 -- what is said of each way from kind to kind
@@ -98,6 +105,7 @@ record Ways (P : Kind → Kind → Type 0) : Type 0 where
   runs : P Reset Run
   begins : P Reset Roots
   finishes : P Reset Mark
+  frees : P Reset Sweep
   goes_on : P Roots Run
   roots : P Roots Mark
   again : P Mark Mark
@@ -109,6 +117,7 @@ record Ways (P : Kind → Kind → Type 0) : Type 0 where
   second : P Queued Mark
   lasts : P Clean Lasts
   sweep : P Lasts Sweep
+  leaves : P Lasts Run
   collected : P Sweep Answer
   done : P Sweep Run
   anew : P Sweep Roots
@@ -118,7 +127,7 @@ each_way : (P : Kind → Kind → Type 0) → Ways P → (last next : Kind) → 
 each_way P w Run next f = subst (P Run) (sym f) w.copies
 each_way P w Promote next f = subst (P Promote) (sym f) w.empties
 each_way P w Reset next f = ⊎_elim (λ (e : next ≡ Run). subst (P Reset) (sym e) w.runs)
-    (λ q. ⊎_elim (λ (e : next ≡ Roots). subst (P Reset) (sym e) w.begins) (λ (e : next ≡ Mark). subst (P Reset) (sym e) w.finishes) q) f
+    (λ q. ⊎_elim (λ (e : next ≡ Roots). subst (P Reset) (sym e) w.begins) (λ q. ⊎_elim (λ (e : next ≡ Mark). subst (P Reset) (sym e) w.finishes) (λ (e : next ≡ Sweep). subst (P Reset) (sym e) w.frees) q) q) f
 each_way P w Roots next f = ⊎_elim (λ (e : next ≡ Mark). subst (P Roots) (sym e) w.roots) (λ (e : next ≡ Run). subst (P Roots) (sym e) w.goes_on) f
 each_way P w Mark next f = ⊎_elim (λ (e : next ≡ Mark). subst (P Mark) (sym e) w.again) (λ (e : next ≡ Rounds). subst (P Mark) (sym e) w.rounds) f
 each_way P w Rounds next f = ⊎_elim (λ (e : next ≡ Mark). subst (P Rounds) (sym e) w.back)
@@ -126,7 +135,7 @@ each_way P w Rounds next f = ⊎_elim (λ (e : next ≡ Mark). subst (P Rounds) 
 each_way P w Decide next f = subst (P Decide) (sym f) w.queued
 each_way P w Queued next f = subst (P Queued) (sym f) w.second
 each_way P w Clean next f = subst (P Clean) (sym f) w.lasts
-each_way P w Lasts next f = subst (P Lasts) (sym f) w.sweep
+each_way P w Lasts next f = ⊎_elim (λ (e : next ≡ Sweep). subst (P Lasts) (sym e) w.sweep) (λ (e : next ≡ Run). subst (P Lasts) (sym e) w.leaves) f
 each_way P w Sweep next f = ⊎_elim (λ (e : next ≡ Run). subst (P Sweep) (sym e) w.done)
     (λ q. ⊎_elim (λ (e : next ≡ Answer). subst (P Sweep) (sym e) w.collected) (λ (e : next ≡ Roots). subst (P Sweep) (sym e) w.anew) q) f
 each_way P w Answer next f = subst (P Answer) (sym f) w.answered
@@ -145,10 +154,12 @@ never_both b none is = let clash : false ≡ true = sym none ∙ is in cc
 pub record Ready (k : Config) (live : Live) (graph : Graph) (last next : Kind) (c : Cycling) (words : List ℕ) : Type 0 where
   pub kind : c.kind ≡ last
   pub goes_on : last ≡ Roots → next ≡ Run → IsTrue c.armed
-  pub begins : last ≡ Reset → next ≡ Roots → c.armed ≡ false
+  pub begins : last ≡ Reset → next ≡ Roots → (c.armed ≡ false) × (c.unswept ≡ false)
+  pub frees : last ≡ Reset → next ≡ Sweep → IsTrue c.unswept
   pub finishes : last ≡ Reset → next ≡ Mark → IsTrue c.armed
-  pub over : (last ≡ Sweep) ⊎ (last ≡ Answer) → next ≡ Run → c.armed ≡ false
-  pub answers : next ≡ Answer → IsTrue c.whole
+  pub over : (last ≡ Lasts) ⊎ (last ≡ Answer) → next ≡ Run → c.armed ≡ false
+  pub freed : last ≡ Sweep → next ≡ Run → IsTrue c.unswept
+  pub answers : next ≡ Answer → IsTrue c.whole × (c.unswept ≡ false)
   pub emptied : last ≢ Run → AllOld k live
   pub bare : Settled live
   pub found : AllFound k c.paint live graph words
@@ -157,8 +168,8 @@ pub record Ready (k : Config) (live : Live) (graph : Graph) (last next : Kind) (
   pub first : next ≡ Decide → c.pass ≡ laws.First
   pub second : next ≡ Clean → c.pass ≡ laws.Second
   pub rotated : last ≡ Lasts → IsTrue c.rotated
-  pub no_blocks : last ≡ Lasts → live_blocks words ≡ 0
-  pub no_words : last ≡ Lasts → live_words words ≡ 0
+  pub no_blocks : next ≡ Sweep → live_blocks words ≡ 0
+  pub no_words : next ≡ Sweep → live_words words ≡ 0
 
 module _ (k : Config) (log : List Entry) (live : Live) (t : Tenancy) (c : Cycling) (homes : Homes) (words : List ℕ) where
   abbrev s : model.State
@@ -172,14 +183,15 @@ module _ (k : Config) (log : List Entry) (live : Live) (t : Tenancy) (c : Cyclin
 
   -- what holds of a way: the entry is allowed, and the facts of the next phase hold behind it
   pub record Way (last next : Kind) : Type 0 where
-    pub allowed : (e : Entry) → entry_of last next ≡ Some e → Allowed s e
-    pub facts : Facts next k (left_by s (entry_of last next)) live t (led_cycle k live last next s c) words
-    pub full : Fullness k (logged log (entry_of last next)) live t.holder t.fresh homes next
-    pub clean : (led_cycle k live last next s c).rotated ≡ false → (a : ℕ) → t.garbage a ≡ false
+    pub allowed : (e : Entry) → entry_of c.unswept last next ≡ Some e → Allowed s e
+    pub facts : Facts next k (left_by s (entry_of c.unswept last next)) live t (led_cycle k live last next s c) words
+    pub full : Fullness k (logged log (entry_of c.unswept last next)) live t.holder t.fresh homes next
+    pub clean : (led_cycle k live last next s c).rotated ≡ false → (led_cycle k live last next s c).unswept ≡ false → (a : ℕ) → t.garbage a ≡ false
+    pub left : IsTrue (led_cycle k live last next s c).unswept → LeftUnswept next c.armed (led_cycle k live last next s c).rotated
     pub unturned : next ≡ Lasts → (led_cycle k live last next s c).rotated ≡ false
     pub uncounted : next ≡ Sweep → (d : ℕ) → ((led_cycle k live last next s c).counts.blocks d ≡ false) × ((led_cycle k live last next s c).counts.words d ≡ false)
 
-  module _ (none : c.rotated ≡ false → (a : ℕ) → t.garbage a ≡ false) (all : AllArrived k.domains c.shares) (count : k.domains ≡ length s.domains) (owners : (q d class : ℕ) → t.holder q ≡ owned d class → (d < k.domains) × (class < class_count)) (lots : (a : ℕ) (p : Place) → live a ≡ Some p → a ≤ k.pools * 4096 → Lot t.holder a p) where
+  module _ (none : c.rotated ≡ false → c.unswept ≡ false → (a : ℕ) → t.garbage a ≡ false) (garbage_owned : (a : ℕ) → IsTrue (t.garbage a) → (d : ℕ) × OwnPlace t.holder a d) (unswept : IsTrue c.unswept → LeftUnswept c.kind c.armed c.rotated) (all : AllArrived k.domains c.shares) (count : k.domains ≡ length s.domains) (owners : (q d class : ℕ) → t.holder q ≡ owned d class → (d < k.domains) × (class < class_count)) (lots : (a : ℕ) (p : Place) → live a ≡ Some p → a ≤ k.pools * 4096 → Lot t.holder a p) where
     abbrev Goes : Kind → Kind → Type 0
     Goes last next = Ready k live s.graph last next c words → Facts last k s live t c words → Fullness k log live t.holder t.fresh homes last → Way last next
 
@@ -199,11 +211,73 @@ module _ (k : Config) (log : List Entry) (live : Live) (t : Tenancy) (c : Cyclin
     quietly : (P : laws.Cycle → Type 0) (last next : Kind) → c.shares.changed ≡ false → P (record (cycle_of k live t.holder (led_cycle k live last next s c)) { shares = no_shares }) → P (cycle_of k live t.holder (led_cycle k live last next s c))
     quietly P last next unchanged p = subst (λ (b : Bool). P (record (cycle_of k live t.holder (led_cycle k live last next s c)) { shares = reset_shares b })) (sym unchanged) p
 
+    -- garbage is left still
+    still_left : (next : Kind) (rotated : Bool) → HasNoCycle next ⊎ (next ≡ Sweep) → (IsTrue c.unswept → rotated ≡ false) → IsTrue c.unswept → LeftUnswept next c.armed rotated
+    still_left next rotated kind unrotated is = record { kind_is = kind; unarmed = (unswept is).unarmed; unrotated = unrotated is }
+
+    -- none is in a phase of another collection
+    never_left : (last : Kind) → c.kind ≡ last → (HasNoCycle last → ⊥) → last ≢ Sweep → IsTrue c.unswept → ⊥
+    never_left last is collects other left = ⊎_elim (λ (h : HasNoCycle c.kind). collects (subst HasNoCycle is h)) (λ (h : c.kind ≡ Sweep). other (sym is ∙ h)) (unswept left).kind_is
+
+    all_swept : (last : Kind) → c.kind ≡ last → (HasNoCycle last → ⊥) → last ≢ Sweep → c.unswept ≡ false
+    all_swept last is collects other = ⊎_elim (λ (h : IsTrue c.unswept). absurd (never_left last is collects other h)) (λ (h : c.unswept ≡ false). h) (cases_Bool c.unswept)
+
+    -- nor once all have arrived that have freed theirs
+    all_clear : ((d a : ℕ) → IsTrue (c.shares.arrived d) → OwnPlace t.holder a d → t.garbage a ≡ false) → (a : ℕ) → t.garbage a ≡ false
+    all_clear clear a = ⊎_elim
+        (λ (is : IsTrue (t.garbage a)). let o = garbage_owned a is in clear o.0 a (all o.0 (owners o.1.pool o.0 o.1.class o.1.owned_is).0) o.1)
+        (λ (is : t.garbage a ≡ false). is)
+        (cases_Bool (t.garbage a))
+
+    -- nothing is counted yet
+    nothing_counted : (marked : Label → Bool) → live_blocks words ≡ 0 → live_words words ≡ 0 → Counted k.domains (layout_of k live t.holder) s.graph marked nothing_added words
+    nothing_counted marked no_blocks no_words = record {
+      first = λ d is. cc;
+      once = λ d is. cc;
+      owned = λ d l is. cc;
+      all = λ d a l is. cc;
+      few = λ d is. cc;
+      light = λ d is. cc;
+      blocks_are = no_blocks ∙ sym (total_none k.domains);
+      words_are = no_words ∙ sym (total_none k.domains);
+    }
+
     formed : IsWellFormed s
     formed = wf_after (opening (sizes_in k)) log (wf_opening (sizes_in k))
 
     fields_full : AllFull s.graph
     fields_full = fields_law (sizes_in k) log
+
+    -- where garbage is freed in a phase Sweep of its collection, and in one that another collection waits for
+    ends_of : Sweeping k s live t c words → c.unswept ≡ false → (s.mode ≡ Sealed) × EndsCycle k s live t.holder c
+    ends_of f none = ⊎_elim (λ h. (h.0, h.1)) (λ h. absurd (never_both c.unswept none h.2)) f.since
+
+    rests_of : Sweeping k s live t c words → IsTrue c.unswept → s.mode ≡ Open
+    rests_of f left = ⊎_elim (λ h. absurd (never_both c.unswept h.2 left)) (λ h. h.0) f.since
+
+    cases_unswept : Sweeping k s live t c words → (c.unswept ≡ false) ⊎ IsTrue c.unswept
+    cases_unswept f = ⊎_elim (λ h. inl h.2) (λ h. inr h.2) f.since
+
+    -- another collection begins
+    begins_anew : (after : model.State) (u : Bool) → c.unswept ≡ u → left_by s (entry_of u Sweep Roots) ≡ after → after.mode ≡ Open → Sweeping k s live t c words → ((e : Entry) → entry_of u Sweep Roots ≡ Some e → Allowed s e)
+        → Fullness k (logged log (entry_of u Sweep Roots)) live t.holder t.fresh homes Roots → Way Sweep Roots
+    begins_anew after u is same mode f allowed full = record {
+      allowed = λ e. subst (λ (b : Bool). entry_of b Sweep Roots ≡ Some e → Allowed s e) (sym is) (allowed e);
+      facts = subst (λ (b : Bool). Facts Roots k (left_by s (entry_of b Sweep Roots)) live t (led_cycle k live Sweep Roots s c) words) (sym is) (subst (λ (z : model.State). Facts Roots k z live t (led_cycle k live Sweep Roots s c) words) (sym same)
+          (quietly (laws.InPhase (laws.Roots laws.First) k.domains after) Sweep Roots f.swept.unchanged (phase_steps.begins k.domains after begun mode f.swept.unmarked), record { unchanged = f.swept.unchanged; unrotated = refl }));
+      full = subst (λ (b : Bool). Fullness k (logged log (entry_of b Sweep Roots)) live t.holder t.fresh homes Roots) (sym is) full;
+      clean = λ _ _. all_clear f.clear;
+      left = λ left. let clash : false ≡ true = left in cc;
+      unturned = λ e. cc;
+      uncounted = λ e. cc;
+    }
+
+    after_cycle : Sweeping k s live t c words → Fullness k log live t.holder t.fresh homes Sweep → c.unswept ≡ false → Way Sweep Roots
+    after_cycle f full is = begins_anew (state_next s Done) false is refl refl f (λ e h. the_entry (Allowed s) Done e h (phase_steps.sweep_done k.domains s swept (ends_of f is).1.facts))
+        (full_kind k (log ++ Done ∷ []) live t.holder t.fresh homes Sweep Roots (λ _ e. cc) (full_stays k log live t.holder t.fresh homes Sweep Done refl full))
+
+    after_rest : Sweeping k s live t c words → Fullness k log live t.holder t.fresh homes Sweep → IsTrue c.unswept → Way Sweep Roots
+    after_rest f full is = begins_anew s true is refl (rests_of f is) f (λ e h. absurd (none-some e h)) (full_kind k log live t.holder t.fresh homes Sweep Roots (λ _ e. cc) full)
 
     ways : Ways Goes
     ways = record {
@@ -211,7 +285,8 @@ module _ (k : Config) (log : List Entry) (live : Live) (t : Tenancy) (c : Cyclin
         allowed = λ e is. absurd (none-some e is);
         facts = record { mode = f.mode; unmarked = f.unmarked; beside = λ goes. stops k s live t.holder c count all (goes_beside Run r.kind f goes) (reset_shares c.shares.changed); unchanged = f.unchanged; unrotated = f.unrotated };
         full = full_kind k log live t.holder t.fresh homes Run Promote (λ _ e. cc) full;
-        clean = λ e a. none e a;
+        clean = none;
+        left = still_left Promote c.rotated (inl tt) (λ is. (unswept is).unrotated);
         unturned = λ e. cc;
         uncounted = λ e. cc;
       };
@@ -219,7 +294,8 @@ module _ (k : Config) (log : List Entry) (live : Live) (t : Tenancy) (c : Cyclin
         allowed = λ e is. absurd (none-some e is);
         facts = record { mode = f.mode; unmarked = f.unmarked; beside = λ goes. passes k s live t.holder c count all Promote Reset c.shares.changed (λ e. cc) (goes_beside Promote r.kind f goes); unchanged = f.unchanged; unrotated = f.unrotated };
         full = full_kind k log live t.holder t.fresh homes Promote Reset (λ _ e. cc) full;
-        clean = λ e a. none e a;
+        clean = none;
+        left = still_left Reset c.rotated (inl tt) (λ is. (unswept is).unrotated);
         unturned = λ e. cc;
         uncounted = λ e. cc;
       };
@@ -227,15 +303,17 @@ module _ (k : Config) (log : List Entry) (live : Live) (t : Tenancy) (c : Cyclin
         allowed = λ e is. absurd (none-some e is);
         facts = record { mode = f.mode; unmarked = f.unmarked; beside = λ goes. passes k s live t.holder c count all Reset Run c.shares.changed (λ e. cc) (goes_beside Reset r.kind f goes); unchanged = f.unchanged; unrotated = refl };
         full = full_kind k log live t.holder t.fresh homes Reset Run (λ _ e. cc) full;
-        clean = λ _ a. none f.unrotated a;
+        clean = λ _. none f.unrotated;
+        left = still_left Run false (inl tt) (λ _. refl);
         unturned = λ e. cc;
         uncounted = λ e. cc;
       };
       begins = λ r f full. record {
         allowed = λ e is. absurd (none-some e is);
-        facts = (quietly (laws.InPhase (laws.Roots laws.First) k.domains s) Reset Roots f.unchanged (phase_steps.begins k.domains s begun f.mode (f.unmarked (r.begins refl refl))), record { unchanged = f.unchanged; unrotated = refl });
+        facts = (quietly (laws.InPhase (laws.Roots laws.First) k.domains s) Reset Roots f.unchanged (phase_steps.begins k.domains s begun f.mode (f.unmarked (r.begins refl refl).0)), record { unchanged = f.unchanged; unrotated = refl });
         full = full_kind k log live t.holder t.fresh homes Reset Roots (λ _ e. cc) full;
-        clean = λ _ a. none f.unrotated a;
+        clean = λ _. none f.unrotated;
+        left = λ is. absurd (never_both c.unswept (r.begins refl refl).1 is);
         unturned = λ e. cc;
         uncounted = λ e. cc;
       };
@@ -246,9 +324,24 @@ module _ (k : Config) (log : List Entry) (live : Live) (t : Tenancy) (c : Cyclin
           f.unrotated,
         );
         full = full_kind k log live t.holder t.fresh homes Reset Mark (λ _ e. cc) full;
-        clean = λ e a. none e a;
+        clean = none;
+        left = λ is. absurd (never_both c.armed (unswept is).unarmed (r.finishes refl refl));
         unturned = λ e. cc;
         uncounted = λ e. cc;
+      };
+      frees = λ r f full. let left = unswept (r.frees refl refl) in record {
+        allowed = λ e is. absurd (none-some e is);
+        facts = record {
+          since = inr (f.mode, f.unrotated, r.frees refl refl);
+          swept = record { all_marked = λ a p e. refl; unmarked = f.unmarked left.unarmed; unchanged = f.unchanged; counted = nothing_counted (λ l. true) (r.no_blocks refl) (r.no_words refl) };
+          clear = λ d a is. cc;
+          all_counted = λ d is. cc;
+        };
+        full = full_kind k log live t.holder t.fresh homes Reset Sweep (λ _ e. cc) full;
+        clean = none;
+        left = still_left Sweep c.rotated (inr refl) (λ _. f.unrotated);
+        unturned = λ e. cc;
+        uncounted = λ _ d. (refl, refl);
       };
       goes_on = λ r f full. record {
         allowed = λ e is. absurd (none-some e is);
@@ -260,7 +353,8 @@ module _ (k : Config) (log : List Entry) (live : Live) (t : Tenancy) (c : Cyclin
           unrotated = refl;
         };
         full = full_kind k log live t.holder t.fresh homes Roots Run (λ _ e. cc) full;
-        clean = λ _ a. none f.1.unrotated a;
+        clean = λ _. none f.1.unrotated;
+        left = λ is. absurd (never_left Roots r.kind (λ h. h) (λ e. cc) is);
         unturned = λ e. cc;
         uncounted = λ e. cc;
       };
@@ -268,7 +362,8 @@ module _ (k : Config) (log : List Entry) (live : Live) (t : Tenancy) (c : Cyclin
         allowed = λ e is. absurd (none-some e is);
         facts = (phase_steps.roots_mark laws.First k.domains s cyc count f.0 all c.shares.changed, f.1.unrotated);
         full = full_kind k log live t.holder t.fresh homes Roots Mark (λ _ e. cc) full;
-        clean = λ e a. none e a;
+        clean = none;
+        left = λ is. absurd (never_left Roots r.kind (λ h. h) (λ e. cc) is);
         unturned = λ e. cc;
         uncounted = λ e. cc;
       };
@@ -276,7 +371,8 @@ module _ (k : Config) (log : List Entry) (live : Live) (t : Tenancy) (c : Cyclin
         allowed = λ e is. absurd (none-some e is);
         facts = (phase_steps.mark_mark c.pass k.domains s cyc f.0 c.shares.changed, f.1);
         full = full_kind k log live t.holder t.fresh homes Mark Mark (λ _ e. cc) full;
-        clean = λ e a. none e a;
+        clean = none;
+        left = λ is. absurd (never_left Mark r.kind (λ h. h) (λ e. cc) is);
         unturned = λ e. cc;
         uncounted = λ e. cc;
       };
@@ -284,7 +380,8 @@ module _ (k : Config) (log : List Entry) (live : Live) (t : Tenancy) (c : Cyclin
         allowed = λ e is. absurd (none-some e is);
         facts = (quietly (laws.InPhase (laws.Rounds c.pass) k.domains s) Mark Rounds (r.quiet (inl refl)) (phase_steps.mark_rounds c.pass k.domains s cyc f.0 all (r.quiet (inl refl))), f.1);
         full = full_kind k log live t.holder t.fresh homes Mark Rounds (λ _ e. cc) full;
-        clean = λ e a. none e a;
+        clean = none;
+        left = λ is. absurd (never_left Mark r.kind (λ h. h) (λ e. cc) is);
         unturned = λ e. cc;
         uncounted = λ e. cc;
       };
@@ -292,7 +389,8 @@ module _ (k : Config) (log : List Entry) (live : Live) (t : Tenancy) (c : Cyclin
         allowed = λ e is. absurd (none-some e is);
         facts = (phase_steps.rounds_mark c.pass k.domains s cyc f.0 c.shares.changed, f.1);
         full = full_kind k log live t.holder t.fresh homes Rounds Mark (λ _ e. cc) full;
-        clean = λ e a. none e a;
+        clean = none;
+        left = λ is. absurd (never_left Rounds r.kind (λ h. h) (λ e. cc) is);
         unturned = λ e. cc;
         uncounted = λ e. cc;
       };
@@ -300,7 +398,8 @@ module _ (k : Config) (log : List Entry) (live : Live) (t : Tenancy) (c : Cyclin
         allowed = λ e is. the_entry (Allowed s) Cut e is row.0;
         facts = (quietly (laws.InPhase laws.Decide k.domains (state_next s Cut)) Rounds Decide quiet row.1, record { unchanged = quiet; unrotated = f.1 });
         full = full_kind k (log ++ Cut ∷ []) live t.holder t.fresh homes Rounds Decide (λ _ e. cc) (full_stays k log live t.holder t.fresh homes Rounds Cut refl full);
-        clean = λ e a. none e a;
+        clean = none;
+        left = λ is. absurd (never_left Rounds r.kind (λ h. h) (λ e. cc) is);
         unturned = λ e. cc;
         uncounted = λ e. cc;
       };
@@ -308,7 +407,8 @@ module _ (k : Config) (log : List Entry) (live : Live) (t : Tenancy) (c : Cyclin
         allowed = λ e is. the_entry (Allowed s) Seal e is row.0;
         facts = (quietly (laws.InPhase laws.Clean k.domains (state_next s Seal)) Rounds Clean quiet row.1, record { unchanged = quiet; unrotated = f.1 });
         full = full_kind k (log ++ Seal ∷ []) live t.holder t.fresh homes Rounds Clean (λ _ e. cc) (full_stays k log live t.holder t.fresh homes Rounds Seal refl full);
-        clean = λ e a. none e a;
+        clean = none;
+        left = λ is. absurd (never_left Rounds r.kind (λ h. h) (λ e. cc) is);
         unturned = λ e. cc;
         uncounted = λ e. cc;
       };
@@ -316,7 +416,8 @@ module _ (k : Config) (log : List Entry) (live : Live) (t : Tenancy) (c : Cyclin
         allowed = λ e is. absurd (none-some e is);
         facts = (quietly (laws.InPhase (laws.Roots laws.Second) k.domains s) Decide Queued f.1.unchanged (phase_steps.decide_queued k.domains s cyc count f.0 all), record { unchanged = f.1.unchanged; unrotated = f.1.unrotated });
         full = full_kind k log live t.holder t.fresh homes Decide Queued (λ _ e. cc) full;
-        clean = λ e a. none e a;
+        clean = none;
+        left = λ is. absurd (never_left Decide r.kind (λ h. h) (λ e. cc) is);
         unturned = λ e. cc;
         uncounted = λ e. cc;
       };
@@ -324,7 +425,8 @@ module _ (k : Config) (log : List Entry) (live : Live) (t : Tenancy) (c : Cyclin
         allowed = λ e is. absurd (none-some e is);
         facts = (phase_steps.roots_mark laws.Second k.domains s cyc count f.0 all c.shares.changed, f.1.unrotated);
         full = full_kind k log live t.holder t.fresh homes Queued Mark (λ _ e. cc) full;
-        clean = λ e a. none e a;
+        clean = none;
+        left = λ is. absurd (never_left Queued r.kind (λ h. h) (λ e. cc) is);
         unturned = λ e. cc;
         uncounted = λ e. cc;
       };
@@ -337,87 +439,71 @@ module _ (k : Config) (log : List Entry) (live : Live) (t : Tenancy) (c : Cyclin
           turned = λ is. absurd (let clash : true ≡ false = sym is ∙ f.1.unrotated in cc);
         };
         full = full_kind k log live t.holder t.fresh homes Clean Lasts (λ _ e. cc) full;
-        clean = λ e a. none e a;
+        clean = none;
+        left = λ is. absurd (never_left Clean r.kind (λ h. h) (λ e. cc) is);
         unturned = λ _. f.1.unrotated;
         uncounted = λ e. cc;
       };
       sweep = λ r f full. let turned = f.turned (r.rotated refl) in let row = phase_steps.lasts_sweep k.domains s swept count f.facts all in let g = row.1 in record {
         allowed = λ e is. absurd (none-some e is);
         facts = record {
-          mode = f.facts.lasts.mode;
-          swept = record {
-            facts = record { sealed = g.sealed; owned = g.owned; whole = g.whole; waiting = g.waiting; kept = g.kept };
-            rotated = r.rotated refl;
-            all_marked = turned.all_marked;
-            unmarked = turned.unmarked;
-            unchanged = f.unchanged;
-            counted = record {
-              first = λ d is. cc;
-              once = λ d is. cc;
-              owned = λ d l is. cc;
-              all = λ d a l is. cc;
-              few = λ d is. cc;
-              light = λ d is. cc;
-              blocks_are = r.no_blocks refl ∙ sym (total_none k.domains);
-              words_are = r.no_words refl ∙ sym (total_none k.domains);
-            };
-          };
-          sweep = sweep_law.start k.domains (owner_at t.holder) t.garbage turned.owned;
+          since = inl (f.facts.lasts.mode, record { facts = record { sealed = g.sealed; owned = g.owned; whole = g.whole; waiting = g.waiting; kept = g.kept }; rotated = r.rotated refl }, all_swept Lasts r.kind (λ h. h) (λ e. cc));
+          swept = record { all_marked = turned.all_marked; unmarked = turned.unmarked; unchanged = f.unchanged; counted = nothing_counted c.before (r.no_blocks refl) (r.no_words refl) };
+          clear = λ d a is. cc;
           all_counted = λ d is. cc;
         };
         full = full_kind k log live t.holder t.fresh homes Lasts Sweep (λ _ e. cc) full;
-        clean = λ e a. none e a;
+        clean = none;
+        left = λ is. absurd (never_left Lasts r.kind (λ h. h) (λ e. cc) is);
         unturned = λ e. cc;
         uncounted = λ _ d. (refl, refl);
       };
-      collected = λ r f full. let row = phase_steps.sweep_collected k.domains s swept (r.answers refl) f.mode f.swept.facts in let g = row.1 in record {
+      leaves = λ r f full. let turned = f.turned (r.rotated refl) in let row = phase_steps.lasts_sweep k.domains s swept count f.facts all in record {
+        allowed = λ e is. the_entry (Allowed s) Done e is (phase_steps.sweep_done k.domains s swept (let g = row.1 in record { sealed = g.sealed; owned = g.owned; whole = g.whole; waiting = g.waiting; kept = g.kept }));
+        facts = record { mode = refl; unmarked = λ _. turned.unmarked; beside = λ goes. absurd (never_both c.armed (r.over (inl refl) refl) goes); unchanged = f.unchanged; unrotated = refl };
+        full = full_kind k (log ++ Done ∷ []) live t.holder t.fresh homes Lasts Run (λ _ e. cc) (full_stays k log live t.holder t.fresh homes Lasts Done refl full);
+        clean = λ _ e. let clash : true ≡ false = e in cc;
+        left = λ _. record { kind_is = inl tt; unarmed = r.over (inl refl) refl; unrotated = refl };
+        unturned = λ e. cc;
+        uncounted = λ e. cc;
+      };
+      collected = λ r f full. let ends = ends_of f (r.answers refl).1 in let row = phase_steps.sweep_collected k.domains s swept (r.answers refl).0 ends.0 ends.1.facts in let g = row.1 in record {
         allowed = λ e is. the_entry (Allowed s) Collected e is row.0;
         facts = record {
           mode = refl;
-          whole = r.answers refl;
-          swept = record {
-            facts = record { sealed = g.sealed; owned = g.owned; whole = g.whole; waiting = g.waiting; kept = g.kept };
-            rotated = f.swept.rotated;
-            all_marked = f.swept.all_marked;
-            unmarked = f.swept.unmarked;
-            unchanged = f.swept.unchanged;
-            counted = f.swept.counted;
-          };
-          clean = sweep_law.end k.domains (owner_at t.holder) t.garbage c.shares.seen c.shares.arrived f.sweep all;
+          whole = (r.answers refl).0;
+          ends = record { facts = record { sealed = g.sealed; owned = g.owned; whole = g.whole; waiting = g.waiting; kept = g.kept }; rotated = ends.1.rotated };
+          swept = record { all_marked = f.swept.all_marked; unmarked = f.swept.unmarked; unchanged = f.swept.unchanged; counted = f.swept.counted };
+          clean = all_clear f.clear;
           all_counted = λ d below. f.all_counted d (all d below);
           held = λ q d class is. cc;
         };
         full = record {
           kept = λ a p lives. subst (λ (kept : List Label). IsTrue (has_label kept p.label)) (sym (kept_push (sizes_in k) log Collected))
-              (fullness_law.collected s c.before c.before (kept_labels (sizes_in k) log) (λ l is. is) (f.swept.facts.whole (r.answers refl)) p.label (f.swept.all_marked a p lives));
+              (fullness_law.collected s c.before c.before (kept_labels (sizes_in k) log) (λ l is. is) (ends.1.facts.whole (r.answers refl).0) p.label (f.swept.all_marked a p lives));
           low = full.low;
           young = full.young;
           made = made_stays k log Collected homes full.made;
           owned = λ goes. absurd (goes refl);
           drawn = full.drawn;
         };
-        clean = λ e a. none e a;
+        clean = λ _ _. all_clear f.clear;
+        left = λ is. let clash : false ≡ true = is in cc;
         unturned = λ e. cc;
         uncounted = λ e. cc;
       };
-      done = λ r f full. record {
-        allowed = λ e is. the_entry (Allowed s) Done e is (phase_steps.sweep_done k.domains s swept f.swept.facts);
-        facts = record { mode = refl; unmarked = λ _. f.swept.unmarked; beside = λ goes. absurd (never_both c.armed (r.over (inl refl) refl) goes); unchanged = f.swept.unchanged; unrotated = refl };
-        full = full_kind k (log ++ Done ∷ []) live t.holder t.fresh homes Sweep Run (λ _ e. cc) (full_stays k log live t.holder t.fresh homes Sweep Done refl full);
-        clean = λ _. sweep_law.end k.domains (owner_at t.holder) t.garbage c.shares.seen c.shares.arrived f.sweep all;
+      done = λ r f full. let left = unswept (r.freed refl refl) in let rest = rests_of f (r.freed refl refl) in record {
+        allowed = λ e is. absurd (none-some e is);
+        facts = record { mode = rest; unmarked = λ _. f.swept.unmarked; beside = λ goes. absurd (never_both c.armed left.unarmed goes); unchanged = f.swept.unchanged; unrotated = refl };
+        full = full_kind k log live t.holder t.fresh homes Sweep Run (λ _ e. cc) full;
+        clean = λ _ _. all_clear f.clear;
+        left = λ is. let clash : false ≡ true = is in cc;
         unturned = λ e. cc;
         uncounted = λ e. cc;
       };
-      anew = λ r f full. record {
-        allowed = λ e is. the_entry (Allowed s) Done e is (phase_steps.sweep_done k.domains s swept f.swept.facts);
-        facts = (quietly (laws.InPhase (laws.Roots laws.First) k.domains (state_next s Done)) Sweep Roots f.swept.unchanged (phase_steps.begins k.domains (state_next s Done) begun refl f.swept.unmarked), record { unchanged = f.swept.unchanged; unrotated = refl });
-        full = full_kind k (log ++ Done ∷ []) live t.holder t.fresh homes Sweep Roots (λ _ e. cc) (full_stays k log live t.holder t.fresh homes Sweep Done refl full);
-        clean = λ _. sweep_law.end k.domains (owner_at t.holder) t.garbage c.shares.seen c.shares.arrived f.sweep all;
-        unturned = λ e. cc;
-        uncounted = λ e. cc;
-      };
+      anew = λ r f full. ⊎_elim (after_cycle f full) (after_rest f full) (cases_unswept f);
       answered = λ r f full. let kept = full_stays k log live t.holder t.fresh homes Answer Done refl full in record {
-        allowed = λ e is. the_entry (Allowed s) Done e is (phase_steps.sweep_done k.domains s swept f.swept.facts);
+        allowed = λ e is. the_entry (Allowed s) Done e is (phase_steps.sweep_done k.domains s swept f.ends.facts);
         facts = record { mode = refl; unmarked = λ _. f.swept.unmarked; beside = λ goes. absurd (never_both c.armed (r.over (inr refl) refl) goes); unchanged = f.swept.unchanged; unrotated = refl };
         full = record {
           kept = kept.kept;
@@ -427,7 +513,8 @@ module _ (k : Config) (log : List Entry) (live : Live) (t : Tenancy) (c : Cyclin
           owned = λ _ q d class is. let h = f.held q d class (all d (owners q d class is).0) is in inr (h.2.0.label, kept.kept _ h.2.0 h.2.1, kept.low q d class h.0 h.2.0 is h.1 h.2.1);
           drawn = kept.drawn;
         };
-        clean = λ _. f.clean;
+        clean = λ _ _. f.clean;
+        left = λ is. absurd (never_left Answer r.kind (λ h. h) (λ e. cc) is);
         unturned = λ e. cc;
         uncounted = λ e. cc;
       };

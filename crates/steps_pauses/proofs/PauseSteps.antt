@@ -100,7 +100,7 @@ mode_of : (kind : Kind) (k : Config) (s : model.State) (live : Live) (t : Tenanc
 mode_of Run k s live t c words f = f.mode
 mode_of Promote k s live t c words f = f.mode
 mode_of Reset k s live t c words f = f.mode
-mode_of Sweep k s live t c words f = f.mode
+mode_of Sweep k s live t c words f = ⊎_elim (λ g. inr g.0) (λ g. inl g.0) f.since
 mode_of Answer k s live t c words f = f.mode
 mode_of _ k s live t c words f = tt
 
@@ -168,6 +168,8 @@ looked_at k id hist x gone s r at =
         hunter = hunter_as k tenancy s.words x (moved_to x (moving stage)) refl refl refl refl refl refl g.hunter;
         stocks = λ e _. stock_self tenancy.stock e;
         set_back = λ back. absurd (noted_elsewhere (moved_to x (moving stage)) x.seen.notes (Barrier b) refl (barrier_note b) back);
+        sweeps = g.sweeps;
+        others_sweep = λ z _ _ h. h.sweeps;
         untouched = untouched_same s.words;
         front = front_whole x.own.number r.account.log;
         phases = P;

@@ -1,5 +1,5 @@
 -- What the steps of a pause tell of a token's own data.
-use Rattle.std.proofs.Common.{◌≡◌, ◌+◌, ◌*◌, ◌^◌, ◌<◌, ◌≤◌, ℕ, sym, ap, ◌∙◌, subst, arith, lt_of_not-le, inl, inr, length, ⊎_elim, Some, None, refl}
+use Rattle.std.proofs.Common.{◌≡◌, ◌+◌, ◌*◌, ◌^◌, ◌<◌, ◌≤◌, ℕ, sym, ap, ◌∙◌, subst, arith, lt_of_not-le, inl, inr, length, ⊎_elim, Some, None, refl, Bool}
 use mathlib.Core.Logic.{dite}
 use native.Mathlib.Decide.{dec_le}
 use Rattle.heap_model.specs.declared.entry.Entry.TheVariants.{End}
@@ -46,7 +46,7 @@ arrived_closes k x found may y fits told =
     let few : n < 2 ^ 60 = may.few in record {
       can_write = let g : n + 1 < 2 ^ 64 = omega arith in g;
       written = λ after is. own ∙ sym is;
-      fits = subst (OwnFits k) (sym own) record { number = fits.number; used = fits.used; registers = fits.registers; looked = fits.looked; remembered = fits.remembered; prepared = fits.prepared; pending = no_more (x.own.pending.room + length x.own.pending.items) ∙ fits.pending; ephemerons = fits.ephemerons; finalisers = fits.finalisers };
+      fits = subst (OwnFits k) (sym own) record { number = fits.number; used = fits.used; registers = fits.registers; looked = fits.looked; remembered = fits.remembered; prepared = fits.prepared; pending = no_more (x.own.pending.room + length x.own.pending.items) ∙ fits.pending; ephemerons = fits.ephemerons; finalisers = fits.finalisers; swept = fits.swept };
       once = λ _. inl (record { front = front_same x y (ap (λ (z : DomainView). z.seen.front) told); registers = ap (λ (o : Own). o.registers) own; used = ap (λ (o : Own). o.used) own; serial = ap (λ (o : Own). o.serial) own });
     }
 
@@ -76,7 +76,7 @@ pub end_closes : (k : Config) (x : DomainView) (found : ℕ) → Closes k x foun
 end_closes k x found y fits told = let own : y.own ≡ ended_own x.own = ap (λ (z : DomainView). z.own) told.view in record {
   can_write = tt;
   written = λ after is. own ∙ sym is;
-  fits = subst (OwnFits k) (sym own) record { number = fits.number; used = fits.used; registers = subst (λ (o : Own). Holds k o.registers) own told.holds; looked = fits.looked; remembered = fits.remembered; prepared = fits.prepared; pending = fits.pending; ephemerons = fits.ephemerons; finalisers = cleared_fit k x.own fits.finalisers };
+  fits = subst (OwnFits k) (sym own) record { number = fits.number; used = fits.used; registers = subst (λ (o : Own). Holds k o.registers) own told.holds; looked = fits.looked; remembered = fits.remembered; prepared = fits.prepared; pending = fits.pending; ephemerons = fits.ephemerons; finalisers = cleared_fit k x.own fits.finalisers; swept = fits.swept };
   once = λ _. inr (record { entry = End x.own.number; answer = Silent; answers = told.answers });
 }
 
@@ -87,7 +87,9 @@ nothing_due k x none =
       rooted = λ here. absurd (apart Roots (λ h. h) here);
       queued = λ here. absurd (⊎_elim (apart Roots (λ h. h)) (apart Queued (λ h. h)) here);
       told = λ here. absurd (⊎_elim (apart Mark (λ h. h)) (λ more. ⊎_elim (apart Rounds (λ h. h)) (apart Clean (λ h. h)) more) here);
-      walked = λ here. absurd (⊎_elim (apart Mark (λ h. h)) (apart Sweep (λ h. h)) here);
+      walked = λ here. absurd (apart Mark (λ h. h) here);
+      swept = λ here. absurd (apart Sweep (λ h. h) here);
+      anew = λ here. absurd (apart Lasts (λ h. h) here);
       looked = λ here. absurd (⊎_elim (apart Rounds (λ h. h)) (apart Clean (λ h. h)) here);
       cleaned = λ here. absurd (apart Clean (λ h. h) here);
       decided = λ here. absurd (apart Decide (λ h. h) here);
@@ -105,16 +107,18 @@ free_follow share last next before after =
       first = λ h. absurd (apart Decide (λ u. u) h);
       second = λ h. absurd (apart Clean (λ u. u) h);
       rotated = λ h. absurd (left h);
-      set_back = λ h. absurd (left h);
+      set_back = λ h. absurd (apart Sweep (λ u. u) h);
       goes_on = λ h _. absurd (subst HasNoCycle h before);
       begins = λ _ h. absurd (apart Roots (λ u. u) h);
+      frees = λ _ h. absurd (apart Sweep (λ u. u) h);
       finishes = λ _ h. absurd (apart Mark (λ u. u) h);
-      over = λ h _. absurd (⊎_elim (λ (is : last ≡ Sweep). subst HasNoCycle is before) (λ (is : last ≡ Answer). subst HasNoCycle is before) h);
+      over = λ h _. absurd (⊎_elim left (λ (is : last ≡ Answer). subst HasNoCycle is before) h);
+      freed = λ h _. absurd (subst HasNoCycle h before);
       answers = λ h. absurd (apart Answer (λ u. u) h);
     }
 
-pub no_entry_stands : (last next : Kind) → HasNoCycle last → entry_of last next ≡ None
-no_entry_stands Run next none = refl
-no_entry_stands Promote next none = refl
-no_entry_stands Reset next none = refl
-no_entry_stands _ next none = absurd none
+pub no_entry_stands : (unswept : Bool) (last next : Kind) → HasNoCycle last → entry_of unswept last next ≡ None
+no_entry_stands unswept Run next none = refl
+no_entry_stands unswept Promote next none = refl
+no_entry_stands unswept Reset next none = refl
+no_entry_stands unswept _ next none = absurd none
