@@ -1,5 +1,5 @@
 -- A load of the armed word, and a store in it in an odd phase, keep the rule.
-use Rattle.std.proofs.Common.{◌≡◌, ◌≢◌, ℕ, ◌+◌, ◌<◌, ◌≤◌, ◌⊎◌, Bool, true, false, List, [], length, get_or, set, Some, sym, refl, ap, ◌∙◌, subst, inl, inr, ⊎_elim, arith, length-set, get_or-set_same, get_or-set_other}
+use Rattle.std.proofs.Common.{◌≡◌, ◌≢◌, ℕ, ◌+◌, ◌<◌, ◌≤◌, ◌⊎◌, Bool, true, false, true≢false, List, [], length, get_or, set, Some, sym, refl, ap, ◌∙◌, subst, inl, inr, ⊎_elim, arith, length-set, get_or-set_same, get_or-set_other}
 use mathlib.Core.Option.{some}
 use lib.ListN.{get_elem?}
 use Rattle.std.proofs.lemmas.Option.{same_Some}
@@ -9,7 +9,7 @@ use Rattle.heap_model.specs.declared.state.State as model
 use Rattle.cycle_laws.specs.Beside.{Past}
 use Rattle.heap_rule.specs.declared.config.Config.{Config}
 use Rattle.heap_rule.specs.declared.phase.Kind.{Kind}
-use Rattle.heap_rule.specs.declared.phase.Kind.TheVariants.{Run, Roots, Sweep, Answer}
+use Rattle.heap_rule.specs.declared.phase.Kind.TheVariants.{Run, Roots, Lasts, Answer}
 use Rattle.heap_rule.specs.declared.phase.Stage.{Stage}
 use Rattle.heap_rule.specs.declared.phase.Stage.TheVariants.{In, Leads, Led, Gone}
 use Rattle.heap_rule.specs.declared.view.DomainView.{DomainView}
@@ -33,6 +33,11 @@ use Rattle.steps_cycle.specs.Arming.{ArmMay, ArmedTold, knowing_armed}
 use Rattle.steps_cycle.specs.Looks.{with_share}
 use Rattle.steps_cycle.proofs.Learning.{learns}
 use Rattle.steps_cycle.proofs.Pausing.{paused_unaware}
+use Rattle.steps_cycle.proofs.Unswept.{IsTracing, swept_tracing}
+
+-- the kinds of phase after which the word may be written
+abbrev ArmsIn : Kind → Type 0
+ArmsIn kind = (kind ≡ Roots) ⊎ ((kind ≡ Lasts) ⊎ (kind ≡ Answer))
 
 module _ (k : Config) (s : Words) (r : Rule k s) (id : ℕ) (hist : List Entry) (x : DomainView) (at : get_elem? s.views id ≡ some (one k hist x)) where
   abbrev c : Cycling
@@ -59,6 +64,7 @@ module _ (k : Config) (s : Words) (r : Rule k s) (id : ℕ) (hist : List Entry) 
       pass = h.leading.pass;
       whole = h.leading.whole;
       armed = λ b e. (may, sym (same_Some c.armed b e));
+      unswept = h.leading.unswept;
     };
     knows = ⊎_elim
         (λ (q : IsIdle x.seen.share). inl (ap (λ (z : Share). record z { armed = Some c.armed }) q))
@@ -84,16 +90,16 @@ module _ (k : Config) (s : Words) (r : Rule k s) (id : ℕ) (hist : List Entry) 
   }
 
   armed_rule : MayLook x.own.number x.seen.stage → Rule k record { words = s.words; homes = s.homes; views = set s.views id (one k hist (with_share x learnt)) }
-  armed_rule may = learns k s r id hist x at learnt (learnt_sharing may)
+  armed_rule may = learns k s r id hist x at learnt (learnt_sharing may) good.sweeps
 
   module _ (armed : Bool) (may : ArmMay x armed) where
     -- the phase is odd, and what holds is still what the last one left: in it the roots were darkened, or it was the last of a collection
     record Arms : Type 0 where
       odd : IsOdd r.account.pause.phase
-      kind : (c.kind ≡ Roots) ⊎ ((c.kind ≡ Sweep) ⊎ (c.kind ≡ Answer))
+      kind : ArmsIn c.kind
       leads : IsLeading x.seen.stage
 
-    arms_at : (last : Kind) → x.seen.stage ≡ Leads last → (c.kind ≡ last → (c.kind ≡ Roots) ⊎ ((c.kind ≡ Sweep) ⊎ (c.kind ≡ Answer))) → Arms
+    arms_at : (last : Kind) → x.seen.stage ≡ Leads last → (c.kind ≡ last → ArmsIn c.kind) → Arms
     arms_at last stage kind =
         let a : AtStage r.account.pause x.own.number x.own.arrivals (Leads last) = subst (AtStage r.account.pause x.own.number x.own.arrivals) stage good.staged.stage in
         record { odd = (a.1.0, a.1.1); kind = kind (sym (r.whole.cycle.told.odd a.1.0 a.1.1 (a.2 may.leads)).0 ∙ a.1.2); leads = subst IsLeading (sym stage) tt }
@@ -101,15 +107,15 @@ module _ (k : Config) (s : Words) (r : Rule k s) (id : ℕ) (hist : List Entry) 
     arms : Arms
     arms = ⊎_elim
         (λ (h : (x.seen.stage ≡ Leads Roots) × (armed ≡ true)). arms_at Roots h.0 (λ e. inl e))
-        (λ (h : ((x.seen.stage ≡ Leads Sweep) ⊎ (x.seen.stage ≡ Leads Answer)) × (armed ≡ false)). ⊎_elim
-        (λ (e : x.seen.stage ≡ Leads Sweep). arms_at Sweep e (λ f. inr (inl f)))
+        (λ (h : ((x.seen.stage ≡ Leads Lasts) ⊎ (x.seen.stage ≡ Leads Answer)) × (armed ≡ false)). ⊎_elim
+        (λ (e : x.seen.stage ≡ Leads Lasts). arms_at Lasts e (λ f. inr (inl f)))
         (λ (e : x.seen.stage ≡ Leads Answer). arms_at Answer e (λ f. inr (inr f)))
         h.0)
         may.stage
 
     no_run : c.kind ≡ Run → ⊥
     no_run e = ⊎_elim (λ (f : c.kind ≡ Roots). let clash : Roots ≡ Run = sym f ∙ e in cc)
-        (⊎_elim (λ (f : c.kind ≡ Sweep). let clash : Sweep ≡ Run = sym f ∙ e in cc) (λ (f : c.kind ≡ Answer). let clash : Answer ≡ Run = sym f ∙ e in cc)) arms.kind
+        (⊎_elim (λ (f : c.kind ≡ Lasts). let clash : Lasts ≡ Run = sym f ∙ e in cc) (λ (f : c.kind ≡ Answer). let clash : Answer ≡ Run = sym f ∙ e in cc)) arms.kind
 
     calm : Promoting r.account.pause → ⊥
     calm p = not_both r.account.pause.phase (p.0, p.1) arms.odd
@@ -163,8 +169,6 @@ module _ (k : Config) (s : Words) (r : Rule k s) (id : ℕ) (hist : List Entry) 
     -- what is marked in those kinds of phase isn't told by the word
     swept_of_word : IsSwept k now r.account.live r.account.tenancy.holder c s.words → IsSwept k now r.account.live r.account.tenancy.holder c' ws
     swept_of_word w = record {
-      facts = w.facts;
-      rotated = w.rotated;
       all_marked = w.all_marked;
       unmarked = w.unmarked;
       unchanged = w.unchanged;
@@ -180,11 +184,17 @@ module _ (k : Config) (s : Words) (r : Rule k s) (id : ℕ) (hist : List Entry) 
       };
     }
 
-    facts_of : (kind : Kind) → (kind ≡ Roots) ⊎ ((kind ≡ Sweep) ⊎ (kind ≡ Answer)) → Facts kind k now r.account.live r.account.tenancy c s.words → Facts kind k now r.account.live r.account.tenancy c' ws
+    facts_of : (kind : Kind) → ArmsIn kind → Facts kind k now r.account.live r.account.tenancy c s.words → Facts kind k now r.account.live r.account.tenancy c' ws
     facts_of Roots is f = (f.0, record { unchanged = f.1.unchanged; unrotated = f.1.unrotated })
-    facts_of Sweep is f = record { mode = f.mode; swept = swept_of_word f.swept; sweep = f.sweep; all_counted = f.all_counted }
-    facts_of Answer is f = record { mode = f.mode; whole = f.whole; swept = swept_of_word f.swept; clean = f.clean; all_counted = f.all_counted; held = f.held }
+    facts_of Lasts is f = record { facts = f.facts; unchanged = f.unchanged; stays = f.stays; turned = λ up. let t = f.turned up in record { all_marked = t.all_marked; unmarked = t.unmarked; gone = t.gone } }
+    facts_of Answer is f = record { mode = f.mode; whole = f.whole; ends = record { facts = f.ends.facts; rotated = f.ends.rotated }; swept = swept_of_word f.swept; clean = f.clean; all_counted = f.all_counted; held = f.held }
     facts_of _ is f = absurd (⊎_elim (λ e. cc) (⊎_elim (λ e. cc) (λ e. cc)) is)
+
+    -- no garbage of the last collection is left
+    all_swept : c.unswept ≡ false
+    all_swept =
+        let swept : (kind : Kind) → IsTracing kind → c.kind ≡ kind → c.unswept ≡ false = swept_tracing k now r.account.live r.account.pause r.account.tenancy c s.words r.whole.cycle in
+        ⊎_elim (swept Roots tt) (⊎_elim (swept Lasts tt) (swept Answer tt)) arms.kind
 
     cycle' : Cycled k now r.account.live r.account.pause r.account.tenancy c' ws
     cycle' = let y = r.whole.cycle in record {
@@ -194,7 +204,14 @@ module _ (k : Config) (s : Words) (r : Rule k s) (id : ℕ) (hist : List Entry) 
       changed_is = other 3 (λ e. omega arith) ∙ y.changed_is;
       facts = facts_of c.kind arms.kind y.facts;
       told = y.told;
-      leaves = record { none = y.leaves.none; dead = y.leaves.dead; head = λ a is. let h = y.leaves.head a is in (h.0, h.1, heap a ∙ h.2) };
+      leaves = record {
+        none = y.leaves.none;
+        dead = y.leaves.dead;
+        head = λ a is. let h = y.leaves.head a is in (h.0, h.1, heap a ∙ h.2);
+        unprepared = y.leaves.unprepared;
+        owned = y.leaves.owned;
+      };
+      unswept = λ is. absurd (true≢false (sym is ∙ all_swept));
       whole = λ l. ⊎_elim
           (λ (e : c.paint.emptied l ≡ []). inl e)
           (λ (h : MissesKeys r.account.live r.account.tenancy.holder c l). inr record { clean = h.clean; domain = h.domain; waits = h.waits; address = h.address; own = h.own; place = h.place; lives = h.lives; label = h.label })
@@ -226,6 +243,7 @@ module _ (k : Config) (s : Words) (r : Rule k s) (id : ℕ) (hist : List Entry) 
       pass = l.pass;
       whole = l.whole;
       armed = armed_is;
+      unswept = l.unswept;
     }
 
     may_look : (stage : Stage) → IsLeading stage → MayLook x.own.number stage
@@ -310,6 +328,7 @@ module _ (k : Config) (s : Words) (r : Rule k s) (id : ℕ) (hist : List Entry) 
           set_back = λ b. low_kept (good.set_back b);
           sharing = own_sharing;
           listed = good.listed;
+          sweeps = good.sweeps;
         })
         (λ z _ differs g. record {
           stood = g.stood;
@@ -325,6 +344,7 @@ module _ (k : Config) (s : Words) (r : Rule k s) (id : ℕ) (hist : List Entry) 
           set_back = λ b. low_kept (g.set_back b);
           sharing = others_sharing z differs g;
           listed = g.listed;
+          sweeps = g.sweeps;
         })
 
 pub armed_may : (k : Config) (x : DomainView) → MayLook x.own.number x.seen.stage → MayStep k x 4 (λ n. n) ArmedTold

@@ -9,7 +9,7 @@ use Rattle.cycle_laws.specs.Shares.{Shares, reset_shares}
 use Rattle.cycle_laws.proofs.Cycling.{phase_steps}
 use Rattle.heap_rule.specs.declared.config.Config.{Config}
 use Rattle.heap_rule.specs.declared.phase.Kind.{Kind}
-use Rattle.heap_rule.specs.declared.phase.Kind.TheVariants.{Run, Mark}
+use Rattle.heap_rule.specs.declared.phase.Kind.TheVariants.{Run, Mark, Lasts}
 use Rattle.heap_rule.specs.declared.phase.Stage.{Stage}
 use Rattle.heap_rule.specs.declared.phase.Stage.TheVariants.{In, Leads, Led, Gone}
 use Rattle.heap_rule.specs.declared.view.DomainView.{DomainView}
@@ -21,6 +21,7 @@ use Rattle.heap_rule.specs.Phases.{AtStage}
 use Rattle.heap_rule.specs.Pools.{IsLeading}
 use Rattle.heap_rule.specs.Raw.{MayStep, MayStore}
 use Rattle.heap_rule.specs.Rule.{Good, Rule, Sharing, state_of}
+use Rattle.heap_rule.specs.Sweeping.{SweepsIn}
 use Rattle.heap_rule.specs.Views.{one}
 use Rattle.heap_rule.proofs.Controls.{Untouched, heap_untouched}
 use Rattle.heap_rule.proofs.Keeps.{Words, my_good, unmoved}
@@ -79,7 +80,7 @@ module _ (k : Config) (s : Words) (r : Rule k s) (id : ℕ) (hist : List Entry) 
     }
 
     pub find_rule : Rule k record { words = s.words; homes = s.homes; views = set s.views id (one k hist (with_share x found)) }
-    find_rule = learns k s r id hist x at found found_sharing
+    find_rule = learns k s r id hist x at found found_sharing good.sweeps
 
   module _ (may : ForgetMay x) where
     abbrev forgets : Share
@@ -123,7 +124,14 @@ module _ (k : Config) (s : Words) (r : Rule k s) (id : ℕ) (hist : List Entry) 
         odd = λ j e f. absurd (true≢false (sym here.3 ∙ f));
         led = λ j e f. ((y.told.led j e f).0, λ d. record { waits = refl; paid = refl; blind = refl });
       };
-      leaves = record { none = y.leaves.none; dead = y.leaves.dead; head = λ a is. let h = y.leaves.head a is in (h.0, h.1, heap_untouched k s.words ws untouched a ∙ h.2) };
+      leaves = record {
+        none = y.leaves.none;
+        dead = y.leaves.dead;
+        head = λ a is. let h = y.leaves.head a is in (h.0, h.1, heap_untouched k s.words ws untouched a ∙ h.2);
+        unprepared = y.leaves.unprepared;
+        owned = y.leaves.owned;
+      };
+      unswept = y.unswept;
       whole = λ l. ⊎_elim
           (λ (e : c.paint.emptied l ≡ []). inl e)
           (λ (h : MissesKeys r.account.live r.account.tenancy.holder c l). inr record { clean = h.clean; domain = h.domain; waits = refl; address = h.address; own = h.own; place = h.place; lives = h.lives; label = h.label })
@@ -187,6 +195,10 @@ module _ (k : Config) (s : Words) (r : Rule k s) (id : ℕ) (hist : List Entry) 
       deciding = let u = g.sharing.deciding in record { finals = λ e _. u.finals e start.waits; lasts = λ e _. u.lasts e start.waits; rooted = λ e _. u.rooted e start.waits };
     }
 
+    -- who has arrived in a phase of marking may have swept
+    sweeps_on : (z : DomainView) → SweepsIn r.account.tenancy c z → SweepsIn r.account.tenancy c' z
+    sweeps_on z u = record { listed = u.listed; places = u.places; anew = λ e. absurd (let clash : Mark ≡ Lasts = sym kind_is ∙ e in cc); reaps = u.reaps }
+
     pub forget_rule : Rule k record { words = ws; homes = s.homes; views = set s.views id (one k hist (with_share x forgets)) }
     forget_rule = shifts k s r id hist x at forgets anew ws record {
       untouched = untouched;
@@ -197,6 +209,8 @@ module _ (k : Config) (s : Words) (r : Rule k s) (id : ℕ) (hist : List Entry) 
       cycle = cycle;
       sharing = own_sharing;
       sharings = others_sharing;
+      sweeps = let u = sweeps_on x good.sweeps in record { listed = u.listed; places = u.places; anew = u.anew; reaps = u.reaps };
+      others_sweep = λ z _ h. sweeps_on z h.sweeps;
     }
 
 pub find_may : (k : Config) (x : DomainView) → FindMay x → MayStep k x 3 (λ n. n) FindTold

@@ -32,6 +32,7 @@ use Rattle.heap_rule.specs.Deciding.{IsRooting}
 use Rattle.heap_rule.specs.Finalisers.{held_at}
 use Rattle.heap_rule.specs.Cycles.{Cycled, Cycling, Facts, HasNoCycle, IsCollecting, IsIdle, IsMarkedAt, Knowing, Leading, Scans, Told, seen_by, Scanned, MissesKeys, KeysAt}
 use Rattle.heap_rule.specs.Rule.{Account, Good, Rule, Sharing, state_of}
+use Rattle.heap_rule.specs.Sweeping.{SweepsIn}
 use Rattle.heap_rule.specs.Views.{one}
 use Rattle.heap_rule.proofs.Controls.{Move, Untouched, counts_untouched, covered_untouched, heap_untouched, hunter_untouched, low_untouched, moved_to, no_move, reserved_untouched, resting_untouched, turns, untouched_same}
 use Rattle.heap_rule.proofs.Holders.{stock_self}
@@ -160,6 +161,8 @@ module _ (k : Config) (s : Words) (r : Rule k s) (id : ℕ) (hist : List Entry) 
     pub ended_same : get_or words' 8 0 ≡ get_or s.words 8 0
     pub cycle : Cycled k now live r.account.pause r.account.tenancy (record c { shares = w' }) words'
     pub sharing : Sharing k (record r.account { cycling = record c { shares = w' } }) words' d x.own.registers x.own.finalisers x.own.ephemerons.items x.seen.stage share'
+    pub sweeps : SweepsIn r.account.tenancy (record c { shares = w' }) (with_share x share')
+    pub others_sweep : (z : DomainView) → z.own.number ≢ d → Good k r.account s.words z → SweepsIn r.account.tenancy (record c { shares = w' }) z
     pub sharings : (z : DomainView) → z.own.number ≢ d → Good k r.account s.words z
         → Sharing k (record r.account { cycling = record c { shares = w' } }) words' z.own.number z.own.registers z.own.finalisers z.own.ephemerons.items z.seen.stage z.seen.share
 
@@ -205,12 +208,14 @@ module _ (k : Config) (s : Words) (r : Rule k s) (id : ℕ) (hist : List Entry) 
         took_back = λ kind leads last. o.want_same ∙ g.took_back kind leads last;
         others_took_back = λ z _ took kind leads last. o.want_same ∙ took kind leads last;
         set_back = λ h. low_untouched k s.words words' o.untouched (g.set_back h);
+        sweeps = o.sweeps;
+        others_sweep = λ z _ other h. o.others_sweep z other h;
       }
 
   -- and one that changes what its domain knows alone
-  pub learns : (share' : Share) → Sharing k r.account s.words d x.own.registers x.own.finalisers x.own.ephemerons.items x.seen.stage share'
+  pub learns : (share' : Share) → Sharing k r.account s.words d x.own.registers x.own.finalisers x.own.ephemerons.items x.seen.stage share' → SweepsIn r.account.tenancy c (with_share x share')
       → Rule k record { words = s.words; homes = s.homes; views = set s.views id (one k hist (with_share x share')) }
-  learns share' sharing = shifts share' c.shares s.words record {
+  learns share' sharing sweeps = shifts share' c.shares s.words record {
     untouched = untouched_same s.words;
     want_same = refl;
     barrier_same = refl;
@@ -219,6 +224,8 @@ module _ (k : Config) (s : Words) (r : Rule k s) (id : ℕ) (hist : List Entry) 
     cycle = r.whole.cycle;
     sharing = sharing;
     sharings = λ z _ h. h.sharing;
+    sweeps = sweeps;
+    others_sweep = λ z _ h. h.sweeps;
   }
 
   pub kind_here : (kind : Kind) → x.seen.stage ≡ In kind → c.kind ≡ kind
@@ -229,8 +236,8 @@ module _ (k : Config) (s : Words) (r : Rule k s) (id : ℕ) (hist : List Entry) 
   whole_in not_clean l = ⊎_elim (λ (h : c.paint.emptied l ≡ []). h) (λ (h : MissesKeys live holder c l). absurd (not_clean h.clean)) (r.whole.cycle.whole l)
 
   -- how far a domain is with its ephemerons where the marks that a cleaning speaks of stay
-  looks_on : (m' : Marks) → (c.kind ≡ Clean → m' ≡ m) → (z : DomainView) → Staged r.account.pause z → Looks live holder r.account.tenancy.garbage now.graph m c.paint.emptied z.own.number z.own.ephemerons.items z.seen.stage z.seen.share
-      → Looks live holder r.account.tenancy.garbage now.graph m' c.paint.emptied z.own.number z.own.ephemerons.items z.seen.stage z.seen.share
+  looks_on : (m' : Marks) → (c.kind ≡ Clean → m' ≡ m) → (z : DomainView) → Staged r.account.pause z → Looks live holder now.graph m c.paint.emptied z.own.number z.own.ephemerons.items z.seen.stage z.seen.share
+      → Looks live holder now.graph m' c.paint.emptied z.own.number z.own.ephemerons.items z.seen.stage z.seen.share
   looks_on m' still z staged l = record {
     at_own = l.at_own;
     cleans = λ w e. let f = l.cleans w e in cleans_same live now.graph m m' z.seen.stage z.own.ephemerons.items w (still (kind_now k r.account.pause c z Clean f.stage_is staged r.whole.cycle.told)) f;
@@ -395,7 +402,14 @@ module _ (k : Config) (s : Words) (r : Rule k s) (id : ℕ) (hist : List Entry) 
         changed_is = o.changed_is;
         facts = o.facts;
         told = told';
-        leaves = record { none = y.leaves.none; dead = y.leaves.dead; head = λ a is. let g = y.leaves.head a is in (g.0, g.1, o.dead a (y.leaves.dead a is) ∙ g.2) };
+        leaves = record {
+          none = y.leaves.none;
+          dead = y.leaves.dead;
+          head = λ a is. let g = y.leaves.head a is in (g.0, g.1, o.dead a (y.leaves.dead a is) ∙ g.2);
+          unprepared = y.leaves.unprepared;
+          owned = y.leaves.owned;
+        };
+        unswept = y.unswept;
         whole = λ l. ⊎_elim
             (λ (e : c.paint.emptied l ≡ []). inl e)
             (λ (h : MissesKeys live holder c l). inr record { clean = h.clean; domain = h.domain; waits = h.waits; address = h.address; own = h.own; place = h.place; lives = h.lives; label = h.label })
@@ -474,7 +488,7 @@ module _ (k : Config) (s : Words) (r : Rule k s) (id : ℕ) (hist : List Entry) 
 
     -- a step that leaves the words, what is marked and how far all are
     pub knows_more : (h : Held) → sh.owes ≡ h.owes → seen_by sh.places_seen ≡ seen_by h.places_seen → Knows m s.words h → Rule k record { words = s.words; homes = s.homes; views = set s.views id (one k hist (with_share x (holding sh h))) }
-    knows_more h owes places_seen n = let t = (my_good k s r id hist x at).sharing.telling in learns (holding sh h) (sharing' m c.shares.changed c.shares.owes c.shares.seen h sh.waiting s.words record {
+    knows_more h owes places_seen n = let g = my_good k s r id hist x at in let t = g.sharing.telling in learns (holding sh h) (sharing' m c.shares.changed c.shares.owes c.shares.seen h sh.waiting s.words record {
       armed_same = refl;
       colours_same = refl;
       blocks_same = refl;
@@ -490,7 +504,7 @@ module _ (k : Config) (s : Words) (r : Rule k s) (id : ℕ) (hist : List Entry) 
       seen_is = t.seen waits ∙ places_seen;
       knows = n;
       queued = queue_still m (λ l is. is);
-    })
+    }) g.sweeps
 
     -- and one that leaves the heap's words and what is marked
     pub shifts_queue : (waiting : List ℕ) → QueueMarked m waiting → (changed : Bool) (owes : ℕ → Bool) (seen : ℕ → ℕ → Bool) (h : Held) (words' : List ℕ) → Untouched s.words words' → get_or words' 0 0 ≡ get_or s.words 0 0 → get_or words' 1 0 ≡ get_or s.words 1 0 → get_or words' 2 0 ≡ get_or s.words 2 0
@@ -523,6 +537,8 @@ module _ (k : Config) (s : Words) (r : Rule k s) (id : ℕ) (hist : List Entry) 
           cycle = cycle' m changed owes seen h waiting words' o;
           sharing = sharing' m changed owes seen h waiting words' o;
           sharings = sharings' m changed owes seen h waiting words' o;
+          sweeps = (my_good k s r id hist x at).sweeps;
+          others_sweep = λ z _ h. h.sweeps;
         }
 
     -- also where it goes to no place of its queue

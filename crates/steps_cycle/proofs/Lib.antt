@@ -1,5 +1,6 @@
 pub mod Plain
 pub mod Pausing
+pub mod Unswept
 pub mod Colouring
 pub mod Layouts
 pub mod Learning

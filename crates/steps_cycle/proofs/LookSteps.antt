@@ -66,7 +66,7 @@ module _ (k : Config) (s : Words) (r : Rule k s) (id : ℕ) (hist : List Entry) 
   }
 
   colours_rule : MayLook x.own.number x.seen.stage → Rule k record { words = s.words; homes = s.homes; views = set s.views id (one k hist (with_share x told_share)) }
-  colours_rule may = learns k s r id hist x at told_share (colours_sharing may)
+  colours_rule may = learns k s r id hist x at told_share (colours_sharing may) (my_good k s r id hist x at).sweeps
 
 pub colours_may : (k : Config) (x : DomainView) → MayLook x.own.number x.seen.stage → MayStep k x 5 (λ n. n) (ColoursTold k)
 colours_may k x may fits slots id hist s r _ at _ =

@@ -239,6 +239,7 @@ module _ (k : Config) (s : Words) (r : Rule k s) (id : ℕ) (hist : List Entry) 
           set_back = λ b. controls.set_back x g.staged b (g.set_back b);
           sharing = own_sharing;
           listed = g.listed;
+          sweeps = g.sweeps;
         }
         (λ z _ other h'. record {
           stood = h'.stood;
@@ -254,4 +255,5 @@ module _ (k : Config) (s : Words) (r : Rule k s) (id : ℕ) (hist : List Entry) 
           set_back = λ b. controls.set_back z h'.staged b (h'.set_back b);
           sharing = sharings' k s r id hist x at collecting m' r.account.cycling.shares.changed owes seen h waiting words' learnt z other h';
           listed = h'.listed;
+          sweeps = h'.sweeps;
         })

@@ -41,6 +41,7 @@ use Rattle.steps_cycle.specs.Marking.{GreyMay, GreyTold, IsGrey, IsScanned, IsUn
 use Rattle.steps_cycle.proofs.Colouring.{BareHead, bare_head, marked_colour, unmarked_colour}
 use Rattle.steps_cycle.proofs.Layouts.{labelled, owner_of_place, whose}
 use Rattle.steps_cycle.proofs.Learning.{at_other, at_same, bare, held, kind_here, knows_more, known, looks_same, looks_still, not_promoting, shifts_more}
+use Rattle.steps_cycle.proofs.Unswept.{none_unswept}
 use Rattle.std.proofs.lemmas.Option.{none-some, same_Some}
 use Rattle.heap_rule.proofs.Stages.{waits_in}
 
@@ -295,7 +296,7 @@ module _ (k : Config) (s : Words) (r : Rule k s) (id : ℕ) (hist : List Entry) 
         (λ (u : (p : Place) × (live a ≡ Some p)). none-some u.0 (sym e ∙ u.1))
         (λ u. ⊎_elim
         (λ (f : r.account.tenancy.prepared a ≡ Some d). not_promoting k s r id hist x at collecting (r.whole.drawers.prepared a d f).1)
-        (λ (f : IsTrue (r.account.tenancy.garbage a)). true≢false (sym f ∙ r.whole.cycle.leaves.none facts.1 a))
+        (λ (f : IsTrue (r.account.tenancy.garbage a)). true≢false (sym f ∙ none_unswept k now live r.account.pause r.account.tenancy c s.words r.whole.cycle Mark tt kind_is facts.1 a))
         u)
         z))
         (place_there a pool class slot may.place) in (
