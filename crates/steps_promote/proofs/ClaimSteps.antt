@@ -45,6 +45,7 @@ use Rattle.heap_rule.proofs.Classes.{size_least}
 use Rattle.heap_rule.proofs.Counting.{joined_with, joined_cases, claim_counts, claim_few, sum_le, sum_times}
 use Rattle.heap_rule.proofs.Drops.{debt_cases}
 use Rattle.heap_rule.proofs.Holders.{SameFor, agrees_same, hunter_agree}
+use Rattle.heap_rule.proofs.Garbage.{KeepsGarbage, garbage_same}
 use Rattle.heap_rule.proofs.Keeps.{Words, mine, my_good, control_set, control_same, pools_same, opened_words, more_same, stands_more, hunter_as}
 use Rattle.heap_rule.proofs.PauseFacts.{promote_now, promote_here}
 use Rattle.heap_rule.proofs.Lots.{area_beside, hunter_beside, number_cases, place_low}
@@ -52,7 +53,7 @@ use Rattle.heap_rule.proofs.Update.{over, over_here, over_else}
 use Rattle.heap_rule.proofs.Values.{extent_large}
 use Rattle.steps_promote.proofs.Meets.{form_shape, knows_more, known_more}
 use Rattle.steps_promote.proofs.OwnPlaces as places
-use Rattle.steps_promote.proofs.OwnPlaces.{place_sole}
+use Rattle.steps_promote.proofs.OwnPlaces.{place_sole, spare_clean}
 use Rattle.steps_promote.proofs.Preparing.{prepared_here, prepared_else}
 use Rattle.steps_promote.proofs.Registers.{promote_once}
 use Rattle.steps_promote.proofs.Remaking.{promotes_again, stood_same, young_colour}
@@ -274,9 +275,10 @@ module _ (k : Config) (s : Words) (r : Rule k s) (id : ℕ) (hist : List Entry) 
         promotes_again k s r id hist x at may.stage lost_view s.words live t r.account.homes record {
           share = refl;
           full = r.whole.full;
-          garbage = λ _. refl;
+          garbage = garbage_same k live t r.account.cycling s.words r.whole.cycle.leaves;
           holders = λ q. refl;
           ephemerons = refl;
+          swept = refl;
           no_more = λ a e. e;
           number = refl;
           arrivals = refl;
@@ -666,6 +668,21 @@ module _ (k : Config) (s : Words) (r : Rule k s) (id : ℕ) (hist : List Entry) 
           };
     }
 
+    -- garbage lies neither where the block does nor where its copy does
+    garbage2 : KeepsGarbage k live2 t t' s.words ws
+    garbage2 = record {
+      same = λ b. refl;
+      dead = λ b is. elsewhere b (away b is) (off b is) ∙ r.whole.cycle.leaves.dead b is;
+      unprepared = λ b is. over_else c None t.prepared b (off b is) ∙ r.whole.cycle.leaves.unprepared b is;
+      heads = λ b is. stays b (away b is);
+      held = λ q d e is. is;
+    } where
+      off : (b : ℕ) → IsTrue (t.garbage b) → b ≢ c
+      off = spare_clean k s r c me mine_is
+
+      away : (b : ℕ) → IsTrue (t.garbage b) → b ≢ a
+      away b is same = none-some p (sym (r.whole.cycle.leaves.dead b is) ∙ (ap live same ∙ lives))
+
     same_for : (d : ℕ) → d ≢ me → SameFor t t' d
     same_for d other = record {
       drawn_to = λ q e. e;
@@ -928,9 +945,10 @@ module _ (k : Config) (s : Words) (r : Rule k s) (id : ℕ) (hist : List Entry) 
         promotes_again k s r id hist x at may.stage won_view ws live2 t' homes2 record {
           share = refl;
           full = full2;
-          garbage = λ _. refl;
+          garbage = garbage2;
           holders = λ q. refl;
           ephemerons = refl;
+          swept = refl;
           no_more = no_more2;
           number = refl;
           arrivals = refl;
@@ -1089,6 +1107,7 @@ claim_closes k x found a old new class c may y fits told = dite (ℕ_discrete fo
             ap (λ (m : ℕ). e - 1 + m) (longer x.own.pending.items (record { copy = c; source = a })) ∙ ((let g : e - 1 + (n + 1) ≡ e + n = omega arith in g) ∙ fits.pending));
         ephemerons = fits.ephemerons;
         finalisers = fits.finalisers;
+        swept = fits.swept;
       };
       once = promote_once k x y may.stage;
     })

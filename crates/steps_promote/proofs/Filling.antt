@@ -1,7 +1,7 @@
 -- The values of a copy are stored, one after the other, and then it is owed nothing more.
 use Rattle.heap_rule.specs.Places.{without_keys}
 use Rattle.heap_rule.proofs.Keeps.{whole_here}
-use Rattle.std.proofs.Common.{◌≡◌, ◌≢◌, ℕ, zero, suc, ◌+◌, ◌*◌, ◌<◌, ◌≤◌, List, ◌∷◌, length, get_or, set, slice_get, Option, Some, None, unwrap_or, sym, refl, ap, ◌∙◌, subst, inr, ⊎_elim, arith, length-set, get_or-set_same, get_or-set_other}
+use Rattle.std.proofs.Common.{◌≡◌, ◌≢◌, ℕ, zero, suc, ◌+◌, ◌*◌, ◌<◌, ◌≤◌, IsTrue, List, ◌∷◌, length, get_or, set, slice_get, Option, Some, None, unwrap_or, sym, refl, ap, ◌∙◌, subst, inr, ⊎_elim, arith, length-set, get_or-set_same, get_or-set_other}
 use mathlib.Core.Logic.{dite}
 use native.Mathlib.Decide.{ℕ_discrete}
 use mathlib.Core.Option.{some}
@@ -28,7 +28,7 @@ use Rattle.heap_rule.specs.Views.{one}
 use Rattle.steps_promote.specs.Promotion.{with_pending, HasValueAt, FillMay, FillTold, FilledMay, FilledTold}
 use Rattle.heap_rule.proofs.Again.{Was, Back}
 use Rattle.heap_rule.proofs.Beside.{extent_of, found_beside, making_beside, live_word_far}
-use Rattle.heap_rule.proofs.Lots.{Beside, head_full, live_beside, grid_beside, hunter_beside}
+use Rattle.heap_rule.proofs.Lots.{Beside, garbage_beside, head_full, live_beside, grid_beside, hunter_beside}
 use Rattle.heap_rule.proofs.Lists.{got_below}
 use Rattle.heap_rule.proofs.Keeps.{Words, Control, mine, my_good, more_same, stands_more, unmoved, control_same, control_set}
 use Rattle.heap_rule.proofs.Update.{over_else}
@@ -191,12 +191,13 @@ module _ (k : Config) (s : Words) (r : Rule k s) (id : ℕ) (hist : List Entry) 
 
   -- the rule with what the domain is still to fill
   pub fills_again : (pending2 : List Owing) (words' : List ℕ) → length words' ≡ length s.words → Control k s.words words' → AllFound k r.account.cycling.paint live2 (state_of k r.account.log).graph words' → Grid k r.account.tenancy r.account.live words'
+      → ((b : ℕ) → IsTrue (r.account.tenancy.garbage b) → at_address k words' b ≡ at_address k s.words b)
       → ((z : DomainView) → Area k r.account.live z → Making k s.words z → Making k words' z) → ((z : DomainView) → Hunter k r.account.tenancy s.words z → Hunter k r.account.tenancy words' z)
       → ((i : ℕ) (v : Owing) → slice_get pending2 i ≡ Some v → IsOwed live2 x v)
       → ((i j : ℕ) (v w : Owing) → slice_get pending2 i ≡ Some v → slice_get pending2 j ≡ Some w → v.copy ≡ w.copy → i ≡ j)
       → ((b : ℕ) (q : Place) (d : Debt) → live2 b ≡ Some q → q.owed ≡ Some d → d.domain ≡ x.own.number → (i : ℕ) × (slice_get pending2 i ≡ Some (record { copy = b; source = d.source; filled = d.filled })))
       → Rule k record { words = words'; homes = s.homes; views = set s.views id (one k hist (with_pending x pending2)) }
-  fills_again pending2 words' wide control found grid makings hunters owed once listed =
+  fills_again pending2 words' wide control found grid heads makings hunters owed once listed =
       let y : DomainView = with_pending x pending2 in
       let w = (my_good k s r id hist x at).owes in
       changes_again k s r id hist x at promotes c p p2 lives refl refl refl y words' record {
@@ -214,6 +215,7 @@ module _ (k : Config) (s : Words) (r : Rule k s) (id : ℕ) (hist : List Entry) 
         copies = copies2;
         cleared = cleared2;
         grid = grid;
+        heads = heads;
         makings = makings;
         hunters = hunters;
         owes = record {
@@ -277,7 +279,7 @@ end_may k x word a may fits slots id hist s r _ at _ =
     })) in
     let y : DomainView = with_pending x rest in
     let rule : Rule k record { words = s.words; homes = s.homes; views = set s.views id (one k hist y) } =
-    fills_again k s r id hist x at may.stage o rest may.pending None of rest s.words refl (control_same k s.words) found r.whole.grid (λ z _ h. h) (λ z h. h)
+    fills_again k s r id hist x at may.stage o rest may.pending None of rest s.words refl (control_same k s.words) found r.whole.grid (λ b _. refl) (λ z _ h. h) (λ z h. h)
     (rest_owed k s r id hist x at may.stage o rest may.pending None of)
     (rest_once k s r id hist x at may.stage o rest may.pending None of)
     (λ b q d e owed its. dite (ℕ_discrete b o.copy)
@@ -369,6 +371,7 @@ fill_may k x word a new place may fits slots id hist s r _ at _ =
     let rule : Rule k record { words = ws; homes = s.homes; views = set s.views id (one k hist y) } =
     fills_again k s r id hist x at may.stage o rest may.pending (Some d2) of pending2 ws (length-set s.words (before_heap k + A) new) (control_set k s.words A new (omega arith)) found
     (grid_beside k r.account.tenancy s.words A new r.account.live r.account.live r.whole.pools beside (more_same r.account.live) (λ b q h _. h) r.whole.grid)
+    (garbage_beside k r.account.live r.account.tenancy r.account.cycling s.words r.whole.cycle.leaves A new r.whole.pools beside)
     (λ z area making. making_beside k s.words A new z (λ j fit same. live_word_far k r.account.live c0 (2 + n) p1 z lives1 (omega arith) area j fit (same ∙ (let h : A ≡ c0 + (2 + n) = omega arith in h))) making)
     (λ z h. hunter_beside k r.account.tenancy s.words A new r.whole.pools z (beside z.own.number) h)
     (owed_cases live1 x (record o { filled = n + 1 }) rest record { place = record p1 { owed = Some d2 }; lives = here2 k s r id hist x at may.stage o rest may.pending (Some d2) of; debt = refl } owed1)

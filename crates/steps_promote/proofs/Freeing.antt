@@ -25,11 +25,11 @@ use Rattle.steps_promote.specs.Claims.{preparing, with_hunt, LabelStoreMay, Labe
 use Rattle.steps_promote.specs.Writes.{CanPrepare, Frees}
 use Rattle.heap_rule.proofs.Classes.{size_least, slot_below, slot_inside}
 use Rattle.heap_rule.proofs.Holders.{SameFor, agrees_same, hunter_agree, stock_self}
-use Rattle.heap_rule.proofs.Keeps.{Words, my_good, control_set, pools_same, room_words, opened_words, owes_as, more_same}
+use Rattle.heap_rule.proofs.Keeps.{Words, my_good, garbage_here, control_set, pools_same, room_words, opened_words, owes_as, more_same}
 use Rattle.heap_rule.proofs.Lots.{hunter_beside}
 use Rattle.heap_rule.proofs.Update.{over, over_here, over_else}
 use Rattle.steps_promote.proofs.OwnPlaces as places
-use Rattle.steps_promote.proofs.OwnPlaces.{place_sole}
+use Rattle.steps_promote.proofs.OwnPlaces.{place_sole, spare_clean}
 use Rattle.steps_promote.proofs.Preparing.{pools_prepared, prepared_here, prepared_else}
 use Rattle.steps_promote.proofs.Registers.{promote_once}
 use Rattle.steps_promote.proofs.Remaking.{promotes_again, stood_same}
@@ -75,6 +75,10 @@ module _ (k : Config) (s : Words) (r : Rule k s) (id : ℕ) (hist : List Entry) 
 
   empty : live a ≡ None
   empty = (r.whole.grid.spares a me mine_is).empty
+
+  -- no garbage lies at it
+  clean : (b : ℕ) → IsTrue (t.garbage b) → b ≢ a
+  clean = spare_clean k s r a me mine_is
 
   -- a store to the i-th word of the place: to its head where i is 0
   module _ (i new : ℕ) (small : i < 2) where
@@ -150,9 +154,10 @@ module _ (k : Config) (s : Words) (r : Rule k s) (id : ℕ) (hist : List Entry) 
           (promotes_again k s r id hist x at promotes (with_hunt x hunt) ws live t r.account.homes record {
             share = refl;
             full = r.whole.full;
-            garbage = λ _. refl;
+            garbage = garbage_here k s r id hist x at live ws r.whole.cycle.leaves.dead (places.heads_again k s r id hist x at a o empty i new four clean);
             holders = λ q. refl;
             ephemerons = refl;
+            swept = refl;
             no_more = λ a e. e;
             number = refl;
             arrivals = refl;
@@ -281,9 +286,10 @@ module _ (k : Config) (s : Words) (r : Rule k s) (id : ℕ) (hist : List Entry) 
         promotes_again k s r id hist x at promotes y w0 live t' r.account.homes record {
           share = refl;
           full = r.whole.full;
-          garbage = λ _. refl;
+          garbage = places.garbage_again k s r id hist x at a o empty 0 0 (omega arith) clean None;
           holders = λ q. refl;
           ephemerons = refl;
+          swept = refl;
           no_more = λ a e. e;
           number = refl;
           arrivals = refl;
@@ -465,12 +471,13 @@ free_closes k x a pool class slot inside may y fits told =
         pending = fits.pending;
         ephemerons = fits.ephemerons;
         finalisers = fits.finalisers;
+        swept = fits.swept;
       };
       once = promote_once k x y may.stage;
     })
     (λ (not_before : Before → ⊥). let own : y.own ≡ preparing x.own class None = ap (λ (z : DomainView). z.own) (told.later not_before) in record {
       can_write = may.of_class;
       written = λ after wrote. own ∙ sym (wrote.later not_before);
-      fits = subst (OwnFits k) (sym own) record { number = fits.number; used = fits.used; registers = fits.registers; looked = fits.looked; remembered = fits.remembered; prepared = length-set x.own.prepared class None ∙ fits.prepared; pending = fits.pending; ephemerons = fits.ephemerons; finalisers = fits.finalisers };
+      fits = subst (OwnFits k) (sym own) record { number = fits.number; used = fits.used; registers = fits.registers; looked = fits.looked; remembered = fits.remembered; prepared = length-set x.own.prepared class None ∙ fits.prepared; pending = fits.pending; ephemerons = fits.ephemerons; finalisers = fits.finalisers; swept = fits.swept };
       once = promote_once k x y may.stage;
     })

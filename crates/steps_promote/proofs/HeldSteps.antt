@@ -29,6 +29,7 @@ use Rattle.heap_rule.specs.Rule.{state_of, Rule}
 use Rattle.heap_rule.specs.Standing.{IsInHeap}
 use Rattle.heap_rule.specs.Token.{OwnFits}
 use Rattle.heap_rule.specs.Views.{one}
+use Rattle.heap_rule.proofs.Garbage.{garbage_same}
 use Rattle.heap_rule.proofs.Keeps.{Words, my_good, control_same, hunter_as, owes_as, unmoved, more_same}
 use Rattle.heap_rule.proofs.Values.{address_of}
 use Rattle.steps_promote.specs.Promotion.{Knows, changed_at, waiting_at, with_held, with_finalisers, HeldMoveMay, HeldMoveTold}
@@ -174,9 +175,10 @@ module _ (k : Config) (s : Words) (r : Rule k s) (id : ℕ) (hist : List Entry) 
         promotes_again k s r id hist x at promotes after s.words live r.account.tenancy r.account.homes record {
           share = refl;
           full = r.whole.full;
-          garbage = λ a. refl;
+          garbage = garbage_same k r.account.live r.account.tenancy r.account.cycling s.words r.whole.cycle.leaves;
           holders = λ q. refl;
           ephemerons = refl;
+          swept = refl;
           no_more = λ a e. e;
           number = refl;
           arrivals = refl;
@@ -242,6 +244,7 @@ held_move_closes k x found h copy may y fits told =
         pending = fits.pending;
         ephemerons = fits.ephemerons;
         finalisers = fit;
+        swept = fits.swept;
       };
       once = promote_once k x y may.stage;
     }

@@ -44,6 +44,7 @@ use Rattle.heap_rule.proofs.Values.{address_of, packable}
 use Rattle.heap_rule.proofs.Lists.{got_there}
 use Rattle.heap_rule.proofs.Drops.{debt_cases}
 use Rattle.heap_rule.proofs.Lots.{number_cases}
+use Rattle.heap_rule.proofs.Garbage.{garbage_same}
 use Rattle.heap_rule.proofs.Keeps.{Words, my_good, control_same, hunter_as, unmoved, more_same, stands_more}
 use Rattle.steps_promote.proofs.Remaking.{promotes_again, stood_same, young_colour}
 use Rattle.heap_rule.proofs.HeadLemmas.{packable_head, colour_small}
@@ -109,9 +110,10 @@ module _ (k : Config) (s : Words) (r : Rule k s) (id : ℕ) (hist : List Entry) 
       promotes_again k s r id hist x at promotes y s.words live r.account.tenancy r.account.homes record {
         share = refl;
         full = r.whole.full;
-        garbage = λ a. refl;
+        garbage = garbage_same k r.account.live r.account.tenancy r.account.cycling s.words r.whole.cycle.leaves;
         holders = λ q. refl;
         ephemerons = refl;
+        swept = refl;
         no_more = λ a e. e;
         number = refl;
         arrivals = refl;

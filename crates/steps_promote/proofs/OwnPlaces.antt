@@ -1,5 +1,5 @@
 -- A place of an own pool at which no block lives: what a store to its first two words leaves.
-use Rattle.std.proofs.Common.{◌≡◌, ◌≢◌, ℕ, ◌+◌, ◌*◌, ◌<◌, ◌≤◌, ◌⊎◌, List, length, set, Option, Some, None, sym, refl, ap, ◌∙◌, inl, inr, arith, lt_of_not-le}
+use Rattle.std.proofs.Common.{◌≡◌, ◌≢◌, ℕ, ◌+◌, ◌*◌, ◌<◌, ◌≤◌, ◌⊎◌, IsTrue, List, length, set, Option, Some, None, sym, refl, ap, ◌∙◌, inl, inr, arith, lt_of_not-le}
 use mathlib.Core.Logic.{dite}
 use native.Mathlib.Decide.{ℕ_discrete, dec_le}
 use mathlib.Core.Option.{some}
@@ -16,8 +16,12 @@ use Rattle.heap_rule.specs.Views.{one}
 use Rattle.heap_rule.proofs.Beside.{found_beside, making_beside}
 use Rattle.heap_rule.proofs.Classes.{size_least, slot_below, slot_inside}
 use Rattle.heap_rule.proofs.Keeps.{Words, more_same}
-use Rattle.heap_rule.proofs.Lots.{Beside, pool_beside, owned_same, stays}
+use Rattle.heap_rule.proofs.Garbage.{KeepsGarbage}
+use Rattle.heap_rule.proofs.Lots.{Beside, pool_beside, stays}
 use Rattle.heap_rule.proofs.Holders.{drawn_owned}
+use Rattle.heap_rule.proofs.OwnPlaces.{owned_same}
+use Rattle.heap_rule.proofs.Update.{over, over_else}
+use Rattle.std.proofs.lemmas.Option.{none-some}
 
 -- two places at one address are one
 pub place_sole : (k : Config) (t : Tenancy) (words : List ℕ) (q d c i pool e class slot : ℕ) → Pools k t words → t.holder q ≡ owned d c → i < blocks_of c → t.holder pool ≡ owned e class → slot < blocks_of class → place_in q c i ≡ place_in pool class slot
@@ -45,6 +49,10 @@ place_sole k t words q d c i pool e class slot p is inside is' inside' same =
           (λ below. let g : u' + y ≤ w = slot_below class i slot (let b : i ≤ slot = below in let n : i ≢ slot = ne in omega arith) in omega arith)
           (λ above. let g : w + y ≤ u' = slot_below class slot i (lt_of_not-le above) in omega arith))),
     )
+
+-- no garbage lies at a prepared place
+pub spare_clean : (k : Config) (s : Words) (r : Rule k s) (a d : ℕ) → r.account.tenancy.prepared a ≡ Some d → (b : ℕ) → IsTrue (r.account.tenancy.garbage b) → b ≢ a
+spare_clean k s r a d is b garbage same = none-some d (sym (r.whole.cycle.leaves.unprepared b garbage) ∙ (ap r.account.tenancy.prepared same ∙ is))
 
 module _ (k : Config) (s : Words) (r : Rule k s) (id : ℕ) (hist : List Entry) (x : DomainView) (at : get_elem? s.views id ≡ some (one k hist x)) (a : ℕ) (o : OwnPlace r.account.tenancy.holder a x.own.number) (empty : r.account.live a ≡ None) where
   abbrev t : Tenancy
@@ -153,6 +161,23 @@ module _ (k : Config) (s : Words) (r : Rule k s) (id : ℕ) (hist : List Entry) 
           (λ ne. dite (dec_le j o.slot)
           (λ le. let g : h' + y ≤ m = slot_below o.class j o.slot (let p : j ≤ o.slot = le in let nn : j ≢ o.slot = ne in omega arith) in omega arith)
           (λ gt. let g : m + y ≤ h' = slot_below o.class o.slot j (lt_of_not-le gt) in omega arith))
+
+    -- and so does garbage, which lies elsewhere
+    pub heads_again : ((b : ℕ) → IsTrue (t.garbage b) → b ≢ a) → (b : ℕ) → IsTrue (t.garbage b) → at_address k ws b ≡ at_address k s.words b
+    heads_again clean b is =
+        let h = r.whole.cycle.leaves.owned b is in
+        let p = h.1 in
+        ap (at_address k ws) p.begins ∙ (place_again p.pool h.0 p.class p.slot p.owned_is p.inside (λ same. clean b is (p.begins ∙ same)) ∙ sym (ap (at_address k s.words) p.begins))
+
+    -- also where the place comes to be prepared, or is no more
+    pub garbage_again : ((b : ℕ) → IsTrue (t.garbage b) → b ≢ a) → (domain : Option ℕ) → KeepsGarbage k r.account.live t (record t { prepared = over a domain t.prepared }) s.words ws
+    garbage_again clean domain = record {
+      same = λ b. refl;
+      dead = r.whole.cycle.leaves.dead;
+      unprepared = λ b is. over_else a domain t.prepared b (clean b is) ∙ r.whole.cycle.leaves.unprepared b is;
+      heads = heads_again clean;
+      held = λ q d c e. e;
+    }
 
   -- no live block shares a word with the whole place
   pub apart : (b : ℕ) (q : Place) → r.account.live b ≡ Some q → (b + extent q.shape ≤ a) ⊎ (a + size_of o.class ≤ b)

@@ -1,6 +1,6 @@
 -- One block's place changes in what it is owed or in which of its values are remembered: its label, its shape and its forwarding stay.
 use Rattle.heap_rule.proofs.Again.{ephe_back}
-use Rattle.std.proofs.Common.{◌≡◌, ◌≢◌, ℕ, ◌+◌, ◌<◌, List, length, set, slice_get, Option, Some, unwrap_or, sym, refl, ap, ◌∙◌, subst, arith}
+use Rattle.std.proofs.Common.{◌≡◌, ◌≢◌, ℕ, ◌+◌, ◌<◌, IsTrue, List, length, set, slice_get, Option, Some, unwrap_or, sym, refl, ap, ◌∙◌, subst, arith}
 use mathlib.Core.Logic.{dite}
 use native.Mathlib.Decide.{ℕ_discrete}
 use mathlib.Core.Option.{some}
@@ -20,8 +20,8 @@ use Rattle.heap_rule.specs.Pools.{Stock, Hunter, Grid}
 use Rattle.heap_rule.specs.Room.{Room}
 use Rattle.heap_rule.specs.Rule.{state_of, AllFound, Area, Making, Rule}
 use Rattle.heap_rule.specs.Views.{one}
-use Rattle.heap_rule.proofs.Again.{Was, Back, placed_back, spread_back, opened_back, area_back, grid_back}
-use Rattle.heap_rule.proofs.Keeps.{Words, Control, my_good, hunter_as, pools_same, room_words, opened_words}
+use Rattle.heap_rule.proofs.Again.{Was, Back, placed_back, spread_back, opened_back, area_back, grid_back, none_back}
+use Rattle.heap_rule.proofs.Keeps.{Words, Control, my_good, garbage_here, hunter_as, pools_same, room_words, opened_words}
 use Rattle.heap_rule.proofs.Update.{over, over_here, over_else}
 use Rattle.steps_promote.proofs.Remaking.{promotes_again, stood_same}
 use Rattle.heap_rule.proofs.FullnessLemmas.{full_back}
@@ -102,6 +102,7 @@ module _ (k : Config) (s : Words) (r : Rule k s) (id : ℕ) (hist : List Entry) 
     pub copies : Copies k after
     pub cleared : AllCleared k after r.account.pause
     pub grid : Grid k r.account.tenancy before words'
+    pub heads : (b : ℕ) → IsTrue (r.account.tenancy.garbage b) → at_address k words' b ≡ at_address k s.words b
     pub makings : (z : DomainView) → Area k before z → Making k s.words z → Making k words' z
     pub hunters : (z : DomainView) → Hunter k r.account.tenancy s.words z → Hunter k r.account.tenancy words' z
     pub owes : Owes k after y
@@ -121,9 +122,10 @@ module _ (k : Config) (s : Words) (r : Rule k s) (id : ℕ) (hist : List Entry) 
       promotes_again k s r id hist x at promotes y words' after t r.account.homes record {
         share = o.share;
         full = full_back k r.account.log before after t.holder t.fresh r.account.homes r.account.cycling.kind back1 r.whole.full;
-        garbage = λ _. refl;
+        garbage = garbage_here k s r id hist x at after words' (λ b dead. none_back before after b back1 (r.whole.cycle.leaves.dead b dead)) o.heads;
         holders = λ q. refl;
         ephemerons = ap (λ (z : Own). z.ephemerons.items) o.own;
+        swept = ap (λ (z : Own). z.swept) o.own;
         no_more = ephe_back before after back1;
         number = number;
         arrivals = ap (λ (z : Own). z.arrivals) o.own;

@@ -26,7 +26,7 @@ use Rattle.steps_promote.specs.Writes.{CanPrepare, Prepares}
 use Rattle.heap_rule.proofs.Holders.{SameFor, agrees_same, hunter_agree, stock_self}
 use Rattle.heap_rule.proofs.Keeps.{Words, my_good, control_set, pools_same, room_words, opened_words, owes_as, more_same}
 use Rattle.heap_rule.proofs.PauseFacts.{promote_now, promote_here}
-use Rattle.heap_rule.proofs.Lots.{head_full, hunter_beside, place_cases}
+use Rattle.heap_rule.proofs.Lots.{garbage_full, head_full, hunter_beside, place_cases}
 use Rattle.heap_rule.proofs.Update.{over, over_here, over_else}
 use Rattle.steps_promote.proofs.OwnPlaces as places
 use Rattle.steps_promote.proofs.OwnPlaces.{place_sole}
@@ -70,6 +70,10 @@ module _ (k : Config) (s : Words) (r : Rule k s) (id : ℕ) (hist : List Entry) 
 
   empty : live a ≡ None
   empty = ⊎_elim (λ (e : live a ≡ None). e) (λ (h : (q : Place) × (live a ≡ Some q)). absurd (head_full k r.account.cycling.paint live (state_of k r.account.log).graph s.words a h.0 (r.whole.found a h.0 h.1) free)) (place_cases (live a))
+
+  -- no garbage lies at it
+  clean : (b : ℕ) → IsTrue (t.garbage b) → b ≢ a
+  clean b is same = garbage_full k live t r.account.cycling s.words r.whole.cycle.leaves b is (ap (at_address k s.words) same ∙ free)
 
   -- the head is the first word
   head_at : a + 0 ≡ a
@@ -209,9 +213,10 @@ module _ (k : Config) (s : Words) (r : Rule k s) (id : ℕ) (hist : List Entry) 
       promotes_again k s r id hist x at may.stage y ws live t' r.account.homes record {
         share = refl;
         full = r.whole.full;
-        garbage = λ _. refl;
+        garbage = places.garbage_again k s r id hist x at a o empty 0 new (omega arith) clean (Some me);
         holders = λ q. refl;
         ephemerons = refl;
+        swept = refl;
         no_more = λ a e. e;
         number = refl;
         arrivals = refl;
@@ -260,7 +265,7 @@ pub prepared_closes : (k : Config) (x y : DomainView) (class : ℕ) (v : Option 
 prepared_closes k x y class v can writes promotes allowed wrote fits own = record {
   can_write = allowed;
   written = wrote;
-  fits = subst (OwnFits k) (sym own) record { number = fits.number; used = fits.used; registers = fits.registers; looked = fits.looked; remembered = fits.remembered; prepared = length-set x.own.prepared class v ∙ fits.prepared; pending = fits.pending; ephemerons = fits.ephemerons; finalisers = fits.finalisers };
+  fits = subst (OwnFits k) (sym own) record { number = fits.number; used = fits.used; registers = fits.registers; looked = fits.looked; remembered = fits.remembered; prepared = length-set x.own.prepared class v ∙ fits.prepared; pending = fits.pending; ephemerons = fits.ephemerons; finalisers = fits.finalisers; swept = fits.swept };
   once = promote_once k x y promotes;
 }
 

@@ -23,10 +23,11 @@ use Rattle.heap_rule.specs.Places.{Place, Live, Stands, More}
 use Rattle.heap_rule.specs.Raw.{StepsOnce, MayStep, Closes}
 use Rattle.heap_rule.specs.Rule.{state_of, Rule, Stood}
 use Rattle.heap_rule.specs.Standing.{with_registers}
-use Rattle.heap_rule.specs.Token.{AllInHeap, LooksWithin}
+use Rattle.heap_rule.specs.Token.{AllInHeap, LooksWithin, SweptWithin}
 use Rattle.heap_rule.specs.Views.{one}
 use Rattle.steps_promote.specs.Promotion.{Knows, MoveMay, MoveTold}
 use Rattle.steps_promote.specs.Writes.{CanMove, Moves}
+use Rattle.heap_rule.proofs.Garbage.{garbage_same}
 use Rattle.heap_rule.proofs.Values.{stands_block, holds}
 use Rattle.heap_rule.proofs.Keeps.{Words, my_good, control_same, hunter_as, owes_as, unmoved, more_same}
 use Rattle.steps_promote.proofs.Remaking.{promotes_again}
@@ -73,9 +74,10 @@ module _ (k : Config) (s : Words) (r : Rule k s) (id : ℕ) (hist : List Entry) 
       promotes_again k s r id hist x at promotes y s.words live r.account.tenancy r.account.homes record {
         share = refl;
         full = r.whole.full;
-        garbage = λ a. refl;
+        garbage = garbage_same k r.account.live r.account.tenancy r.account.cycling s.words r.whole.cycle.leaves;
         holders = λ q. refl;
         ephemerons = refl;
+        swept = refl;
         no_more = λ a e. e;
         number = refl;
         arrivals = refl;
@@ -141,6 +143,7 @@ move_closes k x found reg copy may y fits told =
         pending = ap (λ (o : Own). o.pending.room + length o.pending.items) own ∙ fits.pending;
         ephemerons = subst (λ (o : Own). AllInHeap k o.ephemerons.items) (sym own) fits.ephemerons;
         finalisers = subst (λ (o : Own). FinalisersFit k o.finalisers) (sym own) fits.finalisers;
+        swept = subst (λ (o : Own). SweptWithin k o.swept) (sym own) fits.swept;
       };
       once = promote_once k x y may.stage;
     }

@@ -13,6 +13,8 @@ use Rattle.heap_words.specs.declared.value.Value as words
 use Rattle.heap_rule.specs.declared.config.Config.{Config}
 use Rattle.heap_rule.specs.declared.view.DomainView.{DomainView}
 use Rattle.heap_rule.specs.declared.view.Finalisers.{Finalisers}
+use Rattle.heap_rule.specs.declared.view.Share.{Share}
+use Rattle.heap_rule.specs.declared.view.Swept.{Swept}
 use Rattle.heap_rule.specs.declared.phase.Kind.TheVariants.{Run, Promote, Reset}
 use Rattle.heap_rule.specs.declared.phase.Stage.TheVariants.{In}
 use Rattle.heap_rule.specs.Changes.{value_at}
@@ -32,6 +34,8 @@ use Rattle.heap_rule.proofs.FinaliserLemmas.{enrolled_more}
 use Rattle.heap_rule.proofs.PauseFacts.{run_promoting, staged_as, promote_now, promote_here, promote_rests}
 use Rattle.heap_rule.specs.Ephemerons.{IsEpheAt, Listed}
 use Rattle.heap_rule.specs.Rule.{Good}
+use Rattle.heap_rule.specs.Sweeping.{Sweeps, SweepsIn}
+use Rattle.heap_rule.proofs.Garbage.{KeepsGarbage, sweeps_on}
 use Rattle.heap_rule.proofs.EphemeronLemmas.{listed_as, listed_on, ephe_more}
 use Rattle.heap_rule.proofs.Sharings.{KeepsUnderway, SameCycle, kind_now}
 use Rattle.heap_rule.specs.Fullness.{Homes, Fullness}
@@ -79,9 +83,10 @@ module _ (k : Config) (s : Words) (r : Rule k s) (id : ℕ) (hist : List Entry) 
     pub control : Control k s.words words'
     pub found : AllFound k r.account.cycling.paint live' now.graph words'
     pub full : Fullness k r.account.log live' t'.holder t'.fresh homes' r.account.cycling.kind
-    pub garbage : (a : ℕ) → t'.garbage a ≡ r.account.tenancy.garbage a
+    pub garbage : KeepsGarbage k live' r.account.tenancy t' s.words words'
     pub holders : (q : ℕ) → t'.holder q ≡ r.account.tenancy.holder q
     pub ephemerons : y.own.ephemerons.items ≡ x.own.ephemerons.items
+    pub swept : y.own.swept ≡ x.own.swept
     pub no_more : (a : ℕ) → IsEpheAt live' a → IsEpheAt r.account.live a
     pub placed : Placed k live'
     pub spread : Spread k live'
@@ -112,9 +117,11 @@ module _ (k : Config) (s : Words) (r : Rule k s) (id : ℕ) (hist : List Entry) 
       let waits : y.own.arrivals ≡ r.account.pause.phase + 1 → ⊥ = (λ up. let e : y.own.arrivals ≡ r.account.pause.phase + 1 = up in let f : x.own.arrivals ≡ r.account.pause.phase = here in let h : y.own.arrivals ≡ x.own.arrivals = o.arrivals in omega arith) in
       let listeds : (z : DomainView) → Good k r.account s.words z → Listed live' t'.holder t'.garbage z.own.number z.own.ephemerons.items =
       (λ z h. listed_on r.account.live live' r.account.tenancy.holder t'.holder r.account.tenancy.garbage t'.garbage z.own.number z.own.ephemerons.items (λ q c e. sym (o.holders q) ∙ e) (λ q c e. o.holders q ∙ e) o.no_more
-      (λ a e. inl (ephe_more r.account.live live' o.more a e)) (λ a e. o.garbage a ∙ e) h.listed) in
+      (λ a e. inl (ephe_more r.account.live live' o.more a e)) (λ a e. o.garbage.same a ∙ e) h.listed) in
       let all' : Account = record r.account { live = live'; tenancy = t'; homes = homes' } in
       let c : Cycling = r.account.cycling in
+      let sweeps_then : (z : DomainView) → SweepsIn r.account.tenancy c z → SweepsIn t' c z =
+      (λ z. sweeps_on k r.account.live r.account.tenancy c s.words r.whole.cycle.leaves live' t' words' o.garbage r.whole.pools (λ q d b e. (o.pools.owned_by q d b e).2) c.kind c.shares.arrived z.own.number z.own.ephemerons.items z.own.swept z.seen.share.reaping) in
       let marked : Label → Bool = c.paint.marks.marked in
       let copies_now : c.kind ≡ Promote = kind_now k r.account.pause c x Promote promotes g.staged r.whole.cycle.told in
       let keeps : KeepsUnderway k now now r.account.live live' c c.past = (λ is u. record {
@@ -167,6 +174,7 @@ module _ (k : Config) (s : Words) (r : Rule k s) (id : ℕ) (hist : List Entry) 
         sharing = sharing_here k s r id hist x at Promote tt promotes all' words' c.past x.seen.share.weak y refl same o.number o.stage o.share
             (runs_as k live' t'.holder c.armed c.past marked words' x.own.number y.own.number x.seen.stage y.seen.stage x.seen.share y.seen.share o.number o.stage o.share (runs_here k s r id hist x at all' words' refl x (λ runs. absurd (not_run x g runs)) g));
         listed = listed_as live' t'.holder t'.garbage x.own.number y.own.number x.own.ephemerons.items y.own.ephemerons.items o.number o.ephemerons (listeds x g);
+        sweeps = subst (λ (z : ℕ × List ℕ × Swept × Share). Sweeps t'.holder t'.garbage c.kind c.shares.arrived z.0 z.1 z.2 z.3.reaping) (λ i. (sym o.number i, sym o.ephemerons i, sym o.swept i, sym o.share i)) (sweeps_then x g.sweeps);
       }
       (λ z _ other h. record {
         stood = record { wide = h.stood.wide; each = λ q few. stands_more r.account.live live' (value_at z.own.registers q) (register now z.own.number q) o.more (h.stood.each q few); serial = h.stood.serial; enrolled = enrolled_more r.account.live live' now z.own.number z.own.finalisers o.more h.stood.enrolled };
@@ -182,6 +190,7 @@ module _ (k : Config) (s : Words) (r : Rule k s) (id : ℕ) (hist : List Entry) 
         set_back = λ b. absurd (nobody_leads r.account.pause x z takes g.staged h.staged (subst IsLeading (sym b.0) tt));
         sharing = sharings_here k s r id hist x at Promote tt promotes all' words' c.past refl same z h (runs_here k s r id hist x at all' words' refl z (λ runs. absurd (not_run z h runs)) h);
         listed = listeds z h;
+        sweeps = sweeps_then z h.sweeps;
       })
 
   -- nothing lives elsewhere, and no word changes

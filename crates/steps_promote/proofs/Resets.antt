@@ -1,7 +1,7 @@
 -- In Reset a domain's minor area is free again.
 use Rattle.heap_rule.proofs.EphemeronLemmas.{found_value}
 use Rattle.heap_rule.proofs.Keeps.{whole_here}
-use Rattle.std.proofs.Common.{◌≡◌, ℕ, ◌+◌, ◌*◌, ◌<◌, ◌≤◌, List, [], set, slice_get, get_or, length, Some, None, Option, sym, refl, ap, ◌∙◌, inl, inr, ⊎_elim, subst, arith, length-set, IsTrue}
+use Rattle.std.proofs.Common.{◌≡◌, ◌≢◌, ℕ, ◌+◌, ◌*◌, ◌<◌, ◌≤◌, ◌⊎◌, List, [], set, slice_get, get_or, length, Some, None, Option, sym, refl, ap, ◌∙◌, inl, inr, ⊎_elim, subst, arith, length-set, IsTrue}
 use Rattle.std.proofs.lemmas.Int.{ints}
 use mathlib.Core.Option.{some}
 use lib.ListN.{get_elem?}
@@ -19,9 +19,9 @@ use Rattle.heap_rule.specs.declared.view.DomainView.{DomainView}
 use Rattle.heap_rule.specs.declared.phase.Kind.TheVariants.{Run, Reset, Promote}
 use Rattle.heap_rule.specs.declared.phase.Stage.{Stage}
 use Rattle.heap_rule.specs.declared.phase.Stage.TheVariants.{In}
-use Rattle.heap_rule.specs.Layout.{before_heap, base_of, at_address}
+use Rattle.heap_rule.specs.Layout.{before_heap, base_of, at_address, owner_of}
 use Rattle.heap_rule.specs.Places.{Debt, Place, Live, extent, values_of, HasValue, Stands, IsOldAt, IsOldWord, Settled, WordStands}
-use Rattle.heap_rule.specs.Pools.{Holder, nobody, drawn, owned, owner_word, place_in}
+use Rattle.heap_rule.specs.Pools.{Holder, nobody, drawn, owned, owner_word, blocks_of, place_in}
 use Rattle.heap_rule.specs.Phases.{Pause, AtStage, Staged, IsInPause}
 use Rattle.heap_rule.specs.Changes.{value_at}
 use Rattle.heap_rule.specs.Copies.{Promoting, Resetting, IsOldValue}
@@ -35,10 +35,11 @@ use Rattle.steps_promote.specs.Writes.{Resets}
 use Rattle.heap_rule.proofs.Again.{ends_low}
 use Rattle.heap_rule.proofs.Beside.{extent_of, found_beside, making_beside, area_word_far}
 use Rattle.heap_rule.proofs.Ends.{same_views}
+use Rattle.heap_rule.proofs.Garbage.{KeepsGarbage}
 use Rattle.heap_rule.proofs.Lists.{got_there}
 use Rattle.heap_rule.proofs.Values.{packable}
-use Rattle.heap_rule.proofs.Lots.{Beside, area_beside, grid_beside, hunter_beside}
-use Rattle.heap_rule.proofs.Keeps.{mine, my_good, control_set, controls_kept, hunter_as, more_same, writes, cycle_here, runs_here, sharing_here, sharings_here, cycle_control, Words, unmoved, no_garbage_here}
+use Rattle.heap_rule.proofs.Lots.{Beside, area_beside, garbage_beside, grid_beside, hunter_beside}
+use Rattle.heap_rule.proofs.Keeps.{mine, my_good, control_set, controls_kept, hunter_as, more_same, writes, cycle_here, runs_here, sharing_here, sharings_here, cycle_control, Words, unmoved, garbage_here}
 use Rattle.heap_rule.proofs.PauseFacts.{promote_rests, run_resetting}
 use Rattle.heap_rule.proofs.Sharings.{SameCycle}
 
@@ -73,6 +74,18 @@ owner_is (owned z b) d c few low e =
     let s : z ≡ d = omega arith in
     let t : b ≡ c = omega arith in λ i. owned (s i) (t i)
 
+-- at a place of an owned pool that isn't free a block lives in Reset, or garbage lies there
+place_holds : (k : Config) (s : Words) (r : Rule k s) (id : ℕ) (hist : List Entry) (x : DomainView) → get_elem? s.views id ≡ some (one k hist x) → x.seen.stage ≡ In Reset → (q d c slot : ℕ) → q < k.pools → c < class_count → owner_of k s.words q ≡ owner_word (owned d c) → slot < blocks_of c → at_address k s.words (place_in q c slot) ≢ 0
+    → ((p : Place) × (r.account.live (place_in q c slot) ≡ Some p)) ⊎ IsTrue (r.account.tenancy.garbage (place_in q c slot))
+place_holds k s r id hist x at resets q d c slot below few word inside taken =
+    let t = reset_now r.account.pause x resets (my_good k s r id hist x at).staged in
+    let holder = owner_is (r.account.tenancy.holder q) d c few (λ e b is. (r.whole.pools.owned_by q e b is).2) (sym (r.whole.pools.owners q below) ∙ word) in
+    ⊎_elim (λ (free : at_address k s.words (place_in q c slot) ≡ 0). absurd (taken free))
+    (λ z. ⊎_elim (λ (there : (p : Place) × (r.account.live (place_in q c slot) ≡ Some p)). inl there)
+    (λ y. ⊎_elim (λ (prepared : r.account.tenancy.prepared (place_in q c slot) ≡ Some d). absurd (promote_rests r.account.pause (r.whole.drawers.prepared (place_in q c slot) d prepared).1 t))
+    (λ (garbage : IsTrue (r.account.tenancy.garbage (place_in q c slot))). inr garbage) y) z)
+    (r.whole.grid.places q d c slot holder inside)
+
 -- in Reset no young block is left
 none_young : (k : Config) (s : Words) (r : Rule k s) (id : ℕ) (hist : List Entry) (x : DomainView) → get_elem? s.views id ≡ some (one k hist x) → x.seen.stage ≡ In Reset → NoneYoung k x s.words
 none_young k s r id hist x at resets =
@@ -102,13 +115,10 @@ none_young k s r id hist x at resets =
                 let w = value_there i v.0 v.1 in
                 subst (IsOldWord k) (sym w.packs) (old_word k w.value (packable k r.limits live r.whole.placed w.value v.0 w.stands) (all_old k live w.value v.0 pools w.stands));
           };
-      places = λ q d c slot below few word inside taken.
-          let holder = owner_is (r.account.tenancy.holder q) d c few (λ e b is. (r.whole.pools.owned_by q e b is).2) (sym (r.whole.pools.owners q below) ∙ word) in
-          ⊎_elim (λ (free : at_address k s.words (place_in q c slot) ≡ 0). absurd (taken free))
-          (λ z. ⊎_elim (λ (there : (p : Place) × (live (place_in q c slot) ≡ Some p)). there)
-          (λ y. ⊎_elim (λ (prepared : r.account.tenancy.prepared (place_in q c slot) ≡ Some d). absurd (promote_rests r.account.pause (r.whole.drawers.prepared (place_in q c slot) d prepared).1 t))
-          (λ (garbage : IsTrue (r.account.tenancy.garbage (place_in q c slot))). absurd (no_garbage_here k s r id hist x at Reset tt resets (place_in q c slot) garbage)) y) z)
-          (r.whole.grid.places q d c slot holder inside);
+      places = λ q d c slot below few word inside taken. ⊎_elim
+          (λ (there : (p : Place) × (live (place_in q c slot) ≡ Some p)). there)
+          (λ (garbage : IsTrue (r.account.tenancy.garbage (place_in q c slot))). ?)
+          (place_holds k s r id hist x at resets q d c slot below few word inside taken);
       stands = λ q few. subst (λ (log : List Entry). Stands live (value_at x.own.registers q) (register (state_of k log) x.own.number q)) front (g.stood.each q few);
       registers = (
         λ q few. all_old k live (value_at x.own.registers q) (register (state_of k r.account.log) x.own.number q) pools (g.stood.each q few),
@@ -139,6 +149,8 @@ reset_may k x word a new place may fits slots id hist s r _ at _ =
     let ws : List ℕ = set s.words (before_heap k + a) new in
     let y : DomainView = reset_view x in
     let beside : (d : ℕ) → Beside k r.account.tenancy s.words d a = area_beside k r.account.tenancy s.words a new r.whole.pools high in
+    let garbage : KeepsGarbage k r.account.live r.account.tenancy r.account.tenancy s.words ws =
+    garbage_here k s r id hist x at r.account.live ws r.whole.cycle.leaves.dead (garbage_beside k r.account.live r.account.tenancy r.account.cycling s.words r.whole.cycle.leaves a new r.whole.pools beside) in
     let same : SameCycle s.words ws = cycle_control k s.words ws (control_set k s.words a new (omega arith)) in
     let not_run : (z : DomainView) → Good k r.account s.words z → z.seen.stage ≡ In Run → ⊥ = (λ z h runs. run_resetting r.account.pause z runs h.staged (reset_now r.account.pause x may.stage g.staged)) in
     let rule : Rule k record { words = ws; homes = s.homes; views = set s.views id (one k hist y) } = writes k s r id hist x at y ws record {
@@ -167,9 +179,10 @@ reset_may k x word a new place may fits slots id hist s r _ at _ =
       grid = grid_beside k r.account.tenancy s.words a new r.account.live r.account.live r.whole.pools beside (more_same r.account.live) (λ b q h _. h) r.whole.grid;
       hunter = hunter_as k r.account.tenancy ws x y refl refl refl refl refl refl (hunter_beside k r.account.tenancy s.words a new r.whole.pools x (beside x.own.number) g.hunter);
       hunters = λ z _ h. hunter_beside k r.account.tenancy s.words a new r.whole.pools z (beside z.own.number) h.hunter;
-      cycle = cycle_here k s r id hist x at Reset tt may.stage (state_of k r.account.log) r.account.live r.account.tenancy r.account.cycling.past ws refl (λ _. refl) same (λ is u. u);
+      cycle = cycle_here k s r id hist x at Reset tt may.stage (state_of k r.account.log) r.account.live r.account.tenancy r.account.cycling.past ws refl garbage same (λ is u. u);
       sharing = sharing_here k s r id hist x at Reset tt may.stage r.account ws r.account.cycling.past x.seen.share.weak y refl same refl refl refl (runs_here k s r id hist x at r.account ws refl x (λ runs. absurd (not_run x g runs)) g);
       sharings = λ z _ h. sharings_here k s r id hist x at Reset tt may.stage r.account ws r.account.cycling.past refl same z h (runs_here k s r id hist x at r.account ws refl z (λ runs. absurd (not_run z h runs)) h);
+      sweeps = g.sweeps;
     } in (
       one k hist y,
       keeps,
@@ -183,6 +196,6 @@ pub reset_closes : (k : Config) (x : DomainView) (found a : ℕ) → ResetMay k 
 reset_closes k x found a may y fits told = let own = ap (λ (z : DomainView). z.own) told.view in record {
   can_write = tt;
   written = λ after wrote. own ∙ sym wrote;
-  fits = subst (λ (z : DomainView). OwnFits k z.own) (sym told.view) record { number = fits.number; used = omega arith; registers = fits.registers; looked = fits.looked; remembered = λ i b e. cc; prepared = fits.prepared; pending = fits.pending; ephemerons = fits.ephemerons; finalisers = fits.finalisers };
+  fits = subst (λ (z : DomainView). OwnFits k z.own) (sym told.view) record { number = fits.number; used = omega arith; registers = fits.registers; looked = fits.looked; remembered = λ i b e. cc; prepared = fits.prepared; pending = fits.pending; ephemerons = fits.ephemerons; finalisers = fits.finalisers; swept = fits.swept };
   once = λ runs. absurd (let e : ◌≡◌ {A = Stage} (In Reset) (In Run) = sym may.stage ∙ runs in cc);
 }

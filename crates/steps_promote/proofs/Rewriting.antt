@@ -26,7 +26,7 @@ use Rattle.steps_promote.specs.Promotion.{HasValueAt, recalling, RewriteMay, Rew
 use Rattle.heap_rule.proofs.Update.{over, over_here, over_else}
 use Rattle.heap_rule.proofs.Again.{Was}
 use Rattle.heap_rule.proofs.Beside.{found_beside, making_beside, live_word_far}
-use Rattle.heap_rule.proofs.Lots.{Beside, head_full, live_beside, grid_beside, hunter_beside}
+use Rattle.heap_rule.proofs.Lots.{Beside, garbage_beside, head_full, live_beside, grid_beside, hunter_beside}
 use Rattle.heap_rule.proofs.Keeps.{Words, my_good, more_same, stands_more, control_set}
 use Rattle.steps_promote.proofs.Places as places
 use Rattle.steps_promote.proofs.Places.{changes_again}
@@ -267,6 +267,7 @@ module _ (k : Config) (s : Words) (r : Rule k s) (id : ℕ) (hist : List Entry) 
         copies = copies2;
         cleared = cleared2;
         grid = grid_beside k r.account.tenancy s.words A new r.account.live r.account.live r.whole.pools beside (more_same r.account.live) (λ b q h _. h) r.whole.grid;
+        heads = garbage_beside k r.account.live r.account.tenancy r.account.cycling s.words r.whole.cycle.leaves A new r.whole.pools beside;
         makings = makings2;
         hunters = λ z h. hunter_beside k r.account.tenancy s.words A new r.whole.pools z (beside z.own.number) h;
         owes = owes2 x g.owes may.rest rest_has (λ j where_is got. g.owes.fields (suc j) where_is (ap (λ (l : List ℕ). slice_get l (suc j)) may.first ∙ got));
