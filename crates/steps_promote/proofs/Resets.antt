@@ -115,10 +115,12 @@ none_young k s r id hist x at resets =
                 let w = value_there i v.0 v.1 in
                 subst (IsOldWord k) (sym w.packs) (old_word k w.value (packable k r.limits live r.whole.placed w.value v.0 w.stands) (all_old k live w.value v.0 pools w.stands));
           };
-      places = λ q d c slot below few word inside taken. ⊎_elim
-          (λ (there : (p : Place) × (live (place_in q c slot) ≡ Some p)). there)
-          (λ (garbage : IsTrue (r.account.tenancy.garbage (place_in q c slot))). ?)
-          (place_holds k s r id hist x at resets q d c slot below few word inside taken);
+      paint = r.account.cycling.paint;
+      colours_are = r.whole.cycle.colours_are;
+      garbage = r.account.tenancy.garbage;
+      dead = r.whole.cycle.leaves.dead;
+      heads = r.whole.cycle.leaves.head;
+      places = place_holds k s r id hist x at resets;
       stands = λ q few. subst (λ (log : List Entry). Stands live (value_at x.own.registers q) (register (state_of k log) x.own.number q)) front (g.stood.each q few);
       registers = (
         λ q few. all_old k live (value_at x.own.registers q) (register (state_of k r.account.log) x.own.number q) pools (g.stood.each q few),

@@ -1,5 +1,5 @@
 -- What the steps ask and tell by which young blocks are copied: loads at which blocks are met, stores to copies, and the roots ("Retrofitting Parallelism onto OCaml", section 3.2).
-use Rattle.std.specs.Prelude.{◌≡◌, ℕ, zero, suc, ◌+◌, ◌*◌, ◌<◌, ◌≤◌, ◌⊎◌, Bool, false, List, [], ◌∷◌, length, slice_get, slice_set, Some, ◌≢◌}
+use Rattle.std.specs.Prelude.{◌≡◌, ℕ, zero, suc, ◌+◌, ◌*◌, ◌<◌, ◌≤◌, ◌⊎◌, Bool, false, IsTrue, List, [], ◌∷◌, length, slice_get, slice_set, Some, None, ◌≢◌}
 use Rattle.heap_model.specs.declared.label.Label.{Label}
 use Rattle.heap_model.specs.declared.graph.Value as model
 use Rattle.heap_model.specs.declared.graph.Node.{Node}
@@ -27,8 +27,10 @@ use Rattle.heap_rule.specs.declared.view.Waiting.{Waiting}
 use Rattle.heap_rule.specs.declared.view.Waiting.TheVariants.{Fin, Last as LastWaiting}
 use Rattle.heap_rule.specs.declared.phase.Kind.TheVariants.{Promote, Reset}
 use Rattle.heap_rule.specs.declared.phase.Stage.TheVariants.{In}
-use Rattle.heap_rule.specs.Layout.{base_of, at_address, owner_of}
-use Rattle.heap_rule.specs.Places.{Place, Live, extent, values_of, IsHeadOf, IsNewHead, IsPackableShape, IsBuilt, Fits, Stands, IsOldAt, IsOldWord, Lasts, More, WordStands}
+use Rattle.heap_words.specs.ColourWords.{colours_word}
+use Rattle.heap_rule.specs.Cycles.{IsGarbageHead}
+use Rattle.heap_rule.specs.Layout.{base_of, at_address, colours, owner_of}
+use Rattle.heap_rule.specs.Places.{Paint, Place, Live, extent, values_of, IsHeadOf, IsNewHead, IsPackableShape, IsBuilt, Fits, Stands, IsOldAt, IsOldWord, Lasts, More, WordStands}
 use Rattle.heap_rule.specs.Changes.{value_at}
 use Rattle.heap_rule.specs.Pools.{owned, owner_word, blocks_of, place_in}
 use Rattle.heap_rule.specs.Copies.{HasCopy, HoldsOld, known}
@@ -301,12 +303,18 @@ pub record HasNode (k : Config) (live : Live) (graph : Graph) (words : List ℕ)
   pub values : (i : ℕ) (v : model.Value) → slice_get (values_of node) i ≡ Some v → WordStands live (at_address k words (a + 2 + i)) v
   pub old : (i : ℕ) → i + 2 < extent p.shape → IsOldWord k (at_address k words (a + 2 + i))
 
--- No young block is left. Each block that lives at an address lies in a pool, and is a node of the graph after the domain's front, which is the whole history then. At each place of a pool that a domain owns a block lives, or the head says Free. What the domain's registers lead to lives, and no field of a block, no register and no list of finalisers of the domain has an address of a minor area
+-- No young block is left. Each block that lives at an address lies in a pool, and is a node of the graph after the domain's front, which is the whole history then. At each place of a pool that a domain owns a block lives, or the head says Free, or garbage of the last collection lies there, of which the head has the colour that the colours word names. What the domain's registers lead to lives, and no field of a block, no register and no list of finalisers of the domain has an address of a minor area
 pub record NoneYoung (k : Config) (x : DomainView) (words : List ℕ) : Type 0 where
   pub live : Live
   pub pools : (a : ℕ) (p : Place) → live a ≡ Some p → IsOldAt k a
   pub nodes : (a : ℕ) (p : Place) → live a ≡ Some p → HasNode k live (state_of k x.seen.front).graph words a p
-  pub places : (pool d class slot : ℕ) → pool < k.pools → class < class_count → owner_of k words pool ≡ owner_word (owned d class) → slot < blocks_of class → at_address k words (place_in pool class slot) ≢ 0 → (p : Place) × (live (place_in pool class slot) ≡ Some p)
+  pub paint : Paint
+  pub colours_are : colours words ≡ colours_word paint.colours
+  pub garbage : ℕ → Bool
+  pub dead : (a : ℕ) → IsTrue (garbage a) → live a ≡ None
+  pub heads : (a : ℕ) → IsTrue (garbage a) → IsGarbageHead paint (at_address k words a)
+  pub places : (pool d class slot : ℕ) → pool < k.pools → class < class_count → owner_of k words pool ≡ owner_word (owned d class) → slot < blocks_of class → at_address k words (place_in pool class slot) ≢ 0
+      → ((p : Place) × (live (place_in pool class slot) ≡ Some p)) ⊎ IsTrue (garbage (place_in pool class slot))
   pub stands : (r : ℕ) → r < 16 → Stands live (value_at x.own.registers r) (register (state_of k x.seen.front) x.own.number r)
   pub registers : HoldsOld k x
 
