@@ -1,99 +1,218 @@
--- A look at the head of an own place in Sweep keeps the rule.
-use Rattle.std.proofs.Common.{◌≡◌, ℕ, ◌==◌, ◌||◌, Bool, true, false, IsTrue, List, get_or, set, Some, None, Option, sym, refl, ap, ◌∙◌, subst, inl, inr, ⊎_elim, ◌+◌}
+-- A step by which a domain gets further in sweeping its own pools, and frees nothing, keeps the rule.
+use Rattle.std.proofs.Common.{◌≡◌, ◌≢◌, ℕ, ◌+◌, ◌<◌, ◌≤◌, ◌⊎◌, Bool, true, false, true≢false, IsTrue, List, ◌∷◌, get_or, set, Some, Option, sym, refl, ap, ◌∙◌, subst, inl, inr, ⊎_elim, arith, lt_of_not-le}
+use Rattle.std.proofs.lemmas.Bool.{cases_Bool}
+use mathlib.Core.Logic.{dite}
+use native.Mathlib.Decide.{ℕ_discrete, dec_le}
 use mathlib.Core.Option.{some}
 use lib.ListN.{get_elem?}
 use Rattle.atomic_table.specs.Table.{keeps}
 use Rattle.heap_model.specs.declared.entry.Entry.{Entry}
-use Rattle.cycle_laws.proofs.Sweep.{sweep_law}
+use Rattle.heap_model.specs.declared.state.State as model
+use Rattle.heap_model.specs.Domains.{class_count}
 use Rattle.heap_rule.specs.declared.config.Config.{Config}
-use Rattle.heap_rule.specs.declared.phase.Kind.{Kind}
-use Rattle.heap_rule.specs.declared.phase.Kind.TheVariants.{Sweep}
+use Rattle.heap_rule.specs.declared.phase.Kind.TheVariants.{Lasts}
 use Rattle.heap_rule.specs.declared.view.DomainView.{DomainView}
-use Rattle.heap_rule.specs.declared.view.FoundHead.{FoundHead}
+use Rattle.heap_rule.specs.declared.view.Own.{Own}
+use Rattle.heap_rule.specs.declared.view.Reaping.{Reaping}
+use Rattle.heap_rule.specs.declared.view.Reaping.TheVariants.{Inside, AtGarbage}
 use Rattle.heap_rule.specs.declared.view.Share.{Share}
-use Rattle.heap_rule.specs.Cycles.{Facts, Knowing, Sweeping, owner_at}
-use Rattle.heap_rule.specs.Layout.{at_address, before_heap}
-use Rattle.heap_rule.specs.Places.{Place}
-use Rattle.heap_rule.specs.Raw.{CanLeave, Closes, Leaves, MayStep}
-use Rattle.heap_rule.specs.Rule.{Rule, state_of}
+use Rattle.heap_rule.specs.declared.view.Spot.{Spot}
+use Rattle.heap_rule.specs.declared.view.Swept.{Swept}
+use Rattle.heap_rule.specs.Cycles.{IsCollecting, IsIdle, Knowing}
+use Rattle.heap_rule.specs.Layout.{at_address, before_heap, owner_of}
+use Rattle.heap_rule.specs.Pools.{Holder, IsBefore, blocks_of, owned, owner_word, place_in}
+use Rattle.heap_rule.specs.Raw.{Closes, MayStep}
+use Rattle.heap_rule.specs.Rule.{Rule, Sharing, state_of}
+use Rattle.heap_rule.specs.Sweeping.{SweepsIn, nothing_swept}
+use Rattle.heap_rule.specs.Token.{OwnFits}
 use Rattle.heap_rule.specs.Views.{one}
-use Rattle.heap_rule.proofs.Controls.{untouched_same}
-use Rattle.heap_rule.proofs.Keeps.{Words, my_good, unmoved}
+use Rattle.heap_rule.proofs.Closes.{front_same}
+use Rattle.heap_rule.proofs.Holders.{hunter_as}
+use Rattle.heap_rule.proofs.Keeps.{Words, control_same, controls_kept, mine, my_good, unmoved, writes}
+use Rattle.heap_rule.proofs.Lots.{none_before}
+use Rattle.heap_rule.proofs.OwnPlaces.{owned_same}
 use Rattle.steps_cycle.specs.Looks.{with_share}
-use Rattle.std.proofs.lemmas.Bool.{cases_Bool}
-use Rattle.steps_cycle.proofs.Plain.{share_closes}
-use Rattle.steps_cycle.proofs.Learning.{at_other, at_same, held, knows_more, known, looks_same, shifts_more}
-use Rattle.steps_sweep.specs.Freeing.{SweepMay, SweepTold, passed}
-use Rattle.steps_sweep.proofs.Swept.{clean_head, collecting, colour_of_dead, facts, kind_is, seen', swept_on, walked}
-use Rattle.std.proofs.lemmas.Option.{same_Some}
-use Rattle.heap_rule.proofs.Stages.{waits_in}
+use Rattle.steps_cycle.specs.Marking.{behind}
+use Rattle.steps_cycle.proofs.Layouts.{whose}
+use Rattle.steps_cycle.proofs.WalkSteps.{before_behind}
+use Rattle.steps_sweep.specs.Freeing.{AnewMay, AnewTold, CanSweep, CanSweepOwn, IsAmong, IsColoured, SweepMay, SweepOwnMay, SweepOwnTold, SweepTold, SweepsOwn, SweepsPlace, passed, sweeping_from, unswept}
+use Rattle.steps_sweep.proofs.Finding.{clean_place, colour_of_dead}
 
-module _ (k : Config) (s : Words) (r : Rule k s) (id : ℕ) (hist : List Entry) (x : DomainView) (at : get_elem? s.views id ≡ some (one k hist x)) (a pool class slot : ℕ) (may : SweepMay x a pool class slot) where
-  abbrev sh : Share
-  sh = x.seen.share
+-- the domain with another share of its sweeping
+abbrev pub sweeping_on : Share → Reaping → List Spot → Share
+sweeping_on share reaping places = record share { reaping = reaping; swept = places }
+
+module _ (k : Config) (s : Words) (r : Rule k s) (id : ℕ) (hist : List Entry) (x : DomainView) (at : get_elem? s.views id ≡ some (one k hist x)) where
+  abbrev now : model.State
+  now = state_of k r.account.log
+
+  abbrev holder : ℕ → Holder
+  holder = r.account.tenancy.holder
+
+  abbrev garbage : ℕ → Bool
+  garbage = r.account.tenancy.garbage
 
   abbrev d : ℕ
   d = x.own.number
 
-  abbrev found : ℕ
-  found = at_address k s.words a
-
-  abbrev seen1 : ℕ → ℕ → Bool
-  seen1 = seen' k s r id hist x at a pool class slot may
+  abbrev sh : Share
+  sh = x.seen.share
 
   abbrev After : DomainView → Type 0
   After y = Rule k record { words = s.words; homes = s.homes; views = set s.views id (one k hist y) }
 
-  kn : Knowing k r.account.live r.account.tenancy.holder (state_of k r.account.log).graph r.account.cycling.paint.marks s.words d x.own.registers sh
-  kn = known k s r id hist x at
-
-  -- no garbage is there
-  passes : r.account.tenancy.garbage a ≡ false → After (with_share x (passed a pool class slot sh))
-  passes clean =
-      let c = r.account.cycling in
-      let t = (my_good k s r id hist x at).sharing.telling in
-      let waits : c.shares.arrived d ≡ false = waits_in k s r id hist x at Sweep may.stage in
-      let f = facts k s r id hist x at a pool class slot may in
-      let later : Sweeping k (state_of k r.account.log) r.account.live r.account.tenancy (record c { shares = record c.shares { seen = seen1 } }) s.words = record {
-        mode = f.mode;
-        swept = swept_on k (state_of k r.account.log) r.account.live r.account.tenancy.holder c (record c.shares { seen = seen1 }) s.words s.words refl refl refl f.swept;
-        sweep = sweep_law.looks k.domains (owner_at r.account.tenancy.holder) r.account.tenancy.garbage c.shares.seen c.shares.arrived f.sweep d a clean;
-        all_counted = f.all_counted;
-      } in
-      shifts_more k s r id hist x at (collecting k s r id hist x at a pool class slot may) c.shares.changed c.shares.owes seen1 (held (passed a pool class slot sh)) s.words (untouched_same s.words) refl refl refl r.whole.cycle.changed_is
-      (subst (λ (kind : Kind). Facts kind k (state_of k r.account.log) r.account.live r.account.tenancy (record c { shares = record c.shares { seen = seen1 } }) s.words) (sym (kind_is k s r id hist x at a pool class slot may)) later)
-      (λ z other. (refl, at_other c.shares.seen d (λ b. b == a || c.shares.seen d b) z other))
-      (t.owes waits)
-      (at_same c.shares.seen d (λ b. b == a || c.shares.seen d b) ∙ ap (λ (g : ℕ → Bool). λ (b : ℕ). b == a || g b) (t.seen waits))
-      record { found_head = kn.found_head; scan = kn.scan; walked = walked k s r id hist x at a pool class slot may; own_pool = kn.own_pool; rooted = kn.rooted; marked = kn.marked; looking = looks_same k s r id hist x at (collecting k s r id hist x at a pool class slot may) (held (passed a pool class slot sh)) refl refl }
-      refl
-
-  abbrev head_found : Share
-  head_found = record sh { found_head = Some (record { address = a; word = found }) }
-
-  finds : IsTrue (r.account.tenancy.garbage a) → After (with_share x head_found)
-  finds is = knows_more k s r id hist x at (collecting k s r id hist x at a pool class slot may) (held head_found) refl refl record {
-    found_head = λ g p e lives.
-        let same : record { address = a; word = found } ≡ g = same_Some (record { address = a; word = found }) g e in
-        absurd (let clash : ◌≡◌ {A = Option Place} None (Some p) = sym (r.whole.cycle.leaves.dead a is) ∙ (ap (λ (z : FoundHead). r.account.live z.address) same ∙ lives) in cc);
-    scan = kn.scan;
-    walked = kn.walked;
-    own_pool = kn.own_pool;
-    rooted = kn.rooted;
-    marked = kn.marked;
-    looking = looks_same k s r id hist x at (collecting k s r id hist x at a pool class slot may) (held head_found) refl refl;
+  -- what else it knows of the phase stays
+  sharing_on : (reaping : Reaping) (places : List Spot) → Sharing k r.account s.words d x.own.registers x.own.finalisers x.own.ephemerons.items x.seen.stage (sweeping_on sh reaping places)
+  sharing_on reaping places = let g = (my_good k s r id hist x at).sharing in record {
+    telling = record { owes = g.telling.owes; seen = g.telling.seen; fresh = λ up. ap (λ (z : Share). sweeping_on z reaping places) (g.telling.fresh up); forgotten = g.telling.forgotten; colours = g.telling.colours };
+    leading = record { changed = g.leading.changed; found_blocks = g.leading.found_blocks; found_words = g.leading.found_words; rotated = g.leading.rotated; turned = g.leading.turned; pass = g.leading.pass; whole = g.leading.whole; armed = g.leading.armed; unswept = g.leading.unswept };
+    knows = ⊎_elim
+        (λ (idle : IsIdle sh). inl (ap (λ (z : Share). sweeping_on z reaping places) idle))
+        (λ (n : IsCollecting x.seen.stage × Knowing k r.account.live holder now.graph r.account.cycling.paint.marks s.words d x.own.registers sh). let kn = n.1 in let m = kn.counted in inr (
+          n.0,
+          record { found_head = kn.found_head; scan = kn.scan; walked = kn.walked; own_pool = kn.own_pool; rooted = kn.rooted; marked = kn.marked; counted = record { once = m.once; own = m.own; lives = m.lives; all = m.all; words = m.words }; held = kn.held; vacant = kn.vacant },
+        ))
+        g.knows;
+    adds = record { blocks = g.adds.blocks; words = g.adds.words; own = g.adds.own };
+    looks = record { at_own = g.looks.at_own; cleans = g.looks.cleans; emptied_is = g.looks.emptied_is };
+    running = record { knows = g.running.knows; owes = g.running.owes };
+    deciding = g.deciding;
   }
 
-  pub sweeps : (y : DomainView) × After y × SweepTold a pool class slot x found y
-  sweeps = ⊎_elim
-      (λ (is : r.account.tenancy.garbage a ≡ true). (with_share x head_found, finds is, record { colours = may.colours; known = may.known; told = inr (colour_of_dead k s r id hist x at may.stage may.colours may.known a is, refl) }))
-      (λ (clean : r.account.tenancy.garbage a ≡ false). (with_share x (passed a pool class slot sh), passes clean, record { colours = may.colours; known = may.known; told = inl (clean_head k s r id hist x at a pool class slot may clean, refl) }))
-      (cases_Bool (r.account.tenancy.garbage a))
+  -- a step after which the domain has swept so far
+  pub sweeps_rule : (swept : Swept) (reaping : Reaping) (places : List Spot) → let y : DomainView = record { own = record x.own { swept = swept }; seen = record x.seen { share = sweeping_on sh reaping places } } in SweepsIn r.account.tenancy r.account.cycling y → After y
+  sweeps_rule swept reaping places sweeps =
+      let g = my_good k s r id hist x at in
+      let y : DomainView = record { own = record x.own { swept = swept }; seen = record x.seen { share = sweeping_on sh reaping places } } in writes k s r id hist x at y s.words record {
+        number = refl;
+        hunt = refl;
+        free = refl;
+        listing = refl;
+        front = (mine k s r id hist x at).front;
+        still = g.still;
+        stage = refl;
+        notes = refl;
+        copying = refl;
+        remembered = refl;
+        registers = refl;
+        arrivals = refl;
+        ephemerons = refl;
+        finalisers = refl;
+        wide = refl;
+        controls = controls_kept k s r id hist x at s.words (control_same k s.words);
+        found = r.whole.found;
+        stood = record { wide = g.stood.wide; each = g.stood.each; serial = g.stood.serial; enrolled = g.stood.enrolled };
+        area = record { room = g.area.room; free = g.area.free; classes = g.area.classes };
+        making = record { fits = g.making.fits; written = g.making.written };
+        makings = λ z _ _ p. p;
+        grid = r.whole.grid;
+        hunter = hunter_as k r.account.tenancy s.words x y refl refl refl refl refl refl g.hunter;
+        hunters = λ z _ h. h.hunter;
+        cycle = r.whole.cycle;
+        sharing = sharing_on reaping places;
+        sharings = λ z _ h. h.sharing;
+        sweeps = sweeps;
+      }
 
-pub sweep_may : (k : Config) (x : DomainView) (word a pool class slot : ℕ) → word ≡ before_heap k + a → SweepMay x a pool class slot → MayStep k x word (λ n. n) (SweepTold a pool class slot)
-sweep_may k x word a pool class slot place may fits slots id hist s r _ at _ =
-    let o = sweeps k s r id hist x at a pool class slot may in
-    (one k hist o.0, keeps, tt, unmoved k s word (set s.views id (one k hist o.0)) o.1, (subst (λ (n : ℕ). SweepTold a pool class slot x (get_or s.words n 0) o.0) (sym place) o.2, refl))
+  -- in Lasts it is to sweep everything
+  pub anew_rule : After (record x { own = unswept x.own })
+  anew_rule = let w = (my_good k s r id hist x at).sweeps in sweeps_rule nothing_swept sh.reaping sh.swept record {
+    listed = λ i a low got. absurd (let l : i < 0 = low in omega arith);
+    places = λ q c slot is inside before. absurd (none_before q slot before);
+    anew = λ _ _. refl;
+    reaps = w.reaps;
+  }
 
-pub sweep_closes : (k : Config) (x : DomainView) (found a pool class slot : ℕ) → Closes k x found (SweepTold a pool class slot) CanLeave Leaves
-sweep_closes k x found a pool class slot = share_closes k x found (SweepTold a pool class slot) (λ y t. ⊎_elim (λ u. (passed a pool class slot x.seen.share, u.1)) (λ u. (record x.seen.share { found_head = Some (record { address = a; word = found }) }, u.1)) t.told)
+  -- a domain that acts hasn't arrived
+  not_up : (arrived : ℕ → Bool) → arrived d ≡ false → arrived d ≡ true → ⊥
+  not_up arrived waits up = true≢false (sym up ∙ waits)
+
+  -- the owner of the next pool
+  module _ (waits : r.account.cycling.shares.arrived d ≡ false) (word pool : ℕ) (may : SweepOwnMay k x word pool) where
+    abbrev owner : ℕ
+    owner = owner_of k s.words pool
+
+    abbrev slot : ℕ
+    slot = x.own.swept.spot.slot
+
+    -- no place is left in the pool
+    passes : ((class : ℕ) → holder pool ≡ owned d class → slot < blocks_of class → ⊥) → After (record x { own = sweeping_from x.own (record { pool = pool + 1; slot = 0 }) })
+    passes none = let w = (my_good k s r id hist x at).sweeps in sweeps_rule (record x.own.swept { spot = record { pool = pool + 1; slot = 0 } }) sh.reaping sh.swept record {
+      listed = w.listed;
+      places = λ q c i is inside before. w.places q c i is inside (⊎_elim
+          (λ (h : q < pool + 1). dite (ℕ_discrete q pool)
+          (λ same. inr (same ∙ sym may.next, dite (dec_le (blocks_of c) slot)
+          (λ far. let b : ℕ = blocks_of c in let n : ℕ = slot in let f : b ≤ n = far in let l : i < b = inside in let g : i < n = omega arith in g)
+          (λ near. absurd (none c (ap holder (sym same) ∙ is) (lt_of_not-le near)))))
+          (λ other. inl (let p : ℕ = x.own.swept.spot.pool in let e : p ≡ pool = may.next in let n : q ≢ pool = other in let l : q < pool + 1 = h in let g : q < p = omega arith in g)))
+          (λ (h : (q ≡ pool + 1) × (i < 0)). absurd (let l = h.1 in omega arith))
+          before);
+      anew = λ _ up. absurd (not_up r.account.cycling.shares.arrived waits up);
+      reaps = w.reaps;
+    }
+
+    enters : (class : ℕ) → holder pool ≡ owned d class → After (with_share x (record sh { reaping = Inside pool class }))
+    enters class is = let w = (my_good k s r id hist x at).sweeps in sweeps_rule x.own.swept (Inside pool class) sh.swept record { listed = w.listed; places = w.places; anew = w.anew; reaps = is }
+
+    pub owner_swept : (y : DomainView) × After y × SweepOwnTold pool x owner y
+    owner_swept = ⊎_elim
+        (λ u. dite (dec_le (blocks_of u.0) slot)
+        (λ far. (
+          record x { own = sweeping_from x.own (record { pool = pool + 1; slot = 0 }) },
+          passes (λ c is low. too_far u.0 c u.1 is far low),
+          record { told = inr (λ c among. too_far u.0 c u.1 (own_again u.0 c u.1 u.3 among.1) far among.2, refl) },
+        ))
+        (λ near. (with_share x (record sh { reaping = Inside pool u.0 }), enters u.0 u.1, record { told = inl (u.0, (u.2, u.3, lt_of_not-le near), refl) })))
+        (λ u. (record x { own = sweeping_from x.own (record { pool = pool + 1; slot = 0 }) }, passes (λ c is low. u.0 c is), record { told = inr (λ c among. u.1 c among.0 among.1, refl) }))
+        (whose k s r d pool may.inside (holder pool) refl)
+      where
+        too_far : (b c : ℕ) → holder pool ≡ owned d b → holder pool ≡ owned d c → blocks_of b ≤ slot → slot < blocks_of c → ⊥
+        too_far b c one other far low =
+            let same : b ≡ c = (owned_same d d b c (sym one ∙ other)).1 in
+            let n : ℕ = blocks_of b in let m : ℕ = blocks_of c in let e : n ≡ m = ap blocks_of same in let f : n ≤ slot = far in let l : slot < m = low in omega arith
+
+        own_again : (b c : ℕ) → holder pool ≡ owned d b → owner ≡ owner_word (owned d b) → owner ≡ owner_word (owned d c) → holder pool ≡ owned d c
+        own_again b c one is other = let w : ℕ = owner in let f : w ≡ 16 * d + b + 1 = is in let g : w ≡ 16 * d + c + 1 = other in let same : b ≡ c = omega arith in one ∙ ap (owned d) same
+
+  -- the head at the next place
+  module _ (waits : r.account.cycling.shares.arrived d ≡ false) (a pool class slot colour : ℕ) (may : SweepMay x a pool class slot colour) where
+    abbrev found : ℕ
+    found = at_address k s.words a
+
+    own : holder pool ≡ owned d class
+    own = subst (λ (z : Reaping). Reaps holder garbage d z) may.own (my_good k s r id hist x at).sweeps.reaps
+
+    -- no garbage is there
+    goes_on : garbage a ≡ false → After (passed pool class slot x)
+    goes_on clean = let w = (my_good k s r id hist x at).sweeps in sweeps_rule (record x.own.swept { spot = behind pool class slot }) (Inside pool class) (record { pool = pool; slot = slot } ∷ sh.swept) record {
+      listed = w.listed;
+      places = λ q c i is inside before.
+          let class_is : q ≡ pool → c ≡ class = (λ same. (owned_same d d c class (sym is ∙ (ap holder same ∙ own))).1) in ⊎_elim
+          (λ (h : (q ≡ pool) × (i ≡ slot)). ap (λ (z : ℕ × ℕ × ℕ). garbage (place_in z.0 z.1 z.2)) (λ j. (h.0 j, class_is h.0 j, h.1 j)) ∙ (ap garbage (sym may.word) ∙ clean))
+          (λ (h : IsBefore q i (record { pool = pool; slot = slot })). w.places q c i is inside (subst (IsBefore q i) (sym may.next) h))
+          (before_behind pool class slot q i (λ same. subst (λ (z : ℕ). i < blocks_of z) (class_is same) inside) before);
+      anew = λ _ up. absurd (not_up r.account.cycling.shares.arrived waits up);
+      reaps = own;
+    }
+
+    finds : IsTrue (garbage a) → After (with_share x (record sh { reaping = AtGarbage pool class slot }))
+    finds is = let w = (my_good k s r id hist x at).sweeps in sweeps_rule x.own.swept (AtGarbage pool class slot) sh.swept record { listed = w.listed; places = w.places; anew = w.anew; reaps = (own, may.inside, ap garbage (sym may.word) ∙ is) }
+
+    pub head_swept : (y : DomainView) × After y × SweepTold pool class slot colour x found y
+    head_swept = ⊎_elim
+        (λ (is : IsTrue (garbage a)). (
+          with_share x (record sh { reaping = AtGarbage pool class slot }),
+          finds is,
+          record { told = inr (subst (λ (n : ℕ). IsColoured n found) (sym may.means) (colour_of_dead k s r id hist x at may.stage may.colours may.known a is), refl) },
+        ))
+        (λ (clean : garbage a ≡ false). (
+          passed pool class slot x,
+          goes_on clean,
+          record {
+            told = inl (
+              λ dead. clean_place k s r id hist x at may.stage may.colours may.known pool class slot own may.inside (ap garbage (sym may.word) ∙ clean) (subst (λ (z : ℕ × ℕ). IsColoured z.0 (at_address k s.words z.1)) (λ i. (may.means i, may.word i)) dead),
+              refl,
+            );
+          },
+        ))
+        (cases_Bool (garbage a))
