@@ -1,12 +1,11 @@
 -- A step of a running domain that changes what it knows beside a cycle, what is marked, and no more.
-use Rattle.std.proofs.Common.{◌≡◌, ◌≢◌, ℕ, ◌≤◌, ◌⊎◌, Bool, true, false, IsTrue, List, [], ◌∷◌, length, get_or, set, Option, Some, None, sym, refl, ap, ◌∙◌, subst, inl, inr, ⊎_elim}
+use Rattle.std.proofs.Common.{◌≡◌, ◌≢◌, ℕ, true, false, true≢false, IsTrue, List, [], ◌∷◌, length, set, Option, Some, sym, refl, ap, ◌∙◌, subst, inl, inr, ⊎_elim}
 use mathlib.Core.Option.{some}
 use lib.ListN.{get_elem?}
 use Rattle.heap_model.specs.declared.entry.Entry.{Entry}
 use Rattle.heap_model.specs.declared.label.Label.{Label}
 use Rattle.heap_model.specs.declared.state.State as model
-use Rattle.heap_model.specs.Graph.{Graph}
-use Rattle.cycle_laws.specs.Beside.{Past, IsBeside}
+use Rattle.cycle_laws.specs.Beside.{Past}
 use Rattle.cycle_laws.specs.Marks.{Marks}
 use Rattle.heap_rule.specs.declared.config.Config.{Config}
 use Rattle.heap_rule.specs.declared.phase.Kind.TheVariants.{Run}
@@ -14,20 +13,20 @@ use Rattle.heap_rule.specs.declared.phase.Stage.TheVariants.{In}
 use Rattle.heap_rule.specs.declared.view.DomainView.{DomainView}
 use Rattle.heap_rule.specs.declared.view.Known.{Known}
 use Rattle.heap_rule.specs.declared.view.Share.{Share}
-use Rattle.heap_rule.specs.Beside.{AllKnown, IsUnaware, RunsBeside, Underway, is_weak}
+use Rattle.heap_rule.specs.Beside.{AllKnown, IsUnaware, Underway, is_weak}
 use Rattle.heap_rule.specs.Cycles.{Cycling, Cycled, HasNoCycle, IsIdle, Leading}
-use Rattle.heap_rule.specs.Layout.{before_heap, at_address}
-use Rattle.heap_rule.specs.Places.{Live, Paint}
+use Rattle.heap_rule.specs.Places.{Live}
 use Rattle.heap_rule.specs.Pools.{Grid, Holder, Hunter}
 use Rattle.heap_rule.specs.Rule.{Account, AllFound, Area, Good, Making, Rule, Sharing, state_of}
 use Rattle.heap_rule.specs.Views.{one}
-use Rattle.heap_rule.proofs.Advancing.{kind_runs, underway_here}
+use Rattle.heap_rule.proofs.Advancing.{underway_here}
 use Rattle.heap_rule.proofs.BesideLemmas.{Endures, runs_on}
 use Rattle.heap_rule.proofs.EphemeronLemmas.{looks_idle}
 use Rattle.heap_rule.proofs.FinaliserLemmas.{deciding_none}
 use Rattle.heap_rule.proofs.Keeps.{Words, between_here, controls_kept, Control, cycle_control, hunter_as, idle_here, knows_front, mine, my_good, no_cycle_here, opened_words, owes_as, remakes, resting_as, resting_lists, room_words, whole_here}
 use Rattle.heap_rule.proofs.Sharings.{SameCycle, adds_nothing, between_facts, idle_beside, leading_words}
 use Rattle.steps_cycle.specs.Looks.{with_share}
+use Rattle.steps_cycle.proofs.Unswept.{swept_armed}
 
 -- what a running domain knows and owes changes
 abbrev pub aware : Share → List Known → Option ℕ → Share
@@ -54,6 +53,10 @@ module _ (k : Config) (s : Words) (r : Rule k s) (id : ℕ) (hist : List Entry) 
 
   pub under : Underway k now live c.kind c.past c.paint.marks c.shares
   under = underway_here k s r id hist x at runs is_armed
+
+  -- garbage of the last collection isn't left then
+  pub no_garbage : (a : ℕ) → r.account.tenancy.garbage a ≡ false
+  no_garbage = let w = r.whole.cycle in w.leaves.none (between_here k s r id hist x at Run tt runs).unrotated (swept_armed k now live r.account.pause r.account.tenancy c s.words w is_armed)
 
   -- all that it knew holds
   pub all_known : AllKnown k live holder c.past.old c.paint.marks.marked s.words sh.known
@@ -100,17 +103,17 @@ module _ (k : Config) (s : Words) (r : Rule k s) (id : ℕ) (hist : List Entry) 
     unmissed = whole_here k s r id hist x at Run tt runs
 
     cycle' : Cycled k now live r.account.pause r.account.tenancy c' words'
-    cycle' = let w = r.whole.cycle in let b = between_here k s r id hist x at Run tt runs in
-        let no_garbage : (a : ℕ) → IsTrue (r.account.tenancy.garbage a) → ⊥ = (λ a is. let e : false ≡ true = sym (w.leaves.none b.unrotated a) ∙ is in cc) in record {
-          armed_is = same.armed_same ∙ w.armed_is;
-          meanings = w.meanings;
-          colours_are = same.colours_same ∙ w.colours_are;
-          changed_is = same.changed_same ∙ w.changed_is;
-          facts = between_facts c.kind k now live r.account.tenancy c' words' none record { mode = b.mode; unmarked = λ low. absurd (let e : false ≡ true = sym low ∙ is_armed in cc); beside = λ _. o.underway; unchanged = b.unchanged; unrotated = b.unrotated };
-          told = w.told;
-          leaves = record { none = w.leaves.none; dead = w.leaves.dead; head = λ a is. absurd (no_garbage a is) };
-          whole = λ l. inl (unmissed l);
-        }
+    cycle' = let w = r.whole.cycle in let b = between_here k s r id hist x at Run tt runs in record {
+      armed_is = same.armed_same ∙ w.armed_is;
+      meanings = w.meanings;
+      colours_are = same.colours_same ∙ w.colours_are;
+      changed_is = same.changed_same ∙ w.changed_is;
+      facts = between_facts c.kind k now live r.account.tenancy c' words' none record { mode = b.mode; unmarked = λ low. absurd (true≢false (sym is_armed ∙ low)); beside = λ _. o.underway; unchanged = b.unchanged; unrotated = b.unrotated };
+      told = w.told;
+      leaves = record { none = w.leaves.none; dead = w.leaves.dead; head = λ a is. absurd (true≢false (sym is ∙ no_garbage a)); unprepared = w.leaves.unprepared; owned = w.leaves.owned };
+      unswept = w.unswept;
+      whole = λ l. inl (unmissed l);
+    }
 
     leading_on : (z : DomainView) (share : Share) → Leading c s.words z.own.number z.seen.stage share → Leading c' words' z.own.number z.seen.stage share
     leading_on z share l = let u = leading_words c s.words words' z.own.number z.seen.stage share same l in record {
@@ -135,7 +138,7 @@ module _ (k : Config) (s : Words) (r : Rule k s) (id : ℕ) (hist : List Entry) 
           leading = record { changed = l.changed; found_blocks = l.found_blocks; found_words = l.found_words; rotated = l.rotated; turned = l.turned; pass = l.pass; whole = l.whole; armed = l.armed; unswept = l.unswept };
           knows = inl idle;
           adds = adds_nothing live c' y.own.number y.seen.share none;
-          looks = looks_idle live holder r.account.tenancy.garbage now.graph m' c.paint.emptied y.own.number y.own.ephemerons.items y.seen.stage y.seen.share idle unmissed;
+          looks = looks_idle live holder now.graph m' c.paint.emptied y.own.number y.own.ephemerons.items y.seen.stage y.seen.share idle unmissed;
           running = record { knows = inr (runs, is_armed, o.knows); owes = λ _ q. o.own q };
           deciding = deciding_none live c.kind c.left c.shares.arrived m'.marked y.own.number y.own.finalisers y.seen.share.kept y.seen.share.waiting none;
         }
@@ -147,7 +150,7 @@ module _ (k : Config) (s : Words) (r : Rule k s) (id : ℕ) (hist : List Entry) 
           leading = leading_on z z.seen.share g.sharing.leading;
           knows = inl idle;
           adds = adds_nothing live c' z.own.number z.seen.share none;
-          looks = looks_idle live holder r.account.tenancy.garbage now.graph m' c.paint.emptied z.own.number z.own.ephemerons.items z.seen.stage z.seen.share idle unmissed;
+          looks = looks_idle live holder now.graph m' c.paint.emptied z.own.number z.own.ephemerons.items z.seen.stage z.seen.share idle unmissed;
           running = runs_on k live live holder holder c.armed c.past past' c.paint.marks.marked m'.marked s.words words' z.own.number z.seen.stage z.seen.share (λ _. o.endures) o.same_old (λ q. o.others z.own.number q other) g.sharing.running;
           deciding = deciding_none live c.kind c.left c.shares.arrived m'.marked z.own.number z.own.finalisers z.seen.share.kept z.seen.share.waiting none;
         }
@@ -198,6 +201,7 @@ module _ (k : Config) (s : Words) (r : Rule k s) (id : ℕ) (hist : List Entry) 
           set_back = λ b. controls.set_back x g.staged b (g.set_back b);
           sharing = own_sharing;
           listed = g.listed;
+          sweeps = g.sweeps;
         }
         (λ z _ other h. record {
           stood = h.stood;
@@ -213,6 +217,7 @@ module _ (k : Config) (s : Words) (r : Rule k s) (id : ℕ) (hist : List Entry) 
           set_back = λ b. controls.set_back z h.staged b (h.set_back b);
           sharing = other_sharing z other h;
           listed = h.listed;
+          sweeps = h.sweeps;
         })
 
   -- a load: the words and what is marked stay

@@ -1,5 +1,5 @@
 -- Blocks are darkened and scanned while domains run.
-use Rattle.std.proofs.Common.{◌≡◌, ◌≢◌, ℕ, ◌+◌, ◌<◌, ◌⊎◌, ◌==◌, ◌&&◌, ◌||◌, not, Bool, true, false, cond, IsTrue, eq-eqb, ne_eqb, List, ◌∷◌, get_or, set, Option, Some, None, sym, refl, ap, ◌∙◌, subst, inl, inr, ⊎_elim}
+use Rattle.std.proofs.Common.{◌≡◌, ◌≢◌, ℕ, ◌+◌, ◌<◌, ◌==◌, ◌&&◌, ◌||◌, not, Bool, true, false, cond, IsTrue, eq-eqb, ne_eqb, List, ◌∷◌, get_or, set, Option, Some, None, sym, refl, ap, ◌∙◌, subst, inl, inr, ⊎_elim}
 use Rattle.std.proofs.lemmas.Bool.{cases_Bool}
 use mathlib.Core.Logic.{dite}
 use native.Mathlib.Decide.{ℕ_discrete}
@@ -26,11 +26,10 @@ use Rattle.heap_rule.specs.declared.config.Config.{Config}
 use Rattle.heap_rule.specs.declared.phase.Kind.TheVariants.{Run}
 use Rattle.heap_rule.specs.declared.phase.Stage.TheVariants.{In}
 use Rattle.heap_rule.specs.declared.view.DomainView.{DomainView}
-use Rattle.heap_rule.specs.declared.view.Known.{Known}
 use Rattle.heap_rule.specs.declared.view.Known.TheVariants.{Marked, Found, Shape as Shaped, Refers, Darkened, Scanned}
-use Rattle.heap_rule.specs.Beside.{AllKnown, IsPaid, IsShaped, IsPooled, Underway, is_weak}
+use Rattle.heap_rule.specs.Beside.{AllKnown, IsShaped, IsPooled, Underway, is_weak}
 use Rattle.heap_rule.specs.Layout.{before_heap, at_address}
-use Rattle.heap_rule.specs.Places.{IsHeadOf, IsOldAt, Live, Place, colour_in, head_of}
+use Rattle.heap_rule.specs.Places.{IsHeadOf, Live, Place, colour_in, head_of}
 use Rattle.heap_rule.specs.Raw.{MayStep, MayStore}
 use Rattle.heap_rule.specs.Rule.{Rule}
 use Rattle.heap_rule.specs.Views.{one}

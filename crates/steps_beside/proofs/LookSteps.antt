@@ -1,5 +1,5 @@
 -- Looks at addresses that may be grey blocks' keep the rule.
-use Rattle.std.proofs.Common.{◌≡◌, ◌≢◌, ℕ, zero, suc, arith, ◌+◌, ◌<◌, ◌⊎◌, Bool, true, false, IsTrue, List, ◌∷◌, get_or, set, Option, Some, None, sym, refl, ap, ◌∙◌, subst, inl, inr, ⊎_elim}
+use Rattle.std.proofs.Common.{◌≡◌, ◌≢◌, ℕ, zero, suc, arith, ◌+◌, ◌<◌, ◌⊎◌, true, false, true≢false, IsTrue, List, get_or, set, Some, sym, refl, ap, ◌∙◌, subst, inl, inr, ⊎_elim}
 use Rattle.std.proofs.lemmas.Bool.{cases_Bool}
 use mathlib.Core.Logic.{dite}
 use mathlib.Core.Option.{some}
@@ -8,10 +8,8 @@ use lib.ListN.{get_elem?}
 use Rattle.atomic_table.specs.Table.{keeps}
 use Rattle.heap_model.specs.declared.entry.Entry.{Entry}
 use Rattle.heap_words.specs.declared.colours.Colours.{Colours}
-use Rattle.cycle_laws.specs.Marks.{Marks}
 use Rattle.heap_rule.specs.declared.config.Config.{Config}
 use Rattle.heap_rule.specs.declared.view.DomainView.{DomainView}
-use Rattle.heap_rule.specs.declared.view.Known.{Known}
 use Rattle.heap_rule.specs.declared.view.Known.TheVariants.{Pool, Shape as Shaped, Vain}
 use Rattle.heap_rule.specs.Layout.{before_heap, at_address, owner_of}
 use Rattle.heap_rule.specs.Places.{Place}
@@ -21,13 +19,13 @@ use Rattle.heap_rule.specs.Rule.{Rule}
 use Rattle.heap_rule.specs.Views.{one}
 use Rattle.heap_rule.proofs.BesideLemmas.{known_among}
 use Rattle.heap_rule.proofs.PauseFacts.{run_promoting}
-use Rattle.heap_rule.proofs.Keeps.{Words, between_here, my_good, run_settled, unmoved}
+use Rattle.heap_rule.proofs.Keeps.{Words, my_good, run_settled, unmoved}
 use Rattle.heap_rule.specs.declared.phase.Kind.TheVariants.{Run}
 use Rattle.heap_rule.specs.declared.phase.Stage.TheVariants.{In}
-use Rattle.steps_cycle.specs.Marking.{IsGrey, IsMarked, IsScanned, IsUnmarked}
+use Rattle.steps_cycle.specs.Marking.{IsMarked, IsScanned, IsUnmarked}
 use Rattle.steps_cycle.proofs.Colouring.{BareHead, bare_head, marked_colour, unmarked_colour}
 use Rattle.steps_beside.specs.Marking.{Begins, PlaceMay, PlaceTold, PoolMay, PoolTold, learning}
-use Rattle.steps_beside.proofs.Besides.{all_known, learns_one}
+use Rattle.steps_beside.proofs.Besides.{all_known, learns_one, no_garbage}
 
 -- one of so many numbers is this one, or none is
 among : (f : ℕ → ℕ) (a n : ℕ) → ((i : ℕ) × (i < n) × (a ≡ f i)) ⊎ ((i : ℕ) → i < n → a ≡ f i → ⊥)
@@ -129,7 +127,7 @@ module _ (k : Config) (s : Words) (r : Rule k s) (id : ℕ) (hist : List Entry) 
         (λ (b : (p : Place) × (r.account.live (place_in pool class slot) ≡ Some p)). block_told b.0 (ap r.account.live may.begins ∙ b.1))
         (λ v. ⊎_elim
         (λ (e : r.account.tenancy.prepared (place_in pool class slot) ≡ Some h.0). absurd (run_promoting r.account.pause x may.knows.beside.runs (my_good k s r id hist x at).staged (r.whole.drawers.prepared (place_in pool class slot) h.0 e).1))
-        (λ (is : IsTrue (r.account.tenancy.garbage (place_in pool class slot))). absurd (let e : false ≡ true = sym (r.whole.cycle.leaves.none (between_here k s r id hist x at Run tt may.knows.beside.runs).unrotated (place_in pool class slot)) ∙ is in cc)) v) t)
+        (λ (is : IsTrue (r.account.tenancy.garbage (place_in pool class slot))). absurd (true≢false (sym is ∙ no_garbage k s r id hist x at may.knows.beside.runs may.knows.beside.armed (place_in pool class slot)))) v) t)
         (r.whole.grid.places pool h.0 class slot h.1 may.inside)
 
 pub pool_may : (k : Config) (x : DomainView) (a word pool : ℕ) → PoolMay k x word pool → MayStep k x word (λ n. n) (PoolTold a pool)

@@ -1,12 +1,11 @@
 -- While domains run the head of a block of the pools gets another colour, or the scanned mark: what stays.
-use Rattle.std.proofs.Common.{◌≡◌, ◌≢◌, ℕ, ◌+◌, ◌*◌, ◌<◌, ◌≤◌, ◌⊎◌, Bool, cond, IsTrue, List, ◌∷◌, length, get_or, set, slice_get, Some, Option, None, unwrap_or, sym, refl, ap, ◌∙◌, subst, inl, inr, ⊎_elim, arith, length-set, get_or-set_same, get_or-set_other, lt_of_not-le}
+use Rattle.std.proofs.Common.{◌≡◌, ◌≢◌, ℕ, ◌+◌, ◌*◌, ◌<◌, ◌≤◌, Bool, cond, IsTrue, List, length, get_or, set, Some, Option, None, unwrap_or, sym, ap, ◌∙◌, subst, inl, inr, ⊎_elim, arith, length-set, get_or-set_same, get_or-set_other, lt_of_not-le}
 use mathlib.Core.Logic.{dite}
 use native.Mathlib.Decide.{ℕ_discrete, dec_le}
 use mathlib.Core.Option.{some}
 use lib.ListN.{get_elem?}
 use Rattle.heap_model.specs.declared.entry.Entry.{Entry}
 use Rattle.heap_model.specs.declared.label.Label.{Label}
-use Rattle.heap_model.specs.declared.state.State as model
 use Rattle.heap_model.specs.Domains.{class_count}
 use Rattle.heap_words.specs.Heads.{head_word}
 use Rattle.heap_words.specs.declared.colours.Colours.{Colours}
@@ -21,7 +20,7 @@ use Rattle.heap_rule.specs.declared.view.Hunt.TheVariants.{Rests, Counts, Asks, 
 use Rattle.heap_rule.specs.Layout.{before_heap, heap_words, at_address}
 use Rattle.heap_rule.specs.Places.{Place, Paint, Live, IsBare, extent, head_of, Found, IsHead, IsOldWord, IsOldAt, colour_in}
 use Rattle.heap_rule.specs.Pools.{Tenancy, Grid, Hunter, Hunts, DrawsFor, Latest, Lot, Pools, blocks_of, drawn, limit_of, owned, place_in, size_of}
-use Rattle.heap_rule.specs.Rule.{AllFound, Area, Good, Making, Rule, state_of}
+use Rattle.heap_rule.specs.Rule.{AllFound, Area, Good, Making, Rule}
 use Rattle.heap_rule.specs.Views.{one}
 use Rattle.heap_rule.proofs.Beside.{found_beside, making_beside, live_word_far}
 use Rattle.heap_rule.proofs.BesideLemmas.{Endures}

@@ -50,6 +50,7 @@ use Rattle.heap_model.proofs.Commands.FrameLemmas.{label_cases}
 use Rattle.steps_cycle.specs.Looks.{with_share}
 use Rattle.steps_cycle.proofs.Layouts.{owner_of_place}
 use Rattle.steps_cycle.proofs.Learning.{bare, even, kind_here, known, leads_odd, waits}
+use Rattle.steps_cycle.proofs.Unswept.{none_unswept}
 
 module _ (k : Config) (s : Words) (r : Rule k s) (id : ℕ) (hist : List Entry) (x : DomainView) (at : get_elem? s.views id ≡ some (one k hist x)) (stage : x.seen.stage ≡ In Clean) (w : Cleaning) (cleaning : x.seen.share.cleaning ≡ Some w) where
   abbrev now : model.State
@@ -315,7 +316,7 @@ module _ (k : Config) (s : Words) (r : Rule k s) (id : ℕ) (hist : List Entry) 
         vacant = λ class slot own within under. free_stays (place_in z.seen.share.held class slot) (n.vacant class slot own within under);
       }
 
-      looks_on : (z : DomainView) → z.own.number ≢ d → Good k r.account s.words z → Looks live T.holder T.garbage later.graph m emptied' z.own.number z.own.ephemerons.items z.seen.stage z.seen.share
+      looks_on : (z : DomainView) → z.own.number ≢ d → Good k r.account s.words z → Looks live T.holder later.graph m emptied' z.own.number z.own.ephemerons.items z.seen.stage z.seen.share
       looks_on z other g = let l = g.sharing.looks in record {
         at_own = l.at_own;
         cleans = λ v e. let h = l.cleans v e in record {
@@ -410,14 +411,15 @@ module _ (k : Config) (s : Words) (r : Rule k s) (id : ℕ) (hist : List Entry) 
       cycle' =
           let was = r.whole.cycle in
           let same = (controls_kept k s r id hist x at words' (control_set k s.words (block + 2 + i) 0 (omega arith))).cycle in
-          let no_garbage : (a : ℕ) → T.garbage a ≡ false = was.leaves.none facts.1.unrotated in record {
+          let no_garbage : (a : ℕ) → T.garbage a ≡ false = none_unswept k now live r.account.pause T c s.words was Clean tt kind_is facts.1.unrotated in record {
             armed_is = same.armed_same ∙ was.armed_is;
             meanings = was.meanings;
             colours_are = same.colours_same ∙ was.colours_are;
             changed_is = same.changed_same ∙ was.changed_is;
             facts = subst (λ (kind : Kind). Facts kind k later live T c' words') (sym kind_is) o.facts;
             told = told';
-            leaves = record { none = was.leaves.none; dead = was.leaves.dead; head = λ a is. absurd (true≢false (sym is ∙ no_garbage a)) };
+            leaves = record { none = was.leaves.none; dead = was.leaves.dead; head = λ a is. absurd (true≢false (sym is ∙ no_garbage a)); unprepared = was.leaves.unprepared; owned = was.leaves.owned };
+            unswept = was.unswept;
             whole = λ l. whole' l;
           }
         where
@@ -492,6 +494,7 @@ module _ (k : Config) (s : Words) (r : Rule k s) (id : ℕ) (hist : List Entry) 
             set_back = λ b. controls.set_back x g.staged b (g.set_back b);
             sharing = own_sharing;
             listed = record { all = g.listed.all; own = g.listed.own; lives = g.listed.lives };
+            sweeps = g.sweeps;
           }
           (λ z _ other h. record {
             stood = stood_other live live now later z (o.keeps z.own.number) (o.work z.own.number) (more_same live) h.stood;
@@ -507,4 +510,5 @@ module _ (k : Config) (s : Words) (r : Rule k s) (id : ℕ) (hist : List Entry) 
             set_back = λ b. controls.set_back z h.staged b (h.set_back b);
             sharing = sharings' z other h;
             listed = h.listed;
+            sweeps = h.sweeps;
           })

@@ -135,7 +135,7 @@ module _ (k : Config) (s : Words) (r : Rule k s) (id : ℕ) (hist : List Entry) 
   -- the head of a listed ephemeron
   module _ (a : ℕ) (may : CleanMay x a) where
     ephe : IsEpheAt live a
-    ephe = lives_listed k s r id hist x at a may.listed (clean_facts may.stage).1.unrotated
+    ephe = lives_listed k s r id hist x at a may.listed Clean tt (clean_kind may.stage) (clean_facts may.stage).1.unrotated
 
     abbrev p : Place
     p = ephe.place

@@ -13,11 +13,13 @@ use Rattle.heap_model.specs.declared.graph.Node.{Node}
 use Rattle.heap_model.specs.Graph.{node_at}
 use Rattle.heap_model.proofs.Reach.ReachLemmas.{or_right}
 use Rattle.heap_words.specs.declared.value.Value.TheVariants.{Ref, Int as IntWord, Nothing as NothingWord}
+use Rattle.heap_rule.specs.declared.phase.Kind.{Kind}
 use Rattle.heap_rule.specs.declared.view.DomainView.{DomainView}
 use Rattle.heap_rule.specs.Cycles.{Cycling, IsCollecting, seen_by, Facts, cycle_of, label_at}
 use Rattle.heap_rule.specs.Views.{one}
 use Rattle.steps_cycle.proofs.Learning.{Knows, known, at_same, at_other, bare, shifts_more, waits, Held, holding}
 use Rattle.steps_cycle.proofs.Layouts.{labelled, owner_of_place}
+use Rattle.steps_cycle.proofs.Unswept.{IsTracing, none_unswept}
 use Rattle.cycle_laws.specs.Shares.{at_domain}
 use Rattle.heap_rule.specs.Pools.{owned, blocks_of, IsBefore, place_in, Holder, OwnPlace}
 use Rattle.heap_rule.specs.declared.view.Share.{Share}
@@ -60,10 +62,10 @@ module _ (k : Config) (s : Words) (r : Rule k s) (id : ℕ) (hist : List Entry) 
   owner_listed a listed = let o = own_listed a listed in ap (λ (b : ℕ). (cycle_of k live holder c).layout.owner b) o.begins ∙ owner_of_place holder o.pool d o.class o.slot (r.whole.pools.owned_by o.pool d o.class o.owned_is).2 o.owned_is o.inside
 
   -- before the colours are rotated an ephemeron lives there
-  pub lives_listed : (a : ℕ) → IsTrue (seen_by x.own.ephemerons.items a) → c.rotated ≡ false → IsEpheAt live a
-  lives_listed a listed unrotated = ⊎_elim
+  pub lives_listed : (a : ℕ) → IsTrue (seen_by x.own.ephemerons.items a) → (kind : Kind) → IsTracing kind → c.kind ≡ kind → c.rotated ≡ false → IsEpheAt live a
+  lives_listed a listed kind traces is unrotated = ⊎_elim
       (λ (h : IsEpheAt live a). h)
-      (λ (h : IsTrue (r.account.tenancy.garbage a)). absurd (true≢false (sym h ∙ r.whole.cycle.leaves.none unrotated a)))
+      (λ (h : IsTrue (r.account.tenancy.garbage a)). absurd (true≢false (sym h ∙ none_unswept k now live r.account.pause r.account.tenancy c s.words r.whole.cycle kind traces is unrotated a)))
       ((my_good k s r id hist x at).listed.lives a listed)
 
   -- the block at an address is the one that lives there

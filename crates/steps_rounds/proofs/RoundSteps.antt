@@ -150,7 +150,7 @@ module _ (k : Config) (s : Words) (r : Rule k s) (id : ℕ) (hist : List Entry) 
   -- the head of a listed ephemeron
   module _ (a : ℕ) (may : EphemeronMay x a) where
     ephe : IsEpheAt live a
-    ephe = lives_listed k s r id hist x at a may.listed facts.1
+    ephe = lives_listed k s r id hist x at a may.listed Rounds tt kind_is facts.1
 
     abbrev p : Place
     p = ephe.place
