@@ -20,6 +20,7 @@ use Rattle.heap_rule.specs.Views.{one}
 use Rattle.heap_rule.proofs.HeadLemmas.{packable_head}
 use Rattle.heap_rule.proofs.Keeps.{Words, my_good}
 use Rattle.heap_rule.proofs.PauseFacts.{run_promoting}
+use Rattle.heap_rule.proofs.Stages.{waits_in}
 use Rattle.steps_cycle.proofs.Colouring.{BareHead, bare_head}
 use Rattle.steps_cycle.proofs.Learning.{not_promoting}
 use Rattle.steps_sweep.specs.Freeing.{Frees, IsColoured}
@@ -37,6 +38,10 @@ module _ (k : Config) (s : Words) (r : Rule k s) (id : ℕ) (hist : List Entry) 
       (λ (here : x.seen.stage ≡ In Sweep). not_promoting k s r id hist x at (subst IsCollecting (sym here) (λ none. none)))
       (λ (here : x.seen.stage ≡ In Run). run_promoting r.account.pause x here (my_good k s r id hist x at).staged)
       stage
+
+  -- and the domain hasn't arrived
+  pub waits : r.account.cycling.shares.arrived x.own.number ≡ false
+  waits = ⊎_elim (λ (here : x.seen.stage ≡ In Sweep). waits_in k s r id hist x at Sweep here) (λ (here : x.seen.stage ≡ In Run). waits_in k s r id hist x at Run here) stage
 
   settled : Settled r.account.live
   settled = ⊎_elim (λ (h : Settled r.account.live). h) (λ (h : Promoting r.account.pause). absurd (calm h)) r.whole.settled

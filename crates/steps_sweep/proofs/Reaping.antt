@@ -13,6 +13,8 @@ use Rattle.heap_rule.specs.declared.view.DomainView.{DomainView}
 use Rattle.heap_rule.specs.declared.view.Listing.{Listing}
 use Rattle.heap_rule.specs.declared.view.Share.{Share}
 use Rattle.heap_rule.specs.declared.view.Spot.{Spot}
+use Rattle.heap_rule.specs.declared.view.Swept.{Swept}
+use Rattle.heap_rule.specs.Sweeping.{SweepsIn}
 use Rattle.remembered_set.specs.Bounded.{Bounded}
 use Rattle.heap_rule.specs.Ephemerons.{Listed}
 use Rattle.heap_rule.specs.Copies.{IsField, Owes, Promoting, nothing_copied, known}
@@ -29,9 +31,9 @@ use Rattle.heap_rule.proofs.Again.{Back, area_back, opened_back, placed_back, sp
 use Rattle.heap_rule.proofs.FullnessLemmas.{full_back}
 use Rattle.heap_rule.proofs.Keeps.{Words, copies_settled, covered_words, knows_front, lists_same, mine, my_good, no_copied, no_debt, no_owing, nothing_known, opened_words, phases_words, pools_words, quiet_in, remakes, resting_as, resting_lists, room_unused}
 
--- the domain with other places looked at, with another list of ephemerons, and with other knowledge of the phase
-abbrev pub reaped : DomainView → List Spot → Bounded ℕ → Share → DomainView
-reaped x looked ephemerons share = record x { own = record x.own { looked = looked; ephemerons = ephemerons }; seen = record x.seen { share = share } }
+-- the domain with other places looked at, with another list of ephemerons, further on in sweeping, and with other knowledge of the phase
+abbrev pub reaped : DomainView → List Spot → Bounded ℕ → Swept → Share → DomainView
+reaped x looked ephemerons swept share = record x { own = record x.own { looked = looked; ephemerons = ephemerons; swept = swept }; seen = record x.seen { share = share } }
 
 module _ (k : Config) (s : Words) (r : Rule k s) (id : ℕ) (hist : List Entry) (x : DomainView) (at : get_elem? s.views id ≡ some (one k hist x)) where
   abbrev now : model.State
@@ -48,7 +50,7 @@ module _ (k : Config) (s : Words) (r : Rule k s) (id : ℕ) (hist : List Entry) 
   reaped_to live' garbage' c' = record r.account { live = live'; tenancy = record t { garbage = garbage' }; cycling = c' }
 
   -- What such a step owes
-  pub record Reaps (looked : List Spot) (ephemerons : Bounded ℕ) (share' : Share) (live' : Live) (garbage' : ℕ → Bool) (c' : Cycling) (words' : List ℕ) : Type 0 where
+  pub record Reaps (looked : List Spot) (ephemerons : Bounded ℕ) (swept : Swept) (share' : Share) (live' : Live) (garbage' : ℕ → Bool) (c' : Cycling) (words' : List ℕ) : Type 0 where
     pub wide : length words' ≡ length s.words
     pub control : (i : ℕ) → i ≤ before_heap k → i ≢ 5 → i ≢ 9 → i ≢ 10 → get_or words' i 0 ≡ get_or s.words i 0
     pub calm : Promoting r.account.pause → ⊥
@@ -59,20 +61,22 @@ module _ (k : Config) (s : Words) (r : Rule k s) (id : ℕ) (hist : List Entry) 
     pub found : AllFound k c'.paint live' now.graph words'
     pub grid : Grid k (record t { garbage = garbage' }) live' words'
     pub makings : (z : DomainView) → Good k r.account s.words z → Making k words' z
-    pub hunter : Hunter k (record t { garbage = garbage' }) words' (reaped x looked ephemerons share')
+    pub hunter : Hunter k (record t { garbage = garbage' }) words' (reaped x looked ephemerons swept share')
     pub hunters : (z : DomainView) → z.own.number ≢ x.own.number → Good k r.account s.words z → Hunter k (record t { garbage = garbage' }) words' z
     pub cycle : Cycled k now live' r.account.pause (record t { garbage = garbage' }) c' words'
     pub sharing : Sharing k (reaped_to live' garbage' c') words' x.own.number x.own.registers x.own.finalisers ephemerons.items x.seen.stage share'
     pub sharings : (z : DomainView) → z.own.number < k.domains → z.own.number ≢ x.own.number → Good k r.account s.words z → Sharing k (reaped_to live' garbage' c') words' z.own.number z.own.registers z.own.finalisers z.own.ephemerons.items z.seen.stage z.seen.share
     pub listed_own : Listed live' t.holder garbage' x.own.number ephemerons.items
     pub listeds : (z : DomainView) → z.own.number ≢ x.own.number → Good k r.account s.words z → Listed live' t.holder garbage' z.own.number z.own.ephemerons.items
+    pub sweeps : SweepsIn (record t { garbage = garbage' }) c' (reaped x looked ephemerons swept share')
+    pub others_sweep : (z : DomainView) → z.own.number < k.domains → z.own.number ≢ x.own.number → Good k r.account s.words z → SweepsIn (record t { garbage = garbage' }) c' z
 
-  module _ (looked : List Spot) (ephemerons : Bounded ℕ) (share' : Share) (live' : Live) (garbage' : ℕ → Bool) (c' : Cycling) (words' : List ℕ) (o : Reaps looked ephemerons share' live' garbage' c' words') where
+  module _ (looked : List Spot) (ephemerons : Bounded ℕ) (swept : Swept) (share' : Share) (live' : Live) (garbage' : ℕ → Bool) (c' : Cycling) (words' : List ℕ) (o : Reaps looked ephemerons swept share' live' garbage' c' words') where
     abbrev t' : Tenancy
     t' = record t { garbage = garbage' }
 
     abbrev y : DomainView
-    y = reaped x looked ephemerons share'
+    y = reaped x looked ephemerons swept share'
 
     kept : (i : ℕ) → i ≤ 8 → i ≢ 5 → get_or words' i 0 ≡ get_or s.words i 0
     kept i low other = o.control i (omega arith) other (λ e. omega arith) (λ e. omega arith)
@@ -179,6 +183,7 @@ module _ (k : Config) (s : Words) (r : Rule k s) (id : ℕ) (hist : List Entry) 
           set_back = λ h. low_kept (g.set_back h);
           sharing = o.sharing;
           listed = record { all = o.listed_own.all; own = o.listed_own.own; lives = o.listed_own.lives };
+          sweeps = o.sweeps;
         }
         (λ z below other h. record {
           stood = o.stood z h.stood;
@@ -194,4 +199,5 @@ module _ (k : Config) (s : Words) (r : Rule k s) (id : ℕ) (hist : List Entry) 
           set_back = λ q. low_kept (h.set_back q);
           sharing = o.sharings z below other h;
           listed = o.listeds z other h;
+          sweeps = o.others_sweep z below other h;
         })

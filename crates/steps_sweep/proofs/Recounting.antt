@@ -11,6 +11,7 @@ use Rattle.heap_rule.specs.Cycles.{Cycled, Cycling}
 use Rattle.heap_rule.specs.Layout.{at_address, before_heap, heap_words}
 use Rattle.heap_rule.specs.Places.{Paint}
 use Rattle.heap_rule.specs.Pools.{Hunter, Tenancy}
+use Rattle.heap_rule.specs.Sweeping.{SweepsIn}
 use Rattle.heap_rule.specs.Rule.{AllFound, Good, Rule, Sharing, state_of}
 use Rattle.heap_rule.specs.Views.{one}
 use Rattle.heap_rule.proofs.Holders.{Agrees, agrees_set, found_heap, grid_heap, hunter_agree, making_heap, same_self}
@@ -54,13 +55,15 @@ module _ (k : Config) (s : Words) (r : Rule k s) (id : ℕ) (hist : List Entry) 
     pub cycle : Cycled k (state_of k r.account.log) r.account.live r.account.pause t c' recounted
     pub sharing : Sharing k (record r.account { cycling = c' }) recounted x.own.number x.own.registers x.own.finalisers x.own.ephemerons.items x.seen.stage share'
     pub sharings : (z : DomainView) → z.own.number < k.domains → z.own.number ≢ x.own.number → Good k r.account s.words z → Sharing k (record r.account { cycling = c' }) recounted z.own.number z.own.registers z.own.finalisers z.own.ephemerons.items z.seen.stage z.seen.share
+    pub sweeps : SweepsIn t c' (with_share x share')
+    pub others_sweep : (z : DomainView) → Good k r.account s.words z → SweepsIn t c' z
 
   pub recounts : (share' : Share) (c' : Cycling) → Recounts share' c' → Rule k record { words = recounted; homes = s.homes; views = set s.views id (one k hist (with_share x share')) }
   recounts share' c' o =
       let b = count_bounds i is in
       let agrees : Agrees k s.words recounted = agrees_set k s.words i v (λ e. omega arith) (inl (omega arith)) (omega arith) in
       let hunters : (z : DomainView) → Hunter k t s.words z → Hunter k t recounted z = (λ z h. hunter_agree k t t s.words recounted agrees z (let e = low 7 (omega arith) in let m : ℕ = get_or s.words 7 0 in let n : ℕ = get_or recounted 7 0 in let f : n ≡ m = e in let g : m ≤ n = omega arith in g) (same_self t z.own.number) h) in
-      reaps k s r id hist x at x.own.looked x.own.ephemerons share' r.account.live t.garbage c' recounted record {
+      reaps k s r id hist x at x.own.looked x.own.ephemerons x.own.swept share' r.account.live t.garbage c' recounted record {
         wide = length-set s.words i v;
         control = λ j _ _ nine ten. other j (λ e. ⊎_elim (λ (f : i ≡ 9). nine (e ∙ f)) (λ (f : i ≡ 10). ten (e ∙ f)) is);
         calm = o.calm;
@@ -78,4 +81,6 @@ module _ (k : Config) (s : Words) (r : Rule k s) (id : ℕ) (hist : List Entry) 
         sharings = o.sharings;
         listed_own = (my_good k s r id hist x at).listed;
         listeds = λ z _ g. g.listed;
+        sweeps = o.sweeps;
+        others_sweep = λ z _ _ g. o.others_sweep z g;
       }

@@ -23,20 +23,19 @@ use Rattle.heap_rule.specs.Layout.{at_address, before_heap, owner_of}
 use Rattle.heap_rule.specs.Pools.{Holder, IsBefore, blocks_of, owned, owner_word, place_in}
 use Rattle.heap_rule.specs.Raw.{Closes, MayStep}
 use Rattle.heap_rule.specs.Rule.{Rule, Sharing, state_of}
-use Rattle.heap_rule.specs.Sweeping.{SweepsIn, nothing_swept}
+use Rattle.heap_rule.specs.Sweeping.{Reaps, SweepsIn, nothing_swept}
 use Rattle.heap_rule.specs.Token.{OwnFits}
 use Rattle.heap_rule.specs.Views.{one}
 use Rattle.heap_rule.proofs.Closes.{front_same}
-use Rattle.heap_rule.proofs.Holders.{hunter_as}
-use Rattle.heap_rule.proofs.Keeps.{Words, control_same, controls_kept, mine, my_good, unmoved, writes}
+use Rattle.heap_rule.proofs.Keeps.{Words, control_same, controls_kept, hunter_as, mine, my_good, unmoved, writes}
 use Rattle.heap_rule.proofs.Lots.{none_before}
 use Rattle.heap_rule.proofs.OwnPlaces.{owned_same}
 use Rattle.steps_cycle.specs.Looks.{with_share}
 use Rattle.steps_cycle.specs.Marking.{behind}
 use Rattle.steps_cycle.proofs.Layouts.{whose}
 use Rattle.steps_cycle.proofs.WalkSteps.{before_behind}
-use Rattle.steps_sweep.specs.Freeing.{AnewMay, AnewTold, CanSweep, CanSweepOwn, IsAmong, IsColoured, SweepMay, SweepOwnMay, SweepOwnTold, SweepTold, SweepsOwn, SweepsPlace, passed, sweeping_from, unswept}
-use Rattle.steps_sweep.proofs.Finding.{clean_place, colour_of_dead}
+use Rattle.steps_sweep.specs.Freeing.{AnewMay, AnewTold, CanSweep, CanSweepOwn, Frees, IsAmong, IsColoured, SweepMay, SweepOwnMay, SweepOwnTold, SweepTold, SweepsOwn, SweepsPlace, passed, sweeping_from, unswept}
+use Rattle.steps_sweep.proofs.Finding.{clean_place, colour_of_dead, waits}
 
 -- the domain with another share of its sweeping
 abbrev pub sweeping_on : Share → Reaping → List Spot → Share
@@ -123,12 +122,12 @@ module _ (k : Config) (s : Words) (r : Rule k s) (id : ℕ) (hist : List Entry) 
     reaps = w.reaps;
   }
 
-  -- a domain that acts hasn't arrived
-  not_up : (arrived : ℕ → Bool) → arrived d ≡ false → arrived d ≡ true → ⊥
-  not_up arrived waits up = true≢false (sym up ∙ waits)
+  -- a domain that may free garbage hasn't arrived
+  not_up : Frees x.seen.stage → r.account.cycling.shares.arrived d ≡ true → ⊥
+  not_up stage up = true≢false (sym up ∙ waits k s r id hist x at stage)
 
   -- the owner of the next pool
-  module _ (waits : r.account.cycling.shares.arrived d ≡ false) (word pool : ℕ) (may : SweepOwnMay k x word pool) where
+  module _ (word pool : ℕ) (may : SweepOwnMay k x word pool) where
     abbrev owner : ℕ
     owner = owner_of k s.words pool
 
@@ -147,7 +146,7 @@ module _ (k : Config) (s : Words) (r : Rule k s) (id : ℕ) (hist : List Entry) 
           (λ other. inl (let p : ℕ = x.own.swept.spot.pool in let e : p ≡ pool = may.next in let n : q ≢ pool = other in let l : q < pool + 1 = h in let g : q < p = omega arith in g)))
           (λ (h : (q ≡ pool + 1) × (i < 0)). absurd (let l = h.1 in omega arith))
           before);
-      anew = λ _ up. absurd (not_up r.account.cycling.shares.arrived waits up);
+      anew = λ _ up. absurd (not_up may.stage up);
       reaps = w.reaps;
     }
 
@@ -175,7 +174,7 @@ module _ (k : Config) (s : Words) (r : Rule k s) (id : ℕ) (hist : List Entry) 
         own_again b c one is other = let w : ℕ = owner in let f : w ≡ 16 * d + b + 1 = is in let g : w ≡ 16 * d + c + 1 = other in let same : b ≡ c = omega arith in one ∙ ap (owned d) same
 
   -- the head at the next place
-  module _ (waits : r.account.cycling.shares.arrived d ≡ false) (a pool class slot colour : ℕ) (may : SweepMay x a pool class slot colour) where
+  module _ (a pool class slot colour : ℕ) (may : SweepMay x a pool class slot colour) where
     abbrev found : ℕ
     found = at_address k s.words a
 
@@ -191,7 +190,7 @@ module _ (k : Config) (s : Words) (r : Rule k s) (id : ℕ) (hist : List Entry) 
           (λ (h : (q ≡ pool) × (i ≡ slot)). ap (λ (z : ℕ × ℕ × ℕ). garbage (place_in z.0 z.1 z.2)) (λ j. (h.0 j, class_is h.0 j, h.1 j)) ∙ (ap garbage (sym may.word) ∙ clean))
           (λ (h : IsBefore q i (record { pool = pool; slot = slot })). w.places q c i is inside (subst (IsBefore q i) (sym may.next) h))
           (before_behind pool class slot q i (λ same. subst (λ (z : ℕ). i < blocks_of z) (class_is same) inside) before);
-      anew = λ _ up. absurd (not_up r.account.cycling.shares.arrived waits up);
+      anew = λ _ up. absurd (not_up may.stage up);
       reaps = own;
     }
 
@@ -216,3 +215,16 @@ module _ (k : Config) (s : Words) (r : Rule k s) (id : ℕ) (hist : List Entry) 
           },
         ))
         (cases_Bool (garbage a))
+
+pub anew_may : (k : Config) (x : DomainView) → AnewMay x → MayStep k x 5 (λ n. n) AnewTold
+anew_may k x may fits slots id hist s r _ at _ = let y : DomainView = record x { own = unswept x.own } in (one k hist y, keeps, tt, unmoved k s 5 (set s.views id (one k hist y)) (anew_rule k s r id hist x at), (refl, refl))
+
+pub sweep_own_may : (k : Config) (x : DomainView) (word pool : ℕ) → SweepOwnMay k x word pool → MayStep k x word (λ n. n) (SweepOwnTold pool)
+sweep_own_may k x word pool may fits slots id hist s r _ at _ =
+    let o = owner_swept k s r id hist x at word pool may in
+    (one k hist o.0, keeps, tt, unmoved k s word (set s.views id (one k hist o.0)) o.1, (subst (λ (n : ℕ). SweepOwnTold pool x (get_or s.words n 0) o.0) (sym may.word) o.2, refl))
+
+pub sweep_may : (k : Config) (x : DomainView) (word a pool class slot garbage : ℕ) → word ≡ before_heap k + a → SweepMay x a pool class slot garbage → MayStep k x word (λ n. n) (SweepTold pool class slot garbage)
+sweep_may k x word a pool class slot garbage place may fits slots id hist s r _ at _ =
+    let o = head_swept k s r id hist x at a pool class slot garbage may in
+    (one k hist o.0, keeps, tt, unmoved k s word (set s.views id (one k hist o.0)) o.1, (subst (λ (n : ℕ). SweepTold pool class slot garbage x (get_or s.words n 0) o.0) (sym place) o.2, refl))

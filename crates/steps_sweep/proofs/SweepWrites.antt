@@ -1,0 +1,148 @@
+-- What the steps of sweeping tell of a token's own data.
+use Rattle.std.proofs.Common.{◌≡◌, ℕ, ◌+◌, ◌<◌, ◌≤◌, ◌⊎◌, List, set, length, length-set, get_or-set_same, get_or-set_other, sym, refl, ap, ◌∙◌, subst, inl, inr, ⊎_elim, arith, lt_of_not-le}
+use mathlib.Core.Logic.{dite}
+use native.Mathlib.Decide.{ℕ_discrete, dec_le}
+use Rattle.heap_model.specs.Domains.{IsWithinLimits, class_count}
+use Rattle.heap_rule.specs.declared.config.Config.{Config}
+use Rattle.heap_rule.specs.declared.view.DomainView.{DomainView}
+use Rattle.heap_rule.specs.declared.view.Own.{Own}
+use Rattle.heap_rule.specs.declared.view.Reaping.TheVariants.{Inside, AtGarbage}
+use Rattle.heap_rule.specs.declared.view.Spot.{Spot}
+use Rattle.heap_rule.specs.declared.view.Swept.{Swept}
+use Rattle.heap_rule.specs.Limits.{sizes_in}
+use Rattle.heap_rule.specs.Pools.{blocks_of, spot_at}
+use Rattle.heap_rule.specs.Raw.{Closes, StepsOnce}
+use Rattle.heap_rule.specs.Sweeping.{nothing_swept}
+use Rattle.heap_rule.specs.Token.{LooksWithin, OwnFits, SweptWithin}
+use Rattle.heap_rule.proofs.Classes.{some_block}
+use Rattle.heap_rule.proofs.Closes.{front_same}
+use Rattle.steps_cycle.specs.Looks.{with_share}
+use Rattle.steps_cycle.specs.Marking.{behind}
+use Rattle.steps_cycle.proofs.WalkSteps.{last_behind, next_behind}
+use Rattle.steps_sweep.proofs.Earlier.{order_of}
+use Rattle.steps_sweep.specs.Freeing.{AnewTold, CanFree, CanSweep, CanSweepOwn, FreeTold, FreesPlace, IsAmong, IsColoured, SweepOwnTold, SweepTold, SweepsOwn, SweepsPlace, earlier, freed_own, passed, sweeping_from, unswept}
+
+few_pools : (k : Config) (pool : ℕ) → IsWithinLimits (sizes_in k) → pool < k.pools → pool < 2048
+few_pools k pool limits inside = let all = limits.pools in let p : ℕ = k.pools in let i : pool < p = inside in omega arith
+
+-- no entry stands at a step that leaves the front, the registers and the blocks
+once_same : (k : Config) (x y : DomainView) → y.seen.front ≡ x.seen.front → y.own.registers ≡ x.own.registers → y.own.used ≡ x.own.used → y.own.serial ≡ x.own.serial → StepsOnce k x y
+once_same k x y front registers used serial = λ _. inl (record { front = front_same x y front; registers = registers; used = used; serial = serial })
+
+-- a token fits whose sweeping has got so far
+swept_fits : (k : Config) (own : Own) (swept : Swept) → SweptWithin k swept → OwnFits k own → OwnFits k (record own { swept = swept })
+swept_fits k own swept within fits = record {
+  number = fits.number;
+  used = fits.used;
+  registers = fits.registers;
+  looked = fits.looked;
+  remembered = fits.remembered;
+  prepared = fits.prepared;
+  pending = fits.pending;
+  ephemerons = fits.ephemerons;
+  finalisers = fits.finalisers;
+  swept = within;
+}
+
+-- the place behind one lies within the pools
+behind_within : (k : Config) (pool class slot listed : ℕ) → pool < k.pools → class < class_count → SweptWithin k (record { listed = listed; spot = behind pool class slot })
+behind_within k pool class slot listed inside few =
+    let p : ℕ = k.pools in
+    let i : pool < p = inside in
+    let b : ℕ = blocks_of class in
+    let most : b ≤ 1024 = (some_block class few).1 in
+    dite (dec_le (blocks_of class) (slot + 1))
+    (λ last. subst (λ (spot : Spot). SweptWithin k (record { listed = listed; spot = spot })) (sym (last_behind pool class slot last)) (record { pool = (let g : pool + 1 ≤ p = omega arith in g); slot = omega arith }))
+    (λ more. let next : slot + 1 < blocks_of class = lt_of_not-le more in subst (λ (spot : Spot). SweptWithin k (record { listed = listed; spot = spot })) (sym (next_behind pool class slot next)) (record { pool = (let g : pool ≤ p = omega arith in g); slot = (let l : slot + 1 < b = next in omega arith) }))
+
+pub anew_closes : (k : Config) (x : DomainView) (found : ℕ) → Closes k x found AnewTold (λ _. Unit {0}) (λ own after. after ≡ unswept own)
+anew_closes k x found y fits told = let own : y.own ≡ unswept x.own = ap (λ (z : DomainView). z.own) told in record {
+  can_write = tt;
+  written = λ after is. own ∙ sym is;
+  fits = subst (OwnFits k) (sym own) (swept_fits k x.own nothing_swept (record { pool = omega arith; slot = omega arith }) fits);
+  once = once_same k x y (ap (λ (z : DomainView). z.seen.front) told) (ap (λ (o : Own). o.registers) own) (ap (λ (o : Own). o.used) own) (ap (λ (o : Own). o.serial) own);
+}
+
+pub sweep_own_closes : (k : Config) (x : DomainView) (found pool : ℕ) → pool < k.pools → IsWithinLimits (sizes_in k) → Closes k x found (SweepOwnTold pool) (CanSweepOwn pool) (SweepsOwn pool found)
+sweep_own_closes k x found pool inside limits y fits told = ⊎_elim
+    (λ (u : (class : ℕ) × IsAmong class x.own found × (y ≡ with_share x (record x.seen.share { reaping = Inside pool class }))). record {
+      can_write = few_pools k pool limits inside;
+      written = λ after is. ⊎_elim
+          (λ (w : ((class : ℕ) × IsAmong class x.own found) × (after ≡ x.own)). ap (λ (z : DomainView). z.own) u.2 ∙ sym w.1)
+          (λ (w : ((class : ℕ) → IsAmong class x.own found → ⊥) × (after ≡ onward)). absurd (w.0 u.0 u.1))
+          is;
+      fits = subst (OwnFits k) (sym (ap (λ (z : DomainView). z.own) u.2)) fits;
+      once = once_same k x y (ap (λ (z : DomainView). z.seen.front) u.2) (ap (λ (z : DomainView). z.own.registers) u.2) (ap (λ (z : DomainView). z.own.used) u.2) (ap (λ (z : DomainView). z.own.serial) u.2);
+    })
+    (λ (u : ((class : ℕ) → IsAmong class x.own found → ⊥) × (y ≡ record x { own = onward })). record {
+      can_write = few_pools k pool limits inside;
+      written = λ after is. ⊎_elim
+          (λ (w : ((class : ℕ) × IsAmong class x.own found) × (after ≡ x.own)). absurd (u.0 w.0.0 w.0.1))
+          (λ (w : ((class : ℕ) → IsAmong class x.own found → ⊥) × (after ≡ onward)). ap (λ (z : DomainView). z.own) u.1 ∙ sym w.1)
+          is;
+      fits = subst (OwnFits k) (sym (ap (λ (z : DomainView). z.own) u.1)) (swept_fits k x.own onward.swept (record { pool = (let p : ℕ = k.pools in let i : pool < p = inside in let g : pool + 1 ≤ p = omega arith in g); slot = omega arith }) fits);
+      once = once_same k x y (ap (λ (z : DomainView). z.seen.front) u.1) (ap (λ (z : DomainView). z.own.registers) u.1) (ap (λ (z : DomainView). z.own.used) u.1) (ap (λ (z : DomainView). z.own.serial) u.1);
+    })
+    told.told
+  where
+    abbrev onward : Own
+    onward = sweeping_from x.own (record { pool = pool + 1; slot = 0 })
+
+pub sweep_closes : (k : Config) (x : DomainView) (found pool class slot garbage : ℕ) → pool < k.pools → class < class_count → slot < blocks_of class → IsWithinLimits (sizes_in k) → Closes k x found (SweepTold pool class slot garbage) (CanSweep pool class slot) (SweepsPlace pool class slot garbage found)
+sweep_closes k x found pool class slot garbage inside few low limits y fits told = ⊎_elim
+    (λ (u : (IsColoured garbage found → ⊥) × (y ≡ passed pool class slot x)). record {
+      can_write = (few_pools k pool limits inside, few, low);
+      written = λ after is. ⊎_elim
+          (λ (w : (IsColoured garbage found → ⊥) × (after ≡ sweeping_from x.own (behind pool class slot))). ap (λ (z : DomainView). z.own) u.1 ∙ sym w.1)
+          (λ (w : IsColoured garbage found × (after ≡ x.own)). absurd (u.0 w.0))
+          is;
+      fits = subst (OwnFits k) (sym (ap (λ (z : DomainView). z.own) u.1)) (swept_fits k x.own (record x.own.swept { spot = behind pool class slot }) (let b = behind_within k pool class slot x.own.swept.listed inside few in record { pool = b.pool; slot = b.slot }) fits);
+      once = once_same k x y (ap (λ (z : DomainView). z.seen.front) u.1) (ap (λ (z : DomainView). z.own.registers) u.1) (ap (λ (z : DomainView). z.own.used) u.1) (ap (λ (z : DomainView). z.own.serial) u.1);
+    })
+    (λ (u : IsColoured garbage found × (y ≡ with_share x (record x.seen.share { reaping = AtGarbage pool class slot }))). record {
+      can_write = (few_pools k pool limits inside, few, low);
+      written = λ after is. ⊎_elim
+          (λ (w : (IsColoured garbage found → ⊥) × (after ≡ sweeping_from x.own (behind pool class slot))). absurd (w.0 u.0))
+          (λ (w : IsColoured garbage found × (after ≡ x.own)). ap (λ (z : DomainView). z.own) u.1 ∙ sym w.1)
+          is;
+      fits = subst (OwnFits k) (sym (ap (λ (z : DomainView). z.own) u.1)) fits;
+      once = once_same k x y (ap (λ (z : DomainView). z.seen.front) u.1) (ap (λ (z : DomainView). z.own.registers) u.1) (ap (λ (z : DomainView). z.own.used) u.1) (ap (λ (z : DomainView). z.own.serial) u.1);
+    })
+    told.told
+
+-- where the search for free places begins lies within the pools
+freed_within : (k : Config) (looked : List Spot) (pool class slot : ℕ) → pool < k.pools → class < class_count → slot < blocks_of class → LooksWithin k looked → LooksWithin k (set looked class (earlier (record { pool = pool; slot = slot }) (spot_at looked class)))
+freed_within k looked pool class slot inside few low l = record {
+  wide = length-set looked class spot ∙ l.wide;
+  within = λ c below. dite (ℕ_discrete c class)
+      (λ same. subst (λ (z : Spot × ℕ). (z.0.pool ≤ k.pools) × (z.0.slot < blocks_of z.1)) (λ i. (sym (ap (spot_at (set looked class spot)) same ∙ get_or-set_same looked class spot (record { pool = 0; slot = 0 }) (subst (λ (n : ℕ). class < n) (sym l.wide) few)) i, sym same i))
+          (⊎_elim
+              (λ (e : spot ≡ here). subst (λ (z : Spot). (z.pool ≤ k.pools) × (z.slot < blocks_of class)) (sym e) ((let p : ℕ = k.pools in let i : pool < p = inside in let g : pool ≤ p = omega arith in g), low))
+              (λ (e : spot ≡ spot_at looked class). subst (λ (z : Spot). (z.pool ≤ k.pools) × (z.slot < blocks_of class)) (sym e) (l.within class few))
+              (⊎_elim (λ h. inl h.0) (λ h. inr h.0) (order_of here (spot_at looked class)))))
+      (λ other. subst (λ (z : Spot). (z.pool ≤ k.pools) × (z.slot < blocks_of c)) (sym (get_or-set_other looked class c spot (record { pool = 0; slot = 0 }) other)) (l.within c below));
+} where
+  abbrev here : Spot
+  here = record { pool = pool; slot = slot }
+
+  abbrev spot : Spot
+  spot = earlier here (spot_at looked class)
+
+pub free_closes : (k : Config) (x : DomainView) (pool class slot : ℕ) → pool < k.pools → class < class_count → slot < blocks_of class → IsWithinLimits (sizes_in k) → Closes k x 0 (FreeTold pool class slot) (CanFree pool class slot) (FreesPlace pool class slot)
+free_closes k x pool class slot inside few low limits y fits told = let own : y.own ≡ freed_own pool class slot x.own = ap (λ (z : DomainView). z.own) told in let b = behind_within k pool class slot x.own.swept.listed inside few in record {
+  can_write = (few_pools k pool limits inside, few, low, fits.looked.wide);
+  written = λ after is. own ∙ sym is;
+  fits = subst (OwnFits k) (sym own) record {
+    number = fits.number;
+    used = fits.used;
+    registers = fits.registers;
+    looked = freed_within k x.own.looked pool class slot inside few low fits.looked;
+    remembered = fits.remembered;
+    prepared = fits.prepared;
+    pending = fits.pending;
+    ephemerons = fits.ephemerons;
+    finalisers = fits.finalisers;
+    swept = record { pool = b.pool; slot = b.slot };
+  };
+  once = once_same k x y (ap (λ (z : DomainView). z.seen.front) told) (ap (λ (o : Own). o.registers) own) (ap (λ (o : Own). o.used) own) (ap (λ (o : Own). o.serial) own);
+}
