@@ -55,7 +55,7 @@ use Rattle.heap_rule.proofs.FinaliserLemmas.{enrolled_as, enrolled_more, work_co
 use Rattle.heap_rule.proofs.Beside.{found_beside, making_beside}
 use Rattle.heap_rule.proofs.Born.{all_more, live', born, more, old, is_new, placed_born, settled_born, recalls_born, naming_born, spread_born, opened_born, classes_born}
 use Rattle.heap_rule.proofs.OwnPlaces.{owned_same}
-use Rattle.heap_rule.proofs.Lots.{hunter_beside, stays, head_some, place_cases, garbage_full}
+use Rattle.heap_rule.proofs.Lots.{hunter_beside, stays, head_some, garbage_full}
 use Rattle.heap_rule.proofs.Holders.{free_later}
 use Rattle.steps_pools.proofs.DrawSteps.{none_drawn}
 use Rattle.steps_pools.proofs.WalkSteps.{filling, live_far, others_beside, equal_le, lot_top}
@@ -75,9 +75,9 @@ use Rattle.heap_rule.specs.Standing.{Acts}
 use Rattle.heap_rule.proofs.Classes.{size_least, slot_inside}
 use Rattle.heap_rule.proofs.EphemeronLemmas.{ephe_more}
 use Rattle.heap_model.specs.declared.state.Mode.TheVariants.{Open}
-use Rattle.std.proofs.lemmas.Option.{none-some}
 use Rattle.heap_rule.proofs.Garbage.{KeepsGarbage}
 use Rattle.heap_rule.specs.Sweeping.{SweepsIn}
+use Rattle.heap_rule.proofs.Update.{over_else}
 
 -- the words behind the label stand for the node of a new block
 pub record IsNewBlock (shape : Shape) (node : Node) (behind : List ℕ) : Type 0 where
@@ -356,7 +356,7 @@ module _ (k : Config) (s : Words) (r : Rule k s) (id : ℕ) (hist : List Entry) 
 
   -- nothing else comes to live
   unlived : (b : ℕ) → b ≢ A → r.account.live b ≡ None → live1 b ≡ None
-  unlived b other none = ⊎_elim (λ (e : live1 b ≡ None). e) (λ (h : (q : Place) × (live1 b ≡ Some q)). absurd (none-some h.0 (sym none ∙ before b h.0 other h.1))) (place_cases (live1 b))
+  unlived b other none = over_else A (Some born_place) r.account.live b other ∙ none
 
   grid1 : Grid k r.account.tenancy live1 ws
   grid1 = record {
