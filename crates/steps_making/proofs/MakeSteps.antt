@@ -45,13 +45,13 @@ use Rattle.heap_rule.specs.Views.{one, Tells}
 use Rattle.heap_rule.specs.Raw.{MayStore}
 use Rattle.heap_rule.specs.Token.{next_address, next_label}
 use Rattle.heap_rule.specs.Rule.{state_of, AllFound, Stood, Area, Good, Rule}
-use Rattle.heap_rule.proofs.Lots.{Beside, area_beside, grid_beside, hunter_beside}
+use Rattle.heap_rule.proofs.Lots.{Beside, area_beside, grid_beside, hunter_beside, garbage_beside, place_low}
 use Rattle.steps_making.specs.Inits.{fields_of, WordMay, WordTold, AllocMay, AllocEntry, AllocTold}
 use Rattle.heap_rule.proofs.Lists.{got_end, got_below}
 use Rattle.heap_rule.proofs.Sizes.{area_below, area_inside}
 use Rattle.heap_rule.proofs.ChangeLemmas.{changed_only, registers_of}
 use Rattle.heap_rule.proofs.Values.{AllStand, stand_set, holds}
-use Rattle.heap_rule.proofs.Keeps.{whole_here, listed_here, Words, more_same, mine, my_good, control_set, controls_kept, hunter_as, appends, writes, legal_entry, owes_run, opened_words, quiet, run_settled, cycle_here, sharing_here, sharings_here, runs_here, between_here, cycle_control}
+use Rattle.heap_rule.proofs.Keeps.{whole_here, listed_here, Words, more_same, mine, my_good, control_set, controls_kept, hunter_as, appends, writes, legal_entry, owes_run, opened_words, quiet, run_settled, cycle_here, sharing_here, sharings_here, runs_here, between_here, cycle_control, garbage_here}
 use Rattle.heap_rule.proofs.Entering.{running, inside_state, registers_stand, may_begin, open_after}
 use Rattle.heap_rule.proofs.FinaliserLemmas.{enrolled_as, enrolled_more, work_command}
 use Rattle.heap_rule.proofs.Beside.{found_beside, making_beside, area_word_far}
@@ -69,6 +69,8 @@ use Rattle.cycle_laws.specs.Fullness.{kept_labels}
 use Rattle.heap_rule.specs.Pools.{Tenancy}
 use Rattle.heap_rule.specs.declared.phase.Kind.{Kind}
 use Rattle.heap_rule.specs.declared.phase.Kind.TheVariants.{Run}
+use Rattle.heap_rule.proofs.Garbage.{KeepsGarbage}
+use Rattle.heap_rule.proofs.Update.{over_else}
 
 -- a block has words
 extent_low : (shape : Shape) → 0 < extent shape
@@ -150,9 +152,11 @@ inits k slots id word hist x a new changes place may s r _ at _ =
       grid = grid_beside k r.account.tenancy s.words a new r.account.live r.account.live r.whole.pools beside (more_same r.account.live) (λ b q h _. h) r.whole.grid;
       hunter = hunter_as k r.account.tenancy ws x y refl refl refl refl refl refl (hunter_beside k r.account.tenancy s.words a new r.whole.pools x (beside x.own.number) g.hunter);
       hunters = λ z _ g. hunter_beside k r.account.tenancy s.words a new r.whole.pools z (beside z.own.number) g.hunter;
-      cycle = cycle_here k s r id hist x at Run tt may.runs now r.account.live r.account.tenancy past ws refl (λ m. refl) same (λ _ u. u);
+      cycle = cycle_here k s r id hist x at Run tt may.runs now r.account.live r.account.tenancy past ws refl (garbage_here k s r id hist x at r.account.live ws r.whole.cycle.leaves.dead
+          (garbage_beside k r.account.live r.account.tenancy r.account.cycling s.words r.whole.cycle.leaves a new r.whole.pools beside)) same (λ _ u. u);
       sharing = sharing_here k s r id hist x at Run tt may.runs r.account ws past x.seen.share.weak y refl same refl refl refl (runs_here k s r id hist x at r.account ws refl x (λ _. endures) g);
       sharings = λ z _ g. sharings_here k s r id hist x at Run tt may.runs r.account ws past refl same z g (runs_here k s r id hist x at r.account ws refl z (λ _. endures) g);
+      sweeps = g.sweeps;
     } in (
       one k hist y,
       keeps,
@@ -422,6 +426,16 @@ module _ (k : Config) (s : Words) (r : Rule k s) (id : ℕ) (hist : List Entry) 
       (λ same. absurd (let clash : PlainShape n tag ≡ EpheShape o.keys = ap (λ (z : Place). z.shape) (is_new k r.account.live A born_place (omega arith) away r.whole.placed b o.place same o.lives) ∙ o.shape in cc))
       (λ other. record { place = o.place; lives = old k r.account.live A born_place (omega arith) away r.whole.placed b o.place other o.lives; keys = o.keys; shape = o.shape })
 
+  -- garbage lies in the pools, and the block doesn't
+  garbage1 : KeepsGarbage k live1 r.account.tenancy r.account.tenancy s.words ws
+  garbage1 = garbage_here k s r id hist x at live1 ws
+      (λ b is. over_else A (Some born_place) r.account.live b (λ same.
+      let o = r.whole.cycle.leaves.owned b is in
+      let p : ℕ = d * k.minor_words in
+      let l : b ≤ k.pools * 4096 = place_low k r.account.tenancy s.words b o.0 r.whole.pools o.1 in
+      let h : b ≡ A = same in omega arith) ∙ r.whole.cycle.leaves.dead b is)
+      (garbage_beside k r.account.live r.account.tenancy r.account.cycling s.words r.whole.cycle.leaves A new r.whole.pools beside)
+
   -- what the entry leaves of the cycle
   advance1 : Advance k s r id hist x at e None live1
   advance1 = advances_command k s r id hist x at may.acts.runs may.acts.paid (Alloc dst tag n) live1 refl grows
@@ -470,6 +484,8 @@ module _ (k : Config) (s : Words) (r : Rule k s) (id : ℕ) (hist : List Entry) 
     hunters = λ z _ g. hunter_beside k r.account.tenancy s.words A new r.whole.pools z (beside z.own.number) g.hunter;
     listed = let l = listed_here k s r id hist x at live1 no_ephe grows x g in record { all = l.all; own = l.own; lives = l.lives };
     listeds = λ z _ o. listed_here k s r id hist x at live1 no_ephe grows z o;
+    garbage = garbage1;
+    sweeps = g.sweeps;
   }
 
   alloc_told : AllocTold k e changes x after

@@ -13,7 +13,7 @@ use Rattle.heap_rule.specs.Finalisers.{FinalisersFit}
 use Rattle.heap_rule.specs.Raw.{CanChange, Changes, Closes}
 use Rattle.heap_rule.specs.Standing.{LeavesOwn}
 use Rattle.heap_rule.specs.Places.{class_words}
-use Rattle.heap_rule.specs.Token.{AllInHeap, LooksWithin, OwnFits, next_label}
+use Rattle.heap_rule.specs.Token.{AllInHeap, LooksWithin, OwnFits, SweptWithin, next_label}
 use Rattle.heap_rule.proofs.ChangeLemmas.{changed_only}
 use Rattle.steps_making.specs.Inits.{fields_of, WordTold, AllocTold, CanCount, Counts}
 use Rattle.heap_rule.proofs.Closes.{front_same}
@@ -60,6 +60,7 @@ alloc_closes k x new words e changes fits class room small serial y p told =
         pending = ap (λ (o : Own). o.pending.room + length o.pending.items) rest ∙ p.pending;
         ephemerons = subst (λ (o : Own). AllInHeap k o.ephemerons.items) (sym rest) p.ephemerons;
         finalisers = subst (λ (o : Own). FinalisersFit k o.finalisers) (sym rest) p.finalisers;
+        swept = subst (λ (o : Own). SweptWithin k o.swept) (sym rest) p.swept;
       };
       once = λ _. inr (record { entry = e; answer = Replied (Block (next_label x)); answers = told.answers });
     }

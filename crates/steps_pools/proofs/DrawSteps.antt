@@ -1,7 +1,7 @@
 -- The steps that take a free block of the pools keep the rule.
 use Rattle.heap_model.specs.Domains.{class_count, reserve}
 use Rattle.heap_rule.specs.Limits.{sizes_in}
-use Rattle.std.proofs.Common.{◌≡◌, ◌≢◌, ℕ, ◌+◌, ◌*◌, ◌-◌, ◌^◌, ◌%◌, ◌<◌, ◌≤◌, ◌⊎◌, List, length, get_or, set, Option, Some, None, sym, refl, ap, ◌∙◌, subst, inl, inr, ⊎_elim, arith, add-one, suc-mul, length-set, get_or-set_same, get_or-set_other, IsTrue}
+use Rattle.std.proofs.Common.{◌≡◌, ◌≢◌, ℕ, ◌+◌, ◌*◌, ◌-◌, ◌^◌, ◌%◌, ◌<◌, ◌≤◌, ◌⊎◌, List, length, get_or, set, Option, Some, None, sym, refl, ap, ◌∙◌, subst, inl, inr, ⊎_elim, arith, add-one, suc-mul, length-set, get_or-set_same, get_or-set_other, IsTrue, Bool}
 use mathlib.Core.Logic.{dite}
 use native.Mathlib.Decide.{ℕ_discrete}
 use mathlib.Core.Option.{some}
@@ -24,7 +24,7 @@ use Rattle.heap_rule.specs.Pools.{Holder, nobody, drawn, owned, owner_word, Stoc
 use Rattle.heap_rule.specs.Phases.{Phases, AtStage, sum_of}
 use Rattle.steps_pools.specs.Takes.{with_hunt, found_free, HasNoDraw, NoneFree}
 use Rattle.heap_rule.proofs.Update.{over, over_here, over_else}
-use Rattle.heap_rule.proofs.Keeps.{Words, mine, my_good, phases_words, holds_again, room_words, no_garbage_here, run_copying}
+use Rattle.heap_rule.proofs.Keeps.{Words, mine, my_good, phases_words, holds_again, room_words, no_cycle_here, run_copying}
 use Rattle.heap_rule.proofs.PauseFacts.{run_promoting, promote_now}
 use Rattle.heap_rule.proofs.Controls.{sum_one}
 use Rattle.heap_rule.proofs.EphemeronLemmas.{listed_on}
@@ -34,9 +34,11 @@ use Rattle.heap_rule.proofs.Sharings.{SameCycle, cycle_unmoved, takes_kind}
 use Rattle.heap_rule.specs.Fullness.{Fullness}
 use Rattle.cycle_laws.specs.Fullness.{kept_labels, HoldsKept}
 use Rattle.heap_rule.proofs.Classes.{some_block}
-use Rattle.heap_rule.specs.Places.{Place}
+use Rattle.heap_rule.specs.Places.{Place, Live}
 use Rattle.std.proofs.lemmas.Option.{none-some, same_Some}
 use Rattle.heap_rule.proofs.Stages.{copying_keeps}
+use Rattle.heap_rule.specs.Cycles.{Cycling, HasNoCycle, Leaves}
+use Rattle.heap_rule.proofs.Garbage.{KeepsGarbage, garbage_same}
 
 -- which owner word is which holder's
 pub own_word : (h : Holder) (d c : ℕ) → c < class_count → ((e b : ℕ) → h ≡ owned e b → b < class_count) → owner_word h ≡ 16 * d + c + 1 → h ≡ owned d c
@@ -83,6 +85,17 @@ latest_words k t words words' d c stays l = record {
       (λ (z : at_address k words (place_in (t.stock.latest d c) c j) ≡ 0). inl (stays (t.stock.latest d c) j l.own_is inside ∙ z))
       (λ (z : (j ≡ t.stock.used d c) × (t.prepared (place_in (t.stock.latest d c) c j) ≡ Some d)). inr z)
       (l.rest j from inside);
+}
+
+-- garbage stays where no word of the heap changes, and owned pools stay so
+pub garbage_agrees : (k : Config) (t t' : Tenancy) (words words' : List ℕ) (live : Live) (c : Cycling) → Agrees k words words' → Leaves k live t c words → t'.garbage ≡ t.garbage → t'.prepared ≡ t.prepared
+    → ((q d b : ℕ) → t.holder q ≡ owned d b → t'.holder q ≡ owned d b) → KeepsGarbage k live t t' words words'
+garbage_agrees k t t' words words' live c agrees l same prepared held = record {
+  same = λ a. ap (λ (f : ℕ → Bool). f a) same;
+  dead = l.dead;
+  unprepared = λ a is. ap (λ (f : ℕ → Option ℕ). f a) prepared ∙ l.unprepared a is;
+  heads = λ a is. let o = (l.owned a is).1 in agrees.heap a (let b : a ≡ place_in o.pool o.class o.slot = o.begins in omega arith);
+  held = held;
 }
 
 module _ (k : Config) (s : Words) (r : Rule k s) (id : ℕ) (hist : List Entry) (x : DomainView) (at : get_elem? s.views id ≡ some (one k hist x)) (takes : Takes x.seen.stage) where
@@ -151,8 +164,7 @@ module _ (k : Config) (s : Words) (r : Rule k s) (id : ℕ) (hist : List Entry) 
     unused = r.whole.unused;
     endings = refl;
     cycle = cycle_unmoved s.words;
-    garbage = λ a. refl;
-    held = λ q d c e. e;
+    garbage = garbage_same k r.account.live t r.account.cycling s.words r.whole.cycle.leaves;
     heads = λ a p e. refl;
     listeds = λ z g. let l = g.listed in record { all = l.all; own = l.own; lives = l.lives };
     full = r.whole.full;
@@ -184,8 +196,7 @@ module _ (k : Config) (s : Words) (r : Rule k s) (id : ℕ) (hist : List Entry) 
     unused = r.whole.unused;
     endings = refl;
     cycle = cycle_unmoved s.words;
-    garbage = λ a. refl;
-    held = λ q d c e. e;
+    garbage = garbage_same k r.account.live t r.account.cycling s.words r.whole.cycle.leaves;
     heads = λ a p e. refl;
     listeds = λ z g. let l = g.listed in record { all = l.all; own = l.own; lives = l.lives };
     full = r.whole.full;
@@ -221,8 +232,7 @@ module _ (k : Config) (s : Words) (r : Rule k s) (id : ℕ) (hist : List Entry) 
         unused = r.whole.unused;
         endings = refl;
         cycle = cycle_unmoved s.words;
-        garbage = λ a. refl;
-        held = λ q d c e. e;
+        garbage = garbage_agrees k t t' s.words s.words r.account.live r.account.cycling (agrees_same k s.words) r.whole.cycle.leaves refl refl (λ q d c e. e);
         heads = λ a p e. refl;
         listeds = λ z g. let l = g.listed in record { all = l.all; own = l.own; lives = l.lives };
         full = r.whole.full;
@@ -334,8 +344,7 @@ module _ (k : Config) (s : Words) (r : Rule k s) (id : ℕ) (hist : List Entry) 
       unused = r.whole.unused;
       endings = other_word 8 (λ e. omega arith);
       cycle = cycle1;
-      garbage = λ a. refl;
-      held = λ q d c e. e;
+      garbage = garbage_agrees k t (record t { asking = asking' }) s.words words1 r.account.live r.account.cycling agrees r.whole.cycle.leaves refl refl (λ q d c e. e);
       heads = λ a p e. agrees.heap a (r.whole.placed.fits a p e).low;
       listeds = λ z g. let l = g.listed in record { all = l.all; own = l.own; lives = l.lives };
       full = r.whole.full;
@@ -457,6 +466,10 @@ module _ (k : Config) (s : Words) (r : Rule k s) (id : ℕ) (hist : List Entry) 
                 (l.rest j (subst (λ (m : ℕ). m ≤ j) used from) inside));
           }
 
+      -- no garbage lies in the pool drawn last for a class
+      unfresh : (q : ℕ) → t.holder q ≡ owned me class → IsTrue (t.garbage (place_in q class 0)) → t.fresh me class ≢ Some q
+      unfresh q is garbage = ?
+
       -- the pool that the domain drew last for the class has no free place any more, so a kept block lies in it
       filled : (q : ℕ) → t.holder q ≡ owned me class → HoldsKept (kept_labels (sizes_in k) r.account.log) r.account.homes q
       filled q is =
@@ -469,7 +482,8 @@ module _ (k : Config) (s : Words) (r : Rule k s) (id : ℕ) (hist : List Entry) 
           ⊎_elim (λ (z : at_address k s.words (place_in q class 0) ≡ 0). absurd (full_head z))
           (λ z. ⊎_elim (λ (y : (p : Place) × (r.account.live (place_in q class 0) ≡ Some p)). lives y.0 y.1)
           (λ y. ⊎_elim (λ (w : t.prepared (place_in q class 0) ≡ Some me). absurd (none-some (place_in q class 0) (sym unprepared ∙ hunter.prepared q class 0 is inside w)))
-          (λ (w : IsTrue (t.garbage (place_in q class 0))). absurd (no_garbage_here k s r id hist x at in_kind.0 in_kind.1 in_kind.2 (place_in q class 0) w)) y) z)
+          (λ (w : IsTrue (t.garbage (place_in q class 0))). ⊎_elim (λ (e : t.fresh me class ≡ Some q). absurd (unfresh q is w e)) (λ h. h)
+          (r.whole.full.owned (λ e. subst HasNoCycle e (no_cycle_here k s r id hist x at in_kind.0 in_kind.1 in_kind.2)) q me class is)) y) z)
           (r.whole.grid.places q me class 0 is inside)
 
       full1 : Fullness k r.account.log r.account.live t1.holder t1.fresh r.account.homes r.account.cycling.kind
@@ -514,8 +528,8 @@ module _ (k : Config) (s : Words) (r : Rule k s) (id : ℕ) (hist : List Entry) 
         unused = unused;
         endings = other_word 8 (λ e. omega arith);
         cycle = cycle1;
-        garbage = λ a. refl;
-        held = λ q e b is. else1 q (λ same. (nobody_not e).not_owned b (sym was ∙ (ap t.holder (sym same) ∙ is))) ∙ is;
+        garbage = garbage_agrees k t t1 s.words words1 r.account.live r.account.cycling agrees r.whole.cycle.leaves refl refl
+            (λ q e b is. else1 q (λ same. (nobody_not e).not_owned b (sym was ∙ (ap t.holder (sym same) ∙ is))) ∙ is);
         heads = λ a p e. agrees.heap a (r.whole.placed.fits a p e).low;
         listeds = λ z g. listed_on r.account.live r.account.live t.holder t1.holder t.garbage t1.garbage z.own.number z.own.ephemerons.items
             (λ q b is. dite (ℕ_discrete q pool) (λ same. absurd (drawn_owned me z.own.number b (sym (over_here pool (drawn me) t.holder) ∙ (ap t1.holder (sym same) ∙ is)))) (λ other. sym (else1 q other) ∙ is))

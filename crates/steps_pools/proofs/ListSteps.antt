@@ -168,6 +168,7 @@ module _ (k : Config) (s : Words) (r : Rule k s) (id : ℕ) (hist : List Entry) 
         set_back = λ h. o.set_back h.0 h.1;
         sharing = sharing_words k r.account r.account s.words words' x refl refl refl refl same o.every good.sharing;
         listed = good.listed;
+        sweeps = good.sweeps;
       }
       (λ z _ other g. record {
         stood = g.stood;
@@ -183,6 +184,7 @@ module _ (k : Config) (s : Words) (r : Rule k s) (id : ℕ) (hist : List Entry) 
         set_back = λ h. o.others_set_back z g.staged h (g.set_back h);
         sharing = sharing_words k r.account r.account s.words words' z refl refl refl refl same o.every g.sharing;
         listed = g.listed;
+        sweeps = g.sweeps;
       })
 
 -- one of these words is written

@@ -1,5 +1,5 @@
 -- The making of a plain block, and of an ephemeron, at a free place of an own pool keeps the rule.
-use Rattle.std.proofs.Common.{◌≡◌, ℕ, zero, suc, ◌+◌, ◌^◌, ◌<◌, ◌≤◌, ◌⊎◌, ◌==◌, ◌||◌, Bool, true, false, IsTrue, List, [], ◌∷◌, ◌++◌, map, set, replicate, slice_get, pos, Some, None, sym, refl, ap, ◌∙◌, subst, inl, inr, ⊎_elim, arith, zero-le, eq-eqb, eqb-true}
+use Rattle.std.proofs.Common.{◌≡◌, ℕ, zero, suc, ◌+◌, ◌^◌, ◌<◌, ◌≤◌, ◌⊎◌, ◌==◌, ◌||◌, Bool, true, false, IsTrue, List, [], ◌∷◌, ◌++◌, map, set, replicate, slice_get, pos, Some, None, sym, refl, ap, ◌∙◌, subst, inl, inr, ⊎_elim, arith, zero-le, eq-eqb, eqb-true, length}
 use Rattle.std.proofs.lemmas.List.{length-replicate}
 use Rattle.std.proofs.lemmas.Int.{ints}
 use Rattle.std.proofs.lemmas.Bool.{or_left, or_right}
@@ -29,6 +29,7 @@ use Rattle.steps_pools.specs.Ephemerons.{empty_word, with_ephemeron, EpheMay, Ep
 use Rattle.heap_rule.proofs.ChangeLemmas.{changed_only}
 use Rattle.heap_rule.proofs.Born.{zero_word, zero_values}
 use Rattle.steps_pools.proofs.NewBlocks.{IsNewBlock, MakesNode, ListsNew, MakesMay, after, makes_rule, makes_answers, makes_holds}
+use Rattle.heap_rule.proofs.Lists.{got_end}
 
 zero_there : (n i : ℕ) → i < n → slice_get (replicate n zero_word) i ≡ Some zero_word
 zero_there zero i h = absurd (omega arith)
@@ -52,7 +53,7 @@ major_makes dst tag n = record { makes = λ s d. refl; allocates = refl; unregis
 
 -- it isn't listed
 lists_none : (n tag a : ℕ) (items : List ℕ) → ListsNew (PlainShape n tag) a items items
-lists_none n tag a items = record { all = λ b h. h; only = λ b h. inl h; new = λ keys is. absurd (let e : PlainShape n tag ≡ EpheShape keys = is in cc) }
+lists_none n tag a items = record { all = λ b h. h; only = λ b h. inl h; new = λ keys is. absurd (let e : PlainShape n tag ≡ EpheShape keys = is in cc); same = λ i b got. inl got }
 
 -- each key of a new ephemeron has this word
 empty_keys : (n i : ℕ) (v : graph_value.Value) → slice_get (map key_value (replicate n None)) i ≡ Some v → (v ≡ Nothing) × (slice_get (replicate n empty_word) i ≡ Some empty_word)
@@ -114,6 +115,7 @@ lists_one keys a items = record {
   all = λ b h. seen_more items a b h;
   only = λ b h. ⊎_elim (λ (t : IsTrue (seen_by items b)). inl t) (λ (t : b ≡ a). inr (t, keys, refl)) (seen_only items a b h);
   new = λ _ _. seen_last items a;
+  same = λ i b got. ⊎_elim (λ (h : slice_get items i ≡ Some b). inl h) (λ (h : (i ≡ length items) × (a ≡ b)). inr (sym h.1)) (got_end items a b i got);
 }
 
 -- what the two stores owe

@@ -21,7 +21,7 @@ use Rattle.heap_model.specs.Entries.{next}
 use Rattle.heap_model.specs.Fronts.{Shape, EpheShape, shape_of, Answers}
 use Rattle.heap_model.proofs.Graphs.GraphLemmas.{node_at-append_old, node_at-append_new}
 use Rattle.heap_model.proofs.Histories.NumberLemmas.{next_label_after, next_label-new}
-use Rattle.heap_model.proofs.Reach.ReachLemmas.{never_not, true_or_false}
+use Rattle.heap_model.proofs.Reach.ReachLemmas.{never_not, true_or_false, never_true}
 use Rattle.cycle_laws.specs.Beside.{Past, WriteBarrier, owed_after}
 use Rattle.cycle_laws.specs.Cover.{is_new as is_newer}
 use Rattle.cycle_laws.specs.Marks.{Marks}
@@ -49,13 +49,13 @@ use Rattle.heap_rule.specs.Pools.{Grid, Lot, Hunter, owned, blocks_of, Filling, 
 use Rattle.heap_rule.specs.Token.{next_label, Holds}
 use Rattle.heap_rule.proofs.ChangeLemmas.{registers_of}
 use Rattle.heap_rule.proofs.Values.{AllStand, extent_large, stand_set, holds}
-use Rattle.heap_rule.proofs.Keeps.{whole_here, Words, mine, my_good, control_set, controls_kept, appends, legal_entry, owes_run, quiet, run_settled, opened_words, between_here, after_entry}
+use Rattle.heap_rule.proofs.Keeps.{whole_here, Words, mine, my_good, control_set, controls_kept, appends, legal_entry, owes_run, quiet, run_settled, opened_words, between_here, after_entry, garbage_here}
 use Rattle.heap_rule.proofs.Entering.{running, inside_state, registers_stand, may_begin, open_after}
 use Rattle.heap_rule.proofs.FinaliserLemmas.{enrolled_as, enrolled_more, work_command}
 use Rattle.heap_rule.proofs.Beside.{found_beside, making_beside}
 use Rattle.heap_rule.proofs.Born.{all_more, live', born, more, old, is_new, placed_born, settled_born, recalls_born, naming_born, spread_born, opened_born, classes_born}
 use Rattle.heap_rule.proofs.OwnPlaces.{owned_same}
-use Rattle.heap_rule.proofs.Lots.{hunter_beside, stays, head_some, place_cases}
+use Rattle.heap_rule.proofs.Lots.{hunter_beside, stays, head_some, garbage_full}
 use Rattle.heap_rule.proofs.Holders.{free_later}
 use Rattle.steps_pools.proofs.DrawSteps.{none_drawn}
 use Rattle.steps_pools.proofs.WalkSteps.{filling, live_far, others_beside, equal_le, lot_top}
@@ -75,7 +75,9 @@ use Rattle.heap_rule.specs.Standing.{Acts}
 use Rattle.heap_rule.proofs.Classes.{size_least, slot_inside}
 use Rattle.heap_rule.proofs.EphemeronLemmas.{ephe_more}
 use Rattle.heap_model.specs.declared.state.Mode.TheVariants.{Open}
-use Rattle.std.proofs.lemmas.Option.{none-some}
+use Rattle.heap_rule.proofs.Garbage.{KeepsGarbage}
+use Rattle.heap_rule.specs.Sweeping.{SweepsIn}
+use Rattle.heap_rule.proofs.Update.{over_else}
 
 -- the words behind the label stand for the node of a new block
 pub record IsNewBlock (shape : Shape) (node : Node) (behind : List ℕ) : Type 0 where
@@ -100,6 +102,7 @@ pub record ListsNew (shape : Shape) (a : ℕ) (items items' : List ℕ) : Type 0
   pub all : (b : ℕ) → IsTrue (seen_by items b) → IsTrue (seen_by items' b)
   pub only : (b : ℕ) → IsTrue (seen_by items' b) → IsTrue (seen_by items b) ⊎ ((b ≡ a) × (keys : ℕ) × (shape ≡ EpheShape keys))
   pub new : (keys : ℕ) → shape ≡ EpheShape keys → IsTrue (seen_by items' a)
+  pub same : (i b : ℕ) → slice_get items' i ≡ Some b → (slice_get items i ≡ Some b) ⊎ (b ≡ a)
 
 -- the store of the head of a new block, at which the command's entry stands
 pub record MakesMay (k : Config) (x : DomainView) (at new : ℕ) (changes : List Change) (c : Command) (dst : ℕ) (shape : Shape) (node : Node) (behind : List ℕ) (ephemerons : Bounded ℕ) : Type 0 where
@@ -351,6 +354,10 @@ module _ (k : Config) (s : Words) (r : Rule k s) (id : ℕ) (hist : List Entry) 
   spare_far : (b m : ℕ) → r.account.tenancy.prepared b ≡ Some m → b ≢ A
   spare_far b m is same = (r.whole.grid.spares b m is).head (ap (at_address k s.words) same ∙ F.free)
 
+  -- nothing else comes to live
+  unlived : (b : ℕ) → b ≢ A → r.account.live b ≡ None → live1 b ≡ None
+  unlived b other none = over_else A (Some born_place) r.account.live b other ∙ none
+
   grid1 : Grid k r.account.tenancy live1 ws
   grid1 = record {
     lots = λ b q lives under. dite (ℕ_discrete b A)
@@ -364,8 +371,26 @@ module _ (k : Config) (s : Words) (r : Rule k s) (id : ℕ) (hist : List Entry) 
     spares = λ b m is. let spare = r.whole.grid.spares b m is in record {
       own = spare.own;
       head = λ z. spare.head (sym (stays k r.account.tenancy s.words A new b (spare_far b m is)) ∙ z);
-      empty = ⊎_elim (λ (e : live1 b ≡ None). e) (λ (h : (q : Place) × (live1 b ≡ Some q)). absurd (none-some h.0 (sym spare.empty ∙ before b h.0 (spare_far b m is) h.1))) (place_cases (live1 b));
+      empty = unlived b (spare_far b m is) spare.empty;
     };
+  }
+
+  -- nor is it garbage, and none comes to live where garbage is
+  garbage_far : (b : ℕ) → IsTrue (r.account.tenancy.garbage b) → b ≢ A
+  garbage_far b is same = garbage_full k r.account.live r.account.tenancy r.account.cycling s.words r.whole.cycle.leaves b is (ap (at_address k s.words) same ∙ F.free)
+
+  garbage1 : KeepsGarbage k live1 r.account.tenancy r.account.tenancy s.words ws
+  garbage1 = garbage_here k s r id hist x at live1 ws (λ b is. unlived b (garbage_far b is) (r.whole.cycle.leaves.dead b is)) (λ b is. stays k r.account.tenancy s.words A new b (garbage_far b is))
+
+  -- so the list of ephemerons is pruned as far as it was
+  sweeps1 : SweepsIn r.account.tenancy r.account.cycling after
+  sweeps1 = let w = g.sweeps in record {
+    listed = λ i b low got. ⊎_elim
+        (λ (h : slice_get x.own.ephemerons.items i ≡ Some b). w.listed i b low h)
+        (λ (h : b ≡ a). never_true (r.account.tenancy.garbage b) (λ is. garbage_far b is (h ∙ may.word))) (may.lists.same i b got);
+    places = w.places;
+    anew = w.anew;
+    reaps = w.reaps;
   }
 
   in_pool : A ≤ pool * 4096 + 4096
@@ -492,6 +517,8 @@ module _ (k : Config) (s : Words) (r : Rule k s) (id : ℕ) (hist : List Entry) 
     hunters = λ z other g. hunter_beside k r.account.tenancy s.words A new r.whole.pools z (others_beside k s r id hist x at (inl may.acts.runs) pool class slot new words_made may.hunt z other A low in_pool) g.hunter;
     listed = listed1;
     listeds = listeds1;
+    garbage = garbage1;
+    sweeps = sweeps1;
   } where
     makings : (z : DomainView) → Making k s.words z → Making k ws z
     makings z p = making_beside k s.words A new z (λ j fits m. let h : A ≤ pool * 4096 + 4096 = in_pool in let i = pool_in in let y : ℕ = z.own.number * k.minor_words in let b : ℕ = A in let same : k.pools * 4096 + y + 1 + z.own.used + 1 + j ≡ b = m in omega arith) p

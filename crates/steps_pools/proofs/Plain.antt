@@ -17,7 +17,7 @@ use Rattle.heap_rule.specs.Limits.{sizes_in}
 use Rattle.heap_rule.specs.Pools.{blocks_of, owned, owner_word, limit_of, spot_at, hunting}
 use Rattle.heap_rule.specs.Raw.{Closes, StepsOnce}
 use Rattle.heap_rule.specs.Finalisers.{FinalisersFit}
-use Rattle.heap_rule.specs.Token.{AllInHeap, LooksWithin, OwnFits, next_label}
+use Rattle.heap_rule.specs.Token.{AllInHeap, LooksWithin, OwnFits, SweptWithin, next_label}
 use Rattle.heap_rule.proofs.ChangeLemmas.{changed_only}
 use Rattle.heap_rule.proofs.Classes.{some_block}
 use Rattle.steps_pools.specs.Takes.{CursorTold, CursorAddTold, OwnedTold, OwnerTold, PlaceTold, MajorTold}
@@ -84,7 +84,7 @@ looks_set k own class spot l low small = record {
 
 -- and the token's own data fits again
 pub looking_fits : (k : Config) (x y : DomainView) (class : ℕ) (spot : Spot) → OwnFits k x.own → y.own ≡ looking x.own class spot → spot.pool ≤ k.pools → spot.slot < blocks_of class → OwnFits k y.own
-looking_fits k x y class spot fits is low small = subst (OwnFits k) (sym is) record { number = fits.number; used = fits.used; registers = fits.registers; looked = looks_set k x.own class spot fits.looked low small; remembered = fits.remembered; prepared = fits.prepared; pending = fits.pending; ephemerons = fits.ephemerons; finalisers = fits.finalisers }
+looking_fits k x y class spot fits is low small = subst (OwnFits k) (sym is) record { number = fits.number; used = fits.used; registers = fits.registers; looked = looks_set k x.own class spot fits.looked low small; remembered = fits.remembered; prepared = fits.prepared; pending = fits.pending; ephemerons = fits.ephemerons; finalisers = fits.finalisers; swept = fits.swept }
 
 -- the pools are few
 few_pools : (k : Config) (pool : ℕ) → IsWithinLimits (sizes_in k) → pool < k.pools → pool < 2048
@@ -159,6 +159,7 @@ major_closes k x new e changes fit serial y fits told =
         pending = ap (λ (o : Own). o.pending.room + length o.pending.items) rest ∙ fits.pending;
         ephemerons = subst (λ (o : Own). AllInHeap k o.ephemerons.items) (sym rest) fits.ephemerons;
         finalisers = subst (λ (o : Own). FinalisersFit k o.finalisers) (sym rest) fits.finalisers;
+        swept = subst (λ (o : Own). SweptWithin k o.swept) (sym rest) fits.swept;
       };
       once = λ _. inr (record { entry = e; answer = Replied (Block (next_label x)); answers = told.answers });
     }
@@ -195,6 +196,7 @@ ephe_closes k x at new e changes inside can y fits told =
         pending = ap (λ (o : Own). o.pending.room + length o.pending.items) rest ∙ fits.pending;
         ephemerons = subst (λ (o : Own). AllInHeap k o.ephemerons.items) (sym rest) (in_heap_more k at x.own.ephemerons.items inside fits.ephemerons);
         finalisers = subst (λ (o : Own). FinalisersFit k o.finalisers) (sym rest) fits.finalisers;
+        swept = subst (λ (o : Own). SweptWithin k o.swept) (sym rest) fits.swept;
       };
       once = λ _. inr (record { entry = e; answer = Replied (Block (next_label x)); answers = told.answers });
     }

@@ -1,6 +1,6 @@
 -- The steps that look at the places of own pools, and make a drawn pool the domain's own.
 use Rattle.heap_model.specs.Domains.{class_count}
-use Rattle.std.proofs.Common.{◌≡◌, ◌≢◌, ℕ, ◌+◌, ◌*◌, ◌<◌, ◌≤◌, ◌⊎◌, List, [], ◌∷◌, ◌++◌, length, get_or, set, slice_get, Some, None, sym, refl, ap, ◌∙◌, subst, inl, inr, ⊎_elim, arith, length-set, get_or-set_same, get_or-set_other, lt_of_not-le}
+use Rattle.std.proofs.Common.{◌≡◌, ◌≢◌, ℕ, ◌+◌, ◌*◌, ◌<◌, ◌≤◌, ◌⊎◌, List, [], ◌∷◌, ◌++◌, length, get_or, set, slice_get, Some, None, sym, refl, ap, ◌∙◌, subst, inl, inr, ⊎_elim, arith, length-set, get_or-set_same, get_or-set_other, lt_of_not-le, IsTrue}
 use mathlib.Core.Logic.{dite}
 use native.Mathlib.Decide.{ℕ_discrete, dec_le}
 use mathlib.Core.Option.{some}
@@ -21,7 +21,7 @@ use Rattle.steps_pools.specs.Takes.{with_hunt, looked_to, NoneFree}
 use Rattle.heap_rule.proofs.Update.{over, over_here, over_else}
 use Rattle.heap_rule.proofs.Lists.{got_end, got_below}
 use Rattle.heap_rule.proofs.Values.{extent_large}
-use Rattle.heap_rule.proofs.Keeps.{Words, mine, more_same, phases_words, phases_same, cycle_control, control_set, controls_kept, pools_same, covered_words, room_words, holds_again}
+use Rattle.heap_rule.proofs.Keeps.{Words, mine, more_same, phases_words, phases_same, cycle_control, control_set, controls_kept, pools_same, covered_words, room_words, holds_again, garbage_here}
 use Rattle.heap_rule.proofs.Classes.{size_least, some_block, slot_below, slot_inside}
 use Rattle.heap_rule.proofs.Beside.{found_beside, making_beside}
 use Rattle.heap_rule.proofs.EphemeronLemmas.{own_place_on}
@@ -30,9 +30,10 @@ use Rattle.heap_rule.specs.Rule.{Good}
 use Rattle.heap_rule.proofs.OwnPlaces.{owned_same}
 use Rattle.heap_rule.proofs.Lots.{Beside, pool_beside, hunter_beside, drawn_same, stays, head_full}
 use Rattle.heap_rule.proofs.Holders.{Agrees, SameStock, agrees_set, drawn_not, drawn_owned, found_agrees, free_later, grid_over, hunter_agree, making_agrees, nobody_drawn, nobody_owned, owned_not, same_over}
-use Rattle.steps_pools.proofs.DrawSteps.{hunter, next_hunter, hunter_on, knows, known_free, draws_none, latest_words, own_word}
+use Rattle.steps_pools.proofs.DrawSteps.{hunter, next_hunter, hunter_on, knows, known_free, draws_none, latest_words, own_word, garbage_agrees}
 use Rattle.heap_rule.specs.Fullness.{Fullness}
 use Rattle.std.proofs.lemmas.Option.{same_Some}
+use Rattle.heap_rule.specs.Cycles.{Cycling, Leaves}
 
 pub equal_le : {a b : ℕ} → a ≡ b → b ≤ a
 equal_le {a} {b} e = omega arith
@@ -55,6 +56,11 @@ spares_stay k t live words at new far g a e prep = let s = g.spares a e prep in 
   head = λ z. s.head (sym (stays k t words at new a (λ same. far o.pool e o.class o.slot o.owned_is o.inside (sym o.begins ∙ same))) ∙ z);
   empty = s.empty;
 }
+
+-- and so do the heads of garbage
+pub garbage_heads : (k : Config) (t : Tenancy) (live : Live) (c : Cycling) (words : List ℕ) (at new : ℕ) → ((q e b slot : ℕ) → t.holder q ≡ owned e b → slot < blocks_of b → place_in q b slot ≢ at) → Leaves k live t c words
+    → (a : ℕ) → IsTrue (t.garbage a) → at_address k (set words (before_heap k + at) new) a ≡ at_address k words a
+garbage_heads k t live c words at new far l a is = let h = l.owned a is in let o = h.1 in stays k t words at new a (λ same. far o.pool h.0 o.class o.slot o.owned_is o.inside (sym o.begins ∙ same))
 
 module _ (k : Config) (s : Words) (r : Rule k s) (id : ℕ) (hist : List Entry) (x : DomainView) (at : get_elem? s.views id ≡ some (one k hist x)) (takes : Takes x.seen.stage) where
   abbrev d : ℕ
@@ -231,8 +237,8 @@ module _ (k : Config) (s : Words) (r : Rule k s) (id : ℕ) (hist : List Entry) 
         want = control_set k s.words A 0 (omega arith) 0 (omega arith);
         endings = control_set k s.words A 0 (omega arith) 8 (omega arith);
         cycle = cycle_control k s.words ws (control_set k s.words A 0 (omega arith));
-        garbage = λ a. refl;
-        held = λ q e c is. is;
+        garbage = garbage_here k s r id hist x at r.account.live ws r.whole.cycle.leaves.dead
+            (garbage_heads k T r.account.live r.account.cycling s.words A 0 (λ q e c slot owned_is below. place_far A low high q e c slot owned_is below) r.whole.cycle.leaves);
         heads = λ b q lives. stays k T s.words A 0 b (λ same. far A low high b q lives 0 (some_word b q lives) (let o : b ≡ A = same in let g : b + 0 ≡ A = omega arith in g));
         listeds = λ z g. g.listed;
         full = r.whole.full;
@@ -468,8 +474,8 @@ module _ (k : Config) (s : Words) (r : Rule k s) (id : ℕ) (hist : List Entry) 
       want = other_word 0 (λ e. omega arith);
       endings = other_word 8 (λ e. omega arith);
       cycle = record { armed_same = other_word 4 (λ e. omega arith); colours_same = other_word 5 (λ e. omega arith); changed_same = other_word 3 (λ e. omega arith); blocks_same = other_word 9 (λ e. omega arith); words_same = other_word 10 (λ e. omega arith) };
-      garbage = λ a. refl;
-      held = λ q e c is. else2 q (λ same. drawn_owned d e c (sym all_clear.drawn_is ∙ (ap T.holder (sym same) ∙ is))) ∙ is;
+      garbage = garbage_agrees k T t2 s.words words2 r.account.live r.account.cycling agrees r.whole.cycle.leaves refl refl
+          (λ q e c is. else2 q (λ same. drawn_owned d e c (sym all_clear.drawn_is ∙ (ap T.holder (sym same) ∙ is))) ∙ is);
       heads = λ a p lives. agrees.heap a (r.whole.placed.fits a p lives).low;
       listeds = listeds2;
       full = full2;
@@ -638,8 +644,8 @@ module _ (k : Config) (s : Words) (r : Rule k s) (id : ℕ) (hist : List Entry) 
         want = control_set k s.words B new (omega arith) 0 (omega arith);
         endings = control_set k s.words B new (omega arith) 8 (omega arith);
         cycle = cycle_control k s.words ws3 (control_set k s.words B new (omega arith));
-        garbage = λ a. refl;
-        held = λ q e c is. is;
+        garbage = garbage_here k s r id hist x at r.account.live ws3 r.whole.cycle.leaves.dead
+            (garbage_heads k T r.account.live r.account.cycling s.words B new (λ q e c i owned_is below. inner_far q e c i owned_is below B above_head below_end) r.whole.cycle.leaves);
         heads = λ b q lives. stays k T s.words B new b (λ same. let n : ℕ = extent q.shape in let p : ℕ = place_in pool class slot in let y : ℕ = size_of class in let f : m + 1 < y = room in let o : b ≡ p + 1 + m = same in let l : 0 < n = some_word b q lives in ⊎_elim (λ (h : b + n ≤ p). omega arith) (λ (h : p + y ≤ b). omega arith) (live_far b q lives));
         listeds = λ z g. g.listed;
         full = r.whole.full;

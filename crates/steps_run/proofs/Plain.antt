@@ -22,7 +22,7 @@ use Rattle.heap_rule.proofs.Plain.{fits_changed, entered_own, enters_once, chang
 use Rattle.heap_rule.proofs.Closes.{front_same}
 use Rattle.heap_rule.proofs.ChangeLemmas.{changed_only}
 use Rattle.steps_run.specs.Stores.{with_field, remembering_own, StoreTold, CanStore, Stores}
-use Rattle.heap_rule.specs.Token.{AllInHeap, Holds, LooksWithin, OwnFits}
+use Rattle.heap_rule.specs.Token.{AllInHeap, Holds, LooksWithin, OwnFits, SweptWithin}
 use Rattle.heap_rule.specs.Standing.{IsInHeap}
 use Rattle.steps_run.specs.Loads.{place_of, HeadCase, HeadTold, LabelTold, FieldRead}
 use Rattle.steps_run.specs.Ticks.{tick_answer, TickTold}
@@ -66,6 +66,7 @@ store_closes k x at new remembers e changes inside can y p told =
         pending = ap (λ (o : Own). o.pending.room + length o.pending.items) rest ∙ p.pending;
         ephemerons = subst (λ (o : Own). AllInHeap k o.ephemerons.items) (sym rest) p.ephemerons;
         finalisers = subst (λ (o : Own). FinalisersFit k o.finalisers) (sym rest) p.finalisers;
+        swept = subst (λ (o : Own). SweptWithin k o.swept) (sym rest) p.swept;
       };
       once = λ _. inr (record { entry = e; answer = Replied Done; answers = told.answers });
     }

@@ -36,10 +36,10 @@ use Rattle.steps_run.specs.Stores.{IsOldBlock, IsYoungBlock, MustRemember, with_
 use Rattle.heap_rule.proofs.Lists.{got_set, got_end}
 use Rattle.heap_rule.proofs.ChangeLemmas.{changed_only, registers_of}
 use Rattle.heap_rule.proofs.Values.{AllStand}
-use Rattle.heap_rule.proofs.Keeps.{Words, mine, my_good, whole_here, listed_here, control_set, controls_kept, hunter_as, appends, Controls, more_same, stands_more, quiet, no_owing, no_copied, no_debt, nothing_known, field_again, run_settled, opened_words}
-use Rattle.heap_rule.proofs.Again.{Back, ephe_back, placed_back, area_back, spread_back, opened_back, grid_back}
+use Rattle.heap_rule.proofs.Keeps.{Words, mine, my_good, whole_here, listed_here, control_set, controls_kept, hunter_as, appends, Controls, more_same, stands_more, quiet, no_owing, no_copied, no_debt, nothing_known, field_again, run_settled, opened_words, garbage_here}
+use Rattle.heap_rule.proofs.Again.{Back, ephe_back, placed_back, area_back, spread_back, opened_back, grid_back, none_back}
 use Rattle.heap_rule.proofs.Update.{over, over_here, over_else}
-use Rattle.heap_rule.proofs.Lots.{Beside, head_full, live_beside, grid_beside, hunter_beside}
+use Rattle.heap_rule.proofs.Lots.{Beside, head_full, live_beside, grid_beside, hunter_beside, garbage_beside}
 use Rattle.cycle_laws.specs.Beside.{WriteBarrier, owed_after}
 use Rattle.heap_rule.proofs.Advancing.{advances_command, underway_here}
 use Rattle.heap_rule.proofs.Sharings.{with_weak}
@@ -374,6 +374,9 @@ value_stores k slots id word hist x a new remembers changes command acts place m
       hunters = λ z _ g. hunter_beside k r.account.tenancy s.words (f.address + 2 + i) new r.whole.pools z (beside z.own.number) g.hunter;
       listed = let l = listed_here k s r id hist x at live1 (ephe_back r.account.live live1 back) grows x g in record { all = l.all; own = l.own; lives = l.lives };
       listeds = λ z _ h. listed_here k s r id hist x at live1 (ephe_back r.account.live live1 back) grows z h;
+      garbage = garbage_here k s r id hist x at live1 words (λ b is. none_back r.account.live live1 b back (r.whole.cycle.leaves.dead b is))
+          (garbage_beside k r.account.live r.account.tenancy r.account.cycling s.words r.whole.cycle.leaves (f.address + 2 + i) new r.whole.pools beside);
+      sweeps = g.sweeps;
     } in
     let here : word ≡ before_heap k + (f.address + 2 + i) = place ∙ ap (λ (n : ℕ). before_heap k + n) at_is in
     let told : Entered k e (Replied Done) NothingWord changes x (entered_view k s r id hist x at acts e regs) = enters k s r id hist x at acts graph e (Replied Done) NothingWord changes o in (

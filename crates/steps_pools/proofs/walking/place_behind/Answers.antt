@@ -1,7 +1,7 @@
 use Rattle.std.proofs.Common.{◌+◌, ◌<◌, ◌≤◌, ◌^◌, ℕ, arith}
 use Rattle.heap_rule.specs.Pools.{blocks_of}
 use Rattle.heap_rule.proofs.Classes.{some_block}
-use Rattle.steps_pools.proofs.walking.behind.Goals as goal
+use Rattle.steps_pools.proofs.walking.place_behind.Goals as goal
 
 pub overflow_add-slot : goal.overflow_add-slot
 overflow_add-slot c =
