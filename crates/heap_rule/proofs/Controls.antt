@@ -215,7 +215,7 @@ module _ (k : Config) (s : Words) (r : Rule k s) (id : ℕ) (hist : List Entry) 
 
   -- What a step of a pause owes: no entry stands, no block changes, and the phases may turn. The domain's list of copies may be emptied
   pub record Turns (y : DomainView) (pause' : Pause) (stock' : Stock) (c' : Cycling) (homes' : Homes) (words' : List ℕ) : Type 0 where
-    pub full : Fullness k r.account.log r.account.live r.account.tenancy.holder r.account.tenancy.fresh homes' c'.kind
+    pub full : Fullness k r.account.log r.account.live r.account.tenancy.holder r.account.tenancy.fresh r.account.tenancy.garbage homes' c'.kind
     pub paint : c'.paint ≡ r.account.cycling.paint
     pub cycle : Cycled k (state_of k r.account.log) r.account.live pause' (record r.account.tenancy { stock = stock' }) c' words'
     pub sharing : Sharing k (turned pause' (record r.account.tenancy { stock = stock' }) c' homes') words' y.own.number y.own.registers y.own.finalisers y.own.ephemerons.items y.seen.stage y.seen.share

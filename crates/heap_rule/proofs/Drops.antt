@@ -267,7 +267,7 @@ module _ (k : Config) (s : Words) (r : Rule k s) (id : ℕ) (hist : List Entry) 
       record {
         wide = o.untouched.0 ∙ r.whole.wide;
         legal = r.whole.legal;
-        full = full_back k r.account.log live0 live1 t.holder t.fresh r.account.homes c'.kind back (full_kind k r.account.log live0 t.holder t.fresh r.account.homes r.account.cycling.kind c'.kind (subst (λ (kind : Kind). (kind ≡ Answer → ⊥) → r.account.cycling.kind ≡ Answer → ⊥) (sym o.kind) (λ h. h)) r.whole.full);
+        full = full_back k r.account.log live0 live1 t.holder t.fresh t.garbage r.account.homes c'.kind back (full_kind k r.account.log live0 t.holder t.fresh t.garbage r.account.homes r.account.cycling.kind c'.kind (subst (λ (kind : Kind). (kind ≡ Answer → ⊥) → r.account.cycling.kind ≡ Answer → ⊥) (sym o.kind) (λ h. h)) r.whole.full);
         found = subst (λ (p : Paint). AllFound k p live1 graph words') (sym o.paint) (drop_found k paint0 live0 graph words' found0 r.whole.copies o.free);
         placed = placed_back k live0 live1 back r.whole.placed;
         spread = spread_back k live0 live1 back r.whole.spread;

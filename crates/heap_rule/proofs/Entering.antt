@@ -129,7 +129,7 @@ module _ (k : Config) (s : Words) (r : Rule k s) (id : ℕ) (hist : List Entry) 
 
   pub owing_rule : (e : Entry) (registers : List Value) (answer : Applied) (o : Enters e registers answer) → IsOfTrace e → Rule k record { words = s.words; homes = s.homes; views = set s.views id (one k hist (owing_view e registers o.weak)) }
   owing_rule e registers answer o of_trace = let g = my_good k s r id hist x at in let y : DomainView = owing_view e registers o.weak in appends k s r id hist x at e y s.words r.account.live r.account.homes o.advance.past record {
-    full = full_stays k r.account.log r.account.live r.account.tenancy.holder r.account.tenancy.fresh r.account.homes r.account.cycling.kind e (trace_collects e of_trace) r.whole.full;
+    full = full_stays k r.account.log r.account.live r.account.tenancy.holder r.account.tenancy.fresh r.account.tenancy.garbage r.account.homes r.account.cycling.kind e (trace_collects e of_trace) r.whole.full;
     alone = o.alone;
     of_trace = of_trace;
     runs = acts.runs;

@@ -45,33 +45,35 @@ made_stays k log e homes made l q is =
     (g.0, ap (λ (s : model.State). node_at s.graph l) (state_after-push (opening (sizes_in k)) log e) ∙ g.1)
 
 -- one more entry that makes no block
-pub full_stays : (k : Config) (log : List Entry) (live : Live) (holder : ℕ → Holder) (fresh : ℕ → ℕ → Option ℕ) (homes : Homes) (kind : Kind) (e : Entry) → is_collected e ≡ false
-    → Fullness k log live holder fresh homes kind → Fullness k (log ++ e ∷ []) live holder fresh homes kind
-full_stays k log live holder fresh homes kind e other f = record {
+pub full_stays : (k : Config) (log : List Entry) (live : Live) (holder : ℕ → Holder) (fresh : ℕ → ℕ → Option ℕ) (garbage : ℕ → Bool) (homes : Homes) (kind : Kind) (e : Entry) → is_collected e ≡ false
+    → Fullness k log live holder fresh garbage homes kind → Fullness k (log ++ e ∷ []) live holder fresh garbage homes kind
+full_stays k log live holder fresh garbage homes kind e other f = record {
   kept = λ a p lives. kept_stays k log e p.label other (f.kept a p lives);
   low = f.low;
   young = f.young;
   made = made_stays k log e homes f.made;
   owned = λ goes q d c is. ⊎_elim (λ (h : fresh d c ≡ Some q). inl h) (λ (h : HoldsKept (kept_labels (sizes_in k) log) homes q). inr (h.0, kept_stays k log e h.0 other h.1, h.2)) (f.owned goes q d c is);
   drawn = f.drawn;
+  left = λ q d c slot is inside dead. let h = f.left q d c slot is inside dead in (h.0, kept_stays k log e h.0 other h.1, h.2);
 }
 
 -- what lives lived before, as the same block
-pub full_back : (k : Config) (log : List Entry) (live live' : Live) (holder : ℕ → Holder) (fresh : ℕ → ℕ → Option ℕ) (homes : Homes) (kind : Kind) → Back live live'
-    → Fullness k log live holder fresh homes kind → Fullness k log live' holder fresh homes kind
-full_back k log live live' holder fresh homes kind back f = record {
+pub full_back : (k : Config) (log : List Entry) (live live' : Live) (holder : ℕ → Holder) (fresh : ℕ → ℕ → Option ℕ) (garbage : ℕ → Bool) (homes : Homes) (kind : Kind) → Back live live'
+    → Fullness k log live holder fresh garbage homes kind → Fullness k log live' holder fresh garbage homes kind
+full_back k log live live' holder fresh garbage homes kind back f = record {
   kept = λ a p lives. let w = back a p lives in subst (λ (l : Label). IsTrue (has_label (kept_labels (sizes_in k) log) l)) w.label (f.kept a w.place w.lives);
   low = λ q d c slot p is inside lives. let w = back (place_in q c slot) p lives in ap homes (sym w.label) ∙ f.low q d c slot w.place is inside w.lives;
   young = λ a p lives young bare. let w = back a p lives in ap homes (sym w.label) ∙ f.young a w.place w.lives young (w.forward ∙ bare);
   made = f.made;
   owned = f.owned;
   drawn = f.drawn;
+  left = f.left;
 }
 
 -- from phase to phase, but from that in which a collection is answered
-pub full_kind : (k : Config) (log : List Entry) (live : Live) (holder : ℕ → Holder) (fresh : ℕ → ℕ → Option ℕ) (homes : Homes) (kind kind' : Kind) → ((kind' ≡ Answer → ⊥) → kind ≡ Answer → ⊥)
-    → Fullness k log live holder fresh homes kind → Fullness k log live holder fresh homes kind'
-full_kind k log live holder fresh homes kind kind' goes f = record { kept = f.kept; low = f.low; young = f.young; made = f.made; owned = λ h. f.owned (goes h); drawn = f.drawn }
+pub full_kind : (k : Config) (log : List Entry) (live : Live) (holder : ℕ → Holder) (fresh : ℕ → ℕ → Option ℕ) (garbage : ℕ → Bool) (homes : Homes) (kind kind' : Kind) → ((kind' ≡ Answer → ⊥) → kind ≡ Answer → ⊥)
+    → Fullness k log live holder fresh garbage homes kind → Fullness k log live holder fresh garbage homes kind'
+full_kind k log live holder fresh garbage homes kind kind' goes f = record { kept = f.kept; low = f.low; young = f.young; made = f.made; owned = λ h. f.owned (goes h); drawn = f.drawn; left = f.left }
 
 -- neither a command nor the run of a finaliser collects anything
 pub trace_collects : (e : Entry) → IsOfTrace e → is_collected e ≡ false
@@ -94,14 +96,14 @@ new_kept k log d c makes =
     subst (λ (all : List Label). IsTrue (has_label all l)) (sym (kept_push (sizes_in k) log (CommandOf d c false) ∙ makes_label s d c kept makes)) (has-append_right kept (l ∷ []) l (ap (λ (b : Bool). b || false) (same_label_refl l)))
 
 -- a label without a block has no home
-pub homeless : (k : Config) (log : List Entry) (live : Live) (holder : ℕ → Holder) (fresh : ℕ → ℕ → Option ℕ) (homes : Homes) (kind : Kind) (l : Label) → node_at (state_after (opening (sizes_in k)) log).graph l ≡ None
-    → Fullness k log live holder fresh homes kind → homes l ≡ None
-homeless k log live holder fresh homes kind l unknown f = ⊎_elim (λ (e : homes l ≡ None). e) (λ (t : (q : ℕ) × (homes l ≡ Some q)). let n = f.made l t.0 t.1 in absurd (let e : ◌≡◌ {A = Option Node} None (Some n.0) = sym unknown ∙ n.1 in cc)) (number_cases (homes l))
+pub homeless : (k : Config) (log : List Entry) (live : Live) (holder : ℕ → Holder) (fresh : ℕ → ℕ → Option ℕ) (garbage : ℕ → Bool) (homes : Homes) (kind : Kind) (l : Label) → node_at (state_after (opening (sizes_in k)) log).graph l ≡ None
+    → Fullness k log live holder fresh garbage homes kind → homes l ≡ None
+homeless k log live holder fresh garbage homes kind l unknown f = ⊎_elim (λ (e : homes l ≡ None). e) (λ (t : (q : ℕ) × (homes l ≡ Some q)). let n = f.made l t.0 t.1 in absurd (let e : ◌≡◌ {A = Option Node} None (Some n.0) = sym unknown ∙ n.1 in cc)) (number_cases (homes l))
 
 -- a young block comes to live, whose label is kept and has no home
 pub full_young : (k : Config) (t : Tenancy) (words : List ℕ) (log : List Entry) (live live' : Live) (homes : Homes) (kind : Kind) (A : ℕ) (l : Label) → Pools k t words → k.pools * 4096 < A
     → ((b : ℕ) (q : Place) → b ≢ A → live' b ≡ Some q → live b ≡ Some q) → ((q : Place) → live' A ≡ Some q → q.label ≡ l) → homes l ≡ None → IsTrue (has_label (kept_labels (sizes_in k) log) l)
-    → Fullness k log live t.holder t.fresh homes kind → Fullness k log live' t.holder t.fresh homes kind
+    → Fullness k log live t.holder t.fresh t.garbage homes kind → Fullness k log live' t.holder t.fresh t.garbage homes kind
 full_young k t words log live live' homes kind A l pools high old here none is_kept f = record {
   kept = λ b q lives. dite (ℕ_discrete b A)
       (λ same. subst (λ (z : Label). IsTrue (has_label (kept_labels (sizes_in k) log) z)) (sym (here q (ap live' (sym same) ∙ lives))) is_kept)
@@ -115,6 +117,7 @@ full_young k t words log live live' homes kind A l pools high old here none is_k
   made = f.made;
   owned = f.owned;
   drawn = f.drawn;
+  left = f.left;
 }
 
 -- a block is there, or was there under this label, and if it doesn't forward it didn't
@@ -129,7 +132,7 @@ pub full_filled : (k : Config) (t : Tenancy) (words : List ℕ) (log : List Entr
     → ((b : ℕ) (q : Place) → b ≢ A → live' b ≡ Some q → Came live b q) → ((q : Place) → live' A ≡ Some q → q.label ≡ l)
     → ((b : ℕ) (q : Place) → b ≢ A → live' b ≡ Some q → q.forward ≡ None → q.label ≡ l → ⊥) → ((b : ℕ) (q : Place) → live' b ≡ Some q → b ≤ k.pools * 4096 → q.forward ≡ None)
     → homes l ≡ None → (n : Node) → node_at (state_after (opening (sizes_in k)) log).graph l ≡ Some n → IsTrue (has_label (kept_labels (sizes_in k) log) l)
-    → Fullness k log live t.holder t.fresh homes kind → Fullness k log live' t.holder t.fresh (with_pool homes l (own.1).pool) kind
+    → Fullness k log live t.holder t.fresh t.garbage homes kind → Fullness k log live' t.holder t.fresh t.garbage (with_pool homes l (own.1).pool) kind
 full_filled k t words log live live' homes kind A l pools own came here alone bare none n node is_kept f =
     let o = own.1 in record {
       kept = λ b q lives. dite (ℕ_discrete b A)
@@ -156,6 +159,7 @@ full_filled k t words log live live' homes kind A l pools own came here alone ba
           (λ (other : l ≡ x → ⊥). f.made x q (sym (home_else x other) ∙ is)) (label_discrete l x);
       owned = λ goes q d c is. ⊎_elim (λ (h : t.fresh d c ≡ Some q). inl h) (λ (h : HoldsKept (kept_labels (sizes_in k) log) homes q). inr (h.0, h.1, home_else h.0 (λ e. let bad : ◌≡◌ {A = Option ℕ} None (Some q) = sym none ∙ (ap homes e ∙ h.2) in cc) ∙ h.2)) (f.owned goes q d c is);
       drawn = f.drawn;
+      left = λ q d c slot is inside dead. let h = f.left q d c slot is inside dead in (h.0, h.1, home_else h.0 (λ e. let bad : ◌≡◌ {A = Option ℕ} None (Some q) = sym none ∙ (ap homes e ∙ h.2) in cc) ∙ h.2);
     } where
       home_here : with_pool homes l (own.1).pool l ≡ Some (own.1).pool
       home_here = ap (λ (b : Bool). cond b (Some (own.1).pool) (homes l)) (same_label_refl l)

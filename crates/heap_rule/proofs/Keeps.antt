@@ -634,7 +634,7 @@ module _ (k : Config) (s : Words) (r : Rule k s) (id : ℕ) (hist : List Entry) 
   pub record Appends (e : Entry) (y : DomainView) (words' : List ℕ) (live' : Live) (homes' : Homes) (past' : Past) : Type 0 where
     pub alone : (d : ℕ) → d ≢ x.own.number → is_entry_of d e ≡ false
     pub of_trace : IsOfTrace e
-    pub full : Fullness k (r.account.log ++ e ∷ []) live' r.account.tenancy.holder r.account.tenancy.fresh homes' r.account.cycling.kind
+    pub full : Fullness k (r.account.log ++ e ∷ []) live' r.account.tenancy.holder r.account.tenancy.fresh r.account.tenancy.garbage homes' r.account.cycling.kind
     pub runs : x.seen.stage ≡ In Run
     pub stage : y.seen.stage ≡ x.seen.stage
     pub listing : y.seen.listing ≡ x.seen.listing
@@ -845,7 +845,7 @@ module _ (k : Config) (s : Words) (r : Rule k s) (id : ℕ) (hist : List Entry) 
     pub cycle : SameCycle s.words words'
     pub garbage : KeepsGarbage k r.account.live r.account.tenancy t' s.words words'
     pub heads : (a : ℕ) (p : Place) → r.account.live a ≡ Some p → at_address k words' a ≡ at_address k s.words a
-    pub full : Fullness k r.account.log r.account.live t'.holder t'.fresh r.account.homes r.account.cycling.kind
+    pub full : Fullness k r.account.log r.account.live t'.holder t'.fresh t'.garbage r.account.homes r.account.cycling.kind
     pub found : AllFound k r.account.cycling.paint r.account.live now.graph words'
     pub pools : Pools k t' words'
     pub grid : Grid k t' r.account.live words'

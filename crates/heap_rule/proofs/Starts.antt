@@ -292,6 +292,7 @@ module _ (k : Config) (limits : IsWithinLimits (sizes_in k)) (words : List ℕ) 
       made = λ l q e. (shared_node, subst (λ (x : Label). node_at s0.graph x ≡ Some shared_node) (first_made l q e) refl);
       owned = λ _ q d c is. let o = holder_at q d c is in inr (shared_label, refl, first_home ∙ ap Some (sym o.0));
       drawn = λ q d e. absurd (none_drawn q d e);
+      left = λ q d c slot is inside dead. absurd (let e : false ≡ true = dead in cc);
     };
     found = λ a p e. let t = only_at a p e in subst (λ (x : ℕ × Place). Found k first_cycle.paint only s0.graph words x.0 x.1) (λ i. (sym t.0 i, t.1 i)) found;
     placed = placed;

@@ -104,7 +104,7 @@ pub record Rested (words : List ℕ) : Type 0 where
 pub record Whole (k : Config) (all : Account) (words : List ℕ) : Type 0 where
   pub wide : length words ≡ table_words k
   pub legal : Legal (sizes_in k) all.log
-  pub full : Fullness k all.log all.live all.tenancy.holder all.tenancy.fresh all.homes all.cycling.kind
+  pub full : Fullness k all.log all.live all.tenancy.holder all.tenancy.fresh all.tenancy.garbage all.homes all.cycling.kind
   pub found : AllFound k all.cycling.paint all.live (state_of k all.log).graph words
   pub placed : Placed k all.live
   pub spread : Spread k all.live

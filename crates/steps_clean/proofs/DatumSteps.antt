@@ -171,7 +171,7 @@ module _ (k : Config) (s : Words) (r : Rule k s) (id : ℕ) (hist : List Entry) 
           values = values_wiped;
           emptied_else = λ z other. label_else c.paint.emptied l [] z other;
           legal = legal_entry k s r id hist x at wipe allowed.0;
-          full = full_stays k r.account.log live T.holder T.fresh r.account.homes c.kind wipe refl r.whole.full;
+          full = full_stays k r.account.log live T.holder T.fresh T.garbage r.account.homes c.kind wipe refl r.whole.full;
           keeps = λ z. subst (λ (v : model.State). KeepsDomain now v z) (sym after) (keeps_next now wipe z refl);
           work = λ z. subst (λ (v : model.State). KeepsWork now v z) (sym after) (work_next now wipe z refl tt);
           facts = facts_after;

@@ -172,7 +172,7 @@ module _ (k : Config) (s : Words) (r : Rule k s) (id : ℕ) (hist : List Entry) 
       pub values : values_of (without_keys (emptied' p.label) after) ≡ set (values_of (without_keys (paint.emptied p.label) node)) i Nothing
       pub emptied_else : (l : Label) → p.label ≢ l → emptied' l ≡ paint.emptied l
       pub legal : Legal (sizes_in k) log'
-      pub full : Fullness k log' live T.holder T.fresh r.account.homes c.kind
+      pub full : Fullness k log' live T.holder T.fresh T.garbage r.account.homes c.kind
       pub keeps : (z : ℕ) → KeepsDomain now later z
       pub work : (z : ℕ) → KeepsWork now later z
       pub facts : Facts Clean k later live T c' words'

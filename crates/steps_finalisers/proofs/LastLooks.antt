@@ -159,7 +159,7 @@ module _ (k : Config) (s : Words) (r : Rule k s) (id : ℕ) (hist : List Entry) 
       taken : Takes k s r id hist x at Lasts may.stage (λ p. p) (λ none. none) (λ e. cc) i x.seen.share.kept front lists front
       taken = record {
         legal = legal_entry k s r id hist x at e row.0;
-        full = full_stays k log live t.holder t.fresh r.account.homes c.kind e refl r.whole.full;
+        full = full_stays k log live t.holder t.fresh t.garbage r.account.homes c.kind e refl r.whole.full;
         graph = ap (λ (w : model.State). w.graph) after;
         keeps = λ n. subst (λ (w : model.State). KeepsDomain now w n) (sym after) (keeps_next now e n refl);
         work = λ n other. subst (λ (w : model.State). KeepsWork now w n) (sym after) (work_same now (next now e) n (get_or-set_other now.domains d n _ no_domain other));

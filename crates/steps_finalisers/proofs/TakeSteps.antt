@@ -88,7 +88,7 @@ module _ (k : Config) (s : Words) (r : Rule k s) (id : ℕ) (hist : List Entry) 
     -- What it owes
     pub record Takes : Type 0 where
       pub legal : Legal (sizes_in k) log'
-      pub full : Fullness k log' live t.holder t.fresh r.account.homes c.kind
+      pub full : Fullness k log' live t.holder t.fresh t.garbage r.account.homes c.kind
       pub graph : later.graph ≡ now.graph
       pub keeps : (z : ℕ) → KeepsDomain now later z
       pub work : (z : ℕ) → z ≢ d → KeepsWork now later z

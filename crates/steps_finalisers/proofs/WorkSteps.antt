@@ -60,7 +60,7 @@ module _ (k : Config) (s : Words) (r : Rule k s) (id : ℕ) (hist : List Entry) 
   module _ (e : Entry) (registers : List Value) (fs : Finalisers) (answer : Applied) (o : Works e registers fs answer) where
     pub works_rule : Rule k record { words = s.words; homes = s.homes; views = set s.views id (one k hist (worked e registers fs)) }
     works_rule = let g = my_good k s r id hist x at in appends k s r id hist x at e (worked e registers fs) s.words r.account.live r.account.homes o.advance.past record {
-      full = full_stays k r.account.log r.account.live r.account.tenancy.holder r.account.tenancy.fresh r.account.homes r.account.cycling.kind e (trace_collects e o.of_trace) r.whole.full;
+      full = full_stays k r.account.log r.account.live r.account.tenancy.holder r.account.tenancy.fresh r.account.tenancy.garbage r.account.homes r.account.cycling.kind e (trace_collects e o.of_trace) r.whole.full;
       alone = o.alone;
       of_trace = o.of_trace;
       runs = goes_on.runs;

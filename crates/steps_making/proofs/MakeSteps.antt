@@ -409,16 +409,16 @@ module _ (k : Config) (s : Words) (r : Rule k s) (id : ℕ) (hist : List Entry) 
   }
 
   -- the new block is kept, and has no home yet
-  full1 : Fullness k (r.account.log ++ e ∷ []) live1 r.account.tenancy.holder r.account.tenancy.fresh r.account.homes r.account.cycling.kind
+  full1 : Fullness k (r.account.log ++ e ∷ []) live1 r.account.tenancy.holder r.account.tenancy.fresh r.account.tenancy.garbage r.account.homes r.account.cycling.kind
   full1 =
       let t : Tenancy = r.account.tenancy in
       let kind : Kind = r.account.cycling.kind in
       full_young k t s.words (r.account.log ++ e ∷ []) r.account.live live1 r.account.homes kind A L r.whole.pools (let p : ℕ = d * k.minor_words in let q : k.pools * 4096 < A = omega arith in q)
       (λ b q other lives. old k r.account.live A born_place (omega arith) away r.whole.placed b q other lives)
       (λ q lives. ap (λ (z : Place). z.label) (sym (is_new k r.account.live A born_place (omega arith) away r.whole.placed A q refl lives)))
-      (homeless k r.account.log r.account.live t.holder t.fresh r.account.homes kind L fresh r.whole.full)
+      (homeless k r.account.log r.account.live t.holder t.fresh t.garbage r.account.homes kind L fresh r.whole.full)
       (subst (λ (l : Label). IsTrue (has_label (kept_labels (sizes_in k) (r.account.log ++ e ∷ [])) l)) (sym label_is) (new_kept k r.account.log d (Alloc dst tag n) refl))
-      (full_stays k r.account.log r.account.live t.holder t.fresh r.account.homes kind e refl r.whole.full)
+      (full_stays k r.account.log r.account.live t.holder t.fresh t.garbage r.account.homes kind e refl r.whole.full)
 
   -- the new block is no ephemeron
   no_ephe : (b : ℕ) → IsEpheAt live1 b → IsEpheAt r.account.live b

@@ -112,7 +112,7 @@ ends k slots id hist x acts s r _ at _ =
     record {
       wide = untouched.0 ∙ r.whole.wide;
       legal = legal_entry k s r id hist x at e allowed;
-      full = full_stays k r.account.log r.account.live r.account.tenancy.holder r.account.tenancy.fresh r.account.homes r.account.cycling.kind e refl r.whole.full;
+      full = full_stays k r.account.log r.account.live r.account.tenancy.holder r.account.tenancy.fresh r.account.tenancy.garbage r.account.homes r.account.cycling.kind e refl r.whole.full;
       found = let paint = r.account.cycling.paint in subst (λ (t : model.State). AllFound k paint r.account.live t.graph ws) (sym after) (found_untouched k paint r.account.live now.graph s.words ws untouched r.whole.found);
       placed = r.whole.placed;
       spread = r.whole.spread;

@@ -241,7 +241,7 @@ module _ (k : Config) (s : Words) (r : Rule k s) (id : ℕ) (hist : List Entry) 
 
   way : Way k r.account.log live tenancy c r.account.homes s.words last next
   way = led_way k r.account.log live tenancy c r.account.homes s.words r.whole.cycle.leaves.none r.whole.cycle.leaves.owned r.whole.cycle.unswept ended_kind.1 counted (λ q d class is. let o = r.whole.pools.owned_by q d class is in (o.1, o.2)) r.whole.grid.lots last next follows ready facts
-      (subst (λ (kind : Kind). Fullness k r.account.log live tenancy.holder tenancy.fresh r.account.homes kind) kind_is r.whole.full)
+      (subst (λ (kind : Kind). Fullness k r.account.log live tenancy.holder tenancy.fresh tenancy.garbage r.account.homes kind) kind_is r.whole.full)
 
   untouched : Untouched s.words ws
   untouched = (length-set s.words 2 new, (λ i low other. get_or-set_other s.words 2 i new 0 (λ e. omega arith)))

@@ -185,7 +185,7 @@ module _ (k : Config) (log : List Entry) (live : Live) (t : Tenancy) (c : Cyclin
   pub record Way (last next : Kind) : Type 0 where
     pub allowed : (e : Entry) → entry_of c.unswept last next ≡ Some e → Allowed s e
     pub facts : Facts next k (left_by s (entry_of c.unswept last next)) live t (led_cycle k live last next s c) words
-    pub full : Fullness k (logged log (entry_of c.unswept last next)) live t.holder t.fresh homes next
+    pub full : Fullness k (logged log (entry_of c.unswept last next)) live t.holder t.fresh t.garbage homes next
     pub clean : (led_cycle k live last next s c).rotated ≡ false → (led_cycle k live last next s c).unswept ≡ false → (a : ℕ) → t.garbage a ≡ false
     pub left : IsTrue (led_cycle k live last next s c).unswept → LeftUnswept next c.armed (led_cycle k live last next s c).rotated
     pub unturned : next ≡ Lasts → (led_cycle k live last next s c).rotated ≡ false
@@ -193,7 +193,7 @@ module _ (k : Config) (log : List Entry) (live : Live) (t : Tenancy) (c : Cyclin
 
   module _ (none : c.rotated ≡ false → c.unswept ≡ false → (a : ℕ) → t.garbage a ≡ false) (garbage_owned : (a : ℕ) → IsTrue (t.garbage a) → (d : ℕ) × OwnPlace t.holder a d) (unswept : IsTrue c.unswept → LeftUnswept c.kind c.armed c.rotated) (all : AllArrived k.domains c.shares) (count : k.domains ≡ length s.domains) (owners : (q d class : ℕ) → t.holder q ≡ owned d class → (d < k.domains) × (class < class_count)) (lots : (a : ℕ) (p : Place) → live a ≡ Some p → a ≤ k.pools * 4096 → Lot t.holder a p) where
     abbrev Goes : Kind → Kind → Type 0
-    Goes last next = Ready k live s.graph last next c words → Facts last k s live t c words → Fullness k log live t.holder t.fresh homes last → Way last next
+    Goes last next = Ready k live s.graph last next c words → Facts last k s live t c words → Fullness k log live t.holder t.fresh t.garbage homes last → Way last next
 
     -- what holds of a cycle that goes on beside running domains, as the next kind is named
     goes_beside : (last : Kind) → c.kind ≡ last → IsBetween k s live c → IsTrue c.armed → Underway k s live last c.past c.paint.marks c.shares
@@ -260,31 +260,31 @@ module _ (k : Config) (log : List Entry) (live : Live) (t : Tenancy) (c : Cyclin
 
     -- another collection begins
     begins_anew : (after : model.State) (u : Bool) → c.unswept ≡ u → left_by s (entry_of u Sweep Roots) ≡ after → after.mode ≡ Open → Sweeping k s live t c words → ((e : Entry) → entry_of u Sweep Roots ≡ Some e → Allowed s e)
-        → Fullness k (logged log (entry_of u Sweep Roots)) live t.holder t.fresh homes Roots → Way Sweep Roots
+        → Fullness k (logged log (entry_of u Sweep Roots)) live t.holder t.fresh t.garbage homes Roots → Way Sweep Roots
     begins_anew after u is same mode f allowed full = record {
       allowed = λ e. subst (λ (b : Bool). entry_of b Sweep Roots ≡ Some e → Allowed s e) (sym is) (allowed e);
       facts = subst (λ (b : Bool). Facts Roots k (left_by s (entry_of b Sweep Roots)) live t (led_cycle k live Sweep Roots s c) words) (sym is) (subst (λ (z : model.State). Facts Roots k z live t (led_cycle k live Sweep Roots s c) words) (sym same)
           (quietly (laws.InPhase (laws.Roots laws.First) k.domains after) Sweep Roots f.swept.unchanged (phase_steps.begins k.domains after begun mode f.swept.unmarked), record { unchanged = f.swept.unchanged; unrotated = refl }));
-      full = subst (λ (b : Bool). Fullness k (logged log (entry_of b Sweep Roots)) live t.holder t.fresh homes Roots) (sym is) full;
+      full = subst (λ (b : Bool). Fullness k (logged log (entry_of b Sweep Roots)) live t.holder t.fresh t.garbage homes Roots) (sym is) full;
       clean = λ _ _. all_clear f.clear;
       left = λ left. let clash : false ≡ true = left in cc;
       unturned = λ e. cc;
       uncounted = λ e. cc;
     }
 
-    after_cycle : Sweeping k s live t c words → Fullness k log live t.holder t.fresh homes Sweep → c.unswept ≡ false → Way Sweep Roots
+    after_cycle : Sweeping k s live t c words → Fullness k log live t.holder t.fresh t.garbage homes Sweep → c.unswept ≡ false → Way Sweep Roots
     after_cycle f full is = begins_anew (state_next s Done) false is refl refl f (λ e h. the_entry (Allowed s) Done e h (phase_steps.sweep_done k.domains s swept (ends_of f is).1.facts))
-        (full_kind k (log ++ Done ∷ []) live t.holder t.fresh homes Sweep Roots (λ _ e. cc) (full_stays k log live t.holder t.fresh homes Sweep Done refl full))
+        (full_kind k (log ++ Done ∷ []) live t.holder t.fresh t.garbage homes Sweep Roots (λ _ e. cc) (full_stays k log live t.holder t.fresh t.garbage homes Sweep Done refl full))
 
-    after_rest : Sweeping k s live t c words → Fullness k log live t.holder t.fresh homes Sweep → IsTrue c.unswept → Way Sweep Roots
-    after_rest f full is = begins_anew s true is refl (rests_of f is) f (λ e h. absurd (none-some e h)) (full_kind k log live t.holder t.fresh homes Sweep Roots (λ _ e. cc) full)
+    after_rest : Sweeping k s live t c words → Fullness k log live t.holder t.fresh t.garbage homes Sweep → IsTrue c.unswept → Way Sweep Roots
+    after_rest f full is = begins_anew s true is refl (rests_of f is) f (λ e h. absurd (none-some e h)) (full_kind k log live t.holder t.fresh t.garbage homes Sweep Roots (λ _ e. cc) full)
 
     ways : Ways Goes
     ways = record {
       copies = λ r f full. record {
         allowed = λ e is. absurd (none-some e is);
         facts = record { mode = f.mode; unmarked = f.unmarked; beside = λ goes. stops k s live t.holder c count all (goes_beside Run r.kind f goes) (reset_shares c.shares.changed); unchanged = f.unchanged; unrotated = f.unrotated };
-        full = full_kind k log live t.holder t.fresh homes Run Promote (λ _ e. cc) full;
+        full = full_kind k log live t.holder t.fresh t.garbage homes Run Promote (λ _ e. cc) full;
         clean = none;
         left = still_left Promote c.rotated (inl tt) (λ is. (unswept is).unrotated);
         unturned = λ e. cc;
@@ -293,7 +293,7 @@ module _ (k : Config) (log : List Entry) (live : Live) (t : Tenancy) (c : Cyclin
       empties = λ r f full. record {
         allowed = λ e is. absurd (none-some e is);
         facts = record { mode = f.mode; unmarked = f.unmarked; beside = λ goes. passes k s live t.holder c count all Promote Reset c.shares.changed (λ e. cc) (goes_beside Promote r.kind f goes); unchanged = f.unchanged; unrotated = f.unrotated };
-        full = full_kind k log live t.holder t.fresh homes Promote Reset (λ _ e. cc) full;
+        full = full_kind k log live t.holder t.fresh t.garbage homes Promote Reset (λ _ e. cc) full;
         clean = none;
         left = still_left Reset c.rotated (inl tt) (λ is. (unswept is).unrotated);
         unturned = λ e. cc;
@@ -302,7 +302,7 @@ module _ (k : Config) (log : List Entry) (live : Live) (t : Tenancy) (c : Cyclin
       runs = λ r f full. record {
         allowed = λ e is. absurd (none-some e is);
         facts = record { mode = f.mode; unmarked = f.unmarked; beside = λ goes. passes k s live t.holder c count all Reset Run c.shares.changed (λ e. cc) (goes_beside Reset r.kind f goes); unchanged = f.unchanged; unrotated = refl };
-        full = full_kind k log live t.holder t.fresh homes Reset Run (λ _ e. cc) full;
+        full = full_kind k log live t.holder t.fresh t.garbage homes Reset Run (λ _ e. cc) full;
         clean = λ _. none f.unrotated;
         left = still_left Run false (inl tt) (λ _. refl);
         unturned = λ e. cc;
@@ -311,7 +311,7 @@ module _ (k : Config) (log : List Entry) (live : Live) (t : Tenancy) (c : Cyclin
       begins = λ r f full. record {
         allowed = λ e is. absurd (none-some e is);
         facts = (quietly (laws.InPhase (laws.Roots laws.First) k.domains s) Reset Roots f.unchanged (phase_steps.begins k.domains s begun f.mode (f.unmarked (r.begins refl refl).0)), record { unchanged = f.unchanged; unrotated = refl });
-        full = full_kind k log live t.holder t.fresh homes Reset Roots (λ _ e. cc) full;
+        full = full_kind k log live t.holder t.fresh t.garbage homes Reset Roots (λ _ e. cc) full;
         clean = λ _. none f.unrotated;
         left = λ is. absurd (never_both c.unswept (r.begins refl refl).1 is);
         unturned = λ e. cc;
@@ -323,7 +323,7 @@ module _ (k : Config) (log : List Entry) (live : Live) (t : Tenancy) (c : Cyclin
           phase_steps.goes_on k.domains s resumed refl f.mode (all_owned k s live t.holder c count all u old lots owners) (under_way k s live t.holder c count all u old words r.bare r.found r.full) c.shares.changed,
           f.unrotated,
         );
-        full = full_kind k log live t.holder t.fresh homes Reset Mark (λ _ e. cc) full;
+        full = full_kind k log live t.holder t.fresh t.garbage homes Reset Mark (λ _ e. cc) full;
         clean = none;
         left = λ is. absurd (never_both c.armed (unswept is).unarmed (r.finishes refl refl));
         unturned = λ e. cc;
@@ -337,7 +337,7 @@ module _ (k : Config) (log : List Entry) (live : Live) (t : Tenancy) (c : Cyclin
           clear = λ d a is. cc;
           all_counted = λ d is. cc;
         };
-        full = full_kind k log live t.holder t.fresh homes Reset Sweep (λ _ e. cc) full;
+        full = full_kind k log live t.holder t.fresh t.garbage homes Reset Sweep (λ _ e. cc) full;
         clean = none;
         left = still_left Sweep c.rotated (inr refl) (λ _. f.unrotated);
         unturned = λ e. cc;
@@ -352,7 +352,7 @@ module _ (k : Config) (log : List Entry) (live : Live) (t : Tenancy) (c : Cyclin
           unchanged = f.1.unchanged;
           unrotated = refl;
         };
-        full = full_kind k log live t.holder t.fresh homes Roots Run (λ _ e. cc) full;
+        full = full_kind k log live t.holder t.fresh t.garbage homes Roots Run (λ _ e. cc) full;
         clean = λ _. none f.1.unrotated;
         left = λ is. absurd (never_left Roots r.kind (λ h. h) (λ e. cc) is);
         unturned = λ e. cc;
@@ -361,7 +361,7 @@ module _ (k : Config) (log : List Entry) (live : Live) (t : Tenancy) (c : Cyclin
       roots = λ r f full. record {
         allowed = λ e is. absurd (none-some e is);
         facts = (phase_steps.roots_mark laws.First k.domains s cyc count f.0 all c.shares.changed, f.1.unrotated);
-        full = full_kind k log live t.holder t.fresh homes Roots Mark (λ _ e. cc) full;
+        full = full_kind k log live t.holder t.fresh t.garbage homes Roots Mark (λ _ e. cc) full;
         clean = none;
         left = λ is. absurd (never_left Roots r.kind (λ h. h) (λ e. cc) is);
         unturned = λ e. cc;
@@ -370,7 +370,7 @@ module _ (k : Config) (log : List Entry) (live : Live) (t : Tenancy) (c : Cyclin
       again = λ r f full. record {
         allowed = λ e is. absurd (none-some e is);
         facts = (phase_steps.mark_mark c.pass k.domains s cyc f.0 c.shares.changed, f.1);
-        full = full_kind k log live t.holder t.fresh homes Mark Mark (λ _ e. cc) full;
+        full = full_kind k log live t.holder t.fresh t.garbage homes Mark Mark (λ _ e. cc) full;
         clean = none;
         left = λ is. absurd (never_left Mark r.kind (λ h. h) (λ e. cc) is);
         unturned = λ e. cc;
@@ -379,7 +379,7 @@ module _ (k : Config) (log : List Entry) (live : Live) (t : Tenancy) (c : Cyclin
       rounds = λ r f full. record {
         allowed = λ e is. absurd (none-some e is);
         facts = (quietly (laws.InPhase (laws.Rounds c.pass) k.domains s) Mark Rounds (r.quiet (inl refl)) (phase_steps.mark_rounds c.pass k.domains s cyc f.0 all (r.quiet (inl refl))), f.1);
-        full = full_kind k log live t.holder t.fresh homes Mark Rounds (λ _ e. cc) full;
+        full = full_kind k log live t.holder t.fresh t.garbage homes Mark Rounds (λ _ e. cc) full;
         clean = none;
         left = λ is. absurd (never_left Mark r.kind (λ h. h) (λ e. cc) is);
         unturned = λ e. cc;
@@ -388,7 +388,7 @@ module _ (k : Config) (log : List Entry) (live : Live) (t : Tenancy) (c : Cyclin
       back = λ r f full. record {
         allowed = λ e is. absurd (none-some e is);
         facts = (phase_steps.rounds_mark c.pass k.domains s cyc f.0 c.shares.changed, f.1);
-        full = full_kind k log live t.holder t.fresh homes Rounds Mark (λ _ e. cc) full;
+        full = full_kind k log live t.holder t.fresh t.garbage homes Rounds Mark (λ _ e. cc) full;
         clean = none;
         left = λ is. absurd (never_left Rounds r.kind (λ h. h) (λ e. cc) is);
         unturned = λ e. cc;
@@ -397,7 +397,7 @@ module _ (k : Config) (log : List Entry) (live : Live) (t : Tenancy) (c : Cyclin
       cut = λ r f full. let quiet = r.quiet (inr (inl refl)) in let row = phase_steps.rounds_decide k.domains s cyc (subst (λ (pass : laws.Pass). laws.InPhase (laws.Rounds pass) k.domains s cyc) (r.first refl) f.0) all quiet in record {
         allowed = λ e is. the_entry (Allowed s) Cut e is row.0;
         facts = (quietly (laws.InPhase laws.Decide k.domains (state_next s Cut)) Rounds Decide quiet row.1, record { unchanged = quiet; unrotated = f.1 });
-        full = full_kind k (log ++ Cut ∷ []) live t.holder t.fresh homes Rounds Decide (λ _ e. cc) (full_stays k log live t.holder t.fresh homes Rounds Cut refl full);
+        full = full_kind k (log ++ Cut ∷ []) live t.holder t.fresh t.garbage homes Rounds Decide (λ _ e. cc) (full_stays k log live t.holder t.fresh t.garbage homes Rounds Cut refl full);
         clean = none;
         left = λ is. absurd (never_left Rounds r.kind (λ h. h) (λ e. cc) is);
         unturned = λ e. cc;
@@ -406,7 +406,7 @@ module _ (k : Config) (log : List Entry) (live : Live) (t : Tenancy) (c : Cyclin
       seal = λ r f full. let quiet = r.quiet (inr (inr refl)) in let row = phase_steps.rounds_clean k.domains s cyc (subst (λ (pass : laws.Pass). laws.InPhase (laws.Rounds pass) k.domains s cyc) (r.second refl) f.0) all quiet in record {
         allowed = λ e is. the_entry (Allowed s) Seal e is row.0;
         facts = (quietly (laws.InPhase laws.Clean k.domains (state_next s Seal)) Rounds Clean quiet row.1, record { unchanged = quiet; unrotated = f.1 });
-        full = full_kind k (log ++ Seal ∷ []) live t.holder t.fresh homes Rounds Clean (λ _ e. cc) (full_stays k log live t.holder t.fresh homes Rounds Seal refl full);
+        full = full_kind k (log ++ Seal ∷ []) live t.holder t.fresh t.garbage homes Rounds Clean (λ _ e. cc) (full_stays k log live t.holder t.fresh t.garbage homes Rounds Seal refl full);
         clean = none;
         left = λ is. absurd (never_left Rounds r.kind (λ h. h) (λ e. cc) is);
         unturned = λ e. cc;
@@ -415,7 +415,7 @@ module _ (k : Config) (log : List Entry) (live : Live) (t : Tenancy) (c : Cyclin
       queued = λ r f full. record {
         allowed = λ e is. absurd (none-some e is);
         facts = (quietly (laws.InPhase (laws.Roots laws.Second) k.domains s) Decide Queued f.1.unchanged (phase_steps.decide_queued k.domains s cyc count f.0 all), record { unchanged = f.1.unchanged; unrotated = f.1.unrotated });
-        full = full_kind k log live t.holder t.fresh homes Decide Queued (λ _ e. cc) full;
+        full = full_kind k log live t.holder t.fresh t.garbage homes Decide Queued (λ _ e. cc) full;
         clean = none;
         left = λ is. absurd (never_left Decide r.kind (λ h. h) (λ e. cc) is);
         unturned = λ e. cc;
@@ -424,7 +424,7 @@ module _ (k : Config) (log : List Entry) (live : Live) (t : Tenancy) (c : Cyclin
       second = λ r f full. record {
         allowed = λ e is. absurd (none-some e is);
         facts = (phase_steps.roots_mark laws.Second k.domains s cyc count f.0 all c.shares.changed, f.1.unrotated);
-        full = full_kind k log live t.holder t.fresh homes Queued Mark (λ _ e. cc) full;
+        full = full_kind k log live t.holder t.fresh t.garbage homes Queued Mark (λ _ e. cc) full;
         clean = none;
         left = λ is. absurd (never_left Queued r.kind (λ h. h) (λ e. cc) is);
         unturned = λ e. cc;
@@ -438,7 +438,7 @@ module _ (k : Config) (log : List Entry) (live : Live) (t : Tenancy) (c : Cyclin
           stays = λ _ l. refl;
           turned = λ is. absurd (let clash : true ≡ false = sym is ∙ f.1.unrotated in cc);
         };
-        full = full_kind k log live t.holder t.fresh homes Clean Lasts (λ _ e. cc) full;
+        full = full_kind k log live t.holder t.fresh t.garbage homes Clean Lasts (λ _ e. cc) full;
         clean = none;
         left = λ is. absurd (never_left Clean r.kind (λ h. h) (λ e. cc) is);
         unturned = λ _. f.1.unrotated;
@@ -452,7 +452,7 @@ module _ (k : Config) (log : List Entry) (live : Live) (t : Tenancy) (c : Cyclin
           clear = λ d a is. cc;
           all_counted = λ d is. cc;
         };
-        full = full_kind k log live t.holder t.fresh homes Lasts Sweep (λ _ e. cc) full;
+        full = full_kind k log live t.holder t.fresh t.garbage homes Lasts Sweep (λ _ e. cc) full;
         clean = none;
         left = λ is. absurd (never_left Lasts r.kind (λ h. h) (λ e. cc) is);
         unturned = λ e. cc;
@@ -461,7 +461,7 @@ module _ (k : Config) (log : List Entry) (live : Live) (t : Tenancy) (c : Cyclin
       leaves = λ r f full. let turned = f.turned (r.rotated refl) in let row = phase_steps.lasts_sweep k.domains s swept count f.facts all in record {
         allowed = λ e is. the_entry (Allowed s) Done e is (phase_steps.sweep_done k.domains s swept (let g = row.1 in record { sealed = g.sealed; owned = g.owned; whole = g.whole; waiting = g.waiting; kept = g.kept }));
         facts = record { mode = refl; unmarked = λ _. turned.unmarked; beside = λ goes. absurd (never_both c.armed (r.over (inl refl) refl) goes); unchanged = f.unchanged; unrotated = refl };
-        full = full_kind k (log ++ Done ∷ []) live t.holder t.fresh homes Lasts Run (λ _ e. cc) (full_stays k log live t.holder t.fresh homes Lasts Done refl full);
+        full = full_kind k (log ++ Done ∷ []) live t.holder t.fresh t.garbage homes Lasts Run (λ _ e. cc) (full_stays k log live t.holder t.fresh t.garbage homes Lasts Done refl full);
         clean = λ _ e. let clash : true ≡ false = e in cc;
         left = λ _. record { kind_is = inl tt; unarmed = r.over (inl refl) refl; unrotated = refl };
         unturned = λ e. cc;
@@ -495,14 +495,14 @@ module _ (k : Config) (log : List Entry) (live : Live) (t : Tenancy) (c : Cyclin
       done = λ r f full. let left = unswept (r.freed refl refl) in let rest = rests_of f (r.freed refl refl) in record {
         allowed = λ e is. absurd (none-some e is);
         facts = record { mode = rest; unmarked = λ _. f.swept.unmarked; beside = λ goes. absurd (never_both c.armed left.unarmed goes); unchanged = f.swept.unchanged; unrotated = refl };
-        full = full_kind k log live t.holder t.fresh homes Sweep Run (λ _ e. cc) full;
+        full = full_kind k log live t.holder t.fresh t.garbage homes Sweep Run (λ _ e. cc) full;
         clean = λ _ _. all_clear f.clear;
         left = λ is. let clash : false ≡ true = is in cc;
         unturned = λ e. cc;
         uncounted = λ e. cc;
       };
       anew = λ r f full. ⊎_elim (after_cycle f full) (after_rest f full) (cases_unswept f);
-      answered = λ r f full. let kept = full_stays k log live t.holder t.fresh homes Answer Done refl full in record {
+      answered = λ r f full. let kept = full_stays k log live t.holder t.fresh t.garbage homes Answer Done refl full in record {
         allowed = λ e is. the_entry (Allowed s) Done e is (phase_steps.sweep_done k.domains s swept f.ends.facts);
         facts = record { mode = refl; unmarked = λ _. f.swept.unmarked; beside = λ goes. absurd (never_both c.armed (r.over (inr refl) refl) goes); unchanged = f.swept.unchanged; unrotated = refl };
         full = record {
@@ -520,5 +520,5 @@ module _ (k : Config) (log : List Entry) (live : Live) (t : Tenancy) (c : Cyclin
       };
     }
 
-    pub led_way : (last next : Kind) → Follows last next → Ready k live s.graph last next c words → Facts last k s live t c words → Fullness k log live t.holder t.fresh homes last → Way last next
+    pub led_way : (last next : Kind) → Follows last next → Ready k live s.graph last next c words → Facts last k s live t c words → Fullness k log live t.holder t.fresh t.garbage homes last → Way last next
     led_way last next follows = each_way Goes ways last next follows

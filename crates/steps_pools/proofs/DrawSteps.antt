@@ -486,7 +486,7 @@ module _ (k : Config) (s : Words) (r : Rule k s) (id : ℕ) (hist : List Entry) 
           (r.whole.full.owned (λ e. subst HasNoCycle e (no_cycle_here k s r id hist x at in_kind.0 in_kind.1 in_kind.2)) q me class is)) y) z)
           (r.whole.grid.places q me class 0 is inside)
 
-      full1 : Fullness k r.account.log r.account.live t1.holder t1.fresh r.account.homes r.account.cycling.kind
+      full1 : Fullness k r.account.log r.account.live t1.holder t1.fresh t1.garbage r.account.homes r.account.cycling.kind
       full1 =
           let f = r.whole.full in
           let was_owned : (q e b : ℕ) → t1.holder q ≡ owned e b → t.holder q ≡ owned e b = (λ q e b is. dite (ℕ_discrete q pool) (λ same. absurd (drawn_owned me e b (sym (over_here pool (drawn me) t.holder) ∙ (ap t1.holder (sym same) ∙ is)))) (λ other. sym (else1 q other) ∙ is)) in record {

@@ -453,7 +453,7 @@ module _ (k : Config) (s : Words) (r : Rule k s) (id : ℕ) (hist : List Entry) 
   abbrev homes1 : Homes
   homes1 = with_pool r.account.homes L pool
 
-  full1 : Fullness k (r.account.log ++ e ∷ []) live1 r.account.tenancy.holder r.account.tenancy.fresh homes1 r.account.cycling.kind
+  full1 : Fullness k (r.account.log ++ e ∷ []) live1 r.account.tenancy.holder r.account.tenancy.fresh r.account.tenancy.garbage homes1 r.account.cycling.kind
   full1 =
       let t : Tenancy = r.account.tenancy in
       let kind : Kind = r.account.cycling.kind in
@@ -463,11 +463,11 @@ module _ (k : Config) (s : Words) (r : Rule k s) (id : ℕ) (hist : List Entry) 
       (λ q lives. ap (λ (z : Place). z.label) (sym (is_born A q refl lives)))
       (λ b q other lives _ same. fresh_label b q (before b q other lives) same)
       (λ b q lives _. (settled1 b q lives).no_forward)
-      (homeless k r.account.log r.account.live t.holder t.fresh r.account.homes kind L fresh r.whole.full)
+      (homeless k r.account.log r.account.live t.holder t.fresh t.garbage r.account.homes kind L fresh r.whole.full)
       node
       (ap (λ (z : model.State). node_at z.graph L) (after_entry k s r id hist x at e) ∙ (ap (λ (z : Graph). node_at z L) leaves.graph_is ∙ node_at-append_new now.graph L node fresh))
       (subst (λ (l : Label). IsTrue (has_label (kept_labels (sizes_in k) (r.account.log ++ e ∷ [])) l)) (sym label_is) (new_kept k r.account.log d c may.command.allocates))
-      (full_stays k r.account.log r.account.live t.holder t.fresh r.account.homes kind e refl r.whole.full)
+      (full_stays k r.account.log r.account.live t.holder t.fresh t.garbage r.account.homes kind e refl r.whole.full)
 
   -- nothing that the command waits for stands in its way
   fits_now : FitsMode now d c

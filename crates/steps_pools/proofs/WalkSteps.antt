@@ -427,7 +427,7 @@ module _ (k : Config) (s : Words) (r : Rule k s) (id : ℕ) (hist : List Entry) 
     looked2 = set x.own.looked class from_here
 
     -- the pool is the one that the domain drew last for its class, and nothing lives in it yet
-    full2 : Fullness k r.account.log r.account.live t2.holder t2.fresh r.account.homes r.account.cycling.kind
+    full2 : Fullness k r.account.log r.account.live t2.holder t2.fresh t2.garbage r.account.homes r.account.cycling.kind
     full2 =
         let f = r.whole.full in record {
           kept = f.kept;

@@ -764,7 +764,7 @@ module _ (k : Config) (s : Words) (r : Rule k s) (id : ℕ) (hist : List Entry) 
     abbrev homes2 : Homes
     homes2 = with_pool r.account.homes p.label own_place.pool
 
-    full2 : Fullness k r.account.log live2 t'.holder t'.fresh homes2 r.account.cycling.kind
+    full2 : Fullness k r.account.log live2 t'.holder t'.fresh t'.garbage homes2 r.account.cycling.kind
     full2 =
         let f = r.whole.full in
         full_filled k t s.words r.account.log live live2 r.account.homes r.account.cycling.kind c p.label r.whole.pools (me, own_place)

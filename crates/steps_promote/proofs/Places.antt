@@ -121,7 +121,7 @@ module _ (k : Config) (s : Words) (r : Rule k s) (id : ℕ) (hist : List Entry) 
       let counts : (listed words' ≡ listed s.words) × (cursor words' ≡ cursor s.words) = (o.control 6 (omega arith), o.control 7 (omega arith)) in
       promotes_again k s r id hist x at promotes y words' after t r.account.homes record {
         share = o.share;
-        full = full_back k r.account.log before after t.holder t.fresh r.account.homes r.account.cycling.kind back1 r.whole.full;
+        full = full_back k r.account.log before after t.holder t.fresh t.garbage r.account.homes r.account.cycling.kind back1 r.whole.full;
         garbage = garbage_here k s r id hist x at after words' (λ b dead. none_back before after b back1 (r.whole.cycle.leaves.dead b dead)) o.heads;
         holders = λ q. refl;
         ephemerons = ap (λ (z : Own). z.ephemerons.items) o.own;

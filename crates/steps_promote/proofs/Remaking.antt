@@ -82,7 +82,7 @@ module _ (k : Config) (s : Words) (r : Rule k s) (id : ℕ) (hist : List Entry) 
     pub wide : length words' ≡ length s.words
     pub control : Control k s.words words'
     pub found : AllFound k r.account.cycling.paint live' now.graph words'
-    pub full : Fullness k r.account.log live' t'.holder t'.fresh homes' r.account.cycling.kind
+    pub full : Fullness k r.account.log live' t'.holder t'.fresh t'.garbage homes' r.account.cycling.kind
     pub garbage : KeepsGarbage k live' r.account.tenancy t' s.words words'
     pub holders : (q : ℕ) → t'.holder q ≡ r.account.tenancy.holder q
     pub ephemerons : y.own.ephemerons.items ≡ x.own.ephemerons.items

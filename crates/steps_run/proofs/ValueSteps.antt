@@ -290,8 +290,8 @@ value_stores k slots id word hist x a new remembers changes command acts place m
     (λ is b q lives young. let u = back b q lives in subst (λ (l : Label). IsTrue (paint.marks.marked l)) u.label ((underway_here k s r id hist x at acts.runs is).young b u.place u.lives young)) f.barrier in
     let controls : Controls k r.account s.words words = controls_kept k s r id hist x at words (control_set k s.words (f.address + 2 + i) new (omega arith)) in
     let rule : Rule k record { words = words; homes = s.homes; views = set s.views id (one k hist y) } = appends k s r id hist x at e y words live1 r.account.homes later.past record {
-      full = full_back k (r.account.log ++ e ∷ []) r.account.live live1 r.account.tenancy.holder r.account.tenancy.fresh r.account.homes r.account.cycling.kind back
-          (full_stays k r.account.log r.account.live r.account.tenancy.holder r.account.tenancy.fresh r.account.homes r.account.cycling.kind e refl r.whole.full);
+      full = full_back k (r.account.log ++ e ∷ []) r.account.live live1 r.account.tenancy.holder r.account.tenancy.fresh r.account.tenancy.garbage r.account.homes r.account.cycling.kind back
+          (full_stays k r.account.log r.account.live r.account.tenancy.holder r.account.tenancy.fresh r.account.tenancy.garbage r.account.homes r.account.cycling.kind e refl r.whole.full);
       weak = None;
       share = ap (with_weak x.seen.share) acts.paid;
       advances = later.advances;

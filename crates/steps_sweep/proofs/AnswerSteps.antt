@@ -171,7 +171,7 @@ module _ (k : Config) (s : Words) (r : Rule k s) (id : ℕ) (hist : List Entry) 
       record {
         wide = r.whole.wide;
         legal = legal_entry k s r id hist x at e allowed;
-        full = full_stays k r.account.log live T.holder T.fresh r.account.homes c.kind e refl r.whole.full;
+        full = full_stays k r.account.log live T.holder T.fresh T.garbage r.account.homes c.kind e refl r.whole.full;
         found = subst (λ (graph : Graph). AllFound k c.paint live graph s.words) (sym graph_after) r.whole.found;
         placed = r.whole.placed;
         spread = r.whole.spread;

@@ -143,7 +143,7 @@ module _ (k : Config) (s : Words) (r : Rule k s) (id : ℕ) (hist : List Entry) 
         record {
           wide = o.wide ∙ r.whole.wide;
           legal = r.whole.legal;
-          full = subst (Fullness k r.account.log live' t.holder t.fresh r.account.homes) (sym o.kind) (full_back k r.account.log live live' t.holder t.fresh r.account.homes r.account.cycling.kind back r.whole.full);
+          full = subst (Fullness k r.account.log live' t.holder t.fresh t.garbage r.account.homes) (sym o.kind) (full_back k r.account.log live live' t.holder t.fresh t.garbage r.account.homes r.account.cycling.kind back r.whole.full);
           found = o.found;
           placed = placed_back k live live' back r.whole.placed;
           spread = spread_back k live live' back r.whole.spread;

@@ -191,7 +191,7 @@ module _ (k : Config) (s : Words) (r : Rule k s) (id : ℕ) (hist : List Entry) 
   pub drawers' : Drawers r.account.pause t'
   drawers' = let w = r.whole.drawers in record { drawn = λ q e is. w.drawn q e (drawn_was q e is); prepared = w.prepared; claims = w.claims }
 
-  pub full' : Fullness k r.account.log live t'.holder t'.fresh r.account.homes c.kind
+  pub full' : Fullness k r.account.log live t'.holder t'.fresh t'.garbage r.account.homes c.kind
   full' = let f = r.whole.full in record {
     kept = f.kept;
     low = λ q e cl slot p is inside lives. f.low q e cl slot p (owned_was q e cl is).1 inside lives;
