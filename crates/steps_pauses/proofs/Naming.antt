@@ -20,7 +20,7 @@ use Rattle.heap_rule.specs.Layout.{live_blocks, live_words}
 use Rattle.heap_rule.specs.Limits.{sizes_in}
 use Rattle.heap_rule.specs.Phases.{Follows}
 use Rattle.heap_rule.specs.Places.{Place, Live, Settled}
-use Rattle.heap_rule.specs.Pools.{Tenancy, Lot, OwnPlace, owned}
+use Rattle.heap_rule.specs.Pools.{Tenancy, Lot, OwnPlace, owned, place_in}
 use Rattle.heap_rule.proofs.FullnessLemmas.{full_kind, full_stays, made_stays}
 use Rattle.cycle_laws.specs.Beside.{AllFull, restricted}
 use Rattle.heap_model.specs.Domains.{class_count, domain_at, opening}
@@ -484,6 +484,7 @@ module _ (k : Config) (log : List Entry) (live : Live) (t : Tenancy) (c : Cyclin
           low = full.low;
           young = full.young;
           made = made_stays k log Collected homes full.made;
+          left = λ q d class slot is inside dead. absurd (never_both (t.garbage (place_in q class slot)) (all_clear f.clear (place_in q class slot)) dead);
           owned = λ goes. absurd (goes refl);
           drawn = full.drawn;
         };
@@ -510,6 +511,7 @@ module _ (k : Config) (log : List Entry) (live : Live) (t : Tenancy) (c : Cyclin
           low = kept.low;
           young = kept.young;
           made = kept.made;
+          left = kept.left;
           owned = λ _ q d class is. let h = f.held q d class (all d (owners q d class is).0) is in inr (h.2.0.label, kept.kept _ h.2.0 h.2.1, kept.low q d class h.0 h.2.0 is h.1 h.2.1);
           drawn = kept.drawn;
         };

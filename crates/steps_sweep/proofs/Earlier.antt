@@ -5,14 +5,10 @@ use mathlib.Core.Logic.{dite}
 use native.Mathlib.Decide.{ℕ_discrete, dec_le}
 use Rattle.heap_rule.specs.declared.view.Spot.{Spot}
 use Rattle.heap_rule.specs.Pools.{IsBefore}
-use Rattle.steps_sweep.specs.Freeing.{earlier}
-
--- a place doesn't stand behind another
-abbrev NotBehind : Spot → Spot → Type 0
-NotBehind a b = (a.pool < b.pool) ⊎ ((a.pool ≡ b.pool) × (a.slot ≤ b.slot))
+use Rattle.steps_sweep.specs.Freeing.{IsNoLater, earlier}
 
 -- what is before it is before the other
-before_other : (a b : Spot) → NotBehind a b → (q i : ℕ) → IsBefore q i a → IsBefore q i b
+before_other : (a b : Spot) → IsNoLater a b → (q i : ℕ) → IsBefore q i a → IsBefore q i b
 before_other a b order q i before =
     let p : ℕ = a.pool in let n : ℕ = b.pool in let u : ℕ = a.slot in let v : ℕ = b.slot in ⊎_elim
     (λ (h : q < p). ⊎_elim (λ (o : p < n). inl (let g : q < n = omega arith in g)) (λ (o : (p ≡ n) × (u ≤ v)). inl (let e = o.0 in let g : q < n = omega arith in g)) order)
@@ -23,7 +19,7 @@ before_other a b order q i before =
     before
 
 -- the earlier of two is the one that doesn't stand behind the other
-pub order_of : (a b : Spot) → ((earlier a b ≡ a) × NotBehind a b) ⊎ ((earlier a b ≡ b) × NotBehind b a)
+pub order_of : (a b : Spot) → ((earlier a b ≡ a) × IsNoLater a b) ⊎ ((earlier a b ≡ b) × IsNoLater b a)
 order_of a b = dite (ℕ_discrete a.pool b.pool)
     (λ same. dite (dec_le a.slot b.slot)
     (λ low. inl (picked (nat_lt a.pool b.pool) true true refl (eq-eqb a.pool b.pool same) (le-leb a.slot b.slot low) ∙ always (nat_lt a.pool b.pool), inr (same, low)))
@@ -45,6 +41,6 @@ order_of a b = dite (ℕ_discrete a.pool b.pool)
 -- what is before the earlier of two places is before both
 pub before_both : (a b : Spot) (q i : ℕ) → IsBefore q i (earlier a b) → IsBefore q i a × IsBefore q i b
 before_both a b q i before = ⊎_elim
-    (λ (h : (earlier a b ≡ a) × NotBehind a b). let own : IsBefore q i a = subst (IsBefore q i) h.0 before in (own, before_other a b h.1 q i own))
-    (λ (h : (earlier a b ≡ b) × NotBehind b a). let own : IsBefore q i b = subst (IsBefore q i) h.0 before in (before_other b a h.1 q i own, own))
+    (λ (h : (earlier a b ≡ a) × IsNoLater a b). let own : IsBefore q i a = subst (IsBefore q i) h.0 before in (own, before_other a b h.1 q i own))
+    (λ (h : (earlier a b ≡ b) × IsNoLater b a). let own : IsBefore q i b = subst (IsBefore q i) h.0 before in (before_other b a h.1 q i own, own))
     (order_of a b)

@@ -3,7 +3,10 @@ pub mod Owning
 pub mod Reaping
 pub mod Rotating
 pub mod Enrolling
+pub mod Earlier
+pub mod Finding
 pub mod SweepSteps
+pub mod SweepWrites
 pub mod Swept
 pub mod TurnSteps
 pub mod FreeSteps

@@ -96,6 +96,10 @@ CanSweep pool class slot own = (pool < 2048) × (class < class_count) × (slot <
 abbrev pub SweepsPlace : ℕ → ℕ → ℕ → ℕ → ℕ → Own → Own → Type 0
 SweepsPlace pool class slot garbage found own after = ((IsColoured garbage found → ⊥) × (after ≡ sweeping_from own (behind pool class slot))) ⊎ (IsColoured garbage found × (after ≡ own))
 
+-- a place of the pools doesn't stand behind another
+abbrev pub IsNoLater : Spot → Spot → Type 0
+IsNoLater a b = (a.pool < b.pool) ⊎ ((a.pool ≡ b.pool) × (a.slot ≤ b.slot))
+
 -- the earlier of two places of pools
 abbrev pub earlier : Spot → Spot → Spot
 earlier a b = if (nat_lt a.pool b.pool || (a.pool == b.pool && nat_le a.slot b.slot)) then a else b
@@ -106,6 +110,7 @@ pub record FreeMay (x : DomainView) (at pool class slot : ℕ) : Type 0 where
   pub at_rest : x.seen.hunt ≡ Rests
   pub found : x.seen.share.reaping ≡ AtGarbage pool class slot
   pub few : class < class_count
+  pub low : slot < blocks_of class
   pub word : at ≡ place_in pool class slot
   pub next : x.own.swept.spot ≡ record { pool = pool; slot = slot }
   pub pruned : length x.own.ephemerons.items ≤ x.own.swept.listed

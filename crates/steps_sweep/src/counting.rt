@@ -3,7 +3,7 @@ ghost use Rattle.heap_rule.specs.Standing.{IsInHeap};
 ghost use Rattle.heap_rule.specs.Token.{IsIn};
 ghost use Rattle.steps_sweep.specs.Counting.{BlocksAddMay, BlocksAdded, CountMay, CountOwnMay, CountOwnTold, CountTold, WordsAddMay, WordsAdded};
 
-use crate::freeing::Seeking;
+use crate::looking::Looking;
 use heap_rule::{Domain, Heap, LIVE_BLOCKS, LIVE_WORDS, Leaving, raw_add, raw_load};
 use std::marker::Brand;
 
@@ -17,13 +17,13 @@ pub fn count_own_load(heap: &Heap, dom: &mut Domain, at: u32, pool: u32) -> u64
     ensures told { CountOwnTold pool dom.old.view result dom.new.view }
 {
     let _limits = heap.config();
-    let writing = Seeking {
+    let writing = Looking {
         at,
         pool,
         class: 0,
         slot: 0,
     };
-    raw_load::<Brand, Seeking>(heap, dom, at as usize, &writing, &[])
+    raw_load::<Brand, Looking>(heap, dom, at as usize, &writing, &[])
 }
 
 /// A load of the head at the next own place at which the domain has found no garbage. A block that
@@ -36,13 +36,13 @@ pub fn count_load(heap: &Heap, dom: &mut Domain, at: u32, pool: u32, class: u32,
     ensures told { CountTold at pool class slot dom.old.view result dom.new.view }
 {
     let index = heap.index_of(at);
-    let writing = Seeking {
+    let writing = Looking {
         at,
         pool,
         class,
         slot,
     };
-    raw_load::<Brand, Seeking>(heap, dom, index, &writing, &[])
+    raw_load::<Brand, Looking>(heap, dom, index, &writing, &[])
 }
 
 /// What the domain has counted in all its pools is added to the live blocks. `amount` is how many

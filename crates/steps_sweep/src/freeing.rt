@@ -135,7 +135,7 @@ pub fn sweep_own_load(heap: &Heap, dom: &mut Domain, at: u32, pool: u32) -> u64
 {
     let _limits = heap.config();
     let writing = Entering { pool };
-    raw_load::<Brand, Entering>(heap, dom, at, &writing, &[])
+    raw_load::<Brand, Entering>(heap, dom, at as usize, &writing, &[])
 }
 
 /// A load of the head at the next place of an own pool. Where it hasn't the colour that means garbage,

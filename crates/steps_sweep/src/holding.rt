@@ -3,7 +3,7 @@ ghost use Rattle.heap_rule.specs.Standing.{IsInHeap};
 ghost use Rattle.heap_rule.specs.Token.{IsIn};
 ghost use Rattle.steps_sweep.specs.Holding.{HeldMay, HeldOwnMay, HeldOwnTold, HeldTold};
 
-use crate::freeing::Seeking;
+use crate::looking::Looking;
 use heap_rule::{Domain, Heap, raw_load};
 use std::marker::Brand;
 
@@ -16,13 +16,13 @@ pub fn held_own_load(heap: &Heap, dom: &mut Domain, at: u32, pool: u32) -> u64
     ensures told { HeldOwnTold pool dom.old.view result dom.new.view }
 {
     let _limits = heap.config();
-    let writing = Seeking {
+    let writing = Looking {
         at,
         pool,
         class: 0,
         slot: 0,
     };
-    raw_load::<Brand, Seeking>(heap, dom, at as usize, &writing, &[])
+    raw_load::<Brand, Looking>(heap, dom, at as usize, &writing, &[])
 }
 
 /// A load of the head at the next place of the next pool, in Answer, where the pool is the domain's
@@ -36,11 +36,11 @@ pub fn held_load(heap: &Heap, dom: &mut Domain, at: u32, pool: u32, class: u32, 
     ensures told { HeldTold pool slot dom.old.view result dom.new.view }
 {
     let index = heap.index_of(at);
-    let writing = Seeking {
+    let writing = Looking {
         at,
         pool,
         class,
         slot,
     };
-    raw_load::<Brand, Seeking>(heap, dom, index, &writing, &[])
+    raw_load::<Brand, Looking>(heap, dom, index, &writing, &[])
 }

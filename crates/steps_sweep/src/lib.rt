@@ -7,6 +7,7 @@ mod counting;
 mod freeing;
 mod heads;
 mod holding;
+mod looking;
 mod owners;
 mod pruning;
 mod returning;

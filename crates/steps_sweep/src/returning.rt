@@ -2,7 +2,7 @@
 ghost use Rattle.heap_rule.specs.Token.{IsIn};
 ghost use Rattle.steps_sweep.specs.Returning.{ReturnMay, ReturnTold};
 
-use crate::freeing::Seeking;
+use crate::looking::Looking;
 use heap_rule::{Domain, Heap, raw_store};
 use std::marker::Brand;
 
@@ -16,11 +16,11 @@ pub fn pool_return(heap: &Heap, dom: &mut Domain, at: u32, pool: u32, class: u32
     ensures told { ReturnTold pool dom.old.view 0 dom.new.view }
 {
     let _limits = heap.config();
-    let writing = Seeking {
+    let writing = Looking {
         at,
         pool,
         class,
         slot: 0,
     };
-    raw_store::<Brand, Seeking>(heap, dom, at as usize, 0, &writing, &[]);
+    raw_store::<Brand, Looking>(heap, dom, at as usize, 0, &writing, &[]);
 }

@@ -11,7 +11,7 @@ use Rattle.sweeper.specs.declared.counting.LiveCount.{LiveCount}
 -- in Sweep, the domain has swept its pools, and adds nothing yet
 pub record IsCounting (k : Config) (x : DomainView) : Type 0 where
   pub stage : x.seen.stage ≡ In Sweep
-  pub swept : k.pools ≤ x.seen.share.walk.pool
+  pub swept : k.pools ≤ x.own.swept.spot.pool
   pub not_yet : x.seen.share.added_blocks ≡ false
 
 -- it has counted nothing in this phase

@@ -7,7 +7,7 @@ use Rattle.heap_rule.specs.Pools.{blocks_of}
 
 -- the domain with what these looks change as another has it
 abbrev pub with_looks : DomainView → DomainView → DomainView
-with_looks x y = record x { seen = record x.seen { share = record x.seen.share { own_pool = y.seen.share.own_pool; held = y.seen.share.held; vacant = y.seen.share.vacant } } }
+with_looks x y = record x { seen = record x.seen { share = record x.seen.share { own_pool = y.seen.share.own_pool; held = y.seen.share.held; vacant = y.seen.share.vacant; reaping = y.seen.share.reaping } } }
 
 -- in Answer, it looks at a pool next, of which it knows nothing
 pub record LooksFrom (x : DomainView) (pool : ℕ) : Type 0 where

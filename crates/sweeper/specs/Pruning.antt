@@ -1,24 +1,20 @@
 -- What a domain has done that has pruned its list of ephemerons.
 use Rattle.std.specs.Prelude.{◌≡◌, ℕ, ◌+◌, ◌≤◌, IsTrue, length, Some}
 use Rattle.heap_words.specs.declared.colours.Colours.{Colours}
-use Rattle.heap_rule.specs.declared.phase.Kind.TheVariants.{Sweep}
-use Rattle.heap_rule.specs.declared.phase.Stage.TheVariants.{In}
 use Rattle.heap_rule.specs.declared.view.DomainView.{DomainView}
 use Rattle.heap_rule.specs.Cycles.{seen_by}
+use Rattle.steps_sweep.specs.Freeing.{Frees}
 
--- the domain is in Sweep, and knows the colours, of which this one means garbage
+-- the domain may free garbage, and knows the colours, of which this one means garbage
 pub record IsPruning (garbage : ℕ) (x : DomainView) : Type 0 where
-  pub stage : x.seen.stage ≡ In Sweep
+  pub stage : Frees x.seen.stage
   pub colours : Colours
   pub known : x.seen.share.colours ≡ Some colours
   pub means : garbage ≡ colours.garbage
 
 -- the domain with what pruning changes as another has it
 abbrev pub with_pruned : DomainView → DomainView → DomainView
-with_pruned x y = record x {
-  own = record x.own { ephemerons = y.own.ephemerons };
-  seen = record x.seen { share = record x.seen.share { pruned = y.seen.share.pruned } };
-}
+with_pruned x y = record x { own = record x.own { ephemerons = y.own.ephemerons; swept = record x.own.swept { listed = y.own.swept.listed } } }
 
 -- what is listed was listed before, and there is room for as many more as were taken off the list
 pub record Shortens (x y : DomainView) : Type 0 where
@@ -28,16 +24,15 @@ pub record Shortens (x y : DomainView) : Type 0 where
 
 -- the list is pruned: no listed ephemeron is garbage
 abbrev pub IsPruned : DomainView → Type 0
-IsPruned x = length x.own.ephemerons.items ≤ x.seen.share.pruned
+IsPruned x = length x.own.ephemerons.items ≤ x.own.swept.listed
 
--- so far none of its first i ephemerons is
-pub record PrunedTo (garbage i : ℕ) (x y : DomainView) : Type 0 where
+-- so far
+pub record PrunedOn (garbage : ℕ) (x y : DomainView) : Type 0 where
   pub view : y ≡ with_pruned x y
   pub shortens : Shortens x y
   pub prunes : IsPruning garbage y
-  pub so_far : i ≤ y.seen.share.pruned
 
--- and then none of all
+-- and then all
 pub record PrunedList (x y : DomainView) : Type 0 where
   pub view : y ≡ with_pruned x y
   pub shortens : Shortens x y

@@ -1,76 +1,82 @@
 -- What a domain has done that has swept own pools.
-use Rattle.std.specs.Prelude.{All, ◌≡◌, ℕ, ◌+◌, ◌≤◌, ◌⊎◌, List, ◌∷◌, Some, None}
+use Rattle.std.specs.Prelude.{◌≡◌, ℕ, ◌<◌, ◌≤◌, List, ◌++◌, length, Some}
+use Rattle.heap_model.specs.Domains.{class_count}
 use Rattle.heap_words.specs.declared.colours.Colours.{Colours}
-use Rattle.heap_words.specs.ColourWords.{IsPermutation}
 use Rattle.heap_rule.specs.declared.config.Config.{Config}
-use Rattle.heap_rule.specs.declared.phase.Kind.TheVariants.{Sweep}
-use Rattle.heap_rule.specs.declared.phase.Stage.TheVariants.{In}
 use Rattle.heap_rule.specs.declared.view.DomainView.{DomainView}
-use Rattle.heap_rule.specs.declared.view.OwnPool.{OwnPool}
-use Rattle.heap_rule.specs.Pools.{place_in, spot_at}
+use Rattle.heap_rule.specs.declared.view.Hunt.TheVariants.{Rests}
+use Rattle.heap_rule.specs.declared.view.Reaping.TheVariants.{Inside}
+use Rattle.heap_rule.specs.declared.view.Spot.{Spot}
+use Rattle.heap_rule.specs.Pools.{blocks_of, spot_at}
 use Rattle.steps_cycle.specs.Marking.{behind}
-use Rattle.sweeper.specs.Pruning.{IsPruned, Shortens, with_pruned}
-use Rattle.sweeper.specs.Walks.{IsPool, all_places}
+use Rattle.steps_sweep.specs.Freeing.{Frees, IsNoLater}
+use Rattle.sweeper.specs.Pruning.{IsPruned, Shortens}
+use Rattle.sweeper.specs.Walks.{IsWalk}
 
--- the domain is in Sweep, knows these colours, and has pruned its list of ephemerons
-pub record IsSweeping (colours : Colours) (x : DomainView) : Type 0 where
-  pub stage : x.seen.stage ≡ In Sweep
+-- the domain may free garbage, knows its colour, takes no block of the pools, and has pruned its list of ephemerons
+pub record IsSweeping (garbage : ℕ) (x : DomainView) : Type 0 where
+  pub stage : Frees x.seen.stage
+  pub at_rest : x.seen.hunt ≡ Rests
+  pub colours : Colours
   pub known : x.seen.share.colours ≡ Some colours
-  pub meanings : IsPermutation colours
+  pub means : garbage ≡ colours.garbage
   pub pruned : IsPruned x
 
--- the next place to be swept is the first of a pool, which is the domain's own
-pub record SweepsIn (x : DomainView) (pool class : ℕ) : Type 0 where
-  pub own : x.seen.share.own_pool ≡ Some (record { pool = pool; class = class })
-  pub next : x.seen.share.walk ≡ record { pool = pool; slot = 0 }
+-- the next place to be swept is this one, of an own pool
+pub record SweepsAt (x : DomainView) (pool class slot : ℕ) : Type 0 where
+  pub own : x.seen.share.reaping ≡ Inside pool class
+  pub few : class < class_count
+  pub inside : slot < blocks_of class
+  pub next : x.own.swept.spot ≡ record { pool = pool; slot = slot }
 
 -- the domain with what sweeping changes as another has it
 abbrev pub with_sweep : DomainView → DomainView → DomainView
 with_sweep x y = record x {
-  own = record x.own { looked = y.own.looked };
-  seen = record x.seen { share = record x.seen.share { colours = y.seen.share.colours; places_seen = y.seen.share.places_seen; found_head = y.seen.share.found_head; walk = y.seen.share.walk; own_pool = y.seen.share.own_pool } };
+  own = record x.own { looked = y.own.looked; ephemerons = y.own.ephemerons; swept = y.own.swept };
+  seen = record x.seen { share = record x.seen.share { colours = y.seen.share.colours; reaping = y.seen.share.reaping; swept = y.seen.share.swept } };
 }
 
--- the next search for a free place of a class begins where it would have begun before, or at the first pool
+-- the next search for a free place of a class begins where it would have begun before, or earlier
 abbrev pub LooksAgain : DomainView → DomainView → Type 0
-LooksAgain x y = (class : ℕ) → (spot_at y.own.looked class ≡ spot_at x.own.looked class) ⊎ (spot_at y.own.looked class ≡ record { pool = 0; slot = 0 })
+LooksAgain x y = (class : ℕ) → IsNoLater (spot_at y.own.looked class) (spot_at x.own.looked class)
 
--- where no head of garbage waited to be freed, none does
-abbrev pub LeavesNone : DomainView → DomainView → Type 0
-LeavesNone x y = x.seen.share.found_head ≡ None → y.seen.share.found_head ≡ None
+-- so many places were swept, each of them once, and no place before the next one that wasn't in an own pool
+pub record SweptOn (x y : DomainView) (count : ℕ) : Type 0 where
+  pub places : List Spot
+  pub many : length places ≡ count
+  pub swept : y.seen.share.swept ≡ places ++ x.seen.share.swept
+  pub walk : IsWalk x.own.swept.spot places y.own.swept.spot
 
--- some steps of sweeping, by which the domain keeps the colours
-pub record Sweeps (x y : DomainView) : Type 0 where
+-- some steps of sweeping, by which the domain keeps the colours and its list of ephemerons
+pub record Sweeps (x y : DomainView) (count : ℕ) : Type 0 where
   pub view : y ≡ with_sweep x y
   pub colours : y.seen.share.colours ≡ x.seen.share.colours
+  pub ephemerons : y.own.ephemerons ≡ x.own.ephemerons
+  pub listed : y.own.swept.listed ≡ x.own.swept.listed
   pub looked : LooksAgain x y
-  pub idle : LeavesNone x y
+  pub on : SweptOn x y count
 
--- it has been at a place, and found no garbage there or freed it
+-- it has swept a place
 pub record SweptPlace (pool class slot : ℕ) (x y : DomainView) : Type 0 where
-  pub sweeps : Sweeps x y
-  pub own_pool : y.seen.share.own_pool ≡ x.seen.share.own_pool
-  pub walk : y.seen.share.walk ≡ behind pool class slot
-  pub places_seen : y.seen.share.places_seen ≡ place_in pool class slot ∷ x.seen.share.places_seen
+  pub sweeps : Sweeps x y 1
+  pub own : y.seen.share.reaping ≡ Inside pool class
+  pub next : y.own.swept.spot ≡ behind pool class slot
 
--- it has been at all places of these pools, its own, and at no others
-pub record Visited (k : Config) (x y : DomainView) : Type 0 where
-  pub own : List OwnPool
-  pub real : All (IsPool k) own
-  pub places_seen : y.seen.share.places_seen ≡ all_places own x.seen.share.places_seen
-
--- it is done with a pool
-pub record SweptPool (k : Config) (pool : ℕ) (x y : DomainView) : Type 0 where
-  pub sweeps : Sweeps x y
-  pub walk : y.seen.share.walk ≡ record { pool = pool + 1; slot = 0 }
-  pub visited : Visited k x y
-
--- it is done with its list of ephemerons and with all pools
-pub record Swept (k : Config) (x y : DomainView) : Type 0 where
-  pub view : y ≡ with_pruned (with_sweep x y) y
+-- It has swept at most so many places, and fewer only where no own pool is left to be swept. Before it frees any it takes what is garbage off its list of ephemerons
+pub record Swept (k : Config) (most count : ℕ) (x y : DomainView) : Type 0 where
+  pub view : y ≡ with_sweep x y
   pub shortens : Shortens x y
-  pub pruned : IsPruned y
   pub looked : LooksAgain x y
-  pub idle : LeavesNone x y
-  pub walked : k.pools ≤ y.seen.share.walk.pool
-  pub visited : Visited k x y
+  pub on : SweptOn x y count
+  pub few : count ≤ most
+  pub rest : count < most → k.pools ≤ y.own.swept.spot.pool
+
+-- and all
+pub record SweptAll (k : Config) (x y : DomainView) : Type 0 where
+  pub view : y ≡ with_sweep x y
+  pub shortens : Shortens x y
+  pub looked : LooksAgain x y
+  pub places : List Spot
+  pub swept : y.seen.share.swept ≡ places ++ x.seen.share.swept
+  pub walk : IsWalk x.own.swept.spot places y.own.swept.spot
+  pub done : k.pools ≤ y.own.swept.spot.pool

@@ -1,20 +1,10 @@
--- Places of pools, as a walk comes to them.
-use Rattle.std.specs.Prelude.{ℕ, zero, suc, ◌<◌, List, [], ◌∷◌}
-use Rattle.heap_model.specs.Domains.{class_count}
-use Rattle.heap_rule.specs.declared.config.Config.{Config}
-use Rattle.heap_rule.specs.declared.view.OwnPool.{OwnPool}
-use Rattle.heap_rule.specs.Pools.{blocks_of, place_in}
+-- Places of pools, as a sweep comes to them.
+use Rattle.std.specs.Prelude.{ℕ, ◌<◌, List, [], ◌∷◌}
+use Rattle.heap_rule.specs.declared.view.Spot.{Spot}
+use Rattle.heap_rule.specs.Pools.{IsBefore}
+use Rattle.steps_sweep.specs.Freeing.{IsNoLater}
 
--- a pool of the heap, for blocks of a class
-abbrev pub IsPool : Config → OwnPool → Type 0
-IsPool k t = (t.pool < k.pools) × (t.class < class_count)
-
--- the first places of a pool, before others in a list
-abbrev pub places_of : ℕ → ℕ → ℕ → List ℕ → List ℕ
-places_of pool class zero rest = rest
-places_of pool class (suc n) rest = place_in pool class n ∷ places_of pool class n rest
-
--- all places of some pools, likewise
-abbrev pub all_places : List OwnPool → List ℕ → List ℕ
-all_places [] rest = rest
-all_places (t ∷ ts) rest = places_of t.pool t.class (blocks_of t.class) (all_places ts rest)
+-- a sweep comes to these places on its way from one place to another, to each of them once. The last one stands first
+abbrev pub IsWalk : Spot → List Spot → Spot → Type 0
+IsWalk from [] to = IsNoLater from to
+IsWalk from (s ∷ ss) to = (s.slot < 1024) × IsBefore s.pool s.slot to × IsWalk from ss s

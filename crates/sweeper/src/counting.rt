@@ -6,11 +6,10 @@ ghost use Rattle.heap_rule.specs.declared.phase.Stage.TheVariants.{In};
 ghost use Rattle.heap_rule.specs.Token.{IsIn};
 ghost use Rattle.sweeper.specs.Counting.{CountedPlace, CountedPool, CountedAll, Counted, CountsIn, CountsAt, HasCountedNothing, IsCounting, IsLiveCount};
 
-use crate::owners::{OWNERS, own_class};
 use crate::words::words_of;
 use heap_rule::{Domain, Heap};
 use steps_pools::{class_blocks, place_address};
-use steps_sweep::{blocks_add, count_load, count_own_load, words_add};
+use steps_sweep::{OWNERS, blocks_add, count_load, count_own_load, own_class, words_add};
 
 // What has been counted so far.
 #[derive(Clone, Copy)]
@@ -116,7 +115,7 @@ fn count_pools(heap: &Heap, dom: &mut Domain) -> LiveCount
 pub fn count_own(heap: &Heap, dom: &mut Domain)
     requires here { IsIn dom.old heap.now }
     requires stage { dom.old.view.seen.stage ≡ In Sweep }
-    requires swept { heap.now.config.pools ≤ dom.old.view.seen.share.walk.pool }
+    requires swept { heap.now.config.pools ≤ dom.old.view.own.swept.spot.pool }
     requires nothing { HasCountedNothing dom.old.view }
     ensures here { IsIn dom.new heap.now }
     ensures counted { Counted heap.now.config dom.old.view dom.new.view }

@@ -3,7 +3,7 @@ ghost use Rattle.heap_rule.specs.Token.{IsIn};
 ghost use Rattle.sweeper.specs.Pruning.{IsPruning, PrunedList};
 
 use heap_rule::{Domain, Heap};
-use steps_sweep::{has_colour, prune_load};
+use steps_sweep::prune_load;
 
 // Takes what is garbage off the domain's list of ephemerons.
 pub(crate) fn prune_list(heap: &Heap, dom: &mut Domain, garbage: u8)
@@ -13,12 +13,9 @@ pub(crate) fn prune_list(heap: &Heap, dom: &mut Domain, garbage: u8)
     ensures pruned { PrunedList dom.old.view dom.new.view }
 {
     let _limits = heap.config();
-    let mut i = 0;
-    'pruning: while i < dom.ephemerons_len() {
+    'pruning: while dom.swept().listed < dom.ephemerons_len() {
+        let i = dom.swept().listed;
         let at = dom.ephemeron_at(i);
-        let word = prune_load(heap, dom, at, i, garbage);
-        if !has_colour(word, garbage) {
-            i += 1;
-        }
+        prune_load(heap, dom, at, i, garbage);
     }
 }

@@ -7,10 +7,9 @@ ghost use Rattle.heap_rule.specs.declared.phase.Stage.TheVariants.{In};
 ghost use Rattle.heap_rule.specs.Token.{IsIn};
 ghost use Rattle.sweeper.specs.Emptiness.{LooksFrom, LooksIn, FoundEmpty, with_looks};
 
-use crate::owners::{OWNERS, own_class};
 use heap_rule::{Domain, Heap};
 use steps_pools::{class_blocks, place_address};
-use steps_sweep::{held_load, held_own_load, pool_return};
+use steps_sweep::{OWNERS, held_load, held_own_load, own_class, pool_return};
 
 // Whether a block lies in the next pool, which is the domain's own. Else each of its places is free.
 fn holds_block(heap: &Heap, dom: &mut Domain, pool: u32, class: u32) -> bool
