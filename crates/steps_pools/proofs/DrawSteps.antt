@@ -24,20 +24,20 @@ use Rattle.heap_rule.specs.Pools.{Holder, nobody, drawn, owned, owner_word, Stoc
 use Rattle.heap_rule.specs.Phases.{Phases, AtStage, sum_of}
 use Rattle.steps_pools.specs.Takes.{with_hunt, found_free, HasNoDraw, NoneFree}
 use Rattle.heap_rule.proofs.Update.{over, over_here, over_else}
-use Rattle.heap_rule.proofs.Keeps.{Words, mine, my_good, phases_words, holds_again, room_words, no_cycle_here, run_copying}
+use Rattle.heap_rule.proofs.Keeps.{Words, mine, my_good, phases_words, holds_again, room_words, run_copying}
 use Rattle.heap_rule.proofs.PauseFacts.{run_promoting, promote_now}
 use Rattle.heap_rule.proofs.Controls.{sum_one}
 use Rattle.heap_rule.proofs.EphemeronLemmas.{listed_on}
 use Rattle.heap_rule.proofs.Lots.{drawn_same, number_cases}
 use Rattle.heap_rule.proofs.Holders.{Agrees, agrees_same, agrees_set, found_agrees, making_agrees, SameStock, stock_self, same_asking, same_over, NotOf, nobody_not, drawn_not, drawn_owned, grid_heap, grid_over, free_later, hunter_agree, sum_over, sum_small}
-use Rattle.heap_rule.proofs.Sharings.{SameCycle, cycle_unmoved, takes_kind}
+use Rattle.heap_rule.proofs.Sharings.{SameCycle, cycle_unmoved}
 use Rattle.heap_rule.specs.Fullness.{Fullness}
 use Rattle.cycle_laws.specs.Fullness.{kept_labels, HoldsKept}
 use Rattle.heap_rule.proofs.Classes.{some_block}
 use Rattle.heap_rule.specs.Places.{Place, Live}
 use Rattle.std.proofs.lemmas.Option.{none-some, same_Some}
 use Rattle.heap_rule.proofs.Stages.{copying_keeps}
-use Rattle.heap_rule.specs.Cycles.{Cycling, HasNoCycle, Leaves}
+use Rattle.heap_rule.specs.Cycles.{Cycling, Leaves}
 use Rattle.heap_rule.proofs.Garbage.{KeepsGarbage, garbage_same}
 
 -- which owner word is which holder's
@@ -466,24 +466,18 @@ module _ (k : Config) (s : Words) (r : Rule k s) (id : ℕ) (hist : List Entry) 
                 (l.rest j (subst (λ (m : ℕ). m ≤ j) used from) inside));
           }
 
-      -- no garbage lies in the pool drawn last for a class
-      unfresh : (q : ℕ) → t.holder q ≡ owned me class → IsTrue (t.garbage (place_in q class 0)) → t.fresh me class ≢ Some q
-      unfresh q is garbage = ?
-
-      -- the pool that the domain drew last for the class has no free place any more, so a kept block lies in it
+      -- no pool of the domain and the class has a free place any more, so a kept block lies in it, or has lain there if garbage does
       filled : (q : ℕ) → t.holder q ≡ owned me class → HoldsKept (kept_labels (sizes_in k) r.account.log) r.account.homes q
       filled q is =
           let own = pools.owned_by q me class is in
           let inside : 0 < blocks_of class = (some_block class own.2).0 in
           let before : IsBefore q 0 (spot_at x.own.looked class) = inl (let z : k.pools ≤ (spot_at x.own.looked class).pool = none_free in let p : q < k.pools = own.0 in omega arith) in
           let full_head : at_address k s.words (place_in q class 0) ≢ 0 = hunter.taken q class 0 is inside before in
-          let in_kind = takes_kind x.seen.stage takes in
           let lives : (p : Place) → r.account.live (place_in q class 0) ≡ Some p → HoldsKept (kept_labels (sizes_in k) r.account.log) r.account.homes q = (λ p e. (p.label, r.whole.full.kept (place_in q class 0) p e, r.whole.full.low q me class 0 p is inside e)) in
           ⊎_elim (λ (z : at_address k s.words (place_in q class 0) ≡ 0). absurd (full_head z))
           (λ z. ⊎_elim (λ (y : (p : Place) × (r.account.live (place_in q class 0) ≡ Some p)). lives y.0 y.1)
           (λ y. ⊎_elim (λ (w : t.prepared (place_in q class 0) ≡ Some me). absurd (none-some (place_in q class 0) (sym unprepared ∙ hunter.prepared q class 0 is inside w)))
-          (λ (w : IsTrue (t.garbage (place_in q class 0))). ⊎_elim (λ (e : t.fresh me class ≡ Some q). absurd (unfresh q is w e)) (λ h. h)
-          (r.whole.full.owned (λ e. subst HasNoCycle e (no_cycle_here k s r id hist x at in_kind.0 in_kind.1 in_kind.2)) q me class is)) y) z)
+          (λ (w : IsTrue (t.garbage (place_in q class 0))). r.whole.full.left q me class 0 is inside w) y) z)
           (r.whole.grid.places q me class 0 is inside)
 
       full1 : Fullness k r.account.log r.account.live t1.holder t1.fresh t1.garbage r.account.homes r.account.cycling.kind
@@ -494,6 +488,7 @@ module _ (k : Config) (s : Words) (r : Rule k s) (id : ℕ) (hist : List Entry) 
             low = λ q e b slot p is. f.low q e b slot p (was_owned q e b is);
             young = f.young;
             made = f.made;
+            left = λ q e b slot is. f.left q e b slot (was_owned q e b is);
             owned = λ goes q e b is. let old = was_owned q e b is in dite (ℕ_discrete e me)
                 (λ own. dite (ℕ_discrete b class)
                 (λ same. inr (filled q (subst (λ (m : ℕ × ℕ). t.holder q ≡ owned m.0 m.1) (λ i. (own i, same i)) old)))

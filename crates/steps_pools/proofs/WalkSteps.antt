@@ -28,7 +28,7 @@ use Rattle.heap_rule.proofs.EphemeronLemmas.{own_place_on}
 use Rattle.heap_rule.specs.Ephemerons.{Listed}
 use Rattle.heap_rule.specs.Rule.{Good}
 use Rattle.heap_rule.proofs.OwnPlaces.{owned_same}
-use Rattle.heap_rule.proofs.Lots.{Beside, pool_beside, hunter_beside, drawn_same, stays, head_full}
+use Rattle.heap_rule.proofs.Lots.{Beside, pool_beside, hunter_beside, drawn_same, stays, head_full, garbage_full}
 use Rattle.heap_rule.proofs.Holders.{Agrees, SameStock, agrees_set, drawn_not, drawn_owned, found_agrees, free_later, grid_over, hunter_agree, making_agrees, nobody_drawn, nobody_owned, owned_not, same_over}
 use Rattle.steps_pools.proofs.DrawSteps.{hunter, next_hunter, hunter_on, knows, known_free, draws_none, latest_words, own_word, garbage_agrees}
 use Rattle.heap_rule.specs.Fullness.{Fullness}
@@ -366,6 +366,13 @@ module _ (k : Config) (s : Words) (r : Rule k s) (id : ℕ) (hist : List Entry) 
     unused2 rests = ap (λ (z : Stock). record z { latest = stock2.latest; used = stock2.used }) (r.whole.unused rests)
 
     -- all places of the pool are free
+    free2 : (q e c slot : ℕ) → q ≡ pool → t2.holder q ≡ owned e c → slot < blocks_of c → at_address k s.words (place_in q c slot) ≡ 0
+    free2 q e c slot same is inside =
+        let class_is : class ≡ c = (owned_same d e class c (sym here2 ∙ (ap t2.holder (sym same) ∙ is))).1 in
+        let place_is : place_in q c slot ≡ place_in pool class slot = (λ i. place_in (same i) (sym class_is i) slot) in
+        ap (at_address k s.words) place_is ∙ all_clear.free slot (subst (λ (m : ℕ). slot < blocks_of m) (sym class_is) inside)
+
+    -- so it is the latest of its class, and no place of it is used
     latest2 : (c : ℕ) → c ≡ class → Latest k t2 words2 d c
     latest2 c same = subst (Latest k t2 words2 d) (sym same) record {
       own_is = subst (λ (m : ℕ). t2.holder m ≡ owned d class) (sym latest_here) here2;
@@ -392,10 +399,7 @@ module _ (k : Config) (s : Words) (r : Rule k s) (id : ℕ) (hist : List Entry) 
     owned_was q c other e = sym (else2 q other) ∙ e
 
     unprepared2 : (q c slot : ℕ) → t2.holder q ≡ owned d c → slot < blocks_of c → T.prepared (place_in q c slot) ≡ Some d → q ≢ pool
-    unprepared2 q c slot owned_is below prep same =
-        let class_is : class ≡ c = (owned_same d d class c (sym here2 ∙ (ap t2.holder (sym same) ∙ owned_is))).1 in
-        let free : at_address k s.words (place_in pool c slot) ≡ 0 = subst (λ (m : ℕ). at_address k s.words (place_in pool m slot) ≡ 0) class_is (all_clear.free slot (subst (λ (m : ℕ). slot < blocks_of m) (sym class_is) below)) in
-        (r.whole.grid.spares (place_in q c slot) d prep).head (ap (λ (m : ℕ). at_address k s.words (place_in m c slot)) same ∙ free)
+    unprepared2 q c slot owned_is below prep same = (r.whole.grid.spares (place_in q c slot) d prep).head (free2 q d c slot same owned_is below)
 
     pools2 : Pools k t2 words2
     pools2 = record {
@@ -426,19 +430,24 @@ module _ (k : Config) (s : Words) (r : Rule k s) (id : ℕ) (hist : List Entry) 
     abbrev looked2 : List Spot
     looked2 = set x.own.looked class from_here
 
-    -- the pool is the one that the domain drew last for its class, and nothing lives in it yet
+    -- no block lives in it, as all its places are free
+    lifeless2 : (q e c slot : ℕ) (p : Place) → q ≡ pool → t2.holder q ≡ owned e c → slot < blocks_of c → r.account.live (place_in q c slot) ≡ Some p → ⊥
+    lifeless2 q e c slot p same is inside lives =
+        head_full k r.account.cycling.paint r.account.live (state_of k r.account.log).graph s.words (place_in q c slot) p (r.whole.found (place_in q c slot) p lives) (free2 q e c slot same is inside)
+
+    -- the pool is the one that the domain drew last for its class, and neither blocks nor garbage lie in it
     full2 : Fullness k r.account.log r.account.live t2.holder t2.fresh t2.garbage r.account.homes r.account.cycling.kind
     full2 =
         let f = r.whole.full in record {
           kept = f.kept;
           low = λ q e c slot p is inside lives. dite (ℕ_discrete q pool)
-              (λ same. let o = owned_same d e class c (sym here2 ∙ (ap t2.holder (sym same) ∙ is)) in
-              let at : place_in q c slot ≡ place_in pool class slot = (λ i. place_in (same i) (sym o.1 i) slot) in
-              absurd (head_full k r.account.cycling.paint r.account.live (state_of k r.account.log).graph s.words (place_in q c slot) p (r.whole.found (place_in q c slot) p lives)
-              (ap (at_address k s.words) at ∙ all_clear.free slot (subst (λ (m : ℕ). slot < blocks_of m) (sym o.1) inside))))
+              (λ same. absurd (lifeless2 q e c slot p same is inside lives))
               (λ other. f.low q e c slot p (sym (else2 q other) ∙ is) inside lives);
           young = f.young;
           made = f.made;
+          left = λ q e c slot is inside dead. dite (ℕ_discrete q pool)
+              (λ same. absurd (garbage_full k r.account.live T r.account.cycling s.words r.whole.cycle.leaves (place_in q c slot) dead (free2 q e c slot same is inside)))
+              (λ other. f.left q e c slot (sym (else2 q other) ∙ is) inside dead);
           owned = λ goes q e c is. dite (ℕ_discrete q pool)
               (λ same. let o = owned_same d e class c (sym here2 ∙ (ap t2.holder (sym same) ∙ is)) in inl (subst (λ (m : ℕ × ℕ). T.fresh m.0 m.1 ≡ Some q) (λ i. (o.0 i, o.1 i)) (all_clear.fresh_is ∙ ap Some (sym same))))
               (λ other. f.owned goes q e c (sym (else2 q other) ∙ is));
@@ -451,10 +460,7 @@ module _ (k : Config) (s : Words) (r : Rule k s) (id : ℕ) (hist : List Entry) 
     listeds2 : (z : DomainView) → Good k r.account s.words z → Listed r.account.live t2.holder t2.garbage z.own.number z.own.ephemerons.items
     listeds2 z g = record {
       all = λ q c slot is inside e. dite (ℕ_discrete q pool)
-          (λ same. let o = owned_same d z.own.number class c (sym here2 ∙ (ap t2.holder (sym same) ∙ is)) in
-          let at : place_in q c slot ≡ place_in pool class slot = (λ i. place_in (same i) (sym o.1 i) slot) in
-          absurd (head_full k r.account.cycling.paint r.account.live (state_of k r.account.log).graph s.words (place_in q c slot) e.place (r.whole.found (place_in q c slot) e.place e.lives)
-          (ap (at_address k s.words) at ∙ all_clear.free slot (subst (λ (m : ℕ). slot < blocks_of m) (sym o.1) inside))))
+          (λ same. absurd (lifeless2 q z.own.number c slot e.place same is inside e.lives))
           (λ other. g.listed.all q c slot (sym (else2 q other) ∙ is) inside e);
       own = λ a is. own_place_on T.holder t2.holder a z.own.number (λ q c h. else2 q (λ same. drawn_owned d z.own.number c (sym all_clear.drawn_is ∙ (ap T.holder (sym same) ∙ h))) ∙ h) (g.listed.own a is);
       lives = g.listed.lives;
@@ -489,8 +495,7 @@ module _ (k : Config) (s : Words) (r : Rule k s) (id : ℕ) (hist : List Entry) 
         claims = r.whole.drawers.claims;
       };
       grid = grid_over T pool (owned d class) T.asking T.fresh stock2 k r.account.live s.words words2 agrees (λ e c h. drawn_owned d e c (sym all_clear.drawn_is ∙ h))
-          (λ e c slot h below. let o = owned_same d e class c h in
-          subst (λ (m : ℕ). at_address k s.words (place_in pool m slot) ≡ 0) o.1 (all_clear.free slot (subst (λ (m : ℕ). slot < blocks_of m) (sym o.1) below))) r.whole.grid;
+          (λ e c slot h below. free2 pool e c slot refl (here2 ∙ h) below) r.whole.grid;
       makings = λ z p. making_agrees k s.words words2 z agrees p;
       hunter = record {
         hunt = record {
