@@ -123,16 +123,14 @@ module _ (k : Config) (s : Words) (r : Rule k s) (id : ℕ) (hist : List Entry) 
 
     swept' : Adding → Sweeping k now live r.account.tenancy c' words'
     swept' o = let w = f.swept in record {
-      mode = f.mode;
+      since = ⊎_elim (λ u. inl (u.0, (let g = u.1.facts in record { facts = record { sealed = g.sealed; owned = g.owned; whole = g.whole; waiting = g.waiting; kept = g.kept }; rotated = u.1.rotated }), u.2)) (λ u. inr u) f.since;
       swept = record {
-        facts = let g = w.facts in record { sealed = g.sealed; owned = g.owned; whole = g.whole; waiting = g.waiting; kept = g.kept };
-        rotated = w.rotated;
         all_marked = w.all_marked;
         unmarked = w.unmarked;
         unchanged = w.unchanged;
         counted = o.counted;
       };
-      sweep = f.sweep;
+      clear = f.clear;
       all_counted = λ e gone. o.grows e (f.all_counted e gone);
     }
 
@@ -144,7 +142,8 @@ module _ (k : Config) (s : Words) (r : Rule k s) (id : ℕ) (hist : List Entry) 
       changed_is = low k s r id hist x at i v is 3 (omega arith) ∙ y.changed_is;
       facts = subst (λ (kind : Kind). Facts kind k now live r.account.tenancy c' words') (sym kind_is) (swept' o);
       told = y.told;
-      leaves = record { none = y.leaves.none; dead = y.leaves.dead; head = λ a dead. let h = y.leaves.head a dead in (h.0, h.1, heap k s r id hist x at i v is a ∙ h.2) };
+      leaves = record { none = y.leaves.none; dead = y.leaves.dead; head = λ a dead. let h = y.leaves.head a dead in (h.0, h.1, heap k s r id hist x at i v is a ∙ h.2); unprepared = y.leaves.unprepared; owned = y.leaves.owned };
+      unswept = y.unswept;
       whole = λ l. inl (whole_in k s r id hist x at (λ e. let same : Sweep ≡ Clean = sym kind_is ∙ e in cc) l);
     }
 
@@ -202,6 +201,8 @@ module _ (k : Config) (s : Words) (r : Rule k s) (id : ℕ) (hist : List Entry) 
         running = running' z h;
         deciding = q.deciding;
       };
+      sweeps = good.sweeps;
+      others_sweep = λ z h. h.sweeps;
     }
 
   -- the sums of others stay, where they don't count what the domain counts

@@ -96,6 +96,7 @@ module _ (k : Config) (s : Words) (r : Rule k s) (id : ℕ) (hist : List Entry) 
         running = record { knows = g.running.knows; owes = g.running.owes };
         deciding = g.deciding;
       }
+      good.sweeps
 
   -- the entry of `full_major`
   abbrev e : Entry
@@ -138,13 +139,15 @@ module _ (k : Config) (s : Words) (r : Rule k s) (id : ℕ) (hist : List Entry) 
     facts = subst (λ (kind : Kind). Facts kind k (next now e) live T c s.words) (sym (answer_kind k s r id hist x at stage)) record {
       mode = f.mode;
       whole = f.whole;
-      swept = record { facts = phase_steps.sweep_answers k.domains now (swept_of k live T.holder c) d f.swept.facts; rotated = f.swept.rotated; all_marked = f.swept.all_marked; unmarked = f.swept.unmarked; unchanged = f.swept.unchanged; counted = f.swept.counted };
+      ends = record { facts = phase_steps.sweep_answers k.domains now (swept_of k live T.holder c) d f.ends.facts; rotated = f.ends.rotated };
+      swept = record { all_marked = f.swept.all_marked; unmarked = f.swept.unmarked; unchanged = f.swept.unchanged; counted = f.swept.counted };
       clean = f.clean;
       all_counted = f.all_counted;
       held = f.held;
     };
     told = z.told;
     leaves = z.leaves;
+    unswept = z.unswept;
     whole = z.whole;
   }
 
@@ -157,7 +160,7 @@ module _ (k : Config) (s : Words) (r : Rule k s) (id : ℕ) (hist : List Entry) 
     leading = g.leading;
     knows = subst (λ (graph : Graph). KnowsBlocks k live T.holder graph c.paint.marks s.words z.own.number z.own.registers z.seen.stage z.seen.share) (sym graph_after) g.knows;
     adds = g.adds;
-    looks = subst (λ (graph : Graph). Looks live T.holder T.garbage graph c.paint.marks c.paint.emptied z.own.number z.own.ephemerons.items z.seen.stage z.seen.share) (sym graph_after) g.looks;
+    looks = subst (λ (graph : Graph). Looks live T.holder graph c.paint.marks c.paint.emptied z.own.number z.own.ephemerons.items z.seen.stage z.seen.share) (sym graph_after) g.looks;
     running = g.running;
     deciding = g.deciding;
   }
@@ -208,6 +211,7 @@ module _ (k : Config) (s : Words) (r : Rule k s) (id : ℕ) (hist : List Entry) 
         set_back = g.set_back;
         sharing = own_sharing;
         listed = record { all = g.listed.all; own = g.listed.own; lives = g.listed.lives };
+        sweeps = g.sweeps;
       }
       (λ z _ other h. record {
         stood = stands_still z h.stood;
@@ -223,6 +227,7 @@ module _ (k : Config) (s : Words) (r : Rule k s) (id : ℕ) (hist : List Entry) 
         set_back = h.set_back;
         sharing = sharing' z h.sharing;
         listed = h.listed;
+        sweeps = h.sweeps;
       })
 
   module _ (blocks : ℕ) (may : LiveWordsMay k x blocks) where

@@ -7,12 +7,12 @@ use Rattle.heap_model.specs.declared.entry.Entry.{Entry}
 use Rattle.heap_model.specs.declared.state.State as model
 use Rattle.heap_rule.specs.declared.config.Config.{Config}
 use Rattle.heap_rule.specs.declared.phase.Kind.{Kind}
-use Rattle.heap_rule.specs.declared.phase.Kind.TheVariants.{Run, Lasts, Sweep, Answer}
+use Rattle.heap_rule.specs.declared.phase.Kind.TheVariants.{Run, Lasts, Sweep, Answer, Promote, Reset, Roots, Mark, Rounds, Decide, Queued, Clean}
 use Rattle.heap_rule.specs.declared.phase.Stage.TheVariants.{In, Leads}
 use Rattle.heap_rule.specs.declared.view.DomainView.{DomainView}
 use Rattle.heap_rule.specs.declared.view.Share.{Share}
 use Rattle.heap_rule.specs.Beside.{RunsBeside}
-use Rattle.heap_rule.specs.Cycles.{Cycled, Cycling, Facts, IsCollecting, IsIdle, Knowing, Leaving}
+use Rattle.heap_rule.specs.Cycles.{Cycled, Cycling, Facts, IsCollecting, IsIdle, Knowing}
 use Rattle.heap_rule.specs.Layout.{live_blocks, live_words}
 use Rattle.heap_rule.specs.Phases.{AtStage}
 use Rattle.heap_rule.specs.Pools.{IsLeading}
@@ -29,6 +29,13 @@ use Rattle.steps_sweep.proofs.Recounting.{IsCount, heap, here, low, other, recou
 use Rattle.heap_rule.proofs.Sharings.{knows_words}
 use Rattle.std.proofs.lemmas.Option.{same_Some}
 
+-- neither of these phases is one in which what lives is counted
+no_count : (kind : Kind) → (kind ≡ Lasts) ⊎ (kind ≡ Reset) → (kind ≡ Sweep) ⊎ (kind ≡ Answer) → ⊥
+no_count kind is counts = ⊎_elim
+    (λ (l : kind ≡ Lasts). ⊎_elim (λ (c : kind ≡ Sweep). let clash : Lasts ≡ Sweep = sym l ∙ c in cc) (λ (c : kind ≡ Answer). let clash : Lasts ≡ Answer = sym l ∙ c in cc) counts)
+    (λ (l : kind ≡ Reset). ⊎_elim (λ (c : kind ≡ Sweep). let clash : Reset ≡ Sweep = sym l ∙ c in cc) (λ (c : kind ≡ Answer). let clash : Reset ≡ Answer = sym l ∙ c in cc) counts)
+    is
+
 module _ (k : Config) (s : Words) (r : Rule k s) (id : ℕ) (hist : List Entry) (x : DomainView) (at : get_elem? s.views id ≡ some (one k hist x)) (may : ClearMay x) (i : ℕ) (is : IsCount i) where
   abbrev c : Cycling
   c = r.account.cycling
@@ -42,14 +49,30 @@ module _ (k : Config) (s : Words) (r : Rule k s) (id : ℕ) (hist : List Entry) 
   good : Good k r.account s.words x
   good = my_good k s r id hist x at
 
-  stands_here : AtStage r.account.pause x.own.number x.own.arrivals (Leads Lasts)
-  stands_here = subst (AtStage r.account.pause x.own.number x.own.arrivals) may.stage good.staged.stage
+  -- the phase after which domain 0 leads
+  last : (kind : Kind) × (x.seen.stage ≡ Leads kind) × ((kind ≡ Lasts) ⊎ (kind ≡ Reset))
+  last = ⊎_elim (λ (e : x.seen.stage ≡ Leads Lasts). (Lasts, e, inl refl)) (λ (e : x.seen.stage ≡ Leads Reset). (Reset, e, inr refl)) may.stage
 
-  kind_is : c.kind ≡ Lasts
-  kind_is = sym (r.whole.cycle.told.odd stands_here.1.0 stands_here.1.1 (stands_here.2 may.first)).0 ∙ stands_here.1.2
+  stands_here : AtStage r.account.pause x.own.number x.own.arrivals (Leads last.0)
+  stands_here = subst (AtStage r.account.pause x.own.number x.own.arrivals) last.1 good.staged.stage
 
-  facts : Leaving k now r.account.live r.account.tenancy c
-  facts = subst (λ (kind : Kind). Facts kind k now r.account.live r.account.tenancy c s.words) kind_is r.whole.cycle.facts
+  kind_is : (c.kind ≡ Lasts) ⊎ (c.kind ≡ Reset)
+  kind_is = let here : c.kind ≡ last.0 = sym (r.whole.cycle.told.odd stands_here.1.0 stands_here.1.1 (stands_here.2 may.first)).0 ∙ stands_here.1.2 in ⊎_elim (λ e. inl (here ∙ e)) (λ e. inr (here ∙ e)) last.2
+
+  -- its facts say nothing of what lives
+  facts' : (kind : Kind) → (kind ≡ Lasts) ⊎ (kind ≡ Reset) → Facts kind k now r.account.live r.account.tenancy c s.words → Facts kind k now r.account.live r.account.tenancy c words'
+  facts' Lasts is f = f
+  facts' Reset is f = f
+  facts' Sweep is f = absurd (no_count Sweep is (inl refl))
+  facts' Answer is f = absurd (no_count Answer is (inr refl))
+  facts' Run is f = f
+  facts' Promote is f = f
+  facts' Roots is f = f
+  facts' Mark is f = f
+  facts' Rounds is f = f
+  facts' Decide is f = f
+  facts' Queued is f = f
+  facts' Clean is f = f
 
   cycle' : Cycled k now r.account.live r.account.pause r.account.tenancy c words'
   cycle' = let y = r.whole.cycle in record {
@@ -57,9 +80,10 @@ module _ (k : Config) (s : Words) (r : Rule k s) (id : ℕ) (hist : List Entry) 
     meanings = y.meanings;
     colours_are = low k s r id hist x at i 0 is 5 (omega arith) ∙ y.colours_are;
     changed_is = low k s r id hist x at i 0 is 3 (omega arith) ∙ y.changed_is;
-    facts = subst (λ (kind : Kind). Facts kind k now r.account.live r.account.tenancy c words') (sym kind_is) facts;
+    facts = facts' c.kind kind_is y.facts;
     told = y.told;
-    leaves = record { none = y.leaves.none; dead = y.leaves.dead; head = λ a is_dead. let h = y.leaves.head a is_dead in (h.0, h.1, heap k s r id hist x at i 0 is a ∙ h.2) };
+    leaves = record { none = y.leaves.none; dead = y.leaves.dead; head = λ a is_dead. let h = y.leaves.head a is_dead in (h.0, h.1, heap k s r id hist x at i 0 is a ∙ h.2); unprepared = y.leaves.unprepared; owned = y.leaves.owned };
+    unswept = y.unswept;
     whole = y.whole;
   }
 
@@ -76,7 +100,7 @@ module _ (k : Config) (s : Words) (r : Rule k s) (id : ℕ) (hist : List Entry) 
 
   -- nobody runs
   running' : (z : DomainView) → Good k r.account s.words z → RunsBeside k r.account.live r.account.tenancy.holder c.armed c.past c.paint.marks.marked words' z.own.number z.seen.stage z.seen.share
-  running' z h = paused_on k r.account.pause c r.whole.cycle.told (λ e. let clash : Lasts ≡ Run = sym kind_is ∙ e in cc) r.account.live r.account.live r.account.tenancy.holder r.account.tenancy.holder c.paint.marks.marked c.paint.marks.marked s.words words' z h.staged h.sharing.running
+  running' z h = paused_on k r.account.pause c r.whole.cycle.told (λ e. ⊎_elim (λ (l : c.kind ≡ Lasts). let clash : Lasts ≡ Run = sym l ∙ e in cc) (λ (l : c.kind ≡ Reset). let clash : Reset ≡ Run = sym l ∙ e in cc) kind_is) r.account.live r.account.live r.account.tenancy.holder r.account.tenancy.holder c.paint.marks.marked c.paint.marks.marked s.words words' z h.staged h.sharing.running
 
   sharings' : (z : DomainView) → z.own.number < k.domains → z.own.number ≢ x.own.number → Good k r.account s.words z → Sharing k r.account words' z.own.number z.own.registers z.own.finalisers z.own.ephemerons.items z.seen.stage z.seen.share
   sharings' z below differs g = let h = g.sharing in record {
@@ -105,16 +129,16 @@ module _ (k : Config) (s : Words) (r : Rule k s) (id : ℕ) (hist : List Entry) 
     share' = record x.seen.share { blocks = blocks; words = words }
 
     leads : IsLeading x.seen.stage
-    leads = subst IsLeading (sym may.stage) tt
+    leads = subst IsLeading (sym last.1) tt
 
     idle' : IsIdle share'
     idle' = ⊎_elim
         (λ (q : IsIdle x.seen.share). ap (λ (z : Share). record z { blocks = blocks; words = words }) q)
-        (λ (n : IsCollecting x.seen.stage × Knowing k r.account.live r.account.tenancy.holder now.graph c.paint.marks s.words x.own.number x.own.registers x.seen.share). absurd (subst IsCollecting may.stage n.0))
+        (λ (n : IsCollecting x.seen.stage × Knowing k r.account.live r.account.tenancy.holder now.graph c.paint.marks s.words x.own.number x.own.registers x.seen.share). absurd (subst IsCollecting last.1 n.0))
         good.sharing.knows
 
     no_sweep : c.kind ≡ Sweep → ⊥
-    no_sweep e = let f : Lasts ≡ Sweep = sym kind_is ∙ e in cc
+    no_sweep e = no_count c.kind kind_is (inl e)
 
     pub clear_rule : Rule k record { words = words'; homes = s.homes; views = set s.views id (one k hist (with_share x share')) }
     clear_rule = let g = good.sharing in recounts k s r id hist x at i 0 is share' c record {
@@ -142,6 +166,8 @@ module _ (k : Config) (s : Words) (r : Rule k s) (id : ℕ) (hist : List Entry) 
         deciding = g.deciding;
       };
       sharings = sharings';
+      sweeps = good.sweeps;
+      others_sweep = λ z h. h.sweeps;
     }
 
 pub blocks_may : (k : Config) (x : DomainView) → ClearMay x → MayStore k x 9 0 BlocksCleared

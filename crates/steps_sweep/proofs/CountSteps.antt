@@ -1,5 +1,5 @@
 -- The count of what lives in own pools keeps the rule.
-use Rattle.std.proofs.Common.{◌≡◌, ◌≢◌, ℕ, zero, suc, ◌+◌, ◌*◌, ◌<◌, ◌≤◌, ◌⊎◌, ◌==◌, Bool, false, true≢false, IsTrue, eq-eqb, eqb-true, List, ◌∷◌, get_or, set, slice_get, sum_by, Some, None, Option, sym, refl, ap, ◌∙◌, subst, inl, inr, ⊎_elim, arith, lt_of_not-le}
+use Rattle.std.proofs.Common.{◌≡◌, ◌≢◌, ℕ, zero, suc, ◌+◌, ◌*◌, ◌<◌, ◌≤◌, ◌⊎◌, ◌==◌, false, true≢false, IsTrue, eq-eqb, eqb-true, List, ◌∷◌, get_or, set, slice_get, sum_by, Some, None, Option, sym, refl, ap, ◌∙◌, subst, inl, inr, ⊎_elim, arith, lt_of_not-le}
 use mathlib.Core.Logic.{dite}
 use native.Mathlib.Decide.{ℕ_discrete, dec_le}
 use mathlib.Core.Option.{some}
@@ -36,7 +36,7 @@ use Rattle.steps_cycle.proofs.Plain.{share_closes}
 use Rattle.steps_cycle.proofs.WalkSteps.{before_behind, last_behind, next_behind}
 use Rattle.steps_sweep.specs.Counting.{CountMay, CountOwnMay, CountOwnTold, CountTold}
 use Rattle.steps_sweep.proofs.Removals.{among}
-use Rattle.steps_sweep.proofs.Swept.{empty_free, sweep_facts, sweeping}
+use Rattle.steps_sweep.proofs.Swept.{empty_free, sweeping}
 use Rattle.std.proofs.lemmas.List.Sums.{sum_by-cons}
 use Rattle.std.proofs.lemmas.Option.{same_Some}
 use Rattle.heap_rule.proofs.Stages.{waits_in}
@@ -121,6 +121,7 @@ module _ (k : Config) (s : Words) (r : Rule k s) (id : ℕ) (hist : List Entry) 
           running = record { knows = g.running.knows; owes = g.running.owes };
           deciding = g.deciding;
         }
+        (my_good k s r id hist x at).sweeps
 
   -- the owner of the next pool
   module _ (word pool : ℕ) (may : CountOwnMay k x word pool) where
@@ -169,10 +170,7 @@ module _ (k : Config) (s : Words) (r : Rule k s) (id : ℕ) (hist : List Entry) 
 
     -- no garbage is left there
     clean : r.account.tenancy.garbage a ≡ false
-    clean =
-        let seen : IsTrue (seen_by sh.places_seen a) = subst (λ (b : ℕ). IsTrue (seen_by sh.places_seen b)) (sym may.word) (kn.walked pool class slot own may.inside may.swept) in
-        let waits : c.shares.arrived d ≡ false = waits_in k s r id hist x at Sweep stage in
-        (sweep_facts k s r id hist x at stage).sweep.clean d a (subst (λ (f : ℕ → Bool). IsTrue (f a)) (sym ((my_good k s r id hist x at).sharing.telling.seen waits)) seen)
+    clean = ap r.account.tenancy.garbage may.word ∙ (my_good k s r id hist x at).sweeps.places pool class slot own may.inside may.swept
 
     same_class : (q e : ℕ) → holder q ≡ owned d e → q ≡ pool → e ≡ class
     same_class q e is same = (owned_same d d e class (sym is ∙ (ap holder same ∙ own))).1

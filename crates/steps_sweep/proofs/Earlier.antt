@@ -1,6 +1,6 @@
 -- Which of two places of pools is the earlier one.
-use Rattle.std.proofs.Common.{◌≡◌, ◌≢◌, ℕ, suc, ◌<◌, ◌≤◌, ◌⊎◌, ◌==◌, ◌&&◌, ◌||◌, Bool, true, false, cond, eq-eqb, ne_eqb, le-leb, lt-leb, nat_lt, nat_le, sym, refl, ap, ◌∙◌, subst, inl, inr, ⊎_elim, arith, lt_of_not-le}
-use Rattle.std.proofs.lemmas.Bool.{lt-ltb}
+use Rattle.std.proofs.Common.{◌≡◌, ◌≢◌, ℕ, ◌<◌, ◌≤◌, ◌⊎◌, ◌==◌, ◌&&◌, ◌||◌, Bool, true, false, cond, eq-eqb, ne_eqb, le-leb, nat_lt, nat_le, sym, refl, ap, ◌∙◌, subst, inl, inr, ⊎_elim, arith, lt_of_not-le}
+use Rattle.std.proofs.lemmas.Bool.{le-ltb, lt-leb, lt-ltb}
 use mathlib.Core.Logic.{dite}
 use native.Mathlib.Decide.{ℕ_discrete, dec_le}
 use Rattle.heap_rule.specs.declared.view.Spot.{Spot}
@@ -36,7 +36,7 @@ order_of a b = dite (ℕ_discrete a.pool b.pool)
     always false = refl
 
     not_below : (m n : ℕ) → n ≤ m → nat_lt m n ≡ false
-    not_below m n low = lt-leb (suc m) n (let g : n < suc m = omega arith in g)
+    not_below m n low = le-ltb m n low
 
 -- what is before the earlier of two places is before both
 pub before_both : (a b : Spot) (q i : ℕ) → IsBefore q i (earlier a b) → IsBefore q i a × IsBefore q i b

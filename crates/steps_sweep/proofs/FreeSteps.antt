@@ -118,11 +118,11 @@ module _ (k : Config) (s : Words) (r : Rule k s) (id : ℕ) (hist : List Entry) 
 
   -- the place is the first word of no block, and lies in none
   far : (b : ℕ) (q : Place) → r.account.live b ≡ Some q → (z : ℕ) → z < extent q.shape → b + z ≢ a
-  far b q lives z inside same = dite (ℕ_discrete z 0)
+  far b q lives z within same = dite (ℕ_discrete z 0)
       (λ zero. none-some q (sym dead ∙ (ap r.account.live (let e : b + z ≡ a = same in let g : z ≡ 0 = zero in let h : a ≡ b = omega arith in h) ∙ lives)))
       (λ behind.
       let first : 1 ≤ z = (let n : z ≢ 0 = behind in omega arith) in
-      let beside = live_beside k t r.account.live s.words b z q r.whole.pools r.whole.grid (r.whole.placed.fits b q lives).low lives first inside (head_full k c.paint r.account.live now.graph s.words b q (r.whole.found b q lives)) d in
+      let beside = live_beside k t r.account.live s.words b z q r.whole.pools r.whole.grid (r.whole.placed.fits b q lives).low lives first within (head_full k c.paint r.account.live now.graph s.words b q (r.whole.found b q lives)) d in
       let m : ℕ = place_in pool class slot in
       let n : ℕ = size_of class in
       let large : 4 ≤ n = size_least class own_by.2 in
@@ -269,6 +269,12 @@ module _ (k : Config) (s : Words) (r : Rule k s) (id : ℕ) (hist : List Entry) 
   kind_is : (c.kind ≡ Sweep) ⊎ (c.kind ≡ Run)
   kind_is = ⊎_elim (λ here. inl (kind_here k s r id hist x at Sweep here)) (λ here. inr (kind_here k s r id hist x at Run here)) may.stage
 
+  -- what is garbage still was, and is another place
+  was : (b : ℕ) → IsTrue (garbage' b) → (b ≢ a) × IsTrue (t.garbage b)
+  was b is = dite (ℕ_discrete b a)
+      (λ same. absurd (true≢false (sym is ∙ (ap garbage' same ∙ at_same t.garbage a false))))
+      (λ other. (other, sym (at_other t.garbage a false b other) ∙ is))
+
   cycle' : Cycled k now r.account.live r.account.pause t' c words'
   cycle' = let z = r.whole.cycle in record {
     armed_is = same.armed_same ∙ z.armed_is;
@@ -286,11 +292,7 @@ module _ (k : Config) (s : Words) (r : Rule k s) (id : ℕ) (hist : List Entry) 
     };
     unswept = z.unswept;
     whole = z.whole;
-  } where
-    was : (b : ℕ) → IsTrue (garbage' b) → (b ≢ a) × IsTrue (t.garbage b)
-    was b is = dite (ℕ_discrete b a)
-        (λ same. absurd (true≢false (sym is ∙ (ap garbage' same ∙ at_same t.garbage a false))))
-        (λ other. (other, sym (at_other t.garbage a false b other) ∙ is))
+  }
 
   still_free : (b : ℕ) → at_address k s.words b ≡ 0 → at_address k words' b ≡ 0
   still_free b free = dite (ℕ_discrete b a) (λ same. ap (at_address k words') same ∙ here_is) (λ other. stays b other ∙ free)
@@ -402,6 +404,7 @@ module _ (k : Config) (s : Words) (r : Rule k s) (id : ℕ) (hist : List Entry) 
     sharings = sharings';
     listed_own = listed_own;
     listeds = listeds;
+    left = λ q e cl i is below dead. r.whole.full.left q e cl i is below (was (place_in q cl i) dead).1;
     sweeps = sweeps';
     others_sweep = λ z _ other h. others_sweep z other h;
   }

@@ -79,6 +79,7 @@ module _ (k : Config) (s : Words) (r : Rule k s) (id : ℕ) (hist : List Entry) 
         running = record { knows = g.running.knows; owes = g.running.owes };
         deciding = g.deciding;
       }
+      (my_good k s r id hist x at).sweeps
 
   -- one pool more is looked at
   one_more : (pool : ℕ) → sh.held ≡ pool → ((class : ℕ) → holder pool ≡ owned d class → HoldsBlock live pool class) → After (with_share x (record sh { held = pool + 1; vacant = 0 }))

@@ -92,7 +92,7 @@ module _ (k : Config) (s : Words) (r : Rule k s) (id : ℕ) (hist : List Entry) 
 
   pub blocks_reach : live_blocks s.words ≡ length (reach now)
   blocks_reach =
-      let g = answer_facts.swept.facts in
+      let g = answer_facts.ends.facts in
       let n = answer_facts.swept.counted in
       (count_law.end k.domains layout now c.before own c.counts.blocks (live_blocks s.words) (added_up c.counts.blocks (λ e. sum_by (words_at now.graph) (own e)) k.domains)
       record { out = share_out; blocks_are = n.blocks_are ∙ added_same c.counts.blocks (λ e. length (c.counts.own e)) (λ e. length (own e)) (λ e is. ap (λ (l : List Label). length l) (sym (own_is e is))) k.domains; words_are = refl }
@@ -100,7 +100,7 @@ module _ (k : Config) (s : Words) (r : Rule k s) (id : ℕ) (hist : List Entry) 
 
   pub words_reach : live_words s.words ≡ sum_by (words_at now.graph) (reach now)
   words_reach =
-      let g = answer_facts.swept.facts in
+      let g = answer_facts.ends.facts in
       let n = answer_facts.swept.counted in
       (count_law.end k.domains layout now c.before own c.counts.words (added_up c.counts.words (λ e. length (own e)) k.domains) (live_words s.words)
       record { out = share_out; blocks_are = refl; words_are = n.words_are ∙ added_same c.counts.words (λ e. sum_by (words_at now.graph) (c.counts.own e)) (λ e. sum_by (words_at now.graph) (own e)) (λ e is. ap (sum_by (words_at now.graph)) (sym (own_is e (n.first e is)))) k.domains }

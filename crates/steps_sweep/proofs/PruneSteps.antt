@@ -1,23 +1,24 @@
 -- A look at the head of a listed ephemeron in Sweep keeps the rule.
-use Rattle.std.proofs.Common.{◌≡◌, ◌≢◌, ℕ, ◌+◌, ◌<◌, ◌≤◌, ◌⊎◌, false, true≢false, IsTrue, List, get_or, set, slice_get, Option, Some, None, sym, refl, ap, ◌∙◌, subst, inl, inr, ⊎_elim, arith, lt_of_not-le}
+use Rattle.std.proofs.Common.{◌≡◌, ◌≢◌, ℕ, ◌+◌, ◌<◌, ◌⊎◌, false, true≢false, IsTrue, List, get_or, set, slice_get, Option, Some, None, sym, refl, ap, ◌∙◌, subst, inl, inr, ⊎_elim, arith}
 use Rattle.std.proofs.lemmas.Bool.{cases_Bool}
-use Rattle.std.proofs.lemmas.Option.{same_Some}
+use Rattle.std.proofs.lemmas.Option.{same_Some, none-some}
 use mathlib.Core.Logic.{dite}
-use native.Mathlib.Decide.{ℕ_discrete, dec_le}
+use native.Mathlib.Decide.{ℕ_discrete}
 use mathlib.Core.Option.{some}
 use lib.ListN.{get_elem?}
 use Rattle.atomic_table.specs.Table.{keeps}
 use Rattle.remembered_set.specs.Bounded.{Bounded}
 use Rattle.heap_model.specs.declared.entry.Entry.{Entry}
 use Rattle.heap_model.specs.declared.state.State as model
+use Rattle.heap_rule.specs.declared.phase.Stage.{Stage}
 use Rattle.heap_rule.specs.declared.config.Config.{Config}
-use Rattle.heap_rule.specs.declared.phase.Kind.TheVariants.{Sweep, Clean}
+use Rattle.heap_rule.specs.declared.phase.Kind.TheVariants.{Sweep, Clean, Run}
 use Rattle.heap_rule.specs.declared.phase.Stage.TheVariants.{In}
 use Rattle.heap_rule.specs.declared.view.DomainView.{DomainView}
 use Rattle.heap_rule.specs.declared.view.Own.{Own}
 use Rattle.heap_rule.specs.declared.view.Share.{Share}
-use Rattle.heap_rule.specs.Cycles.{Cycling, IsCollecting, Knowing}
-use Rattle.heap_rule.specs.Ephemerons.{IsEpheAt, Listed}
+use Rattle.heap_rule.specs.Cycles.{Cycling, IsCollecting, Knowing, IsIdle}
+use Rattle.heap_rule.specs.Ephemerons.{IsEpheAt, Listed, ephemeron_of}
 use Rattle.heap_rule.specs.Layout.{at_address, before_heap}
 use Rattle.heap_rule.specs.Places.{Live, Place}
 use Rattle.heap_rule.specs.Pools.{Tenancy}
@@ -25,17 +26,19 @@ use Rattle.heap_rule.specs.Raw.{Closes, MayStep}
 use Rattle.heap_rule.specs.Rule.{Good, Rule, Sharing, state_of}
 use Rattle.heap_rule.specs.Token.{OwnFits}
 use Rattle.heap_rule.specs.Views.{one}
-use Rattle.heap_rule.proofs.Closes.{front_same}
 use Rattle.heap_rule.proofs.Keeps.{Words, hunter_as, my_good, unmoved}
-use Rattle.heap_rule.proofs.Stages.{waits_in}
-use Rattle.steps_cycle.specs.Looks.{with_share}
-use Rattle.steps_cycle.proofs.Learning.{known, learns, not_promoting}
-use Rattle.steps_sweep.specs.Freeing.{IsColoured}
-use Rattle.steps_sweep.specs.Pruning.{CanPrune, PruneMay, PruneTold, Prunes, unlisted}
+use Rattle.steps_sweep.specs.Freeing.{Frees, IsColoured}
+use Rattle.steps_sweep.specs.Pruning.{CanPrune, PruneMay, PruneTold, Prunes, pruned_to, unlisted}
 use Rattle.steps_sweep.proofs.Owning.{looked_lives}
 use Rattle.steps_sweep.proofs.Reaping.{reaped_to, reaps}
 use Rattle.steps_sweep.proofs.Removals.{among, before, still_among, was, was_among}
-use Rattle.steps_sweep.proofs.Swept.{colour_of_dead, live_not_dead, sweeping}
+use Rattle.steps_sweep.proofs.Finding.{calm as not_copying, colour_of_dead, live_not_dead, waits}
+use Rattle.steps_sweep.proofs.SweepSteps.{sweeps_rule}
+use Rattle.steps_sweep.proofs.SweepWrites.{once_same, swept_fits}
+
+-- where garbage may be freed no keys are emptied
+no_clean : (stage : Stage) → Frees stage → stage ≡ In Clean → ⊥
+no_clean stage frees cleans = ⊎_elim (λ (e : stage ≡ In Sweep). let clash : In Sweep ≡ In Clean = sym e ∙ cleans in cc) (λ (e : stage ≡ In Run). let clash : In Run ≡ In Clean = sym e ∙ cleans in cc) frees
 
 module _ (k : Config) (s : Words) (r : Rule k s) (id : ℕ) (hist : List Entry) (x : DomainView) (at : get_elem? s.views id ≡ some (one k hist x)) (a i garbage : ℕ) (may : PruneMay x a i garbage) where
   abbrev now : model.State
@@ -68,19 +71,7 @@ module _ (k : Config) (s : Words) (r : Rule k s) (id : ℕ) (hist : List Entry) 
   good : Good k r.account s.words x
   good = my_good k s r id hist x at
 
-  collecting : IsCollecting x.seen.stage
-  collecting = sweeping k s r id hist x at may.stage
-
-  kn : Knowing k live t.holder now.graph c.paint.marks s.words d x.own.registers sh
-  kn = known k s r id hist x at
-
-  waits : c.shares.arrived d ≡ false
-  waits = waits_in k s r id hist x at Sweep may.stage
-
   -- the ephemeron lives: none up to it is garbage
-  abbrev passed : Share
-  passed = record sh { pruned = i + 1 }
-
   clean : IsEpheAt live a → t.garbage a ≡ false
   clean e = ⊎_elim
       (λ (is : IsTrue (t.garbage a)). absurd (let clash : ◌≡◌ {A = Option Place} None (Some e.place) = sym (r.whole.cycle.leaves.dead a is) ∙ e.lives in cc))
@@ -90,21 +81,10 @@ module _ (k : Config) (s : Words) (r : Rule k s) (id : ℕ) (hist : List Entry) 
   none_dead : IsEpheAt live a → (j b : ℕ) → j < i + 1 → slice_get items j ≡ Some b → t.garbage b ≡ false
   none_dead e j b low got = dite (ℕ_discrete j i)
       (λ same. let here : b ≡ a = same_Some b a (sym got ∙ (ap (slice_get items) same ∙ may.listed)) in ap t.garbage here ∙ clean e)
-      (λ other. good.sharing.looks.pruned j b (let m : ℕ = sh.pruned in let f : i ≤ m = may.next in let n : j ≢ i = other in let l : j < i + 1 = low in let g : j < m = omega arith in g) got)
+      (λ other. good.sweeps.listed j b (let m : ℕ = x.own.swept.listed in let f : m ≡ i = may.next in let n : j ≢ i = other in let l : j < i + 1 = low in let g : j < m = omega arith in g) got)
 
-  passes : IsEpheAt live a → After (with_share x passed)
-  passes e = let g = good.sharing in let n = kn.counted in learns k s r id hist x at passed record {
-    telling = record { owes = g.telling.owes; seen = g.telling.seen; fresh = λ up. absurd (true≢false (sym up ∙ waits)); forgotten = λ up. absurd (true≢false (sym up ∙ waits)); colours = g.telling.colours };
-    leading = record { changed = g.leading.changed; found_blocks = g.leading.found_blocks; found_words = g.leading.found_words; rotated = g.leading.rotated; turned = g.leading.turned; pass = g.leading.pass; whole = g.leading.whole; armed = g.leading.armed; unswept = g.leading.unswept };
-    knows = inr (
-      collecting,
-      record { found_head = kn.found_head; scan = kn.scan; walked = kn.walked; own_pool = kn.own_pool; rooted = kn.rooted; marked = kn.marked; counted = record { once = n.once; own = n.own; lives = n.lives; all = n.all; words = n.words }; held = kn.held; vacant = kn.vacant },
-    );
-    adds = record { blocks = g.adds.blocks; words = g.adds.words; own = g.adds.own };
-    looks = record { at_own = g.looks.at_own; cleans = g.looks.cleans; emptied_is = g.looks.emptied_is };
-    running = record { knows = g.running.knows; owes = g.running.owes };
-    deciding = g.deciding;
-  }
+  passes : IsEpheAt live a → After (record x { own = pruned_to i x.own })
+  passes e = let w = good.sweeps in sweeps_rule k s r id hist x at (record x.own.swept { listed = i + 1 }) sh.reaping sh.swept record { listed = none_dead e; places = w.places; anew = λ _ up. absurd (true≢false (sym up ∙ waits k s r id hist x at may.stage)); reaps = w.reaps }
 
   -- it is garbage: it is listed no more
   abbrev shorter : Bounded ℕ
@@ -117,6 +97,13 @@ module _ (k : Config) (s : Words) (r : Rule k s) (id : ℕ) (hist : List Entry) 
     none : live a ≡ None
     none = r.whole.cycle.leaves.dead a dead
 
+    -- an ephemeron at which the domain looks lives
+    looks_alive : (b : ℕ) → ephemeron_of sh.scan ≡ Some b → (p : Place) × (live b ≡ Some p)
+    looks_alive b e = ⊎_elim
+        (λ (idle : IsIdle sh). absurd (none-some b (sym (ap (λ (z : Share). ephemeron_of z.scan) idle) ∙ e)))
+        (λ (n : IsCollecting x.seen.stage × Knowing k live t.holder now.graph c.paint.marks s.words d x.own.registers sh). looked_lives live now.graph c.paint.marks sh.scan n.1.scan b e)
+        good.sharing.knows
+
     -- whatever lives is another one
     apart : (b : ℕ) (p : Place) → live b ≡ Some p → b ≢ a
     apart b p lives same = let clash : ◌≡◌ {A = Option Place} None (Some p) = sym none ∙ (ap live (sym same) ∙ lives) in cc
@@ -128,10 +115,6 @@ module _ (k : Config) (s : Words) (r : Rule k s) (id : ℕ) (hist : List Entry) 
       lives = λ b is. l.lives b (was_among items i a may.listed b is);
     }
 
-    -- none of those before it is garbage, so that it is the first that is
-    not_before : i < sh.pruned → ⊥
-    not_before low = true≢false (sym dead ∙ good.sharing.looks.pruned i a low may.listed)
-
     sharing' : Sharing k (reaped_to k s r id hist x at live t.garbage c) s.words d x.own.registers x.own.finalisers shorter.items x.seen.stage sh
     sharing' = let g = good.sharing in record {
       telling = g.telling;
@@ -139,9 +122,8 @@ module _ (k : Config) (s : Words) (r : Rule k s) (id : ℕ) (hist : List Entry) 
       knows = g.knows;
       adds = g.adds;
       looks = record {
-        at_own = λ b e. let w = looked_lives live now.graph c.paint.marks sh.scan kn.scan b e in still_among items i a may.listed b (apart b w.0 w.1) (g.looks.at_own b e);
-        pruned = λ j b low got. g.looks.pruned j b low (sym (before items i a may.listed j (dite (dec_le i j) (λ far. absurd (not_before (let m : ℕ = sh.pruned in let l : j < m = low in let f : i ≤ j = far in let h : i < m = omega arith in h))) (λ near. lt_of_not-le near))) ∙ got);
-        cleans = λ w e. absurd (let same : In Sweep ≡ In Clean = sym may.stage ∙ (g.looks.cleans w e).stage_is in cc);
+        at_own = λ b e. let w = looks_alive b e in still_among items i a may.listed b (apart b w.0 w.1) (g.looks.at_own b e);
+        cleans = λ w e. absurd (no_clean x.seen.stage may.stage (g.looks.cleans w e).stage_is);
         emptied_is = g.looks.emptied_is;
       };
       running = g.running;
@@ -149,10 +131,10 @@ module _ (k : Config) (s : Words) (r : Rule k s) (id : ℕ) (hist : List Entry) 
     }
 
     removes : After y
-    removes = reaps k s r id hist x at x.own.looked shorter sh live t.garbage c s.words record {
+    removes = reaps k s r id hist x at x.own.looked shorter x.own.swept sh live t.garbage c s.words record {
       wide = refl;
       control = λ j _ _ _ _. refl;
-      calm = not_promoting k s r id hist x at collecting;
+      calm = not_copying k s r id hist x at may.stage;
       kind = refl;
       subset = λ b p lives. lives;
       stood = λ z st. st;
@@ -167,6 +149,9 @@ module _ (k : Config) (s : Words) (r : Rule k s) (id : ℕ) (hist : List Entry) 
       sharings = λ z _ _ g. g.sharing;
       listed_own = listed_own;
       listeds = λ z _ g. g.listed;
+      left = r.whole.full.left;
+      sweeps = let w = good.sweeps in record { listed = λ j b low got. w.listed j b low (sym (before items i a may.listed j (let m : ℕ = x.own.swept.listed in let f : m ≡ i = may.next in let l : j < m = low in let g : j < i = omega arith in g)) ∙ got); places = w.places; anew = w.anew; reaps = w.reaps };
+      others_sweep = λ z _ _ g. g.sweeps;
     }
 
   means : garbage ≡ may.colours.garbage
@@ -175,7 +160,7 @@ module _ (k : Config) (s : Words) (r : Rule k s) (id : ℕ) (hist : List Entry) 
   pub prunes : (z : DomainView) × After z × PruneTold a i garbage x found z
   prunes = ⊎_elim
       (λ (e : IsEpheAt live a). (
-        with_share x passed,
+        record x { own = pruned_to i x.own },
         passes e,
         record { told = inl (λ is. live_not_dead k s r id hist x at may.stage may.colours may.known a e.place e.lives (subst (λ (n : ℕ). IsColoured n found) means is), refl) },
       ))
@@ -204,33 +189,34 @@ module _ (k : Config) (x : DomainView) (found a i garbage : ℕ) (may : PruneMay
     pending = fits.pending;
     ephemerons = λ j b got. let w = was x.own.ephemerons.items i a may.listed j b got in fits.ephemerons w.0 b w.1;
     finalisers = fits.finalisers;
+    swept = fits.swept;
   }
 
   written : (y : DomainView) → PruneTold a i garbage x found y → (after : Own) → Prunes a i garbage found x.own after → y.own ≡ after
   written y told after is = ⊎_elim
-      (λ (u : (IsColoured garbage found → ⊥) × (y ≡ with_share x (record x.seen.share { pruned = i + 1 }))). ⊎_elim
-      (λ (w : (IsColoured garbage found → ⊥) × (after ≡ x.own)). ap (λ (z : DomainView). z.own) u.1 ∙ sym w.1)
+      (λ (u : (IsColoured garbage found → ⊥) × (y ≡ record x { own = pruned_to i x.own })). ⊎_elim
+      (λ (w : (IsColoured garbage found → ⊥) × (after ≡ pruned_to i x.own)). ap (λ (z : DomainView). z.own) u.1 ∙ sym w.1)
       (λ (w : IsColoured garbage found × (after ≡ unlisted a i x.own)). absurd (u.0 w.0))
       is)
       (λ (u : IsColoured garbage found × (y ≡ record x { own = unlisted a i x.own })). ⊎_elim
-      (λ (w : (IsColoured garbage found → ⊥) × (after ≡ x.own)). absurd (w.0 u.0))
+      (λ (w : (IsColoured garbage found → ⊥) × (after ≡ pruned_to i x.own)). absurd (w.0 u.0))
       (λ (w : IsColoured garbage found × (after ≡ unlisted a i x.own)). ap (λ (z : DomainView). z.own) u.1 ∙ sym w.1)
       is)
       told.told
 
-  own_or : (y : DomainView) → PruneTold a i garbage x found y → ((y.own ≡ x.own) ⊎ (y.own ≡ unlisted a i x.own)) × (y.seen.front ≡ x.seen.front)
-  own_or y told = ⊎_elim
-      (λ (u : (IsColoured garbage found → ⊥) × (y ≡ with_share x (record x.seen.share { pruned = i + 1 }))). (inl (ap (λ (z : DomainView). z.own) u.1), ap (λ (z : DomainView). z.seen.front) u.1))
-      (λ (u : IsColoured garbage found × (y ≡ record x { own = unlisted a i x.own })). (inr (ap (λ (z : DomainView). z.own) u.1), ap (λ (z : DomainView). z.seen.front) u.1))
-      told.told
+  view_or : (y : DomainView) → PruneTold a i garbage x found y → (y ≡ record x { own = pruned_to i x.own }) ⊎ (y ≡ record x { own = unlisted a i x.own })
+  view_or y told = ⊎_elim (λ u. inl u.1) (λ u. inr u.1) told.told
 
   pub prune_closes : Closes k x found (PruneTold a i garbage) (CanPrune a i) (Prunes a i garbage found)
-  prune_closes y fits told = let o = own_or y told in record {
-    can_write = may.listed;
+  prune_closes y fits told = record {
+    can_write = (may.listed, may.next);
     written = written y told;
-    fits = ⊎_elim (λ (e : y.own ≡ x.own). subst (OwnFits k) (sym e) fits) (λ (e : y.own ≡ unlisted a i x.own). subst (OwnFits k) (sym e) (still_fits fits)) o.0;
-    once = λ _. inl (⊎_elim
-        (λ (e : y.own ≡ x.own). record { front = front_same x y o.1; registers = ap (λ (z : Own). z.registers) e; used = ap (λ (z : Own). z.used) e; serial = ap (λ (z : Own). z.serial) e })
-        (λ (e : y.own ≡ unlisted a i x.own). record { front = front_same x y o.1; registers = ap (λ (z : Own). z.registers) e; used = ap (λ (z : Own). z.used) e; serial = ap (λ (z : Own). z.serial) e })
-        o.0);
+    fits = ⊎_elim
+        (λ e. subst (OwnFits k) (sym (ap (λ (z : DomainView). z.own) e)) (swept_fits k x.own (record x.own.swept { listed = i + 1 }) (record { pool = fits.swept.pool; slot = fits.swept.slot }) fits))
+        (λ e. subst (OwnFits k) (sym (ap (λ (z : DomainView). z.own) e)) (still_fits fits))
+        (view_or y told);
+    once = ⊎_elim
+        (λ e. once_same k x y (ap (λ (z : DomainView). z.seen.front) e) (ap (λ (z : DomainView). z.own.registers) e) (ap (λ (z : DomainView). z.own.used) e) (ap (λ (z : DomainView). z.own.serial) e))
+        (λ e. once_same k x y (ap (λ (z : DomainView). z.seen.front) e) (ap (λ (z : DomainView). z.own.registers) e) (ap (λ (z : DomainView). z.own.used) e) (ap (λ (z : DomainView). z.own.serial) e))
+        (view_or y told);
   }

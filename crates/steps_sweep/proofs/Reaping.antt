@@ -1,9 +1,11 @@
 -- A step at the end of a collection: blocks may die, garbage may go, and the words of the colours and of what lives may change.
-use Rattle.std.proofs.Common.{◌≡◌, ◌≢◌, ℕ, ◌+◌, ◌<◌, ◌≤◌, Bool, List, length, get_or, set, slice_get, Some, sym, refl, ap, ◌∙◌, subst, inl, ⊎_elim, arith}
+use Rattle.std.proofs.Common.{◌≡◌, ◌≢◌, ℕ, ◌+◌, ◌<◌, ◌≤◌, Bool, List, length, get_or, set, slice_get, Some, sym, refl, ap, ◌∙◌, subst, inl, ⊎_elim, arith, IsTrue}
 use mathlib.Core.Option.{some}
 use lib.ListN.{get_elem?}
 use Rattle.heap_model.specs.declared.entry.Entry.{Entry}
 use Rattle.heap_model.specs.declared.state.State as model
+use Rattle.cycle_laws.specs.Fullness.{HoldsKept, kept_labels}
+use Rattle.heap_rule.specs.Limits.{sizes_in}
 use Rattle.heap_rule.specs.declared.config.Config.{Config}
 use Rattle.heap_rule.specs.declared.phase.Kind.TheVariants.{Promote}
 use Rattle.heap_rule.specs.declared.phase.Stage.{Stage}
@@ -23,7 +25,7 @@ use Rattle.heap_rule.specs.Fullness.{Fullness}
 use Rattle.heap_rule.specs.Layout.{before_heap, cursor, listed}
 use Rattle.heap_rule.specs.Phases.{AtStage, Staged}
 use Rattle.heap_rule.specs.Places.{Live, More, Place, Settled}
-use Rattle.heap_rule.specs.Pools.{Grid, Hunter, Lists, Pools, Reserved, Stock, Tenancy, limit_of}
+use Rattle.heap_rule.specs.Pools.{Grid, Hunter, Lists, Pools, Reserved, Stock, Tenancy, limit_of, blocks_of, owned, place_in}
 use Rattle.heap_rule.specs.Room.{Room}
 use Rattle.heap_rule.specs.Rule.{Account, AllFound, Good, Making, Rule, Sharing, Stood, state_of}
 use Rattle.heap_rule.specs.Views.{one}
@@ -68,6 +70,7 @@ module _ (k : Config) (s : Words) (r : Rule k s) (id : ℕ) (hist : List Entry) 
     pub sharings : (z : DomainView) → z.own.number < k.domains → z.own.number ≢ x.own.number → Good k r.account s.words z → Sharing k (reaped_to live' garbage' c') words' z.own.number z.own.registers z.own.finalisers z.own.ephemerons.items z.seen.stage z.seen.share
     pub listed_own : Listed live' t.holder garbage' x.own.number ephemerons.items
     pub listeds : (z : DomainView) → z.own.number ≢ x.own.number → Good k r.account s.words z → Listed live' t.holder garbage' z.own.number z.own.ephemerons.items
+    pub left : (q d c slot : ℕ) → t.holder q ≡ owned d c → slot < blocks_of c → IsTrue (garbage' (place_in q c slot)) → HoldsKept (kept_labels (sizes_in k) r.account.log) r.account.homes q
     pub sweeps : SweepsIn (record t { garbage = garbage' }) c' (reaped x looked ephemerons swept share')
     pub others_sweep : (z : DomainView) → z.own.number < k.domains → z.own.number ≢ x.own.number → Good k r.account s.words z → SweepsIn (record t { garbage = garbage' }) c' z
 
@@ -143,7 +146,7 @@ module _ (k : Config) (s : Words) (r : Rule k s) (id : ℕ) (hist : List Entry) 
         record {
           wide = o.wide ∙ r.whole.wide;
           legal = r.whole.legal;
-          full = subst (Fullness k r.account.log live' t.holder t.fresh t.garbage r.account.homes) (sym o.kind) (full_back k r.account.log live live' t.holder t.fresh t.garbage r.account.homes r.account.cycling.kind back r.whole.full);
+          full = subst (Fullness k r.account.log live' t.holder t.fresh garbage' r.account.homes) (sym o.kind) (let f = full_back k r.account.log live live' t.holder t.fresh t.garbage r.account.homes r.account.cycling.kind back r.whole.full in record { kept = f.kept; low = f.low; young = f.young; made = f.made; left = o.left; owned = f.owned; drawn = f.drawn });
           found = o.found;
           placed = placed_back k live live' back r.whole.placed;
           spread = spread_back k live live' back r.whole.spread;

@@ -81,6 +81,7 @@ module _ (k : Config) (s : Words) (r : Rule k s) (id : ℕ) (hist : List Entry) 
         sharings = o.sharings;
         listed_own = (my_good k s r id hist x at).listed;
         listeds = λ z _ g. g.listed;
+        left = r.whole.full.left;
         sweeps = o.sweeps;
         others_sweep = λ z _ _ g. o.others_sweep z g;
       }

@@ -4,6 +4,7 @@ use mathlib.Core.Option.{some}
 use lib.ListN.{get_elem?}
 use Rattle.atomic_table.specs.Table.{keeps}
 use Rattle.heap_model.specs.declared.entry.Entry.{Entry}
+use Rattle.heap_rule.specs.declared.view.Reaping.TheVariants.{Outside}
 use Rattle.heap_rule.specs.declared.config.Config.{Config}
 use Rattle.heap_rule.specs.declared.phase.Kind.TheVariants.{Run, Answer}
 use Rattle.heap_rule.specs.declared.view.DomainView.{DomainView}
@@ -24,7 +25,7 @@ use Rattle.steps_cycle.proofs.Learning.{even, leads_odd, none_runs, rests_here, 
 use Rattle.steps_cycle.proofs.Pausing.{paused_on}
 use Rattle.steps_cycle.proofs.Plain.{share_closes}
 use Rattle.steps_sweep.specs.Returning.{ReturnMay, ReturnTold}
-use Rattle.steps_sweep.proofs.Returned.{agrees, calm, collecting, cycle', drawers', drawn_was, full', grid', is_own, knowing_other, knowing_own, listed', no_prepared, other_word, own_was, owned_was, pools', reserved', same_cursor, same_cycle, share', t', words'}
+use Rattle.steps_sweep.proofs.Returned.{agrees, calm, collecting, cycle', drawers', drawn_was, full', grid', is_own, knowing_other, knowing_own, listed', no_prepared, other_word, own_was, owned_was, pools', reserved', same_cursor, same_cycle, share', t', words', sweeps', reaps_else}
 
 module _ (k : Config) (s : Words) (r : Rule k s) (id : ℕ) (hist : List Entry) (x : DomainView) (at : get_elem? s.views id ≡ some (one k hist x)) (word pool class : ℕ) (may : ReturnMay k x word pool class) where
   abbrev T : Tenancy
@@ -180,6 +181,7 @@ module _ (k : Config) (s : Words) (r : Rule k s) (id : ℕ) (hist : List Entry) 
         set_back = λ b. low_kept (g.set_back b);
         sharing = sharing';
         listed = let l = listed' k s r id hist x at word pool class may d x.own.ephemerons.items g.listed in record { all = l.all; own = l.own; lives = l.lives };
+        sweeps = let w = sweeps' k s r id hist x at word pool class may x Outside tt g.sweeps in record { listed = w.listed; places = w.places; anew = w.anew; reaps = w.reaps };
       }
       (λ z _ differs h. record {
         stood = h.stood;
@@ -195,12 +197,13 @@ module _ (k : Config) (s : Words) (r : Rule k s) (id : ℕ) (hist : List Entry) 
         set_back = λ b. low_kept (h.set_back b);
         sharing = sharings' z differs h;
         listed = listed' k s r id hist x at word pool class may z.own.number z.own.ephemerons.items h.listed;
+        sweeps = sweeps' k s r id hist x at word pool class may z z.seen.share.reaping (reaps_else k s r id hist x at word pool class may z.own.number differs z.seen.share.reaping h.sweeps.reaps) h.sweeps;
       })
 
 pub return_may : (k : Config) (x : DomainView) (word pool class : ℕ) → ReturnMay k x word pool class → MayStore k x word 0 (ReturnTold pool)
 return_may k x word pool class may fits slots id hist s r _ at _ =
-    let y : DomainView = with_share x (record x.seen.share { own_pool = None; held = pool + 1; vacant = 0 }) in
+    let y : DomainView = with_share x (record x.seen.share { own_pool = None; held = pool + 1; vacant = 0; reaping = Outside }) in
     (one k hist y, keeps, tt, subst (λ (n : ℕ). Rule k record { words = set s.words n 0; homes = s.homes; views = set s.views id (one k hist y) }) (sym may.word) (return_rule k s r id hist x at word pool class may), (refl, refl))
 
 pub return_closes : (k : Config) (x : DomainView) (pool : ℕ) → Closes k x 0 (ReturnTold pool) CanLeave Leaves
-return_closes k x pool = share_closes k x 0 (ReturnTold pool) (λ y t. (record x.seen.share { own_pool = None; held = pool + 1; vacant = 0 }, t))
+return_closes k x pool = share_closes k x 0 (ReturnTold pool) (λ y t. (record x.seen.share { own_pool = None; held = pool + 1; vacant = 0; reaping = Outside }, t))

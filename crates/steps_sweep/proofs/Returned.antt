@@ -6,6 +6,9 @@ use mathlib.Core.Option.{some}
 use lib.ListN.{get_elem?}
 use Rattle.heap_model.specs.declared.entry.Entry.{Entry}
 use Rattle.heap_model.specs.declared.state.State as model
+use Rattle.heap_rule.specs.declared.view.Reaping.TheVariants.{Outside, Inside, AtGarbage}
+use Rattle.heap_rule.specs.declared.view.Reaping.{Reaping}
+use Rattle.heap_rule.specs.Sweeping.{Reaps, Sweeps, SweepsIn}
 use Rattle.heap_rule.specs.declared.config.Config.{Config}
 use Rattle.heap_rule.specs.declared.phase.Kind.{Kind}
 use Rattle.heap_rule.specs.declared.phase.Kind.TheVariants.{Answer, Clean}
@@ -197,9 +200,19 @@ module _ (k : Config) (s : Words) (r : Rule k s) (id : ℕ) (hist : List Entry) 
     low = λ q e cl slot p is inside lives. f.low q e cl slot p (owned_was q e cl is).1 inside lives;
     young = f.young;
     made = f.made;
+    left = λ q e cl slot is. f.left q e cl slot (owned_was q e cl is).1;
     owned = λ goes. absurd (goes kind_is);
     drawn = λ q e is. f.drawn q e (drawn_was q e is);
   }
+
+  -- what a domain knows of garbage stays: there is none
+  pub sweeps' : (z : DomainView) (reaping : Reaping) → Reaps t'.holder t'.garbage z.own.number reaping → SweepsIn T c z → Sweeps t'.holder t'.garbage c.kind c.shares.arrived z.own.number z.own.ephemerons.items z.own.swept reaping
+  sweeps' z reaping is w = record { listed = w.listed; places = λ q cl slot own. w.places q cl slot (owned_was q z.own.number cl own).1; anew = w.anew; reaps = is }
+
+  pub reaps_else : (e : ℕ) → e ≢ d → (reaping : Reaping) → Reaps T.holder T.garbage e reaping → Reaps t'.holder t'.garbage e reaping
+  reaps_else e other Outside w = tt
+  reaps_else e other (Inside q cl) w = owned_still q e cl other w
+  reaps_else e other (AtGarbage q cl slot) w = (owned_still q e cl other w.0, w.1, w.2)
 
   -- the places at which blocks live belong to whom they belonged
   owner_was : (b e : ℕ) → owner_at t'.holder b ≡ Some e → owner_at T.holder b ≡ Some e
@@ -229,9 +242,11 @@ module _ (k : Config) (s : Words) (r : Rule k s) (id : ℕ) (hist : List Entry) 
   answering' = record {
     mode = facts.mode;
     whole = facts.whole;
+    ends = record {
+      facts = let g = facts.ends.facts in record { sealed = g.sealed; owned = λ l is. let o = g.owned l is in let p = labelled k live o.1 l o.3 in (o.0, o.1, o.2, o.3, owner_still o.1 o.0 p.place p.lives o.4); whole = g.whole; waiting = g.waiting; kept = g.kept };
+      rotated = facts.ends.rotated;
+    };
     swept = record {
-      facts = let g = facts.swept.facts in record { sealed = g.sealed; owned = λ l is. let o = g.owned l is in let p = labelled k live o.1 l o.3 in (o.0, o.1, o.2, o.3, owner_still o.1 o.0 p.place p.lives o.4); whole = g.whole; waiting = g.waiting; kept = g.kept };
-      rotated = facts.swept.rotated;
       all_marked = facts.swept.all_marked;
       unmarked = facts.swept.unmarked;
       unchanged = facts.swept.unchanged;
@@ -259,7 +274,8 @@ module _ (k : Config) (s : Words) (r : Rule k s) (id : ℕ) (hist : List Entry) 
     changed_is = same_cycle.changed_same ∙ y.changed_is;
     facts = subst (λ (kind : Kind). Facts kind k now live t' c words') (sym kind_is) answering';
     told = y.told;
-    leaves = record { none = y.leaves.none; dead = y.leaves.dead; head = λ a is. absurd (true≢false (sym is ∙ facts.clean a)) };
+    leaves = record { none = y.leaves.none; dead = y.leaves.dead; head = λ a is. absurd (true≢false (sym is ∙ facts.clean a)); unprepared = y.leaves.unprepared; owned = λ a is. absurd (true≢false (sym is ∙ facts.clean a)) };
+    unswept = y.unswept;
     whole = λ l. inl (whole_in k s r id hist x at (λ e. let same : Answer ≡ Clean = sym kind_is ∙ e in cc) l);
   }
 
@@ -291,7 +307,7 @@ module _ (k : Config) (s : Words) (r : Rule k s) (id : ℕ) (hist : List Entry) 
   }
 
   abbrev pub share' : Share
-  share' = record sh { own_pool = None; held = pool + 1; vacant = 0 }
+  share' = record sh { own_pool = None; held = pool + 1; vacant = 0; reaping = Outside }
 
   pub knowing_own : Knowing k live t'.holder now.graph c.paint.marks words' d x.own.registers share'
   knowing_own = let y = counted_on d sh kn.counted in record {

@@ -1,5 +1,5 @@
 -- A step by which a domain gets further in sweeping its own pools, and frees nothing, keeps the rule.
-use Rattle.std.proofs.Common.{◌≡◌, ◌≢◌, ℕ, ◌+◌, ◌<◌, ◌≤◌, ◌⊎◌, Bool, true, false, true≢false, IsTrue, List, ◌∷◌, get_or, set, Some, Option, sym, refl, ap, ◌∙◌, subst, inl, inr, ⊎_elim, arith, lt_of_not-le}
+use Rattle.std.proofs.Common.{◌≡◌, ◌≢◌, ℕ, ◌+◌, ◌<◌, ◌≤◌, Bool, true, false, true≢false, IsTrue, List, ◌∷◌, get_or, set, sym, refl, ap, ◌∙◌, subst, inl, inr, ⊎_elim, arith, lt_of_not-le, ◌*◌}
 use Rattle.std.proofs.lemmas.Bool.{cases_Bool}
 use mathlib.Core.Logic.{dite}
 use native.Mathlib.Decide.{ℕ_discrete, dec_le}
@@ -8,11 +8,8 @@ use lib.ListN.{get_elem?}
 use Rattle.atomic_table.specs.Table.{keeps}
 use Rattle.heap_model.specs.declared.entry.Entry.{Entry}
 use Rattle.heap_model.specs.declared.state.State as model
-use Rattle.heap_model.specs.Domains.{class_count}
 use Rattle.heap_rule.specs.declared.config.Config.{Config}
-use Rattle.heap_rule.specs.declared.phase.Kind.TheVariants.{Lasts}
 use Rattle.heap_rule.specs.declared.view.DomainView.{DomainView}
-use Rattle.heap_rule.specs.declared.view.Own.{Own}
 use Rattle.heap_rule.specs.declared.view.Reaping.{Reaping}
 use Rattle.heap_rule.specs.declared.view.Reaping.TheVariants.{Inside, AtGarbage}
 use Rattle.heap_rule.specs.declared.view.Share.{Share}
@@ -21,12 +18,10 @@ use Rattle.heap_rule.specs.declared.view.Swept.{Swept}
 use Rattle.heap_rule.specs.Cycles.{IsCollecting, IsIdle, Knowing}
 use Rattle.heap_rule.specs.Layout.{at_address, before_heap, owner_of}
 use Rattle.heap_rule.specs.Pools.{Holder, IsBefore, blocks_of, owned, owner_word, place_in}
-use Rattle.heap_rule.specs.Raw.{Closes, MayStep}
+use Rattle.heap_rule.specs.Raw.{MayStep}
 use Rattle.heap_rule.specs.Rule.{Rule, Sharing, state_of}
 use Rattle.heap_rule.specs.Sweeping.{Reaps, SweepsIn, nothing_swept}
-use Rattle.heap_rule.specs.Token.{OwnFits}
 use Rattle.heap_rule.specs.Views.{one}
-use Rattle.heap_rule.proofs.Closes.{front_same}
 use Rattle.heap_rule.proofs.Keeps.{Words, control_same, controls_kept, hunter_as, mine, my_good, unmoved, writes}
 use Rattle.heap_rule.proofs.Lots.{none_before}
 use Rattle.heap_rule.proofs.OwnPlaces.{owned_same}
@@ -34,7 +29,7 @@ use Rattle.steps_cycle.specs.Looks.{with_share}
 use Rattle.steps_cycle.specs.Marking.{behind}
 use Rattle.steps_cycle.proofs.Layouts.{whose}
 use Rattle.steps_cycle.proofs.WalkSteps.{before_behind}
-use Rattle.steps_sweep.specs.Freeing.{AnewMay, AnewTold, CanSweep, CanSweepOwn, Frees, IsAmong, IsColoured, SweepMay, SweepOwnMay, SweepOwnTold, SweepTold, SweepsOwn, SweepsPlace, passed, sweeping_from, unswept}
+use Rattle.steps_sweep.specs.Freeing.{AnewMay, AnewTold, Frees, IsColoured, SweepMay, SweepOwnMay, SweepOwnTold, SweepTold, passed, sweeping_from, unswept}
 use Rattle.steps_sweep.proofs.Finding.{clean_place, colour_of_dead, waits}
 
 -- the domain with another share of its sweeping
@@ -140,9 +135,12 @@ module _ (k : Config) (s : Words) (r : Rule k s) (id : ℕ) (hist : List Entry) 
       listed = w.listed;
       places = λ q c i is inside before. w.places q c i is inside (⊎_elim
           (λ (h : q < pool + 1). dite (ℕ_discrete q pool)
-          (λ same. inr (same ∙ sym may.next, dite (dec_le (blocks_of c) slot)
-          (λ far. let b : ℕ = blocks_of c in let n : ℕ = slot in let f : b ≤ n = far in let l : i < b = inside in let g : i < n = omega arith in g)
-          (λ near. absurd (none c (ap holder (sym same) ∙ is) (lt_of_not-le near)))))
+          (λ same. inr (
+            same ∙ sym may.next,
+            dite (dec_le (blocks_of c) slot)
+                (λ far. let b : ℕ = blocks_of c in let n : ℕ = slot in let f : b ≤ n = far in let l : i < b = inside in let g : i < n = omega arith in g)
+                (λ near. absurd (none c (ap holder (sym same) ∙ is) (lt_of_not-le near))),
+          ))
           (λ other. inl (let p : ℕ = x.own.swept.spot.pool in let e : p ≡ pool = may.next in let n : q ≢ pool = other in let l : q < pool + 1 = h in let g : q < p = omega arith in g)))
           (λ (h : (q ≡ pool + 1) × (i < 0)). absurd (let l = h.1 in omega arith))
           before);

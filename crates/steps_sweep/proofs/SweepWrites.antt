@@ -1,5 +1,5 @@
 -- What the steps of sweeping tell of a token's own data.
-use Rattle.std.proofs.Common.{◌≡◌, ℕ, ◌+◌, ◌<◌, ◌≤◌, ◌⊎◌, List, set, length, length-set, get_or-set_same, get_or-set_other, sym, refl, ap, ◌∙◌, subst, inl, inr, ⊎_elim, arith, lt_of_not-le}
+use Rattle.std.proofs.Common.{◌≡◌, ℕ, ◌+◌, ◌<◌, ◌≤◌, List, set, length-set, get_or-set_same, get_or-set_other, sym, ap, ◌∙◌, subst, inl, ⊎_elim, arith, lt_of_not-le}
 use mathlib.Core.Logic.{dite}
 use native.Mathlib.Decide.{ℕ_discrete, dec_le}
 use Rattle.heap_model.specs.Domains.{IsWithinLimits, class_count}
@@ -26,11 +26,11 @@ few_pools : (k : Config) (pool : ℕ) → IsWithinLimits (sizes_in k) → pool <
 few_pools k pool limits inside = let all = limits.pools in let p : ℕ = k.pools in let i : pool < p = inside in omega arith
 
 -- no entry stands at a step that leaves the front, the registers and the blocks
-once_same : (k : Config) (x y : DomainView) → y.seen.front ≡ x.seen.front → y.own.registers ≡ x.own.registers → y.own.used ≡ x.own.used → y.own.serial ≡ x.own.serial → StepsOnce k x y
+pub once_same : (k : Config) (x y : DomainView) → y.seen.front ≡ x.seen.front → y.own.registers ≡ x.own.registers → y.own.used ≡ x.own.used → y.own.serial ≡ x.own.serial → StepsOnce k x y
 once_same k x y front registers used serial = λ _. inl (record { front = front_same x y front; registers = registers; used = used; serial = serial })
 
 -- a token fits whose sweeping has got so far
-swept_fits : (k : Config) (own : Own) (swept : Swept) → SweptWithin k swept → OwnFits k own → OwnFits k (record own { swept = swept })
+pub swept_fits : (k : Config) (own : Own) (swept : Swept) → SweptWithin k swept → OwnFits k own → OwnFits k (record own { swept = swept })
 swept_fits k own swept within fits = record {
   number = fits.number;
   used = fits.used;
@@ -63,30 +63,31 @@ anew_closes k x found y fits told = let own : y.own ≡ unswept x.own = ap (λ (
   once = once_same k x y (ap (λ (z : DomainView). z.seen.front) told) (ap (λ (o : Own). o.registers) own) (ap (λ (o : Own). o.used) own) (ap (λ (o : Own). o.serial) own);
 }
 
+-- the sweep goes on in the next pool
+abbrev onward : ℕ → Own → Own
+onward pool own = sweeping_from own (record { pool = pool + 1; slot = 0 })
+
 pub sweep_own_closes : (k : Config) (x : DomainView) (found pool : ℕ) → pool < k.pools → IsWithinLimits (sizes_in k) → Closes k x found (SweepOwnTold pool) (CanSweepOwn pool) (SweepsOwn pool found)
 sweep_own_closes k x found pool inside limits y fits told = ⊎_elim
     (λ (u : (class : ℕ) × IsAmong class x.own found × (y ≡ with_share x (record x.seen.share { reaping = Inside pool class }))). record {
       can_write = few_pools k pool limits inside;
       written = λ after is. ⊎_elim
           (λ (w : ((class : ℕ) × IsAmong class x.own found) × (after ≡ x.own)). ap (λ (z : DomainView). z.own) u.2 ∙ sym w.1)
-          (λ (w : ((class : ℕ) → IsAmong class x.own found → ⊥) × (after ≡ onward)). absurd (w.0 u.0 u.1))
+          (λ (w : ((class : ℕ) → IsAmong class x.own found → ⊥) × (after ≡ onward pool x.own)). absurd (w.0 u.0 u.1))
           is;
       fits = subst (OwnFits k) (sym (ap (λ (z : DomainView). z.own) u.2)) fits;
       once = once_same k x y (ap (λ (z : DomainView). z.seen.front) u.2) (ap (λ (z : DomainView). z.own.registers) u.2) (ap (λ (z : DomainView). z.own.used) u.2) (ap (λ (z : DomainView). z.own.serial) u.2);
     })
-    (λ (u : ((class : ℕ) → IsAmong class x.own found → ⊥) × (y ≡ record x { own = onward })). record {
+    (λ (u : ((class : ℕ) → IsAmong class x.own found → ⊥) × (y ≡ record x { own = onward pool x.own })). record {
       can_write = few_pools k pool limits inside;
       written = λ after is. ⊎_elim
           (λ (w : ((class : ℕ) × IsAmong class x.own found) × (after ≡ x.own)). absurd (u.0 w.0.0 w.0.1))
-          (λ (w : ((class : ℕ) → IsAmong class x.own found → ⊥) × (after ≡ onward)). ap (λ (z : DomainView). z.own) u.1 ∙ sym w.1)
+          (λ (w : ((class : ℕ) → IsAmong class x.own found → ⊥) × (after ≡ onward pool x.own)). ap (λ (z : DomainView). z.own) u.1 ∙ sym w.1)
           is;
-      fits = subst (OwnFits k) (sym (ap (λ (z : DomainView). z.own) u.1)) (swept_fits k x.own onward.swept (record { pool = (let p : ℕ = k.pools in let i : pool < p = inside in let g : pool + 1 ≤ p = omega arith in g); slot = omega arith }) fits);
+      fits = subst (OwnFits k) (sym (ap (λ (z : DomainView). z.own) u.1)) (swept_fits k x.own (onward pool x.own).swept (record { pool = (let p : ℕ = k.pools in let i : pool < p = inside in let g : pool + 1 ≤ p = omega arith in g); slot = omega arith }) fits);
       once = once_same k x y (ap (λ (z : DomainView). z.seen.front) u.1) (ap (λ (z : DomainView). z.own.registers) u.1) (ap (λ (z : DomainView). z.own.used) u.1) (ap (λ (z : DomainView). z.own.serial) u.1);
     })
     told.told
-  where
-    abbrev onward : Own
-    onward = sweeping_from x.own (record { pool = pool + 1; slot = 0 })
 
 pub sweep_closes : (k : Config) (x : DomainView) (found pool class slot garbage : ℕ) → pool < k.pools → class < class_count → slot < blocks_of class → IsWithinLimits (sizes_in k) → Closes k x found (SweepTold pool class slot garbage) (CanSweep pool class slot) (SweepsPlace pool class slot garbage found)
 sweep_closes k x found pool class slot garbage inside few low limits y fits told = ⊎_elim
@@ -112,21 +113,18 @@ sweep_closes k x found pool class slot garbage inside few low limits y fits told
 
 -- where the search for free places begins lies within the pools
 freed_within : (k : Config) (looked : List Spot) (pool class slot : ℕ) → pool < k.pools → class < class_count → slot < blocks_of class → LooksWithin k looked → LooksWithin k (set looked class (earlier (record { pool = pool; slot = slot }) (spot_at looked class)))
-freed_within k looked pool class slot inside few low l = record {
-  wide = length-set looked class spot ∙ l.wide;
-  within = λ c below. dite (ℕ_discrete c class)
-      (λ same. subst (λ (z : Spot × ℕ). (z.0.pool ≤ k.pools) × (z.0.slot < blocks_of z.1)) (λ i. (sym (ap (spot_at (set looked class spot)) same ∙ get_or-set_same looked class spot (record { pool = 0; slot = 0 }) (subst (λ (n : ℕ). class < n) (sym l.wide) few)) i, sym same i))
+freed_within k looked pool class slot inside few low l =
+    let here : Spot = record { pool = pool; slot = slot } in
+    let spot : Spot = earlier here (spot_at looked class) in record {
+      wide = length-set looked class spot ∙ l.wide;
+      within = λ c below. dite (ℕ_discrete c class)
+          (λ same. subst (λ (z : Spot × ℕ). (z.0.pool ≤ k.pools) × (z.0.slot < blocks_of z.1)) (λ i. (sym (ap (spot_at (set looked class spot)) same ∙ get_or-set_same looked class spot (record { pool = 0; slot = 0 }) (subst (λ (n : ℕ). class < n) (sym l.wide) few)) i, sym same i))
           (⊎_elim
-              (λ (e : spot ≡ here). subst (λ (z : Spot). (z.pool ≤ k.pools) × (z.slot < blocks_of class)) (sym e) ((let p : ℕ = k.pools in let i : pool < p = inside in let g : pool ≤ p = omega arith in g), low))
-              (λ (e : spot ≡ spot_at looked class). subst (λ (z : Spot). (z.pool ≤ k.pools) × (z.slot < blocks_of class)) (sym e) (l.within class few))
-              (⊎_elim (λ h. inl h.0) (λ h. inr h.0) (order_of here (spot_at looked class)))))
-      (λ other. subst (λ (z : Spot). (z.pool ≤ k.pools) × (z.slot < blocks_of c)) (sym (get_or-set_other looked class c spot (record { pool = 0; slot = 0 }) other)) (l.within c below));
-} where
-  abbrev here : Spot
-  here = record { pool = pool; slot = slot }
-
-  abbrev spot : Spot
-  spot = earlier here (spot_at looked class)
+          (λ h. subst (λ (z : Spot). (z.pool ≤ k.pools) × (z.slot < blocks_of class)) (sym h.0) ((let p : ℕ = k.pools in let i : pool < p = inside in let g : pool ≤ p = omega arith in g), low))
+          (λ h. subst (λ (z : Spot). (z.pool ≤ k.pools) × (z.slot < blocks_of class)) (sym h.0) (l.within class few))
+          (order_of here (spot_at looked class))))
+          (λ other. subst (λ (z : Spot). (z.pool ≤ k.pools) × (z.slot < blocks_of c)) (sym (get_or-set_other looked class c spot (record { pool = 0; slot = 0 }) other)) (l.within c below));
+    }
 
 pub free_closes : (k : Config) (x : DomainView) (pool class slot : ℕ) → pool < k.pools → class < class_count → slot < blocks_of class → IsWithinLimits (sizes_in k) → Closes k x 0 (FreeTold pool class slot) (CanFree pool class slot) (FreesPlace pool class slot)
 free_closes k x pool class slot inside few low limits y fits told = let own : y.own ≡ freed_own pool class slot x.own = ap (λ (z : DomainView). z.own) told in let b = behind_within k pool class slot x.own.swept.listed inside few in record {

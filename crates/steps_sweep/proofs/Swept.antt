@@ -1,31 +1,20 @@
 -- What holds from the rotation on, and the heads that are found then.
-use Rattle.std.proofs.Common.{◌≡◌, ℕ, ◌<◌, ◌⊎◌, ◌==◌, ◌||◌, Bool, false, true≢false, IsTrue, eq-eqb, List, ◌∷◌, Some, None, Option, sym, ap, ◌∙◌, subst, inl, inr, ⊎_elim}
+use Rattle.std.proofs.Common.{◌≡◌, ℕ, ◌<◌, false, true≢false, IsTrue, List, Some, None, Option, sym, ap, ◌∙◌, subst, ⊎_elim}
 use mathlib.Core.Option.{some}
 use lib.ListN.{get_elem?}
 use Rattle.heap_model.specs.declared.entry.Entry.{Entry}
-use Rattle.heap_model.specs.declared.state.State as model
-use Rattle.heap_model.proofs.Reach.ReachLemmas.{or_left, or_right}
-use Rattle.heap_words.specs.declared.colours.Colours.{Colours}
-use Rattle.cycle_laws.specs.Shares.{Shares, at_domain}
 use Rattle.heap_rule.specs.declared.config.Config.{Config}
 use Rattle.heap_rule.specs.declared.phase.Kind.{Kind}
 use Rattle.heap_rule.specs.declared.phase.Kind.TheVariants.{Sweep}
 use Rattle.heap_rule.specs.declared.view.DomainView.{DomainView}
-use Rattle.heap_rule.specs.Cycles.{Cycling, Facts, IsCollecting, IsSwept, Knowing, Sweeping, seen_by}
-use Rattle.heap_rule.specs.Layout.{at_address, live_blocks, live_words}
-use Rattle.heap_rule.specs.Places.{Live, Place}
-use Rattle.heap_rule.specs.Pools.{Holder, IsBefore, Tenancy, blocks_of, owned, place_in}
+use Rattle.heap_rule.specs.Cycles.{Facts, IsCollecting, Sweeping}
+use Rattle.heap_rule.specs.Layout.{at_address}
+use Rattle.heap_rule.specs.Places.{Place}
+use Rattle.heap_rule.specs.Pools.{blocks_of, owned, place_in}
 use Rattle.heap_rule.specs.Rule.{Rule, state_of}
 use Rattle.heap_rule.specs.Views.{one}
-use Rattle.heap_rule.proofs.HeadLemmas.{packable_head}
-use Rattle.heap_rule.proofs.Keeps.{Words, my_good}
-use Rattle.heap_rule.proofs.OwnPlaces.{owned_same}
-use Rattle.heap_rule.proofs.Lots.{place_cases}
-use Rattle.steps_cycle.proofs.Colouring.{BareHead, bare_head, unmarked_colour}
-use Rattle.steps_cycle.proofs.Learning.{bare, kind_here, known, not_promoting}
-use Rattle.steps_cycle.proofs.WalkSteps.{before_behind}
-use Rattle.steps_sweep.specs.Freeing.{IsColoured, SweepMay, passed}
-use Rattle.steps_sweep.proofs.HeadColours.{one_colour}
+use Rattle.heap_rule.proofs.Keeps.{Words}
+use Rattle.steps_cycle.proofs.Learning.{kind_here, not_promoting}
 use Rattle.heap_rule.specs.declared.phase.Stage.TheVariants.{In}
 
 -- an own place at which neither a block nor garbage lies is free

@@ -28,6 +28,13 @@ use Rattle.cycle_laws.specs.Shares.{AllArrived, AllOwned}
 use Rattle.cycle_laws.specs.Taking.{LeadsToMarked}
 use Rattle.cycle_laws.proofs.Cycling.{phase_steps}
 use Rattle.cycle_laws.proofs.DomainParts.{listed_at}
+use Rattle.cycle_laws.specs.Fullness.{HoldsKept, kept_labels}
+use Rattle.steps_cycle.proofs.Unswept.{none_unswept, swept_tracing}
+use Rattle.heap_rule.proofs.Lots.{lived_unprepared, none_before}
+use Rattle.heap_rule.specs.declared.view.Reaping.TheVariants.{Outside, Inside, AtGarbage}
+use Rattle.heap_rule.specs.declared.view.Reaping.{Reaping}
+use Rattle.heap_rule.specs.declared.view.Swept.{Swept}
+use Rattle.heap_rule.specs.Sweeping.{Reaps, SweepsIn, nothing_swept}
 use Rattle.heap_rule.specs.declared.config.Config.{Config}
 use Rattle.heap_rule.specs.declared.phase.Kind.{Kind}
 use Rattle.heap_rule.specs.declared.phase.Kind.TheVariants.{Run, Clean, Lasts, Sweep}
@@ -37,12 +44,12 @@ use Rattle.heap_rule.specs.declared.view.Share.{Share}
 use Rattle.heap_rule.specs.Changes.{value_at}
 use Rattle.heap_rule.specs.Copies.{Promoting, Resetting}
 use Rattle.heap_rule.specs.Beside.{RunsBeside}
-use Rattle.heap_rule.specs.Cycles.{Cycled, Cycling, Facts, IsCollecting, IsGarbageHead, IsIdle, Knowing, Leaving, layout_of, owner_at, swept_of}
+use Rattle.heap_rule.specs.Cycles.{Cycled, Cycling, Facts, IsCollecting, IsGarbageHead, IsIdle, Knowing, Leaving, layout_of, swept_of}
 use Rattle.heap_rule.specs.Layout.{at_address, before_heap, heap_words}
 use Rattle.heap_rule.specs.Limits.{sizes_in}
 use Rattle.heap_rule.specs.Phases.{AtStage}
 use Rattle.heap_rule.specs.Places.{IsBare, IsBuilt, IsOldAt, Live, Place, head_of, values_of, without_keys}
-use Rattle.heap_rule.specs.Pools.{Grid, Hunter, Tenancy, place_in}
+use Rattle.heap_rule.specs.Pools.{Grid, Hunter, Tenancy, place_in, IsBefore, OwnPlace, blocks_of, owned}
 use Rattle.heap_rule.specs.Raw.{CanLeave, Closes, Leaves, MayStore}
 use Rattle.heap_rule.specs.Rule.{AllFound, Good, Rule, Sharing, Stood, state_of}
 use Rattle.heap_rule.specs.Views.{one}
@@ -51,13 +58,13 @@ use Rattle.heap_rule.specs.Ephemerons.{Listed}
 use Rattle.heap_rule.proofs.EphemeronLemmas.{listed_on, looks_idle}
 use Rattle.heap_rule.proofs.Again.{Back, ephe_back, lots_back}
 use Rattle.heap_rule.proofs.Holders.{Agrees, SameFor, SameHeap, agrees_set, found_heap, hunter_agree, making_heap, stock_self}
-use Rattle.heap_rule.proofs.Keeps.{Words, hunter_as, my_good}
+use Rattle.heap_rule.proofs.Keeps.{Words, hunter_as, my_good, mine}
 use Rattle.heap_rule.proofs.PauseFacts.{not_both}
 use Rattle.steps_cycle.specs.Looks.{with_share}
 use Rattle.steps_cycle.proofs.Learning.{whole_in}
 use Rattle.steps_cycle.proofs.Pausing.{paused_on}
 use Rattle.steps_cycle.proofs.Plain.{share_closes}
-use Rattle.steps_cycle.proofs.Layouts.{label_there, labelled, owner_of_place}
+use Rattle.steps_cycle.proofs.Layouts.{label_there, labelled}
 use Rattle.steps_sweep.specs.Turning.{TurnMay, TurnTold}
 use Rattle.steps_sweep.proofs.Enrolling.{enrolled_left}
 use Rattle.heap_rule.proofs.HistorySizes.{sizes_after}
@@ -132,6 +139,10 @@ module _ (k : Config) (s : Words) (r : Rule k s) (id : ℕ) (hist : List Entry) 
   unrotated : c.rotated ≡ false
   unrotated = good.sharing.leading.rotated may.first kind_is ∙ may.not_yet
 
+  -- there is no garbage yet
+  no_garbage : (a : ℕ) → t.garbage a ≡ false
+  no_garbage = none_unswept k now live r.account.pause t c s.words r.whole.cycle Lasts tt kind_is unrotated
+
   counted : k.domains ≡ length now.domains
   counted = sym ((shaped-history (sizes_in k) r.account.log r.limits).domain_count ∙ ap (λ (z : Sizes). z.domains) (sizes_after (opening (sizes_in k)) r.account.log))
 
@@ -199,7 +210,7 @@ module _ (k : Config) (s : Words) (r : Rule k s) (id : ℕ) (hist : List Entry) 
         (λ (z : at_address k s.words (place_in q class slot) ≡ 0). inl (heap (place_in q class slot) (omega arith) ∙ z))
         (λ z. inr (⊎_elim
         (λ (u : (p : Place) × (live (place_in q class slot) ≡ Some p)). ⊎_elim (λ u. inl u) (λ u. inr (inr u)) (kept_or_dead c.before live (place_in q class slot) u.0 u.1))
-        (λ u. inr (⊎_elim (λ (v : t.prepared (place_in q class slot) ≡ Some e). inl v) (λ (v : IsTrue (t.garbage (place_in q class slot))). absurd (true≢false (sym v ∙ r.whole.cycle.leaves.none unrotated (place_in q class slot)))) u))
+        (λ u. inr (⊎_elim (λ (v : t.prepared (place_in q class slot) ≡ Some e). inl v) (λ (v : IsTrue (t.garbage (place_in q class slot))). absurd (true≢false (sym v ∙ no_garbage (place_in q class slot)))) u))
         z))
         (r.whole.grid.places q e class slot is inside);
     spares = λ a e is. let w = r.whole.grid.spares a e is in record {
@@ -227,12 +238,34 @@ module _ (k : Config) (s : Words) (r : Rule k s) (id : ℕ) (hist : List Entry) 
   }
 
   -- garbage lies in pools of domains, under the colour that means garbage now
-  garbage_owned : (a : ℕ) → IsTrue (garbage' a) → (e : ℕ) × (e < k.domains) × (owner_at t.holder a ≡ Some e)
+  garbage_owned : (a : ℕ) → IsTrue (garbage' a) → (e : ℕ) × OwnPlace t.holder a e
   garbage_owned a is =
       let w = dead_was c.before live a is in
       let l = r.whole.grid.lots a w.0 w.1 (old a w.0 w.1) in
-      let o = r.whole.pools.owned_by l.pool l.domain l.class l.owned_is in
-      (l.domain, o.1, ap (owner_at t.holder) l.begins ∙ owner_of_place t.holder l.pool l.domain l.class l.slot o.2 l.owned_is l.inside)
+      (l.domain, record { pool = l.pool; class = l.class; slot = l.slot; owned_is = l.owned_is; inside = l.inside; begins = l.begins })
+
+  -- at places that aren't prepared
+  garbage_unprepared : (a : ℕ) → IsTrue (garbage' a) → t.prepared a ≡ None
+  garbage_unprepared a is = let w = dead_was c.before live a is in lived_unprepared k t live s.words a w.0 r.whole.grid w.1
+
+  -- and in pools that have been the homes of kept blocks
+  garbage_left : (q e class slot : ℕ) → t.holder q ≡ owned e class → slot < blocks_of class → IsTrue (garbage' (place_in q class slot)) → HoldsKept (kept_labels (sizes_in k) r.account.log) r.account.homes q
+  garbage_left q e class slot is inside dead =
+      let w = dead_was c.before live (place_in q class slot) dead in
+      (w.0.label, r.whole.full.kept (place_in q class slot) w.0 w.1, r.whole.full.low q e class slot w.0 is inside w.1)
+
+  -- all domains are to sweep all their places
+  sweeps' : (z : DomainView) → IsTrue (c.shares.arrived z.own.number) → Good k r.account s.words z → SweepsIn t' c' z
+  sweeps' z gone g = let none : z.own.swept ≡ nothing_swept = g.sweeps.anew kind_is gone in record {
+    listed = λ i a low got. absurd (let n : ℕ = z.own.swept.listed in let e : n ≡ 0 = ap (λ (w : Swept). w.listed) none in let l : i < n = low in omega arith);
+    places = λ q class slot is inside before. absurd (none_before q slot (subst (IsBefore q slot) (ap (λ (w : Swept). w.spot) none) before));
+    anew = g.sweeps.anew;
+    reaps = reaps_none z.own.number z.seen.share.reaping g.sweeps.reaps;
+  } where
+    reaps_none : (e : ℕ) (reaping : Reaping) → Reaps t.holder t.garbage e reaping → Reaps t.holder garbage' e reaping
+    reaps_none e Outside w = tt
+    reaps_none e (Inside pool class) w = w
+    reaps_none e (AtGarbage pool class slot) w = absurd (true≢false (sym w.2 ∙ no_garbage (place_in pool class slot)))
 
   garbage_head : (a : ℕ) → IsTrue (garbage' a) → IsGarbageHead (rotated_paint c.paint) (at_address k words' a)
   garbage_head a is =
@@ -258,7 +291,7 @@ module _ (k : Config) (s : Words) (r : Rule k s) (id : ℕ) (hist : List Entry) 
     facts = let f = facts.facts in record { owned = owned'; whole = f.whole; waiting = f.waiting; lasts = f.lasts; through = f.through };
     unchanged = facts.unchanged;
     stays = λ e. absurd (true≢false e);
-    turned = λ _. record { all_marked = λ a p lives. (kept_was c.before live a p lives).1; unmarked = λ l. refl; owned = garbage_owned; gone = told.1 };
+    turned = λ _. record { all_marked = λ a p lives. (kept_was c.before live a p lives).1; unmarked = λ l. refl; gone = told.1 };
   }
 
   same_colours : may.colours ≡ c.paint.colours
@@ -272,7 +305,8 @@ module _ (k : Config) (s : Words) (r : Rule k s) (id : ℕ) (hist : List Entry) 
     changed_is = other 3 (λ e. omega arith) ∙ y.changed_is;
     facts = subst (λ (kind : Kind). Facts kind k now live' t' c' words') (sym kind_is) facts';
     told = y.told;
-    leaves = record { none = λ e. absurd (true≢false e); dead = dead_gone c.before live; head = garbage_head };
+    leaves = record { none = λ e. absurd (true≢false e); dead = dead_gone c.before live; head = garbage_head; unprepared = garbage_unprepared; owned = garbage_owned };
+    unswept = λ is. absurd (true≢false (sym is ∙ swept_tracing k now live r.account.pause t c s.words y Lasts tt kind_is));
     whole = λ l. inl (whole l);
   }
 
@@ -319,7 +353,7 @@ module _ (k : Config) (s : Words) (r : Rule k s) (id : ℕ) (hist : List Entry) 
     };
     knows = inl idle';
     adds = record { blocks = λ e _. absurd (no_sweep e); words = λ e _. absurd (no_sweep e); own = λ e _ _. absurd (no_sweep e) };
-    looks = looks_idle live' t.holder garbage' now.graph c'.paint.marks c.paint.emptied d x.own.ephemerons.items x.seen.stage share' idle' whole;
+    looks = looks_idle live' t.holder now.graph c'.paint.marks c.paint.emptied d x.own.ephemerons.items x.seen.stage share' idle' whole;
     running = let u = running' x good in record { knows = u.knows; owes = u.owes };
     deciding = deciding' x x.seen.share.kept x.seen.share.waiting g.deciding;
   }
@@ -349,7 +383,7 @@ module _ (k : Config) (s : Words) (r : Rule k s) (id : ℕ) (hist : List Entry) 
         };
         knows = inl (g.telling.fresh gone);
         adds = record { blocks = λ e _. absurd (no_sweep e); words = λ e _. absurd (no_sweep e); own = λ e _ _. absurd (no_sweep e) };
-        looks = looks_idle live' t.holder garbage' now.graph c'.paint.marks c.paint.emptied z.own.number z.own.ephemerons.items z.seen.stage z.seen.share (g.telling.fresh gone) whole;
+        looks = looks_idle live' t.holder now.graph c'.paint.marks c.paint.emptied z.own.number z.own.ephemerons.items z.seen.stage z.seen.share (g.telling.fresh gone) whole;
         running = running' z h;
         deciding = deciding' z z.seen.share.kept z.seen.share.waiting g.deciding;
       }
@@ -361,11 +395,11 @@ module _ (k : Config) (s : Words) (r : Rule k s) (id : ℕ) (hist : List Entry) 
       (λ (q : (p : Place) × (live' a ≡ Some p)). inl (record { place = q.0; lives = q.1; keys = e.keys; shape = ap (λ (p : Place). p.shape) (same_Some q.0 e.place (sym (kept_was c.before live a q.0 q.1).0 ∙ e.lives)) ∙ e.shape }))
       (λ (h : IsTrue (garbage' a)). inr h)
       (kept_or_dead c.before live a e.place e.lives))
-      (λ a is. absurd (true≢false (sym is ∙ r.whole.cycle.leaves.none unrotated a)))
+      (λ a is. absurd (true≢false (sym is ∙ no_garbage a)))
       g.listed
 
   pub turn_rule : Rule k record { words = words'; homes = s.homes; views = set s.views id (one k hist (with_share x share')) }
-  turn_rule = reaps k s r id hist x at x.own.looked x.own.ephemerons share' live' garbage' c' words' record {
+  turn_rule = reaps k s r id hist x at x.own.looked x.own.ephemerons x.own.swept share' live' garbage' c' words' record {
     wide = length-set s.words 5 new;
     control = λ i _ differ _ _. other i differ;
     calm = calm;
@@ -383,6 +417,9 @@ module _ (k : Config) (s : Words) (r : Rule k s) (id : ℕ) (hist : List Entry) 
     sharings = sharings';
     listed_own = listed' x good;
     listeds = λ z _ g. listed' z g;
+    left = garbage_left;
+    sweeps = let w = sweeps' x (told.1 d (mine k s r id hist x at).inside) good in record { listed = w.listed; places = w.places; anew = w.anew; reaps = w.reaps };
+    others_sweep = λ z below _ g. sweeps' z (told.1 z.own.number below) g;
   }
 
 pub turn_may : (k : Config) (x : DomainView) (new : ℕ) → TurnMay x new → MayStore k x 5 new TurnTold

@@ -66,7 +66,7 @@ struct Seeking {
 impl Writing for Seeking {
     ghost use Rattle.steps_sweep.specs.Freeing.{CanSweep, SweepsPlace};
 
-    ghost can = { λ s _ _ _. CanSweep s.pool s.class s.slot };
+    ghost can = { λ s _ _ own. CanSweep s.pool s.class s.slot own };
 
     ghost writes = { λ s found _ own after. SweepsPlace s.pool s.class s.slot s.garbage found own after };
 

@@ -24,6 +24,7 @@ impl Writing for Pruning {
     ghost writes = { λ s found _ own after. Prunes s.at s.i s.garbage found own after };
 
     fn write(&self, found: u64, _changes: &[Change], own: &mut Own) {
+        let _listed = own.ephemerons.len();
         if has_colour(found, self.garbage) {
             own.ephemerons.swap_remove(self.i);
         } else {
