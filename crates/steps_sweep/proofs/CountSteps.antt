@@ -47,7 +47,7 @@ later_behind pool class slot q i before = dite (dec_le (blocks_of class) (slot +
     (λ last. subst (IsBefore q i) (sym (last_behind pool class slot last)) (inl (⊎_elim (λ (h : q < pool). omega arith) (λ (h : (q ≡ pool) × (i < slot)). let e = h.0 in omega arith) before)))
     (λ more. subst (IsBefore q i) (sym (next_behind pool class slot (lt_of_not-le more))) (⊎_elim (λ (h : q < pool). inl h) (λ (h : (q ≡ pool) × (i < slot)). inr (h.0, let l = h.1 in omega arith)) before))
 
-here_behind : (pool class slot : ℕ) → IsBefore pool slot (behind pool class slot)
+pub here_behind : (pool class slot : ℕ) → IsBefore pool slot (behind pool class slot)
 here_behind pool class slot = dite (dec_le (blocks_of class) (slot + 1))
     (λ last. subst (IsBefore pool slot) (sym (last_behind pool class slot last)) (inl (omega arith)))
     (λ more. subst (IsBefore pool slot) (sym (next_behind pool class slot (lt_of_not-le more))) (inr (refl, omega arith)))

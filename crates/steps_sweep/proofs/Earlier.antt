@@ -8,7 +8,7 @@ use Rattle.heap_rule.specs.Pools.{IsBefore}
 use Rattle.steps_sweep.specs.Freeing.{IsNoLater, earlier}
 
 -- what is before it is before the other
-before_other : (a b : Spot) → IsNoLater a b → (q i : ℕ) → IsBefore q i a → IsBefore q i b
+pub before_other : (a b : Spot) → IsNoLater a b → (q i : ℕ) → IsBefore q i a → IsBefore q i b
 before_other a b order q i before =
     let p : ℕ = a.pool in let n : ℕ = b.pool in let u : ℕ = a.slot in let v : ℕ = b.slot in ⊎_elim
     (λ (h : q < p). ⊎_elim (λ (o : p < n). inl (let g : q < n = omega arith in g)) (λ (o : (p ≡ n) × (u ≤ v)). inl (let e = o.0 in let g : q < n = omega arith in g)) order)

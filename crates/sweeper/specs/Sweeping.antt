@@ -1,5 +1,5 @@
 -- What a domain has done that has swept own pools.
-use Rattle.std.specs.Prelude.{◌≡◌, ℕ, ◌<◌, ◌≤◌, List, ◌++◌, length, Some}
+use Rattle.std.specs.Prelude.{◌≡◌, ℕ, ◌<◌, ◌≤◌, ◌⊎◌, List, ◌++◌, length, Some}
 use Rattle.heap_model.specs.Domains.{class_count}
 use Rattle.heap_words.specs.declared.colours.Colours.{Colours}
 use Rattle.heap_rule.specs.declared.config.Config.{Config}
@@ -55,6 +55,10 @@ pub record Sweeps (x y : DomainView) (count : ℕ) : Type 0 where
   pub listed : y.own.swept.listed ≡ x.own.swept.listed
   pub looked : LooksAgain x y
   pub on : SweptOn x y count
+
+-- the sweep has got further: it has swept places, or gone on to a later pool
+abbrev pub Onward : DomainView → DomainView → ℕ → Type 0
+Onward x y count = (0 < count) ⊎ (x.own.swept.spot.pool < y.own.swept.spot.pool)
 
 -- it has swept a place
 pub record SweptPlace (pool class slot : ℕ) (x y : DomainView) : Type 0 where

@@ -1,5 +1,5 @@
 -- Places of pools, as a sweep comes to them.
-use Rattle.std.specs.Prelude.{ℕ, ◌<◌, List, [], ◌∷◌}
+use Rattle.std.specs.Prelude.{◌<◌, List, [], ◌∷◌}
 use Rattle.heap_rule.specs.declared.view.Spot.{Spot}
 use Rattle.heap_rule.specs.Pools.{IsBefore}
 use Rattle.steps_sweep.specs.Freeing.{IsNoLater}

@@ -14,8 +14,8 @@ pub(crate) fn prune_list(heap: &Heap, dom: &mut Domain, garbage: u8)
 {
     let _limits = heap.config();
     'pruning: while dom.swept().listed < dom.ephemerons_len() {
-        let i = dom.swept().listed;
-        let at = dom.ephemeron_at(i);
-        prune_load(heap, dom, at, i, garbage);
+        let next = dom.swept();
+        let at = dom.ephemeron_at(next.listed);
+        prune_load(heap, dom, at, next.listed, garbage);
     }
 }

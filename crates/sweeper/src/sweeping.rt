@@ -32,14 +32,7 @@ fn sweep_place(heap: &Heap, dom: &mut Domain, pool: u32, class: u32, slot: u32, 
 }
 
 // Sweeps at most so many places of an own pool, from the next one on. Answers how many.
-fn sweep_places(
-    heap: &Heap,
-    dom: &mut Domain,
-    pool: u32,
-    class: u32,
-    garbage: u8,
-    most: u32,
-) -> u32
+fn sweep_places(heap: &Heap, dom: &mut Domain, pool: u32, class: u32, garbage: u8, most: u32) -> u32
     requires here { IsIn dom.old heap.now }
     requires inside { pool < heap.now.config.pools }
     requires sweeps { IsSweeping garbage dom.old.view }

@@ -1,18 +1,16 @@
-use Rattle.std.proofs.Common.{◌≡◌, ◌≤◌, ℕ, arith}
-use Rattle.heap_rule.specs.Pools.{blocks_of}
-use Rattle.sweeper.proofs.Sweepings.{visited_pool}
+use Rattle.std.proofs.Common.{◌≡◌, ◌+◌, ◌-◌, ◌≤◌, ℕ, arith, subst}
+use Rattle.sweeper.specs.Sweeping.{Sweeps}
+use Rattle.sweeper.proofs.Sweepings.{next_place, sweeping_still, sweeps_twice}
 use Rattle.sweeper.proofs.sweeping.sweep_places.Goals as goal
 
-pub returns-clause-swept : goal.returns-clause-swept
-returns-clause-swept c =
-    let b : ℕ = blocks_of c.args.class in
-    let n : ℕ = c.class_blocks-slot-end.result in
-    let i : ℕ = c.loop-slot.slot in
-    let e : n ≡ b = c.class_blocks-slot-end.ensures.value in
-    let most : i ≤ n = c.loop-slot.auto.slot-end in
-    let least : n ≤ i = c.loop-slot-test.false in
-    let end : i ≡ b = omega arith in record {
-      sweeps = c.loop-slot.invariant.sweeps;
-      walk = c.loop-slot.invariant.done (omega arith);
-      visited = visited_pool c.args.heap.now.config c.args.pool c.args.class i c.args.dom.now.view c.loop-slot.dom.view c.requires.inside c.requires.class end c.loop-slot.invariant.places_seen;
-    }
+pub loop-slot-preserved : goal.loop-slot-preserved
+loop-slot-preserved c = let p = c.sweep_place.ensures.swept in record {
+  here = c.sweep_place.ensures.here;
+  sweeps = sweeping_still c.args.garbage c.loop-slot.dom.view c.sweep_place.new.dom.view 1 p.sweeps c.loop-slot.invariant.sweeps;
+  swept =
+      let i : ℕ = c.loop-slot.slot in
+      let first : ℕ = c.swept-first.result.spot.slot in
+      let low : first ≤ i = c.loop-slot.auto.slot in
+      subst (λ (n : ℕ). Sweeps c.args.dom.now.view c.sweep_place.new.dom.view n) (let e : i - first + 1 ≡ i + 1 - first = omega arith in e) (sweeps_twice c.args.dom.now.view c.loop-slot.dom.view c.sweep_place.new.dom.view (i - first) 1 c.loop-slot.invariant.swept p.sweeps);
+  more = λ low. next_place c.args.pool c.args.class c.loop-slot.slot c.loop-slot.dom.view c.sweep_place.new.dom.view p c.requires.next.few low;
+}
