@@ -171,6 +171,7 @@ module _ (h : SharedHeap) (old y : Token) (c : Command) (a : ℕ) (runs : Runs h
         copying = ap (λ (v : DomainView). v.seen.copying) path;
         queue = ap (λ (v : DomainView). v.own.finalisers.queue) path;
         weak = ap (λ (v : DomainView). v.seen.share.weak) same ∙ (paid ∙ sym found_acts.paid);
+        unswept = ap (λ (v : DomainView). v.seen.share.unswept) path;
         remembers = λ all. ap (λ (v : DomainView). v.seen.remembered) path ∙ (all ∙ ap (λ (v : DomainView). v.own.remembered.items) (sym path));
       }
 

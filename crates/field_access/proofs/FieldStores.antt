@@ -36,6 +36,7 @@ store_stays x y at remembers registers front is = record {
   copying = ap (λ (z : DomainView). z.seen.copying) is;
   queue = ap (λ (z : DomainView). z.own.finalisers.queue) is;
   weak = ap (λ (z : DomainView). z.seen.share.weak) is;
+  unswept = ap (λ (z : DomainView). z.seen.share.unswept) is;
   remembers = λ all. ap (λ (z : DomainView). z.seen.remembered) is ∙ (ap (with_field remembers at) all ∙ ap (λ (z : DomainView). z.own.remembered.items) (sym is));
 }
 
@@ -48,6 +49,7 @@ learnt_stays x y learnt weak = let is = learnt.view in record {
   copying = ap (λ (z : DomainView). z.seen.copying) is;
   queue = ap (λ (z : DomainView). z.own.finalisers.queue) is;
   weak = weak;
+  unswept = ap (λ (z : DomainView). z.seen.share.unswept) is;
   remembers = λ all. ap (λ (z : DomainView). z.seen.remembered) is ∙ (all ∙ ap (λ (z : DomainView). z.own.remembered.items) (sym is));
 }
 

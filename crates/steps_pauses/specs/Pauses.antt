@@ -200,7 +200,9 @@ whole_after _ _ whole = whole
 -- whether garbage of a collection is left, where a kind is named after another
 abbrev pub unswept_after : Kind → Kind → Bool → Bool
 unswept_after Lasts Run unswept = true
-unswept_after Sweep next unswept = false
+unswept_after Sweep Run unswept = false
+unswept_after Sweep Answer unswept = false
+unswept_after Sweep Roots unswept = false
 unswept_after _ _ unswept = unswept
 
 -- What domain 0 knows as it names the next kind. It leaves the marking when it has found that nothing was changed, to one side before the cut is made, to the other after it. It leaves Lasts once it has rotated the colours. Where garbage is freed next it has set the live words back. The domains run again beside the cycle where the armed word says that one goes on; one that goes on is finished, and another begins where none does, and no garbage of the last one is left: where some is, it is freed first. After a collection none goes on. A collection is answered where it began in this pause
