@@ -141,8 +141,8 @@ fn clear_for(heap: &Heap, dom: &mut Domain, next: Kind)
 /// the list of free pools has been written anew in this phase. Before they copy the cursor was just set
 /// back out of the reserve. Before they run beside a cycle, and before one that goes on is finished, it
 /// knows that the armed word is set; before they run after a collection, and before another begins where
-/// blocks were copied, that it isn't. Where the next kind asks for an entry of the collector it stands
-/// then.
+/// blocks were copied, that it isn't. Another begins there only where no garbage of the last one is left:
+/// where some is, it is freed first. Where the next kind asks for an entry of the collector it stands then.
 pub fn lead(heap: &Heap, dom: &mut Domain, next: Kind)
     requires here { IsIn dom.old heap.now }
     requires leads { dom.old.view.own.number ≡ 0 }

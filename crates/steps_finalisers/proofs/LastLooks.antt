@@ -93,7 +93,7 @@ module _ (k : Config) (s : Words) (r : Rule k s) (id : ℕ) (hist : List Entry) 
     inside : d < length now.domains
     inside = has_last now.domains d i f fin.1
 
-    not_gone : IsRotated k live t c → ⊥
+    not_gone : IsRotated k live c → ⊥
     not_gone z = true≢false (sym (z.gone d (mine k s r id hist x at).inside) ∙ waits k s r id hist x at Lasts may.stage (λ p. p) (λ none. none) (λ e. cc))
 
     unrotated : c.rotated ≡ false

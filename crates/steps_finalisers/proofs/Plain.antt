@@ -136,6 +136,7 @@ fits_with k own registers fs fits holds lists = record {
   pending = fits.pending;
   ephemerons = fits.ephemerons;
   finalisers = lists;
+  swept = fits.swept;
 }
 
 -- the address in a register

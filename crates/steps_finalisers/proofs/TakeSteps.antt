@@ -108,7 +108,8 @@ module _ (k : Config) (s : Words) (r : Rule k s) (id : ℕ) (hist : List Entry) 
         changed_is = was.changed_is;
         facts = subst (λ (z : Kind). Facts z k later live t c' s.words) (sym kind_is) o.facts;
         told = was.told;
-        leaves = record { none = was.leaves.none; dead = was.leaves.dead; head = was.leaves.head };
+        leaves = record { none = was.leaves.none; dead = was.leaves.dead; head = was.leaves.head; unprepared = was.leaves.unprepared; owned = was.leaves.owned };
+        unswept = was.unswept;
         whole = λ l. inl (⊎_elim (λ (e : c.paint.emptied l ≡ []). e) (λ (h : MissesKeys live t.holder c l). absurd (not_clean (sym kind_is ∙ h.clean))) (was.whole l));
       }
 
@@ -128,7 +129,7 @@ module _ (k : Config) (s : Words) (r : Rule k s) (id : ℕ) (hist : List Entry) 
         vacant = n.vacant;
       }
 
-      own_looks : Looks live t.holder t.garbage now.graph c.paint.marks c.paint.emptied d x.own.ephemerons.items x.seen.stage share'
+      own_looks : Looks live t.holder now.graph c.paint.marks c.paint.emptied d x.own.ephemerons.items x.seen.stage share'
       own_looks = let l = good.sharing.looks in record { at_own = l.at_own; cleans = l.cleans; emptied_is = l.emptied_is }
 
       sharing' : Sharing k all' s.words d x.own.registers fs' x.own.ephemerons.items x.seen.stage share'
@@ -137,7 +138,7 @@ module _ (k : Config) (s : Words) (r : Rule k s) (id : ℕ) (hist : List Entry) 
         leading = record { changed = l.changed; found_blocks = l.found_blocks; found_words = l.found_words; rotated = l.rotated; turned = l.turned; pass = l.pass; whole = l.whole; armed = l.armed; unswept = l.unswept };
         knows = inr (collecting, subst (λ (z : Graph). Knowing k live t.holder z c.paint.marks s.words d x.own.registers share') (sym o.graph) own_knowing);
         adds = record { blocks = g.adds.blocks; words = g.adds.words; own = g.adds.own };
-        looks = subst (λ (z : Graph). Looks live t.holder t.garbage z c.paint.marks c.paint.emptied d x.own.ephemerons.items x.seen.stage share') (sym o.graph) own_looks;
+        looks = subst (λ (z : Graph). Looks live t.holder z c.paint.marks c.paint.emptied d x.own.ephemerons.items x.seen.stage share') (sym o.graph) own_looks;
         running = record { knows = g.running.knows; owes = g.running.owes };
         deciding = record {
           finals = λ is _. ap (λ (n : ℕ). n + kept') left_is ∙ o.decides (sym kind_is ∙ is);
@@ -154,7 +155,7 @@ module _ (k : Config) (s : Words) (r : Rule k s) (id : ℕ) (hist : List Entry) 
         leading = leading' z z.seen.share g.leading;
         knows = subst (λ (w : Graph). KnowsBlocks k live t.holder w c.paint.marks s.words z.own.number z.own.registers z.seen.stage z.seen.share) (sym o.graph) g.knows;
         adds = record { blocks = g.adds.blocks; words = g.adds.words; own = g.adds.own };
-        looks = subst (λ (w : Graph). Looks live t.holder t.garbage w c.paint.marks c.paint.emptied z.own.number z.own.ephemerons.items z.seen.stage z.seen.share) (sym o.graph) g.looks;
+        looks = subst (λ (w : Graph). Looks live t.holder w c.paint.marks c.paint.emptied z.own.number z.own.ephemerons.items z.seen.stage z.seen.share) (sym o.graph) g.looks;
         running = g.running;
         deciding = record {
           finals = λ is up. ap (λ (n : ℕ). n + z.seen.share.kept) left_is ∙ g.deciding.finals is up;
@@ -217,6 +218,7 @@ module _ (k : Config) (s : Words) (r : Rule k s) (id : ℕ) (hist : List Entry) 
             set_back = g.set_back;
             sharing = sharing';
             listed = g.listed;
+            sweeps = g.sweeps;
           }
           (λ z _ other h. record {
             stood = stood_other live live now later z (o.keeps z.own.number) (o.work z.own.number other) (more_same live) h.stood;
@@ -232,4 +234,5 @@ module _ (k : Config) (s : Words) (r : Rule k s) (id : ℕ) (hist : List Entry) 
             set_back = h.set_back;
             sharing = sharings' z other h;
             listed = h.listed;
+            sweeps = h.sweeps;
           })

@@ -24,6 +24,7 @@ use Rattle.heap_rule.specs.Token.{Holds}
 use Rattle.heap_rule.specs.Views.{one}
 use Rattle.heap_rule.proofs.Advancing.{Advance}
 use Rattle.heap_rule.proofs.FullnessLemmas.{full_stays, trace_collects}
+use Rattle.heap_rule.proofs.Garbage.{garbage_same}
 use Rattle.heap_rule.proofs.Keeps.{IsOfTrace, Words, appends, control_same, controls_kept, hunter_as, legal_entry, mine, more_same, my_good, own, owes_as, recalls_same, run_open, run_settled}
 use Rattle.heap_rule.proofs.Sharings.{with_weak}
 use Rattle.heap_rule.proofs.Values.{holds}
@@ -96,6 +97,8 @@ module _ (k : Config) (s : Words) (r : Rule k s) (id : ℕ) (hist : List Entry) 
       hunters = λ z _ h. h.hunter;
       listed = record { all = g.listed.all; own = g.listed.own; lives = g.listed.lives };
       listeds = λ z _ h. h.listed;
+      garbage = garbage_same k r.account.live r.account.tenancy r.account.cycling s.words r.whole.cycle.leaves;
+      sweeps = g.sweeps;
     }
 
     pub works_answers : Answers (sizes_in k) x.own.number x.seen.front (r.account.log ++ e ∷ []) e answer
