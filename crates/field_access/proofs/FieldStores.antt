@@ -36,6 +36,8 @@ store_stays x y at remembers registers front is = record {
   copying = ap (λ (z : DomainView). z.seen.copying) is;
   queue = ap (λ (z : DomainView). z.own.finalisers.queue) is;
   weak = ap (λ (z : DomainView). z.seen.share.weak) is;
+  cut = ap (λ (z : DomainView). z.seen.share.cut) is;
+  whole = ap (λ (z : DomainView). z.seen.share.whole) is;
   unswept = ap (λ (z : DomainView). z.seen.share.unswept) is;
   remembers = λ all. ap (λ (z : DomainView). z.seen.remembered) is ∙ (ap (with_field remembers at) all ∙ ap (λ (z : DomainView). z.own.remembered.items) (sym is));
 }
@@ -49,6 +51,8 @@ learnt_stays x y learnt weak = let is = learnt.view in record {
   copying = ap (λ (z : DomainView). z.seen.copying) is;
   queue = ap (λ (z : DomainView). z.own.finalisers.queue) is;
   weak = weak;
+  cut = ap (λ (z : DomainView). z.seen.share.cut) is;
+  whole = ap (λ (z : DomainView). z.seen.share.whole) is;
   unswept = ap (λ (z : DomainView). z.seen.share.unswept) is;
   remembers = λ all. ap (λ (z : DomainView). z.seen.remembered) is ∙ (all ∙ ap (λ (z : DomainView). z.own.remembered.items) (sym is));
 }

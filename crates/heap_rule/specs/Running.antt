@@ -36,7 +36,7 @@ pub record Continues (h : SharedHeap) (t : Token) : Type 0 where
   pub at_rest : t.view.seen.hunt ≡ Rests
   pub remembers : RemembersAll t.view
 
--- the domain stands where it stood, has noted nothing, has met and owes what it did, has the queue that it had, owes no darkening if it owed none, and knows of a sweep that is owed what it did
+-- the domain stands where it stood, has noted nothing, has met and owes what it did, has the queue that it had, owes no darkening if it owed none, and knows what it did of how far a collection has come
 pub record Stays (x y : DomainView) : Type 0 where
   pub arrivals : y.own.arrivals ≡ x.own.arrivals
   pub stage : y.seen.stage ≡ x.seen.stage
@@ -44,6 +44,8 @@ pub record Stays (x y : DomainView) : Type 0 where
   pub copying : y.seen.copying ≡ x.seen.copying
   pub queue : y.own.finalisers.queue ≡ x.own.finalisers.queue
   pub weak : y.seen.share.weak ≡ x.seen.share.weak
+  pub cut : y.seen.share.cut ≡ x.seen.share.cut
+  pub whole : y.seen.share.whole ≡ x.seen.share.whole
   pub unswept : y.seen.share.unswept ≡ x.seen.share.unswept
   pub remembers : RemembersAll x → RemembersAll y
 
