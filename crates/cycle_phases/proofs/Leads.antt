@@ -10,13 +10,14 @@ use Rattle.heap_rule.specs.declared.phase.Stage.TheVariants.{Leads, Led}
 use Rattle.heap_rule.specs.declared.view.DomainView.{DomainView}
 use Rattle.heap_rule.specs.Limits.{sizes_in}
 use Rattle.heap_rule.specs.Views.{fresh_share}
-use Rattle.steps_pauses.specs.Pauses.{EndsWith, arrived_view, cut_in, entry_of, kind_in, whole_after}
+use Rattle.steps_pauses.specs.Pauses.{EndsWith, arrived_view, cut_in, entry_of, kind_in, unswept_after, whole_after}
 use Rattle.safepoint.specs.Looks.{LedTo, cleared}
-use Rattle.cycle_phases.specs.Leading.{LeadsOn, Opens, noted_before}
+use Rattle.cycle_phases.specs.declared.progress.Progress.{Progress}
+use Rattle.cycle_phases.specs.Leading.{LeadsOn, Opens, noted_before, progress_after, progress_of}
 
 -- the domain with another front, other notes, and the next kind named
-abbrev led_with : DomainView → Kind → List Entry → List Note → Bool → Bool → DomainView
-led_with x kind front notes is_cut is_whole = record x { seen = record x.seen { front = front; notes = notes; stage = Led kind; share = record fresh_share { cut = is_cut; whole = is_whole } } }
+abbrev led_with : DomainView → Kind → List Entry → List Note → Progress → DomainView
+led_with x kind front notes p = record x { seen = record x.seen { front = front; notes = notes; stage = Led kind; share = record fresh_share { cut = p.cut; whole = p.whole; unswept = p.unswept } } }
 
 module _ (k : Config) (x y z v : DomainView) (last kind : Kind) (stage : x.seen.stage ≡ Leads last) (o : Opens k x y last kind) (l : LedTo k kind y z) (is : v ≡ arrived_view z) where
   last_is : kind_in y.seen.stage ≡ last
@@ -32,46 +33,47 @@ module _ (k : Config) (x y z v : DomainView) (last kind : Kind) (stage : x.seen.
   front_is : v.seen.front ≡ z.seen.front
   front_is = ap (λ (w : DomainView). w.seen.front) is
 
-  before : y.seen.notes ≡ x.seen.notes ++ noted_before last o.findings
+  before : y.seen.notes ≡ x.seen.notes ++ noted_before last (progress_of x.seen.share) o.findings
   before = ap (λ (w : DomainView). w.seen.notes) o.view
 
   named : v.seen.notes ≡ y.seen.notes ++ cleared kind
   named = ap (λ (w : DomainView). w.seen.notes) is ∙ ap (λ (w : DomainView). w.seen.notes) l.view
 
-  cut_now : cut_in (kind_in y.seen.stage) y.seen.share.cut ≡ cut_in last x.seen.share.cut
-  cut_now = ap (λ (n : Kind). cut_in n y.seen.share.cut) last_is ∙ ap (cut_in last) o.cut_is
+  progress_now : progress_after (kind_in y.seen.stage) kind (progress_of y.seen.share) ≡ progress_after last kind (progress_of x.seen.share)
+  progress_now = ap (λ (n : Kind). progress_after n kind (progress_of y.seen.share)) last_is ∙ ap (progress_after last kind) o.progress_is
 
-  whole_now : whole_after (kind_in y.seen.stage) kind y.seen.share.whole ≡ whole_after last kind x.seen.share.whole
-  whole_now = ap (λ (n : Kind). whole_after n kind y.seen.share.whole) last_is ∙ ap (whole_after last kind) o.whole_is
+  owed_now : y.seen.share.unswept ≡ x.seen.share.unswept
+  owed_now = ap (λ (p : Progress). p.unswept) o.progress_is
 
-  ends : (e : Entry) → entry_of last kind ≡ Some e → EndsWith k x v e
+  entry_now : entry_of y.seen.share.unswept (kind_in y.seen.stage) kind ≡ entry_of x.seen.share.unswept last kind
+  entry_now = ap (λ (n : Kind). entry_of y.seen.share.unswept n kind) last_is ∙ ap (λ (u : Bool). entry_of u last kind) owed_now
+
+  ends : (e : Entry) → entry_of x.seen.share.unswept last kind ≡ Some e → EndsWith k x v e
   ends e stands =
-      let m = l.made e (ap (λ (n : Kind). entry_of n kind) last_is ∙ stands) in record {
+      let m = l.made e (entry_now ∙ stands) in record {
         before = m.before;
         front = front_is ∙ m.front;
         seen = subst (λ (p : ℕ × List Entry). IsFrontOf p.0 m.before p.1) (λ i. (same_number i, same_front i)) m.seen;
         legal = subst (λ (f : List Entry). Legal (sizes_in k) f) (sym front_is) m.legal;
       }
 
-  view_is : v ≡ arrived_view (led_with x kind v.seen.front v.seen.notes (cut_in last x.seen.share.cut) (whole_after last kind x.seen.share.whole))
+  view_is : v ≡ arrived_view (led_with x kind v.seen.front v.seen.notes (progress_after last kind (progress_of x.seen.share)))
   view_is =
-      let is_cut : Bool = cut_in (kind_in y.seen.stage) y.seen.share.cut in
-      let is_whole : Bool = whole_after (kind_in y.seen.stage) kind y.seen.share.whole in
+      let p : Progress = progress_after (kind_in y.seen.stage) kind (progress_of y.seen.share) in
       is ∙ (ap arrived_view l.view
-      ∙ (ap (λ (w : DomainView). arrived_view (led_with w kind z.seen.front (y.seen.notes ++ cleared kind) is_cut is_whole)) o.view
-      ∙ (ap (λ (f : List Entry). arrived_view (led_with x kind f (y.seen.notes ++ cleared kind) is_cut is_whole)) (sym front_is)
-      ∙ (ap (λ (n : List Note). arrived_view (led_with x kind v.seen.front n is_cut is_whole)) (sym named)
-      ∙ (ap (λ (c : Bool). arrived_view (led_with x kind v.seen.front v.seen.notes c is_whole)) cut_now
-      ∙ ap (λ (w : Bool). arrived_view (led_with x kind v.seen.front v.seen.notes (cut_in last x.seen.share.cut) w)) whole_now)))))
+      ∙ (ap (λ (w : DomainView). arrived_view (led_with w kind z.seen.front (y.seen.notes ++ cleared kind) p)) o.view
+      ∙ (ap (λ (f : List Entry). arrived_view (led_with x kind f (y.seen.notes ++ cleared kind) p)) (sym front_is)
+      ∙ (ap (λ (n : List Note). arrived_view (led_with x kind v.seen.front n p)) (sym named)
+      ∙ ap (λ (q : Progress). arrived_view (led_with x kind v.seen.front v.seen.notes q)) progress_now))))
 
   pub leads_on : LeadsOn k x v last kind
   leads_on = record {
     follows = o.follows;
     findings = o.findings;
     chosen = o.chosen;
-    notes = named ∙ (ap (λ (n : List Note). n ++ cleared kind) before ∙ append_assoc x.seen.notes (noted_before last o.findings) (cleared kind));
+    notes = named ∙ (ap (λ (n : List Note). n ++ cleared kind) before ∙ append_assoc x.seen.notes (noted_before last (progress_of x.seen.share) o.findings) (cleared kind));
     seen = subst (λ (p : ℕ × List Entry × List Entry). IsFrontOf p.0 p.1 p.2) (λ i. (same_number i, sym front_is i, same_front i)) l.seen;
-    stays = λ none. front_is ∙ (l.stays (ap (λ (n : Kind). entry_of n kind) last_is ∙ none) ∙ same_front);
+    stays = λ none. front_is ∙ (l.stays (entry_now ∙ none) ∙ same_front);
     made = ends;
     view = view_is;
   }

@@ -20,11 +20,12 @@ use Rattle.steps_pools.specs.Listings.{HasList, IsLeader, IsListedCount}
 use Rattle.steps_cycle.specs.Arming.{knowing_armed}
 use Rattle.steps_cycle.specs.Changed.{FindTold}
 use Rattle.steps_cycle.specs.Looks.{knowing_colours, with_share}
-use Rattle.steps_sweep.specs.Turning.{BlocksCleared, TurnTold, WordsCleared}
+use Rattle.steps_sweep.specs.Turning.{TurnTold}
 use Rattle.safepoint.specs.declared.answer.Want.TheVariants.{Full}
 use Rattle.safepoint.specs.Looks.{is_wanted}
 use Rattle.size_pools.specs.Listed.{Relisted, SetsBack}
-use Rattle.cycle_phases.specs.Leading.{Findings, Opens, begins, finishes, kind_after_reset, next_kind, noted_before, opened_view}
+use Rattle.cycle_phases.specs.declared.progress.Progress.{Progress}
+use Rattle.cycle_phases.specs.Leading.{CountsCleared, Findings, Opens, begins, finishes, kind_after_reset, next_kind, noted_before, opened_view, progress_of}
 
 -- the domain with other notes, another list in the making, and other knowledge of the phase
 abbrev opened : DomainView → List Note → Option Listing → Share → DomainView
@@ -35,61 +36,86 @@ opened_as x y notes more listing share is same = is ∙ (ap (λ (n : List Note).
     ∙ (ap (λ (l : Option Listing). opened x more l share) (sym (ap (λ (z : DomainView). z.seen.listing) is))
     ∙ ap (λ (s : Share). opened x more y.seen.listing s) (sym (ap (λ (z : DomainView). z.seen.share) is))))
 
--- what is known of the phase once the colours are rotated, and the words of what lives are set back
+-- what is known of the phase once the colours are rotated
 abbrev turned_to : Colours → DomainView → DomainView
 turned_to colours x = with_share x (record x.seen.share { colours = Some (rotated colours); rotated = true })
-
-abbrev without_blocks : DomainView → DomainView
-without_blocks x = with_share x (record x.seen.share { blocks = Some 0 })
-
-abbrev without_words : DomainView → DomainView
-without_words x = with_share x (record x.seen.share { words = Some 0 })
 
 no_notes : (x : DomainView) → x.seen.notes ≡ x.seen.notes ++ []
 no_notes x = sym (append-nil x.seen.notes)
 
--- most ways ask nothing
-asks_nothing : (share : Share) (last next : Kind) → next ≢ Rounds → next ≢ Decide → next ≢ Clean → next ≢ Answer → next ≢ Run → last ≢ Lasts → last ≢ Reset → MayFollow share last next
-asks_nothing share before next rounds decide clean answer run lasts reset = record {
-  unchanged = ⊎_elim (λ (e : next ≡ Rounds). absurd (rounds e)) (⊎_elim (λ (e : next ≡ Decide). absurd (decide e)) (λ (e : next ≡ Clean). absurd (clean e)));
-  first = λ e. absurd (decide e);
-  second = λ e. absurd (clean e);
-  rotated = λ e. absurd (lasts e);
-  set_back = λ e. absurd (lasts e);
-  goes_on = λ _ e. absurd (run e);
-  begins = λ e _. absurd (reset e);
-  finishes = λ e _. absurd (reset e);
-  over = λ _ e. absurd (run e);
-  answers = λ e. absurd (answer e);
+-- the ways of which something is asked
+record AsksNothing (last next : Kind) : Type 0 where
+  rounds : next ≢ Rounds
+  decide : next ≢ Decide
+  clean : next ≢ Clean
+  answer : next ≢ Answer
+  run : next ≢ Run
+  sweep : next ≢ Sweep
+  lasts : last ≢ Lasts
+  reset : last ≢ Reset
+
+-- of most ways nothing is asked
+asks_nothing : (share : Share) (last next : Kind) → AsksNothing last next → MayFollow share last next
+asks_nothing share before next n = record {
+  unchanged = ⊎_elim (λ (e : next ≡ Rounds). absurd (n.rounds e)) (⊎_elim (λ (e : next ≡ Decide). absurd (n.decide e)) (λ (e : next ≡ Clean). absurd (n.clean e)));
+  first = λ e. absurd (n.decide e);
+  second = λ e. absurd (n.clean e);
+  rotated = λ e. absurd (n.lasts e);
+  set_back = λ e. absurd (n.sweep e);
+  goes_on = λ _ e. absurd (n.run e);
+  begins = λ e _. absurd (n.reset e);
+  frees = λ e _. absurd (n.reset e);
+  finishes = λ e _. absurd (n.reset e);
+  over = λ _ e. absurd (n.run e);
+  freed = λ _ e. absurd (n.run e);
+  answers = λ e. absurd (n.answer e);
 }
 
 -- before the domains run it is known whether a cycle goes on
-runs_may : (share : Share) (last : Kind) (armed : Bool) → share.armed ≡ Some armed → (last ≡ Roots → armed ≡ true) → ((last ≡ Sweep) ⊎ (last ≡ Answer) → armed ≡ false) → last ≢ Lasts → MayFollow share last Run
-runs_may share before armed known on over lasts = record {
+record RunsAfter (share : Share) (last : Kind) : Type 0 where
+  rotated : last ≡ Lasts → share.rotated ≡ true
+  on : last ≡ Roots → share.armed ≡ Some true
+  over : (last ≡ Lasts) ⊎ (last ≡ Answer) → share.armed ≡ Some false
+  freed : last ≡ Sweep → share.unswept ≡ true
+
+runs_may : (share : Share) (last : Kind) → RunsAfter share last → MayFollow share last Run
+runs_may share before r = record {
   unchanged = ⊎_elim (λ (e : Run ≡ Rounds). cc) (⊎_elim (λ (e : Run ≡ Decide). cc) (λ (e : Run ≡ Clean). cc));
   first = λ e. cc;
   second = λ e. cc;
-  rotated = λ e. absurd (lasts e);
-  set_back = λ e. absurd (lasts e);
-  goes_on = λ e _. known ∙ ap Some (on e);
+  rotated = r.rotated;
+  set_back = λ e. cc;
+  goes_on = λ e _. r.on e;
   begins = λ _ e. cc;
+  frees = λ _ e. cc;
   finishes = λ _ e. cc;
-  over = λ e _. known ∙ ap Some (over e);
+  over = λ e _. r.over e;
+  freed = λ e _. r.freed e;
   answers = λ e. cc;
 }
 
--- what comes after the minor collection, by whether a cycle goes on, whether its end is asked for, and whether one begins
-abbrev reset_kind : Bool → Bool → Bool → Kind
-reset_kind armed end start = if armed then (if end then Mark else Run) else (if start then Roots else Run)
+-- what comes after the minor collection, by whether a cycle goes on, whether its end is asked for, whether one begins, and whether garbage of the last one is left
+abbrev reset_kind : Bool → Bool → Bool → Bool → Kind
+reset_kind armed end start unswept = if armed then (if end then Mark else Run) else (if start then (if unswept then Sweep else Roots) else Run)
 
-reset_follows : (armed end start : Bool) → Follows Reset (reset_kind armed end start)
-reset_follows true true start = inr (inr refl)
-reset_follows true false start = inl refl
-reset_follows false end true = inr (inl refl)
-reset_follows false end false = inl refl
+reset_follows : (armed end start unswept : Bool) → Follows Reset (reset_kind armed end start unswept)
+reset_follows true true start unswept = inr (inr (inl refl))
+reset_follows true false start unswept = inl refl
+reset_follows false end true true = inr (inr (inr refl))
+reset_follows false end true false = inr (inl refl)
+reset_follows false end false unswept = inl refl
 
-reset_may : (share : Share) (armed end start : Bool) → share.armed ≡ Some armed → MayFollow share Reset (reset_kind armed end start)
-reset_may share true true start known = record {
+-- what is known where a cycle goes on or none does, by which kind comes next
+record ResetKnows (share : Share) (armed unswept : Bool) (next : Kind) : Type 0 where
+  known : share.armed ≡ Some armed
+  owed : share.unswept ≡ unswept
+  cleared : next ≡ Sweep → (share.blocks ≡ Some 0) × (share.words ≡ Some 0)
+
+reset_runs : (share : Share) → RunsAfter share Reset
+reset_runs share = record { rotated = λ e. cc; on = λ e. cc; over = ⊎_elim (λ (e : Reset ≡ Lasts). cc) (λ (e : Reset ≡ Answer). cc); freed = λ e. cc }
+
+reset_may : (share : Share) (armed end start unswept : Bool) → ResetKnows share armed unswept (reset_kind armed end start unswept) → MayFollow share Reset (reset_kind armed end start unswept)
+reset_may share true true start unswept r = record {
   unchanged = ⊎_elim (λ (e : Mark ≡ Rounds). cc) (⊎_elim (λ (e : Mark ≡ Decide). cc) (λ (e : Mark ≡ Clean). cc));
   first = λ e. cc;
   second = λ e. cc;
@@ -97,30 +123,49 @@ reset_may share true true start known = record {
   set_back = λ e. cc;
   goes_on = λ e. cc;
   begins = λ _ e. cc;
-  finishes = λ _ _. known;
+  frees = λ _ e. cc;
+  finishes = λ _ _. r.known;
   over = λ _ e. cc;
+  freed = λ e. cc;
   answers = λ e. cc;
 }
-reset_may share true false start known = runs_may share Reset true known (λ e. cc) (⊎_elim (λ (e : Reset ≡ Sweep). cc) (λ (e : Reset ≡ Answer). cc)) (λ e. cc)
-reset_may share false end true known = record {
+reset_may share true false start unswept r = runs_may share Reset (reset_runs share)
+reset_may share false end true true r = record {
+  unchanged = ⊎_elim (λ (e : Sweep ≡ Rounds). cc) (⊎_elim (λ (e : Sweep ≡ Decide). cc) (λ (e : Sweep ≡ Clean). cc));
+  first = λ e. cc;
+  second = λ e. cc;
+  rotated = λ e. cc;
+  set_back = r.cleared;
+  goes_on = λ e. cc;
+  begins = λ _ e. cc;
+  frees = λ _ _. r.owed;
+  finishes = λ _ e. cc;
+  over = λ _ e. cc;
+  freed = λ e. cc;
+  answers = λ e. cc;
+}
+reset_may share false end true false r = record {
   unchanged = ⊎_elim (λ (e : Roots ≡ Rounds). cc) (⊎_elim (λ (e : Roots ≡ Decide). cc) (λ (e : Roots ≡ Clean). cc));
   first = λ e. cc;
   second = λ e. cc;
   rotated = λ e. cc;
   set_back = λ e. cc;
   goes_on = λ e. cc;
-  begins = λ _ _. known;
+  begins = λ _ _. (r.known, r.owed);
+  frees = λ _ e. cc;
   finishes = λ _ e. cc;
   over = λ _ e. cc;
+  freed = λ e. cc;
   answers = λ e. cc;
 }
-reset_may share false end false known = runs_may share Reset false known (λ e. cc) (⊎_elim (λ (e : Reset ≡ Sweep). cc) (λ (e : Reset ≡ Answer). cc)) (λ e. cc)
+reset_may share false end false unswept r = runs_may share Reset (reset_runs share)
 
-reset_copies : (armed end start : Bool) → reset_kind armed end start ≢ Promote
-reset_copies true true start e = cc
-reset_copies true false start e = cc
-reset_copies false end true e = cc
-reset_copies false end false e = cc
+reset_copies : (armed end start unswept : Bool) → reset_kind armed end start unswept ≢ Promote
+reset_copies true true start unswept e = cc
+reset_copies true false start unswept e = cc
+reset_copies false end true true e = cc
+reset_copies false end true false e = cc
+reset_copies false end false unswept e = cc
 
 -- where nothing is found and nothing is done
 abbrev nothing_found : Findings
@@ -128,40 +173,39 @@ nothing_found = record { wants = 0; changed = 0; free = 0; armed = false }
 
 -- the kinds after which nothing is found
 abbrev IsBlind : Kind → Type 0
-IsBlind last = (last ≢ Reset) × (last ≢ Mark) × (last ≢ Rounds) × (last ≢ Lasts)
+IsBlind last = (last ≢ Reset) × (last ≢ Mark) × (last ≢ Rounds) × (last ≢ Lasts) × (last ≢ Sweep)
 
 -- the kinds before which nothing is asked
 abbrev IsFree : Kind → Type 0
-IsFree next = (next ≢ Run) × (next ≢ Promote) × (next ≢ Rounds) × (next ≢ Decide) × (next ≢ Clean) × (next ≢ Answer)
+IsFree next = (next ≢ Run) × (next ≢ Promote) × (next ≢ Rounds) × (next ≢ Decide) × (next ≢ Clean) × (next ≢ Answer) × (next ≢ Sweep)
 
-goes : (k : Config) (x : DomainView) (last next : Kind) → IsBlind last → IsFree next → Follows last next → next ≡ next_kind k last x.seen.share.cut x.seen.share.whole nothing_found → [] ≡ noted_before last nothing_found → Opens k x x last next
+goes : (k : Config) (x : DomainView) (last next : Kind) → IsBlind last → IsFree next → Follows last next → next ≡ next_kind k last (progress_of x.seen.share) nothing_found → [] ≡ noted_before last (progress_of x.seen.share) nothing_found → Opens k x x last next
 goes k x last next blind free follows chosen none = record {
   follows = follows;
   findings = nothing_found;
   chosen = chosen;
   found = ⊎_elim (λ (e : last ≡ Mark). absurd (blind.1 e)) (λ (e : last ≡ Rounds). absurd (blind.2 e));
   known = λ e. absurd (blind.0 e);
-  counted = λ e. absurd (blind.0 e);
-  may = asks_nothing x.seen.share last next free.2 free.3 free.4 free.5 free.0 blind.3 blind.0;
+  counted = ⊎_elim (λ (e : last ≡ Reset). absurd (blind.0 e)) (λ (q : (last ≡ Sweep) × (x.seen.share.unswept ≡ true)). absurd (blind.4 q.0));
+  may = asks_nothing x.seen.share last next record { rounds = free.2; decide = free.3; clean = free.4; answer = free.5; run = free.0; sweep = free.6; lasts = blind.3; reset = blind.0 };
   list = λ e. absurd (free.0 e);
   set_back = λ e. absurd (free.1 e);
-  cut_is = refl;
-  whole_is = refl;
-  view = opened_as x x x.seen.notes (x.seen.notes ++ noted_before last nothing_found) x.seen.listing x.seen.share refl (no_notes x ∙ ap (λ (l : List Note). x.seen.notes ++ l) none);
+  progress_is = refl;
+  view = opened_as x x x.seen.notes (x.seen.notes ++ noted_before last (progress_of x.seen.share) nothing_found) x.seen.listing x.seen.share refl (no_notes x ∙ ap (λ (l : List Note). x.seen.notes ++ l) none);
 }
 
 module _ (k : Config) (x : DomainView) where
   pub promote_opens : Opens k x x Promote Reset
-  promote_opens = goes k x Promote Reset ((λ e. cc), (λ e. cc), (λ e. cc), λ e. cc) ((λ e. cc), (λ e. cc), (λ e. cc), (λ e. cc), (λ e. cc), λ e. cc) refl refl refl
+  promote_opens = goes k x Promote Reset ((λ e. cc), (λ e. cc), (λ e. cc), (λ e. cc), λ e. cc) ((λ e. cc), (λ e. cc), (λ e. cc), (λ e. cc), (λ e. cc), (λ e. cc), λ e. cc) refl refl refl
 
   pub decide_opens : Opens k x x Decide Queued
-  decide_opens = goes k x Decide Queued ((λ e. cc), (λ e. cc), (λ e. cc), λ e. cc) ((λ e. cc), (λ e. cc), (λ e. cc), (λ e. cc), (λ e. cc), λ e. cc) refl refl refl
+  decide_opens = goes k x Decide Queued ((λ e. cc), (λ e. cc), (λ e. cc), (λ e. cc), λ e. cc) ((λ e. cc), (λ e. cc), (λ e. cc), (λ e. cc), (λ e. cc), (λ e. cc), λ e. cc) refl refl refl
 
   pub queued_opens : Opens k x x Queued Mark
-  queued_opens = goes k x Queued Mark ((λ e. cc), (λ e. cc), (λ e. cc), λ e. cc) ((λ e. cc), (λ e. cc), (λ e. cc), (λ e. cc), (λ e. cc), λ e. cc) refl refl refl
+  queued_opens = goes k x Queued Mark ((λ e. cc), (λ e. cc), (λ e. cc), (λ e. cc), λ e. cc) ((λ e. cc), (λ e. cc), (λ e. cc), (λ e. cc), (λ e. cc), (λ e. cc), λ e. cc) refl refl refl
 
   pub clean_opens : Opens k x x Clean Lasts
-  clean_opens = goes k x Clean Lasts ((λ e. cc), (λ e. cc), (λ e. cc), λ e. cc) ((λ e. cc), (λ e. cc), (λ e. cc), (λ e. cc), (λ e. cc), λ e. cc) refl refl refl
+  clean_opens = goes k x Clean Lasts ((λ e. cc), (λ e. cc), (λ e. cc), (λ e. cc), λ e. cc) ((λ e. cc), (λ e. cc), (λ e. cc), (λ e. cc), (λ e. cc), (λ e. cc), λ e. cc) refl refl refl
 
   -- before Promote the cursor is set back
   pub run_opens : (y : DomainView) → last_note y.seen.notes ≡ Some SetBack → SetsBack x y → Opens k x y Run Promote
@@ -171,12 +215,11 @@ module _ (k : Config) (x : DomainView) where
     chosen = refl;
     found = ⊎_elim (λ (e : Run ≡ Mark). cc) (λ (e : Run ≡ Rounds). cc);
     known = λ e. cc;
-    counted = λ e. cc;
-    may = asks_nothing y.seen.share Run Promote (λ e. cc) (λ e. cc) (λ e. cc) (λ e. cc) (λ e. cc) (λ e. cc) (λ e. cc);
+    counted = ⊎_elim (λ (e : Run ≡ Reset). cc) (λ (q : (Run ≡ Sweep) × (x.seen.share.unswept ≡ true)). let e : Run ≡ Sweep = q.0 in cc);
+    may = asks_nothing y.seen.share Run Promote record { rounds = λ e. cc; decide = λ e. cc; clean = λ e. cc; answer = λ e. cc; run = λ e. cc; sweep = λ e. cc; lasts = λ e. cc; reset = λ e. cc };
     list = λ e. cc;
     set_back = λ _. set_back;
-    cut_is = ap (λ (z : DomainView). z.seen.share.cut) same;
-    whole_is = ap (λ (z : DomainView). z.seen.share.whole) same;
+    progress_is = ap (λ (z : DomainView). progress_of z.seen.share) same;
     view = opened_as x y (x.seen.notes ++ SetBack ∷ []) _ y.seen.listing x.seen.share same refl;
   }
 
@@ -185,17 +228,19 @@ module _ (k : Config) (x : DomainView) where
   after_rounds quiet is_cut = if quiet then (if is_cut then Clean else Decide) else Mark
 
   -- what was changed in the marking
-  changed_may : (share : Share) (found : ℕ) (last next : Kind) → share.changed ≡ Some found → found ≡ 0 → (next ≡ Decide → share.cut ≡ false) → (next ≡ Clean → share.cut ≡ true) → last ≢ Lasts → last ≢ Reset → next ≢ Run → next ≢ Answer → MayFollow share last next
-  changed_may share found before next is none first second lasts reset run answer = record {
+  changed_may : (share : Share) (found : ℕ) (last next : Kind) → share.changed ≡ Some found → found ≡ 0 → (next ≡ Decide → share.cut ≡ false) → (next ≡ Clean → share.cut ≡ true) → (last ≡ Mark) ⊎ (last ≡ Rounds) → next ≢ Run → next ≢ Answer → next ≢ Sweep → MayFollow share last next
+  changed_may share found before next is none first second marks run answer sweep = record {
     unchanged = λ _. is ∙ ap Some none;
     first = first;
     second = second;
-    rotated = λ e. absurd (lasts e);
-    set_back = λ e. absurd (lasts e);
+    rotated = λ (e : before ≡ Lasts). ⊎_elim (λ (m : before ≡ Mark). cc) (λ (m : before ≡ Rounds). cc) marks;
+    set_back = λ e. absurd (sweep e);
     goes_on = λ _ e. absurd (run e);
-    begins = λ e _. absurd (reset e);
-    finishes = λ e _. absurd (reset e);
+    begins = λ (e : before ≡ Reset) _. ⊎_elim (λ (m : before ≡ Mark). cc) (λ (m : before ≡ Rounds). cc) marks;
+    frees = λ _ e. absurd (sweep e);
+    finishes = λ (e : before ≡ Reset) _. ⊎_elim (λ (m : before ≡ Mark). cc) (λ (m : before ≡ Rounds). cc) marks;
     over = λ _ e. absurd (run e);
+    freed = λ _ e. absurd (run e);
     answers = λ e. absurd (answer e);
   }
 
@@ -210,73 +255,41 @@ module _ (k : Config) (x : DomainView) where
     same_cut : y.seen.share.cut ≡ x.seen.share.cut
     same_cut = ap (λ (z : DomainView). z.seen.share.cut) told
 
-    same_whole : y.seen.share.whole ≡ x.seen.share.whole
-    same_whole = ap (λ (z : DomainView). z.seen.share.whole) told
-
-    changed_opens : (last next : Kind) → Follows last next → next ≡ next_kind k last x.seen.share.cut x.seen.share.whole (changed_as found) → [] ≡ noted_before last (changed_as found) → last ≢ Reset → next ≢ Run → next ≢ Promote → MayFollow y.seen.share last next → Opens k x y last next
-    changed_opens last next follows chosen none reset run promote may = record {
+    changed_opens : (last next : Kind) → (last ≡ Mark) ⊎ (last ≡ Rounds) → Follows last next → next ≡ next_kind k last (progress_of x.seen.share) (changed_as found) → [] ≡ noted_before last (progress_of x.seen.share) (changed_as found) → next ≢ Run → next ≢ Promote → MayFollow y.seen.share last next → Opens k x y last next
+    changed_opens last next marks follows chosen none run promote may = record {
       follows = follows;
       findings = changed_as found;
       chosen = chosen;
       found = λ _. knows;
-      known = λ e. absurd (reset e);
-      counted = λ e. absurd (reset e);
+      known = λ (e : last ≡ Reset). ⊎_elim (λ (m : last ≡ Mark). cc) (λ (m : last ≡ Rounds). cc) marks;
+      counted = ⊎_elim (λ (e : last ≡ Reset). ⊎_elim (λ (m : last ≡ Mark). cc) (λ (m : last ≡ Rounds). cc) marks) (λ (q : (last ≡ Sweep) × (x.seen.share.unswept ≡ true)). let e : last ≡ Sweep = q.0 in ⊎_elim (λ (m : last ≡ Mark). cc) (λ (m : last ≡ Rounds). cc) marks);
       may = may;
       list = λ e. absurd (run e);
       set_back = λ e. absurd (promote e);
-      cut_is = same_cut;
-      whole_is = same_whole;
-      view = opened_as x y x.seen.notes (x.seen.notes ++ noted_before last (changed_as found)) x.seen.listing (record x.seen.share { changed = Some found }) told (no_notes x ∙ ap (λ (l : List Note). x.seen.notes ++ l) none);
+      progress_is = ap (λ (z : DomainView). progress_of z.seen.share) told;
+      view = opened_as x y x.seen.notes (x.seen.notes ++ noted_before last (progress_of x.seen.share) (changed_as found)) x.seen.listing (record x.seen.share { changed = Some found }) told (no_notes x ∙ ap (λ (l : List Note). x.seen.notes ++ l) none);
     }
 
+    goes_back : (last : Kind) → last ≢ Lasts → last ≢ Reset → MayFollow y.seen.share last Mark
+    goes_back last lasts reset = asks_nothing y.seen.share last Mark record { rounds = λ e. cc; decide = λ e. cc; clean = λ e. cc; answer = λ e. cc; run = λ e. cc; sweep = λ e. cc; lasts = lasts; reset = reset }
+
     pub mark_ends : found ≡ 0 → Opens k x y Mark Rounds
-    mark_ends none = changed_opens Mark Rounds (inr refl) (ap (λ (b : Bool). if b then Rounds else Mark) (sym (eq-eqb found 0 none))) refl (λ e. cc) (λ e. cc) (λ e. cc)
-        (changed_may y.seen.share found Mark Rounds knows none (λ e. cc) (λ e. cc) (λ e. cc) (λ e. cc) (λ e. cc) (λ e. cc))
+    mark_ends none = changed_opens Mark Rounds (inl refl) (inr refl) (ap (λ (b : Bool). if b then Rounds else Mark) (sym (eq-eqb found 0 none))) refl (λ e. cc) (λ e. cc)
+        (changed_may y.seen.share found Mark Rounds knows none (λ e. cc) (λ e. cc) (inl refl) (λ e. cc) (λ e. cc) (λ e. cc))
 
     pub mark_goes_on : found ≢ 0 → Opens k x y Mark Mark
-    mark_goes_on some = changed_opens Mark Mark (inl refl) (ap (λ (b : Bool). if b then Rounds else Mark) (sym (ne_eqb found 0 some))) refl (λ e. cc) (λ e. cc) (λ e. cc)
-        (asks_nothing y.seen.share Mark Mark (λ e. cc) (λ e. cc) (λ e. cc) (λ e. cc) (λ e. cc) (λ e. cc) (λ e. cc))
+    mark_goes_on some = changed_opens Mark Mark (inl refl) (inl refl) (ap (λ (b : Bool). if b then Rounds else Mark) (sym (ne_eqb found 0 some))) refl (λ e. cc) (λ e. cc) (goes_back Mark (λ e. cc) (λ e. cc))
 
     pub rounds_go_back : found ≢ 0 → Opens k x y Rounds Mark
-    rounds_go_back some = changed_opens Rounds Mark (inl refl) (ap (λ (b : Bool). after_rounds b x.seen.share.cut) (sym (ne_eqb found 0 some))) refl (λ e. cc) (λ e. cc) (λ e. cc)
-        (asks_nothing y.seen.share Rounds Mark (λ e. cc) (λ e. cc) (λ e. cc) (λ e. cc) (λ e. cc) (λ e. cc) (λ e. cc))
+    rounds_go_back some = changed_opens Rounds Mark (inr refl) (inl refl) (ap (λ (b : Bool). after_rounds b x.seen.share.cut) (sym (ne_eqb found 0 some))) refl (λ e. cc) (λ e. cc) (goes_back Rounds (λ e. cc) (λ e. cc))
 
     pub rounds_end_first : found ≡ 0 → x.seen.share.cut ≡ false → Opens k x y Rounds Decide
-    rounds_end_first none first = changed_opens Rounds Decide (inr (inl refl)) (ap (after_rounds true) (sym first) ∙ ap (λ (b : Bool). after_rounds b x.seen.share.cut) (sym (eq-eqb found 0 none))) refl (λ e. cc) (λ e. cc) (λ e. cc)
-        (changed_may y.seen.share found Rounds Decide knows none (λ _. same_cut ∙ first) (λ e. cc) (λ e. cc) (λ e. cc) (λ e. cc) (λ e. cc))
+    rounds_end_first none first = changed_opens Rounds Decide (inr refl) (inr (inl refl)) (ap (after_rounds true) (sym first) ∙ ap (λ (b : Bool). after_rounds b x.seen.share.cut) (sym (eq-eqb found 0 none))) refl (λ e. cc) (λ e. cc)
+        (changed_may y.seen.share found Rounds Decide knows none (λ _. same_cut ∙ first) (λ e. cc) (inr refl) (λ e. cc) (λ e. cc) (λ e. cc))
 
     pub rounds_end_second : found ≡ 0 → x.seen.share.cut ≡ true → Opens k x y Rounds Clean
-    rounds_end_second none second = changed_opens Rounds Clean (inr (inr refl)) (ap (after_rounds true) (sym second) ∙ ap (λ (b : Bool). after_rounds b x.seen.share.cut) (sym (eq-eqb found 0 none))) refl (λ e. cc) (λ e. cc) (λ e. cc)
-        (changed_may y.seen.share found Rounds Clean knows none (λ e. cc) (λ _. same_cut ∙ second) (λ e. cc) (λ e. cc) (λ e. cc) (λ e. cc))
-
-  -- the colours are rotated, and nothing that lives is counted
-  pub lasts_opens : (y1 y2 y3 y4 : DomainView) (colours : Colours) (new : ℕ) → y1 ≡ knowing_colours x colours → TurnTold y1 new y2 → BlocksCleared y2 0 y3 → WordsCleared y3 0 y4 → Opens k x y4 Lasts Sweep
-  lasts_opens y1 y2 y3 y4 colours new knows turned blocks words =
-      let is : y4 ≡ without_words (without_blocks (turned_to turned.colours (knowing_colours x colours))) = words ∙ (ap without_words blocks ∙ (ap (λ (v : DomainView). without_words (without_blocks v)) turned.view ∙ ap (λ (v : DomainView). without_words (without_blocks (turned_to turned.colours v))) knows)) in record {
-        follows = refl;
-        findings = nothing_found;
-        chosen = refl;
-        found = ⊎_elim (λ (e : Lasts ≡ Mark). cc) (λ (e : Lasts ≡ Rounds). cc);
-        known = λ e. cc;
-        counted = λ e. cc;
-        may = record {
-          unchanged = ⊎_elim (λ (e : Sweep ≡ Rounds). cc) (⊎_elim (λ (e : Sweep ≡ Decide). cc) (λ (e : Sweep ≡ Clean). cc));
-          first = λ e. cc;
-          second = λ e. cc;
-          rotated = λ _. ap (λ (v : DomainView). v.seen.share.rotated) is;
-          set_back = λ _. (ap (λ (v : DomainView). v.seen.share.blocks) is, ap (λ (v : DomainView). v.seen.share.words) is);
-          goes_on = λ e. cc;
-          begins = λ e. cc;
-          finishes = λ e. cc;
-          over = λ _ e. cc;
-          answers = λ e. cc;
-        };
-        list = λ e. cc;
-        set_back = λ e. cc;
-        cut_is = ap (λ (v : DomainView). v.seen.share.cut) is;
-        whole_is = ap (λ (v : DomainView). v.seen.share.whole) is;
-        view = opened_as x y4 x.seen.notes _ x.seen.listing _ is (no_notes x);
-      }
+    rounds_end_second none second = changed_opens Rounds Clean (inr refl) (inr (inr refl)) (ap (after_rounds true) (sym second) ∙ ap (λ (b : Bool). after_rounds b x.seen.share.cut) (sym (eq-eqb found 0 none))) refl (λ e. cc) (λ e. cc)
+        (changed_may y.seen.share found Rounds Clean knows none (λ e. cc) (λ _. same_cut ∙ second) (inr refl) (λ e. cc) (λ e. cc) (λ e. cc))
 
   -- the list of free pools, where one is written and nothing else done since
   list_as : (y z : DomainView) → z.seen.listing ≡ y.seen.listing → HasList k y → HasList k z
@@ -297,102 +310,204 @@ module _ (k : Config) (x : DomainView) where
     is : v ≡ opened x (x.seen.notes ++ Want found ∷ []) y.seen.listing (record x.seen.share { armed = Some armed })
     is = knows ∙ (ap (λ (w : DomainView). knowing_armed w armed) told ∙ ap (λ (w : DomainView). knowing_armed (noted w (Want found)) armed) same)
 
-    listed : v.seen.listing ≡ y.seen.listing
-    listed = ap (λ (w : DomainView). w.seen.listing) is
+    -- in the view that it then has
+    module _ (u : DomainView) (share : Share) (view : u ≡ opened x (x.seen.notes ++ Want found ∷ []) y.seen.listing share) (progress : progress_of share ≡ progress_of x.seen.share) where
+      listed : u.seen.listing ≡ y.seen.listing
+      listed = ap (λ (w : DomainView). w.seen.listing) view
 
-    told_armed : v.seen.share.armed ≡ Some armed
-    told_armed = ap (λ (w : DomainView). w.seen.share.armed) is
+      share_is : u.seen.share ≡ share
+      share_is = ap (λ (w : DomainView). w.seen.share) view
 
-    pub reset_opens : (next : Kind) → next ≡ kind_after_reset k found free armed → Opens k x v Reset next
-    reset_opens next chosen = record {
-      follows = subst (Follows Reset) (sym chosen) (reset_follows armed (finishes found) (begins k found free));
-      findings = wishes;
-      chosen = chosen;
-      found = ⊎_elim (λ (e : Reset ≡ Mark). cc) (λ (e : Reset ≡ Rounds). cc);
-      known = λ _. told_armed;
-      counted = λ _. (list_as y v listed list, count_as y v free listed counts);
-      may = subst (MayFollow v.seen.share Reset) (sym chosen) (reset_may v.seen.share armed (finishes found) (begins k found free) told_armed);
-      list = λ _. list_as y v listed list;
-      set_back = λ e. absurd (reset_copies armed (finishes found) (begins k found free) (sym chosen ∙ e));
-      cut_is = ap (λ (w : DomainView). w.seen.share.cut) is;
-      whole_is = ap (λ (w : DomainView). w.seen.share.whole) is;
-      view = opened_as x v (x.seen.notes ++ Want found ∷ []) _ y.seen.listing _ is refl;
-    }
+      reset_with : (next : Kind) → next ≡ kind_after_reset k found free armed x.seen.share.unswept → share.armed ≡ Some armed → (next ≡ Sweep → (share.blocks ≡ Some 0) × (share.words ≡ Some 0)) → Opens k x u Reset next
+      reset_with next chosen told_armed cleared =
+          let b = begins k found free in
+          let unswept = x.seen.share.unswept in
+          let owed : share.unswept ≡ unswept = ap (λ (p : Progress). p.unswept) progress in
+          let knows_all : ResetKnows share armed unswept (kind_after_reset k found free armed unswept) = record { known = told_armed; owed = owed; cleared = λ e. cleared (chosen ∙ e) } in record {
+            follows = subst (Follows Reset) (sym chosen) (reset_follows armed (finishes found) b unswept);
+            findings = wishes;
+            chosen = chosen;
+            found = ⊎_elim (λ (e : Reset ≡ Mark). cc) (λ (e : Reset ≡ Rounds). cc);
+            known = λ _. ap (λ (s : Share). s.armed) share_is ∙ told_armed;
+            counted = λ _. (list_as y u listed list, count_as y u free listed counts);
+            may = subst (λ (s : Share). MayFollow s Reset next) (sym share_is) (subst (MayFollow share Reset) (sym chosen) (reset_may share armed (finishes found) b unswept knows_all));
+            list = λ _. list_as y u listed list;
+            set_back = λ e. absurd (reset_copies armed (finishes found) b unswept (sym chosen ∙ e));
+            progress_is = ap progress_of share_is ∙ progress;
+            view = opened_as x u (x.seen.notes ++ Want found ∷ []) _ y.seen.listing share view refl;
+          }
+
+    pub reset_opens : (next : Kind) → next ≡ kind_after_reset k found free armed x.seen.share.unswept → next ≢ Sweep → Opens k x v Reset next
+    reset_opens next chosen other = reset_with v (record x.seen.share { armed = Some armed }) is refl next chosen refl (λ e. absurd (other e))
+
+    -- before garbage is freed it sets back what is counted
+    pub reset_frees : (u : DomainView) (next : Kind) → CountsCleared v u → next ≡ kind_after_reset k found free armed x.seen.share.unswept → Opens k x u Reset next
+    reset_frees u next cleared chosen = reset_with u (record x.seen.share { armed = Some armed; blocks = Some 0; words = Some 0 })
+        (cleared ∙ ap (λ (w : DomainView). with_share w (record w.seen.share { blocks = Some 0; words = Some 0 })) is) refl next chosen refl (λ _. (refl, refl))
 
   -- it finds the wishes alone, where a complete collection is asked for
   abbrev pub wished : ℕ → Findings
   wished found = record { wants = found; changed = 0; free = 0; armed = false }
 
-  module _ (y : DomainView) (found : ℕ) (told : y ≡ noted x (Want found)) where
-    wishes_open : (last next : Kind) → Follows last next → next ≡ next_kind k last x.seen.share.cut x.seen.share.whole (wished found) → Want found ∷ [] ≡ noted_before last (wished found) → last ≢ Reset → last ≢ Mark → last ≢ Rounds → next ≢ Run → next ≢ Promote → MayFollow y.seen.share last next → Opens k x y last next
-    wishes_open last next follows chosen notes reset mark rounds run promote may = record {
+  -- these ways are taken once it has found the wishes, or nothing
+  record Decides (last next : Kind) (f : Findings) : Type 0 where
+    follows : Follows last next
+    chosen : next ≡ next_kind k last (progress_of x.seen.share) f
+    uncounted : last ≢ Reset
+    unswept : last ≡ Sweep → x.seen.share.unswept ≡ false
+    mark : last ≢ Mark
+    rounds : last ≢ Rounds
+    copies : next ≢ Promote
+
+  -- with what it then knows of the phase
+  decides : (last next : Kind) (f : Findings) (u : DomainView) (share : Share) → Decides last next f → u ≡ opened x (x.seen.notes ++ noted_before last (progress_of x.seen.share) f) u.seen.listing share → progress_of share ≡ progress_of x.seen.share → MayFollow share last next → (next ≡ Run → HasList k u) → Opens k x u last next
+  decides last next f u share d view progress may list =
+      let same : u.seen.share ≡ share = ap (λ (w : DomainView). w.seen.share) view in record {
+        follows = d.follows;
+        findings = f;
+        chosen = d.chosen;
+        found = ⊎_elim (λ (e : last ≡ Mark). absurd (d.mark e)) (λ (e : last ≡ Rounds). absurd (d.rounds e));
+        known = λ e. absurd (d.uncounted e);
+        counted = ⊎_elim (λ (e : last ≡ Reset). absurd (d.uncounted e)) (λ (q : (last ≡ Sweep) × (x.seen.share.unswept ≡ true)). let no : x.seen.share.unswept ≡ false = d.unswept q.0 in let yes : x.seen.share.unswept ≡ true = q.1 in cc);
+        may = subst (λ (s : Share). MayFollow s last next) (sym same) may;
+        list = list;
+        set_back = λ e. absurd (d.copies e);
+        progress_is = ap progress_of same ∙ progress;
+        view = opened_as x u (x.seen.notes ++ noted_before last (progress_of x.seen.share) f) (x.seen.notes ++ noted_before last (progress_of x.seen.share) f) u.seen.listing share view refl;
+      }
+
+  unopened : x ≡ opened x (x.seen.notes ++ []) x.seen.listing x.seen.share
+  unopened = ap (λ (n : List Note). opened x n x.seen.listing x.seen.share) (no_notes x)
+
+  pub roots_end : (y : DomainView) (found : ℕ) → y ≡ noted x (Want found) → is_wanted Full found ≡ true → Opens k x y Roots Mark
+  roots_end y found told full = decides Roots Mark (wished found) y x.seen.share record { follows = inl refl; chosen = ap (λ (b : Bool). if b then Mark else Run) (sym full); uncounted = λ e. cc; unswept = λ e. cc; mark = λ e. cc; rounds = λ e. cc; copies = λ e. cc }
+      (told ∙ ap (λ (l : Option Listing). opened x (x.seen.notes ++ Want found ∷ []) l x.seen.share) (sym (ap (λ (w : DomainView). w.seen.listing) told))) refl
+      (asks_nothing x.seen.share Roots Mark record { rounds = λ e. cc; decide = λ e. cc; clean = λ e. cc; answer = λ e. cc; run = λ e. cc; sweep = λ e. cc; lasts = λ e. cc; reset = λ e. cc })
+      (λ e. cc)
+
+  -- what comes after Sweep, by whether garbage was left of an earlier pause, whether a cycle begins, and whether the one that ended began in this pause
+  abbrev after_sweep : Bool → Bool → Bool → Kind
+  after_sweep unswept start is_whole = if unswept then (if start then Roots else Run) else (if is_whole then Answer else Roots)
+
+  quiet_sweep : x.seen.share.unswept ≡ false → x ≡ opened x (x.seen.notes ++ noted_before Sweep (progress_of x.seen.share) nothing_found) x.seen.listing x.seen.share
+  quiet_sweep none = unopened ∙ ap (λ (b : Bool). opened x (x.seen.notes ++ (if b then Want 0 ∷ [] else [])) x.seen.listing x.seen.share) (sym none)
+
+  pub sweep_begins : x.seen.share.unswept ≡ false → x.seen.share.whole ≡ false → Opens k x x Sweep Roots
+  sweep_begins none part = decides Sweep Roots nothing_found x x.seen.share record { follows = inr (inr refl); chosen = λ i. after_sweep (sym none i) (begins k 0 0) (sym part i); uncounted = λ e. cc; unswept = λ _. none; mark = λ e. cc; rounds = λ e. cc; copies = λ e. cc }
+      (quiet_sweep none) refl
+      (asks_nothing x.seen.share Sweep Roots record { rounds = λ e. cc; decide = λ e. cc; clean = λ e. cc; answer = λ e. cc; run = λ e. cc; sweep = λ e. cc; lasts = λ e. cc; reset = λ e. cc })
+      (λ e. cc)
+
+  pub sweep_answers : x.seen.share.unswept ≡ false → x.seen.share.whole ≡ true → Opens k x x Sweep Answer
+  sweep_answers none all = decides Sweep Answer nothing_found x x.seen.share record { follows = inr (inl refl); chosen = λ i. after_sweep (sym none i) (begins k 0 0) (sym all i); uncounted = λ e. cc; unswept = λ _. none; mark = λ e. cc; rounds = λ e. cc; copies = λ e. cc }
+      (quiet_sweep none) refl
+      record {
+        unchanged = ⊎_elim (λ (e : Answer ≡ Rounds). cc) (⊎_elim (λ (e : Answer ≡ Decide). cc) (λ (e : Answer ≡ Clean). cc));
+        first = λ e. cc;
+        second = λ e. cc;
+        rotated = λ e. cc;
+        set_back = λ e. cc;
+        goes_on = λ e. cc;
+        begins = λ e. cc;
+        frees = λ e. cc;
+        finishes = λ e. cc;
+        over = λ _ e. cc;
+        freed = λ _ e. cc;
+        answers = λ _. (all, none);
+      }
+      (λ e. cc)
+
+  -- where garbage was left of an earlier pause it writes the list, and finds the wishes
+  module _ (y z : DomainView) (found free : ℕ) (owed : x.seen.share.unswept ≡ true) (same : Relisted x y) (list : HasList k y) (counts : IsListedCount k y free) (told : z ≡ noted y (Want found)) where
+    abbrev late : Findings
+    late = record { wants = found; changed = 0; free = free; armed = false }
+
+    late_is : z ≡ opened x (x.seen.notes ++ Want found ∷ []) y.seen.listing x.seen.share
+    late_is = told ∙ ap (λ (w : DomainView). noted w (Want found)) same
+
+    late_notes : x.seen.notes ++ Want found ∷ [] ≡ x.seen.notes ++ noted_before Sweep (progress_of x.seen.share) late
+    late_notes = ap (λ (b : Bool). x.seen.notes ++ (if b then Want found ∷ [] else [])) (sym owed)
+
+    late_listed : z.seen.listing ≡ y.seen.listing
+    late_listed = ap (λ (w : DomainView). w.seen.listing) late_is
+
+    late_opens : (next : Kind) → Follows Sweep next → next ≡ next_kind k Sweep (progress_of x.seen.share) late → next ≢ Promote → MayFollow x.seen.share Sweep next → Opens k x z Sweep next
+    late_opens next follows chosen copies may = record {
       follows = follows;
-      findings = wished found;
+      findings = late;
       chosen = chosen;
-      found = ⊎_elim (λ (e : last ≡ Mark). absurd (mark e)) (λ (e : last ≡ Rounds). absurd (rounds e));
-      known = λ e. absurd (reset e);
-      counted = λ e. absurd (reset e);
-      may = may;
-      list = λ e. absurd (run e);
-      set_back = λ e. absurd (promote e);
-      cut_is = ap (λ (w : DomainView). w.seen.share.cut) told;
-      whole_is = ap (λ (w : DomainView). w.seen.share.whole) told;
-      view = opened_as x y (x.seen.notes ++ Want found ∷ []) (x.seen.notes ++ noted_before last (wished found)) x.seen.listing x.seen.share told (ap (λ (l : List Note). x.seen.notes ++ l) notes);
+      found = ⊎_elim (λ (e : Sweep ≡ Mark). cc) (λ (e : Sweep ≡ Rounds). cc);
+      known = λ e. cc;
+      counted = λ _. (list_as y z late_listed list, count_as y z free late_listed counts);
+      may = subst (λ (s : Share). MayFollow s Sweep next) (sym (ap (λ (w : DomainView). w.seen.share) late_is)) may;
+      list = λ _. list_as y z late_listed list;
+      set_back = λ e. absurd (copies e);
+      progress_is = ap (λ (w : DomainView). progress_of w.seen.share) late_is;
+      view = opened_as x z (x.seen.notes ++ Want found ∷ []) _ y.seen.listing x.seen.share late_is late_notes;
     }
 
-    pub roots_end : is_wanted Full found ≡ true → Opens k x y Roots Mark
-    roots_end full = wishes_open Roots Mark (inl refl) (ap (λ (b : Bool). if b then Mark else Run) (sym full)) refl (λ e. cc) (λ e. cc) (λ e. cc) (λ e. cc) (λ e. cc)
-        (asks_nothing y.seen.share Roots Mark (λ e. cc) (λ e. cc) (λ e. cc) (λ e. cc) (λ e. cc) (λ e. cc) (λ e. cc))
+    pub late_begins : begins k found free ≡ true → Opens k x z Sweep Roots
+    late_begins start = late_opens Roots (inr (inr refl)) (λ i. after_sweep (sym owed i) (sym start i) x.seen.share.whole) (λ e. cc)
+        (asks_nothing x.seen.share Sweep Roots record { rounds = λ e. cc; decide = λ e. cc; clean = λ e. cc; answer = λ e. cc; run = λ e. cc; sweep = λ e. cc; lasts = λ e. cc; reset = λ e. cc })
 
-    -- what comes after Sweep, by whether a complete collection is asked for and whether this one began in this pause
-    abbrev after_sweep : Bool → Bool → Kind
-    after_sweep full is_whole = if full then (if is_whole then Answer else Roots) else Run
+    pub late_runs : begins k found free ≡ false → Opens k x z Sweep Run
+    late_runs start = late_opens Run (inl refl) (λ i. after_sweep (sym owed i) (sym start i) x.seen.share.whole) (λ e. cc)
+        (runs_may x.seen.share Sweep record { rotated = λ e. cc; on = λ e. cc; over = ⊎_elim (λ (e : Sweep ≡ Lasts). cc) (λ (e : Sweep ≡ Answer). cc); freed = λ _. owed })
 
-    pub sweep_begins : is_wanted Full found ≡ true → x.seen.share.whole ≡ false → Opens k x y Sweep Roots
-    sweep_begins full part = wishes_open Sweep Roots (inr (inr refl)) (ap (after_sweep true) (sym part) ∙ ap (λ (b : Bool). after_sweep b x.seen.share.whole) (sym full)) refl (λ e. cc) (λ e. cc) (λ e. cc) (λ e. cc) (λ e. cc)
-        (asks_nothing y.seen.share Sweep Roots (λ e. cc) (λ e. cc) (λ e. cc) (λ e. cc) (λ e. cc) (λ e. cc) (λ e. cc))
+  -- the colours are rotated, and it finds the wishes
+  module _ (y1 y2 y3 : DomainView) (colours : Colours) (new found : ℕ) (knows : y1 ≡ knowing_colours x colours) (turned : TurnTold y1 new y2) (told : y3 ≡ noted y2 (Want found)) where
+    abbrev turned_share : Share
+    turned_share = record x.seen.share { colours = Some (rotated turned.colours); rotated = true }
 
-    pub sweep_answers : is_wanted Full found ≡ true → x.seen.share.whole ≡ true → Opens k x y Sweep Answer
-    sweep_answers full all = wishes_open Sweep Answer (inr (inl refl)) (ap (after_sweep true) (sym all) ∙ ap (λ (b : Bool). after_sweep b x.seen.share.whole) (sym full)) refl (λ e. cc) (λ e. cc) (λ e. cc) (λ e. cc) (λ e. cc) record {
-      unchanged = ⊎_elim (λ (e : Answer ≡ Rounds). cc) (⊎_elim (λ (e : Answer ≡ Decide). cc) (λ (e : Answer ≡ Clean). cc));
-      first = λ e. cc;
-      second = λ e. cc;
-      rotated = λ e. cc;
-      set_back = λ e. cc;
-      goes_on = λ e. cc;
-      begins = λ e. cc;
-      finishes = λ e. cc;
-      over = λ _ e. cc;
-      answers = λ _. ap (λ (w : DomainView). w.seen.share.whole) told ∙ all;
-    }
+    turned_is : y3 ≡ opened x (x.seen.notes ++ Want found ∷ []) x.seen.listing turned_share
+    turned_is = told ∙ (ap (λ (w : DomainView). noted w (Want found)) turned.view ∙ ap (λ (w : DomainView). noted (turned_to turned.colours w) (Want found)) knows)
+
+    lasts_decides : (next : Kind) → Follows Lasts next → next ≡ (if is_wanted Full found then Sweep else Run) → next ≢ Promote → Decides Lasts next (wished found)
+    lasts_decides next follows chosen copies = record { follows = follows; chosen = chosen; uncounted = λ e. cc; unswept = λ e. cc; mark = λ e. cc; rounds = λ e. cc; copies = copies }
+
+    -- it sets back what is counted, and garbage is freed in this pause
+    pub lasts_frees : (u : DomainView) → is_wanted Full found ≡ true → CountsCleared y3 u → Opens k x u Lasts Sweep
+    lasts_frees u full cleared =
+        let view : u ≡ opened x (x.seen.notes ++ Want found ∷ []) x.seen.listing (record turned_share { blocks = Some 0; words = Some 0 }) = cleared ∙ ap (λ (w : DomainView). with_share w (record w.seen.share { blocks = Some 0; words = Some 0 })) turned_is in
+        let here = view ∙ ap (λ (l : Option Listing). opened x (x.seen.notes ++ Want found ∷ []) l (record turned_share { blocks = Some 0; words = Some 0 })) (sym (ap (λ (w : DomainView). w.seen.listing) view)) in
+        decides Lasts Sweep (wished found) u (record turned_share { blocks = Some 0; words = Some 0 }) (lasts_decides Sweep (inl refl) (ap (λ (b : Bool). if b then Sweep else Run) (sym full)) (λ e. cc)) here refl
+        record {
+          unchanged = ⊎_elim (λ (e : Sweep ≡ Rounds). cc) (⊎_elim (λ (e : Sweep ≡ Decide). cc) (λ (e : Sweep ≡ Clean). cc));
+          first = λ e. cc;
+          second = λ e. cc;
+          rotated = λ _. refl;
+          set_back = λ _. (refl, refl);
+          goes_on = λ e. cc;
+          begins = λ e. cc;
+          frees = λ e. cc;
+          finishes = λ e. cc;
+          over = λ _ e. cc;
+          freed = λ e. cc;
+          answers = λ e. cc;
+        }
+        (λ e. cc)
+
+    -- or the domains run, and free it as they do
+    pub lasts_run : (z : DomainView) → is_wanted Full found ≡ false → Relisted (knowing_armed y3 false) z → HasList k z → Opens k x z Lasts Run
+    lasts_run z part same list =
+        let view : z ≡ opened x (x.seen.notes ++ Want found ∷ []) z.seen.listing (record turned_share { armed = Some false }) = same ∙ ap (λ (w : DomainView). record (knowing_armed w false) { seen = record (knowing_armed w false).seen { listing = z.seen.listing } }) turned_is in
+        decides Lasts Run (wished found) z (record turned_share { armed = Some false }) (lasts_decides Run (inr refl) (ap (λ (b : Bool). if b then Sweep else Run) (sym part)) (λ e. cc)) view refl
+        (runs_may (record turned_share { armed = Some false }) Lasts record { rotated = λ _. refl; on = λ e. cc; over = λ _. refl; freed = λ e. cc })
+        (λ _. list)
 
   -- before the domains run the armed word and the list are written
   module _ (y z : DomainView) (armed : Bool) (same : Relisted (knowing_armed y armed) z) (list : HasList k z) where
-    runs_open : (last : Kind) (f : Findings) → y ≡ opened x (x.seen.notes ++ noted_before last f) x.seen.listing x.seen.share → Follows last Run → Run ≡ next_kind k last x.seen.share.cut x.seen.share.whole f → last ≢ Reset → last ≢ Mark → last ≢ Rounds → last ≢ Lasts → (last ≡ Roots → armed ≡ true) → ((last ≡ Sweep) ⊎ (last ≡ Answer) → armed ≡ false) → Opens k x z last Run
-    runs_open last f before follows chosen reset mark rounds lasts on over =
-        let is : z ≡ opened x (x.seen.notes ++ noted_before last f) z.seen.listing (record x.seen.share { armed = Some armed }) = same ∙ ap (λ (w : DomainView). record (knowing_armed w armed) { seen = record (knowing_armed w armed).seen { listing = z.seen.listing } }) before in record {
-          follows = follows;
-          findings = f;
-          chosen = chosen;
-          found = ⊎_elim (λ (e : last ≡ Mark). absurd (mark e)) (λ (e : last ≡ Rounds). absurd (rounds e));
-          known = λ e. absurd (reset e);
-          counted = λ e. absurd (reset e);
-          may = runs_may z.seen.share last armed (ap (λ (w : DomainView). w.seen.share.armed) is) on over lasts;
-          list = λ _. list;
-          set_back = λ e. cc;
-          cut_is = ap (λ (w : DomainView). w.seen.share.cut) is;
-          whole_is = ap (λ (w : DomainView). w.seen.share.whole) is;
-          view = opened_as x z (x.seen.notes ++ noted_before last f) (x.seen.notes ++ noted_before last f) z.seen.listing (record x.seen.share { armed = Some armed }) is refl;
-        }
+    armed_view : (notes : List Note) → y ≡ opened x notes x.seen.listing x.seen.share → z ≡ opened x notes z.seen.listing (record x.seen.share { armed = Some armed })
+    armed_view notes before = same ∙ ap (λ (w : DomainView). record (knowing_armed w armed) { seen = record (knowing_armed w armed).seen { listing = z.seen.listing } }) before
 
     pub roots_run : (found : ℕ) → y ≡ noted x (Want found) → is_wanted Full found ≡ false → armed ≡ true → Opens k x z Roots Run
-    roots_run found told part is = runs_open Roots (wished found) told (inr refl) (ap (λ (b : Bool). if b then Mark else Run) (sym part)) (λ e. cc) (λ e. cc) (λ e. cc) (λ e. cc) (λ _. is) (⊎_elim (λ (e : Roots ≡ Sweep). cc) (λ (e : Roots ≡ Answer). cc))
-
-    pub sweep_runs : (found : ℕ) → y ≡ noted x (Want found) → is_wanted Full found ≡ false → armed ≡ false → Opens k x z Sweep Run
-    sweep_runs found told part is = runs_open Sweep (wished found) told (inl refl) (ap (λ (b : Bool). if b then (if x.seen.share.whole then Answer else Roots) else Run) (sym part)) (λ e. cc) (λ e. cc) (λ e. cc) (λ e. cc) (λ e. cc) (λ _. is)
+    roots_run found told part is = decides Roots Run (wished found) z (record x.seen.share { armed = Some armed }) record { follows = inr refl; chosen = ap (λ (b : Bool). if b then Mark else Run) (sym part); uncounted = λ e. cc; unswept = λ e. cc; mark = λ e. cc; rounds = λ e. cc; copies = λ e. cc }
+        (armed_view (x.seen.notes ++ Want found ∷ []) told) refl
+        (runs_may (record x.seen.share { armed = Some armed }) Roots record { rotated = λ e. cc; on = λ _. ap Some is; over = ⊎_elim (λ (e : Roots ≡ Lasts). cc) (λ (e : Roots ≡ Answer). cc); freed = λ e. cc })
+        (λ _. list)
 
     pub answer_runs : y ≡ x → armed ≡ false → Opens k x z Answer Run
-    answer_runs told is = runs_open Answer nothing_found (told ∙ opened_same) refl refl (λ e. cc) (λ e. cc) (λ e. cc) (λ e. cc) (λ e. cc) (λ _. is)
-      where
-        opened_same : x ≡ opened x (x.seen.notes ++ []) x.seen.listing x.seen.share
-        opened_same = ap (λ (n : List Note). opened x n x.seen.listing x.seen.share) (no_notes x)
+    answer_runs told is = decides Answer Run nothing_found z (record x.seen.share { armed = Some armed }) record { follows = refl; chosen = refl; uncounted = λ e. cc; unswept = λ e. cc; mark = λ e. cc; rounds = λ e. cc; copies = λ e. cc }
+        (armed_view (x.seen.notes ++ []) (told ∙ unopened)) refl
+        (runs_may (record x.seen.share { armed = Some armed }) Answer record { rotated = λ e. cc; on = λ e. cc; over = λ _. ap Some is; freed = λ e. cc })
+        (λ _. list)

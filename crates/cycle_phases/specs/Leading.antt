@@ -1,5 +1,5 @@
 -- How domain 0 leads through a collection of the major heap.
-use Rattle.std.specs.Prelude.{◌≡◌, ◌⊎◌, ℕ, ◌*◌, ◌==◌, ◌||◌, nat_lt, if◌then◌else◌, Bool, List, [], ◌∷◌, ◌++◌, Some, None}
+use Rattle.std.specs.Prelude.{◌≡◌, ◌⊎◌, ℕ, ◌*◌, ◌==◌, ◌||◌, nat_lt, if◌then◌else◌, Bool, true, false, List, [], ◌∷◌, ◌++◌, Some, None}
 use Rattle.heap_model.specs.declared.entry.Entry.{Entry}
 use Rattle.heap_model.specs.Fronts.{IsFrontOf}
 use Rattle.heap_rule.specs.declared.config.Config.{Config}
@@ -10,11 +10,14 @@ use Rattle.heap_rule.specs.declared.phase.Note.{Note}
 use Rattle.heap_rule.specs.declared.phase.Note.TheVariants.{Want, SetBack}
 use Rattle.heap_rule.specs.declared.phase.Stage.TheVariants.{Led}
 use Rattle.heap_rule.specs.Phases.{Follows, last_note}
+use Rattle.heap_rule.specs.declared.view.Share.{Share}
 use Rattle.heap_rule.specs.Views.{fresh_share}
-use Rattle.steps_pauses.specs.Pauses.{EndsWith, MayFollow, arrived_view, cut_in, entry_of, whole_after}
+use Rattle.steps_pauses.specs.Pauses.{EndsWith, MayFollow, arrived_view, cut_in, entry_of, unswept_after, whole_after}
 use Rattle.steps_pools.specs.Listings.{HasList, IsListedCount}
 use Rattle.safepoint.specs.declared.answer.Want.TheVariants.{Cycle, Finish, Full}
 use Rattle.safepoint.specs.Looks.{cleared, is_wanted}
+use Rattle.steps_cycle.specs.Looks.{with_share}
+use Rattle.cycle_phases.specs.declared.progress.Progress.{Progress}
 
 -- what domain 0 finds before it names the next kind: the wishes, the changed word, how many pools the list of free pools names, and whether a cycle goes on beside running domains
 pub record Findings : Type 0 where
@@ -31,36 +34,53 @@ begins k wants free = is_wanted Cycle wants || (is_wanted Full wants || nat_lt (
 abbrev pub finishes : ℕ → Bool
 finishes wants = is_wanted Finish wants || is_wanted Full wants
 
--- what comes after the minor collection: a cycle that goes on is finished where that is asked for, and goes on else; where none goes on one begins or none does
-abbrev pub kind_after_reset : Config → ℕ → ℕ → Bool → Kind
-kind_after_reset k wants free armed = if armed then (if finishes wants then Mark else Run) else (if begins k wants free then Roots else Run)
+-- what comes after the minor collection: a cycle that goes on is finished where that is asked for, and goes on else; where none goes on one begins or none does. Before one begins the garbage is freed that is left of the last one
+abbrev pub kind_after_reset : Config → ℕ → ℕ → Bool → Bool → Kind
+kind_after_reset k wants free armed unswept = if armed then (if finishes wants then Mark else Run) else (if begins k wants free then (if unswept then Sweep else Roots) else Run)
 
--- which kind comes next, also by whether the cut of the collection is made, and by whether the collection began in this pause. It ends in this pause where a complete one is asked for, and goes on beside running domains else. Where a complete one is asked for, one that has gone on beside running domains is followed by another, and one that began in this pause is answered
-abbrev pub next_kind : Config → Kind → Bool → Bool → Findings → Kind
-next_kind k Run is_cut is_whole f = Promote
-next_kind k Promote is_cut is_whole f = Reset
-next_kind k Reset is_cut is_whole f = kind_after_reset k f.wants f.free f.armed
-next_kind k Roots is_cut is_whole f = if is_wanted Full f.wants then Mark else Run
-next_kind k Mark is_cut is_whole f = if f.changed == 0 then Rounds else Mark
-next_kind k Rounds is_cut is_whole f = if f.changed == 0 then (if is_cut then Clean else Decide) else Mark
-next_kind k Decide is_cut is_whole f = Queued
-next_kind k Queued is_cut is_whole f = Mark
-next_kind k Clean is_cut is_whole f = Lasts
-next_kind k Lasts is_cut is_whole f = Sweep
-next_kind k Sweep is_cut is_whole f = if is_wanted Full f.wants then (if is_whole then Answer else Roots) else Run
-next_kind k Answer is_cut is_whole f = Run
+-- how far a collection has come once a kind is named after another
+abbrev pub progress_after : Kind → Kind → Progress → Progress
+progress_after last next p = record { cut = cut_in last p.cut; whole = whole_after last next p.whole; unswept = unswept_after last next p.unswept }
+
+-- how far it has come by what domain 0 knows
+abbrev pub progress_of : Share → Progress
+progress_of share = record { cut = share.cut; whole = share.whole; unswept = share.unswept }
+
+-- before the first collection
+abbrev pub no_collection : Progress
+no_collection = record { cut = false; whole = true; unswept = false }
+
+-- which kind comes next, also by how far the collection has come. It ends in this pause where a complete one is asked for, and goes on beside running domains else. Where it ends its garbage is freed in this pause if a complete one is asked for, and by running domains else. A collection whose garbage was freed in the pause in which it ended is answered if it began there, and followed by another else; where the garbage was left of an earlier pause another begins if one is still asked for
+abbrev pub next_kind : Config → Kind → Progress → Findings → Kind
+next_kind k Run p f = Promote
+next_kind k Promote p f = Reset
+next_kind k Reset p f = kind_after_reset k f.wants f.free f.armed p.unswept
+next_kind k Roots p f = if is_wanted Full f.wants then Mark else Run
+next_kind k Mark p f = if f.changed == 0 then Rounds else Mark
+next_kind k Rounds p f = if f.changed == 0 then (if p.cut then Clean else Decide) else Mark
+next_kind k Decide p f = Queued
+next_kind k Queued p f = Mark
+next_kind k Clean p f = Lasts
+next_kind k Lasts p f = if is_wanted Full f.wants then Sweep else Run
+next_kind k Sweep p f = if p.unswept then (if begins k f.wants f.free then Roots else Run) else (if p.whole then Answer else Roots)
+next_kind k Answer p f = Run
 
 -- what domain 0 notes before it names the next kind
-abbrev pub noted_before : Kind → Findings → List Note
-noted_before Run f = SetBack ∷ []
-noted_before Reset f = Want f.wants ∷ []
-noted_before Roots f = Want f.wants ∷ []
-noted_before Sweep f = Want f.wants ∷ []
-noted_before _ f = []
+abbrev pub noted_before : Kind → Progress → Findings → List Note
+noted_before Run p f = SetBack ∷ []
+noted_before Reset p f = Want f.wants ∷ []
+noted_before Roots p f = Want f.wants ∷ []
+noted_before Lasts p f = Want f.wants ∷ []
+noted_before Sweep p f = if p.unswept then Want f.wants ∷ [] else []
+noted_before _ p f = []
 
 -- and all that it notes before it arrives
-abbrev pub noted_on : Kind → Kind → Findings → List Note
-noted_on last kind f = noted_before last f ++ cleared kind
+abbrev pub noted_on : Kind → Kind → Progress → Findings → List Note
+noted_on last kind p f = noted_before last p f ++ cleared kind
+
+-- the domain knows that no blocks and no words are counted as alive
+abbrev pub CountsCleared : DomainView → DomainView → Type 0
+CountsCleared x y = y ≡ with_share x (record x.seen.share { blocks = Some 0; words = Some 0 })
 
 -- the domain with other notes, and with what it knows of the list of free pools and of the phase as another has it
 abbrev pub opened_view : DomainView → DomainView → List Note → DomainView
@@ -70,24 +90,23 @@ opened_view x y notes = record x { seen = record x.seen { notes = notes; listing
 pub record Opens (k : Config) (x y : DomainView) (last kind : Kind) : Type 0 where
   pub follows : Follows last kind
   pub findings : Findings
-  pub chosen : kind ≡ next_kind k last x.seen.share.cut x.seen.share.whole findings
+  pub chosen : kind ≡ next_kind k last (progress_of x.seen.share) findings
   pub found : (last ≡ Mark) ⊎ (last ≡ Rounds) → y.seen.share.changed ≡ Some findings.changed
   pub known : last ≡ Reset → y.seen.share.armed ≡ Some findings.armed
-  pub counted : last ≡ Reset → HasList k y × IsListedCount k y findings.free
+  pub counted : (last ≡ Reset) ⊎ ((last ≡ Sweep) × (x.seen.share.unswept ≡ true)) → HasList k y × IsListedCount k y findings.free
   pub may : MayFollow y.seen.share last kind
   pub list : kind ≡ Run → HasList k y
   pub set_back : kind ≡ Promote → last_note y.seen.notes ≡ Some SetBack
-  pub cut_is : y.seen.share.cut ≡ x.seen.share.cut
-  pub whole_is : y.seen.share.whole ≡ x.seen.share.whole
-  pub view : y ≡ opened_view x y (x.seen.notes ++ noted_before last findings)
+  pub progress_is : progress_of y.seen.share ≡ progress_of x.seen.share
+  pub view : y ≡ opened_view x y (x.seen.notes ++ noted_before last (progress_of x.seen.share) findings)
 
 -- domain 0 has named the kind that comes next by what it found, and arrived. The collector's entry stands, if there is one, and what the domain knew of the phase is void
 pub record LeadsOn (k : Config) (x y : DomainView) (last kind : Kind) : Type 0 where
   pub follows : Follows last kind
   pub findings : Findings
-  pub chosen : kind ≡ next_kind k last x.seen.share.cut x.seen.share.whole findings
-  pub notes : y.seen.notes ≡ x.seen.notes ++ noted_on last kind findings
+  pub chosen : kind ≡ next_kind k last (progress_of x.seen.share) findings
+  pub notes : y.seen.notes ≡ x.seen.notes ++ noted_on last kind (progress_of x.seen.share) findings
   pub seen : IsFrontOf x.own.number y.seen.front x.seen.front
-  pub stays : entry_of last kind ≡ None → y.seen.front ≡ x.seen.front
-  pub made : (e : Entry) → entry_of last kind ≡ Some e → EndsWith k x y e
-  pub view : y ≡ arrived_view (record x { seen = record x.seen { front = y.seen.front; notes = y.seen.notes; stage = Led kind; share = record fresh_share { cut = cut_in last x.seen.share.cut; whole = whole_after last kind x.seen.share.whole } } })
+  pub stays : entry_of x.seen.share.unswept last kind ≡ None → y.seen.front ≡ x.seen.front
+  pub made : (e : Entry) → entry_of x.seen.share.unswept last kind ≡ Some e → EndsWith k x y e
+  pub view : y ≡ arrived_view (record x { seen = record x.seen { front = y.seen.front; notes = y.seen.notes; stage = Led kind; share = record fresh_share { cut = cut_in last x.seen.share.cut; whole = whole_after last kind x.seen.share.whole; unswept = unswept_after last kind x.seen.share.unswept } } })

@@ -8,6 +8,7 @@ use Rattle.heap_rule.specs.declared.view.DomainView.{DomainView}
 use Rattle.heap_rule.specs.declared.view.Finalisers.{Finalisers}
 use Rattle.heap_rule.specs.declared.view.Waiting.{Waiting}
 use Rattle.heap_rule.specs.Finalisers.{RefersOld}
+use Rattle.heap_rule.specs.Sweeping.{nothing_swept}
 use Rattle.steps_finalisers.specs.Registering.{count_of}
 use Rattle.steps_pauses.specs.Pauses.{HasDone, arrived_view}
 use Rattle.sweeper.specs.Sweeping.{LooksAgain}
@@ -23,11 +24,11 @@ IsShared _ = Unit {0}
 
 -- the domain with what a share changes of what it owns, and with a front, as another has it
 abbrev pub with_shared : DomainView → DomainView → DomainView
-with_shared x y = record { own = record x.own { looked = y.own.looked; ephemerons = y.own.ephemerons; finalisers = y.own.finalisers }; seen = record x.seen { front = y.seen.front } }
+with_shared x y = record { own = record x.own { looked = y.own.looked; ephemerons = y.own.ephemerons; swept = y.own.swept; finalisers = y.own.finalisers }; seen = record x.seen { front = y.seen.front } }
 
 -- and with what it knows of the phase as another has it
 abbrev pub with_work : DomainView → DomainView → DomainView
-with_work x y = record { own = record x.own { looked = y.own.looked; ephemerons = y.own.ephemerons; finalisers = y.own.finalisers }; seen = record x.seen { front = y.seen.front; share = y.seen.share } }
+with_work x y = record { own = record x.own { looked = y.own.looked; ephemerons = y.own.ephemerons; swept = y.own.swept; finalisers = y.own.finalisers }; seen = record x.seen { front = y.seen.front; share = y.seen.share } }
 
 -- of the registrations of `finalise` some stay, and the others are queued behind all that waited before, the newest first. Those of `finalise_last` stay
 pub record Decided (fs gs : Finalisers) : Type 0 where
@@ -48,11 +49,15 @@ pub record Works (k : Config) (kind : Kind) (x y : DomainView) : Type 0 where
   pub view : y ≡ with_work x y
   pub cut_is : y.seen.share.cut ≡ x.seen.share.cut
   pub whole_is : y.seen.share.whole ≡ x.seen.share.whole
+  pub unswept_is : y.seen.share.unswept ≡ x.seen.share.unswept
   pub weak_is : y.seen.share.weak ≡ x.seen.share.weak
   pub looked : kind ≢ Sweep → y.own.looked ≡ x.own.looked
   pub again : LooksAgain x y
   pub listed : kind ≢ Sweep → y.own.ephemerons ≡ x.own.ephemerons
   pub room : x.own.ephemerons.room ≤ y.own.ephemerons.room
+  pub swept : kind ≢ Lasts → kind ≢ Sweep → y.own.swept ≡ x.own.swept
+  pub anew : kind ≡ Lasts → y.own.swept ≡ nothing_swept
+  pub all_swept : kind ≡ Sweep → k.pools ≤ y.own.swept.spot.pool
   pub finalisers : kind ≢ Decide → kind ≢ Lasts → y.own.finalisers ≡ x.own.finalisers
   pub decided : kind ≡ Decide → Decided x.own.finalisers y.own.finalisers
   pub last_decided : kind ≡ Lasts → LastsDecided x.own.finalisers y.own.finalisers
@@ -62,17 +67,20 @@ pub record Works (k : Config) (kind : Kind) (x y : DomainView) : Type 0 where
   pub stays : kind ≢ Clean → kind ≢ Decide → kind ≢ Lasts → y.seen.front ≡ x.seen.front
   pub done : HasDone k y
 
--- The domain did its share and arrived. Only where it sweeps may its next search for a free place begin elsewhere, and then at the first pool, and its list of ephemerons get shorter, in which there is room for no fewer. Only where registrations are decided may its lists of finalisers change: some go to the end of its queue, and none is lost or new. Only there and where keys are emptied may its front grow, and by no entry of its own
-pub record SharesIn (kind : Kind) (x y : DomainView) : Type 0 where
+-- The domain did its share and arrived. Only where it sweeps may its next search for a free place begin earlier, and its list of ephemerons get shorter, in which there is room for no fewer. Before the colours are rotated it notes that it has swept nothing, and where it sweeps it sweeps all. Only where registrations are decided may its lists of finalisers change: some go to the end of its queue, and none is lost or new. Only there and where keys are emptied may its front grow, and by no entry of its own
+pub record SharesIn (k : Config) (kind : Kind) (x y : DomainView) : Type 0 where
   pub view : y ≡ arrived_view (with_shared x y)
   pub looked : kind ≢ Sweep → y.own.looked ≡ x.own.looked
   pub again : LooksAgain x y
   pub listed : kind ≢ Sweep → y.own.ephemerons ≡ x.own.ephemerons
   pub room : x.own.ephemerons.room ≤ y.own.ephemerons.room
+  pub swept : kind ≢ Lasts → kind ≢ Sweep → y.own.swept ≡ x.own.swept
+  pub anew : kind ≡ Lasts → y.own.swept ≡ nothing_swept
+  pub all_swept : kind ≡ Sweep → k.pools ≤ y.own.swept.spot.pool
   pub finalisers : kind ≢ Decide → kind ≢ Lasts → y.own.finalisers ≡ x.own.finalisers
   pub decided : kind ≡ Decide → Decided x.own.finalisers y.own.finalisers
   pub last_decided : kind ≡ Lasts → LastsDecided x.own.finalisers y.own.finalisers
   pub registered : count_of y.own.finalisers ≡ count_of x.own.finalisers
-  pub held : (k : Config) → RefersOld k x.own.finalisers → RefersOld k y.own.finalisers
+  pub held : (c : Config) → RefersOld c x.own.finalisers → RefersOld c y.own.finalisers
   pub front : IsFrontOf x.own.number y.seen.front x.seen.front
   pub stays : kind ≢ Clean → kind ≢ Decide → kind ≢ Lasts → y.seen.front ≡ x.seen.front

@@ -1,45 +1,22 @@
 //! How domain 0 goes from one kind of phase to the next.
 ghost use Rattle.std.specs.Prelude.{◌≡◌, ◌<◌, ◌^◌, [], Some};
-ghost use Rattle.heap_rule.specs.declared.phase.Kind.TheVariants.{Run, Promote, Rounds, Sweep};
+ghost use Rattle.heap_rule.specs.declared.phase.Kind.TheVariants.{Run, Promote};
 ghost use Rattle.heap_rule.specs.declared.phase.Note.TheVariants.{SetBack};
 ghost use Rattle.heap_rule.specs.declared.phase.Stage.TheVariants.{Leads};
 ghost use Rattle.heap_rule.specs.declared.view.Hunt.TheVariants.{Rests};
 ghost use Rattle.heap_rule.specs.Phases.{Follows, last_note};
 ghost use Rattle.heap_rule.specs.Token.{IsIn};
 ghost use Rattle.heap_rule.specs.Views.{voided};
-ghost use Rattle.steps_pauses.specs.Pauses.{MayFollow, cut_in, kind_in, whole_after};
+ghost use Rattle.steps_pauses.specs.Pauses.{MayFollow, kind_in};
 ghost use Rattle.steps_pools.specs.Listings.{HasList};
 ghost use Rattle.safepoint.specs.Looks.{LedTo};
-ghost use Rattle.cycle_phases.specs.Leading.{LeadsOn};
+ghost use Rattle.cycle_phases.specs.Leading.{LeadsOn, progress_of};
 
 use crate::opening::open;
+use crate::progress::Progress;
 use heap_rule::{Domain, Heap, Kind};
 use safepoint::{arrive, lead};
 use steps_cycle::changed_clear;
-
-/// Whether the cut of a collection is made once domain 0 has named the kind after this one, by whether
-/// it was made before.
-pub fn cut_after(last: Kind, cut: bool) -> bool
-    ensures { result ≡ cut_in last cut }
-{
-    match last {
-        Kind::Reset | Kind::Roots => false,
-        Kind::Queued => true,
-        _ => cut,
-    }
-}
-
-/// Whether the collection under way began in this pause, once domain 0 has named a kind after another, by
-/// whether the one before did.
-pub fn whole_after(last: Kind, next: Kind, whole: bool) -> bool
-    ensures { result ≡ whole_after last next whole }
-{
-    match (last, next) {
-        (Kind::Reset | Kind::Sweep, Kind::Roots) => true,
-        (Kind::Reset, Kind::Mark) => false,
-        _ => whole,
-    }
-}
 
 // Names the next kind. Where blocks are marked next, nothing is changed so far.
 fn name(heap: &Heap, dom: &mut Domain, next: Kind)
@@ -64,13 +41,18 @@ fn name(heap: &Heap, dom: &mut Domain, next: Kind)
 /// it, and arrives. Answers the kind.
 ///
 /// After Reset a collection of the major heap begins where none goes on, and one is asked for or fewer
-/// than half of the pools are free. Once the roots are marked it goes on beside running domains, unless
-/// a complete one is asked for. One that goes on so is finished in a later pause, where its end or a
-/// complete one is asked for. Blocks are marked until nothing is changed in a whole phase. Where a
-/// complete collection is asked for one that began in this pause is answered after Sweep, and another
-/// one is followed by one that begins in this pause. In Rounds `cut` says whether the cut of the
-/// collection is made, and in Sweep `whole` whether it began in this pause.
-pub fn lead_on(heap: &Heap, dom: &mut Domain, last: Kind, cut: bool, whole: bool) -> Kind
+/// than half of the pools are free; garbage that is left of the last one is freed first, in Sweep. Once
+/// the roots are marked it goes on beside running domains, unless a complete one is asked for. One that
+/// goes on so is finished in a later pause, where its end or a complete one is asked for. Blocks are
+/// marked until nothing is changed in a whole phase. Where no complete collection is asked for it ends
+/// with Lasts, and running domains free its garbage. Else its garbage is freed in Sweep. Then a
+/// collection that began in this pause is answered, and another one is followed by one that begins in
+/// this pause. `progress` says whether the cut of the collection is made, which matters in Rounds;
+/// whether it began in this pause, which matters in Sweep; and whether garbage of the last one is left,
+/// which matters in Reset and Sweep. Afterwards it says so of the kind that is named.
+///
+/// The rule of sweeping beside running domains is of "Retrofitting Parallelism onto OCaml", section 3.2.
+pub fn lead_on(heap: &Heap, dom: &mut Domain, last: Kind, progress: &mut Progress) -> Kind
     requires here { IsIn dom.old heap.now }
     requires first { dom.old.view.own.number ≡ 0 }
     requires odd { dom.old.view.seen.stage ≡ Leads last }
@@ -78,13 +60,14 @@ pub fn lead_on(heap: &Heap, dom: &mut Domain, last: Kind, cut: bool, whole: bool
     requires idle { dom.old.view.seen.made ≡ [] }
     requires few { dom.old.view.own.arrivals < 2 ^ 60 }
     requires forgot { dom.old.view.seen.share ≡ voided dom.old.view.seen.share }
-    requires cut { last ≡ Rounds → cut ≡ dom.old.view.seen.share.cut }
-    requires whole { last ≡ Sweep → whole ≡ dom.old.view.seen.share.whole }
+    requires knows { progress.old ≡ progress_of dom.old.view.seen.share }
     ensures here { IsIn dom.new heap.now }
     ensures leads { LeadsOn heap.now.config dom.old.view dom.new.view last result }
+    ensures knows { progress.new ≡ progress_of dom.new.view.seen.share }
 {
-    let next = open(heap, dom, last, cut, whole);
+    let next = open(heap, dom, last, *progress);
     name(heap, dom, next);
     arrive(heap, dom);
+    *progress = progress.after(last, next);
     next
 }

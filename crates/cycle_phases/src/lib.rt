@@ -5,7 +5,9 @@
 
 mod leading;
 mod opening;
+mod progress;
 mod sharing;
 
-pub use leading::{cut_after, lead_on, whole_after};
+pub use leading::lead_on;
+pub use progress::Progress;
 pub use sharing::{give_back, share};

@@ -7,8 +7,10 @@ ghost use Rattle.heap_rule.specs.Views.{voided};
 ghost use Rattle.steps_cycle.specs.Arming.{ArmMay, knowing_armed};
 ghost use Rattle.steps_pools.specs.Listings.{HasList, IsLeader};
 ghost use Rattle.size_pools.specs.Listed.{Relisted};
-ghost use Rattle.cycle_phases.specs.Leading.{Opens, begins, finishes, kind_after_reset};
+ghost use Rattle.steps_sweep.specs.Turning.{ClearMay};
+ghost use Rattle.cycle_phases.specs.Leading.{CountsCleared, Opens, begins, finishes, kind_after_reset, progress_of};
 
+use crate::progress::Progress;
 use heap_rule::{Config, Domain, Heap, Kind};
 use heap_words::{pack_colours, rotate};
 use safepoint::{Want, Wants, is_wanted, wants};
@@ -61,30 +63,47 @@ fn run_next(heap: &Heap, dom: &mut Domain, armed: bool) -> Kind
 }
 
 // What comes after the minor collection, where so many pools are listed. `armed`: a collection of the
-// major heap goes on beside running domains.
-fn kind_after_reset(limits: &Config, wants: Wants, free: u32, armed: bool) -> Kind
-    ensures { result ≡ kind_after_reset limits.now wants.bits free armed }
+// major heap goes on beside running domains. `unswept`: garbage of the last one may be left.
+fn kind_after_reset(limits: &Config, wants: Wants, free: u32, armed: bool, unswept: bool) -> Kind
+    ensures { result ≡ kind_after_reset limits.now wants.bits free armed unswept }
 {
     match (armed, finishes(wants), begins(limits, wants, free)) {
         (true, true, _) => Kind::Mark,
+        (false, _, true) if unswept => Kind::Sweep,
         (false, _, true) => Kind::Roots,
         _ => Kind::Run,
     }
 }
 
+// Nothing that lives is counted yet.
+fn clear_counts(heap: &Heap, dom: &mut Domain)
+    requires here { IsIn dom.old heap.now }
+    requires may { ClearMay dom.old.view }
+    ensures here { IsIn dom.new heap.now }
+    ensures cleared { CountsCleared dom.old.view dom.new.view }
+{
+    blocks_clear(heap, dom);
+    words_clear(heap, dom);
+}
+
 // The list of free pools is written anew. A collection of the major heap begins or none does; one that
-// goes on is finished or goes on.
-fn after_reset(heap: &Heap, dom: &mut Domain) -> Kind
+// goes on is finished or goes on. Before one begins the garbage that is left of the last one is freed.
+fn after_reset(heap: &Heap, dom: &mut Domain, unswept: bool) -> Kind
     requires here { IsIn dom.old heap.now }
     requires first { dom.old.view.own.number ≡ 0 }
     requires odd { dom.old.view.seen.stage ≡ Leads Reset }
+    requires unswept { unswept ≡ dom.old.view.seen.share.unswept }
     ensures here { IsIn dom.new heap.now }
     ensures opens { Opens heap.now.config dom.old.view dom.new.view Reset result }
 {
     let free = write_list(heap, dom);
     let found = wants(heap, dom);
     let armed = armed_now(heap, dom);
-    kind_after_reset(&heap.config(), found, free, armed)
+    let next = kind_after_reset(&heap.config(), found, free, armed, unswept);
+    if next == Kind::Sweep {
+        clear_counts(heap, dom);
+    }
+    next
 }
 
 // Where a complete collection is asked for it is finished in this pause, and else it goes on beside
@@ -135,7 +154,8 @@ fn after_rounds(heap: &Heap, dom: &mut Domain, cut: bool) -> Kind
     if cut { Kind::Clean } else { Kind::Decide }
 }
 
-// What wasn't marked is garbage from here on, and nothing that lives is counted yet.
+// What wasn't marked is garbage from here on. Where a complete collection is asked for it is freed in
+// this pause, and nothing that lives is counted yet. Else the domains run, and free it as they do.
 fn after_lasts(heap: &Heap, dom: &mut Domain) -> Kind
     requires here { IsIn dom.old heap.now }
     requires first { dom.old.view.own.number ≡ 0 }
@@ -146,26 +166,50 @@ fn after_lasts(heap: &Heap, dom: &mut Domain) -> Kind
 {
     let colours = colours_now(heap, dom);
     colours_store(heap, dom, pack_colours(rotate(colours)));
-    blocks_clear(heap, dom);
-    words_clear(heap, dom);
-    Kind::Sweep
+    let found = wants(heap, dom);
+    if is_wanted(found, Want::Full) {
+        clear_counts(heap, dom);
+        Kind::Sweep
+    } else {
+        run_next(heap, dom, false)
+    }
 }
 
-// Where a complete collection is asked for it is answered, or another begins if this one began in an
-// earlier pause. Else the domains run, and no collection goes on.
-fn after_sweep(heap: &Heap, dom: &mut Domain, whole: bool) -> Kind
+// Once the garbage is freed that was left of the last collection another one begins, or, where none is
+// asked for any more, the domains run.
+fn after_late_sweep(heap: &Heap, dom: &mut Domain) -> Kind
     requires here { IsIn dom.old heap.now }
     requires first { dom.old.view.own.number ≡ 0 }
     requires odd { dom.old.view.seen.stage ≡ Leads Sweep }
-    requires whole { whole ≡ dom.old.view.seen.share.whole }
+    requires unswept { dom.old.view.seen.share.unswept ≡ true }
     ensures here { IsIn dom.new heap.now }
     ensures opens { Opens heap.now.config dom.old.view dom.new.view Sweep result }
 {
+    let free = write_list(heap, dom);
     let found = wants(heap, dom);
-    match (is_wanted(found, Want::Full), whole) {
-        (true, true) => Kind::Answer,
-        (true, false) => Kind::Roots,
-        (false, _) => run_next(heap, dom, false),
+    if begins(&heap.config(), found, free) {
+        Kind::Roots
+    } else {
+        Kind::Run
+    }
+}
+
+// A collection that began in this pause is answered, and after one that began in an earlier pause
+// another begins.
+fn after_sweep(heap: &Heap, dom: &mut Domain, progress: Progress) -> Kind
+    requires here { IsIn dom.old heap.now }
+    requires first { dom.old.view.own.number ≡ 0 }
+    requires odd { dom.old.view.seen.stage ≡ Leads Sweep }
+    requires knows { progress ≡ progress_of dom.old.view.seen.share }
+    ensures here { IsIn dom.new heap.now }
+    ensures opens { Opens heap.now.config dom.old.view dom.new.view Sweep result }
+{
+    if progress.unswept {
+        after_late_sweep(heap, dom)
+    } else if progress.whole {
+        Kind::Answer
+    } else {
+        Kind::Roots
     }
 }
 
@@ -181,28 +225,27 @@ fn after_answer(heap: &Heap, dom: &mut Domain) -> Kind
 }
 
 // Finds which kind comes next, and does what belongs before it.
-pub(crate) fn open(heap: &Heap, dom: &mut Domain, last: Kind, cut: bool, whole: bool) -> Kind
+pub(crate) fn open(heap: &Heap, dom: &mut Domain, last: Kind, progress: Progress) -> Kind
     requires here { IsIn dom.old heap.now }
     requires first { dom.old.view.own.number ≡ 0 }
     requires odd { dom.old.view.seen.stage ≡ Leads last }
     requires forgot { dom.old.view.seen.share ≡ voided dom.old.view.seen.share }
-    requires cut { last ≡ Rounds → cut ≡ dom.old.view.seen.share.cut }
-    requires whole { last ≡ Sweep → whole ≡ dom.old.view.seen.share.whole }
+    requires knows { progress ≡ progress_of dom.old.view.seen.share }
     ensures here { IsIn dom.new heap.now }
     ensures opens { Opens heap.now.config dom.old.view dom.new.view last result }
 {
     match last {
         Kind::Run => after_run(heap, dom),
         Kind::Promote => Kind::Reset,
-        Kind::Reset => after_reset(heap, dom),
+        Kind::Reset => after_reset(heap, dom, progress.unswept),
         Kind::Roots => after_roots(heap, dom),
         Kind::Mark => after_mark(heap, dom),
-        Kind::Rounds => after_rounds(heap, dom, cut),
+        Kind::Rounds => after_rounds(heap, dom, progress.cut),
         Kind::Decide => Kind::Queued,
         Kind::Queued => Kind::Mark,
         Kind::Clean => Kind::Lasts,
         Kind::Lasts => after_lasts(heap, dom),
-        Kind::Sweep => after_sweep(heap, dom, whole),
+        Kind::Sweep => after_sweep(heap, dom, progress),
         Kind::Answer => after_answer(heap, dom),
     }
 }

@@ -1,6 +1,6 @@
 //! What a domain does in the even phases of a collection of the major heap.
 ghost use Rattle.std.specs.Prelude.{◌≡◌, ◌<◌, ◌^◌, [], None};
-ghost use Rattle.heap_rule.specs.declared.phase.Kind.TheVariants.{Answer, Sweep};
+ghost use Rattle.heap_rule.specs.declared.phase.Kind.TheVariants.{Answer, Lasts, Sweep};
 ghost use Rattle.heap_rule.specs.declared.phase.Stage.TheVariants.{In};
 ghost use Rattle.heap_rule.specs.declared.view.Hunt.TheVariants.{Rests};
 ghost use Rattle.heap_rule.specs.Token.{IsIn};
@@ -14,12 +14,27 @@ use finaliser_queues::{darken_queued, decide, last};
 use heap_rule::{Domain, Heap, Kind};
 use mark_slices::{Hints, mark_round, start_roots};
 use safepoint::arrive;
+use steps_sweep::sweep_anew;
 use sweeper::{count_own, return_pools, sweep_own};
+
+// Decides the registrations of `finalise_last`. Once the colours are rotated the domain is to sweep all its
+// pools.
+fn decide_lasts(heap: &Heap, dom: &mut Domain)
+    requires here { IsIn dom.old heap.now }
+    requires stage { dom.old.view.seen.stage ≡ In Lasts }
+    requires forgot { dom.old.view.seen.share ≡ voided dom.old.view.seen.share }
+    ensures here { IsIn dom.new heap.now }
+    ensures works { Works heap.now.config Lasts dom.old.view dom.new.view }
+{
+    last(heap, dom);
+    sweep_anew(heap, dom);
+}
 
 // Frees the garbage of the own pools, and counts what lives there.
 fn sweep_and_count(heap: &Heap, dom: &mut Domain)
     requires here { IsIn dom.old heap.now }
     requires stage { dom.old.view.seen.stage ≡ In Sweep }
+    requires at_rest { dom.old.view.seen.hunt ≡ Rests }
     requires forgot { dom.old.view.seen.share ≡ voided dom.old.view.seen.share }
     ensures here { IsIn dom.new heap.now }
     ensures works { Works heap.now.config Sweep dom.old.view dom.new.view }
@@ -33,6 +48,7 @@ fn work(heap: &Heap, dom: &mut Domain, kind: Kind, hints: &mut Hints)
     requires here { IsIn dom.old heap.now }
     requires phase { IsShared kind }
     requires stage { dom.old.view.seen.stage ≡ In kind }
+    requires at_rest { dom.old.view.seen.hunt ≡ Rests }
     requires forgot { dom.old.view.seen.share ≡ voided dom.old.view.seen.share }
     ensures here { IsIn dom.new heap.now }
     ensures works { Works heap.now.config kind dom.old.view dom.new.view }
@@ -45,7 +61,7 @@ fn work(heap: &Heap, dom: &mut Domain, kind: Kind, hints: &mut Hints)
         Kind::Decide => decide(heap, dom),
         Kind::Queued => darken_queued(heap, dom),
         Kind::Clean => clean(heap, dom),
-        Kind::Lasts => last(heap, dom),
+        Kind::Lasts => decide_lasts(heap, dom),
         Kind::Sweep => sweep_and_count(heap, dom),
         _ => unreachable!(),
     }
@@ -60,11 +76,12 @@ fn work(heap: &Heap, dom: &mut Domain, kind: Kind, hints: &mut Hints)
 /// module `Gc`). So in Queued it marks what its queue keeps alive. In Clean it empties the keys that
 /// aren't marked of its marked ephemerons, and their data. In Lasts it queues those of its registrations
 /// of `finalise_last` whose blocks aren't marked, the newest first: these blocks are unreachable for the
-/// last time. In Sweep it frees the garbage of its own pools, which it takes off its list of ephemerons
-/// first, and counts what lives there. All that it owns stays as it was but the number of its arrivals;
-/// where it sweeps, from where it looks for free places, and its list of ephemerons, in which there is
-/// room for no fewer; and, where registrations are decided, its lists of finalisers, of which none is
-/// lost and none comes up. Its front stays but where registrations are decided and where keys are
+/// last time. There it notes too that it has swept nothing, for the colours are rotated next. In Sweep it
+/// frees the garbage that is left in its own pools, which it takes off its list of ephemerons first, and
+/// counts what lives there. All that it owns stays as it was but the number of its arrivals; where it
+/// sweeps, from where it looks for free places, and its list of ephemerons, in which there is room for no
+/// fewer; what it has swept; and, where registrations are decided, its lists of finalisers, of which none
+/// is lost and none comes up. Its front stays but where registrations are decided and where keys are
 /// emptied, and grows there by no entry of its own.
 pub fn share(heap: &Heap, dom: &mut Domain, kind: Kind, hints: &mut Hints)
     requires here { IsIn dom.old heap.now }
@@ -75,7 +92,7 @@ pub fn share(heap: &Heap, dom: &mut Domain, kind: Kind, hints: &mut Hints)
     requires few { dom.old.view.own.arrivals < 2 ^ 60 }
     requires forgot { dom.old.view.seen.share ≡ voided dom.old.view.seen.share }
     ensures here { IsIn dom.new heap.now }
-    ensures shares { SharesIn kind dom.old.view dom.new.view }
+    ensures shares { SharesIn heap.now.config kind dom.old.view dom.new.view }
     ensures notes { NotesOn hints.old hints.new }
 {
     work(heap, dom, kind, hints);

@@ -1,5 +1,5 @@
 -- How a domain stands before its first command.
-use Rattle.std.proofs.Common.{◌≡◌, ◌∙◌, ℕ, ◌/◌, ◌+◌, ◌%◌, ◌<◌, ◌≤◌, zero, suc, true, false, length, List, Option, None, replicate, ap, refl, arith}
+use Rattle.std.proofs.Common.{◌≡◌, ◌∙◌, ℕ, ◌/◌, ◌+◌, ◌%◌, ◌<◌, ◌≤◌, zero, suc, true, false, length, List, Option, None, replicate, ap, refl, sym, arith}
 use Rattle.std.specs.Prelude.{slice_index_or}
 use Rattle.heap_model.specs.declared.command.Command.{Command}
 use Rattle.heap_model.specs.Domains.{class_count, opening_domain, no_domain}
@@ -9,6 +9,7 @@ use Rattle.heap_rule.specs.Phases.{IsEven}
 use Rattle.heap_rule.specs.Pools.{prepared_at}
 use Rattle.heap_rule.specs.Token.{Token, SharedHeap}
 use Rattle.steps_finalisers.specs.Registering.{count_of}
+use Rattle.cycle_phases.specs.Leading.{no_collection}
 use Rattle.domain_turns.specs.Runs.{AllFit, CanBegin, IsBetween, ephemerons_in, registrations_in}
 
 nothing_prepared : (n class : ℕ) → ◌≡◌ {A = Option ℕ} (slice_index_or (replicate n None) class None) None
@@ -19,7 +20,7 @@ nothing_prepared (suc n) (suc class) = nothing_prepared n class
 even_rest : (n : ℕ) → n % 2 ≡ 0 → IsEven n
 even_rest n rest = (n / 2, omega arith)
 
-pub begins_between : (t : Token) (cs : List Command) → CanBegin t cs → IsBetween None None false false true t
+pub begins_between : (t : Token) (cs : List Command) → CanBegin t cs → IsBetween None None false no_collection t
 begins_between t cs can = record {
   stands = can.acts.runs;
   quiet = record { quiet = can.quiet; no_copies = can.no_copies; unprepared = λ class _. ap (λ l. prepared_at l class) can.unprepared ∙ nothing_prepared class_count class; paid = can.acts.paid };
@@ -28,8 +29,7 @@ begins_between t cs can = record {
   emptied = λ _ served. cc;
   has_left = λ known left. cc;
   fresh = λ e. cc;
-  knows_cut = λ known left. cc;
-  knows_whole = λ known left. cc;
+  knows = λ _. sym can.none_began;
 }
 
 -- no finaliser is registered so far, and each that the commands register may answer once
@@ -70,4 +70,5 @@ opening_begins h k d cs inside few fit room enlists = record {
   quiet = refl;
   no_copies = refl;
   unprepared = refl;
+  none_began = refl;
 }

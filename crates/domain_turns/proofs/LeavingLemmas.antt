@@ -1,7 +1,8 @@
 -- What the look of a domain that has arrived leaves of its run.
-use Rattle.std.proofs.Common.{◌≡◌, ◌≢◌, ◌∙◌, ℕ, ◌+◌, ◌<◌, ◌≤◌, Bool, true, List, Option, Some, refl, sym, ap, subst, inl, ⊎_elim, arith}
+use Rattle.std.proofs.Common.{◌≡◌, ◌≢◌, ◌∙◌, ℕ, ◌+◌, ◌<◌, ◌≤◌, Bool, true, List, Option, Some, None, refl, sym, ap, subst, inl, ⊎_elim, arith}
 use Rattle.heap_model.specs.declared.entry.Entry.{Entry}
 use Rattle.heap_model.specs.declared.entry.Entry.TheVariants.{Collected}
+use Rattle.heap_model.specs.declared.reply.Reply.{Reply}
 use Rattle.heap_model.specs.declared.state.State as model
 use Rattle.heap_model.specs.declared.state.Mode.TheVariants.{Answer as AnswerMode}
 use Rattle.heap_model.specs.Domains.{opening}
@@ -21,15 +22,16 @@ use Rattle.heap_rule.specs.Rule.{state_of}
 use Rattle.heap_rule.specs.Standing.{with_front}
 use Rattle.heap_rule.specs.Token.{Token, SharedHeap, IsIn}
 use Rattle.heap_rule.specs.Views.{fresh_share}
-use Rattle.steps_pauses.specs.Pauses.{kind_in, arrived_view, noted, cut_in, entry_of, whole_after, EndsWith, IsModeOf}
+use Rattle.steps_pauses.specs.Pauses.{kind_in, arrived_view, noted, cut_in, entry_of, unswept_after, whole_after, EndsWith, IsModeOf}
 use Rattle.steps_promote.specs.Promotion.{reset_view}
 use Rattle.safepoint.specs.Looks.{Passed}
-use Rattle.cycle_phases.specs.Sharing.{IsShared, SharesIn, with_shared}
-use Rattle.cycle_phases.specs.Leading.{LeadsOn}
+use Rattle.cycle_phases.specs.declared.progress.Progress.{Progress}
+use Rattle.cycle_phases.specs.Sharing.{SharesIn, with_shared}
+use Rattle.cycle_phases.specs.Leading.{LeadsOn, progress_of}
 use Rattle.heap_rule.specs.declared.view.Finalisers.{Finalisers}
 use Rattle.steps_finalisers.specs.Registering.{count_of}
 use Rattle.domain_turns.specs.Tries.{IsFresh}
-use Rattle.domain_turns.specs.Pausing.{IsQuiet, IsPast, IsReady, HasLeft, IsMarking, KnowsAnswer, KnowsCut, KnowsWhole, LeavesEven, LeavesOdd, ComesToAnswer, GivesBack, knowing_blocks}
+use Rattle.domain_turns.specs.Pausing.{IsQuiet, IsPast, IsReady, HasLeft, KnowsAnswer, KnowsProgress, LeavesEven, LeavesOdd, ComesToAnswer, GivesBack, AnswersFrom, knowing_blocks}
 use Rattle.domain_turns.specs.Runs.{IsBetween, Passes}
 use Rattle.domain_turns.proofs.Moving.{Moves, view_moves}
 use Rattle.domain_turns.proofs.Owing.{bare_count}
@@ -95,7 +97,7 @@ begun_leaves k x b y z kind p s is stage =
 same_self : (b : DomainView) → Same b b
 same_self b = record { number = refl; serial = refl; room = no_less b.own.ephemerons.room; listed = refl; arrivals = refl; made = refl; hunt = λ at_rest. at_rest; front = front_whole b.own.number b.seen.front }
 
-shares_leaves : (k : Config) (x b y : DomainView) (kind : Kind) → Passed k x b → b.seen.stage ≡ In kind → SharesIn kind b y → Leaves x y kind
+shares_leaves : (k : Config) (x b y : DomainView) (kind : Kind) → Passed k x b → b.seen.stage ≡ In kind → SharesIn k kind b y → Leaves x y kind
 shares_leaves k x b y kind p stage l =
     begun_leaves k x b y (with_shared b y) kind p (record { number = refl; serial = refl; room = l.room; listed = l.registered; arrivals = refl; made = refl; hunt = λ at_rest. at_rest; front = l.front }) l.view (ap kind_in stage)
 
@@ -128,7 +130,7 @@ even_leaves k x b y Sweep p stage l = shares_leaves k x b y Sweep p stage l
 
 -- the view that domain 0 arrives from when it has named a kind
 abbrev leading_view : DomainView → DomainView → Kind → Kind → DomainView
-leading_view b y last kind = record b { seen = record b.seen { front = y.seen.front; notes = y.seen.notes; stage = Led kind; share = record fresh_share { cut = cut_in last b.seen.share.cut; whole = whole_after last kind b.seen.share.whole } } }
+leading_view b y last kind = record b { seen = record b.seen { front = y.seen.front; notes = y.seen.notes; stage = Led kind; share = record fresh_share { cut = cut_in last b.seen.share.cut; whole = whole_after last kind b.seen.share.whole; unswept = unswept_after last kind b.seen.share.unswept } } }
 
 odd_leaves : (k : Config) (x b y : DomainView) (last kind : Kind) → Passed k x b → b.seen.stage ≡ Leads last → LeavesOdd k b y last kind → Leaves x y kind
 odd_leaves k x b y last kind p stage l = ⊎_elim
@@ -156,7 +158,7 @@ leads_ready k b y last kind inside l past =
       follows = l.follows;
       past = past_as k last b y (keeps_as b y _ l.view refl refl refl refl (same_held b)) (arrived_void y (leading_view b y last kind) l.view) knows past;
       fresh = λ e. let swept : last ≡ Sweep = before_answer last (subst (Follows last) e l.follows) in
-          knows swept (collected_mode k b y (l.made Collected (ap (λ (c : Kind). entry_of c kind) swept ∙ ap (entry_of Sweep) e)));
+          knows swept (collected_mode k b y (l.made Collected (ap (λ (c : Kind). entry_of b.seen.share.unswept c kind) swept ∙ ap (entry_of b.seen.share.unswept Sweep) e)));
     }
 
 -- what the domain then remembers and holds
@@ -194,112 +196,35 @@ passes_quiet k x y last kind p quiet =
     odd.2)
     p.share
 
--- a phase of marking goes by the cut of the one before
-marks_cut : (last kind : Kind) (cut known : Bool) → Follows last kind → IsMarking kind → (IsMarking last → cut ≡ known) → cut_in last cut ≡ cut_in last known
-marks_cut Run kind cut known f is same = absurd (subst IsMarking f is)
-marks_cut Promote kind cut known f is same = absurd (subst IsMarking f is)
-marks_cut Reset kind cut known f is same = refl
-marks_cut Roots kind cut known f is same = refl
-marks_cut Mark kind cut known f is same = same tt
-marks_cut Rounds kind cut known f is same = same tt
-marks_cut Decide kind cut known f is same = absurd (subst IsMarking f is)
-marks_cut Queued kind cut known f is same = refl
-marks_cut Clean kind cut known f is same = absurd (subst IsMarking f is)
-marks_cut Lasts kind cut known f is same = absurd (subst IsMarking f is)
-marks_cut Sweep kind cut known f is same = absurd (⊎_elim (λ (e : kind ≡ Run). subst IsMarking e is) (⊎_elim (λ (e : kind ≡ Answer). subst IsMarking e is) (λ (e : kind ≡ Roots). subst IsMarking e is)) f)
-marks_cut Answer kind cut known f is same = absurd (subst IsMarking f is)
+-- who keeps how far a collection has come still does where that hasn't changed
+pub knows_on : (x y : DomainView) (p : Progress) → y.own.number ≡ x.own.number → progress_of y.seen.share ≡ progress_of x.seen.share → KnowsProgress p x → KnowsProgress p y
+knows_on x y p number same knows first = knows (sym number ∙ first) ∙ sym same
 
--- in such a phase the domain keeps what it knows of the cut
-even_cut : (k : Config) (kind : Kind) (b y : DomainView) → IsMarking kind → LeavesEven k kind b y → y.seen.share.cut ≡ b.seen.share.cut
-even_cut k Mark b y is l = ap (λ (v : DomainView). v.seen.share.cut) l.view
-even_cut k Rounds b y is l = ap (λ (v : DomainView). v.seen.share.cut) l.view
-even_cut k _ b y is l = absurd is
+pub looked_knows : (k : Config) (x y : DomainView) (p : Progress) → Passed k x y → KnowsProgress p x → KnowsProgress p y
+looked_knows k x y p passed = knows_on x y p (ap (λ (v : DomainView). v.own.number) passed.view) (ap (λ (v : DomainView). progress_of v.seen.share) passed.view)
 
-stays_cut : (kind : Kind) (cut : Bool) → IsMarking kind → cut_in kind cut ≡ cut
-stays_cut Mark cut is = refl
-stays_cut Rounds cut is = refl
-stays_cut _ cut is = absurd is
+-- in an even phase it hasn't
+even_progress : (k : Config) (kind : Kind) (b y : DomainView) → LeavesEven k kind b y → progress_of y.seen.share ≡ progress_of b.seen.share
+even_progress k Run b y l = absurd l
+even_progress k Promote b y l = ap (λ (v : DomainView). progress_of v.seen.share) l.view ∙ ap (λ (v : DomainView). progress_of v.seen.share) l.shared.view
+even_progress k Reset b y l = ap (λ (v : DomainView). progress_of v.seen.share) l.view
+even_progress k Answer b y l = absurd l
+even_progress k Roots b y l = ap (λ (v : DomainView). progress_of v.seen.share) l.view
+even_progress k Mark b y l = ap (λ (v : DomainView). progress_of v.seen.share) l.view
+even_progress k Rounds b y l = ap (λ (v : DomainView). progress_of v.seen.share) l.view
+even_progress k Decide b y l = ap (λ (v : DomainView). progress_of v.seen.share) l.view
+even_progress k Queued b y l = ap (λ (v : DomainView). progress_of v.seen.share) l.view
+even_progress k Clean b y l = ap (λ (v : DomainView). progress_of v.seen.share) l.view
+even_progress k Lasts b y l = ap (λ (v : DomainView). progress_of v.seen.share) l.view
+even_progress k Sweep b y l = ap (λ (v : DomainView). progress_of v.seen.share) l.view
 
-passes_cut : (k : Config) (x y : DomainView) (last kind : Kind) (cut : Bool) → Passes k x y last kind → KnowsCut last cut x → KnowsCut kind (cut_in last cut) y
-passes_cut k x y last kind cut p knows is first =
-    let l = passes_leaves k x y last kind p in
-    let zero_is : x.own.number ≡ 0 = sym l.number ∙ first in
-    let same : p.begun.seen.share.cut ≡ x.seen.share.cut = ap (λ (z : DomainView). z.seen.share.cut) p.passed.view in ⊎_elim
-    (λ (even : IsEven x.own.arrivals × (p.begun.seen.stage ≡ In kind) × Comes x.own.number last kind × IsModeOf kind (state_of k p.begun.seen.front).mode × LeavesEven k kind p.begun y).
-    let here : kind ≡ last = even.2.0 zero_is in
-    let marking : IsMarking last = subst IsMarking here is in
-    stays_cut last cut marking ∙ (knows marking zero_is ∙ sym (even_cut k kind p.begun y is even.4 ∙ same)))
-    (λ (odd : IsOdd x.own.arrivals × (p.begun.seen.stage ≡ Leads last) × LeavesOdd k p.begun y last kind). ⊎_elim
-    (λ (leads : (p.begun.own.number ≡ 0) × LeadsOn k p.begun y last kind).
-    marks_cut last kind cut p.begun.seen.share.cut leads.1.follows is (λ marking. knows marking zero_is ∙ sym same) ∙ sym (ap (λ (v : DomainView). v.seen.share.cut) leads.1.view))
-    (λ (follows : (p.begun.own.number ≢ 0) × (kind ≡ last) × (y ≡ arrived_view p.begun)). absurd (follows.0 (ap (λ (z : DomainView). z.own.number) p.passed.view ∙ zero_is)))
-    odd.2)
-    p.share
+pub even_knows : (k : Config) (kind : Kind) (x b y : DomainView) (p : Progress) → Passed k x b → b.seen.stage ≡ In kind → LeavesEven k kind b y → KnowsProgress p x → KnowsProgress p y
+even_knows k kind x b y p passed stage l knows = knows_on b y p (sym (ap (λ (v : DomainView). v.own.number) passed.view ∙ sym (even_leaves k x b y kind passed stage l).number)) (even_progress k kind b y l) (looked_knows k x b p passed knows)
 
--- a phase of a collection goes by whether the one before knew it to have begun in this pause
-shares_whole : (last kind : Kind) (whole known : Bool) → Follows last kind → IsShared kind → (IsShared last → whole ≡ known) → whole_after last kind whole ≡ whole_after last kind known
-shares_whole Run kind whole known f is same = absurd (subst IsShared f is)
-shares_whole Promote kind whole known f is same = absurd (subst IsShared f is)
-shares_whole Reset kind whole known f is same = ⊎_elim
-    (λ (e : kind ≡ Run). absurd (subst IsShared e is))
-    (⊎_elim
-    (λ (e : kind ≡ Roots). subst (λ (c : Kind). whole_after Reset c whole ≡ whole_after Reset c known) (sym e) refl)
-    (λ (e : kind ≡ Mark). subst (λ (c : Kind). whole_after Reset c whole ≡ whole_after Reset c known) (sym e) refl))
-    f
-shares_whole Answer kind whole known f is same = absurd (subst IsShared f is)
-shares_whole Roots kind whole known f is same = ap (whole_after Roots kind) (same tt)
-shares_whole Mark kind whole known f is same = ap (whole_after Mark kind) (same tt)
-shares_whole Rounds kind whole known f is same = ap (whole_after Rounds kind) (same tt)
-shares_whole Decide kind whole known f is same = ap (whole_after Decide kind) (same tt)
-shares_whole Queued kind whole known f is same = ap (whole_after Queued kind) (same tt)
-shares_whole Clean kind whole known f is same = ap (whole_after Clean kind) (same tt)
-shares_whole Lasts kind whole known f is same = ap (whole_after Lasts kind) (same tt)
-shares_whole Sweep kind whole known f is same = ap (whole_after Sweep kind) (same tt)
-
--- in such a phase the domain keeps what it knows of it
-even_whole : (k : Config) (kind : Kind) (b y : DomainView) → IsShared kind → LeavesEven k kind b y → y.seen.share.whole ≡ b.seen.share.whole
-even_whole k Run b y is l = absurd is
-even_whole k Promote b y is l = absurd is
-even_whole k Reset b y is l = absurd is
-even_whole k Answer b y is l = absurd is
-even_whole k Roots b y is l = ap (λ (v : DomainView). v.seen.share.whole) l.view
-even_whole k Mark b y is l = ap (λ (v : DomainView). v.seen.share.whole) l.view
-even_whole k Rounds b y is l = ap (λ (v : DomainView). v.seen.share.whole) l.view
-even_whole k Decide b y is l = ap (λ (v : DomainView). v.seen.share.whole) l.view
-even_whole k Queued b y is l = ap (λ (v : DomainView). v.seen.share.whole) l.view
-even_whole k Clean b y is l = ap (λ (v : DomainView). v.seen.share.whole) l.view
-even_whole k Lasts b y is l = ap (λ (v : DomainView). v.seen.share.whole) l.view
-even_whole k Sweep b y is l = ap (λ (v : DomainView). v.seen.share.whole) l.view
-
-stays_whole : (kind : Kind) (whole : Bool) → IsShared kind → whole_after kind kind whole ≡ whole
-stays_whole Run whole is = absurd is
-stays_whole Promote whole is = absurd is
-stays_whole Reset whole is = absurd is
-stays_whole Answer whole is = absurd is
-stays_whole Roots whole is = refl
-stays_whole Mark whole is = refl
-stays_whole Rounds whole is = refl
-stays_whole Decide whole is = refl
-stays_whole Queued whole is = refl
-stays_whole Clean whole is = refl
-stays_whole Lasts whole is = refl
-stays_whole Sweep whole is = refl
-
-passes_whole : (k : Config) (x y : DomainView) (last kind : Kind) (whole : Bool) → Passes k x y last kind → KnowsWhole last whole x → KnowsWhole kind (whole_after last kind whole) y
-passes_whole k x y last kind whole p knows is first =
-    let l = passes_leaves k x y last kind p in
-    let zero_is : x.own.number ≡ 0 = sym l.number ∙ first in
-    let same : p.begun.seen.share.whole ≡ x.seen.share.whole = ap (λ (z : DomainView). z.seen.share.whole) p.passed.view in ⊎_elim
-    (λ (even : IsEven x.own.arrivals × (p.begun.seen.stage ≡ In kind) × Comes x.own.number last kind × IsModeOf kind (state_of k p.begun.seen.front).mode × LeavesEven k kind p.begun y).
-    let here : kind ≡ last = even.2.0 zero_is in
-    let shared : IsShared last = subst IsShared here is in
-    ap (λ (c : Kind). whole_after last c whole) here ∙ (stays_whole last whole shared ∙ (knows shared zero_is ∙ sym (even_whole k kind p.begun y is even.4 ∙ same))))
-    (λ (odd : IsOdd x.own.arrivals × (p.begun.seen.stage ≡ Leads last) × LeavesOdd k p.begun y last kind). ⊎_elim
-    (λ (leads : (p.begun.own.number ≡ 0) × LeadsOn k p.begun y last kind).
-    shares_whole last kind whole p.begun.seen.share.whole leads.1.follows is (λ shared. knows shared zero_is ∙ sym same) ∙ sym (ap (λ (v : DomainView). v.seen.share.whole) leads.1.view))
-    (λ (follows : (p.begun.own.number ≢ 0) × (kind ≡ last) × (y ≡ arrived_view p.begun)). absurd (follows.0 (ap (λ (z : DomainView). z.own.number) p.passed.view ∙ zero_is)))
-    odd.2)
-    p.share
+-- nor where a collection is answered
+pub answer_knows : (k : Config) (b y : DomainView) (live : Bool) (blocks : ℕ) (o : Option Reply) (p : Progress) → AnswersFrom k b y live blocks o → KnowsProgress p b → KnowsProgress p y
+answer_knows k b y live blocks None p a = knows_on b y p (ap (λ (v : DomainView). v.own.number) a.1) (ap (λ (v : DomainView). progress_of v.seen.share) a.1)
+answer_knows k b y live blocks (Some reply) p a = knows_on b y p (ap (λ (v : DomainView). v.own.number) a.1.2 ∙ ap (λ (v : DomainView). v.own.number) a.1.1.view) (ap (λ (v : DomainView). progress_of v.seen.share) a.1.2 ∙ ap (λ (v : DomainView). progress_of v.seen.share) a.1.1.view)
 
 -- who comes to a phase in which a collection is answered, and leaves it with this front
 answer_past : (k : Config) (x begun y : DomainView) (front : List Entry) → ComesToAnswer k x begun → y ≡ arrived_view (with_front begun front) → HasLeft k Answer y
@@ -310,9 +235,9 @@ answer_past k x begun y front c is =
     }
 
 -- its run stands between two turns then
-pub answer_between : (h : SharedHeap) (x begun : DomainView) (new : Token) (front : List Entry) (asked : Option ℕ) (collected cut whole : Bool) → IsIn new h → IsQuiet x → ComesToAnswer h.config x begun
-    → new.view ≡ arrived_view (with_front begun front) → (collected ≡ true → IsFresh h.config new.view) → IsBetween (Some Answer) asked collected cut whole new
-answer_between h x begun new front asked collected cut whole i quiet c is fresh = record {
+pub answer_between : (h : SharedHeap) (x begun : DomainView) (new : Token) (front : List Entry) (asked : Option ℕ) (collected : Bool) (progress : Progress) → IsIn new h → IsQuiet x → ComesToAnswer h.config x begun
+    → new.view ≡ arrived_view (with_front begun front) → (collected ≡ true → IsFresh h.config new.view) → KnowsProgress progress new.view → IsBetween (Some Answer) asked collected progress new
+answer_between h x begun new front asked collected progress i quiet c is fresh knows = record {
   stands = ap (λ (v : DomainView). v.seen.stage) is ∙ ap Gone (ap kind_in c.stage);
   quiet = arrived_quiet (with_front begun front) new.view is (looked_quiet h.config x begun c.passed quiet).unprepared;
   even = λ none. cc;
@@ -320,8 +245,7 @@ answer_between h x begun new front asked collected cut whole i quiet c is fresh 
   emptied = λ none. cc;
   has_left = λ known e. subst (λ (kind : Kind). HasLeft new.config kind new.view) (some_injective Answer known e) (subst (λ (k : Config). HasLeft k Answer new.view) (sym i.1) (answer_past h.config x begun new.view front c is));
   fresh = λ e. subst (λ (k : Config). IsFresh k new.view) (sym i.1) (fresh e);
-  knows_cut = λ known e marking. absurd (subst IsMarking (sym (some_injective Answer known e)) marking);
-  knows_whole = λ known e shared. absurd (subst IsShared (sym (some_injective Answer known e)) shared);
+  knows = knows;
 }
 
 pub gives_moves : (h : SharedHeap) (old new : Token) (blocks : ℕ) → IsIn old h → IsIn new h → GivesBack h.config old.view new.view blocks → Moves old new
@@ -329,9 +253,9 @@ gives_moves h old new blocks a i g =
     let number : g.begun.own.number ≡ old.view.own.number = ap (λ (z : DomainView). z.own.number) g.comes.passed.view in
     view_moves h old new (arrived_view (knowing_blocks g.begun blocks)) a i g.view number (ap (λ (z : DomainView). z.own.serial) g.comes.passed.view) (ap (λ (z : DomainView). z.own.ephemerons) g.comes.passed.view) (ap (λ (z : DomainView). z.own.finalisers) g.comes.passed.view) (ap (λ (z : DomainView). z.seen.made) g.comes.passed.view) (ap (λ (z : DomainView). z.seen.hunt) g.comes.passed.view) g.comes.passed.seen
 
-pub gives_between : (h : SharedHeap) (old new : Token) (blocks : ℕ) (asked : Option ℕ) (collected cut whole : Bool) → IsIn new h → IsQuiet old.view → GivesBack h.config old.view new.view blocks → IsBetween (Some Answer) asked collected cut whole new
-gives_between h old new blocks asked collected cut whole i quiet g = answer_between h old.view g.begun new g.begun.seen.front asked collected cut whole i quiet g.comes g.view
-    (λ _. subst (IsFresh h.config) (sym g.view) (g.comes.ready.fresh refl))
+pub gives_between : (h : SharedHeap) (old new : Token) (blocks : ℕ) (asked : Option ℕ) (collected : Bool) (progress : Progress) → IsIn new h → IsQuiet old.view → GivesBack h.config old.view new.view blocks → KnowsProgress progress new.view → IsBetween (Some Answer) asked collected progress new
+gives_between h old new blocks asked collected progress i quiet g knows = answer_between h old.view g.begun new g.begun.seen.front asked collected progress i quiet g.comes g.view
+    (λ _. subst (IsFresh h.config) (sym g.view) (g.comes.ready.fresh refl)) knows
 
 pub passes_moves : (h : SharedHeap) (old new : Token) (before kind : Kind) → IsIn old h → IsIn new h → Passes h.config old.view new.view before kind → Moves old new
 passes_moves h old new before kind a i says =
@@ -348,9 +272,9 @@ passes_moves h old new before kind a i says =
     }
 
 -- a run of which nothing but the domain's view has changed stays between two turns
-pub passes_between : (h : SharedHeap) (old new : Token) (before kind : Kind) (asked : Option ℕ) (collected cut whole : Bool) → old.view.own.number < old.config.domains → IsIn old h → IsIn new h → IsBetween (Some before) asked collected cut whole old
-    → Passes h.config old.view new.view before kind → IsBetween (Some kind) asked collected (cut_in before cut) (whole_after before kind whole) new
-passes_between h old new before kind asked collected cut whole inside a i is says = record {
+pub passes_between : (h : SharedHeap) (old new : Token) (before kind : Kind) (asked : Option ℕ) (collected : Bool) (progress later : Progress) → old.view.own.number < old.config.domains → IsIn old h → IsIn new h → IsBetween (Some before) asked collected progress old
+    → Passes h.config old.view new.view before kind → KnowsProgress later new.view → IsBetween (Some kind) asked collected later new
+passes_between h old new before kind asked collected progress later inside a i is says knows = record {
   stands = (passes_leaves h.config old.view new.view before kind says).stage;
   quiet = passes_quiet h.config old.view new.view before kind says is.quiet;
   even = λ none. cc;
@@ -360,13 +284,12 @@ passes_between h old new before kind asked collected cut whole inside a i is say
       (subst (λ (k : Config). HasLeft k kind new.view) (sym i.1) (passes_past h.config old.view new.view before kind (subst (λ (k : Config). old.view.own.number < k.domains) a.1 inside) says (subst (λ (k : Config). HasLeft k before old.view) a.1 (is.has_left before refl))));
   fresh = λ e. let l = passes_leaves h.config old.view new.view before kind says in
       subst (λ (k : Config). IsFresh k new.view) (sym i.1) (fresh_on h.config old.view new.view l.number l.front (subst (λ (k : Config). IsFresh k old.view) a.1 (is.fresh e)));
-  knows_cut = λ known e. subst (λ (c : Kind). KnowsCut c (cut_in before cut) new.view) (some_injective kind known e) (passes_cut h.config old.view new.view before kind cut says (is.knows_cut before refl));
-  knows_whole = λ known e. subst (λ (c : Kind). KnowsWhole c (whole_after before kind whole) new.view) (some_injective kind known e) (passes_whole h.config old.view new.view before kind whole says (is.knows_whole before refl));
+  knows = knows;
 }
 
-pub waits_between : (h : SharedHeap) (old new : Token) (before : Kind) (asked : Option ℕ) (collected cut whole : Bool) (b : ℕ) → IsIn old h → IsIn new h → IsBetween (Some before) asked collected cut whole old → new.view ≡ noted old.view (Barrier b)
-    → IsBetween (Some before) asked collected cut whole new
-waits_between h old new before asked collected cut whole b a i is says =
+pub waits_between : (h : SharedHeap) (old new : Token) (before : Kind) (asked : Option ℕ) (collected : Bool) (progress later : Progress) (b : ℕ) → IsIn old h → IsIn new h → IsBetween (Some before) asked collected progress old → new.view ≡ noted old.view (Barrier b)
+    → KnowsProgress later new.view → IsBetween (Some before) asked collected later new
+waits_between h old new before asked collected progress later b a i is says knows =
     let config : new.config ≡ old.config = i.1 ∙ sym a.1 in record {
       stands = ap (λ (x : DomainView). x.seen.stage) says ∙ is.stands;
       quiet = quiet_as old.view new.view (ap (λ (x : DomainView). x.seen.copying) says) (ap (λ (x : DomainView). x.own.pending) says) (ap (λ (x : DomainView). x.own.prepared) says) (ap (λ (x : DomainView). x.seen.share.weak) says) is.quiet;
@@ -375,8 +298,7 @@ waits_between h old new before asked collected cut whole b a i is says =
       emptied = λ none. cc;
       has_left = λ known e. subst (λ (z : Config × DomainView). HasLeft z.0 known z.1) (λ j. (sym config j, sym says j)) (noted_left old.config known old.view b (is.has_left known e));
       fresh = λ e. subst (λ (z : Config × DomainView). IsFresh z.0 z.1) (λ j. (sym config j, sym says j)) (is.fresh e);
-      knows_cut = λ known e. subst (KnowsCut known cut) (sym says) (is.knows_cut known e);
-      knows_whole = λ known e. subst (KnowsWhole known whole) (sym says) (is.knows_whole known e);
+      knows = knows;
     }
   where
     noted_past : (k : Config) (kind : Kind) (x : DomainView) (n : ℕ) → IsPast k kind x → IsPast k kind (noted x (Barrier n))

@@ -16,6 +16,7 @@ use Rattle.heap_rule.specs.Token.{Token, SharedHeap, IsIn}
 use Rattle.heap_rule.specs.declared.view.Hunt.TheVariants.{Rests}
 use Rattle.heap_rule.specs.declared.view.Finalisers.{Finalisers}
 use Rattle.steps_finalisers.specs.Registering.{count_of}
+use Rattle.cycle_phases.specs.declared.progress.Progress.{Progress}
 use Rattle.domain_turns.specs.Pausing.{due_of}
 use Rattle.mark_slices.specs.Decks.{Counts, StaysDeck}
 use Rattle.mark_slices.specs.Slices.{IsDeckOf}
@@ -52,8 +53,8 @@ same_room a b is = let rooms : b.room ≡ a.room = ap (λ (l : Bounded ℕ). l.r
 pub deck_on : (r : RunView) (new : Token) (hints : Counts) → new.view.own.number ≡ r.token.view.own.number → new.config ≡ r.token.config → StaysDeck r.hints hints → IsDeckOf r.token.config r.token.view r.hints → IsDeckOf new.config new.view hints
 deck_on r new hints number config stays is = record { number = stays.number ∙ (is.number ∙ sym number); domains = stays.domains ∙ (is.domains ∙ ap (λ (c : Config). c.domains) (sym config)) }
 
-pub moved_is_run : (r : RunView) (new : Token) (left : Option Kind) (asked : Option ℕ) (collected cut whole : Bool) (hints : Counts) → IsRun r → StaysDeck r.hints hints → Moves r.token new → IsBetween left asked collected cut whole new → IsRun (record r { token = new; left = left; asked = asked; collected = collected; cut = cut; whole = whole; hints = hints })
-moved_is_run r new left asked collected cut whole hints is stays m between =
+pub moved_is_run : (r : RunView) (new : Token) (left : Option Kind) (asked : Option ℕ) (collected : Bool) (progress : Progress) (hints : Counts) → IsRun r → StaysDeck r.hints hints → Moves r.token new → IsBetween left asked collected progress new → IsRun (record r { token = new; left = left; asked = asked; collected = collected; progress = progress; hints = hints })
+moved_is_run r new left asked collected progress hints is stays m between =
     let d : ℕ = r.token.view.own.number in
     let k : Config = r.token.config in
     let old : List Entry = r.token.view.seen.front in
@@ -89,7 +90,7 @@ moved_is_run r new left asked collected cut whole hints is stays m between =
 pub token_is : (h : SharedHeap) (old new : Token) (view : DomainView) → IsIn old h → IsIn new h → new.view ≡ view → new ≡ record old { view = view }
 token_is h old new view a b is = λ i. record { table = (b.0 ∙ sym a.0) i; config = (b.1 ∙ sym a.1) i; view = is i }
 
-same_front : (d : ℕ) (front : List Entry) → IsFrontOf d front front
+pub same_front : (d : ℕ) (front : List Entry) → IsFrontOf d front front
 same_front d front = record { rest = []; appends = sym (append-nil front); others = refl }
 
 -- the domain moved to a view with the same number, labels, listed ephemerons, finalisers and block in the making

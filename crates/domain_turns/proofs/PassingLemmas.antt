@@ -17,11 +17,12 @@ use Rattle.heap_rule.specs.Limits.{sizes_in}
 use Rattle.heap_rule.specs.Phases.{Comes, IsEven}
 use Rattle.heap_rule.specs.Rule.{state_of}
 use Rattle.heap_rule.specs.Token.{Token, SharedHeap, IsIn}
-use Rattle.steps_pauses.specs.Pauses.{arrived_view, noted, cut_in, whole_after, IsModeOf}
+use Rattle.steps_pauses.specs.Pauses.{arrived_view, noted, IsModeOf}
 use Rattle.mark_slices.specs.Decks.{Counts, StaysDeck}
 use Rattle.safepoint.specs.Looks.{Passed}
+use Rattle.cycle_phases.specs.declared.progress.Progress.{Progress}
 use Rattle.domain_turns.specs.declared.passing.Past.TheVariants.{Answered}
-use Rattle.domain_turns.specs.Pausing.{HasLeft, IsCollected, ComesToAnswer, GivesBack, AnswersFrom, due_of}
+use Rattle.domain_turns.specs.Pausing.{HasLeft, IsCollected, KnowsProgress, ComesToAnswer, GivesBack, AnswersFrom, due_of}
 use Rattle.domain_turns.specs.Past.{PassAnswers}
 use Rattle.domain_turns.specs.Runs.{RunView, IsRun, IsBetween, Passes}
 use Rattle.domain_turns.proofs.Owing.{due_on}
@@ -63,21 +64,21 @@ pub look_paid : (k : Config) (x y : DomainView) → Passed k x y → due_of k x 
 look_paid k x y p paid = due_on k x y (ap (λ (v : DomainView). v.own.number) p.view) p.seen ∙ paid
 
 -- the run stands between two turns
-between_of : (r : RunView) (known : Kind) → IsRun r → r.left ≡ Some known → IsBetween (Some known) r.asked r.collected r.cut r.whole r.token
-between_of r known is left = subst (λ (l : Option Kind). IsBetween l r.asked r.collected r.cut r.whole r.token) left is.between
+between_of : (r : RunView) (known : Kind) → IsRun r → r.left ≡ Some known → IsBetween (Some known) r.asked r.collected r.progress r.token
+between_of r known is left = subst (λ (l : Option Kind). IsBetween l r.asked r.collected r.progress r.token) left is.between
 
-pub arrived_is_run : (h : SharedHeap) (r : RunView) (new : Token) (last kind : Kind) (hints : Counts) → StaysDeck r.hints hints → IsRun r → r.left ≡ Some last → IsIn r.token h → IsIn new h → Passes h.config r.token.view new.view last kind → IsRun (record r { token = new; left = Some kind; cut = cut_in last r.cut; whole = whole_after last kind r.whole; hints = hints })
-arrived_is_run h r new last kind hints stays is left was here p = moved_is_run r new (Some kind) r.asked r.collected (cut_in last r.cut) (whole_after last kind r.whole) hints is stays (passes_moves h r.token new last kind was here p) (passes_between h r.token new last kind r.asked r.collected r.cut r.whole is.inside was here (between_of r last is left) p)
+pub arrived_is_run : (h : SharedHeap) (r : RunView) (new : Token) (last kind : Kind) (progress : Progress) (hints : Counts) → StaysDeck r.hints hints → IsRun r → r.left ≡ Some last → IsIn r.token h → IsIn new h → Passes h.config r.token.view new.view last kind → KnowsProgress progress new.view → IsRun (record r { token = new; left = Some kind; progress = progress; hints = hints })
+arrived_is_run h r new last kind progress hints stays is left was here p knows = moved_is_run r new (Some kind) r.asked r.collected progress hints is stays (passes_moves h r.token new last kind was here p) (passes_between h r.token new last kind r.asked r.collected r.progress progress is.inside was here (between_of r last is left) p knows)
 
-pub gives_is_run : (h : SharedHeap) (r : RunView) (new : Token) (last : Kind) (blocks : ℕ) (collected : Bool) (hints : Counts) → StaysDeck r.hints hints → IsRun r → IsIn r.token h → IsIn new h → GivesBack h.config r.token.view new.view blocks → IsRun (record r { token = new; left = Some Answer; collected = collected; cut = cut_in last r.cut; hints = hints })
-gives_is_run h r new last blocks collected hints stays is was here g = moved_is_run r new (Some Answer) r.asked collected (cut_in last r.cut) r.whole hints is stays (gives_moves h r.token new blocks was here g) (gives_between h r.token new blocks r.asked collected (cut_in last r.cut) r.whole here is.between.quiet g)
+pub gives_is_run : (h : SharedHeap) (r : RunView) (new : Token) (blocks : ℕ) (collected : Bool) (progress : Progress) (hints : Counts) → StaysDeck r.hints hints → IsRun r → IsIn r.token h → IsIn new h → GivesBack h.config r.token.view new.view blocks → KnowsProgress progress new.view → IsRun (record r { token = new; left = Some Answer; collected = collected; progress = progress; hints = hints })
+gives_is_run h r new blocks collected progress hints stays is was here g knows = moved_is_run r new (Some Answer) r.asked collected progress hints is stays (gives_moves h r.token new blocks was here g) (gives_between h r.token new blocks r.asked collected progress here is.between.quiet g knows)
 
-pub waits_is_run : (h : SharedHeap) (r : RunView) (new : Token) (last : Kind) (b : ℕ) (hints : Counts) → StaysDeck r.hints hints → IsRun r → r.left ≡ Some last → IsIn r.token h → IsIn new h → new.view ≡ noted r.token.view (Barrier b) → IsRun (record r { token = new; left = Some last; hints = hints })
-waits_is_run h r new last b hints stays is left was here says = moved_is_run r new (Some last) r.asked r.collected r.cut r.whole hints is stays (still_moves h r.token new _ was here says refl refl refl refl refl refl refl) (waits_between h r.token new last r.asked r.collected r.cut r.whole b was here (between_of r last is left) says)
+pub waits_is_run : (h : SharedHeap) (r : RunView) (new : Token) (last : Kind) (b : ℕ) (progress : Progress) (hints : Counts) → StaysDeck r.hints hints → IsRun r → r.left ≡ Some last → IsIn r.token h → IsIn new h → new.view ≡ noted r.token.view (Barrier b) → KnowsProgress progress new.view → IsRun (record r { token = new; left = Some last; progress = progress; hints = hints })
+waits_is_run h r new last b progress hints stays is left was here says knows = moved_is_run r new (Some last) r.asked r.collected progress hints is stays (still_moves h r.token new _ was here says refl refl refl refl refl refl refl) (waits_between h r.token new last r.asked r.collected r.progress progress b was here (between_of r last is left) says knows)
 
 -- and the domain runs again after a pause
-pub runs_is_run : (h : SharedHeap) (r : RunView) (new : Token) (hints : Counts) → StaysDeck r.hints hints → IsRun r → IsIn r.token h → IsIn new h → Passed h.config r.token.view new.view → new.view.seen.stage ≡ In Run → IsEven r.token.view.own.arrivals → IsCollected h.config new.view → IsRun (record r { token = new; left = None; hints = hints })
-runs_is_run h r new hints stays is was here p stage even c = moved_is_run r new None r.asked r.collected r.cut r.whole hints is stays (view_moves h r.token new _ was here p.view refl refl refl refl refl refl p.seen) record {
+pub runs_is_run : (h : SharedHeap) (r : RunView) (new : Token) (progress : Progress) (hints : Counts) → StaysDeck r.hints hints → IsRun r → IsIn r.token h → IsIn new h → Passed h.config r.token.view new.view → new.view.seen.stage ≡ In Run → IsEven r.token.view.own.arrivals → IsCollected h.config new.view → KnowsProgress progress new.view → IsRun (record r { token = new; left = None; progress = progress; hints = hints })
+runs_is_run h r new progress hints stays is was here p stage even c knows = moved_is_run r new None r.asked r.collected progress hints is stays (view_moves h r.token new _ was here p.view refl refl refl refl refl refl p.seen) record {
   stands = stage;
   quiet = looked_quiet h.config r.token.view new.view p is.between.quiet;
   even = λ _. subst IsEven (sym (ap (λ (x : DomainView). x.own.arrivals) p.view)) even;
@@ -86,6 +87,5 @@ runs_is_run h r new hints stays is was here p stage even c = moved_is_run r new 
   has_left = λ known none. cc;
   fresh = λ e. subst (λ (k : Config). Rattle.domain_turns.specs.Tries.IsFresh k new.view) (sym here.1)
       (fresh_on h.config r.token.view new.view (ap (λ (x : DomainView). x.own.number) p.view) p.seen (subst (λ (k : Config). Rattle.domain_turns.specs.Tries.IsFresh k r.token.view) was.1 (is.between.fresh e)));
-  knows_cut = λ known none. cc;
-  knows_whole = λ known none. cc;
+  knows = knows;
 }

@@ -22,11 +22,16 @@ use Rattle.heap_rule.specs.Rule.{state_of}
 use Rattle.barriers.specs.Aware.{Learnt, aware_as}
 use Rattle.steps_cycle.specs.Arming.{knowing_armed}
 use Rattle.mark_slices.specs.Decks.{Counts, StaysDeck}
-use Rattle.steps_pauses.specs.Pauses.{cut_in, forgotten}
+use Rattle.steps_pauses.specs.Pauses.{forgotten}
 use Rattle.domain_turns.specs.Pausing.{AnswersLive, due_of}
-use Rattle.domain_turns.proofs.LeavingLemmas.{answer_between}
+use Rattle.cycle_phases.specs.declared.progress.Progress.{Progress}
+use Rattle.cycle_phases.specs.Leading.{progress_of}
+use Rattle.sweeper.specs.Sweeping.{Swept}
+use Rattle.remembered_set.specs.Bounded.{Bounded}
+use Rattle.heap_model.specs.Fronts.{IsFrontOf}
+use Rattle.domain_turns.proofs.LeavingLemmas.{answer_between, knows_on}
 use Rattle.mark_slices.proofs.Going.{stays_same}
-use Rattle.domain_turns.proofs.Moving.{deck_on, moved_is_run, still_moves}
+use Rattle.domain_turns.proofs.Moving.{Moves, deck_on, moved_is_run, same_front, still_moves}
 use Rattle.heap_rule.specs.declared.view.Own.{Own}
 use Rattle.heap_rule.specs.declared.view.DomainView.{DomainView}
 use Rattle.steps_finalisers.specs.Registering.{count_of}
@@ -127,8 +132,8 @@ ran_replies r is n some =
     omega arith
 
 -- after the try of a command the domain runs on
-tried_between : (h : SharedHeap) (old new : Token) (c : model.Command) (reply : Reply) (asked : Option ℕ) (collected cut whole : Bool) → IsBetween None asked collected cut whole old → Tried h old new c collected reply → IsBetween None None false cut whole new
-tried_between h old new c reply asked collected cut whole is t = record {
+tried_between : (h : SharedHeap) (old new : Token) (c : model.Command) (reply : Reply) (asked : Option ℕ) (collected : Bool) (progress : Progress) → IsBetween None asked collected progress old → Tried h old new c collected reply → IsBetween None None false progress new
+tried_between h old new c reply asked collected progress is t = record {
   stands = t.runs.acts.runs;
   quiet = quiet_as old.view new.view t.stays.copying (ap (λ (o : Own). o.pending) t.own) (ap (λ (o : Own). o.prepared) t.own) t.stays.weak is.quiet;
   even = λ none. subst IsEven (sym t.stays.arrivals) (is.even none);
@@ -136,13 +141,12 @@ tried_between h old new c reply asked collected cut whole is t = record {
   emptied = λ _ served. cc;
   has_left = λ known left. cc;
   fresh = λ e. cc;
-  knows_cut = λ known left. cc;
-  knows_whole = λ known left. cc;
+  knows = knows_on old.view new.view progress (ap (λ (o : Own). o.number) t.own) (λ i. record { cut = t.stays.cut i; whole = t.stays.whole i; unswept = t.stays.unswept i }) is.knows;
 }
 
 -- after the end of the trace it runs too
-ended_between : (h : SharedHeap) (old new : Token) (asked : Option ℕ) (collected cut whole : Bool) → IsBetween None asked collected cut whole old → HasEnded h old new → IsBetween None asked false cut whole new
-ended_between h old new asked collected cut whole is t =
+ended_between : (h : SharedHeap) (old new : Token) (asked : Option ℕ) (collected : Bool) (progress : Progress) → IsBetween None asked collected progress old → HasEnded h old new → IsBetween None asked false progress new
+ended_between h old new asked collected progress is t =
     let arrivals : new.view.own.arrivals ≡ old.view.own.arrivals = ap (λ (x : DomainView). x.own.arrivals) t.view in record {
       stands = ap (λ (x : DomainView). x.seen.stage) t.view ∙ is.stands;
       quiet = quiet_as old.view new.view (ap (λ (x : DomainView). x.seen.copying) t.view) (ap (λ (x : DomainView). x.own.pending) t.view) (ap (λ (x : DomainView). x.own.prepared) t.view) (ap (λ (x : DomainView). x.seen.share.weak) t.view) is.quiet;
@@ -151,8 +155,7 @@ ended_between h old new asked collected cut whole is t =
       emptied = λ none served. ap (λ (x : DomainView). x.own.used) t.view ∙ is.emptied none (ap (served_since asked) (sym arrivals) ∙ served);
       has_left = λ known left. cc;
       fresh = λ e. cc;
-      knows_cut = λ known left. cc;
-      knows_whole = λ known left. cc;
+      knows = knows_on old.view new.view progress (ap (λ (x : DomainView). x.own.number) t.view) (ap (λ (x : DomainView). progress_of x.seen.share) t.view) is.knows;
     }
 
 -- what the entry of a command leaves of its domain's token
@@ -168,9 +171,9 @@ record HasMade (old new : Token) (c : model.Command) (full : Bool) (reply : Repl
   answers : Answers (sizes_in old.config) old.view.own.number old.view.seen.front new.view.seen.front (CommandOf old.view.own.number c full) (Replied reply)
 
 -- the entry of the next command was made, and its reply kept
-made_is_run : (r : RunView) (new : Token) (c : model.Command) (full : Bool) (reply : Reply) (left : Option Kind) (cut : Bool) (due : ℕ) (hints : Counts) → StaysDeck r.hints hints → IsRun r → r.ended ≡ false → slice_get r.commands r.next ≡ Some c → HasMade r.token new c full reply due → IsBetween left None false cut r.whole new
-    → IsRun (record r { token = new; next = r.next + 1; replies = r.replies ++ reply ∷ []; left = left; asked = None; collected = false; cut = cut; due = due; hints = hints })
-made_is_run r new c full reply left cut due hints stays is running at m between =
+made_is_run : (r : RunView) (new : Token) (c : model.Command) (full : Bool) (reply : Reply) (left : Option Kind) (progress : Progress) (due : ℕ) (hints : Counts) → StaysDeck r.hints hints → IsRun r → r.ended ≡ false → slice_get r.commands r.next ≡ Some c → HasMade r.token new c full reply due → IsBetween left None false progress new
+    → IsRun (record r { token = new; next = r.next + 1; replies = r.replies ++ reply ∷ []; left = left; asked = None; collected = false; progress = progress; due = due; hints = hints })
+made_is_run r new c full reply left progress due hints stays is running at m between =
     let d : ℕ = r.token.view.own.number in
     let z = sizes_in r.token.config in
     let e : Entry = CommandOf d c full in
@@ -222,13 +225,13 @@ tried_is_run h r new c reply own served is running left at t ready =
     let d : ℕ = r.token.view.own.number in
     let owes : due_of r.token.config new.view ≡ 0 = ap (λ (n : ℕ). due_at (state_of r.token.config new.view.seen.front) n) number
     ∙ command_due (sizes_in r.token.config) d r.token.view.seen.front new.view.seen.front c st.0 (Replied reply) st.1 (not_full h.config own served c ready) in
-    made_is_run r new c st.0 reply r.left r.cut 0 r.hints (stays_same r.hints) is running at
+    made_is_run r new c st.0 reply r.left r.progress 0 r.hints (stays_same r.hints) is running at
     record { listed = subst (λ (o : Own). count_of o.finalisers ≤ registrations_of c + count_of r.token.view.own.finalisers) (sym t.own) (enlisted_count c r.token.view.own); owes = owes; config = t.heap.1; number = ap (λ (o : Own). o.number) t.own; serial = omega (arith, serial, few); room = λ n fits. subst (λ (o : Own). n ≤ o.ephemerons.room) (sym t.own) (room_left c reply r.token.view.own new.view.own n fits); idle = t.runs.idle; at_rest = t.runs.at_rest; answers = st.1 }
-    (subst (λ (l : Option Kind). IsBetween l None false r.cut r.whole new) (sym left) (tried_between h r.token new c reply r.asked r.collected r.cut r.whole (subst (λ (l : Option Kind). IsBetween l r.asked r.collected r.cut r.whole r.token) left is.between) t))
+    (subst (λ (l : Option Kind). IsBetween l None false r.progress new) (sym left) (tried_between h r.token new c reply r.asked r.collected r.progress (subst (λ (l : Option Kind). IsBetween l r.asked r.collected r.progress r.token) left is.between) t))
 
 -- the same where a collection is answered by the reply of a `full_major`
 pub answered_is_run : (h : SharedHeap) (r : RunView) (new : Token) (reply : Reply) (last : Kind) (hints : Counts) → StaysDeck r.hints hints → IsRun r → r.ended ≡ false → slice_get r.commands r.next ≡ Some FullMajor → IsIn r.token h → IsIn new h → AnswersLive h.config r.token.view new.view reply
-    → IsRun (record r { token = new; next = r.next + 1; replies = r.replies ++ reply ∷ []; left = Some Answer; asked = None; collected = false; cut = cut_in last r.cut; due = length new.view.own.finalisers.queue.items; hints = hints })
+    → IsRun (record r { token = new; next = r.next + 1; replies = r.replies ++ reply ∷ []; left = Some Answer; asked = None; collected = false; progress = progress; due = length new.view.own.finalisers.queue.items; hints = hints })
 answered_is_run h r new reply last hints stays is running at was here a =
     let passed = a.comes.passed.view in
     let own : new.view.own ≡ record a.begun.own { arrivals = a.begun.own.arrivals + 1; pending = forgotten a.begun.own.pending } = ap (λ (x : DomainView). x.own) a.view in
@@ -239,7 +242,7 @@ answered_is_run h r new reply last hints stays is running at was here a =
     let answers : Answers (sizes_in h.config) r.token.view.own.number r.token.view.seen.front new.view.seen.front entry (Replied reply) =
     subst (λ (f : List Entry). Answers (sizes_in h.config) r.token.view.own.number r.token.view.seen.front f entry (Replied reply)) (sym front)
     (answers_after (sizes_in h.config) r.token.view.own.number r.token.view.seen.front a.begun.seen.front a.front entry (Replied reply) a.comes.passed.seen a.answers) in
-    made_is_run r new FullMajor false reply (Some Answer) (cut_in last r.cut) (length new.view.own.finalisers.queue.items) hints stays is running at
+    made_is_run r new FullMajor false reply (Some Answer) progress (length new.view.own.finalisers.queue.items) hints stays is running at
     record {
       config = config;
       number = ap (λ (o : Own). o.number) own ∙ ap (λ (x : DomainView). x.own.number) passed;
@@ -251,7 +254,7 @@ answered_is_run h r new reply last hints stays is running at was here a =
       at_rest = ap (λ (x : DomainView). x.seen.hunt) a.view ∙ (ap (λ (x : DomainView). x.seen.hunt) passed ∙ is.at_rest);
       answers = subst (λ (k : Config). Answers (sizes_in k) r.token.view.own.number r.token.view.seen.front new.view.seen.front entry (Replied reply)) (sym was.1) answers;
     }
-    (answer_between h r.token.view a.begun new a.front None false (cut_in last r.cut) r.whole here is.between.quiet a.comes a.view (λ e. cc))
+    (answer_between h r.token.view a.begun new a.front None false progress here is.between.quiet a.comes a.view (λ e. cc) knows)
 
 any_last : (p : Entry → Bool) (xs : List Entry) (e : Entry) → p e ≡ true → IsTrue (list_any p (xs ++ e ∷ []))
 any_last p [] e is = rw is refl
@@ -286,7 +289,7 @@ ended_is_run h r new is left whole t =
       at_rest = ap (λ (x : DomainView). x.seen.hunt) t.view ∙ is.at_rest;
       goes_on = λ running. cc;
       owes = λ running. cc;
-      between = subst (λ (l : Option Kind). IsBetween l r.asked false r.cut r.whole new) (sym left) (ended_between h r.token new r.asked r.collected r.cut r.whole (subst (λ (l : Option Kind). IsBetween l r.asked r.collected r.cut r.whole r.token) left is.between) t);
+      between = subst (λ (l : Option Kind). IsBetween l r.asked false r.progress new) (sym left) (ended_between h r.token new r.asked r.collected r.progress (subst (λ (l : Option Kind). IsBetween l r.asked r.collected r.progress r.token) left is.between) t);
       labels = omega (arith, is.labels, serial);
       deck = deck_on r new r.hints number t.heap.1 (stays_same r.hints) is.deck;
       done = λ ended. omega (arith, is.within, whole);
@@ -295,8 +298,8 @@ ended_is_run h r new is left whole t =
     }
 
 -- the run of a finaliser leaves the domain between two turns
-ran_between : (h : SharedHeap) (old new : Token) (ran : Ran) (asked : Option ℕ) (collected cut whole : Bool) → new.config ≡ old.config → h.config ≡ old.config → IsBetween None asked collected cut whole old → RanFirst h.config ran old.view new.view → IsBetween None asked collected cut whole new
-ran_between h old new ran asked collected cut whole config same is f =
+ran_between : (h : SharedHeap) (old new : Token) (ran : Ran) (asked : Option ℕ) (collected : Bool) (progress : Progress) → new.config ≡ old.config → h.config ≡ old.config → IsBetween None asked collected progress old → RanFirst h.config ran old.view new.view → IsBetween None asked collected progress new
+ran_between h old new ran asked collected progress config same is f =
     let arrivals : new.view.own.arrivals ≡ old.view.own.arrivals = ap (λ (x : DomainView). x.own.arrivals) f.view in
     let number : new.view.own.number ≡ old.view.own.number = ap (λ (x : DomainView). x.own.number) f.view in record {
       stands = ap (λ (x : DomainView). x.seen.stage) f.view ∙ is.stands;
@@ -308,8 +311,7 @@ ran_between h old new ran asked collected cut whole config same is f =
       fresh = λ e. subst (λ (z : Config × ℕ). (domain_at (state_of z.0 new.view.seen.front) z.1).fresh ≡ true) (λ i. (sym config i, sym number i))
           (ran_fresh (sizes_in old.config) old.view.own.number old.view.seen.front new.view.seen.front (Replied (reply_of ran))
           (subst (λ (k : Config). Answers (sizes_in k) old.view.own.number old.view.seen.front new.view.seen.front (RanEntry old.view.own.number) (Replied (reply_of ran))) same f.answers) (is.fresh e));
-      knows_cut = λ known left. cc;
-      knows_whole = λ known left. cc;
+      knows = knows_on old.view new.view progress number (ap (λ (x : DomainView). progress_of x.seen.share) f.view) is.knows;
     }
 
 -- a finaliser has run, and its reply was kept
@@ -349,31 +351,93 @@ ran_is_run h r new ran is running left was here goes f =
       at_rest = ap (λ (x : DomainView). x.seen.hunt) f.view ∙ is.at_rest;
       goes_on = λ _. goes;
       owes = λ _. subst (λ (c : Config). due_of c new.view ≡ length new.view.own.finalisers.queue.items) (sym here.1) f.due;
-      between = subst (λ (l : Option Kind). IsBetween l r.asked r.collected r.cut r.whole new) (sym left) (ran_between h r.token new ran r.asked r.collected r.cut r.whole config (sym was.1) (subst (λ (l : Option Kind). IsBetween l r.asked r.collected r.cut r.whole r.token) left is.between) f);
+      between = subst (λ (l : Option Kind). IsBetween l r.asked r.collected r.progress new) (sym left) (ran_between h r.token new ran r.asked r.collected r.progress config (sym was.1) (subst (λ (l : Option Kind). IsBetween l r.asked r.collected r.progress r.token) left is.between) f);
       labels = omega (arith, is.labels, serial);
       deck = deck_on r new r.hints number config (stays_same r.hints) is.deck;
       done = λ ended. let clash : false ≡ true = sym running ∙ ended in cc;
       over = λ ended. let clash : false ≡ true = sym running ∙ ended in cc;
     }
 
+-- a view of a running domain by which nothing changed of how it stands between two turns
+record Stands (x y : DomainView) : Type 0 where
+  stage : y.seen.stage ≡ x.seen.stage
+  copying : y.seen.copying ≡ x.seen.copying
+  weak : y.seen.share.weak ≡ x.seen.share.weak
+  pending : y.own.pending ≡ x.own.pending
+  prepared : y.own.prepared ≡ x.own.prepared
+  arrivals : y.own.arrivals ≡ x.own.arrivals
+  seen : y.seen.remembered ≡ x.seen.remembered
+  remembered : y.own.remembered ≡ x.own.remembered
+  used : y.own.used ≡ x.own.used
+  number : y.own.number ≡ x.own.number
+  front : y.seen.front ≡ x.seen.front
+  progress : progress_of y.seen.share ≡ progress_of x.seen.share
+
+stands_between : (old new : Token) (asked : Option ℕ) (collected : Bool) (progress : Progress) → new.config ≡ old.config → Stands old.view new.view → IsBetween None asked collected progress old → IsBetween None asked collected progress new
+stands_between old new asked collected progress config s is = record {
+  stands = s.stage ∙ is.stands;
+  quiet = quiet_as old.view new.view s.copying s.pending s.prepared s.weak is.quiet;
+  even = λ none. subst IsEven (sym s.arrivals) (is.even none);
+  remembers = λ none. s.seen ∙ (is.remembers none ∙ ap (λ (b : Bounded ℕ). b.items) (sym s.remembered));
+  emptied = λ none served. s.used ∙ is.emptied none (ap (served_since asked) (sym s.arrivals) ∙ served);
+  has_left = λ known left. cc;
+  fresh = λ e. subst (λ (z : Config × (ℕ × List Entry)). (domain_at (state_of z.0 z.1.1) z.1.0).fresh ≡ true) (λ i. (sym config i, (sym s.number i, sym s.front i))) (is.fresh e);
+  knows = knows_on old.view new.view progress s.number s.progress is.knows;
+}
+
 -- a domain that has marked beside the others is where it was
 pub marked_is_run : (h : SharedHeap) (r : RunView) (new : Token) (hints : Counts) → StaysDeck r.hints hints → IsRun r → r.left ≡ None → IsIn r.token h → IsIn new h → Learnt r.token.view new.view → new.view.seen.share.weak ≡ r.token.view.seen.share.weak → IsRun (record r { token = new; hints = hints })
 marked_is_run h r new hints stays is left was here learnt weak =
-    let config : new.config ≡ r.token.config = here.1 ∙ sym was.1 in
     let v = learnt.view in
-    let old : IsBetween None r.asked r.collected r.cut r.whole r.token = subst (λ (l : Option Kind). IsBetween l r.asked r.collected r.cut r.whole r.token) left is.between in
-    let between : IsBetween None r.asked r.collected r.cut r.whole new = record {
-      stands = ap (λ (x : DomainView). x.seen.stage) v ∙ old.stands;
-      quiet = quiet_as r.token.view new.view (ap (λ (x : DomainView). x.seen.copying) v) (ap (λ (x : DomainView). x.own.pending) v) (ap (λ (x : DomainView). x.own.prepared) v) weak old.quiet;
-      even = λ none. subst IsEven (sym (ap (λ (x : DomainView). x.own.arrivals) v)) (old.even none);
-      remembers = λ none. ap (λ (x : DomainView). x.seen.remembered) v ∙ (old.remembers none ∙ sym (ap (λ (x : DomainView). x.own.remembered.items) v));
-      emptied = λ none served. ap (λ (x : DomainView). x.own.used) v ∙ old.emptied none (ap (served_since r.asked) (sym (ap (λ (x : DomainView). x.own.arrivals) v)) ∙ served);
-      has_left = λ known left. cc;
-      fresh = λ e. subst (λ (z : Config × (ℕ × List Entry)). (domain_at (state_of z.0 z.1.1) z.1.0).fresh ≡ true) (λ i. (sym config i, (sym (ap (λ (x : DomainView). x.own.number) v) i, sym (ap (λ (x : DomainView). x.seen.front) v) i))) (old.fresh e);
-      knows_cut = λ known left. cc;
-      knows_whole = λ known left. cc;
+    let stands : Stands r.token.view new.view = record {
+      stage = ap (λ (x : DomainView). x.seen.stage) v;
+      copying = ap (λ (x : DomainView). x.seen.copying) v;
+      weak = weak;
+      pending = ap (λ (x : DomainView). x.own.pending) v;
+      prepared = ap (λ (x : DomainView). x.own.prepared) v;
+      arrivals = ap (λ (x : DomainView). x.own.arrivals) v;
+      seen = ap (λ (x : DomainView). x.seen.remembered) v;
+      remembered = ap (λ (x : DomainView). x.own.remembered) v;
+      used = ap (λ (x : DomainView). x.own.used) v;
+      number = ap (λ (x : DomainView). x.own.number) v;
+      front = ap (λ (x : DomainView). x.seen.front) v;
+      progress = ap (λ (x : DomainView). progress_of x.seen.share) v;
     } in
-    moved_is_run r new r.left r.asked r.collected r.cut r.whole hints is stays (still_moves h r.token new _ was here v refl refl refl refl refl refl refl) (subst (λ (l : Option Kind). IsBetween l r.asked r.collected r.cut r.whole new) (sym left) between)
+    let old : IsBetween None r.asked r.collected r.progress r.token = subst (λ (l : Option Kind). IsBetween l r.asked r.collected r.progress r.token) left is.between in
+    moved_is_run r new r.left r.asked r.collected r.progress hints is stays (still_moves h r.token new _ was here v refl refl refl refl refl refl refl)
+    (subst (λ (l : Option Kind). IsBetween l r.asked r.collected r.progress new) (sym left) (stands_between r.token new r.asked r.collected r.progress (here.1 ∙ sym was.1) stands old))
+
+-- and so is one that has swept
+pub swept_is_run : (h : SharedHeap) (r : RunView) (new : Token) (most count : ℕ) → IsRun r → r.left ≡ None → IsIn r.token h → IsIn new h → Swept h.config most count (knowing_armed r.token.view false) new.view → IsRun (record r { token = new })
+swept_is_run h r new most count is left was here s =
+    let v = s.view in
+    let stands : Stands r.token.view new.view = record {
+      stage = ap (λ (x : DomainView). x.seen.stage) v;
+      copying = ap (λ (x : DomainView). x.seen.copying) v;
+      weak = ap (λ (x : DomainView). x.seen.share.weak) v;
+      pending = ap (λ (x : DomainView). x.own.pending) v;
+      prepared = ap (λ (x : DomainView). x.own.prepared) v;
+      arrivals = ap (λ (x : DomainView). x.own.arrivals) v;
+      seen = ap (λ (x : DomainView). x.seen.remembered) v;
+      remembered = ap (λ (x : DomainView). x.own.remembered) v;
+      used = ap (λ (x : DomainView). x.own.used) v;
+      number = ap (λ (x : DomainView). x.own.number) v;
+      front = ap (λ (x : DomainView). x.seen.front) v;
+      progress = ap (λ (x : DomainView). progress_of x.seen.share) v;
+    } in
+    let moves : Moves r.token new = record {
+      config = here.1 ∙ sym was.1;
+      number = stands.number;
+      serial = ap (λ (x : DomainView). x.own.serial) v;
+      room = s.shortens.no_less;
+      listed = ap (λ (x : DomainView). count_of x.own.finalisers) v;
+      made = ap (λ (x : DomainView). x.seen.made) v;
+      hunt = λ at_rest. ap (λ (x : DomainView). x.seen.hunt) v ∙ at_rest;
+      front = subst (λ (f : List Entry). IsFrontOf r.token.view.own.number f r.token.view.seen.front) (sym stands.front) (same_front r.token.view.own.number r.token.view.seen.front);
+    } in
+    let old : IsBetween None r.asked r.collected r.progress r.token = subst (λ (l : Option Kind). IsBetween l r.asked r.collected r.progress r.token) left is.between in
+    moved_is_run r new r.left r.asked r.collected r.progress r.hints is (stays_same r.hints) moves
+    (subst (λ (l : Option Kind). IsBetween l r.asked r.collected r.progress new) (sym left) (stands_between r.token new r.asked r.collected r.progress (here.1 ∙ sym was.1) stands old))
 
 -- who has found whether a collection goes on has learnt that
 pub armed_learns : (x y : DomainView) (armed : Bool) → y ≡ knowing_armed x armed → Learnt x y

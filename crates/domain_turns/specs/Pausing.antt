@@ -12,7 +12,7 @@ use Rattle.heap_model.specs.Fronts.{Answers}
 use Rattle.heap_rule.specs.declared.config.Config.{Config}
 use Rattle.heap_rule.specs.declared.view.DomainView.{DomainView}
 use Rattle.heap_rule.specs.declared.phase.Kind.{Kind}
-use Rattle.heap_rule.specs.declared.phase.Kind.TheVariants.{Run, Promote, Reset, Mark, Rounds, Sweep, Answer}
+use Rattle.heap_rule.specs.declared.phase.Kind.TheVariants.{Run, Promote, Reset, Sweep, Answer}
 use Rattle.heap_rule.specs.declared.phase.Stage.TheVariants.{In}
 use Rattle.heap_rule.specs.Copies.{nothing_copied, HoldsOld, IsEmptying}
 use Rattle.heap_rule.specs.Limits.{sizes_in}
@@ -26,8 +26,9 @@ use Rattle.safepoint.specs.Looks.{Passed}
 use Rattle.steps_promote.specs.Promotion.{NoneYoung, reset_view}
 use Rattle.promote_claim.specs.Sharing.{Unprepared, Shared}
 use Rattle.steps_cycle.specs.Looks.{with_share}
-use Rattle.cycle_phases.specs.Sharing.{IsShared, SharesIn}
-use Rattle.cycle_phases.specs.Leading.{LeadsOn}
+use Rattle.cycle_phases.specs.declared.progress.Progress.{Progress}
+use Rattle.cycle_phases.specs.Sharing.{SharesIn}
+use Rattle.cycle_phases.specs.Leading.{LeadsOn, progress_of}
 use Rattle.domain_turns.specs.Tries.{IsFresh}
 
 -- no block was met, no copy is listed, no place is prepared for one, and no darkening is owed
@@ -63,19 +64,9 @@ pub record HasLeft (k : Config) (known : Kind) (x : DomainView) : Type 0 where
   pub past : IsOdd x.own.arrivals ⊎ (x.own.number ≢ 0) → IsPast k known x
   pub ready : IsEven x.own.arrivals → x.own.number ≡ 0 → IsReady k known x
 
--- in these phases domain 0 goes by whether the collection's cut is made
-abbrev pub IsMarking : Kind → Type 0
-IsMarking Mark = Unit {0}
-IsMarking Rounds = Unit {0}
-IsMarking _ = ⊥
-
--- domain 0 knows it
-abbrev pub KnowsCut : Kind → Bool → DomainView → Type 0
-KnowsCut known cut x = IsMarking known → x.own.number ≡ 0 → cut ≡ x.seen.share.cut
-
--- in the phases in which it has a share it goes by whether the collection began in this pause, and knows it
-abbrev pub KnowsWhole : Kind → Bool → DomainView → Type 0
-KnowsWhole known whole x = IsShared known → x.own.number ≡ 0 → whole ≡ x.seen.share.whole
+-- domain 0 keeps how far a collection has come
+abbrev pub KnowsProgress : Progress → DomainView → Type 0
+KnowsProgress p x = x.own.number ≡ 0 → p ≡ progress_of x.seen.share
 
 -- the domain did its share of Promote, and arrived
 pub record LeavesPromote (k : Config) (x y : DomainView) : Type 0 where
@@ -95,7 +86,7 @@ LeavesEven k Run x y = ⊥
 LeavesEven k Promote x y = LeavesPromote k x y
 LeavesEven k Reset x y = LeavesReset k x y
 LeavesEven k Answer x y = ⊥
-LeavesEven k kind x y = SharesIn kind x y
+LeavesEven k kind x y = SharesIn k kind x y
 
 -- how a domain leaves an odd phase: domain 0 finds which kind comes next, and names it
 abbrev pub LeavesOdd : Config → DomainView → DomainView → Kind → Kind → Type 0

@@ -21,8 +21,12 @@ use Rattle.heap_rule.specs.declared.phase.Note.TheVariants.{Want, Asked, Barrier
 use Rattle.heap_rule.specs.Phases.{IsEven, IsOdd, Comes}
 use Rattle.heap_rule.specs.Copies.{nothing_copied}
 use Rattle.heap_rule.specs.Running.{RemembersAll}
-use Rattle.steps_pauses.specs.Pauses.{noted, arrived_view, cut_in, ended_own, whole_after, IsModeOf}
+use Rattle.steps_pauses.specs.Pauses.{noted, arrived_view, ended_own, IsModeOf}
 use Rattle.barriers.specs.Aware.{Learnt, scanned_in}
+use Rattle.steps_cycle.specs.Arming.{knowing_armed}
+use Rattle.sweeper.specs.Sweeping.{Swept}
+use Rattle.cycle_phases.specs.declared.progress.Progress.{Progress}
+use Rattle.cycle_phases.specs.Leading.{no_collection, progress_of}
 use Rattle.mark_slices.specs.Decks.{AllMissed, Counts, HasTaken}
 use Rattle.mark_slices.specs.Slices.{IsDeckOf}
 use Rattle.steps_finalisers.specs.Registering.{count_of}
@@ -39,10 +43,10 @@ use Rattle.heap_rule.specs.declared.view.Hunt.TheVariants.{Rests as AtRest}
 use Rattle.heap_rule.specs.Limits.{sizes_in}
 use Rattle.heap_rule.specs.Standing.{Acts}
 use Rattle.heap_rule.specs.Token.{Token, SharedHeap, IsIn}
-use Rattle.domain_turns.specs.Pausing.{IsQuiet, HasLeft, KnowsCut, KnowsWhole, LeavesEven, LeavesOdd, GivesBack, AnswersLive, IsCollected, due_of}
+use Rattle.domain_turns.specs.Pausing.{IsQuiet, HasLeft, KnowsProgress, LeavesEven, LeavesOdd, GivesBack, AnswersLive, IsCollected, due_of}
 use Rattle.domain_turns.specs.Tries.{FitsHeap, IsFresh, NeedsPause, Refused, Tried, ephemerons_of, registrations_of, wish_of}
 
--- a run: the domain's token, its commands, the place of the next one, its replies, whether its trace has ended, where the domain has arrived from which kind of phase, how often it had arrived when it asked for a pause for the next command, whether the last pause since then was a complete collection that left so many blocks that they may use up the pools, whether, for domain 0, the collection under way is past its cut, and whether it began in this pause, how many finalisers the domain owes before its next `full_major`, and what its deck of hints has counted
+-- a run: the domain's token, its commands, the place of the next one, its replies, whether its trace has ended, where the domain has arrived from which kind of phase, how often it had arrived when it asked for a pause for the next command, whether the last pause since then was a complete collection that left so many blocks that they may use up the pools, how far, for domain 0, a collection has come, how many finalisers the domain owes before its next `full_major`, and what its deck of hints has counted
 pub record RunView : Type 0 where
   pub token : Token
   pub commands : List model.Command
@@ -52,8 +56,7 @@ pub record RunView : Type 0 where
   pub left : Option Kind
   pub asked : Option ℕ
   pub collected : Bool
-  pub cut : Bool
-  pub whole : Bool
+  pub progress : Progress
   pub due : ℕ
   pub hints : Counts
 
@@ -81,7 +84,7 @@ abbrev pub served_since : Option ℕ → ℕ → Bool
 served_since None arrivals = false
 served_since (Some at) arrivals = nat_lt at arrivals
 
--- a domain that runs, without an entry so far, may begin these commands. It has room for the ephemerons that they make and the finalisers that they register, none is registered so far, and it is in the middle of no pause and of no collection
+-- a domain that runs, without an entry so far, may begin these commands. It has room for the ephemerons that they make and the finalisers that they register, none is registered so far, and it is in the middle of no pause, and knows of no collection
 pub record CanBegin (t : Token) (cs : List model.Command) : Type 0 where
   pub inside : t.view.own.number < t.config.domains
   pub acts : Acts t.config t.view
@@ -101,6 +104,7 @@ pub record CanBegin (t : Token) (cs : List model.Command) : Type 0 where
   pub quiet : t.view.seen.copying ≡ nothing_copied
   pub no_copies : t.view.own.pending.items ≡ []
   pub unprepared : t.view.own.prepared ≡ replicate class_count None
+  pub none_began : progress_of t.view.seen.share ≡ no_collection
 
 -- the domain runs, or it has arrived
 abbrev pub StandsAt : Option Kind → Stage → Type 0
@@ -108,7 +112,7 @@ StandsAt None stage = stage ≡ In Run
 StandsAt (Some kind) stage = stage ≡ Gone kind
 
 -- how a domain stands between two turns: it runs, and its minor area is empty where a pause has come since it asked for one, or it has arrived. Where the last pause was a complete collection for the next command it has made no entry since
-pub record IsBetween (left : Option Kind) (asked : Option ℕ) (collected cut whole : Bool) (t : Token) : Type 0 where
+pub record IsBetween (left : Option Kind) (asked : Option ℕ) (collected : Bool) (progress : Progress) (t : Token) : Type 0 where
   pub stands : StandsAt left t.view.seen.stage
   pub quiet : IsQuiet t.view
   pub even : left ≡ None → IsEven t.view.own.arrivals
@@ -116,8 +120,7 @@ pub record IsBetween (left : Option Kind) (asked : Option ℕ) (collected cut wh
   pub emptied : left ≡ None → served_since asked t.view.own.arrivals ≡ true → t.view.own.used ≡ 0
   pub has_left : (known : Kind) → left ≡ Some known → HasLeft t.config known t.view
   pub fresh : collected ≡ true → IsFresh t.config t.view
-  pub knows_cut : (known : Kind) → left ≡ Some known → KnowsCut known cut t.view
-  pub knows_whole : (known : Kind) → left ≡ Some known → KnowsWhole known whole t.view
+  pub knows : KnowsProgress progress t.view
 
 -- what is true of a run between any two turns: the domain's commands in its front are those before the next, each once and in order, and the replies are those of its entries. It has room for the ephemerons that the others make and for the finalisers that they register. Each finaliser that it has may still answer once
 pub record IsRun (r : RunView) : Type 0 where
@@ -134,7 +137,7 @@ pub record IsRun (r : RunView) : Type 0 where
   pub at_rest : r.token.view.seen.hunt ≡ AtRest
   pub goes_on : r.ended ≡ false → (domain_at (state_of r.token.config r.token.view.seen.front) r.token.view.own.number).ended ≡ false
   pub owes : r.ended ≡ false → due_of r.token.config r.token.view ≡ r.due
-  pub between : IsBetween r.left r.asked r.collected r.cut r.whole r.token
+  pub between : IsBetween r.left r.asked r.collected r.progress r.token
   pub labels : r.token.view.own.serial ≤ 4000000000 + r.next
   pub deck : IsDeckOf r.token.config r.token.view r.hints
   pub done : r.ended ≡ true → r.next ≡ length r.commands
@@ -213,29 +216,37 @@ abbrev pub MarkingEnds : DomainView → DomainView → Counts → Counts → Boo
 MarkingEnds x y l m true = AllMissed l m
 MarkingEnds x y l m false = (scanned_in y.seen.share.known ≡ scanned_in x.seen.share.known + 256) ⊎ HasTaken 8192 l m
 
--- the domain found whether a collection goes on beside running domains. Where one does it has marked blocks, and else it has not
+-- the domain found that a collection goes on beside running domains, and has marked blocks
 pub record MarksBeside (h : SharedHeap) (old new : RunView) (spent : Bool) : Type 0 where
   pub here : IsIn new.token h
   pub learnt : Learnt old.token.view new.token.view
   pub owes : new.token.view.seen.share.weak ≡ old.token.view.seen.share.weak
-  pub armed : Bool
-  pub knows : new.token.view.seen.share.armed ≡ Some armed
-  pub marks : armed ≡ true → MarkingEnds old.token.view new.token.view old.hints new.hints spent
-  pub none : armed ≡ false → (new.token.view.seen.share.known ≡ old.token.view.seen.share.known) × (new.hints ≡ old.hints) × (spent ≡ false)
+  pub knows : new.token.view.seen.share.armed ≡ Some true
+  pub marks : MarkingEnds old.token.view new.token.view old.hints new.hints spent
   pub run : new ≡ record old { token = new.token; hints = new.hints }
+
+-- the domain found that none goes on, and has swept so many places of its own pools: 256, or else none is left to be swept
+pub record SweepsBeside (h : SharedHeap) (old new : RunView) (count : ℕ) : Type 0 where
+  pub here : IsIn new.token h
+  pub swept : Swept h.config 256 count (knowing_armed old.token.view false) new.token.view
+  pub run : new ≡ record old { token = new.token }
+
+-- it has marked blocks, or swept, by whether a collection goes on
+abbrev pub WorksBeside : SharedHeap → RunView → RunView → Bool → Type 0
+WorksBeside h old new spent = MarksBeside h old new spent ⊎ (((count : ℕ) × SweepsBeside h old new count) × (spent ≡ false))
 
 -- a run that asks for the end of the collection that goes on beside running domains, or doesn't
 abbrev pub asking_end : Bool → RunView → RunView
 asking_end false r = r
 asking_end true r = record r { token = noted_token r.token (Asked (bit_of Finish)) }
 
--- a turn made the entry of a poll, where no finaliser waited. Before it the domain marked beside the others, where a collection goes on, and where it found no hint of a block more it asked for the end of the collection
+-- a turn made the entry of a poll, where no finaliser waited. Before it the domain marked beside the others, where a collection goes on, and swept else. Where it marked and found no hint of a block more it asked for the end of the collection
 pub record Polls (h : SharedHeap) (old new : RunView) : Type 0 where
   pub spent : Bool
-  pub marked : RunView
-  pub marks : MarksBeside h old marked spent
+  pub worked : RunView
+  pub works : WorksBeside h old worked spent
   pub made : RunView
-  pub tried : TriesCommand h marked.token marked made Poll
+  pub tried : TriesCommand h worked.token worked made Poll
   pub run : new ≡ asking_end spent made
 
 -- what a running domain does in a turn that found no wish
@@ -283,7 +294,7 @@ pub record Resumes (h : SharedHeap) (old start : RunView) : Type 0 where
   pub passed : Passed h.config old.token.view start.token.view
   pub runs : start.token.view.seen.stage ≡ In Run
   pub collected : IsCollected h.config start.token.view
-  pub run : start ≡ record old { token = record old.token { view = start.token.view }; left = None; hints = start.hints }
+  pub run : start ≡ record old { token = record old.token { view = start.token.view }; left = None; progress = start.progress; hints = start.hints }
 
 -- where the running part of a turn starts
 abbrev pub Starts : SharedHeap → RunView → RunView → Type 0
@@ -301,7 +312,7 @@ pub record GoesBy (h : SharedHeap) (old new : RunView) : Type 0 where
   pub arrived : old.left ≡ Some last
   pub kind : Kind
   pub passes : Passes h.config old.token.view new.token.view last kind
-  pub run : new ≡ record old { token = record old.token { view = new.token.view }; left = Some kind; cut = cut_in last old.cut; whole = whole_after last kind old.whole; hints = new.hints }
+  pub run : new ≡ record old { token = record old.token { view = new.token.view }; left = Some kind; progress = new.progress; hints = new.hints }
 
 -- whether the domain has asked for a pause for the next command
 abbrev pub is_asked : Option ℕ → Bool
@@ -320,7 +331,7 @@ pub record IsAnswered (h : SharedHeap) (old new : RunView) : Type 0 where
   pub waited : WaitsForAnswer old
   pub reply : Reply
   pub answers : AnswersLive h.config old.token.view new.token.view reply
-  pub run : new ≡ record old { token = record old.token { view = new.token.view }; next = old.next + 1; replies = old.replies ++ reply ∷ []; left = Some Answer; asked = None; collected = false; cut = cut_in last old.cut; due = length new.token.view.own.finalisers.queue.items; hints = new.hints }
+  pub run : new ≡ record old { token = record old.token { view = new.token.view }; next = old.next + 1; replies = old.replies ++ reply ∷ []; left = Some Answer; asked = None; collected = false; progress = new.progress; due = length new.token.view.own.finalisers.queue.items; hints = new.hints }
 
 -- whether so many blocks may use up the pools: where each has one to itself, no more pools are free than the reserve of promotion
 abbrev pub may_use_up : Config → ℕ → Bool
@@ -332,13 +343,13 @@ pub record SeesAnswer (h : SharedHeap) (old new : RunView) (blocks : ℕ) : Type
   pub arrived : old.left ≡ Some last
   pub none : WaitsForAnswer old → ⊥
   pub gives : GivesBack h.config old.token.view new.token.view blocks
-  pub run : new ≡ record old { token = record old.token { view = new.token.view }; left = Some Answer; collected = is_asked old.asked && may_use_up h.config blocks; cut = cut_in last old.cut; hints = new.hints }
+  pub run : new ≡ record old { token = record old.token { view = new.token.view }; left = Some Answer; collected = is_asked old.asked && may_use_up h.config blocks; progress = new.progress; hints = new.hints }
 
 -- not all have arrived: the barrier word b, found in this turn, is below the end of the domain's turn
 pub record Waits (h : SharedHeap) (old new : RunView) (b : ℕ) : Type 0 where
   pub arrived : (last : Kind) × (old.left ≡ Some last)
   pub below : b < old.token.view.own.arrivals * h.config.domains
-  pub run : new ≡ record old { token = noted_token old.token (Barrier b); hints = new.hints }
+  pub run : new ≡ record old { token = noted_token old.token (Barrier b); progress = new.progress; hints = new.hints }
 
 -- what a turn answers
 abbrev pub TurnAnswers : SharedHeap → RunView → RunView → Turned → Type 0

@@ -12,9 +12,9 @@ ghost use Rattle.heap_rule.specs.Views.{voided};
 ghost use Rattle.steps_pauses.specs.Pauses.{arrived_view};
 ghost use Rattle.mark_slices.specs.Decks.{StaysDeck};
 ghost use Rattle.domain_turns.specs.Past.{PassAnswers, left_after};
-ghost use Rattle.domain_turns.specs.Pausing.{IsQuiet, HasLeft, KnowsCut, KnowsWhole, LeavesEven, LeavesOdd, LeavesPromote, LeavesReset, IsReady, AnswersFrom, LivesAs, due_of};
+ghost use Rattle.domain_turns.specs.Pausing.{IsQuiet, HasLeft, KnowsProgress, LeavesEven, LeavesOdd, LeavesPromote, LeavesReset, IsReady, AnswersFrom, LivesAs, due_of};
 
-use cycle_phases::{give_back, lead_on, share};
+use cycle_phases::{Progress, give_back, lead_on, share};
 use heap_model::reply::Reply;
 use heap_rule::{Domain, Heap, Kind};
 use mark_slices::Hints;
@@ -39,20 +39,20 @@ pub(crate) enum Past {
 
 // In an odd phase domain 0 names the kind that comes next, and then each domain arrives. Answers the kind
 // of the last even phase that the domain knows of.
-fn leave_odd(heap: &Heap, dom: &mut Domain, last: Kind, cut: bool, whole: bool) -> Kind
+fn leave_odd(heap: &Heap, dom: &mut Domain, last: Kind, progress: &mut Progress) -> Kind
     requires here { IsIn dom.old heap.now }
     requires odd { dom.old.view.seen.stage ≡ Leads last }
     requires at_rest { dom.old.view.seen.hunt ≡ Rests }
     requires idle { dom.old.view.seen.made ≡ [] }
     requires few { dom.old.view.own.arrivals < 2 ^ 60 }
     requires forgot { dom.old.view.seen.share ≡ voided dom.old.view.seen.share }
-    requires cut { KnowsCut last cut dom.old.view }
-    requires whole { KnowsWhole last whole dom.old.view }
+    requires knows { KnowsProgress progress.old dom.old.view }
     ensures here { IsIn dom.new heap.now }
     ensures leaves { LeavesOdd heap.now.config dom.old.view dom.new.view last result }
+    ensures knows { KnowsProgress progress.new dom.new.view }
 {
     if dom.number() == 0 {
-        lead_on(heap, dom, last, cut, whole)
+        lead_on(heap, dom, last, progress)
     } else {
         arrive(heap, dom);
         last
@@ -158,8 +158,7 @@ pub(crate) fn pass(
     heap: &Heap,
     dom: &mut Domain,
     last: Kind,
-    cut: bool,
-    whole: bool,
+    progress: &mut Progress,
     live: bool,
     hints: &mut Hints,
 ) -> Past
@@ -171,17 +170,17 @@ pub(crate) fn pass(
     requires few { dom.old.view.own.arrivals < 2 ^ 60 }
     requires quiet { IsQuiet dom.old.view }
     requires left { HasLeft heap.now.config last dom.old.view }
-    requires cut { KnowsCut last cut dom.old.view }
-    requires whole { KnowsWhole last whole dom.old.view }
+    requires knows { KnowsProgress progress.old dom.old.view }
     requires goes_on { live ≡ true → (domain_at (state_of heap.now.config dom.old.view.seen.front) dom.old.view.own.number).ended ≡ false }
     requires paid { live ≡ true → due_of heap.now.config dom.old.view ≡ 0 }
     ensures here { IsIn dom.new heap.now }
     ensures answer { PassAnswers heap.now.config dom.old.view dom.new.view last live result }
+    ensures knows { KnowsProgress progress.new dom.new.view }
     ensures deck { StaysDeck hints.old hints.new }
 {
     match look(heap, dom) {
         Look::NotAll(b) => Past::Waits(b),
-        Look::Lead => Past::Arrived(leave_odd(heap, dom, last, cut, whole)),
+        Look::Lead => Past::Arrived(leave_odd(heap, dom, last, progress)),
         Look::Next(Kind::Run) => Past::Runs,
         Look::Next(Kind::Answer) => {
             let (blocks, reply) = answer(heap, dom, live);

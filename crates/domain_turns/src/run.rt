@@ -3,8 +3,10 @@ ghost use Rattle.std.specs.Prelude.{◌≡◌, ◌↔◌, ◌<◌, true, false, 
 ghost use Rattle.heap_model.specs.History.{commands as commands_of, replies as replies_of};
 ghost use Rattle.heap_rule.specs.Limits.{sizes_in};
 ghost use Rattle.mark_slices.specs.Slices.{IsDeckOf};
+ghost use Rattle.cycle_phases.specs.Leading.{no_collection};
 ghost use Rattle.domain_turns.specs.Runs.{CanBegin, IsRun};
 
+use cycle_phases::Progress;
 use heap_model::command::Command;
 use heap_model::reply::Reply;
 use heap_rule::{Domain, Kind};
@@ -27,10 +29,8 @@ pub struct DomainRun {
     // Whether the last pause since then was a complete collection that left so many blocks that they
     // may use up the pools.
     pub(crate) collected: bool,
-    // Whether the collection under way is past its cut, for domain 0.
-    pub(crate) cut: bool,
-    // Whether it began in this pause, for domain 0.
-    pub(crate) whole: bool,
+    // How far a collection of the major heap has come, for domain 0.
+    pub(crate) progress: Progress,
     // How many finalisers the domain owes before its next `full_major`: those that waited in its queue
     // after its last one.
     pub(crate) due: usize,
@@ -44,9 +44,9 @@ impl Model for DomainRun {
 
     ghost Value = { RunView };
 
-    ghost view = { λ r. record { token = r.domain; commands = r.commands.items; next = r.next; replies = r.replies.items; ended = r.ended; left = r.left; asked = r.asked; collected = r.collected; cut = r.cut; whole = r.whole; due = r.due; hints = r.hints } };
+    ghost view = { λ r. record { token = r.domain; commands = r.commands.items; next = r.next; replies = r.replies.items; ended = r.ended; left = r.left; asked = r.asked; collected = r.collected; progress = r.progress; due = r.due; hints = r.hints } };
 
-    ghost invariant = { λ r. IsRun (record { token = r.domain; commands = r.commands.items; next = r.next; replies = r.replies.items; ended = r.ended; left = r.left; asked = r.asked; collected = r.collected; cut = r.cut; whole = r.whole; due = r.due; hints = r.hints }) × (length r.commands.items + length r.commands.items ≤ vec_capacity r.replies) };
+    ghost invariant = { λ r. IsRun (record { token = r.domain; commands = r.commands.items; next = r.next; replies = r.replies.items; ended = r.ended; left = r.left; asked = r.asked; collected = r.collected; progress = r.progress; due = r.due; hints = r.hints }) × (length r.commands.items + length r.commands.items ≤ vec_capacity r.replies) };
 }
 
 impl DomainRun {
@@ -54,9 +54,9 @@ impl DomainRun {
     /// history so far; there are at most 200,000 commands, each of a kind that runs on the shared heap
     /// and with its numbers in their ranges; the domain has room for as many ephemerons as they make
     /// and as many finalisers as they register, and none is registered so far; at most 4,000,000,000
-    /// labels were made. The hints are the domain's, among those of all domains. The room for the replies is reserved here: each command answers once, and so
-    /// does each finaliser that it registers. Fails for want of memory alone, and then the domain is
-    /// given up.
+    /// labels were made. The hints are the domain's, among those of all domains. No collection has begun so
+    /// far. The room for the replies is reserved here: each command answers once, and so does each
+    /// finaliser that it registers. Fails for want of memory alone, and then the domain is given up.
     #[tactic(auto, using(crate::proofs::Beginning::begins_between, crate::proofs::Beginning::begins_enlisted, crate::proofs::Beginning::begins_replied))]
     pub fn make(
         alloc: Global,
@@ -66,7 +66,7 @@ impl DomainRun {
     ) -> Result<DomainRun, AllocError>
         requires begins { CanBegin dom commands.items }
         requires deck { IsDeckOf dom.config dom.view hints }
-        ensures { IfOk result (λ r. r ≡ record { token = dom; commands = commands.items; next = 0; replies = []; ended = false; left = None; asked = None; collected = false; cut = false; whole = true; due = 0; hints = hints }) }
+        ensures { IfOk result (λ r. r ≡ record { token = dom; commands = commands.items; next = 0; replies = []; ended = false; left = None; asked = None; collected = false; progress = no_collection; due = 0; hints = hints }) }
     {
         let replies = Vec::with_capacity(alloc, 2 * commands.len())?;
         Ok(DomainRun {
@@ -78,8 +78,7 @@ impl DomainRun {
             left: None,
             asked: None,
             collected: false,
-            cut: false,
-            whole: true,
+            progress: Progress::start(),
             due: 0,
             hints,
         })

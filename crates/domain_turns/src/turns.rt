@@ -8,7 +8,7 @@ ghost use Rattle.steps_pauses.specs.Pauses.{noted, arrived_view};
 ghost use Rattle.heap_rule.specs.Running.{Runs};
 ghost use Rattle.heap_rule.specs.Token.{IsIn};
 ghost use Rattle.safepoint.specs.Looks.{bit_of};
-ghost use Rattle.domain_turns.specs.Runs.{HasEnded, EndsTrace, RunAnswers, TurnAnswers, RestAnswers, CalmAnswers, GoesOn, CalmDid, IsUnqueued, MarksBeside, Polls, RunsFinaliser, TrialAnswers, WaitsForAnswer, is_asked, may_use_up, served_since, noted_token};
+ghost use Rattle.domain_turns.specs.Runs.{HasEnded, EndsTrace, RunAnswers, TurnAnswers, RestAnswers, CalmAnswers, GoesOn, CalmDid, IsUnqueued, Polls, RunsFinaliser, TrialAnswers, WaitsForAnswer, is_asked, may_use_up, served_since, noted_token, WorksBeside};
 ghost use Rattle.domain_turns.specs.Past.{PastAnswers};
 ghost use Rattle.domain_turns.specs.declared.turned.Turned as turned;
 
@@ -16,7 +16,6 @@ use crate::command::{Attempt, try_command};
 use crate::passing::{Past, left_after, pass};
 use crate::run::DomainRun;
 use crate::turned::Turned;
-use cycle_phases::{cut_after, whole_after};
 use finaliser_queues::run_next;
 use heap_model::command::Command;
 use heap_rule::{Domain, Heap, Kind};
@@ -25,6 +24,7 @@ use safepoint::{Want, arrive, ask, wants};
 use size_classes::reserve;
 use steps_cycle::armed_now;
 use steps_pauses::{ended_add, ended_load};
+use sweeper::sweep_slice;
 
 // Makes the entry of the end of a trace. The registers hold nothing then.
 fn end(heap: &Heap, dom: &mut Domain)
@@ -138,22 +138,24 @@ fn wish(heap: &Heap, run: &mut DomainRun, want: Want)
     run.asked = Some(run.domain.arrivals());
 }
 
-// How many blocks a domain scans in a poll.
+// How many blocks a domain scans in a poll, or how many places it sweeps.
 const SLICE: u32 = 256;
 
-// Marks blocks beside the other domains, where a collection goes on beside running domains. Answers
-// whether it found no hint of a block more that is to be scanned.
-fn mark_beside(heap: &Heap, run: &mut DomainRun) -> bool
+// Works for the collector beside the other domains: marks blocks, where a collection goes on beside
+// running domains, and sweeps own pools else. Answers whether it marked, and found no hint of a block
+// more that is to be scanned.
+fn work_beside(heap: &Heap, run: &mut DomainRun) -> bool
     requires here { IsIn run.old.token heap.now }
     requires left { run.old.left ≡ None }
     ensures here { IsIn run.new.token heap.now }
-    ensures marks { MarksBeside heap.now run.old run.new result }
+    ensures works { WorksBeside heap.now run.old run.new result }
 {
-    if !armed_now(heap, &mut run.domain) {
-        return false;
+    if armed_now(heap, &mut run.domain) {
+        let scanned = slice(heap, &mut run.domain, &mut run.hints, SLICE);
+        return scanned.why == Why::NoneFound;
     }
-    let scanned = slice(heap, &mut run.domain, &mut run.hints, SLICE);
-    scanned.why == Why::NoneFound
+    sweep_slice(heap, &mut run.domain, SLICE);
+    false
 }
 
 // Asks for the end of the collection that goes on beside running domains.
@@ -177,7 +179,7 @@ fn poll(heap: &Heap, run: &mut DomainRun, command: &Command)
     ensures here { IsIn run.new.token heap.now }
     ensures polls { Polls heap.now run.old run.new }
 {
-    let spent = mark_beside(heap, run);
+    let spent = work_beside(heap, run);
     match try_next(heap, run, command) {
         None if spent => ask_end(heap, run),
         None => (),
@@ -307,19 +309,13 @@ fn pass_by(heap: &Heap, run: &mut DomainRun, last: Kind) -> Past
         heap,
         &mut run.domain,
         last,
-        run.cut,
-        run.whole,
+        &mut run.progress,
         live,
         &mut run.hints,
     );
     run.left = left_after(&past, last);
     match past {
-        Past::Arrived(kind) => {
-            run.cut = cut_after(last, run.cut);
-            run.whole = whole_after(last, kind, run.whole);
-        }
         Past::Answered { blocks, reply } => {
-            run.cut = cut_after(last, run.cut);
             run.collected = lets_refuse(heap, run.asked, blocks);
             if let Some(reply) = reply {
                 run.replies.push_reserved(reply);
@@ -329,7 +325,7 @@ fn pass_by(heap: &Heap, run: &mut DomainRun, last: Kind) -> Past
                 run.due = run.domain.queued();
             }
         }
-        Past::Waits(_) | Past::Runs => (),
+        Past::Waits(_) | Past::Arrived(_) | Past::Runs => (),
     }
     past
 }
@@ -364,13 +360,16 @@ fn turn_on(heap: &Heap, run: &mut DomainRun) -> Turned
 /// and no more word can be remembered; for one of the major heap where it is `major` and no pause has
 /// served it; and for a complete one where it is `full_major`, or where it is an allocation that is
 /// refused in this turn. One for a young block is refused exactly where fewer pools are free than
-/// promotion may need, and one for the major heap exactly where no pool is to be had. It is answered
+/// promotion may need, and one for the major heap exactly where no pool is to be had and no own pool is
+/// left to be swept. It is answered
 /// `full` instead where a complete collection has come since it was first tried, no pause after that, and
 /// that collection left so many blocks that they may use up the pools.
 ///
 /// Before a `poll`, where a collection goes on beside running domains, the domain marks: it scans 256
 /// blocks, or looks at 8192 that it has noted, or finds that it has noted none more, and then it asks for
-/// the end of the collection.
+/// the end of the collection. Where none goes on it sweeps: it looks at 256 places of its own pools and
+/// frees the garbage there, or no own pool is left to be swept. From one collection to the next it looks
+/// at each place once.
 ///
 /// A `full_major` is answered in the pause, as the collection is, and after all finalisers that waited
 /// when the domain's last `full_major` was answered. A domain that runs again after a pause

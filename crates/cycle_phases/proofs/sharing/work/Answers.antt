@@ -1,9 +1,6 @@
 use Rattle.std.proofs.Common.{rules}
-use Rattle.cycle_phases.proofs.Works.{decide_works, lasts_works}
+use Rattle.cycle_phases.proofs.Works.{decide_works}
 use Rattle.cycle_phases.proofs.sharing.work.Goals as goal
 
 pub returns-in-Decide-clause-works : goal.returns-in-Decide-clause-works
 returns-in-Decide-clause-works c = search (rules, decide_works)
-
-pub returns-in-Lasts-clause-works : goal.returns-in-Lasts-clause-works
-returns-in-Lasts-clause-works c = search (rules, lasts_works)
