@@ -23,8 +23,9 @@ use Rattle.heap_rule.specs.Token.{Token, SharedHeap, Holds, IsIn, next_label}
 use Rattle.steps_pools.specs.Takes.{with_hunt}
 use Rattle.steps_pools.specs.Ephemerons.{empty_word, with_ephemeron, EpheMay, EpheTold}
 use Rattle.steps_pools.proofs.Plain.{ephe_rest}
-use Rattle.size_pools.specs.Created.{Lists, ListsHeld}
-use Rattle.size_pools.specs.Taken.{Hunted, IsBusy, IsRoom}
+use Rattle.size_pools.specs.Created.{Lists, ListsHeld, with_list}
+use Rattle.size_pools.specs.Taken.{IsBusy, IsRoom, MaySweep, Searched, Sought}
+use Rattle.size_pools.proofs.Seeking.{may_still, sought_sweep, sought_view}
 use Rattle.size_pools.proofs.Writing.{busy_acts, made_did}
 
 -- a place with room for so many words has room for as many
@@ -59,14 +60,22 @@ ephe_did h old new mid e at dst keys l hunt changes is runs here view told label
     made_did h old new mid e (Ephe dst keys) l hunt _ _ _ is runs here view (ephe_rest _ _ _ _ _ _ told) told.answers label
 
 -- the ephemeron is listed, and the register holds its address
-pub took_lists : (k : Config) (a dst : ℕ) (old mid new : Token) (hunt : Hunt) → dst < 16 → Hunted old.view mid.view hunt → Lists a mid new → new.view.own.registers ≡ slice_set mid.view.own.registers dst (Ref a) → Holds k new.view.own.registers → ListsHeld dst old new
-took_lists k a dst old mid new hunt few view l registers holds =
+pub taken_lists : (h : SharedHeap) (a dst : ℕ) (old mid new : Token) (hunt : Hunt) → dst < 16 → IsIn old h → Sought h.config old.view mid.view hunt → Lists a mid new → new.view.own.registers ≡ slice_set mid.view.own.registers dst (Ref a) → Holds h.config new.view.own.registers → ListsHeld dst old new
+taken_lists h a dst old mid new hunt few here sought l registers holds =
     let before : List Value = mid.view.own.registers in
     let wide : length before ≡ 16 = sym (length-set before dst (Ref a)) ∙ (sym (ap (λ (r : List Value). length r) registers) ∙ holds.wide) in record {
       at = a;
       held = ap (λ (r : List Value). value_at r dst) registers ∙ get_or-set_same before dst (Ref a) Nothing (let n : ℕ = length before in let w : n ≡ 16 = wide in let f : dst < 16 = few in let o : dst < n = omega arith in o);
-      own = l.own ∙ (λ i. record (view i).own { registers = new.view.own.registers; serial = (view i).own.serial + 1; looked = looks i; ephemerons = with_ephemeron a (view i).own.ephemerons });
+      list = mid.view.own.ephemerons;
+      own = l.own ∙ (λ i. record (view i).own { registers = new.view.own.registers; serial = (view i).own.serial + 1; looked = looks i; ephemerons = with_ephemeron a mid.view.own.ephemerons; swept = next i });
+      sweep = subst (λ (k : Config). MaySweep k old.view (with_list new.view mid.view.own.ephemerons)) (sym here.1) (may_still h.config old.view mid.view (with_list new.view mid.view.own.ephemerons) refl next (sought_sweep h.config old.view mid.view hunt sought));
       at_rest = l.at_rest;
     } where
+      view : Searched old.view mid.view hunt
+      view = sought_view h.config old.view mid.view hunt sought
+
       looks : mid.view.own.looked ≡ new.view.own.looked
       looks = sym (ap (λ (o : Own). o.looked) l.own)
+
+      next : mid.view.own.swept ≡ new.view.own.swept
+      next = sym (ap (λ (o : Own). o.swept) l.own)

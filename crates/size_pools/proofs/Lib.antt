@@ -1,4 +1,5 @@
 pub mod Searching
+pub mod Seeking
 pub mod Writing
 pub mod ListWriting
 pub mod Creating

@@ -1,7 +1,7 @@
 -- The writing of a block at a free place of an own pool.
 use Rattle.remembered_set.specs.Bounded.{Bounded}
 use Rattle.heap_model.specs.Domains.{class_count, IsWithinLimits}
-use Rattle.std.proofs.Common.{◌≡◌, ◌≢◌, ◌∙◌, ℕ, ◌+◌, ◌*◌, ◌^◌, ◌<◌, ◌≤◌, List, [], ◌∷◌, Bool, true, false, None, replicate, slice_set, inl, inr, ⊎_elim, refl, ap, sym, subst, arith, lt_of_not-le}
+use Rattle.std.proofs.Common.{◌≡◌, ◌≢◌, ◌∙◌, ℕ, ◌+◌, ◌*◌, ◌^◌, ◌<◌, ◌≤◌, List, [], ◌∷◌, Bool, true, false, None, replicate, slice_set, inl, inr, ◌⊎◌, ⊎_elim, refl, ap, sym, subst, arith, lt_of_not-le}
 use Rattle.heap_model.specs.declared.label.Label.{Label}
 use Rattle.heap_model.specs.declared.command.Command.{Command as CommandType}
 use Rattle.heap_model.specs.declared.command.Command.TheVariants.{AllocMaj}
@@ -10,6 +10,7 @@ use Rattle.heap_model.specs.declared.entry.Entry.TheVariants.{Command}
 use mathlib.Core.Logic.{dite}
 use native.Mathlib.Decide.{ℕ_discrete, dec_le}
 use Rattle.heap_rule.specs.declared.view.Own.{Own}
+use Rattle.heap_rule.specs.declared.view.Swept.{Swept}
 use Rattle.heap_model.specs.declared.reply.Reply.{Reply}
 use Rattle.heap_model.specs.declared.reply.Reply.TheVariants.{Block}
 use Rattle.heap_model.specs.declared.reply.Applied.TheVariants.{Replied}
@@ -35,10 +36,12 @@ use Rattle.heap_rule.specs.Token.{Token, SharedHeap, IsIn}
 use Rattle.heap_rule.proofs.Calls.{acting_did}
 use Rattle.heap_rule.proofs.Classes.{slot_inside, size_is}
 use Rattle.size_pools.specs.NewMarks.{AreNewMarks}
-use Rattle.size_pools.specs.Taken.{Hunted, FoundOwn, Unreserved, HasPlace, IsBusy, Took, IsRoom, Grows, GrowsBy, PutsPlace}
+use Rattle.size_pools.specs.Taken.{FoundOwn, FoundSwept, Grows, GrowsBy, HasPlace, IsBusy, IsRoom, MaySweep, PutsPlace, Searched, Sought, Taken, Unreserved}
 use Rattle.size_classes.specs.Table.{IsLeastFor}
 use Rattle.size_classes.specs.declared.TheConstants.{SIZES}
 use Rattle.steps_pools.proofs.Plain.{major_rest}
+use Rattle.sweeper.specs.Sweeping.{with_sweep}
+use Rattle.size_pools.proofs.Seeking.{may_still, sought_sweep, sought_view}
 
 -- the block's words lie in the pools
 pub room_inside : (k : Config) (x : DomainView) (a n : ℕ) → IsRoom k x a n → (1 ≤ a) × (a + n ≤ k.pools * 4096 + 1)
@@ -133,21 +136,21 @@ pub major_did : (h : SharedHeap) (old new : Token) (mid : DomainView) (e : Entry
 major_did h old new mid e dst tag n l hunt changes is runs here view told label =
     made_did h old new mid e (AllocMaj dst tag n) l hunt _ _ _ is runs here view (major_rest _ _ _ _ _ told) told.answers label
 
--- a search leaves the remembered fields
-hunted_remembers : (x y : DomainView) (hunt : Hunt) → Hunted x y hunt → RemembersAll x → RemembersAll y
-hunted_remembers x y hunt view all = ap (λ (z : DomainView). z.seen.remembered) view ∙ (all ∙ sym (ap (λ (z : DomainView). z.own.remembered.items) view))
+-- a search leaves the remembered fields, and so does a sweep
+searched_remembers : (x y : DomainView) (hunt : Hunt) → Searched x y hunt → RemembersAll x → RemembersAll y
+searched_remembers x y hunt view all = ap (λ (z : DomainView). z.seen.remembered) view ∙ (all ∙ sym (ap (λ (z : DomainView). z.own.remembered.items) view))
 
 -- after a search the domain runs on
-pub hunted_runs : (h : SharedHeap) (old new : Token) (hunt : Hunt) → Runs h old → IsIn new h → Hunted old.view new.view hunt → IsBusy h new
-hunted_runs h old new hunt runs here view = record {
+pub searched_runs : (h : SharedHeap) (old new : Token) (hunt : Hunt) → Runs h old → IsIn new h → Searched old.view new.view hunt → IsBusy h new
+searched_runs h old new hunt runs here view = record {
   here = here;
-  acts = subst (λ (z : Config × DomainView). Acts z.0 z.1) (λ i. (sym (here.1 ∙ sym runs.here.1) i, sym view i)) (let a : Acts old.config (hunting_free old.view new.view.own.looked hunt new.view.seen.free) = record { goes_on = runs.acts.goes_on; runs = runs.acts.runs; paid = runs.acts.paid; unqueued = runs.acts.unqueued } in a);
+  acts = subst (λ (z : Config × DomainView). Acts z.0 z.1) (λ i. (sym (here.1 ∙ sym runs.here.1) i, sym view i)) (let a : Acts old.config (hunting_free (with_sweep old.view new.view) new.view.own.looked hunt new.view.seen.free) = record { goes_on = runs.acts.goes_on; runs = runs.acts.runs; paid = runs.acts.paid; unqueued = runs.acts.unqueued } in a);
   idle = ap (λ (x : DomainView). x.seen.made) view ∙ runs.idle;
-  remembers = hunted_remembers old.view new.view hunt view runs.remembers;
+  remembers = searched_remembers old.view new.view hunt view runs.remembers;
 }
 
-pub hunted_did : (h : SharedHeap) (old mid new : Token) (hunt : Hunt) (c : CommandType) (r : Reply) → Runs h old → IsIn mid h → Hunted old.view mid.view hunt → Did h mid new c r → Did h old new c r
-hunted_did h old mid new hunt c r runs here view did =
+pub searched_did : (h : SharedHeap) (old mid new : Token) (hunt : Hunt) (c : CommandType) (r : Reply) → Runs h old → IsIn mid h → Searched old.view mid.view hunt → Did h mid new c r → Did h old new c r
+searched_did h old mid new hunt c r runs here view did =
     let config : mid.config ≡ old.config = here.1 ∙ sym runs.here.1 in record {
       runs = did.runs;
       answers = subst (λ (z : Config × DomainView). Answers (sizes_in z.0) z.1.own.number z.1.seen.front new.view.seen.front (Command z.1.own.number c false) (Replied r)) (λ i. (config i, view i)) did.answers;
@@ -159,25 +162,35 @@ hunted_did h old mid new hunt c r runs here view did =
         copying = did.stays.copying ∙ ap (λ (x : DomainView). x.seen.copying) view;
         queue = did.stays.queue ∙ ap (λ (x : DomainView). x.own.finalisers.queue) view;
         weak = did.stays.weak ∙ ap (λ (x : DomainView). x.seen.share.weak) view;
-        remembers = λ all. did.stays.remembers (hunted_remembers old.view mid.view hunt view all);
+        remembers = λ all. did.stays.remembers (searched_remembers old.view mid.view hunt view all);
       };
     }
 
-pub hunted_grows : (old mid new : Token) (hunt : Hunt) → Hunted old.view mid.view hunt → Grows mid new → GrowsBy old new
-hunted_grows old mid new hunt view g = record {
-  own = g.own ∙ (λ i. record (view i).own { registers = new.view.own.registers; serial = (view i).own.serial + 1; looked = looks i });
+pub searched_grows : (h : SharedHeap) (old mid new : Token) (hunt : Hunt) → IsIn old h → Sought h.config old.view mid.view hunt → Grows mid new → GrowsBy old new
+searched_grows h old mid new hunt here sought g = record {
+  own = g.own ∙ (λ i. record (view i).own { registers = new.view.own.registers; serial = (view i).own.serial + 1; looked = looks i; ephemerons = listed i; swept = next i });
+  sweep = subst (λ (k : Config). MaySweep k old.view new.view) (sym here.1) (may_still h.config old.view mid.view new.view listed next (sought_sweep h.config old.view mid.view hunt sought));
   at_rest = g.at_rest;
 } where
+  view : Searched old.view mid.view hunt
+  view = sought_view h.config old.view mid.view hunt sought
+
   looks : mid.view.own.looked ≡ new.view.own.looked
   looks = sym (ap (λ (o : Own). o.looked) g.own)
 
+  listed : mid.view.own.ephemerons ≡ new.view.own.ephemerons
+  listed = sym (ap (λ (o : Own). o.ephemerons) g.own)
+
+  next : mid.view.own.swept ≡ new.view.own.swept
+  next = sym (ap (λ (o : Own). o.swept) g.own)
+
 -- the place taken has room
-pub took_room : (k : Config) (class a n : ℕ) (x y : DomainView) → class < class_count → IsLeastFor SIZES n class → Took k class a x y → IsRoom k y a n
-took_room k class a n x y few least t = record {
+pub taken_room : (k : Config) (class a n : ℕ) (x y : DomainView) → class < class_count → IsLeastFor SIZES n class → Taken k class a x y → IsRoom k y a n
+taken_room k class a n x y few least t = record {
   pool = t.pool;
   class = class;
   slot = t.slot;
-  hunt = ap (λ (z : DomainView). z.seen.hunt) t.view;
+  hunt = ap (λ (z : DomainView). z.seen.hunt) (sought_view k x y (Fills t.pool class t.slot []) t.view);
   inside = t.inside;
   of_class = few;
   below = t.below;
@@ -186,20 +199,26 @@ took_room k class a n x y few least t = record {
 }
 
 -- the register holds its address
-pub took_puts : (k : Config) (class a n dst : ℕ) (old mid new : Token) → IsLeastFor SIZES n class → Took k class a old.view mid.view → new.view.own.registers ≡ slice_set mid.view.own.registers dst (Ref a) → PutsPlace k dst n old new
-took_puts k class a n dst old mid new least t registers = record {
+pub taken_puts : (k : Config) (class a n dst : ℕ) (old mid new : Token) → IsLeastFor SIZES n class → Taken k class a old.view mid.view → new.view.own.registers ≡ slice_set mid.view.own.registers dst (Ref a) → PutsPlace k dst n old new
+taken_puts k class a n dst old mid new least t registers = record {
   pool = t.pool;
   class = class;
   slot = t.slot;
   inside = t.inside;
   least = least;
   below = t.below;
-  registers = registers ∙ (λ i. slice_set (ap (λ (z : DomainView). z.own.registers) t.view i) dst (Ref (t.address i)));
+  registers = registers ∙ (λ i. slice_set (ap (λ (z : DomainView). z.own.registers) (sought_view k old.view mid.view (Fills t.pool class t.slot []) t.view) i) dst (Ref (t.address i)));
 }
 
 -- what was found of free pools is still known
-pub has_still : (k : Config) (class : ℕ) (x y z : DomainView) → HasPlace k class x y → z.seen.free ≡ y.seen.free → HasPlace k class x z
-has_still k class x y z has same = ⊎_elim (λ (o : FoundOwn k class x y). inl (record { left = o.left; unseen = same ∙ o.unseen })) (λ (u : Unreserved k y). inr (record { free = u.free; found = same ∙ u.found; more = u.more })) has
+pub has_still : (k : Config) (class : ℕ) (x y z : DomainView) → HasPlace k class x y → z.seen.free ≡ y.seen.free → z.own.swept ≡ y.own.swept → HasPlace k class x z
+has_still k class x y z has same next = ⊎_elim
+    (λ (o : FoundOwn k class x y). inl (record { left = o.left; unseen = same ∙ o.unseen }))
+    (λ (u : Unreserved k y ⊎ FoundSwept k x y). inr (⊎_elim
+    (λ (u : Unreserved k y). inl (record { free = u.free; found = same ∙ u.found; more = u.more }))
+    (λ (f : FoundSwept k x y). inr (record { left = f.left; done = subst (λ (s : Swept). k.pools ≤ s.spot.pool) (sym next) f.done; free = f.free; reserved = record { found = same ∙ f.reserved.found; few = f.reserved.few } }))
+    u))
+    has
 
 -- the least class is one
 pub least_one : (words c d : ℕ) → IsLeastFor SIZES words c → IsLeastFor SIZES words d → c ≡ d

@@ -1,19 +1,28 @@
 -- What a domain owns after it has made an ephemeron.
 use Rattle.std.specs.Prelude.{◌≡◌, ℕ, ◌+◌}
 use Rattle.heap_words.specs.declared.value.Value.TheVariants.{Ref}
+use Rattle.remembered_set.specs.Bounded.{Bounded}
+use Rattle.heap_rule.specs.declared.view.DomainView.{DomainView}
 use Rattle.heap_rule.specs.declared.view.Hunt.TheVariants.{Rests}
 use Rattle.heap_rule.specs.Changes.{value_at}
 use Rattle.heap_rule.specs.Token.{Token}
 use Rattle.steps_pools.specs.Ephemerons.{with_ephemeron}
+use Rattle.size_pools.specs.Taken.{MaySweep}
 
 -- besides its registers, the token has given out one label more, lists one ephemeron more, at this address, and takes no block
 pub record Lists (at : ℕ) (old new : Token) : Type 0 where
   pub own : new.view.own ≡ record old.view.own { registers = new.view.own.registers; serial = old.view.own.serial + 1; ephemerons = with_ephemeron at old.view.own.ephemerons }
   pub at_rest : new.view.seen.hunt ≡ Rests
 
--- the same, and other places were looked at. Register dst holds the ephemeron's address
+-- the domain with this list of ephemerons
+abbrev pub with_list : DomainView → Bounded ℕ → DomainView
+with_list x list = record x { own = record x.own { ephemerons = list } }
+
+-- The same, other places were looked at, and own pools may have been swept: the ephemeron is put on the list as it was before or as it was after that. Register dst holds the ephemeron's address
 pub record ListsHeld (dst : ℕ) (old new : Token) : Type 0 where
   pub at : ℕ
   pub held : value_at new.view.own.registers dst ≡ Ref at
-  pub own : new.view.own ≡ record old.view.own { registers = new.view.own.registers; serial = old.view.own.serial + 1; looked = new.view.own.looked; ephemerons = with_ephemeron at old.view.own.ephemerons }
+  pub list : Bounded ℕ
+  pub own : new.view.own ≡ record old.view.own { registers = new.view.own.registers; serial = old.view.own.serial + 1; looked = new.view.own.looked; ephemerons = with_ephemeron at list; swept = new.view.own.swept }
+  pub sweep : MaySweep old.config old.view (with_list new.view list)
   pub at_rest : new.view.seen.hunt ≡ Rests

@@ -1,5 +1,5 @@
 -- What a domain knows of the pools after a search for a free place.
-use Rattle.std.specs.Prelude.{◌≡◌, ℕ, ◌+◌, ◌<◌, ◌≤◌, ◌⊎◌, slice_set, replicate, [], ◌∷◌, Some}
+use Rattle.std.specs.Prelude.{◌≡◌, ℕ, ◌+◌, ◌<◌, ◌≤◌, ◌⊎◌, slice_set, replicate, [], ◌∷◌, List, ◌++◌, Some}
 use Rattle.heap_model.specs.Domains.{class_count, reserve}
 use Rattle.heap_words.specs.declared.value.Value.TheVariants.{Ref}
 use Rattle.heap_words.specs.Labels.{label_word}
@@ -10,11 +10,15 @@ use Rattle.heap_rule.specs.declared.config.Config.{Config}
 use Rattle.heap_rule.specs.declared.view.DomainView.{DomainView}
 use Rattle.heap_rule.specs.declared.view.Hunt.{Hunt}
 use Rattle.heap_rule.specs.declared.view.Hunt.TheVariants.{Rests, Draws, Fills}
+use Rattle.heap_rule.specs.declared.view.Spot.{Spot}
 use Rattle.heap_rule.specs.Pools.{size_of, blocks_of, place_in, spot_at, hunting_free}
 use Rattle.heap_rule.specs.Token.{Token, SharedHeap, IsIn}
 use Rattle.heap_rule.specs.Running.{RemembersAll}
 use Rattle.heap_rule.specs.Standing.{Acts}
 use Rattle.steps_pools.specs.Takes.{HasNoDraw, NoneFree, with_hunt}
+use Rattle.sweeper.specs.Pruning.{Shortens}
+use Rattle.sweeper.specs.Sweeping.{with_sweep}
+use Rattle.sweeper.specs.Walks.{IsWalk}
 
 -- all but what the domain knows of pools is as before
 abbrev pub Hunted : DomainView → DomainView → Hunt → Type 0
@@ -36,9 +40,50 @@ pub record FoundOwn (k : Config) (class : ℕ) (x y : DomainView) : Type 0 where
   pub left : (spot_at x.own.looked class).pool < k.pools
   pub unseen : y.seen.free ≡ x.seen.free
 
--- where a free place may come from: a place of an own pool was found, or more pools were found free than the reserve
+-- no more pools were found free than the reserve, own pools were left to be swept, and after all of these were swept a place was found
+pub record FoundSwept (k : Config) (x y : DomainView) : Type 0 where
+  pub left : x.own.swept.spot.pool < k.pools
+  pub done : k.pools ≤ y.own.swept.spot.pool
+  pub free : ℕ
+  pub reserved : Reserved k free y
+
+-- where a free place may come from: a place of an own pool was found, more pools were found free than the reserve, or a place was found after a sweep
 abbrev pub HasPlace : Config → ℕ → DomainView → DomainView → Type 0
-HasPlace k class x y = FoundOwn k class x y ⊎ Unreserved k y
+HasPlace k class x y = FoundOwn k class x y ⊎ Unreserved k y ⊎ FoundSwept k x y
+
+-- all but what the domain knows of pools and what a sweep changes is as before
+abbrev pub Searched : DomainView → DomainView → Hunt → Type 0
+Searched x y hunt = y ≡ hunting_free (with_sweep x y) y.own.looked hunt y.seen.free
+
+-- It was looked at how many pools are free. Own pools were left to be swept, and all of these were swept, each place once, before the search ended. What is listed was listed before, and there is room for as many more as are no longer
+pub record SweptFirst (k : Config) (x y : DomainView) (hunt : Hunt) : Type 0 where
+  pub left : x.own.swept.spot.pool < k.pools
+  pub counted : (free : ℕ) × (y.seen.free ≡ Some free)
+  pub view : Searched x y hunt
+  pub shortens : Shortens x y
+  pub places : List Spot
+  pub swept : y.seen.share.swept ≡ places ++ x.seen.share.swept
+  pub walk : IsWalk x.own.swept.spot places y.own.swept.spot
+  pub done : k.pools ≤ y.own.swept.spot.pool
+
+-- what a search changes: what the domain knows of pools, and where it swept first what that changes
+abbrev pub Sought : Config → DomainView → DomainView → Hunt → Type 0
+Sought k x y hunt = Hunted x y hunt ⊎ SweptFirst k x y hunt
+
+-- the list of ephemerons and the next place to be swept are as before
+pub record SweptNone (x y : DomainView) : Type 0 where
+  pub listed : y.own.ephemerons ≡ x.own.ephemerons
+  pub next : y.own.swept ≡ x.own.swept
+
+-- own pools were left to be swept, and none is left
+pub record SweptRest (k : Config) (x y : DomainView) : Type 0 where
+  pub left : x.own.swept.spot.pool < k.pools
+  pub done : k.pools ≤ y.own.swept.spot.pool
+
+-- a sweep may have come between, of all own pools that were left. What is listed was listed before, and there is room for as many more as are no longer
+pub record MaySweep (k : Config) (x y : DomainView) : Type 0 where
+  pub shortens : Shortens x y
+  pub whole : SweptNone x y ⊎ SweptRest k x y
 
 -- the pool at a place of the list is drawn, and more were found free than the reserve
 pub record DrewPool (k : Config) (place class : ℕ) (x y : DomainView) : Type 0 where
@@ -64,6 +109,16 @@ pub record Took (k : Config) (class a : ℕ) (x y : DomainView) : Type 0 where
   pub below : slot < blocks_of class
   pub address : a ≡ place_in pool class slot
   pub view : Hunted x y (Fills pool class slot [])
+  pub next : spot_at y.own.looked class ≡ record { pool = pool; slot = slot }
+
+-- the same, and own pools may have been swept first
+pub record Taken (k : Config) (class a : ℕ) (x y : DomainView) : Type 0 where
+  pub pool : ℕ
+  pub slot : ℕ
+  pub inside : pool < k.pools
+  pub below : slot < blocks_of class
+  pub address : a ≡ place_in pool class slot
+  pub view : Sought k x y (Fills pool class slot [])
   pub next : spot_at y.own.looked class ≡ record { pool = pool; slot = slot }
 
 -- none is taken, and no pool is drawn
@@ -109,9 +164,10 @@ pub record Grows (old new : Token) : Type 0 where
   pub own : new.view.own ≡ record old.view.own { registers = new.view.own.registers; serial = old.view.own.serial + 1 }
   pub at_rest : new.view.seen.hunt ≡ Rests
 
--- the same, and other places were looked at
+-- the same, other places were looked at, and own pools may have been swept
 pub record GrowsBy (old new : Token) : Type 0 where
-  pub own : new.view.own ≡ record old.view.own { registers = new.view.own.registers; serial = old.view.own.serial + 1; looked = new.view.own.looked }
+  pub own : new.view.own ≡ record old.view.own { registers = new.view.own.registers; serial = old.view.own.serial + 1; looked = new.view.own.looked; ephemerons = new.view.own.ephemerons; swept = new.view.own.swept }
+  pub sweep : MaySweep old.config old.view new.view
   pub at_rest : new.view.seen.hunt ≡ Rests
 
 -- register dst holds the address of a place of a pool, of the class for so many words, and the other registers are as before

@@ -12,7 +12,7 @@ ghost use Rattle.size_classes.specs.Table.{IsLeastFor};
 ghost use Rattle.size_classes.specs.declared.TheConstants.{SIZES};
 ghost use Rattle.size_pools.specs.Created.{Lists, ListsHeld};
 ghost use Rattle.size_pools.specs.NewMarks.{AreNewMarks};
-ghost use Rattle.size_pools.specs.Taken.{Hunted, Reserved, HasPlace, IsBusy, IsRoom, PutsPlace};
+ghost use Rattle.size_pools.specs.Taken.{Reserved, HasPlace, Sought, IsBusy, IsRoom, PutsPlace};
 
 use crate::new_marks::{NewMarks, new_marks};
 use crate::no_pool::NoPool;
@@ -95,9 +95,10 @@ fn write_ephemeron(heap: &Heap, dom: &mut Domain, at: u32, dst: u8, keys: u16) -
 /// one more ephemeron, fewer than 4,294,967,295 labels were made, and no finaliser waits in the
 /// domain's queue.
 ///
-/// `NoPool` exactly where no own pool of the ephemeron's class has a free block and the number of
-/// pools that were free at that step is at most the reserve of promotion. Then no entry stands, and
-/// nothing changes but the places that were looked at.
+/// `NoPool` exactly where no own pool of the ephemeron's class has a free block, no own pool is left to
+/// be swept, and the number of pools that were free at that step is at most the reserve of promotion.
+/// Then no entry stands, and nothing changes but the places that were looked at and what a sweep of own
+/// pools changes.
 pub fn create(heap: &Heap, dom: &mut Domain, dst: u8, keys: u16) -> Result<Label, NoPool>
     requires runs { Runs heap.now dom.old }
     requires dst { dst < 16 }
@@ -110,7 +111,8 @@ pub fn create(heap: &Heap, dom: &mut Domain, dst: u8, keys: u16) -> Result<Label
     ensures has_place { OnOk result ((class : ℕ) → IsLeastFor SIZES (keys + 3) class → HasPlace heap.now.config class dom.old.view dom.new.view) }
     ensures reserved { IfErr result (λ n. Reserved heap.now.config n.free dom.new.view) }
     ensures none_free { OnErr result ((class : ℕ) → IsLeastFor SIZES (keys + 3) class → NoneFree heap.now.config dom.new.view class) }
-    ensures same { OnErr result (Hunted dom.old.view dom.new.view Rests) }
+    ensures swept { OnErr result (heap.now.config.pools ≤ dom.new.view.own.swept.spot.pool) }
+    ensures same { OnErr result (Sought heap.now.config dom.old.view dom.new.view Rests) }
     ensures here { IsIn dom.new heap.now }
 {
     let class = class_for(usize::from(keys) + 3);

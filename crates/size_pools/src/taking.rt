@@ -1,32 +1,30 @@
 //! A free block of the pools.
 ghost use Rattle.heap_model.specs.Domains.{class_count};
-ghost use Rattle.std.specs.Prelude.{◌≡◌, ◌<◌, ◌≤◌, IfOk, IfErr, OnOk, OnErr, None};
+ghost use Rattle.std.specs.Prelude.{◌≡◌, ◌<◌, ◌≤◌, ◌⊎◌, IfOk, IfErr, OnOk, OnErr, None};
 ghost use Rattle.heap_rule.specs.Pools.{prepared_at};
 ghost use Rattle.heap_rule.specs.declared.phase.Kind.TheVariants.{Run, Promote};
 ghost use Rattle.heap_rule.specs.declared.phase.Stage.TheVariants.{In};
 ghost use Rattle.heap_rule.specs.declared.view.Hunt.TheVariants.{Rests};
 ghost use Rattle.steps_pools.specs.Takes.{HasNoDraw, HasYoung, NoneFree};
 ghost use Rattle.heap_rule.specs.Token.{IsIn};
-ghost use Rattle.size_pools.specs.Taken.{Hunted, Reserved, HasPlace, Took};
+ghost use Rattle.size_pools.specs.Taken.{FoundOwn, HasPlace, Hunted, Reserved, Sought, Taken, Took, Unreserved};
 
 use crate::draw::{draw, draw_for_copy};
 use crate::no_pool::NoPool;
 use crate::search::find_free;
 use heap_rule::{Domain, Heap};
+use sweeper::sweep_own;
 
-/// Takes a free block of a size class from the domain's own pools, and where none is free from a new
-/// pool. Answers its address. What is known besides stays as it was.
-///
-/// `NoPool` exactly where no own pool of the class has a free block and the number of pools that were
-/// free at that step is at most the reserve of promotion.
-pub fn take(heap: &Heap, dom: &mut Domain, class: u32) -> Result<u32, NoPool>
+// Takes a free place of the domain's own pools of the class, and where none is free one of a new pool, if
+// running domains may draw one. Answers its address.
+fn find_or_draw(heap: &Heap, dom: &mut Domain, class: u32) -> Result<u32, NoPool>
     requires here { IsIn dom.old heap.now }
     requires class { class < class_count }
     requires at_rest { HasNoDraw dom.old.view }
     requires runs { dom.old.view.seen.stage ≡ In Run }
     ensures here { IsIn dom.new heap.now }
     ensures took { IfOk result (λ a. Took heap.now.config class a dom.old.view dom.new.view) }
-    ensures has_place { OnOk result (HasPlace heap.now.config class dom.old.view dom.new.view) }
+    ensures has_place { OnOk result (FoundOwn heap.now.config class dom.old.view dom.new.view ⊎ Unreserved heap.now.config dom.new.view) }
     ensures reserved { IfErr result (λ n. Reserved heap.now.config n.free dom.new.view) }
     ensures none_free { OnErr result (NoneFree heap.now.config dom.new.view class) }
     ensures same { OnErr result (Hunted dom.old.view dom.new.view Rests) }
@@ -35,6 +33,35 @@ pub fn take(heap: &Heap, dom: &mut Domain, class: u32) -> Result<u32, NoPool>
         return Ok(at);
     }
     draw(heap, dom, class)
+}
+
+/// Takes a free block of a size class from the domain's own pools, and where none is free from a new
+/// pool. Before it answers `NoPool` it sweeps what is left of its own pools, and tries both once more
+/// ("Retrofitting Parallelism onto OCaml", section 3.2). Answers the block's address. What is known
+/// besides stays as it was, but for what a sweep changes.
+///
+/// `NoPool` exactly where no own pool of the class has a free block, no own pool is left to be swept,
+/// and the number of pools that were free at that step is at most the reserve of promotion.
+pub fn take(heap: &Heap, dom: &mut Domain, class: u32) -> Result<u32, NoPool>
+    requires here { IsIn dom.old heap.now }
+    requires class { class < class_count }
+    requires at_rest { HasNoDraw dom.old.view }
+    requires runs { dom.old.view.seen.stage ≡ In Run }
+    ensures here { IsIn dom.new heap.now }
+    ensures took { IfOk result (λ a. Taken heap.now.config class a dom.old.view dom.new.view) }
+    ensures has_place { OnOk result (HasPlace heap.now.config class dom.old.view dom.new.view) }
+    ensures reserved { IfErr result (λ n. Reserved heap.now.config n.free dom.new.view) }
+    ensures none_free { OnErr result (NoneFree heap.now.config dom.new.view class) }
+    ensures swept { OnErr result (heap.now.config.pools ≤ dom.new.view.own.swept.spot.pool) }
+    ensures same { OnErr result (Sought heap.now.config dom.old.view dom.new.view Rests) }
+{
+    match find_or_draw(heap, dom, class) {
+        Err(_) if dom.swept().spot.pool < heap.config().pools => {
+            sweep_own(heap, dom);
+            find_or_draw(heap, dom, class)
+        }
+        answer => answer,
+    }
 }
 
 /// Takes a free block of a size class for a copy of a young block: from the domain's own pools, and

@@ -1,28 +1,31 @@
 use Rattle.std.proofs.Common.{ℕ, ◌+◌, ◌^◌, ◌<◌, refl, ap, sym, subst}
 use Rattle.heap_rule.specs.declared.view.DomainView.{DomainView}
+use Rattle.heap_rule.specs.declared.view.Own.{Own}
 use Rattle.size_classes.specs.Table.{IsLeastFor}
 use Rattle.size_classes.specs.declared.TheConstants.{SIZES}
 use Rattle.size_pools.specs.Taken.{HasPlace}
-use Rattle.size_pools.proofs.Writing.{hunted_runs, took_room, took_puts, has_still, least_one}
+use Rattle.size_pools.proofs.Seeking.{sought_view}
+use Rattle.size_pools.proofs.Writing.{searched_runs, taken_room, taken_puts, has_still, least_one}
 use Rattle.size_pools.proofs.allocation.alloc_major.Goals as goal
 
 pub write_block-requires : goal.write_block-requires
 write_block-requires c =
     let t = c.in_ok-at.ensures.took in
+    let view = sought_view c.args.heap.now.config c.args.dom.now.view c.take.new.dom.view _ t.view in
     let least = subst (λ (n : ℕ). IsLeastFor SIZES (n + 2) c.class_for-class.result) c.from.ensures c.class_for-class.ensures.least in (
       refl,
       (
-        hunted_runs c.args.heap.now c.args.dom.now c.take.new.dom _ c.requires.runs c.take.ensures.here t.view,
+        searched_runs c.args.heap.now c.args.dom.now c.take.new.dom _ c.requires.runs c.take.ensures.here view,
         (
-          took_room c.args.heap.now.config c.class_for-class.result c.in_ok-at.at (c.args.fields + 2) c.args.dom.now.view c.take.new.dom.view c.class_for-class.ensures.class least t,
-          (c.requires.dst, (c.requires.tag, (c.requires.fields, subst (λ (n : ℕ). n + 1 < 2 ^ 32) (sym (ap (λ (x : DomainView). x.own.serial) t.view)) c.requires.serial))),
+          taken_room c.args.heap.now.config c.class_for-class.result c.in_ok-at.at (c.args.fields + 2) c.args.dom.now.view c.take.new.dom.view c.class_for-class.ensures.class least t,
+          (c.requires.dst, (c.requires.tag, (c.requires.fields, subst (λ (n : ℕ). n + 1 < 2 ^ 32) (sym (ap (λ (x : DomainView). x.own.serial) view)) c.requires.serial))),
         ),
       ),
     )
 
 pub returns-clause-registers : goal.returns-clause-registers
-returns-clause-registers c = took_puts c.args.heap.now.config c.class_for-class.result c.in_ok-at.at (c.args.fields + 2) c.args.dst c.args.dom.now c.take.new.dom c.write_block.new.dom (subst (λ (n : ℕ). IsLeastFor SIZES (n + 2) c.class_for-class.result) c.from.ensures c.class_for-class.ensures.least) c.in_ok-at.ensures.took c.write_block.ensures.registers
+returns-clause-registers c = taken_puts c.args.heap.now.config c.class_for-class.result c.in_ok-at.at (c.args.fields + 2) c.args.dst c.args.dom.now c.take.new.dom c.write_block.new.dom (subst (λ (n : ℕ). IsLeastFor SIZES (n + 2) c.class_for-class.result) c.from.ensures c.class_for-class.ensures.least) c.in_ok-at.ensures.took c.write_block.ensures.registers
 
 pub returns-clause-has_place : goal.returns-clause-has_place
 returns-clause-has_place c = λ class least. subst (λ (d : ℕ). HasPlace c.args.heap.now.config d c.args.dom.now.view c.write_block.new.dom.view) (least_one (c.args.fields + 2) c.class_for-class.result class (subst (λ (n : ℕ). IsLeastFor SIZES (n + 2) c.class_for-class.result) c.from.ensures c.class_for-class.ensures.least) least)
-    (has_still c.args.heap.now.config c.class_for-class.result c.args.dom.now.view c.take.new.dom.view c.write_block.new.dom.view c.in_ok-at.ensures.has_place c.write_block.ensures.free)
+    (has_still c.args.heap.now.config c.class_for-class.result c.args.dom.now.view c.take.new.dom.view c.write_block.new.dom.view c.in_ok-at.ensures.has_place c.write_block.ensures.free (ap (λ (o : Own). o.swept) c.write_block.ensures.grows.own))
