@@ -459,8 +459,11 @@ module _ (k : Config) (x : DomainView) where
     abbrev turned_share : Share
     turned_share = record x.seen.share { colours = Some (rotated turned.colours); rotated = true }
 
+    pub wished_view : y3 ≡ noted (turned_to turned.colours (knowing_colours x colours)) (Want found)
+    wished_view = told ∙ (ap (λ (w : DomainView). noted w (Want found)) turned.view ∙ ap (λ (w : DomainView). noted (turned_to turned.colours w) (Want found)) knows)
+
     turned_is : y3 ≡ opened x (x.seen.notes ++ Want found ∷ []) x.seen.listing turned_share
-    turned_is = told ∙ (ap (λ (w : DomainView). noted w (Want found)) turned.view ∙ ap (λ (w : DomainView). noted (turned_to turned.colours w) (Want found)) knows)
+    turned_is = wished_view
 
     lasts_decides : (next : Kind) → Follows Lasts next → next ≡ (if is_wanted Full found then Sweep else Run) → next ≢ Promote → Decides Lasts next (wished found)
     lasts_decides next follows chosen copies = record { follows = follows; chosen = chosen; uncounted = λ e. cc; unswept = λ e. cc; mark = λ e. cc; rounds = λ e. cc; copies = copies }

@@ -100,8 +100,9 @@ fn after_reset(heap: &Heap, dom: &mut Domain, unswept: bool) -> Kind
     let found = wants(heap, dom);
     let armed = armed_now(heap, dom);
     let next = kind_after_reset(&heap.config(), found, free, armed, unswept);
-    if next == Kind::Sweep {
-        clear_counts(heap, dom);
+    match next {
+        Kind::Sweep => clear_counts(heap, dom),
+        _ => (),
     }
     next
 }

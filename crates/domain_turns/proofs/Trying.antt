@@ -62,11 +62,11 @@ no_room room some few = omega arith
 pub store_answers : (h : SharedHeap) (old new : Token) (c : Command) (served collected : Bool) (r : Reply) → IsStore c → 1 ≤ old.view.own.remembered.room → Did h old new c r → ChangesRemembered old new → new.view.own.registers ≡ old.view.own.registers
     → Remembers h.config old.view.own new.view.own c r → AttemptAnswers h old new c served collected (Made r)
 store_answers h old new (Store block index item) served collected r stores room did changes registers remembers =
-    (record { runs = did.runs; stands = did.answers; heap = did.heap; stays = did.stays; own = remembered_own old.view.own new.view.own changes.own registers; remembers = remembers }, no_room old.view.own.remembered.room room)
+    (record { runs = did.runs; stands = did.answers; heap = did.heap; stays = did.stays; own = remembered_own old.view.own new.view.own changes.own registers; remembers = remembers; lists = ap (λ (o : Own). o.ephemerons) changes.own }, no_room old.view.own.remembered.room room)
 store_answers h old new (SetKey ephe index item) served collected r stores room did changes registers remembers =
-    (record { runs = did.runs; stands = did.answers; heap = did.heap; stays = did.stays; own = remembered_own old.view.own new.view.own changes.own registers; remembers = remembers }, no_room old.view.own.remembered.room room)
+    (record { runs = did.runs; stands = did.answers; heap = did.heap; stays = did.stays; own = remembered_own old.view.own new.view.own changes.own registers; remembers = remembers; lists = ap (λ (o : Own). o.ephemerons) changes.own }, no_room old.view.own.remembered.room room)
 store_answers h old new (SetData ephe item) served collected r stores room did changes registers remembers =
-    (record { runs = did.runs; stands = did.answers; heap = did.heap; stays = did.stays; own = remembered_own old.view.own new.view.own changes.own registers; remembers = remembers }, no_room old.view.own.remembered.room room)
+    (record { runs = did.runs; stands = did.answers; heap = did.heap; stays = did.stays; own = remembered_own old.view.own new.view.own changes.own registers; remembers = remembers; lists = ap (λ (o : Own). o.ephemerons) changes.own }, no_room old.view.own.remembered.room room)
 store_answers h old new _ served collected r stores room did changes registers remembers = absurd stores
 
 -- what a domain owns that has one finaliser more: its registers are as they were
@@ -91,7 +91,7 @@ finalise_answers h old new item number dst served collected r did is =
     let v : Value = value_at old.view.own.registers item in
     let own = with_own_registers old.view.own new.view.own (own_finalised v number dst old.view.own) is (finalised_registers v number dst old.view.own) (finalised_own v number dst old.view.own) in
     let remembers = ap (λ (o : Own). o.remembered) own in
-    (record { runs = did.runs; stands = did.answers; heap = did.heap; stays = did.stays; own = own; remembers = remembers }, λ needs. needs)
+    (record { runs = did.runs; stands = did.answers; heap = did.heap; stays = did.stays; own = own; remembers = remembers; lists = ap (λ (o : Own). o.ephemerons) own }, λ needs. needs)
 
 pub finalise_last_answers : (h : SharedHeap) (old new : Token) (item number : ℕ) (served collected : Bool) (r : Reply) → Did h old new (FinaliseLast item number) r → new.view.own ≡ own_finalised_last (value_at old.view.own.registers item) number old.view.own
     → AttemptAnswers h old new (FinaliseLast item number) served collected (Made r)
@@ -99,4 +99,4 @@ finalise_last_answers h old new item number served collected r did is =
     let v : Value = value_at old.view.own.registers item in
     let own = with_own_registers old.view.own new.view.own (own_finalised_last v number old.view.own) is (finalised_last_registers v number old.view.own) (finalised_last_own v number old.view.own) in
     let remembers = ap (λ (o : Own). o.remembered) own in
-    (record { runs = did.runs; stands = did.answers; heap = did.heap; stays = did.stays; own = own; remembers = remembers }, λ needs. needs)
+    (record { runs = did.runs; stands = did.answers; heap = did.heap; stays = did.stays; own = own; remembers = remembers; lists = ap (λ (o : Own). o.ephemerons) own }, λ needs. needs)

@@ -1,5 +1,5 @@
 -- A turn keeps what is true of a run.
-use Rattle.std.proofs.Common.{◌≡◌, ◌≢◌, ◌∙◌, ℕ, zero, suc, ◌+◌, ◌<◌, ◌≤◌, Bool, true, false, List, [], ◌∷◌, ◌++◌, length, take, drop, slice_get, Some, None, Option, refl, sym, ap, subst, arith, length-append, append-nil, eq-eqb, add-one, ⊎_elim}
+use Rattle.std.proofs.Common.{◌≡◌, ◌≢◌, ◌∙◌, ℕ, zero, suc, ◌+◌, ◌-◌, ◌<◌, ◌≤◌, Bool, true, false, List, [], ◌∷◌, ◌++◌, length, take, drop, slice_get, Some, None, Option, refl, sym, ap, subst, arith, length-append, append-nil, eq-eqb, add-one, ⊎_elim}
 use Rattle.heap_model.specs.declared.command.Command as model
 use Rattle.heap_model.specs.declared.entry.Entry.{Entry}
 use Rattle.heap_model.specs.declared.entry.Entry.TheVariants.{Command as CommandOf, End, Ran as RanEntry}
@@ -23,7 +23,7 @@ use Rattle.barriers.specs.Aware.{Learnt, aware_as}
 use Rattle.steps_cycle.specs.Arming.{knowing_armed}
 use Rattle.mark_slices.specs.Decks.{Counts, StaysDeck}
 use Rattle.steps_pauses.specs.Pauses.{forgotten}
-use Rattle.domain_turns.specs.Pausing.{AnswersLive, due_of}
+use Rattle.domain_turns.specs.Pausing.{AnswersLive, KnowsProgress, due_of}
 use Rattle.cycle_phases.specs.declared.progress.Progress.{Progress}
 use Rattle.cycle_phases.specs.Leading.{progress_of}
 use Rattle.sweeper.specs.Sweeping.{Swept}
@@ -38,7 +38,7 @@ use Rattle.steps_finalisers.specs.Registering.{count_of}
 use Rattle.steps_sweep.proofs.Dues.{due_at}
 use Rattle.finaliser_queues.specs.declared.running.Ran.{Ran}
 use Rattle.finaliser_queues.specs.Running.{RanFirst, reply_of}
-use Rattle.domain_turns.specs.Tries.{Enters, Stands, Tried, NeedsPause, ephemerons_of, labels_given, listed_by, registrations_of}
+use Rattle.domain_turns.specs.Tries.{Enters, Stands, Tried, NeedsPause, Lists, ephemerons_of, labels_given, registrations_of}
 use Rattle.heap_rule.specs.declared.phase.Kind.{Kind}
 use Rattle.heap_rule.specs.Phases.{IsEven}
 use Rattle.domain_turns.specs.Runs.{RunView, IsBetween, IsRun, HasEnded, ephemerons_in, registrations_in, is_end_of, served_since}
@@ -87,10 +87,14 @@ labels_few (Ephe dst keys) (Block l) = omega arith
 labels_few c r = omega arith
 
 -- a command leaves room for as many ephemerons as there was room for besides its own
-room_left : (c : model.Command) (r : Reply) (old new : Own) (n : ℕ) → ephemerons_of c + n ≤ old.ephemerons.room → n ≤ (listed_by c r old new).room
-room_left (Ephe dst keys) (Block l) old new n fits = omega arith
-room_left (Ephe dst keys) r old new n fits = omega arith
-room_left c r old new n fits = omega arith
+room_left : (k : Config) (c : model.Command) (r : Reply) (x y : DomainView) (n : ℕ) → Lists k x y c r → ephemerons_of c + n ≤ x.own.ephemerons.room → n ≤ y.own.ephemerons.room
+room_left k (AllocMaj dst tag fields) r x y n lists fits = let more : x.own.ephemerons.room ≤ y.own.ephemerons.room = lists.shortens.no_less in omega arith
+room_left k (Ephe dst keys) (Block l) x y n lists fits =
+    let before : Bounded ℕ = lists.0 in
+    let same : y.own.ephemerons.room ≡ before.room - 1 = ap (λ (b : Bounded ℕ). b.room) lists.1 in
+    let more : x.own.ephemerons.room ≤ before.room = lists.2.shortens.no_less in omega arith
+room_left k (Ephe dst keys) r x y n lists fits = let more : x.own.ephemerons.room ≤ y.own.ephemerons.room = lists.shortens.no_less in omega arith
+room_left k c r x y n lists fits = let same : y.own.ephemerons.room ≡ x.own.ephemerons.room = ap (λ (b : Bounded ℕ). b.room) lists in omega arith
 
 none_more : (n room : ℕ) → 0 + n ≤ room → n ≤ room
 none_more n room fits = omega arith
@@ -226,13 +230,13 @@ tried_is_run h r new c reply own served is running left at t ready =
     let owes : due_of r.token.config new.view ≡ 0 = ap (λ (n : ℕ). due_at (state_of r.token.config new.view.seen.front) n) number
     ∙ command_due (sizes_in r.token.config) d r.token.view.seen.front new.view.seen.front c st.0 (Replied reply) st.1 (not_full h.config own served c ready) in
     made_is_run r new c st.0 reply r.left r.progress 0 r.hints (stays_same r.hints) is running at
-    record { listed = subst (λ (o : Own). count_of o.finalisers ≤ registrations_of c + count_of r.token.view.own.finalisers) (sym t.own) (enlisted_count c r.token.view.own); owes = owes; config = t.heap.1; number = ap (λ (o : Own). o.number) t.own; serial = omega (arith, serial, few); room = λ n fits. subst (λ (o : Own). n ≤ o.ephemerons.room) (sym t.own) (room_left c reply r.token.view.own new.view.own n fits); idle = t.runs.idle; at_rest = t.runs.at_rest; answers = st.1 }
+    record { listed = subst (λ (o : Own). count_of o.finalisers ≤ registrations_of c + count_of r.token.view.own.finalisers) (sym t.own) (enlisted_count c r.token.view.own); owes = owes; config = t.heap.1; number = ap (λ (o : Own). o.number) t.own; serial = omega (arith, serial, few); room = λ n fits. room_left h.config c reply r.token.view new.view n t.lists fits; idle = t.runs.idle; at_rest = t.runs.at_rest; answers = st.1 }
     (subst (λ (l : Option Kind). IsBetween l None false r.progress new) (sym left) (tried_between h r.token new c reply r.asked r.collected r.progress (subst (λ (l : Option Kind). IsBetween l r.asked r.collected r.progress r.token) left is.between) t))
 
 -- the same where a collection is answered by the reply of a `full_major`
-pub answered_is_run : (h : SharedHeap) (r : RunView) (new : Token) (reply : Reply) (last : Kind) (hints : Counts) → StaysDeck r.hints hints → IsRun r → r.ended ≡ false → slice_get r.commands r.next ≡ Some FullMajor → IsIn r.token h → IsIn new h → AnswersLive h.config r.token.view new.view reply
+pub answered_is_run : (h : SharedHeap) (r : RunView) (new : Token) (reply : Reply) (progress : Progress) (hints : Counts) → StaysDeck r.hints hints → IsRun r → r.ended ≡ false → slice_get r.commands r.next ≡ Some FullMajor → IsIn r.token h → IsIn new h → AnswersLive h.config r.token.view new.view reply → KnowsProgress progress new.view
     → IsRun (record r { token = new; next = r.next + 1; replies = r.replies ++ reply ∷ []; left = Some Answer; asked = None; collected = false; progress = progress; due = length new.view.own.finalisers.queue.items; hints = hints })
-answered_is_run h r new reply last hints stays is running at was here a =
+answered_is_run h r new reply progress hints stays is running at was here a knows =
     let passed = a.comes.passed.view in
     let own : new.view.own ≡ record a.begun.own { arrivals = a.begun.own.arrivals + 1; pending = forgotten a.begun.own.pending } = ap (λ (x : DomainView). x.own) a.view in
     let config : new.config ≡ r.token.config = here.1 ∙ sym was.1 in

@@ -33,10 +33,11 @@ use Rattle.steps_pools.specs.Takes.{NoneFree}
 use Rattle.heap_rule.specs.Token.{Token, SharedHeap}
 use Rattle.steps_making.specs.Inits.{IsOpen}
 use Rattle.minor_area.specs.Area.{HasRoom, IsShut}
-use Rattle.size_pools.specs.Taken.{Reserved, HasPlace}
+use Rattle.size_pools.specs.Created.{with_list}
+use Rattle.size_pools.specs.Taken.{Reserved, HasPlace, MaySweep, Sought}
+use Rattle.heap_rule.specs.declared.view.Swept.{Swept}
 use Rattle.heap_model.specs.Domains.{domain_at, reserve}
 use Rattle.heap_rule.specs.declared.view.Hunt.TheVariants.{Rests}
-use Rattle.heap_rule.specs.Pools.{hunting_free}
 use Rattle.heap_rule.specs.Rule.{state_of}
 use Rattle.heap_rule.specs.Token.{IsIn}
 use Rattle.safepoint.specs.declared.answer.Want.{Want}
@@ -131,13 +132,14 @@ words_taken _ _ = 0
 abbrev pub Enters : Token → Token → Command → Bool → Reply → Type 0
 Enters old new c full r = Answers (sizes_in old.config) old.view.own.number old.view.seen.front new.view.seen.front (CommandOf old.view.own.number c full) (Replied r)
 
--- no own pool has a free place for a block of so many words, and the pools that were found free are no more than the reserve of promotion
+-- no own pool has a free place for a block of so many words, none is left to be swept, and the pools that were found free are no more than the reserve of promotion
 pub record HasNoPool (k : Config) (words : ℕ) (y : DomainView) : Type 0 where
   pub free : ℕ
   pub reserved : Reserved k free y
   pub none_free : (class : ℕ) → IsLeastFor SIZES words class → NoneFree k y class
+  pub swept : k.pools ≤ y.own.swept.spot.pool
 
--- a place for a block of so many words was found in an own pool, or more pools were found free than the reserve of promotion
+-- a place for a block of so many words was found in an own pool, at once or after a sweep, or more pools were found free than the reserve of promotion
 abbrev pub HasPool : Config → ℕ → DomainView → DomainView → Type 0
 HasPool k words x y = (class : ℕ) → IsLeastFor SIZES words class → HasPlace k class x y
 
@@ -175,12 +177,12 @@ IsRefused h old new (AllocMaj dst tag fields) = HasNoPool h.config (fields + 2) 
 IsRefused h old new (Ephe dst keys) = HasNoPool h.config (keys + 3) new.view
 IsRefused h old new _ = ⊥
 
--- an allocation was refused, and no complete collection came before for this command: nothing has changed but what was looked at for it
+-- an allocation was refused, and no complete collection came before for this command: nothing has changed but what was looked at for it, and what a sweep of own pools changes
 pub record Refused (h : SharedHeap) (old new : Token) (c : Command) (collected : Bool) : Type 0 where
   pub here : IsIn new h
   pub refused : IsRefused h old new c
   pub before : collected ≡ false
-  pub view : new.view ≡ hunting_free old.view new.view.own.looked Rests new.view.seen.free
+  pub view : Sought h.config old.view new.view Rests
 
 -- the entry of the command was made with the reply `full`
 pub record RefusesFull (h : SharedHeap) (old new : Token) (c : Command) (r : Reply) : Type 0 where
@@ -213,6 +215,12 @@ looked_by (AllocMaj dst tag fields) old new = new.looked
 looked_by (Ephe dst keys) old new = new.looked
 looked_by _ old new = old.looked
 
+-- how far own pools were then swept: before an allocation in the major heap is refused they are
+abbrev pub swept_by : Command → Own → Own → Swept
+swept_by (AllocMaj dst tag fields) old new = new.swept
+swept_by (Ephe dst keys) old new = new.swept
+swept_by _ old new = old.swept
+
 -- which words the domain then remembers: a store may add one
 abbrev pub remembered_by : Command → Own → Own → Bounded ℕ
 remembered_by (Store block index item) old new = new.remembered
@@ -238,10 +246,18 @@ abbrev pub address_of : Value → ℕ
 address_of (Ref a) = a
 address_of _ = 0
 
--- which ephemerons the domain then lists: one that was made is listed behind the others, by the address that its register holds
-abbrev pub listed_by : Command → Reply → Own → Own → Bounded ℕ
-listed_by (Ephe dst keys) (Block l) old new = with_ephemeron (address_of (value_at new.registers dst)) old.ephemerons
-listed_by _ _ old new = old.ephemerons
+-- which ephemerons the domain then lists: an allocation in the major heap may change the list
+abbrev pub listed_by : Command → Own → Own → Bounded ℕ
+listed_by (AllocMaj dst tag fields) old new = new.ephemerons
+listed_by (Ephe dst keys) old new = new.ephemerons
+listed_by _ old new = old.ephemerons
+
+-- what exactly: one that was made is listed behind the others, by the address that its register holds, and where own pools were swept first the others are those that were left
+abbrev pub Lists : Config → DomainView → DomainView → Command → Reply → Type 0
+Lists k x y (AllocMaj dst tag fields) r = MaySweep k x y
+Lists k x y (Ephe dst keys) (Block l) = (list : Bounded ℕ) × (y.own.ephemerons ≡ with_ephemeron (address_of (value_at y.own.registers dst)) list) × MaySweep k x (with_list y list)
+Lists k x y (Ephe dst keys) r = MaySweep k x y
+Lists k x y c r = y.own.ephemerons ≡ x.own.ephemerons
 
 -- which finalisers the domain then has: one that was registered is the newest
 abbrev pub enlisted_by : Command → Own → Finalisers
@@ -257,7 +273,8 @@ own_after old new c r = record old.view.own {
   serial = old.view.own.serial + labels_given c r;
   looked = looked_by c old.view.own new.view.own;
   remembered = remembered_by c old.view.own new.view.own;
-  ephemerons = listed_by c r old.view.own new.view.own;
+  swept = swept_by c old.view.own new.view.own;
+  ephemerons = listed_by c old.view.own new.view.own;
   finalisers = enlisted_by c old.view.own;
 }
 
@@ -269,6 +286,7 @@ pub record Tried (h : SharedHeap) (old new : Token) (c : Command) (collected : B
   pub stays : Stays old.view new.view
   pub own : new.view.own ≡ own_after old new c r
   pub remembers : Remembers h.config old.view.own new.view.own c r
+  pub lists : Lists h.config old.view new.view c r
 
 -- what the try of a command came to: its reply, a wish that must be served first, or a refusal
 abbrev pub AttemptAnswers : SharedHeap → Token → Token → Command → Bool → Bool → Attempt → Type 0

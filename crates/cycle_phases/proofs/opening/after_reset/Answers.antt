@@ -1,5 +1,4 @@
-use Rattle.std.proofs.Common.{◌∙◌, ap, sym}
-use Rattle.heap_rule.specs.declared.config.Config.{Config}
+use Rattle.std.proofs.Common.{◌∙◌}
 use Rattle.heap_rule.specs.declared.phase.Kind.TheVariants.{Reset}
 use Rattle.cycle_phases.specs.Leading.{kind_after_reset}
 use Rattle.cycle_phases.proofs.Opens.{leads_list, reset_opens, reset_frees}
@@ -7,3 +6,17 @@ use Rattle.cycle_phases.proofs.opening.after_reset.Goals as goal
 
 pub write_list-free-requires-clause-leader : goal.write_list-free-requires-clause-leader
 write_list-free-requires-clause-leader c = leads_list c.args.heap.now.config c.args.dom.now.view c.args.dom.now.view Reset c.requires.first c.requires.odd ((λ e. cc), λ e. cc)
+
+pub returns-in-Sweep-clause-opens : goal.returns-in-Sweep-clause-opens
+returns-in-Sweep-clause-opens c =
+    reset_frees c.args.heap.now.config c.args.dom.now.view c.write_list-free.new.dom.view c.wants-found.new.dom.view c.armed_now-armed.new.dom.view c.wants-found.result.bits c.write_list-free.result c.armed_now-armed.result
+    c.write_list-free.ensures.same c.write_list-free.ensures.list c.write_list-free.ensures.count c.wants-found.ensures.view c.armed_now-armed.ensures.knows c.clear_counts.new.dom.view c.kind_after_reset-next.result c.clear_counts.ensures.cleared
+    (c.kind_after_reset-next.ensures ∙ λ i. kind_after_reset (c.config.ensures.value i) c.wants-found.result.bits c.write_list-free.result c.armed_now-armed.result (c.requires.unswept i))
+
+pub returns-in_default : goal.returns-in_default
+returns-in_default c = record {
+  here = c.armed_now-armed.ensures.here;
+  opens = reset_opens c.args.heap.now.config c.args.dom.now.view c.write_list-free.new.dom.view c.wants-found.new.dom.view c.armed_now-armed.new.dom.view c.wants-found.result.bits c.write_list-free.result c.armed_now-armed.result
+      c.write_list-free.ensures.same c.write_list-free.ensures.list c.write_list-free.ensures.count c.wants-found.ensures.view c.armed_now-armed.ensures.knows c.kind_after_reset-next.result
+      (c.kind_after_reset-next.ensures ∙ λ i. kind_after_reset (c.config.ensures.value i) c.wants-found.result.bits c.write_list-free.result c.armed_now-armed.result (c.requires.unswept i)) c.in_default.not-Sweep;
+}
