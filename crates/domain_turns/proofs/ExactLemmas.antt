@@ -7,6 +7,9 @@ use Rattle.heap_rule.specs.Token.{SharedHeap}
 use Rattle.domain_turns.specs.declared.turned.Turned.{Turned}
 use Rattle.domain_turns.specs.declared.turned.Turned.TheVariants.{Did, Waiting, Idle}
 use Rattle.domain_turns.specs.declared.turned.Turned.TheVariants.{Ended as Over}
+use Rattle.heap_rule.specs.declared.view.Hunt.TheVariants.{Rests as AtRest}
+use Rattle.size_pools.proofs.Seeking.{sought_view}
+use Rattle.domain_turns.proofs.Working.{works_keeps}
 use Rattle.domain_turns.specs.Runs.{RunView, CalmDid, RunAnswers, TurnAnswers, Starts, Stops, Resumes, GoesBy, IsAnswered, SeesAnswer, wanting, asking_end}
 use Rattle.domain_turns.specs.Pausing.{ComesToAnswer, knowing_blocks}
 use Rattle.domain_turns.specs.Tries.{wish_of}
@@ -69,14 +72,15 @@ run_sign h old new Did says = ⊎_elim
     did (Finalises f) = (ap (λ (x : DomainView). x.own.arrivals) f.first.view, (Want 0, notes old, ap (λ (x : DomainView). x.seen.notes) f.first.view, tt))
     did (Wishes a) = (ap arrivals a.run, (Asked (bit_of (wish_of a.command)), (notes old ++ Want 0 ∷ []), ap notes a.run, tt))
     did (Refuses a) = (
-      ap arrivals a.run ∙ ap (λ (x : DomainView). x.own.arrivals) a.refused.view,
+      ap arrivals a.run ∙ ap (λ (x : DomainView). x.own.arrivals) (sought_view h.config old.token.view a.searched.view AtRest a.refused.view),
       (Asked (bit_of Full), a.searched.view.seen.notes, ap notes a.run, tt),
     )
     did (Tries c other t) = (t.tried.stays.arrivals, (Want 0, notes old, t.tried.stays.notes, tt))
     did (Marks p) =
         let t = p.tried in
-        let seen : notes p.marked ≡ notes old ++ Want 0 ∷ [] = ap (λ (x : DomainView). x.seen.notes) p.marks.learnt.view in
-        let here : arrivals p.marked ≡ arrivals old = ap (λ (x : DomainView). x.own.arrivals) p.marks.learnt.view in
+        let kept = works_keeps h (wanting old 0) p.worked p.spent p.works in
+        let seen : notes p.worked ≡ notes old ++ Want 0 ∷ [] = kept.notes in
+        let here : arrivals p.worked ≡ arrivals old = kept.arrivals in
         subst (λ (r : RunView). Left old r IsOther) (sym p.run) (asked p.spent p.made (t.tried.stays.arrivals ∙ here, (Want 0, notes old, t.tried.stays.notes ∙ seen, tt)))
     did (Ends t) = (ap (λ (x : DomainView). x.own.arrivals) t.ended.view, (Want 0, notes old, ap (λ (x : DomainView). x.seen.notes) t.ended.view, tt))
 run_sign h old new (Waiting b) says = absurd says

@@ -16,6 +16,9 @@ use Rattle.domain_turns.specs.declared.passing.Past.{Past}
 use Rattle.domain_turns.specs.declared.passing.Past.TheVariants.{Waits, Arrived, Answered, Runs}
 use Rattle.domain_turns.specs.Past.{PastAnswers}
 use Rattle.domain_turns.specs.Pausing.{ComesToAnswer}
+use Rattle.heap_rule.specs.declared.view.Hunt.TheVariants.{Rests as AtRest}
+use Rattle.size_pools.proofs.Seeking.{sought_view}
+use Rattle.domain_turns.proofs.Working.{works_keeps}
 use Rattle.domain_turns.specs.Runs.{RunView, CalmDid, Rests, CalmAnswers, RunAnswers, Stops, Resumes, GoesBy, IsAnswered, SeesAnswer, wanting, GoesOn, asking_end}
 use Rattle.heap_rule.specs.declared.config.Config.{Config}
 use Rattle.domain_turns.specs.Runs.CalmDid.{Finalises, Wishes, Refuses, Tries, Marks, Ends}
@@ -46,19 +49,21 @@ calm_did h old new (Wishes a) = record {
   front = same_prefix _ _ (ap (λ (r : RunView). r.token.view.seen.front) a.run);
 }
 calm_did h old new (Refuses a) =
-    let same : a.searched.view.seen.front ≡ old.token.view.seen.front = ap (λ (x : DomainView). x.seen.front) a.refused.view in record {
+    let view = sought_view h.config old.token.view a.searched.view AtRest a.refused.view in
+    let same : a.searched.view.seen.front ≡ old.token.view.seen.front = ap (λ (x : DomainView). x.seen.front) view in record {
       commands = ap (λ (r : RunView). r.commands) a.run;
-      number = ap (λ (r : RunView). r.token.view.own.number) a.run ∙ ap (λ (x : DomainView). x.own.number) a.refused.view;
+      number = ap (λ (r : RunView). r.token.view.own.number) a.run ∙ ap (λ (x : DomainView). x.own.number) view;
       front = same_prefix _ _ (ap (λ (r : RunView). r.token.view.seen.front) a.run ∙ same);
     }
 calm_did h old new (Tries c other t) = record { commands = ap (λ (r : RunView). r.commands) t.run; number = ap (λ (o : Own). o.number) t.tried.own; front = answered_front _ _ _ _ _ _ (stood h old.token new.token c old.collected t.reply t.tried.stands).1 }
 calm_did h old new (Marks p) =
     let t = p.tried in
-    let seen = ap (λ (x : DomainView). x.seen.front) p.marks.learnt.view in
+    let kept = works_keeps h old p.worked p.spent p.works in
+    let seen = kept.front in
     let g : GoesOn old p.made = record {
-      commands = ap (λ (r : RunView). r.commands) t.run ∙ ap (λ (r : RunView). r.commands) p.marks.run;
-      number = ap (λ (o : Own). o.number) t.tried.own ∙ ap (λ (x : DomainView). x.own.number) p.marks.learnt.view;
-      front = subst (λ (f : List Entry). IsPrefix f p.made.token.view.seen.front) seen (answered_front _ _ _ _ _ _ (stood h p.marked.token p.made.token Poll p.marked.collected t.reply t.tried.stands).1);
+      commands = ap (λ (r : RunView). r.commands) t.run ∙ kept.commands;
+      number = ap (λ (o : Own). o.number) t.tried.own ∙ kept.number;
+      front = subst (λ (f : List Entry). IsPrefix f p.made.token.view.seen.front) seen (answered_front _ _ _ _ _ _ (stood h p.worked.token p.made.token Poll p.worked.collected t.reply t.tried.stands).1);
     } in
     subst (GoesOn old) (sym p.run) (asks p.spent old p.made g)
 calm_did h old new (Ends t) = record { commands = ap (λ (r : RunView). r.commands) t.run; number = ap (λ (x : DomainView). x.own.number) t.ended.view; front = answered_front _ _ _ _ _ _ t.ended.answers }

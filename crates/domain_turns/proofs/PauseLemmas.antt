@@ -5,7 +5,7 @@ use native.Mathlib.Decide.{ℕ_discrete}
 use Rattle.remembered_set.specs.Bounded.{Bounded}
 use Rattle.heap_model.specs.declared.entry.Entry.{Entry}
 use Rattle.heap_model.specs.declared.state.Mode.{Mode}
-use Rattle.heap_model.specs.declared.state.Mode.TheVariants.{Sealed, Answer as Answered}
+use Rattle.heap_model.specs.declared.state.Mode.TheVariants.{Open, Sealed, Answer as Answered}
 use Rattle.heap_model.specs.Domains.{domain_at}
 use Rattle.heap_model.specs.Fronts.{IsFrontOf}
 use Rattle.heap_model.proofs.Histories.FreshLemmas.{fresh_stays, fresh_after_answer}
@@ -59,42 +59,42 @@ sweep_lasts e = cc
 pub before_promote : (a : Kind) → Follows a Promote → a ≡ Run
 before_promote Run f = refl
 before_promote Promote f = let e : Promote ≡ Reset = f in cc
-before_promote Reset f = ⊎_elim (λ (e : Promote ≡ Run). cc) (⊎_elim (λ (e : Promote ≡ Roots). cc) (λ (e : Promote ≡ Mark). cc)) f
+before_promote Reset f = ⊎_elim (λ (e : Promote ≡ Run). cc) (⊎_elim (λ (e : Promote ≡ Roots). cc) (⊎_elim (λ (e : Promote ≡ Mark). cc) (λ (e : Promote ≡ Sweep). cc))) f
 before_promote Roots f = ⊎_elim (λ (e : Promote ≡ Mark). cc) (λ (e : Promote ≡ Run). cc) f
 before_promote Mark f = ⊎_elim (λ (e : Promote ≡ Mark). cc) (λ (e : Promote ≡ Rounds). cc) f
 before_promote Rounds f = ⊎_elim (λ (e : Promote ≡ Mark). cc) (⊎_elim (λ (e : Promote ≡ Decide). cc) (λ (e : Promote ≡ Clean). cc)) f
 before_promote Decide f = let e : Promote ≡ Queued = f in cc
 before_promote Queued f = let e : Promote ≡ Mark = f in cc
 before_promote Clean f = let e : Promote ≡ Lasts = f in cc
-before_promote Lasts f = let e : Promote ≡ Sweep = f in cc
+before_promote Lasts f = ⊎_elim (λ (e : Promote ≡ Sweep). cc) (λ (e : Promote ≡ Run). cc) f
 before_promote Sweep f = ⊎_elim (λ (e : Promote ≡ Run). cc) (⊎_elim (λ (e : Promote ≡ Answer). cc) (λ (e : Promote ≡ Roots). cc)) f
 before_promote Answer f = let e : Promote ≡ Run = f in cc
 
 pub before_reset : (a : Kind) → Follows a Reset → a ≡ Promote
 before_reset Run f = let e : Reset ≡ Promote = f in cc
 before_reset Promote f = refl
-before_reset Reset f = ⊎_elim (λ (e : Reset ≡ Run). cc) (⊎_elim (λ (e : Reset ≡ Roots). cc) (λ (e : Reset ≡ Mark). cc)) f
+before_reset Reset f = ⊎_elim (λ (e : Reset ≡ Run). cc) (⊎_elim (λ (e : Reset ≡ Roots). cc) (⊎_elim (λ (e : Reset ≡ Mark). cc) (λ (e : Reset ≡ Sweep). cc))) f
 before_reset Roots f = ⊎_elim (λ (e : Reset ≡ Mark). cc) (λ (e : Reset ≡ Run). cc) f
 before_reset Mark f = ⊎_elim (λ (e : Reset ≡ Mark). cc) (λ (e : Reset ≡ Rounds). cc) f
 before_reset Rounds f = ⊎_elim (λ (e : Reset ≡ Mark). cc) (⊎_elim (λ (e : Reset ≡ Decide). cc) (λ (e : Reset ≡ Clean). cc)) f
 before_reset Decide f = let e : Reset ≡ Queued = f in cc
 before_reset Queued f = let e : Reset ≡ Mark = f in cc
 before_reset Clean f = let e : Reset ≡ Lasts = f in cc
-before_reset Lasts f = let e : Reset ≡ Sweep = f in cc
+before_reset Lasts f = ⊎_elim (λ (e : Reset ≡ Sweep). cc) (λ (e : Reset ≡ Run). cc) f
 before_reset Sweep f = ⊎_elim (λ (e : Reset ≡ Run). cc) (⊎_elim (λ (e : Reset ≡ Answer). cc) (λ (e : Reset ≡ Roots). cc)) f
 before_reset Answer f = let e : Reset ≡ Run = f in cc
 
 pub before_answer : (a : Kind) → Follows a Answer → a ≡ Sweep
 before_answer Run f = let e : Answer ≡ Promote = f in cc
 before_answer Promote f = let e : Answer ≡ Reset = f in cc
-before_answer Reset f = ⊎_elim (λ (e : Answer ≡ Run). cc) (⊎_elim (λ (e : Answer ≡ Roots). cc) (λ (e : Answer ≡ Mark). cc)) f
+before_answer Reset f = ⊎_elim (λ (e : Answer ≡ Run). cc) (⊎_elim (λ (e : Answer ≡ Roots). cc) (⊎_elim (λ (e : Answer ≡ Mark). cc) (λ (e : Answer ≡ Sweep). cc))) f
 before_answer Roots f = ⊎_elim (λ (e : Answer ≡ Mark). cc) (λ (e : Answer ≡ Run). cc) f
 before_answer Mark f = ⊎_elim (λ (e : Answer ≡ Mark). cc) (λ (e : Answer ≡ Rounds). cc) f
 before_answer Rounds f = ⊎_elim (λ (e : Answer ≡ Mark). cc) (⊎_elim (λ (e : Answer ≡ Decide). cc) (λ (e : Answer ≡ Clean). cc)) f
 before_answer Decide f = let e : Answer ≡ Queued = f in cc
 before_answer Queued f = let e : Answer ≡ Mark = f in cc
 before_answer Clean f = let e : Answer ≡ Lasts = f in cc
-before_answer Lasts f = let e : Answer ≡ Sweep = f in cc
+before_answer Lasts f = ⊎_elim (λ (e : Answer ≡ Sweep). cc) (λ (e : Answer ≡ Run). cc) f
 before_answer Sweep f = refl
 before_answer Answer f = let e : Answer ≡ Run = f in cc
 
@@ -250,15 +250,15 @@ later_past k kind x y s void promotes resets runs answer r =
       answer = answer;
     }
 
-shared_held : {kind : Kind} (x y : DomainView) → SharesIn kind x y → (k : Config) → RefersOld k x.own.finalisers → RefersOld k (with_shared x y).own.finalisers
+shared_held : {k : Config} {kind : Kind} (x y : DomainView) → SharesIn k kind x y → (k : Config) → RefersOld k x.own.finalisers → RefersOld k (with_shared x y).own.finalisers
 shared_held x y l k old = l.held k old
 
-shares_past : (k : Config) (kind : Kind) (x y : DomainView) → SharesIn kind x y → kind ≢ Promote → kind ≢ Reset → kind ≢ Run → IsModeOf kind (state_of k x.seen.front).mode → IsReady k kind x → IsPast k kind y
+shares_past : (k : Config) (kind : Kind) (x y : DomainView) → SharesIn k kind x y → kind ≢ Promote → kind ≢ Reset → kind ≢ Run → IsModeOf kind (state_of k x.seen.front).mode → IsReady k kind x → IsPast k kind y
 shares_past k kind x y l promotes resets runs mode r =
     later_past k kind x y (keeps_as x y (arrived_view (with_shared x y)) l.view refl refl refl refl (shared_held x y l)) (arrived_void y (with_shared x y) l.view) promotes resets runs
-    (λ is mode'. absurd (let m : (state_of k x.seen.front).mode ≡ Sealed = subst (λ (c : Kind). IsModeOf c (state_of k x.seen.front).mode) is mode in
-    let m' : (state_of k x.seen.front).mode ≡ Answered = ap (λ (front : List Entry). (state_of k front).mode) (sym (l.stays (λ (e : kind ≡ Clean). sweep_clean (sym is ∙ e)) (λ (e : kind ≡ Decide). sweep_decide (sym is ∙ e)) (λ (e : kind ≡ Lasts). sweep_lasts (sym is ∙ e)))) ∙ mode' in
-    let clash : Sealed ≡ Answered = sym m ∙ m' in cc)) r
+    (λ is answered. absurd (let before : (state_of k x.seen.front).mode ≡ Answered = ap (λ (front : List Entry). (state_of k front).mode) (sym (l.stays (λ (e : kind ≡ Clean). sweep_clean (sym is ∙ e)) (λ (e : kind ≡ Decide). sweep_decide (sym is ∙ e)) (λ (e : kind ≡ Lasts). sweep_lasts (sym is ∙ e)))) ∙ answered in
+    ⊎_elim (λ (m : (state_of k x.seen.front).mode ≡ Open). let clash : Open ≡ Answered = sym m ∙ before in cc) (λ (m : (state_of k x.seen.front).mode ≡ Sealed). let clash : Sealed ≡ Answered = sym m ∙ before in cc)
+    (subst (λ (c : Kind). IsModeOf c (state_of k x.seen.front).mode) is mode))) r
 
 pub even_past : (k : Config) (kind : Kind) (x y : DomainView) → LeavesEven k kind x y → IsModeOf kind (state_of k x.seen.front).mode → IsReady k kind x → IsPast k kind y
 even_past k Run x y l mode r = absurd l

@@ -363,7 +363,7 @@ ran_is_run h r new ran is running left was here goes f =
     }
 
 -- a view of a running domain by which nothing changed of how it stands between two turns
-record Stands (x y : DomainView) : Type 0 where
+record StandsStill (x y : DomainView) : Type 0 where
   stage : y.seen.stage ≡ x.seen.stage
   copying : y.seen.copying ≡ x.seen.copying
   weak : y.seen.share.weak ≡ x.seen.share.weak
@@ -377,7 +377,7 @@ record Stands (x y : DomainView) : Type 0 where
   front : y.seen.front ≡ x.seen.front
   progress : progress_of y.seen.share ≡ progress_of x.seen.share
 
-stands_between : (old new : Token) (asked : Option ℕ) (collected : Bool) (progress : Progress) → new.config ≡ old.config → Stands old.view new.view → IsBetween None asked collected progress old → IsBetween None asked collected progress new
+stands_between : (old new : Token) (asked : Option ℕ) (collected : Bool) (progress : Progress) → new.config ≡ old.config → StandsStill old.view new.view → IsBetween None asked collected progress old → IsBetween None asked collected progress new
 stands_between old new asked collected progress config s is = record {
   stands = s.stage ∙ is.stands;
   quiet = quiet_as old.view new.view s.copying s.pending s.prepared s.weak is.quiet;
@@ -393,7 +393,7 @@ stands_between old new asked collected progress config s is = record {
 pub marked_is_run : (h : SharedHeap) (r : RunView) (new : Token) (hints : Counts) → StaysDeck r.hints hints → IsRun r → r.left ≡ None → IsIn r.token h → IsIn new h → Learnt r.token.view new.view → new.view.seen.share.weak ≡ r.token.view.seen.share.weak → IsRun (record r { token = new; hints = hints })
 marked_is_run h r new hints stays is left was here learnt weak =
     let v = learnt.view in
-    let stands : Stands r.token.view new.view = record {
+    let stands : StandsStill r.token.view new.view = record {
       stage = ap (λ (x : DomainView). x.seen.stage) v;
       copying = ap (λ (x : DomainView). x.seen.copying) v;
       weak = weak;
@@ -415,7 +415,7 @@ marked_is_run h r new hints stays is left was here learnt weak =
 pub swept_is_run : (h : SharedHeap) (r : RunView) (new : Token) (most count : ℕ) → IsRun r → r.left ≡ None → IsIn r.token h → IsIn new h → Swept h.config most count (knowing_armed r.token.view false) new.view → IsRun (record r { token = new })
 swept_is_run h r new most count is left was here s =
     let v = s.view in
-    let stands : Stands r.token.view new.view = record {
+    let stands : StandsStill r.token.view new.view = record {
       stage = ap (λ (x : DomainView). x.seen.stage) v;
       copying = ap (λ (x : DomainView). x.seen.copying) v;
       weak = ap (λ (x : DomainView). x.seen.share.weak) v;

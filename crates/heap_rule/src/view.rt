@@ -76,16 +76,9 @@ pub enum Reaping {
     /// It is at none.
     Outside,
     /// This pool is its own, for blocks of this class.
-    Inside {
-        pool: u32,
-        class: u32,
-    },
+    Inside { pool: u32, class: u32 },
     /// So it is, and garbage lies at this place of it.
-    AtGarbage {
-        pool: u32,
-        class: u32,
-        slot: u32,
-    },
+    AtGarbage { pool: u32, class: u32, slot: u32 },
 }
 
 /// The list of free pools, while domain 0 writes it anew.

@@ -1,0 +1,33 @@
+-- What a domain keeps that works for the collector beside the others.
+use Rattle.std.proofs.Common.{◌≡◌, ℕ, List, Bool, false, ⊎_elim, ap}
+use Rattle.heap_model.specs.declared.command.Command.{Command}
+use Rattle.heap_model.specs.declared.entry.Entry.{Entry}
+use Rattle.heap_rule.specs.declared.phase.Note.{Note}
+use Rattle.heap_rule.specs.declared.view.DomainView.{DomainView}
+use Rattle.heap_rule.specs.Token.{SharedHeap}
+use Rattle.domain_turns.specs.Runs.{MarksBeside, RunView, SweepsBeside, WorksBeside}
+
+-- its commands, its number, its front, what it has noted, and the number of its arrivals
+pub record KeepsOn (old new : RunView) : Type 0 where
+  pub commands : new.commands ≡ old.commands
+  pub number : new.token.view.own.number ≡ old.token.view.own.number
+  pub front : new.token.view.seen.front ≡ old.token.view.seen.front
+  pub notes : new.token.view.seen.notes ≡ old.token.view.seen.notes
+  pub arrivals : new.token.view.own.arrivals ≡ old.token.view.own.arrivals
+
+pub works_keeps : (h : SharedHeap) (old new : RunView) (spent : Bool) → WorksBeside h old new spent → KeepsOn old new
+works_keeps h old new spent = ⊎_elim
+    (λ (m : MarksBeside h old new spent). record {
+      commands = ap (λ (r : RunView). r.commands) m.run;
+      number = ap (λ (x : DomainView). x.own.number) m.learnt.view;
+      front = ap (λ (x : DomainView). x.seen.front) m.learnt.view;
+      notes = ap (λ (x : DomainView). x.seen.notes) m.learnt.view;
+      arrivals = ap (λ (x : DomainView). x.own.arrivals) m.learnt.view;
+    })
+    (λ (s : ((count : ℕ) × SweepsBeside h old new count) × (spent ≡ false)). record {
+      commands = ap (λ (r : RunView). r.commands) s.0.1.run;
+      number = ap (λ (x : DomainView). x.own.number) s.0.1.swept.view;
+      front = ap (λ (x : DomainView). x.seen.front) s.0.1.swept.view;
+      notes = ap (λ (x : DomainView). x.seen.notes) s.0.1.swept.view;
+      arrivals = ap (λ (x : DomainView). x.own.arrivals) s.0.1.swept.view;
+    })
