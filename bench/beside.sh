@@ -2,6 +2,8 @@
 # Times the marking of the major heap beside running domains: the longest pause where 95,000 blocks are marked in one pause and
 # where they are marked beside the domain, and commands a second while a collection goes on and while none does. It claims nothing.
 # With the word `words` it counts by valgrind how many words of the table the pause looks at that looks at the most, in both ways.
+# With the word `garbage` it times the longest pause where the garbage of 100,000 dead blocks is freed in it, and where it is freed
+# beside the domain.
 # With the word `together` it times how long domains take that mark the blocks that hang from one, by 1, 2 and 4 domains.
 # With the word `stress` it times nothing: 8 domains store, load, read weakly, allocate and poll through hundreds of collections
 # and thousands of pauses, 200,000 commands in all, 20 times each, with threads and without. Each output is checked, and the runs
@@ -271,7 +273,34 @@ longest() {
     done
 }
 
-# The same by the words of the table. It takes half an hour for 95,000 blocks.
+# A script of one domain that makes $1 blocks to which nothing refers, and then runs the lines behind.
+dead() {
+    awk -v blocks="$1" -v lines="$2" 'BEGIN {
+        print "heap 1\ndomain 0"
+        for (k = 0; k < blocks; k++) print "allocmaj 1 0 1"
+        printf "drop 1\nminor\n%s", lines
+    }'
+}
+
+# The scripts in which the garbage of $1 blocks is freed: in one pause, or beside the domain.
+swept_in_one_pause() {
+    dead "$1" $'full_major\n' >"$work/script"
+}
+
+swept_beside() {
+    dead "$1" "$(echo major && printf 'poll\n%.0s' $(seq $((($1 + 1) / 256 + 10))))"$'\n' >"$work/script"
+}
+
+# How long the longest pause takes in which garbage is freed, or is left to be freed beside the domain.
+garbage() {
+    local way blocks=${BLOCKS:-100000}
+    for way in swept_in_one_pause swept_beside; do
+        "$way" "$blocks"
+        pauses "$blocks dead blocks are ${way//_/ }"
+    done
+}
+
+# The pauses of marking by the words of the table. It takes half an hour for 95,000 blocks.
 words() {
     local way blocks=${BLOCKS:-10000}
     for way in in_one_pause beside; do
@@ -367,6 +396,7 @@ case ${1:-} in
     window) window ;;
     words) words ;;
     together) together ;;
+    garbage) garbage ;;
     *)
         longest
         speed

@@ -18,7 +18,7 @@ use Rattle.heap_rule.specs.Standing.{with_front}
 use Rattle.steps_pauses.specs.Pauses.{arrived_view}
 use Rattle.safepoint.specs.Looks.{bit_of}
 use Rattle.safepoint.specs.declared.answer.Want.TheVariants.{Finish, Full}
-use Rattle.domain_turns.specs.Runs.CalmDid.{Finalises, Wishes, Refuses, Tries, Marks, Ends}
+use Rattle.domain_turns.specs.Runs.CalmDid.{Finalises, Wishes, Refuses, Tries, Works, Ends}
 use Rattle.domain_turns.proofs.LeavingLemmas.{passes_leaves}
 
 abbrev notes : RunView → List Note
@@ -76,7 +76,7 @@ run_sign h old new Did says = ⊎_elim
       (Asked (bit_of Full), a.searched.view.seen.notes, ap notes a.run, tt),
     )
     did (Tries c other t) = (t.tried.stays.arrivals, (Want 0, notes old, t.tried.stays.notes, tt))
-    did (Marks p) =
+    did (Works p) =
         let t = p.tried in
         let kept = works_keeps h (wanting old 0) p.worked p.spent p.works in
         let seen : notes p.worked ≡ notes old ++ Want 0 ∷ [] = kept.notes in

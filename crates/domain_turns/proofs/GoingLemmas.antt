@@ -21,7 +21,7 @@ use Rattle.size_pools.proofs.Seeking.{sought_view}
 use Rattle.domain_turns.proofs.Working.{works_keeps}
 use Rattle.domain_turns.specs.Runs.{RunView, CalmDid, Rests, CalmAnswers, RunAnswers, Stops, Resumes, GoesBy, IsAnswered, SeesAnswer, wanting, GoesOn, asking_end}
 use Rattle.heap_rule.specs.declared.config.Config.{Config}
-use Rattle.domain_turns.specs.Runs.CalmDid.{Finalises, Wishes, Refuses, Tries, Marks, Ends}
+use Rattle.domain_turns.specs.Runs.CalmDid.{Finalises, Wishes, Refuses, Tries, Works, Ends}
 use Rattle.domain_turns.proofs.LeavingLemmas.{passes_leaves}
 use Rattle.domain_turns.proofs.Moving.{front_prefix}
 use Rattle.domain_turns.proofs.Turning.{stood}
@@ -56,7 +56,7 @@ calm_did h old new (Refuses a) =
       front = same_prefix _ _ (ap (λ (r : RunView). r.token.view.seen.front) a.run ∙ same);
     }
 calm_did h old new (Tries c other t) = record { commands = ap (λ (r : RunView). r.commands) t.run; number = ap (λ (o : Own). o.number) t.tried.own; front = answered_front _ _ _ _ _ _ (stood h old.token new.token c old.collected t.reply t.tried.stands).1 }
-calm_did h old new (Marks p) =
+calm_did h old new (Works p) =
     let t = p.tried in
     let kept = works_keeps h old p.worked p.spent p.works in
     let seen = kept.front in

@@ -255,7 +255,7 @@ pub data CalmDid (h : SharedHeap) (old new : RunView) : Type 0 where
   Wishes : Asks h old.token old new → CalmDid h old new
   Refuses : AsksFull h old.token old new → CalmDid h old new
   Tries : (c : model.Command) → (c ≢ Poll) → TriesCommand h old.token old new c → CalmDid h old new
-  Marks : Polls h old new → CalmDid h old new
+  Works : Polls h old new → CalmDid h old new
   Ends : EndsTrace h old.token old new → CalmDid h old new
 
 -- a trace that had ended, and n traces that a load found to have ended
