@@ -10,6 +10,7 @@ use Rattle.heap_rule.specs.Limits.{sizes_in}
 use Rattle.heap_rule.specs.Opening.{opening_tokens}
 use Rattle.heap_rule.specs.Token.{Token, SharedHeap, IsIn}
 use Rattle.heap_rule.specs.Ending.{Past, AllBegin}
+use Rattle.cycle_phases.specs.Leading.{no_collection}
 use Rattle.domain_turns.specs.Runs.{RunView, IsRun, CanBegin}
 use Rattle.mark_slices.specs.Decks.{Counts, uncounted}
 use Rattle.camlheap_run.specs.declared.begin.Begun.{Begun}
@@ -34,7 +35,7 @@ deck_of t = uncounted t.view.own.number t.config.domains
 
 -- the run of its section
 abbrev pub opened : List (List Command) → Token → RunView
-opened script t = record { token = t; commands = section_of script t; next = 0; replies = []; ended = false; left = None; asked = None; collected = false; cut = false; whole = true; due = 0; hints = deck_of t }
+opened script t = record { token = t; commands = section_of script t; next = 0; replies = []; ended = false; left = None; asked = None; collected = false; progress = no_collection; due = 0; hints = deck_of t }
 
 -- the domain has a section, and may begin it
 pub record HasSection (script : List (List Command)) (t : Token) : Type 0 where
