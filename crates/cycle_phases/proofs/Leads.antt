@@ -10,7 +10,7 @@ use Rattle.heap_rule.specs.declared.phase.Stage.TheVariants.{Leads, Led}
 use Rattle.heap_rule.specs.declared.view.DomainView.{DomainView}
 use Rattle.heap_rule.specs.Limits.{sizes_in}
 use Rattle.heap_rule.specs.Views.{fresh_share}
-use Rattle.steps_pauses.specs.Pauses.{EndsWith, arrived_view, cut_in, entry_of, kind_in, unswept_after, whole_after}
+use Rattle.steps_pauses.specs.Pauses.{EndsWith, arrived_view, entry_of, kind_in}
 use Rattle.safepoint.specs.Looks.{LedTo, cleared}
 use Rattle.cycle_phases.specs.declared.progress.Progress.{Progress}
 use Rattle.cycle_phases.specs.Leading.{LeadsOn, Opens, noted_before, progress_after, progress_of}

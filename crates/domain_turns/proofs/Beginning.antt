@@ -1,5 +1,5 @@
 -- How a domain stands before its first command.
-use Rattle.std.proofs.Common.{◌≡◌, ◌∙◌, ℕ, ◌/◌, ◌+◌, ◌%◌, ◌<◌, ◌≤◌, zero, suc, true, false, length, List, Option, None, replicate, ap, refl, sym, arith}
+use Rattle.std.proofs.Common.{◌≡◌, ◌∙◌, ℕ, ◌/◌, ◌+◌, ◌%◌, ◌<◌, ◌≤◌, zero, suc, false, length, List, Option, None, replicate, ap, refl, sym, arith}
 use Rattle.std.specs.Prelude.{slice_index_or}
 use Rattle.heap_model.specs.declared.command.Command.{Command}
 use Rattle.heap_model.specs.Domains.{class_count, opening_domain, no_domain}

@@ -1,6 +1,5 @@
 -- What the try of an allocation in the major heap leaves.
-use Rattle.std.proofs.Common.{◌≡◌, ◌∙◌, ℕ, ◌+◌, ◌≤◌, Bool, List, true, false, inl, inr, refl, sym, ap, subst, arith}
-use Rattle.remembered_set.specs.Bounded.{Bounded}
+use Rattle.std.proofs.Common.{◌≡◌, ◌∙◌, ℕ, ◌+◌, ◌≤◌, Bool, List, true, false, inl, inr, sym, ap, subst, arith}
 use Rattle.heap_model.specs.declared.command.Command.{Command}
 use Rattle.heap_model.specs.declared.command.Command.TheVariants.{AllocMaj, Ephe}
 use Rattle.heap_model.specs.declared.entry.Entry.TheVariants.{Command as CommandOf}
@@ -18,7 +17,6 @@ use Rattle.heap_rule.specs.declared.view.Swept.{Swept}
 use Rattle.heap_rule.specs.Limits.{sizes_in}
 use Rattle.heap_rule.specs.Pools.{spot_at}
 use Rattle.heap_rule.specs.Running.{Runs, Did, Stays}
-use Rattle.heap_rule.specs.Standing.{Acts}
 use Rattle.heap_rule.specs.Token.{Token, SharedHeap, IsIn}
 use Rattle.heap_rule.proofs.Calls.{stays_trans}
 use Rattle.size_pools.specs.Created.{ListsHeld}

@@ -1,8 +1,5 @@
 -- What a domain keeps that works for the collector beside the others.
-use Rattle.std.proofs.Common.{◌≡◌, ℕ, List, Bool, false, ⊎_elim, ap}
-use Rattle.heap_model.specs.declared.command.Command.{Command}
-use Rattle.heap_model.specs.declared.entry.Entry.{Entry}
-use Rattle.heap_rule.specs.declared.phase.Note.{Note}
+use Rattle.std.proofs.Common.{◌≡◌, ℕ, Bool, false, ⊎_elim, ap}
 use Rattle.heap_rule.specs.declared.view.DomainView.{DomainView}
 use Rattle.heap_rule.specs.Token.{SharedHeap}
 use Rattle.domain_turns.specs.Runs.{MarksBeside, RunView, SweepsBeside, WorksBeside}

@@ -1,5 +1,4 @@
-use Rattle.std.proofs.Common.{◌≡◌, ◌∙◌, ap, false, refl, subst, sym}
-use Rattle.heap_rule.specs.declared.phase.Kind.{Kind}
+use Rattle.std.proofs.Common.{◌∙◌, ap, subst, sym}
 use Rattle.heap_rule.specs.declared.phase.Kind.TheVariants.{Lasts}
 use Rattle.heap_rule.specs.declared.view.DomainView.{DomainView}
 use Rattle.cycle_phases.specs.Leading.{Opens}

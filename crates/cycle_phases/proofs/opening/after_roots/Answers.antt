@@ -1,6 +1,5 @@
-use Rattle.std.proofs.Common.{◌≡◌, ◌∙◌, ℕ, ap, refl, subst, sym, true}
-use Rattle.heap_rule.specs.declared.phase.Kind.{Kind}
-use Rattle.heap_rule.specs.declared.phase.Kind.TheVariants.{Roots, Run}
+use Rattle.std.proofs.Common.{◌∙◌, ap, refl, subst, sym, true}
+use Rattle.heap_rule.specs.declared.phase.Kind.TheVariants.{Roots}
 use Rattle.heap_rule.specs.declared.view.DomainView.{DomainView}
 use Rattle.cycle_phases.specs.Leading.{Opens}
 use Rattle.cycle_phases.proofs.Opens.{leads_list, roots_end, roots_run}

@@ -1,4 +1,4 @@
-use Rattle.std.proofs.Common.{◌≡◌, ◌∙◌, ◌≤◌, ◌<◌, ◌+◌, arith, Some, None, Option, Bool, false, List, length, slice_get, sym, ap, subst, ⊎_elim}
+use Rattle.std.proofs.Common.{◌≡◌, ◌∙◌, ◌≤◌, ◌<◌, ◌+◌, arith, Some, None, Option, false, List, length, slice_get, sym, ap, subst, ⊎_elim}
 use Rattle.std.specs.Prelude.{vec_capacity, ℕ}
 use Rattle.heap_model.specs.declared.reply.Reply.{Reply}
 use Rattle.heap_rule.specs.declared.phase.Kind.{Kind}
