@@ -6,7 +6,7 @@ const WORDS: &str = "run --domains 1";
 
 // The commands of domain 0, and what they print. `major` begins a collection. A `poll` that finds that all is scanned asks for
 // its end, and the pause comes before the next command.
-const REPLIES: [(&str, &str); 7] = [
+const REPLIES: [(&str, &str); 8] = [
     // What is loaded from a field stays where the field is overwritten.
     (
         "alloc 1 0 1\nalloc 2 0 1\nstore 1 0 2\ndrop 2\nmajor\nload 3 1 0\nint 4 0\nstore 1 0 4\npoll\nfull_major\nload 5 3 0\n",
@@ -41,6 +41,11 @@ const REPLIES: [(&str, &str); 7] = [
     (
         "alloc 1 0 1\nephe 2 1\nset_key 2 0 1\nmajor\ndrop 1\nfull_major\ncheck_key 2 0\n",
         "blk 0:1\nblk 0:2\nok\nok\nok\nlive 2 22\nno\n",
+    ),
+    // Once a collection has ended polls free what it found dead. The next one comes behind that.
+    (
+        "allocmaj 1 0 126\nallocmaj 1 0 126\nallocmaj 1 0 126\nallocmaj 1 0 126\nallocmaj 1 0 126\nallocmaj 1 0 126\nallocmaj 1 0 126\nallocmaj 1 0 126\nallocmaj 1 0 126\nallocmaj 1 0 126\ndrop 1\nmajor\npoll\npoll\npoll\npoll\npoll\npoll\npoll\npoll\npoll\npoll\npoll\npoll\npoll\npoll\npoll\npoll\npoll\npoll\npoll\npoll\nfull_major\n",
+        "blk 0:1\nblk 0:2\nblk 0:3\nblk 0:4\nblk 0:5\nblk 0:6\nblk 0:7\nblk 0:8\nblk 0:9\nblk 0:10\nok\nok\nok\nok\nok\nok\nok\nok\nok\nok\nok\nok\nok\nok\nok\nok\nok\nok\nok\nok\nok\nok\nlive 1 18\n",
     ),
 ];
 

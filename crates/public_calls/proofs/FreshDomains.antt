@@ -71,6 +71,7 @@ begins t cs b few fit none enlists = record {
   quiet = b.quiet;
   no_copies = b.no_copies;
   unprepared = b.unprepared;
+  none_began = b.none_began;
 }
 
 -- a domain that has noted something runs on

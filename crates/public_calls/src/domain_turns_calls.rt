@@ -4,7 +4,7 @@ use domain_turns::Turned;
 use heap_model::command::Command;
 use heap_model::label::Label;
 use heap_model::reply::Reply;
-use heap_rule::{Config, Waiting};
+use heap_rule::{Config, Spot, Waiting};
 use heap_words::Value;
 use std::alloc::{AllocError, Global};
 use std::test::Fail;
@@ -445,15 +445,29 @@ fn an_ended_trace_has_no_finalisers(rt: HostRuntime) -> Result<(), Fail> {
 
 // How often a domain has arrived once it has made these commands: two times for each even phase, but once for one in which a
 // collection is answered.
-const ARRIVALS: [(&[Command], u64); 4] = [
+const ARRIVALS: [(&[Command], u64); 6] = [
     (&[Command::Minor], 6),
     (&[Command::Major], 8),
     (&[Command::FullMajor], 27),
     (&[Command::Major, Command::FullMajor], 53),
+    (
+        &[Command::Major, Command::Poll, Command::Poll, Command::Major],
+        40,
+    ),
+    (
+        &[
+            Command::Major,
+            Command::Poll,
+            Command::Poll,
+            Command::FullMajor,
+        ],
+        59,
+    ),
 ];
 
 // A `major` begins a collection of the major heap, which takes one more phase than a `minor`. A `full_major` makes a whole
-// one in its pause, and finishes first the one that goes on.
+// one in its pause, and finishes first the one that goes on. Where the last one left its garbage to the running domains,
+// both take one phase more, in which what is left of it is freed.
 #[test]
 fn a_major_begins_a_collection(rt: HostRuntime) -> Result<(), Fail> {
     for (commands, arrivals) in &ARRIVALS {
@@ -484,9 +498,9 @@ const MARKED: [Command; 4] = [Command::Major, Command::Poll, Command::Poll, Comm
 // How many blocks a chain has, besides which the shared block lives, and how often the domain has arrived once it has made
 // `major` and each `poll`.
 const SLICES: [(u32, [u64; 4]); 3] = [
-    (254, [8, 8, 32, 32]),
-    (255, [8, 8, 8, 32]),
-    (300, [8, 8, 8, 32]),
+    (254, [8, 8, 30, 30]),
+    (255, [8, 8, 8, 30]),
+    (300, [8, 8, 8, 30]),
 ];
 
 // The commands that make a chain of so many blocks.
@@ -521,6 +535,43 @@ fn a_poll_scans_256_blocks(rt: HostRuntime) -> Result<(), Fail> {
             play.take_turns_until(made);
             same(&rt, arrivals_in(&play), Some(*wanted));
         }
+    }
+    Ok(())
+}
+
+// The block lies in a pool of 1024 places. The second poll comes behind the end of the collection.
+const SWEPT: [Command; 5] = [
+    Command::AllocMaj {
+        dst: 1,
+        tag: 0,
+        fields: 2,
+    },
+    Command::Major,
+    Command::Poll,
+    Command::Poll,
+    Command::Poll,
+];
+
+// Where domain 0 goes on to sweep once it has made so many commands. The pool of the shared block has 128 places.
+const SPOTS: [(usize, Spot); 3] = [
+    (3, Spot { pool: 14, slot: 0 }),
+    (4, Spot { pool: 1, slot: 128 }),
+    (5, Spot { pool: 1, slot: 384 }),
+];
+
+// Where domain 0 goes on to sweep.
+fn spot_in(play: &Play) -> Option<Spot> {
+    let run = play.runs.first()?;
+    Some(run.domain().swept().spot)
+}
+
+// Where no collection goes on a poll sweeps 256 places and no more, and at first none is left to be swept.
+#[test]
+fn a_poll_sweeps_256_places(rt: HostRuntime) -> Result<(), Fail> {
+    let mut play = Play::start(rt.alloc(), ONE_DOMAIN, &[SWEPT.as_slice()])?;
+    for (commands, spot) in &SPOTS {
+        play.take_turns_until(*commands);
+        same(&rt, spot_in(&play), Some(*spot));
     }
     Ok(())
 }

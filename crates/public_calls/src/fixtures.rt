@@ -7,6 +7,7 @@ ghost use Rattle.heap_rule.specs.Running.{Runs};
 ghost use Rattle.heap_rule.specs.Token.{IsIn};
 ghost use Rattle.heap_rule.specs.declared.phase.Kind.TheVariants.{Run};
 ghost use Rattle.heap_rule.specs.declared.phase.Stage.TheVariants.{In};
+ghost use Rattle.heap_rule.specs.declared.view.Hunt.TheVariants.{Rests};
 ghost use Rattle.mark_slices.specs.Slices.{IsDeckOf};
 ghost use Rattle.public_calls.specs.Fresh.{IsFresh};
 
@@ -258,6 +259,7 @@ fn ended(heap: &Heap, run: DomainRun) -> Result<Domain, Fail>
     requires here { IsIn run.token heap.now }
     ensures here { IfOk result (λ t. IsIn t heap.now) }
     ensures runs { IfOk result (λ t. t.view.seen.stage ≡ In Run) }
+    ensures at_rest { IfOk result (λ t. t.view.seen.hunt ≡ Rests) }
 {
     let mut run = run;
     for _ in 0..1_000_000u32 {
@@ -399,6 +401,7 @@ impl Play {
     pub(crate) fn into_ended(self) -> Result<(Heap, Domain), Fail>
         ensures here { IfOk result (λ r. IsIn r.1 r.0) }
         ensures runs { IfOk result (λ r. r.1.view.seen.stage ≡ In Run) }
+        ensures at_rest { IfOk result (λ r. r.1.view.seen.hunt ≡ Rests) }
     {
         let Play { heap, mut runs } = self;
         let Some(run) = runs.pop() else {

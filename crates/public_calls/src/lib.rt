@@ -40,4 +40,6 @@ mod size_classes_calls;
 #[cfg(test)]
 mod size_pools_calls;
 #[cfg(test)]
+mod sweeper_calls;
+#[cfg(test)]
 mod thread_drive_calls;
