@@ -115,7 +115,7 @@ opening z = record {
 
 -- how many classes of block sizes a heap has
 abbrev pub class_count : ℕ
-class_count = 6
+class_count = 9
 
 -- the pools kept free for promotion
 abbrev pub reserve : Sizes → ℕ

@@ -1,5 +1,5 @@
 -- Fronts: what a domain has seen of the history, and what stays true of the blocks that it knows while others go on.
-use Rattle.std.specs.Prelude.{◌≡◌, ℕ, List, [], ◌∷◌, ◌++◌, length, Some, IsTrue, not}
+use Rattle.std.specs.Prelude.{◌≡◌, ◌⊎◌, ℕ, List, [], ◌∷◌, ◌++◌, length, Some, IsTrue, not}
 use Rattle.std.specs.List.{list_all}
 use Rattle.heap_model.specs.declared.label.Label.{Label}
 use Rattle.heap_model.specs.declared.graph.Value.{Value}
@@ -57,13 +57,13 @@ pub record HoldsShape (s : State) (d r : ℕ) (shape : Shape) : Type 0 where
   pub there : node_at s.graph label ≡ Some node
   pub shape_is : shape_of node ≡ shape
 
--- register r of domain d holds a plain block with so many fields
-pub record HoldsPlain (s : State) (d r count : ℕ) : Type 0 where
+-- register r of domain d holds a plain or a raw block with so many fields
+pub record HoldsFields (s : State) (d r count : ℕ) : Type 0 where
   pub label : Label
   pub tag : ℕ
   pub fields : List Value
   pub held : register s d r ≡ Block label
-  pub node : node_at s.graph label ≡ Some (Plain tag fields)
+  pub node : (node_at s.graph label ≡ Some (Plain tag fields)) ⊎ (node_at s.graph label ≡ Some (Raw tag fields))
   pub size : length fields ≡ count
 
 -- what only entries of domain d change of it

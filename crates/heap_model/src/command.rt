@@ -17,7 +17,7 @@ pub enum Command {
     Forget {
         dst: u8,
     },
-    /// `alloc`: `dst` holds a new block of the minor heap. Tag 0 to 245; 1 to 126 fields, each the integer 0.
+    /// `alloc`: `dst` holds a new block of the minor heap. Tag 0 to 245; 1 to 1022 fields, each the integer 0.
     Alloc {
         dst: u8,
         tag: u8,
@@ -41,7 +41,7 @@ pub enum Command {
         index: u16,
         item: u8,
     },
-    /// `raw`: `dst` holds a new raw block of the minor heap. Tag 251 to 255; 1 to 126 fields, each the integer 0.
+    /// `raw`: `dst` holds a new raw block of the minor heap. Tag 251 to 255; 1 to 1022 fields, each the integer 0.
     Raw {
         dst: u8,
         tag: u8,

@@ -8,10 +8,10 @@ ghost use Rattle.size_classes.specs.Table.{is_table, EachBelow, IsLeastFor};
 pub const POOL_WORDS: u32 = 4096;
 
 /// How many size classes the heap has.
-pub const CLASS_COUNT: usize = 6;
+pub const CLASS_COUNT: usize = 9;
 
 /// The words of a block of each class.
-pub const SIZES: [u32; CLASS_COUNT] = [4, 8, 16, 32, 64, 128];
+pub const SIZES: [u32; CLASS_COUNT] = [4, 8, 16, 32, 64, 128, 256, 512, 1024];
 
 /// The heap's own table.
 pub const CLASSES: Classes<CLASS_COUNT> = Classes { sizes: SIZES };

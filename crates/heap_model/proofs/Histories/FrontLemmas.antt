@@ -1,18 +1,19 @@
 -- Fronts that grow, and what a domain's front tells of the whole history.
-use Rattle.std.proofs.Common.{◌≡◌, ℕ, false, not, List, [], ◌∷◌, ◌++◌, refl, ap, sym, ◌∙◌, subst, append_assoc, append-nil, length, get_or, Some}
+use Rattle.std.proofs.Common.{◌≡◌, ◌⊎◌, inl, inr, ⊎_elim, ℕ, false, not, List, [], ◌∷◌, ◌++◌, refl, ap, sym, ◌∙◌, subst, append_assoc, append-nil, length, get_or, Some}
 use Rattle.std.specs.List.{list_all}
 use Rattle.heap_model.specs.declared.entry.Entry.{Entry}
 use Rattle.heap_model.specs.declared.graph.Value.{Value}
-use Rattle.heap_model.specs.declared.graph.Value.TheVariants.{Nothing}
+use Rattle.heap_model.specs.declared.graph.Value.TheVariants.{Block, Nothing}
 use Rattle.heap_model.specs.declared.graph.Node.{Node}
 use Rattle.heap_model.specs.declared.graph.Node.TheVariants.{Plain, Raw, Ephe}
 use Rattle.heap_model.specs.declared.reply.Applied.{Applied}
 use Rattle.heap_model.specs.declared.state.Sizes.{Sizes}
 use Rattle.heap_model.specs.declared.state.State.{State}
-use Rattle.heap_model.specs.Domains.{opening}
+use Rattle.heap_model.specs.Domains.{opening, register}
+use Rattle.heap_model.specs.Graph.{node_at}
 use Rattle.heap_model.specs.Entries.{next, reply}
 use Rattle.heap_model.specs.History.{state_after, Legal, is_entry_of}
-use Rattle.heap_model.specs.Fronts.{NoneOf, IsFrontOf, Answers, PlainShape, shape_of, Grew, KeepsDomain, HoldsPlain}
+use Rattle.heap_model.specs.Fronts.{NoneOf, IsFrontOf, Answers, Shape, PlainShape, RawShape, shape_of, Grew, KeepsDomain, HoldsFields, HoldsShape}
 use Rattle.heap_model.proofs.Graphs.GraphLemmas.{and_parts}
 use Rattle.heap_model.proofs.Reach.ReachLemmas.{is_false}
 use Rattle.heap_model.proofs.Histories.HistoryLemmas.{state_after-append}
@@ -81,18 +82,33 @@ plain_of (Plain t fields) n tag e =
 plain_of (Raw t fields) n tag e = cc
 plain_of (Ephe keys datum) n tag e = cc
 
--- what a front of domain d says of a plain block in one of its registers holds in the history
-pub holds_later : (s : State) (d r n : ℕ) (h front : List Entry) → IsFrontOf d h front → HoldsPlain (state_after s front) d r n → HoldsPlain (state_after s h) d r n
+-- and one with a raw block's shape is a raw block
+pub raw_of : (m : Node) (n tag : ℕ) → shape_of m ≡ RawShape n tag → (fields : List Value) × (m ≡ Raw tag fields) × (length fields ≡ n)
+raw_of (Plain t fields) n tag e = cc
+raw_of (Raw t fields) n tag e =
+    let tags : t ≡ tag = cc in
+    let sizes : length fields ≡ n = cc in
+    (fields, ap (λ x. Raw x fields) tags, sizes)
+raw_of (Ephe keys datum) n tag e = cc
+
+-- what a front of domain d says of a block with fields in one of its registers holds in the history
+pub holds_later : (s : State) (d r n : ℕ) (h front : List Entry) → IsFrontOf d h front → HoldsFields (state_after s front) d r n → HoldsFields (state_after s h) d r n
 holds_later s d r n h front f holds =
-    let grew = grew_front s d h front f holds.label (Plain holds.tag holds.fields) holds.node in
-    let plain = plain_of grew.0 n holds.tag (grew.2 ∙ ap (λ x. PlainShape x holds.tag) holds.size) in record {
-      label = holds.label;
-      tag = holds.tag;
-      fields = plain.0;
-      held = ap (λ (xs : List Value). get_or xs r Nothing) (keeps_front s d h front f).registers ∙ holds.held;
-      node = grew.1 ∙ ap Some plain.1;
-      size = plain.2;
-    }
+    let held : register (state_after s h) d r ≡ Block holds.label = ap (λ (xs : List Value). get_or xs r Nothing) (keeps_front s d h front f).registers ∙ holds.held in ⊎_elim
+    (λ (node : node_at (state_after s front).graph holds.label ≡ Some (Plain holds.tag holds.fields)).
+    let grew = grew_front s d h front f holds.label (Plain holds.tag holds.fields) node in
+    let plain = plain_of grew.0 n holds.tag (grew.2 ∙ ap (λ x. PlainShape x holds.tag) holds.size) in
+    record { label = holds.label; tag = holds.tag; fields = plain.0; held = held; node = inl (grew.1 ∙ ap Some plain.1); size = plain.2 })
+    (λ (node : node_at (state_after s front).graph holds.label ≡ Some (Raw holds.tag holds.fields)).
+    let grew = grew_front s d h front f holds.label (Raw holds.tag holds.fields) node in
+    let raw = raw_of grew.0 n holds.tag (grew.2 ∙ ap (λ x. RawShape x holds.tag) holds.size) in
+    record { label = holds.label; tag = holds.tag; fields = raw.0; held = held; node = inr (grew.1 ∙ ap Some raw.1); size = raw.2 })
+    holds.node
+
+-- and of a block of any shape
+pub shape_later : (s : State) (d r : ℕ) (shape : Shape) (h front : List Entry) → IsFrontOf d h front → HoldsShape (state_after s front) d r shape → HoldsShape (state_after s h) d r shape
+shape_later s d r shape h front f holds = let grew = grew_front s d h front f holds.label holds.node holds.there in
+    record { label = holds.label; node = grew.0; held = ap (λ (xs : List Value). get_or xs r Nothing) (keeps_front s d h front f).registers ∙ holds.held; there = grew.1; shape_is = grew.2 ∙ holds.shape_is }
 
 none_append : (d : ℕ) (h k : List Entry) → NoneOf d h → NoneOf d k → NoneOf d (h ++ k)
 none_append d [] k a b = b
