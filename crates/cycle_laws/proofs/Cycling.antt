@@ -24,7 +24,7 @@ use Rattle.cycle_laws.specs.Cycle.{Cycle, Pass, First, Second, Roots, Mark, Roun
 use Rattle.cycle_laws.specs.CycleLaws.{Darkens, Arrives, DarkeningSteps, TakingSteps, PhaseSteps}
 use Rattle.cycle_laws.proofs.LookingBack.{through_looks, through_arrives}
 use Rattle.cycle_laws.proofs.Tracing.{More, holds_more, darkened_more, never, held_fields, darken_traced, darken_whole, scan_traced, closed_when}
-use Rattle.cycle_laws.proofs.Sharing.{at_cases, owned_darkened, mark_start, mark_darkens_own as shares_darken_own, mark_darkens_other as shares_darken_other, mark_scans as shares_scan, mark_stores as shares_store, mark_sees, mark_arrives as shares_arrive, mark_end, rounds_start, rounds_darkens as rounds_darken, rounds_stores as rounds_store, rounds_sees, rounds_arrives as rounds_arrive, rounds_end}
+use Rattle.cycle_laws.proofs.Sharing.{at_cases, owned_darkened, mark_start, mark_darkens_own as shares_darken_own, mark_darkens_other as shares_darken_other, mark_scans as shares_scan, mark_stores as shares_store, mark_sees, mark_arrives as shares_arrive, mark_end, rounds_start, rounds_darkens as rounds_darken, rounds_scans as rounds_scan, rounds_stores as rounds_store, rounds_sees, rounds_arrives as rounds_arrive, rounds_end}
 use Rattle.cycle_laws.proofs.Covering.{cover_darkens, cover_scans, cover_closed}
 use Rattle.cycle_laws.proofs.DomainParts.{part_has, roots_end}
 use Rattle.cycle_laws.proofs.Deciding as deciding
@@ -126,6 +126,15 @@ module _ (pass : Pass) (n : ℕ) (s : State) (c : Cycle) where
     };
   }
 
+  pub roots_scans : InPhase (Roots pass) n s c → (l : Label) → FieldsMarked s.graph c.marks.marked l → InPhase (Roots pass) n s (with_marks c (with_scanned c.marks l))
+  roots_scans i l fields = record {
+    traced = scan_traced s.graph c.marks l fields i.traced;
+    owned = i.owned;
+    whole = i.whole;
+    passed = i.passed;
+    marked = i.marked;
+  }
+
   pub roots_arrives : InPhase (Roots pass) n s c → (d : ℕ) → RootsMarked s c.marks.marked d → InPhase (Roots pass) n s (with_shares c (arrives c.shares d))
   roots_arrives i d own = record {
     traced = i.traced;
@@ -214,6 +223,14 @@ module _ (pass : Pass) (n : ℕ) (s : State) (c : Cycle) where
       whole = whole_darkens d k a l may i.whole;
       passed = passed_more pass s c.whole c.marks.marked (darkened c.marks l).marked (darkened_more c.marks l) i.passed;
       rounds = rounds_darken n c.layout s.graph c.before c.marks c.shares i.rounds d k a l may.inside may.owner_inside may.lives may.owned may.unmarked may.acts;
+    }
+
+    pub rounds_scans : (l : Label) → FieldsMarked s.graph c.marks.marked l → InPhase (Rounds pass) n s (with_marks c (with_scanned c.marks l))
+    rounds_scans l fields = record {
+      known = known_scans s c.layout c.marks l fields pass i.known;
+      whole = i.whole;
+      passed = i.passed;
+      rounds = rounds_scan n c.layout s.graph c.before c.marks c.shares i.rounds l;
     }
 
     pub rounds_stores : (d : ℕ) → InPhase (Rounds pass) n s (with_shares c (stored_changed c.shares d))
@@ -508,6 +525,8 @@ darkening_steps = record {
   mark_darkens_own = mark_darkens_own;
   mark_darkens_other = mark_darkens_other;
   mark_scans = mark_scans;
+  roots_scans = roots_scans;
+  rounds_scans = rounds_scans;
   mark_stores = mark_stores;
   mark_looks = mark_looks;
   mark_arrives = mark_arrives;

@@ -227,6 +227,16 @@ module _ (n : ℕ) (y : Layout) where
       data_marked = λ j b x seen there h keys. holds_more m.marked (darkened m l).marked (darkened_more m l) (data_of (node_at g x)) (i.data_marked j b x seen there h keys);
     }
 
+    pub rounds_scans : (l : Label) → InRounds n y g before (with_scanned m l) w
+    rounds_scans l = record {
+      shares = i.shares;
+      owned = i.owned;
+      stays = i.stays;
+      scanned = λ x h. or_right (same_label l x) (m.scanned x) (i.scanned x h);
+      same = i.same;
+      data_marked = i.data_marked;
+    }
+
     pub rounds_stores : (d : ℕ) → InRounds n y g before m (stored_changed w d)
     rounds_stores d = record {
       shares = shares_stored w i.shares d;

@@ -1,5 +1,5 @@
 -- Where nothing is grey and the ephemerons' data follows, the marked blocks are closed; and darkening for a reason marks only what is reachable.
-use Rattle.std.proofs.Common.{◌≡◌, ◌⊎◌, inl, inr, ⊎_elim, Bool, true, false, cond, not, IsTrue, List, [], option_to_list, Option, Some, None, refl, sym, ◌∙◌, subst}
+use Rattle.std.proofs.Common.{◌≡◌, ◌≢◌, ◌⊎◌, inl, inr, ⊎_elim, Bool, true, false, cond, not, ◌&&◌, ◌||◌, IsTrue, List, [], option_to_list, Option, Some, None, refl, sym, ap, ◌∙◌, subst}
 use Rattle.std.specs.List.{list_all}
 use Rattle.std.specs.Option.{option_map_or}
 use Rattle.heap_model.specs.declared.label.Label.{Label}
@@ -8,9 +8,9 @@ use Rattle.heap_model.specs.declared.graph.Node.TheVariants.{Plain, Raw, Ephe}
 use Rattle.heap_model.specs.Graph.{Graph, same_label, has_label, label_of, node_at}
 use Rattle.heap_model.specs.Reach.{key_holds, edges_of, reachable, is_reachable, HoldsRoots, IsClosedUnder, IsClosedGraph, IsLeastClosed}
 use Rattle.heap_model.specs.Entries.{full_keys}
-use Rattle.heap_model.proofs.Reach.ReachLemmas.{not_true, not_false, keys_all, all_keys, or_cases, or_right, and_left, and_right, and_both, reachable_least, reach_law}
+use Rattle.heap_model.proofs.Reach.ReachLemmas.{not_true, not_false, keys_all, all_keys, or_cases, or_left, or_right, and_left, and_right, and_both, reachable_least, reach_law}
 use Rattle.heap_model.proofs.Graphs.GraphLemmas.{same_label-false, same_label-true, same_label_refl}
-use Rattle.cycle_laws.specs.Marks.{Marks, darkened, with_scanned, fields_of, data_of, FieldsMarked, KeysMarked, IsTraced, NoneGrey, DataFollows, IsWhole, MayDarken}
+use Rattle.cycle_laws.specs.Marks.{Marks, darkened, darkened_as, with_scanned, fields_of, data_of, FieldsMarked, KeysMarked, IsTraced, NoneGrey, DataFollows, IsWhole, MayDarken}
 
 -- more is marked
 abbrev pub More : (Label → Bool) → (Label → Bool) → Type 0
@@ -105,6 +105,19 @@ scan_traced g m l fields traced x marked scanned = ⊎_elim
     (λ here. subst (FieldsMarked g m.marked) (same_label-true l x here) fields)
     (λ old. traced x marked old)
     (or_cases (same_label l x) (m.scanned x) scanned)
+
+-- a block that is darkened and scanned at once where it needs no scan: what holds of its marks, and which blocks have the scanned mark
+pub darkens_as : (P : Marks → Type 0) (m : Marks) (l : Label) (done : Bool) → (done ≡ true → P (with_scanned (darkened m l) l)) → P (darkened m l) → P (darkened_as done m l)
+darkens_as P m l true at_once later = at_once refl
+darkens_as P m l false at_once later = later
+
+pub scanned_here : (done : Bool) (m : Marks) (l : Label) → done ≡ true → IsTrue ((darkened_as done m l).scanned l)
+scanned_here true m l e = or_left (same_label l l) ((darkened m l).scanned l) (same_label_refl l)
+scanned_here false m l e = cc
+
+pub scanned_else : (done : Bool) (m : Marks) (l x : Label) → l ≢ x → (darkened_as done m l).scanned x ≡ m.scanned x
+scanned_else true m l x differ = ap (λ (b : Bool). b || (not b && m.scanned x)) (same_label-false l x differ)
+scanned_else false m l x differ = ap (λ (b : Bool). not b && m.scanned x) (same_label-false l x differ)
 
 -- so at the end of a whole cycle the marked blocks are the reachable ones
 pub marked_reach : (g : Graph) (roots : List Label) (marked : Label → Bool) → IsClosedUnder g marked → HoldsRoots roots marked → IsWhole g roots marked

@@ -54,6 +54,11 @@ pub record DarkeningSteps : Type 0 where
   -- it marks a block as scanned whose fields are marked
   pub mark_scans : (pass : Pass) (n : ℕ) (s : State) (c : Cycle) → InPhase (Mark pass) n s c → (l : Label) → FieldsMarked s.graph c.marks.marked l
       → InPhase (Mark pass) n s (with_marks c (with_scanned c.marks l))
+  -- and in any of these phases a block is scanned at once that has no fields to follow
+  pub roots_scans : (pass : Pass) (n : ℕ) (s : State) (c : Cycle) → InPhase (Roots pass) n s c → (l : Label) → FieldsMarked s.graph c.marks.marked l
+      → InPhase (Roots pass) n s (with_marks c (with_scanned c.marks l))
+  pub rounds_scans : (pass : Pass) (n : ℕ) (s : State) (c : Cycle) → InPhase (Rounds pass) n s c → (l : Label) → FieldsMarked s.graph c.marks.marked l
+      → InPhase (Rounds pass) n s (with_marks c (with_scanned c.marks l))
   -- it stores the changed word
   pub mark_stores : (pass : Pass) (n : ℕ) (s : State) (c : Cycle) → InPhase (Mark pass) n s c → (d : ℕ) → InPhase (Mark pass) n s (with_shares c (stored_changed c.shares d))
   -- it finds no grey block at an own place

@@ -1,5 +1,5 @@
 -- What a cycle has marked, what it has scanned, and what must be marked before it may stop.
-use Rattle.std.specs.Prelude.{Bool, not, ◌&&◌, ◌||◌, ◌⊎◌, IsTrue, List, [], filter_map, option_to_list, Option, Some, None}
+use Rattle.std.specs.Prelude.{Bool, true, false, not, ◌&&◌, ◌||◌, ◌⊎◌, IsTrue, List, [], filter_map, option_to_list, Option, Some, None}
 use Rattle.heap_model.specs.declared.label.Label.{Label}
 use Rattle.heap_model.specs.declared.graph.Node.{Node}
 use Rattle.heap_model.specs.declared.graph.Node.TheVariants.{Plain, Raw, Ephe}
@@ -19,6 +19,14 @@ darkened m l = record { marked = λ x. same_label l x || m.marked x; scanned = �
 -- the marks after a block was scanned: all that it refers to has been darkened
 abbrev pub with_scanned : Marks → Label → Marks
 with_scanned m l = record m { scanned = λ x. same_label l x || m.scanned x }
+
+-- the marks after a block was darkened, and scanned at once where it needs no scan
+abbrev pub scanned_as : Bool → Marks → Label → Label → Bool
+scanned_as false m l = m.scanned
+scanned_as true m l = (with_scanned m l).scanned
+
+abbrev pub darkened_as : Bool → Marks → Label → Marks
+darkened_as done m l = record (darkened m l) { scanned = scanned_as done (darkened m l) l }
 
 -- the labels in the fields that a scan follows: those of a plain block
 abbrev pub fields_of : Option Node → List Label
