@@ -7,7 +7,7 @@ use Rattle.heap_rule.specs.declared.config.Config.{Config}
 use Rattle.heap_rule.specs.declared.view.DomainView.{DomainView}
 use Rattle.heap_rule.specs.Ephemerons.{IsEpheAt}
 use Rattle.heap_rule.specs.Layout.{heap_words, base_of, at_address}
-use Rattle.heap_rule.specs.Places.{Place, Live, extent, span, Spread, HasClass, IsPackableShape, IsBuilt, Fits, Placed, More}
+use Rattle.heap_rule.specs.Places.{Place, Live, extent, span, Spread, HasClass, IsPackableShape, Fits, Placed, More}
 use Rattle.heap_rule.specs.Pools.{Holder, Tenancy, Lot, Pools, Grid, place_in, size_of}
 use Rattle.heap_rule.specs.Room.{Opened}
 use Rattle.heap_rule.specs.Rule.{Area}
@@ -33,7 +33,6 @@ pub fits_back : (k : Config) (b : ℕ) (p q : Place) → p.label ≡ q.label →
 fits_back k b p q label shape f = record {
   low = f.low;
   high = subst (λ (s : Shape). b + extent s ≤ heap_words k + 1) shape f.high;
-  built = subst IsBuilt shape f.built;
   classed = subst (λ (s : Shape). HasClass (extent s)) shape f.classed;
   head = subst IsPackableShape shape f.head;
   label = subst (λ (l : Label). IsPackableLabel (l.domain, l.serial)) label f.label;

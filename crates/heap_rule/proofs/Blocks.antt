@@ -1,6 +1,6 @@
 -- The block in a register: in the words, and in the graph.
 use Rattle.heap_rule.proofs.EphemeronLemmas.{found_value}
-use Rattle.std.proofs.Common.{Option, ◌≡◌, ℕ, ◌+◌, ◌<◌, ◌≤◌, List, length, slice_get, Some, sym, refl, ap, ◌∙◌, subst, arith, []}
+use Rattle.std.proofs.Common.{Option, ◌≡◌, ◌⊎◌, inl, inr, ⊎_elim, ℕ, ◌+◌, ◌<◌, ◌≤◌, List, length, slice_get, Some, sym, refl, ap, ◌∙◌, subst, arith, []}
 use mathlib.Core.Option.{some}
 use lib.ListN.{get_elem?}
 use Rattle.heap_model.specs.declared.label.Label.{Label}
@@ -8,12 +8,12 @@ use Rattle.heap_model.specs.declared.entry.Entry.{Entry}
 use Rattle.heap_model.specs.declared.graph.Value as graph_value
 use Rattle.heap_model.specs.declared.graph.Value.TheVariants.{Block}
 use Rattle.heap_model.specs.declared.graph.Node.{Node}
-use Rattle.heap_model.specs.declared.graph.Node.TheVariants.{Plain}
+use Rattle.heap_model.specs.declared.graph.Node.TheVariants.{Plain, Raw}
 use Rattle.heap_model.specs.declared.state.State as model
 use Rattle.heap_model.specs.Graph.{node_at}
 use Rattle.heap_model.specs.Domains.{register, opening}
-use Rattle.heap_model.specs.Fronts.{PlainShape, HoldsPlain, Shape, HoldsShape}
-use Rattle.heap_model.proofs.Histories.FrontLemmas.{plain_of, holds_later}
+use Rattle.heap_model.specs.Fronts.{PlainShape, RawShape, HoldsFields, Shape, HoldsShape}
+use Rattle.heap_model.proofs.Histories.FrontLemmas.{plain_of, raw_of, holds_later}
 use Rattle.heap_words.specs.declared.value.Value.{Value}
 use Rattle.heap_rule.specs.declared.config.Config.{Config}
 use Rattle.heap_rule.specs.declared.view.DomainView.{DomainView}
@@ -50,23 +50,34 @@ module _ (k : Config) (s : Words) (r : Rule k s) (id : ℕ) (hist : List Entry) 
   pub found_at : (reg a : ℕ) (b : Lives reg a) → Found k r.account.cycling.paint r.account.live now.graph s.words a b.place
   found_at reg a b = r.whole.found a b.place b.lives
 
-  -- a plain block
-  pub plain_at : (reg a : ℕ) (b : Lives reg a) (n tag : ℕ) → b.place.shape ≡ PlainShape n tag → HoldsPlain now x.own.number reg n
-  plain_at reg a b n tag is =
+  -- a plain block, and a raw one
+  pub plain_node : (reg a : ℕ) (b : Lives reg a) (n tag : ℕ) → b.place.shape ≡ PlainShape n tag → (fields : List graph_value.Value) × (node_at now.graph b.place.label ≡ Some (Plain tag fields)) × (length fields ≡ n)
+  plain_node reg a b n tag is =
       let f = found_at reg a b in
-      let p = plain_of f.node n tag (f.shape ∙ is) in
-      record { label = b.place.label; tag = tag; fields = p.0; held = b.held; node = f.there ∙ ap Some p.1; size = p.2 }
+      let p = plain_of f.node n tag (f.shape ∙ is) in (p.0, f.there ∙ ap Some p.1, p.2)
+
+  pub raw_node : (reg a : ℕ) (b : Lives reg a) (n tag : ℕ) → b.place.shape ≡ RawShape n tag → (fields : List graph_value.Value) × (node_at now.graph b.place.label ≡ Some (Raw tag fields)) × (length fields ≡ n)
+  raw_node reg a b n tag is =
+      let f = found_at reg a b in
+      let p = raw_of f.node n tag (f.shape ∙ is) in (p.0, f.there ∙ ap Some p.1, p.2)
+
+  pub plain_at : (reg a : ℕ) (b : Lives reg a) (n tag : ℕ) → b.place.shape ≡ PlainShape n tag → HoldsFields now x.own.number reg n
+  plain_at reg a b n tag is = let p = plain_node reg a b n tag is in record { label = b.place.label; tag = tag; fields = p.0; held = b.held; node = inl p.1; size = p.2 }
+
+  pub raw_at : (reg a : ℕ) (b : Lives reg a) (n tag : ℕ) → b.place.shape ≡ RawShape n tag → HoldsFields now x.own.number reg n
+  raw_at reg a b n tag is = let p = raw_node reg a b n tag is in record { label = b.place.label; tag = tag; fields = p.0; held = b.held; node = inr p.1; size = p.2 }
 
   -- whatever its shape
   pub shape_at : (reg a : ℕ) (b : Lives reg a) (shape : Shape) → b.place.shape ≡ shape → HoldsShape now x.own.number reg shape
   shape_at reg a b shape is = let f = found_at reg a b in record { label = b.place.label; node = f.node; held = b.held; there = f.there; shape_is = f.shape ∙ is }
 
-  pub plain_inside : (reg a : ℕ) (b : Lives reg a) (n tag : ℕ) → b.place.shape ≡ PlainShape n tag → a + n + 1 ≤ heap_words k
-  plain_inside reg a b n tag is =
+  -- its fields lie in the heap
+  pub fields_inside : (reg a : ℕ) (b : Lives reg a) (n : ℕ) → extent b.place.shape ≡ n + 2 → a + n + 1 ≤ heap_words k
+  fields_inside reg a b n is =
       let h = (r.whole.placed.fits a b.place b.lives).high in
       let e : ℕ = extent b.place.shape in
       let w : ℕ = heap_words k in
-      let same : e ≡ n + 2 = ap extent is in
+      let same : e ≡ n + 2 = is in
       let g : a + e ≤ w + 1 = h in omega arith
 
   -- a field whose block and size the front knows
@@ -77,7 +88,7 @@ module _ (k : Config) (s : Words) (r : Rule k s) (id : ℕ) (hist : List Entry) 
     pub tag : ℕ
     pub fields : List graph_value.Value
     pub held : register now x.own.number reg ≡ Block place.label
-    pub node : node_at now.graph place.label ≡ Some (Plain tag fields)
+    pub node : (node_at now.graph place.label ≡ Some (Plain tag fields)) ⊎ (node_at now.graph place.label ≡ Some (Raw tag fields))
     pub value : graph_value.Value
     pub there : slice_get fields i ≡ Some value
     pub stands : WordStands r.account.live (at_address k s.words (address + 2 + i)) value
@@ -86,10 +97,13 @@ module _ (k : Config) (s : Words) (r : Rule k s) (id : ℕ) (hist : List Entry) 
   field_at settled whole word reg i may =
       let b = lives_at reg may.address may.block in
       let found = found_at reg may.address b in
-      let later : HoldsPlain now x.own.number reg may.size = holds_later (opening (sizes_in k)) x.own.number reg may.size r.account.log x.seen.front (mine k s r id hist x at).front may.known in
+      let later : HoldsFields now x.own.number reg may.size = holds_later (opening (sizes_in k)) x.own.number reg may.size r.account.log x.seen.front (mine k s r id hist x at).front may.known in
       let label : later.label ≡ b.place.label = block_same later.label b.place.label (sym later.held ∙ b.held) in
-      let node : node_at now.graph b.place.label ≡ Some (Plain later.tag later.fields) = ap (node_at now.graph) (sym label) ∙ later.node in
-      let is : found.node ≡ Plain later.tag later.fields = same_Some found.node (Plain later.tag later.fields) (sym found.there ∙ node) in
+      let here : node_at now.graph b.place.label ≡ node_at now.graph later.label = ap (node_at now.graph) (sym label) in
+      let is : values_of found.node ≡ later.fields = ⊎_elim
+      (λ (e : node_at now.graph later.label ≡ Some (Plain later.tag later.fields)). ap values_of (same_Some found.node (Plain later.tag later.fields) (sym found.there ∙ (here ∙ e))))
+      (λ (e : node_at now.graph later.label ≡ Some (Raw later.tag later.fields)). ap values_of (same_Some found.node (Raw later.tag later.fields) (sym found.there ∙ (here ∙ e))))
+      later.node in
       let v = got_there later.fields i (let n : ℕ = may.size in let e : length later.fields ≡ n = later.size in let h : i < n = may.inside in omega arith) in (
         record {
           address = may.address;
@@ -98,10 +112,10 @@ module _ (k : Config) (s : Words) (r : Rule k s) (id : ℕ) (hist : List Entry) 
           tag = later.tag;
           fields = later.fields;
           held = b.held;
-          node = node;
+          node = ⊎_elim (λ (e : node_at now.graph later.label ≡ Some (Plain later.tag later.fields)). inl (here ∙ e)) (λ (e : node_at now.graph later.label ≡ Some (Raw later.tag later.fields)). inr (here ∙ e)) later.node;
           value = v.0;
           there = v.1;
-          stands = found_value k r.account.cycling.paint r.account.live now.graph s.words may.address b.place found (whole b.place.label) i v.0 (subst (λ (o : Option Debt). HasValue o i) (sym (settled may.address b.place b.lives).no_debt) tt) (ap (λ (n : Node). slice_get (values_of n) i) is ∙ v.1);
+          stands = found_value k r.account.cycling.paint r.account.live now.graph s.words may.address b.place found (whole b.place.label) i v.0 (subst (λ (o : Option Debt). HasValue o i) (sym (settled may.address b.place b.lives).no_debt) tt) (ap (λ (l : List graph_value.Value). slice_get l i) is ∙ v.1);
         },
         refl,
       )

@@ -1,5 +1,5 @@
 -- Bounds on the numbers of a heap within its limits.
-use Rattle.std.proofs.Common.{◌≡◌, ℕ, suc, ◌+◌, ◌*◌, ◌^◌, ◌<◌, ◌≤◌, suc-mul, mul-le-mul_right, subst, arith, rules, Option, Some, None, ◌⊎◌, inl, refl}
+use Rattle.std.proofs.Common.{◌≡◌, ℕ, suc, ◌+◌, ◌*◌, ◌^◌, ◌<◌, ◌≤◌, suc-mul, mul-le-mul_right, subst, arith, rules, Option, Some, None, ◌⊎◌, inr, refl}
 use Rattle.heap_model.specs.Domains.{IsWithinLimits, first_outside as outside_sizes}
 use Rattle.heap_model.specs.declared.state.Sizes.{Sizes}
 use Rattle.heap_rule.specs.declared.config.Config.{Config}
@@ -48,7 +48,7 @@ within_sizes z classes fits = search rules
 
 -- where no field is outside its limit
 pub within : (k : Config) → first_outside k ≡ None → IsWithinLimits (sizes_in k)
-within k fits = within_sizes (sizes_in k) (inl refl) (first_none (outside_sizes (sizes_in k)) (outside_rooms k) fits)
+within k fits = within_sizes (sizes_in k) (inr refl) (first_none (outside_sizes (sizes_in k)) (outside_rooms k) fits)
 
 pub some_pool : (k : Config) → IsWithinLimits (sizes_in k) → 1 ≤ k.pools
 some_pool k limits = let h = limits.some_pools in omega arith

@@ -174,7 +174,7 @@ module _ (k : Config) (limits : IsWithinLimits (sizes_in k)) (words : List ℕ) 
   }
 
   fits : Fits k 1 shared_place
-  fits = record { built = tt; classed = (3, omega arith, omega arith); low = omega arith; high = (let h = heap_large k limits in let x : ℕ = heap_words k in let y : 4096 ≤ x = h in let z : 1 + 18 ≤ x + 1 = omega arith in z); head = (omega arith, omega arith, omega arith); label = (omega arith, lit< tt); pooled = λ keys e. absurd (let h : PlainShape 16 0 ≡ EpheShape keys = e in cc) }
+  fits = record { classed = (3, omega arith, omega arith); low = omega arith; high = (let h = heap_large k limits in let x : ℕ = heap_words k in let y : 4096 ≤ x = h in let z : 1 + 18 ≤ x + 1 = omega arith in z); head = (omega arith, omega arith, omega arith); label = (omega arith, lit< tt); pooled = λ keys e. absurd (let h : PlainShape 16 0 ≡ EpheShape keys = e in cc) }
 
   placed : Placed k only
   placed = record {

@@ -1,8 +1,8 @@
 -- What a domain knows and owes in a collection of young blocks.
 use Rattle.std.specs.Prelude.{◌≡◌, ◌≢◌, ℕ, ◌+◌, ◌*◌, ◌<◌, ◌⊎◌, cond, eqb, List, [], ◌∷◌, slice_get, Some, None}
-use Rattle.heap_model.specs.Fronts.{Shape, PlainShape, EpheShape}
+use Rattle.heap_model.specs.Fronts.{Shape, PlainShape, RawShape, EpheShape}
 use Rattle.heap_rule.specs.declared.view.Form.{Form}
-use Rattle.heap_rule.specs.declared.view.Form.TheVariants.{Plain, Ephe}
+use Rattle.heap_rule.specs.declared.view.Form.TheVariants.{Plain, Raw, Ephe}
 use Rattle.heap_rule.specs.declared.view.Met.{Met}
 use Rattle.heap_rule.specs.declared.view.Owing.{Owing}
 use Rattle.heap_rule.specs.declared.view.Copied.{Copied}
@@ -25,6 +25,7 @@ nothing_copied = record { met = []; pending = []; copied = [] }
 
 abbrev pub shape_of_form : Form → Shape
 shape_of_form (Plain size tag) = PlainShape size tag
+shape_of_form (Raw size tag) = RawShape size tag
 shape_of_form (Ephe keys) = EpheShape keys
 
 -- the block that was met

@@ -117,16 +117,27 @@ pub record IsNewHead (known : Option Colours) (armed : Option Bool) (pooled : Bo
   pub fits : new_colour beside colours < 3
   pub packs : HeadIs None shape (new_colour beside colours) (pooled && beside) word
 
--- a head of this shape can be packed, whatever its colour
+-- a head of this shape can be packed, whatever its colour. The tag tells a raw block from a plain one
 abbrev pub IsPackableShape : Shape → Type 0
-IsPackableShape (PlainShape size tag) = (1 ≤ size) × (size ≤ 1022) × (tag < 256)
-IsPackableShape (RawShape size tag) = (1 ≤ size) × (size ≤ 1022) × (tag < 256)
+IsPackableShape (PlainShape size tag) = (1 ≤ size) × (size ≤ 1022) × (tag < 251)
+IsPackableShape (RawShape size tag) = (1 ≤ size) × (size ≤ 1022) × (251 ≤ tag) × (tag < 256)
 IsPackableShape (EpheShape keys) = (1 ≤ keys) × (keys ≤ 8)
+
+-- the shape of a block with fields, by its tag
+abbrev pub tagged : ℕ → ℕ → Shape
+tagged size tag = if nat_le 251 tag then RawShape size tag else PlainShape size tag
+
+-- whether a block needs no scan, since its fields refer to nothing
+abbrev pub needs_no_scan : Shape → Bool
+needs_no_scan (PlainShape size tag) = false
+needs_no_scan (RawShape size tag) = true
+needs_no_scan (EpheShape keys) = false
 
 -- the word is a head of this shape, whatever its colour
 pub record IsHeadOf (shape : Shape) (word : ℕ) : Type 0 where
   pub colour : ℕ
   pub scanned : Bool
+  pub fits : IsPackableShape shape
   pub packable : IsPackableHead (head_of None shape colour scanned)
   pub packs : HeadIs None shape colour scanned word
 
@@ -179,18 +190,12 @@ pub record Found (k : Config) (paint : Paint) (live : Live) (graph : Graph) (wor
   pub values : (i : ℕ) (v : Value) → HasValue p.owed i → slice_get (values_of (without_keys (paint.emptied p.label) node)) i ≡ Some v → WordStands live (at_address k words (a + 2 + i)) v
   pub old : IsOldAt k a → (i : ℕ) → i + 2 < extent p.shape → HasValue p.owed i → p.named i ≡ None → IsOldWord k (at_address k words (a + 2 + i))
 
--- no step makes a raw block yet
-abbrev pub IsBuilt : Shape → Type 0
-IsBuilt (RawShape size tag) = ⊥
-IsBuilt _ = Unit {0}
-
 -- a size class has room for so many words
 abbrev pub HasClass : ℕ → Type 0
 HasClass words = (class : ℕ) × (class < length SIZES) × (words ≤ slice_index SIZES class)
 
 -- the block at an address lies in the heap, a size class has room for it, and its head and its label can be packed. An ephemeron lies in a pool
 pub record Fits (k : Config) (a : ℕ) (p : Place) : Type 0 where
-  pub built : IsBuilt p.shape
   pub low : 1 ≤ a
   pub high : a + extent p.shape ≤ heap_words k + 1
   pub classed : HasClass (extent p.shape)

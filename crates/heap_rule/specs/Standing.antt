@@ -4,7 +4,7 @@ use Rattle.heap_model.specs.declared.entry.Entry.{Entry}
 use Rattle.heap_model.specs.declared.reply.Applied.{Applied}
 use Rattle.heap_model.specs.Domains.{domain_at}
 use Rattle.heap_model.specs.History.{Legal}
-use Rattle.heap_model.specs.Fronts.{IsFrontOf, Answers, HoldsPlain}
+use Rattle.heap_model.specs.Fronts.{IsFrontOf, Answers, HoldsFields}
 use Rattle.heap_words.specs.declared.value.Value.{Value}
 use Rattle.heap_words.specs.declared.value.Value.TheVariants.{Ref, Nothing}
 use Rattle.heap_rule.specs.declared.change.Change.{Change}
@@ -41,13 +41,13 @@ pub record IsAt (x : DomainView) (r a : ℕ) : Type 0 where
   pub few : r < 16
   pub holds : value_at x.own.registers r ≡ Ref a
 
--- field i of the plain block in register r, of which the size is known
+-- field i of the plain or raw block in register r, of which the size is known
 pub record FieldMay (k : Config) (x : DomainView) (at r i : ℕ) : Type 0 where
   pub address : ℕ
   pub size : ℕ
   pub block : IsAt x r address
   pub field : at ≡ address + 2 + i
-  pub known : HoldsPlain (state_of k x.seen.front) x.own.number r size
+  pub known : HoldsFields (state_of k x.seen.front) x.own.number r size
   pub inside : i < size
 
 -- the changes leave the token's own data as it is

@@ -180,6 +180,7 @@ pub struct Copied {
 /// The shape of a block.
 pub enum Form {
     Plain { size: u16, tag: u8 },
+    Raw { size: u16, tag: u8 },
     Ephe { keys: u16 },
 }
 
