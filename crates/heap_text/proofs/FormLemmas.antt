@@ -1,4 +1,6 @@
 -- The laws of the table, row by row: they hold whichever commands are built.
+use Rattle.heap_text.specs.declared.version.Version.{Version}
+use Rattle.heap_text.specs.declared.version.Version.TheVariants.{One, Two}
 use Rattle.std.proofs.Common.{◌≡◌, ℕ, ◌+◌, ◌≤◌, ◌^◌, min, ℤ, pos, negsuc, List, [], ◌∷◌, length, Bool, true, false, cond, ◌&&◌, refl, ap, sym, ◌∙◌, arith, lit≤, ◌⊎◌, inl, inr, None, Some}
 use Rattle.std.specs.Prelude.{Option, is_some, find, nat_lt, unsigned_abs, slice_index_or, codes, bytes_eq, int_le}
 use Rattle.std.proofs.lemmas.Bool.Decides.{nat_tests}
@@ -11,7 +13,7 @@ use Rattle.heap_text.specs.declared.form.Operand.{Operand}
 use Rattle.heap_text.specs.declared.form.Operand.TheVariants.{Register, Tag, RawTag, FieldCount, KeyCount, Index, FinaliserNumber, Integer, Section}
 use Rattle.heap_text.specs.declared.form.Word.{Word}
 use Rattle.heap_text.specs.declared.form.Word.TheVariants as word
-use Rattle.heap_text.specs.Forms.{form, fits, least, greatest, byte, short, wide, word_of, built_words, is_built, made, parts, all_fit}
+use Rattle.heap_text.specs.Forms.{form, fits, least, greatest, most_fields, byte, short, wide, word_of, built_words, is_built, made, parts, all_fit}
 use Rattle.heap_text.specs.Faults.{first_out_of_range}
 use Rattle.heap_text.proofs.DecimalLemmas.{is_free}
 use Rattle.heap_text.proofs.RangeLemmas.{least_wide, greatest_wide, passed}
@@ -31,12 +33,14 @@ word_no_heading word.Int = refl
 word_no_heading _ = refl
 
 -- a word that is built is found
-found_if_built : (w : Word) → word_of (form w).text ≡ cond (is_built w) (Some w) None
-found_if_built word.Int = refl
-found_if_built _ = refl
+found_if_built : (ver : Version) (w : Word) → word_of ver (form w).text ≡ cond (is_built ver w) (Some w) None
+found_if_built One word.Int = refl
+found_if_built One _ = refl
+found_if_built Two word.Int = refl
+found_if_built Two _ = refl
 
-pub word_found : (w : Word) → is_built w ≡ true → word_of (form w).text ≡ Some w
-word_found w e = found_if_built w ∙ ap (λ b. cond b (Some w) None) e
+pub word_found : (ver : Version) (w : Word) → is_built ver w ≡ true → word_of ver (form w).text ≡ Some w
+word_found ver w e = found_if_built ver w ∙ ap (λ b. cond b (Some w) None) e
 
 chosen_first : (b : Bool) (v w : Word) (o : Option Word) → cond b (Some v) o ≡ Some w → ((b ≡ true) × (v ≡ w)) ⊎ (o ≡ Some w)
 chosen_first true v w o e = inl (refl, cc)
@@ -48,10 +52,10 @@ found_passes test (v ∷ ws) w e =
     elim (chosen_first (test v) v w (find test ws) e) [ inl p ↦ ap test (sym p.1) ∙ p.0 | inr q ↦ found_passes test ws w q ]
 
 -- the word that was found
-pub word_read : (text : List ℕ) (w : Word) → word_of text ≡ Some w → (text ≡ (form w).text) × (is_built w ≡ true)
-word_read text w e =
-    let same = sym ((bytes_eq-Decides (form w).text text).0 (found_passes (λ v. bytes_eq (form v).text text) built_words w e)) in
-    (same, ap is_some (ap word_of (sym same) ∙ e))
+pub word_read : (ver : Version) (text : List ℕ) (w : Word) → word_of ver text ≡ Some w → (text ≡ (form w).text) × (is_built ver w ≡ true)
+word_read ver text w e =
+    let same = sym ((bytes_eq-Decides (form w).text text).0 (found_passes (λ v. bytes_eq (form v).text text) (built_words ver) w e)) in
+    (same, ap is_some (ap (word_of ver) (sym same) ∙ e))
 
 -- a command has a number for each operand of its row
 pub parts_counted : (c : Command) → length (parts c).numbers ≡ length (form (parts c).word).operands
@@ -113,16 +117,20 @@ held_between : (most high : ℕ) (low z : ℤ) → int_le (pos 0) low ≡ true �
 held_between most high low (pos n) l h e = grind (arith, ints, nat_tests)
 held_between most high low (negsuc n) l h e = grind (arith, ints, nat_tests)
 
-pub held_same : (kind : Operand) (z : ℤ) → fits kind z ≡ true → held kind z ≡ z
-held_same Integer z e = refl
-held_same Register z e = held_between 255 15 (pos 0) z refl (omega arith) e
-held_same Tag z e = held_between 255 245 (pos 0) z refl (omega arith) e
-held_same RawTag z e = held_between 255 255 (pos 251) z refl (omega arith) e
-held_same FieldCount z e = held_between 65535 126 (pos 1) z refl (omega arith) e
-held_same KeyCount z e = held_between 65535 8 (pos 1) z refl (omega arith) e
-held_same Index z e = held_between 65535 1023 (pos 0) z refl (omega arith) e
-held_same FinaliserNumber z e = held_between 4294967295 65535 (pos 0) z refl (omega arith) e
-held_same Section z e = held_between 4294967295 7 (pos 0) z refl (omega arith) e
+fields_small : (ver : Version) → most_fields ver ≤ 65535
+fields_small One = lit≤ tt
+fields_small Two = lit≤ tt
+
+pub held_same : (ver : Version) (kind : Operand) (z : ℤ) → fits ver kind z ≡ true → held kind z ≡ z
+held_same ver Integer z e = refl
+held_same ver Register z e = held_between 255 15 (pos 0) z refl (omega arith) e
+held_same ver Tag z e = held_between 255 245 (pos 0) z refl (omega arith) e
+held_same ver RawTag z e = held_between 255 255 (pos 251) z refl (omega arith) e
+held_same ver FieldCount z e = held_between 65535 (most_fields ver) (pos 1) z refl (fields_small ver) e
+held_same ver KeyCount z e = held_between 65535 8 (pos 1) z refl (omega arith) e
+held_same ver Index z e = held_between 65535 1023 (pos 0) z refl (omega arith) e
+held_same ver FinaliserNumber z e = held_between 4294967295 65535 (pos 0) z refl (omega arith) e
+held_same ver Section z e = held_between 4294967295 7 (pos 0) z refl (omega arith) e
 
 -- up to four numbers as their fields hold them
 abbrev pub all_held : List Operand → List ℤ → List ℤ
@@ -147,77 +155,77 @@ few_operands word.Int = lit≤ tt
 few_operands _ = lit≤ tt
 
 -- numbers in their ranges stay as they are
-pub all_held_same : (kinds : List Operand) (zs : List ℤ) → length kinds ≤ 4 → length zs ≡ length kinds → first_out_of_range 1 kinds zs ≡ None → all_held kinds zs ≡ zs
-all_held_same [] [] few n e = refl
-all_held_same [] (x ∷ zs) few n e = absurd (omega arith)
-all_held_same (a ∷ kinds) [] few n e = absurd (omega arith)
-all_held_same (a ∷ []) (x ∷ []) few n e =
-    let p = passed (fits a x) None 1 e in
-    let first = held_same a x p.0 in
+pub all_held_same : (ver : Version) (kinds : List Operand) (zs : List ℤ) → length kinds ≤ 4 → length zs ≡ length kinds → first_out_of_range ver 1 kinds zs ≡ None → all_held kinds zs ≡ zs
+all_held_same ver [] [] few n e = refl
+all_held_same ver [] (x ∷ zs) few n e = absurd (omega arith)
+all_held_same ver (a ∷ kinds) [] few n e = absurd (omega arith)
+all_held_same ver (a ∷ []) (x ∷ []) few n e =
+    let p = passed (fits ver a x) None 1 e in
+    let first = held_same ver a x p.0 in
     cc
-all_held_same (a ∷ []) (x ∷ y ∷ zs) few n e = absurd (omega arith)
-all_held_same (a ∷ b ∷ kinds) (x ∷ []) few n e = absurd (omega arith)
-all_held_same (a ∷ b ∷ []) (x ∷ y ∷ []) few n e =
-    let p = passed (fits a x) (first_out_of_range 2 (b ∷ []) (y ∷ [])) 1 e in
-    let q = passed (fits b y) None 2 p.1 in
-    let first = held_same a x p.0 in
-    let second = held_same b y q.0 in
+all_held_same ver (a ∷ []) (x ∷ y ∷ zs) few n e = absurd (omega arith)
+all_held_same ver (a ∷ b ∷ kinds) (x ∷ []) few n e = absurd (omega arith)
+all_held_same ver (a ∷ b ∷ []) (x ∷ y ∷ []) few n e =
+    let p = passed (fits ver a x) (first_out_of_range ver 2 (b ∷ []) (y ∷ [])) 1 e in
+    let q = passed (fits ver b y) None 2 p.1 in
+    let first = held_same ver a x p.0 in
+    let second = held_same ver b y q.0 in
     cc
-all_held_same (a ∷ b ∷ []) (x ∷ y ∷ z ∷ zs) few n e = absurd (omega arith)
-all_held_same (a ∷ b ∷ c ∷ kinds) (x ∷ y ∷ []) few n e = absurd (omega arith)
-all_held_same (a ∷ b ∷ c ∷ []) (x ∷ y ∷ z ∷ []) few n e =
-    let p = passed (fits a x) (first_out_of_range 2 (b ∷ c ∷ []) (y ∷ z ∷ [])) 1 e in
-    let q = passed (fits b y) (first_out_of_range 3 (c ∷ []) (z ∷ [])) 2 p.1 in
-    let r = passed (fits c z) None 3 q.1 in
-    let first = held_same a x p.0 in
-    let second = held_same b y q.0 in
-    let third = held_same c z r.0 in
+all_held_same ver (a ∷ b ∷ []) (x ∷ y ∷ z ∷ zs) few n e = absurd (omega arith)
+all_held_same ver (a ∷ b ∷ c ∷ kinds) (x ∷ y ∷ []) few n e = absurd (omega arith)
+all_held_same ver (a ∷ b ∷ c ∷ []) (x ∷ y ∷ z ∷ []) few n e =
+    let p = passed (fits ver a x) (first_out_of_range ver 2 (b ∷ c ∷ []) (y ∷ z ∷ [])) 1 e in
+    let q = passed (fits ver b y) (first_out_of_range ver 3 (c ∷ []) (z ∷ [])) 2 p.1 in
+    let r = passed (fits ver c z) None 3 q.1 in
+    let first = held_same ver a x p.0 in
+    let second = held_same ver b y q.0 in
+    let third = held_same ver c z r.0 in
     cc
-all_held_same (a ∷ b ∷ c ∷ []) (x ∷ y ∷ z ∷ v ∷ zs) few n e = absurd (omega arith)
-all_held_same (a ∷ b ∷ c ∷ d ∷ kinds) (x ∷ y ∷ z ∷ []) few n e = absurd (omega arith)
-all_held_same (a ∷ b ∷ c ∷ d ∷ []) (x ∷ y ∷ z ∷ v ∷ []) few n e =
-    let p = passed (fits a x) (first_out_of_range 2 (b ∷ c ∷ d ∷ []) (y ∷ z ∷ v ∷ [])) 1 e in
-    let q = passed (fits b y) (first_out_of_range 3 (c ∷ d ∷ []) (z ∷ v ∷ [])) 2 p.1 in
-    let r = passed (fits c z) (first_out_of_range 4 (d ∷ []) (v ∷ [])) 3 q.1 in
-    let t = passed (fits d v) None 4 r.1 in
-    let first = held_same a x p.0 in
-    let second = held_same b y q.0 in
-    let third = held_same c z r.0 in
-    let fourth = held_same d v t.0 in
+all_held_same ver (a ∷ b ∷ c ∷ []) (x ∷ y ∷ z ∷ v ∷ zs) few n e = absurd (omega arith)
+all_held_same ver (a ∷ b ∷ c ∷ d ∷ kinds) (x ∷ y ∷ z ∷ []) few n e = absurd (omega arith)
+all_held_same ver (a ∷ b ∷ c ∷ d ∷ []) (x ∷ y ∷ z ∷ v ∷ []) few n e =
+    let p = passed (fits ver a x) (first_out_of_range ver 2 (b ∷ c ∷ d ∷ []) (y ∷ z ∷ v ∷ [])) 1 e in
+    let q = passed (fits ver b y) (first_out_of_range ver 3 (c ∷ d ∷ []) (z ∷ v ∷ [])) 2 p.1 in
+    let r = passed (fits ver c z) (first_out_of_range ver 4 (d ∷ []) (v ∷ [])) 3 q.1 in
+    let t = passed (fits ver d v) None 4 r.1 in
+    let first = held_same ver a x p.0 in
+    let second = held_same ver b y q.0 in
+    let third = held_same ver c z r.0 in
+    let fourth = held_same ver d v t.0 in
     cc
-all_held_same (a ∷ b ∷ c ∷ d ∷ []) (x ∷ y ∷ z ∷ v ∷ w ∷ zs) few n e = absurd (omega arith)
-all_held_same (a ∷ b ∷ c ∷ d ∷ f ∷ kinds) (x ∷ y ∷ z ∷ v ∷ zs) few n e = absurd (omega arith)
+all_held_same ver (a ∷ b ∷ c ∷ d ∷ []) (x ∷ y ∷ z ∷ v ∷ w ∷ zs) few n e = absurd (omega arith)
+all_held_same ver (a ∷ b ∷ c ∷ d ∷ f ∷ kinds) (x ∷ y ∷ z ∷ v ∷ zs) few n e = absurd (omega arith)
 
 -- numbers in their ranges are those of the command that is made of them
-pub numbers_kept : (w : Word) (zs : List ℤ) → length zs ≡ length (form w).operands → first_out_of_range 1 (form w).operands zs ≡ None → (parts (made w zs)).numbers ≡ zs
-numbers_kept w zs n e = numbers_made w zs ∙ all_held_same (form w).operands zs (few_operands w) n e
+pub numbers_kept : (ver : Version) (w : Word) (zs : List ℤ) → length zs ≡ length (form w).operands → first_out_of_range ver 1 (form w).operands zs ≡ None → (parts (made w zs)).numbers ≡ zs
+numbers_kept ver w zs n e = numbers_made w zs ∙ all_held_same ver (form w).operands zs (few_operands w) n e
 
 -- numbers in their ranges fit 64 bits
 small_between : (low high z : ℤ) → int_le (negsuc 9223372036854775800) low ≡ true → int_le high (pos 9223372036854775800) ≡ true → (int_le low z && int_le z high) ≡ true → nat_lt (unsigned_abs z) (2 ^ 63) ≡ true
 small_between low high (pos n) l h e = grind (arith, ints, nat_tests)
 small_between low high (negsuc n) l h e = grind (arith, ints, nat_tests)
 
-small_if_fits : (kind : Operand) (z : ℤ) → fits kind z ≡ true → nat_lt (unsigned_abs z) (2 ^ 63) ≡ true
-small_if_fits kind z e = small_between (least kind) (greatest kind) z (least_wide kind) (greatest_wide kind) e
+small_if_fits : (ver : Version) (kind : Operand) (z : ℤ) → fits ver kind z ≡ true → nat_lt (unsigned_abs z) (2 ^ 63) ≡ true
+small_if_fits ver kind z e = small_between (least kind) (greatest ver kind) z (least_wide kind) (greatest_wide ver kind) e
 
-pub small_if_inside : (which : ℕ) (kinds : List Operand) (zs : List ℤ) → length zs ≡ length kinds → first_out_of_range which kinds zs ≡ None → are_small zs ≡ true
-small_if_inside which kinds [] n e = refl
-small_if_inside which [] (z ∷ zs) n e = absurd (omega arith)
-small_if_inside which (kind ∷ kinds) (z ∷ zs) n e =
-    let p = passed (fits kind z) (first_out_of_range (which + 1) kinds zs) which e in
-    ap (λ b. b && are_small zs) (small_if_fits kind z p.0) ∙ small_if_inside (which + 1) kinds zs (omega arith) p.1
+pub small_if_inside : (ver : Version) (which : ℕ) (kinds : List Operand) (zs : List ℤ) → length zs ≡ length kinds → first_out_of_range ver which kinds zs ≡ None → are_small zs ≡ true
+small_if_inside ver which kinds [] n e = refl
+small_if_inside ver which [] (z ∷ zs) n e = absurd (omega arith)
+small_if_inside ver which (kind ∷ kinds) (z ∷ zs) n e =
+    let p = passed (fits ver kind z) (first_out_of_range ver (which + 1) kinds zs) which e in
+    ap (λ b. b && are_small zs) (small_if_fits ver kind z p.0) ∙ small_if_inside ver (which + 1) kinds zs (omega arith) p.1
 
 -- the two ways to say that numbers are in their ranges
-pub inside_if_fit : (which : ℕ) (kinds : List Operand) (zs : List ℤ) → all_fit kinds zs ≡ true → first_out_of_range which kinds zs ≡ None
-inside_if_fit which [] zs e = refl
-inside_if_fit which (kind ∷ kinds) [] e = refl
-inside_if_fit which (kind ∷ kinds) (z ∷ zs) e =
-    let p = both (fits kind z) (all_fit kinds zs) e in
-    ap (λ b. cond b (first_out_of_range (which + 1) kinds zs) (Some which)) p.0 ∙ inside_if_fit (which + 1) kinds zs p.1
+pub inside_if_fit : (ver : Version) (which : ℕ) (kinds : List Operand) (zs : List ℤ) → all_fit ver kinds zs ≡ true → first_out_of_range ver which kinds zs ≡ None
+inside_if_fit ver which [] zs e = refl
+inside_if_fit ver which (kind ∷ kinds) [] e = refl
+inside_if_fit ver which (kind ∷ kinds) (z ∷ zs) e =
+    let p = both (fits ver kind z) (all_fit ver kinds zs) e in
+    ap (λ b. cond b (first_out_of_range ver (which + 1) kinds zs) (Some which)) p.0 ∙ inside_if_fit ver (which + 1) kinds zs p.1
 
-pub fit_if_inside : (which : ℕ) (kinds : List Operand) (zs : List ℤ) → first_out_of_range which kinds zs ≡ None → all_fit kinds zs ≡ true
-fit_if_inside which [] zs e = refl
-fit_if_inside which (kind ∷ kinds) [] e = refl
-fit_if_inside which (kind ∷ kinds) (z ∷ zs) e =
-    let p = passed (fits kind z) (first_out_of_range (which + 1) kinds zs) which e in
-    ap (λ b. b && all_fit kinds zs) p.0 ∙ fit_if_inside (which + 1) kinds zs p.1
+pub fit_if_inside : (ver : Version) (which : ℕ) (kinds : List Operand) (zs : List ℤ) → first_out_of_range ver which kinds zs ≡ None → all_fit ver kinds zs ≡ true
+fit_if_inside ver which [] zs e = refl
+fit_if_inside ver which (kind ∷ kinds) [] e = refl
+fit_if_inside ver which (kind ∷ kinds) (z ∷ zs) e =
+    let p = passed (fits ver kind z) (first_out_of_range ver (which + 1) kinds zs) which e in
+    ap (λ b. b && all_fit ver kinds zs) p.0 ∙ fit_if_inside ver (which + 1) kinds zs p.1

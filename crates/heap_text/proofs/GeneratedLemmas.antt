@@ -1,4 +1,5 @@
 -- The generator's script is within the limits of the format.
+use Rattle.heap_text.specs.declared.version.Version.TheVariants.{One}
 use Rattle.std.proofs.Common.{◌≡◌, ℕ, ◌+◌, ◌-◌, ◌*◌, ◌/◌, ◌%◌, ◌≤◌, ◌<◌, zero, suc, pos, List, [], ◌∷◌, ◌++◌, map, length, replicate, Bool, true, false, cond, ◌&&◌, refl, ap, sym, ◌∙◌, subst, arith, sum_by}
 use Rattle.std.specs.Prelude.{◌==◌}
 use Rattle.std.specs.List.{list_all, range_with_len}
@@ -17,20 +18,20 @@ use Rattle.heap_text.proofs.ScriptLemmas.{total-cons}
 use Rattle.heap_text.proofs.LengthLemmas.{length-spelling}
 
 -- one of two commands
-chosen : (t : Bool) (a b : Command) → is_writable a ≡ true → is_writable b ≡ true → is_writable (cond t a b) ≡ true
+chosen : (t : Bool) (a b : Command) → is_writable One a ≡ true → is_writable One b ≡ true → is_writable One (cond t a b) ≡ true
 chosen true a b e f = e
 chosen false a b e f = f
 
-chain_writable : (j : ℕ) → is_writable (chain_row j) ≡ true
+chain_writable : (j : ℕ) → is_writable One (chain_row j) ≡ true
 chain_writable j = chosen (j % 20 == 0) _ _ refl refl
 
-finalise_writable : (x : ℕ) → x ≤ 65535 → is_writable (Finalise 1 x 7) ≡ true
+finalise_writable : (x : ℕ) → x ≤ 65535 → is_writable One (Finalise 1 x 7) ≡ true
 finalise_writable x h = grind (arith, ints, nat_tests)
 
-finalise_last_writable : (x : ℕ) → x ≤ 65535 → is_writable (FinaliseLast 1 x) ≡ true
+finalise_last_writable : (x : ℕ) → x ≤ 65535 → is_writable One (FinaliseLast 1 x) ≡ true
 finalise_last_writable x h = grind (arith, ints, nat_tests)
 
-ephemeron_writable : (j : ℕ) → j ≤ 65535 → is_writable (ephemeron_row j) ≡ true
+ephemeron_writable : (j : ℕ) → j ≤ 65535 → is_writable One (ephemeron_row j) ≡ true
 ephemeron_writable j h =
     chosen (j % 8 == 0) _ _ refl
     (chosen (j % 8 == 1) _ _ refl
@@ -40,22 +41,22 @@ ephemeron_writable j h =
     (chosen (j % 8 == 5) _ _ (finalise_writable j h)
     (chosen (j % 8 == 6) _ _ refl refl))))))
 
-collection_writable : (j : ℕ) → is_writable (collection_row j) ≡ true
+collection_writable : (j : ℕ) → is_writable One (collection_row j) ≡ true
 collection_writable j = chosen (j % 50 == 24) _ _ refl (chosen (j % 50 == 49) _ _ refl refl)
 
-alloc_writable : (tag fields : ℕ) → tag ≤ 245 → 1 ≤ fields → fields ≤ 126 → is_writable (Alloc 1 tag fields) ≡ true
+alloc_writable : (tag fields : ℕ) → tag ≤ 245 → 1 ≤ fields → fields ≤ 126 → is_writable One (Alloc 1 tag fields) ≡ true
 alloc_writable tag fields t l h = grind (arith, ints, nat_tests)
 
-int_writable : (v : ℕ) → v ≤ 4611686018427387903 → is_writable (PutInt 2 (pos v)) ≡ true
+int_writable : (v : ℕ) → v ≤ 4611686018427387903 → is_writable One (PutInt 2 (pos v)) ≡ true
 int_writable v h = grind (arith, ints, nat_tests)
 
-store_writable : (d : ℕ) → d ≤ 1023 → is_writable (Store 0 d 1) ≡ true
+store_writable : (d : ℕ) → d ≤ 1023 → is_writable One (Store 0 d 1) ≡ true
 store_writable d h = grind (arith, ints, nat_tests)
 
-load_writable : (d : ℕ) → d ≤ 1023 → is_writable (Load 4 0 d) ≡ true
+load_writable : (d : ℕ) → d ≤ 1023 → is_writable One (Load 4 0 d) ≡ true
 load_writable d h = grind (arith, ints, nat_tests)
 
-row_writable : (base d j p : ℕ) → base ≤ 1000000 → d < 8 → j ≤ 20000 → is_writable (row_of base d j p) ≡ true
+row_writable : (base d j p : ℕ) → base ≤ 1000000 → d < 8 → j ≤ 20000 → is_writable One (row_of base d j p) ≡ true
 row_writable base d j p b n h =
     chosen (p == 0) _ _ (alloc_writable (j % 246) (2 + (base + j) % 125) (omega arith) (omega arith) (omega arith))
     (chosen (p == 1) _ _ (int_writable (base + 3 * j + d) (omega arith))
@@ -73,10 +74,10 @@ all-range test a zero passes = refl
 all-range test a (suc n) passes =
     ap (λ b. b && list_all test (range_with_len (a + 1) n)) (passes a (omega arith)) ∙ all-range test (a + 1) n (λ k h. passes k (omega arith))
 
-section_writable : (base commands d : ℕ) → base ≤ 1000000 → d < 8 → commands ≤ 200000 → list_all is_writable (section_of base commands d) ≡ true
+section_writable : (base commands d : ℕ) → base ≤ 1000000 → d < 8 → commands ≤ 200000 → list_all (is_writable One) (section_of base commands d) ≡ true
 section_writable base commands d b n h =
-    list_all-map is_writable (command_at base d) (range_with_len 0 commands)
-    ∙ all-range (λ k. is_writable (command_at base d k)) 0 commands (λ k below. row_writable base d (k / 10) (k % 10) b n (omega arith))
+    list_all-map (is_writable One) (command_at base d) (range_with_len 0 commands)
+    ∙ all-range (λ k. is_writable One (command_at base d k)) 0 commands (λ k below. row_writable base d (k / 10) (k % 10) b n (omega arith))
 
 -- so many commands for each section
 total-sections : (base commands a n : ℕ) → sum_by length (map (section_of base commands) (range_with_len a n)) ≡ n * commands
@@ -104,18 +105,18 @@ section_added base domain commands old section e f added =
     added ∙ ap (λ s. s ++ section ∷ []) e ∙ ap (λ x. generated base domain commands ++ x ∷ []) f ∙ sym (map-range_with_len_more (section_of base commands) 0 domain domain (omega arith))
 
 -- the script is within the limits
-all_written : (base domains commands : ℕ) → base ≤ 1000000 → 1 ≤ domains → domains ≤ 8 → domains * commands ≤ 200000 → IsWritten domains (generated base domains commands)
+all_written : (base domains commands : ℕ) → base ≤ 1000000 → 1 ≤ domains → domains ≤ 8 → domains * commands ≤ 200000 → IsWritten One domains (generated base domains commands)
 all_written base domains commands b some few room =
     let section : commands ≤ 200000 = omega (arith, one_more 0 domains commands (omega arith)) in
     record {
       few_sections = omega (arith, length-map-range_with_len (section_of base commands) 0 domains);
       few_commands = omega (arith, total-sections base commands 0 domains);
-      writable = list_all-map (list_all is_writable) (section_of base commands) (range_with_len 0 domains)
-          ∙ all-range (λ d. list_all is_writable (section_of base commands d)) 0 domains (λ d below. section_writable base commands d b (omega arith) section);
+      writable = list_all-map (list_all (is_writable One)) (section_of base commands) (range_with_len 0 domains)
+          ∙ all-range (λ d. list_all (is_writable One) (section_of base commands d)) 0 domains (λ d below. section_writable base commands d b (omega arith) section);
     }
 
-pub generated_written : (base domains commands : ℕ) (script : List (List Command)) → base ≤ 1000000 → 1 ≤ domains → domains ≤ 8 → domains * commands ≤ 200000 → script ≡ generated base domains commands → IsWritten domains script
-generated_written base domains commands script b some few room e = subst (IsWritten domains) (sym e) (all_written base domains commands b some few room)
+pub generated_written : (base domains commands : ℕ) (script : List (List Command)) → base ≤ 1000000 → 1 ≤ domains → domains ≤ 8 → domains * commands ≤ 200000 → script ≡ generated base domains commands → IsWritten One domains script
+generated_written base domains commands script b some few room e = subst (IsWritten One domains) (sym e) (all_written base domains commands b some few room)
 
 -- each section is written
 none_empty : (domains : ℕ) (sections : List (List Command)) → length sections ≡ domains → sections ≡ sections ++ replicate (domains - length sections) []
@@ -123,13 +124,13 @@ none_empty domains sections e =
     let none : 0 ≡ domains - length sections = omega arith in
     sym (append-nil sections) ∙ ap (λ n. sections ++ replicate n []) none
 
-pub generated_spelled : (base domains commands : ℕ) (script : List (List Command)) → base ≤ 1000000 → 1 ≤ domains → domains ≤ 8 → domains * commands ≤ 200000 → script ≡ generated base domains commands → Spells domains script (spelling script)
+pub generated_spelled : (base domains commands : ℕ) (script : List (List Command)) → base ≤ 1000000 → 1 ≤ domains → domains ≤ 8 → domains * commands ≤ 200000 → script ≡ generated base domains commands → Spells domains (record { version = One; sections = script }) (spelling One script)
 generated_spelled base domains commands script b some few room e =
     let is_written = generated_written base domains commands script b some few room e in
     record {
       written = script;
       is_written = is_written;
       bytes_are = refl;
-      few_bytes = length-spelling domains script few is_written;
+      few_bytes = length-spelling One domains script few is_written;
       script_is = none_empty domains script (ap length e ∙ length-map-range_with_len (section_of base commands) 0 domains);
     }

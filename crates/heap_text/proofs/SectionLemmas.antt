@@ -1,4 +1,6 @@
 -- The lines of a script: how they grow by a heading and by a command, and how the script's text is split into them.
+use Rattle.heap_text.specs.declared.version.Version.{Version}
+use Rattle.heap_text.specs.declared.version.Version.TheVariants.{One, Two}
 use Rattle.std.proofs.Common.{◌≡◌, ℕ, ◌+◌, ◌<◌, ◌^◌, List, [], ◌∷◌, ◌++◌, map, length, length-append, true, ◌&&◌, refl, ap, sym, ◌∙◌, arith, append_assoc, sum_by}
 use Rattle.std.specs.Prelude.{flat_map, codes, ◌==◌}
 use Rattle.std.specs.List.{list_all, slice_split}
@@ -7,7 +9,7 @@ use Rattle.std.proofs.lemmas.List.Concat.{flat_map-append}
 use Rattle.std.proofs.lemmas.Bool.{and_parts}
 use Rattle.heap_model.specs.declared.command.Command.{Command}
 use Rattle.heap_model.specs.Output.{line}
-use Rattle.heap_text.specs.Forms.{is_writable}
+use Rattle.heap_text.specs.Forms.{is_writable, first_line}
 use Rattle.heap_text.specs.Script.{with_command}
 use Rattle.heap_text.specs.Spelling.{command_text, heading_text, section_lines, lines_from, script_lines, spelling, IsWritten}
 use Rattle.heap_text.proofs.DecimalLemmas.{is_free}
@@ -37,16 +39,16 @@ lines-pushed n (cs ∷ next ∷ sections) c h =
     ap (λ ls. section_lines n cs ++ ls) (lines-pushed (n + 1) (next ∷ sections) c (omega arith)) ∙ sym (append_assoc (section_lines n cs) (lines_from (n + 1) (next ∷ sections)) _)
 
 -- the text grows by a line
-spelling_grows : (old new : List (List Command)) (text : List ℕ) → script_lines new ≡ script_lines old ++ text ∷ [] → spelling new ≡ spelling old ++ line text
-spelling_grows old new text e = ap (flat_map line) e ∙ flat_map-append line (script_lines old) (text ∷ []) ∙ ap (λ x. spelling old ++ x) (append-nil (line text))
+spelling_grows : (ver : Version) (old new : List (List Command)) (text : List ℕ) → script_lines ver new ≡ script_lines ver old ++ text ∷ [] → spelling ver new ≡ spelling ver old ++ line text
+spelling_grows ver old new text e = ap (flat_map line) e ∙ flat_map-append line (script_lines ver old) (text ∷ []) ∙ ap (λ x. spelling ver old ++ x) (append-nil (line text))
 
-pub lines-open : (sections : List (List Command)) → script_lines (sections ++ [] ∷ []) ≡ script_lines sections ++ heading_text (length sections) ∷ []
-lines-open sections =
+pub lines-open : (ver : Version) (sections : List (List Command)) → script_lines ver (sections ++ [] ∷ []) ≡ script_lines ver sections ++ heading_text (length sections) ∷ []
+lines-open ver sections =
     let same : 0 + length sections ≡ length sections = omega arith in
-    ap (λ ls. codes "heap 1" ∷ ls) (lines-opened 0 sections ∙ ap (λ k. lines_from 0 sections ++ heading_text k ∷ []) same)
+    ap (λ ls. first_line ver ∷ ls) (lines-opened 0 sections ∙ ap (λ k. lines_from 0 sections ++ heading_text k ∷ []) same)
 
-pub lines-push : (sections : List (List Command)) (c : Command) → 0 < length sections → script_lines (with_command sections c) ≡ script_lines sections ++ command_text c ∷ []
-lines-push sections c h = ap (λ ls. codes "heap 1" ∷ ls) (lines-pushed 0 sections c h)
+pub lines-push : (ver : Version) (sections : List (List Command)) (c : Command) → 0 < length sections → script_lines ver (with_command sections c) ≡ script_lines ver sections ++ command_text c ∷ []
+lines-push ver sections c h = ap (λ ls. first_line ver ∷ ls) (lines-pushed 0 sections c h)
 
 -- the text of lines is split into them
 cut_lines : (lines : List (List ℕ)) (rest : List ℕ) → list_all (is_free 10) lines ≡ true → slice_split (λ b. b == 10) (flat_map line lines ++ rest) ≡ lines ++ slice_split (λ b. b == 10) rest
@@ -63,46 +65,51 @@ free_append (a ∷ ks) bs e f =
     let p = and_parts (is_free 10 a) (list_all (is_free 10) ks) e in
     ap (λ b. b && list_all (is_free 10) (ks ++ bs)) p.0 ∙ free_append ks bs p.1 f
 
-commands_free : (cs : List Command) → list_all is_writable cs ≡ true → list_all (is_free 10) (map command_text cs) ≡ true
-commands_free [] e = refl
-commands_free (c ∷ cs) e =
-    let p = and_parts (is_writable c) (list_all is_writable cs) e in
-    ap (λ b. b && list_all (is_free 10) (map command_text cs)) (command_without_line_feed c (written c p.0)) ∙ commands_free cs p.1
+commands_free : (ver : Version) (cs : List Command) → list_all (is_writable ver) cs ≡ true → list_all (is_free 10) (map command_text cs) ≡ true
+commands_free ver [] e = refl
+commands_free ver (c ∷ cs) e =
+    let p = and_parts (is_writable ver c) (list_all (is_writable ver) cs) e in
+    ap (λ b. b && list_all (is_free 10) (map command_text cs)) (command_without_line_feed ver c (written ver c p.0)) ∙ commands_free ver cs p.1
 
-lines_free : (n : ℕ) (sections : List (List Command)) → n + length sections < 2 ^ 63 → list_all (list_all is_writable) sections ≡ true → list_all (is_free 10) (lines_from n sections) ≡ true
-lines_free n [] h e = refl
-lines_free n (cs ∷ sections) h e =
-    let p = and_parts (list_all is_writable cs) (list_all (list_all is_writable) sections) e in
+lines_free : (ver : Version) (n : ℕ) (sections : List (List Command)) → n + length sections < 2 ^ 63 → list_all (list_all (is_writable ver)) sections ≡ true → list_all (is_free 10) (lines_from n sections) ≡ true
+lines_free ver n [] h e = refl
+lines_free ver n (cs ∷ sections) h e =
+    let p = and_parts (list_all (is_writable ver) cs) (list_all (list_all (is_writable ver)) sections) e in
     free_append (section_lines n cs) (lines_from (n + 1) sections)
-    (ap (λ b. b && list_all (is_free 10) (map command_text cs)) (heading_without_line_feed n (omega arith)) ∙ commands_free cs p.0)
-    (lines_free (n + 1) sections (omega arith) p.1)
+    (ap (λ b. b && list_all (is_free 10) (map command_text cs)) (heading_without_line_feed n (omega arith)) ∙ commands_free ver cs p.0)
+    (lines_free ver (n + 1) sections (omega arith) p.1)
+
+-- no line feed stands in the first line
+first_free : (ver : Version) → is_free 10 (first_line ver) ≡ true
+first_free One = refl
+first_free Two = refl
 
 -- the text of a script, and what stands behind it, is split into the script's lines and what stands behind them
-pub split_spelling : (domains : ℕ) (sections : List (List Command)) (rest : List ℕ) → domains < 2 ^ 32 → IsWritten domains sections
-    → slice_split (λ b. b == 10) (spelling sections ++ rest) ≡ script_lines sections ++ slice_split (λ b. b == 10) rest
-split_spelling domains sections rest small w = cut_lines (script_lines sections) rest (lines_free 0 sections (omega (arith, w.few_sections)) w.writable)
+pub split_spelling : (ver : Version) (domains : ℕ) (sections : List (List Command)) (rest : List ℕ) → domains < 2 ^ 32 → IsWritten ver domains sections
+    → slice_split (λ b. b == 10) (spelling ver sections ++ rest) ≡ script_lines ver sections ++ slice_split (λ b. b == 10) rest
+split_spelling ver domains sections rest small w = cut_lines (script_lines ver sections) rest (ap (λ b. b && list_all (is_free 10) (lines_from 0 sections)) (first_free ver) ∙ lines_free ver 0 sections (omega (arith, w.few_sections)) w.writable)
 
 -- a section more, and a command more, are within the limits
-all-push : (sections : List (List Command)) → list_all (list_all is_writable) sections ≡ true → list_all (list_all is_writable) (sections ++ [] ∷ []) ≡ true
-all-push [] e = refl
-all-push (cs ∷ sections) e =
-    let p = and_parts (list_all is_writable cs) (list_all (list_all is_writable) sections) e in
-    ap (λ b. b && list_all (list_all is_writable) (sections ++ [] ∷ [])) p.0 ∙ all-push sections p.1
+all-push : (ver : Version) (sections : List (List Command)) → list_all (list_all (is_writable ver)) sections ≡ true → list_all (list_all (is_writable ver)) (sections ++ [] ∷ []) ≡ true
+all-push ver [] e = refl
+all-push ver (cs ∷ sections) e =
+    let p = and_parts (list_all (is_writable ver) cs) (list_all (list_all (is_writable ver)) sections) e in
+    ap (λ b. b && list_all (list_all (is_writable ver)) (sections ++ [] ∷ [])) p.0 ∙ all-push ver sections p.1
 
-one_more : (cs : List Command) (c : Command) → list_all is_writable cs ≡ true → is_writable c ≡ true → list_all is_writable (cs ++ c ∷ []) ≡ true
-one_more [] c e f = ap (λ b. b && true) f
-one_more (x ∷ cs) c e f =
-    let p = and_parts (is_writable x) (list_all is_writable cs) e in
-    ap (λ b. b && list_all is_writable (cs ++ c ∷ [])) p.0 ∙ one_more cs c p.1 f
+one_more : (ver : Version) (cs : List Command) (c : Command) → list_all (is_writable ver) cs ≡ true → is_writable ver c ≡ true → list_all (is_writable ver) (cs ++ c ∷ []) ≡ true
+one_more ver [] c e f = ap (λ b. b && true) f
+one_more ver (x ∷ cs) c e f =
+    let p = and_parts (is_writable ver x) (list_all (is_writable ver) cs) e in
+    ap (λ b. b && list_all (is_writable ver) (cs ++ c ∷ [])) p.0 ∙ one_more ver cs c p.1 f
 
-all-with_command : (sections : List (List Command)) (c : Command) → list_all (list_all is_writable) sections ≡ true → is_writable c ≡ true → list_all (list_all is_writable) (with_command sections c) ≡ true
-all-with_command [] c e f = refl
-all-with_command (cs ∷ []) c e f =
-    let p = and_parts (list_all is_writable cs) true e in
-    ap (λ b. b && true) (one_more cs c p.0 f)
-all-with_command (cs ∷ next ∷ sections) c e f =
-    let p = and_parts (list_all is_writable cs) (list_all (list_all is_writable) (next ∷ sections)) e in
-    ap (λ b. b && list_all (list_all is_writable) (with_command (next ∷ sections) c)) p.0 ∙ all-with_command (next ∷ sections) c p.1 f
+all-with_command : (ver : Version) (sections : List (List Command)) (c : Command) → list_all (list_all (is_writable ver)) sections ≡ true → is_writable ver c ≡ true → list_all (list_all (is_writable ver)) (with_command sections c) ≡ true
+all-with_command ver [] c e f = refl
+all-with_command ver (cs ∷ []) c e f =
+    let p = and_parts (list_all (is_writable ver) cs) true e in
+    ap (λ b. b && true) (one_more ver cs c p.0 f)
+all-with_command ver (cs ∷ next ∷ sections) c e f =
+    let p = and_parts (list_all (is_writable ver) cs) (list_all (list_all (is_writable ver)) (next ∷ sections)) e in
+    ap (λ b. b && list_all (list_all (is_writable ver)) (with_command (next ∷ sections) c)) p.0 ∙ all-with_command ver (next ∷ sections) c p.1 f
 
 length-with_command : (sections : List (List Command)) (c : Command) → length (with_command sections c) ≡ length sections
 length-with_command [] c = refl
@@ -114,33 +121,33 @@ total-push [] = refl
 total-push (cs ∷ sections) = omega (arith, total-cons cs (sections ++ [] ∷ []), total-cons cs sections, total-push sections)
 
 -- what one more line leaves
-pub record Grown (domains : ℕ) (old new : List (List Command)) (text : List ℕ) : Type 0 where
-  pub is_written : IsWritten domains new
-  pub lines : script_lines new ≡ script_lines old ++ text ∷ []
-  pub spelled : spelling new ≡ spelling old ++ line text
+pub record Grown (ver : Version) (domains : ℕ) (old new : List (List Command)) (text : List ℕ) : Type 0 where
+  pub is_written : IsWritten ver domains new
+  pub lines : script_lines ver new ≡ script_lines ver old ++ text ∷ []
+  pub spelled : spelling ver new ≡ spelling ver old ++ line text
 
-pub grown_by_heading : (domains : ℕ) (old new : List (List Command)) (text : List ℕ) → IsWritten domains old → length old < domains → new ≡ old ++ [] ∷ [] → text ≡ heading_text (length old) → Grown domains old new text
-grown_by_heading domains old new text w room opened said =
-    let lines = ap script_lines opened ∙ lines-open old ∙ ap (λ t. script_lines old ++ t ∷ []) (sym said) in
+pub grown_by_heading : (ver : Version) (domains : ℕ) (old new : List (List Command)) (text : List ℕ) → IsWritten ver domains old → length old < domains → new ≡ old ++ [] ∷ [] → text ≡ heading_text (length old) → Grown ver domains old new text
+grown_by_heading ver domains old new text w room opened said =
+    let lines = ap (script_lines ver) opened ∙ lines-open ver old ∙ ap (λ t. script_lines ver old ++ t ∷ []) (sym said) in
     record {
       is_written = record {
         few_sections = omega (arith, ap length opened, length-append old ([] ∷ []));
         few_commands = omega (arith, ap (sum_by length) opened, total-push old, w.few_commands);
-        writable = ap (list_all (list_all is_writable)) opened ∙ all-push old w.writable;
+        writable = ap (list_all (list_all (is_writable ver))) opened ∙ all-push ver old w.writable;
       };
       lines = lines;
-      spelled = spelling_grows old new text lines;
+      spelled = spelling_grows ver old new text lines;
     }
 
-pub grown_by_command : (domains : ℕ) (old new : List (List Command)) (c : Command) (text : List ℕ) → IsWritten domains old → 0 < length old → sum_by length old < 200000 → is_writable c ≡ true → new ≡ with_command old c → text ≡ command_text c → Grown domains old new text
-grown_by_command domains old new c text w some room fit pushed said =
-    let lines = ap script_lines pushed ∙ lines-push old c some ∙ ap (λ t. script_lines old ++ t ∷ []) (sym said) in
+pub grown_by_command : (ver : Version) (domains : ℕ) (old new : List (List Command)) (c : Command) (text : List ℕ) → IsWritten ver domains old → 0 < length old → sum_by length old < 200000 → is_writable ver c ≡ true → new ≡ with_command old c → text ≡ command_text c → Grown ver domains old new text
+grown_by_command ver domains old new c text w some room fit pushed said =
+    let lines = ap (script_lines ver) pushed ∙ lines-push ver old c some ∙ ap (λ t. script_lines ver old ++ t ∷ []) (sym said) in
     record {
       is_written = record {
         few_sections = omega (arith, ap length pushed, length-with_command old c, w.few_sections);
         few_commands = omega (arith, ap (sum_by length) pushed, total-with_command old c some);
-        writable = ap (list_all (list_all is_writable)) pushed ∙ all-with_command old c w.writable fit;
+        writable = ap (list_all (list_all (is_writable ver))) pushed ∙ all-with_command ver old c w.writable fit;
       };
       lines = lines;
-      spelled = spelling_grows old new text lines;
+      spelled = spelling_grows ver old new text lines;
     }

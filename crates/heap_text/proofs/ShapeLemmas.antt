@@ -1,4 +1,5 @@
 -- The text of a command and of a heading, and what a line with such a text says.
+use Rattle.heap_text.specs.declared.version.Version.{Version}
 use Rattle.std.proofs.Common.{◌≡◌, ℕ, ◌<◌, ◌^◌, ℤ, pos, List, [], ◌∷◌, ◌++◌, map, length, Bool, true, false, cond, ◌&&◌, refl, ap, sym, ◌∙◌, arith, decimal, None, Some}
 use Rattle.std.specs.Prelude.{Option, codes, bytes_eq}
 use Rattle.std.specs.Fmt.{signed_decimal}
@@ -17,34 +18,34 @@ use Rattle.heap_text.proofs.TextLemmas.{are_small, spaced, texts-row, spaced_fre
 use Rattle.heap_text.proofs.FormLemmas.{word_without_space, word_without_line_feed, word_no_heading, word_found, word_read, parts_counted, numbers_kept, word_made, small_if_inside, inside_if_fit, fit_if_inside}
 
 -- a row with its numbers says just that
-row_said : (w : Word) (zs : List ℤ) → is_built w ≡ true → length zs ≡ length (form w).operands → are_small zs ≡ true → line_shape (row_text w zs) ≡ command w zs
-row_said w zs built n small =
-    ap shape_of_texts (texts-row (form w).text zs (word_without_space w) small)
-    ∙ ap (λ b. cond b (heading_shape (counted_numbers 1 (map signed_decimal zs))) (row_shape (word_of (form w).text) (map signed_decimal zs))) (word_no_heading w)
-    ∙ ap (λ o. row_shape o (map signed_decimal zs)) (word_found w built)
+row_said : (ver : Version) (w : Word) (zs : List ℤ) → is_built ver w ≡ true → length zs ≡ length (form w).operands → are_small zs ≡ true → line_shape ver (row_text w zs) ≡ command w zs
+row_said ver w zs built n small =
+    ap (shape_of_texts ver) (texts-row (form w).text zs (word_without_space w) small)
+    ∙ ap (λ b. cond b (heading_shape (counted_numbers 1 (map signed_decimal zs))) (row_shape (word_of ver (form w).text) (map signed_decimal zs))) (word_no_heading w)
+    ∙ ap (λ o. row_shape o (map signed_decimal zs)) (word_found ver w built)
     ∙ ap (command_shape w) (counted-map (length (form w).operands) zs n small)
 
 -- a command of the grammar: its row, and its numbers are in their ranges
-pub record Written (c : Command) : Type 0 where
-  pub built : is_built (parts c).word ≡ true
-  pub inside : first_out_of_range 1 (form (parts c).word).operands (parts c).numbers ≡ None
+pub record Written (ver : Version) (c : Command) : Type 0 where
+  pub built : is_built ver (parts c).word ≡ true
+  pub inside : first_out_of_range ver 1 (form (parts c).word).operands (parts c).numbers ≡ None
   pub small : are_small (parts c).numbers ≡ true
 
-pub written : (c : Command) → is_writable c ≡ true → Written c
-written c e =
-    let p = and_parts (is_built (parts c).word) (all_fit (form (parts c).word).operands (parts c).numbers) e in
-    let inside = inside_if_fit 1 (form (parts c).word).operands (parts c).numbers p.1 in
+pub written : (ver : Version) (c : Command) → is_writable ver c ≡ true → Written ver c
+written ver c e =
+    let p = and_parts (is_built ver (parts c).word) (all_fit ver (form (parts c).word).operands (parts c).numbers) e in
+    let inside = inside_if_fit ver 1 (form (parts c).word).operands (parts c).numbers p.1 in
     record {
       built = p.0;
       inside = inside;
-      small = small_if_inside 1 (form (parts c).word).operands (parts c).numbers (parts_counted c) inside;
+      small = small_if_inside ver 1 (form (parts c).word).operands (parts c).numbers (parts_counted c) inside;
     }
 
-pub shape-command : (c : Command) → Written c → line_shape (command_text c) ≡ command (parts c).word (parts c).numbers
-shape-command c w = row_said (parts c).word (parts c).numbers w.built (parts_counted c) w.small
+pub shape-command : (ver : Version) (c : Command) → Written ver c → line_shape ver (command_text c) ≡ command (parts c).word (parts c).numbers
+shape-command ver c w = row_said ver (parts c).word (parts c).numbers w.built (parts_counted c) w.small
 
-pub command_without_line_feed : (c : Command) → Written c → is_free 10 (command_text c) ≡ true
-command_without_line_feed c w = is_free-append 10 (form (parts c).word).text (spaced (parts c).numbers) (word_without_line_feed (parts c).word) (spaced_free (parts c).numbers w.small)
+pub command_without_line_feed : (ver : Version) (c : Command) → Written ver c → is_free 10 (command_text c) ≡ true
+command_without_line_feed ver c w = is_free-append 10 (form (parts c).word).text (spaced (parts c).numbers) (word_without_line_feed (parts c).word) (spaced_free (parts c).numbers w.small)
 
 -- the heading's text is the word and one number
 heading_spaced : (n : ℕ) → heading_text n ≡ codes "domain" ++ spaced (pos n ∷ [])
@@ -53,10 +54,10 @@ heading_spaced n = ap (λ x. codes "domain " ++ x) (sym (append-nil (decimal n))
 small_one : (n : ℕ) → n < 2 ^ 63 → are_small (pos n ∷ []) ≡ true
 small_one n h = grind (arith, nat_tests)
 
-pub shape-heading : (n : ℕ) → n < 2 ^ 63 → line_shape (heading_text n) ≡ heading (pos n)
-shape-heading n h =
-    ap line_shape (heading_spaced n)
-    ∙ ap shape_of_texts (texts-row (codes "domain") (pos n ∷ []) refl (small_one n h))
+pub shape-heading : (ver : Version) (n : ℕ) → n < 2 ^ 63 → line_shape ver (heading_text n) ≡ heading (pos n)
+shape-heading ver n h =
+    ap (line_shape ver) (heading_spaced n)
+    ∙ ap (shape_of_texts ver) (texts-row (codes "domain") (pos n ∷ []) refl (small_one n h))
     ∙ ap heading_shape (counted-map 1 (pos n ∷ []) refl (small_one n h))
 
 pub heading_without_line_feed : (n : ℕ) → n < 2 ^ 63 → is_free 10 (heading_text n) ≡ true
@@ -93,49 +94,49 @@ row_numbers (Some v) ts w zs e =
     let p = command_numbers v w (counted_numbers (length (form v).operands) ts) zs e in
     (ap Some p.0, ap (λ x. counted_numbers (length (form x).operands) ts) (sym p.0) ∙ p.1)
 
-heading_by : (b : Bool) (t : List ℕ) (ts : List (List ℕ)) (z : ℤ) → bytes_eq t (codes "domain") ≡ b → cond b (heading_shape (counted_numbers 1 ts)) (row_shape (word_of t) ts) ≡ heading z
+heading_by : (ver : Version) (b : Bool) (t : List ℕ) (ts : List (List ℕ)) (z : ℤ) → bytes_eq t (codes "domain") ≡ b → cond b (heading_shape (counted_numbers 1 ts)) (row_shape (word_of ver t) ts) ≡ heading z
     → (t ≡ codes "domain") × (counted_numbers 1 ts ≡ Some (z ∷ []))
-heading_by true t ts z test e = ((bytes_eq-Decides t (codes "domain")).0 test, heading_numbers (counted_numbers 1 ts) z e)
-heading_by false t ts z test e = absurd (no_heading_row (word_of t) ts z e)
+heading_by ver true t ts z test e = ((bytes_eq-Decides t (codes "domain")).0 test, heading_numbers (counted_numbers 1 ts) z e)
+heading_by ver false t ts z test e = absurd (no_heading_row (word_of ver t) ts z e)
 
-command_by : (b : Bool) (t : List ℕ) (ts : List (List ℕ)) (w : Word) (zs : List ℤ) → cond b (heading_shape (counted_numbers 1 ts)) (row_shape (word_of t) ts) ≡ command w zs
-    → (word_of t ≡ Some w) × (counted_numbers (length (form w).operands) ts ≡ Some zs)
-command_by true t ts w zs e = absurd (no_command_heading (counted_numbers 1 ts) w zs e)
-command_by false t ts w zs e = row_numbers (word_of t) ts w zs e
+command_by : (ver : Version) (b : Bool) (t : List ℕ) (ts : List (List ℕ)) (w : Word) (zs : List ℤ) → cond b (heading_shape (counted_numbers 1 ts)) (row_shape (word_of ver t) ts) ≡ command w zs
+    → (word_of ver t ≡ Some w) × (counted_numbers (length (form w).operands) ts ≡ Some zs)
+command_by ver true t ts w zs e = absurd (no_command_heading (counted_numbers 1 ts) w zs e)
+command_by ver false t ts w zs e = row_numbers (word_of ver t) ts w zs e
 
-heading_of_texts : (line : List ℕ) (parts : List (List ℕ)) (n : ℕ) → n < 2 ^ 63 → texts line ≡ parts → shape_of_texts parts ≡ heading (pos n) → line ≡ heading_text n
-heading_of_texts line [] n h same e = cc
-heading_of_texts line (t ∷ ts) n h same e =
-    let p = heading_by (bytes_eq t (codes "domain")) t ts (pos n) refl e in
+heading_of_texts : (ver : Version) (line : List ℕ) (parts : List (List ℕ)) (n : ℕ) → n < 2 ^ 63 → texts line ≡ parts → shape_of_texts ver parts ≡ heading (pos n) → line ≡ heading_text n
+heading_of_texts ver line [] n h same e = cc
+heading_of_texts ver line (t ∷ ts) n h same e =
+    let p = heading_by ver (bytes_eq t (codes "domain")) t ts (pos n) refl e in
     let q = counted_read 1 ts (pos n ∷ []) p.1 (small_one n h) in
     row_read line (codes "domain") (pos n ∷ []) (same ∙ ap (λ x. x ∷ ts) p.0 ∙ ap (λ x. codes "domain" ∷ x) q.0) ∙ sym (heading_spaced n)
 
 -- a line that says a heading is its text
-pub heading_said : (line : List ℕ) (n : ℕ) → n < 2 ^ 63 → line_shape line ≡ heading (pos n) → line ≡ heading_text n
-heading_said line n h e = heading_of_texts line (texts line) n h refl e
+pub heading_said : (ver : Version) (line : List ℕ) (n : ℕ) → n < 2 ^ 63 → line_shape ver line ≡ heading (pos n) → line ≡ heading_text n
+heading_said ver line n h e = heading_of_texts ver line (texts line) n h refl e
 
 -- what is known of a line that says a command with numbers in their ranges
-pub record SaysCommand (line : List ℕ) (c : Command) : Type 0 where
+pub record SaysCommand (ver : Version) (line : List ℕ) (c : Command) : Type 0 where
   pub text : line ≡ command_text c
-  pub writable : is_writable c ≡ true
+  pub writable : is_writable ver c ≡ true
 
-command_of_texts : (line : List ℕ) (ps : List (List ℕ)) (w : Word) (zs : List ℤ) → texts line ≡ ps → shape_of_texts ps ≡ command w zs → first_out_of_range 1 (form w).operands zs ≡ None → SaysCommand line (made w zs)
-command_of_texts line [] w zs same e inside = cc
-command_of_texts line (t ∷ ts) w zs same e inside =
-    let p = command_by (bytes_eq t (codes "domain")) t ts w zs e in
-    let row = word_read t w p.0 in
+command_of_texts : (ver : Version) (line : List ℕ) (ps : List (List ℕ)) (w : Word) (zs : List ℤ) → texts line ≡ ps → shape_of_texts ver ps ≡ command w zs → first_out_of_range ver 1 (form w).operands zs ≡ None → SaysCommand ver line (made w zs)
+command_of_texts ver line [] w zs same e inside = cc
+command_of_texts ver line (t ∷ ts) w zs same e inside =
+    let p = command_by ver (bytes_eq t (codes "domain")) t ts w zs e in
+    let row = word_read ver t w p.0 in
     let counted = counted_length (length (form w).operands) ts zs p.1 in
-    let numbers = counted_read (length (form w).operands) ts zs p.1 (small_if_inside 1 (form w).operands zs counted inside) in
+    let numbers = counted_read (length (form w).operands) ts zs p.1 (small_if_inside ver 1 (form w).operands zs counted inside) in
     let word = word_made w zs in
-    let kept = numbers_kept w zs counted inside in
+    let kept = numbers_kept ver w zs counted inside in
     let c = made w zs in
     record {
       text = row_read line (form w).text zs (same ∙ ap (λ x. x ∷ ts) row.0 ∙ ap (λ x. (form w).text ∷ x) numbers.0)
           ∙ ap (row_text w) (sym kept) ∙ ap (λ v. row_text v (parts c).numbers) (sym word);
-      writable = ap (λ v. is_built v && all_fit (form v).operands (parts c).numbers) word ∙ ap (λ ns. is_built w && all_fit (form w).operands ns) kept
-          ∙ ap (λ b. b && all_fit (form w).operands zs) row.1 ∙ fit_if_inside 1 (form w).operands zs inside;
+      writable = ap (λ v. is_built ver v && all_fit ver (form v).operands (parts c).numbers) word ∙ ap (λ ns. is_built ver w && all_fit ver (form w).operands ns) kept
+          ∙ ap (λ b. b && all_fit ver (form w).operands zs) row.1 ∙ fit_if_inside ver 1 (form w).operands zs inside;
     }
 
 -- a line that says a command is its text
-pub command_said : (line : List ℕ) (w : Word) (zs : List ℤ) → line_shape line ≡ command w zs → first_out_of_range 1 (form w).operands zs ≡ None → SaysCommand line (made w zs)
-command_said line w zs e inside = command_of_texts line (texts line) w zs refl e inside
+pub command_said : (ver : Version) (line : List ℕ) (w : Word) (zs : List ℤ) → line_shape ver line ≡ command w zs → first_out_of_range ver 1 (form w).operands zs ≡ None → SaysCommand ver line (made w zs)
+command_said ver line w zs e inside = command_of_texts ver line (texts line) w zs refl e inside

@@ -4,10 +4,12 @@ use Rattle.std.specs.List.{slice_split}
 use Rattle.std.specs.Ordering.{int_eq}
 use Rattle.heap_text.specs.declared.form.Operand.{Operand}
 use Rattle.heap_text.specs.declared.form.Word.{Word}
+use Rattle.heap_text.specs.declared.version.Version.{Version}
+use Rattle.heap_text.specs.declared.version.Version.TheVariants.{One, Two}
 use Rattle.heap_text.specs.declared.fault.ScriptFault.{ScriptFault}
 use Rattle.heap_text.specs.declared.fault.ScriptFault.TheVariants.{Syntax, Order, Range, TooLong, TooMany, Memory}
 use Rattle.heap_text.specs.Number.{counted_numbers}
-use Rattle.heap_text.specs.Forms.{form, fits, word_of}
+use Rattle.heap_text.specs.Forms.{form, fits, first_line, word_of}
 
 -- what a line says, whatever stands before it
 pub data LineShape : Type 0 where
@@ -31,17 +33,17 @@ row_shape None ts = neither
 row_shape (Some w) ts = command_shape w (counted_numbers (length (form w).operands) ts)
 
 -- what the texts of a line say
-abbrev pub shape_of_texts : List (List ℕ) → LineShape
-shape_of_texts [] = neither
-shape_of_texts (t ∷ ts) = if bytes_eq t (codes "domain") then heading_shape (counted_numbers 1 ts) else row_shape (word_of t) ts
+abbrev pub shape_of_texts : Version → List (List ℕ) → LineShape
+shape_of_texts ver [] = neither
+shape_of_texts ver (t ∷ ts) = if bytes_eq t (codes "domain") then heading_shape (counted_numbers 1 ts) else row_shape (word_of ver t) ts
 
 -- a line, split at each space
 abbrev pub texts : List ℕ → List (List ℕ)
 texts line = slice_split (λ b. b == 32) line
 
 -- what a line says
-abbrev pub line_shape : List ℕ → LineShape
-line_shape line = shape_of_texts (texts line)
+abbrev pub line_shape : Version → List ℕ → LineShape
+line_shape ver line = shape_of_texts ver (texts line)
 
 abbrev pub is_heading : LineShape → Bool
 is_heading (heading z) = true
@@ -52,16 +54,16 @@ is_command (command w zs) = true
 is_command _ = false
 
 -- how many of these lines are headings, and how many are commands
-abbrev pub heading_lines : List (List ℕ) → ℕ
-heading_lines lines = count_by (λ l. is_heading (line_shape l)) lines
+abbrev pub heading_lines : Version → List (List ℕ) → ℕ
+heading_lines ver lines = count_by (λ l. is_heading (line_shape ver l)) lines
 
-abbrev pub command_lines : List (List ℕ) → ℕ
-command_lines lines = count_by (λ l. is_command (line_shape l)) lines
+abbrev pub command_lines : Version → List (List ℕ) → ℕ
+command_lines ver lines = count_by (λ l. is_command (line_shape ver l)) lines
 
 -- the place, counted from `which`, of the first number that is outside the range of its operand
-abbrev pub first_out_of_range : ℕ → List Operand → List ℤ → Option ℕ
-first_out_of_range which (kind ∷ kinds) (z ∷ zs) = if fits kind z then first_out_of_range (which + 1) kinds zs else Some which
-first_out_of_range which _ _ = None
+abbrev pub first_out_of_range : Version → ℕ → List Operand → List ℤ → Option ℕ
+first_out_of_range ver which (kind ∷ kinds) (z ∷ zs) = if fits ver kind z then first_out_of_range ver (which + 1) kinds zs else Some which
+first_out_of_range ver which _ _ = None
 
 -- whether a number is that of a section in a run with so many domains
 abbrev pub is_section : ℕ → ℤ → Bool
@@ -69,21 +71,22 @@ is_section domains (pos n) = nat_lt n domains
 is_section domains (negsuc n) = false
 
 -- what is wrong with a line below the first, by its number, the headings and the commands before it, and what it says
-abbrev pub fault_of_shape : ℕ → ℕ → ℕ → ℕ → LineShape → Option ScriptFault
-fault_of_shape domains line before_headings before_commands neither = Some (Syntax line)
-fault_of_shape domains line before_headings before_commands (heading z) =
+abbrev pub fault_of_shape : Version → ℕ → ℕ → ℕ → ℕ → LineShape → Option ScriptFault
+fault_of_shape ver domains line before_headings before_commands neither = Some (Syntax line)
+fault_of_shape ver domains line before_headings before_commands (heading z) =
     if is_section domains z then (if int_eq z (pos before_headings) then None else Some (Order line)) else Some (Range line 1)
-fault_of_shape domains line before_headings before_commands (command w zs) =
+fault_of_shape ver domains line before_headings before_commands (command w zs) =
     if before_headings == 0 then Some (Order line)
     else if nat_le 200000 before_commands then Some (TooMany line)
-    else option_map (Range line) (first_out_of_range 1 (form w).operands zs)
+    else option_map (Range line) (first_out_of_range ver 1 (form w).operands zs)
 
--- what is wrong with a line, given the lines before it
-abbrev pub line_fault : ℕ → List (List ℕ) → List ℕ → Option ScriptFault
-line_fault domains [] line = if bytes_eq line (codes "heap 1") then None else Some (Syntax 1)
-line_fault domains (first ∷ before) line =
-    let lines = first ∷ before in
-    fault_of_shape domains (length lines + 1) (heading_lines lines) (command_lines lines) (line_shape line)
+-- the version whose scripts have this first line, if there is one
+abbrev pub version_of : List ℕ → Option Version
+version_of line = if bytes_eq line (first_line One) then Some One else if bytes_eq line (first_line Two) then Some Two else None
+
+-- what is wrong with a line below the first, given the lines before it
+abbrev pub line_fault : Version → ℕ → List (List ℕ) → List ℕ → Option ScriptFault
+line_fault ver domains lines line = fault_of_shape ver domains (length lines + 1) (heading_lines ver lines) (command_lines ver lines) (line_shape ver line)
 
 -- what is wrong with what stands behind the last line feed, given the lines: it is to be empty, and not the first
 abbrev pub end_fault : List (List ℕ) → List ℕ → Option ScriptFault
@@ -95,17 +98,27 @@ abbrev pub or_else : Option ScriptFault → Option ScriptFault → Option Script
 or_else (Some f) later = Some f
 or_else None later = later
 
--- the first fault of these lines and of what stands behind their last line feed, given the lines before them
-abbrev pub fault_from : ℕ → List (List ℕ) → List (List ℕ) → Option ScriptFault
-fault_from domains before [] = None
-fault_from domains before (rest ∷ []) = end_fault before rest
-fault_from domains before (line ∷ next ∷ more) = or_else (line_fault domains before line) (fault_from domains (before ++ line ∷ []) (next ∷ more))
+-- the first fault of these lines and of what stands behind their last line feed, given the lines before them, which begin with the first line
+abbrev pub fault_from : Version → ℕ → List (List ℕ) → List (List ℕ) → Option ScriptFault
+fault_from ver domains before [] = None
+fault_from ver domains before (rest ∷ []) = end_fault before rest
+fault_from ver domains before (line ∷ next ∷ more) = or_else (line_fault ver domains before line) (fault_from ver domains (before ++ line ∷ []) (next ∷ more))
+
+-- the first fault of the lines behind the first, which names the version
+abbrev pub fault_behind : ℕ → List ℕ → Option Version → List (List ℕ) → Option ScriptFault
+fault_behind domains first None lines = Some (Syntax 1)
+fault_behind domains first (Some ver) lines = fault_from ver domains (first ∷ []) lines
+
+-- the first fault of all lines: the first one has a line feed and names a version
+abbrev pub script_fault : ℕ → List (List ℕ) → Option ScriptFault
+script_fault domains (first ∷ next ∷ more) = fault_behind domains first (version_of first) (next ∷ more)
+script_fault domains _ = Some (Syntax 1)
 
 -- the first fault of a script
 abbrev pub first_fault : ℕ → List ℕ → Option ScriptFault
 first_fault domains bytes =
     if nat_lt 16777216 (length bytes) then Some (TooLong (length bytes))
-    else fault_from domains [] (slice_split (λ b. b == 10) bytes)
+    else script_fault domains (slice_split (λ b. b == 10) bytes)
 
 -- the fault is the first one, unless memory ran out
 abbrev pub IsFaultUnlessMemory : ScriptFault → Option ScriptFault → Type 0

@@ -5,7 +5,23 @@ use Rattle.heap_model.specs.declared.command.Command.TheVariants.{PutInt, Copy, 
 use Rattle.heap_text.specs.declared.form.Operand.{Operand}
 use Rattle.heap_text.specs.declared.form.Operand.TheVariants.{Register, Tag, RawTag, FieldCount, KeyCount, Index, FinaliserNumber, Integer, Section}
 use Rattle.heap_text.specs.declared.form.Word.{Word}
+use Rattle.heap_text.specs.declared.version.Version.{Version}
+use Rattle.heap_text.specs.declared.version.Version.TheVariants.{One, Two}
 use Rattle.heap_text.specs.declared.form.Word.TheVariants as word
+
+-- the number of each version, and the first line of its scripts
+abbrev pub version_number : Version → ℕ
+version_number One = 1
+version_number Two = 2
+
+abbrev pub first_line : Version → List ℕ
+first_line One = codes "heap 1"
+first_line Two = codes "heap 2"
+
+-- the most fields that a block has in scripts of a version
+abbrev pub most_fields : Version → ℕ
+most_fields One = 126
+most_fields Two = 1022
 
 -- the least number of each kind
 abbrev pub least : Operand → ℤ
@@ -15,21 +31,21 @@ least KeyCount = pos 1
 least Integer = neg_ℤ (pos 4611686018427387904)
 least _ = pos 0
 
--- the greatest number of each kind
-abbrev pub greatest : Operand → ℤ
-greatest Register = pos 15
-greatest Tag = pos 245
-greatest RawTag = pos 255
-greatest FieldCount = pos 126
-greatest KeyCount = pos 8
-greatest Index = pos 1023
-greatest FinaliserNumber = pos 65535
-greatest Integer = pos 4611686018427387903
-greatest Section = pos 7
+-- the greatest number of each kind, in scripts of a version
+abbrev pub greatest : Version → Operand → ℤ
+greatest ver Register = pos 15
+greatest ver Tag = pos 245
+greatest ver RawTag = pos 255
+greatest ver FieldCount = pos (most_fields ver)
+greatest ver KeyCount = pos 8
+greatest ver Index = pos 1023
+greatest ver FinaliserNumber = pos 65535
+greatest ver Integer = pos 4611686018427387903
+greatest ver Section = pos 7
 
 -- whether a number is in the range of its kind
-abbrev pub fits : Operand → ℤ → Bool
-fits kind z = int_le (least kind) z && int_le z (greatest kind)
+abbrev pub fits : Version → Operand → ℤ → Bool
+fits ver kind z = int_le (least kind) z && int_le z (greatest ver kind)
 
 -- a row of the table
 pub record Form : Type 0 where
@@ -81,13 +97,18 @@ form word.Argument = row (codes "argument") (Register ∷ []) (λ dst _ _ _. Arg
 form word.Result = row (codes "result") (Register ∷ []) (λ item _ _ _. PutResult (byte item))
 form word.Join = row (codes "join") (Register ∷ Section ∷ []) (λ dst section _ _. Join (byte dst) (wide section))
 
--- the words of the grammar: the commands that are built. One more here and in the code's own list makes its row a command of the grammar
-abbrev pub built_words : List Word
-built_words = word.Int ∷ word.Move ∷ word.Drop ∷ word.Alloc ∷ word.AllocMaj ∷ word.Load ∷ word.Store ∷ word.Ephe ∷ word.SetKey ∷ word.UnsetKey ∷ word.GetKey ∷ word.CheckKey ∷ word.SetData ∷ word.UnsetData ∷ word.GetData ∷ word.CheckData ∷ word.Finalise ∷ word.FinaliseLast ∷ word.Poll ∷ word.Minor ∷ word.Major ∷ word.FullMajor ∷ []
+-- the words of the first version
+abbrev pub first_words : List Word
+first_words = word.Int ∷ word.Move ∷ word.Drop ∷ word.Alloc ∷ word.AllocMaj ∷ word.Load ∷ word.Store ∷ word.Ephe ∷ word.SetKey ∷ word.UnsetKey ∷ word.GetKey ∷ word.CheckKey ∷ word.SetData ∷ word.UnsetData ∷ word.GetData ∷ word.CheckData ∷ word.Finalise ∷ word.FinaliseLast ∷ word.Poll ∷ word.Minor ∷ word.Major ∷ word.FullMajor ∷ []
 
--- the row that a text is the word of, if it is one that is built
-abbrev pub word_of : List ℕ → Option Word
-word_of text = find (λ w. bytes_eq (form w).text text) built_words
+-- the words of the grammar of each version. One more here and in the code's own list makes its row a command of the grammar
+abbrev pub built_words : Version → List Word
+built_words One = first_words
+built_words Two = word.Raw ∷ word.Cas ∷ first_words
+
+-- the row that a text is the word of, if it is one of the version
+abbrev pub word_of : Version → List ℕ → Option Word
+word_of ver text = find (λ w. bytes_eq (form w).text text) (built_words ver)
 
 -- the command of a row and its numbers
 abbrev pub made : Word → List ℤ → Command
@@ -132,17 +153,17 @@ parts (Argument dst) = parts_of word.Argument (dst ∷ [])
 parts (PutResult item) = parts_of word.Result (item ∷ [])
 parts (Join dst section) = parts_of word.Join (dst ∷ section ∷ [])
 
--- whether a row's command is built
-abbrev pub is_built : Word → Bool
-is_built w = is_some (word_of (form w).text)
+-- whether a row's command is one of the version
+abbrev pub is_built : Version → Word → Bool
+is_built ver w = is_some (word_of ver (form w).text)
 
 -- whether each number is in the range of its operand
-abbrev pub all_fit : List Operand → List ℤ → Bool
-all_fit (kind ∷ kinds) (z ∷ zs) = fits kind z && all_fit kinds zs
-all_fit _ _ = true
+abbrev pub all_fit : Version → List Operand → List ℤ → Bool
+all_fit ver (kind ∷ kinds) (z ∷ zs) = fits ver kind z && all_fit ver kinds zs
+all_fit ver _ _ = true
 
--- whether a command is one of the grammar: its word is built, and its numbers are in their ranges
-abbrev pub is_writable : Command → Bool
-is_writable c =
+-- whether a command is one of the grammar: its word is one of the version, and its numbers are in their ranges
+abbrev pub is_writable : Version → Command → Bool
+is_writable ver c =
     let p = parts c in
-    is_built p.word && all_fit (form p.word).operands p.numbers
+    is_built ver p.word && all_fit ver (form p.word).operands p.numbers

@@ -1,6 +1,12 @@
--- A script under construction.
+-- A script: its version, and its sections.
 use Rattle.std.specs.Prelude.{List, [], ◌∷◌, ◌++◌}
 use Rattle.heap_model.specs.declared.command.Command.{Command}
+use Rattle.heap_text.specs.declared.version.Version.{Version}
+
+-- a script as contracts see it
+pub record Scripted : Type 0 where
+  pub version : Version
+  pub sections : List (List Command)
 
 -- the sections with a command at the end of the last
 abbrev pub with_command : List (List Command) → Command → List (List Command)

@@ -7,7 +7,9 @@ use Rattle.heap_model.specs.Output.{line}
 use Rattle.heap_text.specs.declared.form.Word.{Word}
 use Rattle.heap_text.specs.declared.fault.ScriptFault.{ScriptFault}
 use Rattle.heap_text.specs.declared.fault.ScriptFault.TheVariants.{Memory}
-use Rattle.heap_text.specs.Forms.{form, parts, is_writable}
+use Rattle.heap_text.specs.declared.version.Version.{Version}
+use Rattle.heap_text.specs.Script.{Scripted}
+use Rattle.heap_text.specs.Forms.{form, parts, first_line, is_writable}
 
 -- a row with its numbers, as text: one space before each number
 abbrev pub row_text : Word → List ℤ → List ℕ
@@ -31,30 +33,30 @@ lines_from n [] = []
 lines_from n (cs ∷ sections) = section_lines n cs ++ lines_from (n + 1) sections
 
 -- the lines of a script
-abbrev pub script_lines : List (List Command) → List (List ℕ)
-script_lines sections = codes "heap 1" ∷ lines_from 0 sections
+abbrev pub script_lines : Version → List (List Command) → List (List ℕ)
+script_lines ver sections = first_line ver ∷ lines_from 0 sections
 
 -- what a script with these sections prints as
-abbrev pub spelling : List (List Command) → List ℕ
-spelling sections = flat_map line (script_lines sections)
+abbrev pub spelling : Version → List (List Command) → List ℕ
+spelling ver sections = flat_map line (script_lines ver sections)
 
--- what has a spelling: a section for each of the first domains, with commands of the grammar
-pub record IsWritten (domains : ℕ) (sections : List (List Command)) : Type 0 where
+-- what has a spelling: a section for each of the first domains, with commands of the version's grammar
+pub record IsWritten (ver : Version) (domains : ℕ) (sections : List (List Command)) : Type 0 where
   pub few_sections : length sections ≤ domains
   pub few_commands : sum_by length sections ≤ 200000
-  pub writable : list_all (list_all is_writable) sections ≡ true
+  pub writable : list_all (list_all (is_writable ver)) sections ≡ true
 
 -- a script as the run gets it: the sections that are written, and an empty one for each further domain
 abbrev pub with_empty : ℕ → List (List Command) → List (List Command)
 with_empty domains sections = sections ++ replicate (domains - length sections) []
 
 -- the bytes spell this script for a run with so many domains
-pub record Spells (domains : ℕ) (script : List (List Command)) (bytes : List ℕ) : Type 0 where
+pub record Spells (domains : ℕ) (script : Scripted) (bytes : List ℕ) : Type 0 where
   pub written : List (List Command)
-  pub is_written : IsWritten domains written
-  pub bytes_are : bytes ≡ spelling written
+  pub is_written : IsWritten script.version domains written
+  pub bytes_are : bytes ≡ spelling script.version written
   pub few_bytes : length bytes ≤ 16777216
-  pub script_is : script ≡ with_empty domains written
+  pub script_is : script.sections ≡ with_empty domains written
 
 -- the answer is this one, unless memory ran out
 abbrev pub IsUnlessMemory : {A : Type 0} → Result A ScriptFault → Result A ScriptFault → Type 0

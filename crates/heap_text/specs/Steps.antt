@@ -2,6 +2,7 @@
 use Rattle.std.specs.Prelude.{◌≡◌, ℕ, ◌<◌, ◌⊎◌, ◌++◌, ◌∷◌, [], List, ℤ, length, sum_by, Option, Some, None, pos}
 use Rattle.heap_model.specs.declared.command.Command.{Command}
 use Rattle.heap_text.specs.declared.form.Word.{Word}
+use Rattle.heap_text.specs.declared.version.Version.{Version}
 use Rattle.heap_text.specs.Number.{clipped}
 use Rattle.heap_text.specs.Forms.{form, made}
 use Rattle.heap_text.specs.Script.{with_command}
@@ -19,15 +20,15 @@ pub record OpensSection (domains : ℕ) (shape : LineShape) (old new : List (Lis
   pub sections : new ≡ old ++ [] ∷ []
 
 -- a command was added to the last section
-pub record AddsCommand (shape : LineShape) (old new : List (List Command)) : Type 0 where
+pub record AddsCommand (ver : Version) (shape : LineShape) (old new : List (List Command)) : Type 0 where
   pub word : Word
   pub numbers : List ℤ
   pub is_command : shape ≡ command word numbers
-  pub in_ranges : first_out_of_range 1 (form word).operands numbers ≡ None
+  pub in_ranges : first_out_of_range ver 1 (form word).operands numbers ≡ None
   pub begun : 0 < length old
   pub room : sum_by length old < 200000
   pub sections : new ≡ with_command old (made word numbers)
 
 -- the line was taken
-abbrev pub TakesLine : ℕ → LineShape → List (List Command) → List (List Command) → Type 0
-TakesLine domains shape old new = OpensSection domains shape old new ⊎ AddsCommand shape old new
+abbrev pub TakesLine : Version → ℕ → LineShape → List (List Command) → List (List Command) → Type 0
+TakesLine ver domains shape old new = OpensSection domains shape old new ⊎ AddsCommand ver shape old new

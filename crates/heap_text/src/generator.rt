@@ -1,9 +1,11 @@
 //! The generator of scripts.
 ghost use Rattle.std.specs.Prelude.{◌≡◌, ℕ, ◌≤◌, ◌<◌, ◌*◌, IfOk};
+ghost use Rattle.heap_text.specs.declared.version.Version.TheVariants.{One};
 ghost use Rattle.heap_text.specs.Generated.{chain_row, ephemeron_row, collection_row, command_at as command_of, section_of, generated};
 ghost use Rattle.heap_text.specs.Spelling.{spelling, Spells, IsWritten};
 
 use crate::script::Script;
+use crate::version::Version;
 use heap_model::command::Command;
 use std::alloc::{AllocError, Global};
 
@@ -120,7 +122,7 @@ fn section(alloc: Global, base: u32, domain: u32, commands: u32) -> Result<Vec<C
     Ok(section)
 }
 
-/// A script with a section of `commands` commands for each of `domains` domains, which is the same
+/// A script of the first version with a section of `commands` commands for each of `domains` domains, which is the same
 /// at each call with the same numbers.
 ///
 /// `base` is at most 1,000,000, `domains` is from 1 to 8, and `domains * commands` is at most
@@ -136,13 +138,13 @@ pub fn generate(alloc: Global, base: u32, domains: u32, commands: u32) -> Result
     requires domains { (1 ≤ domains) × (domains ≤ 8) }
     requires commands { domains * commands ≤ 200000 }
     // The script is the one of the tables.
-    ensures script { IfOk result (λ s. s ≡ generated base domains commands) }
+    ensures script { IfOk result (λ s. s ≡ record { version = One; sections = generated base domains commands }) }
     // It is within the limits of the format.
-    ensures written { IfOk result (λ s. IsWritten domains s) }
+    ensures written { IfOk result (λ s. IsWritten One domains s.sections) }
     // What it prints as is read as the same script.
-    ensures spelled { IfOk result (λ s. Spells domains s (spelling s)) }
+    ensures spelled { IfOk result (λ s. Spells domains s (spelling One s.sections)) }
 {
-    let mut script = Script::new(alloc);
+    let mut script = Script::new(alloc, Version::One);
     for domain in 0..domains {
         script.push_section(section(alloc, base, domain, commands)?)?;
     }

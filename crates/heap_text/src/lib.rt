@@ -13,6 +13,7 @@ pub mod read;
 pub mod script;
 mod split;
 mod table;
+pub mod version;
 
 pub use fault::ScriptFault;
 pub use front::Line;
@@ -20,3 +21,4 @@ pub use generator::generate;
 pub use print::{print_command, print_heading, print_reply};
 pub use read::read_script;
 pub use script::Script;
+pub use version::Version;

@@ -1,5 +1,6 @@
 // Reading one line of a section.
 ghost use Rattle.std.specs.Prelude.{◌≡◌, ℕ, ◌≤◌, ◌<◌, length, sum_by, option_map, Some, IfErr, OnOk};
+ghost use Rattle.heap_text.specs.declared.version.Version as declared_version;
 ghost use Rattle.heap_text.specs.Number.{counted_numbers};
 ghost use Rattle.heap_text.specs.Forms.{form};
 ghost use Rattle.heap_text.specs.Split.{texts_behind};
@@ -11,19 +12,20 @@ use crate::form::{Operand, Word};
 use crate::number::{first_text, numbers_of};
 use crate::script::Script;
 use crate::table::{find_word, fits, make, operands_of};
+use crate::version::Version;
 use std::alloc::Global;
 
 // The greatest count of commands of a script.
 const MAX_COMMANDS: u32 = 200_000;
 
 // The place of the first number outside the range of its operand, counted from 1.
-fn first_out_of_range(kinds: &[Operand], numbers: &[i64]) -> Option<u32>
+fn first_out_of_range(version: Version, kinds: &[Operand], numbers: &[i64]) -> Option<u32>
     requires few { length kinds.now ≤ 4 }
     requires counted { length numbers.now ≡ length kinds.now }
-    ensures { result ≡ first_out_of_range_of 1 kinds.now numbers.now }
+    ensures { result ≡ first_out_of_range_of version 1 kinds.now numbers.now }
 {
     for (at, kind) in kinds.iter().enumerate() {
-        if !fits(*kind, numbers[at]) {
+        if !fits(version, *kind, numbers[at]) {
             return Some(at as u32 + 1);
         }
     }
@@ -57,9 +59,10 @@ fn take_heading(
     rest: Option<&[u8]>,
 ) -> Result<(), ScriptFault>
     ensures ok { OnOk result (OpensSection domains (heading_shape (counted_numbers 1
-        (texts_behind (option_map (λ r. r.now) rest.entry)))) script.old script.new) }
-    ensures fault { IfErr result (λ e. IsFaultUnlessMemory e (fault_of_shape domains line (length script.old)
-        (sum_by length script.old) (heading_shape (counted_numbers 1
+        (texts_behind (option_map (λ r. r.now) rest.entry)))) script.old.sections script.new.sections) }
+    ensures version { OnOk result (script.new.version ≡ script.old.version) }
+    ensures fault { (version : declared_version.Version) → IfErr result (λ e. IsFaultUnlessMemory e (fault_of_shape version domains line (length script.old.sections)
+        (sum_by length script.old.sections) (heading_shape (counted_numbers 1
         (texts_behind (option_map (λ r. r.now) rest.entry)))))) }
 {
     let Some(number) = heading_number(rest) else {
@@ -79,15 +82,17 @@ fn take_heading(
 
 // Takes a command: what stands behind the word of its row.
 fn take_command(
+    version: Version,
     line: u32,
     script: &mut Script,
     word: Word,
     rest: Option<&[u8]>,
 ) -> Result<(), ScriptFault>
-    ensures ok { OnOk result (AddsCommand (command_shape word (counted_numbers (length (form word).operands)
-        (texts_behind (option_map (λ r. r.now) rest.entry)))) script.old script.new) }
-    ensures fault { (domains : ℕ) → IfErr result (λ e. IsFaultUnlessMemory e (fault_of_shape domains line
-        (length script.old) (sum_by length script.old) (command_shape word (counted_numbers (length (form word).operands)
+    ensures ok { OnOk result (AddsCommand version (command_shape word (counted_numbers (length (form word).operands)
+        (texts_behind (option_map (λ r. r.now) rest.entry)))) script.old.sections script.new.sections) }
+    ensures version { OnOk result (script.new.version ≡ script.old.version) }
+    ensures fault { (domains : ℕ) → IfErr result (λ e. IsFaultUnlessMemory e (fault_of_shape version domains line
+        (length script.old.sections) (sum_by length script.old.sections) (command_shape word (counted_numbers (length (form word).operands)
         (texts_behind (option_map (λ r. r.now) rest.entry)))))) }
 {
     let operands = operands_of(word);
@@ -100,7 +105,7 @@ fn take_command(
     if MAX_COMMANDS <= script.commands() {
         return Err(ScriptFault::TooMany { line });
     }
-    match first_out_of_range(operands, numbers.as_slice()) {
+    match first_out_of_range(version, operands, numbers.as_slice()) {
         Some(which) => Err(ScriptFault::Range { line, which }),
         None => match script.push(make(word, numbers.as_slice())) {
             Ok(()) => Ok(()),
@@ -112,21 +117,23 @@ fn take_command(
 // Takes a line below the first.
 pub(crate) fn take_line(
     alloc: Global,
+    version: Version,
     domains: u32,
     line: u32,
     script: &mut Script,
     text: &[u8],
 ) -> Result<(), ScriptFault>
-    ensures ok { OnOk result (TakesLine domains (line_shape text.now) script.old script.new) }
+    ensures ok { OnOk result (TakesLine version domains (line_shape version text.now) script.old.sections script.new.sections) }
+    ensures version { OnOk result (script.new.version ≡ script.old.version) }
     ensures fault { IfErr result (λ e. IsFaultUnlessMemory e
-        (fault_of_shape domains line (length script.old) (sum_by length script.old) (line_shape text.now))) }
+        (fault_of_shape version domains line (length script.old.sections) (sum_by length script.old.sections) (line_shape version text.now))) }
 {
     let (word, rest) = first_text(text);
     if word == b"domain".as_slice() {
         take_heading(alloc, domains, line, script, rest)
     } else {
-        match find_word(word) {
-            Some(word) => take_command(line, script, word, rest),
+        match find_word(version, word) {
+            Some(word) => take_command(version, line, script, word, rest),
             None => Err(ScriptFault::Syntax { line }),
         }
     }

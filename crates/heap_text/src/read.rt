@@ -1,34 +1,42 @@
 //! Reading a script.
-ghost use Rattle.std.specs.Prelude.{◌≡◌, ◌≤◌, ◌<◌, ◌++◌, ◌∷◌, [], ◌==◌, List, length, codes, bytes_eq, Some, Ok, Err, IfOk, IfErr};
+ghost use Rattle.std.specs.Prelude.{◌≡◌, ◌≤◌, ◌<◌, ◌++◌, ◌∷◌, [], ◌==◌, length, Some, Ok, Err, IfOk, IfErr};
 ghost use Rattle.std.specs.List.{slice_split};
-ghost use Rattle.heap_model.specs.declared.command.Command as declared_command;
 ghost use Rattle.heap_model.specs.Output.{line as line_text};
 ghost use Rattle.heap_text.specs.declared.fault.ScriptFault as declared_fault;
+ghost use Rattle.heap_text.specs.Forms.{first_line};
+ghost use Rattle.heap_text.specs.Script.{Scripted};
 ghost use Rattle.heap_text.specs.Spelling.{spelling, with_empty, Spells, IsUnlessMemory, IsWritten};
-ghost use Rattle.heap_text.specs.Faults.{fault_from, first_fault, IsFaultUnlessMemory};
+ghost use Rattle.heap_text.specs.Faults.{fault_from, first_fault, version_of as version_of_line, IsFaultUnlessMemory};
 
 use crate::fault::ScriptFault;
 use crate::line::take_line;
 use crate::script::Script;
 use crate::split::split_once;
+use crate::version::Version;
 use std::alloc::Global;
 
 /// The greatest count of bytes of a script.
 const MAX_BYTES: usize = 16_777_216;
 
 // The sections that stand behind the first line.
-fn read_sections(alloc: Global, domains: u32, behind: &[u8]) -> Result<Script, ScriptFault>
+fn read_sections(
+    alloc: Global,
+    version: Version,
+    domains: u32,
+    behind: &[u8],
+) -> Result<Script, ScriptFault>
     requires { length behind.now ≤ 16777216 }
-    ensures written { IfOk result (λ s. IsWritten domains s) }
-    ensures found { IfOk result (λ s. line_text (codes "heap 1") ++ behind.now ≡ spelling s) }
+    ensures version { IfOk result (λ s. s.version ≡ version) }
+    ensures written { IfOk result (λ s. IsWritten version domains s.sections) }
+    ensures found { IfOk result (λ s. line_text (first_line version) ++ behind.now ≡ spelling version s.sections) }
     ensures fault { IfErr result (λ e. IsFaultUnlessMemory e
-        (fault_from domains (codes "heap 1" ∷ []) (slice_split (λ b. b == 10) behind.now))) }
+        (fault_from version domains (first_line version ∷ []) (slice_split (λ b. b == 10) behind.now))) }
 {
-    let mut script = Script::new(alloc);
+    let mut script = Script::new(alloc, version);
     let mut line: u32 = 2;
     let mut rest = behind;
     'lines: while let Some((text, tail)) = split_once(rest, b'\n') {
-        if let Err(fault) = take_line(alloc, domains, line, &mut script, text) {
+        if let Err(fault) = take_line(alloc, version, domains, line, &mut script, text) {
             return Err(fault);
         }
         rest = tail;
@@ -43,7 +51,7 @@ fn read_sections(alloc: Global, domains: u32, behind: &[u8]) -> Result<Script, S
 
 // A script with an empty section for each further domain.
 fn with_all_sections(alloc: Global, domains: u32, mut script: Script) -> Result<Script, ScriptFault>
-    ensures ok { IfOk result (λ s. s ≡ with_empty domains script) }
+    ensures ok { IfOk result (λ s. s ≡ record script { sections = with_empty domains script.sections }) }
     ensures err { IfErr result (λ e. e ≡ ScriptFault.Memory) }
 {
     for _ in script.sections()..domains as usize {
@@ -54,10 +62,17 @@ fn with_all_sections(alloc: Global, domains: u32, mut script: Script) -> Result<
     Ok(script)
 }
 
-fn is_first_line(line: &[u8]) -> bool
-    ensures { result ≡ bytes_eq line.now (codes "heap 1") }
+// The version that a first line names, if it does.
+fn version_of(line: &[u8]) -> Option<Version>
+    ensures { result ≡ version_of_line line.now }
 {
-    line == b"heap 1".as_slice()
+    if line == Version::One.first_line() {
+        Some(Version::One)
+    } else if line == Version::Two.first_line() {
+        Some(Version::Two)
+    } else {
+        None
+    }
 }
 
 // A script of at most the greatest count of bytes.
@@ -69,10 +84,10 @@ fn read_lines(alloc: Global, domains: u32, bytes: &[u8]) -> Result<Script, Scrip
     let Some((first, behind)) = split_once(bytes, b'\n') else {
         return Err(ScriptFault::Syntax { line: 1 });
     };
-    if !is_first_line(first) {
+    let Some(version) = version_of(first) else {
         return Err(ScriptFault::Syntax { line: 1 });
-    }
-    match read_sections(alloc, domains, behind) {
+    };
+    match read_sections(alloc, version, domains, behind) {
         Ok(script) => with_all_sections(alloc, domains, script),
         Err(fault) => Err(fault),
     }
@@ -101,7 +116,7 @@ pub fn read_script(alloc: Global, domains: u32, bytes: &[u8]) -> Result<Script, 
     // What is read is spelled so.
     ensures found { IfOk result (λ s. Spells domains s bytes.now) }
     // What is spelled so is read, unless memory runs out.
-    ensures only { (s : List (List declared_command.Command)) → Spells domains s bytes.now → IsUnlessMemory result (Ok s) }
+    ensures only { (s : Scripted) → Spells domains s bytes.now → IsUnlessMemory result (Ok s) }
     // A fault is the first one of the bytes, unless memory ran out.
     ensures fault { IfErr result (λ e. IsFaultUnlessMemory e (first_fault domains bytes.now)) }
     // The first fault of the bytes is answered, unless memory runs out.

@@ -1,50 +1,62 @@
-//! Scripts: a list of commands for each domain.
+//! Scripts: a version, and a list of commands for each domain.
 ghost use Rattle.std.specs.Prelude.{◌≡◌, ◌≤◌, ◌<◌, ◌+◌, ◌++◌, ◌∷◌, [], length, slice_index_or, sum_by, IfOk, OnOk};
+ghost use Rattle.heap_text.specs.Forms.{version_number};
 ghost use Rattle.heap_text.specs.Script.{with_command};
 
+use crate::version::Version;
 use heap_model::command::Command;
 use std::alloc::{AllocError, Global};
 use std::marker::Model;
 
-/// A script: for each domain of a run the commands of its trace, in order.
+/// A script: its version, and for each domain of a run the commands of its trace, in order.
 #[derive(Drop)]
 pub struct Script {
+    version: Version,
     sections: Vec<Vec<Command>>,
     commands: u32,
 }
 
 impl Model for Script {
     ghost use Rattle.std.specs.Prelude.{◌≡◌, List, length, map, sum_by};
-    ghost use Rattle.heap_model.specs.declared.command.Command.{Command};
+    ghost use Rattle.heap_text.specs.Script.{Scripted};
 
-    ghost Value = { List (List Command) };
+    ghost Value = { Scripted };
 
-    ghost view = { λ s. map (λ v. v.items) s.sections.items };
+    ghost view = { λ s. record { version = s.version; sections = map (λ v. v.items) s.sections.items } };
 
     ghost invariant = { λ s. s.commands ≡ sum_by length (map (λ v. v.items) s.sections.items) };
 }
 
 impl Script {
+    /// The version of the script: 1 or 2.
+    pub fn version(&self) -> u32
+        ensures { result ≡ version_number self.now.version }
+    {
+        self.version.number()
+    }
+
     /// How many sections there are: one for each domain of the run.
     pub fn sections(&self) -> usize
-        ensures { result ≡ length self.now }
+        ensures { result ≡ length self.now.sections }
     {
         self.sections.len()
     }
 
     /// The commands of domain `i`, in order.
     pub fn section(&self, i: usize) -> &[Command]
-        requires { i < length self.now }
-        ensures { result.now ≡ slice_index_or self.now i [] }
+        requires { i < length self.now.sections }
+        ensures { result.now ≡ slice_index_or self.now.sections i [] }
     {
         self.sections[i].as_slice()
     }
 
     // A script with no section.
-    pub(crate) fn new(alloc: Global) -> Script
-        ensures { result ≡ [] }
+    pub(crate) fn new(alloc: Global, version: Version) -> Script
+        ensures version { result.version ≡ version }
+        ensures sections { result.sections ≡ [] }
     {
         Script {
+            version,
             sections: Vec::new(alloc),
             commands: 0,
         }
@@ -52,15 +64,15 @@ impl Script {
 
     // How many commands all sections have.
     pub(crate) fn commands(&self) -> u32
-        ensures { result ≡ sum_by length self.now }
+        ensures { result ≡ sum_by length self.now.sections }
     {
         self.commands
     }
 
     // A further section.
     pub(crate) fn push_section(&mut self, section: Vec<Command>) -> Result<(), AllocError>
-        requires room { sum_by length self.old + length section.items ≤ 200000 }
-        ensures { OnOk result (self.new ≡ self.old ++ section.items ∷ []) }
+        requires room { sum_by length self.old.sections + length section.items ≤ 200000 }
+        ensures { OnOk result (self.new ≡ record self.old { sections = self.old.sections ++ section.items ∷ [] }) }
     {
         let commands = section.len() as u32;
         self.sections.push(section)?;
@@ -70,7 +82,7 @@ impl Script {
 
     // A further section, which is empty.
     pub(crate) fn open_section(&mut self, alloc: Global) -> Result<(), AllocError>
-        ensures { OnOk result (self.new ≡ self.old ++ [] ∷ []) }
+        ensures { OnOk result (self.new ≡ record self.old { sections = self.old.sections ++ [] ∷ [] }) }
     {
         self.sections.push(Vec::new(alloc))?;
         Ok(())
@@ -78,9 +90,9 @@ impl Script {
 
     // A command at the end of the last section.
     pub(crate) fn push(&mut self, command: Command) -> Result<(), AllocError>
-        requires some { 0 < length self.old }
-        requires room { sum_by length self.old < 200000 }
-        ensures { OnOk result (self.new ≡ with_command self.old command) }
+        requires some { 0 < length self.old.sections }
+        requires room { sum_by length self.old.sections < 200000 }
+        ensures { OnOk result (self.new ≡ record self.old { sections = with_command self.old.sections command }) }
     {
         let last = self.sections.len() - 1;
         self.sections[last].push(command)?;

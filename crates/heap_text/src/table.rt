@@ -1,35 +1,68 @@
 // The table of command forms, for the reader and the printer.
 ghost use Rattle.std.specs.Prelude.{◌≡◌, ◌≤◌, pos, length, slice_index_or};
-ghost use Rattle.heap_text.specs.Forms.{form, word_of, made, byte as byte_of, short as short_of, wide as wide_of, fits as fits_kind, least as least_of, greatest as greatest_of};
+ghost use Rattle.heap_text.specs.Forms.{built_words, form, word_of, made, byte as byte_of, short as short_of, wide as wide_of, fits as fits_kind, least as least_of, greatest as greatest_of, most_fields as most_fields_of};
 
 use crate::form::{Operand, Word};
+use crate::version::Version;
 use heap_model::command::Command;
 
-// The words of the grammar: the commands that are built.
-const BUILT: [Word; 22] = [
-    Word::Int,
-    Word::Move,
-    Word::Drop,
-    Word::Alloc,
-    Word::AllocMaj,
-    Word::Load,
-    Word::Store,
-    Word::Ephe,
-    Word::SetKey,
-    Word::UnsetKey,
-    Word::GetKey,
-    Word::CheckKey,
-    Word::SetData,
-    Word::UnsetData,
-    Word::GetData,
-    Word::CheckData,
-    Word::Finalise,
-    Word::FinaliseLast,
-    Word::Poll,
-    Word::Minor,
-    Word::Major,
-    Word::FullMajor,
-];
+// The words of the grammar of a version.
+fn words_of(version: Version) -> &'static [Word]
+    ensures { result.now ≡ built_words version }
+{
+    match version {
+        Version::One => &[
+            Word::Int,
+            Word::Move,
+            Word::Drop,
+            Word::Alloc,
+            Word::AllocMaj,
+            Word::Load,
+            Word::Store,
+            Word::Ephe,
+            Word::SetKey,
+            Word::UnsetKey,
+            Word::GetKey,
+            Word::CheckKey,
+            Word::SetData,
+            Word::UnsetData,
+            Word::GetData,
+            Word::CheckData,
+            Word::Finalise,
+            Word::FinaliseLast,
+            Word::Poll,
+            Word::Minor,
+            Word::Major,
+            Word::FullMajor,
+        ],
+        Version::Two => &[
+            Word::Raw,
+            Word::Cas,
+            Word::Int,
+            Word::Move,
+            Word::Drop,
+            Word::Alloc,
+            Word::AllocMaj,
+            Word::Load,
+            Word::Store,
+            Word::Ephe,
+            Word::SetKey,
+            Word::UnsetKey,
+            Word::GetKey,
+            Word::CheckKey,
+            Word::SetData,
+            Word::UnsetData,
+            Word::GetData,
+            Word::CheckData,
+            Word::Finalise,
+            Word::FinaliseLast,
+            Word::Poll,
+            Word::Minor,
+            Word::Major,
+            Word::FullMajor,
+        ],
+    }
+}
 
 // The word that a row's line begins with.
 pub(crate) fn text_of(word: Word) -> &'static [u8]
@@ -113,11 +146,14 @@ pub(crate) fn operands_of(word: Word) -> &'static [Operand]
     }
 }
 
-// The row that a text is the word of, if it is one that is built.
-pub(crate) fn find_word(text: &[u8]) -> Option<Word>
-    ensures { result ≡ word_of text.now }
+// The row that a text is the word of, if it is one of the version.
+pub(crate) fn find_word(version: Version, text: &[u8]) -> Option<Word>
+    ensures { result ≡ word_of version text.now }
 {
-    BUILT.iter().copied().find(|word| text_of(*word) == text)
+    words_of(version)
+        .iter()
+        .copied()
+        .find(|word| text_of(*word) == text)
 }
 
 // The command of a row and its numbers.
@@ -263,14 +299,24 @@ fn least(kind: Operand) -> i64
     }
 }
 
-fn greatest(kind: Operand) -> i64
-    ensures { result ≡ greatest_of kind }
+// The most fields of a block.
+fn most_fields(version: Version) -> i64
+    ensures { result ≡ pos (most_fields_of version) }
+{
+    match version {
+        Version::One => 126,
+        Version::Two => 1022,
+    }
+}
+
+fn greatest(version: Version, kind: Operand) -> i64
+    ensures { result ≡ greatest_of version kind }
 {
     match kind {
         Operand::Register => 15,
         Operand::Tag => 245,
         Operand::RawTag => 255,
-        Operand::FieldCount => 126,
+        Operand::FieldCount => most_fields(version),
         Operand::KeyCount => 8,
         Operand::Index => 1023,
         Operand::FinaliserNumber => 65_535,
@@ -280,8 +326,8 @@ fn greatest(kind: Operand) -> i64
 }
 
 // Whether a number is in the range of its kind.
-pub(crate) fn fits(kind: Operand, number: i64) -> bool
-    ensures { result ≡ fits_kind kind number }
+pub(crate) fn fits(version: Version, kind: Operand, number: i64) -> bool
+    ensures { result ≡ fits_kind version kind number }
 {
-    least(kind) <= number && number <= greatest(kind)
+    least(kind) <= number && number <= greatest(version, kind)
 }

@@ -4,7 +4,7 @@ use Rattle.heap_text.proofs.read.with_all_sections.Given as goal
 -- the empty sections so far
 abbrev pub invariant-loop : goal.invariant-loop
 invariant-loop l = record {
-  filled : l.script ≡ l.initial.script ++ replicate (l.counter - length l.initial.script) [];
-  begun : length l.initial.script ≤ l.counter;
-  within : l.counter ≤ max (length l.initial.script) l.domains;
+  filled : l.script ≡ record l.initial.script { sections = l.initial.script.sections ++ replicate (l.counter - length l.initial.script.sections) [] };
+  begun : length l.initial.script.sections ≤ l.counter;
+  within : l.counter ≤ max (length l.initial.script.sections) l.domains;
 }
