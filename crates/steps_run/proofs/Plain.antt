@@ -4,6 +4,7 @@ use mathlib.Core.Logic.{dite}
 use native.Mathlib.Decide.{dec_le}
 use Rattle.heap_model.specs.declared.entry.Entry.{Entry}
 use Rattle.heap_model.specs.declared.reply.Applied.TheVariants.{Replied}
+use Rattle.heap_model.specs.declared.reply.Reply.{Reply}
 use Rattle.heap_model.specs.declared.reply.Reply.TheVariants.{Done, BadType, BadIndex}
 use Rattle.heap_model.specs.Commands.{shown}
 use Rattle.heap_model.specs.Fronts.{Shape, PlainShape, RawShape, EpheShape}
@@ -21,10 +22,10 @@ use Rattle.heap_rule.specs.Raw.{StepsOnce, CanChange, Changes, Written, Closes}
 use Rattle.heap_rule.proofs.Plain.{fits_changed, entered_own, enters_once, changed_unread, entered_closes}
 use Rattle.heap_rule.proofs.Closes.{front_same}
 use Rattle.heap_rule.proofs.ChangeLemmas.{changed_only}
-use Rattle.steps_run.specs.Stores.{with_field, remembering_own, StoreTold, CanStore, Stores}
+use Rattle.steps_run.specs.Stores.{with_field, remembering_own, StoreTold, WroteTold, CanStore, Stores}
 use Rattle.heap_rule.specs.Token.{AllInHeap, Holds, LooksWithin, OwnFits, SweptWithin}
 use Rattle.heap_rule.specs.Standing.{IsInHeap}
-use Rattle.steps_run.specs.Loads.{place_of, HeadCase, HeadTold, LabelTold, FieldRead}
+use Rattle.steps_run.specs.Loads.{place_of, puts_block, HeadCase, HeadTold, LabelTold, FieldRead, RawCase, SizeTold}
 use Rattle.steps_run.specs.Ticks.{tick_answer, TickTold}
 
 -- a load that leaves the plain data, and has no changes
@@ -49,9 +50,9 @@ field_in_heap k true at [] inside all (suc i) a e = cc
 field_in_heap k true at (x ∷ l) inside all zero a e = all 0 a e
 field_in_heap k true at (x ∷ l) inside all (suc i) a e = field_in_heap k true at l inside (λ j b got. all (suc j) b got) i a e
 
-pub store_closes : (k : Config) (x : DomainView) (at new : ℕ) (remembers : Bool) (e : Entry) (changes : List Change) → IsInHeap k at → CanStore remembers changes x.own
-    → Closes k x new (λ y _ z. StoreTold k e at remembers changes y z) (CanStore remembers changes) (Stores at remembers changes)
-store_closes k x at new remembers e changes inside can y p told =
+pub wrote_closes : (k : Config) (x : DomainView) (at new : ℕ) (remembers : Bool) (e : Entry) (changes : List Change) (reply : Reply) → IsInHeap k at → CanStore remembers changes x.own
+    → Closes k x new (λ y _ z. WroteTold k e at remembers changes reply y z) (CanStore remembers changes) (Stores at remembers changes)
+wrote_closes k x at new remembers e changes reply inside can y p told =
     let own : y.own ≡ remembering_own remembers at (changed Nothing changes x.own) = ap (λ (z : DomainView). z.own) told.view in
     let rest : y.own ≡ remembering_own remembers at (record x.own { registers = (changed Nothing changes x.own).registers }) = own ∙ ap (remembering_own remembers at) (changed_only Nothing changes x.own) in record {
       can_write = can;
@@ -68,25 +69,42 @@ store_closes k x at new remembers e changes inside can y p told =
         finalisers = subst (λ (o : Own). FinalisersFit k o.finalisers) (sym rest) p.finalisers;
         swept = subst (λ (o : Own). SweptWithin k o.swept) (sym rest) p.swept;
       };
-      once = λ _. inr (record { entry = e; answer = Replied Done; answers = told.answers });
+      once = λ _. inr (record { entry = e; answer = Replied reply; answers = told.answers });
     }
+
+pub store_closes : (k : Config) (x : DomainView) (at new : ℕ) (remembers : Bool) (e : Entry) (changes : List Change) → IsInHeap k at → CanStore remembers changes x.own
+    → Closes k x new (λ y _ z. StoreTold k e at remembers changes y z) (CanStore remembers changes) (Stores at remembers changes)
+store_closes k x at new remembers e changes inside can = wrote_closes k x at new remembers e changes Done inside can
+
+-- a look at a block with fields leaves the plain data
+size_own : (k : Config) (a : ℕ) (e : Entry) (size : ℕ) (shape : Shape) (x y : DomainView) → SizeTold k a e size shape x y → y.own ≡ x.own
+size_own k a e size shape x y told = dite (dec_le size (place_of e))
+    (λ past. ap (λ (z : DomainView). z.own) (told.past past).view)
+    (λ not_past. ap (λ (z : DomainView). z.own) (told.below (lt_of_not-le not_past)).looked.view)
+
+size_once : (k : Config) (a : ℕ) (e : Entry) (size : ℕ) (shape : Shape) (x y : DomainView) → SizeTold k a e size shape x y → StepsOnce k x y
+size_once k a e size shape x y told = dite (dec_le size (place_of e))
+    (λ past. enters_once k e (Replied BadIndex) Nothing [] x y (told.past past))
+    (λ not_past _. let m = told.below (lt_of_not-le not_past) in let own = ap (λ (z : DomainView). z.own) m.looked.view in
+    inl (record { front = m.looked.seen; registers = ap (λ (o : Own). o.registers) own; used = ap (λ (o : Own). o.used) own; serial = ap (λ (o : Own). o.serial) own }))
 
 -- a head load leaves the plain data
 head_own : (k : Config) (a : ℕ) (e : Entry) (x y : DomainView) (shape : Shape) → HeadCase k a e shape x y → y.own ≡ x.own
-head_own k a e x y (RawShape size tag) told = absurd told
+head_own k a e x y (RawShape size tag) told = go (puts_block x e) told where
+  go : (b : Bool) → RawCase b k a e size tag x y → y.own ≡ x.own
+  go true t = ap (λ (z : DomainView). z.own) t.view
+  go false t = size_own k a e size (RawShape size tag) x y t
 head_own k a e x y (EpheShape keys) told = ap (λ (z : DomainView). z.own) told.view
-head_own k a e x y (PlainShape size tag) told = dite (dec_le size (place_of e))
-    (λ past. ap (λ (z : DomainView). z.own) (told.past past).view)
-    (λ not_past. ap (λ (z : DomainView). z.own) (told.below (lt_of_not-le not_past)).looked.view)
+head_own k a e x y (PlainShape size tag) told = size_own k a e size (PlainShape size tag) x y told
 
 -- and its entry stands there, or none does
 head_once : (k : Config) (a : ℕ) (e : Entry) (x y : DomainView) (shape : Shape) → HeadCase k a e shape x y → StepsOnce k x y
 head_once k a e x y (EpheShape keys) told = enters_once k e (Replied BadType) Nothing [] x y told
-head_once k a e x y (RawShape size tag) told = absurd told
-head_once k a e x y (PlainShape size tag) told = dite (dec_le size (place_of e))
-    (λ past. enters_once k e (Replied BadIndex) Nothing [] x y (told.past past))
-    (λ not_past _. let m = told.below (lt_of_not-le not_past) in let own = ap (λ (z : DomainView). z.own) m.looked.view in
-    inl (record { front = m.looked.seen; registers = ap (λ (o : Own). o.registers) own; used = ap (λ (o : Own). o.used) own; serial = ap (λ (o : Own). o.serial) own }))
+head_once k a e x y (RawShape size tag) told = go (puts_block x e) told where
+  go : (b : Bool) → RawCase b k a e size tag x y → StepsOnce k x y
+  go true t = enters_once k e (Replied BadType) Nothing [] x y t
+  go false t = size_once k a e size (RawShape size tag) x y t
+head_once k a e x y (PlainShape size tag) told = size_once k a e size (PlainShape size tag) x y told
 
 pub head_closes : (k : Config) (x : DomainView) (a : ℕ) (e : Entry) (changes : List Change) → changes ≡ [] → ClosesUnread k x changes (HeadTold k a e)
 head_closes k x a e changes empty found y p told = kept k x y found changes empty p (head_own k a e x y told.shape told.told) (head_once k a e x y told.shape told.told)

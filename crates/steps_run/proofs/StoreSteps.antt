@@ -1,21 +1,26 @@
 -- Stores to fields keep the rule.
-use Rattle.std.proofs.Common.{◌≡◌, ℕ, ◌+◌, Bool, true, false, IsTrue, List, [], set, Some, ⊎_elim, sym, refl, ap, ◌∙◌, subst, length-set}
+use Rattle.std.proofs.Common.{◌≡◌, ◌≢◌, ℕ, ◌+◌, ◌<◌, length, Bool, true, false, IsTrue, List, [], set, Some, ⊎_elim, sym, refl, ap, ◌∙◌, subst, length-set}
 use mathlib.Core.Option.{some}
 use lib.ListN.{get_elem?}
 use Rattle.atomic_table.specs.Table.{Allows}
 use Rattle.heap_model.specs.declared.command.Command.TheVariants.{Store}
+use Rattle.heap_model.specs.declared.reply.Reply.TheVariants.{Done as Stored}
 use Rattle.heap_model.specs.declared.entry.Entry.{Entry}
 use Rattle.heap_model.specs.declared.entry.Entry.TheVariants.{Command}
 use Rattle.heap_model.specs.declared.label.Label.{Label}
 use Rattle.heap_model.specs.declared.graph.Value as graph_value
-use Rattle.heap_model.specs.declared.graph.Value.TheVariants.{Block}
-use Rattle.heap_model.specs.declared.graph.Node.TheVariants.{Plain}
+use Rattle.heap_model.specs.declared.graph.Value.TheVariants.{Block, Nothing as NothingValue}
+use Rattle.heap_model.specs.declared.graph.Node.{Node}
+use Rattle.heap_model.specs.declared.graph.Node.TheVariants.{Plain, Raw}
 use Rattle.heap_model.specs.declared.state.State as model
-use Rattle.heap_model.specs.Domains.{register}
-use Rattle.heap_model.specs.Fronts.{PlainShape}
-use Rattle.heap_model.proofs.Commands.LeavesLemmas.{leaves_store}
+use Rattle.heap_model.specs.Domains.{register, opening}
+use Rattle.heap_model.specs.Graph.{node_at}
+use Rattle.heap_model.proofs.Histories.FrontLemmas.{shape_later}
+use Rattle.std.proofs.lemmas.Option.{same_Some}
+use Rattle.heap_model.specs.Fronts.{PlainShape, RawShape, shape_of, HoldsShape}
+use Rattle.heap_model.proofs.Commands.LeavesLemmas.{Takes, leaves_store_taken, takes_plain, takes_raw}
 use Rattle.heap_words.specs.declared.value.Value.{Value}
-use Rattle.heap_words.specs.declared.value.Value.TheVariants.{Ref}
+use Rattle.heap_words.specs.declared.value.Value.TheVariants.{Ref, Nothing}
 use Rattle.heap_rule.specs.declared.change.Change.{Change}
 use Rattle.heap_rule.specs.declared.config.Config.{Config}
 use Rattle.cycle_laws.specs.Cover.{field_at as old_field}
@@ -29,15 +34,19 @@ use Rattle.heap_rule.specs.Layout.{before_heap}
 use Rattle.heap_rule.specs.Changes.{value_at}
 use Rattle.heap_rule.specs.Views.{one, Tells}
 use Rattle.heap_rule.specs.Raw.{MayStore}
-use Rattle.heap_rule.specs.Places.{Place}
+use Rattle.heap_rule.specs.Places.{Live, Place, values_of}
+use Rattle.heap_rule.specs.Limits.{sizes_in}
+use Rattle.heap_rule.specs.Standing.{Acts}
+use Rattle.steps_run.specs.Loads.{is_block}
+use Rattle.steps_run.proofs.LoadSteps.{int_held}
 use Rattle.heap_rule.specs.Rule.{state_of, Rule}
 use Rattle.heap_rule.proofs.BesideLemmas.{paid_marks}
-use Rattle.steps_run.specs.Stores.{FieldStoreMay, FieldStoreEntry, StoreTold, CanStore}
+use Rattle.steps_run.specs.Stores.{SuitsField, FieldStoreMay, FieldStoreEntry, StoreTold, CanStore}
 use Rattle.heap_rule.proofs.Lists.{got_below}
 use Rattle.heap_rule.proofs.Values.{not_nothing}
-use Rattle.heap_rule.proofs.Keeps.{Words, my_good, run_settled, whole_here}
+use Rattle.heap_rule.proofs.Keeps.{Words, mine, my_good, run_settled, whole_here}
 use Rattle.heap_rule.proofs.Entering.{registers_stand, may_begin}
-use Rattle.heap_rule.proofs.Blocks.{block_same, field_at}
+use Rattle.heap_rule.proofs.Blocks.{Field, block_same, field_at}
 use Rattle.steps_run.proofs.ValueSteps.{ValueStore, value_stores}
 
 -- a domain that knows nothing knows of no barrier that is done
@@ -60,9 +69,57 @@ barrier_done k s r id hist x at b i p lives barrier is y was =
     sharing.running.knows)
     barrier
 
+-- what a write into a field of this block makes of it
+pub record Written (live : Live) (now : model.State) (l : Label) (fields : List graph_value.Value) (i : ℕ) (v held : graph_value.Value) : Type 0 where
+  pub before : Node
+  pub after : Node
+  pub there : node_at now.graph l ≡ Some before
+  pub takes : Takes before i v held after
+  pub same_shape : shape_of after ≡ shape_of before
+  pub values_before : values_of before ≡ fields
+  pub values_after : values_of after ≡ set fields i v
+
+-- a plain block takes what isn't nothing, and a raw one an integer
+pub written_field : (k : Config) (s : Words) (r : Rule k s) (id : ℕ) (hist : List Entry) (x : DomainView) (at : get_elem? s.views id ≡ some (one k hist x)) (acts : Acts k x) (block i item size : ℕ) (f : Field k s r id hist x at block i) → item < 16 → value_at x.own.registers item ≢ Nothing
+    → SuitsField k x block size (value_at x.own.registers item) → Written r.account.live (state_of k r.account.log) f.place.label f.fields i (register (state_of k r.account.log) x.own.number item) f.value
+written_field k s r id hist x at acts block i item size f few full suits =
+    let d : ℕ = x.own.number in
+    let now : model.State = state_of k r.account.log in
+    let w : Value = value_at x.own.registers item in
+    let v : graph_value.Value = register now d item in
+    let stand = registers_stand k s r id hist x at acts in
+    let some : v ≢ NothingValue = not_nothing r.account.live w v full (stand.each item few) in
+    let plain : node_at now.graph f.place.label ≡ Some (Plain f.tag f.fields) → Written r.account.live now f.place.label f.fields i v f.value = λ node. record {
+      before = Plain f.tag f.fields;
+      after = Plain f.tag (set f.fields i v);
+      there = node;
+      takes = takes_plain f.tag f.fields i v f.value f.there some;
+      same_shape = ap (λ n. PlainShape n f.tag) (length-set f.fields i v);
+      values_before = refl;
+      values_after = refl;
+    } in ⊎_elim plain
+    (λ (node : node_at now.graph f.place.label ≡ Some (Raw f.tag f.fields)). ⊎_elim
+    (λ (h : (tag : ℕ) × HoldsShape (state_of k x.seen.front) d block (PlainShape size tag)).
+    let later = shape_later (opening (sizes_in k)) d block (PlainShape size h.0) r.account.log x.seen.front (mine k s r id hist x at).front h.1 in
+    let label : later.label ≡ f.place.label = block_same later.label f.place.label (sym later.held ∙ f.held) in
+    let same : later.node ≡ Raw f.tag f.fields = same_Some later.node (Raw f.tag f.fields) (sym later.there ∙ (ap (node_at now.graph) label ∙ node)) in
+    absurd (let clash : RawShape (length f.fields) f.tag ≡ PlainShape size h.0 = ap shape_of (sym same) ∙ later.shape_is in cc))
+    (λ (int : is_block w ≡ false).
+    let z = int_held r.account.live w v full int (stand.each item few) in record {
+      before = Raw f.tag f.fields;
+      after = Raw f.tag (set f.fields i v);
+      there = node;
+      takes = subst (λ (u : graph_value.Value). Takes (Raw f.tag f.fields) i u f.value (Raw f.tag (set f.fields i u))) (sym z.1) (takes_raw f.tag f.fields i z.0 f.value f.there);
+      same_shape = ap (λ n. RawShape n f.tag) (length-set f.fields i v);
+      values_before = refl;
+      values_after = refl;
+    })
+    suits)
+    f.node
+
 -- what a store to a field changes
 field_value : (k : Config) (s : Words) (r : Rule k s) (id : ℕ) (hist : List Entry) (x : DomainView) (at : get_elem? s.views id ≡ some (one k hist x)) (a new : ℕ) (remembers : Bool) (block i item : ℕ) (changes : List Change) → FieldStoreMay k x a new remembers changes x.own.number block i item
-    → ValueStore k s r id hist x at a new remembers changes (Store block i item)
+    → ValueStore k s r id hist x at a new remembers changes (Store block i item) Stored
 field_value k s r id hist x at a new remembers block i item changes may =
     let d : ℕ = x.own.number in
     let now : model.State = state_of k r.account.log in
@@ -70,22 +127,23 @@ field_value k s r id hist x at a new remembers block i item changes may =
     let f = t.0 in
     let w : Value = value_at x.own.registers item in
     let v : graph_value.Value = register now d item in
+    let o = written_field k s r id hist x at may.acts block i item may.target.size f may.from may.full may.suits in
     let stand = registers_stand k s r id hist x at may.acts in record {
       block = block;
       index = i;
       address = f.address;
       place = f.place;
-      node = Plain f.tag f.fields;
-      after = Plain f.tag (set f.fields i v);
+      node = o.before;
+      after = o.after;
       word = w;
       value = v;
       holds = may.target.block.holds ∙ ap Ref (sym t.1);
       lives = f.lives;
-      there = f.node;
+      there = o.there;
       spot = may.target.field ∙ ap (λ (n : ℕ). n + 2 + i) (sym t.1);
-      same_shape = ap (λ n. PlainShape n f.tag) (length-set f.fields i v);
-      values = refl;
-      below = got_below f.fields i f.value f.there;
+      same_shape = o.same_shape;
+      values = o.values_after ∙ ap (λ (l : List graph_value.Value). set l i v) (sym o.values_before);
+      below = subst (λ (l : List graph_value.Value). i < length l) (sym o.values_before) (got_below f.fields i f.value f.there);
       stands = stand.each item may.from;
       packs = may.word;
       exact = may.exact;
@@ -95,7 +153,7 @@ field_value k s r id hist x at a new remembers block i item changes may =
       quiet = refl;
       barrier = λ is l y held was. barrier_done k s r id hist x at f.address i f.place f.lives (subst (λ (b : ℕ). Barrier x.seen.share b i) (sym t.1) may.barrier) is y
           (ap (λ (m : Label). old_field r.account.cycling.past.old m i) (block_same f.place.label l (sym f.held ∙ held)) ∙ was);
-      leaves = leaves_store now d block i item f.place.label f.tag f.fields v f.value f.held f.node f.there refl (not_nothing r.account.live w v may.full (stand.each item may.from));
+      leaves = leaves_store_taken now d block i item f.place.label o.before o.after v f.value f.held o.there refl o.takes;
     }
 
 field_stores : (k : Config) (slots id word : ℕ) (hist : List Entry) (x : DomainView) (a new : ℕ) (remembers : Bool) (block i item : ℕ) (changes : List Change) → word ≡ before_heap k + a → FieldStoreMay k x a new remembers changes x.own.number block i item

@@ -1,11 +1,11 @@
 -- A tick keeps the rule.
-use Rattle.std.proofs.Common.{◌≡◌, ℕ, ◌<◌, true, false, ne_eqb, List, [], length, set, slice_get, is_some, Option, None, sym, ap, refl, subst, ⊎_elim}
+use Rattle.std.proofs.Common.{◌≡◌, ◌≢◌, ◌⊎◌, inl, inr, ℕ, ◌<◌, true, false, ne_eqb, List, [], length, set, slice_get, is_some, Option, None, sym, ap, refl, subst, ⊎_elim}
 use Rattle.heap_model.specs.declared.label.Label.{Label}
 use mathlib.Core.Option.{some}
 use lib.ListN.{get_elem?}
 use Rattle.atomic_table.specs.Table.{keeps, Allows}
 use Rattle.heap_model.specs.declared.command.Command as model_command
-use Rattle.heap_model.specs.declared.command.Command.TheVariants.{PutInt, Copy, Forget, Alloc, AllocMaj, Load, Store, Raw as NewRaw, Ephe as NewEphe, SetKey, UnsetKey, GetKey, CheckKey, SetData, UnsetData, GetData, CheckData, Finalise, FinaliseLast, Poll, Minor, Major}
+use Rattle.heap_model.specs.declared.command.Command.TheVariants.{PutInt, Copy, Forget, Alloc, AllocMaj, Load, Store, Cas, Raw as NewRaw, Ephe as NewEphe, SetKey, UnsetKey, GetKey, CheckKey, SetData, UnsetData, GetData, CheckData, Finalise, FinaliseLast, Poll, Minor, Major}
 use Rattle.heap_model.specs.declared.entry.Entry.{Entry}
 use Rattle.heap_model.specs.declared.entry.Entry.TheVariants.{Command}
 use Rattle.heap_model.specs.declared.reply.Applied.TheVariants.{Replied}
@@ -16,9 +16,9 @@ use Rattle.heap_model.specs.declared.state.Mode.TheVariants.{Open}
 use Rattle.heap_model.specs.declared.state.State as model
 use Rattle.heap_model.specs.Domains.{domain_at, register, label_in}
 use Rattle.heap_model.specs.Commands.{Outcome, FitsMode, is_allocation, outcome, only_replies, after_command, finalised, finalised_last, block_in, at_ephe, key_set, key_stored, datum_set, datum_stored, in_bounds, read_into, tells, key_value, is_full_value}
-use Rattle.heap_model.proofs.Commands.LeavesLemmas.{leaves_put, leaves_copy, leaves_forget, leaves_poll, leaves_full, leaves_load_type, leaves_store_type, leaves_store_nothing, leaves_minor, leaves_major, no_block}
+use Rattle.heap_model.proofs.Commands.LeavesLemmas.{leaves_put, leaves_copy, leaves_forget, leaves_poll, leaves_full, leaves_load_type, leaves_store_type, leaves_store_nothing, leaves_cas_type, leaves_cas_nothing, leaves_cas_unexpected, Leaves, leaves_minor, leaves_major, no_block}
 use Rattle.heap_words.specs.declared.value.Value.{Value}
-use Rattle.heap_words.specs.declared.value.Value.TheVariants.{Int as IntWord, Nothing as NothingWord}
+use Rattle.heap_words.specs.declared.value.Value.TheVariants.{Int as IntWord, Ref, Nothing as NothingWord}
 use Rattle.heap_rule.specs.declared.change.Change.{Change}
 use Rattle.heap_rule.specs.declared.config.Config.{Config}
 use Rattle.heap_rule.specs.declared.view.DomainView.{DomainView}
@@ -32,7 +32,7 @@ use Rattle.steps_run.specs.Ticks.{is_quiet, TickCommand, TickEntry, TickMay, com
 use Rattle.steps_run.proofs.FullSteps.{may_be_full}
 use Rattle.steps_run.proofs.EphemeronEntries.{leaves_reply, no_key_stored, no_datum_stored}
 use Rattle.heap_rule.proofs.ChangeLemmas.{registers_of}
-use Rattle.heap_rule.proofs.Values.{AllStand, stand_set, no_label, stands_nothing}
+use Rattle.heap_rule.proofs.Values.{AllStand, stand_set, no_label, not_nothing, stands_nothing}
 use Rattle.heap_rule.proofs.Keeps.{Words, IsOfTrace, unmoved}
 use Rattle.heap_model.specs.Entries.{next}
 use Rattle.steps_run.proofs.Advances.{advance_command, advance_quiet, EntersPaid, paid_command, paid_refused, paid_rule}
@@ -120,6 +120,29 @@ module _ (k : Config) (s : Words) (r : Rule k s) (id : ℕ) (hist : List Entry) 
       (λ (n : IsNoBlock (value_at x.own.registers block)). leaves_store_type now d block i item (no_label r.account.live (value_at x.own.registers block) (register now d block) n (stand.each block may.0)))
       (λ (e : value_at x.own.registers item ≡ NothingWord). leaves_store_nothing now d block i item (stands_nothing r.account.live (register now d item) (subst (λ (v : Value). Stands r.account.live v (register now d item)) e (stand.each item may.1))))
       may.2)
+  commands (Cas block i expected item) may = paid_refused k s r id hist x at acts (Cas block i expected item) refl (may_begin k s r id hist x at acts) regs _
+      (subst (λ (l : List Value). AllStand r.account.live l theirs) (sym (ap registers_of may.4)) stand)
+      (cas_refused (cases_nothing (value_at x.own.registers expected)))
+    where
+      holds_nothing : (q : ℕ) → q < 16 → value_at x.own.registers q ≡ NothingWord → register now d q ≡ Nothing
+      holds_nothing q few e = stands_nothing r.account.live (register now d q) (subst (λ (v : Value). Stands r.account.live v (register now d q)) e (stand.each q few))
+
+      cases_nothing : (w : Value) → (w ≡ NothingWord) ⊎ (w ≢ NothingWord)
+      cases_nothing (IntWord z) = inr (λ e. cc)
+      cases_nothing (Ref a) = inr (λ e. cc)
+      cases_nothing NothingWord = inl refl
+
+      cas_refused : (value_at x.own.registers expected ≡ NothingWord) ⊎ (value_at x.own.registers expected ≢ NothingWord) → Leaves now (Command d (Cas block i expected item) false) d now.graph theirs (domain_at now d).serial (Replied BadType)
+      cas_refused = ⊎_elim
+          (λ (e : value_at x.own.registers expected ≡ NothingWord). leaves_cas_unexpected now d block i expected item (holds_nothing expected may.1 e))
+          (λ (some : value_at x.own.registers expected ≢ NothingWord).
+          let full = not_nothing r.account.live (value_at x.own.registers expected) (register now d expected) some (stand.each expected may.1) in ⊎_elim
+          (λ (n : IsNoBlock (value_at x.own.registers block)). leaves_cas_type now d block i expected item (register now d expected) refl full (no_label r.account.live (value_at x.own.registers block) (register now d block) n (stand.each block may.0)))
+          (λ (u : (value_at x.own.registers expected ≡ NothingWord) ⊎ (value_at x.own.registers item ≡ NothingWord)). ⊎_elim
+          (λ (e : value_at x.own.registers expected ≡ NothingWord). absurd (some e))
+          (λ (e : value_at x.own.registers item ≡ NothingWord). leaves_cas_nothing now d block i expected item (register now d expected) refl full (holds_nothing item may.2 e))
+          u)
+          may.3)
   commands (SetKey ephe i item) may = refused (SetKey ephe i item) (may_begin k s r id hist x at acts) may.3 (⊎_elim
       (λ (n : IsNoBlock (value_at x.own.registers ephe)). no_key_stored now i (label_in now d item) (block_in now d ephe) (no_block now d ephe (empty ephe may.0 n)))
       (λ (n : IsNoBlock (value_at x.own.registers item)). ap (λ (o : Option Label). key_stored now i o (block_in now d ephe)) (empty item may.1 n))

@@ -7,6 +7,7 @@ use Rattle.atomic_table.specs.Table.{keeps, Allows}
 use Rattle.heap_model.specs.declared.entry.Entry.{Entry}
 use Rattle.heap_model.specs.declared.entry.Entry.TheVariants.{Command}
 use Rattle.heap_model.specs.declared.reply.Applied.TheVariants.{Replied}
+use Rattle.heap_model.specs.declared.reply.Reply.{Reply}
 use Rattle.heap_model.specs.declared.reply.Reply.TheVariants.{Done}
 use Rattle.heap_model.specs.declared.graph.Value as graph_value
 use Rattle.heap_model.specs.declared.graph.Value.TheVariants.{Int, Block, Nothing}
@@ -32,7 +33,7 @@ use Rattle.heap_rule.specs.Changes.{value_at, changed}
 use Rattle.heap_rule.specs.Views.{one, Tells}
 use Rattle.heap_rule.specs.Rule.{state_of, AllFound, Area, Making, Rule}
 use Rattle.heap_rule.specs.Standing.{Acts, LeavesOwn, Entered, with_front, with_own, with_registers}
-use Rattle.steps_run.specs.Stores.{IsOldBlock, IsYoungBlock, MustRemember, with_field, remembering, StoreTold}
+use Rattle.steps_run.specs.Stores.{IsOldBlock, IsYoungBlock, MustRemember, with_field, remembering, StoreTold, WroteTold}
 use Rattle.heap_rule.proofs.Lists.{got_set, got_end}
 use Rattle.heap_rule.proofs.ChangeLemmas.{changed_only, registers_of}
 use Rattle.heap_rule.proofs.Values.{AllStand}
@@ -218,7 +219,7 @@ got_either false l at j v got = inl got
 got_either true l at j v got = ⊎_elim (λ (h : slice_get l j ≡ Some v). inl h) (λ (h : (j ≡ length l) × (at ≡ v)). inr (h.1, refl)) (got_end l at v j got)
 
 -- What the store of a command owes that changes one value of the block in a register: the block's node before and after, the value, and that the entry leaves this
-pub record ValueStore (k : Config) (s : Words) (r : Rule k s) (id : ℕ) (hist : List Entry) (x : DomainView) (at : get_elem? s.views id ≡ some (one k hist x)) (a new : ℕ) (remembers : Bool) (changes : List Change) (c : model_command) : Type 0 where
+pub record ValueStore (k : Config) (s : Words) (r : Rule k s) (id : ℕ) (hist : List Entry) (x : DomainView) (at : get_elem? s.views id ≡ some (one k hist x)) (a new : ℕ) (remembers : Bool) (changes : List Change) (c : model_command) (reply : Reply) : Type 0 where
   pub block : ℕ
   pub index : ℕ
   pub address : ℕ
@@ -243,14 +244,13 @@ pub record ValueStore (k : Config) (s : Words) (r : Rule k s) (id : ℕ) (hist :
   pub quiet : owed_after r.account.cycling.past.owed x.own.number c ≡ r.account.cycling.past.owed
   pub barrier : IsTrue r.account.cycling.armed → WriteBarrier r.account.cycling.past r.account.cycling.paint.marks (state_of k r.account.log) x.own.number c
   pub leaves : Leaves (state_of k r.account.log) (Command x.own.number c false) x.own.number (with_node (state_of k r.account.log).graph place.label after) (domain_at (state_of k r.account.log) x.own.number).registers
-      (domain_at (state_of k r.account.log) x.own.number).serial (Replied Done)
+      (domain_at (state_of k r.account.log) x.own.number).serial (Replied reply)
 
-pub value_stores : (k : Config) (slots id word : ℕ) (hist : List Entry) (x : DomainView) (a new : ℕ) (remembers : Bool) (changes : List Change) (command : model_command) → Acts k x → word ≡ before_heap k + a
-    → ((s : Words) (r : Rule k s) (at : get_elem? s.views id ≡ some (one k hist x)) → ValueStore k s r id hist x at a new remembers changes command)
-    → let e : Entry = Command x.own.number command false in
-    Allows (Rule k) slots id (one k hist x, []) word (λ _. new) (λ _. Tells (λ y _ z. StoreTold k e a remembers changes y z) (one k hist x, []) new)
-value_stores k slots id word hist x a new remembers changes command acts place may s r _ at _ =
-    let f = may s r at in
+-- the store keeps the rule, and tells that the entry stands
+pub value_stored : (k : Config) (s : Words) (r : Rule k s) (id : ℕ) (hist : List Entry) (x : DomainView) (at : get_elem? s.views id ≡ some (one k hist x)) (a new : ℕ) (remembers : Bool) (changes : List Change) (command : model_command) (reply : Reply) → Acts k x
+    → ValueStore k s r id hist x at a new remembers changes command reply
+    → (y : DomainView) × Rule k record { words = set s.words (before_heap k + a) new; homes = s.homes; views = set s.views id (one k hist y) } × WroteTold k (Command x.own.number command false) a remembers changes reply x y
+value_stored k s r id hist x at a new remembers changes command reply acts f =
     let i : ℕ = f.index in
     let d : ℕ = x.own.number in
     let e : Entry = Command d command false in
@@ -283,7 +283,7 @@ value_stores k slots id word hist x a new remembers changes command acts place m
     let still : x.seen.copying ≡ nothing_copied = quiet k s r id hist x at acts.runs in
     let far : (z : DomainView) → Area k r.account.live z → Making k s.words z → Making k words z =
     (λ z area making. making_beside k s.words (f.address + 2 + i) new z (λ j fits same. live_word_far k r.account.live f.address (2 + i) f.place z f.lives inside area j fits (same ∙ (let h : f.address + 2 + i ≡ f.address + (2 + i) = omega arith in h))) making) in
-    let o : EntersTo k s r id hist x at acts graph e regs (Replied Done) = enters_command k s r id hist x at acts graph command f.unregistering f.fits regs (Replied Done) (domain_at now d).registers
+    let o : EntersTo k s r id hist x at acts graph e regs (Replied reply) = enters_command k s r id hist x at acts graph command f.unregistering f.fits regs (Replied reply) (domain_at now d).registers
     (subst (λ (l : List Value). AllStand r.account.live l (domain_at now d).registers) (sym (ap registers_of f.same)) stand)
     None (advance_command k s r id hist x at acts command f.quiet f.barrier) f.leaves in
     let later = advances_command k s r id hist x at acts.runs acts.paid command live1 f.quiet grows
@@ -359,7 +359,7 @@ value_stores k slots id word hist x a new remembers changes command acts place m
           (λ (h : (b ≡ f.address) × (c.named' j ≡ Some m)). record { place = f.place; lives = ap r.account.live h.0 ∙ f.lives; named = c.theirs m j differ h.1 })
           (λ (h : r.account.live b ≡ Some q). record { place = q; lives = h; named = named })
           (who m b j q lives named);
-      stood = let st = stood_after k s r id hist x at acts graph e regs (Replied Done) y refl refl refl refl o in record {
+      stood = let st = stood_after k s r id hist x at acts graph e regs (Replied reply) y refl refl refl refl o in record {
         wide = st.wide;
         each = λ q few. stands_more r.account.live live1 (value_at regs q) (register (next now e) d q) grows (st.each q few);
         serial = st.serial;
@@ -378,18 +378,25 @@ value_stores k slots id word hist x a new remembers changes command acts place m
           (garbage_beside k r.account.live r.account.tenancy r.account.cycling s.words r.whole.cycle.leaves (f.address + 2 + i) new r.whole.pools beside);
       sweeps = g.sweeps;
     } in
-    let here : word ≡ before_heap k + (f.address + 2 + i) = place ∙ ap (λ (n : ℕ). before_heap k + n) at_is in
-    let told : Entered k e (Replied Done) NothingWord changes x (entered_view k s r id hist x at acts e regs) = enters k s r id hist x at acts graph e (Replied Done) NothingWord changes o in (
-      one k hist y,
+    let told : Entered k e (Replied reply) NothingWord changes x (entered_view k s r id hist x at acts e regs) = enters k s r id hist x at acts graph e (Replied reply) NothingWord changes o in (
+      y,
+      subst (λ (n : ℕ). Rule k record { words = set s.words n new; homes = s.homes; views = set s.views id (one k hist y) }) (sym (ap (λ (n : ℕ). before_heap k + n) at_is)) rule,
+      record {
+        answers = told.answers;
+        view = ap (λ (own : Own). with_front (remembering remembers a (with_own x own)) y.seen.front) (sym (changed_only NothingWord changes x.own));
+        holds = told.holds;
+      },
+    )
+
+pub value_stores : (k : Config) (slots id word : ℕ) (hist : List Entry) (x : DomainView) (a new : ℕ) (remembers : Bool) (changes : List Change) (command : model_command) → Acts k x → word ≡ before_heap k + a
+    → ((s : Words) (r : Rule k s) (at : get_elem? s.views id ≡ some (one k hist x)) → ValueStore k s r id hist x at a new remembers changes command Done)
+    → let e : Entry = Command x.own.number command false in
+    Allows (Rule k) slots id (one k hist x, []) word (λ _. new) (λ _. Tells (λ y _ z. StoreTold k e a remembers changes y z) (one k hist x, []) new)
+value_stores k slots id word hist x a new remembers changes command acts place may s r _ at _ =
+    let t = value_stored k s r id hist x at a new remembers changes command Done acts (may s r at) in (
+      one k hist t.0,
       keeps,
       tt,
-      subst (λ (n : ℕ). Rule k record { words = set s.words n new; homes = s.homes; views = set s.views id (one k hist y) }) (sym here) rule,
-      (
-        record {
-          answers = told.answers;
-          view = ap (λ (own : Own). with_front (remembering remembers a (with_own x own)) y.seen.front) (sym (changed_only NothingWord changes x.own));
-          holds = told.holds;
-        },
-        refl,
-      ),
+      subst (λ (n : ℕ). Rule k record { words = set s.words n new; homes = s.homes; views = set s.views id (one k hist t.0) }) (sym place) t.1,
+      (t.2, refl),
     )

@@ -1,11 +1,14 @@
 -- Stores to fields.
-use Rattle.std.specs.Prelude.{◌≡◌, ◌≢◌, ◌↔◌, ℕ, ◌*◌, ◌-◌, ◌<◌, ◌≤◌, Bool, true, false, List, [], ◌∷◌, ◌++◌}
+use Rattle.std.specs.Prelude.{◌≡◌, ◌≢◌, ◌⊎◌, ◌↔◌, ℕ, ◌*◌, ◌-◌, ◌<◌, ◌≤◌, Bool, true, false, List, [], ◌∷◌, ◌++◌}
 use Rattle.heap_model.specs.declared.command.Command.TheVariants.{Store}
 use Rattle.heap_model.specs.declared.entry.Entry.{Entry}
 use Rattle.heap_model.specs.declared.entry.Entry.TheVariants.{Command}
 use Rattle.heap_model.specs.declared.reply.Applied.TheVariants.{Replied}
+use Rattle.heap_model.specs.declared.reply.Reply.{Reply}
 use Rattle.heap_model.specs.declared.reply.Reply.TheVariants.{Done}
-use Rattle.heap_model.specs.Fronts.{Answers}
+use Rattle.heap_model.specs.Fronts.{Answers, HoldsShape, PlainShape}
+use Rattle.heap_rule.specs.Rule.{state_of}
+use Rattle.steps_run.specs.Loads.{is_block}
 use Rattle.heap_words.specs.declared.value.Value.{Value}
 use Rattle.heap_words.specs.declared.value.Value.TheVariants.{Ref, Nothing}
 use Rattle.heap_words.specs.Values.{value_word}
@@ -52,6 +55,10 @@ remembering_own remembers at own = record own { remembered = record { items = wi
 abbrev pub remembering : Bool → ℕ → DomainView → DomainView
 remembering remembers at x = record { own = remembering_own remembers at x.own; seen = record x.seen { remembered = with_field remembers at x.seen.remembered } }
 
+-- the block in a register takes the value into its fields: a plain block takes any, and a raw one an integer
+abbrev pub SuitsField : Config → DomainView → ℕ → ℕ → Value → Type 0
+SuitsField k x block size value = ((tag : ℕ) × HoldsShape (state_of k x.seen.front) x.own.number block (PlainShape size tag)) ⊎ (is_block value ≡ false)
+
 -- the field gets the word of what a register holds, and is remembered exactly where it must be. Where a cycle goes on beside, what it referred to is darkened
 pub record FieldStoreMay (k : Config) (x : DomainView) (at new : ℕ) (remembers : Bool) (changes : List Change) (d block i item : ℕ) : Type 0 where
   pub own : d ≡ x.own.number
@@ -60,6 +67,7 @@ pub record FieldStoreMay (k : Config) (x : DomainView) (at new : ℕ) (remembers
   pub from : item < 16
   pub full : value_at x.own.registers item ≢ Nothing
   pub word : new ≡ value_word (value_at x.own.registers item)
+  pub suits : SuitsField k x block target.size (value_at x.own.registers item)
   pub exact : (remembers ≡ true) ↔ MustRemember k (value_at x.own.registers block) (value_at x.own.registers item)
   pub room : remembers ≡ true → 1 ≤ x.own.remembered.room
   pub same : LeavesOwn changes x
@@ -71,11 +79,15 @@ abbrev pub FieldStoreEntry : Config → DomainView → ℕ → ℕ → Bool → 
 FieldStoreEntry k x at new remembers changes (Command d (Store block i item) false) = FieldStoreMay k x at new remembers changes d block i item
 FieldStoreEntry k x at new remembers changes _ = ⊥
 
--- the entry stands, and the field is remembered where it is to be
-pub record StoreTold (k : Config) (e : Entry) (at : ℕ) (remembers : Bool) (changes : List Change) (x y : DomainView) : Type 0 where
-  pub answers : Answers (sizes_in k) x.own.number x.seen.front y.seen.front e (Replied Done)
+-- the entry stands with this reply, and the field is remembered where it is to be
+pub record WroteTold (k : Config) (e : Entry) (at : ℕ) (remembers : Bool) (changes : List Change) (reply : Reply) (x y : DomainView) : Type 0 where
+  pub answers : Answers (sizes_in k) x.own.number x.seen.front y.seen.front e (Replied reply)
   pub view : y ≡ with_front (remembering remembers at (with_own x (changed Nothing changes x.own))) y.seen.front
   pub holds : Holds k y.own.registers
+
+-- a store answers `ok`
+abbrev pub StoreTold : Config → Entry → ℕ → Bool → List Change → DomainView → DomainView → Type 0
+StoreTold k e at remembers changes x y = WroteTold k e at remembers changes Done x y
 
 -- the changes can be made, and one more field can be remembered where it is to be
 abbrev pub CanStore : Bool → List Change → Own → Type 0

@@ -1,7 +1,7 @@
 -- Ticks: the entries that the registers alone decide, and the answer `full`.
 use Rattle.std.specs.Prelude.{◌≡◌, ℕ, ◌<◌, ◌≤◌, ◌⊎◌, Bool, true, false, List, slice_set, Some}
 use Rattle.heap_model.specs.declared.command.Command as model
-use Rattle.heap_model.specs.declared.command.Command.TheVariants.{PutInt, Copy, Forget, Load, Store, SetKey, UnsetKey, GetKey, CheckKey, SetData, UnsetData, GetData, CheckData, Finalise, FinaliseLast, Poll, Minor, Major}
+use Rattle.heap_model.specs.declared.command.Command.TheVariants.{PutInt, Copy, Forget, Load, Store, Cas, SetKey, UnsetKey, GetKey, CheckKey, SetData, UnsetData, GetData, CheckData, Finalise, FinaliseLast, Poll, Minor, Major}
 use Rattle.heap_model.specs.declared.entry.Entry.{Entry}
 use Rattle.heap_model.specs.declared.entry.Entry.TheVariants.{Command}
 use Rattle.heap_model.specs.declared.reply.Reply.{Reply}
@@ -45,6 +45,8 @@ TickCommand x changes (Forget dst) = (dst < 16) × Makes changes x (slice_set x.
 TickCommand x changes (Load dst src i) = (src < 16) × IsNoBlock (value_at x.own.registers src) × LeavesOwn changes x
 TickCommand x changes (Store block i item) =
     (block < 16) × (item < 16) × (IsNoBlock (value_at x.own.registers block) ⊎ (value_at x.own.registers item ≡ Nothing)) × LeavesOwn changes x
+TickCommand x changes (Cas block i expected item) =
+    (block < 16) × (expected < 16) × (item < 16) × (IsNoBlock (value_at x.own.registers block) ⊎ (value_at x.own.registers expected ≡ Nothing) ⊎ (value_at x.own.registers item ≡ Nothing)) × LeavesOwn changes x
 TickCommand x changes (SetKey ephe i item) =
     (ephe < 16) × (item < 16) × (IsNoBlock (value_at x.own.registers ephe) ⊎ IsNoBlock (value_at x.own.registers item)) × LeavesOwn changes x
 TickCommand x changes (UnsetKey ephe i) = HoldsNoBlock x ephe × LeavesOwn changes x
@@ -85,6 +87,7 @@ pub record TickMay (k : Config) (x : DomainView) (changes : List Change) (e : En
 abbrev pub command_answer : model.Command → Reply
 command_answer (Load dst src i) = BadType
 command_answer (Store block i item) = BadType
+command_answer (Cas block i expected item) = BadType
 command_answer (SetKey ephe i item) = BadType
 command_answer (UnsetKey ephe i) = BadType
 command_answer (GetKey dst ephe i) = BadType

@@ -1,0 +1,3 @@
+pub mod ExchangeSteps
+pub mod Plain
+pub mod SameValues
