@@ -1,3 +1,4 @@
 pub mod Plain
 pub mod MakeSteps
 pub mod ClassSizes
+pub mod Sizing

@@ -1,12 +1,12 @@
 -- Stores of the words of a new block in the own minor area: its label and its fields first, and its head last.
 use Rattle.std.specs.Prelude.{◌≡◌, ◌≢◌, ℕ, ◌+◌, ◌^◌, ◌<◌, ◌≤◌, false, List, [], ◌∷◌, ◌++◌, length, replicate, slice_set, Some}
-use Rattle.heap_model.specs.declared.command.Command.TheVariants.{Alloc}
+use Rattle.heap_model.specs.declared.command.Command.TheVariants.{Alloc, Raw as NewRaw}
 use Rattle.heap_model.specs.declared.entry.Entry.{Entry}
 use Rattle.heap_model.specs.declared.entry.Entry.TheVariants.{Command}
 use Rattle.heap_model.specs.declared.reply.Reply.TheVariants.{Block}
 use Rattle.heap_model.specs.declared.reply.Applied.TheVariants.{Replied}
 use Rattle.heap_model.specs.Domains.{reserve}
-use Rattle.heap_model.specs.Fronts.{PlainShape, Answers}
+use Rattle.heap_model.specs.Fronts.{Shape, PlainShape, RawShape, EpheShape, Answers}
 use Rattle.heap_words.specs.declared.head.Head.{Head}
 use Rattle.heap_words.specs.declared.head.Head.TheVariants.{Plain as PlainHead}
 use Rattle.heap_words.specs.declared.value.Value.TheVariants.{Ref, Nothing}
@@ -16,7 +16,7 @@ use Rattle.heap_rule.specs.declared.config.Config.{Config}
 use Rattle.heap_rule.specs.declared.view.DomainView.{DomainView}
 use Rattle.heap_rule.specs.declared.view.Own.{Own}
 use Rattle.heap_rule.specs.Limits.{sizes_in}
-use Rattle.heap_rule.specs.Places.{IsNewHead, class_words}
+use Rattle.heap_rule.specs.Places.{IsNewHead, IsPackableShape, class_words}
 use Rattle.heap_rule.specs.Changes.{changed, FitChanges}
 use Rattle.heap_rule.specs.Standing.{Acts, LeavesOwn}
 use Rattle.heap_rule.specs.Token.{Holds, next_address, next_label}
@@ -29,7 +29,13 @@ pub record IsOpen (k : Config) (x : DomainView) : Type 0 where
   pub found : x.seen.free ≡ Some free
   pub enough : reserve (sizes_in k) ≤ free
 
--- the fields of a plain block's head
+-- a block with so many fields, plain or raw, has this shape
+abbrev pub HasFields : Shape → ℕ → Type 0
+HasFields (PlainShape size tag) n = size ≡ n
+HasFields (RawShape size tag) n = size ≡ n
+HasFields (EpheShape keys) n = ⊥
+
+-- the fields of the head of a block with fields
 abbrev pub head_size : Head → ℕ
 head_size (PlainHead size tag colour scanned) = size
 head_size _ = 0
@@ -47,14 +53,13 @@ pub record WordTold (new : ℕ) (x y : DomainView) : Type 0 where
   pub view : y ≡ record x { seen = record x.seen { made = x.seen.made ++ new ∷ [] } }
 
 -- the head: all other words are written, the label and so many zeros
-pub record AllocMay (k : Config) (x : DomainView) (at new : ℕ) (changes : List Change) (d dst tag fields : ℕ) : Type 0 where
+pub record AllocMay (k : Config) (x : DomainView) (at new : ℕ) (changes : List Change) (d dst fields : ℕ) (shape : Shape) : Type 0 where
   pub own : d ≡ x.own.number
   pub acts : Acts k x
   pub word : at ≡ next_address k x
-  pub tag_fits : tag < 256
-  pub some_field : 1 ≤ fields
-  pub few_fields : fields ≤ 126
-  pub head : IsNewHead x.seen.share.colours x.seen.share.armed false (PlainShape fields tag) new
+  pub packable : IsPackableShape shape
+  pub few_fields : fields ≤ 1022
+  pub head : IsNewHead x.seen.share.colours x.seen.share.armed false shape new
   pub made : x.seen.made ≡ label_word x.own.number (x.own.serial + 1) ∷ replicate fields 1
   pub room : x.own.used + class_words (fields + 2) ≤ k.minor_words
   pub opened : IsOpen k x
@@ -65,12 +70,14 @@ pub record AllocMay (k : Config) (x : DomainView) (at new : ℕ) (changes : List
 
 -- the same of the entry that is told, an own allocation
 abbrev pub AllocEntry : Config → DomainView → ℕ → ℕ → List Change → Entry → Type 0
-AllocEntry k x at new changes (Command d (Alloc dst tag fields) false) = AllocMay k x at new changes d dst tag fields
+AllocEntry k x at new changes (Command d (Alloc dst tag fields) false) = AllocMay k x at new changes d dst fields (PlainShape fields tag)
+AllocEntry k x at new changes (Command d (NewRaw dst tag fields) false) = AllocMay k x at new changes d dst fields (RawShape fields tag)
 AllocEntry k x at new changes _ = ⊥
 
 -- the fields of an allocation
 abbrev pub fields_of : Entry → ℕ
 fields_of (Command d (Alloc dst tag fields) full) = fields
+fields_of (Command d (NewRaw dst tag fields) full) = fields
 fields_of _ = 0
 
 -- the block lives, and the entry of its allocation stands

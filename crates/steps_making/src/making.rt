@@ -1,9 +1,9 @@
 //! The making of a young block: its label, its fields, and its head last.
 ghost use Rattle.std.specs.Prelude.{◌≡◌, ◌≢◌, ◌+◌, ◌<◌, ◌≤◌, ◌^◌, ℕ};
 ghost use Rattle.heap_model.specs.declared.entry.Entry.{Entry};
-ghost use Rattle.heap_model.specs.Fronts.{PlainShape};
+ghost use Rattle.heap_model.specs.Fronts.{Shape};
 ghost use Rattle.heap_words.specs.Heads.{IsPackableHead};
-ghost use Rattle.steps_making.specs.Inits.{head_size, fields_of, WordMay, WordTold, AllocEntry, AllocTold, InitMay, InitTold};
+ghost use Rattle.steps_making.specs.Inits.{HasFields, head_size, fields_of, WordMay, WordTold, AllocEntry, AllocTold, InitMay, InitTold};
 ghost use Rattle.heap_rule.specs.Places.{IsHeadOf, class_words};
 ghost use Rattle.heap_rule.specs.Standing.{IsInHeap};
 ghost use Rattle.heap_rule.specs.Token.{IsIn};
@@ -14,9 +14,9 @@ use size_classes::heap_classes;
 use std::marker::Brand;
 
 /// The words that a block takes in a minor area: those of the least size class that has room for its
-/// own, which are at most 128.
+/// own, which are at most 1024.
 pub fn words_of_class(words: usize) -> u32
-    requires { words ≤ 128 }
+    requires { words ≤ 1024 }
     ensures { result ≡ class_words words }
 {
     let classes = heap_classes();
@@ -26,7 +26,7 @@ pub fn words_of_class(words: usize) -> u32
     classes.words_of(class) as u32
 }
 
-// The number of fields of a plain block's head, and 0 of another head.
+// The number of fields of the head of a block with fields, and 0 of another head.
 fn head_size(head: Head) -> u16
     ensures { result ≡ head_size head }
 {
@@ -36,10 +36,10 @@ fn head_size(head: Head) -> u16
     }
 }
 
-// The number of fields in the head word of a plain block.
+// The number of fields in the head word of a block with fields.
 fn size_in(word: u64) -> u16
-    requires { (size : ℕ) × (tag : ℕ) × IsHeadOf (PlainShape size tag) word }
-    ensures { (size tag : ℕ) → IsHeadOf (PlainShape size tag) word → result ≡ size }
+    requires { (shape : Shape) × (size : ℕ) × HasFields shape size × IsHeadOf shape word }
+    ensures { (shape : Shape) (size : ℕ) → HasFields shape size → IsHeadOf shape word → result ≡ size }
 {
     let Some(head) = unpack_head(word) else {
         unreachable!()
