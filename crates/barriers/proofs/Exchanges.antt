@@ -1,5 +1,5 @@
 -- The exchange of an unmarked block's head.
-use Rattle.std.proofs.Common.{◌≡◌, ℕ, Bool, Some, None, Option, ⊎_elim, inl, inr, sym, refl, ap, subst, ◌∙◌}
+use Rattle.std.proofs.Common.{◌≡◌, ℕ, Bool, true, false, cond, nat_le, if◌then◌else◌, Some, None, Option, ⊎_elim, inl, inr, sym, refl, ap, subst, ◌∙◌}
 use Rattle.heap_model.specs.Fronts.{Shape, PlainShape, RawShape, EpheShape}
 use Rattle.heap_words.specs.declared.colours.Colours.{Colours}
 use Rattle.heap_words.specs.declared.head.Head.{Head}
@@ -11,9 +11,10 @@ use Rattle.heap_rule.specs.declared.view.DomainView.{DomainView}
 use Rattle.heap_rule.specs.declared.view.Known.{Known}
 use Rattle.heap_rule.specs.declared.view.Known.TheVariants.{Found}
 use Rattle.heap_rule.specs.declared.config.Config.{Config}
-use Rattle.heap_rule.specs.Places.{IsHeadOf, head_of}
-use Rattle.steps_cycle.specs.Marking.{IsMarked, IsUnmarked}
-use Rattle.steps_beside.specs.Marking.{DarkenMay, Field, Reason, TargetTold, Warrants, Weak, learning, marked_at}
+use Rattle.heap_rule.specs.Places.{IsHeadOf, IsPackableShape, head_of, tagged}
+use Rattle.heap_rule.proofs.HeadLemmas.{tagged_fits, tagged_head}
+use Rattle.steps_cycle.specs.Marking.{IsMarked, IsUnmarked, fields_in}
+use Rattle.steps_beside.specs.Marking.{DarkenMay, Expected, Field, Reason, TargetTold, Warrants, Weak, learning, marked_at}
 use Rattle.barriers.specs.Heads.{IsDarkened}
 use Rattle.barriers.specs.Aware.{DarkensBeside}
 
@@ -46,6 +47,7 @@ one_meaning o c e a b = let h : ◌≡◌ {A = Option Colours} (Some e) (Some c)
 still : (x : DomainView) (at : ℕ) (reason : Reason) (fact : Known) → Warrants x at reason → Warrants (learning x fact) at reason
 still x at (Field block field) fact w = inr w
 still x at (Weak register) fact w = (record { few = w.0.few; holds = w.0.holds }, w.1)
+still x at (Expected register) fact w = record { few = w.few; holds = w.holds }
 
 -- the head that was found may be exchanged
 pub exchange_may : (k : Config) (x y : DomainView) (colours : Colours) (at word new : ℕ) (reason : Reason) → IsPermutation colours → DarkensBeside k colours at reason x → IsDarkened colours word new → TargetTold at reason x word y → DarkenMay k y at word new reason
@@ -59,5 +61,22 @@ exchange_may k x y colours at word new reason p d n t =
     t.told
 
 -- the head that was read from a word
-abbrev pub read_head : (word : ℕ) (h : Head) (s : Shape) (colour : ℕ) (scanned : Bool) → IsPackableHead h × (head_word h ≡ word) → h ≡ head_of None s colour scanned → IsHeadOf s word
-read_head word h s colour scanned f e = record { colour = colour; scanned = scanned; packable = subst IsPackableHead e f.0; packs = sym f.1 ∙ ap head_word e }
+abbrev pub read_head : (word : ℕ) (h : Head) (s : Shape) (colour : ℕ) (scanned : Bool) → IsPackableShape s → IsPackableHead h × (head_word h ≡ word) → h ≡ head_of None s colour scanned → IsHeadOf s word
+read_head word h s colour scanned fits f e = record { colour = colour; scanned = scanned; fits = fits; packable = subst IsPackableHead e f.0; packs = sym f.1 ∙ ap head_word e }
+
+-- that of a block with fields, whose shape its tag tells
+abbrev pub read_tagged : (word : ℕ) (h : Head) (size tag colour : ℕ) (scanned : Bool) → IsPackableHead h × (head_word h ≡ word) → h ≡ Plain size tag colour scanned → IsHeadOf (tagged size tag) word
+read_tagged word h size tag colour scanned f e =
+    let p = subst IsPackableHead e f.0 in
+    read_head word h (tagged size tag) colour scanned (tagged_fits size tag p.0 p.1 p.2) f (e ∙ sym (tagged_head size tag colour scanned))
+
+-- and that of an ephemeron
+abbrev pub read_ephemeron : (word : ℕ) (h : Head) (keys colour : ℕ) (scanned : Bool) → IsPackableHead h × (head_word h ≡ word) → h ≡ Ephe keys colour scanned → IsHeadOf (EpheShape keys) word
+read_ephemeron word h keys colour scanned f e = let p = subst IsPackableHead e f.0 in read_head word h (EpheShape keys) colour scanned (p.0, p.1) f e
+
+-- the fields to follow of a block with fields
+pub tagged_fields : (size tag : ℕ) → fields_in (tagged size tag) ≡ cond (nat_le 251 tag) 0 size
+tagged_fields size tag = pick (nat_le 251 tag) where
+  pick : (b : Bool) → fields_in (if b then RawShape size tag else PlainShape size tag) ≡ cond b 0 size
+  pick true = refl
+  pick false = refl

@@ -1,13 +1,16 @@
 //! What the word of a head says of its block's marks.
-ghost use Rattle.std.specs.Prelude.{MatchOption};
+ghost use Rattle.std.specs.Prelude.{◌≡◌, nat_le, cond, MatchOption};
 ghost use Rattle.heap_words.specs.ColourWords.{IsPermutation};
 ghost use Rattle.steps_cycle.specs.Marking.{IsGrey, IsUnmarked};
 ghost use Rattle.barriers.specs.Heads.{IsDarkened, IsScanOf};
 
 use heap_words::{Colours, Head, pack_head, unpack_head};
 
-/// The head by which an unmarked block is marked and not scanned. `None` where the word isn't the
-/// head of an unmarked block.
+// The least tag of a raw block.
+const FIRST_RAW: u8 = 251;
+
+/// The head by which an unmarked block is marked, and scanned at once where it is a raw one, whose
+/// fields refer to nothing. `None` where the word isn't the head of an unmarked block.
 pub fn darkened_head(word: u64, colours: Colours) -> Option<u64>
     requires { IsPermutation colours }
     ensures { MatchOption result (IsUnmarked colours word → ⊥) (IsDarkened colours word) }
@@ -25,7 +28,7 @@ pub fn darkened_head(word: u64, colours: Colours) -> Option<u64>
             size,
             tag,
             colour: marked,
-            scanned: false,
+            scanned: FIRST_RAW <= tag,
         })),
         Some(Head::Ephe { keys, colour, .. }) if colour == colours.unmarked => {
             Some(pack_head(Head::Ephe {
@@ -45,6 +48,17 @@ pub struct ToScan {
     pub scanned: u64,
 }
 
+// How many fields of a block with fields are to be scanned: those of a plain one.
+fn fields_to_scan(size: u16, tag: u8) -> u32
+    ensures { result ≡ cond (nat_le 251 tag) 0 size }
+{
+    if FIRST_RAW <= tag {
+        0
+    } else {
+        u32::from(size)
+    }
+}
+
 /// What is to be done for a grey block: one that is marked and not scanned. `None` where the word isn't
 /// the head of one.
 pub fn scan_of(word: u64, colours: Colours) -> Option<ToScan>
@@ -61,7 +75,7 @@ pub fn scan_of(word: u64, colours: Colours) -> Option<ToScan>
                 scanned: false,
             },
         ) if colour == marked => Some(ToScan {
-            fields: u32::from(size),
+            fields: fields_to_scan(size, tag),
             scanned: pack_head(Head::Plain {
                 size,
                 tag,

@@ -19,9 +19,9 @@ use Rattle.heap_words.specs.declared.colours.Colours.{Colours}
 use Rattle.heap_words.specs.Heads.{head_word}
 use Rattle.cycle_laws.specs.Beside.{IsBeside, Later, Past}
 use Rattle.cycle_laws.specs.Cover.{field_at, field_in, is_new}
-use Rattle.cycle_laws.specs.Marks.{Marks, darkened, with_scanned}
+use Rattle.cycle_laws.specs.Marks.{Marks, darkened, darkened_as, with_scanned}
 use Rattle.cycle_laws.proofs.Beside.{beside_law}
-use Rattle.cycle_laws.proofs.Tracing.{darkened_more}
+use Rattle.cycle_laws.proofs.Tracing.{darkened_more, darkens_as, scanned_else, scanned_here}
 use Rattle.heap_rule.specs.declared.config.Config.{Config}
 use Rattle.heap_rule.specs.declared.phase.Kind.TheVariants.{Run}
 use Rattle.heap_rule.specs.declared.phase.Stage.TheVariants.{In}
@@ -29,7 +29,7 @@ use Rattle.heap_rule.specs.declared.view.DomainView.{DomainView}
 use Rattle.heap_rule.specs.declared.view.Known.TheVariants.{Marked, Found, Shape as Shaped, Refers, Darkened, Scanned}
 use Rattle.heap_rule.specs.Beside.{AllKnown, IsShaped, IsPooled, Underway, is_weak}
 use Rattle.heap_rule.specs.Layout.{before_heap, at_address}
-use Rattle.heap_rule.specs.Places.{IsHeadOf, Live, Place, colour_in, head_of}
+use Rattle.heap_rule.specs.Places.{IsHeadOf, Live, Place, colour_in, head_of, needs_no_scan}
 use Rattle.heap_rule.specs.Raw.{MayStep, MayStore}
 use Rattle.heap_rule.specs.Rule.{Rule}
 use Rattle.heap_rule.specs.Views.{one}
@@ -38,10 +38,10 @@ use Rattle.heap_rule.proofs.Blocks as blocks
 use Rattle.heap_rule.proofs.Keeps.{Words, now, my_good, run_settled, unmoved}
 use Rattle.steps_cycle.specs.Marking.{fields_in}
 use Rattle.steps_cycle.proofs.Colouring.{BareHead, Recolourable, unmarked_by, words_same}
-use Rattle.steps_beside.specs.Marking.{DarkenMay, DarkenTold, Field, Reason, ScannedMay, ScannedTold, TargetMay, TargetTold, Warrants, Weak, darkened_at, learning, marked_at, weak_on}
+use Rattle.steps_beside.specs.Marking.{DarkenMay, DarkenTold, Field, Reason, Expected, ScannedMay, ScannedTold, TargetMay, TargetTold, Warrants, Weak, darkened_at, learning, marked_at, weak_on}
 use Rattle.steps_beside.proofs.Besides.{all_known, is_armed, learns, learns_one, reads_rule, under}
 use Rattle.steps_beside.proofs.LookSteps as looks
-use Rattle.steps_beside.proofs.ReadSteps.{field_inside, fields_same}
+use Rattle.steps_beside.proofs.ReadSteps.{field_inside, no_field}
 use Rattle.steps_beside.proofs.Rewriting as rewriting
 
 module _ (k : Config) (s : Words) (r : Rule k s) (id : ℕ) (hist : List Entry) (x : DomainView) (at : get_elem? s.views id ≡ some (one k hist x)) where
@@ -79,23 +79,28 @@ module _ (k : Config) (s : Words) (r : Rule k s) (id : ℕ) (hist : List Entry) 
     pub aim : (a : ℕ) (reason : Reason) → Warrants x a reason → Aim a reason
     aim a (Field block field) w = let h = known_among k live r.account.tenancy.holder past.old m.marked s.words x.seen.share.known (Refers block field a) knows_now w in record { place = h.target; lives = h.there; held = λ q e. absurd cc }
     aim a (Weak q) w = let b = blocks.lives_at k s r id hist x at q a w.0 in record { place = b.place; lives = b.lives; held = λ n e. let same : q ≡ n = cc in subst (λ (z : ℕ). register (now k s r id hist x at) d z ≡ Block b.place.label) same b.held }
+    aim a (Expected q) w = let b = blocks.lives_at k s r id hist x at q a w in record { place = b.place; lives = b.lives; held = λ n e. absurd cc }
 
     -- what is owed once the block is marked: by this domain nothing, where it was a weak read that brought it
     abbrev owed_on : Reason → ℕ → ℕ → Bool
     owed_on (Field block field) = past.owed
     owed_on (Weak q) = λ n j. not (n == d) && past.owed n j
+    owed_on (Expected q) = past.owed
 
     owed_others : (reason : Reason) (n j : ℕ) → n ≢ d → owed_on reason n j ≡ past.owed n j
     owed_others (Field block field) n j other = refl
     owed_others (Weak q) n j other = ap (λ (b : Bool). not b && past.owed n j) (ne_eqb n d other)
+    owed_others (Expected q) n j other = refl
 
     owed_own : (reason : Reason) (j : ℕ) → owed_on reason d j ≡ is_weak (weak_on reason x.seen.share.weak) j
     owed_own (Field block field) j = owes_now j
     owed_own (Weak q) j = ap (λ (b : Bool). not b && past.owed d j) (eq-eqb d d refl)
+    owed_own (Expected q) j = owes_now j
 
     -- and the laws of the cycle hold with that
     pays : (reason : Reason) (a : ℕ) (w : Warrants x a reason) (m' : Marks) → IsBeside past m' (now k s r id hist x at) → IsTrue (m'.marked (aim a reason w).place.label) → Later past m' (now k s r id hist x at) (owed_on reason)
     pays (Field block field) a w m' b marked = (past.held, past.overwritten, b)
+    pays (Expected q) a w m' b marked = (past.held, past.overwritten, b)
     pays (Weak q) a w m' b marked = beside_law.pays past m' (now k s r id hist x at) b (owed_on (Weak q)) (λ n j none. dite (ℕ_discrete n d)
         (λ (same : n ≡ d). dite (ℕ_discrete q j)
         (λ (one : q ≡ j). inr (λ l e. subst (λ (z : Label). IsTrue (m'.marked z))
@@ -105,6 +110,7 @@ module _ (k : Config) (s : Words) (r : Rule k s) (id : ℕ) (hist : List Entry) 
 
     settled_on : (reason : Reason) (n j : ℕ) → past.owed n j ≡ false → owed_on reason n j ≡ false
     settled_on (Field block field) n j e = e
+    settled_on (Expected q) n j e = e
     settled_on (Weak q) n j e = ap (λ (b : Bool). not (n == d) && b) e ∙ both (not (n == d)) where
       both : (b : Bool) → b && false ≡ false
       both true = refl
@@ -182,8 +188,24 @@ module _ (k : Config) (s : Words) (r : Rule k s) (id : ℕ) (hist : List Entry) 
       unmarked : m.marked p.label ≡ false
       unmarked = unmarked_by cs (m.marked p.label) r.whole.cycle.meanings (sym there.colour ∙ (same.colour ∙ (may.unmarked.colour ∙ ap (λ (z : Colours). z.unmarked) means)))
 
+      -- a raw block is scanned at once
+      abbrev done_at_once : Bool
+      done_at_once = needs_no_scan p.shape
+
       abbrev m' : Marks
-      m' = darkened m p.label
+      m' = darkened_as done_at_once m p.label
+
+      covered : IsBeside past m' (now k s r id hist x at)
+      covered =
+          let v = u may.knows.beside.runs may.knows.beside.armed in
+          let f = r.whole.found a p aimed.lives in
+          let dark : IsBeside past (darkened m p.label) (now k s r id hist x at) = beside_law.darkens past m (now k s r id hist x at) v.covered p.label unmarked in
+          darkens_as (λ z. IsBeside past z (now k s r id hist x at)) m p.label done_at_once
+          (λ (e : done_at_once ≡ true). beside_law.scans past (darkened m p.label) (now k s r id hist x at) dark p.label (λ i y was. ⊎_elim
+          (λ (is : IsTrue (m.marked y)). darkened_more m p.label y is)
+          (λ (h : field_at (now k s r id hist x at).graph p.label i ≡ Some (Block y)). absurd (no_field f.node (ap needs_no_scan f.shape ∙ e) i y (sym (ap (λ (o : Option Node). field_in o i) f.there) ∙ h)))
+          (beside_law.reads past m (now k s r id hist x at) v.covered p.label y i was)))
+          dark
 
       is_dark : m'.marked p.label ≡ true
       is_dark = ap (λ (b : Bool). b || m.marked p.label) (same_label_refl p.label)
@@ -193,13 +215,13 @@ module _ (k : Config) (s : Words) (r : Rule k s) (id : ℕ) (hist : List Entry) 
         lives = aimed.lives;
         old_at = may.low;
         here = record {
-          scanned = false;
-          packs = may.marks ∙ (ap (λ (z : Colours). head_word (head_of None may.unmarked.shape z.marked false)) means ∙ (ap head_word (sym (same.again cs.marked false))
-              ∙ (sym (ap (λ (b : Bool). head_word (head_of None p.shape (cond b cs.marked cs.unmarked) false)) is_dark)
-              ∙ sym (ap (λ (o : Option ℕ). head_word (head_of o p.shape (colour_in (record r.account.cycling.paint { marks = m' }) p.label) false)) (run_settled k s r id hist x at may.knows.beside.runs a p aimed.lives).no_forward))));
-          tells = λ _ bit. absurd (let clash : false ≡ true = bit in cc);
+          scanned = done_at_once;
+          packs = may.marks ∙ (ap (λ (z : Colours). head_word (head_of None may.unmarked.shape z.marked (needs_no_scan may.unmarked.shape))) means ∙ (ap (λ (z : Shape). head_word (head_of None z cs.marked (needs_no_scan z))) (sym same.shape)
+              ∙ (sym (ap (λ (b : Bool). head_word (head_of None p.shape (cond b cs.marked cs.unmarked) done_at_once)) is_dark)
+              ∙ sym (ap (λ (o : Option ℕ). head_word (head_of o p.shape (colour_in (record r.account.cycling.paint { marks = m' }) p.label) done_at_once)) (run_settled k s r id hist x at may.knows.beside.runs a p aimed.lives).no_forward))));
+          tells = λ _ bit. scanned_here done_at_once m p.label bit;
         };
-        elsewhere = λ l differ. let e : same_label p.label l ≡ false = same_label-false p.label l differ in (ap (λ (b : Bool). b || m.marked l) e, ap (λ (b : Bool). not b && m.scanned l) e);
+        elsewhere = λ l differ. let e : same_label p.label l ≡ false = same_label-false p.label l differ in (ap (λ (b : Bool). b || m.marked l) e, scanned_else done_at_once m p.label l differ);
         is_marked = is_dark;
         more = darkened_more m p.label;
       }
@@ -217,7 +239,7 @@ module _ (k : Config) (s : Words) (r : Rule k s) (id : ℕ) (hist : List Entry) 
       won_rule =
           let f = may.knows.beside.runs in
           let g = may.knows.beside.armed in
-          let l = pays f g reason a may.reason_is m' (beside_law.darkens past m (now k s r id hist x at) (u f g).covered p.label unmarked) is_dark in
+          let l = pays f g reason a may.reason_is m' covered is_dark in
           let o = rewriting.endures' k s r id hist x at f a p new m' rewrites in
           learns k s r id hist x at f g m' (record past { held = l.0; overwritten = l.1; owed = owed_on f g reason }) (Darkened a ∷ Marked a ∷ x.seen.share.known) (weak_on reason x.seen.share.weak) words' record {
             wide = rewriting.wide k s r id hist x at f a p new m' rewrites;
@@ -264,7 +286,7 @@ module _ (k : Config) (s : Words) (r : Rule k s) (id : ℕ) (hist : List Entry) 
         inside : (j : ℕ) (z : Label) → field_at (now k s r id hist x at).graph q.label j ≡ Some (Block z) → j < fields_in may.shape
         inside j z g =
             let found = r.whole.found a q h.lives in
-            subst (λ (n : ℕ). j < n) (fields_same q.shape may.shape (r.whole.placed.fits a q h.lives).built may.built (same1.again 0 false)) (subst (λ (sh : Shape). j < fields_in sh) found.shape (field_inside found.node j z (sym (ap (λ (o : Option Node). field_in o j) found.there) ∙ g)))
+            subst (λ (n : ℕ). j < n) (ap fields_in same1.shape) (subst (λ (sh : Shape). j < fields_in sh) found.shape (field_inside found.node j z (sym (ap (λ (o : Option Node). field_in o j) found.there) ∙ g)))
 
     abbrev words1 : List ℕ
     words1 = set s.words (before_heap k + a) new
@@ -275,7 +297,7 @@ module _ (k : Config) (s : Words) (r : Rule k s) (id : ℕ) (hist : List Entry) 
       old_at = may.low;
       here = record {
         scanned = true;
-        packs = may.marks ∙ (ap (λ (z : Colours). head_word (head_of None may.shape z.marked true)) means1 ∙ (ap head_word (sym (same1.again cs1.marked true))
+        packs = may.marks ∙ (ap (λ (z : Colours). head_word (head_of None may.shape z.marked true)) means1 ∙ (ap (λ (z : Shape). head_word (head_of None z cs1.marked true)) (sym same1.shape)
             ∙ (sym (ap (λ (b : Bool). head_word (head_of None q.shape (cond b cs1.marked cs1.unmarked) true)) h.is_marked)
             ∙ sym (ap (λ (o : Option ℕ). head_word (head_of o q.shape (colour_in r.account.cycling.paint q.label) true)) (run_settled k s r id hist x at may.knows.beside.runs a q h.lives).no_forward))));
         tells = λ _ _. ap (λ (b : Bool). b || m.scanned q.label) (same_label_refl q.label);

@@ -113,7 +113,7 @@ module _ (k : Config) (s : Words) (r : Rule k s) (id : ℕ) (hist : List Entry) 
         (λ (bit : head.head.scanned ≡ false). (
           learning x (Shaped a found),
           learns_one k s r id hist x at may.knows.beside.runs may.knows.beside.armed (Shaped a found) (record { place = p; lives = lives; is_marked = e; head = head.head }, all_known k s r id hist x at may.knows.beside.runs may.knows.beside.armed),
-          record { colours = may.knows.colours; known = may.knows.known; told = inr (record { block = marked; built = (r.whole.placed.fits a p lives).built; unscanned = bit }, refl) },
+          record { colours = may.knows.colours; known = may.knows.known; told = inr (record { block = marked; unscanned = bit }, refl) },
         ))
         (cases_Bool head.head.scanned))
         (λ (e : r.account.cycling.paint.marks.marked p.label ≡ false). vain (inr (inl (is_unmarked may.knows.beside.runs may.knows.colours may.knows.known a p lives e))))

@@ -1,5 +1,5 @@
 -- Loads of fields that no command reads keep the rule.
-use Rattle.std.proofs.Common.{◌≡◌, ℕ, ◌+◌, ◌*◌, ◌<◌, ◌⊎◌, Bool, false, IsTrue, cond, List, length, slice_get, get_or, set, Option, Some, None, sym, refl, ap, ◌∙◌, subst, inl, inr, ⊎_elim, arith, lt_of_not-le}
+use Rattle.std.proofs.Common.{◌≡◌, ℕ, ◌+◌, ◌*◌, ◌<◌, ◌⊎◌, Bool, true, IsTrue, cond, List, length, slice_get, get_or, set, Option, Some, None, sym, refl, ap, ◌∙◌, subst, inl, inr, ⊎_elim, arith, lt_of_not-le}
 use Rattle.std.proofs.lemmas.Bool.{le-leb, lt-leb}
 use Rattle.std.proofs.lemmas.Option.{none-some, same_Some, slice_get_within}
 use mathlib.Core.Logic.{dite}
@@ -13,7 +13,7 @@ use Rattle.heap_model.specs.declared.graph.Value.{Value}
 use Rattle.heap_model.specs.declared.graph.Value.TheVariants.{Block}
 use Rattle.heap_model.specs.declared.graph.Node.{Node}
 use Rattle.heap_model.specs.declared.graph.Node.TheVariants.{Plain, Raw, Ephe}
-use Rattle.heap_model.specs.Fronts.{Shape, PlainShape, RawShape, EpheShape, shape_of}
+use Rattle.heap_model.specs.Fronts.{Shape, shape_of}
 use Rattle.heap_model.specs.Graph.{node_at}
 use Rattle.heap_words.specs.declared.value.Value as held_value
 use Rattle.heap_words.specs.declared.value.Value.TheVariants.{Int as IntWord, Ref, Nothing as NothingWord}
@@ -26,7 +26,7 @@ use Rattle.heap_rule.specs.declared.view.Known.{Known}
 use Rattle.heap_rule.specs.declared.view.Known.TheVariants.{Shape as Shaped, Refers, Done}
 use Rattle.heap_rule.specs.Beside.{HoldsKnown}
 use Rattle.heap_rule.specs.Layout.{before_heap, at_address}
-use Rattle.heap_rule.specs.Places.{Debt, HasValue, IsBuilt, Live, Place, Stands, WordStands, head_of, values_of}
+use Rattle.heap_rule.specs.Places.{Debt, HasValue, Live, Place, needs_no_scan, Stands, WordStands, values_of}
 use Rattle.heap_rule.specs.Raw.{MayStep}
 use Rattle.heap_rule.specs.Rule.{Rule}
 use Rattle.heap_rule.specs.Views.{one}
@@ -41,21 +41,11 @@ use Rattle.steps_cycle.proofs.Colouring.{words_same}
 use Rattle.steps_beside.specs.Marking.{OfRegister, OfScan, ReadMay, ReadTold, Reads, Source, learning, read_as}
 use Rattle.steps_beside.proofs.Besides.{all_known, learns_one, under}
 
--- two shapes of one word have as many fields
-pub fields_same : (a b : Shape) → IsBuilt a → IsBuilt b → head_of None a 0 false ≡ head_of None b 0 false → fields_in a ≡ fields_in b
-fields_same (PlainShape n t) (PlainShape m w) u v same = cc
-fields_same (PlainShape n t) (RawShape m w) u v same = absurd v
-fields_same (PlainShape n t) (EpheShape m) u v same = absurd cc
-fields_same (RawShape n t) b u v same = absurd u
-fields_same (EpheShape n) (PlainShape m w) u v same = absurd cc
-fields_same (EpheShape n) (RawShape m w) u v same = absurd v
-fields_same (EpheShape n) (EpheShape m) u v same = refl
-
 -- the node of a block with fields
-pub plain_of : (u : Node) (shape : Shape) → shape_of u ≡ shape → IsBuilt shape → (i : ℕ) → i < fields_in shape → (tag : ℕ) × (fields : List Value) × (u ≡ Plain tag fields) × (length fields ≡ fields_in shape)
-plain_of (Plain tag fields) shape is built i inside = (tag, fields, refl, ap fields_in is)
-plain_of (Raw tag fields) shape is built i inside = absurd (subst IsBuilt (sym is) built)
-plain_of (Ephe keys datum) shape is built i inside = absurd (let n : ℕ = fields_in shape in let z : 0 ≡ n = ap fields_in is in let h : i < n = inside in omega arith)
+pub plain_of : (u : Node) (shape : Shape) → shape_of u ≡ shape → (i : ℕ) → i < fields_in shape → (tag : ℕ) × (fields : List Value) × (u ≡ Plain tag fields) × (length fields ≡ fields_in shape)
+plain_of (Plain tag fields) shape is i inside = (tag, fields, refl, ap fields_in is)
+plain_of (Raw tag fields) shape is i inside = absurd (let n : ℕ = fields_in shape in let z : 0 ≡ n = ap fields_in is in let h : i < n = inside in omega arith)
+plain_of (Ephe keys datum) shape is i inside = absurd (let n : ℕ = fields_in shape in let z : 0 ≡ n = ap fields_in is in let h : i < n = inside in omega arith)
 
 -- a field that refers to a block is one of those that a scan follows
 pub field_inside : (u : Node) (i : ℕ) (l : Label) → field_in (Some u) i ≡ Some (Block l) → i < fields_in (shape_of u)
@@ -63,19 +53,22 @@ field_inside (Plain tag fields) i l e = slice_get_within fields i (Block l) e
 field_inside (Raw tag fields) i l e = absurd (none-some (Block l) e)
 field_inside (Ephe keys datum) i l e = absurd (none-some (Block l) e)
 
+-- and a block that needs no scan has none
+pub no_field : (u : Node) → needs_no_scan (shape_of u) ≡ true → (i : ℕ) (l : Label) → field_in (Some u) i ≡ Some (Block l) → ⊥
+no_field (Plain tag fields) e i l is = cc
+no_field (Raw tag fields) e i l is = none-some (Block l) is
+no_field (Ephe keys datum) e i l is = cc
+
 module _ (k : Config) (s : Words) (r : Rule k s) (id : ℕ) (hist : List Entry) (x : DomainView) (at : get_elem? s.views id ≡ some (one k hist x)) where
   abbrev live : Live
   live = r.account.live
 
-  -- a field of a plain block, and the word there
+  -- a field of a block, and the word there: what a scan follows in it is its value
   pub record Reading (block field : ℕ) : Type 0 where
     pub place : Place
     pub lives : live block ≡ Some place
-    pub tag : ℕ
-    pub fields : List Value
-    pub node : node_at (now k s r id hist x at).graph place.label ≡ Some (Plain tag fields)
     pub value : Value
-    pub there : slice_get fields field ≡ Some value
+    pub there : (l : Label) → field_at (now k s r id hist x at).graph place.label field ≡ Some (Block l) → value ≡ Block l
     pub stands : WordStands live (at_address k s.words (block + 2 + field)) value
 
   module _ (a block field : ℕ) (source : Source) (may : ReadMay k x a block field source) where
@@ -87,11 +80,11 @@ module _ (k : Config) (s : Words) (r : Rule k s) (id : ℕ) (hist : List Entry) 
           record {
             place = f.place;
             lives = ap live (sym same) ∙ f.lives;
-            tag = f.tag;
-            fields = f.fields;
-            node = f.node;
             value = f.value;
-            there = f.there;
+            there = λ l e. ⊎_elim
+                (λ (is : node_at (now k s r id hist x at).graph f.place.label ≡ Some (Plain f.tag f.fields)). same_Some f.value (Block l) (sym f.there ∙ (sym (ap (λ (o : Option Node). field_in o field) is) ∙ e)))
+                (λ (is : node_at (now k s r id hist x at).graph f.place.label ≡ Some (Raw f.tag f.fields)). absurd (none-some (Block l) (sym (ap (λ (o : Option Node). field_in o field) is) ∙ e)))
+                f.node;
             stands = subst (λ (n : ℕ). WordStands live (at_address k s.words (n + 2 + field)) f.value) same f.stands;
           },
           w.0.field ∙ ap (λ (n : ℕ). n + 2 + field) w.1,
@@ -99,19 +92,15 @@ module _ (k : Config) (s : Words) (r : Rule k s) (id : ℕ) (hist : List Entry) 
     reading (OfScan head) w =
         let h = known_among k live r.account.tenancy.holder r.account.cycling.past.old r.account.cycling.paint.marks.marked s.words x.seen.share.known (Shaped block head) (all_known k s r id hist x at may.beside.runs may.beside.armed) w.1 in
         let found = r.whole.found block h.place h.lives in
-        let built = (r.whole.placed.fits block h.place h.lives).built in
-        let same : fields_in h.place.shape ≡ fields_in w.2.shape = fields_same h.place.shape w.2.shape built w.2.built ((words_same h.place.shape w.2.shape head h.head w.2.is).again 0 false) in
+        let same : fields_in h.place.shape ≡ fields_in w.2.shape = ap fields_in (words_same h.place.shape w.2.shape head h.head w.2.is).shape in
         let inside : field < fields_in h.place.shape = subst (λ (n : ℕ). field < n) (sym same) w.2.inside in
-        let p = plain_of found.node h.place.shape found.shape built field inside in
+        let p = plain_of found.node h.place.shape found.shape field inside in
         let v = got_there p.1 field (let n : ℕ = length p.1 in let m : ℕ = fields_in h.place.shape in let e : n ≡ m = p.3 in let g : field < m = inside in omega arith) in (
           record {
             place = h.place;
             lives = h.lives;
-            tag = p.0;
-            fields = p.1;
-            node = found.there ∙ ap Some p.2;
             value = v.0;
-            there = v.1;
+            there = λ l e. same_Some v.0 (Block l) (sym v.1 ∙ (sym (ap (λ (o : Option Node). field_in o field) (found.there ∙ ap Some p.2)) ∙ e));
             stands = found_value k r.account.cycling.paint live (now k s r id hist x at).graph s.words block h.place found (whole_here k s r id hist x at Run tt may.beside.runs h.place.label) field v.0
                 (subst (λ (o : Option Debt). HasValue o field) (sym (run_settled k s r id hist x at may.beside.runs block h.place h.lives).no_debt) tt) (ap (λ (n : Node). slice_get (values_of n) field) p.2 ∙ v.1);
           },
@@ -124,7 +113,7 @@ module _ (k : Config) (s : Words) (r : Rule k s) (id : ℕ) (hist : List Entry) 
     -- what the field referred to when the roots had been darkened is marked, or it refers to that still
     was : (l : Label) → field_at r.account.cycling.past.old f.place.label field ≡ Some (Block l) → IsTrue (r.account.cycling.paint.marks.marked l) ⊎ (f.value ≡ Block l)
     was l e = ⊎_elim (λ (is : IsTrue (r.account.cycling.paint.marks.marked l)). inl is)
-        (λ (h : field_at (now k s r id hist x at).graph f.place.label field ≡ Some (Block l)). inr (let g : Some f.value ≡ Some (Block l) = sym f.there ∙ (sym (ap (λ (o : Option Node). field_in o field) f.node) ∙ h) in same_Some f.value (Block l) g))
+        (λ (h : field_at (now k s r id hist x at).graph f.place.label field ≡ Some (Block l)). inr (f.there l h))
         (beside_law.reads r.account.cycling.past r.account.cycling.paint.marks (now k s r id hist x at) (under k s r id hist x at may.beside.runs may.beside.armed).covered f.place.label l field e)
 
     abbrev Holds : Known → Type 0

@@ -13,7 +13,7 @@ use Rattle.heap_rule.specs.declared.view.DomainView.{DomainView}
 use Rattle.heap_rule.specs.declared.view.Known.{Known}
 use Rattle.heap_rule.specs.declared.view.Known.TheVariants.{Pool, Marked, Found, Shape as Shaped, Refers, Done, Darkened, Scanned, Vain}
 use Rattle.heap_rule.specs.Beside.{IsKnown, IsPaid}
-use Rattle.heap_rule.specs.Places.{HeadIs, IsBuilt, IsHeadOf, IsOldAt}
+use Rattle.heap_rule.specs.Places.{HeadIs, IsHeadOf, IsOldAt, needs_no_scan}
 use Rattle.heap_rule.specs.Pools.{blocks_of, owned, owner_word, place_in}
 use Rattle.heap_rule.specs.Standing.{FieldMay, IsAt}
 use Rattle.heap_rule.specs.Token.{IsAddress}
@@ -75,7 +75,6 @@ pub data Source : Type 0 where
 pub record ShapeOf (head field : ℕ) : Type 0 where
   pub shape : Shape
   pub is : IsHeadOf shape head
-  pub built : IsBuilt shape
   pub inside : field < fields_in shape
 
 abbrev pub Reads : Config → DomainView → ℕ → ℕ → ℕ → Source → Type 0
@@ -100,19 +99,22 @@ pub record ReadTold (k : Config) (block field : ℕ) (x : DomainView) (found : �
   pub inside : (a : ℕ) → value ≡ Ref a → IsAddress k a
   pub view : y ≡ learning x (read_as k block field value)
 
--- why a block is darkened: a field may have referred to it, or a weak read has brought it into a register
+-- why a block is darkened: a field may have referred to it, a weak read has brought it into a register, or a register holds what a compare-and-set expects in a field
 pub data Reason : Type 0 where
   Field : ℕ → ℕ → Reason
   Weak : ℕ → Reason
+  Expected : ℕ → Reason
 
 abbrev pub Warrants : DomainView → ℕ → Reason → Type 0
 Warrants x at (Field block field) = IsKnown x.seen.share.known (Refers block field at)
 Warrants x at (Weak register) = IsAt x register at × (x.seen.share.weak ≡ Some register)
+Warrants x at (Expected register) = IsAt x register at
 
 -- what the domain owes once the block is marked
 abbrev pub weak_on : Reason → Option ℕ → Option ℕ
 weak_on (Field block field) weak = weak
 weak_on (Weak register) weak = None
+weak_on (Expected register) weak = weak
 
 -- the block is marked
 abbrev pub marked_at : DomainView → ℕ → Reason → DomainView
@@ -133,13 +135,13 @@ pub record TargetTold (at : ℕ) (reason : Reason) (x : DomainView) (found : ℕ
   pub known : x.seen.share.colours ≡ Some colours
   pub told : (IsUnmarked colours found × (y ≡ learning x (Found at found))) ⊎ (IsMarked colours found × (y ≡ marked_at x at reason))
 
--- the head of the unmarked block that was found is exchanged for one that is marked and unscanned
+-- the head of the unmarked block that was found is exchanged for one that is marked, and scanned where the block needs no scan
 pub record DarkenMay (k : Config) (x : DomainView) (at old new : ℕ) (reason : Reason) : Type 0 where
   pub knows : KnowsColours x
   pub low : IsOldAt k at
   pub found : IsKnown x.seen.share.known (Found at old)
   pub unmarked : IsUnmarked knows.colours old
-  pub marks : HeadIs None unmarked.shape knows.colours.marked false new
+  pub marks : HeadIs None unmarked.shape knows.colours.marked (needs_no_scan unmarked.shape) new
   pub reason_is : Warrants x at reason
 
 -- where the head was the one that was found the block is darkened, and else somebody else has darkened it
@@ -155,7 +157,6 @@ pub record ScannedMay (k : Config) (x : DomainView) (at new : ℕ) : Type 0 wher
   pub shaped : IsKnown x.seen.share.known (Shaped at head)
   pub shape : Shape
   pub is : IsHeadOf shape head
-  pub built : IsBuilt shape
   pub fields : (i : ℕ) → i < fields_in shape → IsPaid x.seen.share.known at i
   pub marks : HeadIs None shape knows.colours.marked true new
 

@@ -1,33 +1,36 @@
 -- Heads that differ in colour and scanned mark alone.
-use Rattle.std.proofs.Common.{◌≡◌, ℕ, ◌<◌, IsTrue, Bool, true, false, cond, None, refl, sym, ap, ◌∙◌}
-use Rattle.heap_model.specs.Fronts.{Shape, PlainShape, RawShape, EpheShape}
+use Rattle.std.proofs.Common.{◌≡◌, ℕ, ◌<◌, arith, [], Some, IsTrue, Bool, true, false, cond, None, refl, sym, ap, ◌∙◌}
+use Rattle.heap_model.specs.Fronts.{Shape, PlainShape, RawShape, EpheShape, shape_of}
+use Rattle.heap_model.specs.declared.graph.Node.{Node}
+use Rattle.heap_model.specs.declared.graph.Node.TheVariants.{Plain, Raw, Ephe}
+use Rattle.cycle_laws.specs.Marks.{fields_of}
 use Rattle.heap_words.specs.declared.colours.Colours.{Colours}
 use Rattle.heap_words.specs.ColourWords.{IsPermutation}
 use Rattle.heap_words.specs.Heads.{head_word}
 use Rattle.heap_words.proofs.WordLemmas.{head_word-injective}
-use Rattle.heap_rule.specs.Places.{Place, Paint, IsBare, IsHead, IsHeadOf, colour_in, head_of, IsPackableShape}
+use Rattle.heap_rule.specs.Places.{Place, Paint, IsBare, IsHead, IsHeadOf, colour_in, head_of, needs_no_scan, IsPackableShape}
 use Rattle.heap_rule.proofs.HeadLemmas.{packable_head}
 
--- equal heads are of one colour, and equal in every other one
+-- equal heads are of one colour, and of one shape
 pub record Recolourable (a b : Shape) (c e : ℕ) (u v : Bool) : Type 0 where
   pub colour : c ≡ e
   pub scanned : u ≡ v
-  pub again : (colour' : ℕ) (scanned' : Bool) → head_of None a colour' scanned' ≡ head_of None b colour' scanned'
+  pub shape : a ≡ b
 
-heads_same : (a b : Shape) (c e : ℕ) (u v : Bool) → head_of None a c u ≡ head_of None b e v → Recolourable a b c e u v
-heads_same (PlainShape n t) (PlainShape m w) c e u v same = record { colour = cc; scanned = cc; again = λ colour' scanned'. cc }
-heads_same (PlainShape n t) (RawShape m w) c e u v same = record { colour = cc; scanned = cc; again = λ colour' scanned'. cc }
-heads_same (PlainShape n t) (EpheShape m) c e u v same = absurd cc
-heads_same (RawShape n t) (PlainShape m w) c e u v same = record { colour = cc; scanned = cc; again = λ colour' scanned'. cc }
-heads_same (RawShape n t) (RawShape m w) c e u v same = record { colour = cc; scanned = cc; again = λ colour' scanned'. cc }
-heads_same (RawShape n t) (EpheShape m) c e u v same = absurd cc
-heads_same (EpheShape n) (PlainShape m w) c e u v same = absurd cc
-heads_same (EpheShape n) (RawShape m w) c e u v same = absurd cc
-heads_same (EpheShape n) (EpheShape m) c e u v same = record { colour = cc; scanned = cc; again = λ colour' scanned'. cc }
+heads_same : (a b : Shape) (c e : ℕ) (u v : Bool) → IsPackableShape a → IsPackableShape b → head_of None a c u ≡ head_of None b e v → Recolourable a b c e u v
+heads_same (PlainShape n t) (PlainShape m w) c e u v p q same = record { colour = cc; scanned = cc; shape = cc }
+heads_same (PlainShape n t) (RawShape m w) c e u v p q same = let tags : t ≡ w = cc in absurd (let h = p.2 in let g = q.2 in omega arith)
+heads_same (PlainShape n t) (EpheShape m) c e u v p q same = absurd cc
+heads_same (RawShape n t) (PlainShape m w) c e u v p q same = let tags : t ≡ w = cc in absurd (let h = p.2 in let g = q.2 in omega arith)
+heads_same (RawShape n t) (RawShape m w) c e u v p q same = record { colour = cc; scanned = cc; shape = cc }
+heads_same (RawShape n t) (EpheShape m) c e u v p q same = absurd cc
+heads_same (EpheShape n) (PlainShape m w) c e u v p q same = absurd cc
+heads_same (EpheShape n) (RawShape m w) c e u v p q same = absurd cc
+heads_same (EpheShape n) (EpheShape m) c e u v p q same = record { colour = cc; scanned = cc; shape = cc }
 
 -- two shapes of one word
 pub words_same : (a b : Shape) (word : ℕ) (x : IsHeadOf a word) (y : IsHeadOf b word) → Recolourable a b x.colour y.colour x.scanned y.scanned
-words_same a b word x y = heads_same a b x.colour y.colour x.scanned y.scanned (head_word-injective (head_of None a x.colour x.scanned) (head_of None b y.colour y.scanned) x.packable y.packable (sym x.packs ∙ y.packs))
+words_same a b word x y = heads_same a b x.colour y.colour x.scanned y.scanned x.fits y.fits (head_word-injective (head_of None a x.colour x.scanned) (head_of None b y.colour y.scanned) x.packable y.packable (sym x.packs ∙ y.packs))
 
 colour_fits : (c : Colours) (b : Bool) → IsPermutation c → cond b c.marked c.unmarked < 3
 colour_fits c true p = p.marked_fits
@@ -49,12 +52,19 @@ bare_head paint p word bare meanings packs h = record {
   head = record {
     colour = colour_in paint p.label;
     scanned = h.scanned;
+    fits = packs;
     packable = packable_head p.shape (colour_in paint p.label) h.scanned (colour_fits paint.colours (paint.marks.marked p.label) meanings) packs;
     packs = h.packs ∙ ap (λ o. head_word (head_of o p.shape (colour_in paint p.label) h.scanned)) bare.no_forward;
   };
   colour = refl;
   tells = h.tells;
 }
+
+-- a block that needs no scan has no fields to follow
+pub no_fields : (u : Node) → needs_no_scan (shape_of u) ≡ true → fields_of (Some u) ≡ []
+no_fields (Plain tag fields) e = cc
+no_fields (Raw tag fields) e = refl
+no_fields (Ephe keys datum) e = cc
 
 -- its colour tells whether it is marked
 coloured : (paint : Paint) (p : Place) (b : Bool) → paint.marks.marked p.label ≡ b → colour_in paint p.label ≡ cond b paint.colours.marked paint.colours.unmarked

@@ -1,5 +1,5 @@
 -- A block is darkened.
-use Rattle.std.proofs.Common.{◌≡◌, ◌≢◌, ℕ, ◌+◌, ◌==◌, ◌&&◌, ◌||◌, not, Bool, true, false, cond, IsTrue, eq-eqb, ne_eqb, List, get_or, set, Option, None, sym, refl, ap, ◌∙◌, subst, ⊎_elim}
+use Rattle.std.proofs.Common.{[], Some, ◌≡◌, ◌≢◌, ℕ, ◌+◌, ◌==◌, ◌&&◌, ◌||◌, not, Bool, true, false, cond, IsTrue, eq-eqb, ne_eqb, List, get_or, set, Option, None, sym, refl, ap, ◌∙◌, subst, ⊎_elim}
 use mathlib.Core.Logic.{dite}
 use native.Mathlib.Decide.{ℕ_discrete}
 use mathlib.Core.Option.{some}
@@ -8,8 +8,10 @@ use prog.Atomic.{either}
 use Rattle.atomic_table.specs.Table.{keeps}
 use Rattle.heap_model.specs.declared.entry.Entry.{Entry}
 use Rattle.heap_model.specs.declared.state.State as model
-use Rattle.heap_model.specs.Graph.{same_label}
-use Rattle.heap_model.specs.Reach.{IsClosedGraph}
+use Rattle.heap_model.specs.declared.label.Label.{Label}
+use Rattle.heap_model.specs.Fronts.{Shape}
+use Rattle.heap_model.specs.Graph.{same_label, node_at}
+use Rattle.heap_model.specs.Reach.{HoldsRoots, IsClosedGraph}
 use Rattle.heap_model.specs.Domains.{queues, roots, opening}
 use Rattle.heap_model.specs.WellFormed.{IsWellFormed}
 use Rattle.heap_model.proofs.Graphs.GraphLemmas.{same_label_refl, same_label-false}
@@ -17,10 +19,11 @@ use Rattle.heap_model.proofs.Histories.WellFormedLemmas.{wf_after, wf_opening, c
 use Rattle.heap_words.specs.declared.colours.Colours.{Colours}
 use Rattle.heap_words.specs.Heads.{head_word}
 use Rattle.cycle_laws.specs.Cycle as laws
-use Rattle.cycle_laws.specs.Marks.{Marks, darkened}
-use Rattle.cycle_laws.specs.Shares.{at_domain}
+use Rattle.cycle_laws.specs.Cycle.{InPhase, with_marks, with_shares}
+use Rattle.cycle_laws.specs.Marks.{FieldsMarked, Marks, darkened, darkened_as, fields_of}
+use Rattle.cycle_laws.specs.Shares.{at_domain, owing}
 use Rattle.cycle_laws.specs.CycleLaws.{Darkens}
-use Rattle.cycle_laws.proofs.Tracing.{darkened_more}
+use Rattle.cycle_laws.proofs.Tracing.{darkened_more, darkens_as, scanned_else, scanned_here}
 use Rattle.cycle_laws.proofs.Cycling.{darkening_steps}
 use Rattle.heap_rule.specs.declared.config.Config.{Config}
 use Rattle.heap_rule.specs.declared.phase.Kind.{Kind}
@@ -29,7 +32,7 @@ use Rattle.heap_rule.specs.declared.view.DomainView.{DomainView}
 use Rattle.heap_rule.specs.declared.view.Share.{Share}
 use Rattle.heap_rule.specs.Limits.{sizes_in}
 use Rattle.heap_rule.specs.Layout.{before_heap, at_address}
-use Rattle.heap_rule.specs.Places.{IsHeadOf, IsOldAt, Place, colour_in, head_of}
+use Rattle.heap_rule.specs.Places.{IsHeadOf, IsOldAt, Place, colour_in, head_of, needs_no_scan}
 use Rattle.heap_rule.specs.Cycles.{Cycling, Facts, HasNoCycle, IsCollecting, cycle_of}
 use Rattle.heap_rule.specs.Raw.{MayStep}
 use Rattle.heap_rule.specs.Rule.{Rule, state_of}
@@ -37,7 +40,7 @@ use Rattle.heap_rule.specs.Views.{one}
 use Rattle.heap_rule.proofs.Keeps.{Words, mine, my_good, unmoved}
 use Rattle.steps_cycle.specs.Looks.{with_share}
 use Rattle.steps_cycle.specs.Marking.{DarkenMay, DarkenTold, IsDarkening, darkening, Reason, Register, Field, OfDatum, OfQueue, Warrants, moved_on, owes_on, waiting_on}
-use Rattle.steps_cycle.proofs.Colouring.{BareHead, Recolourable, bare_head, unmarked_by, words_same}
+use Rattle.steps_cycle.proofs.Colouring.{BareHead, Recolourable, bare_head, no_fields, unmarked_by, words_same}
 use Rattle.steps_cycle.proofs.TargetSteps.{goes_on}
 use Rattle.steps_cycle.proofs.Layouts.{label_there, owner_of_place}
 use Rattle.steps_cycle.proofs.Learning.{at_other, at_same, bare, held, kind_here, known, lies_old}
@@ -162,8 +165,19 @@ module _ (k : Config) (s : Words) (r : Rule k s) (id : ℕ) (hist : List Entry) 
           },
         )
 
+    -- a raw block is scanned at once
+    abbrev done : Bool
+    done = needs_no_scan p.shape
+
     abbrev m' : Marks
-    m' = darkened m p.label
+    m' = darkened_as done m p.label
+
+    no_field : done ≡ true → fields_of (node_at now.graph p.label) ≡ []
+    no_field e = let f = r.whole.found a p aim.lives in ap fields_of f.there ∙ no_fields f.node (ap needs_no_scan f.shape ∙ e)
+
+    nothing_unmarked : done ≡ true → FieldsMarked now.graph (darkened m p.label).marked p.label
+    nothing_unmarked e = subst (λ (ls : List Label). HoldsRoots ls (darkened m p.label).marked) (sym (no_field e)) (λ l h. cc)
+
 
     abbrev c' : Kind → Cycling
     c' kind = record c { paint = record c.paint { marks = m' }; shares = record c.shares { owes = owing_on kind c.shares.owes d } }
@@ -175,11 +189,19 @@ module _ (k : Config) (s : Words) (r : Rule k s) (id : ℕ) (hist : List Entry) 
     dark_facts Run n f = absurd n
     dark_facts Promote n f = absurd n
     dark_facts Reset n f = absurd n
-    dark_facts Roots n f = (darkening_steps.roots_darkens laws.First k.domains now cyc f.0 d darkens.0 a p.label darkens.1, record { unchanged = f.1.unchanged; unrotated = f.1.unrotated })
-    dark_facts Mark n f = (darkening_steps.mark_darkens_other c.pass k.domains now cyc f.0 d darkens.0 a p.label darkens.1, f.1)
-    dark_facts Rounds n f = (darkening_steps.rounds_darkens c.pass k.domains now cyc f.0 d darkens.0 a p.label darkens.1, f.1)
+    dark_facts Roots n f =
+        let after = darkening_steps.roots_darkens laws.First k.domains now cyc f.0 d darkens.0 a p.label darkens.1 in
+        (darkens_as (λ z. InPhase (laws.Roots laws.First) k.domains now (with_marks cyc z)) m p.label done (λ e. darkening_steps.roots_scans laws.First k.domains now _ after p.label (nothing_unmarked e)) after, record { unchanged = f.1.unchanged; unrotated = f.1.unrotated })
+    dark_facts Mark n f =
+        let after = darkening_steps.mark_darkens_other c.pass k.domains now cyc f.0 d darkens.0 a p.label darkens.1 in
+        (darkens_as (λ z. InPhase (laws.Mark c.pass) k.domains now (with_shares (with_marks cyc z) (owing cyc.shares d))) m p.label done (λ e. darkening_steps.mark_scans c.pass k.domains now _ after p.label (nothing_unmarked e)) after, f.1)
+    dark_facts Rounds n f =
+        let after = darkening_steps.rounds_darkens c.pass k.domains now cyc f.0 d darkens.0 a p.label darkens.1 in
+        (darkens_as (λ z. InPhase (laws.Rounds c.pass) k.domains now (with_shares (with_marks cyc z) (owing cyc.shares d))) m p.label done (λ e. darkening_steps.rounds_scans c.pass k.domains now _ after p.label (nothing_unmarked e)) after, f.1)
     dark_facts Decide n f = absurd n
-    dark_facts Queued n f = (darkening_steps.roots_darkens laws.Second k.domains now cyc f.0 d darkens.0 a p.label darkens.1, record { unchanged = f.1.unchanged; unrotated = f.1.unrotated })
+    dark_facts Queued n f =
+        let after = darkening_steps.roots_darkens laws.Second k.domains now cyc f.0 d darkens.0 a p.label darkens.1 in
+        (darkens_as (λ z. InPhase (laws.Roots laws.Second) k.domains now (with_marks cyc z)) m p.label done (λ e. darkening_steps.roots_scans laws.Second k.domains now _ after p.label (nothing_unmarked e)) after, record { unchanged = f.1.unchanged; unrotated = f.1.unrotated })
     dark_facts Clean n f = absurd n
     dark_facts Lasts n f = absurd n
     dark_facts Sweep n f = absurd n
@@ -215,13 +237,13 @@ module _ (k : Config) (s : Words) (r : Rule k s) (id : ℕ) (hist : List Entry) 
     recoloured = let cs : Colours = c.paint.colours in record {
       lives = aim.lives;
       here = record {
-        scanned = false;
-        packs = may.marks ∙ (ap (λ (z : Colours). head_word (head_of None may.unmarked.shape z.marked false)) means ∙ (ap head_word (sym (same.again cs.marked false))
-            ∙ (sym (ap (λ (b : Bool). head_word (head_of None p.shape (cond b cs.marked cs.unmarked) false)) is_dark)
-            ∙ sym (ap (λ (o : Option ℕ). head_word (head_of o p.shape (colour_in (record c.paint { marks = m' }) p.label) false)) (bare k s r id hist x at collecting a p aim.lives).no_forward))));
-        tells = λ _ up. cc;
+        scanned = done;
+        packs = may.marks ∙ (ap (λ (z : Colours). head_word (head_of None may.unmarked.shape z.marked (needs_no_scan may.unmarked.shape))) means ∙ (ap (λ (z : Shape). head_word (head_of None z cs.marked (needs_no_scan z))) (sym same.shape)
+            ∙ (sym (ap (λ (b : Bool). head_word (head_of None p.shape (cond b cs.marked cs.unmarked) done)) is_dark)
+            ∙ sym (ap (λ (o : Option ℕ). head_word (head_of o p.shape (colour_in (record c.paint { marks = m' }) p.label) done)) (bare k s r id hist x at collecting a p aim.lives).no_forward))));
+        tells = λ _ up. scanned_here done m p.label up;
       };
-      elsewhere = λ l differ. let e : same_label p.label l ≡ false = same_label-false p.label l differ in (ap (λ (b : Bool). b || m.marked l) e, ap (λ (b : Bool). not b && m.scanned l) e);
+      elsewhere = λ l differ. let e : same_label p.label l ≡ false = same_label-false p.label l differ in (ap (λ (b : Bool). b || m.marked l) e, scanned_else done m p.label l differ);
       marked = is_dark;
       more = darkened_more m p.label;
       still = not_clean;

@@ -10,6 +10,7 @@ use Rattle.heap_model.specs.declared.graph.Value.TheVariants.{Int, Block, Nothin
 use Rattle.heap_model.specs.declared.graph.Node.{Node}
 use Rattle.heap_model.specs.declared.graph.Node.TheVariants.{Plain}
 use Rattle.heap_model.specs.declared.state.State as model
+use Rattle.heap_model.specs.Fronts.{Shape}
 use Rattle.heap_model.specs.Graph.{Graph, node_at}
 use Rattle.heap_model.specs.Reach.{HoldsRoots}
 use Rattle.heap_model.proofs.Graphs.GraphLemmas.{same_label_refl, same_label-false}
@@ -234,7 +235,7 @@ module _ (k : Config) (s : Words) (r : Rule k s) (id : ℕ) (hist : List Entry) 
           lives = g.lives;
           here = record {
             scanned = true;
-            packs = may.marks ∙ (ap (λ (z : Colours). head_word (head_of None may.shape z.marked true)) means ∙ (ap head_word (sym (same.again cs.marked true))
+            packs = may.marks ∙ (ap (λ (z : Colours). head_word (head_of None may.shape z.marked true)) means ∙ (ap (λ (z : Shape). head_word (head_of None z cs.marked true)) (sym same.shape)
                 ∙ (sym (ap (λ (b : Bool). head_word (head_of None p.shape (cond b cs.marked cs.unmarked) true)) is)
                 ∙ sym (ap (λ (o : Option ℕ). head_word (head_of o p.shape (colour_in (record c.paint { marks = m' }) p.label) true)) (bare k s r id hist x at (in_mark may.stage) a p g.lives).no_forward))));
             tells = λ _ _. is_scanned;

@@ -27,7 +27,7 @@ use Rattle.heap_rule.specs.declared.view.DomainView.{DomainView}
 use Rattle.heap_rule.specs.declared.view.Share.{Share}
 use Rattle.heap_rule.specs.declared.view.OwnPool.{OwnPool}
 use Rattle.heap_rule.specs.Layout.{before_heap, at_address, owner_of}
-use Rattle.heap_rule.specs.Places.{IsBuilt, Live, Place}
+use Rattle.heap_rule.specs.Places.{Live, Place, needs_no_scan}
 use Rattle.heap_rule.specs.Pools.{Holder, IsBefore, IsPlace, blocks_of, owned, owner_word, place_in}
 use Rattle.heap_rule.specs.Cycles.{Cycling, Facts, IsCollecting, Knowing, Scanned, cycle_of, seen_by}
 use Rattle.heap_rule.specs.Raw.{MayStep}
@@ -38,7 +38,7 @@ use Rattle.heap_rule.proofs.Keeps.{Words, my_good, unmoved}
 use Rattle.heap_rule.proofs.OwnPlaces.{owned_same}
 use Rattle.steps_cycle.specs.Looks.{with_share}
 use Rattle.steps_cycle.specs.Marking.{GreyMay, GreyTold, IsGrey, IsScanned, IsUnmarked, IsNext, MarkMay, MarkTold, OwnMay, OwnTold, begun, behind, fields_in}
-use Rattle.steps_cycle.proofs.Colouring.{BareHead, bare_head, marked_colour, unmarked_colour}
+use Rattle.steps_cycle.proofs.Colouring.{BareHead, bare_head, marked_colour, no_fields, unmarked_colour}
 use Rattle.steps_cycle.proofs.Layouts.{labelled, owner_of_place, whose}
 use Rattle.steps_cycle.proofs.Learning.{at_other, at_same, bare, held, kind_here, knows_more, known, looks_same, looks_still, not_promoting, shifts_more}
 use Rattle.steps_cycle.proofs.Unswept.{none_unswept}
@@ -159,15 +159,15 @@ module _ (k : Config) (s : Words) (r : Rule k s) (id : ℕ) (hist : List Entry) 
     pub marked_cases : m.marked p.label ≡ true → (IsScanned colours head × (m.scanned p.label ≡ true)) ⊎ ((grey : IsGrey colours head) × (grey.block.shape ≡ p.shape))
     marked_cases is = ⊎_elim
         (λ (done : there.head.scanned ≡ true). inl (record { block = record { shape = p.shape; head = there.head; colour = marked_colour c.paint p head colours means there is }; scanned = done }, there.tells is done))
-        (λ (left : there.head.scanned ≡ false). inr (record { block = record { shape = p.shape; head = there.head; colour = marked_colour c.paint p head colours means there is }; built = (r.whole.placed.fits a p lives).built; unscanned = left }, refl))
+        (λ (left : there.head.scanned ≡ false). inr (record { block = record { shape = p.shape; head = there.head; colour = marked_colour c.paint p head colours means there is }; unscanned = left }, refl))
         (cases_Bool there.head.scanned)
 
     pub unmarked_case : m.marked p.label ≡ false → IsUnmarked colours head
     unmarked_case e = record { shape = p.shape; head = there.head; colour = unmarked_colour c.paint p head colours means there e }
 
     -- the scan of a grey block begins
-    begins : IsTrue (m.marked p.label) → (shape : Shape) → p.shape ≡ shape → IsBuilt shape → Scanned live now.graph m a 0 (fields_in shape) head
-    begins marked (PlainShape size tag) is built =
+    begins : IsTrue (m.marked p.label) → (shape : Shape) → p.shape ≡ shape → Scanned live now.graph m a 0 (fields_in shape) head
+    begins marked (PlainShape size tag) is =
         let f = r.whole.found a p lives in
         let n = plain_node f.node size tag (f.shape ∙ is) in
         record { place = p; lives = lives; marked = marked; tag = tag; fields = n.0; head_is = there.head; node = inl (f.there ∙ ap Some n.1); size_is = n.2; through = fields_start m.marked n.0 }
@@ -176,8 +176,10 @@ module _ (k : Config) (s : Words) (r : Rule k s) (id : ℕ) (hist : List Entry) 
         plain_node (Plain t fields) size tag e = let same : t ≡ tag = cc in let many : length fields ≡ size = cc in (fields, ap (λ (z : ℕ). Plain z fields) same, many)
         plain_node (Raw t fields) size tag e = cc
         plain_node (Ephe keys datum) size tag e = cc
-    begins marked (RawShape size tag) is built = absurd built
-    begins marked (EpheShape keys) is built =
+    begins marked (RawShape size tag) is =
+        let f = r.whole.found a p lives in
+        record { place = p; lives = lives; marked = marked; tag = 0; fields = []; head_is = there.head; node = inr (refl, ap fields_of f.there ∙ no_fields f.node (ap needs_no_scan (f.shape ∙ is))); size_is = refl; through = fields_start m.marked [] }
+    begins marked (EpheShape keys) is =
         let f = r.whole.found a p lives in
         record { place = p; lives = lives; marked = marked; tag = 0; fields = []; head_is = there.head; node = inr (refl, ap fields_of f.there ∙ ephe_fields f.node keys (f.shape ∙ is)); size_is = refl; through = fields_start m.marked [] }
       where
@@ -189,7 +191,7 @@ module _ (k : Config) (s : Words) (r : Rule k s) (id : ℕ) (hist : List Entry) 
     pub begins_rule : IsTrue (m.marked p.label) → After (with_share x (begun a p.shape head sh))
     begins_rule marked = knows_more k s r id hist x at collecting (held (begun a p.shape head sh)) refl refl record {
       found_head = kn.found_head;
-      scan = begins marked p.shape refl (r.whole.placed.fits a p lives).built;
+      scan = begins marked p.shape refl;
       walked = kn.walked;
       own_pool = kn.own_pool;
       rooted = kn.rooted;

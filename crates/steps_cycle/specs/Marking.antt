@@ -18,7 +18,7 @@ use Rattle.heap_rule.specs.declared.view.Share.{Share}
 use Rattle.heap_rule.specs.declared.view.Spot.{Spot}
 use Rattle.heap_rule.specs.Cycles.{IsCollecting, seen_by}
 use Rattle.heap_rule.specs.Finalisers.{held_at}
-use Rattle.heap_rule.specs.Places.{HeadIs, IsBuilt, IsHeadOf, IsOldAt}
+use Rattle.heap_rule.specs.Places.{HeadIs, IsHeadOf, needs_no_scan, IsOldAt}
 use Rattle.heap_rule.specs.Pools.{blocks_of, owned, owner_word, place_in}
 use Rattle.heap_rule.specs.Standing.{IsAt}
 use Rattle.heap_rule.specs.Token.{IsAddress}
@@ -56,7 +56,6 @@ pub record IsScanned (colours : Colours) (word : ℕ) : Type 0 where
 -- and of one that is grey: it is marked and not scanned
 pub record IsGrey (colours : Colours) (word : ℕ) : Type 0 where
   pub block : IsMarked colours word
-  pub built : IsBuilt block.shape
   pub unscanned : block.head.scanned ≡ false
 
 -- why a block is marked: a register refers to it, or the next field of the block that is scanned, or the datum of a marked ephemeron whose full keys are marked, or a place of the queue
@@ -125,7 +124,7 @@ pub record TargetTold (at : ℕ) (reason : Reason) (x : DomainView) (found : ℕ
   pub told : (IsUnmarked colours found × (y ≡ with_share x (record x.seen.share { found_head = Some (record { address = at; word = found }) })))
       ⊎ (IsMarked colours found × (y ≡ with_share x (moved_on reason at x.seen.share)))
 
--- the head of the unmarked block that the domain found last is exchanged for one that is marked and unscanned
+-- the head of the unmarked block that the domain found last is exchanged for one that is marked, and scanned where the block needs no scan
 pub record DarkenMay (x : DomainView) (at old new : ℕ) (reason : Reason) : Type 0 where
   pub kind : Kind
   pub stage : x.seen.stage ≡ In kind
@@ -134,7 +133,7 @@ pub record DarkenMay (x : DomainView) (at old new : ℕ) (reason : Reason) : Typ
   pub known : x.seen.share.colours ≡ Some colours
   pub found : x.seen.share.found_head ≡ Some (record { address = at; word = old })
   pub unmarked : IsUnmarked colours old
-  pub marks : HeadIs None unmarked.shape colours.marked false new
+  pub marks : HeadIs None unmarked.shape colours.marked (needs_no_scan unmarked.shape) new
   pub reason_is : Warrants reason x at
 
 -- whoever darkens a block in Mark or in Rounds owes a store of the changed word

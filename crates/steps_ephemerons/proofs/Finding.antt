@@ -16,7 +16,7 @@ use Rattle.heap_model.specs.Commands.{key_value}
 use Rattle.heap_model.specs.Domains.{register, opening}
 use Rattle.heap_model.specs.Fronts.{IsFrontOf, Shape, EpheShape, shape_of, HoldsShape}
 use Rattle.heap_model.specs.History.{state_after}
-use Rattle.heap_model.proofs.Histories.FrontLemmas.{grew_front, keeps_front}
+use Rattle.heap_model.proofs.Histories.FrontLemmas.{shape_later}
 use Rattle.heap_rule.specs.declared.config.Config.{Config}
 use Rattle.heap_rule.specs.declared.view.DomainView.{DomainView}
 use Rattle.heap_rule.specs.Limits.{sizes_in}
@@ -38,17 +38,6 @@ pub ephe_of : (n : Node) (keys : ℕ) → shape_of n ≡ EpheShape keys → (ks 
 ephe_of (Plain tag fields) keys e = cc
 ephe_of (Raw tag fields) keys e = cc
 ephe_of (Ephe ks datum) keys e = (ks, datum, refl, let l : length ks ≡ keys = cc in l)
-
--- what a front says of the shape of a block in a register holds in the history
-shape_later : (s : model.State) (d r : ℕ) (shape : Shape) (h front : List Entry) → IsFrontOf d h front → HoldsShape (state_after s front) d r shape → HoldsShape (state_after s h) d r shape
-shape_later s d r shape h front f holds =
-    let grew = grew_front s d h front f holds.label holds.node holds.there in record {
-      label = holds.label;
-      node = grew.0;
-      held = ap (λ (xs : List graph_value.Value). get_or xs r Nothing) (keeps_front s d h front f).registers ∙ holds.held;
-      there = grew.1;
-      shape_is = grew.2 ∙ holds.shape_is;
-    }
 
 -- the place among an ephemeron's values
 abbrev pub index_of : Option ℕ → ℕ

@@ -16,7 +16,7 @@ use Rattle.heap_model.specs.declared.reply.Applied.TheVariants.{Replied}
 use Rattle.heap_model.specs.declared.reply.Reply.TheVariants.{BadType, BadIndex}
 use Rattle.heap_model.specs.declared.graph.Value as graph_value
 use Rattle.heap_model.specs.declared.graph.Value.TheVariants.{Block}
-use Rattle.heap_model.specs.declared.graph.Node.TheVariants.{Plain, Ephe}
+use Rattle.heap_model.specs.declared.graph.Node.TheVariants.{Plain, Raw, Ephe}
 use Rattle.heap_model.specs.declared.state.State as model
 use Rattle.heap_model.specs.Domains.{register, domain_at}
 use Rattle.heap_model.specs.Commands.{only_replies, outcome}
@@ -26,7 +26,7 @@ use Rattle.heap_words.specs.declared.value.Value.{Value}
 use Rattle.heap_words.specs.declared.value.Value.TheVariants.{Int as IntWord, Ref, Nothing as NothingWord}
 use Rattle.heap_rule.specs.declared.config.Config.{Config}
 use Rattle.heap_rule.specs.declared.view.DomainView.{DomainView}
-use Rattle.heap_rule.specs.Places.{Live, Stands, HeadIs, IsBuilt, colour_in, extent}
+use Rattle.heap_rule.specs.Places.{Live, Stands, HeadIs, colour_in, extent}
 use Rattle.heap_rule.specs.Layout.{before_heap, at_address, heap_words}
 use Rattle.heap_rule.specs.Changes.{value_at}
 use Rattle.heap_rule.specs.Views.{one, Tells}
@@ -36,12 +36,12 @@ use Rattle.heap_rule.specs.Standing.{Acts, IsAt, with_front}
 use Rattle.heap_rule.proofs.Values.{AllStand, stands_block, not_nothing}
 use Rattle.heap_rule.proofs.Keeps.{Words, IsOfTrace, mine, looks, unmoved, run_settled}
 use Rattle.heap_rule.proofs.Entering.{registers_stand, entered_view, enters, may_begin}
-use Rattle.heap_rule.proofs.Blocks.{Lives, lives_at, found_at, plain_at, shape_at}
+use Rattle.heap_rule.proofs.Blocks.{Lives, lives_at, found_at, plain_node, raw_node, shape_at}
 use Rattle.heap_rule.proofs.HeadLemmas.{packable_head, colour_small}
 use Rattle.steps_run.proofs.Advances.{EntersPaid, paid_refused, paid_rule}
 use Rattle.steps_run.proofs.EphemeronEntries.{leaves_reply, block_is}
 use Rattle.steps_ephemerons.specs.Heads.{ephemeron_in, key_in, IsBlockValue, HasItem, HasKey, LacksKey, EpheHeadEntry, EpheHeadMay, EpheHeadTold, EpheHeadCase, subject}
-use Rattle.steps_ephemerons.proofs.Outcomes.{unregistering_item, fits_item, Brings, plain_outcome, past_outcome}
+use Rattle.steps_ephemerons.proofs.Outcomes.{unregistering_item, fits_item, Brings, plain_outcome, raw_outcome, past_outcome}
 use Rattle.steps_ephemerons.proofs.Finding.{ephe_of}
 
 -- an ephemeron has the key that is named, or it hasn't
@@ -96,11 +96,16 @@ module _ (k : Config) (s : Words) (r : Rule k s) (id : ℕ) (hist : List Entry) 
   refused : (c : command.Command) (reply : Reply) → HasItem x c → outcome now d c ≡ only_replies now reply → EntersPaid k s r id hist x at acts now.graph (Command d c false) x.own.registers (Replied reply)
   refused c reply has is = paid_refused k s r id hist x at acts c (unregistering_item x c has) (fits_item now d x c has (may_begin k s r id hist x at acts)) x.own.registers (Replied reply) stand (leaves_reply now d c reply is)
 
-  -- as its block is a plain one
+  -- as its block is a plain one, or a raw one
   plain_entry : (a : ℕ) (c : command.Command) → HasItem x c → (n tag : ℕ) (b : Lives k s r id hist x at (ephemeron_in c) a) → b.place.shape ≡ PlainShape n tag → EntersPaid k s r id hist x at acts now.graph (Command d c false) x.own.registers (Replied BadType)
   plain_entry a c has n tag b is =
-      let p = plain_at k s r id hist x at (ephemeron_in c) a b n tag is in
-      refused c BadType has (plain_outcome now d c p.label p.tag p.fields (brings c has) (block_is now d (ephemeron_in c) p.label (Plain p.tag p.fields) p.held p.node))
+      let p = plain_node k s r id hist x at (ephemeron_in c) a b n tag is in
+      refused c BadType has (plain_outcome now d c b.place.label tag p.0 (brings c has) (block_is now d (ephemeron_in c) b.place.label (Plain tag p.0) b.held p.1))
+
+  raw_entry : (a : ℕ) (c : command.Command) → HasItem x c → (n tag : ℕ) (b : Lives k s r id hist x at (ephemeron_in c) a) → b.place.shape ≡ RawShape n tag → EntersPaid k s r id hist x at acts now.graph (Command d c false) x.own.registers (Replied BadType)
+  raw_entry a c has n tag b is =
+      let p = raw_node k s r id hist x at (ephemeron_in c) a b n tag is in
+      refused c BadType has (raw_outcome now d c b.place.label tag p.0 (brings c has) (block_is now d (ephemeron_in c) b.place.label (Raw tag p.0) b.held p.1))
 
   -- or as it has no such key
   past_entry : (a : ℕ) (c : command.Command) → HasItem x c → (keys : ℕ) (b : Lives k s r id hist x at (ephemeron_in c) a) → b.place.shape ≡ EpheShape keys → LacksKey (key_in c) keys → EntersPaid k s r id hist x at acts now.graph (Command d c false) x.own.registers (Replied BadIndex)
@@ -132,7 +137,9 @@ module _ (k : Config) (s : Words) (r : Rule k s) (id : ℕ) (hist : List Entry) 
   head_step a c has (PlainShape n tag) b is =
       let e : Entry = Command d c false in
       let o = plain_entry a c has n tag b is in refusal a e (PlainShape n tag) (Replied BadType) tt o (enters k s r id hist x at acts now.graph e (Replied BadType) NothingWord [] o.enters)
-  head_step a c has (RawShape n tag) b is = absurd (subst IsBuilt is (r.whole.placed.fits a b.place b.lives).built)
+  head_step a c has (RawShape n tag) b is =
+      let e : Entry = Command d c false in
+      let o = raw_entry a c has n tag b is in refusal a e (RawShape n tag) (Replied BadType) tt o (enters k s r id hist x at acts now.graph e (Replied BadType) NothingWord [] o.enters)
   head_step a c has (EpheShape keys) b is = ⊎_elim
       (λ (inside : HasKey (key_in c) keys). record {
         after = with_front x r.account.log;
@@ -170,6 +177,7 @@ heads k slots id word hist x a c place acts is has s r _ at _ =
           head = let paint = r.account.cycling.paint in let colour : ℕ = colour_in paint b.place.label in record {
             colour = colour;
             scanned = found.head.scanned;
+            fits = (r.whole.placed.fits a b.place b.lives).head;
             packable = packable_head b.place.shape colour found.head.scanned (colour_small paint b.place.label r.whole.cycle.meanings) (r.whole.placed.fits a b.place b.lives).head;
             packs = ap (λ (i : ℕ). get_or s.words i 0) place ∙ subst (λ (f : Option ℕ). HeadIs f b.place.shape colour found.head.scanned (at_address k s.words a)) (run_settled k s r id hist x at acts.runs a b.place b.lives).no_forward found.head.packs;
           };

@@ -10,7 +10,7 @@ use Rattle.heap_model.specs.declared.reply.Applied.TheVariants.{Replied}
 use Rattle.heap_model.specs.declared.graph.Value.{Value}
 use Rattle.heap_model.specs.declared.graph.Value.TheVariants.{Int, Block, Nothing}
 use Rattle.heap_model.specs.declared.graph.Node.{Node}
-use Rattle.heap_model.specs.declared.graph.Node.TheVariants.{Plain, Ephe}
+use Rattle.heap_model.specs.declared.graph.Node.TheVariants.{Plain, Raw, Ephe}
 use Rattle.heap_model.specs.declared.state.State.{State}
 use Rattle.heap_model.specs.declared.state.Mode.TheVariants.{Open}
 use Rattle.heap_model.specs.Graph.{label_of}
@@ -117,6 +117,10 @@ module _ (s : State) (d : ℕ) where
   -- a plain block is no ephemeron
   pub plain_outcome : (c : Command) (l : Label) (tag : ℕ) (fields : List Value) → Brings c → block_in s d (ephemeron_in c) ≡ Some (l, Plain tag fields) → outcome s d c ≡ only_replies s BadType
   plain_outcome c l tag fields has block = outcome_is c has ∙ ap (λ b. at_ephe s b (does c)) block
+
+  -- nor is a raw one
+  pub raw_outcome : (c : Command) (l : Label) (tag : ℕ) (fields : List Value) → Brings c → block_in s d (ephemeron_in c) ≡ Some (l, Raw tag fields) → outcome s d c ≡ only_replies s BadType
+  raw_outcome c l tag fields has block = outcome_is c has ∙ ap (λ b. at_ephe s b (does c)) block
 
   past_is : (c : Command) (l : Label) (keys : List (Option Label)) (datum : Value) → Brings c → LacksKey (key_in c) (length keys) → does c l keys datum ≡ only_replies s BadIndex
   past_is (SetKey ephe i item) l keys datum has past = ap (λ o. in_bounds s o (λ _. done_with (with_block s l (Ephe (set keys i (label_in s d item)) datum)))) (slice_get_past keys i past)

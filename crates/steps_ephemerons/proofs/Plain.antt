@@ -23,7 +23,7 @@ use Rattle.steps_ephemerons.proofs.HeadSteps.{key_cases}
 -- a head load leaves the plain data
 head_own : (k : Config) (a : ℕ) (e : Entry) (x y : DomainView) (shape : Shape) → EpheHeadCase k a e shape x y → y.own ≡ x.own
 head_own k a e x y (PlainShape size tag) told = ap (λ (z : DomainView). z.own) told.view
-head_own k a e x y (RawShape size tag) told = absurd told
+head_own k a e x y (RawShape size tag) told = ap (λ (z : DomainView). z.own) told.view
 head_own k a e x y (EpheShape keys) told = ⊎_elim
     (λ (has : HasKey (key_of e) keys). ap (λ (z : DomainView). z.own) (told.below has).looked.view)
     (λ (lacks : LacksKey (key_of e) keys). ap (λ (z : DomainView). z.own) (told.past lacks).view)
@@ -32,7 +32,7 @@ head_own k a e x y (EpheShape keys) told = ⊎_elim
 -- and its entry stands there, or none does
 head_once : (k : Config) (a : ℕ) (e : Entry) (x y : DomainView) (shape : Shape) → EpheHeadCase k a e shape x y → StepsOnce k x y
 head_once k a e x y (PlainShape size tag) told = enters_once k e (Replied BadType) Nothing [] x y told
-head_once k a e x y (RawShape size tag) told = absurd told
+head_once k a e x y (RawShape size tag) told = enters_once k e (Replied BadType) Nothing [] x y told
 head_once k a e x y (EpheShape keys) told = ⊎_elim
     (λ (has : HasKey (key_of e) keys) _. let m = told.below has in let own = ap (λ (z : DomainView). z.own) m.looked.view in
     inl (record { front = m.looked.seen; registers = ap (λ (o : Own). o.registers) own; used = ap (λ (o : Own). o.used) own; serial = ap (λ (o : Own). o.serial) own }))

@@ -3,6 +3,7 @@ use Rattle.std.proofs.Common.{◌≡◌, ℕ, ◌+◌, Bool, false, IsTrue, List
 use mathlib.Core.Option.{some}
 use lib.ListN.{get_elem?}
 use Rattle.atomic_table.specs.Table.{Allows}
+use Rattle.heap_model.specs.declared.reply.Reply.TheVariants.{Done as Stored}
 use Rattle.heap_model.specs.declared.label.Label.{Label}
 use Rattle.heap_model.specs.declared.command.Command as command
 use Rattle.heap_model.specs.declared.command.Command.TheVariants.{SetKey, UnsetKey, SetData, UnsetData}
@@ -94,7 +95,7 @@ module _ (k : Config) (s : Words) (r : Rule k s) (id : ℕ) (hist : List Entry) 
   }
   sets acts _ has stores = absurd stores
 
-  weak_value : (a new : ℕ) (remembers : Bool) (changes : List Change) (c : command.Command) → Stores c → WeakStoreMay k x a new remembers changes x.own.number c → ValueStore k s r id hist x at a new remembers changes c
+  weak_value : (a new : ℕ) (remembers : Bool) (changes : List Change) (c : command.Command) → Stores c → WeakStoreMay k x a new remembers changes x.own.number c → ValueStore k s r id hist x at a new remembers changes c Stored
   weak_value a new remembers changes c stores may =
       let f = weak_at k s r id hist x at (run_settled k s r id hist x at may.acts.runs) (whole_here k s r id hist x at Run tt may.acts.runs) a (ephemeron_in c) (key_in c) may.target in
       let z = sets may.acts c may.item stores in record {

@@ -94,10 +94,10 @@ abbrev pub key_of : Entry → Option ℕ
 key_of (Command d c full) = key_in c
 key_of _ = None
 
--- and where the block is no ephemeron. There are no raw blocks yet
+-- and where the block is no ephemeron
 abbrev pub EpheHeadCase : Config → ℕ → Entry → Shape → DomainView → DomainView → Type 0
 EpheHeadCase k a e (PlainShape size tag) x y = Entered k e (Replied BadType) Nothing [] x y
-EpheHeadCase k a e (RawShape size tag) x y = ⊥
+EpheHeadCase k a e (RawShape size tag) x y = Entered k e (Replied BadType) Nothing [] x y
 EpheHeadCase k a e (EpheShape keys) x y = KeysTold k a e (subject e) (key_of e) keys x y
 
 -- a head load tells the shape of the block

@@ -37,10 +37,9 @@ zero_there (suc n) zero h = refl
 zero_there (suc n) (suc i) h = zero_there n i (omega arith)
 
 -- a new plain block
-new_block : (n tag : ℕ) → 1 ≤ n → n ≤ 126 → tag < 256 → IsNewBlock (PlainShape n tag) (new_plain tag n) (replicate n zero_word)
+new_block : (n tag : ℕ) → 1 ≤ n → n ≤ 1022 → tag < 251 → IsNewBlock (PlainShape n tag) (new_plain tag n) (replicate n zero_word)
 new_block n tag one_field few fits = record {
   shape_is = ap (λ (m : ℕ). PlainShape m tag) (length-replicate n (Int (pos 0)));
-  built = tt;
   packable = (one_field, (omega arith), fits);
   long = let l = length-replicate n zero_word in omega arith;
   values = λ i v got. let t = zero_values n i v got in (IntWord (pos 0), t.1, λ live. subst (Stands live (IntWord (pos 0))) (sym t.0) (refl, (omega (arith, ints), omega (arith, ints))));
@@ -78,7 +77,6 @@ new_ephe keys = Ephe (replicate keys None) Nothing
 new_ephemeron : (keys : ℕ) → 1 ≤ keys → keys ≤ 8 → IsNewBlock (EpheShape keys) (new_ephe keys) (replicate (keys + 1) empty_word)
 new_ephemeron keys one_key few = record {
   shape_is = ap EpheShape (length-replicate keys None);
-  built = tt;
   packable = (one_key, few);
   long = let l = length-replicate (keys + 1) empty_word in omega arith;
   values = λ i v got. let t = empty_values keys i v got in (NothingWord, ap (λ (m : ℕ). slice_get (replicate m empty_word) i) (let o : keys + 1 ≡ suc keys = omega arith in o) ∙ t.1, λ live. subst (Stands live NothingWord) (sym t.0) tt);

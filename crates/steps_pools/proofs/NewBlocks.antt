@@ -41,7 +41,7 @@ use Rattle.heap_rule.specs.declared.view.Hunt.TheVariants.{Rests, Fills}
 use Rattle.heap_rule.specs.Limits.{sizes_in}
 use Rattle.heap_rule.specs.Layout.{before_heap, at_address, table_words}
 use Rattle.heap_rule.specs.Copies.{Recalls}
-use Rattle.heap_rule.specs.Places.{HasClass, Place, Live, extent, values_of, without_keys, IsBuilt, IsPackableShape, IsNewHead, new_colour, Found, Fits, Placed, Spread, Stands, More, Settled, IsOldWord}
+use Rattle.heap_rule.specs.Places.{HasClass, Place, Live, extent, values_of, without_keys, IsPackableShape, IsNewHead, new_colour, Found, Fits, Placed, Spread, Stands, More, Settled, IsOldWord}
 use Rattle.heap_rule.specs.Changes.{value_at, changed}
 use Rattle.heap_rule.specs.Views.{one}
 use Rattle.heap_rule.specs.Rule.{state_of, AllFound, Stood, Area, Making, Good, Rule}
@@ -82,7 +82,6 @@ use Rattle.heap_rule.proofs.Update.{over_else}
 -- the words behind the label stand for the node of a new block
 pub record IsNewBlock (shape : Shape) (node : Node) (behind : List ℕ) : Type 0 where
   pub shape_is : shape_of node ≡ shape
-  pub built : IsBuilt shape
   pub packable : IsPackableShape shape
   pub long : extent shape ≡ length behind + 2
   pub values : (i : ℕ) (v : graph_value.Value) → slice_get (values_of node) i ≡ Some v → (w : Value) × (slice_get behind i ≡ Some (value_word w)) × ((live : Live) → Stands live w v)
@@ -220,7 +219,6 @@ module _ (k : Config) (s : Words) (r : Rule k s) (id : ℕ) (hist : List Entry) 
 
   fits_born : Fits k A born_place
   fits_born = record {
-    built = may.block.built;
     classed = has_class;
     low = omega arith;
     high = let n : ℕ = size in let h = in_pools in let b : ℕ = A in let t : b + n ≤ k.pools * 4096 + 1 = h in let w : ℕ = k.domains * k.minor_words in let o : b + n ≤ k.pools * 4096 + w + 1 = omega arith in o;

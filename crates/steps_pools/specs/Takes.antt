@@ -183,9 +183,9 @@ pub record MajorMay (k : Config) (x : DomainView) (at new : ℕ) (changes : List
   pub acts : Acts k x
   pub hunt : x.seen.hunt ≡ Fills pool class slot (label_word x.own.number (x.own.serial + 1) ∷ replicate fields 1)
   pub word : at ≡ place_in pool class slot
-  pub tag_fits : tag < 256
+  pub tag_fits : tag < 251
   pub some_field : 1 ≤ fields
-  pub few_fields : fields ≤ 126
+  pub few_fields : fields ≤ 1022
   pub head : IsNewHead x.seen.share.colours x.seen.share.armed true (PlainShape fields tag) new
   pub serial : x.own.serial + 1 < 2 ^ 32
   pub goes : dst < 16

@@ -28,7 +28,7 @@ use Rattle.heap_rule.specs.Copies.{met_place, known, debt_of, HasCopy, IsCopied,
 use Rattle.heap_rule.specs.Layout.{heap_words, before_heap, base_of, at_address}
 use Rattle.heap_rule.specs.Limits.{sizes_in}
 use Rattle.heap_rule.specs.Phases.{sum_of}
-use Rattle.heap_rule.specs.Places.{Debt, Place, Live, extent, span, class_words, least_size, HeadIs, IsNewHead, colour_in, new_colour, Found, Fits, Placed, Spread, Lasts, More, IsBuilt, head_of}
+use Rattle.heap_rule.specs.Places.{Debt, Place, Live, extent, span, class_words, least_size, HeadIs, IsNewHead, colour_in, new_colour, Found, Fits, Placed, Spread, Lasts, More, head_of}
 use Rattle.heap_rule.specs.Pools.{Stock, limit_of, owned, drawn_in, Tenancy, Hunts, Hunter, OwnPlace, Lot, Grid, Latest, DrawsFor, Drawers, IsCopying, place_in, size_of, blocks_of, prepared_at}
 use Rattle.heap_rule.specs.Raw.{MayStep, Closes}
 use Rattle.heap_rule.specs.Room.{count, drawn_in_all, copied_words, Room, Opened}
@@ -258,11 +258,9 @@ module _ (k : Config) (s : Words) (r : Rule k s) (id : ℕ) (hist : List Entry) 
     abbrev met1 : List Met
     met1 = met_of c2 may.place ∷ x.seen.copying.met
 
-    built : IsBuilt may.place.shape
-    built = subst IsBuilt shape_is (r.whole.placed.fits a p lives).built
 
     its : Lasts live c2 (met_place (met_of c2 may.place))
-    its = record { place = lead.place; lives = lead.lives; label = lead.label ∙ lasts.label; shape = lead.shape ∙ (shape_is ∙ sym (form_shape may.place.shape built)) }
+    its = record { place = lead.place; lives = lead.lives; label = lead.label ∙ lasts.label; shape = lead.shape ∙ (shape_is ∙ sym (form_shape may.place.shape)) }
 
     abbrev lost_view : DomainView
     lost_view = record x { seen = record x.seen { hunt = Rests; copying = record x.seen.copying { met = met1; copied = record { copy = c2; source = a } ∷ x.seen.copying.copied } } }
@@ -456,7 +454,6 @@ module _ (k : Config) (s : Words) (r : Rule k s) (id : ℕ) (hist : List Entry) 
 
     fits_c : Fits k c pc
     fits_c = let fs = r.whole.placed.fits a p lives in record {
-      built = fs.built;
       classed = fs.classed;
       low = c_low;
       high = (let n : ℕ = extent p.shape in let y : ℕ = size_of class in let h : n ≤ y = size_fits in let u : c + y ≤ k.pools * 4096 + 1 = c_top in let m : ℕ = k.domains * k.minor_words in let g : c + n ≤ k.pools * 4096 + m + 1 = omega arith in g);
@@ -483,7 +480,7 @@ module _ (k : Config) (s : Words) (r : Rule k s) (id : ℕ) (hist : List Entry) 
     placed2 : Placed k live2
     placed2 = record {
       fits = λ b q e. cases b q e
-          (λ same i. subst (λ (z : ℕ × Place). Fits k z.0 z.1) (λ j. (sym same j, i j)) (let fs = r.whole.placed.fits a p lives in record { built = fs.built; classed = fs.classed; low = fs.low; high = fs.high; head = fs.head; label = fs.label; pooled = fs.pooled }))
+          (λ same i. subst (λ (z : ℕ × Place). Fits k z.0 z.1) (λ j. (sym same j, i j)) (let fs = r.whole.placed.fits a p lives in record { classed = fs.classed; low = fs.low; high = fs.high; head = fs.head; label = fs.label; pooled = fs.pooled }))
           (λ same i. subst (λ (z : ℕ × Place). Fits k z.0 z.1) (λ j. (sym same j, i j)) fits_c)
           (λ na nc l. r.whole.placed.fits b q l);
       once = λ b d q u e g labels none_b none_d. cases b q e
@@ -886,7 +883,7 @@ module _ (k : Config) (s : Words) (r : Rule k s) (id : ℕ) (hist : List Entry) 
     }
 
     met_lasts : Lasts live2 c (met_place (met_of c may.place))
-    met_lasts = record { place = pc; lives = here_c; label = lasts.label; shape = shape_is ∙ sym (form_shape may.place.shape (subst IsBuilt shape_is (r.whole.placed.fits a p lives).built)) }
+    met_lasts = record { place = pc; lives = here_c; label = lasts.label; shape = shape_is ∙ sym (form_shape may.place.shape) }
 
     owes2 : Owes k live2 won_view
     owes2 = let w = (my_good k s r id hist x at).owes in let l : List Owing = x.seen.copying.pending in record {

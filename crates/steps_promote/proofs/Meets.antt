@@ -26,7 +26,7 @@ use Rattle.heap_rule.specs.declared.view.DomainView.{DomainView}
 use Rattle.heap_rule.specs.declared.phase.Kind.TheVariants.{Promote}
 use Rattle.heap_rule.specs.declared.phase.Stage.TheVariants.{In}
 use Rattle.heap_rule.specs.Layout.{heap_words, before_heap, at_address}
-use Rattle.heap_rule.specs.Places.{Debt, Place, Live, extent, values_of, HeadIs, colour_in, new_colour, HasValue, IsBuilt, Stands, Lasts, More}
+use Rattle.heap_rule.specs.Places.{Debt, Place, Live, extent, values_of, HeadIs, colour_in, new_colour, HasValue, Stands, Lasts, More}
 use Rattle.heap_rule.specs.Phases.{IsInPause}
 use Rattle.heap_rule.specs.Copies.{ListsCopy, HasCopy, IsCopied, met_place, shape_of_form, known}
 use Rattle.heap_rule.specs.Raw.{MayStep}
@@ -50,10 +50,10 @@ use Rattle.steps_promote.proofs.Remaking.{promotes_again, stood_same, young_colo
 use Rattle.heap_rule.proofs.HeadLemmas.{packable_head, colour_small}
 use Rattle.std.proofs.lemmas.Option.{same_Some}
 
-pub form_shape : (s : Shape) → IsBuilt s → shape_of_form (form_of s) ≡ s
-form_shape (PlainShape size tag) built = refl
-form_shape (RawShape size tag) built = absurd built
-form_shape (EpheShape keys) built = refl
+pub form_shape : (s : Shape) → shape_of_form (form_of s) ≡ s
+form_shape (PlainShape size tag) = refl
+form_shape (RawShape size tag) = refl
+form_shape (EpheShape keys) = refl
 
 known_here : (m : Met) (ms : List Met) → known (m ∷ ms) m.address ≡ Some (met_place m)
 known_here m ms = ap (λ (b : Bool). cond b (Some (met_place m)) (known ms m.address)) (eq-eqb m.address m.address refl)
@@ -76,11 +76,11 @@ known_more live m ms more lasts a p e = dite (ℕ_discrete a m.address)
     (λ other. record { place = p; lives = known_else m ms a other ∙ e; label = refl; shape = refl })
 
 -- the block met is known
-pub known_met : (a : ℕ) (p : Place) (ms : List Met) → IsBuilt p.shape → Lasts (known (met_of a p ∷ ms)) a p
-known_met a p ms built = record { place = met_place (met_of a p); lives = known_here (met_of a p) ms; label = refl; shape = form_shape p.shape built }
+pub known_met : (a : ℕ) (p : Place) (ms : List Met) → Lasts (known (met_of a p ∷ ms)) a p
+known_met a p ms = record { place = met_place (met_of a p); lives = known_here (met_of a p) ms; label = refl; shape = form_shape p.shape }
 
-pub lasts_met : (live : Live) (a : ℕ) (p : Place) → IsBuilt p.shape → live a ≡ Some p → Lasts live a (met_place (met_of a p))
-lasts_met live a p built e = record { place = p; lives = e; label = refl; shape = sym (form_shape p.shape built) }
+pub lasts_met : (live : Live) (a : ℕ) (p : Place) → live a ≡ Some p → Lasts live a (met_place (met_of a p))
+lasts_met live a p e = record { place = p; lives = e; label = refl; shape = sym (form_shape p.shape) }
 
 pub more_trans : (f g h : Live) → More f g → More g h → More f h
 more_trans f g h a b c p e = let m = a c p e in let n = b c m.place m.lives in record { place = n.place; lives = n.lives; label = n.label ∙ m.label; shape = n.shape ∙ m.shape }
@@ -94,9 +94,6 @@ module _ (k : Config) (s : Words) (r : Rule k s) (id : ℕ) (hist : List Entry) 
 
   abbrev live : Live
   live = r.account.live
-
-  built : (a : ℕ) (p : Place) → live a ≡ Some p → IsBuilt p.shape
-  built a p lives = (r.whole.placed.fits a p lives).built
 
   knows : More (Knows x) live
   knows = (my_good k s r id hist x at).owes.knows
@@ -185,7 +182,7 @@ module _ (k : Config) (s : Words) (r : Rule k s) (id : ℕ) (hist : List Entry) 
       let f = r.whole.found a p lives in
       let ms : List Met = x.seen.copying.met in
       let m : Met = met_of a p in
-      let lasts : Lasts live a (met_place m) = lasts_met live a p (built a p lives) lives in
+      let lasts : Lasts live a (met_place m) = lasts_met live a p lives in
       let more1 : More (known (m ∷ ms)) live = knows_more live m ms knows lasts in
       let grows1 : More (known ms) (known (m ∷ ms)) = known_more live m ms knows lasts in
       let packs = (r.whole.placed.fits a p lives).head in
@@ -195,14 +192,13 @@ module _ (k : Config) (s : Words) (r : Rule k s) (id : ℕ) (hist : List Entry) 
         rule = meets_rule (m ∷ ms) more1;
         told = record {
           place = p;
-          built = built a p lives;
           packable = packs;
-          here = known_met a p ms (built a p lives);
+          here = known_met a p ms;
           more = grows1;
           fit = met_fits k (known (m ∷ ms)) live more1 r.whole.placed;
           told = let paint = r.account.cycling.paint in let colour : ℕ = colour_in paint p.label in
               let bare : HeadIs None p.shape colour f.head.scanned (at_address k s.words a) = subst (λ (o : Option ℕ). HeadIs o p.shape colour f.head.scanned (at_address k s.words a)) none f.head.packs in inl record {
-                head = record { colour = colour; scanned = f.head.scanned; packable = packable_head p.shape colour f.head.scanned (colour_small paint p.label r.whole.cycle.meanings) packs; packs = bare };
+                head = record { colour = colour; scanned = f.head.scanned; fits = packs; packable = packable_head p.shape colour f.head.scanned (colour_small paint p.label r.whole.cycle.meanings) packs; packs = bare };
                 new = λ young c known b tells. let new : colour ≡ new_colour b c = young_colour k s r id hist x at promotes a p lives young c known b tells in record {
                   colours = c;
                   known_is = known;
@@ -220,7 +216,7 @@ module _ (k : Config) (s : Words) (r : Rule k s) (id : ℕ) (hist : List Entry) 
       let c : ℕ = t.0 in
       let l = r.whole.copies.leads a p c lives t.1 in
       let n : Met = met_of c p in
-      let its : Lasts live c (met_place n) = record { place = l.place; lives = l.lives; label = l.label; shape = l.shape ∙ sym (form_shape p.shape (built a p lives)) } in
+      let its : Lasts live c (met_place n) = record { place = l.place; lives = l.lives; label = l.label; shape = l.shape ∙ sym (form_shape p.shape) } in
       let fits = address_of k c l.place (r.whole.placed.fits c l.place l.lives) in
       record {
         after = learning (meeting (meeting x m) n) a c;
@@ -230,9 +226,8 @@ module _ (k : Config) (s : Words) (r : Rule k s) (id : ℕ) (hist : List Entry) 
             (λ (h : HasCopy x b d). (my_good k s r id hist x at).owes.copied b d h));
         told = record {
           place = p;
-          built = built a p lives;
           packable = packs;
-          here = lasts_more (known (m ∷ ms)) (known (n ∷ m ∷ ms)) a p (known_more live n (m ∷ ms) more1 its) (known_met a p ms (built a p lives));
+          here = lasts_more (known (m ∷ ms)) (known (n ∷ m ∷ ms)) a p (known_more live n (m ∷ ms) more1 its) (known_met a p ms);
           more = more_trans (known ms) (known (m ∷ ms)) (known (n ∷ m ∷ ms)) grows1 (known_more live n (m ∷ ms) more1 its);
           fit = met_fits k (known (n ∷ m ∷ ms)) live (knows_more live n (m ∷ ms) more1 its) r.whole.placed;
           told = inr record {
@@ -242,7 +237,7 @@ module _ (k : Config) (s : Words) (r : Rule k s) (id : ℕ) (hist : List Entry) 
             old = l.old;
             inside = (fits.0, let w : ℕ = heap_words k in let h : c + 2 ≤ w = fits.1 in let e : c ≤ w = omega arith in e);
             view = refl;
-            there = known_met c p (m ∷ ms) (built a p lives);
+            there = known_met c p (m ∷ ms);
           };
           once = forwards_to a;
         };
@@ -271,8 +266,8 @@ module _ (k : Config) (s : Words) (r : Rule k s) (id : ℕ) (hist : List Entry) 
   meets_value (Ref a) (Block l) st =
       let m : Met = met_of a st.0 in
       let ms : List Met = x.seen.copying.met in
-      let lasts : Lasts live a (met_place m) = lasts_met live a st.0 (built a st.0 st.1) st.1 in
-      let k1 = known_met a st.0 ms (built a st.0 st.1) in
+      let lasts : Lasts live a (met_place m) = lasts_met live a st.0 st.1 in
+      let k1 = known_met a st.0 ms in
       record { met = m ∷ ms; lives = knows_more live m ms knows lasts; more = known_more live m ms knows lasts; stands = (k1.place, k1.lives, k1.label ∙ st.2) }
 
   record ValueStep (source i found : ℕ) : Type 0 where
@@ -330,7 +325,7 @@ module _ (k : Config) (s : Words) (r : Rule k s) (id : ℕ) (hist : List Entry) 
       let w = found_value k r.account.cycling.paint live now.graph s.words u.block p f (whole_here k s r id hist x at Promote tt promotes p.label) u.index v.0 (subst (λ (o : Option Debt). HasValue o u.index) (sym u.filled) tt) v.1 in
       let m = meets_value w.value v.0 w.stands in
       let b : Met = met_of u.block p in
-      let lasts : Lasts live u.block (met_place b) = lasts_met live u.block p (built u.block p u.lives) u.lives in
+      let lasts : Lasts live u.block (met_place b) = lasts_met live u.block p u.lives in
       let grows : More (known m.met) (known (b ∷ m.met)) = known_more live b m.met m.lives lasts in
       let front : x.seen.front ≡ r.account.log = (my_good k s r id hist x at).still (subst IsInPause (sym promotes) tt) in
       record {
@@ -343,7 +338,7 @@ module _ (k : Config) (s : Words) (r : Rule k s) (id : ℕ) (hist : List Entry) 
           is = u.is;
           inside = u.inside;
           old = u.old;
-          here = known_met u.block p m.met (built u.block p u.lives);
+          here = known_met u.block p m.met;
           value = w.value;
           held = v.0;
           packable = packable k r.limits live r.whole.placed w.value v.0 w.stands;

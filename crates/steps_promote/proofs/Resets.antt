@@ -69,8 +69,8 @@ owner_is nobody d c few low e = absurd (let f : 0 ≡ 16 * d + c + 1 = e in omeg
 owner_is (drawn z) d c few low e = absurd (let f : 0 ≡ 16 * d + c + 1 = e in omega arith)
 owner_is (owned z b) d c few low e =
     let f : 16 * z + b + 1 ≡ 16 * d + c + 1 = e in
-    let l : b < 6 = low z b refl in
-    let m : c < 6 = few in
+    let l : b < 9 = low z b refl in
+    let m : c < 9 = few in
     let s : z ≡ d = omega arith in
     let t : b ≡ c = omega arith in λ i. owned (s i) (t i)
 

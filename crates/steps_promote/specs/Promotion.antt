@@ -16,7 +16,7 @@ use Rattle.heap_words.specs.Labels.{label_word}
 use Rattle.heap_rule.specs.declared.config.Config.{Config}
 use Rattle.heap_rule.specs.declared.view.Copied.{Copied}
 use Rattle.heap_rule.specs.declared.view.Form.{Form}
-use Rattle.heap_rule.specs.declared.view.Form.TheVariants.{Plain, Ephe}
+use Rattle.heap_rule.specs.declared.view.Form.TheVariants.{Plain, Raw, Ephe}
 use Rattle.heap_rule.specs.declared.view.Met.{Met}
 use Rattle.heap_rule.specs.declared.view.Owing.{Owing}
 use Rattle.heap_rule.specs.declared.view.DomainView.{DomainView}
@@ -30,7 +30,7 @@ use Rattle.heap_rule.specs.declared.phase.Stage.TheVariants.{In}
 use Rattle.heap_words.specs.ColourWords.{colours_word}
 use Rattle.heap_rule.specs.Cycles.{IsGarbageHead}
 use Rattle.heap_rule.specs.Layout.{base_of, at_address, colours, owner_of}
-use Rattle.heap_rule.specs.Places.{Paint, Place, Live, extent, values_of, IsHeadOf, IsNewHead, IsPackableShape, IsBuilt, Fits, Stands, IsOldAt, IsOldWord, Lasts, More, WordStands}
+use Rattle.heap_rule.specs.Places.{Paint, Place, Live, extent, values_of, IsHeadOf, IsNewHead, IsPackableShape, Fits, Stands, IsOldAt, IsOldWord, Lasts, More, WordStands}
 use Rattle.heap_rule.specs.Changes.{value_at}
 use Rattle.heap_rule.specs.Pools.{owned, owner_word, blocks_of, place_in}
 use Rattle.heap_rule.specs.Copies.{HasCopy, HoldsOld, known}
@@ -40,10 +40,10 @@ use Rattle.heap_rule.specs.Standing.{IsAt, IsInHeap, with_registers}
 use Rattle.heap_rule.specs.Token.{Holds}
 use Rattle.heap_words.specs.declared.colours.Colours.{Colours}
 
--- the form of a shape. A raw block has that of a plain one: no step makes one yet
+-- the form of a shape
 abbrev pub form_of : Shape → Form
 form_of (PlainShape size tag) = Plain size tag
-form_of (RawShape size tag) = Plain size tag
+form_of (RawShape size tag) = Raw size tag
 form_of (EpheShape keys) = Ephe keys
 
 -- the block that is met at an address
@@ -96,7 +96,6 @@ pub record Forwards (k : Config) (at : ℕ) (place : Place) (x : DomainView) (fo
 -- and where a copy of the block was known, the head forwards to that copy
 pub record HeadMet (k : Config) (at : ℕ) (x : DomainView) (found : ℕ) (y : DomainView) : Type 0 where
   pub place : Place
-  pub built : IsBuilt place.shape
   pub packable : IsPackableShape place.shape
   pub here : Lasts (Knows y) at place
   pub more : More (Knows x) (Knows y)
