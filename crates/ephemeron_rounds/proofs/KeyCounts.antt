@@ -13,7 +13,7 @@ use Rattle.ephemeron_rounds.specs.Found.{keys_of}
 
 no_keys : (k : Config) (a : ℕ) (e : Entry) (s : Shape) (x y : DomainView) → EpheHeadCase k a e s x y → keys_of s ≡ None → Entered k e (Replied BadType) Nothing [] x y
 no_keys k a e (PlainShape size tag) x y told is = told
-no_keys k a e (RawShape size tag) x y told is = absurd told
+no_keys k a e (RawShape size tag) x y told is = told
 no_keys k a e (EpheShape keys) x y told is = cc
 
 -- the block is no ephemeron: the entry stands there, and answers `type`

@@ -98,7 +98,6 @@ store_may k colours x y at word fields new l m s w low shaped scan paid =
       shaped = w.learnt.grows (Shaped at word) shaped;
       shape = scan.grey.block.shape;
       is = scan.grey.block.head;
-      built = scan.grey.built;
       fields = λ i below. paid i (subst (λ (n : ℕ). i < n) (sym scan.count) below);
       marks = scan.marks;
     }

@@ -12,25 +12,17 @@ use Rattle.heap_rule.specs.declared.config.Config.{Config}
 use Rattle.heap_rule.specs.declared.view.DomainView.{DomainView}
 use Rattle.heap_rule.specs.declared.view.Scan.{Scan}
 use Rattle.heap_rule.specs.declared.view.Scan.TheVariants.{Idle, Reads}
-use Rattle.heap_rule.specs.Places.{IsBuilt, head_of}
+use Rattle.heap_rule.specs.Places.{head_of}
+use Rattle.steps_cycle.proofs.Colouring.{words_same}
 use Rattle.steps_cycle.specs.Looks.{with_share}
 use Rattle.steps_cycle.specs.Marking.{Anywhere, GreyTold, IsGrey, IsScanned, IsUnmarked, LiesAt, MarkTold, Next, ScannedMay, ScannedTold, Site, begun, behind, fields_in, places_seen_on, walk_on}
 use Rattle.barriers.specs.Heads.{IsScanOf}
 use Rattle.mark_slices.specs.Shares.{Begun, Marks, Noted, ScannedAt, Walked, fields_to, scanning}
 use Rattle.barriers.proofs.Exchanges.{not_both, one_head, one_meaning}
 
-abbrev fields_of : Head → ℕ
-fields_of (Plain size tag colour scanned) = size
-fields_of _ = 0
-
-fields_are : (s : Shape) (colour : ℕ) (scanned : Bool) → IsBuilt s → fields_of (head_of None s colour scanned) ≡ fields_in s
-fields_are (PlainShape size tag) colour scanned b = refl
-fields_are (RawShape size tag) colour scanned b = absurd b
-fields_are (EpheShape keys) colour scanned b = refl
-
 -- the fields of a grey block are as many, whatever its shape is said to be
 one_count : (colours : Colours) (word : ℕ) (a b : IsGrey colours word) → fields_in a.block.shape ≡ fields_in b.block.shape
-one_count colours word a b = sym (fields_are a.block.shape a.block.head.colour a.block.head.scanned a.built) ∙ ap fields_of (one_head word a.block.shape b.block.shape a.block.head b.block.head) ∙ fields_are b.block.shape b.block.head.colour b.block.head.scanned b.built
+one_count colours word a b = ap fields_in (words_same a.block.shape b.block.shape word a.block.head b.block.head).shape
 
 abbrev scanned_in : Head → Bool
 scanned_in (Plain size tag colour scanned) = scanned

@@ -9,7 +9,7 @@ use Rattle.heap_rule.specs.declared.phase.Stage.TheVariants.{In}
 use Rattle.heap_rule.specs.declared.view.DomainView.{DomainView}
 use Rattle.heap_rule.specs.declared.view.Known.TheVariants.{Shape as Shaped}
 use Rattle.heap_rule.specs.Beside.{IsKnown}
-use Rattle.heap_rule.specs.Places.{IsBuilt, IsHeadOf}
+use Rattle.heap_rule.specs.Places.{IsHeadOf}
 use Rattle.heap_rule.specs.Pools.{blocks_of, owned, owner_word, place_in}
 use Rattle.steps_cycle.specs.Marking.{IsGrey, fields_in}
 use Rattle.steps_beside.specs.Marking.{Begins, Reason}
@@ -53,7 +53,6 @@ pub record Looked (colours : Colours) (at : ℕ) (x : DomainView) (word : ℕ) (
 pub record IsSized (head fields : ℕ) : Type 0 where
   pub shape : Shape
   pub is : IsHeadOf shape head
-  pub built : IsBuilt shape
   pub count : fields ≡ fields_in shape
 
 -- the head of the block that is scanned, and why the block is darkened to which its field refers

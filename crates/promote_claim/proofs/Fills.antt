@@ -93,7 +93,7 @@ module _ (k : Config) (i : ℕ) (c : Copied) (x : DomainView) where
       }
     where
       stays_for : (told : HeadMet k c.copy x word y) → Works k x → slice_get x.own.pending.items i ≡ Some c → IsHeadFor told.place.shape word
-      stays_for told w item = ⊎_elim (λ (s : StaysThere k c.copy told.place x word y). record { built = told.built; head = s.head })
+      stays_for told w item = ⊎_elim (λ (s : StaysThere k c.copy told.place x word y). record { head = s.head })
           (λ (f : Forwards k c.copy told.place x word y). absurd (let young : k.pools * 4096 < c.copy = f.young in let old : c.copy ≤ k.pools * 4096 = (w.pairs i c item).old in omega arith))
           told.told
 

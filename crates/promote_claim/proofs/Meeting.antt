@@ -12,7 +12,7 @@ use Rattle.heap_rule.specs.declared.view.DomainView.{DomainView}
 use Rattle.heap_rule.specs.Copies.{ListsCopy, HasCopy, met_place, shape_of_form, known}
 use Rattle.heap_rule.specs.Limits.{sizes_in}
 use Rattle.heap_rule.specs.Layout.{heap_words}
-use Rattle.heap_rule.specs.Places.{Place, Live, extent, head_of, new_colour, IsBuilt, IsNewHead, IsOldAt, Lasts, More, IsHeadOf}
+use Rattle.heap_rule.specs.Places.{Place, Live, extent, head_of, new_colour, IsNewHead, IsOldAt, Lasts, More, IsHeadOf}
 use Rattle.heap_rule.specs.Pools.{prepared_at}
 use Rattle.heap_rule.specs.declared.view.Held.{Held}
 use Rattle.heap_rule.specs.Finalisers.{held_at}
@@ -26,10 +26,10 @@ use Rattle.steps_cycle.specs.Arming.{knowing_armed}
 use Rattle.heap_words.specs.declared.colours.Colours.{Colours}
 use Rattle.heap_rule.proofs.HeadLemmas.{packable_head}
 
-pub form_shape : (s : Shape) → IsBuilt s → shape_of_form (form_of s) ≡ s
-form_shape (PlainShape size tag) built = refl
-form_shape (RawShape size tag) built = absurd built
-form_shape (EpheShape keys) built = refl
+pub form_shape : (s : Shape) → shape_of_form (form_of s) ≡ s
+form_shape (PlainShape size tag) = refl
+form_shape (RawShape size tag) = refl
+form_shape (EpheShape keys) = refl
 
 pub known_here : (m : Met) (ms : List Met) → known (m ∷ ms) m.address ≡ Some (met_place m)
 known_here m ms = ap (λ (b : Bool). cond b (Some (met_place m)) (known ms m.address)) (eq-eqb m.address m.address refl)
@@ -213,7 +213,7 @@ module _ (k : Config) (at : ℕ) (x : DomainView) (word : ℕ) (y : DomainView) 
 
 -- the head of a block that was met says how large it is
 pub head_for : (k : Config) (x : DomainView) (a word : ℕ) → AllFit k x → (m : IsMetWith x a word) → IsHeadFor m.place.shape word
-head_for k x a word fit m = let f = fit a m.place m.met in let h = m.head in record { built = f.built; head = record { colour = new_colour h.beside h.colours; scanned = false; packable = packable_head m.place.shape (new_colour h.beside h.colours) false h.fits f.head; packs = h.packs } }
+head_for k x a word fit m = let f = fit a m.place m.met in let h = m.head in record { head = record { colour = new_colour h.beside h.colours; scanned = false; fits = f.head; packable = packable_head m.place.shape (new_colour h.beside h.colours) false h.fits f.head; packs = h.packs } }
 
 pub claimed_after : (k : Config) (a c : ℕ) (x y z : DomainView) → Grown k x y → Claimed k a y z c → Claimed k a x z c
 claimed_after k a c x y z g t = record { grown = grown_twice k x y z g t.grown; old = t.old; copied = t.copied; same = t.same }

@@ -12,7 +12,7 @@ use Rattle.heap_rule.specs.declared.view.Hunt.TheVariants.{Rests, Heads}
 use Rattle.heap_rule.specs.declared.view.DomainView.{DomainView}
 use Rattle.heap_rule.specs.Copies.{ListsCopy, HasCopy, met_place, known}
 use Rattle.heap_rule.specs.Limits.{sizes_in}
-use Rattle.heap_rule.specs.Places.{Place, Live, IsBuilt, IsOldAt, More}
+use Rattle.heap_rule.specs.Places.{Place, Live, IsOldAt, More}
 use Rattle.heap_rule.specs.Pools.{prepared_at}
 use Rattle.heap_rule.proofs.Lists.{got_end}
 use Rattle.steps_promote.specs.Promotion.{met_of, Knows}
@@ -47,7 +47,7 @@ module _ (k : Config) (young word class copy : ℕ) (x p y : DomainView) (few : 
       place = met_place (met_of c told.place);
       lives = rest;
       label = ap (λ (q : Place). q.label) told_place;
-      shape = form_shape told.place.shape (subst (λ (q : Place). IsBuilt q.shape) (sym told_place) (w.fit young m.place m.met).built) ∙ ap (λ (q : Place). q.shape) told_place;
+      shape = form_shape told.place.shape ∙ ap (λ (q : Place). q.shape) told_place;
     }
 
     -- one copy more is known

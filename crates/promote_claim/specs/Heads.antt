@@ -3,7 +3,7 @@ use Rattle.std.specs.Prelude.{ℕ}
 use Rattle.heap_model.specs.Fronts.{Shape}
 use Rattle.heap_words.specs.declared.head.Head.TheVariants.{Forward}
 use Rattle.heap_words.specs.Heads.{IsPackableHead, head_word}
-use Rattle.heap_rule.specs.Places.{IsBuilt, IsHeadOf}
+use Rattle.heap_rule.specs.Places.{IsHeadOf}
 
 -- the head of a block that forwards to an address
 abbrev pub IsForward : ℕ → Type 0
@@ -15,5 +15,4 @@ forward_word copy = head_word (Forward copy)
 
 -- the word is the head of a block of a shape, which doesn't forward
 pub record IsHeadFor (shape : Shape) (word : ℕ) : Type 0 where
-  pub built : IsBuilt shape
   pub head : IsHeadOf shape word

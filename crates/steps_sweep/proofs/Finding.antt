@@ -53,7 +53,7 @@ module _ (k : Config) (s : Words) (r : Rule k s) (id : ℕ) (hist : List Entry) 
     pub colour_of_dead : (a : ℕ) → IsTrue (r.account.tenancy.garbage a) → IsColoured colours.garbage (at_address k s.words a)
     colour_of_dead a is = let h = r.whole.cycle.leaves.head a is in let c = r.account.cycling.paint.colours in record {
       shape = h.0.0;
-      head = record { colour = c.garbage; scanned = h.1; packable = packable_head h.0.0 c.garbage h.1 r.whole.cycle.meanings.garbage_fits h.0.1; packs = h.2 };
+      head = record { colour = c.garbage; scanned = h.1; fits = h.0.1; packable = packable_head h.0.0 c.garbage h.1 r.whole.cycle.meanings.garbage_fits h.0.1; packs = h.2 };
       colour_is = sym (ap (λ (z : Colours). z.garbage) means_here);
     }
 

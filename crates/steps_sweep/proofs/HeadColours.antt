@@ -6,7 +6,8 @@ use Rattle.heap_words.specs.declared.head.Head.TheVariants.{Plain, Ephe}
 use Rattle.heap_words.specs.Heads.{IsPackableHead, head_word}
 use Rattle.heap_words.specs.Unpacked.{Unpacks}
 use Rattle.heap_words.proofs.HeadLemmas.{block_word-colour, block_word-kind}
-use Rattle.heap_rule.specs.Places.{IsHeadOf}
+use Rattle.heap_rule.specs.Places.{IsHeadOf, tagged}
+use Rattle.heap_rule.proofs.HeadLemmas.{tagged_fits, tagged_head}
 use Rattle.steps_sweep.specs.Freeing.{IsColoured}
 
 -- a block's kind and colour stand in its head
@@ -36,9 +37,13 @@ module _ (word : ℕ) (result : Option Head) (u : Unpacks IsPackableHead head_wo
   pub plain_coloured : (size tag colour : ℕ) (scanned : Bool) → result ≡ Some (Plain size tag colour scanned) → IsColoured colour word
   plain_coloured size tag colour scanned is =
       let found = subst (λ (o : Option Head). IfSome o (λ h. IsPackableHead h × (head_word h ≡ word))) is u.found in
-      record { shape = PlainShape size tag; head = record { colour = colour; scanned = scanned; packable = found.0; packs = sym found.1 }; colour_is = refl }
+      let same = tagged_head size tag colour scanned in record {
+        shape = tagged size tag;
+        head = record { colour = colour; scanned = scanned; fits = let p = found.0 in tagged_fits size tag p.0 p.1 p.2; packable = subst IsPackableHead (sym same) found.0; packs = sym found.1 ∙ ap head_word (sym same) };
+        colour_is = refl;
+      }
 
   pub ephe_coloured : (keys colour : ℕ) (scanned : Bool) → result ≡ Some (Ephe keys colour scanned) → IsColoured colour word
   ephe_coloured keys colour scanned is =
       let found = subst (λ (o : Option Head). IfSome o (λ h. IsPackableHead h × (head_word h ≡ word))) is u.found in
-      record { shape = EpheShape keys; head = record { colour = colour; scanned = scanned; packable = found.0; packs = sym found.1 }; colour_is = refl }
+      record { shape = EpheShape keys; head = record { colour = colour; scanned = scanned; fits = (let p = found.0 in (p.0, p.1)); packable = found.0; packs = sym found.1 }; colour_is = refl }

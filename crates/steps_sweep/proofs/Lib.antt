@@ -23,3 +23,4 @@ pub mod ReturnSteps
 pub mod LiveCounts
 pub mod Dues
 pub mod AnswerSteps
+pub mod Entering

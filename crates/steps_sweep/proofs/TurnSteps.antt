@@ -13,11 +13,12 @@ use Rattle.heap_model.specs.declared.graph.Value.TheVariants.{Block, Nothing}
 use Rattle.heap_model.specs.declared.state.Sizes.{Sizes}
 use Rattle.heap_model.specs.declared.state.State as model
 use Rattle.heap_model.specs.Domains.{domain_at, opening, register}
-use Rattle.heap_model.specs.Commands.{key_value}
+use Rattle.heap_model.specs.Commands.{has_full_fields, is_int_value, key_value}
 use Rattle.heap_model.specs.Entries.{full_keys}
-use Rattle.heap_model.specs.Fronts.{shape_of}
 use Rattle.heap_model.specs.Graph.{has_label, label_of, node_at, same_label}
 use Rattle.heap_model.proofs.Graphs.GraphLemmas.{same_label_refl}
+use Rattle.heap_model.proofs.Graphs.ListLemmas.{all_at}
+use Rattle.heap_model.proofs.Histories.FieldLemmas.{fields_law}
 use Rattle.heap_model.proofs.Reach.ReachLemmas.{or_left}
 use Rattle.heap_model.proofs.Histories.ShapeAfterLemmas.{shaped-history}
 use Rattle.heap_words.specs.ColourWords.{colours_word, rotated}
@@ -48,7 +49,7 @@ use Rattle.heap_rule.specs.Cycles.{Cycled, Cycling, Facts, IsCollecting, IsGarba
 use Rattle.heap_rule.specs.Layout.{at_address, before_heap, heap_words}
 use Rattle.heap_rule.specs.Limits.{sizes_in}
 use Rattle.heap_rule.specs.Phases.{AtStage}
-use Rattle.heap_rule.specs.Places.{IsBare, IsBuilt, IsOldAt, Live, Place, head_of, values_of, without_keys}
+use Rattle.heap_rule.specs.Places.{IsBare, IsOldAt, Live, Place, head_of, values_of, without_keys}
 use Rattle.heap_rule.specs.Pools.{Grid, Hunter, Tenancy, place_in, IsBefore, OwnPlace, blocks_of, owned}
 use Rattle.heap_rule.specs.Raw.{CanLeave, Closes, Leaves, MayStore}
 use Rattle.heap_rule.specs.Rule.{AllFound, Good, Rule, Sharing, Stood, state_of}
@@ -171,11 +172,11 @@ module _ (k : Config) (s : Words) (r : Rule k s) (id : ℕ) (hist : List Entry) 
   back b q lives = record { place = q; lives = (kept_was c.before live b q lives).0; label = refl; shape = refl; forward = refl }
 
   -- what a marked block refers to is marked
-  leads_field : (l : Label) → IsTrue (c.before l) → (n : Node) → node_at now.graph l ≡ Some n → IsBuilt (shape_of n) → (i : ℕ) (y : Label) → slice_get (values_of n) i ≡ Some (Block y) → IsTrue (c.before y)
-  leads_field l is (Plain tag fields) there built i y got = leads.fields l is y (subst (λ (o : Option Node). IsTrue (has_label (fields_of o) y)) (sym there) (listed_at label_of fields i (Block y) y got refl))
-  leads_field l is (Raw tag fields) there built i y got = absurd built
-  leads_field l is (Ephe keys datum) there built zero y got = let same : datum ≡ Block y = same_Some datum (Block y) got in leads.datum l is y (subst (λ (o : Option Node). IsTrue (has_label (data_of o) y)) (sym there) (subst (λ (v : Value). IsTrue (has_label (option_to_list (label_of v)) y)) (sym same) (label_here y)))
-  leads_field l is (Ephe keys datum) there built (suc j) y got = leads.keys l is y (subst (λ (o : Option Node). IsTrue (has_label (full_keys o) y)) (sym there) (listed_at (λ o. o) keys j (Some y) y (key_at keys j y got) refl))
+  leads_field : (l : Label) → IsTrue (c.before l) → (n : Node) → node_at now.graph l ≡ Some n → IsTrue (has_full_fields n) → (i : ℕ) (y : Label) → slice_get (values_of n) i ≡ Some (Block y) → IsTrue (c.before y)
+  leads_field l is (Plain tag fields) there full i y got = leads.fields l is y (subst (λ (o : Option Node). IsTrue (has_label (fields_of o) y)) (sym there) (listed_at label_of fields i (Block y) y got refl))
+  leads_field l is (Raw tag fields) there full i y got = absurd (let clash : false ≡ true = all_at is_int_value fields full i (Block y) got in cc)
+  leads_field l is (Ephe keys datum) there full zero y got = let same : datum ≡ Block y = same_Some datum (Block y) got in leads.datum l is y (subst (λ (o : Option Node). IsTrue (has_label (data_of o) y)) (sym there) (subst (λ (v : Value). IsTrue (has_label (option_to_list (label_of v)) y)) (sym same) (label_here y)))
+  leads_field l is (Ephe keys datum) there full (suc j) y got = leads.keys l is y (subst (λ (o : Option Node). IsTrue (has_label (full_keys o) y)) (sym there) (listed_at (λ o. o) keys j (Some y) y (key_at keys j y got) refl))
 
   -- no block misses keys
   whole : (l : Label) → c.paint.emptied l ≡ []
@@ -199,7 +200,7 @@ module _ (k : Config) (s : Words) (r : Rule k s) (id : ℕ) (hist : List Entry) 
         };
         blank = f.blank;
         label = f.label;
-        values = λ i v has got. let w = f.values i v has got in record { value = w.value; packs = w.packs; stands = stands_left c.before live w.value v (λ l e. leads_field p.label was.1 f.node f.there (subst IsBuilt (sym f.shape) (r.whole.placed.fits a p was.0).built) i l (whole_value f.node p.label i v got ∙ ap Some e)) w.stands };
+        values = λ i v has got. let w = f.values i v has got in record { value = w.value; packs = w.packs; stands = stands_left c.before live w.value v (λ l e. leads_field p.label was.1 f.node f.there (fields_law (sizes_in k) r.account.log p.label f.node f.there) i l (whole_value f.node p.label i v got ∙ ap Some e)) w.stands };
         old = f.old;
       }
 

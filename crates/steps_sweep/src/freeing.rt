@@ -43,13 +43,20 @@ impl Writing for Entering {
 
     ghost writes = { λ s found _ own after. SweepsOwn s.pool found own after };
 
+    #[tactic(auto, using(crate::proofs::Entering::none_left))]
     fn write(&self, found: u64, _changes: &[Change], own: &mut Own) {
         let slot = own.swept.spot.slot;
-        if !own_class(found, own.number).is_some_and(|class| slot < class_blocks(class)) {
-            own.swept.spot = Spot {
-                pool: self.pool + 1,
-                slot: 0,
-            };
+        let next = Spot {
+            pool: self.pool + 1,
+            slot: 0,
+        };
+        match own_class(found, own.number) {
+            None => own.swept.spot = next,
+            Some(class) => {
+                if class_blocks(class) <= slot {
+                    own.swept.spot = next;
+                }
+            }
         }
     }
 }
