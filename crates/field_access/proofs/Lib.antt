@@ -4,4 +4,5 @@ pub mod FieldSteps
 pub mod FieldStores
 pub mod Loading
 pub mod Looking
+pub mod Refusing
 pub mod Unpacking

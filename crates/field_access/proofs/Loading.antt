@@ -1,5 +1,5 @@
 -- A load of a field whose block was looked at before.
-use Rattle.std.proofs.Common.{◌≡◌, ◌∙◌, ℕ, zero, suc, ◌<◌, false, List, [], ◌∷◌, ◌++◌, length, get_or, slice_get, Some, refl, sym, ap, arith, get_or-set_same}
+use Rattle.std.proofs.Common.{◌≡◌, ◌∙◌, ℕ, zero, suc, ◌<◌, false, List, [], ◌∷◌, ◌++◌, length, get_or, set, slice_get, Some, refl, sym, ap, arith, get_or-set_same, ⊎_elim}
 use Rattle.heap_model.specs.declared.command.Command.TheVariants.{Load}
 use Rattle.heap_model.specs.declared.entry.Entry.{Entry}
 use Rattle.heap_model.specs.declared.entry.Entry.TheVariants.{Command}
@@ -10,15 +10,17 @@ use Rattle.heap_model.specs.declared.reply.Applied.TheVariants.{Replied}
 use Rattle.heap_model.specs.declared.state.Sizes.{Sizes}
 use Rattle.heap_model.specs.declared.state.State.{State}
 use Rattle.heap_model.specs.Commands.{shown}
+use Rattle.heap_model.specs.declared.graph.Node.TheVariants.{Plain, Raw}
+use Rattle.heap_model.specs.Graph.{node_at}
 use Rattle.heap_model.specs.Domains.{domain_at, register, opening, IsWithinLimits}
 use Rattle.heap_model.specs.Entries.{next}
 use Rattle.heap_model.specs.History.{state_after}
-use Rattle.heap_model.specs.Fronts.{Answers, HoldsPlain}
+use Rattle.heap_model.specs.Fronts.{Answers, HoldsFields}
 use Rattle.heap_model.proofs.Histories.AnswerLemmas.{before_entry}
 use Rattle.heap_model.proofs.Commands.FrameLemmas.{inside_running}
 use Rattle.heap_model.proofs.Histories.FrontLemmas.{keeps_front, holds_later}
 use Rattle.heap_model.proofs.Histories.HistoryLemmas.{state_after-push}
-use Rattle.heap_model.proofs.Commands.LeavesLemmas.{leaves_load}
+use Rattle.heap_model.proofs.Commands.LeavesLemmas.{Leaves, leaves_load, leaves_load_raw}
 use Rattle.heap_model.proofs.Histories.ShapeAfterLemmas.{shaped-history}
 
 -- the values that a reply shows
@@ -43,7 +45,7 @@ replied_same r s e = cc
 
 -- after a load its register holds what the reply shows
 pub loaded : (z : Sizes) (d : ℕ) (mid new : List Entry) (dst src i size : ℕ) (held : Value) → IsWithinLimits z → (domain_at (state_after (opening z) mid) d).ended ≡ false → dst < 16
-    → HoldsPlain (state_after (opening z) mid) d src size → i < size → Answers z d mid new (Command d (Load dst src i) false) (Replied (shown held))
+    → HoldsFields (state_after (opening z) mid) d src size → i < size → Answers z d mid new (Command d (Load dst src i) false) (Replied (shown held))
     → register (state_after (opening z) new) d dst ≡ held
 loaded z d mid new dst src i size held limits acts goes holds inside x =
     let s : State = state_after (opening z) (mid ++ x.between) in
@@ -53,7 +55,9 @@ loaded z d mid new dst src i size held limits acts goes holds inside x =
     let part : d < length s.domains = inside_running s.domains d running in
     let wide : length (domain_at s d).registers ≡ 16 = (shaped-history z (mid ++ x.between) limits).register_count d part in
     let field = field_there there.fields i (omega (arith, there.size)) in
-    let leaves = leaves_load s d part dst src i there.label there.tag there.fields field.0 there.held there.node field.1 in
+    let leaves : Leaves s (Command d (Load dst src i) false) d s.graph (set (domain_at s d).registers dst field.0) (domain_at s d).serial (Replied (shown field.0)) =
+    ⊎_elim (λ (plain : node_at s.graph there.label ≡ Some (Plain there.tag there.fields)). leaves_load s d part dst src i there.label there.tag there.fields field.0 there.held plain field.1)
+    (λ (raw : node_at s.graph there.label ≡ Some (Raw there.tag there.fields)). leaves_load_raw s d part dst src i there.label there.tag there.fields field.0 there.held raw field.1) there.node in
     let same : field.0 ≡ held = shown_same field.0 held (replied_same _ _ (sym leaves.replies ∙ x.replies)) in
     let here : state_after (opening z) new ≡ next s (Command d (Load dst src i) false) = ap (state_after (opening z)) x.appends ∙ state_after-push (opening z) (mid ++ x.between) _ in
     ap (λ (t : State). register t d dst) here ∙ ap (λ (xs : List Value). get_or xs dst Nothing) leaves.registers_are ∙ get_or-set_same (domain_at s d).registers dst field.0 Nothing (omega (arith, wide)) ∙ same

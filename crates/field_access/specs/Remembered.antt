@@ -1,7 +1,7 @@
 -- What a store leaves of the fields that a domain remembers.
 use Rattle.std.specs.Prelude.{◌≡◌, ℕ, ◌+◌, ◌-◌, [], ◌∷◌, ◌++◌}
 use Rattle.heap_model.specs.declared.reply.Reply.{Reply}
-use Rattle.heap_model.specs.declared.reply.Reply.TheVariants.{Done}
+use Rattle.heap_model.specs.declared.reply.Reply.TheVariants.{Done, Yes}
 use Rattle.heap_words.specs.declared.value.Value.{Value}
 use Rattle.heap_words.specs.declared.value.Value.TheVariants.{Ref}
 use Rattle.remembered_set.specs.Bounded.{Bounded}
@@ -16,6 +16,10 @@ pub record ChangesRemembered (old new : Token) : Type 0 where
 -- the store is made, and puts a block of a minor area into a block of a pool
 abbrev pub PutsYoung : Config → Reply → Value → Value → Type 0
 PutsYoung k reply block value = (reply ≡ Done) × MustRemember k block value
+
+-- the same of a compare-and-set
+abbrev pub SetsYoung : Config → Reply → Value → Value → Type 0
+SetsYoung k reply block value = (reply ≡ Yes) × MustRemember k block value
 
 -- the address of a field of the block that the value is
 abbrev pub field_of : Value → ℕ → ℕ

@@ -1,5 +1,8 @@
 -- What the shape of a block tells.
-use Rattle.std.specs.Prelude.{ℕ, Option, Some, None}
+use Rattle.std.specs.Prelude.{ℕ, Bool, ◌&&◌, Option, Some, None}
+use Rattle.heap_words.specs.declared.value.Value.{Value}
+use Rattle.heap_rule.specs.Places.{needs_no_scan}
+use Rattle.steps_run.specs.Loads.{is_block}
 use Rattle.heap_model.specs.Fronts.{Shape, PlainShape, RawShape, EpheShape}
 
 -- the number of fields of a plain or raw block
@@ -7,3 +10,7 @@ abbrev pub size_of : Shape → Option ℕ
 size_of (PlainShape size tag) = Some size
 size_of (RawShape size tag) = Some size
 size_of (EpheShape keys) = None
+
+-- a block with this shape doesn't take the value into its fields: it is a raw one, and the value is a block
+abbrev pub refuses : Shape → Value → Bool
+refuses shape value = needs_no_scan shape && is_block value

@@ -1,4 +1,4 @@
-//! Loads and stores of the fields of plain blocks.
+//! Loads and stores of the fields of blocks, plain or raw.
 ghost use Rattle.std.specs.Prelude.{◌≡◌, ◌≢◌, ◌↔◌, ◌<◌, ◌≤◌, ℕ, true, Option};
 ghost use Rattle.heap_model.specs.declared.command.Command.TheVariants.{Load, Store};
 ghost use Rattle.heap_model.specs.declared.entry.Entry.{Entry};
@@ -15,11 +15,12 @@ ghost use Rattle.heap_rule.specs.Places.{Shows, IsHeadOf};
 ghost use Rattle.heap_rule.specs.Rule.{state_of};
 ghost use Rattle.heap_rule.specs.Running.{Runs, Did, ChangesRegisters, own_entry};
 ghost use Rattle.heap_rule.specs.Token.{Holds, IsIn};
+ghost use Rattle.heap_words.specs.declared.value.Value as words;
 ghost use Rattle.heap_words.specs.declared.value.Value.TheVariants.{Ref};
 ghost use Rattle.steps_run.specs.Stores.{MustRemember};
 ghost use Rattle.field_access.specs.Registers.{LoadsInto};
 ghost use Rattle.field_access.specs.Remembered.{ChangesRemembered, PutsYoung, field_of, one_more};
-ghost use Rattle.field_access.specs.Shapes.{size_of};
+ghost use Rattle.field_access.specs.Shapes.{size_of, refuses};
 
 use barriers::overwrite_barrier;
 use heap_model::label::Label;
@@ -29,8 +30,8 @@ use heap_words::{Head, Value, pack_value, unpack_head, unpack_label};
 use size_classes::POOL_WORDS;
 use steps_run::{field_load, field_store, head_load, label_load, tick};
 
-// The number of fields of the plain block whose head this is, and nothing for an ephemeron.
-fn plain_size(head: u64) -> Option<u16>
+/// The number of fields of the block whose head this is, and nothing for an ephemeron.
+pub fn field_count(head: u64) -> Option<u16>
     requires { (s : Shape) × IsHeadOf s head }
     ensures { (s : Shape) → IsHeadOf s head → result ≡ size_of s }
 {
@@ -38,6 +39,26 @@ fn plain_size(head: u64) -> Option<u16>
         Some(Head::Plain { size, .. }) => Some(size),
         Some(Head::Ephe { .. }) => None,
         Some(Head::Free) | Some(Head::Forward(_)) | None => unreachable!(),
+    }
+}
+
+// The least tag of a raw block.
+const FIRST_RAW: u8 = 251;
+
+/// Whether the block whose head this is doesn't take the value into its fields: it is a raw block, and
+/// the value is another.
+pub fn refuses_value(head: u64, value: Value) -> bool
+    requires { (s : Shape) × IsHeadOf s head }
+    ensures { (s : Shape) → IsHeadOf s head → result ≡ refuses s value }
+{
+    let raw = match unpack_head(head) {
+        Some(Head::Plain { tag, .. }) => FIRST_RAW <= tag,
+        Some(Head::Ephe { .. }) => false,
+        Some(Head::Free) | Some(Head::Forward(_)) | None => unreachable!(),
+    };
+    match value {
+        Value::Ref(_) => raw,
+        _ => false,
     }
 }
 
@@ -89,7 +110,7 @@ fn load_as(heap: &Heap, dom: &mut Domain, dst: u8, src: u8, index: u16) -> Reply
         tick(heap, dom, 0, &[]);
         return Reply::BadType;
     };
-    let Some(size) = plain_size(head_load(heap, dom, address, &[])) else {
+    let Some(size) = field_count(head_load(heap, dom, address, &[])) else {
         return Reply::BadType;
     };
     if index >= size {
@@ -100,8 +121,8 @@ fn load_as(heap: &Heap, dom: &mut Domain, dst: u8, src: u8, index: u16) -> Reply
     shown_register(heap, dom, dst)
 }
 
-/// Loads a field of the plain block in a register into another. The reply is `type` where register
-/// `src` holds no plain block, and else `bounds` where the block has no such field: then the
+/// Loads a field of the block in a register into another. The reply is `type` where register `src`
+/// holds no plain or raw block, and else `bounds` where the block has no such field: then the
 /// registers stay as they are. Else register `dst` holds what the field does, and the reply shows
 /// it: an integer or the label of a block, since no field holds nothing. Registers are below 16, the
 /// domain's trace hasn't ended, and no finaliser waits in its queue.
@@ -157,9 +178,13 @@ fn store_as(heap: &Heap, dom: &mut Domain, block: u8, index: u16, item: u8) -> R
         tick(heap, dom, 0, &[]);
         return Reply::BadType;
     }
-    let Some(size) = plain_size(head_load(heap, dom, address, &[])) else {
+    let head = head_load(heap, dom, address, &[]);
+    let Some(size) = field_count(head) else {
         return Reply::BadType;
     };
+    if refuses_value(head, value) {
+        return Reply::BadType;
+    }
     if index >= size {
         return Reply::BadIndex;
     }
@@ -170,9 +195,9 @@ fn store_as(heap: &Heap, dom: &mut Domain, block: u8, index: u16, item: u8) -> R
     Reply::Done
 }
 
-/// Stores what a register holds into a field of the plain block in another. The reply is `type`
-/// where register `block` holds no plain block or register `item` holds nothing, and else `bounds`
-/// where the block has no such field. While a cycle goes on beside running domains, what the field
+/// Stores what a register holds into a field of the block in another. The reply is `type` where
+/// register `block` holds no plain or raw block, register `item` holds nothing, or the block is a raw
+/// one and register `item` holds a block, and else `bounds` where the block has no such field. While a cycle goes on beside running domains, what the field
 /// refers to is marked before it is overwritten. A field of a block in a pool that gets a block in a
 /// minor area is one more that the domain remembers. Registers are below 16, the domain's trace hasn't ended, no
 /// finaliser waits in its queue, and it has room for one more field.
