@@ -1,7 +1,7 @@
 -- What the try of a command leaves, by what was called.
 use Rattle.std.proofs.Common.{◌≡◌, ◌∙◌, ℕ, ◌+◌, ◌<◌, ◌≤◌, Bool, true, List, refl, sym, ap, subst, arith}
 use Rattle.heap_model.specs.declared.command.Command.{Command}
-use Rattle.heap_model.specs.declared.command.Command.TheVariants.{Store, SetKey, SetData, Finalise, FinaliseLast}
+use Rattle.heap_model.specs.declared.command.Command.TheVariants.{Store, Cas, SetKey, SetData, Finalise, FinaliseLast}
 use Rattle.heap_model.specs.declared.entry.Entry.{Entry}
 use Rattle.heap_model.specs.declared.reply.Reply.{Reply}
 use Rattle.heap_model.specs.declared.reply.Applied.{Applied}
@@ -62,6 +62,8 @@ no_room room some few = omega arith
 pub store_answers : (h : SharedHeap) (old new : Token) (c : Command) (served collected : Bool) (r : Reply) → IsStore c → 1 ≤ old.view.own.remembered.room → Did h old new c r → ChangesRemembered old new → new.view.own.registers ≡ old.view.own.registers
     → Remembers h.config old.view.own new.view.own c r → AttemptAnswers h old new c served collected (Made r)
 store_answers h old new (Store block index item) served collected r stores room did changes registers remembers =
+    (record { runs = did.runs; stands = did.answers; heap = did.heap; stays = did.stays; own = remembered_own old.view.own new.view.own changes.own registers; remembers = remembers; lists = ap (λ (o : Own). o.ephemerons) changes.own }, no_room old.view.own.remembered.room room)
+store_answers h old new (Cas block index expected item) served collected r stores room did changes registers remembers =
     (record { runs = did.runs; stands = did.answers; heap = did.heap; stays = did.stays; own = remembered_own old.view.own new.view.own changes.own registers; remembers = remembers; lists = ap (λ (o : Own). o.ephemerons) changes.own }, no_room old.view.own.remembered.room room)
 store_answers h old new (SetKey ephe index item) served collected r stores room did changes registers remembers =
     (record { runs = did.runs; stands = did.answers; heap = did.heap; stays = did.stays; own = remembered_own old.view.own new.view.own changes.own registers; remembers = remembers; lists = ap (λ (o : Own). o.ephemerons) changes.own }, no_room old.view.own.remembered.room room)

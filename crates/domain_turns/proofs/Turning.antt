@@ -11,7 +11,7 @@ use Rattle.heap_model.proofs.Histories.AnswerLemmas.{commands_after, replies_aft
 use Rattle.heap_rule.specs.declared.config.Config.{Config}
 use Rattle.heap_rule.specs.Limits.{sizes_in}
 use Rattle.heap_rule.specs.Token.{Token, SharedHeap, IsIn}
-use Rattle.heap_model.specs.declared.command.Command.TheVariants.{PutInt, Alloc, AllocMaj, Ephe, FullMajor}
+use Rattle.heap_model.specs.declared.command.Command.TheVariants.{PutInt, Alloc, AllocMaj, Ephe, FullMajor, Raw}
 use Rattle.heap_model.specs.Domains.{domain_at}
 use Rattle.heap_model.specs.Fronts.{Answers}
 use Rattle.heap_model.proofs.Histories.AnswerLemmas.{acts_after}
@@ -68,6 +68,7 @@ own d c full = ap (λ (b : Bool). cond b (c ∷ []) []) (eq-eqb d d refl)
 -- the entry that stands
 pub stood : (h : SharedHeap) (old new : Token) (c : model.Command) (collected : Bool) (r : Reply) → Stands h old new c collected r → (full : Bool) × Enters old new c full r
 stood h old new (Alloc dst tag fields) collected r s = ⊎_elim (λ a. (false, a.0)) (λ b. (true, b.0)) s
+stood h old new (Raw dst tag fields) collected r s = ⊎_elim (λ a. (false, a.0)) (λ b. (true, b.0)) s
 stood h old new (AllocMaj dst tag fields) collected r s = ⊎_elim (λ a. (false, a.0)) (λ b. (true, b.0)) s
 stood h old new (Ephe dst keys) collected r s = ⊎_elim (λ a. (false, a.0)) (λ b. (true, b.0)) s
 stood h old new (PutInt dst z) collected r s = (false, s)
@@ -82,6 +83,7 @@ next_running r is c at = by r.ended refl where
 
 labels_few : (c : model.Command) (r : Reply) → labels_given c r ≤ 1
 labels_few (Alloc dst tag fields) (Block l) = omega arith
+labels_few (Raw dst tag fields) (Block l) = omega arith
 labels_few (AllocMaj dst tag fields) (Block l) = omega arith
 labels_few (Ephe dst keys) (Block l) = omega arith
 labels_few c r = omega arith

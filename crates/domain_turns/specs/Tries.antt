@@ -1,7 +1,7 @@
 -- What the try of a command leaves.
 use Rattle.std.specs.Prelude.{◌≡◌, ℕ, ◌+◌, ◌<◌, ◌≤◌, ◌⊎◌, List, Bool, true, false, Some, None}
 use Rattle.heap_model.specs.declared.command.Command.{Command}
-use Rattle.heap_model.specs.declared.command.Command.TheVariants.{PutInt, Copy, Forget, Alloc, AllocMaj, Load, Store, Ephe, SetKey, UnsetKey, GetKey, CheckKey, SetData, UnsetData, GetData, CheckData, Finalise, FinaliseLast, Poll, Minor, Major, FullMajor}
+use Rattle.heap_model.specs.declared.command.Command.TheVariants.{PutInt, Copy, Forget, Alloc, AllocMaj, Load, Store, Ephe, SetKey, UnsetKey, GetKey, CheckKey, SetData, UnsetData, GetData, CheckData, Finalise, FinaliseLast, Poll, Minor, Major, FullMajor, Raw, Cas}
 use Rattle.heap_model.specs.declared.entry.Entry.{Entry}
 use Rattle.heap_model.specs.declared.entry.Entry.TheVariants.{Command as CommandOf}
 use Rattle.heap_model.specs.declared.reply.Reply.{Reply}
@@ -23,7 +23,7 @@ use Rattle.heap_rule.specs.declared.view.Spot.{Spot}
 use Rattle.remembered_set.specs.Bounded.{Bounded}
 use Rattle.heap_rule.specs.Places.{class_words}
 use Rattle.heap_rule.specs.Changes.{value_at}
-use Rattle.field_access.specs.Remembered.{PutsYoung, field_of, one_more}
+use Rattle.field_access.specs.Remembered.{PutsYoung, SetsYoung, field_of, one_more}
 use Rattle.ephemeron_rounds.specs.Words.{word_in}
 use Rattle.finaliser_queues.specs.Registering.{own_finalised, own_finalised_last}
 use Rattle.steps_pools.specs.Ephemerons.{with_ephemeron}
@@ -49,10 +49,12 @@ abbrev pub FitsHeap : Command → Type 0
 FitsHeap (PutInt dst value) = (dst < 16) × IsPackable (Int value)
 FitsHeap (Copy dst src) = (dst < 16) × (src < 16)
 FitsHeap (Forget dst) = dst < 16
-FitsHeap (Alloc dst tag fields) = (dst < 16) × (tag ≤ 245) × (1 ≤ fields) × (fields ≤ 126)
-FitsHeap (AllocMaj dst tag fields) = (dst < 16) × (tag ≤ 245) × (1 ≤ fields) × (fields ≤ 126)
+FitsHeap (Alloc dst tag fields) = (dst < 16) × (tag ≤ 245) × (1 ≤ fields) × (fields ≤ 1022)
+FitsHeap (AllocMaj dst tag fields) = (dst < 16) × (tag ≤ 245) × (1 ≤ fields) × (fields ≤ 1022)
+FitsHeap (Raw dst tag fields) = (dst < 16) × (251 ≤ tag) × (tag < 256) × (1 ≤ fields) × (fields ≤ 1022)
 FitsHeap (Load dst src index) = (dst < 16) × (src < 16)
 FitsHeap (Store block index item) = (block < 16) × (item < 16)
+FitsHeap (Cas block index expected item) = (block < 16) × (expected < 16) × (item < 16)
 FitsHeap (Ephe dst keys) = (dst < 16) × (1 ≤ keys) × (keys ≤ 8)
 FitsHeap (SetKey ephe index item) = (ephe < 16) × (item < 16)
 FitsHeap (UnsetKey ephe index) = ephe < 16
@@ -84,6 +86,7 @@ registrations_of _ = 0
 -- a store, after which the domain may have to remember one word more
 abbrev pub IsStore : Command → Type 0
 IsStore (Store block index item) = Unit {0}
+IsStore (Cas block index expected item) = Unit {0}
 IsStore (SetKey ephe index item) = Unit {0}
 IsStore (SetData ephe item) = Unit {0}
 IsStore _ = ⊥
@@ -108,7 +111,9 @@ NeedsPause k own served Minor = served ≡ false
 NeedsPause k own served Major = served ≡ false
 NeedsPause k own served FullMajor = Unit {0}
 NeedsPause k own served (Alloc dst tag fields) = k.minor_words < own.used + class_words (fields + 2)
+NeedsPause k own served (Raw dst tag fields) = k.minor_words < own.used + class_words (fields + 2)
 NeedsPause k own served (Store block index item) = own.remembered.room < 1
+NeedsPause k own served (Cas block index expected item) = own.remembered.room < 1
 NeedsPause k own served (SetKey ephe index item) = own.remembered.room < 1
 NeedsPause k own served (SetData ephe item) = own.remembered.room < 1
 NeedsPause k own served _ = ⊥
@@ -126,6 +131,7 @@ full_entry t c = CommandOf t.view.own.number c true
 -- how many words of the domain's minor area a command takes: those of the block of an allocation that isn't answered `full`
 abbrev pub words_taken : Command → Reply → ℕ
 words_taken (Alloc dst tag fields) (Block l) = class_words (fields + 2)
+words_taken (Raw dst tag fields) (Block l) = class_words (fields + 2)
 words_taken _ _ = 0
 
 -- the entry of a command stands, answered `full` or not
@@ -162,6 +168,9 @@ abbrev pub Stands : SharedHeap → Token → Token → Command → Bool → Repl
 Stands h old new (Alloc dst tag fields) collected r =
     (Enters old new (Alloc dst tag fields) false r × HasSpace h old new fields)
     ⊎ (Enters old new (Alloc dst tag fields) true r × HasNoSpace h old new fields × (collected ≡ true))
+Stands h old new (Raw dst tag fields) collected r =
+    (Enters old new (Raw dst tag fields) false r × HasSpace h old new fields)
+    ⊎ (Enters old new (Raw dst tag fields) true r × HasNoSpace h old new fields × (collected ≡ true))
 Stands h old new (AllocMaj dst tag fields) collected r =
     (Enters old new (AllocMaj dst tag fields) false r × HasPool h.config (fields + 2) old.view new.view)
     ⊎ (Enters old new (AllocMaj dst tag fields) true r × HasNoPool h.config (fields + 2) new.view × (collected ≡ true))
@@ -173,6 +182,7 @@ Stands h old new c collected r = Enters old new c false r
 -- why an allocation is refused: too few pools are free, or none is to be had
 abbrev pub IsRefused : SharedHeap → Token → Token → Command → Type 0
 IsRefused h old new (Alloc dst tag fields) = HasNoSpace h old new fields
+IsRefused h old new (Raw dst tag fields) = HasNoSpace h old new fields
 IsRefused h old new (AllocMaj dst tag fields) = HasNoPool h.config (fields + 2) new.view
 IsRefused h old new (Ephe dst keys) = HasNoPool h.config (keys + 3) new.view
 IsRefused h old new _ = ⊥
@@ -205,6 +215,7 @@ RefusesAs h old new c collected NoRoom = (collected ≡ false) × (new ≡ old)
 -- how many labels the command gave out: one where it is an allocation that isn't answered `full`
 abbrev pub labels_given : Command → Reply → ℕ
 labels_given (Alloc dst tag fields) (Block l) = 1
+labels_given (Raw dst tag fields) (Block l) = 1
 labels_given (AllocMaj dst tag fields) (Block l) = 1
 labels_given (Ephe dst keys) (Block l) = 1
 labels_given _ _ = 0
@@ -224,6 +235,7 @@ swept_by _ old new = old.swept
 -- which words the domain then remembers: a store may add one
 abbrev pub remembered_by : Command → Own → Own → Bounded ℕ
 remembered_by (Store block index item) old new = new.remembered
+remembered_by (Cas block index expected item) old new = new.remembered
 remembered_by (SetKey ephe index item) old new = new.remembered
 remembered_by (SetData ephe item) old new = new.remembered
 remembered_by _ old new = old.remembered
@@ -234,9 +246,16 @@ RemembersWord k old new block item at r =
     (PutsYoung k r (value_at old.registers block) (value_at old.registers item) → new.remembered ≡ one_more at old.remembered)
     × ((PutsYoung k r (value_at old.registers block) (value_at old.registers item) → ⊥) → new.remembered ≡ old.remembered)
 
+-- and so does a compare-and-set that is made
+abbrev pub SetsWord : Config → Own → Own → ℕ → ℕ → ℕ → Reply → Type 0
+SetsWord k old new block item at r =
+    (SetsYoung k r (value_at old.registers block) (value_at old.registers item) → new.remembered ≡ one_more at old.remembered)
+    × ((SetsYoung k r (value_at old.registers block) (value_at old.registers item) → ⊥) → new.remembered ≡ old.remembered)
+
 -- no other command adds one
 abbrev pub Remembers : Config → Own → Own → Command → Reply → Type 0
 Remembers k old new (Store block index item) r = RemembersWord k old new block item (field_of (value_at old.registers block) index) r
+Remembers k old new (Cas block index expected item) r = SetsWord k old new block item (field_of (value_at old.registers block) index) r
 Remembers k old new (SetKey ephe index item) r = RemembersWord k old new ephe item (word_in (value_at old.registers ephe) (Some index)) r
 Remembers k old new (SetData ephe item) r = RemembersWord k old new ephe item (word_in (value_at old.registers ephe) None) r
 Remembers k old new _ r = new.remembered ≡ old.remembered

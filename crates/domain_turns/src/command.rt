@@ -1,10 +1,14 @@
 //! One command on the shared heap.
-ghost use Rattle.std.specs.Prelude.{◌≡◌, ◌+◌, ◌^◌, ◌<◌, ◌≤◌, Bool, true};
+ghost use Rattle.std.specs.Prelude.{◌≡◌, ◌+◌, ◌^◌, ◌<◌, ◌≤◌, Bool, true, IfOk, IfErr, OnOk, OnErr};
 ghost use Rattle.heap_model.specs.declared.command.Command as model;
-ghost use Rattle.heap_model.specs.declared.command.Command.TheVariants.{Alloc, AllocMaj, Ephe};
+ghost use Rattle.heap_model.specs.declared.command.Command.TheVariants.{Alloc, AllocMaj, Raw, Ephe};
 ghost use Rattle.heap_model.specs.Commands.{is_allocation};
 ghost use Rattle.heap_model.specs.declared.entry.Entry.{Entry};
+ghost use Rattle.heap_model.specs.declared.reply.Reply.TheVariants.{Block};
+ghost use Rattle.heap_rule.specs.Places.{class_words};
 ghost use Rattle.heap_rule.specs.Running.{Runs, Did, ChangesRegisters, own_entry};
+ghost use Rattle.steps_making.specs.Inits.{IsOpen};
+ghost use Rattle.minor_area.specs.Area.{Grows, HasRoom, Needs};
 ghost use Rattle.steps_run.specs.Ticks.{is_quiet};
 ghost use Rattle.steps_run.specs.Ticks.{IsUsedUp};
 ghost use Rattle.steps_finalisers.specs.Registering.{count_of};
@@ -13,9 +17,10 @@ ghost use Rattle.domain_turns.specs.Tries.{AttemptAnswers, FitsHeap, HasFew, IsF
 use ephemeron_rounds::{
     check_data, check_key, get_data, get_key, set_data, set_key, unset_data, unset_key,
 };
-use field_access::{copy, forget, load, put_int, store};
+use field_access::{cas, copy, forget, load, put_int, store};
 use finaliser_queues::{finalise, finalise_last};
 use heap_model::command::Command;
+use heap_model::label::Label;
 use heap_model::reply::Reply;
 use heap_rule::{Domain, Heap};
 use minor_area::{Need, alloc_young};
@@ -108,7 +113,7 @@ fn alloc_in_pools(
     requires runs { Runs heap.now dom.old }
     requires dst { dst < 16 }
     requires tag { tag ≤ 245 }
-    requires fields { (1 ≤ fields) × (fields ≤ 126) }
+    requires fields { (1 ≤ fields) × (fields ≤ 1022) }
     requires serial { dom.old.view.own.serial + 1 < 2 ^ 32 }
     requires fresh { collected ≡ true → IsFresh heap.now.config dom.old.view }
     ensures { (served : Bool) → AttemptAnswers heap.now dom.old dom.new (AllocMaj dst tag fields) served collected result }
@@ -140,6 +145,40 @@ fn create_in_pools(heap: &Heap, dom: &mut Domain, dst: u8, keys: u16, collected:
     }
 }
 
+// Allocates a young block, a plain one: the call of its own command.
+fn alloc_plain(heap: &Heap, dom: &mut Domain, dst: u8, tag: u8, fields: u16) -> Result<Label, Need>
+    requires runs { Runs heap.now dom.old }
+    requires dst { dst < 16 }
+    requires tag { tag ≤ 245 }
+    requires fields { (1 ≤ fields) × (fields ≤ 1022) }
+    requires serial { dom.old.view.own.serial + 1 < 2 ^ 32 }
+    ensures did { IfOk result (λ l. Did heap.now dom.old dom.new (Alloc dst tag fields) (Block l)) }
+    ensures grows { OnOk result (Grows dom.old dom.new (class_words (fields + 2))) }
+    ensures room { OnOk result (HasRoom heap.now.config dom.old.view fields) }
+    ensures open { OnOk result (IsOpen heap.now.config dom.new.view) }
+    ensures needs { IfErr result (λ need. Needs heap.now dom.old dom.new fields need) }
+    ensures runs { OnErr result (Runs heap.now dom.new) }
+{
+    alloc_young(heap, dom, dst, tag, fields)
+}
+
+// Allocates a young block, a raw one: the call of its own command.
+fn alloc_raw(heap: &Heap, dom: &mut Domain, dst: u8, tag: u8, fields: u16) -> Result<Label, Need>
+    requires runs { Runs heap.now dom.old }
+    requires dst { dst < 16 }
+    requires tag { (251 ≤ tag) × (tag < 256) }
+    requires fields { (1 ≤ fields) × (fields ≤ 1022) }
+    requires serial { dom.old.view.own.serial + 1 < 2 ^ 32 }
+    ensures did { IfOk result (λ l. Did heap.now dom.old dom.new (Raw dst tag fields) (Block l)) }
+    ensures grows { OnOk result (Grows dom.old dom.new (class_words (fields + 2))) }
+    ensures room { OnOk result (HasRoom heap.now.config dom.old.view fields) }
+    ensures open { OnOk result (IsOpen heap.now.config dom.new.view) }
+    ensures needs { IfErr result (λ need. Needs heap.now dom.old dom.new fields need) }
+    ensures runs { OnErr result (Runs heap.now dom.new) }
+{
+    alloc_young(heap, dom, dst, tag, fields)
+}
+
 // Allocates in the minor area, or answers that the area has no room, or that too few pools are free.
 fn alloc_in_area(
     heap: &Heap,
@@ -152,16 +191,42 @@ fn alloc_in_area(
     requires runs { Runs heap.now dom.old }
     requires dst { dst < 16 }
     requires tag { tag ≤ 245 }
-    requires fields { (1 ≤ fields) × (fields ≤ 126) }
+    requires fields { (1 ≤ fields) × (fields ≤ 1022) }
     requires serial { dom.old.view.own.serial + 1 < 2 ^ 32 }
     requires fresh { collected ≡ true → IsFresh heap.now.config dom.old.view }
     ensures { (served : Bool) → AttemptAnswers heap.now dom.old dom.new (Alloc dst tag fields) served collected result }
 {
-    match alloc_young(heap, dom, dst, tag, fields) {
+    match alloc_plain(heap, dom, dst, tag, fields) {
         Ok(label) => Attempt::Made(Reply::Block(label)),
         Err(Need::AreaFull { .. }) => Attempt::Needs(Want::Minor),
         Err(Need::Closed { .. }) => {
             refuse(heap, dom, &Command::Alloc { dst, tag, fields }, collected)
+        }
+    }
+}
+
+// Allocates a raw block in the minor area, or answers that the area has no room, or that too few pools are free.
+fn raw_in_area(
+    heap: &Heap,
+    dom: &mut Domain,
+    dst: u8,
+    tag: u8,
+    fields: u16,
+    collected: bool,
+) -> Attempt
+    requires runs { Runs heap.now dom.old }
+    requires dst { dst < 16 }
+    requires tag { (251 ≤ tag) × (tag < 256) }
+    requires fields { (1 ≤ fields) × (fields ≤ 1022) }
+    requires serial { dom.old.view.own.serial + 1 < 2 ^ 32 }
+    requires fresh { collected ≡ true → IsFresh heap.now.config dom.old.view }
+    ensures { (served : Bool) → AttemptAnswers heap.now dom.old dom.new (Raw dst tag fields) served collected result }
+{
+    match alloc_raw(heap, dom, dst, tag, fields) {
+        Ok(label) => Attempt::Made(Reply::Block(label)),
+        Err(Need::AreaFull { .. }) => Attempt::Needs(Want::Minor),
+        Err(Need::Closed { .. }) => {
+            refuse(heap, dom, &Command::Raw { dst, tag, fields }, collected)
         }
     }
 }
@@ -178,6 +243,12 @@ fn try_store(heap: &Heap, dom: &mut Domain, command: &Command) -> Attempt
     }
     let reply = match *command {
         Command::Store { block, index, item } => store(heap, dom, block, index, item),
+        Command::Cas {
+            block,
+            index,
+            expected,
+            item,
+        } => cas(heap, dom, block, index, expected, item),
         Command::SetKey { ephe, index, item } => set_key(heap, dom, ephe, index, item),
         Command::SetData { ephe, item } => set_data(heap, dom, ephe, item),
         _ => unreachable!(),
@@ -259,11 +330,17 @@ pub(crate) fn try_command(
         Command::Alloc { dst, tag, fields } => {
             alloc_in_area(heap, dom, dst, tag, fields, collected)
         }
+        Command::Raw { dst, tag, fields } => {
+            raw_in_area(heap, dom, dst, tag, fields, collected)
+        }
         Command::AllocMaj { dst, tag, fields } => {
             alloc_in_pools(heap, dom, dst, tag, fields, collected)
         }
         Command::Ephe { dst, keys } => create_in_pools(heap, dom, dst, keys, collected),
-        Command::Store { .. } | Command::SetKey { .. } | Command::SetData { .. } => {
+        Command::Store { .. }
+        | Command::Cas { .. }
+        | Command::SetKey { .. }
+        | Command::SetData { .. } => {
             try_store(heap, dom, command)
         }
         Command::Finalise { .. } | Command::FinaliseLast { .. } => {

@@ -1,5 +1,7 @@
 -- What an allocation finds and leaves.
-use Rattle.std.specs.Prelude.{◌≡◌, ℕ, ◌+◌, ◌<◌, ◌≤◌, Bool, Some}
+use Rattle.std.specs.Prelude.{◌≡◌, ◌⊎◌, ℕ, ◌+◌, ◌<◌, ◌≤◌, Bool, Some, nat_le, if◌then◌else◌}
+use Rattle.heap_model.specs.declared.command.Command.{Command}
+use Rattle.heap_model.specs.declared.command.Command.TheVariants.{Alloc, Raw as NewRaw}
 use Rattle.heap_model.specs.Domains.{reserve}
 use Rattle.heap_rule.specs.declared.config.Config.{Config}
 use Rattle.heap_rule.specs.declared.view.DomainView.{DomainView}
@@ -11,6 +13,14 @@ use Rattle.heap_rule.specs.Places.{class_words, new_colour}
 use Rattle.steps_pools.specs.Takes.{found_free}
 use Rattle.minor_area.specs.declared.need.Need.{Need}
 use Rattle.minor_area.specs.declared.need.Need.TheVariants.{AreaFull, Closed}
+
+-- the tags of blocks with fields: up to 245 of plain ones, and from 251 on of raw ones
+abbrev pub IsBlockTag : ℕ → Type 0
+IsBlockTag tag = (tag ≤ 245) ⊎ ((251 ≤ tag) × (tag < 256))
+
+-- the command that allocates a young block with this tag
+abbrev pub young_command : ℕ → ℕ → ℕ → Command
+young_command dst tag fields = if nat_le 251 tag then NewRaw dst tag fields else Alloc dst tag fields
 
 -- the colour is that of a new block, whose domain knows the colours and whether a cycle goes on beside running domains
 pub record IsNewColour (x : DomainView) (colour : ℕ) : Type 0 where

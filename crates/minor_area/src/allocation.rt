@@ -1,6 +1,5 @@
 //! The allocation of a young block.
 ghost use Rattle.std.specs.Prelude.{◌≡◌, ◌+◌, ◌^◌, ◌<◌, ◌≤◌, Bool, slice_set, IfOk, IfErr, OnOk, OnErr};
-ghost use Rattle.heap_model.specs.declared.command.Command.TheVariants.{Alloc};
 ghost use Rattle.heap_model.specs.declared.entry.Entry.{Entry};
 ghost use Rattle.heap_model.specs.declared.reply.Reply.TheVariants.{Block};
 ghost use Rattle.heap_words.specs.declared.colours.Colours.{Colours};
@@ -15,7 +14,7 @@ ghost use Rattle.heap_rule.specs.Running.{Runs, Did, own_entry};
 ghost use Rattle.heap_rule.specs.Token.{Holds, IsIn};
 ghost use Rattle.steps_cycle.specs.Arming.{knowing_armed};
 ghost use Rattle.steps_cycle.specs.Looks.{knowing_colours};
-ghost use Rattle.minor_area.specs.Area.{IsNewColour, Grows, HasRoom, FoundFree, Needs};
+ghost use Rattle.minor_area.specs.Area.{IsBlockTag, young_command, IsNewColour, Grows, HasRoom, FoundFree, Needs};
 
 use crate::Need;
 use heap_model::label::Label;
@@ -48,16 +47,16 @@ fn new_colour(heap: &Heap, dom: &mut Domain) -> u8
 #[tactic(auto, unfolding(heap_rule::specs::Places::class_words))]
 fn write_block(heap: &Heap, dom: &mut Domain, dst: u8, tag: u8, fields: u16, colour: u8) -> Label
     ghost entry: { Entry }
-    requires entry { entry ≡ own_entry dom.old (Alloc dst tag fields) }
+    requires entry { entry ≡ own_entry dom.old (young_command dst tag fields) }
     requires runs { Runs heap.now dom.old }
     requires dst { dst < 16 }
-    requires tag { tag ≤ 245 }
-    requires fields { (1 ≤ fields) × (fields ≤ 126) }
+    requires tag { IsBlockTag tag }
+    requires fields { (1 ≤ fields) × (fields ≤ 1022) }
     requires serial { dom.old.view.own.serial + 1 < 2 ^ 32 }
     requires room { dom.old.view.own.used + class_words (fields + 2) ≤ heap.now.config.minor_words }
     requires opened { IsOpen heap.now.config dom.old.view }
     requires colour { IsNewColour dom.old.view colour }
-    ensures did { Did heap.now dom.old dom.new (Alloc dst tag fields) (Block result) }
+    ensures did { Did heap.now dom.old dom.new (young_command dst tag fields) (Block result) }
     ensures grows { Grows dom.old dom.new (class_words (fields + 2)) }
     ensures free { dom.new.view.seen.free ≡ dom.old.view.seen.free }
     ensures registers { dom.new.view.own.registers ≡ slice_set dom.old.view.own.registers dst (Ref (next_address heap.now.config dom.old.view)) }
@@ -113,9 +112,10 @@ fn find_free(heap: &Heap, dom: &mut Domain) -> u32
     listed - cursor.min(u64::from(limit)) as u32
 }
 
-/// Allocates a plain block of `fields` fields, each the integer 0, in the domain's minor area, and
-/// puts it into register `dst`. Registers are below 16, tags at most 245, fields 1 to 126, fewer than
-/// 4,294,967,295 labels were made, and no finaliser waits in the domain's queue.
+/// Allocates a block of `fields` fields, each the integer 0, in the domain's minor area, and puts it
+/// into register `dst`: a plain block where the tag is at most 245, and a raw one where it is 251 to
+/// 255. It is one of these. Registers are below 16, fields 1 to 1022, fewer than 4,294,967,295 labels
+/// were made, and no finaliser waits in the domain's queue.
 ///
 /// `AreaFull` exactly where the words that are used and those of the block's size class are more
 /// than a minor area has. `Closed` exactly where the area has room and fewer pools are free, by loads
@@ -129,10 +129,10 @@ pub fn alloc_young(
 ) -> Result<Label, Need>
     requires runs { Runs heap.now dom.old }
     requires dst { dst < 16 }
-    requires tag { tag ≤ 245 }
-    requires fields { (1 ≤ fields) × (fields ≤ 126) }
+    requires tag { IsBlockTag tag }
+    requires fields { (1 ≤ fields) × (fields ≤ 1022) }
     requires serial { dom.old.view.own.serial + 1 < 2 ^ 32 }
-    ensures did { IfOk result (λ l. Did heap.now dom.old dom.new (Alloc dst tag fields) (Block l)) }
+    ensures did { IfOk result (λ l. Did heap.now dom.old dom.new (young_command dst tag fields) (Block l)) }
     ensures grows { OnOk result (Grows dom.old dom.new (class_words (fields + 2))) }
     ensures registers { OnOk result (dom.new.view.own.registers ≡ slice_set dom.old.view.own.registers dst (Ref (next_address heap.now.config dom.old.view))) }
     ensures holds { OnOk result (Holds heap.now.config dom.new.view.own.registers) }

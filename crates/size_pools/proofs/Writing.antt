@@ -90,7 +90,7 @@ pooled_head x shape word colour scanned m packs = record {
 }
 
 pub major_may : (h : SharedHeap) (old : Token) (x : DomainView) (a new dst place tag n : ℕ) (runs : IsBusy h old) (r : IsRoom h.config old.view a (n + 2))
-    → x ≡ with_hunt old.view (Fills r.pool r.class r.slot (label_word old.view.own.number (old.view.own.serial + 1) ∷ replicate n 1)) → place ≡ dst → dst < 16 → tag ≤ 245 → 1 ≤ n → n ≤ 126 → old.view.own.serial + 1 < 2 ^ 32
+    → x ≡ with_hunt old.view (Fills r.pool r.class r.slot (label_word old.view.own.number (old.view.own.serial + 1) ∷ replicate n 1)) → place ≡ dst → dst < 16 → tag ≤ 245 → 1 ≤ n → n ≤ 1022 → old.view.own.serial + 1 < 2 ^ 32
     → IsNewHead old.view.seen.share.colours old.view.seen.share.armed true (PlainShape n tag) new → MajorMay h.config x a new (Set Register place (record { value = Ref a; number = 0; more = 0 }) ∷ []) old.view.own.number dst tag n
 major_may h old x a new dst place tag n runs r is same few small some fits serial head =
     subst (λ (z : DomainView × ℕ). MajorMay h.config z.0 a new (Set Register z.1 (record { value = Ref a; number = 0; more = 0 }) ∷ []) old.view.own.number dst tag n) (λ i. (sym is i, sym same i)) record {

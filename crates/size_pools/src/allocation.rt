@@ -39,7 +39,7 @@ fn write_coloured(
     requires room { IsRoom heap.now.config dom.old.view at (fields + 2) }
     requires dst { dst < 16 }
     requires tag { tag ≤ 245 }
-    requires fields { (1 ≤ fields) × (fields ≤ 126) }
+    requires fields { (1 ≤ fields) × (fields ≤ 1022) }
     requires serial { dom.old.view.own.serial + 1 < 2 ^ 32 }
     requires marks { AreNewMarks dom.old.view marks.colour marks.scanned }
     ensures did { Did heap.now dom.old dom.new (AllocMaj dst tag fields) (Block result) }
@@ -78,7 +78,7 @@ fn write_block(heap: &Heap, dom: &mut Domain, at: u32, dst: u8, tag: u8, fields:
     requires room { IsRoom heap.now.config dom.old.view at (fields + 2) }
     requires dst { dst < 16 }
     requires tag { tag ≤ 245 }
-    requires fields { (1 ≤ fields) × (fields ≤ 126) }
+    requires fields { (1 ≤ fields) × (fields ≤ 1022) }
     requires serial { dom.old.view.own.serial + 1 < 2 ^ 32 }
     ensures did { Did heap.now dom.old dom.new (AllocMaj dst tag fields) (Block result) }
     ensures grows { Grows dom.old dom.new }
@@ -91,7 +91,7 @@ fn write_block(heap: &Heap, dom: &mut Domain, at: u32, dst: u8, tag: u8, fields:
 }
 
 /// Allocates a plain block of `fields` fields, each the integer 0, in the major heap, and puts it
-/// into register `dst`. Registers are below 16, tags at most 245, fields 1 to 126, fewer than
+/// into register `dst`. Registers are below 16, tags at most 245, fields 1 to 1022, fewer than
 /// 4,294,967,295 labels were made, and no finaliser waits in the domain's queue.
 ///
 /// `NoPool` exactly where no own pool of the block's class has a free block, no own pool is left to be
@@ -108,7 +108,7 @@ pub fn alloc_major(
     requires runs { Runs heap.now dom.old }
     requires dst { dst < 16 }
     requires tag { tag ≤ 245 }
-    requires fields { (1 ≤ fields) × (fields ≤ 126) }
+    requires fields { (1 ≤ fields) × (fields ≤ 1022) }
     requires serial { dom.old.view.own.serial + 1 < 2 ^ 32 }
     ensures did { IfOk result (λ l. Did heap.now dom.old dom.new (AllocMaj dst tag fields) (Block l)) }
     ensures grows { OnOk result (GrowsBy dom.old dom.new) }

@@ -16,7 +16,7 @@ use steps_pools::fill_store;
 
 /// The size class of a block of so many words.
 pub fn class_for(words: usize) -> u32
-    requires { words ≤ 128 }
+    requires { words ≤ 1024 }
     ensures class { result < class_count }
     ensures least { IsLeastFor SIZES words result }
 {

@@ -20,3 +20,6 @@ returns-in_default c = record { answer = c.try_call.ensures c.args.served c.args
 
 pub returns-in-Finalise : goal.returns-in-Finalise
 returns-in-Finalise c = record { answer = c.try_registration.ensures c.args.served c.args.collected }
+
+pub returns-in-Raw : goal.returns-in-Raw
+returns-in-Raw c = record { answer = subst (λ (command : Command). AttemptAnswers c.args.heap.now c.args.dom.now c.raw_in_area.new.dom command c.args.served c.args.collected c.raw_in_area.result) (sym c.in-Raw.is) (c.raw_in_area.ensures c.args.served) }

@@ -25,3 +25,10 @@ returns-in-SetData c = λ served collected.
     let some = some_room c.remembered_room.result c.args.dom.now.view.own.remembered.room c.remembered_room.ensures c.if-remembered_room-eq0.false in
     subst (λ (command : Command). AttemptAnswers c.args.heap.now c.args.dom.now c.set_data-reply.new.dom command served collected (Made c.set_data-reply.result)) (sym c.in-SetData.is)
     (store_answers c.args.heap.now c.args.dom.now c.set_data-reply.new.dom _ served collected c.set_data-reply.result tt some e.did e.rest e.registers (e.remembered, e.unremembered))
+
+pub returns-in-Cas : goal.returns-in-Cas
+returns-in-Cas c = λ served collected.
+    let e = c.cas-reply.ensures in
+    let some = some_room c.remembered_room.result c.args.dom.now.view.own.remembered.room c.remembered_room.ensures c.if-remembered_room-eq0.false in
+    subst (λ (command : Command). AttemptAnswers c.args.heap.now c.args.dom.now c.cas-reply.new.dom command served collected (Made c.cas-reply.result)) (sym c.in-Cas.is)
+    (store_answers c.args.heap.now c.args.dom.now c.cas-reply.new.dom _ served collected c.cas-reply.result tt some e.did e.rest e.registers (e.remembered, e.unremembered))
