@@ -5,6 +5,7 @@ use Rattle.std.specs.List.{range_with_len}
 use Rattle.std.proofs.lemmas.List.Concat.{flat_map-append}
 use Rattle.heap_model.specs.declared.command.Command.{Command}
 use Rattle.heap_model.specs.Output.{line}
+use Rattle.heap_text.specs.declared.version.Version.TheVariants.{One}
 use Rattle.heap_text.specs.Spelling.{command_text, heading_text, lines_from, section_lines, spelling}
 use Rattle.camlheap_run.specs.Generating.{commands_text, section_text, sections_text}
 
@@ -32,7 +33,7 @@ same_at : (script : List (List Command)) (i : ℕ) → i < length script → sli
 same_at script i below = let same : 0 + i ≡ i = omega arith in ap (λ (m : ℕ). slice_index_or script m []) same
 
 -- a script is its first line and the texts of its sections
-pub spelling_is : (script : List (List Command)) → spelling script ≡ line (codes "heap 1") ++ sections_text script (length script)
+pub spelling_is : (script : List (List Command)) → spelling One script ≡ line (codes "heap 1") ++ sections_text script (length script)
 spelling_is script = ap (λ (l : List ℕ). line (codes "heap 1") ++ l) (from_here script script 0 (same_at script))
 
 -- a range, cut at one of its numbers

@@ -13,13 +13,16 @@ use Rattle.std.proofs.lemmas.Int.{ints}
 use Rattle.std.proofs.lemmas.Bool.{and_parts as both}
 use Rattle.heap_model.specs.declared.command.Command.{Command}
 use Rattle.heap_model.specs.declared.command.Command.TheVariants.{PutInt, Copy, Forget, Alloc, AllocMaj, Load, Store, Raw, Cas, Ephe, SetKey, UnsetKey, GetKey, CheckKey, SetData, UnsetData, GetData, CheckData, Finalise, FinaliseLast, Poll, Minor, Major, FullMajor, Spawn, Argument, PutResult, Join}
-use Rattle.heap_text.specs.declared.form.Operand.TheVariants.{Register, Tag, FieldCount, KeyCount, Index, FinaliserNumber, Integer}
+use Rattle.heap_text.specs.declared.form.Operand.TheVariants.{Register, Tag, RawTag, FieldCount, KeyCount, Index, FinaliserNumber, Integer}
 use Rattle.domain_turns.specs.Tries.{FitsHeap, ephemerons_of}
 use Rattle.domain_turns.specs.Runs.{AllFit, ephemerons_in, registrations_in}
 use Rattle.domain_turns.proofs.Owing.{registrations_few}
 use Rattle.camlheap_run.specs.Reading.{IsSpelled}
 use Rattle.camlheap_run.specs.Running.{most_of}
-use Rattle.heap_text.specs.Forms.{is_writable, fits}
+use Rattle.heap_text.specs.declared.version.Version.{Version}
+use Rattle.heap_text.specs.declared.version.Version.TheVariants.{One, Two}
+use Rattle.heap_text.specs.Script.{Scripted}
+use Rattle.heap_text.specs.Forms.{form, parts, is_built, all_fit, is_writable, fits, most_fields}
 use Rattle.heap_text.proofs.ScriptLemmas.{total-cons}
 
 -- a number in a range that begins at 0 or later
@@ -29,75 +32,109 @@ in_range low high n fits = (grind (arith, ints, nat_tests), grind (arith, ints, 
 in_integers : (v : ℤ) → (int_le (neg_ℤ (pos 4611686018427387904)) v && int_le v (pos 4611686018427387903)) ≡ true → (neg_ℤ (pos (2 ^ 62)) ≤ℤ v) × (v <ℤ pos (2 ^ 62))
 in_integers v fits = (grind (arith, ints, nat_tests), grind (arith, ints, nat_tests))
 
-register_fits : (n : ℕ) → fits Register (pos n) ≡ true → n < 16
-register_fits n w = let r = in_range 0 15 n w in omega (arith, r.1)
+register_fits : (ver : Version) (n : ℕ) → fits ver Register (pos n) ≡ true → n < 16
+register_fits ver n w = let r = in_range 0 15 n w in omega (arith, r.1)
+
+-- no version has these words
+is_later : Command → Bool
+is_later (Spawn section item) = true
+is_later (Argument dst) = true
+is_later (PutResult item) = true
+is_later (Join dst section) = true
+is_later _ = false
+
+later_words : (ver : Version) (c : Command) → is_later c ≡ true → is_built ver (parts c).word ≡ true → ⊥
+later_words One (Spawn section item) later built = cc
+later_words Two (Spawn section item) later built = cc
+later_words One (Argument dst) later built = cc
+later_words Two (Argument dst) later built = cc
+later_words One (PutResult item) later built = cc
+later_words Two (PutResult item) later built = cc
+later_words One (Join dst section) later built = cc
+later_words Two (Join dst section) later built = cc
+later_words ver _ later built = cc
+
+few_fields : (ver : Version) → most_fields ver ≤ 1022
+few_fields One = omega arith
+few_fields Two = omega arith
 
 -- a command of the grammar is one that runs on the shared heap, with its numbers in their ranges
-writable_fits : (c : Command) → is_writable c ≡ true → FitsHeap c
-writable_fits (PutInt dst value) w =
-    let p = both (fits Register (pos dst)) (fits Integer value && true) w in
-    (register_fits dst p.0, in_integers value (both (fits Integer value) true p.1).0)
-writable_fits (Copy dst src) w =
-    let p = both (fits Register (pos dst)) (fits Register (pos src) && true) w in
-    (register_fits dst p.0, register_fits src (both (fits Register (pos src)) true p.1).0)
-writable_fits (Forget dst) w = register_fits dst (both (fits Register (pos dst)) true w).0
-writable_fits (Alloc dst tag fields) w =
-    let p = both (fits Register (pos dst)) (fits Tag (pos tag) && (fits FieldCount (pos fields) && true)) w in
-    let q = both (fits Tag (pos tag)) (fits FieldCount (pos fields) && true) p.1 in
+ranged_fits : (ver : Version) (c : Command) → is_built ver (parts c).word ≡ true → all_fit ver (form (parts c).word).operands (parts c).numbers ≡ true → FitsHeap c
+ranged_fits ver (PutInt dst value) built w =
+    let p = both (fits ver Register (pos dst)) (fits ver Integer value && true) w in
+    (register_fits ver dst p.0, in_integers value (both (fits ver Integer value) true p.1).0)
+ranged_fits ver (Copy dst src) built w =
+    let p = both (fits ver Register (pos dst)) (fits ver Register (pos src) && true) w in
+    (register_fits ver dst p.0, register_fits ver src (both (fits ver Register (pos src)) true p.1).0)
+ranged_fits ver (Forget dst) built w = register_fits ver dst (both (fits ver Register (pos dst)) true w).0
+ranged_fits ver (Alloc dst tag fields) built w =
+    let p = both (fits ver Register (pos dst)) (fits ver Tag (pos tag) && (fits ver FieldCount (pos fields) && true)) w in
+    let q = both (fits ver Tag (pos tag)) (fits ver FieldCount (pos fields) && true) p.1 in
     let b = in_range 0 245 tag q.0 in
-    let f = in_range 1 126 fields (both (fits FieldCount (pos fields)) true q.1).0 in (register_fits dst p.0, b.1, f.0, f.1)
-writable_fits (AllocMaj dst tag fields) w =
-    let p = both (fits Register (pos dst)) (fits Tag (pos tag) && (fits FieldCount (pos fields) && true)) w in
-    let q = both (fits Tag (pos tag)) (fits FieldCount (pos fields) && true) p.1 in
+    let f = in_range 1 (most_fields ver) fields (both (fits ver FieldCount (pos fields)) true q.1).0 in (register_fits ver dst p.0, b.1, f.0, (let m = few_fields ver in omega (arith, m, f.1)))
+ranged_fits ver (AllocMaj dst tag fields) built w =
+    let p = both (fits ver Register (pos dst)) (fits ver Tag (pos tag) && (fits ver FieldCount (pos fields) && true)) w in
+    let q = both (fits ver Tag (pos tag)) (fits ver FieldCount (pos fields) && true) p.1 in
     let b = in_range 0 245 tag q.0 in
-    let f = in_range 1 126 fields (both (fits FieldCount (pos fields)) true q.1).0 in (register_fits dst p.0, b.1, f.0, f.1)
-writable_fits (Load dst src index) w =
-    let p = both (fits Register (pos dst)) (fits Register (pos src) && (fits Index (pos index) && true)) w in
-    (register_fits dst p.0, register_fits src (both (fits Register (pos src)) (fits Index (pos index) && true) p.1).0)
-writable_fits (Store block index item) w =
-    let p = both (fits Register (pos block)) (fits Index (pos index) && (fits Register (pos item) && true)) w in
-    let q = both (fits Index (pos index)) (fits Register (pos item) && true) p.1 in
-    (register_fits block p.0, register_fits item (both (fits Register (pos item)) true q.1).0)
-writable_fits Poll w = tt
-writable_fits (Raw dst tag fields) w = cc
-writable_fits (Cas block index expected item) w = cc
-writable_fits (Ephe dst keys) w =
-    let p = both (fits Register (pos dst)) (fits KeyCount (pos keys) && true) w in
-    let f = in_range 1 8 keys (both (fits KeyCount (pos keys)) true p.1).0 in (register_fits dst p.0, f.0, f.1)
-writable_fits (SetKey ephe index item) w =
-    let p = both (fits Register (pos ephe)) (fits Index (pos index) && (fits Register (pos item) && true)) w in
-    let q = both (fits Index (pos index)) (fits Register (pos item) && true) p.1 in
-    (register_fits ephe p.0, register_fits item (both (fits Register (pos item)) true q.1).0)
-writable_fits (UnsetKey ephe index) w = register_fits ephe (both (fits Register (pos ephe)) (fits Index (pos index) && true) w).0
-writable_fits (GetKey dst ephe index) w =
-    let p = both (fits Register (pos dst)) (fits Register (pos ephe) && (fits Index (pos index) && true)) w in
-    (register_fits dst p.0, register_fits ephe (both (fits Register (pos ephe)) (fits Index (pos index) && true) p.1).0)
-writable_fits (CheckKey ephe index) w = register_fits ephe (both (fits Register (pos ephe)) (fits Index (pos index) && true) w).0
-writable_fits (SetData ephe item) w =
-    let p = both (fits Register (pos ephe)) (fits Register (pos item) && true) w in
-    (register_fits ephe p.0, register_fits item (both (fits Register (pos item)) true p.1).0)
-writable_fits (UnsetData ephe) w = register_fits ephe (both (fits Register (pos ephe)) true w).0
-writable_fits (GetData dst ephe) w =
-    let p = both (fits Register (pos dst)) (fits Register (pos ephe) && true) w in
-    (register_fits dst p.0, register_fits ephe (both (fits Register (pos ephe)) true p.1).0)
-writable_fits (CheckData ephe) w = register_fits ephe (both (fits Register (pos ephe)) true w).0
-writable_fits (Finalise item number dst) w =
-    let p = both (fits Register (pos item)) (fits FinaliserNumber (pos number) && (fits Register (pos dst) && true)) w in
-    let q = both (fits FinaliserNumber (pos number)) (fits Register (pos dst) && true) p.1 in
-    (register_fits item p.0, register_fits dst (both (fits Register (pos dst)) true q.1).0)
-writable_fits (FinaliseLast item number) w = register_fits item (both (fits Register (pos item)) (fits FinaliserNumber (pos number) && true) w).0
-writable_fits Minor w = tt
-writable_fits Major w = tt
-writable_fits FullMajor w = tt
-writable_fits (Spawn section item) w = cc
-writable_fits (Argument dst) w = cc
-writable_fits (PutResult item) w = cc
-writable_fits (Join dst section) w = cc
+    let f = in_range 1 (most_fields ver) fields (both (fits ver FieldCount (pos fields)) true q.1).0 in (register_fits ver dst p.0, b.1, f.0, (let m = few_fields ver in omega (arith, m, f.1)))
+ranged_fits ver (Load dst src index) built w =
+    let p = both (fits ver Register (pos dst)) (fits ver Register (pos src) && (fits ver Index (pos index) && true)) w in
+    (register_fits ver dst p.0, register_fits ver src (both (fits ver Register (pos src)) (fits ver Index (pos index) && true) p.1).0)
+ranged_fits ver (Store block index item) built w =
+    let p = both (fits ver Register (pos block)) (fits ver Index (pos index) && (fits ver Register (pos item) && true)) w in
+    let q = both (fits ver Index (pos index)) (fits ver Register (pos item) && true) p.1 in
+    (register_fits ver block p.0, register_fits ver item (both (fits ver Register (pos item)) true q.1).0)
+ranged_fits ver Poll built w = tt
+ranged_fits ver (Raw dst tag fields) built w =
+    let p = both (fits ver Register (pos dst)) (fits ver RawTag (pos tag) && (fits ver FieldCount (pos fields) && true)) w in
+    let q = both (fits ver RawTag (pos tag)) (fits ver FieldCount (pos fields) && true) p.1 in
+    let b = in_range 251 255 tag q.0 in
+    let f = in_range 1 (most_fields ver) fields (both (fits ver FieldCount (pos fields)) true q.1).0 in (register_fits ver dst p.0, b.0, (omega (arith, b.1)), f.0, (let m = few_fields ver in omega (arith, m, f.1)))
+ranged_fits ver (Cas block index expected item) built w =
+    let p = both (fits ver Register (pos block)) (fits ver Index (pos index) && (fits ver Register (pos expected) && (fits ver Register (pos item) && true))) w in
+    let q = both (fits ver Index (pos index)) (fits ver Register (pos expected) && (fits ver Register (pos item) && true)) p.1 in
+    let r = both (fits ver Register (pos expected)) (fits ver Register (pos item) && true) q.1 in
+    (register_fits ver block p.0, register_fits ver expected r.0, register_fits ver item (both (fits ver Register (pos item)) true r.1).0)
+ranged_fits ver (Ephe dst keys) built w =
+    let p = both (fits ver Register (pos dst)) (fits ver KeyCount (pos keys) && true) w in
+    let f = in_range 1 8 keys (both (fits ver KeyCount (pos keys)) true p.1).0 in (register_fits ver dst p.0, f.0, f.1)
+ranged_fits ver (SetKey ephe index item) built w =
+    let p = both (fits ver Register (pos ephe)) (fits ver Index (pos index) && (fits ver Register (pos item) && true)) w in
+    let q = both (fits ver Index (pos index)) (fits ver Register (pos item) && true) p.1 in
+    (register_fits ver ephe p.0, register_fits ver item (both (fits ver Register (pos item)) true q.1).0)
+ranged_fits ver (UnsetKey ephe index) built w = register_fits ver ephe (both (fits ver Register (pos ephe)) (fits ver Index (pos index) && true) w).0
+ranged_fits ver (GetKey dst ephe index) built w =
+    let p = both (fits ver Register (pos dst)) (fits ver Register (pos ephe) && (fits ver Index (pos index) && true)) w in
+    (register_fits ver dst p.0, register_fits ver ephe (both (fits ver Register (pos ephe)) (fits ver Index (pos index) && true) p.1).0)
+ranged_fits ver (CheckKey ephe index) built w = register_fits ver ephe (both (fits ver Register (pos ephe)) (fits ver Index (pos index) && true) w).0
+ranged_fits ver (SetData ephe item) built w =
+    let p = both (fits ver Register (pos ephe)) (fits ver Register (pos item) && true) w in
+    (register_fits ver ephe p.0, register_fits ver item (both (fits ver Register (pos item)) true p.1).0)
+ranged_fits ver (UnsetData ephe) built w = register_fits ver ephe (both (fits ver Register (pos ephe)) true w).0
+ranged_fits ver (GetData dst ephe) built w =
+    let p = both (fits ver Register (pos dst)) (fits ver Register (pos ephe) && true) w in
+    (register_fits ver dst p.0, register_fits ver ephe (both (fits ver Register (pos ephe)) true p.1).0)
+ranged_fits ver (CheckData ephe) built w = register_fits ver ephe (both (fits ver Register (pos ephe)) true w).0
+ranged_fits ver (Finalise item number dst) built w =
+    let p = both (fits ver Register (pos item)) (fits ver FinaliserNumber (pos number) && (fits ver Register (pos dst) && true)) w in
+    let q = both (fits ver FinaliserNumber (pos number)) (fits ver Register (pos dst) && true) p.1 in
+    (register_fits ver item p.0, register_fits ver dst (both (fits ver Register (pos dst)) true q.1).0)
+ranged_fits ver (FinaliseLast item number) built w = register_fits ver item (both (fits ver Register (pos item)) (fits ver FinaliserNumber (pos number) && true) w).0
+ranged_fits ver Minor built w = tt
+ranged_fits ver Major built w = tt
+ranged_fits ver FullMajor built w = tt
+ranged_fits ver (Spawn section item) built w = absurd (later_words ver (Spawn section item) refl built)
+ranged_fits ver (Argument dst) built w = absurd (later_words ver (Argument dst) refl built)
+ranged_fits ver (PutResult item) built w = absurd (later_words ver (PutResult item) refl built)
+ranged_fits ver (Join dst section) built w = absurd (later_words ver (Join dst section) refl built)
 
-all_writable_fit : (cs : List Command) → list_all is_writable cs ≡ true → AllFit cs
-all_writable_fit [] w i c at = cc
-all_writable_fit (x ∷ xs) w zero c at = let is : x ≡ c = cc in subst FitsHeap is (writable_fits x (both (is_writable x) (list_all is_writable xs) w).0)
-all_writable_fit (x ∷ xs) w (suc i) c at = all_writable_fit xs (both (is_writable x) (list_all is_writable xs) w).1 i c at
+writable_fits : (ver : Version) (c : Command) → is_writable ver c ≡ true → FitsHeap c
+writable_fits ver c w = let t = both (is_built ver (parts c).word) (all_fit ver (form (parts c).word).operands (parts c).numbers) w in ranged_fits ver c t.0 t.1
+
+all_writable_fit : (ver : Version) (cs : List Command) → list_all (is_writable ver) cs ≡ true → AllFit cs
+all_writable_fit ver [] w i c at = cc
+all_writable_fit ver (x ∷ xs) w zero c at = let is : x ≡ c = cc in subst FitsHeap is (writable_fits ver x (both (is_writable ver x) (list_all (is_writable ver) xs) w).0)
+all_writable_fit ver (x ∷ xs) w (suc i) c at = all_writable_fit ver xs (both (is_writable ver x) (list_all (is_writable ver) xs) w).1 i c at
 
 -- a section that may be run: not too long, and of such commands
 pub record IsFine (cs : List Command) : Type 0 where
@@ -107,15 +144,15 @@ pub record IsFine (cs : List Command) : Type 0 where
 none_fit : AllFit []
 none_fit i c at = cc
 
-written_fine : (sections : List (List Command)) (d : ℕ) → sum_by length sections ≤ 200000 → list_all (list_all is_writable) sections ≡ true → IsFine (slice_index_or sections d [])
-written_fine [] d few w = record { few = omega arith; fit = none_fit }
-written_fine (cs ∷ sections) zero few w = let total = total-cons cs sections in record {
+written_fine : (ver : Version) (sections : List (List Command)) (d : ℕ) → sum_by length sections ≤ 200000 → list_all (list_all (is_writable ver)) sections ≡ true → IsFine (slice_index_or sections d [])
+written_fine ver [] d few w = record { few = omega arith; fit = none_fit }
+written_fine ver (cs ∷ sections) zero few w = let total = total-cons cs sections in record {
   few = omega arith;
-  fit = all_writable_fit cs (both (list_all is_writable cs) (list_all (list_all is_writable) sections) w).0;
+  fit = all_writable_fit ver cs (both (list_all (is_writable ver) cs) (list_all (list_all (is_writable ver)) sections) w).0;
 }
-written_fine (cs ∷ sections) (suc d) few w =
+written_fine ver (cs ∷ sections) (suc d) few w =
     let total = total-cons cs sections in
-    written_fine sections d (omega arith) (both (list_all is_writable cs) (list_all (list_all is_writable) sections) w).1
+    written_fine ver sections d (omega arith) (both (list_all (is_writable ver) cs) (list_all (list_all (is_writable ver)) sections) w).1
 
 abbrev no_commands : List Command
 no_commands = []
@@ -131,14 +168,14 @@ written_at (cs ∷ sections) n zero = refl
 written_at (cs ∷ sections) n (suc d) = written_at sections n d
 
 -- each section of a script may be run
-pub spelled_fine : (domains : ℕ) (script : List (List Command)) → IsSpelled domains script → (d : ℕ) → IsFine (slice_index_or script d [])
+pub spelled_fine : (domains : ℕ) (script : Scripted) → IsSpelled domains script → (d : ℕ) → IsFine (slice_index_or script.sections d [])
 spelled_fine domains script spelled d =
     let s = spelled.1 in
-    let at : slice_index_or script d [] ≡ slice_index_or s.written d [] = ap (λ (l : List (List Command)). slice_index_or l d []) s.script_is ∙ written_at s.written (domains - length s.written) d in
-    subst IsFine (sym at) (written_fine s.written d s.is_written.few_commands s.is_written.writable)
+    let at : slice_index_or script.sections d [] ≡ slice_index_or s.written d [] = ap (λ (l : List (List Command)). slice_index_or l d []) s.script_is ∙ written_at s.written (domains - length s.written) d in
+    subst IsFine (sym at) (written_fine script.version s.written d s.is_written.few_commands s.is_written.writable)
 
 -- a script has a section for each domain
-pub spelled_length : (domains : ℕ) (script : List (List Command)) → IsSpelled domains script → length script ≡ domains
+pub spelled_length : (domains : ℕ) (script : Scripted) → IsSpelled domains script → length script.sections ≡ domains
 spelled_length domains script spelled =
     let s = spelled.1 in
     let few = s.is_written.few_sections in
@@ -184,7 +221,7 @@ as_many_at_most (c ∷ cs) =
     omega arith
 
 -- no section has more of what is counted than a heap may have room for, where each command counts once at most
-most_few : (count : List Command → ℕ) → ((cs : List Command) → count cs ≤ length cs) → (script : List (List Command)) → ((d : ℕ) → IsFine (slice_index_or script d [])) → most_of count script ≤ 200000
+most_few : (count : List Command → ℕ) → ((cs : List Command) → count cs ≤ length cs) → (script : List (List Command)) → ((d : ℕ) → IsFine (slice_index_or script.sections d [])) → most_of count script ≤ 200000
 most_few count once [] fine = omega arith
 most_few count once (cs ∷ sections) fine =
     let a : ℕ = count cs in
@@ -195,10 +232,10 @@ most_few count once (cs ∷ sections) fine =
     let f : a ≤ 200000 = omega arith in
     max-le f rest
 
-pub few_ephemerons : (script : List (List Command)) → ((d : ℕ) → IsFine (slice_index_or script d [])) → most_of ephemerons_in script ≤ 200000
+pub few_ephemerons : (script : List (List Command)) → ((d : ℕ) → IsFine (slice_index_or script.sections d [])) → most_of ephemerons_in script ≤ 200000
 few_ephemerons script fine = most_few ephemerons_in as_many_at_most script fine
 
-pub few_registrations : (script : List (List Command)) → ((d : ℕ) → IsFine (slice_index_or script d [])) → most_of registrations_in script ≤ 200000
+pub few_registrations : (script : List (List Command)) → ((d : ℕ) → IsFine (slice_index_or script.sections d [])) → most_of registrations_in script ≤ 200000
 few_registrations script fine = most_few registrations_in registrations_few script fine
 
 abbrev of_two : Bool → Bool → Option ℕ

@@ -11,6 +11,7 @@ use Rattle.camlheap_run.specs.declared.status.Status.TheVariants.{Done, Usage, W
 use Rattle.command_line.specs.declared.job.Generated.{Generated}
 use Rattle.command_line.specs.Jobs.{load_sizes}
 use Rattle.camlheap_run.specs.Generating.{script_of}
+use Rattle.heap_text.specs.Script.{Scripted}
 use Rattle.camlheap_run.specs.Reading.{ReadsScript}
 use Rattle.camlheap_run.specs.Writing.{AppendsFront}
 use Rattle.camlheap_run.specs.Run.{IsRunOf}
@@ -34,15 +35,15 @@ pub record WritesFrontOfRun (text : Sizes → List Entry → List ℕ) (z : Size
 
 -- Done: the source was read to its end, its bytes spell a script, a heap made a run of it, and what its history prints was written
 pub record RunsToEnd (z : Sizes) (ended : Option Past) (left_before left_after written_before written_after : Option (List ℕ)) : Type 0 where
-  pub script : List (List Command)
+  pub script : Scripted
   pub reads : ReadsScript z.domains left_before left_after script
-  pub writes : WritesRun output z script ended written_before written_after
+  pub writes : WritesRun output z script.sections ended written_before written_after
 
 -- WriteFault: the same, and a front part was written
 pub record StopsWriting (z : Sizes) (ended : Option Past) (left_before left_after written_before written_after : Option (List ℕ)) : Type 0 where
-  pub script : List (List Command)
+  pub script : Scripted
   pub reads : ReadsScript z.domains left_before left_after script
-  pub writes : WritesFrontOfRun output z script ended written_before written_after
+  pub writes : WritesFrontOfRun output z script.sections ended written_before written_after
 
 -- Done of a generated script: a heap made a run of it, and the summary of its history was written
 abbrev pub LoadsToEnd : Generated → Option Past → Option (List ℕ) → Option (List ℕ) → Type 0

@@ -1,7 +1,7 @@
 -- What is read of a source. Where the source tells its bytes, these are the bytes that it had left.
 use Rattle.std.specs.Prelude.{◌≡◌, ◌≢◌, ℕ, ◌≤◌, ◌⊎◌, List, length, take, Option, None, Some}
 use Rattle.std.specs.Io.KnownBytes.{Consumes, IsAtEnd}
-use Rattle.heap_model.specs.declared.command.Command.{Command}
+use Rattle.heap_text.specs.Script.{Scripted}
 use Rattle.heap_text.specs.declared.fault.ScriptFault.{ScriptFault}
 use Rattle.heap_text.specs.declared.fault.ScriptFault.TheVariants.{Memory}
 use Rattle.camlheap_run.specs.declared.reading.NoScript.{NoScript}
@@ -20,14 +20,14 @@ pub record AreRead (before after : Option (List ℕ)) (bytes : List ℕ) : Type 
   pub whole : IsAtEnd after ⊎ (length bytes ≡ most_read)
 
 -- the source was read to its end, and its bytes spell this script
-pub record ReadsScript (domains : ℕ) (before after : Option (List ℕ)) (script : List (List Command)) : Type 0 where
+pub record ReadsScript (domains : ℕ) (before after : Option (List ℕ)) (script : Scripted) : Type 0 where
   pub bytes : List ℕ
   pub consumed : Consumes before after bytes
   pub at_end : IsAtEnd after
   pub spelled : Spells domains script bytes
 
 -- some bytes spell this script
-abbrev pub IsSpelled : ℕ → List (List Command) → Type 0
+abbrev pub IsSpelled : ℕ → Scripted → Type 0
 IsSpelled domains script = (bytes : List ℕ) × Spells domains script bytes
 
 -- the bytes that were read have this first fault
@@ -38,7 +38,7 @@ pub record ReadsFault (domains : ℕ) (before after : Option (List ℕ)) (fault 
   pub is_fault : fault ≢ Memory
 
 -- the source tells its bytes, and they spell this script
-abbrev pub TellsScript : ℕ → Option (List ℕ) → List (List Command) → Type 0
+abbrev pub TellsScript : ℕ → Option (List ℕ) → Scripted → Type 0
 TellsScript domains None script = ⊥
 TellsScript domains (Some bytes) script = Spells domains script bytes
 

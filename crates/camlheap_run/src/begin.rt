@@ -51,8 +51,8 @@ fn needs_of(section: &[Command]) -> Needs
 
 // The most of each that a section needs room for.
 fn most_needs(script: &Script) -> Needs
-    ensures ephemerons { result.ephemerons ≡ most_of ephemerons_in script.now }
-    ensures registrations { result.registrations ≡ most_of registrations_in script.now }
+    ensures ephemerons { result.ephemerons ≡ most_of ephemerons_in script.now.sections }
+    ensures registrations { result.registrations ≡ most_of registrations_in script.now.sections }
 {
     let mut most = Needs {
         ephemerons: 0,
@@ -73,8 +73,8 @@ pub(crate) fn config_of(sizes: &Sizes, script: &Script) -> Config
     requires script { IsSpelled sizes.now.domains script.now }
     ensures sizes { sizes_in result ≡ sizes.now }
     ensures limits { first_outside result ≡ None }
-    ensures ephemerons { result.ephes ≡ most_of ephemerons_in script.now }
-    ensures registrations { result.finals ≡ most_of registrations_in script.now }
+    ensures ephemerons { result.ephes ≡ most_of ephemerons_in script.now.sections }
+    ensures registrations { result.finals ≡ most_of registrations_in script.now.sections }
 {
     let most = most_needs(script);
     Config {
@@ -93,9 +93,9 @@ fn runs_of(
     mut decks: Vec<Hints>,
     script: &Script,
 ) -> Result<Vec<DomainRun>, AllocError>
-    requires sections { AllByRecursion (HasSection script.now) domains.items }
+    requires sections { AllByRecursion (HasSection script.now.sections) domains.items }
     requires decks { decks.items ≡ map deck_of domains.items }
-    ensures { IfOk result (λ runs. runs.items ≡ map (opened script.now) domains.items) }
+    ensures { IfOk result (λ runs. runs.items ≡ map (opened script.now.sections) domains.items) }
 {
     let mut runs = Vec::new(alloc);
     'domains: for domain in domains {
@@ -111,9 +111,9 @@ fn runs_of(
 pub(crate) fn begin(alloc: Global, config: Config, script: &Script) -> Result<Begun, AllocError>
     requires limits { first_outside config ≡ None }
     requires script { IsSpelled config.domains script.now }
-    requires ephemerons { most_of ephemerons_in script.now ≤ config.ephes }
-    requires registrations { most_of registrations_in script.now ≤ config.finals }
-    ensures { IfOk result (IsBegun config script.now) }
+    requires ephemerons { most_of ephemerons_in script.now.sections ≤ config.ephes }
+    requires registrations { most_of registrations_in script.now.sections ≤ config.finals }
+    ensures { IfOk result (IsBegun config script.now.sections) }
 {
     let (heap, domains) = match Heap::start(alloc, config) {
         Ok(started) => started,

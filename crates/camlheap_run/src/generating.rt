@@ -3,6 +3,7 @@ ghost use Rattle.std.specs.Prelude.{◌≡◌, ◌<◌, ◌≤◌, length, Optio
 ghost use Rattle.heap_model.specs.Output.{line};
 ghost use Rattle.heap_rule.specs.Ending.{Past};
 ghost use Rattle.heap_text.specs.Spelling.{command_text, spelling};
+ghost use Rattle.heap_text.specs.declared.version.Version.TheVariants.{One};
 ghost use Rattle.outer_io.specs.Faults.{HasCause, Rose};
 ghost use Rattle.command_line.specs.Jobs.{IsGenerable};
 ghost use Rattle.camlheap_run.specs.Generating.{section_text, sections_text, commands_text, WritesScript, WritesFrontOfScript};
@@ -40,9 +41,9 @@ fn write_commands<K: Sink>(out: &mut K, commands: &[Command]) -> Result<(), Fail
 
 // Writes a section: its heading, and the lines of its commands.
 fn write_section<K: Sink>(out: &mut K, script: &Script, domain: u32) -> Result<(), Failed>
-    requires { domain < length script.now }
+    requires { domain < length script.now.sections }
     ensures cause { HasCause (K.faults out.old) (K.faults out.new) result }
-    ensures bytes { Writes (K.written out.old) (K.written out.new) result (section_text script.now domain) }
+    ensures bytes { Writes (K.written out.old) (K.written out.new) result (section_text script.now.sections domain) }
 {
     write_heading(out, domain)?;
     write_commands(out, script.section(domain as usize))
@@ -50,9 +51,9 @@ fn write_section<K: Sink>(out: &mut K, script: &Script, domain: u32) -> Result<(
 
 // Writes the sections of a script, in order.
 fn write_sections<K: Sink>(out: &mut K, script: &Script) -> Result<(), Failed>
-    requires { length script.now ≤ 8 }
+    requires { length script.now.sections ≤ 8 }
     ensures cause { HasCause (K.faults out.old) (K.faults out.new) result }
-    ensures bytes { Writes (K.written out.old) (K.written out.new) result (sections_text script.now (length script.now)) }
+    ensures bytes { Writes (K.written out.old) (K.written out.new) result (sections_text script.now.sections (length script.now.sections)) }
 {
     'sections: for domain in 0..script.sections() {
         write_section(out, script, domain as u32)?;
@@ -60,11 +61,11 @@ fn write_sections<K: Sink>(out: &mut K, script: &Script) -> Result<(), Failed>
     Ok(())
 }
 
-// Writes a script.
+// Writes the sections of a script as one of the first version.
 fn write_script<K: Sink>(out: &mut K, script: &Script) -> Result<(), Failed>
-    requires { length script.now ≤ 8 }
+    requires { length script.now.sections ≤ 8 }
     ensures cause { HasCause (K.faults out.old) (K.faults out.new) result }
-    ensures bytes { Writes (K.written out.old) (K.written out.new) result (spelling script.now) }
+    ensures bytes { Writes (K.written out.old) (K.written out.new) result (spelling One script.now.sections) }
 {
     write_all(out, b"heap 1\n")?;
     write_sections(out, script)

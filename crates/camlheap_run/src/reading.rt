@@ -1,7 +1,7 @@
 //! Reads the script of a source.
 ghost use Rattle.std.specs.Prelude.{◌≡◌, ◌<◌, ◌≤◌, List, IfOk, IsErr, Err};
 ghost use Rattle.outer_io.specs.Faults.{Rose};
-ghost use Rattle.heap_model.specs.declared.command.Command.{Command};
+ghost use Rattle.heap_text.specs.Script.{Scripted};
 ghost use Rattle.heap_text.specs.declared.fault.ScriptFault.{ScriptFault};
 ghost use Rattle.camlheap_run.specs.Reading.{AreRead, ReadsScript, ReadsFault, IsNoScript, TellsScript, TellsFault};
 
@@ -75,7 +75,7 @@ pub(crate) fn script_of<S: Source>(
     ensures refused { (f : ScriptFault) → result ≡ Err (NoScript.Refused f) → ReadsFault domains (S.left src.old) (S.left src.new) f }
 
     // What spells a script isn't refused, and what has a fault isn't read.
-    ensures only_faults { (s : List (List Command)) (f : ScriptFault) → TellsScript domains (S.left src.old) s → result ≡ Err (NoScript.Refused f) → ⊥ }
+    ensures only_faults { (s : Scripted) (f : ScriptFault) → TellsScript domains (S.left src.old) s → result ≡ Err (NoScript.Refused f) → ⊥ }
     ensures only_scripts { (f : ScriptFault) → TellsFault domains (S.left src.old) f → IsErr result }
 {
     let bytes = match read_bytes(alloc, src) {

@@ -33,8 +33,8 @@ pub(crate) fn run<R: Threads + Wait + Sync, K: Sink, G: Gate + Sync>(
     requires limits { AreRunSizes sizes.now }
     requires script { IsSpelled sizes.now.domains script.now }
     ensures later { K.faults out.old ≤ K.faults out.new }
-    ensures done { (ended : Option Past) → result ≡ Status.Done ended → WritesRun (text_of report) sizes.now script.now ended (K.written out.old) (K.written out.new) }
-    ensures cut { (ended : Option Past) → result ≡ Status.WriteFault ended → WritesFrontOfRun (text_of report) sizes.now script.now ended (K.written out.old) (K.written out.new) }
+    ensures done { (ended : Option Past) → result ≡ Status.Done ended → WritesRun (text_of report) sizes.now script.now.sections ended (K.written out.old) (K.written out.new) }
+    ensures cut { (ended : Option Past) → result ≡ Status.WriteFault ended → WritesFrontOfRun (text_of report) sizes.now script.now.sections ended (K.written out.old) (K.written out.new) }
     ensures fault { (ended : Option Past) → result ≡ Status.WriteFault ended → Rose (K.faults out.old) (K.faults out.new) }
     ensures failed { K.faults out.old < K.faults out.new → IsWriteFault result }
     ensures quiet { result ≡ Status.Memory → out.new ≡ out.old }

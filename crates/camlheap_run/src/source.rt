@@ -1,6 +1,6 @@
 //! Runs the script that a source gives.
 ghost use Rattle.std.specs.Prelude.{◌≡◌, ◌<◌, ◌≤◌, List, Option};
-ghost use Rattle.heap_model.specs.declared.command.Command.{Command};
+ghost use Rattle.heap_text.specs.Script.{Scripted};
 ghost use Rattle.heap_rule.specs.Ending.{Past};
 ghost use Rattle.heap_text.specs.declared.fault.ScriptFault.{ScriptFault};
 ghost use Rattle.outer_io.specs.Faults.{Rose};
@@ -39,7 +39,7 @@ pub(crate) fn run_source<R: Threads + Wait + Sync, S: Source, K: Sink, G: Gate +
     ensures write_fault { (ended : Option Past) → result ≡ Status.WriteFault ended → Rose (K.faults out.old) (K.faults out.new) }
     ensures read_failed { S.faults src.old < S.faults src.new → result ≡ Status.ReadFault }
     ensures write_failed { K.faults out.old < K.faults out.new → IsWriteFault result }
-    ensures complete { (s : List (List Command)) → TellsScript sizes.now.domains (S.left src.old) s
+    ensures complete { (s : Scripted) → TellsScript sizes.now.domains (S.left src.old) s
         → ¬ (Rose (S.faults src.old) (S.faults src.new)) → ¬ (Rose (K.faults out.old) (K.faults out.new))
         → IsDoneOrMemory result }
     ensures refused { (f : ScriptFault) → TellsFault sizes.now.domains (S.left src.old) f

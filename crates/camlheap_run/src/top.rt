@@ -2,7 +2,7 @@
 ghost use Rattle.std.specs.Prelude.{◌≡◌, ◌≢◌, ◌<◌, ◌≤◌, List, Option, None, Some, IsSome, map, string_bytes};
 ghost use Rattle.command_line.specs.Jobs.{asked_job};
 ghost use Rattle.command_line.specs.declared.job.Generated.{Generated};
-ghost use Rattle.heap_model.specs.declared.command.Command.{Command};
+ghost use Rattle.heap_text.specs.Script.{Scripted};
 ghost use Rattle.heap_model.specs.declared.state.Sizes.{Sizes};
 ghost use Rattle.heap_rule.specs.Ending.{Past};
 ghost use Rattle.heap_text.specs.declared.fault.ScriptFault.{ScriptFault};
@@ -83,7 +83,7 @@ pub fn camlheap<R: Threads + Wait + Sync, S: Source, K: Sink, G: Gate + Sync>(
     ensures write_failed { K.faults out.old < K.faults out.new → IsWriteFault result }
 
     // Where the source tells its bytes, they decide what `run` answers, unless a read or a write fails or memory runs out.
-    ensures complete { (z : Sizes) (s : List (List Command)) → asked_job (map string_bytes words.now) ≡ Some (Job.Run z)
+    ensures complete { (z : Sizes) (s : Scripted) → asked_job (map string_bytes words.now) ≡ Some (Job.Run z)
         → TellsScript z.domains (S.left src.old) s
         → ¬ (Rose (S.faults src.old) (S.faults src.new)) → ¬ (Rose (K.faults out.old) (K.faults out.new))
         → IsDoneOrMemory result }

@@ -7,6 +7,7 @@ use Rattle.heap_model.specs.Domains.{opening, sizes_of}
 use Rattle.heap_model.specs.History.{commands, state_after, LegalFrom}
 use Rattle.heap_text.specs.declared.fault.ScriptFault.{ScriptFault}
 use Rattle.heap_text.specs.Faults.{IsFaultUnlessMemory}
+use Rattle.heap_text.specs.Script.{Scripted}
 use Rattle.heap_text.specs.Spelling.{Spells}
 use Rattle.heap_picture.specs.declared.fault.PictureFault.{PictureFault}
 use Rattle.heap_picture.specs.declared.fault.PictureFault.TheVariants.{Script, Play}
@@ -31,9 +32,9 @@ pub record IsDrawn (cs : List Command) (text : List ℕ) : Type 0 where
 
 -- so drawn are the commands that the bytes spell
 pub record IsPictureOf (bytes text : List ℕ) : Type 0 where
-  pub script : List (List Command)
+  pub script : Scripted
   pub spelled : Spells 1 script bytes
-  pub drawn : IsDrawn (slice_index_or script 0 []) text
+  pub drawn : IsDrawn (slice_index_or script.sections 0 []) text
 
 -- only what is told of a script needs a cause in its bytes
 abbrev pub IsFaultOf : Option ScriptFault → PictureFault → Type 0

@@ -15,9 +15,9 @@ unreachable-requires c =
 pub runs_of-requires-clause-sections : goal.runs_of-requires-clause-sections
 runs_of-requires-clause-sections c =
     let k = c.args.config in
-    let script = c.args.script.now in
+    let script = c.args.script.now.sections in
     subst (λ (ts : List Token). AllByRecursion (HasSection script) ts) (sym c.in-Ok.ensures.tokens)
-    (have_sections c.in-Ok.started.0 k script 0 k.domains (omega arith) (spelled_length k.domains script c.requires.script) (spelled_fine k.domains script c.requires.script) c.requires.ephemerons c.requires.registrations)
+    (have_sections c.in-Ok.started.0 k script 0 k.domains (omega arith) (spelled_length k.domains c.args.script.now c.requires.script) (spelled_fine k.domains c.args.script.now c.requires.script) c.requires.ephemerons c.requires.registrations)
 
 pub runs_of-requires-clause-decks : goal.runs_of-requires-clause-decks
 runs_of-requires-clause-decks c =
@@ -33,7 +33,7 @@ returns c =
     record {
       config = c.in-Ok.ensures.config;
       some = some_domain k c.requires.limits;
-      runs = c.in_ok-runs.ensures ∙ ap (map (opened c.args.script.now)) c.in-Ok.ensures.tokens;
+      runs = c.in_ok-runs.ensures ∙ ap (map (opened c.args.script.now.sections)) c.in-Ok.ensures.tokens;
       empty = c.in_ok-room.ensures.items;
       room = omega (arith, c.in_ok-room.ensures.exact, c.len.ensures, count, many);
     }

@@ -8,20 +8,20 @@ use Rattle.camlheap_run.proofs.begin.config_of.Goals as goal
 
 pub overflow_cast-result : goal.overflow_cast-result
 overflow_cast-result c =
-    let few : most_of registrations_in c.args.script.now ≤ 200000 = few_registrations c.args.script.now (spelled_fine c.args.sizes.now.domains c.args.script.now c.requires.script) in
+    let few : most_of registrations_in c.args.script.now.sections ≤ 200000 = few_registrations c.args.script.now.sections (spelled_fine c.args.sizes.now.domains c.args.script.now c.requires.script) in
     omega (arith, few, c.most_needs-most.ensures.registrations)
 
 pub overflow_cast-result-2 : goal.overflow_cast-result-2
 overflow_cast-result-2 c =
-    let few : most_of ephemerons_in c.args.script.now ≤ 200000 = few_ephemerons c.args.script.now (spelled_fine c.args.sizes.now.domains c.args.script.now c.requires.script) in
+    let few : most_of ephemerons_in c.args.script.now.sections ≤ 200000 = few_ephemerons c.args.script.now.sections (spelled_fine c.args.sizes.now.domains c.args.script.now c.requires.script) in
     omega (arith, few, c.most_needs-most.ensures.ephemerons)
 
 pub returns-clause-limits : goal.returns-clause-limits
 returns-clause-limits c =
     let z = c.args.sizes.now in
     let fine = spelled_fine z.domains c.args.script.now c.requires.script in
-    let ephemerons : most_of ephemerons_in c.args.script.now ≤ 200000 = few_ephemerons c.args.script.now fine in
-    let registrations : most_of registrations_in c.args.script.now ≤ 200000 = few_registrations c.args.script.now fine in
+    let ephemerons : most_of ephemerons_in c.args.script.now.sections ≤ 200000 = few_ephemerons c.args.script.now.sections fine in
+    let registrations : most_of registrations_in c.args.script.now.sections ≤ 200000 = few_registrations c.args.script.now.sections fine in
     let same : sizes_of z.domains z.pools z.minor_words z.classes ≡ z = refl in
     let sizes = ap (λ (n : ℕ). outside_sizes (sizes_of z.domains z.pools z.minor_words n)) (sym c.requires.sizes.classes) ∙ ap outside_sizes same ∙ c.requires.sizes.limits in
     let most = c.most_needs-most.result in

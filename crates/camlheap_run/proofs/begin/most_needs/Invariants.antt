@@ -6,6 +6,6 @@ use Rattle.camlheap_run.proofs.begin.most_needs.Given as goal
 
 abbrev pub invariant-sections : goal.invariant-sections
 invariant-sections l = record {
-  ephemerons : max l.most.ephemerons (most_of ephemerons_in (drop l.i l.script)) ≡ most_of ephemerons_in l.script;
-  registrations : max l.most.registrations (most_of registrations_in (drop l.i l.script)) ≡ most_of registrations_in l.script;
+  ephemerons : max l.most.ephemerons (most_of ephemerons_in (drop l.i l.script.sections)) ≡ most_of ephemerons_in l.script.sections;
+  registrations : max l.most.registrations (most_of registrations_in (drop l.i l.script.sections)) ≡ most_of registrations_in l.script.sections;
 }
