@@ -2,7 +2,7 @@
 use crate::program::runs_to;
 use std::test::Fail;
 
-const WORDS: &str = "run --domains 1 --minor 4096 --pools 14";
+const WORDS: &str = "run --domains 1 --minor 4096 --pools 20";
 
 // A block of 126 fields takes 128 words, so 32 of them fit into a minor area of 4096. A collection comes
 // before the next.

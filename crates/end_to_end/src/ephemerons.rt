@@ -100,6 +100,6 @@ fn dropped_ephemerons_make_room(rt: HostRuntime) -> Result<(), Fail> {
     }
     script.push_str("full_major\n")?;
     prints.push_str("live 3 157\n")?;
-    let words = "run --domains 1 --minor 4096 --pools 14";
+    let words = "run --domains 1 --minor 4096 --pools 20";
     Ok(runs_to(&rt, alloc, words, &script, &prints)?)
 }

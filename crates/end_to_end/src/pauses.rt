@@ -40,7 +40,7 @@ fn run_of<R: Threads + Wait + Sync>(
     domains: u32,
     script: &str,
 ) -> Result<Output, AllocError> {
-    let words = format!(in alloc; "run --domains {domains} --minor 4096 --pools 105")?;
+    let words = format!(in alloc; "run --domains {domains} --minor 4096 --pools 153")?;
     run_plain(rt, alloc, &words, script)
 }
 

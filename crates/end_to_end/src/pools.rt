@@ -3,8 +3,8 @@ use crate::program::runs_to;
 use std::alloc::{AllocError, Global};
 use std::test::Fail;
 
-// Of 14 pools six can be drawn, with 32 blocks of 128 words each.
-const WORDS: &str = "run --domains 1 --minor 4096 --pools 14";
+// Of 20 pools nine can be drawn, with 32 blocks of 128 words each.
+const WORDS: &str = "run --domains 1 --minor 4096 --pools 20";
 
 // Appends the making of the blocks with these labels, and what it prints. Each leads to the one before, and
 // registers 1 and 2 hold the last.
@@ -30,7 +30,7 @@ fn a_pause_lists_the_pools_that_are_left(rt: HostRuntime) -> Result<(), Fail> {
     let alloc = rt.alloc();
     let mut script = String::from_str(alloc, "heap 1\ndomain 0\nint 2 0\n")?;
     let mut prints = String::from_str(alloc, "domain 0\nok\n")?;
-    for (first, last) in [(1, 64), (65, 192)] {
+    for (first, last) in [(1, 64), (65, 288)] {
         push_chain(alloc, &mut script, &mut prints, "allocmaj", first, last)?;
         script.push_str("minor\n")?;
         prints.push_str("ok\n")?;
@@ -44,7 +44,7 @@ fn a_pause_lists_the_pools_that_are_left(rt: HostRuntime) -> Result<(), Fail> {
 // blocks 32 more are made: the minor area holds those that no pool has room for.
 #[test]
 fn a_heap_is_full_while_its_blocks_are_kept(rt: HostRuntime) -> Result<(), Fail> {
-    for (command, blocks) in [("allocmaj", 192u32), ("alloc", 224)] {
+    for (command, blocks) in [("allocmaj", 288u32), ("alloc", 320)] {
         let alloc = rt.alloc();
         let mut script = String::from_str(alloc, "heap 1\ndomain 0\nint 2 0\n")?;
         let mut prints = String::from_str(alloc, "domain 0\nok\n")?;
@@ -76,7 +76,7 @@ fn push_blocks(
     Ok(())
 }
 
-// Of 1000 blocks that are made and dropped no more than 192 have room at once.
+// Of 1000 blocks that are made and dropped no more than 288 have room at once.
 #[test]
 fn dropped_blocks_make_room(rt: HostRuntime) -> Result<(), Fail> {
     let alloc = rt.alloc();
@@ -88,7 +88,7 @@ fn dropped_blocks_make_room(rt: HostRuntime) -> Result<(), Fail> {
     Ok(runs_to(&rt, alloc, WORDS, &script, &prints)?)
 }
 
-// A collection leaves an ephemeron, its key and 159 dead blocks, and the pools are full. The domain frees these as it runs:
+// A collection leaves an ephemeron, its key and 255 dead blocks, and the pools are full. The domain frees these as it runs:
 // as many blocks are made again, and the key, which died behind that collection, is still there. For one block more
 // another collection comes, and the key goes.
 #[test]
@@ -99,12 +99,12 @@ fn garbage_makes_room_without_another_collection(rt: HostRuntime) -> Result<(), 
         "heap 1\ndomain 0\nallocmaj 3 0 126\nephe 2 1\nset_key 2 0 3\n",
     )?;
     let mut prints = String::from_str(alloc, "domain 0\nblk 0:1\nblk 0:2\nok\n")?;
-    push_blocks(alloc, &mut script, &mut prints, 3, 161)?;
+    push_blocks(alloc, &mut script, &mut prints, 3, 257)?;
     script.push_str("drop 1\nmajor\npoll\npoll\ndrop 3\n")?;
     prints.push_str("ok\nok\nok\nok\nok\n")?;
-    push_blocks(alloc, &mut script, &mut prints, 162, 320)?;
+    push_blocks(alloc, &mut script, &mut prints, 258, 512)?;
     script.push_str("check_key 2 0\nallocmaj 1 0 126\ncheck_key 2 0\n")?;
-    prints.push_str("yes\nblk 0:321\nno\n")?;
+    prints.push_str("yes\nblk 0:513\nno\n")?;
     Ok(runs_to(&rt, alloc, WORDS, &script, &prints)?)
 }
 

@@ -7,7 +7,7 @@ use std::sync::atomic::{AtomicUsize, Ordering};
 use std::test::Fail;
 use std::thread::Threads;
 
-const WORDS: &str = "run --minor 4096 --pools 27";
+const WORDS: &str = "run --minor 4096 --pools 39";
 
 // Each domain stores a number of its own into the same field, and loads it.
 const RACE: &str =
@@ -27,6 +27,27 @@ fn a_race_prints_what_a_history_allows(rt: HostRuntime) -> Result<(), Fail> {
         let given = run_plain(&rt, alloc, WORDS, RACE)?;
         assert_eq!(rt; given.number, 0, "run {turn}");
         let allowed = [BOTH_10, EACH_ITS_OWN, BOTH_20]
+            .iter()
+            .any(|prints| given.written.as_slice() == prints.as_bytes());
+        assert!(rt; allowed, "run {turn}");
+    }
+    Ok(())
+}
+
+// Each domain puts a number into a field that holds 0.
+const EXCHANGES: &str = "heap 2\ndomain 0\nint 1 0\nint 2 5\ncas 0 0 1 2\ndomain 1\nint 1 0\nint 2 5\ncas 0 0 1 2\n";
+
+const FIRST_WINS: &str = "domain 0\nok\nok\nyes\ndomain 1\nok\nok\nno\n";
+
+const SECOND_WINS: &str = "domain 0\nok\nok\nno\ndomain 1\nok\nok\nyes\n";
+
+#[test]
+fn one_exchange_of_two_is_made(rt: HostRuntime) -> Result<(), Fail> {
+    for turn in 0..200u32 {
+        let alloc = rt.alloc();
+        let given = run_plain(&rt, alloc, WORDS, EXCHANGES)?;
+        assert_eq!(rt; given.number, 0, "run {turn}");
+        let allowed = [FIRST_WINS, SECOND_WINS]
             .iter()
             .any(|prints| given.written.as_slice() == prints.as_bytes());
         assert!(rt; allowed, "run {turn}");

@@ -3,7 +3,7 @@ use crate::program::{PLAIN, PLAIN_PRINTS, is_given, run_plain, runs_to};
 use std::test::Fail;
 
 // Words, a script, and what its run prints.
-const REPLIES: [(&str, &str, &str); 18] = [
+const REPLIES: [(&str, &str, &str); 22] = [
     ("run --domains 1", PLAIN, PLAIN_PRINTS),
     ("run --domains 1", "heap 1\ndomain 0\n", "domain 0\n"),
     ("run", "heap 1\ndomain 0\n", "domain 0\ndomain 1\n"),
@@ -13,7 +13,7 @@ const REPLIES: [(&str, &str, &str); 18] = [
         "domain 0\nok\nok\nint 4\ndomain 1\ndomain 2\n",
     ),
     (
-        "run --domains=1 --pools=14 --minor=4096",
+        "run --domains=1 --pools=20 --minor=4096",
         "heap 1\ndomain 0\nint 1 5\nload 2 1 0\nload 2 0 16\nload 2 0 15\nstore 0 0 9\n",
         "domain 0\nok\ntype\nbounds\nint 0\ntype\n",
     ),
@@ -66,6 +66,26 @@ const REPLIES: [(&str, &str, &str); 18] = [
         "run --domains 1",
         "heap 1\ndomain 0\nallocmaj 1 0 1\nalloc 2 0 1\nstore 1 0 2\nint 3 9\nstore 1 0 3\ndrop 2\nminor\nload 4 1 0\nfull_major\n",
         "domain 0\nblk 0:1\nblk 0:2\nok\nok\nok\nok\nok\nint 9\nlive 2 21\n",
+    ),
+    (
+        "run --domains 1",
+        "heap 2\ndomain 0\nraw 1 252 3\nint 2 5\nstore 1 0 2\nstore 1 1 1\nload 3 1 0\nfull_major\n",
+        "domain 0\nblk 0:1\nok\nok\ntype\nint 5\nlive 2 23\n",
+    ),
+    (
+        "run --domains 1",
+        "heap 2\ndomain 0\nint 1 0\nint 2 9\ncas 0 3 1 2\ncas 0 3 1 2\nload 3 0 3\ncas 0 16 1 2\ncas 0 3 9 2\n",
+        "domain 0\nok\nok\nyes\nno\nint 9\nbounds\ntype\n",
+    ),
+    (
+        "run --domains 1",
+        "heap 2\ndomain 0\nalloc 1 0 1\nstore 0 0 1\nminor\nint 2 1\ncas 0 0 1 2\n",
+        "domain 0\nblk 0:1\nok\nok\nok\nyes\n",
+    ),
+    (
+        "run --domains 1",
+        "heap 2\ndomain 0\nalloc 1 0 1022\nload 2 1 1021\nload 2 1 1022\nfull_major\n",
+        "domain 0\nblk 0:1\nint 0\nbounds\nlive 2 1042\n",
     ),
     (
         "run",
@@ -207,9 +227,9 @@ const OTHER_WORDS: [&str; 21] = [
     "run --domains 9",
     "run --domains 1 1",
     "run --domains",
-    "run --domains 1 --minor 4096 --pools 13",
+    "run --domains 1 --minor 4096 --pools 19",
     "run --minor 5000",
-    "run --pools 14 --pools 14",
+    "run --pools 20 --pools 20",
     "--help",
     "gen",
     "gen 7 1",

@@ -29,9 +29,9 @@ const RUNS: [(&str, (u32, u32, u32)); 6] = [
         "run --domains=8 --minor=65536 --pools=2048",
         (8, 65536, 2048),
     ),
-    ("run --pools 14 --minor 4096 --domains 1", (1, 4096, 14)),
+    ("run --pools 20 --minor 4096 --domains 1", (1, 4096, 20)),
     ("run --minor=4096", (2, 4096, 512)),
-    ("run --minor 4096 --pools=27", (2, 4096, 27)),
+    ("run --minor 4096 --pools=39", (2, 4096, 39)),
 ];
 
 // Numbers of a script that may be asked for.
@@ -54,10 +54,10 @@ const REFUSED: [&str; 33] = [
     "run --domains -1",
     "run --domains 4294967297",
     "run --domains 99999999999999999999999",
-    "run --domains 1 --minor 4096 --pools 13",
+    "run --domains 1 --minor 4096 --pools 19",
     "run --minor 5000",
-    "run --minor 4096 --pools 26",
-    "run --pools 14 --pools 14",
+    "run --minor 4096 --pools 38",
+    "run --pools 20 --pools 20",
     "run --pools=600 --pools 600",
     "run --help",
     "run --",
@@ -84,7 +84,7 @@ fn lines_are_taken_or_refused(rt: HostRuntime) -> Result<(), Fail> {
             domains: asked.0,
             pools: asked.2,
             minor_words: asked.1,
-            classes: 6,
+            classes: 9,
         });
         same(
             &rt,

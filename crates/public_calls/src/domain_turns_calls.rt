@@ -84,7 +84,7 @@ const MOVED: [(u32, Shown); 3] = [
             arrivals: 0,
             used: 4,
             remembered: 0,
-            registers: [Value::Ref(1), Value::Ref(14 * 4096 + 1), Value::Nothing],
+            registers: [Value::Ref(1), Value::Ref(20 * 4096 + 1), Value::Nothing],
         },
     ),
     (
@@ -554,7 +554,7 @@ const SWEPT: [Command; 5] = [
 
 // Where domain 0 goes on to sweep once it has made so many commands. The pool of the shared block has 128 places.
 const SPOTS: [(usize, Spot); 3] = [
-    (3, Spot { pool: 14, slot: 0 }),
+    (3, Spot { pool: 20, slot: 0 }),
     (4, Spot { pool: 1, slot: 128 }),
     (5, Spot { pool: 1, slot: 384 }),
 ];

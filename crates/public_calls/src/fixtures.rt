@@ -36,7 +36,7 @@ pub(crate) fn same<T: Copy + Debug + PartialEq>(rt: &impl Abort, got: T, wanted:
 pub(crate) const ONE_DOMAIN: Config = Config {
     domains: 1,
     minor_words: 4096,
-    pools: 14,
+    pools: 20,
     finals: 2,
     ephes: 1,
 };
@@ -44,7 +44,7 @@ pub(crate) const ONE_DOMAIN: Config = Config {
 pub(crate) const TWO_DOMAINS: Config = Config {
     domains: 2,
     minor_words: 4096,
-    pools: 27,
+    pools: 39,
     finals: 2,
     ephes: 0,
 };

@@ -5,14 +5,18 @@ use heap_model::label::Label;
 use heap_model::reply::Reply;
 use heap_text::ScriptFault::{Order, Range, Syntax, TooLong, TooMany};
 use heap_text::{
-    Line, Script, ScriptFault, generate, print_command, print_heading, print_reply, read_script,
+    Line, Script, ScriptFault, Version, generate, print_command, print_heading, print_reply, read_script,
 };
 use std::alloc::{AllocError, Global};
 use std::test::Fail;
 
 // What the first sections of a script print as.
 fn printed(alloc: Global, script: &Script, written: usize) -> Result<Vec<u8>, AllocError> {
-    let mut bytes = Vec::from_slice(alloc, b"heap 1\n")?;
+    let first: &[u8] = match script.version() {
+        Version::One => b"heap 1\n",
+        Version::Two => b"heap 2\n",
+    };
+    let mut bytes = Vec::from_slice(alloc, first)?;
     let mut line: Line = [0; 64];
     for domain in 0..written.min(script.sections()).min(8) {
         let len = print_heading(domain as u32, &mut line);
@@ -36,7 +40,7 @@ fn many_lines(alloc: Global, copies: usize, last: &[u8]) -> Result<Vec<u8>, Allo
 }
 
 // Domains, sections that are written, and a script.
-const SCRIPTS: [(u32, usize, &[u8]); 10] = [
+const SCRIPTS: [(u32, usize, &[u8]); 12] = [
     (1, 0, b"heap 1\n"),
     (1, 1, b"heap 1\ndomain 0\n"),
     (2, 1, b"heap 1\ndomain 0\nint 0 0\n"),
@@ -54,6 +58,8 @@ const SCRIPTS: [(u32, usize, &[u8]); 10] = [
     (1, 1, b"heap 1\ndomain 0\nmove 1 15\ndrop 0\npoll\n"),
     (1, 1, b"heap 1\ndomain 0\nallocmaj 1 3 126\nminor\n"),
     (1, 1, b"heap 1\ndomain 0\nmajor\nfull_major\n"),
+    (1, 1, b"heap 2\ndomain 0\nraw 1 251 1022\ncas 0 1023 1 15\n"),
+    (1, 1, b"heap 2\ndomain 0\nalloc 1 245 1022\nallocmaj 1 3 127\n"),
     (
         8,
         3,
@@ -96,10 +102,27 @@ fn commands_are_read(rt: HostRuntime) -> Result<(), Fail> {
 }
 
 // Domains, bytes, and their first fault.
-const FAULTS: [(u32, &[u8], ScriptFault); 33] = [
+const FAULTS: [(u32, &[u8], ScriptFault); 38] = [
     (1, b"", Syntax { line: 1 }),
     (1, b"heap 1", Syntax { line: 1 }),
-    (1, b"heap 2\n", Syntax { line: 1 }),
+    (1, b"heap 3\n", Syntax { line: 1 }),
+    (1, b"heap 1\ndomain 0\nraw 1 252 3\n", Syntax { line: 3 }),
+    (1, b"heap 1\ndomain 0\ncas 0 3 1 2\n", Syntax { line: 3 }),
+    (
+        1,
+        b"heap 2\ndomain 0\nraw 1 250 1\n",
+        Range { line: 3, which: 2 },
+    ),
+    (
+        1,
+        b"heap 2\ndomain 0\nalloc 1 0 1023\n",
+        Range { line: 3, which: 3 },
+    ),
+    (
+        1,
+        b"heap 2\ndomain 0\nalloc 1 246 1\n",
+        Range { line: 3, which: 2 },
+    ),
     (1, b"heap 1 \n", Syntax { line: 1 }),
     (1, b"heap 1\n\n", Syntax { line: 2 }),
     (1, b"heap 1\ndomain 0\nint 1 5", Syntax { line: 3 }),

@@ -37,11 +37,11 @@ fn allocate(heap: &Heap, dom: &mut Domain, fields: u16, blocks: u32) -> Result<(
     Ok(())
 }
 
-// 192 blocks of 128 words fit the 6 pools that the reserve leaves, and the 193rd doesn't.
+// 288 blocks of 128 words fit the nine pools that the reserve leaves, and the 289th doesn't.
 #[test]
 fn the_pools_fill(rt: HostRuntime) -> Result<(), Fail> {
     let (heap, mut dom) = one_domain(rt.alloc())?;
-    same(&rt, allocate(&heap, &mut dom, 126, 192), Ok(()));
+    same(&rt, allocate(&heap, &mut dom, 126, 288), Ok(()));
     let labels = dom.labels_made();
     same(
         &rt,

@@ -345,11 +345,11 @@ fn major(dst: u8) -> Command {
     }
 }
 
-// The commands that make 192 blocks of the major heap, and so many young ones, and then this one while all are held and
+// The commands that make 288 blocks of the major heap, and so many young ones, and then this one while all are held and
 // again once they are dropped.
 fn filling(alloc: Global, blocks: u32, last: Command) -> Result<Vec<Command>, AllocError> {
     let mut commands = vec![in alloc; Command::PutInt { dst: 2, value: 0 }; 1]?;
-    push_chain(&mut commands, major(1), 192)?;
+    push_chain(&mut commands, major(1), 288)?;
     push_chain(&mut commands, young(1), blocks)?;
     commands.extend_from_slice(&[
         last,
@@ -361,10 +361,10 @@ fn filling(alloc: Global, blocks: u32, last: Command) -> Result<Vec<Command>, Al
     Ok(commands)
 }
 
-// Of 14 pools six can be drawn, with 32 blocks of 128 words each, and 32 more fit into the minor area.
+// Of 20 pools nine can be drawn, with 32 blocks of 128 words each, and 32 more fit into the minor area.
 #[test]
 fn the_caller_fills_a_heap(rt: HostRuntime) -> Result<(), Fail> {
-    for (blocks, serial, last) in [(0, 193, major(3)), (32, 225, young(3))] {
+    for (blocks, serial, last) in [(0, 289, major(3)), (32, 321, young(3))] {
         let commands = filling(rt.alloc(), blocks, last)?;
         let play = Play::start(rt.alloc(), ONE_DOMAIN, &[commands.as_slice()])?;
         let run = play.alone(&rt, &NoGate).pop().ok_or("no run")?;
