@@ -5,7 +5,7 @@ ghost use Rattle.heap_model.specs.Entries.{opened_node, opened};
 
 use heap_model::graph::{Node, Value};
 use heap_model::label::Label;
-use heap_model::sequence::{copy, Sequence};
+use heap_model::sequence::{Sequence, copy};
 use std::alloc::{AllocError, Global};
 
 // A key as a value.
