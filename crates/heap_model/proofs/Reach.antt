@@ -2,3 +2,4 @@
 pub mod ReachLemmas
 pub mod ReachSizeLemmas
 pub mod LabelListLemmas
+pub mod OpenedLemmas

@@ -21,10 +21,10 @@ use Rattle.heap_model.specs.declared.state.DomainState.{DomainState}
 use Rattle.heap_model.specs.declared.state.Finaliser.{Finaliser}
 use Rattle.heap_model.specs.declared.state.LastFinaliser.{LastFinaliser}
 use Rattle.heap_model.specs.declared.state.State.{State}
-use Rattle.heap_model.specs.Graph.{same_label, has_label, label_of, node_at}
+use Rattle.heap_model.specs.Graph.{Graph, same_label, has_label, label_of, node_at}
 use Rattle.heap_model.specs.Domains.{domain_at, with_domain, with_register, with_block, queues, pending_label, reach, is_reachable_with, waiting, settled_roots, settled_reach}
 use Rattle.heap_model.specs.Reach.{key_holds, reachable}
-use Rattle.heap_model.specs.Commands.{CommandAllowed, command_outcome, after_command}
+use Rattle.heap_model.specs.Commands.{key_value, CommandAllowed, command_outcome, after_command}
 
 -- whether the places rise, and are at least one
 abbrev pub is_rising : List ℕ → Bool
@@ -169,10 +169,18 @@ full_keys (Some (Plain tag fields)) = []
 full_keys (Some (Raw tag fields)) = []
 full_keys None = []
 
--- the labels reachable from all that a collection leaves: besides the settled roots, the `finalise_last` that still wait and the keys of the ephemerons that are reached
+-- a block as one that keeps alive all that it names: the keys of an ephemeron too, and its data in any case
+abbrev pub opened_node : Node → Node
+opened_node (Plain tag fields) = Plain tag fields
+opened_node (Raw tag fields) = Raw tag fields
+opened_node (Ephe keys datum) = Plain 0 (datum ∷ map key_value keys)
+
+abbrev pub opened : Graph → Graph
+opened g = map (λ e. (e.0, opened_node e.1)) g
+
+-- all that domains may still come to after a collection: what the settled roots and the `finalise_last` that still wait lead to, over fields, keys and data
 abbrev pub left_reach : State → List Label
-left_reach s = reachable s.graph (settled_roots s (queues s) ++ flat_map (λ x. map (λ f. f.label) x.lasts) s.domains
-    ++ flat_map (λ l. full_keys (node_at s.graph l)) (settled_reach s (queues s)))
+left_reach s = reachable (opened s.graph) (settled_roots s (queues s) ++ flat_map (λ x. map (λ f. f.label) x.lasts) s.domains)
 
 -- Done: what was taken since the seal is not reached from what is left
 pub record DoneAllowed (s : State) : Type 0 where

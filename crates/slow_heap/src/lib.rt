@@ -12,6 +12,7 @@ mod entries;
 mod ephemerons;
 mod fields;
 mod finalisers;
+mod opened;
 mod opening;
 mod queueing;
 mod reach;

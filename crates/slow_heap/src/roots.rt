@@ -1,14 +1,13 @@
 //! The roots, and what a collection takes as reachable.
 ghost use Rattle.std.specs.Prelude.{◌≡◌, ◌++◌, IfOk, OnOk, flat_map, filter_map, map, Some};
-ghost use Rattle.heap_model.specs.Graph.{label_of, node_at};
+ghost use Rattle.heap_model.specs.Graph.{label_of};
 ghost use Rattle.heap_model.specs.Domains.{pending_label, queues, roots, reach as reach_of, waiting as waiting_labels, settled_reach};
 ghost use Rattle.heap_model.specs.Reach.{reachable};
 ghost use Rattle.heap_model.specs.Commands.{live_reply};
-ghost use Rattle.heap_model.specs.Entries.{full_keys, left_reach};
+ghost use Rattle.heap_model.specs.Entries.{left_reach};
 
-use crate::blocks::place_of;
+use crate::opened::opened_graph;
 use crate::reach::{add_values, push_label, reachable_from, total_words};
-use heap_model::graph::Node;
 use heap_model::label::Label;
 use heap_model::reply::Reply;
 use heap_model::sequence::Sequence;
@@ -108,54 +107,6 @@ fn add_all_lasts(domains: &Sequence<DomainState>, labels: &mut Vec<Label>) -> Re
     Ok(())
 }
 
-// Adds the labels in these keys.
-fn add_keys(keys: &Sequence<Option<Label>>, labels: &mut Vec<Label>) -> Result<(), AllocError>
-    ensures { OnOk result (labels.new.items ≡ labels.old.items ++ filter_map (λ k. k) keys.now) }
-{
-    for key in &keys.items {
-        push_label(labels, *key)?;
-    }
-    Ok(())
-}
-
-// Adds the labels in the full keys of the block with a label.
-fn add_keys_of(
-    graph: &Sequence<(Label, Node)>,
-    l: Label,
-    labels: &mut Vec<Label>,
-) -> Result<(), AllocError>
-    ensures { OnOk result (labels.new.items ≡ labels.old.items ++ full_keys (node_at graph.now l)) }
-{
-    match place_of(graph, l) {
-        None => Ok(()),
-        Some(i) => add_full_keys(&graph.items[i].1, labels),
-    }
-}
-
-// Adds the labels in the full keys of a block.
-fn add_full_keys(node: &Node, labels: &mut Vec<Label>) -> Result<(), AllocError>
-    ensures { OnOk result (labels.new.items ≡ labels.old.items ++ full_keys (Some node.now)) }
-{
-    match node {
-        Node::Plain { .. } | Node::Raw { .. } => Ok(()),
-        Node::Ephe { keys, .. } => add_keys(keys, labels),
-    }
-}
-
-// Adds the labels in the full keys of all these blocks.
-fn add_all_keys(
-    graph: &Sequence<(Label, Node)>,
-    live: &Vec<Label>,
-    labels: &mut Vec<Label>,
-) -> Result<(), AllocError>
-    ensures { OnOk result (labels.new.items ≡ labels.old.items ++ flat_map (λ l. full_keys (node_at graph.now l)) live.now.items) }
-{
-    for l in live {
-        add_keys_of(graph, *l, labels)?;
-    }
-    Ok(())
-}
-
 // The roots with the present queues.
 fn roots_now(alloc: Global, state: &State) -> Result<Vec<Label>, AllocError>
     ensures { IfOk result (λ v. v.items ≡ roots state.now (queues state.now)) }
@@ -210,16 +161,15 @@ pub(crate) fn settled_at_cut(alloc: Global, state: &State) -> Result<Vec<Label>,
     reachable_from(alloc, &state.graph, &roots)
 }
 
-// What all that a collection leaves reaches.
+// What all that a collection leaves leads to, over fields, keys and data.
 pub(crate) fn left(alloc: Global, state: &State) -> Result<Vec<Label>, AllocError>
     ensures { IfOk result (λ v. v.items ≡ left_reach state.now) }
 {
-    let live = settled(alloc, state)?;
     let mut roots = roots_now(alloc, state)?;
     add_waiting(&state.domains, &mut roots)?;
     add_all_lasts(&state.domains, &mut roots)?;
-    add_all_keys(&state.graph, &live, &mut roots)?;
-    reachable_from(alloc, &state.graph, &roots)
+    let graph = opened_graph(alloc, &state.graph)?;
+    reachable_from(alloc, &graph, &roots)
 }
 
 // The labels of the waiting registrations.

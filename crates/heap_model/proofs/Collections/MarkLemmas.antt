@@ -12,10 +12,11 @@ use Rattle.heap_model.specs.declared.state.State.{State}
 use Rattle.heap_model.specs.Graph.{same_label, has_label, node_at}
 use Rattle.heap_model.specs.Reach.{HoldsRoots, IsClosedUnder}
 use Rattle.heap_model.specs.Domains.{domain_at, queues, roots, waiting, settled_roots, settled_reach, is_reachable_with}
-use Rattle.heap_model.specs.Entries.{is_some_and, is_dead, is_gone, is_let_go, is_rising, ephe_holds, queued_beyond, QueueAllowed, SealAllowed, WipeAllowed, LastAllowed, is_sealed, full_keys, left_reach, DoneAllowed}
+use Rattle.heap_model.specs.Entries.{is_some_and, is_dead, is_gone, is_let_go, is_rising, ephe_holds, queued_beyond, QueueAllowed, SealAllowed, WipeAllowed, LastAllowed, is_sealed, full_keys, opened, left_reach, DoneAllowed}
 use Rattle.heap_model.specs.Marked.{IsMarked}
 use Rattle.heap_model.proofs.Graphs.GraphLemmas.{same_label_refl}
-use Rattle.heap_model.proofs.Reach.ReachLemmas.{or_left, or_right, and_left, and_right, and_both, has-append_cases, has-flat_map_cases, reachable_least}
+use Rattle.heap_model.proofs.Reach.ReachLemmas.{or_left, or_right, and_left, and_right, and_both, has-append_cases, reachable_least}
+use Rattle.heap_model.proofs.Reach.OpenedLemmas.{opened_closed}
 
 -- a list whose labels all pass a test
 pub all_labels : (test : Label → Bool) (ls : List Label) → ((l : Label) → IsTrue (has_label ls l) → IsTrue (test l)) → IsTrue (list_all test ls)
@@ -110,14 +111,12 @@ pub done_marked : (s : State) (marked : Label → Bool) → IsTrue (is_sealed s.
     → ((l : Label) → IsTrue (has_label s.taken l) → IsTrue (not (marked l))) → DoneAllowed s
 done_marked s marked mode marks lasts keys unmarked =
     let last_labels : List Label = flat_map (λ x. map (λ f. f.label) x.lasts) s.domains in
-    let key_labels : List Label = flat_map (λ l. full_keys (node_at s.graph l)) (settled_reach s (queues s)) in
-    let left : HoldsRoots (settled_roots s (queues s) ++ last_labels ++ key_labels) marked = λ l h. ⊎_elim
-    (λ a. ⊎_elim (λ b. holds_settled s (queues s) marked marks l b) (λ c. lasts l c) (has-append_cases (settled_roots s (queues s)) last_labels l a))
-    (λ d. let t = has-flat_map_cases (λ x. full_keys (node_at s.graph x)) (settled_reach s (queues s)) l d in
-    keys t.0 l (settled_marked s (queues s) marked marks t.0 t.1) t.2)
-    (has-append_cases (settled_roots s (queues s) ++ last_labels) key_labels l h) in
+    let left : HoldsRoots (settled_roots s (queues s) ++ last_labels) marked = λ l h. ⊎_elim
+    (λ a. holds_settled s (queues s) marked marks l a)
+    (λ b. lasts l b)
+    (has-append_cases (settled_roots s (queues s)) last_labels l h) in
     record {
       mode = mode;
       apart = all_labels (λ l. not (has_label (left_reach s) l)) s.taken (λ l h.
-          not_held (has_label (left_reach s) l) (marked l) (reachable_least s.graph marked marks.closed _ left l) (unmarked l h));
+          not_held (has_label (left_reach s) l) (marked l) (reachable_least (opened s.graph) marked (opened_closed s.graph marked marks.closed keys) _ left l) (unmarked l h));
     }

@@ -373,3 +373,20 @@ join_illegal h = h.0.fits
 full_raw : MayBeFull (state_after (opening (small 14)) collected_once) 0 (NewRaw 1 252 1)
 unfolding reachable
 full_raw = record { allocates = refl; fresh = refl; kept_enough = let enough : 14 ≤ 14 = omega arith in enough }
+
+-- once one key for a value was emptied no chain of keys gives the value back: here a key of a reachable ephemeron has the one that has the value
+abbrev two_keys_away : List Entry
+two_keys_away =
+    map run (Alloc 1 0 1 ∷ NewEphe 2 1 ∷ SetKey 2 0 1 ∷ NewEphe 3 1 ∷ SetKey 3 0 1 ∷ NewEphe 4 1 ∷ SetKey 4 0 3 ∷ Forget 1 ∷ Forget 3 ∷ []) ++ Cut ∷ Seal ∷ Wipe (block 2) (0 ∷ []) ∷ []
+
+two_keys_away_until : Legal sizes two_keys_away
+unfolding reachable
+two_keys_away_until = search rules
+
+two_keys_away_illegal : Legal sizes (two_keys_away ++ Done ∷ []) → ⊥
+unfolding reachable
+two_keys_away_illegal h = let apart : false ≡ true = h.1.1.1.1.1.1.1.1.1.1.1.1.0.apart in cc
+
+two_keys_away_legal : Legal sizes (two_keys_away ++ Wipe (block 3) (0 ∷ []) ∷ Wipe (block 4) (0 ∷ []) ∷ Done ∷ [])
+unfolding reachable
+two_keys_away_legal = search rules
