@@ -32,6 +32,8 @@ fn place_of(len: usize, turned: usize, i: usize) -> usize
     requires inside { i < len }
     requires turned { turned ≤ len }
     ensures below { result < len }
+    ensures first { i + turned < len → result ≡ turned + i }
+    ensures last { len ≤ i + turned → result + len ≡ i + turned }
 {
     let first = len - turned;
     if i < first { turned + i } else { i - first }
@@ -91,8 +93,9 @@ impl<T: Copy> BoundedQueue<T> {
         ensures items { self.new.items ≡ slice_set self.old.items i item }
         ensures room { self.new.room ≡ self.old.room }
     {
-        let at = place_of(self.items.len(), self.turned, i);
-        self.items[at] = item;
+        turn(&mut self.items, self.turned, 0);
+        self.turned = 0;
+        self.items[i] = item;
     }
 
     /// Appends an item. Takes no memory.

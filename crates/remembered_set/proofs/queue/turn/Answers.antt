@@ -1,5 +1,5 @@
-use Rattle.std.proofs.Common.{rules, ◌≡◌, ◌<◌, ◌≤◌, ◌+◌, ◌-◌, ◌++◌, drop, length, take, ℕ, List, sym, arith}
-use Rattle.std.specs.VecDeque.{deque_len, deque_capacity}
+use Rattle.std.proofs.Common.{rules, arith}
+use Rattle.std.specs.VecDeque.{deque_len}
 use Rattle.remembered_set.proofs.Turning.{turned_right, turned_left}
 use Rattle.remembered_set.proofs.queue.turn.Goals as goal
 
