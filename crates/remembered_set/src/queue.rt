@@ -1,5 +1,6 @@
 //! Queues with room that is reserved at the start.
-ghost use Rattle.std.specs.Prelude.{◌≡◌, ◌<◌, ◌≤◌, ◌+◌, ◌++◌, ◌∷◌, [], IfOk, Some, length, remove, slice_get, slice_set};
+ghost use Rattle.std.specs.Prelude.{◌≡◌, ◌<◌, ◌≤◌, ◌+◌, ◌++◌, ◌∷◌, [], IfOk, Some, drop, length, remove, slice_get, slice_set, take};
+ghost use Rattle.std.specs.VecDeque.{deque_len, deque_capacity};
 
 use std::alloc::{AllocError, Global};
 use std::collections::VecDeque;
@@ -10,18 +11,47 @@ use std::marker::Model;
 #[derive(Drop)]
 pub struct BoundedQueue<T> {
     items: VecDeque<T>,
+    // So many of the last items stand before the others.
+    turned: usize,
 }
 
 impl<T> Model for BoundedQueue<T> {
-    ghost use Rattle.std.specs.Prelude.{◌-◌, ◌≤◌};
+    ghost use Rattle.std.specs.Prelude.{◌-◌, ◌≤◌, ◌++◌, drop, take};
     ghost use Rattle.std.specs.VecDeque.{deque_len, deque_capacity};
     ghost use Rattle.remembered_set.specs.Bounded.{Bounded};
 
     ghost Value = { Bounded T };
 
-    ghost view = { λ q. record { items = q.items.items; room = deque_capacity q.items - deque_len q.items } };
+    ghost view = { λ q. record { items = drop q.turned q.items.items ++ take q.turned q.items.items; room = deque_capacity q.items - deque_len q.items } };
 
-    ghost invariant = { λ q. deque_len q.items ≤ deque_capacity q.items };
+    ghost invariant = { λ q. (deque_len q.items ≤ deque_capacity q.items) × (q.turned ≤ deque_len q.items) };
+}
+
+// Where the `i`-th of so many items stands, of which so many of the last stand before the others.
+fn place_of(len: usize, turned: usize, i: usize) -> usize
+    requires inside { i < len }
+    requires turned { turned ≤ len }
+    ensures below { result < len }
+    ensures first { i + turned < len → result ≡ turned + i }
+    ensures last { len ≤ i + turned → result + len ≡ i + turned }
+{
+    let first = len - turned;
+    if i < first { turned + i } else { i - first }
+}
+
+// Has so many of the last items stand before the others, where so many stand there now.
+fn turn<T>(items: &mut VecDeque<T>, from: usize, to: usize)
+    requires from { from ≤ deque_len items.old }
+    requires to { to ≤ deque_len items.old }
+    ensures same { drop to items.new.items ++ take to items.new.items ≡ drop from items.old.items ++ take from items.old.items }
+    ensures len { deque_len items.new ≡ deque_len items.old }
+    ensures capacity { deque_capacity items.new ≡ deque_capacity items.old }
+{
+    if from < to {
+        items.rotate_right(to - from);
+    } else {
+        items.rotate_left(from - to);
+    }
 }
 
 impl<T: Copy> BoundedQueue<T> {
@@ -32,7 +62,7 @@ impl<T: Copy> BoundedQueue<T> {
         ensures room { IfOk result (λ q. q.room ≡ room) }
     {
         let items = VecDeque::with_capacity(alloc, room)?;
-        Ok(BoundedQueue { items })
+        Ok(BoundedQueue { items, turned: 0 })
     }
 
     /// How many more items fit.
@@ -54,7 +84,7 @@ impl<T: Copy> BoundedQueue<T> {
         requires { i < length self.now.items }
         ensures { Some result ≡ slice_get self.now.items i }
     {
-        self.items[i]
+        self.items[place_of(self.items.len(), self.turned, i)]
     }
 
     /// Puts an item in the place of the `i`-th.
@@ -63,6 +93,8 @@ impl<T: Copy> BoundedQueue<T> {
         ensures items { self.new.items ≡ slice_set self.old.items i item }
         ensures room { self.new.room ≡ self.old.room }
     {
+        turn(&mut self.items, self.turned, 0);
+        self.turned = 0;
         self.items[i] = item;
     }
 
@@ -72,6 +104,8 @@ impl<T: Copy> BoundedQueue<T> {
         ensures items { self.new.items ≡ self.old.items ++ item ∷ [] }
         ensures room { self.new.room + 1 ≡ self.old.room }
     {
+        turn(&mut self.items, self.turned, 0);
+        self.turned = 0;
         self.items.push_back_reserved(item);
     }
 
@@ -83,7 +117,18 @@ impl<T: Copy> BoundedQueue<T> {
         ensures items { self.new.items ≡ remove self.old.items i }
         ensures room { self.new.room ≡ self.old.room + 1 }
     {
-        let Some(item) = self.items.remove(i) else {
+        if i == 0 {
+            turn(&mut self.items, self.turned, 0);
+            self.turned = 0;
+            let Some(item) = self.items.pop_front() else {
+                unreachable!()
+            };
+            return item;
+        }
+        let behind = self.items.len() - 1 - i;
+        turn(&mut self.items, self.turned, behind);
+        self.turned = behind;
+        let Some(item) = self.items.pop_back() else {
             unreachable!()
         };
         item
@@ -95,5 +140,6 @@ impl<T: Copy> BoundedQueue<T> {
         ensures room { self.new.room ≡ self.old.room + length self.old.items }
     {
         self.items.clear();
+        self.turned = 0;
     }
 }
