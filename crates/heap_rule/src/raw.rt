@@ -133,6 +133,7 @@ impl Writing for Changing {
 
     ghost writes = { λ s found changes own after. Changes s.reading found changes own after };
 
+    #[inline(always)]
     fn write(&self, found: u64, changes: &[Change], own: &mut Own) {
         make_changes(own, read_as(self.reading, found), changes);
     }

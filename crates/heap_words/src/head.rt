@@ -67,6 +67,7 @@ pub fn pack_head(head: Head) -> u64
 }
 
 /// The head whose word this is. `None` exactly where no head packs to it.
+#[inline(always)]
 pub fn unpack_head(word: u64) -> Option<Head>
     ensures { Unpacks IsPackableHead head_word word result }
 {
