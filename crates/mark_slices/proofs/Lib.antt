@@ -6,3 +6,4 @@ pub mod Notes
 pub mod Addresses
 pub mod Going
 pub mod Parts
+pub mod OwnPools
