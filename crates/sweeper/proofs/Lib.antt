@@ -1,2 +1,3 @@
 pub mod Prunings
 pub mod Sweepings
+pub mod OwnPools
