@@ -71,6 +71,19 @@ claims_twice x y z a b = b ∙ ap (λ (v : DomainView). with_claims v z) a
 
 -- the copy that is to be filled next
 module _ (k : Config) (i : ℕ) (c : Copied) (x : DomainView) where
+  stays_for : (y : DomainView) (word : ℕ) → (told : HeadMet k c.copy x word y) → Works k x → slice_get x.own.pending.items i ≡ Some c → IsHeadFor told.place.shape word
+  stays_for y word told w item = ⊎_elim (λ (s : StaysThere k c.copy told.place x word y). record { head = s.head })
+      (λ (f : Forwards k c.copy told.place x word y). absurd (let young : k.pools * 4096 < c.copy = f.young in let old : c.copy ≤ k.pools * 4096 = (w.pairs i c item).old in omega arith))
+      told.told
+
+  -- its words are more than those of its head and its label
+  pub words_large : (y : DomainView) (word words : ℕ) → Works k x → slice_get x.own.pending.items i ≡ Some c → HeadMet k c.copy x word y → ((s : Shape) → IsHeadFor s word → words ≡ extent s) → 2 ≤ words
+  words_large y word words w item told says =
+      let b : ℕ = extent told.place.shape in
+      let size : words ≡ b = says told.place.shape (stays_for y word told w item) in
+      let large : 3 ≤ b = extent_large told.place.shape told.packable in
+      let g : 2 ≤ words = omega arith in g
+
   -- where its head was loaded, its size is known
   pub progress_start : (y : DomainView) (word words : ℕ) → IsWithinLimits (sizes_in k) → Works k x → Tied i x → slice_get x.own.pending.items i ≡ Some c → HeadMet k c.copy x word y → ((s : Shape) → IsHeadFor s word → words ≡ extent s)
       → Progress k i c (words - 2) 0 x y
@@ -79,7 +92,7 @@ module _ (k : Config) (i : ℕ) (c : Copied) (x : DomainView) where
       let few : i ≤ length x.own.pending.items = (let b = get_below x.own.pending.items i c item in omega arith) in
       let here : slice_get y.own.pending.items i ≡ Some c = ap (λ (l : List Copied). slice_get l i) g.items ∙ get_append x.own.pending.items g.made i c item in
       let l = told.here in
-      let size : words ≡ extent told.place.shape = says told.place.shape (stays_for told w item) in
+      let size : words ≡ extent told.place.shape = says told.place.shape (stays_for y word told w item) in
       let large : 3 ≤ extent told.place.shape = extent_large told.place.shape told.packable in
       let same : extent l.place.shape ≡ extent told.place.shape = ap extent l.shape in record {
         view = g.view;
@@ -91,12 +104,6 @@ module _ (k : Config) (i : ℕ) (c : Copied) (x : DomainView) where
         met = l.lives;
         extent_is = (let a : ℕ = extent l.place.shape in let b : ℕ = extent told.place.shape in let e : a ≡ b = same in let f : words ≡ b = size in let h : 3 ≤ b = large in let g : a ≡ words - 2 + 2 = omega arith in g);
       }
-    where
-      stays_for : (told : HeadMet k c.copy x word y) → Works k x → slice_get x.own.pending.items i ≡ Some c → IsHeadFor told.place.shape word
-      stays_for told w item = ⊎_elim (λ (s : StaysThere k c.copy told.place x word y). record { head = s.head })
-          (λ (f : Forwards k c.copy told.place x word y). absurd (let young : k.pools * 4096 < c.copy = f.young in let old : c.copy ≤ k.pools * 4096 = (w.pairs i c item).old in omega arith))
-          told.told
-
   module _ (size n : ℕ) where
     -- claims leave how far it is filled
     pub progress_claims : (y z : DomainView) → Progress k i c size n x y → Grown k y z → Progress k i c size n x z

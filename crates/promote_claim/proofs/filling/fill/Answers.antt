@@ -3,7 +3,7 @@ use Rattle.heap_rule.specs.Layout.{heap_words}
 use Rattle.heap_rule.proofs.Sizes.{heap_small}
 use Rattle.steps_promote.specs.Promotion.{FillMay}
 use Rattle.promote_claim.proofs.Meeting.{met_inside}
-use Rattle.promote_claim.proofs.Fills.{progress_start, source_inside, value_grown, value_stands, progress_forwarded, fill_may, progress_on, ended}
+use Rattle.promote_claim.proofs.Fills.{progress_start, words_large, source_inside, value_grown, value_stands, progress_forwarded, fill_may, progress_on, ended}
 use Rattle.promote_claim.proofs.filling.fill.Goals as goal
 
 pub young_head_load-requires-clause-inside : goal.young_head_load-requires-clause-inside
@@ -71,3 +71,6 @@ returns-clause-filled c =
 pub young_field_load-word-requires-clause-inside : goal.young_field_load-word-requires-clause-inside
 young_field_load-word-requires-clause-inside c =
     source_inside c.args.heap.now.config c.args.i c.pending_at-copy.result c.args.dom.now.view (c.words_of-size.result - 2) c.loop-place.place c.loop-place.dom.view c.loop-place.invariant.progress c.loop-place-test.true
+
+pub overflow_sub-size : goal.overflow_sub-size
+overflow_sub-size c = words_large c.args.heap.now.config c.args.i c.pending_at-copy.result c.args.dom.now.view c.young_head_load.new.dom.view c.young_head_load.result c.words_of-size.result c.requires.works (sym c.pending_at-copy.ensures) c.young_head_load.ensures.told c.words_of-size.ensures

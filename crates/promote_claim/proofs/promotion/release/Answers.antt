@@ -1,6 +1,7 @@
-use Rattle.std.proofs.Common.{◌<◌, ◌≤◌, ℕ, sym, ap, subst, ◌∙◌, arith}
+use Rattle.std.proofs.Common.{◌≡◌, ◌+◌, ◌*◌, ◌<◌, ◌≤◌, ℕ, sym, ap, subst, ◌∙◌, arith}
 use Rattle.heap_model.specs.Domains.{class_count}
 use Rattle.heap_rule.specs.declared.view.Spot.{Spot}
+use Rattle.heap_rule.specs.Pools.{size_of}
 use Rattle.promote_claim.proofs.Preparing.{place_inside}
 use Rattle.promote_claim.proofs.Giving.{free_may, gives_none, gives_freed}
 use Rattle.promote_claim.proofs.promotion.release.Goals as goal
@@ -31,3 +32,12 @@ returns-in_default-clause-gives c = gives_none c.args.heap.now.config c.args.cla
 pub returns-clause-gives : goal.returns-clause-gives
 returns-clause-gives c = let p = c.requires.gives.placed c.args.class c.in-Some.at c.requires.class (sym c.prepared.ensures.place ∙ c.in-Some.is) in
     gives_freed c.args.heap.now.config c.args.class c.spot_in-spot.result.pool c.spot_in-spot.result.slot _ c.args.dom.now.view c.args.dom.now.view c.free_store.new.dom.view c.requires.class c.prepared.ensures.wide c.requires.gives c.free_store.ensures.told
+
+pub spot_in-spot-requires-clause-place : goal.spot_in-spot-requires-clause-place
+spot_in-spot-requires-clause-place c =
+    let p = c.requires.gives.placed c.args.class c.in-Some.at c.requires.class (sym c.prepared.ensures.place ∙ c.in-Some.is) in
+    let a : ℕ = c.in-Some.at in
+    let q : ℕ = p.pool in
+    let b : ℕ = p.slot * size_of c.args.class in
+    let e : a ≡ q * 4096 + b + 1 = p.address in
+    let g : 1 ≤ a = omega arith in g
