@@ -80,4 +80,4 @@ module _ (h : SharedHeap) (old y : Token) (c : Command) (a : ℕ) (runs : Runs h
 
   -- and makes the call of its command
   pub store_did : (z : Token) → IsIn z h → StoreTold h.config (own_entry y c) (word_of (key_in c) a) remembers [] y.view z.view → Did h old z c Done
-  store_did z here told = stored_did h old z y.view y.view c (own_entry y c) (word_of (key_in c) a) remembers [] (found_entry h old y c a runs f) runs here f.counted.looked (record { view = refl; grows = λ _ m. m }) refl told
+  store_did z here told = stored_did h old z y.view y.view c (own_entry y c) (word_of (key_in c) a) remembers [] Done (found_entry h old y c a runs f) runs here f.counted.looked (record { view = refl; grows = λ _ m. m }) refl told
