@@ -6,7 +6,7 @@ use Rattle.minor_area.proofs.Allocating.{raw_command}
 use Rattle.domain_turns.proofs.command.alloc_raw.Goals as goal
 
 pub alloc_young-requires : goal.alloc_young-requires
-alloc_young-requires c = let r = c.requires.1.1 in (c.requires.0, (c.requires.1.0, (inr c.requires.1.1.0, (r.1.0, r.1.1))))
+alloc_young-requires c = let r = c.requires in record { runs = r.runs; dst = r.dst; tag = inr r.tag; fields = r.fields; serial = r.serial }
 
 pub returns-clause-did : goal.returns-clause-did
-returns-clause-did c = subst (λ (m : Command). IfOk c.alloc_young.result (λ l. Did c.args.heap.now c.args.dom.now c.alloc_young.new.dom m (Block l))) (raw_command c.args.dst c.args.tag c.args.fields c.requires.1.1.0.0) c.alloc_young.ensures.did
+returns-clause-did c = subst (λ (m : Command). IfOk c.alloc_young.result (λ l. Did c.args.heap.now c.args.dom.now c.alloc_young.new.dom m (Block l))) (raw_command c.args.dst c.args.tag c.args.fields c.requires.tag.0) c.alloc_young.ensures.did
