@@ -5,7 +5,7 @@ ghost use Rattle.heap_rule.specs.declared.view.Known.TheVariants.{Darkened, Mark
 ghost use Rattle.heap_rule.specs.Beside.{IsKnown};
 ghost use Rattle.heap_rule.specs.Standing.{IsInHeap};
 ghost use Rattle.heap_rule.specs.Token.{IsIn};
-ghost use Rattle.steps_beside.specs.Marking.{Reason, weak_on};
+ghost use Rattle.steps_beside.specs.Marking.{Reason, StillFound, weak_on};
 ghost use Rattle.barriers.specs.Aware.{Counts, DarkensBeside, Learnt};
 
 use crate::heads::darkened_head;
@@ -32,6 +32,7 @@ pub fn darken_beside(heap: &Heap, dom: &mut Domain, at: u32, colours: Colours) -
     ensures owes { dom.new.view.seen.share.weak ≡ weak_on reason dom.old.view.seen.share.weak }
     ensures won { result ≡ true → IsKnown dom.new.view.seen.share.known (Darkened at) }
     ensures counts { Counts result dom.old.view.seen.share.known dom.new.view.seen.share.known }
+    ensures found { StillFound dom.old.view dom.new.view }
 {
     let word = beside_target_load(heap, dom, at);
     let Some(new) = darkened_head(word, colours) else {

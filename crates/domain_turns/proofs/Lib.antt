@@ -10,3 +10,4 @@ pub mod GoingLemmas
 pub mod ExactLemmas
 pub mod Turning
 pub mod PassingLemmas
+pub mod Refused

@@ -41,7 +41,7 @@ use Rattle.domain_turns.specs.declared.turned.Turned.TheVariants.{Did, Waiting, 
 use Rattle.domain_turns.specs.declared.turned.Turned.TheVariants.{Ended as Over}
 use Rattle.heap_rule.specs.declared.view.Hunt.TheVariants.{Rests as AtRest}
 use Rattle.heap_rule.specs.Limits.{sizes_in}
-use Rattle.heap_rule.specs.Standing.{Acts}
+use Rattle.heap_rule.specs.Standing.{Acts, with_front}
 use Rattle.heap_rule.specs.Token.{Token, SharedHeap, IsIn}
 use Rattle.domain_turns.specs.Pausing.{IsQuiet, HasLeft, KnowsProgress, LeavesEven, LeavesOdd, GivesBack, AnswersLive, IsCollected, due_of}
 use Rattle.domain_turns.specs.Tries.{FitsHeap, IsFresh, NeedsPause, Refused, Tried, ephemerons_of, registrations_of, wish_of}
@@ -247,6 +247,7 @@ pub record Polls (h : SharedHeap) (old new : RunView) : Type 0 where
   pub works : WorksBeside h old worked spent
   pub made : RunView
   pub tried : TriesCommand h worked.token worked made Poll
+  pub view : made.token.view ≡ with_front worked.token.view made.token.view.seen.front
   pub run : new ≡ asking_end spent made
 
 -- what a running domain does in a turn that found no wish

@@ -1,7 +1,7 @@
 //! One command on the shared heap.
 ghost use Rattle.std.specs.Prelude.{◌≡◌, ◌+◌, ◌^◌, ◌<◌, ◌≤◌, Bool, true, IfOk, IfErr, OnOk, OnErr};
 ghost use Rattle.heap_model.specs.declared.command.Command as model;
-ghost use Rattle.heap_model.specs.declared.command.Command.TheVariants.{Alloc, AllocMaj, Raw, Ephe};
+ghost use Rattle.heap_model.specs.declared.command.Command.TheVariants.{Alloc, AllocMaj, Raw, Ephe, Poll};
 ghost use Rattle.heap_model.specs.Commands.{is_allocation};
 ghost use Rattle.heap_model.specs.declared.entry.Entry.{Entry};
 ghost use Rattle.heap_model.specs.declared.reply.Reply.TheVariants.{Block};
@@ -9,6 +9,7 @@ ghost use Rattle.heap_rule.specs.Places.{class_words};
 ghost use Rattle.heap_rule.specs.Running.{Runs, Did, ChangesRegisters, own_entry};
 ghost use Rattle.steps_making.specs.Inits.{IsOpen};
 ghost use Rattle.minor_area.specs.Area.{Grows, HasRoom, Needs};
+ghost use Rattle.heap_rule.specs.Standing.{with_front};
 ghost use Rattle.steps_run.specs.Ticks.{is_quiet};
 ghost use Rattle.steps_run.specs.Ticks.{IsUsedUp};
 ghost use Rattle.steps_finalisers.specs.Registering.{count_of};
@@ -46,6 +47,7 @@ fn quiet_as(heap: &Heap, dom: &mut Domain, _command: &Command) -> Reply
     requires quiet { is_quiet _command.now ≡ true }
     ensures did { Did heap.now dom.old dom.new _command.now result }
     ensures rest { ChangesRegisters dom.old dom.new }
+    ensures view { dom.new.view ≡ with_front dom.old.view dom.new.view.seen.front }
 {
     tick(heap, dom, 0, &[]);
     Reply::Done
@@ -57,6 +59,7 @@ fn quiet(heap: &Heap, dom: &mut Domain, command: &Command) -> Reply
     requires quiet { is_quiet command.now ≡ true }
     ensures did { Did heap.now dom.old dom.new command.now result }
     ensures rest { ChangesRegisters dom.old dom.new }
+    ensures view { dom.new.view ≡ with_front dom.old.view dom.new.view.seen.front }
 {
     quiet_as(heap, dom, command)
 }
@@ -325,6 +328,7 @@ pub(crate) fn try_command(
     requires serial { dom.old.view.own.serial + 1 < 2 ^ 32 }
     requires fresh { collected ≡ true → IsFresh heap.now.config dom.old.view }
     ensures answer { AttemptAnswers heap.now dom.old dom.new command.now served collected result }
+    ensures poll { command.now ≡ Poll → dom.new.view ≡ with_front dom.old.view dom.new.view.seen.front }
 {
     match *command {
         Command::Alloc { dst, tag, fields } => {

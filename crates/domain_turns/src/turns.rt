@@ -6,6 +6,7 @@ ghost use Rattle.heap_rule.specs.declared.phase.Note.TheVariants as note;
 ghost use Rattle.heap_rule.specs.declared.phase.Kind.TheVariants.{Run};
 ghost use Rattle.steps_pauses.specs.Pauses.{noted, arrived_view};
 ghost use Rattle.heap_rule.specs.Running.{Runs};
+ghost use Rattle.heap_rule.specs.Standing.{with_front};
 ghost use Rattle.heap_rule.specs.Token.{IsIn};
 ghost use Rattle.safepoint.specs.Looks.{bit_of};
 ghost use Rattle.domain_turns.specs.Runs.{HasEnded, EndsTrace, RunAnswers, TurnAnswers, RestAnswers, CalmAnswers, GoesOn, CalmDid, IsUnqueued, Polls, RunsFinaliser, TrialAnswers, WaitsForAnswer, is_asked, may_use_up, served_since, noted_token, WorksBeside};
@@ -72,6 +73,7 @@ fn try_next(heap: &Heap, run: &mut DomainRun, command: &Command) -> Option<Want>
     requires next { slice_get run.old.commands run.old.next ≡ Some command.now }
     ensures here { IsIn run.new.token heap.now }
     ensures answer { TrialAnswers heap.now run.old run.new command.now result }
+    ensures poll { command.now ≡ Poll → run.new.token.view ≡ with_front run.old.token.view run.new.token.view.seen.front }
 {
     let served = is_served(run);
     let collected = run.collected;

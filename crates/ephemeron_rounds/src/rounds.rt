@@ -1,5 +1,5 @@
 //! The data of marked ephemerons are marked, where all their full keys are.
-ghost use Rattle.std.specs.Prelude.{◌≡◌, ℕ, ◌+◌, ◌≤◌, Some, IsTrue, false};
+ghost use Rattle.std.specs.Prelude.{◌≡◌, ℕ, ◌+◌, ◌≤◌, Some, IsTrue, false, true};
 ghost use Rattle.heap_words.specs.ColourWords.{IsPermutation};
 ghost use Rattle.heap_rule.specs.declared.phase.Kind.TheVariants.{Rounds};
 ghost use Rattle.heap_rule.specs.declared.phase.Stage.TheVariants.{In};
@@ -126,6 +126,7 @@ fn look_again(heap: &Heap, dom: &mut Domain, colours: Colours)
     requires idle { dom.old.view.seen.share.scan ≡ Idle }
     ensures here { IsIn dom.new heap.now }
     ensures looked { Looked dom.old.view dom.new.view }
+    ensures owes { dom.old.view.seen.share.owes ≡ true → dom.new.view.seen.share.owes ≡ true }
 {
     for _ in 0..dom.ephemerons_len() {
         if !look_through(heap, dom, colours) {

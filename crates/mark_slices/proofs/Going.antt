@@ -1,6 +1,6 @@
 -- What a domain does in a slice, one after another.
 use Rattle.std.specs.Prelude.{if◌then◌else◌, nat_le}
-use Rattle.std.proofs.Common.{Bool, true, false, cond, MatchBool, ◌≡◌, ℕ, ◌≢◌, ◌+◌, ◌*◌, ◌<◌, ◌≤◌, arith, inl, inr, ⊎_elim, sym, refl, ap, subst, ◌∙◌}
+use Rattle.std.proofs.Common.{List, [], ◌∷◌, Bool, true, false, cond, MatchBool, ◌≡◌, ℕ, ◌≢◌, ◌+◌, ◌*◌, ◌<◌, ◌≤◌, arith, inl, inr, ⊎_elim, sym, refl, ap, subst, ◌∙◌}
 use mathlib.Core.Logic.{dite}
 use native.Mathlib.Decide.{ℕ_discrete}
 use Rattle.heap_words.specs.declared.colours.Colours.{Colours}
@@ -9,10 +9,10 @@ use Rattle.heap_rule.specs.declared.view.DomainView.{DomainView}
 use Rattle.heap_words.specs.declared.value.Value.{Value}
 use Rattle.heap_words.specs.declared.value.Value.TheVariants.{Int, Nothing, Ref}
 use Rattle.heap_rule.specs.declared.view.Known.{Known}
-use Rattle.heap_rule.specs.declared.view.Known.TheVariants.{Done, Marked, Refers, Shape as Shaped}
+use Rattle.heap_rule.specs.declared.view.Known.TheVariants.{Done, Marked, Refers, Scanned, Shape as Shaped}
 use Rattle.heap_rule.specs.Beside.{IsKnown, IsPaid}
 use Rattle.steps_cycle.specs.Marking.{IsGrey}
-use Rattle.steps_beside.specs.Marking.{ReadTold, ScannedMay, learning, read_as}
+use Rattle.steps_beside.specs.Marking.{FoundSince, IsNoScan, ReadTold, ScannedMay, StillFound, learning, read_as}
 use Rattle.barriers.specs.Aware.{Learnt, aware_as, darkened_in, scanned_in, tells_darkening, tells_scan, tells_vain, vain_in}
 use Rattle.barriers.specs.Heads.{IsScanOf}
 use Rattle.mark_slices.specs.Decks.{AllMissed, Counts, HasMissed, Rises, StaysDeck, last_count, missed_at}
@@ -88,14 +88,23 @@ paid_next x y b n l before here i below = dite (ℕ_discrete i n)
 pub slices_on : (colours : Colours) (a b c : ℕ) (x y : DomainView) (l m : Counts) → Slices colours x → Went a b c x y l m → Slices colours y
 slices_on colours a b c x y l m s w = record { runs = ap (λ (v : DomainView). v.seen.stage) w.learnt.view ∙ s.runs; armed = w.armed ∙ s.armed; known = w.colours ∙ s.known }
 
+-- what was found since the last scan is known
+pub since_known : (known : List Known) (at head : ℕ) → FoundSince known at head → IsKnown known (Shaped at head)
+since_known [] at head s = absurd s
+since_known (f ∷ fs) at head s = ⊎_elim
+    (λ (e : f ≡ Shaped at head). inl e)
+    (λ (r : IsNoScan f × FoundSince fs at head). inr (since_known fs at head r.1))
+    s
+
 -- the head of a block whose fields are done may be stored
-pub store_may : (k : Config) (colours : Colours) (x y : DomainView) (at word fields new : ℕ) (l m : Counts) → Slices colours x → Went 0 0 0 x y l m → at ≤ k.pools * 4096 → IsKnown x.seen.share.known (Shaped at word) → IsScanOf colours word fields new → ((i : ℕ) → i < fields → IsPaid y.seen.share.known at i) → ScannedMay k y at new
-store_may k colours x y at word fields new l m s w low shaped scan paid =
+pub store_may : (k : Config) (colours : Colours) (x y : DomainView) (at word fields new : ℕ) (l m : Counts) → Slices colours x → Went 0 0 0 x y l m → at ≤ k.pools * 4096 → StillFound x y → FoundSince x.seen.share.known at word → IsScanOf colours word fields new → ((i : ℕ) → i < fields → IsPaid y.seen.share.known at i) → ScannedMay k y at new
+store_may k colours x y at word fields new l m s w low still shaped scan paid =
     let after = slices_on colours 0 0 0 x y l m s w in record {
       knows = record { beside = record { runs = after.runs; armed = after.armed }; colours = colours; known = after.known };
       low = low;
       head = word;
-      shaped = w.learnt.grows (Shaped at word) shaped;
+      shaped = w.learnt.grows (Shaped at word) (since_known x.seen.share.known at word shaped);
+      since = still at word shaped;
       shape = scan.grey.block.shape;
       is = scan.grey.block.head;
       fields = λ i below. paid i (subst (λ (n : ℕ). i < n) (sym scan.count) below);
@@ -120,10 +129,10 @@ after_look colours at word scans vains x y z l m k v w =
     }
 
 -- and the head of a grey block is known
-pub head_known : (colours : Colours) (at word : ℕ) (x y : DomainView) → Looked colours at x word y → IsGrey colours word → IsKnown y.seen.share.known (Shaped at word)
+pub head_known : (colours : Colours) (at word : ℕ) (x y : DomainView) → Looked colours at x word y → IsGrey colours word → FoundSince y.seen.share.known at word
 head_known colours at word x y k is = ⊎_elim
     (λ (v : (IsGrey colours word → ⊥) × (vain_in y.seen.share.known ≡ vain_in x.seen.share.known + 1)). absurd (v.0 is))
-    (λ (v : IsGrey colours word × IsKnown y.seen.share.known (Shaped at word) × (vain_in y.seen.share.known ≡ vain_in x.seen.share.known)). v.1)
+    (λ (v : IsGrey colours word × FoundSince y.seen.share.known at word × (vain_in y.seen.share.known ≡ vain_in x.seen.share.known)). v.1)
     k.told
 
 pub still_slices : (colours : Colours) (at word : ℕ) (x y : DomainView) → Slices colours x → Looked colours at x word y → Slices colours y
@@ -133,13 +142,13 @@ pub looked_on : (colours : Colours) (at word : ℕ) (won : Bool) (x y z : Domain
 looked_on colours at word true x y z l m k is w = after_look colours at word 1 0 x y z l m k
     (⊎_elim
     (λ (v : (IsGrey colours word → ⊥) × (vain_in y.seen.share.known ≡ vain_in x.seen.share.known + 1)). absurd (v.0 is))
-    (λ (v : IsGrey colours word × IsKnown y.seen.share.known (Shaped at word) × (vain_in y.seen.share.known ≡ vain_in x.seen.share.known)). let e = v.2 in omega (arith, e))
+    (λ (v : IsGrey colours word × FoundSince y.seen.share.known at word × (vain_in y.seen.share.known ≡ vain_in x.seen.share.known)). let e = v.2 in omega (arith, e))
     k.told)
     w
 looked_on colours at word false x y z l m k is w = after_look colours at word 0 1 x y z l m k
     (⊎_elim
     (λ (v : (IsGrey colours word → ⊥) × (vain_in y.seen.share.known ≡ vain_in x.seen.share.known + 1)). v.1)
-    (λ (v : IsGrey colours word × IsKnown y.seen.share.known (Shaped at word) × (vain_in y.seen.share.known ≡ vain_in x.seen.share.known)). absurd (is v.0))
+    (λ (v : IsGrey colours word × FoundSince y.seen.share.known at word × (vain_in y.seen.share.known ≡ vain_in x.seen.share.known)). absurd (is v.0))
     k.told)
     w
 
@@ -225,3 +234,29 @@ read_went k b i found x y l t = of t.value t.view
     of (Ref a) e = referred (nat_le a (k.pools * 4096)) a e
     of (Int z) e = told_went x y (Done b i) l refl refl refl e
     of Nothing e = told_went x y (Done b i) l refl refl refl e
+
+-- a field was read, and what was found is still found so
+pub read_found : (k : Config) (b i found : ℕ) (x y : DomainView) → ReadTold k b i x found y → StillFound x y
+read_found k b i found x y t = of t.value t.view
+  where
+    referred : (pooled : Bool) (a : ℕ) → y ≡ learning x (if pooled then Refers b i a else Done b i) → StillFound x y
+    referred true a e = subst (StillFound x) (sym e) (λ at head s. inr (tt, s))
+    referred false a e = subst (StillFound x) (sym e) (λ at head s. inr (tt, s))
+
+    of : (v : Value) → y ≡ learning x (read_as k b i v) → StillFound x y
+    of (Ref a) e = referred (nat_le a (k.pools * 4096)) a e
+    of (Int z) e = subst (StillFound x) (sym e) (λ at head s. inr (tt, s))
+    of Nothing e = subst (StillFound x) (sym e) (λ at head s. inr (tt, s))
+
+pub found_on : (x y z : DomainView) → StillFound x y → StillFound y z → StillFound x z
+found_on x y z f g = λ at head s. g at head (f at head s)
+
+-- after a block's scanned mark was stored none may be stored before another look has found a grey block
+pub never_again : (k : Config) (x y : DomainView) (at before new : ℕ) → y ≡ learning x (Scanned before) → ScannedMay k y at new → ⊥
+never_again k x y at before new e may =
+    let m : ScannedMay k (learning x (Scanned before)) at new = subst (λ (v : DomainView). ScannedMay k v at new) e may in
+    let since : FoundSince (Scanned before ∷ x.seen.share.known) at m.head = m.since in
+    ⊎_elim
+        (λ (f : Scanned before ≡ Shaped at m.head). cc)
+        (λ (r : IsNoScan (Scanned before) × FoundSince x.seen.share.known at m.head). r.0)
+        since

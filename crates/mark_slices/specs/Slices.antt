@@ -12,7 +12,7 @@ use Rattle.heap_rule.specs.Beside.{IsKnown}
 use Rattle.heap_rule.specs.Places.{IsHeadOf}
 use Rattle.heap_rule.specs.Pools.{blocks_of, owned, owner_word, place_in}
 use Rattle.steps_cycle.specs.Marking.{IsGrey, fields_in}
-use Rattle.steps_beside.specs.Marking.{Begins, Reason}
+use Rattle.steps_beside.specs.Marking.{Begins, FoundSince, Reason}
 use Rattle.barriers.specs.Aware.{Learnt, darkened_in, scanned_in, vain_in}
 use Rattle.mark_slices.specs.Decks.{Counts, Rises, StaysDeck}
 
@@ -47,7 +47,7 @@ pub record Looked (colours : Colours) (at : ℕ) (x : DomainView) (word : ℕ) (
   pub scanned : scanned_in y.seen.share.known ≡ scanned_in x.seen.share.known
   pub darkened : darkened_in y.seen.share.known ≡ darkened_in x.seen.share.known
   pub told : ((IsGrey colours word → ⊥) × (vain_in y.seen.share.known ≡ vain_in x.seen.share.known + 1))
-      ⊎ (IsGrey colours word × IsKnown y.seen.share.known (Shaped at word) × (vain_in y.seen.share.known ≡ vain_in x.seen.share.known))
+      ⊎ (IsGrey colours word × FoundSince y.seen.share.known at word × (vain_in y.seen.share.known ≡ vain_in x.seen.share.known))
 
 -- the head is that of a block with so many fields
 pub record IsSized (head fields : ℕ) : Type 0 where

@@ -6,7 +6,7 @@ ghost use Rattle.heap_rule.specs.Beside.{IsKnown, IsPaid};
 ghost use Rattle.heap_rule.specs.Layout.{heap_words};
 ghost use Rattle.heap_rule.specs.Token.{IsIn};
 ghost use Rattle.steps_cycle.specs.Marking.{IsGrey};
-ghost use Rattle.steps_beside.specs.Marking.{Field};
+ghost use Rattle.steps_beside.specs.Marking.{Field, FoundSince, StillFound};
 ghost use Rattle.mark_slices.specs.Slices.{IsSized, Scanning, Slices, Went};
 
 use crate::deck::Deck;
@@ -37,6 +37,7 @@ fn darken_field<K: Deck>(
     ensures here { IsIn dom.new heap.now }
     ensures went { Went 0 0 0 dom.old.view dom.new.view (K.counts deck.old) (K.counts deck.new) }
     ensures paid { IsPaid dom.new.view.seen.share.known block field }
+    ensures found { StillFound dom.old.view dom.new.view }
 {
     let limits = heap.config();
     let word = beside_read(heap, dom, block + 2 + field, block, field);
@@ -70,6 +71,7 @@ fn darken_fields<K: Deck>(
     ensures here { IsIn dom.new heap.now }
     ensures went { Went 0 0 0 dom.old.view dom.new.view (K.counts deck.old) (K.counts deck.new) }
     ensures paid { (i : ℕ) → i < fields → IsPaid dom.new.view.seen.share.known block i }
+    ensures found { StillFound dom.old.view dom.new.view }
 {
     let _limits = heap.config();
     for field in 0..fields {
@@ -91,7 +93,7 @@ pub(crate) fn scan_word<K: Deck>(
     requires slices { Slices colours dom.old.view }
     requires meanings { IsPermutation colours }
     requires names { head ≡ word }
-    requires shape { IsGrey colours word → IsKnown dom.old.view.seen.share.known (Shape at word) × (1 ≤ at) × (at ≤ heap.now.config.pools * 4096) }
+    requires shape { IsGrey colours word → FoundSince dom.old.view.seen.share.known at word × (1 ≤ at) × (at ≤ heap.now.config.pools * 4096) }
     ensures here { IsIn dom.new heap.now }
     ensures grey { MatchBool result (IsGrey colours word) (IsGrey colours word → ⊥) }
     ensures went { Went (cond result 1 0) 0 0 dom.old.view dom.new.view (K.counts deck.old) (K.counts deck.new) }

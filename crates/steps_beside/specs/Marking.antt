@@ -1,5 +1,5 @@
 -- What the steps of marking beside running domains ask and tell.
-use Rattle.std.specs.Prelude.{◌≡◌, ◌≢◌, ℕ, ◌+◌, ◌*◌, ◌<◌, ◌⊎◌, nat_le, if◌then◌else◌, true, false, ◌∷◌, Option, Some, None}
+use Rattle.std.specs.Prelude.{◌≡◌, ◌≢◌, ℕ, ◌+◌, ◌*◌, ◌<◌, ◌⊎◌, nat_le, if◌then◌else◌, true, false, List, [], ◌∷◌, Option, Some, None}
 use Rattle.heap_model.specs.Domains.{class_count}
 use Rattle.heap_model.specs.Fronts.{Shape}
 use Rattle.heap_words.specs.declared.colours.Colours.{Colours}
@@ -149,12 +149,27 @@ pub record DarkenTold (old at : ℕ) (reason : Reason) (x : DomainView) (found :
   pub won : found ≡ old → y ≡ darkened_at x at reason
   pub lost : found ≢ old → y ≡ marked_at x at reason
 
+-- not that a block was scanned
+abbrev pub IsNoScan : Known → Type 0
+IsNoScan (Scanned at) = ⊥
+IsNoScan _ = Unit {0}
+
+-- the domain has found this head of a grey block, and has scanned none since
+abbrev pub FoundSince : List Known → ℕ → ℕ → Type 0
+FoundSince [] at head = ⊥
+FoundSince (f ∷ fs) at head = (f ≡ Shaped at head) ⊎ (IsNoScan f × FoundSince fs at head)
+
+-- what the domain has found it has still found so
+abbrev pub StillFound : DomainView → DomainView → Type 0
+StillFound x y = (at head : ℕ) → FoundSince x.seen.share.known at head → FoundSince y.seen.share.known at head
+
 -- the head of a marked block gets the scanned mark, where what its fields referred to is marked
 pub record ScannedMay (k : Config) (x : DomainView) (at new : ℕ) : Type 0 where
   pub knows : KnowsColours x
   pub low : IsOldAt k at
   pub head : ℕ
   pub shaped : IsKnown x.seen.share.known (Shaped at head)
+  pub since : FoundSince x.seen.share.known at head
   pub shape : Shape
   pub is : IsHeadOf shape head
   pub fields : (i : ℕ) → i < fields_in shape → IsPaid x.seen.share.known at i

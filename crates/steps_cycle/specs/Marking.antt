@@ -277,6 +277,7 @@ pub record ChangedMay (x : DomainView) : Type 0 where
   pub kind : Kind
   pub stage : x.seen.stage ≡ In kind
   pub changing : IsChanging kind
+  pub owes : x.seen.share.owes ≡ true
 
 abbrev pub ChangedTold : DomainView → ℕ → DomainView → Type 0
 ChangedTold x found y = y ≡ with_share x (record x.seen.share { owes = false })

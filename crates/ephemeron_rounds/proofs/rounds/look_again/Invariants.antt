@@ -1,3 +1,4 @@
+use Rattle.std.proofs.Common.{◌≡◌, true}
 use Rattle.heap_rule.specs.Token.{IsIn}
 use Rattle.ephemeron_rounds.specs.Looking.{Looked}
 use Rattle.ephemeron_rounds.proofs.rounds.look_again.Given as goal
@@ -6,4 +7,5 @@ abbrev pub invariant-loop : goal.invariant-loop
 invariant-loop l = record {
   here : IsIn l.dom l.heap;
   looked : Looked l.fn.dom.view l.dom.view;
+  owes : l.fn.dom.view.seen.share.owes ≡ true → l.dom.view.seen.share.owes ≡ true;
 }

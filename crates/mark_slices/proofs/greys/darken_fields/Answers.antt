@@ -1,5 +1,5 @@
 use Rattle.heap_rule.specs.declared.view.DomainView.{DomainView}
-use Rattle.mark_slices.proofs.Going.{paid_next, went_on}
+use Rattle.mark_slices.proofs.Going.{found_on, paid_next, went_on}
 use Rattle.mark_slices.proofs.greys.darken_fields.Goals as goal
 
 pub loop-field-preserved : goal.loop-field-preserved
@@ -11,4 +11,5 @@ loop-field-preserved g c =
       here = c.darken_field.ensures.here;
       went = went_on 0 0 0 0 0 0 x y z (g.K.Deck.counts c.args.deck.now) (g.K.Deck.counts c.loop-field.deck) (g.K.Deck.counts c.darken_field.new.deck) c.loop-field.invariant.went went;
       paid = paid_next y z c.args.block c.loop-field.field went.learnt c.loop-field.invariant.paid c.darken_field.ensures.paid;
+      found = found_on x y z c.loop-field.invariant.found c.darken_field.ensures.found;
     }

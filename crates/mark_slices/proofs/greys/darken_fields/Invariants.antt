@@ -1,7 +1,7 @@
 use Rattle.std.proofs.Common.{ℕ, ◌<◌}
 use Rattle.heap_rule.specs.Beside.{IsPaid}
 use Rattle.heap_rule.specs.Token.{IsIn}
-use Rattle.steps_beside.specs.Marking.{Field}
+use Rattle.steps_beside.specs.Marking.{Field, StillFound}
 use Rattle.mark_slices.specs.Slices.{Went}
 use Rattle.mark_slices.proofs.greys.darken_fields.Given as goal
 
@@ -13,4 +13,5 @@ invariant-loop-field g l = record {
   here : IsIn l.dom l.heap;
   went : Went 0 0 0 l.fn.dom.view l.dom.view (g.K.Deck.counts l.fn.deck) (g.K.Deck.counts l.deck);
   paid : (i : ℕ) → i < l.field → IsPaid l.dom.view.seen.share.known l.block i;
+  found : StillFound l.fn.dom.view l.dom.view;
 }
