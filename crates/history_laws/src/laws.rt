@@ -1,0 +1,52 @@
+//! Laws of all legal histories. Each function's contract is one law, and it does nothing else.
+ghost use Rattle.history_laws.specs.Cells.{CellsHoldLastWritten};
+ghost use Rattle.history_laws.specs.Finalisers.{NoRegistrationIsLost, FinalisersRunInOrder, LastsWaitForAll, FinalsRunBeforeLasts};
+ghost use Rattle.history_laws.specs.Lost.{LostIsNeverSeen, UncountedIsNeverSeen, EmptiedIsNeverSeen, MarksHoldAllLeft};
+
+/// A cell of a block holds what was last written to it, whichever domain wrote it, and else what a new block has there.
+pub fn cells_hold_last_written()
+    ensures { CellsHoldLastWritten }
+{}
+
+/// No registration of a domain that runs is lost: it waits in its list or in the queue, or has run.
+pub fn no_registration_is_lost()
+    ensures { NoRegistrationIsLost }
+{}
+
+/// A domain's finalisers run in the order in which collections queued them, and each that was queued runs before those
+/// that were queued later.
+pub fn finalisers_run_in_order()
+    ensures { FinalisersRunInOrder }
+{}
+
+/// Where a `finalise_last` is queued, no register of any domain holds its block, and no `finalise` of any domain waits
+/// for it, in a list or in a queue.
+pub fn lasts_wait_for_all()
+    ensures { LastsWaitForAll }
+{}
+
+/// Before a `finalise_last` of a block is queued, each `finalise` of it has run that a domain registered which still runs.
+pub fn finals_run_before_lasts()
+    ensures { FinalsRunBeforeLasts }
+{}
+
+/// What the registers, the queues and the registrations don't lead to, over fields, data and keys, no register ever holds
+/// and no reply ever names again.
+pub fn lost_is_never_seen()
+    ensures { LostIsNeverSeen }
+{}
+
+/// What a complete collection found unreachable, and so `full_major` doesn't count, is never seen again.
+pub fn uncounted_is_never_seen()
+    ensures { UncountedIsNeverSeen }
+{}
+
+/// Once a complete collection has emptied a weak key for a block, nothing brings the block back.
+pub fn emptied_is_never_seen()
+    ensures { EmptiedIsNeverSeen }
+{}
+
+/// What a collector has marked that keeps the keys of what it leaves holds all that domains may still come to.
+pub fn marks_hold_all_left()
+    ensures { MarksHoldAllLeft }
+{}
