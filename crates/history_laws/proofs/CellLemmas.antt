@@ -85,12 +85,12 @@ plain_initial (Field i) tag n = one_value n i (Int (pos 0))
 plain_initial (Key i) tag n = refl
 plain_initial Datum tag n = refl
 
-raw_initial : (cell : Cell) (tag n : ℕ) → held cell (new_raw tag n) ≡ initial cell
+pub raw_initial : (cell : Cell) (tag n : ℕ) → held cell (new_raw tag n) ≡ initial cell
 raw_initial (Field i) tag n = one_value n i (Int (pos 0))
 raw_initial (Key i) tag n = refl
 raw_initial Datum tag n = refl
 
-ephe_initial : (cell : Cell) (n : ℕ) → held cell (Ephe (replicate n None) Nothing) ≡ initial cell
+pub ephe_initial : (cell : Cell) (n : ℕ) → held cell (Ephe (replicate n None) Nothing) ≡ initial cell
 ephe_initial (Field i) n = refl
 ephe_initial (Key i) n = map_or (slice_get (replicate n None) i) ∙ ap key_value (one_value n i None)
 ephe_initial Datum n = refl

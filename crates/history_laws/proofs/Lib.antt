@@ -5,3 +5,6 @@ pub mod OrderLemmas
 pub mod LastLemmas
 pub mod ApartLemmas
 pub mod LostLemmas
+pub mod WeakLemmas
+pub mod ReadLemmas
+pub mod HeldLemmas

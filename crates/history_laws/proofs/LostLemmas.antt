@@ -240,10 +240,10 @@ module _ (z : Sizes) (h : List Entry) (legal : Legal z h) (allowed : CollectedAl
   now = state_after (opening z) h
 
   reach_holds : HoldsRoots (settled_roots now (queues now) ++ last_labels now) (has_label (reach now))
-  reach_holds k h = ⊎_elim
+  reach_holds k root = ⊎_elim
       (λ a. (collected_settled z h legal allowed).0 k (reachable_roots now.graph (settled_roots now (queues now)) k a))
       (λ b. all_lasts (has_label (reach now)) now.domains allowed.lasts k b)
-      (has-append_cases (settled_roots now (queues now)) (last_labels now) k h)
+      (has-append_cases (settled_roots now (queues now)) (last_labels now) k root)
 
   reach_cells : (x : Label) (cell : Cell) (y : Label) → IsTrue (has_label (reach now) x) → content now.graph x cell ≡ Block y → IsTrue (has_label (reach now) y)
   reach_cells x cell y there e = go (node_at now.graph x) refl e
@@ -272,7 +272,7 @@ uncounted_law z h k l legal there lost =
     }
 
 -- a key that a Wipe takes is gone
-gone_place : (test : Option (Option Label) → Bool) (keys : List (Option Label)) (places : List ℕ) (i : ℕ) → IsTrue (list_all (λ p. test (slice_get keys p)) places) → IsTrue (list_any (λ p. eqb p i) places)
+pub gone_place : (test : Option (Option Label) → Bool) (keys : List (Option Label)) (places : List ℕ) (i : ℕ) → IsTrue (list_all (λ p. test (slice_get keys p)) places) → IsTrue (list_any (λ p. eqb p i) places)
     → IsTrue (test (slice_get keys i))
 gone_place test keys [] i all some = cc
 gone_place test keys (p ∷ ps) i all some = ⊎_elim
@@ -328,18 +328,18 @@ pub emptied_law : EmptiedIsNeverSeen
 emptied_law z h a k e places i b legal takes at some =
     let s : State = state_after (opening z) h in
     let taken : List Entry = h ++ Wipe e places ∷ a in
-    let split : taken ++ Collected ∷ k ≡ h ++ Wipe e places ∷ a ++ Collected ∷ k = append_assoc h (Wipe e places ∷ a) (Collected ∷ k) in
-    let whole : Legal z (taken ++ Collected ∷ k) = subst (Legal z) (sym split) legal in
+    let later : List Entry = Wipe e places ∷ (a ++ Collected ∷ k) in
+    let split : taken ++ Collected ∷ k ≡ h ++ later = append_assoc h (Wipe e places ∷ a) (Collected ∷ k) in
     let here : state_after (opening z) taken ≡ state_after (next s (Wipe e places)) a = state_after-append (opening z) h (Wipe e places ∷ a) in
-    let rest = legal_rest (opening z) h (Wipe e places ∷ a ++ Collected ∷ k) legal in
+    let rest = legal_rest (opening z) h later (subst (Legal z) split legal) in
     let gone : IsTrue (is_gone s (queues s) b) = wiped_gone (is_gone s (queues s)) s.graph e places i b rest.0.gone some at in
     let t : State = state_after (next s (Wipe e places)) a in
     let settled : settled_reach t (queues t) ≡ settled_reach s (queues s) =
     taking_settled (next s (Wipe e places)) a (legal_first (next s (Wipe e places)) a (Collected ∷ k) rest.1) takes ∙ wipe_keeps_settled_reach s e places rest.0 in
-    let unreached : has_label (reach t) b ≡ false = never_true (has_label (reach t) b) (λ h. not_true (has_label (settled_reach s (queues s)) b) gone
-    (subst (λ z. IsTrue (has_label z b)) settled (reachable_more t.graph (roots t (queues t)) (settled_roots t (queues t)) (has-append_left (roots t (queues t)) (waiting t)) b h))) in
+    let unreached : has_label (reach t) b ≡ false = never_true (has_label (reach t) b) (λ inside. not_true (has_label (settled_reach s (queues s)) b) gone
+    (subst (λ z. IsTrue (has_label z b)) settled (reachable_more t.graph (roots t (queues t)) (settled_roots t (queues t)) (has-append_left (roots t (queues t)) (waiting t)) b inside))) in
     let there : IsTrue (has_label (labels t.graph) b) = labels_after (next s (Wipe e places)) a b (labels_stay_law s (Wipe e places) b (cell_named s (wf_after (opening z) h (wf_opening z)) e i b at)) in
-    subst (λ (u : State). IsNeverSeen (next u Collected) k b) here (uncounted_law z taken k b whole
+    subst (λ (u : State). IsNeverSeen (next u Collected) k b) here (uncounted_law z taken k b legal
     (subst (λ (u : State). IsTrue (has_label (labels u.graph) b)) (sym here) there)
     (subst (λ (u : State). has_label (reach u) b ≡ false) (sym here) unreached))
 

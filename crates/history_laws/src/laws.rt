@@ -2,6 +2,9 @@
 ghost use Rattle.history_laws.specs.Cells.{CellsHoldLastWritten};
 ghost use Rattle.history_laws.specs.Finalisers.{NoRegistrationIsLost, FinalisersRunInOrder, LastsWaitForAll, FinalsRunBeforeLasts};
 ghost use Rattle.history_laws.specs.Lost.{LostIsNeverSeen, UncountedIsNeverSeen, EmptiedIsNeverSeen, MarksHoldAllLeft};
+ghost use Rattle.history_laws.specs.Weak.{WeakKeysStay, ReachableKeysStay, DataStay, DataGoWithKeys};
+ghost use Rattle.history_laws.specs.Reads.{ReadsAnswerLastWritten, WritesAreSeen};
+ghost use Rattle.history_laws.specs.Held.{BlocksKeepShape, HeldBlocksAreThere, FullMajorLeavesNothing};
 
 /// A cell of a block holds what was last written to it, whichever domain wrote it, and else what a new block has there.
 pub fn cells_hold_last_written()
@@ -49,4 +52,53 @@ pub fn emptied_is_never_seen()
 /// What a collector has marked that keeps the keys of what it leaves holds all that domains may still come to.
 pub fn marks_hold_all_left()
     ensures { MarksHoldAllLeft }
+{}
+
+/// A full weak key changes only by a command on it, or where the collector empties it at a moment when its block can't be
+/// reached.
+pub fn weak_keys_stay()
+    ensures { WeakKeysStay }
+{}
+
+/// A weak key whose block is reachable all the while stays.
+pub fn reachable_keys_stay()
+    ensures { ReachableKeysStay }
+{}
+
+/// The data of an ephemeron change only by a command on them, or where the collector empties them with a key whose block
+/// can't be reached.
+pub fn data_stay()
+    ensures { DataStay }
+{}
+
+/// Where the collector empties keys of an ephemeron the data go with them, and each of these keys had a block that can't be
+/// reached.
+pub fn data_go_with_keys()
+    ensures { DataGoWithKeys }
+{}
+
+/// A load, and a read of a key or of data, answers what was last written there, whichever domain wrote it.
+pub fn reads_answer_last_written()
+    ensures { ReadsAnswerLastWritten }
+{}
+
+/// What a domain has written is found by every later read, or what was written there still later. So whoever finds a block
+/// that another domain has stored finds all that was written to it before.
+pub fn writes_are_seen()
+    ensures { WritesAreSeen }
+{}
+
+/// A block that was made stands at its label with its kind, tag and length from then on.
+pub fn blocks_keep_shape()
+    ensures { BlocksKeepShape }
+{}
+
+/// A block in a register is there, and is reachable.
+pub fn held_blocks_are_there()
+    ensures { HeldBlocksAreThere }
+{}
+
+/// Where `full_major` is answered no key and no registration is left that a collection may take.
+pub fn full_major_leaves_nothing()
+    ensures { FullMajorLeavesNothing }
 {}
