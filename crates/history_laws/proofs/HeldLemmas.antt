@@ -61,13 +61,9 @@ with_shape s l a b same t = record { node = t.node; found = t.found; shape_is = 
 some_shape : (a b : Shape) → Some a ≡ Some b → a ≡ b
 some_shape a b e = cc
 
-length_same : (n : ℕ) (v : Value) → length (replicate n v) ≡ n
+length_same : {A : Type 0} (n : ℕ) (v : A) → length (replicate n v) ≡ n
 length_same zero v = refl
 length_same (suc n) v = ap suc (length_same n v)
-
-keys_same : (n : ℕ) → length (replicate n (None {U = Label})) ≡ n
-keys_same zero = refl
-keys_same (suc n) = ap suc (keys_same n)
 
 pub shape_law : BlocksKeepShape
 shape_law z h k d c shape legal is = go c (legal_first (opening z) h (CommandOf d c false ∷ k) legal) is
@@ -90,7 +86,7 @@ shape_law z h k d c shape legal is = go c (legal_first (opening z) h (CommandOf 
     }
     go (NewEphe dst n) old is = record {
       answered = refl;
-      there = with_shape _ _ _ shape (ap EpheShape (keys_same n) ∙ some_shape (EpheShape n) shape is)
+      there = with_shape _ _ _ shape (ap EpheShape (length_same {A = Option Label} n None) ∙ some_shape (EpheShape n) shape is)
           (grew_after (next (state_after (opening z) h) (CommandOf d (NewEphe dst n) false)) k _ (Ephe (replicate n None) Nothing) (made_there z h k d dst old (Ephe (replicate n None) Nothing)));
     }
     go c old is = cc

@@ -8,3 +8,5 @@ pub mod LostLemmas
 pub mod WeakLemmas
 pub mod ReadLemmas
 pub mod HeldLemmas
+pub mod NewestLemmas
+pub mod Rows

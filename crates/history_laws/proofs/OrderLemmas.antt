@@ -53,7 +53,7 @@ inside_low [] d p lt = absurd (omega arith)
 inside_low (x ∷ xs) zero p lt = omega arith
 inside_low (x ∷ xs) (suc d) p lt = let rest : d < length xs = inside_low xs d p lt in omega (arith, rest)
 
-inside_places : (xs : List DomainState) (d : ℕ) (places : List ℕ) → IsTrue (is_rising places) → IsTrue (list_all (λ p. nat_lt p (get_or xs d no_domain).low) places) → d < length xs
+pub inside_places : (xs : List DomainState) (d : ℕ) (places : List ℕ) → IsTrue (is_rising places) → IsTrue (list_all (λ p. nat_lt p (get_or xs d no_domain).low) places) → d < length xs
 inside_places xs d [] rising below = cc
 inside_places xs d (p ∷ ps) rising below = inside_low xs d p (ltb-true p (get_or xs d no_domain).low (and_left (nat_lt p (get_or xs d no_domain).low) (list_all (λ q. nat_lt q (get_or xs d no_domain).low) ps) below))
 

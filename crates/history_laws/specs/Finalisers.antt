@@ -1,8 +1,9 @@
 -- Laws of finalisers: none is lost, they run in the order in which they were queued, and those of `finalise` before those of `finalise_last`.
-use Rattle.std.specs.Prelude.{◌≡◌, ◌≢◌, ℕ, ◌+◌, Bool, false, cond, ◌==◌, List, [], ◌∷◌, ◌++◌, map, reverse, count_by, slice_get, Some}
+use Rattle.std.specs.Prelude.{◌≡◌, ◌≢◌, ℕ, ◌+◌, ◌<◌, Bool, true, false, cond, ◌==◌, List, [], ◌∷◌, ◌++◌, map, reverse, count_by, slice_get, Some, IsTrue}
+use Rattle.std.specs.List.{list_all}
 use Rattle.heap_model.specs.declared.label.Label.{Label}
 use Rattle.heap_model.specs.declared.entry.Entry.{Entry}
-use Rattle.heap_model.specs.declared.entry.Entry.TheVariants.{Queue, Last}
+use Rattle.heap_model.specs.declared.entry.Entry.TheVariants.{Cut, Queue, Last}
 use Rattle.heap_model.specs.declared.graph.Value.TheVariants.{Block}
 use Rattle.heap_model.specs.declared.state.Pending.{Pending}
 use Rattle.heap_model.specs.declared.state.Pending.TheVariants.{Fin, Last as LastPending}
@@ -57,3 +58,28 @@ abbrev pub FinalsRunBeforeLasts : Type 0
 FinalsRunBeforeLasts = (z : Sizes) (h : List Entry) (d place : ℕ) (f : LastFinaliser) (k : ℕ) → Legal z (h ++ Last d place ∷ []) → slice_get (domain_at (state_after (opening z) h) d).lasts place ≡ Some f
     → (domain_at (state_after (opening z) h) k).ended ≡ false
     → count_by (is_final_of f.label) (all_ran k (opening z) h) ≡ count_by (is_final_of f.label) (all_registered k (opening z) h)
+
+-- whether an entry queues registrations of `finalise`
+abbrev pub is_queue : Entry → Bool
+is_queue (Queue d places) = true
+is_queue _ = false
+
+-- each place is below all that stand before it
+abbrev pub AllBelow : ℕ → List ℕ → Type 0
+AllBelow p [] = Unit {0}
+AllBelow p (q ∷ ps) = (q < p) × AllBelow p ps
+
+abbrev pub Falls : List ℕ → Type 0
+Falls [] = Unit {0}
+Falls (p ∷ ps) = AllBelow p ps × Falls ps
+
+-- between two states a domain has queued registrations of the first one's list, a later one before each earlier one
+pub record IsNewestFirst (s t : State) (d : ℕ) : Type 0 where
+  pub places : List ℕ
+  pub falls : Falls places
+  pub queue : (domain_at t d).queue ≡ (domain_at s d).queue ++ map queued_final (at_places places (domain_at s d).finals)
+
+-- what one collection queues of a domain's `finalise` runs newest first
+abbrev pub CollectionsQueueNewestFirst : Type 0
+CollectionsQueueNewestFirst = (z : Sizes) (h k : List Entry) (d : ℕ) → Legal z (h ++ Cut ∷ k) → IsTrue (list_all is_queue k)
+    → IsNewestFirst (state_after (opening z) h) (state_after (next (state_after (opening z) h) Cut) k) d

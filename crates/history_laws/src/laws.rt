@@ -1,6 +1,6 @@
 //! Laws of all legal histories. Each function's contract is one law, and it does nothing else.
 ghost use Rattle.history_laws.specs.Cells.{CellsHoldLastWritten};
-ghost use Rattle.history_laws.specs.Finalisers.{NoRegistrationIsLost, FinalisersRunInOrder, LastsWaitForAll, FinalsRunBeforeLasts};
+ghost use Rattle.history_laws.specs.Finalisers.{NoRegistrationIsLost, FinalisersRunInOrder, CollectionsQueueNewestFirst, LastsWaitForAll, FinalsRunBeforeLasts};
 ghost use Rattle.history_laws.specs.Lost.{LostIsNeverSeen, UncountedIsNeverSeen, EmptiedIsNeverSeen, MarksHoldAllLeft};
 ghost use Rattle.history_laws.specs.Weak.{WeakKeysStay, ReachableKeysStay, DataStay, DataGoWithKeys};
 ghost use Rattle.history_laws.specs.Reads.{ReadsAnswerLastWritten, WritesAreSeen};
@@ -20,6 +20,11 @@ pub fn no_registration_is_lost()
 /// that were queued later.
 pub fn finalisers_run_in_order()
     ensures { FinalisersRunInOrder }
+{}
+
+/// What one collection queues of a domain's `finalise` comes newest first.
+pub fn collections_queue_newest_first()
+    ensures { CollectionsQueueNewestFirst }
 {}
 
 /// Where a `finalise_last` is queued, no register of any domain holds its block, and no `finalise` of any domain waits
