@@ -1,5 +1,5 @@
 -- What one collection queues of a domain's registrations of `finalise` runs newest first.
-use Rattle.std.proofs.Common.{◌≡◌, ◌≢◌, ℕ, zero, suc, ◌+◌, ◌<◌, ◌≤◌, arith, Bool, true, false, cond, nat_lt, IsTrue, List, [], ◌∷◌, ◌++◌, map, reverse, length, slice_get, slice_index, get_or, set, Option, Some, None, refl, ap, ap₂, sym, ◌∙◌, subst, eqb, eqb-true, get_or-set_same, get_or-set_other, append_assoc, append-nil}
+use Rattle.std.proofs.Common.{◌≡◌, ◌≢◌, ℕ, zero, suc, ◌+◌, ◌<◌, ◌≤◌, arith, Bool, true, false, cond, nat_lt, IsTrue, List, [], ◌∷◌, ◌++◌, map, reverse, length, slice_get, slice_index, get_or, set, remove, Option, Some, None, refl, ap, ap₂, sym, ◌∙◌, subst, eqb, eqb-true, get_or-set_same, get_or-set_other, append_assoc, append-nil}
 use Rattle.std.specs.List.{list_all, cons_option}
 use Rattle.std.proofs.lemmas.Bool.{ltb-true}
 use Rattle.std.proofs.lemmas.List.{reverse-append, map-append}
@@ -15,7 +15,7 @@ use Rattle.heap_model.specs.Entries.{is_rising, Allowed, QueueAllowed, queued_fi
 use Rattle.heap_model.specs.History.{state_after, LegalFrom}
 use Rattle.heap_model.proofs.Reach.ReachLemmas.{and_left, and_right}
 use Rattle.heap_model.proofs.Commands.FrameLemmas.{part_map, not_same}
-use Rattle.heap_model.proofs.Histories.TallyLemmas.{Above, Increasing, increasing, get-without_above}
+use Rattle.heap_model.proofs.Histories.TallyLemmas.{Above, Increasing, increasing}
 use Rattle.history_laws.specs.Finalisers.{is_queue, AllBelow, Falls, IsNewestFirst, CollectionsQueueNewestFirst}
 use Rattle.history_laws.proofs.SplitLemmas.{legal_rest}
 use Rattle.history_laws.proofs.OrderLemmas.{inside_places}
@@ -69,6 +69,17 @@ falls_turned (p ∷ ps) rising = subst Falls (sym (turned p ps))
 tested_below : (n : ℕ) (ps : List ℕ) → IsTrue (list_all (λ p. nat_lt p n) ps) → AllBelow n ps
 tested_below n [] all = tt
 tested_below n (p ∷ ps) all = (ltb-true p n (and_left (nat_lt p n) (list_all (λ q. nat_lt q n) ps) all), tested_below n ps (and_right (nat_lt p n) (list_all (λ q. nat_lt q n) ps) all))
+
+-- what stands below all places that leave a list stays where it is
+get-remove_below : {A : Type 0} (xs : List A) (i p : ℕ) → p < i → slice_get (remove xs i) p ≡ slice_get xs p
+get-remove_below xs zero p lt = absurd (omega arith)
+get-remove_below [] (suc i) p lt = refl
+get-remove_below (x ∷ xs) (suc i) zero lt = refl
+get-remove_below (x ∷ xs) (suc i) (suc p) lt = get-remove_below xs i p (omega arith)
+
+get-without_above : {A : Type 0} (xs : List A) (p : ℕ) (ps : List ℕ) → Above p ps → slice_get (without_places ps xs) p ≡ slice_get xs p
+get-without_above xs p [] above = refl
+get-without_above xs p (q ∷ ps) above = get-remove_below (without_places ps xs) q p above.0 ∙ get-without_above xs p ps above.1
 
 -- lists that agree below a place agree at places below it
 places_agree : (xs ys : List Finaliser) (n : ℕ) (ps : List ℕ) → ((p : ℕ) → p < n → slice_get xs p ≡ slice_get ys p) → AllBelow n ps → at_places ps xs ≡ at_places ps ys
