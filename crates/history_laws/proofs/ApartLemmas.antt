@@ -77,7 +77,7 @@ datum_written u v Datum e = cc
 datum_written u v (Field j) e = cc
 datum_written u v (Key j) e = cc
 
-wipe_written : (places : List ℕ) (v : Value) (cell : Cell) → wipe_writes places cell ≡ Some v → Nothing ≡ v
+pub wipe_written : (places : List ℕ) (v : Value) (cell : Cell) → wipe_writes places cell ≡ Some v → Nothing ≡ v
 wipe_written places v (Field j) e = cc
 wipe_written places v Datum e = cc
 wipe_written places v (Key j) e = go _ e

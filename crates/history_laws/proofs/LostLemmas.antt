@@ -36,7 +36,7 @@ use Rattle.heap_model.proofs.Histories.HistoryLemmas.{state_after-append}
 use Rattle.heap_model.proofs.Histories.NumberLemmas.{numbered_after, numbered_opening}
 use Rattle.heap_model.proofs.Histories.WellFormedLemmas.{wf_after, wf_opening, queues_named, reach_after}
 use Rattle.history_laws.specs.Cells.{Cell, Field, Key, Datum, initial, cell_of, content}
-use Rattle.history_laws.specs.Lost.{IsNeverSeen, opened_node, opened, left_names, LostIsNeverSeen, UncountedIsNeverSeen, is_taking, EmptiedIsNeverSeen, MarksHoldAllLeft}
+use Rattle.history_laws.specs.Lost.{IsNeverSeen, opened_node, opened, left_names, LostIsNeverSeen, UncountedIsNeverSeen, is_taking, EmptiedIsNeverSeen, TakenIsNeverSeen, MarksHoldAllLeft}
 use Rattle.history_laws.proofs.CellLemmas.{held}
 use Rattle.history_laws.proofs.SplitLemmas.{legal_first, legal_rest, has_first, has_cons_option, value_has, domain_has}
 use Rattle.history_laws.proofs.ApartLemmas.{IsApart, IsOut, IsKnownOut, never_seen}
@@ -194,6 +194,11 @@ known_lost z h l legal there lost =
 pub lost_law : LostIsNeverSeen
 lost_law z h k l legal there lost =
     never_seen l (state_after (opening z) h) k (legal_rest (opening z) h k legal) (known_lost z h l (legal_first (opening z) h k legal) there lost)
+
+pub taken_law : TakenIsNeverSeen
+taken_law z h k l legal there taken apart =
+    let s : State = state_after (opening z) h in
+    lost_law z h (Done ∷ k) l legal there (is_false (has_label (left_names s) l) (all_has (λ x. not (has_label (left_names s) x)) s.taken apart l taken))
 
 -- the labels of the registrations that all pass a test
 all_mapped : {A : Type 0} (f : A → Label) (test : Label → Bool) (xs : List A) → IsTrue (list_all (λ x. test (f x)) xs) → HoldsRoots (map f xs) test

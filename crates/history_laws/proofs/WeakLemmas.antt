@@ -23,13 +23,14 @@ use Rattle.history_laws.specs.Cells.{Cell, Key, Datum, cell_of, content, wipe_wr
 use Rattle.history_laws.specs.Weak.{is_command, NoCommandWrites, IsEmptiedWithout, WeakKeysStay, ReachableKeysStay, IsEmptiedWithKey, DataStay, IsEmptiedTogether, DataGoWithKeys}
 use Rattle.history_laws.proofs.CellLemmas.{cell_next}
 use Rattle.history_laws.proofs.SplitLemmas.{legal_first, legal_rest}
+use Rattle.history_laws.proofs.ApartLemmas.{wipe_written}
 use Rattle.history_laws.proofs.LostLemmas.{gone_place, wiped_gone}
 
 -- an entry that isn't a command of a domain writes to a cell only as a Wipe of its block
 record IsWipeOf (x : Entry) (e : Label) (cell : Cell) : Type 0 where
   places : List ℕ
   is : x ≡ Wipe e places
-  takes : wipe_writes places cell ≢ None
+  takes : wipe_writes places cell ≡ Some Nothing
 
 kind : (s : State) (x : Entry) (e : Label) (cell : Cell) → (is_command x ≡ true → writes s x e cell ≡ None) → (writes s x e cell ≡ None) ⊎ IsWipeOf x e cell
 kind s (CommandOf d c full) e cell quiet = inl (quiet refl)
@@ -38,7 +39,7 @@ kind s (Wipe k places) e cell quiet = go (same_label k e) refl (wipe_writes plac
     go : (b : Bool) → same_label k e ≡ b → (o : Option Value) → wipe_writes places cell ≡ o → (cond b o None ≡ None) ⊎ IsWipeOf (Wipe k places) e cell
     go false is o at = inl refl
     go true is None at = inl refl
-    go true is (Some v) at = inr (record { places = places; is = ap (λ (z : Label). Wipe z places) (same_label-true k e is); takes = λ none. let clash : Some v ≡ None = sym at ∙ none in cc })
+    go true is (Some v) at = inr (record { places = places; is = ap (λ (z : Label). Wipe z places) (same_label-true k e is); takes = at ∙ ap Some (sym (wipe_written places v cell at)) })
 kind s (End d) e cell quiet = inl refl
 kind s Cut e cell quiet = inl refl
 kind s (Queue d places) e cell quiet = inl refl
@@ -48,6 +49,22 @@ kind s Collected e cell quiet = inl refl
 kind s Done e cell quiet = inl refl
 kind s (Ran d) e cell quiet = inl refl
 
+-- it leaves nothing there
+wiped_now : (s : State) (x : Entry) (e : Label) (cell : Cell) → IsNumbered s → Allowed s x → IsWipeOf x e cell → content (next s x).graph e cell ≡ Nothing
+wiped_now s x e cell numbered allowed w =
+    let own : writes s (Wipe e w.places) e cell ≡ Some Nothing = ap (λ b. cond b (wipe_writes w.places cell) None) (same_label_refl e) ∙ w.takes in
+    let wrote : writes s x e cell ≡ Some Nothing = subst (λ y. writes s y e cell ≡ Some Nothing) (sym w.is) own in
+    cell_next s e cell numbered x allowed ∙ ap (λ o. unwrap_or o (content s.graph e cell)) wrote
+
+kept_now : (s : State) (x : Entry) (e : Label) (cell : Cell) → IsNumbered s → Allowed s x → writes s x e cell ≡ None → content (next s x).graph e cell ≡ content s.graph e cell
+kept_now s x e cell numbered allowed none = cell_next s e cell numbered x allowed ∙ ap (λ o. unwrap_or o (content s.graph e cell)) none
+
+-- so what is empty stays so, where no command writes to it
+stays_empty : (s : State) (k : List Entry) (e : Label) (cell : Cell) → IsNumbered s → LegalFrom s k → NoCommandWrites s k e cell → content s.graph e cell ≡ Nothing → content (state_after s k).graph e cell ≡ Nothing
+stays_empty s [] e cell numbered legal quiet at = at
+stays_empty s (x ∷ k) e cell numbered legal quiet at = stays_empty (next s x) k e cell (numbered_next s x legal.0 numbered) legal.1 quiet.1
+    (⊎_elim (λ none. kept_now s x e cell numbered legal.0 none ∙ at) (λ w. wiped_now s x e cell numbered legal.0 w) (kind s x e cell quiet.0))
+
 -- the first Wipe in these entries that empties a cell
 record IsWiped (s : State) (k : List Entry) (e : Label) (cell : Cell) : Type 0 where
   before : List Entry
@@ -56,10 +73,11 @@ record IsWiped (s : State) (k : List Entry) (e : Label) (cell : Cell) : Type 0 w
   splits : k ≡ before ++ Wipe e places ∷ after
   allowed : Allowed (state_after s before) (Wipe e places)
   same : content (state_after s before).graph e cell ≡ content s.graph e cell
-  takes : wipe_writes places cell ≢ None
+  takes : wipe_writes places cell ≡ Some Nothing
+  empty : content (state_after s k).graph e cell ≡ Nothing
 
-found_wipe : (s : State) (x : Entry) (k : List Entry) (e : Label) (cell : Cell) → Allowed s x → IsWipeOf x e cell → IsWiped s (x ∷ k) e cell
-found_wipe s x k e cell allowed w = record {
+found_wipe : (s : State) (x : Entry) (k : List Entry) (e : Label) (cell : Cell) → Allowed s x → IsWipeOf x e cell → content (state_after (next s x) k).graph e cell ≡ Nothing → IsWiped s (x ∷ k) e cell
+found_wipe s x k e cell allowed w empty = record {
   before = [];
   places = w.places;
   after = k;
@@ -67,6 +85,7 @@ found_wipe s x k e cell allowed w = record {
   allowed = subst (Allowed s) w.is allowed;
   same = refl;
   takes = w.takes;
+  empty = empty;
 }
 
 later_wipe : (s : State) (x : Entry) (k : List Entry) (e : Label) (cell : Cell) → content (next s x).graph e cell ≡ content s.graph e cell → IsWiped (next s x) k e cell → IsWiped s (x ∷ k) e cell
@@ -78,6 +97,7 @@ later_wipe s x k e cell same w = record {
   allowed = w.allowed;
   same = w.same ∙ same;
   takes = w.takes;
+  empty = w.empty;
 }
 
 stays_or_wiped : (s : State) (k : List Entry) (e : Label) (cell : Cell) → IsNumbered s → LegalFrom s k → NoCommandWrites s k e cell
@@ -85,19 +105,20 @@ stays_or_wiped : (s : State) (k : List Entry) (e : Label) (cell : Cell) → IsNu
 stays_or_wiped s [] e cell numbered legal quiet = inl refl
 stays_or_wiped s (x ∷ k) e cell numbered legal quiet = ⊎_elim
     (λ none.
-    let same : content (next s x).graph e cell ≡ content s.graph e cell = cell_next s e cell numbered x legal.0 ∙ ap (λ o. unwrap_or o (content s.graph e cell)) none in
+    let same : content (next s x).graph e cell ≡ content s.graph e cell = kept_now s x e cell numbered legal.0 none in
     ⊎_elim (λ stays. inl (stays ∙ same)) (λ w. inr (later_wipe s x k e cell same w))
     (stays_or_wiped (next s x) k e cell (numbered_next s x legal.0 numbered) legal.1 quiet.1))
-    (λ w. inr (found_wipe s x k e cell legal.0 w))
+    (λ w. inr (found_wipe s x k e cell legal.0 w
+    (stays_empty (next s x) k e cell (numbered_next s x legal.0 numbered) legal.1 quiet.1 (wiped_now s x e cell numbered legal.0 w))))
     (kind s x e cell quiet.0)
 
 -- a place that a Wipe takes
-taken_place : (places : List ℕ) (i : ℕ) → wipe_writes places (Key i) ≢ None → IsTrue (list_any (λ p. eqb p i) places)
-taken_place places i takes = go (list_any (λ p. eqb p i) places) refl takes
+taken_place : (places : List ℕ) (i : ℕ) → wipe_writes places (Key i) ≡ Some Nothing → IsTrue (list_any (λ p. eqb p i) places)
+taken_place places i takes = go (list_any (λ p. eqb p i) places) takes
   where
-    go : (b : Bool) → list_any (λ p. eqb p i) places ≡ b → cond b (Some Nothing) None ≢ None → b ≡ true
-    go true at some = refl
-    go false at some = absurd (some refl)
+    go : (b : Bool) → cond b (Some Nothing) None ≡ Some Nothing → b ≡ true
+    go true at = refl
+    go false at = cc
 
 module _ (z : Sizes) (h k : List Entry) (legal : LegalFrom (opening z) (h ++ k)) where
   abbrev s : State
@@ -120,6 +141,9 @@ keys_stay_law z h k e i b legal at quiet =
       places = w.places;
       after = w.after;
       splits = w.splits;
+      takes = taken_place w.places i w.takes;
+      held = w.same ∙ at;
+      empty = w.empty;
       unreachable = wiped_gone (is_gone t (queues t)) t.graph e w.places i b w.allowed.gone (taken_place w.places i w.takes) (w.same ∙ at);
     }))
     (either z h k legal e (Key i) quiet)
@@ -133,7 +157,7 @@ pub reachable_keys_law : ReachableKeysStay
 reachable_keys_law z h k e i b legal at quiet there =
     let s : State = state_after (opening z) h in
     ⊎_elim (λ stays. stays)
-    (λ (w : IsEmptiedWithout s k e b). absurd (not_gone (state_after s w.before) b (there w.before (Wipe e w.places ∷ w.after) w.splits) w.unreachable))
+    (λ (w : IsEmptiedWithout s k e i b). absurd (not_gone (state_after s w.before) b (there w.before (Wipe e w.places ∷ w.after) w.splits) w.unreachable))
     (keys_stay_law z h k e i b legal at quiet)
 
 -- a key that a Wipe takes, and the first of them
@@ -170,6 +194,8 @@ data_stay_law z h k e legal quiet =
       after = w.after;
       splits = w.splits;
       place = first.0;
+      takes = first.1;
+      empty = w.empty;
       key = taken.0;
       held = taken.1;
       unreachable = taken.2;

@@ -3,7 +3,7 @@ use Rattle.std.specs.Prelude.{◌≡◌, ◌≢◌, ℕ, Bool, true, false, not,
 use Rattle.std.specs.List.{list_any, list_all}
 use Rattle.heap_model.specs.declared.label.Label.{Label}
 use Rattle.heap_model.specs.declared.entry.Entry.{Entry}
-use Rattle.heap_model.specs.declared.entry.Entry.TheVariants.{Wipe, Last, Collected}
+use Rattle.heap_model.specs.declared.entry.Entry.TheVariants.{Wipe, Last, Collected, Done}
 use Rattle.heap_model.specs.declared.reply.Reply.TheVariants.{Block as BlockReply, Fin as FinReply}
 use Rattle.heap_model.specs.declared.reply.Applied.{Applied}
 use Rattle.heap_model.specs.declared.reply.Applied.TheVariants.{Replied}
@@ -66,6 +66,12 @@ abbrev pub EmptiedIsNeverSeen : Type 0
 EmptiedIsNeverSeen = (z : Sizes) (h a k : List Entry) (e : Label) (places : List ℕ) (i : ℕ) (b : Label) → Legal z (h ++ Wipe e places ∷ a ++ Collected ∷ k) → IsTrue (list_all is_taking a)
     → content (state_after (opening z) h).graph e (Key i) ≡ Block b → IsTrue (list_any (λ p. p == i) places)
     → IsNeverSeen (next (state_after (next (state_after (opening z) h) (Wipe e places)) a) Collected) k b
+
+-- where a collection, complete or not, ends with nothing that it took among what domains may still come to, what it took is never seen again
+abbrev pub TakenIsNeverSeen : Type 0
+TakenIsNeverSeen = (z : Sizes) (h k : List Entry) (l : Label) → Legal z (h ++ Done ∷ k) → let s = state_after (opening z) h in
+    IsTrue (has_label (labels s.graph) l) → IsTrue (has_label s.taken l) → IsTrue (list_all (λ x. not (has_label (left_names s) x)) s.taken)
+    → IsNeverSeen s (Done ∷ k) l
 
 -- a collector that marks keeps more than it has to: where its marks hold all that waits and the keys of the ephemerons that it leaves, they hold all that domains may still come to
 abbrev pub MarksHoldAllLeft : Type 0

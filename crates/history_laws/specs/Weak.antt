@@ -24,19 +24,22 @@ abbrev pub NoCommandWrites : State → List Entry → Label → Cell → Type 0
 NoCommandWrites s [] l cell = Unit {0}
 NoCommandWrites s (e ∷ h) l cell = (is_command e ≡ true → writes s e l cell ≡ None) × NoCommandWrites (next s e) h l cell
 
--- the collector empties keys of an ephemeron in these entries, at a moment when neither registers nor finalisers lead to a block
-pub record IsEmptiedWithout (s : State) (k : List Entry) (e b : Label) : Type 0 where
+-- the collector empties a key in these entries, at a moment when it still is this block and neither registers nor finalisers lead to that, and it is empty from then on
+pub record IsEmptiedWithout (s : State) (k : List Entry) (e : Label) (i : ℕ) (b : Label) : Type 0 where
   pub before : List Entry
   pub places : List ℕ
   pub after : List Entry
   pub splits : k ≡ before ++ Wipe e places ∷ after
+  pub takes : IsTrue (list_any (λ p. p == i) places)
+  pub held : content (state_after s before).graph e (Key i) ≡ Block b
   pub unreachable : IsTrue (is_gone (state_after s before) (queues (state_after s before)) b)
+  pub empty : content (state_after s k).graph e (Key i) ≡ Nothing
 
 -- a full key to which no command writes stays, but where the collector empties it at a moment when its block can't be reached
 abbrev pub WeakKeysStay : Type 0
 WeakKeysStay = (z : Sizes) (h k : List Entry) (e : Label) (i : ℕ) (b : Label) → Legal z (h ++ k) → let s = state_after (opening z) h in
     content s.graph e (Key i) ≡ Block b → NoCommandWrites s k e (Key i)
-    → (content (state_after s k).graph e (Key i) ≡ Block b) ⊎ IsEmptiedWithout s k e b
+    → (content (state_after s k).graph e (Key i) ≡ Block b) ⊎ IsEmptiedWithout s k e i b
 
 -- so it stays where its block is reachable at every moment
 abbrev pub ReachableKeysStay : Type 0
@@ -45,16 +48,18 @@ ReachableKeysStay = (z : Sizes) (h k : List Entry) (e : Label) (i : ℕ) (b : La
     → ((a c : List Entry) → k ≡ a ++ c → IsTrue (has_label (reach (state_after s a)) b))
     → content (state_after s k).graph e (Key i) ≡ Block b
 
--- the collector empties an ephemeron in these entries, at a moment when it has a key whose block can't be reached
+-- the collector empties an ephemeron in these entries, at a moment when one of the keys that it empties has a block that can't be reached, and the data are empty from then on
 pub record IsEmptiedWithKey (s : State) (k : List Entry) (e : Label) : Type 0 where
   pub before : List Entry
   pub places : List ℕ
   pub after : List Entry
   pub splits : k ≡ before ++ Wipe e places ∷ after
   pub place : ℕ
+  pub takes : IsTrue (list_any (λ p. p == place) places)
   pub key : Label
   pub held : content (state_after s before).graph e (Key place) ≡ Block key
   pub unreachable : IsTrue (is_gone (state_after s before) (queues (state_after s before)) key)
+  pub empty : content (state_after s k).graph e Datum ≡ Nothing
 
 -- data to which no command writes stay, but where the collector empties them with a key whose block can't be reached
 abbrev pub DataStay : Type 0

@@ -1,7 +1,7 @@
 //! Laws of all legal histories. Each function's contract is one law, and it does nothing else.
 ghost use Rattle.history_laws.specs.Cells.{CellsHoldLastWritten};
 ghost use Rattle.history_laws.specs.Finalisers.{NoRegistrationIsLost, FinalisersRunInOrder, CollectionsQueueNewestFirst, LastsWaitForAll, FinalsRunBeforeLasts};
-ghost use Rattle.history_laws.specs.Lost.{LostIsNeverSeen, UncountedIsNeverSeen, EmptiedIsNeverSeen, MarksHoldAllLeft};
+ghost use Rattle.history_laws.specs.Lost.{LostIsNeverSeen, UncountedIsNeverSeen, EmptiedIsNeverSeen, TakenIsNeverSeen, MarksHoldAllLeft};
 ghost use Rattle.history_laws.specs.Weak.{WeakKeysStay, ReachableKeysStay, DataStay, DataGoWithKeys};
 ghost use Rattle.history_laws.specs.Reads.{ReadsAnswerLastWritten, WritesAreSeen};
 ghost use Rattle.history_laws.specs.Held.{BlocksKeepShape, HeldBlocksAreThere, FullMajorLeavesNothing};
@@ -52,6 +52,12 @@ pub fn uncounted_is_never_seen()
 /// Once a complete collection has emptied a weak key for a block, nothing brings the block back.
 pub fn emptied_is_never_seen()
     ensures { EmptiedIsNeverSeen }
+{}
+
+/// Where a collection, complete or not, ends with nothing that it took among what domains may still come to, what it took is
+/// never seen again.
+pub fn taken_is_never_seen()
+    ensures { TakenIsNeverSeen }
 {}
 
 /// What a collector has marked that keeps the keys of what it leaves holds all that domains may still come to.
