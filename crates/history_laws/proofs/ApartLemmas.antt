@@ -1,13 +1,13 @@
 -- What no domain, and no block that domains may come to, names stays so: each entry keeps a set of labels closed that domains may come to.
-use Rattle.std.proofs.Common.{◌≡◌, ◌≢◌, ◌⊎◌, inl, inr, ⊎_elim, ℕ, zero, suc, ◌+◌, Bool, true, false, cond, ◌&&◌, ◌==◌, is_some, IsTrue, List, [], ◌∷◌, ◌++◌, map, reverse, filter_map, replicate, slice_get, get_or, set, pos, option_map, option_to_list, unwrap_or, length, Option, Some, None, refl, ap, sym, ◌∙◌, subst}
+use Rattle.std.proofs.Common.{◌≡◌, ◌≢◌, ◌⊎◌, inl, inr, ⊎_elim, ℕ, ◌+◌, Bool, true, false, cond, ◌==◌, is_some, IsTrue, List, [], ◌∷◌, ◌++◌, map, reverse, filter_map, replicate, slice_get, get_or, set, pos, option_map, option_to_list, unwrap_or, length, Option, Some, None, refl, ap, sym, ◌∙◌, subst}
 use Rattle.heap_model.specs.declared.label.Label.{Label}
 use Rattle.heap_model.specs.declared.command.Command.{Command}
-use Rattle.heap_model.specs.declared.command.Command.TheVariants.{PutInt, Copy, Forget, Alloc, AllocMaj, Load, Store, Raw as NewRaw, Cas, Ephe as NewEphe, SetKey, UnsetKey, GetKey, CheckKey, SetData, UnsetData, GetData, CheckData, Finalise, FinaliseLast, Poll, Minor, Major, FullMajor, Spawn, Argument, PutResult, Join}
+use Rattle.heap_model.specs.declared.command.Command.TheVariants.{PutInt, Copy, Forget, Alloc, AllocMaj, Load, Store, Raw as NewRaw, Cas, Ephe as NewEphe, SetKey, UnsetKey, GetKey, CheckKey, SetData, UnsetData, GetData, CheckData, Finalise, FinaliseLast, FullMajor}
 use Rattle.heap_model.specs.declared.entry.Entry.{Entry}
 use Rattle.heap_model.specs.declared.entry.Entry.TheVariants.{Command as CommandOf, End, Cut, Queue, Seal, Wipe, Last as LastOf, Collected, Done, Ran}
 use Rattle.heap_model.specs.declared.reply.Reply.{Reply}
-use Rattle.heap_model.specs.declared.reply.Reply.TheVariants.{Done as Ok, Int as IntReply, Block as BlockReply, BadType, BadIndex, Empty, Yes, No, Full, Live, Fin as FinReply, Last as LastReply}
-use Rattle.heap_model.specs.declared.reply.Applied.TheVariants.{Replied, Silent}
+use Rattle.heap_model.specs.declared.reply.Reply.TheVariants.{Done as Ok, Block as BlockReply, BadType, BadIndex, Yes, No}
+use Rattle.heap_model.specs.declared.reply.Applied.TheVariants.{Replied}
 use Rattle.heap_model.specs.declared.graph.Value.{Value}
 use Rattle.heap_model.specs.declared.graph.Value.TheVariants.{Int, Block, Nothing}
 use Rattle.heap_model.specs.declared.graph.Node.{Node}
@@ -20,8 +20,8 @@ use Rattle.heap_model.specs.declared.state.DomainState.{DomainState}
 use Rattle.heap_model.specs.declared.state.State.{State}
 use Rattle.heap_model.specs.Graph.{Graph, same_label, labels, has_label, label_of, node_at}
 use Rattle.heap_model.specs.Domains.{domain_at, with_domain, with_register, with_block, no_domain, register, label_in, pending_label}
-use Rattle.heap_model.specs.Commands.{Outcome, only_replies, done_with, read_into, shown, tells, in_bounds, loaded, at_field, written_over, written_where, same_value, exchanged, at_ephe, key_value, key_set, key_stored, datum_set, datum_stored, is_full_value, allocated, with_final, with_last, finalised, finalised_last, new_plain, new_raw, block_in, outcome, live_reply, after_command}
-use Rattle.heap_model.specs.Entries.{Allowed, queued_final, queued_last, at_places, without_places, with_queued, with_last_queued, with_finals_open, with_lasts_open, freshened, wiped, with_wiped, without_first, run_reply, after_run, next, reply}
+use Rattle.heap_model.specs.Commands.{Outcome, only_replies, done_with, read_into, shown, tells, in_bounds, loaded, at_field, written_over, written_where, same_value, exchanged, at_ephe, key_value, key_set, key_stored, datum_set, datum_stored, is_full_value, allocated, finalised, finalised_last, new_plain, new_raw, block_in, outcome, live_reply, after_command}
+use Rattle.heap_model.specs.Entries.{Allowed, at_places, with_last_queued, with_finals_open, with_lasts_open, freshened, wiped, with_wiped, without_first, run_reply, after_run, next, reply}
 use Rattle.heap_model.specs.History.{state_after, LegalFrom}
 use Rattle.heap_model.specs.WellFormed.{HaveNodes, IsDomainNamed, IsNumbered}
 use Rattle.heap_model.proofs.Graphs.GraphLemmas.{same_label-true, same_label-false, same_label_refl}
@@ -31,7 +31,7 @@ use Rattle.heap_model.proofs.Reach.ReachLemmas.{or_cases, or_left, has-append_ca
 use Rattle.heap_model.proofs.Commands.MoveLemmas.{held_block}
 use Rattle.heap_model.proofs.Histories.NumberLemmas.{next_label-new, node_at-no_label, numbered_next}
 use Rattle.heap_model.proofs.Histories.WellFormedLemmas.{each_domain, mapped_domain, labels-append}
-use Rattle.history_laws.specs.Cells.{Cell, Field, Key, Datum, initial, content, is_carried_out, to_field, to_key, to_datum, command_writes, wipe_writes, writes}
+use Rattle.history_laws.specs.Cells.{Cell, Field, Key, Datum, initial, content, to_field, to_key, to_datum, command_writes, wipe_writes, writes}
 use Rattle.history_laws.specs.Lost.{names, IsNeverSeen}
 use Rattle.history_laws.proofs.CellLemmas.{held, content_is, content_none, content_grown, plain_initial, raw_initial, ephe_initial, cell_next}
 use Rattle.history_laws.proofs.SplitLemmas.{legal_first, legal_rest}
@@ -226,8 +226,12 @@ module _ (l : Label) (s : State) (safe : Graph) (apart : IsApart s safe) (lost :
       let old = apart.domains d in
       let f : Finaliser = record { number = number; label = k; register = dst } in
       record {
-        named = with_domain_named d _ (record { registers = old.registers; lasts = old.lasts; queue = old.queue;
-          finals = join_named safe (λ (x : Finaliser). x.label) (domain_at s d).finals (f ∷ []) old.finals is });
+        named = with_domain_named d _ (record {
+          registers = old.registers;
+          lasts = old.lasts;
+          queue = old.queue;
+          finals = join_named safe (λ (x : Finaliser). x.label) (domain_at s d).finals (f ∷ []) old.finals is;
+        });
         unseen = refl;
       }
 
@@ -237,8 +241,12 @@ module _ (l : Label) (s : State) (safe : Graph) (apart : IsApart s safe) (lost :
       let old = apart.domains d in
       let f : LastFinaliser = record { number = number; label = k } in
       record {
-        named = with_domain_named d _ (record { registers = old.registers; finals = old.finals; queue = old.queue;
-          lasts = join_named safe (λ (x : LastFinaliser). x.label) (domain_at s d).lasts (f ∷ []) old.lasts is });
+        named = with_domain_named d _ (record {
+          registers = old.registers;
+          finals = old.finals;
+          queue = old.queue;
+          lasts = join_named safe (λ (x : LastFinaliser). x.label) (domain_at s d).lasts (f ∷ []) old.lasts is;
+        });
         unseen = refl;
       }
 
@@ -456,30 +464,39 @@ module _ (l : Label) (s : State) (numbered : IsNumbered s) (there : IsTrue (has_
   pub out_next : (e : Entry) → Allowed s e → Stepped e
   out_next (CommandOf d c true) allowed = (kept_out (CommandOf d c true) allowed (named_after s d out.apart.domains), refl)
   out_next (CommandOf d c false) allowed = commands_step d c allowed
-  out_next (End d) allowed = (kept_out (End d) allowed (with_named d _ (record {
-    registers = have_replicate old label_of (length (domain_at s d).registers) Nothing refl;
-    finals = have_none old;
-    lasts = have_none old;
-    queue = (out.apart.domains d).queue;
-  })), refl)
+  out_next (End d) allowed = (
+    kept_out (End d) allowed (with_named d _ (record {
+      registers = have_replicate old label_of (length (domain_at s d).registers) Nothing refl;
+      finals = have_none old;
+      lasts = have_none old;
+      queue = (out.apart.domains d).queue;
+    })),
+    refl,
+  )
   out_next Cut allowed = (kept_out Cut allowed (mapped_named with_finals_open (λ x named. same_names old x _ refl refl refl refl named)), refl)
   out_next (Queue d places) allowed =
-      let mine = out.apart.domains d in (kept_out (Queue d places) allowed (with_named d _ (record {
-        registers = mine.registers;
-        lasts = mine.lasts;
-        finals = without_named old (λ (f : Finaliser). f.label) places (domain_at s d).finals mine.finals;
-        queue = have_filter_map_append old pending_label (domain_at s d).queue _ mine.queue
-            (queued_finals_named old _ (places_named old (λ (f : Finaliser). f.label) (reverse places) (domain_at s d).finals mine.finals));
-      })), refl)
+      let mine = out.apart.domains d in (
+        kept_out (Queue d places) allowed (with_named d _ (record {
+          registers = mine.registers;
+          lasts = mine.lasts;
+          finals = without_named old (λ (f : Finaliser). f.label) places (domain_at s d).finals mine.finals;
+          queue = have_filter_map_append old pending_label (domain_at s d).queue _ mine.queue
+              (queued_finals_named old _ (places_named old (λ (f : Finaliser). f.label) (reverse places) (domain_at s d).finals mine.finals));
+        })),
+        refl,
+      )
   out_next Seal allowed = (kept_out Seal allowed (mapped_named with_lasts_open (λ x named. same_names old x _ refl refl refl refl named)), refl)
   out_next (Wipe k places) allowed = (kept_out (Wipe k places) allowed (wiped_named k places (node_at s.graph k)), refl)
   out_next (LastOf d place) allowed =
-      let mine = out.apart.domains d in (kept_out (LastOf d place) allowed (with_named d (with_last_queued (domain_at s d) place) (record {
-        registers = mine.registers;
-        finals = mine.finals;
-        lasts = remove_named old (λ (f : LastFinaliser). f.label) (domain_at s d).lasts place mine.lasts;
-        queue = have_filter_map_append old pending_label (domain_at s d).queue _ mine.queue (queued_lasts_named old (at_places (place ∷ []) (domain_at s d).lasts));
-      })), refl)
+      let mine = out.apart.domains d in (
+        kept_out (LastOf d place) allowed (with_named d (with_last_queued (domain_at s d) place) (record {
+          registers = mine.registers;
+          finals = mine.finals;
+          lasts = remove_named old (λ (f : LastFinaliser). f.label) (domain_at s d).lasts place mine.lasts;
+          queue = have_filter_map_append old pending_label (domain_at s d).queue _ mine.queue (queued_lasts_named old (at_places (place ∷ []) (domain_at s d).lasts));
+        })),
+        refl,
+      )
   out_next Collected allowed = (kept_out Collected allowed (mapped_named freshened (λ x named. same_names old x _ refl refl refl refl named)), refl)
   out_next Done allowed = (kept_out Done allowed out.apart.domains, refl)
   out_next (Ran d) allowed = (kept_out (Ran d) allowed (run_named d (domain_at s d).queue (out.apart.domains d).queue), run_unseen (domain_at s d).queue (out.apart.domains d).queue)

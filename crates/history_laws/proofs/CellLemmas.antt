@@ -1,13 +1,13 @@
 -- What each entry does to a cell: it holds afterwards what the entry writes, and else what it held.
-use Rattle.std.proofs.Common.{◌≡◌, ◌≢◌, ℕ, zero, suc, ◌+◌, ◌<◌, Bool, true, false, cond, ◌&&◌, ◌||◌, IsTrue, List, [], ◌∷◌, ◌++◌, length, replicate, slice_get, get_or, set, eqb, eqb-true, eq-eqb, pos, option_map, option_and_then, unwrap_or, Option, Some, None, refl, ap, sym, ◌∙◌, subst, get_or-set_same, get_or-set_other}
-use Rattle.std.specs.List.{list_any, list_all}
+use Rattle.std.proofs.Common.{◌≡◌, ℕ, zero, suc, Bool, true, false, cond, ◌&&◌, ◌||◌, IsTrue, List, [], ◌∷◌, ◌++◌, replicate, slice_get, get_or, set, eqb, eqb-true, pos, option_map, option_and_then, unwrap_or, Option, Some, None, refl, ap, sym, ◌∙◌, subst, get_or-set_same, get_or-set_other}
+use Rattle.std.specs.List.{list_any}
 use Rattle.std.proofs.lemmas.Option.{unwrap_or-slice_get, slice_get_within}
 use Rattle.heap_model.specs.declared.label.Label.{Label}
 use Rattle.heap_model.specs.declared.command.Command.{Command}
 use Rattle.heap_model.specs.declared.command.Command.TheVariants.{Alloc, AllocMaj, Store, Raw as NewRaw, Cas, Ephe as NewEphe, SetKey, UnsetKey, SetData, UnsetData}
 use Rattle.heap_model.specs.declared.entry.Entry.{Entry}
 use Rattle.heap_model.specs.declared.entry.Entry.TheVariants.{Command as CommandOf, End, Cut, Queue, Seal, Wipe, Last as LastOf, Collected, Done, Ran}
-use Rattle.heap_model.specs.declared.reply.Reply.TheVariants.{Done as Ok, Yes, No}
+use Rattle.heap_model.specs.declared.reply.Reply.TheVariants.{No}
 use Rattle.heap_model.specs.declared.graph.Value.{Value}
 use Rattle.heap_model.specs.declared.graph.Value.TheVariants.{Int, Block, Nothing}
 use Rattle.heap_model.specs.declared.graph.Node.{Node}

@@ -1,16 +1,14 @@
 -- What a domain holds is there and reachable, and where `full_major` is answered nothing is left to take.
-use Rattle.std.proofs.Common.{◌≡◌, ◌⊎◌, inl, inr, ⊎_elim, ℕ, zero, suc, ◌+◌, Bool, true, false, cond, not, ◌&&◌, ◌||◌, IsTrue, List, [], ◌∷◌, ◌++◌, map, flat_map, filter_map, replicate, length, slice_get, get_or, set, pos, Option, Some, None, refl, ap, ap₂, sym, ◌∙◌, subst}
+use Rattle.std.proofs.Common.{◌≡◌, ℕ, zero, suc, Bool, true, false, cond, not, ◌&&◌, ◌||◌, IsTrue, List, [], ◌∷◌, ◌++◌, map, flat_map, filter_map, replicate, length, slice_get, get_or, set, pos, Option, Some, None, refl, ap, ap₂, sym, ◌∙◌, subst}
 use Rattle.std.specs.List.{list_all}
 use Rattle.heap_model.specs.declared.label.Label.{Label}
 use Rattle.heap_model.specs.declared.command.Command.{Command}
 use Rattle.heap_model.specs.declared.command.Command.TheVariants.{Alloc, AllocMaj, Raw as NewRaw, Ephe as NewEphe, FullMajor, Spawn, Argument, PutResult, Join}
 use Rattle.heap_model.specs.declared.entry.Entry.{Entry}
 use Rattle.heap_model.specs.declared.entry.Entry.TheVariants.{Command as CommandOf, End, Cut, Queue, Seal, Wipe, Last as LastOf, Collected, Done, Ran}
-use Rattle.heap_model.specs.declared.graph.Value.{Value}
-use Rattle.heap_model.specs.declared.graph.Value.TheVariants.{Int, Block, Nothing}
+use Rattle.heap_model.specs.declared.graph.Value.TheVariants.{Int, Nothing}
 use Rattle.heap_model.specs.declared.graph.Node.{Node}
 use Rattle.heap_model.specs.declared.graph.Node.TheVariants.{Plain, Raw, Ephe}
-use Rattle.heap_model.specs.declared.state.Mode.{Mode}
 use Rattle.heap_model.specs.declared.state.Mode.TheVariants.{Open, Cut as CutMode, Sealed, Answer}
 use Rattle.heap_model.specs.declared.state.Pending.{Pending}
 use Rattle.heap_model.specs.declared.state.Pending.TheVariants.{Fin, Last}
@@ -20,24 +18,23 @@ use Rattle.heap_model.specs.declared.state.DomainState.{DomainState}
 use Rattle.heap_model.specs.declared.state.Sizes.{Sizes}
 use Rattle.heap_model.specs.declared.state.State.{State}
 use Rattle.heap_model.specs.Graph.{Graph, same_label, labels, has_label, label_of, node_at}
-use Rattle.heap_model.specs.Domains.{domain_at, with_domain, no_domain, register, pending_label, queues, roots, reach, waiting, settled_roots, settled_reach, opening}
+use Rattle.heap_model.specs.Domains.{domain_at, no_domain, pending_label, queues, roots, reach, waiting, settled_reach, opening}
 use Rattle.heap_model.specs.Reach.{reachable, is_reachable}
-use Rattle.heap_model.specs.Commands.{FitsMode, CommandAllowed, new_plain, new_raw, outcome, allocated, after_command}
-use Rattle.heap_model.specs.Entries.{Allowed, is_some_and, is_dead, is_gone, is_let_go, has_keys, has_gone_keys, ephe_holds, wiped, with_wiped, after_run, next}
+use Rattle.heap_model.specs.Commands.{FitsMode, CommandAllowed, new_plain, new_raw, after_command}
+use Rattle.heap_model.specs.Entries.{Allowed, is_some_and, is_dead, is_gone, is_let_go, has_keys, ephe_holds, wiped, with_wiped, after_run, next}
 use Rattle.heap_model.specs.History.{state_after, LegalFrom, Legal}
-use Rattle.heap_model.specs.Fronts.{Shape, PlainShape, RawShape, EpheShape, shape_of, Grew}
+use Rattle.heap_model.specs.Fronts.{Shape, PlainShape, RawShape, EpheShape, shape_of}
 use Rattle.heap_model.specs.Laws.{NothingPermitted}
-use Rattle.heap_model.specs.WellFormed.{IsWellFormed, IsNumbered}
-use Rattle.heap_model.proofs.Graphs.GraphLemmas.{same_label-true, same_label_refl, node_at-append_new}
-use Rattle.heap_model.proofs.Graphs.ListLemmas.{flat_map-map}
-use Rattle.heap_model.proofs.Reach.ReachLemmas.{or_left, or_cases, has-append_left, reachable_roots}
-use Rattle.heap_model.proofs.Commands.MoveLemmas.{outcome-mode, named_register}
+use Rattle.heap_model.specs.WellFormed.{IsWellFormed}
+use Rattle.heap_model.proofs.Graphs.GraphLemmas.{node_at-append_new}
+use Rattle.heap_model.proofs.Reach.ReachLemmas.{has-append_left, reachable_roots}
+use Rattle.heap_model.proofs.Commands.MoveLemmas.{outcome-mode}
 use Rattle.heap_model.proofs.Commands.FrameLemmas.{part_set, grew_next}
 use Rattle.heap_model.proofs.Collections.CollectedLemmas.{collected_law}
 use Rattle.heap_model.proofs.Collections.CutLemmas.{part_same}
 use Rattle.heap_model.proofs.Histories.NumberLemmas.{next_label_after}
 use Rattle.heap_model.proofs.Histories.WellFormedLemmas.{wf_after, wf_opening}
-use Rattle.history_laws.specs.Held.{IsThere, made_shape, next_label, IsMade, BlocksKeepShape, IsHeldWell, HeldBlocksAreThere, FullMajorLeavesNothing}
+use Rattle.history_laws.specs.Held.{IsThere, made_shape, next_label, IsMade, BlocksKeepShape, HeldBlocksAreThere, FullMajorLeavesNothing}
 use Rattle.history_laws.proofs.SplitLemmas.{legal_first, legal_rest, register_has, domain_has}
 
 -- a block keeps its shape

@@ -1,9 +1,7 @@
 -- Where a `finalise_last` is queued, no domain holds its block, and each `finalise` of it has run.
-use Rattle.std.proofs.Common.{◌≡◌, ◌≢◌, ℕ, zero, suc, ◌+◌, Bool, true, false, cond, ◌&&◌, IsTrue, List, [], ◌∷◌, ◌++◌, map, flat_map, filter_map, slice_get, count_by, Option, Some, None, refl, ap, sym, ◌∙◌, subst, arith}
+use Rattle.std.proofs.Common.{◌≡◌, ◌≢◌, ℕ, zero, suc, cond, ◌&&◌, IsTrue, List, [], ◌∷◌, ◌++◌, map, flat_map, filter_map, slice_get, Some, refl, ap, sym, ◌∙◌, subst, arith}
 use Rattle.heap_model.specs.declared.label.Label.{Label}
-use Rattle.heap_model.specs.declared.entry.Entry.{Entry}
 use Rattle.heap_model.specs.declared.entry.Entry.TheVariants.{Last as LastOf}
-use Rattle.heap_model.specs.declared.graph.Value.TheVariants.{Block}
 use Rattle.heap_model.specs.declared.state.Finaliser.{Finaliser}
 use Rattle.heap_model.specs.declared.state.LastFinaliser.{LastFinaliser}
 use Rattle.heap_model.specs.declared.state.Pending.{Pending}
@@ -11,11 +9,11 @@ use Rattle.heap_model.specs.declared.state.Pending.TheVariants.{Fin, Last}
 use Rattle.heap_model.specs.declared.state.DomainState.{DomainState}
 use Rattle.heap_model.specs.declared.state.State.{State}
 use Rattle.heap_model.specs.Graph.{same_label, has_label, label_of}
-use Rattle.heap_model.specs.Domains.{domain_at, register, pending_label, queues, roots, waiting, settled_roots, settled_reach, opening}
+use Rattle.heap_model.specs.Domains.{domain_at, pending_label, queues, roots, waiting, settled_roots, settled_reach, opening}
 use Rattle.heap_model.specs.Entries.{queued_final, queued_last, is_some_and, is_gone, is_let_go, LastAllowed}
 use Rattle.heap_model.specs.History.{state_after}
-use Rattle.heap_model.specs.Registrations.{all_registered, all_ran, left_over}
-use Rattle.heap_model.proofs.Graphs.GraphLemmas.{same_label-true, same_label-false}
+use Rattle.heap_model.specs.Registrations.{left_over}
+use Rattle.heap_model.proofs.Graphs.GraphLemmas.{same_label-false}
 use Rattle.heap_model.proofs.Graphs.ListLemmas.{flat_map-map}
 use Rattle.heap_model.proofs.Reach.ReachLemmas.{and_left, not_true, has-append_left, has-append_right, reachable_roots}
 use Rattle.heap_model.proofs.Histories.TallyLemmas.{tally, tally-append, tally-map, tally_count, counted}

@@ -1,5 +1,5 @@
 -- What domains may still come to, and what they don't after a complete collection.
-use Rattle.std.proofs.Common.{◌≡◌, ◌≢◌, ℕ, zero, suc, Bool, true, false, cond, ◌&&◌, ◌||◌, not, eqb, eqb-true, IsTrue, List, [], ◌∷◌, ◌++◌, map, flat_map, filter_map, slice_get, option_map, option_and_then, option_to_list, unwrap_or, pos, Option, Some, None, refl, ap, sym, ◌∙◌, subst, ⊎_elim, append_assoc}
+use Rattle.std.proofs.Common.{◌≡◌, ℕ, Bool, true, false, cond, not, eqb, eqb-true, IsTrue, List, [], ◌∷◌, ◌++◌, map, flat_map, filter_map, slice_get, option_map, option_and_then, option_to_list, unwrap_or, pos, Option, Some, None, refl, ap, sym, ◌∙◌, subst, ⊎_elim, append_assoc}
 use Rattle.std.specs.List.{list_all, list_any, cons_option}
 use Rattle.std.specs.Option.{option_map_or}
 use Rattle.std.proofs.lemmas.Option.{slice_get-map}
@@ -19,7 +19,7 @@ use Rattle.heap_model.specs.Graph.{Graph, same_label, labels, has_label, label_o
 use Rattle.heap_model.specs.Domains.{domain_at, no_domain, pending_label, queues, roots, reach, waiting, settled_roots, settled_reach, opening, shared_node}
 use Rattle.heap_model.specs.Commands.{has_full_fields, is_int_value, key_value}
 use Rattle.heap_model.specs.Reach.{key_holds, edges_of, edges_at, reachable, IsClosedGraph, HoldsRoots, IsClosedUnder, IsLeastClosed}
-use Rattle.heap_model.specs.Entries.{Allowed, is_some_and, is_gone, has_gone_keys, has_keys, has_live_keys, keys_are_live, full_keys, CollectedAllowed, next}
+use Rattle.heap_model.specs.Entries.{is_some_and, is_gone, has_keys, has_live_keys, keys_are_live, full_keys, CollectedAllowed, next}
 use Rattle.heap_model.specs.History.{state_after, LegalFrom, Legal}
 use Rattle.heap_model.specs.Marked.{IsMarked}
 use Rattle.heap_model.specs.WellFormed.{names_of, HaveNodes, IsDomainNamed, IsWellFormed}
@@ -27,7 +27,7 @@ use Rattle.heap_model.proofs.Graphs.GraphLemmas.{same_label-true, same_label_ref
 use Rattle.heap_model.proofs.Graphs.GraphStepLemmas.{labels_stay_law}
 use Rattle.heap_model.proofs.Graphs.ListLemmas.{flat_map-map, all_at}
 use Rattle.heap_model.proofs.Graphs.NamedLemmas.{have_none, have_append, have_left, have_right, have_cons_option, flat_named}
-use Rattle.heap_model.proofs.Reach.ReachLemmas.{Within, or_cases, or_left, and_left, and_right, is_false, never_true, not_true, has-append_cases, has-append_left, has-append_right, all_keys, keys_all, reachable_roots, reachable_least, reachable_more, reach_law}
+use Rattle.heap_model.proofs.Reach.ReachLemmas.{or_cases, or_left, and_left, and_right, is_false, never_true, not_true, has-append_cases, has-append_left, has-append_right, keys_all, reachable_roots, reachable_least, reachable_more, reach_law}
 use Rattle.heap_model.proofs.Collections.CollectionLemmas.{all_has}
 use Rattle.heap_model.proofs.Collections.CutLemmas.{collected_settled, last_keeps_settled_reach}
 use Rattle.heap_model.proofs.Collections.WipeLemmas.{wipe_keeps_settled_reach}

@@ -1,5 +1,5 @@
 -- What one collection queues of a domain's registrations of `finalise` runs newest first.
-use Rattle.std.proofs.Common.{◌≡◌, ◌≢◌, ℕ, zero, suc, ◌+◌, ◌<◌, ◌≤◌, arith, Bool, true, false, cond, nat_lt, IsTrue, List, [], ◌∷◌, ◌++◌, map, reverse, length, slice_get, slice_index, get_or, set, remove, Option, Some, None, refl, ap, ap₂, sym, ◌∙◌, subst, eqb, eqb-true, get_or-set_same, get_or-set_other, append_assoc, append-nil}
+use Rattle.std.proofs.Common.{◌≡◌, ℕ, zero, suc, ◌+◌, ◌<◌, ◌≤◌, arith, Bool, true, false, nat_lt, IsTrue, List, [], ◌∷◌, ◌++◌, map, reverse, slice_get, slice_index, remove, Option, refl, ap, ap₂, sym, ◌∙◌, subst, eqb, eqb-true, get_or-set_same, get_or-set_other, append_assoc, append-nil}
 use Rattle.std.specs.List.{list_all, cons_option}
 use Rattle.std.proofs.lemmas.Bool.{ltb-true}
 use Rattle.std.proofs.lemmas.List.{reverse-append, map-append}
@@ -7,16 +7,15 @@ use Rattle.std.proofs.lemmas.List.Elements.{filter_map-append}
 use Rattle.heap_model.specs.declared.entry.Entry.{Entry}
 use Rattle.heap_model.specs.declared.entry.Entry.TheVariants.{Command as CommandOf, End, Cut, Queue, Seal, Wipe, Last as LastOf, Collected, Done, Ran}
 use Rattle.heap_model.specs.declared.state.Finaliser.{Finaliser}
-use Rattle.heap_model.specs.declared.state.Pending.{Pending}
 use Rattle.heap_model.specs.declared.state.DomainState.{DomainState}
 use Rattle.heap_model.specs.declared.state.State.{State}
 use Rattle.heap_model.specs.Domains.{domain_at, no_domain, opening}
-use Rattle.heap_model.specs.Entries.{is_rising, Allowed, QueueAllowed, queued_final, at_places, without_places, with_queued, with_finals_open, next}
+use Rattle.heap_model.specs.Entries.{is_rising, Allowed, queued_final, at_places, without_places, with_queued, with_finals_open, next}
 use Rattle.heap_model.specs.History.{state_after, LegalFrom}
 use Rattle.heap_model.proofs.Reach.ReachLemmas.{and_left, and_right}
 use Rattle.heap_model.proofs.Commands.FrameLemmas.{part_map, not_same}
 use Rattle.heap_model.proofs.Histories.TallyLemmas.{Above, Increasing, increasing}
-use Rattle.history_laws.specs.Finalisers.{is_queue, AllBelow, Falls, IsNewestFirst, CollectionsQueueNewestFirst}
+use Rattle.history_laws.specs.Finalisers.{is_queue, AllBelow, Falls, CollectionsQueueNewestFirst}
 use Rattle.history_laws.proofs.SplitLemmas.{legal_rest}
 use Rattle.history_laws.proofs.OrderLemmas.{inside_places}
 

@@ -1,11 +1,10 @@
 -- Finalisers run in the order in which they were queued.
-use Rattle.std.proofs.Common.{◌≡◌, ◌≢◌, ℕ, zero, suc, ◌+◌, ◌<◌, Bool, true, false, cond, nat_lt, IsTrue, List, [], ◌∷◌, ◌++◌, map, reverse, take, replicate, slice_get, get_or, set, length, Option, Some, None, refl, ap, sym, ◌∙◌, subst, arith, eqb, eqb-true, get_or-set_same, get_or-set_other, append_assoc, append-nil}
+use Rattle.std.proofs.Common.{◌≡◌, ◌≢◌, ℕ, zero, suc, ◌<◌, Bool, true, false, cond, nat_lt, IsTrue, List, [], ◌∷◌, ◌++◌, take, replicate, get_or, set, length, Option, Some, None, refl, ap, sym, ◌∙◌, subst, arith, eqb, eqb-true, get_or-set_same, get_or-set_other, append_assoc, append-nil}
 use Rattle.std.specs.List.{list_all}
 use Rattle.std.proofs.lemmas.Bool.{ltb-true}
 use Rattle.heap_model.specs.declared.label.Label.{Label}
 use Rattle.heap_model.specs.declared.entry.Entry.{Entry}
 use Rattle.heap_model.specs.declared.entry.Entry.TheVariants.{Command as CommandOf, End, Cut, Queue, Seal, Wipe, Last as LastOf, Collected, Done, Ran}
-use Rattle.heap_model.specs.declared.graph.Value.TheVariants.{Block}
 use Rattle.heap_model.specs.declared.graph.Node.{Node}
 use Rattle.heap_model.specs.declared.graph.Node.TheVariants.{Plain, Raw, Ephe}
 use Rattle.heap_model.specs.declared.state.Pending.{Pending}
@@ -13,7 +12,7 @@ use Rattle.heap_model.specs.declared.state.Pending.TheVariants.{Fin, Last}
 use Rattle.heap_model.specs.declared.state.DomainState.{DomainState}
 use Rattle.heap_model.specs.declared.state.State.{State}
 use Rattle.heap_model.specs.Graph.{node_at}
-use Rattle.heap_model.specs.Domains.{domain_at, with_domain, with_register, no_domain, opening, opening_domain}
+use Rattle.heap_model.specs.Domains.{domain_at, with_domain, no_domain, opening, opening_domain}
 use Rattle.heap_model.specs.Entries.{is_rising, Allowed, with_queued, with_last_queued, with_finals_open, with_lasts_open, freshened, ended, wiped, with_wiped, without_first, after_run, next}
 use Rattle.heap_model.specs.History.{state_after, LegalFrom}
 use Rattle.heap_model.specs.Registrations.{ran, all_ran}

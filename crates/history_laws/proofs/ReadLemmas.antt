@@ -1,5 +1,5 @@
 -- Reads answer what was last written, and what was written is seen until it is overwritten.
-use Rattle.std.proofs.Common.{◌≡◌, ◌⊎◌, inl, inr, ⊎_elim, ℕ, Bool, true, false, IsTrue, List, [], ◌∷◌, ◌++◌, slice_get, pos, option_map, unwrap_or, Option, Some, None, refl, ap, sym, ◌∙◌, subst}
+use Rattle.std.proofs.Common.{◌≡◌, ◌⊎◌, inl, inr, ⊎_elim, ℕ, List, [], ◌∷◌, slice_get, pos, option_map, unwrap_or, Option, Some, None, refl, ap, sym, ◌∙◌, subst}
 use Rattle.heap_model.specs.declared.label.Label.{Label}
 use Rattle.heap_model.specs.declared.command.Command.TheVariants.{Load, GetKey, GetData}
 use Rattle.heap_model.specs.declared.entry.Entry.{Entry}
@@ -7,17 +7,16 @@ use Rattle.heap_model.specs.declared.graph.Value.{Value}
 use Rattle.heap_model.specs.declared.graph.Value.TheVariants.{Int, Nothing}
 use Rattle.heap_model.specs.declared.graph.Node.{Node}
 use Rattle.heap_model.specs.declared.graph.Node.TheVariants.{Plain, Raw, Ephe}
-use Rattle.heap_model.specs.declared.state.Sizes.{Sizes}
 use Rattle.heap_model.specs.declared.state.State.{State}
 use Rattle.heap_model.specs.Domains.{label_in, opening}
-use Rattle.heap_model.specs.Commands.{Outcome, only_replies, read_into, shown, in_bounds, loaded, at_ephe, key_value, block_in, outcome}
+use Rattle.heap_model.specs.Commands.{Outcome, shown, in_bounds, loaded, at_ephe, key_value, block_in, outcome}
 use Rattle.heap_model.specs.Entries.{next}
-use Rattle.heap_model.specs.History.{state_after, LegalFrom, Legal}
+use Rattle.heap_model.specs.History.{state_after, LegalFrom}
 use Rattle.heap_model.specs.WellFormed.{IsNumbered}
 use Rattle.heap_model.proofs.Commands.MoveLemmas.{held_block}
 use Rattle.heap_model.proofs.Histories.NumberLemmas.{numbered_next, numbered_after, numbered_opening}
-use Rattle.history_laws.specs.Cells.{Cell, Field, Key, Datum, content, writes, last_written}
-use Rattle.history_laws.specs.Reads.{is_refused, Answers, AnswersLast, ReadsAnswerLastWritten, IsWrittenIn, WritesAreSeen}
+use Rattle.history_laws.specs.Cells.{Cell, Field, Key, Datum, content, writes}
+use Rattle.history_laws.specs.Reads.{Answers, ReadsAnswerLastWritten, IsWrittenIn, WritesAreSeen}
 use Rattle.history_laws.proofs.CellLemmas.{held, content_is, cell_next, cells_law}
 use Rattle.history_laws.proofs.SplitLemmas.{legal_first, legal_rest}
 

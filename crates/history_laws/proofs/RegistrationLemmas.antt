@@ -1,7 +1,5 @@
 -- No registration of a domain that runs is lost, and finalisers run in the order in which they were queued.
-use Rattle.std.proofs.Common.{◌≡◌, ◌≢◌, ℕ, zero, suc, ◌+◌, ◌<◌, Bool, true, false, cond, nat_lt, IsTrue, List, [], ◌∷◌, ◌++◌, map, reverse, remove, take, replicate, slice_get, option_map, option_to_list, get_or, set, length, Option, Some, None, refl, ap, ap₂, sym, ◌∙◌, subst, arith, eqb, eqb-true, get_or-set_same, get_or-set_other, append_assoc, append-nil, ⊎_elim}
-use Rattle.std.specs.List.{list_all}
-use Rattle.std.proofs.lemmas.Bool.{ltb-true}
+use Rattle.std.proofs.Common.{◌≡◌, ℕ, zero, suc, ◌+◌, ◌<◌, Bool, true, false, cond, IsTrue, List, [], ◌∷◌, ◌++◌, map, reverse, remove, take, replicate, slice_get, option_map, option_to_list, get_or, set, length, Option, Some, None, refl, ap, sym, ◌∙◌, subst, arith, eqb, eqb-true, get_or-set_same, get_or-set_other}
 use Rattle.heap_model.specs.declared.label.Label.{Label}
 use Rattle.heap_model.specs.declared.command.Command.{Command}
 use Rattle.heap_model.specs.declared.command.Command.TheVariants.{Finalise, FinaliseLast}
@@ -22,12 +20,11 @@ use Rattle.heap_model.specs.Commands.{outcome, finalised, finalised_last, after_
 use Rattle.heap_model.specs.Entries.{is_rising, Allowed, queued_final, queued_last, at_places, without_places, with_queued, with_last_queued, with_finals_open, with_lasts_open, freshened, ended, wiped, with_wiped, without_first, after_run, next}
 use Rattle.heap_model.specs.History.{state_after, LegalFrom, is_entry_of}
 use Rattle.heap_model.specs.Registrations.{registered_by, registered, ran, all_registered, all_ran, left_over}
-use Rattle.heap_model.proofs.Reach.ReachLemmas.{and_left}
-use Rattle.heap_model.proofs.Commands.FrameLemmas.{part_set, part_map, inside_running, not_same, keeps_next, frame_command}
+use Rattle.heap_model.proofs.Commands.FrameLemmas.{part_set, part_map, inside_running, not_same, keeps_next}
 use Rattle.heap_model.proofs.Histories.TallyLemmas.{one_place, tally, tally-append, tally-map, tally-cond, tally-remove, tally-without, tally_count, counted, increasing}
 use Rattle.heap_model.proofs.Commands.MoveLemmas.{registers_one}
 use Rattle.heap_model.proofs.Commands.DomainStepLemmas.{SameWork, work_outcome}
-use Rattle.history_laws.specs.Finalisers.{NoRegistrationIsLost, queued, all_queued, FinalisersRunInOrder}
+use Rattle.history_laws.specs.Finalisers.{NoRegistrationIsLost}
 
 -- a domain that has ended makes no entry, and stays so
 entry_running : (s : State) (e : Entry) (k : ℕ) → Allowed s e → is_entry_of k e ≡ true → (domain_at s k).ended ≡ false

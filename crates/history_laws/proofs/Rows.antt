@@ -1,20 +1,19 @@
 -- Worked histories: each law's premise and conclusion occur. And where a law ends: histories that are legal though one might not expect it.
-use Rattle.std.proofs.Common.{◌≡◌, ℕ, Bool, true, false, not, List, [], ◌∷◌, ◌++◌, map, length, pos, count_by, refl, rules}
+use Rattle.std.proofs.Common.{◌≡◌, ℕ, true, false, not, List, [], ◌∷◌, ◌++◌, map, pos, count_by, refl, rules}
 use Rattle.std.specs.List.{list_all}
 use Rattle.heap_model.specs.declared.label.Label.{Label}
 use Rattle.heap_model.specs.declared.command.Command.{Command}
-use Rattle.heap_model.specs.declared.command.Command.TheVariants.{PutInt, Copy, Forget, Alloc, Load, Store, Minor, Ephe as NewEphe, SetKey, GetKey, CheckKey, SetData, GetData, CheckData, Finalise, FinaliseLast, FullMajor}
+use Rattle.heap_model.specs.declared.command.Command.TheVariants.{PutInt, Forget, Alloc, Load, Store, Ephe as NewEphe, SetKey, GetKey, CheckKey, SetData, GetData, Finalise, FinaliseLast}
 use Rattle.heap_model.specs.declared.entry.Entry.{Entry}
 use Rattle.heap_model.specs.declared.entry.Entry.TheVariants.{Command as CommandOf, End, Cut, Queue, Seal, Wipe, Last, Collected, Done, Ran}
 use Rattle.heap_model.specs.declared.graph.Value.TheVariants.{Int as IntValue, Block as BlockValue, Nothing}
-use Rattle.heap_model.specs.declared.reply.Reply.TheVariants.{Done as Ok, Int, Block, Empty, Yes, No, Live, Fin as FinReply, Last as LastReply}
-use Rattle.heap_model.specs.declared.state.Pending.{Pending}
+use Rattle.heap_model.specs.declared.reply.Reply.TheVariants.{Done as Ok, Int, Block, No, Last as LastReply}
 use Rattle.heap_model.specs.declared.state.Pending.TheVariants.{Fin, Last as LastPending}
 use Rattle.heap_model.specs.declared.state.Sizes.{Sizes}
 use Rattle.heap_model.specs.declared.state.State.{State}
 use Rattle.heap_model.specs.Graph.{has_label}
 use Rattle.heap_model.specs.Reach.{reachable}
-use Rattle.heap_model.specs.Domains.{domain_at, queues, reach, opening}
+use Rattle.heap_model.specs.Domains.{domain_at, queues, opening}
 use Rattle.heap_model.specs.Entries.{is_gone}
 use Rattle.heap_model.specs.History.{state_after, Legal, replies}
 use Rattle.heap_model.specs.Registrations.{all_ran, all_registered, left_over}
@@ -187,3 +186,29 @@ last_then_back_replies : replies (heap_of 1) last_then_back 0
     ≡ Block (block 0 1) ∷ Ok ∷ Block (block 0 2) ∷ Ok ∷ Block (block 0 3) ∷ Ok ∷ Ok ∷ Ok ∷ LastReply 7 ∷ Block (block 0 2) ∷ Block (block 0 1) ∷ []
 unfolding reachable
 last_then_back_replies = refl
+
+-- nor by the data of an ephemeron that is had by a key: one key leads to it, and its own key needn't be alive for its data to be read
+abbrev data_comes_back : List Entry
+data_comes_back = map (by 0) (Alloc 1 0 1 ∷ Alloc 2 0 1 ∷ NewEphe 3 1 ∷ SetKey 3 0 1 ∷ NewEphe 5 1 ∷ SetKey 5 0 2 ∷ SetData 5 1 ∷ NewEphe 6 1 ∷ SetKey 6 0 5 ∷ Forget 1 ∷ Forget 2 ∷ Forget 5 ∷ [])
+    ++ Cut ∷ Seal ∷ Wipe (block 0 3) (0 ∷ []) ∷ Done ∷ map (by 0) (CheckKey 3 0 ∷ GetKey 7 6 0 ∷ GetData 8 7 ∷ [])
+
+data_comes_back_legal : Legal (heap_of 1) data_comes_back
+unfolding reachable
+data_comes_back_legal = search rules
+
+data_comes_back_replies : replies (heap_of 1) data_comes_back 0
+    ≡ Block (block 0 1) ∷ Block (block 0 2) ∷ Block (block 0 3) ∷ Ok ∷ Block (block 0 4) ∷ Ok ∷ Ok ∷ Block (block 0 5) ∷ Ok ∷ Ok ∷ Ok ∷ Ok ∷ No ∷ Block (block 0 4) ∷ Block (block 0 1) ∷ []
+unfolding reachable
+data_comes_back_replies = refl
+
+-- Newest first also where a collection queues in several entries: places fall from one to the next
+abbrev queued_in_two : List Entry
+queued_in_two = map (by 0) (Alloc 1 0 1 ∷ Alloc 2 0 1 ∷ Finalise 1 1 3 ∷ Finalise 2 2 3 ∷ Finalise 1 4 3 ∷ Forget 1 ∷ Forget 2 ∷ []) ++ Cut ∷ Queue 0 (2 ∷ []) ∷ Queue 0 (0 ∷ 1 ∷ []) ∷ []
+
+queued_in_two_legal : Legal (heap_of 1) (queued_in_two ++ Seal ∷ Done ∷ [])
+unfolding reachable
+queued_in_two_legal = search rules
+
+queued_in_two_queue : (domain_at (after 1 queued_in_two) 0).queue ≡ Fin 4 (block 0 1) 3 ∷ Fin 2 (block 0 2) 3 ∷ Fin 1 (block 0 1) 3 ∷ []
+unfolding reachable
+queued_in_two_queue = refl

@@ -1,5 +1,5 @@
 -- Histories that are cut in two, and labels in lists of lists.
-use Rattle.std.proofs.Common.{◌≡◌, ℕ, zero, suc, Bool, true, false, IsTrue, List, [], ◌∷◌, ◌++◌, map, flat_map, filter_map, slice_get, get_or, unwrap_or, Option, Some, None, refl, ap, sym, ◌∙◌, subst}
+use Rattle.std.proofs.Common.{◌≡◌, ℕ, zero, suc, IsTrue, List, [], ◌∷◌, ◌++◌, map, flat_map, filter_map, slice_get, get_or, unwrap_or, Option, Some, None, ap, sym, ◌∙◌, subst}
 use Rattle.std.specs.List.{cons_option}
 use Rattle.heap_model.specs.declared.label.Label.{Label}
 use Rattle.heap_model.specs.declared.entry.Entry.{Entry}
@@ -9,7 +9,7 @@ use Rattle.heap_model.specs.declared.state.DomainState.{DomainState}
 use Rattle.heap_model.specs.declared.state.State.{State}
 use Rattle.heap_model.specs.Graph.{same_label, has_label, label_of}
 use Rattle.heap_model.specs.Domains.{no_domain}
-use Rattle.heap_model.specs.Entries.{Allowed, next}
+use Rattle.heap_model.specs.Entries.{next}
 use Rattle.heap_model.specs.History.{state_after, LegalFrom}
 use Rattle.heap_model.proofs.Graphs.GraphLemmas.{same_label_refl}
 use Rattle.heap_model.proofs.Reach.ReachLemmas.{or_left, or_right, has-append_left, has-append_right}

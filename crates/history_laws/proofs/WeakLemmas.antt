@@ -1,6 +1,6 @@
 -- Weak keys and data stay, but where the collector empties them with a key whose block can't be reached.
-use Rattle.std.proofs.Common.{◌≡◌, ◌≢◌, ◌⊎◌, inl, inr, ⊎_elim, ℕ, Bool, true, false, cond, ◌||◌, eqb, eq-eqb, IsTrue, List, [], ◌∷◌, ◌++◌, slice_get, option_map, option_and_then, unwrap_or, Option, Some, None, refl, ap, sym, ◌∙◌, subst}
-use Rattle.std.specs.List.{list_any, list_all}
+use Rattle.std.proofs.Common.{◌≡◌, ◌⊎◌, inl, inr, ⊎_elim, ℕ, Bool, true, false, cond, eqb, eq-eqb, IsTrue, List, [], ◌∷◌, ◌++◌, slice_get, option_map, option_and_then, unwrap_or, Option, Some, None, refl, ap, sym, ◌∙◌, subst}
+use Rattle.std.specs.List.{list_any}
 use Rattle.heap_model.specs.declared.label.Label.{Label}
 use Rattle.heap_model.specs.declared.entry.Entry.{Entry}
 use Rattle.heap_model.specs.declared.entry.Entry.TheVariants.{Command as CommandOf, End, Cut, Queue, Seal, Wipe, Last as LastOf, Collected, Done, Ran}
@@ -20,7 +20,7 @@ use Rattle.heap_model.proofs.Graphs.GraphLemmas.{same_label-true, same_label_ref
 use Rattle.heap_model.proofs.Reach.ReachLemmas.{or_left, not_true, has-append_left, reachable_more}
 use Rattle.heap_model.proofs.Histories.NumberLemmas.{numbered_next, numbered_after, numbered_opening}
 use Rattle.history_laws.specs.Cells.{Cell, Key, Datum, cell_of, content, wipe_writes, writes}
-use Rattle.history_laws.specs.Weak.{is_command, NoCommandWrites, IsEmptiedWithout, WeakKeysStay, ReachableKeysStay, IsEmptiedWithKey, DataStay, IsEmptiedTogether, DataGoWithKeys}
+use Rattle.history_laws.specs.Weak.{is_command, NoCommandWrites, IsEmptiedWithout, WeakKeysStay, ReachableKeysStay, DataStay, DataGoWithKeys}
 use Rattle.history_laws.proofs.CellLemmas.{cell_next}
 use Rattle.history_laws.proofs.SplitLemmas.{legal_first, legal_rest}
 use Rattle.history_laws.proofs.ApartLemmas.{wipe_written}

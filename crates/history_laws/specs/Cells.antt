@@ -1,5 +1,5 @@
 -- The cells of blocks: what each holds, and what each entry of a history writes.
-use Rattle.std.specs.Prelude.{◌≡◌, ◌⊎◌, ℕ, Bool, true, false, cond, ◌&&◌, ◌==◌, List, [], ◌∷◌, ◌++◌, slice_get, unwrap_or, option_map, option_and_then, pos, Option, Some, None}
+use Rattle.std.specs.Prelude.{◌≡◌, ℕ, Bool, true, false, cond, ◌&&◌, ◌==◌, List, [], ◌∷◌, slice_get, unwrap_or, option_map, option_and_then, pos, Option, Some, None}
 use Rattle.std.specs.List.{list_any}
 use Rattle.heap_model.specs.declared.label.Label.{Label}
 use Rattle.heap_model.specs.declared.command.Command as declared_command
