@@ -10,3 +10,4 @@ pub mod ReadLemmas
 pub mod HeldLemmas
 pub mod NewestLemmas
 pub mod Rows
+pub mod TogetherLemmas

@@ -121,7 +121,7 @@ opened_edges_named : (g : Graph) (alive : Label → Bool) (o : Option Node) → 
 opened_edges_named g alive None each = have_none g
 opened_edges_named g alive (Some n) each = node_edges_named g alive n (each n refl)
 
-all_roots_named : (s : State) → IsWellFormed s → HaveNodes s.graph (settled_roots s (queues s) ++ last_labels s)
+pub all_roots_named : (s : State) → IsWellFormed s → HaveNodes s.graph (settled_roots s (queues s) ++ last_labels s)
 all_roots_named s wf = have_append s.graph (settled_roots s (queues s)) (last_labels s)
     (have_append s.graph (roots s (queues s)) (waiting s)
     (have_append s.graph (flat_map (λ (x : DomainState). filter_map label_of x.registers) s.domains) (flat_map (filter_map pending_label) (queues s))

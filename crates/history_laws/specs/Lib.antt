@@ -4,3 +4,4 @@ pub mod Lost
 pub mod Weak
 pub mod Reads
 pub mod Held
+pub mod Together

@@ -5,6 +5,7 @@ ghost use Rattle.history_laws.specs.Lost.{LostIsNeverSeen, UncountedIsNeverSeen,
 ghost use Rattle.history_laws.specs.Weak.{WeakKeysStay, ReachableKeysStay, DataStay, DataGoWithKeys};
 ghost use Rattle.history_laws.specs.Reads.{ReadsAnswerLastWritten, WritesAreSeen};
 ghost use Rattle.history_laws.specs.Held.{BlocksKeepShape, HeldBlocksAreThere, FullMajorLeavesNothing};
+ghost use Rattle.history_laws.specs.Together.{FinalsGoTogether, TakenTogether};
 
 /// A cell of a block holds what was last written to it, whichever domain wrote it, and else what a new block has there.
 pub fn cells_hold_last_written()
@@ -112,4 +113,15 @@ pub fn held_blocks_are_there()
 /// Where `full_major` is answered no key and no registration is left that a collection may take.
 pub fn full_major_leaves_nothing()
     ensures { FullMajorLeavesNothing }
+{}
+
+/// All registrations of `finalise` of one block, by all domains, are queued by one collection.
+pub fn finals_go_together()
+    ensures { FinalsGoTogether }
+{}
+
+/// Where any collection ends, complete or not, a block of which it emptied a key or queued a `finalise_last` is unreachable,
+/// is neither a key nor the data of a reachable ephemeron, and has no registration left.
+pub fn taken_together()
+    ensures { TakenTogether }
 {}
