@@ -1,22 +1,23 @@
 -- Worked histories: each law's premise and conclusion occur. And where a law ends: histories that are legal though one might not expect it.
-use Rattle.std.proofs.Common.{◌≡◌, ℕ, true, false, not, List, [], ◌∷◌, ◌++◌, map, pos, count_by, refl, rules}
+use Rattle.std.proofs.Common.{◌≡◌, ℕ, true, false, not, List, [], ◌∷◌, ◌++◌, map, pos, count_by, refl, rules, length, option_map, Some}
 use Rattle.std.specs.List.{list_all}
 use Rattle.heap_model.specs.declared.label.Label.{Label}
 use Rattle.heap_model.specs.declared.command.Command.{Command}
-use Rattle.heap_model.specs.declared.command.Command.TheVariants.{PutInt, Forget, Alloc, Load, Store, Ephe as NewEphe, SetKey, GetKey, CheckKey, SetData, GetData, Finalise, FinaliseLast}
+use Rattle.heap_model.specs.declared.command.Command.TheVariants.{PutInt, Forget, Alloc, Load, Store, Ephe as NewEphe, SetKey, GetKey, CheckKey, SetData, GetData, Finalise, FinaliseLast, FullMajor}
 use Rattle.heap_model.specs.declared.entry.Entry.{Entry}
 use Rattle.heap_model.specs.declared.entry.Entry.TheVariants.{Command as CommandOf, End, Cut, Queue, Seal, Wipe, Last, Collected, Done, Ran}
 use Rattle.heap_model.specs.declared.graph.Value.TheVariants.{Int as IntValue, Block as BlockValue, Nothing}
-use Rattle.heap_model.specs.declared.reply.Reply.TheVariants.{Done as Ok, Int, Block, No, Last as LastReply}
+use Rattle.heap_model.specs.declared.reply.Reply.TheVariants.{Done as Ok, Int, Block, No, Last as LastReply, Live}
 use Rattle.heap_model.specs.declared.state.Pending.TheVariants.{Fin, Last as LastPending}
 use Rattle.heap_model.specs.declared.state.Sizes.{Sizes}
 use Rattle.heap_model.specs.declared.state.State.{State}
-use Rattle.heap_model.specs.Graph.{has_label}
+use Rattle.heap_model.specs.Graph.{has_label, node_at}
 use Rattle.heap_model.specs.Reach.{reachable}
-use Rattle.heap_model.specs.Domains.{domain_at, queues, opening}
+use Rattle.heap_model.specs.Domains.{domain_at, queues, opening, reach}
 use Rattle.heap_model.specs.Entries.{is_gone}
 use Rattle.heap_model.specs.History.{state_after, Legal, replies}
 use Rattle.heap_model.specs.Registrations.{all_ran, all_registered, left_over}
+use Rattle.heap_model.specs.Fronts.{PlainShape, shape_of}
 use Rattle.history_laws.specs.Cells.{Field, Key, Datum, content, last_written}
 use Rattle.history_laws.specs.Finalisers.{all_queued, is_final_of}
 use Rattle.history_laws.specs.Lost.{left_names}
@@ -212,3 +213,38 @@ queued_in_two_legal = search rules
 queued_in_two_queue : (domain_at (after 1 queued_in_two) 0).queue ≡ Fin 4 (block 0 1) 3 ∷ Fin 2 (block 0 2) 3 ∷ Fin 1 (block 0 1) 3 ∷ []
 unfolding reachable
 queued_in_two_queue = refl
+
+-- A block that was made keeps its kind, tag and length, and one that a register holds is reachable
+held_shape : option_map shape_of (node_at (after 1 held_key).graph (block 0 1)) ≡ Some (PlainShape 1 0)
+unfolding reachable
+held_shape = refl
+
+held_reached : has_label (reach (after 1 held_key)) (block 0 1) ≡ true
+unfolding reachable
+held_reached = refl
+
+-- `full_major` may be answered several times in one collection, and each time nothing is left to take
+abbrev counted_twice : List Entry
+counted_twice = map (by 0) (Alloc 1 0 1 ∷ NewEphe 2 1 ∷ SetKey 2 0 1 ∷ Forget 1 ∷ []) ++ Cut ∷ Seal ∷ Wipe (block 0 2) (0 ∷ []) ∷ Collected ∷ by 0 FullMajor ∷ by 0 FullMajor ∷ Done ∷ []
+
+counted_twice_legal : Legal (heap_of 1) counted_twice
+unfolding reachable
+counted_twice_legal = search rules
+
+counted_twice_replies : replies (heap_of 1) counted_twice 0 ≡ Block (block 0 1) ∷ Block (block 0 2) ∷ Ok ∷ Ok ∷ Live 2 22 ∷ Live 2 22 ∷ []
+unfolding reachable
+counted_twice_replies = refl
+
+-- All three registrations of one block leave together: once one is queued and the collection is sealed none waits
+thrice_together : length (domain_at (after 1 thrice) 0).finals ≡ 0
+unfolding reachable
+thrice_together = refl
+
+-- Where a collection ends what it took is unreachable
+taken_row : (after 1 (dropped_key ++ Wipe (block 0 2) (0 ∷ []) ∷ [])).taken ≡ block 0 1 ∷ []
+unfolding reachable
+taken_row = refl
+
+taken_unreached : has_label (reach (after 1 (dropped_key ++ Wipe (block 0 2) (0 ∷ []) ∷ []))) (block 0 1) ≡ false
+unfolding reachable
+taken_unreached = refl

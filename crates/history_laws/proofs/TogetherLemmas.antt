@@ -1,9 +1,8 @@
 -- What one collection takes it takes together.
-use Rattle.std.proofs.Common.{◌≡◌, ◌≢◌, ℕ, Bool, true, false, cond, not, ◌||◌, IsTrue, List, [], ◌∷◌, ◌++◌, map, flat_map, filter_map, slice_get, option_to_list, option_map, option_and_then, unwrap_or, Option, Some, None, refl, ap, sym, ◌∙◌, subst, ⊎_elim}
+use Rattle.std.proofs.Common.{◌≡◌, ℕ, true, false, cond, not, IsTrue, List, [], ◌∷◌, ◌++◌, map, flat_map, filter_map, slice_get, option_to_list, option_map, option_and_then, unwrap_or, Option, Some, None, refl, ap, sym, ◌∙◌, subst, ⊎_elim}
 use Rattle.std.specs.List.{list_all}
 use Rattle.std.specs.Option.{option_map_or}
 use Rattle.heap_model.specs.declared.label.Label.{Label}
-use Rattle.heap_model.specs.declared.entry.Entry.{Entry}
 use Rattle.heap_model.specs.declared.entry.Entry.TheVariants.{Seal, Done}
 use Rattle.heap_model.specs.declared.graph.Value.TheVariants.{Block, Nothing}
 use Rattle.heap_model.specs.declared.graph.Node.{Node}
@@ -15,10 +14,10 @@ use Rattle.heap_model.specs.declared.state.State.{State}
 use Rattle.heap_model.specs.Graph.{Graph, same_label, labels, has_label, label_of, node_at}
 use Rattle.heap_model.specs.Domains.{domain_at, queues, roots, reach, waiting, settled_roots, settled_reach, opening}
 use Rattle.heap_model.specs.Commands.{key_value}
-use Rattle.heap_model.specs.Reach.{key_holds, edges_of, reachable, IsLeastClosed}
+use Rattle.heap_model.specs.Reach.{key_holds, edges_of, IsLeastClosed}
 use Rattle.heap_model.specs.Entries.{full_keys, left_reach, DoneAllowed}
 use Rattle.heap_model.specs.History.{state_after}
-use Rattle.heap_model.specs.WellFormed.{HaveNodes, IsWellFormed}
+use Rattle.heap_model.specs.WellFormed.{IsWellFormed}
 use Rattle.heap_model.proofs.Graphs.GraphLemmas.{same_label-true, same_label_refl}
 use Rattle.heap_model.proofs.Graphs.NamedLemmas.{have_append, have_left}
 use Rattle.heap_model.proofs.Reach.ReachLemmas.{or_cases, or_left, never_true, not_true, has-append_left, has-append_right, has-flat_map_cases, keys_all, reachable_roots, reachable_more, reach_law}
