@@ -1,0 +1,13 @@
+pub mod SplitLemmas
+pub mod CellLemmas
+pub mod RegistrationLemmas
+pub mod OrderLemmas
+pub mod LastLemmas
+pub mod ApartLemmas
+pub mod LostLemmas
+pub mod WeakLemmas
+pub mod ReadLemmas
+pub mod HeldLemmas
+pub mod NewestLemmas
+pub mod Rows
+pub mod TogetherLemmas
