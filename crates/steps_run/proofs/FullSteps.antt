@@ -15,6 +15,7 @@ use Rattle.heap_model.specs.Commands.{is_allocation, MayBeFull}
 use Rattle.heap_model.proofs.Graphs.GraphLemmas.{same_label_refl}
 use Rattle.heap_model.proofs.Reach.ReachLemmas.{or_left, or_right}
 use Rattle.heap_model.proofs.Histories.FreshLemmas.{fresh_stays}
+use Rattle.heap_model.proofs.Histories.ShapeAfterLemmas.{shaped-history}
 use Rattle.cycle_laws.specs.Fullness.{kept_labels, HoldsKept, AllHoldKept, IsNone, Differ}
 use Rattle.cycle_laws.specs.Pools.{has_pool, InPools, AllHaveOwner}
 use Rattle.cycle_laws.proofs.Keeping.{few_pools, kept_counts}
@@ -232,3 +233,10 @@ module _ (k : Config) (s : Words) (r : Rule k s) (id : ℕ) (hist : List Entry) 
 
       total : (l n c f z : ℕ) → k.pools ≤ l + c + f → f ≤ z → l ≡ n → k.pools ≤ n + z + c
       total l n c f z most few same = omega arith
+
+  -- the pools are no more than the blocks that were ever made, one for each class and domain, and the reserve
+  pub many_made : (f : ℕ) → x.seen.free ≡ Some f → f ≤ reserve (sizes_in k) → k.pools ≤ length now.graph + reserve (sizes_in k) + class_count * k.domains
+  many_made f found few = total (length kept) now.kept (length now.graph) (class_count * k.domains) f (reserve (sizes_in k)) (few_kept f found) few (kept_counts (sizes_in k) r.account.log r.whole.legal).count (shaped-history (sizes_in k) r.account.log r.limits).kept_bound
+    where
+      total : (l n g c f z : ℕ) → k.pools ≤ l + c + f → f ≤ z → l ≡ n → n ≤ g → k.pools ≤ g + z + c
+      total l n g c f z most few same bound = omega arith
