@@ -1,5 +1,5 @@
 -- What the contracts of step calls have in common.
-use Rattle.std.specs.Prelude.{◌≡◌, ℕ, ◌+◌, ◌<◌, ◌≤◌, false, List, [], None}
+use Rattle.std.specs.Prelude.{◌≡◌, ℕ, ◌+◌, ◌<◌, ◌≤◌, false, List, [], ◌∷◌, ◌++◌, None}
 use Rattle.heap_model.specs.declared.entry.Entry.{Entry}
 use Rattle.heap_model.specs.declared.reply.Applied.{Applied}
 use Rattle.heap_model.specs.Domains.{domain_at}
@@ -14,6 +14,7 @@ use Rattle.heap_rule.specs.declared.view.Own.{Own}
 use Rattle.heap_rule.specs.Limits.{sizes_in}
 use Rattle.heap_rule.specs.Layout.{heap_words}
 use Rattle.heap_rule.specs.declared.phase.Kind.TheVariants.{Run}
+use Rattle.heap_rule.specs.declared.phase.Note.{Note}
 use Rattle.heap_rule.specs.declared.phase.Stage.TheVariants.{In}
 use Rattle.heap_rule.specs.Changes.{value_at, changed}
 use Rattle.heap_rule.specs.Rule.{state_of}
@@ -63,6 +64,10 @@ with_own x own = record x { own = own }
 
 abbrev pub with_registers : DomainView → List Value → DomainView
 with_registers x registers = record x { own = record x.own { registers = registers } }
+
+-- the domain with one note more, and all else as it was
+abbrev pub noted : DomainView → Note → DomainView
+noted x note = record x { seen = record x.seen { notes = x.seen.notes ++ note ∷ [] } }
 
 -- The entry stands at the step: the front ends with it, and the changes were made with the value that was read
 pub record Entered (k : Config) (e : Entry) (answer : Applied) (read : Value) (changes : List Change) (x y : DomainView) : Type 0 where

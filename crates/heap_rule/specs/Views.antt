@@ -18,6 +18,7 @@ use Rattle.heap_rule.specs.declared.view.Scan.TheVariants.{Idle}
 use Rattle.heap_rule.specs.declared.view.Share.{Share}
 use Rattle.heap_rule.specs.declared.view.View.{View}
 use Rattle.heap_rule.specs.declared.phase.Kind.TheVariants.{Run}
+use Rattle.heap_rule.specs.declared.phase.Progress.{Progress}
 use Rattle.heap_rule.specs.declared.phase.Stage.TheVariants.{In}
 
 -- the fact holds of each view, with its seat's number
@@ -59,13 +60,17 @@ one k h x = record { config = k; history = h; domains = x ∷ [] }
 abbrev pub pending_room : Config → ℕ
 pending_room k = k.domains * k.minor_words / 4
 
+-- before the first collection
+abbrev pub no_collection : Progress
+no_collection = record { cut = false; whole = true; unswept = false; armed = false }
+
 -- what a domain knows of a phase in which it has done nothing
 abbrev pub fresh_share : Share
-fresh_share = record { colours = None; armed = None; known = []; weak = None; changed = None; blocks = None; words = None; rotated = false; owes = false; places_seen = []; found_head = None; scan = Idle; walk = record { pool = 0; slot = 0 }; own_pool = None; roots = []; marked = []; darkenings = 0; counted = []; counted_to = record { pool = 0; slot = 0 }; counted_words = 0; added_blocks = false; added_words = false; held = 0; vacant = 0; cleaning = None; kept = 0; waiting = []; cut = false; whole = true; unswept = false; reaping = Outside; swept = [] }
+fresh_share = record { colours = None; armed = None; known = []; weak = None; changed = None; blocks = None; words = None; rotated = false; owes = false; places_seen = []; found_head = None; scan = Idle; walk = record { pool = 0; slot = 0 }; own_pool = None; roots = []; marked = []; darkenings = 0; counted = []; counted_to = record { pool = 0; slot = 0 }; counted_words = 0; added_blocks = false; added_words = false; held = 0; vacant = 0; cleaning = None; kept = 0; waiting = []; progress = no_collection; reaping = Outside; swept = [] }
 
 -- and of the next, of which it has forgotten the last
 abbrev pub voided : Share → Share
-voided share = record fresh_share { cut = share.cut; whole = share.whole; unswept = share.unswept }
+voided share = record fresh_share { progress = share.progress }
 
 -- the lists of a domain that has registered nothing
 abbrev pub no_finalisers : ℕ → Finalisers

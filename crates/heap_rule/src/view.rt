@@ -2,7 +2,7 @@
 ghost use Rattle.std.specs.Prelude.{◌≡◌};
 
 use crate::config::Config;
-use crate::phase::{Note, Stage};
+use crate::phase::{Note, Progress, Stage};
 use heap_model::entry::Entry;
 use heap_model::label::Label;
 use heap_words::{Colours, Value};
@@ -326,8 +326,8 @@ pub enum Known {
     },
 }
 
-/// What a domain knows of the present phase. It forgets all of it but the cut, whether the cycle is
-/// whole, and whether a sweep is owed, when it arrives.
+/// What a domain knows of the present phase. It forgets all of it but how far a collection has come
+/// when it arrives.
 pub struct Share {
     /// The meanings of the colours, once it has loaded them.
     pub colours: Option<Colours>,
@@ -378,12 +378,8 @@ pub struct Share {
     pub kept: u32,
     /// The places of the queue whose blocks are marked.
     pub waiting: LinkedList<u32>,
-    /// Whether domain 0 has made the cut of this collection.
-    pub cut: bool,
-    /// Whether the collection began in this pause.
-    pub whole: bool,
-    /// Whether the last collection ended before its garbage was freed, and it may not all be freed yet.
-    pub unswept: bool,
+    /// How far domain 0 has brought a collection.
+    pub progress: Progress,
     /// How far it is in sweeping a pool.
     pub reaping: Reaping,
     /// The places that it has swept in this phase, the last one first.

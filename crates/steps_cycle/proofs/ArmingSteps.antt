@@ -17,7 +17,7 @@ use Rattle.heap_rule.specs.declared.view.Listing.{Listing}
 use Rattle.heap_rule.specs.declared.view.Share.{Share}
 use Rattle.heap_rule.specs.Beside.{RunsBeside}
 use Rattle.heap_rule.specs.Copies.{Promoting}
-use Rattle.heap_rule.specs.Cycles.{Cycled, Cycling, Facts, IsCollecting, IsIdle, IsSwept, Knowing, Leading, MayLook, MissesKeys}
+use Rattle.heap_rule.specs.Cycles.{Cycled, Cycling, Facts, HasNoCycle, IsCollecting, IsIdle, IsSwept, Knowing, Leading, MayLook, MissesKeys}
 use Rattle.heap_rule.specs.Layout.{at_address, before_heap, cursor, heap_words, listed}
 use Rattle.heap_rule.specs.Phases.{AtStage, IsOdd, Staged, flag}
 use Rattle.heap_rule.specs.Pools.{Hunter, IsLeading, Lists, Reserved, limit_of}
@@ -65,6 +65,7 @@ module _ (k : Config) (s : Words) (r : Rule k s) (id : ℕ) (hist : List Entry) 
       whole = h.leading.whole;
       armed = λ b e. (may, sym (same_Some c.armed b e));
       unswept = h.leading.unswept;
+      under_way = h.leading.under_way;
     };
     knows = ⊎_elim
         (λ (q : IsIdle x.seen.share). inl (ap (λ (z : Share). record z { armed = Some c.armed }) q))
@@ -116,6 +117,10 @@ module _ (k : Config) (s : Words) (r : Rule k s) (id : ℕ) (hist : List Entry) 
     no_run : c.kind ≡ Run → ⊥
     no_run e = ⊎_elim (λ (f : c.kind ≡ Roots). let clash : Roots ≡ Run = sym f ∙ e in cc)
         (⊎_elim (λ (f : c.kind ≡ Lasts). let clash : Lasts ≡ Run = sym f ∙ e in cc) (λ (f : c.kind ≡ Answer). let clash : Answer ≡ Run = sym f ∙ e in cc)) arms.kind
+
+    no_cycle : HasNoCycle c.kind → ⊥
+    no_cycle none = ⊎_elim (λ (f : c.kind ≡ Roots). subst HasNoCycle f none)
+        (⊎_elim (λ (f : c.kind ≡ Lasts). subst HasNoCycle f none) (λ (f : c.kind ≡ Answer). subst HasNoCycle f none)) arms.kind
 
     calm : Promoting r.account.pause → ⊥
     calm p = not_both r.account.pause.phase (p.0, p.1) arms.odd
@@ -244,6 +249,7 @@ module _ (k : Config) (s : Words) (r : Rule k s) (id : ℕ) (hist : List Entry) 
       whole = l.whole;
       armed = armed_is;
       unswept = l.unswept;
+      under_way = λ _ none. absurd (no_cycle none);
     }
 
     may_look : (stage : Stage) → IsLeading stage → MayLook x.own.number stage

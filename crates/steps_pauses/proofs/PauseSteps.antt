@@ -1,5 +1,5 @@
 -- The steps of a pause keep the rule.
-use Rattle.std.proofs.Common.{◌≡◌, ◌≢◌, ℕ, ◌+◌, ◌*◌, ◌%◌, ◌^◌, ◌<◌, ◌≤◌, ◌⊎◌, List, [], ◌∷◌, ◌++◌, true, false, Option, Some, length, get_or, set, sym, refl, ap, ◌∙◌, subst, inl, inr, ⊎_elim, arith, length-set, get_or-set_same, get_or-set_other, lt_of_not-le, mul-le-mul_right}
+use Rattle.std.proofs.Common.{◌≡◌, ◌≢◌, ℕ, ◌+◌, ◌*◌, ◌%◌, ◌^◌, ◌<◌, ◌≤◌, ◌⊎◌, Bool, List, [], ◌∷◌, ◌++◌, true, false, Option, Some, length, get_or, set, sym, refl, ap, ◌∙◌, subst, inl, inr, ⊎_elim, arith, length-set, get_or-set_same, get_or-set_other, lt_of_not-le, mul-le-mul_right}
 use Rattle.std.specs.Prelude.{bit_or}
 use mathlib.Core.Logic.{dite}
 use native.Mathlib.Decide.{dec_le}
@@ -7,12 +7,15 @@ use mathlib.Core.Option.{some}
 use lib.ListN.{get_elem?}
 use Rattle.atomic_table.specs.Table.{keeps, Allows}
 use Rattle.heap_model.specs.declared.entry.Entry.{Entry}
+use Rattle.heap_model.specs.declared.label.Label.{Label}
+use Rattle.heap_model.specs.declared.state.Mode.TheVariants.{Open, Cut as CutMode}
 use Rattle.heap_model.specs.declared.state.State as model
 use Rattle.heap_model.proofs.Histories.FrontLemmas.{front_whole}
+use Rattle.cycle_laws.specs.Cycle as laws
 use Rattle.heap_rule.specs.declared.config.Config.{Config}
 use Rattle.heap_rule.specs.declared.view.DomainView.{DomainView}
 use Rattle.heap_rule.specs.declared.phase.Kind.{Kind}
-use Rattle.heap_rule.specs.declared.phase.Kind.TheVariants.{Run, Promote, Reset, Sweep, Answer}
+use Rattle.heap_rule.specs.declared.phase.Kind.TheVariants.{Run, Promote, Reset, Roots, Mark, Rounds, Decide, Queued, Clean, Lasts, Sweep, Answer}
 use Rattle.heap_rule.specs.declared.phase.Stage.{Stage}
 use Rattle.heap_rule.specs.declared.phase.Stage.TheVariants.{In, Leads, Gone}
 use Rattle.heap_rule.specs.declared.phase.Note.{Note}
@@ -24,7 +27,8 @@ use Rattle.heap_rule.specs.Places.{Live}
 use Rattle.heap_rule.specs.Cycles.{Cycling, Facts}
 use Rattle.heap_rule.specs.Copies.{nothing_copied}
 use Rattle.heap_rule.specs.declared.view.Copying.{Copying}
-use Rattle.steps_pauses.specs.Pauses.{noted, kind_in, IsGone, IsModeOf, WantTold, AskTold, ArriveMay, Arrived, LookTold, PlanTold, ClearTold, LeadMay, LeadTold, EndedTold}
+use Rattle.heap_rule.specs.Standing.{noted}
+use Rattle.steps_pauses.specs.Pauses.{kind_in, IsGone, IsModeOf, WantTold, AskTold, ArriveMay, Arrived, LookTold, PlanTold, ClearTold, LeadMay, LeadTold, EndedTold}
 use Rattle.heap_rule.specs.Raw.{MayStep, MayStore}
 use Rattle.heap_rule.specs.Rule.{state_of, Rule}
 use Rattle.heap_rule.specs.Views.{one, Tells}
@@ -32,6 +36,7 @@ use Rattle.heap_rule.proofs.Controls.{untouched_same, sum_low, parity, Move, mov
 use Rattle.heap_rule.proofs.Holders.{stock_self}
 use Rattle.steps_pauses.proofs.Arrivals.{arrives}
 use Rattle.heap_rule.proofs.Keeps.{Words, mine, my_good, unmoved, nobody_leads, quiet_in, owes_rests, hunter_as}
+use Rattle.heap_rule.proofs.Notes.{IsLook, asked_note, barrier_note, ended_note, noted_elsewhere, noted_otherwise, noted_rule, want_note}
 use Rattle.heap_rule.proofs.PauseFacts.{not_both}
 use Rattle.steps_pauses.proofs.Leading.{led_rule, led_told}
 use Rattle.steps_pauses.proofs.Arriving.{kind_acts, sharing_looked}
@@ -41,30 +46,6 @@ gone_runs kind e = cc
 
 gone_promotes : (kind : Kind) → ◌≡◌ {A = Stage} (Gone kind) (In Promote) → ⊥
 gone_promotes kind e = cc
-
--- the note says neither that the wishes were taken back nor that the cursor was set back
-record IsLook (n : Note) : Type 0 where
-  not_cleared : ◌≡◌ {A = Option Note} (Some n) (Some Cleared) → ⊥
-  not_set_back : ◌≡◌ {A = Option Note} (Some n) (Some SetBack) → ⊥
-
--- then whoever leaves it hasn't just taken them back, nor set the cursor back
-noted_otherwise : (words : List ℕ) (y : DomainView) (notes : List Note) (n : Note) → y.seen.notes ≡ notes ++ n ∷ [] → IsLook n → TookBack words y
-noted_otherwise words y notes n is other kind leads last = absurd (other.not_cleared (sym (ap last_note is ∙ last_note_end notes n) ∙ last))
-
-noted_elsewhere : (y : DomainView) (notes : List Note) (n : Note) → y.seen.notes ≡ notes ++ n ∷ [] → IsLook n → HasSetBack y → ⊥
-noted_elsewhere y notes n is other back = other.not_set_back (sym (ap last_note is ∙ last_note_end notes n) ∙ back.1)
-
-want_note : (n : ℕ) → IsLook (Want n)
-want_note n = record { not_cleared = λ e. cc; not_set_back = λ e. cc }
-
-asked_note : (n : ℕ) → IsLook (Asked n)
-asked_note n = record { not_cleared = λ e. cc; not_set_back = λ e. cc }
-
-barrier_note : (n : ℕ) → IsLook (Barrier n)
-barrier_note n = record { not_cleared = λ e. cc; not_set_back = λ e. cc }
-
-ended_note : (n : ℕ) → IsLook (Ended n)
-ended_note n = record { not_cleared = λ e. cc; not_set_back = λ e. cc }
 
 cleared_set_back : ◌≡◌ {A = Option Note} (Some Cleared) (Some SetBack) → ⊥
 cleared_set_back e = cc
@@ -79,7 +60,7 @@ noting k slots id word hist x note tells other says s r _ at _ =
       one k hist y,
       keeps,
       tt,
-      unmoved k s word (set s.views id (one k hist y)) (notes_rule k s r id hist x at y.seen.notes s.words (untouched_same s.words) refl r.whole.unwished (noted_otherwise s.words y x.seen.notes n refl (other (get_or s.words word 0))) (λ back. absurd (noted_elsewhere y x.seen.notes n refl (other (get_or s.words word 0)) back)) (λ z _ took. took) refl refl refl),
+      unmoved k s word (set s.views id (one k hist y)) (noted_rule k s r id hist x at n (other (get_or s.words word 0))),
       (says s r at, refl),
     )
 
@@ -96,13 +77,23 @@ leads_in : (a b : Kind) → ◌≡◌ {A = Stage} (Leads a) (In b) → ⊥
 leads_in a b e = cc
 
 -- how far the history is in a phase of a kind
+mode_by : (pass : laws.Pass) (s : model.State) (whole : Bool) (marked : Label → Bool) → laws.Passed pass s whole marked → (s.mode ≡ Open) ⊎ (s.mode ≡ CutMode)
+mode_by laws.First s whole marked p = inl p
+mode_by laws.Second s whole marked p = inr p.decided.seal.mode
+
 mode_of : (kind : Kind) (k : Config) (s : model.State) (live : Live) (t : Tenancy) (c : Cycling) (words : List ℕ) → Facts kind k s live t c words → IsModeOf kind s.mode
 mode_of Run k s live t c words f = f.mode
 mode_of Promote k s live t c words f = f.mode
 mode_of Reset k s live t c words f = f.mode
+mode_of Roots k s live t c words f = f.0.passed
+mode_of Mark k s live t c words f = mode_by c.pass s c.whole c.paint.marks.marked f.0.passed
+mode_of Rounds k s live t c words f = mode_by c.pass s c.whole c.paint.marks.marked f.0.passed
+mode_of Decide k s live t c words f = f.0.decide.mode
+mode_of Queued k s live t c words f = f.0.passed.decided.seal.mode
+mode_of Clean k s live t c words f = f.0.clean.mode
+mode_of Lasts k s live t c words f = f.facts.lasts.mode
 mode_of Sweep k s live t c words f = ⊎_elim (λ g. inr g.0) (λ g. inl g.0) f.since
 mode_of Answer k s live t c words f = f.mode
-mode_of _ k s live t c words f = tt
 
 mode_in : (k : Config) (s : Words) (r : Rule k s) (d arrivals : ℕ) (kind : Kind) → AtStage r.account.pause d arrivals (In kind) → IsModeOf kind (state_of k r.account.log).mode
 mode_in k s r d arrivals kind at =
@@ -202,7 +193,7 @@ looked_at k id hist x gone s r at =
     (parity t.phase))
     (λ not_over. record {
       after = noted x (Barrier b);
-      rule = notes_rule k s r id hist x at notes s.words (untouched_same s.words) refl r.whole.unwished (noted_otherwise s.words (noted x (Barrier b)) x.seen.notes (Barrier b) refl (barrier_note b)) (λ back. absurd (noted_elsewhere (noted x (Barrier b)) x.seen.notes (Barrier b) refl (barrier_note b) back)) (λ z _ took. took) refl refl refl;
+      rule = noted_rule k s r id hist x at (Barrier b) (barrier_note b);
       told = record { waits = λ _. refl; begun = λ over_it. absurd (not_over over_it) };
     })
 
