@@ -161,7 +161,7 @@ module _ (k : Config) (s : Words) (r : Rule k s) (id : ℕ) (hist : List Entry) 
     areas = λ z _ h. h;
     makings = λ z _ _ h. h;
     grid = r.whole.grid;
-    hunter = hunter_as k r.account.tenancy s.words x y refl refl refl refl refl refl g.hunter;
+    hunter = hunter_as k r.account.tenancy s.words x y refl refl refl refl refl refl refl g.hunter;
     hunters = λ z _ g. g.hunter;
     listed = record { all = g.listed.all; own = g.listed.own; lives = g.listed.lives };
     listeds = λ z _ h. h.listed;

@@ -57,7 +57,7 @@ use Rattle.cycle_laws.specs.Beside.{Past}
 use Rattle.heap_rule.specs.Room.{spent_stock, count, drawn_in_all, copied_words, Room, IsUnused, Opened, Drawable}
 use Rattle.heap_model.specs.Domains.{class_count, reserve}
 use Rattle.heap_rule.specs.Layout.{heap_words, at_address}
-use Rattle.heap_rule.specs.Pools.{Holder, Stock, Reserved, Covered, Takes, IsCopying, Latest, DrawsFor, prepared_at, size_of, Tenancy, drawn, owned, Pools, Grid, Drawers, IsLeading, Lists, Resting, Hunts, Hunter, drawn_in, hunting_free, spot_at, IsBefore, limit_of}
+use Rattle.heap_rule.specs.Pools.{Holder, Stock, Reserved, Covered, Takes, IsCopying, Latest, DrawsFor, prepared_at, size_of, Tenancy, drawn, owned, Pools, Grid, Drawers, IsLeading, Lists, Resting, Hunts, Hunter, drawn_in, hunting_free, spot_at, IsBefore, IsFree, limit_of}
 use Rattle.heap_rule.specs.Standing.{with_front}
 use Rattle.heap_rule.specs.Ephemerons.{IsEpheAt, Listed}
 use Rattle.heap_rule.specs.Finalisers.{RefersOld}
@@ -263,20 +263,22 @@ takes_drawable k t words x takes s = let e = takes_even t x takes s in record {
 }
 
 -- a domain that takes blocks writes no list, and nobody does beside it
-pub resting_takes : (k : Config) (words words' : List ℕ) (x y : DomainView) → Takes x.seen.stage → Takes y.seen.stage → (y.seen.stage ≢ In Run → y.seen.free ≡ None) → y.seen.listing ≡ x.seen.listing → Resting k words x → Resting k words' y
-resting_takes k words words' x y takes still free listing r = record {
+pub resting_takes : (k : Config) (words words' : List ℕ) (x y : DomainView) → Takes x.seen.stage → Takes y.seen.stage → (y.seen.stage ≢ In Run → y.seen.free ≡ []) → (y.seen.stage ≢ In Run → y.seen.spare ≡ None) → y.seen.listing ≡ x.seen.listing → Resting k words x → Resting k words' y
+resting_takes k words words' x y takes still free spare listing r = record {
   hunt = λ n. absurd (n still);
   free = free;
+  spare = spare;
   lists = λ l e. absurd (takes_leads x.seen.stage takes (r.lists l (sym listing ∙ e)).leads);
 }
 
 pub resting_runs : (k : Config) (words words' : List ℕ) (x y : DomainView) → x.seen.stage ≡ In Run → y.seen.stage ≡ In Run → y.seen.listing ≡ x.seen.listing → Resting k words x → Resting k words' y
-resting_runs k words words' x y runs still listing r = resting_takes k words words' x y (inl runs) (inl still) (λ n. absurd (n still)) listing r
+resting_runs k words words' x y runs still listing r = resting_takes k words words' x y (inl runs) (inl still) (λ n. absurd (n still)) (λ n. absurd (n still)) listing r
 
 pub resting_other : (k : Config) (t : Pause) (words words' : List ℕ) (x z : DomainView) → Takes x.seen.stage → Staged t x → Staged t z → Resting k words z → Resting k words' z
 resting_other k t words words' x z takes sx sz r = record {
   hunt = r.hunt;
   free = r.free;
+  spare = r.spare;
   lists = λ l e. absurd (nobody_leads t x z takes sx sz (r.lists l e).leads);
 }
 
@@ -344,13 +346,14 @@ pub lists_control : (k : Config) (words words' : List ℕ) (number : ℕ) (stage
 lists_control k words words' number stage l c s = lists_same k words words' number stage l (c 6 (omega arith)) (c 7 (omega arith)) (λ i h. let g : i < k.pools = h in c (11 + i) (omega arith)) (λ q h. let g : q < k.pools = h in c (11 + k.pools + q) (omega arith)) s
 
 pub resting_lists : (k : Config) (words words' : List ℕ) (z : DomainView) → ((number : ℕ) (stage : Stage) (l : Listing) → Lists k words number stage l → Lists k words' number stage l) → Resting k words z → Resting k words' z
-resting_lists k words words' z lists r = record { hunt = r.hunt; free = r.free; lists = λ l e. lists z.own.number z.seen.stage l (r.lists l e) }
+resting_lists k words words' z lists r = record { hunt = r.hunt; free = r.free; spare = r.spare; lists = λ l e. lists z.own.number z.seen.stage l (r.lists l e) }
 
 -- a domain that stands where it stood, and knows the same of the pools
-pub resting_as : (k : Config) (words : List ℕ) (x y : DomainView) → y.own.number ≡ x.own.number → y.seen.stage ≡ x.seen.stage → y.seen.hunt ≡ x.seen.hunt → y.seen.free ≡ x.seen.free → y.seen.listing ≡ x.seen.listing → Resting k words x → Resting k words y
-resting_as k words x y number stage hunt free listing r = record {
+pub resting_as : (k : Config) (words : List ℕ) (x y : DomainView) → y.own.number ≡ x.own.number → y.seen.stage ≡ x.seen.stage → y.seen.hunt ≡ x.seen.hunt → y.seen.free ≡ x.seen.free → y.seen.spare ≡ x.seen.spare → y.seen.listing ≡ x.seen.listing → Resting k words x → Resting k words y
+resting_as k words x y number stage hunt free spare listing r = record {
   hunt = λ n. hunt ∙ r.hunt (λ takes. n (subst Takes (sym stage) takes));
   free = λ n. free ∙ r.free (λ e. n (stage ∙ e));
+  spare = λ n. spare ∙ r.spare (λ e. n (stage ∙ e));
   lists = λ l e. subst (λ (z : ℕ × Stage). Lists k words z.0 z.1 l) (λ i. (sym number i, sym stage i)) (r.lists l (sym listing ∙ e));
 }
 
@@ -407,10 +410,11 @@ pub record Controls (k : Config) (all : Account) (words words' : List ℕ) : Typ
   pub set_back : (z : DomainView) → Staged all.pause z → HasSetBack z → cursor words ≤ limit_of k (listed words) → cursor words' ≤ limit_of k (listed words')
 
 -- what a domain knows of its pools, by other data of it
-pub hunter_as : (k : Config) (t : Tenancy) (words : List ℕ) (x y : DomainView) → y.own.number ≡ x.own.number → y.seen.hunt ≡ x.seen.hunt → y.own.looked ≡ x.own.looked → y.seen.free ≡ x.seen.free → y.own.prepared ≡ x.own.prepared → length y.own.pending.items ≡ length x.own.pending.items
+pub hunter_as : (k : Config) (t : Tenancy) (words : List ℕ) (x y : DomainView) → y.own.number ≡ x.own.number → y.seen.hunt ≡ x.seen.hunt → y.own.looked ≡ x.own.looked → y.seen.free ≡ x.seen.free → y.seen.spare ≡ x.seen.spare → y.own.prepared ≡ x.own.prepared → length y.own.pending.items ≡ length x.own.pending.items
     → Hunter k t words x → Hunter k t words y
-hunter_as k t words x y number hunt looked free prepared pending h = record {
-  free = λ f e. h.free f (sym free ∙ e);
+hunter_as k t words x y number hunt looked free spare prepared pending h = record {
+  free = λ f e. h.free f (ap (λ (l : List ℕ). slice_get l 0) (sym free) ∙ e);
+  spare = λ z e. subst (λ (d : ℕ). IsFree k t.holder words d z) (sym number) (h.spare z (sym spare ∙ e));
   hunt = subst (λ (z : ℕ × Hunt). Hunts k t words z.0 z.1) (λ i. (sym number i, sym hunt i)) h.hunt;
   drawn_alone = λ q e. ap drawn_in hunt ∙ h.drawn_alone q (e ∙ ap drawn number);
   taken = λ q c slot e inside low. h.taken q c slot (e ∙ ap (λ (d : ℕ). owned d c) number) inside (subst (λ (l : List Spot). IsBefore q slot (spot_at l c)) looked low);
@@ -738,6 +742,7 @@ module _ (k : Config) (s : Words) (r : Rule k s) (id : ℕ) (hist : List Entry) 
     pub number : y.own.number ≡ x.own.number
     pub hunt : y.seen.hunt ≡ x.seen.hunt
     pub free : y.seen.free ≡ x.seen.free
+    pub spare : y.seen.spare ≡ x.seen.spare
     pub listing : y.seen.listing ≡ x.seen.listing
     pub front : IsFrontOf x.own.number r.account.log y.seen.front
     pub still : Still r.account.log y
@@ -793,7 +798,7 @@ module _ (k : Config) (s : Words) (r : Rule k s) (id : ℕ) (hist : List Entry) 
         cycle = o.cycle;
       }
       (knows_front y o.number o.front)
-      record { stood = o.stood; area = o.area; making = o.making; staged = staged_as r.account.pause x y o.number o.arrivals o.stage my_good.staged; still = o.still; hunter = o.hunter; resting = resting_as k words' x y o.number o.stage o.hunt o.free o.listing (resting_lists k s.words words' x o.controls.lists my_good.resting); took_back = λ kind leads last. o.controls.want ∙ my_good.took_back kind (sym o.stage ∙ leads) (sym (ap last_note o.notes) ∙ last); owes = owes_as k r.account.live x y o.number o.copying o.stage o.remembered my_good.owes; rooted = rooted_as k r.account.pause x y o.registers o.finalisers o.arrivals o.remembered my_good.rooted; set_back = λ h. o.controls.set_back x my_good.staged (sym o.stage ∙ h.0, sym (ap last_note o.notes) ∙ h.1) (my_good.set_back (sym o.stage ∙ h.0, sym (ap last_note o.notes) ∙ h.1)); sharing = o.sharing; listed = listed_as r.account.live r.account.tenancy.holder r.account.tenancy.garbage x.own.number y.own.number x.own.ephemerons.items y.own.ephemerons.items o.number (ap (λ (b : Bounded ℕ). b.items) o.ephemerons) my_good.listed; sweeps = o.sweeps }
+      record { stood = o.stood; area = o.area; making = o.making; staged = staged_as r.account.pause x y o.number o.arrivals o.stage my_good.staged; still = o.still; hunter = o.hunter; resting = resting_as k words' x y o.number o.stage o.hunt o.free o.spare o.listing (resting_lists k s.words words' x o.controls.lists my_good.resting); took_back = λ kind leads last. o.controls.want ∙ my_good.took_back kind (sym o.stage ∙ leads) (sym (ap last_note o.notes) ∙ last); owes = owes_as k r.account.live x y o.number o.copying o.stage o.remembered my_good.owes; rooted = rooted_as k r.account.pause x y o.registers o.finalisers o.arrivals o.remembered my_good.rooted; set_back = λ h. o.controls.set_back x my_good.staged (sym o.stage ∙ h.0, sym (ap last_note o.notes) ∙ h.1) (my_good.set_back (sym o.stage ∙ h.0, sym (ap last_note o.notes) ∙ h.1)); sharing = o.sharing; listed = listed_as r.account.live r.account.tenancy.holder r.account.tenancy.garbage x.own.number y.own.number x.own.ephemerons.items y.own.ephemerons.items o.number (ap (λ (b : Bounded ℕ). b.items) o.ephemerons) my_good.listed; sweeps = o.sweeps }
       (λ z _ other g. record { stood = g.stood; area = g.area; making = o.makings z other g.area g.making; staged = g.staged; still = g.still; hunter = o.hunters z other g; resting = resting_lists k s.words words' z o.controls.lists g.resting; took_back = λ kind leads last. o.controls.want ∙ g.took_back kind leads last; owes = g.owes; rooted = g.rooted; set_back = λ h. o.controls.set_back z g.staged h (g.set_back h); sharing = o.sharings z other g; listed = g.listed; sweeps = g.sweeps })
 
   -- a step that leaves all but the front, which is then some front of the history
@@ -802,6 +807,7 @@ module _ (k : Config) (s : Words) (r : Rule k s) (id : ℕ) (hist : List Entry) 
     number = refl;
     hunt = refl;
     free = refl;
+    spare = refl;
     listing = refl;
     front = is;
     still = still;
@@ -821,7 +827,7 @@ module _ (k : Config) (s : Words) (r : Rule k s) (id : ℕ) (hist : List Entry) 
     making = record { fits = my_good.making.fits; written = my_good.making.written };
     makings = λ z _ _ p. p;
     grid = r.whole.grid;
-    hunter = hunter_as k r.account.tenancy s.words x (with_front x front) refl refl refl refl refl refl my_good.hunter;
+    hunter = hunter_as k r.account.tenancy s.words x (with_front x front) refl refl refl refl refl refl refl my_good.hunter;
     hunters = λ z _ g. g.hunter;
     cycle = r.whole.cycle;
     sharing = my_good.sharing;
@@ -830,9 +836,9 @@ module _ (k : Config) (s : Words) (r : Rule k s) (id : ℕ) (hist : List Entry) 
   }
 
   -- What a step owes that changes the holders of pools or what the domain knows of them. No entry stands and nothing comes to live or moves
-  pub record Holds (looked : List Spot) (hunt : Hunt) (free : Option ℕ) (words' : List ℕ) (t' : Tenancy) : Type 0 where
+  pub record Holds (looked : List Spot) (hunt : Hunt) (free : List ℕ) (words' : List ℕ) (t' : Tenancy) : Type 0 where
     pub takes : Takes x.seen.stage
-    pub known_free : x.seen.stage ≢ In Run → free ≡ None
+    pub known_free : x.seen.stage ≢ In Run → free ≡ []
     pub wide : length words' ≡ length s.words
     pub phases : Phases k r.account.pause words'
     pub want : want words' ≡ want s.words
@@ -855,7 +861,7 @@ module _ (k : Config) (s : Words) (r : Rule k s) (id : ℕ) (hist : List Entry) 
     pub hunters : (z : DomainView) → z.own.number ≢ x.own.number → Good k r.account s.words z → Hunter k t' words' z
     pub listeds : (z : DomainView) → Good k r.account s.words z → Listed r.account.live t'.holder t'.garbage z.own.number z.own.ephemerons.items
 
-  pub holds_again : (looked : List Spot) (hunt : Hunt) (free : Option ℕ) (words' : List ℕ) (t' : Tenancy) → Holds looked hunt free words' t' → Rule k record { words = words'; homes = s.homes; views = set s.views id (one k hist (hunting_free x looked hunt free)) }
+  pub holds_again : (looked : List Spot) (hunt : Hunt) (free : List ℕ) (words' : List ℕ) (t' : Tenancy) → Holds looked hunt free words' t' → Rule k record { words = words'; homes = s.homes; views = set s.views id (one k hist (hunting_free x looked hunt free)) }
   holds_again looked hunt free words' t' o =
       let own_making = o.makings x my_good.making in
       let in_kind = takes_kind x.seen.stage o.takes in
@@ -898,7 +904,7 @@ module _ (k : Config) (s : Words) (r : Rule k s) (id : ℕ) (hist : List Entry) 
         staged = record { arrivals = my_good.staged.arrivals; stage = my_good.staged.stage };
         still = my_good.still;
         hunter = o.hunter;
-        resting = resting_takes k s.words words' x (hunting_free x looked hunt free) o.takes o.takes o.known_free refl my_good.resting;
+        resting = resting_takes k s.words words' x (hunting_free x looked hunt free) o.takes o.takes o.known_free my_good.resting.spare refl my_good.resting;
         took_back = λ kind leads last. o.want ∙ my_good.took_back kind leads last;
         owes = owes_as k r.account.live x (hunting_free x looked hunt free) refl refl refl refl my_good.owes;
         rooted = my_good.rooted;

@@ -2,7 +2,7 @@
 use Rattle.std.specs.Prelude.{◌≡◌, ℕ, ◌+◌, ◌<◌, ◌≤◌, false, List, [], ◌∷◌, ◌++◌, None}
 use Rattle.heap_model.specs.declared.entry.Entry.{Entry}
 use Rattle.heap_model.specs.declared.reply.Applied.{Applied}
-use Rattle.heap_model.specs.Domains.{domain_at}
+use Rattle.heap_model.specs.Domains.{domain_at, register}
 use Rattle.heap_model.specs.History.{Legal}
 use Rattle.heap_model.specs.Fronts.{IsFrontOf, Answers, HoldsFields}
 use Rattle.heap_words.specs.declared.value.Value.{Value}
@@ -16,6 +16,7 @@ use Rattle.heap_rule.specs.Layout.{heap_words}
 use Rattle.heap_rule.specs.declared.phase.Kind.TheVariants.{Run}
 use Rattle.heap_rule.specs.declared.phase.Note.{Note}
 use Rattle.heap_rule.specs.declared.phase.Stage.TheVariants.{In}
+use Rattle.heap_rule.specs.Places.{Shows}
 use Rattle.heap_rule.specs.Changes.{value_at, changed}
 use Rattle.heap_rule.specs.Rule.{state_of}
 use Rattle.heap_rule.specs.Token.{Holds}
@@ -41,6 +42,10 @@ pub record Acts (k : Config) (x : DomainView) : Type 0 where
 pub record IsAt (x : DomainView) (r a : ℕ) : Type 0 where
   pub few : r < 16
   pub holds : value_at x.own.registers r ≡ Ref a
+
+-- what the domain's registers hold shows what they hold in the state after its front: an integer that integer, an address some block, and nothing nothing
+abbrev pub ShowsRegisters : Config → DomainView → Type 0
+ShowsRegisters k x = (r : ℕ) → r < 16 → Shows (value_at x.own.registers r) (register (state_of k x.seen.front) x.own.number r)
 
 -- field i of the plain or raw block in register r, of which the size is known
 pub record FieldMay (k : Config) (x : DomainView) (at r i : ℕ) : Type 0 where

@@ -1,6 +1,6 @@
 -- The views of seats: what each knows of the history and of the domains that it stands for.
 use Rattle.heap_model.specs.Domains.{class_count}
-use Rattle.std.specs.Prelude.{◌≡◌, ◌≢◌, ℕ, zero, suc, ◌+◌, ◌*◌, ◌/◌, ◌<◌, List, [], ◌∷◌, ◌++◌, replicate, true, false, None}
+use Rattle.std.specs.Prelude.{◌≡◌, ◌≢◌, ℕ, zero, suc, ◌+◌, ◌*◌, ◌/◌, ◌<◌, List, [], ◌∷◌, ◌++◌, replicate, true, false, Option, Some, None}
 use mathlib.Core.Option.{some}
 use lib.ListN.{get_elem?}
 use Rattle.atomic_table.specs.Table.{Me, Step}
@@ -16,6 +16,7 @@ use Rattle.heap_rule.specs.declared.view.Hunt.TheVariants.{Rests}
 use Rattle.heap_rule.specs.declared.view.Reaping.TheVariants.{Outside}
 use Rattle.heap_rule.specs.declared.view.Scan.TheVariants.{Idle}
 use Rattle.heap_rule.specs.declared.view.Share.{Share}
+use Rattle.heap_rule.specs.declared.view.Spare.{Spare}
 use Rattle.heap_rule.specs.declared.view.View.{View}
 use Rattle.heap_rule.specs.declared.phase.Kind.TheVariants.{Run}
 use Rattle.heap_rule.specs.declared.phase.Progress.{Progress}
@@ -76,6 +77,11 @@ voided share = record fresh_share { progress = share.progress }
 abbrev pub no_finalisers : ℕ → Finalisers
 no_finalisers room = record { finals = record { items = []; room = room }; lasts = record { items = []; room = room }; queue = record { items = []; room = room } }
 
+-- the free place of which a domain knows at the start: that behind the shared block's, which is domain 0's
+abbrev pub first_spare : ℕ → Option Spare
+first_spare zero = Some (record { pool = 0; class = 3; slot = 1 })
+first_spare (suc d) = None
+
 -- a domain at the start: register 0 holds the shared block, which is at the address 1
 abbrev pub opening_view : Config → ℕ → DomainView
 opening_view k d = record {
@@ -93,7 +99,7 @@ opening_view k d = record {
     finalisers = no_finalisers k.finals;
     swept = record { listed = 0; spot = record { pool = k.pools; slot = 0 } };
   };
-  seen = record { front = []; made = []; stage = In Run; notes = []; hunt = Rests; free = None; listing = None; copying = record { met = []; pending = []; copied = [] }; remembered = []; share = fresh_share };
+  seen = record { front = []; made = []; stage = In Run; notes = []; hunt = Rests; free = []; spare = first_spare d; listing = None; copying = record { met = []; pending = []; copied = [] }; remembered = []; share = fresh_share };
 }
 
 -- n domains from d on

@@ -62,6 +62,14 @@ pub struct Spot {
     pub slot: u32,
 }
 
+/// A place of a pool, for blocks of a class.
+#[derive(Clone, Copy, Debug, PartialEq, Eq)]
+pub struct Spare {
+    pub pool: u32,
+    pub class: u32,
+    pub slot: u32,
+}
+
 /// How far a domain has swept since it last arrived before the colours were rotated: so many of its
 /// listed ephemerons, and each own place before the spot, hold no garbage. No own pool is left to sweep
 /// where the spot is behind the last pool.
@@ -270,6 +278,8 @@ pub enum NextKey {
 /// How far a domain is in an ephemeron of which it empties the keys that aren't marked.
 pub struct Cleaning {
     pub block: u32,
+    /// Its label, once the domain has loaded it.
+    pub label: Option<Label>,
     /// So many keys it has looked at.
     pub done: u32,
     pub count: u32,
@@ -398,8 +408,12 @@ pub struct Seen {
     pub notes: LinkedList<Note>,
     /// How far the domain is in taking a free block of the pools.
     pub hunt: Hunt,
-    /// How many pools were free when the domain last looked, since it last arrived.
-    pub free: Option<u64>,
+    /// How many pools were free each time that the domain looked since it last arrived, the last time
+    /// first.
+    pub free: LinkedList<u64>,
+    /// A place of an own pool that was free when the heap started. It stays so until the domain arrives
+    /// or makes a block in a pool.
+    pub spare: Option<Spare>,
     /// The list of free pools, since the domain began to write it in this phase.
     pub listing: Option<Listing>,
     /// What it has met and owes in a collection of young blocks.

@@ -220,9 +220,9 @@ taken_puts k class a n dst old mid new least t registers = record {
 pub has_still : (k : Config) (class : ℕ) (x y z : DomainView) → HasPlace k class x y → z.seen.free ≡ y.seen.free → z.own.swept ≡ y.own.swept → HasPlace k class x z
 has_still k class x y z has same next = ⊎_elim
     (λ (o : FoundOwn k class x y). inl (record { left = o.left; unseen = same ∙ o.unseen }))
-    (λ (u : Unreserved k y ⊎ FoundSwept k x y). inr (⊎_elim
-    (λ (u : Unreserved k y). inl (record { free = u.free; found = same ∙ u.found; more = u.more }))
-    (λ (f : FoundSwept k x y). inr (record { left = f.left; done = subst (λ (s : Swept). k.pools ≤ s.spot.pool) (sym next) f.done; free = f.free; reserved = record { found = same ∙ f.reserved.found; few = f.reserved.few } }))
+    (λ (u : Unreserved k x y ⊎ FoundSwept k x y). inr (⊎_elim
+    (λ (u : Unreserved k x y). inl (record { free = u.free; found = (u.found.0, same ∙ u.found.1); more = u.more }))
+    (λ (f : FoundSwept k x y). inr (record { left = f.left; done = subst (λ (s : Swept). k.pools ≤ s.spot.pool) (sym next) f.done; free = f.free; reserved = record { found = (f.reserved.found.0, same ∙ f.reserved.found.1); few = f.reserved.few } }))
     u))
     has
 

@@ -326,8 +326,8 @@ module _ (k : Config) (s : Words) (r : Rule k s) (id : ℕ) (hist : List Entry) 
           making = record { fits = m.fits; written = m.written };
           staged = record { arrivals = good.staged.arrivals; stage = good.staged.stage };
           still = good.still;
-          hunter = hunter_as k r.account.tenancy ws x y refl refl refl refl refl refl (hunters x good.hunter);
-          resting = resting_as k ws x y refl refl refl refl refl (resting_lists k s.words ws x lists good.resting);
+          hunter = hunter_as k r.account.tenancy ws x y refl refl refl refl refl refl refl (hunters x good.hunter);
+          resting = resting_as k ws x y refl refl refl refl refl refl (resting_lists k s.words ws x lists good.resting);
           took_back = λ kind leads last. other 0 (λ e. omega arith) ∙ good.took_back kind leads last;
           owes = owes_as k r.account.live x y refl refl refl refl good.owes;
           rooted = good.rooted;

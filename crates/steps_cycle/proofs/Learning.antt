@@ -191,7 +191,7 @@ module _ (k : Config) (s : Words) (r : Rule k s) (id : ℕ) (hist : List Entry) 
         staged = record { arrivals = g.staged.arrivals; stage = g.staged.stage };
         still = g.still;
         free = λ f e. e;
-        resting = let rest = resting_untouched k s.words words' x o.untouched g.resting in record { hunt = rest.hunt; free = rest.free; lists = rest.lists };
+        resting = let rest = resting_untouched k s.words words' x o.untouched g.resting in record { hunt = rest.hunt; free = rest.free; spare = rest.spare; lists = rest.lists };
         reserved = reserved_untouched k r.account.pause t s.words words' o.untouched r.whole.pools r.whole.reserved;
         covered = covered_untouched k r.account.pause t s.words words' o.untouched r.whole.pools r.whole.covered;
         drawers = r.whole.drawers;
@@ -201,7 +201,7 @@ module _ (k : Config) (s : Words) (r : Rule k s) (id : ℕ) (hist : List Entry) 
           to_run = λ j odd led runs. counts.1 ∙ r.whole.drawable.to_run j odd led runs;
           to_copy = λ j odd led copies. low_untouched k s.words words' o.untouched (r.whole.drawable.to_copy j odd led copies);
         };
-        hunter = hunter_as k t words' x y refl refl refl refl refl refl (hunter_untouched k t s.words words' x o.untouched g.hunter);
+        hunter = hunter_as k t words' x y refl refl refl refl refl refl refl (hunter_untouched k t s.words words' x o.untouched g.hunter);
         stocks = λ d _. stock_self t.stock d;
         others = λ z _ _ st. st;
         unwished = λ j odd led runs. o.want_same ∙ r.whole.unwished j odd led runs;

@@ -175,6 +175,7 @@ module _ (k : Config) (s : Words) (r : Rule k s) (id : ℕ) (hist : List Entry) 
       hunt = subst (Hunts k r.account.tenancy words' z.own.number) (sym rests) tt;
       drawn_alone = h.drawn_alone;
       free = λ f e. subst (λ (m : ℕ × ℕ). (m.0 ≤ f + m.1) × (m.0 ≤ f + limit_of k m.0) × (f ≤ m.0)) (λ i. (sym (control 6 (omega arith)) i, sym (control 7 (omega arith)) i)) (h.free f e);
+      spare = λ u e. let f = h.spare u e in record { own_is = f.own_is; inside = f.inside; free = free_stays (place_in u.pool u.class u.slot) f.free };
       taken = λ q c slot is inside before. full_stays (place_in q c slot) (h.taken q c slot is inside before);
       holds = h.holds;
       prepared = h.prepared;
@@ -231,8 +232,8 @@ module _ (k : Config) (s : Words) (r : Rule k s) (id : ℕ) (hist : List Entry) 
           making = record { fits = own_making.fits; written = own_making.written };
           staged = record { arrivals = g.staged.arrivals; stage = g.staged.stage };
           still = g.still;
-          hunter = hunter_as k r.account.tenancy words' x y refl refl refl refl refl refl own_hunter;
-          resting = resting_as k words' x y refl refl refl refl refl (resting_lists k s.words words' x controls.lists g.resting);
+          hunter = hunter_as k r.account.tenancy words' x y refl refl refl refl refl refl refl own_hunter;
+          resting = resting_as k words' x y refl refl refl refl refl refl (resting_lists k s.words words' x controls.lists g.resting);
           took_back = λ kind leads last. controls.want ∙ g.took_back kind leads last;
           owes = owes_as k r.account.live x y refl refl refl refl g.owes;
           rooted = g.rooted;

@@ -40,12 +40,13 @@ use Rattle.heap_rule.proofs.Sharings.{SameCycle, cycle_words}
 use Rattle.std.proofs.Math.Nat.{not-le_of_lt}
 
 -- a domain that takes no block and knows nothing of how many are free
-pub rests_hunter : (k : Config) (t : Tenancy) (words words' : List ℕ) (z : DomainView) → SameHeap k words words' → z.seen.hunt ≡ Rests → z.seen.free ≡ None → Hunter k t words z → Hunter k t words' z
+pub rests_hunter : (k : Config) (t : Tenancy) (words words' : List ℕ) (z : DomainView) → SameHeap k words words' → z.seen.hunt ≡ Rests → z.seen.free ≡ [] → Hunter k t words z → Hunter k t words' z
 rests_hunter k t words words' z same rests free h = record {
   hunt = subst (Hunts k t words' z.own.number) (sym rests) tt;
   drawn_alone = h.drawn_alone;
   taken = λ q c slot is inside low e. h.taken q c slot is inside low (sym (same (place_in q c slot) (omega arith)) ∙ e);
-  free = λ f e. absurd (none-some f (sym free ∙ e));
+  free = λ f e. absurd (none-some f (ap (λ (l : List ℕ). slice_get l 0) (sym free) ∙ e));
+  spare = λ u e. let f = h.spare u e in record { own_is = f.own_is; inside = f.inside; free = same (place_in u.pool u.class u.slot) (omega arith) ∙ f.free };
   holds = h.holds;
   prepared = h.prepared;
   claims = h.claims;
@@ -162,8 +163,8 @@ module _ (k : Config) (s : Words) (r : Rule k s) (id : ℕ) (hist : List Entry) 
         making = record { fits = making.fits; written = making.written };
         staged = record { arrivals = good.staged.arrivals; stage = good.staged.stage };
         still = good.still;
-        hunter = hunter_as k t words' x y refl refl refl refl refl refl h;
-        resting = record { hunt = good.resting.hunt; free = good.resting.free; lists = o.lists };
+        hunter = hunter_as k t words' x y refl refl refl refl refl refl refl h;
+        resting = record { hunt = good.resting.hunt; free = good.resting.free; spare = good.resting.spare; lists = o.lists };
         took_back = λ kind leads last. o.control 0 (inl (omega arith)) ∙ good.took_back kind leads (o.took_back last);
         owes = owes_as k r.account.live x y refl refl refl refl good.owes;
         rooted = good.rooted;
@@ -179,7 +180,7 @@ module _ (k : Config) (s : Words) (r : Rule k s) (id : ℕ) (hist : List Entry) 
         staged = g.staged;
         still = g.still;
         hunter = let stays : Takes z.seen.stage → ⊥ = nobody_takes z g.staged in rests_hunter k t s.words words' z heap (g.resting.hunt stays) (g.resting.free (λ e. stays (inl e))) g.hunter;
-        resting = record { hunt = g.resting.hunt; free = g.resting.free; lists = λ l e. absurd (other ((g.resting.lists l e).first ∙ sym first)) };
+        resting = record { hunt = g.resting.hunt; free = g.resting.free; spare = g.resting.spare; lists = λ l e. absurd (other ((g.resting.lists l e).first ∙ sym first)) };
         took_back = λ kind leads last. o.control 0 (inl (omega arith)) ∙ g.took_back kind leads last;
         owes = g.owes;
         rooted = g.rooted;
