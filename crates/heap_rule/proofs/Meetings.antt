@@ -1,22 +1,22 @@
 -- Two domains at one seat agree, and see one history.
-use Rattle.std.proofs.Common.{◌≡◌, ◌≢◌, ℕ, ◌<◌, length-set, List, [], ◌∷◌, ◌++◌, Option, Some, None, set, sym, refl, ap, ◌∙◌, subst}
+use Rattle.std.proofs.Common.{not, ◌≡◌, ◌≢◌, ℕ, ◌<◌, length-set, List, [], ◌∷◌, ◌++◌, Option, Some, None, set, sym, refl, ap, ◌∙◌, subst}
 use Rattle.atomic_table.specs.Table.{Me, keeps, Allows, Splits}
 use Rattle.heap_model.specs.declared.entry.Entry.{Entry}
+use Rattle.heap_model.specs.Fronts.{is_control}
 use Rattle.heap_model.specs.History.{Legal}
-use Rattle.heap_model.proofs.Histories.FrontLemmas.{front_whole}
+use Rattle.heap_model.proofs.Histories.FrontLemmas.{front_whole, unseen_whole}
 use Rattle.heap_rule.specs.declared.config.Config.{Config}
 use Rattle.heap_rule.specs.declared.view.DomainView.{DomainView}
 use Rattle.heap_rule.specs.declared.view.View.{View}
 use Rattle.heap_rule.specs.Copies.{Owes}
 use Rattle.heap_rule.specs.Places.{Place, Live}
-use Rattle.heap_rule.specs.Ending.{Begins}
 use Rattle.heap_rule.specs.Limits.{sizes_in}
 use Rattle.heap_rule.specs.Rule.{Account, Rule, Good}
 use Rattle.heap_rule.specs.Standing.{with_front}
 use Rattle.heap_rule.specs.Views.{AllDomains, Distinct, IsSeated, Knows, one, joined, cut_left, cut_right}
-use Rattle.heap_rule.specs.Meeting.{FirstAgree, Levelled, SameCopies, FirstSameCopies, all_seeing}
-use Rattle.heap_rule.proofs.Keeps.{Words, unmoved}
-use Rattle.heap_rule.proofs.Lists.{views_set, domains_map}
+use Rattle.heap_rule.specs.Meeting.{FirstAgree, Levelled, SameCopies, FirstSameCopies, Trails, all_seeing}
+use Rattle.heap_rule.proofs.Keeps.{Words, unmoved, whole_still}
+use Rattle.heap_rule.proofs.Lists.{views_set, domains_with}
 use Rattle.heap_rule.proofs.PauseFacts.{agree}
 use Rattle.heap_rule.proofs.Seats.{splits}
 
@@ -48,7 +48,7 @@ good_seeing k all words x g = record {
   area = record { room = g.area.room; free = g.area.free; classes = g.area.classes };
   making = record { fits = g.making.fits; written = g.making.written };
   staged = record { arrivals = g.staged.arrivals; stage = g.staged.stage };
-  still = λ _. refl;
+  still = whole_still all.log (with_front x all.log) refl;
   hunter = record {
     hunt = g.hunter.hunt;
     drawn_alone = g.hunter.drawn_alone;
@@ -88,7 +88,7 @@ all_config k v log (x ∷ xs) c = (c.0, all_config k v log xs c.1)
 
 all_seated : (k : Config) (log : List Entry) (seat : ℕ → ℕ) (id : ℕ) (xs : List DomainView) → AllDomains (IsSeated k log seat id) xs → AllDomains (IsSeated k log seat id) (all_seeing log xs)
 all_seated k log seat id [] a = tt
-all_seated k log seat id (x ∷ xs) a = (record { inside = a.0.inside; here = a.0.here; front = front_whole x.own.number log }, all_seated k log seat id xs a.1)
+all_seated k log seat id (x ∷ xs) a = (record { inside = a.0.inside; here = a.0.here; front = front_whole x.own.number log; led = λ _. unseen_whole (λ e. not (is_control e)) log log refl }, all_seated k log seat id xs a.1)
 
 others_apart : (n : ℕ) (log : List Entry) (xs : List DomainView) → AllDomains (λ y. y.own.number ≢ n) xs → AllDomains (λ y. y.own.number ≢ n) (all_seeing log xs)
 others_apart n log [] a = tt
@@ -123,7 +123,7 @@ levels k slots id word v same s r _ at _ =
         history = r.account.log;
         seat = refl;
         legal = subst (λ (c : Config). Legal (sizes_in c) r.account.log) (sym same) r.whole.legal;
-        fronts = domains_map (IsSeated k r.account.log r.seat id) (Begins r.account.log) v.domains (λ x y. y.front) mine.domains;
+        fronts = domains_with (IsSeated k r.account.log r.seat id) (Good k r.account s.words) (Trails r.account.log) v.domains (λ x y g. record { begins = y.front; calls = g.still.1; led = y.led }) mine.domains (r.good id v at);
         agree = first_agree k s r v.domains (r.good id v at);
         copies = first_copies k s r v.domains (r.good id v at);
       },

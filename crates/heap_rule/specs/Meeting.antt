@@ -2,10 +2,13 @@
 use Rattle.std.specs.Prelude.{◌≡◌, ℕ, List, [], ◌∷◌}
 use Rattle.atomic_table.specs.Table.{Me, Step}
 use Rattle.heap_model.specs.declared.entry.Entry.{Entry}
+use Rattle.heap_model.specs.Fronts.{AreCalls, AreNotControls, unseen}
 use Rattle.heap_model.specs.History.{Legal}
 use Rattle.heap_rule.specs.declared.config.Config.{Config}
 use Rattle.heap_rule.specs.declared.view.DomainView.{DomainView}
 use Rattle.heap_rule.specs.declared.view.View.{View}
+use Rattle.heap_rule.specs.declared.phase.Kind.TheVariants.{Run}
+use Rattle.heap_rule.specs.declared.phase.Stage.TheVariants.{In}
 use Rattle.heap_rule.specs.Copies.{HasCopy}
 use Rattle.heap_rule.specs.Ending.{Begins}
 use Rattle.heap_rule.specs.Limits.{sizes_in}
@@ -35,12 +38,18 @@ abbrev pub all_seeing : List Entry → List DomainView → List DomainView
 all_seeing history [] = []
 all_seeing history (x ∷ xs) = with_front x history ∷ all_seeing history xs
 
+-- What the history has behind the front of a domain: no entry of its own, none of the collector while it runs, and for domain 0, which leads collections, nothing by which one begins, goes on or ends
+pub record Trails (history : List Entry) (x : DomainView) : Type 0 where
+  pub begins : Begins history x
+  pub calls : x.seen.stage ≡ In Run → AreCalls (unseen history x.seen.front)
+  pub led : x.own.number ≡ 0 → AreNotControls (unseen history x.seen.front)
+
 -- a seat sees that its first two domains agree, and all its domains see the whole history. Nothing else changes
 pub record Levelled (m m' : Me (Unit {0}) View) : Type 0 where
   pub history : List Entry
   pub seat : m' ≡ (record m.0 { domains = all_seeing history m.0.domains }, m.1)
   pub legal : Legal (sizes_in m.0.config) history
-  pub fronts : AllDomains (Begins history) m.0.domains
+  pub fronts : AllDomains (Trails history) m.0.domains
   pub agree : FirstAgree m.0.domains
   pub copies : FirstSameCopies m.0.domains
 
@@ -51,11 +60,11 @@ levelled _ m found m' = Levelled m m'
 abbrev pub seeing : Token → List Entry → Token
 seeing t history = record t { view = with_front t.view history }
 
--- Two domains have met. Both see one history, which begins with the front of each and has no other entry of either
+-- Two domains have met. Both see one history, which begins with the front of each
 pub record Met (k : Config) (a b new_a new_b : Token) : Type 0 where
   pub history : List Entry
   pub legal : Legal (sizes_in k) history
-  pub first : Begins history a.view
-  pub second : Begins history b.view
+  pub first : Trails history a.view
+  pub second : Trails history b.view
   pub first_is : new_a ≡ seeing a history
   pub second_is : new_b ≡ seeing b history
