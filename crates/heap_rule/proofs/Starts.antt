@@ -373,7 +373,7 @@ module _ (k : Config) (limits : IsWithinLimits (sizes_in k)) (words : List ℕ) 
         views = sole (Knows k [] (λ _. 0)) v record {
           config = views_later k (λ _. k ≡ k) 0 k.domains (λ x a b. refl);
           history = record { rest = []; appends = refl };
-          domains = views_later k (IsSeated k [] (λ _. 0) 0) 0 k.domains (λ x a b. record { inside = omega arith; here = refl; front = record { rest = []; appends = refl; others = refl } });
+          domains = views_later k (IsSeated k [] (λ _. 0) 0) 0 k.domains (λ x a b. record { inside = omega arith; here = refl; front = record { rest = []; appends = refl; others = refl }; led = λ _. refl });
           distinct = distinct_later k 0 k.domains;
         };
         good = sole (λ _ u. AllDomains (Good k first_account words) u.domains) v (views_later k (Good k first_account words) 0 k.domains (λ x a b. record {
@@ -381,7 +381,7 @@ module _ (k : Config) (limits : IsWithinLimits (sizes_in k)) (words : List ℕ) 
           area = area x;
           making = record { fits = λ j w e. cc; written = λ j w e. cc };
           staged = record { arrivals = refl; stage = (refl, (0, refl, refl)) };
-          still = λ paused. absurd paused;
+          still = (λ paused. absurd paused, λ _. refl);
           owes = first_owes x;
           rooted = (
             λ h. absurd (let e : Run ≡ Promote = h.2 in cc),

@@ -4,7 +4,7 @@ use Rattle.heap_model.specs.declared.entry.Entry.{Entry}
 use Rattle.heap_model.specs.declared.reply.Applied.{Applied}
 use Rattle.heap_model.specs.Domains.{domain_at, register}
 use Rattle.heap_model.specs.History.{Legal}
-use Rattle.heap_model.specs.Fronts.{IsFrontOf, Answers, HoldsFields}
+use Rattle.heap_model.specs.Fronts.{AreCalls, IsFrontOf, Answers, HoldsFields, unseen}
 use Rattle.heap_words.specs.declared.value.Value.{Value}
 use Rattle.heap_words.specs.declared.value.Value.TheVariants.{Ref, Nothing}
 use Rattle.heap_rule.specs.declared.change.Change.{Change}
@@ -80,8 +80,9 @@ pub record Entered (k : Config) (e : Entry) (answer : Applied) (read : Value) (c
   pub view : y ≡ with_front (with_own x (changed read changes x.own)) y.seen.front
   pub holds : Holds k y.own.registers
 
--- No entry stands at the step: the front is the history so far
+-- No entry stands at the step of a domain that runs: the front is the history so far, which has gone on by entries of domains
 pub record Looked (k : Config) (x y : DomainView) : Type 0 where
   pub seen : IsFrontOf x.own.number y.seen.front x.seen.front
+  pub calls : AreCalls (unseen y.seen.front x.seen.front)
   pub legal : Legal (sizes_in k) y.seen.front
   pub view : y ≡ with_front x y.seen.front

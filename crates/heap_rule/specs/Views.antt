@@ -6,7 +6,7 @@ use lib.ListN.{get_elem?}
 use Rattle.atomic_table.specs.Table.{Me, Step}
 use Rattle.heap_model.specs.declared.entry.Entry.{Entry}
 use Rattle.heap_model.specs.History.{IsPrefix}
-use Rattle.heap_model.specs.Fronts.{IsFrontOf}
+use Rattle.heap_model.specs.Fronts.{AreNotControls, IsFrontOf, unseen}
 use Rattle.heap_words.specs.declared.value.Value.TheVariants.{Ref, Nothing}
 use Rattle.heap_rule.specs.declared.view.TheConstants.{REMEMBERED_ROOM}
 use Rattle.heap_rule.specs.declared.config.Config.{Config}
@@ -40,11 +40,12 @@ abbrev pub Distinct : List DomainView → Type 0
 Distinct [] = Unit {0}
 Distinct (x ∷ xs) = AllDomains (λ y. y.own.number ≢ x.own.number) xs × Distinct xs
 
--- History, of one domain: it is one of the heap's, this seat alone stands for it, and its front begins the history
+-- History, of one domain: it is one of the heap's, this seat alone stands for it, and its front begins the history. Domain 0 alone leads collections, so it has seen where each began and ended
 pub record IsSeated (k : Config) (log : List Entry) (seat : ℕ → ℕ) (id : ℕ) (x : DomainView) : Type 0 where
   pub inside : x.own.number < k.domains
   pub here : seat x.own.number ≡ id
   pub front : IsFrontOf x.own.number log x.seen.front
+  pub led : x.own.number ≡ 0 → AreNotControls (unseen log x.seen.front)
 
 -- History, of one seat
 pub record Knows (k : Config) (log : List Entry) (seat : ℕ → ℕ) (id : ℕ) (v : View) : Type 0 where
