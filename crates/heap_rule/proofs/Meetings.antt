@@ -58,8 +58,9 @@ good_seeing k all words x g = record {
     prepared = g.hunter.prepared;
     claims = g.hunter.claims;
     supply = g.hunter.supply;
+    spare = g.hunter.spare;
   };
-  resting = record { hunt = g.resting.hunt; free = g.resting.free; lists = g.resting.lists };
+  resting = record { hunt = g.resting.hunt; free = g.resting.free; spare = g.resting.spare; lists = g.resting.lists };
   took_back = g.took_back;
   owes = record {
     quiet = g.owes.quiet;

@@ -7,7 +7,9 @@ use Rattle.atomic_table.specs.Table.{keeps}
 use Rattle.heap_model.specs.declared.entry.Entry.{Entry}
 use Rattle.heap_rule.specs.declared.view.Reaping.TheVariants.{Outside}
 use Rattle.heap_rule.specs.declared.config.Config.{Config}
-use Rattle.heap_rule.specs.declared.phase.Kind.TheVariants.{Run, Answer}
+use Rattle.heap_rule.specs.declared.phase.Kind.{Kind}
+use Rattle.heap_rule.specs.declared.phase.Kind.TheVariants.{Run, Sweep, Answer}
+use Rattle.heap_rule.specs.declared.phase.Stage.TheVariants.{In}
 use Rattle.heap_rule.specs.declared.view.DomainView.{DomainView}
 use Rattle.heap_rule.specs.Beside.{RunsBeside}
 use Rattle.heap_rule.specs.Cycles.{Cycling, IsCollecting, IsIdle, Knowing}
@@ -74,12 +76,16 @@ module _ (k : Config) (s : Words) (r : Rule k s) (id : ℕ) (hist : List Entry) 
   even_here : (j : ℕ) → r.account.pause.phase ≡ j * 2 + 1 → ⊥
   even_here j e = not_both r.account.pause.phase (even k s r id hist x at collects) (j, e)
 
+  -- the domain runs in no phase in which it gives pools back
+  stands : (kind : Kind) × (x.seen.stage ≡ In kind) × (kind ≢ Run)
+  stands = ⊎_elim (λ (h : (x.seen.stage ≡ In Sweep) × (k.pools ≤ x.own.swept.spot.pool)). (Sweep, h.0, λ e. cc)) (λ (h : x.seen.stage ≡ In Answer). (Answer, h, λ e. cc)) may.returns
+
   -- the domains don't run next
   covered' : Covered k r.account.pause after ws
   covered' runs = absurd (⊎_elim
       (λ (h : (j : ℕ) × (r.account.pause.phase ≡ j * 2) × (r.account.pause.kinds j ≡ Run)).
-      let a = subst (AtStage r.account.pause d x.own.arrivals) may.stage good.staged.stage in
-      let same : Run ≡ Answer = kind_differs r.account.pause h.0 a.1.0 r.account.pause.phase Run Answer h.1 a.1.1 h.2 a.1.2 in cc)
+      let a = subst (AtStage r.account.pause d x.own.arrivals) stands.1 good.staged.stage in
+      stands.2 (sym (kind_differs r.account.pause h.0 a.1.0 r.account.pause.phase Run stands.0 h.1 a.1.1 h.2 a.1.2)))
       (λ (h : (j : ℕ) × (r.account.pause.phase ≡ j * 2 + 1) × (r.account.pause.led ≡ true) × (r.account.pause.kinds (j + 1) ≡ Run)). even_here h.0 h.1)
       runs)
 
@@ -114,7 +120,7 @@ module _ (k : Config) (s : Words) (r : Rule k s) (id : ℕ) (hist : List Entry) 
       let l = leading_words c s.words ws d x.seen.stage x.seen.share (same_cycle k s r id hist x at word pool class may) g.leading in
       let up = waits k s r id hist x at collects in record {
         telling = record { owes = g.telling.owes; seen = g.telling.seen; fresh = λ gone. absurd (true≢false (sym gone ∙ up)); forgotten = λ gone. absurd (true≢false (sym gone ∙ up)); colours = g.telling.colours };
-        leading = record { changed = l.changed; found_blocks = l.found_blocks; found_words = l.found_words; rotated = l.rotated; turned = l.turned; pass = l.pass; whole = l.whole; armed = l.armed; unswept = l.unswept };
+        leading = record { changed = l.changed; found_blocks = l.found_blocks; found_words = l.found_words; rotated = l.rotated; turned = l.turned; pass = l.pass; whole = l.whole; armed = l.armed; unswept = l.unswept; under_way = l.under_way };
         knows = inr (collects, knowing_own k s r id hist x at word pool class may);
         adds = record { blocks = g.adds.blocks; words = g.adds.words; own = g.adds.own };
         looks = record { at_own = g.looks.at_own; cleans = g.looks.cleans; emptied_is = λ a p own lives. g.looks.emptied_is a p (own_was k s r id hist x at word pool class may a d own) lives };

@@ -351,6 +351,7 @@ module _ (k : Config) (s : Words) (r : Rule k s) (id : ℕ) (hist : List Entry) 
       whole = g.leading.whole;
       armed = g.leading.armed;
       unswept = g.leading.unswept;
+      under_way = g.leading.under_way;
     };
     knows = inl idle';
     adds = record { blocks = λ e _. absurd (no_sweep e); words = λ e _. absurd (no_sweep e); own = λ e _ _. absurd (no_sweep e) };
@@ -381,6 +382,7 @@ module _ (k : Config) (s : Words) (r : Rule k s) (id : ℕ) (hist : List Entry) 
           whole = g.leading.whole;
           armed = g.leading.armed;
           unswept = g.leading.unswept;
+          under_way = g.leading.under_way;
         };
         knows = inl (g.telling.fresh gone);
         adds = record { blocks = λ e _. absurd (no_sweep e); words = λ e _. absurd (no_sweep e); own = λ e _ _. absurd (no_sweep e) };
