@@ -26,7 +26,7 @@ use Rattle.heap_rule.specs.Rule.{Account, Good, Rule, Sharing, state_of}
 use Rattle.heap_rule.specs.Views.{one}
 use Rattle.heap_rule.proofs.BesideLemmas.{runs_unaware}
 use Rattle.heap_rule.proofs.Holders.{Agrees, agrees_set, found_heap, grid_heap, hunter_agree, making_heap, same_self}
-use Rattle.heap_rule.proofs.Keeps.{Words, covered_words, hunter_as, knows_front, lists_same, mine, my_good, opened_words, owes_as, phases_words, pools_words, remakes, resting_as, resting_lists, room_words, unmoved}
+use Rattle.heap_rule.proofs.Keeps.{Words, covered_words, hunter_as, knows_front, lists_same, my_good, opened_words, owes_as, phases_words, pools_words, remakes, resting_as, resting_lists, room_words, unmoved}
 use Rattle.heap_rule.proofs.PauseFacts.{not_both}
 use Rattle.heap_rule.proofs.Sharings.{knows_words}
 use Rattle.steps_cycle.specs.Arming.{ArmMay, ArmedTold, knowing_armed}
@@ -319,7 +319,7 @@ module _ (k : Config) (s : Words) (r : Rule k s) (id : ℕ) (hist : List Entry) 
           };
           cycle = cycle';
         }
-        (knows_front k s r id hist x at y refl (mine k s r id hist x at).front)
+        (knows_front k s r id hist x at y refl (inl refl))
         (let m = making_heap k s.words ws x (λ a _. heap a) good.making in record {
           stood = record { wide = good.stood.wide; each = good.stood.each; serial = good.stood.serial; enrolled = good.stood.enrolled };
           area = record { room = good.area.room; free = good.area.free; classes = good.area.classes };

@@ -37,7 +37,7 @@ use Rattle.heap_rule.specs.Views.{one}
 use Rattle.heap_rule.proofs.Controls.{Move, Untouched, counts_untouched, covered_untouched, heap_untouched, hunter_untouched, low_untouched, moved_to, no_move, reserved_untouched, resting_untouched, turns, untouched_same}
 use Rattle.heap_rule.proofs.Holders.{stock_self}
 use Rattle.heap_rule.proofs.Lots.{head_full, none_before, place_cases}
-use Rattle.heap_rule.proofs.Keeps.{Words, hunter_as, mine, my_good, owes_as, phases_words, room_words}
+use Rattle.heap_rule.proofs.Keeps.{Words, hunter_as, my_good, owes_as, phases_words, room_words}
 use Rattle.heap_rule.proofs.PauseFacts.{kind_differs, not_both, agree}
 use Rattle.heap_rule.proofs.Sharings.{kind_now}
 use Rattle.heap_rule.proofs.FinaliserLemmas.{deciding_marks}
@@ -185,7 +185,7 @@ module _ (k : Config) (s : Words) (r : Rule k s) (id : ℕ) (hist : List Entry) 
         rooted = g.rooted;
         roots = λ z _ _ _ ro. ro;
         untouched = o.untouched;
-        front = (mine k s r id hist x at).front;
+        front = inl refl;
         phases = phases_words k r.account.pause s.words words' o.barrier_same o.plan_same r.whole.phases;
         endings = o.ended_same;
         staged = record { arrivals = g.staged.arrivals; stage = g.staged.stage };

@@ -22,7 +22,7 @@ use Rattle.heap_rule.proofs.HeadLemmas.{head_at}
 use Rattle.heap_rule.proofs.Beside.{found_beside, making_beside, live_word_far}
 use Rattle.heap_rule.proofs.Lots.{head_full, head_some}
 use Rattle.heap_rule.proofs.Values.{extent_large}
-use Rattle.heap_rule.proofs.Keeps.{Words, mine, my_good, more_same, remakes, knows_front, control_set, controls_kept, opened_words, owes_as, resting_as, resting_lists, room_words, hunter_as}
+use Rattle.heap_rule.proofs.Keeps.{Words, my_good, more_same, remakes, knows_front, control_set, controls_kept, opened_words, owes_as, resting_as, resting_lists, room_words, hunter_as}
 use Rattle.steps_cycle.specs.Looks.{with_share}
 use Rattle.steps_cycle.proofs.Learning.{Held, Learns, cycle', holding, sharing', sharings', bare, rests_here, knowing_on, known, Knows, lies_old, QueueMarked}
 use Rattle.cycle_laws.proofs.Tracing.{More}
@@ -225,7 +225,7 @@ module _ (k : Config) (s : Words) (r : Rule k s) (id : ℕ) (hist : List Entry) 
           drawable = controls.drawable;
           cycle = cycle' k s r id hist x at collecting m' r.account.cycling.shares.changed owes seen h waiting words' learnt;
         }
-        (knows_front k s r id hist x at y refl (mine k s r id hist x at).front)
+        (knows_front k s r id hist x at y refl (inl refl))
         record {
           stood = record { wide = g.stood.wide; each = g.stood.each; serial = g.stood.serial; enrolled = g.stood.enrolled };
           area = record { room = g.area.room; free = g.area.free; classes = g.area.classes };

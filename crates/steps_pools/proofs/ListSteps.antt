@@ -28,7 +28,7 @@ use Rattle.heap_rule.specs.Rule.{state_of, Good, Rule}
 use Rattle.heap_rule.specs.Standing.{noted}
 use Rattle.heap_rule.specs.Views.{one}
 use Rattle.heap_rule.proofs.Holders.{SameHeap, found_heap, making_heap, grid_heap, sum_small}
-use Rattle.heap_rule.proofs.Keeps.{Words, mine, my_good, remakes, looks, knows_front, phases_words, room_words, opened_words, hunter_as, owes_as, takes_even, unmoved}
+use Rattle.heap_rule.proofs.Keeps.{Words, my_good, remakes, looks, knows_front, phases_words, room_words, opened_words, hunter_as, owes_as, takes_even, unmoved}
 use Rattle.heap_rule.proofs.PauseFacts.{not_both}
 use Rattle.heap_rule.proofs.Controls.{last_note_end, sharing_words}
 use Rattle.heap_rule.proofs.Lists.{got_below, got_end}
@@ -156,7 +156,7 @@ module _ (k : Config) (s : Words) (r : Rule k s) (id : ℕ) (hist : List Entry) 
         drawable = undrawable words';
         cycle = cycle_words k (state_of k r.account.log) r.account.live pause t r.account.cycling s.words words' same o.every r.whole.cycle;
       }
-      (knows_front k s r id hist x at y refl (mine k s r id hist x at).front)
+      (knows_front k s r id hist x at y refl (inl refl))
       record {
         stood = record { wide = good.stood.wide; each = good.stood.each; serial = good.stood.serial; enrolled = good.stood.enrolled };
         area = record { room = good.area.room; free = good.area.free; classes = good.area.classes };
@@ -622,7 +622,7 @@ cursor_look_may k x count may fits slots id h s r _ at _ = dite (dec_le (cursor 
     (λ low. let y : DomainView = noted_set_back x in
     (one k h y, keeps, tt, unmoved k s 7 (set s.views id (one k h y)) (low_rule k s r id h x at may.opener may.list may.listing (subst (λ (n : ℕ). cursor s.words ≤ limit_of k n) (sym may.count_is) low)), (record { low = λ l. refl; high = λ b. absurd (not-le_of_lt b low) }, refl)))
     (λ high.
-    (one k h x, keeps, tt, unmoved k s 7 (set s.views id (one k h x)) (looks k s r id h x at x.seen.front (mine k s r id h x at).front (my_good k s r id h x at).still), (record { low = λ l. absurd (high l); high = λ b. refl }, refl)))
+    (one k h x, keeps, tt, unmoved k s 7 (set s.views id (one k h x)) (looks k s r id h x at x.seen.front (inl refl)), (record { low = λ l. absurd (high l); high = λ b. refl }, refl)))
 
 pub cut_may : (k : Config) (x : DomainView) (n new : ℕ) → HasCounted x n → new ≡ limit_of k n → MayStore k x 7 new CursorCutTold
 cut_may k x n new may is fits slots id h s r _ at _ =

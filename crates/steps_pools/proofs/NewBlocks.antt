@@ -524,7 +524,7 @@ module _ (k : Config) (s : Words) (r : Rule k s) (id : ℕ) (hist : List Entry) 
     makings z p = making_beside k s.words A new z (λ j fits m. let h : A ≤ pool * 4096 + 4096 = in_pool in let i = pool_in in let y : ℕ = z.own.number * k.minor_words in let b : ℕ = A in let same : k.pools * 4096 + y + 1 + z.own.used + 1 + j ≡ b = m in omega arith) p
 
   pub makes_answers : Answers (sizes_in k) d x.seen.front after.seen.front e (Replied (BlockReply L))
-  makes_answers = answers_push (sizes_in k) d r.account.log x.seen.front e (Replied (BlockReply L)) (mine k s r id hist x at).front
+  makes_answers = answers_push (sizes_in k) d r.account.log x.seen.front e (Replied (BlockReply L)) (mine k s r id hist x at).front (λ _. g.still.1 may.acts.runs)
       (legal_entry k s r id hist x at e record { running = running k s r id hist x at may.acts; fits = fits_now; full_fits = tt }) leaves.replies
 
   pub makes_holds : Holds k regs

@@ -103,7 +103,7 @@ lists : (k : Config) (slots id : ℕ) (hist : List Entry) (x : DomainView) (take
 lists k slots id hist x takes word may s r _ at _ =
     let d = subst (Hunts k r.account.tenancy s.words x.own.number) may.hunt (hunter k s r id hist x at takes).hunt in
     let found : get_or s.words word 0 ≡ may.pool = ap (λ (n : ℕ). get_or s.words n 0) may.word ∙ d.names in
-    (one k hist x, keeps, tt, unmoved k s word (set s.views id (one k hist x)) (looks k s r id hist x at x.seen.front (mine k s r id hist x at).front (my_good k s r id hist x at).still), (record { names = ap drawn_in may.hunt ∙ ap Some (sym found); view = refl }, refl))
+    (one k hist x, keeps, tt, unmoved k s word (set s.views id (one k hist x)) (looks k s r id hist x at x.seen.front (inl refl)), (record { names = ap drawn_in may.hunt ∙ ap Some (sym found); view = refl }, refl))
 
 pub list_may : (k : Config) (x : DomainView) (takes : Takes x.seen.stage) (word : ℕ) → ListMay k x word → MayStep k x word (λ n. n) ListTold
 list_may k x takes word may fits slots id h = lists k slots id h x takes word may
