@@ -183,7 +183,8 @@ module _ (k : Config) (s : Words) (r : Rule k s) (id : ℕ) (hist : List Entry) 
     front = x.seen.front;
     stage = Gone (kind_in x.seen.stage);
     notes = x.seen.notes;
-    free = None;
+    free = [];
+    spare = None;
     listing = None;
     copying = nothing_copied;
     share = voided x.seen.share;
@@ -330,7 +331,7 @@ module _ (k : Config) (s : Words) (r : Rule k s) (id : ℕ) (hist : List Entry) 
     staged = p.staged;
     still = λ paused. absurd paused;
     free = λ f e. absurd (none-some f e);
-    resting = record { hunt = λ n. may.at_rest; free = λ n. refl; lists = λ l e. cc };
+    resting = record { hunt = λ n. may.at_rest; free = λ n. refl; spare = λ n. refl; lists = λ l e. cc };
     owes = owes_rests k live x y refl refl paid refl good.owes;
     settled = p.settled;
     cleared = p.cleared;
@@ -348,6 +349,7 @@ module _ (k : Config) (s : Words) (r : Rule k s) (id : ℕ) (hist : List Entry) 
       drawn_alone = h.drawn_alone;
       taken = h.taken;
       free = λ f e. absurd (none-some f e);
+      spare = λ z e. absurd (none-some z e);
       holds = h.holds;
       prepared = h.prepared;
       claims = sym p.mine_is;
@@ -521,9 +523,10 @@ module _ (k : Config) (s : Words) (r : Rule k s) (id : ℕ) (hist : List Entry) 
       endings = endings;
       staged = record { arrivals = counted; stage = known next (λ _. refl) (λ _ _. refl) };
       still = λ paused. absurd paused;
-      resting = record { hunt = λ n. may.at_rest; free = λ n. refl; lists = λ l e. cc };
+      resting = record { hunt = λ n. may.at_rest; free = λ n. refl; spare = λ n. refl; lists = λ l e. cc };
       idle = refl;
       free_same = λ f e. absurd (none-some f e);
+      spare_none = refl;
       others = next_stage;
       over = λ h. not_both pause.phase (p.0, p.1) (odd_before pause.phase h.0 h.1);
       kept = λ h. ⊎_elim

@@ -142,7 +142,7 @@ ends k slots id hist x acts s r _ at _ =
       making = record { fits = prep.fits; written = prep.written };
       staged = staged_as r.account.pause x y refl refl refl g.staged;
       still = run_still log' y acts.runs;
-      hunter = hunter_as k r.account.tenancy ws x y refl refl refl refl refl refl (hunter_untouched k r.account.tenancy s.words ws x untouched g.hunter);
+      hunter = hunter_as k r.account.tenancy ws x y refl refl refl refl refl refl refl (hunter_untouched k r.account.tenancy s.words ws x untouched g.hunter);
       resting = resting_runs k s.words ws x y acts.runs acts.runs refl g.resting;
       took_back = running_took_back ws y acts.runs;
       owes = owes_as k r.account.live x y refl refl refl refl g.owes;

@@ -461,10 +461,11 @@ module _ (k : Config) (s : Words) (r : Rule k s) (id : ℕ) (hist : List Entry) 
         making = record { fits = made.fits; written = made.written };
         staged = record { arrivals = good.staged.arrivals; stage = (before.0, (j, odd, over_here (j + 1) next t.kinds), may.leads, refl) };
         still = λ paused. absurd paused;
-        hunter = hunter_as k tenancy ws x y refl refl refl refl refl refl (hunter_untouched k tenancy s.words ws x untouched good.hunter);
+        hunter = hunter_as k tenancy ws x y refl refl refl refl refl refl refl (hunter_untouched k tenancy s.words ws x untouched good.hunter);
         resting = record {
           hunt = λ _. rest.hunt (λ takes. ⊎_elim stays (λ e. leads_promotes last (sym stage_is ∙ e)) takes);
           free = λ _. rest.free stays;
+          spare = λ _. rest.spare stays;
           lists = λ l e. let z = rest.lists l e in record { first = z.first; leads = tt; few = z.few; owners = z.owners; names = z.names; count = z.count; rewinds = z.rewinds };
         };
         took_back = λ kind leads _. absurd (led_leads next kind leads);

@@ -20,7 +20,13 @@ use Rattle.heap_rule.specs.declared.phase.Note.TheVariants.{Want, Asked, Barrier
 use Rattle.heap_rule.specs.Layout.{heap_words, before_heap, barrier, ended_word, want}
 use Rattle.heap_rule.specs.Phases.{code, Follows, Comes, sum_of, is_over, IsEven, IsOdd, Pause, Phases, LeftOdd, AtStage, Staged, Still, IsInPause, TookBack, HasSetBack, Unwished, last_note}
 use Rattle.heap_rule.specs.Pools.{Tenancy, IsLeading}
-use Rattle.heap_rule.specs.Places.{Live}
+use Rattle.heap_rule.specs.Places.{Live, Shows}
+use Rattle.heap_rule.specs.Changes.{value_at}
+use Rattle.heap_rule.specs.Standing.{ShowsRegisters}
+use Rattle.heap_rule.proofs.Values.{shows}
+use Rattle.heap_model.specs.declared.graph.Value as graph_value
+use Rattle.heap_model.specs.declared.graph.Value.TheVariants.{Nothing}
+use Rattle.heap_model.specs.Domains.{register}
 use Rattle.heap_rule.specs.Cycles.{Cycling, Facts}
 use Rattle.heap_rule.specs.Copies.{nothing_copied}
 use Rattle.heap_rule.specs.declared.view.Copying.{Copying}
@@ -31,7 +37,7 @@ use Rattle.heap_rule.specs.Views.{one, Tells}
 use Rattle.heap_rule.proofs.Controls.{untouched_same, sum_low, parity, Move, moved_to, no_move, turns, notes_rule, last_note_end}
 use Rattle.heap_rule.proofs.Holders.{stock_self}
 use Rattle.steps_pauses.proofs.Arrivals.{arrives}
-use Rattle.heap_rule.proofs.Keeps.{Words, mine, my_good, unmoved, nobody_leads, quiet_in, owes_rests, hunter_as}
+use Rattle.heap_rule.proofs.Keeps.{Words, mine, my_good, own, unmoved, nobody_leads, quiet_in, owes_rests, hunter_as}
 use Rattle.heap_rule.proofs.PauseFacts.{not_both}
 use Rattle.steps_pauses.proofs.Leading.{led_rule, led_told}
 use Rattle.steps_pauses.proofs.Arriving.{kind_acts, sharing_looked}
@@ -165,7 +171,7 @@ looked_at k id hist x gone s r at =
         room = r.whole.room;
         unused = r.whole.unused;
         drawable = r.whole.drawable;
-        hunter = hunter_as k tenancy s.words x (moved_to x (moving stage)) refl refl refl refl refl refl g.hunter;
+        hunter = hunter_as k tenancy s.words x (moved_to x (moving stage)) refl refl refl refl refl refl refl g.hunter;
         stocks = λ e _. stock_self tenancy.stock e;
         set_back = λ back. absurd (noted_elsewhere (moved_to x (moving stage)) x.seen.notes (Barrier b) refl (barrier_note b) back);
         sweeps = g.sweeps;
@@ -181,6 +187,7 @@ looked_at k id hist x gone s r at =
         resting = let rest = (my_good k s r id hist x at).resting in let stays : x.seen.stage ≢ In Run = (λ e. gone_runs (kind_in x.seen.stage) (sym gone ∙ e)) in record {
           hunt = λ n. rest.hunt (λ takes. ⊎_elim stays (λ e. gone_promotes (kind_in x.seen.stage) (sym gone ∙ e)) takes);
           free = λ n. rest.free stays;
+          spare = λ n. rest.spare stays;
           lists = λ l e. absurd (subst IsLeading gone (rest.lists l e).leads);
         };
         others = λ z _ _ its. its;
@@ -244,9 +251,15 @@ over_few k s r =
     one_at_most true = omega arith
     one_at_most false = omega arith
 
+-- the registers show what they hold in the state after the front
+shows_registers : (k : Config) (s : Words) (r : Rule k s) (id : ℕ) (hist : List Entry) (x : DomainView) (at : get_elem? s.views id ≡ some (one k hist x)) → ShowsRegisters k x
+shows_registers k s r id hist x at q few =
+    let held = shows r.account.live (value_at x.own.registers q) (register (state_of k r.account.log) x.own.number q) ((my_good k s r id hist x at).stood.each q few) in
+    subst (λ (l : List graph_value.Value). Shows (value_at x.own.registers q) (get_or l q Nothing)) (own k s r id hist x at).registers held
+
 -- what the step calls ask of the rule
-pub want_may : (k : Config) (x : DomainView) → MayStep k x 0 (λ n. n) WantTold
-want_may k x fits slots id h = noting k slots id 0 h x Want WantTold want_note (λ s r at. refl)
+pub want_may : (k : Config) (x : DomainView) → MayStep k x 0 (λ n. n) (WantTold k)
+want_may k x fits slots id h = noting k slots id 0 h x Want (WantTold k) want_note (λ s r at. record { view = refl; registers = shows_registers k s r id h x at })
 
 pub ended_may : (k : Config) (x : DomainView) → MayStep k x 8 (λ n. n) (EndedTold k)
 ended_may k x fits slots id h = noting k slots id 8 h x Ended (EndedTold k) ended_note (λ s r at. (refl, over_few k s r))

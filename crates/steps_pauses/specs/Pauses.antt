@@ -26,7 +26,7 @@ use Rattle.heap_rule.specs.Phases.{code, Follows, Comes, IsEven, IsOdd, last_not
 use Rattle.heap_rule.specs.Pools.{prepared_at}
 use Rattle.heap_rule.specs.Copies.{nothing_copied, HoldsOld}
 use Rattle.heap_rule.specs.Rule.{state_of}
-use Rattle.heap_rule.specs.Standing.{with_front, with_own}
+use Rattle.heap_rule.specs.Standing.{with_front, with_own, ShowsRegisters}
 use Rattle.heap_rule.specs.Token.{Holds}
 use Rattle.heap_rule.specs.declared.phase.Kind.TheVariants.{Run, Promote, Reset, Roots, Mark, Rounds, Clean, Sweep, Answer, Decide, Queued, Lasts}
 use Rattle.heap_rule.specs.Views.{fresh_share, voided}
@@ -52,9 +52,10 @@ kind_in (Gone kind) = kind
 abbrev pub IsGone : DomainView → Type 0
 IsGone x = x.seen.stage ≡ Gone (kind_in x.seen.stage)
 
--- a load of the want word
-abbrev pub WantTold : DomainView → ℕ → DomainView → Type 0
-WantTold x found y = y ≡ noted x (Want found)
+-- a load of the want word tells too that the registers hold what they hold in the state
+pub record WantTold (k : Config) (x : DomainView) (found : ℕ) (y : DomainView) : Type 0 where
+  pub view : y ≡ noted x (Want found)
+  pub registers : ShowsRegisters k x
 
 -- bits of the want word are set
 abbrev pub AskTold : ℕ → DomainView → ℕ → DomainView → Type 0
@@ -117,11 +118,11 @@ pub record ArriveMay (k : Config) (x : DomainView) : Type 0 where
 abbrev pub forgotten : {A : Type 0} → Bounded A → Bounded A
 forgotten l = record { items = []; room = l.room + length l.items }
 
--- the domain has arrived: its list of copies is empty, and what it knows of the blocks that it met, of how many pools are free, of the list that it wrote, and of the phase but for the cut, whether the cycle is whole and whether a sweep is owed, is void
+-- the domain has arrived: its list of copies is empty, and what it knows of the blocks that it met, of how many pools are free, of a free place, of the list that it wrote, and of the phase but for the cut, whether the cycle is whole and whether a sweep is owed, is void
 abbrev pub arrived_view : DomainView → DomainView
 arrived_view x = record {
   own = record x.own { arrivals = x.own.arrivals + 1; pending = forgotten x.own.pending };
-  seen = record x.seen { stage = Gone (kind_in x.seen.stage); free = None; listing = None; copying = nothing_copied; share = voided x.seen.share };
+  seen = record x.seen { stage = Gone (kind_in x.seen.stage); free = []; spare = None; listing = None; copying = nothing_copied; share = voided x.seen.share };
 }
 
 abbrev pub Arrived : DomainView → ℕ → DomainView → Type 0

@@ -14,11 +14,12 @@ use heap_rule::{
 use heap_words::Value;
 use std::marker::Brand;
 
-/// A load of the want word, at which no entry stands. Answers the word.
+/// A load of the want word, at which no entry stands. Answers the word. It tells too that the registers
+/// hold what they hold in the state after the front: of a block not which, for that see `label_load`.
 pub fn want_load(heap: &Heap, dom: &mut Domain) -> u64
     requires here { IsIn dom.old heap.now }
     ensures here { IsIn dom.new heap.now }
-    ensures told { WantTold dom.old.view result dom.new.view }
+    ensures told { WantTold heap.now.config dom.old.view result dom.new.view }
 {
     raw_load::<Brand, Leaving>(heap, dom, WANT, &Leaving, &[])
 }

@@ -203,8 +203,8 @@ module _ (k : Config) (s : Words) (r : Rule k s) (id : ℕ) (hist : List Entry) 
         making = record { fits = g.making.fits; written = g.making.written };
         staged = record { arrivals = g.staged.arrivals; stage = g.staged.stage };
         still = λ paused. absurd (subst IsInPause stage paused);
-        hunter = hunter_as k T s.words x y refl refl refl refl refl refl g.hunter;
-        resting = resting_as k s.words x y refl refl refl refl refl g.resting;
+        hunter = hunter_as k T s.words x y refl refl refl refl refl refl refl g.hunter;
+        resting = resting_as k s.words x y refl refl refl refl refl refl g.resting;
         took_back = g.took_back;
         owes = owes_as k live x y refl refl refl refl g.owes;
         rooted = g.rooted;

@@ -1,5 +1,6 @@
 -- The return of a pool in which nothing is left keeps the rule.
 use Rattle.std.proofs.Common.{◌≡◌, ◌≢◌, ℕ, ◌+◌, ◌*◌, ◌<◌, ◌≤◌, true, true≢false, List, get_or, set, None, sym, refl, ap, ◌∙◌, subst, inl, inr, ⊎_elim, arith, length-set}
+use Rattle.std.proofs.lemmas.Option.{none-some}
 use mathlib.Core.Option.{some}
 use lib.ListN.{get_elem?}
 use Rattle.atomic_table.specs.Table.{keeps}
@@ -84,7 +85,7 @@ module _ (k : Config) (s : Words) (r : Rule k s) (id : ℕ) (hist : List Entry) 
 
   -- nobody writes the list
   lists_none : (z : DomainView) → Staged r.account.pause z → Resting k s.words z → Resting k ws z
-  lists_none z staged rest = record { hunt = rest.hunt; free = rest.free; lists = λ l e. absurd (leads_odd r.account.pause z.own.number z.own.arrivals z.seen.stage (even k s r id hist x at collects) staged.stage (rest.lists l e).leads) }
+  lists_none z staged rest = record { hunt = rest.hunt; free = rest.free; spare = rest.spare; lists = λ l e. absurd (leads_odd r.account.pause z.own.number z.own.arrivals z.seen.stage (even k s r id hist x at collects) staged.stage (rest.lists l e).leads) }
 
   hunter' : Hunter k after ws y
   hunter' = let h = good.hunter in let was = owned_was k s r id hist x at word pool class may in let same = agrees k s r id hist x at word pool class may in let none = no_prepared k s r id hist x at word pool class may in record {
@@ -92,6 +93,7 @@ module _ (k : Config) (s : Words) (r : Rule k s) (id : ℕ) (hist : List Entry) 
     drawn_alone = λ q e. h.drawn_alone q (drawn_was k s r id hist x at word pool class may q d e);
     taken = λ q cl slot is inside before e. h.taken q cl slot (was q d cl is).1 inside before (sym (same.heap _ (omega arith)) ∙ e);
     free = λ m e. free_later k s.words ws counts.0 grows m (h.free m e);
+    spare = λ u e. absurd (none-some u (sym (good.resting.spare (λ runs. subst IsCollecting runs collects tt)) ∙ e));
     holds = λ cl a few e. absurd (none a d (h.holds cl a few e).0);
     prepared = λ q cl slot is inside e. absurd (none _ d e);
     claims = h.claims;
@@ -174,7 +176,7 @@ module _ (k : Config) (s : Words) (r : Rule k s) (id : ℕ) (hist : List Entry) 
         staged = record { arrivals = g.staged.arrivals; stage = g.staged.stage };
         still = g.still;
         hunter = hunter';
-        resting = record { hunt = own_rest.hunt; free = own_rest.free; lists = own_rest.lists };
+        resting = record { hunt = own_rest.hunt; free = own_rest.free; spare = own_rest.spare; lists = own_rest.lists };
         took_back = λ kind leads last. want ∙ g.took_back kind leads last;
         owes = owes_as k r.account.live x y refl refl refl refl g.owes;
         rooted = g.rooted;

@@ -81,6 +81,7 @@ module _ (k : Config) (s : Words) (r : Rule k s) (id : ℕ) (hist : List Entry) 
         number = refl;
         hunt = refl;
         free = refl;
+        spare = refl;
         listing = refl;
         front = (mine k s r id hist x at).front;
         still = g.still;
@@ -100,7 +101,7 @@ module _ (k : Config) (s : Words) (r : Rule k s) (id : ℕ) (hist : List Entry) 
         making = record { fits = g.making.fits; written = g.making.written };
         makings = λ z _ _ p. p;
         grid = r.whole.grid;
-        hunter = hunter_as k r.account.tenancy s.words x y refl refl refl refl refl refl g.hunter;
+        hunter = hunter_as k r.account.tenancy s.words x y refl refl refl refl refl refl refl g.hunter;
         hunters = λ z _ h. h.hunter;
         cycle = r.whole.cycle;
         sharing = sharing_on reaping places;

@@ -411,7 +411,7 @@ module _ (k : Config) (s : Words) (r : Rule k s) (id : ℕ) (hist : List Entry) 
     found = found';
     grid = grid';
     makings = λ z g. making_heap k s.words words' z heap g.making;
-    hunter = hunter_as k t' words' x (with_share x share') refl refl refl refl refl refl (hunter' x good.hunter);
+    hunter = hunter_as k t' words' x (with_share x share') refl refl refl refl refl refl refl (hunter' x good.hunter);
     hunters = λ z _ g. hunter' z g.hunter;
     cycle = cycle';
     sharing = sharing';
