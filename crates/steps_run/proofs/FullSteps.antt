@@ -235,7 +235,7 @@ module _ (k : Config) (s : Words) (r : Rule k s) (id : ℕ) (hist : List Entry) 
       total l n c f z most few same = omega arith
 
   -- the pools are no more than the blocks that were ever made, one for each class and domain, and the reserve
-  pub many_made : (f : ℕ) → x.seen.free ≡ Some f → f ≤ reserve (sizes_in k) → k.pools ≤ length now.graph + reserve (sizes_in k) + class_count * k.domains
+  pub many_made : (f : ℕ) → last_found x ≡ Some f → f ≤ reserve (sizes_in k) → k.pools ≤ length now.graph + reserve (sizes_in k) + class_count * k.domains
   many_made f found few = total (length kept) now.kept (length now.graph) (class_count * k.domains) f (reserve (sizes_in k)) (few_kept f found) few (kept_counts (sizes_in k) r.account.log r.whole.legal).count (shaped-history (sizes_in k) r.account.log r.limits).kept_bound
     where
       total : (l n g c f z : ℕ) → k.pools ≤ l + c + f → f ≤ z → l ≡ n → n ≤ g → k.pools ≤ g + z + c
