@@ -1,17 +1,16 @@
 -- A look by a domain that is short of pools keeps the rule.
-use Rattle.std.proofs.Common.{ℕ, List, [], set, refl, ◌≡◌}
+use Rattle.std.proofs.Common.{ℕ, List, [], set, refl, ◌≡◌, inr}
 use mathlib.Core.Option.{some}
 use lib.ListN.{get_elem?}
 use Rattle.atomic_table.specs.Table.{keeps, Allows}
 use Rattle.heap_model.specs.declared.entry.Entry.{Entry}
-use Rattle.heap_model.proofs.Histories.FrontLemmas.{front_whole}
 use Rattle.heap_rule.specs.declared.config.Config.{Config}
 use Rattle.heap_rule.specs.declared.view.DomainView.{DomainView}
 use Rattle.heap_rule.specs.Raw.{MayStep}
 use Rattle.heap_rule.specs.Rule.{Rule}
 use Rattle.heap_rule.specs.Standing.{with_front}
 use Rattle.heap_rule.specs.Views.{one, Tells}
-use Rattle.heap_rule.proofs.Keeps.{looks, mine, unmoved}
+use Rattle.heap_rule.proofs.Keeps.{looks, mine, my_good, unmoved}
 use Rattle.steps_run.specs.Shortage.{IsShort, ShortTold}
 use Rattle.steps_run.proofs.FullSteps.{many_made}
 
@@ -20,10 +19,10 @@ shortages k slots id word hist x may s r _ at _ = (
   one k hist (with_front x r.account.log),
   keeps,
   tt,
-  unmoved k s word (set s.views id (one k hist (with_front x r.account.log))) (looks k s r id hist x at r.account.log (front_whole x.own.number r.account.log) (λ _. refl)),
+  unmoved k s word (set s.views id (one k hist (with_front x r.account.log))) (looks k s r id hist x at r.account.log (inr refl)),
   (
     record {
-      looked = record { seen = (mine k s r id hist x at).front; legal = r.whole.legal; view = refl };
+      looked = record { seen = (mine k s r id hist x at).front; calls = (my_good k s r id hist x at).still.1 may.acts.runs; legal = r.whole.legal; view = refl };
       made = many_made k s r id hist x at may.acts may.free may.found may.few;
     },
     refl,
