@@ -126,6 +126,7 @@ module _ (k : Config) (s : Words) (r : Rule k s) (id : ℕ) (hist : List Entry) 
       whole = u.whole;
       armed = u.armed;
       unswept = u.unswept;
+      under_way = u.under_way;
     }
 
     own_sharing : Sharing k all' words' y.own.number y.own.registers y.own.finalisers y.own.ephemerons.items y.seen.stage y.seen.share
