@@ -193,9 +193,10 @@ module _ (k : Config) (s : Words) (r : Rule k s) (id : ℕ) (hist : List Entry) 
     datum_told = record {
       cleaning = w;
       cleans = may.cleans;
-      label = l;
+      label = may.label;
+      labelled = may.labelled;
       before = r.account.log;
-      front = refl;
+      front = ap (λ (q : Label). r.account.log ++ Wipe q w.emptied ∷ []) (e.label may.label may.labelled);
       seen = (mine k s r id hist x at).front;
       legal = legal_entry k s r id hist x at wipe allowed.0;
       view = refl;

@@ -106,6 +106,7 @@ module _ (k : Config) (s : Words) (r : Rule k s) (id : ℕ) (hist : List Entry) 
       listed = e.listed;
       place = e.place;
       lives = e.lives;
+      label = e.label;
       marked = e.marked;
       keys = e.keys;
       datum = e.datum;
