@@ -39,7 +39,7 @@ use Rattle.heap_rule.proofs.Garbage.{KeepsGarbage}
 use Rattle.heap_rule.proofs.Lists.{got_there}
 use Rattle.heap_rule.proofs.Values.{packable}
 use Rattle.heap_rule.proofs.Lots.{Beside, area_beside, garbage_beside, grid_beside, hunter_beside}
-use Rattle.heap_rule.proofs.Keeps.{mine, my_good, control_set, controls_kept, hunter_as, more_same, writes, cycle_here, runs_here, sharing_here, sharings_here, cycle_control, Words, unmoved, garbage_here}
+use Rattle.heap_rule.proofs.Keeps.{my_good, control_set, controls_kept, hunter_as, more_same, writes, cycle_here, runs_here, sharing_here, sharings_here, cycle_control, Words, unmoved, garbage_here}
 use Rattle.heap_rule.proofs.PauseFacts.{promote_rests, run_resetting}
 use Rattle.heap_rule.proofs.Sharings.{SameCycle}
 
@@ -94,7 +94,7 @@ none_young k s r id hist x at resets =
     let live : Live = r.account.live in
     let pools : (a : ℕ) (p : Place) → live a ≡ Some p → IsOldAt k a = r.whole.emptied t in
     let settled : Settled live = ⊎_elim (λ (h : Settled live). h) (λ (h : Promoting r.account.pause). absurd (promote_rests r.account.pause h t)) r.whole.settled in
-    let front : r.account.log ≡ x.seen.front = sym (g.still (subst IsInPause (sym resets) tt)) in record {
+    let front : r.account.log ≡ x.seen.front = sym (g.still.0 (subst IsInPause (sym resets) tt)) in record {
       live = live;
       pools = pools;
       nodes = λ a p lives.
@@ -157,8 +157,8 @@ reset_may k x word a new place may fits slots id hist s r _ at _ =
     let not_run : (z : DomainView) → Good k r.account s.words z → z.seen.stage ≡ In Run → ⊥ = (λ z h runs. run_resetting r.account.pause z runs h.staged (reset_now r.account.pause x may.stage g.staged)) in
     let rule : Rule k record { words = ws; homes = s.homes; views = set s.views id (one k hist y) } = writes k s r id hist x at y ws record {
       number = refl;
-      front = (mine k s r id hist x at).front;
-      still = λ p. g.still p;
+      front = inl refl;
+      still = g.still;
       stage = refl;
       hunt = refl;
       free = refl;
