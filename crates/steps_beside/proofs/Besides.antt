@@ -193,8 +193,8 @@ module _ (k : Config) (s : Words) (r : Rule k s) (id : ℕ) (hist : List Entry) 
           making = record { fits = own_making.fits; written = own_making.written };
           staged = record { arrivals = g.staged.arrivals; stage = g.staged.stage };
           still = g.still;
-          hunter = hunter_as k r.account.tenancy words' x y refl refl refl refl refl refl (o.hunters x g);
-          resting = resting_as k words' x y refl refl refl refl refl (resting_lists k s.words words' x controls.lists g.resting);
+          hunter = hunter_as k r.account.tenancy words' x y refl refl refl refl refl refl refl (o.hunters x g);
+          resting = resting_as k words' x y refl refl refl refl refl refl (resting_lists k s.words words' x controls.lists g.resting);
           took_back = λ kind leads last. controls.want ∙ g.took_back kind leads last;
           owes = owes_as k live x y refl refl refl refl g.owes;
           rooted = g.rooted;
