@@ -135,7 +135,7 @@ instructions() {
 # What a command costs beyond the start, and beyond the first 200 commands, which touch all memory of the heap that the others use. A
 # collection has nothing to copy and a small heap to list, so it takes the same time in each script.
 costs() {
-    local count times measure heap=(--domains 1 --minor 4096 --pools 16)
+    local count times measure heap=(--domains 1 --minor 4096 --pools 22)
     for count in 200 1000 10000 100000 200000; do
         script 1 "$count" large >"$work/script"
         times=$((count < 10000 ? 40 * runs : count == 10000 ? 10 * runs : 2 * runs))
@@ -237,12 +237,12 @@ same() {
     for domains in 1 2 4 8; do
         for seed in $(seq $((10 * runs))); do
             by_chance "$domains" "$seed" >"$work/script"
-            pools=$((domains == 1 ? 14 + seed % 20 : 512))
+            pools=$((domains == 1 ? 20 + seed % 20 : 512))
             echo "domains $domains $(compare "$work/script" --domains "$domains" --minor 4096 --pools "$pools")"
         done
     done >>"$work/compared"
     chains 1 8000 2 >"$work/script"
-    echo "a heap that gets full $(compare "$work/script" --domains 1 --minor 4096 --pools 14)" >>"$work/compared"
+    echo "a heap that gets full $(compare "$work/script" --domains 1 --minor 4096 --pools 20)" >>"$work/compared"
     sort "$work/compared" | uniq -c
     ! grep -q differ "$work/compared"
 }
