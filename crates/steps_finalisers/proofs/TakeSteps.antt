@@ -210,8 +210,8 @@ module _ (k : Config) (s : Words) (r : Rule k s) (id : ℕ) (hist : List Entry) 
             making = record { fits = g.making.fits; written = g.making.written };
             staged = staged_as r.account.pause x y refl refl refl g.staged;
             still = λ paused. absurd (no_pause (subst IsInPause stage paused));
-            hunter = hunter_as k t s.words x y refl refl refl refl refl refl g.hunter;
-            resting = resting_as k s.words x y refl refl refl refl refl g.resting;
+            hunter = hunter_as k t s.words x y refl refl refl refl refl refl refl g.hunter;
+            resting = resting_as k s.words x y refl refl refl refl refl refl g.resting;
             took_back = g.took_back;
             owes = owes_as k live x y refl refl refl refl g.owes;
             rooted = (λ (promotes : Promoting r.account.pause). absurd (not_promoting k s r id hist x at collecting promotes), λ (past : IsPast r.account.pause y). g.rooted.1 past);

@@ -93,7 +93,7 @@ module _ (k : Config) (s : Words) (r : Rule k s) (id : ℕ) (hist : List Entry) 
       areas = λ z _ h. h;
       makings = λ z _ _ h. h;
       grid = r.whole.grid;
-      hunter = hunter_as k r.account.tenancy s.words x (worked e registers fs) refl refl refl refl refl refl g.hunter;
+      hunter = hunter_as k r.account.tenancy s.words x (worked e registers fs) refl refl refl refl refl refl refl g.hunter;
       hunters = λ z _ h. h.hunter;
       listed = record { all = g.listed.all; own = g.listed.own; lives = g.listed.lives };
       listeds = λ z _ h. h.listed;

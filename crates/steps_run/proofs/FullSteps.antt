@@ -24,7 +24,7 @@ use Rattle.heap_rule.specs.declared.view.DomainView.{DomainView}
 use Rattle.heap_rule.specs.declared.phase.Kind.TheVariants.{Run, Answer}
 use Rattle.heap_rule.specs.Limits.{sizes_in}
 use Rattle.heap_rule.specs.Layout.{listed, listed_pool, cursor}
-use Rattle.heap_rule.specs.Pools.{Holder, nobody, drawn, owned, limit_of}
+use Rattle.heap_rule.specs.Pools.{Holder, nobody, drawn, owned, limit_of, last_found}
 use Rattle.heap_rule.specs.Phases.{AtStage}
 use Rattle.heap_rule.specs.Cycles.{HasNoCycle}
 use Rattle.heap_rule.specs.Views.{one}
@@ -194,7 +194,7 @@ module _ (k : Config) (s : Words) (r : Rule k s) (id : ℕ) (hist : List Entry) 
   }
 
   -- so the pools are no more than the kept labels, one for each class and domain, and those that the domain found free
-  few_kept : (f : ℕ) → x.seen.free ≡ Some f → k.pools ≤ length kept + class_count * k.domains + f
+  few_kept : (f : ℕ) → last_found x ≡ Some f → k.pools ≤ length kept + class_count * k.domains + f
   few_kept f found =
       let words : List ℕ = s.words in
       let free = (my_good k s r id hist x at).hunter.free f found in
