@@ -23,7 +23,7 @@ use Rattle.heap_rule.proofs.Advancing.{underway_here}
 use Rattle.heap_rule.proofs.BesideLemmas.{Endures, runs_on}
 use Rattle.heap_rule.proofs.EphemeronLemmas.{looks_idle}
 use Rattle.heap_rule.proofs.FinaliserLemmas.{deciding_none}
-use Rattle.heap_rule.proofs.Keeps.{Words, between_here, controls_kept, Control, cycle_control, hunter_as, idle_here, knows_front, mine, my_good, no_cycle_here, opened_words, owes_as, remakes, resting_as, resting_lists, room_words, whole_here}
+use Rattle.heap_rule.proofs.Keeps.{Words, between_here, controls_kept, Control, cycle_control, hunter_as, idle_here, knows_front, my_good, no_cycle_here, opened_words, owes_as, remakes, resting_as, resting_lists, room_words, whole_here}
 use Rattle.heap_rule.proofs.Sharings.{SameCycle, adds_nothing, between_facts, idle_beside, leading_words}
 use Rattle.steps_cycle.specs.Looks.{with_share}
 use Rattle.steps_cycle.proofs.Unswept.{swept_armed}
@@ -186,7 +186,7 @@ module _ (k : Config) (s : Words) (r : Rule k s) (id : ℕ) (hist : List Entry) 
           drawable = controls.drawable;
           cycle = cycle';
         }
-        (knows_front k s r id hist x at y refl (mine k s r id hist x at).front)
+        (knows_front k s r id hist x at y refl (inl refl))
         record {
           stood = record { wide = g.stood.wide; each = g.stood.each; serial = g.stood.serial; enrolled = g.stood.enrolled };
           area = record { room = g.area.room; free = g.area.free; classes = g.area.classes };
