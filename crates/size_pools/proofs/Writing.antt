@@ -114,7 +114,7 @@ major_may h old x a new dst place tag n runs r is same few small some fits seria
 -- the store of the head of a new block makes the command
 pub made_did : (h : SharedHeap) (old new : Token) (mid : DomainView) (e : Entry) (c : CommandType) (l : Label) (hunt : Hunt) (registers : List Value) (serial : ℕ) (ephemerons : Bounded ℕ) → e ≡ own_entry old c → IsBusy h old → IsIn new h
     → mid ≡ with_hunt old.view hunt
-    → new.view ≡ record { own = record mid.own { registers = registers; serial = serial; ephemerons = ephemerons }; seen = record mid.seen { front = new.view.seen.front; hunt = Rests } }
+    → new.view ≡ record { own = record mid.own { registers = registers; serial = serial; ephemerons = ephemerons }; seen = record mid.seen { front = new.view.seen.front; hunt = Rests; spare = None } }
     → Answers (sizes_in h.config) mid.own.number mid.seen.front new.view.seen.front e (Replied (Block (next_label mid))) → l ≡ next_label old.view → Did h old new c (Block l)
 made_did h old new mid e c l hunt registers serial ephemerons is runs here view rest answers label =
     let mine = subst (λ (x : DomainView). Answers (sizes_in h.config) x.own.number x.seen.front new.view.seen.front e (Replied (Block (next_label x)))) view answers in
