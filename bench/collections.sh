@@ -155,12 +155,12 @@ turns() {
 # one is dropped at once.
 dead() {
     awk -v domains="$1" 'BEGIN {
-        split("1 6 14 30 62 126", fields, " ")
-        print "heap 1"
+        split("1 6 14 30 62 126 254 510 1022", fields, " ")
+        print "heap 2"
         for (d = 0; d < domains; d++) {
             print "domain " d
             for (k = 0; k < 100000 / domains; k++) {
-                print "allocmaj " (d == 0 && k == 0 ? 2 : 1) " 0 " fields[k % 6 + 1]
+                print "allocmaj " (d == 0 && k == 0 ? 2 : 1) " 0 " fields[k % 9 + 1]
                 print "drop 1"
             }
         }
@@ -170,7 +170,7 @@ dead() {
 # Runs the script of dead blocks once in the least heap and prints how it went.
 outcome() {
     local limit=$1 domains=$2 status=0
-    local run=("$work/camlheap" run --domains "$domains" --minor 4096 --pools $((13 * domains + 1)))
+    local run=("$work/camlheap" run --domains "$domains" --minor 4096 --pools $((19 * domains + 1)))
     if [ "$limit" != none ]; then
         run=(bash -c '. "$0"; limited "$@"' "$top/examples/limited.sh" "$limit" "${run[@]}")
     fi

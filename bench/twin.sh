@@ -135,7 +135,7 @@ instructions() {
 # What a command costs beyond the start, and beyond the first 200 commands, which touch all memory of the heap that the others use. A
 # collection has nothing to copy and a small heap to list, so it takes the same time in each script.
 costs() {
-    local count times measure heap=(--domains 1 --minor 4096 --pools 16)
+    local count times measure heap=(--domains 1 --minor 4096 --pools 22)
     for count in 200 1000 10000 100000 200000; do
         script 1 "$count" large >"$work/script"
         times=$((count < 10000 ? 40 * runs : count == 10000 ? 10 * runs : 2 * runs))
@@ -172,12 +172,13 @@ calls() {
     done
 }
 
-# A script of $1 domains with up to 3000 commands each, drawn by chance from the seed $2. Of several domains none uses what another one
+# A script of $1 domains with up to 3000 commands each, drawn by chance from the seed $2: of version 1 where that is even, else of
+# version 2. Of several domains none uses what another one
 # does, so that its replies are determined.
 by_chance() {
     awk -v domains="$1" -v seed="$2" '
     function any(n) { return int(rand() * n) }
-    function fields() { return any(4) ? 1 + any(3) : 1 + any(126) }
+    function fields() { return any(4) ? 1 + any(3) : 1 + any(version == 1 ? 126 : 1022) }
     function alone(k) {
         if (k < 3) return "ephe " any(8) " " 1 + any(3)
         if (k < 7) return "set_key " any(8) " " any(3) " " any(8)
@@ -194,6 +195,8 @@ by_chance() {
         return command(any(100))
     }
     function command(k) {
+        if (version == 2 && k < 8) return "raw " any(8) " " 251 + any(5) " " fields()
+        if (version == 2 && k >= 45 && k < 60) return "cas " any(8) " " any(4) " " any(8) " " any(8)
         if (k < 20) return "alloc " any(8) " " any(246) " " fields()
         if (k < 40) return "allocmaj " any(8) " " any(246) " " fields()
         if (k < 60) return "store " any(8) " " any(4) " " any(8)
@@ -206,7 +209,8 @@ by_chance() {
     }
     BEGIN {
         srand(seed)
-        print "heap 1"
+        version = 1 + seed % 2
+        print "heap " version
         for (d = 0; d < domains; d++) {
             print "domain " d
             if (domains > 1) print "drop 0"
@@ -237,12 +241,12 @@ same() {
     for domains in 1 2 4 8; do
         for seed in $(seq $((10 * runs))); do
             by_chance "$domains" "$seed" >"$work/script"
-            pools=$((domains == 1 ? 14 + seed % 20 : 512))
+            pools=$((domains == 1 ? 20 + seed % 20 : 512))
             echo "domains $domains $(compare "$work/script" --domains "$domains" --minor 4096 --pools "$pools")"
         done
     done >>"$work/compared"
     chains 1 8000 2 >"$work/script"
-    echo "a heap that gets full $(compare "$work/script" --domains 1 --minor 4096 --pools 14)" >>"$work/compared"
+    echo "a heap that gets full $(compare "$work/script" --domains 1 --minor 4096 --pools 20)" >>"$work/compared"
     sort "$work/compared" | uniq -c
     ! grep -q differ "$work/compared"
 }

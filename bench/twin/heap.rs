@@ -35,7 +35,7 @@ impl Sizes {
         (1..=8).contains(&self.domains)
             && (4096..=65_536).contains(&self.minor_words)
             && self.minor_words % 4096 == 0
-            && (self.reserve() + 6 * self.domains + 1..=2048).contains(&self.pools)
+            && (self.reserve() + CLASS_COUNT as u32 * self.domains + 1..=2048).contains(&self.pools)
     }
 
     /// How many pools are kept free for copies of young blocks.

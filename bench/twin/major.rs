@@ -4,7 +4,7 @@ use crate::finalisers::Waiting;
 use crate::heap::{CHANGED, Domain, LIVE_BLOCKS, LIVE_WORDS};
 use crate::pools::{Spot, places};
 use crate::words::{
-    Colours, Value, coloured, has_colour, is_scanned, plain_size, scanned, words_of,
+    Colours, Value, darkened, field_count, has_colour, is_scanned, scanned, words_of,
 };
 
 impl Domain<'_> {
@@ -15,7 +15,7 @@ impl Domain<'_> {
         if !has_colour(head, colours.unmarked) {
             return false;
         }
-        heap.exchange(heap.at(at), head, coloured(head, colours.marked)) == head
+        heap.exchange(heap.at(at), head, darkened(head, colours.marked)) == head
     }
 
     pub fn mark_queue(&mut self) {
@@ -45,7 +45,7 @@ impl Domain<'_> {
             return false;
         }
         let mut darkened = false;
-        for i in 0..plain_size(head).unwrap_or(0) {
+        for i in 0..field_count(head).unwrap_or(0) {
             if let Value::Ref(address) = Value::of(heap.load(heap.at(at + 2 + i)))
                 && self.darken(address, colours)
             {

@@ -3,8 +3,8 @@
 use crate::heap::{CURSOR, Domain, LIST, LISTED, POOL_WORDS};
 use crate::words::{Label, Value, ephemeron_head, plain_head};
 
-pub const CLASS_COUNT: usize = 6;
-const CLASSES: [u32; CLASS_COUNT] = [4, 8, 16, 32, 64, 128];
+pub const CLASS_COUNT: usize = 9;
+const CLASSES: [u32; CLASS_COUNT] = [4, 8, 16, 32, 64, 128, 256, 512, 1024];
 
 /// A place of a pool: the slot-th of its class.
 #[derive(Clone, Copy, PartialEq, Eq, PartialOrd, Ord)]

@@ -81,6 +81,7 @@ const PLAIN: u64 = 1;
 const EPHEMERON: u64 = 2;
 const FORWARD: u64 = 3;
 const SCANNED: u64 = 32;
+const FIRST_RAW: u64 = 251;
 
 pub fn plain_head(size: u16, tag: u8, colour: u64) -> u64 {
     PLAIN + 8 * colour + 256 * u64::from(tag) + 65536 * u64::from(size)
@@ -103,9 +104,14 @@ fn size_of(head: u64) -> u32 {
     (head >> 16) as u32 % 65536
 }
 
-/// The count of fields of a plain block.
-pub fn plain_size(head: u64) -> Option<u32> {
+/// The count of fields of a plain or a raw block.
+pub fn field_count(head: u64) -> Option<u32> {
     (head % 8 == PLAIN).then(|| size_of(head))
+}
+
+/// Whether a head is that of a raw block, which its tag tells.
+pub fn is_raw(head: u64) -> bool {
+    head % 8 == PLAIN && FIRST_RAW <= head / 256 % 256
 }
 
 /// The count of keys of an ephemeron.
@@ -130,7 +136,12 @@ pub fn scanned(head: u64) -> u64 {
     head | SCANNED
 }
 
-/// The head with another colour, and not scanned.
-pub fn coloured(head: u64, colour: u64) -> u64 {
-    head & !(SCANNED + 24) | 8 * colour
+/// The head in another colour, and not scanned but for that of a raw block, which leads nowhere.
+pub fn darkened(head: u64, colour: u64) -> u64 {
+    let coloured = head & !(SCANNED + 24) | 8 * colour;
+    if is_raw(head) {
+        scanned(coloured)
+    } else {
+        coloured
+    }
 }

@@ -5,7 +5,7 @@ use heap_model::label::Label;
 use heap_model::reply::Reply;
 use heap_text::ScriptFault::{Order, Range, Syntax, TooLong, TooMany};
 use heap_text::{
-    Line, Script, ScriptFault, Version, generate, print_command, print_heading, print_reply, read_script,
+    Line, Script, ScriptFault, generate, print_command, print_heading, print_reply, read_script,
 };
 use std::alloc::{AllocError, Global};
 use std::test::Fail;
@@ -13,8 +13,8 @@ use std::test::Fail;
 // What the first sections of a script print as.
 fn printed(alloc: Global, script: &Script, written: usize) -> Result<Vec<u8>, AllocError> {
     let first: &[u8] = match script.version() {
-        Version::One => b"heap 1\n",
-        Version::Two => b"heap 2\n",
+        2 => b"heap 2\n",
+        _ => b"heap 1\n",
     };
     let mut bytes = Vec::from_slice(alloc, first)?;
     let mut line: Line = [0; 64];
@@ -59,7 +59,11 @@ const SCRIPTS: [(u32, usize, &[u8]); 12] = [
     (1, 1, b"heap 1\ndomain 0\nallocmaj 1 3 126\nminor\n"),
     (1, 1, b"heap 1\ndomain 0\nmajor\nfull_major\n"),
     (1, 1, b"heap 2\ndomain 0\nraw 1 251 1022\ncas 0 1023 1 15\n"),
-    (1, 1, b"heap 2\ndomain 0\nalloc 1 245 1022\nallocmaj 1 3 127\n"),
+    (
+        1,
+        1,
+        b"heap 2\ndomain 0\nalloc 1 245 1022\nallocmaj 1 3 127\n",
+    ),
     (
         8,
         3,
