@@ -31,7 +31,7 @@ use Rattle.heap_rule.proofs.Lists.{no_item}
 use Rattle.heap_rule.proofs.Controls.{Untouched, counts_untouched, low_untouched, reserved_untouched, covered_untouched, pools_untouched, hunter_untouched, sum_one, all_up, parity, Move, moved_to, turns}
 use Rattle.heap_rule.proofs.Drops.{drops, dropped}
 use Rattle.heap_rule.proofs.Keeps.{Words, mine, my_good, now, no_cycle_here, whole_here, quiet_in, owes_rests, room_unused}
-use Rattle.heap_rule.proofs.PauseFacts.{not_both}
+use Rattle.heap_rule.proofs.PauseFacts.{gone_runs, not_both}
 use Rattle.heap_rule.proofs.Sharings.{SameCycle, kind_now}
 use Rattle.heap_rule.specs.Cycles.{Cycling, Told, HasNoCycle, owner_at}
 use Rattle.heap_rule.specs.Layout.{at_address}
@@ -324,11 +324,11 @@ module _ (k : Config) (s : Words) (r : Rule k s) (id : ℕ) (hist : List Entry) 
     sharing = sharing_gone k r.account s.words words' x pause' live (record tenancy { stock = counting claims' }) y.seen.stage inside may.from good.staged.stage r.whole.cycle.told my_whole may.paid_reads good;
     sharings = λ z _ other g. sharing_else k r.account s.words words' x.seen.stage number z pause' (counting claims') other same_cycle same_heap g;
     untouched = untouched;
-    front = (mine k s r id hist x at).front;
+    front = inl refl;
     phases = p.phases;
     endings = endings;
     staged = p.staged;
-    still = λ paused. absurd paused;
+    still = (λ paused. absurd paused, λ runs. absurd (gone_runs (kind_in x.seen.stage) runs));
     free = λ f e. absurd (none-some f e);
     resting = record { hunt = λ n. may.at_rest; free = λ n. refl; lists = λ l e. cc };
     owes = owes_rests k live x y refl refl paid refl good.owes;
@@ -516,11 +516,11 @@ module _ (k : Config) (s : Words) (r : Rule k s) (id : ℕ) (hist : List Entry) 
       sharing = sharing_gone k r.account s.words words' x next (dropped k live) (record tenancy { stock = no_stock }) y.seen.stage inside may.from good.staged.stage r.whole.cycle.told (λ a q own lives. whole q.label) may.paid_reads good;
       sharings = λ z _ other g. sharing_between k r.account s.words words' x z Promote next (dropped k live) (record tenancy { stock = no_stock }) tt promote_run (promotes p) in_promote whole other same_cycle good g;
       untouched = untouched;
-      front = (mine k s r id hist x at).front;
+      front = inl refl;
       phases = next_phases;
       endings = endings;
       staged = record { arrivals = counted; stage = known next (λ _. refl) (λ _ _. refl) };
-      still = λ paused. absurd paused;
+      still = (λ paused. absurd paused, λ runs. absurd (gone_runs (kind_in x.seen.stage) runs));
       resting = record { hunt = λ n. may.at_rest; free = λ n. refl; lists = λ l e. cc };
       idle = refl;
       free_same = λ f e. absurd (none-some f e);

@@ -34,7 +34,7 @@ use Rattle.heap_rule.specs.Rule.{Account, AllFound, Good, Rule, Sharing, Stood, 
 use Rattle.heap_rule.specs.Views.{one, fresh_share}
 use Rattle.heap_rule.proofs.Controls.{Untouched, found_untouched, making_untouched, pools_untouched, grid_untouched, counts_untouched, low_untouched, reserved_untouched, hunter_untouched, resting_untouched, cycle_untouched, heap_untouched}
 use Rattle.heap_rule.proofs.Keeps.{Words, mine, my_good, now, remakes, more_same, stood_other, sum_same, quiet_in, owes_rests, hunter_as, room_words, opened_words}
-use Rattle.heap_rule.proofs.PauseFacts.{not_both}
+use Rattle.heap_rule.proofs.PauseFacts.{led_runs, not_both}
 use Rattle.heap_rule.proofs.Sharings.{SameCycle, facts_words}
 use Rattle.heap_rule.proofs.Update.{over, over_here, over_else}
 use Rattle.heap_model.specs.declared.label.Label.{Label}
@@ -454,13 +454,13 @@ module _ (k : Config) (s : Words) (r : Rule k s) (id : ℕ) (hist : List Entry) 
         };
         cycle = cycle_led;
       }
-      (knows_logged k s r id hist x at o collector y refl refl)
+      (knows_logged k s r id hist x at o collector may.leads y refl refl)
       record {
         stood = record { wide = mine_stood.wide; each = mine_stood.each; serial = mine_stood.serial; enrolled = mine_stood.enrolled };
         area = record { room = good.area.room; free = good.area.free; classes = good.area.classes };
         making = record { fits = made.fits; written = made.written };
         staged = record { arrivals = good.staged.arrivals; stage = (before.0, (j, odd, over_here (j + 1) next t.kinds), may.leads, refl) };
-        still = λ paused. absurd paused;
+        still = (λ paused. absurd paused, λ runs. absurd (led_runs next runs));
         hunter = hunter_as k tenancy ws x y refl refl refl refl refl refl (hunter_untouched k tenancy s.words ws x untouched good.hunter);
         resting = record {
           hunt = λ _. rest.hunt (λ takes. ⊎_elim stays (λ e. leads_promotes last (sym stage_is ∙ e)) takes);
@@ -483,7 +483,10 @@ module _ (k : Config) (s : Words) (r : Rule k s) (id : ℕ) (hist : List Entry) 
           arrivals = h.staged.arrivals;
           stage = others_led t j next z.own.number z.own.arrivals z.seen.stage odd (λ first. other (first ∙ sym may.leads)) (subst (λ (n : ℕ). n ≤ t.phase + 1) (sym h.staged.arrivals) (r.whole.phases.each z.own.number below).1) h.staged.stage;
         };
-        still = λ paused. absurd (no_even (paused_even t z.own.number z.own.arrivals z.seen.stage paused h.staged.stage));
+        still = (
+          λ paused. absurd (no_even (paused_even t z.own.number z.own.arrivals z.seen.stage paused h.staged.stage)),
+          λ runs. let here = (subst (AtStage t z.own.number z.own.arrivals) runs h.staged.stage).1 in absurd (no_even (here.0, here.1)),
+        );
         hunter = hunter_untouched k tenancy s.words ws z untouched h.hunter;
         resting = resting_untouched k s.words ws z untouched h.resting;
         took_back = λ kind leads took. want_is ∙ h.took_back kind leads took;
@@ -513,6 +516,7 @@ module _ (k : Config) (s : Words) (r : Rule k s) (id : ℕ) (hist : List Entry) 
       before = r.account.log;
       front = ap (front_then x.seen.front r.account.log) f;
       seen = (mine k s r id hist x at).front;
+      led = (mine k s r id hist x at).led may.leads;
       legal = subst (λ (p : Option Entry). Legal (sizes_in k) (front_then x.seen.front r.account.log p)) (sym f) (subst (λ (p : Option Entry). Legal (sizes_in k) (logged r.account.log p)) f (legal_logged k s r id hist x at o way.allowed));
     };
     view = refl;

@@ -8,7 +8,6 @@ use lib.ListN.{get_elem?}
 use Rattle.atomic_table.specs.Table.{keeps, Allows}
 use Rattle.heap_model.specs.declared.entry.Entry.{Entry}
 use Rattle.heap_model.specs.declared.state.State as model
-use Rattle.heap_model.proofs.Histories.FrontLemmas.{front_whole}
 use Rattle.heap_rule.specs.declared.config.Config.{Config}
 use Rattle.heap_rule.specs.declared.view.DomainView.{DomainView}
 use Rattle.heap_rule.specs.declared.phase.Kind.{Kind}
@@ -31,13 +30,10 @@ use Rattle.heap_rule.specs.Views.{one, Tells}
 use Rattle.heap_rule.proofs.Controls.{untouched_same, sum_low, parity, Move, moved_to, no_move, turns, notes_rule, last_note_end}
 use Rattle.heap_rule.proofs.Holders.{stock_self}
 use Rattle.steps_pauses.proofs.Arrivals.{arrives}
-use Rattle.heap_rule.proofs.Keeps.{Words, mine, my_good, unmoved, nobody_leads, quiet_in, owes_rests, hunter_as}
-use Rattle.heap_rule.proofs.PauseFacts.{not_both}
+use Rattle.heap_rule.proofs.Keeps.{Words, mine, my_good, unmoved, nobody_leads, quiet_in, owes_rests, hunter_as, whole_still}
+use Rattle.heap_rule.proofs.PauseFacts.{gone_runs, not_both}
 use Rattle.steps_pauses.proofs.Leading.{led_rule, led_told}
 use Rattle.steps_pauses.proofs.Arriving.{kind_acts, sharing_looked}
-
-gone_runs : (kind : Kind) → ◌≡◌ {A = Stage} (Gone kind) (In Run) → ⊥
-gone_runs kind e = cc
 
 gone_promotes : (kind : Kind) → ◌≡◌ {A = Stage} (Gone kind) (In Promote) → ⊥
 gone_promotes kind e = cc
@@ -171,11 +167,11 @@ looked_at k id hist x gone s r at =
         sweeps = g.sweeps;
         others_sweep = λ z _ _ h. h.sweeps;
         untouched = untouched_same s.words;
-        front = front_whole x.own.number r.account.log;
+        front = inr refl;
         phases = P;
         endings = refl;
         staged = record { arrivals = st.arrivals; stage = at' };
-        still = λ _. refl;
+        still = whole_still r.account.log (moved_to x (moving stage)) refl;
         drawers = r.whole.drawers;
         free = λ f e. e;
         resting = let rest = (my_good k s r id hist x at).resting in let stays : x.seen.stage ≢ In Run = (λ e. gone_runs (kind_in x.seen.stage) (sym gone ∙ e)) in record {
@@ -190,7 +186,7 @@ looked_at k id hist x gone s r at =
       };
       told = record {
         waits = λ below. absurd (let u : b < end = below in let w : end ≤ b = over_it in omega arith);
-        begun = λ _. record { seen = me.front; legal = r.whole.legal; kind = says.0; stage = says.1; comes = comes; mode = λ kind is. mode_in k s r x.own.number a kind (subst (AtStage t x.own.number a) is at'); view = refl };
+        begun = λ _. record { seen = me.front; led = me.led; legal = r.whole.legal; kind = says.0; stage = says.1; comes = comes; mode = λ kind is. mode_in k s r x.own.number a kind (subst (AtStage t x.own.number a) is at'); view = refl };
       };
     }) in
     ⊎_elim

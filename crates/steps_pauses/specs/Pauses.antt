@@ -7,7 +7,7 @@ use Rattle.heap_model.specs.declared.reply.Applied.TheVariants.{Silent}
 use Rattle.heap_model.specs.declared.state.Mode.{Mode}
 use Rattle.heap_model.specs.declared.state.Mode.TheVariants.{Open, Sealed, Answer as Answered}
 use Rattle.heap_model.specs.History.{Legal}
-use Rattle.heap_model.specs.Fronts.{IsFrontOf, Answers}
+use Rattle.heap_model.specs.Fronts.{IsFrontOf, Answers, AreNotControls, unseen}
 use Rattle.heap_words.specs.declared.value.Value.TheVariants.{Nothing, Ref}
 use Rattle.heap_rule.specs.declared.config.Config.{Config}
 use Rattle.heap_rule.specs.declared.view.DomainView.{DomainView}
@@ -147,6 +147,7 @@ IsModeOf _ mode = Unit {0}
 -- the phase has begun: the front is the whole history so far, and an even phase is of the kind that domain 0 named, which follows the last
 pub record Begun (k : Config) (x : DomainView) (found : ℕ) (y : DomainView) : Type 0 where
   pub seen : IsFrontOf x.own.number y.seen.front x.seen.front
+  pub led : x.own.number ≡ 0 → AreNotControls (unseen y.seen.front x.seen.front)
   pub legal : Legal (sizes_in k) y.seen.front
   pub kind : Kind
   pub stage : ((y.seen.stage ≡ In kind) × IsEven x.own.arrivals) ⊎ ((y.seen.stage ≡ Leads (kind_in x.seen.stage)) × IsOdd x.own.arrivals)
@@ -246,6 +247,7 @@ pub record EndsWith (k : Config) (x y : DomainView) (e : Entry) : Type 0 where
   pub before : List Entry
   pub front : y.seen.front ≡ before ++ e ∷ []
   pub seen : IsFrontOf x.own.number before x.seen.front
+  pub led : AreNotControls (unseen before x.seen.front)
   pub legal : Legal (sizes_in k) y.seen.front
 
 -- what domain 0 knew of the phase is void, and the collector's entry stands, if there is one

@@ -17,7 +17,7 @@ use Rattle.heap_rule.specs.Raw.{CanLeave, Closes, Leaves, MayStore}
 use Rattle.heap_rule.specs.Rule.{Account, Good, Rule, Sharing, state_of}
 use Rattle.heap_rule.specs.Views.{one}
 use Rattle.heap_rule.proofs.Holders.{NotOf, found_agrees, free_later, hunter_agree, making_agrees, nobody_not, owned_not, same_over, stock_self}
-use Rattle.heap_rule.proofs.Keeps.{Words, knows_front, mine, my_good, opened_words, owes_as, phases_words, remakes, room_words}
+use Rattle.heap_rule.proofs.Keeps.{Words, knows_front, my_good, opened_words, owes_as, phases_words, remakes, room_words}
 use Rattle.heap_rule.proofs.PauseFacts.{kind_differs, not_both}
 use Rattle.heap_rule.proofs.Sharings.{leading_words}
 use Rattle.steps_cycle.specs.Looks.{with_share}
@@ -166,7 +166,7 @@ module _ (k : Config) (s : Words) (r : Rule k s) (id : ℕ) (hist : List Entry) 
         drawable = record { to_run = λ j odd _ _. absurd (even_here j odd); to_copy = λ j odd _ _. absurd (even_here j odd) };
         cycle = cycle' k s r id hist x at word pool class may;
       }
-      (knows_front k s r id hist x at y refl (mine k s r id hist x at).front)
+      (knows_front k s r id hist x at y refl (inl refl))
       record {
         stood = record { wide = g.stood.wide; each = g.stood.each; serial = g.stood.serial; enrolled = g.stood.enrolled };
         area = record { room = g.area.room; free = g.area.free; classes = g.area.classes };

@@ -22,7 +22,7 @@ use Rattle.heap_rule.specs.Raw.{MayStep}
 use Rattle.heap_rule.specs.Rule.{Rule, Sharing, state_of}
 use Rattle.heap_rule.specs.Sweeping.{Reaps, SweepsIn, nothing_swept}
 use Rattle.heap_rule.specs.Views.{one}
-use Rattle.heap_rule.proofs.Keeps.{Words, control_same, controls_kept, hunter_as, mine, my_good, unmoved, writes}
+use Rattle.heap_rule.proofs.Keeps.{Words, control_same, controls_kept, hunter_as, my_good, unmoved, writes}
 use Rattle.heap_rule.proofs.Lots.{none_before}
 use Rattle.heap_rule.proofs.OwnPlaces.{owned_same}
 use Rattle.steps_cycle.specs.Looks.{with_share}
@@ -82,7 +82,7 @@ module _ (k : Config) (s : Words) (r : Rule k s) (id : ℕ) (hist : List Entry) 
         hunt = refl;
         free = refl;
         listing = refl;
-        front = (mine k s r id hist x at).front;
+        front = inl refl;
         still = g.still;
         stage = refl;
         notes = refl;
