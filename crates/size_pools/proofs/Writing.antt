@@ -126,9 +126,7 @@ made_did h old new mid e c l hunt registers serial ephemerons is runs here view 
       copying = ap (λ (x : DomainView). x.seen.copying) rest ∙ ap (λ (x : DomainView). x.seen.copying) view;
       queue = ap (λ (x : DomainView). x.own.finalisers.queue) rest ∙ ap (λ (x : DomainView). x.own.finalisers.queue) view;
       weak = ap (λ (x : DomainView). x.seen.share.weak) rest ∙ ap (λ (x : DomainView). x.seen.share.weak) view;
-      cut = ap (λ (x : DomainView). x.seen.share.cut) rest ∙ ap (λ (x : DomainView). x.seen.share.cut) view;
-      whole = ap (λ (x : DomainView). x.seen.share.whole) rest ∙ ap (λ (x : DomainView). x.seen.share.whole) view;
-      unswept = ap (λ (x : DomainView). x.seen.share.unswept) rest ∙ ap (λ (x : DomainView). x.seen.share.unswept) view;
+      progress = ap (λ (x : DomainView). x.seen.share.progress) rest ∙ ap (λ (x : DomainView). x.seen.share.progress) view;
       remembers = λ all. ap (λ (x : DomainView). x.seen.remembered) rest ∙ (ap (λ (x : DomainView). x.seen.remembered) view ∙ (all ∙ sym (ap (λ (x : DomainView). x.own.remembered.items) rest ∙ ap (λ (x : DomainView). x.own.remembered.items) view)));
     })
     (subst (λ (x : Entry). Answers (sizes_in h.config) old.view.own.number old.view.seen.front new.view.seen.front x (Replied (Block l))) is
@@ -165,9 +163,7 @@ searched_did h old mid new hunt c r runs here view did =
         copying = did.stays.copying ∙ ap (λ (x : DomainView). x.seen.copying) view;
         queue = did.stays.queue ∙ ap (λ (x : DomainView). x.own.finalisers.queue) view;
         weak = did.stays.weak ∙ ap (λ (x : DomainView). x.seen.share.weak) view;
-        cut = did.stays.cut ∙ ap (λ (x : DomainView). x.seen.share.cut) view;
-        whole = did.stays.whole ∙ ap (λ (x : DomainView). x.seen.share.whole) view;
-        unswept = did.stays.unswept ∙ ap (λ (x : DomainView). x.seen.share.unswept) view;
+        progress = did.stays.progress ∙ ap (λ (x : DomainView). x.seen.share.progress) view;
         remembers = λ all. did.stays.remembers (searched_remembers old.view mid.view hunt view all);
       };
     }
