@@ -207,6 +207,7 @@ module _ (k : Config) (s : Words) (r : Rule k s) (id : ℕ) (hist : List Entry) 
         stage = refl;
         front = refl;
         free = refl;
+        spare = refl;
         listing = refl;
         made = refl;
         wide = wide;

@@ -117,6 +117,7 @@ module _ (k : Config) (s : Words) (r : Rule k s) (id : ℕ) (hist : List Entry) 
         stage = refl;
         front = refl;
         free = refl;
+        spare = refl;
         listing = refl;
         wide = refl;
         control = control_same k s.words;
@@ -135,7 +136,7 @@ module _ (k : Config) (s : Words) (r : Rule k s) (id : ℕ) (hist : List Entry) 
         stood = stood_same k s r id hist x at promotes y refl refl refl refl live (more_same live);
         area = record { room = g.area.room; free = g.area.free; classes = g.area.classes };
         making = record { fits = g.making.fits; written = g.making.written };
-        hunter = hunter_as k r.account.tenancy s.words x y refl refl refl refl refl refl g.hunter;
+        hunter = hunter_as k r.account.tenancy s.words x y refl refl refl refl refl refl refl g.hunter;
         owes = record {
           quiet = inr promotes;
           knows = more;

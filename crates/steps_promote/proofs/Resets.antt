@@ -162,6 +162,7 @@ reset_may k x word a new place may fits slots id hist s r _ at _ =
       stage = refl;
       hunt = refl;
       free = refl;
+      spare = refl;
       listing = refl;
       notes = refl;
       copying = refl;
@@ -179,7 +180,7 @@ reset_may k x word a new place may fits slots id hist s r _ at _ =
       making = record { fits = λ j w got. absurd (none_made x.seen.made j w may.blank got); written = λ j w got. absurd (none_made x.seen.made j w may.blank got) };
       makings = λ z other _ p. making_beside k s.words a new z (area_word_far k x.own.number a z (let o : base ≤ a = omega arith in o) (let h : 0 < minor = may.some in let o : a < base + minor = omega arith in o) other) p;
       grid = grid_beside k r.account.tenancy s.words a new r.account.live r.account.live r.whole.pools beside (more_same r.account.live) (λ b q h _. h) r.whole.grid;
-      hunter = hunter_as k r.account.tenancy ws x y refl refl refl refl refl refl (hunter_beside k r.account.tenancy s.words a new r.whole.pools x (beside x.own.number) g.hunter);
+      hunter = hunter_as k r.account.tenancy ws x y refl refl refl refl refl refl refl (hunter_beside k r.account.tenancy s.words a new r.whole.pools x (beside x.own.number) g.hunter);
       hunters = λ z _ h. hunter_beside k r.account.tenancy s.words a new r.whole.pools z (beside z.own.number) h.hunter;
       cycle = cycle_here k s r id hist x at Reset tt may.stage (state_of k r.account.log) r.account.live r.account.tenancy r.account.cycling.past ws refl garbage same (λ is u. u);
       sharing = sharing_here k s r id hist x at Reset tt may.stage r.account ws r.account.cycling.past x.seen.share.weak y refl same refl refl refl (runs_here k s r id hist x at r.account ws refl x (λ runs. absurd (not_run x g runs)) g);

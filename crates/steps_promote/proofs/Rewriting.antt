@@ -259,6 +259,7 @@ module _ (k : Config) (s : Words) (r : Rule k s) (id : ℕ) (hist : List Entry) 
         stage = refl;
         front = refl;
         free = refl;
+        spare = refl;
         listing = refl;
         made = refl;
         wide = length-set s.words (before_heap k + A) new;
