@@ -258,7 +258,6 @@ module _ (k : Config) (s : Words) (r : Rule k s) (id : ℕ) (hist : List Entry) 
     abbrev met1 : List Met
     met1 = met_of c2 may.place ∷ x.seen.copying.met
 
-
     its : Lasts live c2 (met_place (met_of c2 may.place))
     its = record { place = lead.place; lives = lead.lives; label = lead.label ∙ lasts.label; shape = lead.shape ∙ (shape_is ∙ sym (form_shape may.place.shape)) }
 
