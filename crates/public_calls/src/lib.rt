@@ -4,11 +4,7 @@
 #[cfg(test)]
 mod barriers_calls;
 #[cfg(test)]
-mod command_line_calls;
-#[cfg(test)]
 mod cycle_phases_calls;
-#[cfg(test)]
-mod decimals_calls;
 #[cfg(test)]
 mod domain_turns_calls;
 #[cfg(test)]
@@ -22,21 +18,11 @@ mod fixtures;
 #[cfg(test)]
 mod heap_rule_calls;
 #[cfg(test)]
-mod heap_text_calls;
-#[cfg(test)]
-mod heap_words_calls;
-#[cfg(test)]
 mod mark_slices_calls;
 #[cfg(test)]
 mod minor_area_calls;
 #[cfg(test)]
-mod outer_io_calls;
-#[cfg(test)]
-mod remembered_set_calls;
-#[cfg(test)]
 mod safepoint_calls;
-#[cfg(test)]
-mod size_classes_calls;
 #[cfg(test)]
 mod size_pools_calls;
 #[cfg(test)]

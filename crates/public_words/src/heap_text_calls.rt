@@ -1,5 +1,5 @@
 //! Worked scripts and reply lines.
-use crate::fixtures::same;
+use crate::same::same;
 use heap_model::command::Command;
 use heap_model::label::Label;
 use heap_model::reply::Reply;

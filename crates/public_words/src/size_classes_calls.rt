@@ -1,5 +1,5 @@
 //! The heap's table of six sizes, and a table of nine.
-use crate::fixtures::same;
+use crate::same::same;
 use size_classes::{Classes, heap_classes, reserve};
 use std::process::Abort;
 

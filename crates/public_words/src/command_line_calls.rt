@@ -1,5 +1,5 @@
 //! Words that are taken, with what they ask for, and words that are refused.
-use crate::fixtures::same;
+use crate::same::same;
 use command_line::{Generated, Job, read_words, words_fit};
 use heap_model::state::Sizes;
 use std::alloc::{AllocError, Global};

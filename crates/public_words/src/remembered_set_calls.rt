@@ -1,5 +1,5 @@
 //! A remembered set that fills, and is emptied.
-use crate::fixtures::same;
+use crate::same::same;
 use remembered_set::Remembered;
 use std::test::Fail;
 

@@ -1,7 +1,7 @@
 //! Each public call once on its happy path, and the adapters over memory.
 ghost use Rattle.std.specs.Prelude.{◌≡◌, IfOk};
 
-use crate::fixtures::same;
+use crate::same::same;
 use outer_io::{
     Failed, Gate, LengthSink, MemSink, MemSource, NoGate, Sink, Source, StdSink, StdSource,
     SureSource,

@@ -1,5 +1,5 @@
 //! Words worked out by hand, and the words that nothing packs to.
-use crate::fixtures::same;
+use crate::same::same;
 use heap_words::{
     Colours, Head, Value, pack_colours, pack_head, pack_label, pack_value, rotate, unpack_colours,
     unpack_head, unpack_label, unpack_value,
