@@ -1,5 +1,5 @@
 -- What the clauses of registering, queueing and running finalisers refuse.
-use Rattle.std.proofs.Common.{◌≡◌, ◌∙◌, ℕ, suc, ◌+◌, ◌<◌, ◌≤◌, ◌⊎◌, Some, None, List, [], ◌∷◌, ◌++◌, length, refl, sym, ap, ⊎_elim, subst, arith}
+use Rattle.std.proofs.Common.{◌≡◌, ◌∙◌, ℕ, suc, ◌+◌, ◌<◌, ◌≤◌, ◌⊎◌, Some, None, List, [], ◌∷◌, ◌++◌, length, remove, refl, sym, ap, ⊎_elim, subst, arith}
 use Rattle.heap_rule.specs.declared.config.Config.{Config}
 use Rattle.heap_rule.specs.declared.view.DomainView.{DomainView}
 use Rattle.heap_rule.specs.declared.view.Registered.{Registered}
@@ -8,7 +8,8 @@ use Rattle.finaliser_queues.specs.Deciding.{Splits}
 use Rattle.finaliser_queues.specs.Running.{RanFirst}
 use Rattle.finaliser_queues.specs.declared.running.Ran.{Ran}
 
-lengths : {A : Type 0} → (l m : List A) → length (l ++ m) ≡ length l + length m
+-- lists behind one another
+pub lengths : {A : Type 0} → (l m : List A) → length (l ++ m) ≡ length l + length m
 lengths [] m = let n : ℕ = length m in let e : n ≡ 0 + n = omega arith in e
 lengths (x ∷ l) m =
     let a : ℕ = length (l ++ m) in
