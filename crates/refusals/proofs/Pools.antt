@@ -1,0 +1,29 @@
+-- What the clauses of allocation and of taking pools refuse.
+use Rattle.std.proofs.Common.{◌≡◌, ◌∙◌, ℕ, ◌+◌, ◌<◌, ◌≤◌, ◌⊎◌, Some, None, refl, sym, ap, subst, arith}
+use Rattle.heap_rule.specs.declared.config.Config.{Config}
+use Rattle.heap_rule.specs.declared.view.DomainView.{DomainView}
+use Rattle.heap_rule.specs.Token.{Token, SharedHeap}
+use Rattle.heap_model.specs.Domains.{reserve}
+use Rattle.heap_rule.specs.Limits.{sizes_in}
+use Rattle.minor_area.specs.Area.{HasRoom, IsClosed, IsFull, IsShut}
+use Rattle.size_pools.specs.Taken.{Reserved, Unreserved}
+use Rattle.domain_turns.specs.Tries.{HasNoPool}
+
+-- the minor area isn't said to be full while the block fits
+pub no_area_is_full_early : (h : SharedHeap) (old new : Token) (fields used : ℕ) → IsFull h old new fields used → HasRoom h.config old.view fields → ⊥
+no_area_is_full_early h old new fields used full room = let none = full.no_room in omega (arith, none, room)
+
+-- a young allocation isn't refused for the pools while as many were found free as promotion may need
+pub no_area_is_closed_early : (h : SharedHeap) (old new : Token) (fields free : ℕ) → IsClosed h old new fields free → reserve (sizes_in h.config) ≤ free → ⊥
+no_area_is_closed_early h old new fields free shut enough = let few = shut.few in omega (arith, few, enough)
+
+-- no pool is said to be had nowhere while own pools are left to be swept, or while more were found free than the reserve
+pub no_sweep_is_left_out : (k : Config) (words : ℕ) (y : DomainView) → HasNoPool k words y → y.own.swept.spot.pool < k.pools → ⊥
+no_sweep_is_left_out k words y none left = let swept = none.swept in omega (arith, swept, left)
+
+pub no_free_pool_is_left_out : (k : Config) (words : ℕ) (y : DomainView) → HasNoPool k words y → Unreserved k y → ⊥
+no_free_pool_is_left_out k words y none more =
+    let same : none.free ≡ more.free = let e : Some none.free ≡ Some more.free = sym none.reserved.found ∙ more.found in cc in
+    let few = none.reserved.few in
+    let many = more.more in
+    omega (arith, same, few, many)
