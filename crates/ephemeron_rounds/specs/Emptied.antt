@@ -20,7 +20,7 @@ pub record KeyCleaned (won : Bool) (x y : DomainView) : Type 0 where
 pub record KeysCleaned (at keys done : ℕ) (won : Bool) (x y : DomainView) : Type 0 where
   pub emptied : List ℕ
   pub some : MatchBool won (emptied ≢ []) (emptied ≡ [])
-  pub view : y ≡ with_share x (cleaning_on (record { block = at; done = done; count = keys; emptied = emptied; next = Unknown }) x.seen.share)
+  pub view : y ≡ with_share x (cleaning_on (record { block = at; label = None; done = done; count = keys; emptied = emptied; next = Unknown }) x.seen.share)
 
 -- the domain with a longer front, and with what it knows of the colours and the places that it has seen as another has it
 abbrev pub with_places : DomainView → DomainView → DomainView

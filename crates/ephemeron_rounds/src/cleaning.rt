@@ -16,7 +16,7 @@ use heap_rule::{Domain, Heap, Reading, read_as};
 use heap_words::{Colours, Value};
 use steps_clean::{wipe_data, wipe_key};
 use steps_cycle::colours_now;
-use steps_rounds::{clean_end, clean_key_load, clean_key_look, clean_load};
+use steps_rounds::{clean_end, clean_key_load, clean_key_look, clean_label_load, clean_load};
 
 // Looks at the next key, which is at `at`, and empties it if it is full and its block isn't marked.
 // Answers whether it has emptied the key.
@@ -61,7 +61,7 @@ fn clean_keys(heap: &Heap, dom: &mut Domain, at: u32, keys: u32, colours: Colour
 }
 
 // Looks at a listed ephemeron. Where it is marked its keys that aren't are emptied, and where there is
-// one its datum too.
+// one its datum too, once its label is loaded.
 fn clean_ephemeron(heap: &Heap, dom: &mut Domain, at: u32, colours: Colours)
     requires here { IsIn dom.old heap.now }
     requires stage { dom.old.view.seen.stage ≡ In Clean }
@@ -80,6 +80,7 @@ fn clean_ephemeron(heap: &Heap, dom: &mut Domain, at: u32, colours: Colours)
         return;
     };
     if clean_keys(heap, dom, at, keys, colours) {
+        clean_label_load(heap, dom, at + 1);
         wipe_data(heap, dom, at + 2);
     } else {
         clean_end(heap, dom, at + 2);
