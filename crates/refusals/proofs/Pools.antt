@@ -1,5 +1,5 @@
 -- What the clauses of allocation and of taking pools refuse.
-use Rattle.std.proofs.Common.{◌≡◌, ◌∙◌, ℕ, ◌+◌, ◌<◌, ◌≤◌, ◌⊎◌, Some, None, refl, sym, ap, subst, arith}
+use Rattle.std.proofs.Common.{◌≡◌, ◌∙◌, ℕ, ◌+◌, ◌<◌, ◌≤◌, ◌⊎◌, ◌∷◌, ◌++◌, Some, None, refl, sym, ap, subst, arith}
 use Rattle.heap_rule.specs.declared.config.Config.{Config}
 use Rattle.heap_rule.specs.declared.view.DomainView.{DomainView}
 use Rattle.heap_rule.specs.Token.{Token, SharedHeap}
@@ -18,12 +18,12 @@ pub no_area_is_closed_early : (h : SharedHeap) (old new : Token) (fields free : 
 no_area_is_closed_early h old new fields free shut enough = let few = shut.few in omega (arith, few, enough)
 
 -- no pool is said to be had nowhere while own pools are left to be swept, or while more were found free than the reserve
-pub no_sweep_is_left_out : (k : Config) (words : ℕ) (y : DomainView) → HasNoPool k words y → y.own.swept.spot.pool < k.pools → ⊥
-no_sweep_is_left_out k words y none left = let swept = none.swept in omega (arith, swept, left)
+pub no_sweep_is_left_out : (k : Config) (words : ℕ) (x y : DomainView) → HasNoPool k words x y → y.own.swept.spot.pool < k.pools → ⊥
+no_sweep_is_left_out k words x y none left = let swept = none.swept in omega (arith, swept, left)
 
-pub no_free_pool_is_left_out : (k : Config) (words : ℕ) (y : DomainView) → HasNoPool k words y → Unreserved k y → ⊥
-no_free_pool_is_left_out k words y none more =
-    let same : none.free ≡ more.free = let e : Some none.free ≡ Some more.free = sym none.reserved.found ∙ more.found in cc in
+pub no_free_pool_is_left_out : (k : Config) (words : ℕ) (x y : DomainView) → HasNoPool k words x y → Unreserved k x y → ⊥
+no_free_pool_is_left_out k words x y none more =
+    let same : none.free ≡ more.free = let e : none.free ∷ none.reserved.found.0 ++ x.seen.free ≡ more.free ∷ more.found.0 ++ x.seen.free = sym none.reserved.found.1 ∙ more.found.1 in cc in
     let few = none.reserved.few in
     let many = more.more in
     omega (arith, same, few, many)
