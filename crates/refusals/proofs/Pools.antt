@@ -6,6 +6,7 @@ use Rattle.heap_rule.specs.Token.{Token, SharedHeap}
 use Rattle.heap_model.specs.Domains.{reserve}
 use Rattle.heap_rule.specs.Limits.{sizes_in}
 use Rattle.minor_area.specs.Area.{HasRoom, IsClosed, IsFull}
+use Rattle.size_pools.specs.Taken.{Unreserved}
 use Rattle.domain_turns.specs.Tries.{HasNoPool}
 use Rattle.refusals.proofs.Finalisers.{lengths}
 
@@ -20,6 +21,14 @@ no_area_is_closed_early h old new fields free shut enough = let few = shut.few i
 -- no pool is said to be had nowhere while own pools are left to be swept
 pub no_sweep_is_left_out : (k : Config) (words : ℕ) (x y : DomainView) → HasNoPool k words x y → y.own.swept.spot.pool < k.pools → ⊥
 no_sweep_is_left_out k words x y none left = let swept = none.swept in omega (arith, swept, left)
+
+-- or while more were found free than the reserve
+pub no_free_pool_is_left_out : (k : Config) (words : ℕ) (x y : DomainView) → HasNoPool k words x y → Unreserved k x y → ⊥
+no_free_pool_is_left_out k words x y none more =
+    let same : none.free ≡ more.free = let e : none.free ∷ none.reserved.found.0 ++ x.seen.free ≡ more.free ∷ more.found.0 ++ x.seen.free = sym none.reserved.found.1 ∙ more.found.1 in cc in
+    let few = none.reserved.few in
+    let many = more.more in
+    omega (arith, same, few, many)
 
 -- nor without a look in this call at how many pools are free
 pub no_refusal_without_a_look : (k : Config) (words : ℕ) (x y : DomainView) → HasNoPool k words x y → y.seen.free ≡ x.seen.free → ⊥
