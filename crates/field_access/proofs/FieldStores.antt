@@ -37,9 +37,7 @@ store_stays x y at remembers registers front is = record {
   copying = ap (λ (z : DomainView). z.seen.copying) is;
   queue = ap (λ (z : DomainView). z.own.finalisers.queue) is;
   weak = ap (λ (z : DomainView). z.seen.share.weak) is;
-  cut = ap (λ (z : DomainView). z.seen.share.cut) is;
-  whole = ap (λ (z : DomainView). z.seen.share.whole) is;
-  unswept = ap (λ (z : DomainView). z.seen.share.unswept) is;
+  progress = ap (λ (z : DomainView). z.seen.share.progress) is;
   remembers = λ all. ap (λ (z : DomainView). z.seen.remembered) is ∙ (ap (with_field remembers at) all ∙ ap (λ (z : DomainView). z.own.remembered.items) (sym is));
 }
 
@@ -52,9 +50,7 @@ learnt_stays x y learnt weak = let is = learnt.view in record {
   copying = ap (λ (z : DomainView). z.seen.copying) is;
   queue = ap (λ (z : DomainView). z.own.finalisers.queue) is;
   weak = weak;
-  cut = ap (λ (z : DomainView). z.seen.share.cut) is;
-  whole = ap (λ (z : DomainView). z.seen.share.whole) is;
-  unswept = ap (λ (z : DomainView). z.seen.share.unswept) is;
+  progress = ap (λ (z : DomainView). z.seen.share.progress) is;
   remembers = λ all. ap (λ (z : DomainView). z.seen.remembered) is ∙ (all ∙ ap (λ (z : DomainView). z.own.remembered.items) (sym is));
 }
 
