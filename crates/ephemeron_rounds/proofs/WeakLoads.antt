@@ -171,9 +171,7 @@ module _ (h : SharedHeap) (old y : Token) (c : Command) (a : ℕ) (runs : Runs h
         copying = ap (λ (v : DomainView). v.seen.copying) path;
         queue = ap (λ (v : DomainView). v.own.finalisers.queue) path;
         weak = ap (λ (v : DomainView). v.seen.share.weak) same ∙ (paid ∙ sym found_acts.paid);
-        cut = ap (λ (v : DomainView). v.seen.share.cut) path;
-        whole = ap (λ (v : DomainView). v.seen.share.whole) path;
-        unswept = ap (λ (v : DomainView). v.seen.share.unswept) path;
+        progress = ap (λ (v : DomainView). v.seen.share.progress) path;
         remembers = λ all. ap (λ (v : DomainView). v.seen.remembered) path ∙ (all ∙ ap (λ (v : DomainView). v.own.remembered.items) (sym path));
       }
 

@@ -9,7 +9,7 @@ ghost use Rattle.heap_rule.specs.Layout.{heap_words};
 ghost use Rattle.heap_rule.specs.Standing.{IsInHeap};
 ghost use Rattle.heap_rule.specs.Token.{IsIn};
 ghost use Rattle.steps_rounds.specs.Emptying.{CleanKeyMay, cleaning_from};
-ghost use Rattle.ephemeron_rounds.specs.Emptied.{AllCleaned, Cleaned, KeyCleaned, KeysCleaned};
+ghost use Rattle.ephemeron_rounds.specs.Emptied.{AllCleaned, Cleaned, KeyCleaned, KeysCleaned, StaysLegal};
 
 use crate::heads::{is_marked, marked_keys};
 use heap_rule::{Domain, Heap, Reading, read_as};
@@ -73,6 +73,7 @@ fn clean_ephemeron(heap: &Heap, dom: &mut Domain, at: u32, colours: Colours)
     requires listed { IsTrue (seen_by dom.old.view.own.ephemerons.items at) }
     ensures here { IsIn dom.new heap.now }
     ensures cleaned { Cleaned at dom.old.view dom.new.view }
+    ensures legal { StaysLegal heap.now.config dom.old.view dom.new.view }
 {
     let _limits = heap.config();
     let word = clean_load(heap, dom, at);
@@ -102,6 +103,7 @@ pub fn clean(heap: &Heap, dom: &mut Domain)
     requires none { dom.old.view.seen.share.cleaning ≡ None }
     ensures here { IsIn dom.new heap.now }
     ensures cleaned { AllCleaned dom.old.view dom.new.view }
+    ensures legal { StaysLegal heap.now.config dom.old.view dom.new.view }
 {
     let colours = colours_now(heap, dom);
     for i in 0..dom.ephemerons_len() {

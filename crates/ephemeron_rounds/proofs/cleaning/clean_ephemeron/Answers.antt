@@ -1,5 +1,19 @@
 use Rattle.ephemeron_rounds.proofs.Wipes.{clean_end_may, cleaning_begun, datum_wiped, not_cleaned, wipe_data_may}
+use Rattle.ephemeron_rounds.proofs.Fronts.{end_front, legal_as, load_front}
 use Rattle.ephemeron_rounds.proofs.cleaning.clean_ephemeron.Goals as goal
+use Rattle.std.proofs.Common.{false}
+
+pub returns-in_default-clause-legal : goal.returns-in_default-clause-legal
+returns-in_default-clause-legal c = legal_as c.args.heap.now.config c.args.dom.now.view c.clean_load-word.new.dom.view (load_front c.args.heap.now.config c.args.at c.clean_load-word.result c.args.dom.now.view c.clean_load-word.new.dom.view c.clean_load-word.ensures.told)
+
+pub returns-then-clean_keys-clause-legal : goal.returns-then-clean_keys-clause-legal
+returns-then-clean_keys-clause-legal c = λ _. c.wipe_data.ensures.told.legal
+
+pub returns-else-clean_keys-clause-legal : goal.returns-else-clean_keys-clause-legal
+returns-else-clean_keys-clause-legal c =
+    let x = c.args.dom.now.view in
+    let y = c.clean_load-word.new.dom.view in
+    legal_as c.args.heap.now.config x c.clean_end.new.dom.view (end_front c.args.heap.now.config c.args.at c.clean_load-word.result c.clean_end.result c.in-Some.keys false x y c.clean_keys.new.dom.view c.clean_end.new.dom.view c.clean_load-word.ensures.told c.if-clean_keys.ensures.cleaned c.clean_end.ensures.told)
 
 pub returns-in_default-clause-cleaned : goal.returns-in_default-clause-cleaned
 returns-in_default-clause-cleaned c = not_cleaned c.args.heap.now.config c.args.dom.now.view c.clean_load-word.new.dom.view c.args.at c.clean_load-word.result c.args.colours c.requires.known c.clean_load-word.ensures.told c.in_default.ensures
