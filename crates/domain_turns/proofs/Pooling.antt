@@ -36,9 +36,7 @@ searched_stays x y is = record {
   copying = ap (λ (z : DomainView). z.seen.copying) is;
   queue = ap (λ (z : DomainView). z.own.finalisers.queue) is;
   weak = ap (λ (z : DomainView). z.seen.share.weak) is;
-  cut = ap (λ (z : DomainView). z.seen.share.cut) is;
-  whole = ap (λ (z : DomainView). z.seen.share.whole) is;
-  unswept = ap (λ (z : DomainView). z.seen.share.unswept) is;
+  progress = ap (λ (z : DomainView). z.seen.share.progress) is;
   remembers = λ all. ap (λ (z : DomainView). z.seen.remembered) is ∙ (all ∙ ap (λ (z : DomainView). z.own.remembered.items) (sym is));
 }
 
