@@ -1,5 +1,5 @@
 -- What becomes of a domain's view while it empties keys of its ephemerons in Clean.
-use Rattle.std.specs.Prelude.{◌≡◌, ◌≢◌, ℕ, Bool, cond, MatchBool, List, [], ◌∷◌, Some}
+use Rattle.std.specs.Prelude.{None, ◌≡◌, ◌≢◌, ℕ, Bool, cond, MatchBool, List, [], ◌∷◌, Some}
 use Rattle.heap_model.specs.Fronts.{IsFrontOf}
 use Rattle.heap_rule.specs.declared.view.Cleaning.{Cleaning}
 use Rattle.heap_rule.specs.declared.view.DomainView.{DomainView}
