@@ -185,11 +185,11 @@ module _ (y z : DomainView) (at keys : ℕ) (t : KeysCleaned at keys keys true y
     abbrev named : Cleaning
     named = labelled l.label all_done
 
-    same : l.cleaning ≡ all_done
-    same = one_cleaning z.seen.share.cleaning all_done l.cleaning (ap (λ (u : DomainView). u.seen.share.cleaning) t.view) l.cleans
+    is_done : l.cleaning ≡ all_done
+    is_done = one_cleaning z.seen.share.cleaning all_done l.cleaning (ap (λ (u : DomainView). u.seen.share.cleaning) t.view) l.cleans
 
     named_view : v ≡ with_cleaning y named
-    named_view = l.view ∙ (λ i. with_cleaning (t.view i) (labelled l.label (same i)))
+    named_view = l.view ∙ (λ i. with_cleaning (t.view i) (labelled l.label (is_done i)))
 
     pub wipe_data_may : WipeDataMay v (at + 2)
     wipe_data_may = record { cleaning = named; cleans = ap (λ (u : DomainView). u.seen.share.cleaning) named_view; all = refl; some = t.some; label = l.label; labelled = refl; word = refl }
