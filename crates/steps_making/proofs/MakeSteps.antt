@@ -129,8 +129,8 @@ inits k slots id word hist x a new changes place may s r _ at _ =
       hunt = refl;
       free = refl;
       listing = refl;
-      front = (mine k s r id hist x at).front;
-      still = λ p. g.still p;
+      front = inl refl;
+      still = g.still;
       stage = refl;
       notes = refl;
       copying = refl;
@@ -557,7 +557,7 @@ module _ (k : Config) (s : Words) (r : Rule k s) (id : ℕ) (hist : List Entry) 
 
   alloc_told : AllocTold k e changes x after
   alloc_told = record {
-    answers = answers_push (sizes_in k) d r.account.log x.seen.front e (Replied (BlockReply L)) (mine k s r id hist x at).front
+    answers = answers_push (sizes_in k) d r.account.log x.seen.front e (Replied (BlockReply L)) (mine k s r id hist x at).front (λ _. g.still.1 may.acts.runs)
         (legal_entry k s r id hist x at e record { running = running k s r id hist x at may.acts; fits = fits_now; full_fits = tt }) leaves.replies;
     view = λ i. record {
       own = record (sym (changed_only NothingWord changes x.own) i) { used = x.own.used + class_words (sym (made.counts d) i + 2); serial = x.own.serial + 1 };
