@@ -72,6 +72,6 @@ led_to k x y z word next is view told =
     let t = subst (λ (u : DomainView × Kind). LeadTold k u.1 u.0 word z) (λ i. (view i, kind i)) told in record {
       seen = t.seen;
       stays = t.stays;
-      made = λ e stands. let m = t.made e stands in record { before = m.before; front = m.front; seen = m.seen; legal = m.legal };
+      made = λ e stands. let m = t.made e stands in record { before = m.before; front = m.front; seen = m.seen; led = m.led; legal = m.legal };
       view = t.view;
     }

@@ -1,7 +1,7 @@
 -- What a look answers, and what domain 0 does when it leads.
 use Rattle.std.specs.Prelude.{◌≡◌, ◌*◌, ◌/◌, ◌%◌, ◌==◌, ◌<◌, ◌≤◌, ℕ, Bool, List, [], ◌∷◌, ◌++◌, Some, None}
 use Rattle.heap_model.specs.History.{Legal}
-use Rattle.heap_model.specs.Fronts.{IsFrontOf}
+use Rattle.heap_model.specs.Fronts.{AreNotControls, IsFrontOf, unseen}
 use Rattle.heap_rule.specs.declared.config.Config.{Config}
 use Rattle.heap_rule.specs.declared.view.DomainView.{DomainView}
 use Rattle.heap_rule.specs.declared.phase.Kind.{Kind}
@@ -36,6 +36,7 @@ pub record Passed (k : Config) (x y : DomainView) : Type 0 where
   pub found : ℕ
   pub all : x.own.arrivals * k.domains ≤ found
   pub seen : IsFrontOf x.own.number y.seen.front x.seen.front
+  pub led : x.own.number ≡ 0 → AreNotControls (unseen y.seen.front x.seen.front)
   pub legal : Legal (sizes_in k) y.seen.front
   pub view : y ≡ record x { seen = record x.seen { front = y.seen.front; stage = y.seen.stage; notes = x.seen.notes ++ Barrier found ∷ [] } }
 
