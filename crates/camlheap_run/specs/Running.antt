@@ -10,7 +10,7 @@ use Rattle.heap_rule.specs.Limits.{sizes_in}
 use Rattle.heap_rule.specs.Opening.{opening_tokens}
 use Rattle.heap_rule.specs.Token.{Token, SharedHeap, IsIn}
 use Rattle.heap_rule.specs.Ending.{Past, AllBegin}
-use Rattle.cycle_phases.specs.Leading.{no_collection}
+use Rattle.heap_rule.specs.Views.{no_collection}
 use Rattle.domain_turns.specs.Runs.{RunView, IsRun, CanBegin}
 use Rattle.mark_slices.specs.Decks.{Counts, uncounted}
 use Rattle.camlheap_run.specs.declared.begin.Begun.{Begun}

@@ -2,6 +2,7 @@
 use Rattle.std.proofs.Common.{◌≡◌, ◌≢◌, ◌⊎◌, inl, inr, ⊎_elim, ℕ, ◌≤◌, List, length, refl, sym, ap, subst, ◌∙◌, arith}
 use Rattle.heap_model.specs.declared.entry.Entry.{Entry}
 use Rattle.heap_model.specs.Fronts.{IsFrontOf}
+use Rattle.heap_model.specs.History.{Legal}
 use Rattle.remembered_set.specs.Bounded.{Bounded}
 use Rattle.heap_rule.specs.declared.config.Config.{Config}
 use Rattle.heap_rule.specs.declared.phase.Kind.{Kind}
@@ -13,11 +14,14 @@ use Rattle.heap_rule.specs.declared.view.Share.{Share}
 use Rattle.heap_rule.specs.declared.view.Spot.{Spot}
 use Rattle.heap_rule.specs.declared.view.Swept.{Swept}
 use Rattle.heap_rule.specs.Finalisers.{RefersOld}
+use Rattle.heap_rule.specs.Limits.{sizes_in}
 use Rattle.heap_rule.specs.Pools.{spot_at}
 use Rattle.heap_rule.specs.Sweeping.{nothing_swept}
 use Rattle.heap_rule.proofs.Closes.{front_same}
 use Rattle.steps_sweep.specs.Freeing.{AnewTold, IsNoLater, unswept}
+use Rattle.steps_sweep.specs.Holding.{Returns}
 use Rattle.sweeper.specs.Counting.{Counted, adding, with_count}
+use Rattle.sweeper.specs.Emptiness.{with_looks}
 use Rattle.sweeper.specs.Sweeping.{LooksAgain, SweptAll, with_sweep}
 use Rattle.steps_pauses.specs.Pauses.{HasDone, arrived_view}
 use Rattle.steps_finalisers.specs.Registering.{count_of}
@@ -39,16 +43,14 @@ built_as x y looked ephemerons swept finalisers front share is = is
 
 -- where registrations are decided the domain keeps its other lists, and has done what is asked of it
 module _ (k : Config) (kind : Kind) (x y : DomainView) (swept : Swept) (finalisers : Finalisers) (front : List Entry) (share : Share) (one_of : (kind ≡ Decide) ⊎ (kind ≡ Lasts)) (is : y ≡ built x x.own.looked x.own.ephemerons swept finalisers front share) where
-  decides : (kind ≢ Lasts → swept ≡ x.own.swept) → (kind ≡ Lasts → swept ≡ nothing_swept) → share.cut ≡ x.seen.share.cut → share.whole ≡ x.seen.share.whole → share.unswept ≡ x.seen.share.unswept → share.weak ≡ x.seen.share.weak → IsFrontOf x.own.number y.seen.front x.seen.front → Sorted kind x.own.finalisers y.own.finalisers → HasDone k y → Works k kind x y
-  decides kept anew cut whole unswept weak seen sorted done =
+  decides : (kind ≢ Lasts → swept ≡ x.own.swept) → (kind ≡ Lasts → swept ≡ nothing_swept) → share.progress ≡ x.seen.share.progress → share.weak ≡ x.seen.share.weak → IsFrontOf x.own.number y.seen.front x.seen.front → (Legal (sizes_in k) x.seen.front → Legal (sizes_in k) y.seen.front) → Sorted kind x.own.finalisers y.own.finalisers → HasDone k y → Works k kind x y
+  decides kept anew progress weak seen legal sorted done =
       let looked : y.own.looked ≡ x.own.looked = ap (λ (z : DomainView). z.own.looked) is in
       let listed : y.own.ephemerons ≡ x.own.ephemerons = ap (λ (z : DomainView). z.own.ephemerons) is in
       let room : y.own.ephemerons.room ≡ x.own.ephemerons.room = ap (λ (l : Bounded ℕ). l.room) listed in
       let sweeps : y.own.swept ≡ swept = ap (λ (z : DomainView). z.own.swept) is in record {
         view = built_as x y x.own.looked x.own.ephemerons swept finalisers front share is;
-        cut_is = ap (λ (z : DomainView). z.seen.share.cut) is ∙ cut;
-        whole_is = ap (λ (z : DomainView). z.seen.share.whole) is ∙ whole;
-        unswept_is = ap (λ (z : DomainView). z.seen.share.unswept) is ∙ unswept;
+        progress_is = ap (λ (z : DomainView). z.seen.share.progress) is ∙ progress;
         weak_is = ap (λ (z : DomainView). z.seen.share.weak) is ∙ weak;
         looked = λ _. looked;
         again = again_same x y looked;
@@ -63,47 +65,53 @@ module _ (k : Config) (kind : Kind) (x y : DomainView) (swept : Swept) (finalise
         registered = sorted.registered;
         held = sorted.held;
         front = seen;
+        legal = legal;
         stays = λ _ undecided unsettled. absurd (⊎_elim undecided unsettled one_of);
         done = done;
       }
 
 module _ (k : Config) (kind : Kind) (x : DomainView) (stage : x.seen.stage ≡ In kind) where
   -- those of `finalise`
-  pub decide_works : (y : DomainView) → kind ≡ Decide → AllDecided x y → Works k kind x y
+  pub decide_works : (y : DomainView) → kind ≡ Decide → AllDecided k x y → Works k kind x y
   decide_works y is d =
       let lists : Decided x.own.finalisers y.own.finalisers = record { lasts = ap (λ (z : DomainView). z.own.finalisers.lasts) d.view; queued = d.queued; queue = d.queue; splits = d.splits } in
       let here : y.seen.stage ≡ In Decide = ap (λ (z : DomainView). z.seen.stage) d.view ∙ (stage ∙ ap In is) in
-      let done : HasDone k y = record { rooted = λ e. cc; queued = λ e. ⊎_elim (λ u. cc) (λ u. cc) e; told = λ e. ⊎_elim (λ u. cc) (⊎_elim (λ u. cc) (λ u. cc)) e; walked = λ e. cc; swept = λ e. cc; anew = λ e. cc; looked = λ e. ⊎_elim (λ u. cc) (λ u. cc) e; cleaned = λ e. cc; decided = λ _. d.done; settled = λ e. cc; held = λ e. cc; added = λ e. cc } in
-      decides k kind x y x.own.swept _ _ _ (inl is) d.view (λ _. refl) (λ (e : kind ≡ Lasts). cc) refl refl refl refl d.seen (sorted_finals kind x.own.finalisers y.own.finalisers is lists) done
+      let done : HasDone k y = record { rooted = λ e. cc; queued = λ e. ⊎_elim (λ u. cc) (λ u. cc) e; told = λ e. ⊎_elim (λ u. cc) (⊎_elim (λ u. cc) (λ u. cc)) e; walked = λ e. cc; swept = λ e. cc; anew = λ e. cc; looked = λ e. ⊎_elim (λ u. cc) (λ u. cc) e; cleaned = λ e. cc; decided = λ _. d.done; settled = λ e. cc; held = λ e. ⊎_elim (λ u. cc) (λ u. cc) e; added = λ e. cc } in
+      decides k kind x y x.own.swept _ _ _ (inl is) d.view (λ _. refl) (λ (e : kind ≡ Lasts). cc) refl refl d.seen d.legal (sorted_finals kind x.own.finalisers y.own.finalisers is lists) done
 
   -- and those of `finalise_last`, after which the domain notes that it has swept nothing
-  pub lasts_works : (v y : DomainView) → kind ≡ Lasts → AllLastsDecided x v → AnewTold v 0 y → Works k kind x y
+  pub lasts_works : (v y : DomainView) → kind ≡ Lasts → AllLastsDecided k x v → AnewTold v 0 y → Works k kind x y
   lasts_works v y is d told =
       let lists : LastsDecided x.own.finalisers v.own.finalisers = record { finals = ap (λ (z : DomainView). z.own.finalisers.finals) d.view; queued = d.queued; queue = d.queue; splits = d.splits } in
       let same : y.own.finalisers ≡ v.own.finalisers = ap (λ (z : DomainView). z.own.finalisers) told in
       let here : y.seen.stage ≡ In Lasts = ap (λ (z : DomainView). z.seen.stage) told ∙ (ap (λ (z : DomainView). z.seen.stage) d.view ∙ (stage ∙ ap In is)) in
       let anew : y.own.swept ≡ nothing_swept = ap (λ (z : DomainView). z.own.swept) told in
       let settled : y.seen.share.kept ≡ length y.own.finalisers.lasts.items = ap (λ (z : DomainView). z.seen.share.kept) told ∙ (d.done ∙ ap (λ (f : Finalisers). length f.lasts.items) (sym same)) in
-      let done : HasDone k y = record { rooted = λ e. cc; queued = λ e. ⊎_elim (λ u. cc) (λ u. cc) e; told = λ e. ⊎_elim (λ u. cc) (⊎_elim (λ u. cc) (λ u. cc)) e; walked = λ e. cc; swept = λ e. cc; anew = λ _. anew; looked = λ e. ⊎_elim (λ u. cc) (λ u. cc) e; cleaned = λ e. cc; decided = λ e. cc; settled = λ _. settled; held = λ e. cc; added = λ e. cc } in
+      let done : HasDone k y = record { rooted = λ e. cc; queued = λ e. ⊎_elim (λ u. cc) (λ u. cc) e; told = λ e. ⊎_elim (λ u. cc) (⊎_elim (λ u. cc) (λ u. cc)) e; walked = λ e. cc; swept = λ e. cc; anew = λ _. anew; looked = λ e. ⊎_elim (λ u. cc) (λ u. cc) e; cleaned = λ e. cc; decided = λ e. cc; settled = λ _. settled; held = λ e. ⊎_elim (λ u. cc) (λ u. cc) e; added = λ e. cc } in
       let seen : IsFrontOf x.own.number y.seen.front x.seen.front = subst (λ (f : List Entry). IsFrontOf x.own.number f x.seen.front) (sym (ap (λ (z : DomainView). z.seen.front) told)) d.seen in
       let path = told ∙ ap (λ (z : DomainView). record z { own = unswept z.own }) d.view in
-      decides k kind x y nothing_swept _ _ _ (inr is) path (λ (e : kind ≢ Lasts). absurd (e is)) (λ _. refl) refl refl refl refl seen (subst (Sorted kind x.own.finalisers) (sym same) (sorted_lasts kind x.own.finalisers v.own.finalisers is lists)) done
+      decides k kind x y nothing_swept _ _ _ (inr is) path (λ (e : kind ≢ Lasts). absurd (e is)) (λ _. refl) refl refl seen (λ legal. subst (λ (f : List Entry). Legal (sizes_in k) f) (sym (ap (λ (z : DomainView). z.seen.front) told)) (d.legal legal)) (subst (Sorted kind x.own.finalisers) (sym same) (sorted_lasts kind x.own.finalisers v.own.finalisers is lists)) done
 
--- the domain has swept, and counted what lives
-pub sweep_works : (k : Config) (x v y : DomainView) → x.seen.stage ≡ In Sweep → SweptAll k x v → Counted k v y → Works k Sweep x y
-sweep_works k x v y stage s counted =
-    let path : y ≡ adding (with_count (with_sweep x v) y) = counted.view ∙ ap (λ (z : DomainView). adding (with_count z y)) s.view in
-    let looked : y.own.looked ≡ v.own.looked = ap (λ (z : DomainView). z.own.looked) counted.view in
-    let listed : y.own.ephemerons ≡ v.own.ephemerons = ap (λ (z : DomainView). z.own.ephemerons) counted.view in
-    let swept : y.own.swept ≡ v.own.swept = ap (λ (z : DomainView). z.own.swept) counted.view in
+-- the domain has swept all its pools, and counts on
+pub swept_returns : (k : Config) (x v w : DomainView) → x.seen.stage ≡ In Sweep → SweptAll k x v → Counted k v w → Returns k w
+swept_returns k x v w stage s counted = inl (
+  ap (λ (z : DomainView). z.seen.stage) counted.view ∙ (ap (λ (z : DomainView). z.seen.stage) s.view ∙ stage),
+  subst (λ (z : Swept). k.pools ≤ z.spot.pool) (sym (ap (λ (z : DomainView). z.own.swept) counted.view)) s.done,
+)
+
+-- it has swept, counted what lives, and given the pools back in which nothing is left
+pub sweep_works : (k : Config) (x v w y : DomainView) → x.seen.stage ≡ In Sweep → SweptAll k x v → Counted k v w → y ≡ with_looks w y → k.pools ≤ y.seen.share.held → Works k Sweep x y
+sweep_works k x v w y stage s counted looks held =
+    let path : y ≡ with_looks (adding (with_count (with_sweep x v) w)) y = looks ∙ ap (λ (z : DomainView). with_looks z y) (counted.view ∙ ap (λ (z : DomainView). adding (with_count z w)) s.view) in
+    let looked : y.own.looked ≡ v.own.looked = ap (λ (z : DomainView). z.own.looked) path in
+    let listed : y.own.ephemerons ≡ v.own.ephemerons = ap (λ (z : DomainView). z.own.ephemerons) path in
+    let swept : y.own.swept ≡ v.own.swept = ap (λ (z : DomainView). z.own.swept) path in
     let all : k.pools ≤ y.own.swept.spot.pool = subst (λ (w : Swept). k.pools ≤ w.spot.pool) (sym swept) s.done in
     let here : y.seen.stage ≡ In Sweep = ap (λ (z : DomainView). z.seen.stage) path ∙ stage in
     let finalisers : y.own.finalisers ≡ x.own.finalisers = ap (λ (z : DomainView). z.own.finalisers) path in
     let front : y.seen.front ≡ x.seen.front = ap (λ (z : DomainView). z.seen.front) path in record {
       view = built_as x y v.own.looked v.own.ephemerons v.own.swept x.own.finalisers x.seen.front _ path;
-      cut_is = ap (λ (z : DomainView). z.seen.share.cut) path;
-      whole_is = ap (λ (z : DomainView). z.seen.share.whole) path;
-      unswept_is = ap (λ (z : DomainView). z.seen.share.unswept) path;
+      progress_is = ap (λ (z : DomainView). z.seen.share.progress) path;
       weak_is = ap (λ (z : DomainView). z.seen.share.weak) path;
       looked = λ other. absurd (other refl);
       again = subst (λ (l : List Spot). (class : ℕ) → IsNoLater (spot_at l class) (spot_at x.own.looked class)) (sym looked) s.looked;
@@ -118,8 +126,9 @@ sweep_works k x v y stage s counted =
       registered = ap count_of finalisers;
       held = λ c old. subst (RefersOld c) (sym finalisers) old;
       front = front_same x y front;
+      legal = λ legal. subst (λ (f : List Entry). Legal (sizes_in k) f) (sym front) legal;
       stays = λ _ _ _. front;
-      done = record { rooted = λ e. cc; queued = λ e. ⊎_elim (λ u. cc) (λ u. cc) e; told = λ e. ⊎_elim (λ u. cc) (⊎_elim (λ u. cc) (λ u. cc)) e; walked = λ e. cc; swept = λ _. all; anew = λ e. cc; looked = λ e. ⊎_elim (λ u. cc) (λ u. cc) e; cleaned = λ e. cc; decided = λ e. cc; settled = λ e. cc; held = λ e. cc; added = λ _. counted.added };
+      done = record { rooted = λ e. cc; queued = λ e. ⊎_elim (λ u. cc) (λ u. cc) e; told = λ e. ⊎_elim (λ u. cc) (⊎_elim (λ u. cc) (λ u. cc)) e; walked = λ e. cc; swept = λ _. all; anew = λ e. cc; looked = λ e. ⊎_elim (λ u. cc) (λ u. cc) e; cleaned = λ e. cc; decided = λ e. cc; settled = λ e. cc; held = λ _. held; added = λ _. (ap (λ (z : DomainView). z.seen.share.added_blocks) path, ap (λ (z : DomainView). z.seen.share.added_words) path) };
     }
 
 -- the domain has arrived
@@ -130,7 +139,7 @@ shares_in k kind x y z w is =
     let swept : y.own.swept ≡ z.own.swept = sym (ap (λ (v : DomainView). v.own.swept) is) in
     let finalisers : y.own.finalisers ≡ z.own.finalisers = sym (ap (λ (v : DomainView). v.own.finalisers) is) in
     let front : y.seen.front ≡ z.seen.front = sym (ap (λ (v : DomainView). v.seen.front) is) in record {
-      view = is ∙ (ap arrived_view w.view ∙ λ i. arrived_view (built x (looked i) (ephemerons i) (swept i) (finalisers i) (front i) (record x.seen.share { cut = w.cut_is i; whole = w.whole_is i; unswept = w.unswept_is i })));
+      view = is ∙ (ap arrived_view w.view ∙ λ i. arrived_view (built x (looked i) (ephemerons i) (swept i) (finalisers i) (front i) (record x.seen.share { progress = w.progress_is i })));
       looked = λ other. sym looked ∙ w.looked other;
       again = λ class. subst (λ (l : List Spot). IsNoLater (spot_at l class) (spot_at x.own.looked class)) looked (w.again class);
       listed = λ other. sym ephemerons ∙ w.listed other;
@@ -144,5 +153,6 @@ shares_in k kind x y z w is =
       registered = ap count_of (sym finalisers) ∙ w.registered;
       held = λ c old. subst (RefersOld c) finalisers (w.held c old);
       front = subst (λ (f : List Entry). IsFrontOf x.own.number f x.seen.front) front w.front;
+      legal = λ legal. subst (λ (f : List Entry). Legal (sizes_in k) f) front (w.legal legal);
       stays = λ other undecided unsettled. sym front ∙ w.stays other undecided unsettled;
     }

@@ -1,6 +1,7 @@
 -- A domain's share of a phase of a collection of the major heap.
 use Rattle.std.specs.Prelude.{◌≡◌, ◌≢◌, ◌≤◌, List, ◌++◌}
 use Rattle.heap_model.specs.Fronts.{IsFrontOf}
+use Rattle.heap_model.specs.History.{Legal}
 use Rattle.heap_rule.specs.declared.config.Config.{Config}
 use Rattle.heap_rule.specs.declared.phase.Kind.{Kind}
 use Rattle.heap_rule.specs.declared.phase.Kind.TheVariants.{Run, Promote, Reset, Decide, Clean, Lasts, Sweep, Answer}
@@ -8,6 +9,7 @@ use Rattle.heap_rule.specs.declared.view.DomainView.{DomainView}
 use Rattle.heap_rule.specs.declared.view.Finalisers.{Finalisers}
 use Rattle.heap_rule.specs.declared.view.Waiting.{Waiting}
 use Rattle.heap_rule.specs.Finalisers.{RefersOld}
+use Rattle.heap_rule.specs.Limits.{sizes_in}
 use Rattle.heap_rule.specs.Sweeping.{nothing_swept}
 use Rattle.steps_finalisers.specs.Registering.{count_of}
 use Rattle.steps_pauses.specs.Pauses.{HasDone, arrived_view}
@@ -47,9 +49,7 @@ pub record LastsDecided (fs gs : Finalisers) : Type 0 where
 -- all that is asked of the domain before it arrives is done, and nothing else has changed
 pub record Works (k : Config) (kind : Kind) (x y : DomainView) : Type 0 where
   pub view : y ≡ with_work x y
-  pub cut_is : y.seen.share.cut ≡ x.seen.share.cut
-  pub whole_is : y.seen.share.whole ≡ x.seen.share.whole
-  pub unswept_is : y.seen.share.unswept ≡ x.seen.share.unswept
+  pub progress_is : y.seen.share.progress ≡ x.seen.share.progress
   pub weak_is : y.seen.share.weak ≡ x.seen.share.weak
   pub looked : kind ≢ Sweep → y.own.looked ≡ x.own.looked
   pub again : LooksAgain x y
@@ -64,10 +64,11 @@ pub record Works (k : Config) (kind : Kind) (x y : DomainView) : Type 0 where
   pub registered : count_of y.own.finalisers ≡ count_of x.own.finalisers
   pub held : (c : Config) → RefersOld c x.own.finalisers → RefersOld c y.own.finalisers
   pub front : IsFrontOf x.own.number y.seen.front x.seen.front
+  pub legal : Legal (sizes_in k) x.seen.front → Legal (sizes_in k) y.seen.front
   pub stays : kind ≢ Clean → kind ≢ Decide → kind ≢ Lasts → y.seen.front ≡ x.seen.front
   pub done : HasDone k y
 
--- The domain did its share and arrived. Only where it sweeps may its next search for a free place begin earlier, and its list of ephemerons get shorter, in which there is room for no fewer. Before the colours are rotated it notes that it has swept nothing, and where it sweeps it sweeps all. Only where registrations are decided may its lists of finalisers change: some go to the end of its queue, and none is lost or new. Only there and where keys are emptied may its front grow, and by no entry of its own
+-- The domain did its share and arrived. Only where it sweeps may its next search for a free place begin earlier, and its list of ephemerons get shorter, in which there is room for no fewer. Before the colours are rotated it notes that it has swept nothing, and where it sweeps it sweeps all. Only where registrations are decided may its lists of finalisers change: some go to the end of its queue, and none is lost or new. Only there and where keys are emptied may its front grow, by no entry of its own, and it stays legal
 pub record SharesIn (k : Config) (kind : Kind) (x y : DomainView) : Type 0 where
   pub view : y ≡ arrived_view (with_shared x y)
   pub looked : kind ≢ Sweep → y.own.looked ≡ x.own.looked
@@ -83,4 +84,5 @@ pub record SharesIn (k : Config) (kind : Kind) (x y : DomainView) : Type 0 where
   pub registered : count_of y.own.finalisers ≡ count_of x.own.finalisers
   pub held : (c : Config) → RefersOld c x.own.finalisers → RefersOld c y.own.finalisers
   pub front : IsFrontOf x.own.number y.seen.front x.seen.front
+  pub legal : Legal (sizes_in k) x.seen.front → Legal (sizes_in k) y.seen.front
   pub stays : kind ≢ Clean → kind ≢ Decide → kind ≢ Lasts → y.seen.front ≡ x.seen.front

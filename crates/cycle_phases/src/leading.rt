@@ -10,11 +10,11 @@ ghost use Rattle.heap_rule.specs.Views.{voided};
 ghost use Rattle.steps_pauses.specs.Pauses.{MayFollow, kind_in};
 ghost use Rattle.steps_pools.specs.Listings.{HasList};
 ghost use Rattle.safepoint.specs.Looks.{LedTo};
-ghost use Rattle.cycle_phases.specs.Leading.{LeadsOn, progress_of};
+ghost use Rattle.cycle_phases.specs.Leading.{LeadsOn};
 
 use crate::opening::open;
-use crate::progress::Progress;
-use heap_rule::{Domain, Heap, Kind};
+use crate::progress::progress_after;
+use heap_rule::{Domain, Heap, Kind, Progress};
 use safepoint::{arrive, lead};
 use steps_cycle::changed_clear;
 
@@ -48,8 +48,9 @@ fn name(heap: &Heap, dom: &mut Domain, next: Kind)
 /// with Lasts, and running domains free its garbage. Else its garbage is freed in Sweep. Then a
 /// collection that began in this pause is answered, and another one is followed by one that begins in
 /// this pause. `progress` says whether the cut of the collection is made, which matters in Rounds;
-/// whether it began in this pause, which matters in Sweep; and whether garbage of the last one is left,
-/// which matters in Reset and Sweep. Afterwards it says so of the kind that is named.
+/// whether it began in this pause, which matters in Sweep; whether garbage of the last one is left,
+/// which matters in Reset and Sweep; and whether one goes on beside running domains, which matters in
+/// Reset. Afterwards it says so of the kind that is named.
 ///
 /// The rule of sweeping beside running domains is of "Retrofitting Parallelism onto OCaml", section 3.2.
 pub fn lead_on(heap: &Heap, dom: &mut Domain, last: Kind, progress: &mut Progress) -> Kind
@@ -60,14 +61,14 @@ pub fn lead_on(heap: &Heap, dom: &mut Domain, last: Kind, progress: &mut Progres
     requires idle { dom.old.view.seen.made ≡ [] }
     requires few { dom.old.view.own.arrivals < 2 ^ 60 }
     requires forgot { dom.old.view.seen.share ≡ voided dom.old.view.seen.share }
-    requires knows { progress.old ≡ progress_of dom.old.view.seen.share }
+    requires knows { progress.old ≡ dom.old.view.seen.share.progress }
     ensures here { IsIn dom.new heap.now }
     ensures leads { LeadsOn heap.now.config dom.old.view dom.new.view last result }
-    ensures knows { progress.new ≡ progress_of dom.new.view.seen.share }
+    ensures knows { progress.new ≡ dom.new.view.seen.share.progress }
 {
     let next = open(heap, dom, last, *progress);
     name(heap, dom, next);
     arrive(heap, dom);
-    *progress = progress.after(last, next);
+    *progress = progress_after(*progress, last, next);
     next
 }

@@ -9,5 +9,4 @@ mod progress;
 mod sharing;
 
 pub use leading::lead_on;
-pub use progress::Progress;
 pub use sharing::{give_back, share};

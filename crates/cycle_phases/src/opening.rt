@@ -6,16 +6,15 @@ ghost use Rattle.heap_rule.specs.Token.{IsIn};
 ghost use Rattle.heap_rule.specs.Views.{voided};
 ghost use Rattle.steps_cycle.specs.Arming.{ArmMay, knowing_armed};
 ghost use Rattle.steps_pools.specs.Listings.{HasList, IsLeader};
-ghost use Rattle.size_pools.specs.Listed.{Relisted};
+ghost use Rattle.size_pools.specs.Listed.{ListsAnew};
 ghost use Rattle.steps_sweep.specs.Turning.{ClearMay};
-ghost use Rattle.cycle_phases.specs.Leading.{CountsCleared, Opens, begins, finishes, kind_after_reset, progress_of};
+ghost use Rattle.cycle_phases.specs.Leading.{CountsCleared, Opens, begins, finishes, kind_after_reset};
 
-use crate::progress::Progress;
-use heap_rule::{Config, Domain, Heap, Kind};
+use heap_rule::{Config, Domain, Heap, Kind, Progress};
 use heap_words::{pack_colours, rotate};
 use safepoint::{Want, Wants, is_wanted, wants};
 use size_pools::{set_cursor_back, write_list};
-use steps_cycle::{armed_now, armed_store, changed_load, colours_now};
+use steps_cycle::{armed_store, changed_load, colours_now};
 use steps_sweep::{blocks_clear, colours_store, words_clear};
 
 // Before young blocks are copied the cursor is set back.
@@ -47,29 +46,27 @@ fn finishes(wants: Wants) -> bool
 }
 
 // Before the domains run the armed word says whether a collection of the major heap goes on beside them,
-// and the list of free pools is written anew.
-fn run_next(heap: &Heap, dom: &mut Domain, armed: bool) -> Kind
+// and the list of free pools is written anew. Answers how many pools it names.
+fn before_run(heap: &Heap, dom: &mut Domain, armed: bool) -> u32
     requires here { IsIn dom.old heap.now }
     requires may { ArmMay dom.old.view armed }
     requires leader { IsLeader dom.old.view }
     ensures here { IsIn dom.new heap.now }
-    ensures kind { result ≡ Run }
     ensures list { HasList heap.now.config dom.new.view }
-    ensures same { Relisted (knowing_armed dom.old.view armed) dom.new.view }
+    ensures lists { ListsAnew result (knowing_armed dom.old.view armed) dom.new.view }
 {
     armed_store(heap, dom, armed);
-    write_list(heap, dom);
-    Kind::Run
+    write_list(heap, dom)
 }
 
-// What comes after the minor collection, where so many pools are listed. `armed`: a collection of the
-// major heap goes on beside running domains. `unswept`: garbage of the last one may be left.
-fn kind_after_reset(limits: &Config, wants: Wants, free: u32, armed: bool, unswept: bool) -> Kind
-    ensures { result ≡ kind_after_reset limits.now wants.bits free armed unswept }
+// What comes after the minor collection, where so many pools are listed, by whether a collection of the
+// major heap goes on beside running domains, and whether garbage of the last one may be left.
+fn kind_after_reset(limits: &Config, wants: Wants, free: u32, progress: Progress) -> Kind
+    ensures { result ≡ kind_after_reset limits.now wants.bits free progress }
 {
-    match (armed, finishes(wants), begins(limits, wants, free)) {
+    match (progress.armed, finishes(wants), begins(limits, wants, free)) {
         (true, true, _) => Kind::Mark,
-        (false, _, true) if unswept => Kind::Sweep,
+        (false, _, true) if progress.unswept => Kind::Sweep,
         (false, _, true) => Kind::Roots,
         _ => Kind::Run,
     }
@@ -88,18 +85,17 @@ fn clear_counts(heap: &Heap, dom: &mut Domain)
 
 // The list of free pools is written anew. A collection of the major heap begins or none does; one that
 // goes on is finished or goes on. Before one begins the garbage that is left of the last one is freed.
-fn after_reset(heap: &Heap, dom: &mut Domain, unswept: bool) -> Kind
+fn after_reset(heap: &Heap, dom: &mut Domain, progress: Progress) -> Kind
     requires here { IsIn dom.old heap.now }
     requires first { dom.old.view.own.number ≡ 0 }
     requires odd { dom.old.view.seen.stage ≡ Leads Reset }
-    requires unswept { unswept ≡ dom.old.view.seen.share.unswept }
+    requires knows { progress ≡ dom.old.view.seen.share.progress }
     ensures here { IsIn dom.new heap.now }
     ensures opens { Opens heap.now.config dom.old.view dom.new.view Reset result }
 {
     let free = write_list(heap, dom);
     let found = wants(heap, dom);
-    let armed = armed_now(heap, dom);
-    let next = kind_after_reset(&heap.config(), found, free, armed, unswept);
+    let next = kind_after_reset(&heap.config(), found, free, progress);
     match next {
         Kind::Sweep => clear_counts(heap, dom),
         _ => (),
@@ -120,7 +116,8 @@ fn after_roots(heap: &Heap, dom: &mut Domain) -> Kind
     if is_wanted(found, Want::Full) {
         Kind::Mark
     } else {
-        run_next(heap, dom, true)
+        before_run(heap, dom, true);
+        Kind::Run
     }
 }
 
@@ -145,7 +142,7 @@ fn after_rounds(heap: &Heap, dom: &mut Domain, cut: bool) -> Kind
     requires here { IsIn dom.old heap.now }
     requires first { dom.old.view.own.number ≡ 0 }
     requires odd { dom.old.view.seen.stage ≡ Leads Rounds }
-    requires cut { cut ≡ dom.old.view.seen.share.cut }
+    requires cut { cut ≡ dom.old.view.seen.share.progress.cut }
     ensures here { IsIn dom.new heap.now }
     ensures opens { Opens heap.now.config dom.old.view dom.new.view Rounds result }
 {
@@ -172,7 +169,8 @@ fn after_lasts(heap: &Heap, dom: &mut Domain) -> Kind
         clear_counts(heap, dom);
         Kind::Sweep
     } else {
-        run_next(heap, dom, false)
+        before_run(heap, dom, false);
+        Kind::Run
     }
 }
 
@@ -182,7 +180,7 @@ fn after_late_sweep(heap: &Heap, dom: &mut Domain) -> Kind
     requires here { IsIn dom.old heap.now }
     requires first { dom.old.view.own.number ≡ 0 }
     requires odd { dom.old.view.seen.stage ≡ Leads Sweep }
-    requires unswept { dom.old.view.seen.share.unswept ≡ true }
+    requires unswept { dom.old.view.seen.share.progress.unswept ≡ true }
     ensures here { IsIn dom.new heap.now }
     ensures opens { Opens heap.now.config dom.old.view dom.new.view Sweep result }
 {
@@ -201,7 +199,7 @@ fn after_sweep(heap: &Heap, dom: &mut Domain, progress: Progress) -> Kind
     requires here { IsIn dom.old heap.now }
     requires first { dom.old.view.own.number ≡ 0 }
     requires odd { dom.old.view.seen.stage ≡ Leads Sweep }
-    requires knows { progress ≡ progress_of dom.old.view.seen.share }
+    requires knows { progress ≡ dom.old.view.seen.share.progress }
     ensures here { IsIn dom.new heap.now }
     ensures opens { Opens heap.now.config dom.old.view dom.new.view Sweep result }
 {
@@ -222,7 +220,8 @@ fn after_answer(heap: &Heap, dom: &mut Domain) -> Kind
     ensures here { IsIn dom.new heap.now }
     ensures opens { Opens heap.now.config dom.old.view dom.new.view Answer result }
 {
-    run_next(heap, dom, false)
+    before_run(heap, dom, false);
+    Kind::Run
 }
 
 // Finds which kind comes next, and does what belongs before it.
@@ -231,14 +230,14 @@ pub(crate) fn open(heap: &Heap, dom: &mut Domain, last: Kind, progress: Progress
     requires first { dom.old.view.own.number ≡ 0 }
     requires odd { dom.old.view.seen.stage ≡ Leads last }
     requires forgot { dom.old.view.seen.share ≡ voided dom.old.view.seen.share }
-    requires knows { progress ≡ progress_of dom.old.view.seen.share }
+    requires knows { progress ≡ dom.old.view.seen.share.progress }
     ensures here { IsIn dom.new heap.now }
     ensures opens { Opens heap.now.config dom.old.view dom.new.view last result }
 {
     match last {
         Kind::Run => after_run(heap, dom),
         Kind::Promote => Kind::Reset,
-        Kind::Reset => after_reset(heap, dom, progress.unswept),
+        Kind::Reset => after_reset(heap, dom, progress),
         Kind::Roots => after_roots(heap, dom),
         Kind::Mark => after_mark(heap, dom),
         Kind::Rounds => after_rounds(heap, dom, progress.cut),

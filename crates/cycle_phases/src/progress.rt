@@ -1,21 +1,8 @@
 //! How far a collection of the major heap has come.
 ghost use Rattle.std.specs.Prelude.{◌≡◌};
-ghost use Rattle.steps_pauses.specs.Pauses.{cut_in, unswept_after, whole_after};
-ghost use Rattle.cycle_phases.specs.Leading.{no_collection, progress_after};
+ghost use Rattle.steps_pauses.specs.Pauses.{armed_after, cut_in, progress_after, unswept_after, whole_after};
 
-use heap_rule::Kind;
-
-/// How far a collection of the major heap has come, as domain 0 keeps it from phase to phase.
-#[derive(Clone, Copy, Debug, PartialEq, Eq)]
-pub struct Progress {
-    /// Whether its cut is made.
-    pub cut: bool,
-    /// Whether it began in this pause.
-    pub whole: bool,
-    /// Whether the last one ended while garbage was left, which may not all be freed so far: a sweep is
-    /// owed, and comes before the next one begins.
-    pub unswept: bool,
-}
+use heap_rule::{Kind, Progress};
 
 // Whether the cut is made once the kind after this one is named.
 fn cut_after(last: Kind, cut: bool) -> bool
@@ -50,26 +37,25 @@ fn unswept_after(last: Kind, next: Kind, unswept: bool) -> bool
     }
 }
 
-impl Progress {
-    /// Before the first collection: no garbage is left of another one.
-    pub fn start() -> Progress
-        ensures { result ≡ no_collection }
-    {
-        Progress {
-            cut: false,
-            whole: true,
-            unswept: false,
-        }
+// Whether a collection goes on beside running domains, once a kind is named after another.
+fn armed_after(last: Kind, next: Kind, armed: bool) -> bool
+    ensures { result ≡ armed_after last next armed }
+{
+    match (last, next) {
+        (Kind::Roots, Kind::Run) => true,
+        (Kind::Lasts | Kind::Sweep | Kind::Answer, Kind::Run) => false,
+        _ => armed,
     }
+}
 
-    // How far it has come once domain 0 has named a kind of phase after another.
-    pub(crate) fn after(self, last: Kind, next: Kind) -> Progress
-        ensures { result ≡ progress_after last next self }
-    {
-        Progress {
-            cut: cut_after(last, self.cut),
-            whole: whole_after(last, next, self.whole),
-            unswept: unswept_after(last, next, self.unswept),
-        }
+// How far it has come once domain 0 has named a kind of phase after another.
+pub(crate) fn progress_after(progress: Progress, last: Kind, next: Kind) -> Progress
+    ensures { result ≡ progress_after last next progress }
+{
+    Progress {
+        cut: cut_after(last, progress.cut),
+        whole: whole_after(last, next, progress.whole),
+        unswept: unswept_after(last, next, progress.unswept),
+        armed: armed_after(last, next, progress.armed),
     }
 }

@@ -30,8 +30,9 @@ fn decide_lasts(heap: &Heap, dom: &mut Domain)
     sweep_anew(heap, dom);
 }
 
-// Frees the garbage of the own pools, and counts what lives there.
-fn sweep_and_count(heap: &Heap, dom: &mut Domain)
+// Frees the garbage of the own pools, counts what lives there, and gives the pools back in which nothing
+// is left.
+fn sweep_all(heap: &Heap, dom: &mut Domain)
     requires here { IsIn dom.old heap.now }
     requires stage { dom.old.view.seen.stage ≡ In Sweep }
     requires at_rest { dom.old.view.seen.hunt ≡ Rests }
@@ -41,6 +42,7 @@ fn sweep_and_count(heap: &Heap, dom: &mut Domain)
 {
     sweep_own(heap, dom);
     count_own(heap, dom);
+    return_pools(heap, dom);
 }
 
 // All that is asked of the domain in the phase before it arrives.
@@ -62,7 +64,7 @@ fn work(heap: &Heap, dom: &mut Domain, kind: Kind, hints: &mut Hints)
         Kind::Queued => darken_queued(heap, dom),
         Kind::Clean => clean(heap, dom),
         Kind::Lasts => decide_lasts(heap, dom),
-        Kind::Sweep => sweep_and_count(heap, dom),
+        Kind::Sweep => sweep_all(heap, dom),
         _ => unreachable!(),
     }
 }
@@ -77,8 +79,8 @@ fn work(heap: &Heap, dom: &mut Domain, kind: Kind, hints: &mut Hints)
 /// aren't marked of its marked ephemerons, and their data. In Lasts it queues those of its registrations
 /// of `finalise_last` whose blocks aren't marked, the newest first: these blocks are unreachable for the
 /// last time. There it notes too that it has swept nothing, for the colours are rotated next. In Sweep it
-/// frees the garbage that is left in its own pools, which it takes off its list of ephemerons first, and
-/// counts what lives there. All that it owns stays as it was but the number of its arrivals; where it
+/// frees the garbage that is left in its own pools, which it takes off its list of ephemerons first,
+/// counts what lives there, and gives the pools back in which nothing is left. All that it owns stays as it was but the number of its arrivals; where it
 /// sweeps, from where it looks for free places, and its list of ephemerons, in which there is room for no
 /// fewer; what it has swept; and, where registrations are decided, its lists of finalisers, of which none
 /// is lost and none comes up. Its front stays but where registrations are decided and where keys are

@@ -9,7 +9,7 @@ use Rattle.heap_rule.specs.Phases.{IsEven}
 use Rattle.heap_rule.specs.Pools.{prepared_at}
 use Rattle.heap_rule.specs.Token.{Token, SharedHeap}
 use Rattle.steps_finalisers.specs.Registering.{count_of}
-use Rattle.cycle_phases.specs.Leading.{no_collection}
+use Rattle.heap_rule.specs.Views.{no_collection}
 use Rattle.domain_turns.specs.Runs.{AllFit, CanBegin, IsBetween, ephemerons_in, registrations_in}
 
 nothing_prepared : (n class : ℕ) → ◌≡◌ {A = Option ℕ} (slice_index_or (replicate n None) class None) None

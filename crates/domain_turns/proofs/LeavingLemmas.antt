@@ -19,15 +19,15 @@ use Rattle.heap_rule.specs.declared.view.DomainView.{DomainView}
 use Rattle.heap_rule.specs.Limits.{sizes_in}
 use Rattle.heap_rule.specs.Phases.{Follows, Comes, IsEven, IsOdd}
 use Rattle.heap_rule.specs.Rule.{state_of}
-use Rattle.heap_rule.specs.Standing.{with_front}
+use Rattle.heap_rule.specs.Standing.{noted, with_front}
 use Rattle.heap_rule.specs.Token.{Token, SharedHeap, IsIn}
 use Rattle.heap_rule.specs.Views.{fresh_share}
-use Rattle.steps_pauses.specs.Pauses.{kind_in, arrived_view, noted, cut_in, entry_of, unswept_after, whole_after, EndsWith, IsModeOf}
+use Rattle.steps_pauses.specs.Pauses.{kind_in, arrived_view, entry_of, progress_after, EndsWith, IsModeOf}
 use Rattle.steps_promote.specs.Promotion.{reset_view}
 use Rattle.safepoint.specs.Looks.{Passed}
-use Rattle.cycle_phases.specs.declared.progress.Progress.{Progress}
+use Rattle.heap_rule.specs.declared.phase.Progress.{Progress}
 use Rattle.cycle_phases.specs.Sharing.{SharesIn, with_shared}
-use Rattle.cycle_phases.specs.Leading.{LeadsOn, progress_of}
+use Rattle.cycle_phases.specs.Leading.{LeadsOn}
 use Rattle.heap_rule.specs.declared.view.Finalisers.{Finalisers}
 use Rattle.steps_finalisers.specs.Registering.{count_of}
 use Rattle.domain_turns.specs.Tries.{IsFresh}
@@ -130,7 +130,7 @@ even_leaves k x b y Sweep p stage l = shares_leaves k x b y Sweep p stage l
 
 -- the view that domain 0 arrives from when it has named a kind
 abbrev leading_view : DomainView → DomainView → Kind → Kind → DomainView
-leading_view b y last kind = record b { seen = record b.seen { front = y.seen.front; notes = y.seen.notes; stage = Led kind; share = record fresh_share { cut = cut_in last b.seen.share.cut; whole = whole_after last kind b.seen.share.whole; unswept = unswept_after last kind b.seen.share.unswept } } }
+leading_view b y last kind = record b { seen = record b.seen { front = y.seen.front; notes = y.seen.notes; stage = Led kind; share = record fresh_share { progress = progress_after last kind b.seen.share.progress } } }
 
 odd_leaves : (k : Config) (x b y : DomainView) (last kind : Kind) → Passed k x b → b.seen.stage ≡ Leads last → LeavesOdd k b y last kind → Leaves x y kind
 odd_leaves k x b y last kind p stage l = ⊎_elim
@@ -158,7 +158,7 @@ leads_ready k b y last kind inside l past =
       follows = l.follows;
       past = past_as k last b y (keeps_as b y _ l.view refl refl refl refl (same_held b)) (arrived_void y (leading_view b y last kind) l.view) knows past;
       fresh = λ e. let swept : last ≡ Sweep = before_answer last (subst (Follows last) e l.follows) in
-          knows swept (collected_mode k b y (l.made Collected (ap (λ (c : Kind). entry_of b.seen.share.unswept c kind) swept ∙ ap (entry_of b.seen.share.unswept Sweep) e)));
+          knows swept (collected_mode k b y (l.made Collected (ap (λ (c : Kind). entry_of b.seen.share.progress.unswept c kind) swept ∙ ap (entry_of b.seen.share.progress.unswept Sweep) e)));
     }
 
 -- what the domain then remembers and holds
@@ -197,34 +197,34 @@ passes_quiet k x y last kind p quiet =
     p.share
 
 -- who keeps how far a collection has come still does where that hasn't changed
-pub knows_on : (x y : DomainView) (p : Progress) → y.own.number ≡ x.own.number → progress_of y.seen.share ≡ progress_of x.seen.share → KnowsProgress p x → KnowsProgress p y
+pub knows_on : (x y : DomainView) (p : Progress) → y.own.number ≡ x.own.number → y.seen.share.progress ≡ x.seen.share.progress → KnowsProgress p x → KnowsProgress p y
 knows_on x y p number same knows first = knows (sym number ∙ first) ∙ sym same
 
 pub looked_knows : (k : Config) (x y : DomainView) (p : Progress) → Passed k x y → KnowsProgress p x → KnowsProgress p y
-looked_knows k x y p passed = knows_on x y p (ap (λ (v : DomainView). v.own.number) passed.view) (ap (λ (v : DomainView). progress_of v.seen.share) passed.view)
+looked_knows k x y p passed = knows_on x y p (ap (λ (v : DomainView). v.own.number) passed.view) (ap (λ (v : DomainView). v.seen.share.progress) passed.view)
 
 -- in an even phase it hasn't
-even_progress : (k : Config) (kind : Kind) (b y : DomainView) → LeavesEven k kind b y → progress_of y.seen.share ≡ progress_of b.seen.share
+even_progress : (k : Config) (kind : Kind) (b y : DomainView) → LeavesEven k kind b y → y.seen.share.progress ≡ b.seen.share.progress
 even_progress k Run b y l = absurd l
-even_progress k Promote b y l = ap (λ (v : DomainView). progress_of v.seen.share) l.view ∙ ap (λ (v : DomainView). progress_of v.seen.share) l.shared.view
-even_progress k Reset b y l = ap (λ (v : DomainView). progress_of v.seen.share) l.view
+even_progress k Promote b y l = ap (λ (v : DomainView). v.seen.share.progress) l.view ∙ ap (λ (v : DomainView). v.seen.share.progress) l.shared.view
+even_progress k Reset b y l = ap (λ (v : DomainView). v.seen.share.progress) l.view
 even_progress k Answer b y l = absurd l
-even_progress k Roots b y l = ap (λ (v : DomainView). progress_of v.seen.share) l.view
-even_progress k Mark b y l = ap (λ (v : DomainView). progress_of v.seen.share) l.view
-even_progress k Rounds b y l = ap (λ (v : DomainView). progress_of v.seen.share) l.view
-even_progress k Decide b y l = ap (λ (v : DomainView). progress_of v.seen.share) l.view
-even_progress k Queued b y l = ap (λ (v : DomainView). progress_of v.seen.share) l.view
-even_progress k Clean b y l = ap (λ (v : DomainView). progress_of v.seen.share) l.view
-even_progress k Lasts b y l = ap (λ (v : DomainView). progress_of v.seen.share) l.view
-even_progress k Sweep b y l = ap (λ (v : DomainView). progress_of v.seen.share) l.view
+even_progress k Roots b y l = ap (λ (v : DomainView). v.seen.share.progress) l.view
+even_progress k Mark b y l = ap (λ (v : DomainView). v.seen.share.progress) l.view
+even_progress k Rounds b y l = ap (λ (v : DomainView). v.seen.share.progress) l.view
+even_progress k Decide b y l = ap (λ (v : DomainView). v.seen.share.progress) l.view
+even_progress k Queued b y l = ap (λ (v : DomainView). v.seen.share.progress) l.view
+even_progress k Clean b y l = ap (λ (v : DomainView). v.seen.share.progress) l.view
+even_progress k Lasts b y l = ap (λ (v : DomainView). v.seen.share.progress) l.view
+even_progress k Sweep b y l = ap (λ (v : DomainView). v.seen.share.progress) l.view
 
 pub even_knows : (k : Config) (kind : Kind) (x b y : DomainView) (p : Progress) → Passed k x b → b.seen.stage ≡ In kind → LeavesEven k kind b y → KnowsProgress p x → KnowsProgress p y
 even_knows k kind x b y p passed stage l knows = knows_on b y p (sym (ap (λ (v : DomainView). v.own.number) passed.view ∙ sym (even_leaves k x b y kind passed stage l).number)) (even_progress k kind b y l) (looked_knows k x b p passed knows)
 
 -- nor where a collection is answered
 pub answer_knows : (k : Config) (b y : DomainView) (live : Bool) (blocks : ℕ) (o : Option Reply) (p : Progress) → AnswersFrom k b y live blocks o → KnowsProgress p b → KnowsProgress p y
-answer_knows k b y live blocks None p a = knows_on b y p (ap (λ (v : DomainView). v.own.number) a.1) (ap (λ (v : DomainView). progress_of v.seen.share) a.1)
-answer_knows k b y live blocks (Some reply) p a = knows_on b y p (ap (λ (v : DomainView). v.own.number) a.1.2 ∙ ap (λ (v : DomainView). v.own.number) a.1.1.view) (ap (λ (v : DomainView). progress_of v.seen.share) a.1.2 ∙ ap (λ (v : DomainView). progress_of v.seen.share) a.1.1.view)
+answer_knows k b y live blocks None p a = knows_on b y p (ap (λ (v : DomainView). v.own.number) a.1) (ap (λ (v : DomainView). v.seen.share.progress) a.1)
+answer_knows k b y live blocks (Some reply) p a = knows_on b y p (ap (λ (v : DomainView). v.own.number) a.1.2 ∙ ap (λ (v : DomainView). v.own.number) a.1.1.view) (ap (λ (v : DomainView). v.seen.share.progress) a.1.2 ∙ ap (λ (v : DomainView). v.seen.share.progress) a.1.1.view)
 
 -- who comes to a phase in which a collection is answered, and leaves it with this front
 answer_past : (k : Config) (x begun y : DomainView) (front : List Entry) → ComesToAnswer k x begun → y ≡ arrived_view (with_front begun front) → HasLeft k Answer y

@@ -10,4 +10,5 @@ pub mod GoingLemmas
 pub mod ExactLemmas
 pub mod Turning
 pub mod PassingLemmas
+mod Meeting
 pub mod Refused

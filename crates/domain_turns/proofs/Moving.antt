@@ -16,7 +16,7 @@ use Rattle.heap_rule.specs.Token.{Token, SharedHeap, IsIn}
 use Rattle.heap_rule.specs.declared.view.Hunt.TheVariants.{Rests}
 use Rattle.heap_rule.specs.declared.view.Finalisers.{Finalisers}
 use Rattle.steps_finalisers.specs.Registering.{count_of}
-use Rattle.cycle_phases.specs.declared.progress.Progress.{Progress}
+use Rattle.heap_rule.specs.declared.phase.Progress.{Progress}
 use Rattle.domain_turns.specs.Pausing.{due_of}
 use Rattle.mark_slices.specs.Decks.{Counts, StaysDeck}
 use Rattle.mark_slices.specs.Slices.{IsDeckOf}

@@ -17,10 +17,11 @@ use Rattle.heap_rule.specs.Limits.{sizes_in}
 use Rattle.heap_rule.specs.Phases.{Comes, IsEven}
 use Rattle.heap_rule.specs.Rule.{state_of}
 use Rattle.heap_rule.specs.Token.{Token, SharedHeap, IsIn}
-use Rattle.steps_pauses.specs.Pauses.{arrived_view, noted, IsModeOf}
+use Rattle.heap_rule.specs.Standing.{noted}
+use Rattle.steps_pauses.specs.Pauses.{arrived_view, IsModeOf}
 use Rattle.mark_slices.specs.Decks.{Counts, StaysDeck}
 use Rattle.safepoint.specs.Looks.{Passed}
-use Rattle.cycle_phases.specs.declared.progress.Progress.{Progress}
+use Rattle.heap_rule.specs.declared.phase.Progress.{Progress}
 use Rattle.domain_turns.specs.declared.passing.Past.TheVariants.{Answered}
 use Rattle.domain_turns.specs.Pausing.{HasLeft, IsCollected, KnowsProgress, ComesToAnswer, GivesBack, AnswersFrom, due_of}
 use Rattle.domain_turns.specs.Past.{PassAnswers}

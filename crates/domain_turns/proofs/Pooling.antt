@@ -36,9 +36,7 @@ searched_stays x y is = record {
   copying = ap (λ (z : DomainView). z.seen.copying) is;
   queue = ap (λ (z : DomainView). z.own.finalisers.queue) is;
   weak = ap (λ (z : DomainView). z.seen.share.weak) is;
-  cut = ap (λ (z : DomainView). z.seen.share.cut) is;
-  whole = ap (λ (z : DomainView). z.seen.share.whole) is;
-  unswept = ap (λ (z : DomainView). z.seen.share.unswept) is;
+  progress = ap (λ (z : DomainView). z.seen.share.progress) is;
   remembers = λ all. ap (λ (z : DomainView). z.seen.remembered) is ∙ (all ∙ ap (λ (z : DomainView). z.own.remembered.items) (sym is));
 }
 
@@ -103,16 +101,16 @@ module _ (h : SharedHeap) (old mid : Token) (runs : Runs h old) (here : IsIn mid
     full_sweep : MaySweep h.config old.view new.view
     full_sweep = may_still h.config old.view mid.view new.view (sym same_list) (sym same_swept) (sought_sweep h.config old.view mid.view Rests sought)
 
-    full_none : (words : ℕ) → HasNoPool h.config words mid.view → HasNoPool h.config words new.view
+    full_none : (words : ℕ) → HasNoPool h.config words old.view mid.view → HasNoPool h.config words old.view new.view
     full_none words n = record {
       free = n.free;
-      reserved = record { found = f.free ∙ n.reserved.found; few = n.reserved.few };
+      reserved = record { found = (n.reserved.found.0, f.free ∙ n.reserved.found.1); few = n.reserved.few };
       none_free = λ class least. subst (λ (l : List Spot). h.config.pools ≤ (spot_at l class).pool) (sym same_looked) (n.none_free class least);
       swept = subst (λ (s : Swept). h.config.pools ≤ s.spot.pool) (sym same_swept) n.swept;
     }
 
   -- an allocation was answered `full`, or refused
-  major_full : (new : Token) (dst tag fields : ℕ) (served collected : Bool) → HasNoPool h.config (fields + 2) mid.view → RefusesAs h mid new (AllocMaj dst tag fields) collected (Made Full) → AttemptAnswers h old new (AllocMaj dst tag fields) served collected (Made Full)
+  major_full : (new : Token) (dst tag fields : ℕ) (served collected : Bool) → HasNoPool h.config (fields + 2) old.view mid.view → RefusesAs h mid new (AllocMaj dst tag fields) collected (Made Full) → AttemptAnswers h old new (AllocMaj dst tag fields) served collected (Made Full)
   major_full new dst tag fields served collected none says =
       let c = AllocMaj dst tag fields in
       let f = says.1 in
@@ -129,7 +127,7 @@ module _ (h : SharedHeap) (old mid : Token) (runs : Runs h old) (here : IsIn mid
         λ needs. needs,
       )
 
-  pub major_refused : (new : Token) (dst tag fields : ℕ) (served collected : Bool) (a : Attempt) → HasNoPool h.config (fields + 2) mid.view → RefusesAs h mid new (AllocMaj dst tag fields) collected a → AttemptAnswers h old new (AllocMaj dst tag fields) served collected a
+  pub major_refused : (new : Token) (dst tag fields : ℕ) (served collected : Bool) (a : Attempt) → HasNoPool h.config (fields + 2) old.view mid.view → RefusesAs h mid new (AllocMaj dst tag fields) collected a → AttemptAnswers h old new (AllocMaj dst tag fields) served collected a
   major_refused new dst tag fields served collected (Made r) none says =
       let replies = says.1.answers.replies in
       let is : r ≡ Full = cc in
@@ -138,7 +136,7 @@ module _ (h : SharedHeap) (old mid : Token) (runs : Runs h old) (here : IsIn mid
   major_refused new dst tag fields served collected NoRoom none says = (
     record {
       here = subst (λ (t : Token). IsIn t h) (sym says.1) here;
-      refused = subst (λ (t : Token). HasNoPool h.config (fields + 2) t.view) (sym says.1) none;
+      refused = subst (λ (t : Token). HasNoPool h.config (fields + 2) old.view t.view) (sym says.1) none;
       before = says.0;
       view = subst (λ (t : Token). Sought h.config old.view t.view Rests) (sym says.1) sought;
     },
@@ -146,7 +144,7 @@ module _ (h : SharedHeap) (old mid : Token) (runs : Runs h old) (here : IsIn mid
   )
 
   -- and so was an ephemeron
-  create_full : (new : Token) (dst keys : ℕ) (served collected : Bool) → HasNoPool h.config (keys + 3) mid.view → RefusesAs h mid new (Ephe dst keys) collected (Made Full) → AttemptAnswers h old new (Ephe dst keys) served collected (Made Full)
+  create_full : (new : Token) (dst keys : ℕ) (served collected : Bool) → HasNoPool h.config (keys + 3) old.view mid.view → RefusesAs h mid new (Ephe dst keys) collected (Made Full) → AttemptAnswers h old new (Ephe dst keys) served collected (Made Full)
   create_full new dst keys served collected none says =
       let c = Ephe dst keys in
       let f = says.1 in
@@ -163,7 +161,7 @@ module _ (h : SharedHeap) (old mid : Token) (runs : Runs h old) (here : IsIn mid
         λ needs. needs,
       )
 
-  pub create_refused : (new : Token) (dst keys : ℕ) (served collected : Bool) (a : Attempt) → HasNoPool h.config (keys + 3) mid.view → RefusesAs h mid new (Ephe dst keys) collected a → AttemptAnswers h old new (Ephe dst keys) served collected a
+  pub create_refused : (new : Token) (dst keys : ℕ) (served collected : Bool) (a : Attempt) → HasNoPool h.config (keys + 3) old.view mid.view → RefusesAs h mid new (Ephe dst keys) collected a → AttemptAnswers h old new (Ephe dst keys) served collected a
   create_refused new dst keys served collected (Made r) none says =
       let replies = says.1.answers.replies in
       let is : r ≡ Full = cc in
@@ -172,7 +170,7 @@ module _ (h : SharedHeap) (old mid : Token) (runs : Runs h old) (here : IsIn mid
   create_refused new dst keys served collected NoRoom none says = (
     record {
       here = subst (λ (t : Token). IsIn t h) (sym says.1) here;
-      refused = subst (λ (t : Token). HasNoPool h.config (keys + 3) t.view) (sym says.1) none;
+      refused = subst (λ (t : Token). HasNoPool h.config (keys + 3) old.view t.view) (sym says.1) none;
       before = says.0;
       view = subst (λ (t : Token). Sought h.config old.view t.view Rests) (sym says.1) sought;
     },

@@ -1,5 +1,5 @@
 -- A turn keeps what is true of a run.
-use Rattle.std.proofs.Common.{◌≡◌, ◌≢◌, ◌∙◌, ℕ, zero, suc, ◌+◌, ◌-◌, ◌<◌, ◌≤◌, Bool, true, false, List, [], ◌∷◌, ◌++◌, length, take, drop, slice_get, Some, None, Option, refl, sym, ap, subst, arith, length-append, append-nil, eq-eqb, add-one, ⊎_elim}
+use Rattle.std.proofs.Common.{true≢false, ◌≡◌, ◌≢◌, ◌∙◌, ℕ, zero, suc, ◌+◌, ◌-◌, ◌<◌, ◌≤◌, Bool, true, false, List, [], ◌∷◌, ◌++◌, length, take, drop, slice_get, Some, None, Option, refl, sym, ap, subst, arith, length-append, append-nil, eq-eqb, add-one, ⊎_elim}
 use Rattle.heap_model.specs.declared.command.Command as model
 use Rattle.heap_model.specs.declared.entry.Entry.{Entry}
 use Rattle.heap_model.specs.declared.entry.Entry.TheVariants.{Command as CommandOf, End, Ran as RanEntry}
@@ -24,8 +24,7 @@ use Rattle.steps_cycle.specs.Arming.{knowing_armed}
 use Rattle.mark_slices.specs.Decks.{Counts, StaysDeck}
 use Rattle.steps_pauses.specs.Pauses.{forgotten}
 use Rattle.domain_turns.specs.Pausing.{AnswersLive, KnowsProgress, due_of}
-use Rattle.cycle_phases.specs.declared.progress.Progress.{Progress}
-use Rattle.cycle_phases.specs.Leading.{progress_of}
+use Rattle.heap_rule.specs.declared.phase.Progress.{Progress}
 use Rattle.sweeper.specs.Sweeping.{Swept}
 use Rattle.remembered_set.specs.Bounded.{Bounded}
 use Rattle.heap_model.specs.Fronts.{IsFrontOf}
@@ -147,7 +146,7 @@ tried_between h old new c reply asked collected progress is t = record {
   emptied = λ _ served. cc;
   has_left = λ known left. cc;
   fresh = λ e. cc;
-  knows = knows_on old.view new.view progress (ap (λ (o : Own). o.number) t.own) (λ i. record { cut = t.stays.cut i; whole = t.stays.whole i; unswept = t.stays.unswept i }) is.knows;
+  knows = knows_on old.view new.view progress (ap (λ (o : Own). o.number) t.own) t.stays.progress is.knows;
 }
 
 -- after the end of the trace it runs too
@@ -161,7 +160,7 @@ ended_between h old new asked collected progress is t =
       emptied = λ none served. ap (λ (x : DomainView). x.own.used) t.view ∙ is.emptied none (ap (served_since asked) (sym arrivals) ∙ served);
       has_left = λ known left. cc;
       fresh = λ e. cc;
-      knows = knows_on old.view new.view progress (ap (λ (x : DomainView). x.own.number) t.view) (ap (λ (x : DomainView). progress_of x.seen.share) t.view) is.knows;
+      knows = knows_on old.view new.view progress (ap (λ (x : DomainView). x.own.number) t.view) (ap (λ (x : DomainView). x.seen.share.progress) t.view) is.knows;
     }
 
 -- what the entry of a command leaves of its domain's token
@@ -247,7 +246,7 @@ answered_is_run h r new reply progress hints stays is running at was here a know
     let entry : Entry = CommandOf r.token.view.own.number FullMajor false in
     let answers : Answers (sizes_in h.config) r.token.view.own.number r.token.view.seen.front new.view.seen.front entry (Replied reply) =
     subst (λ (f : List Entry). Answers (sizes_in h.config) r.token.view.own.number r.token.view.seen.front f entry (Replied reply)) (sym front)
-    (answers_after (sizes_in h.config) r.token.view.own.number r.token.view.seen.front a.begun.seen.front a.front entry (Replied reply) a.comes.passed.seen a.answers) in
+    (answers_after (sizes_in h.config) r.token.view.own.number r.token.view.seen.front a.begun.seen.front a.front entry (Replied reply) a.comes.passed.seen (λ running. absurd (true≢false running)) a.answers) in
     made_is_run r new FullMajor false reply (Some Answer) progress (length new.view.own.finalisers.queue.items) hints stays is running at
     record {
       config = config;
@@ -317,7 +316,7 @@ ran_between h old new ran asked collected progress config same is f =
       fresh = λ e. subst (λ (z : Config × ℕ). (domain_at (state_of z.0 new.view.seen.front) z.1).fresh ≡ true) (λ i. (sym config i, sym number i))
           (ran_fresh (sizes_in old.config) old.view.own.number old.view.seen.front new.view.seen.front (Replied (reply_of ran))
           (subst (λ (k : Config). Answers (sizes_in k) old.view.own.number old.view.seen.front new.view.seen.front (RanEntry old.view.own.number) (Replied (reply_of ran))) same f.answers) (is.fresh e));
-      knows = knows_on old.view new.view progress number (ap (λ (x : DomainView). progress_of x.seen.share) f.view) is.knows;
+      knows = knows_on old.view new.view progress number (ap (λ (x : DomainView). x.seen.share.progress) f.view) is.knows;
     }
 
 -- a finaliser has run, and its reply was kept
@@ -377,7 +376,7 @@ record StandsStill (x y : DomainView) : Type 0 where
   used : y.own.used ≡ x.own.used
   number : y.own.number ≡ x.own.number
   front : y.seen.front ≡ x.seen.front
-  progress : progress_of y.seen.share ≡ progress_of x.seen.share
+  progress : y.seen.share.progress ≡ x.seen.share.progress
 
 stands_between : (old new : Token) (asked : Option ℕ) (collected : Bool) (progress : Progress) → new.config ≡ old.config → StandsStill old.view new.view → IsBetween None asked collected progress old → IsBetween None asked collected progress new
 stands_between old new asked collected progress config s is = record {
@@ -407,7 +406,7 @@ marked_is_run h r new hints stays is left was here learnt weak =
       used = ap (λ (x : DomainView). x.own.used) v;
       number = ap (λ (x : DomainView). x.own.number) v;
       front = ap (λ (x : DomainView). x.seen.front) v;
-      progress = ap (λ (x : DomainView). progress_of x.seen.share) v;
+      progress = ap (λ (x : DomainView). x.seen.share.progress) v;
     } in
     let old : IsBetween None r.asked r.collected r.progress r.token = subst (λ (l : Option Kind). IsBetween l r.asked r.collected r.progress r.token) left is.between in
     moved_is_run r new r.left r.asked r.collected r.progress hints is stays (still_moves h r.token new _ was here v refl refl refl refl refl refl refl)
@@ -429,7 +428,7 @@ swept_is_run h r new most count is left was here s =
       used = ap (λ (x : DomainView). x.own.used) v;
       number = ap (λ (x : DomainView). x.own.number) v;
       front = ap (λ (x : DomainView). x.seen.front) v;
-      progress = ap (λ (x : DomainView). progress_of x.seen.share) v;
+      progress = ap (λ (x : DomainView). x.seen.share.progress) v;
     } in
     let moves : Moves r.token new = record {
       config = here.1 ∙ sym was.1;

@@ -8,7 +8,7 @@ use Rattle.heap_rule.specs.declared.phase.Kind.TheVariants.{Run, Answer}
 use Rattle.heap_rule.specs.declared.phase.Note.TheVariants.{Barrier}
 use Rattle.heap_rule.specs.Phases.{IsEven}
 use Rattle.heap_rule.specs.Token.{SharedHeap}
-use Rattle.steps_pauses.specs.Pauses.{noted}
+use Rattle.heap_rule.specs.Standing.{noted}
 use Rattle.safepoint.specs.Looks.{Passed}
 use Rattle.domain_turns.specs.declared.passing.Past.{Past}
 use Rattle.domain_turns.specs.declared.passing.Past.TheVariants.{Waits, Arrived, Answered, Runs}

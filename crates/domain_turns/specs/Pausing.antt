@@ -26,9 +26,9 @@ use Rattle.safepoint.specs.Looks.{Passed}
 use Rattle.steps_promote.specs.Promotion.{NoneYoung, reset_view}
 use Rattle.promote_claim.specs.Sharing.{Unprepared, Shared}
 use Rattle.steps_cycle.specs.Looks.{with_share}
-use Rattle.cycle_phases.specs.declared.progress.Progress.{Progress}
+use Rattle.heap_rule.specs.declared.phase.Progress.{Progress}
 use Rattle.cycle_phases.specs.Sharing.{SharesIn}
-use Rattle.cycle_phases.specs.Leading.{LeadsOn, progress_of}
+use Rattle.cycle_phases.specs.Leading.{LeadsOn}
 use Rattle.domain_turns.specs.Tries.{IsFresh}
 
 -- no block was met, no copy is listed, no place is prepared for one, and no darkening is owed
@@ -66,7 +66,7 @@ pub record HasLeft (k : Config) (known : Kind) (x : DomainView) : Type 0 where
 
 -- domain 0 keeps how far a collection has come
 abbrev pub KnowsProgress : Progress → DomainView → Type 0
-KnowsProgress p x = x.own.number ≡ 0 → p ≡ progress_of x.seen.share
+KnowsProgress p x = x.own.number ≡ 0 → p ≡ x.seen.share.progress
 
 -- the domain did its share of Promote, and arrived
 pub record LeavesPromote (k : Config) (x y : DomainView) : Type 0 where

@@ -6,7 +6,7 @@ use Rattle.heap_model.specs.declared.entry.Entry.{Entry}
 use Rattle.heap_model.specs.declared.entry.Entry.TheVariants.{End}
 use Rattle.heap_model.specs.declared.reply.Reply.{Reply}
 use Rattle.heap_model.specs.declared.reply.Applied.TheVariants.{Silent}
-use Rattle.heap_model.specs.History.{IsPrefix, commands, replies}
+use Rattle.heap_model.specs.History.{IsPrefix, Legal, commands, replies}
 use Rattle.heap_model.specs.Fronts.{Answers}
 use Rattle.heap_model.specs.Domains.{class_count, domain_at, reserve}
 use Rattle.heap_model.specs.declared.command.Command.TheVariants.{Minor, Major, FullMajor, Poll}
@@ -21,12 +21,12 @@ use Rattle.heap_rule.specs.declared.phase.Note.TheVariants.{Want, Asked, Barrier
 use Rattle.heap_rule.specs.Phases.{IsEven, IsOdd, Comes}
 use Rattle.heap_rule.specs.Copies.{nothing_copied}
 use Rattle.heap_rule.specs.Running.{RemembersAll}
-use Rattle.steps_pauses.specs.Pauses.{noted, arrived_view, ended_own, IsModeOf}
+use Rattle.steps_pauses.specs.Pauses.{arrived_view, ended_own, IsModeOf}
 use Rattle.barriers.specs.Aware.{Learnt, scanned_in}
 use Rattle.steps_cycle.specs.Arming.{knowing_armed}
 use Rattle.sweeper.specs.Sweeping.{Swept}
-use Rattle.cycle_phases.specs.declared.progress.Progress.{Progress}
-use Rattle.cycle_phases.specs.Leading.{no_collection, progress_of}
+use Rattle.heap_rule.specs.declared.phase.Progress.{Progress}
+use Rattle.heap_rule.specs.Views.{no_collection}
 use Rattle.mark_slices.specs.Decks.{AllMissed, Counts, HasTaken}
 use Rattle.mark_slices.specs.Slices.{IsDeckOf}
 use Rattle.steps_finalisers.specs.Registering.{count_of}
@@ -41,7 +41,7 @@ use Rattle.domain_turns.specs.declared.turned.Turned.TheVariants.{Did, Waiting, 
 use Rattle.domain_turns.specs.declared.turned.Turned.TheVariants.{Ended as Over}
 use Rattle.heap_rule.specs.declared.view.Hunt.TheVariants.{Rests as AtRest}
 use Rattle.heap_rule.specs.Limits.{sizes_in}
-use Rattle.heap_rule.specs.Standing.{Acts, with_front}
+use Rattle.heap_rule.specs.Standing.{noted, Acts, with_front}
 use Rattle.heap_rule.specs.Token.{Token, SharedHeap, IsIn}
 use Rattle.domain_turns.specs.Pausing.{IsQuiet, HasLeft, KnowsProgress, LeavesEven, LeavesOdd, GivesBack, AnswersLive, IsCollected, due_of}
 use Rattle.domain_turns.specs.Tries.{FitsHeap, IsFresh, NeedsPause, Refused, Tried, ephemerons_of, registrations_of, wish_of}
@@ -104,7 +104,7 @@ pub record CanBegin (t : Token) (cs : List model.Command) : Type 0 where
   pub quiet : t.view.seen.copying ≡ nothing_copied
   pub no_copies : t.view.own.pending.items ≡ []
   pub unprepared : t.view.own.prepared ≡ replicate class_count None
-  pub none_began : progress_of t.view.seen.share ≡ no_collection
+  pub none_began : t.view.seen.share.progress ≡ no_collection
 
 -- the domain runs, or it has arrived
 abbrev pub StandsAt : Option Kind → Stage → Type 0
@@ -364,3 +364,16 @@ pub record GoesOn (old new : RunView) : Type 0 where
   pub commands : new.commands ≡ old.commands
   pub number : new.token.view.own.number ≡ old.token.view.own.number
   pub front : IsPrefix old.token.view.seen.front new.token.view.seen.front
+
+-- the run of a domain that has seen this history
+abbrev pub run_seeing : RunView → List Entry → RunView
+run_seeing r history = record r { token = seeing r.token history }
+
+-- The domains of two runs have met. Both see one history, which begins with the front of each
+pub record RunsMet (k : Config) (a b new_a new_b : RunView) : Type 0 where
+  pub history : List Entry
+  pub legal : Legal (sizes_in k) history
+  pub first : Trails history a.token.view
+  pub second : Trails history b.token.view
+  pub first_is : new_a ≡ run_seeing a history
+  pub second_is : new_b ≡ run_seeing b history

@@ -15,6 +15,7 @@ use Rattle.heap_words.specs.declared.value.Value.TheVariants.{Int, Ref}
 use Rattle.heap_words.specs.Values.{IsPackable}
 use Rattle.size_classes.specs.Table.{IsLeastFor}
 use Rattle.size_classes.specs.declared.TheConstants.{SIZES}
+use Rattle.heap_rule.specs.Pools.{last_found}
 use Rattle.heap_rule.specs.declared.config.Config.{Config}
 use Rattle.heap_rule.specs.declared.view.DomainView.{DomainView}
 use Rattle.heap_rule.specs.declared.view.Finalisers.{Finalisers}
@@ -31,8 +32,7 @@ use Rattle.heap_rule.specs.Limits.{sizes_in}
 use Rattle.heap_rule.specs.Running.{Runs, Stays}
 use Rattle.steps_pools.specs.Takes.{NoneFree}
 use Rattle.heap_rule.specs.Token.{Token, SharedHeap}
-use Rattle.steps_making.specs.Inits.{IsOpen}
-use Rattle.minor_area.specs.Area.{HasRoom, IsShut}
+use Rattle.minor_area.specs.Area.{HasRoom, IsOpened, IsShut}
 use Rattle.size_pools.specs.Created.{with_list}
 use Rattle.size_pools.specs.Taken.{Reserved, HasPlace, MaySweep, Sought}
 use Rattle.heap_rule.specs.declared.view.Swept.{Swept}
@@ -139,9 +139,9 @@ abbrev pub Enters : Token → Token → Command → Bool → Reply → Type 0
 Enters old new c full r = Answers (sizes_in old.config) old.view.own.number old.view.seen.front new.view.seen.front (CommandOf old.view.own.number c full) (Replied r)
 
 -- no own pool has a free place for a block of so many words, none is left to be swept, and the pools that were found free are no more than the reserve of promotion
-pub record HasNoPool (k : Config) (words : ℕ) (y : DomainView) : Type 0 where
+pub record HasNoPool (k : Config) (words : ℕ) (x y : DomainView) : Type 0 where
   pub free : ℕ
-  pub reserved : Reserved k free y
+  pub reserved : Reserved k free x y
   pub none_free : (class : ℕ) → IsLeastFor SIZES words class → NoneFree k y class
   pub swept : k.pools ≤ y.own.swept.spot.pool
 
@@ -152,12 +152,12 @@ HasPool k words x y = (class : ℕ) → IsLeastFor SIZES words class → HasPlac
 -- the minor area has room for a block of so many fields, and as many pools were found free as promotion may need
 pub record HasSpace (h : SharedHeap) (old new : Token) (fields : ℕ) : Type 0 where
   pub room : HasRoom h.config old.view fields
-  pub enough : IsOpen h.config new.view
+  pub enough : IsOpened h.config old.view new.view
 
 -- or it has, and fewer pools were found free
 pub record HasNoSpace (h : SharedHeap) (old new : Token) (fields : ℕ) : Type 0 where
   pub room : HasRoom h.config old.view fields
-  pub few : IsShut h.config new.view
+  pub few : IsShut h.config old.view new.view
 
 -- the domain has made no entry since a complete collection
 abbrev pub IsFresh : Config → DomainView → Type 0
@@ -173,18 +173,18 @@ Stands h old new (Raw dst tag fields) collected r =
     ⊎ (Enters old new (Raw dst tag fields) true r × HasNoSpace h old new fields × (collected ≡ true))
 Stands h old new (AllocMaj dst tag fields) collected r =
     (Enters old new (AllocMaj dst tag fields) false r × HasPool h.config (fields + 2) old.view new.view)
-    ⊎ (Enters old new (AllocMaj dst tag fields) true r × HasNoPool h.config (fields + 2) new.view × (collected ≡ true))
+    ⊎ (Enters old new (AllocMaj dst tag fields) true r × HasNoPool h.config (fields + 2) old.view new.view × (collected ≡ true))
 Stands h old new (Ephe dst keys) collected r =
     (Enters old new (Ephe dst keys) false r × HasPool h.config (keys + 3) old.view new.view)
-    ⊎ (Enters old new (Ephe dst keys) true r × HasNoPool h.config (keys + 3) new.view × (collected ≡ true))
+    ⊎ (Enters old new (Ephe dst keys) true r × HasNoPool h.config (keys + 3) old.view new.view × (collected ≡ true))
 Stands h old new c collected r = Enters old new c false r
 
 -- why an allocation is refused: too few pools are free, or none is to be had
 abbrev pub IsRefused : SharedHeap → Token → Token → Command → Type 0
 IsRefused h old new (Alloc dst tag fields) = HasNoSpace h old new fields
 IsRefused h old new (Raw dst tag fields) = HasNoSpace h old new fields
-IsRefused h old new (AllocMaj dst tag fields) = HasNoPool h.config (fields + 2) new.view
-IsRefused h old new (Ephe dst keys) = HasNoPool h.config (keys + 3) new.view
+IsRefused h old new (AllocMaj dst tag fields) = HasNoPool h.config (fields + 2) old.view new.view
+IsRefused h old new (Ephe dst keys) = HasNoPool h.config (keys + 3) old.view new.view
 IsRefused h old new _ = ⊥
 
 -- an allocation was refused, and no complete collection came before for this command: nothing has changed but what was looked at for it, and what a sweep of own pools changes
@@ -204,7 +204,7 @@ pub record RefusesFull (h : SharedHeap) (old new : Token) (c : Command) (r : Rep
 
 -- no more pools were found free than the reserve of promotion
 abbrev pub HasFew : Config → DomainView → Type 0
-HasFew k x = (free : ℕ) × (x.seen.free ≡ Some free) × (free ≤ reserve (sizes_in k))
+HasFew k x = (free : ℕ) × (last_found x ≡ Some free) × (free ≤ reserve (sizes_in k))
 
 -- an allocation that found no room was answered `full`, or nothing has changed
 abbrev pub RefusesAs : SharedHeap → Token → Token → Command → Bool → Attempt → Type 0

@@ -7,8 +7,7 @@ ghost use Rattle.heap_model.specs.declared.entry.Entry.{Entry};
 ghost use Rattle.heap_model.specs.declared.reply.Reply.TheVariants.{Block};
 ghost use Rattle.heap_rule.specs.Places.{class_words};
 ghost use Rattle.heap_rule.specs.Running.{Runs, Did, ChangesRegisters, own_entry};
-ghost use Rattle.steps_making.specs.Inits.{IsOpen};
-ghost use Rattle.minor_area.specs.Area.{Grows, HasRoom, Needs};
+ghost use Rattle.minor_area.specs.Area.{Grows, HasRoom, Needs, IsOpened};
 ghost use Rattle.heap_rule.specs.Standing.{with_front};
 ghost use Rattle.steps_run.specs.Ticks.{is_quiet};
 ghost use Rattle.steps_run.specs.Ticks.{IsUsedUp};
@@ -158,7 +157,7 @@ fn alloc_plain(heap: &Heap, dom: &mut Domain, dst: u8, tag: u8, fields: u16) -> 
     ensures did { IfOk result (λ l. Did heap.now dom.old dom.new (Alloc dst tag fields) (Block l)) }
     ensures grows { OnOk result (Grows dom.old dom.new (class_words (fields + 2))) }
     ensures room { OnOk result (HasRoom heap.now.config dom.old.view fields) }
-    ensures open { OnOk result (IsOpen heap.now.config dom.new.view) }
+    ensures open { OnOk result (IsOpened heap.now.config dom.old.view dom.new.view) }
     ensures needs { IfErr result (λ need. Needs heap.now dom.old dom.new fields need) }
     ensures runs { OnErr result (Runs heap.now dom.new) }
 {
@@ -175,7 +174,7 @@ fn alloc_raw(heap: &Heap, dom: &mut Domain, dst: u8, tag: u8, fields: u16) -> Re
     ensures did { IfOk result (λ l. Did heap.now dom.old dom.new (Raw dst tag fields) (Block l)) }
     ensures grows { OnOk result (Grows dom.old dom.new (class_words (fields + 2))) }
     ensures room { OnOk result (HasRoom heap.now.config dom.old.view fields) }
-    ensures open { OnOk result (IsOpen heap.now.config dom.new.view) }
+    ensures open { OnOk result (IsOpened heap.now.config dom.old.view dom.new.view) }
     ensures needs { IfErr result (λ need. Needs heap.now dom.old dom.new fields need) }
     ensures runs { OnErr result (Runs heap.now dom.new) }
 {

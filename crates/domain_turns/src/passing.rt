@@ -14,9 +14,9 @@ ghost use Rattle.mark_slices.specs.Decks.{StaysDeck};
 ghost use Rattle.domain_turns.specs.Past.{PassAnswers, left_after};
 ghost use Rattle.domain_turns.specs.Pausing.{IsQuiet, HasLeft, KnowsProgress, LeavesEven, LeavesOdd, LeavesPromote, LeavesReset, IsReady, AnswersFrom, LivesAs, due_of};
 
-use cycle_phases::{Progress, give_back, lead_on, share};
+use cycle_phases::{give_back, lead_on, share};
 use heap_model::reply::Reply;
-use heap_rule::{Domain, Heap, Kind};
+use heap_rule::{Domain, Heap, Kind, Progress};
 use mark_slices::Hints;
 use minor_area::reset;
 use promote_claim::promote;

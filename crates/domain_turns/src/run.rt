@@ -3,13 +3,12 @@ ghost use Rattle.std.specs.Prelude.{◌≡◌, ◌↔◌, ◌<◌, true, false, 
 ghost use Rattle.heap_model.specs.History.{commands as commands_of, replies as replies_of};
 ghost use Rattle.heap_rule.specs.Limits.{sizes_in};
 ghost use Rattle.mark_slices.specs.Slices.{IsDeckOf};
-ghost use Rattle.cycle_phases.specs.Leading.{no_collection};
+ghost use Rattle.heap_rule.specs.Views.{no_collection};
 ghost use Rattle.domain_turns.specs.Runs.{CanBegin, IsRun};
 
-use cycle_phases::Progress;
 use heap_model::command::Command;
 use heap_model::reply::Reply;
-use heap_rule::{Domain, Kind};
+use heap_rule::{Domain, Kind, Progress};
 use mark_slices::Hints;
 use std::alloc::{AllocError, Global};
 use std::marker::Model;

@@ -5,4 +5,5 @@ pub mod WeakLoads
 pub mod WeakStores
 pub mod Keys
 pub mod Passes
+pub mod Fronts
 pub mod Wipes

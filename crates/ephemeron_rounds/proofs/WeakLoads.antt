@@ -171,9 +171,7 @@ module _ (h : SharedHeap) (old y : Token) (c : Command) (a : ℕ) (runs : Runs h
         copying = ap (λ (v : DomainView). v.seen.copying) path;
         queue = ap (λ (v : DomainView). v.own.finalisers.queue) path;
         weak = ap (λ (v : DomainView). v.seen.share.weak) same ∙ (paid ∙ sym found_acts.paid);
-        cut = ap (λ (v : DomainView). v.seen.share.cut) path;
-        whole = ap (λ (v : DomainView). v.seen.share.whole) path;
-        unswept = ap (λ (v : DomainView). v.seen.share.unswept) path;
+        progress = ap (λ (v : DomainView). v.seen.share.progress) path;
         remembers = λ all. ap (λ (v : DomainView). v.seen.remembered) path ∙ (all ∙ ap (λ (v : DomainView). v.own.remembered.items) (sym path));
       }
 
@@ -189,7 +187,7 @@ module _ (h : SharedHeap) (old y : Token) (c : Command) (a : ℕ) (runs : Runs h
           (ap (λ (v : DomainView). v.seen.hunt) path ∙ ap (λ (v : DomainView). v.seen.hunt) look.view ∙ runs.at_rest)
           (ap (λ (v : DomainView). v.seen.made) path ∙ ap (λ (v : DomainView). v.seen.made) look.view ∙ runs.idle)
           (stays_trans old.view y.view w.view (look_stays old.view y.view _ look.view) stays)
-          (answers_after (sizes_in h.config) old.view.own.number old.view.seen.front y.view.seen.front w.view.seen.front _ _ look.seen answers))
+          (answers_after (sizes_in h.config) old.view.own.number old.view.seen.front y.view.seen.front w.view.seen.front _ _ look.seen (λ _. look.calls) answers))
 
       pub get_into : LoadsInto h.config dst r old.view.own.registers w.view.own.registers
       get_into =

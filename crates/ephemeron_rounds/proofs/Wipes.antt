@@ -22,7 +22,7 @@ use Rattle.heap_rule.proofs.Closes.{front_same}
 use Rattle.steps_cycle.specs.Looks.{with_share}
 use Rattle.steps_cycle.specs.Marking.{IsMarked, IsUnmarked}
 use Rattle.steps_rounds.specs.Rounding.{IsMarkedEphemeron, place_seen}
-use Rattle.steps_rounds.specs.Emptying.{CleanEndMay, CleanKeyMay, CleanKeyTold, CleanLookMay, CleanLookTold, CleanTold, cleaning_from, cleaning_on, key_passed, key_read}
+use Rattle.steps_rounds.specs.Emptying.{CleanEndMay, CleanKeyMay, CleanKeyTold, CleanLookMay, CleanLookTold, CleanTold, cleaning_from, cleaning_on, key_passed, key_read, CleanLabelMay, CleanLabelTold, labelled}
 use Rattle.steps_clean.specs.Wiping.{WipeDataMay, WipeDataTold, WipeKeyMay, WipeKeyTold, key_wiped, wiped_through}
 use Rattle.barriers.proofs.Exchanges.{not_both, one_meaning}
 use Rattle.ephemeron_rounds.specs.Emptied.{Cleaned, KeyCleaned, KeysCleaned}
@@ -114,7 +114,7 @@ keys_begin x at keys begins = record { emptied = []; some = refl; view = ap (λ 
 -- some keys are done
 module _ (x y : DomainView) (at keys i : ℕ) (before : Bool) (t : KeysCleaned at keys i before x y) where
   abbrev so_far : Cleaning
-  so_far = record { block = at; done = i; count = keys; emptied = t.emptied; next = Unknown }
+  so_far = record { block = at; label = None; done = i; count = keys; emptied = t.emptied; next = Unknown }
 
   pub next_may : i < keys → CleanKeyMay y (at + 3 + i)
   next_may more = record { cleaning = so_far; cleans = ap (λ (u : DomainView). u.seen.share.cleaning) t.view; unknown = refl; more = more; word = refl }
@@ -175,21 +175,34 @@ module _ (k : Config) (x y : DomainView) (at word : ℕ) (colours : Colours) (kn
 -- the keys of an ephemeron are done, of which some were emptied
 module _ (y z : DomainView) (at keys : ℕ) (t : KeysCleaned at keys keys true y z) where
   abbrev all_done : Cleaning
-  all_done = record { block = at; done = keys; count = keys; emptied = t.emptied; next = Unknown }
+  all_done = record { block = at; label = None; done = keys; count = keys; emptied = t.emptied; next = Unknown }
 
-  pub wipe_data_may : WipeDataMay z (at + 2)
-  wipe_data_may = record { cleaning = all_done; cleans = ap (λ (u : DomainView). u.seen.share.cleaning) t.view; all = refl; some = t.some; word = refl }
+  pub label_may : CleanLabelMay z (at + 1)
+  label_may = record { cleaning = all_done; cleans = ap (λ (u : DomainView). u.seen.share.cleaning) t.view; word = refl }
 
-  pub datum_wiped : (k : Config) (x u : DomainView) → x.seen.share.scan ≡ Idle → x.seen.share.cleaning ≡ None → (w : Cleaning) × (y ≡ with_cleaning x w) → WipeDataTold k z 0 u → Cleaned at x u
-  datum_wiped k x u idle none begun told = go (subst (λ (q : DomainView). WipeDataTold k q 0 u) (t.view ∙ ap (λ (q : DomainView). with_cleaning q all_done) begun.1) told)
-    where
-      go : WipeDataTold k (with_cleaning x all_done) 0 u → Cleaned at x u
+  -- and its label was loaded
+  module _ (v : DomainView) (found : ℕ) (l : CleanLabelTold z found v) where
+    abbrev named : Cleaning
+    named = labelled l.label all_done
+
+    same_cleaning : l.cleaning ≡ all_done
+    same_cleaning = one_cleaning z.seen.share.cleaning all_done l.cleaning (ap (λ (u : DomainView). u.seen.share.cleaning) t.view) l.cleans
+
+    named_view : v ≡ with_cleaning y named
+    named_view = l.view ∙ (λ i. with_cleaning (t.view i) (labelled l.label (same_cleaning i)))
+
+    pub wipe_data_may : WipeDataMay v (at + 2)
+    wipe_data_may = record { cleaning = named; cleans = ap (λ (u : DomainView). u.seen.share.cleaning) named_view; all = refl; some = t.some; label = l.label; labelled = refl; word = refl }
+
+    pub datum_wiped : (k : Config) (x u : DomainView) → x.seen.share.scan ≡ Idle → x.seen.share.cleaning ≡ None → (w : Cleaning) × (y ≡ with_cleaning x w) → WipeDataTold k v 0 u → Cleaned at x u
+    datum_wiped k x u idle none begun told = go (subst (λ (q : DomainView). WipeDataTold k q 0 u) (named_view ∙ ap (λ (q : DomainView). with_cleaning q named) begun.1) told) where
+      go : WipeDataTold k (with_cleaning x named) 0 u → Cleaned at x u
       go s = record {
         seen = subst (λ (h : List Entry). IsFrontOf x.own.number h x.seen.front) (sym s.front) (front_push x.own.number s.before x.seen.front (Wipe s.label s.cleaning.emptied) refl s.seen);
-        view = s.view ∙ ap (λ (n : Cleaning). with_front (with_share x (record (wiped_through n.block x.seen.share) { cleaning = None })) u.seen.front) (one_cleaning (Some all_done) all_done s.cleaning refl s.cleans)
+        view = s.view ∙ ap (λ (n : Cleaning). with_front (with_share x (record (wiped_through n.block x.seen.share) { cleaning = None })) u.seen.front) (one_cleaning (Some named) named s.cleaning refl s.cleans)
             ∙ (λ i. with_front (with_share x (record x.seen.share { places_seen = at ∷ x.seen.share.places_seen; scan = sym idle i; cleaning = sym none i })) u.seen.front);
       }
 
 -- or none was
 pub clean_end_may : (y z : DomainView) (at keys : ℕ) → KeysCleaned at keys keys false y z → CleanEndMay z (at + 2)
-clean_end_may y z at keys t = record { cleaning = record { block = at; done = keys; count = keys; emptied = t.emptied; next = Unknown }; cleans = ap (λ (u : DomainView). u.seen.share.cleaning) t.view; all = refl; none = t.some; word = refl }
+clean_end_may y z at keys t = record { cleaning = record { block = at; label = None; done = keys; count = keys; emptied = t.emptied; next = Unknown }; cleans = ap (λ (u : DomainView). u.seen.share.cleaning) t.view; all = refl; none = t.some; word = refl }

@@ -1,9 +1,12 @@
 -- What becomes of a domain's view while it empties keys of its ephemerons in Clean.
-use Rattle.std.specs.Prelude.{◌≡◌, ◌≢◌, ℕ, Bool, cond, MatchBool, List, [], ◌∷◌, Some}
+use Rattle.std.specs.Prelude.{◌≡◌, ◌≢◌, ℕ, Bool, cond, MatchBool, List, [], ◌∷◌, Some, None}
 use Rattle.heap_model.specs.Fronts.{IsFrontOf}
+use Rattle.heap_model.specs.History.{Legal}
+use Rattle.heap_rule.specs.declared.config.Config.{Config}
 use Rattle.heap_rule.specs.declared.view.Cleaning.{Cleaning}
 use Rattle.heap_rule.specs.declared.view.DomainView.{DomainView}
 use Rattle.heap_rule.specs.declared.view.NextKey.TheVariants.{Unknown}
+use Rattle.heap_rule.specs.Limits.{sizes_in}
 use Rattle.heap_rule.specs.Standing.{with_front}
 use Rattle.steps_cycle.specs.Looks.{with_share}
 use Rattle.steps_clean.specs.Wiping.{key_wiped}
@@ -20,7 +23,7 @@ pub record KeyCleaned (won : Bool) (x y : DomainView) : Type 0 where
 pub record KeysCleaned (at keys done : ℕ) (won : Bool) (x y : DomainView) : Type 0 where
   pub emptied : List ℕ
   pub some : MatchBool won (emptied ≢ []) (emptied ≡ [])
-  pub view : y ≡ with_share x (cleaning_on (record { block = at; done = done; count = keys; emptied = emptied; next = Unknown }) x.seen.share)
+  pub view : y ≡ with_share x (cleaning_on (record { block = at; label = None; done = done; count = keys; emptied = emptied; next = Unknown }) x.seen.share)
 
 -- the domain with a longer front, and with what it knows of the colours and the places that it has seen as another has it
 abbrev pub with_places : DomainView → DomainView → DomainView
@@ -30,6 +33,10 @@ with_places x y = with_front (with_share x (record x.seen.share { colours = y.se
 pub record Cleaned (at : ℕ) (x y : DomainView) : Type 0 where
   pub seen : IsFrontOf x.own.number y.seen.front x.seen.front
   pub view : y ≡ with_front (with_share x (record x.seen.share { places_seen = at ∷ x.seen.share.places_seen })) y.seen.front
+
+-- the front is legal if it was
+abbrev pub StaysLegal : Config → DomainView → DomainView → Type 0
+StaysLegal k x y = Legal (sizes_in k) x.seen.front → Legal (sizes_in k) y.seen.front
 
 -- it has been at each one of its list, and nothing else has changed
 pub record AllCleaned (x y : DomainView) : Type 0 where

@@ -9,14 +9,14 @@ ghost use Rattle.heap_rule.specs.Layout.{heap_words};
 ghost use Rattle.heap_rule.specs.Standing.{IsInHeap};
 ghost use Rattle.heap_rule.specs.Token.{IsIn};
 ghost use Rattle.steps_rounds.specs.Emptying.{CleanKeyMay, cleaning_from};
-ghost use Rattle.ephemeron_rounds.specs.Emptied.{AllCleaned, Cleaned, KeyCleaned, KeysCleaned};
+ghost use Rattle.ephemeron_rounds.specs.Emptied.{AllCleaned, Cleaned, KeyCleaned, KeysCleaned, StaysLegal};
 
 use crate::heads::{is_marked, marked_keys};
 use heap_rule::{Domain, Heap, Reading, read_as};
 use heap_words::{Colours, Value};
 use steps_clean::{wipe_data, wipe_key};
 use steps_cycle::colours_now;
-use steps_rounds::{clean_end, clean_key_load, clean_key_look, clean_load};
+use steps_rounds::{clean_end, clean_key_load, clean_key_look, clean_label_load, clean_load};
 
 // Looks at the next key, which is at `at`, and empties it if it is full and its block isn't marked.
 // Answers whether it has emptied the key.
@@ -61,7 +61,7 @@ fn clean_keys(heap: &Heap, dom: &mut Domain, at: u32, keys: u32, colours: Colour
 }
 
 // Looks at a listed ephemeron. Where it is marked its keys that aren't are emptied, and where there is
-// one its datum too.
+// one its datum too, once its label is loaded.
 fn clean_ephemeron(heap: &Heap, dom: &mut Domain, at: u32, colours: Colours)
     requires here { IsIn dom.old heap.now }
     requires stage { dom.old.view.seen.stage ≡ In Clean }
@@ -73,6 +73,7 @@ fn clean_ephemeron(heap: &Heap, dom: &mut Domain, at: u32, colours: Colours)
     requires listed { IsTrue (seen_by dom.old.view.own.ephemerons.items at) }
     ensures here { IsIn dom.new heap.now }
     ensures cleaned { Cleaned at dom.old.view dom.new.view }
+    ensures legal { StaysLegal heap.now.config dom.old.view dom.new.view }
 {
     let _limits = heap.config();
     let word = clean_load(heap, dom, at);
@@ -80,6 +81,7 @@ fn clean_ephemeron(heap: &Heap, dom: &mut Domain, at: u32, colours: Colours)
         return;
     };
     if clean_keys(heap, dom, at, keys, colours) {
+        clean_label_load(heap, dom, at + 1);
         wipe_data(heap, dom, at + 2);
     } else {
         clean_end(heap, dom, at + 2);
@@ -102,6 +104,7 @@ pub fn clean(heap: &Heap, dom: &mut Domain)
     requires none { dom.old.view.seen.share.cleaning ≡ None }
     ensures here { IsIn dom.new heap.now }
     ensures cleaned { AllCleaned dom.old.view dom.new.view }
+    ensures legal { StaysLegal heap.now.config dom.old.view dom.new.view }
 {
     let colours = colours_now(heap, dom);
     for i in 0..dom.ephemerons_len() {

@@ -40,4 +40,4 @@ looked_did h old new y c e r read changes is runs here look entered =
     (ap (λ (x : DomainView). x.seen.hunt) rest ∙ ap (λ (x : DomainView). x.seen.hunt) look.view ∙ runs.at_rest)
     (ap (λ (x : DomainView). x.seen.made) rest ∙ ap (λ (x : DomainView). x.seen.made) look.view ∙ runs.idle)
     (stays_trans old.view y new.view (look_stays old.view y _ look.view) (front_stays y new.view _ _ rest))
-    (answers_after (sizes_in h.config) old.view.own.number old.view.seen.front y.seen.front new.view.seen.front _ _ look.seen answers)
+    (answers_after (sizes_in h.config) old.view.own.number old.view.seen.front y.seen.front new.view.seen.front _ _ look.seen (λ _. look.calls) answers)

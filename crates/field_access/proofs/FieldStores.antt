@@ -37,9 +37,7 @@ store_stays x y at remembers registers front is = record {
   copying = ap (λ (z : DomainView). z.seen.copying) is;
   queue = ap (λ (z : DomainView). z.own.finalisers.queue) is;
   weak = ap (λ (z : DomainView). z.seen.share.weak) is;
-  cut = ap (λ (z : DomainView). z.seen.share.cut) is;
-  whole = ap (λ (z : DomainView). z.seen.share.whole) is;
-  unswept = ap (λ (z : DomainView). z.seen.share.unswept) is;
+  progress = ap (λ (z : DomainView). z.seen.share.progress) is;
   remembers = λ all. ap (λ (z : DomainView). z.seen.remembered) is ∙ (ap (with_field remembers at) all ∙ ap (λ (z : DomainView). z.own.remembered.items) (sym is));
 }
 
@@ -52,9 +50,7 @@ learnt_stays x y learnt weak = let is = learnt.view in record {
   copying = ap (λ (z : DomainView). z.seen.copying) is;
   queue = ap (λ (z : DomainView). z.own.finalisers.queue) is;
   weak = weak;
-  cut = ap (λ (z : DomainView). z.seen.share.cut) is;
-  whole = ap (λ (z : DomainView). z.seen.share.whole) is;
-  unswept = ap (λ (z : DomainView). z.seen.share.unswept) is;
+  progress = ap (λ (z : DomainView). z.seen.share.progress) is;
   remembers = λ all. ap (λ (z : DomainView). z.seen.remembered) is ∙ (all ∙ ap (λ (z : DomainView). z.own.remembered.items) (sym is));
 }
 
@@ -72,7 +68,7 @@ stored_did h old new y z c e at remembers changes reply is runs here look learnt
     (ap (λ (x : DomainView). x.seen.hunt) rest ∙ ap (λ (x : DomainView). x.seen.hunt) learnt.view ∙ ap (λ (x : DomainView). x.seen.hunt) look.view ∙ runs.at_rest)
     (ap (λ (x : DomainView). x.seen.made) rest ∙ ap (λ (x : DomainView). x.seen.made) learnt.view ∙ ap (λ (x : DomainView). x.seen.made) look.view ∙ runs.idle)
     (stays_trans old.view y new.view (look_stays old.view y _ look.view) (stays_trans y z new.view (learnt_stays y z learnt weak) (store_stays z new.view at remembers _ _ rest)))
-    (answers_after (sizes_in h.config) old.view.own.number old.view.seen.front y.seen.front new.view.seen.front _ _ look.seen answers)
+    (answers_after (sizes_in h.config) old.view.own.number old.view.seen.front y.seen.front new.view.seen.front _ _ look.seen (λ _. look.calls) answers)
 
 -- a call that looked, marked what it expects in the field, and found another there
 pub lost_did : (h : SharedHeap) (old new : Token) (y z : DomainView) (c : Command) (e : Entry) (read : Value) (changes : List Change) (reply : Reply) → e ≡ own_entry old c → Runs h old → IsIn new h
@@ -88,4 +84,4 @@ lost_did h old new y z c e read changes reply is runs here look learnt weak told
     (ap (λ (x : DomainView). x.seen.hunt) rest ∙ ap (λ (x : DomainView). x.seen.hunt) learnt.view ∙ ap (λ (x : DomainView). x.seen.hunt) look.view ∙ runs.at_rest)
     (ap (λ (x : DomainView). x.seen.made) rest ∙ ap (λ (x : DomainView). x.seen.made) learnt.view ∙ ap (λ (x : DomainView). x.seen.made) look.view ∙ runs.idle)
     (stays_trans old.view y new.view (look_stays old.view y _ look.view) (stays_trans y z new.view (learnt_stays y z learnt weak) (front_stays z new.view _ _ rest)))
-    (answers_after (sizes_in h.config) old.view.own.number old.view.seen.front y.seen.front new.view.seen.front _ _ look.seen answers)
+    (answers_after (sizes_in h.config) old.view.own.number old.view.seen.front y.seen.front new.view.seen.front _ _ look.seen (λ _. look.calls) answers)

@@ -3,7 +3,7 @@ use Rattle.std.proofs.Common.{◌≡◌, ℕ, suc, false, List, [], ◌∷◌, S
 use Rattle.heap_model.specs.declared.entry.Entry.{Entry}
 use Rattle.heap_model.specs.declared.entry.Entry.TheVariants.{Queue as QueueEntry, Last as LastEntry}
 use Rattle.heap_model.specs.Fronts.{IsFrontOf}
-use Rattle.heap_model.specs.History.{is_entry_of}
+use Rattle.heap_model.specs.History.{Legal, is_entry_of}
 use Rattle.heap_model.proofs.Histories.FrontLemmas.{front_trans}
 use Rattle.heap_words.specs.declared.colours.Colours.{Colours}
 use Rattle.heap_rule.specs.declared.config.Config.{Config}
@@ -14,6 +14,7 @@ use Rattle.heap_rule.specs.declared.view.Held.TheVariants.{Final, Last}
 use Rattle.heap_rule.specs.declared.view.Own.{Own}
 use Rattle.heap_rule.specs.declared.view.Registered.{Registered}
 use Rattle.heap_rule.specs.declared.view.RegisteredLast.{RegisteredLast}
+use Rattle.heap_rule.specs.Limits.{sizes_in}
 use Rattle.heap_rule.specs.Standing.{IsInHeap, with_front, with_own}
 use Rattle.steps_cycle.specs.Looks.{HeldInside}
 use Rattle.steps_finalisers.specs.Looking.{FinalLookMay, FinalLookTold, LastLookMay, LastLookTold, Queues, keeping, queued_final, queued_last}
@@ -21,15 +22,17 @@ use Rattle.finaliser_queues.specs.Deciding.{AllDecided, AllLastsDecided, as_wait
 use Rattle.finaliser_queues.proofs.Sorting.{Sorted, next_count, next_old, sorted_all, sorted_kept, sorted_queued}
 
 -- The domain has looked at all registrations of `finalise` but so many
-pub record FinalsLooked (colours : Colours) (left : ℕ) (x y : DomainView) : Type 0 where
+pub record FinalsLooked (k : Config) (colours : Colours) (left : ℕ) (x y : DomainView) : Type 0 where
   pub seen : IsFrontOf x.own.number y.seen.front x.seen.front
+  pub legal : Legal (sizes_in k) x.seen.front → Legal (sizes_in k) y.seen.front
   pub view : y ≡ deciding x (record x.own.finalisers { finals = y.own.finalisers.finals; queue = y.own.finalisers.queue }) y
   pub known : y.seen.share.colours ≡ Some colours
   pub sorted : Sorted as_waiting x.own.finalisers.finals.items y.own.finalisers.finals.items x.own.finalisers.queue.items y.own.finalisers.queue.items left y.seen.share.kept
 
 -- and of `finalise_last`
-pub record LastsLooked (colours : Colours) (left : ℕ) (x y : DomainView) : Type 0 where
+pub record LastsLooked (k : Config) (colours : Colours) (left : ℕ) (x y : DomainView) : Type 0 where
   pub seen : IsFrontOf x.own.number y.seen.front x.seen.front
+  pub legal : Legal (sizes_in k) x.seen.front → Legal (sizes_in k) y.seen.front
   pub view : y ≡ deciding x (record x.own.finalisers { lasts = y.own.finalisers.lasts; queue = y.own.finalisers.queue }) y
   pub known : y.seen.share.colours ≡ Some colours
   pub sorted : Sorted as_waiting_last x.own.finalisers.lasts.items y.own.finalisers.lasts.items x.own.finalisers.queue.items y.own.finalisers.queue.items left y.seen.share.kept
@@ -41,7 +44,7 @@ grown k e own d front y z other number seen q =
     let last : IsFrontOf d z.seen.front q.before = record { rest = e ∷ []; appends = q.front; others = rw other refl } in
     front_trans d z.seen.front q.before front last (front_trans d q.before y.seen.front front mid seen)
 
-module _ (k : Config) (colours : Colours) (left : ℕ) (x y : DomainView) (stage : x.seen.stage ≡ In Decide) (inside : HeldInside k x.own.finalisers) (l : FinalsLooked colours (suc left) x y) (r : Registered) (got : slice_get y.own.finalisers.finals.items left ≡ Some r) where
+module _ (k : Config) (colours : Colours) (left : ℕ) (x y : DomainView) (stage : x.seen.stage ≡ In Decide) (inside : HeldInside k x.own.finalisers) (l : FinalsLooked k colours (suc left) x y) (r : Registered) (got : slice_get y.own.finalisers.finals.items left ≡ Some r) where
   -- the next registration is one that the domain had, so its block's address lies in the heap
   pub final_inside : IsInHeap k r.address
   final_inside =
@@ -59,34 +62,36 @@ module _ (k : Config) (colours : Colours) (left : ℕ) (x y : DomainView) (stage
     means = refl;
   }
 
-  pub final_looked : (found : ℕ) (z : DomainView) → FinalLookTold k left colours.marked r y found z → FinalsLooked colours left x z
+  pub final_looked : (found : ℕ) (z : DomainView) → FinalLookTold k left colours.marked r y found z → FinalsLooked k colours left x z
   final_looked found z told = ⊎_elim (λ c. stayed c.1) (λ c. queues c.1) told.told where
-    stayed : z ≡ keeping y → FinalsLooked colours left x z
-    stayed is = subst (FinalsLooked colours left x) (sym is) record {
+    stayed : z ≡ keeping y → FinalsLooked k colours left x z
+    stayed is = subst (FinalsLooked k colours left x) (sym is) record {
       seen = l.seen;
+      legal = l.legal;
       view = ap keeping l.view;
       known = l.known;
       sorted = sorted_kept as_waiting x.own.finalisers.finals.items y.own.finalisers.finals.items x.own.finalisers.queue.items y.own.finalisers.queue.items left y.seen.share.kept l.sorted r got;
     }
 
-    queues : Queues k (QueueEntry y.own.number (left ∷ [])) (queued_final left r y.own) y z → FinalsLooked colours left x z
+    queues : Queues k (QueueEntry y.own.number (left ∷ [])) (queued_final left r y.own) y z → FinalsLooked k colours left x z
     queues q =
         let front : List Entry = z.seen.front in
         let number : y.own.number ≡ x.own.number = ap (λ (w : DomainView). w.own.number) l.view in
-        subst (FinalsLooked colours left x) (sym q.view) record {
+        subst (FinalsLooked k colours left x) (sym q.view) record {
           seen = grown k _ _ x.own.number x.seen.front y z refl number l.seen q;
+          legal = λ _. q.legal;
           view = ap (λ (w : DomainView). with_front (with_own w (queued_final left r w.own)) front) l.view;
           known = l.known;
           sorted = sorted_queued as_waiting x.own.finalisers.finals.items y.own.finalisers.finals.items x.own.finalisers.queue.items y.own.finalisers.queue.items left y.seen.share.kept l.sorted r got;
         }
 
 -- once it has looked at all it has decided them
-pub finals_decided : (colours : Colours) (x y : DomainView) → FinalsLooked colours 0 x y → AllDecided x y
-finals_decided colours x y l =
+pub finals_decided : (k : Config) (colours : Colours) (x y : DomainView) → FinalsLooked k colours 0 x y → AllDecided k x y
+finals_decided k colours x y l =
     let all = sorted_all as_waiting x.own.finalisers.finals.items y.own.finalisers.finals.items x.own.finalisers.queue.items y.own.finalisers.queue.items y.seen.share.kept l.sorted in
-    record { seen = l.seen; done = all.kept_is; view = l.view; queued = all.queued; queue = all.queue_is; splits = all.splits }
+    record { seen = l.seen; legal = l.legal; done = all.kept_is; view = l.view; queued = all.queued; queue = all.queue_is; splits = all.splits }
 
-module _ (k : Config) (colours : Colours) (left : ℕ) (x y : DomainView) (stage : x.seen.stage ≡ In Lasts) (inside : HeldInside k x.own.finalisers) (l : LastsLooked colours (suc left) x y) (r : RegisteredLast) (got : slice_get y.own.finalisers.lasts.items left ≡ Some r) where
+module _ (k : Config) (colours : Colours) (left : ℕ) (x y : DomainView) (stage : x.seen.stage ≡ In Lasts) (inside : HeldInside k x.own.finalisers) (l : LastsLooked k colours (suc left) x y) (r : RegisteredLast) (got : slice_get y.own.finalisers.lasts.items left ≡ Some r) where
   pub last_inside : IsInHeap k r.address
   last_inside =
       let had : slice_get x.own.finalisers.lasts.items left ≡ Some r = next_old as_waiting_last x.own.finalisers.lasts.items y.own.finalisers.lasts.items x.own.finalisers.queue.items y.own.finalisers.queue.items left y.seen.share.kept l.sorted r got in
@@ -103,28 +108,30 @@ module _ (k : Config) (colours : Colours) (left : ℕ) (x y : DomainView) (stage
     means = refl;
   }
 
-  pub last_looked : (found : ℕ) (z : DomainView) → LastLookTold k left colours.marked r y found z → LastsLooked colours left x z
+  pub last_looked : (found : ℕ) (z : DomainView) → LastLookTold k left colours.marked r y found z → LastsLooked k colours left x z
   last_looked found z told = ⊎_elim (λ c. stayed c.1) (λ c. queues c.1) told.told where
-    stayed : z ≡ keeping y → LastsLooked colours left x z
-    stayed is = subst (LastsLooked colours left x) (sym is) record {
+    stayed : z ≡ keeping y → LastsLooked k colours left x z
+    stayed is = subst (LastsLooked k colours left x) (sym is) record {
       seen = l.seen;
+      legal = l.legal;
       view = ap keeping l.view;
       known = l.known;
       sorted = sorted_kept as_waiting_last x.own.finalisers.lasts.items y.own.finalisers.lasts.items x.own.finalisers.queue.items y.own.finalisers.queue.items left y.seen.share.kept l.sorted r got;
     }
 
-    queues : Queues k (LastEntry y.own.number left) (queued_last left r y.own) y z → LastsLooked colours left x z
+    queues : Queues k (LastEntry y.own.number left) (queued_last left r y.own) y z → LastsLooked k colours left x z
     queues q =
         let front : List Entry = z.seen.front in
         let number : y.own.number ≡ x.own.number = ap (λ (w : DomainView). w.own.number) l.view in
-        subst (LastsLooked colours left x) (sym q.view) record {
+        subst (LastsLooked k colours left x) (sym q.view) record {
           seen = grown k _ _ x.own.number x.seen.front y z refl number l.seen q;
+          legal = λ _. q.legal;
           view = ap (λ (w : DomainView). with_front (with_own w (queued_last left r w.own)) front) l.view;
           known = l.known;
           sorted = sorted_queued as_waiting_last x.own.finalisers.lasts.items y.own.finalisers.lasts.items x.own.finalisers.queue.items y.own.finalisers.queue.items left y.seen.share.kept l.sorted r got;
         }
 
-pub lasts_decided : (colours : Colours) (x y : DomainView) → LastsLooked colours 0 x y → AllLastsDecided x y
-lasts_decided colours x y l =
+pub lasts_decided : (k : Config) (colours : Colours) (x y : DomainView) → LastsLooked k colours 0 x y → AllLastsDecided k x y
+lasts_decided k colours x y l =
     let all = sorted_all as_waiting_last x.own.finalisers.lasts.items y.own.finalisers.lasts.items x.own.finalisers.queue.items y.own.finalisers.queue.items y.seen.share.kept l.sorted in
-    record { seen = l.seen; done = all.kept_is; view = l.view; queued = all.queued; queue = all.queue_is; splits = all.splits }
+    record { seen = l.seen; legal = l.legal; done = all.kept_is; view = l.view; queued = all.queued; queue = all.queue_is; splits = all.splits }

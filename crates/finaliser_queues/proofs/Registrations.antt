@@ -33,9 +33,7 @@ own_did h old new c own runs here is number arrivals queue remembered answers =
       copying = ap (λ (x : DomainView). x.seen.copying) is;
       queue = ap (λ (x : DomainView). x.own.finalisers.queue) is ∙ queue;
       weak = ap (λ (x : DomainView). x.seen.share.weak) is;
-      cut = ap (λ (x : DomainView). x.seen.share.cut) is;
-      whole = ap (λ (x : DomainView). x.seen.share.whole) is;
-      unswept = ap (λ (x : DomainView). x.seen.share.unswept) is;
+      progress = ap (λ (x : DomainView). x.seen.share.progress) is;
       remembers = λ all. ap (λ (x : DomainView). x.seen.remembered) is ∙ (all ∙ sym (ap (λ (x : DomainView). x.own.remembered.items) is ∙ ap (λ (b : Bounded ℕ). b.items) remembered));
     })
     answers

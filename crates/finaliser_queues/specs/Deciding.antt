@@ -1,12 +1,15 @@
 -- What a domain has decided of its registrations in a collection.
 use Rattle.std.specs.Prelude.{◌≡◌, ◌⊎◌, List, [], ◌∷◌, ◌++◌, length}
 use Rattle.heap_model.specs.Fronts.{IsFrontOf}
+use Rattle.heap_model.specs.History.{Legal}
+use Rattle.heap_rule.specs.declared.config.Config.{Config}
 use Rattle.heap_rule.specs.declared.view.DomainView.{DomainView}
 use Rattle.heap_rule.specs.declared.view.Finalisers.{Finalisers}
 use Rattle.heap_rule.specs.declared.view.Registered.{Registered}
 use Rattle.heap_rule.specs.declared.view.RegisteredLast.{RegisteredLast}
 use Rattle.heap_rule.specs.declared.view.Waiting.{Waiting}
 use Rattle.heap_rule.specs.declared.view.Waiting.TheVariants.{Fin, Last}
+use Rattle.heap_rule.specs.Limits.{sizes_in}
 use Rattle.heap_rule.specs.Standing.{with_front, with_own}
 use Rattle.steps_cycle.specs.Looks.{with_share}
 use Rattle.steps_finalisers.specs.Registering.{with_finalisers}
@@ -27,9 +30,10 @@ as_waiting_last r = Last r.number
 abbrev pub deciding : DomainView → Finalisers → DomainView → DomainView
 deciding x lists y = with_front (with_share (with_own x (with_finalisers lists x.own)) (record x.seen.share { colours = y.seen.share.colours; kept = y.seen.share.kept })) y.seen.front
 
--- Of the registrations of `finalise` some stay and the others are queued, behind all that waited before. The domain has looked at each. Its front has grown by the entries of others and of the collector
-pub record AllDecided (x y : DomainView) : Type 0 where
+-- Of the registrations of `finalise` some stay and the others are queued, behind all that waited before. The domain has looked at each. Its front has grown by the entries of others and of the collector, and is legal if it was
+pub record AllDecided (k : Config) (x y : DomainView) : Type 0 where
   pub seen : IsFrontOf x.own.number y.seen.front x.seen.front
+  pub legal : Legal (sizes_in k) x.seen.front → Legal (sizes_in k) y.seen.front
   pub done : y.seen.share.kept ≡ length y.own.finalisers.finals.items
   pub view : y ≡ deciding x (record x.own.finalisers { finals = y.own.finalisers.finals; queue = y.own.finalisers.queue }) y
   pub queued : List Waiting
@@ -37,8 +41,9 @@ pub record AllDecided (x y : DomainView) : Type 0 where
   pub splits : Splits as_waiting x.own.finalisers.finals.items y.own.finalisers.finals.items queued
 
 -- and so of those of `finalise_last`
-pub record AllLastsDecided (x y : DomainView) : Type 0 where
+pub record AllLastsDecided (k : Config) (x y : DomainView) : Type 0 where
   pub seen : IsFrontOf x.own.number y.seen.front x.seen.front
+  pub legal : Legal (sizes_in k) x.seen.front → Legal (sizes_in k) y.seen.front
   pub done : y.seen.share.kept ≡ length y.own.finalisers.lasts.items
   pub view : y ≡ deciding x (record x.own.finalisers { lasts = y.own.finalisers.lasts; queue = y.own.finalisers.queue }) y
   pub queued : List Waiting

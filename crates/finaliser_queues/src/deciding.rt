@@ -21,7 +21,7 @@ pub fn decide(heap: &Heap, dom: &mut Domain)
     requires stage { dom.old.view.seen.stage ≡ In Decide }
     requires fresh { dom.old.view.seen.share.kept ≡ 0 }
     ensures here { IsIn dom.new heap.now }
-    ensures decided { AllDecided dom.old.view dom.new.view }
+    ensures decided { AllDecided heap.now.config dom.old.view dom.new.view }
 {
     let _most = heap.config().finals;
     let _room = dom.finals_room();
@@ -56,7 +56,7 @@ pub fn last(heap: &Heap, dom: &mut Domain)
     requires stage { dom.old.view.seen.stage ≡ In Lasts }
     requires fresh { dom.old.view.seen.share.kept ≡ 0 }
     ensures here { IsIn dom.new heap.now }
-    ensures decided { AllLastsDecided dom.old.view dom.new.view }
+    ensures decided { AllLastsDecided heap.now.config dom.old.view dom.new.view }
 {
     let _most = heap.config().finals;
     let _room = dom.finals_room();

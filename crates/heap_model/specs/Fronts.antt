@@ -1,12 +1,14 @@
 -- Fronts: what a domain has seen of the history, and what stays true of the blocks that it knows while others go on.
-use Rattle.std.specs.Prelude.{◌≡◌, ◌⊎◌, ℕ, List, [], ◌∷◌, ◌++◌, length, Some, IsTrue, not}
+use Rattle.std.specs.Prelude.{◌≡◌, ◌⊎◌, ℕ, Bool, true, false, List, [], ◌∷◌, ◌++◌, length, drop, Some, IsTrue, not}
 use Rattle.std.specs.List.{list_all}
 use Rattle.heap_model.specs.declared.label.Label.{Label}
 use Rattle.heap_model.specs.declared.graph.Value.{Value}
 use Rattle.heap_model.specs.declared.graph.Value.TheVariants.{Block}
 use Rattle.heap_model.specs.declared.graph.Node.{Node}
 use Rattle.heap_model.specs.declared.graph.Node.TheVariants.{Plain, Raw, Ephe}
+use Rattle.heap_model.specs.declared.command.Command.TheVariants.{FullMajor}
 use Rattle.heap_model.specs.declared.entry.Entry.{Entry}
+use Rattle.heap_model.specs.declared.entry.Entry.TheVariants.{Command, End, Cut, Seal, Collected, Done, Ran}
 use Rattle.heap_model.specs.declared.reply.Applied.{Applied}
 use Rattle.heap_model.specs.declared.state.Mode.TheVariants.{Open}
 use Rattle.heap_model.specs.declared.state.Sizes.{Sizes}
@@ -20,16 +22,49 @@ use Rattle.heap_model.specs.History.{state_after, Legal, is_entry_of}
 abbrev pub NoneOf : ℕ → List Entry → Type 0
 NoneOf d h = IsTrue (list_all (λ x. not (is_entry_of d x)) h)
 
+-- the entries of a history behind a front
+abbrev pub unseen : List Entry → List Entry → List Entry
+unseen history front = drop (length front) history
+
+-- an entry of a domain, and not of the collector
+abbrev pub is_call : Entry → Bool
+is_call (Command d c full) = true
+is_call (End d) = true
+is_call (Ran d) = true
+is_call _ = false
+
+-- all of these entries are domains'
+abbrev pub AreCalls : List Entry → Type 0
+AreCalls h = IsTrue (list_all is_call h)
+
+-- an entry by which a collection begins, comes from one part to the next, or ends
+abbrev pub is_control : Entry → Bool
+is_control Cut = true
+is_control Seal = true
+is_control Collected = true
+is_control Done = true
+is_control _ = false
+
+-- none of these entries is one
+abbrev pub AreNotControls : List Entry → Type 0
+AreNotControls h = IsTrue (list_all (λ x. not (is_control x)) h)
+
+-- whether an entry is a full_major. It alone is made in a pause: a domain runs as it makes any other
+abbrev pub is_full_major : Entry → Bool
+is_full_major (Command d FullMajor full) = true
+is_full_major _ = false
+
 -- the front of domain d begins the history, which goes on without that domain
 pub record IsFrontOf (d : ℕ) (history front : List Entry) : Type 0 where
   pub rest : List Entry
   pub appends : history ≡ front ++ rest
   pub others : NoneOf d rest
 
--- A call of domain d with one entry: its front grows by entries of others and by this one, which comes last, and the answer is that of the state before it
+-- A call of domain d with one entry: its front grows by entries of others and by this one, which comes last, and the answer is that of the state before it. The others are domains', for no entry of the collector comes while a domain runs; but a full_major is answered in a pause, and there some may
 pub record Answers (z : Sizes) (d : ℕ) (old new : List Entry) (e : Entry) (answer : Applied) : Type 0 where
   pub between : List Entry
   pub others : NoneOf d between
+  pub calls : is_full_major e ≡ false → AreCalls between
   pub appends : new ≡ old ++ between ++ e ∷ []
   pub legal : Legal z new
   pub replies : reply (state_after (opening z) (old ++ between)) e ≡ answer

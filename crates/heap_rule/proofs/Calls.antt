@@ -24,14 +24,14 @@ use Rattle.heap_rule.specs.Token.{Token, SharedHeap, IsIn}
 
 -- a step that changes registers and the front alone
 pub front_stays : (x y : DomainView) (registers : List Value) (front : List Entry) → y ≡ with_front (with_registers x registers) front → Stays x y
-front_stays x y registers front is = record { arrivals = ap (λ (z : DomainView). z.own.arrivals) is; stage = ap (λ (z : DomainView). z.seen.stage) is; notes = ap (λ (z : DomainView). z.seen.notes) is; copying = ap (λ (z : DomainView). z.seen.copying) is; queue = ap (λ (z : DomainView). z.own.finalisers.queue) is; weak = ap (λ (z : DomainView). z.seen.share.weak) is; cut = ap (λ (z : DomainView). z.seen.share.cut) is; whole = ap (λ (z : DomainView). z.seen.share.whole) is; unswept = ap (λ (z : DomainView). z.seen.share.unswept) is; remembers = λ all. ap (λ (z : DomainView). z.seen.remembered) is ∙ (all ∙ ap (λ (z : DomainView). z.own.remembered.items) (sym is)) }
+front_stays x y registers front is = record { arrivals = ap (λ (z : DomainView). z.own.arrivals) is; stage = ap (λ (z : DomainView). z.seen.stage) is; notes = ap (λ (z : DomainView). z.seen.notes) is; copying = ap (λ (z : DomainView). z.seen.copying) is; queue = ap (λ (z : DomainView). z.own.finalisers.queue) is; weak = ap (λ (z : DomainView). z.seen.share.weak) is; progress = ap (λ (z : DomainView). z.seen.share.progress) is; remembers = λ all. ap (λ (z : DomainView). z.seen.remembered) is ∙ (all ∙ ap (λ (z : DomainView). z.own.remembered.items) (sym is)) }
 
 -- a step that changes the front alone
 pub look_stays : (x y : DomainView) (front : List Entry) → y ≡ with_front x front → Stays x y
-look_stays x y front is = record { arrivals = ap (λ (z : DomainView). z.own.arrivals) is; stage = ap (λ (z : DomainView). z.seen.stage) is; notes = ap (λ (z : DomainView). z.seen.notes) is; copying = ap (λ (z : DomainView). z.seen.copying) is; queue = ap (λ (z : DomainView). z.own.finalisers.queue) is; weak = ap (λ (z : DomainView). z.seen.share.weak) is; cut = ap (λ (z : DomainView). z.seen.share.cut) is; whole = ap (λ (z : DomainView). z.seen.share.whole) is; unswept = ap (λ (z : DomainView). z.seen.share.unswept) is; remembers = λ all. ap (λ (z : DomainView). z.seen.remembered) is ∙ (all ∙ ap (λ (z : DomainView). z.own.remembered.items) (sym is)) }
+look_stays x y front is = record { arrivals = ap (λ (z : DomainView). z.own.arrivals) is; stage = ap (λ (z : DomainView). z.seen.stage) is; notes = ap (λ (z : DomainView). z.seen.notes) is; copying = ap (λ (z : DomainView). z.seen.copying) is; queue = ap (λ (z : DomainView). z.own.finalisers.queue) is; weak = ap (λ (z : DomainView). z.seen.share.weak) is; progress = ap (λ (z : DomainView). z.seen.share.progress) is; remembers = λ all. ap (λ (z : DomainView). z.seen.remembered) is ∙ (all ∙ ap (λ (z : DomainView). z.own.remembered.items) (sym is)) }
 
 pub stays_trans : (x y z : DomainView) → Stays x y → Stays y z → Stays x z
-stays_trans x y z a b = record { arrivals = b.arrivals ∙ a.arrivals; stage = b.stage ∙ a.stage; notes = b.notes ∙ a.notes; copying = b.copying ∙ a.copying; queue = b.queue ∙ a.queue; weak = b.weak ∙ a.weak; cut = b.cut ∙ a.cut; whole = b.whole ∙ a.whole; unswept = b.unswept ∙ a.unswept; remembers = λ all. b.remembers (a.remembers all) }
+stays_trans x y z a b = record { arrivals = b.arrivals ∙ a.arrivals; stage = b.stage ∙ a.stage; notes = b.notes ∙ a.notes; copying = b.copying ∙ a.copying; queue = b.queue ∙ a.queue; weak = b.weak ∙ a.weak; progress = b.progress ∙ a.progress; remembers = λ all. b.remembers (a.remembers all) }
 
 -- the domain runs on
 pub acting_runs : (h : SharedHeap) (old new : Token) (c : Command) (full : Bool) (a : Applied) → IsIn old h → Acts old.config old.view → RemembersAll old.view → IsIn new h → new.view.own.number ≡ old.view.own.number → new.view.seen.hunt ≡ Rests → new.view.seen.made ≡ [] → Stays old.view new.view

@@ -7,17 +7,17 @@ use mathlib.Core.Option.{some}
 use lib.ListN.{get_elem?}
 use Rattle.heap_model.specs.declared.entry.Entry.{Entry}
 use Rattle.heap_model.specs.Graph.{Graph}
-use Rattle.heap_model.specs.Fronts.{IsFrontOf}
 use Rattle.heap_rule.specs.declared.config.Config.{Config}
 use Rattle.heap_rule.specs.declared.phase.Stage.{Stage}
 use Rattle.heap_rule.specs.declared.phase.Note.{Note}
+use Rattle.heap_rule.specs.declared.view.Spare.{Spare}
 use Rattle.heap_rule.specs.declared.view.DomainView.{DomainView}
 use Rattle.heap_rule.specs.Layout.{before_heap, ended_word, cursor, listed, changed_word, at_address}
 use Rattle.heap_rule.specs.Places.{Live, Paint, IsOldWord, Settled}
 use Rattle.heap_rule.specs.declared.view.Copying.{Copying}
 use Rattle.heap_rule.specs.Copies.{Owes, Promoting, AllCleared, Emptied, Rooted}
 use Rattle.heap_rule.specs.Phases.{Pause, Phases, sum_of, IsEven, IsOdd, Staged, Still, TookBack, HasSetBack, Unwished, last_from, last_note}
-use Rattle.heap_rule.specs.Pools.{Stock, Reserved, Covered, limit_of, Tenancy, Pools, Grid, Drawers, Resting, Hunter, Lists, Holder}
+use Rattle.heap_rule.specs.Pools.{Stock, Reserved, Covered, limit_of, Tenancy, Pools, Grid, Drawers, Resting, Hunter, Lists, Holder, last_found}
 use Rattle.heap_rule.specs.declared.view.Listing.{Listing}
 use Rattle.heap_rule.specs.Deciding.{Deciding}
 use Rattle.heap_rule.specs.Sweeping.{SweepsIn}
@@ -193,7 +193,8 @@ pub record Move : Type 0 where
   pub front : List Entry
   pub stage : Stage
   pub notes : List Note
-  pub free : Option ℕ
+  pub free : List ℕ
+  pub spare : Option Spare
   pub listing : Option Listing
   pub copying : Copying
   pub share : Share
@@ -201,12 +202,12 @@ pub record Move : Type 0 where
 abbrev pub moved_to : DomainView → Move → DomainView
 moved_to x m = record {
   own = record x.own { arrivals = m.arrivals; pending = m.pending };
-  seen = record x.seen { front = m.front; stage = m.stage; notes = m.notes; free = m.free; listing = m.listing; copying = m.copying; share = m.share };
+  seen = record x.seen { front = m.front; stage = m.stage; notes = m.notes; free = m.free; spare = m.spare; listing = m.listing; copying = m.copying; share = m.share };
 }
 
 -- the domain stands where it stands, and knows what it knows
 abbrev pub no_move : DomainView → Move
-no_move x = record { arrivals = x.own.arrivals; pending = x.own.pending; front = x.seen.front; stage = x.seen.stage; notes = x.seen.notes; free = x.seen.free; listing = x.seen.listing; copying = x.seen.copying; share = x.seen.share }
+no_move x = record { arrivals = x.own.arrivals; pending = x.own.pending; front = x.seen.front; stage = x.seen.stage; notes = x.seen.notes; free = x.seen.free; spare = x.seen.spare; listing = x.seen.listing; copying = x.seen.copying; share = x.seen.share }
 
 module _ (k : Config) (s : Words) (r : Rule k s) (id : ℕ) (hist : List Entry) (x : DomainView) (at : get_elem? s.views id ≡ some (one k hist x)) where
   -- what there is besides the words after a step of a pause
@@ -222,12 +223,12 @@ module _ (k : Config) (s : Words) (r : Rule k s) (id : ℕ) (hist : List Entry) 
     pub sharings : (z : DomainView) → z.own.number < k.domains → z.own.number ≢ x.own.number → Good k r.account s.words z
         → Sharing k (turned pause' (record r.account.tenancy { stock = stock' }) c' homes') words' z.own.number z.own.registers z.own.finalisers z.own.ephemerons.items z.seen.stage z.seen.share
     pub untouched : Untouched s.words words'
-    pub front : IsFrontOf x.own.number r.account.log y.seen.front
+    pub front : (y.seen.front ≡ x.seen.front) ⊎ (y.seen.front ≡ r.account.log)
     pub phases : Phases k pause' words'
     pub endings : ended_word words' ≡ ended_word s.words
     pub staged : Staged pause' y
     pub still : Still r.account.log y
-    pub free : (f : ℕ) → y.seen.free ≡ Some f → x.seen.free ≡ Some f
+    pub free : (f : ℕ) → last_found y ≡ Some f → last_found x ≡ Some f
     pub resting : Resting k words' y
     pub owes : Owes k r.account.live y
     pub settled : Settled r.account.live ⊎ Promoting pause'
@@ -344,13 +345,13 @@ module _ (k : Config) (s : Words) (r : Rule k s) (id : ℕ) (hist : List Entry) 
         rooted = g.rooted;
         roots = λ z _ _ _ ro. ro;
         untouched = u;
-        front = (mine k s r id hist x at).front;
+        front = inl refl;
         phases = phases_words k r.account.pause s.words words' b c r.whole.phases;
         endings = e;
         staged = record { arrivals = g.staged.arrivals; stage = g.staged.stage };
         still = g.still;
         free = λ f e. e;
-        resting = let rest = resting_untouched k s.words words' x u g.resting in record { hunt = rest.hunt; free = rest.free; lists = rest.lists };
+        resting = let rest = resting_untouched k s.words words' x u g.resting in record { hunt = rest.hunt; free = rest.free; spare = rest.spare; lists = rest.lists };
         reserved = reserved_untouched k r.account.pause t s.words words' u r.whole.pools r.whole.reserved;
         covered = covered_untouched k r.account.pause t s.words words' u r.whole.pools r.whole.covered;
         drawers = r.whole.drawers;
@@ -360,7 +361,7 @@ module _ (k : Config) (s : Words) (r : Rule k s) (id : ℕ) (hist : List Entry) 
           to_run = λ j odd led runs. counts.1 ∙ r.whole.drawable.to_run j odd led runs;
           to_copy = λ j odd led copies. low_untouched k s.words words' u (r.whole.drawable.to_copy j odd led copies);
         };
-        hunter = hunter_as k t words' x y refl refl refl refl refl refl (hunter_untouched k t s.words words' x u g.hunter);
+        hunter = hunter_as k t words' x y refl refl refl refl refl refl refl (hunter_untouched k t s.words words' x u g.hunter);
         stocks = λ d _. stock_self t.stock d;
         others = λ z _ _ st. st;
         unwished = unwished;

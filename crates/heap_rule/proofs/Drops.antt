@@ -12,11 +12,11 @@ use Rattle.heap_model.specs.declared.graph.Value.{Value}
 use Rattle.heap_model.specs.declared.graph.Value.TheVariants.{Int, Block, Nothing}
 use Rattle.heap_model.specs.Graph.{Graph}
 use Rattle.heap_model.specs.Domains.{register}
-use Rattle.heap_model.specs.Fronts.{IsFrontOf}
 use Rattle.heap_words.specs.declared.value.Value as words
 use Rattle.heap_words.specs.declared.value.Value.TheVariants.{Int as IntWord, Ref, Nothing as NothingWord}
 use Rattle.heap_words.specs.Values.{value_word}
 use Rattle.heap_rule.specs.declared.config.Config.{Config}
+use Rattle.heap_rule.specs.declared.view.Spare.{Spare}
 use Rattle.heap_rule.specs.declared.view.Copying.{Copying}
 use Rattle.heap_rule.specs.declared.view.Copied.{Copied}
 use Rattle.heap_rule.specs.declared.view.Hunt.{Hunt}
@@ -27,7 +27,7 @@ use Rattle.heap_rule.specs.Places.{Debt, Place, Live, extent, values_of, Stands,
 use Rattle.heap_rule.specs.Changes.{value_at}
 use Rattle.heap_rule.specs.Copies.{nothing_copied, known, Owes, Copies, Promoting, IsOldValue, HoldsOld, Rooted}
 use Rattle.heap_rule.specs.Phases.{Pause, Phases, IsOdd, Staged, Still, TookBack, HasSetBack, Unwished}
-use Rattle.heap_rule.specs.Pools.{no_stock, drawn, Stock, Hunts, KeepsReserve, Resting, Tenancy, Pools, Grid, place_in, size_of}
+use Rattle.heap_rule.specs.Pools.{no_stock, drawn, Stock, Hunts, KeepsReserve, Resting, Tenancy, Pools, Grid, place_in, size_of, last_found}
 use Rattle.heap_rule.specs.declared.view.Finalisers.{Finalisers}
 use Rattle.heap_rule.specs.Finalisers.{RefersOld, Enrolled}
 use Rattle.heap_rule.proofs.FinaliserLemmas.{enrolled_at}
@@ -205,14 +205,15 @@ module _ (k : Config) (s : Words) (r : Rule k s) (id : ℕ) (hist : List Entry) 
     pub sharing : Sharing k (dropped_to pause' c') words' y.own.number y.own.registers y.own.finalisers y.own.ephemerons.items y.seen.stage y.seen.share
     pub sharings : (z : DomainView) → z.own.number < k.domains → z.own.number ≢ x.own.number → Good k r.account s.words z → Sharing k (dropped_to pause' c') words' z.own.number z.own.registers z.own.finalisers z.own.ephemerons.items z.seen.stage z.seen.share
     pub untouched : Untouched s.words words'
-    pub front : IsFrontOf x.own.number r.account.log y.seen.front
+    pub front : (y.seen.front ≡ x.seen.front) ⊎ (y.seen.front ≡ r.account.log)
     pub phases : Phases k pause' words'
     pub endings : ended_word words' ≡ ended_word s.words
     pub staged : Staged pause' y
     pub still : Still r.account.log y
     pub resting : Resting k words' y
     pub idle : y.own.pending.items ≡ []
-    pub free_same : (f : ℕ) → y.seen.free ≡ Some f → x.seen.free ≡ Some f
+    pub free_same : (f : ℕ) → last_found y ≡ Some f → last_found x ≡ Some f
+    pub spare_none : y.seen.spare ≡ None
     pub others : (z : DomainView) → z.own.number < k.domains → z.own.number ≢ x.own.number → Staged r.account.pause z → Staged pause' z
     pub over : Promoting pause' → ⊥
     pub kept : KeepsReserve pause' → ⊥
@@ -305,6 +306,7 @@ module _ (k : Config) (s : Words) (r : Rule k s) (id : ℕ) (hist : List Entry) 
           drawn_alone = mine_hunter.drawn_alone;
           taken = mine_hunter.taken;
           free = λ f e. mine_hunter.free f (o.free_same f e);
+          spare = λ z e. absurd (let no : ◌≡◌ {A = Option Spare} None (Some z) = sym o.spare_none ∙ e in cc);
           holds = mine_hunter.holds;
           prepared = mine_hunter.prepared;
           claims = ap (λ (l : List Copied). length l) o.idle;
@@ -330,6 +332,7 @@ module _ (k : Config) (s : Words) (r : Rule k s) (id : ℕ) (hist : List Entry) 
           drawn_alone = zh.drawn_alone;
           taken = zh.taken;
           free = zh.free;
+          spare = λ u e. let f = zh.spare u e in record { own_is = f.own_is; inside = f.inside; free = f.free };
           holds = zh.holds;
           prepared = zh.prepared;
           claims = zh.claims ∙ o.no_claims z.own.number below other;

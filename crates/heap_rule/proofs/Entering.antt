@@ -161,7 +161,7 @@ module _ (k : Config) (s : Words) (r : Rule k s) (id : ℕ) (hist : List Entry) 
     areas = λ z _ h. h;
     makings = λ z _ _ h. h;
     grid = r.whole.grid;
-    hunter = hunter_as k r.account.tenancy s.words x y refl refl refl refl refl refl g.hunter;
+    hunter = hunter_as k r.account.tenancy s.words x y refl refl refl refl refl refl refl g.hunter;
     hunters = λ z _ g. g.hunter;
     listed = record { all = g.listed.all; own = g.listed.own; lives = g.listed.lives };
     listeds = λ z _ h. h.listed;
@@ -176,7 +176,7 @@ module _ (k : Config) (s : Words) (r : Rule k s) (id : ℕ) (hist : List Entry) 
 
   pub enters : (graph : Graph) (e : Entry) (answer : Applied) (read : Value) (changes : List Change) → EntersTo graph e ((changed read changes x.own).registers) answer → Entered k e answer read changes x (entered_view e ((changed read changes x.own).registers))
   enters graph e answer read changes o = let y : DomainView = entered_view e ((changed read changes x.own).registers) in record {
-    answers = answers_push (sizes_in k) x.own.number r.account.log x.seen.front e answer (mine k s r id hist x at).front (legal_entry k s r id hist x at e o.allowed) o.leaves.replies;
+    answers = answers_push (sizes_in k) x.own.number r.account.log x.seen.front e answer (mine k s r id hist x at).front (λ _. (my_good k s r id hist x at).still.1 acts.runs) (legal_entry k s r id hist x at e o.allowed) o.leaves.replies;
     view = ap (λ (own : Own). with_front (with_own x own) y.seen.front) (sym (changed_only read changes x.own));
     holds = holds k r.limits r.account.live r.whole.placed (next now e) y (stood_after graph e ((changed read changes x.own).registers) answer y refl refl refl refl o);
   }

@@ -230,6 +230,7 @@ module _ (k : Config) (t t' : Tenancy) (words words' : List ℕ) (agrees : Agree
   pub hunter_agree : (z : DomainView) → cursor words ≤ cursor words' → SameFor t t' z.own.number → Hunter k t words z → Hunter k t' words' z
   hunter_agree z grows same h = record {
     free = λ f e. free_later k words words' agrees.count grows f (h.free f e);
+    spare = λ u e. let f = h.spare u e in record { own_is = same.owned_to u.pool u.class f.own_is; inside = f.inside; free = agrees.heap (place_in u.pool u.class u.slot) (omega arith) ∙ f.free };
     hunt = hunts_agree z.own.number same z.seen.hunt h.hunt;
     drawn_alone = λ q e. h.drawn_alone q (same.drawn_from q e);
     taken = λ q c slot is inside low e. h.taken q c slot (same.owned_from q c is) inside low (sym (agrees.heap (place_in q c slot) (omega arith)) ∙ e);

@@ -3,7 +3,7 @@ use Rattle.remembered_set.specs.Bounded.{Bounded}
 use Rattle.heap_model.specs.declared.label.Label.{Label}
 use Rattle.std.proofs.lemmas.Option.{slice_get_within}
 use Rattle.heap_rule.specs.declared.phase.Kind.{Kind}
-use Rattle.std.proofs.Common.{zero-le, slice_get, inl, inr, ⊎_elim, None, ◌≡◌, ◌≢◌, ℕ, zero, suc, ◌+◌, ◌*◌, ◌<◌, ◌≤◌, false, List, [], ◌∷◌, ◌++◌, length, get_or, set, Some, sym, refl, ap, ◌∙◌, subst, arith, length-set, get_or-set_other, append_assoc, ◌⊎◌, Option, true, IsTrue}
+use Rattle.std.proofs.Common.{zero-le, not, slice_get, inl, inr, ⊎_elim, None, ◌≡◌, ◌≢◌, ℕ, zero, suc, ◌+◌, ◌*◌, ◌<◌, ◌≤◌, false, List, [], ◌∷◌, ◌++◌, length, get_or, set, Some, sym, refl, ap, ◌∙◌, subst, arith, length-set, get_or-set_other, append_assoc, ◌⊎◌, Option, true, IsTrue}
 use mathlib.Core.Logic.{dite}
 use native.Mathlib.Decide.{ℕ_discrete}
 use mathlib.Core.Option.{some}
@@ -21,10 +21,10 @@ use Rattle.heap_model.specs.declared.state.State as model
 use Rattle.heap_model.specs.Domains.{domain_at, register, opening}
 use Rattle.heap_model.specs.Entries.{Allowed, next}
 use Rattle.heap_model.specs.History.{IsPrefix, Legal, is_entry_of}
-use Rattle.heap_model.specs.Fronts.{IsFrontOf, KeepsDomain, Shape}
+use Rattle.heap_model.specs.Fronts.{AreCalls, AreNotControls, IsFrontOf, KeepsDomain, Shape, is_call, is_control, unseen}
 use Rattle.heap_model.proofs.Histories.HistoryLemmas.{legal_push, state_after-push}
 use Rattle.heap_model.proofs.Commands.FrameLemmas.{keeps_next, frame_command}
-use Rattle.heap_model.proofs.Histories.FrontLemmas.{front_whole, front_push, keeps_front}
+use Rattle.heap_model.proofs.Histories.FrontLemmas.{front_whole, front_push, keeps_front, unseen_push, unseen_whole}
 use Rattle.heap_rule.specs.declared.config.Config.{Config}
 use Rattle.heap_rule.specs.declared.view.DomainView.{DomainView}
 use Rattle.heap_rule.specs.declared.view.Hunt.{Hunt}
@@ -45,7 +45,7 @@ use Rattle.heap_rule.specs.declared.phase.Stage.TheVariants.{In, Leads, Led, Gon
 use Rattle.heap_rule.specs.Phases.{Pause, Phases, sum_of, IsEven, AtStage, Staged, IsInPause, Still, Agree, flag, is_over, TookBack, HasSetBack, last_note}
 use Rattle.heap_rule.specs.Rule.{state_of, AllFound, Stood, Area, Making, Account, Good, Sharing, Whole, Rule}
 use Rattle.heap_rule.specs.Cycles.{Cycling, Cycled, Telling, Leading, HasNoCycle, IsBetween, IsIdle}
-use Rattle.heap_rule.proofs.PauseFacts.{not_both, agree, nobody_paused, staged_as, run_promoting, run_resetting, kind_differs}
+use Rattle.heap_rule.proofs.PauseFacts.{called_still, not_both, agree, nobody_paused, staged_as, run_promoting, run_resetting, kind_differs}
 use Rattle.heap_rule.specs.Sweeping.{SweepsIn}
 use Rattle.heap_rule.proofs.Garbage.{KeepsGarbage, garbage_same, sweeps_on}
 use Rattle.heap_rule.proofs.Sharings.{SameCycle, KeepsUnderway, with_past, with_weak, leading_past, telling_weak, leading_weak, kind_now, cycle_between, facts_between, leading_words, leading_as, telling_as, idle_in, idle_beside, takes_kind, adds_nothing}
@@ -57,7 +57,7 @@ use Rattle.cycle_laws.specs.Beside.{Past}
 use Rattle.heap_rule.specs.Room.{spent_stock, count, drawn_in_all, copied_words, Room, IsUnused, Opened, Drawable}
 use Rattle.heap_model.specs.Domains.{class_count, reserve}
 use Rattle.heap_rule.specs.Layout.{heap_words, at_address}
-use Rattle.heap_rule.specs.Pools.{Holder, Stock, Reserved, Covered, Takes, IsCopying, Latest, DrawsFor, prepared_at, size_of, Tenancy, drawn, owned, Pools, Grid, Drawers, IsLeading, Lists, Resting, Hunts, Hunter, drawn_in, hunting_free, spot_at, IsBefore, limit_of}
+use Rattle.heap_rule.specs.Pools.{Holder, Stock, Reserved, Covered, Takes, IsCopying, Latest, DrawsFor, prepared_at, size_of, Tenancy, drawn, owned, Pools, Grid, Drawers, IsLeading, Lists, Resting, Hunts, Hunter, drawn_in, hunting_free, spot_at, IsBefore, IsFree, limit_of}
 use Rattle.heap_rule.specs.Standing.{with_front}
 use Rattle.heap_rule.specs.Ephemerons.{IsEpheAt, Listed}
 use Rattle.heap_rule.specs.Finalisers.{RefersOld}
@@ -194,6 +194,17 @@ trace_queues (CommandOf d c full) is = tt
 trace_queues (Ran d) is = tt
 trace_queues _ is = absurd is
 
+-- it is a domain's, and not the collector's
+trace_call : (e : Entry) → IsOfTrace e → is_call e ≡ true
+trace_call (CommandOf d c full) is = refl
+trace_call (Ran d) is = refl
+trace_call _ is = absurd is
+
+trace_control : (e : Entry) → IsOfTrace e → is_control e ≡ false
+trace_control (CommandOf d c full) is = refl
+trace_control (Ran d) is = refl
+trace_control _ is = absurd is
+
 -- it ends no trace
 pub trace_over : (s : model.State) (e : Entry) → IsOfTrace e → (d : ℕ) → is_over (next s e) d ≡ is_over s d
 trace_over s (Ran j) is d = ap flag (run_ended s j (domain_at s j).queue d)
@@ -223,8 +234,12 @@ copies_settled k live settled naming = record {
   naming = naming;
 }
 
-pub run_still : (log : List Entry) (y : DomainView) → y.seen.stage ≡ In Run → Still log y
-run_still log y runs paused = absurd (subst IsInPause runs paused)
+-- a domain that has seen the whole history
+pub whole_still : (log : List Entry) (y : DomainView) → y.seen.front ≡ log → Still log y
+whole_still log y whole = (λ _. whole, λ _. unseen_whole is_call log y.seen.front whole)
+
+pub still_as : (log : List Entry) (x y : DomainView) → y.seen.front ≡ x.seen.front → y.seen.stage ≡ x.seen.stage → Still log x → Still log y
+still_as log x y front stage st = subst (λ (z : List Entry × Stage). (IsInPause z.1 → z.0 ≡ log) × (z.1 ≡ In Run → AreCalls (unseen log z.0))) (λ i. (sym front i, sym stage i)) st
 
 -- a domain that runs doesn't lead
 pub run_leads : (kind : _) → ◌≡◌ {A = Stage} (In Run) (Leads kind) → ⊥
@@ -263,20 +278,22 @@ takes_drawable k t words x takes s = let e = takes_even t x takes s in record {
 }
 
 -- a domain that takes blocks writes no list, and nobody does beside it
-pub resting_takes : (k : Config) (words words' : List ℕ) (x y : DomainView) → Takes x.seen.stage → Takes y.seen.stage → (y.seen.stage ≢ In Run → y.seen.free ≡ None) → y.seen.listing ≡ x.seen.listing → Resting k words x → Resting k words' y
-resting_takes k words words' x y takes still free listing r = record {
+pub resting_takes : (k : Config) (words words' : List ℕ) (x y : DomainView) → Takes x.seen.stage → Takes y.seen.stage → (y.seen.stage ≢ In Run → y.seen.free ≡ []) → (y.seen.stage ≢ In Run → y.seen.spare ≡ None) → y.seen.listing ≡ x.seen.listing → Resting k words x → Resting k words' y
+resting_takes k words words' x y takes still free spare listing r = record {
   hunt = λ n. absurd (n still);
   free = free;
+  spare = spare;
   lists = λ l e. absurd (takes_leads x.seen.stage takes (r.lists l (sym listing ∙ e)).leads);
 }
 
 pub resting_runs : (k : Config) (words words' : List ℕ) (x y : DomainView) → x.seen.stage ≡ In Run → y.seen.stage ≡ In Run → y.seen.listing ≡ x.seen.listing → Resting k words x → Resting k words' y
-resting_runs k words words' x y runs still listing r = resting_takes k words words' x y (inl runs) (inl still) (λ n. absurd (n still)) listing r
+resting_runs k words words' x y runs still listing r = resting_takes k words words' x y (inl runs) (inl still) (λ n. absurd (n still)) (λ n. absurd (n still)) listing r
 
 pub resting_other : (k : Config) (t : Pause) (words words' : List ℕ) (x z : DomainView) → Takes x.seen.stage → Staged t x → Staged t z → Resting k words z → Resting k words' z
 resting_other k t words words' x z takes sx sz r = record {
   hunt = r.hunt;
   free = r.free;
+  spare = r.spare;
   lists = λ l e. absurd (nobody_leads t x z takes sx sz (r.lists l e).leads);
 }
 
@@ -344,13 +361,14 @@ pub lists_control : (k : Config) (words words' : List ℕ) (number : ℕ) (stage
 lists_control k words words' number stage l c s = lists_same k words words' number stage l (c 6 (omega arith)) (c 7 (omega arith)) (λ i h. let g : i < k.pools = h in c (11 + i) (omega arith)) (λ q h. let g : q < k.pools = h in c (11 + k.pools + q) (omega arith)) s
 
 pub resting_lists : (k : Config) (words words' : List ℕ) (z : DomainView) → ((number : ℕ) (stage : Stage) (l : Listing) → Lists k words number stage l → Lists k words' number stage l) → Resting k words z → Resting k words' z
-resting_lists k words words' z lists r = record { hunt = r.hunt; free = r.free; lists = λ l e. lists z.own.number z.seen.stage l (r.lists l e) }
+resting_lists k words words' z lists r = record { hunt = r.hunt; free = r.free; spare = r.spare; lists = λ l e. lists z.own.number z.seen.stage l (r.lists l e) }
 
 -- a domain that stands where it stood, and knows the same of the pools
-pub resting_as : (k : Config) (words : List ℕ) (x y : DomainView) → y.own.number ≡ x.own.number → y.seen.stage ≡ x.seen.stage → y.seen.hunt ≡ x.seen.hunt → y.seen.free ≡ x.seen.free → y.seen.listing ≡ x.seen.listing → Resting k words x → Resting k words y
-resting_as k words x y number stage hunt free listing r = record {
+pub resting_as : (k : Config) (words : List ℕ) (x y : DomainView) → y.own.number ≡ x.own.number → y.seen.stage ≡ x.seen.stage → y.seen.hunt ≡ x.seen.hunt → y.seen.free ≡ x.seen.free → y.seen.spare ≡ x.seen.spare → y.seen.listing ≡ x.seen.listing → Resting k words x → Resting k words y
+resting_as k words x y number stage hunt free spare listing r = record {
   hunt = λ n. hunt ∙ r.hunt (λ takes. n (subst Takes (sym stage) takes));
   free = λ n. free ∙ r.free (λ e. n (stage ∙ e));
+  spare = λ n. spare ∙ r.spare (λ e. n (stage ∙ e));
   lists = λ l e. subst (λ (z : ℕ × Stage). Lists k words z.0 z.1 l) (λ i. (sym number i, sym stage i)) (r.lists l (sym listing ∙ e));
 }
 
@@ -407,10 +425,11 @@ pub record Controls (k : Config) (all : Account) (words words' : List ℕ) : Typ
   pub set_back : (z : DomainView) → Staged all.pause z → HasSetBack z → cursor words ≤ limit_of k (listed words) → cursor words' ≤ limit_of k (listed words')
 
 -- what a domain knows of its pools, by other data of it
-pub hunter_as : (k : Config) (t : Tenancy) (words : List ℕ) (x y : DomainView) → y.own.number ≡ x.own.number → y.seen.hunt ≡ x.seen.hunt → y.own.looked ≡ x.own.looked → y.seen.free ≡ x.seen.free → y.own.prepared ≡ x.own.prepared → length y.own.pending.items ≡ length x.own.pending.items
+pub hunter_as : (k : Config) (t : Tenancy) (words : List ℕ) (x y : DomainView) → y.own.number ≡ x.own.number → y.seen.hunt ≡ x.seen.hunt → y.own.looked ≡ x.own.looked → y.seen.free ≡ x.seen.free → y.seen.spare ≡ x.seen.spare → y.own.prepared ≡ x.own.prepared → length y.own.pending.items ≡ length x.own.pending.items
     → Hunter k t words x → Hunter k t words y
-hunter_as k t words x y number hunt looked free prepared pending h = record {
-  free = λ f e. h.free f (sym free ∙ e);
+hunter_as k t words x y number hunt looked free spare prepared pending h = record {
+  free = λ f e. h.free f (ap (λ (l : List ℕ). slice_get l 0) (sym free) ∙ e);
+  spare = λ z e. subst (λ (d : ℕ). IsFree k t.holder words d z) (sym number) (h.spare z (sym spare ∙ e));
   hunt = subst (λ (z : ℕ × Hunt). Hunts k t words z.0 z.1) (λ i. (sym number i, sym hunt i)) h.hunt;
   drawn_alone = λ q e. ap drawn_in hunt ∙ h.drawn_alone q (e ∙ ap drawn number);
   taken = λ q c slot e inside low. h.taken q c slot (e ∙ ap (λ (d : ℕ). owned d c) number) inside (subst (λ (l : List Spot). IsBefore q slot (spot_at l c)) looked low);
@@ -463,8 +482,8 @@ module _ (k : Config) (s : Words) (r : Rule k s) (id : ℕ) (hist : List Entry) 
         (λ j v n both. domains_with (IsSeated k r.account.log r.seat j) G G' v.domains (λ z a b. goods z a.inside (other_domain j z n a) b) both.0 both.1);
   }
 
-  -- the seats' fronts where no entry stands
-  pub knows_front : (y : DomainView) → y.own.number ≡ x.own.number → IsFrontOf x.own.number r.account.log y.seen.front → EachView (Knows k r.account.log r.seat) (set s.views id (one k hist y))
+  -- the seats' fronts where no entry stands: the own one stays, or is the whole history
+  pub knows_front : (y : DomainView) → y.own.number ≡ x.own.number → (y.seen.front ≡ x.seen.front) ⊎ (y.seen.front ≡ r.account.log) → EachView (Knows k r.account.log r.seat) (set s.views id (one k hist y))
   knows_front y number front = views_set (Knows k r.account.log r.seat) (Knows k r.account.log r.seat) s.views id (one k hist y) r.views
       record {
         config = (refl, tt);
@@ -474,7 +493,12 @@ module _ (k : Config) (s : Words) (r : Rule k s) (id : ℕ) (hist : List Entry) 
           record {
             inside = subst (λ (n : ℕ). n < k.domains) (sym number) mine.inside;
             here = ap r.seat number ∙ mine.here;
-            front = subst (λ (n : ℕ). IsFrontOf n r.account.log y.seen.front) (sym number) front;
+            front = subst (λ (n : ℕ). IsFrontOf n r.account.log y.seen.front) (sym number)
+                (⊎_elim (λ (same : y.seen.front ≡ x.seen.front). subst (IsFrontOf x.own.number r.account.log) (sym same) mine.front) (λ (whole : y.seen.front ≡ r.account.log). subst (IsFrontOf x.own.number r.account.log) (sym whole) (front_whole x.own.number r.account.log)) front);
+            led = λ leads. ⊎_elim
+                (λ (same : y.seen.front ≡ x.seen.front). subst (λ (f : List Entry). AreNotControls (unseen r.account.log f)) (sym same) (mine.led (sym number ∙ leads)))
+                (λ (whole : y.seen.front ≡ r.account.log). unseen_whole (λ v. not (is_control v)) r.account.log y.seen.front whole)
+                front;
           },
           tt,
         );
@@ -484,10 +508,10 @@ module _ (k : Config) (s : Words) (r : Rule k s) (id : ℕ) (hist : List Entry) 
   longer : (h : List Entry) (e : Entry) → IsPrefix h r.account.log → IsPrefix h (r.account.log ++ e ∷ [])
   longer h e p = record { rest = p.rest ++ e ∷ []; appends = ap (λ l. l ++ e ∷ []) p.appends ∙ append_assoc h p.rest (e ∷ []) }
 
-  -- and where one of the domain stands
-  pub knows_entry : (y : DomainView) (e : Entry) → ((d : ℕ) → d ≢ x.own.number → is_entry_of d e ≡ false) → y.own.number ≡ x.own.number → y.seen.front ≡ r.account.log ++ e ∷ []
+  -- and where one of the domain stands. Domain 0 alone leads collections
+  pub knows_entry : (y : DomainView) (e : Entry) → ((d : ℕ) → d ≢ x.own.number → is_entry_of d e ≡ false) → (x.own.number ≢ 0 → is_control e ≡ false) → y.own.number ≡ x.own.number → y.seen.front ≡ r.account.log ++ e ∷ []
       → EachView (Knows k (r.account.log ++ e ∷ []) r.seat) (set s.views id (one k hist y))
-  knows_entry y e alone number front = let log' : List Entry = r.account.log ++ e ∷ [] in views_set (Knows k r.account.log r.seat) (Knows k log' r.seat) s.views id (one k hist y) r.views
+  knows_entry y e alone quiet number front = let log' : List Entry = r.account.log ++ e ∷ [] in views_set (Knows k r.account.log r.seat) (Knows k log' r.seat) s.views id (one k hist y) r.views
       record {
         config = (refl, tt);
         distinct = (tt, tt);
@@ -497,6 +521,7 @@ module _ (k : Config) (s : Words) (r : Rule k s) (id : ℕ) (hist : List Entry) 
             inside = subst (λ (n : ℕ). n < k.domains) (sym number) mine.inside;
             here = ap r.seat number ∙ mine.here;
             front = subst (λ (f : List Entry). IsFrontOf y.own.number log' f) (sym front) (front_whole y.own.number log');
+            led = λ _. unseen_whole (λ v. not (is_control v)) log' y.seen.front front;
           },
           tt,
         );
@@ -509,6 +534,7 @@ module _ (k : Config) (s : Words) (r : Rule k s) (id : ℕ) (hist : List Entry) 
           inside = a.inside;
           here = a.here;
           front = front_push z.own.number r.account.log z.seen.front e (alone z.own.number (other_domain j z n a)) a.front;
+          led = λ leads. unseen_push (λ v. not (is_control v)) r.account.log z.seen.front e (a.led leads) (ap not (quiet (λ mine_leads. other_domain j z n a (leads ∙ sym mine_leads))));
         }) see.domains;
       })
 
@@ -714,14 +740,14 @@ module _ (k : Config) (s : Words) (r : Rule k s) (id : ℕ) (hist : List Entry) 
         cycle = cycle_here Run tt o.runs (state_of k log') live' r.account.tenancy past' words' (ap (λ (t : model.State). t.mode) after ∙ (o.is_open ∙ sym (between_here Run tt o.runs).mode)) o.garbage o.controls.cycle
             (subst (λ (t : model.State). KeepsUnderway k now t r.account.live live' c past') (sym after) o.advances.underway);
       }
-      (knows_entry y e o.alone o.number o.front)
-      record { stood = subst (λ (t : model.State). Stood live' t y) (sym after) o.stood; area = o.area; making = o.making; staged = staged_as r.account.pause x y o.number o.arrivals o.stage my_good.staged; still = run_still log' y (o.stage ∙ o.runs); hunter = o.hunter; resting = resting_runs k s.words words' x y o.runs (o.stage ∙ o.runs) o.listing my_good.resting; took_back = running_took_back words' y (o.stage ∙ o.runs); owes = o.owes; rooted = run_rooted k r.account.pause x y o.runs my_good.staged; set_back = λ h. absurd (run_leads Run (sym (o.stage ∙ o.runs) ∙ h.0)); sharing = sharing_here Run tt o.runs all' words' past' o.weak y refl o.controls.cycle o.number o.stage o.share own_runs; listed = o.listed; sweeps = o.sweeps }
+      (knows_entry y e o.alone (λ _. trace_control e o.of_trace) o.number o.front)
+      record { stood = subst (λ (t : model.State). Stood live' t y) (sym after) o.stood; area = o.area; making = o.making; staged = staged_as r.account.pause x y o.number o.arrivals o.stage my_good.staged; still = whole_still log' y o.front; hunter = o.hunter; resting = resting_runs k s.words words' x y o.runs (o.stage ∙ o.runs) o.listing my_good.resting; took_back = running_took_back words' y (o.stage ∙ o.runs); owes = o.owes; rooted = run_rooted k r.account.pause x y o.runs my_good.staged; set_back = λ h. absurd (run_leads Run (sym (o.stage ∙ o.runs) ∙ h.0)); sharing = sharing_here Run tt o.runs all' words' past' o.weak y refl o.controls.cycle o.number o.stage o.share own_runs; listed = o.listed; sweeps = o.sweeps }
       (λ z _ other g. record {
         stood = subst (λ (t : model.State). Stood live' t z) (sym after) (stood_other r.account.live live' now (next now e) z (keeps_next now e z.own.number (o.alone z.own.number other)) (work_next now e z.own.number (o.alone z.own.number other) (trace_queues e o.of_trace)) o.more g.stood);
         area = o.areas z other g.area;
         making = o.makings z other g.area g.making;
         staged = g.staged;
-        still = λ paused. absurd (nobody_paused r.account.pause x z o.runs my_good.staged g.staged paused);
+        still = called_still r.account.log r.account.pause x z e (trace_call e o.of_trace) o.runs my_good.staged g.staged g.still;
         hunter = o.hunters z other g;
         resting = resting_other k r.account.pause s.words words' x z (inl o.runs) my_good.staged g.staged g.resting;
         took_back = λ kind leads last. o.controls.want ∙ g.took_back kind leads last;
@@ -738,8 +764,9 @@ module _ (k : Config) (s : Words) (r : Rule k s) (id : ℕ) (hist : List Entry) 
     pub number : y.own.number ≡ x.own.number
     pub hunt : y.seen.hunt ≡ x.seen.hunt
     pub free : y.seen.free ≡ x.seen.free
+    pub spare : y.seen.spare ≡ x.seen.spare
     pub listing : y.seen.listing ≡ x.seen.listing
-    pub front : IsFrontOf x.own.number r.account.log y.seen.front
+    pub front : (y.seen.front ≡ x.seen.front) ⊎ (y.seen.front ≡ r.account.log)
     pub still : Still r.account.log y
     pub stage : y.seen.stage ≡ x.seen.stage
     pub notes : y.seen.notes ≡ x.seen.notes
@@ -793,18 +820,19 @@ module _ (k : Config) (s : Words) (r : Rule k s) (id : ℕ) (hist : List Entry) 
         cycle = o.cycle;
       }
       (knows_front y o.number o.front)
-      record { stood = o.stood; area = o.area; making = o.making; staged = staged_as r.account.pause x y o.number o.arrivals o.stage my_good.staged; still = o.still; hunter = o.hunter; resting = resting_as k words' x y o.number o.stage o.hunt o.free o.listing (resting_lists k s.words words' x o.controls.lists my_good.resting); took_back = λ kind leads last. o.controls.want ∙ my_good.took_back kind (sym o.stage ∙ leads) (sym (ap last_note o.notes) ∙ last); owes = owes_as k r.account.live x y o.number o.copying o.stage o.remembered my_good.owes; rooted = rooted_as k r.account.pause x y o.registers o.finalisers o.arrivals o.remembered my_good.rooted; set_back = λ h. o.controls.set_back x my_good.staged (sym o.stage ∙ h.0, sym (ap last_note o.notes) ∙ h.1) (my_good.set_back (sym o.stage ∙ h.0, sym (ap last_note o.notes) ∙ h.1)); sharing = o.sharing; listed = listed_as r.account.live r.account.tenancy.holder r.account.tenancy.garbage x.own.number y.own.number x.own.ephemerons.items y.own.ephemerons.items o.number (ap (λ (b : Bounded ℕ). b.items) o.ephemerons) my_good.listed; sweeps = o.sweeps }
+      record { stood = o.stood; area = o.area; making = o.making; staged = staged_as r.account.pause x y o.number o.arrivals o.stage my_good.staged; still = o.still; hunter = o.hunter; resting = resting_as k words' x y o.number o.stage o.hunt o.free o.spare o.listing (resting_lists k s.words words' x o.controls.lists my_good.resting); took_back = λ kind leads last. o.controls.want ∙ my_good.took_back kind (sym o.stage ∙ leads) (sym (ap last_note o.notes) ∙ last); owes = owes_as k r.account.live x y o.number o.copying o.stage o.remembered my_good.owes; rooted = rooted_as k r.account.pause x y o.registers o.finalisers o.arrivals o.remembered my_good.rooted; set_back = λ h. o.controls.set_back x my_good.staged (sym o.stage ∙ h.0, sym (ap last_note o.notes) ∙ h.1) (my_good.set_back (sym o.stage ∙ h.0, sym (ap last_note o.notes) ∙ h.1)); sharing = o.sharing; listed = listed_as r.account.live r.account.tenancy.holder r.account.tenancy.garbage x.own.number y.own.number x.own.ephemerons.items y.own.ephemerons.items o.number (ap (λ (b : Bounded ℕ). b.items) o.ephemerons) my_good.listed; sweeps = o.sweeps }
       (λ z _ other g. record { stood = g.stood; area = g.area; making = o.makings z other g.area g.making; staged = g.staged; still = g.still; hunter = o.hunters z other g; resting = resting_lists k s.words words' z o.controls.lists g.resting; took_back = λ kind leads last. o.controls.want ∙ g.took_back kind leads last; owes = g.owes; rooted = g.rooted; set_back = λ h. o.controls.set_back z g.staged h (g.set_back h); sharing = o.sharings z other g; listed = g.listed; sweeps = g.sweeps })
 
-  -- a step that leaves all but the front, which is then some front of the history
-  pub looks : (front : List Entry) → IsFrontOf x.own.number r.account.log front → (IsInPause x.seen.stage → front ≡ r.account.log) → Rule k record { words = s.words; homes = s.homes; views = set s.views id (one k hist (with_front x front)) }
-  looks front is still = writes (with_front x front) s.words record {
+  -- a step that leaves all but the front, which stays or is the whole history then
+  pub looks : (front : List Entry) → (front ≡ x.seen.front) ⊎ (front ≡ r.account.log) → Rule k record { words = s.words; homes = s.homes; views = set s.views id (one k hist (with_front x front)) }
+  looks front is = writes (with_front x front) s.words record {
     number = refl;
     hunt = refl;
     free = refl;
+    spare = refl;
     listing = refl;
     front = is;
-    still = still;
+    still = ⊎_elim (λ (same : front ≡ x.seen.front). still_as r.account.log x (with_front x front) same refl my_good.still) (λ (whole : front ≡ r.account.log). whole_still r.account.log (with_front x front) whole) is;
     stage = refl;
     notes = refl;
     copying = refl;
@@ -821,7 +849,7 @@ module _ (k : Config) (s : Words) (r : Rule k s) (id : ℕ) (hist : List Entry) 
     making = record { fits = my_good.making.fits; written = my_good.making.written };
     makings = λ z _ _ p. p;
     grid = r.whole.grid;
-    hunter = hunter_as k r.account.tenancy s.words x (with_front x front) refl refl refl refl refl refl my_good.hunter;
+    hunter = hunter_as k r.account.tenancy s.words x (with_front x front) refl refl refl refl refl refl refl my_good.hunter;
     hunters = λ z _ g. g.hunter;
     cycle = r.whole.cycle;
     sharing = my_good.sharing;
@@ -830,9 +858,9 @@ module _ (k : Config) (s : Words) (r : Rule k s) (id : ℕ) (hist : List Entry) 
   }
 
   -- What a step owes that changes the holders of pools or what the domain knows of them. No entry stands and nothing comes to live or moves
-  pub record Holds (looked : List Spot) (hunt : Hunt) (free : Option ℕ) (words' : List ℕ) (t' : Tenancy) : Type 0 where
+  pub record Holds (looked : List Spot) (hunt : Hunt) (free : List ℕ) (words' : List ℕ) (t' : Tenancy) : Type 0 where
     pub takes : Takes x.seen.stage
-    pub known_free : x.seen.stage ≢ In Run → free ≡ None
+    pub known_free : x.seen.stage ≢ In Run → free ≡ []
     pub wide : length words' ≡ length s.words
     pub phases : Phases k r.account.pause words'
     pub want : want words' ≡ want s.words
@@ -855,7 +883,7 @@ module _ (k : Config) (s : Words) (r : Rule k s) (id : ℕ) (hist : List Entry) 
     pub hunters : (z : DomainView) → z.own.number ≢ x.own.number → Good k r.account s.words z → Hunter k t' words' z
     pub listeds : (z : DomainView) → Good k r.account s.words z → Listed r.account.live t'.holder t'.garbage z.own.number z.own.ephemerons.items
 
-  pub holds_again : (looked : List Spot) (hunt : Hunt) (free : Option ℕ) (words' : List ℕ) (t' : Tenancy) → Holds looked hunt free words' t' → Rule k record { words = words'; homes = s.homes; views = set s.views id (one k hist (hunting_free x looked hunt free)) }
+  pub holds_again : (looked : List Spot) (hunt : Hunt) (free : List ℕ) (words' : List ℕ) (t' : Tenancy) → Holds looked hunt free words' t' → Rule k record { words = words'; homes = s.homes; views = set s.views id (one k hist (hunting_free x looked hunt free)) }
   holds_again looked hunt free words' t' o =
       let own_making = o.makings x my_good.making in
       let in_kind = takes_kind x.seen.stage o.takes in
@@ -890,7 +918,7 @@ module _ (k : Config) (s : Words) (r : Rule k s) (id : ℕ) (hist : List Entry) 
         drawable = takes_drawable k r.account.pause words' x o.takes my_good.staged;
         cycle = cycle_here in_kind.0 in_kind.1 in_kind.2 now r.account.live t' r.account.cycling.past words' refl o.garbage o.cycle (λ is u. u);
       }
-      (knows_front (hunting_free x looked hunt free) refl mine.front)
+      (knows_front (hunting_free x looked hunt free) refl (inl refl))
       record {
         stood = record { wide = my_good.stood.wide; each = my_good.stood.each; serial = my_good.stood.serial; enrolled = my_good.stood.enrolled };
         area = record { room = my_good.area.room; free = my_good.area.free; classes = my_good.area.classes };
@@ -898,7 +926,7 @@ module _ (k : Config) (s : Words) (r : Rule k s) (id : ℕ) (hist : List Entry) 
         staged = record { arrivals = my_good.staged.arrivals; stage = my_good.staged.stage };
         still = my_good.still;
         hunter = o.hunter;
-        resting = resting_takes k s.words words' x (hunting_free x looked hunt free) o.takes o.takes o.known_free refl my_good.resting;
+        resting = resting_takes k s.words words' x (hunting_free x looked hunt free) o.takes o.takes o.known_free my_good.resting.spare refl my_good.resting;
         took_back = λ kind leads last. o.want ∙ my_good.took_back kind leads last;
         owes = owes_as k r.account.live x (hunting_free x looked hunt free) refl refl refl refl my_good.owes;
         rooted = my_good.rooted;

@@ -37,4 +37,5 @@ pub mod Closes
 pub mod Plain
 pub mod Acting
 pub mod Calls
+pub mod Notes
 pub mod OwnPlaces

@@ -142,6 +142,7 @@ module _ (k : Config) (t : Tenancy) (words : List ℕ) (at new : ℕ) where
     claims = h.claims;
     supply = λ c few some. ⊎_elim (λ (u : DrawsFor c z.seen.hunt). inl u) (λ (l : Latest k t words z.own.number c). inr (latest_beside p z.own.number c b l)) (h.supply c few some);
     free = λ f e. subst (λ (m : ℕ × ℕ). (m.0 ≤ f + m.1) × (m.0 ≤ f + limit_of k m.0) × (f ≤ m.0)) (λ i. (sym (control_stays b.low 6 (omega arith)) i, sym (control_stays b.low 7 (omega arith)) i)) (h.free f e);
+    spare = λ u e. let f = h.spare u e in record { own_is = f.own_is; inside = f.inside; free = place_stays p z.own.number b u.pool u.class u.slot f.own_is f.inside ∙ f.free };
     taken = λ q c slot is inside low e. h.taken q c slot is inside low (sym (place_stays p z.own.number b q c slot is inside) ∙ e);
   }
 

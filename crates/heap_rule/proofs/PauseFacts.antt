@@ -1,12 +1,15 @@
 -- Where domains stand in the phases, and what follows of how they stand beside each other.
-use Rattle.std.proofs.Common.{◌≡◌, ◌≢◌, ℕ, ◌+◌, ◌*◌, sym, ap, ◌∙◌, subst, arith, ⊎_elim}
+use Rattle.std.proofs.Common.{◌≡◌, ◌≢◌, ℕ, true, List, [], ◌∷◌, ◌++◌, ◌+◌, ◌*◌, sym, ap, ◌∙◌, subst, arith, ⊎_elim}
+use Rattle.heap_model.specs.declared.entry.Entry.{Entry}
+use Rattle.heap_model.specs.Fronts.{is_call}
+use Rattle.heap_model.proofs.Histories.FrontLemmas.{unseen_push}
 use Rattle.heap_rule.specs.declared.view.DomainView.{DomainView}
 use Rattle.heap_rule.specs.declared.phase.Kind.{Kind}
 use Rattle.heap_rule.specs.declared.phase.Kind.TheVariants.{Run, Promote}
 use Rattle.heap_rule.specs.declared.phase.Stage.{Stage}
 use Rattle.heap_rule.specs.declared.phase.Stage.TheVariants.{In, Leads, Led, Gone}
 use Rattle.heap_rule.specs.Copies.{Promoting, Resetting, IsEmptying}
-use Rattle.heap_rule.specs.Phases.{Pause, IsEven, IsOdd, AtStage, Staged, IsInPause, Agree}
+use Rattle.heap_rule.specs.Phases.{Pause, IsEven, IsOdd, AtStage, Staged, IsInPause, Agree, Still}
 
 -- two domains that have not arrived are in phases of one kind, and none runs beside an odd phase
 pub half_same : (i j n : ℕ) → n ≡ i * 2 → n ≡ j * 2 → i ≡ j
@@ -46,6 +49,25 @@ nobody_still t x z kind none is sx sz paused =
 
 pub nobody_paused : (t : Pause) (x z : DomainView) → x.seen.stage ≡ In Run → Staged t x → Staged t z → IsInPause z.seen.stage → ⊥
 nobody_paused t x z runs sx sz paused = nobody_still t x z Run (λ p. p) runs sx sz paused
+
+-- nobody runs beside a domain in another phase
+nobody_runs : (t : Pause) (x z : DomainView) (kind : Kind) → ◌≢◌ {A = Stage} (In kind) (In Run) → x.seen.stage ≡ In kind → Staged t x → Staged t z → z.seen.stage ≡ In Run → ⊥
+nobody_runs t x z kind other is sx sz runs =
+    other (ap In (agree t x.own.number z.own.number x.own.arrivals z.own.arrivals (In kind) (In Run) (subst (AtStage t x.own.number x.own.arrivals) is sx.stage) (subst (AtStage t z.own.number z.own.arrivals) runs sz.stage)))
+
+pub gone_runs : (kind : Kind) → ◌≡◌ {A = Stage} (Gone kind) (In Run) → ⊥
+gone_runs kind e = cc
+
+pub led_runs : (kind : Kind) → ◌≡◌ {A = Stage} (Led kind) (In Run) → ⊥
+led_runs kind e = cc
+
+-- beside a domain that appends an entry in a pause nothing is asked
+pub nobody_else_still : (log : List Entry) (t : Pause) (x z : DomainView) (kind : Kind) → (IsInPause (In kind) → ⊥) → ◌≢◌ {A = Stage} (In kind) (In Run) → x.seen.stage ≡ In kind → Staged t x → Staged t z → Still log z
+nobody_else_still log t x z kind none other is sx sz = (λ paused. absurd (nobody_still t x z kind none is sx sz paused), λ runs. absurd (nobody_runs t x z kind other is sx sz runs))
+
+-- and one that runs appends an entry of its own
+pub called_still : (log : List Entry) (t : Pause) (x z : DomainView) (e : Entry) → is_call e ≡ true → x.seen.stage ≡ In Run → Staged t x → Staged t z → Still log z → Still (log ++ e ∷ []) z
+called_still log t x z e call runs sx sz st = (λ paused. absurd (nobody_paused t x z runs sx sz paused), λ is. unseen_push is_call log z.seen.front e (st.1 is) call)
 
 -- a domain stands where it stood
 pub staged_as : (t : Pause) (x y : DomainView) → y.own.number ≡ x.own.number → y.own.arrivals ≡ x.own.arrivals → y.seen.stage ≡ x.seen.stage → Staged t x → Staged t y

@@ -33,7 +33,7 @@ moved k log seat seat' j v here see = record {
   config = see.config;
   history = see.history;
   distinct = see.distinct;
-  domains = domains_with (IsSeated k log seat j) (λ x. seat' x.own.number ≡ j) (IsSeated k log seat' j) v.domains (λ x y h. record { inside = y.inside; here = h; front = y.front }) see.domains here;
+  domains = domains_with (IsSeated k log seat j) (λ x. seat' x.own.number ≡ j) (IsSeated k log seat' j) v.domains (λ x y h. record { inside = y.inside; here = h; front = y.front; led = y.led }) see.domains here;
 }
 
 pub splits : (k : Config) (id : ℕ) (hist : List Entry) (p : DomainView) (ps : List DomainView) → let v : View = record { config = k; history = hist; domains = p ∷ ps } in Splits (Rule k) id v (cut_left v) (cut_right v)
@@ -59,7 +59,7 @@ splits k id hist p ps s r at =
       history = know.history;
       distinct = know.distinct.1;
       domains = domains_with (IsSeated k r.account.log r.seat id) (λ q. q.own.number ≢ p.own.number) (IsSeated k r.account.log seat' id) ps
-          (λ x y apart. record { inside = y.inside; here = over_else p.own.number n r.seat x.own.number apart ∙ y.here; front = y.front }) know.domains.1 know.distinct.0;
+          (λ x y apart. record { inside = y.inside; here = over_else p.own.number n r.seat x.own.number apart ∙ y.here; front = y.front; led = y.led }) know.domains.1 know.distinct.0;
     }
     (λ j u other see. moved k r.account.log r.seat seat' j u
     (domains_map (IsSeated k r.account.log r.seat j) (λ x. seat' x.own.number ≡ j) u.domains (λ x y. over_else p.own.number n r.seat x.own.number (λ same. other (sym y.here ∙ (ap r.seat same ∙ mine.here))) ∙ y.here) see.domains)
@@ -68,7 +68,7 @@ splits k id hist p ps s r at =
       config = (refl, tt);
       history = know.history;
       distinct = (tt, tt);
-      domains = (record { inside = mine.inside; here = over_here p.own.number n r.seat ∙ sym long; front = mine.front }, tt);
+      domains = (record { inside = mine.inside; here = over_here p.own.number n r.seat ∙ sym long; front = mine.front; led = mine.led }, tt);
     })
     (views_new (λ _ u. AllDomains S u.domains) mid right (views_set (λ _ u. AllDomains S u.domains) (λ _ u. AllDomains S u.domains) s.views id left r.good (r.good id v at).1 (λ j u _ x. x)) ((r.good id v at).0, tt))
 
@@ -97,8 +97,8 @@ joins k id v other w same_config s r at apart there' =
           (domains_map (IsSeated k r.account.log r.seat id) (λ x. r.seat x.own.number ≡ id) v.domains (λ x y. y.here) mine.domains)
           (domains_map (IsSeated k r.account.log r.seat other) (λ x. r.seat x.own.number ≡ other) w.domains (λ x y. y.here) its.domains) mine.distinct its.distinct;
       domains = domains_both (IsSeated k r.account.log seat' id) v.domains w.domains
-          (domains_map (IsSeated k r.account.log r.seat id) (IsSeated k r.account.log seat' id) v.domains (λ x y. record { inside = y.inside; here = stays x.own.number (λ e. apart (sym e ∙ y.here)) ∙ y.here; front = y.front }) mine.domains)
-          (domains_map (IsSeated k r.account.log r.seat other) (IsSeated k r.account.log seat' id) w.domains (λ x y. record { inside = y.inside; here = moves x.own.number y.here; front = y.front }) its.domains);
+          (domains_map (IsSeated k r.account.log r.seat id) (IsSeated k r.account.log seat' id) v.domains (λ x y. record { inside = y.inside; here = stays x.own.number (λ e. apart (sym e ∙ y.here)) ∙ y.here; front = y.front; led = y.led }) mine.domains)
+          (domains_map (IsSeated k r.account.log r.seat other) (IsSeated k r.account.log seat' id) w.domains (λ x y. record { inside = y.inside; here = moves x.own.number y.here; front = y.front; led = y.led }) its.domains);
     })
     (λ j u ne see nother. moved k r.account.log r.seat seat' j u
     (domains_map (IsSeated k r.account.log r.seat j) (λ x. seat' x.own.number ≡ j) u.domains (λ x y. stays x.own.number (λ e. nother (sym y.here ∙ e)) ∙ y.here) see.domains) see))

@@ -143,6 +143,7 @@ leading_words c words words' d stage share same l = record {
   whole = l.whole;
   armed = l.armed;
   unswept = l.unswept;
+  under_way = l.under_way;
 }
 
 pub knowing_words : (k : Config) (live : Live) (holder : ℕ → Holder) (graph : Graph) (marks : Marks) (words words' : List ℕ) (d : ℕ) (registers : List Value) (share : Share) → ((a : ℕ) → at_address k words' a ≡ at_address k words a)
@@ -201,6 +202,7 @@ leading_past c past' words d stage share l = record {
   whole = l.whole;
   armed = l.armed;
   unswept = l.unswept;
+  under_way = l.under_way;
 }
 
 -- and what it owes the darkening of is nothing of it
@@ -221,6 +223,7 @@ leading_weak c words d stage share weak l = record {
   whole = l.whole;
   armed = l.armed;
   unswept = l.unswept;
+  under_way = l.under_way;
 }
 
 -- outside a collection nobody has anything to add

@@ -16,6 +16,7 @@ use Rattle.heap_model.specs.Fronts.{PlainShape, EpheShape}
 use Rattle.heap_words.specs.declared.value.Value.TheVariants.{Int as IntWord, Ref, Nothing as NothingWord}
 use Rattle.heap_rule.specs.declared.config.Config.{Config}
 use Rattle.heap_rule.specs.declared.view.DomainView.{DomainView}
+use Rattle.heap_rule.specs.declared.view.Spare.{Spare}
 use Rattle.heap_rule.specs.declared.view.Spot.{Spot}
 use Rattle.heap_rule.specs.declared.view.View.{View}
 use Rattle.heap_rule.specs.Limits.{sizes_in}
@@ -26,9 +27,9 @@ use Rattle.heap_rule.specs.declared.phase.Kind.TheVariants.{Run, Promote}
 use Rattle.heap_rule.specs.Phases.{Pause, sum_of, is_over, flag}
 use Rattle.heap_rule.proofs.FinaliserLemmas.{enrolled_none, deciding_none}
 use Rattle.heap_rule.proofs.Keeps.{sum_same, run_leads, copies_settled, room_unused}
-use Rattle.heap_rule.specs.Views.{no_finalisers, EachView, AllDomains, Distinct, IsSeated, Knows, opening_view, opening_views, first_view}
+use Rattle.heap_rule.specs.Views.{no_finalisers, EachView, AllDomains, Distinct, IsSeated, Knows, opening_view, opening_views, first_spare, first_view}
 use Rattle.heap_rule.specs.Rule.{Stood, Area, Account, Good, Whole, Rule}
-use Rattle.heap_rule.specs.Pools.{no_stock, IsPlace, Holder, nobody, drawn, owned, owner_word, Tenancy, Pools, Lot, Grid, place_in, size_of, blocks_of, IsBefore}
+use Rattle.heap_rule.specs.Pools.{no_stock, IsPlace, IsFree, Holder, nobody, drawn, owned, owner_word, Tenancy, Pools, Lot, Grid, place_in, size_of, blocks_of, IsBefore}
 use Rattle.heap_rule.proofs.OwnPlaces.{owned_same}
 use Rattle.heap_rule.specs.Opening.{IsOpening, first_colours}
 use Rattle.heap_rule.proofs.Update.{over, over_here, over_else}
@@ -41,7 +42,7 @@ use Rattle.heap_model.proofs.Graphs.GraphLemmas.{same_label-true}
 use Rattle.heap_rule.specs.Fullness.{Homes}
 use Rattle.heap_model.specs.declared.label.Label.{Label}
 use Rattle.heap_rule.proofs.Holders.{drawn_owned, nobody_drawn, nobody_owned}
-use Rattle.std.proofs.lemmas.Option.{none-some}
+use Rattle.std.proofs.lemmas.Option.{none-some, same_Some}
 
 abbrev shared_place : Place
 shared_place = record { label = shared_label; shape = PlainShape 16 0; forward = None; owed = None; named = λ _. None }
@@ -263,6 +264,15 @@ module _ (k : Config) (limits : IsWithinLimits (sizes_in k)) (words : List ℕ) 
   unfolding size_of blocks_of
   shared_inside = omega arith
 
+  spare_inside : 1 < blocks_of 3
+  unfolding size_of blocks_of
+  spare_inside = omega arith
+
+  -- the place behind the shared block is free
+  first_free : (d : ℕ) (z : Spare) → first_spare d ≡ Some z → IsFree k first_holders words d z
+  first_free zero z e = subst (IsFree k first_holders words 0) (same_Some (record { pool = 0; class = 3; slot = 1 }) z e) record { own_is = holder_first; inside = spare_inside; free = opens.rest (place_in 0 3 1) (large_places 1 (omega arith)) }
+  first_free (suc d) z e = absurd (none-some z e)
+
   first_place : place_in 0 3 0 ≡ 1
   first_place = let z : ℕ = size_of 3 in let o : 0 * 4096 + 0 * z + 1 ≡ 1 = omega arith in o
 
@@ -363,7 +373,7 @@ module _ (k : Config) (limits : IsWithinLimits (sizes_in k)) (words : List ℕ) 
         views = sole (Knows k [] (λ _. 0)) v record {
           config = views_later k (λ _. k ≡ k) 0 k.domains (λ x a b. refl);
           history = record { rest = []; appends = refl };
-          domains = views_later k (IsSeated k [] (λ _. 0) 0) 0 k.domains (λ x a b. record { inside = omega arith; here = refl; front = record { rest = []; appends = refl; others = refl } });
+          domains = views_later k (IsSeated k [] (λ _. 0) 0) 0 k.domains (λ x a b. record { inside = omega arith; here = refl; front = record { rest = []; appends = refl; others = refl }; led = λ _. refl });
           distinct = distinct_later k 0 k.domains;
         };
         good = sole (λ _ u. AllDomains (Good k first_account words) u.domains) v (views_later k (Good k first_account words) 0 k.domains (λ x a b. record {
@@ -371,7 +381,7 @@ module _ (k : Config) (limits : IsWithinLimits (sizes_in k)) (words : List ℕ) 
           area = area x;
           making = record { fits = λ j w e. cc; written = λ j w e. cc };
           staged = record { arrivals = refl; stage = (refl, (0, refl, refl)) };
-          still = λ paused. absurd paused;
+          still = (λ paused. absurd paused, λ _. refl);
           owes = first_owes x;
           rooted = (
             λ h. absurd (let e : Run ≡ Promote = h.2 in cc),
@@ -380,6 +390,7 @@ module _ (k : Config) (limits : IsWithinLimits (sizes_in k)) (words : List ℕ) 
           hunter = record {
             hunt = tt;
             free = λ f e. absurd (none-some f e);
+            spare = first_free x;
             drawn_alone = λ q e. absurd (none_drawn q x e);
             holds = λ c a few e. absurd (no_spare a a (sym (prepared_first class_count c) ∙ e));
             prepared = λ q c slot is inside e. absurd (no_spare (place_in q c slot) x e);
@@ -387,12 +398,12 @@ module _ (k : Config) (limits : IsWithinLimits (sizes_in k)) (words : List ℕ) 
             supply = λ c few some. absurd (let h : 0 < 0 = some in omega arith);
             taken = λ q c slot e inside low. absurd (⊎_elim (λ (h : q < 0). omega arith) (λ (h : (q ≡ 0) × (slot < 0)). let l = h.1 in omega arith) (subst (λ (m : Spot). IsBefore q slot m) (get_zero class_count c) low));
           };
-          resting = record { hunt = λ n. refl; free = λ n. refl; lists = λ l e. cc };
+          resting = record { hunt = λ n. refl; free = λ n. refl; spare = λ n. absurd (n refl); lists = λ l e. cc };
           took_back = λ kind leads last. absurd (run_leads kind leads);
           set_back = λ h. absurd (run_leads Run h.0);
           sharing = record {
             telling = record { owes = λ _. refl; seen = λ _. refl; fresh = λ e. cc; forgotten = λ e. cc; colours = λ c e. cc };
-            leading = record { changed = λ v e. cc; found_blocks = λ v e. cc; found_words = λ v e. cc; rotated = λ _ e. refl; turned = λ e. cc; pass = λ _. refl; whole = λ _. refl; armed = λ b e. cc; unswept = λ _. refl };
+            leading = record { changed = λ v e. cc; found_blocks = λ v e. cc; found_words = λ v e. cc; rotated = λ _ e. refl; turned = λ e. cc; pass = λ _. refl; whole = λ _. refl; armed = λ b e. cc; unswept = λ _. refl; under_way = λ _ _. refl };
             knows = inl refl;
             adds = record { blocks = λ e _. refl; words = λ e _. refl; own = λ e _ f. cc };
             looks = record { at_own = λ a e. cc; cleans = λ w e. cc; emptied_is = λ a p own lives. refl };

@@ -264,7 +264,7 @@ seen_by (a ∷ rest) b = b == a || seen_by rest b
 
 -- who is at no block in a collection knows of the colours and the control words alone, and of blocks what it knows as it runs
 abbrev pub IsIdle : Share → Type 0
-IsIdle share = share ≡ record fresh_share { colours = share.colours; changed = share.changed; blocks = share.blocks; words = share.words; rotated = share.rotated; cut = share.cut; whole = share.whole; armed = share.armed; known = share.known; weak = share.weak; unswept = share.unswept; reaping = share.reaping; swept = share.swept }
+IsIdle share = share ≡ record fresh_share { colours = share.colours; changed = share.changed; blocks = share.blocks; words = share.words; rotated = share.rotated; progress = share.progress; armed = share.armed; known = share.known; weak = share.weak; reaping = share.reaping; swept = share.swept }
 
 -- Cycle, of one domain: until it arrives its view tells its share, and then it has forgotten it. Domain 0 alone knows of the colours in an odd phase
 pub record Telling (means : Colours) (w : Shares) (d : ℕ) (share : Share) : Type 0 where
@@ -293,10 +293,11 @@ pub record Leading (c : Cycling) (words : List ℕ) (d : ℕ) (stage : Stage) (s
   pub found_words : (v : ℕ) → share.words ≡ Some v → (((d ≡ 0) × IsLeading stage) ⊎ (stage ≡ In Answer)) × (live_words words ≡ v)
   pub rotated : d ≡ 0 → c.kind ≡ Lasts → c.rotated ≡ share.rotated
   pub turned : share.rotated ≡ true → stage ≡ Leads Lasts
-  pub pass : d ≡ 0 → c.pass ≡ pass_of share.cut
-  pub whole : d ≡ 0 → c.whole ≡ share.whole
+  pub pass : d ≡ 0 → c.pass ≡ pass_of share.progress.cut
+  pub whole : d ≡ 0 → c.whole ≡ share.progress.whole
   pub armed : (b : Bool) → share.armed ≡ Some b → MayLook d stage × (b ≡ c.armed)
-  pub unswept : d ≡ 0 → c.unswept ≡ share.unswept
+  pub unswept : d ≡ 0 → c.unswept ≡ share.progress.unswept
+  pub under_way : d ≡ 0 → HasNoCycle c.kind → c.armed ≡ share.progress.armed
 
 -- how far a domain is in a block: its first fields are done
 pub record Scanned (live : Live) (graph : Graph) (marks : Marks) (block done size head : ℕ) : Type 0 where

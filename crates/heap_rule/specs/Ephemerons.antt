@@ -54,6 +54,7 @@ pub record Cleans (live : Live) (graph : Graph) (marks : Marks) (stage : Stage) 
   pub listed : IsTrue (seen_by items w.block)
   pub place : Place
   pub lives : live w.block ≡ Some place
+  pub label : (l : Label) → w.label ≡ Some l → place.label ≡ l
   pub marked : IsTrue (marks.marked place.label)
   pub keys : List (Option Label)
   pub datum : Value

@@ -1,10 +1,21 @@
 -- Two domains at one seat.
 use Rattle.std.specs.Prelude.{◌≡◌, ℕ, List, [], ◌∷◌}
 use Rattle.atomic_table.specs.Table.{Me, Step}
+use Rattle.heap_model.specs.declared.entry.Entry.{Entry}
+use Rattle.heap_model.specs.Fronts.{AreCalls, AreNotControls, unseen}
+use Rattle.heap_model.specs.History.{Legal}
+use Rattle.heap_rule.specs.declared.config.Config.{Config}
 use Rattle.heap_rule.specs.declared.view.DomainView.{DomainView}
 use Rattle.heap_rule.specs.declared.view.View.{View}
+use Rattle.heap_rule.specs.declared.phase.Kind.TheVariants.{Run}
+use Rattle.heap_rule.specs.declared.phase.Stage.TheVariants.{In}
 use Rattle.heap_rule.specs.Copies.{HasCopy}
+use Rattle.heap_rule.specs.Ending.{Begins}
+use Rattle.heap_rule.specs.Limits.{sizes_in}
 use Rattle.heap_rule.specs.Phases.{Agree}
+use Rattle.heap_rule.specs.Standing.{with_front}
+use Rattle.heap_rule.specs.Token.{Token}
+use Rattle.heap_rule.specs.Views.{AllDomains}
 
 -- the first two of these domains agree in the phases
 abbrev pub FirstAgree : List DomainView → Type 0
@@ -22,11 +33,38 @@ FirstSameCopies [] = Unit {0}
 FirstSameCopies (x ∷ []) = Unit {0}
 FirstSameCopies (x ∷ y ∷ zs) = SameCopies x x × SameCopies x y × SameCopies y y
 
--- a seat sees that its first two domains agree, and nothing changes
-pub record Agreed (m m' : Me (Unit {0}) View) : Type 0 where
-  pub same : m' ≡ m
+-- these domains have seen this history
+abbrev pub all_seeing : List Entry → List DomainView → List DomainView
+all_seeing history [] = []
+all_seeing history (x ∷ xs) = with_front x history ∷ all_seeing history xs
+
+-- What the history has behind the front of a domain: no entry of its own, none of the collector while it runs, and for domain 0, which leads collections, nothing by which one begins, goes on or ends
+pub record Trails (history : List Entry) (x : DomainView) : Type 0 where
+  pub begins : Begins history x
+  pub calls : x.seen.stage ≡ In Run → AreCalls (unseen history x.seen.front)
+  pub led : x.own.number ≡ 0 → AreNotControls (unseen history x.seen.front)
+
+-- a seat sees that its first two domains agree, and all its domains see the whole history. Nothing else changes
+pub record Levelled (m m' : Me (Unit {0}) View) : Type 0 where
+  pub history : List Entry
+  pub seat : m' ≡ (record m.0 { domains = all_seeing history m.0.domains }, m.1)
+  pub legal : Legal (sizes_in m.0.config) history
+  pub fronts : AllDomains (Trails history) m.0.domains
   pub agree : FirstAgree m.0.domains
   pub copies : FirstSameCopies m.0.domains
 
-abbrev pub agreed : Step (Unit {0}) → Me (Unit {0}) View → ℕ → Me (Unit {0}) View → Type 0
-agreed _ m found m' = Agreed m m'
+abbrev pub levelled : Step (Unit {0}) → Me (Unit {0}) View → ℕ → Me (Unit {0}) View → Type 0
+levelled _ m found m' = Levelled m m'
+
+-- the token of a domain that has seen this history
+abbrev pub seeing : Token → List Entry → Token
+seeing t history = record t { view = with_front t.view history }
+
+-- Two domains have met. Both see one history, which begins with the front of each
+pub record Met (k : Config) (a b new_a new_b : Token) : Type 0 where
+  pub history : List Entry
+  pub legal : Legal (sizes_in k) history
+  pub first : Trails history a.view
+  pub second : Trails history b.view
+  pub first_is : new_a ≡ seeing a history
+  pub second_is : new_b ≡ seeing b history

@@ -3,6 +3,7 @@ use Rattle.std.specs.Prelude.{◌≡◌, ◌≢◌, ℕ, zero, suc, ◌+◌, ◌
 use Rattle.heap_model.specs.declared.entry.Entry.{Entry}
 use Rattle.heap_model.specs.declared.state.State as model
 use Rattle.heap_model.specs.Domains.{domain_at}
+use Rattle.heap_model.specs.Fronts.{AreCalls, unseen}
 use Rattle.heap_rule.specs.declared.config.Config.{Config}
 use Rattle.heap_rule.specs.declared.view.DomainView.{DomainView}
 use Rattle.heap_rule.specs.declared.phase.Kind.{Kind}
@@ -117,9 +118,9 @@ IsInPause (In Answer) = ⊥
 IsInPause (In _) = Unit {0}
 IsInPause _ = ⊥
 
--- then no entry is appended. In those phases each domain appends its own, and in an odd phase the collector's are, as the next kind is named
+-- then no entry is appended. In those phases each domain appends its own, and in an odd phase the collector's are, as the next kind is named. While the domain runs, only entries of domains are
 abbrev pub Still : List Entry → DomainView → Type 0
-Still log x = IsInPause x.seen.stage → x.seen.front ≡ log
+Still log x = (IsInPause x.seen.stage → x.seen.front ≡ log) × (x.seen.stage ≡ In Run → AreCalls (unseen log x.seen.front))
 
 -- two domains that act are in phases of one kind, and none runs beside an odd phase
 abbrev pub Agree : Stage → Stage → Type 0

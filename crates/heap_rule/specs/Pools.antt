@@ -1,11 +1,12 @@
 -- The pools: who has each, where their blocks lie, and what a domain that takes one of their blocks knows.
-use Rattle.std.specs.Prelude.{Bool, false, IsTrue, ◌≡◌, ◌≢◌, ℕ, ◌+◌, ◌*◌, ◌-◌, ◌/◌, ◌<◌, ◌≤◌, ◌⊎◌, List, length, slice_index, slice_index_or, slice_get, Option, Some, None, true}
+use Rattle.std.specs.Prelude.{Bool, false, IsTrue, ◌≡◌, ◌≢◌, ℕ, ◌+◌, ◌*◌, ◌-◌, ◌/◌, ◌<◌, ◌≤◌, ◌⊎◌, List, [], length, slice_index, slice_index_or, slice_get, Option, Some, None, true}
 use Rattle.size_classes.specs.declared.TheConstants.{SIZES}
 use Rattle.heap_model.specs.Domains.{class_count, reserve}
 use Rattle.heap_rule.specs.declared.config.Config.{Config}
 use Rattle.heap_rule.specs.declared.view.Hunt.{Hunt}
 use Rattle.heap_rule.specs.declared.view.Listing.{Listing}
 use Rattle.heap_rule.specs.declared.view.Hunt.TheVariants.{Rests, Counts, Asks, Draws, Walks, Fills, Labels, Heads}
+use Rattle.heap_rule.specs.declared.view.Spare.{Spare}
 use Rattle.heap_rule.specs.declared.view.Spot.{Spot}
 use Rattle.heap_rule.specs.declared.view.DomainView.{DomainView}
 use Rattle.heap_rule.specs.declared.phase.Kind.TheVariants.{Run, Promote}
@@ -199,14 +200,15 @@ pub record Lists (k : Config) (words : List ℕ) (number : ℕ) (stage : Stage) 
   pub count : listed words ≡ l.listed
   pub rewinds : l.rewound ≡ true → cursor words ≡ 0
 
--- a domain that neither runs nor copies takes no block, and knows nothing of how many pools are free where it doesn't run. Only domain 0 writes the list, in an odd phase
+-- a domain that neither runs nor copies takes no block. Where it doesn't run it knows nothing of how many pools are free, and of no free place. Only domain 0 writes the list, in an odd phase
 pub record Resting (k : Config) (words : List ℕ) (x : DomainView) : Type 0 where
   pub hunt : (Takes x.seen.stage → ⊥) → x.seen.hunt ≡ Rests
-  pub free : x.seen.stage ≢ In Run → x.seen.free ≡ None
+  pub free : x.seen.stage ≢ In Run → x.seen.free ≡ []
+  pub spare : x.seen.stage ≢ In Run → x.seen.spare ≡ None
   pub lists : (l : Listing) → x.seen.listing ≡ Some l → Lists k words x.own.number x.seen.stage l
 
 -- the domain with other places looked at, and further on in taking a block
-abbrev pub hunting_free : DomainView → List Spot → Hunt → Option ℕ → DomainView
+abbrev pub hunting_free : DomainView → List Spot → Hunt → List ℕ → DomainView
 hunting_free x looked hunt free = record x { own = record x.own { looked = looked }; seen = record x.seen { hunt = hunt; free = free } }
 
 abbrev pub hunting : DomainView → List Spot → Hunt → DomainView
@@ -233,12 +235,23 @@ pub record Latest (k : Config) (t : Tenancy) (words : List ℕ) (d c : ℕ) : Ty
 abbrev pub prepared_at : List (Option ℕ) → ℕ → Option ℕ
 prepared_at prepared class = slice_index_or prepared class None
 
--- all that the rule says of one domain's pools: what it knows in the middle of taking a block, that no other pool is drawn by it, that the places which it has looked at aren't free, and that no more pools are free than it last found, which were no more than are listed. The places that it has prepared are those of its list, and its list of copies has all that it made
+-- how many pools a domain found free when it looked last
+abbrev pub last_found : DomainView → Option ℕ
+last_found x = slice_get x.seen.free 0
+
+-- a place of a domain's own pools is free
+pub record IsFree (k : Config) (holder : ℕ → Holder) (words : List ℕ) (d : ℕ) (z : Spare) : Type 0 where
+  pub own_is : holder z.pool ≡ owned d z.class
+  pub inside : z.slot < blocks_of z.class
+  pub free : at_address k words (place_in z.pool z.class z.slot) ≡ 0
+
+-- all that the rule says of one domain's pools: what it knows in the middle of taking a block, that no other pool is drawn by it, that the places which it has looked at aren't free, that the place of which it knows that it is free is so, and that no more pools are free than it last found, which were no more than are listed. The places that it has prepared are those of its list, and its list of copies has all that it made
 pub record Hunter (k : Config) (t : Tenancy) (words : List ℕ) (x : DomainView) : Type 0 where
   pub hunt : Hunts k t words x.own.number x.seen.hunt
   pub drawn_alone : (q : ℕ) → t.holder q ≡ drawn x.own.number → drawn_in x.seen.hunt ≡ Some q
   pub taken : (q c slot : ℕ) → t.holder q ≡ owned x.own.number c → slot < blocks_of c → IsBefore q slot (spot_at x.own.looked c) → at_address k words (place_in q c slot) ≢ 0
-  pub free : (f : ℕ) → x.seen.free ≡ Some f → (listed words ≤ f + cursor words) × (listed words ≤ f + limit_of k (listed words)) × (f ≤ listed words)
+  pub spare : (z : Spare) → x.seen.spare ≡ Some z → IsFree k t.holder words x.own.number z
+  pub free : (f : ℕ) → last_found x ≡ Some f → (listed words ≤ f + cursor words) × (listed words ≤ f + limit_of k (listed words)) × (f ≤ listed words)
   pub holds : (c a : ℕ) → c < class_count → prepared_at x.own.prepared c ≡ Some a → (t.prepared a ≡ Some x.own.number) × ((q slot : ℕ) × (t.holder q ≡ owned x.own.number c) × (slot < blocks_of c) × (a ≡ place_in q c slot))
   pub prepared : (q c slot : ℕ) → t.holder q ≡ owned x.own.number c → slot < blocks_of c → t.prepared (place_in q c slot) ≡ Some x.own.number → prepared_at x.own.prepared c ≡ Some (place_in q c slot)
   pub claims : length x.own.pending.items ≡ t.stock.claims x.own.number

@@ -44,9 +44,7 @@ pub record Stays (x y : DomainView) : Type 0 where
   pub copying : y.seen.copying ≡ x.seen.copying
   pub queue : y.own.finalisers.queue ≡ x.own.finalisers.queue
   pub weak : y.seen.share.weak ≡ x.seen.share.weak
-  pub cut : y.seen.share.cut ≡ x.seen.share.cut
-  pub whole : y.seen.share.whole ≡ x.seen.share.whole
-  pub unswept : y.seen.share.unswept ≡ x.seen.share.unswept
+  pub progress : y.seen.share.progress ≡ x.seen.share.progress
   pub remembers : RemembersAll x → RemembersAll y
 
 -- a call that makes the entry of a command: the domain runs on, its front has grown by entries of others and then by this one, and the reply is the definition's

@@ -1,10 +1,10 @@
 -- What the contracts of step calls have in common.
-use Rattle.std.specs.Prelude.{◌≡◌, ℕ, ◌+◌, ◌<◌, ◌≤◌, false, List, [], None}
+use Rattle.std.specs.Prelude.{◌≡◌, ℕ, ◌+◌, ◌<◌, ◌≤◌, false, List, [], ◌∷◌, ◌++◌, None}
 use Rattle.heap_model.specs.declared.entry.Entry.{Entry}
 use Rattle.heap_model.specs.declared.reply.Applied.{Applied}
-use Rattle.heap_model.specs.Domains.{domain_at}
+use Rattle.heap_model.specs.Domains.{domain_at, register}
 use Rattle.heap_model.specs.History.{Legal}
-use Rattle.heap_model.specs.Fronts.{IsFrontOf, Answers, HoldsFields}
+use Rattle.heap_model.specs.Fronts.{AreCalls, IsFrontOf, Answers, HoldsFields, unseen}
 use Rattle.heap_words.specs.declared.value.Value.{Value}
 use Rattle.heap_words.specs.declared.value.Value.TheVariants.{Ref, Nothing}
 use Rattle.heap_rule.specs.declared.change.Change.{Change}
@@ -14,7 +14,9 @@ use Rattle.heap_rule.specs.declared.view.Own.{Own}
 use Rattle.heap_rule.specs.Limits.{sizes_in}
 use Rattle.heap_rule.specs.Layout.{heap_words}
 use Rattle.heap_rule.specs.declared.phase.Kind.TheVariants.{Run}
+use Rattle.heap_rule.specs.declared.phase.Note.{Note}
 use Rattle.heap_rule.specs.declared.phase.Stage.TheVariants.{In}
+use Rattle.heap_rule.specs.Places.{Shows}
 use Rattle.heap_rule.specs.Changes.{value_at, changed}
 use Rattle.heap_rule.specs.Rule.{state_of}
 use Rattle.heap_rule.specs.Token.{Holds}
@@ -41,6 +43,10 @@ pub record IsAt (x : DomainView) (r a : ℕ) : Type 0 where
   pub few : r < 16
   pub holds : value_at x.own.registers r ≡ Ref a
 
+-- what the domain's registers hold shows what they hold in the state after its front: an integer that integer, an address some block, and nothing nothing
+abbrev pub ShowsRegisters : Config → DomainView → Type 0
+ShowsRegisters k x = (r : ℕ) → r < 16 → Shows (value_at x.own.registers r) (register (state_of k x.seen.front) x.own.number r)
+
 -- field i of the plain or raw block in register r, of which the size is known
 pub record FieldMay (k : Config) (x : DomainView) (at r i : ℕ) : Type 0 where
   pub address : ℕ
@@ -64,14 +70,19 @@ with_own x own = record x { own = own }
 abbrev pub with_registers : DomainView → List Value → DomainView
 with_registers x registers = record x { own = record x.own { registers = registers } }
 
+-- the domain with one note more, and all else as it was
+abbrev pub noted : DomainView → Note → DomainView
+noted x note = record x { seen = record x.seen { notes = x.seen.notes ++ note ∷ [] } }
+
 -- The entry stands at the step: the front ends with it, and the changes were made with the value that was read
 pub record Entered (k : Config) (e : Entry) (answer : Applied) (read : Value) (changes : List Change) (x y : DomainView) : Type 0 where
   pub answers : Answers (sizes_in k) x.own.number x.seen.front y.seen.front e answer
   pub view : y ≡ with_front (with_own x (changed read changes x.own)) y.seen.front
   pub holds : Holds k y.own.registers
 
--- No entry stands at the step: the front is the history so far
+-- No entry stands at the step of a domain that runs: the front is the history so far, which has gone on by entries of domains
 pub record Looked (k : Config) (x y : DomainView) : Type 0 where
   pub seen : IsFrontOf x.own.number y.seen.front x.seen.front
+  pub calls : AreCalls (unseen y.seen.front x.seen.front)
   pub legal : Legal (sizes_in k) y.seen.front
   pub view : y ≡ with_front x y.seen.front

@@ -1,12 +1,12 @@
 -- The views of seats: what each knows of the history and of the domains that it stands for.
 use Rattle.heap_model.specs.Domains.{class_count}
-use Rattle.std.specs.Prelude.{◌≡◌, ◌≢◌, ℕ, zero, suc, ◌+◌, ◌*◌, ◌/◌, ◌<◌, List, [], ◌∷◌, ◌++◌, replicate, true, false, None}
+use Rattle.std.specs.Prelude.{◌≡◌, ◌≢◌, ℕ, zero, suc, ◌+◌, ◌*◌, ◌/◌, ◌<◌, List, [], ◌∷◌, ◌++◌, replicate, true, false, Option, Some, None}
 use mathlib.Core.Option.{some}
 use lib.ListN.{get_elem?}
 use Rattle.atomic_table.specs.Table.{Me, Step}
 use Rattle.heap_model.specs.declared.entry.Entry.{Entry}
 use Rattle.heap_model.specs.History.{IsPrefix}
-use Rattle.heap_model.specs.Fronts.{IsFrontOf}
+use Rattle.heap_model.specs.Fronts.{AreNotControls, IsFrontOf, unseen}
 use Rattle.heap_words.specs.declared.value.Value.TheVariants.{Ref, Nothing}
 use Rattle.heap_rule.specs.declared.view.TheConstants.{REMEMBERED_ROOM}
 use Rattle.heap_rule.specs.declared.config.Config.{Config}
@@ -16,8 +16,10 @@ use Rattle.heap_rule.specs.declared.view.Hunt.TheVariants.{Rests}
 use Rattle.heap_rule.specs.declared.view.Reaping.TheVariants.{Outside}
 use Rattle.heap_rule.specs.declared.view.Scan.TheVariants.{Idle}
 use Rattle.heap_rule.specs.declared.view.Share.{Share}
+use Rattle.heap_rule.specs.declared.view.Spare.{Spare}
 use Rattle.heap_rule.specs.declared.view.View.{View}
 use Rattle.heap_rule.specs.declared.phase.Kind.TheVariants.{Run}
+use Rattle.heap_rule.specs.declared.phase.Progress.{Progress}
 use Rattle.heap_rule.specs.declared.phase.Stage.TheVariants.{In}
 
 -- the fact holds of each view, with its seat's number
@@ -38,11 +40,12 @@ abbrev pub Distinct : List DomainView → Type 0
 Distinct [] = Unit {0}
 Distinct (x ∷ xs) = AllDomains (λ y. y.own.number ≢ x.own.number) xs × Distinct xs
 
--- History, of one domain: it is one of the heap's, this seat alone stands for it, and its front begins the history
+-- History, of one domain: it is one of the heap's, this seat alone stands for it, and its front begins the history. Domain 0 alone leads collections, so it has seen where each began and ended
 pub record IsSeated (k : Config) (log : List Entry) (seat : ℕ → ℕ) (id : ℕ) (x : DomainView) : Type 0 where
   pub inside : x.own.number < k.domains
   pub here : seat x.own.number ≡ id
   pub front : IsFrontOf x.own.number log x.seen.front
+  pub led : x.own.number ≡ 0 → AreNotControls (unseen log x.seen.front)
 
 -- History, of one seat
 pub record Knows (k : Config) (log : List Entry) (seat : ℕ → ℕ) (id : ℕ) (v : View) : Type 0 where
@@ -59,17 +62,26 @@ one k h x = record { config = k; history = h; domains = x ∷ [] }
 abbrev pub pending_room : Config → ℕ
 pending_room k = k.domains * k.minor_words / 4
 
+-- before the first collection
+abbrev pub no_collection : Progress
+no_collection = record { cut = false; whole = true; unswept = false; armed = false }
+
 -- what a domain knows of a phase in which it has done nothing
 abbrev pub fresh_share : Share
-fresh_share = record { colours = None; armed = None; known = []; weak = None; changed = None; blocks = None; words = None; rotated = false; owes = false; places_seen = []; found_head = None; scan = Idle; walk = record { pool = 0; slot = 0 }; own_pool = None; roots = []; marked = []; darkenings = 0; counted = []; counted_to = record { pool = 0; slot = 0 }; counted_words = 0; added_blocks = false; added_words = false; held = 0; vacant = 0; cleaning = None; kept = 0; waiting = []; cut = false; whole = true; unswept = false; reaping = Outside; swept = [] }
+fresh_share = record { colours = None; armed = None; known = []; weak = None; changed = None; blocks = None; words = None; rotated = false; owes = false; places_seen = []; found_head = None; scan = Idle; walk = record { pool = 0; slot = 0 }; own_pool = None; roots = []; marked = []; darkenings = 0; counted = []; counted_to = record { pool = 0; slot = 0 }; counted_words = 0; added_blocks = false; added_words = false; held = 0; vacant = 0; cleaning = None; kept = 0; waiting = []; progress = no_collection; reaping = Outside; swept = [] }
 
 -- and of the next, of which it has forgotten the last
 abbrev pub voided : Share → Share
-voided share = record fresh_share { cut = share.cut; whole = share.whole; unswept = share.unswept }
+voided share = record fresh_share { progress = share.progress }
 
 -- the lists of a domain that has registered nothing
 abbrev pub no_finalisers : ℕ → Finalisers
 no_finalisers room = record { finals = record { items = []; room = room }; lasts = record { items = []; room = room }; queue = record { items = []; room = room } }
+
+-- the free place of which a domain knows at the start: that behind the shared block's, which is domain 0's
+abbrev pub first_spare : ℕ → Option Spare
+first_spare zero = Some (record { pool = 0; class = 3; slot = 1 })
+first_spare (suc d) = None
 
 -- a domain at the start: register 0 holds the shared block, which is at the address 1
 abbrev pub opening_view : Config → ℕ → DomainView
@@ -88,7 +100,7 @@ opening_view k d = record {
     finalisers = no_finalisers k.finals;
     swept = record { listed = 0; spot = record { pool = k.pools; slot = 0 } };
   };
-  seen = record { front = []; made = []; stage = In Run; notes = []; hunt = Rests; free = None; listing = None; copying = record { met = []; pending = []; copied = [] }; remembered = []; share = fresh_share };
+  seen = record { front = []; made = []; stage = In Run; notes = []; hunt = Rests; free = []; spare = first_spare d; listing = None; copying = record { met = []; pending = []; copied = [] }; remembered = []; share = fresh_share };
 }
 
 -- n domains from d on

@@ -7,14 +7,14 @@ ghost use Rattle.heap_rule.specs.Limits.{sizes_in, first_outside};
 ghost use Rattle.heap_rule.specs.Opening.{opening_token, opening_tokens};
 ghost use Rattle.heap_rule.specs.Ending.{AllIn, AllBegin};
 ghost use Rattle.heap_rule.specs.Views.{first_view};
-ghost use Rattle.heap_rule.specs.Meeting.{SameCopies};
+ghost use Rattle.heap_rule.specs.Meeting.{Met, SameCopies};
 ghost use Rattle.heap_rule.specs.Phases.{Agree};
 ghost use Rattle.heap_rule.specs.Token.{IsIn};
 
 use crate::config::{Config, StartFault};
 use crate::domain::Domain;
 use crate::layout::{WANT, index_of, opening_words};
-use crate::rule::{Agreeing, JoinSeat, Law, Learn, SplitSeat};
+use crate::rule::{JoinSeat, Law, Learn, Levelling, SplitSeat};
 use crate::view::View;
 use atomic_table::{Seat, Table};
 use std::alloc::{AllocError, Global};
@@ -161,7 +161,8 @@ impl Heap {
 }
 
 impl Heap {
-    /// Brings two domains together for a moment. Both come back as they were, and each act where the
+    /// Brings two domains together for a moment. Both then see the whole history so far, in which neither
+    /// has made an entry that it hadn't seen, and are else as they were. Each acts where the
     /// other may: while one is in a phase of a pause the other doesn't run, and two that are in even
     /// phases, and haven't arrived there, are in phases of one kind. While they copy young blocks, no
     /// block has two copies: where both know of one, it is the same.
@@ -169,7 +170,7 @@ impl Heap {
         requires here { IsIn a self.now × IsIn b self.now }
         ensures agree { Agree a.view.seen.stage b.view.seen.stage }
         ensures copies { SameCopies a.view a.view × SameCopies a.view b.view × SameCopies b.view b.view }
-        ensures same { (result.0 ≡ a) × (result.1 ≡ b) }
+        ensures met { Met self.now.config a b result.0 result.1 }
     {
         let Domain {
             mut seat,
@@ -182,7 +183,7 @@ impl Heap {
             own: other_own,
         } = b;
         self.table.shared.join_seat::<JoinSeat>(&mut seat, other);
-        self.table.shared.load::<Agreeing>(&mut seat, WANT);
+        self.table.shared.load::<Levelling>(&mut seat, WANT);
         let first = self.table.shared.split_seat::<SplitSeat>(&mut seat);
         let first = Domain {
             seat: first,

@@ -19,7 +19,7 @@ pub use heap::{Ended, Heap};
 pub use layout::{
     BARRIER, CHANGED, COLOURS, CURSOR, ENDED, LISTED, LIVE_BLOCKS, LIVE_WORDS, PLAN, WANT,
 };
-pub use phase::{Kind, Note, Stage};
+pub use phase::{Kind, Note, Progress, Stage};
 pub use raw::{Changing, Leaving, Writing, raw_add, raw_exchange, raw_load, raw_or, raw_store};
 pub use rule::Told;
 pub use view::{

@@ -1,4 +1,7 @@
-//! Phases: the kinds that there are, where a domain stands in them, and what it has done at the control words.
+//! Phases: the kinds that there are, where a domain stands in them, how far a collection has come, and
+//! what a domain has done at the control words.
+ghost use Rattle.std.specs.Prelude.{◌≡◌};
+ghost use Rattle.heap_rule.specs.Views.{no_collection};
 
 /// What kind of phase it is.
 #[derive(Clone, Copy, Debug, PartialEq, Eq)]
@@ -41,10 +44,42 @@ pub enum Stage {
     Gone(Kind),
 }
 
+/// How far a collection of the major heap has come, as domain 0 keeps it from phase to phase.
+#[derive(Clone, Copy, Debug, PartialEq, Eq)]
+pub struct Progress {
+    /// Whether its cut is made.
+    pub cut: bool,
+    /// Whether it began in this pause.
+    pub whole: bool,
+    /// Whether the last one ended while garbage was left, which may not all be freed so far: a sweep is
+    /// owed, and comes before the next one begins.
+    pub unswept: bool,
+    /// Whether one goes on beside running domains, or went on so before this pause.
+    pub armed: bool,
+}
+
+impl Progress {
+    /// Before the first collection: no garbage is left of another one.
+    pub fn start() -> Progress
+        ensures { result ≡ no_collection }
+    {
+        Progress {
+            cut: false,
+            whole: true,
+            unswept: false,
+            armed: false,
+        }
+    }
+}
+
 /// What a domain found or did at a control word. No value of it is made.
 pub enum Note {
     /// It found this want word.
     Want(u64),
+    /// It found this changed word.
+    Changed(u64),
+    /// It wrote that so many free pools are listed.
+    Listed(u64),
     /// It set these bits of the want word.
     Asked(u64),
     /// It found this barrier word.

@@ -47,13 +47,14 @@ impl Play<(), View> for Learn {
     ghost then = { learned };
 }
 
-/// A load at which a seat that stands for two domains sees that they agree.
-pub struct Agreeing;
+/// A load at which a seat that stands for two domains sees that they agree, and both see the whole
+/// history.
+pub struct Levelling;
 
-impl Play<(), View> for Agreeing {
-    ghost use Rattle.heap_rule.specs.Meeting.{agreed};
+impl Play<(), View> for Levelling {
+    ghost use Rattle.heap_rule.specs.Meeting.{levelled};
 
-    ghost then = { agreed };
+    ghost then = { levelled };
 }
 
 /// What one step tells of its domain: the view before, the word found, and the view after. Each

@@ -2,7 +2,7 @@
 ghost use Rattle.std.specs.Prelude.{◌≡◌};
 
 use crate::config::Config;
-use crate::phase::{Note, Stage};
+use crate::phase::{Note, Progress, Stage};
 use heap_model::entry::Entry;
 use heap_model::label::Label;
 use heap_words::{Colours, Value};
@@ -59,6 +59,14 @@ pub enum Hunt {
 #[derive(Clone, Copy, Debug, PartialEq, Eq)]
 pub struct Spot {
     pub pool: u32,
+    pub slot: u32,
+}
+
+/// A place of a pool, for blocks of a class.
+#[derive(Clone, Copy, Debug, PartialEq, Eq)]
+pub struct Spare {
+    pub pool: u32,
+    pub class: u32,
     pub slot: u32,
 }
 
@@ -270,6 +278,8 @@ pub enum NextKey {
 /// How far a domain is in an ephemeron of which it empties the keys that aren't marked.
 pub struct Cleaning {
     pub block: u32,
+    /// Its label, once the domain has loaded it.
+    pub label: Option<Label>,
     /// So many keys it has looked at.
     pub done: u32,
     pub count: u32,
@@ -326,8 +336,8 @@ pub enum Known {
     },
 }
 
-/// What a domain knows of the present phase. It forgets all of it but the cut, whether the cycle is
-/// whole, and whether a sweep is owed, when it arrives.
+/// What a domain knows of the present phase. It forgets all of it but how far a collection has come
+/// when it arrives.
 pub struct Share {
     /// The meanings of the colours, once it has loaded them.
     pub colours: Option<Colours>,
@@ -378,12 +388,8 @@ pub struct Share {
     pub kept: u32,
     /// The places of the queue whose blocks are marked.
     pub waiting: LinkedList<u32>,
-    /// Whether domain 0 has made the cut of this collection.
-    pub cut: bool,
-    /// Whether the collection began in this pause.
-    pub whole: bool,
-    /// Whether the last collection ended before its garbage was freed, and it may not all be freed yet.
-    pub unswept: bool,
+    /// How far domain 0 has brought a collection.
+    pub progress: Progress,
     /// How far it is in sweeping a pool.
     pub reaping: Reaping,
     /// The places that it has swept in this phase, the last one first.
@@ -402,8 +408,12 @@ pub struct Seen {
     pub notes: LinkedList<Note>,
     /// How far the domain is in taking a free block of the pools.
     pub hunt: Hunt,
-    /// How many pools were free when the domain last looked, since it last arrived.
-    pub free: Option<u64>,
+    /// How many pools were free each time that the domain looked since it last arrived, the last time
+    /// first.
+    pub free: LinkedList<u64>,
+    /// A place of an own pool that was free when the heap started. It stays so until the domain arrives
+    /// or makes a block in a pool.
+    pub spare: Option<Spare>,
     /// The list of free pools, since the domain began to write it in this phase.
     pub listing: Option<Listing>,
     /// What it has met and owes in a collection of young blocks.

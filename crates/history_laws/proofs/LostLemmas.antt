@@ -19,7 +19,7 @@ use Rattle.heap_model.specs.Graph.{Graph, same_label, labels, has_label, label_o
 use Rattle.heap_model.specs.Domains.{domain_at, no_domain, pending_label, queues, roots, reach, waiting, settled_roots, settled_reach, opening, shared_node}
 use Rattle.heap_model.specs.Commands.{has_full_fields, is_int_value, key_value}
 use Rattle.heap_model.specs.Reach.{key_holds, edges_of, edges_at, reachable, IsClosedGraph, HoldsRoots, IsClosedUnder, IsLeastClosed}
-use Rattle.heap_model.specs.Entries.{is_some_and, is_gone, has_keys, has_live_keys, keys_are_live, full_keys, CollectedAllowed, next}
+use Rattle.heap_model.specs.Entries.{is_some_and, is_gone, has_keys, has_live_keys, keys_are_live, full_keys, opened_node, opened, left_reach, CollectedAllowed, next}
 use Rattle.heap_model.specs.History.{state_after, LegalFrom, Legal}
 use Rattle.heap_model.specs.Marked.{IsMarked}
 use Rattle.heap_model.specs.WellFormed.{names_of, HaveNodes, IsDomainNamed, IsWellFormed}
@@ -36,7 +36,7 @@ use Rattle.heap_model.proofs.Histories.HistoryLemmas.{state_after-append}
 use Rattle.heap_model.proofs.Histories.NumberLemmas.{numbered_after, numbered_opening}
 use Rattle.heap_model.proofs.Histories.WellFormedLemmas.{wf_after, wf_opening, queues_named, reach_after}
 use Rattle.history_laws.specs.Cells.{Cell, Field, Key, Datum, initial, cell_of, content}
-use Rattle.history_laws.specs.Lost.{IsNeverSeen, opened_node, opened, left_names, LostIsNeverSeen, UncountedIsNeverSeen, is_taking, EmptiedIsNeverSeen, TakenIsNeverSeen, MarksHoldAllLeft}
+use Rattle.history_laws.specs.Lost.{IsNeverSeen, LostIsNeverSeen, UncountedIsNeverSeen, is_taking, EmptiedIsNeverSeen, TakenIsNeverSeen, MarksHoldAllLeft}
 use Rattle.history_laws.proofs.CellLemmas.{held}
 use Rattle.history_laws.proofs.SplitLemmas.{legal_first, legal_rest, has_first, has_cons_option, value_has, domain_has}
 use Rattle.history_laws.proofs.ApartLemmas.{IsApart, IsOut, IsKnownOut, never_seen}
@@ -50,7 +50,7 @@ labels_as [] = refl
 labels_as (k ∷ ls) = ap (λ t. k ∷ t) (labels_as ls)
 
 -- the labels of the waiting registrations of `finalise_last`
-abbrev last_labels : State → List Label
+abbrev pub last_labels : State → List Label
 last_labels s = flat_map (λ (x : DomainState). map (λ (f : LastFinaliser). f.label) x.lasts) s.domains
 
 -- a list of labels that holds all that domains name, and all that its blocks name
@@ -177,28 +177,53 @@ content_edge g full alive x cell y e = subst (λ z. IsTrue (has_label z y)) (sym
     go None at is = absurd (nothing_new cell y is)
     go (Some n) at is = cell_edge alive n cell y (full x n at) is
 
+-- what is left holds its roots, and what the cells of its blocks hold
+left_law : (z : Sizes) (h : List Entry) → let s = state_after (opening z) h in IsLeastClosed (opened s.graph) (settled_roots s (queues s) ++ last_labels s) (left_reach s)
+left_law z h = let s : State = state_after (opening z) h in reach_law (opened s.graph) (settled_roots s (queues s) ++ last_labels s) (opened_closed s (wf_after (opening z) h (wf_opening z)))
+
+pub left_roots : (z : Sizes) (h : List Entry) → let s = state_after (opening z) h in HoldsRoots (settled_roots s (queues s) ++ last_labels s) (has_label (left_reach s))
+left_roots z h = (left_law z h).holds_roots
+
+pub left_cells : (z : Sizes) (h : List Entry) (x : Label) (cell : Cell) (y : Label) → let s = state_after (opening z) h in IsTrue (has_label (left_reach s) x) → content s.graph x cell ≡ Block y → IsTrue (has_label (left_reach s) y)
+left_cells z h x cell y inside at = let s : State = state_after (opening z) h in (left_law z h).closed x y inside (content_edge s.graph (fields_law z h) (has_label (left_reach s)) x cell y at)
+
+-- what a block keeps alive as it is, it keeps alive opened too
+edge_opened : (alive : Label → Bool) (o : Option Node) (y : Label) → IsTrue (has_label (option_map_or (edges_of alive) o []) y) → IsTrue (has_label (option_map_or (edges_of alive) (option_map opened_node o) []) y)
+edge_opened alive None y h = h
+edge_opened alive (Some (Plain tag fields)) y h = h
+edge_opened alive (Some (Raw tag fields)) y h = h
+edge_opened alive (Some (Ephe keys datum)) y h = go (list_all (key_holds alive) keys) (label_of datum) h
+  where
+    go : (b : Bool) (o : Option Label) → IsTrue (has_label (cond b (option_to_list o) []) y) → IsTrue (has_label (cons_option o (filter_map label_of (map key_value keys))) y)
+    go false o h = cc
+    go true None h = cc
+    go true (Some k) h = ⊎_elim (λ here. or_left (same_label k y) (has_label (filter_map label_of (map key_value keys)) y) here) (λ (none : IsTrue (has_label [] y)). cc) (or_cases (same_label k y) (has_label [] y) h)
+
+-- so what is reachable is among what is left
+pub reached_left : (z : Sizes) (h : List Entry) (x : Label) → let s = state_after (opening z) h in IsTrue (has_label (reach s) x) → IsTrue (has_label (left_reach s) x)
+reached_left z h x = let s : State = state_after (opening z) h in
+    reachable_least s.graph (has_label (left_reach s))
+    (λ a b inside e. (left_law z h).closed a b inside (subst (λ w. IsTrue (has_label w b)) (sym (edges_opened s.graph (has_label (left_reach s)) a)) (edge_opened (has_label (left_reach s)) (node_at s.graph a) b e)))
+    (roots s (queues s)) (λ k r. left_roots z h k (has-append_left (settled_roots s (queues s)) (last_labels s) k (has-append_left (roots s (queues s)) (waiting s) k r))) x
+
 -- what isn't among what domains may still come to is out
-known_lost : (z : Sizes) (h : List Entry) (l : Label) → Legal z h → IsTrue (has_label (labels (state_after (opening z) h).graph) l) → has_label (left_names (state_after (opening z) h)) l ≡ false
+known_lost : (z : Sizes) (h : List Entry) (l : Label) → Legal z h → IsTrue (has_label (labels (state_after (opening z) h).graph) l) → has_label (left_reach (state_after (opening z) h)) l ≡ false
     → IsKnownOut l (state_after (opening z) h)
-known_lost z h l legal there lost =
-    let s : State = state_after (opening z) h in
-    let rs : List Label = settled_roots s (queues s) ++ last_labels s in
-    let law : IsLeastClosed (opened s.graph) rs (reachable (opened s.graph) rs) = reach_law (opened s.graph) rs (opened_closed s (wf_after (opening z) h (wf_opening z))) in
-    record {
-      numbered = numbered_after (opening z) h legal (numbered_opening z);
-      there = there;
-      out = out_of_live s (left_names s) law.holds_roots
-          (λ x cell y inside at. law.closed x y inside (content_edge s.graph (fields_law z h) (has_label (left_names s)) x cell y at)) l lost;
-    }
+known_lost z h l legal there lost = let s : State = state_after (opening z) h in record {
+  numbered = numbered_after (opening z) h legal (numbered_opening z);
+  there = there;
+  out = out_of_live s (left_reach s) (left_roots z h) (left_cells z h) l lost;
+}
 
 pub lost_law : LostIsNeverSeen
 lost_law z h k l legal there lost =
     never_seen l (state_after (opening z) h) k (legal_rest (opening z) h k legal) (known_lost z h l (legal_first (opening z) h k legal) there lost)
 
 pub taken_law : TakenIsNeverSeen
-taken_law z h k l legal there taken apart =
+taken_law z h k l legal there taken =
     let s : State = state_after (opening z) h in
-    lost_law z h (Done ∷ k) l legal there (is_false (has_label (left_names s) l) (all_has (λ x. not (has_label (left_names s) x)) s.taken apart l taken))
+    let apart : IsTrue (list_all (λ x. not (has_label (left_reach s) x)) s.taken) = (legal_rest (opening z) h (Done ∷ k) legal).0.apart in
+    lost_law z h (Done ∷ k) l legal there (is_false (has_label (left_reach s) l) (all_has (λ x. not (has_label (left_reach s) x)) s.taken apart l taken))
 
 -- the labels of the registrations that all pass a test
 all_mapped : {A : Type 0} (f : A → Label) (test : Label → Bool) (xs : List A) → IsTrue (list_all (λ x. test (f x)) xs) → HoldsRoots (map f xs) test

@@ -14,13 +14,12 @@ use Rattle.heap_model.specs.declared.state.State.{State}
 use Rattle.heap_model.specs.Graph.{has_label, node_at}
 use Rattle.heap_model.specs.Reach.{reachable}
 use Rattle.heap_model.specs.Domains.{domain_at, queues, opening, reach}
-use Rattle.heap_model.specs.Entries.{is_gone}
+use Rattle.heap_model.specs.Entries.{is_gone, left_reach}
 use Rattle.heap_model.specs.History.{state_after, Legal, replies}
 use Rattle.heap_model.specs.Registrations.{all_ran, all_registered, left_over}
 use Rattle.heap_model.specs.Fronts.{PlainShape, shape_of}
 use Rattle.history_laws.specs.Cells.{Field, Key, Datum, content, last_written}
 use Rattle.history_laws.specs.Finalisers.{all_queued, is_final_of}
-use Rattle.history_laws.specs.Lost.{left_names}
 
 abbrev heap_of : ℕ → Sizes
 heap_of n = record { domains = n; pools = 512; minor_words = 32768; classes = 6 }
@@ -87,7 +86,7 @@ dropped_key_data : content (after 1 (dropped_key ++ Wipe (block 0 2) (0 ∷ []) 
 unfolding reachable
 dropped_key_data = refl
 
-dropped_key_lost : has_label (left_names (after 1 (dropped_key ++ Wipe (block 0 2) (0 ∷ []) ∷ Collected ∷ []))) (block 0 1) ≡ false
+dropped_key_lost : has_label (left_reach (after 1 (dropped_key ++ Wipe (block 0 2) (0 ∷ []) ∷ Collected ∷ []))) (block 0 1) ≡ false
 unfolding reachable
 dropped_key_lost = refl
 
@@ -152,55 +151,44 @@ unreached_key_back : replies (heap_of 1) (unreached_key ++ by 0 (GetKey 3 2 0) �
 unfolding reachable
 unreached_key_back = refl
 
--- A block comes back after a weak key for it was found empty, by a key of an ephemeron that is itself had by a key: the collection isn't complete, and `Done` follows keys one step only
+-- No block comes back after a weak key for it was found empty, not even by a key of an ephemeron that is itself had by a key: `Done` is refused then, though the collection isn't complete
 abbrev two_keys_away : List Entry
 two_keys_away = map (by 0) (Alloc 1 0 1 ∷ NewEphe 2 1 ∷ SetKey 2 0 1 ∷ NewEphe 3 1 ∷ SetKey 3 0 1 ∷ NewEphe 4 1 ∷ SetKey 4 0 3 ∷ Forget 1 ∷ Forget 3 ∷ [])
     ++ Cut ∷ Seal ∷ Wipe (block 0 2) (0 ∷ []) ∷ []
 
-abbrev comes_back : List Entry
-comes_back = two_keys_away ++ Done ∷ map (by 0) (CheckKey 2 0 ∷ GetKey 5 4 0 ∷ GetKey 6 5 0 ∷ [])
-
-comes_back_legal : Legal (heap_of 1) comes_back
+two_keys_away_legal : Legal (heap_of 1) two_keys_away
 unfolding reachable
-comes_back_legal = search rules
+two_keys_away_legal = search rules
 
-comes_back_replies : replies (heap_of 1) comes_back 0
-    ≡ Block (block 0 1) ∷ Block (block 0 2) ∷ Ok ∷ Block (block 0 3) ∷ Ok ∷ Block (block 0 4) ∷ Ok ∷ Ok ∷ Ok ∷ No ∷ Block (block 0 3) ∷ Block (block 0 1) ∷ []
+two_keys_away_named : list_all (λ l. not (has_label (left_reach (after 1 two_keys_away)) l)) (after 1 two_keys_away).taken ≡ false
 unfolding reachable
-comes_back_replies = refl
+two_keys_away_named = refl
 
--- `Done` would refuse it if it asked that no taken label is among what domains may still come to
-comes_back_named : list_all (λ l. not (has_label (left_names (after 1 two_keys_away)) l)) (after 1 two_keys_away).taken ≡ false
+-- nor is a `finalise_last` run of a block that is had by two keys
+abbrev last_then_key : List Entry
+last_then_key = map (by 0) (Alloc 1 0 1 ∷ FinaliseLast 1 7 ∷ NewEphe 3 1 ∷ SetKey 3 0 1 ∷ NewEphe 4 1 ∷ SetKey 4 0 3 ∷ Forget 1 ∷ Forget 3 ∷ [])
+    ++ Cut ∷ Seal ∷ Last 0 0 ∷ []
+
+last_then_key_legal : Legal (heap_of 1) last_then_key
 unfolding reachable
-comes_back_named = refl
+last_then_key_legal = search rules
 
--- Nor is a `finalise_last` the end of its block there: it has run, and then the block is had by two keys
-abbrev last_then_back : List Entry
-last_then_back = map (by 0) (Alloc 1 0 1 ∷ FinaliseLast 1 7 ∷ NewEphe 3 1 ∷ SetKey 3 0 1 ∷ NewEphe 4 1 ∷ SetKey 4 0 3 ∷ Forget 1 ∷ Forget 3 ∷ [])
-    ++ Cut ∷ Seal ∷ Last 0 0 ∷ Done ∷ Ran 0 ∷ map (by 0) (GetKey 5 4 0 ∷ GetKey 6 5 0 ∷ [])
-
-last_then_back_legal : Legal (heap_of 1) last_then_back
+last_then_key_named : list_all (λ l. not (has_label (left_reach (after 1 last_then_key)) l)) (after 1 last_then_key).taken ≡ false
 unfolding reachable
-last_then_back_legal = search rules
+last_then_key_named = refl
 
-last_then_back_replies : replies (heap_of 1) last_then_back 0
-    ≡ Block (block 0 1) ∷ Ok ∷ Block (block 0 2) ∷ Ok ∷ Block (block 0 3) ∷ Ok ∷ Ok ∷ Ok ∷ LastReply 7 ∷ Block (block 0 2) ∷ Block (block 0 1) ∷ []
+-- nor by the data of an ephemeron that is had by a key
+abbrev data_away : List Entry
+data_away = map (by 0) (Alloc 1 0 1 ∷ Alloc 2 0 1 ∷ NewEphe 3 1 ∷ SetKey 3 0 1 ∷ NewEphe 5 1 ∷ SetKey 5 0 2 ∷ SetData 5 1 ∷ NewEphe 6 1 ∷ SetKey 6 0 5 ∷ Forget 1 ∷ Forget 2 ∷ Forget 5 ∷ [])
+    ++ Cut ∷ Seal ∷ Wipe (block 0 3) (0 ∷ []) ∷ []
+
+data_away_legal : Legal (heap_of 1) data_away
 unfolding reachable
-last_then_back_replies = refl
+data_away_legal = search rules
 
--- nor by the data of an ephemeron that is had by a key: one key leads to it, and its own key needn't be alive for its data to be read
-abbrev data_comes_back : List Entry
-data_comes_back = map (by 0) (Alloc 1 0 1 ∷ Alloc 2 0 1 ∷ NewEphe 3 1 ∷ SetKey 3 0 1 ∷ NewEphe 5 1 ∷ SetKey 5 0 2 ∷ SetData 5 1 ∷ NewEphe 6 1 ∷ SetKey 6 0 5 ∷ Forget 1 ∷ Forget 2 ∷ Forget 5 ∷ [])
-    ++ Cut ∷ Seal ∷ Wipe (block 0 3) (0 ∷ []) ∷ Done ∷ map (by 0) (CheckKey 3 0 ∷ GetKey 7 6 0 ∷ GetData 8 7 ∷ [])
-
-data_comes_back_legal : Legal (heap_of 1) data_comes_back
+data_away_named : list_all (λ l. not (has_label (left_reach (after 1 data_away)) l)) (after 1 data_away).taken ≡ false
 unfolding reachable
-data_comes_back_legal = search rules
-
-data_comes_back_replies : replies (heap_of 1) data_comes_back 0
-    ≡ Block (block 0 1) ∷ Block (block 0 2) ∷ Block (block 0 3) ∷ Ok ∷ Block (block 0 4) ∷ Ok ∷ Ok ∷ Block (block 0 5) ∷ Ok ∷ Ok ∷ Ok ∷ Ok ∷ No ∷ Block (block 0 4) ∷ Block (block 0 1) ∷ []
-unfolding reachable
-data_comes_back_replies = refl
+data_away_named = refl
 
 -- Newest first also where a collection queues in several entries: places fall from one to the next
 abbrev queued_in_two : List Entry

@@ -8,15 +8,12 @@ use Rattle.heap_model.specs.declared.reply.Reply.TheVariants.{Block as BlockRepl
 use Rattle.heap_model.specs.declared.reply.Applied.{Applied}
 use Rattle.heap_model.specs.declared.reply.Applied.TheVariants.{Replied}
 use Rattle.heap_model.specs.declared.graph.Value.TheVariants.{Block}
-use Rattle.heap_model.specs.declared.graph.Node.{Node}
-use Rattle.heap_model.specs.declared.graph.Node.TheVariants.{Plain, Raw, Ephe}
 use Rattle.heap_model.specs.declared.state.Sizes.{Sizes}
 use Rattle.heap_model.specs.declared.state.State.{State}
 use Rattle.heap_model.specs.Graph.{Graph, same_label, labels, has_label, node_at}
-use Rattle.heap_model.specs.Domains.{register, queues, reach, settled_roots, opening}
-use Rattle.heap_model.specs.Commands.{key_value}
-use Rattle.heap_model.specs.Reach.{reachable, HoldsRoots}
-use Rattle.heap_model.specs.Entries.{full_keys, next, reply}
+use Rattle.heap_model.specs.Domains.{register, queues, reach, opening}
+use Rattle.heap_model.specs.Reach.{HoldsRoots}
+use Rattle.heap_model.specs.Entries.{full_keys, left_reach, next, reply}
 use Rattle.heap_model.specs.History.{state_after, Legal}
 use Rattle.heap_model.specs.Marked.{IsMarked}
 use Rattle.history_laws.specs.Cells.{Key, content}
@@ -32,23 +29,10 @@ pub record IsNeverSeen (s : State) (k : List Entry) (l : Label) : Type 0 where
   pub registers : (a b : List Entry) → k ≡ a ++ b → (d r : ℕ) → register (state_after s a) d r ≢ Block l
   pub replies : (a b : List Entry) (e : Entry) → k ≡ a ++ e ∷ b → names l (reply (state_after s a) e) ≡ false
 
--- a block as one that keeps alive all that it names: the keys of an ephemeron too, and its data in any case
-abbrev pub opened_node : Node → Node
-opened_node (Plain tag fields) = Plain tag fields
-opened_node (Raw tag fields) = Raw tag fields
-opened_node (Ephe keys datum) = Plain 0 (datum ∷ map key_value keys)
-
-abbrev pub opened : Graph → Graph
-opened g = map (λ e. (e.0, opened_node e.1)) g
-
--- all that domains may still come to: what the registers, the queues and the registrations of both kinds lead to, over fields, keys and data
-abbrev pub left_names : State → List Label
-left_names s = reachable (opened s.graph) (settled_roots s (queues s) ++ flat_map (λ x. map (λ f. f.label) x.lasts) s.domains)
-
--- a block that isn't among these is never seen again
+-- a block to which domains can't come any more, over fields, keys and data, is never seen again
 abbrev pub LostIsNeverSeen : Type 0
 LostIsNeverSeen = (z : Sizes) (h k : List Entry) (l : Label) → Legal z (h ++ k) → IsTrue (has_label (labels (state_after (opening z) h).graph) l)
-    → has_label (left_names (state_after (opening z) h)) l ≡ false → IsNeverSeen (state_after (opening z) h) k l
+    → has_label (left_reach (state_after (opening z) h)) l ≡ false → IsNeverSeen (state_after (opening z) h) k l
 
 -- what a complete collection found unreachable, and so what `full_major` doesn't count, is never seen again
 abbrev pub UncountedIsNeverSeen : Type 0
@@ -67,14 +51,13 @@ EmptiedIsNeverSeen = (z : Sizes) (h a k : List Entry) (e : Label) (places : List
     → content (state_after (opening z) h).graph e (Key i) ≡ Block b → IsTrue (list_any (λ p. p == i) places)
     → IsNeverSeen (next (state_after (next (state_after (opening z) h) (Wipe e places)) a) Collected) k b
 
--- where a collection, complete or not, ends with nothing that it took among what domains may still come to, what it took is never seen again
+-- where a collection ends, complete or not, what it took is never seen again: neither a block of which it emptied a key, nor one of which it queued a `finalise_last`
 abbrev pub TakenIsNeverSeen : Type 0
 TakenIsNeverSeen = (z : Sizes) (h k : List Entry) (l : Label) → Legal z (h ++ Done ∷ k) → let s = state_after (opening z) h in
-    IsTrue (has_label (labels s.graph) l) → IsTrue (has_label s.taken l) → IsTrue (list_all (λ x. not (has_label (left_names s) x)) s.taken)
-    → IsNeverSeen s (Done ∷ k) l
+    IsTrue (has_label (labels s.graph) l) → IsTrue (has_label s.taken l) → IsNeverSeen s (Done ∷ k) l
 
 -- a collector that marks keeps more than it has to: where its marks hold all that waits and the keys of the ephemerons that it leaves, they hold all that domains may still come to
 abbrev pub MarksHoldAllLeft : Type 0
 MarksHoldAllLeft = (s : State) (marked : Label → Bool) → IsMarked s (queues s) marked → HoldsRoots (flat_map (λ x. map (λ f. f.label) x.lasts) s.domains) marked
     → ((x k : Label) → IsTrue (marked x) → IsTrue (has_label (full_keys (node_at s.graph x)) k) → IsTrue (marked k))
-    → HoldsRoots (left_names s) marked
+    → HoldsRoots (left_reach s) marked

@@ -135,9 +135,7 @@ alloc_did h old new mid e c l made changes is runs here view told label =
       copying = ap (λ (x : DomainView). x.seen.copying) (alloc_rest _ _ _ _ _ told) ∙ ap (λ (x : DomainView). x.seen.copying) view;
       queue = ap (λ (x : DomainView). x.own.finalisers.queue) (alloc_rest _ _ _ _ _ told) ∙ ap (λ (x : DomainView). x.own.finalisers.queue) view;
       weak = ap (λ (x : DomainView). x.seen.share.weak) (alloc_rest _ _ _ _ _ told) ∙ ap (λ (x : DomainView). x.seen.share.weak) view;
-      cut = ap (λ (x : DomainView). x.seen.share.cut) (alloc_rest _ _ _ _ _ told) ∙ ap (λ (x : DomainView). x.seen.share.cut) view;
-      whole = ap (λ (x : DomainView). x.seen.share.whole) (alloc_rest _ _ _ _ _ told) ∙ ap (λ (x : DomainView). x.seen.share.whole) view;
-      unswept = ap (λ (x : DomainView). x.seen.share.unswept) (alloc_rest _ _ _ _ _ told) ∙ ap (λ (x : DomainView). x.seen.share.unswept) view;
+      progress = ap (λ (x : DomainView). x.seen.share.progress) (alloc_rest _ _ _ _ _ told) ∙ ap (λ (x : DomainView). x.seen.share.progress) view;
       remembers = λ all. ap (λ (x : DomainView). x.seen.remembered) (alloc_rest _ _ _ _ _ told) ∙ (ap (λ (x : DomainView). x.seen.remembered) view ∙ (all
           ∙ (ap (λ (x : DomainView). x.own.remembered.items) (sym view) ∙ ap (λ (x : DomainView). x.own.remembered.items) (sym (alloc_rest _ _ _ _ _ told)))));
     })

@@ -1,5 +1,5 @@
 -- What an allocation finds and leaves.
-use Rattle.std.specs.Prelude.{◌≡◌, ◌⊎◌, ℕ, ◌+◌, ◌<◌, ◌≤◌, Bool, Some, nat_le, if◌then◌else◌}
+use Rattle.std.specs.Prelude.{◌≡◌, ◌⊎◌, ◌∷◌, ℕ, ◌+◌, ◌<◌, ◌≤◌, Bool, Some, nat_le, if◌then◌else◌}
 use Rattle.heap_model.specs.declared.command.Command.{Command}
 use Rattle.heap_model.specs.declared.command.Command.TheVariants.{Alloc, Raw as NewRaw}
 use Rattle.heap_model.specs.Domains.{reserve}
@@ -43,11 +43,17 @@ HasRoom k x fields = x.own.used + class_words (fields + 2) ≤ k.minor_words
 abbrev pub FoundFree : DomainView → ℕ → DomainView → Type 0
 FoundFree x free y = y ≡ found_free x free Rests
 
--- fewer pools were found free than promotion may need
-pub record IsShut (k : Config) (y : DomainView) : Type 0 where
+-- it was looked once how many pools are free, and fewer were found than promotion may need
+pub record IsShut (k : Config) (x y : DomainView) : Type 0 where
   pub free : ℕ
-  pub found : y.seen.free ≡ Some free
+  pub found : y.seen.free ≡ free ∷ x.seen.free
   pub few : free < reserve (sizes_in k)
+
+-- it was looked once, and as many were found
+pub record IsOpened (k : Config) (x y : DomainView) : Type 0 where
+  pub free : ℕ
+  pub found : y.seen.free ≡ free ∷ x.seen.free
+  pub enough : reserve (sizes_in k) ≤ free
 
 -- the area has no room, and nothing was looked at
 pub record IsFull (h : SharedHeap) (old new : Token) (fields used : ℕ) : Type 0 where

@@ -14,7 +14,7 @@ ghost use Rattle.heap_rule.specs.Running.{Runs, Did, own_entry};
 ghost use Rattle.heap_rule.specs.Token.{Holds, IsIn};
 ghost use Rattle.steps_cycle.specs.Arming.{knowing_armed};
 ghost use Rattle.steps_cycle.specs.Looks.{knowing_colours};
-ghost use Rattle.minor_area.specs.Area.{IsBlockTag, young_command, IsNewColour, Grows, HasRoom, FoundFree, Needs};
+ghost use Rattle.minor_area.specs.Area.{IsBlockTag, young_command, IsNewColour, Grows, HasRoom, IsOpened, FoundFree, Needs};
 
 use crate::Need;
 use heap_model::label::Label;
@@ -118,8 +118,8 @@ fn find_free(heap: &Heap, dom: &mut Domain) -> u32
 /// were made, and no finaliser waits in the domain's queue.
 ///
 /// `AreaFull` exactly where the words that are used and those of the block's size class are more
-/// than a minor area has. `Closed` exactly where the area has room and fewer pools are free, by loads
-/// of this call, than promotion may need. After both no entry stands, and nothing changes.
+/// than a minor area has. `Closed` exactly where the area has room and fewer pools are free, by the one
+/// look of this call, than promotion may need. After both no entry stands, and nothing changes.
 pub fn alloc_young(
     heap: &Heap,
     dom: &mut Domain,
@@ -137,7 +137,7 @@ pub fn alloc_young(
     ensures registers { OnOk result (dom.new.view.own.registers ≡ slice_set dom.old.view.own.registers dst (Ref (next_address heap.now.config dom.old.view))) }
     ensures holds { OnOk result (Holds heap.now.config dom.new.view.own.registers) }
     ensures room { OnOk result (HasRoom heap.now.config dom.old.view fields) }
-    ensures open { OnOk result (IsOpen heap.now.config dom.new.view) }
+    ensures open { OnOk result (IsOpened heap.now.config dom.old.view dom.new.view) }
     ensures needs { IfErr result (λ need. Needs heap.now dom.old dom.new fields need) }
     ensures runs { OnErr result (Runs heap.now dom.new) }
 {

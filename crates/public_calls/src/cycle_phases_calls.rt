@@ -1,6 +1,6 @@
 //! What domain 0 keeps of a collection from one phase to the next.
 use crate::fixtures::same;
-use cycle_phases::Progress;
+use heap_rule::Progress;
 
 #[test]
 fn no_collection_has_begun(rt: HostRuntime) {
@@ -8,6 +8,7 @@ fn no_collection_has_begun(rt: HostRuntime) {
         cut: false,
         whole: true,
         unswept: false,
+        armed: false,
     };
     same(&rt, Progress::start(), nothing);
 }

@@ -1,5 +1,5 @@
 -- Domain 0 may name the next kind once it has taken the wishes back, where the domains run next.
-use Rattle.std.proofs.Common.{◌≡◌, ℕ, ◌+◌, List, ◌++◌, Some, true, length, sym, refl, ap, ◌∙◌, subst, ◌-◌, ◌≤◌, arith, suc}
+use Rattle.std.proofs.Common.{◌≡◌, ℕ, ◌+◌, List, ◌++◌, Some, true, length, sym, refl, ap, ◌∙◌, subst, inl, inr, ◌-◌, ◌≤◌, arith, suc}
 use Rattle.std.proofs.lemmas.List.{append-nil}
 use Rattle.heap_rule.specs.declared.config.Config.{Config}
 use Rattle.heap_rule.specs.declared.view.DomainView.{DomainView}
@@ -10,10 +10,19 @@ use Rattle.heap_rule.specs.declared.phase.Note.TheVariants.{Cleared, SetBack}
 use Rattle.heap_rule.specs.declared.phase.Stage.TheVariants.{Leads}
 use Rattle.heap_rule.specs.Phases.{code, kind_at, Follows, last_note}
 use Rattle.heap_rule.proofs.Controls.{last_note_end}
-use Rattle.steps_pauses.specs.Pauses.{kind_in, LeadMay, MayFollow, LeadTold}
+use Rattle.steps_pauses.specs.Pauses.{kind_in, IsWish, LeadMay, MayFollow, LeadTold}
 use Rattle.steps_pools.specs.Listings.{HasList, free_pools}
 use Rattle.steps_pools.proofs.FreePools.{free_all}
-use Rattle.safepoint.specs.Looks.{cleared, LedTo}
+use Rattle.safepoint.specs.declared.answer.Want as wish
+use Rattle.safepoint.specs.declared.answer.Want.TheVariants.{Minor, Cycle, Finish, Full}
+use Rattle.safepoint.specs.Looks.{bit_of, cleared, LedTo}
+
+-- each wish has a bit of its own
+pub bit_wish : (want : wish.Want) → IsWish (bit_of want)
+bit_wish Minor = inl refl
+bit_wish Cycle = inr (inl refl)
+bit_wish Finish = inr (inr (inl refl))
+bit_wish Full = inr (inr (inr refl))
 
 -- the kind of a kind's word
 pub kind_of_code : (kind : Kind) → kind_at (code kind) ≡ kind
@@ -72,6 +81,6 @@ led_to k x y z word next is view told =
     let t = subst (λ (u : DomainView × Kind). LeadTold k u.1 u.0 word z) (λ i. (view i, kind i)) told in record {
       seen = t.seen;
       stays = t.stays;
-      made = λ e stands. let m = t.made e stands in record { before = m.before; front = m.front; seen = m.seen; legal = m.legal };
+      made = λ e stands. let m = t.made e stands in record { before = m.before; front = m.front; seen = m.seen; led = m.led; legal = m.legal };
       view = t.view;
     }

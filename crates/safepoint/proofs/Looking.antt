@@ -25,6 +25,7 @@ passed k x y b told not_below = let g = begun k x y b told not_below in record {
   found = b;
   all = subst (λ (n : ℕ). n * k.domains ≤ b) (same_arrivals k x y b told) not_below;
   seen = g.seen;
+  led = g.led;
   legal = g.legal;
   view = g.view;
 }

@@ -1,7 +1,7 @@
 -- What a look answers, and what domain 0 does when it leads.
 use Rattle.std.specs.Prelude.{◌≡◌, ◌*◌, ◌/◌, ◌%◌, ◌==◌, ◌<◌, ◌≤◌, ℕ, Bool, List, [], ◌∷◌, ◌++◌, Some, None}
 use Rattle.heap_model.specs.History.{Legal}
-use Rattle.heap_model.specs.Fronts.{IsFrontOf}
+use Rattle.heap_model.specs.Fronts.{AreNotControls, IsFrontOf, unseen}
 use Rattle.heap_rule.specs.declared.config.Config.{Config}
 use Rattle.heap_rule.specs.declared.view.DomainView.{DomainView}
 use Rattle.heap_rule.specs.declared.phase.Kind.{Kind}
@@ -12,7 +12,8 @@ use Rattle.heap_rule.specs.declared.phase.Note.TheVariants.{Barrier, Cleared}
 use Rattle.heap_rule.specs.Limits.{sizes_in}
 use Rattle.heap_rule.specs.Phases.{Comes, IsEven, IsOdd}
 use Rattle.heap_rule.specs.Rule.{state_of}
-use Rattle.steps_pauses.specs.Pauses.{noted, kind_in, IsModeOf, entry_of, cut_in, unswept_after, whole_after, EndsWith}
+use Rattle.heap_rule.specs.Standing.{noted}
+use Rattle.steps_pauses.specs.Pauses.{kind_in, IsModeOf, entry_of, progress_after, EndsWith}
 use Rattle.safepoint.specs.declared.answer.Look.{Look}
 use Rattle.safepoint.specs.declared.answer.Look.TheVariants.{Next, Lead, NotAll}
 use Rattle.safepoint.specs.declared.answer.Want as wish
@@ -36,6 +37,7 @@ pub record Passed (k : Config) (x y : DomainView) : Type 0 where
   pub found : ℕ
   pub all : x.own.arrivals * k.domains ≤ found
   pub seen : IsFrontOf x.own.number y.seen.front x.seen.front
+  pub led : x.own.number ≡ 0 → AreNotControls (unseen y.seen.front x.seen.front)
   pub legal : Legal (sizes_in k) y.seen.front
   pub view : y ≡ record x { seen = record x.seen { front = y.seen.front; stage = y.seen.stage; notes = x.seen.notes ++ Barrier found ∷ [] } }
 
@@ -53,6 +55,6 @@ cleared _ = []
 -- domain 0 has named the next kind, and the collector's entry stands, if there is one. Of the phase it knows no more than whether the cut is made, whether the cycle is whole and whether a sweep is owed
 pub record LedTo (k : Config) (next : Kind) (x y : DomainView) : Type 0 where
   pub seen : IsFrontOf x.own.number y.seen.front x.seen.front
-  pub stays : entry_of x.seen.share.unswept (kind_in x.seen.stage) next ≡ None → y.seen.front ≡ x.seen.front
-  pub made : (e : Entry) → entry_of x.seen.share.unswept (kind_in x.seen.stage) next ≡ Some e → EndsWith k x y e
-  pub view : y ≡ record x { seen = record x.seen { front = y.seen.front; stage = Led next; share = record fresh_share { cut = cut_in (kind_in x.seen.stage) x.seen.share.cut; whole = whole_after (kind_in x.seen.stage) next x.seen.share.whole; unswept = unswept_after (kind_in x.seen.stage) next x.seen.share.unswept }; notes = x.seen.notes ++ cleared next } }
+  pub stays : entry_of x.seen.share.progress.unswept (kind_in x.seen.stage) next ≡ None → y.seen.front ≡ x.seen.front
+  pub made : (e : Entry) → entry_of x.seen.share.progress.unswept (kind_in x.seen.stage) next ≡ Some e → EndsWith k x y e
+  pub view : y ≡ record x { seen = record x.seen { front = y.seen.front; stage = Led next; share = record fresh_share { progress = progress_after (kind_in x.seen.stage) next x.seen.share.progress }; notes = x.seen.notes ++ cleared next } }

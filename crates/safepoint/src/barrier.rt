@@ -5,7 +5,8 @@ ghost use Rattle.heap_rule.specs.declared.phase.Kind.TheVariants.{Run, Promote};
 ghost use Rattle.heap_rule.specs.declared.phase.Stage.TheVariants.{In, Leads};
 ghost use Rattle.heap_rule.specs.declared.phase.Note.TheVariants as note;
 ghost use Rattle.heap_rule.specs.Phases.{code, kind_at, Follows, last_note};
-ghost use Rattle.steps_pauses.specs.Pauses.{IsGone, ArriveMay, ClearMay, MayFollow, kind_in, noted, arrived_view};
+ghost use Rattle.heap_rule.specs.Standing.{noted, ShowsRegisters};
+ghost use Rattle.steps_pauses.specs.Pauses.{IsGone, ArriveMay, ClearMay, MayFollow, kind_in, arrived_view};
 ghost use Rattle.heap_rule.specs.Token.{IsIn};
 ghost use Rattle.safepoint.specs.Looks.{bit_of, cleared, is_wanted, LedTo, LookAnswers};
 ghost use Rattle.steps_pools.specs.Listings.{HasList};
@@ -66,11 +67,13 @@ fn bit_of(want: Want) -> u64
     }
 }
 
-/// The wishes so far, by one load.
+/// The wishes so far, by one load. It tells too that what the domain's registers hold shows what they
+/// hold in the state after its front.
 pub fn wants(heap: &Heap, dom: &mut Domain) -> Wants
     requires here { IsIn dom.old heap.now }
     ensures here { IsIn dom.new heap.now }
     ensures view { dom.new.view ≡ noted dom.old.view (note.Want result.bits) }
+    ensures registers { ShowsRegisters heap.now.config dom.old.view }
 {
     Wants {
         bits: want_load(heap, dom),

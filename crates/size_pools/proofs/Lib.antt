@@ -2,4 +2,5 @@ pub mod Searching
 pub mod Seeking
 pub mod Writing
 pub mod ListWriting
+pub mod Counted
 pub mod Creating

@@ -17,6 +17,10 @@ so_far owners names = record { owners = owners; names = names; rewound = false; 
 on_list : (x y : DomainView) (l : Listing) (f : Listing → Listing) → x.seen.listing ≡ Some l → y ≡ relisted x f → y.seen.listing ≡ Some (f l)
 on_list x y l f listing told = ap (λ (z : DomainView). z.seen.listing) told ∙ ap (further f) listing
 
+-- where so many pools are listed, which the domain notes
+on_listed : (x y : DomainView) (l : Listing) (count : ℕ) → x.seen.listing ≡ Some l → ListedAsTold x count y → y.seen.listing ≡ Some (listed_as count l)
+on_listed x y l count listing told = ap (λ (z : DomainView). z.seen.listing) told ∙ ap (further (listed_as count)) listing
+
 same_list : (x y : DomainView) (f : Listing → Listing) → y ≡ relisted x f → Relisted x y
 same_list x y f told = told ∙ ap (with_listing x) (sym (ap (λ (z : DomainView). z.seen.listing) told))
 
@@ -114,12 +118,12 @@ module _ (k : Config) (x : DomainView) (count : ℕ) (h : HasListed x k.pools co
     closed_list z said = record {
       owners = h.owners;
       all = h.all;
-      listing = on_list y z back (listed_as count) back_list said ∙ ap (λ (n : ℕ). Some (listed_as n back)) (sym h.count_is);
+      listing = on_listed y z back count back_list said ∙ ap (λ (n : ℕ). Some (listed_as n back)) (sym h.count_is);
     }
 
     -- so many are listed
     pub closed_count : (z : DomainView) → ListedAsTold y count z → IsListedCount k z count
-    closed_count z said list = ap listed_in (sym (on_list y z back (listed_as count) back_list said) ∙ list.listing)
+    closed_count z said list = ap listed_in (sym (on_listed y z back count back_list said) ∙ list.listing)
 
 -- how many pools are listed is known
 pub counted_ready : (k : Config) (x y : DomainView) (count : ℕ) → IsOpener x → CountedTold k x count y → HasCounted y count

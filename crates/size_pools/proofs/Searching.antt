@@ -1,6 +1,6 @@
 -- Steps of a search one behind the other.
 use Rattle.heap_model.specs.Domains.{class_count, reserve}
-use Rattle.std.proofs.Common.{◌≡◌, ◌≢◌, ◌∙◌, ℕ, ◌+◌, ◌-◌, ◌<◌, ◌≤◌, List, length, set, [], Some, None, Option, refl, ap, sym, subst, arith, lt_of_not-le, get_or-set_same}
+use Rattle.std.proofs.Common.{◌≡◌, ◌≢◌, ◌∙◌, ℕ, ◌+◌, ◌-◌, ◌<◌, ◌≤◌, List, length, set, [], ◌∷◌, Some, None, Option, refl, ap, sym, subst, arith, lt_of_not-le, get_or-set_same}
 use mathlib.Core.Logic.{dite}
 use native.Mathlib.Decide.{dec_le}
 use Rattle.heap_rule.specs.declared.view.DomainView.{DomainView}
@@ -17,7 +17,7 @@ use Rattle.size_pools.specs.Taken.{Hunted, HasDrawn, DrewPool, Unreserved, Took,
 pub hunted_twice : (x y z : DomainView) (g h : Hunt) → Hunted x y g → Hunted y z h → Hunted x z h
 hunted_twice x y z g h a b = b ∙ ap (λ (v : DomainView). hunting_free v z.own.looked h z.seen.free) a
 
-pub hunted_free : (x y : DomainView) (looked : List Spot) (h : Hunt) (free : Option ℕ) → y ≡ hunting_free x looked h free → Hunted x y h
+pub hunted_free : (x y : DomainView) (looked : List Spot) (h : Hunt) (free : List ℕ) → y ≡ hunting_free x looked h free → Hunted x y h
 hunted_free x y looked h free e = e ∙ (λ i. hunting_free x (ap (λ (z : DomainView). z.own.looked) (sym e) i) h (ap (λ (z : DomainView). z.seen.free) (sym e) i))
 
 pub hunted_of : (x y : DomainView) (looked : List Spot) (h : Hunt) → y ≡ hunting x looked h → Hunted x y h
@@ -72,7 +72,7 @@ pub drew_pool : (k : Config) (x v1 v2 y : DomainView) (count found place class :
 drew_pool k x v1 v2 y count found place class listed told below d =
     let e2 = told.below below in
     let h1 : Hunted x v1 (Counts count) = hunted_of x v1 x.own.looked (Counts count) listed.view in
-    let h2 : Hunted x v2 (Asks count) = hunted_twice x v1 v2 (Counts count) (Asks count) h1 (hunted_free v1 v2 v1.own.looked (Asks count) (Some (count - found)) e2) in record {
+    let h2 : Hunted x v2 (Asks count) = hunted_twice x v1 v2 (Counts count) (Asks count) h1 (hunted_free v1 v2 v1.own.looked (Asks count) ((count - found) ∷ v1.seen.free) e2) in record {
       pool = d.pool;
       listed_is = d.listed_is;
       inside = d.inside;
@@ -80,7 +80,7 @@ drew_pool k x v1 v2 y count found place class listed told below d =
       looked = ap (λ (z : DomainView). z.own.looked) d.view ∙ (ap (λ (z : DomainView). z.own.looked) e2 ∙ ap (λ (z : DomainView). z.own.looked) listed.view);
       unreserved = record {
         free = count - found;
-        found = ap (λ (z : DomainView). z.seen.free) d.view ∙ ap (λ (z : DomainView). z.seen.free) e2;
+        found = ([], ap (λ (z : DomainView). z.seen.free) d.view ∙ (ap (λ (z : DomainView). z.seen.free) e2 ∙ ap (λ (z : DomainView). (count - found) ∷ z.seen.free) listed.view));
         more = let r : ℕ = reserve (sizes_in k) in let b : found < count - r = below in let m : r < count - found = omega arith in m;
       };
     }
@@ -102,8 +102,8 @@ pub took_later : (k : Config) (class a : ℕ) (x v y : DomainView) (h : Hunt) �
 took_later k class a x v y h view t = record { pool = t.pool; slot = t.slot; inside = t.inside; below = t.below; address = t.address; next = t.next; view = hunted_twice x v y h (Fills t.pool class t.slot _) view t.view }
 
 -- more pools were found free than the reserve
-pub still_unreserved : (k : Config) (x y : DomainView) → y.seen.free ≡ x.seen.free → Unreserved k x → Unreserved k y
-still_unreserved k x y same u = record { free = u.free; found = same ∙ u.found; more = u.more }
+pub still_unreserved : (k : Config) (x v y : DomainView) → y.seen.free ≡ v.seen.free → Unreserved k x v → Unreserved k x y
+still_unreserved k x v y same u = record { free = u.free; found = (u.found.0, same ∙ u.found.1); more = u.more }
 
 -- a pool drawn, cleared and signed
 module _ (k : Config) (x v2 : DomainView) (place class found : ℕ) (d : HasDrawn k place class x) (list : ListTold x found v2) where

@@ -114,7 +114,7 @@ major_may h old x a new dst place tag n runs r is same few small some fits seria
 -- the store of the head of a new block makes the command
 pub made_did : (h : SharedHeap) (old new : Token) (mid : DomainView) (e : Entry) (c : CommandType) (l : Label) (hunt : Hunt) (registers : List Value) (serial : ℕ) (ephemerons : Bounded ℕ) → e ≡ own_entry old c → IsBusy h old → IsIn new h
     → mid ≡ with_hunt old.view hunt
-    → new.view ≡ record { own = record mid.own { registers = registers; serial = serial; ephemerons = ephemerons }; seen = record mid.seen { front = new.view.seen.front; hunt = Rests } }
+    → new.view ≡ record { own = record mid.own { registers = registers; serial = serial; ephemerons = ephemerons }; seen = record mid.seen { front = new.view.seen.front; hunt = Rests; spare = None } }
     → Answers (sizes_in h.config) mid.own.number mid.seen.front new.view.seen.front e (Replied (Block (next_label mid))) → l ≡ next_label old.view → Did h old new c (Block l)
 made_did h old new mid e c l hunt registers serial ephemerons is runs here view rest answers label =
     let mine = subst (λ (x : DomainView). Answers (sizes_in h.config) x.own.number x.seen.front new.view.seen.front e (Replied (Block (next_label x)))) view answers in
@@ -126,9 +126,7 @@ made_did h old new mid e c l hunt registers serial ephemerons is runs here view 
       copying = ap (λ (x : DomainView). x.seen.copying) rest ∙ ap (λ (x : DomainView). x.seen.copying) view;
       queue = ap (λ (x : DomainView). x.own.finalisers.queue) rest ∙ ap (λ (x : DomainView). x.own.finalisers.queue) view;
       weak = ap (λ (x : DomainView). x.seen.share.weak) rest ∙ ap (λ (x : DomainView). x.seen.share.weak) view;
-      cut = ap (λ (x : DomainView). x.seen.share.cut) rest ∙ ap (λ (x : DomainView). x.seen.share.cut) view;
-      whole = ap (λ (x : DomainView). x.seen.share.whole) rest ∙ ap (λ (x : DomainView). x.seen.share.whole) view;
-      unswept = ap (λ (x : DomainView). x.seen.share.unswept) rest ∙ ap (λ (x : DomainView). x.seen.share.unswept) view;
+      progress = ap (λ (x : DomainView). x.seen.share.progress) rest ∙ ap (λ (x : DomainView). x.seen.share.progress) view;
       remembers = λ all. ap (λ (x : DomainView). x.seen.remembered) rest ∙ (ap (λ (x : DomainView). x.seen.remembered) view ∙ (all ∙ sym (ap (λ (x : DomainView). x.own.remembered.items) rest ∙ ap (λ (x : DomainView). x.own.remembered.items) view)));
     })
     (subst (λ (x : Entry). Answers (sizes_in h.config) old.view.own.number old.view.seen.front new.view.seen.front x (Replied (Block l))) is
@@ -165,9 +163,7 @@ searched_did h old mid new hunt c r runs here view did =
         copying = did.stays.copying ∙ ap (λ (x : DomainView). x.seen.copying) view;
         queue = did.stays.queue ∙ ap (λ (x : DomainView). x.own.finalisers.queue) view;
         weak = did.stays.weak ∙ ap (λ (x : DomainView). x.seen.share.weak) view;
-        cut = did.stays.cut ∙ ap (λ (x : DomainView). x.seen.share.cut) view;
-        whole = did.stays.whole ∙ ap (λ (x : DomainView). x.seen.share.whole) view;
-        unswept = did.stays.unswept ∙ ap (λ (x : DomainView). x.seen.share.unswept) view;
+        progress = did.stays.progress ∙ ap (λ (x : DomainView). x.seen.share.progress) view;
         remembers = λ all. did.stays.remembers (searched_remembers old.view mid.view hunt view all);
       };
     }
@@ -220,9 +216,9 @@ taken_puts k class a n dst old mid new least t registers = record {
 pub has_still : (k : Config) (class : ℕ) (x y z : DomainView) → HasPlace k class x y → z.seen.free ≡ y.seen.free → z.own.swept ≡ y.own.swept → HasPlace k class x z
 has_still k class x y z has same next = ⊎_elim
     (λ (o : FoundOwn k class x y). inl (record { left = o.left; unseen = same ∙ o.unseen }))
-    (λ (u : Unreserved k y ⊎ FoundSwept k x y). inr (⊎_elim
-    (λ (u : Unreserved k y). inl (record { free = u.free; found = same ∙ u.found; more = u.more }))
-    (λ (f : FoundSwept k x y). inr (record { left = f.left; done = subst (λ (s : Swept). k.pools ≤ s.spot.pool) (sym next) f.done; free = f.free; reserved = record { found = same ∙ f.reserved.found; few = f.reserved.few } }))
+    (λ (u : Unreserved k x y ⊎ FoundSwept k x y). inr (⊎_elim
+    (λ (u : Unreserved k x y). inl (record { free = u.free; found = (u.found.0, same ∙ u.found.1); more = u.more }))
+    (λ (f : FoundSwept k x y). inr (record { left = f.left; done = subst (λ (s : Swept). k.pools ≤ s.spot.pool) (sym next) f.done; free = f.free; reserved = record { found = (f.reserved.found.0, same ∙ f.reserved.found.1); few = f.reserved.few } }))
     u))
     has
 

@@ -1,6 +1,8 @@
 -- The list of free pools, while it is written anew.
 use Rattle.std.specs.Prelude.{◌≡◌, ℕ, false, List, length, Some}
+use Rattle.heap_rule.specs.declared.phase.Note.TheVariants.{Listed}
 use Rattle.heap_rule.specs.declared.view.DomainView.{DomainView}
+use Rattle.heap_rule.specs.Standing.{noted}
 use Rattle.steps_pools.specs.Listings.{with_listing, noted_set_back, free_pools, IsLeader}
 
 -- so many owner words were looked at, and the list, of which no pool is listed yet, names the pools among these that are nobody's: so many
@@ -14,6 +16,10 @@ pub record HasListed (x : DomainView) (pools count : ℕ) : Type 0 where
 -- the domain notes that it has set the cursor back, and holds and knows all else but how many pools are listed as before
 abbrev pub SetsBack : DomainView → DomainView → Type 0
 SetsBack x y = y ≡ noted_set_back (with_listing x y.seen.listing)
+
+-- the domain has written a list of so many free pools, notes that, and holds and knows all else as before
+abbrev pub ListsAnew : ℕ → DomainView → DomainView → Type 0
+ListsAnew count x y = y ≡ noted (with_listing x y.seen.listing) (Listed count)
 
 -- the domain holds and knows all else as before
 abbrev pub Relisted : DomainView → DomainView → Type 0

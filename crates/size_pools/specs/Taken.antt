@@ -1,5 +1,5 @@
 -- What a domain knows of the pools after a search for a free place.
-use Rattle.std.specs.Prelude.{◌≡◌, ℕ, ◌+◌, ◌<◌, ◌≤◌, ◌⊎◌, slice_set, replicate, [], ◌∷◌, List, ◌++◌, Some}
+use Rattle.std.specs.Prelude.{◌≡◌, ℕ, ◌+◌, ◌<◌, ◌≤◌, ◌⊎◌, slice_set, replicate, [], ◌∷◌, List, ◌++◌, Some, ◌≢◌}
 use Rattle.heap_model.specs.Domains.{class_count, reserve}
 use Rattle.heap_words.specs.declared.value.Value.TheVariants.{Ref}
 use Rattle.heap_words.specs.Labels.{label_word}
@@ -10,6 +10,7 @@ use Rattle.heap_rule.specs.declared.config.Config.{Config}
 use Rattle.heap_rule.specs.declared.view.DomainView.{DomainView}
 use Rattle.heap_rule.specs.declared.view.Hunt.{Hunt}
 use Rattle.heap_rule.specs.declared.view.Hunt.TheVariants.{Rests, Draws, Fills}
+use Rattle.heap_rule.specs.declared.view.Spare.{Spare}
 use Rattle.heap_rule.specs.declared.view.Spot.{Spot}
 use Rattle.heap_rule.specs.Pools.{size_of, blocks_of, place_in, spot_at, hunting_free}
 use Rattle.heap_rule.specs.Token.{Token, SharedHeap, IsIn}
@@ -24,15 +25,23 @@ use Rattle.sweeper.specs.Walks.{IsWalk}
 abbrev pub Hunted : DomainView → DomainView → Hunt → Type 0
 Hunted x y hunt = y ≡ hunting_free x y.own.looked hunt y.seen.free
 
+-- it was looked how many pools are free, and the last time so many were found
+abbrev pub Counted : ℕ → DomainView → DomainView → Type 0
+Counted free x y = (earlier : List ℕ) × (y.seen.free ≡ free ∷ earlier ++ x.seen.free)
+
+-- no place of an own pool of the class is known to be free
+abbrev pub KnowsNone : ℕ → DomainView → Type 0
+KnowsNone class x = (z : Spare) → x.seen.spare ≡ Some z → z.class ≢ class
+
 -- so many pools were found free, which are no more than the reserve
-pub record Reserved (k : Config) (free : ℕ) (y : DomainView) : Type 0 where
-  pub found : y.seen.free ≡ Some free
+pub record Reserved (k : Config) (free : ℕ) (x y : DomainView) : Type 0 where
+  pub found : Counted free x y
   pub few : free ≤ reserve (sizes_in k)
 
 -- more pools were found free than the reserve
-pub record Unreserved (k : Config) (y : DomainView) : Type 0 where
+pub record Unreserved (k : Config) (x y : DomainView) : Type 0 where
   pub free : ℕ
-  pub found : y.seen.free ≡ Some free
+  pub found : Counted free x y
   pub more : reserve (sizes_in k) < free
 
 -- the own pools of the class hadn't all been looked through, and it was not looked at how many pools are free
@@ -45,11 +54,11 @@ pub record FoundSwept (k : Config) (x y : DomainView) : Type 0 where
   pub left : x.own.swept.spot.pool < k.pools
   pub done : k.pools ≤ y.own.swept.spot.pool
   pub free : ℕ
-  pub reserved : Reserved k free y
+  pub reserved : Reserved k free x y
 
 -- where a free place may come from: a place of an own pool was found, more pools were found free than the reserve, or a place was found after a sweep
 abbrev pub HasPlace : Config → ℕ → DomainView → DomainView → Type 0
-HasPlace k class x y = FoundOwn k class x y ⊎ Unreserved k y ⊎ FoundSwept k x y
+HasPlace k class x y = FoundOwn k class x y ⊎ Unreserved k x y ⊎ FoundSwept k x y
 
 -- all but what the domain knows of pools and what a sweep changes is as before
 abbrev pub Searched : DomainView → DomainView → Hunt → Type 0
@@ -58,7 +67,7 @@ Searched x y hunt = y ≡ hunting_free (with_sweep x y) y.own.looked hunt y.seen
 -- It was looked at how many pools are free. Own pools were left to be swept, and all of these were swept, each place once, before the search ended. What is listed was listed before, and there is room for as many more as are no longer
 pub record SweptFirst (k : Config) (x y : DomainView) (hunt : Hunt) : Type 0 where
   pub left : x.own.swept.spot.pool < k.pools
-  pub counted : (free : ℕ) × (y.seen.free ≡ Some free)
+  pub counted : (free : ℕ) × Counted free x y
   pub view : Searched x y hunt
   pub shortens : Shortens x y
   pub places : List Spot
@@ -92,7 +101,7 @@ pub record DrewPool (k : Config) (place class : ℕ) (x y : DomainView) : Type 0
   pub inside : pool < k.pools
   pub view : Hunted x y (Draws place pool class 0)
   pub looked : y.own.looked ≡ x.own.looked
-  pub unreserved : Unreserved k y
+  pub unreserved : Unreserved k x y
 
 -- the pool at a place of the list is drawn for the class
 pub record HasDrawn (k : Config) (place class : ℕ) (x : DomainView) : Type 0 where

@@ -11,7 +11,7 @@ ghost use Rattle.heap_rule.specs.Token.{Holds, IsIn};
 ghost use Rattle.size_classes.specs.Table.{IsLeastFor};
 ghost use Rattle.size_classes.specs.declared.TheConstants.{SIZES};
 ghost use Rattle.size_pools.specs.NewMarks.{AreNewMarks};
-ghost use Rattle.size_pools.specs.Taken.{Reserved, HasPlace, Sought, IsBusy, IsRoom, Grows, GrowsBy, PutsPlace};
+ghost use Rattle.size_pools.specs.Taken.{KnowsNone, Reserved, HasPlace, Sought, IsBusy, IsRoom, Grows, GrowsBy, PutsPlace};
 
 use crate::new_marks::{NewMarks, new_marks};
 use crate::no_pool::NoPool;
@@ -95,7 +95,7 @@ fn write_block(heap: &Heap, dom: &mut Domain, at: u32, dst: u8, tag: u8, fields:
 /// 4,294,967,295 labels were made, and no finaliser waits in the domain's queue.
 ///
 /// `NoPool` exactly where no own pool of the block's class has a free block, no own pool is left to be
-/// swept, and the number of pools that were free at that step is at most the reserve of promotion. Then
+/// swept, and the number of pools that were free at the last look of this call is at most the reserve of promotion. Then
 /// no entry stands, and nothing changes but the places that were looked at and what a sweep of own pools
 /// changes.
 pub fn alloc_major(
@@ -114,8 +114,9 @@ pub fn alloc_major(
     ensures grows { OnOk result (GrowsBy dom.old dom.new) }
     ensures registers { OnOk result (PutsPlace heap.now.config dst (fields + 2) dom.old dom.new) }
     ensures has_place { OnOk result ((class : ℕ) → IsLeastFor SIZES (fields + 2) class → HasPlace heap.now.config class dom.old.view dom.new.view) }
-    ensures reserved { IfErr result (λ n. Reserved heap.now.config n.free dom.new.view) }
+    ensures reserved { IfErr result (λ n. Reserved heap.now.config n.free dom.old.view dom.new.view) }
     ensures none_free { OnErr result ((class : ℕ) → IsLeastFor SIZES (fields + 2) class → NoneFree heap.now.config dom.new.view class) }
+    ensures known { OnErr result ((class : ℕ) → IsLeastFor SIZES (fields + 2) class → KnowsNone class dom.old.view) }
     ensures swept { OnErr result (heap.now.config.pools ≤ dom.new.view.own.swept.spot.pool) }
     ensures same { OnErr result (Sought heap.now.config dom.old.view dom.new.view Rests) }
     ensures here { IsIn dom.new heap.now }

@@ -8,7 +8,7 @@ ghost use Rattle.heap_rule.specs.Limits.{sizes_in};
 ghost use Rattle.heap_rule.specs.Pools.{Takes, blocks_of, limit_of};
 ghost use Rattle.steps_pools.specs.Takes.{HasNoDraw, NoneFree, CopyDrawMay, with_hunt, looked_to};
 ghost use Rattle.heap_rule.specs.Token.{IsIn};
-ghost use Rattle.size_pools.specs.Taken.{Hunted, HasDrawn, DrewPool, Reserved, Unreserved, Took};
+ghost use Rattle.size_pools.specs.Taken.{Hunted, HasDrawn, DrewPool, KnowsNone, Reserved, Unreserved, Took};
 
 use crate::no_pool::NoPool;
 use heap_rule::{Domain, Heap};
@@ -29,7 +29,8 @@ fn draw_pool(heap: &Heap, dom: &mut Domain, class: u32) -> Result<u32, NoPool>
     requires runs { dom.old.view.seen.stage ≡ In Run }
     ensures here { IsIn dom.new heap.now }
     ensures drew { IfOk result (λ place. DrewPool heap.now.config place class dom.old.view dom.new.view) }
-    ensures none { IfErr result (λ n. Reserved heap.now.config n.free dom.new.view) }
+    ensures none { IfErr result (λ n. Reserved heap.now.config n.free dom.old.view dom.new.view) }
+    ensures known { KnowsNone class dom.old.view }
     ensures same { OnErr result (Hunted dom.old.view dom.new.view Rests) }
     ensures looked { OnErr result (dom.new.view.own.looked ≡ dom.old.view.own.looked) }
 {
@@ -39,7 +40,7 @@ fn draw_pool(heap: &Heap, dom: &mut Domain, class: u32) -> Result<u32, NoPool>
     let none = NoPool {
         free: count - limit,
     };
-    if cursor_load(heap, dom, count) >= u64::from(limit) {
+    if cursor_load(heap, dom, count, class) >= u64::from(limit) {
         return Err(none);
     }
     let place = cursor_add(heap, dom, count, class);
@@ -103,8 +104,9 @@ pub(crate) fn draw(heap: &Heap, dom: &mut Domain, class: u32) -> Result<u32, NoP
     requires runs { dom.old.view.seen.stage ≡ In Run }
     ensures here { IsIn dom.new heap.now }
     ensures took { IfOk result (λ a. Took heap.now.config class a dom.old.view dom.new.view) }
-    ensures unreserved { OnOk result (Unreserved heap.now.config dom.new.view) }
-    ensures none { IfErr result (λ n. Reserved heap.now.config n.free dom.new.view) }
+    ensures unreserved { OnOk result (Unreserved heap.now.config dom.old.view dom.new.view) }
+    ensures none { IfErr result (λ n. Reserved heap.now.config n.free dom.old.view dom.new.view) }
+    ensures known { KnowsNone class dom.old.view }
     ensures same { OnErr result (Hunted dom.old.view dom.new.view Rests) }
     ensures looked { OnErr result (dom.new.view.own.looked ≡ dom.old.view.own.looked) }
 {

@@ -12,7 +12,7 @@ ghost use Rattle.size_classes.specs.Table.{IsLeastFor};
 ghost use Rattle.size_classes.specs.declared.TheConstants.{SIZES};
 ghost use Rattle.size_pools.specs.Created.{Lists, ListsHeld};
 ghost use Rattle.size_pools.specs.NewMarks.{AreNewMarks};
-ghost use Rattle.size_pools.specs.Taken.{Reserved, HasPlace, Sought, IsBusy, IsRoom, PutsPlace};
+ghost use Rattle.size_pools.specs.Taken.{KnowsNone, Reserved, HasPlace, Sought, IsBusy, IsRoom, PutsPlace};
 
 use crate::new_marks::{NewMarks, new_marks};
 use crate::no_pool::NoPool;
@@ -109,8 +109,9 @@ pub fn create(heap: &Heap, dom: &mut Domain, dst: u8, keys: u16) -> Result<Label
     ensures lists { OnOk result (ListsHeld dst dom.old dom.new) }
     ensures registers { OnOk result (PutsPlace heap.now.config dst (keys + 3) dom.old dom.new) }
     ensures has_place { OnOk result ((class : ℕ) → IsLeastFor SIZES (keys + 3) class → HasPlace heap.now.config class dom.old.view dom.new.view) }
-    ensures reserved { IfErr result (λ n. Reserved heap.now.config n.free dom.new.view) }
+    ensures reserved { IfErr result (λ n. Reserved heap.now.config n.free dom.old.view dom.new.view) }
     ensures none_free { OnErr result ((class : ℕ) → IsLeastFor SIZES (keys + 3) class → NoneFree heap.now.config dom.new.view class) }
+    ensures known { OnErr result ((class : ℕ) → IsLeastFor SIZES (keys + 3) class → KnowsNone class dom.old.view) }
     ensures swept { OnErr result (heap.now.config.pools ≤ dom.new.view.own.swept.spot.pool) }
     ensures same { OnErr result (Sought heap.now.config dom.old.view dom.new.view Rests) }
     ensures here { IsIn dom.new heap.now }

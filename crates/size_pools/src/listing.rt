@@ -4,7 +4,7 @@ ghost use Rattle.heap_rule.specs.declared.phase.Note.TheVariants.{SetBack};
 ghost use Rattle.heap_rule.specs.Phases.{last_note};
 ghost use Rattle.heap_rule.specs.Token.{IsIn};
 ghost use Rattle.steps_pools.specs.Listings.{IsLeader, IsOpener, HasList, IsListedCount};
-ghost use Rattle.size_pools.specs.Listed.{HasListed, Relisted, SetsBack};
+ghost use Rattle.size_pools.specs.Listed.{HasListed, ListsAnew, Relisted, SetsBack};
 
 use heap_rule::{Domain, Heap};
 use steps_pools::{
@@ -54,7 +54,7 @@ fn list_pools(heap: &Heap, dom: &mut Domain) -> u32
 /// Domain 0 writes the list of free pools anew, in an odd phase in which nothing lives in minor areas
 /// and it hasn't named the next kind: the list then names exactly the pools that are nobody's, rising,
 /// and the cursor is 0. All other words, and all that the domain owns, stay as they are. Answers how
-/// many pools are listed.
+/// many pools are listed, and notes it.
 ///
 /// While it writes, no pool is listed: the number of listed pools is 0 first, and set last.
 pub fn write_list(heap: &Heap, dom: &mut Domain) -> u32
@@ -63,7 +63,7 @@ pub fn write_list(heap: &Heap, dom: &mut Domain) -> u32
     ensures here { IsIn dom.new heap.now }
     ensures list { HasList heap.now.config dom.new.view }
     ensures count { IsListedCount heap.now.config dom.new.view result }
-    ensures same { Relisted dom.old.view dom.new.view }
+    ensures lists { ListsAnew result dom.old.view dom.new.view }
 {
     listed_clear(heap, dom);
     let count = list_pools(heap, dom);

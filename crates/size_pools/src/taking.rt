@@ -7,7 +7,7 @@ ghost use Rattle.heap_rule.specs.declared.phase.Stage.TheVariants.{In};
 ghost use Rattle.heap_rule.specs.declared.view.Hunt.TheVariants.{Rests};
 ghost use Rattle.steps_pools.specs.Takes.{HasNoDraw, HasYoung, NoneFree};
 ghost use Rattle.heap_rule.specs.Token.{IsIn};
-ghost use Rattle.size_pools.specs.Taken.{FoundOwn, HasPlace, Hunted, Reserved, Sought, Taken, Took, Unreserved};
+ghost use Rattle.size_pools.specs.Taken.{FoundOwn, HasPlace, Hunted, KnowsNone, Reserved, Sought, Taken, Took, Unreserved};
 
 use crate::draw::{draw, draw_for_copy};
 use crate::no_pool::NoPool;
@@ -24,9 +24,10 @@ fn find_or_draw(heap: &Heap, dom: &mut Domain, class: u32) -> Result<u32, NoPool
     requires runs { dom.old.view.seen.stage ≡ In Run }
     ensures here { IsIn dom.new heap.now }
     ensures took { IfOk result (λ a. Took heap.now.config class a dom.old.view dom.new.view) }
-    ensures has_place { OnOk result (FoundOwn heap.now.config class dom.old.view dom.new.view ⊎ Unreserved heap.now.config dom.new.view) }
-    ensures reserved { IfErr result (λ n. Reserved heap.now.config n.free dom.new.view) }
+    ensures has_place { OnOk result (FoundOwn heap.now.config class dom.old.view dom.new.view ⊎ Unreserved heap.now.config dom.old.view dom.new.view) }
+    ensures reserved { IfErr result (λ n. Reserved heap.now.config n.free dom.old.view dom.new.view) }
     ensures none_free { OnErr result (NoneFree heap.now.config dom.new.view class) }
+    ensures known { OnErr result (KnowsNone class dom.old.view) }
     ensures same { OnErr result (Hunted dom.old.view dom.new.view Rests) }
 {
     if let Some(at) = find_free(heap, dom, class) {
@@ -41,7 +42,10 @@ fn find_or_draw(heap: &Heap, dom: &mut Domain, class: u32) -> Result<u32, NoPool
 /// besides stays as it was, but for what a sweep changes.
 ///
 /// `NoPool` exactly where no own pool of the class has a free block, no own pool is left to be swept,
-/// and the number of pools that were free at that step is at most the reserve of promotion.
+/// and the number of pools that were free at the last look of this call is at most the reserve of
+/// promotion. So it doesn't come where a place of the class is known to be free, as one is to domain 0
+/// when the heap starts. It is looked how many pools are free only where no own pool of the class has a
+/// free block.
 pub fn take(heap: &Heap, dom: &mut Domain, class: u32) -> Result<u32, NoPool>
     requires here { IsIn dom.old heap.now }
     requires class { class < class_count }
@@ -50,8 +54,9 @@ pub fn take(heap: &Heap, dom: &mut Domain, class: u32) -> Result<u32, NoPool>
     ensures here { IsIn dom.new heap.now }
     ensures took { IfOk result (λ a. Taken heap.now.config class a dom.old.view dom.new.view) }
     ensures has_place { OnOk result (HasPlace heap.now.config class dom.old.view dom.new.view) }
-    ensures reserved { IfErr result (λ n. Reserved heap.now.config n.free dom.new.view) }
+    ensures reserved { IfErr result (λ n. Reserved heap.now.config n.free dom.old.view dom.new.view) }
     ensures none_free { OnErr result (NoneFree heap.now.config dom.new.view class) }
+    ensures known { OnErr result (KnowsNone class dom.old.view) }
     ensures swept { OnErr result (heap.now.config.pools ≤ dom.new.view.own.swept.spot.pool) }
     ensures same { OnErr result (Sought heap.now.config dom.old.view dom.new.view Rests) }
 {

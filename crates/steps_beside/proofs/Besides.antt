@@ -23,7 +23,7 @@ use Rattle.heap_rule.proofs.Advancing.{underway_here}
 use Rattle.heap_rule.proofs.BesideLemmas.{Endures, runs_on}
 use Rattle.heap_rule.proofs.EphemeronLemmas.{looks_idle}
 use Rattle.heap_rule.proofs.FinaliserLemmas.{deciding_none}
-use Rattle.heap_rule.proofs.Keeps.{Words, between_here, controls_kept, Control, cycle_control, hunter_as, idle_here, knows_front, mine, my_good, no_cycle_here, opened_words, owes_as, remakes, resting_as, resting_lists, room_words, whole_here}
+use Rattle.heap_rule.proofs.Keeps.{Words, between_here, controls_kept, Control, cycle_control, hunter_as, idle_here, knows_front, my_good, no_cycle_here, opened_words, owes_as, remakes, resting_as, resting_lists, room_words, whole_here}
 use Rattle.heap_rule.proofs.Sharings.{SameCycle, adds_nothing, between_facts, idle_beside, leading_words}
 use Rattle.steps_cycle.specs.Looks.{with_share}
 use Rattle.steps_cycle.proofs.Unswept.{swept_armed}
@@ -126,6 +126,7 @@ module _ (k : Config) (s : Words) (r : Rule k s) (id : ℕ) (hist : List Entry) 
       whole = u.whole;
       armed = u.armed;
       unswept = u.unswept;
+      under_way = u.under_way;
     }
 
     own_sharing : Sharing k all' words' y.own.number y.own.registers y.own.finalisers y.own.ephemerons.items y.seen.stage y.seen.share
@@ -135,7 +136,7 @@ module _ (k : Config) (s : Words) (r : Rule k s) (id : ℕ) (hist : List Entry) 
         let l = leading_on x sh g.leading in
         let idle : IsIdle y.seen.share = ap (λ (z : Share). aware z known' weak') (idle_here k s r id hist x at Run tt runs) in record {
           telling = record { owes = t.owes; seen = t.seen; fresh = λ _. idle; forgotten = t.forgotten; colours = t.colours };
-          leading = record { changed = l.changed; found_blocks = l.found_blocks; found_words = l.found_words; rotated = l.rotated; turned = l.turned; pass = l.pass; whole = l.whole; armed = l.armed; unswept = l.unswept };
+          leading = record { changed = l.changed; found_blocks = l.found_blocks; found_words = l.found_words; rotated = l.rotated; turned = l.turned; pass = l.pass; whole = l.whole; armed = l.armed; unswept = l.unswept; under_way = l.under_way };
           knows = inl idle;
           adds = adds_nothing live c' y.own.number y.seen.share none;
           looks = looks_idle live holder now.graph m' c.paint.emptied y.own.number y.own.ephemerons.items y.seen.stage y.seen.share idle unmissed;
@@ -186,15 +187,15 @@ module _ (k : Config) (s : Words) (r : Rule k s) (id : ℕ) (hist : List Entry) 
           drawable = controls.drawable;
           cycle = cycle';
         }
-        (knows_front k s r id hist x at y refl (mine k s r id hist x at).front)
+        (knows_front k s r id hist x at y refl (inl refl))
         record {
           stood = record { wide = g.stood.wide; each = g.stood.each; serial = g.stood.serial; enrolled = g.stood.enrolled };
           area = record { room = g.area.room; free = g.area.free; classes = g.area.classes };
           making = record { fits = own_making.fits; written = own_making.written };
           staged = record { arrivals = g.staged.arrivals; stage = g.staged.stage };
           still = g.still;
-          hunter = hunter_as k r.account.tenancy words' x y refl refl refl refl refl refl (o.hunters x g);
-          resting = resting_as k words' x y refl refl refl refl refl (resting_lists k s.words words' x controls.lists g.resting);
+          hunter = hunter_as k r.account.tenancy words' x y refl refl refl refl refl refl refl (o.hunters x g);
+          resting = resting_as k words' x y refl refl refl refl refl refl (resting_lists k s.words words' x controls.lists g.resting);
           took_back = λ kind leads last. controls.want ∙ g.took_back kind leads last;
           owes = owes_as k live x y refl refl refl refl g.owes;
           rooted = g.rooted;

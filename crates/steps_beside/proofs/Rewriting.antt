@@ -175,6 +175,7 @@ module _ (k : Config) (t : Tenancy) (live : Live) (words : List ℕ) (a new : �
     hunt = hunts_stay z.own.number z.seen.hunt h.hunt;
     drawn_alone = h.drawn_alone;
     free = λ f e. subst (λ (m : ℕ × ℕ). (m.0 ≤ f + m.1) × (m.0 ≤ f + limit_of k m.0) × (f ≤ m.0)) (λ i. (sym (control 6 (omega arith)) i, sym (control 7 (omega arith)) i)) (h.free f e);
+    spare = λ m e. let f = h.spare m e in record { own_is = f.own_is; inside = f.inside; free = free_stays (place_in m.pool m.class m.slot) f.free };
     taken = λ q c slot is inside before. some_stays (place_in q c slot) (h.taken q c slot is inside before);
     holds = h.holds;
     prepared = h.prepared;

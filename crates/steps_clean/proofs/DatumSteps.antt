@@ -183,7 +183,7 @@ module _ (k : Config) (s : Words) (r : Rule k s) (id : ℕ) (hist : List Entry) 
           cleans_on = λ v is. absurd (none-some v is);
           emptied_here = label_here c.paint.emptied l [];
           emptied_there = λ b other. emptied_none w b other ∙ sym (ap (λ (o : Option Cleaning). emptied_at o b) may.cleans);
-          knows = knows_entry k s r id hist x at y wipe (λ z _. refl) refl refl;
+          knows = knows_entry k s r id hist x at y wipe (λ z _. refl) (λ _. refl) refl refl;
         }
 
     datum_rule : Rule k record { words = words'; homes = s.homes; views = set s.views id (one k hist y) }
@@ -193,9 +193,10 @@ module _ (k : Config) (s : Words) (r : Rule k s) (id : ℕ) (hist : List Entry) 
     datum_told = record {
       cleaning = w;
       cleans = may.cleans;
-      label = l;
+      label = may.label;
+      labelled = may.labelled;
       before = r.account.log;
-      front = refl;
+      front = ap (λ (q : Label). r.account.log ++ Wipe q w.emptied ∷ []) (e.label may.label may.labelled);
       seen = (mine k s r id hist x at).front;
       legal = legal_entry k s r id hist x at wipe allowed.0;
       view = refl;

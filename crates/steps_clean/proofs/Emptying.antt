@@ -44,7 +44,7 @@ use Rattle.heap_rule.proofs.FinaliserLemmas.{KeepsWork}
 use Rattle.heap_rule.proofs.Keeps.{Words, control_set, controls_kept, hunter_as, more_same, my_good, opened_words, owes_as, remakes, resting_as, resting_lists, room_words, stood_other, sum_same}
 use Rattle.heap_rule.proofs.Lists.{got_set}
 use Rattle.heap_rule.proofs.Lots.{Beside, grid_beside, head_full, hunter_beside, live_beside}
-use Rattle.heap_rule.proofs.PauseFacts.{nobody_still, not_both}
+use Rattle.heap_rule.proofs.PauseFacts.{nobody_else_still, not_both}
 use Rattle.heap_rule.proofs.Values.{extent_large}
 use Rattle.heap_model.proofs.Commands.FrameLemmas.{label_cases}
 use Rattle.steps_cycle.specs.Looks.{with_share}
@@ -85,6 +85,9 @@ module _ (k : Config) (s : Words) (r : Rule k s) (id : ℕ) (hist : List Entry) 
 
   pub collecting : IsCollecting x.seen.stage
   collecting = subst IsCollecting (sym stage) (λ none. none)
+
+  not_run : In Clean ≡ In Run → ⊥
+  not_run is = cc
 
   pub kind_is : c.kind ≡ Clean
   kind_is = kind_here k s r id hist x at Clean stage
@@ -324,6 +327,7 @@ module _ (k : Config) (s : Words) (r : Rule k s) (id : ℕ) (hist : List Entry) 
           listed = h.listed;
           place = h.place;
           lives = h.lives;
+          label = h.label;
           marked = h.marked;
           keys = h.keys;
           datum = h.datum;
@@ -347,6 +351,7 @@ module _ (k : Config) (s : Words) (r : Rule k s) (id : ℕ) (hist : List Entry) 
             whole = l.whole;
             armed = l.armed;
             unswept = l.unswept;
+            under_way = l.under_way;
           }
 
       -- nobody runs
@@ -386,7 +391,7 @@ module _ (k : Config) (s : Words) (r : Rule k s) (id : ℕ) (hist : List Entry) 
       sharing' : Sharing k all' words' d x.own.registers x.own.finalisers items x.seen.stage share'
       sharing' = let g = good.sharing in let t = g.telling in let l = leading_on x sh good.staged g.leading in record {
         telling = record { owes = t.owes; seen = λ _. o.seen_is; fresh = λ gone. absurd (true≢false (sym gone ∙ up)); forgotten = λ gone. absurd (true≢false (sym gone ∙ up)); colours = t.colours };
-        leading = record { changed = l.changed; found_blocks = l.found_blocks; found_words = l.found_words; rotated = l.rotated; turned = l.turned; pass = l.pass; whole = l.whole; armed = l.armed; unswept = l.unswept };
+        leading = record { changed = l.changed; found_blocks = l.found_blocks; found_words = l.found_words; rotated = l.rotated; turned = l.turned; pass = l.pass; whole = l.whole; armed = l.armed; unswept = l.unswept; under_way = l.under_way };
         knows = inr (collecting, own_knowing);
         adds = record { blocks = g.adds.blocks; words = g.adds.words; own = g.adds.own };
         looks = record {
@@ -485,9 +490,9 @@ module _ (k : Config) (s : Words) (r : Rule k s) (id : ℕ) (hist : List Entry) 
             area = record { room = g.area.room; free = g.area.free; classes = g.area.classes };
             making = record { fits = own_making.fits; written = own_making.written };
             staged = record { arrivals = g.staged.arrivals; stage = g.staged.stage };
-            still = λ paused. absurd (subst IsInPause stage paused);
-            hunter = hunter_as k T words' x y refl refl refl refl refl refl own_hunter;
-            resting = resting_as k words' x y refl refl refl refl refl (resting_lists k s.words words' x controls.lists g.resting);
+            still = (λ paused. absurd (subst IsInPause stage paused), λ runs. absurd (not_run (sym stage ∙ runs)));
+            hunter = hunter_as k T words' x y refl refl refl refl refl refl refl own_hunter;
+            resting = resting_as k words' x y refl refl refl refl refl refl (resting_lists k s.words words' x controls.lists g.resting);
             took_back = λ kind leads last. controls.want ∙ g.took_back kind leads last;
             owes = owes_as k live x y refl refl refl refl g.owes;
             rooted = g.rooted;
@@ -501,7 +506,7 @@ module _ (k : Config) (s : Words) (r : Rule k s) (id : ℕ) (hist : List Entry) 
             area = h.area;
             making = makes z h.area h.making;
             staged = h.staged;
-            still = λ paused. absurd (nobody_still r.account.pause x z Clean (λ p. p) stage g.staged h.staged paused);
+            still = nobody_else_still log' r.account.pause x z Clean (λ p. p) not_run stage g.staged h.staged;
             hunter = hunter_beside k T s.words (block + 2 + i) 0 r.whole.pools z (beside z.own.number) h.hunter;
             resting = resting_lists k s.words words' z controls.lists h.resting;
             took_back = λ kind leads last. controls.want ∙ h.took_back kind leads last;

@@ -1,5 +1,5 @@
 -- The next key of the ephemeron that a domain cleans is emptied.
-use Rattle.std.proofs.Common.{◌≡◌, ℕ, ◌+◌, ◌<◌, not, IsTrue, List, [], ◌∷◌, ◌++◌, length, map, set, slice_get, suc, Option, Some, sym, refl, ap, ◌∙◌, subst, arith, add-one}
+use Rattle.std.proofs.Common.{inl, ◌≡◌, ℕ, ◌+◌, ◌<◌, not, IsTrue, List, [], ◌∷◌, ◌++◌, length, map, set, slice_get, suc, Option, Some, sym, refl, ap, ◌∙◌, subst, arith, add-one}
 use Rattle.std.proofs.lemmas.List.{length-map}
 use Rattle.std.proofs.lemmas.Option.{same_Some}
 use mathlib.Core.Option.{some}
@@ -31,7 +31,7 @@ use Rattle.heap_rule.specs.Raw.{MayStore}
 use Rattle.heap_rule.specs.Rule.{Rule, state_of}
 use Rattle.heap_rule.specs.Standing.{with_front}
 use Rattle.heap_rule.specs.Views.{one}
-use Rattle.heap_rule.proofs.Keeps.{Words, knows_front, mine, my_good}
+use Rattle.heap_rule.proofs.Keeps.{Words, knows_front, my_good}
 use Rattle.heap_rule.proofs.Lists.{got_below}
 use Rattle.steps_cycle.specs.Looks.{with_share}
 use Rattle.steps_cycle.proofs.Learning.{known, waits}
@@ -106,6 +106,7 @@ module _ (k : Config) (s : Words) (r : Rule k s) (id : ℕ) (hist : List Entry) 
       listed = e.listed;
       place = e.place;
       lives = e.lives;
+      label = e.label;
       marked = e.marked;
       keys = e.keys;
       datum = e.datum;
@@ -137,7 +138,7 @@ module _ (k : Config) (s : Words) (r : Rule k s) (id : ℕ) (hist : List Entry) 
       cleans_on = cleans_more;
       emptied_here = label_here c.paint.emptied l (w.emptied ++ w.done ∷ []) ∙ sym (emptied_there (key_wiped w));
       emptied_there = λ b other. emptied_beside w (key_wiped w) b refl other ∙ sym (ap (λ (o : Option Cleaning). emptied_at o b) may.cleans);
-      knows = knows_front k s r id hist x at (with_front (with_share x (cleaning_on (key_wiped w) sh)) x.seen.front) refl (mine k s r id hist x at).front;
+      knows = knows_front k s r id hist x at (with_front (with_share x (cleaning_on (key_wiped w) sh)) x.seen.front) refl (inl refl);
     }
 
     key_rule : Rule k record { words = set s.words (before_heap k + (w.block + 2 + suc w.done)) 0; homes = s.homes; views = set s.views id (one k hist (with_share x (cleaning_on (key_wiped w) sh))) }

@@ -32,23 +32,26 @@ pub record WipeKeyTold (x : DomainView) (new : ℕ) (y : DomainView) : Type 0 wh
   pub cleans : x.seen.share.cleaning ≡ Some cleaning
   pub view : y ≡ with_share x (cleaning_on (key_wiped cleaning) x.seen.share)
 
--- a store of nothing in the datum of the ephemeron that the domain cleans, of which it has looked at all keys and emptied some
+-- a store of nothing in the datum of the ephemeron that the domain cleans, of which it has looked at all keys and emptied some, and loaded the label
 pub record WipeDataMay (x : DomainView) (at : ℕ) : Type 0 where
   pub cleaning : Cleaning
   pub cleans : x.seen.share.cleaning ≡ Some cleaning
   pub all : cleaning.done ≡ cleaning.count
   pub some : cleaning.emptied ≢ []
+  pub label : Label
+  pub labelled : cleaning.label ≡ Some label
   pub word : at ≡ cleaning.block + 2
 
 -- the domain is done with an ephemeron that it cleaned, and is in no block
 abbrev pub wiped_through : ℕ → Share → Share
 wiped_through at share = record (cleaned at share) { scan = Idle }
 
--- the Wipe of the keys that were emptied stands at the step: the front ends with it
+-- the Wipe of the keys that were emptied, of the label that was loaded, stands at the step: the front ends with it
 pub record WipeDataTold (k : Config) (x : DomainView) (new : ℕ) (y : DomainView) : Type 0 where
   pub cleaning : Cleaning
   pub cleans : x.seen.share.cleaning ≡ Some cleaning
   pub label : Label
+  pub labelled : cleaning.label ≡ Some label
   pub before : List Entry
   pub front : y.seen.front ≡ before ++ Wipe label cleaning.emptied ∷ []
   pub seen : IsFrontOf x.own.number before x.seen.front

@@ -17,7 +17,7 @@ use Rattle.heap_rule.specs.declared.view.Listing.{Listing}
 use Rattle.heap_rule.specs.declared.view.Share.{Share}
 use Rattle.heap_rule.specs.Beside.{RunsBeside}
 use Rattle.heap_rule.specs.Copies.{Promoting}
-use Rattle.heap_rule.specs.Cycles.{Cycled, Cycling, Facts, IsCollecting, IsIdle, IsSwept, Knowing, Leading, MayLook, MissesKeys}
+use Rattle.heap_rule.specs.Cycles.{Cycled, Cycling, Facts, HasNoCycle, IsCollecting, IsIdle, IsSwept, Knowing, Leading, MayLook, MissesKeys}
 use Rattle.heap_rule.specs.Layout.{at_address, before_heap, cursor, heap_words, listed}
 use Rattle.heap_rule.specs.Phases.{AtStage, IsOdd, Staged, flag}
 use Rattle.heap_rule.specs.Pools.{Hunter, IsLeading, Lists, Reserved, limit_of}
@@ -26,7 +26,7 @@ use Rattle.heap_rule.specs.Rule.{Account, Good, Rule, Sharing, state_of}
 use Rattle.heap_rule.specs.Views.{one}
 use Rattle.heap_rule.proofs.BesideLemmas.{runs_unaware}
 use Rattle.heap_rule.proofs.Holders.{Agrees, agrees_set, found_heap, grid_heap, hunter_agree, making_heap, same_self}
-use Rattle.heap_rule.proofs.Keeps.{Words, covered_words, hunter_as, knows_front, lists_same, mine, my_good, opened_words, owes_as, phases_words, pools_words, remakes, resting_as, resting_lists, room_words, unmoved}
+use Rattle.heap_rule.proofs.Keeps.{Words, covered_words, hunter_as, knows_front, lists_same, my_good, opened_words, owes_as, phases_words, pools_words, remakes, resting_as, resting_lists, room_words, unmoved}
 use Rattle.heap_rule.proofs.PauseFacts.{not_both}
 use Rattle.heap_rule.proofs.Sharings.{knows_words}
 use Rattle.steps_cycle.specs.Arming.{ArmMay, ArmedTold, knowing_armed}
@@ -65,6 +65,7 @@ module _ (k : Config) (s : Words) (r : Rule k s) (id : ℕ) (hist : List Entry) 
       whole = h.leading.whole;
       armed = λ b e. (may, sym (same_Some c.armed b e));
       unswept = h.leading.unswept;
+      under_way = h.leading.under_way;
     };
     knows = ⊎_elim
         (λ (q : IsIdle x.seen.share). inl (ap (λ (z : Share). record z { armed = Some c.armed }) q))
@@ -116,6 +117,10 @@ module _ (k : Config) (s : Words) (r : Rule k s) (id : ℕ) (hist : List Entry) 
     no_run : c.kind ≡ Run → ⊥
     no_run e = ⊎_elim (λ (f : c.kind ≡ Roots). let clash : Roots ≡ Run = sym f ∙ e in cc)
         (⊎_elim (λ (f : c.kind ≡ Lasts). let clash : Lasts ≡ Run = sym f ∙ e in cc) (λ (f : c.kind ≡ Answer). let clash : Answer ≡ Run = sym f ∙ e in cc)) arms.kind
+
+    no_cycle : HasNoCycle c.kind → ⊥
+    no_cycle none = ⊎_elim (λ (f : c.kind ≡ Roots). subst HasNoCycle f none)
+        (⊎_elim (λ (f : c.kind ≡ Lasts). subst HasNoCycle f none) (λ (f : c.kind ≡ Answer). subst HasNoCycle f none)) arms.kind
 
     calm : Promoting r.account.pause → ⊥
     calm p = not_both r.account.pause.phase (p.0, p.1) arms.odd
@@ -244,6 +249,7 @@ module _ (k : Config) (s : Words) (r : Rule k s) (id : ℕ) (hist : List Entry) 
       whole = l.whole;
       armed = armed_is;
       unswept = l.unswept;
+      under_way = λ _ none. absurd (no_cycle none);
     }
 
     may_look : (stage : Stage) → IsLeading stage → MayLook x.own.number stage
@@ -313,15 +319,15 @@ module _ (k : Config) (s : Words) (r : Rule k s) (id : ℕ) (hist : List Entry) 
           };
           cycle = cycle';
         }
-        (knows_front k s r id hist x at y refl (mine k s r id hist x at).front)
+        (knows_front k s r id hist x at y refl (inl refl))
         (let m = making_heap k s.words ws x (λ a _. heap a) good.making in record {
           stood = record { wide = good.stood.wide; each = good.stood.each; serial = good.stood.serial; enrolled = good.stood.enrolled };
           area = record { room = good.area.room; free = good.area.free; classes = good.area.classes };
           making = record { fits = m.fits; written = m.written };
           staged = record { arrivals = good.staged.arrivals; stage = good.staged.stage };
           still = good.still;
-          hunter = hunter_as k r.account.tenancy ws x y refl refl refl refl refl refl (hunters x good.hunter);
-          resting = resting_as k ws x y refl refl refl refl refl (resting_lists k s.words ws x lists good.resting);
+          hunter = hunter_as k r.account.tenancy ws x y refl refl refl refl refl refl refl (hunters x good.hunter);
+          resting = resting_as k ws x y refl refl refl refl refl refl (resting_lists k s.words ws x lists good.resting);
           took_back = λ kind leads last. other 0 (λ e. omega arith) ∙ good.took_back kind leads last;
           owes = owes_as k r.account.live x y refl refl refl refl good.owes;
           rooted = good.rooted;

@@ -10,10 +10,13 @@ use Rattle.cycle_laws.proofs.Cycling.{phase_steps}
 use Rattle.heap_rule.specs.declared.config.Config.{Config}
 use Rattle.heap_rule.specs.declared.phase.Kind.{Kind}
 use Rattle.heap_rule.specs.declared.phase.Kind.TheVariants.{Run, Mark, Lasts}
+use Rattle.heap_rule.specs.declared.phase.Note.{Note}
+use Rattle.heap_rule.specs.declared.phase.Note.TheVariants.{Changed}
 use Rattle.heap_rule.specs.declared.phase.Stage.{Stage}
 use Rattle.heap_rule.specs.declared.phase.Stage.TheVariants.{In, Leads, Led, Gone}
 use Rattle.heap_rule.specs.declared.view.DomainView.{DomainView}
 use Rattle.heap_rule.specs.declared.view.Share.{Share}
+use Rattle.heap_rule.specs.declared.view.View.{View}
 use Rattle.heap_rule.specs.Beside.{RunsBeside}
 use Rattle.heap_rule.specs.Cycles.{Cycled, Cycling, Facts, IsCollecting, IsIdle, IsStart, Knowing, cycle_of, MissesKeys}
 use Rattle.heap_rule.specs.Layout.{before_heap, changed_word, heap_words}
@@ -22,9 +25,11 @@ use Rattle.heap_rule.specs.Pools.{IsLeading}
 use Rattle.heap_rule.specs.Raw.{MayStep, MayStore}
 use Rattle.heap_rule.specs.Rule.{Good, Rule, Sharing, state_of}
 use Rattle.heap_rule.specs.Sweeping.{SweepsIn}
+use Rattle.heap_rule.specs.Standing.{noted}
 use Rattle.heap_rule.specs.Views.{one}
 use Rattle.heap_rule.proofs.Controls.{Untouched, heap_untouched}
 use Rattle.heap_rule.proofs.Keeps.{Words, my_good, unmoved}
+use Rattle.heap_rule.proofs.Notes.{changed_note, noted_rule, set_there, set_twice}
 use Rattle.heap_rule.proofs.PauseFacts.{not_both}
 use Rattle.steps_cycle.specs.Changed.{FindMay, FindTold, ForgetMay, ForgetTold}
 use Rattle.steps_cycle.specs.Looks.{with_share}
@@ -71,6 +76,7 @@ module _ (k : Config) (s : Words) (r : Rule k s) (id : ℕ) (hist : List Entry) 
         whole = l.whole;
         armed = l.armed;
         unswept = l.unswept;
+        under_way = l.under_way;
       };
       knows = inl (ap (λ (z : Share). record z { changed = Some (changed_word s.words) }) (idle (Leads may.last) may.stage tt));
       adds = record { blocks = a.blocks; words = a.words; own = a.own };
@@ -160,6 +166,7 @@ module _ (k : Config) (s : Words) (r : Rule k s) (id : ℕ) (hist : List Entry) 
         whole = l.whole;
         armed = l.armed;
         unswept = l.unswept;
+        under_way = l.under_way;
       };
       knows = inl (ap (λ (z : Share). record z { changed = None }) (idle (Led Mark) may.stage tt));
       adds = record { blocks = λ e _. a.blocks e start.waits; words = λ e _. a.words e start.waits; own = λ e _. a.own e start.waits };
@@ -187,6 +194,7 @@ module _ (k : Config) (s : Words) (r : Rule k s) (id : ℕ) (hist : List Entry) 
         whole = l.whole;
         armed = l.armed;
         unswept = l.unswept;
+        under_way = l.under_way;
       };
       knows = knows_words k r.account.live r.account.tenancy.holder state.graph c.paint.marks s.words ws z.own.number z.own.registers z.seen.stage z.seen.share (heap_untouched k s.words ws untouched) g.sharing.knows;
       adds = record { blocks = λ e _. a.blocks e start.waits; words = λ e _. a.words e start.waits; own = λ e _. a.own e start.waits };
@@ -215,7 +223,17 @@ module _ (k : Config) (s : Words) (r : Rule k s) (id : ℕ) (hist : List Entry) 
 
 pub find_may : (k : Config) (x : DomainView) → FindMay x → MayStep k x 3 (λ n. n) FindTold
 find_may k x may fits slots id hist s r _ at _ =
-    let y : DomainView = with_share x (found k s r id hist x at may) in (one k hist y, keeps, tt, unmoved k s 3 (set s.views id (one k hist y)) (find_rule k s r id hist x at may), (refl, refl))
+    let note : Note = Changed (changed_word s.words) in
+    let mid : DomainView = noted x note in
+    let views : List View = set s.views id (one k hist mid) in
+    let y : DomainView = noted (with_share x (record x.seen.share { changed = Some (changed_word s.words) })) note in
+    let rule = find_rule k record { words = s.words; homes = s.homes; views = views } (noted_rule k s r id hist x at note (changed_note (changed_word s.words))) id hist mid (set_there s.views id (one k hist x) (one k hist mid) at) record { leads = may.leads; last = may.last; stage = may.stage } in (
+      one k hist y,
+      keeps,
+      tt,
+      unmoved k s 3 (set s.views id (one k hist y)) (subst (λ (vs : List View). Rule k record { words = s.words; homes = s.homes; views = vs }) (set_twice s.views id (one k hist mid) (one k hist y)) rule),
+      (refl, refl),
+    )
 
 pub forget_may : (k : Config) (x : DomainView) → ForgetMay x → MayStore k x 3 0 ForgetTold
 forget_may k x may fits slots id hist s r _ at _ = (one k hist (with_share x (forgets k s r id hist x at may)), keeps, tt, forget_rule k s r id hist x at may, (refl, refl))

@@ -37,7 +37,7 @@ use Rattle.heap_rule.specs.Views.{one}
 use Rattle.heap_rule.proofs.Controls.{Move, Untouched, counts_untouched, covered_untouched, heap_untouched, hunter_untouched, low_untouched, moved_to, no_move, reserved_untouched, resting_untouched, turns, untouched_same}
 use Rattle.heap_rule.proofs.Holders.{stock_self}
 use Rattle.heap_rule.proofs.Lots.{head_full, none_before, place_cases}
-use Rattle.heap_rule.proofs.Keeps.{Words, hunter_as, mine, my_good, owes_as, phases_words, room_words}
+use Rattle.heap_rule.proofs.Keeps.{Words, hunter_as, my_good, owes_as, phases_words, room_words}
 use Rattle.heap_rule.proofs.PauseFacts.{kind_differs, not_both, agree}
 use Rattle.heap_rule.proofs.Sharings.{kind_now}
 use Rattle.heap_rule.proofs.FinaliserLemmas.{deciding_marks}
@@ -185,13 +185,13 @@ module _ (k : Config) (s : Words) (r : Rule k s) (id : ℕ) (hist : List Entry) 
         rooted = g.rooted;
         roots = λ z _ _ _ ro. ro;
         untouched = o.untouched;
-        front = (mine k s r id hist x at).front;
+        front = inl refl;
         phases = phases_words k r.account.pause s.words words' o.barrier_same o.plan_same r.whole.phases;
         endings = o.ended_same;
         staged = record { arrivals = g.staged.arrivals; stage = g.staged.stage };
         still = g.still;
         free = λ f e. e;
-        resting = let rest = resting_untouched k s.words words' x o.untouched g.resting in record { hunt = rest.hunt; free = rest.free; lists = rest.lists };
+        resting = let rest = resting_untouched k s.words words' x o.untouched g.resting in record { hunt = rest.hunt; free = rest.free; spare = rest.spare; lists = rest.lists };
         reserved = reserved_untouched k r.account.pause t s.words words' o.untouched r.whole.pools r.whole.reserved;
         covered = covered_untouched k r.account.pause t s.words words' o.untouched r.whole.pools r.whole.covered;
         drawers = r.whole.drawers;
@@ -201,7 +201,7 @@ module _ (k : Config) (s : Words) (r : Rule k s) (id : ℕ) (hist : List Entry) 
           to_run = λ j odd led runs. counts.1 ∙ r.whole.drawable.to_run j odd led runs;
           to_copy = λ j odd led copies. low_untouched k s.words words' o.untouched (r.whole.drawable.to_copy j odd led copies);
         };
-        hunter = hunter_as k t words' x y refl refl refl refl refl refl (hunter_untouched k t s.words words' x o.untouched g.hunter);
+        hunter = hunter_as k t words' x y refl refl refl refl refl refl refl (hunter_untouched k t s.words words' x o.untouched g.hunter);
         stocks = λ d _. stock_self t.stock d;
         others = λ z _ _ st. st;
         unwished = λ j odd led runs. o.want_same ∙ r.whole.unwished j odd led runs;
@@ -427,6 +427,7 @@ module _ (k : Config) (s : Words) (r : Rule k s) (id : ℕ) (hist : List Entry) 
         whole = l.whole;
         armed = l.armed;
         unswept = l.unswept;
+        under_way = l.under_way;
       }
 
       -- nobody runs
@@ -445,7 +446,7 @@ module _ (k : Config) (s : Words) (r : Rule k s) (id : ℕ) (hist : List Entry) 
               forgotten = λ up. absurd (true≢false (sym up ∙ waits));
               colours = g.sharing.telling.colours;
             };
-            leading = record { changed = l.changed; found_blocks = l.found_blocks; found_words = l.found_words; rotated = l.rotated; turned = l.turned; pass = l.pass; whole = l.whole; armed = l.armed; unswept = l.unswept };
+            leading = record { changed = l.changed; found_blocks = l.found_blocks; found_words = l.found_words; rotated = l.rotated; turned = l.turned; pass = l.pass; whole = l.whole; armed = l.armed; unswept = l.unswept; under_way = l.under_way };
             knows = inr (
               collecting,
               record {

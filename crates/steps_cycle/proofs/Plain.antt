@@ -47,7 +47,7 @@ pub changed_closes : (k : Config) (x : DomainView) → Closes k x 1 ChangedTold 
 changed_closes k x = share_closes k x 1 ChangedTold (λ y t. (record x.seen.share { owes = false }, t))
 
 pub find_closes : (k : Config) (x : DomainView) (found : ℕ) → Closes k x found FindTold CanLeave Leaves
-find_closes k x found = share_closes k x found FindTold (λ y t. (record x.seen.share { changed = Some found }, t))
+find_closes k x found = leaves_closes k x found FindTold (λ y t. ap (λ (z : DomainView). z.own) t) (λ y t. front_same x y (ap (λ (z : DomainView). z.seen.front) t))
 
 pub forget_closes : (k : Config) (x : DomainView) → Closes k x 0 ForgetTold CanLeave Leaves
 forget_closes k x = share_closes k x 0 ForgetTold (λ y t. (record x.seen.share { changed = None }, t))

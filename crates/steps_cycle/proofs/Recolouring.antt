@@ -22,7 +22,7 @@ use Rattle.heap_rule.proofs.HeadLemmas.{head_at}
 use Rattle.heap_rule.proofs.Beside.{found_beside, making_beside, live_word_far}
 use Rattle.heap_rule.proofs.Lots.{head_full, head_some}
 use Rattle.heap_rule.proofs.Values.{extent_large}
-use Rattle.heap_rule.proofs.Keeps.{Words, mine, my_good, more_same, remakes, knows_front, control_set, controls_kept, opened_words, owes_as, resting_as, resting_lists, room_words, hunter_as}
+use Rattle.heap_rule.proofs.Keeps.{Words, my_good, more_same, remakes, knows_front, control_set, controls_kept, opened_words, owes_as, resting_as, resting_lists, room_words, hunter_as}
 use Rattle.steps_cycle.specs.Looks.{with_share}
 use Rattle.steps_cycle.proofs.Learning.{Held, Learns, cycle', holding, sharing', sharings', bare, rests_here, knowing_on, known, Knows, lies_old, QueueMarked}
 use Rattle.cycle_laws.proofs.Tracing.{More}
@@ -175,6 +175,7 @@ module _ (k : Config) (s : Words) (r : Rule k s) (id : ℕ) (hist : List Entry) 
       hunt = subst (Hunts k r.account.tenancy words' z.own.number) (sym rests) tt;
       drawn_alone = h.drawn_alone;
       free = λ f e. subst (λ (m : ℕ × ℕ). (m.0 ≤ f + m.1) × (m.0 ≤ f + limit_of k m.0) × (f ≤ m.0)) (λ i. (sym (control 6 (omega arith)) i, sym (control 7 (omega arith)) i)) (h.free f e);
+      spare = λ u e. let f = h.spare u e in record { own_is = f.own_is; inside = f.inside; free = free_stays (place_in u.pool u.class u.slot) f.free };
       taken = λ q c slot is inside before. full_stays (place_in q c slot) (h.taken q c slot is inside before);
       holds = h.holds;
       prepared = h.prepared;
@@ -224,15 +225,15 @@ module _ (k : Config) (s : Words) (r : Rule k s) (id : ℕ) (hist : List Entry) 
           drawable = controls.drawable;
           cycle = cycle' k s r id hist x at collecting m' r.account.cycling.shares.changed owes seen h waiting words' learnt;
         }
-        (knows_front k s r id hist x at y refl (mine k s r id hist x at).front)
+        (knows_front k s r id hist x at y refl (inl refl))
         record {
           stood = record { wide = g.stood.wide; each = g.stood.each; serial = g.stood.serial; enrolled = g.stood.enrolled };
           area = record { room = g.area.room; free = g.area.free; classes = g.area.classes };
           making = record { fits = own_making.fits; written = own_making.written };
           staged = record { arrivals = g.staged.arrivals; stage = g.staged.stage };
           still = g.still;
-          hunter = hunter_as k r.account.tenancy words' x y refl refl refl refl refl refl own_hunter;
-          resting = resting_as k words' x y refl refl refl refl refl (resting_lists k s.words words' x controls.lists g.resting);
+          hunter = hunter_as k r.account.tenancy words' x y refl refl refl refl refl refl refl own_hunter;
+          resting = resting_as k words' x y refl refl refl refl refl refl (resting_lists k s.words words' x controls.lists g.resting);
           took_back = λ kind leads last. controls.want ∙ g.took_back kind leads last;
           owes = owes_as k r.account.live x y refl refl refl refl g.owes;
           rooted = g.rooted;

@@ -2,8 +2,10 @@
 use Rattle.std.specs.Prelude.{◌≡◌, ℕ, Some, None}
 use Rattle.heap_rule.specs.declared.phase.Kind.{Kind}
 use Rattle.heap_rule.specs.declared.phase.Kind.TheVariants.{Mark}
+use Rattle.heap_rule.specs.declared.phase.Note.TheVariants.{Changed}
 use Rattle.heap_rule.specs.declared.phase.Stage.TheVariants.{Leads, Led}
 use Rattle.heap_rule.specs.declared.view.DomainView.{DomainView}
+use Rattle.heap_rule.specs.Standing.{noted}
 use Rattle.steps_cycle.specs.Looks.{with_share}
 
 -- domain 0 acts in an odd phase, and hasn't named the next kind
@@ -12,9 +14,9 @@ pub record FindMay (x : DomainView) : Type 0 where
   pub last : Kind
   pub stage : x.seen.stage ≡ Leads last
 
--- it knows what the changed word is
+-- it knows what the changed word is, and notes it
 abbrev pub FindTold : DomainView → ℕ → DomainView → Type 0
-FindTold x found y = y ≡ with_share x (record x.seen.share { changed = Some found })
+FindTold x found y = y ≡ noted (with_share x (record x.seen.share { changed = Some found })) (Changed found)
 
 -- domain 0 has named a phase in which blocks are marked
 pub record ForgetMay (x : DomainView) : Type 0 where

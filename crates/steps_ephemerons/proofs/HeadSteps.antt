@@ -21,7 +21,6 @@ use Rattle.heap_model.specs.declared.state.State as model
 use Rattle.heap_model.specs.Domains.{register, domain_at}
 use Rattle.heap_model.specs.Commands.{only_replies, outcome}
 use Rattle.heap_model.specs.Fronts.{Shape, PlainShape, RawShape, EpheShape}
-use Rattle.heap_model.proofs.Histories.FrontLemmas.{front_whole}
 use Rattle.heap_words.specs.declared.value.Value.{Value}
 use Rattle.heap_words.specs.declared.value.Value.TheVariants.{Int as IntWord, Ref, Nothing as NothingWord}
 use Rattle.heap_rule.specs.declared.config.Config.{Config}
@@ -34,7 +33,7 @@ use Rattle.heap_rule.specs.Raw.{MayStep}
 use Rattle.heap_rule.specs.Rule.{state_of, Rule}
 use Rattle.heap_rule.specs.Standing.{Acts, IsAt, with_front}
 use Rattle.heap_rule.proofs.Values.{AllStand, stands_block, not_nothing}
-use Rattle.heap_rule.proofs.Keeps.{Words, IsOfTrace, mine, looks, unmoved, run_settled}
+use Rattle.heap_rule.proofs.Keeps.{my_good, Words, IsOfTrace, mine, looks, unmoved, run_settled}
 use Rattle.heap_rule.proofs.Entering.{registers_stand, entered_view, enters, may_begin}
 use Rattle.heap_rule.proofs.Blocks.{Lives, lives_at, found_at, plain_node, raw_node, shape_at}
 use Rattle.heap_rule.proofs.HeadLemmas.{packable_head, colour_small}
@@ -143,10 +142,10 @@ module _ (k : Config) (s : Words) (r : Rule k s) (id : ℕ) (hist : List Entry) 
   head_step a c has (EpheShape keys) b is = ⊎_elim
       (λ (inside : HasKey (key_in c) keys). record {
         after = with_front x r.account.log;
-        rule = looks k s r id hist x at r.account.log (front_whole d r.account.log) (λ _. refl);
+        rule = looks k s r id hist x at r.account.log (inr refl);
         told = record {
           below = λ _. record {
-            looked = record { seen = (mine k s r id hist x at).front; legal = r.whole.legal; view = refl };
+            looked = record { seen = (mine k s r id hist x at).front; calls = (my_good k s r id hist x at).still.1 acts.runs; legal = r.whole.legal; view = refl };
             knows = shape_at k s r id hist x at (ephemeron_in c) a b (EpheShape keys) is;
             inside = keys_inside (ephemeron_in c) a keys b is;
           };

@@ -110,7 +110,7 @@ module _ (k : Config) (s : Words) (r : Rule k s) (id : ℕ) (hist : List Entry) 
         work = λ z _. work_same now now z refl;
         enrolled = good.stood.enrolled;
         facts = (taking_steps.decide_keeps k.domains now (cycle_of k live t.holder c) facts.0 d i f left_is fin.1 (subst (λ (l : Label). IsTrue (c.paint.marks.marked l)) fin.2.0.2 is), plain);
-        seats = knows_front k s r id hist x at (keeping x) refl (mine k s r id hist x at).front;
+        seats = knows_front k s r id hist x at (keeping x) refl (inl refl);
         decides = λ _. let n : ℕ = length x.own.finalisers.finals.items in let g : ℕ = x.seen.share.kept in let b : i + 1 + g ≡ n = may.next in let e : i + (g + 1) ≡ n = omega arith in e;
         lasts = λ e. cc;
         no_roots = λ none. none;
@@ -156,7 +156,7 @@ module _ (k : Config) (s : Words) (r : Rule k s) (id : ℕ) (hist : List Entry) 
         work = λ n other. subst (λ (w : model.State). KeepsWork now w n) (sym after) (work_same now (next now e) n (get_or-set_other now.domains d n _ no_domain other));
         enrolled = subst (λ (w : model.State). Enrolled live w d lists) (sym after) enrolled';
         facts = subst (λ (w : model.State). Facts Decide k w live t (record c { left = at_domain c.left d i }) s.words) (sym after) (row.1, plain);
-        seats = knows_entry k s r id hist x at z e (λ n _. refl) refl refl;
+        seats = knows_entry k s r id hist x at z e (λ n _. refl) (λ _. refl) refl refl;
         decides = λ _. let n : ℕ = length x.own.finalisers.finals.items in let m : ℕ = length (remove x.own.finalisers.finals.items i) in let g : ℕ = x.seen.share.kept in let b : i + 1 + g ≡ n = may.next in let less : m + 1 ≡ n = removed_length x.own.finalisers.finals.items i rd may.registered in let w : i + g ≡ m = omega arith in w;
         lasts = λ w. cc;
         no_roots = λ none. none;

@@ -119,7 +119,7 @@ module _ (k : Config) (s : Words) (r : Rule k s) (id : ℕ) (hist : List Entry) 
         work = λ z _. work_same now now z refl;
         enrolled = good.stood.enrolled;
         facts = leaves now (taking_steps.lasts_keeps k.domains now (swept_of k live t.holder c) facts.facts d i f left_is fin.1 (sym (before_is f.label) ∙ subst (λ (l : Label). IsTrue (c.paint.marks.marked l)) fin.2.0.2 is));
-        seats = knows_front k s r id hist x at (keeping x) refl (mine k s r id hist x at).front;
+        seats = knows_front k s r id hist x at (keeping x) refl (inl refl);
         decides = λ e. cc;
         lasts = λ _. let n : ℕ = length x.own.finalisers.lasts.items in let g : ℕ = x.seen.share.kept in let b : i + 1 + g ≡ n = may.next in let e : i + (g + 1) ≡ n = omega arith in e;
         no_roots = λ none. none;
@@ -165,7 +165,7 @@ module _ (k : Config) (s : Words) (r : Rule k s) (id : ℕ) (hist : List Entry) 
         work = λ n other. subst (λ (w : model.State). KeepsWork now w n) (sym after) (work_same now (next now e) n (get_or-set_other now.domains d n _ no_domain other));
         enrolled = subst (λ (w : model.State). Enrolled live w d lists) (sym after) enrolled';
         facts = subst (λ (w : model.State). Facts Lasts k w live t (record c { left = at_domain c.left d i }) s.words) (sym after) (leaves (next now e) row.1);
-        seats = knows_entry k s r id hist x at z e (λ n _. refl) refl refl;
+        seats = knows_entry k s r id hist x at z e (λ n _. refl) (λ _. refl) refl refl;
         decides = λ w. cc;
         lasts = λ _. let n : ℕ = length x.own.finalisers.lasts.items in let m : ℕ = length (remove x.own.finalisers.lasts.items i) in let g : ℕ = x.seen.share.kept in let b : i + 1 + g ≡ n = may.next in let less : m + 1 ≡ n = removed_length x.own.finalisers.lasts.items i rd may.registered in let w : i + g ≡ m = omega arith in w;
         no_roots = λ none. none;

@@ -13,7 +13,7 @@ use Rattle.cycle_laws.specs.Shares.{at_domain}
 use Rattle.cycle_laws.proofs.Sharing.{at_cases}
 use Rattle.heap_rule.specs.declared.config.Config.{Config}
 use Rattle.heap_rule.specs.declared.phase.Kind.{Kind}
-use Rattle.heap_rule.specs.declared.phase.Kind.TheVariants.{Clean, Decide, Lasts}
+use Rattle.heap_rule.specs.declared.phase.Kind.TheVariants.{Run, Clean, Decide, Lasts}
 use Rattle.heap_rule.specs.declared.phase.Stage.TheVariants.{In}
 use Rattle.heap_rule.specs.declared.view.DomainView.{DomainView}
 use Rattle.heap_rule.specs.declared.view.Finalisers.{Finalisers}
@@ -33,7 +33,7 @@ use Rattle.heap_rule.specs.Rule.{Account, AllFound, Good, Rule, Sharing, Stood, 
 use Rattle.heap_rule.specs.Views.{EachView, Knows as SeatKnows, one}
 use Rattle.heap_rule.proofs.FinaliserLemmas.{KeepsWork}
 use Rattle.heap_rule.proofs.Keeps.{Words, hunter_as, more_same, my_good, owes_as, remakes, resting_as, stood_other, sum_same}
-use Rattle.heap_rule.proofs.PauseFacts.{nobody_still, staged_as}
+use Rattle.heap_rule.proofs.PauseFacts.{nobody_else_still, staged_as}
 use Rattle.heap_rule.proofs.Stages.{waits_in}
 use Rattle.steps_cycle.proofs.Learning.{kind_here, known, not_promoting}
 
@@ -62,6 +62,9 @@ module _ (k : Config) (s : Words) (r : Rule k s) (id : ℕ) (hist : List Entry) 
 
   pub collecting : IsCollecting x.seen.stage
   collecting = subst IsCollecting (sym stage) under_way
+
+  not_run : In kind ≡ In Run → ⊥
+  not_run is = subst IsCollecting is under_way tt
 
   pub waits : c.shares.arrived d ≡ false
   waits = waits_in k s r id hist x at kind stage
@@ -114,7 +117,7 @@ module _ (k : Config) (s : Words) (r : Rule k s) (id : ℕ) (hist : List Entry) 
       }
 
       leading' : (z : DomainView) (share : Share) → Leading c s.words z.own.number z.seen.stage share → Leading c' s.words z.own.number z.seen.stage share
-      leading' z share l = record { changed = l.changed; found_blocks = l.found_blocks; found_words = l.found_words; rotated = l.rotated; turned = l.turned; pass = l.pass; whole = l.whole; armed = l.armed; unswept = l.unswept }
+      leading' z share l = record { changed = l.changed; found_blocks = l.found_blocks; found_words = l.found_words; rotated = l.rotated; turned = l.turned; pass = l.pass; whole = l.whole; armed = l.armed; unswept = l.unswept; under_way = l.under_way }
 
       own_knowing : Knowing k live t.holder now.graph c.paint.marks s.words d x.own.registers share'
       own_knowing = let n = known k s r id hist x at in let e = n.counted in record {
@@ -135,7 +138,7 @@ module _ (k : Config) (s : Words) (r : Rule k s) (id : ℕ) (hist : List Entry) 
       sharing' : Sharing k all' s.words d x.own.registers fs' x.own.ephemerons.items x.seen.stage share'
       sharing' = let g = good.sharing in let w = g.telling in let l = leading' x sh g.leading in record {
         telling = record { owes = w.owes; seen = w.seen; fresh = λ up. absurd (true≢false (sym up ∙ waits)); forgotten = λ up. absurd (true≢false (sym up ∙ waits)); colours = w.colours };
-        leading = record { changed = l.changed; found_blocks = l.found_blocks; found_words = l.found_words; rotated = l.rotated; turned = l.turned; pass = l.pass; whole = l.whole; armed = l.armed; unswept = l.unswept };
+        leading = record { changed = l.changed; found_blocks = l.found_blocks; found_words = l.found_words; rotated = l.rotated; turned = l.turned; pass = l.pass; whole = l.whole; armed = l.armed; unswept = l.unswept; under_way = l.under_way };
         knows = inr (collecting, subst (λ (z : Graph). Knowing k live t.holder z c.paint.marks s.words d x.own.registers share') (sym o.graph) own_knowing);
         adds = record { blocks = g.adds.blocks; words = g.adds.words; own = g.adds.own };
         looks = subst (λ (z : Graph). Looks live t.holder z c.paint.marks c.paint.emptied d x.own.ephemerons.items x.seen.stage share') (sym o.graph) own_looks;
@@ -209,9 +212,9 @@ module _ (k : Config) (s : Words) (r : Rule k s) (id : ℕ) (hist : List Entry) 
             area = record { room = g.area.room; free = g.area.free; classes = g.area.classes };
             making = record { fits = g.making.fits; written = g.making.written };
             staged = staged_as r.account.pause x y refl refl refl g.staged;
-            still = λ paused. absurd (no_pause (subst IsInPause stage paused));
-            hunter = hunter_as k t s.words x y refl refl refl refl refl refl g.hunter;
-            resting = resting_as k s.words x y refl refl refl refl refl g.resting;
+            still = (λ paused. absurd (no_pause (subst IsInPause stage paused)), λ runs. absurd (not_run (sym stage ∙ runs)));
+            hunter = hunter_as k t s.words x y refl refl refl refl refl refl refl g.hunter;
+            resting = resting_as k s.words x y refl refl refl refl refl refl g.resting;
             took_back = g.took_back;
             owes = owes_as k live x y refl refl refl refl g.owes;
             rooted = (λ (promotes : Promoting r.account.pause). absurd (not_promoting k s r id hist x at collecting promotes), λ (past : IsPast r.account.pause y). g.rooted.1 past);
@@ -225,7 +228,7 @@ module _ (k : Config) (s : Words) (r : Rule k s) (id : ℕ) (hist : List Entry) 
             area = h.area;
             making = h.making;
             staged = h.staged;
-            still = λ paused. absurd (nobody_still r.account.pause x z kind no_pause stage g.staged h.staged paused);
+            still = nobody_else_still log' r.account.pause x z kind no_pause not_run stage g.staged h.staged;
             hunter = h.hunter;
             resting = h.resting;
             took_back = h.took_back;

@@ -93,7 +93,7 @@ module _ (k : Config) (s : Words) (r : Rule k s) (id : ℕ) (hist : List Entry) 
       areas = λ z _ h. h;
       makings = λ z _ _ h. h;
       grid = r.whole.grid;
-      hunter = hunter_as k r.account.tenancy s.words x (worked e registers fs) refl refl refl refl refl refl g.hunter;
+      hunter = hunter_as k r.account.tenancy s.words x (worked e registers fs) refl refl refl refl refl refl refl g.hunter;
       hunters = λ z _ h. h.hunter;
       listed = record { all = g.listed.all; own = g.listed.own; lives = g.listed.lives };
       listeds = λ z _ h. h.listed;
@@ -102,7 +102,7 @@ module _ (k : Config) (s : Words) (r : Rule k s) (id : ℕ) (hist : List Entry) 
     }
 
     pub works_answers : Answers (sizes_in k) x.own.number x.seen.front (r.account.log ++ e ∷ []) e answer
-    works_answers = answers_push (sizes_in k) x.own.number r.account.log x.seen.front e answer (mine k s r id hist x at).front (legal_entry k s r id hist x at e o.allowed) o.replies
+    works_answers = answers_push (sizes_in k) x.own.number r.account.log x.seen.front e answer (mine k s r id hist x at).front (λ _. (my_good k s r id hist x at).still.1 goes_on.runs) (legal_entry k s r id hist x at e o.allowed) o.replies
 
     pub works_holds : Holds k registers
     works_holds = holds k r.limits r.account.live r.whole.placed (next now e) (worked e registers fs) o.stood

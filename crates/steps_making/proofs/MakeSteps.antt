@@ -128,9 +128,10 @@ inits k slots id word hist x a new changes place may s r _ at _ =
       number = refl;
       hunt = refl;
       free = refl;
+      spare = refl;
       listing = refl;
-      front = (mine k s r id hist x at).front;
-      still = λ p. g.still p;
+      front = inl refl;
+      still = g.still;
       stage = refl;
       notes = refl;
       copying = refl;
@@ -153,7 +154,7 @@ inits k slots id word hist x a new changes place may s r _ at _ =
       };
       makings = λ z other _ p. making_beside k s.words a new z (area_word_far k x.own.number a z (let o : base ≤ a = omega arith in o) high other) p;
       grid = grid_beside k r.account.tenancy s.words a new r.account.live r.account.live r.whole.pools beside (more_same r.account.live) (λ b q h _. h) r.whole.grid;
-      hunter = hunter_as k r.account.tenancy ws x y refl refl refl refl refl refl (hunter_beside k r.account.tenancy s.words a new r.whole.pools x (beside x.own.number) g.hunter);
+      hunter = hunter_as k r.account.tenancy ws x y refl refl refl refl refl refl refl (hunter_beside k r.account.tenancy s.words a new r.whole.pools x (beside x.own.number) g.hunter);
       hunters = λ z _ g. hunter_beside k r.account.tenancy s.words a new r.whole.pools z (beside z.own.number) g.hunter;
       cycle = cycle_here k s r id hist x at Run tt may.runs now r.account.live r.account.tenancy past ws refl (garbage_here k s r id hist x at r.account.live ws r.whole.cycle.leaves.dead
           (garbage_beside k r.account.live r.account.tenancy r.account.cycling s.words r.whole.cycle.leaves a new r.whole.pools beside)) same (λ _ u. u);
@@ -547,7 +548,7 @@ module _ (k : Config) (s : Words) (r : Rule k s) (id : ℕ) (hist : List Entry) 
     makings = λ z other _ p. making_beside k s.words A new z (area_word_far k d A z (omega arith) head_high other) p;
     grid = grid_beside k r.account.tenancy s.words A new r.account.live live1 r.whole.pools beside grows
         (λ b q lives low. old k r.account.live A born_place some_word away r.whole.placed b q (λ same. let p : ℕ = d * k.minor_words in let l : b ≤ k.pools * 4096 = low in let h : b ≡ A = same in omega arith) lives) r.whole.grid;
-    hunter = hunter_as k r.account.tenancy ws x after refl refl refl refl refl refl (hunter_beside k r.account.tenancy s.words A new r.whole.pools x (beside d) g.hunter);
+    hunter = hunter_as k r.account.tenancy ws x after refl refl refl refl refl refl refl (hunter_beside k r.account.tenancy s.words A new r.whole.pools x (beside d) g.hunter);
     hunters = λ z _ g. hunter_beside k r.account.tenancy s.words A new r.whole.pools z (beside z.own.number) g.hunter;
     listed = let l = listed_here k s r id hist x at live1 no_ephe grows x g in record { all = l.all; own = l.own; lives = l.lives };
     listeds = λ z _ o. listed_here k s r id hist x at live1 no_ephe grows z o;
@@ -557,7 +558,7 @@ module _ (k : Config) (s : Words) (r : Rule k s) (id : ℕ) (hist : List Entry) 
 
   alloc_told : AllocTold k e changes x after
   alloc_told = record {
-    answers = answers_push (sizes_in k) d r.account.log x.seen.front e (Replied (BlockReply L)) (mine k s r id hist x at).front
+    answers = answers_push (sizes_in k) d r.account.log x.seen.front e (Replied (BlockReply L)) (mine k s r id hist x at).front (λ _. g.still.1 may.acts.runs)
         (legal_entry k s r id hist x at e record { running = running k s r id hist x at may.acts; fits = fits_now; full_fits = tt }) leaves.replies;
     view = λ i. record {
       own = record (sym (changed_only NothingWord changes x.own) i) { used = x.own.used + class_words (sym (made.counts d) i + 2); serial = x.own.serial + 1 };

@@ -11,6 +11,7 @@ use Rattle.heap_words.specs.declared.head.Head.{Head}
 use Rattle.heap_words.specs.declared.head.Head.TheVariants.{Plain as PlainHead}
 use Rattle.heap_words.specs.declared.value.Value.TheVariants.{Ref, Nothing}
 use Rattle.heap_words.specs.Labels.{label_word}
+use Rattle.heap_rule.specs.Pools.{last_found}
 use Rattle.heap_rule.specs.declared.change.Change.{Change}
 use Rattle.heap_rule.specs.declared.config.Config.{Config}
 use Rattle.heap_rule.specs.declared.view.DomainView.{DomainView}
@@ -26,7 +27,7 @@ use Rattle.heap_rule.specs.declared.phase.Stage.TheVariants.{In}
 -- as many pools were found free as promotion may need
 pub record IsOpen (k : Config) (x : DomainView) : Type 0 where
   pub free : ℕ
-  pub found : x.seen.free ≡ Some free
+  pub found : last_found x ≡ Some free
   pub enough : reserve (sizes_in k) ≤ free
 
 -- a block with so many fields, plain or raw, has this shape

@@ -31,7 +31,7 @@ use Rattle.heap_rule.proofs.Lists.{no_item}
 use Rattle.heap_rule.proofs.Controls.{Untouched, counts_untouched, low_untouched, reserved_untouched, covered_untouched, pools_untouched, hunter_untouched, sum_one, all_up, parity, Move, moved_to, turns}
 use Rattle.heap_rule.proofs.Drops.{drops, dropped}
 use Rattle.heap_rule.proofs.Keeps.{Words, mine, my_good, now, no_cycle_here, whole_here, quiet_in, owes_rests, room_unused}
-use Rattle.heap_rule.proofs.PauseFacts.{not_both}
+use Rattle.heap_rule.proofs.PauseFacts.{gone_runs, not_both}
 use Rattle.heap_rule.proofs.Sharings.{SameCycle, kind_now}
 use Rattle.heap_rule.specs.Cycles.{Cycling, Told, HasNoCycle, owner_at}
 use Rattle.heap_rule.specs.Layout.{at_address}
@@ -183,7 +183,8 @@ module _ (k : Config) (s : Words) (r : Rule k s) (id : ℕ) (hist : List Entry) 
     front = x.seen.front;
     stage = Gone (kind_in x.seen.stage);
     notes = x.seen.notes;
-    free = None;
+    free = [];
+    spare = None;
     listing = None;
     copying = nothing_copied;
     share = voided x.seen.share;
@@ -324,13 +325,13 @@ module _ (k : Config) (s : Words) (r : Rule k s) (id : ℕ) (hist : List Entry) 
     sharing = sharing_gone k r.account s.words words' x pause' live (record tenancy { stock = counting claims' }) y.seen.stage inside may.from good.staged.stage r.whole.cycle.told my_whole may.paid_reads good;
     sharings = λ z _ other g. sharing_else k r.account s.words words' x.seen.stage number z pause' (counting claims') other same_cycle same_heap g;
     untouched = untouched;
-    front = (mine k s r id hist x at).front;
+    front = inl refl;
     phases = p.phases;
     endings = endings;
     staged = p.staged;
-    still = λ paused. absurd paused;
+    still = (λ paused. absurd paused, λ runs. absurd (gone_runs (kind_in x.seen.stage) runs));
     free = λ f e. absurd (none-some f e);
-    resting = record { hunt = λ n. may.at_rest; free = λ n. refl; lists = λ l e. cc };
+    resting = record { hunt = λ n. may.at_rest; free = λ n. refl; spare = λ n. refl; lists = λ l e. cc };
     owes = owes_rests k live x y refl refl paid refl good.owes;
     settled = p.settled;
     cleared = p.cleared;
@@ -348,6 +349,7 @@ module _ (k : Config) (s : Words) (r : Rule k s) (id : ℕ) (hist : List Entry) 
       drawn_alone = h.drawn_alone;
       taken = h.taken;
       free = λ f e. absurd (none-some f e);
+      spare = λ z e. absurd (none-some z e);
       holds = h.holds;
       prepared = h.prepared;
       claims = sym p.mine_is;
@@ -516,14 +518,15 @@ module _ (k : Config) (s : Words) (r : Rule k s) (id : ℕ) (hist : List Entry) 
       sharing = sharing_gone k r.account s.words words' x next (dropped k live) (record tenancy { stock = no_stock }) y.seen.stage inside may.from good.staged.stage r.whole.cycle.told (λ a q own lives. whole q.label) may.paid_reads good;
       sharings = λ z _ other g. sharing_between k r.account s.words words' x z Promote next (dropped k live) (record tenancy { stock = no_stock }) tt promote_run (promotes p) in_promote whole other same_cycle good g;
       untouched = untouched;
-      front = (mine k s r id hist x at).front;
+      front = inl refl;
       phases = next_phases;
       endings = endings;
       staged = record { arrivals = counted; stage = known next (λ _. refl) (λ _ _. refl) };
-      still = λ paused. absurd paused;
-      resting = record { hunt = λ n. may.at_rest; free = λ n. refl; lists = λ l e. cc };
+      still = (λ paused. absurd paused, λ runs. absurd (gone_runs (kind_in x.seen.stage) runs));
+      resting = record { hunt = λ n. may.at_rest; free = λ n. refl; spare = λ n. refl; lists = λ l e. cc };
       idle = refl;
       free_same = λ f e. absurd (none-some f e);
+      spare_none = refl;
       others = next_stage;
       over = λ h. not_both pause.phase (p.0, p.1) (odd_before pause.phase h.0 h.1);
       kept = λ h. ⊎_elim

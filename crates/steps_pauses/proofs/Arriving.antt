@@ -134,7 +134,7 @@ sweeps_gone t c x now anew h = record {
 }
 
 leading_gone : (st : Stage) (holder : ℕ → Holder) (c : Cycling) (words : List ℕ) (d z : ℕ) (stage : Stage) (share : Share) → Leading c words z stage share → Leading (arrived_cycle st holder c d) words z stage share
-leading_gone (In kind) holder c words d z stage share l = record { changed = l.changed; found_blocks = l.found_blocks; found_words = l.found_words; rotated = l.rotated; turned = l.turned; pass = l.pass; whole = l.whole; armed = l.armed; unswept = l.unswept }
+leading_gone (In kind) holder c words d z stage share l = record { changed = l.changed; found_blocks = l.found_blocks; found_words = l.found_words; rotated = l.rotated; turned = l.turned; pass = l.pass; whole = l.whole; armed = l.armed; unswept = l.unswept; under_way = l.under_way }
 leading_gone (Leads kind) holder c words d z stage share l = l
 leading_gone (Led kind) holder c words d z stage share l = l
 leading_gone (Gone kind) holder c words d z stage share l = l
@@ -318,6 +318,7 @@ leading_fresh st stage holder c words words' d share from l = record {
   whole = l.whole;
   armed = λ b e. cc;
   unswept = l.unswept;
+  under_way = l.under_way;
 }
 
 -- what the rule says of the share of the domain that has arrived
@@ -422,6 +423,7 @@ sharing_looked k all words x last stage gone g = let l = subst (λ (st : Stage).
     whole = l.whole;
     armed = λ b e. absurd (l.armed b e).0;
     unswept = l.unswept;
+    under_way = l.under_way;
   };
   knows = inl (⊎_elim (λ (h : IsIdle x.seen.share). h) (λ (h : IsCollecting x.seen.stage × Knowing k all.live all.tenancy.holder (state_of k all.log).graph all.cycling.paint.marks words x.own.number x.own.registers x.seen.share). absurd (subst IsCollecting gone h.0)) g.sharing.knows);
   adds = g.sharing.adds;

@@ -1,5 +1,5 @@
 -- What the collector's entries leave: the blocks, and each domain's registers, registrations and queue.
-use Rattle.std.proofs.Common.{◌≡◌, ℕ, Bool, true, false, List, [], ◌∷◌, ◌++◌, set, Option, Some, None, sym, refl, subst}
+use Rattle.std.proofs.Common.{◌≡◌, ℕ, Bool, true, false, List, [], ◌∷◌, ◌++◌, set, Option, Some, None, sym, refl, subst, inl}
 use mathlib.Core.Option.{some}
 use lib.ListN.{get_elem?}
 use Rattle.heap_model.specs.declared.entry.Entry.{Entry}
@@ -94,10 +94,10 @@ module _ (k : Config) (s : Words) (r : Rule k s) (id : ℕ) (hist : List Entry) 
   legal_logged (Some e) allowed = legal_entry k s r id hist x at e (allowed e refl)
 
   -- what the seats know
-  pub knows_logged : (o : Option Entry) → OfCollector o → (y : DomainView) → y.own.number ≡ x.own.number → y.seen.front ≡ front_then x.seen.front r.account.log o
+  pub knows_logged : (o : Option Entry) → OfCollector o → x.own.number ≡ 0 → (y : DomainView) → y.own.number ≡ x.own.number → y.seen.front ≡ front_then x.seen.front r.account.log o
       → EachView (Knows k (logged r.account.log o) r.seat) (set s.views id (one k hist y))
-  knows_logged None is y number front = knows_front k s r id hist x at y number (subst (IsFrontOf x.own.number r.account.log) (sym front) (mine k s r id hist x at).front)
-  knows_logged (Some e) is y number front = knows_entry k s r id hist x at y e (λ d _. alone e is d) number front
+  knows_logged None is leads y number front = knows_front k s r id hist x at y number (inl front)
+  knows_logged (Some e) is leads y number front = knows_entry k s r id hist x at y e (λ d _. alone e is d) (λ other. absurd (other leads)) number front
 
   -- the front grows by entries that are no domain's
   pub seen_then : (o : Option Entry) → OfCollector o → IsFrontOf x.own.number (front_then x.seen.front r.account.log o) x.seen.front

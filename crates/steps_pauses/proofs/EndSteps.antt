@@ -30,8 +30,8 @@ use Rattle.heap_rule.specs.declared.phase.Kind.TheVariants.{Run}
 use Rattle.heap_rule.specs.Views.{one, Tells}
 use Rattle.heap_rule.proofs.FinaliserLemmas.{enrolled_none, paired_none, work_next}
 use Rattle.heap_rule.proofs.Values.{holds}
-use Rattle.heap_rule.proofs.Keeps.{mine, my_good, remakes, knows_entry, after_entry, legal_entry, cycle_here, sharing_here, sharings_here, phases_words, stood_other, run_still, hunter_as, running_took_back, resting_runs, resting_other, room_words, opened_words, takes_drawable, owes_as, more_same, run_leads, run_rooted, garbage_here}
-use Rattle.heap_rule.proofs.PauseFacts.{nobody_paused, staged_as}
+use Rattle.heap_rule.proofs.Keeps.{mine, my_good, remakes, knows_entry, after_entry, legal_entry, cycle_here, sharing_here, sharings_here, phases_words, stood_other, whole_still, hunter_as, running_took_back, resting_runs, resting_other, room_words, opened_words, takes_drawable, owes_as, more_same, run_leads, run_rooted, garbage_here}
+use Rattle.heap_rule.proofs.PauseFacts.{called_still, staged_as}
 use Rattle.heap_rule.proofs.Sharings.{SameCycle, KeepsUnderway, with_past}
 use Rattle.heap_rule.proofs.FullnessLemmas.{full_stays}
 use Rattle.heap_rule.proofs.Controls.{Untouched, found_untouched, making_untouched, pools_untouched, grid_untouched, heap_untouched, hunter_untouched, cycle_untouched, reserved_untouched, covered_untouched, counts_untouched, low_untouched, sum_one}
@@ -135,14 +135,14 @@ ends k slots id hist x acts s r _ at _ =
       cycle = cycle_here k s r id hist x at Run tt acts.runs (state_of k log') r.account.live r.account.tenancy past' ws (ap (λ (t : model.State). t.mode) after) (garbage_here k s r id hist x at r.account.live ws r.whole.cycle.leaves.dead (λ a _. heap_untouched k s.words ws untouched a)) same
           (subst (λ (t : model.State). KeepsUnderway k now t r.account.live r.account.live r.account.cycling past') (sym after) advance.advances.underway);
     }
-    (knows_entry k s r id hist x at y e alone refl refl)
+    (knows_entry k s r id hist x at y e alone (λ _. refl) refl refl)
     record {
       stood = subst (λ (t : model.State). Stood r.account.live t y) (sym after) stands;
       area = record { room = g.area.room; free = g.area.free; classes = g.area.classes };
       making = record { fits = prep.fits; written = prep.written };
       staged = staged_as r.account.pause x y refl refl refl g.staged;
-      still = run_still log' y acts.runs;
-      hunter = hunter_as k r.account.tenancy ws x y refl refl refl refl refl refl (hunter_untouched k r.account.tenancy s.words ws x untouched g.hunter);
+      still = whole_still log' y refl;
+      hunter = hunter_as k r.account.tenancy ws x y refl refl refl refl refl refl refl (hunter_untouched k r.account.tenancy s.words ws x untouched g.hunter);
       resting = resting_runs k s.words ws x y acts.runs acts.runs refl g.resting;
       took_back = running_took_back ws y acts.runs;
       owes = owes_as k r.account.live x y refl refl refl refl g.owes;
@@ -158,7 +158,7 @@ ends k slots id hist x acts s r _ at _ =
       area = h.area;
       making = making_untouched k s.words ws z untouched h.making;
       staged = h.staged;
-      still = λ paused. absurd (nobody_paused r.account.pause x z acts.runs g.staged h.staged paused);
+      still = called_still r.account.log r.account.pause x z e refl acts.runs g.staged h.staged h.still;
       hunter = hunter_untouched k r.account.tenancy s.words ws z untouched h.hunter;
       resting = resting_other k r.account.pause s.words ws x z (inl acts.runs) g.staged h.staged h.resting;
       took_back = λ kind leads last. same_want ∙ h.took_back kind leads last;
@@ -176,7 +176,7 @@ ends k slots id hist x acts s r _ at _ =
       subst (λ (n : ℕ). Rule k record { words = set s.words 8 n; homes = s.homes; views = set s.views id (one k hist y) }) (sym wrap) rule,
       (
         record {
-          answers = answers_push (sizes_in k) d r.account.log x.seen.front e Silent me.front (legal_entry k s r id hist x at e allowed) refl;
+          answers = answers_push (sizes_in k) d r.account.log x.seen.front e Silent me.front (λ _. g.still.1 acts.runs) (legal_entry k s r id hist x at e allowed) refl;
           view = refl;
           holds = holds k r.limits r.account.live r.whole.placed (next now e) y stands;
         },

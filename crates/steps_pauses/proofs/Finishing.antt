@@ -393,7 +393,7 @@ module _ (k : Config) (s : Words) (r : Rule k s) (id : ℕ) (hist : List Entry) 
       clean = f.clean;
       all_counted = f.all_counted;
       held = λ q e class gone owns. ⊎_elim
-          (λ z. has_block q class (owns ∙ ap (λ (n : ℕ). owned n class) z.0) (let p : ℕ = k.pools in let w : ℕ = x.seen.share.held in let far : p ≤ w = done.held here in let low : q < p = (r.whole.pools.owned_by q e class owns).0 in let h : q < w = omega arith in h))
+          (λ z. has_block q class (owns ∙ ap (λ (n : ℕ). owned n class) z.0) (let p : ℕ = k.pools in let w : ℕ = x.seen.share.held in let far : p ≤ w = done.held (inr here) in let low : q < p = (r.whole.pools.owned_by q e class owns).0 in let h : q < w = omega arith in h))
           (λ z. f.held q e class (sym z.1 ∙ gone) owns)
           (at_cases c.shares.arrived d true e);
     }

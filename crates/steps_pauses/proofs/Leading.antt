@@ -18,7 +18,7 @@ use Rattle.heap_rule.specs.declared.view.Copying.{Copying}
 use Rattle.heap_rule.specs.declared.view.DomainView.{DomainView}
 use Rattle.heap_rule.specs.declared.view.Share.{Share}
 use Rattle.heap_rule.specs.Copies.{nothing_copied, Promoting, Resetting, IsEmptying}
-use Rattle.heap_rule.specs.Cycles.{Cycling, Cycled, Facts, Told, IsIdle, seen_by, pass_of}
+use Rattle.heap_rule.specs.Cycles.{Cycling, Cycled, Facts, HasNoCycle, Told, IsIdle, seen_by, pass_of}
 use Rattle.heap_rule.specs.Layout.{heap_words, before_heap, barrier, plan, want, listed, cursor, listed_pool}
 use Rattle.heap_rule.specs.Limits.{sizes_in}
 use Rattle.heap_rule.specs.Phases.{code, Follows, flag, is_over, IsEven, Pause, Phases, AtStage, IsInPause}
@@ -34,14 +34,14 @@ use Rattle.heap_rule.specs.Rule.{Account, AllFound, Good, Rule, Sharing, Stood, 
 use Rattle.heap_rule.specs.Views.{one, fresh_share}
 use Rattle.heap_rule.proofs.Controls.{Untouched, found_untouched, making_untouched, pools_untouched, grid_untouched, counts_untouched, low_untouched, reserved_untouched, hunter_untouched, resting_untouched, cycle_untouched, heap_untouched}
 use Rattle.heap_rule.proofs.Keeps.{Words, mine, my_good, now, remakes, more_same, stood_other, sum_same, quiet_in, owes_rests, hunter_as, room_words, opened_words}
-use Rattle.heap_rule.proofs.PauseFacts.{not_both}
+use Rattle.heap_rule.proofs.PauseFacts.{led_runs, not_both}
 use Rattle.heap_rule.proofs.Sharings.{SameCycle, facts_words}
 use Rattle.heap_rule.proofs.Update.{over, over_here, over_else}
 use Rattle.heap_model.specs.declared.label.Label.{Label}
 use Rattle.heap_rule.proofs.EphemeronLemmas.{looks_idle}
 use Rattle.heap_rule.proofs.FinaliserLemmas.{paired_length}
 use Rattle.steps_pauses.proofs.Arriving.{whole_all}
-use Rattle.steps_pauses.specs.Pauses.{kind_in, entry_of, cut_in, unswept_after, whole_after, MayFollow, NamesFree, LeadMay, LeadTold}
+use Rattle.steps_pauses.specs.Pauses.{kind_in, armed_after, entry_of, cut_in, progress_after, unswept_after, whole_after, MayFollow, NamesFree, LeadMay, LeadTold}
 use Rattle.steps_pauses.proofs.CollectorEntries.{OfCollector, entry_of_collector, keeps_left, work_left, graph_left, front_then, after_logged, legal_logged, knows_logged, seen_then}
 use Rattle.steps_pauses.proofs.Naming.{left_by, logged, pass_in, left_in, led_cycle, Ready, Way, led_way}
 use Rattle.steps_pauses.proofs.Sizes.{domains_of}
@@ -65,6 +65,30 @@ pass_led Roots pass cut is = refl
 pass_led Reset pass cut is = refl
 pass_led Queued pass cut is = refl
 pass_led _ pass cut is = is
+
+-- and whether a cycle goes on beside the domains that run next
+armed_led : (last next : Kind) → Follows last next → HasNoCycle next → (armed known : Bool) → (HasNoCycle last → armed ≡ known) → (last ≡ Roots → next ≡ Run → armed ≡ true) → ((last ≡ Lasts) ⊎ (last ≡ Answer) → next ≡ Run → armed ≡ false)
+    → (last ≡ Sweep → next ≡ Run → armed ≡ false) → armed ≡ armed_after last next known
+armed_led Run next f none armed known same on over freed = subst (λ (n : Kind). armed ≡ armed_after Run n known) (sym f) (same tt)
+armed_led Promote next f none armed known same on over freed = subst (λ (n : Kind). armed ≡ armed_after Promote n known) (sym f) (same tt)
+armed_led Reset next f none armed known same on over freed = ⊎_elim
+    (λ (e : next ≡ Run). subst (λ (n : Kind). armed ≡ armed_after Reset n known) (sym e) (same tt))
+    (⊎_elim (λ (e : next ≡ Roots). absurd (subst HasNoCycle e none)) (⊎_elim (λ (e : next ≡ Mark). absurd (subst HasNoCycle e none)) (λ (e : next ≡ Sweep). absurd (subst HasNoCycle e none)))) f
+armed_led Roots next f none armed known same on over freed = ⊎_elim
+    (λ (e : next ≡ Mark). absurd (subst HasNoCycle e none))
+    (λ (e : next ≡ Run). subst (λ (n : Kind). armed ≡ armed_after Roots n known) (sym e) (on refl e)) f
+armed_led Mark next f none armed known same on over freed = absurd (⊎_elim (λ (e : next ≡ Mark). subst HasNoCycle e none) (λ (e : next ≡ Rounds). subst HasNoCycle e none) f)
+armed_led Rounds next f none armed known same on over freed = absurd (⊎_elim (λ (e : next ≡ Mark). subst HasNoCycle e none) (⊎_elim (λ (e : next ≡ Decide). subst HasNoCycle e none) (λ (e : next ≡ Clean). subst HasNoCycle e none)) f)
+armed_led Decide next f none armed known same on over freed = absurd (subst HasNoCycle f none)
+armed_led Queued next f none armed known same on over freed = absurd (subst HasNoCycle f none)
+armed_led Clean next f none armed known same on over freed = absurd (subst HasNoCycle f none)
+armed_led Lasts next f none armed known same on over freed = ⊎_elim
+    (λ (e : next ≡ Sweep). absurd (subst HasNoCycle e none))
+    (λ (e : next ≡ Run). subst (λ (n : Kind). armed ≡ armed_after Lasts n known) (sym e) (over (inl refl) e)) f
+armed_led Sweep next f none armed known same on over freed = ⊎_elim
+    (λ (e : next ≡ Run). subst (λ (n : Kind). armed ≡ armed_after Sweep n known) (sym e) (freed refl e))
+    (⊎_elim (λ (e : next ≡ Answer). absurd (subst HasNoCycle e none)) (λ (e : next ≡ Roots). absurd (subst HasNoCycle e none))) f
+armed_led Answer next f none armed known same on over freed = subst (λ (n : Kind). armed ≡ armed_after Answer n known) (sym f) (over (inr refl) f)
 
 flag_zero : (b : Bool) → 0 ≡ flag b → b ≡ false
 flag_zero true e = absurd (omega arith)
@@ -158,7 +182,7 @@ module _ (k : Config) (s : Words) (r : Rule k s) (id : ℕ) (hist : List Entry) 
   o = entry_of c.unswept last next
 
   abbrev y : DomainView
-  y = record x { seen = record x.seen { front = front_then x.seen.front r.account.log o; stage = Led next; share = record fresh_share { cut = cut_in last x.seen.share.cut; whole = whole_after last next x.seen.share.whole; unswept = unswept_after last next x.seen.share.unswept } } }
+  y = record x { seen = record x.seen { front = front_then x.seen.front r.account.log o; stage = Led next; share = record fresh_share { progress = progress_after last next x.seen.share.progress } } }
 
   good : Good k r.account s.words x
   good = my_good k s r id hist x at
@@ -217,13 +241,17 @@ module _ (k : Config) (s : Words) (r : Rule k s) (id : ℕ) (hist : List Entry) 
   whole : (l : Label) → c.paint.emptied l ≡ []
   whole = whole_all live tenancy.holder c (λ q d class is. ended_kind.1 d (r.whole.pools.owned_by q d class is).1) r.whole.cycle.whole
 
+  -- outside a collection it knows whether one goes on beside running domains
+  under_way : HasNoCycle last → c.armed ≡ x.seen.share.progress.armed
+  under_way none = good.sharing.leading.under_way may.leads (subst HasNoCycle (sym kind_is) none)
+
   ready : Ready k live state.graph last next c s.words
   ready = let l = good.sharing.leading in record {
     kind = kind_is;
     goes_on = λ g h. sym (l.armed true (knows.goes_on g h)).1;
-    begins = λ g h. (sym (l.armed false (knows.begins g h).0).1, l.unswept may.leads ∙ (knows.begins g h).1);
+    begins = λ g h. (under_way (subst HasNoCycle (sym g) tt) ∙ (knows.begins g h).0, l.unswept may.leads ∙ (knows.begins g h).1);
     frees = λ g h. l.unswept may.leads ∙ knows.frees g h;
-    finishes = λ g h. sym (l.armed true (knows.finishes g h)).1;
+    finishes = λ g h. under_way (subst HasNoCycle (sym g) tt) ∙ knows.finishes g h;
     over = λ g h. sym (l.armed false (knows.over g h)).1;
     freed = λ g h. l.unswept may.leads ∙ knows.freed g h;
     answers = λ h. (l.whole may.leads ∙ (knows.answers h).0, l.unswept may.leads ∙ (knows.answers h).1);
@@ -340,10 +368,11 @@ module _ (k : Config) (s : Words) (r : Rule k s) (id : ℕ) (hist : List Entry) 
       found_words = λ v e. cc;
       rotated = λ _ e. way.unturned e;
       turned = λ e. cc;
-      pass = λ first. pass_led last c.pass x.seen.share.cut (good.sharing.leading.pass first);
+      pass = λ first. pass_led last c.pass x.seen.share.progress.cut (good.sharing.leading.pass first);
       whole = λ first. ap (whole_after last next) (good.sharing.leading.whole first);
       armed = λ b e. cc;
       unswept = λ first. ap (unswept_after last next) (good.sharing.leading.unswept first);
+      under_way = λ _ none. armed_led last next follows none c.armed x.seen.share.progress.armed under_way ready.goes_on ready.over (λ g h. (r.whole.cycle.unswept (ready.freed g h)).unarmed);
     };
     knows = inl refl;
     adds = record { blocks = λ e _. (way.uncounted e x.own.number).0; words = λ e _. (way.uncounted e x.own.number).1; own = λ _ _ e. cc };
@@ -377,6 +406,7 @@ module _ (k : Config) (s : Words) (r : Rule k s) (id : ℕ) (hist : List Entry) 
           whole = λ first. absurd (apart first);
           armed = l.armed;
           unswept = λ first. absurd (apart first);
+          under_way = λ first. absurd (apart first);
         };
         knows = inl idle;
         adds = record {
@@ -454,17 +484,18 @@ module _ (k : Config) (s : Words) (r : Rule k s) (id : ℕ) (hist : List Entry) 
         };
         cycle = cycle_led;
       }
-      (knows_logged k s r id hist x at o collector y refl refl)
+      (knows_logged k s r id hist x at o collector may.leads y refl refl)
       record {
         stood = record { wide = mine_stood.wide; each = mine_stood.each; serial = mine_stood.serial; enrolled = mine_stood.enrolled };
         area = record { room = good.area.room; free = good.area.free; classes = good.area.classes };
         making = record { fits = made.fits; written = made.written };
         staged = record { arrivals = good.staged.arrivals; stage = (before.0, (j, odd, over_here (j + 1) next t.kinds), may.leads, refl) };
-        still = λ paused. absurd paused;
-        hunter = hunter_as k tenancy ws x y refl refl refl refl refl refl (hunter_untouched k tenancy s.words ws x untouched good.hunter);
+        still = (λ paused. absurd paused, λ runs. absurd (led_runs next runs));
+        hunter = hunter_as k tenancy ws x y refl refl refl refl refl refl refl (hunter_untouched k tenancy s.words ws x untouched good.hunter);
         resting = record {
           hunt = λ _. rest.hunt (λ takes. ⊎_elim stays (λ e. leads_promotes last (sym stage_is ∙ e)) takes);
           free = λ _. rest.free stays;
+          spare = λ _. rest.spare stays;
           lists = λ l e. let z = rest.lists l e in record { first = z.first; leads = tt; few = z.few; owners = z.owners; names = z.names; count = z.count; rewinds = z.rewinds };
         };
         took_back = λ kind leads _. absurd (led_leads next kind leads);
@@ -483,7 +514,10 @@ module _ (k : Config) (s : Words) (r : Rule k s) (id : ℕ) (hist : List Entry) 
           arrivals = h.staged.arrivals;
           stage = others_led t j next z.own.number z.own.arrivals z.seen.stage odd (λ first. other (first ∙ sym may.leads)) (subst (λ (n : ℕ). n ≤ t.phase + 1) (sym h.staged.arrivals) (r.whole.phases.each z.own.number below).1) h.staged.stage;
         };
-        still = λ paused. absurd (no_even (paused_even t z.own.number z.own.arrivals z.seen.stage paused h.staged.stage));
+        still = (
+          λ paused. absurd (no_even (paused_even t z.own.number z.own.arrivals z.seen.stage paused h.staged.stage)),
+          λ runs. let here = (subst (AtStage t z.own.number z.own.arrivals) runs h.staged.stage).1 in absurd (no_even (here.0, here.1)),
+        );
         hunter = hunter_untouched k tenancy s.words ws z untouched h.hunter;
         resting = resting_untouched k s.words ws z untouched h.resting;
         took_back = λ kind leads took. want_is ∙ h.took_back kind leads took;
@@ -496,7 +530,7 @@ module _ (k : Config) (s : Words) (r : Rule k s) (id : ℕ) (hist : List Entry) 
       })
 
   -- what is told of it
-  entry_known : o ≡ entry_of x.seen.share.unswept last next
+  entry_known : o ≡ entry_of x.seen.share.progress.unswept last next
   entry_known = ap (λ (u : Bool). entry_of u last next) (good.sharing.leading.unswept may.leads)
 
   fronted : (p : Option Entry) → o ≡ p → LeadTold k next x new y
@@ -513,6 +547,7 @@ module _ (k : Config) (s : Words) (r : Rule k s) (id : ℕ) (hist : List Entry) 
       before = r.account.log;
       front = ap (front_then x.seen.front r.account.log) f;
       seen = (mine k s r id hist x at).front;
+      led = (mine k s r id hist x at).led may.leads;
       legal = subst (λ (p : Option Entry). Legal (sizes_in k) (front_then x.seen.front r.account.log p)) (sym f) (subst (λ (p : Option Entry). Legal (sizes_in k) (logged r.account.log p)) f (legal_logged k s r id hist x at o way.allowed));
     };
     view = refl;

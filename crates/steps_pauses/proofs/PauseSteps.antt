@@ -1,5 +1,5 @@
 -- The steps of a pause keep the rule.
-use Rattle.std.proofs.Common.{◌≡◌, ◌≢◌, ℕ, ◌+◌, ◌*◌, ◌%◌, ◌^◌, ◌<◌, ◌≤◌, ◌⊎◌, List, [], ◌∷◌, ◌++◌, true, false, Option, Some, length, get_or, set, sym, refl, ap, ◌∙◌, subst, inl, inr, ⊎_elim, arith, length-set, get_or-set_same, get_or-set_other, lt_of_not-le, mul-le-mul_right}
+use Rattle.std.proofs.Common.{◌≡◌, ◌≢◌, ℕ, ◌+◌, ◌*◌, ◌%◌, ◌^◌, ◌<◌, ◌≤◌, ◌⊎◌, Bool, List, [], ◌∷◌, ◌++◌, true, false, Option, Some, length, get_or, set, sym, refl, ap, ◌∙◌, subst, inl, inr, ⊎_elim, arith, length-set, get_or-set_same, get_or-set_other, lt_of_not-le, mul-le-mul_right}
 use Rattle.std.specs.Prelude.{bit_or}
 use mathlib.Core.Logic.{dite}
 use native.Mathlib.Decide.{dec_le}
@@ -7,12 +7,15 @@ use mathlib.Core.Option.{some}
 use lib.ListN.{get_elem?}
 use Rattle.atomic_table.specs.Table.{keeps, Allows}
 use Rattle.heap_model.specs.declared.entry.Entry.{Entry}
+use Rattle.heap_model.specs.declared.label.Label.{Label}
+use Rattle.heap_model.specs.declared.state.Mode.TheVariants.{Open, Cut as CutMode}
 use Rattle.heap_model.specs.declared.state.State as model
 use Rattle.heap_model.proofs.Histories.FrontLemmas.{front_whole}
+use Rattle.cycle_laws.specs.Cycle as laws
 use Rattle.heap_rule.specs.declared.config.Config.{Config}
 use Rattle.heap_rule.specs.declared.view.DomainView.{DomainView}
 use Rattle.heap_rule.specs.declared.phase.Kind.{Kind}
-use Rattle.heap_rule.specs.declared.phase.Kind.TheVariants.{Run, Promote, Reset, Sweep, Answer}
+use Rattle.heap_rule.specs.declared.phase.Kind.TheVariants.{Run, Promote, Reset, Roots, Mark, Rounds, Decide, Queued, Clean, Lasts, Sweep, Answer}
 use Rattle.heap_rule.specs.declared.phase.Stage.{Stage}
 use Rattle.heap_rule.specs.declared.phase.Stage.TheVariants.{In, Leads, Gone}
 use Rattle.heap_rule.specs.declared.phase.Note.{Note}
@@ -20,51 +23,32 @@ use Rattle.heap_rule.specs.declared.phase.Note.TheVariants.{Want, Asked, Barrier
 use Rattle.heap_rule.specs.Layout.{heap_words, before_heap, barrier, ended_word, want}
 use Rattle.heap_rule.specs.Phases.{code, Follows, Comes, sum_of, is_over, IsEven, IsOdd, Pause, Phases, LeftOdd, AtStage, Staged, Still, IsInPause, TookBack, HasSetBack, Unwished, last_note}
 use Rattle.heap_rule.specs.Pools.{Tenancy, IsLeading}
-use Rattle.heap_rule.specs.Places.{Live}
+use Rattle.heap_rule.specs.Places.{Live, Shows}
+use Rattle.heap_rule.specs.Changes.{value_at}
+use Rattle.heap_rule.specs.Standing.{ShowsRegisters}
+use Rattle.heap_rule.proofs.Values.{shows}
+use Rattle.heap_model.specs.declared.graph.Value as graph_value
+use Rattle.heap_model.specs.declared.graph.Value.TheVariants.{Nothing}
+use Rattle.heap_model.specs.Domains.{register}
 use Rattle.heap_rule.specs.Cycles.{Cycling, Facts}
 use Rattle.heap_rule.specs.Copies.{nothing_copied}
 use Rattle.heap_rule.specs.declared.view.Copying.{Copying}
-use Rattle.steps_pauses.specs.Pauses.{noted, kind_in, IsGone, IsModeOf, WantTold, AskTold, ArriveMay, Arrived, LookTold, PlanTold, ClearTold, LeadMay, LeadTold, EndedTold}
+use Rattle.heap_rule.specs.Standing.{noted}
+use Rattle.steps_pauses.specs.Pauses.{kind_in, IsGone, IsModeOf, WantTold, AskTold, ArriveMay, Arrived, LookTold, PlanTold, ClearTold, LeadMay, LeadTold, EndedTold}
 use Rattle.heap_rule.specs.Raw.{MayStep, MayStore}
 use Rattle.heap_rule.specs.Rule.{state_of, Rule}
 use Rattle.heap_rule.specs.Views.{one, Tells}
 use Rattle.heap_rule.proofs.Controls.{untouched_same, sum_low, parity, Move, moved_to, no_move, turns, notes_rule, last_note_end}
 use Rattle.heap_rule.proofs.Holders.{stock_self}
 use Rattle.steps_pauses.proofs.Arrivals.{arrives}
-use Rattle.heap_rule.proofs.Keeps.{Words, mine, my_good, unmoved, nobody_leads, quiet_in, owes_rests, hunter_as}
-use Rattle.heap_rule.proofs.PauseFacts.{not_both}
+use Rattle.heap_rule.proofs.Keeps.{Words, mine, my_good, own, unmoved, nobody_leads, quiet_in, owes_rests, hunter_as, whole_still}
+use Rattle.heap_rule.proofs.Notes.{IsLook, asked_note, barrier_note, ended_note, noted_elsewhere, noted_otherwise, noted_rule, want_note}
+use Rattle.heap_rule.proofs.PauseFacts.{gone_runs, not_both}
 use Rattle.steps_pauses.proofs.Leading.{led_rule, led_told}
 use Rattle.steps_pauses.proofs.Arriving.{kind_acts, sharing_looked}
 
-gone_runs : (kind : Kind) → ◌≡◌ {A = Stage} (Gone kind) (In Run) → ⊥
-gone_runs kind e = cc
-
 gone_promotes : (kind : Kind) → ◌≡◌ {A = Stage} (Gone kind) (In Promote) → ⊥
 gone_promotes kind e = cc
-
--- the note says neither that the wishes were taken back nor that the cursor was set back
-record IsLook (n : Note) : Type 0 where
-  not_cleared : ◌≡◌ {A = Option Note} (Some n) (Some Cleared) → ⊥
-  not_set_back : ◌≡◌ {A = Option Note} (Some n) (Some SetBack) → ⊥
-
--- then whoever leaves it hasn't just taken them back, nor set the cursor back
-noted_otherwise : (words : List ℕ) (y : DomainView) (notes : List Note) (n : Note) → y.seen.notes ≡ notes ++ n ∷ [] → IsLook n → TookBack words y
-noted_otherwise words y notes n is other kind leads last = absurd (other.not_cleared (sym (ap last_note is ∙ last_note_end notes n) ∙ last))
-
-noted_elsewhere : (y : DomainView) (notes : List Note) (n : Note) → y.seen.notes ≡ notes ++ n ∷ [] → IsLook n → HasSetBack y → ⊥
-noted_elsewhere y notes n is other back = other.not_set_back (sym (ap last_note is ∙ last_note_end notes n) ∙ back.1)
-
-want_note : (n : ℕ) → IsLook (Want n)
-want_note n = record { not_cleared = λ e. cc; not_set_back = λ e. cc }
-
-asked_note : (n : ℕ) → IsLook (Asked n)
-asked_note n = record { not_cleared = λ e. cc; not_set_back = λ e. cc }
-
-barrier_note : (n : ℕ) → IsLook (Barrier n)
-barrier_note n = record { not_cleared = λ e. cc; not_set_back = λ e. cc }
-
-ended_note : (n : ℕ) → IsLook (Ended n)
-ended_note n = record { not_cleared = λ e. cc; not_set_back = λ e. cc }
 
 cleared_set_back : ◌≡◌ {A = Option Note} (Some Cleared) (Some SetBack) → ⊥
 cleared_set_back e = cc
@@ -79,7 +63,7 @@ noting k slots id word hist x note tells other says s r _ at _ =
       one k hist y,
       keeps,
       tt,
-      unmoved k s word (set s.views id (one k hist y)) (notes_rule k s r id hist x at y.seen.notes s.words (untouched_same s.words) refl r.whole.unwished (noted_otherwise s.words y x.seen.notes n refl (other (get_or s.words word 0))) (λ back. absurd (noted_elsewhere y x.seen.notes n refl (other (get_or s.words word 0)) back)) (λ z _ took. took) refl refl refl),
+      unmoved k s word (set s.views id (one k hist y)) (noted_rule k s r id hist x at n (other (get_or s.words word 0))),
       (says s r at, refl),
     )
 
@@ -96,13 +80,23 @@ leads_in : (a b : Kind) → ◌≡◌ {A = Stage} (Leads a) (In b) → ⊥
 leads_in a b e = cc
 
 -- how far the history is in a phase of a kind
+mode_by : (pass : laws.Pass) (s : model.State) (whole : Bool) (marked : Label → Bool) → laws.Passed pass s whole marked → (s.mode ≡ Open) ⊎ (s.mode ≡ CutMode)
+mode_by laws.First s whole marked p = inl p
+mode_by laws.Second s whole marked p = inr p.decided.seal.mode
+
 mode_of : (kind : Kind) (k : Config) (s : model.State) (live : Live) (t : Tenancy) (c : Cycling) (words : List ℕ) → Facts kind k s live t c words → IsModeOf kind s.mode
 mode_of Run k s live t c words f = f.mode
 mode_of Promote k s live t c words f = f.mode
 mode_of Reset k s live t c words f = f.mode
+mode_of Roots k s live t c words f = f.0.passed
+mode_of Mark k s live t c words f = mode_by c.pass s c.whole c.paint.marks.marked f.0.passed
+mode_of Rounds k s live t c words f = mode_by c.pass s c.whole c.paint.marks.marked f.0.passed
+mode_of Decide k s live t c words f = f.0.decide.mode
+mode_of Queued k s live t c words f = f.0.passed.decided.seal.mode
+mode_of Clean k s live t c words f = f.0.clean.mode
+mode_of Lasts k s live t c words f = f.facts.lasts.mode
 mode_of Sweep k s live t c words f = ⊎_elim (λ g. inr g.0) (λ g. inl g.0) f.since
 mode_of Answer k s live t c words f = f.mode
-mode_of _ k s live t c words f = tt
 
 mode_in : (k : Config) (s : Words) (r : Rule k s) (d arrivals : ℕ) (kind : Kind) → AtStage r.account.pause d arrivals (In kind) → IsModeOf kind (state_of k r.account.log).mode
 mode_in k s r d arrivals kind at =
@@ -165,22 +159,23 @@ looked_at k id hist x gone s r at =
         room = r.whole.room;
         unused = r.whole.unused;
         drawable = r.whole.drawable;
-        hunter = hunter_as k tenancy s.words x (moved_to x (moving stage)) refl refl refl refl refl refl g.hunter;
+        hunter = hunter_as k tenancy s.words x (moved_to x (moving stage)) refl refl refl refl refl refl refl g.hunter;
         stocks = λ e _. stock_self tenancy.stock e;
         set_back = λ back. absurd (noted_elsewhere (moved_to x (moving stage)) x.seen.notes (Barrier b) refl (barrier_note b) back);
         sweeps = g.sweeps;
         others_sweep = λ z _ _ h. h.sweeps;
         untouched = untouched_same s.words;
-        front = front_whole x.own.number r.account.log;
+        front = inr refl;
         phases = P;
         endings = refl;
         staged = record { arrivals = st.arrivals; stage = at' };
-        still = λ _. refl;
+        still = whole_still r.account.log (moved_to x (moving stage)) refl;
         drawers = r.whole.drawers;
         free = λ f e. e;
         resting = let rest = (my_good k s r id hist x at).resting in let stays : x.seen.stage ≢ In Run = (λ e. gone_runs (kind_in x.seen.stage) (sym gone ∙ e)) in record {
           hunt = λ n. rest.hunt (λ takes. ⊎_elim stays (λ e. gone_promotes (kind_in x.seen.stage) (sym gone ∙ e)) takes);
           free = λ n. rest.free stays;
+          spare = λ n. rest.spare stays;
           lists = λ l e. absurd (subst IsLeading gone (rest.lists l e).leads);
         };
         others = λ z _ _ its. its;
@@ -190,7 +185,7 @@ looked_at k id hist x gone s r at =
       };
       told = record {
         waits = λ below. absurd (let u : b < end = below in let w : end ≤ b = over_it in omega arith);
-        begun = λ _. record { seen = me.front; legal = r.whole.legal; kind = says.0; stage = says.1; comes = comes; mode = λ kind is. mode_in k s r x.own.number a kind (subst (AtStage t x.own.number a) is at'); view = refl };
+        begun = λ _. record { seen = me.front; led = me.led; legal = r.whole.legal; kind = says.0; stage = says.1; comes = comes; mode = λ kind is. mode_in k s r x.own.number a kind (subst (AtStage t x.own.number a) is at'); view = refl };
       };
     }) in
     ⊎_elim
@@ -202,7 +197,7 @@ looked_at k id hist x gone s r at =
     (parity t.phase))
     (λ not_over. record {
       after = noted x (Barrier b);
-      rule = notes_rule k s r id hist x at notes s.words (untouched_same s.words) refl r.whole.unwished (noted_otherwise s.words (noted x (Barrier b)) x.seen.notes (Barrier b) refl (barrier_note b)) (λ back. absurd (noted_elsewhere (noted x (Barrier b)) x.seen.notes (Barrier b) refl (barrier_note b) back)) (λ z _ took. took) refl refl refl;
+      rule = noted_rule k s r id hist x at (Barrier b) (barrier_note b);
       told = record { waits = λ _. refl; begun = λ over_it. absurd (not_over over_it) };
     })
 
@@ -244,9 +239,15 @@ over_few k s r =
     one_at_most true = omega arith
     one_at_most false = omega arith
 
+-- the registers show what they hold in the state after the front
+shows_registers : (k : Config) (s : Words) (r : Rule k s) (id : ℕ) (hist : List Entry) (x : DomainView) (at : get_elem? s.views id ≡ some (one k hist x)) → ShowsRegisters k x
+shows_registers k s r id hist x at q few =
+    let held = shows r.account.live (value_at x.own.registers q) (register (state_of k r.account.log) x.own.number q) ((my_good k s r id hist x at).stood.each q few) in
+    subst (λ (l : List graph_value.Value). Shows (value_at x.own.registers q) (get_or l q Nothing)) (own k s r id hist x at).registers held
+
 -- what the step calls ask of the rule
-pub want_may : (k : Config) (x : DomainView) → MayStep k x 0 (λ n. n) WantTold
-want_may k x fits slots id h = noting k slots id 0 h x Want WantTold want_note (λ s r at. refl)
+pub want_may : (k : Config) (x : DomainView) → MayStep k x 0 (λ n. n) (WantTold k)
+want_may k x fits slots id h = noting k slots id 0 h x Want (WantTold k) want_note (λ s r at. record { view = refl; registers = shows_registers k s r id h x at })
 
 pub ended_may : (k : Config) (x : DomainView) → MayStep k x 8 (λ n. n) (EndedTold k)
 ended_may k x fits slots id h = noting k slots id 8 h x Ended (EndedTold k) ended_note (λ s r at. (refl, over_few k s r))

@@ -94,7 +94,7 @@ nothing_due k x none =
       cleaned = λ here. absurd (apart Clean (λ h. h) here);
       decided = λ here. absurd (apart Decide (λ h. h) here);
       settled = λ here. absurd (apart Lasts (λ h. h) here);
-      held = λ here. absurd (apart Answer (λ h. h) here);
+      held = λ here. absurd (⊎_elim (apart Sweep (λ h. h)) (apart Answer (λ h. h)) here);
       added = λ here. absurd (apart Sweep (λ h. h) here);
     }
 

@@ -5,9 +5,9 @@ use Rattle.heap_model.specs.Domains.{class_count}
 use Rattle.heap_model.specs.declared.entry.Entry.TheVariants.{End, Cut, Seal, Collected, Done}
 use Rattle.heap_model.specs.declared.reply.Applied.TheVariants.{Silent}
 use Rattle.heap_model.specs.declared.state.Mode.{Mode}
-use Rattle.heap_model.specs.declared.state.Mode.TheVariants.{Open, Sealed, Answer as Answered}
+use Rattle.heap_model.specs.declared.state.Mode.TheVariants.{Open, Cut as CutMode, Sealed, Answer as Answered}
 use Rattle.heap_model.specs.History.{Legal}
-use Rattle.heap_model.specs.Fronts.{IsFrontOf, Answers}
+use Rattle.heap_model.specs.Fronts.{IsFrontOf, Answers, AreNotControls, unseen}
 use Rattle.heap_words.specs.declared.value.Value.TheVariants.{Nothing, Ref}
 use Rattle.heap_rule.specs.declared.config.Config.{Config}
 use Rattle.heap_rule.specs.declared.view.DomainView.{DomainView}
@@ -18,7 +18,7 @@ use Rattle.remembered_set.specs.Bounded.{Bounded}
 use Rattle.heap_rule.specs.declared.phase.Kind.{Kind}
 use Rattle.heap_rule.specs.declared.phase.Stage.{Stage}
 use Rattle.heap_rule.specs.declared.phase.Stage.TheVariants.{In, Leads, Led, Gone}
-use Rattle.heap_rule.specs.declared.phase.Note.{Note}
+use Rattle.heap_rule.specs.declared.phase.Progress.{Progress}
 use Rattle.heap_rule.specs.declared.phase.Note.TheVariants.{Want, Asked, Barrier, Ended, Cleared, SetBack}
 use Rattle.heap_rule.specs.declared.view.Hunt.TheVariants.{Rests}
 use Rattle.heap_rule.specs.Limits.{sizes_in}
@@ -26,7 +26,7 @@ use Rattle.heap_rule.specs.Phases.{code, Follows, Comes, IsEven, IsOdd, last_not
 use Rattle.heap_rule.specs.Pools.{prepared_at}
 use Rattle.heap_rule.specs.Copies.{nothing_copied, HoldsOld}
 use Rattle.heap_rule.specs.Rule.{state_of}
-use Rattle.heap_rule.specs.Standing.{with_front, with_own}
+use Rattle.heap_rule.specs.Standing.{noted, with_front, with_own, ShowsRegisters}
 use Rattle.heap_rule.specs.Token.{Holds}
 use Rattle.heap_rule.specs.declared.phase.Kind.TheVariants.{Run, Promote, Reset, Roots, Mark, Rounds, Clean, Sweep, Answer, Decide, Queued, Lasts}
 use Rattle.heap_rule.specs.Views.{fresh_share, voided}
@@ -36,10 +36,6 @@ use Rattle.heap_rule.specs.Cycles.{seen_by}
 use Rattle.heap_rule.specs.Finalisers.{held_at}
 use Rattle.heap_model.specs.declared.entry.Entry.{Entry}
 use Rattle.heap_rule.specs.declared.view.Share.{Share}
-
--- the domain with one note more, and all else as it was
-abbrev pub noted : DomainView → Note → DomainView
-noted x note = record x { seen = record x.seen { notes = x.seen.notes ++ note ∷ [] } }
 
 -- the kind that a stage names
 abbrev pub kind_in : Stage → Kind
@@ -52,9 +48,14 @@ kind_in (Gone kind) = kind
 abbrev pub IsGone : DomainView → Type 0
 IsGone x = x.seen.stage ≡ Gone (kind_in x.seen.stage)
 
--- a load of the want word
-abbrev pub WantTold : DomainView → ℕ → DomainView → Type 0
-WantTold x found y = y ≡ noted x (Want found)
+-- a load of the want word tells too that the registers hold what they hold in the state
+pub record WantTold (k : Config) (x : DomainView) (found : ℕ) (y : DomainView) : Type 0 where
+  pub view : y ≡ noted x (Want found)
+  pub registers : ShowsRegisters k x
+
+-- one wish: for a minor collection, for a cycle, for the end of one, or for a complete collection
+abbrev pub IsWish : ℕ → Type 0
+IsWish bits = (bits ≡ 1) ⊎ ((bits ≡ 2) ⊎ ((bits ≡ 4) ⊎ (bits ≡ 8)))
 
 -- bits of the want word are set
 abbrev pub AskTold : ℕ → DomainView → ℕ → DomainView → Type 0
@@ -94,7 +95,7 @@ pub record HasDone (k : Config) (x : DomainView) : Type 0 where
   -- and so at each of `finalise_last`
   pub settled : x.seen.stage ≡ In Lasts → x.seen.share.kept ≡ length x.own.finalisers.lasts.items
   -- its pools hold blocks
-  pub held : x.seen.stage ≡ In Answer → k.pools ≤ x.seen.share.held
+  pub held : (x.seen.stage ≡ In Sweep) ⊎ (x.seen.stage ≡ In Answer) → k.pools ≤ x.seen.share.held
   -- it has added what it has counted
   pub added : x.seen.stage ≡ In Sweep → (x.seen.share.added_blocks ≡ true) × (x.seen.share.added_words ≡ true)
 
@@ -117,11 +118,11 @@ pub record ArriveMay (k : Config) (x : DomainView) : Type 0 where
 abbrev pub forgotten : {A : Type 0} → Bounded A → Bounded A
 forgotten l = record { items = []; room = l.room + length l.items }
 
--- the domain has arrived: its list of copies is empty, and what it knows of the blocks that it met, of how many pools are free, of the list that it wrote, and of the phase but for the cut, whether the cycle is whole and whether a sweep is owed, is void
+-- the domain has arrived: its list of copies is empty, and what it knows of the blocks that it met, of how many pools are free, of a free place, of the list that it wrote, and of the phase but for how far a collection has come, is void
 abbrev pub arrived_view : DomainView → DomainView
 arrived_view x = record {
   own = record x.own { arrivals = x.own.arrivals + 1; pending = forgotten x.own.pending };
-  seen = record x.seen { stage = Gone (kind_in x.seen.stage); free = None; listing = None; copying = nothing_copied; share = voided x.seen.share };
+  seen = record x.seen { stage = Gone (kind_in x.seen.stage); free = []; spare = None; listing = None; copying = nothing_copied; share = voided x.seen.share };
 }
 
 abbrev pub Arrived : DomainView → ℕ → DomainView → Type 0
@@ -140,13 +141,20 @@ abbrev pub IsModeOf : Kind → Mode → Type 0
 IsModeOf Run mode = mode ≡ Open
 IsModeOf Promote mode = mode ≡ Open
 IsModeOf Reset mode = mode ≡ Open
+IsModeOf Roots mode = mode ≡ Open
+IsModeOf Mark mode = (mode ≡ Open) ⊎ (mode ≡ CutMode)
+IsModeOf Rounds mode = (mode ≡ Open) ⊎ (mode ≡ CutMode)
+IsModeOf Decide mode = mode ≡ CutMode
+IsModeOf Queued mode = mode ≡ CutMode
+IsModeOf Clean mode = mode ≡ Sealed
+IsModeOf Lasts mode = mode ≡ Sealed
 IsModeOf Sweep mode = (mode ≡ Open) ⊎ (mode ≡ Sealed)
 IsModeOf Answer mode = mode ≡ Answered
-IsModeOf _ mode = Unit {0}
 
 -- the phase has begun: the front is the whole history so far, and an even phase is of the kind that domain 0 named, which follows the last
 pub record Begun (k : Config) (x : DomainView) (found : ℕ) (y : DomainView) : Type 0 where
   pub seen : IsFrontOf x.own.number y.seen.front x.seen.front
+  pub led : x.own.number ≡ 0 → AreNotControls (unseen y.seen.front x.seen.front)
   pub legal : Legal (sizes_in k) y.seen.front
   pub kind : Kind
   pub stage : ((y.seen.stage ≡ In kind) × IsEven x.own.arrivals) ⊎ ((y.seen.stage ≡ Leads (kind_in x.seen.stage)) × IsOdd x.own.arrivals)
@@ -197,6 +205,14 @@ whole_after Sweep Roots whole = true
 whole_after Reset Mark whole = false
 whole_after _ _ whole = whole
 
+-- whether one goes on beside running domains, where a kind is named after another: from where the domains run behind Roots until they run behind the phase that ends it
+abbrev pub armed_after : Kind → Kind → Bool → Bool
+armed_after Roots Run armed = true
+armed_after Lasts Run armed = false
+armed_after Sweep Run armed = false
+armed_after Answer Run armed = false
+armed_after _ _ armed = armed
+
 -- whether garbage of a collection is left, where a kind is named after another
 abbrev pub unswept_after : Kind → Kind → Bool → Bool
 unswept_after Lasts Run unswept = true
@@ -205,20 +221,24 @@ unswept_after Sweep Answer unswept = false
 unswept_after Sweep Roots unswept = false
 unswept_after _ _ unswept = unswept
 
--- What domain 0 knows as it names the next kind. It leaves the marking when it has found that nothing was changed, to one side before the cut is made, to the other after it. It leaves Lasts once it has rotated the colours. Where garbage is freed next it has set the live words back. The domains run again beside the cycle where the armed word says that one goes on; one that goes on is finished, and another begins where none does, and no garbage of the last one is left: where some is, it is freed first. After a collection none goes on. A collection is answered where it began in this pause
+-- how far a collection has come once a kind is named after another
+abbrev pub progress_after : Kind → Kind → Progress → Progress
+progress_after last next p = record { cut = cut_in last p.cut; whole = whole_after last next p.whole; unswept = unswept_after last next p.unswept; armed = armed_after last next p.armed }
+
+-- What domain 0 knows as it names the next kind. It leaves the marking when it has found that nothing was changed, to one side before the cut is made, to the other after it. It leaves Lasts once it has rotated the colours. Where garbage is freed next it has set the live words back. The domains run again beside the cycle where it has stored so in the armed word; one that goes on is finished, and another begins where none does, and no garbage of the last one is left: where some is, it is freed first. After a collection it has taken the armed word back. A collection is answered where it began in this pause
 pub record MayFollow (share : Share) (last next : Kind) : Type 0 where
   pub unchanged : (next ≡ Rounds) ⊎ ((next ≡ Decide) ⊎ (next ≡ Clean)) → share.changed ≡ Some 0
-  pub first : next ≡ Decide → share.cut ≡ false
-  pub second : next ≡ Clean → share.cut ≡ true
+  pub first : next ≡ Decide → share.progress.cut ≡ false
+  pub second : next ≡ Clean → share.progress.cut ≡ true
   pub rotated : last ≡ Lasts → share.rotated ≡ true
   pub set_back : next ≡ Sweep → (share.blocks ≡ Some 0) × (share.words ≡ Some 0)
   pub goes_on : last ≡ Roots → next ≡ Run → share.armed ≡ Some true
-  pub begins : last ≡ Reset → next ≡ Roots → (share.armed ≡ Some false) × (share.unswept ≡ false)
-  pub frees : last ≡ Reset → next ≡ Sweep → share.unswept ≡ true
-  pub finishes : last ≡ Reset → next ≡ Mark → share.armed ≡ Some true
+  pub begins : last ≡ Reset → next ≡ Roots → (share.progress.armed ≡ false) × (share.progress.unswept ≡ false)
+  pub frees : last ≡ Reset → next ≡ Sweep → share.progress.unswept ≡ true
+  pub finishes : last ≡ Reset → next ≡ Mark → share.progress.armed ≡ true
   pub over : (last ≡ Lasts) ⊎ (last ≡ Answer) → next ≡ Run → share.armed ≡ Some false
-  pub freed : last ≡ Sweep → next ≡ Run → share.unswept ≡ true
-  pub answers : next ≡ Answer → (share.whole ≡ true) × (share.unswept ≡ false)
+  pub freed : last ≡ Sweep → next ≡ Run → share.progress.unswept ≡ true
+  pub answers : next ≡ Answer → (share.progress.whole ≡ true) × (share.progress.unswept ≡ false)
 
 -- domain 0 has written the list of free pools anew in this phase, from all owner words, and the cursor is 0: each pool whose owner word says nobody is listed
 pub record NamesFree (k : Config) (x : DomainView) : Type 0 where
@@ -246,14 +266,15 @@ pub record EndsWith (k : Config) (x y : DomainView) (e : Entry) : Type 0 where
   pub before : List Entry
   pub front : y.seen.front ≡ before ++ e ∷ []
   pub seen : IsFrontOf x.own.number before x.seen.front
+  pub led : AreNotControls (unseen before x.seen.front)
   pub legal : Legal (sizes_in k) y.seen.front
 
 -- what domain 0 knew of the phase is void, and the collector's entry stands, if there is one
 pub record LeadTold (k : Config) (next : Kind) (x : DomainView) (found : ℕ) (y : DomainView) : Type 0 where
   pub seen : IsFrontOf x.own.number y.seen.front x.seen.front
-  pub stays : entry_of x.seen.share.unswept (kind_in x.seen.stage) next ≡ None → y.seen.front ≡ x.seen.front
-  pub made : (e : Entry) → entry_of x.seen.share.unswept (kind_in x.seen.stage) next ≡ Some e → EndsWith k x y e
-  pub view : y ≡ record x { seen = record x.seen { front = y.seen.front; stage = Led next; share = record fresh_share { cut = cut_in (kind_in x.seen.stage) x.seen.share.cut; whole = whole_after (kind_in x.seen.stage) next x.seen.share.whole; unswept = unswept_after (kind_in x.seen.stage) next x.seen.share.unswept } } }
+  pub stays : entry_of x.seen.share.progress.unswept (kind_in x.seen.stage) next ≡ None → y.seen.front ≡ x.seen.front
+  pub made : (e : Entry) → entry_of x.seen.share.progress.unswept (kind_in x.seen.stage) next ≡ Some e → EndsWith k x y e
+  pub view : y ≡ record x { seen = record x.seen { front = y.seen.front; stage = Led next; share = record fresh_share { progress = progress_after (kind_in x.seen.stage) next x.seen.share.progress } } }
 
 -- the token's own data after the end of a trace: the registers hold nothing, and nothing is registered
 abbrev pub ended_own : Own → Own

@@ -3,7 +3,7 @@ ghost use Rattle.std.specs.Prelude.{◌≡◌, ◌+◌};
 ghost use Rattle.heap_rule.specs.declared.phase.Kind.TheVariants.{Run};
 ghost use Rattle.heap_rule.specs.declared.phase.Stage.TheVariants.{In};
 ghost use Rattle.heap_rule.specs.Phases.{kind_at};
-ghost use Rattle.steps_pauses.specs.Pauses.{IsGone, ArriveMay, ClearMay, LeadMay, WantTold, AskTold, Arrived, LookTold, PlanTold, ClearTold, LeadTold, EndTold, EndedTold};
+ghost use Rattle.steps_pauses.specs.Pauses.{IsGone, IsWish, ArriveMay, ClearMay, LeadMay, WantTold, AskTold, Arrived, LookTold, PlanTold, ClearTold, LeadTold, EndTold, EndedTold};
 ghost use Rattle.heap_rule.specs.Standing.{Acts};
 ghost use Rattle.heap_rule.specs.Token.{IsIn};
 
@@ -14,19 +14,22 @@ use heap_rule::{
 use heap_words::Value;
 use std::marker::Brand;
 
-/// A load of the want word, at which no entry stands. Answers the word.
+/// A load of the want word, at which no entry stands. Answers the word. It tells too that the registers
+/// hold what they hold in the state after the front: of a block not which, for that see `label_load`.
 pub fn want_load(heap: &Heap, dom: &mut Domain) -> u64
     requires here { IsIn dom.old heap.now }
     ensures here { IsIn dom.new heap.now }
-    ensures told { WantTold dom.old.view result dom.new.view }
+    ensures told { WantTold heap.now.config dom.old.view result dom.new.view }
 {
     raw_load::<Brand, Leaving>(heap, dom, WANT, &Leaving, &[])
 }
 
-/// A running domain sets bits of the want word.
+/// A running domain sets a bit of the want word: it wishes for a minor collection (1), for a cycle of the
+/// major heap (2), for the end of the one that goes on (4), or for a complete collection (8).
 pub fn ask(heap: &Heap, dom: &mut Domain, bits: u64)
     requires here { IsIn dom.old heap.now }
     requires runs { dom.old.view.seen.stage ≡ In Run }
+    requires wish { IsWish bits }
     ensures here { IsIn dom.new heap.now }
     ensures told { AskTold bits dom.old.view 0 dom.new.view }
 {

@@ -1,7 +1,7 @@
 -- The steps that take a free block of the pools keep the rule.
 use Rattle.heap_model.specs.Domains.{class_count, reserve}
 use Rattle.heap_rule.specs.Limits.{sizes_in}
-use Rattle.std.proofs.Common.{◌≡◌, ◌≢◌, ℕ, ◌+◌, ◌*◌, ◌-◌, ◌^◌, ◌%◌, ◌<◌, ◌≤◌, ◌⊎◌, List, length, get_or, set, Option, Some, None, sym, refl, ap, ◌∙◌, subst, inl, inr, ⊎_elim, arith, add-one, suc-mul, length-set, get_or-set_same, get_or-set_other, IsTrue, Bool}
+use Rattle.std.proofs.Common.{◌≡◌, ◌≢◌, ℕ, ◌+◌, ◌*◌, ◌-◌, ◌^◌, ◌%◌, ◌<◌, ◌≤◌, ◌⊎◌, List, [], ◌∷◌, length, get_or, set, slice_get, Option, Some, None, sym, refl, ap, ◌∙◌, subst, inl, inr, ⊎_elim, arith, add-one, suc-mul, length-set, get_or-set_same, get_or-set_other, IsTrue, Bool}
 use mathlib.Core.Logic.{dite}
 use native.Mathlib.Decide.{ℕ_discrete}
 use mathlib.Core.Option.{some}
@@ -22,7 +22,7 @@ use Rattle.heap_rule.specs.Rule.{state_of, Rule}
 use Rattle.heap_rule.specs.Copies.{Promoting}
 use Rattle.heap_rule.specs.Pools.{Holder, nobody, drawn, owned, owner_word, Stock, Tenancy, Takes, Pools, KeepsReserve, IsTaking, Hunts, Hunter, Latest, DrawsFor, IsBefore, spot_at, drawn_in, hunting, hunting_free, place_in, blocks_of, limit_of, prepared_at}
 use Rattle.heap_rule.specs.Phases.{Phases, AtStage, sum_of}
-use Rattle.steps_pools.specs.Takes.{with_hunt, found_free, HasNoDraw, NoneFree}
+use Rattle.steps_pools.specs.Takes.{with_hunt, found_free, HasNoDraw, LeavesSpare, NoneFree}
 use Rattle.heap_rule.proofs.Update.{over, over_here, over_else}
 use Rattle.heap_rule.proofs.Keeps.{Words, mine, my_good, phases_words, holds_again, room_words, run_copying}
 use Rattle.heap_rule.proofs.PauseFacts.{run_promoting, promote_now}
@@ -61,14 +61,15 @@ draws_none c (Labels address label) none is = is
 draws_none c (Heads address label head) none is = is
 
 -- what a domain knows of its pools goes on where it has drawn none, and another hunt is known
-pub hunter_on : (k : Config) (t : Tenancy) (words : List ℕ) (x : DomainView) (looked : List Spot) (h : Hunt) (free : Option ℕ) → Hunts k t words x.own.number h → drawn_in x.seen.hunt ≡ None
+pub hunter_on : (k : Config) (t : Tenancy) (words : List ℕ) (x : DomainView) (looked : List Spot) (h : Hunt) (free : List ℕ) → Hunts k t words x.own.number h → drawn_in x.seen.hunt ≡ None
     → ((q c slot : ℕ) → t.holder q ≡ owned x.own.number c → slot < blocks_of c → IsBefore q slot (spot_at looked c) → at_address k words (place_in q c slot) ≢ 0)
-    → ((f : ℕ) → free ≡ Some f → (listed words ≤ f + cursor words) × (listed words ≤ f + limit_of k (listed words)) × (f ≤ listed words)) → Hunter k t words x → Hunter k t words (hunting_free x looked h free)
+    → ((f : ℕ) → slice_get free 0 ≡ Some f → (listed words ≤ f + cursor words) × (listed words ≤ f + limit_of k (listed words)) × (f ≤ listed words)) → Hunter k t words x → Hunter k t words (hunting_free x looked h free)
 hunter_on k t words x looked h free knows none taken bounds hunter = record {
   hunt = knows;
   drawn_alone = λ q e. absurd (none-some q (sym none ∙ hunter.drawn_alone q e));
   taken = taken;
   free = bounds;
+  spare = hunter.spare;
   holds = hunter.holds;
   prepared = hunter.prepared;
   claims = hunter.claims;
@@ -122,8 +123,18 @@ module _ (k : Config) (s : Words) (r : Rule k s) (id : ℕ) (hist : List Entry) 
   pub pools : Pools k t s.words
   pools = r.whole.pools
 
+  -- the place that is known to be free isn't passed
+  pub leaves_spare : LeavesSpare k x
+  leaves_spare z e none =
+      let f = hunter.spare z e in
+      let inside : z.pool < k.pools = (pools.owned_by z.pool me z.class f.own_is).0 in
+      let full : k.pools ≤ (spot_at x.own.looked z.class).pool = none in
+      let w : ℕ = (spot_at x.own.looked z.class).pool in
+      let before : z.pool < w = omega arith in
+      hunter.taken z.pool z.class z.slot f.own_is f.inside (inl before) f.free
+
   -- where it doesn't run, it knows nothing of how many pools are free
-  pub known_free : x.seen.stage ≢ In Run → x.seen.free ≡ None
+  pub known_free : x.seen.stage ≢ In Run → x.seen.free ≡ []
   known_free = (my_good k s r id hist x at).resting.free
 
   -- while it runs, copying has drawn no pool
@@ -183,7 +194,7 @@ module _ (k : Config) (s : Words) (r : Rule k s) (id : ℕ) (hist : List Entry) 
 
   -- as many are free as the load of the cursor found, and the domain takes no more
   pub rests_rule : x.seen.stage ≡ In Run → (n f : ℕ) → x.seen.hunt ≡ Counts n → BoundsFree n (cursor s.words) f → Rule k record { words = s.words; homes = s.homes; views = set s.views id (one k hist (found_free x f Rests)) }
-  rests_rule runs n f is bounds = holds_again k s r id hist x at x.own.looked Rests (Some f) s.words t record {
+  rests_rule runs n f is bounds = holds_again k s r id hist x at x.own.looked Rests (f ∷ x.seen.free) s.words t record {
     takes = takes;
     known_free = λ stays. absurd (stays runs);
     wide = refl;
@@ -205,7 +216,7 @@ module _ (k : Config) (s : Words) (r : Rule k s) (id : ℕ) (hist : List Entry) 
     grid = r.whole.grid;
     drawers = r.whole.drawers;
     makings = λ z p. p;
-    hunter = hunter_on k t s.words x x.own.looked Rests (Some f) tt (ap drawn_in is) hunter.taken
+    hunter = hunter_on k t s.words x x.own.looked Rests (f ∷ x.seen.free) tt (ap drawn_in is) hunter.taken
         (λ g e. subst (BoundsFree (listed s.words) (cursor s.words)) (same_Some f g e) (subst (λ (m : ℕ). BoundsFree m (cursor s.words) f) (sym (subst (Hunts k t s.words me) is hunter.hunt)) bounds)) hunter;
     hunters = λ z _ g. g.hunter;
   }
@@ -219,7 +230,7 @@ module _ (k : Config) (s : Words) (r : Rule k s) (id : ℕ) (hist : List Entry) 
   asks_rule runs n is below =
       let counts : listed s.words ≡ n = subst (Hunts k t s.words me) is hunter.hunt in
       let t' : Tenancy = record t { asking = over me 1 t.asking } in
-      holds_again k s r id hist x at x.own.looked (Asks n) (Some (n - cursor s.words)) s.words t' record {
+      holds_again k s r id hist x at x.own.looked (Asks n) ((n - cursor s.words) ∷ x.seen.free) s.words t' record {
         takes = takes;
         known_free = λ stays. absurd (stays runs);
         wide = refl;
@@ -258,6 +269,7 @@ module _ (k : Config) (s : Words) (r : Rule k s) (id : ℕ) (hist : List Entry) 
           hunt = (counts, over_here me 1 t.asking);
           free = λ f e. subst (BoundsFree (listed s.words) (cursor s.words)) (same_Some (n - cursor s.words) f e) (subst (λ (m : ℕ). BoundsFree m (cursor s.words) (n - cursor s.words)) (sym counts) (below_bounds n (cursor s.words) below));
           drawn_alone = λ q e. sym (ap drawn_in is) ∙ hunter.drawn_alone q e;
+          spare = hunter.spare;
           taken = hunter.taken;
           holds = hunter.holds;
           prepared = hunter.prepared;
@@ -331,7 +343,7 @@ module _ (k : Config) (s : Words) (r : Rule k s) (id : ℕ) (hist : List Entry) 
 
     -- it found none
     pub late_rule : x.seen.stage ≡ In Run → (n : ℕ) → x.seen.hunt ≡ Asks n → limit_of k n ≤ c → Rule k record { words = words1; homes = s.homes; views = set s.views id (one k hist (found_free x (n - limit_of k n) Rests)) }
-    late_rule runs n is past = holds_again k s r id hist x at x.own.looked Rests (Some (n - limit_of k n)) words1 (record t { asking = asking' }) record {
+    late_rule runs n is past = holds_again k s r id hist x at x.own.looked Rests ((n - limit_of k n) ∷ x.seen.free) words1 (record t { asking = asking' }) record {
       takes = takes;
       known_free = λ stays. absurd (stays runs);
       wide = length-set s.words 7 (c + 1);
@@ -367,6 +379,7 @@ module _ (k : Config) (s : Words) (r : Rule k s) (id : ℕ) (hist : List Entry) 
         hunt = tt;
         free = λ f e. late_free f (same_Some (n - limit_of k n) f e);
         drawn_alone = λ q e. sym (ap drawn_in is) ∙ hunter.drawn_alone q e;
+        spare = λ u e. let f = hunter.spare u e in record { own_is = f.own_is; inside = f.inside; free = agrees.heap (place_in u.pool u.class u.slot) (omega arith) ∙ f.free };
         taken = λ q c slot is inside low e. hunter.taken q c slot is inside low (sym (agrees.heap (place_in q c slot) (omega arith)) ∙ e);
         holds = hunter.holds;
         prepared = hunter.prepared;
@@ -546,6 +559,7 @@ module _ (k : Config) (s : Words) (r : Rule k s) (id : ℕ) (hist : List Entry) 
           hunt = record { inside = pool_inside; listed_is = place_inside; names = agrees.list c place_inside; drawn_is = over_here pool (drawn me) t.holder; fresh_is = fresh_here; of_class = few; some = (let b : ℕ = blocks_of class in let o : 0 ≤ b = omega arith in o); free = λ j h. absurd (omega arith) };
           free = λ f e. free_later k s.words words1 agrees.count cursor_grows f (hunter.free f e);
           drawn_alone = λ q e. dite (ℕ_discrete q pool) (λ same. ap Some (sym same)) (λ other. absurd (nothing_drawn q (sym (else1 q other) ∙ e)));
+          spare = λ u e. let f = hunter.spare u e in record { own_is = owned_after u.pool u.class f.own_is; inside = f.inside; free = agrees.heap (place_in u.pool u.class u.slot) (omega arith) ∙ f.free };
           taken = λ q b slot e inside low z. hunter.taken q b slot (owned_before q b e) inside low (sym (agrees.heap (place_in q b slot) (omega arith)) ∙ z);
           holds = λ b a below e. let u = hunter.holds b a below e in (u.0, (u.1.0, u.1.1, owned_after u.1.0 b u.1.2, u.1.3, u.1.4));
           prepared = λ q b slot e inside z. hunter.prepared q b slot (owned_before q b e) inside z;

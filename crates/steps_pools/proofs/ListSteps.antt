@@ -11,7 +11,7 @@ use Rattle.heap_rule.specs.declared.config.Config.{Config}
 use Rattle.heap_rule.specs.declared.phase.Kind.{Kind}
 use Rattle.heap_rule.specs.declared.phase.Kind.TheVariants.{Run}
 use Rattle.heap_rule.specs.declared.phase.Note.{Note}
-use Rattle.heap_rule.specs.declared.phase.Note.TheVariants.{Cleared, SetBack}
+use Rattle.heap_rule.specs.declared.phase.Note.TheVariants.{Cleared, Listed, SetBack}
 use Rattle.heap_rule.specs.declared.phase.Stage.TheVariants.{Leads}
 use Rattle.heap_rule.specs.declared.view.DomainView.{DomainView}
 use Rattle.heap_rule.specs.declared.view.Hunt.TheVariants.{Rests}
@@ -25,12 +25,14 @@ use Rattle.heap_rule.specs.Phases.{Pause, AtStage, Staged, IsOdd, sum_of, last_n
 use Rattle.heap_rule.specs.Pools.{Holder, nobody, drawn, owned, owner_word, Tenancy, Takes, Pools, Reserved, RunsNext, KeepsReserve, IsLeading, Lists, Hunts, Hunter, Latest, DrawsFor, drawn_in, limit_of, place_in}
 use Rattle.heap_rule.specs.Raw.{MayStep, MayStore}
 use Rattle.heap_rule.specs.Rule.{state_of, Good, Rule}
+use Rattle.heap_rule.specs.Standing.{noted}
 use Rattle.heap_rule.specs.Views.{one}
 use Rattle.heap_rule.proofs.Holders.{SameHeap, found_heap, making_heap, grid_heap, sum_small}
-use Rattle.heap_rule.proofs.Keeps.{Words, mine, my_good, remakes, looks, knows_front, phases_words, room_words, opened_words, hunter_as, owes_as, takes_even, unmoved}
+use Rattle.heap_rule.proofs.Keeps.{Words, my_good, remakes, looks, knows_front, phases_words, room_words, opened_words, hunter_as, owes_as, takes_even, unmoved}
 use Rattle.heap_rule.proofs.PauseFacts.{not_both}
 use Rattle.heap_rule.proofs.Controls.{last_note_end, sharing_words}
 use Rattle.heap_rule.proofs.Lists.{got_below, got_end}
+use Rattle.heap_rule.proofs.Notes.{IsLook, listed_note}
 use Rattle.steps_pools.specs.Listings.{with_listing, further, relisted, found_owner, named, set_back, listed_as, no_listing, IsLeader, IsOpener, CountedTold, HasCounted, noted_set_back, CursorLookTold, CursorCutTold, Empties, EmptiedTold, LookMay, LookedTold, NameMay, NamedTold, SetBackTold, CloseMay, ListedAsTold, free_pools}
 use Rattle.steps_pools.proofs.FreePools.{IsFree, free_there, free_once}
 use Rattle.steps_pools.proofs.DrawSteps.{draws_none, latest_words}
@@ -38,12 +40,13 @@ use Rattle.heap_rule.proofs.Sharings.{SameCycle, cycle_words}
 use Rattle.std.proofs.Math.Nat.{not-le_of_lt}
 
 -- a domain that takes no block and knows nothing of how many are free
-pub rests_hunter : (k : Config) (t : Tenancy) (words words' : List ℕ) (z : DomainView) → SameHeap k words words' → z.seen.hunt ≡ Rests → z.seen.free ≡ None → Hunter k t words z → Hunter k t words' z
+pub rests_hunter : (k : Config) (t : Tenancy) (words words' : List ℕ) (z : DomainView) → SameHeap k words words' → z.seen.hunt ≡ Rests → z.seen.free ≡ [] → Hunter k t words z → Hunter k t words' z
 rests_hunter k t words words' z same rests free h = record {
   hunt = subst (Hunts k t words' z.own.number) (sym rests) tt;
   drawn_alone = h.drawn_alone;
   taken = λ q c slot is inside low e. h.taken q c slot is inside low (sym (same (place_in q c slot) (omega arith)) ∙ e);
-  free = λ f e. absurd (none-some f (sym free ∙ e));
+  free = λ f e. absurd (none-some f (ap (λ (l : List ℕ). slice_get l 0) (sym free) ∙ e));
+  spare = λ u e. let f = h.spare u e in record { own_is = f.own_is; inside = f.inside; free = same (place_in u.pool u.class u.slot) (omega arith) ∙ f.free };
   holds = h.holds;
   prepared = h.prepared;
   claims = h.claims;
@@ -153,15 +156,15 @@ module _ (k : Config) (s : Words) (r : Rule k s) (id : ℕ) (hist : List Entry) 
         drawable = undrawable words';
         cycle = cycle_words k (state_of k r.account.log) r.account.live pause t r.account.cycling s.words words' same o.every r.whole.cycle;
       }
-      (knows_front k s r id hist x at y refl (mine k s r id hist x at).front)
+      (knows_front k s r id hist x at y refl (inl refl))
       record {
         stood = record { wide = good.stood.wide; each = good.stood.each; serial = good.stood.serial; enrolled = good.stood.enrolled };
         area = record { room = good.area.room; free = good.area.free; classes = good.area.classes };
         making = record { fits = making.fits; written = making.written };
         staged = record { arrivals = good.staged.arrivals; stage = good.staged.stage };
         still = good.still;
-        hunter = hunter_as k t words' x y refl refl refl refl refl refl h;
-        resting = record { hunt = good.resting.hunt; free = good.resting.free; lists = o.lists };
+        hunter = hunter_as k t words' x y refl refl refl refl refl refl refl h;
+        resting = record { hunt = good.resting.hunt; free = good.resting.free; spare = good.resting.spare; lists = o.lists };
         took_back = λ kind leads last. o.control 0 (inl (omega arith)) ∙ good.took_back kind leads (o.took_back last);
         owes = owes_as k r.account.live x y refl refl refl refl good.owes;
         rooted = good.rooted;
@@ -177,7 +180,7 @@ module _ (k : Config) (s : Words) (r : Rule k s) (id : ℕ) (hist : List Entry) 
         staged = g.staged;
         still = g.still;
         hunter = let stays : Takes z.seen.stage → ⊥ = nobody_takes z g.staged in rests_hunter k t s.words words' z heap (g.resting.hunt stays) (g.resting.free (λ e. stays (inl e))) g.hunter;
-        resting = record { hunt = g.resting.hunt; free = g.resting.free; lists = λ l e. absurd (other ((g.resting.lists l e).first ∙ sym first)) };
+        resting = record { hunt = g.resting.hunt; free = g.resting.free; spare = g.resting.spare; lists = λ l e. absurd (other ((g.resting.lists l e).first ∙ sym first)) };
         took_back = λ kind leads last. o.control 0 (inl (omega arith)) ∙ g.took_back kind leads last;
         owes = g.owes;
         rooted = g.rooted;
@@ -260,14 +263,14 @@ module _ (k : Config) (s : Words) (r : Rule k s) (id : ℕ) (hist : List Entry) 
       (λ (h : r.account.pause.phase ≡ kept.0 * 2). not_both r.account.pause.phase (kept.0, h) (before.0, before.1))
       (λ (h : r.account.pause.phase ≡ kept.0 * 2 + 1). not_run kept.0 h kept.2) kept.1
 
-  -- nobody has set the cursor back
-  nobody_set_back : (z : DomainView) → Staged r.account.pause z → HasSetBack z → ⊥
-  nobody_set_back z staged h = let a = (subst (AtStage r.account.pause z.own.number z.own.arrivals) h.0 staged.stage).1 in not_run a.0 a.1 a.2
+  -- nobody leads a pause in
+  nobody_opens : (z : DomainView) → Staged r.account.pause z → z.seen.stage ≡ Leads Run → ⊥
+  nobody_opens z staged stage = let a = (subst (AtStage r.account.pause z.own.number z.own.arrivals) stage staged.stage).1 in not_run a.0 a.1 a.2
 
   -- a store of one of these words, or a load
-  relists_empty : (listing : Option Listing) (words' : List ℕ) → length words' ≡ length s.words → ((a : ℕ) → at_address k words' a ≡ at_address k s.words a) → ((i : ℕ) → (i < 6) ⊎ ((8 ≤ i) × (i ≤ 10)) → get_or words' i 0 ≡ get_or s.words i 0) → Pools k T words' → ((l : Listing) → listing ≡ Some l → Lists k words' x.own.number x.seen.stage l)
-      → Rule k record { words = words'; homes = s.homes; views = set s.views id (one k hist (with_listing x listing)) }
-  relists_empty listing words' wide every control pools lists = relists k s r id hist x at leader.last leader.first leader.stage listing x.seen.notes words' record {
+  relists_noting : (listing : Option Listing) (notes : List Note) (words' : List ℕ) → (last_note notes ≡ Some Cleared → last_note x.seen.notes ≡ Some Cleared) → length words' ≡ length s.words → ((a : ℕ) → at_address k words' a ≡ at_address k s.words a) → ((i : ℕ) → (i < 6) ⊎ ((8 ≤ i) × (i ≤ 10)) → get_or words' i 0 ≡ get_or s.words i 0) → Pools k T words' → ((l : Listing) → listing ≡ Some l → Lists k words' x.own.number x.seen.stage l)
+      → Rule k record { words = words'; homes = s.homes; views = set s.views id (one k hist (listing_notes x listing notes)) }
+  relists_noting listing notes words' took_back wide every control pools lists = relists k s r id hist x at leader.last leader.first leader.stage listing notes words' record {
     wide = wide;
     every = every;
     control = control;
@@ -275,10 +278,14 @@ module _ (k : Config) (s : Words) (r : Rule k s) (id : ℕ) (hist : List Entry) 
     lists = lists;
     listed_young = λ a q lives young. absurd (nothing_young a q lives young);
     reserved = λ keeps. absurd (nothing_kept keeps);
-    took_back = λ e. e;
-    set_back = λ leads noted. absurd (nobody_set_back x good_leader.staged (leads, noted));
-    others_set_back = λ z staged h. absurd (nobody_set_back z staged h);
+    took_back = took_back;
+    set_back = λ leads _. absurd (nobody_opens x good_leader.staged leads);
+    others_set_back = λ z staged h. absurd (nobody_opens z staged h.0);
   }
+
+  relists_empty : (listing : Option Listing) (words' : List ℕ) → length words' ≡ length s.words → ((a : ℕ) → at_address k words' a ≡ at_address k s.words a) → ((i : ℕ) → (i < 6) ⊎ ((8 ≤ i) × (i ≤ 10)) → get_or words' i 0 ≡ get_or s.words i 0) → Pools k T words' → ((l : Listing) → listing ≡ Some l → Lists k words' x.own.number x.seen.stage l)
+      → Rule k record { words = words'; homes = s.homes; views = set s.views id (one k hist (with_listing x listing)) }
+  relists_empty listing words' wide every control pools lists = relists_noting listing x.seen.notes words' (λ e. e) wide every control pools lists
 
   module _ (j new : ℕ) (of_list : IsOfList k j) where
     abbrev pub ws0 : List ℕ
@@ -286,6 +293,10 @@ module _ (k : Config) (s : Words) (r : Rule k s) (id : ℕ) (hist : List Entry) 
 
     pub stores : (listing : Option Listing) → Pools k T ws0 → ((l : Listing) → listing ≡ Some l → Lists k ws0 x.own.number x.seen.stage l) → Rule k record { words = ws0; homes = s.homes; views = set s.views id (one k hist (with_listing x listing)) }
     stores listing pools lists = relists_empty listing ws0 (length-set s.words j new) (every k s r j new of_list) (control k s r j new of_list) pools lists
+
+    -- and one that leaves a note
+    pub stores_noting : (n : Note) → IsLook n → (listing : Option Listing) → Pools k T ws0 → ((l : Listing) → listing ≡ Some l → Lists k ws0 x.own.number x.seen.stage l) → Rule k record { words = ws0; homes = s.homes; views = set s.views id (one k hist (noted (with_listing x listing) n)) }
+    stores_noting n look listing pools lists = relists_noting listing (x.seen.notes ++ n ∷ []) ws0 (λ e. absurd (look.not_cleared (sym (last_note_end x.seen.notes n) ∙ e))) (length-set s.words j new) (every k s r j new of_list) (control k s r j new of_list) pools lists
 
   leads_now : IsLeading x.seen.stage
   leads_now = subst IsLeading (sym leader.stage) tt
@@ -406,10 +417,10 @@ module _ (k : Config) (s : Words) (r : Rule k s) (id : ℕ) (hist : List Entry) 
             let word : owner_of k s.words q ≡ 0 = known.owners q 0 ((its i h).word q (omega arith)) in
             no_owner (T.holder q) (sym (r.whole.pools.owners q (names_inside i h)) ∙ word) (λ d e. let w = (r.whole.drawers.drawn q d e).1 in not_both r.account.pause.phase (w.0, w.1) (before.0, before.1))
 
-        pub closes_rule : Rule k record { words = w2; homes = s.homes; views = set s.views id (one k hist (with_listing x (Some (listed_as n l)))) }
+        pub closes_rule : Rule k record { words = w2; homes = s.homes; views = set s.views id (one k hist (noted (with_listing x (Some (listed_as n l))) (Listed n))) }
         closes_rule =
             let pools = r.whole.pools in
-            stores 6 n of_list (Some (listed_as n l)) record {
+            stores_noting 6 n of_list (Listed n) (listed_note n) (Some (listed_as n l)) record {
               few = subst (λ (m : ℕ). m ≤ k.pools) (sym count) known.few.1;
               inside = names_inside;
               once = λ i j h g e. free_once 0 i j (listed_pool w2 i) l.owners (at_place i h) (subst (λ (q : ℕ). slice_get (free_pools l.owners) j ≡ Some q) (sym e) (at_place j g));
@@ -592,11 +603,11 @@ back_may k x e fits slots id h s r _ at _ =
 pub close_may : (k : Config) (x : DomainView) (new : ℕ) → CloseMay k x new → MayStore k x 6 new ListedAsTold
 close_may k x new may fits slots id h s r _ at _ =
     let e = may.empties in
-    let y : DomainView = relisted x (listed_as new) in (
+    let y : DomainView = noted (relisted x (listed_as new)) (Listed new) in (
       one k h y,
       keeps,
       tt,
-      subst (λ (z : ℕ × DomainView). Rule k record { words = set s.words 6 z.0; homes = s.homes; views = set s.views id (one k h z.1) }) (λ i. (sym may.count i, (ap (λ (n : ℕ). with_listing x (Some (listed_as n e.list))) (sym may.count) ∙ on_list x e.list (listed_as new) e.listing) i))
+      subst (λ (z : ℕ × DomainView). Rule k record { words = set s.words 6 z.0; homes = s.homes; views = set s.views id (one k h z.1) }) (λ i. (sym may.count i, (ap (λ (n : ℕ). noted (with_listing x (Some (listed_as n e.list))) (Listed n)) (sym may.count) ∙ ap (λ (v : DomainView). noted v (Listed new)) (on_list x e.list (listed_as new) e.listing)) i))
           (closes_rule k s r id h x at e.leader e.list e.listing e.empty may.all may.free),
       (refl, refl),
     )
@@ -611,7 +622,7 @@ cursor_look_may k x count may fits slots id h s r _ at _ = dite (dec_le (cursor 
     (λ low. let y : DomainView = noted_set_back x in
     (one k h y, keeps, tt, unmoved k s 7 (set s.views id (one k h y)) (low_rule k s r id h x at may.opener may.list may.listing (subst (λ (n : ℕ). cursor s.words ≤ limit_of k n) (sym may.count_is) low)), (record { low = λ l. refl; high = λ b. absurd (not-le_of_lt b low) }, refl)))
     (λ high.
-    (one k h x, keeps, tt, unmoved k s 7 (set s.views id (one k h x)) (looks k s r id h x at x.seen.front (mine k s r id h x at).front (my_good k s r id h x at).still), (record { low = λ l. absurd (high l); high = λ b. refl }, refl)))
+    (one k h x, keeps, tt, unmoved k s 7 (set s.views id (one k h x)) (looks k s r id h x at x.seen.front (inl refl)), (record { low = λ l. absurd (high l); high = λ b. refl }, refl)))
 
 pub cut_may : (k : Config) (x : DomainView) (n new : ℕ) → HasCounted x n → new ≡ limit_of k n → MayStore k x 7 new CursorCutTold
 cut_may k x n new may is fits slots id h s r _ at _ =

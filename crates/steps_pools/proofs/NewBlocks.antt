@@ -1,5 +1,6 @@
 -- A block comes to live at a free place of an own pool: the rule holds again, whatever the block is.
 use Rattle.std.proofs.Common.{◌≡◌, ◌≢◌, ℕ, suc, ◌+◌, ◌*◌, ◌^◌, ◌<◌, ◌≤◌, ◌⊎◌, ◌&&◌, Bool, true, false, ne_eqb, List, [], ◌∷◌, ◌++◌, length, get_or, set, slice_get, Option, Some, None, sym, refl, ap, ◌∙◌, subst, inl, inr, ⊎_elim, arith, length-set, get_or-set_same, IsTrue}
+use Rattle.std.proofs.lemmas.Option.{none-some}
 use mathlib.Core.Logic.{dite}
 use native.Mathlib.Decide.{ℕ_discrete}
 use mathlib.Core.Option.{some}
@@ -310,7 +311,7 @@ module _ (k : Config) (s : Words) (r : Rule k s) (id : ℕ) (hist : List Entry) 
   abbrev pub after : DomainView
   after = record {
     own = record x.own { registers = regs; serial = x.own.serial + 1; ephemerons = ephemerons };
-    seen = record x.seen { front = r.account.log ++ e ∷ []; hunt = Rests };
+    seen = record x.seen { front = r.account.log ++ e ∷ []; hunt = Rests; spare = None };
   }
 
   abbrev theirs : List graph_value.Value
@@ -403,6 +404,7 @@ module _ (k : Config) (s : Words) (r : Rule k s) (id : ℕ) (hist : List Entry) 
   hunter1 = record {
     hunt = tt;
     free = λ f e. free_later k s.words ws (control_set k s.words A new fits_born.low 6 (omega arith)) (equal_le (control_set k s.words A new fits_born.low 7 (omega arith))) f (g.hunter.free f e);
+    spare = λ z e. absurd (none-some z e);
     drawn_alone = λ q m. sym (ap drawn_in may.hunt) ∙ g.hunter.drawn_alone q m;
     taken = λ q c i owned_is below seen z. dite (ℕ_discrete (place_in q c i) A)
         (λ same. head_new (ap (at_address k ws) (sym same) ∙ z))
@@ -522,7 +524,7 @@ module _ (k : Config) (s : Words) (r : Rule k s) (id : ℕ) (hist : List Entry) 
     makings z p = making_beside k s.words A new z (λ j fits m. let h : A ≤ pool * 4096 + 4096 = in_pool in let i = pool_in in let y : ℕ = z.own.number * k.minor_words in let b : ℕ = A in let same : k.pools * 4096 + y + 1 + z.own.used + 1 + j ≡ b = m in omega arith) p
 
   pub makes_answers : Answers (sizes_in k) d x.seen.front after.seen.front e (Replied (BlockReply L))
-  makes_answers = answers_push (sizes_in k) d r.account.log x.seen.front e (Replied (BlockReply L)) (mine k s r id hist x at).front
+  makes_answers = answers_push (sizes_in k) d r.account.log x.seen.front e (Replied (BlockReply L)) (mine k s r id hist x at).front (λ _. g.still.1 may.acts.runs)
       (legal_entry k s r id hist x at e record { running = running k s r id hist x at may.acts; fits = fits_now; full_fits = tt }) leaves.replies
 
   pub makes_holds : Holds k regs

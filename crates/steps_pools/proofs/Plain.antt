@@ -1,5 +1,5 @@
 -- What the steps on pools tell of a token's own data.
-use Rattle.std.proofs.Common.{◌≡◌, ◌+◌, ◌^◌, ◌<◌, ◌≤◌, ℕ, zero, suc, List, [], ◌∷◌, ◌++◌, length, set, sym, ap, ◌∙◌, subst, arith, lt_of_not-le, length-set, get_or-set_same, get_or-set_other, inl, inr}
+use Rattle.std.proofs.Common.{◌≡◌, ◌+◌, ◌^◌, ◌<◌, ◌≤◌, ℕ, zero, suc, List, [], ◌∷◌, ◌++◌, length, set, None, sym, ap, ◌∙◌, subst, arith, lt_of_not-le, length-set, get_or-set_same, get_or-set_other, inl, inr}
 use mathlib.Core.Logic.{dite}
 use native.Mathlib.Decide.{dec_le, ℕ_discrete}
 use Rattle.heap_model.specs.Domains.{class_count, IsWithinLimits}
@@ -137,9 +137,9 @@ place_closes k x found pool class slot inside few low limits y fits told = recor
 -- the domain after the head, by its registers
 pub major_rest : (k : Config) (e : Entry) (changes : List Change) (x y : DomainView) → MajorTold k e changes x y → y ≡ record {
   own = record x.own { registers = (changed Nothing changes x.own).registers; serial = x.own.serial + 1 };
-  seen = record x.seen { front = y.seen.front; hunt = Rests };
+  seen = record x.seen { front = y.seen.front; hunt = Rests; spare = None };
 }
-major_rest k e changes x y told = told.view ∙ ap (λ (own : Own). record { own = record own { serial = x.own.serial + 1 }; seen = record x.seen { front = y.seen.front; hunt = Rests } }) (changed_only Nothing changes x.own)
+major_rest k e changes x y told = told.view ∙ ap (λ (own : Own). record { own = record own { serial = x.own.serial + 1 }; seen = record x.seen { front = y.seen.front; hunt = Rests; spare = None } }) (changed_only Nothing changes x.own)
 
 -- the head makes the changes, and counts the label
 pub major_closes : (k : Config) (x : DomainView) (new : ℕ) (e : Entry) (changes : List Change) → FitChanges changes → x.own.serial + 1 < 2 ^ 32
@@ -174,9 +174,9 @@ in_heap_more k at (x ∷ l) inside all (suc i) a e = in_heap_more k at l inside 
 -- the domain after the head of an ephemeron, by its registers
 pub ephe_rest : (k : Config) (e : Entry) (at : ℕ) (changes : List Change) (x y : DomainView) → EpheTold k e at changes x y → y ≡ record {
   own = record x.own { registers = (changed Nothing changes x.own).registers; serial = x.own.serial + 1; ephemerons = with_ephemeron at x.own.ephemerons };
-  seen = record x.seen { front = y.seen.front; hunt = Rests };
+  seen = record x.seen { front = y.seen.front; hunt = Rests; spare = None };
 }
-ephe_rest k e at changes x y told = told.view ∙ ap (λ (own : Own). record { own = record own { serial = x.own.serial + 1; ephemerons = with_ephemeron at x.own.ephemerons }; seen = record x.seen { front = y.seen.front; hunt = Rests } }) (changed_only Nothing changes x.own)
+ephe_rest k e at changes x y told = told.view ∙ ap (λ (own : Own). record { own = record own { serial = x.own.serial + 1; ephemerons = with_ephemeron at x.own.ephemerons }; seen = record x.seen { front = y.seen.front; hunt = Rests; spare = None } }) (changed_only Nothing changes x.own)
 
 -- the head of an ephemeron makes the changes, counts the label and lists the ephemeron
 pub ephe_closes : (k : Config) (x : DomainView) (at new : ℕ) (e : Entry) (changes : List Change) → IsInHeap k at → CanList changes x.own

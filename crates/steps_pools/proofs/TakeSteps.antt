@@ -19,7 +19,7 @@ use Rattle.heap_rule.specs.Rule.{Rule}
 use Rattle.heap_rule.specs.Pools.{Takes, owned, owner_word, Hunts, drawn_in, place_in, blocks_of, limit_of}
 use Rattle.steps_pools.specs.Takes.{with_hunt, found_free, looked_to, HasNoDraw, ListedTold, CursorTold, CursorAddTold, CopyDrawMay, CopyDrawTold, ListMay, ListTold, ClearMay, ClearTold, OwnedTold, FillTold, cleared_more, OwnerMay, OwnerLoadMay, OwnerTold, PlaceMay, PlaceTold, FillMay, filled, NoneFree}
 use Rattle.heap_rule.proofs.Keeps.{unmoved, looks, mine, my_good}
-use Rattle.steps_pools.proofs.DrawSteps.{hunter, listed_rule, asks_rule, rests_rule, below_bounds, past_bounds, add_whole, add_late_rule, add_draws_rule, add_place_inside, add_pool_inside, copy_whole, copy_draws_rule, copy_place_inside, copy_pool_inside}
+use Rattle.steps_pools.proofs.DrawSteps.{hunter, leaves_spare, listed_rule, asks_rule, rests_rule, below_bounds, past_bounds, add_whole, add_late_rule, add_draws_rule, add_place_inside, add_pool_inside, copy_whole, copy_draws_rule, copy_place_inside, copy_pool_inside}
 use Rattle.steps_pools.proofs.Rooms.{all_used, pool_left}
 use Rattle.steps_pools.proofs.WalkSteps.{walks_rule, passes_rule, takes_rule, full_rule, last_rule, clears_rule, owns_rule, fills_rule}
 use Rattle.std.proofs.Math.Nat.{not-le_of_lt}
@@ -30,7 +30,7 @@ Seat = Me (Unit {0}) View
 listeds : (k : Config) (slots id : ℕ) (hist : List Entry) (x : DomainView) (runs : x.seen.stage ≡ In Run) → HasNoDraw x → Allows (Rule k) slots id (one k hist x, []) 6 (λ n. n) (Tells (ListedTold k) (one k hist x, []))
 listeds k slots id hist x runs free s r _ at _ =
     let y : DomainView = with_hunt x (Counts (listed s.words)) in
-    (one k hist y, keeps, tt, unmoved k s 6 (set s.views id (one k hist y)) (listed_rule k s r id hist x at (inl runs) free), (record { few = r.whole.pools.few; view = refl }, refl))
+    (one k hist y, keeps, tt, unmoved k s 6 (set s.views id (one k hist y)) (listed_rule k s r id hist x at (inl runs) free), (record { few = r.whole.pools.few; leaves = leaves_spare k s r id hist x at (inl runs); view = refl }, refl))
 
 pub listed_may : (k : Config) (x : DomainView) (runs : x.seen.stage ≡ In Run) → HasNoDraw x → MayStep k x 6 (λ n. n) (ListedTold k)
 listed_may k x runs free fits slots id h = listeds k slots id h x runs free
@@ -103,7 +103,7 @@ lists : (k : Config) (slots id : ℕ) (hist : List Entry) (x : DomainView) (take
 lists k slots id hist x takes word may s r _ at _ =
     let d = subst (Hunts k r.account.tenancy s.words x.own.number) may.hunt (hunter k s r id hist x at takes).hunt in
     let found : get_or s.words word 0 ≡ may.pool = ap (λ (n : ℕ). get_or s.words n 0) may.word ∙ d.names in
-    (one k hist x, keeps, tt, unmoved k s word (set s.views id (one k hist x)) (looks k s r id hist x at x.seen.front (mine k s r id hist x at).front (my_good k s r id hist x at).still), (record { names = ap drawn_in may.hunt ∙ ap Some (sym found); view = refl }, refl))
+    (one k hist x, keeps, tt, unmoved k s word (set s.views id (one k hist x)) (looks k s r id hist x at x.seen.front (inl refl)), (record { names = ap drawn_in may.hunt ∙ ap Some (sym found); view = refl }, refl))
 
 pub list_may : (k : Config) (x : DomainView) (takes : Takes x.seen.stage) (word : ℕ) → ListMay k x word → MayStep k x word (λ n. n) ListTold
 list_may k x takes word may fits slots id h = lists k slots id h x takes word may

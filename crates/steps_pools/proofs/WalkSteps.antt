@@ -272,6 +272,7 @@ module _ (k : Config) (s : Words) (r : Rule k s) (id : ℕ) (hist : List Entry) 
           };
           drawn_alone = λ q e. sym (ap drawn_in is) ∙ H.drawn_alone q e;
           free = λ f e. free_later k s.words ws (control_set k s.words A 0 (omega arith) 6 (omega arith)) (equal_le (control_set k s.words A 0 (omega arith) 7 (omega arith))) f (H.free f e);
+          spare = λ u e. let f = H.spare u e in record { own_is = f.own_is; inside = f.inside; free = stays k T s.words A 0 (place_in u.pool u.class u.slot) (place_far A low high u.pool d u.class u.slot f.own_is f.inside) ∙ f.free };
           taken = λ q c slot owned_is below seen e. H.taken q c slot owned_is below seen (sym (stays k T s.words A 0 (place_in q c slot) (place_far A low high q d c slot owned_is below)) ∙ e);
           holds = H.holds;
           prepared = H.prepared;
@@ -509,6 +510,7 @@ module _ (k : Config) (s : Words) (r : Rule k s) (id : ℕ) (hist : List Entry) 
         drawn_alone = λ q e. absurd (dite (ℕ_discrete q pool)
             (λ same. drawn_owned d d class (sym e ∙ (ap t2.holder same ∙ here2)))
             (λ other. other (sym (same_Some pool q (sym (ap drawn_in is) ∙ H.drawn_alone q (sym (else2 q other) ∙ e))))));
+        spare = λ u e. let f = H.spare u e in record { own_is = owned_still u.pool u.class f.own_is; inside = f.inside; free = agrees.heap (place_in u.pool u.class u.slot) (omega arith) ∙ f.free };
         taken = λ q c slot owned_is below seen z.
             let unset : at_address k s.words (place_in q c slot) ≡ 0 = sym (agrees.heap (place_in q c slot) (omega arith)) ∙ z in
             dite (ℕ_discrete q pool)
@@ -680,6 +682,7 @@ module _ (k : Config) (s : Words) (r : Rule k s) (id : ℕ) (hist : List Entry) 
           };
           drawn_alone = λ q e. sym (ap drawn_in is) ∙ H.drawn_alone q e;
           free = λ f e. free_later k s.words ws3 (control_set k s.words B new (omega arith) 6 (omega arith)) (equal_le (control_set k s.words B new (omega arith) 7 (omega arith))) f (H.free f e);
+          spare = λ u e. let f = H.spare u e in record { own_is = f.own_is; inside = f.inside; free = stays k T s.words B new (place_in u.pool u.class u.slot) (inner_far u.pool d u.class u.slot f.own_is f.inside B above_head below_end) ∙ f.free };
           taken = λ q c i owned_is below seen e. H.taken q c i owned_is below seen (sym (stays k T s.words B new (place_in q c i) (inner_far q d c i owned_is below B above_head below_end)) ∙ e);
           holds = H.holds;
           prepared = H.prepared;

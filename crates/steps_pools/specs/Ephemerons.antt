@@ -1,6 +1,6 @@
 -- The making of an ephemeron at a free place of an own pool.
 use Rattle.remembered_set.specs.Bounded.{Bounded}
-use Rattle.std.specs.Prelude.{◌≡◌, ℕ, ◌+◌, ◌-◌, ◌^◌, ◌<◌, ◌≤◌, true, false, List, [], ◌∷◌, ◌++◌, replicate, slice_set}
+use Rattle.std.specs.Prelude.{◌≡◌, ℕ, ◌+◌, ◌-◌, ◌^◌, ◌<◌, ◌≤◌, true, false, List, [], ◌∷◌, ◌++◌, replicate, slice_set, None}
 use Rattle.heap_model.specs.declared.command.Command.TheVariants.{Ephe}
 use Rattle.heap_model.specs.declared.entry.Entry.{Entry}
 use Rattle.heap_model.specs.declared.entry.Entry.TheVariants.{Command}
@@ -57,7 +57,7 @@ pub record EpheTold (k : Config) (e : Entry) (at : ℕ) (changes : List Change) 
   pub answers : Answers (sizes_in k) x.own.number x.seen.front y.seen.front e (Replied (Block (next_label x)))
   pub view : y ≡ record {
     own = record (changed Nothing changes x.own) { serial = x.own.serial + 1; ephemerons = with_ephemeron at x.own.ephemerons };
-    seen = record x.seen { front = y.seen.front; hunt = Rests };
+    seen = record x.seen { front = y.seen.front; hunt = Rests; spare = None };
   }
   pub holds : Holds k y.own.registers
 

@@ -3,12 +3,13 @@ use Rattle.std.specs.Prelude.{◌≡◌, ℕ, ◌+◌, ◌<◌, ◌≤◌, ◌==
 use Rattle.heap_rule.specs.declared.config.Config.{Config}
 use Rattle.heap_rule.specs.declared.phase.Kind.{Kind}
 use Rattle.heap_rule.specs.declared.phase.Kind.TheVariants.{Run}
-use Rattle.heap_rule.specs.declared.phase.Note.TheVariants.{SetBack}
+use Rattle.heap_rule.specs.declared.phase.Note.TheVariants.{Listed, SetBack}
 use Rattle.heap_rule.specs.declared.phase.Stage.TheVariants.{Leads}
 use Rattle.heap_rule.specs.declared.view.DomainView.{DomainView}
 use Rattle.heap_rule.specs.declared.view.Listing.{Listing}
 use Rattle.heap_rule.specs.Copies.{IsEmptying}
 use Rattle.heap_rule.specs.Pools.{limit_of}
+use Rattle.heap_rule.specs.Standing.{noted}
 
 -- the pools, numbered from q on, whose owner words say nobody, rising
 unfoldable pub free_from : ℕ → List ℕ → List ℕ
@@ -77,7 +78,7 @@ pub record HasCounted (x : DomainView) (count : ℕ) : Type 0 where
 
 -- the domain notes that it has set the cursor back
 abbrev pub noted_set_back : DomainView → DomainView
-noted_set_back x = record x { seen = record x.seen { notes = x.seen.notes ++ SetBack ∷ [] } }
+noted_set_back x = noted x SetBack
 
 -- a load of the cursor: up to the limit it need not be set back
 pub record CursorLookTold (k : Config) (count : ℕ) (x : DomainView) (found : ℕ) (y : DomainView) : Type 0 where
@@ -126,8 +127,9 @@ pub record CloseMay (k : Config) (x : DomainView) (new : ℕ) : Type 0 where
   pub free : empties.list.names ≡ free_pools empties.list.owners
   pub count : new ≡ length empties.list.names
 
+-- the domain notes how many pools are listed
 abbrev pub ListedAsTold : DomainView → ℕ → DomainView → Type 0
-ListedAsTold x new y = y ≡ relisted x (listed_as new)
+ListedAsTold x new y = y ≡ noted (relisted x (listed_as new)) (Listed new)
 
 -- the list names exactly the pools whose owner words say nobody, rising, and the cursor is 0
 pub record HasList (k : Config) (x : DomainView) : Type 0 where

@@ -14,6 +14,7 @@ use Rattle.heap_rule.specs.declared.config.Config.{Config}
 use Rattle.heap_rule.specs.declared.view.DomainView.{DomainView}
 use Rattle.heap_rule.specs.declared.view.Hunt.{Hunt}
 use Rattle.heap_rule.specs.declared.view.Hunt.TheVariants.{Rests, Counts, Draws, Walks, Fills}
+use Rattle.heap_rule.specs.declared.view.Spare.{Spare}
 use Rattle.heap_rule.specs.declared.view.Spot.{Spot}
 use Rattle.heap_rule.specs.declared.phase.Kind.TheVariants.{Promote}
 use Rattle.heap_rule.specs.declared.phase.Stage.TheVariants.{In}
@@ -42,14 +43,19 @@ HasNoDraw x = drawn_in x.seen.hunt ≡ None
 abbrev pub NoneFree : Config → DomainView → ℕ → Type 0
 NoneFree k x class = k.pools ≤ (spot_at x.own.looked class).pool
 
+-- not all own pools were looked through of the class of the place that is known to be free
+abbrev pub LeavesSpare : Config → DomainView → Type 0
+LeavesSpare k x = (z : Spare) → x.seen.spare ≡ Some z → NoneFree k x z.class → ⊥
+
 -- a load of the count of listed pools
 pub record ListedTold (k : Config) (x : DomainView) (found : ℕ) (y : DomainView) : Type 0 where
   pub few : found ≤ k.pools
+  pub leaves : LeavesSpare k x
   pub view : y ≡ with_hunt x (Counts found)
 
--- the domain found so many pools free
+-- the domain looked how many pools are free, and found so many
 abbrev pub found_free : DomainView → ℕ → Hunt → DomainView
-found_free x free hunt = hunting_free x x.own.looked hunt (Some free)
+found_free x free hunt = hunting_free x x.own.looked hunt (free ∷ x.seen.free)
 
 -- a load of the cursor tells how many pools are free: those behind it, or those of the reserve where it is past the limit. Where it is below the limit, the domain goes on so
 pub record CursorTold (k : Config) (count : ℕ) (hunt : Hunt) (x : DomainView) (found : ℕ) (y : DomainView) : Type 0 where
@@ -196,11 +202,11 @@ abbrev pub MajorEntry : Config → DomainView → ℕ → ℕ → List Change �
 MajorEntry k x at new changes (Command d (AllocMaj dst tag fields) false) = MajorMay k x at new changes d dst tag fields
 MajorEntry k x at new changes _ = ⊥
 
--- the block lives, and the entry of its allocation stands
+-- the block lives, and the entry of its allocation stands. Of no place is it known any more that it was free from the start
 pub record MajorTold (k : Config) (e : Entry) (changes : List Change) (x y : DomainView) : Type 0 where
   pub answers : Answers (sizes_in k) x.own.number x.seen.front y.seen.front e (Replied (Block (next_label x)))
   pub view : y ≡ record {
     own = record (changed Nothing changes x.own) { serial = x.own.serial + 1 };
-    seen = record x.seen { front = y.seen.front; hunt = Rests };
+    seen = record x.seen { front = y.seen.front; hunt = Rests; spare = None };
   }
   pub holds : Holds k y.own.registers

@@ -121,15 +121,17 @@ pub fn listed_load(heap: &Heap, dom: &mut Domain) -> u64
     raw_load::<Brand, Leaving>(heap, dom, LISTED, &Leaving, &[])
 }
 
-/// A load of the cursor. Where it is below the limit the domain may ask for a pool. Answers the cursor.
-pub fn cursor_load(heap: &Heap, dom: &mut Domain, count: u32) -> u64
+/// A load of the cursor, for a pool of a class of which no place of an own pool is free. Where it is below
+/// the limit the domain may ask for the pool. Answers the cursor.
+pub fn cursor_load(heap: &Heap, dom: &mut Domain, count: u32, class: u32) -> u64
     requires here { IsIn dom.old heap.now }
     requires counts { dom.old.view.seen.hunt ≡ Counts count }
+    requires none_free { NoneFree heap.now.config dom.old.view class }
     requires runs { dom.old.view.seen.stage ≡ In Run }
     ensures here { IsIn dom.new heap.now }
     ensures told { CursorTold heap.now.config count (Asks count) dom.old.view result dom.new.view }
 {
-    raw_load::<Brand, Asking>(heap, dom, CURSOR, &Asking { count, class: 0 }, &[])
+    raw_load::<Brand, Asking>(heap, dom, CURSOR, &Asking { count, class }, &[])
 }
 
 /// A load of the cursor by a domain that takes no pool, for the number of free ones. Answers the cursor.

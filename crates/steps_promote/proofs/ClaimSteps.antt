@@ -258,7 +258,6 @@ module _ (k : Config) (s : Words) (r : Rule k s) (id : ℕ) (hist : List Entry) 
     abbrev met1 : List Met
     met1 = met_of c2 may.place ∷ x.seen.copying.met
 
-
     its : Lasts live c2 (met_place (met_of c2 may.place))
     its = record { place = lead.place; lives = lead.lives; label = lead.label ∙ lasts.label; shape = lead.shape ∙ (shape_is ∙ sym (form_shape may.place.shape)) }
 
@@ -269,7 +268,7 @@ module _ (k : Config) (s : Words) (r : Rule k s) (id : ℕ) (hist : List Entry) 
     lost_rule =
         let G = my_good k s r id hist x at in
         let w = G.owes in
-        let h = hunter_as k t s.words x x refl refl refl refl refl refl G.hunter in
+        let h = hunter_as k t s.words x x refl refl refl refl refl refl refl G.hunter in
         promotes_again k s r id hist x at may.stage lost_view s.words live t r.account.homes record {
           share = refl;
           full = r.whole.full;
@@ -283,6 +282,7 @@ module _ (k : Config) (s : Words) (r : Rule k s) (id : ℕ) (hist : List Entry) 
           stage = refl;
           front = refl;
           free = refl;
+          spare = refl;
           listing = refl;
           wide = refl;
           control = control_same k s.words;
@@ -306,6 +306,7 @@ module _ (k : Config) (s : Words) (r : Rule k s) (id : ℕ) (hist : List Entry) 
             drawn_alone = λ q e. absurd (none-some q (ap drawn_in (sym may.hunt) ∙ h.drawn_alone q e));
             taken = h.taken;
             free = h.free;
+            spare = h.spare;
             holds = h.holds;
             prepared = h.prepared;
             claims = h.claims;
@@ -815,6 +816,7 @@ module _ (k : Config) (s : Words) (r : Rule k s) (id : ℕ) (hist : List Entry) 
       hunt = tt;
       drawn_alone = λ q e. absurd (none-some q (ap drawn_in (sym may.hunt) ∙ H.drawn_alone q e));
       taken = λ q d j owned_is below low e. H.taken q d j owned_is below low (sym (place_stays q me d j owned_is below) ∙ e);
+      spare = λ u e. let f = H.spare u e in record { own_is = f.own_is; inside = f.inside; free = place_stays u.pool me u.class u.slot f.own_is f.inside ∙ f.free };
       free = λ n e. subst (λ (m : ℕ × ℕ). (m.0 ≤ n + m.1) × (m.0 ≤ n + limit_of k m.0) × (n ≤ m.0)) (λ i. (sym (control_set k s.words a new low_a 6 (omega arith)) i, sym (control_set k s.words a new low_a 7 (omega arith)) i)) (H.free n e);
       holds = λ d b few e. dite (ℕ_discrete d class)
           (λ same. absurd (none-some b (sym (prepared_here x.own.prepared class None fits.prepared may.of_class) ∙ (ap (prepared_at (set x.own.prepared class None)) (sym same) ∙ e))))
@@ -952,6 +954,7 @@ module _ (k : Config) (s : Words) (r : Rule k s) (id : ℕ) (hist : List Entry) 
           stage = refl;
           front = refl;
           free = refl;
+          spare = refl;
           listing = refl;
           wide = length-set s.words (before_heap k + a) new;
           control = control;

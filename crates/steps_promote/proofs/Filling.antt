@@ -207,6 +207,7 @@ module _ (k : Config) (s : Words) (r : Rule k s) (id : ℕ) (hist : List Entry) 
         stage = refl;
         front = refl;
         free = refl;
+        spare = refl;
         listing = refl;
         made = refl;
         wide = wide;
@@ -328,7 +329,7 @@ fill_may k x word a new place may fits slots id hist s r _ at _ =
     let ext : ℕ = extent p1.shape in
     let ins : n + 2 < ext = inside in
     let spot : before_heap k + A < length s.words = (let w : ℕ = heap_words k in let h : c0 + ext ≤ w + 1 = fits.high in let wide : length s.words ≡ 1 + before_heap k + w = r.whole.wide in let b : ℕ = before_heap k in omega arith) in
-    let front : x.seen.front ≡ r.account.log = g.still (subst IsInPause (sym may.stage) tt) in
+    let front : x.seen.front ≡ r.account.log = g.still.0 (subst IsInPause (sym may.stage) tt) in
     let has_it = subst (λ (log : List Entry). HasValueAt (state_of k log) may.place.label n may.held) front may.has in
     let node_is : f.node ≡ has_it.node = same_Some f.node has_it.node (sym f.there ∙ (ap (node_at graph) label1 ∙ has_it.there)) in
     let earlier : (i : ℕ) → i < n → HasValue p1.owed i = (λ i h. subst (λ (z : Option Debt). HasValue z i) (sym debt1) h) in

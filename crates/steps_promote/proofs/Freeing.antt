@@ -32,7 +32,7 @@ use Rattle.steps_promote.proofs.OwnPlaces as places
 use Rattle.steps_promote.proofs.OwnPlaces.{place_sole, spare_clean}
 use Rattle.steps_promote.proofs.Preparing.{pools_prepared, prepared_here, prepared_else}
 use Rattle.steps_promote.proofs.Registers.{promote_once}
-use Rattle.steps_promote.proofs.Remaking.{promotes_again, stood_same}
+use Rattle.steps_promote.proofs.Remaking.{promotes_again, stood_same, no_spare}
 use Rattle.std.proofs.lemmas.Option.{none-some, same_Some}
 
 -- the places of a class are looked at from another place on
@@ -139,6 +139,7 @@ module _ (k : Config) (s : Words) (r : Rule k s) (id : ℕ) (hist : List Entry) 
             (λ same. head (ap (at_address k ws) (sym same) ∙ e))
             (λ other. H.taken q c j owned_is below low (sym (stays q me c j owned_is below other) ∙ e));
         free = λ f e. subst (λ (m : ℕ × ℕ). (m.0 ≤ f + m.1) × (m.0 ≤ f + limit_of k m.0) × (f ≤ m.0)) (λ n. (sym (control 6 (omega arith)) n, sym (control 7 (omega arith)) n)) (H.free f e);
+        spare = λ u e. absurd (no_spare k s r id hist x at promotes u e);
         holds = H.holds;
         prepared = H.prepared;
         claims = H.claims;
@@ -164,6 +165,7 @@ module _ (k : Config) (s : Words) (r : Rule k s) (id : ℕ) (hist : List Entry) 
             stage = refl;
             front = refl;
             free = refl;
+            spare = refl;
             listing = refl;
             wide = length-set s.words (before_heap k + (a + i)) new;
             control = control;
@@ -263,6 +265,7 @@ module _ (k : Config) (s : Words) (r : Rule k s) (id : ℕ) (hist : List Entry) 
       drawn_alone = λ q e. absurd (none-some q (sym draws ∙ H.drawn_alone q e));
       taken = λ q c j owned_is below low e. let u = from q c j owned_is below low in H.taken q c j owned_is below u.0 (sym (stays0 q me c j owned_is below u.1) ∙ e);
       free = λ f e. subst (λ (m : ℕ × ℕ). (m.0 ≤ f + m.1) × (m.0 ≤ f + limit_of k m.0) × (f ≤ m.0)) (λ n. (sym (control 0 0 (omega arith) 6 (omega arith)) n, sym (control 0 0 (omega arith) 7 (omega arith)) n)) (H.free f e);
+      spare = λ u e. absurd (no_spare k s r id hist x at promotes u e);
       holds = λ c b few e. dite (ℕ_discrete c c0)
           (λ same. absurd (none-some b (sym (prepared_here x.own.prepared c0 None wide few0) ∙ (ap (prepared_at (set x.own.prepared c0 None)) (sym same) ∙ e))))
           (λ other.
@@ -296,6 +299,7 @@ module _ (k : Config) (s : Words) (r : Rule k s) (id : ℕ) (hist : List Entry) 
           stage = refl;
           front = refl;
           free = refl;
+          spare = refl;
           listing = refl;
           wide = length-set s.words (before_heap k + (a + 0)) 0;
           control = control0;

@@ -117,6 +117,7 @@ module _ (k : Config) (s : Words) (r : Rule k s) (id : ℕ) (hist : List Entry) 
         stage = refl;
         front = refl;
         free = refl;
+        spare = refl;
         listing = refl;
         wide = refl;
         control = control_same k s.words;
@@ -135,7 +136,7 @@ module _ (k : Config) (s : Words) (r : Rule k s) (id : ℕ) (hist : List Entry) 
         stood = stood_same k s r id hist x at promotes y refl refl refl refl live (more_same live);
         area = record { room = g.area.room; free = g.area.free; classes = g.area.classes };
         making = record { fits = g.making.fits; written = g.making.written };
-        hunter = hunter_as k r.account.tenancy s.words x y refl refl refl refl refl refl g.hunter;
+        hunter = hunter_as k r.account.tenancy s.words x y refl refl refl refl refl refl refl g.hunter;
         owes = record {
           quiet = inr promotes;
           knows = more;
@@ -289,7 +290,7 @@ module _ (k : Config) (s : Words) (r : Rule k s) (id : ℕ) (hist : List Entry) 
       let v = got_there (values_of f.node) i (let g : i < n = omega arith in g) in
       let w = found_value k r.account.cycling.paint live now.graph s.words b p f (whole_here k s r id hist x at Promote tt promotes p.label) i v.0 (subst (λ (o : Option Debt). HasValue o i) (sym paid) tt) v.1 in
       let m = meets_value w.value v.0 w.stands in
-      let front : x.seen.front ≡ r.account.log = (my_good k s r id hist x at).still (subst IsInPause (sym promotes) tt) in
+      let front : x.seen.front ≡ r.account.log = (my_good k s r id hist x at).still.0 (subst IsInPause (sym promotes) tt) in
       record {
         after = with_met x m.met;
         rule = meets_rule m.met m.lives;
@@ -327,7 +328,7 @@ module _ (k : Config) (s : Words) (r : Rule k s) (id : ℕ) (hist : List Entry) 
       let b : Met = met_of u.block p in
       let lasts : Lasts live u.block (met_place b) = lasts_met live u.block p u.lives in
       let grows : More (known m.met) (known (b ∷ m.met)) = known_more live b m.met m.lives lasts in
-      let front : x.seen.front ≡ r.account.log = (my_good k s r id hist x at).still (subst IsInPause (sym promotes) tt) in
+      let front : x.seen.front ≡ r.account.log = (my_good k s r id hist x at).still.0 (subst IsInPause (sym promotes) tt) in
       record {
         after = with_met x (b ∷ m.met);
         rule = meets_rule (b ∷ m.met) (knows_more live b m.met m.lives lasts);

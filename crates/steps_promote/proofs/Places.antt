@@ -93,6 +93,7 @@ module _ (k : Config) (s : Words) (r : Rule k s) (id : ℕ) (hist : List Entry) 
     pub stage : y.seen.stage ≡ x.seen.stage
     pub front : y.seen.front ≡ x.seen.front
     pub free : y.seen.free ≡ x.seen.free
+    pub spare : y.seen.spare ≡ x.seen.spare
     pub listing : y.seen.listing ≡ x.seen.listing
     pub share : y.seen.share ≡ x.seen.share
     pub made : y.seen.made ≡ x.seen.made
@@ -132,6 +133,7 @@ module _ (k : Config) (s : Words) (r : Rule k s) (id : ℕ) (hist : List Entry) 
         stage = o.stage;
         front = o.front;
         free = o.free;
+        spare = o.spare;
         listing = o.listing;
         wide = o.wide;
         control = o.control;
@@ -150,7 +152,7 @@ module _ (k : Config) (s : Words) (r : Rule k s) (id : ℕ) (hist : List Entry) 
         stood = stood_same k s r id hist x at promotes y number (ap (λ (z : Own). z.registers) o.own) (ap (λ (z : Own). z.serial) o.own) (ap (λ (z : Own). z.finalisers) o.own) after more1;
         area = subst (λ (z : Own). Area k after (record y { own = z })) (sym o.own) record { room = area.room; free = area.free; classes = area.classes };
         making = making_as making;
-        hunter = hunter_as k t words' x y number o.hunt (ap (λ (z : Own). z.looked) o.own) o.free (ap (λ (z : Own). z.prepared) o.own) (ap (λ (z : Own). length z.pending.items) o.own) (o.hunters x g.hunter);
+        hunter = hunter_as k t words' x y number o.hunt (ap (λ (z : Own). z.looked) o.own) o.free o.spare (ap (λ (z : Own). z.prepared) o.own) (ap (λ (z : Own). length z.pending.items) o.own) (o.hunters x g.hunter);
         owes = o.owes;
         areas = λ z _ a. area_back k before after z back1 a;
         makings = λ z _ a m. o.makings z a m;

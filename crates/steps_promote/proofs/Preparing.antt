@@ -31,7 +31,7 @@ use Rattle.heap_rule.proofs.Update.{over, over_here, over_else}
 use Rattle.steps_promote.proofs.OwnPlaces as places
 use Rattle.steps_promote.proofs.OwnPlaces.{place_sole}
 use Rattle.steps_promote.proofs.Registers.{promote_once}
-use Rattle.steps_promote.proofs.Remaking.{promotes_again, stood_same}
+use Rattle.steps_promote.proofs.Remaking.{promotes_again, stood_same, no_spare}
 use Rattle.std.proofs.lemmas.Option.{none-some, same_Some}
 
 -- the tenancy with another domain that has prepared a place
@@ -180,6 +180,7 @@ module _ (k : Config) (s : Words) (r : Rule k s) (id : ℕ) (hist : List Entry) 
         (λ same. may.head (sym written ∙ (ap (at_address k ws) (sym same) ∙ e)))
         (λ other. H.taken q c j owned_is below low (sym (stays q me c j owned_is below other) ∙ e));
     free = λ f e. subst (λ (m : ℕ × ℕ). (m.0 ≤ f + m.1) × (m.0 ≤ f + limit_of k m.0) × (f ≤ m.0)) (λ i. (sym (control' 6 (omega arith)) i, sym (control' 7 (omega arith)) i)) (H.free f e);
+    spare = λ u e. absurd (no_spare k s r id hist x at may.stage u e);
     holds = λ c b few e. dite (ℕ_discrete c class)
         (λ same. let b_is : a ≡ b = same_Some a b (sym (prepared_here x.own.prepared class (Some a) wide may.of_class) ∙ (ap (prepared_at (set x.own.prepared class (Some a))) (sym same) ∙ e)) in
         (ap prepared' (sym b_is) ∙ over_here a (Some me) t.prepared, (pool, slot, F.own_is ∙ ap (owned me) (sym same), subst (λ (z : ℕ). slot < blocks_of z) (sym same) F.inside, sym b_is ∙ (may.word ∙ ap (λ (z : ℕ). place_in pool z slot) (sym same)))))
@@ -223,6 +224,7 @@ module _ (k : Config) (s : Words) (r : Rule k s) (id : ℕ) (hist : List Entry) 
         stage = refl;
         front = refl;
         free = refl;
+        spare = refl;
         listing = refl;
         wide = length-set s.words (before_heap k + (a + 0)) new;
         control = control';

@@ -84,6 +84,7 @@ module _ (k : Config) (s : Words) (r : Rule k s) (id : ℕ) (hist : List Entry) 
         stage = refl;
         front = refl;
         free = refl;
+        spare = refl;
         listing = refl;
         wide = refl;
         control = control_same k s.words;
@@ -102,7 +103,7 @@ module _ (k : Config) (s : Words) (r : Rule k s) (id : ℕ) (hist : List Entry) 
         stood = moved_stood reg copy may;
         area = record { room = g.area.room; free = g.area.free; classes = g.area.classes };
         making = record { fits = g.making.fits; written = g.making.written };
-        hunter = hunter_as k r.account.tenancy s.words x y refl refl refl refl refl refl g.hunter;
+        hunter = hunter_as k r.account.tenancy s.words x y refl refl refl refl refl refl refl g.hunter;
         owes = owes_as k live x y refl refl refl refl g.owes;
         areas = λ z _ a. a;
         makings = λ z _ _ m. m;

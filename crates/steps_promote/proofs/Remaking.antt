@@ -1,5 +1,7 @@
 -- What all steps of copying share: the rule holds again where the places, the pools and each domain meet it.
 use Rattle.std.proofs.Common.{◌≡◌, ◌≢◌, ℕ, ◌+◌, ◌*◌, ◌<◌, Bool, true, false, cond, IsTrue, List, length, set, Some, sym, ap, ◌∙◌, subst, inl, inr, ⊎_elim, arith, refl}
+use Rattle.std.proofs.lemmas.Option.{none-some}
+use Rattle.heap_rule.specs.declared.view.Spare.{Spare}
 use mathlib.Core.Option.{some}
 use lib.ListN.{get_elem?}
 use Rattle.heap_model.specs.declared.entry.Entry.{Entry}
@@ -7,7 +9,6 @@ use Rattle.heap_model.specs.declared.label.Label.{Label}
 use Rattle.heap_model.specs.declared.state.State as model
 use Rattle.heap_model.proofs.Reach.ReachLemmas.{true_or_false}
 use Rattle.heap_model.specs.Domains.{register, domain_at}
-use Rattle.heap_model.specs.Fronts.{IsFrontOf}
 use Rattle.heap_words.specs.declared.colours.Colours.{Colours}
 use Rattle.heap_words.specs.declared.value.Value as words
 use Rattle.heap_rule.specs.declared.config.Config.{Config}
@@ -27,7 +28,7 @@ use Rattle.heap_rule.specs.Pools.{Tenancy, Pools, Grid, Drawers, RunsNext, Hunte
 use Rattle.heap_rule.specs.Room.{Room, Opened}
 use Rattle.heap_rule.specs.Rule.{Account, state_of, AllFound, Stood, Area, Making, Rule}
 use Rattle.heap_rule.specs.Views.{one}
-use Rattle.heap_rule.proofs.Keeps.{Words, Control, mine, my_good, remakes, knows_front, phases_same, cycle_control, stands_more, nobody_leads, takes_drawable, resting_takes, resting_other, between_here, cycle_here, runs_here, sharing_here, sharings_here}
+use Rattle.heap_rule.proofs.Keeps.{still_as, Words, Control, my_good, remakes, knows_front, phases_same, cycle_control, stands_more, nobody_leads, takes_drawable, resting_takes, resting_other, between_here, cycle_here, runs_here, sharing_here, sharings_here}
 use Rattle.heap_rule.proofs.Advancing.{pooled_more}
 use Rattle.heap_rule.proofs.BesideLemmas.{runs_as}
 use Rattle.heap_rule.proofs.FinaliserLemmas.{enrolled_more}
@@ -58,6 +59,10 @@ module _ (k : Config) (s : Words) (r : Rule k s) (id : ℕ) (hist : List Entry) 
   takes : Takes x.seen.stage
   takes = inr promotes
 
+  -- it knows of no place that was free from the start
+  pub no_spare : (z : Spare) → x.seen.spare ≡ Some z → ⊥
+  no_spare z e = none-some z (sym ((my_good k s r id hist x at).resting.spare (λ runs. let clash : In Promote ≡ In Run = sym promotes ∙ runs in cc)) ∙ e)
+
   -- blocks of minor areas are marked exactly where a cycle goes on beside running domains
   pub young_marked : (a : ℕ) (p : Place) → r.account.live a ≡ Some p → k.pools * 4096 < a → r.account.cycling.paint.marks.marked p.label ≡ r.account.cycling.armed
   young_marked a p lives young = let b = between_here k s r id hist x at Promote tt promotes in
@@ -77,6 +82,7 @@ module _ (k : Config) (s : Words) (r : Rule k s) (id : ℕ) (hist : List Entry) 
     pub stage : y.seen.stage ≡ x.seen.stage
     pub front : y.seen.front ≡ x.seen.front
     pub free : y.seen.free ≡ x.seen.free
+    pub spare : y.seen.spare ≡ x.seen.spare
     pub listing : y.seen.listing ≡ x.seen.listing
     pub share : y.seen.share ≡ x.seen.share
     pub wide : length words' ≡ length s.words
@@ -158,15 +164,15 @@ module _ (k : Config) (s : Words) (r : Rule k s) (id : ℕ) (hist : List Entry) 
         drawable = takes_drawable k r.account.pause words' x takes g.staged;
         cycle = cycle_here k s r id hist x at Promote tt promotes now live' t' c.past words' refl o.garbage same keeps;
       }
-      (knows_front k s r id hist x at y o.number (subst (λ (l : List Entry). IsFrontOf x.own.number r.account.log l) (sym o.front) (mine k s r id hist x at).front))
+      (knows_front k s r id hist x at y o.number (inl o.front))
       record {
         stood = o.stood;
         area = o.area;
         making = o.making;
         staged = staged_as r.account.pause x y o.number o.arrivals o.stage g.staged;
-        still = λ paused. o.front ∙ g.still (subst IsInPause o.stage paused);
+        still = still_as r.account.log x y o.front o.stage g.still;
         hunter = o.hunter;
-        resting = resting_takes k s.words words' x y takes (subst Takes (sym o.stage) takes) (λ n. o.free ∙ g.resting.free (λ e. n (o.stage ∙ e))) o.listing g.resting;
+        resting = resting_takes k s.words words' x y takes (subst Takes (sym o.stage) takes) (λ n. o.free ∙ g.resting.free (λ e. n (o.stage ∙ e))) (λ n. o.spare ∙ g.resting.spare (λ e. n (o.stage ∙ e))) o.listing g.resting;
         took_back = λ kind leads last. absurd (nobody_leads r.account.pause x x takes g.staged g.staged (subst IsLeading (sym (sym o.stage ∙ leads)) tt));
         owes = o.owes;
         rooted = (λ _ up. absurd (waits up), ⊎_elim (λ h. absurd (waits h.1)) (λ h. absurd (promote_rests r.account.pause promoting h)));

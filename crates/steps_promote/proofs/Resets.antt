@@ -39,7 +39,7 @@ use Rattle.heap_rule.proofs.Garbage.{KeepsGarbage}
 use Rattle.heap_rule.proofs.Lists.{got_there}
 use Rattle.heap_rule.proofs.Values.{packable}
 use Rattle.heap_rule.proofs.Lots.{Beside, area_beside, garbage_beside, grid_beside, hunter_beside}
-use Rattle.heap_rule.proofs.Keeps.{mine, my_good, control_set, controls_kept, hunter_as, more_same, writes, cycle_here, runs_here, sharing_here, sharings_here, cycle_control, Words, unmoved, garbage_here}
+use Rattle.heap_rule.proofs.Keeps.{my_good, control_set, controls_kept, hunter_as, more_same, writes, cycle_here, runs_here, sharing_here, sharings_here, cycle_control, Words, unmoved, garbage_here}
 use Rattle.heap_rule.proofs.PauseFacts.{promote_rests, run_resetting}
 use Rattle.heap_rule.proofs.Sharings.{SameCycle}
 
@@ -94,7 +94,7 @@ none_young k s r id hist x at resets =
     let live : Live = r.account.live in
     let pools : (a : ℕ) (p : Place) → live a ≡ Some p → IsOldAt k a = r.whole.emptied t in
     let settled : Settled live = ⊎_elim (λ (h : Settled live). h) (λ (h : Promoting r.account.pause). absurd (promote_rests r.account.pause h t)) r.whole.settled in
-    let front : r.account.log ≡ x.seen.front = sym (g.still (subst IsInPause (sym resets) tt)) in record {
+    let front : r.account.log ≡ x.seen.front = sym (g.still.0 (subst IsInPause (sym resets) tt)) in record {
       live = live;
       pools = pools;
       nodes = λ a p lives.
@@ -157,11 +157,12 @@ reset_may k x word a new place may fits slots id hist s r _ at _ =
     let not_run : (z : DomainView) → Good k r.account s.words z → z.seen.stage ≡ In Run → ⊥ = (λ z h runs. run_resetting r.account.pause z runs h.staged (reset_now r.account.pause x may.stage g.staged)) in
     let rule : Rule k record { words = ws; homes = s.homes; views = set s.views id (one k hist y) } = writes k s r id hist x at y ws record {
       number = refl;
-      front = (mine k s r id hist x at).front;
-      still = λ p. g.still p;
+      front = inl refl;
+      still = g.still;
       stage = refl;
       hunt = refl;
       free = refl;
+      spare = refl;
       listing = refl;
       notes = refl;
       copying = refl;
@@ -179,7 +180,7 @@ reset_may k x word a new place may fits slots id hist s r _ at _ =
       making = record { fits = λ j w got. absurd (none_made x.seen.made j w may.blank got); written = λ j w got. absurd (none_made x.seen.made j w may.blank got) };
       makings = λ z other _ p. making_beside k s.words a new z (area_word_far k x.own.number a z (let o : base ≤ a = omega arith in o) (let h : 0 < minor = may.some in let o : a < base + minor = omega arith in o) other) p;
       grid = grid_beside k r.account.tenancy s.words a new r.account.live r.account.live r.whole.pools beside (more_same r.account.live) (λ b q h _. h) r.whole.grid;
-      hunter = hunter_as k r.account.tenancy ws x y refl refl refl refl refl refl (hunter_beside k r.account.tenancy s.words a new r.whole.pools x (beside x.own.number) g.hunter);
+      hunter = hunter_as k r.account.tenancy ws x y refl refl refl refl refl refl refl (hunter_beside k r.account.tenancy s.words a new r.whole.pools x (beside x.own.number) g.hunter);
       hunters = λ z _ h. hunter_beside k r.account.tenancy s.words a new r.whole.pools z (beside z.own.number) h.hunter;
       cycle = cycle_here k s r id hist x at Reset tt may.stage (state_of k r.account.log) r.account.live r.account.tenancy r.account.cycling.past ws refl garbage same (λ is u. u);
       sharing = sharing_here k s r id hist x at Reset tt may.stage r.account ws r.account.cycling.past x.seen.share.weak y refl same refl refl refl (runs_here k s r id hist x at r.account ws refl x (λ runs. absurd (not_run x g runs)) g);

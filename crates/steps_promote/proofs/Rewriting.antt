@@ -196,7 +196,7 @@ module _ (k : Config) (s : Words) (r : Rule k s) (id : ℕ) (hist : List Entry) 
   f0 = r.whole.found c p lives
 
   has_it : HasValueAt (state_of k r.account.log) may.place.label i0 may.held
-  has_it = subst (λ (log : List Entry). HasValueAt (state_of k log) may.place.label i0 may.held) ((my_good k s r id hist x at).still (subst IsInPause (sym may.stage) tt)) may.has
+  has_it = subst (λ (log : List Entry). HasValueAt (state_of k log) may.place.label i0 may.held) ((my_good k s r id hist x at).still.0 (subst IsInPause (sym may.stage) tt)) may.has
 
   node_is : f0.node ≡ has_it.node
   node_is = same_Some f0.node has_it.node (sym f0.there ∙ (ap (node_at graph) lasts.label ∙ has_it.there))
@@ -259,6 +259,7 @@ module _ (k : Config) (s : Words) (r : Rule k s) (id : ℕ) (hist : List Entry) 
         stage = refl;
         front = refl;
         free = refl;
+        spare = refl;
         listing = refl;
         made = refl;
         wide = length-set s.words (before_heap k + A) new;

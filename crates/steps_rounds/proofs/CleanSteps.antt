@@ -46,7 +46,7 @@ use Rattle.heap_rule.specs.declared.view.Cleaning.{Cleaning}
 use Rattle.heap_model.specs.Entries.{wiped_keys}
 use Rattle.heap_model.specs.declared.state.State as model
 use Rattle.heap_words.specs.declared.value.Value as words
-use Rattle.steps_rounds.specs.Emptying.{CleanEndMay, CleanKeyMay, CleanLookMay, CleanMay, cleaning_on, CleanEndTold, CleanKeyTold, CleanLookTold, CleanTold, cleaned, cleaning_from, key_read, key_passed}
+use Rattle.steps_rounds.specs.Emptying.{CleanEndMay, CleanKeyMay, CleanLabelMay, CleanLookMay, CleanMay, cleaning_on, CleanEndTold, CleanKeyTold, CleanLabelTold, CleanLookTold, CleanTold, cleaned, labelled, cleaning_from, key_read, key_passed}
 use Rattle.cycle_laws.specs.Progress.{KeysFound}
 use Rattle.heap_rule.specs.declared.view.NextKey.{NextKey}
 use Rattle.steps_rounds.proofs.Keys.{without_ephe, no_places, wiped_other, not_emptied}
@@ -151,6 +151,7 @@ module _ (k : Config) (s : Words) (r : Rule k s) (id : ℕ) (hist : List Entry) 
       listed = may.listed;
       place = p;
       lives = ephe.lives;
+      label = λ l e. absurd (none-some l e);
       marked = marked;
       keys = n.0;
       datum = n.1;
@@ -218,6 +219,7 @@ module _ (k : Config) (s : Words) (r : Rule k s) (id : ℕ) (hist : List Entry) 
       listed = cl.listed;
       place = cl.place;
       lives = cl.lives;
+      label = cl.label;
       marked = cl.marked;
       keys = cl.keys;
       datum = cl.datum;
@@ -303,6 +305,44 @@ module _ (k : Config) (s : Words) (r : Rule k s) (id : ℕ) (hist : List Entry) 
         ))
         (cases_Bool (m.marked target.0.label))
 
+  -- the label
+  module _ (a : ℕ) (may : CleanLabelMay x a) where
+    abbrev z : Cleaning
+    z = may.cleaning
+
+    h : Cleans live now.graph m x.seen.stage x.own.ephemerons.items z
+    h = cl z may.cleans
+
+    known_now : Cleans live now.graph m x.seen.stage x.own.ephemerons.items (labelled h.place.label z)
+    known_now = record {
+      stage_is = h.stage_is;
+      listed = h.listed;
+      place = h.place;
+      lives = h.lives;
+      label = λ l e. same_Some h.place.label l e;
+      marked = h.marked;
+      keys = h.keys;
+      datum = h.datum;
+      node = h.node;
+      count_is = h.count_is;
+      through = h.through;
+      next = h.next;
+    }
+
+    pub label_told : (y : DomainView) × After y × CleanLabelTold x (at_address k s.words a) y
+    label_told = (
+      with_share x (cleaning_on (labelled h.place.label z) sh),
+      cleans_rule h.stage_is (labelled h.place.label z) known_now (λ q. sym (ap (λ (o : Option Cleaning). emptied_at o q) may.cleans)),
+      record {
+        cleaning = z;
+        cleans = may.cleans;
+        label = h.place.label;
+        packable = (r.whole.placed.fits z.block h.place h.lives).label;
+        word = ap (at_address k s.words) may.word ∙ (r.whole.found z.block h.place h.lives).label;
+        view = refl;
+      },
+    )
+
   -- no key was emptied
   module _ (a : ℕ) (may : CleanEndMay x a) where
     abbrev u : Cleaning
@@ -349,6 +389,11 @@ pub clean_look_may : (k : Config) (x : DomainView) (word a : ℕ) → word ≡ b
 clean_look_may k x word a place may fits slots id hist s r _ at _ =
     let o = look_told k s r id hist x at a may in
     (one k hist o.0, keeps, tt, unmoved k s word (set s.views id (one k hist o.0)) o.1, (subst (λ (n : ℕ). CleanLookTold x (get_or s.words n 0) o.0) (sym place) o.2, refl))
+
+pub clean_label_may : (k : Config) (x : DomainView) (word a : ℕ) → word ≡ before_heap k + a → CleanLabelMay x a → MayStep k x word (λ n. n) CleanLabelTold
+clean_label_may k x word a place may fits slots id hist s r _ at _ =
+    let o = label_told k s r id hist x at a may in
+    (one k hist o.0, keeps, tt, unmoved k s word (set s.views id (one k hist o.0)) o.1, (subst (λ (n : ℕ). CleanLabelTold x (get_or s.words n 0) o.0) (sym place) o.2, refl))
 
 pub clean_end_may : (k : Config) (x : DomainView) (word a : ℕ) → word ≡ before_heap k + a → CleanEndMay x a → MayStep k x word (λ n. n) CleanEndTold
 clean_end_may k x word a place may fits slots id hist s r _ at _ =

@@ -6,7 +6,7 @@ use Rattle.heap_rule.specs.Raw.{Closes, CanLeave, Leaves}
 use Rattle.steps_rounds.specs.Rounding.{DatumTold, EphemeronTold, KeyLookTold, KeyTold, datum_on, key_on, next_key, place_seen, looked_through}
 use Rattle.steps_cycle.proofs.Plain.{share_closes}
 use Rattle.heap_rule.specs.declared.view.Scan.TheVariants.{Keys}
-use Rattle.steps_rounds.specs.Emptying.{CleanEndTold, CleanKeyTold, CleanLookTold, CleanTold, cleaned, cleaning_on, cleaning_from, key_passed, key_read}
+use Rattle.steps_rounds.specs.Emptying.{CleanEndTold, CleanKeyTold, CleanLabelTold, CleanLookTold, CleanTold, cleaned, cleaning_on, cleaning_from, key_passed, key_read, labelled}
 use Rattle.heap_rule.specs.declared.view.NextKey.TheVariants.{Dead}
 
 pub ephemeron_closes : (k : Config) (x : DomainView) (found a : ℕ) → Closes k x found (EphemeronTold k a) CanLeave Leaves
@@ -29,6 +29,9 @@ clean_key_closes k x found = share_closes k x found (CleanKeyTold k) (λ y t. (c
 
 pub clean_look_closes : (k : Config) (x : DomainView) (found : ℕ) → Closes k x found CleanLookTold CanLeave Leaves
 clean_look_closes k x found = share_closes k x found CleanLookTold (λ y t. ⊎_elim (λ u. (cleaning_on (key_passed t.cleaning) x.seen.share, u.1)) (λ u. (cleaning_on (record t.cleaning { next = Dead }) x.seen.share, u.1)) t.told)
+
+pub clean_label_closes : (k : Config) (x : DomainView) (found : ℕ) → Closes k x found CleanLabelTold CanLeave Leaves
+clean_label_closes k x found = share_closes k x found CleanLabelTold (λ y t. (cleaning_on (labelled t.label t.cleaning) x.seen.share, t.view))
 
 pub clean_end_closes : (k : Config) (x : DomainView) (found : ℕ) → Closes k x found CleanEndTold CanLeave Leaves
 clean_end_closes k x found = share_closes k x found CleanEndTold (λ y t. (cleaned t.cleaning.block x.seen.share, t.view))

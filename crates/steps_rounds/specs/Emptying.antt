@@ -4,6 +4,8 @@ use Rattle.heap_words.specs.declared.colours.Colours.{Colours}
 use Rattle.heap_words.specs.declared.value.Value.{Value}
 use Rattle.heap_words.specs.declared.value.Value.TheVariants.{Int, Ref, Nothing}
 use Rattle.heap_words.specs.Values.{IsPackable, value_word}
+use Rattle.heap_words.specs.Labels.{IsPackableLabel, label_word}
+use Rattle.heap_model.specs.declared.label.Label.{Label}
 use Rattle.heap_rule.specs.declared.config.Config.{Config}
 use Rattle.heap_rule.specs.declared.phase.Kind.TheVariants.{Clean}
 use Rattle.heap_rule.specs.declared.phase.Stage.TheVariants.{In}
@@ -28,7 +30,7 @@ cleaned at share = record share { places_seen = at ∷ share.places_seen; cleani
 
 -- a cleaning begins
 abbrev pub cleaning_from : ℕ → ℕ → Cleaning
-cleaning_from at keys = record { block = at; done = 0; count = keys; emptied = []; next = Unknown }
+cleaning_from at keys = record { block = at; label = None; done = 0; count = keys; emptied = []; next = Unknown }
 
 -- the next key stays as it is
 abbrev pub key_passed : Cleaning → Cleaning
@@ -88,6 +90,24 @@ pub record CleanLookTold (x : DomainView) (found : ℕ) (y : DomainView) : Type 
   pub known : x.seen.share.colours ≡ Some colours
   pub told : (IsMarked colours found × (y ≡ with_share x (cleaning_on (key_passed cleaning) x.seen.share)))
       ⊎ (IsUnmarked colours found × (y ≡ with_share x (cleaning_on (record cleaning { next = Dead }) x.seen.share)))
+
+-- a load of the label of the ephemeron that the domain cleans
+pub record CleanLabelMay (x : DomainView) (at : ℕ) : Type 0 where
+  pub cleaning : Cleaning
+  pub cleans : x.seen.share.cleaning ≡ Some cleaning
+  pub word : at ≡ cleaning.block + 1
+
+-- the domain knows it
+abbrev pub labelled : Label → Cleaning → Cleaning
+labelled label w = record w { label = Some label }
+
+pub record CleanLabelTold (x : DomainView) (found : ℕ) (y : DomainView) : Type 0 where
+  pub cleaning : Cleaning
+  pub cleans : x.seen.share.cleaning ≡ Some cleaning
+  pub label : Label
+  pub packable : IsPackableLabel (label.domain, label.serial)
+  pub word : found ≡ label_word label.domain label.serial
+  pub view : y ≡ with_share x (cleaning_on (labelled label cleaning) x.seen.share)
 
 -- all keys are done, and none was emptied
 pub record CleanEndMay (x : DomainView) (at : ℕ) : Type 0 where

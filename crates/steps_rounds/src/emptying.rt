@@ -2,7 +2,7 @@
 //! aren't marked.
 ghost use Rattle.heap_rule.specs.Standing.{IsInHeap};
 ghost use Rattle.heap_rule.specs.Token.{IsIn};
-ghost use Rattle.steps_rounds.specs.Emptying.{CleanEndMay, CleanEndTold, CleanKeyMay, CleanKeyTold, CleanLookMay, CleanLookTold, CleanMay, CleanTold};
+ghost use Rattle.steps_rounds.specs.Emptying.{CleanEndMay, CleanEndTold, CleanKeyMay, CleanKeyTold, CleanLabelMay, CleanLabelTold, CleanLookMay, CleanLookTold, CleanMay, CleanTold};
 
 use crate::looking::LookingAt;
 use heap_rule::{Domain, Heap, Leaving, raw_load};
@@ -47,6 +47,19 @@ pub fn clean_key_look(heap: &Heap, dom: &mut Domain, at: u32) -> u64
 {
     let head_index = heap.index_of(at);
     raw_load::<Brand, LookingAt>(heap, dom, head_index, &LookingAt { at }, &[])
+}
+
+/// A load of the label of the ephemeron that the domain cleans. `at` is the label's address. Answers its
+/// word.
+pub fn clean_label_load(heap: &Heap, dom: &mut Domain, at: u32) -> u64
+    requires here { IsIn dom.old heap.now }
+    requires inside { IsInHeap heap.now.config at }
+    requires may { CleanLabelMay dom.old.view at }
+    ensures here { IsIn dom.new heap.now }
+    ensures told { CleanLabelTold dom.old.view result dom.new.view }
+{
+    let label_index = heap.index_of(at);
+    raw_load::<Brand, Leaving>(heap, dom, label_index, &Leaving, &[])
 }
 
 /// A load of the datum of the ephemeron that the domain cleans, where all its keys are done and none

@@ -6,5 +6,5 @@ mod emptying;
 mod looking;
 mod rounding;
 
-pub use emptying::{clean_end, clean_key_load, clean_key_look, clean_load};
+pub use emptying::{clean_end, clean_key_load, clean_key_look, clean_label_load, clean_load};
 pub use rounding::{datum_load, ephemeron_load, key_load, key_look};

@@ -15,6 +15,7 @@ use Rattle.heap_model.specs.Commands.{is_allocation, MayBeFull}
 use Rattle.heap_model.proofs.Graphs.GraphLemmas.{same_label_refl}
 use Rattle.heap_model.proofs.Reach.ReachLemmas.{or_left, or_right}
 use Rattle.heap_model.proofs.Histories.FreshLemmas.{fresh_stays}
+use Rattle.heap_model.proofs.Histories.ShapeAfterLemmas.{shaped-history}
 use Rattle.cycle_laws.specs.Fullness.{kept_labels, HoldsKept, AllHoldKept, IsNone, Differ}
 use Rattle.cycle_laws.specs.Pools.{has_pool, InPools, AllHaveOwner}
 use Rattle.cycle_laws.proofs.Keeping.{few_pools, kept_counts}
@@ -24,7 +25,7 @@ use Rattle.heap_rule.specs.declared.view.DomainView.{DomainView}
 use Rattle.heap_rule.specs.declared.phase.Kind.TheVariants.{Run, Answer}
 use Rattle.heap_rule.specs.Limits.{sizes_in}
 use Rattle.heap_rule.specs.Layout.{listed, listed_pool, cursor}
-use Rattle.heap_rule.specs.Pools.{Holder, nobody, drawn, owned, limit_of}
+use Rattle.heap_rule.specs.Pools.{Holder, nobody, drawn, owned, limit_of, last_found}
 use Rattle.heap_rule.specs.Phases.{AtStage}
 use Rattle.heap_rule.specs.Cycles.{HasNoCycle}
 use Rattle.heap_rule.specs.Views.{one}
@@ -194,7 +195,7 @@ module _ (k : Config) (s : Words) (r : Rule k s) (id : ℕ) (hist : List Entry) 
   }
 
   -- so the pools are no more than the kept labels, one for each class and domain, and those that the domain found free
-  few_kept : (f : ℕ) → x.seen.free ≡ Some f → k.pools ≤ length kept + class_count * k.domains + f
+  few_kept : (f : ℕ) → last_found x ≡ Some f → k.pools ≤ length kept + class_count * k.domains + f
   few_kept f found =
       let words : List ℕ = s.words in
       let free = (my_good k s r id hist x at).hunter.free f found in
@@ -232,3 +233,10 @@ module _ (k : Config) (s : Words) (r : Rule k s) (id : ℕ) (hist : List Entry) 
 
       total : (l n c f z : ℕ) → k.pools ≤ l + c + f → f ≤ z → l ≡ n → k.pools ≤ n + z + c
       total l n c f z most few same = omega arith
+
+  -- the pools are no more than the blocks that were ever made, one for each class and domain, and the reserve
+  pub many_made : (f : ℕ) → last_found x ≡ Some f → f ≤ reserve (sizes_in k) → k.pools ≤ length now.graph + reserve (sizes_in k) + class_count * k.domains
+  many_made f found few = total (length kept) now.kept (length now.graph) (class_count * k.domains) f (reserve (sizes_in k)) (few_kept f found) few (kept_counts (sizes_in k) r.account.log r.whole.legal).count (shaped-history (sizes_in k) r.account.log r.limits).kept_bound
+    where
+      total : (l n g c f z : ℕ) → k.pools ≤ l + c + f → f ≤ z → l ≡ n → n ≤ g → k.pools ≤ g + z + c
+      total l n g c f z most few same bound = omega arith

@@ -2,6 +2,7 @@ pub mod Plain
 pub mod Advances
 pub mod FullSteps
 pub mod TickSteps
+pub mod ShortSteps
 pub mod LoadSteps
 pub mod ValueSteps
 pub mod StoreSteps

@@ -1,5 +1,5 @@
 -- Loads of heads, labels and fields keep the rule.
-use Rattle.std.proofs.Common.{◌≡◌, ◌≢◌, ℕ, ℤ, ◌+◌, ◌<◌, ◌≤◌, ⊎_elim, Bool, true, false, List, [], ◌∷◌, get_or, set, Some, Option, sym, refl, ap, ◌∙◌, subst, arith, ◌++◌, get_or-set_same}
+use Rattle.std.proofs.Common.{inl, inr, ◌≡◌, ◌≢◌, ℕ, ℤ, ◌+◌, ◌<◌, ◌≤◌, ⊎_elim, Bool, true, false, List, [], ◌∷◌, get_or, set, Some, Option, sym, refl, ap, ◌∙◌, subst, arith, ◌++◌, get_or-set_same}
 use mathlib.Core.Logic.{dite}
 use native.Mathlib.Decide.{dec_le}
 use mathlib.Core.Option.{some}
@@ -22,7 +22,6 @@ use Rattle.std.proofs.lemmas.Option.{none-some, same_Some}
 use Rattle.heap_model.specs.declared.reply.Reply.{Reply}
 use Rattle.heap_model.specs.Commands.{shown}
 use Rattle.heap_model.specs.Fronts.{Shape, PlainShape, RawShape, EpheShape, shape_of, HoldsFields}
-use Rattle.heap_model.proofs.Histories.FrontLemmas.{front_whole}
 use Rattle.heap_model.proofs.Commands.LeavesLemmas.{Leaves, Refuses, leaves_load, leaves_load_past, leaves_load_raw, leaves_load_raw_past, leaves_load_kind, leaves_store_refused, leaves_cas_refused, refuses_plain_past, refuses_raw_past, refuses_raw_block, refuses_ephe}
 use Rattle.heap_words.specs.declared.value.Value.{Value}
 use Rattle.heap_words.specs.declared.value.Value.TheVariants.{Int as IntWord, Ref, Nothing as NothingWord}
@@ -211,7 +210,7 @@ module _ (k : Config) (s : Words) (r : Rule k s) (id : ℕ) (hist : List Entry) 
   below_told : (a : ℕ) (e : Entry) (n : ℕ) (shape : Shape) (b : Lives k s r id hist x at (subject e) a) → b.place.shape ≡ shape → HoldsFields now d (subject e) n → extent b.place.shape ≡ n + 2 → (n ≤ place_of e → ⊥) → SizeTold k a e n shape x (with_front x r.account.log)
   below_told a e n shape b is holds wide not_past = record {
     below = λ _. record {
-      looked = record { seen = (mine k s r id hist x at).front; legal = r.whole.legal; view = refl };
+      looked = record { seen = (mine k s r id hist x at).front; calls = (my_good k s r id hist x at).still.1 acts.runs; legal = r.whole.legal; view = refl };
       knows = holds;
       inside = fields_inside k s r id hist x at (subject e) a b n wide;
     };
@@ -226,7 +225,7 @@ module _ (k : Config) (s : Words) (r : Rule k s) (id : ℕ) (hist : List Entry) 
       (λ past. let o = past_entry a e may n tag b is past in refusal a e (PlainShape n tag) (Replied BadIndex) (head_command x a e may) o (past_told a e n (PlainShape n tag) o past))
       (λ not_past. record {
         after = with_front x r.account.log;
-        rule = looks k s r id hist x at r.account.log (front_whole d r.account.log) (λ _. refl);
+        rule = looks k s r id hist x at r.account.log (inr refl);
         told = below_told a e n (PlainShape n tag) b is (plain_at k s r id hist x at (subject e) a b n tag is) (ap extent is) not_past;
       })
   head_step a e may (RawShape n tag) b is = raw_step (puts_block x e) refl where
@@ -239,7 +238,7 @@ module _ (k : Config) (s : Words) (r : Rule k s) (id : ℕ) (hist : List Entry) 
         (subst (λ (q : Bool). RawCase q k a e n tag x (entered_view k s r id hist x at acts e x.own.registers)) (sym puts) (past_told a e n (RawShape n tag) o past)))
         (λ not_past. record {
           after = with_front x r.account.log;
-          rule = looks k s r id hist x at r.account.log (front_whole d r.account.log) (λ _. refl);
+          rule = looks k s r id hist x at r.account.log (inr refl);
           told = subst (λ (q : Bool). RawCase q k a e n tag x (with_front x r.account.log)) (sym puts)
               (below_told a e n (RawShape n tag) b is (raw_at k s r id hist x at (subject e) a b n tag is) (ap extent is) not_past);
         })
@@ -275,7 +274,7 @@ labels k slots id word hist x a reg place may s r _ at _ =
       one k hist x,
       keeps,
       tt,
-      unmoved k s word (set s.views id (one k hist x)) (looks k s r id hist x at x.seen.front (mine k s r id hist x at).front (my_good k s r id hist x at).still),
+      unmoved k s word (set s.views id (one k hist x)) (looks k s r id hist x at x.seen.front (inl refl)),
       (
         record {
           view = refl;

@@ -26,6 +26,7 @@ use Rattle.steps_run.specs.Stores.{with_field, remembering_own, StoreTold, Wrote
 use Rattle.heap_rule.specs.Token.{AllInHeap, Holds, LooksWithin, OwnFits, SweptWithin}
 use Rattle.heap_rule.specs.Standing.{IsInHeap}
 use Rattle.steps_run.specs.Loads.{place_of, puts_block, HeadCase, HeadTold, LabelTold, FieldRead, RawCase, SizeTold}
+use Rattle.steps_run.specs.Shortage.{ShortTold}
 use Rattle.steps_run.specs.Ticks.{tick_answer, TickTold}
 
 -- a load that leaves the plain data, and has no changes
@@ -112,6 +113,10 @@ head_closes k x a e changes empty found y p told = kept k x y found changes empt
 pub label_closes : (k : Config) (x : DomainView) (r : ℕ) (changes : List Change) → changes ≡ [] → ClosesUnread k x changes (LabelTold k r)
 label_closes k x r changes empty found y p told = let own = ap (λ (z : DomainView). z.own) told.view in
     kept k x y found changes empty p own (λ _. inl (record { front = front_same x y (ap (λ (z : DomainView). z.seen.front) told.view); registers = ap (λ (o : Own). o.registers) own; used = ap (λ (o : Own). o.used) own; serial = ap (λ (o : Own). o.serial) own }))
+
+pub short_closes : (k : Config) (x : DomainView) (changes : List Change) → changes ≡ [] → ClosesUnread k x changes (ShortTold k)
+short_closes k x changes empty found y p told = let own = ap (λ (z : DomainView). z.own) told.looked.view in
+    kept k x y found changes empty p own (λ _. inl (record { front = told.looked.seen; registers = ap (λ (o : Own). o.registers) own; used = ap (λ (o : Own). o.used) own; serial = ap (λ (o : Own). o.serial) own }))
 
 pub field_load_closes : (k : Config) (x : DomainView) (e : Entry) (changes : List Change) → FitChanges changes → (found : ℕ) → Closes k x found (FieldRead k e changes) (λ own. CanChange AsValue found changes) (λ own after. Changes AsValue found changes own after)
 field_load_closes k x e changes fits found y p told =

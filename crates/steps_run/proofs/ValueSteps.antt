@@ -370,7 +370,7 @@ value_stored k s r id hist x at a new remembers changes command reply acts f =
       areas = λ z _ h. area_back k r.account.live live1 z back h;
       makings = λ z _ area p. far z area p;
       grid = grid_back k r.account.tenancy r.account.live live1 words back grows (grid_beside k r.account.tenancy s.words (f.address + 2 + i) new r.account.live r.account.live r.whole.pools beside (more_same r.account.live) (λ b q h _. h) r.whole.grid);
-      hunter = hunter_as k r.account.tenancy words x y refl refl refl refl refl refl (hunter_beside k r.account.tenancy s.words (f.address + 2 + i) new r.whole.pools x (beside d) g.hunter);
+      hunter = hunter_as k r.account.tenancy words x y refl refl refl refl refl refl refl (hunter_beside k r.account.tenancy s.words (f.address + 2 + i) new r.whole.pools x (beside d) g.hunter);
       hunters = λ z _ g. hunter_beside k r.account.tenancy s.words (f.address + 2 + i) new r.whole.pools z (beside z.own.number) g.hunter;
       listed = let l = listed_here k s r id hist x at live1 (ephe_back r.account.live live1 back) grows x g in record { all = l.all; own = l.own; lives = l.lives };
       listeds = λ z _ h. listed_here k s r id hist x at live1 (ephe_back r.account.live live1 back) grows z h;

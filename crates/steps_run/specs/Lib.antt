@@ -1,3 +1,4 @@
 pub mod Ticks
 pub mod Loads
 pub mod Stores
+pub mod Shortage

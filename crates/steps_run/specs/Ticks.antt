@@ -13,6 +13,7 @@ use Rattle.heap_model.specs.Domains.{domain_at, reserve}
 use Rattle.heap_words.specs.declared.value.Value.{Value}
 use Rattle.heap_words.specs.declared.value.Value.TheVariants.{Int, Nothing}
 use Rattle.heap_words.specs.Values.{IsPackable}
+use Rattle.heap_rule.specs.Pools.{last_found}
 use Rattle.heap_rule.specs.declared.change.Change.{Change}
 use Rattle.heap_rule.specs.declared.config.Config.{Config}
 use Rattle.heap_rule.specs.declared.view.DomainView.{DomainView}
@@ -68,7 +69,7 @@ TickCommand x changes _ = ⊥
 pub record IsUsedUp (k : Config) (x : DomainView) : Type 0 where
   pub fresh : (domain_at (state_of k x.seen.front) x.own.number).fresh ≡ true
   pub free : ℕ
-  pub found : x.seen.free ≡ Some free
+  pub found : last_found x ≡ Some free
   pub few : free ≤ reserve (sizes_in k)
 
 -- an own entry of a tick: such a command, or `full` for an allocation where the pools are used up

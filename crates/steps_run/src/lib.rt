@@ -3,9 +3,11 @@
 #![tactic(auto)]
 
 mod loading;
+mod shortage;
 mod storing;
 mod ticking;
 
 pub use loading::{field_load, head_load, label_load};
+pub use shortage::short_load;
 pub use storing::{Storing, field_store};
 pub use ticking::tick;

@@ -169,6 +169,7 @@ module _ (k : Config) (s : Words) (r : Rule k s) (id : ℕ) (hist : List Entry) 
           whole = g.leading.whole;
           armed = g.leading.armed;
           unswept = g.leading.unswept;
+          under_way = g.leading.under_way;
         };
         knows = inr (
           collecting,
@@ -191,6 +192,7 @@ module _ (k : Config) (s : Words) (r : Rule k s) (id : ℕ) (hist : List Entry) 
           whole = q.leading.whole;
           armed = q.leading.armed;
           unswept = q.leading.unswept;
+          under_way = q.leading.under_way;
         };
         knows = ⊎_elim
             (λ (u : IsIdle z.seen.share). inl u)

@@ -21,7 +21,7 @@ use Rattle.cycle_laws.proofs.Cycling.{phase_steps}
 use Rattle.heap_words.specs.declared.value.Value.TheVariants.{Nothing}
 use Rattle.heap_rule.specs.declared.config.Config.{Config}
 use Rattle.heap_rule.specs.declared.phase.Kind.{Kind}
-use Rattle.heap_rule.specs.declared.phase.Kind.TheVariants.{Answer}
+use Rattle.heap_rule.specs.declared.phase.Kind.TheVariants.{Answer, Run}
 use Rattle.heap_rule.specs.declared.phase.Stage.TheVariants.{In}
 use Rattle.heap_rule.specs.declared.view.DomainView.{DomainView}
 use Rattle.heap_rule.specs.declared.view.Share.{Share}
@@ -39,7 +39,7 @@ use Rattle.heap_rule.specs.Token.{OwnFits}
 use Rattle.heap_rule.specs.Views.{one}
 use Rattle.heap_rule.proofs.FullnessLemmas.{full_stays}
 use Rattle.heap_rule.proofs.Keeps.{Words, after_entry, hunter_as, knows_entry, legal_entry, mine, more_same, my_good, own as own_kept, owes_as, remakes, resting_as, stood_other, sum_same, unmoved}
-use Rattle.heap_rule.proofs.PauseFacts.{nobody_still}
+use Rattle.heap_rule.proofs.PauseFacts.{nobody_else_still}
 use Rattle.heap_rule.proofs.Plain.{enters_once}
 use Rattle.heap_rule.proofs.FinaliserLemmas.{KeepsWork, paired_length, work_with}
 use Rattle.heap_rule.specs.Finalisers.{StandsWaiting}
@@ -86,7 +86,7 @@ module _ (k : Config) (s : Words) (r : Rule k s) (id : ℕ) (hist : List Entry) 
       let collects = answers k s r id hist x at stage in
       let up = waits k s r id hist x at collects in learns k s r id hist x at counted record {
         telling = record { owes = g.telling.owes; seen = g.telling.seen; fresh = λ gone. absurd (true≢false (sym gone ∙ up)); forgotten = λ gone. absurd (true≢false (sym gone ∙ up)); colours = g.telling.colours };
-        leading = record { changed = g.leading.changed; found_blocks = λ v e. (inr stage, (let same : Some (live_blocks s.words) ≡ Some v = e in cc)); found_words = g.leading.found_words; rotated = g.leading.rotated; turned = g.leading.turned; pass = g.leading.pass; whole = g.leading.whole; armed = g.leading.armed; unswept = g.leading.unswept };
+        leading = record { changed = g.leading.changed; found_blocks = λ v e. (inr stage, (let same : Some (live_blocks s.words) ≡ Some v = e in cc)); found_words = g.leading.found_words; rotated = g.leading.rotated; turned = g.leading.turned; pass = g.leading.pass; whole = g.leading.whole; armed = g.leading.armed; unswept = g.leading.unswept; under_way = g.leading.under_way };
         knows = inr (
           collects,
           record { found_head = kn.found_head; scan = kn.scan; walked = kn.walked; own_pool = kn.own_pool; rooted = kn.rooted; marked = kn.marked; counted = record { once = n.once; own = n.own; lives = n.lives; all = n.all; words = n.words }; held = kn.held; vacant = kn.vacant },
@@ -126,6 +126,9 @@ module _ (k : Config) (s : Words) (r : Rule k s) (id : ℕ) (hist : List Entry) 
 
   works_all : (j : ℕ) → KeepsWork now (next now e) j
   works_all j = let n = work_with now d _ refl refl refl j in record { finals = n.finals; lasts = n.lasts; queue = n.queue }
+
+  not_run : In Answer ≡ In Run → ⊥
+  not_run is = cc
 
   endings' : CountsEnded k (state_of k log') s.words
   endings' = r.whole.endings ∙ sym (ap (λ (t : model.State). sum_of (is_over t) k.domains) after ∙ sum_same (is_over now) (is_over (next now e)) k.domains (λ j _. ap flag (keeps_all j).ended))
@@ -196,15 +199,15 @@ module _ (k : Config) (s : Words) (r : Rule k s) (id : ℕ) (hist : List Entry) 
         drawable = r.whole.drawable;
         cycle = cycle';
       }
-      (knows_entry k s r id hist x at y e alone refl refl)
+      (knows_entry k s r id hist x at y e alone (λ _. refl) refl refl)
       record {
         stood = record { wide = own_stood.wide; each = own_stood.each; serial = own_stood.serial; enrolled = own_stood.enrolled };
         area = record { room = g.area.room; free = g.area.free; classes = g.area.classes };
         making = record { fits = g.making.fits; written = g.making.written };
         staged = record { arrivals = g.staged.arrivals; stage = g.staged.stage };
-        still = λ paused. absurd (subst IsInPause stage paused);
-        hunter = hunter_as k T s.words x y refl refl refl refl refl refl g.hunter;
-        resting = resting_as k s.words x y refl refl refl refl refl g.resting;
+        still = (λ paused. absurd (subst IsInPause stage paused), λ runs. absurd (not_run (sym stage ∙ runs)));
+        hunter = hunter_as k T s.words x y refl refl refl refl refl refl refl g.hunter;
+        resting = resting_as k s.words x y refl refl refl refl refl refl g.resting;
         took_back = g.took_back;
         owes = owes_as k live x y refl refl refl refl g.owes;
         rooted = g.rooted;
@@ -218,7 +221,7 @@ module _ (k : Config) (s : Words) (r : Rule k s) (id : ℕ) (hist : List Entry) 
         area = h.area;
         making = h.making;
         staged = h.staged;
-        still = λ paused. absurd (nobody_still r.account.pause x z Answer (λ p. p) stage g.staged h.staged paused);
+        still = nobody_else_still log' r.account.pause x z Answer (λ p. p) not_run stage g.staged h.staged;
         hunter = h.hunter;
         resting = h.resting;
         took_back = h.took_back;
@@ -251,7 +254,7 @@ module _ (k : Config) (s : Words) (r : Rule k s) (id : ℕ) (hist : List Entry) 
     answer_told : LiveWordsTold k blocks x (live_words s.words) y
     answer_told = let st = stands_still x good.stood in record {
       entered = record {
-        answers = answers_push (sizes_in k) d r.account.log x.seen.front e (Replied (LiveReply blocks (live_words s.words))) (mine k s r id hist x at).front (legal_entry k s r id hist x at e allowed) replies;
+        answers = answers_push (sizes_in k) d r.account.log x.seen.front e (Replied (LiveReply blocks (live_words s.words))) (mine k s r id hist x at).front (λ running. absurd (true≢false running)) (legal_entry k s r id hist x at e allowed) replies;
         view = refl;
         holds = holds k r.limits live r.whole.placed (state_of k log') x st;
       };

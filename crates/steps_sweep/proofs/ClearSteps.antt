@@ -115,6 +115,7 @@ module _ (k : Config) (s : Words) (r : Rule k s) (id : ℕ) (hist : List Entry) 
       whole = h.leading.whole;
       armed = h.leading.armed;
       unswept = h.leading.unswept;
+      under_way = h.leading.under_way;
     };
     knows = knows_words k r.account.live r.account.tenancy.holder now.graph c.paint.marks s.words words' z.own.number z.own.registers z.seen.stage z.seen.share (heap k s r id hist x at i 0 is) h.knows;
     adds = h.adds;
@@ -158,6 +159,7 @@ module _ (k : Config) (s : Words) (r : Rule k s) (id : ℕ) (hist : List Entry) 
           whole = g.leading.whole;
           armed = g.leading.armed;
           unswept = g.leading.unswept;
+          under_way = g.leading.under_way;
         };
         knows = inl idle';
         adds = record { blocks = λ e _. absurd (no_sweep e); words = λ e _. absurd (no_sweep e); own = λ e _ _. absurd (no_sweep e) };

@@ -235,11 +235,16 @@ module _ (k : Config) (s : Words) (r : Rule k s) (id : ℕ) (hist : List Entry) 
       (was.1 (class_in one.0))) in
       λ e. good.hunter.taken q cl i is below was.0 (sym (stays (place_in q cl i) differ) ∙ e)
 
+  -- what was free is free
+  free_still : (b : ℕ) → at_address k s.words b ≡ 0 → at_address k words' b ≡ 0
+  free_still b free = dite (ℕ_discrete b a) (λ same. ap (at_address k words') same ∙ here_is) (λ other. stays b other ∙ free)
+
   hunter' : Hunter k t' words' y
   hunter' = let h = good.hunter in record {
     hunt = subst (Hunts k t' words' d) (sym may.at_rest) tt;
     drawn_alone = h.drawn_alone;
     taken = taken';
+    spare = λ u e. let f = h.spare u e in record { own_is = f.own_is; inside = f.inside; free = free_still (place_in u.pool u.class u.slot) f.free };
     free = λ m e. subst (λ (n : ℕ × ℕ). (n.0 ≤ m + n.1) × (n.0 ≤ m + limit_of k n.0) × (m ≤ n.0)) (λ i. (sym (control 6 (omega arith)) i, sym (control 7 (omega arith)) i)) (h.free m e);
     holds = h.holds;
     prepared = h.prepared;
@@ -333,7 +338,7 @@ module _ (k : Config) (s : Words) (r : Rule k s) (id : ℕ) (hist : List Entry) 
       let l = leading_words c s.words words' d x.seen.stage x.seen.share same g.leading in
       let run = running' x good in record {
         telling = record { owes = g.telling.owes; seen = g.telling.seen; fresh = λ up. ap (λ (z : Share). sweeping_on z share'.reaping share'.swept) (g.telling.fresh up); forgotten = g.telling.forgotten; colours = g.telling.colours };
-        leading = record { changed = l.changed; found_blocks = l.found_blocks; found_words = l.found_words; rotated = l.rotated; turned = l.turned; pass = l.pass; whole = l.whole; armed = l.armed; unswept = l.unswept };
+        leading = record { changed = l.changed; found_blocks = l.found_blocks; found_words = l.found_words; rotated = l.rotated; turned = l.turned; pass = l.pass; whole = l.whole; armed = l.armed; unswept = l.unswept; under_way = l.under_way };
         knows = ⊎_elim
             (λ (idle : IsIdle x.seen.share). inl (ap (λ (z : Share). sweeping_on z share'.reaping share'.swept) idle))
             (λ (n : IsCollecting x.seen.stage × Knowing k r.account.live t.holder now.graph c.paint.marks words' d x.own.registers x.seen.share). let kn = n.1 in let m = kn.counted in inr (

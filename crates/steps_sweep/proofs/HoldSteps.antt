@@ -8,13 +8,10 @@ use Rattle.atomic_table.specs.Table.{keeps}
 use Rattle.heap_model.specs.declared.entry.Entry.{Entry}
 use Rattle.heap_model.specs.declared.state.State as model
 use Rattle.heap_rule.specs.declared.config.Config.{Config}
-use Rattle.heap_rule.specs.declared.phase.Kind.{Kind}
-use Rattle.heap_rule.specs.declared.phase.Kind.TheVariants.{Answer}
-use Rattle.heap_rule.specs.declared.phase.Stage.TheVariants.{In}
 use Rattle.heap_rule.specs.declared.view.DomainView.{DomainView}
 use Rattle.heap_rule.specs.declared.view.Share.{Share}
 use Rattle.heap_rule.specs.declared.view.OwnPool.{OwnPool}
-use Rattle.heap_rule.specs.Cycles.{Answering, Cycling, Facts, HoldsBlock, IsCollecting, Knowing}
+use Rattle.heap_rule.specs.Cycles.{Cycling, HoldsBlock, IsCollecting, Knowing}
 use Rattle.heap_rule.specs.Layout.{at_address, before_heap, owner_of}
 use Rattle.heap_rule.specs.Places.{Live, Place}
 use Rattle.heap_rule.specs.Pools.{Holder, blocks_of, owned, place_in}
@@ -24,14 +21,14 @@ use Rattle.heap_rule.specs.Views.{one}
 use Rattle.heap_rule.proofs.Keeps.{Words, my_good, unmoved}
 use Rattle.heap_rule.proofs.OwnPlaces.{owned_same}
 use Rattle.steps_cycle.specs.Looks.{with_share}
-use Rattle.steps_cycle.proofs.Learning.{kind_here, known, learns, not_promoting}
+use Rattle.steps_cycle.proofs.Learning.{known, learns, not_promoting, waits}
 use Rattle.steps_cycle.proofs.Plain.{share_closes}
-use Rattle.steps_sweep.specs.Holding.{HeldMay, HeldOwnMay, HeldOwnTold, HeldTold}
+use Rattle.steps_sweep.specs.Holding.{HeldMay, HeldOwnMay, HeldOwnTold, HeldTold, Returns}
+use Rattle.steps_sweep.proofs.Swept.{returning, returns_clean}
 use Rattle.steps_cycle.proofs.Layouts.{whose}
 use Rattle.std.proofs.lemmas.Option.{same_Some}
-use Rattle.heap_rule.proofs.Stages.{waits_in}
 
-module _ (k : Config) (s : Words) (r : Rule k s) (id : ℕ) (hist : List Entry) (x : DomainView) (at : get_elem? s.views id ≡ some (one k hist x)) (stage : x.seen.stage ≡ In Answer) where
+module _ (k : Config) (s : Words) (r : Rule k s) (id : ℕ) (hist : List Entry) (x : DomainView) (at : get_elem? s.views id ≡ some (one k hist x)) (returns : Returns k x) where
   abbrev now : model.State
   now = state_of k r.account.log
 
@@ -57,19 +54,16 @@ module _ (k : Config) (s : Words) (r : Rule k s) (id : ℕ) (hist : List Entry) 
   kn = known k s r id hist x at
 
   collecting : IsCollecting x.seen.stage
-  collecting = subst IsCollecting (sym stage) (λ none. none)
-
-  facts : Answering k now live r.account.tenancy c s.words
-  facts = subst (λ (kind : Kind). Facts kind k now live r.account.tenancy c s.words) (kind_here k s r id hist x at Answer stage) r.whole.cycle.facts
+  collecting = returning k s r id hist x at returns
 
   holds : (own_pool : Option OwnPool) (held vacant : ℕ) → ((u : OwnPool) → own_pool ≡ Some u → holder u.pool ≡ owned d u.class) → ((q class : ℕ) → holder q ≡ owned d class → q < held → HoldsBlock live q class)
       → ((class slot : ℕ) → holder held ≡ owned d class → slot < blocks_of class → slot < vacant → at_address k s.words (place_in held class slot) ≡ 0) → After (with_share x (record sh { own_pool = own_pool; held = held; vacant = vacant }))
   holds own_pool held vacant own all free =
       let g = (my_good k s r id hist x at).sharing in
       let n = kn.counted in
-      let waits : c.shares.arrived d ≡ false = waits_in k s r id hist x at Answer stage in learns k s r id hist x at (record sh { own_pool = own_pool; held = held; vacant = vacant }) record {
-        telling = record { owes = g.telling.owes; seen = g.telling.seen; fresh = λ up. absurd (true≢false (sym up ∙ waits)); forgotten = λ up. absurd (true≢false (sym up ∙ waits)); colours = g.telling.colours };
-        leading = record { changed = g.leading.changed; found_blocks = g.leading.found_blocks; found_words = g.leading.found_words; rotated = g.leading.rotated; turned = g.leading.turned; pass = g.leading.pass; whole = g.leading.whole; armed = g.leading.armed; unswept = g.leading.unswept };
+      let here : c.shares.arrived d ≡ false = waits k s r id hist x at collecting in learns k s r id hist x at (record sh { own_pool = own_pool; held = held; vacant = vacant }) record {
+        telling = record { owes = g.telling.owes; seen = g.telling.seen; fresh = λ up. absurd (true≢false (sym up ∙ here)); forgotten = λ up. absurd (true≢false (sym up ∙ here)); colours = g.telling.colours };
+        leading = record { changed = g.leading.changed; found_blocks = g.leading.found_blocks; found_words = g.leading.found_words; rotated = g.leading.rotated; turned = g.leading.turned; pass = g.leading.pass; whole = g.leading.whole; armed = g.leading.armed; unswept = g.leading.unswept; under_way = g.leading.under_way };
         knows = inr (
           collecting,
           record { found_head = kn.found_head; scan = kn.scan; walked = kn.walked; own_pool = own; rooted = kn.rooted; marked = kn.marked; counted = record { once = n.once; own = n.own; lives = n.lives; all = n.all; words = n.words }; held = all; vacant = free },
@@ -98,7 +92,7 @@ module _ (k : Config) (s : Words) (r : Rule k s) (id : ℕ) (hist : List Entry) 
       (λ u. (with_share x (record sh { held = pool + 1; vacant = 0 }), one_more pool may.next (λ class is. absurd (u.0 class is)), record { told = inr (u.1, ap (λ (n : ℕ). with_share x (record sh { held = pool + 1; vacant = n })) (sym may.first)) }))
       (whose k s r d pool may.inside (holder pool) refl)
 
-  pub held_at : (a pool class slot : ℕ) → HeldMay x a pool class slot → (y : DomainView) × After y × HeldTold pool slot x (at_address k s.words a) y
+  pub held_at : (a pool class slot : ℕ) → HeldMay k x a pool class slot → (y : DomainView) × After y × HeldTold pool slot x (at_address k s.words a) y
   held_at a pool class slot may =
       let own : holder pool ≡ owned d class = kn.own_pool (record { pool = pool; class = class }) may.own in
       let b : ℕ = place_in pool class slot in
@@ -125,7 +119,7 @@ module _ (k : Config) (s : Words) (r : Rule k s) (id : ℕ) (hist : List Entry) 
                   (λ (u : (p : Place) × (live b ≡ Some p)). u)
                   (λ u. absurd (⊎_elim
                   (λ (f : r.account.tenancy.prepared b ≡ Some d). not_promoting k s r id hist x at collecting (r.whole.drawers.prepared b d f).1)
-                  (λ (f : IsTrue (r.account.tenancy.garbage b)). true≢false (sym f ∙ facts.clean b))
+                  (λ (f : IsTrue (r.account.tenancy.garbage b)). true≢false (sym f ∙ returns_clean k s r id hist x at returns pool class slot own may.inside))
                   u))
                   z)
                   (r.whole.grid.places pool d class slot own may.inside),
@@ -135,15 +129,15 @@ module _ (k : Config) (s : Words) (r : Rule k s) (id : ℕ) (hist : List Entry) 
 
 pub held_own_may : (k : Config) (x : DomainView) (word pool : ℕ) → HeldOwnMay k x word pool → MayStep k x word (λ n. n) (HeldOwnTold pool)
 held_own_may k x word pool may fits slots id hist s r _ at _ =
-    let o = owner_held k s r id hist x at may.stage word pool may in
+    let o = owner_held k s r id hist x at may.returns word pool may in
     (one k hist o.0, keeps, tt, unmoved k s word (set s.views id (one k hist o.0)) o.1, (subst (λ (n : ℕ). HeldOwnTold pool x (get_or s.words n 0) o.0) (sym may.word) o.2, refl))
 
 pub held_own_closes : (k : Config) (x : DomainView) (found pool : ℕ) → Closes k x found (HeldOwnTold pool) CanLeave Leaves
 held_own_closes k x found pool = share_closes k x found (HeldOwnTold pool) (λ y t. ⊎_elim (λ u. (record x.seen.share { own_pool = Some (record { pool = pool; class = u.0 }) }, u.3)) (λ u. (record x.seen.share { held = pool + 1 }, u.1)) t.told)
 
-pub held_may : (k : Config) (x : DomainView) (word a pool class slot : ℕ) → word ≡ before_heap k + a → HeldMay x a pool class slot → MayStep k x word (λ n. n) (HeldTold pool slot)
+pub held_may : (k : Config) (x : DomainView) (word a pool class slot : ℕ) → word ≡ before_heap k + a → HeldMay k x a pool class slot → MayStep k x word (λ n. n) (HeldTold pool slot)
 held_may k x word a pool class slot place may fits slots id hist s r _ at _ =
-    let o = held_at k s r id hist x at may.stage a pool class slot may in
+    let o = held_at k s r id hist x at may.returns a pool class slot may in
     (one k hist o.0, keeps, tt, unmoved k s word (set s.views id (one k hist o.0)) o.1, (subst (λ (n : ℕ). HeldTold pool slot x (get_or s.words n 0) o.0) (sym place) o.2, refl))
 
 pub held_closes : (k : Config) (x : DomainView) (found pool slot : ℕ) → Closes k x found (HeldTold pool slot) CanLeave Leaves

@@ -142,7 +142,7 @@ module _ (k : Config) (s : Words) (r : Rule k s) (id : ℕ) (hist : List Entry) 
       found = r.whole.found;
       grid = r.whole.grid;
       makings = λ z g. g.making;
-      hunter = hunter_as k t s.words x y refl refl refl refl refl refl good.hunter;
+      hunter = hunter_as k t s.words x y refl refl refl refl refl refl refl good.hunter;
       hunters = λ z _ g. g.hunter;
       cycle = r.whole.cycle;
       sharing = sharing';

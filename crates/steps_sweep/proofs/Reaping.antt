@@ -171,7 +171,7 @@ module _ (k : Config) (s : Words) (r : Rule k s) (id : ℕ) (hist : List Entry) 
           };
           cycle = o.cycle;
         }
-        (knows_front k s r id hist x at y refl (mine k s r id hist x at).front)
+        (knows_front k s r id hist x at y refl (inl refl))
         record {
           stood = record { wide = mine_stood.wide; each = mine_stood.each; serial = mine_stood.serial; enrolled = mine_stood.enrolled };
           area = record { room = mine_area.room; free = mine_area.free; classes = mine_area.classes };
@@ -179,7 +179,7 @@ module _ (k : Config) (s : Words) (r : Rule k s) (id : ℕ) (hist : List Entry) 
           staged = record { arrivals = g.staged.arrivals; stage = g.staged.stage };
           still = g.still;
           hunter = o.hunter;
-          resting = resting_as k words' x y refl refl refl refl refl (resting_lists k s.words words' x lists g.resting);
+          resting = resting_as k words' x y refl refl refl refl refl refl (resting_lists k s.words words' x lists g.resting);
           took_back = λ kind leads last. want_same ∙ g.took_back kind leads last;
           owes = record { quiet = mine_owes.quiet; knows = mine_owes.knows; copied = mine_owes.copied; owed = λ i w got. let u = mine_owes.owed i w got in record { place = u.place; lives = u.lives; debt = u.debt }; once = mine_owes.once; listed = mine_owes.listed; recalled = mine_owes.recalled; fields = mine_owes.fields };
           rooted = g.rooted;

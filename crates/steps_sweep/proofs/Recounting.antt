@@ -74,7 +74,7 @@ module _ (k : Config) (s : Words) (r : Rule k s) (id : ℕ) (hist : List Entry) 
         found = subst (λ (paint : Paint). AllFound k paint r.account.live (state_of k r.account.log).graph recounted) (sym o.paint) (found_heap k r.account.cycling.paint r.account.live (state_of k r.account.log).graph s.words recounted (λ a _. heap a) r.whole.placed r.whole.found);
         grid = grid_heap k t r.account.live s.words recounted (λ a _. heap a) r.whole.grid;
         makings = λ z g. making_heap k s.words recounted z (λ a _. heap a) g.making;
-        hunter = hunter_as k t recounted x (with_share x share') refl refl refl refl refl refl (hunters x (my_good k s r id hist x at).hunter);
+        hunter = hunter_as k t recounted x (with_share x share') refl refl refl refl refl refl refl (hunters x (my_good k s r id hist x at).hunter);
         hunters = λ z _ g. hunters z g.hunter;
         cycle = o.cycle;
         sharing = o.sharing;

@@ -1,12 +1,15 @@
 -- The return of a pool in which nothing is left keeps the rule.
 use Rattle.std.proofs.Common.{◌≡◌, ◌≢◌, ℕ, ◌+◌, ◌*◌, ◌<◌, ◌≤◌, true, true≢false, List, get_or, set, None, sym, refl, ap, ◌∙◌, subst, inl, inr, ⊎_elim, arith, length-set}
+use Rattle.std.proofs.lemmas.Option.{none-some}
 use mathlib.Core.Option.{some}
 use lib.ListN.{get_elem?}
 use Rattle.atomic_table.specs.Table.{keeps}
 use Rattle.heap_model.specs.declared.entry.Entry.{Entry}
 use Rattle.heap_rule.specs.declared.view.Reaping.TheVariants.{Outside}
 use Rattle.heap_rule.specs.declared.config.Config.{Config}
-use Rattle.heap_rule.specs.declared.phase.Kind.TheVariants.{Run, Answer}
+use Rattle.heap_rule.specs.declared.phase.Kind.{Kind}
+use Rattle.heap_rule.specs.declared.phase.Kind.TheVariants.{Run, Sweep, Answer}
+use Rattle.heap_rule.specs.declared.phase.Stage.TheVariants.{In}
 use Rattle.heap_rule.specs.declared.view.DomainView.{DomainView}
 use Rattle.heap_rule.specs.Beside.{RunsBeside}
 use Rattle.heap_rule.specs.Cycles.{Cycling, IsCollecting, IsIdle, Knowing}
@@ -17,7 +20,7 @@ use Rattle.heap_rule.specs.Raw.{CanLeave, Closes, Leaves, MayStore}
 use Rattle.heap_rule.specs.Rule.{Account, Good, Rule, Sharing, state_of}
 use Rattle.heap_rule.specs.Views.{one}
 use Rattle.heap_rule.proofs.Holders.{NotOf, found_agrees, free_later, hunter_agree, making_agrees, nobody_not, owned_not, same_over, stock_self}
-use Rattle.heap_rule.proofs.Keeps.{Words, knows_front, mine, my_good, opened_words, owes_as, phases_words, remakes, room_words}
+use Rattle.heap_rule.proofs.Keeps.{Words, knows_front, my_good, opened_words, owes_as, phases_words, remakes, room_words}
 use Rattle.heap_rule.proofs.PauseFacts.{kind_differs, not_both}
 use Rattle.heap_rule.proofs.Sharings.{leading_words}
 use Rattle.steps_cycle.specs.Looks.{with_share}
@@ -73,18 +76,22 @@ module _ (k : Config) (s : Words) (r : Rule k s) (id : ℕ) (hist : List Entry) 
   even_here : (j : ℕ) → r.account.pause.phase ≡ j * 2 + 1 → ⊥
   even_here j e = not_both r.account.pause.phase (even k s r id hist x at collects) (j, e)
 
+  -- the domain runs in no phase in which it gives pools back
+  stands : (kind : Kind) × (x.seen.stage ≡ In kind) × (kind ≢ Run)
+  stands = ⊎_elim (λ (h : (x.seen.stage ≡ In Sweep) × (k.pools ≤ x.own.swept.spot.pool)). (Sweep, h.0, λ e. cc)) (λ (h : x.seen.stage ≡ In Answer). (Answer, h, λ e. cc)) may.returns
+
   -- the domains don't run next
   covered' : Covered k r.account.pause after ws
   covered' runs = absurd (⊎_elim
       (λ (h : (j : ℕ) × (r.account.pause.phase ≡ j * 2) × (r.account.pause.kinds j ≡ Run)).
-      let a = subst (AtStage r.account.pause d x.own.arrivals) may.stage good.staged.stage in
-      let same : Run ≡ Answer = kind_differs r.account.pause h.0 a.1.0 r.account.pause.phase Run Answer h.1 a.1.1 h.2 a.1.2 in cc)
+      let a = subst (AtStage r.account.pause d x.own.arrivals) stands.1 good.staged.stage in
+      stands.2 (sym (kind_differs r.account.pause h.0 a.1.0 r.account.pause.phase Run stands.0 h.1 a.1.1 h.2 a.1.2)))
       (λ (h : (j : ℕ) × (r.account.pause.phase ≡ j * 2 + 1) × (r.account.pause.led ≡ true) × (r.account.pause.kinds (j + 1) ≡ Run)). even_here h.0 h.1)
       runs)
 
   -- nobody writes the list
   lists_none : (z : DomainView) → Staged r.account.pause z → Resting k s.words z → Resting k ws z
-  lists_none z staged rest = record { hunt = rest.hunt; free = rest.free; lists = λ l e. absurd (leads_odd r.account.pause z.own.number z.own.arrivals z.seen.stage (even k s r id hist x at collects) staged.stage (rest.lists l e).leads) }
+  lists_none z staged rest = record { hunt = rest.hunt; free = rest.free; spare = rest.spare; lists = λ l e. absurd (leads_odd r.account.pause z.own.number z.own.arrivals z.seen.stage (even k s r id hist x at collects) staged.stage (rest.lists l e).leads) }
 
   hunter' : Hunter k after ws y
   hunter' = let h = good.hunter in let was = owned_was k s r id hist x at word pool class may in let same = agrees k s r id hist x at word pool class may in let none = no_prepared k s r id hist x at word pool class may in record {
@@ -92,6 +99,7 @@ module _ (k : Config) (s : Words) (r : Rule k s) (id : ℕ) (hist : List Entry) 
     drawn_alone = λ q e. h.drawn_alone q (drawn_was k s r id hist x at word pool class may q d e);
     taken = λ q cl slot is inside before e. h.taken q cl slot (was q d cl is).1 inside before (sym (same.heap _ (omega arith)) ∙ e);
     free = λ m e. free_later k s.words ws counts.0 grows m (h.free m e);
+    spare = λ u e. absurd (none-some u (sym (good.resting.spare (λ runs. subst IsCollecting runs collects tt)) ∙ e));
     holds = λ cl a few e. absurd (none a d (h.holds cl a few e).0);
     prepared = λ q cl slot is inside e. absurd (none _ d e);
     claims = h.claims;
@@ -112,7 +120,7 @@ module _ (k : Config) (s : Words) (r : Rule k s) (id : ℕ) (hist : List Entry) 
       let l = leading_words c s.words ws d x.seen.stage x.seen.share (same_cycle k s r id hist x at word pool class may) g.leading in
       let up = waits k s r id hist x at collects in record {
         telling = record { owes = g.telling.owes; seen = g.telling.seen; fresh = λ gone. absurd (true≢false (sym gone ∙ up)); forgotten = λ gone. absurd (true≢false (sym gone ∙ up)); colours = g.telling.colours };
-        leading = record { changed = l.changed; found_blocks = l.found_blocks; found_words = l.found_words; rotated = l.rotated; turned = l.turned; pass = l.pass; whole = l.whole; armed = l.armed; unswept = l.unswept };
+        leading = record { changed = l.changed; found_blocks = l.found_blocks; found_words = l.found_words; rotated = l.rotated; turned = l.turned; pass = l.pass; whole = l.whole; armed = l.armed; unswept = l.unswept; under_way = l.under_way };
         knows = inr (collects, knowing_own k s r id hist x at word pool class may);
         adds = record { blocks = g.adds.blocks; words = g.adds.words; own = g.adds.own };
         looks = record { at_own = g.looks.at_own; cleans = g.looks.cleans; emptied_is = λ a p own lives. g.looks.emptied_is a p (own_was k s r id hist x at word pool class may a d own) lives };
@@ -166,7 +174,7 @@ module _ (k : Config) (s : Words) (r : Rule k s) (id : ℕ) (hist : List Entry) 
         drawable = record { to_run = λ j odd _ _. absurd (even_here j odd); to_copy = λ j odd _ _. absurd (even_here j odd) };
         cycle = cycle' k s r id hist x at word pool class may;
       }
-      (knows_front k s r id hist x at y refl (mine k s r id hist x at).front)
+      (knows_front k s r id hist x at y refl (inl refl))
       record {
         stood = record { wide = g.stood.wide; each = g.stood.each; serial = g.stood.serial; enrolled = g.stood.enrolled };
         area = record { room = g.area.room; free = g.area.free; classes = g.area.classes };
@@ -174,7 +182,7 @@ module _ (k : Config) (s : Words) (r : Rule k s) (id : ℕ) (hist : List Entry) 
         staged = record { arrivals = g.staged.arrivals; stage = g.staged.stage };
         still = g.still;
         hunter = hunter';
-        resting = record { hunt = own_rest.hunt; free = own_rest.free; lists = own_rest.lists };
+        resting = record { hunt = own_rest.hunt; free = own_rest.free; spare = own_rest.spare; lists = own_rest.lists };
         took_back = λ kind leads last. want ∙ g.took_back kind leads last;
         owes = owes_as k r.account.live x y refl refl refl refl g.owes;
         rooted = g.rooted;

@@ -1,21 +1,23 @@
 -- A pool in which nothing is left is nobody's: who has the others, and what lies where, stays.
-use Rattle.std.proofs.Common.{◌≡◌, ◌≢◌, ℕ, zero, suc, ◌+◌, ◌*◌, ◌/◌, ◌%◌, ◌<◌, ◌≤◌, ◌⊎◌, List, get_or, set, Some, None, sym, ap, ◌∙◌, subst, inl, inr, ⊎_elim, arith, get_or-set_same, get_or-set_other, IsTrue, length, true≢false}
+use Rattle.std.proofs.Common.{◌≡◌, ◌≢◌, ℕ, zero, suc, ◌+◌, ◌*◌, ◌/◌, ◌%◌, ◌<◌, ◌≤◌, ◌⊎◌, List, get_or, set, Some, None, sym, ap, ◌∙◌, subst, inl, inr, ⊎_elim, arith, get_or-set_same, get_or-set_other, IsTrue, length, false, true≢false}
 use mathlib.Core.Logic.{dite}
 use native.Mathlib.Decide.{ℕ_discrete}
 use mathlib.Core.Option.{some}
 use lib.ListN.{get_elem?}
 use Rattle.heap_model.specs.declared.entry.Entry.{Entry}
+use Rattle.heap_model.specs.declared.state.Mode.TheVariants.{Open, Sealed}
 use Rattle.heap_model.specs.declared.state.State as model
 use Rattle.heap_rule.specs.declared.view.Reaping.TheVariants.{Outside, Inside, AtGarbage}
 use Rattle.heap_rule.specs.declared.view.Reaping.{Reaping}
 use Rattle.heap_rule.specs.Sweeping.{Reaps, Sweeps, SweepsIn}
 use Rattle.heap_rule.specs.declared.config.Config.{Config}
 use Rattle.heap_rule.specs.declared.phase.Kind.{Kind}
-use Rattle.heap_rule.specs.declared.phase.Kind.TheVariants.{Answer, Clean}
+use Rattle.heap_rule.specs.declared.phase.Kind.TheVariants.{Sweep, Answer, Clean}
+use Rattle.heap_rule.specs.declared.phase.Stage.TheVariants.{In}
 use Rattle.heap_rule.specs.declared.view.DomainView.{DomainView}
 use Rattle.heap_rule.specs.declared.view.Share.{Share}
 use Rattle.heap_rule.specs.Copies.{Promoting}
-use Rattle.heap_rule.specs.Cycles.{Answering, Cycling, Cycled, Facts, IsCollecting, Knowing, HasCounted, owner_at, starts_in}
+use Rattle.heap_rule.specs.Cycles.{Answering, Cycling, Cycled, EndsCycle, Facts, IsSwept, Sweeping, IsCollecting, Knowing, HasCounted, owner_at, starts_in}
 use Rattle.heap_rule.specs.Fullness.{Fullness}
 use Rattle.heap_rule.specs.Layout.{at_address, heap_words, listed, cursor, listed_pool, owner_of, table_words}
 use Rattle.heap_rule.specs.Phases.{sum_of}
@@ -34,6 +36,7 @@ use Rattle.steps_cycle.proofs.Layouts.{labelled}
 use Rattle.heap_rule.specs.Ephemerons.{IsEpheAt, Listed}
 use Rattle.steps_cycle.proofs.Learning.{kind_here, known, lies_old, not_promoting, whole_in}
 use Rattle.steps_sweep.specs.Returning.{ReturnMay}
+use Rattle.steps_sweep.proofs.Swept.{returning, returns_clean}
 use Rattle.std.proofs.lemmas.Option.{none-some}
 
 module _ (k : Config) (s : Words) (r : Rule k s) (id : ℕ) (hist : List Entry) (x : DomainView) (at : get_elem? s.views id ≡ some (one k hist x)) (word pool class : ℕ) (may : ReturnMay k x word pool class) where
@@ -56,16 +59,16 @@ module _ (k : Config) (s : Words) (r : Rule k s) (id : ℕ) (hist : List Entry) 
   sh = x.seen.share
 
   pub collecting : IsCollecting x.seen.stage
-  collecting = subst IsCollecting (sym may.stage) (λ none. none)
+  collecting = returning k s r id hist x at may.returns
 
   kn : Knowing k live T.holder now.graph c.paint.marks s.words d x.own.registers sh
   kn = known k s r id hist x at
 
-  pub kind_is : c.kind ≡ Answer
-  kind_is = kind_here k s r id hist x at Answer may.stage
+  pub kind_is : (c.kind ≡ Sweep) ⊎ (c.kind ≡ Answer)
+  kind_is = ⊎_elim (λ (h : (x.seen.stage ≡ In Sweep) × (k.pools ≤ x.own.swept.spot.pool)). inl (kind_here k s r id hist x at Sweep h.0)) (λ (h : x.seen.stage ≡ In Answer). inr (kind_here k s r id hist x at Answer h)) may.returns
 
-  facts : Answering k now live T c s.words
-  facts = subst (λ (kind : Kind). Facts kind k now live T c s.words) kind_is r.whole.cycle.facts
+  facts : (kind : Kind) → c.kind ≡ kind → Facts kind k now live T c s.words
+  facts kind is = subst (λ (other : Kind). Facts other k now live T c s.words) is r.whole.cycle.facts
 
   pub is_own : T.holder pool ≡ owned d class
   is_own = kn.own_pool (record { pool = pool; class = class }) may.own
@@ -80,6 +83,12 @@ module _ (k : Config) (s : Words) (r : Rule k s) (id : ℕ) (hist : List Entry) 
       let class_is : class ≡ cl = (owned_same d e class cl (sym is_own ∙ (ap T.holder (sym same) ∙ is))).1 in
       head_full k c.paint live now.graph s.words (place_in q cl slot) p (r.whole.found (place_in q cl slot) p lives)
       (subst (λ (m : ℕ × ℕ). at_address k s.words (place_in m.0 m.1 slot) ≡ 0) (λ i. (sym same i, class_is i)) (free slot (subst (λ (m : ℕ). slot < blocks_of m) (sym class_is) inside)))
+
+  -- nor garbage
+  no_garbage : (q e cl slot : ℕ) → T.holder q ≡ owned e cl → slot < blocks_of cl → IsTrue (T.garbage (place_in q cl slot)) → q ≢ pool
+  no_garbage q e cl slot is inside lies same =
+      let class_is : class ≡ cl = (owned_same d e class cl (sym is_own ∙ (ap T.holder (sym same) ∙ is))).1 in
+      true≢false (sym lies ∙ subst (λ (m : ℕ × ℕ). T.garbage (place_in m.0 m.1 slot) ≡ false) (λ i. (sym same i, class_is i)) (returns_clean k s r id hist x at may.returns pool class slot is_own (subst (λ (m : ℕ). slot < blocks_of m) (sym class_is) inside)))
 
   abbrev spot : ℕ
   spot = 11 + k.pools + pool
@@ -186,7 +195,7 @@ module _ (k : Config) (s : Words) (r : Rule k s) (id : ℕ) (hist : List Entry) 
     all = λ q cl slot is inside here. l.all q cl slot (owned_was q e cl is).1 inside here;
     own = λ b is. let o = l.own b is in ⊎_elim
         (λ (h : IsEpheAt live b). record { pool = o.pool; class = o.class; slot = o.slot; owned_is = else' o.pool (no_block o.pool e o.class o.slot h.place o.owned_is o.inside (ap live (sym o.begins) ∙ h.lives)) ∙ o.owned_is; inside = o.inside; begins = o.begins })
-        (λ (h : IsTrue (T.garbage b)). absurd (true≢false (sym h ∙ facts.clean b)))
+        (λ (h : IsTrue (T.garbage b)). record { pool = o.pool; class = o.class; slot = o.slot; owned_is = else' o.pool (no_garbage o.pool e o.class o.slot o.owned_is o.inside (subst (λ (a : ℕ). IsTrue (T.garbage a)) o.begins h)) ∙ o.owned_is; inside = o.inside; begins = o.begins })
         (l.lives b is);
     lives = l.lives;
   }
@@ -201,11 +210,11 @@ module _ (k : Config) (s : Words) (r : Rule k s) (id : ℕ) (hist : List Entry) 
     young = f.young;
     made = f.made;
     left = λ q e cl slot is. f.left q e cl slot (owned_was q e cl is).1;
-    owned = λ goes. absurd (goes kind_is);
+    owned = λ goes q e cl is. f.owned goes q e cl (owned_was q e cl is).1;
     drawn = λ q e is. f.drawn q e (drawn_was q e is);
   }
 
-  -- what a domain knows of garbage stays: there is none
+  -- what a domain knows of garbage stays
   pub sweeps' : (z : DomainView) (reaping : Reaping) → Reaps t'.holder t'.garbage z.own.number reaping → SweepsIn T c z → Sweeps t'.holder t'.garbage c.kind c.shares.arrived z.own.number z.own.ephemerons.items z.own.swept reaping
   sweeps' z reaping is w = record { listed = w.listed; places = λ q cl slot own. w.places q cl slot (owned_was q z.own.number cl own).1; anew = w.anew; reaps = is }
 
@@ -238,33 +247,67 @@ module _ (k : Config) (s : Words) (r : Rule k s) (id : ℕ) (hist : List Entry) 
           let h : b / 4096 ≡ q = omega arith in
           no_block l.pool l.domain l.class l.slot p l.owned_is l.inside (ap live (sym l.begins) ∙ lives) (sym h ∙ same)
 
-  answering' : Answering k now live t' c words'
-  answering' = record {
-    mode = facts.mode;
-    whole = facts.whole;
-    ends = record {
-      facts = let g = facts.ends.facts in record { sealed = g.sealed; owned = λ l is. let o = g.owned l is in let p = labelled k live o.1 l o.3 in (o.0, o.1, o.2, o.3, owner_still o.1 o.0 p.place p.lives o.4); whole = g.whole; waiting = g.waiting; kept = g.kept };
-      rotated = facts.ends.rotated;
-    };
-    swept = record {
-      all_marked = facts.swept.all_marked;
-      unmarked = facts.swept.unmarked;
-      unchanged = facts.swept.unchanged;
-      counted = let n = facts.swept.counted in record {
-        first = n.first;
-        once = n.once;
-        owned = λ e l is has. let o = n.owned e l is has in let p = labelled k live o.0 l o.1 in (o.0, o.1, owner_still o.0 e p.place p.lives o.2, o.3);
-        all = λ e a l is there owner marked. n.all e a l is there (owner_was a e owner) marked;
-        few = n.few;
-        light = n.light;
-        blocks_are = same_cycle.blocks_same ∙ n.blocks_are;
-        words_are = same_cycle.words_same ∙ n.words_are;
-      };
-    };
-    clean = facts.clean;
-    all_counted = facts.all_counted;
-    held = λ q e cl up is. facts.held q e cl up (owned_was q e cl is).1;
+  ends' : EndsCycle k now live T.holder c → EndsCycle k now live t'.holder c
+  ends' f = record {
+    facts = let g = f.facts in record { sealed = g.sealed; owned = λ l is. let o = g.owned l is in let p = labelled k live o.1 l o.3 in (o.0, o.1, o.2, o.3, owner_still o.1 o.0 p.place p.lives o.4); whole = g.whole; waiting = g.waiting; kept = g.kept };
+    rotated = f.rotated;
   }
+
+  swept' : IsSwept k now live T.holder c s.words → IsSwept k now live t'.holder c words'
+  swept' f = record {
+    all_marked = f.all_marked;
+    unmarked = f.unmarked;
+    unchanged = f.unchanged;
+    counted = let n = f.counted in record {
+      first = n.first;
+      once = n.once;
+      owned = λ e l is has. let o = n.owned e l is has in let p = labelled k live o.0 l o.1 in (o.0, o.1, owner_still o.0 e p.place p.lives o.2, o.3);
+      all = λ e a l is there owner marked. n.all e a l is there (owner_was a e owner) marked;
+      few = n.few;
+      light = n.light;
+      blocks_are = same_cycle.blocks_same ∙ n.blocks_are;
+      words_are = same_cycle.words_same ∙ n.words_are;
+    };
+  }
+
+  sweeping' : Sweeping k now live T c s.words → Sweeping k now live t' c words'
+  sweeping' f = record {
+    since = ⊎_elim
+        (λ (h : (now.mode ≡ Sealed) × EndsCycle k now live T.holder c × (c.unswept ≡ false)). inl (h.0, ends' h.1, h.2))
+        (λ (h : (now.mode ≡ Open) × (c.rotated ≡ false) × IsTrue c.unswept). inr h) f.since;
+    swept = swept' f.swept;
+    clear = λ e a up own. f.clear e a up (own_was a e own);
+    all_counted = f.all_counted;
+  }
+
+  answering' : Answering k now live T c s.words → Answering k now live t' c words'
+  answering' f = record {
+    mode = f.mode;
+    whole = f.whole;
+    ends = ends' f.ends;
+    swept = swept' f.swept;
+    clean = f.clean;
+    all_counted = f.all_counted;
+    held = λ q e cl up is. f.held q e cl up (owned_was q e cl is).1;
+  }
+
+  facts' : Facts c.kind k now live t' c words'
+  facts' = ⊎_elim
+      (λ (is : c.kind ≡ Sweep). subst (λ (kind : Kind). Facts kind k now live t' c words') (sym is) (sweeping' (facts Sweep is)))
+      (λ (is : c.kind ≡ Answer). subst (λ (kind : Kind). Facts kind k now live t' c words') (sym is) (answering' (facts Answer is))) kind_is
+
+  not_clean : c.kind ≡ Clean → ⊥
+  not_clean e = ⊎_elim (λ (is : c.kind ≡ Sweep). let same : Sweep ≡ Clean = sym is ∙ e in cc) (λ (is : c.kind ≡ Answer). let same : Answer ≡ Clean = sym is ∙ e in cc) kind_is
+
+  -- garbage lies in other pools
+  garbage_lies : (a : ℕ) → IsTrue (T.garbage a) → (e : ℕ) × OwnPlace t'.holder a e
+  garbage_lies a lies = let w = r.whole.cycle.leaves.owned a lies in let o = w.1 in (
+    w.0,
+    record { pool = o.pool; class = o.class; slot = o.slot; owned_is = else' o.pool (no_garbage o.pool w.0 o.class o.slot o.owned_is o.inside (subst (λ (b : ℕ). IsTrue (T.garbage b)) o.begins lies)) ∙ o.owned_is; inside = o.inside; begins = o.begins },
+  )
+
+  garbage_low : (a : ℕ) → IsTrue (T.garbage a) → 1 ≤ a
+  garbage_low a lies = let o = (r.whole.cycle.leaves.owned a lies).1 in let u : ℕ = o.pool * 4096 + o.slot * size_of o.class in let e : a ≡ u + 1 = o.begins in omega arith
 
   pub cycle' : Cycled k now live r.account.pause t' c words'
   cycle' = let y = r.whole.cycle in record {
@@ -272,11 +315,11 @@ module _ (k : Config) (s : Words) (r : Rule k s) (id : ℕ) (hist : List Entry) 
     meanings = y.meanings;
     colours_are = same_cycle.colours_same ∙ y.colours_are;
     changed_is = same_cycle.changed_same ∙ y.changed_is;
-    facts = subst (λ (kind : Kind). Facts kind k now live t' c words') (sym kind_is) answering';
+    facts = facts';
     told = y.told;
-    leaves = record { none = y.leaves.none; dead = y.leaves.dead; head = λ a is. absurd (true≢false (sym is ∙ facts.clean a)); unprepared = y.leaves.unprepared; owned = λ a is. absurd (true≢false (sym is ∙ facts.clean a)) };
+    leaves = record { none = y.leaves.none; dead = y.leaves.dead; head = λ a is. let h = y.leaves.head a is in (h.0, h.1, agrees.heap a (garbage_low a is) ∙ h.2); unprepared = y.leaves.unprepared; owned = garbage_lies };
     unswept = y.unswept;
-    whole = λ l. inl (whole_in k s r id hist x at (λ e. let same : Answer ≡ Clean = sym kind_is ∙ e in cc) l);
+    whole = λ l. inl (whole_in k s r id hist x at not_clean l);
   }
 
   -- what domains have counted is theirs still

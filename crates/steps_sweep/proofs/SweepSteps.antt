@@ -22,7 +22,7 @@ use Rattle.heap_rule.specs.Raw.{MayStep}
 use Rattle.heap_rule.specs.Rule.{Rule, Sharing, state_of}
 use Rattle.heap_rule.specs.Sweeping.{Reaps, SweepsIn, nothing_swept}
 use Rattle.heap_rule.specs.Views.{one}
-use Rattle.heap_rule.proofs.Keeps.{Words, control_same, controls_kept, hunter_as, mine, my_good, unmoved, writes}
+use Rattle.heap_rule.proofs.Keeps.{Words, control_same, controls_kept, hunter_as, my_good, unmoved, writes}
 use Rattle.heap_rule.proofs.Lots.{none_before}
 use Rattle.heap_rule.proofs.OwnPlaces.{owned_same}
 use Rattle.steps_cycle.specs.Looks.{with_share}
@@ -59,7 +59,7 @@ module _ (k : Config) (s : Words) (r : Rule k s) (id : ℕ) (hist : List Entry) 
   sharing_on : (reaping : Reaping) (places : List Spot) → Sharing k r.account s.words d x.own.registers x.own.finalisers x.own.ephemerons.items x.seen.stage (sweeping_on sh reaping places)
   sharing_on reaping places = let g = (my_good k s r id hist x at).sharing in record {
     telling = record { owes = g.telling.owes; seen = g.telling.seen; fresh = λ up. ap (λ (z : Share). sweeping_on z reaping places) (g.telling.fresh up); forgotten = g.telling.forgotten; colours = g.telling.colours };
-    leading = record { changed = g.leading.changed; found_blocks = g.leading.found_blocks; found_words = g.leading.found_words; rotated = g.leading.rotated; turned = g.leading.turned; pass = g.leading.pass; whole = g.leading.whole; armed = g.leading.armed; unswept = g.leading.unswept };
+    leading = record { changed = g.leading.changed; found_blocks = g.leading.found_blocks; found_words = g.leading.found_words; rotated = g.leading.rotated; turned = g.leading.turned; pass = g.leading.pass; whole = g.leading.whole; armed = g.leading.armed; unswept = g.leading.unswept; under_way = g.leading.under_way };
     knows = ⊎_elim
         (λ (idle : IsIdle sh). inl (ap (λ (z : Share). sweeping_on z reaping places) idle))
         (λ (n : IsCollecting x.seen.stage × Knowing k r.account.live holder now.graph r.account.cycling.paint.marks s.words d x.own.registers sh). let kn = n.1 in let m = kn.counted in inr (
@@ -81,8 +81,9 @@ module _ (k : Config) (s : Words) (r : Rule k s) (id : ℕ) (hist : List Entry) 
         number = refl;
         hunt = refl;
         free = refl;
+        spare = refl;
         listing = refl;
-        front = (mine k s r id hist x at).front;
+        front = inl refl;
         still = g.still;
         stage = refl;
         notes = refl;
@@ -100,7 +101,7 @@ module _ (k : Config) (s : Words) (r : Rule k s) (id : ℕ) (hist : List Entry) 
         making = record { fits = g.making.fits; written = g.making.written };
         makings = λ z _ _ p. p;
         grid = r.whole.grid;
-        hunter = hunter_as k r.account.tenancy s.words x y refl refl refl refl refl refl g.hunter;
+        hunter = hunter_as k r.account.tenancy s.words x y refl refl refl refl refl refl refl g.hunter;
         hunters = λ z _ h. h.hunter;
         cycle = r.whole.cycle;
         sharing = sharing_on reaping places;

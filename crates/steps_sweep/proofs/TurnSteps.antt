@@ -351,6 +351,7 @@ module _ (k : Config) (s : Words) (r : Rule k s) (id : ℕ) (hist : List Entry) 
       whole = g.leading.whole;
       armed = g.leading.armed;
       unswept = g.leading.unswept;
+      under_way = g.leading.under_way;
     };
     knows = inl idle';
     adds = record { blocks = λ e _. absurd (no_sweep e); words = λ e _. absurd (no_sweep e); own = λ e _ _. absurd (no_sweep e) };
@@ -381,6 +382,7 @@ module _ (k : Config) (s : Words) (r : Rule k s) (id : ℕ) (hist : List Entry) 
           whole = g.leading.whole;
           armed = g.leading.armed;
           unswept = g.leading.unswept;
+          under_way = g.leading.under_way;
         };
         knows = inl (g.telling.fresh gone);
         adds = record { blocks = λ e _. absurd (no_sweep e); words = λ e _. absurd (no_sweep e); own = λ e _ _. absurd (no_sweep e) };
@@ -411,7 +413,7 @@ module _ (k : Config) (s : Words) (r : Rule k s) (id : ℕ) (hist : List Entry) 
     found = found';
     grid = grid';
     makings = λ z g. making_heap k s.words words' z heap g.making;
-    hunter = hunter_as k t' words' x (with_share x share') refl refl refl refl refl refl (hunter' x good.hunter);
+    hunter = hunter_as k t' words' x (with_share x share') refl refl refl refl refl refl refl (hunter' x good.hunter);
     hunters = λ z _ g. hunter' z g.hunter;
     cycle = cycle';
     sharing = sharing';

@@ -1,16 +1,15 @@
 -- What the step asks and tells by which a domain gives back a pool in which nothing is left.
 use Rattle.std.specs.Prelude.{◌≡◌, ℕ, ◌+◌, ◌<◌, ◌≤◌, Some, None}
 use Rattle.heap_rule.specs.declared.config.Config.{Config}
-use Rattle.heap_rule.specs.declared.phase.Kind.TheVariants.{Answer}
-use Rattle.heap_rule.specs.declared.phase.Stage.TheVariants.{In}
 use Rattle.heap_rule.specs.declared.view.DomainView.{DomainView}
 use Rattle.heap_rule.specs.declared.view.Reaping.TheVariants.{Outside}
 use Rattle.heap_rule.specs.Pools.{blocks_of}
 use Rattle.steps_cycle.specs.Looks.{with_share}
+use Rattle.steps_sweep.specs.Holding.{Returns}
 
--- in Answer, a store to the owner's word of the next pool, which is the domain's own, and each of whose places was found free
+-- a store to the owner's word of the next pool, which is the domain's own, and each of whose places was found free
 pub record ReturnMay (k : Config) (x : DomainView) (at pool class : ℕ) : Type 0 where
-  pub stage : x.seen.stage ≡ In Answer
+  pub returns : Returns k x
   pub own : x.seen.share.own_pool ≡ Some (record { pool = pool; class = class })
   pub next : x.seen.share.held ≡ pool
   pub all : blocks_of class ≤ x.seen.share.vacant

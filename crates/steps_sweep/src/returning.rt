@@ -6,8 +6,8 @@ use crate::looking::Looking;
 use heap_rule::{Domain, Heap, raw_store};
 use std::marker::Brand;
 
-/// A store of 0 to the owner's word of the next pool, in Answer, where the pool is the domain's own
-/// and each of its places was found free. The pool is nobody's then, and the pool behind it is next.
+/// A store of 0 to the owner's word of the next pool, in Answer, or in Sweep where all own pools are
+/// swept. The pool is the domain's own, and each of its places was found free. The pool is nobody's then, and the pool behind it is next.
 /// `at` is the index of the owner's word.
 pub fn pool_return(heap: &Heap, dom: &mut Domain, at: u32, pool: u32, class: u32)
     requires here { IsIn dom.old heap.now }

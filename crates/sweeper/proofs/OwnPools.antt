@@ -1,37 +1,42 @@
 -- What the word of a pool's owner tells the domain that has loaded it.
 use Rattle.std.proofs.Common.{◌≡◌, ◌≢◌, ◌∙◌, ℕ, ◌+◌, ◌<◌, Some, ap, sym, subst, refl, inr, ⊎_elim, arith}
 use Rattle.heap_model.specs.Domains.{class_count}
+use Rattle.heap_rule.specs.declared.config.Config.{Config}
 use Rattle.heap_rule.specs.declared.view.DomainView.{DomainView}
 use Rattle.heap_rule.specs.Pools.{owned, owner_word}
 use Rattle.steps_sweep.specs.Counting.{CountOwnTold}
 use Rattle.steps_sweep.specs.Freeing.{IsAmong, SweepOwnTold}
-use Rattle.steps_sweep.specs.Holding.{HeldOwnTold}
+use Rattle.steps_sweep.specs.Holding.{HeldOwnTold, Returns}
 use Rattle.steps_sweep.proofs.Entering.{one_class}
 use Rattle.sweeper.specs.Counting.{CountedPool, CountsIn}
-use Rattle.sweeper.specs.Emptiness.{LooksFrom, LooksIn}
+use Rattle.sweeper.specs.Emptiness.{LooksFrom, LooksIn, with_looks}
 use Rattle.sweeper.specs.Sweeping.{Onward}
 
+-- the looks leave whether the domain may give pools back
+pub still_returns : (k : Config) (x y : DomainView) → y ≡ with_looks x y → Returns k x → Returns k y
+still_returns k x y view may = subst (Returns k) (sym view) may
+
 module _ (pool found number : ℕ) (x y : DomainView) (same : number ≡ y.own.number) where
-  module _ (told : HeldOwnTold pool x found y) (from : LooksFrom x pool) where
+  module _ (k : Config) (told : HeldOwnTold pool x found y) (from : LooksFrom k x pool) where
     looks_number : number ≡ x.own.number
     looks_number = same ∙ ⊎_elim (λ u. ap (λ (v : DomainView). v.own.number) u.3) (λ u. ap (λ (v : DomainView). v.own.number) u.1) told.told
 
     -- it looks into the pool, if that is its own
-    pub looks_in : (class : ℕ) → class < class_count → found ≡ owner_word (owned number class) → LooksIn y pool class
+    pub looks_in : (class : ℕ) → class < class_count → found ≡ owner_word (owned number class) → LooksIn k y pool class
     looks_in class few is =
         let here : found ≡ owner_word (owned x.own.number class) = subst (λ (d : ℕ). found ≡ owner_word (owned d class)) looks_number is in ⊎_elim
-        (λ u. subst (λ (v : DomainView). LooksIn v pool class) (sym u.3) record {
+        (λ u. subst (λ (v : DomainView). LooksIn k v pool class) (sym u.3) record {
           own = ap (λ (c : ℕ). Some (record { pool = pool; class = c })) (one_class x.own.number u.0 class found u.2 here);
-          from = record { stage = from.stage; next = from.next; first = from.first };
+          from = record { returns = from.returns; next = from.next; first = from.first };
         })
         (λ u. absurd (u.0 class few here))
         told.told
 
     -- else behind it
-    pub looks_behind : ((class : ℕ) → class < class_count → found ≢ owner_word (owned number class)) → LooksFrom y (pool + 1)
+    pub looks_behind : ((class : ℕ) → class < class_count → found ≢ owner_word (owned number class)) → LooksFrom k y (pool + 1)
     looks_behind none = ⊎_elim
         (λ u. absurd (none u.0 u.1 (subst (λ (d : ℕ). found ≡ owner_word (owned d u.0)) (sym looks_number) u.2)))
-        (λ u. subst (λ (v : DomainView). LooksFrom v (pool + 1)) (sym u.1) record { stage = from.stage; next = refl; first = from.first })
+        (λ u. subst (λ (v : DomainView). LooksFrom k v (pool + 1)) (sym u.1) record { returns = from.returns; next = refl; first = from.first })
         told.told
 
   module _ (told : CountOwnTold pool x found y) (next : x.seen.share.counted_to ≡ record { pool = pool; slot = 0 }) where

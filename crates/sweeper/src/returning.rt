@@ -1,10 +1,9 @@
-//! The walk, where a collection is answered, in which a domain gives back its pools in which nothing
-//! is left.
+//! The walk, in Sweep and where a collection is answered, in which a domain gives back its pools in
+//! which nothing is left.
 ghost use Rattle.std.specs.Prelude.{◌≡◌, ◌+◌, ◌<◌, ◌≤◌, true, false};
 ghost use Rattle.heap_model.specs.Domains.{class_count};
-ghost use Rattle.heap_rule.specs.declared.phase.Kind.TheVariants.{Answer};
-ghost use Rattle.heap_rule.specs.declared.phase.Stage.TheVariants.{In};
 ghost use Rattle.heap_rule.specs.Token.{IsIn};
+ghost use Rattle.steps_sweep.specs.Holding.{Returns};
 ghost use Rattle.sweeper.specs.Emptiness.{LooksFrom, LooksIn, FoundEmpty, with_looks};
 
 use heap_rule::{Domain, Heap};
@@ -16,11 +15,11 @@ fn holds_block(heap: &Heap, dom: &mut Domain, pool: u32, class: u32) -> bool
     requires here { IsIn dom.old heap.now }
     requires inside { pool < heap.now.config.pools }
     requires class { class < class_count }
-    requires next { LooksIn dom.old.view pool class }
+    requires next { LooksIn heap.now.config dom.old.view pool class }
     ensures here { IsIn dom.new heap.now }
     ensures same { dom.new.view ≡ with_looks dom.old.view dom.new.view }
-    ensures holds { result ≡ true → LooksFrom dom.new.view (pool + 1) }
-    ensures none { result ≡ false → FoundEmpty dom.new.view pool class }
+    ensures holds { result ≡ true → LooksFrom heap.now.config dom.new.view (pool + 1) }
+    ensures none { result ≡ false → FoundEmpty heap.now.config dom.new.view pool class }
 {
     let _limits = heap.config();
     for slot in 0..class_blocks(class) {
@@ -36,10 +35,10 @@ fn holds_block(heap: &Heap, dom: &mut Domain, pool: u32, class: u32) -> bool
 fn return_pool(heap: &Heap, dom: &mut Domain, pool: u32)
     requires here { IsIn dom.old heap.now }
     requires inside { pool < heap.now.config.pools }
-    requires next { LooksFrom dom.old.view pool }
+    requires next { LooksFrom heap.now.config dom.old.view pool }
     ensures here { IsIn dom.new heap.now }
     ensures same { dom.new.view ≡ with_looks dom.old.view dom.new.view }
-    ensures passed { LooksFrom dom.new.view (pool + 1) }
+    ensures passed { LooksFrom heap.now.config dom.new.view (pool + 1) }
 {
     let at = OWNERS + heap.config().pools + pool;
     let word = held_own_load(heap, dom, at, pool);
@@ -51,12 +50,12 @@ fn return_pool(heap: &Heap, dom: &mut Domain, pool: u32)
     }
 }
 
-/// Gives back each of the domain's own pools that holds no block, in Answer: it is nobody's afterwards.
-/// The domain has looked at none before. Then each of its pools holds a block, as is asked of it where
-/// it arrives.
+/// Gives back each of the domain's own pools that holds no block, in Sweep once it has swept them all,
+/// or in Answer: it is nobody's afterwards. The domain has looked at none before. Then each of its pools
+/// holds a block, as is asked of it where it arrives.
 pub fn return_pools(heap: &Heap, dom: &mut Domain)
     requires here { IsIn dom.old heap.now }
-    requires stage { dom.old.view.seen.stage ≡ In Answer }
+    requires returns { Returns heap.now.config dom.old.view }
     requires first { dom.old.view.seen.share.held ≡ 0 }
     requires none { dom.old.view.seen.share.vacant ≡ 0 }
     ensures here { IsIn dom.new heap.now }

@@ -1,6 +1,7 @@
 -- Fronts that grow, and what a domain's front tells of the whole history.
-use Rattle.std.proofs.Common.{◌≡◌, ◌⊎◌, inl, inr, ⊎_elim, ℕ, false, not, List, [], ◌∷◌, ◌++◌, refl, ap, sym, ◌∙◌, subst, append_assoc, append-nil, length, get_or, Some}
+use Rattle.std.proofs.Common.{◌≡◌, ◌⊎◌, inl, inr, ⊎_elim, ℕ, false, not, List, [], ◌∷◌, ◌++◌, refl, ap, sym, ◌∙◌, subst, append_assoc, append-nil, length, drop, get_or, Some, Bool, true, IsTrue, zero, suc}
 use Rattle.std.specs.List.{list_all}
+use Rattle.std.proofs.Math.Seq.{drop-append_seam, drop-length}
 use Rattle.heap_model.specs.declared.entry.Entry.{Entry}
 use Rattle.heap_model.specs.declared.graph.Value.{Value}
 use Rattle.heap_model.specs.declared.graph.Value.TheVariants.{Block, Nothing}
@@ -13,7 +14,7 @@ use Rattle.heap_model.specs.Domains.{opening, register}
 use Rattle.heap_model.specs.Graph.{node_at}
 use Rattle.heap_model.specs.Entries.{next, reply}
 use Rattle.heap_model.specs.History.{state_after, Legal, is_entry_of}
-use Rattle.heap_model.specs.Fronts.{NoneOf, IsFrontOf, Answers, Shape, PlainShape, RawShape, shape_of, Grew, KeepsDomain, HoldsFields, HoldsShape}
+use Rattle.heap_model.specs.Fronts.{AreCalls, NoneOf, IsFrontOf, is_call, is_full_major, unseen, Answers, Shape, PlainShape, RawShape, shape_of, Grew, KeepsDomain, HoldsFields, HoldsShape}
 use Rattle.heap_model.proofs.Graphs.GraphLemmas.{and_parts}
 use Rattle.heap_model.proofs.Reach.ReachLemmas.{is_false}
 use Rattle.heap_model.proofs.Histories.HistoryLemmas.{state_after-append}
@@ -31,6 +32,28 @@ none_push d (x ∷ h) e none other = let parts = none_cons d x h none in rw part
 pub front_whole : (d : ℕ) (h : List Entry) → IsFrontOf d h h
 front_whole d h = record { rest = []; appends = sym (append-nil h); others = refl }
 
+-- what the history goes on with is what the front hasn't seen
+pub unseen_rest : (d : ℕ) (h front : List Entry) (f : IsFrontOf d h front) → unseen h front ≡ f.rest
+unseen_rest d h front f = ap (drop (length front)) f.appends ∙ drop-append_seam front f.rest
+
+all_push : (p : Entry → Bool) (h : List Entry) (e : Entry) → IsTrue (list_all p h) → IsTrue (p e) → IsTrue (list_all p (h ++ e ∷ []))
+all_push p [] e all is = rw is refl
+all_push p (x ∷ h) e all is = let parts = and_parts (p x) (list_all p h) all in rw parts.0 (all_push p h e parts.1 is)
+
+all_drop : (p : Entry → Bool) (n : ℕ) (h : List Entry) (e : Entry) → IsTrue (list_all p (drop n h)) → IsTrue (p e) → IsTrue (list_all p (drop n (h ++ e ∷ [])))
+all_drop p zero h e all is = all_push p h e all is
+all_drop p (suc zero) [] e all is = refl
+all_drop p (suc (suc n)) [] e all is = refl
+all_drop p (suc n) (x ∷ h) e all is = all_drop p n h e all is
+
+-- what is true of each entry behind a front is true of it behind the same front as one more stands
+pub unseen_push : (p : Entry → Bool) (h front : List Entry) (e : Entry) → IsTrue (list_all p (unseen h front)) → IsTrue (p e) → IsTrue (list_all p (unseen (h ++ e ∷ []) front))
+unseen_push p h front e all is = all_drop p (length front) h e all is
+
+-- and nothing is behind a front that is the whole history
+pub unseen_whole : (p : Entry → Bool) (h front : List Entry) → front ≡ h → IsTrue (list_all p (unseen h front))
+unseen_whole p h front whole = subst (λ (f : List Entry). IsTrue (list_all p (drop (length f) h))) (sym whole) (subst (λ (l : List Entry). IsTrue (list_all p l)) (sym (drop-length h)) refl)
+
 -- an entry of another domain leaves a front
 pub front_push : (d : ℕ) (h front : List Entry) (e : Entry) → is_entry_of d e ≡ false → IsFrontOf d h front → IsFrontOf d (h ++ e ∷ []) front
 front_push d h front e other f = record {
@@ -40,10 +63,11 @@ front_push d h front e other f = record {
 }
 
 -- an own entry behind the whole history is an answer
-pub answers_push : (z : Sizes) (d : ℕ) (h front : List Entry) (e : Entry) (r : Applied) → IsFrontOf d h front → Legal z (h ++ e ∷ []) → reply (state_after (opening z) h) e ≡ r → Answers z d front (h ++ e ∷ []) e r
-answers_push z d h front e r f legal replies = record {
+pub answers_push : (z : Sizes) (d : ℕ) (h front : List Entry) (e : Entry) (r : Applied) → IsFrontOf d h front → (is_full_major e ≡ false → AreCalls (unseen h front)) → Legal z (h ++ e ∷ []) → reply (state_after (opening z) h) e ≡ r → Answers z d front (h ++ e ∷ []) e r
+answers_push z d h front e r f calls legal replies = record {
   between = f.rest;
   others = f.others;
+  calls = λ running. subst AreCalls (unseen_rest d h front f) (calls running);
   appends = ap (λ l. l ++ e ∷ []) f.appends;
   legal = legal;
   replies = ap (λ l. reply (state_after (opening z) l) e) (sym f.appends) ∙ replies;
@@ -122,12 +146,17 @@ front_trans d new mid old f g = record {
   others = none_append d g.rest f.rest g.others f.others;
 }
 
+all_append : (p : Entry → Bool) (h l : List Entry) → IsTrue (list_all p h) → IsTrue (list_all p l) → IsTrue (list_all p (h ++ l))
+all_append p [] l a b = b
+all_append p (x ∷ h) l a b = let parts = and_parts (p x) (list_all p h) a in rw parts.0 (all_append p h l parts.1 b)
+
 -- an answer from a front that had grown by entries of others alone is one from the older front
-pub answers_after : (z : Sizes) (d : ℕ) (old mid new : List Entry) (e : Entry) (r : Applied) → IsFrontOf d mid old → Answers z d mid new e r → Answers z d old new e r
-answers_after z d old mid new e r f a =
+pub answers_after : (z : Sizes) (d : ℕ) (old mid new : List Entry) (e : Entry) (r : Applied) → IsFrontOf d mid old → (is_full_major e ≡ false → AreCalls (unseen mid old)) → Answers z d mid new e r → Answers z d old new e r
+answers_after z d old mid new e r f calls a =
     let same : mid ++ a.between ≡ old ++ (f.rest ++ a.between) = ap (λ l. l ++ a.between) f.appends ∙ append_assoc old f.rest a.between in record {
       between = f.rest ++ a.between;
       others = none_append d f.rest a.between f.others a.others;
+      calls = λ running. all_append is_call f.rest a.between (subst AreCalls (unseen_rest d mid old f) (calls running)) (a.calls running);
       appends = a.appends ∙ ap (λ l. l ++ e ∷ []) same;
       legal = a.legal;
       replies = ap (λ l. reply (state_after (opening z) l) e) (sym same) ∙ a.replies;

@@ -1,12 +1,11 @@
-use Rattle.std.proofs.Common.{◌∙◌, ap, subst, sym}
+use Rattle.std.proofs.Common.{◌∙◌, ap, sym}
 use Rattle.heap_rule.specs.declared.phase.Kind.TheVariants.{Lasts}
 use Rattle.heap_rule.specs.declared.view.DomainView.{DomainView}
-use Rattle.cycle_phases.specs.Leading.{Opens}
 use Rattle.cycle_phases.proofs.Opens.{leads_list, lasts_frees, lasts_run, wished_view}
 use Rattle.cycle_phases.proofs.opening.after_lasts.Goals as goal
 
-pub run_next-requires-clause-leader : goal.run_next-requires-clause-leader
-run_next-requires-clause-leader c =
+pub before_run-requires-clause-leader : goal.before_run-requires-clause-leader
+before_run-requires-clause-leader c =
     let k = c.args.heap.now.config in
     let x = c.args.dom.now.view in
     let y = c.wants-found.new.dom.view in
@@ -20,5 +19,4 @@ pub returns-else-is_wanted-clause-opens : goal.returns-else-is_wanted-clause-ope
 returns-else-is_wanted-clause-opens c =
     let k = c.args.heap.now.config in
     let x = c.args.dom.now.view in
-    let z = c.run_next.new.dom.view in
-    subst (Opens k x z Lasts) (sym c.run_next.ensures.kind) (lasts_run k x _ _ _ _ _ _ c.colours_now-colours.ensures.knows c.colours_store.ensures.told c.wants-found.ensures.view z (sym c.is_wanted.ensures ∙ c.if-is_wanted.false) c.run_next.ensures.same c.run_next.ensures.list)
+    lasts_run k x _ _ _ _ _ _ c.colours_now-colours.ensures.knows c.colours_store.ensures.told c.wants-found.ensures.view c.before_run.new.dom.view c.before_run.result (sym c.is_wanted.ensures ∙ c.if-is_wanted.false) c.before_run.ensures.lists c.before_run.ensures.list

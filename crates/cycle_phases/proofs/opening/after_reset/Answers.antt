@@ -9,14 +9,14 @@ write_list-free-requires-clause-leader c = leads_list c.args.heap.now.config c.a
 
 pub returns-in-Sweep-clause-opens : goal.returns-in-Sweep-clause-opens
 returns-in-Sweep-clause-opens c =
-    reset_frees c.args.heap.now.config c.args.dom.now.view c.write_list-free.new.dom.view c.wants-found.new.dom.view c.armed_now-armed.new.dom.view c.wants-found.result.bits c.write_list-free.result c.armed_now-armed.result
-    c.write_list-free.ensures.same c.write_list-free.ensures.list c.write_list-free.ensures.count c.wants-found.ensures.view c.armed_now-armed.ensures.knows c.clear_counts.new.dom.view c.kind_after_reset-next.result c.clear_counts.ensures.cleared
-    (c.kind_after_reset-next.ensures ∙ λ i. kind_after_reset (c.config.ensures.value i) c.wants-found.result.bits c.write_list-free.result c.armed_now-armed.result (c.requires.unswept i))
+    reset_frees c.args.heap.now.config c.args.dom.now.view c.write_list-free.new.dom.view c.wants-found.new.dom.view c.wants-found.result.bits c.write_list-free.result
+    c.write_list-free.ensures.lists c.write_list-free.ensures.list c.wants-found.ensures.view c.clear_counts.new.dom.view c.kind_after_reset-next.result c.clear_counts.ensures.cleared
+    (c.kind_after_reset-next.ensures ∙ λ i. kind_after_reset (c.config.ensures.value i) c.wants-found.result.bits c.write_list-free.result (c.requires.knows i))
 
 pub returns-in_default : goal.returns-in_default
 returns-in_default c = record {
-  here = c.armed_now-armed.ensures.here;
-  opens = reset_opens c.args.heap.now.config c.args.dom.now.view c.write_list-free.new.dom.view c.wants-found.new.dom.view c.armed_now-armed.new.dom.view c.wants-found.result.bits c.write_list-free.result c.armed_now-armed.result
-      c.write_list-free.ensures.same c.write_list-free.ensures.list c.write_list-free.ensures.count c.wants-found.ensures.view c.armed_now-armed.ensures.knows c.kind_after_reset-next.result
-      (c.kind_after_reset-next.ensures ∙ λ i. kind_after_reset (c.config.ensures.value i) c.wants-found.result.bits c.write_list-free.result c.armed_now-armed.result (c.requires.unswept i)) c.in_default.not-Sweep;
+  here = c.wants-found.ensures.here;
+  opens = reset_opens c.args.heap.now.config c.args.dom.now.view c.write_list-free.new.dom.view c.wants-found.new.dom.view c.wants-found.result.bits c.write_list-free.result
+      c.write_list-free.ensures.lists c.write_list-free.ensures.list c.wants-found.ensures.view c.kind_after_reset-next.result
+      (c.kind_after_reset-next.ensures ∙ λ i. kind_after_reset (c.config.ensures.value i) c.wants-found.result.bits c.write_list-free.result (c.requires.knows i)) c.in_default.not-Sweep;
 }

@@ -1,12 +1,11 @@
-use Rattle.std.proofs.Common.{◌∙◌, ap, refl, subst, sym, true}
+use Rattle.std.proofs.Common.{◌∙◌, ap, refl, sym, true}
 use Rattle.heap_rule.specs.declared.phase.Kind.TheVariants.{Roots}
 use Rattle.heap_rule.specs.declared.view.DomainView.{DomainView}
-use Rattle.cycle_phases.specs.Leading.{Opens}
 use Rattle.cycle_phases.proofs.Opens.{leads_list, roots_end, roots_run}
 use Rattle.cycle_phases.proofs.opening.after_roots.Goals as goal
 
-pub run_next-requires-clause-leader : goal.run_next-requires-clause-leader
-run_next-requires-clause-leader c =
+pub before_run-requires-clause-leader : goal.before_run-requires-clause-leader
+before_run-requires-clause-leader c =
     let told = c.wants-found.ensures.view in
     leads_list c.args.heap.now.config c.args.dom.now.view c.wants-found.new.dom.view Roots (ap (λ (x : DomainView). x.own.number) told ∙ c.requires.first) (ap (λ (x : DomainView). x.seen.stage) told ∙ c.requires.odd) ((λ e. cc), λ e. cc)
 
@@ -15,7 +14,4 @@ returns-then-is_wanted-clause-opens c = roots_end c.args.heap.now.config c.args.
 
 pub returns-else-is_wanted-clause-opens : goal.returns-else-is_wanted-clause-opens
 returns-else-is_wanted-clause-opens c =
-    let k = c.args.heap.now.config in
-    let x = c.args.dom.now.view in
-    let z = c.run_next.new.dom.view in
-    subst (Opens k x z Roots) (sym c.run_next.ensures.kind) (roots_run k x c.wants-found.new.dom.view z true c.run_next.ensures.same c.run_next.ensures.list c.wants-found.result.bits c.wants-found.ensures.view (sym c.is_wanted.ensures ∙ c.if-is_wanted.false) refl)
+    roots_run c.args.heap.now.config c.args.dom.now.view c.wants-found.new.dom.view c.before_run.new.dom.view true c.before_run.result c.before_run.ensures.lists c.before_run.ensures.list c.wants-found.result.bits c.wants-found.ensures.view (sym c.is_wanted.ensures ∙ c.if-is_wanted.false) refl

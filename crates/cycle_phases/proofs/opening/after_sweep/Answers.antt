@@ -1,5 +1,5 @@
 use Rattle.std.proofs.Common.{◌∙◌, ap, sym}
-use Rattle.cycle_phases.specs.declared.progress.Progress.{Progress}
+use Rattle.heap_rule.specs.declared.phase.Progress.{Progress}
 use Rattle.cycle_phases.proofs.Opens.{sweep_answers, sweep_begins}
 use Rattle.cycle_phases.proofs.opening.after_sweep.Goals as goal
 

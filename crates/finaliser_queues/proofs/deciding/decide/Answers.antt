@@ -10,7 +10,7 @@ final_look-requires c =
     let more : c.finals_len-count.result - c.loop-looked.looked ≡ suc left = omega arith in
     let x = c.args.dom.now.view in
     let y = c.loop-looked.dom.view in
-    let l : FinalsLooked colours (suc left) x y = subst (λ (n : ℕ). FinalsLooked colours n x y) more c.loop-looked.invariant.looked in
+    let l : FinalsLooked k colours (suc left) x y = subst (λ (n : ℕ). FinalsLooked k colours n x y) more c.loop-looked.invariant.looked in
     let got : slice_get y.own.finalisers.finals.items left ≡ Some c.final_at-registered.result = sym c.final_at-registered.ensures in
     record {
       here = c.loop-looked.invariant.here;
@@ -28,7 +28,7 @@ loop-looked-preserved c =
     let x = c.args.dom.now.view in
     let y = c.loop-looked.dom.view in
     let z = c.final_look.new.dom.view in
-    let l : FinalsLooked colours (suc left) x y = subst (λ (n : ℕ). FinalsLooked colours n x y) more c.loop-looked.invariant.looked in
+    let l : FinalsLooked k colours (suc left) x y = subst (λ (n : ℕ). FinalsLooked k colours n x y) more c.loop-looked.invariant.looked in
     let got : slice_get y.own.finalisers.finals.items left ≡ Some c.final_at-registered.result = sym c.final_at-registered.ensures in
-    let after : FinalsLooked colours left x z = final_looked k colours left x y c.requires.stage c.colours_now-colours.ensures.inside l c.final_at-registered.result got c.final_look.result z c.final_look.ensures.told in
-    record { here = c.final_look.ensures.here; looked = subst (λ (n : ℕ). FinalsLooked colours n x z) less after }
+    let after : FinalsLooked k colours left x z = final_looked k colours left x y c.requires.stage c.colours_now-colours.ensures.inside l c.final_at-registered.result got c.final_look.result z c.final_look.ensures.told in
+    record { here = c.final_look.ensures.here; looked = subst (λ (n : ℕ). FinalsLooked k colours n x z) less after }

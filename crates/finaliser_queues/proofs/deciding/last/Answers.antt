@@ -10,7 +10,7 @@ last_look-requires c =
     let more : c.lasts_len-count.result - c.loop-looked.looked ≡ suc left = omega arith in
     let x = c.args.dom.now.view in
     let y = c.loop-looked.dom.view in
-    let l : LastsLooked colours (suc left) x y = subst (λ (n : ℕ). LastsLooked colours n x y) more c.loop-looked.invariant.looked in
+    let l : LastsLooked k colours (suc left) x y = subst (λ (n : ℕ). LastsLooked k colours n x y) more c.loop-looked.invariant.looked in
     let got : slice_get y.own.finalisers.lasts.items left ≡ Some c.last_at-registered.result = sym c.last_at-registered.ensures in
     record {
       here = c.loop-looked.invariant.here;
@@ -28,7 +28,7 @@ loop-looked-preserved c =
     let x = c.args.dom.now.view in
     let y = c.loop-looked.dom.view in
     let z = c.last_look.new.dom.view in
-    let l : LastsLooked colours (suc left) x y = subst (λ (n : ℕ). LastsLooked colours n x y) more c.loop-looked.invariant.looked in
+    let l : LastsLooked k colours (suc left) x y = subst (λ (n : ℕ). LastsLooked k colours n x y) more c.loop-looked.invariant.looked in
     let got : slice_get y.own.finalisers.lasts.items left ≡ Some c.last_at-registered.result = sym c.last_at-registered.ensures in
-    let after : LastsLooked colours left x z = last_looked k colours left x y c.requires.stage c.colours_now-colours.ensures.inside l c.last_at-registered.result got c.last_look.result z c.last_look.ensures.told in
-    record { here = c.last_look.ensures.here; looked = subst (λ (n : ℕ). LastsLooked colours n x z) less after }
+    let after : LastsLooked k colours left x z = last_looked k colours left x y c.requires.stage c.colours_now-colours.ensures.inside l c.last_at-registered.result got c.last_look.result z c.last_look.ensures.told in
+    record { here = c.last_look.ensures.here; looked = subst (λ (n : ℕ). LastsLooked k colours n x z) less after }

@@ -6,5 +6,5 @@ use Rattle.finaliser_queues.proofs.deciding.last.Given as goal
 abbrev pub invariant-loop-looked : goal.invariant-loop-looked
 invariant-loop-looked l = record {
   here : IsIn l.dom l.heap;
-  looked : LastsLooked l.colours (l.count - l.looked) l.fn.dom.view l.dom.view;
+  looked : LastsLooked l.heap.config l.colours (l.count - l.looked) l.fn.dom.view l.dom.view;
 }

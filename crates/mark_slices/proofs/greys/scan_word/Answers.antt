@@ -26,7 +26,7 @@ darken_fields-requires g c = λ lives outlives.
             (
               subst (λ (w : ℕ). IsKnown c.args.dom.now.view.seen.share.known (Shape c.args.at w)) (sym names) (since_known c.args.dom.now.view.seen.share.known c.args.at c.args.word known.0),
               (
-                subst (λ (w : ℕ). IsSized w c.in-Some.block.fields) (sym names) (record { shape = scan.grey.block.shape; is = scan.grey.block.head; built = scan.grey.built; count = scan.count }),
+                subst (λ (w : ℕ). IsSized w c.in-Some.block.fields) (sym names) (record { shape = scan.grey.block.shape; is = scan.grey.block.head; count = scan.count }),
                 (known.1, known.2),
               ),
             ),

@@ -15,4 +15,4 @@ pub returns-clause-took : goal.returns-clause-took
 returns-clause-took c = took_later c.args.heap.now.config c.args.class c.sign.result c.args.dom.now.view c.draw_pool.new.dom.view c.sign.new.dom.view _ c.in_ok-place.ensures.drew.view c.sign.ensures.took
 
 pub returns-clause-unreserved : goal.returns-clause-unreserved
-returns-clause-unreserved c = still_unreserved c.args.heap.now.config c.draw_pool.new.dom.view c.sign.new.dom.view c.sign.ensures.free c.in_ok-place.ensures.drew.unreserved
+returns-clause-unreserved c = still_unreserved c.args.heap.now.config c.args.dom.now.view c.draw_pool.new.dom.view c.sign.new.dom.view c.sign.ensures.free c.in_ok-place.ensures.drew.unreserved

@@ -7,5 +7,5 @@ abbrev pub invariant-loop-pool : goal.invariant-loop-pool
 invariant-loop-pool l = record {
   here : IsIn l.dom l.heap;
   view : l.dom.view ≡ with_looks l.fn.dom.view l.dom.view;
-  next : LooksFrom l.dom.view l.pool;
+  next : LooksFrom l.heap.config l.dom.view l.pool;
 }

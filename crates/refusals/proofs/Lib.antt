@@ -1,0 +1,6 @@
+mod Turns
+mod Marking
+mod Finalisers
+mod Pools
+mod Pauses
+mod Commands

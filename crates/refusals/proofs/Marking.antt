@@ -1,0 +1,67 @@
+-- What the clauses of marking, sweeping and of the rounds of ephemerons refuse.
+use Rattle.std.proofs.Common.{◌≡◌, ◌∙◌, ℕ, ◌+◌, ◌<◌, ◌≤◌, ◌⊎◌, Bool, true, false, Some, None, List, [], ◌∷◌, ◌++◌, length, slice_get, IsTrue, refl, sym, ap, ⊎_elim, subst, arith}
+use Rattle.heap_words.specs.declared.value.Value.TheVariants.{Ref}
+use Rattle.heap_rule.specs.declared.config.Config.{Config}
+use Rattle.heap_rule.specs.declared.view.DomainView.{DomainView}
+use Rattle.heap_rule.specs.declared.view.Held.TheVariants.{Queue}
+use Rattle.heap_rule.specs.Changes.{value_at}
+use Rattle.heap_rule.specs.Ephemerons.{seen_by}
+use Rattle.heap_rule.specs.Finalisers.{held_at}
+use Rattle.mark_slices.specs.Decks.{AllMissed, Counts, HasTaken, HasNoted, last_count, missed_at}
+use Rattle.mark_slices.specs.Shares.{AllQueueRooted, AllRooted, AllWalked, IsQueueRoot, IsRoot}
+use Rattle.ephemeron_rounds.specs.Emptied.{AllCleaned}
+use Rattle.ephemeron_rounds.specs.Looking.{AllLooked}
+use Rattle.sweeper.specs.Counting.{Counted}
+use Rattle.sweeper.specs.Sweeping.{Swept, SweptAll}
+
+-- no register that holds a block is left out where the roots are marked
+pub no_register_is_left : (x y : DomainView) (r a : ℕ) → AllRooted x y → r < 16 → value_at y.own.registers r ≡ Ref a → (IsRoot y r → ⊥) → ⊥
+no_register_is_left x y r a m few holds left = left (m.done r a few holds)
+
+-- no place of the queue that keeps a block alive is left out, neither with the roots nor once more after finalisers were queued
+pub no_queued_block_is_left : (x y : DomainView) (i a : ℕ) → AllRooted x y → held_at y.own.finalisers (Queue i) ≡ Some a → (IsQueueRoot y i → ⊥) → ⊥
+no_queued_block_is_left x y i a m holds left = left (m.queued i a holds)
+
+pub no_newly_queued_block_is_left : (x y : DomainView) (i a : ℕ) → AllQueueRooted x y → held_at y.own.finalisers (Queue i) ≡ Some a → (IsQueueRoot y i → ⊥) → ⊥
+no_newly_queued_block_is_left x y i a m holds left = left (m.queued i a holds)
+
+-- a round of marking goes to the last pool, and leaves no store of the changed word owed
+pub a_round_pays_the_changed_word : (k : Config) (x y : DomainView) → AllWalked k x y → y.seen.share.owes ≡ true → ⊥
+a_round_pays_the_changed_word k x y w owes = let e : true ≡ false = sym owes ∙ w.told in cc
+
+-- of the blocks that were darkened none is kept from the hints, while their count goes on
+pub each_darkened_block_is_noted : (before after : ℕ) (l m : Counts) → before < after → m.pushes < last_count → m.pushes ≤ l.pushes → HasNoted before after l m → ⊥
+each_darkened_block_is_noted before after l m darkened goes_on none n =
+    let a : ℕ = l.pushes in
+    let b : ℕ = m.pushes in
+    ⊎_elim (λ (e : a + after ≤ b + before). omega (arith, e, darkened, none)) (λ (e : last_count ≤ b). omega (arith, e, goes_on)) n
+
+-- a slice says that no domain has a hint only where it has found each of them so
+pub each_domain_is_asked_for_hints : (l m : Counts) (d : ℕ) → d < l.domains → missed_at m d ≡ missed_at l d → missed_at m d < last_count → AllMissed l m → ⊥
+each_domain_is_asked_for_hints l m d inside same goes_on all =
+    let a : ℕ = missed_at l d in
+    let b : ℕ = missed_at m d in
+    ⊎_elim (λ (e : a < b). omega (arith, e, same)) (λ (e : last_count ≤ b). omega (arith, e, goes_on)) (all d inside)
+
+-- no listed ephemeron is left out in a round of the data, and none where keys are emptied
+pub each_ephemeron_is_looked_at : (x y : DomainView) (a : ℕ) → AllLooked x y → IsTrue (seen_by y.own.ephemerons.items a) → (IsTrue (seen_by y.seen.share.places_seen a) → ⊥) → ⊥
+each_ephemeron_is_looked_at x y a all listed left = left (all.all a listed)
+
+pub each_ephemeron_is_cleaned : (x y : DomainView) (a : ℕ) → AllCleaned x y → IsTrue (seen_by y.own.ephemerons.items a) → (IsTrue (seen_by y.seen.share.places_seen a) → ⊥) → ⊥
+each_ephemeron_is_cleaned x y a all listed left = left (all.all a listed)
+
+-- a slice of sweeping that looked at fewer places than it was asked to has left no own pool
+pub a_short_slice_has_swept_all : (k : Config) (most count : ℕ) (x y : DomainView) → Swept k most count x y → count < most → y.own.swept.spot.pool < k.pools → ⊥
+a_short_slice_has_swept_all k most count x y s short left = let done = s.rest short in omega (arith, done, left)
+
+-- a slice of sweeping looks at no more places than it was asked to
+pub no_slice_goes_further : (k : Config) (most count : ℕ) (x y : DomainView) → Swept k most count x y → most < count → ⊥
+no_slice_goes_further k most count x y s more = let few = s.few in omega (arith, few, more)
+
+-- before an own sweep ends no own pool is left
+pub an_own_sweep_leaves_no_pool : (k : Config) (x y : DomainView) → SweptAll k x y → y.own.swept.spot.pool < k.pools → ⊥
+an_own_sweep_leaves_no_pool k x y s left = let done = s.done in omega (arith, done, left)
+
+-- what lives in the last pool is counted too
+pub counting_ends_behind_the_last_pool : (k : Config) (x y : DomainView) → Counted k x y → y.seen.share.counted_to.pool < k.pools → ⊥
+counting_ends_behind_the_last_pool k x y c left = let whole = c.whole in omega (arith, whole, left)

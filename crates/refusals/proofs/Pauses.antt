@@ -1,0 +1,41 @@
+-- What the clauses of leading, of arriving and of the barrier refuse.
+use Rattle.std.proofs.Common.{◌≡◌, ◌∙◌, ℕ, ◌*◌, ◌<◌, ◌≤◌, true, false, Some, refl, sym, inl, inr, arith}
+use Rattle.heap_rule.specs.declared.config.Config.{Config}
+use Rattle.heap_rule.specs.declared.phase.Kind.TheVariants.{Answer, Decide, Lasts, Reset, Roots, Rounds, Run, Sweep}
+use Rattle.heap_rule.specs.declared.phase.Stage.TheVariants.{In}
+use Rattle.heap_rule.specs.declared.view.DomainView.{DomainView}
+use Rattle.heap_rule.specs.declared.view.Share.{Share}
+use Rattle.steps_pauses.specs.Pauses.{ArriveMay, MayFollow}
+use Rattle.safepoint.specs.Looks.{LookAnswers}
+use Rattle.safepoint.specs.declared.answer.Look.TheVariants.{NotAll}
+
+-- marking isn't left while something was changed
+pub no_change_is_left_out : (share : Share) → MayFollow share Rounds Decide → share.changed ≡ Some 1 → ⊥
+no_change_is_left_out share m changed = let e : Some 1 ≡ Some 0 = sym changed ∙ m.unchanged (inr (inl refl)) in cc
+
+-- a domain isn't said to wait once all have arrived
+pub no_wait_when_all_have_arrived : (k : Config) (x y : DomainView) (b : ℕ) → LookAnswers k x y (NotAll b) → x.own.arrivals * k.domains ≤ b → ⊥
+no_wait_when_all_have_arrived k x y b look all = let n : ℕ = x.own.arrivals * k.domains in let below : b < n = look.0 in omega (arith, below, all)
+
+-- no cycle begins while garbage of the last one is left, nor beside one that goes on
+pub no_cycle_begins_over_garbage : (share : Share) → MayFollow share Reset Roots → share.progress.unswept ≡ true → ⊥
+no_cycle_begins_over_garbage share m left = let e : true ≡ false = sym left ∙ (m.begins refl refl).1 in cc
+
+pub no_cycle_begins_beside_another : (share : Share) → MayFollow share Reset Roots → share.progress.armed ≡ true → ⊥
+no_cycle_begins_beside_another share m armed = let e : true ≡ false = sym armed ∙ (m.begins refl refl).0 in cc
+
+-- the armed word isn't left set where a cycle has ended
+pub no_finished_cycle_stays_armed : (share : Share) → MayFollow share Lasts Run → share.armed ≡ Some true → ⊥
+no_finished_cycle_stays_armed share m armed = let e : Some true ≡ Some false = sym armed ∙ m.over (inl refl) refl in cc
+
+-- a collection isn't answered that began in an earlier pause
+pub no_answer_to_an_earlier_cycle : (share : Share) → MayFollow share Sweep Answer → share.progress.whole ≡ false → ⊥
+no_answer_to_an_earlier_cycle share m began = let e : true ≡ false = sym (m.answers refl).0 ∙ began in cc
+
+-- a domain doesn't arrive from Sweep while an own pool is left to be swept
+pub no_arrival_from_sweep_leaves_a_pool : (k : Config) (x : DomainView) → ArriveMay k x → x.seen.stage ≡ In Sweep → x.own.swept.spot.pool < k.pools → ⊥
+no_arrival_from_sweep_leaves_a_pool k x may stage left = let done = may.done.swept stage in omega (arith, done, left)
+
+-- nor at all while it owes the darkening of what a weak read has brought
+pub no_arrival_owes_a_darkening : (k : Config) (x : DomainView) (r : ℕ) → ArriveMay k x → x.seen.share.weak ≡ Some r → ⊥
+no_arrival_owes_a_darkening k x r may owes = let e = sym owes ∙ may.paid_reads in cc

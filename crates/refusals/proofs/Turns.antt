@@ -1,0 +1,71 @@
+-- What the clauses of `turn` refuse.
+use Rattle.std.proofs.Common.{◌≡◌, ◌≢◌, ◌∙◌, ℕ, ◌+◌, ◌<◌, ◌≤◌, ◌⊎◌, Bool, true, false, Some, None, List, [], ◌∷◌, ◌++◌, refl, sym, ap, ⊎_elim, subst, arith}
+use Rattle.heap_model.specs.declared.command.Command as model
+use Rattle.heap_model.specs.declared.command.Command.TheVariants.{Alloc, AllocMaj, Ephe, Minor, Poll}
+use Rattle.heap_model.specs.declared.reply.Reply.{Reply}
+use Rattle.heap_rule.specs.declared.config.Config.{Config}
+use Rattle.heap_rule.specs.declared.phase.Kind.{Kind}
+use Rattle.heap_rule.specs.declared.phase.Note.{Note}
+use Rattle.heap_rule.specs.declared.phase.Note.TheVariants.{Asked}
+use Rattle.heap_rule.specs.declared.view.DomainView.{DomainView}
+use Rattle.heap_rule.specs.declared.view.Waiting.{Waiting}
+use Rattle.heap_rule.specs.Token.{Token, SharedHeap}
+use Rattle.safepoint.specs.Looks.{bit_of}
+use Rattle.safepoint.specs.declared.answer.Want.TheVariants.{Finish}
+use Rattle.steps_pauses.specs.Pauses.{noted, arrived_view}
+use Rattle.domain_turns.specs.Pausing.{LeavesOdd}
+use Rattle.domain_turns.specs.Runs.{Asks, AsksFull, CalmDid, EndsTrace, Polls, RunView, RunsFinaliser, SeesAnswer, Stops, TriesCommand, WorksBeside, asking_end, is_asked, may_use_up, served_since}
+use Rattle.domain_turns.specs.Runs.CalmDid.{Finalises, Wishes, Refuses, Tries, Works, Ends}
+use Rattle.domain_turns.specs.Tries.{HasPool, HasNoPool, NeedsPause, Stands}
+use Rattle.finaliser_queues.specs.declared.running.Ran.{Ran}
+
+-- the domain's queue of finalisers
+abbrev queue_of : RunView → List Waiting
+queue_of r = r.token.view.own.finalisers.queue.items
+
+-- work for the collector leaves the queue as it is
+work_keeps_queue : (h : SharedHeap) (old worked : RunView) (spent : Bool) → WorksBeside h old worked spent → queue_of worked ≡ queue_of old
+work_keeps_queue h old worked spent work = ⊎_elim
+    (λ m. ap (λ (x : DomainView). x.own.finalisers.queue.items) m.learnt.view)
+    (λ s. ap (λ (x : DomainView). x.own.finalisers.queue.items) s.0.1.swept.view)
+    work
+
+-- while a finaliser waits a turn tries no command, asks for no pause and ends no trace: it runs one
+pub waiting_finalisers_come_first : (h : SharedHeap) (old new : RunView) (first : Waiting) (rest : List Waiting) → queue_of old ≡ first ∷ rest → CalmDid h old new → RunsFinaliser h old.token old new
+waiting_finalisers_come_first h old new first rest waits (Finalises r) = r
+waiting_finalisers_come_first h old new first rest waits (Wishes a) = let e : first ∷ rest ≡ [] = sym waits ∙ a.unqueued in cc
+waiting_finalisers_come_first h old new first rest waits (Refuses a) = let e : first ∷ rest ≡ [] = sym waits ∙ a.unqueued in cc
+waiting_finalisers_come_first h old new first rest waits (Tries c other t) = let e : first ∷ rest ≡ [] = sym waits ∙ t.unqueued in cc
+waiting_finalisers_come_first h old new first rest waits (Works p) = let e : first ∷ rest ≡ [] = sym waits ∙ (sym (work_keeps_queue h old p.worked p.spent p.works) ∙ p.tried.unqueued) in cc
+waiting_finalisers_come_first h old new first rest waits (Ends e) = let clash : first ∷ rest ≡ [] = sym waits ∙ e.unqueued in cc
+
+-- a `minor` isn't made before a pause has served it
+pub minor_waits_for_its_pause : (h : SharedHeap) (start : Token) (old new : RunView) → TriesCommand h start old new Minor → served_since old.asked old.token.view.own.arrivals ≡ false → ⊥
+minor_waits_for_its_pause h start old new t unserved = t.ready unserved
+
+-- an allocation in the major heap is answered `full` only after a complete collection for it, and with no own pool left to be swept
+pub full_comes_after_a_collection : (h : SharedHeap) (old new : Token) (dst tag fields : ℕ) (r : Reply) → Stands h old new (AllocMaj dst tag fields) false r → HasPool h.config (fields + 2) old.view new.view
+full_comes_after_a_collection h old new dst tag fields r s = ⊎_elim (λ f. f.1) (λ f. let e : false ≡ true = f.1.1 in cc) s
+
+-- the pause at which a domain arrives takes away what it knew of an earlier complete collection
+pub a_later_pause_takes_the_collection : (old new : RunView) → Stops old new → new.collected ≡ false
+a_later_pause_takes_the_collection old new s = ap (λ (r : RunView). r.collected) s.run
+
+-- a complete collection for which the domain hadn't asked doesn't count for its next command
+pub the_collection_of_others_counts_nothing : (h : SharedHeap) (old new : RunView) (blocks : ℕ) → old.asked ≡ None → SeesAnswer h old new blocks → new.collected ≡ false
+the_collection_of_others_counts_nothing h old new blocks unasked s = ap (λ (r : RunView). r.collected) s.run ∙ asked
+  where
+    asked : (is_asked old.asked && may_use_up h.config blocks) ≡ false
+    asked = subst (λ (o : Option ℕ). (is_asked o && may_use_up h.config blocks) ≡ false) (sym unasked) refl
+
+-- a poll that marked and found no hint more asks for the end of the cycle
+pub a_spent_poll_asks_for_the_end : (h : SharedHeap) (old new : RunView) (p : Polls h old new) → p.spent ≡ true → new.token.view.seen.notes ≡ p.made.token.view.seen.notes ++ Asked (bit_of Finish) ∷ []
+a_spent_poll_asks_for_the_end h old new p spent = ap (λ (r : RunView). r.token.view.seen.notes) (p.run ∙ ap (λ (b : Bool). asking_end b p.made) spent)
+
+-- a trace ends only behind its last command
+pub a_trace_ends_behind_its_commands : (h : SharedHeap) (start : Token) (old new : RunView) → EndsTrace h start old new → old.next < length old.commands → ⊥
+a_trace_ends_behind_its_commands h start old new e left = let past = e.past in omega (arith, past, left)
+
+-- a domain other than 0 names no kind of its own
+pub domain_0_alone_leads : (k : Config) (x y : DomainView) (last kind : Kind) → x.own.number ≢ 0 → LeavesOdd k x y last kind → kind ≡ last
+domain_0_alone_leads k x y last kind other l = ⊎_elim (λ a. absurd (other a.0)) (λ a. a.1.0) l

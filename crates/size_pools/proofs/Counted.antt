@@ -1,0 +1,122 @@
+-- How many pools were found free, by the looks of one call and of several, and what is known of free places.
+use Rattle.std.proofs.Common.{◌≡◌, ◌∙◌, ◌⊎◌, ⊎_elim, inl, inr, ℕ, ◌+◌, ◌-◌, ◌<◌, ◌≤◌, List, [], ◌∷◌, ◌++◌, Some, Result, Ok, Err, IfOk, IfErr, OnOk, OnErr, arith, sym, ap, subst, append_assoc}
+use Rattle.heap_model.specs.Domains.{reserve}
+use Rattle.heap_rule.specs.declared.config.Config.{Config}
+use Rattle.heap_rule.specs.declared.view.DomainView.{DomainView}
+use Rattle.heap_rule.specs.declared.view.Hunt.{Hunt}
+use Rattle.heap_rule.specs.declared.view.Hunt.TheVariants.{Rests, Fills}
+use Rattle.heap_rule.specs.declared.view.Spot.{Spot}
+use Rattle.heap_rule.specs.declared.view.Swept.{Swept}
+use Rattle.heap_rule.specs.Limits.{sizes_in}
+use Rattle.heap_rule.specs.Pools.{hunting_free, limit_of}
+use Rattle.steps_pools.specs.Takes.{LeavesSpare, NoneFree}
+use Rattle.sweeper.specs.Pruning.{Shortens}
+use Rattle.sweeper.specs.Sweeping.{SweptAll, with_sweep}
+use Rattle.sweeper.specs.Walks.{IsWalk}
+use Rattle.size_pools.specs.Taken.{Counted, FoundOwn, HasPlace, Hunted, KnowsNone, Reserved, Searched, Sought, SweptFirst, Taken, Took, Unreserved}
+
+-- nothing was looked at before
+pub counted_later : (free : ℕ) (x v y : DomainView) → v.seen.free ≡ x.seen.free → Counted free v y → Counted free x y
+counted_later free x v y same c = (c.0, c.1 ∙ ap (λ (l : List ℕ). free ∷ c.0 ++ l) same)
+
+-- or it was
+pub counted_again : (free before : ℕ) (x v y : DomainView) → Counted before x v → Counted free v y → Counted free x y
+counted_again free before x v y b c = (c.0 ++ before ∷ b.0, c.1 ∙ (ap (λ (l : List ℕ). free ∷ c.0 ++ l) b.1 ∙ ap (λ (l : List ℕ). free ∷ l) (sym (append_assoc c.0 (before ∷ b.0) x.seen.free))))
+
+pub reserved_later : (k : Config) (free : ℕ) (x v y : DomainView) → v.seen.free ≡ x.seen.free → Reserved k free v y → Reserved k free x y
+reserved_later k free x v y same r = record { found = counted_later free x v y same r.found; few = r.few }
+
+pub reserved_again : (k : Config) (free before : ℕ) (x v y : DomainView) → Counted before x v → Reserved k free v y → Reserved k free x y
+reserved_again k free before x v y b r = record { found = counted_again free before x v y b r.found; few = r.few }
+
+pub unreserved_later : (k : Config) (x v y : DomainView) → v.seen.free ≡ x.seen.free → Unreserved k v y → Unreserved k x y
+unreserved_later k x v y same u = record { free = u.free; found = counted_later u.free x v y same u.found; more = u.more }
+
+pub unreserved_again : (k : Config) (before : ℕ) (x v y : DomainView) → Counted before x v → Unreserved k v y → Unreserved k x y
+unreserved_again k before x v y b u = record { free = u.free; found = counted_again u.free before x v y b u.found; more = u.more }
+
+-- where no own pool of the class has a free place, none of the class is known to be free
+pub knows_none : (k : Config) (x : DomainView) (class : ℕ) → LeavesSpare k x → NoneFree k x class → KnowsNone class x
+knows_none k x class leaves none z is same = leaves z is (subst (NoneFree k x) (sym same) none)
+
+-- and a search doesn't change what is known of that
+pub known_before : (class : ℕ) (x y : DomainView) (hunt : Hunt) → Hunted x y hunt → KnowsNone class y → KnowsNone class x
+known_before class x y hunt view none z is = none z (ap (λ (v : DomainView). v.seen.spare) view ∙ is)
+
+-- the cursor was below the limit at a load, and past it at the add
+pub none_twice : (k : Config) (x v w y : DomainView) (count found limit : ℕ) → limit ≡ limit_of k count → count ≤ limit + reserve (sizes_in k) → v.seen.free ≡ x.seen.free → w.seen.free ≡ (count - found) ∷ v.seen.free → y.seen.free ≡ (count - limit_of k count) ∷ w.seen.free → Reserved k (count - limit) x y
+none_twice k x v w y count found limit is rest a b c = record {
+  found = ((count - found) ∷ [], c ∙ (λ i. (count - sym is i) ∷ (b ∙ ap (λ (l : List ℕ). (count - found) ∷ l) a) i));
+  few = let n : ℕ = limit in let r : ℕ = reserve (sizes_in k) in let h : count ≤ n + r = rest in let e : count - n ≤ r = omega arith in e;
+}
+
+-- A search found nothing, and all own pools that were left were swept before the next
+module _ (k : Config) (class : ℕ) (x v w y : DomainView) (before : ℕ) (h : Hunted x v Rests) (none : Reserved k before x v) (left : v.own.swept.spot.pool < k.pools) (s : SweptAll k v w) where
+  left_first : x.own.swept.spot.pool < k.pools
+  left_first = subst (λ (q : Swept). q.spot.pool < k.pools) (ap (λ (z : DomainView). z.own.swept) h) left
+
+  counted_swept : Counted before x w
+  counted_swept = (none.found.0, ap (λ (z : DomainView). z.seen.free) s.view ∙ none.found.1)
+
+  -- whatever the next one found
+  swept_first : (hunt : Hunt) → Hunted w y hunt → (free : ℕ) × Counted free x y → SweptFirst k x y hunt
+  swept_first hunt next counted = record {
+    left = left_first;
+    counted = counted;
+    view = next ∙ (ap (λ (z : DomainView). hunting_free z y.own.looked hunt y.seen.free) s.view ∙ (ap (λ (z : DomainView). hunting_free (with_sweep z w) y.own.looked hunt y.seen.free) h ∙ (λ i. hunting_free (with_sweep x (sym next i)) y.own.looked hunt y.seen.free)));
+    shortens = let t : Shortens (hunting_free x v.own.looked Rests v.seen.free) w = subst (λ (z : DomainView). Shortens z w) h s.shortens in
+        subst (Shortens x) (sym next) (let u : Shortens x (hunting_free w y.own.looked hunt y.seen.free) = record { among = t.among; room = t.room; no_less = t.no_less } in u);
+    places = s.places;
+    swept = ap (λ (z : DomainView). z.seen.share.swept) next ∙ (s.swept ∙ ap (λ (z : DomainView). s.places ++ z.seen.share.swept) h);
+    walk = subst (λ (q : Spot × Spot). IsWalk q.0 s.places q.1) (λ i. (ap (λ (z : DomainView). z.own.swept.spot) h i, sym (ap (λ (z : DomainView). z.own.swept.spot) next) i)) s.walk;
+    done = all_done next;
+  } where
+    all_done : Hunted w y hunt → k.pools ≤ y.own.swept.spot.pool
+    all_done is = subst (λ (q : Swept). k.pools ≤ q.spot.pool) (sym (ap (λ (z : DomainView). z.own.swept) is)) s.done
+
+  counted_own : FoundOwn k class w y → Counted before x y
+  counted_own o = (counted_swept.0, o.unseen ∙ counted_swept.1)
+
+  -- a place was found
+  module _ (a : ℕ) (t : Took k class a w y) (place : FoundOwn k class w y ⊎ Unreserved k w y) where
+    pub taken_swept : Taken k class a x y
+    taken_swept = record {
+      pool = t.pool;
+      slot = t.slot;
+      inside = t.inside;
+      below = t.below;
+      address = t.address;
+      view = inr (swept_first (Fills t.pool class t.slot []) t.view (⊎_elim
+          (λ (o : FoundOwn k class w y). (before, counted_own o))
+          (λ (u : Unreserved k w y). (u.free, counted_again u.free before x w y counted_swept u.found))
+          place));
+      next = t.next;
+    }
+
+    pub place_swept : HasPlace k class x y
+    place_swept = ⊎_elim
+        (λ (o : FoundOwn k class w y). inr (inr (record {
+          left = left_first;
+          done = subst (λ (q : Swept). k.pools ≤ q.spot.pool) (sym (ap (λ (z : DomainView). z.own.swept) t.view)) s.done;
+          free = before;
+          reserved = record { found = counted_own o; few = none.few };
+        })))
+        (λ (u : Unreserved k w y). inr (inl (unreserved_again k before x w y counted_swept u)))
+        place
+
+  -- or none was
+  module _ (free : ℕ) (r : Reserved k free w y) where
+    pub reserved_swept : Reserved k free x y
+    reserved_swept = reserved_again k free before x w y counted_swept r
+
+    pub sought_swept : Hunted w y Rests → Sought k x y Rests
+    sought_swept next = inr (swept_first Rests next (free, counted_again free before x w y counted_swept r.found))
+
+-- two facts of a call's answer give a third
+pub both_ok : {T E : Type 0} {P Q R : T → Type 0} (r : Result T E) → ((x : T) → P x → Q x → R x) → IfOk r P → IfOk r Q → IfOk r R
+both_ok (Ok x) f p q = f x p q
+both_ok (Err e) f p q = tt
+
+pub both_err : {T E : Type 0} {P Q R : E → Type 0} (r : Result T E) → ((e : E) → P e → Q e → R e) → IfErr r P → IfErr r Q → IfErr r R
+both_err (Ok x) f p q = tt
+both_err (Err e) f p q = f e p q
