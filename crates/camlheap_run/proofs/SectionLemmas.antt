@@ -36,12 +36,15 @@ register_fits : (ver : Version) (n : ℕ) → fits ver Register (pos n) ≡ true
 register_fits ver n w = let r = in_range 0 15 n w in omega (arith, r.1)
 
 -- no version has these words
-is_later : Command → Bool
+abbrev is_later : Command → Bool
 is_later (Spawn section item) = true
 is_later (Argument dst) = true
 is_later (PutResult item) = true
 is_later (Join dst section) = true
 is_later _ = false
+
+nothing_later : false ≡ true → ⊥
+nothing_later e = cc
 
 later_words : (ver : Version) (c : Command) → is_later c ≡ true → is_built ver (parts c).word ≡ true → ⊥
 later_words One (Spawn section item) later built = cc
@@ -52,7 +55,7 @@ later_words One (PutResult item) later built = cc
 later_words Two (PutResult item) later built = cc
 later_words One (Join dst section) later built = cc
 later_words Two (Join dst section) later built = cc
-later_words ver _ later built = cc
+later_words ver _ later built = nothing_later later
 
 few_fields : (ver : Version) → most_fields ver ≤ 1022
 few_fields One = omega arith
@@ -221,7 +224,7 @@ as_many_at_most (c ∷ cs) =
     omega arith
 
 -- no section has more of what is counted than a heap may have room for, where each command counts once at most
-most_few : (count : List Command → ℕ) → ((cs : List Command) → count cs ≤ length cs) → (script : List (List Command)) → ((d : ℕ) → IsFine (slice_index_or script.sections d [])) → most_of count script ≤ 200000
+most_few : (count : List Command → ℕ) → ((cs : List Command) → count cs ≤ length cs) → (script : List (List Command)) → ((d : ℕ) → IsFine (slice_index_or script d [])) → most_of count script ≤ 200000
 most_few count once [] fine = omega arith
 most_few count once (cs ∷ sections) fine =
     let a : ℕ = count cs in
@@ -232,10 +235,10 @@ most_few count once (cs ∷ sections) fine =
     let f : a ≤ 200000 = omega arith in
     max-le f rest
 
-pub few_ephemerons : (script : List (List Command)) → ((d : ℕ) → IsFine (slice_index_or script.sections d [])) → most_of ephemerons_in script ≤ 200000
+pub few_ephemerons : (script : List (List Command)) → ((d : ℕ) → IsFine (slice_index_or script d [])) → most_of ephemerons_in script ≤ 200000
 few_ephemerons script fine = most_few ephemerons_in as_many_at_most script fine
 
-pub few_registrations : (script : List (List Command)) → ((d : ℕ) → IsFine (slice_index_or script.sections d [])) → most_of registrations_in script ≤ 200000
+pub few_registrations : (script : List (List Command)) → ((d : ℕ) → IsFine (slice_index_or script d [])) → most_of registrations_in script ≤ 200000
 few_registrations script fine = most_few registrations_in registrations_few script fine
 
 abbrev of_two : Bool → Bool → Option ℕ

@@ -203,7 +203,7 @@ const SHARING: [Command; 6] = [
 
 const SHARED: Value = Value::Ref(1);
 
-const YOUNG: Value = Value::Ref(27 * 4096 + 1);
+const YOUNG: Value = Value::Ref(39 * 4096 + 1);
 
 const COPY: Value = Value::Ref(4097);
 

@@ -7,7 +7,7 @@ use std::test::Fail;
 const SMALL: Config = Config {
     domains: 2,
     minor_words: 4096,
-    pools: 27,
+    pools: 39,
     finals: 10,
     ephes: 20,
 };
@@ -42,7 +42,7 @@ const OUTSIDE: [(Config, u32); 8] = [
         },
         2,
     ),
-    (Config { pools: 26, ..SMALL }, 3),
+    (Config { pools: 38, ..SMALL }, 3),
     (
         Config {
             pools: 2049,

@@ -12,7 +12,7 @@ use std::alloc::{AllocError, Global};
 use std::test::Fail;
 use std::thread::for_each_mut;
 
-// The reserve is 56 pools, so the domains can draw 143 of the 199 that are listed.
+// The reserve is 80 pools, so the domains can draw 119 of the 199 that are listed.
 const EIGHT: Config = Config {
     domains: 8,
     minor_words: 4096,
@@ -21,12 +21,12 @@ const EIGHT: Config = Config {
     ephes: 0,
 };
 
-const DRAWN: usize = 143;
+const DRAWN: usize = 119;
 
 // Allocates so many blocks of `fields` fields.
 fn allocate(heap: &Heap, dom: &mut Domain, fields: u16, blocks: u32) -> Result<(), NoPool>
     requires runs { Runs heap.now dom.old }
-    requires fields { (1 ≤ fields) × (fields ≤ 126) }
+    requires fields { (1 ≤ fields) × (fields ≤ 1022) }
     requires labels { dom.old.view.own.serial + blocks < 2 ^ 32 }
     ensures runs { Runs heap.now dom.new }
     ensures labels { dom.new.view.own.serial ≤ dom.old.view.own.serial + blocks }
@@ -46,13 +46,13 @@ fn the_pools_fill(rt: HostRuntime) -> Result<(), Fail> {
     same(
         &rt,
         allocate(&heap, &mut dom, 126, 1),
-        Err(NoPool { free: 7 }),
+        Err(NoPool { free: 10 }),
     );
     same(&rt, dom.labels_made(), labels);
     same(
         &rt,
         allocate(&heap, &mut dom, 126, 1),
-        Err(NoPool { free: 7 }),
+        Err(NoPool { free: 10 }),
     );
     Ok(())
 }
@@ -174,7 +174,7 @@ fn eight_domains_draw_pools_at_once(rt: HostRuntime) -> Result<(), Fail> {
     let mut owners = vec![in alloc; None; 200]?;
     let mut places = vec![in alloc; false; 6400]?;
     for drawer in drawers.iter() {
-        same(&rt, drawer.free, Some(56));
+        same(&rt, drawer.free, Some(80));
         let number = drawer.dom.number();
         let apart = mark(&drawer.blocks, number, &mut owners, &mut places);
         same(&rt, (drawer.labelled, apart), (true, true));

@@ -1,9 +1,9 @@
-//! The heap's table of six sizes, and a table of nine.
+//! The heap's table of nine sizes, and a table of six.
 use crate::same::same;
 use size_classes::{Classes, heap_classes, reserve};
 use std::process::Abort;
 
-// Words of a block, and the class and its words that the table of six gives.
+// Words of a block, and the class and its words that both tables give.
 const ROWS: [(usize, usize, usize); 12] = [
     (3, 0, 4),
     (4, 0, 4),
@@ -19,9 +19,9 @@ const ROWS: [(usize, usize, usize); 12] = [
     (128, 5, 128),
 ];
 
-// The same code over a table of nine sizes.
-const NINE: Classes<9> = Classes {
-    sizes: [4, 8, 16, 32, 64, 128, 256, 512, 1024],
+// The same code over a table of six sizes.
+const SIX: Classes<6> = Classes {
+    sizes: [4, 8, 16, 32, 64, 128],
 };
 
 fn check<const C: usize>(rt: &impl Abort, classes: &Classes<C>) {
@@ -35,19 +35,19 @@ fn check<const C: usize>(rt: &impl Abort, classes: &Classes<C>) {
 
 #[test]
 fn each_size_has_its_class(rt: HostRuntime) {
-    let six = heap_classes();
-    check(&rt, &six);
-    same(&rt, six.class_of(129), None);
-    check(&rt, &NINE);
-    same(&rt, NINE.class_of(129), Some(6));
-    same(&rt, NINE.class_of(1024), Some(8));
-    same(&rt, NINE.class_of(1025), None);
-    same(&rt, NINE.words_of(7), 512);
+    let nine = heap_classes();
+    check(&rt, &nine);
+    same(&rt, nine.class_of(129), Some(6));
+    same(&rt, nine.class_of(1024), Some(8));
+    same(&rt, nine.class_of(1025), None);
+    same(&rt, nine.words_of(7), 512);
+    check(&rt, &SIX);
+    same(&rt, SIX.class_of(129), None);
 }
 
 #[test]
 fn reserve_covers_minor_areas(rt: HostRuntime) {
-    same(&rt, reserve(1, 4096), 7);
-    same(&rt, reserve(2, 32768), 28);
-    same(&rt, reserve(8, 65536), 176);
+    same(&rt, reserve(1, 4096), 10);
+    same(&rt, reserve(2, 32768), 34);
+    same(&rt, reserve(8, 65536), 200);
 }

@@ -6,5 +6,5 @@ use Rattle.camlheap_run.proofs.generating.write_sections.Given as goal
 abbrev pub invariant-sections : goal.invariant-sections
 invariant-sections g l = record {
   calm : g.K.Sink.faults l.out ≡ g.K.Sink.faults l.initial.out;
-  bytes : Appends (g.K.Sink.written l.initial.out) (g.K.Sink.written l.out) (sections_text l.script l.domain);
+  bytes : Appends (g.K.Sink.written l.initial.out) (g.K.Sink.written l.out) (sections_text l.script.sections l.domain);
 }

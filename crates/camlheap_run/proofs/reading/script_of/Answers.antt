@@ -1,5 +1,10 @@
-use Rattle.camlheap_run.proofs.ReadingLemmas.{told_fault}
+use Rattle.camlheap_run.proofs.ReadingLemmas.{not_refused, told_fault, told_script}
 use Rattle.camlheap_run.proofs.reading.script_of.Goals as goal
+
+pub returns-clause-only_faults : goal.returns-clause-only_faults
+returns-clause-only_faults g c = λ s f told refused.
+    let read = rw (← c.deref.ensures.value) at c.in-Ok.ensures.bytes in
+    not_refused s c.in-Err.fault f c.no_script.result c.no_script.ensures (cc) (c.in-Err.ensures.only s (told_script _ _ _ _ s read told))
 
 pub returns-in-Ok-read_script-clause-only_scripts : goal.returns-in-Ok-read_script-clause-only_scripts
 returns-in-Ok-read_script-clause-only_scripts g c = λ f told.
