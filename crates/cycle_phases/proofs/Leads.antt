@@ -1,7 +1,7 @@
 -- What domain 0 has done that has named the next kind, and arrived.
 use Rattle.std.proofs.Common.{◌≡◌, ◌∙◌, ◌++◌, ℕ, Bool, List, Some, sym, ap, subst, append_assoc}
 use Rattle.heap_model.specs.declared.entry.Entry.{Entry}
-use Rattle.heap_model.specs.Fronts.{IsFrontOf}
+use Rattle.heap_model.specs.Fronts.{AreNotControls, IsFrontOf, unseen}
 use Rattle.heap_model.specs.History.{Legal}
 use Rattle.heap_rule.specs.declared.config.Config.{Config}
 use Rattle.heap_rule.specs.declared.phase.Kind.{Kind}
@@ -54,6 +54,7 @@ module _ (k : Config) (x y z v : DomainView) (last kind : Kind) (stage : x.seen.
         before = m.before;
         front = front_is ∙ m.front;
         seen = subst (λ (p : ℕ × List Entry). IsFrontOf p.0 m.before p.1) (λ i. (same_number i, same_front i)) m.seen;
+        led = subst (λ (f : List Entry). AreNotControls (unseen m.before f)) same_front m.led;
         legal = subst (λ (f : List Entry). Legal (sizes_in k) f) (sym front_is) m.legal;
       }
 

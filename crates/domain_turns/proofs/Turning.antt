@@ -1,5 +1,5 @@
 -- A turn keeps what is true of a run.
-use Rattle.std.proofs.Common.{◌≡◌, ◌≢◌, ◌∙◌, ℕ, zero, suc, ◌+◌, ◌-◌, ◌<◌, ◌≤◌, Bool, true, false, List, [], ◌∷◌, ◌++◌, length, take, drop, slice_get, Some, None, Option, refl, sym, ap, subst, arith, length-append, append-nil, eq-eqb, add-one, ⊎_elim}
+use Rattle.std.proofs.Common.{true≢false, ◌≡◌, ◌≢◌, ◌∙◌, ℕ, zero, suc, ◌+◌, ◌-◌, ◌<◌, ◌≤◌, Bool, true, false, List, [], ◌∷◌, ◌++◌, length, take, drop, slice_get, Some, None, Option, refl, sym, ap, subst, arith, length-append, append-nil, eq-eqb, add-one, ⊎_elim}
 use Rattle.heap_model.specs.declared.command.Command as model
 use Rattle.heap_model.specs.declared.entry.Entry.{Entry}
 use Rattle.heap_model.specs.declared.entry.Entry.TheVariants.{Command as CommandOf, End, Ran as RanEntry}
@@ -247,7 +247,7 @@ answered_is_run h r new reply progress hints stays is running at was here a know
     let entry : Entry = CommandOf r.token.view.own.number FullMajor false in
     let answers : Answers (sizes_in h.config) r.token.view.own.number r.token.view.seen.front new.view.seen.front entry (Replied reply) =
     subst (λ (f : List Entry). Answers (sizes_in h.config) r.token.view.own.number r.token.view.seen.front f entry (Replied reply)) (sym front)
-    (answers_after (sizes_in h.config) r.token.view.own.number r.token.view.seen.front a.begun.seen.front a.front entry (Replied reply) a.comes.passed.seen a.answers) in
+    (answers_after (sizes_in h.config) r.token.view.own.number r.token.view.seen.front a.begun.seen.front a.front entry (Replied reply) a.comes.passed.seen (λ running. absurd (true≢false running)) a.answers) in
     made_is_run r new FullMajor false reply (Some Answer) progress (length new.view.own.finalisers.queue.items) hints stays is running at
     record {
       config = config;
