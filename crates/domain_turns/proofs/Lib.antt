@@ -10,5 +10,4 @@ pub mod GoingLemmas
 pub mod ExactLemmas
 pub mod Turning
 pub mod PassingLemmas
-mod Meeting
 pub mod Refused

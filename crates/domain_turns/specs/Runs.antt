@@ -6,7 +6,7 @@ use Rattle.heap_model.specs.declared.entry.Entry.{Entry}
 use Rattle.heap_model.specs.declared.entry.Entry.TheVariants.{End}
 use Rattle.heap_model.specs.declared.reply.Reply.{Reply}
 use Rattle.heap_model.specs.declared.reply.Applied.TheVariants.{Silent}
-use Rattle.heap_model.specs.History.{IsPrefix, Legal, commands, replies}
+use Rattle.heap_model.specs.History.{IsPrefix, commands, replies}
 use Rattle.heap_model.specs.Fronts.{Answers}
 use Rattle.heap_model.specs.Domains.{class_count, domain_at, reserve}
 use Rattle.heap_model.specs.declared.command.Command.TheVariants.{Minor, Major, FullMajor, Poll}
@@ -41,7 +41,6 @@ use Rattle.domain_turns.specs.declared.turned.Turned.TheVariants.{Did, Waiting, 
 use Rattle.domain_turns.specs.declared.turned.Turned.TheVariants.{Ended as Over}
 use Rattle.heap_rule.specs.declared.view.Hunt.TheVariants.{Rests as AtRest}
 use Rattle.heap_rule.specs.Limits.{sizes_in}
-use Rattle.heap_rule.specs.Meeting.{Trails, seeing}
 use Rattle.heap_rule.specs.Standing.{noted, Acts, with_front}
 use Rattle.heap_rule.specs.Token.{Token, SharedHeap, IsIn}
 use Rattle.domain_turns.specs.Pausing.{IsQuiet, HasLeft, KnowsProgress, LeavesEven, LeavesOdd, GivesBack, AnswersLive, IsCollected, due_of}
@@ -365,16 +364,3 @@ pub record GoesOn (old new : RunView) : Type 0 where
   pub commands : new.commands ≡ old.commands
   pub number : new.token.view.own.number ≡ old.token.view.own.number
   pub front : IsPrefix old.token.view.seen.front new.token.view.seen.front
-
--- the run of a domain that has seen this history
-abbrev pub run_seeing : RunView → List Entry → RunView
-run_seeing r history = record r { token = seeing r.token history }
-
--- The domains of two runs have met. Both see one history, which begins with the front of each
-pub record RunsMet (k : Config) (a b new_a new_b : RunView) : Type 0 where
-  pub history : List Entry
-  pub legal : Legal (sizes_in k) history
-  pub first : Trails history a.token.view
-  pub second : Trails history b.token.view
-  pub first_is : new_a ≡ run_seeing a history
-  pub second_is : new_b ≡ run_seeing b history
