@@ -1,5 +1,5 @@
 -- What the try of an allocation in the major heap leaves.
-use Rattle.std.proofs.Common.{◌≡◌, ◌∙◌, ℕ, ◌+◌, ◌≤◌, Bool, List, true, false, inl, inr, sym, ap, subst, arith}
+use Rattle.std.proofs.Common.{◌≡◌, ◌∙◌, ℕ, ◌+◌, ◌≤◌, Bool, List, true, false, inl, inr, sym, ap, subst, slice_get, arith}
 use Rattle.heap_model.specs.declared.command.Command.{Command}
 use Rattle.heap_model.specs.declared.command.Command.TheVariants.{AllocMaj, Ephe}
 use Rattle.heap_model.specs.declared.entry.Entry.TheVariants.{Command as CommandOf}
@@ -20,12 +20,12 @@ use Rattle.heap_rule.specs.Running.{Runs, Did, Stays}
 use Rattle.heap_rule.specs.Token.{Token, SharedHeap, IsIn}
 use Rattle.heap_rule.proofs.Calls.{stays_trans}
 use Rattle.size_pools.specs.Created.{ListsHeld}
-use Rattle.size_pools.specs.Taken.{GrowsBy, MaySweep, Searched, Sought}
+use Rattle.size_pools.specs.Taken.{GrowsBy, MaySweep, Reserved, Searched, Sought}
 use Rattle.size_pools.proofs.Seeking.{may_still, sought_sweep, sought_view}
 use Rattle.steps_pools.specs.Ephemerons.{with_ephemeron}
 use Rattle.domain_turns.specs.declared.command.Attempt.{Attempt}
 use Rattle.domain_turns.specs.declared.command.Attempt.TheVariants.{Made, Needs, NoRoom}
-use Rattle.domain_turns.specs.Tries.{AttemptAnswers, Enters, HasNoPool, HasPool, IsFresh, RefusesAs, RefusesFull, address_of}
+use Rattle.domain_turns.specs.Tries.{AttemptAnswers, Enters, HasFew, HasNoPool, HasPool, IsFresh, RefusesAs, RefusesFull, address_of}
 
 -- a search leaves the domain where it stood
 searched_stays : (x y : DomainView) → Searched x y Rests → Stays x y
@@ -211,3 +211,7 @@ create_made h old new dst keys served collected l was did g pool =
       },
       λ needs. needs,
     )
+
+-- no more pools were found free at the last look than the reserve
+pub few_found : (k : Config) (free : ℕ) (x y : DomainView) → Reserved k free x y → HasFew k y
+few_found k free x y r = (free, ap (λ (l : List ℕ). slice_get l 0) r.found.1, r.few)

@@ -41,6 +41,7 @@ use Rattle.domain_turns.specs.declared.turned.Turned.TheVariants.{Did, Waiting, 
 use Rattle.domain_turns.specs.declared.turned.Turned.TheVariants.{Ended as Over}
 use Rattle.heap_rule.specs.declared.view.Hunt.TheVariants.{Rests as AtRest}
 use Rattle.heap_rule.specs.Limits.{sizes_in}
+use Rattle.heap_rule.specs.Meeting.{Trails, seeing}
 use Rattle.heap_rule.specs.Standing.{noted, Acts, with_front}
 use Rattle.heap_rule.specs.Token.{Token, SharedHeap, IsIn}
 use Rattle.domain_turns.specs.Pausing.{IsQuiet, HasLeft, KnowsProgress, LeavesEven, LeavesOdd, GivesBack, AnswersLive, IsCollected, due_of}

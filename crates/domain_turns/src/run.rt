@@ -2,13 +2,14 @@
 ghost use Rattle.std.specs.Prelude.{◌≡◌, ◌↔◌, ◌<◌, true, false, [], length, take, IfOk, None};
 ghost use Rattle.heap_model.specs.History.{commands as commands_of, replies as replies_of};
 ghost use Rattle.heap_rule.specs.Limits.{sizes_in};
+ghost use Rattle.heap_rule.specs.Token.{IsIn};
 ghost use Rattle.mark_slices.specs.Slices.{IsDeckOf};
 ghost use Rattle.heap_rule.specs.Views.{no_collection};
-ghost use Rattle.domain_turns.specs.Runs.{CanBegin, IsRun};
+ghost use Rattle.domain_turns.specs.Runs.{CanBegin, IsRun, RunsMet};
 
 use heap_model::command::Command;
 use heap_model::reply::Reply;
-use heap_rule::{Domain, Kind, Progress};
+use heap_rule::{Domain, Heap, Kind, Progress};
 use mark_slices::Hints;
 use std::alloc::{AllocError, Global};
 use std::marker::Model;
@@ -121,6 +122,23 @@ impl DomainRun {
         ensures { IsRun self.now }
     {
         let _run = &self.domain;
+    }
+
+    /// Brings the domains of two runs together for a moment. Both then see the whole history so far, and
+    /// nothing else of the runs changes. What the history has behind the front of each is told: no entry of
+    /// that domain, none of the collector while the domain runs, and for domain 0 none by which a collection
+    /// begins, goes on or ends.
+    pub fn meet(self, heap: &Heap, other: DomainRun) -> (DomainRun, DomainRun)
+        requires here { IsIn self.token heap.now × IsIn other.token heap.now }
+        ensures met { RunsMet heap.now.config self other result.0 result.1 }
+    {
+        let (domain, met) = heap.meet(self.domain, other.domain);
+        let first = DomainRun { domain, ..self };
+        let second = DomainRun {
+            domain: met,
+            ..other
+        };
+        (first, second)
     }
 
     /// The token inside.
