@@ -52,11 +52,7 @@ pub struct ToScan {
 fn fields_to_scan(size: u16, tag: u8) -> u32
     ensures { result ≡ cond (nat_le 251 tag) 0 size }
 {
-    if FIRST_RAW <= tag {
-        0
-    } else {
-        u32::from(size)
-    }
+    if FIRST_RAW <= tag { 0 } else { u32::from(size) }
 }
 
 /// What is to be done for a grey block: one that is marked and not scanned. `None` where the word isn't

@@ -49,26 +49,26 @@ marks_refused h old worked false d share hints taken inside missed m =
     let b : ℕ = scanned_in worked.token.view.seen.share.known in
     let same : b ≡ a = ap (λ (s : Share). scanned_in s.known) share in
     ⊎_elim
-        (λ (e : b ≡ a + 256). omega (arith, e, same))
-        (λ (e : HasTaken 8192 old.hints worked.hints). taken_none old.hints taken (subst (λ (l : Counts). HasTaken 8192 old.hints l) hints e))
-        m.marks
+    (λ (e : b ≡ a + 256). omega (arith, e, same))
+    (λ (e : HasTaken 8192 old.hints worked.hints). taken_none old.hints taken (subst (λ (l : Counts). HasTaken 8192 old.hints l) hints e))
+    m.marks
 
 sweeps_refused : (h : SharedHeap) (old worked : RunView) (count : ℕ) → worked.token.view.seen.share ≡ old.token.view.seen.share → worked.token.view.own ≡ old.token.view.own → (old.token.view.seen.share.armed ≡ Some true) ⊎ (old.token.view.own.swept.spot.pool < h.config.pools) → SweepsBeside h old worked count → ⊥
 sweeps_refused h old worked count share own work s = ⊎_elim
     (λ (armed : old.token.view.seen.share.armed ≡ Some true).
-      let none : worked.token.view.seen.share.armed ≡ Some false = ap (λ (x : DomainView). x.seen.share.armed) s.swept.view in
-      let both : Some true ≡ Some false = sym (ap (λ (x : Share). x.armed) share ∙ armed) ∙ none in cc)
+    let none : worked.token.view.seen.share.armed ≡ Some false = ap (λ (x : DomainView). x.seen.share.armed) s.swept.view in
+    let both : Some true ≡ Some false = sym (ap (λ (x : Share). x.armed) share ∙ armed) ∙ none in cc)
     (λ (left : old.token.view.own.swept.spot.pool < h.config.pools).
-      let places : List Spot = s.swept.on.places in
-      let n : ℕ = length places in
-      let m : ℕ = length old.token.view.seen.share.swept in
-      let all : m ≡ length (places ++ old.token.view.seen.share.swept) = ap (λ (x : Share). length x.swept) (sym share) ∙ ap (λ (l : List Spot). length l) s.swept.on.swept in
-      let sum : length (places ++ old.token.view.seen.share.swept) ≡ n + m = lengths places old.token.view.seen.share.swept in
-      let many : n ≡ count = s.swept.on.many in
-      let few : count < 256 = omega (arith, all, sum, many) in
-      let done = s.swept.rest few in
-      let next : worked.token.view.own.swept.spot.pool ≡ old.token.view.own.swept.spot.pool = ap (λ (o : Own). o.swept.spot.pool) own in
-      omega (arith, left, done, next))
+    let places : List Spot = s.swept.on.places in
+    let n : ℕ = length places in
+    let m : ℕ = length old.token.view.seen.share.swept in
+    let all : m ≡ length (places ++ old.token.view.seen.share.swept) = ap (λ (x : Share). length x.swept) (sym share) ∙ ap (λ (l : List Spot). length l) s.swept.on.swept in
+    let sum : length (places ++ old.token.view.seen.share.swept) ≡ n + m = lengths places old.token.view.seen.share.swept in
+    let many : n ≡ count = s.swept.on.many in
+    let few : count < 256 = omega (arith, all, sum, many) in
+    let done = s.swept.rest few in
+    let next : worked.token.view.own.swept.spot.pool ≡ old.token.view.own.swept.spot.pool = ap (λ (o : Own). o.swept.spot.pool) own in
+    omega (arith, left, done, next))
     work
 
 -- a run whose domain's view has changed by the entry of the poll alone, and whose deck is as it was, has not polled: where a collection goes on, or an own pool is left to be swept
@@ -82,6 +82,6 @@ idle_refused h old new d still same taken inside missed work p =
     let own : p.worked.token.view.own ≡ old.token.view.own = sym (ap (λ (x : DomainView). x.own) p.view) ∙ (sym made_own ∙ ap (λ (x : DomainView). x.own) still) in
     let hints : p.worked.hints ≡ old.hints = sym (ap (λ (r : RunView). r.hints) p.tried.run) ∙ (sym made_hints ∙ same) in
     ⊎_elim
-        (λ (m : MarksBeside h old p.worked p.spent). marks_refused h old p.worked p.spent d share hints taken inside missed m)
-        (λ (s : ((count : ℕ) × SweepsBeside h old p.worked count) × (p.spent ≡ false)). sweeps_refused h old p.worked s.0.0 share own work s.0.1)
-        p.works
+    (λ (m : MarksBeside h old p.worked p.spent). marks_refused h old p.worked p.spent d share hints taken inside missed m)
+    (λ (s : ((count : ℕ) × SweepsBeside h old p.worked count) × (p.spent ≡ false)). sweeps_refused h old p.worked s.0.0 share own work s.0.1)
+    p.works

@@ -333,9 +333,7 @@ pub(crate) fn try_command(
         Command::Alloc { dst, tag, fields } => {
             alloc_in_area(heap, dom, dst, tag, fields, collected)
         }
-        Command::Raw { dst, tag, fields } => {
-            raw_in_area(heap, dom, dst, tag, fields, collected)
-        }
+        Command::Raw { dst, tag, fields } => { raw_in_area(heap, dom, dst, tag, fields, collected) }
         Command::AllocMaj { dst, tag, fields } => {
             alloc_in_pools(heap, dom, dst, tag, fields, collected)
         }
@@ -343,9 +341,7 @@ pub(crate) fn try_command(
         Command::Store { .. }
         | Command::Cas { .. }
         | Command::SetKey { .. }
-        | Command::SetData { .. } => {
-            try_store(heap, dom, command)
-        }
+        | Command::SetData { .. } => { try_store(heap, dom, command) }
         Command::Finalise { .. } | Command::FinaliseLast { .. } => {
             try_registration(heap, dom, command)
         }

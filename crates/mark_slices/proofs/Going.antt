@@ -257,6 +257,6 @@ never_again k x y at before new e may =
     let m : ScannedMay k (learning x (Scanned before)) at new = subst (λ (v : DomainView). ScannedMay k v at new) e may in
     let since : FoundSince (Scanned before ∷ x.seen.share.known) at m.head = m.since in
     ⊎_elim
-        (λ (f : Scanned before ≡ Shaped at m.head). cc)
-        (λ (r : IsNoScan (Scanned before) × FoundSince x.seen.share.known at m.head). r.0)
-        since
+    (λ (f : Scanned before ≡ Shaped at m.head). cc)
+    (λ (r : IsNoScan (Scanned before) × FoundSince x.seen.share.known at m.head). r.0)
+    since

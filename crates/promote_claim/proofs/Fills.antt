@@ -104,6 +104,7 @@ module _ (k : Config) (i : ℕ) (c : Copied) (x : DomainView) where
         met = l.lives;
         extent_is = (let a : ℕ = extent l.place.shape in let b : ℕ = extent told.place.shape in let e : a ≡ b = same in let f : words ≡ b = size in let h : 3 ≤ b = large in let g : a ≡ words - 2 + 2 = omega arith in g);
       }
+
   module _ (size n : ℕ) where
     -- claims leave how far it is filled
     pub progress_claims : (y z : DomainView) → Progress k i c size n x y → Grown k y z → Progress k i c size n x z

@@ -5,7 +5,7 @@ use Rattle.heap_rule.specs.declared.config.Config.{Config}
 use Rattle.heap_rule.specs.declared.view.DomainView.{DomainView}
 use Rattle.heap_rule.specs.declared.view.Held.TheVariants.{Queue}
 use Rattle.heap_rule.specs.Changes.{value_at}
-use Rattle.heap_rule.specs.Ephemerons.{seen_by}
+use Rattle.heap_rule.specs.Cycles.{seen_by}
 use Rattle.heap_rule.specs.Finalisers.{held_at}
 use Rattle.mark_slices.specs.Decks.{AllMissed, Counts, HasTaken, HasNoted, last_count, missed_at}
 use Rattle.mark_slices.specs.Shares.{AllQueueRooted, AllRooted, AllWalked, IsQueueRoot, IsRoot}

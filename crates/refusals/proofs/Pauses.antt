@@ -1,5 +1,6 @@
 -- What the clauses of leading, of arriving and of the barrier refuse.
 use Rattle.std.proofs.Common.{◌≡◌, ◌∙◌, ℕ, ◌*◌, ◌<◌, ◌≤◌, true, false, Some, refl, sym, inl, inr, arith}
+use Rattle.std.proofs.lemmas.Option.{same_Some}
 use Rattle.heap_rule.specs.declared.config.Config.{Config}
 use Rattle.heap_rule.specs.declared.phase.Kind.TheVariants.{Answer, Decide, Lasts, Reset, Roots, Rounds, Run, Sweep}
 use Rattle.heap_rule.specs.declared.phase.Stage.TheVariants.{In}
@@ -11,7 +12,7 @@ use Rattle.safepoint.specs.declared.answer.Look.TheVariants.{NotAll}
 
 -- marking isn't left while something was changed
 pub no_change_is_left_out : (share : Share) → MayFollow share Rounds Decide → share.changed ≡ Some 1 → ⊥
-no_change_is_left_out share m changed = let e : Some 1 ≡ Some 0 = sym changed ∙ m.unchanged (inr (inl refl)) in cc
+no_change_is_left_out share m changed = let e : 1 ≡ 0 = same_Some 1 0 (sym changed ∙ m.unchanged (inr (inl refl))) in omega (arith, e)
 
 -- a domain isn't said to wait once all have arrived
 pub no_wait_when_all_have_arrived : (k : Config) (x y : DomainView) (b : ℕ) → LookAnswers k x y (NotAll b) → x.own.arrivals * k.domains ≤ b → ⊥

@@ -1,5 +1,5 @@
 -- What the clauses of `turn` refuse.
-use Rattle.std.proofs.Common.{◌≡◌, ◌≢◌, ◌∙◌, ℕ, ◌+◌, ◌<◌, ◌≤◌, ◌⊎◌, Bool, true, false, Some, None, List, [], ◌∷◌, ◌++◌, refl, sym, ap, ⊎_elim, subst, arith}
+use Rattle.std.proofs.Common.{◌≡◌, ◌≢◌, ◌∙◌, ℕ, ◌+◌, ◌<◌, ◌≤◌, ◌⊎◌, Bool, true, false, Some, None, List, [], ◌∷◌, ◌++◌, ◌&&◌, length, Option, refl, sym, ap, ⊎_elim, subst, arith}
 use Rattle.heap_model.specs.declared.command.Command as model
 use Rattle.heap_model.specs.declared.command.Command.TheVariants.{Alloc, AllocMaj, Ephe, Minor, Poll}
 use Rattle.heap_model.specs.declared.reply.Reply.{Reply}
@@ -12,7 +12,6 @@ use Rattle.heap_rule.specs.declared.view.Waiting.{Waiting}
 use Rattle.heap_rule.specs.Token.{Token, SharedHeap}
 use Rattle.safepoint.specs.Looks.{bit_of}
 use Rattle.safepoint.specs.declared.answer.Want.TheVariants.{Finish}
-use Rattle.steps_pauses.specs.Pauses.{noted, arrived_view}
 use Rattle.domain_turns.specs.Pausing.{LeavesOdd}
 use Rattle.domain_turns.specs.Runs.{Asks, AsksFull, CalmDid, EndsTrace, Polls, RunView, RunsFinaliser, SeesAnswer, Stops, TriesCommand, WorksBeside, asking_end, is_asked, may_use_up, served_since}
 use Rattle.domain_turns.specs.Runs.CalmDid.{Finalises, Wishes, Refuses, Tries, Works, Ends}
@@ -45,7 +44,7 @@ minor_waits_for_its_pause h start old new t unserved = t.ready unserved
 
 -- an allocation in the major heap is answered `full` only after a complete collection for it, and with no own pool left to be swept
 pub full_comes_after_a_collection : (h : SharedHeap) (old new : Token) (dst tag fields : ℕ) (r : Reply) → Stands h old new (AllocMaj dst tag fields) false r → HasPool h.config (fields + 2) old.view new.view
-full_comes_after_a_collection h old new dst tag fields r s = ⊎_elim (λ f. f.1) (λ f. let e : false ≡ true = f.1.1 in cc) s
+full_comes_after_a_collection h old new dst tag fields r s = ⊎_elim (λ f. f.1) (λ f. let e : false ≡ true = f.2 in cc) s
 
 -- the pause at which a domain arrives takes away what it knew of an earlier complete collection
 pub a_later_pause_takes_the_collection : (old new : RunView) → Stops old new → new.collected ≡ false
@@ -68,4 +67,4 @@ a_trace_ends_behind_its_commands h start old new e left = let past = e.past in o
 
 -- a domain other than 0 names no kind of its own
 pub domain_0_alone_leads : (k : Config) (x y : DomainView) (last kind : Kind) → x.own.number ≢ 0 → LeavesOdd k x y last kind → kind ≡ last
-domain_0_alone_leads k x y last kind other l = ⊎_elim (λ a. absurd (other a.0)) (λ a. a.1.0) l
+domain_0_alone_leads k x y last kind other l = ⊎_elim (λ a. absurd (other a.0)) (λ a. a.1) l

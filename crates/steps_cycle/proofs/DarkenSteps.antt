@@ -178,7 +178,6 @@ module _ (k : Config) (s : Words) (r : Rule k s) (id : ℕ) (hist : List Entry) 
     nothing_unmarked : done ≡ true → FieldsMarked now.graph (darkened m p.label).marked p.label
     nothing_unmarked e = subst (λ (ls : List Label). HoldsRoots ls (darkened m p.label).marked) (sym (no_field e)) (λ l h. cc)
 
-
     abbrev c' : Kind → Cycling
     c' kind = record c { paint = record c.paint { marks = m' }; shares = record c.shares { owes = owing_on kind c.shares.owes d } }
 

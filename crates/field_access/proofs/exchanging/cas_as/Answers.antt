@@ -73,11 +73,16 @@ field_exchange-found-requires g c =
     let suits = suits_after k c.head_load-head.new.dom.view z c.args.block c.in-Some.size _ b.learnt (suits_at _ _ g.entry (own_entry c.args.dom.now (Cas c.args.block c.args.index c.args.expected c.args.item)) _ _ _ _ _ (value_at c.args.dom.now.view.own.registers c.args.item) c.requires.0
     (ap (λ (x : DomainView). x.own.number) looked.looked.view) told takes (ap (λ (v : Value). needs_no_scan told.shape && is_block v) (sym c.register-value.ensures.value) ∙ (sym (c.refuses_value.ensures told.shape told.head) ∙ c.if-refuses_value.false)) size c.in-Some.is (omega arith)) in
     let same : value_at c.head_load-head.new.dom.view.own.registers c.args.expected ≡ value_at c.args.dom.now.view.own.registers c.args.expected = ap (λ (x : DomainView). value_at x.own.registers c.args.expected) looked.looked.view in
-    let barred : ExpectedMarked k z.seen.share (value_at c.args.dom.now.view.own.registers c.args.expected) = subst (λ (v : Value). ExpectedMarked k z.seen.share v) same b.barrier in
-    (b.here, (field.inside, exchange_may c.args.heap.now c.args.dom.now z g.entry c.args.block c.args.index c.args.expected c.args.item c.in-Ref.address _ _ c.must_remember-remembers.result c.requires.0 own (sym c.in-Ref.ensures.value)
-    c.requires.1.1.1.0 (λ empty. c.in_default-wanted.not-Nothing (c.register-wanted.ensures.value ∙ empty)) (c.pack_value-old.ensures ∙ ap value_word c.register-wanted.ensures.value)
-    c.requires.1.1.1.1.0 (λ empty. c.in_default-value.not-Nothing (c.register-value.ensures.value ∙ empty)) (c.pack_value.ensures ∙ ap value_word c.register-value.ensures.value)
-    (subst (λ (v : Value). (c.must_remember-remembers.result ≡ true) ↔ MustRemember k (Ref c.in-Ref.address) v) c.register-value.ensures.value c.must_remember-remembers.ensures) c.requires.1.1.1.1.1 field suits barred))
+    let barred : ExpectedMarked k z.seen.share (value_at c.args.dom.now.view.own.registers c.args.expected) = subst (λ (v : Value). ExpectedMarked k z.seen.share v) same b.barrier in (
+      b.here,
+      (
+        field.inside,
+        exchange_may c.args.heap.now c.args.dom.now z g.entry c.args.block c.args.index c.args.expected c.args.item c.in-Ref.address _ _ c.must_remember-remembers.result c.requires.0 own (sym c.in-Ref.ensures.value)
+            c.requires.1.1.1.0 (λ empty. c.in_default-wanted.not-Nothing (c.register-wanted.ensures.value ∙ empty)) (c.pack_value-old.ensures ∙ ap value_word c.register-wanted.ensures.value)
+            c.requires.1.1.1.1.0 (λ empty. c.in_default-value.not-Nothing (c.register-value.ensures.value ∙ empty)) (c.pack_value.ensures ∙ ap value_word c.register-value.ensures.value)
+            (subst (λ (v : Value). (c.must_remember-remembers.result ≡ true) ↔ MustRemember k (Ref c.in-Ref.address) v) c.register-value.ensures.value c.must_remember-remembers.ensures) c.requires.1.1.1.1.1 field suits barred,
+      ),
+    )
 
 pub returns-then-found-old-clause-did : goal.returns-then-found-old-clause-did
 returns-then-found-old-clause-did g c =
