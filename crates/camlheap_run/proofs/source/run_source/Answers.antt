@@ -9,3 +9,9 @@ returns-in-Err-Refused-clause-refused g c = λ f told sure.
     let first = told_fault _ _ _ reads.bytes f reads.are_read told in
     let same : c.in-Err-Refused.fault ≡ f = cc (sym reads.first ∙ first) in
     rw c.in-Err-Refused.field-0-is (inl (ap Script same))
+
+pub returns-in-Ok-clause-cut : goal.returns-in-Ok-clause-cut
+returns-in-Ok-clause-cut g c = λ ended stopped. record { script = c.in-Ok.script; reads = c.in-Ok.ensures.script; writes = c.run.ensures.cut ended stopped }
+
+pub returns-in-Err-Refused-clause-complete : goal.returns-in-Err-Refused-clause-complete
+returns-in-Err-Refused-clause-complete g c = λ s told sure written. absurd (c.in-Err-Refused.ensures.only_faults s c.in-Err-Refused.fault told (cc c.in-Err-Refused.field-0-is))
