@@ -1,0 +1,115 @@
+//! Random scripts of version 2. They use few registers, numbers and fields, so that domains meet.
+
+/// Numbers that look random, the same for each seed.
+pub struct Dice(u64);
+
+impl Dice {
+    pub fn new(seed: u64) -> Dice {
+        Dice(seed.wrapping_mul(0x9E37_79B9_7F4A_7C15) | 1)
+    }
+
+    /// A number below this one.
+    fn below(&mut self, end: usize) -> usize {
+        self.0 ^= self.0 << 13;
+        self.0 ^= self.0 >> 7;
+        self.0 ^= self.0 << 17;
+        (self.0 >> 33) as usize % end
+    }
+
+    fn one_of<T: Copy>(&mut self, of: &[T]) -> T {
+        of[self.below(of.len())]
+    }
+}
+
+/// How many commands each of so many domains has.
+const LENGTHS: [usize; 8] = [60, 24, 12, 8, 6, 5, 4, 4];
+const COUNTS: [usize; 8] = [1, 1, 2, 2, 3, 126, 127, 1022];
+const WORDS: [&str; 40] = [
+    "int",
+    "int",
+    "int",
+    "move",
+    "drop",
+    "drop",
+    "alloc",
+    "alloc",
+    "alloc",
+    "allocmaj",
+    "raw",
+    "raw",
+    "raw",
+    "load",
+    "load",
+    "load",
+    "load",
+    "store",
+    "store",
+    "store",
+    "store",
+    "store",
+    "cas",
+    "cas",
+    "cas",
+    "cas",
+    "cas",
+    "cas",
+    "ephe",
+    "set_key",
+    "get_key",
+    "check_key",
+    "set_data",
+    "get_data",
+    "finalise",
+    "finalise_last",
+    "poll",
+    "minor",
+    "major",
+    "full_major",
+];
+
+fn command(dice: &mut Dice) -> String {
+    let word = dice.one_of(&WORDS);
+    let register = |dice: &mut Dice| dice.below(5);
+    let index = |dice: &mut Dice| dice.one_of(&[0, 0, 0, 1, 1, 2, 1021]);
+    let (a, b, c) = (register(dice), register(dice), register(dice));
+    match word {
+        "int" => format!("int {a} {}", dice.below(3)),
+        "move" => format!("move {a} {b}"),
+        "drop" => format!("drop {a}"),
+        "alloc" | "allocmaj" => format!(
+            "{word} {} {} {}",
+            1 + dice.below(4),
+            dice.below(3),
+            dice.one_of(&COUNTS)
+        ),
+        "raw" => format!(
+            "raw {} {} {}",
+            1 + dice.below(4),
+            251 + dice.below(5),
+            dice.one_of(&COUNTS)
+        ),
+        "load" => format!("load {a} {b} {}", index(dice)),
+        "store" => format!("store {a} {} {b}", index(dice)),
+        "cas" => format!("cas {} {} {b} {c}", dice.one_of(&[0, 0, a]), index(dice)),
+        "ephe" => format!("ephe {a} {}", 1 + dice.below(2)),
+        "set_key" => format!("set_key {a} {} {b}", dice.below(2)),
+        "get_key" => format!("get_key {a} {b} {}", dice.below(2)),
+        "check_key" => format!("check_key {a} {}", dice.below(2)),
+        "set_data" => format!("set_data {a} {b}"),
+        "get_data" => format!("get_data {a} {b}"),
+        "finalise" => format!("finalise {a} {} {b}", dice.below(9)),
+        "finalise_last" => format!("finalise_last {a} {}", dice.below(9)),
+        _ => word.to_owned(),
+    }
+}
+
+/// A script, and for how many domains it is.
+pub fn script(dice: &mut Dice) -> (String, usize) {
+    let domains = 1 + dice.below(LENGTHS.len());
+    let mut lines = vec!["heap 2".to_owned()];
+    for domain in 0..domains {
+        lines.push(format!("domain {domain}"));
+        lines.extend((0..LENGTHS[domains - 1]).map(|_| command(dice)));
+    }
+    (lines.join("\n") + "\n", domains)
+}
