@@ -1,11 +1,9 @@
 -- What the clauses of `turn` refuse.
-use Rattle.std.proofs.Common.{◌≡◌, ◌≢◌, ◌∙◌, ℕ, ◌+◌, ◌<◌, ◌≤◌, ◌⊎◌, Bool, true, false, Some, None, List, [], ◌∷◌, ◌++◌, ◌&&◌, length, Option, refl, sym, ap, ⊎_elim, subst, arith}
-use Rattle.heap_model.specs.declared.command.Command as model
-use Rattle.heap_model.specs.declared.command.Command.TheVariants.{Alloc, AllocMaj, Ephe, Minor, Poll}
+use Rattle.std.proofs.Common.{◌≡◌, ◌≢◌, ◌∙◌, ℕ, ◌+◌, ◌<◌, ◌≤◌, Bool, true, false, None, List, [], ◌∷◌, ◌++◌, ◌&&◌, length, Option, refl, sym, ap, ⊎_elim, arith}
+use Rattle.heap_model.specs.declared.command.Command.TheVariants.{AllocMaj, Minor}
 use Rattle.heap_model.specs.declared.reply.Reply.{Reply}
 use Rattle.heap_rule.specs.declared.config.Config.{Config}
 use Rattle.heap_rule.specs.declared.phase.Kind.{Kind}
-use Rattle.heap_rule.specs.declared.phase.Note.{Note}
 use Rattle.heap_rule.specs.declared.phase.Note.TheVariants.{Asked}
 use Rattle.heap_rule.specs.declared.view.DomainView.{DomainView}
 use Rattle.heap_rule.specs.declared.view.Waiting.{Waiting}
@@ -16,10 +14,9 @@ use Rattle.heap_model.specs.Domains.{reserve}
 use Rattle.heap_rule.specs.Limits.{sizes_in}
 use Rattle.std.proofs.lemmas.Bool.{le-leb, lt-leb}
 use Rattle.domain_turns.specs.Pausing.{LeavesOdd, blocks_left}
-use Rattle.domain_turns.specs.Runs.{Asks, AsksFull, CalmDid, EndsTrace, Polls, RunView, RunsFinaliser, SeesAnswer, Stops, TriesCommand, WorksBeside, asking_end, is_asked, may_use_up, served_since}
+use Rattle.domain_turns.specs.Runs.{CalmDid, EndsTrace, Polls, RunView, RunsFinaliser, SeesAnswer, Stops, TriesCommand, WorksBeside, asking_end, is_asked, may_use_up, served_since}
 use Rattle.domain_turns.specs.Runs.CalmDid.{Finalises, Wishes, Refuses, Tries, Works, Ends}
-use Rattle.domain_turns.specs.Tries.{HasPool, HasNoPool, NeedsPause, Stands}
-use Rattle.finaliser_queues.specs.declared.running.Ran.{Ran}
+use Rattle.domain_turns.specs.Tries.{HasPool, Stands}
 
 -- the domain's queue of finalisers
 abbrev queue_of : RunView → List Waiting
