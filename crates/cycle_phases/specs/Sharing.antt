@@ -25,7 +25,7 @@ IsShared Reset = ⊥
 IsShared Answer = ⊥
 IsShared _ = Unit {0}
 
--- what a share makes of the counts of the domain's hints: where blocks are marked none falls, and in each other phase they stay as they are
+-- what a share makes of the counts of the domain's hints: in Roots and in Mark none falls, and in each other phase they stay as they are
 abbrev pub HintsIn : Kind → Counts → Counts → Type 0
 HintsIn Roots l m = NotesOn l m
 HintsIn Mark l m = NotesOn l m

@@ -25,7 +25,7 @@ a_seen_answer_lets_no_hint_go h old new s = ap (λ (r : RunView). r.hints) s.run
 pub an_answer_lets_no_hint_go : (h : SharedHeap) (old new : RunView) → IsAnswered h old new → new.hints ≡ old.hints
 an_answer_lets_no_hint_go h old new a = ap (λ (r : RunView). r.hints) a.run
 
--- nor one that goes through a phase in which neither roots nor the fields of marked blocks are marked
+-- nor one that goes through a phase of any kind but Roots and Mark
 unmarked : (kind : Kind) (l m : Counts) → kind ≢ Roots → kind ≢ Mark → HintsIn kind l m → m ≡ l
 unmarked Roots l m roots mark hints = absurd (roots refl)
 unmarked Mark l m roots mark hints = absurd (mark refl)
@@ -40,8 +40,8 @@ unmarked Lasts l m roots mark hints = hints
 unmarked Sweep l m roots mark hints = hints
 unmarked Answer l m roots mark hints = hints
 
-pub no_hint_goes_where_nothing_is_marked : (h : SharedHeap) (old new : RunView) (g : GoesBy h old new) → g.kind ≢ Roots → g.kind ≢ Mark → new.hints ≡ old.hints
-no_hint_goes_where_nothing_is_marked h old new g roots mark = ⊎_elim
+pub no_hint_goes_but_in_roots_and_mark : (h : SharedHeap) (old new : RunView) (g : GoesBy h old new) → g.kind ≢ Roots → g.kind ≢ Mark → new.hints ≡ old.hints
+no_hint_goes_but_in_roots_and_mark h old new g roots mark = ⊎_elim
     (λ (e : IsEven old.token.view.own.arrivals × HintsIn g.kind old.hints new.hints). unmarked g.kind old.hints new.hints roots mark e.1)
     (λ (o : IsOdd old.token.view.own.arrivals × (new.hints ≡ old.hints)). o.1)
     g.hints
