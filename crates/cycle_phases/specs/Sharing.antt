@@ -4,7 +4,7 @@ use Rattle.heap_model.specs.Fronts.{IsFrontOf}
 use Rattle.heap_model.specs.History.{Legal}
 use Rattle.heap_rule.specs.declared.config.Config.{Config}
 use Rattle.heap_rule.specs.declared.phase.Kind.{Kind}
-use Rattle.heap_rule.specs.declared.phase.Kind.TheVariants.{Run, Promote, Reset, Decide, Clean, Lasts, Sweep, Answer}
+use Rattle.heap_rule.specs.declared.phase.Kind.TheVariants.{Run, Promote, Reset, Roots, Mark, Decide, Clean, Lasts, Sweep, Answer}
 use Rattle.heap_rule.specs.declared.view.DomainView.{DomainView}
 use Rattle.heap_rule.specs.declared.view.Finalisers.{Finalisers}
 use Rattle.heap_rule.specs.declared.view.Waiting.{Waiting}
@@ -13,6 +13,7 @@ use Rattle.heap_rule.specs.Limits.{sizes_in}
 use Rattle.heap_rule.specs.Sweeping.{nothing_swept}
 use Rattle.steps_finalisers.specs.Registering.{count_of}
 use Rattle.steps_pauses.specs.Pauses.{HasDone, arrived_view}
+use Rattle.mark_slices.specs.Decks.{Counts, NotesOn}
 use Rattle.sweeper.specs.Sweeping.{LooksAgain}
 use Rattle.finaliser_queues.specs.Deciding.{Splits, as_waiting, as_waiting_last}
 
@@ -23,6 +24,12 @@ IsShared Promote = ⊥
 IsShared Reset = ⊥
 IsShared Answer = ⊥
 IsShared _ = Unit {0}
+
+-- what a share makes of the counts of the domain's hints: where blocks are marked none falls, and in each other phase they stay as they are
+abbrev pub HintsIn : Kind → Counts → Counts → Type 0
+HintsIn Roots l m = NotesOn l m
+HintsIn Mark l m = NotesOn l m
+HintsIn _ l m = m ≡ l
 
 -- the domain with what a share changes of what it owns, and with a front, as another has it
 abbrev pub with_shared : DomainView → DomainView → DomainView

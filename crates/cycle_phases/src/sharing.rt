@@ -7,7 +7,7 @@ ghost use Rattle.heap_rule.specs.Token.{IsIn};
 ghost use Rattle.heap_rule.specs.Views.{voided};
 ghost use Rattle.steps_pauses.specs.Pauses.{arrived_view};
 ghost use Rattle.mark_slices.specs.Decks.{NotesOn};
-ghost use Rattle.cycle_phases.specs.Sharing.{IsShared, SharesIn, Works};
+ghost use Rattle.cycle_phases.specs.Sharing.{HintsIn, IsShared, SharesIn, Works};
 
 use ephemeron_rounds::{clean, round};
 use finaliser_queues::{darken_queued, decide, last};
@@ -55,6 +55,7 @@ fn work(heap: &Heap, dom: &mut Domain, kind: Kind, hints: &mut Hints)
     ensures here { IsIn dom.new heap.now }
     ensures works { Works heap.now.config kind dom.old.view dom.new.view }
     ensures notes { NotesOn hints.old hints.new }
+    ensures hints { HintsIn kind hints.old hints.new }
 {
     match kind {
         Kind::Roots => start_roots(heap, dom, hints),
@@ -84,7 +85,8 @@ fn work(heap: &Heap, dom: &mut Domain, kind: Kind, hints: &mut Hints)
 /// sweeps, from where it looks for free places, and its list of ephemerons, in which there is room for no
 /// fewer; what it has swept; and, where registrations are decided, its lists of finalisers, of which none
 /// is lost and none comes up. Its front stays but where registrations are decided and where keys are
-/// emptied, and grows there by no entry of its own.
+/// emptied, and grows there by no entry of its own. Where neither roots nor the fields of marked blocks
+/// are marked it leaves its hints alone.
 pub fn share(heap: &Heap, dom: &mut Domain, kind: Kind, hints: &mut Hints)
     requires here { IsIn dom.old heap.now }
     requires phase { IsShared kind }
@@ -96,6 +98,7 @@ pub fn share(heap: &Heap, dom: &mut Domain, kind: Kind, hints: &mut Hints)
     ensures here { IsIn dom.new heap.now }
     ensures shares { SharesIn heap.now.config kind dom.old.view dom.new.view }
     ensures notes { NotesOn hints.old hints.new }
+    ensures hints { HintsIn kind hints.old hints.new }
 {
     work(heap, dom, kind, hints);
     arrive(heap, dom);

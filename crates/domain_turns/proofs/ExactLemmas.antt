@@ -11,7 +11,7 @@ use Rattle.heap_rule.specs.declared.view.Hunt.TheVariants.{Rests as AtRest}
 use Rattle.size_pools.proofs.Seeking.{sought_view}
 use Rattle.domain_turns.proofs.Working.{works_keeps}
 use Rattle.domain_turns.specs.Runs.{RunView, CalmDid, RunAnswers, TurnAnswers, Starts, Stops, Resumes, GoesBy, IsAnswered, SeesAnswer, wanting, asking_end}
-use Rattle.domain_turns.specs.Pausing.{ComesToAnswer, knowing_blocks}
+use Rattle.domain_turns.specs.Pausing.{ComesToAnswer}
 use Rattle.domain_turns.specs.Tries.{wish_of}
 use Rattle.heap_rule.specs.declared.config.Config.{Config}
 use Rattle.heap_rule.specs.Standing.{with_front}
@@ -108,7 +108,7 @@ sign h old new Did says = ⊎_elim
     (⊎_elim
     (λ (a : IsAnswered h old new). inl (answer_arrives h.config old.token.view a.answers.begun new.token.view (with_front a.answers.begun a.answers.front) a.answers.comes a.answers.view refl))
     (⊎_elim
-    (λ (s : (blocks : ℕ) × SeesAnswer h old new blocks). let g = s.1.gives in inl (answer_arrives h.config old.token.view g.begun new.token.view (knowing_blocks g.begun s.0) g.comes g.view refl))
+    (λ (s : SeesAnswer h old new). let g = s.gives in inl (answer_arrives h.config old.token.view g.begun new.token.view (with_front g.begun new.token.view.seen.front) g.comes g.view refl))
     (λ (t : (start : RunView) × Starts h old start × RunAnswers h start new Did). from_start h old t.0 new Did (starts_same h old t.0 t.1) (run_sign h t.0 new Did t.2))))
     says
 sign h old new (Waiting b) w = (ap arrivals w.run, (Barrier b, notes old, ap notes w.run, refl))

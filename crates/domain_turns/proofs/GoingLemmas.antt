@@ -126,12 +126,15 @@ gone_goes h old new g =
 answer_front : (k : Config) (x begun : DomainView) → ComesToAnswer k x begun → IsPrefix x.seen.front begun.seen.front
 answer_front k x begun c = front_prefix _ _ _ c.passed.seen
 
-pub seen_goes : (h : SharedHeap) (old new : RunView) (blocks : ℕ) → SeesAnswer h old new blocks → GoesOn old new
-seen_goes h old new blocks s = record {
-  commands = ap (λ (r : RunView). r.commands) s.run;
-  number = ap (λ (x : DomainView). x.own.number) s.gives.view ∙ ap (λ (x : DomainView). x.own.number) s.gives.comes.passed.view;
-  front = subst (IsPrefix old.token.view.seen.front) (sym (ap (λ (x : DomainView). x.seen.front) s.gives.view)) (answer_front h.config old.token.view s.gives.begun s.gives.comes);
-}
+pub seen_goes : (h : SharedHeap) (old new : RunView) → SeesAnswer h old new → GoesOn old new
+seen_goes h old new s =
+    let g = s.gives in
+    let p = answer_front h.config old.token.view g.begun g.comes in
+    let q = front_prefix _ _ _ g.seen in record {
+      commands = ap (λ (r : RunView). r.commands) s.run;
+      number = ap (λ (x : DomainView). x.own.number) g.view ∙ ap (λ (x : DomainView). x.own.number) g.comes.passed.view;
+      front = record { rest = p.rest ++ q.rest; appends = q.appends ∙ (ap (λ (xs : List Entry). xs ++ q.rest) p.appends ∙ append_assoc old.token.view.seen.front p.rest q.rest) };
+    }
 
 pub answered_goes : (h : SharedHeap) (old new : RunView) → IsAnswered h old new → GoesOn old new
 answered_goes h old new s =
@@ -148,6 +151,6 @@ answered_goes h old new s =
 pub past_goes : (h : SharedHeap) (old new : RunView) (past : Past) → PastAnswers h old new past → GoesOn old new
 past_goes h old new (Waits b) w = record { commands = ap (λ (r : RunView). r.commands) w.run; number = ap (λ (r : RunView). r.token.view.own.number) w.run; front = same_prefix _ _ (ap (λ (r : RunView). r.token.view.seen.front) w.run) }
 past_goes h old new (Arrived kind) g = gone_goes h old new g
-past_goes h old new (Answered blocks None) g = seen_goes h old new blocks g
+past_goes h old new (Answered blocks None) g = seen_goes h old new g
 past_goes h old new (Answered blocks (Some reply)) g = answered_goes h old new g
 past_goes h old new Runs r = record { commands = ap (λ (x : RunView). x.commands) r.run; number = ap (λ (x : DomainView). x.own.number) r.passed.view; front = front_prefix _ _ _ r.passed.seen }

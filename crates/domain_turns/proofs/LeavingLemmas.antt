@@ -31,7 +31,7 @@ use Rattle.cycle_phases.specs.Leading.{LeadsOn}
 use Rattle.heap_rule.specs.declared.view.Finalisers.{Finalisers}
 use Rattle.steps_finalisers.specs.Registering.{count_of}
 use Rattle.domain_turns.specs.Tries.{IsFresh}
-use Rattle.domain_turns.specs.Pausing.{IsQuiet, IsPast, IsReady, HasLeft, KnowsAnswer, KnowsProgress, LeavesEven, LeavesOdd, ComesToAnswer, GivesBack, AnswersFrom, knowing_blocks}
+use Rattle.domain_turns.specs.Pausing.{IsQuiet, IsPast, IsReady, HasLeft, KnowsAnswer, KnowsProgress, LeavesEven, LeavesOdd, ComesToAnswer, GivesBack, AnswersFrom, CountsAndAnswers}
 use Rattle.domain_turns.specs.Runs.{IsBetween, Passes}
 use Rattle.domain_turns.proofs.Moving.{Moves, view_moves}
 use Rattle.domain_turns.proofs.Owing.{bare_count}
@@ -222,9 +222,12 @@ pub even_knows : (k : Config) (kind : Kind) (x b y : DomainView) (p : Progress) 
 even_knows k kind x b y p passed stage l knows = knows_on b y p (sym (ap (λ (v : DomainView). v.own.number) passed.view ∙ sym (even_leaves k x b y kind passed stage l).number)) (even_progress k kind b y l) (looked_knows k x b p passed knows)
 
 -- nor where a collection is answered
-pub answer_knows : (k : Config) (b y : DomainView) (live : Bool) (blocks : ℕ) (o : Option Reply) (p : Progress) → AnswersFrom k b y live blocks o → KnowsProgress p b → KnowsProgress p y
-answer_knows k b y live blocks None p a = knows_on b y p (ap (λ (v : DomainView). v.own.number) a.1) (ap (λ (v : DomainView). v.seen.share.progress) a.1)
-answer_knows k b y live blocks (Some reply) p a = knows_on b y p (ap (λ (v : DomainView). v.own.number) a.1.2 ∙ ap (λ (v : DomainView). v.own.number) a.1.1.view) (ap (λ (v : DomainView). v.seen.share.progress) a.1.2 ∙ ap (λ (v : DomainView). v.seen.share.progress) a.1.1.view)
+answered_knows : (k : Config) (b y : DomainView) (live : Bool) (blocks : ℕ) (o : Option Reply) (p : Progress) → AnswersFrom k b y live blocks o → KnowsProgress p b → KnowsProgress p y
+answered_knows k b y live blocks None p a = knows_on b y p (ap (λ (v : DomainView). v.own.number) a.1) (ap (λ (v : DomainView). v.seen.share.progress) a.1)
+answered_knows k b y live blocks (Some reply) p a = knows_on b y p (ap (λ (v : DomainView). v.own.number) a.1.2 ∙ ap (λ (v : DomainView). v.own.number) a.1.1.view) (ap (λ (v : DomainView). v.seen.share.progress) a.1.2 ∙ ap (λ (v : DomainView). v.seen.share.progress) a.1.1.view)
+
+pub answer_knows : (k : Config) (b y : DomainView) (live : Bool) (blocks : ℕ) (o : Option Reply) (p : Progress) → CountsAndAnswers k b y live blocks o → KnowsProgress p b → KnowsProgress p y
+answer_knows k b y live blocks o p a knows = answered_knows k a.0 y live blocks o p a.2 (knows_on b a.0 p (ap (λ (v : DomainView). v.own.number) a.1.view) (ap (λ (v : DomainView). v.seen.share.progress) a.1.view) knows)
 
 -- who comes to a phase in which a collection is answered, and leaves it with this front
 answer_past : (k : Config) (x begun y : DomainView) (front : List Entry) → ComesToAnswer k x begun → y ≡ arrived_view (with_front begun front) → HasLeft k Answer y
@@ -248,14 +251,17 @@ answer_between h x begun new front asked collected progress i quiet c is fresh k
   knows = knows;
 }
 
-pub gives_moves : (h : SharedHeap) (old new : Token) (blocks : ℕ) → IsIn old h → IsIn new h → GivesBack h.config old.view new.view blocks → Moves old new
-gives_moves h old new blocks a i g =
-    let number : g.begun.own.number ≡ old.view.own.number = ap (λ (z : DomainView). z.own.number) g.comes.passed.view in
-    view_moves h old new (arrived_view (knowing_blocks g.begun blocks)) a i g.view number (ap (λ (z : DomainView). z.own.serial) g.comes.passed.view) (ap (λ (z : DomainView). z.own.ephemerons) g.comes.passed.view) (ap (λ (z : DomainView). z.own.finalisers) g.comes.passed.view) (ap (λ (z : DomainView). z.seen.made) g.comes.passed.view) (ap (λ (z : DomainView). z.seen.hunt) g.comes.passed.view) g.comes.passed.seen
+pub gives_moves : (h : SharedHeap) (old new : Token) → IsIn old h → IsIn new h → GivesBack h.config old.view new.view → Moves old new
+gives_moves h old new a i g =
+    let passed = g.comes.passed in
+    let number : g.begun.own.number ≡ old.view.own.number = ap (λ (z : DomainView). z.own.number) passed.view in
+    let front : List Entry = new.view.seen.front in
+    view_moves h old new (arrived_view (with_front g.begun front)) a i g.view number (ap (λ (z : DomainView). z.own.serial) passed.view) (ap (λ (z : DomainView). z.own.ephemerons) passed.view) (ap (λ (z : DomainView). z.own.finalisers) passed.view) (ap (λ (z : DomainView). z.seen.made) passed.view) (ap (λ (z : DomainView). z.seen.hunt) passed.view)
+    (front_trans old.view.own.number front g.begun.seen.front old.view.seen.front (subst (λ (d : ℕ). IsFrontOf d front g.begun.seen.front) number g.seen) passed.seen)
 
-pub gives_between : (h : SharedHeap) (old new : Token) (blocks : ℕ) (asked : Option ℕ) (collected : Bool) (progress : Progress) → IsIn new h → IsQuiet old.view → GivesBack h.config old.view new.view blocks → KnowsProgress progress new.view → IsBetween (Some Answer) asked collected progress new
-gives_between h old new blocks asked collected progress i quiet g knows = answer_between h old.view g.begun new g.begun.seen.front asked collected progress i quiet g.comes g.view
-    (λ _. subst (IsFresh h.config) (sym g.view) (g.comes.ready.fresh refl)) knows
+pub gives_between : (h : SharedHeap) (old new : Token) (asked : Option ℕ) (collected : Bool) (progress : Progress) → IsIn new h → IsQuiet old.view → GivesBack h.config old.view new.view → KnowsProgress progress new.view → IsBetween (Some Answer) asked collected progress new
+gives_between h old new asked collected progress i quiet g knows = answer_between h old.view g.begun new new.view.seen.front asked collected progress i quiet g.comes g.view
+    (λ _. fresh_on h.config g.begun new.view (ap (λ (z : DomainView). z.own.number) g.view) g.seen (g.comes.ready.fresh refl)) knows
 
 pub passes_moves : (h : SharedHeap) (old new : Token) (before kind : Kind) → IsIn old h → IsIn new h → Passes h.config old.view new.view before kind → Moves old new
 passes_moves h old new before kind a i says =

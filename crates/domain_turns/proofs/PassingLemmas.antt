@@ -1,12 +1,15 @@
 -- What the pass through a phase is of a run.
-use Rattle.std.proofs.Common.{◌≡◌, ◌∙◌, ℕ, ◌<◌, Bool, false, Option, Some, None, length, refl, sym, ap, subst}
+use Rattle.std.proofs.Common.{true≢false, ◌≡◌, ◌∙◌, ℕ, ◌<◌, Bool, false, List, Option, Some, None, length, refl, sym, ap, subst}
 use Rattle.heap_model.specs.declared.command.Command.TheVariants.{FullMajor}
+use Rattle.heap_model.specs.declared.entry.Entry.{Entry}
 use Rattle.heap_model.specs.declared.entry.Entry.TheVariants.{Command as CommandOf}
+use Rattle.heap_model.specs.declared.state.Mode.TheVariants.{Answer as AnswerMode}
 use Rattle.heap_model.specs.declared.reply.Reply.{Reply}
 use Rattle.heap_model.specs.declared.reply.Applied.TheVariants.{Replied}
-use Rattle.heap_model.specs.Domains.{domain_at, opening}
-use Rattle.heap_model.specs.Fronts.{Answers}
-use Rattle.heap_model.proofs.Histories.FrontLemmas.{keeps_front}
+use Rattle.heap_model.specs.Domains.{domain_at, opening, reach}
+use Rattle.heap_model.specs.Fronts.{Answers, IsFrontOf}
+use Rattle.heap_model.specs.History.{Legal}
+use Rattle.heap_model.proofs.Histories.FrontLemmas.{answers_after, keeps_front}
 use Rattle.heap_rule.specs.declared.config.Config.{Config}
 use Rattle.heap_rule.specs.declared.phase.Kind.{Kind}
 use Rattle.heap_rule.specs.declared.phase.Kind.TheVariants.{Run, Answer}
@@ -17,13 +20,14 @@ use Rattle.heap_rule.specs.Limits.{sizes_in}
 use Rattle.heap_rule.specs.Phases.{Comes, IsEven}
 use Rattle.heap_rule.specs.Rule.{state_of}
 use Rattle.heap_rule.specs.Token.{Token, SharedHeap, IsIn}
-use Rattle.heap_rule.specs.Standing.{noted}
+use Rattle.heap_rule.specs.Standing.{noted, with_front}
 use Rattle.steps_pauses.specs.Pauses.{arrived_view, IsModeOf}
 use Rattle.mark_slices.specs.Decks.{Counts, StaysDeck}
 use Rattle.safepoint.specs.Looks.{Passed}
+use Rattle.steps_sweep.specs.Answering.{LiveBlocksTold}
 use Rattle.heap_rule.specs.declared.phase.Progress.{Progress}
 use Rattle.domain_turns.specs.declared.passing.Past.TheVariants.{Answered}
-use Rattle.domain_turns.specs.Pausing.{HasLeft, IsCollected, KnowsProgress, ComesToAnswer, GivesBack, AnswersFrom, due_of}
+use Rattle.domain_turns.specs.Pausing.{HasLeft, IsCollected, KnowsProgress, ComesToAnswer, CountsAndAnswers, GivesBack, due_of}
 use Rattle.domain_turns.specs.Past.{PassAnswers}
 use Rattle.domain_turns.specs.Runs.{RunView, IsRun, IsBetween, Passes}
 use Rattle.domain_turns.proofs.Owing.{due_on}
@@ -36,11 +40,33 @@ pub comes_to : (k : Config) (known : Kind) (x y : DomainView) → x.own.number <
 comes_to k known x y inside left p stage even comes mode = record { passed = p; stage = stage; even = even; ready = ready_next k known Answer x y inside left p even comes mode }
 
 -- what it then did
-pub answers_pass : (k : Config) (x begun y : DomainView) (known : Kind) (live : Bool) (blocks : ℕ) (o : Option Reply) → ComesToAnswer k x begun → AnswersFrom k begun y live blocks o → PassAnswers k x y known live (Answered blocks o)
-answers_pass k x begun y known live blocks None c a = (a.0, record { begun = begun; comes = c; view = a.1 })
-answers_pass k x begun y known live blocks (Some reply) c a =
+pub answers_pass : (k : Config) (x begun y : DomainView) (known : Kind) (live : Bool) (blocks : ℕ) (o : Option Reply) → ComesToAnswer k x begun → CountsAndAnswers k begun y live blocks o → PassAnswers k x y known live (Answered blocks o)
+answers_pass k x begun y known live blocks None c counts =
+    let counted : DomainView = counts.0 in
+    let told = counts.1 in
+    let a = counts.2 in
+    let front : counted.seen.front ≡ y.seen.front = sym (ap (λ (v : DomainView). v.seen.front) a.1) in (
+      a.0,
+      record {
+        begun = begun;
+        comes = c;
+        seen = subst (λ (f : List Entry). IsFrontOf begun.own.number f begun.seen.front) front told.seen;
+        legal = subst (λ (f : List Entry). Legal (sizes_in k) f) front told.legal;
+        answers = subst (λ (f : List Entry). (state_of k f).mode ≡ AnswerMode) front told.answers;
+        view = a.1 ∙ (ap arrived_view told.view ∙ ap (λ (f : List Entry). arrived_view (with_front begun f)) front);
+      },
+      subst (λ (f : List Entry). blocks ≡ length (reach (state_of k f))) front told.counts,
+    )
+answers_pass k x begun y known live blocks (Some reply) c counts =
+    let told = counts.1 in
+    let a = counts.2 in
     let l = a.1.1 in
-    let number : begun.own.number ≡ x.own.number = ap (λ (v : DomainView). v.own.number) c.passed.view in (
+    let number : begun.own.number ≡ x.own.number = ap (λ (v : DomainView). v.own.number) c.passed.view in
+    let same : counts.0.own.number ≡ begun.own.number = ap (λ (v : DomainView). v.own.number) told.view in
+    let front : List Entry = a.1.0.seen.front in
+    let answers : Answers (sizes_in k) begun.own.number begun.seen.front front (CommandOf begun.own.number FullMajor false) (Replied reply) =
+    answers_after (sizes_in k) begun.own.number begun.seen.front counts.0.seen.front front (CommandOf begun.own.number FullMajor false) (Replied reply) told.seen (λ running. absurd (true≢false running))
+    (subst (λ (d : ℕ). Answers (sizes_in k) d counts.0.seen.front front (CommandOf d FullMajor false) (Replied reply)) same l.answers) in (
       a.0,
       record {
         begun = begun;
@@ -49,12 +75,19 @@ answers_pass k x begun y known live blocks (Some reply) c a =
         blocks = blocks;
         words = l.words;
         reply_is = l.reply_is;
-        front = a.1.0.seen.front;
-        answers = subst (λ (d : ℕ). Answers (sizes_in k) d begun.seen.front a.1.0.seen.front (CommandOf d FullMajor false) (Replied reply)) number l.answers;
-        view = a.1.2 ∙ ap arrived_view l.view;
+        front = front;
+        answers = subst (λ (d : ℕ). Answers (sizes_in k) d begun.seen.front front (CommandOf d FullMajor false) (Replied reply)) number answers;
+        view = a.1.2 ∙ (ap arrived_view l.view ∙ ap (λ (v : DomainView). arrived_view (with_front v front)) told.view);
         due = subst (λ (v : DomainView). due_of k v ≡ length v.own.finalisers.queue.items) (sym a.1.2) l.due;
       },
     )
+
+-- who goes on still does where the whole history is seen, and owes what it did
+pub counts_goes_on : (k : Config) (x y : DomainView) (blocks : ℕ) → LiveBlocksTold k x blocks y → (domain_at (state_of k x.seen.front) x.own.number).ended ≡ false → (domain_at (state_of k y.seen.front) y.own.number).ended ≡ false
+counts_goes_on k x y blocks told goes = subst (λ (d : ℕ). (domain_at (state_of k y.seen.front) d).ended ≡ false) (sym (ap (λ (v : DomainView). v.own.number) told.view)) ((keeps_front (opening (sizes_in k)) x.own.number y.seen.front x.seen.front told.seen).ended ∙ goes)
+
+pub counts_paid : (k : Config) (x y : DomainView) (blocks : ℕ) → LiveBlocksTold k x blocks y → due_of k x ≡ 0 → due_of k y ≡ 0
+counts_paid k x y blocks told paid = due_on k x y (ap (λ (v : DomainView). v.own.number) told.view) told.seen ∙ paid
 
 -- who goes on still does after a look
 pub look_goes_on : (k : Config) (x y : DomainView) → Passed k x y → (domain_at (state_of k x.seen.front) x.own.number).ended ≡ false → (domain_at (state_of k y.seen.front) y.own.number).ended ≡ false
@@ -71,8 +104,8 @@ between_of r known is left = subst (λ (l : Option Kind). IsBetween l r.asked r.
 pub arrived_is_run : (h : SharedHeap) (r : RunView) (new : Token) (last kind : Kind) (progress : Progress) (hints : Counts) → StaysDeck r.hints hints → IsRun r → r.left ≡ Some last → IsIn r.token h → IsIn new h → Passes h.config r.token.view new.view last kind → KnowsProgress progress new.view → IsRun (record r { token = new; left = Some kind; progress = progress; hints = hints })
 arrived_is_run h r new last kind progress hints stays is left was here p knows = moved_is_run r new (Some kind) r.asked r.collected progress hints is stays (passes_moves h r.token new last kind was here p) (passes_between h r.token new last kind r.asked r.collected r.progress progress is.inside was here (between_of r last is left) p knows)
 
-pub gives_is_run : (h : SharedHeap) (r : RunView) (new : Token) (blocks : ℕ) (collected : Bool) (progress : Progress) (hints : Counts) → StaysDeck r.hints hints → IsRun r → IsIn r.token h → IsIn new h → GivesBack h.config r.token.view new.view blocks → KnowsProgress progress new.view → IsRun (record r { token = new; left = Some Answer; collected = collected; progress = progress; hints = hints })
-gives_is_run h r new blocks collected progress hints stays is was here g knows = moved_is_run r new (Some Answer) r.asked collected progress hints is stays (gives_moves h r.token new blocks was here g) (gives_between h r.token new blocks r.asked collected progress here is.between.quiet g knows)
+pub gives_is_run : (h : SharedHeap) (r : RunView) (new : Token) (collected : Bool) (progress : Progress) (hints : Counts) → StaysDeck r.hints hints → IsRun r → IsIn r.token h → IsIn new h → GivesBack h.config r.token.view new.view → KnowsProgress progress new.view → IsRun (record r { token = new; left = Some Answer; collected = collected; progress = progress; hints = hints })
+gives_is_run h r new collected progress hints stays is was here g knows = moved_is_run r new (Some Answer) r.asked collected progress hints is stays (gives_moves h r.token new was here g) (gives_between h r.token new r.asked collected progress here is.between.quiet g knows)
 
 pub waits_is_run : (h : SharedHeap) (r : RunView) (new : Token) (last : Kind) (b : ℕ) (progress : Progress) (hints : Counts) → StaysDeck r.hints hints → IsRun r → r.left ≡ Some last → IsIn r.token h → IsIn new h → new.view ≡ noted r.token.view (Barrier b) → KnowsProgress progress new.view → IsRun (record r { token = new; left = Some last; progress = progress; hints = hints })
 waits_is_run h r new last b progress hints stays is left was here says knows = moved_is_run r new (Some last) r.asked r.collected progress hints is stays (still_moves h r.token new _ was here says refl refl refl refl refl refl refl) (waits_between h r.token new last r.asked r.collected r.progress progress b was here (between_of r last is left) says knows)

@@ -7,8 +7,9 @@ use Rattle.heap_model.specs.declared.reply.Reply.{Reply}
 use Rattle.heap_model.specs.declared.reply.Reply.TheVariants.{Live}
 use Rattle.heap_model.specs.declared.reply.Applied.TheVariants.{Replied}
 use Rattle.heap_model.specs.declared.state.Mode.TheVariants.{Answer as Answered}
-use Rattle.heap_model.specs.Domains.{domain_at}
-use Rattle.heap_model.specs.Fronts.{Answers}
+use Rattle.heap_model.specs.Domains.{domain_at, reach}
+use Rattle.heap_model.specs.Fronts.{Answers, IsFrontOf}
+use Rattle.heap_model.specs.History.{Legal}
 use Rattle.heap_rule.specs.declared.config.Config.{Config}
 use Rattle.heap_rule.specs.declared.view.DomainView.{DomainView}
 use Rattle.heap_rule.specs.declared.phase.Kind.{Kind}
@@ -23,9 +24,9 @@ use Rattle.heap_rule.specs.Standing.{with_front}
 use Rattle.heap_rule.specs.Views.{voided}
 use Rattle.steps_pauses.specs.Pauses.{arrived_view}
 use Rattle.safepoint.specs.Looks.{Passed}
-use Rattle.steps_promote.specs.Promotion.{NoneYoung, reset_view}
+use Rattle.steps_promote.specs.Promotion.{reset_view}
 use Rattle.promote_claim.specs.Sharing.{Unprepared, Shared}
-use Rattle.steps_cycle.specs.Looks.{with_share}
+use Rattle.steps_sweep.specs.Answering.{LiveBlocksTold}
 use Rattle.heap_rule.specs.declared.phase.Progress.{Progress}
 use Rattle.cycle_phases.specs.Sharing.{SharesIn}
 use Rattle.cycle_phases.specs.Leading.{LeadsOn}
@@ -74,11 +75,10 @@ pub record LeavesPromote (k : Config) (x y : DomainView) : Type 0 where
   pub shared : Shared k x done
   pub view : y ≡ arrived_view done
 
--- the domain emptied its minor area in Reset, where no young block was left, and arrived
+-- the domain emptied its minor area in Reset, into which none of its registers and lists of finalisers led, and arrived
 pub record LeavesReset (k : Config) (x y : DomainView) : Type 0 where
   pub view : y ≡ arrived_view (reset_view x)
-  pub words : List ℕ
-  pub none_young : NoneYoung k x words
+  pub holds_old : HoldsOld k x
 
 -- what a domain does in an even phase of a pause in which no collection is answered
 abbrev pub LeavesEven : Config → Kind → DomainView → DomainView → Type 0
@@ -99,15 +99,18 @@ pub record ComesToAnswer (k : Config) (x begun : DomainView) : Type 0 where
   pub even : IsEven x.own.arrivals
   pub ready : IsReady k Answer begun
 
--- the domain has found how many blocks live
-abbrev pub knowing_blocks : DomainView → ℕ → DomainView
-knowing_blocks x blocks = with_share x (record x.seen.share { blocks = Some blocks })
+-- how many blocks live in the state after the domain's front
+abbrev pub blocks_left : Config → DomainView → ℕ
+blocks_left k x = length (reach (state_of k x.seen.front))
 
--- the domain found that so many blocks live, gave back its pools in which nothing is left, and arrived
-pub record GivesBack (k : Config) (x y : DomainView) (blocks : ℕ) : Type 0 where
+-- the domain saw the whole history so far, in which a collection is answered, gave back its pools in which nothing is left, and arrived
+pub record GivesBack (k : Config) (x y : DomainView) : Type 0 where
   pub begun : DomainView
   pub comes : ComesToAnswer k x begun
-  pub view : y ≡ arrived_view (knowing_blocks begun blocks)
+  pub seen : IsFrontOf begun.own.number y.seen.front begun.seen.front
+  pub legal : Legal (sizes_in k) y.seen.front
+  pub answers : (state_of k y.seen.front).mode ≡ Answered
+  pub view : y ≡ arrived_view (with_front begun y.seen.front)
 
 -- how many finalisers the domain owes before its next `full_major`
 abbrev pub due_of : Config → DomainView → ℕ
@@ -121,10 +124,14 @@ pub record LivesAs (k : Config) (x y : DomainView) (blocks : ℕ) (reply : Reply
   pub view : y ≡ with_front x y.seen.front
   pub due : due_of k y ≡ length y.own.finalisers.queue.items
 
--- and then it arrived, if it waited for one, or it arrived at once. Before it had found that so many blocks live
+-- and then it arrived, if it waited for one, or it arrived at once
 abbrev pub AnswersFrom : Config → DomainView → DomainView → Bool → ℕ → Option Reply → Type 0
-AnswersFrom k x y live blocks None = (live ≡ false) × (y ≡ arrived_view (knowing_blocks x blocks))
-AnswersFrom k x y live blocks (Some reply) = (live ≡ true) × ((between : DomainView) × LivesAs k (knowing_blocks x blocks) between blocks reply × (y ≡ arrived_view between))
+AnswersFrom k x y live blocks None = (live ≡ false) × (y ≡ arrived_view x)
+AnswersFrom k x y live blocks (Some reply) = (live ≡ true) × ((between : DomainView) × LivesAs k x between blocks reply × (y ≡ arrived_view between))
+
+-- before that it had found that so many blocks live
+abbrev pub CountsAndAnswers : Config → DomainView → DomainView → Bool → ℕ → Option Reply → Type 0
+CountsAndAnswers k x y live blocks reply = (counted : DomainView) × LiveBlocksTold k x blocks counted × AnswersFrom k counted y live blocks reply
 
 -- before that it made the entry of its `full_major`, with its minor area empty: the reply tells what lives
 pub record AnswersLive (k : Config) (x y : DomainView) (reply : Reply) : Type 0 where

@@ -22,17 +22,18 @@ use Rattle.heap_rule.specs.Phases.{IsEven, IsOdd, Comes}
 use Rattle.heap_rule.specs.Copies.{nothing_copied}
 use Rattle.heap_rule.specs.Running.{RemembersAll}
 use Rattle.steps_pauses.specs.Pauses.{arrived_view, ended_own, IsModeOf}
-use Rattle.barriers.specs.Aware.{Learnt, scanned_in}
+use Rattle.barriers.specs.Aware.{Learnt, darkened_in, scanned_in, vain_in}
 use Rattle.steps_cycle.specs.Arming.{knowing_armed}
 use Rattle.sweeper.specs.Sweeping.{Swept}
 use Rattle.heap_rule.specs.declared.phase.Progress.{Progress}
 use Rattle.heap_rule.specs.Views.{no_collection}
-use Rattle.mark_slices.specs.Decks.{AllMissed, Counts, HasTaken}
+use Rattle.mark_slices.specs.Decks.{AllMissed, Counts, HasNoted, HasTaken, NotesOn}
 use Rattle.mark_slices.specs.Slices.{IsDeckOf}
 use Rattle.steps_finalisers.specs.Registering.{count_of}
 use Rattle.finaliser_queues.specs.declared.running.Ran.{Ran}
 use Rattle.finaliser_queues.specs.Running.{RanFirst, reply_of}
 use Rattle.heap_rule.specs.Rule.{state_of}
+use Rattle.cycle_phases.specs.Sharing.{HintsIn}
 use Rattle.safepoint.specs.Looks.{Passed, bit_of}
 use Rattle.safepoint.specs.declared.answer.Want as wish
 use Rattle.safepoint.specs.declared.answer.Want.TheVariants.{Finish, Full}
@@ -43,7 +44,7 @@ use Rattle.heap_rule.specs.declared.view.Hunt.TheVariants.{Rests as AtRest}
 use Rattle.heap_rule.specs.Limits.{sizes_in}
 use Rattle.heap_rule.specs.Standing.{noted, Acts, with_front}
 use Rattle.heap_rule.specs.Token.{Token, SharedHeap, IsIn}
-use Rattle.domain_turns.specs.Pausing.{IsQuiet, HasLeft, KnowsProgress, LeavesEven, LeavesOdd, GivesBack, AnswersLive, IsCollected, due_of}
+use Rattle.domain_turns.specs.Pausing.{IsQuiet, HasLeft, KnowsProgress, LeavesEven, LeavesOdd, GivesBack, AnswersLive, IsCollected, blocks_left, due_of}
 use Rattle.domain_turns.specs.Tries.{FitsHeap, IsFresh, NeedsPause, Refused, Tried, ephemerons_of, registrations_of, wish_of}
 
 -- a run: the domain's token, its commands, the place of the next one, its replies, whether its trace has ended, where the domain has arrived from which kind of phase, how often it had arrived when it asked for a pause for the next command, whether the last pause since then was a complete collection that left so many blocks that they may use up the pools, how far, for domain 0, a collection has come, how many finalisers the domain owes before its next `full_major`, and what its deck of hints has counted
@@ -216,13 +217,20 @@ abbrev pub MarkingEnds : DomainView → DomainView → Counts → Counts → Boo
 MarkingEnds x y l m true = AllMissed l m
 MarkingEnds x y l m false = (scanned_in y.seen.share.known ≡ scanned_in x.seen.share.known + 256) ⊎ HasTaken 8192 l m
 
--- the domain found that a collection goes on beside running domains, and has marked blocks
+-- at each hint that was taken the domain has looked: it has scanned the block that begins there, or has found none to be scanned
+abbrev pub LooksAtAll : DomainView → DomainView → Counts → Counts → Type 0
+LooksAtAll x y l m = m.taken + (scanned_in x.seen.share.known + vain_in x.seen.share.known) ≤ l.taken + (scanned_in y.seen.share.known + vain_in y.seen.share.known)
+
+-- the domain found that a collection goes on beside running domains, and has marked blocks. Each block that it has darkened it has noted
 pub record MarksBeside (h : SharedHeap) (old new : RunView) (spent : Bool) : Type 0 where
   pub here : IsIn new.token h
   pub learnt : Learnt old.token.view new.token.view
   pub owes : new.token.view.seen.share.weak ≡ old.token.view.seen.share.weak
   pub knows : new.token.view.seen.share.armed ≡ Some true
   pub marks : MarkingEnds old.token.view new.token.view old.hints new.hints spent
+  pub looked : LooksAtAll old.token.view new.token.view old.hints new.hints
+  pub noted : HasNoted (darkened_in old.token.view.seen.share.known) (darkened_in new.token.view.seen.share.known) old.hints new.hints
+  pub notes : NotesOn old.hints new.hints
   pub run : new ≡ record old { token = new.token; hints = new.hints }
 
 -- the domain found that none goes on, and has swept so many places of its own pools: 256, or else none is left to be swept
@@ -295,7 +303,7 @@ pub record Resumes (h : SharedHeap) (old start : RunView) : Type 0 where
   pub passed : Passed h.config old.token.view start.token.view
   pub runs : start.token.view.seen.stage ≡ In Run
   pub collected : IsCollected h.config start.token.view
-  pub run : start ≡ record old { token = record old.token { view = start.token.view }; left = None; progress = start.progress; hints = start.hints }
+  pub run : start ≡ record old { token = record old.token { view = start.token.view }; left = None; progress = start.progress }
 
 -- where the running part of a turn starts
 abbrev pub Starts : SharedHeap → RunView → RunView → Type 0
@@ -307,12 +315,17 @@ pub record Passes (k : Config) (x y : DomainView) (last kind : Kind) : Type 0 wh
   pub passed : Passed k x begun
   pub share : (IsEven x.own.arrivals × (begun.seen.stage ≡ In kind) × Comes x.own.number last kind × IsModeOf kind (state_of k begun.seen.front).mode × LeavesEven k kind begun y) ⊎ (IsOdd x.own.arrivals × (begun.seen.stage ≡ Leads last) × LeavesOdd k begun y last kind)
 
+-- what becomes of the hints of a domain that goes through a phase: in an odd one they stay as they are
+abbrev pub PassesHints : ℕ → Kind → Counts → Counts → Type 0
+PassesHints arrivals kind l m = (IsEven arrivals × HintsIn kind l m) ⊎ (IsOdd arrivals × (m ≡ l))
+
 -- the domain had arrived, and went through the phase that had begun since
 pub record GoesBy (h : SharedHeap) (old new : RunView) : Type 0 where
   pub last : Kind
   pub arrived : old.left ≡ Some last
   pub kind : Kind
   pub passes : Passes h.config old.token.view new.token.view last kind
+  pub hints : PassesHints old.token.view.own.arrivals kind old.hints new.hints
   pub run : new ≡ record old { token = record old.token { view = new.token.view }; left = Some kind; progress = new.progress; hints = new.hints }
 
 -- whether the domain has asked for a pause for the next command
@@ -332,30 +345,30 @@ pub record IsAnswered (h : SharedHeap) (old new : RunView) : Type 0 where
   pub waited : WaitsForAnswer old
   pub reply : Reply
   pub answers : AnswersLive h.config old.token.view new.token.view reply
-  pub run : new ≡ record old { token = record old.token { view = new.token.view }; next = old.next + 1; replies = old.replies ++ reply ∷ []; left = Some Answer; asked = None; collected = false; progress = new.progress; due = length new.token.view.own.finalisers.queue.items; hints = new.hints }
+  pub run : new ≡ record old { token = record old.token { view = new.token.view }; next = old.next + 1; replies = old.replies ++ reply ∷ []; left = Some Answer; asked = None; collected = false; progress = new.progress; due = length new.token.view.own.finalisers.queue.items }
 
 -- whether so many blocks may use up the pools: where each has one to itself, no more pools are free than the reserve of promotion
 abbrev pub may_use_up : Config → ℕ → Bool
 may_use_up k blocks = nat_le k.pools (blocks + reserve (sizes_in k))
 
 -- or its next command is none, or it owes finalisers before it. A complete collection has come for it where it had been tried, and counts where it left so many blocks that they may use up the pools
-pub record SeesAnswer (h : SharedHeap) (old new : RunView) (blocks : ℕ) : Type 0 where
+pub record SeesAnswer (h : SharedHeap) (old new : RunView) : Type 0 where
   pub last : Kind
   pub arrived : old.left ≡ Some last
   pub none : WaitsForAnswer old → ⊥
-  pub gives : GivesBack h.config old.token.view new.token.view blocks
-  pub run : new ≡ record old { token = record old.token { view = new.token.view }; left = Some Answer; collected = is_asked old.asked && may_use_up h.config blocks; progress = new.progress; hints = new.hints }
+  pub gives : GivesBack h.config old.token.view new.token.view
+  pub run : new ≡ record old { token = record old.token { view = new.token.view }; left = Some Answer; collected = is_asked old.asked && may_use_up h.config (blocks_left h.config new.token.view); progress = new.progress }
 
 -- not all have arrived: the barrier word b, found in this turn, is below the end of the domain's turn
 pub record Waits (h : SharedHeap) (old new : RunView) (b : ℕ) : Type 0 where
   pub arrived : (last : Kind) × (old.left ≡ Some last)
   pub below : b < old.token.view.own.arrivals * h.config.domains
-  pub run : new ≡ record old { token = noted_token old.token (Barrier b); progress = new.progress; hints = new.hints }
+  pub run : new ≡ record old { token = noted_token old.token (Barrier b); progress = new.progress }
 
 -- what a turn answers
 abbrev pub TurnAnswers : SharedHeap → RunView → RunView → Turned → Type 0
 TurnAnswers h old new (Waiting b) = Waits h old new b
-TurnAnswers h old new Did = GoesBy h old new ⊎ (IsAnswered h old new ⊎ (((blocks : ℕ) × SeesAnswer h old new blocks) ⊎ ((start : RunView) × Starts h old start × RunAnswers h start new Did)))
+TurnAnswers h old new Did = GoesBy h old new ⊎ (IsAnswered h old new ⊎ (SeesAnswer h old new ⊎ ((start : RunView) × Starts h old start × RunAnswers h start new Did)))
 TurnAnswers h old new (Idle n) = (start : RunView) × Starts h old start × RunAnswers h start new (Idle n)
 TurnAnswers h old new Over = (start : RunView) × Starts h old start × RunAnswers h start new Over
 

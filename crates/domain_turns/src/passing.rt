@@ -10,9 +10,10 @@ ghost use Rattle.heap_rule.specs.Running.{RemembersAll};
 ghost use Rattle.heap_rule.specs.Token.{IsIn};
 ghost use Rattle.heap_rule.specs.Views.{voided};
 ghost use Rattle.steps_pauses.specs.Pauses.{arrived_view};
+ghost use Rattle.cycle_phases.specs.Sharing.{HintsIn};
 ghost use Rattle.mark_slices.specs.Decks.{StaysDeck};
-ghost use Rattle.domain_turns.specs.Past.{PassAnswers, left_after};
-ghost use Rattle.domain_turns.specs.Pausing.{IsQuiet, HasLeft, KnowsProgress, LeavesEven, LeavesOdd, LeavesPromote, LeavesReset, IsReady, AnswersFrom, LivesAs, due_of};
+ghost use Rattle.domain_turns.specs.Past.{PassAnswers, PassHints, left_after};
+ghost use Rattle.domain_turns.specs.Pausing.{IsQuiet, HasLeft, KnowsProgress, LeavesEven, LeavesOdd, LeavesPromote, LeavesReset, IsReady, CountsAndAnswers, LivesAs, due_of};
 
 use cycle_phases::{give_back, lead_on, share};
 use heap_model::reply::Reply;
@@ -104,6 +105,7 @@ fn leave_even(heap: &Heap, dom: &mut Domain, kind: Kind, hints: &mut Hints)
     ensures here { IsIn dom.new heap.now }
     ensures leaves { LeavesEven heap.now.config kind dom.old.view dom.new.view }
     ensures deck { StaysDeck hints.old hints.new }
+    ensures hints { HintsIn kind hints.old hints.new }
 {
     match kind {
         Kind::Run | Kind::Answer => unreachable!(),
@@ -139,7 +141,7 @@ fn answer(heap: &Heap, dom: &mut Domain, live: bool) -> (u64, Option<Reply>)
     requires goes_on { live ≡ true → (domain_at (state_of heap.now.config dom.old.view.seen.front) dom.old.view.own.number).ended ≡ false }
     requires paid { live ≡ true → due_of heap.now.config dom.old.view ≡ 0 }
     ensures here { IsIn dom.new heap.now }
-    ensures answers { AnswersFrom heap.now.config dom.old.view dom.new.view live result.0 result.1 }
+    ensures answers { CountsAndAnswers heap.now.config dom.old.view dom.new.view live result.0 result.1 }
 {
     let blocks = live_blocks_load(heap, dom);
     let reply = if live {
@@ -177,6 +179,7 @@ pub(crate) fn pass(
     ensures answer { PassAnswers heap.now.config dom.old.view dom.new.view last live result }
     ensures knows { KnowsProgress progress.new dom.new.view }
     ensures deck { StaysDeck hints.old hints.new }
+    ensures hints { PassHints dom.old.view result hints.old hints.new }
 {
     match look(heap, dom) {
         Look::NotAll(b) => Past::Waits(b),

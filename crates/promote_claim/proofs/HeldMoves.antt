@@ -110,7 +110,7 @@ module _ (k : Config) (x u y : DomainView) (h : Held) (a c : ℕ) (colours : Col
 
   module _ (got : Claimed k a u y c) where
     claimed : Claimed k a x y c
-    claimed = claimed_after k a c x u y (grown_colours k x u colours knows w) got
+    claimed = claimed_after k a c x u y (ap (λ (z : DomainView). z.own.pending.items) knows) (grown_colours k x u colours knows w) got
 
     lists_same : y.own.finalisers ≡ x.own.finalisers
     lists_same = ap (λ (z : DomainView). z.own.finalisers) claimed.grown.view

@@ -1,5 +1,5 @@
 -- What a domain that copies knows after it has met a block.
-use Rattle.std.proofs.Common.{◌≡◌, ℕ, ◌+◌, ◌*◌, ◌^◌, ◌<◌, ◌≤◌, cond, eq-eqb, Bool, false, List, [], ◌∷◌, ◌++◌, append-nil, append_assoc, slice_get, Option, Some, None, sym, refl, ap, ◌∙◌, subst, inl, inr, ⊎_elim, arith}
+use Rattle.std.proofs.Common.{◌≡◌, ℕ, ◌+◌, ◌*◌, ◌^◌, ◌<◌, ◌≤◌, ◌⊎◌, cond, eq-eqb, Bool, false, List, [], ◌∷◌, ◌++◌, append-nil, append_assoc, slice_get, Option, Some, None, sym, refl, ap, ◌∙◌, subst, inl, inr, ⊎_elim, arith}
 use Rattle.heap_model.specs.Domains.{IsWithinLimits}
 use Rattle.heap_model.specs.Fronts.{Shape, PlainShape, RawShape, EpheShape}
 use Rattle.heap_words.specs.declared.head.Head.TheVariants.{Forward}
@@ -186,6 +186,13 @@ module _ (k : Config) (at : ℕ) (x : DomainView) (word : ℕ) (y : DomainView) 
       told.told
 
   -- where the head forwards, the copy was met
+  -- and the domain is to fill the copies that it was to fill
+  pub head_items : y.own.pending.items ≡ x.own.pending.items
+  head_items = ⊎_elim
+      (λ (t : StaysThere k at told.place x word y). ap (λ (z : DomainView). z.own.pending.items) t.view)
+      (λ (t : Forwards k at told.place x word y). ap (λ (z : DomainView). z.own.pending.items) t.view)
+      told.told
+
   pub head_claimed : (copy : ℕ) → Works k x → IsForward copy × (forward_word copy ≡ word) → Claimed k at x y copy
   head_claimed copy w leads = ⊎_elim
       (λ (t : StaysThere k at told.place x word y). absurd (never_forward told.place.shape word copy t.head leads.0 leads.1))
@@ -195,6 +202,7 @@ module _ (k : Config) (at : ℕ) (x : DomainView) (word : ℕ) (y : DomainView) 
         old = t.old;
         copied = subst (λ (z : DomainView). HasCopy z at t.copy) (sym t.view) (inl (refl, refl));
         same = same_lasts (Knows y) at t.copy told.place told.here t.there;
+        made = inl head_items;
       })
       told.told
 
@@ -215,5 +223,5 @@ module _ (k : Config) (at : ℕ) (x : DomainView) (word : ℕ) (y : DomainView) 
 pub head_for : (k : Config) (x : DomainView) (a word : ℕ) → AllFit k x → (m : IsMetWith x a word) → IsHeadFor m.place.shape word
 head_for k x a word fit m = let f = fit a m.place m.met in let h = m.head in record { head = record { colour = new_colour h.beside h.colours; scanned = false; fits = f.head; packable = packable_head m.place.shape (new_colour h.beside h.colours) false h.fits f.head; packs = h.packs } }
 
-pub claimed_after : (k : Config) (a c : ℕ) (x y z : DomainView) → Grown k x y → Claimed k a y z c → Claimed k a x z c
-claimed_after k a c x y z g t = record { grown = grown_twice k x y z g t.grown; old = t.old; copied = t.copied; same = t.same }
+pub claimed_after : (k : Config) (a c : ℕ) (x y z : DomainView) → y.own.pending.items ≡ x.own.pending.items → Grown k x y → Claimed k a y z c → Claimed k a x z c
+claimed_after k a c x y z same g t = record { grown = grown_twice k x y z g t.grown; old = t.old; copied = t.copied; same = t.same; made = subst (λ (items : List Copied). (z.own.pending.items ≡ items) ⊎ (z.own.pending.items ≡ items ++ record { copy = c; source = a } ∷ [])) same t.made }

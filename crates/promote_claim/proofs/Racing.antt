@@ -82,6 +82,7 @@ module _ (k : Config) (young word class copy : ℕ) (x p y : DomainView) (few : 
           old = l.old;
           copied = now_copied l.copy found_copies young l.copy (inl (refl, refl));
           same = met_at l.copy (ap (λ (v : DomainView). Knows v l.copy) l.view ∙ known_here (met_of l.copy told.place) y.seen.copying.met);
+          made = inl items;
         }
 
     -- the lost claim's copy is that to which the head forwards
@@ -121,4 +122,5 @@ module _ (k : Config) (young word class copy : ℕ) (x p y : DomainView) (few : 
           old = is_old;
           copied = now_copied copy made_copies young copy (inl (refl, refl));
           same = same;
+          made = inr items;
         }

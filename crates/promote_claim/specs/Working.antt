@@ -1,5 +1,5 @@
 -- What a domain knows and owes while it copies young blocks, and what claims make of it ("Retrofitting Parallelism onto OCaml", section 3.2).
-use Rattle.std.specs.Prelude.{◌≡◌, ℕ, ◌*◌, ◌<◌, false, List, [], ◌∷◌, ◌++◌, drop, slice_get, Some}
+use Rattle.std.specs.Prelude.{◌≡◌, ℕ, ◌*◌, ◌<◌, ◌⊎◌, false, List, [], ◌∷◌, ◌++◌, drop, slice_get, Some}
 use Rattle.heap_model.specs.Domains.{class_count}
 use Rattle.heap_model.specs.declared.graph.Value as model
 use Rattle.heap_words.specs.declared.value.Value.{Value}
@@ -93,12 +93,17 @@ pub record IsMetWith (x : DomainView) (a word : ℕ) : Type 0 where
   pub met : Knows x a ≡ Some place
   pub head : IsNewHead x.seen.share.colours x.seen.share.armed false place.shape word
 
+-- a claim of the block at an address makes no copy, or the one that it answers, which is then the last that the domain is to fill
+abbrev pub MakesAtMost : ℕ → ℕ → DomainView → DomainView → Type 0
+MakesAtMost a c x y = (y.own.pending.items ≡ x.own.pending.items) ⊎ (y.own.pending.items ≡ x.own.pending.items ++ record { copy = c; source = a } ∷ [])
+
 -- the block at an address has a copy in a pool, which was met. The block's head forwards to this copy, and to no other while the domain copies: whoever knows of a copy of the block knows of this one
 pub record Claimed (k : Config) (a : ℕ) (x y : DomainView) (c : ℕ) : Type 0 where
   pub grown : Grown k x y
   pub old : IsOldAt k c
   pub copied : HasCopy y a c
   pub same : SameBlock (Knows y) a c
+  pub made : MakesAtMost a c x y
 
 -- a place is prepared for a class, and nothing else has changed
 pub record Prepared (k : Config) (class : ℕ) (x y : DomainView) (a : ℕ) : Type 0 where

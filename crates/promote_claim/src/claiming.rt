@@ -109,7 +109,8 @@ pub(crate) fn claim_met(heap: &Heap, dom: &mut Domain, young: u32) -> u32
 /// another has claimed the block. What the domain prepared for it is then kept for its next claim of the size class. The
 /// block's head forwards to this address, and every domain that claims the block gets the same one.
 ///
-/// A copy that the domain makes stands in its list of copies, and has none of its values yet.
+/// It makes no copy but the one that it answers. That stands in the domain's list of copies, behind all
+/// others, and has none of its values yet.
 pub fn claim(heap: &Heap, dom: &mut Domain, young: u32) -> u32
     requires here { IsIn dom.old heap.now }
     requires works { Works heap.now.config dom.old.view }

@@ -4,3 +4,5 @@ mod Finalisers
 mod Pools
 mod Pauses
 mod Commands
+mod Hints
+mod Claims

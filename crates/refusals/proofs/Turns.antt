@@ -12,7 +12,10 @@ use Rattle.heap_rule.specs.declared.view.Waiting.{Waiting}
 use Rattle.heap_rule.specs.Token.{Token, SharedHeap}
 use Rattle.safepoint.specs.Looks.{bit_of}
 use Rattle.safepoint.specs.declared.answer.Want.TheVariants.{Finish}
-use Rattle.domain_turns.specs.Pausing.{LeavesOdd}
+use Rattle.heap_model.specs.Domains.{reserve}
+use Rattle.heap_rule.specs.Limits.{sizes_in}
+use Rattle.std.proofs.lemmas.Bool.{le-leb, lt-leb}
+use Rattle.domain_turns.specs.Pausing.{LeavesOdd, blocks_left}
 use Rattle.domain_turns.specs.Runs.{Asks, AsksFull, CalmDid, EndsTrace, Polls, RunView, RunsFinaliser, SeesAnswer, Stops, TriesCommand, WorksBeside, asking_end, is_asked, may_use_up, served_since}
 use Rattle.domain_turns.specs.Runs.CalmDid.{Finalises, Wishes, Refuses, Tries, Works, Ends}
 use Rattle.domain_turns.specs.Tries.{HasPool, HasNoPool, NeedsPause, Stands}
@@ -50,12 +53,29 @@ full_comes_after_a_collection h old new dst tag fields r s = ⊎_elim (λ f. f.1
 pub a_later_pause_takes_the_collection : (old new : RunView) → Stops old new → new.collected ≡ false
 a_later_pause_takes_the_collection old new s = ap (λ (r : RunView). r.collected) s.run
 
+-- whether a complete collection counts for the domain's next command is told by whether it had asked, and by how many blocks live where its front has come
+counted : (h : SharedHeap) (old new : RunView) → SeesAnswer h old new → new.collected ≡ (is_asked old.asked && may_use_up h.config (blocks_left h.config new.token.view))
+counted h old new s = ap (λ (r : RunView). r.collected) s.run
+
 -- a complete collection for which the domain hadn't asked doesn't count for its next command
-pub the_collection_of_others_counts_nothing : (h : SharedHeap) (old new : RunView) (blocks : ℕ) → old.asked ≡ None → SeesAnswer h old new blocks → new.collected ≡ false
-the_collection_of_others_counts_nothing h old new blocks unasked s = ap (λ (r : RunView). r.collected) s.run ∙ asked
+pub the_collection_of_others_counts_nothing : (h : SharedHeap) (old new : RunView) → old.asked ≡ None → SeesAnswer h old new → new.collected ≡ false
+the_collection_of_others_counts_nothing h old new unasked s = counted h old new s ∙ ap (λ (o : Option ℕ). is_asked o && may_use_up h.config (blocks_left h.config new.token.view)) unasked
+
+-- nor does one that left so few blocks that more pools are free than the reserve: a body that counts every complete collection is refused
+pub a_collection_that_left_little_counts_nothing : (h : SharedHeap) (old new : RunView) → SeesAnswer h old new → blocks_left h.config new.token.view + reserve (sizes_in h.config) < h.config.pools → new.collected ≡ false
+a_collection_that_left_little_counts_nothing h old new s little =
+    let no : may_use_up h.config (blocks_left h.config new.token.view) ≡ false = lt-leb h.config.pools (blocks_left h.config new.token.view + reserve (sizes_in h.config)) little in
+    counted h old new s ∙ (ap (λ (b : Bool). is_asked old.asked && b) no ∙ none (is_asked old.asked))
   where
-    asked : (is_asked old.asked && may_use_up h.config blocks) ≡ false
-    asked = subst (λ (o : Option ℕ). (is_asked o && may_use_up h.config blocks) ≡ false) (sym unasked) refl
+    none : (b : Bool) → (b && false) ≡ false
+    none true = refl
+    none false = refl
+
+-- one for which it had asked, and that left so many that they may use up the pools, does: a body that counts none is refused
+pub a_collection_that_left_much_counts : (h : SharedHeap) (old new : RunView) → SeesAnswer h old new → is_asked old.asked ≡ true → h.config.pools ≤ blocks_left h.config new.token.view + reserve (sizes_in h.config) → new.collected ≡ true
+a_collection_that_left_much_counts h old new s asked much =
+    let yes : may_use_up h.config (blocks_left h.config new.token.view) ≡ true = le-leb h.config.pools (blocks_left h.config new.token.view + reserve (sizes_in h.config)) much in
+    counted h old new s ∙ (λ i. asked i && yes i)
 
 -- a poll that marked and found no hint more asks for the end of the cycle
 pub a_spent_poll_asks_for_the_end : (h : SharedHeap) (old new : RunView) (p : Polls h old new) → p.spent ≡ true → new.token.view.seen.notes ≡ p.made.token.view.seen.notes ++ Asked (bit_of Finish) ∷ []

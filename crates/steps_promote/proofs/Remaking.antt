@@ -21,7 +21,7 @@ use Rattle.heap_rule.specs.declared.phase.Stage.TheVariants.{In}
 use Rattle.heap_rule.specs.Changes.{value_at}
 use Rattle.heap_rule.specs.Finalisers.{Enrolled}
 use Rattle.heap_rule.specs.Copies.{Owes, Copies, Promoting, AllCleared}
-use Rattle.heap_rule.specs.Phases.{Pause, IsInPause}
+use Rattle.heap_rule.specs.Phases.{Pause}
 use Rattle.heap_rule.specs.Cycles.{Cycling}
 use Rattle.heap_rule.specs.Places.{Place, Live, Stands, Placed, Spread, More, colour_in, new_colour}
 use Rattle.heap_rule.specs.Pools.{Tenancy, Pools, Grid, Drawers, RunsNext, Hunter, Takes, IsLeading}

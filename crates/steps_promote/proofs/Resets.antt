@@ -1,15 +1,12 @@
 -- In Reset a domain's minor area is free again.
-use Rattle.heap_rule.proofs.EphemeronLemmas.{found_value}
-use Rattle.heap_rule.proofs.Keeps.{whole_here}
-use Rattle.std.proofs.Common.{◌≡◌, ◌≢◌, ℕ, ◌+◌, ◌*◌, ◌<◌, ◌≤◌, ◌⊎◌, List, [], set, slice_get, get_or, length, Some, None, Option, sym, refl, ap, ◌∙◌, inl, inr, ⊎_elim, subst, arith, length-set, IsTrue}
+use Rattle.std.proofs.Common.{◌≡◌, ℕ, ◌+◌, ◌*◌, ◌<◌, ◌≤◌, List, [], set, slice_get, Some, None, Option, sym, refl, ap, ◌∙◌, inl, inr, subst, arith, length-set}
 use Rattle.std.proofs.lemmas.Int.{ints}
 use mathlib.Core.Option.{some}
 use lib.ListN.{get_elem?}
 use Rattle.heap_model.specs.declared.entry.Entry.{Entry}
 use Rattle.heap_model.specs.declared.graph.Value as graph_value
 use Rattle.heap_model.specs.declared.graph.Value.TheVariants.{Int as IntOf, Block, Nothing as NothingOf}
-use Rattle.heap_model.specs.Domains.{class_count, register}
-use Rattle.heap_model.specs.Graph.{node_at}
+use Rattle.heap_model.specs.Domains.{register}
 use Rattle.heap_words.specs.declared.value.Value.{Value}
 use Rattle.heap_words.specs.declared.value.Value.TheVariants.{Int, Ref, Nothing}
 use Rattle.heap_words.specs.Values.{IsPackable, value_word}
@@ -19,28 +16,24 @@ use Rattle.heap_rule.specs.declared.view.DomainView.{DomainView}
 use Rattle.heap_rule.specs.declared.phase.Kind.TheVariants.{Run, Reset, Promote}
 use Rattle.heap_rule.specs.declared.phase.Stage.{Stage}
 use Rattle.heap_rule.specs.declared.phase.Stage.TheVariants.{In}
-use Rattle.heap_rule.specs.Layout.{before_heap, base_of, at_address, owner_of}
-use Rattle.heap_rule.specs.Places.{Debt, Place, Live, extent, values_of, HasValue, Stands, IsOldAt, IsOldWord, Settled, WordStands}
-use Rattle.heap_rule.specs.Pools.{Holder, nobody, drawn, owned, owner_word, blocks_of, place_in}
-use Rattle.heap_rule.specs.Phases.{Pause, AtStage, Staged, IsInPause}
+use Rattle.heap_rule.specs.Layout.{before_heap, base_of}
+use Rattle.heap_rule.specs.Places.{Place, Live, extent, Stands, IsOldAt, IsOldWord}
+use Rattle.heap_rule.specs.Phases.{Pause, AtStage, Staged}
 use Rattle.heap_rule.specs.Changes.{value_at}
-use Rattle.heap_rule.specs.Copies.{Promoting, Resetting, IsOldValue}
-use Rattle.heap_rule.specs.Raw.{MayStep, MayStore, CanLeave, Closes}
+use Rattle.heap_rule.specs.Copies.{HoldsOld, Resetting, IsOldValue}
+use Rattle.heap_rule.specs.Raw.{MayStore, CanLeave, Closes}
 use Rattle.heap_rule.specs.Rule.{state_of, Good, Rule}
 use Rattle.heap_rule.specs.Token.{OwnFits}
 use Rattle.heap_rule.specs.Views.{one}
 use Rattle.steps_promote.proofs.HeldPlaces.{held_lives}
-use Rattle.steps_promote.specs.Promotion.{ResetMay, NoneYoung, reset_view, ResetTold, ResetSeen}
+use Rattle.steps_promote.specs.Promotion.{ResetMay, reset_view, ResetTold}
 use Rattle.steps_promote.specs.Writes.{Resets}
 use Rattle.heap_rule.proofs.Again.{ends_low}
-use Rattle.heap_rule.proofs.Beside.{extent_of, found_beside, making_beside, area_word_far}
-use Rattle.heap_rule.proofs.Ends.{same_views}
+use Rattle.heap_rule.proofs.Beside.{found_beside, making_beside, area_word_far}
 use Rattle.heap_rule.proofs.Garbage.{KeepsGarbage}
-use Rattle.heap_rule.proofs.Lists.{got_there}
-use Rattle.heap_rule.proofs.Values.{packable}
 use Rattle.heap_rule.proofs.Lots.{Beside, area_beside, garbage_beside, grid_beside, hunter_beside}
-use Rattle.heap_rule.proofs.Keeps.{my_good, control_set, controls_kept, hunter_as, more_same, writes, cycle_here, runs_here, sharing_here, sharings_here, cycle_control, Words, unmoved, garbage_here}
-use Rattle.heap_rule.proofs.PauseFacts.{promote_rests, run_resetting}
+use Rattle.heap_rule.proofs.Keeps.{my_good, control_set, controls_kept, hunter_as, more_same, writes, cycle_here, runs_here, sharing_here, sharings_here, cycle_control, Words, garbage_here}
+use Rattle.heap_rule.proofs.PauseFacts.{run_resetting}
 use Rattle.heap_rule.proofs.Sharings.{SameCycle}
 
 reset_now : (t : Pause) (x : DomainView) → x.seen.stage ≡ In Reset → Staged t x → Resetting t
@@ -63,79 +56,15 @@ all_old k live (Ref a) (IntOf n) pools stands = absurd stands
 all_old k live (Ref a) (Block l) pools stands = pools a stands.0 stands.1
 all_old k live (Ref a) NothingOf pools stands = absurd stands
 
--- who owns a pool, by its owner word
-owner_is : (h : Holder) (d c : ℕ) → c < class_count → ((e b : ℕ) → h ≡ owned e b → b < class_count) → owner_word h ≡ owner_word (owned d c) → h ≡ owned d c
-owner_is nobody d c few low e = absurd (let f : 0 ≡ 16 * d + c + 1 = e in omega arith)
-owner_is (drawn z) d c few low e = absurd (let f : 0 ≡ 16 * d + c + 1 = e in omega arith)
-owner_is (owned z b) d c few low e =
-    let f : 16 * z + b + 1 ≡ 16 * d + c + 1 = e in
-    let l : b < 9 = low z b refl in
-    let m : c < 9 = few in
-    let s : z ≡ d = omega arith in
-    let t : b ≡ c = omega arith in λ i. owned (s i) (t i)
-
--- at a place of an owned pool that isn't free a block lives in Reset, or garbage lies there
-place_holds : (k : Config) (s : Words) (r : Rule k s) (id : ℕ) (hist : List Entry) (x : DomainView) → get_elem? s.views id ≡ some (one k hist x) → x.seen.stage ≡ In Reset → (q d c slot : ℕ) → q < k.pools → c < class_count → owner_of k s.words q ≡ owner_word (owned d c) → slot < blocks_of c → at_address k s.words (place_in q c slot) ≢ 0
-    → ((p : Place) × (r.account.live (place_in q c slot) ≡ Some p)) ⊎ IsTrue (r.account.tenancy.garbage (place_in q c slot))
-place_holds k s r id hist x at resets q d c slot below few word inside taken =
-    let t = reset_now r.account.pause x resets (my_good k s r id hist x at).staged in
-    let holder = owner_is (r.account.tenancy.holder q) d c few (λ e b is. (r.whole.pools.owned_by q e b is).2) (sym (r.whole.pools.owners q below) ∙ word) in
-    ⊎_elim (λ (free : at_address k s.words (place_in q c slot) ≡ 0). absurd (taken free))
-    (λ z. ⊎_elim (λ (there : (p : Place) × (r.account.live (place_in q c slot) ≡ Some p)). inl there)
-    (λ y. ⊎_elim (λ (prepared : r.account.tenancy.prepared (place_in q c slot) ≡ Some d). absurd (promote_rests r.account.pause (r.whole.drawers.prepared (place_in q c slot) d prepared).1 t))
-    (λ (garbage : IsTrue (r.account.tenancy.garbage (place_in q c slot))). inr garbage) y) z)
-    (r.whole.grid.places q d c slot holder inside)
-
--- in Reset no young block is left
-none_young : (k : Config) (s : Words) (r : Rule k s) (id : ℕ) (hist : List Entry) (x : DomainView) → get_elem? s.views id ≡ some (one k hist x) → x.seen.stage ≡ In Reset → NoneYoung k x s.words
-none_young k s r id hist x at resets =
+-- in Reset no young block is left, and a domain refers to none
+refers_old : (k : Config) (s : Words) (r : Rule k s) (id : ℕ) (hist : List Entry) (x : DomainView) → get_elem? s.views id ≡ some (one k hist x) → x.seen.stage ≡ In Reset → HoldsOld k x
+refers_old k s r id hist x at resets =
     let g = my_good k s r id hist x at in
-    let t = reset_now r.account.pause x resets g.staged in
     let live : Live = r.account.live in
-    let pools : (a : ℕ) (p : Place) → live a ≡ Some p → IsOldAt k a = r.whole.emptied t in
-    let settled : Settled live = ⊎_elim (λ (h : Settled live). h) (λ (h : Promoting r.account.pause). absurd (promote_rests r.account.pause h t)) r.whole.settled in
-    let front : r.account.log ≡ x.seen.front = sym (g.still.0 (subst IsInPause (sym resets) tt)) in record {
-      live = live;
-      pools = pools;
-      nodes = λ a p lives.
-          let f = r.whole.found a p lives in
-          let has : (i : ℕ) → HasValue p.owed i = (λ i. subst (λ (o : Option Debt). HasValue o i) (sym (settled a p lives).no_debt) tt) in
-          let value_there : (i : ℕ) (v : graph_value.Value) → slice_get (values_of f.node) i ≡ Some v → WordStands live (at_address k s.words (a + 2 + i)) v =
-          (λ i v got. found_value k r.account.cycling.paint live (state_of k r.account.log).graph s.words a p f (whole_here k s r id hist x at Reset tt resets p.label) i v (has i) got) in
-          let n : ℕ = length (values_of f.node) in
-          let size : extent p.shape ≡ n + 2 = ap extent (sym f.shape) ∙ extent_of f.node in record {
-            node = f.node;
-            there = subst (λ (log : List Entry). node_at (state_of k log).graph p.label ≡ Some f.node) front f.there;
-            shape = f.shape;
-            label = f.label;
-            values = λ i v got. value_there i v got;
-            old = λ i below.
-                let z : ℕ = extent p.shape in let h : i + 2 < z = below in let y : z ≡ n + 2 = size in
-                let v = got_there (values_of f.node) i (let u : i < n = omega arith in u) in
-                let w = value_there i v.0 v.1 in
-                subst (IsOldWord k) (sym w.packs) (old_word k w.value (packable k r.limits live r.whole.placed w.value v.0 w.stands) (all_old k live w.value v.0 pools w.stands));
-          };
-      paint = r.account.cycling.paint;
-      colours_are = r.whole.cycle.colours_are;
-      garbage = r.account.tenancy.garbage;
-      dead = r.whole.cycle.leaves.dead;
-      heads = r.whole.cycle.leaves.head;
-      places = place_holds k s r id hist x at resets;
-      stands = λ q few. subst (λ (log : List Entry). Stands live (value_at x.own.registers q) (register (state_of k log) x.own.number q)) front (g.stood.each q few);
-      registers = (
-        λ q few. all_old k live (value_at x.own.registers q) (register (state_of k r.account.log) x.own.number q) pools (g.stood.each q few),
-        λ h a is. let l = held_lives live (state_of k r.account.log) x.own.number x.own.finalisers g.stood.enrolled h a is in pools a l.lives.0 l.lives.1,
-      );
-    }
-
-pub seen_may : (k : Config) (x : DomainView) (word a : ℕ) → word ≡ before_heap k + a → x.seen.stage ≡ In Reset → MayStep k x word (λ n. n) (ResetSeen k a)
-seen_may k x word a place resets fits slots id hist s r _ at _ = (
-  one k hist x,
-  keeps,
-  tt,
-  unmoved k s word (set s.views id (one k hist x)) (same_views k s r id (one k hist x) at),
-  (record { view = refl; words = s.words; there = ap (λ (n : ℕ). get_or s.words n 0) place; none_young = none_young k s r id hist x at resets }, refl),
-)
+    let pools : (a : ℕ) (p : Place) → live a ≡ Some p → IsOldAt k a = r.whole.emptied (reset_now r.account.pause x resets g.staged) in (
+      λ q few. all_old k live (value_at x.own.registers q) (register (state_of k r.account.log) x.own.number q) pools (g.stood.each q few),
+      λ h a is. let l = held_lives live (state_of k r.account.log) x.own.number x.own.finalisers g.stood.enrolled h a is in pools a l.lives.0 l.lives.1,
+    )
 
 pub reset_may : (k : Config) (x : DomainView) (word a new : ℕ) → word ≡ before_heap k + a → ResetMay k x a → MayStore k x word new (ResetTold k)
 reset_may k x word a new place may fits slots id hist s r _ at _ =
@@ -191,7 +120,7 @@ reset_may k x word a new place may fits slots id hist s r _ at _ =
       keeps,
       tt,
       subst (λ (n : ℕ). Rule k record { words = set s.words n new; homes = s.homes; views = set s.views id (one k hist y) }) (sym place) rule,
-      (record { view = refl; words = s.words; none_young = none_young k s r id hist x at may.stage }, refl),
+      (record { view = refl; holds_old = refers_old k s r id hist x at may.stage }, refl),
     )
 
 -- it closes where the area's use and the list were set back

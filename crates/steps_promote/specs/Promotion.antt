@@ -1,12 +1,12 @@
 -- What the steps ask and tell by which young blocks are copied: loads at which blocks are met, stores to copies, and the roots ("Retrofitting Parallelism onto OCaml", section 3.2).
-use Rattle.std.specs.Prelude.{◌≡◌, ℕ, zero, suc, ◌+◌, ◌*◌, ◌<◌, ◌≤◌, ◌⊎◌, Bool, false, IsTrue, List, [], ◌∷◌, length, slice_get, slice_set, Some, None, ◌≢◌}
+use Rattle.std.specs.Prelude.{◌≡◌, ℕ, zero, suc, ◌+◌, ◌*◌, ◌<◌, ◌≤◌, ◌⊎◌, Bool, false, List, [], ◌∷◌, length, slice_get, slice_set, Some}
 use Rattle.heap_model.specs.declared.label.Label.{Label}
 use Rattle.heap_model.specs.declared.graph.Value as model
 use Rattle.heap_model.specs.declared.graph.Node.{Node}
 use Rattle.heap_model.specs.declared.state.State as states
-use Rattle.heap_model.specs.Domains.{class_count, register}
-use Rattle.heap_model.specs.Graph.{Graph, node_at}
-use Rattle.heap_model.specs.Fronts.{Shape, PlainShape, RawShape, EpheShape, shape_of}
+use Rattle.heap_model.specs.Domains.{register}
+use Rattle.heap_model.specs.Graph.{node_at}
+use Rattle.heap_model.specs.Fronts.{Shape, PlainShape, RawShape, EpheShape}
 use Rattle.heap_words.specs.declared.value.Value.{Value}
 use Rattle.heap_words.specs.declared.value.Value.TheVariants.{Ref}
 use Rattle.heap_words.specs.Values.{IsPackable, value_word}
@@ -27,12 +27,9 @@ use Rattle.heap_rule.specs.declared.view.Waiting.{Waiting}
 use Rattle.heap_rule.specs.declared.view.Waiting.TheVariants.{Fin, Last as LastWaiting}
 use Rattle.heap_rule.specs.declared.phase.Kind.TheVariants.{Promote, Reset}
 use Rattle.heap_rule.specs.declared.phase.Stage.TheVariants.{In}
-use Rattle.heap_words.specs.ColourWords.{colours_word}
-use Rattle.heap_rule.specs.Cycles.{IsGarbageHead}
-use Rattle.heap_rule.specs.Layout.{base_of, at_address, colours, owner_of}
-use Rattle.heap_rule.specs.Places.{Paint, Place, Live, extent, values_of, IsHeadOf, IsNewHead, IsPackableShape, Fits, Stands, IsOldAt, IsOldWord, Lasts, More, WordStands}
+use Rattle.heap_rule.specs.Layout.{base_of}
+use Rattle.heap_rule.specs.Places.{Place, Live, extent, values_of, IsHeadOf, IsNewHead, IsPackableShape, Fits, Stands, IsOldAt, IsOldWord, Lasts, More}
 use Rattle.heap_rule.specs.Changes.{value_at}
-use Rattle.heap_rule.specs.Pools.{owned, owner_word, blocks_of, place_in}
 use Rattle.heap_rule.specs.Copies.{HasCopy, HoldsOld, known}
 use Rattle.heap_rule.specs.Finalisers.{held_at, FinalisersFit}
 use Rattle.heap_rule.specs.Rule.{state_of}
@@ -293,30 +290,6 @@ pub record RewriteTold (at : ℕ) (x : DomainView) (new : ℕ) (y : DomainView) 
   pub first : x.seen.remembered ≡ at ∷ rest
   pub view : y ≡ recalling x rest
 
--- the words at an address are the node of the block that lives there. Each value's word stands for the value of the node, so what it leads to lives too, and none is an address of a minor area
-pub record HasNode (k : Config) (live : Live) (graph : Graph) (words : List ℕ) (a : ℕ) (p : Place) : Type 0 where
-  pub node : Node
-  pub there : node_at graph p.label ≡ Some node
-  pub shape : shape_of node ≡ p.shape
-  pub label : at_address k words (a + 1) ≡ label_word p.label.domain p.label.serial
-  pub values : (i : ℕ) (v : model.Value) → slice_get (values_of node) i ≡ Some v → WordStands live (at_address k words (a + 2 + i)) v
-  pub old : (i : ℕ) → i + 2 < extent p.shape → IsOldWord k (at_address k words (a + 2 + i))
-
--- No young block is left. Each block that lives at an address lies in a pool, and is a node of the graph after the domain's front, which is the whole history then. At each place of a pool that a domain owns a block lives, or the head says Free, or garbage of the last collection lies there, of which the head has the colour that the colours word names. What the domain's registers lead to lives, and no field of a block, no register and no list of finalisers of the domain has an address of a minor area
-pub record NoneYoung (k : Config) (x : DomainView) (words : List ℕ) : Type 0 where
-  pub live : Live
-  pub pools : (a : ℕ) (p : Place) → live a ≡ Some p → IsOldAt k a
-  pub nodes : (a : ℕ) (p : Place) → live a ≡ Some p → HasNode k live (state_of k x.seen.front).graph words a p
-  pub paint : Paint
-  pub colours_are : colours words ≡ colours_word paint.colours
-  pub garbage : ℕ → Bool
-  pub dead : (a : ℕ) → IsTrue (garbage a) → live a ≡ None
-  pub heads : (a : ℕ) → IsTrue (garbage a) → IsGarbageHead paint (at_address k words a)
-  pub places : (pool d class slot : ℕ) → pool < k.pools → class < class_count → owner_of k words pool ≡ owner_word (owned d class) → slot < blocks_of class → at_address k words (place_in pool class slot) ≢ 0
-      → ((p : Place) × (live (place_in pool class slot) ≡ Some p)) ⊎ IsTrue (garbage (place_in pool class slot))
-  pub stands : (r : ℕ) → r < 16 → Stands live (value_at x.own.registers r) (register (state_of k x.seen.front) x.own.number r)
-  pub registers : HoldsOld k x
-
 -- in Reset the own minor area is free again, and the list of remembered fields is empty
 pub record ResetMay (k : Config) (x : DomainView) (at : ℕ) : Type 0 where
   pub stage : x.seen.stage ≡ In Reset
@@ -328,15 +301,7 @@ pub record ResetMay (k : Config) (x : DomainView) (at : ℕ) : Type 0 where
 abbrev pub reset_view : DomainView → DomainView
 reset_view x = record x { own = record x.own { used = 0; remembered = record { items = []; room = x.own.remembered.room + length x.own.remembered.items } } }
 
--- at this step the young blocks are gone
+-- at this step the young blocks are gone: no register and no list of finalisers of the domain has an address of a minor area
 pub record ResetTold (k : Config) (x : DomainView) (new : ℕ) (y : DomainView) : Type 0 where
   pub view : y ≡ reset_view x
-  pub words : List ℕ
-  pub none_young : NoneYoung k x words
-
--- a load of a word of the heap in Reset: it is one of the words at this step, at which the young blocks are gone
-pub record ResetSeen (k : Config) (at : ℕ) (x : DomainView) (found : ℕ) (y : DomainView) : Type 0 where
-  pub view : y ≡ x
-  pub words : List ℕ
-  pub there : found ≡ at_address k words at
-  pub none_young : NoneYoung k x words
+  pub holds_old : HoldsOld k x

@@ -1,10 +1,7 @@
 //! Loads at which young blocks are met, stores to copies, and the roots.
-ghost use Rattle.std.specs.Prelude.{◌≡◌};
-ghost use Rattle.heap_rule.specs.declared.phase.Kind.TheVariants.{Reset};
-ghost use Rattle.heap_rule.specs.declared.phase.Stage.TheVariants.{In};
 ghost use Rattle.heap_rule.specs.Standing.{IsInHeap};
 ghost use Rattle.heap_rule.specs.Token.{IsIn};
-ghost use Rattle.steps_promote.specs.Promotion.{FillMay, FillTold, FilledMay, FilledTold, HeadMay, HeadMet, HeldMoveMay, HeldMoveTold, LabelMay, LabelMet, MoveMay, MoveTold, RecallMay, Recalled, ResetMay, ResetSeen, ResetTold, RewriteMay, RewriteTold, ValueMay, ValueMet};
+ghost use Rattle.steps_promote.specs.Promotion.{FillMay, FillTold, FilledMay, FilledTold, HeadMay, HeadMet, HeldMoveMay, HeldMoveTold, LabelMay, LabelMet, MoveMay, MoveTold, RecallMay, Recalled, ResetMay, ResetTold, RewriteMay, RewriteTold, ValueMay, ValueMet};
 
 use heap_rule::{
     Change, Domain, Heap, Held, Leaving, Own, Registered, RegisteredLast, Waiting, Writing,
@@ -243,7 +240,8 @@ pub fn remembered_store(heap: &Heap, dom: &mut Domain, at: u32, new: u64)
 }
 
 /// In Reset the domain's own minor area is free again, and its list of remembered fields is empty. A
-/// store of Free to the area's first word, which is at `at`.
+/// store of Free to the area's first word, which is at `at`. No young block is left then: no register
+/// and no list of finalisers of the domain has an address of a minor area.
 pub fn area_reset(heap: &Heap, dom: &mut Domain, at: u32)
     requires here { IsIn dom.old heap.now }
     requires inside { IsInHeap heap.now.config at }
@@ -253,18 +251,4 @@ pub fn area_reset(heap: &Heap, dom: &mut Domain, at: u32)
 {
     let index = heap.index_of(at);
     raw_store::<Brand, Resetting>(heap, dom, index, 0, &Resetting, &[]);
-}
-
-/// In Reset no young block is left: no field of any block, no register and no list of finalisers of the
-/// domain has an address of a minor area. A load of any word of the heap, which is at `at`, at which
-/// this holds. Answers the word.
-pub fn reset_load(heap: &Heap, dom: &mut Domain, at: u32) -> u64
-    requires here { IsIn dom.old heap.now }
-    requires inside { IsInHeap heap.now.config at }
-    requires stage { dom.old.view.seen.stage ≡ In Reset }
-    ensures here { IsIn dom.new heap.now }
-    ensures told { ResetSeen heap.now.config at dom.old.view result dom.new.view }
-{
-    let index = heap.index_of(at);
-    raw_load::<Brand, Meeting>(heap, dom, index, &Meeting { at, place: 0 }, &[])
 }

@@ -25,6 +25,7 @@ use Rattle.heap_rule.specs.declared.phase.Kind.TheVariants.{Answer, Run}
 use Rattle.heap_rule.specs.declared.phase.Stage.TheVariants.{In}
 use Rattle.heap_rule.specs.declared.view.DomainView.{DomainView}
 use Rattle.heap_rule.specs.declared.view.Share.{Share}
+use Rattle.heap_rule.specs.declared.view.View.{View}
 use Rattle.heap_rule.specs.Cycles.{Cycled, Cycling, Facts, KnowsBlocks, Knowing, swept_of}
 use Rattle.heap_rule.specs.Ephemerons.{Looks}
 use Rattle.heap_rule.specs.Layout.{live_blocks, live_words}
@@ -38,7 +39,9 @@ use Rattle.heap_rule.specs.Standing.{with_front}
 use Rattle.heap_rule.specs.Token.{OwnFits}
 use Rattle.heap_rule.specs.Views.{one}
 use Rattle.heap_rule.proofs.FullnessLemmas.{full_stays}
-use Rattle.heap_rule.proofs.Keeps.{Words, after_entry, hunter_as, knows_entry, legal_entry, mine, more_same, my_good, own as own_kept, owes_as, remakes, resting_as, stood_other, sum_same, unmoved}
+use Rattle.heap_rule.proofs.Keeps.{Words, after_entry, hunter_as, knows_entry, legal_entry, looks, mine, more_same, my_good, own as own_kept, owes_as, remakes, resting_as, stood_other, sum_same, unmoved}
+use Rattle.heap_rule.proofs.Closes.{leaves_closes}
+use Rattle.heap_rule.proofs.Notes.{set_there, set_twice}
 use Rattle.heap_rule.proofs.PauseFacts.{nobody_else_still}
 use Rattle.heap_rule.proofs.Plain.{enters_once}
 use Rattle.heap_rule.proofs.FinaliserLemmas.{KeepsWork, paired_length, work_with}
@@ -46,7 +49,6 @@ use Rattle.heap_rule.specs.Finalisers.{StandsWaiting}
 use Rattle.heap_rule.proofs.Values.{holds}
 use Rattle.steps_cycle.specs.Looks.{with_share}
 use Rattle.steps_cycle.proofs.Learning.{known, learns, waits}
-use Rattle.steps_cycle.proofs.Plain.{share_closes}
 use Rattle.steps_sweep.specs.Answering.{LiveBlocksTold, LiveWordsMay, LiveWordsTold}
 use Rattle.steps_sweep.proofs.Dues.{due_front}
 use Rattle.steps_sweep.proofs.LiveCounts.{answer_facts, answer_kind, answers, blocks_reach, words_reach}
@@ -263,13 +265,25 @@ module _ (k : Config) (s : Words) (r : Rule k s) (id : ℕ) (hist : List Entry) 
           ∙ paired_length (StandsWaiting live) x.own.finalisers.queue.items (domain_at now d).queue good.stood.enrolled.queue);
     }
 
-pub live_blocks_may : (k : Config) (x : DomainView) → x.seen.stage ≡ In Answer → MayStep k x 9 (λ n. n) LiveBlocksTold
+-- the domain sees the whole history first, and then learns the word
+pub live_blocks_may : (k : Config) (x : DomainView) → x.seen.stage ≡ In Answer → MayStep k x 9 (λ n. n) (LiveBlocksTold k)
 live_blocks_may k x stage fits slots id hist s r _ at _ =
-    let y : DomainView = with_share x (record x.seen.share { blocks = Some (live_blocks s.words) }) in
-    (one k hist y, keeps, tt, unmoved k s 9 (set s.views id (one k hist y)) (blocks_rule k s r id hist x at stage), (refl, refl))
+    let z : DomainView = with_front x r.account.log in
+    let y : DomainView = with_share z (record z.seen.share { blocks = Some (live_blocks s.words) }) in
+    let looked : Rule k record { words = s.words; homes = s.homes; views = set s.views id (one k hist z) } = looks k s r id hist x at r.account.log (inr refl) in
+    let twice : Rule k record { words = s.words; homes = s.homes; views = set (set s.views id (one k hist z)) id (one k hist y) } =
+    blocks_rule k record { words = s.words; homes = s.homes; views = set s.views id (one k hist z) } looked id hist z (set_there s.views id (one k hist x) (one k hist z) at) stage in
+    let rule : Rule k record { words = s.words; homes = s.homes; views = set s.views id (one k hist y) } =
+    subst (λ (views : List View). Rule k record { words = s.words; homes = s.homes; views = views }) (set_twice s.views id (one k hist z) (one k hist y)) twice in (
+      one k hist y,
+      keeps,
+      tt,
+      unmoved k s 9 (set s.views id (one k hist y)) rule,
+      (record { seen = (mine k s r id hist x at).front; legal = r.whole.legal; answers = (answer_facts k s r id hist x at stage).mode; counts = blocks_reach k s r id hist x at stage; view = refl }, refl),
+    )
 
-pub live_blocks_closes : (k : Config) (x : DomainView) (found : ℕ) → Closes k x found LiveBlocksTold CanLeave Leaves
-live_blocks_closes k x found = share_closes k x found LiveBlocksTold (λ y t. (record x.seen.share { blocks = Some found }, t))
+pub live_blocks_closes : (k : Config) (x : DomainView) (found : ℕ) → Closes k x found (LiveBlocksTold k) CanLeave Leaves
+live_blocks_closes k x found = leaves_closes k x found (LiveBlocksTold k) (λ y told. ap (λ (z : DomainView). z.own) told.view) (λ y told. told.seen)
 
 pub live_words_may : (k : Config) (x : DomainView) (blocks : ℕ) → LiveWordsMay k x blocks → MayStep k x 10 (λ n. n) (LiveWordsTold k blocks)
 live_words_may k x blocks may fits slots id hist s r _ at _ =

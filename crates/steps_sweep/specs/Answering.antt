@@ -4,19 +4,27 @@ use Rattle.heap_model.specs.declared.command.Command.TheVariants.{FullMajor}
 use Rattle.heap_model.specs.declared.entry.Entry.TheVariants.{Command}
 use Rattle.heap_model.specs.declared.reply.Applied.TheVariants.{Replied}
 use Rattle.heap_model.specs.declared.reply.Reply.TheVariants.{Live}
-use Rattle.heap_model.specs.Domains.{domain_at}
+use Rattle.heap_model.specs.declared.state.Mode.TheVariants.{Answer as Answered}
+use Rattle.heap_model.specs.Domains.{domain_at, reach}
+use Rattle.heap_model.specs.Fronts.{IsFrontOf}
+use Rattle.heap_model.specs.History.{Legal}
 use Rattle.heap_words.specs.declared.value.Value.TheVariants.{Nothing}
 use Rattle.heap_rule.specs.declared.config.Config.{Config}
 use Rattle.heap_rule.specs.declared.phase.Kind.TheVariants.{Answer}
 use Rattle.heap_rule.specs.declared.phase.Stage.TheVariants.{In}
 use Rattle.heap_rule.specs.declared.view.DomainView.{DomainView}
+use Rattle.heap_rule.specs.Limits.{sizes_in}
 use Rattle.heap_rule.specs.Rule.{state_of}
-use Rattle.heap_rule.specs.Standing.{Entered}
+use Rattle.heap_rule.specs.Standing.{Entered, with_front}
 use Rattle.steps_cycle.specs.Looks.{with_share}
 
--- the domain knows how many blocks live
-abbrev pub LiveBlocksTold : DomainView → ℕ → DomainView → Type 0
-LiveBlocksTold x found y = y ≡ with_share x (record x.seen.share { blocks = Some found })
+-- the domain's front is the history so far, in which a collection is answered. The word that is found is the number of blocks that are reachable then, and the domain knows it
+pub record LiveBlocksTold (k : Config) (x : DomainView) (found : ℕ) (y : DomainView) : Type 0 where
+  pub seen : IsFrontOf x.own.number y.seen.front x.seen.front
+  pub legal : Legal (sizes_in k) y.seen.front
+  pub answers : (state_of k y.seen.front).mode ≡ Answered
+  pub counts : found ≡ length (reach (state_of k y.seen.front))
+  pub view : y ≡ with_front (with_share x (record x.seen.share { blocks = Some found })) y.seen.front
 
 -- in Answer, a load of the live words by a domain whose trace hasn't ended, which owes no finaliser, and which knows how many blocks live
 pub record LiveWordsMay (k : Config) (x : DomainView) (blocks : ℕ) : Type 0 where

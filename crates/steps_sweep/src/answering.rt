@@ -24,12 +24,13 @@ impl Writing for Counted {
     fn write(&self, _found: u64, _changes: &[Change], _own: &mut Own) {}
 }
 
-/// A load of the word of the live blocks, in Answer. Answers the word.
+/// A load of the word of the live blocks, in Answer. Answers the word, the number of blocks that the
+/// collection has left. The domain sees the whole history so far at this load.
 pub fn live_blocks_load(heap: &Heap, dom: &mut Domain) -> u64
     requires here { IsIn dom.old heap.now }
     requires stage { dom.old.view.seen.stage ≡ In Answer }
     ensures here { IsIn dom.new heap.now }
-    ensures told { LiveBlocksTold dom.old.view result dom.new.view }
+    ensures told { LiveBlocksTold heap.now.config dom.old.view result dom.new.view }
 {
     raw_load::<Brand, Leaving>(heap, dom, LIVE_BLOCKS, &Leaving, &[])
 }

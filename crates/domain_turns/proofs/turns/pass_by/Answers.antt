@@ -47,7 +47,7 @@ invariant_of-run-in_default c =
     let left : r.left ≡ Some c.args.last = subst (λ (x : RunView). x.left ≡ Some c.args.last) (sym c.run.view_is) c.requires.left in
     let none : c.in-Answered.reply ≡ None = c.in_default.is in
     let says = subst (λ (p : Past). PassAnswers c.args.heap.now.config r.token.view c.pass-past.new.dom.view c.args.last c.waits_for_answer-live.result p) (c.in-Answered.is ∙ ap (Answered c.in-Answered.blocks) none) c.pass-past.ensures.answer in
-    let is = gives_is_run c.args.heap.now r c.pass-past.new.dom c.in-Answered.blocks c.lets_refuse-run-inside.result c.pass-past.new.progress c.pass-past.new.hints c.pass-past.ensures.deck c.run.invariant.0 here c.pass-past.ensures.here says.1 c.pass-past.ensures.knows in
+    let is = gives_is_run c.args.heap.now r c.pass-past.new.dom c.lets_refuse-run-inside.result c.pass-past.new.progress c.pass-past.new.hints c.pass-past.ensures.deck c.run.invariant.0 here c.pass-past.ensures.here says.1 c.pass-past.ensures.knows in
     let gone = c.left_after-run-inside.ensures ∙ ap (λ (p : Past). left_after p c.args.last) c.in-Answered.is in (
       subst (λ (l : Option Kind). IsRun (record r { token = c.pass-past.new.dom; left = l; collected = c.lets_refuse-run-inside.result; progress = c.pass-past.new.progress; hints = c.pass-past.new.hints })) (sym gone) is,
       c.run.invariant.1,

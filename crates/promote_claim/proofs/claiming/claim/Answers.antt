@@ -1,3 +1,5 @@
+use Rattle.std.proofs.Common.{ap}
+use Rattle.heap_rule.specs.declared.view.DomainView.{DomainView}
 use Rattle.promote_claim.proofs.Meeting.{grown_colours, head_may_colours, claimed_after}
 use Rattle.promote_claim.proofs.claiming.claim.Goals as goal
 
@@ -10,4 +12,5 @@ claim_met-requires-clause-met c = let h = c.colours_now-colours in head_may_colo
 pub returns-clause-claimed : goal.returns-clause-claimed
 returns-clause-claimed c = let h = c.colours_now-colours in
     claimed_after c.args.heap.now.config c.args.young c.claim_met.result c.args.dom.now.view h.new.dom.view c.claim_met.new.dom.view
+    (ap (λ (z : DomainView). z.own.pending.items) h.ensures.knows)
     (grown_colours c.args.heap.now.config c.args.dom.now.view h.new.dom.view h.result h.ensures.knows c.requires.works) c.claim_met.ensures.claimed

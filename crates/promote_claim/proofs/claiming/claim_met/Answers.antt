@@ -2,7 +2,7 @@ use Rattle.std.proofs.Common.{ℕ, ◌∙◌, Option, ap, subst}
 use Rattle.heap_words.specs.Unpacked.{Unpacks}
 use Rattle.heap_rule.specs.declared.view.DomainView.{DomainView}
 use Rattle.promote_claim.specs.Heads.{IsForward, forward_word}
-use Rattle.promote_claim.proofs.Meeting.{grown_armed, head_may_armed, head_grown, head_claimed, met_with, claimed_after}
+use Rattle.promote_claim.proofs.Meeting.{grown_armed, head_may_armed, head_grown, head_claimed, head_items, met_with, claimed_after}
 use Rattle.promote_claim.proofs.claiming.claim_met.Goals as goal
 
 pub young_head_load-word-requires-clause-may : goal.young_head_load-word-requires-clause-may
@@ -10,7 +10,7 @@ young_head_load-word-requires-clause-may c = let a = c.armed_now-armed in head_m
 
 pub returns-in-Some-clause-claimed : goal.returns-in-Some-clause-claimed
 returns-in-Some-clause-claimed c = let k = c.args.heap.now.config in let x = c.args.dom.now.view in let a = c.armed_now-armed in let h = c.young_head_load-word in let g = grown_armed k x a.new.dom.view a.result a.ensures.knows c.requires.works in
-    claimed_after k c.args.young c.in-Some.copy x a.new.dom.view h.new.dom.view g (head_claimed k c.args.young a.new.dom.view h.result h.new.dom.view h.ensures.told c.config-limits.ensures.limits c.in-Some.copy g.works c.in-Some.ensures.found)
+    claimed_after k c.args.young c.in-Some.copy x a.new.dom.view h.new.dom.view (ap (λ (z : DomainView). z.own.pending.items) a.ensures.knows) g (head_claimed k c.args.young a.new.dom.view h.result h.new.dom.view h.ensures.told c.config-limits.ensures.limits c.in-Some.copy g.works c.in-Some.ensures.found)
 
 pub claim_as-requires-clause-works : goal.claim_as-requires-clause-works
 claim_as-requires-clause-works c = let k = c.args.heap.now.config in let x = c.args.dom.now.view in let a = c.armed_now-armed in let h = c.young_head_load-word in
@@ -24,6 +24,7 @@ claim_as-requires-clause-met c = let a = c.armed_now-armed in let h = c.young_he
 
 pub returns-clause-claimed : goal.returns-clause-claimed
 returns-clause-claimed c = let k = c.args.heap.now.config in let x = c.args.dom.now.view in let a = c.armed_now-armed in let h = c.young_head_load-word in let g = grown_armed k x a.new.dom.view a.result a.ensures.knows c.requires.works in
-    claimed_after k c.args.young c.claim_as.result x a.new.dom.view c.claim_as.new.dom.view g
+    claimed_after k c.args.young c.claim_as.result x a.new.dom.view c.claim_as.new.dom.view (ap (λ (z : DomainView). z.own.pending.items) a.ensures.knows) g
     (claimed_after k c.args.young c.claim_as.result a.new.dom.view h.new.dom.view c.claim_as.new.dom.view
+    (head_items k c.args.young a.new.dom.view h.result h.new.dom.view h.ensures.told c.config-limits.ensures.limits)
     (head_grown k c.args.young a.new.dom.view h.result h.new.dom.view h.ensures.told c.config-limits.ensures.limits g.works) c.claim_as.ensures.claimed)

@@ -1,0 +1,78 @@
+-- What the clauses of turns refuse of hints.
+use Rattle.std.proofs.Common.{◌≡◌, ◌≢◌, ◌∙◌, ℕ, ◌+◌, ◌≤◌, ◌⊎◌, Bool, true, false, refl, sym, ap, ⊎_elim, subst, arith}
+use Rattle.heap_rule.specs.declared.phase.Kind.{Kind}
+use Rattle.heap_rule.specs.declared.phase.Kind.TheVariants.{Run, Promote, Reset, Roots, Mark, Rounds, Decide, Queued, Clean, Lasts, Sweep, Answer}
+use Rattle.heap_rule.specs.declared.view.DomainView.{DomainView}
+use Rattle.heap_rule.specs.declared.view.Share.{Share}
+use Rattle.heap_rule.specs.Phases.{IsEven, IsOdd}
+use Rattle.heap_rule.specs.Token.{SharedHeap}
+use Rattle.barriers.specs.Aware.{scanned_in, vain_in}
+use Rattle.cycle_phases.specs.Sharing.{HintsIn}
+use Rattle.mark_slices.specs.Decks.{Counts}
+use Rattle.domain_turns.specs.Runs.{GoesBy, IsAnswered, MarksBeside, Polls, Resumes, RunView, SeesAnswer, SweepsBeside, Waits, asking_end}
+
+-- a domain that waits lets no hint go, and takes and notes none
+pub a_wait_lets_no_hint_go : (h : SharedHeap) (old new : RunView) (b : ℕ) → Waits h old new b → new.hints ≡ old.hints
+a_wait_lets_no_hint_go h old new b w = ap (λ (r : RunView). r.hints) w.run
+
+-- nor does one that runs again after a pause, or one that has come to the answer of a collection
+pub the_end_of_a_pause_lets_no_hint_go : (h : SharedHeap) (old start : RunView) → Resumes h old start → start.hints ≡ old.hints
+the_end_of_a_pause_lets_no_hint_go h old start r = ap (λ (r : RunView). r.hints) r.run
+
+pub a_seen_answer_lets_no_hint_go : (h : SharedHeap) (old new : RunView) → SeesAnswer h old new → new.hints ≡ old.hints
+a_seen_answer_lets_no_hint_go h old new s = ap (λ (r : RunView). r.hints) s.run
+
+pub an_answer_lets_no_hint_go : (h : SharedHeap) (old new : RunView) → IsAnswered h old new → new.hints ≡ old.hints
+an_answer_lets_no_hint_go h old new a = ap (λ (r : RunView). r.hints) a.run
+
+-- nor one that goes through a phase in which neither roots nor the fields of marked blocks are marked
+unmarked : (kind : Kind) (l m : Counts) → kind ≢ Roots → kind ≢ Mark → HintsIn kind l m → m ≡ l
+unmarked Roots l m roots mark hints = absurd (roots refl)
+unmarked Mark l m roots mark hints = absurd (mark refl)
+unmarked Run l m roots mark hints = hints
+unmarked Promote l m roots mark hints = hints
+unmarked Reset l m roots mark hints = hints
+unmarked Rounds l m roots mark hints = hints
+unmarked Decide l m roots mark hints = hints
+unmarked Queued l m roots mark hints = hints
+unmarked Clean l m roots mark hints = hints
+unmarked Lasts l m roots mark hints = hints
+unmarked Sweep l m roots mark hints = hints
+unmarked Answer l m roots mark hints = hints
+
+pub no_hint_goes_where_nothing_is_marked : (h : SharedHeap) (old new : RunView) (g : GoesBy h old new) → g.kind ≢ Roots → g.kind ≢ Mark → new.hints ≡ old.hints
+no_hint_goes_where_nothing_is_marked h old new g roots mark = ⊎_elim
+    (λ (e : IsEven old.token.view.own.arrivals × HintsIn g.kind old.hints new.hints). unmarked g.kind old.hints new.hints roots mark e.1)
+    (λ (o : IsOdd old.token.view.own.arrivals × (new.hints ≡ old.hints)). o.1)
+    g.hints
+
+-- what follows the marking in a poll leaves what the domain knows of blocks, and its hints
+asked_share : (spent : Bool) (r : RunView) → (asking_end spent r).token.view.seen.share ≡ r.token.view.seen.share
+asked_share true r = refl
+asked_share false r = refl
+
+asked_hints : (spent : Bool) (r : RunView) → (asking_end spent r).hints ≡ r.hints
+asked_hints true r = refl
+asked_hints false r = refl
+
+-- how often the domain has looked at a hint
+abbrev looks_of : Share → ℕ
+looks_of s = scanned_in s.known + vain_in s.known
+
+-- a poll pops no hint unlooked: it has taken no more than it has looked at, in vain or not
+pub each_hint_taken_is_looked_at : (h : SharedHeap) (old new : RunView) → Polls h old new → looks_of new.token.view.seen.share ≡ looks_of old.token.view.seen.share → new.hints.taken ≤ old.hints.taken
+each_hint_taken_is_looked_at h old new p still =
+    let share : new.token.view.seen.share ≡ p.worked.token.view.seen.share = ap (λ (r : RunView). r.token.view.seen.share) p.run ∙ (asked_share p.spent p.made ∙ ap (λ (x : DomainView). x.seen.share) p.view) in
+    let hints : new.hints ≡ p.worked.hints = ap (λ (r : RunView). r.hints) p.run ∙ (asked_hints p.spent p.made ∙ ap (λ (r : RunView). r.hints) p.tried.run) in
+    let a : ℕ = old.hints.taken in
+    let b : ℕ = p.worked.hints.taken in
+    let few : b ≤ a = ⊎_elim
+    (λ (m : MarksBeside h old p.worked p.spent).
+    let looks : looks_of p.worked.token.view.seen.share ≡ looks_of old.token.view.seen.share = sym (ap looks_of share) ∙ still in
+    let c : ℕ = looks_of old.token.view.seen.share in
+    let d : ℕ = looks_of p.worked.token.view.seen.share in
+    let same : d ≡ c = looks in
+    let all : b + c ≤ a + d = m.looked in omega (arith, same, all))
+    (λ (s : ((count : ℕ) × SweepsBeside h old p.worked count) × (p.spent ≡ false)). let same : b ≡ a = ap (λ (r : RunView). r.hints.taken) s.0.1.run in omega (arith, same))
+    p.works in
+    subst (λ (l : Counts). l.taken ≤ a) (sym hints) few
