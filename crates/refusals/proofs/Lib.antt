@@ -4,3 +4,8 @@ mod Finalisers
 mod Pools
 mod Pauses
 mod Commands
+mod Steps
+mod Phases
+mod Copies
+mod Rooms
+mod Waiting
