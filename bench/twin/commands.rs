@@ -72,6 +72,14 @@ impl Domain<'_> {
         self.field(block, head, index)
     }
 
+    /// Stores to a field. While a cycle goes on what the field refers to is marked before.
+    fn store_field(&mut self, block: u32, at: u32, value: Value) {
+        if self.heap.is_armed() {
+            self.darken_beside(Value::of(self.heap.load(self.heap.at(at))));
+        }
+        self.store_word(block, at, value);
+    }
+
     fn load(&mut self, dst: u8, src: u8, index: u16) -> Reply {
         let Value::Ref(block) = self.registers[src as usize] else {
             return self.refuse();
@@ -92,7 +100,7 @@ impl Domain<'_> {
             return self.refuse();
         }
         match self.field_for(block, index, value) {
-            Ok(at) => self.store_word(block, at, value),
+            Ok(at) => self.store_field(block, at, value),
             Err(refusal) => return refusal,
         }
         Reply::Done
@@ -101,6 +109,9 @@ impl Domain<'_> {
     /// Exchanges a field that holds what is expected.
     fn exchange(&mut self, block: u32, at: u32, expected: Value, value: Value) -> Reply {
         let heap = self.heap;
+        if heap.is_armed() {
+            self.darken_beside(expected);
+        }
         if heap.exchange(heap.at(at), expected.word(), value.word()) != expected.word() {
             return Reply::No;
         }

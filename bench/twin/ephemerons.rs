@@ -49,7 +49,13 @@ impl Domain<'_> {
 
     pub fn get(&mut self, dst: u8, ephe: u8, key: Option<u16>) -> Reply {
         match self.find(ephe, key) {
-            Ok((at, _)) => self.load_word(dst, at),
+            Ok((at, _)) => {
+                let reply = self.load_word(dst, at);
+                if self.heap.is_armed() {
+                    self.darken_beside(self.registers[dst as usize]);
+                }
+                reply
+            }
             Err(refusal) => refusal,
         }
     }

@@ -4,6 +4,8 @@ use crate::finalisers::Finalisers;
 use crate::pools::{CLASS_COUNT, Spot};
 use crate::script::Command;
 use crate::words::{Colours, Label, Value, plain_head};
+use std::collections::VecDeque;
+use std::sync::Mutex;
 use std::sync::atomic::AtomicU64;
 use std::sync::atomic::Ordering::SeqCst;
 
@@ -11,6 +13,7 @@ pub const WANT: usize = 0;
 pub const BARRIER: usize = 1;
 pub const PLAN: usize = 2;
 pub const CHANGED: usize = 3;
+pub const ARMED: usize = 4;
 pub const COLOURS: usize = 5;
 pub const LISTED: usize = 6;
 pub const CURSOR: usize = 7;
@@ -21,7 +24,7 @@ pub const LIST: usize = 11;
 
 pub const POOL_WORDS: u32 = 4096;
 const REMEMBERED_ROOM: usize = 4096;
-const HINTS_ROOM: usize = 4096;
+pub const HINTS_ROOM: usize = 4096;
 
 #[derive(Clone, Copy)]
 pub struct Sizes {
@@ -47,6 +50,8 @@ impl Sizes {
 pub struct Heap {
     words: Box<[AtomicU64]>,
     pub sizes: Sizes,
+    /// Of each domain the blocks that are to be scanned beside running domains.
+    pub hints: Vec<Mutex<VecDeque<u32>>>,
 }
 
 impl Heap {
@@ -57,7 +62,14 @@ impl Heap {
         let zeros = Box::into_raw(zeros.into_boxed_slice()) as *mut [AtomicU64];
         // SAFETY: the words are as large and as aligned, and no other pointer leads to them.
         let words = unsafe { Box::from_raw(zeros) };
-        let heap = Heap { words, sizes };
+        let hints = (0..sizes.domains)
+            .map(|_| Mutex::new(VecDeque::with_capacity(HINTS_ROOM)))
+            .collect();
+        let heap = Heap {
+            words,
+            sizes,
+            hints,
+        };
         heap.fill();
         heap
     }
@@ -128,6 +140,11 @@ impl Heap {
         Colours::of(self.load(COLOURS))
     }
 
+    /// Whether a cycle goes on beside running domains.
+    pub fn is_armed(&self) -> bool {
+        self.load(ARMED) != 0
+    }
+
     pub fn label(&self, block: u32) -> Label {
         Label::of(self.load(self.at(block + 1)))
     }
@@ -150,14 +167,17 @@ pub struct Domain<'h> {
     pub arrivals: u64,
     /// The place before which no own place of a class is free.
     pub looked: [Spot; CLASS_COUNT],
+    /// The next own place to be swept, and whether no listed ephemeron is garbage.
+    pub swept: Spot,
+    pub is_pruned: bool,
     pub remembered: Vec<u32>,
     /// The place of a class that is prepared for a copy.
     pub prepared: [Option<u32>; CLASS_COUNT],
     pub pending: Vec<Copied>,
     pub ephemerons: Vec<u32>,
     pub finalisers: Finalisers,
-    /// Blocks that were darkened and are still to be scanned.
-    pub hints: Vec<u32>,
+    /// Blocks that were darkened in this phase of a pause and are still to be scanned.
+    pub trail: Vec<u32>,
 }
 
 impl<'h> Domain<'h> {
@@ -174,12 +194,17 @@ impl<'h> Domain<'h> {
             serial: 0,
             arrivals: 0,
             looked: [Spot::FIRST; CLASS_COUNT],
+            swept: Spot {
+                pool: heap.sizes.pools,
+                slot: 0,
+            },
+            is_pruned: true,
             remembered: Vec::with_capacity(REMEMBERED_ROOM),
             prepared: [None; CLASS_COUNT],
             pending: Vec::with_capacity(areas / 4),
             ephemerons: Vec::with_capacity(commands.iter().filter(is_ephemeron).count()),
             finalisers: Finalisers::for_commands(commands),
-            hints: Vec::with_capacity(HINTS_ROOM),
+            trail: Vec::with_capacity(HINTS_ROOM),
         }
     }
 
@@ -194,10 +219,26 @@ impl<'h> Domain<'h> {
         self.remembered.len() < REMEMBERED_ROOM
     }
 
-    /// Notes a block that is to be scanned, where there is room and it lies in the pools.
-    pub fn note(&mut self, block: u32) {
-        if self.hints.len() < HINTS_ROOM && block <= self.heap.pools_end() {
-            self.hints.push(block);
+    /// Keeps a block of the pools that is to be scanned in this phase, where there is room.
+    pub fn follow(&mut self, block: u32) {
+        if self.trail.len() < HINTS_ROOM && block <= self.heap.pools_end() {
+            self.trail.push(block);
         }
+    }
+
+    /// Notes a block that is to be scanned beside running domains, where there is room.
+    pub fn note(&self, block: u32) {
+        let mut hints = self.heap.hints[self.number as usize].lock().unwrap();
+        if hints.len() < HINTS_ROOM {
+            hints.push_back(block);
+        }
+    }
+
+    /// A block of which this domain has a hint, or else another one.
+    pub fn next_hint(&self) -> Option<u32> {
+        let domains = self.heap.sizes.domains;
+        (0..domains)
+            .map(|i| (self.number + i) % domains)
+            .find_map(|d| self.heap.hints[d as usize].lock().unwrap().pop_front())
     }
 }

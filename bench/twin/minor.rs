@@ -27,14 +27,14 @@ impl Domain<'_> {
         if listed - drawn < u64::from(heap.sizes.reserve()) {
             return Attempt::NoRoom;
         }
-        let colours = heap.colours();
+        let (colour, _) = self.new_colour();
         let label = self.next_label();
         let at = self.next_address();
         heap.store(heap.at(at + 1), label.word());
         for i in 0..u32::from(fields) {
             heap.store(heap.at(at + 2 + i), Value::Int(0).word());
         }
-        heap.store(heap.at(at), plain_head(fields, tag, colours.unmarked));
+        heap.store(heap.at(at), plain_head(fields, tag, colour));
         self.used += words;
         self.serial += 1;
         self.registers[dst as usize] = Value::Ref(at);
@@ -55,6 +55,7 @@ impl Domain<'_> {
     pub fn claim(&mut self, young: u32) -> u32 {
         let heap = self.heap;
         heap.colours();
+        heap.is_armed();
         let head = heap.load(heap.at(young));
         if let Some(copy) = copy_of(head) {
             return copy;

@@ -1,7 +1,7 @@
 //! The pools of the major heap: free places, the list of free pools, and allocation.
 
 use crate::heap::{CURSOR, Domain, LIST, LISTED, POOL_WORDS};
-use crate::words::{Label, Value, ephemeron_head, plain_head};
+use crate::words::{Label, Value, ephemeron_head, plain_head, scanned};
 
 pub const CLASS_COUNT: usize = 9;
 const CLASSES: [u32; CLASS_COUNT] = [4, 8, 16, 32, 64, 128, 256, 512, 1024];
@@ -45,7 +45,21 @@ pub fn places(pool: u32, class: usize, slot: u32) -> impl Iterator<Item = u32> {
     (slot..POOL_WORDS / size).map(move |slot| pool * POOL_WORDS + slot * size + 1)
 }
 
+fn scanned_if(is_scanned: bool, head: u64) -> u64 {
+    if is_scanned { scanned(head) } else { head }
+}
+
 impl Domain<'_> {
+    /// The colour of a new block, and whether a cycle goes on beside running domains.
+    pub fn new_colour(&self) -> (u64, bool) {
+        let colours = self.heap.colours();
+        if self.heap.is_armed() {
+            (colours.marked, true)
+        } else {
+            (colours.unmarked, false)
+        }
+    }
+
     /// The class of a pool whose owner is this domain.
     pub fn own_class(&self, pool: u32) -> Option<usize> {
         let word = self.heap.load(self.heap.owner(pool));
@@ -95,7 +109,11 @@ impl Domain<'_> {
     }
 
     fn take(&mut self, class: usize) -> Option<u32> {
-        self.find_free(class).or_else(|| self.draw(class))
+        if let Some(at) = self.find_free(class).or_else(|| self.draw(class)) {
+            return Some(at);
+        }
+        self.sweep();
+        self.find_free(class)
     }
 
     pub fn take_for_copy(&mut self, class: usize) -> u32 {
@@ -126,17 +144,17 @@ impl Domain<'_> {
 
     pub fn alloc_major(&mut self, dst: u8, tag: u8, fields: u16) -> Option<Label> {
         let at = self.take(class_for(u32::from(fields) + 2))?;
-        let colours = self.heap.colours();
+        let (colour, is_scanned) = self.new_colour();
         let label = self.write_words(at, Value::Int(0).word(), u32::from(fields));
-        self.write_head(at, plain_head(fields, tag, colours.unmarked), dst);
+        self.write_head(at, scanned_if(is_scanned, plain_head(fields, tag, colour)), dst);
         Some(label)
     }
 
     pub fn create_ephemeron(&mut self, dst: u8, keys: u16) -> Option<Label> {
         let at = self.take(class_for(u32::from(keys) + 3))?;
-        let colours = self.heap.colours();
+        let (colour, is_scanned) = self.new_colour();
         let label = self.write_words(at, Value::Nothing.word(), u32::from(keys) + 1);
-        self.write_head(at, ephemeron_head(keys, colours.unmarked), dst);
+        self.write_head(at, scanned_if(is_scanned, ephemeron_head(keys, colour)), dst);
         self.ephemerons.push(at);
         Some(label)
     }

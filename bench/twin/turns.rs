@@ -1,7 +1,9 @@
 //! What a domain does between two looks at the words by which the domains stop each other.
 
 use crate::commands::Attempt;
-use crate::heap::{BARRIER, CHANGED, COLOURS, Domain, ENDED, LIVE_BLOCKS, LIVE_WORDS, PLAN, WANT};
+use crate::heap::{
+    ARMED, BARRIER, CHANGED, COLOURS, Domain, ENDED, LIVE_BLOCKS, LIVE_WORDS, PLAN, WANT,
+};
 use crate::replies::Reply;
 use crate::script::Command;
 use crate::words::Value;
@@ -11,6 +13,7 @@ use crate::words::Value;
 pub enum Want {
     Minor = 1,
     Cycle = 2,
+    Finish = 4,
     Full = 8,
 }
 
@@ -46,6 +49,22 @@ const KINDS: [Kind; 12] = [
     Kind::Answer,
 ];
 
+/// How many blocks a domain scans in a poll, or how many places it sweeps.
+const SLICE: u32 = 256;
+
+/// How far domain 0 has brought a cycle of the major heap.
+#[derive(Clone, Copy, Default)]
+struct Progress {
+    /// Whether finalisers are decided.
+    is_cut: bool,
+    /// Whether the cycle began in this pause.
+    is_whole: bool,
+    /// Whether it goes on beside running domains.
+    is_armed: bool,
+    /// Whether garbage of the last one may be left.
+    is_unswept: bool,
+}
+
 #[derive(PartialEq, Eq)]
 pub enum Turned {
     Did,
@@ -65,8 +84,7 @@ pub struct Run<'h> {
     asked: Option<u64>,
     /// Whether an allocation that is refused once more is answered `full`.
     collected: bool,
-    /// Whether this collection has decided about finalisers.
-    cut: bool,
+    progress: Progress,
     /// How many finalisers run before a `full_major` is answered.
     due: usize,
 }
@@ -82,7 +100,7 @@ impl<'h> Run<'h> {
             left: None,
             asked: None,
             collected: false,
-            cut: false,
+            progress: Progress::default(),
             due: 0,
         }
     }
@@ -100,7 +118,17 @@ impl<'h> Run<'h> {
         self.asked = Some(self.dom.arrivals);
     }
 
+    /// Marks or sweeps beside the other domains, and tells whether there is nothing more to be marked.
+    fn work_beside(&mut self) -> bool {
+        if self.dom.heap.is_armed() {
+            return self.dom.slice(SLICE);
+        }
+        self.dom.sweep_slice(SLICE);
+        false
+    }
+
     fn try_command(&mut self, command: Command) {
+        let is_spent = matches!(command, Command::Poll) && self.work_beside();
         let served = self.asked.is_some_and(|at| at < self.dom.arrivals);
         match self.dom.attempt(command, served) {
             Attempt::Made(reply) => self.made(reply),
@@ -110,6 +138,9 @@ impl<'h> Run<'h> {
                 self.made(Reply::Full);
             }
             Attempt::NoRoom => self.ask(Want::Full),
+        }
+        if is_spent {
+            self.dom.heap.or(WANT, Want::Finish as u64);
         }
     }
 
@@ -162,6 +193,53 @@ impl<'h> Run<'h> {
         self.dom.arrive();
     }
 
+    /// Names the next kind of phase, and keeps how far the cycle has come then.
+    fn lead(&mut self, last: Kind) -> Kind {
+        let next = self.dom.next_kind(last, self.progress);
+        let progress = &mut self.progress;
+        match (last, next) {
+            (Kind::Sweep, Kind::Roots | Kind::Run) => progress.is_unswept = false,
+            (Kind::Roots, Kind::Run) => progress.is_armed = true,
+            (Kind::Lasts, Kind::Run) => progress.is_unswept = true,
+            (Kind::Decide, _) => progress.is_cut = true,
+            _ => (),
+        }
+        match (last, next) {
+            (_, Kind::Roots) => {
+                progress.is_whole = true;
+                progress.is_cut = false;
+            }
+            (Kind::Reset, Kind::Mark) => {
+                progress.is_whole = false;
+                progress.is_cut = false;
+            }
+            (Kind::Lasts, _) => progress.is_armed = false,
+            _ => (),
+        }
+        next
+    }
+
+    /// Leaves the odd phase behind a phase. Domain 0 names the next one.
+    fn leave_odd(&mut self, last: Kind) -> Kind {
+        let heap = self.dom.heap;
+        let next = if self.dom.number == 0 {
+            self.lead(last)
+        } else {
+            last
+        };
+        if self.dom.number == 0 {
+            if next == Kind::Run {
+                heap.store(WANT, 0);
+            }
+            heap.store(PLAN, next as u64);
+            if next == Kind::Mark {
+                heap.store(CHANGED, 0);
+            }
+        }
+        self.dom.arrive();
+        next
+    }
+
     /// Goes on from the phase that the domain has arrived from.
     fn pass(&mut self, last: Kind) -> Turned {
         let heap = self.dom.heap;
@@ -169,7 +247,7 @@ impl<'h> Run<'h> {
             return Turned::Nowhere;
         }
         let kind = if self.dom.arrivals % 2 == 1 {
-            self.dom.leave_odd(last, self.cut)
+            self.leave_odd(last)
         } else {
             let kind = KINDS[heap.load(PLAN) as usize];
             match kind {
@@ -183,11 +261,6 @@ impl<'h> Run<'h> {
             kind
         };
         self.left = Some(kind);
-        self.cut = match last {
-            Kind::Roots => false,
-            Kind::Queued => true,
-            _ => self.cut,
-        };
         Turned::Did
     }
 
@@ -217,36 +290,21 @@ impl Domain<'_> {
             Kind::Decide => self.decide(),
             Kind::Queued => self.mark_queue(),
             Kind::Clean => self.clean_ephemerons(),
-            Kind::Lasts => self.decide_last(),
+            Kind::Lasts => {
+                self.decide_last();
+                self.sweep_anew();
+            }
             Kind::Sweep => {
                 self.sweep();
                 self.count();
+                self.return_pools();
             }
             Kind::Run | Kind::Answer => unreachable!("no share"),
         }
         self.arrive();
     }
 
-    /// Leaves the odd phase behind a phase. Domain 0 names the next one.
-    fn leave_odd(&mut self, last: Kind, cut: bool) -> Kind {
-        let heap = self.heap;
-        if self.number != 0 {
-            self.arrive();
-            return last;
-        }
-        let next = self.next_kind(last, cut);
-        if next == Kind::Run {
-            heap.store(WANT, 0);
-        }
-        heap.store(PLAN, next as u64);
-        if next == Kind::Mark {
-            heap.store(CHANGED, 0);
-        }
-        self.arrive();
-        next
-    }
-
-    fn next_kind(&mut self, last: Kind, cut: bool) -> Kind {
+    fn next_kind(&mut self, last: Kind, progress: Progress) -> Kind {
         let heap = self.heap;
         match last {
             Kind::Run => {
@@ -254,37 +312,89 @@ impl Domain<'_> {
                 Kind::Promote
             }
             Kind::Promote => Kind::Reset,
-            Kind::Reset => self.after_reset(),
-            Kind::Roots | Kind::Queued => Kind::Mark,
+            Kind::Reset => self.after_reset(progress),
+            Kind::Roots => self.after_roots(),
+            Kind::Queued => Kind::Mark,
             Kind::Mark | Kind::Rounds if heap.load(CHANGED) != 0 => Kind::Mark,
             Kind::Mark => Kind::Rounds,
-            Kind::Rounds if cut => Kind::Clean,
+            Kind::Rounds if progress.is_cut => Kind::Clean,
             Kind::Rounds => Kind::Decide,
             Kind::Decide => Kind::Queued,
             Kind::Clean => Kind::Lasts,
-            Kind::Lasts => {
-                heap.store(COLOURS, heap.colours().rotated().word());
-                heap.store(LIVE_BLOCKS, 0);
-                heap.store(LIVE_WORDS, 0);
-                Kind::Sweep
-            }
-            Kind::Sweep => Kind::Answer,
-            Kind::Answer => {
-                self.write_list();
-                Kind::Run
-            }
+            Kind::Lasts => self.after_lasts(),
+            Kind::Sweep => self.after_sweep(progress),
+            Kind::Answer => self.before_run(false),
         }
     }
 
-    /// Whether a collection of the major heap begins.
-    fn after_reset(&mut self) -> Kind {
+    fn is_wanted(&self, want: Want) -> bool {
+        self.heap.load(WANT) & want as u64 != 0
+    }
+
+    /// The domains run next. Says whether a cycle goes on beside them.
+    fn before_run(&mut self, is_armed: bool) -> Kind {
+        self.heap.store(ARMED, u64::from(is_armed));
+        self.write_list();
+        Kind::Run
+    }
+
+    /// Whether a cycle begins, where so many pools are free.
+    fn begins(&self, free: u32) -> bool {
+        self.is_wanted(Want::Cycle)
+            || self.is_wanted(Want::Full)
+            || 2 * free < self.heap.sizes.pools
+    }
+
+    fn clear_counts(&self) {
+        self.heap.store(LIVE_BLOCKS, 0);
+        self.heap.store(LIVE_WORDS, 0);
+    }
+
+    fn after_reset(&mut self, progress: Progress) -> Kind {
         let free = self.write_list();
-        let wants = self.heap.load(WANT);
-        let asked = wants & (Want::Cycle as u64 | Want::Full as u64) != 0;
-        if asked || 2 * free < self.heap.sizes.pools {
-            Kind::Roots
+        let finishes = self.is_wanted(Want::Finish) || self.is_wanted(Want::Full);
+        match (progress.is_armed, finishes, self.begins(free)) {
+            (true, true, _) => Kind::Mark,
+            (false, _, true) if progress.is_unswept => {
+                self.clear_counts();
+                Kind::Sweep
+            }
+            (false, _, true) => Kind::Roots,
+            _ => Kind::Run,
+        }
+    }
+
+    fn after_roots(&mut self) -> Kind {
+        if self.is_wanted(Want::Full) {
+            Kind::Mark
         } else {
-            Kind::Run
+            self.before_run(true)
+        }
+    }
+
+    fn after_lasts(&mut self) -> Kind {
+        let heap = self.heap;
+        heap.store(COLOURS, heap.colours().rotated().word());
+        if self.is_wanted(Want::Full) {
+            self.clear_counts();
+            Kind::Sweep
+        } else {
+            self.before_run(false)
+        }
+    }
+
+    fn after_sweep(&mut self, progress: Progress) -> Kind {
+        if progress.is_unswept {
+            let free = self.write_list();
+            if self.begins(free) {
+                Kind::Roots
+            } else {
+                Kind::Run
+            }
+        } else if progress.is_whole {
+            Kind::Answer
+        } else {
+            Kind::Roots
         }
     }
 }

@@ -1,6 +1,6 @@
 -- A parse of words that begin with the name of a command enters it.
 use Rattle.std.proofs.Common.{◌≡◌, ◌∙◌, ◌++◌, true, false, subst, List, [], ◌∷◌, Option, Some, append-nil, append_assoc, codes, refl, sym, ap}
-use Rattle.std.specs.Prelude.{◌&&◌, Bool, find, fold, is_some, option_map}
+use Rattle.std.specs.Prelude.{◌&&◌, ◌||◌, Bool, find, fold, is_some, option_map}
 use Rattle.std.specs.List.{list_all}
 use Rattle.std.specs.Option.{option_map_or}
 use Rattle.clap.specs.Simple.{Shape, built, entered, is_simple, label_of, names_of, rows_at, subcommand_of}
@@ -10,6 +10,11 @@ use Rattle.command_line.specs.Commands.{camlheap_app, run_app}
 use Rattle.command_line.proofs.WalkLemmas.{built_below}
 use Rattle.command_line.proofs.TakesLemmas.{both_hold}
 use Rattle.command_line.proofs.ScriptLemmas.{built_script}
+
+-- a second test that is false changes nothing
+pub or_false : (b c : Bool) → c ≡ false → (b || c) ≡ b
+or_false true c e = refl
+or_false false c e = e
 
 -- the commands, as a parse has them
 abbrev commands : List Shape

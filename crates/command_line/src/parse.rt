@@ -1,9 +1,9 @@
 //! The words of the command line as `clap` reads them.
 ghost use Rattle.std.specs.Prelude.{◌≡◌, false, true, IfOk, IfErr, map, string_bytes, option_and_then};
-ghost use Rattle.clap.specs.Words.{app_of, found_of, kind_of, rows_of, subcommand_rows_of, takes, HasMatchesOf};
+ghost use Rattle.clap.specs.Words.{app_of, found_of, kind_of, rows_of, rule_of, subcommand_rows_of, takes, with_rule, HasMatchesOf};
 ghost use Rattle.clap.specs.declared.builder.command.Command.TheViews.{out-Command};
 ghost use Rattle.clap.specs.declared.error.kind.ErrorKind.TheVariants.{OutOfMemory};
-ghost use Rattle.command_line.specs.Commands.{camlheap_app, given_in, job_at, number_in, run_app, script_app, script_in};
+ghost use Rattle.command_line.specs.Commands.{camlheap_app, given_in, job_at, number_in, number_rule, option_rule, run_app, script_app, script_in};
 
 use crate::job::{Generated, Job};
 use crate::number::number;
@@ -11,19 +11,56 @@ use crate::options::{Given, sizes};
 use clap::{Arg, ArgMatches, Command, Error};
 use std::alloc::{AllocError, Global};
 
+// An option with a long name.
+fn option_arg<'a>(alloc: Global, name: &'a str) -> Arg<'a>
+    ensures rule { rule_of result ≡ option_rule name.entry.now }
+    ensures local { result.global ≡ false }
+{
+    Arg::new(alloc, name).long(name)
+}
+
+// The command with one more option.
+fn with_option<'a>(
+    alloc: Global,
+    command: Command<'a>,
+    name: &'a str,
+) -> Result<Command<'a>, AllocError>
+    ensures shape { IfOk result (λ c. app_of c ≡ with_rule (app_of command.entry) (option_rule name.entry.now)) }
+    ensures local { IfOk result (λ c. (out-Command c).has_globals ≡ (out-Command command.entry).has_globals) }
+{
+    command.arg(option_arg(alloc, name))
+}
+
 // The command `run` with its options.
 fn run_command<'a>(alloc: Global) -> Result<Command<'a>, AllocError>
     ensures shape { IfOk result (λ c. app_of c ≡ run_app) }
     ensures local { IfOk result (λ c. (out-Command c).has_globals ≡ false) }
 {
-    let domains = Arg::new(alloc, "domains").long("domains");
-    let minor = Arg::new(alloc, "minor").long("minor");
-    let pools = Arg::new(alloc, "pools").long("pools");
     let named = Command::new(alloc, "run");
-    let one = named.arg(domains)?;
-    let two = one.arg(minor)?;
-    let three = two.arg(pools)?;
+    let one = with_option(alloc, named, "domains")?;
+    let two = with_option(alloc, one, "minor")?;
+    let three = with_option(alloc, two, "pools")?;
     Ok(three)
+}
+
+// A number that stands at its place.
+fn number_arg<'a>(alloc: Global, name: &'a str) -> Arg<'a>
+    ensures rule { rule_of result ≡ number_rule name.entry.now }
+    ensures local { result.global ≡ false }
+{
+    Arg::new(alloc, name).required(true)
+}
+
+// The command with one more number that stands at its place.
+fn with_number<'a>(
+    alloc: Global,
+    command: Command<'a>,
+    name: &'a str,
+) -> Result<Command<'a>, AllocError>
+    ensures shape { IfOk result (λ c. app_of c ≡ with_rule (app_of command.entry) (number_rule name.entry.now)) }
+    ensures local { IfOk result (λ c. (out-Command c).has_globals ≡ (out-Command command.entry).has_globals) }
+{
+    command.arg(number_arg(alloc, name))
 }
 
 // A command with the three numbers of a script.
@@ -31,13 +68,10 @@ fn script_command<'a>(alloc: Global, name: &'a str) -> Result<Command<'a>, Alloc
     ensures shape { IfOk result (λ c. app_of c ≡ script_app name.entry.now) }
     ensures local { IfOk result (λ c. (out-Command c).has_globals ≡ false) }
 {
-    let base = Arg::new(alloc, "base").required(true);
-    let domains = Arg::new(alloc, "domains").required(true);
-    let commands = Arg::new(alloc, "commands").required(true);
     let named = Command::new(alloc, name);
-    let one = named.arg(base)?;
-    let two = one.arg(domains)?;
-    let three = two.arg(commands)?;
+    let one = with_number(alloc, named, "base")?;
+    let two = with_number(alloc, one, "domains")?;
+    let three = with_number(alloc, two, "commands")?;
     Ok(three)
 }
 

@@ -1,7 +1,8 @@
 //! Which lists of words are taken.
 ghost use Rattle.std.specs.Prelude.{◌≡◌, ◌↔◌, IsTrue, IsSome, IfSome, IfOk, IfErr, Some, map, string_bytes, option_map};
 ghost use Rattle.command_line.specs.declared.job.Job.{Job};
-ghost use Rattle.command_line.specs.Jobs.{asked_job, generated_after, IsWithinRange};
+ghost use Rattle.command_line.specs.Jobs.{asked_job, generated_after, script_if, IsWithinRange};
+ghost use Rattle.command_line.specs.Numbers.{option_number};
 ghost use Rattle.command_line.specs.Options.{given_by, nothing_read, with_name, with_text, with_word};
 ghost use Rattle.command_line.specs.RunWords.{run_sizes};
 ghost use Rattle.command_line.specs.Spelled.{AsksFor};
@@ -88,6 +89,17 @@ fn run_asked(words: &[String]) -> Option<Sizes>
     Some(sizes)
 }
 
+// The script of three numbers, where each of them is one.
+fn script_of(base: &str, domains: &str, commands: &str) -> Option<Generated>
+    ensures { result ≡ script_if (option_number base.now) (option_number domains.now) (option_number commands.now) }
+{
+    Some(Generated {
+        base: number(base)?,
+        domains: number(domains)?,
+        commands: number(commands)?,
+    })
+}
+
 // The script that the words ask for, where they are this command and three numbers.
 fn script_asked(words: &[String], command: &str) -> Option<Generated>
     ensures { result ≡ generated_after command.now (map string_bytes words.now) }
@@ -98,11 +110,7 @@ fn script_asked(words: &[String], command: &str) -> Option<Generated>
     if word.as_str() != command {
         return None;
     }
-    let script = Generated {
-        base: number(base.as_str())?,
-        domains: number(domains.as_str())?,
-        commands: number(commands.as_str())?,
-    };
+    let script = script_of(base.as_str(), domains.as_str(), commands.as_str())?;
     if !script.is_generable() {
         return None;
     }

@@ -1,5 +1,5 @@
 -- What a head load tells, by the shape of the block.
-use Rattle.std.proofs.Common.{◌≡◌, ◌∙◌, ℕ, ◌<◌, ◌≤◌, ◌&&◌, Bool, true, false, [], Option, Some, None, refl, sym, ap, subst, inl, inr}
+use Rattle.std.proofs.Common.{◌≡◌, ◌∙◌, ℕ, ◌<◌, ◌≤◌, ◌&&◌, Bool, true, false, if◌then◌else◌, [], Option, Some, None, refl, sym, subst, ◌⊎◌, ⊎_elim, inl, inr}
 use Rattle.heap_model.specs.declared.entry.Entry.{Entry}
 use Rattle.heap_model.specs.declared.reply.Applied.TheVariants.{Replied}
 use Rattle.heap_model.specs.declared.reply.Reply.TheVariants.{BadType, BadIndex}
@@ -13,7 +13,7 @@ use Rattle.heap_rule.specs.Places.{needs_no_scan}
 use Rattle.steps_run.specs.Loads.{HeadCase, RawCase, HeadTold, SizeTold, Measured, place_of, subject, puts_block, is_block}
 use Rattle.steps_run.specs.Stores.{SuitsField}
 use Rattle.heap_rule.specs.Standing.{Entered}
-use Rattle.field_access.specs.Shapes.{size_of}
+use Rattle.field_access.specs.Shapes.{size_of, fields_for, refuses}
 
 -- the block is an ephemeron: the entry stands there, and answers `type`
 no_fields : (k : Config) (a : ℕ) (e : Entry) (s : Shape) (x y : DomainView) → HeadCase k a e s x y → size_of s ≡ None → Entered k e (Replied BadType) Nothing [] x y
@@ -36,6 +36,22 @@ refused_by k a e (EpheShape keys) x y told is = told
 
 pub refused_found : (k : Config) (a : ℕ) (e : Entry) (x y : DomainView) (found : ℕ) (t : HeadTold k a e x found y) → (needs_no_scan t.shape && puts_block x e) ≡ true → Entered k e (Replied BadType) Nothing [] x y
 refused_found k a e x y found t is = refused_by k a e t.shape x y t.told is
+
+-- by the fields for a value: there are some exactly where the value is taken, and the block is no ephemeron
+pub fields_taken : (s : Shape) (v : Value) (n : ℕ) → fields_for s v ≡ Some n → ((needs_no_scan s && is_block v) ≡ false) × (size_of s ≡ Some n)
+fields_taken s v n = pick (refuses s v) where
+  pick : (b : Bool) → (if b then None else size_of s) ≡ Some n → (b ≡ false) × (size_of s ≡ Some n)
+  pick true e = cc
+  pick false e = (refl, e)
+
+fields_none : (s : Shape) (v : Value) → fields_for s v ≡ None → ((needs_no_scan s && is_block v) ≡ true) ⊎ (size_of s ≡ None)
+fields_none s v = pick (refuses s v) where
+  pick : (b : Bool) → (if b then None else size_of s) ≡ None → (b ≡ true) ⊎ (size_of s ≡ None)
+  pick true e = inl refl
+  pick false e = inr e
+
+pub none_found : (k : Config) (a : ℕ) (e : Entry) (x y : DomainView) (found : ℕ) (v : Value) (r : Option ℕ) (t : HeadTold k a e x found y) → (needs_no_scan t.shape && puts_block x e) ≡ (needs_no_scan t.shape && is_block v) → r ≡ fields_for t.shape v → r ≡ None → Entered k e (Replied BadType) Nothing [] x y
+none_found k a e x y found v r t same is none = ⊎_elim (λ (full : (needs_no_scan t.shape && is_block v) ≡ true). refused_found k a e x y found t (same ∙ full)) (λ (empty : size_of t.shape ≡ None). ephemeron_found k a e x y found None t (sym empty) refl) (fields_none t.shape v (sym is ∙ none))
 
 -- else its size is known
 raw_sized : (b : Bool) (k : Config) (a : ℕ) (e : Entry) (size tag : ℕ) (x y : DomainView) → RawCase b k a e size tag x y → b ≡ false → SizeTold k a e size (RawShape size tag) x y

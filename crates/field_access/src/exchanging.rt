@@ -12,7 +12,7 @@ ghost use Rattle.barriers.specs.Aware.{Learnt};
 ghost use Rattle.steps_exchange.specs.Exchanges.{ExpectedMarked};
 ghost use Rattle.field_access.specs.Remembered.{ChangesRemembered, SetsYoung, field_of, one_more};
 
-use crate::fields::{field_count, must_remember, refuses_value};
+use crate::fields::{fields_for, must_remember};
 use barriers::darken_beside;
 use heap_model::reply::Reply;
 use heap_rule::{Domain, Heap};
@@ -81,12 +81,9 @@ fn cas_as(heap: &Heap, dom: &mut Domain, block: u8, index: u16, expected: u8, it
         return Reply::BadType;
     }
     let head = head_load(heap, dom, address, &[]);
-    let Some(size) = field_count(head) else {
+    let Some(size) = fields_for(head, value) else {
         return Reply::BadType;
     };
-    if refuses_value(head, value) {
-        return Reply::BadType;
-    }
     if index >= size {
         return Reply::BadIndex;
     }

@@ -20,7 +20,7 @@ ghost use Rattle.heap_words.specs.declared.value.Value.TheVariants.{Ref};
 ghost use Rattle.steps_run.specs.Stores.{MustRemember};
 ghost use Rattle.field_access.specs.Registers.{LoadsInto};
 ghost use Rattle.field_access.specs.Remembered.{ChangesRemembered, PutsYoung, field_of, one_more};
-ghost use Rattle.field_access.specs.Shapes.{size_of, refuses};
+ghost use Rattle.field_access.specs.Shapes.{size_of, fields_for};
 
 use barriers::overwrite_barrier;
 use heap_model::label::Label;
@@ -45,20 +45,19 @@ pub fn field_count(head: u64) -> Option<u16>
 // The least tag of a raw block.
 const FIRST_RAW: u8 = 251;
 
-/// Whether the block whose head this is doesn't take the value into its fields: it is a raw block, and
-/// the value is another.
-pub fn refuses_value(head: u64, value: Value) -> bool
+/// The number of fields of the block whose head this is, where it takes the value into them. Nothing
+/// for an ephemeron, and for a raw block where the value is a block.
+pub fn fields_for(head: u64, value: Value) -> Option<u16>
     requires { (s : Shape) × IsHeadOf s head }
-    ensures { (s : Shape) → IsHeadOf s head → result ≡ refuses s value }
+    ensures { (s : Shape) → IsHeadOf s head → result ≡ fields_for s value }
 {
-    let raw = match unpack_head(head) {
-        Some(Head::Plain { tag, .. }) => FIRST_RAW <= tag,
-        Some(Head::Ephe { .. }) => false,
+    match unpack_head(head) {
+        Some(Head::Plain { size, tag, .. }) => match value {
+            Value::Ref(_) if FIRST_RAW <= tag => None,
+            _ => Some(size),
+        },
+        Some(Head::Ephe { .. }) => None,
         Some(Head::Free) | Some(Head::Forward(_)) | None => unreachable!(),
-    };
-    match value {
-        Value::Ref(_) => raw,
-        _ => false,
     }
 }
 
@@ -179,12 +178,9 @@ fn store_as(heap: &Heap, dom: &mut Domain, block: u8, index: u16, item: u8) -> R
         return Reply::BadType;
     }
     let head = head_load(heap, dom, address, &[]);
-    let Some(size) = field_count(head) else {
+    let Some(size) = fields_for(head, value) else {
         return Reply::BadType;
     };
-    if refuses_value(head, value) {
-        return Reply::BadType;
-    }
     if index >= size {
         return Reply::BadIndex;
     }

@@ -2,7 +2,7 @@
 use Rattle.heap_text.specs.declared.version.Version.{Version}
 use Rattle.heap_text.specs.declared.version.Version.TheVariants.{One, Two}
 use Rattle.std.proofs.Common.{◌≡◌, ◌≢◌, ℕ, ◌+◌, ◌<◌, ◌≤◌, ◌^◌, suc, ℤ, pos, List, [], ◌∷◌, ◌++◌, map, length, length-append, Bool, true, false, cond, refl, ap, sym, ◌∙◌, subst, arith, append_assoc, sum_by, None, Some}
-use Rattle.std.specs.Prelude.{option_map, count_by, codes, ◌==◌, nat_lt}
+use Rattle.std.specs.Prelude.{option_map, count_by, ◌==◌, nat_lt}
 use Rattle.std.specs.List.{list_all}
 use Rattle.std.specs.Ordering.{int_eq}
 use Rattle.std.proofs.lemmas.Bool.Decides.{nat_tests}

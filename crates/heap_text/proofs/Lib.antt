@@ -11,6 +11,7 @@ pub mod FaultLemmas
 pub mod ReadLemmas
 pub mod OnlyLemmas
 pub mod SpellsLemmas
+pub mod AnswerLemmas
 pub mod LengthLemmas
 pub mod GeneratedLemmas
 pub mod LineLemmas

@@ -2,7 +2,7 @@
 use Rattle.heap_text.specs.declared.version.Version.{Version}
 use Rattle.heap_text.specs.declared.version.Version.TheVariants.{One, Two}
 use Rattle.std.proofs.Common.{◌≡◌, ℕ, ◌+◌, ◌<◌, ◌≤◌, ◌^◌, pos, List, [], ◌∷◌, ◌++◌, map, length, length-append, true, false, cond, refl, ap, sym, ◌∙◌, subst, get_or, arith, append_assoc, None, Some, Ok, Err, IfOk, IfErr}
-use Rattle.std.specs.Prelude.{Result, codes, nat_lt, ◌==◌}
+use Rattle.std.specs.Prelude.{Result, nat_lt, ◌==◌}
 use Rattle.std.specs.List.{list_all, slice_split}
 use Rattle.std.proofs.lemmas.Bool.Decides.{nat_tests}
 use Rattle.std.proofs.lemmas.List.{append-nil}

@@ -35,7 +35,7 @@ joined_by false mark b bs (Some q) p test below e =
     let same : (b ∷ q.0, q.1) ≡ p = cc in
     ap (λ x. b ∷ x) (below q refl) ∙ ap (λ r. r.0 ++ mark ∷ r.1) same
 
-split_joined : (mark : ℕ) (bytes : List ℕ) (p : List ℕ × List ℕ) → split_at_mark mark bytes ≡ Some p → bytes ≡ p.0 ++ mark ∷ p.1
+pub split_joined : (mark : ℕ) (bytes : List ℕ) (p : List ℕ × List ℕ) → split_at_mark mark bytes ≡ Some p → bytes ≡ p.0 ++ mark ∷ p.1
 split_joined mark [] p e = cc
 split_joined mark (b ∷ bs) p e = joined_by (b == mark) mark b bs (split_at_mark mark bs) p refl (split_joined mark bs) e
 

@@ -2,7 +2,7 @@
 use Rattle.heap_text.specs.declared.version.Version.{Version}
 use Rattle.heap_text.specs.declared.version.Version.TheVariants.{One, Two}
 use Rattle.std.proofs.Common.{◌≡◌, ℕ, ◌+◌, ◌<◌, ◌^◌, List, [], ◌∷◌, ◌++◌, map, length, length-append, true, ◌&&◌, refl, ap, sym, ◌∙◌, arith, append_assoc, sum_by}
-use Rattle.std.specs.Prelude.{flat_map, codes, ◌==◌}
+use Rattle.std.specs.Prelude.{flat_map, ◌==◌}
 use Rattle.std.specs.List.{list_all, slice_split}
 use Rattle.std.proofs.lemmas.List.{append-nil}
 use Rattle.std.proofs.lemmas.List.Concat.{flat_map-append}

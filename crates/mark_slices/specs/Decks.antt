@@ -1,17 +1,18 @@
 -- What a deck of hints counts.
-use Rattle.std.specs.Prelude.{◌≡◌, ◌≢◌, ℕ, ◌+◌, ◌<◌, ◌≤◌, ◌⊎◌, List, replicate, slice_index}
+use Rattle.std.specs.Prelude.{◌≡◌, ◌≢◌, ℕ, ◌+◌, ◌<◌, ◌≤◌, ◌⊎◌, Bool, true, false, List, replicate, slice_index}
 
--- its domain's number, how many domains there are, how often each was found without a hint, how many hints were taken, and how many were noted or let go
+-- its domain's number, how many domains there are, how often each was found without a hint, how many hints were taken, how many were noted or let go, and whether the domain has found no hint of its own since it last noted or took one
 pub record Counts : Type 0 where
   pub number : ℕ
   pub domains : ℕ
   pub misses : List ℕ
   pub taken : ℕ
   pub pushes : ℕ
+  pub is_dry : Bool
 
 -- a domain's deck that has counted nothing so far
 abbrev pub uncounted : ℕ → ℕ → Counts
-uncounted number domains = record { number = number; domains = domains; misses = replicate 8 0; taken = 0; pushes = 0 }
+uncounted number domains = record { number = number; domains = domains; misses = replicate 8 0; taken = 0; pushes = 0; is_dry = false }
 
 -- an address that lies in the pools of the largest heap
 abbrev pub IsPooled : ℕ → Type 0
@@ -31,19 +32,19 @@ pub record Rises (more count after : ℕ) : Type 0 where
 abbrev pub missed_at : Counts → ℕ → ℕ
 missed_at l d = slice_index l.misses d
 
--- one hint was noted or let go
+-- one hint of the domain's own was noted or let go
 pub record Pushed (l m : Counts) : Type 0 where
-  pub same : m ≡ record l { pushes = m.pushes }
+  pub same : m ≡ record l { pushes = m.pushes; is_dry = false }
   pub pushes : Rises 1 l.pushes m.pushes
 
--- one hint was taken
-pub record Took (l m : Counts) : Type 0 where
-  pub same : m ≡ record l { taken = m.taken }
+-- one hint was taken, and then the domain was known to have none of its own, or not
+pub record Took (is_dry : Bool) (l m : Counts) : Type 0 where
+  pub same : m ≡ record l { taken = m.taken; is_dry = is_dry }
   pub taken : Rises 1 l.taken m.taken
 
--- a domain was found without a hint
+-- a domain was found without a hint, by one that had none of its own
 pub record Missed (from : ℕ) (l m : Counts) : Type 0 where
-  pub same : m ≡ record l { misses = m.misses }
+  pub same : m ≡ record l { misses = m.misses; is_dry = true }
   pub missed : Rises 1 (missed_at l from) (missed_at m from)
   pub others : (d : ℕ) → d ≢ from → missed_at m d ≡ missed_at l d
 

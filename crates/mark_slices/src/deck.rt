@@ -1,5 +1,5 @@
 //! What a slice of the marking takes its hints from.
-ghost use Rattle.std.specs.Prelude.{◌≢◌, ◌<◌, IfNone, IfSome};
+ghost use Rattle.std.specs.Prelude.{◌≡◌, ◌≢◌, ◌<◌, true, false, IfNone, IfSome};
 ghost use Rattle.mark_slices.specs.Decks.{Counts, IsPooled, Missed, Pushed, Took};
 
 /// Addresses at which a domain may find grey blocks: those that it has noted itself, and those of the
@@ -20,14 +20,15 @@ pub trait Deck {
     /// Takes a hint of the domain's own.
     fn own(&mut self) -> Option<u32>
         ensures pooled { IfSome result IsPooled }
-        ensures took { IfSome result (λ _. Took (counts self.old) (counts self.new)) }
+        ensures took { IfSome result (λ _. Took false (counts self.old) (counts self.new)) }
         ensures missed { IfNone result (Missed (counts self.old).number (counts self.old) (counts self.new)) };
 
-    /// Takes a hint of another domain.
+    /// Takes a hint of another domain. The domain has found none of its own since it last noted or took one.
     fn steal(&mut self, from: u32) -> Option<u32>
         requires other { from ≢ (counts self.old).number }
         requires inside { from < (counts self.old).domains }
+        requires dry { (counts self.old).is_dry ≡ true }
         ensures pooled { IfSome result IsPooled }
-        ensures took { IfSome result (λ _. Took (counts self.old) (counts self.new)) }
+        ensures took { IfSome result (λ _. Took true (counts self.old) (counts self.new)) }
         ensures missed { IfNone result (Missed from (counts self.old) (counts self.new)) };
 }

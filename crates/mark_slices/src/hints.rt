@@ -29,6 +29,7 @@ pub struct Hints {
     misses: [u64; MOST_DOMAINS],
     taken: u64,
     pushes: u64,
+    is_dry: bool,
     pub(crate) trail: Trail,
 }
 
@@ -39,7 +40,7 @@ impl Model for Hints {
 
     ghost Value = { Counts };
 
-    ghost view = { λ r. record { number = r.number; domains = r.domains; misses = r.misses; taken = r.taken; pushes = r.pushes } };
+    ghost view = { λ r. record { number = r.number; domains = r.domains; misses = r.misses; taken = r.taken; pushes = r.pushes; is_dry = r.is_dry } };
 
     ghost invariant = { λ r. (worker_flavor r.own ≡ 0) × (vec_len r.others + 1 ≡ r.domains) × (r.number < r.domains) × (r.domains ≤ 8) };
 }
@@ -73,6 +74,7 @@ impl Hints {
             misses: [0; MOST_DOMAINS],
             taken: 0,
             pushes: 0,
+            is_dry: false,
             trail,
         }
     }
@@ -112,8 +114,8 @@ impl Hints {
     // Counts that a hint was taken, or that a domain was found without one.
     fn count(&mut self, from: u32, took: bool)
         requires inside { from < self.old.domains }
-        ensures took { took ≡ true → Took self.old self.new }
-        ensures missed { took ≡ false → Missed from self.old self.new }
+        ensures took { took ≡ true → Took self.old.is_dry self.old self.new }
+        ensures missed { took ≡ false → self.old.is_dry ≡ true → Missed from self.old self.new }
     {
         if took {
             self.taken = self.taken.saturating_add(1);
@@ -140,6 +142,7 @@ impl Deck for Hints {
 
     fn push(&mut self, address: u32) {
         self.pushes = self.pushes.saturating_add(1);
+        self.is_dry = false;
         if self.noted < HINTS_ROOM {
             self.noted += 1;
             push_hint(&mut self.own, address);
@@ -151,6 +154,7 @@ impl Deck for Hints {
         if holds_none(&mut self.own) {
             self.noted = 0;
         }
+        self.is_dry = hint.is_none();
         self.count(self.number, hint.is_some());
         hint
     }

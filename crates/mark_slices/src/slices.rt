@@ -9,7 +9,7 @@ ghost use Rattle.barriers.specs.Aware.{Learnt, darkened_in, scanned_in, vain_in}
 ghost use Rattle.mark_slices.specs.declared.slices.Why.TheVariants.{Enough, NoneFound, Stale};
 ghost use Rattle.mark_slices.specs.Decks.{AllMissed, HasMissed, HasNoted, HasTaken, IsPooled, NotesOn};
 ghost use Rattle.mark_slices.specs.Slices.{IsDeckOf, Slices, Tries, Went};
-ghost use Rattle.mark_slices.specs.Ends.{EndsSlice};
+ghost use Rattle.mark_slices.specs.Ends.{EndsSlice, HasLooked};
 
 use crate::deck::Deck;
 use crate::greys::scan_word;
@@ -49,8 +49,10 @@ struct Next {
 // Takes a hint of the first of some domains that has one.
 fn steal_among<K: Deck>(deck: &mut K, first: u32, end: u32) -> Option<u32>
     requires others { (d : ℕ) → first ≤ d → d < end → (d ≢ (K.counts deck.old).number) × (d < (K.counts deck.old).domains) }
+    requires dry { (K.counts deck.old).is_dry ≡ true }
     ensures took { IfSome result (λ at. IsPooled at × Tries 1 (K.counts deck.old) (K.counts deck.new)) }
     ensures none { IfNone result (Tries 0 (K.counts deck.old) (K.counts deck.new) × ((d : ℕ) → first ≤ d → d < end → HasMissed (K.counts deck.old) (K.counts deck.new) d)) }
+    ensures dry { IfNone result ((K.counts deck.new).is_dry ≡ true) }
 {
     for from in first..end {
         if let Some(at) = deck.steal(from) {
@@ -159,7 +161,10 @@ pub fn slice<K: Deck>(heap: &Heap, dom: &mut Domain, deck: &mut K, most: u32) ->
     ensures scanned { scanned_in dom.new.view.seen.share.known ≡ scanned_in dom.old.view.seen.share.known + result.count }
     ensures none { result.why ≡ NoneFound → AllMissed (K.counts deck.old) (K.counts deck.new) }
     ensures stale { result.why ≡ Stale → HasTaken 8192 (K.counts deck.old) (K.counts deck.new) }
+    ensures let_go { vain_in dom.new.view.seen.share.known ≤ vain_in dom.old.view.seen.share.known + 8192 }
+    ensures ends { (result.why ≡ Stale) ↔ (vain_in dom.new.view.seen.share.known ≡ vain_in dom.old.view.seen.share.known + 8192) }
     ensures taken { (K.counts deck.new).taken + vain_in dom.old.view.seen.share.known ≤ (K.counts deck.old).taken + result.count + vain_in dom.new.view.seen.share.known }
+    ensures looked { HasLooked result.count dom.old.view dom.new.view (K.counts deck.old) (K.counts deck.new) }
     ensures pushes { HasNoted (darkened_in dom.old.view.seen.share.known) (darkened_in dom.new.view.seen.share.known) (K.counts deck.old) (K.counts deck.new) }
     ensures notes { NotesOn (K.counts deck.old) (K.counts deck.new) }
 {

@@ -1,13 +1,14 @@
 //! The blocks that a domain has marked itself, and is to follow.
-ghost use Rattle.std.specs.Prelude.{◌≡◌, ◌≤◌, ◌+◌, ◌++◌, ◌∷◌, [], IfOk, IfNone, IfSome};
-ghost use Rattle.mark_slices.specs.Trails.{empty_trail};
+ghost use Rattle.std.specs.Prelude.{◌≡◌, ◌≤◌, ◌+◌, ◌/◌, ◌++◌, ◌∷◌, [], IfOk, IfNone, IfSome, vec_len, vec_capacity};
+ghost use Rattle.mark_slices.specs.Trails.{empty_trail, newer, renewed};
 
 use std::alloc::{AllocError, Global};
 use std::marker::Model;
 
 // The addresses of blocks that a domain has marked in a phase and not yet looked at again. `make` takes
 // all their memory. The last one is taken first, so that a list of blocks needs room for one. Where
-// there is no room for one more the address is let go: the block stays grey, and a later walk finds it.
+// there is no room for one more the older half is let go: those blocks stay grey, and a later walk finds
+// them. So a list whose blocks have many others beside them is followed to its end.
 #[derive(Drop)]
 pub(crate) struct Trail {
     addresses: Vec<u32>,
@@ -24,6 +25,18 @@ impl Model for Trail {
     ghost invariant = { λ r. vec_len r.addresses ≤ vec_capacity r.addresses };
 }
 
+// Lets the older half of some addresses go.
+fn keep_newer(addresses: &mut Vec<u32>)
+    ensures items { addresses.new.items ≡ newer addresses.old.items }
+    ensures len { vec_len addresses.new ≡ vec_len addresses.old / 2 }
+    ensures capacity { vec_capacity addresses.new ≡ vec_capacity addresses.old }
+{
+    let kept = addresses.len() / 2;
+    let older = addresses.len() - kept;
+    addresses.rotate_left(older);
+    addresses.truncate(kept);
+}
+
 impl Trail {
     // No address, with room for so many, all of which is taken here. Fails for want of memory alone.
     pub(crate) fn make(alloc: Global, room: usize) -> Result<Trail, AllocError>
@@ -33,12 +46,16 @@ impl Trail {
         Ok(Trail { addresses })
     }
 
-    // Notes an address, or lets it go where there is no room. Takes no memory.
+    // Notes an address. Where there is no room the older half of the others is let go first. Takes no
+    // memory.
     pub(crate) fn push(&mut self, address: u32)
         ensures noted { 1 ≤ self.old.room → self.new.items ≡ self.old.items ++ address ∷ [] }
-        ensures full { self.old.room ≡ 0 → self.new.items ≡ self.old.items }
+        ensures full { self.old.room ≡ 0 → self.new.items ≡ renewed self.old.items address }
     {
         if self.addresses.len() < self.addresses.capacity() {
+            self.addresses.push_reserved(address);
+        } else if !self.addresses.is_empty() {
+            keep_newer(&mut self.addresses);
             self.addresses.push_reserved(address);
         }
     }

@@ -1,5 +1,5 @@
 -- The store of a block's head makes the call of its allocation.
-use Rattle.std.proofs.Common.{◌≡◌, ◌∙◌, ℕ, ◌+◌, ◌^◌, ◌<◌, ◌≤◌, ◌⊎◌, ⊎_elim, Bool, true, false, nat_le, if◌then◌else◌, List, [], ◌∷◌, None, replicate, refl, sym, ap, subst, arith}
+use Rattle.std.proofs.Common.{◌≡◌, ◌∙◌, ℕ, ◌+◌, ◌^◌, ◌<◌, ◌≤◌, ⊎_elim, Bool, true, false, nat_le, if◌then◌else◌, List, [], ◌∷◌, None, replicate, refl, sym, ap, subst, arith}
 use Rattle.std.proofs.lemmas.Bool.{le-leb, lt-leb}
 use Rattle.heap_model.specs.declared.label.Label.{Label}
 use Rattle.heap_model.specs.declared.command.Command.{Command}
@@ -21,7 +21,7 @@ use Rattle.heap_rule.specs.Token.{Token, SharedHeap, IsIn, next_address, next_la
 use Rattle.heap_rule.specs.declared.change.Change.TheVariants.{Set}
 use Rattle.heap_rule.specs.declared.change.Part.TheVariants.{Register}
 use Rattle.heap_rule.specs.Layout.{base_of, heap_words}
-use Rattle.heap_rule.specs.Places.{HeadIs, IsNewHead, IsPackableShape, class_words, head_of, tagged}
+use Rattle.heap_rule.specs.Places.{HeadIs, IsNewHead, IsPackableShape, class_words, tagged}
 use Rattle.heap_rule.proofs.HeadLemmas.{tagged_head}
 use Rattle.heap_words.specs.declared.head.Head.TheVariants.{Plain as PlainHead}
 use Rattle.heap_words.specs.Heads.{head_word}

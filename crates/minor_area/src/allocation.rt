@@ -22,7 +22,7 @@ use heap_rule::{Change, Domain, Heap, Item, Part};
 use heap_words::{Head, Value, pack_head, pack_label, pack_value};
 use size_classes::reserve;
 use steps_cycle::{armed_now, colours_now};
-use steps_making::{init_store, words_of_class};
+use steps_making::{init_store, word_store, words_of_class};
 use steps_pools::{draw_limit, free_load, listed_load};
 
 // The colour of a new block of a minor area. While a cycle goes on beside running domains it is
@@ -68,15 +68,9 @@ fn write_block(heap: &Heap, dom: &mut Domain, dst: u8, tag: u8, fields: u16, col
         serial: dom.labels_made() + 1,
     };
     let at = dom.next_address();
-    init_store(
-        heap,
-        dom,
-        at + 1,
-        pack_label(label.domain, label.serial),
-        &[],
-    );
+    word_store(heap, dom, at + 1, pack_label(label.domain, label.serial));
     for i in 0..u32::from(fields) {
-        init_store(heap, dom, at + 2 + i, pack_value(Value::Int(0)), &[]);
+        word_store(heap, dom, at + 2 + i, pack_value(Value::Int(0)));
     }
     let head = Head::Plain {
         size: fields,

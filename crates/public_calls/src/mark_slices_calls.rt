@@ -14,9 +14,9 @@ use std::test::Fail;
 use std::thread::join;
 use steps_cycle::armed_now;
 
-// A hint of the first domain, taken by the second.
+// A hint of the first domain, taken by the second, which has none of its own.
 fn stolen(hints: &mut Hints) -> Option<u32> {
-    if hints.number() != 1 || hints.domains() < 2 {
+    if hints.number() != 1 || hints.domains() < 2 || hints.own().is_some() {
         return None;
     }
     hints.steal(0)

@@ -6,3 +6,8 @@ mod Pauses
 mod Commands
 mod Hints
 mod Claims
+mod Steps
+mod Phases
+mod Copies
+mod Rooms
+mod Waiting

@@ -84,4 +84,4 @@ a_trace_ends_behind_its_commands h start old new e left = let past = e.past in o
 
 -- a domain other than 0 names no kind of its own
 pub domain_0_alone_leads : (k : Config) (x y : DomainView) (last kind : Kind) → x.own.number ≢ 0 → LeavesOdd k x y last kind → kind ≡ last
-domain_0_alone_leads k x y last kind other l = ⊎_elim (λ a. absurd (other a.0)) (λ a. a.1) l
+domain_0_alone_leads k x y before kind other l = ⊎_elim (λ a. absurd (other a.0)) (λ a. a.1) l

@@ -1,5 +1,5 @@
 //! The making of a young block: its label, its fields, and its head last.
-ghost use Rattle.std.specs.Prelude.{◌≡◌, ◌≢◌, ◌+◌, ◌<◌, ◌≤◌, ◌^◌, ℕ};
+ghost use Rattle.std.specs.Prelude.{◌≡◌, ◌≢◌, ◌+◌, ◌<◌, ◌≤◌, ◌^◌, ℕ, []};
 ghost use Rattle.heap_model.specs.declared.entry.Entry.{Entry};
 ghost use Rattle.heap_model.specs.Fronts.{Shape};
 ghost use Rattle.heap_words.specs.Heads.{IsPackableHead};
@@ -8,7 +8,7 @@ ghost use Rattle.heap_rule.specs.Places.{IsHeadOf, class_words};
 ghost use Rattle.heap_rule.specs.Standing.{IsInHeap};
 ghost use Rattle.heap_rule.specs.Token.{IsIn};
 
-use heap_rule::{Change, Changing, Domain, Heap, Own, Reading, Writing, make_changes, raw_store};
+use heap_rule::{Change, Domain, Heap, Leaving, Own, Writing, make_changes, raw_store};
 use heap_words::{Head, Value, unpack_head};
 use size_classes::heap_classes;
 use std::marker::Brand;
@@ -47,20 +47,17 @@ fn size_in(word: u64) -> u16
     head_size(head)
 }
 
-// A store of the next word behind the place of the head.
-fn store_word(heap: &Heap, dom: &mut Domain, at: u32, new: u64, changes: &[Change])
+/// A store of the next word behind the place of the head, of the block that the domain is making in its
+/// own minor area: first its label, then its fields. The token's plain data stays as it is.
+pub fn word_store(heap: &Heap, dom: &mut Domain, at: u32, new: u64)
     requires here { IsIn dom.old heap.now }
     requires inside { IsInHeap heap.now.config at }
-    requires may { WordMay heap.now.config dom.old.view at changes.now }
+    requires may { WordMay heap.now.config dom.old.view at [] }
     ensures here { IsIn dom.new heap.now }
     ensures told { WordTold new dom.old.view dom.new.view }
 {
     let index = heap.index_of(at);
-    let writing = Changing {
-        at,
-        reading: Reading::Unread,
-    };
-    raw_store::<Brand, Changing>(heap, dom, index, new, &writing, changes);
+    raw_store::<Brand, Leaving>(heap, dom, index, new, &Leaving, &[]);
 }
 
 // The changes are made in the registers, and a block of so many class words and its label are
@@ -119,6 +116,6 @@ pub fn init_store(heap: &Heap, dom: &mut Domain, at: u32, new: u64, changes: &[C
     if at == dom.next_address() {
         store_head(heap, dom, at, new, changes);
     } else {
-        store_word(heap, dom, at, new, changes);
+        word_store(heap, dom, at, new);
     }
 }

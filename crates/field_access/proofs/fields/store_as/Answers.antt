@@ -1,4 +1,4 @@
-use Rattle.std.proofs.Common.{◌≡◌, ◌↔◌, ◌∙◌, ◌&&◌, true, false, ℕ, ◌+◌, ◌≤◌, ◌<◌, sym, ap, refl, subst, arith}
+use Rattle.std.proofs.Common.{◌≡◌, ◌↔◌, ◌∙◌, ◌&&◌, true, false, ℕ, ◌+◌, ◌≤◌, sym, ap, refl, subst, arith}
 use Rattle.heap_model.specs.declared.command.Command.TheVariants.{Store}
 use Rattle.heap_rule.specs.Running.{own_entry}
 use Rattle.heap_rule.specs.Beside.{Barrier}
@@ -17,42 +17,29 @@ use Rattle.heap_rule.specs.declared.view.DomainView.{DomainView}
 use Rattle.steps_run.specs.Loads.{Measured}
 use Rattle.field_access.proofs.FieldSteps.{at_address, field_after, field_known, suits_after, store_may}
 use Rattle.field_access.proofs.FieldStores.{stored_did}
-use Rattle.field_access.proofs.Looking.{ephemeron_found, refused_found, past_found, measured_at, suits_at}
+use Rattle.field_access.proofs.Looking.{fields_taken, none_found, past_found, measured_at, suits_at}
 use Rattle.field_access.proofs.Refusing.{refusal}
 use Rattle.field_access.proofs.fields.store_as.Goals as goal
 
 pub returns-in_default-clause-did : goal.returns-in_default-clause-did
 returns-in_default-clause-did g c = entered_did _ _ _ _ g.entry _ _ _ _ c.requires.0 (ap tick_answer c.requires.0) c.requires.1.0 c.tick.ensures.here c.tick.ensures.entered
 
-pub returns-in_default-field_count-clause-did : goal.returns-in_default-field_count-clause-did
-returns-in_default-field_count-clause-did g c =
+pub returns-in_default-fields_for-clause-did : goal.returns-in_default-fields_for-clause-did
+returns-in_default-fields_for-clause-did g c =
     let told = c.head_load-head.ensures.told in
-    let size = c.field_count.ensures told.shape told.head in
-    entered_did _ _ _ _ g.entry _ _ _ _ c.requires.0 refl c.requires.1.0 c.head_load-head.ensures.here (ephemeron_found _ _ g.entry _ _ _ _ told size c.in_default-field_count.is)
-
-pub returns-then-refuses_value-clause-did : goal.returns-then-refuses_value-clause-did
-returns-then-refuses_value-clause-did g c =
-    let told = c.head_load-head.ensures.told in
-    let refused : (needs_no_scan told.shape && puts_block c.args.dom.now.view g.entry) ≡ true =
-    refusal c.args.dom.now g.entry c.args.block c.args.index c.args.item told.shape c.register-value.result c.requires.0 c.register-value.ensures.value ∙ (sym (c.refuses_value.ensures told.shape told.head) ∙ c.if-refuses_value.true) in
-    entered_did _ _ _ _ g.entry _ _ _ _ c.requires.0 refl c.requires.1.0 c.head_load-head.ensures.here (refused_found _ _ g.entry _ _ _ told refused)
-
-pub returns-then-refuses_value-clause-holds : goal.returns-then-refuses_value-clause-holds
-returns-then-refuses_value-clause-holds g c =
-    let told = c.head_load-head.ensures.told in
-    let refused : (needs_no_scan told.shape && puts_block c.args.dom.now.view g.entry) ≡ true =
-    refusal c.args.dom.now g.entry c.args.block c.args.index c.args.item told.shape c.register-value.result c.requires.0 c.register-value.ensures.value ∙ (sym (c.refuses_value.ensures told.shape told.head) ∙ c.if-refuses_value.true) in
-    (refused_found _ _ g.entry _ _ _ told refused).holds
+    let same = refusal c.args.dom.now g.entry c.args.block c.args.index c.args.item told.shape c.register-value.result c.requires.0 c.register-value.ensures.value in
+    entered_did _ _ _ _ g.entry _ _ _ _ c.requires.0 refl c.requires.1.0 c.head_load-head.ensures.here (none_found _ _ g.entry _ _ _ _ _ told same (c.fields_for.ensures told.shape told.head) c.in_default-fields_for.is)
 
 pub returns-then-index-size-clause-did : goal.returns-then-index-size-clause-did
 returns-then-index-size-clause-did g c =
     let told = c.head_load-head.ensures.told in
+    let fields = fields_taken told.shape c.register-value.result c.in-Some.size (sym (c.fields_for.ensures told.shape told.head) ∙ c.in-Some.is) in
     let takes : (needs_no_scan told.shape && puts_block c.args.dom.now.view g.entry) ≡ false =
-    refusal c.args.dom.now g.entry c.args.block c.args.index c.args.item told.shape c.register-value.result c.requires.0 c.register-value.ensures.value ∙ (sym (c.refuses_value.ensures told.shape told.head) ∙ c.if-refuses_value.false) in
-    let size = c.field_count.ensures told.shape told.head in
+    refusal c.args.dom.now g.entry c.args.block c.args.index c.args.item told.shape c.register-value.result c.requires.0 c.register-value.ensures.value ∙ fields.0 in
+    let size = sym fields.1 in
     let place : c.args.index ≡ place_of g.entry = ap place_of (sym c.requires.0) in
     let past : c.in-Some.size ≤ place_of g.entry = subst (λ (n : ℕ). c.in-Some.size ≤ n) place (omega arith) in
-    entered_did _ _ _ _ g.entry _ _ _ _ c.requires.0 refl c.requires.1.0 c.head_load-head.ensures.here (past_found _ _ g.entry _ _ _ _ _ told takes size c.in-Some.is past)
+    entered_did _ _ _ _ g.entry _ _ _ _ c.requires.0 refl c.requires.1.0 c.head_load-head.ensures.here (past_found _ _ g.entry _ _ _ _ _ told takes size refl past)
 
 pub returns-in-Nothing-clause-did : goal.returns-in-Nothing-clause-did
 returns-in-Nothing-clause-did g c = entered_did _ _ _ _ g.entry _ _ _ _ c.requires.0 (ap tick_answer c.requires.0) c.requires.1.0 c.tick-in-Nothing.ensures.here c.tick-in-Nothing.ensures.entered
@@ -60,11 +47,12 @@ returns-in-Nothing-clause-did g c = entered_did _ _ _ _ g.entry _ _ _ _ c.requir
 pub overwrite_barrier-requires : goal.overwrite_barrier-requires
 overwrite_barrier-requires g c =
     let told = c.head_load-head.ensures.told in
+    let fields = fields_taken told.shape c.register-value.result c.in-Some.size (sym (c.fields_for.ensures told.shape told.head) ∙ c.in-Some.is) in
     let takes : (needs_no_scan told.shape && puts_block c.args.dom.now.view g.entry) ≡ false =
-    refusal c.args.dom.now g.entry c.args.block c.args.index c.args.item told.shape c.register-value.result c.requires.0 c.register-value.ensures.value ∙ (sym (c.refuses_value.ensures told.shape told.head) ∙ c.if-refuses_value.false) in
-    let size = c.field_count.ensures told.shape told.head in
+    refusal c.args.dom.now g.entry c.args.block c.args.index c.args.item told.shape c.register-value.result c.requires.0 c.register-value.ensures.value ∙ fields.0 in
+    let size = sym fields.1 in
     let looked : Measured c.args.heap.now.config c.in-Ref.address c.args.block c.in-Some.size c.args.dom.now.view c.head_load-head.new.dom.view =
-    measured_at _ _ g.entry (own_entry c.args.dom.now (Store c.args.block c.args.index c.args.item)) _ _ _ _ _ c.requires.0 told takes size c.in-Some.is (omega arith) in
+    measured_at _ _ g.entry (own_entry c.args.dom.now (Store c.args.block c.args.index c.args.item)) _ _ _ _ _ c.requires.0 told takes size refl (omega arith) in
     let field = field_known c.args.heap.now c.args.dom.now c.head_load-head.new.dom.view c.args.block c.args.index c.in-Some.size c.in-Ref.address c.requires.1.0 c.requires.1.1.0 (sym c.in-Ref.ensures.value) looked (omega arith) in
     let a : ℕ = c.in-Ref.address in
     let i : ℕ = c.args.index in
@@ -75,11 +63,12 @@ overwrite_barrier-requires g c =
 pub field_store-requires : goal.field_store-requires
 field_store-requires g c =
     let told = c.head_load-head.ensures.told in
+    let fields = fields_taken told.shape c.register-value.result c.in-Some.size (sym (c.fields_for.ensures told.shape told.head) ∙ c.in-Some.is) in
     let takes : (needs_no_scan told.shape && puts_block c.args.dom.now.view g.entry) ≡ false =
-    refusal c.args.dom.now g.entry c.args.block c.args.index c.args.item told.shape c.register-value.result c.requires.0 c.register-value.ensures.value ∙ (sym (c.refuses_value.ensures told.shape told.head) ∙ c.if-refuses_value.false) in
-    let size = c.field_count.ensures told.shape told.head in
+    refusal c.args.dom.now g.entry c.args.block c.args.index c.args.item told.shape c.register-value.result c.requires.0 c.register-value.ensures.value ∙ fields.0 in
+    let size = sym fields.1 in
     let looked : Measured c.args.heap.now.config c.in-Ref.address c.args.block c.in-Some.size c.args.dom.now.view c.head_load-head.new.dom.view =
-    measured_at _ _ g.entry (own_entry c.args.dom.now (Store c.args.block c.args.index c.args.item)) _ _ _ _ _ c.requires.0 told takes size c.in-Some.is (omega arith) in
+    measured_at _ _ g.entry (own_entry c.args.dom.now (Store c.args.block c.args.index c.args.item)) _ _ _ _ _ c.requires.0 told takes size refl (omega arith) in
     let known = field_known c.args.heap.now c.args.dom.now c.head_load-head.new.dom.view c.args.block c.args.index c.in-Some.size c.in-Ref.address c.requires.1.0 c.requires.1.1.0 (sym c.in-Ref.ensures.value) looked (omega arith) in
     let b = c.overwrite_barrier.ensures in
     let k = c.args.heap.now.config in
@@ -88,30 +77,33 @@ field_store-requires g c =
     let own : z.own ≡ c.args.dom.now.view.own = ap (λ (x : DomainView). x.own) b.learnt.view ∙ ap (λ (x : DomainView). x.own) looked.looked.view in
     let barred : Barrier z.seen.share field.may.address c.args.index = subst (λ (m : ℕ × ℕ). Barrier z.seen.share m.0 m.1) (λ j. (sym (at_address k z c.args.block c.args.index c.in-Ref.address field) j, c.from.ensures j)) b.barrier in
     let suits = suits_after k c.head_load-head.new.dom.view z c.args.block c.in-Some.size _ b.learnt (suits_at _ _ g.entry (own_entry c.args.dom.now (Store c.args.block c.args.index c.args.item)) _ _ _ _ _ (value_at c.args.dom.now.view.own.registers c.args.item) c.requires.0 (ap (λ (x : DomainView). x.own.number) looked.looked.view) told takes
-    (ap (λ (v : Value). needs_no_scan told.shape && is_block v) (sym c.register-value.ensures.value) ∙ (sym (c.refuses_value.ensures told.shape told.head) ∙ c.if-refuses_value.false)) size c.in-Some.is (omega arith)) in
+    (ap (λ (v : Value). needs_no_scan told.shape && is_block v) (sym c.register-value.ensures.value) ∙ fields.0) size refl (omega arith)) in
     (b.here, (field.inside, store_may c.args.heap.now c.args.dom.now z g.entry c.args.block c.args.index c.args.item c.in-Ref.address _ c.must_remember-remembers.result c.requires.0 own (sym c.in-Ref.ensures.value) c.requires.1.1.1.0 (λ empty. c.in_default-value.not-Nothing (c.register-value.ensures.value ∙ empty)) (c.pack_value.ensures ∙ ap value_word c.register-value.ensures.value) (subst (λ (v : Value). (c.must_remember-remembers.result ≡ true) ↔ MustRemember c.args.heap.now.config (Ref c.in-Ref.address) v) c.register-value.ensures.value c.must_remember-remembers.ensures) c.requires.1.1.1.1 field suits barred))
 
 pub returns-clause-did : goal.returns-clause-did
 returns-clause-did g c =
     let told = c.head_load-head.ensures.told in
+    let fields = fields_taken told.shape c.register-value.result c.in-Some.size (sym (c.fields_for.ensures told.shape told.head) ∙ c.in-Some.is) in
     let takes : (needs_no_scan told.shape && puts_block c.args.dom.now.view g.entry) ≡ false =
-    refusal c.args.dom.now g.entry c.args.block c.args.index c.args.item told.shape c.register-value.result c.requires.0 c.register-value.ensures.value ∙ (sym (c.refuses_value.ensures told.shape told.head) ∙ c.if-refuses_value.false) in
-    let size = c.field_count.ensures told.shape told.head in
+    refusal c.args.dom.now g.entry c.args.block c.args.index c.args.item told.shape c.register-value.result c.requires.0 c.register-value.ensures.value ∙ fields.0 in
+    let size = sym fields.1 in
     let looked : Measured c.args.heap.now.config c.in-Ref.address c.args.block c.in-Some.size c.args.dom.now.view c.head_load-head.new.dom.view =
-    measured_at _ _ g.entry (own_entry c.args.dom.now (Store c.args.block c.args.index c.args.item)) _ _ _ _ _ c.requires.0 told takes size c.in-Some.is (omega arith) in
+    measured_at _ _ g.entry (own_entry c.args.dom.now (Store c.args.block c.args.index c.args.item)) _ _ _ _ _ c.requires.0 told takes size refl (omega arith) in
     let b = c.overwrite_barrier.ensures in
     stored_did c.args.heap.now c.args.dom.now c.field_store.new.dom c.head_load-head.new.dom.view c.overwrite_barrier.new.dom.view _ g.entry _ _ _ Done c.requires.0 c.requires.1.0 c.field_store.ensures.here looked.looked b.learnt b.owes c.field_store.ensures.told
 
-pub returns-in_default-field_count-clause-holds : goal.returns-in_default-field_count-clause-holds
-returns-in_default-field_count-clause-holds g c =
+pub returns-in_default-fields_for-clause-holds : goal.returns-in_default-fields_for-clause-holds
+returns-in_default-fields_for-clause-holds g c =
     let told = c.head_load-head.ensures.told in
-    (ephemeron_found _ _ g.entry _ _ _ _ told (c.field_count.ensures told.shape told.head) c.in_default-field_count.is).holds
+    let same = refusal c.args.dom.now g.entry c.args.block c.args.index c.args.item told.shape c.register-value.result c.requires.0 c.register-value.ensures.value in
+    (none_found _ _ g.entry _ _ _ _ _ told same (c.fields_for.ensures told.shape told.head) c.in_default-fields_for.is).holds
 
 pub returns-then-index-size-clause-holds : goal.returns-then-index-size-clause-holds
 returns-then-index-size-clause-holds g c =
     let told = c.head_load-head.ensures.told in
+    let fields = fields_taken told.shape c.register-value.result c.in-Some.size (sym (c.fields_for.ensures told.shape told.head) ∙ c.in-Some.is) in
     let takes : (needs_no_scan told.shape && puts_block c.args.dom.now.view g.entry) ≡ false =
-    refusal c.args.dom.now g.entry c.args.block c.args.index c.args.item told.shape c.register-value.result c.requires.0 c.register-value.ensures.value ∙ (sym (c.refuses_value.ensures told.shape told.head) ∙ c.if-refuses_value.false) in
+    refusal c.args.dom.now g.entry c.args.block c.args.index c.args.item told.shape c.register-value.result c.requires.0 c.register-value.ensures.value ∙ fields.0 in
     let place : c.args.index ≡ place_of g.entry = ap place_of (sym c.requires.0) in
     let past : c.in-Some.size ≤ place_of g.entry = subst (λ (n : ℕ). c.in-Some.size ≤ n) place (omega arith) in
-    (past_found _ _ g.entry _ _ _ _ _ told takes (c.field_count.ensures told.shape told.head) c.in-Some.is past).holds
+    (past_found _ _ g.entry _ _ _ _ _ told takes (sym fields.1) refl past).holds

@@ -10,7 +10,7 @@ returns-in_default-clause-ended g c =
     let l : Counts = g.K.Deck.counts c.args.deck.now in
     let m : Counts = g.K.Deck.counts c.loop-let_go.deck in
     let n : Counts = g.K.Deck.counts c.next_hint.new.deck in
-    let t = took_none c.loop-let_go.let_go c.args.dom.now.view c.loop-let_go.dom.view l m n c.loop-let_go.invariant.went c.in_default.ensures.none in inl (refl, t.0, t.1)
+    let t = took_none c.loop-let_go.let_go c.args.dom.now.view c.loop-let_go.dom.view l m n c.loop-let_go.invariant.went c.in_default.ensures.none in inl (refl, c.loop-let_go-test.true, t.0, t.1)
 
 pub returns-then-scan_hint-clause-scanned : goal.returns-then-scan_hint-clause-scanned
 returns-then-scan_hint-clause-scanned g c =

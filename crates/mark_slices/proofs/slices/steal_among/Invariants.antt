@@ -1,4 +1,4 @@
-use Rattle.std.proofs.Common.{ℕ, ◌<◌, ◌≤◌}
+use Rattle.std.proofs.Common.{◌≡◌, ℕ, ◌<◌, ◌≤◌, true}
 use Rattle.mark_slices.specs.Decks.{HasMissed}
 use Rattle.mark_slices.specs.Slices.{Tries}
 use Rattle.mark_slices.proofs.slices.steal_among.Given as goal
@@ -6,5 +6,6 @@ use Rattle.mark_slices.proofs.slices.steal_among.Given as goal
 abbrev pub invariant-loop-from : goal.invariant-loop-from
 invariant-loop-from g l = record {
   tries : Tries 0 (g.K.Deck.counts l.fn.deck) (g.K.Deck.counts l.deck);
+  dry : (g.K.Deck.counts l.deck).is_dry ≡ true;
   missed : (d : ℕ) → l.first ≤ d → d < l.from → HasMissed (g.K.Deck.counts l.fn.deck) (g.K.Deck.counts l.deck) d;
 }

@@ -7,8 +7,8 @@ use Rattle.steps_making.specs.Inits.{fields_of}
 use Rattle.minor_area.proofs.Allocating.{head_inside, coloured_head, head_may, alloc_did, alloc_grows, young_fields}
 use Rattle.minor_area.proofs.allocation.write_block.Goals as goal
 
-pub init_store-requires-2 : goal.init_store-requires-2
-init_store-requires-2 g c =
+pub init_store-requires : goal.init_store-requires
+init_store-requires g c =
     let x : DomainView = c.args.dom.now.view in
     let n : ℕ = c.args.fields in
     let here : c.next_address-at.result ≡ next_address c.args.heap.now.config x = c.next_address-at.ensures ∙ ap (λ (k : Config). next_address k x) c.requires.1.0.here.1 in
@@ -30,12 +30,12 @@ pub returns-clause-did : goal.returns-clause-did
 returns-clause-did g c =
     let here : c.next_address-at.result ≡ next_address c.args.heap.now.config c.args.dom.now.view = c.next_address-at.ensures ∙ ap (λ (k : Config). next_address k c.args.dom.now.view) c.requires.1.0.here.1 in
     let there : c.next_address-at.result ≡ next_address c.args.heap.now.config c.loop-i.dom.view = here ∙ ap (next_address c.args.heap.now.config) (sym c.loop-i.invariant.view) in
-    alloc_did c.args.heap.now c.args.dom.now c.init_store-2.new.dom c.loop-i.dom.view g.entry _ _ _ _ c.requires.0 c.requires.1.0 c.init_store-2.ensures.here c.loop-i.invariant.view
-    (c.init_store-2.ensures.told.head there) (cc)
+    alloc_did c.args.heap.now c.args.dom.now c.init_store.new.dom c.loop-i.dom.view g.entry _ _ _ _ c.requires.0 c.requires.1.0 c.init_store.ensures.here c.loop-i.invariant.view
+    (c.init_store.ensures.told.head there) (cc)
 
 pub returns-clause-grows : goal.returns-clause-grows
 returns-clause-grows g c =
     let here : c.next_address-at.result ≡ next_address c.args.heap.now.config c.args.dom.now.view = c.next_address-at.ensures ∙ ap (λ (k : Config). next_address k c.args.dom.now.view) c.requires.1.0.here.1 in
     let there : c.next_address-at.result ≡ next_address c.args.heap.now.config c.loop-i.dom.view = here ∙ ap (next_address c.args.heap.now.config) (sym c.loop-i.invariant.view) in
-    alloc_grows c.args.heap.now.config c.args.dom.now c.init_store-2.new.dom c.loop-i.dom.view g.entry c.args.fields _ _ (ap fields_of c.requires.0 ∙ young_fields c.args.dom.now.view.own.number c.args.dst c.args.tag c.args.fields) c.loop-i.invariant.view
-    (c.init_store-2.ensures.told.head there)
+    alloc_grows c.args.heap.now.config c.args.dom.now c.init_store.new.dom c.loop-i.dom.view g.entry c.args.fields _ _ (ap fields_of c.requires.0 ∙ young_fields c.args.dom.now.view.own.number c.args.dst c.args.tag c.args.fields) c.loop-i.invariant.view
+    (c.init_store.ensures.told.head there)
