@@ -29,6 +29,7 @@ or_cases (Some y) b x e = inl e
 
 -- what is asked for is given by its reading
 pub asked_reads : (words : List (List ℕ)) (j : Job) → asked_job words ≡ Some j → Reads words j
+unfolding asked_job
 asked_reads words j e = elim (or_cases (option_map Run (run_sizes words)) _ j e) [
   | inl run ↦ let z = some_map Run (run_sizes words) j run in subst (Reads words) z.2 z.1
   | inr script ↦ elim (or_cases (option_map Gen (generated_after (codes "gen") words)) _ j script) [

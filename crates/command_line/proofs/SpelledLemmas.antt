@@ -262,6 +262,7 @@ pub asked : (words : List (List ℕ)) (j : Job) → asked_job words ≡ Some j �
 asked words j e = read_spelled words j (asked_reads words j e)
 
 pub answered : (words : List (List ℕ)) (j : Job) → AsksFor words j → asked_job words ≡ Some j
+unfolding asked_job
 answered words (Run z) a = ap (λ (o : Option Sizes). option_or (option_map Run o) (option_or (option_map Gen (generated_after (codes "gen") words)) (option_map Load (generated_after (codes "load") words)))) (spelled_run words z a)
 answered words (Gen g) a = ap asked_job a.words_are ∙ ap (λ (o : Option Generated). option_or (option_map Gen o) None) (script_again g a.limits)
 answered words (Load g) a = ap asked_job a.words_are ∙ ap (option_map Load) (script_again g a.limits)

@@ -41,7 +41,7 @@ generated_after command (word ∷ base ∷ domains ∷ commands ∷ []) =
 generated_after command (word ∷ base ∷ domains ∷ commands ∷ more ∷ words) = None
 
 -- what the words ask for, where they are taken: a run, or a script that is written or loaded
-abbrev pub asked_job : List (List ℕ) → Option Job
+unfoldable pub asked_job : List (List ℕ) → Option Job
 asked_job words =
     option_or (option_map Run (run_sizes words))
     (option_or (option_map Gen (generated_after (codes "gen") words)) (option_map Load (generated_after (codes "load") words)))

@@ -118,6 +118,7 @@ fn script_asked(words: &[String], command: &str) -> Option<Generated>
 }
 
 // What the words ask for.
+#[tactic(auto, unfolding(crate::specs::Jobs::asked_job))]
 fn asked(words: &[String]) -> Option<Job>
     ensures { result ≡ asked_job (map string_bytes words.now) }
 {

@@ -1,3 +1,4 @@
 pub mod CommandLemmas
 pub mod PlaceLemmas
 pub mod SoundLemmas
+pub mod ModeLemmas

@@ -4,6 +4,7 @@ ghost use Rattle.heap_model.specs.Domains.{reserve, IsShaped, IsWithinLimits};
 ghost use Rattle.heap_model.specs.Commands.{FitsMode, MayBeFull, is_allocation as allocates, CommandAllowed, after_command as command_made, outcome};
 ghost use Rattle.heap_model.specs.Entries.{HasNextSerial};
 ghost use Rattle.slow_heap.specs.Follows.{Follows};
+ghost use Rattle.slow_heap.specs.Modes.{mode_for};
 
 use crate::blocks::{add_block, ephemeron, plain, raw};
 use crate::ephemerons::{
@@ -79,7 +80,22 @@ fn is_kept_enough(state: &State) -> bool
     u64::from(sizes.pools - reserve - begun) <= state.kept
 }
 
+// The mode that a command needs. The four that stand for several others come in none.
+fn mode_needed(c: &Command) -> Option<Mode>
+    ensures { result ≡ mode_for c.now }
+{
+    match c {
+        Command::FullMajor => Some(Mode::Answer),
+        Command::Spawn { .. }
+        | Command::Argument { .. }
+        | Command::PutResult { .. }
+        | Command::Join { .. } => None,
+        _ => Some(Mode::Open),
+    }
+}
+
 // Whether the mode and the domain's queue allow a command. The four that stand for several others are never allowed.
+#[tactic(auto, using(crate::proofs::ModeLemmas::fits_needed, crate::proofs::ModeLemmas::needed_fits))]
 fn fits_mode(state: &State, d: usize, c: &Command) -> bool
     requires { d < length state.now.domains }
     ensures { IsTrue result ↔ FitsMode state.now d c.now }
@@ -87,13 +103,10 @@ fn fits_mode(state: &State, d: usize, c: &Command) -> bool
     let domains = &state.domains;
     let domain = &domains.items[d];
     let queue = &domain.queue;
-    match c {
-        Command::FullMajor => state.mode == Mode::Answer && domain.due == 0,
-        Command::Spawn { .. }
-        | Command::Argument { .. }
-        | Command::PutResult { .. }
-        | Command::Join { .. } => false,
-        _ => state.mode == Mode::Open && queue.items.is_empty(),
+    match mode_needed(c) {
+        None => false,
+        Some(Mode::Answer) => state.mode == Mode::Answer && domain.due == 0,
+        Some(_) => state.mode == Mode::Open && queue.items.is_empty(),
     }
 }
 

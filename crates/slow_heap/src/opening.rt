@@ -17,7 +17,8 @@ pub(crate) fn opening_state(alloc: Global, sizes: Sizes) -> Result<State, AllocE
         serial: 0,
     };
     let fields = Sequence::make(vec![in alloc; Value::Int(0); 16]?);
-    let graph = vec![in alloc; (shared, Node::Plain { tag: 0, fields })]?;
+    let mut graph = Vec::new(alloc);
+    graph.push((shared, Node::Plain { tag: 0, fields }))?;
     Ok(State {
         sizes,
         graph: Sequence::make(graph),
