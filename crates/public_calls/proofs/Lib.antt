@@ -1,2 +1,1 @@
 pub mod FreshDomains
-pub mod Resting

@@ -31,14 +31,10 @@ const TO_SCAN: [(u64, Option<(u32, u64)>); 5] = [
 ];
 
 #[test]
-fn unmarked_blocks_are_darkened(rt: HostRuntime) {
+fn heads_are_darkened_and_scanned(rt: HostRuntime) {
     for (word, darkened) in &DARKENED {
         same(&rt, darkened_head(*word, COLOURS), *darkened);
     }
-}
-
-#[test]
-fn grey_blocks_are_to_be_scanned(rt: HostRuntime) {
     for (word, wanted) in &TO_SCAN {
         let found = scan_of(*word, COLOURS).map(|found| (found.fields, found.scanned));
         same(&rt, found, *wanted);

@@ -1,61 +1,28 @@
-//! A minor area that fills, and a young block in a field of an old one.
-ghost use Rattle.std.specs.Prelude.{◌+◌, ◌^◌, ◌<◌, ◌≤◌};
+//! A minor area and a remembered set that fill.
+ghost use Rattle.std.specs.Prelude.{◌≡◌, ◌+◌, ◌^◌, ◌<◌, ◌≤◌, true};
 ghost use Rattle.heap_rule.specs.Running.{Runs};
 
-use crate::fixtures::{one_domain, same, shown_of, stored};
+use crate::fixtures::{one_domain, same};
+use field_access::store;
 use heap_model::reply::Reply;
 use heap_rule::{Domain, Heap};
 use minor_area::{Need, alloc_young};
 use std::test::Fail;
 
-// Allocates so many blocks of 126 fields, each of which takes 128 words.
-fn allocate(heap: &Heap, dom: &mut Domain, blocks: u32) -> Result<(), Need>
+// Stores register `item` into a field of the block in register `block`, where one more field can be remembered.
+fn stored(heap: &Heap, dom: &mut Domain, block: u8, index: u16, item: u8) -> Option<Reply>
     requires runs { Runs heap.now dom.old }
-    requires labels { dom.old.view.own.serial + blocks < 2 ^ 32 }
-    ensures runs { Runs heap.now dom.new }
-    ensures labels { dom.new.view.own.serial ≤ dom.old.view.own.serial + blocks }
+    requires block { block < 16 }
+    requires item { item < 16 }
+    ensures { Runs heap.now dom.new }
 {
-    for _made in 0..blocks {
-        alloc_young(heap, dom, 1, 0, 126)?;
+    if dom.remembered_room() < 1 {
+        return None;
     }
-    Ok(())
+    Some(store(heap, dom, block, index, item))
 }
 
-#[test]
-fn a_minor_area_fills(rt: HostRuntime) -> Result<(), Fail> {
-    let (heap, mut dom) = one_domain(rt.alloc())?;
-    same(&rt, allocate(&heap, &mut dom, 32), Ok(()));
-    let last = shown_of(&dom);
-    same(&rt, last.used, 4096);
-    let full = alloc_young(&heap, &mut dom, 1, 0, 126);
-    same(&rt, full, Err(Need::AreaFull { used: 4096 }));
-    same(&rt, shown_of(&dom), last);
-    same(&rt, dom.labels_made(), 32);
-    Ok(())
-}
-
-// The shared block lies in a pool. The field that gets the young block is remembered, and neither the
-// one that gets the shared block nor the young block's own.
-#[test]
-fn a_young_block_in_the_shared_block(rt: HostRuntime) -> Result<(), Fail> {
-    let (heap, mut dom) = one_domain(rt.alloc())?;
-    if alloc_young(&heap, &mut dom, 1, 0, 2).is_err() {
-        return Err("no block")?;
-    }
-    let room = dom.remembered_room();
-    same(&rt, stored(&heap, &mut dom, 0, 15, 1), Some(Reply::Done));
-    same(&rt, stored(&heap, &mut dom, 0, 3, 0), Some(Reply::Done));
-    same(&rt, stored(&heap, &mut dom, 1, 1, 1), Some(Reply::Done));
-    if dom.remembered_len() != 1 {
-        return Err(Fail::from("not one field is remembered"));
-    }
-    same(&rt, dom.remembered_at(0), 18);
-    same(&rt, dom.remembered_room().saturating_add(1), room);
-    Ok(())
-}
-
-// Stores register 1 into field 3 of the shared block until no more fields can be remembered. Answers how
-// often it did.
+// Stores register 1 into field 3 of the shared block until no more fields can be remembered. Answers how often it did.
 fn fill_remembered(heap: &Heap, dom: &mut Domain) -> u32
     requires { Runs heap.now dom.old }
     ensures { Runs heap.now dom.new }
@@ -68,17 +35,47 @@ fn fill_remembered(heap: &Heap, dom: &mut Domain) -> u32
     10_000
 }
 
+// Allocates blocks of 126 fields, each of which takes 128 words, until the area is full. Answers how many there were, and why
+// there are no more.
+fn fill_area(heap: &Heap, dom: &mut Domain) -> (u32, Option<Need>)
+    requires { Runs heap.now dom.old }
+{
+    for made in 0..10_000u32 {
+        if dom.labels_made() > 20_000 {
+            return (made, None);
+        }
+        if let Err(need) = alloc_young(heap, dom, 1, 0, 126) {
+            return (made, Some(need));
+        }
+    }
+    (10_000, None)
+}
+
+// The shared block lies in a pool. A field of it that gets a young block is remembered, and neither one that gets the shared
+// block nor the young block's own. 4096 fields can be remembered, and behind the block of four words 31 of 128 find room.
 #[test]
-fn a_remembered_set_fills(rt: HostRuntime) -> Result<(), Fail> {
+fn a_minor_area_and_a_remembered_set_fill(rt: HostRuntime) -> Result<(), Fail> {
     let (heap, mut dom) = one_domain(rt.alloc())?;
     if alloc_young(&heap, &mut dom, 1, 0, 2).is_err() {
         return Err("no block")?;
     }
-    same(&rt, fill_remembered(&heap, &mut dom), 4096);
+    same(&rt, stored(&heap, &mut dom, 0, 15, 1), Some(Reply::Done));
+    same(&rt, stored(&heap, &mut dom, 0, 3, 0), Some(Reply::Done));
+    same(&rt, stored(&heap, &mut dom, 1, 1, 1), Some(Reply::Done));
+    if dom.remembered_len() != 1 {
+        return Err(Fail::from("not one field is remembered"));
+    }
+    same(&rt, dom.remembered_at(0), 18);
+    same(&rt, fill_remembered(&heap, &mut dom), 4095);
     same(
         &rt,
         (dom.remembered_len(), dom.remembered_room()),
         (4096, 0),
+    );
+    same(
+        &rt,
+        fill_area(&heap, &mut dom),
+        (31, Some(Need::AreaFull { used: 3972 })),
     );
     Ok(())
 }

@@ -37,36 +37,38 @@ fn allocate(heap: &Heap, dom: &mut Domain, fields: u16, blocks: u32) -> Result<(
     Ok(())
 }
 
-// 288 blocks of 128 words fit the nine pools that the reserve leaves, and the 289th doesn't.
+// Numbers of fields and of blocks, what making so many answers, and where the last block lies that was made. The 1024 places of
+// a pool of the least class lie side by side, and the next block is in another pool. Of blocks of 128 words 224 fit the
+// seven other pools that the reserve leaves, and no more.
+const FILLING: [(u16, u32, Result<(), NoPool>, u32); 6] = [
+    (2, 1, Ok(()), 4097),
+    (2, 1023, Ok(()), 8189),
+    (1, 1, Ok(()), 8193),
+    (126, 224, Ok(()), 40_833),
+    (126, 1, Err(NoPool { free: 10 }), 40_833),
+    (126, 1, Err(NoPool { free: 10 }), 40_833),
+];
+
+// Whether the pools fill so.
+fn fill_so(heap: &Heap, dom: &mut Domain) -> bool
+    requires { Runs heap.now dom.old }
+{
+    let mut right = true;
+    for (fields, blocks, answer, at) in &FILLING {
+        if dom.labels_made() > 1_000_000 || *blocks > 1_000_000 {
+            return false;
+        }
+        let made = allocate(heap, dom, *fields, *blocks);
+        right = right && made == *answer && dom.register(1) == Value::Ref(*at);
+    }
+    right
+}
+
 #[test]
 fn the_pools_fill(rt: HostRuntime) -> Result<(), Fail> {
     let (heap, mut dom) = one_domain(rt.alloc())?;
-    same(&rt, allocate(&heap, &mut dom, 126, 288), Ok(()));
-    let labels = dom.labels_made();
-    same(
-        &rt,
-        allocate(&heap, &mut dom, 126, 1),
-        Err(NoPool { free: 10 }),
-    );
-    same(&rt, dom.labels_made(), labels);
-    same(
-        &rt,
-        allocate(&heap, &mut dom, 126, 1),
-        Err(NoPool { free: 10 }),
-    );
-    Ok(())
-}
-
-// The 1024 places of a pool of the least class lie side by side, and the next block is in another pool.
-#[test]
-fn a_pool_of_small_blocks_fills(rt: HostRuntime) -> Result<(), Fail> {
-    let (heap, mut dom) = one_domain(rt.alloc())?;
-    same(&rt, allocate(&heap, &mut dom, 2, 1), Ok(()));
-    same(&rt, dom.register(1), Value::Ref(4097));
-    same(&rt, allocate(&heap, &mut dom, 2, 1023), Ok(()));
-    same(&rt, dom.register(1), Value::Ref(8189));
-    same(&rt, allocate(&heap, &mut dom, 1, 1), Ok(()));
-    same(&rt, dom.register(1), Value::Ref(8193));
+    let right = fill_so(&heap, &mut dom);
+    same(&rt, (right, dom.labels_made()), (true, 1249));
     Ok(())
 }
 

@@ -1,5 +1,5 @@
 -- What the clauses of young allocation and of the choice of a class refuse, beside those of `Pools`.
-use Rattle.std.proofs.Common.{◌≡◌, ◌∙◌, ℕ, ◌<◌, ◌≤◌, List, ◌∷◌, sym, ap, arith}
+use Rattle.std.proofs.Common.{ℕ, ◌<◌, List, arith}
 use Rattle.heap_model.specs.Domains.{reserve}
 use Rattle.size_classes.specs.Table.{IsLeastFor}
 use Rattle.heap_rule.specs.declared.config.Config.{Config}

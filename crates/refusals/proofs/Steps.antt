@@ -1,5 +1,5 @@
 -- What the conditions of steps refuse: where such a condition holds, the body that is named didn't come there.
-use Rattle.std.proofs.Common.{◌≡◌, ◌≢◌, ◌∙◌, ℕ, ◌+◌, ◌*◌, ◌<◌, ◌≤◌, ◌⊎◌, Bool, true, false, Some, None, [], ◌∷◌, List, length, refl, sym, ap, ⊎_elim, arith}
+use Rattle.std.proofs.Common.{◌≡◌, ◌≢◌, ◌∙◌, ℕ, ◌+◌, ◌<◌, ◌≤◌, Bool, true, false, Some, [], List, length, sym, ⊎_elim, arith}
 use Rattle.heap_words.specs.declared.value.Value.TheVariants.{Ref}
 use Rattle.heap_rule.specs.declared.change.Change.{Change}
 use Rattle.heap_rule.specs.declared.config.Config.{Config}
@@ -7,8 +7,6 @@ use Rattle.heap_rule.specs.declared.phase.Kind.TheVariants.{Decide, Lasts}
 use Rattle.heap_rule.specs.declared.phase.Stage.TheVariants.{In}
 use Rattle.heap_rule.specs.declared.view.DomainView.{DomainView}
 use Rattle.heap_rule.specs.declared.view.Known.TheVariants.{Marked}
-use Rattle.heap_rule.specs.declared.view.NextKey.TheVariants.{Dead}
-use Rattle.heap_rule.specs.declared.view.Reaping.{Reaping}
 use Rattle.heap_rule.specs.declared.view.Reaping.TheVariants.{Inside, AtGarbage}
 use Rattle.heap_rule.specs.declared.view.RegisteredLast.{RegisteredLast}
 use Rattle.heap_rule.specs.Beside.{IsKnown, IsPaid}

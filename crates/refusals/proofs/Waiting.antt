@@ -1,5 +1,5 @@
 -- What the clauses of a turn refuse while finalisers wait, beside those of `Turns`.
-use Rattle.std.proofs.Common.{◌≡◌, ◌≢◌, ◌∙◌, ℕ, List, [], ◌∷◌, sym}
+use Rattle.std.proofs.Common.{◌≡◌, ◌≢◌, ◌∙◌, List, [], ◌∷◌, sym}
 use Rattle.heap_rule.specs.declared.view.Waiting.{Waiting}
 use Rattle.heap_rule.specs.Token.{Token, SharedHeap}
 use Rattle.domain_turns.specs.Runs.{EndsTrace, IsAnswered, RunView}

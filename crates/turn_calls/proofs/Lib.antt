@@ -1,0 +1,2 @@
+pub mod FreshDomains
+pub mod Resting
