@@ -1,68 +1,65 @@
 // The table of command forms, for the reader and the printer.
 ghost use Rattle.std.specs.Prelude.{◌≡◌, ◌≤◌, pos, length, slice_index_or};
-ghost use Rattle.heap_text.specs.Forms.{built_words, form, word_of, made, byte as byte_of, short as short_of, wide as wide_of, fits as fits_kind, least as least_of, greatest as greatest_of, most_fields as most_fields_of};
+ghost use Rattle.heap_text.specs.Forms.{form, word_of, made, byte as byte_of, short as short_of, wide as wide_of, fits as fits_kind, least as least_of, greatest as greatest_of, most_fields as most_fields_of};
 
 use crate::form::{Operand, Word};
 use crate::version::Version;
 use heap_model::command::Command;
 
-// The words of the grammar of a version.
-fn words_of(version: Version) -> &'static [Word]
-    ensures { result.now ≡ built_words version }
-{
-    match version {
-        Version::One => &[
-            Word::Int,
-            Word::Move,
-            Word::Drop,
-            Word::Alloc,
-            Word::AllocMaj,
-            Word::Load,
-            Word::Store,
-            Word::Ephe,
-            Word::SetKey,
-            Word::UnsetKey,
-            Word::GetKey,
-            Word::CheckKey,
-            Word::SetData,
-            Word::UnsetData,
-            Word::GetData,
-            Word::CheckData,
-            Word::Finalise,
-            Word::FinaliseLast,
-            Word::Poll,
-            Word::Minor,
-            Word::Major,
-            Word::FullMajor,
-        ],
-        Version::Two => &[
-            Word::Raw,
-            Word::Cas,
-            Word::Int,
-            Word::Move,
-            Word::Drop,
-            Word::Alloc,
-            Word::AllocMaj,
-            Word::Load,
-            Word::Store,
-            Word::Ephe,
-            Word::SetKey,
-            Word::UnsetKey,
-            Word::GetKey,
-            Word::CheckKey,
-            Word::SetData,
-            Word::UnsetData,
-            Word::GetData,
-            Word::CheckData,
-            Word::Finalise,
-            Word::FinaliseLast,
-            Word::Poll,
-            Word::Minor,
-            Word::Major,
-            Word::FullMajor,
-        ],
-    }
-}
+// The words of the grammar of the first version. Each version has an array of its own, so that the
+// search goes over known words.
+const FIRST_WORDS: [Word; 22] = [
+    Word::Int,
+    Word::Move,
+    Word::Drop,
+    Word::Alloc,
+    Word::AllocMaj,
+    Word::Load,
+    Word::Store,
+    Word::Ephe,
+    Word::SetKey,
+    Word::UnsetKey,
+    Word::GetKey,
+    Word::CheckKey,
+    Word::SetData,
+    Word::UnsetData,
+    Word::GetData,
+    Word::CheckData,
+    Word::Finalise,
+    Word::FinaliseLast,
+    Word::Poll,
+    Word::Minor,
+    Word::Major,
+    Word::FullMajor,
+];
+
+// The words of the grammar of the second version.
+const SECOND_WORDS: [Word; 24] = [
+    Word::Raw,
+    Word::Cas,
+    Word::Int,
+    Word::Move,
+    Word::Drop,
+    Word::Alloc,
+    Word::AllocMaj,
+    Word::Load,
+    Word::Store,
+    Word::Ephe,
+    Word::SetKey,
+    Word::UnsetKey,
+    Word::GetKey,
+    Word::CheckKey,
+    Word::SetData,
+    Word::UnsetData,
+    Word::GetData,
+    Word::CheckData,
+    Word::Finalise,
+    Word::FinaliseLast,
+    Word::Poll,
+    Word::Minor,
+    Word::Major,
+    Word::FullMajor,
+];
 
 // The word that a row's line begins with.
 pub(crate) fn text_of(word: Word) -> &'static [u8]
@@ -150,10 +147,16 @@ pub(crate) fn operands_of(word: Word) -> &'static [Operand]
 pub(crate) fn find_word(version: Version, text: &[u8]) -> Option<Word>
     ensures { result ≡ word_of version text.now }
 {
-    words_of(version)
-        .iter()
-        .copied()
-        .find(|word| text_of(*word) == text)
+    match version {
+        Version::One => FIRST_WORDS
+            .iter()
+            .copied()
+            .find(|word| text_of(*word) == text),
+        Version::Two => SECOND_WORDS
+            .iter()
+            .copied()
+            .find(|word| text_of(*word) == text),
+    }
 }
 
 // The command of a row and its numbers.
