@@ -234,6 +234,7 @@ fn raw_in_area(
 }
 
 // Makes the entry of a store, where one more word can be remembered.
+#[inline(always)]
 fn try_store(heap: &Heap, dom: &mut Domain, command: &Command) -> Attempt
     requires runs { Runs heap.now dom.old }
     requires fits { FitsHeap command.now }
@@ -276,6 +277,7 @@ fn try_registration(heap: &Heap, dom: &mut Domain, command: &Command) -> Attempt
 
 // Makes the entry of a command for which no pause must come first, and that changes registers at most of
 // what the domain owns.
+#[inline(always)]
 fn call(heap: &Heap, dom: &mut Domain, command: &Command) -> Reply
     requires runs { Runs heap.now dom.old }
     requires fits { FitsHeap command.now }
@@ -299,6 +301,7 @@ fn call(heap: &Heap, dom: &mut Domain, command: &Command) -> Reply
 }
 
 // Makes such an entry, and answers its reply.
+#[inline(always)]
 fn try_call(heap: &Heap, dom: &mut Domain, command: &Command) -> Attempt
     requires runs { Runs heap.now dom.old }
     requires fits { FitsHeap command.now }
@@ -313,6 +316,7 @@ fn try_call(heap: &Heap, dom: &mut Domain, command: &Command) -> Attempt
 // first tried, and left so many blocks that they may use up the pools. A young allocation is refused
 // exactly where fewer pools are free than promotion may need, and one in the major heap, as also that of
 // an ephemeron is, exactly where no pool is to be had; it is answered `full` where `collected`.
+#[inline(always)]
 pub(crate) fn try_command(
     heap: &Heap,
     dom: &mut Domain,

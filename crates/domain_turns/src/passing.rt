@@ -156,6 +156,7 @@ fn answer(heap: &Heap, dom: &mut Domain, live: bool) -> (u64, Option<Reply>)
 // Looks at the barrier, and where all have arrived does the domain's share of the phase that has begun,
 // and arrives. Where the domains run again its minor area is empty. `live`: its next command is a
 // `full_major`, which is answered where a collection is, and it owes no finaliser before it.
+#[inline(never)]
 pub(crate) fn pass(
     heap: &Heap,
     dom: &mut Domain,

@@ -36,6 +36,7 @@ fn end(heap: &Heap, dom: &mut Domain)
 }
 
 // Whether a pause was begun and ended since the domain asked for one.
+#[inline(always)]
 fn is_served(run: &DomainRun) -> bool
     ensures { result ≡ served_since run.now.asked run.now.token.view.own.arrivals }
 {
@@ -47,6 +48,7 @@ fn is_served(run: &DomainRun) -> bool
 
 // Runs the finaliser that has waited longest in the domain's queue, and keeps its reply. Answers whether
 // one waited.
+#[inline(always)]
 fn runs_finaliser(heap: &Heap, run: &mut DomainRun) -> bool
     requires here { IsIn run.old.token heap.now }
     requires running { run.old.ended ≡ false }
@@ -65,6 +67,7 @@ fn runs_finaliser(heap: &Heap, run: &mut DomainRun) -> bool
 }
 
 // Tries the next command of a run, and keeps its reply. Else answers which pause must come first.
+#[inline(always)]
 fn try_next(heap: &Heap, run: &mut DomainRun, command: &Command) -> Option<Want>
     requires here { IsIn run.old.token heap.now }
     requires running { run.old.ended ≡ false }
@@ -107,6 +110,7 @@ fn end_trace(heap: &Heap, run: &mut DomainRun)
 }
 
 // The want word.
+#[inline(always)]
 fn find_wants(heap: &Heap, run: &mut DomainRun) -> u64
     requires here { IsIn run.old.token heap.now }
     requires left { run.old.left ≡ None }
@@ -190,6 +194,7 @@ fn poll(heap: &Heap, run: &mut DomainRun, command: &Command)
 }
 
 // The turn of a run whose next command is this one, where no pause is wanted.
+#[inline(always)]
 fn attempt(heap: &Heap, run: &mut DomainRun, command: &Command)
     requires here { IsIn run.old.token heap.now }
     requires running { run.old.ended ≡ false }
@@ -227,6 +232,7 @@ fn rest(heap: &Heap, run: &mut DomainRun) -> Turned
 
 // The turn of a run whose trace hasn't ended, where no pause is wanted. The finalisers that wait come
 // before its next command, and before the end of its trace.
+#[inline(always)]
 fn step_on(heap: &Heap, run: &mut DomainRun)
     requires here { IsIn run.old.token heap.now }
     requires running { run.old.ended ≡ false }
@@ -244,6 +250,7 @@ fn step_on(heap: &Heap, run: &mut DomainRun)
 }
 
 // The turn of a running domain where no pause is wanted.
+#[inline(always)]
 fn go_on(heap: &Heap, run: &mut DomainRun) -> Turned
     requires here { IsIn run.old.token heap.now }
     requires left { run.old.left ≡ None }
@@ -258,6 +265,7 @@ fn go_on(heap: &Heap, run: &mut DomainRun) -> Turned
 }
 
 // The turn of a running domain.
+#[inline(always)]
 fn turn_running(heap: &Heap, run: &mut DomainRun) -> Turned
     requires here { IsIn run.old.token heap.now }
     requires left { run.old.left ≡ None }
@@ -299,6 +307,7 @@ fn lets_refuse(heap: &Heap, asked: Option<u64>, blocks: u64) -> bool
 }
 
 // What a domain that has arrived does with the phase that has begun, if one has.
+#[inline(never)]
 fn pass_by(heap: &Heap, run: &mut DomainRun, last: Kind) -> Past
     requires here { IsIn run.old.token heap.now }
     requires left { run.old.left ≡ Some last }
@@ -333,6 +342,7 @@ fn pass_by(heap: &Heap, run: &mut DomainRun, last: Kind) -> Past
 }
 
 // The turn of a domain.
+#[inline(always)]
 fn turn_on(heap: &Heap, run: &mut DomainRun) -> Turned
     requires here { IsIn run.old.token heap.now }
     requires few { run.old.token.view.own.arrivals < 2 ^ 60 }
@@ -376,6 +386,7 @@ fn turn_on(heap: &Heap, run: &mut DomainRun) -> Turned
 /// A `full_major` is answered in the pause, as the collection is, and after all finalisers that waited
 /// when the domain's last `full_major` was answered. A domain that runs again after a pause
 /// has an empty minor area, remembers no field, and holds no address of a minor area.
+#[inline(always)]
 pub fn turn(heap: &Heap, run: &mut DomainRun) -> Turned
     requires here { IsIn run.old.token heap.now }
     requires few { run.old.token.view.own.arrivals < 2 ^ 60 }

@@ -189,6 +189,7 @@ fn drive_to<'s, E, R: Threads + Wait + Sync, G: Gate + Sync>(
 ///
 /// The gate is called with a domain's number and the index of a command before the command's first
 /// turn, and once its reply is kept.
+#[inline(never)]
 pub fn drive<R: Threads + Wait + Sync, G: Gate + Sync>(
     rt: &R,
     heap: &Heap,

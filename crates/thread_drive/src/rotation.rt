@@ -24,6 +24,7 @@ fn place_of(heap: &Heap, run: &DomainRun) -> usize
 }
 
 // One turn of each run. It answers how far they came: nowhere only where none did anything.
+#[inline(always)]
 fn turn_each<G: Gate>(
     heap: &Heap,
     gate: &G,

@@ -25,6 +25,7 @@ pub(crate) enum Went {
 const MOST_ARRIVALS: u64 = 1 << 60;
 
 // The index of a run's next command, as a gate is told it.
+#[inline(always)]
 fn next_index(run: &DomainRun) -> u32
     ensures { result ≡ run.now.next }
 {
@@ -44,6 +45,7 @@ fn reached(turned: Turned) -> Went
 }
 
 // One turn, where the domain may still arrive.
+#[inline(always)]
 fn turn_below(heap: &Heap, run: &mut DomainRun) -> Went
     requires { IsIn run.old.token heap.now }
     ensures here { IsIn run.new.token heap.now }
@@ -57,6 +59,7 @@ fn turn_below(heap: &Heap, run: &mut DomainRun) -> Went
 }
 
 // Tells the gate of the next command, if one is left that it wasn't told of: it was told of those before `told`.
+#[inline(always)]
 fn tell_before<G: Gate>(gate: &G, told: &mut u32, run: &DomainRun) {
     let at = next_index(run);
     if run.has_next() && *told <= at {
@@ -68,6 +71,7 @@ fn tell_before<G: Gate>(gate: &G, told: &mut u32, run: &DomainRun) {
 // One turn, with the gate around the command, if one is left. Where it went on without a command the
 // domain arrived, asked for a pause, ran a finaliser or ended its trace, and others that wait may go on
 // too.
+#[inline(always)]
 pub(crate) fn turn_once<G: Gate>(
     heap: &Heap,
     gate: &G,
